@@ -1,4 +1,5 @@
 pub mod Numbers
+pub mod Failures
 pub mod Spell
 pub mod Words
 pub mod Memory

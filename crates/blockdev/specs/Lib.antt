@@ -1,0 +1,4 @@
+pub mod Blocks
+pub mod Disk
+pub mod Sizes
+pub mod Splice

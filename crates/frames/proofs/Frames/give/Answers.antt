@@ -1,0 +1,22 @@
+use Rattle.std.proofs.Common.{◌≡◌, arith, length}
+use Rattle.ram.specs.Memory.{word_bytes}
+use Rattle.ram.specs.MemoryLemmas.{length-put}
+use Rattle.frames.specs.FreeLemmas.{count-le, free_of-give, IsFreeList-give, SameBut-put}
+use Rattle.frames.proofs.Frames.give.Goals as goal
+
+given : goal.returns-clause-free
+given c = rw c.store_u32.ensures (free_of-give c.args.ram.now c.args.self.now.first.0 c.args.self.now.count c.args.frame.0 c.frame_count-count.ensures.memory c.requires.inside (omega arith) c.requires.held)
+
+pub overflow_add-self : goal.overflow_add-self
+overflow_add-self c = omega (arith, count-le c.args.ram.now c.args.self.now c.requires.valid)
+
+pub returns-clause-free : goal.returns-clause-free
+returns-clause-free c = given c
+
+pub returns-clause-valid : goal.returns-clause-valid
+returns-clause-valid c =
+    let len : length c.store_u32.new.self ≡ length c.args.ram.now = rw c.store_u32.ensures (length-put c.args.ram.now c.args.frame.0 0 (word_bytes 4 c.args.self.now.first.0)) in
+    IsFreeList-give c.args.ram.now c.store_u32.new.self c.args.self.now _ c.args.frame.0 c.requires.valid len c.requires.inside c.requires.held (given c)
+
+pub returns-clause-others : goal.returns-clause-others
+returns-clause-others c = rw c.store_u32.ensures (SameBut-put c.args.ram.now c.args.frame.0 0 (word_bytes 4 c.args.self.now.first.0))

@@ -1,0 +1,205 @@
+-- The image of a root with the console: 32 blocks, 16 inodes.
+use Rattle.std.specs.Prelude.{Bool, IsSome, List, None, Option, Some, T, [], drop, false, is_some, length, map, nat_lt, not, refl, slice_index_or, suc, true, zero, ℕ, ◌&&◌, ◌*◌, ◌++◌, ◌<◌, ◌==◌, ◌||◌, ◌∷◌, ◌≡◌, ◌≤◌}
+use Rattle.std.proofs.Common.{ap, arith, eqb→eq, inl, inr, lit≤, subst, sym, ◌∙◌}
+use Rattle.std.proofs.lemmas.Bool.{cases_eq}
+use Rattle.std.proofs.lemmas.List.Sums.{AllPass-from_list_all}
+use Rattle.std.specs.List.{range_with_len}
+use Rattle.modelrows.proofs.Opened.{all_opened}
+use Rattle.unixmodel.specs.Files.{Entry, dot, dot_dot, find, node_bytes, slot, taken}
+use Rattle.unixmodel.specs.Image.{Denotes, HasSuper, IsDirectory, KeepsNode, KeepsRules, KeepsSize, Stands, all_unused, bit_of, contents_in, is_data_block, is_name, is_named, named_blocks, names_of, numbers_in_use, parent_of, subdirectories, super_number}
+use Rattle.unixmodel.specs.Memory.{zeros}
+use Rattle.unixmodel.specs.Numbers.{le, low}
+use Rattle.unixmodel.specs.Start.{console_name, console_root, flat_files}
+
+abbrev pub console_image : List ℕ
+console_image =
+    zeros 1024
+    ++ le 4 0x10203040 ++ le 4 32 ++ le 4 27 ++ le 4 16 ++ le 4 0 ++ le 4 2 ++ le 4 2 ++ le 4 4 ++ zeros 992
+    ++ zeros 64
+    ++ le 2 1 ++ le 2 0 ++ le 2 0 ++ le 2 1 ++ le 4 48 ++ le 4 5 ++ zeros 48
+    ++ le 2 3 ++ le 2 1 ++ le 2 0 ++ le 2 1 ++ le 4 0 ++ zeros 52
+    ++ zeros (13 * 64)
+    ++ zeros 1024
+    ++ 0x3f ∷ zeros 1023
+    ++ node_bytes console_root ++ zeros 976
+    ++ zeros (26 * 1024)
+
+image_numbers : length console_image ∷ map (super_number console_image) (range_with_len 0 8) ≡ 32768 ∷ 0x10203040 ∷ 32 ∷ 27 ∷ 16 ∷ 0 ∷ 2 ∷ 2 ∷ 4 ∷ []
+unfolding all_opened
+image_numbers = refl
+
+image_nodes : numbers_in_use console_image ≡ 1 ∷ 2 ∷ []
+unfolding all_opened
+image_nodes = refl
+
+image_blocks : named_blocks console_image ≡ 5 ∷ []
+unfolding all_opened
+image_blocks = refl
+
+image_unused : all_unused console_image ≡ zeros 25
+unfolding all_opened
+image_unused = refl
+
+image_root : contents_in console_image 1 ≡ node_bytes console_root
+unfolding all_opened
+image_root = refl
+
+image_bits : map (bit_of console_image) (range_with_len 0 8) ≡ true ∷ true ∷ true ∷ true ∷ true ∷ true ∷ false ∷ false ∷ []
+unfolding all_opened
+image_bits = refl
+
+-- the rules of its files
+root_links : (names_of flat_files 1 ∷ names_of flat_files 2 ∷ subdirectories flat_files 1 ∷ parent_of flat_files 1 ∷ []) ≡ 0 ∷ 1 ∷ 0 ∷ 1 ∷ []
+unfolding all_opened
+root_links = refl
+
+-- ---- the image denotes these files
+
+console_super : HasSuper console_image
+unfolding all_opened
+console_super = record {
+  whole = refl;
+  magic = refl;
+  size_least = lit≤ tt;
+  size_most = lit≤ tt;
+  inodes_least = lit≤ tt;
+  inodes_most = lit≤ tt;
+  log_size = refl;
+  log_start = refl;
+  inode_start = refl;
+  bitmap = refl;
+  blocks = refl;
+  some_blocks = lit≤ tt;
+}
+
+console_stands : (n : ℕ) → 1 ≤ n → n < 16 → Stands console_image n (slot flat_files n)
+unfolding all_opened
+console_stands zero low high = absurd (omega arith)
+console_stands (suc zero) low high = record { kind = refl; links = refl; size = refl; contents = refl; major = tt }
+console_stands (suc (suc zero)) low high = record { kind = refl; links = refl; size = refl; contents = refl; major = (refl, refl) }
+console_stands (suc (suc (suc zero))) low high = refl
+console_stands (suc (suc (suc (suc zero)))) low high = refl
+console_stands (suc (suc (suc (suc (suc zero))))) low high = refl
+console_stands (suc (suc (suc (suc (suc (suc zero)))))) low high = refl
+console_stands (suc (suc (suc (suc (suc (suc (suc zero))))))) low high = refl
+console_stands (suc (suc (suc (suc (suc (suc (suc (suc zero)))))))) low high = refl
+console_stands (suc (suc (suc (suc (suc (suc (suc (suc (suc zero))))))))) low high = refl
+console_stands (suc (suc (suc (suc (suc (suc (suc (suc (suc (suc zero)))))))))) low high = refl
+console_stands (suc (suc (suc (suc (suc (suc (suc (suc (suc (suc (suc zero))))))))))) low high = refl
+console_stands (suc (suc (suc (suc (suc (suc (suc (suc (suc (suc (suc (suc zero)))))))))))) low high = refl
+console_stands (suc (suc (suc (suc (suc (suc (suc (suc (suc (suc (suc (suc (suc zero))))))))))))) low high = refl
+console_stands (suc (suc (suc (suc (suc (suc (suc (suc (suc (suc (suc (suc (suc (suc zero)))))))))))))) low high = refl
+console_stands (suc (suc (suc (suc (suc (suc (suc (suc (suc (suc (suc (suc (suc (suc (suc zero))))))))))))))) low high = refl
+console_stands (suc (suc (suc (suc (suc (suc (suc (suc (suc (suc (suc (suc (suc (suc (suc (suc n)))))))))))))))) low high = absurd (omega arith)
+
+-- a test that passes at each number below n
+abbrev pub passes_below : (ℕ → Bool) → ℕ → Bool
+passes_below test zero = true
+passes_below test (suc n) = test n && passes_below test n
+
+not_true : false ≡ true → ⊥
+not_true h = subst (λ b. T (not b)) h tt
+
+left_part : (a b : Bool) → (a && b) ≡ true → a ≡ true
+left_part true b p = refl
+left_part false b p = p
+
+right_part : (a b : Bool) → (a && b) ≡ true → b ≡ true
+right_part true b p = p
+right_part false b p = absurd (not_true p)
+
+abbrev pub beq : Bool → Bool → Bool
+beq true b = b
+beq false b = not b
+
+same : (a b : Bool) → beq a b ≡ true → a ≡ b
+same true true p = refl
+same true false p = sym p
+same false true p = p
+same false false p = refl
+
+passes_below-at : (test : ℕ → Bool) (n k : ℕ) → passes_below test n ≡ true → k < n → test k ≡ true
+passes_below-at test zero k p l = absurd (omega arith)
+passes_below-at test (suc n) k p l = elim (cases_eq k n) [
+  | inl e ↦ ap test e ∙ left_part (test n) (passes_below test n) p
+  | inr d ↦ passes_below-at test n k (right_part (test n) (passes_below test n) p) (omega arith)
+]
+
+console_bits : (b : ℕ) → b < 32 → bit_of console_image b ≡ (nat_lt b 5 || is_named console_image b)
+unfolding all_opened
+console_bits b l = same (bit_of console_image b) (nat_lt b 5 || is_named console_image b)
+    (passes_below-at (λ k. beq (bit_of console_image k) (nat_lt k 5 || is_named console_image k)) 32 b refl l)
+
+flat_rest : (n : ℕ) → slot flat_files (suc (suc (suc n))) ≡ None
+unfolding all_opened
+flat_rest zero = refl
+flat_rest (suc zero) = refl
+flat_rest (suc (suc zero)) = refl
+flat_rest (suc (suc (suc zero))) = refl
+flat_rest (suc (suc (suc (suc zero)))) = refl
+flat_rest (suc (suc (suc (suc (suc zero))))) = refl
+flat_rest (suc (suc (suc (suc (suc (suc zero)))))) = refl
+flat_rest (suc (suc (suc (suc (suc (suc (suc zero))))))) = refl
+flat_rest (suc (suc (suc (suc (suc (suc (suc (suc zero)))))))) = refl
+flat_rest (suc (suc (suc (suc (suc (suc (suc (suc (suc zero))))))))) = refl
+flat_rest (suc (suc (suc (suc (suc (suc (suc (suc (suc (suc zero)))))))))) = refl
+flat_rest (suc (suc (suc (suc (suc (suc (suc (suc (suc (suc (suc zero))))))))))) = refl
+flat_rest (suc (suc (suc (suc (suc (suc (suc (suc (suc (suc (suc (suc zero)))))))))))) = refl
+flat_rest (suc (suc (suc (suc (suc (suc (suc (suc (suc (suc (suc (suc (suc n))))))))))))) = refl
+
+root_places : List (Option Entry)
+root_places =
+    Some (record { name = dot; number = 1 }) ∷ Some (record { name = dot_dot; number = 1 })
+    ∷ Some (record { name = console_name; number = 2 }) ∷ []
+
+root_keeps : IsDirectory flat_files 1 1 root_places
+unfolding all_opened root_places
+root_keeps = record {
+  own = refl;
+  parent = refl;
+  names = AllPass-from_list_all (λ (e : Entry). is_name e.name) (taken (drop 2 root_places)) refl;
+  once = λ i j d below l. let one : j < 1 = l in absurd (omega arith);
+  numbers = AllPass-from_list_all (λ (e : Entry). is_some (slot flat_files e.number)) (taken (drop 2 root_places)) refl;
+  named = refl;
+  counted = refl;
+}
+
+flat_sizes : (n : ℕ) → KeepsSize (slot flat_files n)
+unfolding all_opened
+flat_sizes zero = tt
+flat_sizes (suc zero) = lit≤ tt
+flat_sizes (suc (suc zero)) = lit≤ tt
+flat_sizes (suc (suc (suc n))) = subst (λ o. KeepsSize o) (sym (flat_rest n)) tt
+
+flat_nodes : (n : ℕ) → KeepsNode flat_files n (slot flat_files n)
+unfolding all_opened root_places
+flat_nodes zero = tt
+flat_nodes (suc zero) = root_keeps
+flat_nodes (suc (suc zero)) = record { counted = refl; least = lit≤ tt; most = lit≤ tt }
+flat_nodes (suc (suc (suc n))) = subst (λ o. KeepsNode flat_files (suc (suc (suc n))) o) (sym (flat_rest n)) tt
+
+flat_reached : (n : ℕ) → IsSome (slot flat_files n) → (path : List ℕ) × (find flat_files 1 path ≡ Some n)
+unfolding all_opened
+flat_reached zero used = absurd (not_true used)
+flat_reached (suc zero) used = ([], refl)
+flat_reached (suc (suc zero)) used = (console_name, refl)
+flat_reached (suc (suc (suc n))) used = absurd (not_true (sym (ap is_some (flat_rest n)) ∙ used))
+
+console_rules : KeepsRules flat_files
+unfolding all_opened
+console_rules = record { root = refl; sizes = flat_sizes; nodes = flat_nodes; reached = flat_reached }
+
+console_denotes : Denotes console_image flat_files
+unfolding all_opened
+console_denotes = record {
+  super = console_super;
+  count = refl;
+  zero = refl;
+  nodes = console_stands;
+  blocks = AllPass-from_list_all (is_data_block console_image) (named_blocks console_image) refl;
+  unused = λ k d l. eqb→eq (slice_index_or (all_unused console_image) k d) 0
+      (subst T (sym (AllPass-from_list_all (λ b. b == 0) (all_unused console_image) refl k d l)) tt);
+  once = λ i j d below l. let one : j < 1 = l in absurd (omega arith);
+  bitmap = console_bits;
+  rules = console_rules;
+}

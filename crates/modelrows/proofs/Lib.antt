@@ -1,0 +1,10 @@
+mod Opened
+mod Scripts
+mod WordRows
+mod ActRows
+mod FlatRows
+mod WriteRows
+mod ProcessRows
+mod PlanRows
+mod WalkRows
+mod ImageRows

@@ -1,0 +1,73 @@
+-- Small cases of programs.
+use Rattle.std.specs.Prelude.{List, None, Some, [], codes, false, is_some, length, option_map, pos, refl, replicate, ℕ, ◌++◌, ◌∷◌, ◌≡◌}
+use Rattle.modelrows.proofs.FlatRows.{bytes_and_end, hi_program, nine_steps}
+use Rattle.modelrows.proofs.Opened.{all_opened}
+use Rattle.unixmodel.specs.ElfFile.{elf_file, elf_header, program_header}
+use Rattle.unixmodel.specs.Files.{Files, dot, dot_dot}
+use Rattle.unixmodel.specs.Files.Node.{Directory, File}
+use Rattle.unixmodel.specs.Memory.{overwrite, read_bytes, zeros}
+use Rattle.unixmodel.specs.Numbers.{le}
+use Rattle.unixmodel.specs.Plan.{Plan, plan, plan_flat}
+use Rattle.unixmodel.specs.Run.{run}
+use Rattle.unixmodel.specs.Start.{flat_files, init_path, start}
+
+abbrev pub numbers_of : Plan → List ℕ
+numbers_of new = length new.memory ∷ new.size ∷ new.pc ∷ new.argc ∷ new.sp ∷ []
+
+-- /init of one page: its argument stands at 12272, and the pointers at 12256
+init_numbers : option_map numbers_of (plan (elf_file hi_program) (init_path ∷ [])) ≡ Some (3 ∷ 12288 ∷ 0 ∷ 1 ∷ 12256 ∷ [])
+unfolding all_opened
+init_numbers = refl
+
+init_stack : option_map (λ (new : Plan). read_bytes new.memory 12256 22) (plan (elf_file hi_program) (init_path ∷ []))
+    ≡ Some (Some (0xf0 ∷ 0x2f ∷ zeros 14 ++ init_path ++ 0 ∷ []))
+unfolding all_opened
+init_stack = refl
+
+-- the flat plan is that of the file
+same_plan : plan (elf_file hi_program) [] ≡ plan_flat hi_program
+unfolding all_opened
+same_plan = refl
+
+-- the longest argument
+longest_argument : option_map numbers_of (plan (elf_file hi_program) (replicate 4079 0x61 ∷ [])) ≡ Some (3 ∷ 12288 ∷ 0 ∷ 1 ∷ 8192 ∷ [])
+unfolding all_opened
+longest_argument = refl
+
+too_long_argument : option_map numbers_of (plan (elf_file hi_program) (replicate 4080 0x61 ∷ [])) ≡ None
+unfolding all_opened
+too_long_argument = refl
+
+-- no program header
+abbrev pub header_with : ℕ → ℕ → List ℕ
+header_with phoff phnum = overwrite (overwrite elf_header 32 (le 8 phoff)) 56 (le 2 phnum)
+
+no_segment : option_map numbers_of (plan (header_with 64 0) []) ≡ Some (2 ∷ 8192 ∷ 0 ∷ 0 ∷ 8176 ∷ [])
+unfolding all_opened
+no_segment = refl
+
+many_headers : plan (header_with 64 65535 ++ program_header 0) [] ≡ None
+unfolding all_opened
+many_headers = refl
+
+far_headers : plan (header_with 0xfffffffffffffff0 1 ++ program_header 0) [] ≡ None
+unfolding all_opened
+far_headers = refl
+
+-- one byte of the file over no memory
+short_memory : plan (header_with 64 1 ++ overwrite (program_header 1) 40 (le 8 0) ++ zeros 4000) [] ≡ None
+unfolding all_opened
+short_memory = refl
+
+-- /init alone on a disk: it has no descriptors, so it prints nothing, and ends with 0
+abbrev pub init_files : Files
+init_files = None ∷ Some (Directory 1 (Some (record { name = dot; number = 1 }) ∷ Some (record { name = dot_dot; number = 1 }) ∷ Some (record { name = codes "init"; number = 2 }) ∷ []))
+    ∷ Some (File 1 (elf_file hi_program)) ∷ replicate 13 None
+
+init_run : option_map (λ s. bytes_and_end (run s nine_steps)) (start init_files 27 256) ≡ Some ([], Some (pos 0))
+unfolding all_opened
+init_run = refl
+
+no_init : is_some (start flat_files 27 256) ≡ false
+unfolding all_opened
+no_init = refl

@@ -1,0 +1,137 @@
+-- Small cases of processes, memory and frames.
+use Rattle.std.specs.Prelude.{List, None, Option, Some, length, negsuc, pos, refl, [], ℕ, ◌++◌, ◌-◌, ◌^◌, ◌∷◌, ◌≡◌, ℤ}
+use Rattle.unixmodel.specs.declared.event.Event.TheVariants.{Step, Tick}
+use Rattle.unixmodel.specs.declared.process.Mode.TheVariants.{Zombie}
+use Rattle.modelrows.proofs.Opened.{all_opened}
+use Rattle.modelrows.proofs.Scripts.{Asked, answers_to, ask, ask_all, bytes_in, flat_state, mode_of, on_flat, plain}
+use Rattle.unixmodel.specs.Counts.{frames_of, free_frames}
+use Rattle.unixmodel.specs.Memory.{write_bytes}
+use Rattle.unixmodel.specs.Outcome.{minus_one}
+use Rattle.unixmodel.specs.Process.{Process}
+use Rattle.unixmodel.specs.Run.{run}
+use Rattle.unixmodel.specs.State.{State, change_process, process_at}
+use Rattle.unixmodel.specs.declared.event.Event.{Event}
+
+-- ---- sbrk: 3 pages take 9 frames of the 64
+
+abbrev pub size_and_pages_of : Option Process → ℕ × ℕ
+size_and_pages_of None = (0, 0)
+size_and_pages_of (Some p) = (p.size, length p.memory)
+
+abbrev pub size_and_pages : State → ℕ × ℕ
+size_and_pages s = size_and_pages_of (process_at s 0)
+
+abbrev pub sbrk : ℕ → Asked
+sbrk d = plain 12 (d ∷ [])
+
+abbrev pub below_zero : ℕ → ℕ
+below_zero d = 2 ^ 64 - d
+
+abbrev pub free_after : State → List Asked → List ℕ
+free_after s [] = []
+free_after s (c ∷ cs) = free_frames (ask s 0 c).state ∷ free_after (ask s 0 c).state cs
+
+abbrev pub small_steps : List Asked
+small_steps = sbrk 1 ∷ sbrk 4095 ∷ sbrk (below_zero 4097) ∷ sbrk 1 ∷ sbrk (below_zero 12289) ∷ sbrk (below_zero 12288) ∷ []
+
+frames_before : free_frames (flat_state 64) ≡ 55
+unfolding all_opened
+frames_before = refl
+
+small_answers : on_flat 64 small_steps ≡ 12288 ∷ 12289 ∷ 16384 ∷ 12287 ∷ minus_one ∷ 12288 ∷ []
+unfolding all_opened
+small_answers = refl
+
+small_frames : free_after (flat_state 64) small_steps ≡ 54 ∷ 54 ∷ 55 ∷ 55 ∷ 55 ∷ 60 ∷ []
+unfolding all_opened
+small_frames = refl
+
+large : on_flat 64 (sbrk 225280 ∷ []) ≡ 12288 ∷ []
+unfolding all_opened
+large = refl
+
+large_frames : frames_of (ask_all (flat_state 64) (sbrk 225280 ∷ [])) ≡ 64
+unfolding all_opened
+large_frames = refl
+
+too_large : on_flat 64 (sbrk 229376 ∷ []) ≡ minus_one ∷ []
+unfolding all_opened
+too_large = refl
+
+-- 512 pages take one table, 513 two
+second_table : on_flat 519 (sbrk 2084864 ∷ sbrk 4096 ∷ []) ≡ 12288 ∷ minus_one ∷ []
+unfolding all_opened
+second_table = refl
+
+second_table_fits : on_flat 520 (sbrk 2084864 ∷ sbrk 4096 ∷ []) ≡ 12288 ∷ 2097152 ∷ []
+unfolding all_opened
+second_table_fits = refl
+
+abbrev pub sizes_after : State → List Asked → List (ℕ × ℕ)
+sizes_after s [] = []
+sizes_after s (c ∷ cs) = size_and_pages (ask s 0 c).state ∷ sizes_after (ask s 0 c).state cs
+
+small_sizes : sizes_after (flat_state 64) small_steps ≡ (12289, 4) ∷ (16384, 4) ∷ (12287, 3) ∷ (12288, 3) ∷ (12288, 3) ∷ (0, 0) ∷ []
+unfolding all_opened
+small_sizes = refl
+
+refused_size : sizes_after (flat_state 64) (sbrk 229376 ∷ []) ≡ (12288, 3) ∷ []
+unfolding all_opened
+refused_size = refl
+
+-- a page that stays keeps its bytes, and one that comes is 0
+abbrev pub marked : State
+marked = change_process (flat_state 64) 0 (λ p. record p { memory = write_bytes p.memory 12286 (0x5a ∷ 0x5b ∷ []) })
+
+kept_bytes : bytes_in (ask_all marked (sbrk 1 ∷ sbrk 4095 ∷ sbrk (below_zero 4097) ∷ sbrk 1 ∷ [])) 0 12286 2 ≡ 0x5a ∷ 0x5b ∷ []
+unfolding all_opened
+kept_bytes = refl
+
+fresh_bytes : bytes_in (ask_all marked (sbrk (below_zero 4096) ∷ sbrk 4096 ∷ [])) 0 12286 2 ≡ 0 ∷ 0 ∷ []
+unfolding all_opened
+fresh_bytes = refl
+
+-- without pages the next instruction ends it
+nothing_left : (run (ask_all (flat_state 64) (sbrk (below_zero 12288) ∷ [])) (Step ∷ [])).state.halted ≡ Some (negsuc 0)
+unfolding all_opened
+nothing_left = refl
+
+-- ---- exit: the status is the low 32 bits, read as signed
+
+abbrev pub status_after : ℕ → Option ℤ
+status_after a0 = (ask_all (flat_state 64) (plain 2 (a0 ∷ []) ∷ [])).halted
+
+statuses : (status_after 0 ∷ status_after 7 ∷ status_after 0x100000007 ∷ status_after minus_one ∷ status_after 0x80000000 ∷ [])
+    ≡ Some (pos 0) ∷ Some (pos 7) ∷ Some (pos 7) ∷ Some (negsuc 0) ∷ Some (negsuc 0x7fffffff) ∷ []
+unfolding all_opened
+statuses = refl
+
+ends : mode_of (ask_all (flat_state 64) (plain 2 (7 ∷ []) ∷ [])) ≡ Some (Zombie (pos 7))
+unfolding all_opened
+ends = refl
+
+-- ---- getpid and uptime
+
+own_pid : on_flat 64 (plain 11 [] ∷ []) ≡ 1 ∷ []
+unfolding all_opened
+own_pid = refl
+
+abbrev pub uptime_after : State → List Event → List ℕ
+uptime_after s events = answers_to (run s events).state (plain 14 [] ∷ [])
+
+ticks_counted : (uptime_after (flat_state 64) [] ++ uptime_after (flat_state 64) (Tick ∷ Step ∷ Tick ∷ [])) ≡ 0 ∷ 2 ∷ []
+unfolding all_opened
+ticks_counted = refl
+
+ticks_wrap : uptime_after (record (flat_state 64) { ticks = 0xffffffff }) (Tick ∷ []) ≡ 0 ∷ []
+unfolding all_opened
+ticks_wrap = refl
+
+-- ---- numbers of calls and arguments: the low 32 bits count
+
+numbers : on_flat 256 (
+    plain 0x100000010 (0x100000001 ∷ 8192 ∷ 0x100000001 ∷ []) ∷ plain 0x10000000b [] ∷ plain 0 [] ∷ plain 22 []
+    ∷ plain 0xffffffff [] ∷ plain 11 [] ∷ plain 14 [] ∷ [])
+    ≡ 1 ∷ 1 ∷ minus_one ∷ minus_one ∷ minus_one ∷ 1 ∷ 0 ∷ []
+unfolding all_opened
+numbers = refl

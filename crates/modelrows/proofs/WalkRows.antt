@@ -1,0 +1,93 @@
+-- Small cases of the page-table walk.
+use Rattle.std.specs.Prelude.{Bool, List, None, Option, Some, false, is_some, map, refl, true, [], ℕ, ◌*◌, ◌++◌, ◌+◌, ◌-◌, ◌^◌, ◌∷◌, ◌≡◌}
+use Rattle.unixmodel.specs.declared.trap.Access.TheVariants.{Fetch, Load, Store}
+use Rattle.modelrows.proofs.Opened.{all_opened}
+use Rattle.unixmodel.specs.Memory.{zeros}
+use Rattle.unixmodel.specs.Numbers.{le}
+use Rattle.unixmodel.specs.Translation.{walk, walk_count}
+
+pub record Found : Type 0 where
+  pub place : Option ℕ
+  pub count : ℕ
+
+abbrev pub found : Option ℕ → ℕ → Found
+found place count = record { place = place; count = count }
+
+-- root, two tables and a page, in frames 0 to 3; page 0 is R, W, X, U
+abbrev pub table_with : ℕ → ℕ → List ℕ
+table_with k e = zeros (8 * k) ++ le 8 e ++ zeros (4088 - 8 * k)
+
+abbrev pub entry_to : ℕ → ℕ → ℕ
+entry_to frame bits = (0x80000 + frame) * 2 ^ 10 + bits
+
+abbrev pub small_ram : List (List ℕ)
+small_ram = table_with 0 (entry_to 1 0x01) ∷ table_with 0 (entry_to 2 0x01) ∷ table_with 0 (entry_to 3 0xdf) ∷ zeros 4096 ∷ []
+
+first_page : found (walk small_ram 0 0x123 Fetch) (walk_count small_ram 0 0x123 Fetch) ≡ record { place = Some 0x80003123; count = 3 }
+unfolding all_opened
+first_page = refl
+
+second_page : found (walk small_ram 0 0x1000 Load) (walk_count small_ram 0 0x1000 Load) ≡ record { place = None; count = 3 }
+unfolding all_opened
+second_page = refl
+
+other_gigabyte : found (walk small_ram 0 0x40000000 Load) (walk_count small_ram 0 0x40000000 Load) ≡ record { place = None; count = 1 }
+unfolding all_opened
+other_gigabyte = refl
+
+not_canonical : found (walk small_ram 0 0x4000000000 Load) (walk_count small_ram 0 0x4000000000 Load) ≡ record { place = None; count = 0 }
+unfolding all_opened
+not_canonical = refl
+
+no_root : found (walk small_ram 9 0 Load) (walk_count small_ram 9 0 Load) ≡ record { place = None; count = 0 }
+unfolding all_opened
+no_root = refl
+
+-- a leaf at the highest level takes 30 bits of the address as they are
+abbrev pub giant_ram : List (List ℕ)
+giant_ram = table_with 0 (0x80000 * 2 ^ 10 + 0xdf) ∷ zeros 4096 ∷ []
+
+giant_page : found (walk giant_ram 0 0x1005 Store) (walk_count giant_ram 0 0x1005 Store) ≡ record { place = Some 0x80001005; count = 1 }
+unfolding all_opened
+giant_page = refl
+
+giant_outside : found (walk giant_ram 0 0x2005 Store) (walk_count giant_ram 0 0x2005 Store) ≡ record { place = None; count = 1 }
+unfolding all_opened
+giant_outside = refl
+
+-- ---- the bits of a leaf: what a fetch, a load and a store at 0x123 of page 0 reach
+
+abbrev pub ram_with : ℕ → List (List ℕ)
+ram_with bits = table_with 0 (entry_to 1 0x01) ∷ table_with 0 (entry_to 2 0x01) ∷ table_with 0 (entry_to 3 bits) ∷ zeros 4096 ∷ []
+
+abbrev pub reached : ℕ → List Bool
+reached bits = map (λ access. is_some (walk (ram_with bits) 0 0x123 access)) (Fetch ∷ Load ∷ Store ∷ [])
+
+-- V, R, W, X, U, A and D; G and the two bits for the kernel beside them
+all_bits : (reached 0x0df ∷ reached 0x3ff ∷ []) ≡ (true ∷ true ∷ true ∷ []) ∷ (true ∷ true ∷ true ∷ []) ∷ []
+unfolding all_opened
+all_bits = refl
+
+-- without X, without W, without R and W
+some_bits : (reached 0xd7 ∷ reached 0xdb ∷ reached 0xd9 ∷ []) ≡ (false ∷ true ∷ true ∷ []) ∷ (true ∷ true ∷ false ∷ []) ∷ (true ∷ false ∷ false ∷ []) ∷ []
+unfolding all_opened
+some_bits = refl
+
+-- D = 0 refuses a store, A = 0 all
+used_bits : (reached 0x5f ∷ reached 0x9f ∷ []) ≡ (true ∷ true ∷ false ∷ []) ∷ (false ∷ false ∷ false ∷ []) ∷ []
+unfolding all_opened
+used_bits = refl
+
+-- without U, without V, W without R, a bit of 54 to 63, and an entry at the lowest level that names a table
+refused_bits : (reached 0xcf ∷ reached 0xde ∷ reached 0xdd ∷ reached (0xdf + 2 ^ 54) ∷ reached (0xdf + 2 ^ 63) ∷ reached 0x01 ∷ [])
+    ≡ (false ∷ false ∷ false ∷ []) ∷ (false ∷ false ∷ false ∷ []) ∷ (false ∷ false ∷ false ∷ []) ∷ (false ∷ false ∷ false ∷ []) ∷ (false ∷ false ∷ false ∷ []) ∷ (false ∷ false ∷ false ∷ []) ∷ []
+unfolding all_opened
+refused_bits = refl
+
+-- a leaf at the middle level takes 21 bits of the address, and the low 9 bits of its frame number must be 0
+abbrev pub large_ram : ℕ → List (List ℕ)
+large_ram frame = table_with 0 (entry_to 1 0x01) ∷ table_with 0 (entry_to frame 0xdf) ∷ zeros 4096 ∷ []
+
+large_page : (walk (large_ram 0) 0 0x2005 Load ∷ walk (large_ram 0) 0 0x3005 Load ∷ walk (large_ram 1) 0 0x1005 Load ∷ []) ≡ Some 0x80002005 ∷ None ∷ None ∷ []
+unfolding all_opened
+large_page = refl

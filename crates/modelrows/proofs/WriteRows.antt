@@ -1,0 +1,75 @@
+-- Small cases of writes to the console and to files.
+use Rattle.std.specs.Prelude.{List, codes, map, refl, true, unwrap_or, [], ℕ, ◌∷◌, ◌≡◌}
+use Rattle.modelrows.proofs.Opened.{all_opened}
+use Rattle.modelrows.proofs.Scripts.{Asked, answer_at, answers_to, ask, ask_all, flat_state, plain}
+use Rattle.unixmodel.specs.Counts.{blocks_of}
+use Rattle.unixmodel.specs.FileCalls.{with_descriptor}
+use Rattle.unixmodel.specs.Files.{enter, put}
+use Rattle.unixmodel.specs.Files.Node.{File}
+use Rattle.unixmodel.specs.Memory.{zeros}
+use Rattle.unixmodel.specs.OpenFiles.Target.{OnNode}
+use Rattle.unixmodel.specs.Outcome.{minus_one}
+use Rattle.unixmodel.specs.State.{State, change_process}
+
+-- a flat disk with a file f of some bytes, and so many data blocks
+abbrev pub with_f : State → List ℕ → ℕ → State
+with_f s bytes limit = record s {
+  files = put (unwrap_or (enter s.files (record { directory = 1; name = codes "f" }) 3) []) 3 (File 1 bytes);
+  block_limit = limit;
+}
+
+-- the open file 1 is f at an offset, for reading and writing, as descriptor 3
+abbrev pub at_offset : State → ℕ → State
+at_offset s offset = record (change_process s 0 (λ p. with_descriptor p 3 1)) {
+  opens = put s.opens 1 (record { target = OnNode 3 offset; readable = true; writable = true });
+}
+
+abbrev pub write_one : Asked
+write_one = plain 16 (3 ∷ 8192 ∷ 1 ∷ [])
+
+-- a file of 12288 bytes takes 12 blocks, the root one
+one_block_free : answers_to (at_offset (with_f (flat_state 256) (zeros 12288) 14) 12288) (write_one ∷ []) ≡ minus_one ∷ []
+unfolding all_opened
+one_block_free = refl
+
+one_block_stays : blocks_of (ask_all (at_offset (with_f (flat_state 256) (zeros 12288) 14) 12288) (write_one ∷ [])).files ≡ 13
+unfolding all_opened
+one_block_stays = refl
+
+two_blocks_free : answers_to (at_offset (with_f (flat_state 256) (zeros 12288) 15) 12288) (write_one ∷ []) ≡ 1 ∷ []
+unfolding all_opened
+two_blocks_free = refl
+
+-- ---- the console is open as descriptors 0, 1 and 2
+
+-- a write of so many bytes to a descriptor, from an address on; the text stands at 8192
+abbrev pub write_text : List ℕ → ℕ → ℕ → ℕ → Asked
+write_text text descriptor address count = record { number = 16; path = text; other = []; args = descriptor ∷ address ∷ count ∷ [] }
+
+-- what the call answers, and the bytes that it gives the console
+abbrev pub answered : Asked → ℕ × List ℕ
+answered c = let after = ask (flat_state 64) 0 c in (answer_at after.state 0, after.bytes)
+
+each_descriptor : map answered (write_text (codes "hi") 0 8192 2 ∷ write_text (codes "hi") 1 8192 2 ∷ write_text (codes "hi") 2 8192 1 ∷ [])
+    ≡ (2, codes "hi") ∷ (2, codes "hi") ∷ (1, codes "h") ∷ []
+unfolding all_opened
+each_descriptor = refl
+
+no_bytes : map answered (write_text (codes "hi") 1 8192 0 ∷ write_text (codes "hi") 1 minus_one 0 ∷ []) ≡ (0, []) ∷ (0, []) ∷ []
+unfolding all_opened
+no_bytes = refl
+
+not_open : map answered (write_text (codes "hi") 3 8192 2 ∷ write_text (codes "hi") 16 8192 2 ∷ write_text (codes "hi") minus_one 8192 2 ∷ [])
+    ≡ (minus_one, []) ∷ (minus_one, []) ∷ (minus_one, []) ∷ []
+unfolding all_opened
+not_open = refl
+
+below_zero_bytes : map answered (write_text (codes "hi") 1 8192 0xffffffff ∷ write_text (codes "hi") 1 8192 0x80000000 ∷ []) ≡ (minus_one, []) ∷ (minus_one, []) ∷ []
+unfolding all_opened
+below_zero_bytes = refl
+
+-- the buffer has to lie in pages that the program may read: the guard page is none, nor what follows the stack
+outside : map answered (write_text [] 1 4095 1 ∷ write_text [] 1 4095 2 ∷ write_text [] 1 4096 1 ∷ write_text [] 1 12287 1 ∷ write_text [] 1 12287 2 ∷ write_text [] 1 minus_one 1 ∷ [])
+    ≡ (1, 0 ∷ []) ∷ (minus_one, []) ∷ (minus_one, []) ∷ (1, 0 ∷ []) ∷ (minus_one, []) ∷ (minus_one, []) ∷ []
+unfolding all_opened
+outside = refl

@@ -1,0 +1,29 @@
+use Rattle.std.proofs.Common.{◌≡◌, ℕ, ◌%◌, Option, Some, None, length, sym, ◌∙◌}
+use Rattle.sv39.specs.Walk.{entry_of}
+use Rattle.pagetable.specs.TreeLemmas.{tree-leaf_sound, lookup_of-low}
+use Rattle.pagetable.specs.LookupLemmas.{leaf_of-sound, first-same}
+use Rattle.pagetable.specs.ShapeLemmas.{IsTidy-set}
+use Rattle.pagetable.proofs.PageTable.set_perm.Goals as goal
+
+pub leaf-requires-clause-sound : goal.leaf-requires-clause-sound
+leaf-requires-clause-sound c = tree-leaf_sound c.args.ram.now c.args.self.now.root.0 c.args.page c.in-Some.table.0 c.requires.paged.tree c.in-Some.ensures
+
+pub set_leaf-requires-clause-frame : goal.set_leaf-requires-clause-frame
+set_leaf-requires-clause-frame c =
+    (leaf_of-sound (length c.args.ram.now) (entry_of c.args.ram.now c.in-Some.table.0 (c.args.page % 512)) c.in-Some-leaf.frame.0 _
+    (tree-leaf_sound c.args.ram.now c.args.self.now.root.0 c.args.page c.in-Some.table.0 c.requires.paged.tree c.in-Some.ensures) (sym c.in-Some-leaf.ensures)).0
+
+pub unreachable-requires-in_default-leaf : goal.unreachable-requires-in_default-leaf
+unreachable-requires-in_default-leaf c = c.requires.mapped (lookup_of-low c.args.ram.now c.args.self.now.root.0 c.args.page (Some c.in-Some.table.0) c.in-Some.ensures ∙ sym c.in_default-leaf.ensures)
+
+pub unreachable-requires : goal.unreachable-requires
+unreachable-requires c = c.requires.mapped (lookup_of-low c.args.ram.now c.args.self.now.root.0 c.args.page None c.in_default.ensures)
+
+pub returns-clause-inserts : goal.returns-clause-inserts
+returns-clause-inserts c = λ f old h.
+    let e : ◌≡◌ {A = Option (ℕ × ℕ)} (Some (c.in-Some-leaf.frame.0, _)) (Some (f, old)) = c.in-Some-leaf.ensures ∙ sym (lookup_of-low c.args.ram.now c.args.self.now.root.0 c.args.page (Some c.in-Some.table.0) c.in-Some.ensures) ∙ h in
+    let same : c.in-Some-leaf.frame.0 ≡ f = first-same _ _ f old e in
+    rw (← same) c.set_leaf.ensures.inserts
+
+pub returns-clause-tidy : goal.returns-clause-tidy
+returns-clause-tidy c = λ is. IsTidy-set c.args.ram.now c.set_leaf.new.ram c.args.self.now.root.0 c.args.page _ is c.set_leaf.ensures.inserts c.set_leaf.ensures.tables

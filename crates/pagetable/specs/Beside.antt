@@ -1,0 +1,59 @@
+-- A page table outlives what is done beside it.
+use Rattle.std.proofs.Common.{◌≡◌, ℕ, ◌%◌, List, length, Some, refl, sym, ap, ◌∙◌}
+use Rattle.ram.specs.Memory.{frame_of}
+use Rattle.sv39.specs.Walk.{entry_of}
+use Rattle.frames.specs.declared.Frames.{Frames}
+use Rattle.frames.specs.Free.{IsFreeList}
+use Rattle.pagetable.specs.Tree.{child_of, Node, Root, Mid, Low, IsNode, table_at, child_at, leaf_at, low_node, lookup_of, IsTree, Holds, IsPaged, Keeps, IsBeside}
+use Rattle.pagetable.specs.TreeLemmas.{entry_of-frame, child_at-same, leaf_at-same, low_is_node}
+
+held_at : (m : List (List ℕ)) (r : ℕ) (x : Node) (v : ℕ) → IsNode x → table_at m r x ≡ Some v → Holds m r v
+held_at m r x v nx at = record { place = x; is_node = nx; at_place = at }
+
+pub table_at-same : (m k : List (List ℕ)) (r : ℕ) → ((v : ℕ) → Holds m r v → frame_of k v ≡ frame_of m v) → (x : Node) → IsNode x → table_at k r x ≡ table_at m r x
+unfolding table_at
+table_at-same m k r same Root nx = refl
+table_at-same m k r same (Mid a) nx = ap child_of (entry_of-frame m k r a (same r (held_at m r Root r tt refl)))
+table_at-same m k r same (Low a b) nx =
+    ap (λ o. child_at k (child_of o) b) (entry_of-frame m k r a (same r (held_at m r Root r tt refl)))
+    ∙ child_at-same m k (child_of (entry_of m r a)) b (λ v g. entry_of-frame m k v b (same v (held_at m r (Mid a) v nx.0 g)))
+
+pub IsTree-same : (m k : List (List ℕ)) (r : ℕ) → IsTree m r → length k ≡ length m → ((v : ℕ) → Holds m r v → frame_of k v ≡ frame_of m v) → IsTree k r
+IsTree-same m k r is len same =
+    let stays = table_at-same m k r same in
+    record {
+      inside = λ x t nx h. rw len (is.inside x t nx (sym (stays x nx) ∙ h));
+      once = λ x y t nx ny hx hy. is.once x y t nx ny (sym (stays x nx) ∙ hx) (sym (stays y ny) ∙ hy);
+      sound = λ x t i nx h small.
+          let old : table_at m r x ≡ Some t = sym (stays x nx) ∙ h in
+          rw (len, entry_of-frame m k t i (same t (held_at m r x t nx old))) (is.sound x t i nx old small);
+    }
+
+pub lookup_of-same : (m k : List (List ℕ)) (r : ℕ) → ((v : ℕ) → Holds m r v → frame_of k v ≡ frame_of m v) → (page : ℕ) → lookup_of k r page ≡ lookup_of m r page
+unfolding lookup_of
+lookup_of-same m k r same page =
+    ap (λ o. leaf_at k o (page % 512)) (table_at-same m k r same (low_node page) (low_is_node page))
+    ∙ leaf_at-same m k (table_at m r (low_node page)) (page % 512) (λ v g. entry_of-frame m k v (page % 512) (same v (held_at m r (low_node page) v (low_is_node page) g)))
+
+-- what is done to the tree of another root keeps the frames of this one
+pub beside-same : (m k : List (List ℕ)) (r q : ℕ) (s n : Frames) → IsPaged m r s → IsBeside m r q → Keeps m k q s n → (v : ℕ) → Holds m r v → frame_of k v ≡ frame_of m v
+beside-same m k r q s n is beside keeps v h = keeps.others v (beside.apart v h) (is.apart h.place v h.is_node h.at_place)
+
+pub IsPaged-beside : (m k : List (List ℕ)) (r q : ℕ) (s n : Frames) → IsPaged m r s → IsBeside m r q → Keeps m k q s n → IsFreeList k n → IsPaged k r n
+IsPaged-beside m k r q s n is beside keeps free =
+    let same = beside-same m k r q s n is beside keeps in
+    record {
+      tree = IsTree-same m k r is.tree keeps.count same;
+      free = free;
+      apart = λ x t nx h.
+          let old : table_at m r x ≡ Some t = sym (table_at-same m k r same x nx) ∙ h in
+          (keeps.outside t (beside.apart t (held_at m r x t nx old)) (is.apart x t nx old)).1;
+    }
+
+pub IsBeside-stays : (m k : List (List ℕ)) (r q : ℕ) (s n : Frames) → IsPaged m r s → IsBeside m r q → Keeps m k q s n → IsBeside k r q
+IsBeside-stays m k r q s n is beside keeps = record {
+  apart = λ v h.
+      let same = beside-same m k r q s n is beside keeps in
+      let old : table_at m r h.place ≡ Some v = sym (table_at-same m k r same h.place h.is_node) ∙ h.at_place in
+      (keeps.outside v (beside.apart v (held_at m r h.place v h.is_node old)) (is.apart h.place v h.is_node old)).0;
+}

@@ -1,0 +1,11 @@
+pub mod Tree
+pub mod TreeLemmas
+pub mod Marks
+pub mod Agree
+pub mod Beside
+pub mod Unlink
+pub mod Shape
+pub mod ShapeLemmas
+pub mod EmptyLemmas
+pub mod LookupLemmas
+pub mod UnmapLemmas

@@ -1,0 +1,517 @@
+//! Page tables of the Sv39 scheme of the RISC-V privileged manual: three levels of tables of 512
+//! entries, each table in a frame of its own. A page's number is its address divided by 4096; its
+//! bits 26 to 18, 17 to 9 and 8 to 0 are its indexes in the tables of the three levels.
+//!
+//! A call of `frame_count` whose result is not used is there for what its contract says of the memory.
+//!
+//! Contracts see a page table as a map: `lookup_of m root page` is the frame and the marks of a page.
+//! `walks_by_map` says that the walk of the hardware gives what the map gives.
+#![tactic(auto)]
+
+ghost use Rattle.std.specs.Prelude.{◌≡◌, ◌≢◌, ℕ, ◌+◌, ◌*◌, ◌/◌, ◌%◌, ◌^◌, ◌<◌, ◌≤◌, List, [], ◌∷◌, length, None, Some, true, false, OnOk, OnErr, IsErr, IsTrue, ◌↔◌, IfSome, IfNone};
+ghost use Rattle.std.specs.Option.{option_map};
+ghost use Rattle.frames.specs.Free.{among, free_of, free_count, IsFreeList, SameBut};
+ghost use Rattle.sv39.specs.Walk.{base, entry_of};
+ghost use Rattle.unixmodel.specs.declared.trap.Access.{Access};
+ghost use Rattle.unixmodel.specs.Translation.{walk_page};
+ghost use Rattle.pagetable.specs.Agree.{given_frame};
+ghost use Rattle.pagetable.specs.Shape.{table_of, IsTidy, IsEmpty, Adds, Removes};
+ghost use Rattle.pagetable.specs.Tree.{Node, IsNode, Root, table_entry, leaf_entry, child_of, leaf_of, table_at, low_node, mid_node, lookup_of, IsTableEntry, IsLeafEntry, IsLeafMarks, IsTree, IsPaged, Keeps, Holds, Inserts, Writes, Links, missing};
+
+use frames::Frames;
+use ram::{FrameNo, Ram};
+use sv39::{BASE, Marks};
+
+// Bytes in an entry, and entries in a table.
+const ENTRY_SIZE: usize = 8;
+
+const ENTRIES: u64 = 512;
+
+// Pages that an entry of a table of the middle level stands for, and one of the root.
+const LOW_PAGES: u64 = 512;
+
+const MID_PAGES: u64 = 262144;
+
+// An entry is a frame number times this, plus marks.
+const FRAME_UNIT: u64 = 1024;
+
+/// No page was mapped: fewer frames are free than the page needs for its tables.
+#[derive(Clone, Copy, PartialEq, Eq, Debug)]
+pub struct Full;
+
+/// A page table, by the frame of its root.
+///
+/// A value is only the name of the tables that stand in the memory, and may be copied.
+#[derive(Clone, Copy, PartialEq, Eq, Debug)]
+pub struct PageTable {
+    pub root: FrameNo,
+}
+
+// The table that an entry names.
+#[tactic(auto, unfolding(crate::specs::Tree::child_of, sv39::specs::Walk::entry_of))]
+fn child(ram: &Ram, table: FrameNo, index: u64) -> Option<FrameNo>
+    requires table { table.0 < length ram.now }
+    requires index { index < 512 }
+    requires sound { IsTableEntry (length ram.now) (entry_of ram.now table.0 index) }
+    ensures { option_map (λ f. f.0) result ≡ child_of (entry_of ram.now table.0 index) }
+{
+    let _count = ram.frame_count();
+    let entry = ram.load_u64(table, ENTRY_SIZE * index as usize);
+    if entry == 0 {
+        None
+    } else {
+        Some(FrameNo((entry / FRAME_UNIT - BASE) as u32))
+    }
+}
+
+// What an entry maps to.
+#[tactic(auto, unfolding(crate::specs::Tree::leaf_of, sv39::specs::Walk::entry_of))]
+fn leaf(ram: &Ram, table: FrameNo, index: u64) -> Option<(FrameNo, Marks)>
+    requires table { table.0 < length ram.now }
+    requires index { index < 512 }
+    requires sound { IsLeafEntry (length ram.now) (entry_of ram.now table.0 index) }
+    ensures { option_map (λ x. (x.0.0, x.1.0)) result ≡ leaf_of (entry_of ram.now table.0 index) }
+{
+    let _count = ram.frame_count();
+    let entry = ram.load_u64(table, ENTRY_SIZE * index as usize);
+    if entry == 0 {
+        None
+    } else {
+        Some((
+            FrameNo((entry / FRAME_UNIT - BASE) as u32),
+            Marks((entry % FRAME_UNIT) as u16),
+        ))
+    }
+}
+
+// Makes an entry of a table name a free frame, which becomes an empty table.
+fn link(ram: &mut Ram, frames: &mut Frames, table: FrameNo, index: u64) -> FrameNo
+    requires table { table.0 < length ram.old }
+    requires index { index < 512 }
+    requires valid { IsFreeList ram.old frames.old }
+    requires some { 0 < free_count ram.old frames.old }
+    requires apart { among table.0 (free_of ram.old frames.old) ≡ false }
+    ensures taken { free_of ram.old frames.old ≡ result.0 ∷ free_of ram.new frames.new }
+    ensures valid { IsFreeList ram.new frames.new }
+    ensures links { Links ram.old ram.new table.0 index result.0 }
+{
+    let _count = ram.frame_count();
+    let Some(fresh) = frames.take(ram) else {
+        unreachable!()
+    };
+    ram.zero(fresh);
+    let _after = ram.frame_count();
+    ram.store_u64(
+        table,
+        ENTRY_SIZE * index as usize,
+        (BASE + u64::from(fresh.0)) * FRAME_UNIT + u64::from(Marks::VALID.0),
+    );
+    fresh
+}
+
+// Makes an entry of a table map to a frame.
+fn write(ram: &mut Ram, table: FrameNo, index: u64, frame: FrameNo, marks: Marks)
+    requires table { table.0 < length ram.old }
+    requires index { index < 512 }
+    requires marks { marks.0 < 1024 }
+    ensures { Writes ram.old ram.new table.0 index (leaf_entry frame.0 marks.0) }
+{
+    let _count = ram.frame_count();
+    ram.store_u64(
+        table,
+        ENTRY_SIZE * index as usize,
+        (BASE + u64::from(frame.0)) * FRAME_UNIT + u64::from(marks.0),
+    );
+}
+
+// Whether an entry of a table names something.
+#[tactic(auto, unfolding(sv39::specs::Walk::entry_of))]
+fn is_used(ram: &Ram, table: FrameNo) -> bool
+    requires { table.0 < length ram.now }
+    ensures used { result ≡ true → (i : ℕ) × (i < 512) × (entry_of ram.now table.0 i ≢ 0) }
+    ensures unused { result ≡ false → (i : ℕ) → i < 512 → entry_of ram.now table.0 i ≡ 0 }
+{
+    for i in 0..ENTRIES {
+        if ram.load_u64(table, ENTRY_SIZE * i as usize) != 0 {
+            return true;
+        }
+    }
+    false
+}
+
+// Makes an entry of a table name nothing.
+fn clear(ram: &mut Ram, table: FrameNo, index: u64)
+    requires table { table.0 < length ram.old }
+    requires index { index < 512 }
+    ensures { Writes ram.old ram.new table.0 index 0 }
+{
+    let _count = ram.frame_count();
+    ram.store_u64(table, ENTRY_SIZE * index as usize, 0);
+}
+
+impl PageTable {
+    ghost use Rattle.std.specs.Prelude.{slice_set, replicate};
+
+    /// A page table that maps nothing, in a free frame; `None` if no frame is free.
+    pub fn new(ram: &mut Ram, frames: &mut Frames) -> Option<PageTable>
+        requires { IsFreeList ram.old frames.old }
+        ensures paged { IfSome result (λ t. IsPaged ram.new t.root.0 frames.new) }
+        ensures empty { IfSome result (λ t. IsEmpty ram.new t.root.0) }
+        ensures tidy { IfSome result (λ t. IsTidy ram.new t.root.0) }
+        ensures taken { IfSome result (λ t. free_of ram.old frames.old ≡ t.root.0 ∷ free_of ram.new frames.new) }
+        ensures bytes { IfSome result (λ t. ram.new ≡ slice_set ram.old t.root.0 (replicate 4096 0)) }
+        ensures none { IfNone result ((free_of ram.old frames.old ≡ []) × (ram.new ≡ ram.old) × (frames.new ≡ frames.old)) }
+    {
+        let _count = ram.frame_count();
+        match frames.take(ram) {
+            Some(root) => {
+                ram.zero(root);
+                Some(PageTable { root })
+            }
+            None => None,
+        }
+    }
+
+    // The table of the middle level on the way to a page.
+    fn mid_table(&self, ram: &Ram, page: u64) -> Option<FrameNo>
+        requires { IsTree ram.now self.now.root.0 }
+        ensures { option_map (λ f. f.0) result ≡ table_at ram.now self.now.root.0 (mid_node page) }
+    {
+        child(ram, self.root, page / MID_PAGES % ENTRIES)
+    }
+
+    // The table whose entries map a page.
+    fn low_table(&self, ram: &Ram, page: u64) -> Option<FrameNo>
+        requires { IsTree ram.now self.now.root.0 }
+        ensures { option_map (λ f. f.0) result ≡ table_at ram.now self.now.root.0 (low_node page) }
+    {
+        match self.mid_table(ram, page) {
+            Some(mid) => child(ram, mid, page / LOW_PAGES % ENTRIES),
+            None => None,
+        }
+    }
+
+    /// The frame and the marks that a page is mapped to, or `None`.
+    ///
+    /// Of the page's number the lowest 27 bits count, as in the walk.
+    pub fn find(&self, ram: &Ram, page: u64) -> Option<(FrameNo, Marks)>
+        requires { IsTree ram.now self.now.root.0 }
+        ensures { option_map (λ x. (x.0.0, x.1.0)) result ≡ lookup_of ram.now self.now.root.0 page }
+    {
+        match self.low_table(ram, page) {
+            Some(low) => leaf(ram, low, page % ENTRIES),
+            None => None,
+        }
+    }
+
+    /// A law: for each page and access the walk gives what the map gives. That is the page's frame
+    /// where its leaf allows the access and bits 63 to 39 of its addresses equal bit 38, and a fault
+    /// elsewhere.
+    ///
+    /// It runs no code that matters; its contract is the theorem.
+    pub fn walks_by_map(&self, ram: &Ram)
+        requires { IsTree ram.now self.now.root.0 }
+        ensures { (page : ℕ) (access : Access) → (walk_page ram.now self.now.root.0 page access).frame ≡ given_frame ram.now self.now.root.0 page access }
+    {
+        let _count = ram.frame_count();
+    }
+
+    // Makes the table of the middle level on the way to a page.
+    fn make_mid(&self, ram: &mut Ram, frames: &mut Frames, page: u64) -> FrameNo
+        requires paged { IsPaged ram.old self.now.root.0 frames.old }
+        requires absent { table_at ram.old self.now.root.0 (mid_node page) ≡ None }
+        requires some { 0 < free_count ram.old frames.old }
+        ensures paged { IsPaged ram.new self.now.root.0 frames.new }
+        ensures there { table_at ram.new self.now.root.0 (mid_node page) ≡ Some result.0 }
+        ensures below { table_at ram.new self.now.root.0 (low_node page) ≡ None }
+        ensures taken { free_of ram.old frames.old ≡ result.0 ∷ free_of ram.new frames.new }
+        ensures beside { (x : Node) → IsNode x → x ≢ mid_node page → table_at ram.new self.now.root.0 x ≡ table_at ram.old self.now.root.0 x }
+        ensures same { (p : ℕ) → lookup_of ram.new self.now.root.0 p ≡ lookup_of ram.old self.now.root.0 p }
+        ensures keeps { Keeps ram.old ram.new self.now.root.0 frames.old frames.new }
+    {
+        link(ram, frames, self.root, page / MID_PAGES % ENTRIES)
+    }
+
+    // Makes the table whose entries map a page.
+    fn make_low(&self, ram: &mut Ram, frames: &mut Frames, page: u64, mid: FrameNo) -> FrameNo
+        requires paged { IsPaged ram.old self.now.root.0 frames.old }
+        requires mid { table_at ram.old self.now.root.0 (mid_node page) ≡ Some mid.0 }
+        requires absent { table_at ram.old self.now.root.0 (low_node page) ≡ None }
+        requires some { 0 < free_count ram.old frames.old }
+        ensures paged { IsPaged ram.new self.now.root.0 frames.new }
+        ensures there { table_at ram.new self.now.root.0 (low_node page) ≡ Some result.0 }
+        ensures taken { free_of ram.old frames.old ≡ result.0 ∷ free_of ram.new frames.new }
+        ensures beside { (x : Node) → IsNode x → x ≢ low_node page → table_at ram.new self.now.root.0 x ≡ table_at ram.old self.now.root.0 x }
+        ensures same { (p : ℕ) → lookup_of ram.new self.now.root.0 p ≡ lookup_of ram.old self.now.root.0 p }
+        ensures keeps { Keeps ram.old ram.new self.now.root.0 frames.old frames.new }
+    {
+        link(ram, frames, mid, page / LOW_PAGES % ENTRIES)
+    }
+
+    // Makes the entry of a page map to a frame.
+    fn set_leaf(
+        &self,
+        ram: &mut Ram,
+        frames: &Frames,
+        page: u64,
+        low: FrameNo,
+        frame: FrameNo,
+        marks: Marks,
+    )
+        requires paged { IsPaged ram.old self.now.root.0 frames.now }
+        requires low { table_at ram.old self.now.root.0 (low_node page) ≡ Some low.0 }
+        requires page { page < 2 ^ 27 }
+        requires frame { frame.0 < length ram.old }
+        requires marks { IsLeafMarks marks.0 }
+        ensures paged { IsPaged ram.new self.now.root.0 frames.now }
+        ensures tables { (x : Node) → IsNode x → table_at ram.new self.now.root.0 x ≡ table_at ram.old self.now.root.0 x }
+        ensures inserts { Inserts (lookup_of ram.old self.now.root.0) (lookup_of ram.new self.now.root.0) page (frame.0, marks.0) }
+        ensures free { free_of ram.new frames.now ≡ free_of ram.old frames.now }
+        ensures keeps { Keeps ram.old ram.new self.now.root.0 frames.now frames.now }
+    {
+        write(ram, low, page % ENTRIES, frame, marks);
+    }
+
+    /// Maps a page to a frame, in place of what it was mapped to.
+    ///
+    /// The tables on the way that don't stand yet, at most 2, come from the free frames and are
+    /// cleared first. Where fewer frames are free than that it changes nothing and returns `Full`.
+    pub fn map(
+        &self,
+        ram: &mut Ram,
+        frames: &mut Frames,
+        page: u64,
+        frame: FrameNo,
+        marks: Marks,
+    ) -> Result<(), Full>
+        requires paged { IsPaged ram.old self.now.root.0 frames.old }
+        requires page { page < 2 ^ 27 }
+        requires frame { frame.0 < length ram.old }
+        requires marks { IsLeafMarks marks.0 }
+        ensures mapped { OnOk result (Inserts (lookup_of ram.old self.now.root.0) (lookup_of ram.new self.now.root.0) page (frame.0, marks.0)) }
+        ensures taken { OnOk result (free_count ram.old frames.old ≡ missing ram.old self.now.root.0 page + free_count ram.new frames.new) }
+        ensures adds { OnOk result (Adds ram.old ram.new self.now.root.0 page frames.old frames.new) }
+        ensures tidy { IsTidy ram.old self.now.root.0 → IsTidy ram.new self.now.root.0 }
+        ensures refused { IsErr result ↔ (free_count ram.old frames.old < missing ram.old self.now.root.0 page) }
+        ensures full { OnErr result (free_count ram.old frames.old < missing ram.old self.now.root.0 page) }
+        ensures unchanged { OnErr result ((ram.new ≡ ram.old) × (frames.new ≡ frames.old)) }
+        ensures paged { IsPaged ram.new self.now.root.0 frames.new }
+        ensures keeps { Keeps ram.old ram.new self.now.root.0 frames.old frames.new }
+    {
+        match self.mid_table(ram, page) {
+            Some(mid) => match self.low_table(ram, page) {
+                Some(low) => {
+                    self.set_leaf(ram, frames, page, low, frame, marks);
+                    Ok(())
+                }
+                None => {
+                    if frames.free() < 1 {
+                        return Err(Full);
+                    }
+                    let low = self.make_low(ram, frames, page, mid);
+                    self.set_leaf(ram, frames, page, low, frame, marks);
+                    Ok(())
+                }
+            },
+            None => {
+                if frames.free() < 2 {
+                    return Err(Full);
+                }
+                let mid = self.make_mid(ram, frames, page);
+                let low = self.make_low(ram, frames, page, mid);
+                self.set_leaf(ram, frames, page, low, frame, marks);
+                Ok(())
+            }
+        }
+    }
+
+    /// Gives a page that is mapped other marks; its frame stays.
+    pub fn set_perm(&self, ram: &mut Ram, frames: &Frames, page: u64, marks: Marks)
+        requires paged { IsPaged ram.old self.now.root.0 frames.now }
+        requires page { page < 2 ^ 27 }
+        requires mapped { lookup_of ram.old self.now.root.0 page ≢ None }
+        requires marks { IsLeafMarks marks.0 }
+        ensures paged { IsPaged ram.new self.now.root.0 frames.now }
+        ensures inserts { (f : ℕ) (old : ℕ) → lookup_of ram.old self.now.root.0 page ≡ Some (f, old) → Inserts (lookup_of ram.old self.now.root.0) (lookup_of ram.new self.now.root.0) page (f, marks.0) }
+        ensures tidy { IsTidy ram.old self.now.root.0 → IsTidy ram.new self.now.root.0 }
+        ensures tables { (x : Node) → IsNode x → table_at ram.new self.now.root.0 x ≡ table_at ram.old self.now.root.0 x }
+        ensures free { free_of ram.new frames.now ≡ free_of ram.old frames.now }
+        ensures keeps { Keeps ram.old ram.new self.now.root.0 frames.now frames.now }
+    {
+        let Some(table) = self.low_table(ram, page) else {
+            unreachable!()
+        };
+        let Some((frame, _old)) = leaf(ram, table, page % ENTRIES) else {
+            unreachable!()
+        };
+        self.set_leaf(ram, frames, page, table, frame, marks);
+    }
+
+    // Gives back a table of the lowest level that maps nothing.
+    fn drop_low(&self, ram: &mut Ram, frames: &mut Frames, page: u64, mid: FrameNo, low: FrameNo)
+        requires paged { IsPaged ram.old self.now.root.0 frames.old }
+        requires mid { table_at ram.old self.now.root.0 (mid_node page) ≡ Some mid.0 }
+        requires low { table_at ram.old self.now.root.0 (low_node page) ≡ Some low.0 }
+        requires empty { (i : ℕ) → i < 512 → entry_of ram.old low.0 i ≡ 0 }
+        ensures paged { IsPaged ram.new self.now.root.0 frames.new }
+        ensures given { free_of ram.new frames.new ≡ low.0 ∷ free_of ram.old frames.old }
+        ensures gone { table_at ram.new self.now.root.0 (low_node page) ≡ None }
+        ensures beside { (x : Node) → IsNode x → x ≢ low_node page → table_at ram.new self.now.root.0 x ≡ table_at ram.old self.now.root.0 x }
+        ensures same { (p : ℕ) → lookup_of ram.new self.now.root.0 p ≡ lookup_of ram.old self.now.root.0 p }
+        ensures keeps { Keeps ram.old ram.new self.now.root.0 frames.old frames.new }
+    {
+        clear(ram, mid, page / LOW_PAGES % ENTRIES);
+        frames.give(ram, low);
+    }
+
+    // Gives back a table of the middle level that names nothing.
+    fn drop_mid(&self, ram: &mut Ram, frames: &mut Frames, page: u64, mid: FrameNo)
+        requires paged { IsPaged ram.old self.now.root.0 frames.old }
+        requires mid { table_at ram.old self.now.root.0 (mid_node page) ≡ Some mid.0 }
+        requires empty { (i : ℕ) → i < 512 → entry_of ram.old mid.0 i ≡ 0 }
+        ensures paged { IsPaged ram.new self.now.root.0 frames.new }
+        ensures given { free_of ram.new frames.new ≡ mid.0 ∷ free_of ram.old frames.old }
+        ensures gone { table_at ram.new self.now.root.0 (mid_node page) ≡ None }
+        ensures beside { (x : Node) → IsNode x → x ≢ mid_node page → table_at ram.new self.now.root.0 x ≡ table_at ram.old self.now.root.0 x }
+        ensures same { (p : ℕ) → lookup_of ram.new self.now.root.0 p ≡ lookup_of ram.old self.now.root.0 p }
+        ensures keeps { Keeps ram.old ram.new self.now.root.0 frames.old frames.new }
+    {
+        clear(ram, self.root, page / MID_PAGES % ENTRIES);
+        frames.give(ram, mid);
+    }
+
+    // Makes the entry of a page name nothing.
+    fn clear_leaf(&self, ram: &mut Ram, frames: &Frames, page: u64, low: FrameNo)
+        requires paged { IsPaged ram.old self.now.root.0 frames.now }
+        requires low { table_at ram.old self.now.root.0 (low_node page) ≡ Some low.0 }
+        requires page { page < 2 ^ 27 }
+        ensures paged { IsPaged ram.new self.now.root.0 frames.now }
+        ensures tables { (x : Node) → IsNode x → table_at ram.new self.now.root.0 x ≡ table_at ram.old self.now.root.0 x }
+        ensures removes { Removes (lookup_of ram.old self.now.root.0) (lookup_of ram.new self.now.root.0) page }
+        ensures free { free_of ram.new frames.now ≡ free_of ram.old frames.now }
+        ensures keeps { Keeps ram.old ram.new self.now.root.0 frames.now frames.now }
+    {
+        clear(ram, low, page % ENTRIES);
+    }
+
+    /// Takes a page out of the map, and returns the frame that it was mapped to.
+    ///
+    /// A table that maps nothing from then on goes back to the free frames, so no table but the root
+    /// is ever empty. The page's own frame is the caller's.
+    pub fn unmap(&self, ram: &mut Ram, frames: &mut Frames, page: u64) -> FrameNo
+        requires paged { IsPaged ram.old self.now.root.0 frames.old }
+        requires tidy { IsTidy ram.old self.now.root.0 }
+        requires page { page < 2 ^ 27 }
+        requires mapped { lookup_of ram.old self.now.root.0 page ≢ None }
+        ensures was { option_map (λ x. x.0) (lookup_of ram.old self.now.root.0 page) ≡ Some result.0 }
+        ensures removes { Removes (lookup_of ram.old self.now.root.0) (lookup_of ram.new self.now.root.0) page }
+        ensures drops { Adds ram.new ram.old self.now.root.0 page frames.new frames.old }
+        ensures tidy { IsTidy ram.new self.now.root.0 }
+        ensures paged { IsPaged ram.new self.now.root.0 frames.new }
+        ensures keeps { Keeps ram.old ram.new self.now.root.0 frames.old frames.new }
+    {
+        let Some(mid) = self.mid_table(ram, page) else {
+            unreachable!()
+        };
+        let Some(low) = self.low_table(ram, page) else {
+            unreachable!()
+        };
+        let Some((frame, _)) = leaf(ram, low, page % ENTRIES) else {
+            unreachable!()
+        };
+        self.clear_leaf(ram, frames, page, low);
+        if is_used(ram, low) {
+            return frame;
+        }
+        self.drop_low(ram, frames, page, mid, low);
+        if is_used(ram, mid) {
+            return frame;
+        }
+        self.drop_mid(ram, frames, page, mid);
+        frame
+    }
+
+    /// Gives back the root of a page table that maps nothing, which is its only table.
+    pub fn destroy(self, ram: &mut Ram, frames: &mut Frames)
+        requires paged { IsPaged ram.old self.root.0 frames.old }
+        ensures given { free_of ram.new frames.new ≡ self.root.0 ∷ free_of ram.old frames.old }
+        ensures valid { IsFreeList ram.new frames.new }
+        ensures others { SameBut (self.root.0 ∷ []) ram.old ram.new }
+    {
+        frames.give(ram, self.root);
+    }
+}
+
+#[cfg(test)]
+mod tests {
+    use super::*;
+    use std::test::Fail;
+    use sv39::walk_page;
+    use unixmodel::trap::Access;
+
+    // index 1 in the tables of each level
+    const PAGE: u64 = 262144 + 512 + 1;
+
+    // V, R, A and D; beside them W and U, X and U, and W and X
+    const WRITABLE: Marks = Marks(0b1101_0111);
+
+    const EXECUTABLE: Marks = Marks(0b1101_1011);
+
+    const HIDDEN: Marks = Marks(0b1100_1111);
+
+    #[test]
+    fn maps_a_page_and_takes_it_out_again(rt: HostRuntime) -> Result<(), Fail> {
+        let mut ram = Ram::new(rt.alloc(), 8)?;
+        let mut frames = Frames::new(&mut ram);
+        let frame = frames.take(&ram).ok_or("no frame is free")?;
+        let table = PageTable::new(&mut ram, &mut frames).ok_or("no frame is free")?;
+        assert!(rt; frame.0 < ram.frame_count());
+        table.map(&mut ram, &mut frames, 5, frame, WRITABLE)?;
+        assert_eq!(rt; frames.free(), 4);
+        assert_eq!(rt; table.find(&ram, 5), Some((frame, WRITABLE)));
+        assert_eq!(rt; table.find(&ram, 4), None);
+        assert_eq!(rt; table.unmap(&mut ram, &mut frames, 5), frame);
+        assert_eq!(rt; table.find(&ram, 5), None);
+        assert_eq!(rt; frames.free(), 6);
+        table.destroy(&mut ram, &mut frames);
+        assert_eq!(rt; frames.free(), 7);
+        Ok(())
+    }
+
+    #[test]
+    fn shows_a_page_to_the_walk(rt: HostRuntime) -> Result<(), Fail> {
+        let mut ram = Ram::new(rt.alloc(), 8)?;
+        let mut frames = Frames::new(&mut ram);
+        let frame = frames.take(&ram).ok_or("no frame is free")?;
+        let table = PageTable::new(&mut ram, &mut frames).ok_or("no frame is free")?;
+        assert!(rt; frame.0 < ram.frame_count());
+        table.map(&mut ram, &mut frames, PAGE, frame, WRITABLE)?;
+        assert_eq!(rt;
+            walk_page(&ram, table.root, PAGE, Access::Store),
+            Some(frame)
+        );
+        assert_eq!(rt; walk_page(&ram, table.root, PAGE, Access::Fetch), None);
+        table.set_perm(&mut ram, &frames, PAGE, EXECUTABLE);
+        assert_eq!(rt; walk_page(&ram, table.root, PAGE, Access::Store), None);
+        assert_eq!(rt;
+            walk_page(&ram, table.root, PAGE, Access::Fetch),
+            Some(frame)
+        );
+        table.set_perm(&mut ram, &frames, PAGE, HIDDEN);
+        assert_eq!(rt; walk_page(&ram, table.root, PAGE, Access::Load), None);
+        Ok(())
+    }
+
+    #[test]
+    fn is_full_where_a_table_lacks_a_frame(rt: HostRuntime) -> Result<(), Fail> {
+        let mut ram = Ram::new(rt.alloc(), 2)?;
+        let mut frames = Frames::new(&mut ram);
+        let frame = frames.take(&ram).ok_or("no frame is free")?;
+        let table = PageTable::new(&mut ram, &mut frames).ok_or("no frame is free")?;
+        assert!(rt; frame.0 < ram.frame_count());
+        let mapped = table.map(&mut ram, &mut frames, 0, frame, WRITABLE);
+        assert_eq!(rt; mapped, Err(Full));
+        assert_eq!(rt; frames.free(), 0);
+        Ok(())
+    }
+}

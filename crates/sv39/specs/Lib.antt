@@ -1,0 +1,4 @@
+pub mod Entry
+pub mod Walk
+pub mod WalkLemmas
+pub mod Mapping

@@ -1,0 +1,400 @@
+//! Address translation by Sv39, the page-based scheme of the RISC-V privileged manual with 39 bits of
+//! virtual address. Addresses are in bytes, pages and frames have 4096 bytes, and a page's number is its
+//! address divided by 4096.
+#![tactic(auto)]
+
+ghost use Rattle.std.specs.Prelude.{⊤, ◌≡◌, ◌≢◌, ◌==◌, ℕ, ◌+◌, ◌-◌, ◌*◌, ◌/◌, ◌%◌, ◌^◌, ◌<◌, ◌≤◌, List, [], ◌∷◌, length, codes, IsTrue, IfSome, IfOk, bit_and, None, Some};
+ghost use Rattle.std.specs.Result.{result_ok};
+ghost use Rattle.std.specs.Option.{option_map};
+ghost use Rattle.unixmodel.specs.Translation.{walk_page, walk, place_in, Translation, IsAnswer, IsKept, HoldsNothing, HoldsInside};
+ghost use Rattle.sv39.specs.Entry.{has, allows, marks_of, number_of, is_sound, is_table, turn_of, IsSmall};
+ghost use Rattle.sv39.specs.Walk.{base, frame_at, entry_of, turn_at, follow, is_canonical, walk_low, walk_mid, walk_high, walk_of};
+
+use bitflags::{Flag, Flags, bitflag_items};
+use ram::{FrameNo, Ram};
+use unixmodel::trap::Access;
+
+/// The marks of an entry: its low 10 bits.
+#[derive(Clone, Copy, PartialEq, Eq, Debug)]
+pub struct Marks(pub u16);
+
+bitflag_items! {
+    impl Marks: u16 {
+        const VALID = 1;
+        const READ = 2;
+        const WRITE = 4;
+        const EXECUTE = 8;
+        const USER = 16;
+        const GLOBAL = 32;
+        const ACCESSED = 64;
+        const DIRTY = 128;
+    }
+}
+
+impl Flags for Marks {
+    type Bits = u16;
+
+    ghost exact = { ⊤ };
+
+    ghost table = { (codes "VALID", 1) ∷ (codes "READ", 2) ∷ (codes "WRITE", 4) ∷ (codes "EXECUTE", 8) ∷ (codes "USER", 16) ∷ (codes "GLOBAL", 32) ∷ (codes "ACCESSED", 64) ∷ (codes "DIRTY", 128) ∷ [] };
+
+    ghost set_of = { λ m. m.0 };
+
+    fn flags<'a>() -> &'a [Flag<Marks>] {
+        Marks::FLAGS
+    }
+
+    fn bits(&self) -> u16 {
+        self.0
+    }
+
+    fn from_bits_retain(bits: u16) -> Marks {
+        Marks(bits)
+    }
+}
+
+/// No translation: the tables give the page no frame for this access.
+#[derive(Clone, Copy, PartialEq, Eq, Debug)]
+pub struct Fault;
+
+/// The number by which entries and physical addresses name the first frame of the memory.
+pub const BASE: u64 = 0x80000;
+
+/// What the walk does at an entry.
+#[derive(Clone, Copy, PartialEq, Eq, Debug)]
+pub enum Turn {
+    /// It ends with no frame.
+    Stop,
+    /// It goes on at the table with this frame number.
+    Down(u64),
+    /// It ends at a leaf, whose first page has this frame number.
+    Leaf(u64),
+}
+
+/// An entry of a page table, as the manual lays it out.
+#[derive(Clone, Copy, PartialEq, Eq, Debug)]
+pub struct Pte(pub u64);
+
+impl Pte {
+    /// The marks.
+    #[inline]
+    #[tactic(auto, unfolding(crate::specs::Entry::marks_of))]
+    pub fn marks(self) -> Marks
+        ensures { result.0 ≡ marks_of self.0 }
+    {
+        Marks((self.0 % 1024) as u16)
+    }
+
+    /// The frame number, of 44 bits; the memory's first frame has `BASE`.
+    #[inline]
+    #[tactic(auto, unfolding(crate::specs::Entry::number_of))]
+    pub fn number(self) -> u64
+        ensures value { result ≡ number_of self.0 }
+        ensures small { result < 2 ^ 44 }
+    {
+        self.0 / 1024 % (1 << 44)
+    }
+
+    // Whether the walk may use it: it is valid, not writable without being readable, and bits 54 to
+    // 63 are 0.
+    #[inline]
+    #[tactic(auto, unfolding(crate::specs::Entry::is_sound))]
+    fn is_sound(self) -> bool
+        ensures { result ≡ is_sound self.0 }
+    {
+        let marks = self.marks();
+        marks.contains(Marks::VALID)
+            && self.0 >> 54 == 0
+            && (!marks.contains(Marks::WRITE) || marks.contains(Marks::READ))
+    }
+
+    // Whether it names a table of the next level, where it is sound.
+    #[inline]
+    #[tactic(auto, unfolding(crate::specs::Entry::is_table))]
+    fn is_table(self) -> bool
+        ensures { result ≡ is_table self.0 }
+    {
+        let marks = self.marks();
+        !marks.contains(Marks::READ)
+            && (!marks.contains(Marks::WRITE) && !marks.contains(Marks::EXECUTE))
+    }
+
+    /// What the walk for an access does at this entry of a level whose leaves have `span` pages. A leaf
+    /// of several pages has a frame number that is a multiple of their count.
+    #[inline]
+    pub fn turn(self, span: u64, access: Access) -> Turn
+        requires { 0 < span }
+        ensures value { result ≡ turn_of self.0 span access }
+        ensures small { IsSmall result }
+    {
+        if !self.is_sound() {
+            return Turn::Stop;
+        }
+        let number = self.number();
+        if self.is_table() {
+            return Turn::Down(number);
+        }
+        if allows(self.marks(), access) && number % span == 0 {
+            Turn::Leaf(number)
+        } else {
+            Turn::Stop
+        }
+    }
+}
+
+// Whether the marks of a leaf let a program's access through. The walk sets no mark: a leaf without
+// ACCESSED, or for a store without DIRTY, is refused.
+#[inline]
+#[tactic(auto, unfolding(crate::specs::Entry::allows))]
+fn allows(marks: Marks, access: Access) -> bool
+    ensures { result ≡ allows marks.0 access }
+{
+    let needed = match access {
+        Access::Fetch => marks.contains(Marks::EXECUTE),
+        Access::Load => marks.contains(Marks::READ),
+        Access::Store => marks.contains(Marks::WRITE) && marks.contains(Marks::DIRTY),
+    };
+    needed && (marks.contains(Marks::USER) && marks.contains(Marks::ACCESSED))
+}
+
+// The frame of the memory that an entry names by a number.
+#[inline]
+fn frame_of_number(ram: &Ram, number: u64) -> Option<FrameNo>
+    requires { number < 2 ^ 63 }
+    ensures value { option_map (λ f. f.0) result ≡ frame_at (length ram.now) number }
+    ensures inside { IfSome result (λ f. f.0 < length ram.now) }
+{
+    let count = ram.frame_count();
+    if number >= BASE && number < BASE + u64::from(count) {
+        Some(FrameNo((number - BASE) as u32))
+    } else {
+        None
+    }
+}
+
+// What the walk does at the entry for a page at a level whose leaves have `span` pages.
+#[inline]
+#[tactic(auto, unfolding(crate::specs::Walk::entry_of))]
+fn turn_at(ram: &Ram, table: FrameNo, span: u64, page: u64, access: Access) -> Turn
+    requires table { table.0 < length ram.now }
+    requires span { 0 < span }
+    ensures value { result ≡ turn_at ram.now table.0 span page access }
+    ensures small { IsSmall result }
+{
+    let index = page / span % 512;
+    let entry = Pte(ram.load_u64(table, 8 * index as usize));
+    entry.turn(span, access)
+}
+
+// The walk from a table of the lowest level, whose leaves have one page.
+#[inline]
+#[tactic(auto, unfolding(crate::specs::Walk::walk_low))]
+fn walk_low(ram: &Ram, table: FrameNo, page: u64, access: Access) -> Option<FrameNo>
+    requires { table.0 < length ram.now }
+    ensures value { option_map (λ f. f.0) result ≡ walk_low ram.now page access table.0 }
+    ensures inside { IfSome result (λ f. f.0 < length ram.now) }
+{
+    match turn_at(ram, table, 1, page, access) {
+        Turn::Leaf(number) => frame_of_number(ram, number + page % 1),
+        _ => None,
+    }
+}
+
+// The walk from a table of the middle level, whose leaves have 512 pages.
+#[inline]
+#[tactic(auto, unfolding(crate::specs::Walk::walk_mid))]
+fn walk_mid(ram: &Ram, table: FrameNo, page: u64, access: Access) -> Option<FrameNo>
+    requires { table.0 < length ram.now }
+    ensures value { option_map (λ f. f.0) result ≡ walk_mid ram.now page access table.0 }
+    ensures inside { IfSome result (λ f. f.0 < length ram.now) }
+{
+    match turn_at(ram, table, 512, page, access) {
+        Turn::Leaf(number) => frame_of_number(ram, number + page % 512),
+        Turn::Down(number) => match frame_of_number(ram, number) {
+            Some(next) => walk_low(ram, next, page, access),
+            None => None,
+        },
+        Turn::Stop => None,
+    }
+}
+
+// The walk from the root's table, whose leaves have 512 * 512 pages.
+#[inline]
+#[tactic(auto, unfolding(crate::specs::Walk::walk_high))]
+fn walk_high(ram: &Ram, table: FrameNo, page: u64, access: Access) -> Option<FrameNo>
+    requires { table.0 < length ram.now }
+    ensures value { option_map (λ f. f.0) result ≡ walk_high ram.now page access table.0 }
+    ensures inside { IfSome result (λ f. f.0 < length ram.now) }
+{
+    match turn_at(ram, table, 262144, page, access) {
+        Turn::Leaf(number) => frame_of_number(ram, number + page % 262144),
+        Turn::Down(number) => match frame_of_number(ram, number) {
+            Some(next) => walk_mid(ram, next, page, access),
+            None => None,
+        },
+        Turn::Stop => None,
+    }
+}
+
+// The walk where the page has a number whose addresses are canonical.
+#[inline]
+#[tactic(auto, unfolding(crate::specs::Walk::walk_of))]
+fn walk_levels(ram: &Ram, root: FrameNo, page: u64, access: Access) -> Option<FrameNo>
+    ensures value { option_map (λ f. f.0) result ≡ walk_of ram.now root.0 page access }
+    ensures inside { IfSome result (λ f. f.0 < length ram.now) }
+{
+    let canonical = page < 1 << 26 || (page >= (1 << 52) - (1 << 26) && page < 1 << 52);
+    if canonical && root.0 < ram.frame_count() {
+        walk_high(ram, root, page, access)
+    } else {
+        None
+    }
+}
+
+/// The frame that the tables from a root give to a page for an access, if they give one.
+///
+/// At most three entries are read. The page's number is one of 52 bits, whose highest 27 are equal.
+#[inline]
+pub fn walk_page(ram: &Ram, root: FrameNo, page: u64, access: Access) -> Option<FrameNo>
+    ensures is { option_map (λ f. f.0) result ≡ (walk_page ram.now root.0 page access).frame }
+    ensures inside { IfSome result (λ f. f.0 < length ram.now) }
+{
+    walk_levels(ram, root, page, access)
+}
+
+// The physical address of a virtual address whose page has this frame.
+#[inline]
+fn address(frame: FrameNo, va: u64) -> u64
+    ensures { result ≡ place_in va frame.0 }
+{
+    (BASE + u64::from(frame.0)) * 4096 + va % 4096
+}
+
+/// The physical address of a virtual address, by the tables from a root.
+#[inline]
+pub fn walk(ram: &Ram, root: FrameNo, va: u64, access: Access) -> Result<u64, Fault>
+    ensures is { result_ok result ≡ walk ram.now root.0 va access }
+    ensures inside { IfOk result (λ pa. (2 ^ 31 ≤ pa) × (pa / 4096 - 0x80000 < length ram.now)) }
+{
+    match walk_page(ram, root, va / 4096, access) {
+        Some(frame) => Ok(address(frame, va)),
+        None => Err(Fault),
+    }
+}
+
+/// Translates addresses, and may hold translations until it is fenced, as the manual allows.
+pub trait Translate {
+    ghost held: { Self → Translation → Type 0 };
+
+    /// The physical address of a virtual address, by the tables from a root or by a translation that
+    /// is held.
+    fn translate(&mut self, ram: &Ram, root: FrameNo, va: u64, access: Access) -> Result<u64, Fault>
+        requires { HoldsInside (held self.old) ram.now }
+        ensures answer { IsAnswer (held self.old) ram.now root.0 va access (result_ok result) }
+        ensures inside { IfOk result (λ pa. (2 ^ 31 ≤ pa) × (pa / 4096 - 0x80000 < length ram.now)) }
+        ensures kept { IsKept (held self.old) (held self.new) ram.now root.0 };
+
+    /// Gives up every translation.
+    fn fence(&mut self)
+        ensures { HoldsNothing (held self.new) };
+}
+
+/// Holds nothing, and walks each time.
+#[derive(Drop)]
+pub struct Plain;
+
+impl Plain {
+    /// A translator.
+    pub fn new() -> Plain {
+        Plain
+    }
+}
+
+impl Translate for Plain {
+    ghost held = { λ _ _. ⊥ };
+
+    #[inline]
+    fn translate(
+        &mut self,
+        ram: &Ram,
+        root: FrameNo,
+        va: u64,
+        access: Access,
+    ) -> Result<u64, Fault> {
+        walk(ram, root, va, access)
+    }
+
+    fn fence(&mut self) {}
+}
+
+#[cfg(test)]
+mod tests {
+    use super::*;
+    use std::process::Abort;
+    use std::test::Fail;
+
+    // What each access below needs.
+    fn has_frames(rt: &impl Abort, ram: &Ram)
+        ensures { length ram.now ≡ 4 }
+    {
+        assert_eq!(rt; ram.frame_count(), 4);
+    }
+
+    // Tables in frames 0, 1 and 2: page 3 is a leaf that is read, and pages 512 to 1023 are one leaf.
+    fn map(rt: &impl Abort, ram: &mut Ram) {
+        has_frames(rt, ram);
+        ram.store_u64(FrameNo(0), 0, 0x2000_0401);
+        has_frames(rt, ram);
+        ram.store_u64(FrameNo(1), 0, 0x2000_0801);
+        has_frames(rt, ram);
+        ram.store_u64(FrameNo(1), 8, 0x2000_00df);
+        has_frames(rt, ram);
+        ram.store_u64(FrameNo(2), 24, 0x2000_0c53);
+    }
+
+    #[test]
+    fn addresses_are_translated(rt: HostRuntime) -> Result<(), Fail> {
+        let mut ram = Ram::new(rt.alloc(), 4)?;
+        map(&rt, &mut ram);
+        let mut plain = Plain::new();
+        for (va, access, want) in [
+            (0x3abc, Access::Load, Some(0x8000_3abc)),
+            (0x3abc, Access::Store, None),
+            (0x3abc, Access::Fetch, None),
+            (0x4000, Access::Load, None),
+            (0x20_2005, Access::Store, Some(0x8000_2005)),
+            (0x20_3ffc, Access::Fetch, Some(0x8000_3ffc)),
+            (0x20_4000, Access::Load, None),
+            (0x40_0000_3abc, Access::Load, None),
+            (0xffff_ffff_ffff_f000, Access::Load, None),
+        ] {
+            assert_eq!(rt; walk(&ram, FrameNo(0), va, access).ok(), want, "at {va}");
+            assert_eq!(rt;
+                plain.translate(&ram, FrameNo(0), va, access).ok(),
+                want,
+                "at {va}"
+            );
+            plain.fence();
+        }
+        assert_eq!(rt;
+            walk_page(&ram, FrameNo(0), 3, Access::Load),
+            Some(FrameNo(3))
+        );
+        assert_eq!(rt; walk_page(&ram, FrameNo(4), 3, Access::Load), None);
+        Ok(())
+    }
+
+    #[test]
+    fn entries_are_read(rt: HostRuntime) {
+        let entry = Pte(0x2000_0c53);
+        assert_eq!(rt; entry.number(), BASE + 3);
+        assert!(rt; entry.marks().contains(Marks::READ | Marks::USER));
+        assert_eq!(rt; entry.turn(1, Access::Load), Turn::Leaf(BASE + 3));
+        assert_eq!(rt; entry.turn(1, Access::Fetch), Turn::Stop);
+        assert_eq!(rt; entry.turn(512, Access::Load), Turn::Stop);
+        assert_eq!(rt;
+            Pte(0x2000_0401).turn(512, Access::Load),
+            Turn::Down(BASE + 1)
+        );
+    }
+}

@@ -1,0 +1,60 @@
+use Rattle.std.proofs.Common.{◌≡◌, ℕ, ◌+◌, ◌-◌, ◌/◌, ◌<◌, ◌≤◌, ◌++◌, List, length, take, drop, Some, None, true, refl, sym, ap, ◌∙◌, arith}
+use Rattle.std.specs.Prelude.{nat_le, if◌then◌else◌}
+use Rattle.std.proofs.lemmas.Bool.{leb-true, le-leb}
+use Rattle.std.proofs.lemmas.List.{take_all}
+use Rattle.std.proofs.lemmas.Slice.{take-put_mid}
+use Rattle.unixmodel.specs.declared.trap.Access.TheVariants.{Load}
+use Rattle.unixmodel.specs.Memory.{reach}
+use Rattle.vm.specs.PageLemmas.{length-pages}
+use Rattle.vm.specs.ReachLemmas.{reach-page, reach-next}
+use Rattle.vm.specs.SizedLemmas.{pages-sized}
+use Rattle.vm.specs.Space.{pages_in, pages_of}
+use Rattle.vm.proofs.Space.copy_in.Goals as goal
+
+pub overflow_add-address : goal.overflow_add-address
+overflow_add-address c =
+    let m = c.args.ram.now in
+    let s = c.args.self.now in
+    let n = pages_in s.size in
+    let mem = pages_of m s in
+    let sized = pages-sized m s.root.0 s.trap.0 n c.frame_count-count.ensures.memory c.requires in
+    let long : length c.args.buffer.now ≤ length (reach Load mem c.args.address) = leb-true _ _ (sym c.if-not-can_read.ensures.reach) in
+    let next = reach-page Load mem c.args.address c.loop-done.done sized (omega (arith, long)) in
+    omega (arith, next.0, length-pages m s.root.0 n, c.requires.small)
+
+pub loop-done-smaller : goal.loop-done-smaller
+loop-done-smaller c =
+    let m = c.args.ram.now in
+    let s = c.args.self.now in
+    let mem = pages_of m s in
+    let sized = pages-sized m s.root.0 s.trap.0 (pages_in s.size) c.frame_count-count.ensures.memory c.requires in
+    let long : length c.args.buffer.now ≤ length (reach Load mem c.args.address) = leb-true _ _ (sym c.if-not-can_read.ensures.reach) in
+    let next = reach-page Load mem c.args.address c.loop-done.done sized (omega (arith, long)) in
+    omega (arith, next.1, ap length c.readable-piece.ensures)
+
+pub loop-done-preserved : goal.loop-done-preserved
+loop-done-preserved c =
+    let m = c.args.ram.now in
+    let s = c.args.self.now in
+    let mem = pages_of m s in
+    let d = c.loop-done.done in
+    let n = c.min-len.result in
+    let i = c.loop-done.invariant in
+    let sized = pages-sized m s.root.0 s.trap.0 (pages_in s.size) c.frame_count-count.ensures.memory c.requires in
+    let long : length c.args.buffer.now ≤ length (reach Load mem c.args.address) = leb-true _ _ (sym c.if-not-can_read.ensures.reach) in
+    record {
+      within = omega arith;
+      same = take-put_mid d (d + n - d) c.loop-done.buffer c.copy_from_slice.new.self (d + n) (omega (arith, c.copy_from_slice.ensures.len)) (omega arith)
+          ∙ ap (λ l. l ++ c.copy_from_slice.new.self) i.same
+          ∙ ap (λ l. take d (reach Load mem c.args.address) ++ l) (c.copy_from_slice.ensures.after ∙ ap (take n) c.readable-piece.ensures)
+          ∙ reach-next Load mem c.args.address d n sized (omega (arith, long)) (omega (arith, ap length c.readable-piece.ensures));
+    }
+
+pub returns-clause-read : goal.returns-clause-read
+returns-clause-read c =
+    let mem = pages_of c.args.ram.now c.args.self.now in
+    let n = length c.args.buffer.now in
+    let i = c.loop-done.invariant in
+    let all : c.loop-done.done ≡ n = omega arith in
+    let same : c.loop-done.buffer ≡ take n (reach Load mem c.args.address) = sym (take_all n c.loop-done.buffer (omega arith)) ∙ ap (λ k. take k c.loop-done.buffer) (sym all) ∙ i.same ∙ ap (λ k. take k (reach Load mem c.args.address)) all in
+    ap (λ b. if b then Some (take n (reach Load mem c.args.address)) else None) (sym c.if-not-can_read.ensures.reach) ∙ ap Some (sym same)

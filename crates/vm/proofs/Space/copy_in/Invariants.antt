@@ -1,0 +1,14 @@
+use Rattle.std.proofs.Common.{◌≡◌, ◌≤◌, ◌-◌, length, take}
+use Rattle.unixmodel.specs.declared.trap.Access.TheVariants.{Load}
+use Rattle.unixmodel.specs.Memory.{reach}
+use Rattle.vm.specs.Space.{pages_of}
+use Rattle.vm.proofs.Space.copy_in.Given as goal
+
+abbrev pub invariant-loop-done : goal.invariant-loop-done
+invariant-loop-done l = record {
+  within : l.done ≤ length l.initial.buffer;
+  same : take l.done l.buffer ≡ take l.done (reach Load (pages_of l.ram l.self) l.address);
+}
+
+abbrev pub decreases-loop-done : goal.decreases-loop-done
+decreases-loop-done l = length l.initial.buffer - l.done

@@ -1,0 +1,68 @@
+use Rattle.std.proofs.Common.{◌≡◌, ℕ, ◌+◌, ◌-◌, ◌/◌, ◌<◌, ◌≤◌, ◌%◌, List, [], length, take, drop, min, true, refl, sym, ap, ◌∙◌, arith, length-drop}
+use Rattle.std.specs.Prelude.{nat_le}
+use Rattle.std.proofs.lemmas.Bool.{leb-true}
+use Rattle.std.proofs.lemmas.List.{drop_all, drop-drop, take_all}
+use Rattle.unixmodel.specs.declared.trap.Access.TheVariants.{Store}
+use Rattle.unixmodel.specs.Memory.{reach, write_bytes}
+use Rattle.vm.specs.PageLemmas.{length-pages}
+use Rattle.vm.specs.ReachLemmas.{reach-page}
+use Rattle.vm.specs.SizedLemmas.{pages-sized}
+use Rattle.vm.specs.Space.{pages_in, pages_of}
+use Rattle.vm.specs.StoreLemmas.{Stands-none, Stands-twice}
+use Rattle.vm.specs.WriteLemmas.{write-none}
+use Rattle.vm.proofs.Space.fill.Goals as goal
+
+pub loop-done-init : goal.loop-done-init
+loop-done-init c =
+    let start : c.args.address + 0 ≡ c.args.address = omega arith in
+    record {
+      within = omega arith;
+      rest = ap (λ at. write_bytes (pages_of c.args.ram.now c.args.self.now) at c.args.bytes.now) start;
+      stands = Stands-none c.args.ram.now c.args.self.now c.requires.mapped c.requires.once;
+      registers = refl;
+    }
+
+pub overflow_add-address : goal.overflow_add-address
+overflow_add-address c = omega (arith, c.requires.inside c.loop-done.done c.loop-done-test.true, c.requires.mapped.small)
+
+pub write_page-done-requires-clause-mapped : goal.write_page-done-requires-clause-mapped
+write_page-done-requires-clause-mapped c = c.loop-done.invariant.stands.mapped
+
+pub write_page-done-requires-clause-once : goal.write_page-done-requires-clause-once
+write_page-done-requires-clause-once c = c.loop-done.invariant.stands.once
+
+pub write_page-done-requires-clause-page : goal.write_page-done-requires-clause-page
+write_page-done-requires-clause-page c = c.requires.inside c.loop-done.done c.loop-done-test.true
+
+pub loop-done-preserved : goal.loop-done-preserved
+loop-done-preserved c =
+    let i = c.loop-done.invariant in
+    let d = c.loop-done.done in
+    let n = c.write_page-done.result in
+    let bs = c.args.bytes.now in
+    let e = c.write_page-done.ensures in
+    let left : take (length bs - d) (drop d bs) ≡ drop d bs = take_all (length bs - d) (drop d bs) (omega (arith, length-drop d bs)) in
+    let count : n ≡ min (4096 - (c.args.address + d) % 4096) (length (drop d bs)) = rw left at e.count in
+    let place : c.args.address + (d + n) ≡ c.args.address + d + n = omega arith in
+    record {
+      within = omega (arith, count, length-drop d bs);
+      rest = ap (λ at. write_bytes (pages_of c.write_page-done.new.ram c.args.self.now) at (drop (d + n) bs)) place
+          ∙ ap (write_bytes (pages_of c.write_page-done.new.ram c.args.self.now) (c.args.address + d + n)) (sym (drop-drop n d bs))
+          ∙ (rw left at e.rest) ∙ i.rest;
+      stands = Stands-twice c.args.ram.now c.loop-done.ram c.write_page-done.new.ram c.args.self.now i.stands e.stands;
+      registers = e.registers ∙ i.registers;
+    }
+
+pub returns-clause-written : goal.returns-clause-written
+returns-clause-written c =
+    let i = c.loop-done.invariant in
+    let none : drop c.loop-done.done c.args.bytes.now ≡ [] = drop_all c.loop-done.done c.args.bytes.now (omega arith) in
+    sym (write-none (pages_of c.loop-done.ram c.args.self.now) (c.args.address + c.loop-done.done))
+    ∙ ap (write_bytes (pages_of c.loop-done.ram c.args.self.now) (c.args.address + c.loop-done.done)) (sym none)
+    ∙ i.rest
+
+pub returns-clause-stands : goal.returns-clause-stands
+returns-clause-stands c = c.loop-done.invariant.stands
+
+pub returns-clause-registers : goal.returns-clause-registers
+returns-clause-registers c = c.loop-done.invariant.registers

@@ -1,0 +1,60 @@
+use Rattle.std.proofs.Common.{◌≡◌, ℕ, ◌+◌, ◌-◌, ◌≤◌, List, [], ◌∷◌, ◌++◌, length, replicate, refl, sym, ap, ◌∙◌, arith, append-nil, append_assoc}
+use Rattle.std.proofs.lemmas.List.{replicate_more}
+use Rattle.frames.specs.HolderLemmas.{Trades-none, Trades-twice, held-count}
+use Rattle.vm.specs.Dense.{IsHeld, frames_for, held, page_with, pages_below}
+use Rattle.vm.specs.DenseLemmas.{length-held}
+use Rattle.unixmodel.specs.Memory.{zero_page}
+use Rattle.pagetable.specs.Marks.{IsLeafMarks-leaf_marks}
+use Rattle.vm.specs.Leaf.{marks_from}
+use Rattle.vm.specs.LeafLemmas.{leaf-user, page-zero}
+use Rattle.vm.specs.PageLemmas.{take-mapping}
+use Rattle.vm.specs.Space.{pages_in}
+use Rattle.vm.proofs.Space.grow.Goals as goal
+
+pub loop-page-init : goal.loop-page-init
+loop-page-init c =
+    let same = c.pages_in-from.ensures in
+    let none : c.pages_in-from.result - c.pages_in-from.result ≡ 0 = omega arith in
+    let n = c.pages_in-from.result in
+    record {
+      space = rw same c.requires;
+      pages = rw none (sym (append-nil (pages_below c.args.ram.now c.args.self.now.root.0 n)));
+      mapping = refl;
+      trap = refl;
+      trades = Trades-none c.args.ram.now c.args.frames.now (held c.args.ram.now c.args.self.now.root.0 c.args.self.now.trap.0 n);
+      room = omega (arith, c.frames_for.ensures, c.frames_for-2.ensures, c.if-frames_for-from.false, c.free.ensures c.args.ram.now);
+      small = omega (arith, ap frames_for c.pages_in-from.ensures, c.frames_for.ensures, c.frames_for-2.ensures, c.if-frames_for-from.false, c.free.ensures c.args.ram.now, held-count c.args.ram.now c.args.frames.now (held c.args.ram.now c.args.self.now.root.0 c.args.self.now.trap.0 (pages_in c.args.self.now.size)) c.requires.free c.requires.held, length-held c.args.ram.now c.args.self.now.root.0 c.args.self.now.trap.0 (pages_in c.args.self.now.size));
+    }
+
+pub add_page-requires-clause-marks : goal.add_page-requires-clause-marks
+add_page-requires-clause-marks c = rw c.leaf-leaf.ensures (IsLeafMarks-leaf_marks (marks_from c.args.perm))
+
+pub add_page-requires-clause-user : goal.add_page-requires-clause-user
+add_page-requires-clause-user c = rw c.leaf-leaf.ensures (leaf-user (marks_from c.args.perm))
+
+pub loop-page-preserved : goal.loop-page-preserved
+loop-page-preserved c =
+    let i = c.loop-page.invariant in
+    let from = c.pages_in-from.result in
+    let p = c.loop-page.page in
+    let zero = zero_page (marks_from c.args.perm) in
+    let made : page_with (replicate 4096 0) c.leaf-leaf.result.0 ≡ zero = ap (page_with (replicate 4096 0)) c.leaf-leaf.ensures ∙ page-zero (marks_from c.args.perm) in
+    let count : p + 1 - from ≡ p - from + 1 = omega arith in
+    record {
+      space = c.add_page.ensures.held;
+      pages = c.add_page.ensures.pages ∙ ap (λ x. pages_below c.loop-page.ram c.args.self.now.root.0 p ++ (x ∷ [])) made ∙ ap (λ l. l ++ (zero ∷ [])) i.pages ∙ append_assoc (pages_below c.args.ram.now c.args.self.now.root.0 from) (replicate (p - from) zero) (zero ∷ [])
+          ∙ ap (λ l. pages_below c.args.ram.now c.args.self.now.root.0 from ++ l) (rw count (replicate_more (p - from) zero));
+      mapping = c.add_page.ensures.mapping from (omega arith) ∙ i.mapping;
+      trap = c.add_page.ensures.trap ∙ i.trap;
+      trades = Trades-twice c.args.ram.now c.loop-page.ram c.add_page.new.ram c.args.frames.now c.loop-page.frames c.add_page.new.frames _ _ _ i.trades c.add_page.ensures.trades;
+      room = omega (arith, i.room, c.add_page.ensures.room);
+      small = i.small;
+    }
+
+pub returns-clause-mapping : goal.returns-clause-mapping
+returns-clause-mapping c =
+    let r = c.args.self.now.root.0 in
+    let n = pages_in c.args.self.now.size in
+    let more : n ≤ pages_in (c.args.self.now.size + c.args.bytes) = omega arith in
+    take-mapping c.loop-page.ram r (pages_in (c.args.self.now.size + c.args.bytes)) n more
+    ∙ (rw c.pages_in-from.ensures at c.loop-page.invariant.mapping)

@@ -1,0 +1,17 @@
+use Rattle.std.proofs.Common.{◌≡◌, ◌-◌, ◌≤◌, ap, ◌∙◌, sym, take, arith}
+use Rattle.vm.specs.Dense.{mapping_below, pages_below}
+use Rattle.vm.specs.Space.{pages_in}
+use Rattle.vm.specs.PageLemmas.{take-pages, take-mapping}
+use Rattle.vm.proofs.Space.shrink.Goals as goal
+
+pub returns-clause-pages : goal.returns-clause-pages
+returns-clause-pages c =
+    let less : pages_in (c.args.self.now.size - c.args.bytes) ≤ pages_in c.args.self.now.size = omega arith in
+    ap (pages_below c.drop_pages.new.ram c.args.self.now.root.0) (sym c.pages_in-2.ensures) ∙ c.drop_pages.ensures.pages ∙ ap (pages_below c.args.ram.now c.args.self.now.root.0) c.pages_in-2.ensures
+    ∙ sym (take-pages c.args.ram.now c.args.self.now.root.0 (pages_in c.args.self.now.size) (pages_in (c.args.self.now.size - c.args.bytes)) less)
+
+pub returns-clause-mapping : goal.returns-clause-mapping
+returns-clause-mapping c =
+    let less : pages_in (c.args.self.now.size - c.args.bytes) ≤ pages_in c.args.self.now.size = omega arith in
+    ap (mapping_below c.drop_pages.new.ram c.args.self.now.root.0) (sym c.pages_in-2.ensures) ∙ c.drop_pages.ensures.mapping ∙ ap (mapping_below c.args.ram.now c.args.self.now.root.0) c.pages_in-2.ensures
+    ∙ sym (take-mapping c.args.ram.now c.args.self.now.root.0 (pages_in c.args.self.now.size) (pages_in (c.args.self.now.size - c.args.bytes)) less)

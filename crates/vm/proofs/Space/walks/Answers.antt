@@ -1,0 +1,27 @@
+use Rattle.std.proofs.Common.{◌≡◌, ℕ, ◌<◌, length, refl, sym, ap, ◌∙◌}
+use Rattle.sv39.specs.Mapping.{Mapped}
+use Rattle.pagetable.specs.TreeLemmas.{tree-root}
+use Rattle.vm.specs.Space.{pages_in}
+use Rattle.vm.specs.StoreLemmas.{page-inside, pages-same}
+use Rattle.vm.specs.WalkLaw.{walks-mapping, mapping-within, mapping-is}
+use Rattle.vm.proofs.Space.walks.Goals as goal
+
+pub returns-clause-walks : goal.returns-clause-walks
+returns-clause-walks c = walks-mapping c.args.ram.now c.args.self.now.root.0 c.args.self.now.trap.0 (pages_in c.args.self.now.size) c.frame_count-count.ensures.small c.requires
+
+pub returns-clause-root : goal.returns-clause-root
+returns-clause-root c = tree-root c.args.ram.now c.args.self.now.root.0 c.requires.tree
+
+pub returns-clause-inside : goal.returns-clause-inside
+returns-clause-inside c = λ page e at.
+    let n = pages_in c.args.self.now.size in
+    rw (← ap (λ (x : Mapped). x.frame) (mapping-is c.args.ram.now c.args.self.now.root.0 n page e at))
+    (page-inside c.args.ram.now c.args.self.now.root.0 c.args.self.now.trap.0 n page c.requires (mapping-within c.args.ram.now c.args.self.now.root.0 n page e at))
+
+pub returns-clause-apart : goal.returns-clause-apart
+returns-clause-apart c = λ once p q e d at to same.
+    let m = c.args.ram.now in
+    let r = c.args.self.now.root.0 in
+    let n = pages_in c.args.self.now.size in
+    pages-same m r c.args.self.now.trap.0 n p q once (mapping-within m r n p e at) (mapping-within m r n q d to)
+    (ap (λ (x : Mapped). x.frame) (mapping-is m r n p e at) ∙ same ∙ sym (ap (λ (x : Mapped). x.frame) (mapping-is m r n q d to)))

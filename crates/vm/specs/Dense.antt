@@ -1,0 +1,91 @@
+-- Address spaces, read off a memory.
+use Rattle.std.specs.Prelude.{◌≡◌, ◌≢◌, ◌==◌, ◌<◌, ◌≤◌, ℕ, zero, suc, ◌+◌, ◌-◌, ◌*◌, ◌/◌, ◌%◌, ◌^◌, if◌then◌else◌, nat_lt, List, [], ◌∷◌, ◌++◌, length, Option, Some, None, unwrap_or}
+use Rattle.ram.specs.Memory.{frame_of}
+use Rattle.frames.specs.declared.Frames.{Frames}
+use Rattle.frames.specs.Free.{free_of, IsFreeList}
+use Rattle.frames.specs.Holders.{one_if, count_of, holders_of}
+use Rattle.pagetable.specs.Tree.{mid_node, low_node, table_at, lookup_of, IsTree}
+use Rattle.pagetable.specs.Shape.{table_of, IsTidy}
+use Rattle.sv39.specs.Mapping.{Mapped, memory_of, page_in}
+use Rattle.unixmodel.specs.Memory.{Marks, Page, Memory}
+use Rattle.pagetable.specs.Marks.{page_marks}
+use Rattle.vm.specs.Leaf.{IsUserLeaf}
+
+-- the page of the trap frame
+abbrev pub trap_page : ℕ
+trap_page = 67108862
+
+-- the marks of the trap frame: readable and writable for the kernel
+abbrev pub trap_marks : ℕ
+trap_marks = 199
+
+-- the frame that a page is mapped to
+abbrev pub frame_at : List (List ℕ) → ℕ → ℕ → ℕ
+frame_at m r p = (unwrap_or (lookup_of m r p) (0, 0)).0
+
+-- the marks that a page is mapped with
+abbrev pub marks_at : List (List ℕ) → ℕ → ℕ → ℕ
+marks_at m r p = (unwrap_or (lookup_of m r p) (0, 0)).1
+
+-- the frame and what a program may do there
+abbrev pub mapped_by : ℕ × ℕ → Mapped
+mapped_by leaf = record { frame = leaf.0; marks = page_marks leaf.1 }
+
+abbrev pub mapped_at : List (List ℕ) → ℕ → ℕ → Mapped
+mapped_at m r p = mapped_by (frame_at m r p, marks_at m r p)
+
+-- a page with these bytes and the marks of this leaf
+abbrev pub page_with : List ℕ → ℕ → Page
+page_with bytes leaf = record { bytes = bytes; marks = page_marks leaf }
+
+-- the bytes and the marks of a page
+abbrev pub page_at : List (List ℕ) → ℕ → ℕ → Page
+page_at m r p = page_with (frame_of m (frame_at m r p)) (marks_at m r p)
+
+-- the mapping of the pages below n
+unfoldable pub mapping_below : List (List ℕ) → ℕ → ℕ → List Mapped
+mapping_below m r zero = []
+mapping_below m r (suc n) = mapping_below m r n ++ (mapped_at m r n ∷ [])
+
+-- the pages below n
+abbrev pub pages_below : List (List ℕ) → ℕ → ℕ → Memory
+pages_below m r n = memory_of m (mapping_below m r n)
+
+-- the frames of the pages below n
+unfoldable pub frames_below : List (List ℕ) → ℕ → ℕ → List ℕ
+frames_below m r zero = []
+frames_below m r (suc n) = frame_at m r n ∷ frames_below m r n
+
+-- the tables that page p is the first to need, where all pages below it are mapped
+abbrev pub tables_for : List (List ℕ) → ℕ → ℕ → List ℕ
+tables_for m r p = (if p == 0 then table_of m r (mid_node p) ∷ [] else []) ++ (if p % 512 == 0 then table_of m r (low_node p) ∷ [] else [])
+
+-- the tables of a space of n pages
+unfoldable pub tables_below : List (List ℕ) → ℕ → ℕ → List ℕ
+tables_below m r zero = r ∷ table_of m r (mid_node trap_page) ∷ table_of m r (low_node trap_page) ∷ []
+tables_below m r (suc n) = tables_for m r n ++ tables_below m r n
+
+-- the frames that a space of n pages holds
+abbrev pub held : List (List ℕ) → ℕ → ℕ → ℕ → List ℕ
+held m r t n = tables_below m r n ++ (t ∷ frames_below m r n)
+
+-- how many frames a space of n pages holds
+abbrev pub frames_for : ℕ → ℕ
+frames_for n = 4 + n + (n + 511) / 512 + one_if (nat_lt 0 n)
+
+-- the tables from r map the pages below n, the trap frame, and nothing else
+pub record IsDense (m : List (List ℕ)) (r t n : ℕ) : Type 0 where
+  pub tree : IsTree m r
+  pub tidy : IsTidy m r
+  pub small : n ≤ 32768
+  pub pages : (p : ℕ) → p < n → lookup_of m r p ≡ Some (frame_at m r p, marks_at m r p)
+  pub leaves : (p : ℕ) → p < n → IsUserLeaf (marks_at m r p)
+  pub trap : lookup_of m r trap_page ≡ Some (t, trap_marks)
+  pub rest : (p : ℕ) → n ≤ p → p < 2 ^ 27 → p ≢ trap_page → lookup_of m r p ≡ None
+
+-- a space of n pages beside the free frames and other holders
+pub record IsHeld (m : List (List ℕ)) (r t n : ℕ) (s : Frames) : Type 0 where
+  pub dense : IsDense m r t n
+  pub once : (f : ℕ) → count_of f (held m r t n) ≤ 1
+  pub free : IsFreeList m s
+  pub held : (f : ℕ) → count_of f (held m r t n) ≤ holders_of m s f

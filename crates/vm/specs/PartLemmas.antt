@@ -1,0 +1,19 @@
+-- A part of a frame is written.
+use Rattle.std.proofs.Common.{◌≡◌, ℕ, ◌+◌, ◌-◌, ◌<◌, ◌≤◌, List, [], ◌++◌, length, take, drop, replicate, refl, sym, ap, ◌∙◌, arith, slice_set, length-append, length-take, length-drop}
+use Rattle.std.proofs.lemmas.List.{take_at, drop-drop}
+use Rattle.ram.specs.Memory.{frame_of, put, put_bytes, sized}
+
+sized-whole : (xs : List ℕ) → length xs ≡ 4096 → sized xs ≡ xs
+unfolding sized
+sized-whole xs h = take_at xs (replicate 4096 0) 4096 h
+
+-- what was lent comes back with the part in place
+pub part-put : (m : List (List ℕ)) (f at : ℕ) (bs page new : List ℕ) (n : ℕ) → n ≡ length bs → at + length bs ≤ 4096 → length (frame_of m f) ≡ 4096 → page ≡ frame_of m f → new ≡ bs
+    → slice_set m f (sized (take at page ++ (new ++ drop n (drop at page)))) ≡ put m f at bs
+unfolding put put_bytes
+part-put m f at bs page new n is fits whole same e =
+    let parts : take at page ++ (new ++ drop n (drop at page)) ≡ take at (frame_of m f) ++ (bs ++ drop (at + length bs) (frame_of m f)) =
+    rw (same, e, is, drop-drop (length bs) at (frame_of m f)) refl in
+    let full : length (take at (frame_of m f) ++ (bs ++ drop (at + length bs) (frame_of m f))) ≡ 4096 =
+    omega (arith, whole, length-append (take at (frame_of m f)) (bs ++ drop (at + length bs) (frame_of m f)), length-append bs (drop (at + length bs) (frame_of m f)), length-take at (frame_of m f), length-drop (at + length bs) (frame_of m f)) in
+    ap (λ b. slice_set m f (sized b)) parts ∙ ap (slice_set m f) (sized-whole _ full)

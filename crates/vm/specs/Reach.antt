@@ -1,0 +1,25 @@
+-- What a program's memory shows from an address on.
+use Rattle.std.specs.Prelude.{◌≡◌, ℕ, ◌+◌, ◌/◌, ◌%◌, List, [], drop, length, Option, Some, None, slice_get}
+use Rattle.std.specs.List.{prefix_len}
+use Rattle.unixmodel.specs.declared.trap.Access.{Access}
+use Rattle.unixmodel.specs.Memory.{Page, Memory, permits, page_for, overwrite}
+
+-- every page has 4096 bytes
+abbrev pub IsSized : List Page → Type 0
+IsSized mem = (i : ℕ) (p : Page) → slice_get mem i ≡ Some p → length p.bytes ≡ 4096
+
+-- how many pages from one on allow an access, up to the first that doesn't
+unfoldable pub run_of : Access → Memory → ℕ → ℕ
+run_of access mem first = prefix_len (λ p. permits access p.marks) (drop first mem)
+
+abbrev pub rest_of : ℕ → Option Page → List ℕ
+rest_of at None = []
+rest_of at (Some p) = drop at p.bytes
+
+-- the bytes from an address to the end of its page, where the access is allowed
+abbrev pub piece_at : Access → Memory → ℕ → List ℕ
+piece_at access mem address = rest_of (address % 4096) (page_for access mem address)
+
+-- a page with these bytes in place
+abbrev pub written : Page → ℕ → List ℕ → Page
+written p at new = record p { bytes = overwrite p.bytes at new }

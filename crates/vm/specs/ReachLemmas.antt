@@ -1,0 +1,234 @@
+-- Lemmas on what a program's memory shows from an address on.
+use Rattle.std.proofs.Common.{◌≡◌, ◌≢◌, ℕ, zero, suc, ◌+◌, ◌-◌, ◌*◌, ◌/◌, ◌%◌, ◌<◌, ◌≤◌, ◌⊎◌, inl, inr, Bool, true, false, cond, List, [], ◌∷◌, ◌++◌, length, take, drop, min, Option, Some, None, refl, sym, ap, ◌∙◌, arith, length-append, length-drop, length-take, slice_set, leb}
+use Rattle.std.proofs.lemmas.Bool.{cases_eq, cases_lt, le-leb, lt-leb}
+use Rattle.std.proofs.lemmas.List.{drop-drop, drop_at, drop-append-le, take-append-le, take-append-drop}
+use Rattle.std.proofs.lemmas.List.Concat.{flat_map-cons}
+use Rattle.std.proofs.lemmas.List.Sums.{take_while-cons, prefix_len-le-length}
+use Rattle.std.specs.List.{flat_map, prefix_len, take_while}
+use Rattle.std.specs.Prelude.{if◌then◌else◌, slice_get}
+use Rattle.unixmodel.specs.declared.trap.Access.{Access}
+use Rattle.unixmodel.specs.Memory.{Page, Memory, permits, permitted, page_for, reach}
+use Rattle.vm.specs.Reach.{IsSized, run_of, rest_of, piece_at}
+
+either : (b : Bool) → (b ≡ true) ⊎ (b ≡ false)
+either true = inl refl
+either false = inr refl
+
+take_none : (l : ℕ) → take {A = ℕ} l [] ≡ []
+take_none zero = refl
+take_none (suc l) = refl
+
+drop_none : (o : ℕ) → drop {A = ℕ} o [] ≡ []
+drop_none zero = refl
+drop_none (suc o) = refl
+
+take_split : (d l : ℕ) (xs : List ℕ) → take (d + l) xs ≡ take d xs ++ take l (drop d xs)
+take_split zero l xs = let e : 0 + l ≡ l = omega arith in rw e refl
+take_split (suc d) l [] = let e : suc d + l ≡ suc (d + l) = omega arith in rw e (sym (take_none l))
+take_split (suc d) l (x ∷ xs) = let e : suc d + l ≡ suc (d + l) = omega arith in rw e (ap (λ t. x ∷ t) (take_split d l xs))
+
+get_none : (i : ℕ) → slice_get {X = Page} [] i ≡ None
+get_none zero = refl
+get_none (suc i) = refl
+
+abbrev flat : Access → List Page → List ℕ
+flat access xs = flat_map (λ p. p.bytes) (take_while (λ p. permits access p.marks) xs)
+
+abbrev run : Access → List Page → ℕ
+run access xs = prefix_len (λ p. permits access p.marks) xs
+
+flat-yes : (a : Access) (x : Page) (xs : List Page) → permits a x.marks ≡ true → flat a (x ∷ xs) ≡ x.bytes ++ flat a xs
+flat-yes a x xs e = rw (take_while-cons (λ (p : Page). permits a p.marks) x xs, e) (flat_map-cons (λ (p : Page). p.bytes) x (take_while (λ p. permits a p.marks) xs))
+
+flat-no : (a : Access) (x : Page) (xs : List Page) → permits a x.marks ≡ false → flat a (x ∷ xs) ≡ []
+flat-no a x xs e = rw (take_while-cons (λ (p : Page). permits a p.marks) x xs, e) refl
+
+run-yes : (a : Access) (x : Page) (xs : List Page) → permits a x.marks ≡ true → run a (x ∷ xs) ≡ 1 + run a xs
+run-yes a x xs e = rw e refl
+
+run-no : (a : Access) (x : Page) (xs : List Page) → permits a x.marks ≡ false → run a (x ∷ xs) ≡ 0
+run-no a x xs e = rw e refl
+
+sized-drop : (xs : List Page) (q : ℕ) → IsSized xs → IsSized (drop q xs)
+sized-drop xs zero h = h
+sized-drop [] (suc q) h = h
+sized-drop (x ∷ xs) (suc q) h = sized-drop xs q (λ i p e. h (suc i) p e)
+
+length-flat : (a : Access) (xs : List Page) → IsSized xs → length (flat a xs) ≡ 4096 * run a xs
+length-flat a [] h = refl
+length-flat a (x ∷ xs) h = elim (either (permits a x.marks)) [
+  | inl is ↦ omega (arith, ap length (flat-yes a x xs is), length-append x.bytes (flat a xs), h 0 x refl, length-flat a xs (λ i p e. h (suc i) p e), run-yes a x xs is)
+  | inr isnt ↦ omega (arith, ap length (flat-no a x xs isnt), run-no a x xs isnt)
+]
+
+-- ---- the run of pages
+
+run-more_from : (a : Access) (xs : List Page) (i : ℕ) (p : Page) → i ≤ run a xs → slice_get xs i ≡ Some p → permits a p.marks ≡ true → i < run a xs
+run-more_from a [] i p h at ok = absurd cc
+run-more_from a (x ∷ xs) zero p h at ok =
+    let same : x ≡ p = cc in
+    omega (arith, run-yes a x xs (ap (λ (q : Page). permits a q.marks) same ∙ ok))
+run-more_from a (x ∷ xs) (suc i) p h at ok = elim (either (permits a x.marks)) [
+  | inl is ↦ omega (arith, run-yes a x xs is, run-more_from a xs i p (omega (arith, h, run-yes a x xs is)) at ok)
+  | inr isnt ↦ absurd (omega (arith, h, run-no a x xs isnt))
+]
+
+run-stop_from : (a : Access) (xs : List Page) (i : ℕ) (p : Page) → i ≤ run a xs → slice_get xs i ≡ Some p → permits a p.marks ≡ false → run a xs ≡ i
+run-stop_from a [] i p h at ok = absurd cc
+run-stop_from a (x ∷ xs) zero p h at ok =
+    let same : x ≡ p = cc in
+    run-no a x xs (ap (λ (q : Page). permits a q.marks) same ∙ ok)
+run-stop_from a (x ∷ xs) (suc i) p h at ok = elim (either (permits a x.marks)) [
+  | inl is ↦ omega (arith, run-yes a x xs is, run-stop_from a xs i p (omega (arith, h, run-yes a x xs is)) at ok)
+  | inr isnt ↦ absurd (omega (arith, h, run-no a x xs isnt))
+]
+
+run-end_from : (a : Access) (xs : List Page) (i : ℕ) → i ≤ run a xs → slice_get xs i ≡ None → run a xs ≡ i
+run-end_from a [] i h at = omega (arith, h)
+run-end_from a (x ∷ xs) zero h at = absurd cc
+run-end_from a (x ∷ xs) (suc i) h at = elim (either (permits a x.marks)) [
+  | inl is ↦ omega (arith, run-yes a x xs is, run-end_from a xs i (omega (arith, h, run-yes a x xs is)) at)
+  | inr isnt ↦ absurd (omega (arith, h, run-no a x xs isnt))
+]
+
+get-drop : (xs : List Page) (q i : ℕ) → slice_get (drop q xs) i ≡ slice_get xs (q + i)
+get-drop xs zero i = let e : i ≡ 0 + i = omega arith in ap (slice_get xs) e
+get-drop [] (suc q) i = get_none i ∙ sym (get_none (suc q + i))
+get-drop (x ∷ xs) (suc q) i = let e : suc (q + i) ≡ suc q + i = omega arith in get-drop xs q i ∙ ap (slice_get (x ∷ xs)) e
+
+-- one more page of a run, and where it ends
+pub run-more : (a : Access) (mem : Memory) (first i : ℕ) (p : Page) → i ≤ run_of a mem first → slice_get mem (first + i) ≡ Some p → permits a p.marks ≡ true → i < run_of a mem first
+unfolding run_of
+run-more a mem first i p h at ok = run-more_from a (drop first mem) i p h (get-drop mem first i ∙ at) ok
+
+pub run-stop : (a : Access) (mem : Memory) (first i : ℕ) (p : Page) → i ≤ run_of a mem first → slice_get mem (first + i) ≡ Some p → permits a p.marks ≡ false → run_of a mem first ≡ i
+unfolding run_of
+run-stop a mem first i p h at ok = run-stop_from a (drop first mem) i p h (get-drop mem first i ∙ at) ok
+
+pub run-end : (a : Access) (mem : Memory) (first i : ℕ) → i ≤ run_of a mem first → slice_get mem (first + i) ≡ None → run_of a mem first ≡ i
+unfolding run_of
+run-end a mem first i h at = run-end_from a (drop first mem) i h (get-drop mem first i ∙ at)
+
+-- how many bytes can be reached
+pub length-reach : (a : Access) (mem : Memory) (at : ℕ) → IsSized mem → length (reach a mem at) ≡ 4096 * run_of a mem (at / 4096) - at % 4096
+unfolding reach run_of
+length-reach a mem at h = omega (arith, length-drop (at % 4096) (flat a (drop (at / 4096) mem)), length-flat a (drop (at / 4096) mem) (sized-drop mem (at / 4096) h))
+
+flat-drop : (a : Access) (xs : List Page) (i : ℕ) → IsSized xs → i ≤ run a xs → flat a (drop i xs) ≡ drop (4096 * i) (flat a xs)
+flat-drop a xs zero h le = refl
+flat-drop a [] (suc i) h le = absurd (omega (arith, le))
+flat-drop a (x ∷ xs) (suc i) h le = elim (either (permits a x.marks)) [
+  | inl is ↦
+      let size : length x.bytes ≡ 4096 = h 0 x refl in
+      let low : i ≤ run a xs = omega (arith, le, run-yes a x xs is) in
+      let more : 4096 * suc i ≡ 4096 + 4096 * i = omega arith in
+      let front : drop 4096 (x.bytes ++ flat a xs) ≡ flat a xs = drop_at x.bytes (flat a xs) 4096 size in
+      flat-drop a xs i (λ k p e. h (suc k) p e) low
+      ∙ sym (ap (λ n. drop n (flat a (x ∷ xs))) more ∙ sym (drop-drop (4096 * i) 4096 (flat a (x ∷ xs))) ∙ ap (λ l. drop (4096 * i) (drop 4096 l)) (flat-yes a x xs is) ∙ ap (drop (4096 * i)) front)
+  | inr isnt ↦ absurd (omega (arith, le, run-no a x xs isnt))
+]
+
+-- a run is no longer than the pages
+pub run-le : (a : Access) (mem : Memory) (first : ℕ) → run_of a mem first ≤ length mem
+unfolding run_of
+run-le a mem first = omega (arith, prefix_len-le-length (λ (p : Page). permits a p.marks) (drop first mem), length-drop first mem)
+
+same_test : (a b c d : ℕ) → (a ≤ b → c ≤ d) → (c ≤ d → a ≤ b) → leb a b ≡ leb c d
+same_test a b c d f g = elim (cases_lt b a) [
+  | inl more ↦ lt-leb a b more ∙ sym (lt-leb c d (elim (cases_lt d c) [ inl h ↦ h | inr h ↦ absurd (omega (arith, more, g h)) ]))
+  | inr less ↦ le-leb a b less ∙ sym (le-leb c d (f less))
+]
+
+-- the test whether so many bytes can be reached
+pub test-long : (a : Access) (mem : Memory) (at len : ℕ) → IsSized mem → 4096 * length mem < len → false ≡ leb len (length (reach a mem at))
+test-long a mem at len h long = sym (lt-leb len (length (reach a mem at)) (omega (arith, long, length-reach a mem at h, run-le a mem (at / 4096))))
+
+pub test-reach : (a : Access) (mem : Memory) (at len most run : ℕ) → IsSized mem → 0 < len → at % 4096 + len ≤ 4096 * most → run ≡ min most (run_of a mem (at / 4096)) → leb (at % 4096 + len) (4096 * run) ≡ leb len (length (reach a mem at))
+test-reach a mem at len most run h some enough is =
+    let reached = length-reach a mem at h in
+    same_test (at % 4096 + len) (4096 * run) len (length (reach a mem at)) (λ le. omega (arith, le, reached, is, some)) (λ le. omega (arith, le, reached, is, some, enough))
+
+-- what is reached from a later address
+pub reach-drop : (a : Access) (mem : Memory) (at d : ℕ) → IsSized mem → d ≤ length (reach a mem at) → reach a mem (at + d) ≡ drop d (reach a mem at)
+unfolding reach
+reach-drop a mem at d h le =
+    let q = at / 4096 in
+    let o = at % 4096 in
+    let i = (o + d) / 4096 in
+    let j = (o + d) % 4096 in
+    let xs = drop q mem in
+    let size : length (drop o (flat a xs)) ≡ 4096 * run a xs - o = omega (arith, length-drop o (flat a xs), length-flat a xs (sized-drop mem q h)) in
+    let low : i ≤ run a xs = omega (arith, le, size) in
+    let page : (at + d) / 4096 ≡ q + i = omega arith in
+    let place : (at + d) % 4096 ≡ j = omega arith in
+    let whole : 4096 * i + j ≡ o + d = omega arith in
+    rw (page, place)
+    (ap (λ l. drop j (flat a l)) (sym (drop-drop i q mem))
+    ∙ ap (drop j) (flat-drop a xs i (sized-drop mem q h) low)
+    ∙ drop-drop j (4096 * i) (flat a xs)
+    ∙ ap (λ n. drop n (flat a xs)) whole
+    ∙ sym (drop-drop d o (flat a xs)))
+
+first-drop : (xs : List Page) (q : ℕ) → slice_get (drop q xs) 0 ≡ slice_get xs q
+first-drop xs zero = refl
+first-drop [] (suc q) = refl
+first-drop (x ∷ xs) (suc q) = first-drop xs q
+
+flat-front : (a : Access) (xs : List Page) (o l : ℕ) → IsSized xs → o + l ≤ 4096 → take l (drop o (flat a xs)) ≡ take l (rest_of o (permitted a (slice_get xs 0)))
+flat-front a [] o l h le = ap (take l) (drop_none o)
+flat-front a (x ∷ xs) o l h le = elim (either (permits a x.marks)) [
+  | inl is ↦
+      let size : length x.bytes ≡ 4096 = h 0 x refl in
+      let long : l ≤ length (drop o x.bytes) = omega (arith, length-drop o x.bytes, size) in
+      ap (λ b. take l (drop o b)) (flat-yes a x xs is)
+      ∙ ap (take l) (drop-append-le o x.bytes (flat a xs) (omega (arith, size)))
+      ∙ take-append-le l (drop o x.bytes) (flat a xs) long
+      ∙ sym (ap (λ b. take l (rest_of o (if b then Some x else None))) is)
+  | inr isnt ↦ ap (λ b. take l (drop o b)) (flat-no a x xs isnt) ∙ ap (take l) (drop_none o) ∙ sym (ap (λ b. take l (rest_of o (if b then Some x else None))) isnt)
+]
+
+-- what is reached begins with the rest of the page
+pub reach-front : (a : Access) (mem : Memory) (at l : ℕ) → IsSized mem → at % 4096 + l ≤ 4096 → take l (reach a mem at) ≡ take l (piece_at a mem at)
+unfolding reach
+reach-front a mem at l h le =
+    flat-front a (drop (at / 4096) mem) (at % 4096) l (sized-drop mem (at / 4096) h) le
+    ∙ ap (λ o. take l (rest_of (at % 4096) (permitted a o))) (first-drop mem (at / 4096))
+
+sized-at : (o : Option Page) → ((p : Page) → o ≡ Some p → length p.bytes ≡ 4096) → (a : Access) (at : ℕ) → at < 4096 → at + length (rest_of at (permitted a o)) ≤ 4096
+sized-at None h a at low = omega (arith, low)
+sized-at (Some p) h a at low = elim (either (permits a p.marks)) [
+  | inl is ↦ rw is (omega (arith, low, h p refl, length-drop at p.bytes))
+  | inr isnt ↦ rw isnt (omega (arith, low))
+]
+
+-- the rest of a page ends with the page
+pub length-piece : (a : Access) (mem : Memory) (at : ℕ) → IsSized mem → at % 4096 + length (piece_at a mem at) ≤ 4096
+length-piece a mem at h = sized-at (slice_get mem (at / 4096)) (λ p e. h (at / 4096) p e) a (at % 4096) (omega arith)
+
+-- while bytes are left to reach, the rest of the page has some
+pub piece-some : (a : Access) (mem : Memory) (at : ℕ) → IsSized mem → 0 < length (reach a mem at) → 0 < length (piece_at a mem at)
+piece-some a mem at h some =
+    omega (arith, some, ap length (reach-front a mem at 1 h (omega arith)), length-take 1 (reach a mem at), length-take 1 (piece_at a mem at))
+
+-- what was reached so far, and the next piece
+pub reach-next : (a : Access) (mem : Memory) (at d l : ℕ) → IsSized mem → d ≤ length (reach a mem at) → l ≤ length (piece_at a mem (at + d)) → take d (reach a mem at) ++ take l (piece_at a mem (at + d)) ≡ take (d + l) (reach a mem at)
+reach-next a mem at d l h low le =
+    ap (λ x. take d (reach a mem at) ++ x) (sym (reach-front a mem (at + d) l h (omega (arith, le, length-piece a mem (at + d) h))) ∙ ap (take l) (reach-drop a mem at d h low))
+    ∙ sym (take_split d l (reach a mem at))
+
+run-inside : (a : Access) (xs : List Page) (q : ℕ) → 0 < run a (drop q xs) → q < length xs
+run-inside a [] zero h = absurd (omega (arith, h))
+run-inside a [] (suc q) h = absurd (omega (arith, h))
+run-inside a (x ∷ xs) zero h = omega arith
+run-inside a (x ∷ xs) (suc q) h = omega (arith, run-inside a xs q h)
+
+-- an address from which a byte is reached lies in a page
+pub reach-inside : (a : Access) (mem : Memory) (at : ℕ) → IsSized mem → 0 < length (reach a mem at) → at / 4096 < length mem
+unfolding run_of
+reach-inside a mem at h some = run-inside a mem (at / 4096) (omega (arith, some, length-reach a mem at h))
+
+-- while bytes are left to reach, the next lies in a page, and the rest of its page has some
+pub reach-page : (a : Access) (mem : Memory) (at d : ℕ) → IsSized mem → d < length (reach a mem at) → ((at + d) / 4096 < length mem) × (0 < length (piece_at a mem (at + d)))
+reach-page a mem at d h low =
+    let left : 0 < length (reach a mem (at + d)) = omega (arith, low, ap length (reach-drop a mem at d h (omega arith)), length-drop d (reach a mem at)) in
+    (reach-inside a mem (at + d) h left, piece-some a mem (at + d) h left)

@@ -1,0 +1,237 @@
+//! What the kernel reads and writes of a program's memory: any bytes that the program itself could.
+
+ghost use Rattle.std.specs.Prelude.{◌≡◌, ◌≢◌, ℕ, ◌+◌, ◌-◌, ◌*◌, ◌/◌, ◌%◌, ◌^◌, ◌<◌, ◌≤◌, List, [], ◌∷◌, ◌++◌, length, min, drop, nat_le, option_map, slice_get, None, Some, false, OnOk, OnErr, IfSome, IsTrue, IsErrOf, ◌↔◌, ◌⊎◌};
+ghost use Rattle.ram.specs.Memory.{frame_of, put};
+ghost use Rattle.sv39.specs.Mapping.{Mapped, WalksTo};
+ghost use Rattle.pagetable.specs.Marks.{page_marks};
+ghost use Rattle.unixmodel.specs.declared.trap.Access.TheVariants.{Load, Store};
+ghost use Rattle.unixmodel.specs.Memory.{permits, reach, can_write, read_bytes, write_bytes};
+ghost use Rattle.vm.specs.Leaf.{marks_from, mapped_as};
+ghost use Rattle.vm.specs.Reach.{run_of, piece_at};
+ghost use Rattle.vm.specs.Space.{pages_in, IsMapped, IsOnce, mapping_of, pages_of, registers_of, Stands};
+
+use crate::{Perm, Space, VmFault, pages_in};
+use bitflags::Flags;
+use pagetable::PageTable;
+use ram::{FrameNo, Ram};
+use sv39::Marks;
+use unixmodel::trap::Access;
+
+// What the marks of a leaf say of its page.
+fn perm_of(leaf: Marks) -> Perm
+    ensures { marks_from result ≡ page_marks leaf.0 }
+{
+    Perm {
+        writable: leaf.contains(Marks::WRITE),
+        executable: leaf.contains(Marks::EXECUTE),
+        user: leaf.contains(Marks::USER),
+    }
+}
+
+impl Perm {
+    /// Whether a program may access a page with these marks so.
+    pub fn permits(self, access: Access) -> bool
+        ensures { result ≡ permits access (marks_from self) }
+    {
+        match access {
+            Access::Fetch => self.executable && self.user,
+            Access::Load => self.user,
+            Access::Store => self.writable && self.user,
+        }
+    }
+}
+
+// Puts bytes at a place of a frame.
+fn write_part(ram: &mut Ram, frame: FrameNo, at: usize, bytes: &[u8])
+    requires frame { frame.0 < length ram.old }
+    requires place { at + length bytes.now ≤ 4096 }
+    ensures { ram.new ≡ put ram.old frame.0 at bytes.now }
+{
+    let _count = ram.frame_count();
+    let page = ram.frame_mut(frame);
+    page[at..at + bytes.len()].copy_from_slice(bytes);
+}
+
+impl Space {
+    /// Its size in bytes.
+    pub fn size(&self) -> u64
+        ensures { result ≡ self.now.size }
+    {
+        self.size
+    }
+
+    /// The frame of the root of its tables.
+    pub fn root(&self) -> FrameNo
+        ensures { result ≡ self.now.root }
+    {
+        self.root
+    }
+
+    /// The walk from the root goes by the mapping: it gives a page's frame for each access that
+    /// the page's marks permit, and nothing elsewhere, not even at the trap frame.
+    pub fn walks(&self, ram: &Ram)
+        requires { IsMapped ram.now self.now }
+        ensures walks { WalksTo ram.now self.now.root.0 (mapping_of ram.now self.now) }
+        ensures root { self.now.root.0 < length ram.now }
+        ensures inside { (page : ℕ) (e : Mapped) → slice_get (mapping_of ram.now self.now) page ≡ Some e → e.frame < length ram.now }
+        ensures apart { IsOnce ram.now self.now → (p q : ℕ) (e d : Mapped) → slice_get (mapping_of ram.now self.now) p ≡ Some e → slice_get (mapping_of ram.now self.now) q ≡ Some d → e.frame ≡ d.frame → p ≡ q }
+    {
+        let _count = ram.frame_count();
+    }
+
+    /// The frame and the marks of a page; `None` past the last page.
+    pub fn find_page(&self, ram: &Ram, page: u64) -> Option<(FrameNo, Perm)>
+        requires { IsMapped ram.now self.now }
+        ensures found { option_map (λ x. mapped_as x.0.0 x.1) result ≡ slice_get (mapping_of ram.now self.now) page }
+        ensures inside { IfSome result (λ x. x.0.0 < length ram.now) }
+    {
+        if page >= pages_in(self.size) {
+            return None;
+        }
+        let table = PageTable { root: self.root };
+        match table.find(ram, page) {
+            Some((frame, leaf)) => Some((frame, perm_of(leaf))),
+            None => unreachable!(),
+        }
+    }
+
+    /// The bytes from an address to the end of its page; none where a program may not read them.
+    pub fn readable<'a>(&self, ram: &'a Ram, address: u64) -> &'a [u8]
+        requires { IsMapped ram.now self.now }
+        ensures { result.now ≡ piece_at Load (pages_of ram.now self.now) address }
+    {
+        match self.find_page(ram, address / 4096) {
+            Some((frame, perm)) if perm.permits(Access::Load) => {
+                &ram.frame(frame)[(address % 4096) as usize..]
+            }
+            _ => &[],
+        }
+    }
+
+    // How many pages from `first` on permit an access, up to the first that doesn't; `most` at the most.
+    fn run(&self, ram: &Ram, first: u64, most: u64, access: Access) -> u64
+        requires mapped { IsMapped ram.now self.now }
+        requires first { first < 2 ^ 52 }
+        requires most { most < 2 ^ 52 }
+        ensures { result ≡ min most (run_of access (pages_of ram.now self.now) first) }
+    {
+        for i in 0..most {
+            match self.find_page(ram, first + i) {
+                Some((_, perm)) if perm.permits(access) => {}
+                _ => return i,
+            }
+        }
+        most
+    }
+
+    // Whether `len` bytes from an address on can be accessed.
+    fn reaches(&self, ram: &Ram, address: u64, len: u64, access: Access) -> bool
+        requires { IsMapped ram.now self.now }
+        ensures { result ≡ nat_le len (length (reach access (pages_of ram.now self.now) address)) }
+    {
+        let _count = ram.frame_count();
+        if len == 0 {
+            return true;
+        }
+        if len > crate::MAX_SIZE {
+            return false;
+        }
+        let end = address % 4096 + len;
+        let run = self.run(ram, address / 4096, end.div_ceil(4096), access);
+        end <= 4096 * run
+    }
+
+    /// Whether a program may read `len` bytes from an address on. It looks at each page once.
+    pub fn can_read(&self, ram: &Ram, address: u64, len: u64) -> bool
+        requires { IsMapped ram.now self.now }
+        ensures reach { result ≡ nat_le len (length (reach Load (pages_of ram.now self.now) address)) }
+        ensures read { IsTrue result ↔ read_bytes (pages_of ram.now self.now) address len ≢ None }
+    {
+        self.reaches(ram, address, len, Access::Load)
+    }
+
+    /// Whether a program may write `len` bytes from an address on. It looks at each page once.
+    pub fn can_write(&self, ram: &Ram, address: u64, len: u64) -> bool
+        requires { IsMapped ram.now self.now }
+        ensures { result ≡ can_write (pages_of ram.now self.now) address len }
+    {
+        self.reaches(ram, address, len, Access::Store)
+    }
+
+    /// Copies the bytes from an address on into a buffer, as many as it holds. `BadAddress` where a
+    /// program may not read them all.
+    pub fn copy_in(&self, ram: &Ram, address: u64, buffer: &mut [u8]) -> Result<(), VmFault>
+        requires { IsMapped ram.now self.now }
+        ensures read { OnOk result (read_bytes (pages_of ram.now self.now) address (length buffer.old) ≡ Some buffer.new) }
+        ensures bad { IsErrOf result VmFault.BadAddress ↔ read_bytes (pages_of ram.now self.now) address (length buffer.old) ≡ None }
+        ensures only { OnErr result (IsErrOf result VmFault.BadAddress) }
+        ensures unchanged { OnErr result (buffer.new ≡ buffer.old) }
+    {
+        let _count = ram.frame_count();
+        if !self.can_read(ram, address, buffer.len() as u64) {
+            return Err(VmFault::BadAddress);
+        }
+        let mut done = 0;
+        while done < buffer.len() {
+            let piece = self.readable(ram, address + done as u64);
+            let len = piece.len().min(buffer.len() - done);
+            buffer[done..done + len].copy_from_slice(&piece[..len]);
+            done += len;
+        }
+        Ok(())
+    }
+
+    // Writes the bytes that lie in the page of an address, and tells how many.
+    fn write_page(&self, ram: &mut Ram, address: u64, bytes: &[u8]) -> usize
+        requires mapped { IsMapped ram.old self.now }
+        requires once { IsOnce ram.old self.now }
+        requires page { address / 4096 < pages_in self.now.size }
+        requires some { 0 < length bytes.now }
+        ensures count { result ≡ min (4096 - address % 4096) (length bytes.now) }
+        ensures rest { write_bytes (pages_of ram.new self.now) (address + result) (drop result bytes.now) ≡ write_bytes (pages_of ram.old self.now) address bytes.now }
+        ensures stands { Stands ram.old ram.new self.now }
+        ensures registers { registers_of ram.new self.now ≡ registers_of ram.old self.now }
+    {
+        let at = (address % 4096) as usize;
+        let len = (4096 - at).min(bytes.len());
+        match self.find_page(ram, address / 4096) {
+            Some((frame, _)) => write_part(ram, frame, at, &bytes[..len]),
+            None => unreachable!(),
+        }
+        len
+    }
+
+    /// Puts bytes into the pages from an address on, whatever the marks of the pages, as a loader does.
+    pub fn fill(&self, ram: &mut Ram, address: u64, bytes: &[u8])
+        requires mapped { IsMapped ram.old self.now }
+        requires once { IsOnce ram.old self.now }
+        requires inside { (i : ℕ) → i < length bytes.now → (address + i) / 4096 < pages_in self.now.size }
+        ensures written { pages_of ram.new self.now ≡ write_bytes (pages_of ram.old self.now) address bytes.now }
+        ensures stands { Stands ram.old ram.new self.now }
+        ensures registers { registers_of ram.new self.now ≡ registers_of ram.old self.now }
+    {
+        let mut done = 0;
+        while done < bytes.len() {
+            done += self.write_page(ram, address + done as u64, &bytes[done..]);
+        }
+    }
+
+    /// Copies bytes to an address. `BadAddress` where a program may not write them all.
+    pub fn copy_out(&self, ram: &mut Ram, address: u64, bytes: &[u8]) -> Result<(), VmFault>
+        requires mapped { IsMapped ram.old self.now }
+        requires once { IsOnce ram.old self.now }
+        ensures written { OnOk result (pages_of ram.new self.now ≡ write_bytes (pages_of ram.old self.now) address bytes.now) }
+        ensures bad { IsErrOf result VmFault.BadAddress ↔ can_write (pages_of ram.old self.now) address (length bytes.now) ≡ false }
+        ensures only { OnErr result (IsErrOf result VmFault.BadAddress) }
+        ensures unchanged { OnErr result (ram.new ≡ ram.old) }
+        ensures stands { Stands ram.old ram.new self.now }
+        ensures registers { registers_of ram.new self.now ≡ registers_of ram.old self.now }
+    {
+        let _count = ram.frame_count();
+        if !self.can_write(ram, address, bytes.len() as u64) {
+            return Err(VmFault::BadAddress);
+        }
+        self.fill(ram, address, bytes);
+        Ok(())
+    }
+}

@@ -1,0 +1,344 @@
+//! Address spaces: a program's memory as page tables map it, beside other holders of frames.
+//!
+//! A space has the pages from page 0 on, as many as its size needs, each in a frame of its own and with
+//! marks of its own. It also holds its tables and a trap frame, which is mapped at the highest page that
+//! the walk reaches but one, where programs have no access. In contracts a space's memory is `pages_of`,
+//! in the words of unixmodel's Memory, and the frames and marks behind it are `mapping_of`.
+//!
+//! Every operation that takes or gives back frames says which ones by `Trades`, so what another space
+//! or anything else holds is as it was: `shares` has the laws for a whole machine. An operation that is
+//! refused changes nothing. Nothing here takes memory of the host.
+#![tactic(auto)]
+
+ghost use Rattle.std.specs.Prelude.{◌≡◌, ◌≢◌, ℕ, ◌+◌, ◌-◌, ◌*◌, ◌/◌, ◌%◌, ◌^◌, ◌<◌, ◌≤◌, List, [], ◌∷◌, ◌++◌, length, take, replicate, None, Some, false, OnOk, OnErr, IsErrOf, IsTrue, ◌↔◌, ◌⊎◌};
+ghost use Rattle.ram.specs.Memory.{frame_of};
+ghost use Rattle.frames.specs.Free.{among, free_of, free_count, IsFreeList};
+ghost use Rattle.frames.specs.Holders.{Trades};
+ghost use Rattle.pagetable.specs.Tree.{IsLeafMarks};
+ghost use Rattle.vm.specs.Dense.{IsDense, IsHeld, frames_for, held, mapping_below, page_with, pages_below};
+ghost use Rattle.pagetable.specs.Marks.{leaf_marks, page_marks};
+ghost use Rattle.vm.specs.Leaf.{marks_from, IsUserLeaf};
+ghost use Rattle.vm.specs.Space.{pages_in, max_size, IsSpace, mapping_of, pages_of, registers_of, holds, IsUntouched};
+ghost use Rattle.unixmodel.specs.Memory.{zero_page};
+
+mod access;
+pub mod shares;
+mod trapframe;
+
+use frames::Frames;
+use pagetable::{PageTable, leaf_marks};
+use ram::{FrameNo, Ram};
+use sv39::Marks;
+use thiserror::Error;
+
+/// Why a call on a space is refused.
+#[derive(Clone, Copy, PartialEq, Eq, Debug, Error)]
+pub enum VmFault {
+    /// Fewer frames are free than the space would need.
+    #[error("too few frames are free")]
+    Frames,
+    /// The space would have more bytes than `MAX_SIZE`.
+    #[error("the space would be too large")]
+    TooLarge,
+    /// A byte lies past the last page, or its page doesn't permit the access.
+    #[error("no access at the address")]
+    BadAddress,
+}
+
+/// The marks of a page, as Sv39 has them: with `user` a program may read it, and write or execute it
+/// where the other marks are set; without `user` it may do nothing there.
+#[derive(Clone, Copy, PartialEq, Eq, Debug)]
+pub struct Perm {
+    pub writable: bool,
+    pub executable: bool,
+    pub user: bool,
+}
+
+impl Perm {
+    // The marks of the leaf of a page.
+    fn leaf(self) -> Marks
+        ensures { result.0 ≡ leaf_marks (marks_from self) }
+    {
+        leaf_marks(self.writable, self.executable, self.user)
+    }
+}
+
+/// An address space.
+///
+/// Its frames are its own until `destroy` gives them back: let go otherwise, they are lost.
+#[derive(Drop)]
+pub struct Space {
+    // the root of the tables
+    root: FrameNo,
+    trap: FrameNo,
+    // in bytes
+    size: u64,
+}
+
+/// The most bytes that a space has: the addresses below the trap frame.
+pub const MAX_SIZE: u64 = 0x3fffffe000;
+
+/// The page of the trap frame.
+pub const TRAP_PAGE: u64 = 0x3fffffe;
+
+// The marks of the trap frame's page: V, R, W, A and D, and no U.
+const TRAP: Marks = Marks(199);
+
+/// How many frames a space of so many pages holds: the pages, the trap frame, the root, two tables for
+/// the trap frame, a table for each 512 pages, and one above those.
+pub fn frames_for(pages: u64) -> u64
+    requires { pages < 2 ^ 32 }
+    ensures { result ≡ frames_for pages }
+{
+    4 + pages + pages.div_ceil(512) + u64::from(pages > 0)
+}
+
+/// How many pages so many bytes need.
+pub fn pages_in(size: u64) -> u64
+    requires { size < 2 ^ 63 }
+    ensures { result ≡ pages_in size }
+{
+    size.div_ceil(4096)
+}
+
+impl Space {
+    ghost use Rattle.std.specs.Prelude.{IfOk};
+
+    /// The size in bytes. Its last page may reach beyond it.
+    pub fn size(&self) -> u64
+        ensures { result ≡ self.now.size }
+    {
+        self.size
+    }
+
+    /// Makes a space of no pages, whose trap frame is all 0. `Frames` where fewer than 4 frames are free.
+    pub fn new(ram: &mut Ram, frames: &mut Frames) -> Result<Space, VmFault>
+        requires { IsFreeList ram.old frames.old }
+        ensures space { IfOk result (λ s. IsSpace ram.new s frames.new) }
+        ensures size { IfOk result (λ s. s.size ≡ 0) }
+        ensures registers { IfOk result (λ s. registers_of ram.new s ≡ replicate 4096 0) }
+        ensures full { IsErrOf result VmFault.Frames ↔ free_count ram.old frames.old < frames_for 0 }
+        ensures only { OnErr result (IsErrOf result VmFault.Frames) }
+        ensures unchanged { OnErr result ((ram.new ≡ ram.old) × (frames.new ≡ frames.old)) }
+        ensures trades { IfOk result (λ s. Trades ram.old ram.new frames.old frames.new [] (holds ram.new s)) }
+    {
+        let _count = ram.frame_count();
+        if frames.free() < 4 {
+            return Err(VmFault::Frames);
+        }
+        match PageTable::new(ram, frames) {
+            Some(table) => match frames.take(ram) {
+                Some(trap) => {
+                    ram.zero(trap);
+                    match table.map(ram, frames, TRAP_PAGE, trap, TRAP) {
+                        Ok(()) => Ok(Space {
+                            root: table.root,
+                            trap,
+                            size: 0,
+                        }),
+                        Err(_) => unreachable!(),
+                    }
+                }
+                None => unreachable!(),
+            },
+            None => unreachable!(),
+        }
+    }
+
+    // Makes a free frame, all zero, the next page.
+    fn add_page(&self, ram: &mut Ram, frames: &mut Frames, n: u64, marks: Marks)
+        requires held { IsHeld ram.old self.now.root.0 self.now.trap.0 n frames.old }
+        requires small { n < 32768 }
+        requires room { frames_for (n + 1) ≤ frames_for n + free_count ram.old frames.old }
+        requires marks { IsLeafMarks marks.0 }
+        requires user { IsUserLeaf marks.0 }
+        ensures held { IsHeld ram.new self.now.root.0 self.now.trap.0 (n + 1) frames.new }
+        ensures pages { pages_below ram.new self.now.root.0 (n + 1) ≡ pages_below ram.old self.now.root.0 n ++ (page_with (replicate 4096 0) marks.0 ∷ []) }
+        ensures mapping { (k : ℕ) → k ≤ n → mapping_below ram.new self.now.root.0 k ≡ mapping_below ram.old self.now.root.0 k }
+        ensures trap { frame_of ram.new self.now.trap.0 ≡ frame_of ram.old self.now.trap.0 }
+        ensures trades { Trades ram.old ram.new frames.old frames.new (held ram.old self.now.root.0 self.now.trap.0 n) (held ram.new self.now.root.0 self.now.trap.0 (n + 1)) }
+        ensures room { frames_for (n + 1) + free_count ram.new frames.new ≡ frames_for n + free_count ram.old frames.old }
+    {
+        let _count = ram.frame_count();
+        let table = PageTable { root: self.root };
+        match frames.take(ram) {
+            Some(frame) => {
+                ram.zero(frame);
+                match table.map(ram, frames, n, frame, marks) {
+                    Ok(()) => {}
+                    Err(_) => unreachable!(),
+                }
+            }
+            None => unreachable!(),
+        }
+    }
+
+    // Makes a free frame, with the bytes of another, the next page.
+    fn add_copy(&self, ram: &mut Ram, frames: &mut Frames, n: u64, source: FrameNo, marks: Marks)
+        requires held { IsHeld ram.old self.now.root.0 self.now.trap.0 n frames.old }
+        requires small { n < 32768 }
+        requires room { frames_for (n + 1) ≤ frames_for n + free_count ram.old frames.old }
+        requires source { source.0 < length ram.old }
+        requires marks { IsLeafMarks marks.0 }
+        requires user { IsUserLeaf marks.0 }
+        ensures held { IsHeld ram.new self.now.root.0 self.now.trap.0 (n + 1) frames.new }
+        ensures pages { pages_below ram.new self.now.root.0 (n + 1) ≡ pages_below ram.old self.now.root.0 n ++ (page_with (frame_of ram.old source.0) marks.0 ∷ []) }
+        ensures mapping { (k : ℕ) → k ≤ n → mapping_below ram.new self.now.root.0 k ≡ mapping_below ram.old self.now.root.0 k }
+        ensures trap { frame_of ram.new self.now.trap.0 ≡ frame_of ram.old self.now.trap.0 }
+        ensures trades { Trades ram.old ram.new frames.old frames.new (held ram.old self.now.root.0 self.now.trap.0 n) (held ram.new self.now.root.0 self.now.trap.0 (n + 1)) }
+        ensures room { frames_for (n + 1) + free_count ram.new frames.new ≡ frames_for n + free_count ram.old frames.old }
+    {
+        let _count = ram.frame_count();
+        let table = PageTable { root: self.root };
+        match frames.take(ram) {
+            Some(frame) => {
+                ram.copy(source, frame);
+                match table.map(ram, frames, n, frame, marks) {
+                    Ok(()) => {}
+                    Err(_) => unreachable!(),
+                }
+            }
+            None => unreachable!(),
+        }
+    }
+
+    /// Makes a space with the same pages, in frames of its own; its trap frame is all 0.
+    ///
+    /// `Frames` where fewer frames are free than it needs.
+    pub fn copy(&self, ram: &mut Ram, frames: &mut Frames) -> Result<Space, VmFault>
+        requires { IsSpace ram.old self.now frames.old }
+        ensures space { IfOk result (λ c. IsSpace ram.new c frames.new) }
+        ensures size { IfOk result (λ c. c.size ≡ self.now.size) }
+        ensures pages { IfOk result (λ c. pages_of ram.new c ≡ pages_of ram.old self.now) }
+        ensures registers { IfOk result (λ c. registers_of ram.new c ≡ replicate 4096 0) }
+        ensures source { IsSpace ram.new self.now frames.new }
+        ensures untouched { IsUntouched ram.old ram.new self.now }
+        ensures full { IsErrOf result VmFault.Frames ↔ free_count ram.old frames.old < frames_for (pages_in self.now.size) }
+        ensures only { OnErr result (IsErrOf result VmFault.Frames) }
+        ensures unchanged { OnErr result ((ram.new ≡ ram.old) × (frames.new ≡ frames.old)) }
+        ensures trades { IfOk result (λ c. Trades ram.old ram.new frames.old frames.new [] (holds ram.new c)) }
+    {
+        let _count = ram.frame_count();
+        let pages = pages_in(self.size);
+        if u64::from(frames.free()) < frames_for(pages) {
+            return Err(VmFault::Frames);
+        }
+        let table = PageTable { root: self.root };
+        match Space::new(ram, frames) {
+            Ok(mut child) => {
+                for page in 0..pages {
+                    match table.find(ram, page) {
+                        Some((frame, marks)) => child.add_copy(ram, frames, page, frame, marks),
+                        None => unreachable!(),
+                    }
+                }
+                child.size = self.size;
+                Ok(child)
+            }
+            Err(_) => unreachable!(),
+        }
+    }
+
+    /// Adds so many bytes: pages that come are all 0 and have these marks.
+    ///
+    /// `TooLarge` where the size would pass `MAX_SIZE`; if it wouldn't, `Frames` where fewer frames are
+    /// free than the pages and their tables need. The cost goes by the pages that come alone.
+    pub fn grow(
+        &mut self,
+        ram: &mut Ram,
+        frames: &mut Frames,
+        bytes: u64,
+        perm: Perm,
+    ) -> Result<(), VmFault>
+        requires { IsSpace ram.old self.old frames.old }
+        ensures space { IsSpace ram.new self.new frames.new }
+        ensures size { OnOk result (self.new.size ≡ self.old.size + bytes) }
+        ensures pages { OnOk result (pages_of ram.new self.new ≡ pages_of ram.old self.old ++ replicate (pages_in (self.old.size + bytes) - pages_in self.old.size) (zero_page (marks_from perm))) }
+        ensures mapping { OnOk result (take (pages_in self.old.size) (mapping_of ram.new self.new) ≡ mapping_of ram.old self.old) }
+        ensures root { self.new.root ≡ self.old.root }
+        ensures registers { registers_of ram.new self.new ≡ registers_of ram.old self.old }
+        ensures large { IsErrOf result VmFault.TooLarge ↔ max_size < self.old.size + bytes }
+        ensures full { IsErrOf result VmFault.Frames ↔ (self.old.size + bytes ≤ max_size) × (frames_for (pages_in self.old.size) + free_count ram.old frames.old < frames_for (pages_in (self.old.size + bytes))) }
+        ensures only { OnErr result (IsErrOf result VmFault.TooLarge ⊎ IsErrOf result VmFault.Frames) }
+        ensures unchanged { OnErr result ((ram.new ≡ ram.old) × (frames.new ≡ frames.old) × (self.new ≡ self.old)) }
+        ensures trades { Trades ram.old ram.new frames.old frames.new (holds ram.old self.old) (holds ram.new self.new) }
+    {
+        let _count = ram.frame_count();
+        if bytes > MAX_SIZE - self.size {
+            return Err(VmFault::TooLarge);
+        }
+        let size = self.size + bytes;
+        let from = pages_in(self.size);
+        let to = pages_in(size);
+        if frames_for(from) + u64::from(frames.free()) < frames_for(to) {
+            return Err(VmFault::Frames);
+        }
+        let leaf = perm.leaf();
+        for page in from..to {
+            self.add_page(ram, frames, page, leaf);
+        }
+        self.size = size;
+        Ok(())
+    }
+
+    // Gives back the last page.
+    fn drop_page(&self, ram: &mut Ram, frames: &mut Frames, n: u64)
+        requires { IsHeld ram.old self.now.root.0 self.now.trap.0 (n + 1) frames.old }
+        ensures held { IsHeld ram.new self.now.root.0 self.now.trap.0 n frames.new }
+        ensures pages { (k : ℕ) → k ≤ n → pages_below ram.new self.now.root.0 k ≡ pages_below ram.old self.now.root.0 k }
+        ensures mapping { (k : ℕ) → k ≤ n → mapping_below ram.new self.now.root.0 k ≡ mapping_below ram.old self.now.root.0 k }
+        ensures trap { frame_of ram.new self.now.trap.0 ≡ frame_of ram.old self.now.trap.0 }
+        ensures trades { Trades ram.old ram.new frames.old frames.new (held ram.old self.now.root.0 self.now.trap.0 (n + 1)) (held ram.new self.now.root.0 self.now.trap.0 n) }
+    {
+        let _count = ram.frame_count();
+        let table = PageTable { root: self.root };
+        let frame = table.unmap(ram, frames, n);
+        frames.give(ram, frame);
+    }
+
+    // Gives back the pages from `to` on.
+    fn drop_pages(&self, ram: &mut Ram, frames: &mut Frames, from: u64, to: u64)
+        requires held { IsHeld ram.old self.now.root.0 self.now.trap.0 from frames.old }
+        requires order { to ≤ from }
+        ensures held { IsHeld ram.new self.now.root.0 self.now.trap.0 to frames.new }
+        ensures pages { pages_below ram.new self.now.root.0 to ≡ pages_below ram.old self.now.root.0 to }
+        ensures mapping { mapping_below ram.new self.now.root.0 to ≡ mapping_below ram.old self.now.root.0 to }
+        ensures trap { frame_of ram.new self.now.trap.0 ≡ frame_of ram.old self.now.trap.0 }
+        ensures trades { Trades ram.old ram.new frames.old frames.new (held ram.old self.now.root.0 self.now.trap.0 from) (held ram.new self.now.root.0 self.now.trap.0 to) }
+    {
+        for i in 0..from - to {
+            self.drop_page(ram, frames, from - 1 - i);
+        }
+    }
+
+    /// Takes away so many bytes from the end, and gives back the pages and tables that no byte needs then.
+    pub fn shrink(&mut self, ram: &mut Ram, frames: &mut Frames, bytes: u64)
+        requires space { IsSpace ram.old self.old frames.old }
+        requires less { bytes ≤ self.old.size }
+        ensures space { IsSpace ram.new self.new frames.new }
+        ensures size { self.new.size + bytes ≡ self.old.size }
+        ensures pages { pages_of ram.new self.new ≡ take (pages_in (self.old.size - bytes)) (pages_of ram.old self.old) }
+        ensures mapping { mapping_of ram.new self.new ≡ take (pages_in (self.old.size - bytes)) (mapping_of ram.old self.old) }
+        ensures root { self.new.root ≡ self.old.root }
+        ensures registers { registers_of ram.new self.new ≡ registers_of ram.old self.old }
+        ensures trades { Trades ram.old ram.new frames.old frames.new (holds ram.old self.old) (holds ram.new self.new) }
+    {
+        let size = self.size - bytes;
+        self.drop_pages(ram, frames, pages_in(self.size), pages_in(size));
+        self.size = size;
+    }
+
+    /// Gives back all frames of the space: pages, tables and trap frame.
+    pub fn destroy(self, ram: &mut Ram, frames: &mut Frames)
+        requires { IsSpace ram.old self frames.old }
+        ensures valid { IsFreeList ram.new frames.new }
+        ensures trades { Trades ram.old ram.new frames.old frames.new (holds ram.old self) [] }
+    {
+        let _count = ram.frame_count();
+        self.drop_pages(ram, frames, pages_in(self.size), 0);
+        let table = PageTable { root: self.root };
+        let trap = table.unmap(ram, frames, TRAP_PAGE);
+        frames.give(ram, trap);
+        table.destroy(ram, frames);
+    }
+}

@@ -1,0 +1,57 @@
+//! The trap frame: a program's registers while it doesn't run.
+//!
+//! It is laid out as xv6 lays it out: numbers of 8 bytes, the lowest first, the program counter from
+//! place 24 on, and register x1 to x31 each at 32 and 8 times its number. Its other bytes are 0 in a
+//! new space, and stay.
+
+ghost use Rattle.std.specs.Prelude.{◌≡◌, ℕ, ◌+◌, ◌*◌, ◌^◌, ◌<◌, ◌≤◌, List, length, slice_index, slice_index_or};
+ghost use Rattle.vm.specs.Space.{IsMapped, IsOnce, pages_of, registers_of, Stands};
+ghost use Rattle.vm.specs.TrapFrame.{saved_pc, saved_registers, IsSpare};
+
+use crate::Space;
+use ram::Ram;
+
+/// The place of the program counter in a trap frame.
+const PC: usize = 24;
+
+// The place of a register in a trap frame.
+fn place_of(register: usize) -> usize
+    requires { register < 32 }
+    ensures { result ≡ 32 + 8 * register }
+{
+    32 + 8 * register
+}
+
+impl Space {
+    /// Puts the registers and the program counter into the trap frame. Register x0 is 0, and isn't put there.
+    pub fn save_registers(&self, ram: &mut Ram, registers: &[u64; 32], pc: u64)
+        requires mapped { IsMapped ram.old self.now }
+        requires once { IsOnce ram.old self.now }
+        requires zero { slice_index registers.now 0 ≡ 0 }
+        ensures registers { saved_registers ram.new self.now ≡ registers.now }
+        ensures pc { saved_pc ram.new self.now ≡ pc }
+        ensures spare { (at : ℕ) → IsSpare at → slice_index_or (registers_of ram.new self.now) at 0 ≡ slice_index_or (registers_of ram.old self.now) at 0 }
+        ensures pages { pages_of ram.new self.now ≡ pages_of ram.old self.now }
+        ensures stands { Stands ram.old ram.new self.now }
+    {
+        let _count = ram.frame_count();
+        ram.store_u64(self.trap, PC, pc);
+        for register in 1..32 {
+            let _count = ram.frame_count();
+            ram.store_u64(self.trap, place_of(register), registers[register]);
+        }
+    }
+
+    /// Takes the registers from the trap frame, and tells the program counter.
+    pub fn load_registers(&self, ram: &Ram, registers: &mut [u64; 32]) -> u64
+        requires { IsMapped ram.now self.now }
+        ensures registers { registers.new ≡ saved_registers ram.now self.now }
+        ensures pc { result ≡ saved_pc ram.now self.now }
+    {
+        registers[0] = 0;
+        for register in 1..32 {
+            registers[register] = ram.load_u64(self.trap, place_of(register));
+        }
+        ram.load_u64(self.trap, PC)
+    }
+}
