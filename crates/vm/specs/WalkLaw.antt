@@ -136,7 +136,7 @@ none-found xs p f a h e =
 pub coherent-grown : (held : Held) (root : ℕ) (old new : List Mapped) → take (length old) new ≡ old → IsCoherent held root old → IsCoherent held root new
 coherent-grown held root old new front is = record {
   walks = λ t h same. elim (cases_lt t.page (length old)) [
-      inl low ↦ ap (λ o. option_map (λ x. x.frame) (allowed t.access o)) (sym (get-take new (length old) t.page low) ∙ ap (λ l. slice_get l t.page) front) ∙ is.walks t h same
+    | inl low ↦ ap (λ o. option_map (λ x. x.frame) (allowed t.access o)) (sym (get-take new (length old) t.page low) ∙ ap (λ l. slice_get l t.page) front) ∙ is.walks t h same
     | inr high ↦ absurd (none-found old t.page t.frame t.access high (is.walks t h same))
-    ];
+  ];
 }
