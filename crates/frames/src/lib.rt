@@ -21,7 +21,7 @@ pub struct Frames {
 impl Frames {
     /// Frees all frames of a memory; the lowest is taken first.
     ///
-    /// Their bytes may be anything afterwards.
+    /// It writes only where the list needs it, so their other bytes stay.
     pub fn new(ram: &mut Ram) -> Frames
         ensures all { free_of ram.new result ≡ range_with_len 0 (length ram.old) }
         ensures valid { IsFreeList ram.new result }

@@ -1,11 +1,11 @@
 -- A page table that maps nothing.
-use Rattle.std.proofs.Common.{◌≡◌, ◌≢◌, ℕ, ◌<◌, true, List, [], ◌∷◌, length, Some, None, refl, sym, ap, ◌∙◌, arith, slice_set, get_or-set_other, length-set, replicate}
+use Rattle.std.proofs.Common.{◌≡◌, ◌≢◌, ℕ, ◌+◌, ◌*◌, ◌/◌, ◌%◌, ◌^◌, ◌<◌, ◌⊎◌, inl, inr, false, true, List, [], ◌∷◌, ◌++◌, length, Option, Some, None, unwrap_or, refl, sym, ap, ◌∙◌, arith, slice_set, get_or-set_other, length-set, replicate}
 use Rattle.frames.specs.declared.Frames.{Frames}
 use Rattle.frames.specs.Free.{among, free_of, IsFreeList}
 use Rattle.frames.specs.FreeLemmas.{free_of-same, IsFreeList-same}
 use Rattle.ram.specs.Memory.{frame_of}
 use Rattle.sv39.specs.Walk.{entry_of}
-use Rattle.pagetable.specs.Tree.{Node, Root, Mid, Low, IsNode, table_at, low_node, lookup_of, no_table, IsPaged}
+use Rattle.pagetable.specs.Tree.{child_of, leaf_of, Node, Root, Mid, Low, IsNode, IsUpper, next_node, table_at, child_at, leaf_at, low_node, mid_node, lookup_of, IsTree, IsEntry, no_table, no_leaf, IsTableEntry, IsPaged}
 use Rattle.pagetable.specs.TreeLemmas.{child_of-zero, root_at, free-first, entry_of-zeros}
 use Rattle.pagetable.specs.Shape.{IsTidy, IsEmpty}
 

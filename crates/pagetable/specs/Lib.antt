@@ -2,6 +2,7 @@ pub mod Tree
 pub mod TreeLemmas
 pub mod Marks
 pub mod Agree
+pub mod Shown
 pub mod Beside
 pub mod Unlink
 pub mod Shape

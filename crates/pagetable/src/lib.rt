@@ -11,10 +11,12 @@
 ghost use Rattle.std.specs.Prelude.{◌≡◌, ◌≢◌, ℕ, ◌+◌, ◌*◌, ◌/◌, ◌%◌, ◌^◌, ◌<◌, ◌≤◌, List, [], ◌∷◌, length, None, Some, true, false, OnOk, OnErr, IsErr, IsTrue, ◌↔◌, IfSome, IfNone};
 ghost use Rattle.std.specs.Option.{option_map};
 ghost use Rattle.frames.specs.Free.{among, free_of, free_count, IsFreeList, SameBut};
+ghost use Rattle.frames.specs.Holders.{one_if};
 ghost use Rattle.sv39.specs.Walk.{base, entry_of};
 ghost use Rattle.unixmodel.specs.declared.trap.Access.{Access};
 ghost use Rattle.unixmodel.specs.Translation.{walk_page};
 ghost use Rattle.pagetable.specs.Agree.{given_frame};
+ghost use Rattle.pagetable.specs.Marks.{leaf_marks};
 ghost use Rattle.pagetable.specs.Shape.{table_of, IsTidy, IsEmpty, Adds, Removes};
 ghost use Rattle.pagetable.specs.Tree.{Node, IsNode, Root, table_entry, leaf_entry, child_of, leaf_of, table_at, low_node, mid_node, lookup_of, IsTableEntry, IsLeafEntry, IsLeafMarks, IsTree, IsPaged, Keeps, Holds, Inserts, Writes, Links, missing};
 
@@ -45,6 +47,28 @@ pub struct Full;
 #[derive(Clone, Copy, PartialEq, Eq, Debug)]
 pub struct PageTable {
     pub root: FrameNo,
+}
+
+// The bits of a mark, where it is set.
+fn bits_if(set: bool, mark: Marks) -> u16
+    requires { mark.0 < 1024 }
+    ensures { result ≡ one_if set * mark.0 }
+{
+    if set { mark.0 } else { 0 }
+}
+
+/// The marks of the leaf of a page: V, R, A and D are set, and W, X and U as said.
+///
+/// The walk sets no A or D, so they stand from the start; without U a program has no access.
+#[tactic(auto, unfolding(crate::specs::Marks::leaf_marks))]
+pub fn leaf_marks(writable: bool, executable: bool, user: bool) -> Marks
+    ensures marks { result.0 ≡ leaf_marks (record { writable = writable; executable = executable; user = user }) }
+    ensures leaf { IsLeafMarks result.0 }
+{
+    let always = Marks::VALID.0 + Marks::READ.0 + Marks::ACCESSED.0 + Marks::DIRTY.0;
+    let write = bits_if(writable, Marks::WRITE);
+    let execute = bits_if(executable, Marks::EXECUTE);
+    Marks(always + write + execute + bits_if(user, Marks::USER))
 }
 
 // The table that an entry names.
@@ -449,16 +473,6 @@ mod tests {
     use sv39::walk_page;
     use unixmodel::trap::Access;
 
-    // index 1 in the tables of each level
-    const PAGE: u64 = 262144 + 512 + 1;
-
-    // V, R, A and D; beside them W and U, X and U, and W and X
-    const WRITABLE: Marks = Marks(0b1101_0111);
-
-    const EXECUTABLE: Marks = Marks(0b1101_1011);
-
-    const HIDDEN: Marks = Marks(0b1100_1111);
-
     #[test]
     fn maps_a_page_and_takes_it_out_again(rt: HostRuntime) -> Result<(), Fail> {
         let mut ram = Ram::new(rt.alloc(), 8)?;
@@ -466,9 +480,11 @@ mod tests {
         let frame = frames.take(&ram).ok_or("no frame is free")?;
         let table = PageTable::new(&mut ram, &mut frames).ok_or("no frame is free")?;
         assert!(rt; frame.0 < ram.frame_count());
-        table.map(&mut ram, &mut frames, 5, frame, WRITABLE)?;
+        let marks = leaf_marks(true, false, true);
+        assert_eq!(rt; marks, Marks(215));
+        table.map(&mut ram, &mut frames, 5, frame, marks)?;
         assert_eq!(rt; frames.free(), 4);
-        assert_eq!(rt; table.find(&ram, 5), Some((frame, WRITABLE)));
+        assert_eq!(rt; table.find(&ram, 5), Some((frame, marks)));
         assert_eq!(rt; table.find(&ram, 4), None);
         assert_eq!(rt; table.unmap(&mut ram, &mut frames, 5), frame);
         assert_eq!(rt; table.find(&ram, 5), None);
@@ -485,20 +501,26 @@ mod tests {
         let frame = frames.take(&ram).ok_or("no frame is free")?;
         let table = PageTable::new(&mut ram, &mut frames).ok_or("no frame is free")?;
         assert!(rt; frame.0 < ram.frame_count());
-        table.map(&mut ram, &mut frames, PAGE, frame, WRITABLE)?;
+        table.map(
+            &mut ram,
+            &mut frames,
+            262657,
+            frame,
+            leaf_marks(true, false, true),
+        )?;
         assert_eq!(rt;
-            walk_page(&ram, table.root, PAGE, Access::Store),
+            walk_page(&ram, table.root, 262657, Access::Store),
             Some(frame)
         );
-        assert_eq!(rt; walk_page(&ram, table.root, PAGE, Access::Fetch), None);
-        table.set_perm(&mut ram, &frames, PAGE, EXECUTABLE);
-        assert_eq!(rt; walk_page(&ram, table.root, PAGE, Access::Store), None);
+        assert_eq!(rt; walk_page(&ram, table.root, 262657, Access::Fetch), None);
+        table.set_perm(&mut ram, &frames, 262657, leaf_marks(false, true, true));
+        assert_eq!(rt; walk_page(&ram, table.root, 262657, Access::Store), None);
         assert_eq!(rt;
-            walk_page(&ram, table.root, PAGE, Access::Fetch),
+            walk_page(&ram, table.root, 262657, Access::Fetch),
             Some(frame)
         );
-        table.set_perm(&mut ram, &frames, PAGE, HIDDEN);
-        assert_eq!(rt; walk_page(&ram, table.root, PAGE, Access::Load), None);
+        table.set_perm(&mut ram, &frames, 262657, leaf_marks(true, true, false));
+        assert_eq!(rt; walk_page(&ram, table.root, 262657, Access::Load), None);
         Ok(())
     }
 
@@ -509,8 +531,16 @@ mod tests {
         let frame = frames.take(&ram).ok_or("no frame is free")?;
         let table = PageTable::new(&mut ram, &mut frames).ok_or("no frame is free")?;
         assert!(rt; frame.0 < ram.frame_count());
-        let mapped = table.map(&mut ram, &mut frames, 0, frame, WRITABLE);
-        assert_eq!(rt; mapped, Err(Full));
+        assert_eq!(rt;
+            table.map(
+                &mut ram,
+                &mut frames,
+                0,
+                frame,
+                leaf_marks(false, false, true)
+            ),
+            Err(Full)
+        );
         assert_eq!(rt; frames.free(), 0);
         Ok(())
     }

@@ -22,3 +22,4 @@ pub mod Shares
 pub mod SharesLemmas
 pub mod TrapFrame
 pub mod TrapLemmas
+pub mod StringLemmas

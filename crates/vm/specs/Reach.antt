@@ -1,5 +1,5 @@
 -- What a program's memory shows from an address on.
-use Rattle.std.specs.Prelude.{◌≡◌, ℕ, ◌+◌, ◌/◌, ◌%◌, List, [], drop, length, Option, Some, None, slice_get}
+use Rattle.std.specs.Prelude.{◌≡◌, ℕ, ◌+◌, ◌/◌, ◌%◌, List, [], drop, length, Option, Some, None, slice_get, if◌then◌else◌, nat_le}
 use Rattle.std.specs.List.{prefix_len}
 use Rattle.unixmodel.specs.declared.trap.Access.{Access}
 use Rattle.unixmodel.specs.Memory.{Page, Memory, permits, page_for, overwrite}
@@ -23,3 +23,8 @@ piece_at access mem address = rest_of (address % 4096) (page_for access mem addr
 -- a page with these bytes in place
 abbrev pub written : Page → ℕ → List ℕ → Page
 written p at new = record p { bytes = overwrite p.bytes at new }
+
+-- a string, where it has so many bytes at most
+abbrev pub short_string : ℕ → Option (List ℕ) → Option (List ℕ)
+short_string most None = None
+short_string most (Some s) = if nat_le (length s) most then Some s else None

@@ -1,13 +1,13 @@
 //! What the kernel reads and writes of a program's memory: any bytes that the program itself could.
 
-ghost use Rattle.std.specs.Prelude.{◌≡◌, ◌≢◌, ℕ, ◌+◌, ◌-◌, ◌*◌, ◌/◌, ◌%◌, ◌^◌, ◌<◌, ◌≤◌, List, [], ◌∷◌, ◌++◌, length, min, drop, nat_le, option_map, slice_get, None, Some, false, OnOk, OnErr, IfSome, IsTrue, IsErrOf, ◌↔◌, ◌⊎◌};
+ghost use Rattle.std.specs.Prelude.{◌≡◌, ◌≢◌, ℕ, ◌+◌, ◌-◌, ◌*◌, ◌/◌, ◌%◌, ◌^◌, ◌<◌, ◌≤◌, List, [], ◌∷◌, ◌++◌, length, min, take, drop, nat_le, option_map, slice_get, None, Some, false, OnOk, OnErr, IfSome, IsTrue, IsErrOf, ◌↔◌, ◌⊎◌};
 ghost use Rattle.ram.specs.Memory.{frame_of, put};
 ghost use Rattle.sv39.specs.Mapping.{Mapped, WalksTo};
 ghost use Rattle.pagetable.specs.Marks.{page_marks};
 ghost use Rattle.unixmodel.specs.declared.trap.Access.TheVariants.{Load, Store};
-ghost use Rattle.unixmodel.specs.Memory.{permits, reach, can_write, read_bytes, write_bytes};
+ghost use Rattle.unixmodel.specs.Memory.{permits, reach, can_write, read_bytes, string_at, write_bytes};
 ghost use Rattle.vm.specs.Leaf.{marks_from, mapped_as};
-ghost use Rattle.vm.specs.Reach.{run_of, piece_at};
+ghost use Rattle.vm.specs.Reach.{run_of, piece_at, short_string};
 ghost use Rattle.vm.specs.Space.{pages_in, IsMapped, IsOnce, mapping_of, pages_of, registers_of, Stands};
 
 use crate::{Perm, Space, VmFault, pages_in};
@@ -53,13 +53,6 @@ fn write_part(ram: &mut Ram, frame: FrameNo, at: usize, bytes: &[u8])
 }
 
 impl Space {
-    /// Its size in bytes.
-    pub fn size(&self) -> u64
-        ensures { result ≡ self.now.size }
-    {
-        self.size
-    }
-
     /// The frame of the root of its tables.
     pub fn root(&self) -> FrameNo
         ensures { result ≡ self.now.root }
@@ -179,6 +172,35 @@ impl Space {
             done += len;
         }
         Ok(())
+    }
+
+    // The byte at an address, where a program may read it.
+    fn byte_at(&self, ram: &Ram, address: u64) -> Option<u8>
+        requires { IsMapped ram.now self.now }
+        ensures { result ≡ slice_get (piece_at Load (pages_of ram.now self.now) address) 0 }
+    {
+        self.readable(ram, address).first().copied()
+    }
+
+    /// Copies the string at an address into a buffer, and tells its length: the bytes before the first
+    /// 0, without it. `None` where a program may not read them and the 0, or the buffer is too short.
+    pub fn copy_string(&self, ram: &Ram, address: u64, buffer: &mut [u8]) -> Option<usize>
+        requires { IsMapped ram.now self.now }
+        ensures string { option_map (λ n. take n buffer.new) result ≡ short_string (length buffer.old) (string_at (pages_of ram.now self.now) address) }
+        ensures within { IfSome result (λ n. n ≤ length buffer.old) }
+    {
+        let _count = ram.frame_count();
+        for i in 0..buffer.len() {
+            match self.byte_at(ram, address + i as u64) {
+                Some(0) => return Some(i),
+                Some(byte) => buffer[i] = byte,
+                None => return None,
+            }
+        }
+        match self.byte_at(ram, address + buffer.len() as u64) {
+            Some(0) => Some(buffer.len()),
+            _ => None,
+        }
     }
 
     // Writes the bytes that lie in the page of an address, and tells how many.

@@ -1,5 +1,6 @@
-use Rattle.std.proofs.Common.{◌≡◌, ℕ, ◌%◌, Option, Some, None, length, sym, ◌∙◌}
+use Rattle.std.proofs.Common.{◌≡◌, ℕ, ◌%◌, Option, Some, None, length, refl, sym, ap, ◌∙◌}
 use Rattle.sv39.specs.Walk.{entry_of}
+use Rattle.pagetable.specs.Tree.{lookup_of, leaf_of}
 use Rattle.pagetable.specs.TreeLemmas.{tree-leaf_sound, lookup_of-low}
 use Rattle.pagetable.specs.LookupLemmas.{leaf_of-sound, first-same}
 use Rattle.pagetable.specs.ShapeLemmas.{IsTidy-set}

@@ -1,0 +1,8 @@
+use Rattle.unixmodel.specs.declared.trap.Access.TheVariants.{Load}
+use Rattle.unixmodel.specs.Memory.{reach}
+use Rattle.vm.specs.Space.{pages_of}
+use Rattle.vm.specs.StringLemmas.{Strings}
+use Rattle.vm.proofs.Space.copy_string.Given as goal
+
+abbrev pub invariant-loop-i : goal.invariant-loop-i
+invariant-loop-i l = Strings (reach Load (pages_of l.ram l.self) l.address) l.buffer l.i
