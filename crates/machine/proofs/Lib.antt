@@ -1,0 +1,7 @@
+mod States
+mod Rows
+pub mod Runs
+pub mod RunLemmas
+mod Steps
+mod KernelLemmas
+mod FlatLemmas

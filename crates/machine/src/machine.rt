@@ -1,0 +1,171 @@
+//! The machine: events in, the console's bytes and the state of the process out.
+ghost use Rattle.std.specs.Prelude.{◌≡◌, ◌≤◌, ◌+◌, ℕ, None, Some, false, OnOk, OnErr, IfSome, IfOk, is_some, option_map, slice_index};
+ghost use Rattle.std.specs.Io.KnownBytes.{Appends};
+ghost use Rattle.unixmodel.specs.Failures.{Rises};
+ghost use Rattle.unixmodel.specs.Next.{next};
+ghost use Rattle.machine.specs.Does.{fails};
+ghost use Rattle.machine.specs.Seen.{seen_of};
+ghost use Rattle.machine.specs.Solo.{state_of};
+ghost use Rattle.machine.specs.Told.{told};
+ghost use Rattle.unixmodel.specs.Counts.{frames_of};
+ghost use Rattle.unixmodel.specs.Memory.{Page};
+ghost use Rattle.unixmodel.specs.Shown.{ShowsMemory, shown_page, shown_process};
+ghost use Rattle.vm.specs.Leaf.{marks_from};
+
+use crate::calls;
+use crate::halt::Halt;
+use crate::kernel::{Kernel, Stage};
+use crate::seen::Seen;
+use blockdev::BlockDev;
+use console::Out;
+use ram::{FRAME_SIZE, FrameNo, Ram};
+use std::marker::Model;
+use sv39::Translate;
+use unixmodel::event::Event;
+use vm::Perm;
+
+/// The pid of the one process.
+const FIRST: u32 = 1;
+
+/// A machine over a disk and a translator.
+#[derive(Drop)]
+pub struct Machine<D: BlockDev, T: Translate + Drop> {
+    kernel: Kernel<T>,
+    disk: D,
+    failed: bool,
+}
+
+impl<D: BlockDev, T: Translate + Drop> Model for Machine<D, T> {
+    ghost use Rattle.machine.specs.Told.{Told};
+
+    ghost Value = { Told D };
+
+    ghost use Rattle.machine.specs.Show.{told_of};
+
+    ghost view = { told_of };
+}
+
+// Whether the console failed.
+fn is_console(done: &Result<(), Halt>) -> bool
+    ensures { result ≡ fails done.now }
+{
+    matches!(done, Err(Halt::Console))
+}
+
+impl<D: BlockDev, T: Translate + Drop> Machine<D, T> {
+    ghost use Rattle.machine.specs.Told.{IsUp, Told};
+    ghost use Rattle.machine.specs.Gives.{ConsoleFails, RunGives, StepGives, halt_of};
+
+    /// The machine of a kernel and a disk.
+    pub(crate) fn new(kernel: Kernel<T>, disk: D) -> Machine<D, T>
+        ensures { result ≡ told (state_of kernel) disk }
+    {
+        Machine {
+            kernel,
+            disk,
+            failed: false,
+        }
+    }
+
+    // Whether it takes no events.
+    fn is_stopped(&self) -> bool
+        ensures up { result ≡ false → IsUp self.now }
+        ensures stopped { IsUp self.now → result ≡ false }
+    {
+        self.failed || matches!(self.kernel.stage(), Stage::Ended(_))
+    }
+
+    /// One event. An error says why the machine stops; after `Device` and `Console` it is of no more use, and every
+    /// later call answers `Halted`.
+    pub fn step<W: Out>(&mut self, event: Event, console: &mut W) -> Result<(), Halt>
+        ensures gives { StepGives D.failures self.old self.new (next self.old.state event) (W.contents console.old) (W.contents console.new) (Rises (W.failures console.old) (W.failures console.new)) result }
+        ensures later { W.failures console.old ≤ W.failures console.new }
+    {
+        if self.failed {
+            return Err(Halt::Halted);
+        }
+        match self.kernel.stage() {
+            Stage::Ended(_) => Err(Halt::Halted),
+            Stage::Running => match event {
+                Event::Step => {
+                    let done = calls::execute(&mut self.kernel, console);
+                    self.failed = is_console(&done);
+                    done
+                }
+                Event::Tick => {
+                    self.kernel.tick();
+                    Ok(())
+                }
+                Event::Key(_) => Ok(()),
+            },
+            Stage::Ready => match event {
+                Event::Step => {
+                    self.kernel.pick();
+                    Ok(())
+                }
+                Event::Tick => {
+                    self.kernel.tick();
+                    Ok(())
+                }
+                Event::Key(_) => Ok(()),
+            },
+        }
+    }
+
+    /// The events of a list up to the first at which the machine stops.
+    pub fn run<W: Out>(&mut self, events: &[Event], console: &mut W) -> Result<(), Halt>
+        ensures gives { RunGives D.failures self.old self.new events.now (W.contents console.old) (W.contents console.new) (Rises (W.failures console.old) (W.failures console.new)) result }
+        ensures later { W.failures console.old ≤ W.failures console.new }
+    {
+        if self.is_stopped() {
+            return Err(Halt::Halted);
+        }
+        for event in events {
+            self.step(*event, console)?;
+        }
+        Ok(())
+    }
+
+    /// What is told of the process with a pid; `None` where there is none.
+    pub fn inspect(&self, pid: u32) -> Option<Seen>
+        ensures { result ≡ option_map seen_of (shown_process self.now.state pid) }
+    {
+        if pid == FIRST {
+            Some(self.kernel.seen())
+        } else {
+            None
+        }
+    }
+
+    /// The bytes and the marks of a page of a process; `None` past its last page, and where there is no such process.
+    pub fn peek(&self, pid: u32, page: u64) -> Option<(&[u8; FRAME_SIZE], Perm)>
+        ensures { option_map (λ r. let p : Page = record { bytes = r.0.now; marks = marks_from r.1 } in p) result ≡ shown_page self.now.state pid page }
+    {
+        if pid == FIRST {
+            self.kernel.page(page)
+        } else {
+            None
+        }
+    }
+
+    /// How many frames are free.
+    pub fn free_frames(&self) -> u32
+        ensures { result + frames_of self.now.state ≡ self.now.state.frame_limit }
+    {
+        self.kernel.free_frames()
+    }
+
+    /// The memory, and the frame of the root of a process's page table; `None` where there is no such process. A walk
+    /// from that root reaches the bytes that `peek` tells of a page where its marks allow the access, and faults
+    /// elsewhere.
+    pub fn tables(&self, pid: u32) -> Option<(&Ram, FrameNo)>
+        ensures some { is_some result ≡ is_some (shown_process self.now.state pid) }
+        ensures shows { IfSome result (λ r. IfSome (shown_process self.now.state pid) (λ p. ShowsMemory r.0.now r.1.0 p.memory)) }
+    {
+        if pid == FIRST {
+            Some(self.kernel.tables())
+        } else {
+            None
+        }
+    }
+}
