@@ -3,6 +3,7 @@ ghost use Rattle.std.specs.Prelude.{◌≡◌, ◌*◌, ◌+◌, ◌<◌, ◌⊎
 ghost use Rattle.frames.specs.Free.{IsFreeList};
 ghost use Rattle.frames.specs.Holders.{IsShared};
 ghost use Rattle.machine.specs.Flat.{flat_memory};
+ghost use Rattle.machine.specs.Told.{IsUp};
 ghost use Rattle.unixmodel.specs.Counts.{page_frames};
 ghost use Rattle.unixmodel.specs.Start.{start_flat};
 ghost use Rattle.vm.specs.Space.{IsSpace, holds, pages_of};
@@ -14,7 +15,7 @@ use blockdev::MemDisk;
 use frames::Frames;
 use ram::{FRAME_SIZE, Ram};
 use std::alloc::Global;
-use sv39::Plain;
+use sv39::{Plain, Translate};
 use vm::{Perm, Space, VmFault, pages_in};
 
 /// The fewest frames that a machine has.
@@ -78,7 +79,23 @@ pub fn boot_flat(
     frames: u32,
 ) -> Result<Machine<MemDisk, Plain>, BootFault>
     ensures booted { IfOk result (λ m. start_flat bytes.now frames ≡ Some m.state) }
-    ensures sound { IfOk result (λ m. m.failed ≡ false) }
+    ensures up { IfOk result IsUp }
+    ensures count { IsErrOf result BootFault.FrameCount ↔ ((frames < 64) ⊎ (32768 < frames)) }
+    ensures no_init { IsErrOf result BootFault.NoInit → start_flat bytes.now frames ≡ None }
+    ensures only { OnErr result (IsErrOf result BootFault.FrameCount ⊎ (IsErrOf result BootFault.NoInit ⊎ IsErrOf result BootFault.NoMemory)) }
+{
+    boot_flat_with(alloc, bytes, Plain::new(), frames)
+}
+
+/// `boot_flat` with a translator, which is fenced first: it may hold anything.
+pub fn boot_flat_with<T: Translate + Drop>(
+    alloc: Global,
+    bytes: &[u8],
+    translator: T,
+    frames: u32,
+) -> Result<Machine<MemDisk, T>, BootFault>
+    ensures booted { IfOk result (λ m. start_flat bytes.now frames ≡ Some m.state) }
+    ensures up { IfOk result IsUp }
     ensures count { IsErrOf result BootFault.FrameCount ↔ ((frames < 64) ⊎ (32768 < frames)) }
     ensures no_init { IsErrOf result BootFault.NoInit → start_flat bytes.now frames ≡ None }
     ensures only { OnErr result (IsErrOf result BootFault.FrameCount ⊎ (IsErrOf result BootFault.NoInit ⊎ IsErrOf result BootFault.NoMemory)) }
@@ -93,7 +110,7 @@ pub fn boot_flat(
     let Ok(space) = load(&mut ram, &mut free, bytes) else {
         return Err(BootFault::NoInit);
     };
-    let kernel = Kernel::new(ram, free, Plain::new(), space);
+    let kernel = Kernel::new(ram, free, translator, space);
     match MemDisk::new(Vec::new(alloc)) {
         Ok(disk) => Ok(Machine::new(kernel, disk)),
         Err(_) => Err(BootFault::Image(ImageFault::Length)),

@@ -8,8 +8,10 @@ mod halt;
 mod kernel;
 mod machine;
 mod seen;
+#[cfg(test)]
+mod tests;
 
-pub use boot::boot_flat;
+pub use boot::{boot_flat, boot_flat_with};
 pub use fault::{BootFault, ImageFault};
 pub use halt::Halt;
 pub use machine::Machine;
