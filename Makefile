@@ -1,19 +1,41 @@
 # What one does with this repository. `rt` is the command of the Rattle toolchain.
 
-.PHONY: demo test check fmt
+# Where `rt run` leaves the program once every crate below it is proved.
+PROGRAM := crates/xv6/out/xv6
+SOURCES := $(shell find crates -name out -prune -o \( -name '*.rt' -o -name '*.antt' \) -print)
 
-# Has the checker run worked programs on the definitions of the abstract Unix. There is no program to run yet.
+.PHONY: demo build test check bench fmt
+
+# Runs a program that says `hi` on the machine. It takes the proved build where there is one that is
+# not older than the sources, and else `rt try`, which compiles the program and proves nothing.
 demo:
-	@echo 'demo: the definitions of the abstract Unix, run by the checker on the rows of crates/modelrows/proofs'
-	cd crates/modelrows && rt check
+	@if [ -x $(PROGRAM) ] && $(MAKE) -sq $(PROGRAM); then \
+		echo 'demo: the proved build, $(PROGRAM)'; \
+		cd crates/xv6/data && ../out/xv6 flat hello.bin hello.txt; \
+	else \
+		echo 'demo: compiled by rt try, unproved (make build proves and builds the program)'; \
+		cd crates/xv6 && rt try --data hello.bin=data/hello.bin --data hello.txt=data/hello.txt \
+			-- flat hello.bin hello.txt; \
+	fi
 
-# The merge gate: every proof from nothing, the edits that must fail, all tests.
+# Proves every crate that the program stands on, builds it as $(PROGRAM), and runs it once.
+build: $(PROGRAM)
+
+$(PROGRAM): $(SOURCES) crates.txt
+	cd crates/xv6 && rt run -- flat data/hello.bin data/hello.txt
+	@touch $@
+
+# The merge gate: every proof from nothing, the edits that must fail, all tests and stored runs.
 test:
 	rt ci
 
 # Every proof, over what earlier checks kept.
 check:
 	rt all check
+
+# Times the built program beside a plain Rust interpreter of the same design.
+bench: $(PROGRAM)
+	bench/run.py $(PROGRAM)
 
 # Lays out the sources of every crate.
 fmt:

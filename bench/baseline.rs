@@ -1,0 +1,366 @@
+//! A plain Rust interpreter of the machine's design, to measure `xv6 flat` against: the memory is
+//! one block of frames, each access walks three levels of Sv39 tables in it, and each step decodes
+//! its instruction from the word. It knows RV64I and the calls exit, sbrk and write.
+//!
+//!     rustc -O -o baseline baseline.rs
+//!     ./baseline FRAMES FILE STEPS
+
+use std::io::Write;
+
+const FRAME: usize = 4096;
+const V: u64 = 1;
+const R: u64 = 2;
+const W: u64 = 4;
+const X: u64 = 8;
+const U: u64 = 16;
+const A: u64 = 64;
+const D: u64 = 128;
+
+#[derive(Clone, Copy)]
+enum Access {
+    Fetch,
+    Load,
+    Store,
+}
+
+enum Trap {
+    Fault,
+    Call,
+}
+
+struct Machine {
+    memory: Vec<u8>,
+    free: Vec<u32>,
+    registers: [u64; 32],
+    pc: u64,
+    root: u32,
+    size: u64,
+}
+
+impl Machine {
+    fn new(frames: u32, program: &[u8]) -> Option<Machine> {
+        let mut machine = Machine {
+            memory: vec![0; frames as usize * FRAME],
+            free: (0..frames).rev().collect(),
+            registers: [0; 32],
+            pc: 0,
+            root: 0,
+            size: 0,
+        };
+        machine.root = machine.take()?;
+        for chunk in program.chunks(FRAME) {
+            let frame = machine.map(R | W | X | U)?;
+            let at = frame as usize * FRAME;
+            machine.memory[at..at + chunk.len()].copy_from_slice(chunk);
+        }
+        machine.map(R | W)?;
+        machine.map(R | W | U)?;
+        machine.registers[2] = machine.size - 16;
+        Some(machine)
+    }
+
+    fn take(&mut self) -> Option<u32> {
+        let frame = self.free.pop()?;
+        let at = frame as usize * FRAME;
+        self.memory[at..at + FRAME].fill(0);
+        Some(frame)
+    }
+
+    fn entry_at(&self, table: u32, index: u64) -> usize {
+        table as usize * FRAME + index as usize * 8
+    }
+
+    fn entry(&self, table: u32, index: u64) -> u64 {
+        let at = self.entry_at(table, index);
+        u64::from_le_bytes(self.memory[at..at + 8].try_into().unwrap())
+    }
+
+    fn set_entry(&mut self, table: u32, index: u64, entry: u64) {
+        let at = self.entry_at(table, index);
+        self.memory[at..at + 8].copy_from_slice(&entry.to_le_bytes());
+    }
+
+    // The table of level 0 for an address, made where it is missing.
+    fn table(&mut self, address: u64) -> Option<u32> {
+        let mut table = self.root;
+        for level in [2, 1] {
+            let index = (address >> (12 + 9 * level)) & 511;
+            let entry = self.entry(table, index);
+            if entry & V == 0 {
+                let next = self.take()?;
+                self.set_entry(table, index, (next as u64) << 10 | V);
+                table = next;
+            } else {
+                table = (entry >> 10) as u32;
+            }
+        }
+        Some(table)
+    }
+
+    // One page more at the end.
+    fn map(&mut self, marks: u64) -> Option<u32> {
+        let table = self.table(self.size)?;
+        let frame = self.take()?;
+        let index = (self.size >> 12) & 511;
+        self.set_entry(table, index, (frame as u64) << 10 | marks | V | A | D);
+        self.size += FRAME as u64;
+        Some(frame)
+    }
+
+    // One page less at the end.
+    fn unmap(&mut self) -> Option<()> {
+        self.size -= FRAME as u64;
+        let table = self.table(self.size)?;
+        let index = (self.size >> 12) & 511;
+        let entry = self.entry(table, index);
+        self.set_entry(table, index, 0);
+        self.free.push((entry >> 10) as u32);
+        Some(())
+    }
+
+    fn translate(&self, address: u64, access: Access) -> Option<usize> {
+        let high = address as i64 >> 38;
+        if high != 0 && high != -1 {
+            return None;
+        }
+        let mut table = self.root;
+        for level in [2, 1, 0] {
+            let entry = self.entry(table, (address >> (12 + 9 * level)) & 511);
+            if entry & V == 0 || entry & (R | W) == W || entry >> 54 != 0 {
+                return None;
+            }
+            let frame = (entry >> 10) as u32;
+            if frame as usize >= self.memory.len() / FRAME {
+                return None;
+            }
+            if entry & (R | W | X) == 0 {
+                table = frame;
+                continue;
+            }
+            let wanted = match access {
+                Access::Fetch => X | U | A,
+                Access::Load => R | U | A,
+                Access::Store => W | U | A | D,
+            };
+            if entry & wanted != wanted || level != 0 {
+                return None;
+            }
+            return Some(frame as usize * FRAME + address as usize % FRAME);
+        }
+        None
+    }
+
+    fn load(&self, address: u64, size: u64, access: Access) -> Result<u64, Trap> {
+        if address % size != 0 {
+            return Err(Trap::Fault);
+        }
+        let at = self.translate(address, access).ok_or(Trap::Fault)?;
+        let bytes = &self.memory[at..at + size as usize];
+        Ok(match size {
+            1 => bytes[0] as u64,
+            2 => u16::from_le_bytes(bytes.try_into().unwrap()) as u64,
+            4 => u32::from_le_bytes(bytes.try_into().unwrap()) as u64,
+            _ => u64::from_le_bytes(bytes.try_into().unwrap()),
+        })
+    }
+
+    fn store(&mut self, address: u64, size: u64, value: u64) -> Result<(), Trap> {
+        if address % size != 0 {
+            return Err(Trap::Fault);
+        }
+        let at = self.translate(address, Access::Store).ok_or(Trap::Fault)?;
+        self.memory[at..at + size as usize].copy_from_slice(&value.to_le_bytes()[..size as usize]);
+        Ok(())
+    }
+
+    fn set(&mut self, register: usize, value: u64) {
+        if register != 0 {
+            self.registers[register] = value;
+        }
+    }
+
+    fn step(&mut self) -> Result<(), Trap> {
+        let word = self.load(self.pc, 4, Access::Fetch)? as u32;
+        let rd = (word >> 7 & 31) as usize;
+        let a = self.registers[(word >> 15 & 31) as usize];
+        let b = self.registers[(word >> 20 & 31) as usize];
+        let funct3 = word >> 12 & 7;
+        let funct7 = word >> 25;
+        let imm = (word as i32 >> 20) as i64 as u64;
+        let next = self.pc.wrapping_add(4);
+        match word & 0x7f {
+            0x37 => self.set(rd, (word & 0xffff_f000) as i32 as i64 as u64),
+            0x17 => self.set(rd, self.pc.wrapping_add((word & 0xffff_f000) as i32 as i64 as u64)),
+            0x6f => {
+                let offset = (word as i32 >> 31 << 20) as u32
+                    | word & 0xff000
+                    | word >> 9 & 0x800
+                    | word >> 20 & 0x7fe;
+                let target = self.pc.wrapping_add(offset as i32 as i64 as u64);
+                return self.jump(rd, target, next);
+            }
+            0x67 if funct3 == 0 => return self.jump(rd, a.wrapping_add(imm) & !1, next),
+            0x63 => {
+                let taken = match funct3 {
+                    0 => a == b,
+                    1 => a != b,
+                    4 => (a as i64) < b as i64,
+                    5 => a as i64 >= b as i64,
+                    6 => a < b,
+                    7 => a >= b,
+                    _ => return Err(Trap::Fault),
+                };
+                if taken {
+                    let offset = (word as i32 >> 31 << 12) as u32
+                        | word << 4 & 0x800
+                        | word >> 20 & 0x7e0
+                        | word >> 7 & 0x1e;
+                    let target = self.pc.wrapping_add(offset as i32 as i64 as u64);
+                    return self.jump(0, target, next);
+                }
+            }
+            0x03 => {
+                let address = a.wrapping_add(imm);
+                let value = match funct3 {
+                    0 => self.load(address, 1, Access::Load)? as i8 as i64 as u64,
+                    1 => self.load(address, 2, Access::Load)? as i16 as i64 as u64,
+                    2 => self.load(address, 4, Access::Load)? as i32 as i64 as u64,
+                    3 => self.load(address, 8, Access::Load)?,
+                    4 => self.load(address, 1, Access::Load)?,
+                    5 => self.load(address, 2, Access::Load)?,
+                    6 => self.load(address, 4, Access::Load)?,
+                    _ => return Err(Trap::Fault),
+                };
+                self.set(rd, value);
+            }
+            0x23 if funct3 < 4 => {
+                let offset = (word as i32 >> 25 << 5) as i64 | (word >> 7 & 31) as i64;
+                self.store(a.wrapping_add(offset as u64), 1 << funct3, b)?;
+            }
+            0x13 => {
+                let amount = word >> 20 & 63;
+                let value = match (funct3, word >> 26) {
+                    (0, _) => a.wrapping_add(imm),
+                    (1, 0) => a << amount,
+                    (2, _) => ((a as i64) < imm as i64) as u64,
+                    (3, _) => (a < imm) as u64,
+                    (4, _) => a ^ imm,
+                    (5, 0) => a >> amount,
+                    (5, 16) => (a as i64 >> amount) as u64,
+                    (6, _) => a | imm,
+                    (7, _) => a & imm,
+                    _ => return Err(Trap::Fault),
+                };
+                self.set(rd, value);
+            }
+            0x33 => {
+                let value = match (funct3, funct7) {
+                    (0, 0) => a.wrapping_add(b),
+                    (0, 32) => a.wrapping_sub(b),
+                    (1, 0) => a << (b & 63),
+                    (2, 0) => ((a as i64) < b as i64) as u64,
+                    (3, 0) => (a < b) as u64,
+                    (4, 0) => a ^ b,
+                    (5, 0) => a >> (b & 63),
+                    (5, 32) => (a as i64 >> (b & 63)) as u64,
+                    (6, 0) => a | b,
+                    (7, 0) => a & b,
+                    _ => return Err(Trap::Fault),
+                };
+                self.set(rd, value);
+            }
+            0x1b => {
+                let amount = word >> 20 & 31;
+                let value = match (funct3, funct7) {
+                    (0, _) => (a as i32).wrapping_add(imm as i32),
+                    (1, 0) => (a as i32) << amount,
+                    (5, 0) => (a as u32 >> amount) as i32,
+                    (5, 32) => a as i32 >> amount,
+                    _ => return Err(Trap::Fault),
+                };
+                self.set(rd, value as i64 as u64);
+            }
+            0x3b => {
+                let value = match (funct3, funct7) {
+                    (0, 0) => (a as i32).wrapping_add(b as i32),
+                    (0, 32) => (a as i32).wrapping_sub(b as i32),
+                    (1, 0) => (a as i32) << (b & 31),
+                    (5, 0) => (a as u32 >> (b & 31)) as i32,
+                    (5, 32) => a as i32 >> (b & 31),
+                    _ => return Err(Trap::Fault),
+                };
+                self.set(rd, value as i64 as u64);
+            }
+            0x0f if funct3 == 0 => {}
+            0x73 if word == 0x73 => return Err(Trap::Call),
+            _ => return Err(Trap::Fault),
+        }
+        self.pc = next;
+        Ok(())
+    }
+
+    fn jump(&mut self, rd: usize, target: u64, next: u64) -> Result<(), Trap> {
+        if target % 4 != 0 {
+            return Err(Trap::Fault);
+        }
+        self.set(rd, next);
+        self.pc = target;
+        Ok(())
+    }
+
+    // One call; a status where the program ends.
+    fn call(&mut self) -> Option<i32> {
+        self.pc = self.pc.wrapping_add(4);
+        let [a0, a1, a2] = [10, 11, 12].map(|register| self.registers[register]);
+        let answer = match self.registers[17] as i32 {
+            2 => return Some(a0 as i32),
+            12 => self.sbrk(a0 as i32 as i64),
+            16 => self.write(a1, a2 as i32 as i64),
+            _ => None,
+        };
+        self.registers[10] = answer.unwrap_or(u64::MAX);
+        None
+    }
+
+    fn sbrk(&mut self, by: i64) -> Option<u64> {
+        let old = self.size;
+        let new = old.checked_add_signed(by)?;
+        while self.size > new {
+            self.unmap()?;
+        }
+        while self.size < new {
+            self.map(R | W | U)?;
+        }
+        Some(old)
+    }
+
+    fn write(&mut self, from: u64, count: i64) -> Option<u64> {
+        let count = u64::try_from(count).ok()?;
+        let mut bytes = Vec::new();
+        for address in from..from.checked_add(count)? {
+            bytes.push(self.memory[self.translate(address, Access::Load)?]);
+        }
+        std::io::stdout().write_all(&bytes).ok()?;
+        Some(count)
+    }
+}
+
+fn main() {
+    let words: Vec<String> = std::env::args().collect();
+    let frames = words[1].parse().expect("a number of frames");
+    let program = std::fs::read(&words[2]).expect("a program");
+    let steps: u64 = words[3].parse().expect("a number of steps");
+    let mut machine = Machine::new(frames, &program).expect("frames for the program");
+    for done in 1..=steps {
+        let status = match machine.step() {
+            Ok(()) => None,
+            Err(Trap::Call) => machine.call(),
+            Err(Trap::Fault) => Some(-1),
+        };
+        if let Some(status) = status {
+            eprintln!("exit {status} after {done} steps");
+            return;
+        }
+    }
+    eprintln!("running after {steps} steps");
+}

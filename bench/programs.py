@@ -1,0 +1,132 @@
+"""The flat programs of the measurements, from their instructions.
+
+Each line is an instruction word, made by the format functions below, beside its assembly text.
+"""
+
+import struct
+
+ZERO, SP, A0, A7 = 0, 2, 10, 17
+T0, T1, T2, T3, T4, T5 = 5, 6, 7, 28, 29, 30
+
+EXIT, SBRK = 2, 12
+
+
+def r_type(funct7, rs2, rs1, funct3, rd, opcode):
+    return funct7 << 25 | rs2 << 20 | rs1 << 15 | funct3 << 12 | rd << 7 | opcode
+
+
+def addi(rd, rs1, imm):
+    return (imm & 0xFFF) << 20 | rs1 << 15 | rd << 7 | 0x13
+
+
+def slli(rd, rs1, amount):
+    return amount << 20 | rs1 << 15 | 1 << 12 | rd << 7 | 0x13
+
+
+def lui(rd, imm):
+    return (imm & 0xFFFFF) << 12 | rd << 7 | 0x37
+
+
+def add(rd, rs1, rs2):
+    return r_type(0, rs2, rs1, 0, rd, 0x33)
+
+
+def xor(rd, rs1, rs2):
+    return r_type(0, rs2, rs1, 4, rd, 0x33)
+
+
+def ld(rd, offset, rs1):
+    return (offset & 0xFFF) << 20 | rs1 << 15 | 3 << 12 | rd << 7 | 0x03
+
+
+def sd(rs2, offset, rs1):
+    high, low = offset >> 5 & 0x7F, offset & 31
+    return r_type(high, rs2, rs1, 3, low, 0x23)
+
+
+def branch(funct3, rs1, rs2, offset):
+    high = (offset >> 12 & 1) << 6 | offset >> 5 & 0x3F
+    low = (offset >> 1 & 15) << 1 | offset >> 11 & 1
+    return r_type(high, rs2, rs1, funct3, low, 0x63)
+
+
+def bne(rs1, rs2, offset):
+    return branch(1, rs1, rs2, offset)
+
+
+def bltu(rs1, rs2, offset):
+    return branch(6, rs1, rs2, offset)
+
+
+ECALL = 0x00000073
+
+
+def flat(words, size=0):
+    """The bytes of the words, with zeros up to `size`."""
+    return b"".join(struct.pack("<I", word) for word in words).ljust(size, b"\0")
+
+
+def tight_loop():
+    """16777216 rounds of six instructions on registers: 100663300 steps."""
+    return flat(
+        [
+            lui(T0, 0x1000),  #         lui  t0, 0x1000
+            addi(T1, T1, 3),  # round:  addi t1, t1, 3
+            xor(T2, T2, T1),  #         xor  t2, t2, t1
+            slli(T3, T1, 1),  #         slli t3, t1, 1
+            add(T2, T2, T3),  #         add  t2, t2, t3
+            addi(T0, T0, -1),  #        addi t0, t0, -1
+            bne(T0, ZERO, -20),  #      bne  t0, zero, round
+            addi(A0, ZERO, 0),  #       addi a0, zero, 0
+            addi(A7, ZERO, EXIT),  #    addi a7, zero, 2
+            ECALL,  #                   ecall
+        ]
+    )
+
+
+def memory_loop():
+    """8192 rounds that add to each of 4096 words of eight bytes, where every second instruction
+    loads or stores: 134242309 steps."""
+    return flat(
+        [
+            lui(T0, 0x2),  #            lui  t0, 0x2
+            lui(T5, 0x9),  #            lui  t5, 0x9            # the end of the words
+            lui(T4, 0x1),  # round:     lui  t4, 0x1            # the first word
+            ld(T1, 0, T4),  # word:     ld   t1, 0(t4)
+            add(T1, T1, T0),  #         add  t1, t1, t0
+            sd(T1, 0, T4),  #           sd   t1, 0(t4)
+            ld(T2, 8, T4),  #           ld   t2, 8(t4)
+            add(T2, T2, T1),  #         add  t2, t2, t1
+            sd(T2, 8, T4),  #           sd   t2, 8(t4)
+            addi(T4, T4, 16),  #        addi t4, t4, 16
+            bltu(T4, T5, -28),  #       bltu t4, t5, word
+            addi(T0, T0, -1),  #        addi t0, t0, -1
+            bne(T0, ZERO, -40),  #      bne  t0, zero, round
+            addi(A0, ZERO, 0),  #       addi a0, zero, 0
+            addi(A7, ZERO, EXIT),  #    addi a7, zero, 2
+            ECALL,  #                   ecall
+        ],
+        0x9000,
+    )
+
+
+def grow_and_shrink(pages, times):
+    """So many times sbrk up by so many pages and down again; `times` is a multiple of 1000."""
+    return flat(
+        [
+            addi(T1, ZERO, times // 1000),  # addi t1, zero, times / 1000
+            addi(A7, ZERO, SBRK),  #    addi a7, zero, 12
+            addi(T0, ZERO, 1000),  # thousand: addi t0, zero, 1000
+            lui(A0, pages),  # round:   lui  a0, pages
+            ECALL,  #                   ecall
+            lui(A0, -pages),  #         lui  a0, -pages
+            ECALL,  #                   ecall
+            addi(T0, T0, -1),  #        addi t0, t0, -1
+            bne(T0, ZERO, -20),  #      bne  t0, zero, round
+            addi(T1, T1, -1),  #        addi t1, t1, -1
+            bne(T1, ZERO, -32),  #      bne  t1, zero, thousand
+            addi(A0, ZERO, 0),  #       addi a0, zero, 0
+            addi(A7, ZERO, EXIT),  #    addi a7, zero, 2
+            ECALL,  #                   ecall
+        ]
+    )

@@ -1,0 +1,74 @@
+#!/usr/bin/env python3
+"""Times `xv6 flat` on flat programs, beside a plain Rust interpreter of the same design.
+
+    bench/run.py PROGRAM
+
+PROGRAM is the built `xv6`. Each flat program runs in both, turn by turn, and the least processor
+times, their ratio and the peak memory of `xv6` are printed. Two programs take more than 100 million
+steps. The others ask for memory and give it back, so many pages at a time: where a page costs the
+same however large the space is, both take about as long. `rustc` has to be in the PATH.
+"""
+
+import os
+import pathlib
+import subprocess
+import sys
+import tempfile
+
+sys.dont_write_bytecode = True
+
+import programs
+
+HERE = pathlib.Path(__file__).resolve().parent
+STEPS = 1_000_000_000
+TURNS = 3
+
+# The name of a program, its frames and its bytes.
+CASES = [
+    ("tight loop", 256, programs.tight_loop()),
+    ("memory", 256, programs.memory_loop()),
+    ("sbrk by 4096 pages, 1000 times", 8192, programs.grow_and_shrink(4096, 1000)),
+    ("sbrk by 64 pages, 64000 times", 8192, programs.grow_and_shrink(64, 64000)),
+]
+
+
+def run(words, wanted):
+    """The processor time in seconds and the peak memory in KiB of the words, and what they write to
+    standard error, which has to begin with `wanted`."""
+    with tempfile.TemporaryFile() as told:
+        child = subprocess.Popen(words, stdout=subprocess.DEVNULL, stderr=told)
+        _, status, used = os.wait4(child.pid, 0)
+        child.returncode = os.waitstatus_to_exitcode(status)
+        told.seek(0)
+        line = told.read().decode().strip()
+    if child.returncode or not line.startswith(wanted):
+        sys.exit(f"{' '.join(map(str, words))}: status {child.returncode}: {line}")
+    return used.ru_utime + used.ru_stime, used.ru_maxrss, line
+
+
+def main():
+    if len(sys.argv) != 2:
+        sys.exit(__doc__)
+    program = pathlib.Path(sys.argv[1]).resolve()
+    with tempfile.TemporaryDirectory() as folder:
+        room = pathlib.Path(folder)
+        baseline, script, image = room / "baseline", room / "script", room / "program"
+        source = HERE / "baseline.rs"
+        subprocess.run(["rustc", "-O", "--edition", "2021", "-o", baseline, source], check=True)
+        script.write_text(f"step {STEPS}\n")
+        for name, frames, code in CASES:
+            image.write_bytes(code)
+            flat = [program, "flat", "--frames", str(frames), image, script]
+            plain = [baseline, str(frames), image, str(STEPS)]
+            ours, theirs = [], []
+            for _ in range(TURNS):
+                ours.append(run(flat, "halt 1 InitEnded 0"))
+                theirs.append(run(plain, "exit 0 after "))
+            steps = int(theirs[0][2].split()[3])
+            took, other = min(ours)[0], min(theirs)[0]
+            print(f"{name}: {steps} steps: xv6 {took:.2f} s, plain Rust {other:.2f} s, "
+                  f"ratio {took / other:.2f}, peak {max(ran[1] for ran in ours)} KiB", flush=True)
+
+
+if __name__ == "__main__":
+    main()

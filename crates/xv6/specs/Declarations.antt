@@ -1,0 +1,58 @@
+-- The command line that the program declares, and what a job says of it.
+use Rattle.std.specs.Prelude.{◌≡◌, ℕ, pos, List, [], ◌∷◌, Option, Some, true, false, codes}
+use Rattle.std.specs.Str.Parse.{IsNumeral, digits_value, without_leading_plus}
+use Rattle.clap.specs.Words.{App, Row, Rule, Shape, Text, app_of, first_of, new_app, new_rule, one_of, with_rule, with_subcommand}
+use Rattle.clap.specs.declared.builder.command.Command.{Command}
+use Rattle.clap.specs.declared.builder.command.Command.TheViews.{out-Command}
+use Rattle.clap.specs.declared.builder.value_parser.ValueParser.TheVariants.{Signed}
+use Rattle.xv6.specs.declared.jobs.Flat.{Flat}
+use Rattle.xv6.specs.declared.jobs.Job.{Job}
+use Rattle.xv6.specs.declared.jobs.Job.TheVariants as job
+
+-- a word that has to be there
+abbrev pub word_rule : Text → Rule
+word_rule name = record (new_rule name) { required = true }
+
+-- --frames N, a number of 32 bits, 256 where it is left out
+abbrev pub frames_rule : Rule
+frames_rule = record (new_rule (codes "frames")) {
+  long = Some (codes "frames");
+  value_names = 1;
+  parser = Some (Signed (pos 0) (pos 4294967295));
+  defaults = codes "256" ∷ [];
+}
+
+-- flat [--frames N] FILE SCRIPT
+abbrev pub declared_flat : App
+declared_flat = with_rule (with_rule (with_rule (new_app (codes "flat")) frames_rule) (word_rule (codes "FILE"))) (word_rule (codes "SCRIPT"))
+
+-- a command has to be there
+abbrev pub declared_top : App
+declared_top = record (new_app (codes "xv6")) {
+  top = record (new_app (codes "xv6")).top { subcommand_required = true; arg_required_else_help = true };
+}
+
+abbrev pub declared : App
+declared = with_subcommand declared_top declared_flat.top
+
+-- the command declares no more than this, for itself alone
+pub record DeclaresOwn (app : App) (command : Command) : Type 0 where
+  pub shape : app_of command ≡ app
+  pub local : (out-Command command).has_globals ≡ false
+
+-- the text is n in decimal digits, after a plus that may stand first
+pub record Writes (text : Text) (n : ℕ) : Type 0 where
+  pub numeral : IsNumeral 10 (without_leading_plus text)
+  pub value : digits_value 10 (without_leading_plus text) ≡ n
+
+-- the words and the number are those found
+pub record IsFlat (found : List Row) (flat : Flat) : Type 0 where
+  pub text : Text
+  pub given : one_of (codes "frames") found ≡ Some text
+  pub frames : Writes text flat.frames
+  pub file : first_of (codes "FILE") found ≡ Some flat.file.now
+  pub script : first_of (codes "SCRIPT") found ≡ Some flat.script.now
+
+-- the job is the command found, with its words
+abbrev pub IsJob : Option (Text × List Row) → Job → Type 0
+IsJob found (job.Flat flat) = (rows : List Row) × (found ≡ Some (codes "flat", rows)) × IsFlat rows flat

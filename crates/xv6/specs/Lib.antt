@@ -1,0 +1,4 @@
+pub mod Commands
+pub mod Declarations
+pub mod Plays
+pub mod Scripts

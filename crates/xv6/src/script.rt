@@ -1,0 +1,6 @@
+//! Scripts: what happens to a machine, one command a line.
+
+mod fields;
+mod lines;
+
+pub use lines::{Command, ScriptFault};
