@@ -110,12 +110,15 @@ def memory_loop():
     )
 
 
-def grow_and_shrink(pages, times):
-    """So many times sbrk up by so many pages and down again; `times` is a multiple of 1000."""
+def grow_and_shrink(before, pages, times):
+    """One sbrk up by `before` pages, and then so many times up by so many pages and down again;
+    `times` is a multiple of 1000."""
     return flat(
         [
-            addi(T1, ZERO, times // 1000),  # addi t1, zero, times / 1000
             addi(A7, ZERO, SBRK),  #    addi a7, zero, 12
+            lui(A0, before),  #         lui  a0, before
+            ECALL,  #                   ecall
+            addi(T1, ZERO, times // 1000),  # addi t1, zero, times / 1000
             addi(T0, ZERO, 1000),  # thousand: addi t0, zero, 1000
             lui(A0, pages),  # round:   lui  a0, pages
             ECALL,  #                   ecall

@@ -1,5 +1,5 @@
 -- What a step of the kernel comes to, from what was made of its state.
-use Rattle.machine.proofs.RunLemmas.{Appends-none}
+use Rattle.machine.specs.RunLemmas.{Appends-none}
 use Rattle.machine.specs.declared.kernel.Stage.TheVariants.{Ended, Running}
 use Rattle.machine.specs.Does.{Does, Makes, fails}
 use Rattle.machine.specs.Solo.{Solo, halted_in, process_of, state_of}

@@ -6,3 +6,5 @@ pub mod Does
 pub mod Gives
 pub mod Seen
 pub mod Flat
+pub mod Runs
+pub mod RunLemmas

@@ -1,6 +1,6 @@
 -- The events of a part of a script.
 use Rattle.std.proofs.Common.{◌≡◌, ◌∙◌, ◌+◌, ◌<◌, ℕ, List, [], ◌∷◌, ◌++◌, ap, sym, refl, take, drop, length, append_assoc, append-nil, get_or, replicate, map, take-append-drop}
-use Rattle.std.proofs.lemmas.List.{drop_at, get_or-map, get_or-replicate, length-map, length-replicate, take_more}
+use Rattle.std.proofs.lemmas.List.{get_or-map, get_or-replicate, length-map, length-replicate, take_more}
 use Rattle.unixmodel.specs.declared.event.Event.{Event}
 use Rattle.unixmodel.specs.declared.event.Event.TheVariants.{Key}
 use Rattle.xv6.specs.Plays.{events_of, script_events}

@@ -1,8 +1,7 @@
 -- Lemmas on the lines of a script.
-use Rattle.std.proofs.Common.{◌≡◌, ◌+◌, ◌<◌, ◌++◌, ℕ, List, [], ◌∷◌, Some, refl, sym, subst, ap, length, take, slice_index, arith}
+use Rattle.std.proofs.Common.{◌≡◌, ◌+◌, ◌<◌, ◌++◌, ℕ, List, [], ◌∷◌, refl, length, take, arith}
 use Rattle.std.specs.List.{slice_index_or}
 use Rattle.std.proofs.lemmas.List.{take_more}
-use Rattle.xv6.specs.Scripts.{hex_pair}
 use Rattle.xv6.specs.Commands.{IsCommand, IsScript}
 use Rattle.xv6.specs.declared.script.lines.Command.{Command}
 

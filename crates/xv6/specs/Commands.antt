@@ -1,5 +1,5 @@
 -- What a script says.
-use Rattle.std.specs.Prelude.{◌≡◌, ◌⊎◌, ℕ, ◌+◌, ◌<◌, ◌++◌, List, [], ◌∷◌, Some, codes, take, length, ⊤}
+use Rattle.std.specs.Prelude.{◌≡◌, ℕ, ◌+◌, ◌<◌, ◌++◌, List, [], ◌∷◌, codes, take, length, ⊤}
 use Rattle.std.specs.List.{slice_index_or}
 use Rattle.xv6.specs.Scripts.{IsCount, IsHexOf}
 use Rattle.xv6.specs.declared.script.lines.Command.{Command}

@@ -1,5 +1,5 @@
 -- The events that a script stands for.
-use Rattle.std.specs.Prelude.{ℕ, List, [], ◌∷◌, ◌++◌, map, replicate}
+use Rattle.std.specs.Prelude.{List, [], ◌∷◌, ◌++◌, map, replicate}
 use Rattle.unixmodel.specs.declared.event.Event.{Event}
 use Rattle.unixmodel.specs.declared.event.Event.TheVariants.{Key, Step, Tick}
 use Rattle.xv6.specs.declared.script.lines.Command.{Command}

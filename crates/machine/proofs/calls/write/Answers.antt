@@ -1,6 +1,6 @@
 use Rattle.machine.proofs.calls.write.Goals as goal
 use Rattle.machine.proofs.Rows.{calls-write-below, calls-write-descriptor, calls-write-nothing, calls-write-print, calls-write-unreadable}
-use Rattle.machine.proofs.RunLemmas.{Appends-none}
+use Rattle.machine.specs.RunLemmas.{Appends-none}
 use Rattle.machine.specs.Solo.{Solo, argument}
 use Rattle.std.proofs.Common.{◌≡◌, ◌<◌, ◌≤◌, ℕ, ap, arith, is_some, sym, true, false, ◌∙◌, None, Some, []}
 use Rattle.std.proofs.lemmas.Result.{err_from_is_err_and}

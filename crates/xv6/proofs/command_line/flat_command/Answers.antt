@@ -1,6 +1,6 @@
-use Rattle.std.proofs.Common.{rules, ◌≡◌, ◌∙◌, ap₂, codes, false, refl}
+use Rattle.std.proofs.Common.{◌≡◌, ◌∙◌, ap₂, codes, false, refl}
 use Rattle.std.proofs.lemmas.Result.{IfOk-weaker}
-use Rattle.clap.specs.Simple.{App, app_of, new_app, with_rule}
+use Rattle.clap.specs.Simple.{app_of, new_app, with_rule}
 use Rattle.clap.specs.declared.builder.command.Command.TheViews.{out-Command}
 use Rattle.xv6.specs.Declarations.{frames_rule, word_rule}
 use Rattle.xv6.proofs.command_line.flat_command.Goals as goal

@@ -1,6 +1,6 @@
 use Rattle.std.proofs.Common.{arith}
 use Rattle.std.proofs.lemmas.Result.{err_from_is_err_and}
-use Rattle.machine.proofs.RunLemmas.{Rises-later, so_far_at_first, up_now}
+use Rattle.machine.specs.RunLemmas.{Rises-later, so_far_at_first, up_now}
 use Rattle.xv6.proofs.EventLemmas.{script-next, script-whole}
 use Rattle.xv6.proofs.PlayLemmas.{ends_with, goes_on_by, stops_in}
 use Rattle.xv6.proofs.play.play.Goals as goal

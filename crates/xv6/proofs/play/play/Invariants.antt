@@ -1,5 +1,5 @@
 use Rattle.std.proofs.Common.{◌≤◌, take}
-use Rattle.machine.proofs.RunLemmas.{SoFar}
+use Rattle.machine.specs.RunLemmas.{SoFar}
 use Rattle.xv6.specs.Plays.{script_events}
 use Rattle.xv6.proofs.play.play.Given as goal
 

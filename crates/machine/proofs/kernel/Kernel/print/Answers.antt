@@ -1,7 +1,7 @@
 use Rattle.machine.proofs.kernel.Kernel.print.Goals as goal
 use Rattle.machine.proofs.KernelLemmas.{front-rest}
 use Rattle.machine.proofs.Rows.{readable-count}
-use Rattle.machine.proofs.RunLemmas.{Appends-none, Appends-trans, begins_more}
+use Rattle.machine.specs.RunLemmas.{Appends-none, Appends-trans, begins_more}
 use Rattle.std.proofs.Common.{◌≡◌, ◌+◌, ◌<◌, ◌≤◌, ap, arith, drop, length, take, ◌++◌, ◌∙◌}
 use Rattle.std.proofs.lemmas.List.{length-drop}
 use Rattle.std.proofs.lemmas.Result.{err_from_is_err_and}

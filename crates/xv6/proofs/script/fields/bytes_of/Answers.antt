@@ -1,7 +1,7 @@
-use Rattle.std.proofs.Common.{arith, rules, inl, inr, ◌≡◌, ◌+◌, ◌*◌, ◌-◌, ◌<◌, ◌++◌, ◌∷◌, [], List, ℕ, Some, length, slice_index, get_or}
+use Rattle.std.proofs.Common.{arith, rules, inl, inr, ◌≡◌, ◌+◌, ◌*◌, ◌<◌, ◌++◌, ◌∷◌, [], List, ℕ, Some, length, slice_index}
 use Rattle.std.proofs.lemmas.Grind.{common_steps}
 use Rattle.std.proofs.lemmas.Bool.{cases_lt}
-use Rattle.std.proofs.lemmas.List.{get_or_append_left, get_or-append_right}
+use Rattle.std.proofs.lemmas.List.{get_or_append_left}
 use Rattle.xv6.specs.Scripts.{hex_pair}
 use Rattle.xv6.proofs.script.fields.bytes_of.Goals as goal
 

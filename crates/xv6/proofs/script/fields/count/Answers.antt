@@ -1,4 +1,4 @@
-use Rattle.std.proofs.Common.{arith, rules, ◌+◌, ◌<◌, ◌≤◌, ℕ, length, take, slice_index}
+use Rattle.std.proofs.Common.{arith, rules, ◌+◌, ◌<◌, slice_index}
 use Rattle.std.proofs.lemmas.Int.Digits.{digits_more, digits_value_more}
 use Rattle.std.proofs.lemmas.Str.Parse.{digit_at, digits_value-take-le}
 use Rattle.std.specs.Char.{digit_value}

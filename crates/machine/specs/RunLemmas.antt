@@ -3,7 +3,7 @@ use Rattle.std.proofs.Common.{◌≡◌, ℕ, ℤ, ◌+◌, ◌<◌, ◌≤◌, 
 use Rattle.std.proofs.lemmas.List.{take-append-drop}
 use Rattle.std.specs.Io.KnownBytes.{Appends}
 use Rattle.console.specs.Output.{AppendsBeginning}
-use Rattle.machine.proofs.Runs.{run-append, run-more, then_runs}
+use Rattle.machine.specs.Runs.{run-append, run-more, then_runs}
 use Rattle.machine.specs.declared.halt.Halt.{Halt}
 use Rattle.machine.specs.declared.halt.Halt.TheVariants.{Console, Device, Halted, InitEnded}
 use Rattle.machine.specs.Gives.{IsDone, RunGives, StepGives}
