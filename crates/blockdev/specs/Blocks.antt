@@ -1,5 +1,5 @@
--- What a block device holds, and what its failures say.
-use Rattle.std.specs.Prelude.{◌≡◌, ℕ, ◌+◌, ◌-◌, ◌*◌, ◌/◌, ◌^◌, ◌<◌, ◌≤◌, List, length, take, drop, map, Result, IsErr, min, get_or, []}
+-- What a block device holds.
+use Rattle.std.specs.Prelude.{◌≡◌, ℕ, ◌*◌, ◌/◌, ◌<◌, List, length, take, drop, map, get_or, []}
 use Rattle.std.specs.List.{range_with_len}
 
 -- the bytes of the k-th block
@@ -17,12 +17,3 @@ block_at blocks n = get_or blocks n []
 -- each block has 1024 bytes
 abbrev pub AreBlocks : List (List ℕ) → Type 0
 AreBlocks blocks = (n : ℕ) → n < length blocks → length (block_at blocks n) ≡ 1024
-
--- the count of failures rose, or stands at its top
-abbrev pub HasFailed : ℕ → ℕ → Type 0
-HasFailed before now = min (before + 1) (2 ^ 64 - 1) ≤ now
-
--- the count of failures never falls, and an error is told only where it rose or stands at its top
-pub record HasCause {T E : Type 0} (before now : ℕ) (result : Result T E) : Type 0 where
-  pub later : before ≤ now
-  pub failed : IsErr result → HasFailed before now

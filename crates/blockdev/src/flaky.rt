@@ -1,7 +1,7 @@
 //! A disk in memory of which one access fails, to test how callers take a failure.
 
 ghost use Rattle.std.specs.Prelude.{◌≡◌, ℕ, ◌-◌, ◌<◌, ◌↔◌, IsErr, IsTrue};
-ghost use Rattle.blockdev.specs.Blocks.{HasCause};
+ghost use Rattle.unixmodel.specs.Failures.{HasCause};
 
 use crate::{Block, BlockDev, DeviceFault, MemDisk};
 use std::marker::Model;

@@ -5,7 +5,8 @@
 #![tactic(auto)]
 
 ghost use Rattle.std.specs.Prelude.{◌≡◌, ◌≢◌, ℕ, ◌+◌, ◌-◌, ◌*◌, ◌/◌, ◌%◌, ◌^◌, ◌<◌, ◌≤◌, ◌↔◌, List, length, OnOk, IfOk, IsOk, IsErr, slice_set, vec_len};
-ghost use Rattle.blockdev.specs.Blocks.{HasCause, AreBlocks, blocks_of, block_of, block_at};
+ghost use Rattle.blockdev.specs.Blocks.{AreBlocks, blocks_of, block_of, block_at};
+ghost use Rattle.unixmodel.specs.Failures.{HasCause};
 
 mod flaky;
 

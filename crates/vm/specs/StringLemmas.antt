@@ -4,7 +4,7 @@ use Rattle.std.specs.Prelude.{if◌then◌else◌, slice_get, option_map}
 use Rattle.std.proofs.lemmas.Bool.{lt-leb, le-leb}
 use Rattle.unixmodel.specs.declared.trap.Access.{Access}
 use Rattle.unixmodel.specs.declared.trap.Access.TheVariants.{Load}
-use Rattle.unixmodel.specs.Memory.{Memory, reach, before_nul, string_at}
+use Rattle.unixmodel.specs.Memory.{Memory, reach, before_nul, path_at, short_path, string_at}
 use Rattle.vm.specs.Reach.{IsSized, piece_at, short_string}
 use Rattle.vm.specs.ReachLemmas.{reach-front, reach-drop, reach-page}
 
@@ -105,3 +105,12 @@ string-long bytes buffer i x was e ne =
 pub string-fits : (a : Access) (mem : Memory) (at i : ℕ) → IsSized mem → length mem ≤ 32768 → at < 2 ^ 64 → i ≤ length (reach a mem at) → at + i < 2 ^ 64
 string-fits a mem at zero h small fits low = omega (arith, fits)
 string-fits a mem at (suc i) h small fits low = omega (arith, (reach-page a mem at i h (omega (arith, low))).0, small)
+
+path-short : (o : Option (List ℕ)) → short_path o ≡ short_string 127 o
+path-short None = refl
+path-short (Some s) = refl
+
+-- a path is a string of no more than 127 bytes
+pub path-string : (mem : Memory) (at : ℕ) → path_at mem at ≡ short_string 127 (string_at mem at)
+unfolding path_at
+path-string mem at = path-short (string_at mem at)

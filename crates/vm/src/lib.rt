@@ -342,3 +342,148 @@ impl Space {
         table.destroy(ram, frames);
     }
 }
+
+#[cfg(test)]
+mod tests {
+    use super::*;
+    use std::test::Fail;
+
+    const DATA: Perm = Perm {
+        writable: true,
+        executable: false,
+        user: true,
+    };
+
+    const TEXT: Perm = Perm {
+        writable: false,
+        executable: true,
+        user: true,
+    };
+
+    #[test]
+    fn gives_back_each_frame(rt: HostRuntime) -> Result<(), Fail> {
+        let mut ram = Ram::new(rt.alloc(), 32)?;
+        let mut frames = Frames::new(&mut ram);
+        let mut space = Space::new(&mut ram, &mut frames)?;
+        assert_eq!(rt; frames.free(), 28);
+        space.grow(&mut ram, &mut frames, 5000, DATA)?;
+        // two pages and two tables
+        assert_eq!(rt; frames.free(), 24);
+        assert_eq!(rt; space.size(), 5000);
+        space.shrink(&mut ram, &mut frames, 4000);
+        assert_eq!(rt; frames.free(), 25);
+        assert_eq!(rt; space.size(), 1000);
+        space.destroy(&mut ram, &mut frames);
+        assert_eq!(rt; frames.free(), 32);
+        Ok(())
+    }
+
+    #[test]
+    fn copies_into_frames_of_its_own(rt: HostRuntime) -> Result<(), Fail> {
+        let mut ram = Ram::new(rt.alloc(), 16)?;
+        let mut frames = Frames::new(&mut ram);
+        let mut space = Space::new(&mut ram, &mut frames)?;
+        space.grow(&mut ram, &mut frames, 4096, DATA)?;
+        space.fill(&mut ram, 0, b"old");
+        let child = space.copy(&mut ram, &mut frames)?;
+        assert_eq!(rt; frames.free(), 2);
+        let mut back = [0; 3];
+        child.copy_in(&ram, 0, &mut back)?;
+        assert_eq!(rt; back, *b"old");
+        assert_eq!(rt;
+            child.copy(&mut ram, &mut frames).err(),
+            Some(VmFault::Frames)
+        );
+        child.destroy(&mut ram, &mut frames);
+        assert_eq!(rt; frames.free(), 9);
+        Ok(())
+    }
+
+    #[test]
+    fn refuses_what_does_not_fit(rt: HostRuntime) -> Result<(), Fail> {
+        let mut ram = Ram::new(rt.alloc(), 8)?;
+        let mut frames = Frames::new(&mut ram);
+        let mut space = Space::new(&mut ram, &mut frames)?;
+        assert_eq!(rt;
+            space.grow(&mut ram, &mut frames, 0x3fffffe001, DATA),
+            Err(VmFault::TooLarge)
+        );
+        assert_eq!(rt;
+            space.grow(&mut ram, &mut frames, 0x3fffffe000, DATA),
+            Err(VmFault::Frames)
+        );
+        assert_eq!(rt;
+            space.grow(&mut ram, &mut frames, 3 * 4096, DATA),
+            Err(VmFault::Frames)
+        );
+        space.grow(&mut ram, &mut frames, 2 * 4096, DATA)?;
+        assert_eq!(rt; frames.free(), 0);
+        Ok(())
+    }
+
+    #[test]
+    fn carries_bytes_over_pages(rt: HostRuntime) -> Result<(), Fail> {
+        let mut ram = Ram::new(rt.alloc(), 32)?;
+        let mut frames = Frames::new(&mut ram);
+        let mut space = Space::new(&mut ram, &mut frames)?;
+        space.grow(&mut ram, &mut frames, 8192, DATA)?;
+        space.copy_out(&mut ram, 4094, b"read\0")?;
+        let mut back = [0; 4];
+        space.copy_in(&ram, 4094, &mut back)?;
+        assert_eq!(rt; back, *b"read");
+        assert_eq!(rt; space.readable(&ram, 4094), b"re".as_slice());
+        assert_eq!(rt; space.copy_string(&ram, 4094, &mut back), Some(4));
+        assert_eq!(rt; space.copy_string(&ram, 4094, &mut back[..3]), None);
+        assert!(rt; space.can_read(&ram, 4094, 4098));
+        assert!(rt; !space.can_read(&ram, 4094, 4099));
+        assert!(rt; !space.can_write(&ram, u64::MAX, 2));
+        assert_eq!(rt;
+            space.copy_out(&mut ram, 8191, b"ab"),
+            Err(VmFault::BadAddress)
+        );
+        assert_eq!(rt;
+            space.copy_in(&ram, 8191, &mut back),
+            Err(VmFault::BadAddress)
+        );
+        Ok(())
+    }
+
+    #[test]
+    fn keeps_text_from_being_written(rt: HostRuntime) -> Result<(), Fail> {
+        let mut ram = Ram::new(rt.alloc(), 32)?;
+        let mut frames = Frames::new(&mut ram);
+        let mut space = Space::new(&mut ram, &mut frames)?;
+        space.grow(&mut ram, &mut frames, 4096, TEXT)?;
+        space.fill(&mut ram, 16, b"code");
+        let mut back = [0; 4];
+        space.copy_in(&ram, 16, &mut back)?;
+        assert_eq!(rt; back, *b"code");
+        assert!(rt; !space.can_write(&ram, 16, 1));
+        assert_eq!(rt; space.find_page(&ram, 0).map(|(_, perm)| perm), Some(TEXT));
+        assert_eq!(rt; space.find_page(&ram, 1), None);
+        Ok(())
+    }
+
+    #[test]
+    fn saves_registers_where_xv6_does(rt: HostRuntime) -> Result<(), Fail> {
+        let mut ram = Ram::new(rt.alloc(), 8)?;
+        let mut frames = Frames::new(&mut ram);
+        let space = Space::new(&mut ram, &mut frames)?;
+        let mut registers = [0; 32];
+        registers[1] = 11;
+        registers[18] = 12;
+        registers[31] = u64::MAX;
+        space.save_registers(&mut ram, &registers, 4096);
+        let frame = space.trap;
+        assert!(rt; frame.0 < ram.frame_count());
+        // epc, ra, s2 and t6
+        assert_eq!(rt; ram.load_u64(frame, 24), 4096);
+        assert_eq!(rt; ram.load_u64(frame, 40), 11);
+        assert_eq!(rt; ram.load_u64(frame, 176), 12);
+        assert_eq!(rt; ram.load_u64(frame, 280), u64::MAX);
+        let mut back = [7; 32];
+        assert_eq!(rt; space.load_registers(&ram, &mut back), 4096);
+        assert_eq!(rt; back, registers);
+        Ok(())
+    }
+}
