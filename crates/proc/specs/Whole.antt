@@ -1,8 +1,9 @@
 -- What the table comes to in the abstract Unix's state, where the memories of the processes lie elsewhere: in a list
 -- with a memory for each place.
-use Rattle.std.specs.Prelude.{Bool, List, None, Option, Some, [], cond, false, is_none, is_some, length, map, not, option_map, position, slice_index_or, slice_set, suc, true, zero, ℕ, ℤ, ◌&&◌, ◌+◌, ◌<◌, ◌≡◌, ◌==◌, ◌∷◌}
+use Rattle.std.specs.Prelude.{Bool, List, None, Ok, Option, Some, [], cond, false, is_none, is_some, length, map, nat_le, not, option_map, position, slice_index_or, slice_set, suc, true, zero, ℕ, ℤ, ◌&&◌, ◌+◌, ◌<◌, ◌≡◌, ◌≤◌, ◌==◌, ◌∷◌}
 use Rattle.std.specs.List.{prefix_len}
 use Rattle.std.proofs.Common.{ap, arith, refl}
+use Rattle.std.proofs.lemmas.Bool.Decides.{nat_tests}
 use Rattle.std.proofs.lemmas.List.Quantifiers.{position-Some}
 use Rattle.proc.specs.declared.process.Process.{Process}
 use Rattle.proc.specs.declared.table.Seat.{Seat}
@@ -10,7 +11,7 @@ use Rattle.proc.specs.Places as table
 use Rattle.proc.specs.Places.{Places, changed, changed_at, place_where, with_running}
 use Rattle.unixmodel.specs.declared.process.Mode.{Mode}
 use Rattle.unixmodel.specs.declared.process.Mode.TheVariants.{Ready}
-use Rattle.unixmodel.specs.Files.{clear, free_slot, put, slot}
+use Rattle.unixmodel.specs.Files.{clear, free_slot, free_slots, put, slot}
 use Rattle.unixmodel.specs.Memory.{Memory}
 use Rattle.unixmodel.specs.Next.{stopped}
 use Rattle.unixmodel.specs.Outcome as ends
@@ -82,6 +83,23 @@ put_kept-joined (o ∷ os) [] zero p = refl
 put_kept-joined (o ∷ os) [] (suc i) p = ap (λ qs. option_map (with_memory []) o ∷ qs) (put_kept-joined os [] i p)
 put_kept-joined (o ∷ os) (n ∷ ms) zero p = refl
 put_kept-joined (o ∷ os) (n ∷ ms) (suc i) p = ap (λ qs. option_map (with_memory n) o ∷ qs) (put_kept-joined os ms i p)
+
+-- ---- free places
+
+pub joined-free_slots : (n : ℕ) (ms : List Memory) → joined (free_slots n) ms ≡ free_slots n
+unfolding joined free_slots
+joined-free_slots zero ms = refl
+joined-free_slots (suc n) [] = ap (λ qs. None ∷ qs) (joined-free_slots n [])
+joined-free_slots (suc n) (m ∷ ms) = ap (λ qs. None ∷ qs) (joined-free_slots n ms)
+
+-- the first process of all takes place 0
+pub first_joined : (p : Process) (m : Memory) (ms : List Memory) → joined (put (free_slots 64) 0 p) (m ∷ ms) ≡ Some (with_memory m p) ∷ free_slots 63
+unfolding joined free_slots
+first_joined p m ms = ap (λ qs. Some (with_memory m p) ∷ qs) (joined-free_slots 63 ms)
+
+pub seat_of-first : (last pid : ℕ) → pid ≤ 2147483647 → table.seat_of (record { places = free_slots 64; last = last; next_pid = pid }) ≡ Ok (record { place = 0; pid = pid })
+unfolding free_slots
+seat_of-first last pid h = let fits : nat_le pid 2147483647 ≡ true = grind (arith, nat_tests) in rw fits refl
 
 -- ---- a change that leaves the memory as it is
 
