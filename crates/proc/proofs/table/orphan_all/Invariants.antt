@@ -1,0 +1,7 @@
+use Rattle.std.proofs.Common.{option_map, ◌≡◌}
+use Rattle.proc.specs.Places.{orphaned}
+use Rattle.proc.proofs.Mapped.{mapped_to}
+use Rattle.proc.proofs.table.orphan_all.Given as goal
+
+abbrev pub invariant-loop-place : goal.invariant-loop-place
+invariant-loop-place l = l.places ≡ mapped_to (option_map (orphaned l.pid)) l.place-index l.initial.places

@@ -1,0 +1,5 @@
+pub mod Places
+pub mod Pick
+pub mod Sound
+pub mod Whole
+pub mod Turns

@@ -1,0 +1,64 @@
+-- A pick by a test is the search that a turn makes.
+use Rattle.std.specs.Prelude.{Bool, List, None, Option, Some, false, find, map, suc, true, zero, ℕ, ◌+◌, ◌<◌, ◌≡◌, ◌≤◌, ◌⊎◌}
+use Rattle.std.specs.Borrow.{Bor}
+use Rattle.std.specs.Fn.{FnReturns, Shared}
+use Rattle.std.specs.List.{range_with_len}
+use Rattle.std.proofs.Common.{ap, arith, inl, inr, refl, subst, sym, ◌∙◌}
+use Rattle.proc.specs.declared.process.Process.{Process}
+use Rattle.proc.specs.Pick.{Answers, Picks, place_in_round}
+use Rattle.proc.specs.Places.{Places}
+use Rattle.proc.specs.Whole.{with_table}
+use Rattle.unixmodel.specs.Memory.{Memory}
+use Rattle.unixmodel.specs.State.{State, place_limit}
+use Rattle.unixmodel.specs.Turn.{ready, round_from, turn}
+
+at_or_before : (k t : ℕ) → k ≤ t → (k ≡ t) ⊎ (k < t)
+at_or_before k t h = grind arith
+
+module _ (test : ℕ → Bool) (place : ℕ → ℕ) where
+  -- the first number from k on whose place passes
+  find_first : (n k t : ℕ) → k ≤ t → t < k + n → test (place t) ≡ true → ((j : ℕ) → k ≤ j → j < t → test (place j) ≡ false) → find test (map place (range_with_len k n)) ≡ Some (place t)
+  find_first zero k t low high passes before = absurd (omega arith)
+  find_first (suc n) k t low high passes before =
+      elim (at_or_before k t low) [
+        | inl same ↦ (let here : test (place k) ≡ true = rw same passes in rw (here, same) refl)
+        | inr less ↦ (let here : test (place k) ≡ false = before k (omega arith) less in rw here (find_first n (k + 1) t (omega arith) (omega arith) passes (λ j l h. before j (omega arith) h)))
+      ]
+
+  find_none : (n k : ℕ) → ((j : ℕ) → k ≤ j → j < k + n → test (place j) ≡ false) → find test (map place (range_with_len k n)) ≡ None
+  find_none zero k none = refl
+  find_none (suc n) k none =
+      let here : test (place k) ≡ false = none k (omega arith) (omega arith) in
+      rw here (find_none n (k + 1) (λ j l h. none j (omega arith) (omega arith)))
+
+-- the answers may only be those of a test
+abbrev pub AnswersAs : (ℕ → Bool → Type 0) → (ℕ → Bool) → Type 0
+AnswersAs says test = (i : ℕ) (b : Bool) → says i b → b ≡ test i
+
+find-from_answers : (says : ℕ → Bool → Type 0) (test : ℕ → Bool) (last : ℕ) (result : Option ℕ) → Picks says last result → AnswersAs says test → result ≡ find test (round_from last)
+unfolding round_from
+find-from_answers says test last None picks same =
+    sym (find_none test (place_in_round last) place_limit 1 (λ j low high. sym (same (place_in_round last j) false (picks j low (omega arith)))))
+find-from_answers says test last (Some i) picks same =
+    let turn_in : (1 ≤ picks.turn) × (picks.turn ≤ 64) = picks.in_round in
+    let yes : test (place_in_round last picks.turn) ≡ true = sym (same (place_in_round last picks.turn) true (subst (λ k. says k true) picks.there picks.yes)) in
+    ap Some picks.there
+    ∙ sym (find_first test (place_in_round last) place_limit 1 picks.turn (omega arith) (omega arith) yes (λ j low high. sym (same (place_in_round last j) false (picks.before j low high))))
+
+-- who is ready in the state with these places
+abbrev pub ready_with : State → Places → List Memory → List (Option Process) → ℕ → Bool
+ready_with s t memories places i = ready (with_table s (record t { places = places }) memories) i
+
+module _ {F : Type 0} (g : Shared F (Bor (List (Option Process)) × (ℕ × Unit {0})) Bool) (f : F) where
+  -- what the closure answers is the test of what it is handed
+  abbrev pub IsTest : (List (Option Process) → ℕ → Bool) → Type 0
+  IsTest test = (shown : Bor (List (Option Process))) (i : ℕ) (b : Bool) → FnReturns g f (shown, (i, tt)) b → b ≡ test shown.now i
+
+  -- the pick is the first place of the round that passes
+  pub find-from_pick : (places : List (Option Process)) (test : List (Option Process) → ℕ → Bool) (last : ℕ) (result : Option ℕ) → Picks (Answers g f places) last result → IsTest test → result ≡ find (test places) (round_from last)
+  find-from_pick places test last result picks is = find-from_answers (Answers g f places) (test places) last result picks (λ i b h. is h.shown i b h.says ∙ ap (λ os. test os i) h.shows)
+
+  -- the pick is the turn of the state
+  pub turn-from_pick : (s : State) (t : Places) (memories : List Memory) (result : Option ℕ) → Picks (Answers g f t.places) t.last result → IsTest (ready_with s t memories) → result ≡ turn (with_table s t memories)
+  unfolding turn
+  turn-from_pick s t memories result picks is = find-from_pick t.places (ready_with s t memories) t.last result picks is

@@ -1,0 +1,10 @@
+//! The places of processes, and the turn.
+#![tactic(auto)]
+
+mod process;
+mod table;
+#[cfg(test)]
+mod tests;
+
+pub use process::{Place, Process};
+pub use table::{PLACES, ProcFault, Reaped, Seat, Table, zombie_child};

@@ -1,0 +1,353 @@
+//! The table of processes.
+ghost use Rattle.std.specs.Prelude.{◌≡◌, ◌+◌, ◌<◌, ◌≤◌, ◌%◌, List, ℕ, Some, None, true, false, length, map, option_map, position, is_some, IfSome, IfNone, IfOk, OnErr};
+ghost use Rattle.std.specs.Option.{option_copied};
+ghost use Rattle.unixmodel.specs.Files.{free_slot, free_slots, put, slot};
+ghost use Rattle.unixmodel.specs.ProcessCalls.{status_of};
+ghost use Rattle.proc.specs.Places.{is_zombie_child_of, orphaned, place_where, zombie_of};
+ghost use Rattle.unixmodel.specs.State.{holds, place_limit};
+ghost use Rattle.unixmodel.specs.declared.process.Mode.TheVariants.{Ready, Running, Waiting};
+
+use crate::process::{Place, Process};
+use arrayvec::ArrayVec;
+use std::marker::Model;
+use thiserror::Error;
+use unixmodel::process::{Mode, Pending};
+
+/// How many places there are.
+pub const PLACES: usize = 64;
+
+/// The last pid that a process gets.
+const LAST_PID: u32 = 2147483647;
+
+/// Why a process was not placed.
+#[derive(Clone, Copy, Debug, PartialEq, Eq, Error)]
+pub enum ProcFault {
+    #[error("no place is free")]
+    Slots,
+    #[error("no pid is left")]
+    Pids,
+}
+
+/// Where a new process stands, and its pid.
+#[derive(Clone, Copy, Debug, PartialEq, Eq)]
+pub struct Seat {
+    pub place: usize,
+    pub pid: u32,
+}
+
+/// A zombie that was waited for, and the place that it had.
+#[derive(Clone, Copy, Debug, PartialEq, Eq)]
+pub struct Reaped {
+    pub place: usize,
+    pub pid: u32,
+    pub status: i32,
+}
+
+/// The places, the one that was picked last, and the pid that the next process gets.
+#[derive(Drop)]
+pub struct Table {
+    places: ArrayVec<Place, 64>,
+    last: usize,
+    next_pid: u32,
+}
+
+impl Model for Table {
+    ghost use Rattle.proc.specs.Places.{Places};
+
+    ghost Value = { Places };
+
+    ghost view = { λ t. record { places = t.places.items; last = t.last; next_pid = t.next_pid } };
+
+    ghost use Rattle.proc.specs.Sound.{IsSound};
+
+    ghost invariant = { IsSound };
+}
+
+/// The first zombie whose parent this is.
+pub fn zombie_child(places: &[Place], parent: u32) -> Option<usize>
+    ensures place { result ≡ place_where places.now (is_zombie_child_of parent) }
+    ensures within { IfSome result (λ i. i < length places.now) }
+{
+    places.iter().position(|place| match place {
+        Some(process) => process.parent == parent && matches!(process.mode, Mode::Zombie(_)),
+        None => false,
+    })
+}
+
+// A child of a process goes to process 1.
+fn orphan(place: Place, pid: u32) -> Place
+    ensures { result ≡ option_map (orphaned pid) place }
+{
+    match place {
+        Some(process) if process.parent == pid => Some(Process {
+            parent: 1,
+            ..process
+        }),
+        _ => place,
+    }
+}
+
+// The children of a process go to process 1.
+fn orphan_all(places: &mut [Place], pid: u32)
+    ensures { places.new ≡ map (option_map (orphaned pid)) places.old }
+{
+    for place in places.iter_mut() {
+        *place = orphan(*place, pid);
+    }
+}
+
+// What a process is once it has ended.
+#[tactic(auto, unfolding(unixmodel::specs::Outcome::no_descriptors, unixmodel::specs::Files::free_slots))]
+fn zombie(process: Process, status: i32) -> Process
+    ensures { result ≡ zombie_of process status }
+{
+    Process {
+        descriptors: [None; 16],
+        directory: 0,
+        mode: Mode::Zombie(status),
+        ..process
+    }
+}
+
+// The status of a zombie.
+fn status(mode: Mode) -> i32
+    ensures { result ≡ status_of mode }
+{
+    match mode {
+        Mode::Zombie(status) => status,
+        _ => 0,
+    }
+}
+
+impl Table {
+    ghost use Rattle.proc.specs.Places.{Places, changed, exited, has_pid, is_child_of, is_running, reaped_at, seat_of, seated, with_mode, with_running, without, zombie_place};
+    ghost use Rattle.proc.specs.Pick.{Answers, Picks};
+
+    /// Free places. The first process gets this pid.
+    #[tactic(auto, unfolding(unixmodel::specs::Files::free_slots))]
+    pub fn starting_at(pid: u32) -> Table
+        requires first { 1 ≤ pid }
+        requires last { pid ≤ 2147483647 }
+        ensures { result ≡ record { places = free_slots 64; last = 63; next_pid = pid } }
+    {
+        Table {
+            places: ArrayVec::from_array_in((), [None; 64]),
+            last: PLACES - 1,
+            next_pid: pid,
+        }
+    }
+
+    /// All places.
+    pub fn places(&self) -> &[Place]
+        ensures places { result.now ≡ self.now.places }
+        ensures all { length self.now.places ≡ 64 }
+        ensures last { self.now.last < 64 }
+    {
+        let _ = &self.last;
+        self.places.as_slice()
+    }
+
+    /// The process in a place.
+    pub fn process(&self, at: usize) -> Option<&Process>
+        ensures process { option_copied result ≡ slot self.now.places at }
+        ensures within { IfSome result (λ _. at < 64) }
+    {
+        match self.places.as_slice().get(at) {
+            Some(Some(process)) => Some(process),
+            _ => None,
+        }
+    }
+
+    /// Puts a process in a place.
+    pub fn put(&mut self, at: usize, process: Process)
+        requires { at < 64 }
+        ensures { self.new ≡ record self.old { places = put self.old.places at process } }
+    {
+        self.places[at] = Some(process);
+    }
+
+    /// The place of the running process.
+    pub fn running(&self) -> Option<usize>
+        ensures place { result ≡ place_where self.now.places is_running }
+        ensures within { IfSome result (λ i. i < 64) }
+    {
+        self.places.as_slice().iter().position(|place| match place {
+            Some(process) => matches!(process.mode, Mode::Running),
+            None => false,
+        })
+    }
+
+    /// The place of the process with a pid.
+    pub fn find(&self, pid: u32) -> Option<usize>
+        ensures place { result ≡ place_where self.now.places (has_pid pid) }
+        ensures within { IfSome result (λ i. i < 64) }
+    {
+        self.places.as_slice().iter().position(|place| match place {
+            Some(process) => process.pid == pid,
+            None => false,
+        })
+    }
+
+    // The first place of a child of a process.
+    fn first_child(&self, pid: u32) -> Option<usize>
+        ensures { result ≡ place_where self.now.places (is_child_of pid) }
+    {
+        self.places.as_slice().iter().position(|place| match place {
+            Some(process) => process.parent == pid,
+            None => false,
+        })
+    }
+
+    /// Whether a process has a child.
+    pub fn has_child(&self, pid: u32) -> bool
+        ensures { result ≡ is_some (place_where self.now.places (is_child_of pid)) }
+    {
+        self.first_child(pid).is_some()
+    }
+
+    /// Picks the first ready place in the order from the one after the last picked, ending at that one.
+    pub fn pick<F: Fn(&[Place], usize) -> bool>(&mut self, ready: F) -> Option<usize>
+        requires { F.IsAlwaysCallable ready }
+        ensures first { Picks (Answers F.Fn ready self.old.places) self.old.last result }
+        ensures picked { IfSome result (λ i. self.new ≡ record self.old { last = i }) }
+        ensures within { IfSome result (λ i. i < 64) }
+        ensures none { IfNone result (self.new ≡ self.old) }
+    {
+        for turn in 1..65 {
+            let at = (self.last + turn) % 64;
+            if ready(self.places.as_slice(), at) {
+                self.last = at;
+                return Some(at);
+            }
+        }
+        None
+    }
+
+    // A place.
+    fn place(&self, at: usize) -> Place
+        requires { at < 64 }
+        ensures { result ≡ slot self.now.places at }
+    {
+        let _ = &self.last;
+        self.places[at]
+    }
+
+    // The children of a process go to process 1.
+    fn orphan_children(&mut self, pid: u32)
+        ensures { self.new ≡ record self.old { places = map (option_map (orphaned pid)) self.old.places } }
+    {
+        orphan_all(self.places.as_mut_slice(), pid);
+    }
+
+    // The process in a place gets a mode.
+    fn set_mode(&mut self, at: usize, mode: Mode)
+        requires { at < 64 }
+        ensures { self.new ≡ changed self.old at (with_mode mode) }
+    {
+        if let Some(process) = self.place(at) {
+            self.put(at, Process { mode, ..process });
+        }
+    }
+
+    /// The process in a place runs. Nothing changes where the place is free.
+    pub fn run(&mut self, at: usize)
+        requires { at < 64 }
+        ensures { self.new ≡ changed self.old at (with_mode Running) }
+    {
+        self.set_mode(at, Mode::Running);
+    }
+
+    /// The running process becomes ready. Nothing changes where none runs.
+    pub fn stop(&mut self)
+        ensures { self.new ≡ with_running self.old (with_mode Ready) }
+    {
+        if let Some(at) = self.running() {
+            self.set_mode(at, Mode::Ready);
+        }
+    }
+
+    /// The running process waits. Nothing changes where none runs.
+    pub fn block(&mut self, pending: Pending)
+        ensures { self.new ≡ with_running self.old (with_mode (Waiting pending)) }
+    {
+        if let Some(at) = self.running() {
+            self.set_mode(at, Mode::Waiting(pending));
+        }
+    }
+
+    // The lowest free place.
+    fn free_place(&self) -> Option<usize>
+        ensures place { result ≡ free_slot self.now.places }
+        ensures within { IfSome result (λ i. i < 64) }
+    {
+        self.places
+            .as_slice()
+            .iter()
+            .position(|place| place.is_none())
+    }
+
+    /// The place and the pid that a new process gets: the lowest free place, and the next pid.
+    pub fn next_seat(&self) -> Result<Seat, ProcFault>
+        ensures seat { result ≡ seat_of self.now }
+        ensures within { IfOk result (λ seat. seat.place < 64) }
+    {
+        match self.free_place() {
+            None => Err(ProcFault::Slots),
+            Some(place) => {
+                if self.next_pid <= LAST_PID {
+                    Ok(Seat {
+                        place,
+                        pid: self.next_pid,
+                    })
+                } else {
+                    Err(ProcFault::Pids)
+                }
+            }
+        }
+    }
+
+    /// Puts a process in the lowest free place, under the next pid.
+    pub fn alloc(&mut self, process: Process) -> Result<Seat, ProcFault>
+        ensures seat { result ≡ seat_of self.old }
+        ensures within { IfOk result (λ seat. seat.place < 64) }
+        ensures ok { IfOk result (λ seat. self.new ≡ seated self.old process seat) }
+        ensures err { OnErr result (self.new ≡ self.old) }
+    {
+        let seat = self.next_seat()?;
+        self.places[seat.place] = Some(Process {
+            pid: seat.pid,
+            ..process
+        });
+        self.next_pid += 1;
+        Ok(seat)
+    }
+
+    /// The process in a place ends: it gives up its descriptors and its directory, and becomes a zombie with this
+    /// status, and its children go to process 1. Nothing changes where the place is free.
+    pub fn exit(&mut self, at: usize, status: i32)
+        requires { at < 64 }
+        ensures { self.new ≡ exited self.old at status }
+    {
+        if let Some(process) = self.place(at) {
+            self.orphan_children(process.pid);
+            self.put(at, zombie(process, status));
+        }
+    }
+
+    /// Waits for the first zombie child of a process: its place becomes free. None where there is no zombie child.
+    pub fn reap(&mut self, parent: u32) -> Option<Reaped>
+        ensures reaped { result ≡ reaped_at self.old (zombie_place self.old parent) }
+        ensures places { self.new ≡ without self.old (zombie_place self.old parent) }
+        ensures within { IfSome result (λ reaped. reaped.place < 64) }
+    {
+        let at = zombie_child(self.places.as_slice(), parent)?;
+        let place = self.places[at];
+        self.places[at] = None;
+        let process = place?;
+        Some(Reaped {
+            place: at,
+            pid: process.pid,
+            status: status(process.mode),
+        })
+    }
+}
