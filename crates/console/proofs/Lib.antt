@@ -1,1 +1,6 @@
+pub mod Erases
+pub mod Lines
+pub mod ReadSteps
+pub mod Rings
+pub mod Rubs
 pub mod Takes

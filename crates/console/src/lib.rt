@@ -1,8 +1,10 @@
-//! The console: where its bytes go.
+//! The console: what is typed at it, and where its bytes go.
 #![tactic(auto)]
 
+mod input;
 mod output;
 #[cfg(test)]
 mod tests;
 
+pub use input::{Console, ROOM, Taken};
 pub use output::{Out, OutFault, Writer};

@@ -1,0 +1,31 @@
+-- Lemmas on a console's bytes in its ring.
+use Rattle.std.proofs.Common.{◌≡◌, ◌<◌, ℕ, zero, suc, ◌+◌, ◌-◌, ◌%◌, List, [], length, take, drop, set, refl, sym, ap, ap₂, ◌∙◌, arith}
+use Rattle.unixmodel.specs.Console.{commit, with_byte}
+use Rattle.console.specs.Line.{ring, line_of, without_last}
+use Rattle.console.proofs.Rings.{length-ring, take-ring, ring-append, ring-around, ring-set_behind, ring-push}
+
+pub line-push : (xs : List ℕ) (k c e b : ℕ) → length xs ≡ 128 → k < 128 → c + e < 128 → line_of (set xs ((k + c + e) % 128) b) k c (e + 1) ≡ with_byte (line_of xs k c e) b
+line-push xs k c e b full start fits =
+    ap₂ (λ l m. record { committed = l; edited = m }) (ring-set_behind 128 xs k c (k + c + e) b (omega arith) (omega arith) (omega arith)) (ring-push 128 xs (k + c) e (k + c + e) b full refl (omega arith) (omega arith))
+
+pub line-commit : (xs : List ℕ) (k c e : ℕ) → line_of xs k (c + e) 0 ≡ commit (line_of xs k c e)
+unfolding ring
+line-commit xs k c e = ap (λ l. record { committed = l; edited = [] }) (ring-append 128 xs k c e (c + e) refl)
+
+pub line-erase : (xs : List ℕ) (k c e n m : ℕ) → m ≡ e - n → line_of xs k c m ≡ without_last n (line_of xs k c e)
+line-erase xs k c e n m h =
+    let a : m ≡ length (ring 128 xs (k + c) e) - n = omega (arith, length-ring 128 xs (k + c) e) in
+    ap (λ l. record { committed = ring 128 xs k c; edited = l }) (sym (take-ring 128 xs (k + c) m e (omega arith)) ∙ ap (λ i. take i (ring 128 xs (k + c) e)) a)
+
+pub line-drop_first : (xs : List ℕ) (k c e : ℕ) → 0 < c → line_of xs ((k + 1) % 128) (c - 1) e ≡ record (line_of xs k c e) { committed = drop 1 (ring 128 xs k c) }
+unfolding ring
+line-drop_first xs k zero e h = absurd (omega arith)
+line-drop_first xs k (suc c) e h =
+    let a : suc c - 1 ≡ c = omega arith in
+    let b : k + 1 + c ≡ k + suc c = omega arith in
+    let z : (k + 1) % 128 ≡ (k + 1) % 128 + 0 = omega arith in
+    let y : k + 1 + 0 ≡ k + 1 = omega arith in
+    ap (λ i. line_of xs ((k + 1) % 128) i e) a
+    ∙ ap₂ (λ l m. record { committed = l; edited = m })
+    (ap (λ i. ring 128 xs i c) z ∙ ring-around 128 xs (k + 1) 0 c ∙ ap (λ i. ring 128 xs i c) y)
+    (ring-around 128 xs (k + 1) c e ∙ ap (λ i. ring 128 xs i e) b)

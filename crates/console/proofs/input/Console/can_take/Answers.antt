@@ -1,0 +1,10 @@
+use Rattle.std.proofs.Common.{arith}
+use Rattle.std.proofs.lemmas.Grind.{common_steps}
+use Rattle.console.proofs.Rings.{length-ring}
+use Rattle.console.proofs.input.Console.can_take.Goals as goal
+
+pub returns-clause-can : goal.returns-clause-can
+returns-clause-can c = rw (← c.self.view_is, length-ring) (grind (arith, common_steps))
+
+pub returns-clause-within : goal.returns-clause-within
+returns-clause-within c = rw (← c.self.view_is, length-ring, length-ring) (omega arith)

@@ -1,0 +1,8 @@
+use Rattle.std.proofs.Common.{sym}
+use Rattle.console.proofs.Rings.{length-ring}
+use Rattle.console.proofs.input.Console.edited_len.Goals as goal
+
+pub returns : goal.returns
+returns c =
+    let s = c.self.inside in
+    rw (← c.self.view_is) (sym (length-ring 128 s.places _ s.edited))

@@ -1,0 +1,9 @@
+use Rattle.std.proofs.Common.{arith}
+use Rattle.std.proofs.lemmas.Grind.{common_steps}
+use Rattle.console.proofs.Rings.{length-ring}
+use Rattle.console.proofs.input.Console.is_full.Goals as goal
+
+pub returns : goal.returns
+returns c =
+    let s = c.self.inside in
+    rw (← c.self.view_is, length-ring, length-ring) (grind (arith, common_steps))

@@ -1,0 +1,7 @@
+use Rattle.std.proofs.Common.{refl}
+use Rattle.console.specs.Line.{ring}
+use Rattle.console.proofs.input.Console.new.Goals as goal
+
+pub returns : goal.returns
+unfolding ring
+returns c = refl

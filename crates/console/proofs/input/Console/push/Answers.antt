@@ -1,0 +1,18 @@
+use Rattle.std.proofs.Common.{◌+◌, ◌<◌, arith, rules}
+use Rattle.std.proofs.lemmas.Grind.{common_steps}
+use Rattle.console.proofs.Lines.{line-push}
+use Rattle.console.proofs.Rings.{length-ring}
+use Rattle.console.proofs.input.Console.push.Goals as goal
+
+pub invariant_of-self : goal.invariant_of-self
+invariant_of-self c =
+    let h = rw (← c.self.view_is, length-ring, length-ring) at c.requires in
+    let fits : c.self.inside.committed + c.self.inside.edited < 128 = grind (arith, common_steps) in
+    (c.self.invariant.0, omega arith)
+
+pub returns : goal.returns
+returns c =
+    let s = c.self.inside in
+    let h = rw (← c.self.view_is, length-ring, length-ring) at c.requires in
+    let fits : c.self.inside.committed + c.self.inside.edited < 128 = grind (arith, common_steps) in
+    rw (← c.self.view_is) (line-push s.places s.from s.committed s.edited c.args.byte (search rules) c.self.invariant.0 fits)

@@ -1,0 +1,10 @@
+use Rattle.std.proofs.Common.{◌≤◌}
+use Rattle.std.specs.Io.KnownBytes.{Appends}
+use Rattle.console.specs.Line.{rub_outs}
+use Rattle.console.proofs.input.rub_out.Given as goal
+
+abbrev pub invariant-loop-done : goal.invariant-loop-done
+invariant-loop-done g l = record {
+  printed : Appends (g.W.Out.contents l.fn.out) (g.W.Out.contents l.out) (rub_outs l._done);
+  later : g.W.Out.failures l.fn.out ≤ g.W.Out.failures l.out;
+}

@@ -1,0 +1,43 @@
+use Rattle.std.proofs.Common.{◌++◌, ◌≡◌, ◌∙◌, ap, arith, drop, length, length-take, refl, take}
+use Rattle.ram.specs.Memory.{frame_of}
+use Rattle.pipe.specs.Ring.{ring}
+use Rattle.pipe.specs.RingLemmas.{length-ring}
+use Rattle.pipe.proofs.Steps.{read-bytes, read-nothing, read-rest, ring-none}
+use Rattle.pipe.proofs.Pipe.read_some.Goals as goal
+use Rattle.pipe.proofs.Pipe.read_some.Goals.{else-self-eq0-via-then-self-eq0+else-self, else-self-eq0-via-else-self-eq0}
+
+pub returns-then-self-clause-waits : goal.returns-then-self-clause-waits
+returns-then-self-clause-waits c =
+    let s = c.self.inside in
+    rw (← c.self.view_is) (λ _. (ring-none _ s.from s.held c.if-self-eq0.true, c.if-self.true), λ _. refl)
+
+pub returns-then-self-clause-rest : goal.returns-then-self-clause-rest
+returns-then-self-clause-rest c =
+    let s = c.self.inside in
+    rw (← c.self.view_is) (read-nothing _ s.from s.held _ c.if-self-eq0.true)
+
+pub returns-clause-waits : goal.returns-clause-waits
+returns-clause-waits c =
+    let s = c.self.inside in
+    rw (← c.self.view_is) (
+      λ e. cc,
+      λ p. elim c.else-self-eq0.branch [
+        | else-self-eq0-via-then-self-eq0+else-self w ↦ cc
+        | else-self-eq0-via-else-self-eq0 w ↦ absurd (w.if-self-eq0.false (omega (arith, ap length p.0, length-ring 512 (frame_of c.args.ram.now s.frame.0) s.from s.held)))
+      ],
+    )
+
+pub returns-clause-taken : goal.returns-clause-taken
+returns-clause-taken c =
+    let s = c.self.inside in
+    let len : length (take c.min-count.result c.args.buffer.now) ≡ c.min-count.result = omega (arith, c.min-count.ensures, length-take c.min-count.result c.args.buffer.now) in
+    rw (← c.self.view_is, c.copy_out.ensures, c.frame.ensures)
+    (ap (λ l. l ++ drop c.min-count.result c.args.buffer.now) (ap (ring 512 (frame_of c.args.ram.now s.frame.0) s.from) len ∙ read-bytes _ s.from s.held _ c.min-count.result c.min-count.ensures))
+
+pub returns-clause-count : goal.returns-clause-count
+returns-clause-count c = rw (← c.self.view_is, length-ring) c.min-count.ensures
+
+pub returns-clause-rest : goal.returns-clause-rest
+returns-clause-rest c =
+    let s = c.self.inside in
+    rw (← c.self.view_is) (read-rest _ s.from s.held _ c.min-count.result c.min-count.ensures)

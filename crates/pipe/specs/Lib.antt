@@ -1,0 +1,4 @@
+pub mod Pipe
+pub mod PipeLemmas
+pub mod Ring
+pub mod RingLemmas

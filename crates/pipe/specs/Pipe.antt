@@ -1,0 +1,36 @@
+-- A pipe: where its bytes stand in a memory, and which of its ends are open.
+use Rattle.std.specs.Prelude.{Bool, List, [], false, ℕ, ◌∷◌, ◌≡◌}
+use Rattle.ram.specs.Memory.{frame_of}
+use Rattle.unixmodel.specs.OpenFiles.{pipe_room}
+use Rattle.pipe.specs.declared.End.{End}
+use Rattle.pipe.specs.declared.End.TheVariants.{Read, Write}
+use Rattle.pipe.specs.Ring.{ring}
+
+pub record Pipe : Type 0 where
+  pub frame : ℕ
+  pub from : ℕ
+  pub held : ℕ
+  pub read_open : Bool
+  pub write_open : Bool
+
+-- the bytes that it holds, the oldest first
+abbrev pub bytes_of : List (List ℕ) → Pipe → List ℕ
+bytes_of m p = ring pipe_room (frame_of m p.frame) p.from p.held
+
+-- the frames that it holds
+abbrev pub holds : Pipe → List ℕ
+holds p = p.frame ∷ []
+
+abbrev pub is_open : Pipe → End → Bool
+is_open p Read = p.read_open
+is_open p Write = p.write_open
+
+abbrev pub closed : Pipe → End → Pipe
+closed p Read = record p { read_open = false }
+closed p Write = record p { write_open = false }
+
+-- it has the same frame and the same ends
+pub record Stays (old new : Pipe) : Type 0 where
+  pub frame : new.frame ≡ old.frame
+  pub read_open : new.read_open ≡ old.read_open
+  pub write_open : new.write_open ≡ old.write_open
