@@ -1,0 +1,80 @@
+-- One bit of a bitmap is written.
+use Rattle.std.proofs.Common.{◌≡◌, ◌≢◌, ℕ, ◌+◌, ◌-◌, ◌/◌, ◌%◌, ◌<◌, List, [], ◌∷◌, length, get_or, set, ap, sym, ◌∙◌, arith, inl, inr}
+use Rattle.std.proofs.lemmas.Bool.{cases_lt, cases_eq}
+use Rattle.std.proofs.lemmas.List.{get_or-set_same, get_or-set_other, length-set}
+use Rattle.std.specs.Int.{bit_at}
+use Rattle.blockdev.specs.Blocks.{block_at}
+use Rattle.blockdev.specs.Splice.{splice, length-splice, get_or-splice_before, get_or-splice_inside, get_or-splice_after}
+use Rattle.layout.specs.Super.{bitmap_start_of}
+use Rattle.layout.specs.declared.Geometry.{Geometry}
+use Rattle.layout.specs.Image.{bit_in}
+use Rattle.layout.specs.Sound.{HasParts}
+use Rattle.balloc.specs.Bitmap.{SetsBit}
+
+-- a bit of the byte that is written, and of another
+bit_in-same : (block : List ℕ) (p v j : ℕ) → p < length block → j / 8 ≡ p → bit_in (splice p (v ∷ []) block) j ≡ bit_at v (j % 8)
+unfolding bit_in
+bit_in-same block p v j h e = ap (λ x. bit_at x (j % 8)) (get_or-splice_inside p (v ∷ []) block (j / 8) 0 (omega arith) (omega arith) (omega arith) ∙ ap (λ i. get_or (v ∷ []) i 0) (let z : j / 8 - p ≡ 0 = omega arith in z))
+
+bit_in-other : (block : List ℕ) (p v j : ℕ) → p < length block → j / 8 ≢ p → bit_in (splice p (v ∷ []) block) j ≡ bit_in block j
+unfolding bit_in
+bit_in-other block p v j h e = elim (cases_lt (j / 8) p) [
+  | inl low ↦ ap (λ x. bit_at x (j % 8)) (get_or-splice_before p (v ∷ []) block (j / 8) 0 (omega arith) low)
+  | inr high ↦ ap (λ x. bit_at x (j % 8)) (get_or-splice_after p (v ∷ []) block (j / 8) 0 (omega arith) (omega arith))
+]
+
+-- bit j of a block in which byte p gets the value v, which is the old byte but for one bit
+bit_in-put : (block : List ℕ) (i j v : ℕ) → length block ≡ 1024 → i < 8192 → j < 8192 → j ≢ i → ((k : ℕ) → k < 8 → k ≢ i % 8 → bit_at v k ≡ bit_at (get_or block (i / 8) 0) k)
+    → bit_in (splice (i / 8) (v ∷ []) block) j ≡ bit_in block j
+unfolding bit_in
+bit_in-put block i j v e h l apart others = elim (cases_eq (j / 8) (i / 8)) [
+  | inl met ↦ bit_in-same block (i / 8) v j (omega arith) met ∙ others (j % 8) (omega arith) (omega arith) ∙ ap (λ p. bit_at (get_or block p 0) (j % 8)) (sym met)
+  | inr other ↦ bit_in-other block (i / 8) v j (omega arith) other
+]
+
+-- as the code says it
+pub SetsBit-put : (g : Geometry) (old new : List (List ℕ)) (at b v bit : ℕ) → HasParts g old → at ≡ bitmap_start_of g.inodes + b / 8192 → b < g.size
+    → bit_at v (b % 8) ≡ bit → ((k : ℕ) → k < 8 → k ≢ b % 8 → bit_at v k ≡ bit_at (get_or (block_at old at) (b % 8192 / 8) 0) k)
+    → new ≡ set old at (splice (b % 8192 / 8) (v ∷ []) (block_at old at)) → SetsBit g old new b bit
+SetsBit-put g old new at b v bit parts spot high here others e =
+    let within : at < length old = omega (arith, parts.count, parts.size_high, parts.room) in
+    let whole : length (block_at old at) ≡ 1024 = parts.sizes at within in
+    let at_q : block_at new at ≡ splice (b % 8192 / 8) (v ∷ []) (block_at old at) = ap (λ x. block_at x at) e ∙ get_or-set_same old at (splice (b % 8192 / 8) (v ∷ []) (block_at old at)) [] within in
+    let elsewhere : (k : ℕ) → k ≢ at → block_at new k ≡ block_at old k = λ k h. ap (λ x. block_at x k) e ∙ get_or-set_other old at k (splice (b % 8192 / 8) (v ∷ []) (block_at old at)) [] h in
+    let long : length new ≡ length old = ap length e ∙ length-set old at (splice (b % 8192 / 8) (v ∷ []) (block_at old at)) in
+    record {
+      parts = record {
+        count = long ∙ parts.count;
+        sizes = λ k h. elim (cases_eq k at) [
+          | inl met ↦ ap (λ x. length (block_at new x)) met ∙ ap length at_q ∙ length-splice (b % 8192 / 8) (v ∷ []) (block_at old at) (omega arith) ∙ whole
+          | inr other ↦ ap length (elsewhere k other) ∙ parts.sizes k (omega arith)
+        ];
+        size_high = parts.size_high;
+        inodes_low = parts.inodes_low;
+        inodes_high = parts.inodes_high;
+        room = parts.room;
+      };
+      here =
+          let low_bits : b % 8192 % 8 ≡ b % 8 = omega arith in
+          ap (λ x. bit_in (block_at new x) (b % 8192)) (sym spot) ∙ ap (λ x. bit_in x (b % 8192)) at_q
+          ∙ bit_in-same (block_at old at) (b % 8192 / 8) v (b % 8192) (omega arith) (omega arith)
+          ∙ ap (bit_at v) low_bits ∙ here;
+      others = λ c h apart. elim (cases_eq (c / 8192) (b / 8192)) [
+        | inl met ↦
+            let place : bitmap_start_of g.inodes + c / 8192 ≡ at = omega arith in
+            ap (λ x. bit_in (block_at new x) (c % 8192)) place ∙ ap (λ x. bit_in x (c % 8192)) at_q
+            ∙ bit_in-put (block_at old at) (b % 8192) (c % 8192) v whole (omega arith) (omega arith) (omega arith) (λ k l other. others k l (omega arith))
+            ∙ ap (λ x. bit_in (block_at old x) (c % 8192)) (sym place)
+        | inr other ↦ ap (λ x. bit_in x (c % 8192)) (elsewhere (bitmap_start_of g.inodes + c / 8192) (omega arith))
+      ];
+      before = λ k h. elsewhere k (omega arith);
+      after = λ k h. elsewhere k (omega arith);
+    }
+
+pub SetsBit-code : (g : Geometry) (old read new : List (List ℕ)) (start b : ℕ) (block : List ℕ) (v bit : ℕ) → HasParts g old → start ≡ bitmap_start_of g.inodes → b < g.size → read ≡ old → block ≡ block_at old (start + b / 8192)
+    → bit_at v (b % 8) ≡ bit → ((k : ℕ) → k < 8 → k ≢ b % 8 → bit_at v k ≡ bit_at (get_or block (b % 8192 / 8) 0) k)
+    → new ≡ set read (start + b / 8192) (splice (b % 8192 / 8) (v ∷ []) (block_at read (start + b / 8192))) → SetsBit g old new b bit
+SetsBit-code g old read new start b block v bit parts spot high same block_is here others e =
+    SetsBit-put g old new (start + b / 8192) b v bit parts (ap (λ s. s + b / 8192) spot) high here
+    (λ k l apart. others k l apart ∙ ap (λ x. bit_at (get_or x (b % 8192 / 8) 0) k) block_is)
+    (e ∙ ap (λ x. set x (start + b / 8192) (splice (b % 8192 / 8) (v ∷ []) (block_at x (start + b / 8192)))) same)

@@ -1,0 +1,14 @@
+use Rattle.std.proofs.Common.{◌<◌, replicate, arith, refl}
+use Rattle.balloc.proofs.Formatting.{Cleared-more, HasParts-write}
+use Rattle.balloc.proofs.fresh.clear.Goals as goal
+
+pub block-preserved : goal.block-preserved
+block-preserved g c =
+    let high : c.block.k < c.args.geometry.size = omega (arith, c.block-test.true, c.data_start-end.ensures, c.requires.room) in
+    record {
+      parts = HasParts-write c.args.geometry c.block.disk.blocks c.write.new.self.blocks c.block.k (replicate 1024 0) c.block.invariant.parts high (omega arith) c.in_ok-write.ensures.written;
+      cleared = Cleared-more c.args.geometry c.block.disk.blocks c.write.new.self.blocks c.block.k (replicate 1024 0) c.block.invariant.parts c.block.invariant.cleared high refl c.in_ok-write.ensures.written;
+      count = omega (arith, c.write.ensures.count, c.block.invariant.count);
+      failures = omega (arith, c.write.ensures.cause.later, c.block.invariant.failures);
+      within = omega (arith, c.block-test.true);
+    }

@@ -1,0 +1,14 @@
+use Rattle.std.proofs.Common.{◌≡◌, ◌≢◌, ℕ, ◌-◌, ◌<◌, ◌≤◌}
+use Rattle.layout.specs.Image.{inode_at}
+use Rattle.balloc.proofs.inodes.find_unused.Given as goal
+
+abbrev pub invariant-scan : goal.invariant-scan
+invariant-scan g l = record {
+  disk : l.disk.blocks ≡ l.fn.disk.blocks;
+  failures : l.fn.disk.failures ≤ l.disk.failures;
+  from : 1 ≤ l.n;
+  used_so_far : (m : ℕ) → 1 ≤ m → m < l.n → (inode_at l.fn.disk.blocks m).kind ≢ 0;
+}
+
+abbrev pub decreases-scan : goal.decreases-scan
+decreases-scan g l = l.geometry.inodes - l.n

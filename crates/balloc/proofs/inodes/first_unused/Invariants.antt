@@ -1,0 +1,7 @@
+use Rattle.std.proofs.Common.{◌≢◌, ℕ, ◌*◌, ◌<◌, ◌≤◌}
+use Rattle.blockdev.specs.Splice.{part}
+use Rattle.layout.specs.Inode.{inode_of}
+use Rattle.balloc.proofs.inodes.first_unused.Given as goal
+
+abbrev pub invariant-loop-i : goal.invariant-loop-i
+invariant-loop-i l = (k : ℕ) → l.from ≤ k → k < l.i → (inode_of (part (64 * k) 64 l.block)).kind ≢ 0

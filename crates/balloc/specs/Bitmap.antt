@@ -1,0 +1,31 @@
+-- What a change of one bit of the bitmap says.
+use Rattle.std.specs.Prelude.{◌≡◌, ◌≢◌, ℕ, ◌<◌, ◌≤◌, List}
+use Rattle.blockdev.specs.Blocks.{block_at}
+use Rattle.layout.specs.Super.{bitmap_start_of, data_start_of}
+use Rattle.layout.specs.declared.Geometry.{Geometry}
+use Rattle.layout.specs.Image.{IsFree, bit_of}
+use Rattle.layout.specs.Sound.{HasParts}
+
+-- new is old but for the bit of b
+pub record SetsBit (g : Geometry) (old new : List (List ℕ)) (b bit : ℕ) : Type 0 where
+  pub parts : HasParts g new
+  pub here : bit_of new (bitmap_start_of g.inodes) b ≡ bit
+  pub others : (c : ℕ) → c < g.size → c ≢ b → bit_of new (bitmap_start_of g.inodes) c ≡ bit_of old (bitmap_start_of g.inodes) c
+  pub before : (k : ℕ) → k < bitmap_start_of g.inodes → block_at new k ≡ block_at old k
+  pub after : (k : ℕ) → data_start_of g.size g.inodes ≤ k → block_at new k ≡ block_at old k
+
+-- b is the lowest free block
+pub record IsLowestFree (g : Geometry) (blocks : List (List ℕ)) (b : ℕ) : Type 0 where
+  pub free : IsFree g blocks b
+  pub lowest : (c : ℕ) → c < b → IsFree g blocks c → ⊥
+
+-- the lowest free block is taken
+pub record TakesLowest (g : Geometry) (old new : List (List ℕ)) (b : ℕ) : Type 0 where
+  pub lowest : IsLowestFree g old b
+  pub takes : SetsBit g old new b 1
+
+-- the two lowest free blocks are taken: b, and then c
+pub record TakesTwo (g : Geometry) (old new : List (List ℕ)) (b c : ℕ) : Type 0 where
+  pub mid : List (List ℕ)
+  pub first : TakesLowest g old mid b
+  pub second : TakesLowest g mid new c

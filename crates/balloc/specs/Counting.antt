@@ -1,0 +1,103 @@
+-- How a change of one bit changes the count of free blocks.
+use Rattle.std.specs.Prelude.{◌≡◌, ◌≢◌, ℕ, ◌+◌, ◌-◌, ◌<◌, ◌≤◌, ◌==◌, List, [], ◌∷◌, length, get_or, count_by, zero, suc}
+use Rattle.std.proofs.Common.{set, ap, sym, ◌∙◌, arith, refl, add-zero, Bool, true, false, cond, inl, inr}
+use Rattle.std.proofs.lemmas.Bool.{cases_eq}
+use Rattle.std.proofs.lemmas.List.{get_or-set_other, get_or-set_same, length-set, ext_get_or}
+use Rattle.std.proofs.lemmas.List.Sums.{sum_by-cons, sum_by-set}
+use Rattle.std.proofs.lemmas.List.FromFn.{length-map-range_with_len, get_or-map-range_with_len}
+use Rattle.layout.specs.Super.{bitmap_start_of, data_start_of}
+use Rattle.layout.specs.declared.Geometry.{Geometry}
+use Rattle.layout.specs.Image.{IsFree, bit_of, data_bits, free_blocks}
+use Rattle.balloc.specs.Bitmap.{SetsBit}
+
+pub length-data_bits : (g : Geometry) (blocks : List (List ℕ)) → length (data_bits g blocks) ≡ g.size - data_start_of g.size g.inodes
+unfolding data_bits
+length-data_bits g blocks = length-map-range_with_len (bit_of blocks (bitmap_start_of g.inodes)) (data_start_of g.size g.inodes) (g.size - data_start_of g.size g.inodes)
+
+pub get_or-data_bits : (g : Geometry) (blocks : List (List ℕ)) (i : ℕ) → i < g.size - data_start_of g.size g.inodes → get_or (data_bits g blocks) i 0 ≡ bit_of blocks (bitmap_start_of g.inodes) (data_start_of g.size g.inodes + i)
+unfolding data_bits
+get_or-data_bits g blocks i h = get_or-map-range_with_len (bit_of blocks (bitmap_start_of g.inodes)) (data_start_of g.size g.inodes) (g.size - data_start_of g.size g.inodes) i (data_start_of g.size g.inodes + i) 0 h (omega arith)
+
+data_bits-set : (g : Geometry) (old new : List (List ℕ)) (b bit : ℕ) → SetsBit g old new b bit → data_start_of g.size g.inodes ≤ b → b < g.size → data_bits g new ≡ set (data_bits g old) (b - data_start_of g.size g.inodes) bit
+data_bits-set g old new b bit sets low high =
+    let first : ℕ = data_start_of g.size g.inodes in
+    let place : ℕ = b - data_start_of g.size g.inodes in
+    ext_get_or 0 (data_bits g new) (set (data_bits g old) (b - data_start_of g.size g.inodes) bit)
+    (length-data_bits g new ∙ sym (length-data_bits g old) ∙ sym (length-set (data_bits g old) (b - data_start_of g.size g.inodes) bit))
+    (λ i l.
+    let within : i < g.size - data_start_of g.size g.inodes = omega (arith, length-data_bits g new) in
+    get_or-data_bits g new i within
+    ∙ (elim (cases_eq i (b - data_start_of g.size g.inodes)) [
+      | inl here ↦
+          let e : data_start_of g.size g.inodes + i ≡ b = omega arith in
+          ap (bit_of new (bitmap_start_of g.inodes)) e ∙ sets.here
+          ∙ sym (get_or-set_same (data_bits g old) (b - data_start_of g.size g.inodes) bit 0 (omega (arith, length-data_bits g old)))
+          ∙ ap (λ k. get_or (set (data_bits g old) (b - data_start_of g.size g.inodes) bit) k 0) (sym here)
+      | inr other ↦ sets.others (data_start_of g.size g.inodes + i) (omega arith) (omega arith)
+          ∙ sym (get_or-data_bits g old i within)
+          ∙ sym (get_or-set_other (data_bits g old) (b - data_start_of g.size g.inodes) i bit 0 other)
+    ]))
+
+-- the bit that was there and the one that is there balance the counts
+pub free_blocks-set : (g : Geometry) (old new : List (List ℕ)) (b bit : ℕ) → SetsBit g old new b bit → data_start_of g.size g.inodes ≤ b → b < g.size
+    → free_blocks g new + cond (bit_of old (bitmap_start_of g.inodes) b == 0) 1 0 ≡ free_blocks g old + cond (bit == 0) 1 0
+free_blocks-set g old new b bit sets low high =
+    let e : data_start_of g.size g.inodes + (b - data_start_of g.size g.inodes) ≡ b = omega arith in
+    let at : get_or (data_bits g old) (b - data_start_of g.size g.inodes) 0 ≡ bit_of old (bitmap_start_of g.inodes) b =
+    get_or-data_bits g old (b - data_start_of g.size g.inodes) (omega arith) ∙ ap (bit_of old (bitmap_start_of g.inodes)) e in
+    ap (λ xs. count_by (λ x. x == 0) xs + cond (bit_of old (bitmap_start_of g.inodes) b == 0) 1 0) (data_bits-set g old new b bit sets low high)
+    ∙ ap (λ x. count_by (λ y. y == 0) (set (data_bits g old) (b - data_start_of g.size g.inodes) bit) + cond (x == 0) 1 0) (sym at)
+    ∙ sum_by-set (λ x. cond (x == 0) 1 0) (data_bits g old) (b - data_start_of g.size g.inodes) bit 0 (omega (arith, length-data_bits g old))
+
+pub free_blocks-take : (g : Geometry) (old new : List (List ℕ)) (b : ℕ) → IsFree g old b → SetsBit g old new b 1 → free_blocks g new + 1 ≡ free_blocks g old
+free_blocks-take g old new b free sets =
+    ap (λ x. free_blocks g new + cond {A = ℕ} (x == 0) 1 0) (sym free.clear) ∙ free_blocks-set g old new b 1 sets free.low free.high ∙ add-zero (free_blocks g old)
+
+pub free_blocks-give : (g : Geometry) (old new : List (List ℕ)) (b : ℕ) → data_start_of g.size g.inodes ≤ b → b < g.size → bit_of old (bitmap_start_of g.inodes) b ≡ 1 → SetsBit g old new b 0 → free_blocks g new ≡ free_blocks g old + 1
+free_blocks-give g old new b low high one sets =
+    sym (add-zero (free_blocks g new)) ∙ ap (λ x. free_blocks g new + cond {A = ℕ} (x == 0) 1 0) (sym one) ∙ free_blocks-set g old new b 0 sets low high
+
+at_most_one : (b : Bool) → cond {A = ℕ} b 1 0 ≤ 1
+at_most_one true = omega arith
+at_most_one false = omega arith
+
+none_zero : (xs : List ℕ) → ((i : ℕ) → i < length xs → get_or xs i 0 ≡ 1) → count_by (λ x. x == 0) xs ≡ 0
+none_zero [] h = refl
+none_zero (x ∷ xs) h =
+    let rest : count_by (λ y. y == 0) xs ≡ 0 = none_zero xs (λ i l. h (suc i) (omega arith)) in
+    let one : x ≡ 1 = h 0 (omega arith) in
+    let z : ◌≡◌ {A = ℕ} (cond (x == 0) 1 0) 0 = ap (λ y. cond {A = ℕ} (y == 0) 1 0) one in
+    let c : count_by (λ y. y == 0) (x ∷ xs) ≡ cond {A = ℕ} (x == 0) 1 0 + count_by (λ y. y == 0) xs = sum_by-cons (λ y. cond (y == 0) 1 0) x xs in
+    omega arith
+
+one_zero : (xs : List ℕ) (k : ℕ) → ((i : ℕ) → i < length xs → i ≢ k → get_or xs i 0 ≡ 1) → count_by (λ x. x == 0) xs ≤ 1
+one_zero [] k h = omega arith
+one_zero (x ∷ xs) zero h =
+    let rest : count_by (λ y. y == 0) xs ≡ 0 = none_zero xs (λ i l. h (suc i) (omega arith) (omega arith)) in
+    let z : cond {A = ℕ} (x == 0) 1 0 ≤ 1 = at_most_one (x == 0) in
+    let c : count_by (λ y. y == 0) (x ∷ xs) ≡ cond {A = ℕ} (x == 0) 1 0 + count_by (λ y. y == 0) xs = sum_by-cons (λ y. cond (y == 0) 1 0) x xs in
+    omega arith
+one_zero (x ∷ xs) (suc k) h =
+    let rest : count_by (λ y. y == 0) xs ≤ 1 = one_zero xs k (λ i l apart. h (suc i) (omega arith) (omega arith)) in
+    let one : x ≡ 1 = h 0 (omega arith) (omega arith) in
+    let z : ◌≡◌ {A = ℕ} (cond (x == 0) 1 0) 0 = ap (λ y. cond {A = ℕ} (y == 0) 1 0) one in
+    let c : count_by (λ y. y == 0) (x ∷ xs) ≡ cond {A = ℕ} (x == 0) 1 0 + count_by (λ y. y == 0) xs = sum_by-cons (λ y. cond (y == 0) 1 0) x xs in
+    omega arith
+
+-- where each bit is set nothing is free
+pub free_blocks-none : (g : Geometry) (blocks : List (List ℕ)) → ((b : ℕ) → data_start_of g.size g.inodes ≤ b → b < g.size → bit_of blocks (bitmap_start_of g.inodes) b ≡ 1) → free_blocks g blocks ≡ 0
+free_blocks-none g blocks all = none_zero (data_bits g blocks) (λ i l.
+    let within : i < g.size - data_start_of g.size g.inodes = omega (arith, length-data_bits g blocks) in
+    get_or-data_bits g blocks i within ∙ all (data_start_of g.size g.inodes + i) (omega arith) (omega arith))
+
+-- where only one may be clear at most one is free
+pub free_blocks-one : (g : Geometry) (blocks : List (List ℕ)) (k : ℕ) → data_start_of g.size g.inodes ≤ k → ((b : ℕ) → data_start_of g.size g.inodes ≤ b → b < g.size → b ≢ k → bit_of blocks (bitmap_start_of g.inodes) b ≡ 1) → free_blocks g blocks ≤ 1
+free_blocks-one g blocks k low all = one_zero (data_bits g blocks) (k - data_start_of g.size g.inodes) (λ i l apart.
+    let within : i < g.size - data_start_of g.size g.inodes = omega (arith, length-data_bits g blocks) in
+    get_or-data_bits g blocks i within ∙ all (data_start_of g.size g.inodes + i) (omega arith) (omega arith) (omega arith))
+
+-- the same bits
+pub free_blocks-same : (g : Geometry) (old new : List (List ℕ)) → ((b : ℕ) → b < g.size → bit_of new (bitmap_start_of g.inodes) b ≡ bit_of old (bitmap_start_of g.inodes) b) → free_blocks g new ≡ free_blocks g old
+free_blocks-same g old new same = ap (count_by (λ x. x == 0)) (ext_get_or 0 (data_bits g new) (data_bits g old) (length-data_bits g new ∙ sym (length-data_bits g old)) (λ i l.
+    let within : i < g.size - data_start_of g.size g.inodes = omega (arith, length-data_bits g new) in
+    get_or-data_bits g new i within ∙ same (data_start_of g.size g.inodes + i) (omega arith) ∙ sym (get_or-data_bits g old i within)))

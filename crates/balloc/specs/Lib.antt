@@ -1,0 +1,5 @@
+pub mod Bitmap
+pub mod Bits
+pub mod Counting
+pub mod Format
+pub mod Inodes

@@ -1,0 +1,182 @@
+//! The bitmap of blocks. A call looks for a free block from the first data block on.
+
+ghost use Rattle.std.specs.Prelude.{◌≡◌, ◌≢◌, ℕ, ◌+◌, ◌-◌, ◌*◌, ◌/◌, ◌%◌, ◌<◌, ◌≤◌, List, length, OnOk, IfOk, IfSome, IfNone, IsErrOf};
+ghost use Rattle.std.specs.Bool.{OnTrue, OnFalse};
+ghost use Rattle.std.specs.Int.{bit_at};
+ghost use Rattle.blockdev.specs.Blocks.{HasCause, HasFailed, block_at};
+ghost use Rattle.layout.specs.Super.{bitmap_start_of, data_start_of};
+ghost use Rattle.layout.specs.Image.{IsFree, bit_in, bit_of, free_blocks};
+ghost use Rattle.layout.specs.Sound.{HasParts};
+ghost use Rattle.balloc.specs.Bitmap.{SetsBit, TakesLowest, TakesTwo};
+
+use crate::BallocFault;
+use blockdev::{Block, BlockDev, DeviceFault};
+use cache::Cache;
+use layout::Geometry;
+
+/// Takes the lowest free block. `Blocks` comes exactly where none is free, and nothing is changed then.
+pub fn take_block<D: BlockDev>(
+    disk: &mut Cache<D>,
+    geometry: Geometry,
+) -> Result<usize, BallocFault>
+    requires { HasParts geometry disk.old.blocks }
+    ensures taken { IfOk result (λ b. TakesLowest geometry disk.old.blocks disk.new.blocks b) }
+    ensures free { OnOk result (free_blocks geometry disk.new.blocks + 1 ≡ free_blocks geometry disk.old.blocks) }
+    ensures none { IsErrOf result BallocFault.Blocks → free_blocks geometry disk.old.blocks ≡ 0 }
+    ensures unchanged { IsErrOf result BallocFault.Blocks → disk.new.blocks ≡ disk.old.blocks }
+    ensures only { IsErrOf result BallocFault.Inodes → ⊥ }
+    ensures count { length disk.new.blocks ≡ length disk.old.blocks }
+    ensures later { disk.old.failures ≤ disk.new.failures }
+    ensures failed { IsErrOf result BallocFault.Device → HasFailed disk.old.failures disk.new.failures }
+{
+    let found = find_free(disk, geometry, geometry.data_start())?;
+    let Some(b) = found else {
+        return Err(BallocFault::Blocks);
+    };
+    mark(disk, geometry, b)?;
+    Ok(b)
+}
+
+/// Takes the two lowest free blocks. `Blocks` comes exactly where fewer are free, and nothing is changed then.
+pub fn take_two<D: BlockDev>(
+    disk: &mut Cache<D>,
+    geometry: Geometry,
+) -> Result<(usize, usize), BallocFault>
+    requires { HasParts geometry disk.old.blocks }
+    ensures taken { IfOk result (λ two. TakesTwo geometry disk.old.blocks disk.new.blocks two.0 two.1) }
+    ensures free { OnOk result (free_blocks geometry disk.new.blocks + 2 ≡ free_blocks geometry disk.old.blocks) }
+    ensures few { IsErrOf result BallocFault.Blocks → free_blocks geometry disk.old.blocks ≤ 1 }
+    ensures unchanged { IsErrOf result BallocFault.Blocks → disk.new.blocks ≡ disk.old.blocks }
+    ensures only { IsErrOf result BallocFault.Inodes → ⊥ }
+    ensures count { length disk.new.blocks ≡ length disk.old.blocks }
+    ensures later { disk.old.failures ≤ disk.new.failures }
+    ensures failed { IsErrOf result BallocFault.Device → HasFailed disk.old.failures disk.new.failures }
+{
+    let lowest = find_free(disk, geometry, geometry.data_start())?;
+    let Some(first) = lowest else {
+        return Err(BallocFault::Blocks);
+    };
+    let next = find_free(disk, geometry, first + 1)?;
+    let Some(second) = next else {
+        return Err(BallocFault::Blocks);
+    };
+    mark(disk, geometry, first)?;
+    mark(disk, geometry, second)?;
+    Ok((first, second))
+}
+
+/// Gives back a data block that is taken.
+pub fn give_block<D: BlockDev>(
+    disk: &mut Cache<D>,
+    geometry: Geometry,
+    b: usize,
+) -> Result<(), DeviceFault>
+    requires parts { HasParts geometry disk.old.blocks }
+    requires low { data_start_of geometry.size geometry.inodes ≤ b }
+    requires high { b < geometry.size }
+    requires taken { bit_of disk.old.blocks (bitmap_start_of geometry.inodes) b ≡ 1 }
+    ensures given { OnOk result (SetsBit geometry disk.old.blocks disk.new.blocks b 0) }
+    ensures free { OnOk result (free_blocks geometry disk.new.blocks ≡ free_blocks geometry disk.old.blocks + 1) }
+    ensures count { length disk.new.blocks ≡ length disk.old.blocks }
+    ensures cause { HasCause disk.old.failures disk.new.failures result }
+{
+    let at = geometry.bitmap_start() + b / 8192;
+    let block = disk.read(at)?;
+    let place = b % 8192 / 8;
+    let byte = without_bit(block[place], b % 8);
+    disk.write(at, place, &[byte])
+}
+
+/// Sets the bit of a block.
+pub fn mark<D: BlockDev>(
+    disk: &mut Cache<D>,
+    geometry: Geometry,
+    b: usize,
+) -> Result<(), DeviceFault>
+    requires parts { HasParts geometry disk.old.blocks }
+    requires high { b < geometry.size }
+    ensures sets { OnOk result (SetsBit geometry disk.old.blocks disk.new.blocks b 1) }
+    ensures count { length disk.new.blocks ≡ length disk.old.blocks }
+    ensures cause { HasCause disk.old.failures disk.new.failures result }
+{
+    let at = geometry.bitmap_start() + b / 8192;
+    let block = disk.read(at)?;
+    let place = b % 8192 / 8;
+    let byte = with_bit(block[place], b % 8);
+    disk.write(at, place, &[byte])
+}
+
+// The lowest free block from a data block on.
+fn find_free<D: BlockDev>(
+    disk: &mut Cache<D>,
+    geometry: Geometry,
+    from: usize,
+) -> Result<Option<usize>, DeviceFault>
+    requires parts { HasParts geometry disk.old.blocks }
+    requires from { data_start_of geometry.size geometry.inodes ≤ from }
+    ensures found { IfOk result (λ r. IfSome r (λ b. (from ≤ b) × IsFree geometry disk.old.blocks b)) }
+    ensures lowest { IfOk result (λ r. IfSome r (λ b. (c : ℕ) → from ≤ c → c < b → bit_of disk.old.blocks (bitmap_start_of geometry.inodes) c ≡ 1)) }
+    ensures none { IfOk result (λ r. IfNone r ((c : ℕ) → from ≤ c → c < geometry.size → bit_of disk.old.blocks (bitmap_start_of geometry.inodes) c ≡ 1)) }
+    ensures same { OnOk result (disk.new.blocks ≡ disk.old.blocks) }
+    ensures count { length disk.new.blocks ≡ length disk.old.blocks }
+    ensures cause { HasCause disk.old.failures disk.new.failures result }
+{
+    let start = geometry.bitmap_start();
+    let mut b = from;
+    'scan: while b < geometry.size {
+        let block = disk.read(start + b / 8192)?;
+        let first = b / 8192 * 8192;
+        let end = geometry.size.min(first + 8192);
+        if let Some(i) = first_clear(&block, b % 8192, end - first) {
+            return Ok(Some(first + i));
+        }
+        b = end;
+    }
+    Ok(None)
+}
+
+// The lowest clear bit of a block in a range.
+#[tactic(auto, unfolding(layout::specs::Image::bit_in))]
+fn first_clear(block: &Block, from: usize, to: usize) -> Option<usize>
+    requires { to ≤ 8192 }
+    ensures some { IfSome result (λ i. (from ≤ i) × (i < to) × (bit_in block.now i ≡ 0)) }
+    ensures lowest { IfSome result (λ i. (k : ℕ) → from ≤ k → k < i → bit_in block.now k ≡ 1) }
+    ensures none { IfNone result ((k : ℕ) → from ≤ k → k < to → bit_in block.now k ≡ 1) }
+{
+    for i in from..to {
+        if !is_set(block, i) {
+            return Some(i);
+        }
+    }
+    None
+}
+
+// Whether a bit of a block is set.
+#[tactic(auto, unfolding(layout::specs::Image::bit_in))]
+fn is_set(block: &Block, i: usize) -> bool
+    requires { i < 8192 }
+    ensures set { OnTrue result (bit_in block.now i ≡ 1) }
+    ensures clear { OnFalse result (bit_in block.now i ≡ 0) }
+{
+    block[i / 8] >> (i % 8) & 1 == 1
+}
+
+// A byte with a bit set.
+#[tactic(auto, using(crate::specs::Bits::one_bit))]
+fn with_bit(byte: u8, k: usize) -> u8
+    requires { k < 8 }
+    ensures here { bit_at result k ≡ 1 }
+    ensures others { (j : ℕ) → j < 8 → j ≢ k → bit_at result j ≡ bit_at byte j }
+{
+    byte | 1 << k
+}
+
+// A byte with a bit clear.
+#[tactic(auto, using(crate::specs::Bits::one_bit))]
+fn without_bit(byte: u8, k: usize) -> u8
+    requires { k < 8 }
+    ensures here { bit_at result k ≡ 0 }
+    ensures others { (j : ℕ) → j < 8 → j ≢ k → bit_at result j ≡ bit_at byte j }
+{
+    byte & !(1 << k)
+}

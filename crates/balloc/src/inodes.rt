@@ -1,0 +1,168 @@
+//! The records of inodes: an inode is free where its type is 0.
+
+ghost use Rattle.std.specs.Prelude.{◌≡◌, ◌≢◌, ℕ, ◌+◌, ◌-◌, ◌*◌, ◌/◌, ◌%◌, ◌<◌, ◌≤◌, List, [], length, slice_set, Some, None, OnOk, IfOk, IfSome, IfNone, IsErrOf};
+ghost use Rattle.blockdev.specs.Blocks.{HasCause, HasFailed, block_at};
+ghost use Rattle.blockdev.specs.Splice.{part};
+ghost use Rattle.layout.specs.Inode.{Fits, inode_of};
+ghost use Rattle.layout.specs.Image.{IsInode, free_blocks, inode_at, nodes_of};
+ghost use Rattle.layout.specs.Sound.{HasParts, IsSound};
+ghost use Rattle.layout.specs.Grow.{WritesInode};
+ghost use Rattle.balloc.specs.Inodes.{IsLowestUnused, fresh_inode, fresh_node};
+
+use crate::BallocFault;
+use blockdev::{Block, BlockDev, DeviceFault};
+use cache::Cache;
+use layout::{DiskInode, Geometry};
+
+/// The record of an inode.
+pub fn read_inode<D: BlockDev>(
+    disk: &mut Cache<D>,
+    geometry: Geometry,
+    number: usize,
+) -> Result<DiskInode, DeviceFault>
+    requires parts { HasParts geometry disk.old.blocks }
+    requires high { number < geometry.inodes }
+    ensures inode { IfOk result (λ inode. inode ≡ inode_at disk.old.blocks number) }
+    ensures fits { IfOk result (λ inode. Fits inode) }
+    ensures same { OnOk result (disk.new.blocks ≡ disk.old.blocks) }
+    ensures count { length disk.new.blocks ≡ length disk.old.blocks }
+    ensures cause { HasCause disk.old.failures disk.new.failures result }
+{
+    let block = disk.read(2 + number / 16)?;
+    let at = 64 * (number % 16);
+    Ok(DiskInode::from_front(&block[at..at + 64]))
+}
+
+/// Writes the record of an inode.
+pub fn write_inode<D: BlockDev>(
+    disk: &mut Cache<D>,
+    geometry: Geometry,
+    number: usize,
+    inode: &DiskInode,
+) -> Result<(), DeviceFault>
+    requires parts { HasParts geometry disk.old.blocks }
+    requires high { number < geometry.inodes }
+    requires fits { Fits inode.now }
+    ensures writes { OnOk result (WritesInode geometry disk.old.blocks disk.new.blocks number inode.now) }
+    ensures count { length disk.new.blocks ≡ length disk.old.blocks }
+    ensures cause { HasCause disk.old.failures disk.new.failures result }
+{
+    disk.write(2 + number / 16, 64 * (number % 16), &inode.to_bytes())
+}
+
+/// Takes the lowest free inode, for a node without bytes of this type, major, minor and number of links. `Inodes`
+/// comes exactly where none is free, and nothing is changed then.
+pub fn take_inode<D: BlockDev>(
+    disk: &mut Cache<D>,
+    geometry: Geometry,
+    kind: u16,
+    major: u16,
+    minor: u16,
+    links: u16,
+) -> Result<usize, BallocFault>
+    requires sound { IsSound geometry disk.old.blocks }
+    requires some { 1 ≤ kind }
+    requires kind { kind ≤ 3 }
+    ensures taken { IfOk result (λ n. IsLowestUnused geometry disk.old.blocks n) }
+    ensures inode { IfOk result (λ n. inode_at disk.new.blocks n ≡ fresh_inode kind major minor links) }
+    ensures sound { OnOk result (IsSound geometry disk.new.blocks) }
+    ensures nodes { IfOk result (λ n. nodes_of disk.new.blocks geometry.inodes ≡ slice_set (nodes_of disk.old.blocks geometry.inodes) n (Some (fresh_node kind major minor links))) }
+    ensures free { OnOk result (free_blocks geometry disk.new.blocks ≡ free_blocks geometry disk.old.blocks) }
+    ensures none { IsErrOf result BallocFault.Inodes → (n : ℕ) → 1 ≤ n → n < geometry.inodes → (inode_at disk.old.blocks n).kind ≢ 0 }
+    ensures unchanged { IsErrOf result BallocFault.Inodes → disk.new.blocks ≡ disk.old.blocks }
+    ensures only { IsErrOf result BallocFault.Blocks → ⊥ }
+    ensures count { length disk.new.blocks ≡ length disk.old.blocks }
+    ensures later { disk.old.failures ≤ disk.new.failures }
+    ensures failed { IsErrOf result BallocFault.Device → HasFailed disk.old.failures disk.new.failures }
+{
+    let found = find_unused(disk, geometry)?;
+    let Some(number) = found else {
+        return Err(BallocFault::Inodes);
+    };
+    let inode = DiskInode {
+        kind,
+        major,
+        minor,
+        links,
+        size: 0,
+        addresses: [0; 13],
+    };
+    write_inode(disk, geometry, number, &inode)?;
+    Ok(number)
+}
+
+/// Gives back an inode that has no bytes.
+pub fn give_inode<D: BlockDev>(
+    disk: &mut Cache<D>,
+    geometry: Geometry,
+    number: usize,
+) -> Result<(), DeviceFault>
+    requires sound { IsSound geometry disk.old.blocks }
+    requires inode { IsInode disk.old.blocks geometry.inodes number }
+    requires empty { (inode_at disk.old.blocks number).size ≡ 0 }
+    ensures sound { OnOk result (IsSound geometry disk.new.blocks) }
+    ensures nodes { OnOk result (nodes_of disk.new.blocks geometry.inodes ≡ slice_set (nodes_of disk.old.blocks geometry.inodes) number None) }
+    ensures free { OnOk result (free_blocks geometry disk.new.blocks ≡ free_blocks geometry disk.old.blocks) }
+    ensures count { length disk.new.blocks ≡ length disk.old.blocks }
+    ensures cause { HasCause disk.old.failures disk.new.failures result }
+{
+    let inode = DiskInode {
+        kind: 0,
+        major: 0,
+        minor: 0,
+        links: 0,
+        size: 0,
+        addresses: [0; 13],
+    };
+    write_inode(disk, geometry, number, &inode)
+}
+
+// The lowest number from 1 on whose type is 0.
+fn find_unused<D: BlockDev>(
+    disk: &mut Cache<D>,
+    geometry: Geometry,
+) -> Result<Option<usize>, DeviceFault>
+    requires { HasParts geometry disk.old.blocks }
+    ensures found { IfOk result (λ r. IfSome r (λ n. IsLowestUnused geometry disk.old.blocks n)) }
+    ensures none { IfOk result (λ r. IfNone r ((n : ℕ) → 1 ≤ n → n < geometry.inodes → (inode_at disk.old.blocks n).kind ≢ 0)) }
+    ensures same { OnOk result (disk.new.blocks ≡ disk.old.blocks) }
+    ensures count { length disk.new.blocks ≡ length disk.old.blocks }
+    ensures cause { HasCause disk.old.failures disk.new.failures result }
+{
+    let mut n = 1;
+    'scan: while n < geometry.inodes {
+        let block = disk.read(2 + n / 16)?;
+        let first = n / 16 * 16;
+        let end = geometry.inodes.min(first + 16);
+        if let Some(i) = first_unused(&block, n % 16, end - first) {
+            return Ok(Some(first + i));
+        }
+        n = end;
+    }
+    Ok(None)
+}
+
+// The lowest record of a block in a range whose type is 0.
+fn first_unused(block: &Block, from: usize, to: usize) -> Option<usize>
+    requires { to ≤ 16 }
+    ensures some { IfSome result (λ i. (from ≤ i) × (i < to) × ((inode_of (part (64 * i) 64 block.now)).kind ≡ 0)) }
+    ensures lowest { IfSome result (λ i. (k : ℕ) → from ≤ k → k < i → (inode_of (part (64 * k) 64 block.now)).kind ≢ 0) }
+    ensures none { IfNone result ((k : ℕ) → from ≤ k → k < to → (inode_of (part (64 * k) 64 block.now)).kind ≢ 0) }
+{
+    for i in from..to {
+        if inode_in(block, i).kind == 0 {
+            return Some(i);
+        }
+    }
+    None
+}
+
+// Record `i` of a block.
+fn inode_in(block: &Block, i: usize) -> DiskInode
+    requires { i < 16 }
+    ensures inode { result ≡ inode_of (part (64 * i) 64 block.now) }
+    ensures fits { Fits result }
+{
+    let at = 64 * i;
+    DiskInode::from_front(&block[at..at + 64])
+}

@@ -1,0 +1,7 @@
+use Rattle.std.proofs.Common.{◌*◌, length, ap, ◌∙◌, arith}
+use Rattle.std.proofs.lemmas.Slice.{between_to_end}
+use Rattle.byteorder.specs.Endian.{little_number}
+use Rattle.layout.proofs.read_number.Goals as goal
+
+pub returns : goal.returns
+returns c = c.read_u32.ensures ∙ ap (little_number 4) (between_to_end c.args.bytes.now (4 * c.args.k) (length c.args.bytes.now) (omega arith))

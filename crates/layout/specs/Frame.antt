@@ -1,0 +1,208 @@
+-- One inode of a disk changes with the blocks that it names: the others stay, and the disk stays sound.
+use Rattle.std.specs.Prelude.{◌≡◌, ◌≢◌, ℕ, ◌/◌, ◌%◌, ◌<◌, ◌≤◌, ◌⊎◌, ◌↔◌, ◌==◌, ◌||◌, List, length, get_or, Option, None, Some}
+use Rattle.std.proofs.Common.{set, ap, sym, ◌∙◌, arith, inl, inr, refl, subst, cond}
+use Rattle.std.proofs.lemmas.Bool.{cases_lt, cases_eq}
+use Rattle.std.proofs.lemmas.Bool.Decides.{nat_tests}
+use Rattle.std.proofs.lemmas.List.{get_or-set_other, get_or-set_same, length-set, ext_get_or}
+use Rattle.std.proofs.lemmas.List.FromFn.{length-map-range_with_len, get_or-map-range_with_len}
+use Rattle.blockdev.specs.Blocks.{AreBlocks, block_at}
+use Rattle.layout.specs.Super.{bitmap_start_of, data_start_of}
+use Rattle.layout.specs.declared.DiskInode.{DiskInode}
+use Rattle.layout.specs.declared.Geometry.{Geometry}
+use Rattle.layout.specs.Image.{IsInode, IsSpare, IsUsed, RawNode, bit_of, byte_of, bytes_of, inode_at, node_at, node_with, nodes_of, slot_in, slot_of}
+use Rattle.layout.specs.Sound.{IsNamed, IsSound, TellsGeometry}
+use Rattle.layout.specs.Slots.{IsInode-same, IsSpare-same, IsUsed-same, slot_in-same, slot_of-last, used_at, used_last, used_within}
+
+-- ---- lists made by place
+
+pub length-bytes_of : (blocks : List (List ℕ)) (n : ℕ) → length (bytes_of blocks n) ≡ (inode_at blocks n).size
+unfolding bytes_of
+length-bytes_of blocks n = length-map-range_with_len (byte_of blocks n) 0 (inode_at blocks n).size
+
+pub get_or-bytes_of : (blocks : List (List ℕ)) (n j : ℕ) → j < (inode_at blocks n).size → get_or (bytes_of blocks n) j 0 ≡ byte_of blocks n j
+unfolding bytes_of
+get_or-bytes_of blocks n j h = get_or-map-range_with_len (byte_of blocks n) 0 (inode_at blocks n).size j j 0 h (omega arith)
+
+pub length-nodes_of : (blocks : List (List ℕ)) (inodes : ℕ) → length (nodes_of blocks inodes) ≡ inodes
+unfolding nodes_of
+length-nodes_of blocks inodes = length-map-range_with_len (node_at blocks) 0 inodes
+
+pub get_or-nodes_of : (blocks : List (List ℕ)) (inodes n : ℕ) → n < inodes → get_or (nodes_of blocks inodes) n None ≡ node_at blocks n
+unfolding nodes_of
+get_or-nodes_of blocks inodes n h = get_or-map-range_with_len (node_at blocks) 0 inodes n n None h (omega arith)
+
+pub node_at-some : (blocks : List (List ℕ)) (n : ℕ) → 1 ≤ n → (inode_at blocks n).kind ≢ 0 → node_at blocks n ≡ Some (node_with (inode_at blocks n) (bytes_of blocks n))
+unfolding node_at
+node_at-some blocks n h k = go n (inode_at blocks n).kind h k where
+  go : (n kind : ℕ) {x : Option RawNode} → 1 ≤ n → kind ≢ 0 → cond ((n == 0) || (kind == 0)) None x ≡ x
+  go n kind h k = grind (arith, nat_tests)
+
+free : (n kind : ℕ) (x : Option RawNode) → (n ≡ 0) ⊎ (kind ≡ 0) → cond ((n == 0) || (kind == 0)) None x ≡ None
+free n kind x h = elim h [ inl e ↦ grind (arith, nat_tests) | inr e ↦ grind (arith, nat_tests) ]
+
+pub node_at-none : (blocks : List (List ℕ)) (n : ℕ) → (n ≡ 0) ⊎ ((inode_at blocks n).kind ≡ 0) → node_at blocks n ≡ None
+unfolding node_at
+node_at-none blocks n h = free n (inode_at blocks n).kind _ h
+
+-- ---- the other inodes
+
+-- all inodes but n stay, and the blocks that they name
+pub record KeepsOthers (g : Geometry) (old new : List (List ℕ)) (n : ℕ) : Type 0 where
+  pub count : length new ≡ length old
+  pub sizes : AreBlocks new
+  pub head : block_at new 1 ≡ block_at old 1
+  pub inodes : (m : ℕ) → m < g.inodes → m ≢ n → inode_at new m ≡ inode_at old m
+  pub named : (m j : ℕ) → IsUsed old g.inodes m j → m ≢ n → block_at new (slot_of old m j) ≡ block_at old (slot_of old m j)
+
+module _ (g : Geometry) (old new : List (List ℕ)) (n : ℕ) (sound : IsSound g old) (keeps : KeepsOthers g old new n) where
+  used_before : (m j : ℕ) → m ≢ n → IsUsed new g.inodes m j → IsUsed old g.inodes m j
+  used_before m j apart u = IsUsed-same old new g.inodes m j (keeps.inodes m u.inode.high apart) u
+
+  used_after : (m j : ℕ) → m ≢ n → IsUsed old g.inodes m j → IsUsed new g.inodes m j
+  used_after m j apart u = IsUsed-same new old g.inodes m j (sym (keeps.inodes m u.inode.high apart)) u
+
+  -- a slot of another inode, where the indirect block that it stands in is in use
+  slot_stays : (m j : ℕ) → m ≢ n → m < g.inodes → j < 269 → (12 ≤ j → j < 268 → IsUsed old g.inodes m 268) → slot_of new m j ≡ slot_of old m j
+  unfolding slot_of
+  slot_stays m j apart high within last =
+      ap (λ i. slot_in new i j) (keeps.inodes m high apart)
+      ∙ slot_in-same old new (inode_at old m) j within (λ h l.
+      ap (block_at new) (sym (slot_of-last old m)) ∙ keeps.named m 268 (last h l) apart ∙ ap (block_at old) (slot_of-last old m))
+
+  pub slots_stay : (m j : ℕ) → m ≢ n → IsUsed old g.inodes m j → slot_of new m j ≡ slot_of old m j
+  slots_stay m j apart u = slot_stays m j apart u.inode.high (used_within g old sound m j u) (λ h l. used_last old g.inodes m j u h)
+
+  spares_stay : (m j : ℕ) → m ≢ n → IsInode old g.inodes m → IsSpare (inode_at old m).size j → slot_of new m j ≡ slot_of old m j
+  spares_stay m j apart i spare = slot_stays m j apart i.high spare.within (λ h l. record { inode = i; slot = inr (refl, spare.index h l) })
+
+  bytes_stay : (m : ℕ) → m ≢ n → IsInode old g.inodes m → bytes_of new m ≡ bytes_of old m
+  unfolding byte_of
+  bytes_stay m apart i =
+      let same : inode_at new m ≡ inode_at old m = keeps.inodes m i.high apart in
+      let size : (inode_at new m).size ≡ (inode_at old m).size = ap (λ (k : DiskInode). k.size) same in
+      ext_get_or 0 (bytes_of new m) (bytes_of old m) (length-bytes_of new m ∙ size ∙ sym (length-bytes_of old m)) (λ j l.
+      let j_in : j < (inode_at old m).size = omega (arith, length-bytes_of new m) in
+      let used : IsUsed old g.inodes m (j / 1024) = used_at old g.inodes m j i j_in in
+      get_or-bytes_of new m j (omega arith)
+      ∙ ap (λ q. get_or (block_at new q) (j % 1024) 0) (slots_stay m (j / 1024) apart used)
+      ∙ ap (λ b. get_or b (j % 1024) 0) (keeps.named m (j / 1024) used apart)
+      ∙ sym (get_or-bytes_of old m j j_in))
+
+  node_stays : (m : ℕ) → m ≢ n → m < g.inodes → node_at new m ≡ node_at old m
+  node_stays m apart high =
+      let kind : (inode_at new m).kind ≡ (inode_at old m).kind = ap (λ (k : DiskInode). k.kind) (keeps.inodes m high apart) in
+      elim (cases_lt 0 m) [
+        | inr none ↦ node_at-none new m (inl (omega arith)) ∙ sym (node_at-none old m (inl (omega arith)))
+        | inl some ↦ elim (cases_eq (inode_at old m).kind 0) [
+          | inl empty ↦ node_at-none new m (inr (kind ∙ empty)) ∙ sym (node_at-none old m (inr empty))
+          | inr taken ↦ node_at-some new m some (λ z. taken (sym kind ∙ z))
+              ∙ ap (λ (i : DiskInode). Some (node_with i (bytes_of new m))) (keeps.inodes m high apart)
+              ∙ ap (λ b. Some (node_with (inode_at old m) b)) (bytes_stay m apart (record { low = some; high = high; kind = taken }))
+              ∙ sym (node_at-some old m some taken)
+        ]
+      ]
+
+  -- the nodes: those of before, but for that of n
+  pub nodes_of-changed : n < g.inodes → nodes_of new g.inodes ≡ set (nodes_of old g.inodes) n (node_at new n)
+  nodes_of-changed high =
+      ext_get_or None (nodes_of new g.inodes) (set (nodes_of old g.inodes) n (node_at new n))
+      (length-nodes_of new g.inodes ∙ sym (length-nodes_of old g.inodes) ∙ sym (length-set (nodes_of old g.inodes) n (node_at new n)))
+      (λ m l.
+      let m_in : m < g.inodes = omega (arith, length-nodes_of new g.inodes) in
+      get_or-nodes_of new g.inodes m m_in
+      ∙ (elim (cases_eq m n) [
+        | inl here ↦ ap (node_at new) here
+            ∙ sym (get_or-set_same (nodes_of old g.inodes) n (node_at new n) None (omega (arith, length-nodes_of old g.inodes)))
+            ∙ ap (λ q. get_or (set (nodes_of old g.inodes) n (node_at new n)) q None) (sym here)
+        | inr other ↦ node_stays m other m_in
+            ∙ sym (get_or-nodes_of old g.inodes m m_in)
+            ∙ sym (get_or-set_other (nodes_of old g.inodes) n m (node_at new n) None other)
+      ]))
+
+  -- ---- the disk stays sound
+
+  -- an inode but n names the block
+  abbrev pub NamedApart : ℕ → Type 0
+  NamedApart b = (m : ℕ) × (j : ℕ) × (m ≢ n) × IsUsed old g.inodes m j × (slot_of old m j ≡ b)
+
+  abbrev pub NamedHere : ℕ → Type 0
+  NamedHere b = (j : ℕ) × IsUsed new g.inodes n j × (slot_of new n j ≡ b)
+
+  named_apart : (b : ℕ) → NamedApart b → IsNamed new g.inodes b
+  named_apart b (m, j, apart, u, e) = (m, j, used_after m j apart u, slots_stay m j apart u ∙ e)
+
+  named_here : (b : ℕ) → NamedHere b → IsNamed new g.inodes b
+  named_here b (j, u, e) = (n, j, u, e)
+
+  named_where : (b : ℕ) → IsNamed new g.inodes b → NamedApart b ⊎ NamedHere b
+  named_where b (m, j, u, e) = elim (cases_eq m n) [
+    | inl here ↦ inr (j, subst (λ q. IsUsed new g.inodes q j) here u, ap (λ q. slot_of new q j) (sym here) ∙ e)
+    | inr apart ↦ inl (m, j, apart, used_before m j apart u, sym (slots_stay m j apart (used_before m j apart u)) ∙ e)
+  ]
+
+  -- what has to be said of n alone
+  pub record IsSoundAt : Type 0 where
+    pub kind : (inode_at new n).kind ≤ 3
+    pub fits : (inode_at new n).size ≤ 274432
+    pub in_range : (j : ℕ) → IsUsed new g.inodes n j → (data_start_of g.size g.inodes ≤ slot_of new n j) × (slot_of new n j < g.size)
+    pub once : (i j : ℕ) → IsUsed new g.inodes n i → IsUsed new g.inodes n j → slot_of new n i ≡ slot_of new n j → i ≡ j
+    pub apart : (b : ℕ) → NamedHere b → NamedApart b → ⊥
+    pub spare : (j : ℕ) → IsInode new g.inodes n → IsSpare (inode_at new n).size j → slot_of new n j ≡ 0
+    pub marked : (b : ℕ) → b < g.size → (bit_of new (bitmap_start_of g.inodes) b ≡ 1) ↔ ((b < data_start_of g.size g.inodes) ⊎ (NamedApart b ⊎ NamedHere b))
+
+  pub IsSound-replace : IsSoundAt → IsSound g new
+  IsSound-replace own = record {
+    parts = record {
+      count = keeps.count ∙ sound.parts.count;
+      sizes = keeps.sizes;
+      size_high = sound.parts.size_high;
+      inodes_low = sound.parts.inodes_low;
+      inodes_high = sound.parts.inodes_high;
+      room = sound.parts.room;
+    };
+    head = subst (TellsGeometry g) (sym keeps.head) sound.head;
+    kinds = λ m l h. elim (cases_eq m n) [
+      | inl here ↦ subst (λ q. (inode_at new q).kind ≤ 3) (sym here) own.kind
+      | inr apart ↦ let e : (inode_at new m).kind ≡ (inode_at old m).kind = ap (λ (i : DiskInode). i.kind) (keeps.inodes m h apart) in omega (arith, sound.kinds m l h)
+    ];
+    fits = λ m i. elim (cases_eq m n) [
+      | inl here ↦ subst (λ q. (inode_at new q).size ≤ 274432) (sym here) own.fits
+      | inr apart ↦
+          let e : (inode_at new m).size ≡ (inode_at old m).size = ap (λ (i : DiskInode). i.size) (keeps.inodes m i.high apart) in
+          omega (arith, sound.fits m (IsInode-same old new g.inodes m (keeps.inodes m i.high apart) i))
+    ];
+    in_range = λ m j u. elim (cases_eq m n) [
+      | inl here ↦ subst (λ q. (data_start_of g.size g.inodes ≤ slot_of new q j) × (slot_of new q j < g.size)) (sym here) (own.in_range j (subst (λ q. IsUsed new g.inodes q j) here u))
+      | inr apart ↦ subst (λ b. (data_start_of g.size g.inodes ≤ b) × (b < g.size)) (sym (slots_stay m j apart (used_before m j apart u))) (sound.in_range m j (used_before m j apart u))
+    ];
+    once = λ m i q j u v e. elim (cases_eq m n) [
+      | inl here ↦ elim (cases_eq q n) [
+        | inl there ↦
+            let a : IsUsed new g.inodes n i = subst (λ x. IsUsed new g.inodes x i) here u in
+            let b : IsUsed new g.inodes n j = subst (λ x. IsUsed new g.inodes x j) there v in
+            (here ∙ sym there, own.once i j a b (ap (λ x. slot_of new x i) (sym here) ∙ e ∙ ap (λ x. slot_of new x j) there))
+        | inr apart ↦ absurd (own.apart (slot_of new n i)
+            (i, subst (λ x. IsUsed new g.inodes x i) here u, refl)
+            (q, j, apart, used_before q j apart v, sym (slots_stay q j apart (used_before q j apart v)) ∙ sym e ∙ ap (λ x. slot_of new x i) here))
+      ]
+      | inr away ↦ elim (cases_eq q n) [
+        | inl there ↦ absurd (own.apart (slot_of new n j)
+            (j, subst (λ x. IsUsed new g.inodes x j) there v, refl)
+            (m, i, away, used_before m i away u, sym (slots_stay m i away (used_before m i away u)) ∙ e ∙ ap (λ x. slot_of new x j) there))
+        | inr apart ↦ sound.once m i q j (used_before m i away u) (used_before q j apart v)
+            (sym (slots_stay m i away (used_before m i away u)) ∙ e ∙ slots_stay q j apart (used_before q j apart v))
+      ]
+    ];
+    spare = λ m j i s. elim (cases_eq m n) [
+      | inl here ↦ ap (λ q. slot_of new q j) here ∙ own.spare j (subst (λ q. IsInode new g.inodes q) here i) (subst (λ q. IsSpare (inode_at new q).size j) here s)
+      | inr apart ↦
+          let same : inode_at new m ≡ inode_at old m = keeps.inodes m i.high apart in
+          let before : IsInode old g.inodes m = IsInode-same old new g.inodes m same i in
+          let empty : IsSpare (inode_at old m).size j = IsSpare-same old new m j same s in
+          spares_stay m j apart before empty ∙ sound.spare m j before empty
+    ];
+    marked = λ b h. (
+      (λ one. elim ((own.marked b h).0 one) [ inl low ↦ inl low | inr named ↦ inr (elim named [ inl a ↦ named_apart b a | inr a ↦ named_here b a ]) ]),
+      (λ why. (own.marked b h).1 (elim why [ inl low ↦ inl low | inr named ↦ inr (named_where b named) ])),
+    );
+  }

@@ -1,0 +1,55 @@
+-- The round trips: of numbers, and of an inode.
+use Rattle.std.proofs.Common.{◌≡◌, ℕ, ◌+◌, ◌*◌, ◌^◌, ◌<◌, List, [], ◌∷◌, ◌++◌, length, take, drop, ap, sym, ◌∙◌, arith, get_or, zero, suc}
+use Rattle.std.proofs.Math.Seq.{take-append_seam}
+use Rattle.std.proofs.lemmas.List.{drop-drop, ext_get_or}
+use Rattle.byteorder.specs.Endian.{little_number}
+use Rattle.byteorder.specs.Numbers.{little_number-reads_back}
+use Rattle.layout.specs.Numbers.{number_at, numbers_in, spelled}
+use Rattle.layout.specs.declared.DiskInode.{DiskInode}
+use Rattle.layout.specs.Inode.{inode_of, inode_bytes, Fits}
+use Rattle.layout.specs.Entries.{entry_of, entry_bytes, EntryFits}
+use Rattle.layout.specs.Super.{super_of, super_bytes, super_numbers, SuperFits}
+use Rattle.layout.specs.declared.Entry.{Entry}
+use Rattle.layout.specs.declared.SuperBlock.{SuperBlock}
+use Rattle.layout.specs.NumberLemmas.{get_or-numbers_in, length-numbers_in, same_inode, same_super}
+
+pub number_at-spelled : (xs rest : List ℕ) (k : ℕ) → k < length xs → ((i : ℕ) → i < length xs → get_or xs i 0 < 2 ^ 32) → number_at (spelled xs ++ rest) k ≡ get_or xs k 0
+number_at-spelled [] rest k h fits = absurd (omega arith)
+number_at-spelled (x ∷ xs) rest zero h fits = little_number-reads_back 4 x (spelled xs ++ rest) (fits 0 (omega arith))
+number_at-spelled (x ∷ xs) rest (suc k) h fits =
+    let e : 4 * suc k ≡ 4 + 4 * k = omega arith in
+    ap (λ n. little_number 4 (drop n (spelled (x ∷ xs) ++ rest))) e
+    ∙ ap (little_number 4) (sym (drop-drop (4 * k) 4 (spelled (x ∷ xs) ++ rest)))
+    ∙ number_at-spelled xs rest k (omega arith) (λ i l. fits (suc i) (omega arith))
+
+pub numbers_in-spelled : (n : ℕ) (xs rest : List ℕ) → length xs ≡ n → ((i : ℕ) → i < length xs → get_or xs i 0 < 2 ^ 32) → numbers_in n (spelled xs ++ rest) ≡ xs
+numbers_in-spelled n xs rest e fits =
+    ext_get_or 0 (numbers_in n (spelled xs ++ rest)) xs (length-numbers_in n (spelled xs ++ rest) ∙ sym e) (λ i l.
+    let i_in : i < n = omega (arith, length-numbers_in n (spelled xs ++ rest)) in
+    get_or-numbers_in n (spelled xs ++ rest) i i_in ∙ number_at-spelled xs rest i (omega arith) fits)
+
+pub inode_of-inode_bytes : (inode : DiskInode) (rest : List ℕ) → Fits inode → inode_of (inode_bytes inode ++ rest) ≡ inode
+inode_of-inode_bytes inode rest fits =
+    same_inode
+    (little_number-reads_back 2 inode.kind [] fits.kind)
+    (little_number-reads_back 2 inode.major [] fits.major)
+    (little_number-reads_back 2 inode.minor [] fits.minor)
+    (little_number-reads_back 2 inode.links [] fits.links)
+    (little_number-reads_back 4 inode.size [] fits.size)
+    (numbers_in-spelled 13 inode.addresses rest fits.places fits.addresses)
+
+-- of an entry
+same_entry : {n n' : ℕ} {w w' : List ℕ} → n ≡ n' → w ≡ w' → ◌≡◌ {A = Entry} (record { number = n; name = w }) (record { number = n'; name = w' })
+same_entry p q = λ i. record { number = p i; name = q i }
+
+pub entry_of-entry_bytes : (entry : Entry) (rest : List ℕ) → EntryFits entry → entry_of (entry_bytes entry ++ rest) ≡ entry
+entry_of-entry_bytes entry rest fits =
+    same_entry
+    (little_number-reads_back 2 entry.number (entry.name ++ rest) fits.number)
+    (ap (λ n. take n (entry.name ++ rest)) (sym fits.name) ∙ take-append_seam entry.name rest)
+
+-- of a super block's numbers
+pub super_of-super_bytes : (s : SuperBlock) (rest : List ℕ) → SuperFits s → super_of (super_bytes s ++ rest) ≡ s
+super_of-super_bytes s rest fits =
+    let at = λ (k : ℕ) (h : k < 8). number_at-spelled (super_numbers s) rest k h fits.numbers in
+    same_super (at 0 (omega arith)) (at 1 (omega arith)) (at 2 (omega arith)) (at 3 (omega arith)) (at 4 (omega arith)) (at 5 (omega arith)) (at 6 (omega arith)) (at 7 (omega arith))
