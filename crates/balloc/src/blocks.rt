@@ -3,7 +3,8 @@
 ghost use Rattle.std.specs.Prelude.{◌≡◌, ◌≢◌, ℕ, ◌+◌, ◌-◌, ◌*◌, ◌/◌, ◌%◌, ◌<◌, ◌≤◌, List, length, OnOk, IfOk, IfSome, IfNone, IsErrOf};
 ghost use Rattle.std.specs.Bool.{OnTrue, OnFalse};
 ghost use Rattle.std.specs.Int.{bit_at};
-ghost use Rattle.blockdev.specs.Blocks.{HasCause, HasFailed, block_at};
+ghost use Rattle.blockdev.specs.Blocks.{block_at};
+ghost use Rattle.unixmodel.specs.Failures.{HasCause, Rises};
 ghost use Rattle.layout.specs.Super.{bitmap_start_of, data_start_of};
 ghost use Rattle.layout.specs.Image.{IsFree, bit_in, bit_of, free_blocks};
 ghost use Rattle.layout.specs.Sound.{HasParts};
@@ -27,7 +28,7 @@ pub fn take_block<D: BlockDev>(
     ensures only { IsErrOf result BallocFault.Inodes → ⊥ }
     ensures count { length disk.new.blocks ≡ length disk.old.blocks }
     ensures later { disk.old.failures ≤ disk.new.failures }
-    ensures failed { IsErrOf result BallocFault.Device → HasFailed disk.old.failures disk.new.failures }
+    ensures failed { IsErrOf result BallocFault.Device → Rises disk.old.failures disk.new.failures }
 {
     let found = find_free(disk, geometry, geometry.data_start())?;
     let Some(b) = found else {
@@ -50,7 +51,7 @@ pub fn take_two<D: BlockDev>(
     ensures only { IsErrOf result BallocFault.Inodes → ⊥ }
     ensures count { length disk.new.blocks ≡ length disk.old.blocks }
     ensures later { disk.old.failures ≤ disk.new.failures }
-    ensures failed { IsErrOf result BallocFault.Device → HasFailed disk.old.failures disk.new.failures }
+    ensures failed { IsErrOf result BallocFault.Device → Rises disk.old.failures disk.new.failures }
 {
     let lowest = find_free(disk, geometry, geometry.data_start())?;
     let Some(first) = lowest else {

@@ -1,7 +1,8 @@
 //! A new file system on a disk.
 
 ghost use Rattle.std.specs.Prelude.{◌≡◌, ℕ, ◌+◌, ◌<◌, ◌≤◌, List, length, replicate, get_or, None, OnOk};
-ghost use Rattle.blockdev.specs.Blocks.{HasCause, block_at};
+ghost use Rattle.blockdev.specs.Blocks.{block_at};
+ghost use Rattle.unixmodel.specs.Failures.{HasCause};
 ghost use Rattle.layout.specs.Super.{bitmap_start_of, data_start_of};
 ghost use Rattle.layout.specs.Image.{bit_of, free_blocks, nodes_of};
 ghost use Rattle.layout.specs.Sound.{HasParts, IsSound};

@@ -1,7 +1,8 @@
 //! The records of inodes: an inode is free where its type is 0.
 
 ghost use Rattle.std.specs.Prelude.{◌≡◌, ◌≢◌, ℕ, ◌+◌, ◌-◌, ◌*◌, ◌/◌, ◌%◌, ◌<◌, ◌≤◌, List, [], length, slice_set, Some, None, OnOk, IfOk, IfSome, IfNone, IsErrOf};
-ghost use Rattle.blockdev.specs.Blocks.{HasCause, HasFailed, block_at};
+ghost use Rattle.blockdev.specs.Blocks.{block_at};
+ghost use Rattle.unixmodel.specs.Failures.{HasCause, Rises};
 ghost use Rattle.blockdev.specs.Splice.{part};
 ghost use Rattle.layout.specs.Inode.{Fits, inode_of};
 ghost use Rattle.layout.specs.Image.{IsInode, free_blocks, inode_at, nodes_of};
@@ -73,7 +74,7 @@ pub fn take_inode<D: BlockDev>(
     ensures only { IsErrOf result BallocFault.Blocks → ⊥ }
     ensures count { length disk.new.blocks ≡ length disk.old.blocks }
     ensures later { disk.old.failures ≤ disk.new.failures }
-    ensures failed { IsErrOf result BallocFault.Device → HasFailed disk.old.failures disk.new.failures }
+    ensures failed { IsErrOf result BallocFault.Device → Rises disk.old.failures disk.new.failures }
 {
     let found = find_unused(disk, geometry)?;
     let Some(number) = found else {

@@ -5,7 +5,8 @@
 #![tactic(auto)]
 
 ghost use Rattle.std.specs.Prelude.{◌≡◌, ℕ, ◌+◌, ◌<◌, ◌≤◌, List, length, OnOk, OnErr, IfOk, IfErr, slice_set};
-ghost use Rattle.blockdev.specs.Blocks.{HasCause, AreBlocks, block_at};
+ghost use Rattle.blockdev.specs.Blocks.{AreBlocks, block_at};
+ghost use Rattle.unixmodel.specs.Failures.{HasCause};
 ghost use Rattle.blockdev.specs.Splice.{splice};
 
 use blockdev::{Block, BlockDev, DeviceFault};
