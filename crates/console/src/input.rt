@@ -207,9 +207,9 @@ impl Console {
         self.committed -= 1;
     }
 
-    /// Takes bytes for a read that has a count of `n` bytes left, and already has some or none: up to its count, or a
-    /// line feed, or before ^D, which a read without bytes takes and that is none of them. If the bytes run out first
-    /// the read isn't over.
+    /// Takes bytes for a read that still has a count of `n`, and already has some bytes or none. It ends at its count,
+    /// behind a line feed, or before ^D; with none yet it takes the ^D, which is none of its bytes. If the bytes run out
+    /// first the read isn't over.
     pub fn take(&mut self, n: usize, has_some: bool, buffer: &mut [u8; ROOM]) -> Taken
         ensures took { take_line has_some n self.old.committed ≡ record { bytes = take result.count buffer.new; rest = self.new.committed; over = result.over } }
         ensures edited { self.new.edited ≡ self.old.edited }
