@@ -1,0 +1,4 @@
+mod Places
+mod Traded
+mod Stepped
+mod Results

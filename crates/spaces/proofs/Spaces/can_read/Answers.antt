@@ -1,0 +1,5 @@
+use Rattle.spaces.proofs.Spaces.can_read.Goals as goal
+use Rattle.spaces.proofs.Places.{there}
+
+pub can_read-requires : goal.can_read-requires
+can_read-requires g c = (c.self.invariant.machine.each c.args.at c.in-Some.space (there c.deref.result.now c.self.inside.places.items c.args.at c.in-Some.space c.deref.ensures.0 c.in-Some.is)).dense

@@ -1,0 +1,219 @@
+-- One place trades frames: what is left of the fields, and what they show then.
+use Rattle.frames.specs.declared.Frames.{Frames}
+use Rattle.frames.specs.Free.{IsFreeList, free_count}
+use Rattle.frames.specs.Holders.{Trades}
+use Rattle.ram.specs.declared.FrameNo.{FrameNo}
+use Rattle.spaces.specs.declared.Spaces.TheInside.{Inside}
+use Rattle.spaces.specs.Spaces.{Held, frames_in, grown, no_pages, taken_frames, with_place}
+use Rattle.spaces.specs.SpacesLemmas.{taken-placed, within}
+use Rattle.spaces.specs.View.{IsActive, IsSpaces, Runs, held_with, shown, spaces_of}
+use Rattle.spaces.proofs.Places.{frames-shown, frames_for-pages, free-taken, length-pages_of, places-count, slot-is, taken-fits}
+use Rattle.arrayvec.proofs.ArrayVecLemmas.{items-with_items}
+use Rattle.std.specs.List.{refill}
+use Rattle.std.proofs.Common.{◌≡◌, ◌≢◌, ℕ, zero, suc, ◌+◌, ◌-◌, ◌<◌, ◌≤◌, ◌⊎◌, inl, inr, List, [], ◌∷◌, length, get_or, map, replicate, slice_set, subst, take, Option, Some, None, Result, Ok, Err, refl, sym, ap, ◌∙◌, arith, length-append, length-set, get_or-set_other, get_or-set_same}
+use Rattle.std.proofs.lemmas.Bool.{cases_eq}
+use Rattle.std.proofs.lemmas.List.{length-replicate, set-get_or, take_all}
+use Rattle.std.specs.Prelude.{OnErr, OnOk}
+use Rattle.sv39.specs.Mapping.{IsCoherent, Mapped}
+use Rattle.unixmodel.specs.Files.{slot}
+use Rattle.unixmodel.specs.Translation as translation
+use Rattle.unixmodel.specs.Translation.{Translation, HoldsInside}
+use Rattle.unixmodel.specs.Counts.{page_frames}
+use Rattle.unixmodel.specs.Memory.{Marks, Memory, zero_page}
+use Rattle.vm.specs.declared.Space.{Space}
+use Rattle.vm.specs.declared.VmFault.{VmFault}
+use Rattle.vm.specs.Dense.{frames_for}
+use Rattle.vm.specs.PageLemmas.{length-mapping}
+use Rattle.vm.specs.Shares as shares
+use Rattle.vm.specs.Shares.{IsMachine, IsPlace, OthersUntouched}
+use Rattle.vm.specs.SharesLemmas.{trade-machine, trade-others}
+use Rattle.vm.specs.Space.{IsSpace, IsUntouched, Stands, holds, mapping_of, pages_in, pages_of}
+
+-- a write of one place through the slice of all
+pub refilled : (xs ys : List (Option Space)) (at : ℕ) (y z : Option Space) → ys ≡ xs → z ≡ y → refill (length xs) xs (slice_set ys at z) ≡ slice_set xs at y
+refilled xs ys at y z same new =
+    items-with_items (record { items = xs }) (slice_set ys at z) (length-set ys at z ∙ ap length same)
+    ∙ ap (λ l. slice_set l at z) same
+    ∙ ap (slice_set xs at) new
+
+-- a place that stays
+pub same-place : (xs : List (Option Space)) (at : ℕ) (x : Space) → slot xs at ≡ Some x → xs ≡ slice_set xs at (Some x)
+same-place xs at x e = sym (ap (slice_set xs at) (sym e) ∙ set-get_or xs at None)
+
+-- ---- what the places show
+
+map-same : (g h : Option Space → Option Held) (xs : List (Option Space)) → ((j : ℕ) → h (get_or xs j None) ≡ g (get_or xs j None)) → map h xs ≡ map g xs
+map-same g h [] same = refl
+map-same g h (x ∷ xs) same = ap (λ o. o ∷ map h xs) (same 0) ∙ ap (λ l. g x ∷ l) (map-same g h xs (λ j. same (suc j)))
+
+map-placed : (g h : Option Space → Option Held) (xs : List (Option Space)) (i : ℕ) (y : Option Space) → ((j : ℕ) → j ≢ i → h (get_or xs j None) ≡ g (get_or xs j None)) → map h (slice_set xs i y) ≡ slice_set (map g xs) i (h y)
+map-placed g h [] i y same = refl
+map-placed g h (x ∷ xs) zero y same = ap (λ l. h y ∷ l) (map-same g h xs (λ j. same (suc j) (omega arith)))
+map-placed g h (x ∷ xs) (suc i) y same =
+    ap (λ o. o ∷ map h (slice_set xs i y)) (same 0 (omega arith))
+    ∙ ap (λ l. g x ∷ l) (map-placed g h xs i y (λ j ne. same (suc j) (λ e. ne (omega (arith, e)))))
+
+same-shown : (m k : List (List ℕ)) (o : Option Space) → ((x : Space) → o ≡ Some x → IsUntouched m k x) → shown k o ≡ shown m o
+same-shown m k None h = refl
+same-shown m k (Some x) h = ap (λ p. Some (held_with p x.size)) (h x refl).pages
+
+pub shown-placed : (m k : List (List ℕ)) (places : List (Option Space)) (at : ℕ) (y : Option Space) → OthersUntouched m k places at → map (shown k) (slice_set places at y) ≡ slice_set (map (shown m) places) at (shown k y)
+shown-placed m k places at y others = map-placed (shown m) (shown k) places at y (λ j ne. same-shown m k (slot places j) (λ x e. others j x ne e))
+
+-- ---- what the hart runs
+
+pub coherent-fewer : (old new : translation.Held) (root : ℕ) (mapping : List Mapped) → ((t : Translation) → new t → old t) → IsCoherent old root mapping → IsCoherent new root mapping
+coherent-fewer old new root mapping fewer is = record { walks = λ t h same. is.walks t (fewer t h) same }
+
+-- the space of the active place changes, and keeps its root
+pub runs-changed : (old new : translation.Held) (m k : List (List ℕ)) (root : ℕ) (places : List (Option Space)) (at : ℕ) (x z : Space) → at < length places → slot places at ≡ Some x → z.root ≡ x.root
+    → (IsCoherent old x.root.0 (mapping_of m x) → IsCoherent new x.root.0 (mapping_of k z))
+    → Runs old m root places at → Runs new k root (slice_set places at (Some z)) at
+runs-changed old new m k root places at x z hi e same coherent run =
+    let both : Some run.space ≡ Some x = sym run.stands ∙ e in
+    let is : run.space ≡ x = cc in
+    let root_is : z.root.0 ≡ x.root.0 = ap (λ (r : FrameNo). r.0) same in
+    let was : IsCoherent old x.root.0 (mapping_of m x) = subst (λ (d : Space). IsCoherent old d.root.0 (mapping_of m d)) is run.coherent in
+    let now : IsCoherent new z.root.0 (mapping_of k z) = subst (λ (r : ℕ). IsCoherent new r (mapping_of k z)) (sym root_is) (coherent was) in
+    record {
+      space = z;
+      stands = get_or-set_same places at (Some z) None hi;
+      same = run.same ∙ ap (λ (d : Space). d.root.0) is ∙ sym root_is;
+      coherent = now;
+    }
+
+active-placed : (old new : translation.Held) (m k : List (List ℕ)) (root : ℕ) (places : List (Option Space)) (at : ℕ) (y : Option Space) (a : Option ℕ) → OthersUntouched m k places at
+    → ((t : Translation) → new t → old t)
+    → (a ≡ Some at → Runs old m root places at → Runs new k root (slice_set places at y) at)
+    → IsActive old m root places a → IsActive new k root (slice_set places at y) a
+active-placed old new m k root places at y None others fewer here run = tt
+active-placed old new m k root places at y (Some j) others fewer here run = elim (cases_eq j at) [
+  | inl same ↦ subst (λ (a : ℕ). Runs new k root (slice_set places at y) a) (sym same) (here (ap Some same) (subst (λ (a : ℕ). Runs old m root places a) same run))
+  | inr ne ↦
+      let stays = others j run.space ne run.stands in
+      record {
+        space = run.space;
+        stands = get_or-set_other places at j y None ne ∙ run.stands;
+        same = run.same;
+        coherent = rw stays.mapping (coherent-fewer old new run.space.root.0 (mapping_of m run.space) fewer run.coherent);
+      }
+]
+
+-- ---- all of it
+
+-- the fields after a change of one place, which shows this then
+pub record Placed {T : Type 0} (held : T → translation.Held) (i j : Inside T) (at : ℕ) (y : Option Held) : Type 0 where
+  pub sound : IsSpaces held j
+  pub view : spaces_of j ≡ with_place (spaces_of i) at y
+  pub fits : taken_frames (with_place (spaces_of i) at y) ≤ length i.ram
+
+pub placed-as : {T : Type 0} (held : T → translation.Held) (i j : Inside T) (at : ℕ) (y z : Option Held) → Placed held i j at y → y ≡ z → Placed held i j at z
+placed-as held i j at y z p e = subst (λ (o : Option Held). Placed held i j at o) e p
+
+pub traded : {T : Type 0} (held : T → translation.Held) (i : Inside T) (at : ℕ) (y : Option Space) (k : List (List ℕ)) (n : Frames) (t : T) (q : List (Option Space))
+    → IsSpaces held i → at < length i.places.items → q ≡ slice_set i.places.items at y → IsPlace k y n
+    → Trades i.ram k i.frames n (shares.held_at i.ram (slot i.places.items at)) (shares.held_at k y)
+    → ((x : Translation) → held t x → held i.translator x)
+    → (i.active ≡ Some at → Runs (held i.translator) i.ram i.hart.root.0 i.places.items at → Runs (held t) k i.hart.root.0 (slice_set i.places.items at y) at)
+    → Placed held i (record i { ram = k; frames = n; translator = t; places = record { items = q } }) at (shown k y)
+traded held i at y k n t q is hi e place trades fewer here =
+    let others = trade-others i.ram k i.frames n i.places.items [] (shares.held_at k y) at is.machine trades in
+    let sound : IsSpaces held (record i { ram = k; frames = n; translator = t; places = record { items = q } }) = record {
+      machine = rw e (trade-machine i.ram k i.frames n i.places.items [] at y is.machine hi place trades);
+      all = ap length e ∙ length-set i.places.items at y ∙ is.all;
+      active = rw e (active-placed (held i.translator) (held t) i.ram k i.hart.root.0 i.places.items at y i.active others fewer here is.active);
+      inside = λ x h. let old = is.inside x (fewer x h) in let count = trades.count in omega (arith, old, count);
+    } in
+    let view : spaces_of (record i { ram = k; frames = n; translator = t; places = record { items = q } }) ≡ with_place (spaces_of i) at (shown k y) =
+    rw (e, shown-placed i.ram k i.places.items at y others, trades.count) refl in
+    record {
+      sound = sound;
+      view = view;
+      fits = omega (arith, ap taken_frames view, taken-fits held (record i { ram = k; frames = n; translator = t; places = record { items = q } }) sound, trades.count);
+    }
+
+-- a space that was made settles in a free place
+pub settled : {T : Type 0} (held : T → translation.Held) (i : Inside T) (at : ℕ) (z : Space) (k : List (List ℕ)) (n : Frames) (q : List (Option Space))
+    → IsSpaces held i → at < length i.places.items → slot i.places.items at ≡ None → q ≡ slice_set i.places.items at (Some z) → IsSpace k z n → Trades i.ram k i.frames n [] (holds k z)
+    → Placed held i (record i { ram = k; frames = n; places = record { items = q } }) at (shown k (Some z))
+settled held i at z k n q is hi none e space trades =
+    traded held i at (Some z) k n i.translator q is hi e space (rw none trades) (λ x h. h) (λ a run. absurd (let bad : None ≡ Some run.space = sym none ∙ run.stands in cc))
+
+-- a place that isn't the active one loses its space
+pub destroyed : {T : Type 0} (held : T → translation.Held) (i : Inside T) (at : ℕ) (x : Space) (k : List (List ℕ)) (n : Frames) (q : List (Option Space))
+    → IsSpaces held i → slot i.places.items at ≡ Some x → i.active ≢ Some at → q ≡ slice_set i.places.items at None → IsFreeList k n → Trades i.ram k i.frames n (holds i.ram x) []
+    → Placed held i (record i { ram = k; frames = n; places = record { items = q } }) at None
+destroyed held i at x k n q is stands idle e free trades =
+    traded held i at None k n i.translator q is (within i.places.items at x stands) e free (rw stands trades) (λ t h. h) (λ a run. absurd (idle a))
+
+-- the space of a place changes, and keeps its root
+pub changed : {T : Type 0} (held : T → translation.Held) (i : Inside T) (at : ℕ) (x z : Space) (k : List (List ℕ)) (n : Frames) (t : T) (q : List (Option Space))
+    → IsSpaces held i → slot i.places.items at ≡ Some x → q ≡ slice_set i.places.items at (Some z) → IsSpace k z n → Trades i.ram k i.frames n (holds i.ram x) (holds k z) → z.root ≡ x.root
+    → ((u : Translation) → held t u → held i.translator u)
+    → (i.active ≡ Some at → IsCoherent (held i.translator) x.root.0 (mapping_of i.ram x) → IsCoherent (held t) x.root.0 (mapping_of k z))
+    → Placed held i (record i { ram = k; frames = n; translator = t; places = record { items = q } }) at (shown k (Some z))
+changed held i at x z k n t q is stands e space trades root fewer coherent =
+    let hi = within i.places.items at x stands in
+    traded held i at (Some z) k n t q is hi e space (rw stands trades) fewer
+    (λ a run. runs-changed (held i.translator) (held t) i.ram k i.hart.root.0 i.places.items at x z hi stands root (coherent a) run)
+
+-- pages of a space are written
+pub stood : {T : Type 0} (held : T → translation.Held) (i : Inside T) (at : ℕ) (x : Space) (k : List (List ℕ)) → IsSpaces held i → slot i.places.items at ≡ Some x → Stands i.ram k x
+    → Placed held i (record i { ram = k }) at (shown k (Some x))
+stood held i at x k is e stands =
+    let space = is.machine.each at x e in
+    changed held i at x x k i.frames i.translator i.places.items is e (same-place i.places.items at x e) (stands.space i.frames space) (stands.trades i.frames space) refl (λ u h. h) (λ a was. rw stands.mapping was)
+
+-- nothing changed
+pub view-same : {T : Type 0} (i : Inside T) (at : ℕ) (x : Space) (k : List (List ℕ)) (n : Frames) (z : Space) (q : List (Option Space)) → (k ≡ i.ram) × (n ≡ i.frames) × (z ≡ x) → slot i.places.items at ≡ Some x
+    → q ≡ slice_set i.places.items at (Some z) → spaces_of (record i { ram = k; frames = n; places = record { items = q } }) ≡ spaces_of i
+view-same i at x k n z q u e same =
+    let stays : q ≡ i.places.items = same ∙ ap (λ y. slice_set i.places.items at (Some y)) u.2 ∙ sym (same-place i.places.items at x e) in
+    rw (u.0, stays) refl
+
+-- ---- what spaces show
+
+pub shown-as : (k : List (List ℕ)) (z : Space) (memory : Memory) (size : ℕ) → pages_of k z ≡ memory → z.size ≡ size → shown k (Some z) ≡ Some (held_with memory size)
+shown-as k z memory size p e = ap (λ (m : Memory). Some (held_with m z.size)) p ∙ ap (λ (n : ℕ). Some (held_with memory n)) e
+
+empty-list : (xs : Memory) → length xs ≡ 0 → xs ≡ []
+empty-list [] e = refl
+empty-list (x ∷ xs) e = absurd (omega (arith, e))
+
+pub shown-bare : (k : List (List ℕ)) (z : Space) → z.size ≡ 0 → shown k (Some z) ≡ Some no_pages
+shown-bare k z e = shown-as k z [] 0 (empty-list (pages_of k z) (length-pages_of k z ∙ ap pages_in e)) e
+
+-- the first pages of a space that grew, or didn't, are mapped as they were
+pub grown-front : (m k : List (List ℕ)) (s n : Frames) (x z : Space) (r : Result (Unit {0}) VmFault)
+    → OnOk r (take (pages_in x.size) (mapping_of k z) ≡ mapping_of m x) → OnErr r ((k ≡ m) × (n ≡ s) × (z ≡ x)) → take (length (mapping_of m x)) (mapping_of k z) ≡ mapping_of m x
+grown-front m k s n x z (Ok u) front same = rw (length-mapping m x.root.0 (pages_in x.size)) front
+grown-front m k s n x z (Err f) front same = rw (same.0, same.2) (take_all (length (mapping_of m x)) (mapping_of m x) (omega arith))
+
+-- ---- refusals
+
+-- the frames don't suffice for what a place would have
+pub over : {T : Type 0} (held : T → translation.Held) (i : Inside T) (at : ℕ) (o : Option Space) (y : Option Held) → IsSpaces held i → at < length i.places.items → slot i.places.items at ≡ o
+    → frames_in (shown i.ram o) + free_count i.ram i.frames < frames_in y → length i.ram < taken_frames (with_place (spaces_of i) at y)
+over held i at o y is hi e more =
+    let within : at < length (spaces_of i).places = rw (places-count i) hi in
+    omega (arith, free-taken held i is, taken-placed (spaces_of i) at y within, ap frames_in (slot-is i at o e), more)
+
+-- nor for a space of more bytes, which is refused where it would pass the greatest size or takes more frames than are free
+pub over-grown : {T : Type 0} (held : T → translation.Held) (i : Inside T) (at : ℕ) (x : Space) (bytes : ℕ) (marks : Marks) → IsSpaces held i → slot i.places.items at ≡ Some x → length i.ram ≤ 32768
+    → (274877898752 < x.size + bytes) ⊎ (frames_for (pages_in x.size) + free_count i.ram i.frames < frames_for (pages_in (x.size + bytes)))
+    → length i.ram < taken_frames (with_place (spaces_of i) at (Some (grown (held_with (pages_of i.ram x) x.size) bytes marks)))
+over-grown held i at x bytes marks is e small why =
+    let all = free-taken held i is in
+    let now = frames-shown i.ram x in
+    let more = frames_for-pages (pages_in (x.size + bytes)) in
+    let old = length-pages_of i.ram x in
+    let new : length (grown (held_with (pages_of i.ram x) x.size) bytes marks).memory ≡ pages_in (x.size + bytes) =
+    length-append (pages_of i.ram x) (replicate (pages_in (x.size + bytes) - pages_in x.size) (zero_page marks)) ∙ omega (arith, old, length-replicate (pages_in (x.size + bytes) - pages_in x.size) (zero_page marks)) in
+    let takes : frames_in (Some (grown (held_with (pages_of i.ram x) x.size) bytes marks)) ≡ 4 + page_frames (pages_in (x.size + bytes)) = ap (λ n. 4 + page_frames n) new in
+    let hi = within i.places.items at x e in
+    let rest = taken-placed (spaces_of i) at None (rw (places-count i) hi) in
+    let here = ap frames_in (slot-is i at (Some x) e) in
+    over held i at (Some x) (Some (grown (held_with (pages_of i.ram x) x.size) bytes marks)) is hi e (elim why [
+      | inl large ↦ omega (arith, all, small, rest, here, takes, large)
+      | inr full ↦ omega (arith, now, takes, more, full)
+    ])

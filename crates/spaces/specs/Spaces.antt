@@ -1,0 +1,79 @@
+-- The address spaces of one memory and the hart, as plain values.
+use Rattle.std.specs.Prelude.{Bool, List, None, Option, Some, [], is_some, length, replicate, slice_set, sum_by, take, unwrap_or, ℕ, ◌++◌, ◌+◌, ◌-◌}
+use Rattle.unixmodel.specs.Counts.{page_frames}
+use Rattle.unixmodel.specs.Files.{slot}
+use Rattle.unixmodel.specs.Meaning.{Computed}
+use Rattle.unixmodel.specs.Memory.{Marks, Memory, write_bytes, zero_page}
+use Rattle.unixmodel.specs.Next.{memory_after}
+use Rattle.unixmodel.specs.Numbers.{ceil_div}
+
+-- what a space shows: the memory of a program, and its size in bytes
+pub record Held : Type 0 where
+  pub memory : Memory
+  pub size : ℕ
+
+pub record Spaces : Type 0 where
+  -- 64 of them, each free or with a space
+  pub places : List (Option Held)
+  -- the place whose process the hart runs
+  pub active : Option ℕ
+  -- x0 to x31 of the hart
+  pub registers : List ℕ
+  pub pc : ℕ
+  -- how many frames the memory has
+  pub frames : ℕ
+
+-- ---- places
+
+abbrev pub has_space : Spaces → ℕ → Bool
+has_space s at = is_some (slot s.places at)
+
+-- a space without pages
+abbrev pub no_pages : Held
+no_pages = record { memory = []; size = 0 }
+
+-- what the space of a place shows, and no pages where the place is free
+abbrev pub held_at : Spaces → ℕ → Held
+held_at s at = unwrap_or (slot s.places at) no_pages
+
+-- a place has another space, or none
+abbrev pub with_place : Spaces → ℕ → Option Held → Spaces
+with_place s at place = record s { places = slice_set s.places at place }
+
+abbrev pub with_held : Spaces → ℕ → Held → Spaces
+with_held s at held = with_place s at (Some held)
+
+-- ---- other memories
+
+-- so many bytes more: the pages that come are 0 and have these marks
+abbrev pub grown : Held → ℕ → Marks → Held
+grown h bytes marks = record {
+  memory = h.memory ++ replicate (ceil_div (h.size + bytes) 4096 - ceil_div h.size 4096) (zero_page marks);
+  size = h.size + bytes;
+}
+
+-- so many bytes fewer
+abbrev pub shrunk : Held → ℕ → Held
+shrunk h bytes = record { memory = take (ceil_div (h.size - bytes) 4096) h.memory; size = h.size - bytes }
+
+-- these bytes stand from an address on
+abbrev pub written : Held → ℕ → List ℕ → Held
+written h address bytes = record h { memory = write_bytes h.memory address bytes }
+
+-- the hart and the space of a place after an instruction
+abbrev pub computed : Spaces → ℕ → Computed → Spaces
+computed s at d = with_held
+    (record s { registers = d.regs; pc = d.pc })
+    at
+    (record (held_at s at) { memory = memory_after (held_at s at).memory d.change })
+
+-- ---- frames
+
+-- the frames that a place takes: those of the pages, the root, two tables for the trap frame, and that frame
+abbrev pub frames_in : Option Held → ℕ
+frames_in None = 0
+frames_in (Some h) = 4 + page_frames (length h.memory)
+
+-- the frames that all places take
+abbrev pub taken_frames : Spaces → ℕ
+taken_frames s = sum_by frames_in s.places

@@ -1,0 +1,77 @@
+-- Lemmas on the values of address spaces.
+use Rattle.std.proofs.Common.{◌≡◌, ◌≢◌, ℕ, zero, suc, ◌+◌, ◌-◌, ◌<◌, ◌≤◌, true, false, List, [], ◌∷◌, ◌++◌, length, get_or, replicate, slice_set, take, Option, Some, None, refl, sym, ap, arith, append-nil, get_or-set_other, get_or-set_same}
+use Rattle.std.specs.Prelude.{is_some, sum_by, unwrap_or}
+use Rattle.std.proofs.lemmas.List.{take_all}
+use Rattle.std.proofs.lemmas.List.Sums.{sum_by-cons}
+use Rattle.spaces.specs.Spaces.{Held, Spaces, frames_in, grown, has_space, held_at, no_pages, shrunk, taken_frames, with_held, with_place}
+use Rattle.unixmodel.specs.Files.{slot}
+use Rattle.unixmodel.specs.Memory.{Memory, zero_page}
+use Rattle.unixmodel.specs.Numbers.{ceil_div}
+use Rattle.unixmodel.specs.Plan.{stack_marks}
+use Rattle.unixmodel.specs.ProcessCalls.{with_pages}
+
+pub within : {X : Type 0} (xs : List (Option X)) (i : ℕ) (x : X) → get_or xs i None ≡ Some x → i < length xs
+within [] i x e = absurd (cc)
+within (y ∷ xs) zero x e = omega arith
+within (y ∷ xs) (suc i) x e = let h = within xs i x e in omega (arith, h)
+
+some-place : (o : Option Held) → is_some o ≡ true → o ≡ Some (unwrap_or o no_pages)
+some-place None e = absurd (cc)
+some-place (Some h) e = refl
+
+none-place : (o : Option Held) → is_some o ≡ false → o ≡ None
+none-place None e = refl
+none-place (Some h) e = absurd (cc)
+
+-- a place with a space has what `held_at` says, and is one of the places
+pub place-held : (s : Spaces) (at : ℕ) → has_space s at ≡ true → slot s.places at ≡ Some (held_at s at)
+place-held s at has = some-place (slot s.places at) has
+
+pub place-within : (s : Spaces) (at : ℕ) → has_space s at ≡ true → at < length s.places
+place-within s at has = within s.places at (held_at s at) (place-held s at has)
+
+pub place-free : (s : Spaces) (at : ℕ) → has_space s at ≡ false → slot s.places at ≡ None
+place-free s at free = none-place (slot s.places at) free
+
+sum-placed : (xs : List (Option Held)) (i : ℕ) (y : Option Held) → i < length xs → sum_by frames_in (slice_set xs i y) + frames_in (get_or xs i None) ≡ sum_by frames_in xs + frames_in y
+sum-placed [] i y h = absurd (omega (arith, h))
+sum-placed (x ∷ xs) zero y h = omega (arith, sum_by-cons frames_in y xs, sum_by-cons frames_in x xs)
+sum-placed (x ∷ xs) (suc i) y h =
+    omega (arith, sum_by-cons frames_in x (slice_set xs i y), sum_by-cons frames_in x xs, sum-placed xs i y (omega (arith, h)))
+
+-- the places take more by what one of them takes more
+pub taken-placed : (s : Spaces) (at : ℕ) (y : Option Held) → at < length s.places → taken_frames (with_place s at y) + frames_in (slot s.places at) ≡ taken_frames s + frames_in y
+taken-placed s at y h = sum-placed s.places at y h
+
+-- ---- a place after a change of one
+
+pub held-same : (s : Spaces) (at : ℕ) (h : Held) → at < length s.places → held_at (with_held s at h) at ≡ h
+held-same s at h within = ap (λ o. unwrap_or o no_pages) (get_or-set_same s.places at (Some h) None within)
+
+pub held-other : (s : Spaces) (at other : ℕ) (y : Option Held) → other ≢ at → held_at (with_place s at y) other ≡ held_at s other
+held-other s at other y ne = ap (λ o. unwrap_or o no_pages) (get_or-set_other s.places at other y None ne)
+
+pub space-same : (s : Spaces) (at : ℕ) (h : Held) → at < length s.places → has_space (with_held s at h) at ≡ true
+space-same s at h within = ap is_some (get_or-set_same s.places at (Some h) None within)
+
+pub space-other : (s : Spaces) (at other : ℕ) (y : Option Held) → other ≢ at → has_space (with_place s at y) other ≡ has_space s other
+space-other s at other y ne = ap is_some (get_or-set_other s.places at other y None ne)
+
+-- ---- other sizes, as the abstract Unix has them
+
+grown-pages : (mem : Memory) (n more : ℕ) → length mem ≡ n → n ≤ more → mem ++ replicate (more - n) (zero_page (stack_marks true)) ≡ with_pages mem more
+unfolding with_pages
+grown-pages mem n more is less = rw (take_all more mem (omega (arith, is)), is) refl
+
+shrunk-pages : (mem : Memory) (fewer : ℕ) → fewer ≤ length mem → take fewer mem ≡ with_pages mem fewer
+unfolding with_pages
+shrunk-pages mem fewer less =
+    let none : fewer - length mem ≡ 0 = omega arith in
+    rw none (sym (append-nil (take fewer mem)))
+
+-- what `pages` says of a space, `whole`, is what both ask
+pub grown-with_pages : (h : Held) (bytes : ℕ) → length h.memory ≡ ceil_div h.size 4096 → (grown h bytes (stack_marks true)).memory ≡ with_pages h.memory (ceil_div (h.size + bytes) 4096)
+grown-with_pages h bytes whole = grown-pages h.memory (ceil_div h.size 4096) (ceil_div (h.size + bytes) 4096) whole (omega arith)
+
+pub shrunk-with_pages : (h : Held) (bytes : ℕ) → length h.memory ≡ ceil_div h.size 4096 → (shrunk h bytes).memory ≡ with_pages h.memory (ceil_div (h.size - bytes) 4096)
+shrunk-with_pages h bytes whole = shrunk-pages h.memory (ceil_div (h.size - bytes) 4096) (omega (arith, whole))

@@ -1,0 +1,47 @@
+-- What the fields stand for.
+use Rattle.std.specs.Prelude.{List, None, Option, Some, [], length, map, ℕ, ◌≡◌}
+use Rattle.spaces.specs.declared.Spaces.TheInside.{Inside}
+use Rattle.spaces.specs.Spaces.{Held, Spaces}
+use Rattle.sv39.specs.Mapping.{IsCoherent}
+use Rattle.unixmodel.specs.Files.{slot}
+use Rattle.unixmodel.specs.Memory.{Memory}
+use Rattle.unixmodel.specs.Translation as translation
+use Rattle.unixmodel.specs.Translation.{HoldsInside}
+use Rattle.vm.specs.declared.Space.{Space}
+use Rattle.vm.specs.Shares.{IsMachine}
+use Rattle.vm.specs.Space.{mapping_of, pages_of}
+
+abbrev pub held_with : Memory → ℕ → Held
+held_with memory size = record { memory = memory; size = size }
+
+-- what a place shows over a memory
+abbrev pub shown : List (List ℕ) → Option Space → Option Held
+shown m None = None
+shown m (Some x) = Some (held_with (pages_of m x) x.size)
+
+abbrev pub spaces_of : {T : Type 0} → Inside T → Spaces
+spaces_of k = record {
+  places = map (shown k.ram) k.places.items;
+  active = k.active;
+  registers = k.hart.registers;
+  pc = k.hart.pc;
+  frames = length k.ram;
+}
+
+-- addresses from a root go through the space of a place, and what is held is what the tables of that space show
+pub record Runs (held : translation.Held) (m : List (List ℕ)) (root : ℕ) (places : List (Option Space)) (at : ℕ) : Type 0 where
+  pub space : Space
+  pub stands : slot places at ≡ Some space
+  pub same : root ≡ space.root.0
+  pub coherent : IsCoherent held space.root.0 (mapping_of m space)
+
+abbrev pub IsActive : translation.Held → List (List ℕ) → ℕ → List (Option Space) → Option ℕ → Type 0
+IsActive held m root places None = Unit {0}
+IsActive held m root places (Some at) = Runs held m root places at
+
+-- The spaces and the free list share out all frames, and the hart runs the active place.
+pub record IsSpaces {T : Type 0} (held : T → translation.Held) (k : Inside T) : Type 0 where
+  pub machine : IsMachine k.ram k.frames k.places.items []
+  pub all : length k.places.items ≡ 64
+  pub active : IsActive (held k.translator) k.ram k.hart.root.0 k.places.items k.active
+  pub inside : HoldsInside (held k.translator) k.ram

@@ -1,0 +1,403 @@
+//! The address spaces of a machine, over the frames of one memory.
+//!
+//! There are 64 places, each free or with a space, and a hart, which runs the process of the active place. What the
+//! processes are is the caller's affair. Contracts are in plain values, `Spaces` of `specs/Spaces`: the memory of each
+//! place, the hart's registers, and how many frames there are. No frame and no table shows, and what is done to one
+//! place leaves the others as they are.
+//!
+//! A translator may hold translations, so it is fenced where one that it may hold for the active place goes: where
+//! another space becomes the active one, and where the active one shrinks. A space that grows or is written keeps the
+//! frames that it had, and what is held for spaces that aren't active doesn't count.
+#![tactic(auto)]
+
+ghost use Rattle.std.specs.Prelude.{◌≡◌, ◌≢◌, ◌+◌, ◌<◌, ◌≤◌, ◌/◌, ◌%◌, ℕ, Some, None, true, false, length, is_some, nat_le, option_map, replicate, slice_get, slice_index, slice_set, IfSome, IfNone, Ok, Err};
+ghost use Rattle.std.specs.Bool.{OnTrue, OnFalse};
+ghost use Rattle.spaces.specs.Spaces.{computed, grown, has_space, held_at, no_pages, shrunk, taken_frames, with_held, with_place, written};
+ghost use Rattle.unixmodel.specs.Cycle.{cycle};
+ghost use Rattle.unixmodel.specs.Files.{slot};
+ghost use Rattle.unixmodel.specs.Meaning.{Computed};
+ghost use Rattle.unixmodel.specs.declared.trap.Access.TheVariants.{Load};
+ghost use Rattle.unixmodel.specs.Memory.{Page, can_write, reach, read_bytes};
+ghost use Rattle.unixmodel.specs.Numbers.{ceil_div};
+ghost use Rattle.unixmodel.specs.Shown.{ShowsMemory};
+ghost use Rattle.unixmodel.specs.Translation.{HoldsNothing, Translation};
+ghost use Rattle.vm.specs.Leaf.{marks_from};
+ghost use Rattle.vm.specs.Reach.{IsSized, piece_at};
+ghost use Rattle.vm.specs.Space.{IsMapped, pages_of};
+
+#[cfg(test)]
+mod tests;
+
+use arrayvec::ArrayVec;
+use frames::Frames;
+use hart::hart::Hart;
+use ram::{FRAME_SIZE, FrameNo, Ram};
+use std::marker::Model;
+use sv39::Translate;
+use unixmodel::trap::Trap;
+use vm::{Perm, Space};
+
+/// How many places there are.
+pub const PLACES: usize = 64;
+
+// A free place.
+const FREE: Option<Space> = None;
+
+/// The address spaces of a machine and its hart.
+#[derive(Drop)]
+pub struct Spaces<T: Translate + Drop> {
+    ram: Ram,
+    frames: Frames,
+    translator: T,
+    places: ArrayVec<Option<Space>, 64>,
+    hart: Hart,
+    active: Option<usize>,
+}
+
+impl<T: Translate + Drop> Model for Spaces<T> {
+    ghost use Rattle.spaces.specs.Spaces.{Spaces};
+
+    ghost Value = { Spaces };
+
+    ghost use Rattle.spaces.specs.View.{IsSpaces, spaces_of};
+
+    ghost view = { spaces_of };
+
+    ghost invariant = { IsSpaces T.held };
+}
+
+// Fences a translator where this place is the active one.
+fn fence_active<T: Translate>(translator: &mut T, active: Option<usize>, at: usize)
+    ensures fenced { active ≡ Some at → HoldsNothing (T.held translator.new) }
+    ensures fewer { (t : Translation) → T.held translator.new t → T.held translator.old t }
+{
+    if active == Some(at) {
+        translator.fence();
+    }
+}
+
+// The root of a space, from which walks reach its pages.
+fn root_of(space: &Space, ram: &Ram) -> FrameNo
+    requires { IsMapped ram.now space.now }
+    ensures { ShowsMemory ram.now result.0 (pages_of ram.now space.now) }
+{
+    space.walks(ram);
+    space.root()
+}
+
+// How many registers there are, which the check reads off the type.
+fn all_of(registers: &[u64; 32])
+    ensures { length registers.now ≡ 32 }
+{}
+
+impl<T: Translate + Drop> Spaces<T> {
+    /// No spaces over a memory; the hart's registers are 0. The translator is fenced: it may hold anything.
+    pub fn new(ram: Ram, translator: T) -> Spaces<T>
+        ensures { result ≡ record { places = replicate 64 None; active = None; registers = replicate 32 0; pc = 0; frames = length ram } }
+    {
+        let mut ram = ram;
+        let mut translator = translator;
+        translator.fence();
+        let frames = Frames::new(&mut ram);
+        Spaces {
+            ram,
+            frames,
+            translator,
+            places: ArrayVec::from_array_in((), [FREE; 64]),
+            hart: Hart {
+                registers: [0; 32],
+                pc: 0,
+                root: FrameNo(0),
+            },
+            active: None,
+        }
+    }
+
+    /// How many frames are free.
+    pub fn free(&self) -> u32
+        ensures { result + taken_frames self.now ≡ self.now.frames }
+    {
+        self.frames.free()
+    }
+
+    /// The active place, which has a space.
+    pub fn active(&self) -> Option<usize>
+        ensures active { result ≡ self.now.active }
+        ensures stands { IfSome result (λ at. has_space self.now at ≡ true) }
+        ensures all { length self.now.places ≡ 64 }
+    {
+        self.active
+    }
+
+    /// Whether a place has a space.
+    pub fn has_space(&self, at: usize) -> bool
+        ensures { result ≡ has_space self.now at }
+    {
+        matches!(self.places.as_slice().get(at), Some(Some(_)))
+    }
+
+    /// The size of a place's space in bytes.
+    pub fn size(&self, at: usize) -> u64
+        requires { has_space self.now at ≡ true }
+        ensures { result ≡ (held_at self.now at).size }
+    {
+        match &self.places[at] {
+            Some(space) => space.size(),
+            None => unreachable!(),
+        }
+    }
+
+    /// How many pages a place's space has. They are no more than frames, and each has 4096 bytes.
+    pub fn pages(&self, at: usize) -> u64
+        requires { has_space self.now at ≡ true }
+        ensures count { result ≡ length (held_at self.now at).memory }
+        ensures few { length (held_at self.now at).memory ≤ 32768 }
+        ensures whole { length (held_at self.now at).memory ≡ ceil_div (held_at self.now at).size 4096 }
+        ensures sized { IsSized (held_at self.now at).memory }
+    {
+        let _count = self.ram.frame_count();
+        match &self.places[at] {
+            Some(space) => vm::pages_in(space.size()),
+            None => unreachable!(),
+        }
+    }
+
+    /// Whether the program of a place may read so many bytes.
+    pub fn can_read(&self, at: usize, address: u64, count: u64) -> bool
+        requires { has_space self.now at ≡ true }
+        ensures reach { result ≡ nat_le count (length (reach Load (held_at self.now at).memory address)) }
+        ensures read { result ≡ is_some (read_bytes (held_at self.now at).memory address count) }
+    {
+        match &self.places[at] {
+            Some(space) => space.can_read(&self.ram, address, count),
+            None => unreachable!(),
+        }
+    }
+
+    /// Whether the program of a place may write so many bytes.
+    pub fn can_write(&self, at: usize, address: u64, count: u64) -> bool
+        requires { has_space self.now at ≡ true }
+        ensures { result ≡ can_write (held_at self.now at).memory address count }
+    {
+        match &self.places[at] {
+            Some(space) => space.can_write(&self.ram, address, count),
+            None => unreachable!(),
+        }
+    }
+
+    /// The bytes from an address of a place to the end of its page; none where its program may not read them.
+    pub fn readable(&self, at: usize, address: u64) -> &[u8]
+        requires { has_space self.now at ≡ true }
+        ensures { result.now ≡ piece_at Load (held_at self.now at).memory address }
+    {
+        match &self.places[at] {
+            Some(space) => space.readable(&self.ram, address),
+            None => unreachable!(),
+        }
+    }
+
+    /// The bytes and the marks of a page of a place; `None` past the last one.
+    pub fn page(&self, at: usize, n: u64) -> Option<(&[u8; FRAME_SIZE], Perm)>
+        requires { has_space self.now at ≡ true }
+        ensures { option_map (λ r. let p : Page = record { bytes = r.0.now; marks = marks_from r.1 } in p) result ≡ slice_get (held_at self.now at).memory n }
+    {
+        match &self.places[at] {
+            Some(space) => {
+                let (frame, perm) = space.find_page(&self.ram, n)?;
+                Some((self.ram.frame(frame), perm))
+            }
+            None => unreachable!(),
+        }
+    }
+
+    /// The memory, and the frame of the root of a place's page table.
+    pub fn tables(&self, at: usize) -> (&Ram, FrameNo)
+        requires { has_space self.now at ≡ true }
+        ensures { ShowsMemory result.0.now result.1.0 (held_at self.now at).memory }
+    {
+        match &self.places[at] {
+            Some(space) => (&self.ram, root_of(space, &self.ram)),
+            None => unreachable!(),
+        }
+    }
+
+    /// Makes a space without pages in a free place. `false`: fewer than 4 frames are free; then nothing changed.
+    pub fn create(&mut self, at: usize) -> bool
+        requires inside { at < 64 }
+        requires free { has_space self.old at ≡ false }
+        ensures done { OnTrue result ((taken_frames (with_held self.old at no_pages) ≤ self.old.frames) × (self.new ≡ with_held self.old at no_pages)) }
+        ensures refused { OnFalse result ((self.old.frames < taken_frames (with_held self.old at no_pages)) × (self.new ≡ self.old)) }
+    {
+        match Space::new(&mut self.ram, &mut self.frames) {
+            Ok(space) => {
+                self.places[at] = Some(space);
+                true
+            }
+            Err(_) => false,
+        }
+    }
+
+    /// Makes a space in a free place with the pages of another place's. `false`: the frames don't suffice; then nothing
+    /// changed.
+    pub fn copy(&mut self, from: usize, to: usize) -> bool
+        requires from { has_space self.old from ≡ true }
+        requires inside { to < 64 }
+        requires free { has_space self.old to ≡ false }
+        ensures done { OnTrue result ((taken_frames (with_held self.old to (held_at self.old from)) ≤ self.old.frames) × (self.new ≡ with_held self.old to (held_at self.old from))) }
+        ensures refused { OnFalse result ((self.old.frames < taken_frames (with_held self.old to (held_at self.old from))) × (self.new ≡ self.old)) }
+    {
+        let copied = match &self.places[from] {
+            Some(space) => space.copy(&mut self.ram, &mut self.frames),
+            None => unreachable!(),
+        };
+        match copied {
+            Ok(space) => {
+                self.places[to] = Some(space);
+                true
+            }
+            Err(_) => false,
+        }
+    }
+
+    /// Frees a place, and all frames of its space. The active place is not freed.
+    pub fn destroy(&mut self, at: usize)
+        requires space { has_space self.old at ≡ true }
+        requires idle { self.old.active ≢ Some at }
+        ensures { self.new ≡ with_place self.old at None }
+    {
+        match self.places[at].take() {
+            Some(space) => space.destroy(&mut self.ram, &mut self.frames),
+            None => unreachable!(),
+        }
+    }
+
+    /// Adds so many bytes to a place's space: pages that come are 0 and have these marks. `false`: the frames don't
+    /// suffice; then nothing changed.
+    ///
+    /// There is no fence: the pages that the space had keep their frames, and what is held says where pages are and never
+    /// that there are none.
+    pub fn grow(&mut self, at: usize, bytes: u64, perm: Perm) -> bool
+        requires { has_space self.old at ≡ true }
+        ensures done { OnTrue result ((taken_frames (with_held self.old at (grown (held_at self.old at) bytes (marks_from perm))) ≤ self.old.frames) × (self.new ≡ with_held self.old at (grown (held_at self.old at) bytes (marks_from perm)))) }
+        ensures refused { OnFalse result ((self.old.frames < taken_frames (with_held self.old at (grown (held_at self.old at) bytes (marks_from perm)))) × (self.new ≡ self.old)) }
+    {
+        let _count = self.ram.frame_count();
+        match &mut self.places[at] {
+            Some(space) => space
+                .grow(&mut self.ram, &mut self.frames, bytes, perm)
+                .is_ok(),
+            None => unreachable!(),
+        }
+    }
+
+    /// Takes so many bytes away from the end of a place's space, and the pages that no byte needs then.
+    pub fn shrink(&mut self, at: usize, bytes: u64)
+        requires space { has_space self.old at ≡ true }
+        requires less { bytes ≤ (held_at self.old at).size }
+        ensures { self.new ≡ with_held self.old at (shrunk (held_at self.old at) bytes) }
+    {
+        match &mut self.places[at] {
+            Some(space) => space.shrink(&mut self.ram, &mut self.frames, bytes),
+            None => unreachable!(),
+        }
+        fence_active(&mut self.translator, self.active, at);
+    }
+
+    /// Puts bytes into the pages of a place from an address on, whatever their marks, as a loader does.
+    pub fn fill(&mut self, at: usize, address: u64, bytes: &[u8])
+        requires space { has_space self.old at ≡ true }
+        requires inside { (i : ℕ) → i < length bytes.now → (address + i) / 4096 < length (held_at self.old at).memory }
+        ensures { self.new ≡ with_held self.old at (written (held_at self.old at) address bytes.now) }
+    {
+        match &self.places[at] {
+            Some(space) => space.fill(&mut self.ram, address, bytes),
+            None => unreachable!(),
+        }
+    }
+
+    /// Copies bytes to an address of a place. `false`: its program may not write them all; then nothing changed.
+    pub fn write(&mut self, at: usize, address: u64, bytes: &[u8]) -> bool
+        requires { has_space self.old at ≡ true }
+        ensures can { result ≡ can_write (held_at self.old at).memory address (length bytes.now) }
+        ensures done { OnTrue result (self.new ≡ with_held self.old at (written (held_at self.old at) address bytes.now)) }
+        ensures refused { OnFalse result (self.new ≡ self.old) }
+    {
+        match &self.places[at] {
+            Some(space) => space.copy_out(&mut self.ram, address, bytes).is_ok(),
+            None => unreachable!(),
+        }
+    }
+
+    /// Makes a place the active one: the hart takes these registers, this pc and the tables of the place's space.
+    pub fn activate(&mut self, at: usize, registers: &[u64; 32], pc: u64)
+        requires space { has_space self.old at ≡ true }
+        requires zero { slice_index registers.now 0 ≡ 0 }
+        requires aligned { pc % 4 ≡ 0 }
+        ensures { self.new ≡ record self.old { active = Some at; registers = registers.now; pc = pc } }
+    {
+        let root = match &self.places[at] {
+            Some(space) => space.root(),
+            None => unreachable!(),
+        };
+        self.hart = Hart {
+            registers: *registers,
+            pc,
+            root,
+        };
+        self.translator.fence();
+        self.active = Some(at);
+    }
+
+    /// No place is active: the hart runs nothing, and keeps its registers.
+    pub fn deactivate(&mut self)
+        ensures { self.new ≡ record self.old { active = None } }
+    {
+        self.active = None;
+    }
+
+    /// The hart's registers, of which x0 is 0.
+    pub fn registers(&self) -> &[u64; 32]
+        ensures registers { result.now ≡ self.now.registers }
+        ensures zero { slice_index self.now.registers 0 ≡ 0 }
+        ensures all { length self.now.registers ≡ 32 }
+    {
+        let registers = &self.hart.registers;
+        all_of(registers);
+        registers
+    }
+
+    /// The hart's pc, a multiple of 4.
+    pub fn pc(&self) -> u64
+        ensures pc { result ≡ self.now.pc }
+        ensures aligned { self.now.pc % 4 ≡ 0 }
+    {
+        self.hart.pc
+    }
+
+    /// Puts a number into a register of the hart.
+    pub fn set_register(&mut self, n: usize, value: u64)
+        requires some { 1 ≤ n }
+        requires inside { n < 32 }
+        ensures { self.new ≡ record self.old { registers = slice_set self.old.registers n value } }
+    {
+        self.hart.registers[n] = value;
+    }
+
+    /// Sets the hart's pc.
+    pub fn set_pc(&mut self, value: u64)
+        requires { value % 4 ≡ 0 }
+        ensures { self.new ≡ record self.old { pc = value } }
+    {
+        self.hart.pc = value;
+    }
+
+    /// Does the instruction at the pc in the memory of the active place, or says why it isn't done.
+    pub fn execute(&mut self) -> Option<Trap>
+        requires { is_some self.old.active ≡ true }
+        ensures done { IfNone result (IfSome self.old.active (λ at. (d : Computed) × (cycle self.old.registers self.old.pc (held_at self.old at).memory ≡ Ok d) × (self.new ≡ computed self.old at d))) }
+        ensures trap { IfSome result (λ t. IfSome self.old.active (λ at. (cycle self.old.registers self.old.pc (held_at self.old at).memory ≡ Err t) × (self.new ≡ self.old))) }
+    {
+        let _count = self.ram.frame_count();
+        self.hart.step(&mut self.ram, &mut self.translator)
+    }
+}
