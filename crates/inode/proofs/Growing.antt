@@ -1,0 +1,211 @@
+-- A disk with the bytes of a write in place, before the inode's record is written.
+use Rattle.std.proofs.Common.{◌≡◌, ◌≢◌, ℕ, ◌+◌, ◌-◌, ◌/◌, ◌%◌, ◌<◌, ◌≤◌, ◌⊎◌, List, [], ◌++◌, length, get_or, set, take, drop, ap, sym, ◌∙◌, arith, inl, inr, refl, subst, cond, ltb}
+use Rattle.std.proofs.lemmas.Bool.{cases_eq, cases_lt}
+use Rattle.std.proofs.lemmas.Bool.Decides.{nat_tests}
+use Rattle.std.proofs.lemmas.List.{get_or-set_other, get_or-set_same, length-set, get_or_append_left, get_or-append_right, get_or-drop, get_or-take, length-append, length-drop, length-take-le}
+use Rattle.blockdev.specs.Blocks.{AreBlocks, block_at}
+use Rattle.blockdev.specs.Splice.{splice, length-splice}
+use Rattle.layout.specs.Super.{bitmap_start_of, data_start_of}
+use Rattle.layout.specs.declared.DiskInode.{DiskInode}
+use Rattle.layout.specs.declared.Geometry.{Geometry}
+use Rattle.layout.specs.Image.{Asks, IsFree, IsInode, IsSpare, IsUsed, bit_in, bit_of, blocks_for, byte_of, bytes_of, inode_at, slot_in, slot_of, taken_for}
+use Rattle.layout.specs.Sound.{IsSound}
+use Rattle.layout.specs.Slots.{asks_at}
+use Rattle.layout.specs.Frame.{get_or-bytes_of, length-bytes_of}
+use Rattle.layout.specs.Grow.{Grows, HoldsBytes, IsFresh}
+
+-- ---- counts
+
+pub taken_small : (size : ℕ) → blocks_for size ≤ 12 → taken_for size ≡ blocks_for size
+taken_small size h = go (blocks_for size) h where
+  go : (b : ℕ) → b ≤ 12 → b + cond (ltb 12 b) 1 0 ≡ b
+  go b h = grind (arith, nat_tests)
+
+pub taken_large : (size : ℕ) → 12 < blocks_for size → taken_for size ≡ blocks_for size + 1
+taken_large size h = go (blocks_for size) h where
+  go : (b : ℕ) → 12 < b → b + cond (ltb 12 b) 1 0 ≡ b + 1
+  go b h = grind (arith, nat_tests)
+
+-- ---- a list with a part written over that may pass its end
+
+module _ (at : ℕ) (new old : List ℕ) (within : at ≤ length old) where
+  front : length (take at old) ≡ at
+  front = length-take-le at old within
+
+  pub get_or-extend_before : (j : ℕ) → j < at → get_or (splice at new old) j 0 ≡ get_or old j 0
+  get_or-extend_before j h =
+      let f : length (take at old) ≡ at = front in
+      get_or_append_left (take at old) (new ++ drop (at + length new) old) 0 j (omega arith) ∙ get_or-take at old j 0 h
+
+  pub get_or-extend_inside : (j : ℕ) → at ≤ j → j < at + length new → get_or (splice at new old) j 0 ≡ get_or new (j - at) 0
+  get_or-extend_inside j h l =
+      get_or-append_right (take at old) (new ++ drop (at + length new) old) at j 0 front h
+      ∙ get_or_append_left new (drop (at + length new) old) 0 (j - at) (omega arith)
+
+  pub get_or-extend_after : (j : ℕ) → at + length new ≤ j → get_or (splice at new old) j 0 ≡ get_or old j 0
+  get_or-extend_after j h =
+      let e : at + length new + (j - at - length new) ≡ j = omega arith in
+      get_or-append_right (take at old) (new ++ drop (at + length new) old) at j 0 front (omega arith)
+      ∙ get_or-append_right new (drop (at + length new) old) (length new) (j - at) 0 refl (omega arith)
+      ∙ get_or-drop (at + length new) old (j - at - length new) 0
+      ∙ ap (λ i. get_or old i 0) e
+
+  pub length-extend : length (splice at new old) ≡ at + (length new + (length old - (at + length new)))
+  length-extend =
+      let f : length (take at old) ≡ at = front in
+      omega (arith, length-append (take at old) (new ++ drop (at + length new) old), length-append new (drop (at + length new) old), length-drop (at + length new) old)
+
+-- ---- a data block is written
+
+pub record PutsBlock (g : Geometry) (old new : List (List ℕ)) (p : ℕ) (block : List ℕ) : Type 0 where
+  pub count : length new ≡ length old
+  pub sizes : AreBlocks new
+  pub here : block_at new p ≡ block
+  pub rest : (q : ℕ) → q ≢ p → block_at new q ≡ block_at old q
+
+pub PutsBlock-write : (g : Geometry) (old new : List (List ℕ)) (p from : ℕ) (bytes : List ℕ) → length old ≡ g.size → AreBlocks old → p < g.size → from + length bytes ≤ 1024
+    → new ≡ set old p (splice from bytes (block_at old p)) → PutsBlock g old new p (splice from bytes (block_at old p))
+PutsBlock-write g old new p from bytes count sizes high room e =
+    let whole : length (block_at old p) ≡ 1024 = sizes p (omega arith) in
+    let here : block_at new p ≡ splice from bytes (block_at old p) = ap (λ x. block_at x p) e ∙ get_or-set_same old p (splice from bytes (block_at old p)) [] (omega arith) in
+    let rest : (q : ℕ) → q ≢ p → block_at new q ≡ block_at old q = λ q h. ap (λ x. block_at x q) e ∙ get_or-set_other old p q (splice from bytes (block_at old p)) [] h in
+    let long : length new ≡ length old = ap length e ∙ length-set old p (splice from bytes (block_at old p)) in
+    record {
+      count = long;
+      sizes = λ q h. elim (cases_eq q p) [
+        | inl met ↦ ap (λ x. length (block_at new x)) met ∙ ap length here ∙ length-splice from bytes (block_at old p) (omega arith) ∙ whole
+        | inr other ↦ ap length (rest q other) ∙ sizes q (omega arith)
+      ];
+      here = here;
+      rest = rest;
+    }
+
+-- ---- what a step leaves, but for the blocks T, of which F are new
+
+pub record Leaves (g : Geometry) (old mid : List (List ℕ)) (F T : ℕ → Type 0) : Type 0 where
+  pub count : length mid ≡ length old
+  pub sizes : AreBlocks mid
+  pub front : (k : ℕ) → k < bitmap_start_of g.inodes → block_at mid k ≡ block_at old k
+  pub rest : (p : ℕ) → data_start_of g.size g.inodes ≤ p → (T p → ⊥) → block_at mid p ≡ block_at old p
+  pub marked : (c : ℕ) → c < g.size → F c → bit_of mid (bitmap_start_of g.inodes) c ≡ 1
+  pub others : (c : ℕ) → c < g.size → (F c → ⊥) → bit_of mid (bitmap_start_of g.inodes) c ≡ bit_of old (bitmap_start_of g.inodes) c
+
+-- a data block is written after that
+pub Leaves-put : (g : Geometry) (old mid new : List (List ℕ)) (F T S : ℕ → Type 0) (p : ℕ) (block : List ℕ) → Leaves g old mid F T → PutsBlock g mid new p block → data_start_of g.size g.inodes ≤ p
+    → ((q : ℕ) → T q → S q) → S p → Leaves g old new F S
+Leaves-put g old mid new F T S p block leaves puts low weaker touched = record {
+  count = puts.count ∙ leaves.count;
+  sizes = puts.sizes;
+  front = λ k h. puts.rest k (omega arith) ∙ leaves.front k h;
+  rest = λ q h apart. puts.rest q (λ e. apart (subst S (sym e) touched)) ∙ leaves.rest q h (λ t. apart (weaker q t));
+  marked = λ c h f. ap (λ x. bit_in x (c % 8192)) (puts.rest (bitmap_start_of g.inodes + c / 8192) (omega arith)) ∙ leaves.marked c h f;
+  others = λ c h f. ap (λ x. bit_in x (c % 8192)) (puts.rest (bitmap_start_of g.inodes + c / 8192) (omega arith)) ∙ leaves.others c h f;
+}
+
+-- ---- the inode whose bytes are written
+
+module _ (g : Geometry) (old : List (List ℕ)) (n : ℕ) (inode : DiskInode) (sound : IsSound g old) (used : IsInode old g.inodes n) (same : inode ≡ inode_at old n) where
+  size_same : inode.size ≡ (inode_at old n).size
+  size_same = ap (λ (i : DiskInode). i.size) same
+
+  pub own_slot : (j : ℕ) → slot_of old n j ≡ slot_in old inode j
+  unfolding slot_of
+  own_slot j = ap (λ i. slot_in old i j) (sym same)
+
+  pub own_used : (j : ℕ) → Asks inode.size j → IsUsed old g.inodes n j
+  own_used j a = let e : inode.size ≡ (inode_at old n).size = size_same in record { inode = used; slot = elim a [ inl h ↦ inl (omega arith) | inr h ↦ let k = h.1 in inr (h.0, omega arith) ] }
+
+  pub own_asks : (j : ℕ) → IsUsed old g.inodes n j → Asks inode.size j
+  own_asks j u = let e : inode.size ≡ (inode_at old n).size = size_same in elim u.slot [ inl h ↦ inl (omega arith) | inr h ↦ let k = h.1 in inr (h.0, omega arith) ]
+
+  pub own_spare : (j : ℕ) → IsSpare inode.size j → slot_in old inode j ≡ 0
+  own_spare j s =
+      let e : inode.size ≡ (inode_at old n).size = size_same in
+      sym (own_slot j) ∙ sound.spare n j used (record { within = s.within; unasked = λ a. s.unasked (own_asks j (record { inode = used; slot = a })); index = λ h l. let k = s.index h l in omega arith })
+
+  pub own_fits : inode.size ≤ 274432
+  own_fits = let e : inode.size ≡ (inode_at old n).size = size_same in omega (arith, sound.fits n used)
+
+  pub own_length : length (bytes_of old n) ≡ inode.size
+  own_length = length-bytes_of old n ∙ sym size_same
+
+  -- a block in use isn't free
+  pub used_apart : (j b : ℕ) → IsUsed old g.inodes n j → IsFree g old b → slot_of old n j ≢ b
+  used_apart j b u free e = let one = (sound.marked b free.high).1 (inr (n, j, u, e)) in let zero = free.clear in omega arith
+
+  pub other_apart : (m j b : ℕ) → IsUsed old g.inodes m j → IsFree g old b → slot_of old m j ≢ b
+  other_apart m j b u free e = let one = (sound.marked b free.high).1 (inr (m, j, u, e)) in let zero = free.clear in omega arith
+
+  -- the bytes of a new block b behind those that there are
+  pub HoldsBytes-append : (mid : List (List ℕ)) (next : DiskInode) → ((j : ℕ) → IsUsed old g.inodes n j → slot_in mid next j ≡ slot_of old n j) → (b : ℕ) (bytes block : List ℕ) → inode.size % 1024 ≡ 0 → length bytes ≤ 1024 → next.size ≡ inode.size + length bytes
+      → slot_in mid next (inode.size / 1024) ≡ b → block_at mid b ≡ splice 0 bytes block
+      → ((j : ℕ) → j < 268 → IsUsed old g.inodes n j → block_at mid (slot_of old n j) ≡ block_at old (slot_of old n j))
+      → HoldsBytes mid next (splice inode.size bytes (bytes_of old n))
+  unfolding byte_of
+  HoldsBytes-append mid next kept b bytes block whole room size slot block_is blocks_same =
+      let long : length (bytes_of old n) ≡ inode.size = own_length in
+      record {
+        size = length-extend inode.size bytes (bytes_of old n) (omega arith) ∙ omega arith;
+        bytes_are = λ i h. elim (cases_lt i inode.size) [
+          | inl before ↦
+              let u : IsUsed old g.inodes n (i / 1024) = own_used (i / 1024) (asks_at inode.size i before) in
+              let l : i / 1024 < 268 = let f = own_fits in omega arith in
+              let e : inode.size ≡ (inode_at old n).size = size_same in
+              ap (λ q. get_or (block_at mid q) (i % 1024) 0) (kept (i / 1024) u)
+              ∙ ap (λ x. get_or x (i % 1024) 0) (blocks_same (i / 1024) l u)
+              ∙ sym (get_or-bytes_of old n i (omega arith))
+              ∙ sym (get_or-extend_before inode.size bytes (bytes_of old n) (omega arith) i before)
+          | inr after ↦
+              let k : i / 1024 ≡ inode.size / 1024 = omega arith in
+              let r : i % 1024 ≡ i - inode.size = omega arith in
+              ap (λ q. get_or (block_at mid (slot_in mid next q)) (i % 1024) 0) k
+              ∙ ap (λ q. get_or (block_at mid q) (i % 1024) 0) slot
+              ∙ ap (λ x. get_or x (i % 1024) 0) block_is
+              ∙ get_or-extend_inside 0 bytes block (omega arith) (i % 1024) (omega arith) (omega arith)
+              ∙ ap (λ q. get_or bytes q 0) (omega arith)
+              ∙ sym (get_or-extend_inside inode.size bytes (bytes_of old n) (omega arith) i after (omega arith))
+        ];
+      }
+
+  module _ (mid : List (List ℕ)) (next : DiskInode) (F T : ℕ → Type 0) (leaves : Leaves g old mid F T)
+      (own : (p : ℕ) → T p → IsFree g old p ⊎ ((j : ℕ) × IsUsed old g.inodes n j × (slot_of old n j ≡ p)))
+      (choice : (c : ℕ) → F c ⊎ (F c → ⊥)) (kind : next.kind ≡ inode.kind) (fits : next.size ≤ 274432) (grown : inode.size ≤ next.size)
+      (kept : (j : ℕ) → IsUsed old g.inodes n j → slot_in mid next j ≡ slot_of old n j)
+      (fresh : (j : ℕ) → IsFresh g old n next j → F (slot_in mid next j))
+      (fresh_free : (c : ℕ) → F c → IsFree g old c)
+      (fresh_at : (c : ℕ) → F c → (j : ℕ) × IsFresh g old n next j × (slot_in mid next j ≡ c))
+      (once : (i j : ℕ) → IsFresh g old n next i → IsFresh g old n next j → slot_in mid next i ≡ slot_in mid next j → i ≡ j)
+      (spare : (j : ℕ) → IsSpare next.size j → slot_in mid next j ≡ 0) where
+    pub Grows-step : Grows g old mid n next
+    Grows-step =
+        let node : inode.kind ≡ (inode_at old n).kind = ap (λ (i : DiskInode). i.kind) same in
+        record {
+          count = leaves.count;
+          sizes = leaves.sizes;
+          front = leaves.front;
+          named = λ m j u apart. leaves.rest (slot_of old m j) (sound.in_range m j u).0 (λ t. elim (own (slot_of old m j) t) [
+            | inl free ↦ other_apart m j (slot_of old m j) u free refl
+            | inr (i, v, e) ↦ apart (sound.once m j n i u v (sym e)).0
+          ]);
+          kind = let k = sound.kinds n used.low used.high in omega arith;
+          used = λ j a z. used.kind (sym node ∙ sym kind ∙ z);
+          fits = fits;
+          asks = λ j u. elim (own_asks j u) [ inl h ↦ inl (omega arith) | inr h ↦ let k = h.1 in inr (h.0, omega arith) ];
+          kept = kept;
+          fresh = λ j f. fresh_free (slot_in mid next j) (fresh j f);
+          once = once;
+          spare = spare;
+          bits = λ b h. (
+            (λ one. elim (choice b) [
+              | inl f ↦ inr (fresh_at b f)
+              | inr f ↦ inl (sym (leaves.others b h f) ∙ one)
+            ]),
+            (λ why. elim (choice b) [
+              | inl f ↦ leaves.marked b h f
+              | inr f ↦ elim why [
+                | inl one ↦ leaves.others b h f ∙ one
+                | inr (j, k, e) ↦ absurd (f (subst F e (fresh j k)))
+              ]
+            ]),
+          );
+        }

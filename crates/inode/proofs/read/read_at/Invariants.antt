@@ -1,0 +1,14 @@
+use Rattle.std.proofs.Common.{◌≡◌, ◌-◌, ◌≤◌}
+use Rattle.inode.specs.Reading.{HasRead}
+use Rattle.inode.proofs.read.read_at.Given as goal
+
+abbrev pub invariant-chunk : goal.invariant-chunk
+invariant-chunk g l = record {
+  disk : l.disk.blocks ≡ l.fn.disk.blocks;
+  failures : l.fn.disk.failures ≤ l.disk.failures;
+  within : l.done ≤ l.count;
+  has_read : HasRead l.fn.disk.blocks l.number l.at l.done l.fn.out l.out;
+}
+
+abbrev pub decreases-chunk : goal.decreases-chunk
+decreases-chunk g l = l.count - l.done

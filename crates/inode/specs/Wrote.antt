@@ -1,0 +1,94 @@
+-- Writes that follow one another, and the record that ends a step.
+use Rattle.std.specs.Prelude.{◌≡◌, ℕ, ◌+◌, ◌*◌, ◌/◌, ◌%◌, ◌<◌, List, [], length, get_or, Option, None, Some, zero, suc, ◌∷◌}
+use Rattle.std.proofs.Common.{set, ap, sym, ◌∙◌, arith, refl, subst}
+use Rattle.std.proofs.lemmas.List.{set-get_or}
+use Rattle.blockdev.specs.Splice.{part}
+use Rattle.layout.specs.Super.{bitmap_start_of}
+use Rattle.layout.specs.declared.DiskInode.{DiskInode}
+use Rattle.layout.specs.declared.Geometry.{Geometry}
+use Rattle.layout.specs.Image.{IsInode, RawNode, bit_in, bytes_of, free_blocks, inode_at, node_with, nodes_of, taken_for}
+use Rattle.layout.specs.Sound.{IsSound}
+use Rattle.layout.specs.Frame.{IsSound-replace, get_or-nodes_of, length-bytes_of, node_at-some, nodes_of-changed}
+use Rattle.layout.specs.Inode.{inode_of}
+use Rattle.layout.specs.Grow.{Grows, Grows-bytes, Grows-keeps, Grows-node, Grows-sound, WritesInode}
+use Rattle.balloc.specs.Counting.{free_blocks-same}
+use Rattle.inode.specs.Writing.{IsSameNode, Prepares, Wrote}
+
+set-set : (xs : List (Option RawNode)) (i : ℕ) (a b : Option RawNode) → set (set xs i a) i b ≡ set xs i b
+set-set [] i a b = refl
+set-set (x ∷ xs) zero a b = refl
+set-set (x ∷ xs) (suc i) a b = ap (λ l. x ∷ l) (set-set xs i a b)
+
+-- the same node has the same fields
+same_node : {k k' a a' i i' l l' : ℕ} (bytes : List ℕ) → k ≡ k' → a ≡ a' → i ≡ i' → l ≡ l'
+    → ◌≡◌ {A = RawNode} (record { kind = k; major = a; minor = i; links = l; bytes = bytes }) (record { kind = k'; major = a'; minor = i'; links = l'; bytes = bytes })
+same_node bytes p q r t = λ i. record { kind = p i; major = q i; minor = r i; links = t i; bytes = bytes }
+
+pub node_with-same : (old new : DiskInode) (bytes : List ℕ) → IsSameNode old new → node_with new bytes ≡ node_with old bytes
+node_with-same old new bytes same = same_node bytes same.kind same.major same.minor same.links
+
+pub IsSameNode-trans : (a b c : DiskInode) → IsSameNode a b → IsSameNode b c → IsSameNode a c
+IsSameNode-trans a b c p q = record { kind = q.kind ∙ p.kind; major = q.major ∙ p.major; minor = q.minor ∙ p.minor; links = q.links ∙ p.links }
+
+-- a write after a write
+pub Wrote-trans : (g : Geometry) (a b c : List (List ℕ)) (n : ℕ) (xs ys : List ℕ) → Wrote g a b n xs → Wrote g b c n ys → Wrote g a c n ys
+Wrote-trans g a b c n xs ys first second =
+    let middle : length (bytes_of b n) ≡ length xs = ap length first.own in
+    let count : taken_for (length (bytes_of b n)) ≡ taken_for (length xs) = ap taken_for middle in
+    let f = first.balance in
+    let s = second.balance in
+    record {
+      sound = second.sound;
+      nodes = second.nodes
+          ∙ ap (λ node. set (nodes_of b g.inodes) n (Some node)) (node_with-same (inode_at a n) (inode_at b n) ys first.same)
+          ∙ ap (λ nodes. set nodes n (Some (node_with (inode_at a n) ys))) first.nodes
+          ∙ set-set (nodes_of a g.inodes) n (Some (node_with (inode_at a n) xs)) (Some (node_with (inode_at a n) ys));
+      same = IsSameNode-trans (inode_at a n) (inode_at b n) (inode_at c n) first.same second.same;
+      own = second.own;
+      balance = omega arith;
+    }
+
+-- what is prepared is written once the record is
+pub Wrote-record : (g : Geometry) (old mid new : List (List ℕ)) (n : ℕ) (inode : DiskInode) (bytes : List ℕ) → IsSound g old → IsInode old g.inodes n → Prepares g old mid n inode bytes → WritesInode g mid new n inode → Wrote g old new n bytes
+Wrote-record g old mid new n inode bytes sound used prepares writes =
+    let keeps = Grows-keeps g old mid new n inode sound used.low used.high prepares.grows writes in
+    let own : bytes_of new n ≡ bytes = Grows-bytes g old mid new n inode sound used.low used.high prepares.grows writes bytes prepares.holds in
+    let free : free_blocks g new ≡ free_blocks g mid = free_blocks-same g mid new (λ b h. ap (λ c. bit_in c (b % 8192)) (writes.rest (bitmap_start_of g.inodes + b / 8192) (let z = used.high in omega arith))) in
+    let size : taken_for (length bytes) ≡ taken_for inode.size = ap taken_for prepares.holds.size in
+    let before : taken_for (length (bytes_of old n)) ≡ taken_for (inode_at old n).size = ap taken_for (length-bytes_of old n) in
+    let balance = prepares.balance in
+    record {
+      sound = IsSound-replace g old new n sound keeps (Grows-sound g old mid new n inode sound used.low used.high prepares.grows writes);
+      nodes = nodes_of-changed g old new n sound keeps used.high
+          ∙ ap (set (nodes_of old g.inodes) n) (Grows-node g old mid new n inode sound used.low used.high prepares.grows writes bytes (λ z. used.kind (sym prepares.same.kind ∙ z)) prepares.holds)
+          ∙ ap (λ node. set (nodes_of old g.inodes) n (Some node)) (node_with-same (inode_at old n) inode bytes prepares.same);
+      same = subst (IsSameNode (inode_at old n)) (sym writes.here) prepares.same;
+      own = own;
+      balance = omega arith;
+    }
+
+-- nothing is written
+pub Wrote-nothing : (g : Geometry) (old new : List (List ℕ)) (n : ℕ) → new ≡ old → IsSound g old → IsInode old g.inodes n → Wrote g old new n (bytes_of old n)
+Wrote-nothing g old new n e sound used =
+    let here : get_or (nodes_of old g.inodes) n None ≡ Some (node_with (inode_at old n) (bytes_of old n)) = get_or-nodes_of old g.inodes n used.high ∙ node_at-some old n used.low used.kind in
+    record {
+      sound = subst (IsSound g) (sym e) sound;
+      nodes = ap (λ b. nodes_of b g.inodes) e ∙ sym (set-get_or (nodes_of old g.inodes) n None) ∙ ap (set (nodes_of old g.inodes) n) here;
+      same = subst (λ b. IsSameNode (inode_at old n) (inode_at b n)) (sym e) (record { kind = refl; major = refl; minor = refl; links = refl });
+      own = ap (λ b. bytes_of b n) e;
+      balance = ap (λ b. free_blocks g b + taken_for (length (bytes_of old n))) e;
+    }
+
+-- a record that stands there already
+pub WritesInode-same : (g : Geometry) (old mid : List (List ℕ)) (n : ℕ) (inode : DiskInode) → n < g.inodes → Grows g old mid n inode → inode ≡ inode_at old n → WritesInode g mid mid n inode
+WritesInode-same g old mid n inode high grows e = record {
+  count = refl;
+  sizes = grows.sizes;
+  here = ap (λ b. inode_of (part (64 * (n % 16)) 64 b)) (grows.front (2 + n / 16) (omega arith)) ∙ sym e;
+  others = λ m apart. refl;
+  rest = λ k apart. refl;
+}
+
+-- the inode stays one
+pub Wrote-inode : (g : Geometry) (old new : List (List ℕ)) (n : ℕ) (bytes : List ℕ) → IsInode old g.inodes n → Wrote g old new n bytes → IsInode new g.inodes n
+Wrote-inode g old new n bytes used wrote = record { low = used.low; high = used.high; kind = λ z. used.kind (sym wrote.same.kind ∙ z) }
