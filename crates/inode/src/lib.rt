@@ -4,6 +4,8 @@
 mod empty;
 mod grow;
 mod read;
+#[cfg(test)]
+mod tests;
 mod write;
 
 use blockdev::DeviceFault;
