@@ -1,9 +1,10 @@
 //! A plain Rust interpreter of the machine's design, to measure `xv6 flat` against: the memory is
 //! one block of frames, each access walks three levels of Sv39 tables in it, and each step decodes
-//! its instruction from the word. It knows RV64I and the calls exit, sbrk and write.
+//! its instruction from the word. It knows RV64I, the calls fork, exit, wait, sbrk and write, 64
+//! places of processes that take turns, and a timer that ticks after each so many steps.
 //!
 //!     rustc -O -o baseline baseline.rs
-//!     ./baseline FRAMES FILE STEPS
+//!     ./baseline FRAMES FILE STEPS [TICK]
 
 use std::io::Write;
 
@@ -28,9 +29,34 @@ enum Trap {
     Call,
 }
 
+#[derive(Clone, Copy, PartialEq)]
+enum Mode {
+    Ready,
+    Running,
+    Waiting,
+    Zombie(i32),
+}
+
+/// A process; what the hart holds of the running one isn't up to date here.
+#[derive(Clone, Copy)]
+struct Process {
+    pid: u32,
+    parent: u32,
+    mode: Mode,
+    registers: [u64; 32],
+    pc: u64,
+    root: u32,
+    size: u64,
+}
+
 struct Machine {
     memory: Vec<u8>,
     free: Vec<u32>,
+    places: [Option<Process>; 64],
+    running: Option<usize>,
+    last: usize,
+    pids: u32,
+    // of the running process
     registers: [u64; 32],
     pc: u64,
     root: u32,
@@ -42,6 +68,10 @@ impl Machine {
         let mut machine = Machine {
             memory: vec![0; frames as usize * FRAME],
             free: (0..frames).rev().collect(),
+            places: [None; 64],
+            running: None,
+            last: 63,
+            pids: 1,
             registers: [0; 32],
             pc: 0,
             root: 0,
@@ -56,7 +86,14 @@ impl Machine {
         machine.map(R | W)?;
         machine.map(R | W | U)?;
         machine.registers[2] = machine.size - 16;
+        machine.places[0] = Some(machine.process(1, 0, Mode::Ready));
         Some(machine)
+    }
+
+    // A process with what the hart holds.
+    fn process(&self, pid: u32, parent: u32, mode: Mode) -> Process {
+        let Machine { registers, pc, root, size, .. } = *self;
+        Process { pid, parent, mode, registers, pc, root, size }
     }
 
     fn take(&mut self) -> Option<u32> {
@@ -308,18 +345,156 @@ impl Machine {
         Ok(())
     }
 
-    // One call; a status where the program ends.
+    // The running process runs no more.
+    fn leave(&mut self, mode: Mode) {
+        if let Some(at) = self.running.take() {
+            let process = self.places[at].expect("the running process");
+            self.places[at] = Some(self.process(process.pid, process.parent, mode));
+        }
+    }
+
+    fn enter(&mut self, at: usize) {
+        let process = self.places[at].as_mut().expect("a process");
+        process.mode = Mode::Running;
+        self.registers = process.registers;
+        self.pc = process.pc;
+        self.root = process.root;
+        self.size = process.size;
+        self.running = Some(at);
+    }
+
+    fn find(&self, test: impl Fn(&Process) -> bool) -> Option<usize> {
+        self.places.iter().position(|place| place.as_ref().is_some_and(&test))
+    }
+
+    fn zombie_child(&self, pid: u32) -> Option<usize> {
+        self.find(|p| p.parent == pid && matches!(p.mode, Mode::Zombie(_)))
+    }
+
+    fn is_ready(&self, at: usize) -> bool {
+        self.places[at].as_ref().is_some_and(|process| match process.mode {
+            Mode::Ready => true,
+            Mode::Waiting => self.zombie_child(process.pid).is_some(),
+            Mode::Running | Mode::Zombie(_) => false,
+        })
+    }
+
+    // The process whose turn it is runs, or goes on with its wait.
+    fn turn(&mut self) {
+        let Some(at) = (1..=64).map(|k| (self.last + k) % 64).find(|&at| self.is_ready(at)) else {
+            return;
+        };
+        self.last = at;
+        let waits = self.places[at].is_some_and(|process| process.mode == Mode::Waiting);
+        self.enter(at);
+        if waits {
+            self.wait();
+        }
+    }
+
+    fn tick(&mut self) {
+        self.leave(Mode::Ready);
+    }
+
+    // A status where process 1 ends.
+    fn end(&mut self, status: i32) -> Option<i32> {
+        let pid = self.places[self.running?]?.pid;
+        self.leave(Mode::Zombie(status));
+        for process in self.places.iter_mut().flatten().filter(|p| p.parent == pid) {
+            process.parent = 1;
+        }
+        (pid == 1).then_some(status)
+    }
+
+    // One call; a status where process 1 ends.
     fn call(&mut self) -> Option<i32> {
         self.pc = self.pc.wrapping_add(4);
         let [a0, a1, a2] = [10, 11, 12].map(|register| self.registers[register]);
         let answer = match self.registers[17] as i32 {
-            2 => return Some(a0 as i32),
+            1 => self.fork(),
+            2 => return self.end(a0 as i32),
+            3 => {
+                self.wait();
+                return None;
+            }
             12 => self.sbrk(a0 as i32 as i64),
             16 => self.write(a1, a2 as i32 as i64),
             _ => None,
         };
         self.registers[10] = answer.unwrap_or(u64::MAX);
         None
+    }
+
+    fn fork(&mut self) -> Option<u64> {
+        let place = self.places.iter().position(Option::is_none)?;
+        let pages = self.size / FRAME as u64;
+        if (self.free.len() as u64) < pages + 2 + pages.div_ceil(512) {
+            return None;
+        }
+        let parent = self.process(0, 0, Mode::Ready);
+        self.root = self.take()?;
+        self.size = 0;
+        while self.size < parent.size {
+            let (from, marks) = self.leaf(parent.root, self.size)?;
+            let to = self.map(marks)? as usize * FRAME;
+            self.memory.copy_within(from..from + FRAME, to);
+        }
+        self.pids += 1;
+        let pid = self.places[self.running?]?.pid;
+        let mut child = self.process(self.pids, pid, Mode::Ready);
+        child.registers[10] = 0;
+        self.places[place] = Some(child);
+        self.root = parent.root;
+        Some(self.pids as u64)
+    }
+
+    // Where the page of an address stands, and its marks.
+    fn leaf(&self, root: u32, address: u64) -> Option<(usize, u64)> {
+        let mut table = root;
+        for level in [2, 1, 0] {
+            let entry = self.entry(table, (address >> (12 + 9 * level)) & 511);
+            if entry & V == 0 {
+                return None;
+            }
+            if entry & (R | W | X) != 0 {
+                return Some(((entry >> 10) as usize * FRAME, entry & (R | W | X | U)));
+            }
+            table = (entry >> 10) as u32;
+        }
+        None
+    }
+
+    // The frames of a table and of all below it.
+    fn give(&mut self, table: u32) {
+        for index in 0..512 {
+            let entry = self.entry(table, index);
+            if entry & V == 0 {
+                continue;
+            }
+            if entry & (R | W | X) == 0 {
+                self.give((entry >> 10) as u32);
+            } else {
+                self.free.push((entry >> 10) as u32);
+            }
+        }
+        self.free.push(table);
+    }
+
+    // Wait without an address for the status.
+    fn wait(&mut self) {
+        let pid = self.running.and_then(|at| self.places[at]).map_or(0, |process| process.pid);
+        if self.find(|p| p.parent == pid).is_none() {
+            self.registers[10] = u64::MAX;
+            return;
+        }
+        let Some(at) = self.zombie_child(pid) else {
+            self.leave(Mode::Waiting);
+            return;
+        };
+        if let Some(child) = self.places[at].take() {
+            self.give(child.root);
+            self.registers[10] = child.pid as u64;
+        }
     }
 
     fn sbrk(&mut self, by: i64) -> Option<u64> {
@@ -350,16 +525,28 @@ fn main() {
     let frames = words[1].parse().expect("a number of frames");
     let program = std::fs::read(&words[2]).expect("a program");
     let steps: u64 = words[3].parse().expect("a number of steps");
+    let tick: u64 = words.get(4).map_or(u64::MAX, |word| word.parse().expect("a number of steps"));
     let mut machine = Machine::new(frames, &program).expect("frames for the program");
+    let mut left = tick;
     for done in 1..=steps {
-        let status = match machine.step() {
-            Ok(()) => None,
-            Err(Trap::Call) => machine.call(),
-            Err(Trap::Fault) => Some(-1),
+        let status = if machine.running.is_none() {
+            machine.turn();
+            None
+        } else {
+            match machine.step() {
+                Ok(()) => None,
+                Err(Trap::Call) => machine.call(),
+                Err(Trap::Fault) => machine.end(-1),
+            }
         };
         if let Some(status) = status {
             eprintln!("exit {status} after {done} steps");
             return;
+        }
+        left -= 1;
+        if left == 0 {
+            machine.tick();
+            left = tick;
         }
     }
     eprintln!("running after {steps} steps");

@@ -8,7 +8,7 @@ import struct
 ZERO, SP, A0, A7 = 0, 2, 10, 17
 T0, T1, T2, T3, T4, T5 = 5, 6, 7, 28, 29, 30
 
-EXIT, SBRK = 2, 12
+FORK, EXIT, WAIT, SBRK = 1, 2, 3, 12
 
 
 def r_type(funct7, rs2, rs1, funct3, rd, opcode):
@@ -52,6 +52,10 @@ def branch(funct3, rs1, rs2, offset):
 
 def bne(rs1, rs2, offset):
     return branch(1, rs1, rs2, offset)
+
+
+def beq(rs1, rs2, offset):
+    return branch(0, rs1, rs2, offset)
 
 
 def bltu(rs1, rs2, offset):
@@ -131,5 +135,46 @@ def grow_and_shrink(before, pages, times):
             addi(A0, ZERO, 0),  #       addi a0, zero, 0
             addi(A7, ZERO, EXIT),  #    addi a7, zero, 2
             ECALL,  #                   ecall
+        ]
+    )
+
+
+def fork_and_wait(times):
+    """So many times a child of three pages that exits at once, and a wait for it; `times` is a
+    multiple of 1000."""
+    return flat(
+        [
+            addi(T1, ZERO, times // 1000),  # addi t1, zero, times / 1000
+            addi(T0, ZERO, 1000),  # thousand: addi t0, zero, 1000
+            addi(A7, ZERO, FORK),  # round: addi a7, zero, 1
+            ECALL,  #                   ecall
+            beq(A0, ZERO, 40),  #       beq  a0, zero, child
+            addi(A7, ZERO, WAIT),  #    addi a7, zero, 3
+            addi(A0, ZERO, 0),  #       addi a0, zero, 0
+            ECALL,  #                   ecall
+            addi(T0, T0, -1),  #        addi t0, t0, -1
+            bne(T0, ZERO, -28),  #      bne  t0, zero, round
+            addi(T1, T1, -1),  #        addi t1, t1, -1
+            bne(T1, ZERO, -40),  #      bne  t1, zero, thousand
+            addi(A0, ZERO, 0),  #       addi a0, zero, 0
+            addi(A0, ZERO, 0),  # child: addi a0, zero, 0
+            addi(A7, ZERO, EXIT),  #    addi a7, zero, 2
+            ECALL,  #                   ecall
+        ]
+    )
+
+
+def share():
+    """63 forks, and then 64 processes that count for ever."""
+    return flat(
+        [
+            addi(T0, ZERO, 63),  #      addi t0, zero, 63
+            addi(A7, ZERO, FORK),  # more: addi a7, zero, 1
+            ECALL,  #                   ecall
+            beq(A0, ZERO, 12),  #       beq  a0, zero, count
+            addi(T0, T0, -1),  #        addi t0, t0, -1
+            bne(T0, ZERO, -16),  #      bne  t0, zero, more
+            addi(T1, T1, 1),  # count:  addi t1, t1, 1
+            beq(ZERO, ZERO, -4),  #     beq  zero, zero, count
         ]
     )

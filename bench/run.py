@@ -5,9 +5,10 @@
 
 PROGRAM is the built `xv6`. Each flat program runs in both, turn by turn, and the least processor
 times, their ratio and the peak memory of `xv6` are printed. Two programs take more than 100 million
-steps. The others ask for memory and give it back, so many pages at a time; the last two take as
-long as each other where a page costs the same however large the space is. `rustc` has to be in the
-PATH.
+steps. Three ask for memory and give it back, so many pages at a time; the last two of these take as
+long as each other where a page costs the same however large the space is. The last two programs
+have many processes: children that are waited for, and 64 that share the hart by a timer. `rustc`
+has to be in the PATH.
 """
 
 import os
@@ -25,13 +26,18 @@ HERE = pathlib.Path(__file__).resolve().parent
 STEPS = 1_000_000_000
 TURNS = 3
 
-# The name of a program, its frames and its bytes.
+# The steps between two timer interrupts, and how many such times, where there is a timer.
+TICK, TICKS = 100, 500_000
+
+# The name of a program, its frames, its bytes, and whether a timer ticks.
 CASES = [
-    ("tight loop", 256, programs.tight_loop()),
-    ("memory", 256, programs.memory_loop()),
-    ("sbrk by 4096 pages, 1000 times", 8192, programs.grow_and_shrink(0, 4096, 1000)),
-    ("sbrk by 64 pages, 64000 times", 8192, programs.grow_and_shrink(0, 64, 64000)),
-    ("the same above 4096 pages", 8192, programs.grow_and_shrink(4096, 64, 64000)),
+    ("tight loop", 256, programs.tight_loop(), False),
+    ("memory", 256, programs.memory_loop(), False),
+    ("sbrk by 4096 pages, 1000 times", 8192, programs.grow_and_shrink(0, 4096, 1000), False),
+    ("sbrk by 64 pages, 64000 times", 8192, programs.grow_and_shrink(0, 64, 64000), False),
+    ("the same above 4096 pages", 8192, programs.grow_and_shrink(4096, 64, 64000), False),
+    ("fork and wait, 100000 times", 256, programs.fork_and_wait(100_000), False),
+    (f"64 processes, a tick every {TICK} steps", 1024, programs.share(), True),
 ]
 
 
@@ -69,16 +75,23 @@ def main():
         baseline, script, image = room / "baseline", room / "script", room / "program"
         source = HERE / "baseline.rs"
         subprocess.run(["rustc", "-O", "--edition", "2021", "-o", baseline, source], check=True)
-        script.write_text(f"step {STEPS}\n")
-        for name, frames, code in CASES:
+        for name, frames, code, ticks in CASES:
             image.write_bytes(code)
             flat = [program, "flat", "--frames", str(frames), image, script]
-            plain = [baseline, str(frames), image, str(STEPS)]
+            plain = [baseline, str(frames), image]
+            if ticks:
+                script.write_text(f"step {TICK}\ntick 1\n" * TICKS)
+                plain += [str(TICK * TICKS), str(TICK)]
+                told = "running", "running after "
+            else:
+                script.write_text(f"step {STEPS}\n")
+                plain += [str(STEPS)]
+                told = "halt 1 InitEnded 0", "exit 0 after "
             ours, theirs = [], []
             for _ in range(TURNS):
-                ours.append(run(flat, "halt 1 InitEnded 0"))
-                theirs.append(run(plain, "exit 0 after "))
-            steps = int(theirs[0][2].split()[3])
+                ours.append(run(flat, told[0]))
+                theirs.append(run(plain, told[1]))
+            steps = int(theirs[0][2].split()[-2])
             took, other = min(ours)[0], min(theirs)[0]
             print(f"{name}: {steps} steps: xv6 {took:.2f} s, plain Rust {other:.2f} s, "
                   f"ratio {took / other:.2f}, peak {max(ran[1] for ran in ours)} KiB", flush=True)

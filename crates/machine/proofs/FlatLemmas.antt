@@ -1,27 +1,27 @@
--- A flat program in memory, and the state that begins with it.
+-- A flat program in memory, and the state and the kernel that begin with it.
 use lib.Seq.{drop-append-add}
-use Rattle.frames.specs.declared.Frames.{Frames}
-use Rattle.frames.specs.Free.{free_count, IsFreeList}
-use Rattle.frames.specs.HolderLemmas.{shared-count}
-use Rattle.frames.specs.Holders.{IsShared, Trades}
-use Rattle.machine.proofs.KernelLemmas.{over-count, shared-trade}
-use Rattle.machine.proofs.States.{frames_of-state}
-use Rattle.machine.specs.Flat.{bare_plan, begun, flat_memory}
-use Rattle.machine.specs.Solo.{Solo, state_of}
-use Rattle.std.proofs.Common.{◌≡◌, ◌⊎◌, ℕ, zero, suc, ◌+◌, ◌-◌, ◌*◌, ◌/◌, ◌%◌, ◌<◌, ◌≤◌, Bool, true, false, List, [], ◌∷◌, ◌++◌, length, take, drop, replicate, Some, None, nat_le, refl, sym, ap, ◌∙◌, arith, append_assoc, length-append}
+use Rattle.calls.specs.Kernel.{memory_in, state_of}
+use Rattle.calls.specs.Sound.{IsKernel, IsLive, IsPlace, IsPlaced}
+use Rattle.machine.specs.Flat.{alone, bare_plan, first, first_kernel, first_table, flat_memory, flat_space}
+use Rattle.proc.specs.declared.process.Process.{Process}
+use Rattle.proc.specs.Places.{is_running, seated}
+use Rattle.proc.specs.Whole.{joined, joined-free_slots}
+use Rattle.spaces.specs.Spaces.{Held, Spaces, frames_in, grown, held_at, no_pages, taken_frames, with_held, written}
+use Rattle.std.proofs.Common.{◌≡◌, ℕ, zero, suc, ◌+◌, ◌-◌, ◌*◌, ◌/◌, ◌%◌, ◌<◌, ◌≤◌, Bool, true, false, List, [], ◌∷◌, ◌++◌, length, map, take, drop, replicate, Option, Some, None, nat_le, refl, sym, ap, ◌∙◌, arith, append_assoc, length-append}
 use Rattle.std.proofs.lemmas.Bool.{le-leb, lt-leb, lt-ltb}
-use Rattle.std.proofs.lemmas.List.{drop-replicate, length-take}
+use Rattle.std.proofs.lemmas.List.{drop-replicate, length-replicate, length-take}
+use Rattle.std.proofs.lemmas.List.Sums.{sum_by-cons}
 use Rattle.std.proofs.Math.Nat.{zero-add}
 use Rattle.std.proofs.Math.Seq.{take-append-add}
-use Rattle.std.specs.Prelude.{if◌then◌else◌}
+use Rattle.std.specs.Prelude.{if◌then◌else◌, slice_index, sum_by}
 use Rattle.unixmodel.specs.Counts.{frames_of, page_frames}
+use Rattle.unixmodel.specs.Files.{free_slots, slot}
 use Rattle.unixmodel.specs.Memory.{Marks, Memory, Page, overwrite, pages_of, write_bytes, write_from, zero_page, zeros}
 use Rattle.unixmodel.specs.Numbers.{ceil_div, le, round_down}
 use Rattle.unixmodel.specs.Plan.{plan_flat, push, push_pointers, push_strings, stack_marks, with_args, with_stack}
-use Rattle.unixmodel.specs.Start.{if_fits, start_flat}
-use Rattle.vm.specs.declared.Space.{Space}
-use Rattle.vm.specs.Dense.{frames_for}
-use Rattle.vm.specs.Space.{IsSpace, Stands, holds, pages_in}
+use Rattle.unixmodel.specs.Process as unix
+use Rattle.unixmodel.specs.Start.{first_process, first_state, flat_descriptors, flat_files, flat_opens, if_fits, start_flat}
+use Rattle.unixmodel.specs.State.{State, holds}
 
 -- ---- pages of bytes
 
@@ -104,26 +104,6 @@ plan-is bytes =
     let pages = pages_of all (ceil_div (length bytes) 4096) bytes in
     bare pages ∙ ap (λ n. Some (bare_plan (with_stack pages) (4096 * n))) (sym (length-with_stack pages))
 
--- ---- the first state
-
--- process 1 of a flat program
-abbrev pub first : List ℕ → ℕ → Solo
-first bytes frames = begun (bare_plan (flat_memory bytes) (4096 * length (flat_memory bytes))) frames
-
-starts : (bytes : List ℕ) (frames : ℕ) → start_flat bytes frames ≡ if_fits (state_of (first bytes frames))
-unfolding start_flat
-starts bytes frames = rw (plan-is bytes) refl
-
-pub start-fits : (bytes : List ℕ) (frames : ℕ) → 4 + page_frames (length (flat_memory bytes)) ≤ frames → start_flat bytes frames ≡ Some (state_of (first bytes frames))
-start-fits bytes frames fits =
-    let within : nat_le (frames_of (state_of (first bytes frames))) frames ≡ true = rw (frames_of-state (first bytes frames)) (le-leb _ _ fits) in
-    starts bytes frames ∙ rw within refl
-
-pub start-over : (bytes : List ℕ) (frames : ℕ) → frames < 4 + page_frames (length (flat_memory bytes)) → start_flat bytes frames ≡ None
-start-over bytes frames over =
-    let without : nat_le (frames_of (state_of (first bytes frames))) frames ≡ false = rw (frames_of-state (first bytes frames)) (lt-leb _ _ over) in
-    starts bytes frames ∙ rw without refl
-
 -- ---- the pages as they are made
 
 suc-frames : (n : ℕ) → page_frames (suc n) ≡ suc n + ceil_div (suc n) 512 + 1
@@ -134,55 +114,183 @@ page_frames-more zero b less = omega arith
 page_frames-more (suc a) zero less = absurd (omega arith)
 page_frames-more (suc a) (suc b) less = rw (suc-frames a, suc-frames b) (omega (arith, less))
 
-pub made : (bytes : List ℕ) (none program written guarded all : Memory) (a b c : ℕ)
-    → program ≡ none ++ replicate a (zero_page (record { writable = true; executable = true; user = true }))
-    → written ≡ write_bytes program 0 bytes
-    → guarded ≡ written ++ replicate b (zero_page (stack_marks false))
-    → all ≡ guarded ++ replicate c (zero_page (stack_marks true))
-    → length none ≡ 0 → a ≡ ceil_div (length bytes) 4096 → b ≡ 1 → c ≡ 1
-    → all ≡ flat_memory bytes
+-- ---- the first state
+
+slot-free : (X : Type 0) (n i : ℕ) → let free : List (Option X) = replicate n None in slot free i ≡ None
+slot-free X zero i = refl
+slot-free X (suc n) zero = refl
+slot-free X (suc n) (suc i) = slot-free X n i
+
+length-free : (X : Type 0) (n : ℕ) → let free : List (Option X) = replicate n None in length free ≡ n
+length-free X zero = refl
+length-free X (suc n) = ap suc (length-free X n)
+
+map-free : (n : ℕ) → map memory_in (replicate n None) ≡ replicate n []
+map-free zero = refl
+map-free (suc n) = ap (λ ms. [] ∷ ms) (map-free n)
+
+no-frames : (n : ℕ) → sum_by frames_in (replicate n None) ≡ 0
+no-frames zero = refl
+no-frames (suc n) = omega (arith, sum_by-cons frames_in None (replicate n None), no-frames n)
+
+pub taken-alone : (frames : ℕ) (h : Held) → taken_frames (alone frames h) ≡ 4 + page_frames (length h.memory)
+taken-alone frames h = omega (arith, sum_by-cons frames_in (Some h) (replicate 63 None), no-frames 63)
+
+-- the state that process 1 begins with over a space
+abbrev begun : ℕ → Held → State
+begun frames h = first_state flat_files 27 frames flat_opens (first_process (bare_plan h.memory h.size) flat_descriptors)
+
+state-first : (frames : ℕ) (h : Held) → state_of (first_kernel frames h) ≡ begun frames h
+unfolding joined
+state-first frames h =
+    ap (λ (places : List (Option unix.Process)). record (begun frames h) { places = Some (first_process (bare_plan h.memory h.size) flat_descriptors) ∷ places })
+    (joined-free_slots 63 (map memory_in (replicate 63 None)))
+
+frames-begun : (frames : ℕ) (h : Held) → frames_of (begun frames h) ≡ 4 + page_frames (length h.memory)
+unfolding frames_of free_slots
+frames-begun frames h = omega arith
+
+starts : (bytes : List ℕ) (frames : ℕ) → start_flat bytes frames ≡ if_fits (begun frames (flat_space bytes))
+unfolding start_flat
+starts bytes frames = rw (plan-is bytes) refl
+
+pub start-fits : (bytes : List ℕ) (frames : ℕ) → 4 + page_frames (length (flat_memory bytes)) ≤ frames → start_flat bytes frames ≡ Some (state_of (first_kernel frames (flat_space bytes)))
+start-fits bytes frames fits =
+    let within : nat_le (frames_of (begun frames (flat_space bytes))) frames ≡ true = rw (frames-begun frames (flat_space bytes)) (le-leb _ _ fits) in
+    starts bytes frames ∙ rw within (ap Some (sym (state-first frames (flat_space bytes))))
+
+pub start-over : (bytes : List ℕ) (frames : ℕ) → frames < 4 + page_frames (length (flat_memory bytes)) → start_flat bytes frames ≡ None
+start-over bytes frames over =
+    let without : nat_le (frames_of (begun frames (flat_space bytes))) frames ≡ false = rw (frames-begun frames (flat_space bytes)) (lt-leb _ _ over) in
+    starts bytes frames ∙ rw without refl
+
+-- ---- the first kernel
+
+first-live : (size : ℕ) → IsLive (first size)
+first-live size = record { descriptors = refl; directory = refl }
+
+first-zero : (size : ℕ) → slice_index (first size).registers 0 ≡ 0
+unfolding zeros
+first-zero size = refl
+
+first-placed : (h : Held) → IsPlaced (first h.size) h
+first-placed h = record { size = refl; zero = first-zero h.size; aligned = refl; mode = first-live h.size }
+
+first-stands : (h : Held) (i : ℕ) → IsPlace (slot (Some (first h.size) ∷ free_slots 63) i) (slot (Some h ∷ replicate 63 None) i)
+unfolding free_slots
+first-stands h zero = first-placed h
+first-stands h (suc i) = rw (slot-free Process 63 i, slot-free Held 63 i) tt
+
+first-rests : (size i : ℕ) → holds is_running (slot (Some (first size) ∷ free_slots 63) i) ≡ false
+unfolding free_slots
+first-rests size zero = refl
+first-rests size (suc i) = rw (slot-free Process 63 i) refl
+
+first-all : (size : ℕ) → length (first_table size).places ≡ 64
+unfolding free_slots
+first-all size = ap suc (length-free Process 63)
+
+pub first-sound : (frames : ℕ) (h : Held) → 4 + page_frames (length h.memory) ≤ frames → IsKernel (first_kernel frames h)
+first-sound frames h fits = record {
+  all = first-all h.size;
+  spaces = ap suc (length-free Held 63);
+  stands = first-stands h;
+  runs = first-rests h.size;
+  fits = rw (taken-alone frames h) fits;
+}
+
+pub table-first : (size : ℕ) → seated (record { places = free_slots 64; last = 63; next_pid = 1 }) (first size) (record { place = 0; pid = 1 }) ≡ first_table size
+unfolding free_slots
+table-first size = refl
+
+-- ---- the space as it is made: the pages of the program, its bytes in them, the guard page, the stack
+
+abbrev all_marks : Marks
+all_marks = record { writable = true; executable = true; user = true }
+
+abbrev program_pages : List ℕ → ℕ
+program_pages bytes = ceil_div (length bytes) 4096
+
+abbrev pub segment : List ℕ → Held
+segment bytes = record { memory = replicate (program_pages bytes) (zero_page all_marks); size = program_pages bytes * 4096 }
+
+abbrev pub filled_segment : List ℕ → Held
+filled_segment bytes = record { memory = pages_of all_marks (program_pages bytes) bytes; size = program_pages bytes * 4096 }
+
+abbrev pub guarded : List ℕ → Held
+guarded bytes = record {
+  memory = pages_of all_marks (program_pages bytes) bytes ++ zero_page (stack_marks false) ∷ [];
+  size = program_pages bytes * 4096 + 4096;
+}
+
+segment-is : (bytes : List ℕ) (b : ℕ) → b ≡ program_pages bytes * 4096 → grown no_pages b all_marks ≡ segment bytes
+segment-is bytes b is =
+    let n : ceil_div (0 + b) 4096 - ceil_div 0 4096 ≡ program_pages bytes = omega (arith, is) in
+    let size : 0 + b ≡ program_pages bytes * 4096 = omega (arith, is) in
+    ap (λ (k : ℕ). let h : Held = record { memory = replicate k (zero_page all_marks); size = 0 + b } in h) n
+    ∙ ap (λ (k : ℕ). let h : Held = record { memory = replicate (program_pages bytes) (zero_page all_marks); size = k } in h) size
+
+filled-is : (bytes : List ℕ) → written (segment bytes) 0 bytes ≡ filled_segment bytes
+filled-is bytes = ap (λ (memory : Memory). let h : Held = record { memory = memory; size = program_pages bytes * 4096 } in h) (filled all_marks (program_pages bytes) bytes)
+
+guarded-is : (bytes : List ℕ) → grown (filled_segment bytes) 4096 (stack_marks false) ≡ guarded bytes
+guarded-is bytes =
+    let one : ceil_div (program_pages bytes * 4096 + 4096) 4096 - ceil_div (program_pages bytes * 4096) 4096 ≡ 1 = omega arith in
+    rw one refl
+
+stacked-is : (bytes : List ℕ) → grown (guarded bytes) 4096 (stack_marks true) ≡ flat_space bytes
 unfolding with_stack
-made bytes (p ∷ ps) program written guarded all a b c is filling guard stack empty pages one two = absurd (omega (arith, empty))
-made bytes [] program written guarded all a b c is filling guard stack empty pages one two =
-    let marks : Marks = record { writable = true; executable = true; user = true } in
-    rw (stack, guard, filling, is, pages, one, two)
-    (ap (λ (ps : Memory). (ps ++ zero_page (stack_marks false) ∷ []) ++ zero_page (stack_marks true) ∷ []) (filled marks (ceil_div (length bytes) 4096) bytes)
-    ∙ append_assoc (pages_of marks (ceil_div (length bytes) 4096) bytes) (zero_page (stack_marks false) ∷ []) (zero_page (stack_marks true) ∷ []))
+stacked-is bytes =
+    let one : ceil_div (program_pages bytes * 4096 + 4096 + 4096) 4096 - ceil_div (program_pages bytes * 4096 + 4096) 4096 ≡ 1 = omega arith in
+    let size : program_pages bytes * 4096 + 4096 + 4096 ≡ 4096 * length (flat_memory bytes) = omega (arith, length-flat bytes) in
+    let memory = append_assoc (pages_of all_marks (program_pages bytes) bytes) (zero_page (stack_marks false) ∷ []) (zero_page (stack_marks true) ∷ []) in
+    rw (one, size) (ap (λ (memory : Memory). let h : Held = record { memory = memory; size = 4096 * length (flat_memory bytes) } in h) memory)
 
--- ---- the space as it is made
+-- a space that is put in place 0, and one that would not fit
+placed : (frames : ℕ) (s t : Spaces) (h new : Held) (change : Held → Held) → s ≡ alone frames h → change h ≡ new → t ≡ with_held s 0 (change (held_at s 0)) → t ≡ alone frames new
+placed frames s t h new change is to done = rw (done, is, to) refl
 
--- so many frames, of which the space holds all that aren't free
-pub record Beside (total : ℕ) (m : List (List ℕ)) (s : Frames) (d : Space) : Type 0 where
-  pub space : IsSpace m d s
-  pub shared : IsShared m s (holds m d)
-  pub count : length m ≡ total
+over : (bytes : List ℕ) (frames : ℕ) (s : Spaces) (h new : Held) (change : Held → Held) → s ≡ alone frames h → change h ≡ new → length new.memory ≤ length (flat_memory bytes)
+    → s.frames < taken_frames (with_held s 0 (change (held_at s 0))) → frames < 4 + page_frames (length (flat_memory bytes))
+over bytes frames s h new change is to less full =
+    let here : frames < taken_frames (alone frames new) = rw (is, to) at full in
+    let more = page_frames-more (length new.memory) (length (flat_memory bytes)) less in
+    omega (arith, here, taken-alone frames new, more)
 
-pub beside-new : (m k : List (List ℕ)) (s n : Frames) (d : Space) → IsShared m s [] → IsSpace k d n → Trades m k s n [] (holds k d) → Beside (length m) k n d
-beside-new m k s n d shared space trades = record {
-  space = space;
-  shared = shared-trade m k s n [] (holds k d) shared trades;
-  count = trades.count;
-}
+within : (bytes : List ℕ) (frames : ℕ) (s : Spaces) (h new : Held) (change : Held → Held) → s ≡ alone frames h → change h ≡ new
+    → taken_frames (with_held s 0 (change (held_at s 0))) ≤ s.frames → 4 + page_frames (length new.memory) ≤ frames
+within bytes frames s h new change is to fits =
+    let here : taken_frames (alone frames new) ≤ frames = rw (is, to) at fits in
+    omega (arith, here, taken-alone frames new)
 
-pub beside-grown : (count : ℕ) (m k : List (List ℕ)) (s n : Frames) (d e : Space) → Beside count m s d → IsSpace k e n → Trades m k s n (holds m d) (holds k e) → Beside count k n e
-beside-grown count m k s n d e b space trades = record {
-  space = space;
-  shared = shared-trade m k s n (holds m d) (holds k e) b.shared trades;
-  count = trades.count ∙ b.count;
-}
+pub created : (frames : ℕ) (s t : Spaces) → s ≡ record { places = replicate 64 None; active = None; registers = replicate 32 0; pc = 0; frames = frames } → t ≡ with_held s 0 no_pages → t ≡ alone frames no_pages
+created frames s t is done = rw (done, is) refl
 
-pub beside-filled : (count : ℕ) (m k : List (List ℕ)) (s : Frames) (d : Space) → Beside count m s d → Stands m k d → Beside count k s d
-beside-filled count m k s d b stands = beside-grown count m k s s d d b (stands.space s b.space) (stands.trades s b.space)
+module _ (bytes : List ℕ) (frames : ℕ) (s t : Spaces) where
+  pub segment-made : (b : ℕ) → b ≡ program_pages bytes * 4096 → s ≡ alone frames no_pages → t ≡ with_held s 0 (grown (held_at s 0) b all_marks) → t ≡ alone frames (segment bytes)
+  segment-made b size is done = placed frames s t no_pages (segment bytes) (λ h. grown h b all_marks) is (segment-is bytes b size) done
 
-pub beside-over : (count : ℕ) (m : List (List ℕ)) (s : Frames) (d : Space) (bytes pages : ℕ) → Beside count m s d → count ≤ 32768
-    → (274877898752 < d.size + bytes) ⊎ (frames_for (pages_in d.size) + free_count m s < frames_for (pages_in (d.size + bytes)))
-    → pages_in (d.size + bytes) ≤ pages → count < 4 + page_frames pages
-beside-over count m s d bytes pages b few why less =
-    let here = rw b.count at (over-count m s d bytes b.space b.shared (rw b.count few) why) in
-    let more = page_frames-more (pages_in (d.size + bytes)) pages less in
-    omega (arith, here, more)
+  pub segment-over : (b : ℕ) → b ≡ program_pages bytes * 4096 → s ≡ alone frames no_pages → s.frames < taken_frames (with_held s 0 (grown (held_at s 0) b all_marks)) → frames < 4 + page_frames (length (flat_memory bytes))
+  segment-over b size is full =
+      over bytes frames s no_pages (segment bytes) (λ h. grown h b all_marks) is (segment-is bytes b size)
+      (rw (length-flat bytes, length-replicate (program_pages bytes) (zero_page all_marks)) (omega arith)) full
 
-pub new-over : (m : List (List ℕ)) (s : Frames) (pages : ℕ) → IsFreeList m s → IsShared m s [] → free_count m s < frames_for 0 → length m < 4 + page_frames pages
-new-over m s pages free shared over =
-    let all = shared-count m s [] free shared in
-    omega (arith, all, over)
+  pub filled-made : s ≡ alone frames (segment bytes) → t ≡ with_held s 0 (written (held_at s 0) 0 bytes) → t ≡ alone frames (filled_segment bytes)
+  filled-made is done = placed frames s t (segment bytes) (filled_segment bytes) (λ h. written h 0 bytes) is (filled-is bytes) done
+
+  pub guard-made : s ≡ alone frames (filled_segment bytes) → t ≡ with_held s 0 (grown (held_at s 0) 4096 (stack_marks false)) → t ≡ alone frames (guarded bytes)
+  guard-made is done = placed frames s t (filled_segment bytes) (guarded bytes) (λ h. grown h 4096 (stack_marks false)) is (guarded-is bytes) done
+
+  pub guard-over : s ≡ alone frames (filled_segment bytes) → s.frames < taken_frames (with_held s 0 (grown (held_at s 0) 4096 (stack_marks false))) → frames < 4 + page_frames (length (flat_memory bytes))
+  guard-over is full =
+      over bytes frames s (filled_segment bytes) (guarded bytes) (λ h. grown h 4096 (stack_marks false)) is (guarded-is bytes)
+      (rw (length-flat bytes, length-append (pages_of all_marks (program_pages bytes) bytes) (zero_page (stack_marks false) ∷ []), length-pages all_marks (program_pages bytes) bytes) (omega arith)) full
+
+  pub stack-made : s ≡ alone frames (guarded bytes) → t ≡ with_held s 0 (grown (held_at s 0) 4096 (stack_marks true)) → t ≡ alone frames (flat_space bytes)
+  stack-made is done = placed frames s t (guarded bytes) (flat_space bytes) (λ h. grown h 4096 (stack_marks true)) is (stacked-is bytes) done
+
+  pub stack-over : s ≡ alone frames (guarded bytes) → s.frames < taken_frames (with_held s 0 (grown (held_at s 0) 4096 (stack_marks true))) → frames < 4 + page_frames (length (flat_memory bytes))
+  stack-over is full = over bytes frames s (guarded bytes) (flat_space bytes) (λ h. grown h 4096 (stack_marks true)) is (stacked-is bytes) (omega arith) full
+
+  pub stack-fits : s ≡ alone frames (guarded bytes) → taken_frames (with_held s 0 (grown (held_at s 0) 4096 (stack_marks true))) ≤ s.frames → 4 + page_frames (length (flat_memory bytes)) ≤ frames
+  stack-fits is fits = within bytes frames s (guarded bytes) (flat_space bytes) (λ h. grown h 4096 (stack_marks true)) is (stacked-is bytes) fits

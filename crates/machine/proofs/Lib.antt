@@ -1,5 +1,2 @@
-mod States
-mod Rows
 mod Steps
-mod KernelLemmas
 mod FlatLemmas

@@ -1,30 +1,58 @@
--- The memory of a program that is bytes alone, and the process that begins with it.
-use Rattle.std.specs.Prelude.{List, false, length, true, ℕ, ◌-◌}
-use Rattle.machine.specs.declared.kernel.Stage.TheVariants.{Ready}
-use Rattle.machine.specs.Solo.{Solo}
+-- A flat program in memory, and the process and the spaces that begin with it.
+use Rattle.std.specs.Prelude.{List, None, Some, [], false, length, replicate, true, ℕ, ◌*◌, ◌-◌, ◌∷◌}
+use Rattle.calls.specs.Kernel.{Kernel}
+use Rattle.proc.specs.declared.process.Process.{Process}
+use Rattle.proc.specs.Places.{Places}
+use Rattle.spaces.specs.Spaces.{Held, Spaces}
+use Rattle.unixmodel.specs.declared.process.Mode.TheVariants.{Ready}
+use Rattle.unixmodel.specs.Files.{free_slots}
 use Rattle.unixmodel.specs.Memory.{Memory, pages_of, zeros}
 use Rattle.unixmodel.specs.Numbers.{ceil_div}
 use Rattle.unixmodel.specs.Plan.{Plan, with_stack}
 use Rattle.unixmodel.specs.ProcessCalls.{exec_registers}
+use Rattle.unixmodel.specs.Start.{flat_descriptors}
 
 -- the pages of the bytes, with all marks, and the guard and the stack above them
 abbrev pub flat_memory : List ℕ → Memory
 flat_memory bytes =
     with_stack (pages_of (record { writable = true; executable = true; user = true }) (ceil_div (length bytes) 4096) bytes)
 
+-- the space that shows them
+abbrev pub flat_space : List ℕ → Held
+flat_space bytes = record { memory = flat_memory bytes; size = 4096 * length (flat_memory bytes) }
+
+-- the spaces of so many frames, of which place 0 has this one
+abbrev pub alone : ℕ → Held → Spaces
+alone frames space = record {
+  places = Some space ∷ replicate 63 None;
+  active = None;
+  registers = replicate 32 0;
+  pc = 0;
+  frames = frames;
+}
+
 -- what a process without arguments begins with: its stack holds the 0 word that ends their list
 abbrev pub bare_plan : Memory → ℕ → Plan
 bare_plan memory size = record { memory = memory; size = size; pc = 0; argc = 0; sp = size - 16 }
 
--- process 1 with a plan, in a memory of so many frames
-abbrev pub begun : Plan → ℕ → Solo
-begun new frames = record {
-  registers = exec_registers (zeros 32) new;
-  pc = new.pc;
-  memory = new.memory;
-  size = new.size;
-  stage = Ready;
-  picked = false;
-  ticks = 0;
-  frames = frames;
+-- process 1 over so many bytes, but for their pages
+abbrev pub first : ℕ → Process
+first size = record {
+  pid = 1;
+  parent = 0;
+  registers = exec_registers (zeros 32) (bare_plan [] size);
+  pc = 0;
+  size = size;
+  descriptors = flat_descriptors;
+  directory = 1;
+  killed = false;
+  mode = Ready;
 }
+
+-- the table with this process alone
+abbrev pub first_table : ℕ → Places
+first_table size = record { places = Some (first size) ∷ free_slots 63; last = 63; next_pid = 2 }
+
+-- the kernel of a machine that begins with a space
+abbrev pub first_kernel : ℕ → Held → Kernel
+first_kernel frames space = record { table = first_table space.size; spaces = alone frames space; ticks = 0; halted = None }

@@ -1,10 +1,10 @@
 -- What a step and a run of a machine answer.
-use Rattle.std.specs.Prelude.{Err, List, None, Ok, Option, Result, Some, [], false, length, take, true, ℕ, ℤ, ◌<◌, ◌≡◌, ◌≤◌}
+use Rattle.std.specs.Prelude.{Bool, Err, List, None, Ok, Option, Result, Some, [], false, length, take, true, ℕ, ℤ, ◌<◌, ◌≡◌, ◌≤◌}
 use Rattle.std.specs.Io.KnownBytes.{Appends}
 use Rattle.unixmodel.specs.Failures.{Rises}
 use Rattle.console.specs.Output.{AppendsBeginning}
-use Rattle.machine.specs.declared.halt.Halt.{Halt}
-use Rattle.machine.specs.declared.halt.Halt.TheVariants.{Console, Device, Halted, InitEnded}
+use Rattle.calls.specs.declared.halt.Halt.{Halt}
+use Rattle.calls.specs.declared.halt.Halt.TheVariants.{Console, Device, Halted, InitEnded}
 use Rattle.machine.specs.Told.{IsUp, Told}
 use Rattle.unixmodel.specs.Calls.{After}
 use Rattle.unixmodel.specs.declared.event.Event.{Event}
@@ -64,3 +64,11 @@ RunGives failures old new events before after rising (Err Halted) = IsRefused ol
 abbrev pub halt_of : Option ℤ → Result (Unit {0}) Halt
 halt_of None = Ok tt
 halt_of (Some status) = Err (InitEnded status)
+
+-- after this answer the machine has failed
+abbrev pub fails : Result (Unit {0}) Halt → Bool
+fails (Ok u) = false
+fails (Err (InitEnded status)) = false
+fails (Err Console) = true
+fails (Err Device) = false
+fails (Err Halted) = false

@@ -4,8 +4,8 @@ use Rattle.std.proofs.lemmas.List.{take-append-drop}
 use Rattle.std.specs.Io.KnownBytes.{Appends}
 use Rattle.console.specs.Output.{AppendsBeginning}
 use Rattle.machine.specs.Runs.{run-append, run-more, then_runs}
-use Rattle.machine.specs.declared.halt.Halt.{Halt}
-use Rattle.machine.specs.declared.halt.Halt.TheVariants.{Console, Device, Halted, InitEnded}
+use Rattle.calls.specs.declared.halt.Halt.{Halt}
+use Rattle.calls.specs.declared.halt.Halt.TheVariants.{Console, Device, Halted, InitEnded}
 use Rattle.machine.specs.Gives.{IsDone, RunGives, StepGives}
 use Rattle.machine.specs.Told.{IsUp, Told}
 use Rattle.unixmodel.specs.Calls.{After}

@@ -1,28 +1,30 @@
 //! How a machine begins.
-ghost use Rattle.std.specs.Prelude.{◌≡◌, ◌*◌, ◌+◌, ◌<◌, ◌⊎◌, ◌↔◌, Some, None, [], IfOk, IsErrOf, OnErr, false, length};
-ghost use Rattle.frames.specs.Free.{IsFreeList};
-ghost use Rattle.frames.specs.Holders.{IsShared};
-ghost use Rattle.machine.specs.Flat.{flat_memory};
+ghost use Rattle.std.specs.Prelude.{◌≡◌, ◌*◌, ◌+◌, ◌<◌, ◌≤◌, ◌⊎◌, ◌↔◌, Some, None, IfOk, IfSome, IfNone, IsErrOf, OnErr, length};
+ghost use Rattle.machine.specs.Flat.{alone, first, first_table, flat_memory, flat_space};
 ghost use Rattle.machine.specs.Told.{IsUp};
 ghost use Rattle.unixmodel.specs.Counts.{page_frames};
 ghost use Rattle.unixmodel.specs.Start.{start_flat};
-ghost use Rattle.vm.specs.Space.{IsSpace, holds, pages_of};
 
 use crate::fault::{BootFault, ImageFault};
-use crate::kernel::Kernel;
 use crate::machine::Machine;
 use blockdev::MemDisk;
-use frames::Frames;
+use calls::Kernel;
+use proc::{Process, Table};
 use ram::{FRAME_SIZE, Ram};
+use spaces::Spaces;
 use std::alloc::Global;
 use sv39::{Plain, Translate};
-use vm::{Perm, Space, VmFault, pages_in};
+use unixmodel::process::Mode;
+use vm::{Perm, pages_in};
 
 /// The fewest frames that a machine has.
 const FEWEST: u32 = 64;
 
 /// The most frames that a machine has.
 const MOST: u32 = 32768;
+
+/// The place of process 1.
+const FIRST: usize = 0;
 
 /// The marks of the pages of a flat program.
 const SEGMENT: Perm = Perm {
@@ -45,27 +47,68 @@ const STACK: Perm = Perm {
     user: true,
 };
 
-// The address space of a flat program: its bytes from address 0 on, a guard page, and a page for the stack. An error
-// says that the frames don't suffice; some of them may be lost then.
-fn load(ram: &mut Ram, frames: &mut Frames, bytes: &[u8]) -> Result<Space, VmFault>
-    requires free { IsFreeList ram.old frames.old }
-    requires shared { IsShared ram.old frames.old [] }
-    ensures space { IfOk result (λ s. IsSpace ram.new s frames.new) }
-    ensures shared { IfOk result (λ s. IsShared ram.new frames.new (holds ram.new s)) }
-    ensures pages { IfOk result (λ s. pages_of ram.new s ≡ flat_memory bytes.now) }
-    ensures size { IfOk result (λ s. s.size ≡ 4096 * length (flat_memory bytes.now)) }
-    ensures count { IfOk result (λ s. length ram.new ≡ length ram.old) }
-    ensures full { OnErr result (length ram.old < 4 + page_frames (length (flat_memory bytes.now))) }
+// The address spaces of a machine, of which the first has a flat program: its bytes from address 0 on, a guard page, and
+// a page for the stack. `None`: the frames don't suffice.
+fn load<T: Translate + Drop>(ram: Ram, translator: T, bytes: &[u8]) -> Option<Spaces<T>>
+    ensures some { IfSome result (λ s. s ≡ alone (length ram) (flat_space bytes.now)) }
+    ensures fits { IfSome result (λ s. 4 + page_frames (length (flat_memory bytes.now)) ≤ length ram) }
+    ensures none { IfNone result (length ram < 4 + page_frames (length (flat_memory bytes.now))) }
 {
-    let _count = ram.frame_count();
     let page = FRAME_SIZE as u64;
     let pages = pages_in(bytes.len() as u64);
-    let mut space = Space::new(ram, frames)?;
-    space.grow(ram, frames, pages * page, SEGMENT)?;
-    space.fill(ram, 0, bytes);
-    space.grow(ram, frames, page, GUARD)?;
-    space.grow(ram, frames, page, STACK)?;
-    Ok(space)
+    let mut spaces = Spaces::new(ram, translator);
+    if !spaces.create(FIRST) {
+        return None;
+    }
+    if !spaces.grow(FIRST, pages * page, SEGMENT) {
+        return None;
+    }
+    spaces.fill(FIRST, 0, bytes);
+    if !spaces.grow(FIRST, page, GUARD) {
+        return None;
+    }
+    if !spaces.grow(FIRST, page, STACK) {
+        return None;
+    }
+    Some(spaces)
+}
+
+// Process 1 over so many bytes, about to execute its first instruction with no arguments: sp and a1 hold the address of
+// the 0 word on its stack.
+#[tactic(auto, unfolding(unixmodel::specs::Memory::zeros, unixmodel::specs::Start::flat_descriptors, unixmodel::specs::Files::free_slots))]
+fn first(size: u64) -> Process
+    requires { 16 ≤ size }
+    ensures { result ≡ first size }
+{
+    let sp = size - 16;
+    let mut registers = [0; 32];
+    registers[2] = sp;
+    registers[11] = sp;
+    let mut descriptors = [None; 16];
+    descriptors[0] = Some(0);
+    descriptors[1] = Some(0);
+    descriptors[2] = Some(0);
+    Process {
+        pid: 1,
+        parent: 0,
+        registers,
+        pc: 0,
+        size,
+        descriptors,
+        directory: 1,
+        killed: false,
+        mode: Mode::Ready,
+    }
+}
+
+// The table with process 1 alone.
+fn first_table(size: u64) -> Table
+    requires { 16 ≤ size }
+    ensures { result ≡ first_table size }
+{
+    let mut table = Table::starting_at(1);
+    let _seat = table.alloc(first(size));
+    table
 }
 
 /// A machine without a disk whose process 1 executes a flat program: these bytes, loaded at address 0, of which the
@@ -103,14 +146,14 @@ pub fn boot_flat_with<T: Translate + Drop>(
     if frames < FEWEST || frames > MOST {
         return Err(BootFault::FrameCount);
     }
-    let Ok(mut ram) = Ram::new(alloc, frames) else {
+    let Ok(ram) = Ram::new(alloc, frames) else {
         return Err(BootFault::NoMemory);
     };
-    let mut free = Frames::new(&mut ram);
-    let Ok(space) = load(&mut ram, &mut free, bytes) else {
+    let Some(spaces) = load(ram, translator, bytes) else {
         return Err(BootFault::NoInit);
     };
-    let kernel = Kernel::new(ram, free, translator, space);
+    let table = first_table(spaces.size(FIRST));
+    let kernel = Kernel::new(table, spaces);
     match MemDisk::new(Vec::new(alloc)) {
         Ok(disk) => Ok(Machine::new(kernel, disk)),
         Err(_) => Err(BootFault::Image(ImageFault::Length)),

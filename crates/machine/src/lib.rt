@@ -2,17 +2,14 @@
 #![tactic(auto)]
 
 mod boot;
-mod calls;
 mod fault;
-mod halt;
-mod kernel;
 mod machine;
 mod seen;
 #[cfg(test)]
 mod tests;
 
 pub use boot::{boot_flat, boot_flat_with};
+pub use calls::Halt;
 pub use fault::{BootFault, ImageFault};
-pub use halt::Halt;
 pub use machine::Machine;
 pub use seen::{ProcessState, Seen};

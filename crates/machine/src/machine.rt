@@ -3,29 +3,24 @@ ghost use Rattle.std.specs.Prelude.{◌≡◌, ◌≤◌, ◌+◌, ℕ, None, So
 ghost use Rattle.std.specs.Io.KnownBytes.{Appends};
 ghost use Rattle.unixmodel.specs.Failures.{Rises};
 ghost use Rattle.unixmodel.specs.Next.{next};
-ghost use Rattle.machine.specs.Does.{fails};
+ghost use Rattle.calls.specs.Kernel.{state_of};
+ghost use Rattle.machine.specs.Gives.{fails};
 ghost use Rattle.machine.specs.Seen.{seen_of};
-ghost use Rattle.machine.specs.Solo.{state_of};
 ghost use Rattle.machine.specs.Told.{told};
 ghost use Rattle.unixmodel.specs.Counts.{frames_of};
 ghost use Rattle.unixmodel.specs.Memory.{Page};
 ghost use Rattle.unixmodel.specs.Shown.{ShowsMemory, shown_page, shown_process};
 ghost use Rattle.vm.specs.Leaf.{marks_from};
 
-use crate::calls;
-use crate::halt::Halt;
-use crate::kernel::{Kernel, Stage};
-use crate::seen::Seen;
+use crate::seen::{Seen, told};
 use blockdev::BlockDev;
+use calls::{Halt, Kernel};
 use console::Out;
 use ram::{FRAME_SIZE, FrameNo, Ram};
 use std::marker::Model;
 use sv39::Translate;
 use unixmodel::event::Event;
 use vm::Perm;
-
-/// The pid of the one process.
-const FIRST: u32 = 1;
 
 /// A machine over a disk and a translator.
 #[derive(Drop)]
@@ -72,7 +67,7 @@ impl<D: BlockDev, T: Translate + Drop> Machine<D, T> {
         ensures up { result ≡ false → IsUp self.now }
         ensures stopped { IsUp self.now → result ≡ false }
     {
-        self.failed || matches!(self.kernel.stage(), Stage::Ended(_))
+        self.failed || self.kernel.halted().is_some()
     }
 
     /// One event. An error says why the machine stops; after `Device` and `Console` it is of no more use, and every
@@ -81,34 +76,20 @@ impl<D: BlockDev, T: Translate + Drop> Machine<D, T> {
         ensures gives { StepGives D.failures self.old self.new (next self.old.state event) (W.contents console.old) (W.contents console.new) (Rises (W.failures console.old) (W.failures console.new)) result }
         ensures later { W.failures console.old ≤ W.failures console.new }
     {
-        if self.failed {
+        if self.is_stopped() {
             return Err(Halt::Halted);
         }
-        match self.kernel.stage() {
-            Stage::Ended(_) => Err(Halt::Halted),
-            Stage::Running => match event {
-                Event::Step => {
-                    let done = calls::execute(&mut self.kernel, console);
-                    self.failed = is_console(&done);
-                    done
-                }
-                Event::Tick => {
-                    self.kernel.tick();
-                    Ok(())
-                }
-                Event::Key(_) => Ok(()),
-            },
-            Stage::Ready => match event {
-                Event::Step => {
-                    self.kernel.pick();
-                    Ok(())
-                }
-                Event::Tick => {
-                    self.kernel.tick();
-                    Ok(())
-                }
-                Event::Key(_) => Ok(()),
-            },
+        match event {
+            Event::Step => {
+                let done = self.kernel.step(console);
+                self.failed = is_console(&done);
+                done
+            }
+            Event::Tick => {
+                self.kernel.tick();
+                Ok(())
+            }
+            Event::Key(_) => Ok(()),
         }
     }
 
@@ -130,22 +111,15 @@ impl<D: BlockDev, T: Translate + Drop> Machine<D, T> {
     pub fn inspect(&self, pid: u32) -> Option<Seen>
         ensures { result ≡ option_map seen_of (shown_process self.now.state pid) }
     {
-        if pid == FIRST {
-            Some(self.kernel.seen())
-        } else {
-            None
-        }
+        let process = self.kernel.shown(pid)?;
+        Some(told(&process))
     }
 
     /// The bytes and the marks of a page of a process; `None` past its last page, and where there is no such process.
     pub fn peek(&self, pid: u32, page: u64) -> Option<(&[u8; FRAME_SIZE], Perm)>
         ensures { option_map (λ r. let p : Page = record { bytes = r.0.now; marks = marks_from r.1 } in p) result ≡ shown_page self.now.state pid page }
     {
-        if pid == FIRST {
-            self.kernel.page(page)
-        } else {
-            None
-        }
+        self.kernel.page(pid, page)
     }
 
     /// How many frames are free.
@@ -162,10 +136,6 @@ impl<D: BlockDev, T: Translate + Drop> Machine<D, T> {
         ensures some { is_some result ≡ is_some (shown_process self.now.state pid) }
         ensures shows { IfSome result (λ r. IfSome (shown_process self.now.state pid) (λ p. ShowsMemory r.0.now r.1.0 p.memory)) }
     {
-        if pid == FIRST {
-            Some(self.kernel.tables())
-        } else {
-            None
-        }
+        self.kernel.tables(pid)
     }
 }

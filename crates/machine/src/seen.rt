@@ -1,6 +1,11 @@
 //! What a machine tells of its processes.
 
+ghost use Rattle.std.specs.Prelude.{◌≡◌};
+ghost use Rattle.machine.specs.Seen.{state_seen, told_as};
+
+use proc::Process;
 use unixmodel::call::Call;
+use unixmodel::process::Mode;
 
 /// A process, as it stands between two events.
 #[derive(Clone, Copy, PartialEq, Eq, Debug)]
@@ -28,4 +33,31 @@ pub enum ProcessState {
     Waiting(Call),
     /// Ended with this status, and not waited for.
     Zombie(i32),
+}
+
+// What a mode is told as.
+fn state(mode: Mode) -> ProcessState
+    ensures { result ≡ state_seen mode }
+{
+    match mode {
+        Mode::Running => ProcessState::Running,
+        Mode::Ready => ProcessState::Ready,
+        Mode::Waiting(pending) => ProcessState::Waiting(pending.number),
+        Mode::Zombie(status) => ProcessState::Zombie(status),
+    }
+}
+
+/// What a process is told as.
+pub fn told(process: &Process) -> Seen
+    ensures { result ≡ told_as process.now }
+{
+    Seen {
+        pid: process.pid,
+        parent: process.parent,
+        registers: process.registers,
+        pc: process.pc,
+        size: process.size,
+        killed: process.killed,
+        state: state(process.mode),
+    }
 }

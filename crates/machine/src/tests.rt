@@ -1,4 +1,6 @@
 //! Whole runs, against the values that the definitions of the abstract Unix give on the same programs.
+mod processes;
+
 use crate::{BootFault, Halt, Machine, ProcessState, boot_flat, boot_flat_with};
 use blockdev::MemDisk;
 use console::Writer;
@@ -13,7 +15,7 @@ use unixmodel::event::Event;
 use unixmodel::trap::Access;
 
 /// -1 in a register.
-const MINUS_ONE: u64 = u64::MAX;
+pub(crate) const MINUS_ONE: u64 = u64::MAX;
 
 // Writes `hi` and a line feed, which stand behind the instructions, and exits with status 0.
 const HELLO: [u32; 8] = [
@@ -40,13 +42,13 @@ const CALLER: [u32; 8] = [
 ];
 
 // The steps from the turn to the first answer, and from one answer to the next.
-const FIRST_ANSWER: usize = 7;
+pub(crate) const FIRST_ANSWER: usize = 7;
 
 const NEXT_ANSWER: usize = 7;
 
-const EXIT: u64 = 2;
+pub(crate) const EXIT: u64 = 2;
 
-const GETPID: u64 = 11;
+pub(crate) const GETPID: u64 = 11;
 
 const SBRK: u64 = 12;
 
@@ -54,9 +56,9 @@ const UPTIME: u64 = 14;
 
 const WRITE: u64 = 16;
 
-type Flat = Machine<MemDisk, Plain>;
+pub(crate) type Flat = Machine<MemDisk, Plain>;
 
-fn program(alloc: Global, words: &[u32], rest: &[u8]) -> Result<Vec<u8>, AllocError> {
+pub(crate) fn program(alloc: Global, words: &[u32], rest: &[u8]) -> Result<Vec<u8>, AllocError> {
     let mut bytes = Vec::new(alloc);
     for word in words {
         bytes.extend_from_slice(&word.to_le_bytes())?;
@@ -76,12 +78,17 @@ fn caller(alloc: Global, calls: &[[u64; 4]]) -> Result<Vec<u8>, AllocError> {
 }
 
 // Boots these bytes in so many frames.
-fn booted(rt: &(impl Abort + AllocGlobal), bytes: &[u8], frames: u32) -> Flat {
+pub(crate) fn booted(rt: &(impl Abort + AllocGlobal), bytes: &[u8], frames: u32) -> Flat {
     boot_flat(rt.alloc(), bytes, frames).expect(rt, "a machine")
 }
 
 // So many steps, none of which stops the machine.
-fn steps<W: Write>(rt: &impl Abort, machine: &mut Flat, out: &mut Writer<W>, count: usize) {
+pub(crate) fn steps<W: Write>(
+    rt: &impl Abort,
+    machine: &mut Flat,
+    out: &mut Writer<W>,
+    count: usize,
+) {
     for _ in 0..count {
         assert_eq!(rt; machine.step(Event::Step, out), Ok(()));
     }

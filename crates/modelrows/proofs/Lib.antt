@@ -5,6 +5,8 @@ mod ActRows
 mod FlatRows
 mod WriteRows
 mod ProcessRows
+mod FamilyRows
 mod PlanRows
 mod WalkRows
 mod ImageRows
+mod ManifestRows

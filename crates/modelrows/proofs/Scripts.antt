@@ -48,6 +48,10 @@ bytes_in s i at n = elim (process_at s i) [ None ↦ [] | Some p ↦ unwrap_or (
 abbrev pub mode_of : State → Option Mode
 mode_of s = option_map (λ (p : Process). p.mode) (process_at s 0)
 
+-- whether the process in place 0 runs, and its answer
+abbrev pub runs_with : State → Option ℕ
+runs_with s = elim (mode_of s) [ Some Running ↦ Some (answer_at s 0) | _ ↦ None ]
+
 -- the state after these calls of process 1, and their answers
 abbrev pub ask_all : State → List Asked → State
 ask_all s [] = s

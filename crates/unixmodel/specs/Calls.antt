@@ -10,7 +10,7 @@ use Rattle.unixmodel.specs.Numbers.{low, number, plus}
 use Rattle.unixmodel.specs.Outcome.{Outcome, end_process, limited, minus_one}
 use Rattle.unixmodel.specs.Outcome.Outcome.{Done, Ends, Refused, Waits}
 use Rattle.unixmodel.specs.Process.{Process, arg, with_answer, with_mode}
-use Rattle.unixmodel.specs.ProcessCalls.{exit_row, getpid_row, sbrk_row, uptime_row}
+use Rattle.unixmodel.specs.ProcessCalls.{exit_row, fork_row, getpid_row, kill_row, sbrk_row, sleep_on, sleep_row, uptime_row, wait_on, wait_row}
 use Rattle.unixmodel.specs.Reap.{reap}
 use Rattle.unixmodel.specs.State.{State, change_process, process_at, put_process}
 
@@ -26,15 +26,21 @@ call_of (suc n) = slice_get calls n
 
 -- the calls that are built so far; each other one is refused
 abbrev pub row : State → ℕ → Process → Call → Outcome
+row s i p Fork = fork_row s i p
 row s i p Exit = exit_row s i p
+row s i p Wait = wait_row s i p
+row s i p Kill = kill_row s i p
 row s i p Getpid = getpid_row s i p
 row s i p Sbrk = sbrk_row s i p
+row s i p Sleep = sleep_row s i p
 row s i p Uptime = uptime_row s i p
 row s i p Write = write_row s i p
 row s i p _ = Refused
 
--- the row that a waiting call goes on by: of the calls so far only a write could wait
+-- the row that a waiting call goes on by: of the calls so far a wait, a sleep and a write can wait
 abbrev pub goes_on : State → ℕ → Process → Pending → Call → Outcome
+goes_on s i p w Wait = wait_on s i p w
+goes_on s i p w Sleep = sleep_on s i p w
 goes_on s i p w Write = write_on s i p w
 goes_on s i p w _ = Refused
 

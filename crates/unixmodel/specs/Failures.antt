@@ -1,6 +1,6 @@
 -- Counts of failures, by which a device and a writer own up to their errors.
 -- From this project's profile: a count is a number of 64 bits that stops at its last value.
-use Rattle.std.specs.Prelude.{Err, IsErr, Result, min, ℕ, ◌+◌, ◌-◌, ◌^◌, ◌≤◌}
+use Rattle.std.specs.Prelude.{IsErr, Result, min, ℕ, ◌+◌, ◌-◌, ◌^◌, ◌≤◌}
 
 -- the count rose, or stands at its last value, where a failure counts as a rise
 abbrev pub Rises : ℕ → ℕ → Type 0

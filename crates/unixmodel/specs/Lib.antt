@@ -24,4 +24,5 @@ pub mod Next
 pub mod Run
 pub mod Start
 pub mod Shown
+pub mod Manifest
 pub mod ElfFile

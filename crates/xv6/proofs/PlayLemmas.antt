@@ -4,8 +4,8 @@ use Rattle.std.proofs.Math.Seq.{take-append-add}
 use Rattle.std.proofs.lemmas.List.{take-append-le}
 use Rattle.machine.specs.Runs.{run-append, then_runs}
 use Rattle.machine.specs.RunLemmas.{Appends-trans, Rises-later, SoFar, up_now}
-use Rattle.machine.specs.declared.halt.Halt.{Halt}
-use Rattle.machine.specs.declared.halt.Halt.TheVariants.{Console, Device, Halted, InitEnded}
+use Rattle.calls.specs.declared.halt.Halt.{Halt}
+use Rattle.calls.specs.declared.halt.Halt.TheVariants.{Console, Device, Halted, InitEnded}
 use Rattle.machine.specs.Gives.{IsDone, RunGives}
 use Rattle.machine.specs.Told.{Told}
 use Rattle.unixmodel.specs.Calls.{After}

@@ -1,22 +1,30 @@
+use Rattle.calls.specs.Kernel.{Kernel, state_of}
 use Rattle.machine.proofs.boot.boot_flat_with.Goals as goal
-use Rattle.machine.proofs.FlatLemmas.{first, length-flat, start-fits, start-over}
-use Rattle.machine.proofs.KernelLemmas.{fits}
-use Rattle.machine.specs.Solo.{Solo, state_of}
-use Rattle.std.proofs.Common.{◌≡◌, Some, length, replicate, ap, arith, refl, sym, ◌∙◌}
+use Rattle.machine.proofs.FlatLemmas.{first-sound, length-flat, start-fits, start-over}
+use Rattle.machine.specs.Flat.{first_kernel, flat_memory, flat_space}
+use Rattle.spaces.specs.Spaces.{Spaces, held_at}
+use Rattle.std.proofs.Common.{◌≡◌, ◌*◌, Some, length, replicate, ap, arith, refl, sym, ◌∙◌}
 use Rattle.std.proofs.lemmas.List.{length-replicate}
 
 pub returns-in_default-load-clause-no_init : goal.returns-in_default-load-clause-no_init
 returns-in_default-load-clause-no_init g c = λ is.
-    let size = c.new-free.ensures.count ∙ ap length c.in-Ok.ensures ∙ length-replicate c.args.frames (replicate 4096 0) in
-    start-over c.args.bytes.now c.args.frames (rw size at c.in_default-load.ensures.full)
+    let frames : length c.in-Ok.ram ≡ c.args.frames = ap length c.in-Ok.ensures ∙ length-replicate c.args.frames (replicate 4096 0) in
+    start-over c.args.bytes.now c.args.frames (rw frames at c.in_default-load.ensures.none)
 
-pub new-kernel-requires-clause-stack : goal.new-kernel-requires-clause-stack
-new-kernel-requires-clause-stack g c = omega (arith, c.in-Ok-load.ensures.size, length-flat c.args.bytes.now)
+pub first_table-table-requires : goal.first_table-table-requires
+first_table-table-requires g c =
+    let size : c.size.result ≡ 4096 * length (flat_memory c.args.bytes.now) = c.size.ensures ∙ ap (λ (s : Spaces). (held_at s 0).size) c.in-Some.ensures.some in
+    omega (arith, size, length-flat c.args.bytes.now)
+
+pub new-kernel-requires : goal.new-kernel-requires
+new-kernel-requires g c =
+    let size : c.size.result ≡ 4096 * length (flat_memory c.args.bytes.now) = c.size.ensures ∙ ap (λ (s : Spaces). (held_at s 0).size) c.in-Some.ensures.some in
+    rw (c.first_table-table.ensures, size, c.in-Some.ensures.some) (first-sound _ (flat_space c.args.bytes.now) c.in-Some.ensures.fits)
 
 pub returns-in-Ok-new-clause-booted : goal.returns-in-Ok-new-clause-booted
 returns-in-Ok-new-clause-booted g c =
-    let b = c.in-Ok-load.ensures in
-    let size : length c.load.new.ram ≡ c.args.frames = b.count ∙ c.new-free.ensures.count ∙ ap length c.in-Ok.ensures ∙ length-replicate c.args.frames (replicate 4096 0) in
-    let all = rw (b.pages, size) at (fits c.load.new.ram c.load.new.frames c.in-Ok-load.space b.space b.shared) in
-    let kernel : c.new-kernel.result ≡ first c.args.bytes.now c.args.frames = c.new-kernel.ensures ∙ rw (b.pages, b.size, size) refl in
-    rw c.new-in-Ok-new.ensures (start-fits c.args.bytes.now c.args.frames all ∙ ap (λ (k : Solo). Some (state_of k)) (sym kernel))
+    let bytes = c.args.bytes.now in
+    let frames : length c.in-Ok.ram ≡ c.args.frames = ap length c.in-Ok.ensures ∙ length-replicate c.args.frames (replicate 4096 0) in
+    let size : c.size.result ≡ 4096 * length (flat_memory bytes) = c.size.ensures ∙ ap (λ (s : Spaces). (held_at s 0).size) c.in-Some.ensures.some in
+    let kernel : c.new-kernel.result ≡ first_kernel c.args.frames (flat_space bytes) = c.new-kernel.ensures ∙ rw (c.first_table-table.ensures, size, c.in-Some.ensures.some, frames) refl in
+    rw c.new-in-Ok-new.ensures (start-fits bytes c.args.frames (rw frames at c.in-Some.ensures.fits) ∙ ap (λ (k : Kernel). Some (state_of k)) (sym kernel))

@@ -1,47 +1,29 @@
 use Rattle.machine.proofs.machine.Machine.step.Goals as goal
-use Rattle.machine.proofs.States.{next-executes, next-picks, next-ticks}
-use Rattle.machine.proofs.Steps.{does-gives, next-keys, quiet-gives}
-use Rattle.machine.specs.declared.kernel.Stage.TheVariants.{Running}
-use Rattle.std.proofs.Common.{true, refl, sym, ◌∙◌}
+use Rattle.machine.proofs.Steps.{does-gives, key-halts, next-keys, quiet-gives, tick-halts}
+use Rattle.calls.specs.Kernel.{state_of}
+use Rattle.std.proofs.Common.{◌∙◌}
+use Rattle.unixmodel.specs.declared.event.Event.TheVariants.{Key, Step, Tick}
+use Rattle.unixmodel.specs.Next.{next}
+
+pub step-done-requires : goal.step-done-requires
+step-done-requires g c = (rw (← c.self.view_is) at (c.is_stopped.ensures.up c.if-is_stopped.false)).goes
 
 pub returns-in-Step-clause-gives : goal.returns-in-Step-clause-gives
 returns-in-Step-clause-gives g c =
     let k = c.self.inside.kernel in
-    let is = sym c.stage.ensures ∙ c.in-Running.is in
-    rw (← c.self.view_is, c.if-self.false, c.in-Step.is, next-executes k is)
-    (does-gives _ _ _ _ _ _ _ _ _ c.execute-done.result is c.is_console-self-inside.ensures c.execute-done.ensures.does)
+    let up = rw (← c.self.view_is) at (c.is_stopped.ensures.up c.if-is_stopped.false) in
+    rw (← c.self.view_is, up.sound, c.in-Step.is)
+    (does-gives _ k c.step-done.new.self _ _ (next (state_of k) Step) _ _ _ c.step-done.result up.goes c.is_console-self-inside.ensures c.step-done.ensures.does)
 
 pub returns-in-Tick-clause-gives : goal.returns-in-Tick-clause-gives
 returns-in-Tick-clause-gives g c =
     let k = c.self.inside.kernel in
-    let is = sym c.stage.ensures ∙ c.in-Running.is in
-    rw (← c.self.view_is, c.if-self.false, c.in-Tick.is, c.tick.ensures)
-    (quiet-gives _ _ _ _ _ _ (rw is refl) (rw is refl) (next-ticks k k.stage refl))
+    let up = rw (← c.self.view_is) at (c.is_stopped.ensures.up c.if-is_stopped.false) in
+    rw (← c.self.view_is, up.sound, c.in-Tick.is) (quiet-gives _ k c.tick.new.self _ (next (state_of k) Tick) _ up.goes (tick-halts (state_of k) ∙ up.goes) c.tick.ensures)
 
 pub returns-in-Key-clause-gives : goal.returns-in-Key-clause-gives
 returns-in-Key-clause-gives g c =
     let k = c.self.inside.kernel in
-    let is = sym c.stage.ensures ∙ c.in-Running.is in
-    rw (← c.self.view_is, c.if-self.false, c.in-Key.is)
-    (quiet-gives _ _ _ _ _ _ (rw is refl) (rw is refl) (next-keys k c.in-Key.field-0))
-
-pub returns-in-Step-event-clause-gives : goal.returns-in-Step-event-clause-gives
-returns-in-Step-event-clause-gives g c =
-    let k = c.self.inside.kernel in
-    let is = sym c.stage.ensures ∙ c.in-Ready.is in
-    rw (← c.self.view_is, c.if-self.false, c.in-Step-event.is, c.pick.ensures)
-    (quiet-gives _ k (record k { stage = Running; picked = true }) _ _ _ (rw is refl) refl (next-picks k is))
-
-pub returns-in-Tick-event-clause-gives : goal.returns-in-Tick-event-clause-gives
-returns-in-Tick-event-clause-gives g c =
-    let k = c.self.inside.kernel in
-    let is = sym c.stage.ensures ∙ c.in-Ready.is in
-    rw (← c.self.view_is, c.if-self.false, c.in-Tick-event.is, c.tick-in-Tick-event.ensures)
-    (quiet-gives _ _ _ _ _ _ (rw is refl) (rw is refl) (next-ticks k k.stage refl))
-
-pub returns-in-Key-event-clause-gives : goal.returns-in-Key-event-clause-gives
-returns-in-Key-event-clause-gives g c =
-    let k = c.self.inside.kernel in
-    let is = sym c.stage.ensures ∙ c.in-Ready.is in
-    rw (← c.self.view_is, c.if-self.false, c.in-Key-event.is)
-    (quiet-gives _ _ _ _ _ _ (rw is refl) (rw is refl) (next-keys k c.in-Key-event.field-0))
+    let b = c.in-Key.field-0 in
+    let up = rw (← c.self.view_is) at (c.is_stopped.ensures.up c.if-is_stopped.false) in
+    rw (← c.self.view_is, up.sound, c.in-Key.is) (quiet-gives _ k k _ (next (state_of k) (Key b)) _ up.goes (key-halts (state_of k) b ∙ up.goes) (next-keys (state_of k) b))

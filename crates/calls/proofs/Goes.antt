@@ -1,0 +1,230 @@
+-- A pending call goes on, and the end of a process that runs or where none runs.
+use Rattle.std.proofs.Common.{◌≡◌, ◌≢◌, ℕ, ◌%◌, true, false, List, [], Option, Some, None, ℤ, refl, ap, subst, sym, ◌∙◌}
+use Rattle.std.specs.Prelude.{if◌then◌else◌, slice_index, slice_index_or}
+use Rattle.calls.specs.Kernel.{Kernel, answered, base, blocked, ended, entered, halted_by, idle, lives, loaded, memories, memory_in, on_hart, started, state_of}
+use Rattle.calls.specs.Says.{called, gone_on, gone_on_by, has_slept, pending_for}
+use Rattle.calls.specs.Sound.{IsKernel, IsLive, IsMode, IsPending, IsPlace, IsPlaced, is_at}
+use Rattle.calls.specs.Told.{CanEnd, CanEndIn, IsAlive, WaitsIn, resumed, resumed_by, resumed_in}
+use Rattle.calls.proofs.Changes.{ended-is, ended-kernel, loaded-placed, other-at}
+use Rattle.calls.proofs.Reaped.{within-state}
+use Rattle.calls.proofs.Rows.{ends-at, enters-kernel, enters-run, numbered, waits-run}
+use Rattle.calls.proofs.Runs.{IsRun, loaded-run, memory-at, process-run, process-with, run-of, self, set-slot, slot-put, with_process, within-run}
+use Rattle.calls.proofs.Settles.{settle-done}
+use Rattle.calls.proofs.Starts.{killed-ends, started-is, started-run, started-state, state-idle}
+use Rattle.proc.specs.declared.process.Process.{Process}
+use Rattle.proc.specs.Places.{Places, exited}
+use Rattle.proc.specs.Whole.{with_memory}
+use Rattle.spaces.specs.Spaces.{Held}
+use Rattle.unixmodel.specs.Calls.{call_of, end_at, goes_on, quiet, resume, settle}
+use Rattle.unixmodel.specs.declared.call.Call.{Call}
+use Rattle.unixmodel.specs.declared.call.Call.TheVariants.{Sleep}
+use Rattle.unixmodel.specs.declared.process.Mode.{Mode}
+use Rattle.unixmodel.specs.declared.process.Mode.TheVariants.{Running, Waiting}
+use Rattle.unixmodel.specs.declared.process.Pending.{Pending}
+use Rattle.unixmodel.specs.Counts.{is_within}
+use Rattle.unixmodel.specs.Files.{slot}
+use Rattle.unixmodel.specs.Memory.{Memory}
+use Rattle.unixmodel.specs.Numbers.{low}
+use Rattle.unixmodel.specs.Outcome.{answers, limited}
+use Rattle.unixmodel.specs.Outcome.Outcome.{Waits}
+use Rattle.unixmodel.specs.Process as unix
+use Rattle.unixmodel.specs.ProcessCalls.{sleep_on}
+use Rattle.unixmodel.specs.State.{State, process_at}
+
+-- ---- sleep
+
+-- a sleep keeps the limits where they are kept
+limited-sleep : (s : State) (i : ℕ) (p : unix.Process) (w : Pending) → is_within s ≡ true → limited (sleep_on s i p w) ≡ sleep_on s i p w
+unfolding sleep_on
+limited-sleep s i p w within = elim (has_slept s.ticks w) as (λ b. limited (if b then answers s 0 else Waits s w) ≡ (if b then answers s 0 else Waits s w)) [ true ↦ rw within refl | false ↦ refl ]
+
+module _ (k : Kernel) (i : ℕ) (p : Process) (h : Held) (r : IsRun k i p h) where
+  -- the process in the place that the pending call is looked up in
+  pub gone-run : (w : Pending) → gone_on (state_of k) i w ≡ settle (state_of k) i (goes_on (state_of k) i (self k p h) w w.number)
+  gone-run w = ap (gone_on_by (state_of k) i w) (process-run k i p h r)
+
+  module _ (is : IsKernel k) where
+    pub sleeps-done : (w : Pending) → w.number ≡ Sleep → has_slept k.ticks w ≡ true → gone_on (state_of k) i w ≡ quiet (state_of (answered k 0))
+    unfolding sleep_on
+    sleeps-done w number slept =
+        gone-run w
+        ∙ ap (λ (call : Call). settle (state_of k) i (goes_on (state_of k) i (self k p h) w call)) number
+        ∙ rw slept (settle-done k i p h r is (state_of k) 0 [])
+
+    pub sleeps-waits : slice_index k.spaces.registers 0 ≡ 0 → k.spaces.pc % 4 ≡ 0 → (w : Pending) → w.number ≡ Sleep → has_slept k.ticks w ≡ false
+        → gone_on (state_of k) i w ≡ quiet (state_of (blocked k i w))
+    unfolding sleep_on
+    sleeps-waits z a w number slept =
+        gone-run w
+        ∙ ap (λ (call : Call). settle (state_of k) i (goes_on (state_of k) i (self k p h) w call)) number
+        ∙ rw slept (ap quiet (waits-run k i p h r is z a w (subst (λ (call : Call). IsPending h.memory w call) (sym number) tt)))
+
+-- the row of sleep: it goes on at once
+pub rows-sleep : (k : Kernel) (i : ℕ) (p : Process) (h : Held) → IsRun k i p h → IsKernel k → call_of (low (slice_index k.spaces.registers 17)) ≡ Some Sleep
+    → called (state_of k) i ≡ gone_on (state_of (entered k)) i (pending_for k Sleep)
+rows-sleep k i p h r is number =
+    numbered k i p h r is (Some Sleep) number
+    ∙ ap (settle (state_of (entered k)) i) (limited-sleep (state_of (entered k)) i (self (entered k) p h) (pending_for k Sleep) (within-state (entered k) (enters-kernel k i p h r is)))
+    ∙ sym (gone-run (entered k) i p h (enters-run k i p h r is) (pending_for k Sleep))
+
+-- ---- where none runs
+
+-- process p, which lives, stands in place i with its space
+pub record IsThere (k : Kernel) (i : ℕ) (p : Process) (h : Held) : Type 0 where
+  pub process : slot k.table.places i ≡ Some p
+  pub space : slot k.spaces.places i ≡ Some h
+  pub placed : IsPlaced p h
+
+there-go : (k : Kernel) (i : ℕ) (p : Process) (o : Option Process) (q : Option Held) → slot k.table.places i ≡ o → slot k.spaces.places i ≡ q → IsPlace o q → o ≡ Some p → (h : Held) × IsThere k i p h
+there-go k i p None q process space is at = absurd (cc)
+there-go k i p (Some x) None process space is at = absurd is
+there-go k i p (Some x) (Some h) process space is at =
+    let e : x ≡ p = cc in
+    (h, record { process = process ∙ at; space = space; placed = subst (λ (y : Process). IsPlaced y h) e is })
+
+pub there-of : (k : Kernel) (i : ℕ) (p : Process) → IsKernel k → slot k.table.places i ≡ Some p → (h : Held) × IsThere k i p h
+there-of k i p is at = there-go k i p (slot k.table.places i) (slot k.spaces.places i) refl refl (is.stands i) at
+
+module _ (k : Kernel) (i : ℕ) (p : Process) (h : Held) (is : IsKernel k) (none : k.spaces.active ≡ None) (t : IsThere k i p h) (alive : lives p ≡ true) where
+  pub process-idle : process_at (state_of k) i ≡ Some (with_memory h.memory p)
+  process-idle =
+      let memory : slice_index_or (memories k.spaces) i [] ≡ h.memory = memory-at k.spaces i ∙ ap memory_in t.space in
+      ap (λ (s : State). process_at s i) (state-idle k i p h is none t.process t.space alive)
+      ∙ process-with (base k.ticks k.spaces.frames k.halted true) k.table (memories k.spaces) i p t.process
+      ∙ ap (λ (m : Memory). Some (with_memory m p)) memory
+
+  -- ---- a pending call goes on
+
+  module _ (l : IsLive p) (n : p.killed ≡ false) (w : Pending) (waits : p.mode ≡ Waiting w) where
+    pub resumes : resumed (state_of k) i ≡ gone_on (state_of (started k i)) i w
+    unfolding resume
+    resumes =
+        let q = record p { mode = Running } in
+        let to = started-is k i p h is none t.process t.space alive in
+        ap (resumed_by (state_of k) i) process-idle
+        ∙ ap (resumed_in (state_of k) i (with_memory h.memory p)) waits
+        ∙ ap (λ (s : State). settle s i (goes_on s i (with_memory h.memory q) w w.number)) (sym (started-state k i p h is none t.process t.space alive l n))
+        ∙ sym (gone-run _ i q h (started-run k i p h is none t.process t.space alive l n) w)
+        ∙ sym (ap (λ (x : Kernel). gone_on (state_of x) i w) to)
+
+-- a process that waits and may go on
+pub record IsResting (k : Kernel) (i : ℕ) (p : Process) (h : Held) (w : Pending) : Type 0 where
+  pub there : IsThere k i p h
+  pub alive : lives p ≡ true
+  pub live : IsLive p
+  pub free : p.killed ≡ false
+  pub waits : p.mode ≡ Waiting w
+  pub pending : IsPending h.memory w w.number
+
+resting-mode : (p : Process) (m : Memory) (w : Pending) (mode : Mode) → mode ≡ Waiting w → IsMode p m mode → IsLive p × IsPending m w w.number
+resting-mode p m w mode e is = rw e at is
+
+resting-go : (k : Kernel) (i : ℕ) (w : Pending) (o : Option Process) → IsKernel k → slot k.table.places i ≡ o → WaitsIn o w → (p : Process) × ((h : Held) × IsResting k i p h w)
+resting-go k i w None is at waits = absurd waits
+resting-go k i w (Some p) is at waits =
+    let t = there-of k i p is at in
+    let m = resting-mode p t.0.memory w p.mode waits.0 t.1.placed.mode in
+    (p, (t.0, record { there = t.1; alive = rw waits.0 refl; live = m.0; free = waits.1; waits = waits.0; pending = m.1 }))
+
+pub resting-of : (k : Kernel) (i : ℕ) (w : Pending) → IsKernel k → WaitsIn (slot k.table.places i) w → (p : Process) × ((h : Held) × IsResting k i p h w)
+resting-of k i w is waits = resting-go k i w (slot k.table.places i) is refl waits
+
+-- ---- the end of a process
+
+ends-idle : (k : Kernel) (i : ℕ) (o : Option Process) (status : ℤ) → IsKernel k → slice_index k.spaces.registers 0 ≡ 0 → k.spaces.pc % 4 ≡ 0 → k.spaces.active ≡ None → slot k.table.places i ≡ o → IsAlive o
+    → end_at (state_of k) i status (process_at (state_of k) i) ≡ state_of (ended k i status)
+ends-idle k i None status is z a none at alive = absurd alive
+ends-idle k i (Some p) status is z a none at alive =
+    let t = there-of k i p is at in
+    ap (end_at (state_of k) i status) (process-idle k i p t.0 is none t.1 alive)
+    ∙ killed-ends k i p t.0 is none at t.1.space alive z a status
+
+ends-go : (k : Kernel) (i : ℕ) (o : Option ℕ) (status : ℤ) → IsKernel k → slice_index k.spaces.registers 0 ≡ 0 → k.spaces.pc % 4 ≡ 0 → k.spaces.active ≡ o → CanEndIn k i o
+    → end_at (state_of k) i status (process_at (state_of k) i) ≡ state_of (ended k i status)
+ends-go k i (Some j) status is z a active can =
+    let run = run-of k i is (active ∙ ap Some can) in
+    ends-at k i run.0 run.1.0 run.1.1 is z a status
+ends-go k i None status is z a active can = ends-idle k i (slot k.table.places i) status is z a active refl can
+
+-- what the end of a process makes of the state
+pub ends-can : (k : Kernel) (i : ℕ) (status : ℤ) → IsKernel k → slice_index k.spaces.registers 0 ≡ 0 → k.spaces.pc % 4 ≡ 0 → CanEnd k i
+    → end_at (state_of k) i status (process_at (state_of k) i) ≡ state_of (ended k i status)
+ends-can k i status is z a can = ends-go k i k.spaces.active status is z a refl can
+
+-- process q is what the loaded table has in place i, and no other place runs
+pub record IsWhole (k : Kernel) (i : ℕ) (q : Process) : Type 0 where
+  pub put : loaded k ≡ with_process k.table i q
+  pub pids : halted_by (slot k.table.places i) ≡ halted_by (Some q)
+  pub alone : (j : ℕ) → j ≢ i → is_at j k.spaces.active ≡ false
+
+whole-go : (k : Kernel) (i : ℕ) (q : Process) (o : Option ℕ) → IsKernel k → k.spaces.active ≡ o → CanEndIn k i o → slot (loaded k).places i ≡ Some q → IsWhole k i q
+whole-go k i q (Some j) is active can at =
+    let here : k.spaces.active ≡ Some i = active ∙ ap Some can in
+    let run = run-of k i is here in
+    let load = loaded-run k i run.0 run.1.0 run.1.1 in
+    let held : slot (loaded k).places i ≡ Some (on_hart k.spaces run.0) = ap (λ (t : Places). slot t.places i) load ∙ slot-put k.table.places i (Some (on_hart k.spaces run.0)) (within-run k i run.0 run.1.0 run.1.1) in
+    let e : on_hart k.spaces run.0 ≡ q = cc in
+    record {
+      put = load ∙ ap (with_process k.table i) e;
+      pids = ap halted_by run.1.1.process ∙ ap (λ (x : Process). halted_by (Some x)) e;
+      alone = λ n other. ap (is_at n) here ∙ other-at i n other;
+    }
+whole-go k i q None is active can at =
+    let same : loaded k ≡ k.table = rw active refl in
+    let there : slot k.table.places i ≡ Some q = ap (λ (t : Places). slot t.places i) (sym same) ∙ at in
+    record {
+      put = same ∙ ap (λ (places : List (Option Process)). record k.table { places = places }) (sym (set-slot k.table.places i (Some q) there));
+      pids = ap halted_by there;
+      alone = λ n other. ap (is_at n) active;
+    }
+
+pub whole-of : (k : Kernel) (i : ℕ) (q : Process) → IsKernel k → CanEnd k i → slot (loaded k).places i ≡ Some q → IsWhole k i q
+whole-of k i q is can at = whole-go k i q k.spaces.active is refl can at
+
+-- it is put back, and ends
+pub finish-is : (k : Kernel) (i : ℕ) (q : Process) (status : ℤ) → IsKernel k → CanEnd k i → slot (loaded k).places i ≡ Some q
+    → record k { table = exited (with_process k.table i q) i status; spaces = idle k.spaces; halted = halted_by (Some q) status k.halted } ≡ ended k i status
+finish-is k i q status is can at =
+    let w = whole-of k i q is can at in
+    ap (λ (t : Places). record k { table = exited t i status; spaces = idle k.spaces; halted = halted_by (Some q) status k.halted }) (sym w.put)
+    ∙ ap (λ (f : ℤ → Option ℤ → Option ℤ). record k { table = exited (loaded k) i status; spaces = idle k.spaces; halted = f status k.halted }) (sym w.pids)
+
+space-go : (o : Option Process) (q : Option Held) (p : Process) → IsPlace o q → o ≡ Some p → (h : Held) × (q ≡ Some h)
+space-go None q p is at = absurd (cc)
+space-go (Some x) None p is at = absurd is
+space-go (Some x) (Some h) p is at = (h, refl)
+
+finish-keeps : (k : Kernel) (i : ℕ) (q : Process) (status : ℤ) → IsKernel k → CanEnd k i → slice_index k.spaces.registers 0 ≡ 0 → k.spaces.pc % 4 ≡ 0 → slot (loaded k).places i ≡ Some q → IsKernel (ended k i status)
+finish-keeps k i q status is can z a at =
+    let w = whole-of k i q is can at in
+    let s = space-go (slot (loaded k).places i) (slot k.spaces.places i) q (loaded-placed k is z a i) at in
+    rw (ended-is k is z a i q s.0 at s.1 w.pids w.alone status) (ended-kernel k is z a i q s.0 at s.1 w.pids w.alone status)
+
+-- over the fields: k is what they show, and now is the kernel's value
+pub finish-closes : (k now : Kernel) (i : ℕ) (q : Process) (status : ℤ) → k ≡ now → IsKernel now → CanEnd now i → slice_index now.spaces.registers 0 ≡ 0 → now.spaces.pc % 4 ≡ 0 → slot (loaded now).places i ≡ Some q
+    → IsKernel (record k { table = exited (with_process k.table i q) i status; spaces = idle k.spaces; halted = halted_by (Some q) status k.halted })
+finish-closes k now i q status same is can z a at =
+    let keeps : IsKernel (record now { table = exited (with_process now.table i q) i status; spaces = idle now.spaces; halted = halted_by (Some q) status now.halted }) =
+    rw (finish-is now i q status is can at) (finish-keeps now i q status is can z a at) in
+    rw same keeps
+
+pub finish-made : (k now : Kernel) (i : ℕ) (q : Process) (status : ℤ) → k ≡ now → IsKernel now → CanEnd now i → slot (loaded now).places i ≡ Some q
+    → record k { table = exited (with_process k.table i q) i status; spaces = idle k.spaces; halted = halted_by (Some q) status k.halted } ≡ ended now i status
+finish-made k now i q status same is can at =
+    ap (λ (x : Kernel). record x { table = exited (with_process x.table i q) i status; spaces = idle x.spaces; halted = halted_by (Some q) status x.halted }) same
+    ∙ finish-is now i q status is can at
+
+-- there is a process that may end
+finish-some-go : (k : Kernel) (i : ℕ) (o : Option ℕ) → IsKernel k → k.spaces.active ≡ o → CanEndIn k i o → slot (loaded k).places i ≡ None → ⊥
+finish-some-go k i (Some j) is active can at =
+    let run = run-of k i is (active ∙ ap Some can) in
+    let held : slot (loaded k).places i ≡ Some (on_hart k.spaces run.0) =
+    ap (λ (t : Places). slot t.places i) (loaded-run k i run.0 run.1.0 run.1.1) ∙ slot-put k.table.places i (Some (on_hart k.spaces run.0)) (within-run k i run.0 run.1.0 run.1.1) in
+    absurd (cc)
+finish-some-go k i None is active can at =
+    let same : loaded k ≡ k.table = rw active refl in
+    let there : slot k.table.places i ≡ None = ap (λ (t : Places). slot t.places i) (sym same) ∙ at in
+    rw there at can
+
+pub finish-some : (k : Kernel) (i : ℕ) → IsKernel k → CanEnd k i → slot (loaded k).places i ≡ None → ⊥
+finish-some k i is can at = finish-some-go k i k.spaces.active is refl can at

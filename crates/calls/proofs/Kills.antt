@@ -1,0 +1,319 @@
+-- A process is killed.
+use Rattle.std.proofs.Common.{◌≡◌, ◌≢◌, ℕ, zero, suc, ◌<◌, ◌%◌, inl, inr, Bool, true, false, nat_le, List, [], length, map, Option, Some, None, negsuc, refl, ap, sym, subst, ◌∙◌, arith}
+use Rattle.std.specs.List.{list_any}
+use Rattle.std.specs.Prelude.{option_map, slice_index, slice_index_or, slice_set}
+use Rattle.std.proofs.lemmas.Bool.{le-leb}
+use Rattle.std.proofs.lemmas.List.{get_or-set_other, length-map, length-set, map-set, set-get_or}
+use Rattle.calls.specs.Kernel.{Kernel, answered, argument, base, ended, entered, halted_by, lives, loaded, marked, memories, memory_in, on_hart, state_of, with_mark}
+use Rattle.calls.specs.Says.{called, named}
+use Rattle.calls.specs.Sound.{IsKernel, IsMode, IsPlace, is_at}
+use Rattle.calls.proofs.Changes.{ended-is, ended-kernel, ended_to, other-at, stands-put}
+use Rattle.calls.proofs.Collects.{where-put}
+use Rattle.calls.proofs.Forks.{set-swap}
+use Rattle.calls.proofs.Reaped.{IsMatch, match-loaded, reap-state_last, within-state_with}
+use Rattle.calls.proofs.Rows.{aligned-next, enters-kernel, enters-run, numbered, refuses}
+use Rattle.calls.proofs.Runs.{IsRun, lives-run, lives-some, loaded-run, memory-at, process-run, process-with, put-with, run-of, runs-set, same_or_not, self, set-twice, slot-other, slot-put, slot-within, state-run, with_process, within-run}
+use Rattle.calls.proofs.Settles.{after, change-run, regs-kernel, regs-run, settle-limited}
+use Rattle.proc.specs.declared.process.Process.{Process}
+use Rattle.proc.specs.Places as table
+use Rattle.proc.specs.Places.{Places, changed, has_pid, orphaned, place_where, zombie_of}
+use Rattle.proc.specs.Whole.{change_process-with_table, place_of_pid-with_table, place_where-Some, with_memory, with_table, with_zombie-with_table}
+use Rattle.spaces.specs.Spaces.{Held}
+use Rattle.unixmodel.specs.Calls.{call_of, end_if_killed, quiet, settle}
+use Rattle.unixmodel.specs.Counts.{is_within}
+use Rattle.unixmodel.specs.declared.call.Call.TheVariants.{Kill}
+use Rattle.unixmodel.specs.declared.process.Mode.{Mode}
+use Rattle.unixmodel.specs.declared.process.Mode.TheVariants.{Ready, Running, Waiting, Zombie}
+use Rattle.unixmodel.specs.Files.{put, slot}
+use Rattle.unixmodel.specs.Memory.{Memory}
+use Rattle.unixmodel.specs.Numbers.{int_of, low, natural}
+use Rattle.unixmodel.specs.Outcome.{Outcome, answers, end_process, given, limited, minus_one, provided}
+use Rattle.unixmodel.specs.Outcome.Outcome.{Done}
+use Rattle.unixmodel.specs.Process as unix
+use Rattle.unixmodel.specs.Process.{is_running_mode, with_answer}
+use Rattle.unixmodel.specs.ProcessCalls as rows
+use Rattle.unixmodel.specs.ProcessCalls.{kill_row}
+use Rattle.unixmodel.specs.Reap.{reap}
+use Rattle.unixmodel.specs.State.{State, change_process, holds, place_of_pid, process_at, put_process}
+
+-- ---- a process that doesn't run is marked
+
+mark-mode : (p : Process) (m : Memory) (mode : Mode) → is_running_mode mode ≡ false → IsMode p m mode → IsMode (with_mark p) m mode
+mark-mode p m Running rests is = absurd (cc)
+mark-mode p m Ready rests is = record { descriptors = is.descriptors; directory = is.directory }
+mark-mode p m (Waiting w) rests is = (record { descriptors = is.0.descriptors; directory = is.0.directory }, is.1)
+mark-mode p m (Zombie status) rests is = record { descriptors = is.descriptors; directory = is.directory }
+
+mark-placed : (q : Process) (o : Option Held) → is_running_mode q.mode ≡ false → IsPlace (Some q) o → IsPlace (Some (with_mark q)) o
+mark-placed q None rests is = is
+mark-placed q (Some h) rests is = record { size = is.size; zero = is.zero; aligned = is.aligned; mode = mark-mode q h.memory q.mode rests is.mode }
+
+abbrev pub marked_to : Kernel → ℕ → Process → Kernel
+marked_to k j q = record k { table = with_process k.table j (with_mark q) }
+
+pub marked-is : (k : Kernel) (j : ℕ) (q : Process) → slot k.table.places j ≡ Some q → marked k j ≡ marked_to k j q
+marked-is k j q at = rw at refl
+
+pub marked-kernel : (k : Kernel) (j : ℕ) (q : Process) → IsKernel k → slot k.table.places j ≡ Some q → is_at j k.spaces.active ≡ false → IsKernel (marked_to k j q)
+marked-kernel k j q is at rests =
+    let short : j < length k.table.places = slot-within k.table.places j q at in
+    let stays : is_running_mode q.mode ≡ false = sym (ap (holds table.is_running) at) ∙ is.runs j ∙ rests in
+    let there : IsPlace (Some q) (slot k.spaces.places j) = subst (λ (o : Option Process). IsPlace o (slot k.spaces.places j)) at (is.stands j) in
+    record {
+      all = length-set k.table.places j (Some (with_mark q)) ∙ is.all;
+      spaces = is.spaces;
+      stands = stands-put k.table.places k.spaces.places j (Some (with_mark q)) short (mark-placed q (slot k.spaces.places j) stays there) is.stands;
+      runs = runs-set k.table.places j (Some (with_mark q)) k.spaces.active k.spaces.active short (stays ∙ sym rests) (λ n other. refl) is.runs;
+      fits = is.fits;
+    }
+
+module _ (k : Kernel) (i : ℕ) (p : Process) (h : Held) (r : IsRun k i p h) (is : IsKernel k) where
+  -- ---- another process is marked
+
+  module _ (j : ℕ) (q : Process) (at : slot k.table.places j ≡ Some q) (apart : j ≢ i) where
+    mark-run : IsRun (marked_to k j q) i p h
+    mark-run = record {
+      active = r.active;
+      process = slot-other k.table.places j i (Some (with_mark q)) (λ e. apart (sym e)) ∙ r.process;
+      space = r.space;
+      placed = r.placed;
+      runs = r.runs;
+    }
+
+    mark-kernel : IsKernel (marked_to k j q)
+    mark-kernel = marked-kernel k j q is at (ap (is_at j) r.active ∙ other-at i j apart)
+
+    mark-state : change_process (state_of k) j rows.marked ≡ state_of (marked_to k j q)
+    mark-state =
+        let rest = base k.ticks k.spaces.frames k.halted true in
+        let old = with_process k.table i (on_hart k.spaces p) in
+        let there : slot old.places j ≡ Some q = slot-other k.table.places i j (Some (on_hart k.spaces p)) apart ∙ at in
+        let swap : put (put k.table.places j (with_mark q)) i (on_hart k.spaces p) ≡ put (put k.table.places i (on_hart k.spaces p)) j (with_mark q) =
+        set-swap k.table.places j i (Some (with_mark q)) (Some (on_hart k.spaces p)) apart in
+        ap (λ (s : State). change_process s j rows.marked) (state-run k i p h r)
+        ∙ change_process-with_table rows.marked with_mark (λ m x. refl) rest old (memories k.spaces) j
+        ∙ ap (λ (o : Option Process). with_table rest (record old { places = slice_set old.places j (option_map with_mark o) }) (memories k.spaces)) there
+        ∙ sym (ap (λ (places : List (Option Process)). with_table rest (record k.table { places = places }) (memories k.spaces)) swap)
+        ∙ sym (state-run (marked_to k j q) i p h mark-run)
+
+    pub mark-settles : (begun : State) → settle begun i (limited (Done (change_process (state_of k) j rows.marked) 0 [])) ≡ quiet (state_of (marked (answered k 0) j))
+    mark-settles begun =
+        ap (λ (s : State). settle begun i (limited (Done s 0 []))) mark-state
+        ∙ settle-limited (marked_to k j q) i p h mark-run mark-kernel begun 0 []
+        ∙ sym (ap (λ (x : Kernel). quiet (state_of (answered x 0))) (marked-is k j q at))
+
+  -- ---- the running process is marked
+
+  abbrev rest : State
+  rest = base k.ticks k.spaces.frames k.halted true
+
+  put-run : (p' : Process) → put_process (state_of k) i (with_memory h.memory p') ≡ with_table rest (with_process k.table i p') (memories k.spaces)
+  put-run p' =
+      let q = on_hart k.spaces p in
+      let old = with_process k.table i q in
+      let at : slice_index_or (memories k.spaces) i [] ≡ h.memory = memory-at k.spaces i ∙ ap memory_in r.space in
+      let same : slice_set (memories k.spaces) i h.memory ≡ memories k.spaces = ap (λ m. slice_set (memories k.spaces) i m) (sym at) ∙ set-get_or (memories k.spaces) i [] in
+      let short : i < length (memories k.spaces) = rw (length-map k.spaces.places memory_in) (slot-within k.spaces.places i h r.space) in
+      ap (λ (s : State). put_process s i (with_memory h.memory p')) (state-run k i p h r)
+      ∙ put-with rest old (memories k.spaces) i p' h.memory short
+      ∙ ap (λ (ms : List Memory). with_table rest (with_process old i p') ms) same
+      ∙ ap (λ (places : List (Option Process)). with_table rest (record k.table { places = places }) (memories k.spaces)) (set-twice k.table.places i (Some q) (Some p'))
+
+  abbrev t : Places
+  t = with_process k.table i (with_mark (on_hart k.spaces p))
+
+  match-mark : (q : Process) (o : Option Held) → IsMatch (Some q) o → IsMatch (Some (with_mark q)) o
+  match-mark q None is = is
+  match-mark q (Some y) is = is
+
+  match-self : (n : ℕ) → IsMatch (slot t.places n) (slot k.spaces.places n)
+  match-self n =
+      let q = on_hart k.spaces p in
+      let here : IsMatch (slot (with_process k.table i q).places n) (slot k.spaces.places n) = subst (λ (t : Places). IsMatch (slot t.places n) (slot k.spaces.places n)) (loaded-run k i p h r) (match-loaded k is n) in
+      elim (same_or_not n i) [
+        | inl same ↦
+            let hart : IsMatch (Some q) (slot k.spaces.places n) = subst (λ (o : Option Process). IsMatch o (slot k.spaces.places n)) (ap (slot (put k.table.places i q)) same ∙ slot-put k.table.places i (Some q) (within-run k i p h r)) here in
+            subst (λ (o : Option Process). IsMatch o (slot k.spaces.places n)) (sym (ap (slot t.places) same ∙ slot-put k.table.places i (Some (with_mark q)) (within-run k i p h r))) (match-mark q (slot k.spaces.places n) hart)
+        | inr other ↦ subst (λ (o : Option Process). IsMatch o (slot k.spaces.places n)) (slot-other k.table.places i n (Some q) other ∙ sym (slot-other k.table.places i n (Some (with_mark q)) other)) here
+      ]
+
+  self-marked : change_process (state_of k) i rows.marked ≡ with_table rest t (memories k.spaces)
+  self-marked = change-run k i p h r is rows.marked ∙ put-run (with_mark (on_hart k.spaces p))
+
+  self-within : is_within (change_process (state_of k) i rows.marked) ≡ true
+  self-within =
+      let some : list_any (holds lives) t.places ≡ true = lives-some t.places i (with_mark (on_hart k.spaces p)) (slot-put k.table.places i (Some (with_mark (on_hart k.spaces p))) (within-run k i p h r)) (lives-run k i p h r) in
+      ap is_within self-marked
+      ∙ sym (ap (λ (b : Bool). is_within (with_table (base k.ticks k.spaces.frames k.halted b) t (memories k.spaces))) some)
+      ∙ within-state_with t k.spaces k.ticks k.halted match-self
+      ∙ le-leb _ _ is.fits
+
+  change-put : (s : State) (x : unix.Process) (change : unix.Process → unix.Process) → i < length s.places → change_process (put_process s i x) i change ≡ put_process s i (change x)
+  change-put s x change short =
+      ap (λ (o : Option unix.Process). record s { places = slice_set (put s.places i x) i (option_map change o) }) (slot-put s.places i (Some x) short)
+      ∙ ap (λ (places : List (Option unix.Process)). record s { places = places }) (set-twice s.places i (Some x) (Some (change x)))
+
+  -- ---- it has its answer
+
+  abbrev k' : Kernel
+  k' = answered k 0
+
+  abbrev q : Process
+  q = on_hart k'.spaces p
+
+  run' : IsRun k' i p h
+  run' = regs-run k i p h r is k'.spaces.registers k.spaces.pc
+
+  kernel' : IsKernel k'
+  kernel' = regs-kernel k is k'.spaces.registers k.spaces.pc
+
+  abbrev answered_table : Places
+  answered_table = with_process k.table i (with_mark q)
+
+  self-answered : change_process (change_process (state_of k) i rows.marked) i (with_answer 0) ≡ with_table rest answered_table (memories k.spaces)
+  self-answered =
+      let short : i < length (state_of k).places = slot-within (state_of k).places i (self k p h) (process-run k i p h r) in
+      ap (λ (s : State). change_process s i (with_answer 0)) (change-run k i p h r is rows.marked)
+      ∙ change-put (state_of k) (rows.marked (self k p h)) (with_answer 0) short
+      ∙ put-run (with_mark q)
+
+  -- ---- and ends
+
+  module _ (z : slice_index k.spaces.registers 0 ≡ 0) (a : k.spaces.pc % 4 ≡ 0) where
+    zero' : slice_index k'.spaces.registers 0 ≡ 0
+    zero' = get_or-set_other k.spaces.registers 10 0 0 0 (λ e. absurd (omega arith)) ∙ z
+
+    there : slot (loaded k').places i ≡ Some q
+    there = ap (λ t. slot t.places i) (loaded-run k' i p h run') ∙ slot-put k.table.places i (Some q) (within-run k i p h r)
+
+    pids : halted_by (slot k'.table.places i) ≡ halted_by (Some q)
+    pids = ap halted_by r.process
+
+    alone : (j : ℕ) → j ≢ i → is_at j k'.spaces.active ≡ false
+    alone j other = ap (is_at j) r.active ∙ other-at i j other
+
+    abbrev gone : Kernel
+    gone = ended_to k' kernel' zero' a i q h there r.space pids alone (negsuc 0)
+
+    abbrev zombie : Process
+    zombie = zombie_of q (negsuc 0)
+
+    short-orphans : (os : List (Option Process)) → i < length os → i < length (map (option_map (orphaned q.pid)) os)
+    short-orphans os h = rw (length-map os (option_map (orphaned q.pid))) h
+
+    gone-at : slot gone.table.places i ≡ Some zombie
+    gone-at = slot-put (map (option_map (orphaned q.pid)) (loaded k').places) i (Some zombie) (short-orphans (loaded k').places (slot-within (loaded k').places i q there))
+
+    gone-kernel : IsKernel (marked_to gone i zombie)
+    gone-kernel = marked-kernel gone i zombie (ended-kernel k' kernel' zero' a i q h there r.space pids alone (negsuc 0)) gone-at refl
+
+    -- the places of the process that was marked and ended
+    orphans-put : (x : Process) (y : Process) → put (map (option_map (orphaned q.pid)) (put k.table.places i x)) i y ≡ put (map (option_map (orphaned q.pid)) k.table.places) i y
+    orphans-put x y =
+        let f = option_map (orphaned q.pid) in
+        ap (λ (os : List (Option Process)). put os i y) (map-set f k.table.places i (Some x))
+        ∙ set-twice (map f k.table.places) i (f (Some x)) (Some y)
+
+    gone-table : table.ended answered_table i (negsuc 0) (Some (with_mark q)) ≡ (marked_to gone i zombie).table
+    gone-table =
+        let f = option_map (orphaned q.pid) in
+        ap (λ (places : List (Option Process)). record k.table { places = places }) (orphans-put (with_mark q) (with_mark zombie) ∙ sym (orphans-put q (with_mark zombie)) ∙ sym (set-twice (map f (put k.table.places i q)) i (Some zombie) (Some (with_mark zombie))))
+        ∙ sym (ap (λ (t : Places). record t { places = put (put (map f t.places) i zombie) i (with_mark zombie) }) (loaded-run k' i p h run'))
+
+    gone-ends : end_process (with_table rest answered_table (memories k.spaces)) i (with_memory (slice_index_or (memories k.spaces) i []) (with_mark q)) (negsuc 0) ≡ state_of (marked_to gone i zombie)
+    unfolding end_process
+    gone-ends =
+        ap reap (with_zombie-with_table rest answered_table (memories k.spaces) i (with_mark q) (negsuc 0))
+        ∙ ap (λ (t : Places). reap (with_table (base k.ticks k.spaces.frames gone.halted true) t (memories k.spaces))) gone-table
+        ∙ reap-state_last (marked_to gone i zombie).table k.spaces.places (memories k.spaces) k.ticks k.spaces.frames gone.halted (match-loaded (marked_to gone i zombie) gone-kernel)
+
+    pub self-settles : (begun : State) → settle begun i (limited (Done (change_process (state_of k) i rows.marked) 0 [])) ≡ quiet (state_of (marked (ended k' i (negsuc 0)) i))
+    self-settles begun =
+        let s = change_process (state_of k) i rows.marked in
+        let same : marked (ended k' i (negsuc 0)) i ≡ marked_to gone i zombie = ap (λ (x : Kernel). marked x i) (ended-is k' kernel' zero' a i q h there r.space pids alone (negsuc 0)) ∙ marked-is gone i zombie gone-at in
+        ap (λ (b : Bool). settle begun i (provided b (Done s 0 []))) self-within
+        ∙ ap (λ (x : State). after (end_if_killed x i (process_at x i)) []) self-answered
+        ∙ ap (λ (o : Option unix.Process). after (end_if_killed (with_table rest answered_table (memories k.spaces)) i o) [])
+        (process-with rest answered_table (memories k.spaces) i (with_mark q) (slot-put k.table.places i (Some (with_mark q)) (within-run k i p h r)))
+        ∙ ap (λ (x : State). after x []) gone-ends
+        ∙ sym (ap (λ (x : Kernel). quiet (state_of x)) same)
+
+-- ---- the row
+
+named-some : (os : List (Option Process)) (o : Option ℕ) (j : ℕ) → named os o ≡ Some j → (q : Process) × (slot os j ≡ Some q)
+named-some os None j found = absurd (cc)
+named-some os (Some zero) j found = absurd (cc)
+named-some os (Some (suc n)) j found = let f = place_where-Some (has_pid (suc n)) os j found in (f.0, f.1.0)
+
+-- a pid that is not 0 is looked for
+pub named-is : (os : List (Option Process)) (n : ℕ) → n ≢ 0 → named os (Some n) ≡ place_where os (has_pid n)
+named-is os zero some = absurd (some refl)
+named-is os (suc n) some = refl
+
+module _ (k : Kernel) (i : ℕ) (p : Process) (h : Held) (r : IsRun k i p h) (is : IsKernel k) where
+  pid-run : (pid : ℕ) → place_of_pid (state_of k) pid ≡ place_where k.table.places (has_pid pid)
+  pid-run pid =
+      let q = on_hart k.spaces p in
+      ap (λ (s : State). place_of_pid s pid) (state-run k i p h r)
+      ∙ place_of_pid-with_table (base k.ticks k.spaces.frames k.halted true) (with_process k.table i q) (memories k.spaces) pid
+      ∙ where-put (has_pid pid) k.table.places i p q r.process refl
+
+  abbrev kills : Option ℕ → Outcome
+  kills o = given o (λ j. answers (change_process (state_of k) j rows.marked) 0)
+
+  kill-named : (o : Option ℕ) → given o (λ pid. provided (nat_le 1 pid) (kills (place_of_pid (state_of k) pid))) ≡ kills (named k.table.places o)
+  kill-named None = refl
+  kill-named (Some zero) = refl
+  kill-named (Some (suc n)) =
+      let some : nat_le 1 (suc n) ≡ true = le-leb _ _ (omega arith) in
+      rw some (ap kills (pid-run (suc n)))
+
+module _ (k : Kernel) (i : ℕ) (p : Process) (h : Held) (r : IsRun k i p h) (is : IsKernel k) (number : call_of (low (slice_index k.spaces.registers 17)) ≡ Some Kill) where
+  kill-run : (o : Option ℕ) → named k.table.places (natural (int_of (argument k 0))) ≡ o → called (state_of k) i ≡ settle (state_of (entered k)) i (limited (given o (λ j. answers (change_process (state_of (entered k)) j rows.marked) 0)))
+  unfolding kill_row
+  kill-run o found =
+      numbered k i p h r is (Some Kill) number
+      ∙ ap (λ (x : Outcome). settle (state_of (entered k)) i (limited x)) (kill-named (entered k) i p h (enters-run k i p h r is) (enters-kernel k i p h r is) (natural (int_of (argument k 0))))
+      ∙ ap (λ (o : Option ℕ). settle (state_of (entered k)) i (limited (given o (λ j. answers (change_process (state_of (entered k)) j rows.marked) 0)))) found
+
+  pub rows-kill-none : named k.table.places (natural (int_of (argument k 0))) ≡ None → called (state_of k) i ≡ quiet (state_of (answered (entered k) minus_one))
+  rows-kill-none none = kill-run None none ∙ refuses k i p h r is
+
+  pub rows-kill : (j : ℕ) → named k.table.places (natural (int_of (argument k 0))) ≡ Some j → j ≢ i → called (state_of k) i ≡ quiet (state_of (marked (answered (entered k) 0) j))
+  rows-kill j found apart =
+      let f = named-some k.table.places (natural (int_of (argument k 0))) j found in
+      kill-run (Some j) found ∙ mark-settles (entered k) i p h (enters-run k i p h r is) (enters-kernel k i p h r is) j f.0 f.1 apart (state_of (entered k))
+
+  pub rows-kill-self : slice_index k.spaces.registers 0 ≡ 0 → k.spaces.pc % 4 ≡ 0 → named k.table.places (natural (int_of (argument k 0))) ≡ Some i
+      → called (state_of k) i ≡ quiet (state_of (marked (ended (answered (entered k) 0) i (negsuc 0)) i))
+  rows-kill-self z a found =
+      kill-run (Some i) found ∙ self-settles (entered k) i p h (enters-run k i p h r is) (enters-kernel k i p h r is) z (aligned-next k.spaces.pc a) (state_of (entered k))
+
+-- ---- the row, where e is the kernel after the pc moved
+
+module _ (k e : Kernel) (i : ℕ) (same : e ≡ entered k) (is : IsKernel k) (active : k.spaces.active ≡ Some i) (number : call_of (low (slice_index k.spaces.registers 17)) ≡ Some Kill) (a : ℕ) (is-a : a ≡ argument e 0) where
+  found-entered : (o : Option ℕ) → o ≡ named e.table.places (natural (int_of a)) → named k.table.places (natural (int_of (argument k 0))) ≡ o
+  found-entered o found =
+      ap (λ (x : Kernel). named x.table.places (natural (int_of (argument x 0)))) (sym same)
+      ∙ ap (λ (n : ℕ). named e.table.places (natural (int_of n))) (sym is-a)
+      ∙ sym found
+
+  pub kills-none : (o : Option ℕ) → o ≡ named e.table.places (natural (int_of a)) → o ≡ None → called (state_of k) i ≡ quiet (state_of (answered e minus_one))
+  kills-none o found none =
+      let run = run-of k i is active in
+      rows-kill-none k i run.0 run.1.0 run.1.1 is number (found-entered o found ∙ none)
+      ∙ ap (λ (x : Kernel). quiet (state_of (answered x minus_one))) (sym same)
+
+  pub kills-other : (o : Option ℕ) (j : ℕ) → o ≡ named e.table.places (natural (int_of a)) → o ≡ Some j → j ≢ i → called (state_of k) i ≡ quiet (state_of (marked (answered e 0) j))
+  kills-other o j found some apart =
+      let run = run-of k i is active in
+      rows-kill k i run.0 run.1.0 run.1.1 is number j (found-entered o found ∙ some) apart
+      ∙ ap (λ (x : Kernel). quiet (state_of (marked (answered x 0) j))) (sym same)
+
+  pub kills-self : (o : Option ℕ) (j : ℕ) → o ≡ named e.table.places (natural (int_of a)) → o ≡ Some j → j ≡ i → slice_index k.spaces.registers 0 ≡ 0 → k.spaces.pc % 4 ≡ 0
+      → called (state_of k) i ≡ quiet (state_of (marked (ended (answered e 0) i (negsuc 0)) j))
+  kills-self o j found some here z aligned =
+      let run = run-of k i is active in
+      rows-kill-self k i run.0 run.1.0 run.1.1 is number z aligned (found-entered o found ∙ some ∙ ap Some here)
+      ∙ ap (λ (x : Kernel). quiet (state_of (marked (ended (answered x 0) i (negsuc 0)) i))) (sym same)
+      ∙ ap (λ (n : ℕ). quiet (state_of (marked (ended (answered e 0) i (negsuc 0)) n))) (sym here)

@@ -1,0 +1,17 @@
+pub mod Reaped
+pub mod Runs
+pub mod Settles
+pub mod Changes
+pub mod Rows
+pub mod Steps
+pub mod Forks
+pub mod Starts
+pub mod Turned
+pub mod Readies
+pub mod Shown
+pub mod Goes
+pub mod Takes
+pub mod Sbrk
+pub mod Writes
+pub mod Collects
+pub mod Kills

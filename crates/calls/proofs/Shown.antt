@@ -1,0 +1,140 @@
+-- What a kernel shows of its processes, in the words of its state.
+use Rattle.std.proofs.Common.{◌≡◌, ◌≢◌, inl, inr, ℕ, zero, suc, ◌+◌, ◌<◌, Bool, true, false, nat_eq, List, [], ◌∷◌, length, Option, Some, None, refl, ap, sym, ◌∙◌, arith}
+use Rattle.std.specs.Prelude.{IfSome, cond, is_some, not, option_and_then, option_map, position, slice_get, slice_index_or, slice_set, unwrap_or}
+use Rattle.std.specs.Option.{option_eq}
+use Rattle.std.specs.List.{list_any, prefix_len}
+use Rattle.std.proofs.lemmas.Bool.{eqb-true}
+use Rattle.std.proofs.lemmas.List.{length-set}
+use Rattle.calls.proofs.Reaped.{frames-with, match-loaded}
+use Rattle.calls.proofs.Runs.{eq-self, memory-at, same_or_not, slot-other, slot-put, slot-within}
+use Rattle.calls.specs.Kernel.{Kernel, base, lives, loaded, memories, memory_in, on_hart, state_of}
+use Rattle.calls.specs.Shows.{bare}
+use Rattle.calls.specs.Sound.{IsKernel, IsPlace}
+use Rattle.proc.specs.declared.process.Process.{Process}
+use Rattle.proc.specs.Places.{Places, changed_at, has_pid, place_where}
+use Rattle.proc.specs.Whole.{place_of_pid-with_table, place_where-Some, slot-joined, with_memory}
+use Rattle.spaces.specs.Spaces.{Held, Spaces, has_space, held_at, no_pages, taken_frames}
+use Rattle.unixmodel.specs.Counts.{frames_of}
+use Rattle.unixmodel.specs.Files.{slot}
+use Rattle.unixmodel.specs.Memory.{Memory}
+use Rattle.unixmodel.specs.Process as unix
+use Rattle.unixmodel.specs.Shown.{ShowsMemory, shown_page, shown_process}
+use Rattle.unixmodel.specs.State.{holds, place_of_pid, process_at}
+
+-- ---- a search
+
+module _ (test : Option Process → Bool) where
+  prefix_len-set : (os : List (Option Process)) (i : ℕ) (o : Option Process) → test o ≡ test (slot os i) → prefix_len (λ q. not (test q)) (slice_set os i o) ≡ prefix_len (λ q. not (test q)) os
+  prefix_len-set [] i o same = refl
+  prefix_len-set (q ∷ os) zero o same = rw same refl
+  prefix_len-set (q ∷ os) (suc i) o same = ap (λ n. cond (not (test q)) (1 + n) 0) (prefix_len-set os i o same)
+
+  position-set : (os : List (Option Process)) (i : ℕ) (o : Option Process) → test o ≡ test (slot os i) → position test (slice_set os i o) ≡ position test os
+  position-set os i o same = rw (prefix_len-set os i o same, length-set os i o) refl
+
+pid-on : (s : Spaces) (pid : ℕ) (o : Option Process) → holds (has_pid pid) (option_map (on_hart s) o) ≡ holds (has_pid pid) o
+pid-on s pid None = refl
+pid-on s pid (Some p) = refl
+
+place-changed : (t : Places) (s : Spaces) (pid : ℕ) (o : Option ℕ) → place_where (changed_at t (on_hart s) o).places (has_pid pid) ≡ place_where t.places (has_pid pid)
+place-changed t s pid None = refl
+place-changed t s pid (Some i) = position-set (holds (has_pid pid)) t.places i (option_map (on_hart s) (slot t.places i)) (pid-on s pid (slot t.places i))
+
+-- ---- the process with a pid
+
+module _ (k : Kernel) where
+  pub place-state : (pid : ℕ) → place_of_pid (state_of k) pid ≡ place_where k.table.places (has_pid pid)
+  place-state pid =
+      place_of_pid-with_table (base k.ticks k.spaces.frames k.halted (list_any (holds lives) (loaded k).places)) (loaded k) (memories k.spaces) pid
+      ∙ place-changed k.table k.spaces pid k.spaces.active
+
+  pub process-state : (i : ℕ) → process_at (state_of k) i ≡ option_map (with_memory (memory_in (slot k.spaces.places i))) (slot (loaded k).places i)
+  process-state i = slot-joined (loaded k).places (memories k.spaces) i ∙ ap (λ (m : Memory). option_map (with_memory m) (slot (loaded k).places i)) (memory-at k.spaces i)
+
+  shown-go : (pid : ℕ) (o : Option ℕ) → place_where k.table.places (has_pid pid) ≡ o → shown_process (state_of k) pid ≡ option_and_then (process_at (state_of k)) o
+  shown-go pid o found = ap (option_and_then (process_at (state_of k))) (place-state pid ∙ found)
+
+  pub shown-none : (pid : ℕ) → place_where k.table.places (has_pid pid) ≡ None → shown_process (state_of k) pid ≡ None
+  shown-none pid found = shown-go pid None found
+
+  pub shown-at : (pid i : ℕ) → place_where k.table.places (has_pid pid) ≡ Some i → shown_process (state_of k) pid ≡ option_map (with_memory (memory_in (slot k.spaces.places i))) (slot (loaded k).places i)
+  shown-at pid i found = shown-go pid (Some i) found ∙ process-state i
+
+bare-with : (m : Memory) (o : Option Process) → option_map bare (option_map (with_memory m) o) ≡ o
+bare-with m None = refl
+bare-with m (Some p) = refl
+
+-- ---- whether it runs
+
+pub is-active : (o : Option ℕ) (i : ℕ) → option_eq nat_eq o (Some i) ≡ true → o ≡ Some i
+is-active None i same = absurd (cc)
+is-active (Some j) i same = ap Some (eqb-true j i same)
+
+pub is-other : (o : Option ℕ) (i : ℕ) → option_eq nat_eq o (Some i) ≡ false → o ≢ Some i
+is-other o i other same = let here : option_eq nat_eq o (Some i) ≡ true = rw same (eq-self i) in cc
+
+-- the running process, with what the hart holds of it
+pub shown-running : (k : Kernel) (pid i : ℕ) → IsKernel k → place_where k.table.places (has_pid pid) ≡ Some i → i < 64 → k.spaces.active ≡ Some i
+    → option_map bare (shown_process (state_of k) pid) ≡ option_map (on_hart k.spaces) (slot k.table.places i)
+shown-running k pid i is found low active =
+    let here : slot (loaded k).places i ≡ option_map (on_hart k.spaces) (slot k.table.places i) =
+    rw active (slot-put k.table.places i (option_map (on_hart k.spaces) (slot k.table.places i)) (omega (arith, is.all, low))) in
+    ap (option_map bare) (shown-at k pid i found) ∙ bare-with (memory_in (slot k.spaces.places i)) (slot (loaded k).places i) ∙ here
+
+other-slot : (k : Kernel) (i : ℕ) (o : Option ℕ) → o ≢ Some i → slot (changed_at k.table (on_hart k.spaces) o).places i ≡ slot k.table.places i
+other-slot k i None other = refl
+other-slot k i (Some j) other = slot-other k.table.places j i (option_map (on_hart k.spaces) (slot k.table.places j)) (λ same. other (ap Some (sym same)))
+
+-- another process, as the table has it
+pub shown-resting : (k : Kernel) (pid i : ℕ) → place_where k.table.places (has_pid pid) ≡ Some i → k.spaces.active ≢ Some i
+    → option_map bare (shown_process (state_of k) pid) ≡ slot k.table.places i
+shown-resting k pid i found other =
+    ap (option_map bare) (shown-at k pid i found) ∙ bare-with (memory_in (slot k.spaces.places i)) (slot (loaded k).places i) ∙ other-slot k i k.spaces.active other
+
+-- ---- its memory
+
+loaded-some : (k : Kernel) (i : ℕ) (p : Process) (o : Option ℕ) → slot k.table.places i ≡ Some p → (q : Process) × (slot (changed_at k.table (on_hart k.spaces) o).places i ≡ Some q)
+loaded-some k i p None is = (p, is)
+loaded-some k i p (Some j) is = elim (same_or_not i j) [
+  | inl same ↦ (on_hart k.spaces p, rw (← same, slot-put k.table.places i (option_map (on_hart k.spaces) (slot k.table.places i)) (slot-within k.table.places i p is), is) refl)
+  | inr other ↦ (p, slot-other k.table.places j i (option_map (on_hart k.spaces) (slot k.table.places j)) other ∙ is)
+]
+
+memory-held : (o : Option Held) → memory_in o ≡ (unwrap_or o no_pages).memory
+memory-held None = refl
+memory-held (Some h) = refl
+
+seat-space : (o : Option Process) (q : Option Held) (p : Process) → o ≡ Some p → IsPlace o q → is_some q ≡ true
+seat-space None q p e is = absurd (cc)
+seat-space (Some r) None p e is = absurd is
+seat-space (Some r) (Some h) p e is = refl
+
+module _ (k : Kernel) (pid i : ℕ) (found : place_where k.table.places (has_pid pid) ≡ Some i) where
+  -- the place that is found has a space
+  pub found-space : IsKernel k → has_space k.spaces i ≡ true
+  found-space is =
+      let p = place_where-Some (has_pid pid) k.table.places i found in
+      seat-space (slot k.table.places i) (slot k.spaces.places i) p.0 p.1.0 (is.stands i)
+
+  pub shown-some : (q : Process) × (shown_process (state_of k) pid ≡ Some (with_memory (held_at k.spaces i).memory q))
+  shown-some =
+      let p = place_where-Some (has_pid pid) k.table.places i found in
+      let q = loaded-some k i p.0 k.spaces.active p.1.0 in (
+        q.0,
+        shown-at k pid i found ∙ ap (option_map (with_memory (memory_in (slot k.spaces.places i)))) q.1
+            ∙ ap (λ (m : Memory). Some (with_memory m q.0)) (memory-held (slot k.spaces.places i)),
+      )
+
+  pub page-shown : (n : ℕ) → shown_page (state_of k) pid n ≡ slice_get (held_at k.spaces i).memory n
+  page-shown n = ap (option_and_then (λ (p : unix.Process). slice_get p.memory n)) shown-some.1
+
+  pub tables-shown : (ram : List (List ℕ)) (root : ℕ) → ShowsMemory ram root (held_at k.spaces i).memory → IfSome (shown_process (state_of k) pid) (λ p. ShowsMemory ram root p.memory)
+  tables-shown ram root shows = rw shown-some.1 shows
+
+  pub some-shown : is_some (shown_process (state_of k) pid) ≡ true
+  some-shown = ap is_some shown-some.1
+
+-- ---- frames
+
+pub frames-state : (k : Kernel) → IsKernel k → frames_of (state_of k) ≡ taken_frames k.spaces
+frames-state k is = frames-with (loaded k) k.spaces k.ticks k.halted (list_any (holds lives) (loaded k).places) (match-loaded k is)

@@ -1,0 +1,167 @@
+-- A step: the running process does an instruction, or a turn where none runs.
+use Rattle.std.proofs.Common.{◌≡◌, ℕ, ◌%◌, Bool, true, false, List, [], ◌∷◌, Option, Some, None, Ok, Err, ℤ, negsuc, refl, ap, subst, sym, ◌∙◌}
+use Rattle.std.specs.Io.KnownBytes.{Appends}
+use Rattle.std.specs.Prelude.{cond, find, if◌then◌else◌, slice_index}
+use Rattle.std.proofs.lemmas.List.{append-nil}
+use Rattle.calls.specs.declared.halt.Halt.{Halt}
+use Rattle.calls.specs.declared.halt.Halt.TheVariants.{Console, Device, Halted, InitEnded}
+use Rattle.calls.specs.Does.{Dispatches, Does, IsMade, halt_of}
+use Rattle.calls.specs.Kernel.{Kernel, computed, ended, lives, picked, started, state_of}
+use Rattle.calls.specs.Says.{called, is_ready, is_ready_in, is_ready_process}
+use Rattle.calls.specs.Sound.{CanRun, IsKernel, IsLive, IsMode}
+use Rattle.calls.specs.Told.{CanEnd, resumed, resumed_by, resumed_in, taken, taken_by}
+use Rattle.calls.proofs.Goes.{IsThere, process-idle, there-of}
+use Rattle.calls.proofs.Readies.{ready-same}
+use Rattle.calls.proofs.Rows.{executes-call, executes-fault}
+use Rattle.calls.proofs.Runs.{run-of}
+use Rattle.calls.proofs.Starts.{picked-state, picks-killed, picks-ready}
+use Rattle.calls.proofs.Steps.{computed-state, held-run}
+use Rattle.proc.specs.declared.process.Process.{Process}
+use Rattle.proc.specs.Whole.{with_memory}
+use Rattle.spaces.specs.Spaces.{Held, held_at}
+use Rattle.unixmodel.specs.Calls.{After, quiet}
+use Rattle.unixmodel.specs.Cycle.{cycle}
+use Rattle.unixmodel.specs.declared.process.Mode.{Mode}
+use Rattle.unixmodel.specs.declared.process.Mode.TheVariants.{Ready, Running, Waiting, Zombie}
+use Rattle.unixmodel.specs.declared.process.Pending.{Pending}
+use Rattle.unixmodel.specs.declared.trap.Trap.{Trap}
+use Rattle.unixmodel.specs.Files.{slot}
+use Rattle.unixmodel.specs.Meaning.{Computed}
+use Rattle.unixmodel.specs.Memory.{Memory}
+use Rattle.unixmodel.specs.Next as next
+use Rattle.unixmodel.specs.Next.{execute_at, is_ecall, pick, take_turn}
+use Rattle.unixmodel.specs.Outcome.{end_process}
+use Rattle.unixmodel.specs.State.{State, process_at}
+use Rattle.unixmodel.specs.Turn as turn
+use Rattle.unixmodel.specs.Turn.{round_from}
+
+-- ---- what is told
+
+pub Appends-none : (a : Option (List ℕ)) → Appends a a []
+Appends-none None = tt
+Appends-none (Some xs) = sym (append-nil xs)
+
+-- nothing is printed
+pub made-quiet : (new : Kernel) (a : After) (at : Option (List ℕ)) → a ≡ quiet (state_of new) → IsMade new a at at
+made-quiet new a at made = rw made (record { state = refl; printed = Appends-none at })
+
+-- what is made tells how the machine halts
+pub does-made : (new : Kernel) (a : After) (before after : Option (List ℕ)) (rising : Type 0) (o : Option ℤ) → new.halted ≡ o → IsMade new a before after → Does new a before after rising (halt_of o)
+does-made new a before after rising None halts made = record { state = made.state; halts = ap (λ (s : State). s.halted) (sym made.state) ∙ halts; printed = made.printed }
+does-made new a before after rising (Some status) halts made = record { state = made.state; halts = ap (λ (s : State). s.halted) (sym made.state) ∙ halts; printed = made.printed }
+
+fails-err : (new : Kernel) (a : After) (before after : Option (List ℕ)) (rising : Type 0) (e : Halt) → Dispatches {X = Unit {0}} new a before after rising (Err e) → Does new a before after rising (Err e)
+fails-err new a before after rising (InitEnded status) made = absurd made
+fails-err new a before after rising Device made = absurd made
+fails-err new a before after rising Console made = made
+fails-err new a before after rising Halted made = absurd made
+
+-- the console failed
+pub does-err : (new : Kernel) (a b : After) (before after : Option (List ℕ)) (rising : Type 0) (e : Halt) → a ≡ b → Dispatches {X = Unit {0}} new b before after rising (Err e) → Does new a before after rising (Err e)
+does-err new a b before after rising e same made = subst (λ (x : After). Does new x before after rising (Err e)) (sym same) (fails-err new b before after rising e made)
+
+-- ---- the running process
+
+module _ (k : Kernel) (i : ℕ) (is : IsKernel k) (active : k.spaces.active ≡ Some i) where
+  pub step-computes : (d : Computed) → cycle k.spaces.registers k.spaces.pc (held_at k.spaces i).memory ≡ Ok d → execute_at (state_of k) i (process_at (state_of k) i) ≡ quiet (state_of (computed k i d))
+  step-computes d effect =
+      let run = run-of k i is active in
+      let r = run.1.1 in
+      computed-state k i run.0 run.1.0 r is d (rw (held-run k i run.0 run.1.0 r is) at effect)
+
+  pub step-calls : slice_index k.spaces.registers 0 ≡ 0 → k.spaces.pc % 4 ≡ 0 → (t : Trap) → cycle k.spaces.registers k.spaces.pc (held_at k.spaces i).memory ≡ Err t → is_ecall t.cause ≡ true → execute_at (state_of k) i (process_at (state_of k) i) ≡ called (state_of k) i
+  step-calls z a t effect ecall =
+      let run = run-of k i is active in
+      let r = run.1.1 in
+      executes-call k i run.0 run.1.0 r is z a t (rw (held-run k i run.0 run.1.0 r is) at effect) ecall
+
+  pub step-faults : slice_index k.spaces.registers 0 ≡ 0 → k.spaces.pc % 4 ≡ 0 → (t : Trap) → cycle k.spaces.registers k.spaces.pc (held_at k.spaces i).memory ≡ Err t → is_ecall t.cause ≡ false
+      → execute_at (state_of k) i (process_at (state_of k) i) ≡ quiet (state_of (ended k i (negsuc 0)))
+  step-faults z a t effect fault =
+      let run = run-of k i is active in
+      let r = run.1.1 in
+      executes-fault k i run.0 run.1.0 r is z a t (rw (held-run k i run.0 run.1.0 r is) at effect) fault
+
+-- ---- a picked process
+
+-- one that is ready lives
+ready-mode : (ticks : ℕ) (places : List (Option Process)) (p : Process) (mode : Mode) → p.mode ≡ mode → is_ready_in ticks places p mode ≡ true → lives p ≡ true
+ready-mode ticks places p Running e ready = rw e refl
+ready-mode ticks places p Ready e ready = rw e refl
+ready-mode ticks places p (Waiting w) e ready = rw e refl
+ready-mode ticks places p (Zombie status) e ready = absurd (cc)
+
+pub ready-lives : (ticks : ℕ) (places : List (Option Process)) (i : ℕ) (p : Process) → slot places i ≡ Some p → is_ready ticks places i ≡ true → lives p ≡ true
+ready-lives ticks places i p at ready = ready-mode ticks places p p.mode refl (sym (ap (is_ready_process ticks places) at) ∙ ready)
+
+ready-go : (ticks : ℕ) (places : List (Option Process)) (o : Option Process) → is_ready_process ticks places o ≡ true → (p : Process) × (o ≡ Some p)
+ready-go ticks places None ready = absurd (cc)
+ready-go ticks places (Some p) ready = (p, refl)
+
+live-mode : (p : Process) (m : Memory) (mode : Mode) → mode ≡ Ready → IsMode p m mode → IsLive p
+live-mode p m mode e is = rw e at is
+
+module _ (k : Kernel) (i : ℕ) (p : Process) (is : IsKernel k) (none : k.spaces.active ≡ None) (at : slot k.table.places i ≡ Some p) where
+  taken-is : (alive : lives p ≡ true) → (h : Held) × (IsThere k i p h × (taken (state_of k) i ≡ next.picked (state_of k) i (with_memory h.memory p)))
+  taken-is alive =
+      let t = there-of k i p is at in
+      (t.0, (t.1, ap (taken_by (state_of k) i) (process-idle k i p t.0 is none t.1 alive)))
+
+  pub takes-killed : slice_index k.spaces.registers 0 ≡ 0 → k.spaces.pc % 4 ≡ 0 → is_ready k.ticks k.table.places i ≡ true → p.killed ≡ true → taken (state_of k) i ≡ quiet (state_of (ended k i (negsuc 0)))
+  takes-killed z a ready killed =
+      let alive = ready-lives k.ticks k.table.places i p at ready in
+      let t = taken-is alive in
+      t.1.1 ∙ picks-killed k i p t.0 is none at t.1.0.space alive z a killed
+
+  pub takes-ready : p.killed ≡ false → p.mode ≡ Ready → taken (state_of k) i ≡ quiet (state_of (started k i))
+  takes-ready free ready =
+      let alive : lives p ≡ true = rw ready refl in
+      let t = taken-is alive in
+      t.1.1 ∙ picks-ready k i p t.0 is none at t.1.0.space alive (live-mode p t.0.memory p.mode ready t.1.0.placed.mode) free ready
+
+  pub takes-waiting : (w : Pending) → p.killed ≡ false → p.mode ≡ Waiting w → taken (state_of k) i ≡ resumed (state_of k) i
+  takes-waiting w free waits =
+      let alive : lives p ≡ true = rw waits refl in
+      let t = taken-is alive in
+      let whole = with_memory t.0.memory p in
+      t.1.1
+      ∙ ap (λ (b : Bool). if b then quiet (end_process (state_of k) i whole (negsuc 0)) else next.picked_in (state_of k) i whole whole.mode) free
+      ∙ ap (next.picked_in (state_of k) i whole) waits
+      ∙ sym (ap (resumed_in (state_of k) i whole) waits)
+      ∙ sym (ap (resumed_by (state_of k) i) (process-idle k i p t.0 is none t.1.0 alive))
+
+  pub can-end : is_ready k.ticks k.table.places i ≡ true → CanEnd k i
+  can-end ready = let alive = ready-lives k.ticks k.table.places i p at ready in rw (none, at) alive
+
+  pub can-run : p.killed ≡ false → p.mode ≡ Ready → CanRun (slot k.table.places i)
+  can-run free ready =
+      let t = there-of k i p is at in
+      rw at (live-mode p t.0.memory p.mode ready t.1.placed.mode, rw ready refl, free)
+
+-- ---- a turn
+
+-- what a search finds passes
+find-true : (f : ℕ → Bool) (xs : List ℕ) (i : ℕ) → find f xs ≡ Some i → f i ≡ true
+find-true f [] i is = absurd (cc)
+find-true f (x ∷ xs) i is =
+    (elim (f x) as (λ b. f x ≡ b → cond b (Some x) (find f xs) ≡ Some i → f i ≡ true) [
+      | true ↦ λ passes found. let same : x ≡ i = cc in subst (λ (y : ℕ). f y ≡ true) same passes
+      | false ↦ λ fails found. find-true f xs i found
+    ]) refl is
+
+module _ (k : Kernel) (i : ℕ) (is : IsKernel k) (none : k.spaces.active ≡ None) (found : turn.turn (state_of k) ≡ Some i) where
+  -- the place whose turn it is is ready
+  pub turn-ready : is_ready k.ticks k.table.places i ≡ true
+  unfolding turn.turn
+  turn-ready = sym (ready-same k none is i) ∙ find-true (turn.ready (state_of k)) (round_from (state_of k).last) i found
+
+  -- it is taken
+  pub turn-takes : take_turn (state_of k) (turn.turn (state_of k)) ≡ taken (state_of (picked k i)) i
+  turn-takes =
+      let some = ready-go k.ticks k.table.places (slot k.table.places i) turn-ready in
+      let t = there-of k i some.0 is some.1 in
+      let at = process-idle k i some.0 t.0 is none t.1 (ready-lives k.ticks k.table.places i some.0 some.1 turn-ready) in
+      ap (take_turn (state_of k)) found
+      ∙ ap (pick (state_of k) i) at
+      ∙ sym (ap (taken_by (record (state_of k) { last = i }) i) at)
+      ∙ sym (ap (λ (s : State). taken s i) (picked-state k i none))

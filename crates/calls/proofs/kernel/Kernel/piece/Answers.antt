@@ -1,0 +1,14 @@
+use Rattle.std.proofs.Common.{◌<◌, length}
+use Rattle.calls.specs.View.{kernel_of}
+use Rattle.calls.proofs.kernel.Kernel.piece.Goals as goal
+use Rattle.spaces.specs.Spaces.{held_at}
+use Rattle.unixmodel.specs.declared.trap.Access.TheVariants.{Load}
+use Rattle.vm.specs.Reach.{piece_at}
+use Rattle.vm.specs.ReachLemmas.{piece-some}
+
+pub returns-else-piece-most-clause-some : goal.returns-else-piece-most-clause-some
+returns-else-piece-most-clause-some g c =
+    let k = kernel_of c.self.inside in
+    let some : 0 < length (piece_at Load (held_at k.spaces c.args.at).memory c.args.address) =
+    piece-some Load (held_at k.spaces c.args.at).memory c.args.address c.pages-pages.ensures.sized (rw (← c.self.view_is) at c.requires.readable) in
+    rw c.readable-piece.ensures some

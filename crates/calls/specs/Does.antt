@@ -1,0 +1,40 @@
+-- What a step of the kernel comes to.
+use Rattle.console.specs.Output.{AppendsBeginning}
+use Rattle.calls.specs.declared.halt.Halt.{Halt}
+use Rattle.calls.specs.declared.halt.Halt.TheVariants.{Console, Device, Halted, InitEnded}
+use Rattle.calls.specs.Kernel.{Kernel, state_of}
+use Rattle.std.specs.Io.KnownBytes.{Appends}
+use Rattle.std.specs.Prelude.{Err, List, None, Ok, Option, Result, Some, ℕ, ℤ, ◌≡◌}
+use Rattle.unixmodel.specs.Calls.{After}
+
+-- the kernel's state is the one that is made, it halts so, and its bytes were printed
+pub record Makes (new : Kernel) (a : After) (before after : Option (List ℕ)) (halted : Option ℤ) : Type 0 where
+  pub state : state_of new ≡ a.state
+  pub halts : a.state.halted ≡ halted
+  pub printed : Appends before after a.bytes
+
+-- the state is the one that is made, and its bytes were printed
+pub record IsMade (new : Kernel) (a : After) (before after : Option (List ℕ)) : Type 0 where
+  pub state : state_of new ≡ a.state
+  pub printed : Appends before after a.bytes
+
+-- what a call that makes `a` is answered with; rising: the console's count of failures rose
+abbrev pub Dispatches : {X : Type 0} → Kernel → After → Option (List ℕ) → Option (List ℕ) → Type 0 → Result X Halt → Type 0
+Dispatches new a before after rising (Ok x) = IsMade new a before after
+Dispatches new a before after rising (Err (InitEnded status)) = ⊥
+Dispatches new a before after rising (Err Console) = rising × AppendsBeginning before after a.bytes
+Dispatches new a before after rising (Err Device) = ⊥
+Dispatches new a before after rising (Err Halted) = ⊥
+
+-- the answer where the state halts so
+abbrev pub halt_of : Option ℤ → Result (Unit {0}) Halt
+halt_of None = Ok tt
+halt_of (Some status) = Err (InitEnded status)
+
+-- what a step that makes `a` is answered with; rising: the console's count of failures rose
+abbrev pub Does : Kernel → After → Option (List ℕ) → Option (List ℕ) → Type 0 → Result (Unit {0}) Halt → Type 0
+Does new a before after rising (Ok u) = Makes new a before after None
+Does new a before after rising (Err (InitEnded status)) = Makes new a before after (Some status)
+Does new a before after rising (Err Console) = rising × AppendsBeginning before after a.bytes
+Does new a before after rising (Err Device) = ⊥
+Does new a before after rising (Err Halted) = ⊥

@@ -1,0 +1,208 @@
+-- A kernel of many processes, as plain values, and the state of the abstract Unix that it stands for.
+-- The descriptors 0, 1 and 2 of each process that has not ended are one open file on the console.
+use Rattle.std.specs.Prelude.{Bool, List, None, Option, Some, [], false, if◌then◌else◌, map, not, pos, slice_index, slice_set, true, ℕ, ℤ, ◌%◌, ◌+ℤ◌, ◌+◌, ◌==◌, ◌^◌}
+use Rattle.std.specs.List.{list_any}
+use Rattle.std.specs.Int.{cast_unsigned, w32}
+use Rattle.proc.specs.declared.process.Process.{Process}
+use Rattle.proc.specs.declared.table.Seat.{Seat}
+use Rattle.proc.specs.Places.{Places, changed, changed_at, exited, seated, with_mode, without}
+use Rattle.proc.specs.Whole.{with_table}
+use Rattle.spaces.specs.Spaces as spaces
+use Rattle.spaces.specs.Spaces.{Held, Spaces, held_at, with_held, with_place}
+use Rattle.unixmodel.specs.declared.process.Mode.{Mode}
+use Rattle.unixmodel.specs.declared.process.Mode.TheVariants.{Ready, Running, Waiting}
+use Rattle.unixmodel.specs.declared.process.Pending.{Pending}
+use Rattle.unixmodel.specs.Files.{free_slots, slot}
+use Rattle.unixmodel.specs.Meaning.{Computed}
+use Rattle.unixmodel.specs.Memory.{Memory}
+use Rattle.unixmodel.specs.Numbers.{ceil_div, le, natural, plus}
+use Rattle.unixmodel.specs.OpenFiles.{OpenFile}
+use Rattle.unixmodel.specs.Process.{is_zombie_mode}
+use Rattle.unixmodel.specs.ProcessCalls.{with_pages}
+use Rattle.unixmodel.specs.Start.{flat_files, flat_opens}
+use Rattle.unixmodel.specs.State.{State, holds, open_limit}
+
+pub record Kernel : Type 0 where
+  pub table : Places
+  pub spaces : Spaces
+  -- modulo 2^32
+  pub ticks : ℕ
+  -- the status of process 1, once it has ended
+  pub halted : Option ℤ
+
+-- ---- the state
+
+-- a process with what the hart holds of it
+abbrev pub on_hart : Spaces → Process → Process
+on_hart s p = record p { registers = s.registers; pc = s.pc }
+
+-- the table in which the process of the active place has what the hart holds
+abbrev pub loaded : Kernel → Places
+loaded k = changed_at k.table (on_hart k.spaces) k.spaces.active
+
+abbrev pub memory_in : Option Held → Memory
+memory_in None = []
+memory_in (Some h) = h.memory
+
+abbrev pub memories : Spaces → List Memory
+memories s = map memory_in s.places
+
+-- a process that has not ended: its descriptors name the open file
+abbrev pub lives : Process → Bool
+lives p = not (is_zombie_mode p.mode)
+
+abbrev pub opens_for : Bool → List (Option OpenFile)
+opens_for true = flat_opens
+opens_for false = free_slots open_limit
+
+-- the state but for the table
+abbrev pub base : ℕ → ℕ → Option ℤ → Bool → State
+base ticks frames halted some = record {
+  places = [];
+  files = flat_files;
+  opens = opens_for some;
+  pipes = free_slots open_limit;
+  console = record { committed = []; edited = [] };
+  ticks = ticks;
+  next_pid = 0;
+  last = 0;
+  frame_limit = frames;
+  block_limit = 27;
+  halted = halted;
+}
+
+-- the state with these places and memories
+abbrev pub state_with : Places → List Memory → ℕ → ℕ → Option ℤ → State
+state_with t memories ticks frames halted = with_table (base ticks frames halted (list_any (holds lives) t.places)) t memories
+
+abbrev pub state_of : Kernel → State
+state_of k = state_with (loaded k) (memories k.spaces) k.ticks k.spaces.frames k.halted
+
+-- ---- what calls do to the running process, in place i
+
+-- argument n of a call
+abbrev pub argument : Kernel → ℕ → ℕ
+argument k n = slice_index k.spaces.registers (10 + n)
+
+-- the pc goes on by 4 as a call begins
+abbrev pub entered : Kernel → Kernel
+entered k = record k { spaces = record k.spaces { pc = plus k.spaces.pc 4 } }
+
+-- an answer stands in a0
+abbrev pub answered : Kernel → ℕ → Kernel
+answered k value = record k { spaces = record k.spaces { registers = slice_set k.spaces.registers 10 value } }
+
+-- after an instruction
+abbrev pub computed : Kernel → ℕ → Computed → Kernel
+computed k i d = record k { spaces = spaces.computed k.spaces i d }
+
+abbrev pub with_size : ℕ → Process → Process
+with_size size p = record p { size = size }
+
+-- a space with another size
+abbrev pub sized : Held → ℕ → Held
+sized h size = record { memory = with_pages h.memory (ceil_div size 4096); size = size }
+
+-- process i with another size
+abbrev pub resized : Kernel → ℕ → ℕ → Kernel
+resized k i size = record k {
+  table = changed k.table i (with_size size);
+  spaces = with_held k.spaces i (sized (held_at k.spaces i) size);
+}
+
+-- the size that is asked for, if it is not below 0
+abbrev pub asked : Kernel → ℕ → ℤ → Option ℕ
+asked k i delta = natural (pos (held_at k.spaces i).size +ℤ delta)
+
+-- ---- which process runs
+
+abbrev pub idle : Spaces → Spaces
+idle s = record s { active = None }
+
+-- process i, which ran, runs no more
+abbrev pub left_as : Kernel → ℕ → Mode → Kernel
+left_as k i mode = record k {
+  table = changed k.table i (λ p. with_mode mode (on_hart k.spaces p));
+  spaces = idle k.spaces;
+}
+
+abbrev pub blocked : Kernel → ℕ → Pending → Kernel
+blocked k i w = left_as k i (Waiting w)
+
+abbrev pub stopped_at : Kernel → Option ℕ → Kernel
+stopped_at k None = k
+stopped_at k (Some i) = left_as k i Ready
+
+-- a timer interrupt
+abbrev pub ticked : Kernel → Kernel
+ticked k = record (stopped_at k k.spaces.active) { ticks = (k.ticks + 1) % 2 ^ 32 }
+
+abbrev pub with_last : Places → ℕ → Places
+with_last t i = record t { last = i }
+
+abbrev pub started_as : Kernel → ℕ → Option Process → Kernel
+started_as k i None = k
+started_as k i (Some p) = record k {
+  table = changed k.table i (with_mode Running);
+  spaces = record k.spaces { active = Some i; registers = p.registers; pc = p.pc };
+}
+
+-- process i, where none runs, runs
+abbrev pub started : Kernel → ℕ → Kernel
+started k i = started_as k i (slot k.table.places i)
+
+-- place i is the one that was picked last
+abbrev pub picked : Kernel → ℕ → Kernel
+picked k i = record k { table = with_last k.table i }
+
+-- ---- the end of a process
+
+abbrev pub halted_by : Option Process → ℤ → Option ℤ → Option ℤ
+halted_by None status halted = halted
+halted_by (Some p) status halted = if p.pid == 1 then Some status else halted
+
+-- process i, which ran, or where none runs, has ended
+abbrev pub ended : Kernel → ℕ → ℤ → Kernel
+ended k i status = record k {
+  table = exited (loaded k) i status;
+  spaces = idle k.spaces;
+  halted = halted_by (slot k.table.places i) status k.halted;
+}
+
+-- ---- fork
+
+abbrev pub child_of : Process → Process
+child_of p = record p { parent = p.pid; registers = slice_set p.registers 10 0; killed = false; mode = Ready }
+
+abbrev pub forked_as : Kernel → ℕ → Seat → Option Process → Kernel
+forked_as k i seat None = k
+forked_as k i seat (Some p) = record k {
+  table = seated k.table (child_of (on_hart k.spaces p)) seat;
+  spaces = with_held k.spaces seat.place (held_at k.spaces i);
+}
+
+-- process i, which runs, has a child at a seat
+abbrev pub forked : Kernel → ℕ → Seat → Kernel
+forked k i seat = forked_as k i seat (slot k.table.places i)
+
+-- ---- wait
+
+abbrev pub with_status : Held → ℕ → ℤ → Held
+with_status h address status =
+    if address == 0 then h else spaces.written h address (le 4 (cast_unsigned w32 status))
+
+-- the zombie in place j is waited for by process i, and its place is free
+abbrev pub collected : Kernel → ℕ → ℕ → ℕ → ℤ → Kernel
+collected k i address j status = record k {
+  table = without k.table (Some j);
+  spaces = with_place (with_held k.spaces i (with_status (held_at k.spaces i) address status)) j None;
+}
+
+-- ---- kill
+
+abbrev pub with_mark : Process → Process
+with_mark p = record p { killed = true }
+
+-- process j is marked
+abbrev pub marked : Kernel → ℕ → Kernel
+marked k j = record k { table = changed k.table j with_mark }

@@ -1,0 +1,507 @@
+//! The kernel's own steps: each touches the table, the spaces and the ticks, and keeps them together.
+ghost use Rattle.std.specs.Prelude.{◌≡◌, ◌≢◌, ◌+◌, ◌-◌, ◌<◌, ◌≤◌, ◌%◌, ◌^◌, ℕ, length, Some, None, true, false, is_some, nat_le, IfSome, IfNone, slice_index, unwrap_or, []};
+ghost use Rattle.std.specs.Bool.{OnTrue, OnFalse};
+ghost use Rattle.std.specs.Prelude.{if◌then◌else◌, ◌==◌, option_map, OnOk, OnErr, Ok, Err};
+ghost use Rattle.std.specs.Io.KnownBytes.{Appends};
+ghost use Rattle.std.specs.Option.{option_copied};
+ghost use Rattle.calls.specs.Kernel.{answered, argument, asked, blocked, computed, ended, entered, left_as, loaded, marked, on_hart, picked, resized, started, state_of, ticked, with_size, with_status};
+ghost use Rattle.calls.specs.Says.{Collects, Forks, IsFront, IsOver, has_slept, pending_for};
+ghost use Rattle.calls.specs.Sound.{CanRun, IsKernel, IsPending, can_answer};
+ghost use Rattle.calls.specs.Told.{CanEnd};
+ghost use Rattle.console.specs.Output.{AppendsBeginning};
+ghost use Rattle.proc.specs.Places.{changed, has_pid, is_child_of, place_where};
+ghost use Rattle.spaces.specs.Spaces.{has_space, held_at, taken_frames, with_held};
+ghost use Rattle.unixmodel.specs.Cycle.{cycle};
+ghost use Rattle.unixmodel.specs.Failures.{Rises};
+ghost use Rattle.unixmodel.specs.Files.{slot};
+ghost use Rattle.unixmodel.specs.Meaning.{Computed};
+ghost use Rattle.unixmodel.specs.Memory.{reach, read_bytes};
+ghost use Rattle.unixmodel.specs.declared.trap.Access.TheVariants.{Load};
+ghost use Rattle.vm.specs.Reach.{piece_at};
+ghost use Rattle.unixmodel.specs.Numbers.{low, natural, int_of};
+ghost use Rattle.unixmodel.specs.Turn.{turn};
+ghost use Rattle.unixmodel.specs.declared.process.Mode.TheVariants.{Ready};
+
+mod show;
+
+use crate::ready::is_ready;
+use console::{Out, OutFault};
+use proc::{Process, Table};
+use spaces::Spaces;
+use std::marker::Model;
+use sv39::Translate;
+use unixmodel::call::Call;
+use unixmodel::process::{Mode, Pending};
+use unixmodel::trap::Trap;
+use vm::Perm;
+
+/// The marks of the pages that sbrk adds.
+const HEAP: Perm = Perm {
+    writable: true,
+    executable: false,
+    user: true,
+};
+
+/// The processes of a machine, their spaces, and the hart that runs one of them.
+#[derive(Drop)]
+pub struct Kernel<T: Translate + Drop> {
+    table: Table,
+    spaces: Spaces<T>,
+    ticks: u32,
+    halted: Option<i32>,
+}
+
+impl<T: Translate + Drop> Model for Kernel<T> {
+    ghost use Rattle.calls.specs.Kernel.{Kernel};
+
+    ghost Value = { Kernel };
+
+    ghost use Rattle.calls.specs.View.{IsInside, kernel_of};
+
+    ghost view = { kernel_of };
+
+    ghost invariant = { IsInside };
+}
+
+// Whether the machine halts, once the process with this pid has ended.
+fn halted_after(pid: u32, status: i32, halted: Option<i32>) -> Option<i32>
+    ensures { result ≡ (if pid == 1 then Some status else halted) }
+{
+    if pid == 1 { Some(status) } else { halted }
+}
+
+// The process in a place has another size.
+fn set_size(table: &mut Table, at: usize, size: u64)
+    ensures { table.new ≡ changed table.old at (with_size size) }
+{
+    if let Some(process) = table.process(at) {
+        let process = Process { size, ..*process };
+        table.put(at, process);
+    }
+}
+
+// Writes the status of a child at an address of a place, unless that is 0.
+fn write_status<T: Translate + Drop>(spaces: &mut Spaces<T>, at: usize, address: u64, status: i32)
+    requires space { has_space spaces.old at ≡ true }
+    requires can { can_answer (held_at spaces.old at).memory address ≡ true }
+    ensures { spaces.new ≡ with_held spaces.old at (with_status (held_at spaces.old at) address status) }
+{
+    if address != 0 {
+        let _written = spaces.write(at, address, &status.to_le_bytes());
+    }
+}
+
+impl<T: Translate + Drop> Kernel<T> {
+    /// A kernel over processes and their spaces.
+    pub fn new(table: Table, spaces: Spaces<T>) -> Kernel<T>
+        requires { IsKernel (record { table = table; spaces = spaces; ticks = 0; halted = None }) }
+        ensures { result ≡ record { table = table; spaces = spaces; ticks = 0; halted = None } }
+    {
+        Kernel {
+            table,
+            spaces,
+            ticks: 0,
+            halted: None,
+        }
+    }
+
+    /// The place of the running process.
+    pub fn active(&self) -> Option<usize>
+        ensures active { result ≡ self.now.spaces.active }
+        ensures sound { IsKernel self.now }
+        ensures zero { slice_index self.now.spaces.registers 0 ≡ 0 }
+        ensures aligned { self.now.spaces.pc % 4 ≡ 0 }
+    {
+        let _registers = self.spaces.registers();
+        let _pc = self.spaces.pc();
+        self.spaces.active()
+    }
+
+    /// The status of process 1, once it has ended.
+    pub fn halted(&self) -> Option<i32>
+        ensures { result ≡ self.now.halted }
+    {
+        self.halted
+    }
+
+    /// The ticks so far, modulo 2^32.
+    pub fn ticks(&self) -> u32
+        ensures { result ≡ self.now.ticks }
+    {
+        self.ticks
+    }
+
+    /// The process in a place. Of the running one the hart holds the registers and the pc.
+    pub fn process(&self, at: usize) -> Option<&Process>
+        ensures { option_copied result ≡ slot self.now.table.places at }
+    {
+        self.table.process(at)
+    }
+
+    /// Argument `n` of a call: the registers a0 to a5.
+    pub(crate) fn argument(&self, n: usize) -> u64
+        requires { n < 6 }
+        ensures { result ≡ argument self.now n }
+    {
+        self.spaces.registers()[10 + n]
+    }
+
+    /// The pid of the process in a place.
+    pub(crate) fn pid(&self, at: usize) -> u32
+        ensures { IfSome (slot self.now.table.places at) (λ p. result ≡ p.pid) }
+    {
+        match self.table.process(at) {
+            Some(process) => process.pid,
+            None => 0,
+        }
+    }
+
+    /// The number of the call that the process makes: the low 32 bits of a7.
+    pub(crate) fn number(&self) -> u32
+        ensures { result ≡ low (slice_index self.now.spaces.registers 17) }
+    {
+        (self.spaces.registers()[17] % 0x1_0000_0000) as u32
+    }
+
+    /// Begins a call: the pc goes on by 4.
+    pub(crate) fn enter(&mut self)
+        ensures entered { self.new ≡ entered self.old }
+        ensures sound { IsKernel self.old }
+    {
+        let pc = self.spaces.pc();
+        self.spaces.set_pc(pc.wrapping_add(4));
+    }
+
+    /// Puts the answer of a call into a0.
+    pub(crate) fn answer(&mut self, value: u64)
+        ensures { self.new ≡ answered self.old value }
+    {
+        self.spaces.set_register(10, value);
+    }
+
+    /// Does the instruction at the pc of the running process, or says why it isn't done.
+    pub(crate) fn execute(&mut self, at: usize) -> Option<Trap>
+        requires { self.old.spaces.active ≡ Some at }
+        ensures done { IfNone result ((d : Computed) × (cycle self.old.spaces.registers self.old.spaces.pc (held_at self.old.spaces at).memory ≡ Ok d) × (self.new ≡ computed self.old at d)) }
+        ensures trap { IfSome result (λ t. (cycle self.old.spaces.registers self.old.spaces.pc (held_at self.old.spaces at).memory ≡ Err t) × (self.new ≡ self.old)) }
+        ensures sound { IsKernel self.old }
+        ensures kept { IsKernel self.new }
+    {
+        let trap = self.spaces.execute();
+        let _free = self.spaces.free();
+        trap
+    }
+
+    /// The call that the process in place `at` makes, as it begins to wait.
+    pub(crate) fn pending(&self, number: Call) -> Pending
+        ensures { result ≡ pending_for self.now number }
+    {
+        Pending {
+            number,
+            args: [self.argument(0), self.argument(1), self.argument(2)],
+            done: 0,
+            since: self.ticks,
+        }
+    }
+
+    // The process in a place with what the hart holds.
+    fn on_hart(&self, at: usize) -> Option<Process>
+        ensures process { result ≡ option_map (on_hart self.now.spaces) (slot self.now.table.places at) }
+        ensures within { IfSome result (λ _. at < 64) }
+        ensures zero { slice_index self.now.spaces.registers 0 ≡ 0 }
+        ensures aligned { self.now.spaces.pc % 4 ≡ 0 }
+        ensures sound { IsKernel self.now }
+    {
+        let registers = *self.spaces.registers();
+        let pc = self.spaces.pc();
+        let process = self.table.process(at)?;
+        Some(Process {
+            registers,
+            pc,
+            ..*process
+        })
+    }
+
+    // The running process becomes ready.
+    fn stop(&mut self, at: usize)
+        requires { self.old.spaces.active ≡ Some at }
+        ensures { self.new ≡ left_as self.old at Ready }
+    {
+        let _sound = self.active();
+        if let Some(process) = self.on_hart(at) {
+            self.table.put(
+                at,
+                Process {
+                    mode: Mode::Ready,
+                    ..process
+                },
+            );
+            self.spaces.deactivate();
+        }
+    }
+
+    /// The running process waits.
+    pub(crate) fn block(&mut self, at: usize, pending: Pending)
+        requires running { self.old.spaces.active ≡ Some at }
+        requires pending { IsPending (held_at self.old.spaces at).memory pending pending.number }
+        ensures { self.new ≡ blocked self.old at pending }
+    {
+        let _sound = self.active();
+        if let Some(process) = self.on_hart(at) {
+            self.table.put(
+                at,
+                Process {
+                    mode: Mode::Waiting(pending),
+                    ..process
+                },
+            );
+            self.spaces.deactivate();
+        }
+    }
+
+    // The process in a place, of the running one with what the hart holds.
+    fn whole(&self, at: usize) -> Option<Process>
+        ensures process { result ≡ slot (loaded self.now).places at }
+        ensures within { IfSome result (λ _. at < 64) }
+    {
+        if self.spaces.active() == Some(at) {
+            self.on_hart(at)
+        } else {
+            self.table.process(at).copied()
+        }
+    }
+
+    /// The running process ends with this status, or a process where none runs.
+    pub(crate) fn finish(&mut self, at: usize, status: i32)
+        requires { CanEnd self.old at }
+        ensures { self.new ≡ ended self.old at status }
+    {
+        let _sound = self.active();
+        if let Some(process) = self.whole(at) {
+            let halted = halted_after(process.pid, status, self.halted);
+            self.table.put(at, process);
+            self.table.exit(at, status);
+            self.spaces.deactivate();
+            self.halted = halted;
+        }
+    }
+
+    /// The running process has a child, which is ready and whose pid is the answer. `None`: no place or no pid is left, or
+    /// the frames don't suffice; then nothing changed.
+    pub(crate) fn fork(&mut self, at: usize) -> Option<u32>
+        requires { self.old.spaces.active ≡ Some at }
+        ensures { Forks self.old at self.new result }
+    {
+        let _sound = self.active();
+        let process = self.on_hart(at)?;
+        let Ok(seat) = self.table.next_seat() else {
+            return None;
+        };
+        if !self.spaces.copy(at, seat.place) {
+            return None;
+        }
+        let mut registers = process.registers;
+        registers[10] = 0;
+        let _seat = self.table.alloc(Process {
+            parent: process.pid,
+            registers,
+            killed: false,
+            mode: Mode::Ready,
+            ..process
+        });
+        Some(seat.pid)
+    }
+
+    /// Waits for the first zombie child of the running process: its status is written at the address, unless that is 0,
+    /// its place is free, and its pid is the answer. `None`: there is no zombie child; then nothing changed.
+    pub(crate) fn collect(&mut self, at: usize, address: u64) -> Option<u32>
+        requires running { self.old.spaces.active ≡ Some at }
+        requires can { can_answer (held_at self.old.spaces at).memory address ≡ true }
+        ensures { Collects self.old at address self.new result }
+    {
+        let _sound = self.active();
+        let parent = self.pid(at);
+        let reaped = self.table.reap(parent)?;
+        write_status(&mut self.spaces, at, address, reaped.status);
+        self.spaces.destroy(reaped.place);
+        Some(reaped.pid)
+    }
+
+    /// Picks the process whose turn it is; `None`: none is ready.
+    pub fn turn(&mut self) -> Option<usize>
+        requires { self.old.spaces.active ≡ None }
+        ensures turn { result ≡ turn (state_of self.old) }
+        ensures picked { IfSome result (λ i. self.new ≡ picked self.old i) }
+        ensures none { IfNone result (self.new ≡ self.old) }
+    {
+        let _sound = self.active();
+        let ticks = self.ticks;
+        self.table.pick(|places, at| is_ready(ticks, places, at))
+    }
+
+    /// A process runs, where none did.
+    pub(crate) fn start(&mut self, at: usize)
+        requires idle { self.old.spaces.active ≡ None }
+        requires can { CanRun (slot self.old.table.places at) }
+        ensures { self.new ≡ started self.old at }
+    {
+        if let Some(process) = self.table.process(at) {
+            self.spaces.activate(at, &process.registers, process.pc);
+            self.table.run(at);
+        }
+    }
+
+    /// The place of the process with a pid.
+    pub fn find(&self, pid: u32) -> Option<usize>
+        ensures place { result ≡ place_where self.now.table.places (has_pid pid) }
+        ensures within { IfSome result (λ i. i < 64) }
+    {
+        self.table.find(pid)
+    }
+
+    /// Whether a process has a child.
+    pub(crate) fn has_child(&self, pid: u32) -> bool
+        ensures { result ≡ is_some (place_where self.now.table.places (is_child_of pid)) }
+    {
+        self.table.has_child(pid)
+    }
+
+    /// Whether a status can be written at an address of the running process; at address 0 none is.
+    pub(crate) fn can_answer(&self, at: usize, address: u64) -> bool
+        requires { self.now.spaces.active ≡ Some at }
+        ensures { result ≡ can_answer (held_at self.now.spaces at).memory address }
+    {
+        let _sound = self.active();
+        address == 0 || self.spaces.can_write(at, address, 4)
+    }
+
+    /// Whether the running process may read so many bytes.
+    pub(crate) fn can_read(&self, at: usize, address: u64, count: u64) -> bool
+        requires { self.now.spaces.active ≡ Some at }
+        ensures { result ≡ is_some (read_bytes (held_at self.now.spaces at).memory address count) }
+    {
+        self.spaces.can_read(at, address, count)
+    }
+
+    /// The size of the running process in bytes.
+    pub(crate) fn size(&self, at: usize) -> u64
+        requires { self.now.spaces.active ≡ Some at }
+        ensures { result ≡ (held_at self.now.spaces at).size }
+    {
+        self.spaces.size(at)
+    }
+
+    // Adds pages of zeros that the process reads and writes. `false`: the frames don't suffice.
+    fn grow(&mut self, at: usize, bytes: u64) -> bool
+        requires { self.old.spaces.active ≡ Some at }
+        ensures done { OnTrue result (self.new ≡ resized self.old at ((held_at self.old.spaces at).size + bytes)) }
+        ensures refused { OnFalse result ((self.new ≡ self.old) × (self.old.spaces.frames < taken_frames (resized self.old at ((held_at self.old.spaces at).size + bytes)).spaces)) }
+    {
+        let _pages = self.spaces.pages(at);
+        if !self.spaces.grow(at, bytes, HEAP) {
+            return false;
+        }
+        let size = self.spaces.size(at);
+        set_size(&mut self.table, at, size);
+        true
+    }
+
+    // Takes pages away.
+    fn shrink(&mut self, at: usize, bytes: u64)
+        requires running { self.old.spaces.active ≡ Some at }
+        requires less { bytes ≤ (held_at self.old.spaces at).size }
+        ensures { self.new ≡ resized self.old at ((held_at self.old.spaces at).size - bytes) }
+    {
+        let _pages = self.spaces.pages(at);
+        self.spaces.shrink(at, bytes);
+        let size = self.spaces.size(at);
+        let _free = self.spaces.free();
+        set_size(&mut self.table, at, size);
+    }
+
+    /// Changes the size of the running process by so many bytes. `false`: that would leave a size below 0, or the frames
+    /// don't suffice; then nothing changed. A new page is 0 throughout, and a page that stays keeps its bytes.
+    pub(crate) fn resize(&mut self, at: usize, delta: i32) -> bool
+        requires { self.old.spaces.active ≡ Some at }
+        ensures done { OnTrue result ((size : ℕ) × (asked self.old at delta ≡ Some size) × (self.new ≡ resized self.old at size)) }
+        ensures refused { OnFalse result ((self.new ≡ self.old) × IsOver self.old at (asked self.old at delta)) }
+    {
+        let bytes = u64::from(delta.unsigned_abs());
+        if delta >= 0 {
+            return self.grow(at, bytes);
+        }
+        if bytes > self.size(at) {
+            return false;
+        }
+        self.shrink(at, bytes);
+        true
+    }
+
+    // The next bytes to put out: at most so many, and at least one.
+    fn piece(&self, at: usize, address: u64, most: u64) -> &[u8]
+        requires running { self.now.spaces.active ≡ Some at }
+        requires readable { 0 < length (reach Load (held_at self.now.spaces at).memory address) }
+        requires most { 0 < most }
+        ensures some { 0 < length result.now }
+        ensures most { length result.now ≤ most }
+        ensures piece { IsFront result.now (piece_at Load (held_at self.now.spaces at).memory address) }
+    {
+        let _pages = self.spaces.pages(at);
+        let piece = self.spaces.readable(at, address);
+        if piece.len() as u64 > most {
+            &piece[..most as usize]
+        } else {
+            piece
+        }
+    }
+
+    /// Puts out so many bytes of the running process, a page at a time.
+    pub(crate) fn print<W: Out>(
+        &self,
+        at: usize,
+        address: u64,
+        count: u64,
+        out: &mut W,
+    ) -> Result<(), OutFault>
+        requires running { self.now.spaces.active ≡ Some at }
+        requires readable { is_some (read_bytes (held_at self.now.spaces at).memory address count) ≡ true }
+        ensures ok { OnOk result (Appends (W.contents out.old) (W.contents out.new) (unwrap_or (read_bytes (held_at self.now.spaces at).memory address count) [])) }
+        ensures err { OnErr result (AppendsBeginning (W.contents out.old) (W.contents out.new) (unwrap_or (read_bytes (held_at self.now.spaces at).memory address count) [])) }
+        ensures later { W.failures out.old ≤ W.failures out.new }
+        ensures cause { OnErr result (Rises (W.failures out.old) (W.failures out.new)) }
+    {
+        let _pages = self.spaces.pages(at);
+        let mut done = 0;
+        while done < count {
+            let piece = self.piece(at, address + done, count - done);
+            out.put(piece)?;
+            done += piece.len() as u64;
+        }
+        Ok(())
+    }
+
+    /// Marks the process in a place, which doesn't run.
+    pub(crate) fn mark(&mut self, at: usize)
+        requires { self.old.spaces.active ≢ Some at }
+        ensures { self.new ≡ marked self.old at }
+    {
+        if let Some(process) = self.table.process(at) {
+            let process = Process {
+                killed: true,
+                ..*process
+            };
+            self.table.put(at, process);
+        }
+    }
+
+    /// A timer interrupt: the running process becomes ready.
+    pub(crate) fn interrupt(&mut self)
+        ensures ticked { self.new ≡ ticked self.old }
+        ensures sound { IsKernel self.old }
+    {
+        if let Some(at) = self.active() {
+            self.stop(at);
+        }
+        self.ticks = self.ticks.wrapping_add(1);
+    }
+}

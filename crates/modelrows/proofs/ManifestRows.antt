@@ -1,0 +1,122 @@
+-- Small manifests: what they make, and what is wrong with others.
+use Rattle.std.specs.Prelude.{Err, List, None, Ok, Option, Result, Some, [], codes, length, map, refl, replicate, ℕ, ◌++◌, ◌+◌, ◌∷◌, ◌≡◌}
+use Rattle.std.specs.List.{range_with_len}
+use Rattle.modelrows.proofs.Opened.{all_opened}
+use Rattle.unixmodel.specs.Counts.{blocks_of}
+use Rattle.unixmodel.specs.Files.{Files, find, links_of, slot, taken}
+use Rattle.unixmodel.specs.Manifest.{ManifestEntry, Wrong, data_blocks_of, files_made}
+use Rattle.unixmodel.specs.Manifest.Thing.{Bytes, Folder, Special}
+use Rattle.unixmodel.specs.Manifest.Wrong.{Blocks, Inodes, Name, Numbers, Parent, Twice}
+use Rattle.unixmodel.specs.Memory.{zeros}
+use Rattle.unixmodel.specs.Start.{flat_files}
+
+abbrev pub dir : List ℕ → ManifestEntry
+dir path = record { path = path; thing = Folder }
+
+abbrev pub file : List ℕ → ℕ → ManifestEntry
+file path n = record { path = path; thing = Bytes (zeros n) }
+
+abbrev pub counts : Files → ℕ × ℕ
+counts files = (length (taken files), blocks_of files)
+
+-- how many inodes and blocks are in use, or what is wrong
+abbrev pub counted : Result Files Wrong → Result (ℕ × ℕ) Wrong
+counted (Ok files) = Ok (counts files)
+counted (Err w) = Err w
+
+abbrev pub small : List ManifestEntry → Result (ℕ × ℕ) Wrong
+small entries = counted (files_made entries 32 16)
+
+-- ---- the numbers of an image
+
+empty : small [] ≡ Ok (1, 1)
+unfolding all_opened
+empty = refl
+
+default_blocks : data_blocks_of 2000 200 ≡ 1984
+default_blocks = refl
+
+most_inodes : counted (files_made [] 32 447) ≡ Ok (1, 1)
+unfolding all_opened
+most_inodes = refl
+
+too_many_inodes : counted (files_made [] 32 448) ≡ Err Numbers
+unfolding all_opened
+too_many_inodes = refl
+
+odd_numbers : map (λ (g : ℕ × ℕ). counted (files_made [] g.0 g.1)) ((31, 16) ∷ (16385, 16) ∷ (32, 15) ∷ (16384, 8193) ∷ [])
+    ≡ replicate 4 (Err Numbers)
+unfolding all_opened
+odd_numbers = refl
+
+-- ---- blocks: the thirteenth of a file takes two
+
+one_file : map (λ n. small (file (codes "/a") n ∷ [])) (0 ∷ 12288 ∷ 12289 ∷ 25600 ∷ 25601 ∷ [])
+    ≡ Ok (2, 1) ∷ Ok (2, 13) ∷ Ok (2, 15) ∷ Ok (2, 27) ∷ Err Blocks ∷ []
+unfolding all_opened
+one_file = refl
+
+-- ---- names
+
+abbrev pub letters : ℕ → List ManifestEntry
+letters n = map (λ k. dir (0x2f ∷ (0x61 + k) ∷ [])) (range_with_len 0 n)
+
+fourteen : small (letters 14) ≡ Ok (15, 15)
+unfolding all_opened
+fourteen = refl
+
+fifteen : small (letters 15) ≡ Err Inodes
+unfolding all_opened
+fifteen = refl
+
+bad_names : map (λ path. small (dir path ∷ []))
+    (codes "a" ∷ codes "/" ∷ codes "/a/" ∷ codes "//a" ∷ codes "/." ∷ codes "/.." ∷ codes "/abcdefghijklmno" ∷ (0x2f ∷ 0 ∷ []) ∷ [] ∷ [])
+    ≡ replicate 9 (Err Name)
+unfolding all_opened
+bad_names = refl
+
+longest_name : small (dir (codes "/abcdefghijklmn") ∷ []) ≡ Ok (2, 2)
+unfolding all_opened
+longest_name = refl
+
+no_parent : small (dir (codes "/a/b") ∷ []) ≡ Err Parent
+unfolding all_opened
+no_parent = refl
+
+parent_is_a_file : small (file (codes "/a") 1 ∷ dir (codes "/a/b") ∷ []) ≡ Err Parent
+unfolding all_opened
+parent_is_a_file = refl
+
+twice : small (dir (codes "/a") ∷ file (codes "/a") 0 ∷ []) ≡ Err Twice
+unfolding all_opened
+twice = refl
+
+-- the parent is told before the name that is there already, and that before the numbers that are left
+order : (small (dir (codes "/a") ∷ dir (codes "/b/a") ∷ dir (codes "/a") ∷ []) ∷ small (letters 14 ++ dir (codes "/a") ∷ []) ∷ []) ≡ Err Parent ∷ Err Twice ∷ []
+unfolding all_opened
+order = refl
+
+-- ---- the files
+
+console : files_made (record { path = codes "/console"; thing = Special 1 0 } ∷ []) 32 16 ≡ Ok flat_files
+unfolding all_opened
+console = refl
+
+abbrev pub node_of : Result Files Wrong → ℕ → Option (Option ℕ)
+node_of (Err w) n = None
+node_of (Ok files) n = Some (elim (slot files n) [ None ↦ None | Some node ↦ Some (links_of node) ])
+
+abbrev pub tree : Result Files Wrong
+tree = files_made (dir (codes "/a") ∷ dir (codes "/a/b") ∷ file (codes "/a/b/c") 5 ∷ []) 32 16
+
+tree_links : map (node_of tree) (range_with_len 0 6) ≡ Some None ∷ Some (Some 2) ∷ Some (Some 2) ∷ Some (Some 1) ∷ Some (Some 1) ∷ Some None ∷ []
+unfolding all_opened
+tree_links = refl
+
+abbrev pub found : Result Files Wrong → List ℕ → Option ℕ
+found (Err w) path = None
+found (Ok files) path = find files 1 path
+
+tree_names : map (found tree) (codes "/a" ∷ codes "/a/b" ∷ codes "/a/b/c" ∷ codes "/a/b/.." ∷ codes "/b" ∷ []) ≡ Some 2 ∷ Some 3 ∷ Some 4 ∷ Some 2 ∷ None ∷ []
+unfolding all_opened
+tree_names = refl
