@@ -27,7 +27,7 @@ STEPS = 1_000_000_000
 TURNS = 3
 
 # The steps between two timer interrupts, and how many such times, where there is a timer.
-TICK, TICKS = 100, 500_000
+TICK, TICKS = 100, 100_000
 
 # The name of a program, its frames, its bytes, and whether a timer ticks.
 CASES = [
