@@ -5,7 +5,7 @@ use Rattle.std.specs.Prelude.{if◌then◌else◌, option_map, slice_index, slic
 use Rattle.std.proofs.lemmas.Bool.{ne_eqb}
 use Rattle.std.proofs.lemmas.List.{length-map, length-set, set-get_or}
 use Rattle.std.proofs.Math.ListN as listn
-use Rattle.calls.specs.Kernel.{Kernel, base, ended, halted_by, idle, left_as, lives, loaded, memories, memory_in, on_hart, state_of}
+use Rattle.calls.specs.Kernel.{Kernel, base, ended, halted_by, idle, left_as, lives, loaded, memories, memory_in, on_hart, rest_of, state_of}
 use Rattle.calls.specs.Sound.{IsKernel, IsMode, IsPlace, IsPlaced, is_at}
 use Rattle.calls.proofs.Reaped.{match-loaded, reap-state_last}
 use Rattle.calls.proofs.Runs.{IsRun, lives-some, memory-at, put-with, runs-set, same_or_not, set-twice, slot-other, slot-put, slot-within, state-run, with_process, within-run}
@@ -104,14 +104,14 @@ module _ (k : Kernel) (i : ℕ) (p : Process) (h : Held) (r : IsRun k i p h) (is
 
     pub left-state : lives q ≡ true → state_of (left_to k i q) ≡ put_process (state_of k) i (with_memory h.memory q)
     left-state alive =
-        let rest = base k.ticks k.spaces.frames k.halted true in
+        let rest = base (rest_of k) true in
         let old = with_process k.table i (on_hart k.spaces p) in
         let twice : put k.table.places i q ≡ put (put k.table.places i (on_hart k.spaces p)) i q = sym (set-twice k.table.places i (Some (on_hart k.spaces p)) (Some q)) in
         let at : slice_index_or (memories k.spaces) i [] ≡ h.memory = memory-at k.spaces i ∙ ap memory_in r.space in
         let same : memories k.spaces ≡ slice_set (memories k.spaces) i h.memory = sym (ap (λ m. slice_set (memories k.spaces) i m) (sym at) ∙ set-get_or (memories k.spaces) i []) in
         let short : i < length (memories k.spaces) = rw (length-map k.spaces.places memory_in) (slot-within k.spaces.places i h r.space) in
         let some : list_any (holds lives) (put k.table.places i q) ≡ true = lives-some (put k.table.places i q) i q (slot-put k.table.places i (Some q) (within-run k i p h r)) alive in
-        ap (λ (b : Bool). with_table (base k.ticks k.spaces.frames k.halted b) (with_process k.table i q) (memories k.spaces)) some
+        ap (λ (b : Bool). with_table (base (rest_of k) b) (with_process k.table i q) (memories k.spaces)) some
         ∙ ap (λ (places : List (Option Process)). with_table rest (record k.table { places = places }) (memories k.spaces)) twice
         ∙ ap (λ (ms : List Memory). with_table rest (with_process old i q) ms) same
         ∙ sym (put-with rest old (memories k.spaces) i q h.memory short)
@@ -191,8 +191,8 @@ module _ (k : Kernel) (is : IsKernel k) (z : slice_index k.spaces.registers 0 �
   ended-state alive =
       let some : list_any (holds lives) (loaded k).places ≡ true = lives-some (loaded k).places i q there alive in
       let at : h.memory ≡ slice_index_or (memories k.spaces) i [] = sym (memory-at k.spaces i ∙ ap memory_in space) in
-      let rest = base k.ticks k.spaces.frames k.halted true in
-      ap (λ (b : Bool). reap (ends.with_zombie (with_table (base k.ticks k.spaces.frames k.halted b) (loaded k) (memories k.spaces)) i (with_memory h.memory q) status)) some
+      let rest = base (rest_of k) true in
+      ap (λ (b : Bool). reap (ends.with_zombie (with_table (base (rest_of k) b) (loaded k) (memories k.spaces)) i (with_memory h.memory q) status)) some
       ∙ ap (λ (m : Memory). reap (ends.with_zombie (with_table rest (loaded k) (memories k.spaces)) i (with_memory m q) status)) at
       ∙ ap reap (with_zombie-with_table rest (loaded k) (memories k.spaces) i q status)
-      ∙ reap-state_last ended_to.table k.spaces.places (memories k.spaces) k.ticks k.spaces.frames ended_to.halted (match-loaded ended_to ended-kernel)
+      ∙ reap-state_last ended_to.table k.spaces.places (memories k.spaces) (rest_of ended_to) (match-loaded ended_to ended-kernel)

@@ -5,7 +5,7 @@ use Rattle.std.specs.Prelude.{cond, is_some, not, option_map, slice_index, slice
 use Rattle.std.specs.Int.{cast_unsigned, w32}
 use Rattle.std.proofs.lemmas.Bool.{ne_eqb}
 use Rattle.std.proofs.lemmas.List.{length-append, length-set, map-set, take-append-drop}
-use Rattle.calls.specs.Kernel.{Kernel, answered, argument, base, blocked, collected, entered, memories, memory_in, on_hart, state_of, with_status}
+use Rattle.calls.specs.Kernel.{Kernel, answered, argument, base, blocked, collected, entered, memories, memory_in, on_hart, rest_of, state_of, with_status}
 use Rattle.calls.specs.Says.{Collects, CollectsFor, called, gone_on, gone_on_by, pending_for}
 use Rattle.calls.specs.Sound.{IsKernel, IsPending, IsPlaced, can_answer, is_at}
 use Rattle.calls.proofs.Changes.{other-at}
@@ -103,7 +103,7 @@ module _ (k : Kernel) (i : ℕ) (p : Process) (h : Held) (r : IsRun k i p h) (is
   pub cleared-state : state_of (cleared k j) ≡ record (state_of k) { places = clear (state_of k).places j }
   cleared-state =
       let q = on_hart k.spaces p in
-      let rest = base k.ticks k.spaces.frames k.halted true in
+      let rest = base (rest_of k) true in
       let old = with_process k.table i q in
       let swap : put (clear k.table.places j) i q ≡ clear (put k.table.places i q) j = set-swap k.table.places j i None (Some q) apart in
       let shown : memories (cleared k j).spaces ≡ slice_set (memories k.spaces) j [] = map-set memory_in k.spaces.places j None in
@@ -199,14 +199,14 @@ module _ (k : Kernel) (i : ℕ) (p : Process) (h : Held) (r : IsRun k i p h) (is
   zombie-run =
       let q = on_hart k.spaces p in
       ap (λ (s : State). zombie_child s p.pid) (state-run k i p h r)
-      ∙ zombie_child-with_table (base k.ticks k.spaces.frames k.halted true) (with_process k.table i q) (memories k.spaces) p.pid
+      ∙ zombie_child-with_table (base (rest_of k) true) (with_process k.table i q) (memories k.spaces) p.pid
       ∙ where-put (is_zombie_child_of p.pid) k.table.places i p q r.process refl
 
   child-run : has_child (state_of k) p.pid ≡ is_some (place_where k.table.places (is_child_of p.pid))
   child-run =
       let q = on_hart k.spaces p in
       ap (λ (s : State). has_child s p.pid) (state-run k i p h r)
-      ∙ has_child-with_table (base k.ticks k.spaces.frames k.halted true) (with_process k.table i q) (memories k.spaces) p.pid
+      ∙ has_child-with_table (base (rest_of k) true) (with_process k.table i q) (memories k.spaces) p.pid
       ∙ ap is_some (where-put (is_child_of p.pid) k.table.places i p q r.process refl)
 
   -- a zombie doesn't run
@@ -232,7 +232,7 @@ module _ (k : Kernel) (i : ℕ) (p : Process) (h : Held) (r : IsRun k i p h) (is
       child-at =
           let q = on_hart k.spaces p in
           ap (λ (s : State). process_at s j) (state-run k i p h r)
-          ∙ process-with (base k.ticks k.spaces.frames k.halted true) (with_process k.table i q) (memories k.spaces) j child (slot-other k.table.places i j (Some q) (zombie-apart j found) ∙ at)
+          ∙ process-with (base (rest_of k) true) (with_process k.table i q) (memories k.spaces) j child (slot-other k.table.places i j (Some q) (zombie-apart j found) ∙ at)
 
       wait-some : wait_on (state_of k) i (self k p h) w ≡ Done (state_of new) child.pid []
       unfolding wait_on

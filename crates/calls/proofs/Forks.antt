@@ -4,7 +4,7 @@ use Rattle.std.specs.List.{prefix_len}
 use Rattle.std.specs.Prelude.{cond, is_none, is_some, unwrap_or, not, option_map, slice_index, slice_set}
 use Rattle.std.proofs.lemmas.List.{get_or-set_other, length-map, length-set, map-set}
 use Rattle.std.proofs.lemmas.List.Quantifiers.{position-Some}
-use Rattle.calls.specs.Kernel.{Kernel, answered, base, child_of, entered, forked, loaded, memories, memory_in, on_hart, state_of}
+use Rattle.calls.specs.Kernel.{Kernel, answered, base, child_of, entered, forked, memories, memory_in, on_hart, rest_of, state_of}
 use Rattle.calls.specs.Says.{IsUnforked, called}
 use Rattle.calls.specs.Sound.{IsKernel, IsPlace, IsPlaced, is_at}
 use Rattle.calls.proofs.Changes.{other-at}
@@ -144,7 +144,7 @@ module _ (k : Kernel) (i : ℕ) (p : Process) (h : Held) (r : IsRun k i p h) (is
   }
 
   abbrev rest : State
-  rest = base k.ticks k.spaces.frames k.halted true
+  rest = base (rest_of k) true
 
   abbrev old : Places
   old = with_process k.table i (on_hart k.spaces p)
@@ -180,7 +180,7 @@ module _ (k : Kernel) (i : ℕ) (p : Process) (h : Held) (r : IsRun k i p h) (is
 
   pub fork-over : k.spaces.frames < taken_frames forked_to.spaces → limited (fork_row (state_of k) i (self k p h)) ≡ Refused
   fork-over over =
-      let full = over-state (loaded forked_to) forked_to.spaces k.ticks k.halted (match-active forked_to k.spaces.active (λ n. match-place (slot forked_to.table.places n) (slot forked_to.spaces.places n) (forked-stands n))) over in
+      let full = over-state forked_to (match-active forked_to k.spaces.active (λ n. match-place (slot forked_to.table.places n) (slot forked_to.spaces.places n) (forked-stands n))) over in
       ap limited fork-made ∙ rw full refl
 
 -- ---- the row

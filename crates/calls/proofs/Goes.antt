@@ -1,7 +1,7 @@
 -- A pending call goes on, and the end of a process that runs or where none runs.
 use Rattle.std.proofs.Common.{◌≡◌, ◌≢◌, ℕ, ◌%◌, true, false, List, [], Option, Some, None, ℤ, refl, ap, subst, sym, ◌∙◌}
 use Rattle.std.specs.Prelude.{if◌then◌else◌, slice_index, slice_index_or}
-use Rattle.calls.specs.Kernel.{Kernel, answered, base, blocked, ended, entered, halted_by, idle, lives, loaded, memories, memory_in, on_hart, started, state_of}
+use Rattle.calls.specs.Kernel.{Kernel, answered, base, blocked, ended, entered, halted_by, idle, lives, loaded, memories, memory_in, on_hart, rest_of, started, state_of}
 use Rattle.calls.specs.Says.{called, gone_on, gone_on_by, has_slept, pending_for}
 use Rattle.calls.specs.Sound.{IsKernel, IsLive, IsMode, IsPending, IsPlace, IsPlaced, is_at}
 use Rattle.calls.specs.Told.{CanEnd, CanEndIn, IsAlive, WaitsIn, resumed, resumed_by, resumed_in}
@@ -90,7 +90,7 @@ module _ (k : Kernel) (i : ℕ) (p : Process) (h : Held) (is : IsKernel k) (none
   process-idle =
       let memory : slice_index_or (memories k.spaces) i [] ≡ h.memory = memory-at k.spaces i ∙ ap memory_in t.space in
       ap (λ (s : State). process_at s i) (state-idle k i p h is none t.process t.space alive)
-      ∙ process-with (base k.ticks k.spaces.frames k.halted true) k.table (memories k.spaces) i p t.process
+      ∙ process-with (base (rest_of k) true) k.table (memories k.spaces) i p t.process
       ∙ ap (λ (m : Memory). Some (with_memory m p)) memory
 
   -- ---- a pending call goes on

@@ -4,7 +4,7 @@ use Rattle.std.specs.List.{list_any}
 use Rattle.std.specs.Prelude.{option_map, slice_index, slice_index_or, slice_set}
 use Rattle.std.proofs.lemmas.Bool.{le-leb}
 use Rattle.std.proofs.lemmas.List.{get_or-set_other, length-map, length-set, map-set, set-get_or}
-use Rattle.calls.specs.Kernel.{Kernel, answered, argument, base, ended, entered, halted_by, lives, loaded, marked, memories, memory_in, on_hart, state_of, with_mark}
+use Rattle.calls.specs.Kernel.{Kernel, answered, argument, base, ended, entered, halted_by, lives, loaded, marked, memories, memory_in, on_hart, rest_of, state_of, with_mark}
 use Rattle.calls.specs.Says.{called, named}
 use Rattle.calls.specs.Sound.{IsKernel, IsMode, IsPlace, is_at}
 use Rattle.calls.proofs.Changes.{ended-is, ended-kernel, ended_to, other-at, stands-put}
@@ -85,7 +85,7 @@ module _ (k : Kernel) (i : ℕ) (p : Process) (h : Held) (r : IsRun k i p h) (is
 
     mark-state : change_process (state_of k) j rows.marked ≡ state_of (marked_to k j q)
     mark-state =
-        let rest = base k.ticks k.spaces.frames k.halted true in
+        let rest = base (rest_of k) true in
         let old = with_process k.table i (on_hart k.spaces p) in
         let there : slot old.places j ≡ Some q = slot-other k.table.places i j (Some (on_hart k.spaces p)) apart ∙ at in
         let swap : put (put k.table.places j (with_mark q)) i (on_hart k.spaces p) ≡ put (put k.table.places i (on_hart k.spaces p)) j (with_mark q) =
@@ -105,7 +105,7 @@ module _ (k : Kernel) (i : ℕ) (p : Process) (h : Held) (r : IsRun k i p h) (is
   -- ---- the running process is marked
 
   abbrev rest : State
-  rest = base k.ticks k.spaces.frames k.halted true
+  rest = base (rest_of k) true
 
   put-run : (p' : Process) → put_process (state_of k) i (with_memory h.memory p') ≡ with_table rest (with_process k.table i p') (memories k.spaces)
   put-run p' =
@@ -144,8 +144,8 @@ module _ (k : Kernel) (i : ℕ) (p : Process) (h : Held) (r : IsRun k i p h) (is
   self-within =
       let some : list_any (holds lives) t.places ≡ true = lives-some t.places i (with_mark (on_hart k.spaces p)) (slot-put k.table.places i (Some (with_mark (on_hart k.spaces p))) (within-run k i p h r)) (lives-run k i p h r) in
       ap is_within self-marked
-      ∙ sym (ap (λ (b : Bool). is_within (with_table (base k.ticks k.spaces.frames k.halted b) t (memories k.spaces))) some)
-      ∙ within-state_with t k.spaces k.ticks k.halted match-self
+      ∙ sym (ap (λ (b : Bool). is_within (with_table (base (rest_of k) b) t (memories k.spaces))) some)
+      ∙ within-state_with k t match-self
       ∙ le-leb _ _ is.fits
 
   change-put : (s : State) (x : unix.Process) (change : unix.Process → unix.Process) → i < length s.places → change_process (put_process s i x) i change ≡ put_process s i (change x)
@@ -224,8 +224,8 @@ module _ (k : Kernel) (i : ℕ) (p : Process) (h : Held) (r : IsRun k i p h) (is
     unfolding end_process
     gone-ends =
         ap reap (with_zombie-with_table rest answered_table (memories k.spaces) i (with_mark q) (negsuc 0))
-        ∙ ap (λ (t : Places). reap (with_table (base k.ticks k.spaces.frames gone.halted true) t (memories k.spaces))) gone-table
-        ∙ reap-state_last (marked_to gone i zombie).table k.spaces.places (memories k.spaces) k.ticks k.spaces.frames gone.halted (match-loaded (marked_to gone i zombie) gone-kernel)
+        ∙ ap (λ (t : Places). reap (with_table (base (rest_of gone) true) t (memories k.spaces))) gone-table
+        ∙ reap-state_last (marked_to gone i zombie).table k.spaces.places (memories k.spaces) (rest_of gone) (match-loaded (marked_to gone i zombie) gone-kernel)
 
     pub self-settles : (begun : State) → settle begun i (limited (Done (change_process (state_of k) i rows.marked) 0 [])) ≡ quiet (state_of (marked (ended k' i (negsuc 0)) i))
     self-settles begun =
@@ -255,7 +255,7 @@ module _ (k : Kernel) (i : ℕ) (p : Process) (h : Held) (r : IsRun k i p h) (is
   pid-run pid =
       let q = on_hart k.spaces p in
       ap (λ (s : State). place_of_pid s pid) (state-run k i p h r)
-      ∙ place_of_pid-with_table (base k.ticks k.spaces.frames k.halted true) (with_process k.table i q) (memories k.spaces) pid
+      ∙ place_of_pid-with_table (base (rest_of k) true) (with_process k.table i q) (memories k.spaces) pid
       ∙ where-put (has_pid pid) k.table.places i p q r.process refl
 
   abbrev kills : Option ℕ → Outcome

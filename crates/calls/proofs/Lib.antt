@@ -15,3 +15,4 @@ pub mod Sbrk
 pub mod Writes
 pub mod Collects
 pub mod Kills
+pub mod Receives

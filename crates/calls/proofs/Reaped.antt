@@ -1,10 +1,10 @@
 -- What nothing names any more: a kernel's state has none of it. And the frames that its processes take.
-use Rattle.std.proofs.Common.{◌≡◌, ℕ, zero, suc, ◌<◌, Bool, true, false, ◌&&◌, ◌||◌, nat_le, List, [], ◌∷◌, map, Option, Some, None, ℤ, refl, ap, ◌∙◌, arith}
+use Rattle.std.proofs.Common.{◌≡◌, ℕ, zero, suc, ◌<◌, Bool, true, false, ◌&&◌, ◌||◌, nat_le, List, [], ◌∷◌, map, Option, Some, None, refl, ap, ◌∙◌, arith}
 use Rattle.std.specs.List.{list_any}
 use Rattle.std.specs.Prelude.{option_map, slice_set, sum_by}
 use Rattle.std.proofs.lemmas.Bool.{le-leb, lt-leb}
 use Rattle.std.proofs.lemmas.List.Sums.{sum_by-cons}
-use Rattle.calls.specs.Kernel.{Kernel, base, lives, on_hart, loaded, memories, memory_in, state_of, state_with}
+use Rattle.calls.specs.Kernel.{Kernel, Rest, base, lives, loaded, memories, memory_in, on_hart, rest_of, state_of, state_with}
 use Rattle.calls.specs.Sound.{IsEnded, IsKernel, IsLive, IsMode, IsPlace}
 use Rattle.proc.specs.declared.process.Process.{Process}
 use Rattle.proc.specs.Places.{Places, changed_at}
@@ -84,27 +84,27 @@ described (Some p ∷ os) (None ∷ hs) ms is = absurd (is 0)
 described (Some p ∷ os) (Some h ∷ hs) [] is = let e : list_any (is_same 0) p.descriptors ≡ lives p = is 0 in rw e (ap (λ b. lives p || b) (described os hs [] (λ i. is (suc i))))
 described (Some p ∷ os) (Some h ∷ hs) (m ∷ ms) is = let e : list_any (is_same 0) p.descriptors ≡ lives p = is 0 in rw e (ap (λ b. lives p || b) (described os hs ms (λ i. is (suc i))))
 
-reap-with : (t : Places) (ms : List Memory) (ticks frames : ℕ) (halted : Option ℤ) (b : Bool) → list_any (λ (p : unix.Process). list_any (is_same 0) p.descriptors) (taken (joined t.places ms)) ≡ b
-    → reap (with_table (base ticks frames halted b) t ms) ≡ with_table (base ticks frames halted b) t ms
+reap-with : (t : Places) (ms : List Memory) (rest : Rest) (b : Bool) → list_any (λ (p : unix.Process). list_any (is_same 0) p.descriptors) (taken (joined t.places ms)) ≡ b
+    → reap (with_table (base rest b) t ms) ≡ with_table (base rest b) t ms
 unfolding reap without_opens without_pipes without_nodes flat_files flat_opens free_slots
-reap-with t ms ticks frames halted true names = rw names refl
-reap-with t ms ticks frames halted false names = refl
+reap-with t ms rest true names = rw names refl
+reap-with t ms rest false names = refl
 
-reap-first : (t : Places) (ms : List Memory) (ticks frames : ℕ) (halted : Option ℤ) (b : Bool) → list_any (λ (p : unix.Process). list_any (is_same 0) p.descriptors) (taken (joined t.places ms)) ≡ b
-    → reap (with_table (base ticks frames halted true) t ms) ≡ with_table (base ticks frames halted b) t ms
+reap-first : (t : Places) (ms : List Memory) (rest : Rest) (b : Bool) → list_any (λ (p : unix.Process). list_any (is_same 0) p.descriptors) (taken (joined t.places ms)) ≡ b
+    → reap (with_table (base rest true) t ms) ≡ with_table (base rest b) t ms
 unfolding reap without_opens without_pipes without_nodes flat_files flat_opens free_slots
-reap-first t ms ticks frames halted true names = rw names refl
-reap-first t ms ticks frames halted false names = rw names refl
+reap-first t ms rest true names = rw names refl
+reap-first t ms rest false names = rw names refl
 
 -- the open file is given up where no process lives
-pub reap-state_last : (t : Places) (hs : List (Option Held)) (ms : List Memory) (ticks frames : ℕ) (halted : Option ℤ) → ((i : ℕ) → IsMatch (slot t.places i) (slot hs i))
-    → reap (with_table (base ticks frames halted true) t ms) ≡ state_with t ms ticks frames halted
-reap-state_last t hs ms ticks frames halted is = reap-first t ms ticks frames halted (list_any (holds lives) t.places) (described t.places hs ms is)
+pub reap-state_last : (t : Places) (hs : List (Option Held)) (ms : List Memory) (rest : Rest) → ((i : ℕ) → IsMatch (slot t.places i) (slot hs i))
+    → reap (with_table (base rest true) t ms) ≡ state_with t ms rest
+reap-state_last t hs ms rest is = reap-first t ms rest (list_any (holds lives) t.places) (described t.places hs ms is)
 
 -- nothing is given up
-pub reap-state_with : (t : Places) (hs : List (Option Held)) (ms : List Memory) (ticks frames : ℕ) (halted : Option ℤ) → ((i : ℕ) → IsMatch (slot t.places i) (slot hs i))
-    → reap (state_with t ms ticks frames halted) ≡ state_with t ms ticks frames halted
-reap-state_with t hs ms ticks frames halted is = reap-with t ms ticks frames halted (list_any (holds lives) t.places) (described t.places hs ms is)
+pub reap-state_with : (t : Places) (hs : List (Option Held)) (ms : List Memory) (rest : Rest) → ((i : ℕ) → IsMatch (slot t.places i) (slot hs i))
+    → reap (state_with t ms rest) ≡ state_with t ms rest
+reap-state_with t hs ms rest is = reap-with t ms rest (list_any (holds lives) t.places) (described t.places hs ms is)
 
 -- ---- frames
 
@@ -121,34 +121,33 @@ sum-joined (Some p ∷ os) (None ∷ hs) stands = absurd (stands 0)
 sum-joined (Some p ∷ os) (Some h ∷ hs) stands =
     omega (arith, sum_by-cons frames_in (Some h) hs, sum_by-cons process_frames (with_memory h.memory p) (taken (joined os (map memory_in hs))), sum-joined os hs (λ i. stands (suc i)))
 
-pub frames-with : (t : Places) (s : Spaces) (ticks : ℕ) (halted : Option ℤ) (b : Bool) → ((i : ℕ) → IsMatch (slot t.places i) (slot s.places i))
-    → frames_of (with_table (base ticks s.frames halted b) t (memories s)) ≡ taken_frames s
+pub frames-with : (k : Kernel) (t : Places) (b : Bool) → ((i : ℕ) → IsMatch (slot t.places i) (slot k.spaces.places i))
+    → frames_of (with_table (base (rest_of k) b) t (memories k.spaces)) ≡ taken_frames k.spaces
 unfolding frames_of free_slots
-frames-with t s ticks halted b stands = omega (arith, sum-joined t.places s.places stands)
+frames-with k t b stands = omega (arith, sum-joined t.places k.spaces.places stands)
 
 and-trues : (b : Bool) → (b && true) && true ≡ b
 and-trues true = refl
 and-trues false = refl
 
-within-with : (t : Places) (s : Spaces) (ticks : ℕ) (halted : Option ℤ) (b : Bool) → ((i : ℕ) → IsMatch (slot t.places i) (slot s.places i))
-    → is_within (with_table (base ticks s.frames halted b) t (memories s)) ≡ nat_le (taken_frames s) s.frames
+within-with : (k : Kernel) (t : Places) (b : Bool) → ((i : ℕ) → IsMatch (slot t.places i) (slot k.spaces.places i))
+    → is_within (with_table (base (rest_of k) b) t (memories k.spaces)) ≡ nat_le (taken_frames k.spaces) k.spaces.frames
 unfolding blocks_of flat_files flat_opens free_slots
-within-with t s ticks halted true stands = rw (frames-with t s ticks halted true stands) (and-trues (nat_le (taken_frames s) s.frames))
-within-with t s ticks halted false stands = rw (frames-with t s ticks halted false stands) (and-trues (nat_le (taken_frames s) s.frames))
+within-with k t true stands = rw (frames-with k t true stands) (and-trues (nat_le (taken_frames k.spaces) k.spaces.frames))
+within-with k t false stands = rw (frames-with k t false stands) (and-trues (nat_le (taken_frames k.spaces) k.spaces.frames))
 
 -- the limits are kept where the frames suffice
-pub within-state_with : (t : Places) (s : Spaces) (ticks : ℕ) (halted : Option ℤ) → ((i : ℕ) → IsMatch (slot t.places i) (slot s.places i))
-    → is_within (state_with t (memories s) ticks s.frames halted) ≡ nat_le (taken_frames s) s.frames
-within-state_with t s ticks halted stands = within-with t s ticks halted (list_any (holds lives) t.places) stands
+pub within-state_with : (k : Kernel) (t : Places) → ((i : ℕ) → IsMatch (slot t.places i) (slot k.spaces.places i))
+    → is_within (state_with t (memories k.spaces) (rest_of k)) ≡ nat_le (taken_frames k.spaces) k.spaces.frames
+within-state_with k t stands = within-with k t (list_any (holds lives) t.places) stands
 
 -- ---- a kernel's state
 
 pub reap-state : (k : Kernel) → IsKernel k → reap (state_of k) ≡ state_of k
-reap-state k is = reap-state_with (loaded k) k.spaces.places (memories k.spaces) k.ticks k.spaces.frames k.halted (match-loaded k is)
+reap-state k is = reap-state_with (loaded k) k.spaces.places (memories k.spaces) (rest_of k) (match-loaded k is)
 
 pub within-state : (k : Kernel) → IsKernel k → is_within (state_of k) ≡ true
-within-state k is = within-state_with (loaded k) k.spaces k.ticks k.halted (match-loaded k is) ∙ le-leb _ _ is.fits
+within-state k is = within-state_with k (loaded k) (match-loaded k is) ∙ le-leb _ _ is.fits
 
-pub over-state : (t : Places) (s : Spaces) (ticks : ℕ) (halted : Option ℤ) → ((i : ℕ) → IsMatch (slot t.places i) (slot s.places i)) → s.frames < taken_frames s
-    → is_within (state_with t (memories s) ticks s.frames halted) ≡ false
-over-state t s ticks halted is over = within-state_with t s ticks halted is ∙ lt-leb _ _ over
+pub over-state : (k : Kernel) → ((i : ℕ) → IsMatch (slot (loaded k).places i) (slot k.spaces.places i)) → k.spaces.frames < taken_frames k.spaces → is_within (state_of k) ≡ false
+over-state k is over = within-state_with k (loaded k) is ∙ lt-leb _ _ over

@@ -61,7 +61,6 @@ module _ (k : Kernel) (i : ℕ) (p : Process) (h : Held) (r : IsRun k i p h) (is
   unbuilt : (o : Option Call) → call_of (low (slice_index k.spaces.registers 17)) ≡ o → IsUnbuilt o → called (state_of k) i ≡ refused
   unbuilt None number none = numbered None number ∙ refuses
   unbuilt (Some Pipe) number none = numbered (Some Pipe) number ∙ refuses
-  unbuilt (Some Read) number none = numbered (Some Read) number ∙ refuses
   unbuilt (Some Exec) number none = numbered (Some Exec) number ∙ refuses
   unbuilt (Some Fstat) number none = numbered (Some Fstat) number ∙ refuses
   unbuilt (Some Chdir) number none = numbered (Some Chdir) number ∙ refuses
@@ -75,6 +74,7 @@ module _ (k : Kernel) (i : ℕ) (p : Process) (h : Held) (r : IsRun k i p h) (is
   unbuilt (Some Fork) number none = absurd none
   unbuilt (Some Exit) number none = absurd none
   unbuilt (Some Wait) number none = absurd none
+  unbuilt (Some Read) number none = absurd none
   unbuilt (Some Kill) number none = absurd none
   unbuilt (Some Getpid) number none = absurd none
   unbuilt (Some Sbrk) number none = absurd none

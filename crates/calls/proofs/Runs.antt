@@ -6,7 +6,7 @@ use Rattle.std.proofs.lemmas.Bool.Decides.{nat_tests}
 use Rattle.std.proofs.lemmas.List.{get_or-set_other, get_or-set_same, length-map, length-set, map-set, set-get_or}
 use Rattle.std.proofs.lemmas.List.Folds.{list_any_at}
 use Rattle.std.proofs.Math.ListN as listn
-use Rattle.calls.specs.Kernel.{Kernel, base, lives, loaded, memories, memory_in, on_hart, state_of}
+use Rattle.calls.specs.Kernel.{Kernel, base, lives, loaded, memories, memory_in, on_hart, rest_of, state_of}
 use Rattle.calls.specs.Sound.{IsKernel, IsPlace, IsPlaced, is_at}
 use Rattle.proc.specs.declared.process.Process.{Process}
 use Rattle.proc.specs.Places as table
@@ -120,7 +120,7 @@ module _ (k : Kernel) (i : ℕ) (p : Process) (h : Held) (r : IsRun k i p h) whe
   pub within-run : i < length k.table.places
   within-run = slot-within k.table.places i p r.process
 
-  pub state-run : state_of k ≡ with_table (base k.ticks k.spaces.frames k.halted true) (with_process k.table i (on_hart k.spaces p)) (memories k.spaces)
+  pub state-run : state_of k ≡ with_table (base (rest_of k) true) (with_process k.table i (on_hart k.spaces p)) (memories k.spaces)
   state-run =
       let some : list_any (holds lives) (put k.table.places i (on_hart k.spaces p)) ≡ true =
       lives-some (put k.table.places i (on_hart k.spaces p)) i (on_hart k.spaces p) (slot-put k.table.places i (Some (on_hart k.spaces p)) within-run) lives-run in
@@ -131,7 +131,7 @@ module _ (k : Kernel) (i : ℕ) (p : Process) (h : Held) (r : IsRun k i p h) whe
       let memory : slice_index_or (memories k.spaces) i [] ≡ h.memory = memory-at k.spaces i ∙ ap memory_in r.space in
       let table = with_process k.table i (on_hart k.spaces p) in
       ap (λ (s : State). process_at s i) state-run
-      ∙ process-with (base k.ticks k.spaces.frames k.halted true) table (memories k.spaces) i (on_hart k.spaces p) (slot-put k.table.places i (Some (on_hart k.spaces p)) within-run)
+      ∙ process-with (base (rest_of k) true) table (memories k.spaces) i (on_hart k.spaces p) (slot-put k.table.places i (Some (on_hart k.spaces p)) within-run)
       ∙ ap (λ (m : Memory). Some (with_memory m (on_hart k.spaces p))) memory
 
 -- ---- the running process alone changes
@@ -192,7 +192,7 @@ module _ (k : Kernel) (i : ℕ) (p : Process) (h : Held) (r : IsRun k i p h) (is
         let twice : put (put k.table.places i p') i q ≡ put (put k.table.places i (on_hart k.spaces p)) i q =
         set-twice k.table.places i (Some p') (Some q) ∙ sym (set-twice k.table.places i (Some (on_hart k.spaces p)) (Some q)) in
         let shown : memories new.spaces ≡ slice_set (memories k.spaces) i h'.memory = map-set memory_in k.spaces.places i (Some h') in
-        let rest = base k.ticks k.spaces.frames k.halted true in
+        let rest = base (rest_of k) true in
         let old = with_process k.table i (on_hart k.spaces p) in
         state-run new i p' h' moved-run
         ∙ ap (λ (places : List (Option Process)). with_table rest (record k.table { places = places }) (memories new.spaces)) twice

@@ -1,7 +1,7 @@
 -- The running process has another size, and the row of sbrk.
 use Rattle.std.proofs.Common.{◌≡◌, ℕ, ◌+◌, ◌-◌, ◌<◌, ◌≤◌, true, false, [], length, Option, Some, None, pos, refl, ap, subst, sym, ◌∙◌, arith}
 use Rattle.std.specs.Prelude.{slice_index, ◌+ℤ◌}
-use Rattle.calls.specs.Kernel.{Kernel, answered, argument, asked, entered, loaded, resized, sized, state_of, with_size}
+use Rattle.calls.specs.Kernel.{Kernel, answered, argument, asked, entered, resized, sized, state_of, with_size}
 use Rattle.calls.specs.Says.{IsOver, called}
 use Rattle.calls.specs.Sound.{IsKernel, IsLive, IsMode, IsPlace, IsPlaced}
 use Rattle.calls.proofs.Reaped.{match-active, match-place, over-state}
@@ -81,7 +81,7 @@ module _ (k : Kernel) (i : ℕ) (p : Process) (h : Held) (r : IsRun k i p h) (is
 
   sbrk-over : natural (pos h.size +ℤ int_of (argument k 0)) ≡ Some size → k.spaces.frames < taken_frames resized_to.spaces → limited (sbrk_row (state_of k) i (self k p h)) ≡ Refused
   sbrk-over can over =
-      let full = over-state (loaded resized_to) resized_to.spaces k.ticks k.halted (match-active resized_to k.spaces.active (λ n. match-place (slot resized_to.table.places n) (slot resized_to.spaces.places n) (sized-stands n))) over in
+      let full = over-state resized_to (match-active resized_to k.spaces.active (λ n. match-place (slot resized_to.table.places n) (slot resized_to.spaces.places n) (sized-stands n))) over in
       ap limited (sbrk-made can) ∙ rw full refl
 
 -- ---- the row

@@ -3,7 +3,7 @@ use Rattle.std.proofs.Common.{◌≡◌, ◌≢◌, ℕ, ◌<◌, ◌%◌, Bool,
 use Rattle.std.specs.List.{list_any}
 use Rattle.std.specs.Prelude.{if◌then◌else◌, is_some, not, slice_index, slice_index_or, slice_set}
 use Rattle.std.proofs.lemmas.List.{length-map, length-set, set-get_or}
-use Rattle.calls.specs.Kernel.{Kernel, base, ended, halted_by, lives, loaded, memories, memory_in, picked, started, started_as, state_of}
+use Rattle.calls.specs.Kernel.{Kernel, base, ended, halted_by, lives, loaded, memories, memory_in, picked, rest_of, started, started_as, state_of}
 use Rattle.calls.specs.Sound.{CanRun, IsKernel, IsLive, IsPlace, IsPlaced, is_at}
 use Rattle.calls.proofs.Changes.{ended-is, ended-state, other-at, stands-put}
 use Rattle.calls.proofs.Runs.{IsRun, eq-self, lives-some, memory-at, put-with, runs-set, set-twice, slot-put, slot-within, state-run, with_process}
@@ -43,7 +43,7 @@ module _ (k : Kernel) (i : ℕ) (p : Process) (h : Held) (is : IsKernel k) (idle
   placed : IsPlaced p h
   placed = placed-is (slot k.table.places i) (slot k.spaces.places i) p h process space (is.stands i)
 
-  pub state-idle : state_of k ≡ with_table (base k.ticks k.spaces.frames k.halted true) k.table (memories k.spaces)
+  pub state-idle : state_of k ≡ with_table (base (rest_of k) true) k.table (memories k.spaces)
   state-idle =
       let some : list_any (holds lives) k.table.places ≡ true = lives-some k.table.places i p process alive in
       rw (idle, some) refl
@@ -86,7 +86,7 @@ module _ (k : Kernel) (i : ℕ) (p : Process) (h : Held) (is : IsKernel k) (idle
 
     pub started-state : state_of started_to ≡ put_process (state_of k) i (with_memory h.memory q)
     started-state =
-        let rest = base k.ticks k.spaces.frames k.halted true in
+        let rest = base (rest_of k) true in
         let at : slice_index_or (memories k.spaces) i [] ≡ h.memory = memory-at k.spaces i ∙ ap memory_in space in
         let same : memories k.spaces ≡ slice_set (memories k.spaces) i h.memory = sym (ap (λ m. slice_set (memories k.spaces) i m) (sym at) ∙ set-get_or (memories k.spaces) i []) in
         let low : i < length (memories k.spaces) = rw (length-map k.spaces.places memory_in) (slot-within k.spaces.places i h space) in

@@ -4,7 +4,7 @@ use Rattle.std.specs.Prelude.{slice_index}
 use Rattle.std.specs.List.{list_any, position_or_len}
 use Rattle.std.proofs.lemmas.Bool.{le-ltb, lt-ltb}
 use Rattle.std.proofs.lemmas.List.Sums.{position_or_len_is}
-use Rattle.calls.specs.Kernel.{Kernel, base, lives, loaded, memories, state_of, stopped_at, ticked}
+use Rattle.calls.specs.Kernel.{Kernel, base, lives, loaded, memories, rest_of, state_of, stopped_at, ticked, typed}
 use Rattle.calls.specs.Sound.{IsKernel, is_at}
 use Rattle.calls.proofs.Changes.{length-active, other-at, running-active}
 use Rattle.calls.proofs.Rows.{stops-run}
@@ -14,6 +14,7 @@ use Rattle.proc.specs.Places as table
 use Rattle.proc.specs.Places.{place_where}
 use Rattle.proc.specs.Whole.{running-with_table}
 use Rattle.unixmodel.specs.Calls.{quiet}
+use Rattle.unixmodel.specs.Console.{key}
 use Rattle.unixmodel.specs.declared.event.Event.TheVariants.{Key, Step, Tick}
 use Rattle.unixmodel.specs.Files.{slot}
 use Rattle.unixmodel.specs.Next as next
@@ -36,7 +37,7 @@ runs-position os (Some i) runs within =
 
 pub running-state : (k : Kernel) → IsKernel k → running (state_of k) ≡ k.spaces.active
 running-state k is =
-    running-with_table (base k.ticks k.spaces.frames k.halted (list_any (holds lives) (loaded k).places)) (loaded k) (memories k.spaces)
+    running-with_table (base (rest_of k) (list_any (holds lives) (loaded k).places)) (loaded k) (memories k.spaces)
     ∙ runs-position (loaded k).places k.spaces.active (λ j. running-active k k.spaces.active j ∙ is.runs j)
     (λ i active. let run = run-of k i is active in let h = slot-within k.table.places i run.0 run.1.1.process in omega (arith, length-active k k.spaces.active, h))
 
@@ -60,6 +61,6 @@ next-ticks k is z a =
     ap (λ (o : Option ℕ). quiet (record (next.stopped (state_of k) o) { ticks = (k.ticks + 1) % 2 ^ 32 })) (running-state k is)
     ∙ ap (λ (s : State). quiet (record s { ticks = (k.ticks + 1) % 2 ^ 32 })) (ticks-go k k.spaces.active is z a refl)
 
-pub next-keys : (k : Kernel) (b : ℕ) → next.next (state_of k) (Key b) ≡ quiet (state_of k)
+pub next-keys : (k : Kernel) (b : ℕ) → next.next (state_of k) (Key b) ≡ record { state = state_of (typed k (key k.console b).console); bytes = (key k.console b).echo }
 unfolding next.next
 next-keys k b = refl

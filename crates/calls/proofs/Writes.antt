@@ -83,7 +83,7 @@ natural-cast : (n c : ℕ) → n < 2 ^ 32 → natural (cast_signed w32 n) ≡ So
 natural-cast n c small is = sym (of_z-to_z w32 n small) ∙ ap (cast_unsigned w32) (natural-pos (cast_signed w32 n) c is)
 
 -- the number that an int is, if it is not below 0
-int-low : (x c : ℕ) → natural (int_of x) ≡ Some c → low x ≡ c
+pub int-low : (x c : ℕ) → natural (int_of x) ≡ Some c → low x ≡ c
 int-low x c is = natural-cast (low x) c (omega arith) is
 
 -- ---- the descriptors 0, 1 and 2 are the console
@@ -94,14 +94,14 @@ no-slot zero d = refl
 no-slot (suc n) zero = refl
 no-slot (suc n) (suc d) = no-slot n d
 
-console-descriptor : (d : ℕ) → d < 3 → slot flat_descriptors d ≡ Some 0
+pub console-descriptor : (d : ℕ) → d < 3 → slot flat_descriptors d ≡ Some 0
 unfolding flat_descriptors
 console-descriptor zero h = refl
 console-descriptor (suc zero) h = refl
 console-descriptor (suc (suc zero)) h = refl
 console-descriptor (suc (suc (suc d))) h = absurd (omega arith)
 
-no-descriptor : (d : ℕ) → 3 ≤ d → slot flat_descriptors d ≡ None
+pub no-descriptor : (d : ℕ) → 3 ≤ d → slot flat_descriptors d ≡ None
 unfolding flat_descriptors free_slots
 no-descriptor zero h = absurd (omega arith)
 no-descriptor (suc zero) h = absurd (omega arith)

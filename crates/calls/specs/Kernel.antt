@@ -12,6 +12,7 @@ use Rattle.spaces.specs.Spaces.{Held, Spaces, held_at, with_held, with_place}
 use Rattle.unixmodel.specs.declared.process.Mode.{Mode}
 use Rattle.unixmodel.specs.declared.process.Mode.TheVariants.{Ready, Running, Waiting}
 use Rattle.unixmodel.specs.declared.process.Pending.{Pending}
+use Rattle.unixmodel.specs.Console.{Console, Taken}
 use Rattle.unixmodel.specs.Files.{free_slots, slot}
 use Rattle.unixmodel.specs.Meaning.{Computed}
 use Rattle.unixmodel.specs.Memory.{Memory}
@@ -25,10 +26,15 @@ use Rattle.unixmodel.specs.State.{State, holds, open_limit}
 pub record Kernel : Type 0 where
   pub table : Places
   pub spaces : Spaces
+  pub console : Console
   -- modulo 2^32
   pub ticks : ℕ
   -- the status of process 1, once it has ended
   pub halted : Option ℤ
+
+-- a kernel over processes and their spaces, as it begins
+abbrev pub begun : Places → Spaces → Kernel
+begun t s = record { table = t; spaces = s; console = record { committed = []; edited = [] }; ticks = 0; halted = None }
 
 -- ---- the state
 
@@ -55,28 +61,38 @@ abbrev pub opens_for : Bool → List (Option OpenFile)
 opens_for true = flat_opens
 opens_for false = free_slots open_limit
 
+-- what the state takes over from a kernel beside its processes
+pub record Rest : Type 0 where
+  pub console : Console
+  pub ticks : ℕ
+  pub frames : ℕ
+  pub halted : Option ℤ
+
+abbrev pub rest_of : Kernel → Rest
+rest_of k = record { console = k.console; ticks = k.ticks; frames = k.spaces.frames; halted = k.halted }
+
 -- the state but for the table
-abbrev pub base : ℕ → ℕ → Option ℤ → Bool → State
-base ticks frames halted some = record {
+abbrev pub base : Rest → Bool → State
+base rest some = record {
   places = [];
   files = flat_files;
   opens = opens_for some;
   pipes = free_slots open_limit;
-  console = record { committed = []; edited = [] };
-  ticks = ticks;
+  console = rest.console;
+  ticks = rest.ticks;
   next_pid = 0;
   last = 0;
-  frame_limit = frames;
+  frame_limit = rest.frames;
   block_limit = 27;
-  halted = halted;
+  halted = rest.halted;
 }
 
 -- the state with these places and memories
-abbrev pub state_with : Places → List Memory → ℕ → ℕ → Option ℤ → State
-state_with t memories ticks frames halted = with_table (base ticks frames halted (list_any (holds lives) t.places)) t memories
+abbrev pub state_with : Places → List Memory → Rest → State
+state_with t memories rest = with_table (base rest (list_any (holds lives) t.places)) t memories
 
 abbrev pub state_of : Kernel → State
-state_of k = state_with (loaded k) (memories k.spaces) k.ticks k.spaces.frames k.halted
+state_of k = state_with (loaded k) (memories k.spaces) (rest_of k)
 
 -- ---- what calls do to the running process, in place i
 
@@ -113,6 +129,19 @@ resized k i size = record k {
 -- the size that is asked for, if it is not below 0
 abbrev pub asked : Kernel → ℕ → ℤ → Option ℕ
 asked k i delta = natural (pos (held_at k.spaces i).size +ℤ delta)
+
+-- ---- the console
+
+-- the console is another
+abbrev pub typed : Kernel → Console → Kernel
+typed k c = record k { console = c }
+
+-- what a read takes goes into the buffer of process i, at an address
+abbrev pub received : Kernel → ℕ → ℕ → Taken → Kernel
+received k i address t = record k {
+  console = record k.console { committed = t.rest };
+  spaces = with_held k.spaces i (spaces.written (held_at k.spaces i) address t.bytes);
+}
 
 -- ---- which process runs
 

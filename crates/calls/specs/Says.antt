@@ -1,5 +1,5 @@
 -- What the kernel's own steps answer.
-use Rattle.std.specs.Prelude.{Bool, Err, List, None, Ok, Option, Result, Some, [], false, is_some, length, nat_le, take, true, ℕ, ◌%◌, ◌+◌, ◌-◌, ◌<◌, ◌≤◌, ◌^◌, ◌||◌, ◌∷◌, ◌≡◌, suc, zero}
+use Rattle.std.specs.Prelude.{Bool, Err, List, None, Ok, Option, Result, Some, [], false, is_some, length, nat_le, nat_lt, not, take, true, ℕ, ◌%◌, ◌+◌, ◌-◌, ◌<◌, ◌≤◌, ◌^◌, ◌||◌, ◌∷◌, ◌≡◌, suc, zero}
 use Rattle.calls.specs.Kernel.{Kernel, argument, collected, forked, resized}
 use Rattle.proc.specs.declared.process.Process.{Process}
 use Rattle.proc.specs.declared.table.ProcFault.{ProcFault}
@@ -7,15 +7,19 @@ use Rattle.proc.specs.declared.table.Seat.{Seat}
 use Rattle.proc.specs.Places.{has_pid, is_zombie_child_of, place_where, seat_of, zombie_place}
 use Rattle.spaces.specs.Spaces.{taken_frames}
 use Rattle.unixmodel.specs.Calls.{After, call, goes_on, quiet, settle}
+use Rattle.unixmodel.specs.Console.{Console, Taken, take_line}
 use Rattle.unixmodel.specs.declared.call.Call.{Call}
-use Rattle.unixmodel.specs.declared.call.Call.TheVariants.{Exit, Fork, Getpid, Kill, Sbrk, Sleep, Uptime, Wait, Write}
+use Rattle.unixmodel.specs.declared.call.Call.TheVariants.{Exit, Fork, Getpid, Kill, Read, Sbrk, Sleep, Uptime, Wait, Write}
 use Rattle.unixmodel.specs.declared.process.Mode.{Mode}
 use Rattle.unixmodel.specs.declared.process.Mode.TheVariants.{Ready, Running, Waiting, Zombie}
 use Rattle.unixmodel.specs.declared.process.Pending.{Pending}
 use Rattle.unixmodel.specs.Files.{slot}
+use Rattle.unixmodel.specs.Numbers.{low}
+use Rattle.unixmodel.specs.Outcome.{pending_arg}
 use Rattle.unixmodel.specs.Process as unix
 use Rattle.unixmodel.specs.ProcessCalls.{sleep_time, status_of}
 use Rattle.unixmodel.specs.State.{State, process_at}
+use Rattle.unixmodel.specs.Turn.{is_empty}
 
 -- ---- what the abstract Unix makes of the state
 
@@ -41,6 +45,7 @@ IsUnbuilt None = Unit {0}
 IsUnbuilt (Some Fork) = ⊥
 IsUnbuilt (Some Exit) = ⊥
 IsUnbuilt (Some Wait) = ⊥
+IsUnbuilt (Some Read) = ⊥
 IsUnbuilt (Some Kill) = ⊥
 IsUnbuilt (Some Getpid) = ⊥
 IsUnbuilt (Some Sbrk) = ⊥
@@ -73,26 +78,45 @@ pending_for k number = record { number = number; args = argument k 0 ∷ argumen
 abbrev pub has_slept : ℕ → Pending → Bool
 has_slept ticks w = nat_le (sleep_time w) ((ticks + (2 ^ 32 - w.since)) % 2 ^ 32)
 
+-- ---- read
+
+-- what a read takes of the console
+abbrev pub line_for : Kernel → Pending → Taken
+line_for k w = take_line (nat_lt 0 w.done) (low (pending_arg w 2) - w.done) k.console.committed
+
+-- where the next byte that a read takes goes
+abbrev pub next_place : Pending → ℕ
+next_place w = pending_arg w 1 + w.done
+
+-- a call that did so much more
+abbrev pub further : Pending → ℕ → Pending
+further w n = record w { done = w.done + n }
+
+-- a read can take something
+abbrev pub has_input : Console → Bool
+has_input c = not (is_empty c.committed)
+
 -- ---- who is ready
 
--- the condition of a waiting call holds
-abbrev pub can_go_on : ℕ → List (Option Process) → Process → Pending → Call → Bool
-can_go_on ticks places p w Wait = is_some (place_where places (is_zombie_child_of p.pid))
-can_go_on ticks places p w Sleep = has_slept ticks w
-can_go_on ticks places p w _ = false
+-- the condition of a waiting call holds; input: a read can take something
+abbrev pub can_go_on : ℕ → Bool → List (Option Process) → Process → Pending → Call → Bool
+can_go_on ticks input places p w Wait = is_some (place_where places (is_zombie_child_of p.pid))
+can_go_on ticks input places p w Sleep = has_slept ticks w
+can_go_on ticks input places p w Read = input
+can_go_on ticks input places p w _ = false
 
-abbrev pub is_ready_in : ℕ → List (Option Process) → Process → Mode → Bool
-is_ready_in ticks places p Running = p.killed
-is_ready_in ticks places p Ready = true
-is_ready_in ticks places p (Waiting w) = can_go_on ticks places p w w.number || p.killed
-is_ready_in ticks places p (Zombie status) = false
+abbrev pub is_ready_in : ℕ → Bool → List (Option Process) → Process → Mode → Bool
+is_ready_in ticks input places p Running = p.killed
+is_ready_in ticks input places p Ready = true
+is_ready_in ticks input places p (Waiting w) = can_go_on ticks input places p w w.number || p.killed
+is_ready_in ticks input places p (Zombie status) = false
 
-abbrev pub is_ready_process : ℕ → List (Option Process) → Option Process → Bool
-is_ready_process ticks places None = false
-is_ready_process ticks places (Some p) = is_ready_in ticks places p p.mode
+abbrev pub is_ready_process : ℕ → Bool → List (Option Process) → Option Process → Bool
+is_ready_process ticks input places None = false
+is_ready_process ticks input places (Some p) = is_ready_in ticks input places p p.mode
 
-abbrev pub is_ready : ℕ → List (Option Process) → ℕ → Bool
-is_ready ticks places i = is_ready_process ticks places (slot places i)
+abbrev pub is_ready : ℕ → Bool → List (Option Process) → ℕ → Bool
+is_ready ticks input places i = is_ready_process ticks input places (slot places i)
 
 -- ---- fork
 

@@ -1,16 +1,17 @@
 -- What a kernel keeps.
-use Rattle.std.specs.Prelude.{Bool, None, Option, Some, false, length, slice_index, true, ℕ, ◌%◌, ◌==◌, ◌||◌, ◌≡◌, ◌≤◌}
+use Rattle.std.specs.Prelude.{Bool, None, Option, Some, false, length, slice_index, true, ℕ, ◌%◌, ◌<◌, ◌==◌, ◌||◌, ◌≡◌, ◌≤◌}
 use Rattle.calls.specs.Kernel.{Kernel}
 use Rattle.proc.specs.declared.process.Process.{Process}
 use Rattle.proc.specs.Places.{is_running}
 use Rattle.spaces.specs.Spaces.{Held, taken_frames}
 use Rattle.unixmodel.specs.declared.call.Call.{Call}
-use Rattle.unixmodel.specs.declared.call.Call.TheVariants.{Sleep, Wait}
+use Rattle.unixmodel.specs.declared.call.Call.TheVariants.{Read, Sleep, Wait}
 use Rattle.unixmodel.specs.declared.process.Mode.{Mode}
 use Rattle.unixmodel.specs.declared.process.Mode.TheVariants.{Ready, Running, Waiting, Zombie}
 use Rattle.unixmodel.specs.declared.process.Pending.{Pending}
 use Rattle.unixmodel.specs.Files.{slot}
 use Rattle.unixmodel.specs.Memory.{Memory, can_write}
+use Rattle.unixmodel.specs.Numbers.{low}
 use Rattle.unixmodel.specs.Outcome.{no_descriptors, pending_arg}
 use Rattle.unixmodel.specs.Process.{is_zombie_mode}
 use Rattle.unixmodel.specs.Start.{flat_descriptors}
@@ -20,10 +21,17 @@ use Rattle.unixmodel.specs.State.{holds}
 abbrev pub can_answer : Memory → ℕ → Bool
 can_answer memory address = address == 0 || can_write memory address 4
 
+-- a read of descriptor 0, 1 or 2 that has bytes left to take, and may write all of its buffer
+pub record IsReading (memory : Memory) (w : Pending) : Type 0 where
+  pub console : low (pending_arg w 0) < 3
+  pub buffer : can_write memory (pending_arg w 1) (low (pending_arg w 2)) ≡ true
+  pub left : w.done < low (pending_arg w 2)
+
 -- the calls that wait
 abbrev pub IsPending : Memory → Pending → Call → Type 0
 IsPending memory w Wait = can_answer memory (pending_arg w 0) ≡ true
 IsPending memory w Sleep = Unit {0}
+IsPending memory w Read = IsReading memory w
 IsPending memory w _ = ⊥
 
 pub record IsLive (p : Process) : Type 0 where

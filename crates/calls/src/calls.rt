@@ -12,7 +12,7 @@ use crate::halt::Halt;
 use crate::kernel::Kernel;
 use crate::numbers::int;
 use crate::ready::has_slept;
-use crate::{family, memory};
+use crate::{family, memory, read};
 use console::{Out, OutFault};
 use sv39::Translate;
 use unixmodel::call::Call;
@@ -151,6 +151,7 @@ pub fn call<T: Translate + Drop, W: Out>(
         Some(Call::Fork) => fork(kernel, at),
         Some(Call::Exit) => exit(kernel, at),
         Some(Call::Wait) => family::wait(kernel, at),
+        Some(Call::Read) => read::read(kernel, at),
         Some(Call::Kill) => family::kill(kernel, at),
         Some(Call::Getpid) => getpid(kernel, at),
         Some(Call::Sbrk) => memory::sbrk(kernel, at),

@@ -1,11 +1,11 @@
 //! What a machine asks of the kernel: an event, or a part of one.
-ghost use Rattle.std.specs.Prelude.{◌≡◌, ◌≤◌, Ok, Some, None, true, IfOk};
+ghost use Rattle.std.specs.Prelude.{◌≡◌, ◌≤◌, Ok, Some, None, true, IfOk, OnErr};
 ghost use Rattle.calls.specs.Does.{Dispatches, Does, halt_of};
 ghost use Rattle.calls.specs.Kernel.{state_of};
-ghost use Rattle.calls.specs.Says.{called, is_ready};
+ghost use Rattle.calls.specs.Says.{called, has_input, is_ready};
 ghost use Rattle.calls.specs.Told.{CanEnd, CanResume, WaitsIn, became, resumed, taken};
 ghost use Rattle.unixmodel.specs.Calls.{end_at, quiet};
-ghost use Rattle.unixmodel.specs.declared.event.Event.TheVariants.{Step, Tick};
+ghost use Rattle.unixmodel.specs.declared.event.Event.TheVariants.{Key, Step, Tick};
 ghost use Rattle.unixmodel.specs.Files.{slot};
 ghost use Rattle.unixmodel.specs.Failures.{Rises};
 ghost use Rattle.unixmodel.specs.Next.{execute_at, is_ecall, next, take_turn};
@@ -15,8 +15,8 @@ ghost use Rattle.unixmodel.specs.Turn.{turn};
 use crate::halt::Halt;
 use crate::kernel::Kernel;
 use crate::outcome::Outcome;
-use crate::{calls, family};
-use console::Out;
+use crate::{calls, family, read};
+use console::{Out, OutFault};
 use sv39::Translate;
 use unixmodel::call::Call;
 use unixmodel::process::{Mode, Pending};
@@ -49,6 +49,19 @@ impl<T: Translate + Drop> Kernel<T> {
     {
         let _sound = self.active();
         self.interrupt();
+    }
+
+    /// A key was typed: it changes the line that is edited, and what shows that is printed. `Console`: the console failed,
+    /// and the key is lost.
+    pub fn key<W: Out>(&mut self, byte: u8, console: &mut W) -> Result<(), Halt>
+        ensures gives { Dispatches self.new (next (state_of self.old) (Key byte)) (W.contents console.old) (W.contents console.new) (Rises (W.failures console.old) (W.failures console.new)) result }
+        ensures lost { OnErr result (self.new ≡ self.old) }
+        ensures later { W.failures console.old ≤ W.failures console.new }
+    {
+        match self.type_key(byte, console) {
+            Ok(()) => Ok(()),
+            Err(OutFault::Writer) => Err(Halt::Console),
+        }
     }
 
     /// The call of the running process. `Console`: the console failed.
@@ -166,7 +179,7 @@ impl<T: Translate + Drop> Kernel<T> {
     // The process in a place, which was picked, ends if it is killed; else it runs, or goes on with its call.
     fn take(&mut self, at: usize)
         requires idle { self.old.spaces.active ≡ None }
-        requires ready { is_ready self.old.ticks self.old.table.places at ≡ true }
+        requires ready { is_ready self.old.ticks (has_input self.old.console) self.old.table.places at ≡ true }
         ensures { taken (state_of self.old) at ≡ quiet (state_of self.new) }
     {
         let _sound = self.active();
@@ -194,6 +207,7 @@ impl<T: Translate + Drop> Kernel<T> {
         self.start(at);
         match pending.number {
             Call::Wait => family::wait_on(self, at, pending),
+            Call::Read => read::read_on(self, at, pending),
             _ => calls::sleep_on(self, at, pending),
         }
     }

@@ -4,18 +4,19 @@ ghost use Rattle.std.specs.Bool.{OnTrue, OnFalse};
 ghost use Rattle.std.specs.Prelude.{if◌then◌else◌, ◌==◌, option_map, OnOk, OnErr, Ok, Err};
 ghost use Rattle.std.specs.Io.KnownBytes.{Appends};
 ghost use Rattle.std.specs.Option.{option_copied};
-ghost use Rattle.calls.specs.Kernel.{answered, argument, asked, blocked, computed, ended, entered, left_as, loaded, marked, on_hart, picked, resized, started, state_of, ticked, with_size, with_status};
-ghost use Rattle.calls.specs.Says.{Collects, Forks, IsFront, IsOver, has_slept, pending_for};
-ghost use Rattle.calls.specs.Sound.{CanRun, IsKernel, IsPending, can_answer};
+ghost use Rattle.calls.specs.Kernel.{answered, argument, asked, begun, blocked, computed, ended, entered, left_as, loaded, marked, on_hart, picked, received, resized, started, state_of, ticked, typed, with_size, with_status};
+ghost use Rattle.calls.specs.Says.{Collects, Forks, IsFront, IsOver, further, has_slept, line_for, next_place, pending_for};
+ghost use Rattle.calls.specs.Sound.{CanRun, IsKernel, IsPending, IsReading, can_answer};
 ghost use Rattle.calls.specs.Told.{CanEnd};
 ghost use Rattle.console.specs.Output.{AppendsBeginning};
 ghost use Rattle.proc.specs.Places.{changed, has_pid, is_child_of, place_where};
 ghost use Rattle.spaces.specs.Spaces.{has_space, held_at, taken_frames, with_held};
+ghost use Rattle.unixmodel.specs.Console.{key};
 ghost use Rattle.unixmodel.specs.Cycle.{cycle};
 ghost use Rattle.unixmodel.specs.Failures.{Rises};
 ghost use Rattle.unixmodel.specs.Files.{slot};
 ghost use Rattle.unixmodel.specs.Meaning.{Computed};
-ghost use Rattle.unixmodel.specs.Memory.{reach, read_bytes};
+ghost use Rattle.unixmodel.specs.Memory.{can_write, reach, read_bytes};
 ghost use Rattle.unixmodel.specs.declared.trap.Access.TheVariants.{Load};
 ghost use Rattle.vm.specs.Reach.{piece_at};
 ghost use Rattle.unixmodel.specs.Numbers.{low, natural, int_of};
@@ -24,8 +25,9 @@ ghost use Rattle.unixmodel.specs.declared.process.Mode.TheVariants.{Ready};
 
 mod show;
 
+use crate::numbers::low;
 use crate::ready::is_ready;
-use console::{Out, OutFault};
+use console::{Console, Out, OutFault, ROOM, Taken};
 use proc::{Process, Table};
 use spaces::Spaces;
 use std::marker::Model;
@@ -42,11 +44,12 @@ const HEAP: Perm = Perm {
     user: true,
 };
 
-/// The processes of a machine, their spaces, and the hart that runs one of them.
+/// The processes of a machine, their spaces, the hart that runs one of them, and what is typed at the console.
 #[derive(Drop)]
 pub struct Kernel<T: Translate + Drop> {
     table: Table,
     spaces: Spaces<T>,
+    console: Console,
     ticks: u32,
     halted: Option<i32>,
 }
@@ -94,12 +97,13 @@ fn write_status<T: Translate + Drop>(spaces: &mut Spaces<T>, at: usize, address:
 impl<T: Translate + Drop> Kernel<T> {
     /// A kernel over processes and their spaces.
     pub fn new(table: Table, spaces: Spaces<T>) -> Kernel<T>
-        requires { IsKernel (record { table = table; spaces = spaces; ticks = 0; halted = None }) }
-        ensures { result ≡ record { table = table; spaces = spaces; ticks = 0; halted = None } }
+        requires { IsKernel (begun table spaces) }
+        ensures { result ≡ begun table spaces }
     {
         Kernel {
             table,
             spaces,
+            console: Console::new(),
             ticks: 0,
             halted: None,
         }
@@ -336,7 +340,9 @@ impl<T: Translate + Drop> Kernel<T> {
     {
         let _sound = self.active();
         let ticks = self.ticks;
-        self.table.pick(|places, at| is_ready(ticks, places, at))
+        let input = self.console.can_take();
+        self.table
+            .pick(|places, at| is_ready(ticks, input, places, at))
     }
 
     /// A process runs, where none did.
@@ -381,6 +387,14 @@ impl<T: Translate + Drop> Kernel<T> {
         ensures { result ≡ is_some (read_bytes (held_at self.now.spaces at).memory address count) }
     {
         self.spaces.can_read(at, address, count)
+    }
+
+    /// Whether the running process may write so many bytes.
+    pub(crate) fn can_write(&self, at: usize, address: u64, count: u64) -> bool
+        requires { self.now.spaces.active ≡ Some at }
+        ensures { result ≡ can_write (held_at self.now.spaces at).memory address count }
+    {
+        self.spaces.can_write(at, address, count)
     }
 
     /// The size of the running process in bytes.
@@ -492,6 +506,40 @@ impl<T: Translate + Drop> Kernel<T> {
             };
             self.table.put(at, process);
         }
+    }
+
+    /// A key was typed. Where `out` fails nothing changes, and a beginning of what shows the key was put out.
+    pub(crate) fn type_key<W: Out>(&mut self, byte: u8, out: &mut W) -> Result<(), OutFault>
+        ensures ok { OnOk result (self.new ≡ typed self.old (key self.old.console byte).console) }
+        ensures echo { OnOk result (Appends (W.contents out.old) (W.contents out.new) (key self.old.console byte).echo) }
+        ensures err { OnErr result (self.new ≡ self.old) }
+        ensures beginning { OnErr result (AppendsBeginning (W.contents out.old) (W.contents out.new) (key self.old.console byte).echo) }
+        ensures later { W.failures out.old ≤ W.failures out.new }
+        ensures cause { OnErr result (Rises (W.failures out.old) (W.failures out.new)) }
+    {
+        self.console.key(byte, out)
+    }
+
+    /// A read takes what it can of what was typed, into its buffer behind what it took before.
+    pub(crate) fn receive(&mut self, at: usize, pending: &Pending) -> Taken
+        requires running { self.old.spaces.active ≡ Some at }
+        requires can { IsReading (held_at self.old.spaces at).memory pending.now }
+        ensures received { self.new ≡ received self.old at (next_place pending.now) (line_for self.old pending.now) }
+        ensures count { result.count ≡ length (line_for self.old pending.now).bytes }
+        ensures over { result.over ≡ (line_for self.old pending.now).over }
+        ensures within { result.count ≤ 128 }
+        ensures waits { OnFalse result.over (IsReading (held_at self.new.spaces at).memory (further pending.now result.count)) }
+    {
+        let _pages = self.spaces.pages(at);
+        let left = u64::from(low(pending.args[2])) - pending.done;
+        let mut buffer = [0; ROOM];
+        let taken = self
+            .console
+            .take(left as usize, pending.done > 0, &mut buffer);
+        let address = pending.args[1] + pending.done;
+        let _written = self.spaces.write(at, address, &buffer[..taken.count]);
+        let _kept = self.spaces.pages(at);
+        taken
     }
 
     /// A timer interrupt: the running process becomes ready.

@@ -9,6 +9,7 @@ mod kernel;
 mod memory;
 mod numbers;
 mod outcome;
+mod read;
 mod ready;
 
 pub use halt::Halt;

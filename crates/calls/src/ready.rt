@@ -16,26 +16,33 @@ pub fn has_slept(ticks: u32, pending: &Pending) -> bool
 }
 
 // Whether the condition of a waiting call holds.
-fn can_go_on(ticks: u32, places: &[Place], process: &Process, pending: &Pending) -> bool
-    ensures { result ≡ can_go_on ticks places.now process.now pending.now pending.now.number }
+fn can_go_on(
+    ticks: u32,
+    input: bool,
+    places: &[Place],
+    process: &Process,
+    pending: &Pending,
+) -> bool
+    ensures { result ≡ can_go_on ticks input places.now process.now pending.now pending.now.number }
 {
     match pending.number {
         Call::Wait => zombie_child(places, process.pid).is_some(),
         Call::Sleep => has_slept(ticks, pending),
+        Call::Read => input,
         _ => false,
     }
 }
 
-/// Whether the process in a place is ready.
-pub fn is_ready(ticks: u32, places: &[Place], at: usize) -> bool
-    ensures { result ≡ is_ready ticks places.now at }
+/// Whether the process in a place is ready; `input`: a read can take something.
+pub fn is_ready(ticks: u32, input: bool, places: &[Place], at: usize) -> bool
+    ensures { result ≡ is_ready ticks input places.now at }
 {
     match places.get(at) {
         Some(Some(process)) => match process.mode {
             Mode::Running => process.killed,
             Mode::Ready => true,
             Mode::Waiting(pending) => {
-                can_go_on(ticks, places, process, &pending) || process.killed
+                can_go_on(ticks, input, places, process, &pending) || process.killed
             }
             Mode::Zombie(_) => false,
         },

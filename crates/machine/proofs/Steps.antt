@@ -1,5 +1,5 @@
 -- What an event comes to, from what the kernel makes of it.
-use Rattle.calls.specs.Does.{Does, Makes}
+use Rattle.calls.specs.Does.{Dispatches, Does, Makes}
 use Rattle.calls.specs.declared.halt.Halt.{Halt}
 use Rattle.calls.specs.declared.halt.Halt.TheVariants.{Console, Device, Halted, InitEnded}
 use Rattle.calls.specs.Kernel.{Kernel, state_of}
@@ -38,6 +38,17 @@ does-gives failures old new disk failed a before after rising (Err Console) goes
 does-gives failures old new disk failed a before after rising (Err Device) goes flag made = absurd made
 does-gives failures old new disk failed a before after rising (Err Halted) goes flag made = absurd made
 
+-- an event that halts nothing: it is done, or the console failed
+pub goes-gives : {D : Type 0} (failures : D → ℕ) (old new : Kernel) (disk : D) (failed : Bool) (a : After) (before after : Option (List ℕ)) (rising : Type 0) (result : Result (Unit {0}) Halt)
+    → old.halted ≡ None → a.state.halted ≡ None → failed ≡ fails result → Dispatches new a before after rising result
+    → StepGives failures (told old disk false) (told new disk failed) a before after rising result
+goes-gives failures old new disk failed a before after rising (Ok u) goes on flag made =
+    rw flag (up old disk goes, done-gives failures old new disk a before after None (record { state = made.state; halts = on; printed = made.printed }))
+goes-gives failures old new disk failed a before after rising (Err (InitEnded status)) goes on flag made = absurd made
+goes-gives failures old new disk failed a before after rising (Err Console) goes on flag made = rw flag (up old disk goes, record { rises = made.0; failed = refl; printed = made.1 })
+goes-gives failures old new disk failed a before after rising (Err Device) goes on flag made = absurd made
+goes-gives failures old new disk failed a before after rising (Err Halted) goes on flag made = absurd made
+
 -- an event that halts nothing and prints nothing
 pub quiet-gives : {D : Type 0} (failures : D → ℕ) (old new : Kernel) (disk : D) (a : After) (at : Option (List ℕ))
     → old.halted ≡ None → a.state.halted ≡ None → a ≡ quiet (state_of new)
@@ -64,7 +75,3 @@ tick-halts s = stopped-halts s (running s)
 pub key-halts : (s : State) (b : ℕ) → (next s (Key b)).state.halted ≡ s.halted
 unfolding next
 key-halts s b = refl
-
-pub next-keys : (s : State) (b : ℕ) → next s (Key b) ≡ quiet s
-unfolding next
-next-keys s b = refl

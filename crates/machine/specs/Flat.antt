@@ -1,6 +1,6 @@
 -- A flat program in memory, and the process and the spaces that begin with it.
 use Rattle.std.specs.Prelude.{List, None, Some, [], false, length, replicate, true, ℕ, ◌*◌, ◌-◌, ◌∷◌}
-use Rattle.calls.specs.Kernel.{Kernel}
+use Rattle.calls.specs.Kernel.{Kernel, begun}
 use Rattle.proc.specs.declared.process.Process.{Process}
 use Rattle.proc.specs.Places.{Places}
 use Rattle.spaces.specs.Spaces.{Held, Spaces}
@@ -55,4 +55,4 @@ first_table size = record { places = Some (first size) ∷ free_slots 63; last =
 
 -- the kernel of a machine that begins with a space
 abbrev pub first_kernel : ℕ → Held → Kernel
-first_kernel frames space = record { table = first_table space.size; spaces = alone frames space; ticks = 0; halted = None }
+first_kernel frames space = begun (first_table space.size) (alone frames space)

@@ -89,7 +89,11 @@ impl<D: BlockDev, T: Translate + Drop> Machine<D, T> {
                 self.kernel.tick();
                 Ok(())
             }
-            Event::Key(_) => Ok(()),
+            Event::Key(byte) => {
+                let done = self.kernel.key(byte, console);
+                self.failed = is_console(&done);
+                done
+            }
         }
     }
 

@@ -1,5 +1,6 @@
 //! Whole runs, against the values that the definitions of the abstract Unix give on the same programs.
 mod processes;
+mod typing;
 
 use crate::{BootFault, Halt, Machine, ProcessState, boot_flat, boot_flat_with};
 use blockdev::MemDisk;
@@ -44,7 +45,7 @@ const CALLER: [u32; 8] = [
 // The steps from the turn to the first answer, and from one answer to the next.
 pub(crate) const FIRST_ANSWER: usize = 7;
 
-const NEXT_ANSWER: usize = 7;
+pub(crate) const NEXT_ANSWER: usize = 7;
 
 pub(crate) const EXIT: u64 = 2;
 
@@ -67,7 +68,7 @@ pub(crate) fn program(alloc: Global, words: &[u32], rest: &[u8]) -> Result<Vec<u
     Ok(bytes)
 }
 
-fn caller(alloc: Global, calls: &[[u64; 4]]) -> Result<Vec<u8>, AllocError> {
+pub(crate) fn caller(alloc: Global, calls: &[[u64; 4]]) -> Result<Vec<u8>, AllocError> {
     let mut bytes = program(alloc, &CALLER, &[])?;
     for call in calls {
         for number in call {
@@ -95,12 +96,12 @@ pub(crate) fn steps<W: Write>(
 }
 
 // What stands in a0.
-fn answer(rt: &impl Abort, machine: &Flat) -> u64 {
+pub(crate) fn answer(rt: &impl Abort, machine: &Flat) -> u64 {
     machine.inspect(1).expect(rt, "process 1").registers[10]
 }
 
 // After each of these calls: what it answers, and how many frames are free.
-fn expect_answers(
+pub(crate) fn expect_answers(
     rt: &(impl Abort + AllocGlobal),
     frames: u32,
     calls: &[[u64; 4]],
@@ -157,9 +158,9 @@ fn a_tick_costs_a_turn(rt: HostRuntime) {
     for (count, text, done) in [
         (7, "", Ok(())),
         (8, "hi\n", Ok(())),
-        (11, "hi\n", Ok(())),
-        (12, "hi\n", Err(Halt::InitEnded(0))),
-        (13, "hi\n", Err(Halt::InitEnded(0))),
+        (11, "hi\na", Ok(())),
+        (12, "hi\na", Err(Halt::InitEnded(0))),
+        (13, "hi\na", Err(Halt::InitEnded(0))),
     ] {
         let mut machine = booted(&rt, bytes.as_slice(), 256);
         let mut out = Writer::new(Vec::new(rt.alloc()));

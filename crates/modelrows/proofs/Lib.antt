@@ -6,6 +6,7 @@ mod FlatRows
 mod WriteRows
 mod ProcessRows
 mod FamilyRows
+mod ConsoleRows
 mod PlanRows
 mod WalkRows
 mod ImageRows

@@ -8,6 +8,7 @@ use Rattle.unixmodel.specs.declared.process.Mode.TheVariants.{Ready, Running, Wa
 use Rattle.unixmodel.specs.declared.trap.Cause.{Cause}
 use Rattle.unixmodel.specs.declared.trap.Cause.TheVariants.{Breakpoint, EnvironmentCall, IllegalInstruction, InstructionMisaligned, InstructionPageFault, LoadMisaligned, LoadPageFault, StoreMisaligned, StorePageFault}
 use Rattle.unixmodel.specs.Calls.{After, call, quiet, resume}
+use Rattle.unixmodel.specs.Console.{Keyed, key}
 use Rattle.unixmodel.specs.Cycle.{cycle}
 use Rattle.unixmodel.specs.Meaning.{Change, Computed, Effect}
 use Rattle.unixmodel.specs.Meaning.Change.{Bytes, Nothing}
@@ -92,8 +93,11 @@ stopped s (Some i) = change_process s i (with_mode Ready)
 abbrev pub tick : State → State
 tick s = record (stopped s (running s)) { ticks = (s.ticks + 1) % 2 ^ 32 }
 
+-- the console takes a typed byte, and prints what it echoes
+abbrev pub typed : State → Keyed → After
+typed s k = record { state = record s { console = k.console }; bytes = k.echo }
+
 unfoldable pub next : State → Event → After
 next s Step = step s (running s)
 next s Tick = quiet (tick s)
--- typed bytes are not taken yet
-next s (Key k) = quiet s
+next s (Key k) = typed s (key s.console k)

@@ -10,6 +10,14 @@ returns-in-Wait g c =
     let f = r.1.1 in
     resumes k c.args.at r.0 r.1.0 is c.requires.idle f.there f.alive f.live f.free c.args.pending f.waits ∙ (rw c.start.ensures at c.wait_on.ensures.gives)
 
+pub returns-in-Read : goal.returns-in-Read
+returns-in-Read g c =
+    let k = c.args.self.now in
+    let is = c.active-sound.ensures.sound in
+    let r = resting-of k c.args.at c.args.pending is c.requires.waits in
+    let f = r.1.1 in
+    resumes k c.args.at r.0 r.1.0 is c.requires.idle f.there f.alive f.live f.free c.args.pending f.waits ∙ (rw c.start.ensures at c.read_on.ensures.gives)
+
 pub returns-in_default : goal.returns-in_default
 returns-in_default g c =
     let k = c.args.self.now in

@@ -1,5 +1,5 @@
 use Rattle.machine.proofs.machine.Machine.step.Goals as goal
-use Rattle.machine.proofs.Steps.{does-gives, key-halts, next-keys, quiet-gives, tick-halts}
+use Rattle.machine.proofs.Steps.{does-gives, goes-gives, key-halts, quiet-gives, tick-halts}
 use Rattle.calls.specs.Kernel.{state_of}
 use Rattle.std.proofs.Common.{◌∙◌}
 use Rattle.unixmodel.specs.declared.event.Event.TheVariants.{Key, Step, Tick}
@@ -24,6 +24,7 @@ returns-in-Tick-clause-gives g c =
 pub returns-in-Key-clause-gives : goal.returns-in-Key-clause-gives
 returns-in-Key-clause-gives g c =
     let k = c.self.inside.kernel in
-    let b = c.in-Key.field-0 in
+    let b = c.in-Key.byte in
     let up = rw (← c.self.view_is) at (c.is_stopped.ensures.up c.if-is_stopped.false) in
-    rw (← c.self.view_is, up.sound, c.in-Key.is) (quiet-gives _ k k _ (next (state_of k) (Key b)) _ up.goes (key-halts (state_of k) b ∙ up.goes) (next-keys (state_of k) b))
+    rw (← c.self.view_is, up.sound, c.in-Key.is)
+    (goes-gives _ k c.key-done.new.self _ _ (next (state_of k) (Key b)) _ _ _ c.key-done.result up.goes (key-halts (state_of k) b ∙ up.goes) c.is_console-self-inside-in-Key.ensures c.key-done.ensures.gives)

@@ -1,0 +1,8 @@
+pub mod Places
+pub mod Meant
+pub mod Sound
+pub mod Mapped
+pub mod Counts
+pub mod Whole
+pub mod Pipes
+pub mod Free

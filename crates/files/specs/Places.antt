@@ -1,0 +1,87 @@
+-- The table of open files, in the words of the abstract Unix's state: an open file, and how many descriptors name it.
+use Rattle.std.specs.Prelude.{Bool, Err, List, None, Ok, Option, Result, Some, count_by, if◌then◌else◌, is_none, length, map, nat_lt, option_and_then, option_map, slice_set, ℕ, ◌+◌, ◌-◌, ◌<◌, ◌≡◌}
+use Rattle.std.specs.List.{list_any}
+use Rattle.files.specs.declared.table.FileFault.{FileFault}
+use Rattle.files.specs.declared.table.FileFault.TheVariants.{NotReadable, NotWritable, Slots}
+use Rattle.unixmodel.specs.Files.{free_slot, put, slot, taken}
+use Rattle.unixmodel.specs.OpenFiles.{End, OpenFile, Target, is_end, is_pipe}
+
+pub record Counted : Type 0 where
+  pub file : OpenFile
+  -- how many descriptors name it
+  pub count : ℕ
+
+-- the open files of a table, as a state has them
+abbrev pub opens_of : List (Option Counted) → List (Option OpenFile)
+opens_of t = map (option_map (λ (c : Counted). c.file)) t
+
+-- ---- counts
+
+abbrev pub count_in : Option Counted → ℕ
+count_in None = 0
+count_in (Some c) = c.count
+
+-- how many descriptors name open file i
+abbrev pub count_at : List (Option Counted) → ℕ → ℕ
+count_at t i = count_in (slot t i)
+
+-- what holds of each table: some descriptor names each open file
+pub record IsTable (t : List (Option Counted)) : Type 0 where
+  pub all : length t ≡ 100
+  pub named : (i : ℕ) (c : Counted) → slot t i ≡ Some c → 0 < c.count
+
+-- ---- changes
+
+-- an open file that one descriptor names takes place i
+abbrev pub opened : List (Option Counted) → ℕ → OpenFile → List (Option Counted)
+opened t i file = put t i (record { file = file; count = 1 })
+
+-- one descriptor more names it
+abbrev pub more : Counted → Counted
+more c = record c { count = c.count + 1 }
+
+abbrev pub shared : List (Option Counted) → ℕ → List (Option Counted)
+shared t i = slice_set t i (option_map more (slot t i))
+
+-- one descriptor fewer names it, and with the last one it goes
+abbrev pub fewer : Counted → Option Counted
+fewer c = if nat_lt 1 c.count then Some (record c { count = c.count - 1 }) else None
+
+abbrev pub closed : List (Option Counted) → ℕ → List (Option Counted)
+closed t i = slice_set t i (option_and_then fewer (slot t i))
+
+-- what it was open on, where the last one goes
+abbrev pub last_in : Counted → Option Target
+last_in c = if nat_lt 1 c.count then None else Some c.file.target
+
+abbrev pub last_target : List (Option Counted) → ℕ → Option Target
+last_target t i = option_and_then last_in (slot t i)
+
+-- ---- answers
+
+-- the lowest free place
+abbrev pub place_from : Option ℕ → Result ℕ FileFault
+place_from None = Err Slots
+place_from (Some i) = Ok i
+
+abbrev pub place_for : List (Option OpenFile) → Result ℕ FileFault
+place_for opens = place_from (free_slot opens)
+
+-- how many places are free
+abbrev pub free_count : List (Option Counted) → ℕ
+free_count t = count_by is_none t
+
+abbrev pub readable_at : Option OpenFile → Result Target FileFault
+readable_at None = Err NotReadable
+readable_at (Some f) = if f.readable then Ok f.target else Err NotReadable
+
+abbrev pub writable_at : Option OpenFile → Result Target FileFault
+writable_at None = Err NotWritable
+writable_at (Some f) = if f.writable then Ok f.target else Err NotWritable
+
+-- whether some open file is this end of a pipe, or some end of it
+abbrev pub has_end : List (Option OpenFile) → ℕ → End → Bool
+has_end opens q end = list_any (λ (f : OpenFile). is_end q end f.target) (taken opens)
+
+abbrev pub has_pipe : List (Option OpenFile) → ℕ → Bool
+has_pipe opens q = list_any (λ (f : OpenFile). is_pipe q f.target) (taken opens)

@@ -1,0 +1,230 @@
+//! The table of open files.
+ghost use Rattle.std.specs.Prelude.{◌≡◌, ◌<◌, ℕ, count_by, is_none, length, option_map, IfSome, IfOk, OnErr, slice_set};
+ghost use Rattle.std.specs.List.{list_any};
+ghost use Rattle.std.specs.Result.{result_map_both};
+ghost use Rattle.files.specs.Meant.{counted_of, end_of, file_of, is_slot_end, is_slot_pipe, target_of};
+ghost use Rattle.files.specs.Places.{IsTable, closed, count_at, free_count, has_end, has_pipe, last_target, opened, opens_of, place_for, readable_at, shared, writable_at};
+ghost use Rattle.unixmodel.specs.Files.{free_slot, free_slots, slot};
+ghost use Rattle.unixmodel.specs.State.{holds};
+
+use crate::file::{End, OpenFile, Target};
+use arrayvec::ArrayVec;
+use std::marker::Model;
+use thiserror::Error;
+
+/// How many places there are.
+pub const PLACES: usize = 100;
+
+/// Why a call on an open file is refused.
+#[derive(Clone, Copy, Debug, PartialEq, Eq, Error)]
+pub enum FileFault {
+    #[error("no place is free")]
+    Slots = 1,
+    #[error("it is not open for reading")]
+    NotReadable,
+    #[error("it is not open for writing")]
+    NotWritable,
+}
+
+// An open file, and how many descriptors name it.
+#[derive(Clone, Copy)]
+struct Slot {
+    file: OpenFile,
+    references: u32,
+}
+
+/// The places.
+#[derive(Drop)]
+pub struct Files {
+    slots: ArrayVec<Option<Slot>, 100>,
+}
+
+impl Model for Files {
+    ghost use Rattle.std.specs.Prelude.{List, Option, map, option_map};
+    ghost use Rattle.files.specs.Places.{Counted};
+
+    ghost Value = { List (Option Counted) };
+
+    ghost use Rattle.files.specs.Meant.{counted_of};
+
+    ghost view = { λ t. map (option_map counted_of) t.slots.items };
+
+    ghost use Rattle.files.specs.Sound.{IsSound};
+
+    ghost invariant = { IsSound };
+}
+
+// The lowest free place.
+fn free_place(slots: &[Option<Slot>]) -> Option<usize>
+    ensures place { result ≡ free_slot slots.now }
+    ensures within { IfSome result (λ i. i < length slots.now) }
+{
+    slots.iter().position(|slot| slot.is_none())
+}
+
+// How many places are free.
+fn free_count(slots: &[Option<Slot>]) -> usize
+    ensures { result ≡ count_by is_none slots.now }
+{
+    slots.iter().filter(|slot| slot.is_none()).count()
+}
+
+// Whether some open file is this end of a pipe.
+fn any_end(slots: &[Option<Slot>], pipe: usize, end: End) -> bool
+    ensures { result ≡ list_any (holds (is_slot_end pipe (end_of end))) slots.now }
+{
+    slots.iter().any(|slot| match slot {
+        Some(slot) => slot.file.target.is_end(pipe, end),
+        None => false,
+    })
+}
+
+// Whether some open file is an end of a pipe.
+fn any_pipe(slots: &[Option<Slot>], pipe: usize) -> bool
+    ensures { result ≡ list_any (holds (is_slot_pipe pipe)) slots.now }
+{
+    slots.iter().any(|slot| match slot {
+        Some(slot) => slot.file.target.is_pipe(pipe),
+        None => false,
+    })
+}
+
+impl Files {
+    /// Free places.
+    pub fn new() -> Files
+        ensures { result ≡ free_slots 100 }
+    {
+        Files {
+            slots: ArrayVec::from_array_in((), [None; 100]),
+        }
+    }
+
+    // An open file and its count.
+    fn slot(&self, id: usize) -> Option<Slot>
+        ensures slot { option_map counted_of result ≡ slot self.now id }
+        ensures within { IfSome result (λ s. (id < 100) × (0 < s.references)) }
+    {
+        match self.slots.as_slice().get(id) {
+            Some(slot) => *slot,
+            None => None,
+        }
+    }
+
+    // Puts an open file in a place, or frees it.
+    fn set(&mut self, id: usize, slot: Option<Slot>)
+        requires inside { id < 100 }
+        requires named { IfSome slot (λ s. 0 < s.references) }
+        ensures { self.new ≡ slice_set self.old id (option_map counted_of slot) }
+    {
+        self.slots[id] = slot;
+    }
+
+    /// How many places are free.
+    pub fn free_places(&self) -> usize
+        ensures free { result ≡ free_count self.now }
+        ensures sound { IsTable self.now }
+    {
+        free_count(self.slots.as_slice())
+    }
+
+    /// Puts an open file that one descriptor names in the lowest free place.
+    pub fn open(&mut self, file: OpenFile) -> Result<usize, FileFault>
+        ensures place { result ≡ place_for (opens_of self.old) }
+        ensures ok { IfOk result (λ i. self.new ≡ opened self.old i (file_of file)) }
+        ensures err { OnErr result (self.new ≡ self.old) }
+        ensures within { IfOk result (λ i. i < 100) }
+    {
+        match free_place(self.slots.as_slice()) {
+            Some(id) => {
+                self.set(
+                    id,
+                    Some(Slot {
+                        file,
+                        references: 1,
+                    }),
+                );
+                Ok(id)
+            }
+            None => Err(FileFault::Slots),
+        }
+    }
+
+    /// One more descriptor names an open file. Nothing changes where the place is free.
+    pub fn dup(&mut self, id: usize)
+        requires { count_at self.old id < 4294967295 }
+        ensures { self.new ≡ shared self.old id }
+    {
+        if let Some(slot) = self.slot(id) {
+            self.set(
+                id,
+                Some(Slot {
+                    references: slot.references + 1,
+                    ..slot
+                }),
+            );
+        }
+    }
+
+    /// One descriptor fewer names an open file. With the last one its place becomes free, and what it was open on is
+    /// told. Nothing changes where the place is free.
+    pub fn close(&mut self, id: usize) -> Option<Target>
+        ensures table { self.new ≡ closed self.old id }
+        ensures last { option_map target_of result ≡ last_target self.old id }
+    {
+        let slot = self.slot(id)?;
+        if slot.references > 1 {
+            self.set(
+                id,
+                Some(Slot {
+                    references: slot.references - 1,
+                    ..slot
+                }),
+            );
+            None
+        } else {
+            self.set(id, None);
+            Some(slot.file.target)
+        }
+    }
+
+    /// An open file.
+    pub fn file(&self, id: usize) -> Option<OpenFile>
+        ensures { option_map file_of result ≡ slot (opens_of self.now) id }
+    {
+        self.slot(id).map(|slot| slot.file)
+    }
+
+    /// What an open file is open on, where it is open for reading.
+    pub fn read(&self, id: usize) -> Result<Target, FileFault>
+        ensures { result_map_both target_of (λ fault. fault) result ≡ readable_at (slot (opens_of self.now) id) }
+    {
+        match self.file(id) {
+            Some(file) if file.readable => Ok(file.target),
+            _ => Err(FileFault::NotReadable),
+        }
+    }
+
+    /// What an open file is open on, where it is open for writing.
+    pub fn write(&self, id: usize) -> Result<Target, FileFault>
+        ensures { result_map_both target_of (λ fault. fault) result ≡ writable_at (slot (opens_of self.now) id) }
+    {
+        match self.file(id) {
+            Some(file) if file.writable => Ok(file.target),
+            _ => Err(FileFault::NotWritable),
+        }
+    }
+
+    /// Whether some open file is this end of a pipe.
+    pub fn has_end(&self, pipe: usize, end: End) -> bool
+        ensures { result ≡ has_end (opens_of self.now) pipe (end_of end) }
+    {
+        any_end(self.slots.as_slice(), pipe, end)
+    }
+
+    /// Whether some open file is an end of a pipe.
+    pub fn has_pipe(&self, pipe: usize) -> bool
+        ensures { result ≡ has_pipe (opens_of self.now) pipe }
+    {
+        any_pipe(self.slots.as_slice(), pipe)
+    }
+}

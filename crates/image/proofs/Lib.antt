@@ -1,0 +1,14 @@
+pub mod Bounds
+pub mod Copying
+pub mod Denoting
+pub mod Distinct
+pub mod Entering
+pub mod Lists
+pub mod Marking
+pub mod Named
+pub mod Nodes
+pub mod Numbers
+pub mod Spelling
+pub mod Summing
+pub mod Super
+pub mod Uses

@@ -1,0 +1,24 @@
+use Rattle.std.proofs.Common.{◌≤◌, sym, ◌∙◌, arith}
+use Rattle.std.proofs.lemmas.Bool.{OnTrue_from, OnFalse_from, false≢true}
+use Rattle.std.proofs.lemmas.Bool.Decides.{Decides-eqb}
+use Rattle.unixmodel.specs.Image.{kind_in}
+use Rattle.image.specs.Pieces.{HasKinds}
+use Rattle.image.proofs.Bounds.{up_to_more}
+use Rattle.image.proofs.kinds.has_kinds.Goals as goal
+
+pub returns-then-kind-gt3-clause-bad : goal.returns-then-kind-gt3-clause-bad
+returns-then-kind-gt3-clause-bad c = λ h.
+    let known = h.known c.loop-n.n (omega arith) (omega (arith, c.requires.inodes)) in
+    omega (arith, c.kind.ensures)
+
+pub loop-n-preserved : goal.loop-n-preserved
+loop-n-preserved c = up_to_more (λ m. kind_in c.args.image.now m ≤ 3) c.loop-n.n c.loop-n.invariant (omega (arith, c.kind.ensures))
+
+pub returns-clause-good : goal.returns-clause-good
+returns-clause-good c = OnTrue_from _ (HasKinds c.args.image.now) (λ t. record {
+  known = λ n low high. c.loop-n.invariant n low (omega (arith, c.requires.inodes, c.loop-n-test.false));
+  root = sym c.kind-2.ensures ∙ (Decides-eqb c.kind-2.result 1).0 t;
+})
+
+pub returns-clause-bad : goal.returns-clause-bad
+returns-clause-bad c = OnFalse_from _ (HasKinds c.args.image.now → ⊥) (λ f h. false≢true (sym f ∙ (Decides-eqb c.kind-2.result 1).1 (c.kind-2.ensures ∙ h.root)))

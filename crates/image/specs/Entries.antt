@@ -1,0 +1,33 @@
+-- The places of a directory behind "." and "..", one by one.
+use Rattle.std.specs.Prelude.{All, AllPairs, IsSome, IsTrue, List, None, Option, Some, drop, take, ℕ, ⊤, ◌≡◌, ◌≢◌}
+use Rattle.unixmodel.specs.Files.{Entry, slot, taken}
+use Rattle.unixmodel.specs.Image.{is_name}
+use Rattle.image.specs.Places.{files_in, places_in}
+
+-- the entry has a name, and its number is in use
+pub record IsGood (image : List ℕ) (e : Entry) : Type 0 where
+  pub name : IsTrue (is_name e.name)
+  pub number : IsSome (slot (files_in image) e.number)
+
+-- what holds of the entry in a place, if it is taken
+abbrev pub Holds : (Entry → Type 0) → Option Entry → Type 0
+Holds P None = ⊤
+Holds P (Some e) = P e
+
+abbrev pub GoodPlace : List ℕ → Option Entry → Type 0
+GoodPlace image o = Holds (IsGood image) o
+
+-- the entries before place k
+abbrev pub entries_to : List ℕ → ℕ → List Entry
+entries_to bytes k = taken (drop 2 (take k (places_in bytes)))
+
+abbrev pub entries_in : List ℕ → List Entry
+entries_in bytes = taken (drop 2 (places_in bytes))
+
+-- no entry has the name of the place
+abbrev pub IsOther : Option Entry → Entry → Type 0
+IsOther None e = ⊤
+IsOther (Some f) e = e.name ≢ f.name
+
+abbrev pub AreOther : Entry → Entry → Type 0
+AreOther e f = e.name ≢ f.name

@@ -1,0 +1,67 @@
+//! Numbers in the bytes of an image, and the fields of its inodes.
+
+ghost use Rattle.std.specs.Prelude.{◌≡◌, ℕ, ◌+◌, ◌*◌, ◌/◌, ◌%◌, ◌<◌, ◌≤◌, length};
+ghost use Rattle.unixmodel.specs.Numbers.{number_at};
+ghost use Rattle.unixmodel.specs.Image.{inode_at, kind_in, links_in, length_in, indirect_in};
+
+use byteorder::{ByteOrder, LittleEndian};
+
+// The number of two bytes at a place.
+pub fn number16(image: &[u8], at: usize) -> u16
+    requires { at + 2 ≤ length image.now }
+    ensures { result ≡ number_at 2 at image.now }
+{
+    LittleEndian::read_u16(&image[at..])
+}
+
+// The number of four bytes at a place.
+pub fn number32(image: &[u8], at: usize) -> u32
+    requires { at + 4 ≤ length image.now }
+    ensures { result ≡ number_at 4 at image.now }
+{
+    LittleEndian::read_u32(&image[at..])
+}
+
+// The place of an inode's 64 bytes.
+pub fn inode_place(n: usize) -> usize
+    requires { n < 8192 }
+    ensures { result ≡ inode_at n }
+{
+    1024 * (2 + n / 16) + 64 * (n % 16)
+}
+
+// The type of an inode: 0 free, 1 directory, 2 file, 3 device.
+pub fn kind(image: &[u8], n: usize) -> u16
+    requires number { n < 8192 }
+    requires inside { inode_at n + 64 ≤ length image.now }
+    ensures { result ≡ kind_in image.now n }
+{
+    number16(image, inode_place(n))
+}
+
+// How many names an inode says that it has.
+pub fn links(image: &[u8], n: usize) -> u16
+    requires number { n < 8192 }
+    requires inside { inode_at n + 64 ≤ length image.now }
+    ensures { result ≡ links_in image.now n }
+{
+    number16(image, inode_place(n) + 6)
+}
+
+// The size of an inode in bytes.
+pub fn size(image: &[u8], n: usize) -> u32
+    requires number { n < 8192 }
+    requires inside { inode_at n + 64 ≤ length image.now }
+    ensures { result ≡ length_in image.now n }
+{
+    number32(image, inode_place(n) + 8)
+}
+
+// The number of the block that holds the numbers past the twelfth.
+pub fn indirect(image: &[u8], n: usize) -> u32
+    requires number { n < 8192 }
+    requires inside { inode_at n + 64 ≤ length image.now }
+    ensures { result ≡ indirect_in image.now n }
+{
+    number32(image, inode_place(n) + 60)
+}
