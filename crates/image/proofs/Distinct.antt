@@ -19,23 +19,25 @@ use Rattle.image.proofs.Spelling.{length-places_in, slot-places_in}
 cut_at : (places : List (Option Entry)) (j : ℕ) → 2 ≤ j → j < length places
     → (rest : List Entry) × (taken (drop 2 places) ≡ (taken (drop 2 (take j places)) ++ option_to_list (get_or places j None)) ++ rest)
 cut_at places j low high =
-    let two : 2 ≤ length (take (j + 1) places) = omega (arith, length-take-le (j + 1) places (omega arith)) in
-    (taken (drop (j + 1) places),
+    let two : 2 ≤ length (take (j + 1) places) = omega (arith, length-take-le (j + 1) places (omega arith)) in (
+      taken (drop (j + 1) places),
       ap (λ os. taken (drop 2 os)) (sym (take-append-drop (j + 1) places))
-      ∙ ap taken (drop-append-le 2 (take (j + 1) places) (drop (j + 1) places) two)
-      ∙ filter_map-append (λ o. o) (drop 2 (take (j + 1) places)) (drop (j + 1) places)
-      ∙ ap (λ r. r ++ taken (drop (j + 1) places)) (taken_more places j low high))
+          ∙ ap taken (drop-append-le 2 (take (j + 1) places) (drop (j + 1) places) two)
+          ∙ filter_map-append (λ o. o) (drop 2 (take (j + 1) places)) (drop (j + 1) places)
+          ∙ ap (λ r. r ++ taken (drop (j + 1) places)) (taken_more places j low high),
+    )
 
 module _ (bytes : List ℕ) (j k : ℕ) (low : 2 ≤ j) (mid : j < k) (high : k ≤ length bytes / 16) where
   pub entries_cut : (rest : List Entry) × (entries_to bytes k ≡ (entries_to bytes j ++ option_to_list (place_of_bytes (take 16 (drop (16 * j) bytes)))) ++ rest)
   entries_cut =
       let places = places_in bytes in
       let long : j < length (take k places) = omega (arith, length-take-le k places (omega (arith, length-places_in bytes))) in
-      let cut = cut_at (take k places) j low long in
-      (cut.0,
+      let cut = cut_at (take k places) j low long in (
+        cut.0,
         cut.1
-        ∙ ap (λ os. (taken (drop 2 os) ++ option_to_list (get_or (take k places) j None)) ++ cut.0) (take-take j k places (omega arith))
-        ∙ ap (λ o. (entries_to bytes j ++ option_to_list o) ++ cut.0) (get_or-take k places j None mid ∙ slot-places_in bytes j (omega arith)))
+            ∙ ap (λ os. (taken (drop 2 os) ++ option_to_list (get_or (take k places) j None)) ++ cut.0) (take-take j k places (omega arith))
+            ∙ ap (λ o. (entries_to bytes j ++ option_to_list o) ++ cut.0) (get_or-take k places j None mid ∙ slot-places_in bytes j (omega arith)),
+      )
 
   pub all_at : (P : Entry → Type 0) → All P (entries_to bytes k) → Holds P (place_of_bytes (take 16 (drop (16 * j) bytes)))
   all_at P h =
@@ -52,8 +54,8 @@ pairs_front es None rest h = λ k d l. tt
 pairs_front es (Some f) rest h = λ k d l.
     let pairs = subst (AllPairs AreOther) (append_assoc es (f ∷ []) rest) h in
     subst (λ (y : Entry). (get_or es k d).name ≢ y.name) (get_or_at es f rest d (length es) refl)
-      (subst (λ (x : Entry). x.name ≢ (get_or (es ++ (f ∷ rest)) (length es) d).name) (get_or_append_left es (f ∷ rest) d k l)
-        (pairs k (length es) d l (omega (arith, length-append es (f ∷ rest)))))
+    (subst (λ (x : Entry). x.name ≢ (get_or (es ++ (f ∷ rest)) (length es) d).name) (get_or_append_left es (f ∷ rest) d k l)
+    (pairs k (length es) d l (omega (arith, length-append es (f ∷ rest)))))
 
 pub pairs_none : AllPairs AreOther []
 pairs_none i j d l m = absurd (omega arith)

@@ -85,11 +85,12 @@ module _ (bytes : List ℕ) (k : ℕ) (low : 2 ≤ k) (high : k < length bytes /
   pub entries_split : (rest : List Entry) × (entries_in bytes ≡ entries_to bytes (k + 1) ++ rest)
   entries_split =
       let places = places_in bytes in
-      let two : 2 ≤ length (take (k + 1) places) = omega (arith, length-take-le (k + 1) places (omega (arith, length-places_in bytes))) in
-      (taken (drop (k + 1) places),
+      let two : 2 ≤ length (take (k + 1) places) = omega (arith, length-take-le (k + 1) places (omega (arith, length-places_in bytes))) in (
+        taken (drop (k + 1) places),
         ap (λ os. taken (drop 2 os)) (sym (take-append-drop (k + 1) places))
-        ∙ ap taken (drop-append-le 2 (take (k + 1) places) (drop (k + 1) places) two)
-        ∙ filter_map-append (λ o. o) (drop 2 (take (k + 1) places)) (drop (k + 1) places))
+            ∙ ap taken (drop-append-le 2 (take (k + 1) places) (drop (k + 1) places) two)
+            ∙ filter_map-append (λ o. o) (drop 2 (take (k + 1) places)) (drop (k + 1) places),
+      )
 
 pub entries_none : (bytes : List ℕ) → entries_to bytes 2 ≡ []
 entries_none bytes = ap taken (drop_all 2 (take 2 (places_in bytes)) (omega (arith, length-take 2 (places_in bytes))))
@@ -110,11 +111,11 @@ module _ (P : Entry → Type 0) where
     pub all_more : All P (entries_to bytes k) → Holds P (place_of_bytes (take 16 (drop (16 * k) bytes))) → All P (entries_to bytes (k + 1))
     all_more h here =
         subst (All P) (sym (entries_more bytes k low high))
-          (All-append P (entries_to bytes k) (option_to_list (place_of_bytes (take 16 (drop (16 * k) bytes)))) h (All-option (place_of_bytes (take 16 (drop (16 * k) bytes))) here))
+        (All-append P (entries_to bytes k) (option_to_list (place_of_bytes (take 16 (drop (16 * k) bytes)))) h (All-option (place_of_bytes (take 16 (drop (16 * k) bytes))) here))
 
     pub all_here : All P (entries_in bytes) → Holds P (place_of_bytes (take 16 (drop (16 * k) bytes)))
     all_here h =
         let split = entries_split bytes k low high in
         let front : All P (entries_to bytes (k + 1)) = All-left P (entries_to bytes (k + 1)) split.0 (subst (All P) split.1 h) in
         Holds-option (place_of_bytes (take 16 (drop (16 * k) bytes)))
-          (All-right P (entries_to bytes k) (option_to_list (place_of_bytes (take 16 (drop (16 * k) bytes)))) (subst (All P) (entries_more bytes k low high) front))
+        (All-right P (entries_to bytes k) (option_to_list (place_of_bytes (take 16 (drop (16 * k) bytes)))) (subst (All P) (entries_more bytes k low high) front))

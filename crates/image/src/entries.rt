@@ -61,7 +61,10 @@ fn are_of_name(name: &[u8]) -> bool
 fn is_good_name(name: &[u8]) -> bool
     ensures { result ≡ is_name name.now }
 {
-    name.len() >= 1 && name.len() <= 14 && are_of_name(name) && !(name == b".".as_slice() || name == b"..".as_slice())
+    name.len() >= 1
+        && name.len() <= 14
+        && are_of_name(name)
+        && !(name == b".".as_slice() || name == b"..".as_slice())
 }
 
 // Whether the number is that of an inode in use.

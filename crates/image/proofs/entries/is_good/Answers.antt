@@ -17,7 +17,7 @@ returns-clause-good c = OnTrue_from c.is_good_name.result (GoodPlace c.args.imag
     let same : is_name c.before_zeros.result.now ≡ is_name (without_zeros (drop 2 place)) = ap is_name (c.before_zeros.ensures ∙ ap without_zeros (between_to_end place 2 (length place) (omega arith))) in
     subst (GoodPlace c.args.image.now) (sym (place-taken place taken)) (record {
       name = sym same ∙ sym c.is_good_name.ensures ∙ t;
-      number = subst (λ n. IsSome (slot (files_in c.args.image.now) n)) c.number16.ensures (OnTrue_at c.if-not-is_used.false c.is_used.ensures.good)
+      number = subst (λ n. IsSome (slot (files_in c.args.image.now) n)) c.number16.ensures (OnTrue_at c.if-not-is_used.false c.is_used.ensures.good);
     }))
 
 pub returns-clause-bad : goal.returns-clause-bad

@@ -15,7 +15,7 @@ returns-then-n-geometry-clause-bad c = none_past c.args.image.now c.args.n (omeg
 pub returns-clause-good : goal.returns-clause-good
 returns-clause-good c = OnTrue_from (not (nat_eq c.kind.result 0)) (IsSome (slot (files_in c.args.image.now) c.args.n)) (λ t.
     used_some c.args.image.now c.args.n (omega (arith, c.if-n-eq0.false)) (omega (arith, c.requires.inodes, c.if-n-geometry.false))
-      (λ z. false≢true (sym (ap not (eq-eqb c.kind.result 0 (c.kind.ensures ∙ z))) ∙ t)))
+    (λ z. false≢true (sym (ap not (eq-eqb c.kind.result 0 (c.kind.ensures ∙ z))) ∙ t)))
 
 pub returns-clause-bad : goal.returns-clause-bad
 returns-clause-bad c = OnFalse_from (not (nat_eq c.kind.result 0)) (IsSome (slot (files_in c.args.image.now) c.args.n) → ⊥) (λ f.
