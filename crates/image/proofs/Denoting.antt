@@ -187,7 +187,7 @@ keeps_size : (image : List ℕ) (n : ℕ) (o : Option Node) → Stands image n o
 keeps_size image n None s most = tt
 keeps_size image n (Some node) s most = let a = most (used_kind image n node s.kind) in let e = s.size in omega arith
 
-module _ (image : List ℕ) (b : HasBlocks image) (fits : (i : ℕ) → get_or image i 0 < 256) where
+module _ (image : List ℕ) (b : HasBlocks image) where
   data-inside : (n : ℕ) → FitsAddresses image n → All (λ x. 1024 * x + 1024 ≤ length image) (data_blocks image n)
   unfolding data_blocks
   data-inside n h =
@@ -195,13 +195,16 @@ module _ (image : List ℕ) (b : HasBlocks image) (fits : (i : ℕ) → get_or i
       All-weaker (λ x. IsTrue (is_data_block image x)) (λ x. 1024 * x + 1024 ≤ length image) (λ x t. omega (arith, is_data_block-below image x t))
       (take (count_in image n) (direct_in image n ++ index_in image n)) (All-data_blocks image n h)
 
-  stands-used : (n : ℕ) → 1 ≤ n → n < inodes_in image → kind_in image n ≢ 0 → IsNode image n (node_in image n)
-  stands-used n low high used =
+  pub contents-long : (n : ℕ) → 1 ≤ n → n < inodes_in image → kind_in image n ≢ 0 → length (contents_in image n) ≡ length_in image n
+  contents-long n low high used =
       let size : length_in image n ≤ longest = (b.inodes.sizes n low high).most used in
       let count : count_in image n ≤ 268 = omega arith in
-      let long : length (contents_in image n) ≡ length_in image n =
-      length-contents image n (length-data_blocks image n count) (data-inside n (FitsAddresses-at image b.addresses n low high used)) in
-      IsNode-from image n (b.inodes.sizes n low high) long (contents-fit image fits n) used (b.inodes.kinds.known n low high)
+      length-contents image n (length-data_blocks image n count) (data-inside n (FitsAddresses-at image b.addresses n low high used))
+
+module _ (image : List ℕ) (b : HasBlocks image) (fits : (i : ℕ) → get_or image i 0 < 256) where
+  stands-used : (n : ℕ) → 1 ≤ n → n < inodes_in image → kind_in image n ≢ 0 → IsNode image n (node_in image n)
+  stands-used n low high used =
+      IsNode-from image n (b.inodes.sizes n low high) (contents-long image b n low high used) (contents-fit image fits n) used (b.inodes.kinds.known n low high)
 
   stands-at : (n : ℕ) → 1 ≤ n → n < inodes_in image → Stands image n (file_in image n)
   stands-at n low high = elim (cases_eq (kind_in image n) 0) [

@@ -6,6 +6,7 @@ pub mod Entering
 pub mod Lists
 pub mod Marking
 pub mod Named
+pub mod Naming
 pub mod Nodes
 pub mod Numbers
 pub mod Spelling

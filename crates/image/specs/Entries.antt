@@ -1,7 +1,7 @@
 -- The places of a directory behind "." and "..", one by one.
-use Rattle.std.specs.Prelude.{All, AllPairs, IsSome, IsTrue, List, None, Option, Some, drop, take, ℕ, ⊤, ◌≡◌, ◌≢◌}
+use Rattle.std.specs.Prelude.{All, AllPairs, IsSome, IsTrue, List, None, Option, Some, drop, take, ℕ, ⊤, ◌<◌, ◌≡◌, ◌≢◌, ◌≤◌}
 use Rattle.unixmodel.specs.Files.{Entry, slot, taken}
-use Rattle.unixmodel.specs.Image.{is_name}
+use Rattle.unixmodel.specs.Image.{contents_in, inodes_in, is_name, kind_in}
 use Rattle.image.specs.Places.{files_in, places_in}
 
 -- the entry has a name, and its number is in use
@@ -29,5 +29,14 @@ abbrev pub IsOther : Option Entry → Entry → Type 0
 IsOther None e = ⊤
 IsOther (Some f) e = e.name ≢ f.name
 
+-- no two entries have one name
 abbrev pub AreOther : Entry → Entry → Type 0
 AreOther e f = e.name ≢ f.name
+
+-- the entries of a directory with these bytes, one by one and in pairs
+pub record HasNames (image bytes : List ℕ) : Type 0 where
+  pub good : All (IsGood image) (entries_in bytes)
+  pub once : AllPairs AreOther (entries_in bytes)
+
+abbrev pub NamesDirectories : List ℕ → Type 0
+NamesDirectories image = (n : ℕ) → 1 ≤ n → n < inodes_in image → kind_in image n ≡ 1 → HasNames image (contents_in image n)

@@ -4,6 +4,7 @@
 mod blocks;
 mod check;
 mod contents;
+mod directories;
 mod entries;
 mod fields;
 mod kinds;

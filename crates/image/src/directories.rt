@@ -1,0 +1,61 @@
+//! The names in the directories of an image.
+
+ghost use Rattle.std.specs.Prelude.{◌≡◌, ◌<◌, ◌≤◌, IfErr, IsErrOf, OnOk};
+ghost use Rattle.unixmodel.specs.Image.{contents_in, kind_in};
+ghost use Rattle.image.specs.Entries.{HasNames, NamesDirectories};
+ghost use Rattle.image.specs.Faults.{HasBlocks, Tells};
+ghost use Rattle.image.specs.Fields.{HasGeometry};
+
+use crate::ImageFault;
+use crate::contents::read_contents;
+use crate::entries::{are_distinct, are_good};
+use crate::fields::kind;
+use layout::Geometry;
+use std::alloc::Allocator;
+
+// Tests the names of a directory, one by one and in pairs. The bytes are room to work in.
+fn test_directory<A: Allocator>(
+    image: &[u8],
+    geometry: Geometry,
+    n: usize,
+    bytes: &mut Vec<u8, A>,
+) -> Result<(), ImageFault>
+    requires geometry { HasGeometry image.now geometry }
+    requires blocks { HasBlocks image.now }
+    requires low { 1 ≤ n }
+    requires high { n < geometry.inodes }
+    requires directory { kind_in image.now n ≡ 1 }
+    ensures named { OnOk result (HasNames image.now (contents_in image.now n)) }
+    ensures fault { IfErr result (λ fault. Tells image.now fault) }
+    ensures device { IsErrOf result ImageFault.Device → ⊥ }
+{
+    read_contents(image, geometry, n, bytes)?;
+    if !are_good(image, geometry, bytes) {
+        return Err(ImageFault::Entry);
+    }
+    if !are_distinct(bytes) {
+        return Err(ImageFault::Entry);
+    }
+    Ok(())
+}
+
+// Tests the names of all directories.
+pub fn test_directories<A: Allocator>(
+    alloc: A,
+    image: &[u8],
+    geometry: Geometry,
+) -> Result<(), ImageFault>
+    requires geometry { HasGeometry image.now geometry }
+    requires blocks { HasBlocks image.now }
+    ensures named { OnOk result (NamesDirectories image.now) }
+    ensures fault { IfErr result (λ fault. Tells image.now fault) }
+    ensures device { IsErrOf result ImageFault.Device → ⊥ }
+{
+    let mut bytes = Vec::new(alloc);
+    for n in 1..geometry.inodes {
+        if kind(image, n) == 1 {
+            test_directory(image, geometry, n, &mut bytes)?;
+        }
+    }
+    Ok(())
+}
