@@ -7,15 +7,27 @@ use std::test::Fail;
 // A byte of an image and what it is set to.
 type Change = (usize, u8);
 
-// The bytes of the super block's numbers: 32 blocks and 16 inodes.
-const NUMBERS: [u32; 8] = [0x1020_3040, 32, 27, 16, 0, 2, 2, 4];
-
-// The root: a directory with its two first places in block 5.
+// The first byte of the root's inode.
 const ROOT: usize = 2048 + 64;
 
-const ROOT_BYTES: [Change; 4] = [(ROOT, 1), (ROOT + 6, 1), (ROOT + 8, 32), (ROOT + 12, 5)];
-
-const PLACES: [Change; 5] = [
+// An image of 32 blocks and 16 inodes, in which the root has its two first places in block 5: the super block's numbers,
+// the root's inode, its places, and the bitmap; the other bytes are 0.
+const SMALL: [Change; 20] = [
+    (1024, 0x40),
+    (1025, 0x30),
+    (1026, 0x20),
+    (1027, 0x10),
+    (1028, 32),
+    (1032, 27),
+    (1036, 16),
+    (1044, 2),
+    (1048, 2),
+    (1052, 4),
+    (ROOT, 1),
+    (ROOT + 6, 1),
+    (ROOT + 8, 32),
+    (ROOT + 12, 5),
+    (4096, 0x3f),
     (5120, 1),
     (5122, b'.'),
     (5136, 1),
@@ -23,22 +35,19 @@ const PLACES: [Change; 5] = [
     (5139, b'.'),
 ];
 
+fn put(bytes: &mut [u8], changes: &[Change]) {
+    for (at, byte) in changes {
+        if let Some(place) = bytes.get_mut(*at) {
+            *place = *byte;
+        }
+    }
+}
+
 // Checks the small image with these changes.
 fn check_with(rt: &HostRuntime, changes: &[Change]) -> Result<Result<Summary, ImageFault>, Fail> {
     let mut bytes = vec![in rt.alloc(); 0; 32 * 1024]?;
-    for (k, number) in NUMBERS.iter().enumerate() {
-        bytes[1024 + 4 * k..1028 + 4 * k].copy_from_slice(&number.to_le_bytes());
-    }
-    bytes[4096] = 0x3f;
-    for (at, byte) in ROOT_BYTES {
-        bytes[at] = byte;
-    }
-    for (at, byte) in PLACES {
-        bytes[at] = byte;
-    }
-    for (at, byte) in changes {
-        bytes[*at] = *byte;
-    }
+    put(bytes.as_mut_slice(), &SMALL);
+    put(bytes.as_mut_slice(), changes);
     let mut disk = MemDisk::new(bytes)?;
     Ok(check_blocks(rt.alloc(), &mut disk))
 }
