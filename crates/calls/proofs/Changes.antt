@@ -1,23 +1,28 @@
 -- Which process runs, and the end of a process.
-use Rattle.std.proofs.Common.{◌≡◌, ◌≢◌, ℕ, zero, suc, ◌<◌, ◌%◌, inl, inr, Bool, true, false, nat_eq, List, [], ◌∷◌, length, map, Option, Some, None, ℤ, refl, ap, sym, ◌∙◌}
-use Rattle.std.specs.List.{list_any}
+use Rattle.std.proofs.Common.{◌≡◌, ◌≢◌, ℕ, zero, suc, ◌<◌, ◌≤◌, ◌%◌, inl, inr, true, false, nat_eq, List, [], ◌∷◌, length, map, Option, Some, None, ℤ, refl, ap, sym, ◌∙◌, arith}
 use Rattle.std.specs.Prelude.{if◌then◌else◌, option_map, slice_index, slice_index_or, slice_set}
 use Rattle.std.proofs.lemmas.Bool.{ne_eqb}
 use Rattle.std.proofs.lemmas.List.{length-map, length-set, set-get_or}
 use Rattle.std.proofs.Math.ListN as listn
-use Rattle.calls.specs.Kernel.{Kernel, base, ended, halted_by, idle, left_as, lives, loaded, memories, memory_in, on_hart, rest_of, state_of}
-use Rattle.calls.specs.Sound.{IsKernel, IsMode, IsPlace, IsPlaced, is_at}
-use Rattle.calls.proofs.Reaped.{match-loaded, reap-state_last}
-use Rattle.calls.proofs.Runs.{IsRun, lives-some, memory-at, put-with, runs-set, same_or_not, set-twice, slot-other, slot-put, slot-within, state-run, with_process, within-run}
+use Rattle.calls.specs.Descriptors.{all_closed, descriptors_in, standing}
+use Rattle.calls.specs.Kernel.{Kernel, base, descriptors_at, ended, halted_by, idle, left_as, left_files, loaded, memories, memory_in, on_hart, rest_of, state_of}
+use Rattle.calls.specs.Sound.{IsKernel, IsMode, IsPlace, IsPlaced, WaitsWell, is_at}
+use Rattle.calls.proofs.Named.{Leaves, counted-ended, counts-joined, fewer-pipes, leaves-standing, opens-all_closed, reap-closed, table-all_closed}
+use Rattle.calls.proofs.Opens.{opened-put, waits-fewer, waits-set}
+use Rattle.calls.proofs.Reaped.{opened-loaded}
+use Rattle.calls.proofs.Runs.{IsRun, memory-at, put-with, runs-set, same_or_not, set-twice, slot-other, slot-put, slot-within, state-run, with_process, within-run}
+use Rattle.files.specs.Counts.{Counts}
+use Rattle.files.specs.Places.{Counted, opens_of}
 use Rattle.proc.specs.declared.process.Process.{Process}
 use Rattle.proc.specs.Places as table
 use Rattle.proc.specs.Places.{Places, changed_at, exited, orphaned, zombie_of}
 use Rattle.proc.specs.Whole.{with_memory, with_table, with_zombie-with_table}
-use Rattle.spaces.specs.Spaces.{Held, Spaces}
+use Rattle.spaces.specs.Spaces.{Held, Spaces, taken_frames}
 use Rattle.unixmodel.specs.declared.process.Mode.{Mode}
 use Rattle.unixmodel.specs.declared.process.Mode.TheVariants.{Ready, Running, Waiting, Zombie}
 use Rattle.unixmodel.specs.Files.{put, slot}
 use Rattle.unixmodel.specs.Memory.{Memory}
+use Rattle.unixmodel.specs.OpenFiles.{OpenFile}
 use Rattle.unixmodel.specs.Outcome as ends
 use Rattle.unixmodel.specs.Outcome.{end_process}
 use Rattle.unixmodel.specs.Process.{is_running_mode}
@@ -80,6 +85,22 @@ pub length-active : (k : Kernel) (o : Option ℕ) → length (changed_at k.table
 length-active k None = refl
 length-active k (Some i) = length-set k.table.places i (option_map (on_hart k.spaces) (slot k.table.places i))
 
+descriptors-changed : (s : Spaces) (os : List (Option Process)) (i j : ℕ) → descriptors_in (slot (slice_set os i (option_map (on_hart s) (slot os i))) j) ≡ descriptors_in (slot os j)
+descriptors-changed s [] i j = refl
+descriptors-changed s (None ∷ os) zero zero = refl
+descriptors-changed s (Some p ∷ os) zero zero = refl
+descriptors-changed s (o ∷ os) zero (suc j) = refl
+descriptors-changed s (o ∷ os) (suc i) zero = refl
+descriptors-changed s (o ∷ os) (suc i) (suc j) = descriptors-changed s os i j
+
+descriptors-active : (k : Kernel) (o : Option ℕ) (j : ℕ) → descriptors_in (slot (changed_at k.table (on_hart k.spaces) o).places j) ≡ descriptors_at k j
+descriptors-active k None j = refl
+descriptors-active k (Some i) j = descriptors-changed k.spaces k.table.places i j
+
+-- the descriptors are those of the loaded table's process
+pub descriptors-loaded : (k : Kernel) (j : ℕ) (q : Process) → slot (loaded k).places j ≡ Some q → descriptors_at k j ≡ q.descriptors
+descriptors-loaded k j q at = sym (descriptors-active k k.spaces.active j) ∙ ap descriptors_in at
+
 -- ---- the process that ran runs no more
 
 abbrev pub left_to : Kernel → ℕ → Process → Kernel
@@ -93,26 +114,25 @@ module _ (k : Kernel) (i : ℕ) (p : Process) (h : Held) (r : IsRun k i p h) (is
   left-as mode = rw r.process refl
 
   module _ (q : Process) (placed : IsPlaced q h) (rests : is_running_mode q.mode ≡ false) where
-    pub left-kernel : IsKernel (left_to k i q)
-    left-kernel = record {
+    pub left-kernel : q.descriptors ≡ p.descriptors → WaitsWell (opens_of k.files) (Some q) → IsKernel (left_to k i q)
+    left-kernel same well = record {
       all = length-set k.table.places i (Some q) ∙ is.all;
       spaces = is.spaces;
       stands = stands-put k.table.places k.spaces.places i (Some q) (within-run k i p h r) (rw r.space placed) is.stands;
       runs = runs-set k.table.places i (Some q) k.spaces.active None (within-run k i p h r) rests (λ j other. rw (r.active, other-at i j other) refl) is.runs;
       fits = is.fits;
+      opened = opened-put k.files k.spaces.pipes k.table.places i (Some q) (same ∙ sym (ap descriptors_in r.process)) well is.opened;
     }
 
-    pub left-state : lives q ≡ true → state_of (left_to k i q) ≡ put_process (state_of k) i (with_memory h.memory q)
-    left-state alive =
-        let rest = base (rest_of k) true in
+    pub left-state : state_of (left_to k i q) ≡ put_process (state_of k) i (with_memory h.memory q)
+    left-state =
+        let rest = base (rest_of k) in
         let old = with_process k.table i (on_hart k.spaces p) in
         let twice : put k.table.places i q ≡ put (put k.table.places i (on_hart k.spaces p)) i q = sym (set-twice k.table.places i (Some (on_hart k.spaces p)) (Some q)) in
         let at : slice_index_or (memories k.spaces) i [] ≡ h.memory = memory-at k.spaces i ∙ ap memory_in r.space in
         let same : memories k.spaces ≡ slice_set (memories k.spaces) i h.memory = sym (ap (λ m. slice_set (memories k.spaces) i m) (sym at) ∙ set-get_or (memories k.spaces) i []) in
         let short : i < length (memories k.spaces) = rw (length-map k.spaces.places memory_in) (slot-within k.spaces.places i h r.space) in
-        let some : list_any (holds lives) (put k.table.places i q) ≡ true = lives-some (put k.table.places i q) i q (slot-put k.table.places i (Some q) (within-run k i p h r)) alive in
-        ap (λ (b : Bool). with_table (base (rest_of k) b) (with_process k.table i q) (memories k.spaces)) some
-        ∙ ap (λ (places : List (Option Process)). with_table rest (record k.table { places = places }) (memories k.spaces)) twice
+        ap (λ (places : List (Option Process)). with_table rest (record k.table { places = places }) (memories k.spaces)) twice
         ∙ ap (λ (ms : List Memory). with_table rest (with_process old i q) ms) same
         ∙ sym (put-with rest old (memories k.spaces) i q h.memory short)
         ∙ sym (ap (λ (s : State). put_process s i (with_memory h.memory q)) (state-run k i p h r))
@@ -138,6 +158,10 @@ orphan-runs : (pid : ℕ) (o : Option Process) → holds table.is_running (optio
 orphan-runs pid None = refl
 orphan-runs pid (Some p) = elim (nat_eq p.parent pid) as (λ b. table.is_running (if b then record p { parent = 1 } else p) ≡ table.is_running p) [ true ↦ refl | false ↦ refl ]
 
+orphan-waits : (opens : List (Option OpenFile)) (pid : ℕ) (o : Option Process) → WaitsWell opens o → WaitsWell opens (option_map (orphaned pid) o)
+orphan-waits opens pid None is = tt
+orphan-waits opens pid (Some p) is = elim (nat_eq p.parent pid) as (λ b. WaitsWell opens (Some (if b then record p { parent = 1 } else p))) [ true ↦ is | false ↦ is ]
+
 slot-map : (f : Process → Process) (os : List (Option Process)) (j : ℕ) → slot (map (option_map f) os) j ≡ option_map f (slot os j)
 slot-map f os j = listn.get_or-map (option_map f) os j None
 
@@ -150,17 +174,27 @@ module _ (k : Kernel) (is : IsKernel k) (z : slice_index k.spaces.registers 0 �
   abbrev gone : Process
   gone = zombie_of q status
 
+  abbrev pub left : List (Option Counted)
+  left = all_closed k.files q.descriptors
+
   abbrev pub ended_to : Kernel
   ended_to = record k {
     table = record (loaded k) { places = put orphans i gone };
-    spaces = idle k.spaces;
+    spaces = record (idle k.spaces) { pipes = standing k.spaces.pipes (opens_of left) };
+    files = left;
     halted = halted_by (Some q) status k.halted;
   }
 
   pub ended-is : ended k i status ≡ ended_to
   ended-is =
-      ap (λ (o : Option Process). record k { table = table.ended (loaded k) i status o; spaces = idle k.spaces; halted = halted_by (slot k.table.places i) status k.halted }) there
-      ∙ ap (λ (f : ℤ → Option ℤ → Option ℤ). record k { table = record (loaded k) { places = put orphans i gone }; spaces = idle k.spaces; halted = f status k.halted }) pids
+      ap (λ (o : Option Process). record k { table = table.ended (loaded k) i status o; spaces = record (idle k.spaces) { pipes = standing k.spaces.pipes (opens_of (left_files k i)) }; files = left_files k i; halted = halted_by (slot k.table.places i) status k.halted }) there
+      ∙ ap (λ (ds : List (Option ℕ)). record k {
+        table = record (loaded k) { places = put orphans i gone };
+        spaces = record (idle k.spaces) { pipes = standing k.spaces.pipes (opens_of (all_closed k.files ds)) };
+        files = all_closed k.files ds;
+        halted = halted_by (slot k.table.places i) status k.halted;
+      }) (descriptors-loaded k i q there)
+      ∙ ap (λ (f : ℤ → Option ℤ → Option ℤ). record k { table = record (loaded k) { places = put orphans i gone }; spaces = record (idle k.spaces) { pipes = standing k.spaces.pipes (opens_of left) }; files = left; halted = f status k.halted }) pids
 
   short : i < length orphans
   short = rw (length-map (loaded k).places (option_map (orphaned q.pid))) (slot-within (loaded k).places i q there)
@@ -177,22 +211,39 @@ module _ (k : Kernel) (is : IsKernel k) (z : slice_index k.spaces.registers 0 �
   orphans-run : (j : ℕ) → holds table.is_running (slot orphans j) ≡ is_at j k.spaces.active
   orphans-run j = rw (slot-map (orphaned q.pid) (loaded k).places j) (orphan-runs q.pid (slot (loaded k).places j) ∙ running-active k k.spaces.active j ∙ is.runs j)
 
+  orphans-wait : (j : ℕ) → WaitsWell (opens_of k.files) (slot orphans j)
+  orphans-wait j = rw (slot-map (orphaned q.pid) (loaded k).places j) (orphan-waits (opens_of k.files) q.pid (slot (loaded k).places j) ((opened-loaded k is).waits j))
+
+  leaves : Leaves left k.spaces.pipes (standing k.spaces.pipes (opens_of left))
+  leaves = leaves-standing k.files k.spaces.pipes q.descriptors is.opened.piped
+
+  fewer : taken_frames ended_to.spaces ≤ k.spaces.frames
+  fewer = omega (arith, is.fits, fewer-pipes k.spaces.pipes (standing k.spaces.pipes (opens_of left)) leaves.1.all leaves.1.each)
+
   pub ended-kernel : IsKernel ended_to
   ended-kernel = record {
     all = length-set orphans i (Some gone) ∙ length-map (loaded k).places (option_map (orphaned q.pid)) ∙ length-active k k.spaces.active ∙ is.all;
     spaces = is.spaces;
     stands = stands-put orphans k.spaces.places i (Some gone) short (rw space gone-placed) orphans-placed;
     runs = runs-set orphans i (Some gone) k.spaces.active None short refl (λ j other. sym (alone j other)) orphans-run;
-    fits = is.fits;
+    fits = fewer;
+    opened = record {
+      table = table-all_closed k.files q.descriptors is.opened.table;
+      counted = counted-ended k.files (loaded k).places i q status (opened-loaded k is).counted there;
+      each = λ n f at. is.opened.each n f (opens-all_closed k.files q.descriptors n f at);
+      all = leaves.1.all ∙ is.opened.all;
+      piped = leaves.0;
+      waits = waits-set (opens_of left) orphans i (Some gone) tt (λ j. waits-fewer (opens_of k.files) (opens_of left) (opens-all_closed k.files q.descriptors) (slot orphans j) (orphans-wait j));
+    };
   }
 
-  pub ended-state : lives q ≡ true → end_process (state_of k) i (with_memory h.memory q) status ≡ state_of ended_to
+  pub ended-state : end_process (state_of k) i (with_memory h.memory q) status ≡ state_of ended_to
   unfolding end_process
-  ended-state alive =
-      let some : list_any (holds lives) (loaded k).places ≡ true = lives-some (loaded k).places i q there alive in
+  ended-state =
       let at : h.memory ≡ slice_index_or (memories k.spaces) i [] = sym (memory-at k.spaces i ∙ ap memory_in space) in
-      let rest = base (rest_of k) true in
-      ap (λ (b : Bool). reap (ends.with_zombie (with_table (base (rest_of k) b) (loaded k) (memories k.spaces)) i (with_memory h.memory q) status)) some
-      ∙ ap (λ (m : Memory). reap (ends.with_zombie (with_table rest (loaded k) (memories k.spaces)) i (with_memory m q) status)) at
+      let rest = base (rest_of k) in
+      let old = record (state_of ended_to) { opens = opens_of k.files; pipes = k.spaces.pipes } in
+      let counts : Counts left old.places = counts-joined left ended_to.table.places (memories k.spaces) ended-kernel.opened.counted in
+      ap (λ (m : Memory). reap (ends.with_zombie (with_table rest (loaded k) (memories k.spaces)) i (with_memory m q) status)) at
       ∙ ap reap (with_zombie-with_table rest (loaded k) (memories k.spaces) i q status)
-      ∙ reap-state_last ended_to.table k.spaces.places (memories k.spaces) (rest_of ended_to) (match-loaded ended_to ended-kernel)
+      ∙ reap-closed old k.files k.spaces.pipes q.descriptors refl is.opened.table is.opened.piped counts

@@ -5,16 +5,20 @@ use Rattle.std.specs.Prelude.{cond, is_some, not, option_map, slice_index, slice
 use Rattle.std.specs.Int.{cast_unsigned, w32}
 use Rattle.std.proofs.lemmas.Bool.{ne_eqb}
 use Rattle.std.proofs.lemmas.List.{length-append, length-set, map-set, take-append-drop}
+use Rattle.calls.specs.Descriptors.{names_in}
 use Rattle.calls.specs.Kernel.{Kernel, answered, argument, base, blocked, collected, entered, memories, memory_in, on_hart, rest_of, state_of, with_status}
 use Rattle.calls.specs.Says.{Collects, CollectsFor, called, gone_on, gone_on_by, pending_for}
-use Rattle.calls.specs.Sound.{IsKernel, IsPending, IsPlaced, can_answer, is_at}
+use Rattle.calls.specs.Sound.{IsEnded, IsKernel, IsMode, IsPending, IsPlace, IsPlaced, can_answer, is_at}
 use Rattle.calls.proofs.Changes.{other-at}
 use Rattle.calls.proofs.Forks.{set-swap}
+use Rattle.calls.proofs.Opens.{opened-names, waits-other}
 use Rattle.calls.proofs.Reaped.{within-state}
 use Rattle.calls.proofs.Rows.{enters-kernel, enters-run, numbered, refuses, waits-run}
 use Rattle.calls.proofs.Runs.{IsRun, moved, moved-kernel, moved-run, moved-state, process-run, process-with, run-of, runs-set, self, set-slot, slot-other, slot-within, stands-set, state-run, with_process}
 use Rattle.calls.proofs.Settles.{settle-done}
 use Rattle.calls.proofs.Steps.{held-run, placed-with}
+use Rattle.files.specs.Counts.{names, names-none}
+use Rattle.files.specs.Places.{opens_of}
 use Rattle.proc.specs.declared.process.Process.{Process}
 use Rattle.proc.specs.declared.table.Reaped.{Reaped}
 use Rattle.proc.specs.Places.{Places, is_child_of, is_zombie_child_of, place_where, reaped_at, reaped_from, without, zombie_place}
@@ -25,11 +29,13 @@ use Rattle.unixmodel.specs.Calls.{call_of, goes_on, quiet, settle}
 use Rattle.unixmodel.specs.Counts.{page_frames}
 use Rattle.unixmodel.specs.declared.call.Call.{Call}
 use Rattle.unixmodel.specs.declared.call.Call.TheVariants.{Wait}
+use Rattle.unixmodel.specs.declared.process.Mode.{Mode}
+use Rattle.unixmodel.specs.declared.process.Mode.TheVariants.{Ready, Running, Waiting, Zombie}
 use Rattle.unixmodel.specs.declared.process.Pending.{Pending}
 use Rattle.unixmodel.specs.Files.{clear, put, slot}
 use Rattle.unixmodel.specs.Memory.{Memory, Page, write_bytes, write_from}
 use Rattle.unixmodel.specs.Numbers.{le, low}
-use Rattle.unixmodel.specs.Outcome.{given, limited, minus_one, pending_arg, provided}
+use Rattle.unixmodel.specs.Outcome.{given, limited, minus_one, no_descriptors, pending_arg, provided}
 use Rattle.unixmodel.specs.Outcome.Outcome.{Done, Refused, Waits}
 use Rattle.unixmodel.specs.Process as unix
 use Rattle.unixmodel.specs.Process.{is_zombie_mode}
@@ -66,10 +72,20 @@ joined-cleared (o ∷ os) [] j m = refl
 joined-cleared (o ∷ os) (n ∷ ms) zero m = refl
 joined-cleared (o ∷ os) (n ∷ ms) (suc j) m = ap (λ qs. option_map (with_memory n) o ∷ qs) (joined-cleared os ms j m)
 
+ended-mode : (p : Process) (memory : Memory) (mode : Mode) → is_zombie_mode mode ≡ true → IsMode p memory mode → IsEnded p
+ended-mode p memory Running zombie is = absurd (cc)
+ended-mode p memory Ready zombie is = absurd (cc)
+ended-mode p memory (Waiting w) zombie is = absurd (cc)
+ended-mode p memory (Zombie status) zombie is = is
+
+ended-place : (p : Process) (q : Option Held) → is_zombie_mode p.mode ≡ true → IsPlace (Some p) q → p.descriptors ≡ no_descriptors
+ended-place p None zombie is = absurd is
+ended-place p (Some h) zombie is = (ended-mode p h.memory p.mode zombie is.mode).descriptors
+
 abbrev pub cleared : Kernel → ℕ → Kernel
 cleared k j = record k { table = without k.table (Some j); spaces = with_place k.spaces j None }
 
-module _ (k : Kernel) (i : ℕ) (p : Process) (h : Held) (r : IsRun k i p h) (is : IsKernel k) (j : ℕ) (child : Process) (at : slot k.table.places j ≡ Some child) (apart : j ≢ i) where
+module _ (k : Kernel) (i : ℕ) (p : Process) (h : Held) (r : IsRun k i p h) (is : IsKernel k) (j : ℕ) (child : Process) (at : slot k.table.places j ≡ Some child) (apart : j ≢ i) (zombie : is_zombie_mode child.mode ≡ true) where
   pub cleared-run : IsRun (cleared k j) i p h
   cleared-run = record {
     active = r.active;
@@ -91,6 +107,10 @@ module _ (k : Kernel) (i : ℕ) (p : Process) (h : Held) (r : IsRun k i p h) (is
       let f : taken_frames k.spaces ≤ k.spaces.frames = is.fits in
       omega (arith, e, f)
 
+  -- a zombie names nothing
+  no-names : child.descriptors ≡ no_descriptors
+  no-names = ended-place child (slot k.spaces.places j) zombie (subst (λ (o : Option Process). IsPlace o (slot k.spaces.places j)) at (is.stands j))
+
   pub cleared-kernel : IsKernel (cleared k j)
   cleared-kernel = record {
     all = length-set k.table.places j None ∙ is.all;
@@ -98,12 +118,13 @@ module _ (k : Kernel) (i : ℕ) (p : Process) (h : Held) (r : IsRun k i p h) (is
     stands = stands-set k.table.places k.spaces.places j None None in-table in-spaces tt is.stands;
     runs = runs-set k.table.places j None k.spaces.active k.spaces.active in-table (sym (ap (is_at j) r.active ∙ other-at i j apart)) (λ n other. refl) is.runs;
     fits = fewer;
+    opened = opened-names k.files k.spaces.pipes k.table.places j None (λ n. sym (ap (names_in n) at ∙ ap (names n) no-names ∙ names-none n)) tt is.opened;
   }
 
   pub cleared-state : state_of (cleared k j) ≡ record (state_of k) { places = clear (state_of k).places j }
   cleared-state =
       let q = on_hart k.spaces p in
-      let rest = base (rest_of k) true in
+      let rest = base (rest_of k) in
       let old = with_process k.table i q in
       let swap : put (clear k.table.places j) i q ≡ clear (put k.table.places i q) j = set-swap k.table.places j i None (Some q) apart in
       let shown : memories (cleared k j).spaces ≡ slice_set (memories k.spaces) j [] = map-set memory_in k.spaces.places j None in
@@ -147,7 +168,7 @@ status-placed k i p h r is (suc a) status = rw (status-written h a status) (plac
 
 -- ---- a child is waited for
 
-module _ (k : Kernel) (i : ℕ) (p : Process) (h : Held) (r : IsRun k i p h) (is : IsKernel k) (j : ℕ) (child : Process) (at : slot k.table.places j ≡ Some child) (apart : j ≢ i) (a : ℕ) (status : ℤ) where
+module _ (k : Kernel) (i : ℕ) (p : Process) (h : Held) (r : IsRun k i p h) (is : IsKernel k) (j : ℕ) (child : Process) (at : slot k.table.places j ≡ Some child) (apart : j ≢ i) (zombie : is_zombie_mode child.mode ≡ true) (a : ℕ) (status : ℤ) where
   abbrev h' : Held
   h' = with_status h a status
 
@@ -155,10 +176,10 @@ module _ (k : Kernel) (i : ℕ) (p : Process) (h : Held) (r : IsRun k i p h) (is
   rest = cleared k j
 
   rest-run : IsRun rest i p h
-  rest-run = cleared-run k i p h r is j child at apart
+  rest-run = cleared-run k i p h r is j child at apart zombie
 
   rest-kernel : IsKernel rest
-  rest-kernel = cleared-kernel k i p h r is j child at apart
+  rest-kernel = cleared-kernel k i p h r is j child at apart zombie
 
   placed : IsPlaced p h'
   placed = status-placed k i p h r is a status
@@ -183,12 +204,12 @@ module _ (k : Kernel) (i : ℕ) (p : Process) (h : Held) (r : IsRun k i p h) (is
       omega (arith, e, f, g)
 
   pub collected-kernel : IsKernel collected_to
-  collected-kernel = moved-kernel rest i p h rest-run rest-kernel p h' k.spaces.registers k.spaces.pc placed r.runs no-more
+  collected-kernel = moved-kernel rest i p h rest-run rest-kernel p h' k.spaces.registers k.spaces.pc placed r.runs refl no-more
 
   pub collected-state : state_of collected_to ≡ record (state_of k) { places = clear (put (state_of k).places i (rows.with_status (self k p h) a status)) j }
   collected-state =
       moved-state rest i p h rest-run rest-kernel p h' k.spaces.registers k.spaces.pc placed r.runs
-      ∙ ap (λ (s : State). put_process s i (self k p h')) (cleared-state k i p h r is j child at apart)
+      ∙ ap (λ (s : State). put_process s i (self k p h')) (cleared-state k i p h r is j child at apart zombie)
       ∙ ap (λ (places : List (Option unix.Process)). record (state_of k) { places = places }) (set-swap (state_of k).places j i None (Some (self k p h')) apart)
       ∙ ap (λ (q : unix.Process). record (state_of k) { places = clear (put (state_of k).places i q) j }) (sym (status-self k p h a status))
 
@@ -199,15 +220,22 @@ module _ (k : Kernel) (i : ℕ) (p : Process) (h : Held) (r : IsRun k i p h) (is
   zombie-run =
       let q = on_hart k.spaces p in
       ap (λ (s : State). zombie_child s p.pid) (state-run k i p h r)
-      ∙ zombie_child-with_table (base (rest_of k) true) (with_process k.table i q) (memories k.spaces) p.pid
+      ∙ zombie_child-with_table (base (rest_of k)) (with_process k.table i q) (memories k.spaces) p.pid
       ∙ where-put (is_zombie_child_of p.pid) k.table.places i p q r.process refl
 
   child-run : has_child (state_of k) p.pid ≡ is_some (place_where k.table.places (is_child_of p.pid))
   child-run =
       let q = on_hart k.spaces p in
       ap (λ (s : State). has_child s p.pid) (state-run k i p h r)
-      ∙ has_child-with_table (base (rest_of k) true) (with_process k.table i q) (memories k.spaces) p.pid
+      ∙ has_child-with_table (base (rest_of k)) (with_process k.table i q) (memories k.spaces) p.pid
       ∙ ap is_some (where-put (is_child_of p.pid) k.table.places i p q r.process refl)
+
+  pub zombie-ended : (j : ℕ) (child : Process) → zombie_place k.table p.pid ≡ Some j → slot k.table.places j ≡ Some child → is_zombie_mode child.mode ≡ true
+  zombie-ended j child found at =
+      let f = place_where-Some (is_zombie_child_of p.pid) k.table.places j found in
+      let same : Some child ≡ Some f.0 = sym at ∙ f.1.0 in
+      let e : child ≡ f.0 = cc in
+      ap (λ (x : Process). is_zombie_mode x.mode) e ∙ and-right _ (is_zombie_mode f.0.mode) f.1.1
 
   -- a zombie doesn't run
   pub zombie-apart : (j : ℕ) → zombie_place k.table p.pid ≡ Some j → j ≢ i
@@ -226,26 +254,26 @@ module _ (k : Kernel) (i : ℕ) (p : Process) (h : Held) (r : IsRun k i p h) (is
 
     module _ (j : ℕ) (child : Process) (found : zombie_place k.table p.pid ≡ Some j) (at : slot k.table.places j ≡ Some child) where
       abbrev new : Kernel
-      new = collected_to k i p h r is j child at (zombie-apart j found) (pending_arg w 0) (status_of child.mode)
+      new = collected_to k i p h r is j child at (zombie-apart j found) (zombie-ended j child found at) (pending_arg w 0) (status_of child.mode)
 
       child-at : process_at (state_of k) j ≡ Some (with_memory (slice_index_or (memories k.spaces) j []) child)
       child-at =
           let q = on_hart k.spaces p in
           ap (λ (s : State). process_at s j) (state-run k i p h r)
-          ∙ process-with (base (rest_of k) true) (with_process k.table i q) (memories k.spaces) j child (slot-other k.table.places i j (Some q) (zombie-apart j found) ∙ at)
+          ∙ process-with (base (rest_of k)) (with_process k.table i q) (memories k.spaces) j child (slot-other k.table.places i j (Some q) (zombie-apart j found) ∙ at)
 
       wait-some : wait_on (state_of k) i (self k p h) w ≡ Done (state_of new) child.pid []
       unfolding wait_on
       wait-some =
           ap (wait_for (state_of k) i (self k p h) w) (zombie-run ∙ found)
           ∙ ap (λ (o : Option unix.Process). given o (λ c. rows.collect (state_of k) i (self k p h) (pending_arg w 0) j c)) child-at
-          ∙ ap (λ (s : State). Done s child.pid []) (sym (collected-state k i p h r is j child at (zombie-apart j found) (pending_arg w 0) (status_of child.mode)))
+          ∙ ap (λ (s : State). Done s child.pid []) (sym (collected-state k i p h r is j child at (zombie-apart j found) (zombie-ended j child found at) (pending_arg w 0) (status_of child.mode)))
 
       new-run : IsRun new i p (with_status h (pending_arg w 0) (status_of child.mode))
-      new-run = collected-run k i p h r is j child at (zombie-apart j found) (pending_arg w 0) (status_of child.mode)
+      new-run = collected-run k i p h r is j child at (zombie-apart j found) (zombie-ended j child found at) (pending_arg w 0) (status_of child.mode)
 
       new-kernel : IsKernel new
-      new-kernel = collected-kernel k i p h r is j child at (zombie-apart j found) (pending_arg w 0) (status_of child.mode)
+      new-kernel = collected-kernel k i p h r is j child at (zombie-apart j found) (zombie-ended j child found at) (pending_arg w 0) (status_of child.mode)
 
       wait-within : limited (wait_on (state_of k) i (self k p h) w) ≡ wait_on (state_of k) i (self k p h) w
       wait-within = rw wait-some (rw (within-state new new-kernel) refl)
@@ -266,15 +294,15 @@ module _ (k : Kernel) (i : ℕ) (p : Process) (h : Held) (r : IsRun k i p h) (is
         gone-run number
         ∙ ap (settle (state_of k) i) (wait-some j child found at)
         ∙ settle-done (new j child found at) i p (with_status h (pending_arg w 0) (status_of child.mode)) (new-run j child found at) (new-kernel j child found at) (state_of k) child.pid []
-        ∙ sym (ap (λ (x : Kernel). quiet (state_of (answered x child.pid))) (collected-is k i p h r is j child at (zombie-apart j found) (pending_arg w 0) (status_of child.mode)))
+        ∙ sym (ap (λ (x : Kernel). quiet (state_of (answered x child.pid))) (collected-is k i p h r is j child at (zombie-apart j found) (zombie-ended j child found at) (pending_arg w 0) (status_of child.mode)))
 
     -- there is none
-    pub gone-none : slice_index k.spaces.registers 0 ≡ 0 → k.spaces.pc % 4 ≡ 0 → w.number ≡ Wait → zombie_place k.table p.pid ≡ None → IsPending h.memory w w.number
+    pub gone-none : slice_index k.spaces.registers 0 ≡ 0 → k.spaces.pc % 4 ≡ 0 → w.number ≡ Wait → zombie_place k.table p.pid ≡ None → IsPending p.descriptors h.memory w w.number
         → gone_on (state_of k) i w ≡ quiet (state_of (blocked k i w))
     gone-none z a number none pending =
         gone-run number
         ∙ ap (settle (state_of k) i) (wait-none none)
-        ∙ ap quiet (waits-run k i p h r is z a w pending)
+        ∙ ap quiet (waits-run k i p h r is z a w pending (waits-other (opens_of k.files) p.descriptors w Wait (λ same. absurd (cc)) (λ same. absurd (cc)) number))
 
 module _ (k : Kernel) (i : ℕ) (p : Process) (h : Held) (r : IsRun k i p h) (is : IsKernel k) (number : call_of (low (slice_index k.spaces.registers 17)) ≡ Some Wait) where
   wait-childless : is_some (place_where k.table.places (is_child_of p.pid)) ≡ false → wait_row (state_of (entered k)) i (self (entered k) p h) ≡ Refused
@@ -361,7 +389,7 @@ reaped-apart k i x is f = zombie-apart k i f.p f.h f.run is x.place f.found
 
 pub collect-keeps : (k : Kernel) (i a : ℕ) (x : Reaped) → IsKernel k → Reaps k i x → IsKernel (collected k i a x.place x.status)
 collect-keeps k i a x is f =
-    rw (collected-is k i f.p f.h f.run is x.place f.child f.at (reaped-apart k i x is f) a x.status) (collected-kernel k i f.p f.h f.run is x.place f.child f.at (reaped-apart k i x is f) a x.status)
+    rw (collected-is k i f.p f.h f.run is x.place f.child f.at (reaped-apart k i x is f) (zombie-ended k i f.p f.h f.run is x.place f.child f.found f.at) a x.status) (collected-kernel k i f.p f.h f.run is x.place f.child f.at (reaped-apart k i x is f) (zombie-ended k i f.p f.h f.run is x.place f.child f.found f.at) a x.status)
 
 -- the table and the spaces after it
 pub reaped-is : (k : Kernel) (i a parent : ℕ) (x : Reaped) → Reaps k i x → IfSome (slot k.table.places i) (λ p. parent ≡ p.pid)
@@ -423,8 +451,8 @@ goes-some k new i w pid is active number collects =
     gone-some k i run.0 run.1.0 run.1.1 is w number d.0 d.1.0 d.1.1.0 d.1.1.1
     ∙ sym (ap (λ (x : Kernel). quiet (state_of (answered x pid))) d.1.1.3 ∙ ap (λ (n : ℕ). quiet (state_of (answered (collected k i (pending_arg w 0) d.0 (status_of d.1.0.mode)) n))) d.1.1.2)
 
-can-pending : (memory : Memory) (w : Pending) (n : Call) → n ≡ Wait → can_answer memory (pending_arg w 0) ≡ true → IsPending memory w n
-can-pending memory w n number can = subst (IsPending memory w) (sym number) can
+can-pending : (descriptors : List (Option ℕ)) (memory : Memory) (w : Pending) (n : Call) → n ≡ Wait → can_answer memory (pending_arg w 0) ≡ true → IsPending descriptors memory w n
+can-pending descriptors memory w n number can = subst (IsPending descriptors memory w) (sym number) can
 
 pub goes-none : (k new : Kernel) (i : ℕ) (w : Pending) → IsKernel k → k.spaces.active ≡ Some i → slice_index k.spaces.registers 0 ≡ 0 → k.spaces.pc % 4 ≡ 0 → w.number ≡ Wait
     → can_answer (held_at k.spaces i).memory (pending_arg w 0) ≡ true → Collects k i (pending_arg w 0) new None → gone_on (state_of k) i w ≡ quiet (state_of (blocked new i w))
@@ -432,7 +460,7 @@ goes-none k new i w is active z a number can collects =
     let run = run-of k i is active in
     let d : CollectsFor k i (pending_arg w 0) new None (Some run.0) = subst (λ (o : Option Process). CollectsFor k i (pending_arg w 0) new None o) run.1.1.process collects in
     let can' : can_answer run.1.0.memory (pending_arg w 0) ≡ true = ap (λ (y : Held). can_answer y.memory (pending_arg w 0)) (sym (held-run k i run.0 run.1.0 run.1.1 is)) ∙ can in
-    gone-none k i run.0 run.1.0 run.1.1 is w z a number d.1 (can-pending run.1.0.memory w w.number number can')
+    gone-none k i run.0 run.1.0 run.1.1 is w z a number d.1 (can-pending run.0.descriptors run.1.0.memory w w.number number can')
     ∙ sym (ap (λ (x : Kernel). quiet (state_of (blocked x i w))) d.0)
 
 -- ---- the row, where e is the kernel after the pc moved

@@ -1,17 +1,23 @@
 -- A process forks.
-use Rattle.std.proofs.Common.{◌≡◌, ◌≢◌, ℕ, zero, suc, ◌+◌, ◌<◌, ◌≤◌, ◌%◌, Bool, true, false, nat_le, List, [], ◌∷◌, length, Option, Some, None, Result, Ok, Err, refl, ap, sym, subst, ◌∙◌, arith}
+use Rattle.std.proofs.Common.{◌≡◌, ◌≢◌, ℕ, zero, suc, ◌+◌, ◌*◌, ◌<◌, ◌≤◌, ◌%◌, Bool, true, false, nat_le, List, [], ◌∷◌, length, Option, Some, None, Result, Ok, Err, refl, ap, sym, subst, ◌∙◌, arith}
 use Rattle.std.specs.List.{prefix_len}
 use Rattle.std.specs.Prelude.{cond, is_none, is_some, unwrap_or, not, option_map, slice_index, slice_set}
 use Rattle.std.proofs.lemmas.List.{get_or-set_other, length-map, length-set, map-set}
 use Rattle.std.proofs.lemmas.List.Quantifiers.{position-Some}
+use Rattle.std.proofs.lemmas.List.Sums.{count_by-le-length, sum_by-cons}
+use Rattle.calls.specs.Descriptors.{all_shared, named_by, names_in}
 use Rattle.calls.specs.Kernel.{Kernel, answered, base, child_of, entered, forked, memories, memory_in, on_hart, rest_of, state_of}
 use Rattle.calls.specs.Says.{IsUnforked, called}
-use Rattle.calls.specs.Sound.{IsKernel, IsPlace, IsPlaced, is_at}
+use Rattle.calls.specs.Sound.{IsKernel, IsLive, IsMode, IsOpened, IsPlace, IsPlaced, is_at}
 use Rattle.calls.proofs.Changes.{other-at}
+use Rattle.calls.proofs.Named.{counted-forked, opens-all_shared, table-all_shared}
+use Rattle.calls.proofs.Opens.{waits-set}
 use Rattle.calls.proofs.Reaped.{match-active, match-place, over-state}
 use Rattle.calls.proofs.Rows.{aligned-next, enters-kernel, enters-run, numbered, refuses}
 use Rattle.calls.proofs.Runs.{IsRun, run-of, runs-set, self, slot-other, stands-set, state-run, with_process}
 use Rattle.calls.proofs.Settles.{live, settle-limited}
+use Rattle.files.specs.Counts.{names, names-none}
+use Rattle.files.specs.Places.{count_at, has_pipe, opens_of}
 use Rattle.proc.specs.declared.process.Process.{Process}
 use Rattle.proc.specs.declared.table.ProcFault.{ProcFault}
 use Rattle.proc.specs.declared.table.Seat.{Seat}
@@ -20,14 +26,18 @@ use Rattle.proc.specs.Whole.{free_slot-joined, joined, seated-with_table, with_m
 use Rattle.spaces.specs.Spaces.{Held, has_space, held_at, no_pages, taken_frames, with_held}
 use Rattle.unixmodel.specs.Calls.{call_of, quiet, settle}
 use Rattle.unixmodel.specs.declared.call.Call.TheVariants.{Fork}
+use Rattle.unixmodel.specs.declared.process.Mode.{Mode}
+use Rattle.unixmodel.specs.declared.process.Mode.TheVariants.{Ready, Running, Waiting, Zombie}
 use Rattle.unixmodel.specs.Files.{free_slot, put, slot}
 use Rattle.unixmodel.specs.Memory.{Memory}
 use Rattle.unixmodel.specs.Numbers.{low}
+use Rattle.unixmodel.specs.OpenFiles.{OpenFile}
 use Rattle.unixmodel.specs.Outcome.{limited, minus_one}
 use Rattle.unixmodel.specs.Outcome.Outcome.{Done, Refused}
 use Rattle.unixmodel.specs.Process.{last_pid}
 use Rattle.unixmodel.specs.ProcessCalls as rows
 use Rattle.unixmodel.specs.ProcessCalls.{fork_row}
+use Rattle.unixmodel.specs.Reap.{is_same}
 use Rattle.unixmodel.specs.State.{State}
 
 -- ---- places
@@ -100,7 +110,7 @@ module _ (k : Kernel) (i : ℕ) (p : Process) (h : Held) (r : IsRun k i p h) (is
   child = record (child_of (on_hart k.spaces p)) { pid = seat.pid }
 
   abbrev pub forked_to : Kernel
-  forked_to = record k { table = seated k.table (child_of (on_hart k.spaces p)) seat; spaces = with_held k.spaces seat.place h }
+  forked_to = record k { table = seated k.table (child_of (on_hart k.spaces p)) seat; spaces = with_held k.spaces seat.place h; files = all_shared k.files p.descriptors }
 
   pub forked-is : forked k i seat ≡ forked_to
   forked-is = rw (r.process, r.space) refl
@@ -125,6 +135,19 @@ module _ (k : Kernel) (i : ℕ) (p : Process) (h : Held) (r : IsRun k i p h) (is
   forked-stands : (n : ℕ) → IsPlace (slot forked_to.table.places n) (slot forked_to.spaces.places n)
   forked-stands = stands-set k.table.places k.spaces.places j (Some child) (Some h) free-table.0 free-space child-placed is.stands
 
+  shared-opens : opens_of forked_to.files ≡ opens_of k.files
+  shared-opens = opens-all_shared k.files p.descriptors
+
+  forked-opened : IsOpened forked_to.files k.spaces.pipes forked_to.table.places
+  forked-opened = record {
+    table = table-all_shared k.files p.descriptors is.opened.table;
+    counted = counted-forked k.files k.table.places i j p child is.opened.counted r.process free-table.0 free-table.1 refl;
+    each = λ n f at. is.opened.each n f (ap (λ (os : List (Option OpenFile)). slot os n) (sym shared-opens) ∙ at);
+    all = is.opened.all;
+    piped = λ q. is.opened.piped q ∙ ap (λ (os : List (Option OpenFile)). has_pipe os q) (sym shared-opens);
+    waits = rw shared-opens (waits-set (opens_of k.files) k.table.places j (Some child) tt is.opened.waits);
+  }
+
   pub forked-run : IsRun forked_to i p h
   forked-run = record {
     active = r.active;
@@ -141,10 +164,11 @@ module _ (k : Kernel) (i : ℕ) (p : Process) (h : Held) (r : IsRun k i p h) (is
     stands = forked-stands;
     runs = runs-set k.table.places j (Some child) k.spaces.active k.spaces.active free-table.0 (sym (ap (is_at j) r.active ∙ other-at i j apart)) (λ n other. refl) is.runs;
     fits = fits;
+    opened = forked-opened;
   }
 
   abbrev rest : State
-  rest = base (rest_of k) true
+  rest = base (rest_of k)
 
   abbrev old : Places
   old = with_process k.table i (on_hart k.spaces p)
@@ -160,6 +184,7 @@ module _ (k : Kernel) (i : ℕ) (p : Process) (h : Held) (r : IsRun k i p h) (is
       ∙ ap (λ (n : ℕ). record (with_table rest old (memories k.spaces)) { places = put (joined old.places (memories k.spaces)) j (with_memory h.memory (record (child_of (on_hart k.spaces p)) { pid = n })); next_pid = k.table.next_pid + 1 }) (sym seats.pid)
       ∙ seated-with_table rest old (memories k.spaces) (child_of (on_hart k.spaces p)) seat h.memory short
       ∙ sym (state-run forked_to i p h forked-run
+      ∙ ap (λ (os : List (Option OpenFile)). with_table (base (record (rest_of k) { opens = os })) (with_process forked_to.table i (on_hart k.spaces p)) (memories forked_to.spaces)) shared-opens
       ∙ ap (λ (places : List (Option Process)). with_table rest (record k.table { places = places; next_pid = k.table.next_pid + 1 }) (memories forked_to.spaces)) swap
       ∙ ap (λ (ms : List Memory). with_table rest (seated old (child_of (on_hart k.spaces p)) seat) ms) shown)
 
@@ -230,9 +255,37 @@ seat-free k is seat seats =
     let f = position-Some is_none k.table.places seat.place None s.free in
     none-space (slot k.table.places seat.place) (slot k.spaces.places seat.place) (none-is (slot k.table.places seat.place) f.1) (is.stands seat.place)
 
+-- ---- a count is small
+
+live-few : (n : ℕ) (p : Process) → IsLive p → names n p.descriptors ≤ 16
+live-few n p is = omega (arith, count_by-le-length (is_same n) p.descriptors, is.descriptors)
+
+mode-few : (n : ℕ) (p : Process) (memory : Memory) (mode : Mode) → IsMode p memory mode → names n p.descriptors ≤ 16
+mode-few n p memory Running is = live-few n p is.0
+mode-few n p memory Ready is = live-few n p is
+mode-few n p memory (Waiting w) is = live-few n p is.0
+mode-few n p memory (Zombie status) is = let none : names n p.descriptors ≡ 0 = ap (names n) is.descriptors ∙ names-none n in omega (arith, none)
+
+place-few : (n : ℕ) (o : Option Process) (q : Option Held) → IsPlace o q → names_in n o ≤ 16
+place-few n None q is = omega arith
+place-few n (Some p) None is = absurd is
+place-few n (Some p) (Some h) is = mode-few n p h.memory p.mode is.mode
+
+sum-few : (n : ℕ) (os : List (Option Process)) → ((j : ℕ) → names_in n (slot os j) ≤ 16) → named_by os n ≤ 16 * length os
+sum-few n [] few = omega arith
+sum-few n (o ∷ os) few = omega (arith, sum_by-cons (names_in n) o os, few 0, sum-few n os (λ j. few (suc j)))
+
+-- no more than 64 processes with 16 descriptors name an open file
+pub counts-few : (k : Kernel) → IsKernel k → (n : ℕ) → count_at k.files n ≤ 1024
+counts-few k is n =
+    let few = sum-few n k.table.places (λ j. place-few n (slot k.table.places j) (slot k.spaces.places j) (is.stands j)) in
+    omega (arith, few, is.opened.counted n, is.all)
+
+-- ---- the call over the fields
+
 pub fork-keeps : (k : Kernel) (i : ℕ) (q : Process) (seat : Seat) → IsKernel k → k.spaces.active ≡ Some i → slice_index k.spaces.registers 0 ≡ 0 → k.spaces.pc % 4 ≡ 0
     → option_map (on_hart k.spaces) (slot k.table.places i) ≡ Some q → seat_of k.table ≡ Ok seat → taken_frames (with_held k.spaces seat.place (held_at k.spaces i)) ≤ k.spaces.frames
-    → IsKernel (record k { table = seated k.table (child_of q) seat; spaces = with_held k.spaces seat.place (held_at k.spaces i) })
+    → IsKernel (record k { table = seated k.table (child_of q) seat; spaces = with_held k.spaces seat.place (held_at k.spaces i); files = all_shared k.files q.descriptors })
 fork-keeps k i q seat is active z a held seats fits =
     let run = run-of k i is active in
     let r = run.1.1 in
@@ -240,5 +293,5 @@ fork-keeps k i q seat is active z a held seats fits =
     let h : run.1.0 ≡ held_at k.spaces i = sym (ap (λ o. unwrap_or o no_pages) r.space) in
     let few : taken_frames (with_held k.spaces seat.place run.1.0) ≤ k.spaces.frames = subst (λ (y : Held). taken_frames (with_held k.spaces seat.place y) ≤ k.spaces.frames) (sym h) fits in
     let kept = forked-kernel k i run.0 run.1.0 r is z a seat (seat-is k.table seat seats) few in
-    subst (λ (x : Process). IsKernel (record k { table = seated k.table (child_of x) seat; spaces = with_held k.spaces seat.place (held_at k.spaces i) })) e
-    (subst (λ (y : Held). IsKernel (record k { table = seated k.table (child_of (on_hart k.spaces run.0)) seat; spaces = with_held k.spaces seat.place y })) h kept)
+    subst (λ (x : Process). IsKernel (record k { table = seated k.table (child_of x) seat; spaces = with_held k.spaces seat.place (held_at k.spaces i); files = all_shared k.files x.descriptors })) e
+    (subst (λ (y : Held). IsKernel (record k { table = seated k.table (child_of (on_hart k.spaces run.0)) seat; spaces = with_held k.spaces seat.place y; files = all_shared k.files run.0.descriptors })) h kept)

@@ -1,16 +1,19 @@
 -- A pending call goes on, and the end of a process that runs or where none runs.
 use Rattle.std.proofs.Common.{◌≡◌, ◌≢◌, ℕ, ◌%◌, true, false, List, [], Option, Some, None, ℤ, refl, ap, subst, sym, ◌∙◌}
 use Rattle.std.specs.Prelude.{if◌then◌else◌, slice_index, slice_index_or}
+use Rattle.calls.specs.Descriptors.{all_closed, standing}
 use Rattle.calls.specs.Kernel.{Kernel, answered, base, blocked, ended, entered, halted_by, idle, lives, loaded, memories, memory_in, on_hart, rest_of, started, state_of}
 use Rattle.calls.specs.Says.{called, gone_on, gone_on_by, has_slept, pending_for}
 use Rattle.calls.specs.Sound.{IsKernel, IsLive, IsMode, IsPending, IsPlace, IsPlaced, is_at}
 use Rattle.calls.specs.Told.{CanEnd, CanEndIn, IsAlive, WaitsIn, resumed, resumed_by, resumed_in}
-use Rattle.calls.proofs.Changes.{ended-is, ended-kernel, loaded-placed, other-at}
+use Rattle.calls.proofs.Changes.{descriptors-loaded, ended-is, ended-kernel, loaded-placed, other-at}
+use Rattle.calls.proofs.Opens.{waits-other}
 use Rattle.calls.proofs.Reaped.{within-state}
 use Rattle.calls.proofs.Rows.{ends-at, enters-kernel, enters-run, numbered, waits-run}
 use Rattle.calls.proofs.Runs.{IsRun, loaded-run, memory-at, process-run, process-with, run-of, self, set-slot, slot-put, with_process, within-run}
 use Rattle.calls.proofs.Settles.{settle-done}
 use Rattle.calls.proofs.Starts.{killed-ends, started-is, started-run, started-state, state-idle}
+use Rattle.files.specs.Places.{opens_of}
 use Rattle.proc.specs.declared.process.Process.{Process}
 use Rattle.proc.specs.Places.{Places, exited}
 use Rattle.proc.specs.Whole.{with_memory}
@@ -57,7 +60,7 @@ module _ (k : Kernel) (i : ℕ) (p : Process) (h : Held) (r : IsRun k i p h) whe
     sleeps-waits z a w number slept =
         gone-run w
         ∙ ap (λ (call : Call). settle (state_of k) i (goes_on (state_of k) i (self k p h) w call)) number
-        ∙ rw slept (ap quiet (waits-run k i p h r is z a w (subst (λ (call : Call). IsPending h.memory w call) (sym number) tt)))
+        ∙ rw slept (ap quiet (waits-run k i p h r is z a w (subst (λ (call : Call). IsPending p.descriptors h.memory w call) (sym number) tt) (waits-other (opens_of k.files) p.descriptors w Sleep (λ same. absurd (cc)) (λ same. absurd (cc)) number)))
 
 -- the row of sleep: it goes on at once
 pub rows-sleep : (k : Kernel) (i : ℕ) (p : Process) (h : Held) → IsRun k i p h → IsKernel k → call_of (low (slice_index k.spaces.registers 17)) ≡ Some Sleep
@@ -90,7 +93,7 @@ module _ (k : Kernel) (i : ℕ) (p : Process) (h : Held) (is : IsKernel k) (none
   process-idle =
       let memory : slice_index_or (memories k.spaces) i [] ≡ h.memory = memory-at k.spaces i ∙ ap memory_in t.space in
       ap (λ (s : State). process_at s i) (state-idle k i p h is none t.process t.space alive)
-      ∙ process-with (base (rest_of k) true) k.table (memories k.spaces) i p t.process
+      ∙ process-with (base (rest_of k)) k.table (memories k.spaces) i p t.process
       ∙ ap (λ (m : Memory). Some (with_memory m p)) memory
 
   -- ---- a pending call goes on
@@ -114,9 +117,9 @@ pub record IsResting (k : Kernel) (i : ℕ) (p : Process) (h : Held) (w : Pendin
   pub live : IsLive p
   pub free : p.killed ≡ false
   pub waits : p.mode ≡ Waiting w
-  pub pending : IsPending h.memory w w.number
+  pub pending : IsPending p.descriptors h.memory w w.number
 
-resting-mode : (p : Process) (m : Memory) (w : Pending) (mode : Mode) → mode ≡ Waiting w → IsMode p m mode → IsLive p × IsPending m w w.number
+resting-mode : (p : Process) (m : Memory) (w : Pending) (mode : Mode) → mode ≡ Waiting w → IsMode p m mode → IsLive p × IsPending p.descriptors m w w.number
 resting-mode p m w mode e is = rw e at is
 
 resting-go : (k : Kernel) (i : ℕ) (w : Pending) (o : Option Process) → IsKernel k → slot k.table.places i ≡ o → WaitsIn o w → (p : Process) × ((h : Held) × IsResting k i p h w)
@@ -181,13 +184,22 @@ whole-go k i q None is active can at =
 pub whole-of : (k : Kernel) (i : ℕ) (q : Process) → IsKernel k → CanEnd k i → slot (loaded k).places i ≡ Some q → IsWhole k i q
 whole-of k i q is can at = whole-go k i q k.spaces.active is refl can at
 
--- it is put back, and ends
-pub finish-is : (k : Kernel) (i : ℕ) (q : Process) (status : ℤ) → IsKernel k → CanEnd k i → slot (loaded k).places i ≡ Some q
-    → record k { table = exited (with_process k.table i q) i status; spaces = idle k.spaces; halted = halted_by (Some q) status k.halted } ≡ ended k i status
+-- it is put back, its descriptors are closed, and it ends
+abbrev pub finished : Kernel → ℕ → Process → ℤ → Kernel
+finished k i q status = record k {
+  table = exited (with_process k.table i q) i status;
+  spaces = record (idle k.spaces) { pipes = standing k.spaces.pipes (opens_of (all_closed k.files q.descriptors)) };
+  files = all_closed k.files q.descriptors;
+  halted = halted_by (Some q) status k.halted;
+}
+
+pub finish-is : (k : Kernel) (i : ℕ) (q : Process) (status : ℤ) → IsKernel k → CanEnd k i → slot (loaded k).places i ≡ Some q → finished k i q status ≡ ended k i status
 finish-is k i q status is can at =
     let w = whole-of k i q is can at in
-    ap (λ (t : Places). record k { table = exited t i status; spaces = idle k.spaces; halted = halted_by (Some q) status k.halted }) (sym w.put)
-    ∙ ap (λ (f : ℤ → Option ℤ → Option ℤ). record k { table = exited (loaded k) i status; spaces = idle k.spaces; halted = f status k.halted }) (sym w.pids)
+    let left = λ (ds : List (Option ℕ)). standing k.spaces.pipes (opens_of (all_closed k.files ds)) in
+    ap (λ (t : Places). record (finished k i q status) { table = exited t i status }) (sym w.put)
+    ∙ ap (λ (ds : List (Option ℕ)). record (finished k i q status) { table = exited (loaded k) i status; spaces = record (idle k.spaces) { pipes = left ds }; files = all_closed k.files ds }) (sym (descriptors-loaded k i q at))
+    ∙ ap (λ (f : ℤ → Option ℤ → Option ℤ). record (ended k i status) { halted = f status k.halted }) (sym w.pids)
 
 space-go : (o : Option Process) (q : Option Held) (p : Process) → IsPlace o q → o ≡ Some p → (h : Held) × (q ≡ Some h)
 space-go None q p is at = absurd (cc)
@@ -202,17 +214,13 @@ finish-keeps k i q status is can z a at =
 
 -- over the fields: k is what they show, and now is the kernel's value
 pub finish-closes : (k now : Kernel) (i : ℕ) (q : Process) (status : ℤ) → k ≡ now → IsKernel now → CanEnd now i → slice_index now.spaces.registers 0 ≡ 0 → now.spaces.pc % 4 ≡ 0 → slot (loaded now).places i ≡ Some q
-    → IsKernel (record k { table = exited (with_process k.table i q) i status; spaces = idle k.spaces; halted = halted_by (Some q) status k.halted })
+    → IsKernel (finished k i q status)
 finish-closes k now i q status same is can z a at =
-    let keeps : IsKernel (record now { table = exited (with_process now.table i q) i status; spaces = idle now.spaces; halted = halted_by (Some q) status now.halted }) =
-    rw (finish-is now i q status is can at) (finish-keeps now i q status is can z a at) in
+    let keeps : IsKernel (finished now i q status) = rw (finish-is now i q status is can at) (finish-keeps now i q status is can z a at) in
     rw same keeps
 
-pub finish-made : (k now : Kernel) (i : ℕ) (q : Process) (status : ℤ) → k ≡ now → IsKernel now → CanEnd now i → slot (loaded now).places i ≡ Some q
-    → record k { table = exited (with_process k.table i q) i status; spaces = idle k.spaces; halted = halted_by (Some q) status k.halted } ≡ ended now i status
-finish-made k now i q status same is can at =
-    ap (λ (x : Kernel). record x { table = exited (with_process x.table i q) i status; spaces = idle x.spaces; halted = halted_by (Some q) status x.halted }) same
-    ∙ finish-is now i q status is can at
+pub finish-made : (k now : Kernel) (i : ℕ) (q : Process) (status : ℤ) → k ≡ now → IsKernel now → CanEnd now i → slot (loaded now).places i ≡ Some q → finished k i q status ≡ ended now i status
+finish-made k now i q status same is can at = ap (λ (x : Kernel). finished x i q status) same ∙ finish-is now i q status is can at
 
 -- there is a process that may end
 finish-some-go : (k : Kernel) (i : ℕ) (o : Option ℕ) → IsKernel k → k.spaces.active ≡ o → CanEndIn k i o → slot (loaded k).places i ≡ None → ⊥

@@ -1,19 +1,22 @@
 -- A process is killed.
 use Rattle.std.proofs.Common.{◌≡◌, ◌≢◌, ℕ, zero, suc, ◌<◌, ◌%◌, inl, inr, Bool, true, false, nat_le, List, [], length, map, Option, Some, None, negsuc, refl, ap, sym, subst, ◌∙◌, arith}
-use Rattle.std.specs.List.{list_any}
 use Rattle.std.specs.Prelude.{option_map, slice_index, slice_index_or, slice_set}
 use Rattle.std.proofs.lemmas.Bool.{le-leb}
 use Rattle.std.proofs.lemmas.List.{get_or-set_other, length-map, length-set, map-set, set-get_or}
-use Rattle.calls.specs.Kernel.{Kernel, answered, argument, base, ended, entered, halted_by, lives, loaded, marked, memories, memory_in, on_hart, rest_of, state_of, with_mark}
+use Rattle.calls.specs.Descriptors.{descriptors_in}
+use Rattle.calls.specs.Kernel.{Kernel, answered, argument, base, ended, entered, halted_by, loaded, marked, memories, memory_in, on_hart, rest_of, state_of, with_mark}
 use Rattle.calls.specs.Says.{called, named}
-use Rattle.calls.specs.Sound.{IsKernel, IsMode, IsPlace, is_at}
+use Rattle.calls.specs.Sound.{IsKernel, IsMode, IsPlace, WaitsWell, is_at}
 use Rattle.calls.proofs.Changes.{ended-is, ended-kernel, ended_to, other-at, stands-put}
 use Rattle.calls.proofs.Collects.{where-put}
 use Rattle.calls.proofs.Forks.{set-swap}
-use Rattle.calls.proofs.Reaped.{IsMatch, match-loaded, reap-state_last, within-state_with}
+use Rattle.calls.proofs.Named.{counts-joined, reap-closed}
+use Rattle.calls.proofs.Opens.{opened-put}
+use Rattle.calls.proofs.Reaped.{IsMatch, match-loaded, within-state_with}
 use Rattle.calls.proofs.Rows.{aligned-next, enters-kernel, enters-run, numbered, refuses}
-use Rattle.calls.proofs.Runs.{IsRun, lives-run, lives-some, loaded-run, memory-at, process-run, process-with, put-with, run-of, runs-set, same_or_not, self, set-twice, slot-other, slot-put, slot-within, state-run, with_process, within-run}
-use Rattle.calls.proofs.Settles.{after, change-run, regs-kernel, regs-run, settle-limited}
+use Rattle.calls.proofs.Runs.{IsRun, loaded-run, memory-at, process-run, process-with, put-with, run-of, runs-set, same_or_not, self, set-twice, slot-other, slot-put, slot-within, state-run, with_process, within-run}
+use Rattle.calls.proofs.Settles.{after, change-put, change-run, regs-kernel, regs-run, settle-limited}
+use Rattle.files.specs.Places.{opens_of}
 use Rattle.proc.specs.declared.process.Process.{Process}
 use Rattle.proc.specs.Places as table
 use Rattle.proc.specs.Places.{Places, changed, has_pid, orphaned, place_where, zombie_of}
@@ -65,6 +68,7 @@ marked-kernel k j q is at rests =
       stands = stands-put k.table.places k.spaces.places j (Some (with_mark q)) short (mark-placed q (slot k.spaces.places j) stays there) is.stands;
       runs = runs-set k.table.places j (Some (with_mark q)) k.spaces.active k.spaces.active short (stays ∙ sym rests) (λ n other. refl) is.runs;
       fits = is.fits;
+      opened = opened-put k.files k.spaces.pipes k.table.places j (Some (with_mark q)) (sym (ap descriptors_in at)) (subst (WaitsWell (opens_of k.files)) at (is.opened.waits j)) is.opened;
     }
 
 module _ (k : Kernel) (i : ℕ) (p : Process) (h : Held) (r : IsRun k i p h) (is : IsKernel k) where
@@ -85,7 +89,7 @@ module _ (k : Kernel) (i : ℕ) (p : Process) (h : Held) (r : IsRun k i p h) (is
 
     mark-state : change_process (state_of k) j rows.marked ≡ state_of (marked_to k j q)
     mark-state =
-        let rest = base (rest_of k) true in
+        let rest = base (rest_of k) in
         let old = with_process k.table i (on_hart k.spaces p) in
         let there : slot old.places j ≡ Some q = slot-other k.table.places i j (Some (on_hart k.spaces p)) apart ∙ at in
         let swap : put (put k.table.places j (with_mark q)) i (on_hart k.spaces p) ≡ put (put k.table.places i (on_hart k.spaces p)) j (with_mark q) =
@@ -105,7 +109,7 @@ module _ (k : Kernel) (i : ℕ) (p : Process) (h : Held) (r : IsRun k i p h) (is
   -- ---- the running process is marked
 
   abbrev rest : State
-  rest = base (rest_of k) true
+  rest = base (rest_of k)
 
   put-run : (p' : Process) → put_process (state_of k) i (with_memory h.memory p') ≡ with_table rest (with_process k.table i p') (memories k.spaces)
   put-run p' =
@@ -142,16 +146,9 @@ module _ (k : Kernel) (i : ℕ) (p : Process) (h : Held) (r : IsRun k i p h) (is
 
   self-within : is_within (change_process (state_of k) i rows.marked) ≡ true
   self-within =
-      let some : list_any (holds lives) t.places ≡ true = lives-some t.places i (with_mark (on_hart k.spaces p)) (slot-put k.table.places i (Some (with_mark (on_hart k.spaces p))) (within-run k i p h r)) (lives-run k i p h r) in
       ap is_within self-marked
-      ∙ sym (ap (λ (b : Bool). is_within (with_table (base (rest_of k) b) t (memories k.spaces))) some)
-      ∙ within-state_with k t match-self
+      ∙ within-state_with k t is.opened.table match-self
       ∙ le-leb _ _ is.fits
-
-  change-put : (s : State) (x : unix.Process) (change : unix.Process → unix.Process) → i < length s.places → change_process (put_process s i x) i change ≡ put_process s i (change x)
-  change-put s x change short =
-      ap (λ (o : Option unix.Process). record s { places = slice_set (put s.places i x) i (option_map change o) }) (slot-put s.places i (Some x) short)
-      ∙ ap (λ (places : List (Option unix.Process)). record s { places = places }) (set-twice s.places i (Some x) (Some (change x)))
 
   -- ---- it has its answer
 
@@ -174,7 +171,7 @@ module _ (k : Kernel) (i : ℕ) (p : Process) (h : Held) (r : IsRun k i p h) (is
   self-answered =
       let short : i < length (state_of k).places = slot-within (state_of k).places i (self k p h) (process-run k i p h r) in
       ap (λ (s : State). change_process s i (with_answer 0)) (change-run k i p h r is rows.marked)
-      ∙ change-put (state_of k) (rows.marked (self k p h)) (with_answer 0) short
+      ∙ change-put i (state_of k) (rows.marked (self k p h)) (with_answer 0) short
       ∙ put-run (with_mark q)
 
   -- ---- and ends
@@ -224,8 +221,9 @@ module _ (k : Kernel) (i : ℕ) (p : Process) (h : Held) (r : IsRun k i p h) (is
     unfolding end_process
     gone-ends =
         ap reap (with_zombie-with_table rest answered_table (memories k.spaces) i (with_mark q) (negsuc 0))
-        ∙ ap (λ (t : Places). reap (with_table (base (rest_of gone) true) t (memories k.spaces))) gone-table
-        ∙ reap-state_last (marked_to gone i zombie).table k.spaces.places (memories k.spaces) (rest_of gone) (match-loaded (marked_to gone i zombie) gone-kernel)
+        ∙ ap (λ (t : Places). reap (record (with_table (base (rest_of gone)) t (memories k.spaces)) { opens = opens_of k.files; pipes = k.spaces.pipes })) gone-table
+        ∙ reap-closed (state_of (marked_to gone i zombie)) k.files k.spaces.pipes q.descriptors refl is.opened.table is.opened.piped
+        (counts-joined gone.files (marked_to gone i zombie).table.places (memories k.spaces) gone-kernel.opened.counted)
 
     pub self-settles : (begun : State) → settle begun i (limited (Done (change_process (state_of k) i rows.marked) 0 [])) ≡ quiet (state_of (marked (ended k' i (negsuc 0)) i))
     self-settles begun =
@@ -255,7 +253,7 @@ module _ (k : Kernel) (i : ℕ) (p : Process) (h : Held) (r : IsRun k i p h) (is
   pid-run pid =
       let q = on_hart k.spaces p in
       ap (λ (s : State). place_of_pid s pid) (state-run k i p h r)
-      ∙ place_of_pid-with_table (base (rest_of k) true) (with_process k.table i q) (memories k.spaces) pid
+      ∙ place_of_pid-with_table (base (rest_of k)) (with_process k.table i q) (memories k.spaces) pid
       ∙ where-put (has_pid pid) k.table.places i p q r.process refl
 
   abbrev kills : Option ℕ → Outcome

@@ -1,3 +1,5 @@
+pub mod Opens
+pub mod Named
 pub mod Reaped
 pub mod Runs
 pub mod Settles
@@ -16,3 +18,9 @@ pub mod Writes
 pub mod Collects
 pub mod Kills
 pub mod Receives
+pub mod Renames
+pub mod Closes
+pub mod Pipes
+pub mod Sends
+pub mod Draws
+pub mod ReadRows

@@ -1,25 +1,27 @@
 -- The row of read from the console.
-use Rattle.std.proofs.Common.{◌≡◌, ℕ, zero, suc, ◌+◌, ◌-◌, ◌*◌, ◌/◌, ◌%◌, ◌<◌, ◌≤◌, ◌^◌, Bool, true, false, nat_eq, nat_le, nat_lt, inl, inr, List, [], ◌∷◌, ◌++◌, length, take, drop, map, Some, None, refl, ap, subst, sym, ◌∙◌, arith}
+use Rattle.std.proofs.Common.{◌≡◌, ℕ, zero, suc, ◌+◌, ◌-◌, ◌*◌, ◌/◌, ◌%◌, ◌<◌, ◌≤◌, ◌^◌, Bool, true, false, nat_eq, nat_le, nat_lt, List, [], ◌∷◌, ◌++◌, length, take, drop, map, Option, Some, refl, ap, subst, sym, ◌∙◌, arith}
 use Rattle.std.specs.List.{prefix_len}
 use Rattle.std.specs.Bool.{OnFalse, OnTrue}
 use Rattle.std.specs.Prelude.{cond, if◌then◌else◌, is_some, slice_index}
-use Rattle.std.proofs.lemmas.Bool.{cases_lt, le-leb, leb-true}
+use Rattle.std.proofs.lemmas.Bool.{le-leb, leb-true}
 use Rattle.std.proofs.lemmas.List.{length-drop, length-take-le, take-append-drop}
-use Rattle.calls.specs.Kernel.{Kernel, answered, argument, blocked, entered, received, state_of, typed}
-use Rattle.calls.specs.Says.{called, further, gone_on, line_for, next_place, pending_for}
-use Rattle.calls.specs.Sound.{IsKernel, IsPending, IsPlaced, IsReading}
+use Rattle.calls.specs.Descriptors.{descriptors_in}
+use Rattle.calls.specs.Kernel.{Kernel, answered, blocked, descriptors_at, received, state_of, typed}
+use Rattle.calls.specs.Says.{further, gone_on, line_for, next_place}
+use Rattle.calls.specs.Sound.{IsKernel, IsPending, IsPlaced, IsReading, console_file}
 use Rattle.calls.proofs.Collects.{length-write_bytes}
 use Rattle.calls.proofs.Goes.{gone-run}
+use Rattle.calls.proofs.Opens.{IsConsole, console-fresh, waits-reading}
+use Rattle.files.specs.Places.{opens_of}
 use Rattle.calls.proofs.Reaped.{within-state}
-use Rattle.calls.proofs.Rows.{enters-kernel, enters-run, numbered, refuses, waits-run}
-use Rattle.calls.proofs.Runs.{IsRun, moved, moved-kernel, moved-run, moved-state, run-of, self, set-slot, slot-put, slot-within, state-run}
-use Rattle.calls.proofs.Settles.{live, settle-done, settle-limited}
+use Rattle.calls.proofs.Rows.{waits-run}
+use Rattle.calls.proofs.Runs.{IsRun, console-run, moved, moved-kernel, moved-run, moved-state, named-run, run-of, self, set-slot, slot-put, slot-within}
+use Rattle.calls.proofs.Settles.{settle-done}
 use Rattle.calls.proofs.Steps.{held-run, placed-with}
-use Rattle.calls.proofs.Writes.{console-descriptor, int-low, no-descriptor}
 use Rattle.proc.specs.declared.process.Process.{Process}
 use Rattle.spaces.specs.Spaces.{Held, Spaces, frames_in, has_space, held_at, taken_frames, with_held, written}
 use Rattle.spaces.specs.SpacesLemmas.{held-same, taken-placed}
-use Rattle.unixmodel.specs.Calls.{call_of, goes_on, quiet, settle}
+use Rattle.unixmodel.specs.Calls.{goes_on, quiet, settle}
 use Rattle.unixmodel.specs.Console.{Console, Taken, take_line}
 use Rattle.unixmodel.specs.Counts.{page_frames}
 use Rattle.unixmodel.specs.declared.call.Call.{Call}
@@ -28,15 +30,15 @@ use Rattle.unixmodel.specs.declared.process.Pending.{Pending}
 use Rattle.unixmodel.specs.declared.trap.Access.{Access}
 use Rattle.unixmodel.specs.declared.trap.Access.TheVariants.{Store}
 use Rattle.unixmodel.specs.FileCalls as rows
-use Rattle.unixmodel.specs.Files.{slot}
+use Rattle.unixmodel.specs.Files.{free_slots, slot}
 use Rattle.unixmodel.specs.FileCalls.{read_console, read_on, read_row, read_taken}
 use Rattle.unixmodel.specs.Memory.{Memory, Page, Marks, can_write, permits, reach, write_bytes, write_from}
-use Rattle.unixmodel.specs.Numbers.{int_of, low, natural}
-use Rattle.unixmodel.specs.Outcome.{Outcome, limited, minus_one, pending_arg, pending_of}
-use Rattle.unixmodel.specs.Outcome.Outcome.{Done, Refused, Waits}
+use Rattle.unixmodel.specs.Numbers.{low}
+use Rattle.unixmodel.specs.Outcome.{limited, pending_arg}
+use Rattle.unixmodel.specs.Outcome.Outcome.{Done, Waits}
 use Rattle.unixmodel.specs.Process as unix
 use Rattle.unixmodel.specs.Process.{arg}
-use Rattle.unixmodel.specs.Start.{flat_descriptors, flat_files, flat_opens}
+use Rattle.unixmodel.specs.Start.{flat_files}
 use Rattle.unixmodel.specs.State.{State, put_process}
 use Rattle.vm.specs.Reach.{IsSized, run_of}
 use Rattle.vm.specs.ReachLemmas.{length-reach, reach-drop, reach-page}
@@ -122,44 +124,19 @@ rest-writes mem at d l c sized can fits =
     le-leb l (length (reach Store mem (at + d))) (omega (arith, whole, fits, rest))
 
 -- a read that is not over goes on in its buffer
-pub reading-on : (mem : Memory) (w : Pending) (n b : ℕ) (new : List ℕ) → IsSized mem → IsSized (write_bytes mem b new) → IsReading mem w → w.done + n < low (pending_arg w 2) → IsReading (write_bytes mem b new) (further w n)
-reading-on mem w n b new sized kept is less = record {
-  console = is.console;
+pub reading-on : (descriptors : List (Option ℕ)) (mem : Memory) (w : Pending) (n b : ℕ) (new : List ℕ) → IsSized mem → IsSized (write_bytes mem b new) → IsReading descriptors mem w → w.done + n < low (pending_arg w 2) → IsReading descriptors (write_bytes mem b new) (further w n)
+reading-on descriptors mem w n b new sized kept is less = record {
+  named = is.named;
   buffer = ap (nat_le (low (pending_arg w 2))) (reach-written Store mem (pending_arg w 1) b new sized kept) ∙ is.buffer;
   left = less;
 }
 
--- ---- the row
+-- ---- the row of a read that goes on
 
-module _ (s : State) (i : ℕ) (p : unix.Process) (files : s.files ≡ flat_files) (opens : s.opens ≡ flat_opens) (descriptors : p.descriptors ≡ flat_descriptors) where
-  read-descriptor : 3 ≤ low (arg p 0) → read_row s i p ≡ Refused
-  unfolding read_row
-  read-descriptor bad = rw (descriptors, no-descriptor (low (arg p 0)) bad) refl
-
-  read-below : natural (int_of (arg p 2)) ≡ None → read_row s i p ≡ Refused
-  unfolding read_row flat_opens flat_files
-  read-below below = elim (cases_lt (low (arg p 0)) 3) [
-    | inl console ↦ rw (descriptors, console-descriptor (low (arg p 0)) console, opens, files, below) refl
-    | inr other ↦ rw (descriptors, no-descriptor (low (arg p 0)) other) refl
-  ]
-
-  read-nothing : low (arg p 0) < 3 → natural (int_of (arg p 2)) ≡ Some 0 → read_row s i p ≡ Done s 0 []
-  unfolding read_row flat_opens flat_files
-  read-nothing console none = rw (descriptors, console-descriptor (low (arg p 0)) console, opens, files, none) refl
-
-  read-unwritable : (n : ℕ) → low (arg p 0) < 3 → natural (int_of (arg p 2)) ≡ Some n → 0 < n → can_write p.memory (arg p 1) n ≡ false → read_row s i p ≡ Refused
-  unfolding read_row flat_opens flat_files
-  read-unwritable zero console count some cannot = absurd (omega arith)
-  read-unwritable (suc c) console count some cannot = rw (descriptors, console-descriptor (low (arg p 0)) console, opens, files, count, cannot) refl
-
-  read-begins : (n : ℕ) → low (arg p 0) < 3 → natural (int_of (arg p 2)) ≡ Some n → 0 < n → can_write p.memory (arg p 1) n ≡ true → read_row s i p ≡ read_on s i p (pending_of Read s p)
-  unfolding read_row flat_opens flat_files
-  read-begins zero console count some can = absurd (omega arith)
-  read-begins (suc c) console count some can = rw (descriptors, console-descriptor (low (arg p 0)) console, opens, files, count, can) refl
-
-  reads-console : (w : Pending) → low (pending_arg w 0) < 3 → read_on s i p w ≡ read_console s i p w
-  unfolding read_on flat_opens flat_files
-  reads-console w console = rw (descriptors, console-descriptor (low (pending_arg w 0)) console, opens, files) refl
+module _ (s : State) (i : ℕ) (p : unix.Process) (files : s.files ≡ flat_files) where
+  reads-console : (w : Pending) → IsConsole s p (low (pending_arg w 0)) → read_on s i p w ≡ read_console s i p w
+  unfolding read_on flat_files free_slots
+  reads-console w console = rw (console.named, console.opened, files) refl
 
 abbrev left_with : State → ℕ → unix.Process → Pending → Taken → State
 left_with s i p w t = put_process (record s { console = record s.console { committed = t.rest } }) i (rows.received p w t.bytes)
@@ -186,7 +163,7 @@ module _ (k : Kernel) (i : ℕ) (p : Process) (h : Held) (r : IsRun k i p h) (is
   rest-run = record { active = r.active; process = r.process; space = r.space; placed = r.placed; runs = r.runs }
 
   rest-kernel : IsKernel rest
-  rest-kernel = record { all = is.all; spaces = is.spaces; stands = is.stands; runs = is.runs; fits = is.fits }
+  rest-kernel = record { all = is.all; spaces = is.spaces; stands = is.stands; runs = is.runs; fits = is.fits; opened = is.opened }
 
   placed : IsPlaced p h'
   placed = placed-with k i p h r is (write_bytes h.memory (next_place w) t.bytes)
@@ -208,7 +185,7 @@ module _ (k : Kernel) (i : ℕ) (p : Process) (h : Held) (r : IsRun k i p h) (is
       omega (arith, e, f, g)
 
   received-kernel : IsKernel received_to
-  received-kernel = moved-kernel rest i p h rest-run rest-kernel p h' k.spaces.registers k.spaces.pc placed r.runs no-more
+  received-kernel = moved-kernel rest i p h rest-run rest-kernel p h' k.spaces.registers k.spaces.pc placed r.runs refl no-more
 
   received-state : state_of received_to ≡ left_with (state_of k) i (self k p h) w t
   received-state = moved-state rest i p h rest-run rest-kernel p h' k.spaces.registers k.spaces.pc placed r.runs
@@ -216,11 +193,9 @@ module _ (k : Kernel) (i : ℕ) (p : Process) (h : Held) (r : IsRun k i p h) (is
   pub receives-kernel : IsKernel (received k i (next_place w) t)
   receives-kernel = rw received-is received-kernel
 
-  module _ (console : low (pending_arg w 0) < 3) where
+  module _ (named : is_some (slot p.descriptors (low (pending_arg w 0))) ≡ true) (only : (n : ℕ) → slot p.descriptors (low (pending_arg w 0)) ≡ Some n → slot (opens_of k.files) n ≡ Some console_file) where
     row-run : read_on (state_of k) i (self k p h) w ≡ read_taken (state_of k) i (self k p h) w t
-    row-run =
-        let opens : (state_of k).opens ≡ flat_opens = ap (λ (s : State). s.opens) (state-run k i p h r) in
-        reads-console (state_of k) i (self k p h) refl opens (live k i p h r is).descriptors w console
+    row-run = reads-console (state_of k) i (self k p h) refl w (console-run k i p h r is (low (pending_arg w 0)) named only)
 
     row-over : t.over ≡ true → read_on (state_of k) i (self k p h) w ≡ Done (state_of received_to) (w.done + length t.bytes) []
     row-over over = row-run ∙ taken-over (state_of k) i (self k p h) w t over ∙ ap (λ (s : State). Done s (w.done + length t.bytes) []) (sym received-state)
@@ -229,11 +204,11 @@ module _ (k : Kernel) (i : ℕ) (p : Process) (h : Held) (r : IsRun k i p h) (is
     row-waits over = row-run ∙ taken-waits (state_of k) i (self k p h) w t over ∙ ap (λ (s : State). Waits s (further w (length t.bytes))) (sym received-state)
 
     -- a read keeps the limits
-    row-within : (b : Bool) → t.over ≡ b → limited (read_on (state_of k) i (self k p h) w) ≡ read_on (state_of k) i (self k p h) w
+    pub row-within : (b : Bool) → t.over ≡ b → limited (read_on (state_of k) i (self k p h) w) ≡ read_on (state_of k) i (self k p h) w
     row-within true over = rw (row-over over) (rw (within-state received_to received-kernel) refl)
     row-within false over = rw (row-waits over) refl
 
-    gone-read : w.number ≡ Read → gone_on (state_of k) i w ≡ settle (state_of k) i (read_on (state_of k) i (self k p h) w)
+    pub gone-read : w.number ≡ Read → gone_on (state_of k) i w ≡ settle (state_of k) i (read_on (state_of k) i (self k p h) w)
     gone-read number = gone-run k i p h r w ∙ ap (λ (call : Call). settle (state_of k) i (goes_on (state_of k) i (self k p h) w call)) number
 
     pub goes-over : w.number ≡ Read → t.over ≡ true → gone_on (state_of k) i w ≡ quiet (state_of (answered (received k i (next_place w) t) (w.done + length t.bytes)))
@@ -243,89 +218,41 @@ module _ (k : Kernel) (i : ℕ) (p : Process) (h : Held) (r : IsRun k i p h) (is
         ∙ settle-done received_to i p h' received-run received-kernel (state_of k) (w.done + length t.bytes) []
         ∙ sym (ap (λ (x : Kernel). quiet (state_of (answered x (w.done + length t.bytes)))) received-is)
 
-    pub goes-waits : slice_index k.spaces.registers 0 ≡ 0 → k.spaces.pc % 4 ≡ 0 → w.number ≡ Read → t.over ≡ false → IsPending h'.memory (further w (length t.bytes)) w.number
+    pub goes-waits : slice_index k.spaces.registers 0 ≡ 0 → k.spaces.pc % 4 ≡ 0 → w.number ≡ Read → t.over ≡ false → IsPending p.descriptors h'.memory (further w (length t.bytes)) w.number
         → gone_on (state_of k) i w ≡ quiet (state_of (blocked (received k i (next_place w) t) i (further w (length t.bytes))))
     goes-waits z a number over pending =
         gone-read number
         ∙ ap (settle (state_of k) i) (row-waits over)
-        ∙ ap quiet (waits-run received_to i p h' received-run received-kernel z a (further w (length t.bytes)) pending)
+        ∙ ap quiet (waits-run received_to i p h' received-run received-kernel z a (further w (length t.bytes)) pending (waits-reading (opens_of k.files) p.descriptors (further w (length t.bytes)) number (console-fresh (opens_of k.files) p.descriptors (further w (length t.bytes)) only)))
         ∙ sym (ap (λ (x : Kernel). quiet (state_of (blocked x i (further w (length t.bytes))))) received-is)
-
--- ---- the call of the running process
-
-module _ (k : Kernel) (i : ℕ) (p : Process) (h : Held) (r : IsRun k i p h) (is : IsKernel k) (number : call_of (low (slice_index k.spaces.registers 17)) ≡ Some Read) where
-  opens-run : (state_of (entered k)).opens ≡ flat_opens
-  opens-run = ap (λ (s : State). s.opens) (state-run (entered k) i p h (enters-run k i p h r is))
-
-  descriptors-run : (self (entered k) p h).descriptors ≡ flat_descriptors
-  descriptors-run = (live k i p h r is).descriptors
-
-  not-done : read_row (state_of (entered k)) i (self (entered k) p h) ≡ Refused → called (state_of k) i ≡ quiet (state_of (answered (entered k) minus_one))
-  not-done row = numbered k i p h r is (Some Read) number ∙ ap (λ (o : Outcome). settle (state_of (entered k)) i (limited o)) row ∙ refuses k i p h r is
-
-  pub rows-read-descriptor : 3 ≤ low (argument k 0) → called (state_of k) i ≡ quiet (state_of (answered (entered k) minus_one))
-  rows-read-descriptor bad = not-done (read-descriptor (state_of (entered k)) i (self (entered k) p h) refl opens-run descriptors-run bad)
-
-  pub rows-read-below : natural (int_of (argument k 2)) ≡ None → called (state_of k) i ≡ quiet (state_of (answered (entered k) minus_one))
-  rows-read-below below = not-done (read-below (state_of (entered k)) i (self (entered k) p h) refl opens-run descriptors-run below)
-
-  pub rows-read-nothing : low (argument k 0) < 3 → natural (int_of (argument k 2)) ≡ Some 0 → called (state_of k) i ≡ quiet (state_of (answered (entered k) 0))
-  rows-read-nothing console none =
-      numbered k i p h r is (Some Read) number
-      ∙ ap (λ (o : Outcome). settle (state_of (entered k)) i (limited o)) (read-nothing (state_of (entered k)) i (self (entered k) p h) refl opens-run descriptors-run console none)
-      ∙ settle-limited (entered k) i p h (enters-run k i p h r is) (enters-kernel k i p h r is) (state_of (entered k)) 0 []
-
-  pub rows-read-unwritable : (n : ℕ) → low (argument k 0) < 3 → natural (int_of (argument k 2)) ≡ Some n → 0 < n → can_write (held_at k.spaces i).memory (argument k 1) n ≡ false
-      → called (state_of k) i ≡ quiet (state_of (answered (entered k) minus_one))
-  rows-read-unwritable n console count some cannot =
-      let memory = ap (λ (y : Held). can_write y.memory (argument k 1) n) (held-run k i p h r is) in
-      not-done (read-unwritable (state_of (entered k)) i (self (entered k) p h) refl opens-run descriptors-run n console count some (sym memory ∙ cannot))
-
-  -- the call goes on as it would later
-  pub rows-read : (n : ℕ) → low (argument k 0) < 3 → natural (int_of (argument k 2)) ≡ Some n → 0 < n → can_write (held_at k.spaces i).memory (argument k 1) n ≡ true
-      → called (state_of k) i ≡ gone_on (state_of (entered k)) i (pending_for (entered k) Read)
-  rows-read n console count some can =
-      let memory = ap (λ (y : Held). can_write y.memory (argument k 1) n) (held-run k i p h r is) in
-      let r' = enters-run k i p h r is in
-      let is' = enters-kernel k i p h r is in
-      let w = pending_for (entered k) Read in
-      numbered k i p h r is (Some Read) number
-      ∙ ap (λ (o : Outcome). settle (state_of (entered k)) i (limited o)) (read-begins (state_of (entered k)) i (self (entered k) p h) refl opens-run descriptors-run n console count some (sym memory ∙ can))
-      ∙ ap (settle (state_of (entered k)) i) (row-within (entered k) i p h r' is' w console (line_for (entered k) w).over refl)
-      ∙ sym (gone-read (entered k) i p h r' is' w console refl)
-
--- a read that begins
-pub reading-begins : (k : Kernel) (mem : Memory) (n : ℕ) → low (argument k 0) < 3 → natural (int_of (argument k 2)) ≡ Some n → 0 < n → can_write mem (argument k 1) n ≡ true → IsReading mem (pending_for k Read)
-reading-begins k mem n console count some can =
-    let same : low (argument k 2) ≡ n = int-low (argument k 2) n count in
-    record {
-      console = console;
-      buffer = ap (can_write mem (argument k 1)) same ∙ can;
-      left = omega (arith, same, some);
-    }
 
 -- ---- by what the kernel received
 
-module _ (k : Kernel) (i : ℕ) (w : Pending) (is : IsKernel k) (active : k.spaces.active ≡ Some i) (number : w.number ≡ Read) (can : IsReading (held_at k.spaces i).memory w) where
+module _ (k : Kernel) (i : ℕ) (w : Pending) (is : IsKernel k) (active : k.spaces.active ≡ Some i) (number : w.number ≡ Read) (can : IsReading (descriptors_at k i) (held_at k.spaces i).memory w)
+    (only : (n : ℕ) → slot (descriptors_at k i) (low (pending_arg w 0)) ≡ Some n → slot (opens_of k.files) n ≡ Some console_file) where
+  only-at : (p : Process) → slot k.table.places i ≡ Some p → (n : ℕ) → slot p.descriptors (low (pending_arg w 0)) ≡ Some n → slot (opens_of k.files) n ≡ Some console_file
+  only-at p process = subst (λ (o : Option Process). (n : ℕ) → slot (descriptors_in o) (low (pending_arg w 0)) ≡ Some n → slot (opens_of k.files) n ≡ Some console_file) process only
+
   pub reads-over : (new : Kernel) (n : ℕ) → new ≡ received k i (next_place w) (line_for k w) → n ≡ length (line_for k w).bytes → (line_for k w).over ≡ true
       → gone_on (state_of k) i w ≡ quiet (state_of (answered new (w.done + n)))
   reads-over new n made count over =
       let run = run-of k i is active in
-      goes-over k i run.0 run.1.0 run.1.1 is w can.console number over
+      goes-over k i run.0 run.1.0 run.1.1 is w (named-run k i run.0 run.1.0 run.1.1 is (low (pending_arg w 0)) true can.named) (only-at run.0 run.1.1.process) number over
       ∙ sym (ap (λ (x : Kernel). quiet (state_of (answered x (w.done + n)))) made ∙ ap (λ (m : ℕ). quiet (state_of (answered (received k i (next_place w) (line_for k w)) (w.done + m)))) count)
 
   pub reads-waits : (new : Kernel) (n : ℕ) → slice_index k.spaces.registers 0 ≡ 0 → k.spaces.pc % 4 ≡ 0 → new ≡ received k i (next_place w) (line_for k w) → n ≡ length (line_for k w).bytes → (line_for k w).over ≡ false
-      → IsReading (held_at new.spaces i).memory (further w n) → gone_on (state_of k) i w ≡ quiet (state_of (blocked new i (further w n)))
+      → IsReading (descriptors_at new i) (held_at new.spaces i).memory (further w n) → gone_on (state_of k) i w ≡ quiet (state_of (blocked new i (further w n)))
   reads-waits new n z a made count over pending =
       let run = run-of k i is active in
       let to = received_to k i run.0 run.1.0 run.1.1 is w in
       let same = made ∙ received-is k i run.0 run.1.0 run.1.1 is w in
-      let p1 : IsReading (held_at to.spaces i).memory (further w n) = subst (λ (x : Kernel). IsReading (held_at x.spaces i).memory (further w n)) same pending in
+      let p1 : IsReading (descriptors_at to i) (held_at to.spaces i).memory (further w n) = subst (λ (x : Kernel). IsReading (descriptors_at x i) (held_at x.spaces i).memory (further w n)) same pending in
       let held = held-run to i run.0 (written run.1.0 (next_place w) (line_for k w).bytes) (received-run k i run.0 run.1.0 run.1.1 is w) (received-kernel k i run.0 run.1.0 run.1.1 is w) in
-      let p2 = subst (λ (y : Held). IsReading y.memory (further w n)) held p1 in
-      let p3 = subst (λ (m : ℕ). IsReading (written run.1.0 (next_place w) (line_for k w).bytes).memory (further w m)) count p2 in
-      let p4 = subst (λ (c : Call). IsPending (written run.1.0 (next_place w) (line_for k w).bytes).memory (further w (length (line_for k w).bytes)) c) (sym number) p3 in
-      goes-waits k i run.0 run.1.0 run.1.1 is w can.console z a number over p4
+      let p2 = subst (λ (y : Held). IsReading (descriptors_at to i) y.memory (further w n)) held p1 in
+      let q2 = subst (λ (o : Option Process). IsReading (descriptors_in o) (written run.1.0 (next_place w) (line_for k w).bytes).memory (further w n)) (received-run k i run.0 run.1.0 run.1.1 is w).process p2 in
+      let p3 = subst (λ (m : ℕ). IsReading run.0.descriptors (written run.1.0 (next_place w) (line_for k w).bytes).memory (further w m)) count q2 in
+      let p4 = subst (λ (c : Call). IsPending run.0.descriptors (written run.1.0 (next_place w) (line_for k w).bytes).memory (further w (length (line_for k w).bytes)) c) (sym number) p3 in
+      goes-waits k i run.0 run.1.0 run.1.1 is w (named-run k i run.0 run.1.0 run.1.1 is (low (pending_arg w 0)) true can.named) (only-at run.0 run.1.1.process) z a number over p4
       ∙ sym (ap (λ (x : Kernel). quiet (state_of (blocked x i (further w n)))) made ∙ ap (λ (m : ℕ). quiet (state_of (blocked (received k i (next_place w) (line_for k w)) i (further w m)))) count)
 
 -- ---- over the fields: k is what they show, and now is the kernel's value
@@ -335,7 +262,7 @@ pub record Received (k now : Kernel) (i : ℕ) (w : Pending) (n : ℕ) (over : B
   pub made : record k { console = console; spaces = new } ≡ received now i (next_place w) (line_for now w)
   pub keeps : IsKernel (record k { console = console; spaces = new })
   pub space : has_space new i ≡ true
-  pub waits : IsSized (held_at new i).memory → OnFalse over (IsReading (held_at new i).memory (further w n))
+  pub waits : IsSized (held_at new i).memory → OnFalse over (IsReading (descriptors_at k i) (held_at new i).memory (further w n))
 
 -- what console and spaces answer
 pub record Took (k : Kernel) (i : ℕ) (w : Pending) (n : ℕ) (buffer : List ℕ) (over : Bool) (wrote : Bool) (new : Spaces) (console : Console) : Type 0 where
@@ -346,7 +273,7 @@ pub record Took (k : Kernel) (i : ℕ) (w : Pending) (n : ℕ) (buffer : List �
   pub can : wrote ≡ can_write (held_at k.spaces i).memory (next_place w) (length (take n buffer))
   pub done : OnTrue wrote (new ≡ with_held k.spaces i (written (held_at k.spaces i) (next_place w) (take n buffer)))
 
-module _ (k : Kernel) (i : ℕ) (w : Pending) (is : IsKernel k) (active : k.spaces.active ≡ Some i) (reading : IsReading (held_at k.spaces i).memory w)
+module _ (k : Kernel) (i : ℕ) (w : Pending) (is : IsKernel k) (active : k.spaces.active ≡ Some i) (reading : IsReading (descriptors_at k i) (held_at k.spaces i).memory w)
     (n : ℕ) (buffer : List ℕ) (over wrote : Bool) (new : Spaces) (console : Console) (f : Took k i w n buffer over wrote new console) where
   count-took : length (take n buffer) ≡ n
   count-took = length-take-le n buffer f.long
@@ -386,7 +313,7 @@ module _ (k : Kernel) (i : ℕ) (w : Pending) (is : IsKernel k) (active : k.spac
       ap (λ (s : Spaces). held_at s i) spaces-took
       ∙ held-same k.spaces i (written (held_at k.spaces i) (next_place w) (take n buffer)) low-took
 
-  reads-more : IsSized (held_at new i).memory → over ≡ false → IsReading (held_at new i).memory (further w n)
+  reads-more : IsSized (held_at new i).memory → over ≡ false → IsReading (descriptors_at k i) (held_at new i).memory (further w n)
   reads-more kept waits =
       let mem = (held_at k.spaces i).memory in
       let over-line : (line_for k w).over ≡ false = ap (λ (t : Taken). t.over) f.took ∙ waits in
@@ -394,10 +321,10 @@ module _ (k : Kernel) (i : ℕ) (w : Pending) (is : IsKernel k) (active : k.spac
       let same : length (line_for k w).bytes ≡ length (take n buffer) = ap length bytes-took in
       let count = count-took in
       let kept' : IsSized (write_bytes mem (next_place w) (take n buffer)) = subst (λ (y : Held). IsSized y.memory) held-took kept in
-      let on : IsReading (write_bytes mem (next_place w) (take n buffer)) (further w n) = reading-on mem w n (next_place w) (take n buffer) f.sized kept' reading (omega (arith, less, same, count)) in
-      subst (λ (y : Held). IsReading y.memory (further w n)) (sym held-took) on
+      let on : IsReading (descriptors_at k i) (write_bytes mem (next_place w) (take n buffer)) (further w n) = reading-on (descriptors_at k i) mem w n (next_place w) (take n buffer) f.sized kept' reading (omega (arith, less, same, count)) in
+      subst (λ (y : Held). IsReading (descriptors_at k i) y.memory (further w n)) (sym held-took) on
 
-  more-go : (b : Bool) → over ≡ b → IsSized (held_at new i).memory → OnFalse b (IsReading (held_at new i).memory (further w n))
+  more-go : (b : Bool) → over ≡ b → IsSized (held_at new i).memory → OnFalse b (IsReading (descriptors_at k i) (held_at new i).memory (further w n))
   more-go true e kept = tt
   more-go false e kept = reads-more kept e
 
@@ -412,23 +339,23 @@ module _ (k : Kernel) (i : ℕ) (w : Pending) (is : IsKernel k) (active : k.spac
       }
 
 -- the bytes go to addresses of the memory
-pub place-fits : (k now : Kernel) (i : ℕ) (w : Pending) → k ≡ now → IsReading (held_at now.spaces i).memory w → IsSized (held_at k.spaces i).memory → length (held_at k.spaces i).memory ≤ 32768 → next_place w < 2 ^ 64
+pub place-fits : (k now : Kernel) (i : ℕ) (w : Pending) → k ≡ now → IsReading (descriptors_at now i) (held_at now.spaces i).memory w → IsSized (held_at k.spaces i).memory → length (held_at k.spaces i).memory ≤ 32768 → next_place w < 2 ^ 64
 place-fits k now i w same can sized few =
     let mem = (held_at k.spaces i).memory in
-    let is : IsReading mem w = subst (λ (x : Kernel). IsReading (held_at x.spaces i).memory w) (sym same) can in
+    let is : IsReading (descriptors_at k i) mem w = subst (λ (x : Kernel). IsReading (descriptors_at x i) (held_at x.spaces i).memory w) (sym same) can in
     let whole : low (pending_arg w 2) ≤ length (reach Store mem (pending_arg w 1)) = leb-true (low (pending_arg w 2)) (length (reach Store mem (pending_arg w 1))) is.buffer in
     let left = is.left in
     let page = (reach-page Store mem (pending_arg w 1) w.done sized (omega (arith, whole, left))).0 in
     omega (arith, page, few)
 
 pub receives-of : (k now : Kernel) (i : ℕ) (w : Pending) (wide count n : ℕ) (buffer : List ℕ) (over wrote : Bool) (new : Spaces) (console : Console) → k ≡ now → IsKernel k → now.spaces.active ≡ Some i
-    → IsReading (held_at now.spaces i).memory w → IsSized (held_at k.spaces i).memory → wide ≡ count → count ≡ low (pending_arg w 2) → n ≤ 128 → length buffer ≡ 128
+    → IsReading (descriptors_at now i) (held_at now.spaces i).memory w → IsSized (held_at k.spaces i).memory → wide ≡ count → count ≡ low (pending_arg w 2) → n ≤ 128 → length buffer ≡ 128
     → take_line (nat_lt 0 w.done) (wide - w.done) k.console.committed ≡ record { bytes = take n buffer; rest = console.committed; over = over } → console.edited ≡ k.console.edited
     → wrote ≡ can_write (held_at k.spaces i).memory (next_place w) (length (take n buffer)) → OnTrue wrote (new ≡ with_held k.spaces i (written (held_at k.spaces i) (next_place w) (take n buffer)))
     → Received k now i w n over new console
 receives-of k now i w wide count n buffer over wrote new console same is at can sized e f few long took edited can-write done =
     let active : k.spaces.active ≡ Some i = ap (λ (x : Kernel). x.spaces.active) same ∙ at in
-    let reading : IsReading (held_at k.spaces i).memory w = subst (λ (x : Kernel). IsReading (held_at x.spaces i).memory w) (sym same) can in
+    let reading : IsReading (descriptors_at k i) (held_at k.spaces i).memory w = subst (λ (x : Kernel). IsReading (descriptors_at x i) (held_at x.spaces i).memory w) (sym same) can in
     receives k i w is active reading n buffer over wrote new console
     (record {
       sized = sized;

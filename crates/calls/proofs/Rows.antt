@@ -5,11 +5,12 @@ use Rattle.std.specs.Int.{cast_signed, cast_unsigned, w32}
 use Rattle.std.proofs.lemmas.Int.{of_z-to_z}
 use Rattle.calls.specs.Kernel.{Kernel, answered, argument, blocked, ended, entered, halted_by, left_as, loaded, on_hart, state_of}
 use Rattle.calls.specs.Says.{IsUnbuilt, called, called_by}
-use Rattle.calls.specs.Sound.{IsKernel, IsPending, IsPlaced, is_at}
+use Rattle.calls.specs.Sound.{IsAwaiting, IsKernel, IsPending, IsPlaced, is_at}
 use Rattle.calls.proofs.Changes.{ended-is, ended-kernel, ended-state, left-as, left-kernel, left-state, left_to, other-at}
 use Rattle.calls.proofs.Reaped.{reap-state}
-use Rattle.calls.proofs.Runs.{IsRun, lives-run, loaded-run, process-run, self, slot-put, within-run}
+use Rattle.calls.proofs.Runs.{IsRun, loaded-run, process-run, self, slot-put, within-run}
 use Rattle.calls.proofs.Settles.{call-run, change-run, live, regs-kernel, regs-run, settle-limited, settle-refused}
+use Rattle.files.specs.Places.{opens_of}
 use Rattle.proc.specs.declared.process.Process.{Process}
 use Rattle.spaces.specs.Spaces.{Held}
 use Rattle.unixmodel.specs.Calls.{After, call, call_of, end_at, outcome_of, quiet, settle}
@@ -60,17 +61,17 @@ module _ (k : Kernel) (i : ℕ) (p : Process) (h : Held) (r : IsRun k i p h) (is
 
   unbuilt : (o : Option Call) → call_of (low (slice_index k.spaces.registers 17)) ≡ o → IsUnbuilt o → called (state_of k) i ≡ refused
   unbuilt None number none = numbered None number ∙ refuses
-  unbuilt (Some Pipe) number none = numbered (Some Pipe) number ∙ refuses
+  unbuilt (Some Pipe) number none = absurd none
   unbuilt (Some Exec) number none = numbered (Some Exec) number ∙ refuses
   unbuilt (Some Fstat) number none = numbered (Some Fstat) number ∙ refuses
   unbuilt (Some Chdir) number none = numbered (Some Chdir) number ∙ refuses
-  unbuilt (Some Dup) number none = numbered (Some Dup) number ∙ refuses
+  unbuilt (Some Dup) number none = absurd none
   unbuilt (Some Open) number none = numbered (Some Open) number ∙ refuses
   unbuilt (Some Mknod) number none = numbered (Some Mknod) number ∙ refuses
   unbuilt (Some Unlink) number none = numbered (Some Unlink) number ∙ refuses
   unbuilt (Some Link) number none = numbered (Some Link) number ∙ refuses
   unbuilt (Some Mkdir) number none = numbered (Some Mkdir) number ∙ refuses
-  unbuilt (Some Close) number none = numbered (Some Close) number ∙ refuses
+  unbuilt (Some Close) number none = absurd none
   unbuilt (Some Fork) number none = absurd none
   unbuilt (Some Exit) number none = absurd none
   unbuilt (Some Wait) number none = absurd none
@@ -107,7 +108,7 @@ module _ (k : Kernel) (i : ℕ) (p : Process) (h : Held) (r : IsRun k i p h) (is
 
     pub ends-run : (status : ℤ) → end_process (state_of k) i (self k p h) status ≡ state_of (ended k i status)
     ends-run status =
-        ended-state k is z a i (on_hart k.spaces p) h there r.space pids alone status (lives-run k i p h r)
+        ended-state k is z a i (on_hart k.spaces p) h there r.space pids alone status
         ∙ sym (ap state_of (ended-is k is z a i (on_hart k.spaces p) h there r.space pids alone status))
 
     pub ends-at : (status : ℤ) → end_at (state_of k) i status (process_at (state_of k) i) ≡ state_of (ended k i status)
@@ -121,7 +122,7 @@ module _ (k : Kernel) (i : ℕ) (p : Process) (h : Held) (r : IsRun k i p h) (is
     waits-q : Pending → Process
     waits-q w = record p { registers = k.spaces.registers; pc = k.spaces.pc; mode = Waiting w }
 
-    waits-placed : (w : Pending) → IsPending h.memory w w.number → IsPlaced (record p { registers = k.spaces.registers; pc = k.spaces.pc; mode = Waiting w }) h
+    waits-placed : (w : Pending) → IsPending p.descriptors h.memory w w.number → IsPlaced (record p { registers = k.spaces.registers; pc = k.spaces.pc; mode = Waiting w }) h
     waits-placed w pending = let l = live k i p h r is in record {
       size = r.placed.size;
       zero = z;
@@ -129,14 +130,14 @@ module _ (k : Kernel) (i : ℕ) (p : Process) (h : Held) (r : IsRun k i p h) (is
       mode = (record { descriptors = l.descriptors; directory = l.directory }, pending);
     }
 
-    pub waits-kernel : (w : Pending) → IsPending h.memory w w.number → IsKernel (blocked k i w)
-    waits-kernel w pending = rw (left-as k i p h r is (Waiting w)) (left-kernel k i p h r is (record p { registers = k.spaces.registers; pc = k.spaces.pc; mode = Waiting w }) (waits-placed w pending) refl)
+    pub waits-kernel : (w : Pending) → IsPending p.descriptors h.memory w w.number → IsAwaiting (opens_of k.files) p.descriptors w → IsKernel (blocked k i w)
+    waits-kernel w pending for = rw (left-as k i p h r is (Waiting w)) (left-kernel k i p h r is (record p { registers = k.spaces.registers; pc = k.spaces.pc; mode = Waiting w }) (waits-placed w pending) refl refl for)
 
-    pub waits-run : (w : Pending) → IsPending h.memory w w.number → reap (change_process (state_of k) i (unix.with_mode (Waiting w))) ≡ state_of (blocked k i w)
-    waits-run w pending =
+    pub waits-run : (w : Pending) → IsPending p.descriptors h.memory w w.number → IsAwaiting (opens_of k.files) p.descriptors w → reap (change_process (state_of k) i (unix.with_mode (Waiting w))) ≡ state_of (blocked k i w)
+    waits-run w pending for =
         let q = record p { registers = k.spaces.registers; pc = k.spaces.pc; mode = Waiting w } in
-        let is' = left-kernel k i p h r is q (waits-placed w pending) refl in
-        ap reap (change-run k i p h r is (unix.with_mode (Waiting w)) ∙ sym (left-state k i p h r is q (waits-placed w pending) refl refl))
+        let is' = left-kernel k i p h r is q (waits-placed w pending) refl refl for in
+        ap reap (change-run k i p h r is (unix.with_mode (Waiting w)) ∙ sym (left-state k i p h r is q (waits-placed w pending) refl))
         ∙ reap-state (left_to k i q) is'
         ∙ sym (ap state_of (left-as k i p h r is (Waiting w)))
 
@@ -150,12 +151,12 @@ module _ (k : Kernel) (i : ℕ) (p : Process) (h : Held) (r : IsRun k i p h) (is
     }
 
     pub stops-kernel : IsKernel (left_as k i Ready)
-    stops-kernel = rw (left-as k i p h r is Ready) (left-kernel k i p h r is (record p { registers = k.spaces.registers; pc = k.spaces.pc; mode = Ready }) stops-placed refl)
+    stops-kernel = rw (left-as k i p h r is Ready) (left-kernel k i p h r is (record p { registers = k.spaces.registers; pc = k.spaces.pc; mode = Ready }) stops-placed refl refl tt)
 
     pub stops-run : change_process (state_of k) i (unix.with_mode Ready) ≡ state_of (left_as k i Ready)
     stops-run =
         let q = record p { registers = k.spaces.registers; pc = k.spaces.pc; mode = Ready } in
-        change-run k i p h r is (unix.with_mode Ready) ∙ sym (left-state k i p h r is q stops-placed refl refl) ∙ sym (ap state_of (left-as k i p h r is Ready))
+        change-run k i p h r is (unix.with_mode Ready) ∙ sym (left-state k i p h r is q stops-placed refl) ∙ sym (ap state_of (left-as k i p h r is Ready))
 
 -- ---- rows that end the process, or where it waits
 

@@ -1,13 +1,14 @@
 -- The running process, and what becomes of the state where it alone changes.
-use Rattle.std.proofs.Common.{◌≡◌, ◌≢◌, ℕ, zero, suc, ◌<◌, ◌≤◌, ◌⊎◌, inl, inr, true, nat_eq, List, [], ◌∷◌, length, Option, Some, None, refl, ap, sym, ◌∙◌, arith}
-use Rattle.std.specs.List.{list_any}
-use Rattle.std.specs.Prelude.{option_map, slice_set, slice_index_or}
+use Rattle.std.proofs.Common.{◌≡◌, ◌≢◌, ℕ, zero, suc, ◌<◌, ◌≤◌, ◌⊎◌, inl, inr, Bool, true, nat_eq, List, [], ◌∷◌, length, Option, Some, None, refl, ap, sym, ◌∙◌, arith}
+use Rattle.std.specs.Prelude.{is_some, option_map, slice_set, slice_index_or}
 use Rattle.std.proofs.lemmas.Bool.Decides.{nat_tests}
 use Rattle.std.proofs.lemmas.List.{get_or-set_other, get_or-set_same, length-map, length-set, map-set, set-get_or}
-use Rattle.std.proofs.lemmas.List.Folds.{list_any_at}
 use Rattle.std.proofs.Math.ListN as listn
-use Rattle.calls.specs.Kernel.{Kernel, base, lives, loaded, memories, memory_in, on_hart, rest_of, state_of}
-use Rattle.calls.specs.Sound.{IsKernel, IsPlace, IsPlaced, is_at}
+use Rattle.calls.specs.Descriptors.{descriptors_in}
+use Rattle.calls.specs.Kernel.{Kernel, base, descriptors_at, lives, loaded, memories, memory_in, on_hart, rest_of, state_of}
+use Rattle.calls.specs.Sound.{IsKernel, IsOpenFile, IsPlace, IsPlaced, console_file, is_at}
+use Rattle.calls.proofs.Opens.{IsConsole, IsNamed, open-named, opened-put, waits-running}
+use Rattle.files.specs.Places.{opens_of}
 use Rattle.proc.specs.declared.process.Process.{Process}
 use Rattle.proc.specs.Places as table
 use Rattle.proc.specs.Places.{Places, changed}
@@ -17,6 +18,7 @@ use Rattle.unixmodel.specs.declared.process.Mode.{Mode}
 use Rattle.unixmodel.specs.declared.process.Mode.TheVariants.{Ready, Running, Waiting, Zombie}
 use Rattle.unixmodel.specs.Files.{put, slot}
 use Rattle.unixmodel.specs.Memory.{Memory}
+use Rattle.unixmodel.specs.OpenFiles.{OpenFile}
 use Rattle.unixmodel.specs.Process as unix
 use Rattle.unixmodel.specs.Process.{is_running_mode}
 use Rattle.unixmodel.specs.State.{State, holds, process_at, put_process}
@@ -59,10 +61,6 @@ module _ (s : State) (t : Places) (ms : List Memory) (i : ℕ) where
 
   pub process-with : (p : Process) → slot t.places i ≡ Some p → process_at (with_table s t ms) i ≡ Some (with_memory (slice_index_or ms i []) p)
   process-with p is = slot-joined t.places ms i ∙ ap (option_map (with_memory (slice_index_or ms i []))) is
-
--- some process lives
-pub lives-some : (os : List (Option Process)) (i : ℕ) (p : Process) → slot os i ≡ Some p → lives p ≡ true → list_any (holds lives) os ≡ true
-lives-some os i p is alive = list_any_at (holds lives) os i None (slot-within os i p is) (rw is alive)
 
 -- ---- the running process
 
@@ -120,19 +118,40 @@ module _ (k : Kernel) (i : ℕ) (p : Process) (h : Held) (r : IsRun k i p h) whe
   pub within-run : i < length k.table.places
   within-run = slot-within k.table.places i p r.process
 
-  pub state-run : state_of k ≡ with_table (base (rest_of k) true) (with_process k.table i (on_hart k.spaces p)) (memories k.spaces)
-  state-run =
-      let some : list_any (holds lives) (put k.table.places i (on_hart k.spaces p)) ≡ true =
-      lives-some (put k.table.places i (on_hart k.spaces p)) i (on_hart k.spaces p) (slot-put k.table.places i (Some (on_hart k.spaces p)) within-run) lives-run in
-      rw (loaded-run, some) refl
+  pub state-run : state_of k ≡ with_table (base (rest_of k)) (with_process k.table i (on_hart k.spaces p)) (memories k.spaces)
+  state-run = rw loaded-run refl
 
   pub process-run : process_at (state_of k) i ≡ Some (self k p h)
   process-run =
       let memory : slice_index_or (memories k.spaces) i [] ≡ h.memory = memory-at k.spaces i ∙ ap memory_in r.space in
       let table = with_process k.table i (on_hart k.spaces p) in
       ap (λ (s : State). process_at s i) state-run
-      ∙ process-with (base (rest_of k) true) table (memories k.spaces) i (on_hart k.spaces p) (slot-put k.table.places i (Some (on_hart k.spaces p)) within-run)
+      ∙ process-with (base (rest_of k)) table (memories k.spaces) i (on_hart k.spaces p) (slot-put k.table.places i (Some (on_hart k.spaces p)) within-run)
       ∙ ap (λ (m : Memory). Some (with_memory m (on_hart k.spaces p))) memory
+
+-- ---- what its descriptors name
+
+module _ (k : Kernel) (i : ℕ) (p : Process) (h : Held) (r : IsRun k i p h) (is : IsKernel k) where
+  file-go : (d : ℕ) (o : Option ℕ) → slot p.descriptors d ≡ o → is_some o ≡ true → (f : OpenFile) × (IsNamed (state_of k) (self k p h) d f × IsOpenFile f)
+  file-go d None named some = absurd (cc)
+  file-go d (Some n) named some =
+      let there = open-named k.files k.spaces.pipes k.table.places is.opened i p d n r.process named in
+      (there.0, (record { number = n; named = named; opened = there.1.0 }, there.1.1))
+
+  -- a descriptor that names something names an open file
+  pub file-run : (d : ℕ) → is_some (slot p.descriptors d) ≡ true → (f : OpenFile) × (IsNamed (state_of k) (self k p h) d f × IsOpenFile f)
+  file-run d some = file-go d (slot p.descriptors d) refl some
+
+  console-go : (d : ℕ) (o : Option ℕ) → slot p.descriptors d ≡ o → is_some o ≡ true → ((n : ℕ) → slot p.descriptors d ≡ Some n → slot (opens_of k.files) n ≡ Some console_file) → IsConsole (state_of k) (self k p h) d
+  console-go d None named some only = absurd (cc)
+  console-go d (Some n) named some only = record { number = n; named = named; opened = only n named }
+
+  -- a descriptor that names something names the console, where that is all that it can name
+  pub console-run : (d : ℕ) → is_some (slot p.descriptors d) ≡ true → ((n : ℕ) → slot p.descriptors d ≡ Some n → slot (opens_of k.files) n ≡ Some console_file) → IsConsole (state_of k) (self k p h) d
+  console-run d some only = console-go d (slot p.descriptors d) refl some only
+
+  pub named-run : (d : ℕ) (b : Bool) → is_some (slot (descriptors_at k i) d) ≡ b → is_some (slot p.descriptors d) ≡ b
+  named-run d b named = ap (λ (o : Option Process). is_some (slot (descriptors_in o) d)) (sym r.process) ∙ named
 
 -- ---- the running process alone changes
 
@@ -174,13 +193,14 @@ module _ (k : Kernel) (i : ℕ) (p : Process) (h : Held) (r : IsRun k i p h) (is
       runs = runs;
     }
 
-    pub moved-kernel : taken_frames (moved k i p' h' registers pc).spaces ≤ k.spaces.frames → IsKernel (moved k i p' h' registers pc)
-    moved-kernel fits = record {
+    pub moved-kernel : p'.descriptors ≡ p.descriptors → taken_frames (moved k i p' h' registers pc).spaces ≤ k.spaces.frames → IsKernel (moved k i p' h' registers pc)
+    moved-kernel same fits = record {
       all = length-set k.table.places i (Some p') ∙ is.all;
       spaces = length-set k.spaces.places i (Some h') ∙ is.spaces;
       stands = stands-set k.table.places k.spaces.places i (Some p') (Some h') (within-run k i p h r) within-space placed is.stands;
       runs = runs-set k.table.places i (Some p') k.spaces.active k.spaces.active (within-run k i p h r) (rw (runs, r.active) (sym (eq-self i))) (λ j other. refl) is.runs;
       fits = fits;
+      opened = opened-put k.files k.spaces.pipes k.table.places i (Some p') (same ∙ sym (ap descriptors_in r.process)) (waits-running (opens_of k.files) p' runs) is.opened;
     }
 
     -- that is what the abstract Unix puts in its place
@@ -192,7 +212,7 @@ module _ (k : Kernel) (i : ℕ) (p : Process) (h : Held) (r : IsRun k i p h) (is
         let twice : put (put k.table.places i p') i q ≡ put (put k.table.places i (on_hart k.spaces p)) i q =
         set-twice k.table.places i (Some p') (Some q) ∙ sym (set-twice k.table.places i (Some (on_hart k.spaces p)) (Some q)) in
         let shown : memories new.spaces ≡ slice_set (memories k.spaces) i h'.memory = map-set memory_in k.spaces.places i (Some h') in
-        let rest = base (rest_of k) true in
+        let rest = base (rest_of k) in
         let old = with_process k.table i (on_hart k.spaces p) in
         state-run new i p' h' moved-run
         ∙ ap (λ (places : List (Option Process)). with_table rest (record k.table { places = places }) (memories new.spaces)) twice

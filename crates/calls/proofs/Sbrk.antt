@@ -61,7 +61,7 @@ module _ (k : Kernel) (i : ℕ) (p : Process) (h : Held) (r : IsRun k i p h) (is
   sized-run = moved-run k i p h r is (with_size size p) (sized h size) k.spaces.registers k.spaces.pc sized-placed r.runs
 
   sized-kernel : taken_frames resized_to.spaces ≤ k.spaces.frames → IsKernel resized_to
-  sized-kernel fits = moved-kernel k i p h r is (with_size size p) (sized h size) k.spaces.registers k.spaces.pc sized-placed r.runs fits
+  sized-kernel fits = moved-kernel k i p h r is (with_size size p) (sized h size) k.spaces.registers k.spaces.pc sized-placed r.runs refl fits
 
   sized-stands : (n : ℕ) → IsPlace (slot resized_to.table.places n) (slot resized_to.spaces.places n)
   sized-stands = stands-set k.table.places k.spaces.places i (Some (with_size size p)) (Some (sized h size)) (within-run k i p h r) (slot-within k.spaces.places i h r.space) sized-placed is.stands

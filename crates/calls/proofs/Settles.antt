@@ -1,10 +1,10 @@
 -- What the outcome of a call of the running process makes of the state.
-use Rattle.std.proofs.Common.{◌≡◌, ℕ, Bool, false, List, Option, Some, refl, ap, sym, ◌∙◌}
+use Rattle.std.proofs.Common.{◌≡◌, ℕ, ◌<◌, Bool, false, List, Option, Some, length, refl, ap, sym, ◌∙◌}
 use Rattle.std.specs.Prelude.{if◌then◌else◌, negsuc, option_map, slice_index, slice_set}
 use Rattle.calls.specs.Kernel.{Kernel, answered, entered, state_of}
 use Rattle.calls.specs.Sound.{IsKernel, IsLive, IsMode}
 use Rattle.calls.proofs.Reaped.{reap-state, within-state}
-use Rattle.calls.proofs.Runs.{IsRun, moved, moved-state, process-run, self, set-slot}
+use Rattle.calls.proofs.Runs.{IsRun, moved, moved-state, process-run, self, set-slot, set-twice, slot-put}
 use Rattle.proc.specs.declared.process.Process.{Process}
 use Rattle.proc.specs.Whole.{with_memory}
 use Rattle.spaces.specs.Spaces.{Held}
@@ -12,6 +12,7 @@ use Rattle.unixmodel.specs.Calls.{After, call, call_of, end_if_killed, outcome_o
 use Rattle.unixmodel.specs.declared.call.Call.{Call}
 use Rattle.unixmodel.specs.declared.process.Mode.{Mode}
 use Rattle.unixmodel.specs.declared.process.Mode.TheVariants.{Ready, Running, Waiting, Zombie}
+use Rattle.unixmodel.specs.Files.{put}
 use Rattle.unixmodel.specs.Memory.{Memory}
 use Rattle.unixmodel.specs.Reap.{reap}
 use Rattle.unixmodel.specs.Numbers.{low, plus}
@@ -27,9 +28,15 @@ after state bytes = record { state = state; bytes = bytes }
 abbrev pub on_regs : Kernel → List ℕ → ℕ → Kernel
 on_regs k registers pc = record k { spaces = record k.spaces { registers = registers; pc = pc } }
 
+-- a process that was put in a place is changed
+pub change-put : (i : ℕ) (s : State) (p : unix.Process) (change : unix.Process → unix.Process) → i < length s.places → change_process (put_process s i p) i change ≡ put_process s i (change p)
+change-put i s p change short =
+    ap (λ (o : Option unix.Process). record s { places = slice_set (put s.places i p) i (option_map change o) }) (slot-put s.places i (Some p) short)
+    ∙ ap (λ (places : List (Option unix.Process)). record s { places = places }) (set-twice s.places i (Some p) (Some (change p)))
+
 -- the hart alone changes
 pub regs-kernel : (k : Kernel) → IsKernel k → (registers : List ℕ) (pc : ℕ) → IsKernel (on_regs k registers pc)
-regs-kernel k is registers pc = record { all = is.all; spaces = is.spaces; stands = is.stands; runs = is.runs; fits = is.fits }
+regs-kernel k is registers pc = record { all = is.all; spaces = is.spaces; stands = is.stands; runs = is.runs; fits = is.fits; opened = is.opened }
 
 run-mode : (p : Process) (memory : Memory) (mode : Mode) → mode ≡ Running → IsMode p memory mode → IsLive p × (p.killed ≡ false)
 run-mode p memory Running e is = is

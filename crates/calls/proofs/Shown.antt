@@ -1,13 +1,13 @@
 -- What a kernel shows of its processes, in the words of its state.
-use Rattle.std.proofs.Common.{◌≡◌, ◌≢◌, inl, inr, ℕ, zero, suc, ◌+◌, ◌<◌, Bool, true, false, nat_eq, List, [], ◌∷◌, length, Option, Some, None, refl, ap, sym, ◌∙◌, arith}
-use Rattle.std.specs.Prelude.{IfSome, cond, is_some, not, option_and_then, option_map, position, slice_get, slice_index_or, slice_set, unwrap_or}
+use Rattle.std.proofs.Common.{◌≡◌, ◌≢◌, inl, inr, ℕ, zero, suc, ◌+◌, ◌<◌, Bool, true, false, nat_eq, List, [], ◌∷◌, Option, Some, None, refl, ap, sym, ◌∙◌, arith}
+use Rattle.std.specs.Prelude.{IfSome, cond, is_some, not, option_and_then, option_map, position, slice_get, slice_set, unwrap_or}
 use Rattle.std.specs.Option.{option_eq}
-use Rattle.std.specs.List.{list_any, prefix_len}
+use Rattle.std.specs.List.{prefix_len}
 use Rattle.std.proofs.lemmas.Bool.{eqb-true}
 use Rattle.std.proofs.lemmas.List.{length-set}
 use Rattle.calls.proofs.Reaped.{frames-with, match-loaded}
 use Rattle.calls.proofs.Runs.{eq-self, memory-at, same_or_not, slot-other, slot-put, slot-within}
-use Rattle.calls.specs.Kernel.{Kernel, base, lives, loaded, memories, memory_in, on_hart, rest_of, state_of}
+use Rattle.calls.specs.Kernel.{Kernel, base, loaded, memories, memory_in, on_hart, rest_of, state_of}
 use Rattle.calls.specs.Shows.{bare}
 use Rattle.calls.specs.Sound.{IsKernel, IsPlace}
 use Rattle.proc.specs.declared.process.Process.{Process}
@@ -45,7 +45,7 @@ place-changed t s pid (Some i) = position-set (holds (has_pid pid)) t.places i (
 module _ (k : Kernel) where
   pub place-state : (pid : ℕ) → place_of_pid (state_of k) pid ≡ place_where k.table.places (has_pid pid)
   place-state pid =
-      place_of_pid-with_table (base (rest_of k) (list_any (holds lives) (loaded k).places)) (loaded k) (memories k.spaces) pid
+      place_of_pid-with_table (base (rest_of k)) (loaded k) (memories k.spaces) pid
       ∙ place-changed k.table k.spaces pid k.spaces.active
 
   pub process-state : (i : ℕ) → process_at (state_of k) i ≡ option_map (with_memory (memory_in (slot k.spaces.places i))) (slot (loaded k).places i)
@@ -137,4 +137,4 @@ module _ (k : Kernel) (pid i : ℕ) (found : place_where k.table.places (has_pid
 -- ---- frames
 
 pub frames-state : (k : Kernel) → IsKernel k → frames_of (state_of k) ≡ taken_frames k.spaces
-frames-state k is = frames-with k (loaded k) (list_any (holds lives) (loaded k).places) (match-loaded k is)
+frames-state k is = frames-with k (loaded k) (match-loaded k is)

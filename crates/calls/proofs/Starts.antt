@@ -1,12 +1,13 @@
 -- A process is picked.
 use Rattle.std.proofs.Common.{◌≡◌, ◌≢◌, ℕ, ◌<◌, ◌%◌, Bool, true, false, List, [], length, Option, Some, None, ℤ, negsuc, refl, ap, sym, subst, ◌∙◌}
-use Rattle.std.specs.List.{list_any}
 use Rattle.std.specs.Prelude.{if◌then◌else◌, is_some, not, slice_index, slice_index_or, slice_set}
 use Rattle.std.proofs.lemmas.List.{length-map, length-set, set-get_or}
+use Rattle.calls.specs.Descriptors.{descriptors_in}
 use Rattle.calls.specs.Kernel.{Kernel, base, ended, halted_by, lives, loaded, memories, memory_in, picked, rest_of, started, started_as, state_of}
 use Rattle.calls.specs.Sound.{CanRun, IsKernel, IsLive, IsPlace, IsPlaced, is_at}
 use Rattle.calls.proofs.Changes.{ended-is, ended-state, other-at, stands-put}
-use Rattle.calls.proofs.Runs.{IsRun, eq-self, lives-some, memory-at, put-with, runs-set, set-twice, slot-put, slot-within, state-run, with_process}
+use Rattle.calls.proofs.Opens.{opened-put}
+use Rattle.calls.proofs.Runs.{IsRun, eq-self, memory-at, put-with, runs-set, set-twice, slot-put, slot-within, state-run, with_process}
 use Rattle.proc.specs.declared.process.Process.{Process}
 use Rattle.proc.specs.Places.{changed, with_mode}
 use Rattle.proc.specs.Whole.{with_memory, with_table}
@@ -18,14 +19,14 @@ use Rattle.unixmodel.specs.Files.{slot}
 use Rattle.unixmodel.specs.Memory.{Memory}
 use Rattle.unixmodel.specs.Next as next
 use Rattle.unixmodel.specs.Outcome.{end_process}
-use Rattle.unixmodel.specs.State.{State, holds, put_process}
+use Rattle.unixmodel.specs.State.{State, put_process}
 
 -- none runs: the state has the table as it is
 pub picked-state : (k : Kernel) (i : ℕ) → k.spaces.active ≡ None → state_of (picked k i) ≡ record (state_of k) { last = i }
 picked-state k i idle = rw idle refl
 
 pub picked-kernel : (k : Kernel) (i : ℕ) → IsKernel k → IsKernel (picked k i)
-picked-kernel k i is = record { all = is.all; spaces = is.spaces; stands = is.stands; runs = is.runs; fits = is.fits }
+picked-kernel k i is = record { all = is.all; spaces = is.spaces; stands = is.stands; runs = is.runs; fits = is.fits; opened = is.opened }
 
 placed-is : (o : Option Process) (q : Option Held) (p : Process) (h : Held) → o ≡ Some p → q ≡ Some h → IsPlace o q → IsPlaced p h
 placed-is None q p h at space is = absurd (cc)
@@ -43,10 +44,8 @@ module _ (k : Kernel) (i : ℕ) (p : Process) (h : Held) (is : IsKernel k) (idle
   placed : IsPlaced p h
   placed = placed-is (slot k.table.places i) (slot k.spaces.places i) p h process space (is.stands i)
 
-  pub state-idle : state_of k ≡ with_table (base (rest_of k) true) k.table (memories k.spaces)
-  state-idle =
-      let some : list_any (holds lives) k.table.places ≡ true = lives-some k.table.places i p process alive in
-      rw (idle, some) refl
+  pub state-idle : state_of k ≡ with_table (base (rest_of k)) k.table (memories k.spaces)
+  state-idle = rw idle refl
 
   -- ---- it is killed
 
@@ -55,7 +54,7 @@ module _ (k : Kernel) (i : ℕ) (p : Process) (h : Held) (is : IsKernel k) (idle
       let there : slot (loaded k).places i ≡ Some p = ap (λ t. slot t.places i) table-idle ∙ process in
       let pids : halted_by (slot k.table.places i) ≡ halted_by (Some p) = ap halted_by process in
       let alone : (j : ℕ) → j ≢ i → is_at j k.spaces.active ≡ false = λ j other. ap (is_at j) idle in
-      ended-state k is z a i p h there space pids alone status alive ∙ sym (ap state_of (ended-is k is z a i p h there space pids alone status))
+      ended-state k is z a i p h there space pids alone status ∙ sym (ap state_of (ended-is k is z a i p h there space pids alone status))
 
   -- ---- it runs
 
@@ -82,11 +81,12 @@ module _ (k : Kernel) (i : ℕ) (p : Process) (h : Held) (is : IsKernel k) (idle
       stands = stands-put k.table.places k.spaces.places i (Some q) short (rw space q-placed) is.stands;
       runs = runs-set k.table.places i (Some q) k.spaces.active (Some i) short (sym (eq-self i)) (λ j other. other-at i j other ∙ sym (ap (is_at j) idle)) is.runs;
       fits = is.fits;
+      opened = opened-put k.files k.spaces.pipes k.table.places i (Some q) (sym (ap descriptors_in process)) tt is.opened;
     }
 
     pub started-state : state_of started_to ≡ put_process (state_of k) i (with_memory h.memory q)
     started-state =
-        let rest = base (rest_of k) true in
+        let rest = base (rest_of k) in
         let at : slice_index_or (memories k.spaces) i [] ≡ h.memory = memory-at k.spaces i ∙ ap memory_in space in
         let same : memories k.spaces ≡ slice_set (memories k.spaces) i h.memory = sym (ap (λ m. slice_set (memories k.spaces) i m) (sym at) ∙ set-get_or (memories k.spaces) i []) in
         let low : i < length (memories k.spaces) = rw (length-map k.spaces.places memory_in) (slot-within k.spaces.places i h space) in

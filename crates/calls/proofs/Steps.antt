@@ -1,11 +1,13 @@
 -- The kernel's own steps keep what a kernel keeps.
 use Rattle.std.proofs.Common.{◌≡◌, ℕ, ◌≤◌, ◌%◌, false, Option, Some, None, Ok, Err, refl, ap, subst, sym, ◌∙◌}
 use Rattle.std.specs.Prelude.{IfNone, IfSome, option_map, slice_index, unwrap_or}
-use Rattle.calls.specs.Kernel.{Kernel, blocked, computed, idle, left_as, on_hart, state_of}
-use Rattle.calls.specs.Sound.{IsKernel, IsLive, IsMode, IsPending, IsPlaced}
+use Rattle.calls.specs.Descriptors.{descriptors_in}
+use Rattle.calls.specs.Kernel.{Kernel, blocked, computed, descriptors_at, idle, left_as, on_hart, state_of}
+use Rattle.calls.specs.Sound.{IsAwaiting, IsKernel, IsLive, IsMode, IsPending, IsPlaced}
 use Rattle.calls.proofs.Rows.{effect-run, stops-kernel, waits-kernel}
 use Rattle.calls.proofs.Runs.{IsRun, moved, moved-kernel, moved-state, run-of, set-slot, with_process}
 use Rattle.calls.proofs.Settles.{live, not-killed}
+use Rattle.files.specs.Places.{opens_of}
 use Rattle.proc.specs.declared.process.Process.{Process}
 use Rattle.spaces.specs.Spaces as spaces
 use Rattle.spaces.specs.Spaces.{Held, Spaces, held_at, no_pages, taken_frames}
@@ -44,11 +46,11 @@ pub stop-keeps : (k : Kernel) (i : ℕ) → IsKernel k → k.spaces.active ≡ S
 stop-keeps k i is active z a = let run = run-of k i is active in stops-kernel k i run.0 run.1.0 run.1.1 is z a
 
 pub block-keeps : (k : Kernel) (i : ℕ) (w : Pending) → IsKernel k → k.spaces.active ≡ Some i → slice_index k.spaces.registers 0 ≡ 0 → k.spaces.pc % 4 ≡ 0
-    → IsPending (held_at k.spaces i).memory w w.number → IsKernel (blocked k i w)
-block-keeps k i w is active z a pending =
+    → IsPending (descriptors_at k i) (held_at k.spaces i).memory w w.number → IsAwaiting (opens_of k.files) (descriptors_at k i) w → IsKernel (blocked k i w)
+block-keeps k i w is active z a pending for =
     let run = run-of k i is active in
     let held : held_at k.spaces i ≡ run.1.0 = ap (λ o. unwrap_or o no_pages) run.1.1.space in
-    waits-kernel k i run.0 run.1.0 run.1.1 is z a w (rw held at pending)
+    waits-kernel k i run.0 run.1.0 run.1.1 is z a w (rw (held, ap descriptors_in run.1.1.process) at pending) (rw (ap descriptors_in run.1.1.process) at for)
 
 -- ---- over the fields: k is what they show, and now is the kernel's value
 
@@ -59,10 +61,10 @@ stop-closes k now i q same is active z a held =
     rw same keeps
 
 pub block-closes : (k now : Kernel) (i : ℕ) (w : Pending) (q : Process) → k ≡ now → IsKernel now → now.spaces.active ≡ Some i → slice_index now.spaces.registers 0 ≡ 0 → now.spaces.pc % 4 ≡ 0
-    → IsPending (held_at now.spaces i).memory w w.number
+    → IsPending (descriptors_at now i) (held_at now.spaces i).memory w w.number → IsAwaiting (opens_of now.files) (descriptors_at now i) w
     → option_map (on_hart now.spaces) (slot now.table.places i) ≡ Some q → IsKernel (record k { table = with_process k.table i (record q { mode = Waiting w }); spaces = idle k.spaces })
-block-closes k now i w q same is active z a pending held =
-    let keeps : IsKernel (record now { table = with_process now.table i (record q { mode = Waiting w }); spaces = idle now.spaces }) = rw (left-is now i (Waiting w) q held) (block-keeps now i w is active z a pending) in
+block-closes k now i w q same is active z a pending for held =
+    let keeps : IsKernel (record now { table = with_process now.table i (record q { mode = Waiting w }); spaces = idle now.spaces }) = rw (left-is now i (Waiting w) q held) (block-keeps now i w is active z a pending for) in
     rw same keeps
 
 -- ---- an instruction
@@ -92,7 +94,7 @@ module _ (k : Kernel) (i : ℕ) (p : Process) (h : Held) (r : IsRun k i p h) (is
 
     pub computed-kernel : taken_frames (computed k i d).spaces ≤ k.spaces.frames → IsKernel (computed k i d)
     computed-kernel fits =
-        rw computed-is (moved-kernel k i p h r is p (record h { memory = memory_after h.memory d.change }) d.regs d.pc (placed-with (memory_after h.memory d.change)) r.runs (subst (λ (x : Kernel). taken_frames x.spaces ≤ k.spaces.frames) computed-is fits))
+        rw computed-is (moved-kernel k i p h r is p (record h { memory = memory_after h.memory d.change }) d.regs d.pc (placed-with (memory_after h.memory d.change)) r.runs refl (subst (λ (x : Kernel). taken_frames x.spaces ≤ k.spaces.frames) computed-is fits))
 
     pub computed-state : cycle k.spaces.registers k.spaces.pc h.memory ≡ Ok d → execute_at (state_of k) i (process_at (state_of k) i) ≡ quiet (state_of (computed k i d))
     unfolding execute effect_of

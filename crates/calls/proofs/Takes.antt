@@ -1,17 +1,17 @@
 -- A step: the running process does an instruction, or a turn where none runs.
-use Rattle.std.proofs.Common.{◌≡◌, ℕ, ◌%◌, Bool, true, false, List, [], ◌∷◌, Option, Some, None, Ok, Err, ℤ, negsuc, refl, ap, subst, sym, ◌∙◌}
+use Rattle.std.proofs.Common.{◌≡◌, ℕ, ◌%◌, Bool, true, false, List, [], Option, Some, None, Ok, Err, ℤ, negsuc, refl, ap, subst, sym, ◌∙◌}
 use Rattle.std.specs.Io.KnownBytes.{Appends}
-use Rattle.std.specs.Prelude.{cond, find, if◌then◌else◌, slice_index}
+use Rattle.std.specs.Prelude.{if◌then◌else◌, slice_index}
 use Rattle.std.proofs.lemmas.List.{append-nil}
 use Rattle.calls.specs.declared.halt.Halt.{Halt}
 use Rattle.calls.specs.declared.halt.Halt.TheVariants.{Console, Device, Halted, InitEnded}
 use Rattle.calls.specs.Does.{Dispatches, Does, IsMade, halt_of}
 use Rattle.calls.specs.Kernel.{Kernel, computed, ended, lives, picked, started, state_of}
-use Rattle.calls.specs.Says.{called, has_input, is_ready, is_ready_in, is_ready_process}
-use Rattle.calls.specs.Sound.{CanRun, IsKernel, IsLive, IsMode}
-use Rattle.calls.specs.Told.{CanEnd, resumed, resumed_by, resumed_in, taken, taken_by}
+use Rattle.calls.specs.Says.{called}
+use Rattle.calls.specs.Sound.{IsKernel, IsLive, IsMode}
+use Rattle.calls.specs.Told.{IsAlive, resumed, resumed_by, resumed_in, taken, taken_by}
 use Rattle.calls.proofs.Goes.{IsThere, process-idle, there-of}
-use Rattle.calls.proofs.Readies.{ready-same}
+use Rattle.calls.proofs.Readies.{turn-alive}
 use Rattle.calls.proofs.Rows.{executes-call, executes-fault}
 use Rattle.calls.proofs.Runs.{run-of}
 use Rattle.calls.proofs.Starts.{picked-state, picks-killed, picks-ready}
@@ -22,7 +22,7 @@ use Rattle.spaces.specs.Spaces.{Held, held_at}
 use Rattle.unixmodel.specs.Calls.{After, quiet}
 use Rattle.unixmodel.specs.Cycle.{cycle}
 use Rattle.unixmodel.specs.declared.process.Mode.{Mode}
-use Rattle.unixmodel.specs.declared.process.Mode.TheVariants.{Ready, Running, Waiting, Zombie}
+use Rattle.unixmodel.specs.declared.process.Mode.TheVariants.{Ready, Waiting}
 use Rattle.unixmodel.specs.declared.process.Pending.{Pending}
 use Rattle.unixmodel.specs.declared.trap.Trap.{Trap}
 use Rattle.unixmodel.specs.Files.{slot}
@@ -84,19 +84,9 @@ module _ (k : Kernel) (i : ℕ) (is : IsKernel k) (active : k.spaces.active ≡ 
 
 -- ---- a picked process
 
--- one that is ready lives
-ready-mode : (ticks : ℕ) (input : Bool) (places : List (Option Process)) (p : Process) (mode : Mode) → p.mode ≡ mode → is_ready_in ticks input places p mode ≡ true → lives p ≡ true
-ready-mode ticks input places p Running e ready = rw e refl
-ready-mode ticks input places p Ready e ready = rw e refl
-ready-mode ticks input places p (Waiting w) e ready = rw e refl
-ready-mode ticks input places p (Zombie status) e ready = absurd (cc)
-
-pub ready-lives : (ticks : ℕ) (input : Bool) (places : List (Option Process)) (i : ℕ) (p : Process) → slot places i ≡ Some p → is_ready ticks input places i ≡ true → lives p ≡ true
-ready-lives ticks input places i p at ready = ready-mode ticks input places p p.mode refl (sym (ap (is_ready_process ticks input places) at) ∙ ready)
-
-ready-go : (ticks : ℕ) (input : Bool) (places : List (Option Process)) (o : Option Process) → is_ready_process ticks input places o ≡ true → (p : Process) × (o ≡ Some p)
-ready-go ticks input places None ready = absurd (cc)
-ready-go ticks input places (Some p) ready = (p, refl)
+alive-some : (o : Option Process) → IsAlive o → (p : Process) × ((o ≡ Some p) × (lives p ≡ true))
+alive-some None alive = absurd alive
+alive-some (Some p) alive = (p, (refl, alive))
 
 live-mode : (p : Process) (m : Memory) (mode : Mode) → mode ≡ Ready → IsMode p m mode → IsLive p
 live-mode p m mode e is = rw e at is
@@ -107,9 +97,12 @@ module _ (k : Kernel) (i : ℕ) (p : Process) (is : IsKernel k) (none : k.spaces
       let t = there-of k i p is at in
       (t.0, (t.1, ap (taken_by (state_of k) i) (process-idle k i p t.0 is none t.1 alive)))
 
-  pub takes-killed : slice_index k.spaces.registers 0 ≡ 0 → k.spaces.pc % 4 ≡ 0 → is_ready k.ticks (has_input k.console) k.table.places i ≡ true → p.killed ≡ true → taken (state_of k) i ≡ quiet (state_of (ended k i (negsuc 0)))
-  takes-killed z a ready killed =
-      let alive = ready-lives k.ticks (has_input k.console) k.table.places i p at ready in
+  alive-here : IsAlive (slot k.table.places i) → lives p ≡ true
+  alive-here alive = rw at at alive
+
+  pub takes-killed : slice_index k.spaces.registers 0 ≡ 0 → k.spaces.pc % 4 ≡ 0 → IsAlive (slot k.table.places i) → p.killed ≡ true → taken (state_of k) i ≡ quiet (state_of (ended k i (negsuc 0)))
+  takes-killed z a lives killed =
+      let alive = alive-here lives in
       let t = taken-is alive in
       t.1.1 ∙ picks-killed k i p t.0 is none at t.1.0.space alive z a killed
 
@@ -130,37 +123,15 @@ module _ (k : Kernel) (i : ℕ) (p : Process) (is : IsKernel k) (none : k.spaces
       ∙ sym (ap (resumed_in (state_of k) i whole) waits)
       ∙ sym (ap (resumed_by (state_of k) i) (process-idle k i p t.0 is none t.1.0 alive))
 
-  pub can-end : is_ready k.ticks (has_input k.console) k.table.places i ≡ true → CanEnd k i
-  can-end ready = let alive = ready-lives k.ticks (has_input k.console) k.table.places i p at ready in rw (none, at) alive
-
-  pub can-run : p.killed ≡ false → p.mode ≡ Ready → CanRun (slot k.table.places i)
-  can-run free ready =
-      let t = there-of k i p is at in
-      rw at (live-mode p t.0.memory p.mode ready t.1.placed.mode, rw ready refl, free)
-
 -- ---- a turn
 
--- what a search finds passes
-find-true : (f : ℕ → Bool) (xs : List ℕ) (i : ℕ) → find f xs ≡ Some i → f i ≡ true
-find-true f [] i is = absurd (cc)
-find-true f (x ∷ xs) i is =
-    (elim (f x) as (λ b. f x ≡ b → cond b (Some x) (find f xs) ≡ Some i → f i ≡ true) [
-      | true ↦ λ passes found. let same : x ≡ i = cc in subst (λ (y : ℕ). f y ≡ true) same passes
-      | false ↦ λ fails found. find-true f xs i found
-    ]) refl is
-
 module _ (k : Kernel) (i : ℕ) (is : IsKernel k) (none : k.spaces.active ≡ None) (found : turn.turn (state_of k) ≡ Some i) where
-  -- the place whose turn it is is ready
-  pub turn-ready : is_ready k.ticks (has_input k.console) k.table.places i ≡ true
-  unfolding turn.turn
-  turn-ready = sym (ready-same k none is i) ∙ find-true (turn.ready (state_of k)) (round_from (state_of k).last) i found
-
-  -- it is taken
+  -- the place that was picked is taken
   pub turn-takes : take_turn (state_of k) (turn.turn (state_of k)) ≡ taken (state_of (picked k i)) i
   turn-takes =
-      let some = ready-go k.ticks (has_input k.console) k.table.places (slot k.table.places i) turn-ready in
-      let t = there-of k i some.0 is some.1 in
-      let at = process-idle k i some.0 t.0 is none t.1 (ready-lives k.ticks (has_input k.console) k.table.places i some.0 some.1 turn-ready) in
+      let some = alive-some (slot k.table.places i) (turn-alive k none i found) in
+      let t = there-of k i some.0 is some.1.0 in
+      let at = process-idle k i some.0 t.0 is none t.1 some.1.1 in
       ap (take_turn (state_of k)) found
       ∙ ap (pick (state_of k) i) at
       ∙ sym (ap (taken_by (record (state_of k) { last = i }) i) at)

@@ -1,10 +1,10 @@
 -- Who runs, and what an event begins with.
 use Rattle.std.proofs.Common.{◌≡◌, ℕ, ◌+◌, ◌<◌, ◌%◌, ◌^◌, true, false, nat_lt, List, length, Option, Some, None, refl, ap, ◌∙◌, arith}
 use Rattle.std.specs.Prelude.{slice_index}
-use Rattle.std.specs.List.{list_any, position_or_len}
+use Rattle.std.specs.List.{position_or_len}
 use Rattle.std.proofs.lemmas.Bool.{le-ltb, lt-ltb}
 use Rattle.std.proofs.lemmas.List.Sums.{position_or_len_is}
-use Rattle.calls.specs.Kernel.{Kernel, base, lives, loaded, memories, rest_of, state_of, stopped_at, ticked, typed}
+use Rattle.calls.specs.Kernel.{Kernel, base, loaded, memories, rest_of, state_of, stopped_at, ticked, typed}
 use Rattle.calls.specs.Sound.{IsKernel, is_at}
 use Rattle.calls.proofs.Changes.{length-active, other-at, running-active}
 use Rattle.calls.proofs.Rows.{stops-run}
@@ -37,7 +37,7 @@ runs-position os (Some i) runs within =
 
 pub running-state : (k : Kernel) → IsKernel k → running (state_of k) ≡ k.spaces.active
 running-state k is =
-    running-with_table (base (rest_of k) (list_any (holds lives) (loaded k).places)) (loaded k) (memories k.spaces)
+    running-with_table (base (rest_of k)) (loaded k) (memories k.spaces)
     ∙ runs-position (loaded k).places k.spaces.active (λ j. running-active k k.spaces.active j ∙ is.runs j)
     (λ i active. let run = run-of k i is active in let h = slot-within k.table.places i run.0 run.1.1.process in omega (arith, length-active k k.spaces.active, h))
 

@@ -1,40 +1,42 @@
 -- A kernel of many processes, as plain values, and the state of the abstract Unix that it stands for.
--- The descriptors 0, 1 and 2 of each process that has not ended are one open file on the console.
 use Rattle.std.specs.Prelude.{Bool, List, None, Option, Some, [], false, if◌then◌else◌, map, not, pos, slice_index, slice_set, true, ℕ, ℤ, ◌%◌, ◌+ℤ◌, ◌+◌, ◌==◌, ◌^◌}
-use Rattle.std.specs.List.{list_any}
 use Rattle.std.specs.Int.{cast_unsigned, w32}
+use Rattle.calls.specs.Descriptors.{all_closed, all_shared, descriptors_in, standing}
+use Rattle.files.specs.Places.{Counted, opens_of}
 use Rattle.proc.specs.declared.process.Process.{Process}
 use Rattle.proc.specs.declared.table.Seat.{Seat}
 use Rattle.proc.specs.Places.{Places, changed, changed_at, exited, seated, with_mode, without}
 use Rattle.proc.specs.Whole.{with_table}
 use Rattle.spaces.specs.Spaces as spaces
-use Rattle.spaces.specs.Spaces.{Held, Spaces, held_at, with_held, with_place}
+use Rattle.spaces.specs.Spaces.{Held, Spaces, held_at, taken_to, with_held, with_place}
 use Rattle.unixmodel.specs.declared.process.Mode.{Mode}
 use Rattle.unixmodel.specs.declared.process.Mode.TheVariants.{Ready, Running, Waiting}
 use Rattle.unixmodel.specs.declared.process.Pending.{Pending}
 use Rattle.unixmodel.specs.Console.{Console, Taken}
-use Rattle.unixmodel.specs.Files.{free_slots, slot}
+use Rattle.unixmodel.specs.Files.{slot}
 use Rattle.unixmodel.specs.Meaning.{Computed}
 use Rattle.unixmodel.specs.Memory.{Memory}
 use Rattle.unixmodel.specs.Numbers.{ceil_div, le, natural, plus}
 use Rattle.unixmodel.specs.OpenFiles.{OpenFile}
 use Rattle.unixmodel.specs.Process.{is_zombie_mode}
 use Rattle.unixmodel.specs.ProcessCalls.{with_pages}
-use Rattle.unixmodel.specs.Start.{flat_files, flat_opens}
-use Rattle.unixmodel.specs.State.{State, holds, open_limit}
+use Rattle.unixmodel.specs.Start.{flat_files}
+use Rattle.unixmodel.specs.State.{State}
 
 pub record Kernel : Type 0 where
   pub table : Places
   pub spaces : Spaces
+  -- 100 places, each free or with an open file and how many descriptors name it
+  pub files : List (Option Counted)
   pub console : Console
   -- modulo 2^32
   pub ticks : ℕ
   -- the status of process 1, once it has ended
   pub halted : Option ℤ
 
--- a kernel over processes and their spaces, as it begins
-abbrev pub begun : Places → Spaces → Kernel
-begun t s = record { table = t; spaces = s; console = record { committed = []; edited = [] }; ticks = 0; halted = None }
+-- a kernel over processes, their spaces and their open files, as it begins
+abbrev pub begun : Places → Spaces → List (Option Counted) → Kernel
+begun t s files = record { table = t; spaces = s; files = files; console = record { committed = []; edited = [] }; ticks = 0; halted = None }
 
 -- ---- the state
 
@@ -53,31 +55,29 @@ memory_in (Some h) = h.memory
 abbrev pub memories : Spaces → List Memory
 memories s = map memory_in s.places
 
--- a process that has not ended: its descriptors name the open file
+-- a process that has not ended
 abbrev pub lives : Process → Bool
 lives p = not (is_zombie_mode p.mode)
 
-abbrev pub opens_for : Bool → List (Option OpenFile)
-opens_for true = flat_opens
-opens_for false = free_slots open_limit
-
 -- what the state takes over from a kernel beside its processes
 pub record Rest : Type 0 where
+  pub opens : List (Option OpenFile)
+  pub pipes : List (Option (List ℕ))
   pub console : Console
   pub ticks : ℕ
   pub frames : ℕ
   pub halted : Option ℤ
 
 abbrev pub rest_of : Kernel → Rest
-rest_of k = record { console = k.console; ticks = k.ticks; frames = k.spaces.frames; halted = k.halted }
+rest_of k = record { opens = opens_of k.files; pipes = k.spaces.pipes; console = k.console; ticks = k.ticks; frames = k.spaces.frames; halted = k.halted }
 
 -- the state but for the table
-abbrev pub base : Rest → Bool → State
-base rest some = record {
+abbrev pub base : Rest → State
+base rest = record {
   places = [];
   files = flat_files;
-  opens = opens_for some;
-  pipes = free_slots open_limit;
+  opens = rest.opens;
+  pipes = rest.pipes;
   console = rest.console;
   ticks = rest.ticks;
   next_pid = 0;
@@ -89,12 +89,16 @@ base rest some = record {
 
 -- the state with these places and memories
 abbrev pub state_with : Places → List Memory → Rest → State
-state_with t memories rest = with_table (base rest (list_any (holds lives) t.places)) t memories
+state_with t memories rest = with_table (base rest) t memories
 
 abbrev pub state_of : Kernel → State
 state_of k = state_with (loaded k) (memories k.spaces) (rest_of k)
 
 -- ---- what calls do to the running process, in place i
+
+-- the descriptors of process i
+abbrev pub descriptors_at : Kernel → ℕ → List (Option ℕ)
+descriptors_at k i = descriptors_in (slot k.table.places i)
 
 -- argument n of a call
 abbrev pub argument : Kernel → ℕ → ℕ
@@ -143,6 +147,12 @@ received k i address t = record k {
   spaces = with_held k.spaces i (spaces.written (held_at k.spaces i) address t.bytes);
 }
 
+-- ---- pipes
+
+-- what a read takes of pipe q goes to an address of process i, so many bytes at the most
+abbrev pub drawn : Kernel → ℕ → ℕ → ℕ → ℕ → Kernel
+drawn k i q address count = record k { spaces = taken_to k.spaces q i address count }
+
 -- ---- which process runs
 
 abbrev pub idle : Spaces → Spaces
@@ -190,11 +200,16 @@ abbrev pub halted_by : Option Process → ℤ → Option ℤ → Option ℤ
 halted_by None status halted = halted
 halted_by (Some p) status halted = if p.pid == 1 then Some status else halted
 
--- process i, which ran, or where none runs, has ended
+-- the open files that process i leaves
+abbrev pub left_files : Kernel → ℕ → List (Option Counted)
+left_files k i = all_closed k.files (descriptors_at k i)
+
+-- process i, which ran, or where none runs, has ended: its descriptors are closed, and a pipe that has no end any more goes
 abbrev pub ended : Kernel → ℕ → ℤ → Kernel
 ended k i status = record k {
   table = exited (loaded k) i status;
-  spaces = idle k.spaces;
+  spaces = record (idle k.spaces) { pipes = standing k.spaces.pipes (opens_of (left_files k i)) };
+  files = left_files k i;
   halted = halted_by (slot k.table.places i) status k.halted;
 }
 
@@ -208,6 +223,7 @@ forked_as k i seat None = k
 forked_as k i seat (Some p) = record k {
   table = seated k.table (child_of (on_hart k.spaces p)) seat;
   spaces = with_held k.spaces seat.place (held_at k.spaces i);
+  files = all_shared k.files p.descriptors;
 }
 
 -- process i, which runs, has a child at a seat

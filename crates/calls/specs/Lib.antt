@@ -1,3 +1,4 @@
+pub mod Descriptors
 pub mod Kernel
 pub mod Sound
 pub mod View
@@ -5,3 +6,5 @@ pub mod Says
 pub mod Does
 pub mod Shows
 pub mod Told
+pub mod Renamed
+pub mod Sends

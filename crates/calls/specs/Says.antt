@@ -1,25 +1,28 @@
 -- What the kernel's own steps answer.
-use Rattle.std.specs.Prelude.{Bool, Err, List, None, Ok, Option, Result, Some, [], false, is_some, length, nat_le, nat_lt, not, take, true, ℕ, ◌%◌, ◌+◌, ◌-◌, ◌<◌, ◌≤◌, ◌^◌, ◌||◌, ◌∷◌, ◌≡◌, suc, zero}
-use Rattle.calls.specs.Kernel.{Kernel, argument, collected, forked, resized}
+use Rattle.std.specs.Prelude.{Bool, Err, List, None, Ok, Option, Result, Some, [], length, nat_le, nat_lt, take, true, ℕ, ◌%◌, ◌+◌, ◌-◌, ◌<◌, ◌≤◌, ◌^◌, ◌∷◌, ◌≡◌, suc, zero}
+use Rattle.calls.specs.declared.ready.Awaited.{Awaited}
+use Rattle.calls.specs.Kernel.{Kernel, argument, base, collected, forked, resized}
+use Rattle.calls.specs.Sends.{target_named}
+use Rattle.files.specs.Places.{opens_of}
 use Rattle.proc.specs.declared.process.Process.{Process}
 use Rattle.proc.specs.declared.table.ProcFault.{ProcFault}
 use Rattle.proc.specs.declared.table.Seat.{Seat}
-use Rattle.proc.specs.Places.{has_pid, is_zombie_child_of, place_where, seat_of, zombie_place}
-use Rattle.spaces.specs.Spaces.{taken_frames}
+use Rattle.proc.specs.Places.{has_pid, place_where, seat_of, zombie_place}
+use Rattle.proc.specs.Whole.{with_table}
+use Rattle.spaces.specs.Spaces.{Spaces, has_pipe, taken_frames}
 use Rattle.unixmodel.specs.Calls.{After, call, goes_on, quiet, settle}
 use Rattle.unixmodel.specs.Console.{Console, Taken, take_line}
 use Rattle.unixmodel.specs.declared.call.Call.{Call}
-use Rattle.unixmodel.specs.declared.call.Call.TheVariants.{Exit, Fork, Getpid, Kill, Read, Sbrk, Sleep, Uptime, Wait, Write}
-use Rattle.unixmodel.specs.declared.process.Mode.{Mode}
-use Rattle.unixmodel.specs.declared.process.Mode.TheVariants.{Ready, Running, Waiting, Zombie}
+use Rattle.unixmodel.specs.declared.call.Call.TheVariants.{Close, Dup, Exit, Fork, Getpid, Kill, Pipe, Read, Sbrk, Sleep, Uptime, Wait, Write}
 use Rattle.unixmodel.specs.declared.process.Pending.{Pending}
 use Rattle.unixmodel.specs.Files.{slot}
 use Rattle.unixmodel.specs.Numbers.{low}
+use Rattle.unixmodel.specs.OpenFiles.{End, OpenFile, Target}
+use Rattle.unixmodel.specs.OpenFiles.Target.{OnNode, OnPipe}
 use Rattle.unixmodel.specs.Outcome.{pending_arg}
 use Rattle.unixmodel.specs.Process as unix
 use Rattle.unixmodel.specs.ProcessCalls.{sleep_time, status_of}
 use Rattle.unixmodel.specs.State.{State, process_at}
-use Rattle.unixmodel.specs.Turn.{is_empty}
 
 -- ---- what the abstract Unix makes of the state
 
@@ -45,13 +48,16 @@ IsUnbuilt None = Unit {0}
 IsUnbuilt (Some Fork) = ⊥
 IsUnbuilt (Some Exit) = ⊥
 IsUnbuilt (Some Wait) = ⊥
+IsUnbuilt (Some Pipe) = ⊥
 IsUnbuilt (Some Read) = ⊥
 IsUnbuilt (Some Kill) = ⊥
+IsUnbuilt (Some Dup) = ⊥
 IsUnbuilt (Some Getpid) = ⊥
 IsUnbuilt (Some Sbrk) = ⊥
 IsUnbuilt (Some Sleep) = ⊥
 IsUnbuilt (Some Uptime) = ⊥
 IsUnbuilt (Some Write) = ⊥
+IsUnbuilt (Some Close) = ⊥
 IsUnbuilt (Some _) = Unit {0}
 
 -- ---- sbrk
@@ -92,31 +98,28 @@ next_place w = pending_arg w 1 + w.done
 abbrev pub further : Pending → ℕ → Pending
 further w n = record w { done = w.done + n }
 
--- a read can take something
-abbrev pub has_input : Console → Bool
-has_input c = not (is_empty c.committed)
+-- the pending call of process i is one on an end of pipe q
+abbrev pub IsOnPipe : Kernel → ℕ → Pending → ℕ → Type 0
+IsOnPipe k i w q = (end : End) × (target_named k i (low (pending_arg w 0)) ≡ Some (OnPipe q end))
 
 -- ---- who is ready
 
--- the condition of a waiting call holds; input: a read can take something
-abbrev pub can_go_on : ℕ → Bool → List (Option Process) → Process → Pending → Call → Bool
-can_go_on ticks input places p w Wait = is_some (place_where places (is_zombie_child_of p.pid))
-can_go_on ticks input places p w Sleep = has_slept ticks w
-can_go_on ticks input places p w Read = input
-can_go_on ticks input places p w _ = false
+-- the state as far as pending calls look at it beside the processes
+abbrev pub awaited_in : List (Option OpenFile) → List (Option (List ℕ)) → Console → ℕ → State
+awaited_in opens pipes console ticks =
+    base (record { opens = opens; pipes = pipes; console = console; ticks = ticks; frames = 0; halted = None })
 
-abbrev pub is_ready_in : ℕ → Bool → List (Option Process) → Process → Mode → Bool
-is_ready_in ticks input places p Running = p.killed
-is_ready_in ticks input places p Ready = true
-is_ready_in ticks input places p (Waiting w) = can_go_on ticks input places p w w.number || p.killed
-is_ready_in ticks input places p (Zombie status) = false
+abbrev pub awaited : {T : Type 0} → Awaited T → State
+awaited a = awaited_in (opens_of a.files.now) a.spaces.now.pipes a.console.now a.ticks
 
-abbrev pub is_ready_process : ℕ → Bool → List (Option Process) → Option Process → Bool
-is_ready_process ticks input places None = false
-is_ready_process ticks input places (Some p) = is_ready_in ticks input places p p.mode
+-- with these processes, whose memories don't count
+abbrev pub seen : State → List (Option Process) → State
+seen s places = with_table s (record { places = places; last = 0; next_pid = 0 }) []
 
-abbrev pub is_ready : ℕ → Bool → List (Option Process) → ℕ → Bool
-is_ready ticks input places i = is_ready_process ticks input places (slot places i)
+-- the pipe that it is an end of is there
+abbrev pub Stands : Spaces → Target → Type 0
+Stands s (OnNode n offset) = Unit {0}
+Stands s (OnPipe q end) = has_pipe s q ≡ true
 
 -- ---- fork
 

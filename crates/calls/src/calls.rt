@@ -12,7 +12,7 @@ use crate::halt::Halt;
 use crate::kernel::Kernel;
 use crate::numbers::int;
 use crate::ready::has_slept;
-use crate::{family, memory, read};
+use crate::{family, memory, open, read, write};
 use console::{Out, OutFault};
 use sv39::Translate;
 use unixmodel::call::Call;
@@ -157,8 +157,11 @@ pub fn call<T: Translate + Drop, W: Out>(
         Some(Call::Sbrk) => memory::sbrk(kernel, at),
         Some(Call::Sleep) => sleep(kernel, at),
         Some(Call::Uptime) => uptime(kernel, at),
+        Some(Call::Dup) => open::dup(kernel, at),
+        Some(Call::Close) => open::close(kernel, at),
+        Some(Call::Pipe) => open::pipe(kernel, at),
         Some(Call::Write) => {
-            return match memory::write(kernel, at, console) {
+            return match write::write(kernel, at, console) {
                 Ok(()) => Ok(()),
                 Err(OutFault::Writer) => Err(Halt::Console),
             };

@@ -2,8 +2,8 @@
 ghost use Rattle.std.specs.Prelude.{◌≡◌, ◌≤◌, Ok, Some, None, true, IfOk, OnErr};
 ghost use Rattle.calls.specs.Does.{Dispatches, Does, halt_of};
 ghost use Rattle.calls.specs.Kernel.{state_of};
-ghost use Rattle.calls.specs.Says.{called, has_input, is_ready};
-ghost use Rattle.calls.specs.Told.{CanEnd, CanResume, WaitsIn, became, resumed, taken};
+ghost use Rattle.calls.specs.Says.{called};
+ghost use Rattle.calls.specs.Told.{CanEnd, CanResume, IsAlive, WaitsIn, became, resumed, taken};
 ghost use Rattle.unixmodel.specs.Calls.{end_at, quiet};
 ghost use Rattle.unixmodel.specs.declared.event.Event.TheVariants.{Key, Step, Tick};
 ghost use Rattle.unixmodel.specs.Files.{slot};
@@ -15,7 +15,7 @@ ghost use Rattle.unixmodel.specs.Turn.{turn};
 use crate::halt::Halt;
 use crate::kernel::Kernel;
 use crate::outcome::Outcome;
-use crate::{calls, family, read};
+use crate::{calls, family, read, write};
 use console::{Out, OutFault};
 use sv39::Translate;
 use unixmodel::call::Call;
@@ -179,7 +179,7 @@ impl<T: Translate + Drop> Kernel<T> {
     // The process in a place, which was picked, ends if it is killed; else it runs, or goes on with its call.
     fn take(&mut self, at: usize)
         requires idle { self.old.spaces.active ≡ None }
-        requires ready { is_ready self.old.ticks (has_input self.old.console) self.old.table.places at ≡ true }
+        requires alive { IsAlive (slot self.old.table.places at) }
         ensures { taken (state_of self.old) at ≡ quiet (state_of self.new) }
     {
         let _sound = self.active();
@@ -208,6 +208,7 @@ impl<T: Translate + Drop> Kernel<T> {
         match pending.number {
             Call::Wait => family::wait_on(self, at, pending),
             Call::Read => read::read_on(self, at, pending),
+            Call::Write => write::write_on(self, at, pending),
             _ => calls::sleep_on(self, at, pending),
         }
     }

@@ -4,11 +4,14 @@ ghost use Rattle.std.specs.Bool.{OnTrue, OnFalse};
 ghost use Rattle.std.specs.Prelude.{if◌then◌else◌, ◌==◌, option_map, OnOk, OnErr, Ok, Err};
 ghost use Rattle.std.specs.Io.KnownBytes.{Appends};
 ghost use Rattle.std.specs.Option.{option_copied};
-ghost use Rattle.calls.specs.Kernel.{answered, argument, asked, begun, blocked, computed, ended, entered, left_as, loaded, marked, on_hart, picked, received, resized, started, state_of, ticked, typed, with_size, with_status};
-ghost use Rattle.calls.specs.Says.{Collects, Forks, IsFront, IsOver, further, has_slept, line_for, next_place, pending_for};
-ghost use Rattle.calls.specs.Sound.{CanRun, IsKernel, IsPending, IsReading, can_answer};
+ghost use Rattle.calls.specs.Kernel.{answered, argument, asked, begun, blocked, computed, descriptors_at, ended, entered, left_as, loaded, marked, on_hart, picked, resized, started, state_of, ticked, typed, with_size, with_status};
+ghost use Rattle.calls.specs.Says.{Collects, Forks, IsFront, IsOver, pending_for};
+ghost use Rattle.calls.specs.Sends.{target_named};
+ghost use Rattle.calls.specs.Sound.{CanRun, IsAwaiting, IsKernel, IsPending, can_answer};
 ghost use Rattle.calls.specs.Told.{CanEnd};
 ghost use Rattle.console.specs.Output.{AppendsBeginning};
+ghost use Rattle.files.specs.Meant.{target_of};
+ghost use Rattle.files.specs.Places.{opens_of};
 ghost use Rattle.proc.specs.Places.{changed, has_pid, is_child_of, place_where};
 ghost use Rattle.spaces.specs.Spaces.{has_space, held_at, taken_frames, with_held};
 ghost use Rattle.unixmodel.specs.Console.{key};
@@ -23,11 +26,15 @@ ghost use Rattle.unixmodel.specs.Numbers.{low, natural, int_of};
 ghost use Rattle.unixmodel.specs.Turn.{turn};
 ghost use Rattle.unixmodel.specs.declared.process.Mode.TheVariants.{Ready};
 
+mod open;
+mod receive;
+mod send;
 mod show;
 
-use crate::numbers::low;
-use crate::ready::is_ready;
-use console::{Console, Out, OutFault, ROOM, Taken};
+use crate::descriptors::{close_all, share_all};
+use crate::ready::Awaited;
+use console::{Console, Out, OutFault};
+use files::{Files, Target};
 use proc::{Process, Table};
 use spaces::Spaces;
 use std::marker::Model;
@@ -44,11 +51,13 @@ const HEAP: Perm = Perm {
     user: true,
 };
 
-/// The processes of a machine, their spaces, the hart that runs one of them, and what is typed at the console.
+/// The processes of a machine, their spaces, the hart that runs one of them, their open files, and what is typed at the
+/// console.
 #[derive(Drop)]
 pub struct Kernel<T: Translate + Drop> {
     table: Table,
     spaces: Spaces<T>,
+    files: Files,
     console: Console,
     ticks: u32,
     halted: Option<i32>,
@@ -95,14 +104,15 @@ fn write_status<T: Translate + Drop>(spaces: &mut Spaces<T>, at: usize, address:
 }
 
 impl<T: Translate + Drop> Kernel<T> {
-    /// A kernel over processes and their spaces.
-    pub fn new(table: Table, spaces: Spaces<T>) -> Kernel<T>
-        requires { IsKernel (begun table spaces) }
-        ensures { result ≡ begun table spaces }
+    /// A kernel over processes, their spaces and their open files.
+    pub fn new(table: Table, spaces: Spaces<T>, files: Files) -> Kernel<T>
+        requires { IsKernel (begun table spaces files) }
+        ensures { result ≡ begun table spaces files }
     {
         Kernel {
             table,
             spaces,
+            files,
             console: Console::new(),
             ticks: 0,
             halted: None,
@@ -158,6 +168,24 @@ impl<T: Translate + Drop> Kernel<T> {
             Some(process) => process.pid,
             None => 0,
         }
+    }
+
+    /// The open file that a descriptor of the process in a place names.
+    pub(crate) fn open_id(&self, at: usize, descriptor: u32) -> Option<usize>
+        ensures { result ≡ slot (descriptors_at self.now at) descriptor }
+    {
+        let process = self.table.process(at)?;
+        let named = process.descriptors.get(descriptor as usize)?;
+        named.map(usize::from)
+    }
+
+    /// What the open file that a descriptor of the process in a place names is open on.
+    pub(crate) fn open_target(&self, at: usize, descriptor: u32) -> Option<Target>
+        ensures { option_map target_of result ≡ target_named self.now at descriptor }
+    {
+        let id = self.open_id(at, descriptor)?;
+        let file = self.files.file(id)?;
+        Some(file.target)
     }
 
     /// The number of the call that the process makes: the low 32 bits of a7.
@@ -247,7 +275,8 @@ impl<T: Translate + Drop> Kernel<T> {
     /// The running process waits.
     pub(crate) fn block(&mut self, at: usize, pending: Pending)
         requires running { self.old.spaces.active ≡ Some at }
-        requires pending { IsPending (held_at self.old.spaces at).memory pending pending.number }
+        requires pending { IsPending (descriptors_at self.old at) (held_at self.old.spaces at).memory pending pending.number }
+        requires awaits { IsAwaiting (opens_of self.old.files) (descriptors_at self.old at) pending }
         ensures { self.new ≡ blocked self.old at pending }
     {
         let _sound = self.active();
@@ -283,6 +312,7 @@ impl<T: Translate + Drop> Kernel<T> {
         let _sound = self.active();
         if let Some(process) = self.whole(at) {
             let halted = halted_after(process.pid, status, self.halted);
+            close_all(&mut self.files, &mut self.spaces, &process.descriptors);
             self.table.put(at, process);
             self.table.exit(at, status);
             self.spaces.deactivate();
@@ -304,6 +334,7 @@ impl<T: Translate + Drop> Kernel<T> {
         if !self.spaces.copy(at, seat.place) {
             return None;
         }
+        share_all(&mut self.files, &process.descriptors);
         let mut registers = process.registers;
         registers[10] = 0;
         let _seat = self.table.alloc(Process {
@@ -339,10 +370,13 @@ impl<T: Translate + Drop> Kernel<T> {
         ensures none { IfNone result (self.new ≡ self.old) }
     {
         let _sound = self.active();
-        let ticks = self.ticks;
-        let input = self.console.can_take();
-        self.table
-            .pick(|places, at| is_ready(ticks, input, places, at))
+        let awaited = Awaited {
+            ticks: self.ticks,
+            console: &self.console,
+            files: &self.files,
+            spaces: &self.spaces,
+        };
+        self.table.pick(|places, at| awaited.is_ready(places, at))
     }
 
     /// A process runs, where none did.
@@ -518,28 +552,6 @@ impl<T: Translate + Drop> Kernel<T> {
         ensures cause { OnErr result (Rises (W.failures out.old) (W.failures out.new)) }
     {
         self.console.key(byte, out)
-    }
-
-    /// A read takes what it can of what was typed, into its buffer behind what it took before.
-    pub(crate) fn receive(&mut self, at: usize, pending: &Pending) -> Taken
-        requires running { self.old.spaces.active ≡ Some at }
-        requires can { IsReading (held_at self.old.spaces at).memory pending.now }
-        ensures received { self.new ≡ received self.old at (next_place pending.now) (line_for self.old pending.now) }
-        ensures count { result.count ≡ length (line_for self.old pending.now).bytes }
-        ensures over { result.over ≡ (line_for self.old pending.now).over }
-        ensures within { result.count ≤ 128 }
-        ensures waits { OnFalse result.over (IsReading (held_at self.new.spaces at).memory (further pending.now result.count)) }
-    {
-        let _pages = self.spaces.pages(at);
-        let left = u64::from(low(pending.args[2])) - pending.done;
-        let mut buffer = [0; ROOM];
-        let taken = self
-            .console
-            .take(left as usize, pending.done > 0, &mut buffer);
-        let address = pending.args[1] + pending.done;
-        let _written = self.spaces.write(at, address, &buffer[..taken.count]);
-        let _kept = self.spaces.pages(at);
-        taken
     }
 
     /// A timer interrupt: the running process becomes ready.

@@ -2,15 +2,18 @@
 #![tactic(auto)]
 
 mod calls;
+mod descriptors;
 mod dispatch;
 mod family;
 mod halt;
 mod kernel;
 mod memory;
 mod numbers;
+mod open;
 mod outcome;
 mod read;
 mod ready;
+mod write;
 
 pub use halt::Halt;
 pub use kernel::Kernel;

@@ -1,23 +1,31 @@
 -- A flat program in memory, and the state and the kernel that begin with it.
 use lib.Seq.{drop-append-add}
+use Rattle.calls.specs.Descriptors.{IsCounted, named_by, names_in}
 use Rattle.calls.specs.Kernel.{memory_in, state_of}
-use Rattle.calls.specs.Sound.{IsKernel, IsLive, IsPlace, IsPlaced}
-use Rattle.machine.specs.Flat.{alone, bare_plan, first, first_kernel, first_table, flat_memory, flat_space}
+use Rattle.calls.specs.Sound.{IsKernel, IsLive, IsOpenFile, IsOpened, IsPlace, IsPlaced, WaitsWell, console_file}
+use Rattle.files.specs.Counts.{names, names-free, one_in}
+use Rattle.files.specs.declared.table.FileFault.{FileFault}
+use Rattle.files.specs.Places.{Counted, count_at, count_in, opened, opens_of, place_for}
+use Rattle.files.specs.Whole.{slot-opens}
+use Rattle.machine.specs.Flat.{alone, bare_plan, first, first_files, first_kernel, first_table, flat_memory, flat_space}
 use Rattle.proc.specs.declared.process.Process.{Process}
 use Rattle.proc.specs.Places.{is_running, seated}
 use Rattle.proc.specs.Whole.{joined, joined-free_slots}
 use Rattle.spaces.specs.Spaces.{Held, Spaces, frames_in, grown, held_at, no_pages, taken_frames, with_held, written}
-use Rattle.std.proofs.Common.{◌≡◌, ℕ, zero, suc, ◌+◌, ◌-◌, ◌*◌, ◌/◌, ◌%◌, ◌<◌, ◌≤◌, Bool, true, false, List, [], ◌∷◌, ◌++◌, length, map, take, drop, replicate, Option, Some, None, nat_le, refl, sym, ap, ◌∙◌, arith, append_assoc, length-append}
+use Rattle.std.proofs.Common.{◌≡◌, ℕ, zero, suc, ◌+◌, ◌-◌, ◌*◌, ◌/◌, ◌%◌, ◌<◌, ◌≤◌, Bool, true, false, List, [], ◌∷◌, ◌++◌, length, map, take, drop, replicate, Option, Some, None, Ok, Result, is_some, nat_le, refl, sym, subst, ap, ◌∙◌, arith, append_assoc, length-append}
 use Rattle.std.proofs.lemmas.Bool.{le-leb, lt-leb, lt-ltb}
+use Rattle.std.proofs.lemmas.Bool.Decides.{nat_tests}
 use Rattle.std.proofs.lemmas.List.{drop-replicate, length-replicate, length-take}
+use Rattle.std.proofs.lemmas.List.Folds.{sum_by-replicate}
 use Rattle.std.proofs.lemmas.List.Sums.{sum_by-cons}
 use Rattle.std.proofs.Math.Nat.{zero-add}
 use Rattle.std.proofs.Math.Seq.{take-append-add}
-use Rattle.std.specs.Prelude.{if◌then◌else◌, slice_index, sum_by}
+use Rattle.std.specs.Prelude.{IfOk, if◌then◌else◌, option_map, slice_index, sum_by, ◌==◌}
 use Rattle.unixmodel.specs.Counts.{frames_of, page_frames}
 use Rattle.unixmodel.specs.Files.{free_slots, slot}
 use Rattle.unixmodel.specs.Memory.{Marks, Memory, Page, overwrite, pages_of, write_bytes, write_from, zero_page, zeros}
 use Rattle.unixmodel.specs.Numbers.{ceil_div, le, round_down}
+use Rattle.unixmodel.specs.OpenFiles.{OpenFile}
 use Rattle.unixmodel.specs.Plan.{plan_flat, push, push_pointers, push_strings, stack_marks, with_args, with_stack}
 use Rattle.unixmodel.specs.Process as unix
 use Rattle.unixmodel.specs.Start.{first_process, first_state, flat_descriptors, flat_files, flat_opens, if_fits, start_flat}
@@ -141,7 +149,7 @@ abbrev begun : ℕ → Held → State
 begun frames h = first_state flat_files 27 frames flat_opens (first_process (bare_plan h.memory h.size) flat_descriptors)
 
 state-first : (frames : ℕ) (h : Held) → state_of (first_kernel frames h) ≡ begun frames h
-unfolding joined
+unfolding joined flat_opens free_slots
 state-first frames h =
     ap (λ (places : List (Option unix.Process)). record (begun frames h) { places = Some (first_process (bare_plan h.memory h.size) flat_descriptors) ∷ places })
     (joined-free_slots 63 (map memory_in (replicate 63 None)))
@@ -167,6 +175,7 @@ start-over bytes frames over =
 -- ---- the first kernel
 
 first-live : (size : ℕ) → IsLive (first size)
+unfolding flat_descriptors free_slots
 first-live size = record { descriptors = refl; directory = refl }
 
 first-zero : (size : ℕ) → slice_index (first size).registers 0 ≡ 0
@@ -190,6 +199,56 @@ first-all : (size : ℕ) → length (first_table size).places ≡ 64
 unfolding free_slots
 first-all size = ap suc (length-free Process 63)
 
+-- ---- the first open files
+
+-- the console takes the first place
+pub open-first : (t new : List (Option Counted)) (r : Result ℕ FileFault) (f : OpenFile) → t ≡ free_slots 100 → r ≡ place_for (opens_of t) → IfOk r (λ i. new ≡ opened t i f) → new ≡ Some (record { file = f; count = 1 }) ∷ replicate 99 None
+unfolding free_slots
+open-first t new r f is place ok =
+    let first : r ≡ Ok 0 = place ∙ ap (λ (x : List (Option Counted)). place_for (opens_of x)) is in
+    let made : new ≡ opened t 0 f = rw first at ok in
+    made ∙ ap (λ (x : List (Option Counted)). opened x 0 f) is
+
+names-first : (n : ℕ) → names n flat_descriptors ≡ 3 * one_in n (Some 0)
+unfolding flat_descriptors
+names-first n =
+    omega (arith, sum_by-cons (one_in n) (Some 0) (Some 0 ∷ Some 0 ∷ free_slots 13), sum_by-cons (one_in n) (Some 0) (Some 0 ∷ free_slots 13), sum_by-cons (one_in n) (Some 0) (free_slots 13), names-free n 13)
+
+named-first : (size n : ℕ) → named_by (first_table size).places n ≡ 3 * one_in n (Some 0)
+unfolding free_slots
+named-first size n = omega (arith, sum_by-cons (names_in n) (Some (first size)) (replicate 63 None), sum_by-replicate (names_in n) 63 None, names-first n)
+
+other-file : (n : ℕ) → one_in (suc n) (Some 0) ≡ 0
+other-file n = let other : (0 == suc n) ≡ false = grind (arith, nat_tests) in rw other refl
+
+first-counted : (size : ℕ) → IsCounted first_files (first_table size).places
+first-counted size zero = omega (arith, named-first size 0)
+first-counted size (suc n) = let none : count_at first_files (suc n) ≡ 0 = ap count_in (slot-free Counted 99 n) in omega (arith, none, named-first size (suc n), other-file n)
+
+first-named : (i : ℕ) (c : Counted) → slot first_files i ≡ Some c → 0 < c.count
+first-named zero c at = let three : 3 ≡ c.count = ap count_in at in omega (arith, three)
+first-named (suc i) c at = absurd (let bad : None ≡ Some c = sym (slot-free Counted 99 i) ∙ at in cc)
+
+first-each : (n : ℕ) (f : OpenFile) → slot (opens_of first_files) n ≡ Some f → IsOpenFile f
+first-each zero f at = let e : console_file ≡ f = cc in subst IsOpenFile e refl
+first-each (suc n) f at =
+    absurd (let bad : None ≡ Some f = sym (slot-opens first_files (suc n) ∙ ap (option_map (λ (c : Counted). c.file)) (slot-free Counted 99 n)) ∙ at in cc)
+
+first-waits : (size i : ℕ) → WaitsWell (opens_of first_files) (slot (first_table size).places i)
+unfolding free_slots
+first-waits size zero = tt
+first-waits size (suc i) = rw (slot-free Process 63 i) tt
+
+first-opened : (size : ℕ) → IsOpened first_files (replicate 100 None) (first_table size).places
+first-opened size = record {
+  table = record { all = ap suc (length-free Counted 99); named = first-named };
+  counted = first-counted size;
+  each = first-each;
+  all = length-free (List ℕ) 100;
+  piped = λ q. ap is_some (slot-free (List ℕ) 100 q);
+  waits = first-waits size;
+}
+
 pub first-sound : (frames : ℕ) (h : Held) → 4 + page_frames (length h.memory) ≤ frames → IsKernel (first_kernel frames h)
 first-sound frames h fits = record {
   all = first-all h.size;
@@ -197,6 +256,7 @@ first-sound frames h fits = record {
   stands = first-stands h;
   runs = first-rests h.size;
   fits = rw (taken-alone frames h) fits;
+  opened = first-opened h.size;
 }
 
 pub table-first : (size : ℕ) → seated (record { places = free_slots 64; last = 63; next_pid = 1 }) (first size) (record { place = 0; pid = 1 }) ≡ first_table size
@@ -263,7 +323,7 @@ within bytes frames s h new change is to fits =
     let here : taken_frames (alone frames new) ≤ frames = rw (is, to) at fits in
     omega (arith, here, taken-alone frames new)
 
-pub created : (frames : ℕ) (s t : Spaces) → s ≡ record { places = replicate 64 None; active = None; registers = replicate 32 0; pc = 0; frames = frames } → t ≡ with_held s 0 no_pages → t ≡ alone frames no_pages
+pub created : (frames : ℕ) (s t : Spaces) → s ≡ record { places = replicate 64 None; active = None; registers = replicate 32 0; pc = 0; frames = frames; pipes = replicate 100 None } → t ≡ with_held s 0 no_pages → t ≡ alone frames no_pages
 created frames s t is done = rw (done, is) refl
 
 module _ (bytes : List ℕ) (frames : ℕ) (s t : Spaces) where

@@ -1,6 +1,8 @@
 -- A flat program in memory, and the process and the spaces that begin with it.
-use Rattle.std.specs.Prelude.{List, None, Some, [], false, length, replicate, true, ℕ, ◌*◌, ◌-◌, ◌∷◌}
+use Rattle.std.specs.Prelude.{List, None, Option, Some, [], false, length, replicate, true, ℕ, ◌*◌, ◌-◌, ◌∷◌}
 use Rattle.calls.specs.Kernel.{Kernel, begun}
+use Rattle.calls.specs.Sound.{console_file}
+use Rattle.files.specs.Places.{Counted}
 use Rattle.proc.specs.declared.process.Process.{Process}
 use Rattle.proc.specs.Places.{Places}
 use Rattle.spaces.specs.Spaces.{Held, Spaces}
@@ -29,6 +31,7 @@ alone frames space = record {
   registers = replicate 32 0;
   pc = 0;
   frames = frames;
+  pipes = replicate 100 None;
 }
 
 -- what a process without arguments begins with: its stack holds the 0 word that ends their list
@@ -53,6 +56,10 @@ first size = record {
 abbrev pub first_table : ℕ → Places
 first_table size = record { places = Some (first size) ∷ free_slots 63; last = 63; next_pid = 2 }
 
+-- the console alone is open, and three descriptors name it
+abbrev pub first_files : List (Option Counted)
+first_files = Some (record { file = console_file; count = 3 }) ∷ replicate 99 None
+
 -- the kernel of a machine that begins with a space
 abbrev pub first_kernel : ℕ → Held → Kernel
-first_kernel frames space = begun (first_table space.size) (alone frames space)
+first_kernel frames space = begun (first_table space.size) (alone frames space) first_files

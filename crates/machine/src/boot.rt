@@ -1,14 +1,16 @@
 //! How a machine begins.
 ghost use Rattle.std.specs.Prelude.{◌≡◌, ◌*◌, ◌+◌, ◌<◌, ◌≤◌, ◌⊎◌, ◌↔◌, Some, None, IfOk, IfSome, IfNone, IsErrOf, OnErr, length};
-ghost use Rattle.machine.specs.Flat.{alone, first, first_table, flat_memory, flat_space};
+ghost use Rattle.machine.specs.Flat.{alone, first, first_files, first_table, flat_memory, flat_space};
 ghost use Rattle.machine.specs.Told.{IsUp};
 ghost use Rattle.unixmodel.specs.Counts.{page_frames};
 ghost use Rattle.unixmodel.specs.Start.{start_flat};
 
-use crate::fault::{BootFault, ImageFault};
+use crate::fault::BootFault;
 use crate::machine::Machine;
 use blockdev::MemDisk;
 use calls::Kernel;
+use files::{Files, OpenFile, Target};
+use image::ImageFault;
 use proc::{Process, Table};
 use ram::{FRAME_SIZE, Ram};
 use spaces::Spaces;
@@ -25,6 +27,9 @@ const MOST: u32 = 32768;
 
 /// The place of process 1.
 const FIRST: usize = 0;
+
+/// The number of the open file that the descriptors of process 1 name.
+const CONSOLE: usize = 0;
 
 /// The marks of the pages of a flat program.
 const SEGMENT: Perm = Perm {
@@ -111,6 +116,24 @@ fn first_table(size: u64) -> Table
     table
 }
 
+// The console is open, and the descriptors 0, 1 and 2 of process 1 name it.
+fn first_files() -> Files
+    ensures { result ≡ first_files }
+{
+    let mut files = Files::new();
+    let _console = files.open(OpenFile {
+        target: Target::Node {
+            number: 2,
+            offset: 0,
+        },
+        readable: true,
+        writable: true,
+    });
+    files.dup(CONSOLE);
+    files.dup(CONSOLE);
+    files
+}
+
 /// A machine without a disk whose process 1 executes a flat program: these bytes, loaded at address 0, of which the
 /// first is the first instruction. Its descriptors 0, 1 and 2 are the console.
 ///
@@ -153,7 +176,7 @@ pub fn boot_flat_with<T: Translate + Drop>(
         return Err(BootFault::NoInit);
     };
     let table = first_table(spaces.size(FIRST));
-    let kernel = Kernel::new(table, spaces);
+    let kernel = Kernel::new(table, spaces, first_files());
     match MemDisk::new(Vec::new(alloc)) {
         Ok(disk) => Ok(Machine::new(kernel, disk)),
         Err(_) => Err(BootFault::Image(ImageFault::Length)),

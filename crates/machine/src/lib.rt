@@ -10,6 +10,6 @@ mod tests;
 
 pub use boot::{boot_flat, boot_flat_with};
 pub use calls::Halt;
-pub use fault::{BootFault, ImageFault};
+pub use fault::BootFault;
 pub use machine::Machine;
 pub use seen::{ProcessState, Seen};

@@ -1,4 +1,6 @@
 //! Whole runs, against the values that the definitions of the abstract Unix give on the same programs.
+mod family;
+mod pipes;
 mod processes;
 mod typing;
 
@@ -55,7 +57,7 @@ const SBRK: u64 = 12;
 
 const UPTIME: u64 = 14;
 
-const WRITE: u64 = 16;
+pub(crate) const WRITE: u64 = 16;
 
 pub(crate) type Flat = Machine<MemDisk, Plain>;
 

@@ -7,6 +7,7 @@ mod WriteRows
 mod ProcessRows
 mod FamilyRows
 mod ConsoleRows
+mod PipeRows
 mod PlanRows
 mod WalkRows
 mod ImageRows

@@ -1,4 +1,6 @@
+mod Pipes
 mod Places
 mod Traded
+mod Piped
 mod Stepped
 mod Results

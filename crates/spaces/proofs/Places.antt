@@ -3,7 +3,8 @@ use Rattle.frames.specs.Free.{free_count}
 use Rattle.frames.specs.Holders.{one_if}
 use Rattle.spaces.specs.declared.Spaces.TheInside.{Inside}
 use Rattle.spaces.specs.Spaces.{frames_in, held_at, no_pages, taken_frames}
-use Rattle.spaces.specs.View.{IsSpaces, held_with, shown, spaces_of}
+use Rattle.spaces.specs.View.{IsSpaces, held_with, pipe_frames, shown, spaces_of}
+use Rattle.spaces.proofs.Pipes.{pipes-taken}
 use Rattle.std.proofs.Common.{◌≡◌, ℕ, zero, suc, ◌+◌, ◌≤◌, Bool, true, false, List, [], ◌∷◌, length, get_or, map, nat_lt, Option, Some, None, refl, sym, ap, ◌∙◌, arith}
 use Rattle.std.specs.Prelude.{if◌then◌else◌, sum_by, unwrap_or}
 use Rattle.std.proofs.lemmas.List.{length-map}
@@ -69,7 +70,8 @@ sum-shown m (x ∷ xs) =
 
 -- the free frames are all but those that the places take
 pub free-taken : {T : Type 0} (held : T → translation.Held) (i : Inside T) → IsSpaces held i → free_count i.ram i.frames + taken_frames (spaces_of i) ≡ length i.ram
-free-taken held i is = omega (arith, free-left i.ram i.frames i.places.items [] is.machine, sum-shown i.ram i.places.items)
+free-taken held i is =
+    omega (arith, free-left i.ram i.frames i.places.items (pipe_frames i.pipes.items) is.machine, sum-shown i.ram i.places.items, pipes-taken i.ram i.pipes.items)
 
 pub taken-fits : {T : Type 0} (held : T → translation.Held) (i : Inside T) → IsSpaces held i → taken_frames (spaces_of i) ≤ length i.ram
 taken-fits held i is = omega (arith, free-taken held i is)

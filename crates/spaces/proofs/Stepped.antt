@@ -10,7 +10,8 @@ use Rattle.spaces.proofs.Traded.{same-place, shown-as, shown-placed}
 use Rattle.spaces.specs.declared.Spaces.TheInside.{Inside}
 use Rattle.spaces.specs.Spaces.{computed, held_at}
 use Rattle.spaces.specs.SpacesLemmas.{within}
-use Rattle.spaces.specs.View.{IsActive, IsSpaces, Runs, held_with, shown, spaces_of}
+use Rattle.spaces.specs.View.{IsActive, IsSpaces, Runs, held_with, pipe_frames, shown, spaces_of}
+use Rattle.spaces.proofs.Pipes.{pipes-beside}
 use Rattle.std.proofs.Common.{◌≡◌, inl, inr, ℕ, ◌<◌, ◌≤◌, List, [], length, map, slice_set, true, Option, Some, None, Ok, Err, refl, sym, ap, ◌∙◌, arith}
 use Rattle.std.specs.Prelude.{IfNone, IfSome, is_some, slice_get}
 use Rattle.sv39.specs.Mapping.{Mapped, Shows, WalksTo, coherent-kept, memory_of, shows-coherent}
@@ -122,10 +123,12 @@ sound-at held i t h k result at is s e run =
       coherent = rw d.stands.mapping (coherent-kept (held i.translator) (held t) i.ram x.root.0 (mapping_of i.ram x) d.walks run.coherent kept);
     } in
     record {
-      machine = rw same (trade-machine i.ram k i.frames i.frames i.places.items [] at (Some x) is.machine (within i.places.items at x run.stands) (d.stands.space i.frames space) (rw run.stands (d.stands.trades i.frames space)));
+      machine = rw same (trade-machine i.ram k i.frames i.frames i.places.items (pipe_frames i.pipes.items) at (Some x) is.machine (within i.places.items at x run.stands) (d.stands.space i.frames space) (rw run.stands (d.stands.trades i.frames space)));
       all = is.all;
       active = rw e now;
       inside = kept-inside (held i.translator) (held t) i.ram k i.hart.root.0 s.count is.inside s.kept;
+      pipes = is.pipes;
+      both = is.both;
     }
 
 sound-go : {T : Type 0} (held : T → translation.Held) (i : Inside T) (t : T) (h : Hart) (k : List (List ℕ)) (result : Option Trap) (a : Option ℕ)
@@ -151,12 +154,13 @@ done-at held i t h k at is s run =
           let after : pages_of k x ≡ memory_after (pages_of i.ram x) done.done.change =
           ap (memory_of k) d.stands.mapping ∙ ap (λ m. memory_of m (mapping_of i.ram x)) done.memory
           ∙ memory_of-cycle i.ram (mapping_of i.ram x) i.hart.registers i.hart.pc done.done d.sound done.is in
-          let others : OthersUntouched i.ram k i.places.items at = trade-others i.ram k i.frames i.frames i.places.items [] (holds k x) at is.machine (rw run.stands (d.stands.trades i.frames space)) in
+          let others : OthersUntouched i.ram k i.places.items at = trade-others i.ram k i.frames i.frames i.places.items (pipe_frames i.pipes.items) (holds k x) at is.machine (rw run.stands (d.stands.trades i.frames space)) in
+          let pipes = pipes-beside i.ram k i.frames i.frames i.places.items i.pipes.items (holds k x) at is.machine (rw run.stands (d.stands.trades i.frames space)) in
           let places : map (shown k) i.places.items ≡ slice_set (map (shown i.ram) i.places.items) at (Some (held_with (memory_after (pages_of i.ram x) done.done.change) x.size)) =
           ap (map (shown k)) (same-place i.places.items at x run.stands)
           ∙ shown-placed i.ram k i.places.items at (Some x) others
           ∙ ap (slice_set (map (shown i.ram) i.places.items) at) (shown-as k x (memory_after (pages_of i.ram x) done.done.change) x.size after refl) in
-          rw (held-is i at x run.stands) (done.done, done.is, rw (done.registers, done.pc, places, s.count) refl)
+          rw (held-is i at x run.stands) (done.done, done.is, rw (done.registers, done.pc, places, pipes, s.count) refl)
       | inr trapped ↦ absurd (cc)
     ]
 

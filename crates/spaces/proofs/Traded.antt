@@ -6,7 +6,8 @@ use Rattle.ram.specs.declared.FrameNo.{FrameNo}
 use Rattle.spaces.specs.declared.Spaces.TheInside.{Inside}
 use Rattle.spaces.specs.Spaces.{Held, frames_in, grown, no_pages, taken_frames, with_place}
 use Rattle.spaces.specs.SpacesLemmas.{taken-placed, within}
-use Rattle.spaces.specs.View.{IsActive, IsSpaces, Runs, held_with, shown, spaces_of}
+use Rattle.spaces.specs.View.{IsActive, IsSpaces, Runs, held_with, pipe_frames, shown, spaces_of}
+use Rattle.spaces.proofs.Pipes.{pipes-beside}
 use Rattle.spaces.proofs.Places.{frames-shown, frames_for-pages, free-taken, length-pages_of, places-count, slot-is, taken-fits}
 use Rattle.arrayvec.proofs.ArrayVecLemmas.{items-with_items}
 use Rattle.std.specs.List.{refill}
@@ -42,7 +43,7 @@ same-place xs at x e = sym (ap (slice_set xs at) (sym e) ∙ set-get_or xs at No
 
 -- ---- what the places show
 
-map-same : (g h : Option Space → Option Held) (xs : List (Option Space)) → ((j : ℕ) → h (get_or xs j None) ≡ g (get_or xs j None)) → map h xs ≡ map g xs
+pub map-same : (g h : Option Space → Option Held) (xs : List (Option Space)) → ((j : ℕ) → h (get_or xs j None) ≡ g (get_or xs j None)) → map h xs ≡ map g xs
 map-same g h [] same = refl
 map-same g h (x ∷ xs) same = ap (λ o. o ∷ map h xs) (same 0) ∙ ap (λ l. g x ∷ l) (map-same g h xs (λ j. same (suc j)))
 
@@ -53,7 +54,7 @@ map-placed g h (x ∷ xs) (suc i) y same =
     ap (λ o. o ∷ map h (slice_set xs i y)) (same 0 (omega arith))
     ∙ ap (λ l. g x ∷ l) (map-placed g h xs i y (λ j ne. same (suc j) (λ e. ne (omega (arith, e)))))
 
-same-shown : (m k : List (List ℕ)) (o : Option Space) → ((x : Space) → o ≡ Some x → IsUntouched m k x) → shown k o ≡ shown m o
+pub same-shown : (m k : List (List ℕ)) (o : Option Space) → ((x : Space) → o ≡ Some x → IsUntouched m k x) → shown k o ≡ shown m o
 same-shown m k None h = refl
 same-shown m k (Some x) h = ap (λ p. Some (held_with p x.size)) (h x refl).pages
 
@@ -117,15 +118,17 @@ pub traded : {T : Type 0} (held : T → translation.Held) (i : Inside T) (at : �
     → (i.active ≡ Some at → Runs (held i.translator) i.ram i.hart.root.0 i.places.items at → Runs (held t) k i.hart.root.0 (slice_set i.places.items at y) at)
     → Placed held i (record i { ram = k; frames = n; translator = t; places = record { items = q } }) at (shown k y)
 traded held i at y k n t q is hi e place trades fewer here =
-    let others = trade-others i.ram k i.frames n i.places.items [] (shares.held_at k y) at is.machine trades in
+    let others = trade-others i.ram k i.frames n i.places.items (pipe_frames i.pipes.items) (shares.held_at k y) at is.machine trades in
     let sound : IsSpaces held (record i { ram = k; frames = n; translator = t; places = record { items = q } }) = record {
-      machine = rw e (trade-machine i.ram k i.frames n i.places.items [] at y is.machine hi place trades);
+      machine = rw e (trade-machine i.ram k i.frames n i.places.items (pipe_frames i.pipes.items) at y is.machine hi place trades);
       all = ap length e ∙ length-set i.places.items at y ∙ is.all;
       active = rw e (active-placed (held i.translator) (held t) i.ram k i.hart.root.0 i.places.items at y i.active others fewer here is.active);
       inside = λ x h. let old = is.inside x (fewer x h) in let count = trades.count in omega (arith, old, count);
+      pipes = is.pipes;
+      both = is.both;
     } in
     let view : spaces_of (record i { ram = k; frames = n; translator = t; places = record { items = q } }) ≡ with_place (spaces_of i) at (shown k y) =
-    rw (e, shown-placed i.ram k i.places.items at y others, trades.count) refl in
+    rw (e, shown-placed i.ram k i.places.items at y others, pipes-beside i.ram k i.frames n i.places.items i.pipes.items (shares.held_at k y) at is.machine trades, trades.count) refl in
     record {
       sound = sound;
       view = view;

@@ -1,3 +1,4 @@
+pub mod Ends
 pub mod Spaces
 pub mod SpacesLemmas
 pub mod View

@@ -1,10 +1,12 @@
 -- The address spaces of one memory and the hart, as plain values.
-use Rattle.std.specs.Prelude.{Bool, List, None, Option, Some, [], is_some, length, replicate, slice_set, sum_by, take, unwrap_or, ℕ, ◌++◌, ◌+◌, ◌-◌}
+use Rattle.std.specs.Prelude.{Bool, List, None, Option, Some, [], drop, is_some, length, replicate, slice_set, sum_by, take, unwrap_or, ℕ, ◌++◌, ◌+◌, ◌-◌}
 use Rattle.unixmodel.specs.Counts.{page_frames}
-use Rattle.unixmodel.specs.Files.{slot}
+use Rattle.unixmodel.specs.Files.{slot, taken}
 use Rattle.unixmodel.specs.Meaning.{Computed}
-use Rattle.unixmodel.specs.Memory.{Marks, Memory, write_bytes, zero_page}
+use Rattle.unixmodel.specs.Memory.{Marks, Memory, reach, write_bytes, zero_page}
+use Rattle.unixmodel.specs.declared.trap.Access.TheVariants.{Load}
 use Rattle.unixmodel.specs.Next.{memory_after}
+use Rattle.unixmodel.specs.OpenFiles.{pipe_room}
 use Rattle.unixmodel.specs.Numbers.{ceil_div}
 
 -- what a space shows: the memory of a program, and its size in bytes
@@ -22,6 +24,8 @@ pub record Spaces : Type 0 where
   pub pc : ℕ
   -- how many frames the memory has
   pub frames : ℕ
+  -- 100 of them, each free or with the bytes of a pipe, the oldest first
+  pub pipes : List (Option (List ℕ))
 
 -- ---- places
 
@@ -74,6 +78,37 @@ abbrev pub frames_in : Option Held → ℕ
 frames_in None = 0
 frames_in (Some h) = 4 + page_frames (length h.memory)
 
--- the frames that all places take
+-- the frames that all places take, and a frame for each pipe
 abbrev pub taken_frames : Spaces → ℕ
-taken_frames s = sum_by frames_in s.places
+taken_frames s = sum_by frames_in s.places + length (taken s.pipes)
+
+-- ---- pipes
+
+abbrev pub has_pipe : Spaces → ℕ → Bool
+has_pipe s q = is_some (slot s.pipes q)
+
+-- the bytes of a pipe, and none where its place is free
+abbrev pub bytes_in : Spaces → ℕ → List ℕ
+bytes_in s q = unwrap_or (slot s.pipes q) []
+
+-- a place for pipes has another pipe, or none
+abbrev pub with_pipe : Spaces → ℕ → Option (List ℕ) → Spaces
+with_pipe s q pipe = record s { pipes = slice_set s.pipes q pipe }
+
+-- what fits of bytes behind those that a pipe holds, and what it holds then
+abbrev pub fitting : List ℕ → List ℕ → List ℕ
+fitting held new = take (pipe_room - length held) new
+
+abbrev pub filled : List ℕ → List ℕ → List ℕ
+filled held new = held ++ fitting held new
+
+-- the bytes from an address on that a program may read, so many at the most
+abbrev pub read_at : Held → ℕ → ℕ → List ℕ
+read_at h address count = take count (reach Load h.memory address)
+
+-- bytes of a pipe are taken to an address of a place, so many at the most
+abbrev pub taken_to : Spaces → ℕ → ℕ → ℕ → ℕ → Spaces
+taken_to s q at address count = with_pipe
+    (with_held s at (written (held_at s at) address (take count (bytes_in s q))))
+    q
+    (Some (drop count (bytes_in s q)))

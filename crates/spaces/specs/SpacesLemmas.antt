@@ -3,8 +3,8 @@ use Rattle.std.proofs.Common.{◌≡◌, ◌≢◌, ℕ, zero, suc, ◌+◌, ◌
 use Rattle.std.specs.Prelude.{is_some, sum_by, unwrap_or}
 use Rattle.std.proofs.lemmas.List.{take_all}
 use Rattle.std.proofs.lemmas.List.Sums.{sum_by-cons}
-use Rattle.spaces.specs.Spaces.{Held, Spaces, frames_in, grown, has_space, held_at, no_pages, shrunk, taken_frames, with_held, with_place}
-use Rattle.unixmodel.specs.Files.{slot}
+use Rattle.spaces.specs.Spaces.{Held, Spaces, frames_in, grown, has_space, held_at, no_pages, shrunk, taken_frames, with_held, with_pipe, with_place}
+use Rattle.unixmodel.specs.Files.{slot, taken}
 use Rattle.unixmodel.specs.Memory.{Memory, zero_page}
 use Rattle.unixmodel.specs.Numbers.{ceil_div}
 use Rattle.unixmodel.specs.Plan.{stack_marks}
@@ -41,7 +41,7 @@ sum-placed (x ∷ xs) (suc i) y h =
 
 -- the places take more by what one of them takes more
 pub taken-placed : (s : Spaces) (at : ℕ) (y : Option Held) → at < length s.places → taken_frames (with_place s at y) + frames_in (slot s.places at) ≡ taken_frames s + frames_in y
-taken-placed s at y h = sum-placed s.places at y h
+taken-placed s at y h = omega (arith, sum-placed s.places at y h)
 
 -- ---- a place after a change of one
 
@@ -75,3 +75,23 @@ grown-with_pages h bytes whole = grown-pages h.memory (ceil_div h.size 4096) (ce
 
 pub shrunk-with_pages : (h : Held) (bytes : ℕ) → length h.memory ≡ ceil_div h.size 4096 → (shrunk h bytes).memory ≡ with_pages h.memory (ceil_div (h.size - bytes) 4096)
 shrunk-with_pages h bytes whole = shrunk-pages h.memory (ceil_div (h.size - bytes) 4096) (omega (arith, whole))
+
+-- ---- pipes
+
+taken-put : {X : Type 0} (xs : List (Option X)) (i : ℕ) (x : X) → i < length xs → get_or xs i None ≡ None → length (taken (slice_set xs i (Some x))) ≡ length (taken xs) + 1
+taken-put [] i x h none = absurd (omega (arith, h))
+taken-put (o ∷ xs) zero x h none = rw none (omega arith)
+taken-put (None ∷ xs) (suc i) x h none = taken-put xs i x (omega (arith, h)) none
+taken-put (Some y ∷ xs) (suc i) x h none = omega (arith, taken-put xs i x (omega (arith, h)) none)
+
+-- a pipe that comes takes a frame
+pub taken-piped : (s : Spaces) (q : ℕ) (bytes : List ℕ) → q < length s.pipes → slot s.pipes q ≡ None → taken_frames (with_pipe s q (Some bytes)) ≡ taken_frames s + 1
+taken-piped s q bytes h none = omega (arith, taken-put s.pipes q bytes h none)
+
+pub some-pipe : (o : Option (List ℕ)) → is_some o ≡ true → o ≡ Some (unwrap_or o [])
+some-pipe None e = absurd (cc)
+some-pipe (Some bytes) e = refl
+
+pub none-pipe : (o : Option (List ℕ)) → is_some o ≡ false → o ≡ None
+none-pipe None e = refl
+none-pipe (Some bytes) e = absurd (cc)

@@ -1,6 +1,9 @@
 -- What the fields stand for.
-use Rattle.std.specs.Prelude.{List, None, Option, Some, [], length, map, ℕ, ◌≡◌}
+use Rattle.std.specs.Prelude.{List, None, Option, Some, [], length, map, ℕ, ◌∷◌, ◌≡◌}
+use Rattle.std.specs.List.{flat_map}
+use Rattle.pipe.specs.Pipe.{Pipe, bytes_of}
 use Rattle.spaces.specs.declared.Spaces.TheInside.{Inside}
+use Rattle.spaces.specs.Ends.{IsOpen}
 use Rattle.spaces.specs.Spaces.{Held, Spaces}
 use Rattle.sv39.specs.Mapping.{IsCoherent}
 use Rattle.unixmodel.specs.Files.{slot}
@@ -19,6 +22,19 @@ abbrev pub shown : List (List ℕ) → Option Space → Option Held
 shown m None = None
 shown m (Some x) = Some (held_with (pages_of m x) x.size)
 
+-- what a place for pipes shows
+abbrev pub pipe_shown : List (List ℕ) → Option Pipe → Option (List ℕ)
+pipe_shown m None = None
+pipe_shown m (Some p) = Some (bytes_of m p)
+
+-- the frames that pipes hold
+abbrev pub frames_at : Option Pipe → List ℕ
+frames_at None = []
+frames_at (Some p) = p.frame ∷ []
+
+abbrev pub pipe_frames : List (Option Pipe) → List ℕ
+pipe_frames pipes = flat_map frames_at pipes
+
 abbrev pub spaces_of : {T : Type 0} → Inside T → Spaces
 spaces_of k = record {
   places = map (shown k.ram) k.places.items;
@@ -26,6 +42,7 @@ spaces_of k = record {
   registers = k.hart.registers;
   pc = k.hart.pc;
   frames = length k.ram;
+  pipes = map (pipe_shown k.ram) k.pipes.items;
 }
 
 -- addresses from a root go through the space of a place, and what is held is what the tables of that space show
@@ -39,9 +56,11 @@ abbrev pub IsActive : translation.Held → List (List ℕ) → ℕ → List (Opt
 IsActive held m root places None = Unit {0}
 IsActive held m root places (Some at) = Runs held m root places at
 
--- The spaces and the free list share out all frames, and the hart runs the active place.
+-- The spaces, the pipes and the free list share out all frames, and the hart runs the active place.
 pub record IsSpaces {T : Type 0} (held : T → translation.Held) (k : Inside T) : Type 0 where
-  pub machine : IsMachine k.ram k.frames k.places.items []
+  pub machine : IsMachine k.ram k.frames k.places.items (pipe_frames k.pipes.items)
   pub all : length k.places.items ≡ 64
   pub active : IsActive (held k.translator) k.ram k.hart.root.0 k.places.items k.active
   pub inside : HoldsInside (held k.translator) k.ram
+  pub pipes : length k.pipes.items ≡ 100
+  pub both : (q : ℕ) (p : Pipe) → slot k.pipes.items q ≡ Some p → IsOpen p

@@ -1,25 +1,31 @@
 //! The address spaces of a machine, over the frames of one memory.
 //!
-//! There are 64 places, each free or with a space, and a hart, which runs the process of the active place. What the
-//! processes are is the caller's affair. Contracts are in plain values, `Spaces` of `specs/Spaces`: the memory of each
-//! place, the hart's registers, and how many frames there are. No frame and no table shows, and what is done to one
-//! place leaves the others as they are.
+//! There are 64 places, each free or with a space, and a hart, which runs the process of the active place. Beside them
+//! are 100 places for pipes, whose bytes lie in the same memory. What the processes are, and who may read or write a
+//! pipe, is the caller's affair. Contracts are in plain values, `Spaces` of `specs/Spaces`: the memory of each place, the
+//! bytes of each pipe, the hart's registers, and how many frames there are. No frame and no table shows, and what is done
+//! to one place leaves the others as they are.
 //!
 //! A translator may hold translations, so it is fenced where one that it may hold for the active place goes: where
 //! another space becomes the active one, and where the active one shrinks. A space that grows or is written keeps the
 //! frames that it had, and what is held for spaces that aren't active doesn't count.
 #![tactic(auto)]
 
-ghost use Rattle.std.specs.Prelude.{◌≡◌, ◌≢◌, ◌+◌, ◌<◌, ◌≤◌, ◌/◌, ◌%◌, ℕ, Some, None, true, false, length, is_some, nat_le, option_map, replicate, slice_get, slice_index, slice_set, IfSome, IfNone, Ok, Err};
+ghost use Rattle.std.specs.Prelude.{◌≡◌, ◌≢◌, ◌+◌, ◌-◌, ◌++◌, ◌<◌, ◌≤◌, ◌/◌, ◌%◌, ℕ, [], Some, None, true, false, drop, length, is_some, min, nat_le, nat_lt, not, option_map, replicate, slice_get, slice_index, slice_set, take, IfSome, IfNone, Ok, Err};
 ghost use Rattle.std.specs.Bool.{OnTrue, OnFalse};
-ghost use Rattle.spaces.specs.Spaces.{computed, grown, has_space, held_at, no_pages, shrunk, taken_frames, with_held, with_place, written};
+ghost use Rattle.spaces.specs.Spaces.{bytes_in, computed, filled, fitting, grown, has_pipe, has_space, held_at, no_pages, read_at, shrunk, taken_frames, taken_to, with_held, with_pipe, with_place, written};
+ghost use Rattle.spaces.specs.Ends.{IsOpen};
+ghost use Rattle.pipe.specs.Pipe.{Stays, bytes_of};
+ghost use Rattle.ram.specs.Memory.{frame_of};
 ghost use Rattle.unixmodel.specs.Cycle.{cycle};
-ghost use Rattle.unixmodel.specs.Files.{slot};
+ghost use Rattle.unixmodel.specs.Files.{free_slot, slot};
 ghost use Rattle.unixmodel.specs.Meaning.{Computed};
 ghost use Rattle.unixmodel.specs.declared.trap.Access.TheVariants.{Load};
 ghost use Rattle.unixmodel.specs.Memory.{Page, can_write, reach, read_bytes};
 ghost use Rattle.unixmodel.specs.Numbers.{ceil_div};
+ghost use Rattle.unixmodel.specs.OpenFiles.{pipe_room};
 ghost use Rattle.unixmodel.specs.Shown.{ShowsMemory};
+ghost use Rattle.unixmodel.specs.Turn.{is_empty};
 ghost use Rattle.unixmodel.specs.Translation.{HoldsNothing, Translation};
 ghost use Rattle.vm.specs.Leaf.{marks_from};
 ghost use Rattle.vm.specs.Reach.{IsSized, piece_at};
@@ -31,6 +37,7 @@ mod tests;
 use arrayvec::ArrayVec;
 use frames::Frames;
 use hart::hart::Hart;
+use pipe::Pipe;
 use ram::{FRAME_SIZE, FrameNo, Ram};
 use std::marker::Model;
 use sv39::Translate;
@@ -39,6 +46,9 @@ use vm::{Perm, Space};
 
 /// How many places there are.
 pub const PLACES: usize = 64;
+
+/// How many places for pipes there are.
+pub const PIPES: usize = 100;
 
 // A free place.
 const FREE: Option<Space> = None;
@@ -52,6 +62,7 @@ pub struct Spaces<T: Translate + Drop> {
     places: ArrayVec<Option<Space>, 64>,
     hart: Hart,
     active: Option<usize>,
+    pipes: ArrayVec<Option<Pipe>, 100>,
 }
 
 impl<T: Translate + Drop> Model for Spaces<T> {
@@ -85,6 +96,41 @@ fn root_of(space: &Space, ram: &Ram) -> FrameNo
     space.root()
 }
 
+// The lowest free place for pipes.
+fn lowest_free(pipes: &[Option<Pipe>]) -> Option<usize>
+    ensures place { result ≡ free_slot pipes.now }
+    ensures within { IfSome result (λ q. q < length pipes.now) }
+{
+    pipes.iter().position(|pipe| pipe.is_none())
+}
+
+// Puts what fits of these bytes into a pipe whose read end is open.
+fn put_in(pipe: &mut Pipe, ram: &mut Ram, bytes: &[u8]) -> usize
+    requires frame { pipe.old.frame < length ram.old }
+    requires open { IsOpen pipe.old }
+    ensures bytes { bytes_of ram.new pipe.new ≡ bytes_of ram.old pipe.old ++ take (pipe_room - length (bytes_of ram.old pipe.old)) bytes.now }
+    ensures count { result ≡ length (take (pipe_room - length (bytes_of ram.old pipe.old)) bytes.now) }
+    ensures stays { Stays pipe.old pipe.new }
+    ensures memory { ram.new ≡ slice_set ram.old pipe.old.frame (frame_of ram.new pipe.old.frame) }
+{
+    match pipe.write_some(ram, bytes) {
+        Some(count) => count,
+        None => unreachable!(),
+    }
+}
+
+// Takes bytes of a pipe whose write end is open into a buffer.
+fn take_out(pipe: &mut Pipe, ram: &Ram, buffer: &mut [u8]) -> usize
+    requires frame { pipe.old.frame < length ram.now }
+    requires open { IsOpen pipe.old }
+    ensures bytes { buffer.new ≡ take (length buffer.old) (bytes_of ram.now pipe.old) ++ drop result buffer.old }
+    ensures count { result ≡ min (length buffer.old) (length (bytes_of ram.now pipe.old)) }
+    ensures rest { bytes_of ram.now pipe.new ≡ drop (length buffer.old) (bytes_of ram.now pipe.old) }
+    ensures stays { Stays pipe.old pipe.new }
+{
+    pipe.read_some(ram, buffer).unwrap_or(0)
+}
+
 // How many registers there are, which the check reads off the type.
 fn all_of(registers: &[u64; 32])
     ensures { length registers.now ≡ 32 }
@@ -93,7 +139,7 @@ fn all_of(registers: &[u64; 32])
 impl<T: Translate + Drop> Spaces<T> {
     /// No spaces over a memory; the hart's registers are 0. The translator is fenced: it may hold anything.
     pub fn new(ram: Ram, translator: T) -> Spaces<T>
-        ensures { result ≡ record { places = replicate 64 None; active = None; registers = replicate 32 0; pc = 0; frames = length ram } }
+        ensures { result ≡ record { places = replicate 64 None; active = None; registers = replicate 32 0; pc = 0; frames = length ram; pipes = replicate 100 None } }
     {
         let mut ram = ram;
         let mut translator = translator;
@@ -110,6 +156,7 @@ impl<T: Translate + Drop> Spaces<T> {
                 root: FrameNo(0),
             },
             active: None,
+            pipes: ArrayVec::from_array_in((), [None; 100]),
         }
     }
 
@@ -328,6 +375,19 @@ impl<T: Translate + Drop> Spaces<T> {
         }
     }
 
+    /// Copies bytes from an address of a place. `false`: its program may not read them all; then none is copied.
+    pub fn read(&self, at: usize, address: u64, buffer: &mut [u8]) -> bool
+        requires { has_space self.now at ≡ true }
+        ensures can { result ≡ is_some (read_bytes (held_at self.now at).memory address (length buffer.old)) }
+        ensures done { OnTrue result (read_bytes (held_at self.now at).memory address (length buffer.old) ≡ Some buffer.new) }
+        ensures refused { OnFalse result (buffer.new ≡ buffer.old) }
+    {
+        match &self.places[at] {
+            Some(space) => space.copy_in(&self.ram, address, buffer).is_ok(),
+            None => unreachable!(),
+        }
+    }
+
     /// Makes a place the active one: the hart takes these registers, this pc and the tables of the place's space.
     pub fn activate(&mut self, at: usize, registers: &[u64; 32], pc: u64)
         requires space { has_space self.old at ≡ true }
@@ -399,5 +459,141 @@ impl<T: Translate + Drop> Spaces<T> {
     {
         let _count = self.ram.frame_count();
         self.hart.step(&mut self.ram, &mut self.translator)
+    }
+
+    /// The lowest free place for pipes.
+    pub fn free_pipe(&self) -> Option<usize>
+        ensures place { result ≡ free_slot self.now.pipes }
+        ensures within { IfSome result (λ q. q < 100) }
+    {
+        let _count = self.ram.frame_count();
+        lowest_free(self.pipes.as_slice())
+    }
+
+    /// Makes an empty pipe in a free place. `false`: no frame is free; then nothing changed.
+    pub fn create_pipe(&mut self, q: usize) -> bool
+        requires inside { q < 100 }
+        requires free { has_pipe self.old q ≡ false }
+        ensures done { OnTrue result ((taken_frames (with_pipe self.old q (Some [])) ≤ self.old.frames) × (self.new ≡ with_pipe self.old q (Some []))) }
+        ensures refused { OnFalse result ((self.old.frames < taken_frames (with_pipe self.old q (Some []))) × (self.new ≡ self.old)) }
+    {
+        match self.frames.take(&self.ram) {
+            Some(frame) => {
+                self.pipes[q] = Some(Pipe::new(frame));
+                true
+            }
+            None => false,
+        }
+    }
+
+    /// Frees the place of a pipe, and its frame.
+    pub fn destroy_pipe(&mut self, q: usize)
+        requires { has_pipe self.old q ≡ true }
+        ensures { self.new ≡ with_pipe self.old q None }
+    {
+        match self.pipes[q].take() {
+            Some(pipe) => self.frames.give(&mut self.ram, pipe.frame()),
+            None => unreachable!(),
+        }
+    }
+
+    /// Whether a pipe holds a byte.
+    pub fn has_bytes(&self, q: usize) -> bool
+        requires { has_pipe self.now q ≡ true }
+        ensures { result ≡ not (is_empty (bytes_in self.now q)) }
+    {
+        match &self.pipes[q] {
+            Some(pipe) => pipe.can_read(),
+            None => unreachable!(),
+        }
+    }
+
+    /// Whether a byte fits into a pipe.
+    pub fn has_room(&self, q: usize) -> bool
+        requires { has_pipe self.now q ≡ true }
+        ensures room { result ≡ nat_lt (length (bytes_in self.now q)) pipe_room }
+        ensures few { length (bytes_in self.now q) ≤ pipe_room }
+    {
+        match &self.pipes[q] {
+            Some(pipe) => pipe.can_write(),
+            None => unreachable!(),
+        }
+    }
+
+    // Puts what fits of these bytes behind those of a pipe, and tells how many.
+    fn put_bytes(&mut self, q: usize, bytes: &[u8]) -> usize
+        requires { has_pipe self.old q ≡ true }
+        ensures bytes { self.new ≡ with_pipe self.old q (Some (filled (bytes_in self.old q) bytes.now)) }
+        ensures count { result ≡ length (fitting (bytes_in self.old q) bytes.now) }
+    {
+        match &mut self.pipes[q] {
+            Some(pipe) => put_in(pipe, &mut self.ram, bytes),
+            None => unreachable!(),
+        }
+    }
+
+    // Takes bytes of a pipe into a buffer, as many as there are and fit, and tells how many.
+    fn take_bytes(&mut self, q: usize, buffer: &mut [u8]) -> usize
+        requires { has_pipe self.old q ≡ true }
+        ensures rest { self.new ≡ with_pipe self.old q (Some (drop (length buffer.old) (bytes_in self.old q))) }
+        ensures bytes { buffer.new ≡ take (length buffer.old) (bytes_in self.old q) ++ drop result buffer.old }
+        ensures count { result ≡ min (length buffer.old) (length (bytes_in self.old q)) }
+    {
+        match &mut self.pipes[q] {
+            Some(pipe) => take_out(pipe, &self.ram, buffer),
+            None => unreachable!(),
+        }
+    }
+
+    // Puts what fits of the bytes of a place into a pipe, by way of a buffer that they all fit in.
+    fn write_through(&mut self, q: usize, at: usize, address: u64, buffer: &mut [u8]) -> usize
+        requires pipe { has_pipe self.old q ≡ true }
+        requires space { has_space self.old at ≡ true }
+        requires readable { length buffer.old ≤ length (reach Load (held_at self.old at).memory address) }
+        ensures bytes { self.new ≡ with_pipe self.old q (Some (filled (bytes_in self.old q) (read_at (held_at self.old at) address (length buffer.old)))) }
+        ensures count { result ≡ length (fitting (bytes_in self.old q) (read_at (held_at self.old at) address (length buffer.old))) }
+    {
+        let _read = self.read(at, address, buffer);
+        self.put_bytes(q, buffer)
+    }
+
+    // Takes bytes of a pipe to a place, by way of a buffer, as many as fit in that.
+    fn read_through(&mut self, q: usize, at: usize, address: u64, buffer: &mut [u8]) -> usize
+        requires pipe { has_pipe self.old q ≡ true }
+        requires space { has_space self.old at ≡ true }
+        requires writable { can_write (held_at self.old at).memory address (length buffer.old) ≡ true }
+        ensures bytes { self.new ≡ taken_to self.old q at address (length buffer.old) }
+        ensures count { result ≡ min (length buffer.old) (length (bytes_in self.old q)) }
+    {
+        let taken = self.take_bytes(q, buffer);
+        let _written = self.write(at, address, &buffer[..taken]);
+        taken
+    }
+
+    /// Puts what fits of these bytes of a place's program behind those of a pipe, and tells how many.
+    pub fn write_pipe(&mut self, q: usize, at: usize, address: u64, count: usize) -> usize
+        requires pipe { has_pipe self.old q ≡ true }
+        requires space { has_space self.old at ≡ true }
+        requires readable { count ≤ length (reach Load (held_at self.old at).memory address) }
+        ensures bytes { self.new ≡ with_pipe self.old q (Some (filled (bytes_in self.old q) (read_at (held_at self.old at) address count))) }
+        ensures count { result ≡ length (fitting (bytes_in self.old q) (read_at (held_at self.old at) address count)) }
+    {
+        let mut buffer = [0; pipe::ROOM];
+        let size = count.min(pipe::ROOM);
+        self.write_through(q, at, address, &mut buffer[..size])
+    }
+
+    /// Takes bytes of a pipe to an address of a place, as many as there are and so many at the most, and tells how many.
+    pub fn read_pipe(&mut self, q: usize, at: usize, address: u64, count: usize) -> usize
+        requires pipe { has_pipe self.old q ≡ true }
+        requires space { has_space self.old at ≡ true }
+        requires writable { can_write (held_at self.old at).memory address count ≡ true }
+        ensures bytes { self.new ≡ taken_to self.old q at address count }
+        ensures count { result ≡ min count (length (bytes_in self.old q)) }
+    {
+        let _few = self.has_room(q);
+        let mut buffer = [0; pipe::ROOM];
+        let size = count.min(pipe::ROOM);
+        self.read_through(q, at, address, &mut buffer[..size])
     }
 }

@@ -5,7 +5,7 @@ use Rattle.unixmodel.specs.declared.call.Call.{Call}
 use Rattle.unixmodel.specs.declared.call.Call.TheVariants.{Chdir, Close, Dup, Exec, Exit, Fork, Fstat, Getpid, Kill, Link, Mkdir, Mknod, Open, Pipe, Read, Sbrk, Sleep, Unlink, Uptime, Wait, Write}
 use Rattle.unixmodel.specs.declared.process.Mode.TheVariants.{Running, Waiting}
 use Rattle.unixmodel.specs.declared.process.Pending.{Pending}
-use Rattle.unixmodel.specs.FileCalls.{read_on, read_row, write_on, write_row}
+use Rattle.unixmodel.specs.FileCalls.{close_row, dup_row, pipe_row, read_on, read_row, write_on, write_row}
 use Rattle.unixmodel.specs.Numbers.{low, number, plus}
 use Rattle.unixmodel.specs.Outcome.{Outcome, end_process, limited, minus_one}
 use Rattle.unixmodel.specs.Outcome.Outcome.{Done, Ends, Refused, Waits}
@@ -29,13 +29,16 @@ abbrev pub row : State → ℕ → Process → Call → Outcome
 row s i p Fork = fork_row s i p
 row s i p Exit = exit_row s i p
 row s i p Wait = wait_row s i p
+row s i p Pipe = pipe_row s i p
 row s i p Read = read_row s i p
 row s i p Kill = kill_row s i p
+row s i p Dup = dup_row s i p
 row s i p Getpid = getpid_row s i p
 row s i p Sbrk = sbrk_row s i p
 row s i p Sleep = sleep_row s i p
 row s i p Uptime = uptime_row s i p
 row s i p Write = write_row s i p
+row s i p Close = close_row s i p
 row s i p _ = Refused
 
 -- the row that a waiting call goes on by: of the calls so far these can wait

@@ -1,112 +1,22 @@
 //! Processes that fork, wait, kill, sleep and take turns.
-use crate::tests::{EXIT, FIRST_ANSWER, Flat, GETPID, MINUS_ONE, booted, program, steps};
+use crate::tests::family::{FORK, NEXT_ANSWER, Play, Row, SLEEP};
+use crate::tests::{EXIT, GETPID, MINUS_ONE, program};
 use crate::{Halt, ProcessState};
-use console::Writer;
-use std::alloc::{AllocError, Global};
-use std::process::Abort;
 use unixmodel::call::Call;
 use unixmodel::event::Event;
-
-// Makes one call after the other, as rows behind the instructions say: a0, a1, a2 and a7 of each, and the address of the
-// row that is next where the answer is 0.
-const FAMILY: [u32; 11] = [
-    0x0400_0293, // addi t0, zero, 64
-    0x0002_b503, // ld   a0, 0(t0)
-    0x0082_b583, // ld   a1, 8(t0)
-    0x0102_b603, // ld   a2, 16(t0)
-    0x0182_b883, // ld   a7, 24(t0)
-    0x0000_0073, // ecall
-    0x0005_1663, // bne  a0, zero, 12
-    0x0202_b283, // ld   t0, 32(t0)
-    0xfe5f_f06f, // jal  zero, -28
-    0x0282_8293, // addi t0, t0, 40
-    0xfddf_f06f, // jal  zero, -36
-];
-
-// Where the rows are, and how long one is.
-const ROWS: u64 = 64;
-
-const ROW: u64 = 40;
-
-// The steps from one answer to the next.
-const NEXT_ANSWER: usize = 8;
-
-const FORK: u64 = 1;
 
 const WAIT: u64 = 3;
 
 const KILL: u64 = 6;
 
-const SLEEP: u64 = 13;
-
 // A call with this number and a0, and the row that is next where its answer is 0.
-#[derive(Clone, Copy)]
-struct Row(u64, u64, u64);
-
-fn family(alloc: Global, rows: &[Row]) -> Result<Vec<u8>, AllocError> {
-    let mut bytes = program(alloc, &FAMILY, &[0; 20])?;
-    for Row(number, argument, next) in rows {
-        let next = ROWS.wrapping_add(ROW.wrapping_mul(*next));
-        for word in [*argument, 0, 0, *number, next] {
-            bytes.extend_from_slice(&word.to_le_bytes())?;
-        }
-    }
-    Ok(bytes)
-}
-
-// A machine, and what it prints.
-#[derive(Drop)]
-struct Play {
-    machine: Flat,
-    out: Writer<Vec<u8>>,
-}
-
-impl Play {
-    // Boots these bytes in 64 frames.
-    fn of(rt: &(impl Abort + AllocGlobal), bytes: &[u8]) -> Play {
-        Play {
-            machine: booted(rt, bytes, 64),
-            out: Writer::new(Vec::new(rt.alloc())),
-        }
-    }
-
-    // Boots a family, up to its first answer.
-    fn answered(rt: &(impl Abort + AllocGlobal), rows: &[Row]) -> Play {
-        let bytes = family(rt.alloc(), rows).expect(rt, "memory");
-        let mut play = Play::of(rt, bytes.as_slice());
-        play.steps(rt, FIRST_ANSWER);
-        play
-    }
-
-    fn steps(&mut self, rt: &impl Abort, count: usize) {
-        steps(rt, &mut self.machine, &mut self.out, count);
-    }
-
-    // A turn, after a timer interrupt.
-    fn turn(&mut self, rt: &impl Abort) {
-        assert_eq!(rt; self.machine.step(Event::Tick, &mut self.out), Ok(()));
-        self.steps(rt, 1);
-    }
-
-    fn state(&self, rt: &impl Abort, pid: u32) -> ProcessState {
-        self.machine.inspect(pid).expect(rt, "a process").state
-    }
-
-    // What stands in a0 of a process.
-    fn answer(&self, rt: &impl Abort, pid: u32) -> u64 {
-        self.machine.inspect(pid).expect(rt, "a process").registers[10]
-    }
-
-    // What a process was answered, and how many frames are free.
-    fn expect(&self, rt: &impl Abort, pid: u32, answer: u64, free: u32) {
-        assert_eq!(rt; self.answer(rt, pid), answer);
-        assert_eq!(rt; self.machine.free_frames(), free);
-    }
+fn row(number: u64, argument: u64, next: u64) -> Row {
+    Row([argument, 0, 0, number], next)
 }
 
 #[test]
 fn forks_until_no_frames_are_left(rt: HostRuntime) {
-    let mut play = Play::answered(&rt, &[Row(FORK, 0, 0); 7]);
+    let mut play = Play::answered(&rt, &[row(FORK, 0, 0); 7]);
     play.expect(&rt, 1, 2, 46);
     for (pid, free) in [(3, 37), (4, 28), (5, 19), (6, 10), (7, 1), (MINUS_ONE, 1)] {
         play.steps(&rt, NEXT_ANSWER);
@@ -123,7 +33,7 @@ fn forks_until_no_frames_are_left(rt: HostRuntime) {
 
 #[test]
 fn frames_come_back_as_a_child_is_waited_for(rt: HostRuntime) {
-    let rows = [Row(FORK, 0, 2), Row(WAIT, 0, 0), Row(EXIT, 5, 0)];
+    let rows = [row(FORK, 0, 2), row(WAIT, 0, 0), row(EXIT, 5, 0)];
     let mut play = Play::answered(&rt, &rows);
     play.expect(&rt, 1, 2, 46);
     play.steps(&rt, NEXT_ANSWER);
@@ -177,10 +87,10 @@ fn a_wrong_instruction_ends_a_child(rt: HostRuntime) {
 #[test]
 fn a_wait_that_cannot_tell_leaves_the_child(rt: HostRuntime) {
     let rows = [
-        Row(FORK, 0, 3),
-        Row(WAIT, 0x1000, 0),
-        Row(WAIT, 0, 0),
-        Row(EXIT, 0, 0),
+        row(FORK, 0, 3),
+        row(WAIT, 0x1000, 0),
+        row(WAIT, 0, 0),
+        row(EXIT, 0, 0),
     ];
     let mut play = Play::answered(&rt, &rows);
     play.turn(&rt);
@@ -196,12 +106,12 @@ fn a_wait_that_cannot_tell_leaves_the_child(rt: HostRuntime) {
 #[test]
 fn orphans_go_to_process_1(rt: HostRuntime) {
     let rows = [
-        Row(FORK, 0, 3),
-        Row(WAIT, 0, 0),
-        Row(WAIT, 0, 0),
-        Row(FORK, 0, 5),
-        Row(EXIT, 7, 0),
-        Row(EXIT, 8, 0),
+        row(FORK, 0, 3),
+        row(WAIT, 0, 0),
+        row(WAIT, 0, 0),
+        row(FORK, 0, 5),
+        row(EXIT, 7, 0),
+        row(EXIT, 8, 0),
     ];
     let mut play = Play::answered(&rt, &rows);
     // the wait, the turn of 2, and its fork
@@ -224,12 +134,12 @@ fn orphans_go_to_process_1(rt: HostRuntime) {
 #[test]
 fn kills_by_pid(rt: HostRuntime) {
     let rows = [
-        Row(KILL, 0, 0),
-        Row(KILL, MINUS_ONE, 0),
-        Row(FORK, 0, 5),
-        Row(KILL, 2, 4),
-        Row(KILL, 1, 4),
-        Row(EXIT, 3, 0),
+        row(KILL, 0, 0),
+        row(KILL, MINUS_ONE, 0),
+        row(FORK, 0, 5),
+        row(KILL, 2, 4),
+        row(KILL, 1, 4),
+        row(EXIT, 3, 0),
     ];
     let mut play = Play::answered(&rt, &rows);
     play.expect(&rt, 1, MINUS_ONE, 55);
@@ -262,10 +172,10 @@ fn kills_by_pid(rt: HostRuntime) {
 #[test]
 fn a_killed_sleeper_ends_at_its_turn(rt: HostRuntime) {
     let rows = [
-        Row(FORK, 0, 3),
-        Row(KILL, 2, 2),
-        Row(WAIT, 0, 0),
-        Row(SLEEP, 1000, 0),
+        row(FORK, 0, 3),
+        row(KILL, 2, 2),
+        row(WAIT, 0, 0),
+        row(SLEEP, 1000, 0),
     ];
     let mut play = Play::answered(&rt, &rows);
     play.turn(&rt);
@@ -285,7 +195,7 @@ fn a_killed_sleeper_ends_at_its_turn(rt: HostRuntime) {
 
 #[test]
 fn turns_go_round(rt: HostRuntime) {
-    let mut play = Play::answered(&rt, &[Row(FORK, 0, 2), Row(FORK, 0, 2), Row(GETPID, 0, 0)]);
+    let mut play = Play::answered(&rt, &[row(FORK, 0, 2), row(FORK, 0, 2), row(GETPID, 0, 0)]);
     play.steps(&rt, NEXT_ANSWER);
     play.expect(&rt, 1, 3, 37);
     for pid in [2, 3, 1, 2] {
@@ -303,7 +213,7 @@ fn turns_go_round(rt: HostRuntime) {
 
 #[test]
 fn sleeps_by_ticks(rt: HostRuntime) {
-    let mut play = Play::answered(&rt, &[Row(SLEEP, 2, 1), Row(SLEEP, MINUS_ONE, 2)]);
+    let mut play = Play::answered(&rt, &[row(SLEEP, 2, 1), row(SLEEP, MINUS_ONE, 2)]);
     let sleeping = ProcessState::Waiting(Call::Sleep);
     assert_eq!(rt; play.state(&rt, 1), sleeping);
     play.turn(&rt);

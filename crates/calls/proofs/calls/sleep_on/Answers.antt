@@ -1,8 +1,13 @@
 use Rattle.calls.proofs.Goes.{sleeps-done, sleeps-waits}
+use Rattle.calls.proofs.Opens.{waits-other}
 use Rattle.calls.proofs.Runs.{run-of}
 use Rattle.calls.specs.Says.{has_slept}
 use Rattle.std.proofs.Common.{◌≡◌, true, false, sym, ◌∙◌}
+use Rattle.unixmodel.specs.declared.call.Call.TheVariants.{Sleep}
 use Rattle.calls.proofs.calls.sleep_on.Goals as goal
+
+pub block-requires-clause-awaits : goal.block-requires-clause-awaits
+block-requires-clause-awaits g c = waits-other _ _ c.args.pending Sleep (λ same. absurd (cc)) (λ same. absurd (cc)) c.requires.number
 
 pub returns-then-has_slept : goal.returns-then-has_slept
 returns-then-has_slept g c =

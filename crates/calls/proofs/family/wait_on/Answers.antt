@@ -1,8 +1,13 @@
 use Rattle.calls.proofs.Collects.{goes-none, goes-some}
+use Rattle.calls.proofs.Opens.{waits-other}
 use Rattle.calls.specs.Says.{Collects}
 use Rattle.std.proofs.Common.{ℕ, Option, subst}
+use Rattle.unixmodel.specs.declared.call.Call.TheVariants.{Wait}
 use Rattle.unixmodel.specs.Outcome.{pending_arg}
 use Rattle.calls.proofs.family.wait_on.Goals as goal
+
+pub block-requires-clause-awaits : goal.block-requires-clause-awaits
+block-requires-clause-awaits g c = waits-other _ _ c.args.pending Wait (λ same. absurd (cc)) (λ same. absurd (cc)) c.requires.number
 
 pub returns-in-Some : goal.returns-in-Some
 returns-in-Some g c =

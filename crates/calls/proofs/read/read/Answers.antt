@@ -1,31 +1,38 @@
-use Rattle.calls.proofs.Receives.{rows-read, rows-read-below, rows-read-descriptor, rows-read-nothing, rows-read-unwritable}
+use Rattle.calls.proofs.ReadRows.{readable_on, rows-read, rows-read-below, rows-read-nothing, rows-read-refused, rows-read-unwritable}
 use Rattle.calls.proofs.Runs.{run-of}
-use Rattle.calls.specs.Kernel.{Kernel, argument}
+use Rattle.calls.specs.Kernel.{Kernel, argument, descriptors_at}
 use Rattle.calls.specs.Says.{pending_for}
+use Rattle.files.specs.Meant.{target_of}
+use Rattle.files.specs.Places.{opens_of}
 use Rattle.spaces.specs.Spaces.{held_at}
-use Rattle.std.proofs.Common.{◌≡◌, ◌<◌, ◌≤◌, ℕ, ap, arith, sym, true, false, ◌∙◌, None, Some}
+use Rattle.std.proofs.Common.{◌≡◌, ◌<◌, ℕ, ap, arith, sym, true, false, ◌∙◌, None, Some}
+use Rattle.std.specs.Prelude.{option_map}
 use Rattle.unixmodel.specs.declared.call.Call.TheVariants.{Read}
 use Rattle.unixmodel.specs.Memory.{can_write}
 use Rattle.unixmodel.specs.Numbers.{int_of, low, natural}
 use Rattle.calls.proofs.read.read.Goals as goal
-
-pub returns-then-low-gt2 : goal.returns-then-low-gt2
-returns-then-low-gt2 g c =
-    let k = c.args.kernel.now in
-    let is = c.enter.ensures.sound in
-    let run = run-of k c.args.at is c.requires.running in
-    let a0 : c.low.result ≡ low (argument k 0) = c.low.ensures ∙ ap low (c.argument.ensures ∙ ap (λ (s : Kernel). argument s 0) c.enter.ensures.entered) in
-    let bad : 3 ≤ low (argument k 0) = let h = c.if-low-gt2.true in omega arith in
-    record { gives = rw (c.answer.ensures, c.enter.ensures.entered) (rows-read-descriptor k c.args.at run.0 run.1.0 run.1.1 is c.requires.number bad) }
 
 pub returns-in_default : goal.returns-in_default
 returns-in_default g c =
     let k = c.args.kernel.now in
     let is = c.enter.ensures.sound in
     let run = run-of k c.args.at is c.requires.running in
+    let a0 : c.low.result ≡ low (argument k 0) = c.low.ensures ∙ ap low (c.argument.ensures ∙ ap (λ (s : Kernel). argument s 0) c.enter.ensures.entered) in
+    let none : readable_on (opens_of k.files) (descriptors_at k c.args.at) (low (argument k 0)) ≡ None =
+    rw (c.enter.ensures.entered, a0) at (sym c.target_for_reading.ensures ∙ ap (option_map target_of) c.in_default.is) in
+    record { gives = rw (c.answer.ensures, c.enter.ensures.entered) (rows-read-refused k c.args.at run.0 run.1.0 run.1.1 is c.requires.number none) }
+
+pub returns-in_default-natural : goal.returns-in_default-natural
+returns-in_default-natural g c =
+    let k = c.args.kernel.now in
+    let is = c.enter.ensures.sound in
+    let run = run-of k c.args.at is c.requires.running in
+    let a0 : c.low.result ≡ low (argument k 0) = c.low.ensures ∙ ap low (c.argument.ensures ∙ ap (λ (s : Kernel). argument s 0) c.enter.ensures.entered) in
+    let source : readable_on (opens_of k.files) (descriptors_at k c.args.at) (low (argument k 0)) ≡ Some (target_of c.in-Some.target) =
+    rw (c.enter.ensures.entered, a0) at (sym c.target_for_reading.ensures ∙ ap (option_map target_of) c.in-Some.is) in
     let a2 : c.argument-2.result ≡ argument k 2 = c.argument-2.ensures ∙ ap (λ (s : Kernel). argument s 2) c.enter.ensures.entered in
-    let below : natural (int_of (argument k 2)) ≡ None = ap (λ (x : ℕ). natural (int_of x)) (sym a2) ∙ sym c.natural.ensures ∙ c.in_default.is in
-    record { gives = rw (c.answer-in_default.ensures, c.enter.ensures.entered) (rows-read-below k c.args.at run.0 run.1.0 run.1.1 is c.requires.number below) }
+    let below : natural (int_of (argument k 2)) ≡ None = ap (λ (x : ℕ). natural (int_of x)) (sym a2) ∙ sym c.natural.ensures ∙ c.in_default-natural.is in
+    record { gives = rw (c.answer-in_default-natural.ensures, c.enter.ensures.entered) (rows-read-below k c.args.at run.0 run.1.0 run.1.1 is c.requires.number (target_of c.in-Some.target) source below) }
 
 pub returns-then-count-eq0 : goal.returns-then-count-eq0
 returns-then-count-eq0 g c =
@@ -33,11 +40,12 @@ returns-then-count-eq0 g c =
     let is = c.enter.ensures.sound in
     let run = run-of k c.args.at is c.requires.running in
     let a0 : c.low.result ≡ low (argument k 0) = c.low.ensures ∙ ap low (c.argument.ensures ∙ ap (λ (s : Kernel). argument s 0) c.enter.ensures.entered) in
-    let console : low (argument k 0) < 3 = let h = c.if-low-gt2.false in omega arith in
+    let source : readable_on (opens_of k.files) (descriptors_at k c.args.at) (low (argument k 0)) ≡ Some (target_of c.in-Some.target) =
+    rw (c.enter.ensures.entered, a0) at (sym c.target_for_reading.ensures ∙ ap (option_map target_of) c.in-Some.is) in
     let a2 : c.argument-2.result ≡ argument k 2 = c.argument-2.ensures ∙ ap (λ (s : Kernel). argument s 2) c.enter.ensures.entered in
-    let count : natural (int_of (argument k 2)) ≡ Some c.in-Some.count = ap (λ (x : ℕ). natural (int_of x)) (sym a2) ∙ sym c.natural.ensures ∙ c.in-Some.is in
+    let count : natural (int_of (argument k 2)) ≡ Some c.in-Some-natural.count = ap (λ (x : ℕ). natural (int_of x)) (sym a2) ∙ sym c.natural.ensures ∙ c.in-Some-natural.is in
     let none : natural (int_of (argument k 2)) ≡ Some 0 = count ∙ ap Some c.if-count-eq0.true in
-    record { gives = rw (c.answer-then-count-eq0.ensures, c.enter.ensures.entered) (rows-read-nothing k c.args.at run.0 run.1.0 run.1.1 is c.requires.number console none) }
+    record { gives = rw (c.answer-then-count-eq0.ensures, c.enter.ensures.entered) (rows-read-nothing k c.args.at run.0 run.1.0 run.1.1 is c.requires.number (target_of c.in-Some.target) source none) }
 
 pub returns-then-not-can_write : goal.returns-then-not-can_write
 returns-then-not-can_write g c =
@@ -45,14 +53,15 @@ returns-then-not-can_write g c =
     let is = c.enter.ensures.sound in
     let run = run-of k c.args.at is c.requires.running in
     let a0 : c.low.result ≡ low (argument k 0) = c.low.ensures ∙ ap low (c.argument.ensures ∙ ap (λ (s : Kernel). argument s 0) c.enter.ensures.entered) in
-    let console : low (argument k 0) < 3 = let h = c.if-low-gt2.false in omega arith in
+    let source : readable_on (opens_of k.files) (descriptors_at k c.args.at) (low (argument k 0)) ≡ Some (target_of c.in-Some.target) =
+    rw (c.enter.ensures.entered, a0) at (sym c.target_for_reading.ensures ∙ ap (option_map target_of) c.in-Some.is) in
     let a2 : c.argument-2.result ≡ argument k 2 = c.argument-2.ensures ∙ ap (λ (s : Kernel). argument s 2) c.enter.ensures.entered in
-    let count : natural (int_of (argument k 2)) ≡ Some c.in-Some.count = ap (λ (x : ℕ). natural (int_of x)) (sym a2) ∙ sym c.natural.ensures ∙ c.in-Some.is in
+    let count : natural (int_of (argument k 2)) ≡ Some c.in-Some-natural.count = ap (λ (x : ℕ). natural (int_of x)) (sym a2) ∙ sym c.natural.ensures ∙ c.in-Some-natural.is in
     let a1 : c.argument-address.result ≡ argument k 1 = c.argument-address.ensures ∙ ap (λ (s : Kernel). argument s 1) c.enter.ensures.entered in
-    let n : c.from.result ≡ c.in-Some.count = c.from.ensures in
-    let some : 0 < c.in-Some.count = let h = c.if-count-eq0.false in omega arith in
-    let cannot : can_write (held_at k.spaces c.args.at).memory (argument k 1) c.in-Some.count ≡ false = rw (c.enter.ensures.entered, a1, n) at (sym c.can_write.ensures ∙ c.if-not-can_write.true) in
-    record { gives = rw (c.answer-then-not-can_write.ensures, c.enter.ensures.entered) (rows-read-unwritable k c.args.at run.0 run.1.0 run.1.1 is c.requires.number c.in-Some.count console count some cannot) }
+    let n : c.from.result ≡ c.in-Some-natural.count = c.from.ensures in
+    let some : 0 < c.in-Some-natural.count = let h = c.if-count-eq0.false in omega arith in
+    let cannot : can_write (held_at k.spaces c.args.at).memory (argument k 1) c.in-Some-natural.count ≡ false = rw (c.enter.ensures.entered, a1, n) at (sym c.can_write.ensures ∙ c.if-not-can_write.true) in
+    record { gives = rw (c.answer-then-not-can_write.ensures, c.enter.ensures.entered) (rows-read-unwritable k c.args.at run.0 run.1.0 run.1.1 is c.requires.number (target_of c.in-Some.target) source c.in-Some-natural.count count some cannot) }
 
 pub returns : goal.returns
 returns g c =
@@ -60,12 +69,13 @@ returns g c =
     let is = c.enter.ensures.sound in
     let run = run-of k c.args.at is c.requires.running in
     let a0 : c.low.result ≡ low (argument k 0) = c.low.ensures ∙ ap low (c.argument.ensures ∙ ap (λ (s : Kernel). argument s 0) c.enter.ensures.entered) in
-    let console : low (argument k 0) < 3 = let h = c.if-low-gt2.false in omega arith in
+    let source : readable_on (opens_of k.files) (descriptors_at k c.args.at) (low (argument k 0)) ≡ Some (target_of c.in-Some.target) =
+    rw (c.enter.ensures.entered, a0) at (sym c.target_for_reading.ensures ∙ ap (option_map target_of) c.in-Some.is) in
     let a2 : c.argument-2.result ≡ argument k 2 = c.argument-2.ensures ∙ ap (λ (s : Kernel). argument s 2) c.enter.ensures.entered in
-    let count : natural (int_of (argument k 2)) ≡ Some c.in-Some.count = ap (λ (x : ℕ). natural (int_of x)) (sym a2) ∙ sym c.natural.ensures ∙ c.in-Some.is in
+    let count : natural (int_of (argument k 2)) ≡ Some c.in-Some-natural.count = ap (λ (x : ℕ). natural (int_of x)) (sym a2) ∙ sym c.natural.ensures ∙ c.in-Some-natural.is in
     let a1 : c.argument-address.result ≡ argument k 1 = c.argument-address.ensures ∙ ap (λ (s : Kernel). argument s 1) c.enter.ensures.entered in
-    let n : c.from.result ≡ c.in-Some.count = c.from.ensures in
-    let some : 0 < c.in-Some.count = let h = c.if-count-eq0.false in omega arith in
-    let can : can_write (held_at k.spaces c.args.at).memory (argument k 1) c.in-Some.count ≡ true = rw (c.enter.ensures.entered, a1, n) at (sym c.can_write.ensures ∙ c.if-not-can_write.false) in
+    let n : c.from.result ≡ c.in-Some-natural.count = c.from.ensures in
+    let some : 0 < c.in-Some-natural.count = let h = c.if-count-eq0.false in omega arith in
+    let can : can_write (held_at k.spaces c.args.at).memory (argument k 1) c.in-Some-natural.count ≡ true = rw (c.enter.ensures.entered, a1, n) at (sym c.can_write.ensures ∙ c.if-not-can_write.false) in
     let w : c.pending-pending.result ≡ pending_for k Read = c.pending-pending.ensures ∙ ap (λ (x : Kernel). pending_for x Read) c.enter.ensures.entered in
-    record { gives = rows-read k c.args.at run.0 run.1.0 run.1.1 is c.requires.number c.in-Some.count console count some can ∙ (rw (c.enter.ensures.entered, w) at c.read_on.ensures.gives) }
+    record { gives = rows-read k c.args.at run.0 run.1.0 run.1.1 is c.requires.number (target_of c.in-Some.target) source c.in-Some-natural.count count some can ∙ (rw (c.enter.ensures.entered, w) at c.read_from.ensures.gives) }

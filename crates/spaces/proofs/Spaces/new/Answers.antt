@@ -1,10 +1,13 @@
 use Rattle.spaces.proofs.Spaces.new.Goals as goal
+use Rattle.spaces.proofs.Pipes.{no-frames, no-pipe}
 use Rattle.vm.specs.SharesLemmas.{machine-new}
 
 pub invariant_of-result-2 : goal.invariant_of-result-2
 invariant_of-result-2 g c = record {
-  machine = rw c.from_array_in.ensures.items (machine-new c.new-frames.new.ram c.new-frames.result 64 c.new-frames.ensures.valid c.new-frames.ensures.shared);
+  machine = rw (c.from_array_in-2.ensures.items, no-frames, c.from_array_in.ensures.items) (machine-new c.new-frames.new.ram c.new-frames.result 64 c.new-frames.ensures.valid c.new-frames.ensures.shared);
   all = c.from_array_in.ensures.len;
   active = tt;
   inside = λ t h. absurd (c.fence.ensures t h);
+  pipes = c.from_array_in-2.ensures.len;
+  both = λ q p at. no-pipe 100 q p (rw c.from_array_in-2.ensures.items at at);
 }

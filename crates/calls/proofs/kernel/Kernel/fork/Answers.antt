@@ -2,7 +2,7 @@ use Rattle.std.proofs.Common.{◌≡◌, Ok, Some, ap, sym, ◌∙◌}
 use Rattle.std.specs.Prelude.{◌%◌, option_map, slice_index}
 use Rattle.calls.specs.Kernel.{Kernel, child_of, on_hart}
 use Rattle.calls.specs.View.{kernel_of}
-use Rattle.calls.proofs.Forks.{fork-keeps, seat-free}
+use Rattle.calls.proofs.Forks.{counts-few, fork-keeps, seat-free}
 use Rattle.proc.specs.Places.{seat_of, seated}
 use Rattle.unixmodel.specs.Files.{slot}
 use Rattle.calls.proofs.kernel.Kernel.fork.Goals as goal
@@ -10,6 +10,9 @@ use Rattle.calls.proofs.kernel.Kernel.fork.Goals as goal
 pub copy-requires-clause-free : goal.copy-requires-clause-free
 copy-requires-clause-free g c =
     seat-free (kernel_of c.self.inside) c.self.invariant c.in-Ok.seat (sym c.next_seat.ensures.seat ∙ c.in-Ok.is)
+
+pub share_all-requires : goal.share_all-requires
+share_all-requires g c = record { few = counts-few (kernel_of c.self.inside) c.self.invariant }
 
 pub invariant_of-self-2 : goal.invariant_of-self-2
 invariant_of-self-2 g c =
@@ -20,6 +23,6 @@ invariant_of-self-2 g c =
     let held : option_map (on_hart k.spaces) (slot k.table.places c.args.at) ≡ Some c.in_ok-process.process =
     ap (λ (x : Kernel). option_map (on_hart x.spaces) (slot x.table.places c.args.at)) same ∙ sym c.on_hart.ensures.process ∙ c.in_ok-process.was in
     let table : c.alloc-seat.new.self ≡ seated k.table (child_of c.in_ok-process.process) c.in-Ok.seat = rw (c.alloc-seat.ensures.seat, seats) at c.alloc-seat.ensures.ok in
-    rw (table, c.if-not-copy.ensures.done.1)
+    rw (table, c.if-not-copy.ensures.done.1, c.share_all.ensures)
     (fork-keeps k c.args.at c.in_ok-process.process c.in-Ok.seat c.self.invariant (ap (λ (x : Kernel). x.spaces.active) same ∙ c.requires)
     (ap (λ (x : Kernel). slice_index x.spaces.registers 0) same ∙ s.zero) (ap (λ (x : Kernel). x.spaces.pc % 4) same ∙ s.aligned) held seats c.if-not-copy.ensures.done.0)

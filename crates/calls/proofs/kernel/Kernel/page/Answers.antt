@@ -1,7 +1,6 @@
 use Rattle.calls.specs.View.{kernel_of}
 use Rattle.calls.proofs.Shown.{found-space, page-shown, shown-none}
-use Rattle.std.proofs.Common.{ap, sym, ◌∙◌, refl}
-use Rattle.std.specs.Prelude.{option_and_then, slice_get}
+use Rattle.std.proofs.Common.{sym, ◌∙◌, refl}
 use Rattle.calls.proofs.kernel.Kernel.page.Goals as goal
 
 pub returns-in_err-at : goal.returns-in_err-at

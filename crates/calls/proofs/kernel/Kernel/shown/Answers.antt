@@ -1,6 +1,6 @@
 use Rattle.calls.specs.View.{kernel_of}
 use Rattle.calls.proofs.Shown.{is-active, is-other, shown-none, shown-resting, shown-running}
-use Rattle.std.proofs.Common.{◌≡◌, ◌≢◌, Some, ap, sym, ◌∙◌, refl}
+use Rattle.std.proofs.Common.{◌≡◌, ◌≢◌, Some, sym, ◌∙◌, refl}
 use Rattle.calls.proofs.kernel.Kernel.shown.Goals as goal
 
 pub returns-in_err-at : goal.returns-in_err-at

@@ -1,6 +1,6 @@
 use Rattle.calls.specs.View.{kernel_of}
 use Rattle.calls.proofs.Shown.{found-space, shown-none, some-shown, tables-shown}
-use Rattle.std.proofs.Common.{ap, sym, ◌∙◌, refl}
+use Rattle.std.proofs.Common.{sym, ◌∙◌, refl}
 use Rattle.calls.proofs.kernel.Kernel.tables.Goals as goal
 
 pub returns-in_err-at-clause-some : goal.returns-in_err-at-clause-some

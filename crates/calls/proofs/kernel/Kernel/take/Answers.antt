@@ -6,7 +6,7 @@ pub returns-then-process : goal.returns-then-process
 returns-then-process g c =
     let s = c.active-sound.ensures in
     let there = sym c.process.ensures ∙ sym c.copied.ensures ∙ c.in-Some.is in
-    rw c.finish.ensures (takes-killed c.args.self.now c.args.at c.in-Some.process s.sound c.requires.idle there s.zero s.aligned c.requires.ready c.if-process.true)
+    rw c.finish.ensures (takes-killed c.args.self.now c.args.at c.in-Some.process s.sound c.requires.idle there s.zero s.aligned c.requires.alive c.if-process.true)
 
 pub returns-in-Ready : goal.returns-in-Ready
 returns-in-Ready g c =

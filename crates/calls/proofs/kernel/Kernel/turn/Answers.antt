@@ -1,18 +1,16 @@
-use Rattle.std.proofs.Common.{rules, ◌≡◌, ap, ◌∙◌}
-use Rattle.std.specs.Prelude.{find}
-use Rattle.calls.specs.Kernel.{Kernel}
-use Rattle.calls.specs.Says.{has_input, is_ready}
+use Rattle.std.proofs.Common.{rules, ap, sym, ◌∙◌}
+use Rattle.calls.specs.Kernel.{Kernel, base, memories, rest_of}
 use Rattle.calls.specs.View.{kernel_of}
-use Rattle.calls.proofs.Readies.{turn-same}
-use Rattle.proc.specs.Turns.{find-from_pick}
-use Rattle.unixmodel.specs.Turn.{round_from}
+use Rattle.calls.proofs.Readies.{ready-same, turn-idle}
+use Rattle.proc.specs.Turns.{turn-from_pick}
+use Rattle.proc.specs.Whole.{with_table}
+use Rattle.unixmodel.specs.Turn.{turn}
 use Rattle.calls.proofs.kernel.Kernel.turn.Goals as goal
 
 pub returns-clause-turn : goal.returns-clause-turn
 returns-clause-turn g c =
     let k = kernel_of c.self.inside in
-    let found : c.pick.result ≡ find (is_ready k.ticks (has_input k.console) k.table.places) (round_from k.table.last) =
-    find-from_pick _ _ k.table.places (is_ready k.ticks (has_input k.console)) k.table.last c.pick.result c.pick.ensures.first (λ shown i b r. search rules) in
-    found
-    ∙ ap (λ (x : Kernel). find (is_ready x.ticks (has_input x.console) x.table.places) (round_from x.table.last)) c.self.view_is
-    ∙ turn-same c.args.self.now c.requires c.active-sound.ensures.sound
+    turn-from_pick _ _ (base (rest_of k)) k.table (memories k.spaces) c.pick.result c.pick.ensures.first
+    (λ shown i b r. (search rules) ∙ sym (ready-same (rest_of k) (record k.table { places = shown.now }) (memories k.spaces) i))
+    ∙ ap (λ (x : Kernel). turn (with_table (base (rest_of x)) x.table (memories x.spaces))) c.self.view_is
+    ∙ turn-idle c.args.self.now c.requires

@@ -1,0 +1,219 @@
+-- The row of read: its tests, and what it goes on with.
+use Rattle.std.proofs.Common.{◌≡◌, [], ℕ, zero, suc, ◌<◌, Bool, true, false, List, Option, Some, None, refl, ap, sym, ◌∙◌, arith}
+use Rattle.std.specs.Prelude.{IfSome, is_some, option_and_then, option_map, slice_index}
+use Rattle.std.specs.Result.{result_ok}
+use Rattle.calls.specs.Descriptors.{descriptors_in}
+use Rattle.calls.specs.Kernel.{Kernel, answered, argument, descriptors_at, entered, state_of}
+use Rattle.calls.specs.Says.{called, gone_on, line_for, pending_for}
+use Rattle.calls.specs.Sends.{target_named}
+use Rattle.calls.specs.Sound.{IsFresh, IsKernel, IsOpenOn, IsReading, console_file, file_named, is_on_pipe}
+use Rattle.calls.proofs.Draws.{IsFileAt, draws-within, file-at}
+use Rattle.calls.proofs.Goes.{gone-run}
+use Rattle.calls.proofs.Opens.{IsNamed, open-named}
+use Rattle.calls.proofs.Readies.{stands-open}
+use Rattle.calls.proofs.Receives.{row-within}
+use Rattle.calls.proofs.Rows.{enters-kernel, enters-run, numbered, refuses}
+use Rattle.calls.proofs.Runs.{IsRun, run-of, self}
+use Rattle.calls.proofs.Settles.{settle-limited}
+use Rattle.calls.proofs.Steps.{held-run}
+use Rattle.calls.proofs.Writes.{int-low}
+use Rattle.files.specs.Places.{opens_of, readable_at}
+use Rattle.proc.specs.declared.process.Process.{Process}
+use Rattle.spaces.specs.Spaces.{Held, bytes_in, held_at}
+use Rattle.spaces.specs.SpacesLemmas.{some-pipe}
+use Rattle.unixmodel.specs.Calls.{call_of, quiet, settle}
+use Rattle.unixmodel.specs.declared.call.Call.TheVariants.{Read}
+use Rattle.unixmodel.specs.declared.process.Pending.{Pending}
+use Rattle.unixmodel.specs.FileCalls.{is_usable, read_on, read_row}
+use Rattle.unixmodel.specs.Files.{slot}
+use Rattle.unixmodel.specs.Memory.{Memory, can_write}
+use Rattle.unixmodel.specs.Numbers.{int_of, low, natural}
+use Rattle.unixmodel.specs.OpenFiles.{End, OpenFile, Target}
+use Rattle.unixmodel.specs.OpenFiles.Target.{OnNode, OnPipe}
+use Rattle.unixmodel.specs.Outcome.{Outcome, limited, minus_one, pending_arg, pending_of}
+use Rattle.unixmodel.specs.Outcome.Outcome.{Done, Refused}
+use Rattle.unixmodel.specs.Process as unix
+use Rattle.unixmodel.specs.Process.{arg}
+use Rattle.unixmodel.specs.Start.{flat_files}
+use Rattle.unixmodel.specs.State.{State}
+
+-- ---- the open file of a read
+
+-- what it is open on, if it is open for reading
+abbrev pub readable_on : List (Option OpenFile) → List (Option ℕ) → ℕ → Option Target
+readable_on opens ds d = result_ok (readable_at (file_named opens ds d))
+
+readable-choice : (f : OpenFile) (t : Target) (b : Bool) → f.readable ≡ b → result_ok (readable_at (Some f)) ≡ Some t → (b ≡ true) × (f.target ≡ t)
+readable-choice f t true e is = let same : Some f.target ≡ Some t = rw e at is in (refl, cc)
+readable-choice f t false e is = let bad : None ≡ Some t = rw e at is in absurd (cc)
+
+unreadable-choice : (f : OpenFile) (b : Bool) → f.readable ≡ b → result_ok (readable_at (Some f)) ≡ None → b ≡ false
+unreadable-choice f true e is = let bad : Some f.target ≡ None = rw e at is in absurd (cc)
+unreadable-choice f false e is = refl
+
+readable-file : (o : Option OpenFile) (t : Target) → result_ok (readable_at o) ≡ Some t → option_map (λ (f : OpenFile). f.target) o ≡ Some t
+readable-file None t is = let bad : None ≡ Some t = is in absurd (cc)
+readable-file (Some f) t is = ap Some (readable-choice f t f.readable refl is).1
+
+-- the target of a read that may begin
+pub readable-named : (opens : List (Option OpenFile)) (ds : List (Option ℕ)) (d : ℕ) (t : Target) → readable_on opens ds d ≡ Some t → option_map (λ (f : OpenFile). f.target) (file_named opens ds d) ≡ Some t
+readable-named opens ds d t is = readable-file (file_named opens ds d) t is
+
+-- what is open can be used
+usable-open : (f : OpenFile) (t : Target) → f.target ≡ t → IsOpenOn f t → is_usable flat_files t ≡ true
+unfolding flat_files
+usable-open f (OnNode n offset) on is =
+    let same : OnNode n offset ≡ OnNode 2 0 = sym on ∙ ap (λ (g : OpenFile). g.target) is in
+    ap (is_usable flat_files) same
+usable-open f (OnPipe q end) on is = refl
+
+console-file : (f : OpenFile) (t : Target) (n offset : ℕ) → t ≡ OnNode n offset → IsOpenOn f t → f ≡ console_file
+console-file f (OnNode m o) n offset e is = is
+console-file f (OnPipe q end) n offset e is = absurd (cc)
+
+module _ (k : Kernel) (is : IsKernel k) (i d : ℕ) where
+  -- a descriptor of a node names the console
+  pub console-only : (n offset : ℕ) → target_named k i d ≡ Some (OnNode n offset) → (m : ℕ) → slot (descriptors_at k i) d ≡ Some m → slot (opens_of k.files) m ≡ Some console_file
+  console-only n offset at m named =
+      let file = file-at (opens_of k.files) (descriptors_at k i) d (OnNode n offset) at in
+      let both : Some file.number ≡ Some m = sym file.named ∙ named in
+      let same : file.number ≡ m = cc in
+      ap (slot (opens_of k.files)) (sym same) ∙ file.opened ∙ ap Some (console-file file.file file.file.target n offset file.on (is.opened.each file.number file.file file.opened))
+
+  -- a descriptor that names something is open on something
+  target-go : (p : Process) → slot k.table.places i ≡ Some p → (o : Option ℕ) → slot (descriptors_at k i) d ≡ o → is_some o ≡ true → target_named k i d ≡ None → ⊥
+  target-go p at None named some none = absurd (cc)
+  target-go p at (Some n) named some none =
+      let there : slot p.descriptors d ≡ Some n = ap (λ (q : Option Process). slot (descriptors_in q) d) (sym at) ∙ named in
+      let f = open-named k.files k.spaces.pipes k.table.places is.opened i p d n at there in
+      let open-file : target_named k i d ≡ Some f.0.target =
+      ap (λ (o : Option ℕ). option_map (λ (x : OpenFile). x.target) (option_and_then (slot (opens_of k.files)) o)) named ∙ ap (option_map (λ (x : OpenFile). x.target)) f.1.0 in
+      absurd (let bad : None ≡ Some f.0.target = sym none ∙ open-file in cc)
+
+  pub target-some : k.spaces.active ≡ Some i → is_some (slot (descriptors_at k i) d) ≡ true → target_named k i d ≡ None → ⊥
+  target-some active named none = let run = run-of k i is active in target-go run.0 run.1.1.process (slot (descriptors_at k i) d) refl named none
+
+fresh-in : (o : Option OpenFile) (P : Type 0) (q : ℕ) (end : End) → option_map (λ (f : OpenFile). f.target) o ≡ Some (OnPipe q end) → IfSome o (λ f. is_on_pipe f.target ≡ true → P) → P
+fresh-in None P q end on is = let bad : None ≡ Some (OnPipe q end) = on in absurd (cc)
+fresh-in (Some f) P q end on is = let same : f.target ≡ OnPipe q end = cc in is (ap is_on_pipe same)
+
+-- a read of a pipe that may go on has taken nothing
+pub fresh-start : (k : Kernel) (i : ℕ) (w : Pending) (q : ℕ) (end : End) → w.number ≡ Read → IsFresh (opens_of k.files) (descriptors_at k i) w → target_named k i (low (pending_arg w 0)) ≡ Some (OnPipe q end) → w.done ≡ 0
+fresh-start k i w q end number fresh on = fresh-in (file_named (opens_of k.files) (descriptors_at k i) (low (pending_arg w 0))) (w.done ≡ 0) q end on (fresh number)
+
+-- ---- the row
+
+module _ (s : State) (i : ℕ) (p : unix.Process) where
+  refused-file : (n : ℕ) (o : Option OpenFile) → slot p.descriptors (low (arg p 0)) ≡ Some n → slot s.opens n ≡ o → result_ok (readable_at o) ≡ None → read_row s i p ≡ Refused
+  unfolding read_row
+  refused-file n None named at none = rw (named, at) refl
+  refused-file n (Some f) named at none = let no : f.readable ≡ false = unreadable-choice f f.readable refl none in rw (named, at, no) refl
+
+  refused-go : (o : Option ℕ) → slot p.descriptors (low (arg p 0)) ≡ o → result_ok (readable_at (option_and_then (slot s.opens) o)) ≡ None → read_row s i p ≡ Refused
+  unfolding read_row
+  refused-go None named none = rw named refl
+  refused-go (Some n) named none = refused-file n (slot s.opens n) named refl none
+
+  module _ (files : s.files ≡ flat_files) (f : OpenFile) (named : IsNamed s p (low (arg p 0)) f) (readable : f.readable ≡ true) (usable : is_usable flat_files f.target ≡ true) where
+    read-below : natural (int_of (arg p 2)) ≡ None → read_row s i p ≡ Refused
+    unfolding read_row
+    read-below below = rw (named.named, named.opened, readable, files, usable, below) refl
+
+    read-nothing : natural (int_of (arg p 2)) ≡ Some 0 → read_row s i p ≡ Done s 0 []
+    unfolding read_row
+    read-nothing none = rw (named.named, named.opened, readable, files, usable, none) refl
+
+    read-unwritable : (n : ℕ) → natural (int_of (arg p 2)) ≡ Some n → 0 < n → can_write p.memory (arg p 1) n ≡ false → read_row s i p ≡ Refused
+    unfolding read_row
+    read-unwritable zero count some cannot = absurd (omega arith)
+    read-unwritable (suc c) count some cannot = rw (named.named, named.opened, readable, files, usable, count, cannot) refl
+
+    read-begins : (n : ℕ) → natural (int_of (arg p 2)) ≡ Some n → 0 < n → can_write p.memory (arg p 1) n ≡ true → read_row s i p ≡ read_on s i p (pending_of Read s p)
+    unfolding read_row
+    read-begins zero count some can = absurd (omega arith)
+    read-begins (suc c) count some can = rw (named.named, named.opened, readable, files, usable, count, can) refl
+
+-- ---- the call of the running process
+
+module _ (k : Kernel) (i : ℕ) (p : Process) (h : Held) (r : IsRun k i p h) (is : IsKernel k) where
+  of-run : (d n : ℕ) → slot (descriptors_at k i) d ≡ Some n → slot p.descriptors d ≡ Some n
+  of-run d n named = ap (λ (o : Option Process). slot (descriptors_in o) d) (sym r.process) ∙ named
+
+  -- a read keeps the limits
+  within-on : (w : Pending) (t : Target) → target_named k i (low (pending_arg w 0)) ≡ Some t → limited (read_on (state_of k) i (self k p h) w) ≡ read_on (state_of k) i (self k p h) w
+  within-on w (OnNode n offset) on =
+      let d = low (pending_arg w 0) in
+      let file = file-at (opens_of k.files) (descriptors_at k i) d (OnNode n offset) on in
+      let only = console-only k is i d n offset on in
+      let some : is_some (slot p.descriptors d) ≡ true = ap is_some (of-run d file.number file.named) in
+      row-within k i p h r is w some (λ m named. only m (ap (λ (o : Option Process). slot (descriptors_in o) d) r.process ∙ named)) (line_for k w).over refl
+  within-on w (OnPipe q end) on =
+      let file = file-at (opens_of k.files) (descriptors_at k i) (low (pending_arg w 0)) (OnPipe q end) on in
+      let stands = stands-open k.spaces (opens_of k.files) file.number file.file (OnPipe q end) is.opened.piped file.opened file.on in
+      draws-within k i p h r is w q (bytes_in k.spaces q) (some-pipe (slot k.spaces.pipes q) stands) file.file
+      (record { number = file.number; named = of-run (low (pending_arg w 0)) file.number file.named; opened = file.opened }) end file.on
+
+module _ (k : Kernel) (i : ℕ) (p : Process) (h : Held) (r : IsRun k i p h) (is : IsKernel k) (number : call_of (low (slice_index k.spaces.registers 17)) ≡ Some Read) where
+  not-done : read_row (state_of (entered k)) i (self (entered k) p h) ≡ Refused → called (state_of k) i ≡ quiet (state_of (answered (entered k) minus_one))
+  not-done row = numbered k i p h r is (Some Read) number ∙ ap (λ (o : Outcome). settle (state_of (entered k)) i (limited o)) row ∙ refuses k i p h r is
+
+  pub rows-read-refused : readable_on (opens_of k.files) (descriptors_at k i) (low (argument k 0)) ≡ None → called (state_of k) i ≡ quiet (state_of (answered (entered k) minus_one))
+  rows-read-refused none =
+      not-done
+      (refused-go (state_of (entered k)) i (self (entered k) p h) (slot p.descriptors (low (argument k 0))) refl
+      (ap (λ (o : Option Process). readable_on (opens_of k.files) (descriptors_in o) (low (argument k 0))) (sym r.process) ∙ none))
+
+  module _ (t : Target) (source : readable_on (opens_of k.files) (descriptors_at k i) (low (argument k 0)) ≡ Some t) where
+    on : target_named k i (low (argument k 0)) ≡ Some t
+    on = readable-named (opens_of k.files) (descriptors_at k i) (low (argument k 0)) t source
+
+    file : IsFileAt (opens_of k.files) (descriptors_at k i) (low (argument k 0)) t
+    file = file-at (opens_of k.files) (descriptors_at k i) (low (argument k 0)) t on
+
+    named : IsNamed (state_of (entered k)) (self (entered k) p h) (low (argument k 0)) file.file
+    named = record { number = file.number; named = of-run k i p h r is (low (argument k 0)) file.number file.named; opened = file.opened }
+
+    readable : file.file.readable ≡ true
+    readable =
+        let there : file_named (opens_of k.files) (descriptors_at k i) (low (argument k 0)) ≡ Some file.file = rw (file.named, file.opened) refl in
+        (readable-choice file.file t file.file.readable refl (ap (λ (o : Option OpenFile). result_ok (readable_at o)) (sym there) ∙ source)).0
+
+    usable : is_usable flat_files file.file.target ≡ true
+    usable = usable-open file.file file.file.target refl (is.opened.each file.number file.file file.opened)
+
+    pub rows-read-below : natural (int_of (argument k 2)) ≡ None → called (state_of k) i ≡ quiet (state_of (answered (entered k) minus_one))
+    rows-read-below below = not-done (read-below (state_of (entered k)) i (self (entered k) p h) refl file.file named readable usable below)
+
+    pub rows-read-nothing : natural (int_of (argument k 2)) ≡ Some 0 → called (state_of k) i ≡ quiet (state_of (answered (entered k) 0))
+    rows-read-nothing none =
+        numbered k i p h r is (Some Read) number
+        ∙ ap (λ (o : Outcome). settle (state_of (entered k)) i (limited o)) (read-nothing (state_of (entered k)) i (self (entered k) p h) refl file.file named readable usable none)
+        ∙ settle-limited (entered k) i p h (enters-run k i p h r is) (enters-kernel k i p h r is) (state_of (entered k)) 0 []
+
+    pub rows-read-unwritable : (n : ℕ) → natural (int_of (argument k 2)) ≡ Some n → 0 < n → can_write (held_at k.spaces i).memory (argument k 1) n ≡ false → called (state_of k) i ≡ quiet (state_of (answered (entered k) minus_one))
+    rows-read-unwritable n count some cannot =
+        let memory = ap (λ (y : Held). can_write y.memory (argument k 1) n) (held-run k i p h r is) in
+        not-done (read-unwritable (state_of (entered k)) i (self (entered k) p h) refl file.file named readable usable n count some (sym memory ∙ cannot))
+
+    -- the call goes on as it would later
+    pub rows-read : (n : ℕ) → natural (int_of (argument k 2)) ≡ Some n → 0 < n → can_write (held_at k.spaces i).memory (argument k 1) n ≡ true → called (state_of k) i ≡ gone_on (state_of (entered k)) i (pending_for (entered k) Read)
+    rows-read n count some can =
+        let memory = ap (λ (y : Held). can_write y.memory (argument k 1) n) (held-run k i p h r is) in
+        let r' = enters-run k i p h r is in
+        let is' = enters-kernel k i p h r is in
+        let w = pending_for (entered k) Read in
+        numbered k i p h r is (Some Read) number
+        ∙ ap (λ (o : Outcome). settle (state_of (entered k)) i (limited o)) (read-begins (state_of (entered k)) i (self (entered k) p h) refl file.file named readable usable n count some (sym memory ∙ can))
+        ∙ ap (settle (state_of (entered k)) i) (within-on (entered k) i p h r' is' w t on)
+        ∙ sym (gone-run (entered k) i p h r' w)
+
+-- a read that begins
+pub reading-begins : (k : Kernel) (i d : ℕ) (t : Target) (mem : Memory) (n : ℕ) → d ≡ low (argument k 0) → target_named k i d ≡ Some t → natural (int_of (argument k 2)) ≡ Some n → 0 < n → can_write mem (argument k 1) n ≡ true → IsReading (descriptors_at k i) mem (pending_for k Read)
+reading-begins k i d t mem n place on count some can =
+    let same : low (argument k 2) ≡ n = int-low (argument k 2) n count in
+    let file = file-at (opens_of k.files) (descriptors_at k i) d t on in
+    record {
+      named = ap is_some (ap (slot (descriptors_at k i)) (sym place) ∙ file.named);
+      buffer = ap (can_write mem (argument k 1)) same ∙ can;
+      left = omega (arith, same, some);
+    }

@@ -1,0 +1,375 @@
+-- A write to a pipe goes on.
+use Rattle.std.proofs.Common.{◌≡◌, ◌≢◌, ℕ, zero, suc, ◌+◌, ◌-◌, ◌<◌, ◌≤◌, ◌%◌, ◌^◌, Bool, true, false, nat_eq, List, [], ◌∷◌, length, take, drop, eq-eqb, Option, Some, None, is_some, unwrap_or, refl, ap, subst, sym, ◌∙◌, arith}
+use Rattle.std.specs.Prelude.{IfSome, option_and_then, option_map, slice_index}
+use Rattle.std.proofs.lemmas.Bool.{ne_eqb}
+use Rattle.std.proofs.lemmas.List.{drop-take, length-drop, length-set}
+use Rattle.calls.specs.Descriptors.{descriptors_in}
+use Rattle.calls.specs.Kernel.{Kernel, answered, argument, blocked, descriptors_at, entered, started, state_of}
+use Rattle.calls.specs.Says.{IsOnPipe, called, further, gone_on, pending_for}
+use Rattle.calls.specs.Sends.{sent, sent_count, target_named, unsent}
+use Rattle.calls.specs.Sound.{IsForPipe, IsKernel, IsPending, IsWriting, file_named, is_on_pipe}
+use Rattle.calls.proofs.Goes.{IsResting, gone-run}
+use Rattle.calls.proofs.Opens.{IsNamed, waits-writing}
+use Rattle.calls.proofs.Readies.{stands-open}
+use Rattle.calls.proofs.Reaped.{within-state}
+use Rattle.calls.proofs.Rows.{enters-kernel, enters-run, waits-run}
+use Rattle.calls.proofs.Runs.{IsRun, file-run, run-of, self}
+use Rattle.calls.proofs.Settles.{settle-done}
+use Rattle.calls.proofs.Starts.{started-is, started-run, started_to}
+use Rattle.calls.proofs.Steps.{held-run}
+use Rattle.calls.proofs.Writes.{begun, can-run, int-low, length-read, readable-count, rows-write-begins, to_write}
+use Rattle.files.specs.Places.{has_end, opens_of}
+use Rattle.proc.specs.declared.process.Process.{Process}
+use Rattle.spaces.specs.Spaces.{Held, Spaces, bytes_in, filled, fitting, has_pipe, held_at, no_pages, read_at, with_pipe}
+use Rattle.spaces.specs.SpacesLemmas.{some-pipe}
+use Rattle.unixmodel.specs.Calls.{call_of, goes_on, quiet, settle}
+use Rattle.unixmodel.specs.declared.call.Call.{Call}
+use Rattle.unixmodel.specs.declared.call.Call.TheVariants.{Write}
+use Rattle.unixmodel.specs.declared.process.Pending.{Pending}
+use Rattle.unixmodel.specs.declared.trap.Access.TheVariants.{Load}
+use Rattle.unixmodel.specs.FileCalls.{write_on, write_pipe}
+use Rattle.unixmodel.specs.Files.{put, slot, taken}
+use Rattle.unixmodel.specs.Memory.{Memory, reach, read_bytes}
+use Rattle.unixmodel.specs.Numbers.{int_of, low, natural}
+use Rattle.unixmodel.specs.OpenFiles.{End, OpenFile, Target}
+use Rattle.unixmodel.specs.OpenFiles.End.{ReadEnd}
+use Rattle.unixmodel.specs.OpenFiles.Target.{OnNode, OnPipe}
+use Rattle.unixmodel.specs.Outcome.{limited, minus_one, pending_arg}
+use Rattle.unixmodel.specs.Outcome.Outcome.{Done, Waits}
+use Rattle.unixmodel.specs.Process as unix
+use Rattle.unixmodel.specs.State.{State}
+use Rattle.vm.specs.Reach.{IsSized}
+use Rattle.vm.specs.ReachLemmas.{reach-drop, reach-page}
+
+-- ---- pipes that keep standing
+
+pub taken-same : (pipes : List (Option (List ℕ))) (q : ℕ) (old new : List ℕ) → slot pipes q ≡ Some old → length (taken (put pipes q new)) ≡ length (taken pipes)
+taken-same [] q old new at = refl
+taken-same (o ∷ pipes) zero old new at = rw at refl
+taken-same (None ∷ pipes) (suc q) old new at = taken-same pipes q old new at
+taken-same (Some b ∷ pipes) (suc q) old new at = ap suc (taken-same pipes q old new at)
+
+pub some-same : (pipes : List (Option (List ℕ))) (q : ℕ) (old new : List ℕ) → slot pipes q ≡ Some old → (r : ℕ) → is_some (slot (put pipes q new) r) ≡ is_some (slot pipes r)
+some-same [] q old new at r = refl
+some-same (o ∷ pipes) zero old new at zero = rw at refl
+some-same (o ∷ pipes) zero old new at (suc r) = refl
+some-same (o ∷ pipes) (suc q) old new at zero = refl
+some-same (o ∷ pipes) (suc q) old new at (suc r) = some-same pipes q old new at r
+
+-- a pipe that stands has other bytes
+pub piped-kernel : (k : Kernel) → IsKernel k → (q : ℕ) (old new : List ℕ) → slot k.spaces.pipes q ≡ Some old → IsKernel (record k { spaces = with_pipe k.spaces q (Some new) })
+piped-kernel k is q old new at = record {
+  all = is.all;
+  spaces = is.spaces;
+  stands = is.stands;
+  runs = is.runs;
+  fits = omega (arith, is.fits, taken-same k.spaces.pipes q old new at);
+  opened = record {
+    table = is.opened.table;
+    counted = is.opened.counted;
+    each = is.opened.each;
+    all = length-set k.spaces.pipes q (Some new) ∙ is.opened.all;
+    piped = λ x. some-same k.spaces.pipes q old new at x ∙ is.opened.piped x;
+    waits = is.opened.waits;
+  };
+}
+
+-- ---- the row
+
+module _ (s : State) (i : ℕ) (p : unix.Process) (w : Pending) (q : ℕ) (held new : List ℕ) where
+  abbrev rest : List ℕ
+  rest = drop w.done new
+
+  abbrev put_in : State
+  put_in = record s { pipes = put s.pipes q (filled held rest) }
+
+  writes-pipe : (f : OpenFile) (end : End) → IsNamed s p (low (pending_arg w 0)) f → f.target ≡ OnPipe q end → slot s.pipes q ≡ Some held → read_bytes p.memory (pending_arg w 1) (low (pending_arg w 2)) ≡ Some new
+      → write_on s i p w ≡ write_pipe s w q held new
+  unfolding write_on
+  writes-pipe f end named on at read = rw (named.named, named.opened, read, on, at) refl
+
+  pipe-closed : has_end s.opens q ReadEnd ≡ false → write_pipe s w q held new ≡ Done s minus_one []
+  pipe-closed none = rw none refl
+
+  pipe-all : has_end s.opens q ReadEnd ≡ true → nat_eq (w.done + length (fitting held rest)) (length new) ≡ true → write_pipe s w q held new ≡ Done put_in (w.done + length (fitting held rest)) []
+  pipe-all some all = rw (some, all) refl
+
+  pipe-waits : has_end s.opens q ReadEnd ≡ true → nat_eq (w.done + length (fitting held rest)) (length new) ≡ false → write_pipe s w q held new ≡ Waits put_in (further w (length (fitting held rest)))
+  pipe-waits some left = rw (some, left) refl
+
+-- ---- a write of the running process goes on
+
+-- the open file of a write to a pipe
+pub record ToPipe (k : Kernel) (p : Process) (h : Held) (w : Pending) (q : ℕ) : Type 0 where
+  pub file : OpenFile
+  pub end : End
+  pub named : IsNamed (state_of k) (self k p h) (low (pending_arg w 0)) file
+  pub on : file.target ≡ OnPipe q end
+
+module _ (k : Kernel) (i : ℕ) (p : Process) (h : Held) (r : IsRun k i p h) (is : IsKernel k) (w : Pending) (q : ℕ) (to : ToPipe k p h w q) (can : IsWriting p.descriptors h.memory w) where
+  abbrev held : List ℕ
+  held = bytes_in k.spaces q
+
+  abbrev new : List ℕ
+  new = unwrap_or (read_bytes h.memory (pending_arg w 1) (low (pending_arg w 2))) []
+
+  abbrev left : List ℕ
+  left = drop w.done new
+
+  abbrev n : ℕ
+  n = length (fitting held left)
+
+  abbrev pub sent_to : Kernel
+  sent_to = record k { spaces = with_pipe k.spaces q (Some (filled held left)) }
+
+  pub sent-is : sent k i q w ≡ sent_to
+  sent-is = rw (held-run k i p h r is) refl
+
+  pub count-is : sent_count k i q w ≡ n
+  count-is = rw (held-run k i p h r is) refl
+
+  pipe-stands : has_pipe k.spaces q ≡ true
+  pipe-stands = stands-open k.spaces (opens_of k.files) to.named.number to.file (OnPipe q to.end) is.opened.piped to.named.opened to.on
+
+  pipe-at : slot k.spaces.pipes q ≡ Some held
+  pipe-at = some-pipe (slot k.spaces.pipes q) pipe-stands
+
+  read-new : read_bytes h.memory (pending_arg w 1) (low (pending_arg w 2)) ≡ Some new
+  read-new = some-pipe (read_bytes h.memory (pending_arg w 1) (low (pending_arg w 2))) can.readable
+
+  length-new : length new ≡ low (pending_arg w 2)
+  length-new = length-read h.memory (pending_arg w 1) (low (pending_arg w 2)) new read-new
+
+  sent-run : IsRun sent_to i p h
+  sent-run = record { active = r.active; process = r.process; space = r.space; placed = r.placed; runs = r.runs }
+
+  pub sent-kernel : IsKernel sent_to
+  sent-kernel = piped-kernel k is q held (filled held left) pipe-at
+
+  row : write_on (state_of k) i (self k p h) w ≡ write_pipe (state_of k) w q held new
+  row = writes-pipe (state_of k) i (self k p h) w q held new to.file to.end to.named to.on pipe-at read-new
+
+  all-test : (b : Bool) → nat_eq (w.done + n) (low (pending_arg w 2)) ≡ b → nat_eq (w.done + n) (length new) ≡ b
+  all-test b test = ap (nat_eq (w.done + n)) length-new ∙ test
+
+  row-closed : has_end (opens_of k.files) q ReadEnd ≡ false → write_on (state_of k) i (self k p h) w ≡ Done (state_of k) minus_one []
+  row-closed none = row ∙ pipe-closed (state_of k) i (self k p h) w q held new none
+
+  row-all : has_end (opens_of k.files) q ReadEnd ≡ true → nat_eq (w.done + n) (low (pending_arg w 2)) ≡ true → write_on (state_of k) i (self k p h) w ≡ Done (state_of sent_to) (w.done + n) []
+  row-all some all = row ∙ pipe-all (state_of k) i (self k p h) w q held new some (all-test true all)
+
+  row-waits : has_end (opens_of k.files) q ReadEnd ≡ true → nat_eq (w.done + n) (low (pending_arg w 2)) ≡ false → write_on (state_of k) i (self k p h) w ≡ Waits (state_of sent_to) (further w n)
+  row-waits some rests = row ∙ pipe-waits (state_of k) i (self k p h) w q held new some (all-test false rests)
+
+  -- a write keeps the limits
+  within-go : (b c : Bool) → has_end (opens_of k.files) q ReadEnd ≡ b → nat_eq (w.done + n) (low (pending_arg w 2)) ≡ c → limited (write_on (state_of k) i (self k p h) w) ≡ write_on (state_of k) i (self k p h) w
+  within-go false c none test = rw (row-closed none) (rw (within-state k is) refl)
+  within-go true true some all = rw (row-all some all) (rw (within-state sent_to sent-kernel) refl)
+  within-go true false some rests = rw (row-waits some rests) refl
+
+  pub row-within : limited (write_on (state_of k) i (self k p h) w) ≡ write_on (state_of k) i (self k p h) w
+  row-within = within-go (has_end (opens_of k.files) q ReadEnd) (nat_eq (w.done + n) (low (pending_arg w 2))) refl refl
+
+  gone-write : w.number ≡ Write → gone_on (state_of k) i w ≡ settle (state_of k) i (write_on (state_of k) i (self k p h) w)
+  gone-write number = gone-run k i p h r w ∙ ap (λ (call : Call). settle (state_of k) i (goes_on (state_of k) i (self k p h) w call)) number
+
+  pub goes-closed : w.number ≡ Write → has_end (opens_of k.files) q ReadEnd ≡ false → gone_on (state_of k) i w ≡ quiet (state_of (answered k minus_one))
+  goes-closed number none =
+      gone-write number
+      ∙ ap (settle (state_of k) i) (row-closed none)
+      ∙ settle-done k i p h r is (state_of k) minus_one []
+
+  pub goes-all : w.number ≡ Write → has_end (opens_of k.files) q ReadEnd ≡ true → nat_eq (w.done + n) (low (pending_arg w 2)) ≡ true → gone_on (state_of k) i w ≡ quiet (state_of (answered sent_to (w.done + n)))
+  goes-all number some all =
+      gone-write number
+      ∙ ap (settle (state_of k) i) (row-all some all)
+      ∙ settle-done sent_to i p h sent-run sent-kernel (state_of k) (w.done + n) []
+
+  for-pipe : (m : ℕ) → IsForPipe (opens_of k.files) p.descriptors (further w m)
+  for-pipe m = λ write. rw (to.named.named, to.named.opened, to.on) refl
+
+  pub goes-waits : slice_index k.spaces.registers 0 ≡ 0 → k.spaces.pc % 4 ≡ 0 → w.number ≡ Write → has_end (opens_of k.files) q ReadEnd ≡ true → nat_eq (w.done + n) (low (pending_arg w 2)) ≡ false → w.done + n < low (pending_arg w 2)
+      → gone_on (state_of k) i w ≡ quiet (state_of (blocked sent_to i (further w n)))
+  goes-waits z a number some rests less =
+      let writing : IsWriting p.descriptors h.memory (further w n) = record { named = can.named; readable = can.readable; left = less } in
+      gone-write number
+      ∙ ap (settle (state_of k) i) (row-waits some rests)
+      ∙ ap quiet (waits-run sent_to i p h sent-run sent-kernel z a (further w n) (subst (IsPending p.descriptors h.memory (further w n)) (sym number) writing) (waits-writing (opens_of k.files) p.descriptors (further w n) number (for-pipe n)))
+
+-- ---- the call of the running process
+
+-- a write that begins
+writing-begins : (k : Kernel) (descriptors : List (Option ℕ)) (mem : Memory) (n : ℕ) → is_some (slot descriptors (low (argument k 0))) ≡ true → natural (int_of (argument k 2)) ≡ Some n → 0 < n → is_some (read_bytes mem (argument k 1) n) ≡ true → IsWriting descriptors mem (pending_for k Write)
+writing-begins k descriptors mem n named count some can =
+    let same : low (argument k 2) ≡ n = int-low (argument k 2) n count in
+    record {
+      named = named;
+      readable = ap (λ (m : ℕ). is_some (read_bytes mem (argument k 1) m)) same ∙ can;
+      left = omega (arith, same, some);
+    }
+
+module _ (k : Kernel) (i : ℕ) (p : Process) (h : Held) (r : IsRun k i p h) (is : IsKernel k) (number : call_of (low (slice_index k.spaces.registers 17)) ≡ Some Write) where
+  -- a write to a pipe goes on as it would later
+  pub rows-write-pipe : (t : Target) → to_write k i ≡ Some t → (n : ℕ) → natural (int_of (argument k 2)) ≡ Some n → 0 < n → is_some (read_bytes (held_at k.spaces i).memory (argument k 1) n) ≡ true
+      → (q : ℕ) (end : End) → t ≡ OnPipe q end → called (state_of k) i ≡ gone_on (state_of (entered k)) i (pending_for (entered k) Write)
+  rows-write-pipe t named n count some can q end pipe =
+      let x = begun k i p h r is number t named in
+      let w = pending_for (entered k) Write in
+      let to : ToPipe (entered k) p h w q = record { file = x.file; end = end; named = x.written.file; on = x.on ∙ pipe } in
+      let writing : IsWriting p.descriptors h.memory w = writing-begins (entered k) p.descriptors h.memory n (ap is_some x.written.file.named) count some (can-run k i p h r is number t named n count some can) in
+      rows-write-begins k i p h r is number t named n count some can (row-within (entered k) i p h (enters-run k i p h r is) (enters-kernel k i p h r is) w q to writing)
+
+-- ---- by what the kernel says
+
+pipe-file : (k : Kernel) (p : Process) (h : Held) (w : Pending) (q : ℕ) (end : End) (n : ℕ) (o : Option OpenFile) → slot p.descriptors (low (pending_arg w 0)) ≡ Some n → slot (opens_of k.files) n ≡ o
+    → option_map (λ (f : OpenFile). f.target) o ≡ Some (OnPipe q end) → ToPipe k p h w q
+pipe-file k p h w q end n None named opened on = absurd (cc)
+pipe-file k p h w q end n (Some f) named opened on = record { file = f; end = end; named = record { number = n; named = named; opened = opened }; on = let same : f.target ≡ OnPipe q end = cc in same }
+
+pipe-named : (k : Kernel) (p : Process) (h : Held) (w : Pending) (q : ℕ) (end : End) (o : Option ℕ) → slot p.descriptors (low (pending_arg w 0)) ≡ o
+    → option_map (λ (f : OpenFile). f.target) (option_and_then (slot (opens_of k.files)) o) ≡ Some (OnPipe q end) → ToPipe k p h w q
+pipe-named k p h w q end None named on = absurd (cc)
+pipe-named k p h w q end (Some n) named on = pipe-file k p h w q end n (slot (opens_of k.files) n) named refl on
+
+-- the open file of a write to a pipe
+pub to-pipe : (k : Kernel) (i : ℕ) (p : Process) (h : Held) → IsRun k i p h → (w : Pending) (q : ℕ) → IsOnPipe k i w q → ToPipe k p h w q
+to-pipe k i p h r w q to =
+    pipe-named k p h w q to.0 (slot p.descriptors (low (pending_arg w 0))) refl
+    (ap (λ (o : Option Process). option_map (λ (f : OpenFile). f.target) (file_named (opens_of k.files) (descriptors_in o) (low (pending_arg w 0)))) (sym r.process) ∙ to.1)
+
+module _ (k : Kernel) (i : ℕ) (w : Pending) (q : ℕ) (is : IsKernel k) (active : k.spaces.active ≡ Some i) (can : IsWriting (descriptors_at k i) (held_at k.spaces i).memory w) (to : IsOnPipe k i w q) where
+  abbrev p : Process
+  p = (run-of k i is active).0
+
+  abbrev h : Held
+  h = (run-of k i is active).1.0
+
+  abbrev r : IsRun k i p h
+  r = (run-of k i is active).1.1
+
+  writing : IsWriting p.descriptors h.memory w
+  writing = subst (λ (o : Option Process). IsWriting (descriptors_in o) h.memory w) r.process (subst (λ (y : Held). IsWriting (descriptors_at k i) y.memory w) (held-run k i p h r is) can)
+
+  file : ToPipe k p h w q
+  file = to-pipe k i p h r w q to
+
+  -- the pipe is there
+  pub sends-stands : has_pipe k.spaces q ≡ true
+  sends-stands = pipe-stands k i p h r is w q file writing
+
+  module _ (number : w.number ≡ Write) where
+    pub sends-closed : has_end (opens_of k.files) q ReadEnd ≡ false → gone_on (state_of k) i w ≡ quiet (state_of (answered k minus_one))
+    sends-closed none = goes-closed k i p h r is w q file writing number none
+
+    module _ (new : Kernel) (m : ℕ) (made : new ≡ sent k i q w) (count : m ≡ sent_count k i q w) (some : has_end (opens_of k.files) q ReadEnd ≡ true) where
+      abbrev n' : ℕ
+      n' = length (fitting (bytes_in k.spaces q) (drop w.done (unwrap_or (read_bytes h.memory (pending_arg w 1) (low (pending_arg w 2))) [])))
+
+      counts : m ≡ n'
+      counts = count ∙ count-is k i p h r is w q file writing
+
+      makes : new ≡ sent_to k i p h r is w q file writing
+      makes = made ∙ sent-is k i p h r is w q file writing
+
+      pub sends-all : w.done + m ≡ low (pending_arg w 2) → gone_on (state_of k) i w ≡ quiet (state_of (answered new (w.done + m)))
+      sends-all all =
+          goes-all k i p h r is w q file writing number some (eq-eqb (w.done + n') (low (pending_arg w 2)) (ap (λ (x : ℕ). w.done + x) (sym counts) ∙ all))
+          ∙ sym (ap (λ (x : Kernel). quiet (state_of (answered x (w.done + m)))) makes ∙ ap (λ (x : ℕ). quiet (state_of (answered (sent_to k i p h r is w q file writing) (w.done + x)))) counts)
+
+      pub sends-waits : slice_index k.spaces.registers 0 ≡ 0 → k.spaces.pc % 4 ≡ 0 → w.done + m ≢ low (pending_arg w 2) → w.done + m ≤ low (pending_arg w 2) → gone_on (state_of k) i w ≡ quiet (state_of (blocked new i (further w m)))
+      sends-waits z a rests within =
+          let other : w.done + n' ≢ low (pending_arg w 2) = λ same. rests (ap (λ (x : ℕ). w.done + x) counts ∙ same) in
+          let less : w.done + n' < low (pending_arg w 2) = let e = counts in omega (arith, within, other, e) in
+          goes-waits k i p h r is w q file writing z a number some (ne_eqb (w.done + n') (low (pending_arg w 2)) other) less
+          ∙ sym (ap (λ (x : Kernel). quiet (state_of (blocked x i (further w m)))) makes ∙ ap (λ (x : ℕ). quiet (state_of (blocked (sent_to k i p h r is w q file writing) i (further w x)))) counts)
+
+-- ---- a write that waits has a pipe
+
+some-file : (k : Kernel) (i : ℕ) (p : Process) (h : Held) → IsRun k i p h → IsKernel k → (d : ℕ) → is_some (slot p.descriptors d) ≡ true → target_named k i d ≡ None → ⊥
+some-file k i p h r is d some none =
+    let f = file-run k i p h r is d some in
+    let named : file_named (opens_of k.files) p.descriptors d ≡ Some f.0 = rw f.1.0.named f.1.0.opened in
+    let bad : Some f.0.target ≡ None = sym (ap (option_map (λ (x : OpenFile). x.target)) named) ∙ ap (λ (o : Option Process). option_map (λ (x : OpenFile). x.target) (file_named (opens_of k.files) (descriptors_in o) d)) (sym r.process) ∙ none in
+    absurd (cc)
+
+pub writes-some : (k : Kernel) (i : ℕ) (w : Pending) → IsKernel k → k.spaces.active ≡ Some i → IsWriting (descriptors_at k i) (held_at k.spaces i).memory w → target_named k i (low (pending_arg w 0)) ≡ None → ⊥
+writes-some k i w is active can none =
+    let run = run-of k i is active in
+    some-file k i run.0 run.1.0 run.1.1 is (low (pending_arg w 0)) (ap (λ (o : Option Process). is_some (slot (descriptors_in o) (low (pending_arg w 0)))) (sym run.1.1.process) ∙ can.named) none
+
+node-for : (o : Option OpenFile) (n offset : ℕ) → option_map (λ (f : OpenFile). f.target) o ≡ Some (OnNode n offset) → IfSome o (λ f. is_on_pipe f.target ≡ true) → ⊥
+node-for None n offset on is = absurd (cc)
+node-for (Some f) n offset on is =
+    let same : f.target ≡ OnNode n offset = cc in
+    let bad : true ≡ false = sym is ∙ ap is_on_pipe same in
+    absurd (cc)
+
+pub writes-node : (k : Kernel) (i : ℕ) (w : Pending) (n offset : ℕ) → w.number ≡ Write → IsForPipe (opens_of k.files) (descriptors_at k i) w → target_named k i (low (pending_arg w 0)) ≡ Some (OnNode n offset) → ⊥
+writes-node k i w n offset number for on = node-for (file_named (opens_of k.files) (descriptors_at k i) (low (pending_arg w 0))) n offset on (for number)
+
+-- a process that waits in a write, and runs again
+pub resting-writes : (k : Kernel) (i : ℕ) (p : Process) (h : Held) (w : Pending) → IsKernel k → k.spaces.active ≡ None → IsResting k i p h w → w.number ≡ Write
+    → IsWriting (descriptors_at (started k i) i) (held_at (started k i).spaces i).memory w
+resting-writes k i p h w is none f number =
+    let to = started-is k i p h is none f.there.process f.there.space f.alive in
+    let run = started-run k i p h is none f.there.process f.there.space f.alive f.live f.free in
+    let new = started_to k i p h is none f.there.process f.there.space f.alive in
+    let held : held_at new.spaces i ≡ h = ap (λ (o : Option Held). unwrap_or o no_pages) run.space in
+    let waits : IsWriting p.descriptors h.memory w = subst (IsPending p.descriptors h.memory w) number f.pending in
+    let here : IsWriting p.descriptors (held_at new.spaces i).memory w = subst (λ (y : Held). IsWriting p.descriptors y.memory w) (sym held) waits in
+    let there : IsWriting (descriptors_at new i) (held_at new.spaces i).memory w = subst (λ (o : Option Process). IsWriting (descriptors_in o) (held_at new.spaces i).memory w) (sym run.process) here in
+    subst (λ (x : Kernel). IsWriting (descriptors_at x i) (held_at x.spaces i).memory w) (sym to) there
+
+-- ---- over the fields: k is what they show, and now is the kernel's value
+
+module _ (k now : Kernel) (i : ℕ) (w : Pending) (same : k ≡ now) (can : IsWriting (descriptors_at now i) (held_at now.spaces i).memory w) (sized : IsSized (held_at k.spaces i).memory) where
+  abbrev mem : Memory
+  mem = (held_at k.spaces i).memory
+
+  writes : IsWriting (descriptors_at k i) mem w
+  writes = subst (λ (x : Kernel). IsWriting (descriptors_at x i) (held_at x.spaces i).memory w) (sym same) can
+
+  whole : (low (pending_arg w 2) ≤ length (reach Load mem (pending_arg w 1))) × (unwrap_or (read_bytes mem (pending_arg w 1) (low (pending_arg w 2))) [] ≡ take (low (pending_arg w 2)) (reach Load mem (pending_arg w 1)))
+  whole = readable-count mem (pending_arg w 1) (low (pending_arg w 2)) writes.readable
+
+  further-on : reach Load mem (pending_arg w 1 + w.done) ≡ drop w.done (reach Load mem (pending_arg w 1))
+  further-on = reach-drop Load mem (pending_arg w 1) w.done sized (let a = whole.0 in let b = writes.left in omega (arith, a, b))
+
+  -- the bytes come from addresses of the memory
+  pub send-fits : length mem ≤ 32768 → pending_arg w 1 + w.done < 2 ^ 64
+  send-fits few =
+      let page = (reach-page Load mem (pending_arg w 1) w.done sized (let a = whole.0 in let b = writes.left in omega (arith, a, b))).0 in
+      omega (arith, page, few)
+
+  module _ (left : ℕ) (rest : left ≡ low (pending_arg w 2) - w.done) where
+    pub send-readable : left ≤ length (reach Load mem (pending_arg w 1 + w.done))
+    send-readable = rw further-on (let a = whole.0 in let b = writes.left in let l = length-drop w.done (reach Load mem (pending_arg w 1)) in omega (arith, a, b, l, rest))
+
+    -- they are those that were not put yet
+    read-rest : read_at (held_at k.spaces i) (pending_arg w 1 + w.done) left ≡ unsent k i w
+    read-rest =
+        let sum : w.done + left ≡ low (pending_arg w 2) = let b = writes.left in omega (arith, b, rest) in
+        ap (take left) further-on
+        ∙ sym (drop-take w.done left (reach Load mem (pending_arg w 1)))
+        ∙ ap (λ (n : ℕ). drop w.done (take n (reach Load mem (pending_arg w 1)))) sum
+        ∙ sym (ap (drop w.done) whole.1)
+
+    module _ (q : ℕ) (new : Spaces) (bytes : new ≡ with_pipe k.spaces q (Some (filled (bytes_in k.spaces q) (read_at (held_at k.spaces i) (pending_arg w 1 + w.done) left)))) where
+      made-here : record k { spaces = new } ≡ sent k i q w
+      made-here =
+          ap (λ (s : Spaces). record k { spaces = s }) bytes
+          ∙ ap (λ (bs : List ℕ). record k { spaces = with_pipe k.spaces q (Some (filled (bytes_in k.spaces q) bs)) }) read-rest
+
+      pub send-made : record k { spaces = new } ≡ sent now i q w
+      send-made = made-here ∙ ap (λ (x : Kernel). sent x i q w) same
+
+      pub send-keeps : IsKernel k → has_pipe now.spaces q ≡ true → IsKernel (record k { spaces = new })
+      send-keeps is stands =
+          let there : has_pipe k.spaces q ≡ true = ap (λ (x : Kernel). has_pipe x.spaces q) same ∙ stands in
+          rw made-here (piped-kernel k is q (bytes_in k.spaces q) (filled (bytes_in k.spaces q) (unsent k i w)) (some-pipe (slot k.spaces.pipes q) there))
+
+    pub send-count : (q n : ℕ) → n ≡ length (fitting (bytes_in k.spaces q) (read_at (held_at k.spaces i) (pending_arg w 1 + w.done) left)) → n ≡ sent_count now i q w
+    send-count q n count =
+        count
+        ∙ ap (λ (bs : List ℕ). length (fitting (bytes_in k.spaces q) bs)) read-rest
+        ∙ ap (λ (x : Kernel). sent_count x i q w) same

@@ -1,0 +1,31 @@
+use Rattle.calls.proofs.Draws.{reads-ended, reads-stands, reads-taken, reads-waiting, start-fresh}
+use Rattle.calls.proofs.Opens.{waits-reading}
+use Rattle.std.proofs.Common.{sym, ◌∙◌}
+use Rattle.calls.proofs.read.read_pipe.Goals as goal
+
+pub has_bytes-requires : goal.has_bytes-requires
+has_bytes-requires g c = reads-stands c.args.kernel.now c.args.at c.args.pending c.args.pipe c.active-sound.ensures.sound c.requires.pipe
+
+pub draw-count-requires-clause-pipe : goal.draw-count-requires-clause-pipe
+draw-count-requires-clause-pipe g c = reads-stands c.args.kernel.now c.args.at c.args.pending c.args.pipe c.active-sound.ensures.sound c.requires.pipe
+
+pub block-requires-clause-awaits : goal.block-requires-clause-awaits
+block-requires-clause-awaits g c = waits-reading _ _ c.args.pending c.requires.number (start-fresh _ _ c.args.pending c.requires.fresh)
+
+pub returns-then-has_bytes : goal.returns-then-has_bytes
+returns-then-has_bytes g c =
+    let k = c.args.kernel.now in
+    let e = c.draw-count.ensures in
+    record { gives = rw c.answer.ensures (reads-taken k c.args.at c.args.pending c.args.pipe c.active-sound.ensures.sound c.requires.pipe c.requires.running c.requires.number (sym c.has_bytes.ensures ∙ c.if-has_bytes.true) c.requires.fresh c.draw-count.new.self c.draw-count.result e.drawn e.count) }
+
+pub returns-then-has_writer : goal.returns-then-has_writer
+returns-then-has_writer g c =
+    let k = c.args.kernel.now in
+    let s = c.active-sound.ensures in
+    record { gives = rw c.block.ensures (reads-waiting k c.args.at c.args.pending c.args.pipe s.sound c.requires.pipe c.requires.running c.requires.number s.zero s.aligned (sym c.has_bytes.ensures ∙ c.if-has_bytes.false) (sym c.has_writer.ensures ∙ c.if-has_writer.true) c.requires.can c.requires.fresh) }
+
+pub returns-else-has_writer : goal.returns-else-has_writer
+returns-else-has_writer g c =
+    let k = c.args.kernel.now in
+    let s = c.active-sound.ensures in
+    record { gives = rw c.answer-else-has_writer.ensures (reads-ended k c.args.at c.args.pending c.args.pipe s.sound c.requires.pipe c.requires.running c.requires.number (sym c.has_bytes.ensures ∙ c.if-has_bytes.false) (sym c.has_writer.ensures ∙ c.if-has_writer.false)) }

@@ -1,0 +1,163 @@
+-- One pipe trades frames, or is read or written: what is left of the fields, and what they show then.
+use Rattle.frames.specs.declared.Frames.{Frames}
+use Rattle.frames.specs.Free.{IsFreeList, SameBut, among, free_count, free_of}
+use Rattle.frames.specs.HolderLemmas.{Trades-none, among-none, count_of-append, count_of-first, holders-free, one_if-le}
+use Rattle.frames.specs.Holders.{Trades, count_of, one_if}
+use Rattle.pipe.specs.Pipe.{Pipe, Stays, bytes_of}
+use Rattle.ram.specs.Memory.{frame_of}
+use Rattle.spaces.proofs.Pipes.{one-pipe, pipe-free, pipe-held, pipe-slot, pipes-placed, set-pipe, two-pipes}
+use Rattle.spaces.proofs.Places.{free-taken, taken-fits}
+use Rattle.spaces.proofs.Traded.{map-same, same-shown}
+use Rattle.spaces.specs.declared.Spaces.TheInside.{Inside}
+use Rattle.spaces.specs.Ends.{IsOpen}
+use Rattle.spaces.specs.Spaces.{bytes_in, has_pipe, taken_frames, with_pipe}
+use Rattle.spaces.specs.SpacesLemmas.{some-pipe, taken-piped, within}
+use Rattle.spaces.specs.View.{IsActive, IsSpaces, frames_at, pipe_frames, pipe_shown, shown, spaces_of}
+use Rattle.std.proofs.Common.{◌≡◌, ◌≢◌, ℕ, zero, suc, ◌+◌, ◌<◌, ◌≤◌, inl, inr, List, [], ◌∷◌, ◌++◌, false, length, map, slice_set, subst, true, Option, Some, None, refl, sym, ap, ◌∙◌, arith, length-set, get_or-set_other, get_or-set_same, ltb}
+use Rattle.std.proofs.lemmas.Bool.{cases_eq, cases_lt, le-ltb}
+use Rattle.std.proofs.lemmas.List.{length-map}
+use Rattle.std.specs.List.{flat_map}
+use Rattle.std.specs.Prelude.{Bool, not, unwrap_or, ◌||◌}
+use Rattle.unixmodel.specs.Files.{slot}
+use Rattle.unixmodel.specs.Translation as translation
+use Rattle.vm.specs.declared.Space.{Space}
+use Rattle.vm.specs.Shares as shares
+use Rattle.vm.specs.Shares.{AllUntouched, IsMachine}
+use Rattle.vm.specs.SharesLemmas.{Trades-give, Trades-take, Trades-write, rest-held, rest-machine, rest-untouched}
+
+-- ---- the frame of a pipe
+
+-- it isn't free, and one of the memory's
+pub pipe-frame : {T : Type 0} (held : T → translation.Held) (i : Inside T) (q : ℕ) (p : Pipe) → IsSpaces held i → slot i.pipes.items q ≡ Some p → (p.frame < length i.ram) × (among p.frame (free_of i.ram i.frames) ≡ false)
+pipe-frame held i q p is e =
+    let some = rest-held i.ram i.frames i.places.items (pipe_frames i.pipes.items) p.frame is.machine (pipe-held i.pipes.items q p e) in
+    let sum = holders-free i.ram i.frames is.machine.free p.frame in
+    let inside : p.frame < length i.ram = elim (cases_lt p.frame (length i.ram)) [ inl low ↦ low | inr high ↦ absurd (omega (arith, some, sum, ap one_if (le-ltb p.frame (length i.ram) high))) ] in
+    (inside, among-none p.frame (free_of i.ram i.frames) (omega (arith, some, sum, one_if-le (ltb p.frame (length i.ram)))))
+
+-- the other pipes keep their bytes
+pipe-others : (m k : List (List ℕ)) (s n : Frames) (places : List (Option Space)) (ps : List (Option Pipe)) (q : ℕ) (new : List ℕ) → IsMachine m s places (pipe_frames ps) → Trades m k s n (frames_at (slot ps q)) new
+    → (r : ℕ) (p : Pipe) → r ≢ q → slot ps r ≡ Some p → frame_of k p.frame ≡ frame_of m p.frame
+pipe-others m k s n places ps q new is t r p ne e =
+    let here : count_of p.frame (frames_at (slot ps r)) ≡ 1 + count_of p.frame [] = rw e (count_of-first p.frame p.frame [] refl) in
+    t.others p.frame
+    (omega (arith, here, two-pipes p.frame ps q r ne, is.shared.each p.frame, count_of-append p.frame (flat_map (shares.held_at m) places) (pipe_frames ps)))
+
+-- ---- the spaces stay
+
+runs-kept : (held : translation.Held) (m k : List (List ℕ)) (root : ℕ) (places : List (Option Space)) (a : Option ℕ) → AllUntouched m k places → IsActive held m root places a → IsActive held k root places a
+runs-kept held m k root places None all run = tt
+runs-kept held m k root places (Some at) all run = record {
+  space = run.space;
+  stands = run.stands;
+  same = run.same;
+  coherent = rw (all at run.space run.stands).mapping run.coherent;
+}
+
+shown-all : (m k : List (List ℕ)) (places : List (Option Space)) → AllUntouched m k places → map (shown k) places ≡ map (shown m) places
+shown-all m k places all = map-same (shown m) (shown k) places (λ j. same-shown m k (slot places j) (λ x e. all j x e))
+
+-- ---- all of it
+
+both-set : (ps : List (Option Pipe)) (q : ℕ) (y : Option Pipe) → q < length ps → ((r : ℕ) (p : Pipe) → slot ps r ≡ Some p → IsOpen p) → ((p : Pipe) → y ≡ Some p → IsOpen p) → (r : ℕ) (p : Pipe) → slot (slice_set ps q y) r ≡ Some p → IsOpen p
+both-set ps q y hi both here r p at = elim (cases_eq r q) [
+  | inl same ↦ here p (sym (get_or-set_same ps q y None hi) ∙ ap (slot (slice_set ps q y)) (sym same) ∙ at)
+  | inr other ↦ both r p (sym (get_or-set_other ps q r y None other) ∙ at)
+]
+
+-- the fields after a change of one pipe, which shows this then
+pub record Piped {T : Type 0} (held : T → translation.Held) (i j : Inside T) (q : ℕ) (y : Option (List ℕ)) : Type 0 where
+  pub sound : IsSpaces held j
+  pub view : spaces_of j ≡ with_pipe (spaces_of i) q y
+  pub fits : taken_frames (with_pipe (spaces_of i) q y) ≤ length i.ram
+
+pub piped-as : {T : Type 0} (held : T → translation.Held) (i j : Inside T) (q : ℕ) (y z : Option (List ℕ)) → Piped held i j q y → y ≡ z → Piped held i j q z
+piped-as held i j q y z p e = subst (λ (o : Option (List ℕ)). Piped held i j q o) e p
+
+pub piped : {T : Type 0} (held : T → translation.Held) (i : Inside T) (q : ℕ) (y : Option Pipe) (k : List (List ℕ)) (n : Frames) (qs : List (Option Pipe))
+    → IsSpaces held i → q < length i.pipes.items → qs ≡ slice_set i.pipes.items q y → IsFreeList k n
+    → Trades i.ram k i.frames n (frames_at (slot i.pipes.items q)) (frames_at y) → ((p : Pipe) → y ≡ Some p → IsOpen p)
+    → Piped held i (record i { ram = k; frames = n; pipes = record { items = qs } }) q (pipe_shown k y)
+piped held i q y k n qs is hi e free trades here =
+    let ps = i.pipes.items in
+    let all = rest-untouched i.ram k i.frames n i.places.items (pipe_frames ps) (frames_at (slot ps q)) (frames_at y) is.machine (λ f. one-pipe f ps q) trades in
+    let sound : IsSpaces held (record i { ram = k; frames = n; pipes = record { items = qs } }) = record {
+      machine = rw e (rest-machine i.ram k i.frames n i.places.items (pipe_frames ps) (pipe_frames (slice_set ps q y)) (frames_at (slot ps q)) (frames_at y) is.machine free (λ f. one-pipe f ps q) trades (λ f. set-pipe f ps q y hi));
+      all = is.all;
+      active = runs-kept (held i.translator) i.ram k i.hart.root.0 i.places.items i.active all is.active;
+      inside = λ x h. let old = is.inside x h in let count = trades.count in omega (arith, old, count);
+      pipes = ap length e ∙ length-set ps q y ∙ is.pipes;
+      both = rw e (both-set ps q y hi is.both here);
+    } in
+    let view : spaces_of (record i { ram = k; frames = n; pipes = record { items = qs } }) ≡ with_pipe (spaces_of i) q (pipe_shown k y) =
+    rw (e, shown-all i.ram k i.places.items all, pipes-placed i.ram k ps q y (pipe-others i.ram k i.frames n i.places.items ps q (frames_at y) is.machine trades), trades.count) refl in
+    record {
+      sound = sound;
+      view = view;
+      fits = omega (arith, ap taken_frames view, taken-fits held (record i { ram = k; frames = n; pipes = record { items = qs } }) sound, trades.count);
+    }
+
+-- a pipe comes
+pub piped-new : {T : Type 0} (held : T → translation.Held) (i : Inside T) (q : ℕ) (p : Pipe) (f : ℕ) (n : Frames) (qs : List (Option Pipe))
+    → IsSpaces held i → q < length i.pipes.items → slot i.pipes.items q ≡ None → qs ≡ slice_set i.pipes.items q (Some p)
+    → IsFreeList i.ram n → free_of i.ram i.frames ≡ f ∷ free_of i.ram n → p.frame ≡ f → IsOpen p → bytes_of i.ram p ≡ []
+    → Piped held i (record i { frames = n; pipes = record { items = qs } }) q (Some [])
+piped-new held i q p f n qs is hi none e free taken frame opens empty =
+    let trades : Trades i.ram i.ram i.frames n (frames_at (slot i.pipes.items q)) (frames_at (Some p)) = rw (none, frame) (Trades-take i.ram i.frames n f is.machine.free free taken) in
+    piped-as held i (record i { frames = n; pipes = record { items = qs } }) q (pipe_shown i.ram (Some p)) (Some [])
+    (piped held i q (Some p) i.ram n qs is hi e free trades (λ z at. (let same : p ≡ z = cc in subst (λ (z : Pipe). IsOpen z) same opens))) (ap Some empty)
+
+-- a pipe goes
+pub piped-gone : {T : Type 0} (held : T → translation.Held) (i : Inside T) (q : ℕ) (p : Pipe) (k : List (List ℕ)) (n : Frames) (qs : List (Option Pipe))
+    → IsSpaces held i → slot i.pipes.items q ≡ Some p → qs ≡ slice_set i.pipes.items q None
+    → IsFreeList k n → free_of k n ≡ p.frame ∷ free_of i.ram i.frames → SameBut (p.frame ∷ []) i.ram k
+    → Piped held i (record i { ram = k; frames = n; pipes = record { items = qs } }) q None
+piped-gone held i q p k n qs is at e free given same =
+    let trades : Trades i.ram k i.frames n (frames_at (slot i.pipes.items q)) [] = rw at (Trades-give i.ram k i.frames n p.frame is.machine.free free given same) in
+    piped held i q None k n qs is (within i.pipes.items q p at) e free trades (λ z bad. absurd (let no : None ≡ Some z = bad in cc))
+
+-- a pipe changes, and keeps its frame and its ends
+open-stays : (p z : Pipe) → Stays p z → IsOpen p → IsOpen z
+open-stays p z stays opens = record { read = stays.read_open ∙ opens.read; write = stays.write_open ∙ opens.write }
+
+pub piped-written : {T : Type 0} (held : T → translation.Held) (i : Inside T) (q : ℕ) (p z : Pipe) (k : List (List ℕ)) (w : List ℕ) (qs : List (Option Pipe))
+    → IsSpaces held i → slot i.pipes.items q ≡ Some p → qs ≡ slice_set i.pipes.items q (Some z) → Stays p z → k ≡ slice_set i.ram p.frame w
+    → Piped held i (record i { ram = k; pipes = record { items = qs } }) q (Some (bytes_of k z))
+piped-written held i q p z k w qs is at e stays wrote =
+    let some = rest-held i.ram i.frames i.places.items (pipe_frames i.pipes.items) p.frame is.machine (pipe-held i.pipes.items q p at) in
+    let both = Trades-write i.ram k i.frames p.frame w is.machine.free some wrote in
+    let trades : Trades i.ram k i.frames i.frames (frames_at (slot i.pipes.items q)) (frames_at (Some z)) = rw (at, stays.frame) both.0 in
+    piped held i q (Some z) k i.frames qs is (within i.pipes.items q p at) e both.1 trades (λ x here. (let same : z ≡ x = cc in subst (λ (x : Pipe). IsOpen x) same (open-stays p z stays (is.both q p at))))
+
+pub piped-read : {T : Type 0} (held : T → translation.Held) (i : Inside T) (q : ℕ) (p z : Pipe) (qs : List (Option Pipe))
+    → IsSpaces held i → slot i.pipes.items q ≡ Some p → qs ≡ slice_set i.pipes.items q (Some z) → Stays p z
+    → Piped held i (record i { pipes = record { items = qs } }) q (Some (bytes_of i.ram z))
+piped-read held i q p z qs is at e stays =
+    let trades : Trades i.ram i.ram i.frames i.frames (frames_at (slot i.pipes.items q)) (frames_at (Some z)) = rw (at, stays.frame) (Trades-none i.ram i.frames (p.frame ∷ [])) in
+    piped held i q (Some z) i.ram i.frames qs is (within i.pipes.items q p at) e is.machine.free trades (λ x here. (let same : z ≡ x = cc in subst (λ (x : Pipe). IsOpen x) same (open-stays p z stays (is.both q p at))))
+
+-- ---- what they show
+
+pub pipe-is : {T : Type 0} (i : Inside T) (q : ℕ) (p : Pipe) → slot i.pipes.items q ≡ Some p → bytes_in (spaces_of i) q ≡ bytes_of i.ram p
+pipe-is i q p e = ap (λ o. unwrap_or o []) (pipe-slot i.ram i.pipes.items q ∙ ap (pipe_shown i.ram) e)
+
+pub pipes-count : {T : Type 0} (i : Inside T) → length (spaces_of i).pipes ≡ length i.pipes.items
+pipes-count i = length-map i.pipes.items (pipe_shown i.ram)
+
+-- no frame is left for a pipe
+pub over-piped : {T : Type 0} (held : T → translation.Held) (i : Inside T) (q : ℕ) → IsSpaces held i → q < length i.pipes.items → slot (spaces_of i).pipes q ≡ None → free_of i.ram i.frames ≡ [] → length i.ram < taken_frames (with_pipe (spaces_of i) q (Some []))
+over-piped held i q is hi none full =
+    let more = taken-piped (spaces_of i) q [] (rw (pipes-count i) hi) none in
+    omega (arith, free-taken held i is, ap length full, more)
+
+-- a place that has a pipe is one of those there are, and one that has none is free
+pub pipe-within : {T : Type 0} (i : Inside T) (q : ℕ) → has_pipe (spaces_of i) q ≡ true → q < length i.pipes.items
+pipe-within i q has = rw (← pipes-count i) (within (spaces_of i).pipes q (bytes_in (spaces_of i) q) (some-pipe (slot (spaces_of i).pipes q) has))
+
+pub pipe-none : {T : Type 0} (i : Inside T) (q : ℕ) → slot (spaces_of i).pipes q ≡ None → slot i.pipes.items q ≡ None
+pipe-none i q none = pipe-free i.ram (slot i.pipes.items q) (sym (pipe-slot i.ram i.pipes.items q) ∙ none)
+
+-- an end that is open is no reason to go on
+pub or-open : (b w : Bool) → w ≡ true → (b || not w) ≡ b
+or-open true w open_end = refl
+or-open false w open_end = rw open_end refl
