@@ -111,7 +111,7 @@ places_fit (o ∷ r ∷ os) a b p q ha hb h =
 
 -- ---- the files of an image that denotes some
 
-below-slot : (files : Files) (n : ℕ) → IsSome (slot files n) → n < length files
+pub below-slot : (files : Files) (n : ℕ) → IsSome (slot files n) → n < length files
 below-slot files n h = elim (cases_lt n (length files)) [
   | inl l ↦ l
   | inr r ↦ absurd (false≢true (sym (ap is_some (get_or_past files n None r)) ∙ h))
@@ -138,7 +138,7 @@ parent_below files d h = go (d == 1) where
   go false = head_below (length files) (filter (names_number d) (all_entries files))
       (All-filter (names_number d) (λ (e : ℕ × Entry). e.0 < length files) (all_entries files) (entries_below files)) (omega arith)
 
-node_fits : (files : Files) (n : ℕ) (node : Node) → 1 < length files → length files ≤ 8192 → n < length files → KeepsNode files n (Some node) → PlacesFit node
+pub node_fits : (files : Files) (n : ℕ) (node : Node) → 1 < length files → length files ≤ 8192 → n < length files → KeepsNode files n (Some node) → PlacesFit node
 node_fits files n (File links bytes) a b l k = tt
 node_fits files n (Device links major minor) a b l k = tt
 node_fits files n (Directory links places) a b l k =

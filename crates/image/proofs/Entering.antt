@@ -1,6 +1,6 @@
 -- The places of a directory, one after the other.
-use Rattle.std.proofs.Common.{◌≡◌, ◌≢◌, ℕ, ◌+◌, ◌-◌, ◌*◌, ◌/◌, ◌<◌, ◌≤◌, Bool, List, [], ◌∷◌, ◌++◌, None, Option, Some, length, get_or, take, drop, ap, sym, refl, ◌∙◌, arith, subst, cond, inl, inr, true, false}
-use Rattle.std.specs.Prelude.{All, IsSome, is_some, ⊤, ◌==◌}
+use Rattle.std.proofs.Common.{◌≡◌, ◌≢◌, ℕ, ◌+◌, ◌-◌, ◌*◌, ◌/◌, ◌<◌, ◌≤◌, List, [], ◌∷◌, ◌++◌, None, Option, Some, length, get_or, take, drop, ap, sym, refl, ◌∙◌, arith, subst, true, false}
+use Rattle.std.specs.Prelude.{All, IsSome, is_some, ◌==◌}
 use Rattle.std.specs.List.{list_all}
 use Rattle.std.specs.Option.{option_to_list}
 use Rattle.std.proofs.lemmas.Bool.{cond-false, cond-true, false≢true}
@@ -10,9 +10,9 @@ use Rattle.unixmodel.specs.Files.{Entry, slot, taken}
 use Rattle.unixmodel.specs.Image.{inodes_in, kind_in}
 use Rattle.unixmodel.specs.Numbers.{number_at}
 use Rattle.image.specs.Entries.{Holds, entries_in, entries_to}
-use Rattle.image.specs.Places.{before_zeros, file_in, files_in, place_of_bytes, places_in, without_zeros}
+use Rattle.image.specs.Places.{before_zeros, files_in, place_of_bytes, places_in, without_zeros}
 use Rattle.image.proofs.Lists.{All-left, All-right}
-use Rattle.image.proofs.Nodes.{file_in-free, file_in-used, file_in-zero, length-files_in, slot-files_in, slot-past}
+use Rattle.image.proofs.Nodes.{file_in-free, file_in-used, file_in-zero, slot-files_in, slot-past}
 use Rattle.image.proofs.Spelling.{before_zeros-plain, length-places_in, slot-places_in}
 
 -- ---- the zeros at the end of a name

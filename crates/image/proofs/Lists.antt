@@ -1,8 +1,8 @@
 -- What holds of each item of lists that are made of lists.
-use Rattle.std.proofs.Common.{◌≡◌, ◌+◌, List, [], ◌∷◌, ◌++◌, length, sym, refl, ◌∙◌, arith, subst, cond, Bool, true, false}
+use Rattle.std.proofs.Common.{◌≡◌, ◌+◌, List, [], ◌∷◌, ◌++◌, length, map, sym, refl, ◌∙◌, arith, subst, cond, Bool, true, false}
 use Rattle.std.specs.Prelude.{All, filter, flat_map}
 use Rattle.std.proofs.lemmas.Bool.{false≢true}
-use Rattle.std.proofs.lemmas.List.{get_or_append_left, get_or-append-add, length-append}
+use Rattle.std.proofs.lemmas.List.{get_or_append_left, get_or-append-add, get_or-map, length-append, length-map}
 use Rattle.std.proofs.lemmas.List.Elements.{All-append, All-cons, All-filter, All-head, All-nil, All-tail, filter_passes}
 
 module _ {X : Type 0} (P : X → Type 0) where
@@ -20,6 +20,9 @@ module _ {X : Type 0} (P : X → Type 0) where
     pub All-from_flat_map : (is : List A) → All P (flat_map f is) → All (λ a. All P (f a)) is
     All-from_flat_map [] h = All-nil (λ a. All P (f a))
     All-from_flat_map (a ∷ is) h = All-cons (λ a. All P (f a)) a is (All-left (f a) (flat_map f is) h) (All-from_flat_map is (All-right (f a) (flat_map f is) h))
+
+  pub All-from_map : {A : Type 0} (f : A → X) (is : List A) → All P (map f is) → All (λ a. P (f a)) is
+  All-from_map f is h k d l = subst P (get_or-map f is k d (f d) l) (h k (f d) (omega (arith, length-map is f)))
 
   -- of the items that pass a test
   module _ (p : X → Bool) where

@@ -1,12 +1,12 @@
 -- The names of a directory, and the rules of its entries.
-use Rattle.std.proofs.Common.{◌≡◌, ◌≢◌, ℕ, ◌+◌, ◌*◌, ◌<◌, ◌≤◌, List, None, Option, Some, length, get_or, drop, ap, sym, ◌∙◌, arith, subst}
+use Rattle.std.proofs.Common.{◌≡◌, ◌≢◌, ℕ, ◌<◌, ◌≤◌, List, Some, length, ap, ◌∙◌, arith, subst}
 use Rattle.std.specs.Prelude.{All, AllPairs}
-use Rattle.unixmodel.specs.Files.{Entry, Node, slot, taken}
+use Rattle.unixmodel.specs.Files.{slot}
 use Rattle.unixmodel.specs.Files.Node.{Directory}
-use Rattle.unixmodel.specs.Image.{contents_in, inodes_in, kind_in, length_in, links_in}
+use Rattle.unixmodel.specs.Image.{contents_in, inodes_in, kind_in, links_in}
 use Rattle.image.specs.Entries.{AreOther, IsGood, entries_in}
 use Rattle.image.specs.Faults.{HasBlocks}
-use Rattle.image.specs.Places.{EntriesAt, FitsEntries, HasEntries, file_in, files_in, places_in}
+use Rattle.image.specs.Places.{EntriesAt, FitsEntries, HasEntries, files_in, places_in}
 use Rattle.image.proofs.Denoting.{contents-long}
 use Rattle.image.proofs.Nodes.{file_in-used, node_in-directory, slot-files_in}
 

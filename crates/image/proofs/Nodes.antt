@@ -56,7 +56,7 @@ module _ (image : List ℕ) where
 -- ---- contents
 
 module _ (image : List ℕ) where
-  length-block : (b : ℕ) → 1024 * b + 1024 ≤ length image → length (block_at image b) ≡ 1024
+  pub length-block : (b : ℕ) → 1024 * b + 1024 ≤ length image → length (block_at image b) ≡ 1024
   length-block b h =
       let e : 1024 * b + 1024 - 1024 * b ≡ 1024 = omega arith in
       ap (λ m. length (take m (drop (1024 * b) image))) e ∙ length-take-le 1024 (drop (1024 * b) image) (omega (arith, length-drop (1024 * b) image))

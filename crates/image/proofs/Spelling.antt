@@ -121,7 +121,7 @@ chunk-fits bytes k fits i = elim (cases_lt i 16) [
   | inr r ↦ let e : get_or (take 16 (drop (16 * k) bytes)) i 0 ≡ 0 = get_or_past (take 16 (drop (16 * k) bytes)) i 0 (omega (arith, length-take 16 (drop (16 * k) bytes))) in omega arith
 ]
 
-take_next : (n m : ℕ) (xs : List ℕ) → take n xs ++ take m (drop n xs) ≡ take (n + m) xs
+pub take_next : (n m : ℕ) (xs : List ℕ) → take n xs ++ take m (drop n xs) ≡ take (n + m) xs
 take_next n m xs =
     let e : n ≤ n + m = omega arith in
     ap (λ r. r ++ take m (drop n xs)) (sym (take-take n (n + m) xs e))
@@ -180,7 +180,7 @@ length-place_bytes (Some e) h =
     let l = length-append e.name (zeros (14 - length e.name)) in
     omega (arith, l, length-replicate {A = ℕ} (14 - length e.name) 0)
 
-length-spelling : (places : List (Option Entry)) → All PlaceFits places → length (flat_map place_bytes places) ≡ 16 * length places
+pub length-spelling : (places : List (Option Entry)) → All PlaceFits places → length (flat_map place_bytes places) ≡ 16 * length places
 length-spelling [] h = refl
 length-spelling (o ∷ os) h =
     omega (arith, length-append (place_bytes o) (flat_map place_bytes os), length-place_bytes o (All-head PlaceFits o os h), length-spelling os (All-tail PlaceFits o os h))

@@ -11,10 +11,10 @@ use Rattle.image.proofs.Marking.{blocks_of-used, named_by-few, named_by-many, ra
 use Rattle.image.proofs.Named.{cond_yes}
 use Rattle.image.proofs.Numbers.{length-numbers_at}
 
-length-direct : (image : List ℕ) (n : ℕ) → length (direct_in image n) ≡ 12
+pub length-direct : (image : List ℕ) (n : ℕ) → length (direct_in image n) ≡ 12
 length-direct image n = length-numbers_at 12 (inode_at n + 12) image
 
-length-index : (image : List ℕ) (n : ℕ) → 12 < count_in image n → length (index_in image n) ≡ 256
+pub length-index : (image : List ℕ) (n : ℕ) → 12 < count_in image n → length (index_in image n) ≡ 256
 unfolding index_in
 length-index image n h =
     ap length (cond_yes 12 (count_in image n) (numbers_at 256 0 (block_at image (indirect_in image n))) [] h)

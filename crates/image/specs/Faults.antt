@@ -19,6 +19,12 @@ pub record HasBlocks (image : List ℕ) : Type 0 where
   pub once : NamesOnce image
   pub bitmap : HasBitmap image
 
+-- the rules of the files of an image whose blocks are sound
+pub record HasFiles (image : List ℕ) : Type 0 where
+  pub entries : HasEntries (files_in image)
+  pub links : HasLinks (files_in image)
+  pub reached : IsReached (files_in image)
+
 -- the fault holds of the image, and those before it don't
 abbrev pub Tells : List ℕ → ImageFault → Type 0
 Tells image Length = HasLength image → ⊥

@@ -1,7 +1,16 @@
+pub mod Added
+pub mod Begins
+pub mod Begun
 pub mod Content
 pub mod Entries
 pub mod Faults
 pub mod Fields
+pub mod Made
+pub mod Making
 pub mod Marks
+pub mod Namings
 pub mod Pieces
 pub mod Places
+pub mod Reach
+pub mod Stored
+pub mod Whole

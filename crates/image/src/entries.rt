@@ -14,7 +14,7 @@ use crate::fields::{kind, number16};
 use layout::Geometry;
 
 // The bytes of a place.
-fn place(bytes: &[u8], k: usize) -> &[u8]
+pub fn place(bytes: &[u8], k: usize) -> &[u8]
     requires { 16 * k + 16 ≤ length bytes.now }
     ensures place { result.now ≡ take 16 (drop (16 * k) bytes.now) }
     ensures long { length result.now ≡ 16 }
@@ -23,7 +23,7 @@ fn place(bytes: &[u8], k: usize) -> &[u8]
 }
 
 // Whether all bytes are 0.
-fn is_zero(bytes: &[u8]) -> bool
+pub fn is_zero(bytes: &[u8]) -> bool
     ensures { result ≡ list_all (λ b. b == 0) bytes.now }
 {
     for byte in bytes {
@@ -35,7 +35,7 @@ fn is_zero(bytes: &[u8]) -> bool
 }
 
 // The bytes before the zeros at the end.
-fn before_zeros(bytes: &[u8]) -> &[u8]
+pub fn before_zeros(bytes: &[u8]) -> &[u8]
     ensures { result.now ≡ without_zeros bytes.now }
 {
     let mut end = bytes.len();
@@ -58,7 +58,7 @@ fn are_of_name(name: &[u8]) -> bool
 }
 
 // Whether the bytes are a name of an entry.
-fn is_good_name(name: &[u8]) -> bool
+pub fn is_good_name(name: &[u8]) -> bool
     ensures { result ≡ is_name name.now }
 {
     name.len() >= 1
@@ -114,7 +114,7 @@ pub fn are_good(image: &[u8], geometry: Geometry, bytes: &[u8]) -> bool
 }
 
 // Whether two lists of bytes are the same.
-fn are_same(one: &[u8], other: &[u8]) -> bool
+pub fn are_same(one: &[u8], other: &[u8]) -> bool
     ensures { result ≡ bytes_eq one.now other.now }
 {
     one == other

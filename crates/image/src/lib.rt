@@ -1,19 +1,27 @@
-//! The check of a disk image: whether its bytes denote files.
+//! Disk images: their making of a manifest, and the check whether their bytes denote files.
 #![tactic(auto)]
 
 mod blocks;
-mod check;
 mod contents;
 mod directories;
 mod entries;
 mod fields;
+mod files;
+mod fronts;
 mod kinds;
+mod links;
 mod load;
+mod maker;
 mod marks;
+mod namings;
+mod reach;
+mod rules;
 mod summary;
+mod tables;
 
 use blockdev::DeviceFault;
-pub use check::{Summary, check_blocks};
+pub use maker::{Entry, MakeFault, Manifest, Thing, make};
+pub use rules::{Summary, check};
 use std::alloc::AllocError;
 use thiserror::Error;
 

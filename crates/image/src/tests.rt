@@ -1,5 +1,7 @@
 //! A small image, and each fault put into it.
 
+mod turned;
+
 use super::*;
 use blockdev::{FlakyDisk, MemDisk};
 use std::test::Fail;
@@ -35,6 +37,60 @@ const SMALL: [Change; 20] = [
     (5139, b'.'),
 ];
 
+// A file without bytes, inode 2, that the root names.
+const FILE: [Change; 5] = [
+    (ROOT + 8, 48),
+    (5152, 2),
+    (5154, b'a'),
+    (ROOT + 64, 2),
+    (ROOT + 70, 1),
+];
+
+// A directory, inode 2, that the root names, with its two first places in block 6.
+const DIRECTORY: [Change; 14] = [
+    (ROOT + 6, 2),
+    (ROOT + 8, 48),
+    (5152, 2),
+    (5154, b'a'),
+    (ROOT + 64, 1),
+    (ROOT + 70, 1),
+    (ROOT + 72, 32),
+    (ROOT + 76, 6),
+    (4096, 0x7f),
+    (6144, 2),
+    (6146, b'.'),
+    (6160, 1),
+    (6162, b'.'),
+    (6163, b'.'),
+];
+
+// Two directories, inodes 2 and 3, that name each other and that nothing else names.
+const ROUND: [Change; 23] = [
+    (ROOT + 64, 1),
+    (ROOT + 70, 2),
+    (ROOT + 72, 48),
+    (ROOT + 76, 6),
+    (6144, 2),
+    (6146, b'.'),
+    (6160, 3),
+    (6162, b'.'),
+    (6163, b'.'),
+    (6176, 3),
+    (6178, b'a'),
+    (ROOT + 128, 1),
+    (ROOT + 134, 2),
+    (ROOT + 136, 48),
+    (ROOT + 140, 7),
+    (7168, 3),
+    (7170, b'.'),
+    (7184, 2),
+    (7186, b'.'),
+    (7187, b'.'),
+    (7200, 2),
+    (7202, b'a'),
+    (4096, 0xff),
+];
+
 fn put(bytes: &mut [u8], changes: &[Change]) {
     for (at, byte) in changes {
         if let Some(place) = bytes.get_mut(*at) {
@@ -43,13 +99,23 @@ fn put(bytes: &mut [u8], changes: &[Change]) {
     }
 }
 
-// Checks the small image with these changes.
-fn check_with(rt: &HostRuntime, changes: &[Change]) -> Result<Result<Summary, ImageFault>, Fail> {
+// Checks the small image with these changes, one list after the other.
+fn check_after(
+    rt: &HostRuntime,
+    first: &[Change],
+    second: &[Change],
+) -> Result<Result<Summary, ImageFault>, Fail> {
     let mut bytes = vec![in rt.alloc(); 0; 32 * 1024]?;
     put(bytes.as_mut_slice(), &SMALL);
-    put(bytes.as_mut_slice(), changes);
+    put(bytes.as_mut_slice(), first);
+    put(bytes.as_mut_slice(), second);
     let mut disk = MemDisk::new(bytes)?;
-    Ok(check_blocks(rt.alloc(), &mut disk))
+    Ok(check(rt.alloc(), &mut disk))
+}
+
+// Checks the small image with these changes.
+fn check_with(rt: &HostRuntime, changes: &[Change]) -> Result<Result<Summary, ImageFault>, Fail> {
+    check_after(rt, &[], changes)
 }
 
 #[test]
@@ -62,20 +128,27 @@ fn tells_what_is_in_use(rt: HostRuntime) -> Result<(), Fail> {
             blocks: 1
         })
     );
-    let file = [
-        (ROOT + 64, 2),
+    let bytes = [
         (ROOT + 72, 1),
         (ROOT + 73, 4),
         (ROOT + 76, 6),
         (ROOT + 80, 7),
         (4096, 0xff),
     ];
-    let two = check_with(&rt, &file)?;
+    let file = check_after(&rt, &FILE, &bytes)?;
     assert_eq!(rt;
-        two,
+        file,
         Ok(Summary {
             inodes: 2,
             blocks: 3
+        })
+    );
+    let directory = check_with(&rt, &DIRECTORY)?;
+    assert_eq!(rt;
+        directory,
+        Ok(Summary {
+            inodes: 2,
+            blocks: 2
         })
     );
     Ok(())
@@ -109,9 +182,44 @@ fn tells_each_fault(rt: HostRuntime) -> Result<(), Fail> {
 }
 
 #[test]
+fn tells_wrong_entries(rt: HostRuntime) -> Result<(), Fail> {
+    // "." and ".." of the root and of a directory, and a name for the root.
+    let places = [(5120, 2), (5136, 2), (6144, 1), (6160, 2), (5152, 1)];
+    for change in places {
+        let told = check_after(&rt, &DIRECTORY, &[change])?;
+        assert_eq!(rt; told, Err(ImageFault::Entry));
+    }
+    let twice = [(ROOT + 8, 64), (5168, 2), (5170, b'b')];
+    let told = check_after(&rt, &DIRECTORY, &twice)?;
+    assert_eq!(rt; told, Err(ImageFault::Entry));
+    Ok(())
+}
+
+#[test]
+fn tells_wrong_links(rt: HostRuntime) -> Result<(), Fail> {
+    // A file's count, and those of the root and of a directory.
+    let raised = check_after(&rt, &FILE, &[(ROOT + 70, 2)])?;
+    assert_eq!(rt; raised, Err(ImageFault::Links));
+    let unnamed = check_after(&rt, &FILE, &[(ROOT + 8, 32), (ROOT + 70, 0)])?;
+    assert_eq!(rt; unnamed, Err(ImageFault::Links));
+    let root = check_after(&rt, &DIRECTORY, &[(ROOT + 6, 1)])?;
+    assert_eq!(rt; root, Err(ImageFault::Links));
+    let directory = check_after(&rt, &DIRECTORY, &[(ROOT + 70, 2)])?;
+    assert_eq!(rt; directory, Err(ImageFault::Links));
+    Ok(())
+}
+
+#[test]
+fn tells_what_is_not_reached(rt: HostRuntime) -> Result<(), Fail> {
+    let told = check_with(&rt, &ROUND)?;
+    assert_eq!(rt; told, Err(ImageFault::Unreached));
+    Ok(())
+}
+
+#[test]
 fn tells_a_short_device(rt: HostRuntime) -> Result<(), Fail> {
     let mut disk = MemDisk::new(vec![in rt.alloc(); 0; 1024]?)?;
-    let told = check_blocks(rt.alloc(), &mut disk);
+    let told = check(rt.alloc(), &mut disk);
     assert_eq!(rt; told, Err(ImageFault::Length));
     Ok(())
 }
@@ -120,7 +228,7 @@ fn tells_a_short_device(rt: HostRuntime) -> Result<(), Fail> {
 fn tells_a_failed_access(rt: HostRuntime) -> Result<(), Fail> {
     let disk = MemDisk::new(vec![in rt.alloc(); 0; 2048]?)?;
     let mut flaky = FlakyDisk::new(disk, 0);
-    let told = check_blocks(rt.alloc(), &mut flaky);
+    let told = check(rt.alloc(), &mut flaky);
     assert_eq!(rt; told, Err(ImageFault::Device));
     assert!(rt; flaky.has_failed());
     Ok(())

@@ -1,7 +1,10 @@
-use Rattle.std.proofs.Common.{◌≡◌, ◌+◌, ◌≤◌, ◌<◌, ◌∙◌, arith}
-use Rattle.unixmodel.specs.Image.{contents_in, kind_in}
-use Rattle.image.specs.Entries.{HasNames}
+use Rattle.std.proofs.Common.{◌≡◌, ◌≢◌, ◌<◌, ◌++◌, sym, ap, ◌∙◌, arith}
+use Rattle.std.proofs.lemmas.List.{append-nil}
+use Rattle.unixmodel.specs.Image.{contents_in, inodes_in, kind_in}
+use Rattle.image.specs.Entries.{HasNames, entries_in}
+use Rattle.image.specs.Namings.{namings_of}
 use Rattle.image.proofs.Bounds.{inode-inside, inodes-most, up_to_more}
+use Rattle.image.proofs.Collecting.{entries_at, entries_other, namings_to, namings_to-all, namings_to-first, namings_to-more}
 use Rattle.image.proofs.directories.test_directories.Goals as goal
 use Rattle.image.proofs.directories.test_directories.Goals.{else-kind-eq1, then-kind-eq1+in_ok-test_directory}
 
@@ -11,14 +14,44 @@ kind-requires-clause-number g c = omega (arith, inodes-most c.requires.geometry)
 pub kind-requires-clause-inside : goal.kind-requires-clause-inside
 kind-requires-clause-inside g c = inode-inside c.requires.geometry c.loop-n.n c.loop-n-test.true
 
+pub loop-n-init : goal.loop-n-init
+loop-n-init g c =
+    let least = c.requires.geometry.super.inodes_least in
+    record {
+      named = λ m low high. absurd (omega arith);
+      collected = c.requires.fresh ∙ sym (namings_to-first c.args.image.now (omega arith));
+    }
+
 pub loop-n-preserved : goal.loop-n-preserved
 loop-n-preserved g c =
     let image = c.args.image.now in
-    let here : kind_in image c.loop-n.n ≡ 1 → HasNames image (contents_in image c.loop-n.n) = elim c.if-kind-eq1.branch [
+    let n = c.loop-n.n in
+    let inv = c.loop-n.invariant in
+    let high : n < inodes_in image = omega (arith, c.requires.geometry.inodes, c.loop-n-test.true) in
+    let here : kind_in image n ≡ 1 → HasNames image (contents_in image n) = elim c.if-kind-eq1.branch [
       | then-kind-eq1+in_ok-test_directory w ↦ λ e. w.in_ok-test_directory.ensures.named
       | else-kind-eq1 w ↦ λ e. absurd (w.if-kind-eq1.false (c.kind.ensures ∙ e))
     ] in
-    up_to_more (λ m. kind_in image m ≡ 1 → HasNames image (contents_in image m)) c.loop-n.n c.loop-n.invariant here
+    record {
+      named = up_to_more (λ m. kind_in image m ≡ 1 → HasNames image (contents_in image m)) n inv.named here;
+      collected = elim c.if-kind-eq1.branch [
+        | then-kind-eq1+in_ok-test_directory w ↦
+            let directory : kind_in image n ≡ 1 = sym c.kind.ensures ∙ w.if-kind-eq1.true in
+            ap (λ v. v.items) w.namings-is ∙ w.in_ok-test_directory.ensures.namings ∙ ap (λ r. r ++ namings_of n (entries_in (contents_in image n))) inv.collected
+            ∙ ap (λ es. namings_to image n ++ namings_of n es) (sym (entries_at image n (omega arith) high directory)) ∙ sym (namings_to-more image n)
+        | else-kind-eq1 w ↦
+            let other : kind_in image n ≢ 1 = λ e. w.if-kind-eq1.false (c.kind.ensures ∙ e) in
+            ap (λ v. v.items) w.namings-is ∙ inv.collected ∙ sym (append-nil (namings_to image n))
+            ∙ ap (λ es. namings_to image n ++ namings_of n es) (sym (entries_other image c.requires.blocks n other)) ∙ sym (namings_to-more image n)
+      ];
+    }
 
 pub returns-clause-named : goal.returns-clause-named
-returns-clause-named g c = λ n low high directory. c.loop-n.invariant n low (omega (arith, c.requires.geometry.inodes, c.loop-n-test.false)) directory
+returns-clause-named g c = λ n low high directory. c.loop-n.invariant.named n low (omega (arith, c.requires.geometry.inodes, c.loop-n-test.false)) directory
+
+pub returns-clause-namings : goal.returns-clause-namings
+returns-clause-namings g c =
+    let image = c.args.image.now in
+    let least = c.requires.geometry.super.inodes_least in
+    let end : c.loop-n.n ≡ inodes_in image = omega (arith, c.requires.geometry.inodes, c.loop-n.auto.n-end (omega (arith, c.requires.geometry.inodes)), c.loop-n-test.false) in
+    c.loop-n.invariant.collected ∙ ap (namings_to image) end ∙ namings_to-all image

@@ -1,7 +1,11 @@
 use Rattle.std.proofs.Common.{ℕ, ◌≡◌, ◌<◌, ◌≤◌}
 use Rattle.unixmodel.specs.Image.{contents_in, kind_in}
 use Rattle.image.specs.Entries.{HasNames}
+use Rattle.image.proofs.Collecting.{namings_to}
 use Rattle.image.proofs.directories.test_directories.Given as goal
 
 abbrev pub invariant-loop-n : goal.invariant-loop-n
-invariant-loop-n g l = (m : ℕ) → 1 ≤ m → m < l.n → kind_in l.image m ≡ 1 → HasNames l.image (contents_in l.image m)
+invariant-loop-n g l = record {
+  named : (m : ℕ) → 1 ≤ m → m < l.n → kind_in l.image m ≡ 1 → HasNames l.image (contents_in l.image m);
+  collected : l.namings.items ≡ namings_to l.image l.n;
+}

@@ -1,7 +1,7 @@
-use Rattle.std.proofs.Common.{◌≡◌, ◌≤◌, ◌<◌, ◌*◌, ◌/◌, length, take, drop, sym, ap, subst, ◌∙◌, arith}
+use Rattle.std.proofs.Common.{◌*◌, ◌/◌, length, take, drop, sym, subst, ◌∙◌, arith}
 use Rattle.std.specs.Prelude.{AllPairs}
 use Rattle.std.proofs.lemmas.Bool.{OnFalse_at, OnTrue_at}
-use Rattle.image.specs.Entries.{AreOther, entries_in, entries_to}
+use Rattle.image.specs.Entries.{AreOther, entries_to}
 use Rattle.image.specs.Places.{place_of_bytes}
 use Rattle.image.proofs.Distinct.{entries_cut, pairs_front, pairs_more, pairs_none}
 use Rattle.image.proofs.Entering.{entries_all, entries_more, entries_none}

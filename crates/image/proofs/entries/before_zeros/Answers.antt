@@ -1,4 +1,4 @@
-use Rattle.std.proofs.Common.{◌≡◌, ◌≤◌, ◌<◌, ◌-◌, length, take, sym, ap, ◌∙◌, arith}
+use Rattle.std.proofs.Common.{◌≡◌, take, sym, ap, ◌∙◌, arith}
 use Rattle.image.specs.Places.{without_zeros}
 use Rattle.image.proofs.Entering.{trimmed_all, trimmed_more}
 use Rattle.image.proofs.entries.before_zeros.Goals as goal

@@ -1,4 +1,4 @@
-use Rattle.std.proofs.Common.{ℕ, ◌≡◌, ◌≤◌, length, take}
+use Rattle.std.proofs.Common.{◌≡◌, ◌≤◌, length, take}
 use Rattle.image.specs.Places.{without_zeros}
 use Rattle.image.proofs.entries.before_zeros.Given as goal
 

@@ -1,0 +1,13 @@
+use Rattle.std.proofs.Common.{◌+◌, Some, set, ap, ◌∙◌}
+use Rattle.layout.specs.Image.{bytes_of, free_blocks, inode_at, nodes_of}
+use Rattle.inode.specs.Writing.{node_linked}
+use Rattle.image.proofs.AddedNodes.{Stores-linked}
+use Rattle.image.proofs.maker.store.add_link.Goals as goal
+
+pub returns-in-Ok-set_links-clause-put : goal.returns-in-Ok-set_links-clause-put
+returns-in-Ok-set_links-clause-put g c =
+    Stores-linked c.args.geometry c.args.disk.now.blocks c.set_links.new.disk.blocks c.args.number (c.in-Ok.before.links + 1) c.in-Ok-set_links.ensures.sound
+    (c.in-Ok-set_links.ensures.nodes
+    ∙ ap (λ b. set (nodes_of b c.args.geometry.inodes) c.args.number (Some (node_linked (inode_at b c.args.number) (c.in-Ok.before.links + 1) (bytes_of b c.args.number)))) c.in-Ok.ensures.same)
+    (c.in-Ok-set_links.ensures.free ∙ ap (free_blocks c.args.geometry) c.in-Ok.ensures.same)
+    (ap (λ k. k + 1) c.in-Ok.ensures.links)

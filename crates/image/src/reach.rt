@@ -1,0 +1,76 @@
+//! Whether all inodes in use are reached from the root.
+
+ghost use Rattle.std.specs.Prelude.{◌≡◌, ◌≢◌, ℕ, ◌+◌, ◌*◌, ◌/◌, ◌%◌, ◌<◌, ◌≤◌, length, IfErr, IsErrOf, OnOk};
+ghost use Rattle.std.specs.Bool.{OnTrue, OnFalse};
+ghost use Rattle.unixmodel.specs.Image.{parent_of};
+ghost use Rattle.image.specs.Faults.{HasBlocks, Tells};
+ghost use Rattle.image.specs.Fields.{HasGeometry};
+ghost use Rattle.image.specs.Places.{HasEntries, HasLinks, IsReached, files_in};
+ghost use Rattle.image.specs.Reach.{Climbs, HasWalked, IsDirectoryIn};
+
+use crate::ImageFault;
+use crate::fields::{inode_place, kind, number16, number32};
+use layout::Geometry;
+use std::alloc::Allocator;
+
+// The directory that a directory's ".." names.
+fn parent(image: &[u8], geometry: Geometry, n: usize) -> usize
+    requires geometry { HasGeometry image.now geometry }
+    requires blocks { HasBlocks image.now }
+    requires entries { HasEntries (files_in image.now) }
+    requires links { HasLinks (files_in image.now) }
+    requires directory { IsDirectoryIn image.now n }
+    ensures parent { result ≡ parent_of (files_in image.now) n }
+    ensures directory { IsDirectoryIn image.now result }
+{
+    let block = number32(image, inode_place(n) + 12) as usize;
+    number16(image, 1024 * block + 16) as usize
+}
+
+// Goes from a directory up to the first that has a mark, and marks with the start's number those on the way. Tells
+// whether it came to one that an earlier walk met, or else round to one of its own.
+fn climb(image: &[u8], geometry: Geometry, start: usize, marks: &mut [u16]) -> bool
+    requires geometry { HasGeometry image.now geometry }
+    requires blocks { HasBlocks image.now }
+    requires entries { HasEntries (files_in image.now) }
+    requires links { HasLinks (files_in image.now) }
+    requires directory { IsDirectoryIn image.now start }
+    requires above { 1 < start }
+    requires long { length marks.old ≡ geometry.inodes }
+    requires walked { HasWalked (files_in image.now) start marks.old }
+    ensures climbs { OnTrue result (Climbs (files_in image.now) start) }
+    ensures walked { OnTrue result (HasWalked (files_in image.now) (start + 1) marks.new) }
+    ensures round { OnFalse result (IsReached (files_in image.now) → ⊥) }
+{
+    let mut n = start;
+    while marks[n] == 0 {
+        marks[n] = start as u16;
+        n = parent(image, geometry, n);
+    }
+    marks[n] as usize != start
+}
+
+// Tests that a path from the root reaches each inode in use: that from each directory the parents lead up to the root.
+// Each directory is met once, by the first walk that comes to it.
+pub fn test_reach<A: Allocator>(
+    alloc: A,
+    image: &[u8],
+    geometry: Geometry,
+) -> Result<(), ImageFault>
+    requires geometry { HasGeometry image.now geometry }
+    requires blocks { HasBlocks image.now }
+    requires entries { HasEntries (files_in image.now) }
+    requires links { HasLinks (files_in image.now) }
+    ensures sound { OnOk result (IsReached (files_in image.now)) }
+    ensures fault { IfErr result (λ fault. Tells image.now fault) }
+    ensures device { IsErrOf result ImageFault.Device → ⊥ }
+{
+    let mut marks = vec![in alloc; 0; geometry.inodes]?;
+    marks[1] = 1;
+    for n in 2..geometry.inodes {
+        if kind(image, n) == 1 && !climb(image, geometry, n, &mut marks) {
+            return Err(ImageFault::Unreached);
+        }
+    }
+    Ok(())
+}
