@@ -1,14 +1,20 @@
 //! A plain Rust interpreter of the machine's design, to measure `xv6 flat` against: the memory is
 //! one block of frames, each access walks three levels of Sv39 tables in it, and each step decodes
-//! its instruction from the word. It knows RV64I, the calls fork, exit, wait, sbrk and write, 64
-//! places of processes that take turns, and a timer that ticks after each so many steps.
+//! its instruction from the word. It knows RV64I, the calls fork, exit, wait, pipe, read, sbrk, write
+//! and close, 64 places of processes that take turns, pipes whose bytes lie in a frame, and a console
+//! with keys. A script's lines `step N`, `tick N` and `type TEXT` say what happens.
 //!
 //!     rustc -O -o baseline baseline.rs
-//!     ./baseline FRAMES FILE STEPS [TICK]
+//!     ./baseline FRAMES FILE SCRIPT
 
+use std::collections::VecDeque;
 use std::io::Write;
+use std::ops::Range;
 
 const FRAME: usize = 4096;
+const ROOM: usize = 512;
+const LINE: usize = 128;
+const END_OF_INPUT: u8 = 0x04;
 const V: u64 = 1;
 const R: u64 = 2;
 const W: u64 = 4;
@@ -29,12 +35,45 @@ enum Trap {
     Call,
 }
 
+/// What a descriptor names.
+#[derive(Clone, Copy, PartialEq)]
+enum Open {
+    Console,
+    ReadEnd(usize),
+    WriteEnd(usize),
+}
+
+/// A read or a write that waits: what is left of its buffer, and how long that was.
+#[derive(Clone, Copy, PartialEq)]
+struct Transfer {
+    open: Open,
+    at: u64,
+    left: u64,
+    count: u64,
+}
+
+#[derive(Clone, Copy, PartialEq)]
+enum Pending {
+    Wait,
+    Read(Transfer),
+    Write(Transfer),
+}
+
 #[derive(Clone, Copy, PartialEq)]
 enum Mode {
     Ready,
     Running,
-    Waiting,
+    Waiting(Pending),
     Zombie(i32),
+}
+
+/// A pipe: its bytes are the `held` ones from place `first` on of a ring in a frame.
+struct Pipe {
+    frame: u32,
+    first: usize,
+    held: usize,
+    readers: usize,
+    writers: usize,
 }
 
 /// A process; what the hart holds of the running one isn't up to date here.
@@ -47,6 +86,7 @@ struct Process {
     pc: u64,
     root: u32,
     size: u64,
+    descriptors: [Option<Open>; 16],
 }
 
 struct Machine {
@@ -56,11 +96,15 @@ struct Machine {
     running: Option<usize>,
     last: usize,
     pids: u32,
+    pipes: [Option<Pipe>; 100],
+    committed: VecDeque<u8>,
+    edited: Vec<u8>,
     // of the running process
     registers: [u64; 32],
     pc: u64,
     root: u32,
     size: u64,
+    descriptors: [Option<Open>; 16],
 }
 
 impl Machine {
@@ -72,11 +116,16 @@ impl Machine {
             running: None,
             last: 63,
             pids: 1,
+            pipes: [const { None }; 100],
+            committed: VecDeque::new(),
+            edited: Vec::new(),
             registers: [0; 32],
             pc: 0,
             root: 0,
             size: 0,
+            descriptors: [None; 16],
         };
+        machine.descriptors[..3].fill(Some(Open::Console));
         machine.root = machine.take()?;
         for chunk in program.chunks(FRAME) {
             let frame = machine.map(R | W | X | U)?;
@@ -92,8 +141,8 @@ impl Machine {
 
     // A process with what the hart holds.
     fn process(&self, pid: u32, parent: u32, mode: Mode) -> Process {
-        let Machine { registers, pc, root, size, .. } = *self;
-        Process { pid, parent, mode, registers, pc, root, size }
+        let Machine { registers, pc, root, size, descriptors, .. } = *self;
+        Process { pid, parent, mode, registers, pc, root, size, descriptors }
     }
 
     fn take(&mut self) -> Option<u32> {
@@ -360,6 +409,7 @@ impl Machine {
         self.pc = process.pc;
         self.root = process.root;
         self.size = process.size;
+        self.descriptors = process.descriptors;
         self.running = Some(at);
     }
 
@@ -374,21 +424,47 @@ impl Machine {
     fn is_ready(&self, at: usize) -> bool {
         self.places[at].as_ref().is_some_and(|process| match process.mode {
             Mode::Ready => true,
-            Mode::Waiting => self.zombie_child(process.pid).is_some(),
+            Mode::Waiting(Pending::Wait) => self.zombie_child(process.pid).is_some(),
+            Mode::Waiting(Pending::Read(transfer)) => self.can_read(transfer.open),
+            Mode::Waiting(Pending::Write(transfer)) => self.can_write(transfer.open),
             Mode::Running | Mode::Zombie(_) => false,
         })
     }
 
-    // The process whose turn it is runs, or goes on with its wait.
+    fn pipe_at(&self, pipe: usize) -> &Pipe {
+        self.pipes[pipe].as_ref().expect("a pipe")
+    }
+
+    fn can_read(&self, open: Open) -> bool {
+        match open {
+            Open::Console => !self.committed.is_empty(),
+            Open::ReadEnd(pipe) => self.pipe_at(pipe).held > 0 || self.pipe_at(pipe).writers == 0,
+            Open::WriteEnd(_) => false,
+        }
+    }
+
+    fn can_write(&self, open: Open) -> bool {
+        match open {
+            Open::WriteEnd(pipe) => {
+                self.pipe_at(pipe).held < ROOM || self.pipe_at(pipe).readers == 0
+            }
+            _ => false,
+        }
+    }
+
+    // The process whose turn it is runs, or goes on with its call.
     fn turn(&mut self) {
         let Some(at) = (1..=64).map(|k| (self.last + k) % 64).find(|&at| self.is_ready(at)) else {
             return;
         };
         self.last = at;
-        let waits = self.places[at].is_some_and(|process| process.mode == Mode::Waiting);
+        let mode = self.places[at].expect("a process").mode;
         self.enter(at);
-        if waits {
-            self.wait();
+        match mode {
+            Mode::Waiting(Pending::Wait) => self.wait(),
+            Mode::Waiting(Pending::Read(transfer)) => self.read_on(transfer),
+            Mode::Waiting(Pending::Write(transfer)) => self.write_on(transfer),
+            _ => {}
         }
     }
 
@@ -399,6 +475,9 @@ impl Machine {
     // A status where process 1 ends.
     fn end(&mut self, status: i32) -> Option<i32> {
         let pid = self.places[self.running?]?.pid;
+        for descriptor in 0..16 {
+            self.close(descriptor);
+        }
         self.leave(Mode::Zombie(status));
         for process in self.places.iter_mut().flatten().filter(|p| p.parent == pid) {
             process.parent = 1;
@@ -417,8 +496,23 @@ impl Machine {
                 self.wait();
                 return None;
             }
+            4 => self.pipe(a0),
+            5 => match self.transfer(a0, a1, a2, Access::Store) {
+                Some(transfer) => {
+                    self.read_on(transfer);
+                    return None;
+                }
+                None => None,
+            },
             12 => self.sbrk(a0 as i32 as i64),
-            16 => self.write(a1, a2 as i32 as i64),
+            16 => match self.transfer(a0, a1, a2, Access::Load) {
+                Some(transfer) => {
+                    self.write_on(transfer);
+                    return None;
+                }
+                None => None,
+            },
+            21 => self.close(a0 as usize),
             _ => None,
         };
         self.registers[10] = answer.unwrap_or(u64::MAX);
@@ -443,6 +537,9 @@ impl Machine {
         let pid = self.places[self.running?]?.pid;
         let mut child = self.process(self.pids, pid, Mode::Ready);
         child.registers[10] = 0;
+        for open in child.descriptors.iter().flatten() {
+            self.count(*open, 1);
+        }
         self.places[place] = Some(child);
         self.root = parent.root;
         Some(self.pids as u64)
@@ -488,7 +585,7 @@ impl Machine {
             return;
         }
         let Some(at) = self.zombie_child(pid) else {
-            self.leave(Mode::Waiting);
+            self.leave(Mode::Waiting(Pending::Wait));
             return;
         };
         if let Some(child) = self.places[at].take() {
@@ -509,14 +606,190 @@ impl Machine {
         Some(old)
     }
 
-    fn write(&mut self, from: u64, count: i64) -> Option<u64> {
-        let count = u64::try_from(count).ok()?;
-        let mut bytes = Vec::new();
-        for address in from..from.checked_add(count)? {
-            bytes.push(self.memory[self.translate(address, Access::Load)?]);
+    // One descriptor more or fewer names an end of a pipe.
+    fn count(&mut self, open: Open, by: isize) {
+        match open {
+            Open::Console => {}
+            Open::ReadEnd(at) => {
+                let pipe = self.pipes[at].as_mut().expect("a pipe");
+                pipe.readers = pipe.readers.wrapping_add_signed(by);
+            }
+            Open::WriteEnd(at) => {
+                let pipe = self.pipes[at].as_mut().expect("a pipe");
+                pipe.writers = pipe.writers.wrapping_add_signed(by);
+            }
         }
-        std::io::stdout().write_all(&bytes).ok()?;
+    }
+
+    fn close(&mut self, descriptor: usize) -> Option<u64> {
+        let open = self.descriptors.get_mut(descriptor)?.take()?;
+        self.count(open, -1);
+        if let Open::ReadEnd(at) | Open::WriteEnd(at) = open {
+            let Pipe { frame, readers, writers, .. } = *self.pipe_at(at);
+            if readers + writers == 0 {
+                self.free.push(frame);
+                self.pipes[at] = None;
+            }
+        }
+        Some(0)
+    }
+
+    fn free_descriptor(&self) -> Option<usize> {
+        self.descriptors.iter().position(Option::is_none)
+    }
+
+    fn pipe(&mut self, address: u64) -> Option<u64> {
+        let at = self.pipes.iter().position(Option::is_none)?;
+        let first = self.free_descriptor()?;
+        self.descriptors[first] = Some(Open::ReadEnd(at));
+        let Some(second) = self.free_descriptor() else {
+            self.descriptors[first] = None;
+            return None;
+        };
+        self.descriptors[second] = Some(Open::WriteEnd(at));
+        let frame = self.take()?;
+        self.pipes[at] = Some(Pipe { frame, first: 0, held: 0, readers: 1, writers: 1 });
+        self.store(address, 4, first as u64).ok()?;
+        self.store(address + 4, 4, second as u64).ok()?;
+        Some(0)
+    }
+
+    // The bytes from an address on, to the end of its page at most.
+    fn piece(&self, address: u64, most: u64, access: Access) -> Option<Range<usize>> {
+        let from = self.translate(address, access)?;
+        let rest = FRAME - from % FRAME;
+        Some(from..from + rest.min(most as usize))
+    }
+
+    // A read or a write whose buffer may be used whole.
+    fn transfer(&self, descriptor: u64, at: u64, count: u64, access: Access) -> Option<Transfer> {
+        let open = (*self.descriptors.get(descriptor as usize)?)?;
+        let count = u64::try_from(count as i32).ok()?;
+        let mut done = 0;
+        while done < count {
+            done += self.piece(at + done, count - done, access)?.len() as u64;
+        }
+        Some(Transfer { open, at, left: count, count })
+    }
+
+    fn read_on(&mut self, mut transfer: Transfer) {
+        let answer = match transfer.open {
+            Open::ReadEnd(at) => self.read_pipe(at, &transfer),
+            Open::Console => self.read_line(&mut transfer),
+            Open::WriteEnd(_) => Some(u64::MAX),
+        };
+        match answer {
+            Some(answer) => self.registers[10] = answer,
+            None => self.leave(Mode::Waiting(Pending::Read(transfer))),
+        }
+    }
+
+    fn read_pipe(&mut self, at: usize, transfer: &Transfer) -> Option<u64> {
+        let Pipe { frame, held, writers, .. } = *self.pipe_at(at);
+        if held == 0 {
+            return (writers == 0).then_some(0);
+        }
+        let count = transfer.left.min(held as u64);
+        let mut done = 0;
+        while done < count {
+            let to = self.piece(transfer.at + done, count - done, Access::Store)?;
+            let pipe = self.pipes[at].as_mut()?;
+            let most = to.len().min(ROOM - pipe.first);
+            let from = frame as usize * FRAME + pipe.first;
+            pipe.first = (pipe.first + most) % ROOM;
+            pipe.held -= most;
+            self.memory.copy_within(from..from + most, to.start);
+            done += most as u64;
+        }
         Some(count)
+    }
+
+    // What a read takes of the line that is there; it waits for the line's end.
+    fn read_line(&mut self, transfer: &mut Transfer) -> Option<u64> {
+        while transfer.left > 0 {
+            let done = transfer.count - transfer.left;
+            let Some(byte) = self.committed.pop_front() else {
+                return None;
+            };
+            if byte == END_OF_INPUT {
+                if done > 0 {
+                    self.committed.push_front(byte);
+                }
+                return Some(done);
+            }
+            let to = self.translate(transfer.at + done, Access::Store)?;
+            self.memory[to] = byte;
+            transfer.left -= 1;
+            if byte == b'\n' {
+                return Some(done + 1);
+            }
+        }
+        Some(transfer.count)
+    }
+
+    fn write_on(&mut self, mut transfer: Transfer) {
+        let answer = match transfer.open {
+            Open::Console => self.print(&transfer),
+            Open::WriteEnd(at) => self.write_pipe(at, &mut transfer),
+            Open::ReadEnd(_) => Some(u64::MAX),
+        };
+        match answer {
+            Some(answer) => self.registers[10] = answer,
+            None => self.leave(Mode::Waiting(Pending::Write(transfer))),
+        }
+    }
+
+    fn write_pipe(&mut self, at: usize, transfer: &mut Transfer) -> Option<u64> {
+        if self.pipe_at(at).readers == 0 {
+            return Some(u64::MAX);
+        }
+        while transfer.left > 0 && self.pipe_at(at).held < ROOM {
+            let done = transfer.count - transfer.left;
+            let from = self.piece(transfer.at + done, transfer.left, Access::Load)?;
+            let pipe = self.pipes[at].as_mut()?;
+            let end = (pipe.first + pipe.held) % ROOM;
+            let most = from.len().min(ROOM - pipe.held).min(ROOM - end);
+            pipe.held += most;
+            let to = pipe.frame as usize * FRAME + end;
+            self.memory.copy_within(from.start..from.start + most, to);
+            transfer.left -= most as u64;
+        }
+        (transfer.left == 0).then_some(transfer.count)
+    }
+
+    fn print(&mut self, transfer: &Transfer) -> Option<u64> {
+        let mut done = 0;
+        while done < transfer.count {
+            let from = self.piece(transfer.at + done, transfer.count - done, Access::Load)?;
+            done += from.len() as u64;
+            std::io::stdout().write_all(&self.memory[from]).ok()?;
+        }
+        Some(transfer.count)
+    }
+
+    // A typed key: it is echoed, and with the end of a line the line can be read.
+    fn key(&mut self, byte: u8) {
+        if self.committed.len() + self.edited.len() == LINE {
+            return;
+        }
+        self.edited.push(byte);
+        let _ = std::io::stdout().write_all(&[byte]);
+        if byte == b'\n' || byte == END_OF_INPUT {
+            self.committed.extend(self.edited.drain(..));
+        }
+    }
+
+    // A step; a status where process 1 ends.
+    fn go(&mut self) -> Option<i32> {
+        if self.running.is_none() {
+            self.turn();
+            return None;
+        }
+        match self.step() {
+            Ok(()) => None,
+            Err(Trap::Call) => self.call(),
+            Err(Trap::Fault) => self.end(-1),
+        }
     }
 }
 
@@ -524,30 +797,26 @@ fn main() {
     let words: Vec<String> = std::env::args().collect();
     let frames = words[1].parse().expect("a number of frames");
     let program = std::fs::read(&words[2]).expect("a program");
-    let steps: u64 = words[3].parse().expect("a number of steps");
-    let tick: u64 = words.get(4).map_or(u64::MAX, |word| word.parse().expect("a number of steps"));
+    let script = std::fs::read_to_string(&words[3]).expect("a script");
     let mut machine = Machine::new(frames, &program).expect("frames for the program");
-    let mut left = tick;
-    for done in 1..=steps {
-        let status = if machine.running.is_none() {
-            machine.turn();
-            None
-        } else {
-            match machine.step() {
-                Ok(()) => None,
-                Err(Trap::Call) => machine.call(),
-                Err(Trap::Fault) => machine.end(-1),
+    let mut done = 0u64;
+    for line in script.lines() {
+        let (word, rest) = line.split_once(' ').expect("a command");
+        match word {
+            "step" => {
+                for _ in 0..rest.parse().expect("a number of steps") {
+                    done += 1;
+                    if let Some(status) = machine.go() {
+                        eprintln!("exit {status} after {done} steps");
+                        return;
+                    }
+                }
             }
-        };
-        if let Some(status) = status {
-            eprintln!("exit {status} after {done} steps");
-            return;
-        }
-        left -= 1;
-        if left == 0 {
-            machine.tick();
-            left = tick;
+            "tick" => machine.tick(),
+            "type" => rest.bytes().chain([b'\n']).for_each(|byte| machine.key(byte)),
+            "keys" => machine.key(u8::from_str_radix(rest, 16).expect("a key")),
+            _ => panic!("no command: {line}"),
         }
     }
-    eprintln!("running after {steps} steps");
+    eprintln!("running after {done} steps");
 }

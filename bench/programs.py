@@ -5,10 +5,10 @@ Each line is an instruction word, made by the format functions below, beside its
 
 import struct
 
-ZERO, SP, A0, A7 = 0, 2, 10, 17
+ZERO, SP, A0, A1, A2, A7 = 0, 2, 10, 11, 12, 17
 T0, T1, T2, T3, T4, T5 = 5, 6, 7, 28, 29, 30
 
-FORK, EXIT, WAIT, SBRK = 1, 2, 3, 12
+FORK, EXIT, WAIT, PIPE, READ, SBRK, WRITE, CLOSE = 1, 2, 3, 4, 5, 12, 16, 21
 
 
 def r_type(funct7, rs2, rs1, funct3, rd, opcode):
@@ -176,5 +176,66 @@ def share():
             bne(T0, ZERO, -16),  #      bne  t0, zero, more
             addi(T1, T1, 1),  # count:  addi t1, t1, 1
             beq(ZERO, ZERO, -4),  #     beq  zero, zero, count
+        ]
+    )
+
+
+def pipe_bytes(times):
+    """A child that writes 512 bytes so many times into a pipe, from which process 1 reads them all;
+    `times` is a multiple of 1000. The pipe's descriptors are 3 and 4."""
+    return flat(
+        [
+            lui(A0, 0x2),  #            lui  a0, 0x2            # the stack's page
+            addi(A7, ZERO, PIPE),  #    addi a7, zero, 4
+            ECALL,  #                   ecall
+            addi(A7, ZERO, FORK),  #    addi a7, zero, 1
+            ECALL,  #                   ecall
+            beq(A0, ZERO, 48),  #       beq  a0, zero, child
+            addi(A0, ZERO, 4),  #       addi a0, zero, 4
+            addi(A7, ZERO, CLOSE),  #   addi a7, zero, 21
+            ECALL,  #                   ecall
+            addi(A0, ZERO, 3),  # more: addi a0, zero, 3
+            lui(A1, 0x2),  #            lui  a1, 0x2
+            addi(A2, ZERO, 512),  #     addi a2, zero, 512
+            addi(A7, ZERO, READ),  #    addi a7, zero, 5
+            ECALL,  #                   ecall
+            bne(A0, ZERO, -20),  #      bne  a0, zero, more
+            addi(A7, ZERO, EXIT),  #    addi a7, zero, 2
+            ECALL,  #                   ecall
+            addi(T1, ZERO, times // 1000),  # child: addi t1, zero, times / 1000
+            addi(T0, ZERO, 1000),  # thousand: addi t0, zero, 1000
+            addi(A0, ZERO, 4),  # round: addi a0, zero, 4
+            lui(A1, 0x2),  #            lui  a1, 0x2
+            addi(A2, ZERO, 512),  #     addi a2, zero, 512
+            addi(A7, ZERO, WRITE),  #   addi a7, zero, 16
+            ECALL,  #                   ecall
+            addi(T0, T0, -1),  #        addi t0, t0, -1
+            bne(T0, ZERO, -24),  #      bne  t0, zero, round
+            addi(T1, T1, -1),  #        addi t1, t1, -1
+            bne(T1, ZERO, -36),  #      bne  t1, zero, thousand
+            addi(A0, ZERO, 0),  #       addi a0, zero, 0
+            addi(A7, ZERO, EXIT),  #    addi a7, zero, 2
+            ECALL,  #                   ecall
+        ]
+    )
+
+
+def echo_lines():
+    """Reads lines from the console and writes them, until the input ends."""
+    return flat(
+        [
+            addi(A0, ZERO, 0),  # more: addi a0, zero, 0
+            lui(A1, 0x2),  #            lui  a1, 0x2            # the stack's page
+            addi(A2, ZERO, 128),  #     addi a2, zero, 128
+            addi(A7, ZERO, READ),  #    addi a7, zero, 5
+            ECALL,  #                   ecall
+            beq(A0, ZERO, 24),  #       beq  a0, zero, end
+            add(A2, A0, ZERO),  #       add  a2, a0, zero
+            addi(A0, ZERO, 1),  #       addi a0, zero, 1
+            addi(A7, ZERO, WRITE),  #   addi a7, zero, 16
+            ECALL,  #                   ecall
+            beq(ZERO, ZERO, -40),  #    beq  zero, zero, more
+            addi(A7, ZERO, EXIT),  # end: addi a7, zero, 2
+            ECALL,  #                   ecall
         ]
     )

@@ -6,9 +6,9 @@
 PROGRAM is the built `xv6`. Each flat program runs in both, turn by turn, and the least processor
 times, their ratio and the peak memory of `xv6` are printed. Two programs take more than 100 million
 steps. Three ask for memory and give it back, so many pages at a time; the last two of these take as
-long as each other where a page costs the same however large the space is. The last two programs
-have many processes: children that are waited for, and 64 that share the hart by a timer. `rustc`
-has to be in the PATH.
+long as each other where a page costs the same however large the space is. Two have many processes:
+children that are waited for, and 64 that share the hart by a timer. The last two move bytes: through
+a pipe from one process to another, and from the keys to the console. `rustc` has to be in the PATH.
 """
 
 import os
@@ -26,18 +26,28 @@ HERE = pathlib.Path(__file__).resolve().parent
 STEPS = 1_000_000_000
 TURNS = 3
 
-# The steps between two timer interrupts, and how many such times, where there is a timer.
-TICK, TICKS = 100, 100_000
+# A script that goes on to the program's end.
+TO_THE_END = f"step {STEPS}\n"
 
-# The name of a program, its frames, its bytes, and whether a timer ticks.
+# A script with a timer interrupt after each so many steps, so many times.
+TICK, TICKS = 100, 100_000
+TIMED = f"step {TICK}\ntick 1\n" * TICKS
+
+# A script of typed lines, each with the steps in which it is read and echoed, and the end of the input.
+LINES = 10_000
+TYPED = "type the quick brown fox jumps over the lazy dog\nstep 30\n" * LINES + "keys 04\nstep 30\n"
+
+# The name of a program, its frames, its bytes, and its script.
 CASES = [
-    ("tight loop", 256, programs.tight_loop(), False),
-    ("memory", 256, programs.memory_loop(), False),
-    ("sbrk by 4096 pages, 1000 times", 8192, programs.grow_and_shrink(0, 4096, 1000), False),
-    ("sbrk by 64 pages, 64000 times", 8192, programs.grow_and_shrink(0, 64, 64000), False),
-    ("the same above 4096 pages", 8192, programs.grow_and_shrink(4096, 64, 64000), False),
-    ("fork and wait, 100000 times", 256, programs.fork_and_wait(100_000), False),
-    (f"64 processes, a tick every {TICK} steps", 1024, programs.share(), True),
+    ("tight loop", 256, programs.tight_loop(), TO_THE_END),
+    ("memory", 256, programs.memory_loop(), TO_THE_END),
+    ("sbrk by 4096 pages, 1000 times", 8192, programs.grow_and_shrink(0, 4096, 1000), TO_THE_END),
+    ("sbrk by 64 pages, 64000 times", 8192, programs.grow_and_shrink(0, 64, 64000), TO_THE_END),
+    ("the same above 4096 pages", 8192, programs.grow_and_shrink(4096, 64, 64000), TO_THE_END),
+    ("fork and wait, 100000 times", 256, programs.fork_and_wait(100_000), TO_THE_END),
+    (f"64 processes, a tick every {TICK} steps", 1024, programs.share(), TIMED),
+    ("512 bytes through a pipe, 200000 times", 256, programs.pipe_bytes(200_000), TO_THE_END),
+    (f"{LINES} typed lines, read and echoed", 256, programs.echo_lines(), TYPED),
 ]
 
 
@@ -75,18 +85,13 @@ def main():
         baseline, script, image = room / "baseline", room / "script", room / "program"
         source = HERE / "baseline.rs"
         subprocess.run(["rustc", "-O", "--edition", "2021", "-o", baseline, source], check=True)
-        for name, frames, code, ticks in CASES:
+        for name, frames, code, events in CASES:
             image.write_bytes(code)
+            script.write_text(events)
             flat = [program, "flat", "--frames", str(frames), image, script]
-            plain = [baseline, str(frames), image]
-            if ticks:
-                script.write_text(f"step {TICK}\ntick 1\n" * TICKS)
-                plain += [str(TICK * TICKS), str(TICK)]
-                told = "running", "running after "
-            else:
-                script.write_text(f"step {STEPS}\n")
-                plain += [str(STEPS)]
-                told = "halt 1 InitEnded 0", "exit 0 after "
+            plain = [baseline, str(frames), image, script]
+            timed = events is TIMED
+            told = ("running", "running after ") if timed else ("halt 1 InitEnded 0", "exit 0 after ")
             ours, theirs = [], []
             for _ in range(TURNS):
                 ours.append(run(flat, told[0]))

@@ -1,3 +1,5 @@
 pub mod EventLemmas
 pub mod PlayLemmas
-pub mod ScriptLemmas
+pub mod LineLemmas
+pub mod NumberLemmas
+pub mod ManifestLemmas

@@ -1,6 +1,5 @@
 -- The words of a script's lines.
-use Rattle.std.specs.Prelude.{◌≡◌, ℕ, ◌+◌, ◌-◌, ◌*◌, ◌<◌, ◌≤◌, ◌==◌, ◌&&◌, List, Option, Some, None, if◌then◌else◌, nat_le, length, slice_index}
-use Rattle.std.specs.List.{slice_split}
+use Rattle.std.specs.Prelude.{◌≡◌, ℕ, ◌+◌, ◌-◌, ◌*◌, ◌<◌, ◌≤◌, ◌&&◌, List, Option, Some, None, if◌then◌else◌, nat_le, length, slice_index}
 use Rattle.std.specs.Str.Parse.{IsNumeral, digits_value}
 
 -- the most events of a line
@@ -30,7 +29,3 @@ hex_pair high low = joined (hex_digit high) (hex_digit low)
 pub record IsHexOf (digits bytes : List ℕ) : Type 0 where
   pub pairs : length digits ≡ 2 * length bytes
   pub each : (k : ℕ) → k < length bytes → hex_pair (slice_index digits (2 * k)) (slice_index digits (2 * k + 1)) ≡ Some (slice_index bytes k)
-
--- the lines of a text, each ended by LF but for the last
-abbrev pub lines_of : List ℕ → List (List ℕ)
-lines_of text = slice_split (λ byte. byte == 10) text

@@ -4,6 +4,8 @@
 mod command_line;
 mod host;
 mod jobs;
+mod lines;
+mod manifest;
 mod perform;
 mod play;
 mod report;

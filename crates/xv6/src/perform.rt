@@ -1,6 +1,8 @@
 //! Does a job.
+mod images;
+
 use crate::host::Host;
-use crate::jobs::{Flat, Job};
+use crate::jobs::{Check, Flat, Job, Mkfs};
 use crate::play::play;
 use crate::report::{End, Failure};
 use crate::script::{Command, ScriptFault};
@@ -75,8 +77,69 @@ fn flat<'a, H: Host, W: Write>(
     }
 }
 
+// Tells why a job was not done, and answers the status to exit with.
+fn tell<E: Write>(failure: &Failure<'_>, stderr: &mut E) -> u8 {
+    let _ = writeln!(stderr, "{failure}");
+    1
+}
+
+// Boots a flat program, runs a script, and tells how that ended.
+fn perform_flat<H: Host, W: Write, E: Write>(
+    alloc: Global,
+    words: Flat<'_>,
+    host: &mut H,
+    stdout: &mut W,
+    stderr: &mut E,
+) -> u8 {
+    match flat(alloc, words, host, stdout) {
+        Ok(end) => {
+            let _ = writeln!(stderr, "{end}");
+            end.status()
+        }
+        Err(failure) => tell(&failure, stderr),
+    }
+}
+
+// Makes an image; nothing is told of one that is made.
+fn perform_mkfs<H: Host, E: Write>(
+    alloc: Global,
+    words: Mkfs<'_>,
+    host: &mut H,
+    stderr: &mut E,
+) -> u8 {
+    let text = match read(host, words.manifest) {
+        Ok(text) => text,
+        Err(failure) => return tell(&failure, stderr),
+    };
+    match images::mkfs(alloc, words, text.as_slice(), host) {
+        Ok(()) => 0,
+        Err(failure) => tell(&failure, stderr),
+    }
+}
+
+// Checks an image, and tells what it uses.
+fn perform_check<H: Host, W: Write, E: Write>(
+    alloc: Global,
+    words: Check<'_>,
+    host: &mut H,
+    stdout: &mut W,
+    stderr: &mut E,
+) -> u8 {
+    match images::check(alloc, words, host) {
+        Ok(summary) => {
+            let (inodes, blocks) = (summary.inodes, summary.blocks);
+            let _ = writeln!(stdout, "ok {inodes} inodes {blocks} blocks");
+            match stdout.flush() {
+                Ok(()) => 0,
+                Err(_) => 1,
+            }
+        }
+        Err(failure) => tell(&failure, stderr),
+    }
+}
+
 /// Does the job, with the host's files, and answers the status to exit with: 0 where it was done.
-/// The console's bytes go to `stdout`, and all else that is told to `stderr`.
+/// The console's bytes and what a check finds go to `stdout`, and all else that is told to `stderr`.
 pub fn perform<H: Host, W: Write, E: Write>(
     alloc: Global,
     job: &Job<'_>,
@@ -84,15 +147,9 @@ pub fn perform<H: Host, W: Write, E: Write>(
     stdout: &mut W,
     stderr: &mut E,
 ) -> u8 {
-    let Job::Flat(words) = *job;
-    match flat(alloc, words, host, stdout) {
-        Ok(end) => {
-            let _ = writeln!(stderr, "{end}");
-            end.status()
-        }
-        Err(failure) => {
-            let _ = writeln!(stderr, "{failure}");
-            1
-        }
+    match *job {
+        Job::Flat(words) => perform_flat(alloc, words, host, stdout, stderr),
+        Job::Mkfs(words) => perform_mkfs(alloc, words, host, stderr),
+        Job::Check(words) => perform_check(alloc, words, host, stdout, stderr),
     }
 }

@@ -1,7 +1,8 @@
 //! What the program tells of how a job ended.
 use clap::Error;
 use clap::error::ErrorKind;
-use machine::{BootFault, Halt, ImageFault};
+use image::{ImageFault, MakeFault};
+use machine::{BootFault, Halt};
 use std::fmt;
 use std::io::Write;
 
@@ -41,10 +42,18 @@ impl fmt::Display for End {
 pub enum Failure<'a> {
     /// The file of this name cannot be read.
     Read(&'a str),
+    /// The file of this name cannot be written.
+    Write(&'a str),
     /// The line of this number in the script is no command.
     Script(usize),
+    /// The line of this number in the manifest can't be read.
+    Manifest(usize),
     /// The machine does not boot.
     Boot(BootFault),
+    /// The image is not made.
+    Make(MakeFault),
+    /// The image does not denote files.
+    Image(ImageFault),
     /// The program itself found no memory.
     NoMemory,
 }
@@ -53,14 +62,21 @@ impl fmt::Display for Failure<'_> {
     fn fmt<W: fmt::Write>(&self, f: &mut fmt::Formatter<W>) -> fmt::Result {
         match self {
             Failure::Read(name) => write!(f, "cannot read {name}"),
+            Failure::Write(name) => write!(f, "cannot write {name}"),
             Failure::Script(line) => write!(f, "script line {line}"),
-            Failure::Boot(fault) => {
-                let (number, name) = boot_fault(*fault);
-                write!(f, "fault {number} {name}")
-            }
+            Failure::Manifest(line) => write!(f, "manifest line {line}"),
+            Failure::Boot(fault) => write_fault(f, boot_fault(*fault)),
+            Failure::Make(fault) => write_fault(f, make_fault(*fault)),
+            Failure::Image(fault) => write_fault(f, image_fault(*fault)),
             Failure::NoMemory => write!(f, "no memory"),
         }
     }
+}
+
+// A fault's line: its number and its name.
+fn write_fault<W: fmt::Write>(f: &mut fmt::Formatter<W>, fault: (u8, &'static str)) -> fmt::Result {
+    let (number, name) = fault;
+    write!(f, "fault {number} {name}")
 }
 
 // The number and the name of a boot's fault.
@@ -71,6 +87,19 @@ fn boot_fault(fault: BootFault) -> (u8, &'static str) {
         BootFault::Device => (3, "Device"),
         BootFault::NoMemory => (4, "NoMemory"),
         BootFault::NoInit => (5, "NoInit"),
+    }
+}
+
+// The number and the name of what is wrong with a manifest.
+fn make_fault(fault: MakeFault) -> (u8, &'static str) {
+    match fault {
+        MakeFault::Name => (1, "Name"),
+        MakeFault::Twice => (2, "Twice"),
+        MakeFault::Blocks => (3, "Blocks"),
+        MakeFault::Inodes => (4, "Inodes"),
+        MakeFault::Parent => (5, "Parent"),
+        MakeFault::Numbers => (6, "Numbers"),
+        MakeFault::NoMemory => (7, "NoMemory"),
     }
 }
 

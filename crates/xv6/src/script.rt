@@ -3,4 +3,5 @@
 mod fields;
 mod lines;
 
+pub use fields::count;
 pub use lines::{Command, ScriptFault};

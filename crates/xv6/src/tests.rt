@@ -1,4 +1,6 @@
 //! Stored runs: jobs done with files in memory, and what they have to write.
+mod images;
+
 use crate::command_line::job;
 use crate::host::{Host, HostFault};
 use crate::jobs::{Flat, Job};

@@ -1,7 +1,8 @@
 //! The lines of a script, and what each says.
-ghost use Rattle.std.specs.Prelude.{◌≡◌, ◌++◌, List, ℕ, IfOk, IfErr, MatchOption, map};
-ghost use Rattle.xv6.specs.Scripts.{lines_of};
+ghost use Rattle.std.specs.Prelude.{◌≡◌, IfErr, IfOk, map};
+ghost use Rattle.xv6.specs.Lines.{lines_of};
 
+use crate::lines::{after, split_lines};
 use crate::script::fields::{bytes_of, count};
 use std::alloc::{AllocError, AllocFailed, Global};
 
@@ -47,13 +48,6 @@ impl From<AllocError> for ScriptFault {
     }
 }
 
-// What follows a word that the line begins with.
-fn after<'a>(line: &'a [u8], word: &[u8]) -> Option<&'a [u8]>
-    ensures { MatchOption result ((rest : List ℕ) → ¬ (line.now ≡ word.now ++ rest)) (λ rest. line.now ≡ word.now ++ rest.now) }
-{
-    line.strip_prefix(word)
-}
-
 impl<'a> Command<'a> {
     ghost use Rattle.xv6.specs.Commands.{IsCommand, IsLineFault};
 
@@ -74,13 +68,6 @@ impl<'a> Command<'a> {
         }
         Ok(Command::Type(after(line, b"type ").ok_or(fault)?))
     }
-}
-
-// The lines of a text, each ended by LF but for the last.
-fn split_lines<'a>(alloc: Global, text: &'a [u8]) -> Result<Vec<&'a [u8]>, AllocError>
-    ensures { IfOk result (λ lines. map (λ line. line.now) lines.items ≡ lines_of text.now) }
-{
-    text.split(|byte| *byte == b'\n').collect(alloc)
 }
 
 impl<'a> Command<'a> {

@@ -1,21 +1,9 @@
-use Rattle.std.proofs.Common.{◌≡◌, ◌∙◌, ℕ, List, Option, Some, None, Result, ap, refl, sym, option_map, codes}
-use Rattle.std.specs.Str.Parse.{ParsesUnsigned, ExplainsUnsignedError, HasUnsignedDigitsIfOk}
-use Rattle.clap.specs.Matches.{ReadsOne, found_of}
+use Rattle.std.proofs.Common.{◌≡◌, ◌∙◌, ap, sym, option_map, codes}
+use Rattle.std.specs.Str.Parse.{ExplainsUnsignedError, HasUnsignedDigitsIfOk}
+use Rattle.clap.specs.Matches.{found_of}
 use Rattle.clap.proofs.WalkLemmas.{first_value-rows, one_text-rows}
-use Rattle.xv6.specs.Declarations.{Writes}
+use Rattle.xv6.proofs.NumberLemmas.{number-read}
 use Rattle.xv6.proofs.command_line.flat.Goals as goal
-
--- a number that was read has a text
-number-read : {E : Type 0} (P Q : List ℕ → Result ℕ E → Type 0) (text : Option (List ℕ)) (r : Option ℕ) (n : ℕ) → r ≡ Some n
-    → (text ≡ None → r ≡ None)
-    → ((t : List ℕ) → text ≡ Some t → ReadsOne (λ bs read. ParsesUnsigned 32 10 bs read × P bs read × Q bs read) t r)
-    → (t : List ℕ) × (text ≡ Some t) × Writes t n
-number-read P Q None r n is none value =
-    let missing = none refl in
-    cc
-number-read P Q (Some t) r n is none value =
-    let parsed = rw is at (value t refl) in
-    (t, refl, record { numeral = parsed.0.0.0; value = sym parsed.0.1 })
 
 pub returns : goal.returns
 returns c =

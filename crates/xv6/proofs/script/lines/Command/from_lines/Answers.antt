@@ -2,7 +2,7 @@ use Rattle.std.proofs.Common.{arith, rules, ◌≡◌, ◌<◌, ◌++◌, ◌∷
 use Rattle.std.proofs.lemmas.Grind.{common_steps}
 use Rattle.std.proofs.lemmas.List.{get_or-map}
 use Rattle.xv6.specs.Commands.{IsCommand}
-use Rattle.xv6.proofs.ScriptLemmas.{script-command, script-next}
+use Rattle.xv6.proofs.LineLemmas.{said-item, said-next}
 use Rattle.xv6.proofs.script.lines.Command.from_lines.Goals as goal
 
 pub loop-index-preserved-then-is_empty : goal.loop-index-preserved-then-is_empty
@@ -10,7 +10,7 @@ loop-index-preserved-then-is_empty c =
     let lines = map (λ line. line.now) c.args.lines.now in
     let within : c.loop-index.index < length lines = grind (arith, common_steps) in
     let none : length (slice_index_or lines c.loop-index.index []) ≡ 0 = grind (arith, common_steps) in
-    script-next lines c.loop-index.index c.loop-index.commands.items within c.loop-index.invariant none
+    said-next IsCommand lines c.loop-index.index c.loop-index.commands.items within c.loop-index.invariant none
 
 pub loop-index-preserved : goal.loop-index-preserved
 loop-index-preserved c =
@@ -20,4 +20,4 @@ loop-index-preserved c =
     let is : IsCommand (slice_index_or lines c.loop-index.index []) c.in_ok-from_line.field-0 =
     subst (λ line. IsCommand line c.in_ok-from_line.field-0) (sym (get_or-map (λ line. line.now) c.args.lines.now c.loop-index.index _ [] c.loop-index-test.true)) c.in_ok-from_line.ensures.ok in
     let items : c.push.new.self.items ≡ c.loop-index.commands.items ++ c.in_ok-from_line.field-0 ∷ [] = search rules in
-    rw items (script-command lines c.loop-index.index c.loop-index.commands.items c.in_ok-from_line.field-0 within c.loop-index.invariant some is)
+    rw items (said-item IsCommand lines c.loop-index.index c.loop-index.commands.items c.in_ok-from_line.field-0 within c.loop-index.invariant some is)

@@ -1,0 +1,106 @@
+//! Makes and checks disk images.
+use crate::host::Host;
+use crate::jobs::{Check, Mkfs};
+use crate::manifest::{Line, ManifestFault};
+use crate::perform::read;
+use crate::report::Failure;
+use blockdev::MemDisk;
+use image::{Entry, ImageFault, MakeFault, Manifest, Summary, Thing};
+use std::alloc::{AllocError, Global};
+
+// What the lines of a manifest say; the text has to be one.
+fn lines_of<'a>(
+    alloc: Global,
+    name: &'a str,
+    text: &'a [u8],
+) -> Result<Vec<Line<'a>>, Failure<'a>> {
+    if str::from_utf8(text).is_err() {
+        return Err(Failure::Read(name));
+    }
+    match Line::parse(alloc, text) {
+        Ok(lines) => Ok(lines),
+        Err(ManifestFault::Line(line)) => Err(Failure::Manifest(line)),
+        Err(ManifestFault::NoMemory) => Err(Failure::NoMemory),
+    }
+}
+
+// The bytes of the host's file of this name.
+fn host_file<'a, H: Host>(host: &mut H, name: &'a [u8]) -> Result<Vec<u8>, Failure<'a>> {
+    match str::from_utf8(name) {
+        Ok(name) => read(host, name),
+        Err(_) => Err(Failure::Read("")),
+    }
+}
+
+// An entry of this path.
+fn entry(alloc: Global, path: &[u8], thing: Thing) -> Result<Entry, AllocError> {
+    let mut bytes = Vec::new(alloc);
+    bytes.extend_from_slice(path)?;
+    Ok(Entry { path: bytes, thing })
+}
+
+// The entry that a line asks for.
+fn entry_of<'a, H: Host>(
+    alloc: Global,
+    line: &Line<'a>,
+    host: &mut H,
+) -> Result<Entry, Failure<'a>> {
+    let (path, thing) = match *line {
+        Line::Directory(path) => (path, Thing::Directory),
+        Line::File(path, name) => (path, Thing::File(host_file(host, name)?)),
+        Line::Device(path, major, minor) => (path, Thing::Device { major, minor }),
+    };
+    entry(alloc, path, thing).map_err(|_| Failure::NoMemory)
+}
+
+// The manifest that the lines say. All of the host's files are read, in their order.
+fn manifest_of<'a, H: Host>(
+    alloc: Global,
+    lines: &[Line<'a>],
+    host: &mut H,
+) -> Result<Manifest, Failure<'a>> {
+    let mut entries = Vec::new(alloc);
+    for line in lines {
+        let entry = entry_of(alloc, line, host)?;
+        if entries.push(entry).is_err() {
+            return Err(Failure::NoMemory);
+        }
+    }
+    Ok(Manifest { entries })
+}
+
+/// The command `mkfs`, for a manifest of this text. The text is read whole before any of the host's
+/// files, and these before anything is made.
+pub fn mkfs<'a, H: Host>(
+    alloc: Global,
+    words: Mkfs<'a>,
+    text: &'a [u8],
+    host: &mut H,
+) -> Result<(), Failure<'a>> {
+    let lines = lines_of(alloc, words.manifest, text)?;
+    let manifest = manifest_of(alloc, lines.as_slice(), host)?;
+    let image = match image::make(alloc, &manifest, words.size, words.inodes) {
+        Ok(image) => image,
+        Err(fault) => return Err(Failure::Make(fault)),
+    };
+    match host.write(words.image, image.as_slice()) {
+        Ok(()) => Ok(()),
+        Err(_) => Err(Failure::Write(words.image)),
+    }
+}
+
+/// The command `check`.
+pub fn check<'a, H: Host>(
+    alloc: Global,
+    words: Check<'a>,
+    host: &mut H,
+) -> Result<Summary, Failure<'a>> {
+    let bytes = read(host, words.image)?;
+    let Ok(mut disk) = MemDisk::new(bytes) else {
+        return Err(Failure::Image(ImageFault::Length));
+    };
+    match image::check(alloc, &mut disk) {
+        Ok(summary) => Ok(summary),
+        Err(fault) => Err(Failure::Image(fault)),
+    }
+}
