@@ -1,5 +1,6 @@
 #!/usr/bin/env python3
-"""Times `xv6 flat` on flat programs, beside a plain Rust interpreter of the same design.
+"""Times `xv6 flat` on flat programs, beside a plain Rust interpreter of the same design, and `xv6 mkfs`
+and `xv6 check` on full images.
 
     bench/run.py PROGRAM
 
@@ -9,6 +10,9 @@ steps. Three ask for memory and give it back, so many pages at a time; the last 
 long as each other where a page costs the same however large the space is. Two have many processes:
 children that are waited for, and 64 that share the hart by a timer. The last two move bytes: through
 a pipe from one process to another, and from the keys to the console. `rustc` has to be in the PATH.
+
+The images have as many inodes and blocks as they can hold, all in use: one of 16384 blocks and 8192
+inodes, and one of half of both, beside which the other may take twice as long.
 """
 
 import os
@@ -57,11 +61,11 @@ def peak_of(pid):
     return sum(int(line.split()[1]) for line in status if line.startswith("VmHWM:"))
 
 
-def run(words, wanted):
-    """The processor time in seconds and the peak memory in KiB of the words, and what they write to
-    standard error, which has to begin with `wanted`."""
+def run(words, wanted, folder=None):
+    """The processor time in seconds and the peak memory in KiB of the words, run in a folder, and what
+    they write to standard error, which has to begin with `wanted`."""
     with tempfile.TemporaryFile() as told:
-        child = subprocess.Popen(words, stdout=subprocess.DEVNULL, stderr=told)
+        child = subprocess.Popen(words, cwd=folder, stdout=subprocess.DEVNULL, stderr=told)
         ended, peak = 0, 0
         # The peak that the system counts for an ended process is no less than that of this one.
         while not ended:
@@ -74,6 +78,45 @@ def run(words, wanted):
     if child.returncode or not line.startswith(wanted):
         sys.exit(f"{' '.join(map(str, words))}: status {child.returncode}: {line}")
     return used.ru_utime + used.ru_stime, peak, line
+
+
+def full_image(size, inodes):
+    """The manifest of an image whose inodes and data blocks are all in use, and how many blocks these
+    are. Its directories have at most 90 files, of one block or two."""
+    blocks = size - (2 + inodes // 16 + 1) - (size // 8192 + 1)
+    entries = inodes - 2
+    folders = -(-entries // 91)
+    counts = [(entries - folders + at) // folders for at in range(folders)]
+    places = [folders + 2] + [count + 2 for count in counts]
+    twice = blocks - sum(-(-16 * place // 1024) for place in places) - sum(counts)
+    lines = [f"dir /d{folder}" for folder in range(folders)]
+    for folder, count in enumerate(counts):
+        for name in range(count):
+            host = "two" if len(lines) - folders < twice else "one"
+            lines.append(f"file /d{folder}/f{name} {host}")
+    return "\n".join(lines) + "\n", blocks
+
+
+def time_images(program, room):
+    """Makes and checks full images, and prints the times of the larger beside the smaller."""
+    (room / "one").write_bytes(b"1" * 1024)
+    (room / "two").write_bytes(b"2" * 2048)
+    took = []
+    for size, inodes in [(8192, 4096), (16384, 8192)]:
+        text, blocks = full_image(size, inodes)
+        (room / "manifest").write_text(text)
+        numbers = ["--size", str(size), "--inodes", str(inodes)]
+        mkfs = [program, "mkfs", *numbers, "manifest", "image"]
+        made = min(run(mkfs, "", room) for _ in range(TURNS))
+        told = subprocess.run([program, "check", "image"], cwd=room, capture_output=True, text=True)
+        if told.stdout != f"ok {inodes - 1} inodes {blocks} blocks\n":
+            sys.exit(f"check: {told.stdout}{told.stderr}")
+        checked = min(run([program, "check", "image"], "", room) for _ in range(TURNS))
+        took.append((made[0], checked[0], max(made[1], checked[1])))
+    for at, name in enumerate(["mkfs", "check"]):
+        half, full = took[0][at], took[1][at]
+        print(f"{name} of 16384 blocks and 8192 inodes: {full:.2f} s, of half of both {half:.2f} s, "
+              f"ratio {full / half:.2f}, peak {took[1][2]} KiB", flush=True)
 
 
 def main():
@@ -100,6 +143,7 @@ def main():
             took, other = min(ours)[0], min(theirs)[0]
             print(f"{name}: {steps} steps: xv6 {took:.2f} s, plain Rust {other:.2f} s, "
                   f"ratio {took / other:.2f}, peak {max(ran[1] for ran in ours)} KiB", flush=True)
+        time_images(program, room)
 
 
 if __name__ == "__main__":
