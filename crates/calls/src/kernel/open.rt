@@ -102,6 +102,7 @@ impl<T: Translate + Drop> Kernel<T> {
         close(&mut self.files, &mut self.spaces, usize::from(id));
         true
     }
+
     /// The running process gets both ends of a new pipe, by its two lowest free descriptors, which are written at an
     /// address. `false`: no place is free for that, or the frames don't suffice; then nothing changed.
     pub(crate) fn open_pipe(&mut self, at: usize, address: u64) -> bool
