@@ -1,6 +1,5 @@
 pub mod Erases
 pub mod Lines
 pub mod ReadSteps
-pub mod Rings
 pub mod Rubs
 pub mod Takes

@@ -1,12 +1,13 @@
 -- Lemmas on a console's bytes in its ring.
 use Rattle.std.proofs.Common.{◌≡◌, ◌<◌, ℕ, zero, suc, ◌+◌, ◌-◌, ◌%◌, List, [], length, take, drop, set, refl, sym, ap, ap₂, ◌∙◌, arith}
 use Rattle.unixmodel.specs.Console.{commit, with_byte}
-use Rattle.console.specs.Line.{ring, line_of, without_last}
-use Rattle.console.proofs.Rings.{length-ring, take-ring, ring-append, ring-around, ring-set_behind, ring-push}
+use Rattle.console.specs.Line.{line_of, without_last}
+use Rattle.ring.specs.Ring.{ring}
+use Rattle.ring.specs.RingLemmas.{length-ring, take-ring, ring-append, ring-around, ring-set_behind, ring-push}
 
 pub line-push : (xs : List ℕ) (k c e b : ℕ) → length xs ≡ 128 → k < 128 → c + e < 128 → line_of (set xs ((k + c + e) % 128) b) k c (e + 1) ≡ with_byte (line_of xs k c e) b
 line-push xs k c e b full start fits =
-    ap₂ (λ l m. record { committed = l; edited = m }) (ring-set_behind 128 xs k c (k + c + e) b (omega arith) (omega arith) (omega arith)) (ring-push 128 xs (k + c) e (k + c + e) b full refl (omega arith) (omega arith))
+    ap₂ (λ l m. record { committed = l; edited = m }) (ring-set_behind 128 xs k c (k + c + e) b (omega arith) (omega arith) (omega arith)) (ring-push 128 xs (k + c) e (k + c + e) b (omega arith) refl (omega arith) (omega arith))
 
 pub line-commit : (xs : List ℕ) (k c e : ℕ) → line_of xs k (c + e) 0 ≡ commit (line_of xs k c e)
 unfolding ring

@@ -1,13 +1,9 @@
 -- How a console's bytes stand in its ring, and what a key does there.
-use Rattle.std.specs.Prelude.{[], List, false, length, slice_index, suc, take, zero, ℕ, ◌%◌, ◌++◌, ◌+◌, ◌-◌, ◌∷◌, ◌≡◌}
+use Rattle.std.specs.Prelude.{[], List, false, length, suc, take, zero, ℕ, ◌++◌, ◌+◌, ◌-◌, ◌∷◌, ◌≡◌}
 use Rattle.unixmodel.specs.Console.{Console, Keyed, Taken, committed_at_end, no_key, is_full, rub_out, with_byte}
+use Rattle.ring.specs.Ring.{ring}
 use Rattle.console.specs.declared.input.Change.{Change}
 use Rattle.console.specs.declared.input.Change.TheVariants.{Add, Erase, Nothing}
-
--- n bytes of a ring of so many places, from a place on, around the end
-unfoldable pub ring : (room : ℕ) (places : List ℕ) (from n : ℕ) → List ℕ
-ring room places from zero = []
-ring room places from (suc n) = slice_index places (from % room) ∷ ring room places (from + 1) n
 
 -- the console whose bytes stand in a ring of 128 places: those that can be read, and then the edited line
 abbrev pub line_of : (places : List ℕ) (from committed edited : ℕ) → Console

@@ -3,8 +3,6 @@
 
 mod input;
 mod output;
-#[cfg(test)]
-mod tests;
 
 pub use input::{Console, ROOM, Taken};
 pub use output::{Out, OutFault, Writer};

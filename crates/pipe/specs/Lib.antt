@@ -1,4 +1,2 @@
 pub mod Pipe
 pub mod PipeLemmas
-pub mod Ring
-pub mod RingLemmas

@@ -4,7 +4,7 @@ use Rattle.ram.specs.Memory.{frame_of}
 use Rattle.unixmodel.specs.OpenFiles.{pipe_room}
 use Rattle.pipe.specs.declared.End.{End}
 use Rattle.pipe.specs.declared.End.TheVariants.{Read, Write}
-use Rattle.pipe.specs.Ring.{ring}
+use Rattle.ring.specs.Ring.{ring}
 
 pub record Pipe : Type 0 where
   pub frame : ℕ

@@ -2,8 +2,8 @@
 use Rattle.std.proofs.Common.{List, ap, length, ℕ, ◌≡◌}
 use Rattle.ram.specs.Memory.{frame_of}
 use Rattle.pipe.specs.Pipe.{Pipe, bytes_of}
-use Rattle.pipe.specs.Ring.{ring}
-use Rattle.pipe.specs.RingLemmas.{length-ring}
+use Rattle.ring.specs.Ring.{ring}
+use Rattle.ring.specs.RingLemmas.{length-ring}
 
 pub length-bytes_of : (m : List (List ℕ)) (p : Pipe) → length (bytes_of m p) ≡ p.held
 length-bytes_of m p = length-ring 512 (frame_of m p.frame) p.from p.held

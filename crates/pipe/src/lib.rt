@@ -5,7 +5,7 @@ ghost use Rattle.std.specs.Prelude.{◌≡◌, ◌+◌, ◌-◌, ◌<◌, ◌≤
 ghost use Rattle.ram.specs.Memory.{frame_of};
 ghost use Rattle.unixmodel.specs.OpenFiles.{pipe_room};
 ghost use Rattle.unixmodel.specs.Turn.{is_empty};
-ghost use Rattle.pipe.specs.Ring.{ring};
+ghost use Rattle.ring.specs.Ring.{ring};
 
 use ram::{FRAME_SIZE, FrameNo, Ram};
 use std::marker::Model;
@@ -182,6 +182,3 @@ impl Pipe {
         !self.read_open && !self.write_open
     }
 }
-
-#[cfg(test)]
-mod tests;

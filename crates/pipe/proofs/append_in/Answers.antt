@@ -1,5 +1,5 @@
 use Rattle.std.proofs.Common.{◌+◌, ◌++◌, ◌∙◌, ap, length}
-use Rattle.pipe.specs.Ring.{ring}
+use Rattle.ring.specs.Ring.{ring}
 use Rattle.pipe.proofs.Steps.{frame-put}
 use Rattle.pipe.proofs.append_in.Goals as goal
 

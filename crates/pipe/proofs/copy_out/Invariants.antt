@@ -1,5 +1,5 @@
 use Rattle.std.proofs.Common.{◌≡◌, take}
-use Rattle.pipe.specs.Ring.{ring}
+use Rattle.ring.specs.Ring.{ring}
 use Rattle.pipe.proofs.copy_out.Given as goal
 
 abbrev pub invariant-loop-i : goal.invariant-loop-i

@@ -1,5 +1,5 @@
 use Rattle.std.proofs.Common.{refl}
-use Rattle.console.specs.Line.{ring}
+use Rattle.ring.specs.Ring.{ring}
 use Rattle.console.proofs.input.Console.new.Goals as goal
 
 pub returns : goal.returns

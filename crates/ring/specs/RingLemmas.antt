@@ -1,8 +1,8 @@
 -- Lemmas on the bytes of a ring.
-use Rattle.std.proofs.Common.{◌≡◌, ◌≢◌, ◌<◌, ◌≤◌, ◌⊎◌, inl, inr, ℕ, zero, suc, ◌+◌, ◌-◌, ◌%◌, List, [], ◌∷◌, ◌++◌, length, take, get_or, set, slice_get, None, Some, refl, sym, ap, ap₂, ◌∙◌, arith, mod-eq_of_lt, get_or-set_other, get_or-set_same}
+use Rattle.std.proofs.Common.{◌≡◌, ◌≢◌, ◌<◌, ◌≤◌, ◌⊎◌, inl, inr, ℕ, zero, suc, ◌+◌, ◌-◌, ◌%◌, List, [], ◌∷◌, ◌++◌, drop, length, take, get_or, set, slice_get, None, Some, refl, sym, ap, ap₂, ◌∙◌, arith, mod-eq_of_lt, get_or-set_other, get_or-set_same}
 use Rattle.std.proofs.Math.Nat.{mod-add-mod, mod-eq-sub-mod}
 use Rattle.std.proofs.lemmas.Bool.{cases_lt}
-use Rattle.console.specs.Line.{ring}
+use Rattle.ring.specs.Ring.{ring}
 
 pub length-ring : (room : ℕ) (xs : List ℕ) (k n : ℕ) → length (ring room xs k n) ≡ n
 unfolding ring
@@ -71,7 +71,7 @@ ring-set_behind room xs k n at b low near h =
     ring-same room (set xs (at % room) b) xs k k n (λ i l. get_or-set_other xs (at % room) ((k + i) % room) b 0 (places-apart room (k + i) at (omega arith) (omega arith) h))
 
 -- a byte that is written right behind a part makes it longer
-pub ring-push : (room : ℕ) (xs : List ℕ) (k n at b : ℕ) → length xs ≡ room → at ≡ k + n → n < room → at < room + room → ring room (set xs (at % room) b) k (n + 1) ≡ ring room xs k n ++ b ∷ []
+pub ring-push : (room : ℕ) (xs : List ℕ) (k n at b : ℕ) → room ≤ length xs → at ≡ k + n → n < room → at < room + room → ring room (set xs (at % room) b) k (n + 1) ≡ ring room xs k n ++ b ∷ []
 unfolding ring
 ring-push room xs k n at b full e fits h =
     let inside : at % room < length xs = elim (wraps_once room at h) [ inl p ↦ omega arith | inr p ↦ omega arith ] in
@@ -89,3 +89,18 @@ pub first-ring : (room : ℕ) (xs : List ℕ) (k n : ℕ) → 0 < n → k < room
 unfolding ring
 first-ring room xs k zero h l = absurd (omega arith)
 first-ring room xs k (suc n) h l = ap (λ i. Some (get_or xs i 0)) (mod-eq_of_lt l)
+
+-- the rest of a ring
+pub drop-ring : (room : ℕ) (xs : List ℕ) (k m n : ℕ) → drop m (ring room xs k n) ≡ ring room xs (k + m) (n - m)
+unfolding ring
+drop-ring room xs k zero n =
+    let a : k ≡ k + zero = omega arith in
+    let b : n ≡ n - zero = omega arith in
+    ap (λ i. ring room xs i n) a ∙ ap (λ i. ring room xs (k + zero) i) b
+drop-ring room xs k (suc m) zero =
+    let a : zero ≡ zero - suc m = omega arith in
+    ap (λ i. ring room xs (k + suc m) i) a
+drop-ring room xs k (suc m) (suc n) =
+    let a : k + 1 + m ≡ k + suc m = omega arith in
+    let b : n - m ≡ suc n - suc m = omega arith in
+    drop-ring room xs (k + 1) m n ∙ ap (λ i. ring room xs i (n - m)) a ∙ ap (λ i. ring room xs (k + suc m) i) b
