@@ -6,23 +6,23 @@ use Rattle.std.proofs.lemmas.List.{length-set}
 use Rattle.std.proofs.lemmas.List.Sums.{sum_by-set}
 use Rattle.calls.specs.Descriptors.{IsCounted, after_close, descriptors_in, named_by, names_in, standing}
 use Rattle.calls.specs.Kernel.{Kernel, answered, argument, descriptors_at, entered, loaded, memories, state_of}
-use Rattle.calls.specs.Renamed.{with_descriptor, without_descriptor}
+use Rattle.calls.specs.Renamed.{without_descriptor}
 use Rattle.calls.specs.Says.{called}
 use Rattle.calls.specs.Sound.{IsKernel, IsOpened, IsPlaced}
 use Rattle.calls.proofs.Changes.{stands-put}
 use Rattle.calls.proofs.Named.{Leaves, counts-joined, fewer-pipes, leaves-standing, left-close_pipe, opens-all_closed, piped-close, reap-closed, standing-is}
 use Rattle.calls.proofs.Opens.{waits-fewer, waits-running, waits-set}
 use Rattle.calls.proofs.Reaped.{match-active, match-place, opened-loaded, within-state_with}
-use Rattle.calls.proofs.Renames.{named-counts, runs-mode}
+use Rattle.calls.proofs.Renames.{named-counts}
 use Rattle.calls.proofs.Rows.{enters-kernel, enters-run, numbered, refuses}
 use Rattle.calls.proofs.Runs.{IsRun, eq-self, moved, moved-state, process-run, run-of, runs-set, self, set-slot, slot-put, slot-within, with_process, within-run}
-use Rattle.calls.proofs.Settles.{after, change-put, live, not-killed, regs-kernel}
+use Rattle.calls.proofs.Settles.{after, change-put, live, not-killed, regs-kernel, runs-mode}
 use Rattle.files.specs.Counts.{count-closed, names, names-clear}
 use Rattle.files.specs.Pipes.{pipes-same}
 use Rattle.files.specs.Places.{Counted, closed, last_target, opens_of}
 use Rattle.files.specs.Whole.{table-closed}
 use Rattle.proc.specs.declared.process.Process.{Process}
-use Rattle.proc.specs.Places.{changed}
+use Rattle.proc.specs.Places.{changed, with_descriptor}
 use Rattle.proc.specs.Whole.{with_memory}
 use Rattle.spaces.specs.Spaces.{Held, taken_frames}
 use Rattle.unixmodel.specs.Calls.{call_of, end_if_killed, quiet, settle}
@@ -210,19 +210,17 @@ closing_to k i fd n = record k {
 }
 
 pub record Closes (k now : Kernel) (i fd n : ℕ) : Type 0 where
-  pub named : slot (descriptors_at now i) fd ≡ Some n
   pub made : closing_to k i fd n ≡ without_descriptor now i fd n
   pub keeps : IsKernel (closing_to k i fd n)
 
-pub closes : (k now : Kernel) (i fd n : ℕ) (x : Process) → k ≡ now → IsKernel k → now.spaces.active ≡ Some i → slot k.table.places i ≡ Some x → slot x.descriptors fd ≡ Some n → Closes k now i fd n
-closes k now i fd n x same is at there named =
+pub closes : (k now : Kernel) (i fd n : ℕ) → k ≡ now → IsKernel k → now.spaces.active ≡ Some i → slot (descriptors_at now i) fd ≡ Some n → Closes k now i fd n
+closes k now i fd n same is at named =
     let active : k.spaces.active ≡ Some i = ap (λ (x : Kernel). x.spaces.active) same ∙ at in
     let run = run-of k i is active in
-    let here : slot run.0.descriptors fd ≡ Some n = ap (λ (o : Option Process). slot (descriptors_in o) fd) (sym run.1.1.process ∙ there) ∙ named in
+    let here : slot run.0.descriptors fd ≡ Some n = ap (λ (o : Option Process). slot (descriptors_in o) fd) (sym run.1.1.process) ∙ ap (λ (y : Kernel). slot (descriptors_at y i) fd) same ∙ named in
     let e : closing_to k i fd n ≡ without_descriptor k i fd n =
     ap (λ (ps : List (Option (List ℕ))). record k { table = changed k.table i (with_descriptor fd None); spaces = record k.spaces { pipes = ps }; files = closed k.files n }) (close-standing k is n) in
     record {
-      named = ap (λ (y : Kernel). slot (descriptors_at y i) fd) (sym same) ∙ ap (λ (o : Option Process). slot (descriptors_in o) fd) there ∙ named;
       made = e ∙ ap (λ (y : Kernel). without_descriptor y i fd n) same;
       keeps = subst (λ (x : Kernel). IsKernel x) (sym (e ∙ closed-is k i run.0 run.1.0 run.1.1 is fd n here)) (closed-kernel k i run.0 run.1.0 run.1.1 is fd n here);
     }

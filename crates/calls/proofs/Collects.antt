@@ -14,7 +14,7 @@ use Rattle.calls.proofs.Forks.{set-swap}
 use Rattle.calls.proofs.Opens.{opened-names, waits-other}
 use Rattle.calls.proofs.Reaped.{within-state}
 use Rattle.calls.proofs.Rows.{enters-kernel, enters-run, numbered, refuses, waits-run}
-use Rattle.calls.proofs.Runs.{IsRun, moved, moved-kernel, moved-run, moved-state, process-run, process-with, run-of, runs-set, self, set-slot, slot-other, slot-within, stands-set, state-run, with_process}
+use Rattle.calls.proofs.Runs.{IsRun, moved, moved-kernel, moved-run, moved-state, process-run, process-with, run-of, runs-set, self, set-slot, slot-other, slot-within, stands-set, state-run, with_process, place-space}
 use Rattle.calls.proofs.Settles.{settle-done}
 use Rattle.calls.proofs.Steps.{held-run, placed-with}
 use Rattle.files.specs.Counts.{names, names-none}
@@ -23,7 +23,7 @@ use Rattle.proc.specs.declared.process.Process.{Process}
 use Rattle.proc.specs.declared.table.Reaped.{Reaped}
 use Rattle.proc.specs.Places.{Places, is_child_of, is_zombie_child_of, place_where, reaped_at, reaped_from, without, zombie_place}
 use Rattle.proc.specs.Whole.{cleared-with_table, has_child-with_table, joined, place_where-Some, with_memory, with_table, zombie_child-with_table}
-use Rattle.spaces.specs.Spaces.{Held, frames_in, held_at, taken_frames, with_held, with_place, written}
+use Rattle.spaces.specs.Spaces.{Held, frames_in, held_at, taken_frames, with_held, with_place, written, has_space}
 use Rattle.spaces.specs.SpacesLemmas.{taken-placed}
 use Rattle.unixmodel.specs.Calls.{call_of, goes_on, quiet, settle}
 use Rattle.unixmodel.specs.Counts.{page_frames}
@@ -418,6 +418,7 @@ reaped_to k i a parent x = record k {
 
 pub record Closes (k now : Kernel) (i a parent : ℕ) (x : Reaped) : Type 0 where
   pub apart : k.spaces.active ≢ Some x.place
+  pub stands : has_space (with_held k.spaces i (with_status (held_at k.spaces i) a x.status)) x.place ≡ true
   pub keeps : IsKernel (reaped_to k i a parent x)
   pub does : Collects now i a (reaped_to k i a parent x) (Some x.pid)
 
@@ -430,9 +431,16 @@ closes k now i a parent x same is at pid given =
     let e = reaped-is k i a parent x f named in
     record {
       apart = λ wrong. let t : Some i ≡ Some x.place = sym active ∙ wrong in reaped-apart k i x is f (let u : i ≡ x.place = cc in sym u);
+      stands = ap is_some (slot-other k.spaces.places i x.place (Some (with_status (held_at k.spaces i) a x.status)) (reaped-apart k i x is f)) ∙ place-space (slot k.table.places x.place) (slot k.spaces.places x.place) f.child f.at (is.stands x.place);
       keeps = rw e (collect-keeps k i a x is f);
       does = subst (λ (y : Kernel). Collects y i a (reaped_to k i a parent x) (Some x.pid)) same (rw e (collects-some k i a x f));
     }
+
+-- nothing changes where there is no zombie child
+pub keeps-none : (k : Kernel) (parent : ℕ) → IsKernel k → reaped_at k.table (zombie_place k.table parent) ≡ None → IsKernel (record k { table = without k.table (zombie_place k.table parent) })
+keeps-none k parent is none =
+    let f : zombie_place k.table parent ≡ None = unreaped-go k.table parent (zombie_place k.table parent) refl none in
+    rw f is
 
 pub closes-none : (k now : Kernel) (i a parent : ℕ) → k ≡ now → IsKernel k → now.spaces.active ≡ Some i → IfSome (slot now.table.places i) (λ p. parent ≡ p.pid)
     → reaped_at k.table (zombie_place k.table parent) ≡ None → Collects now i a (record k { table = without k.table (zombie_place k.table parent) }) None

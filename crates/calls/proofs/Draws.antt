@@ -1,6 +1,6 @@
 -- A read from a pipe goes on.
 use Rattle.std.proofs.Common.{◌≡◌, ℕ, ◌+◌, ◌<◌, ◌≤◌, ◌%◌, Bool, true, false, List, [], ◌∷◌, length, min, take, drop, Option, Some, None, refl, ap, subst, sym, ◌⊎◌, inl, inr, ◌∙◌, arith}
-use Rattle.std.specs.Prelude.{IfSome, if◌then◌else◌, not, option_and_then, option_map, slice_index, unwrap_or, ◌==◌}
+use Rattle.std.specs.Prelude.{IfSome, if◌then◌else◌, not, slice_index, unwrap_or, ◌==◌}
 use Rattle.std.proofs.lemmas.Bool.Decides.{nat_tests}
 use Rattle.calls.specs.Descriptors.{descriptors_in}
 use Rattle.calls.specs.Kernel.{Kernel, answered, blocked, descriptors_at, drawn, state_of}
@@ -8,7 +8,7 @@ use Rattle.calls.specs.Says.{IsOnPipe, gone_on}
 use Rattle.calls.specs.Sound.{IsAwaiting, IsFresh, IsKernel, IsPending, IsPlaced, IsReading, file_named, is_on_pipe}
 use Rattle.calls.proofs.Collects.{length-write_bytes}
 use Rattle.calls.proofs.Goes.{gone-run}
-use Rattle.calls.proofs.Opens.{IsNamed, waits-reading}
+use Rattle.calls.proofs.Opens.{IsFileAt, IsNamed, file-at, waits-reading}
 use Rattle.calls.proofs.Readies.{stands-open}
 use Rattle.calls.proofs.Reaped.{within-state}
 use Rattle.calls.proofs.Rows.{waits-run}
@@ -30,7 +30,7 @@ use Rattle.unixmodel.specs.FileCalls.{read_on, read_pipe}
 use Rattle.unixmodel.specs.Files.{put, slot}
 use Rattle.unixmodel.specs.Memory.{write_bytes}
 use Rattle.unixmodel.specs.Numbers.{low}
-use Rattle.unixmodel.specs.OpenFiles.{End, OpenFile, Target}
+use Rattle.unixmodel.specs.OpenFiles.{End, OpenFile}
 use Rattle.unixmodel.specs.OpenFiles.End.{WriteEnd}
 use Rattle.unixmodel.specs.OpenFiles.Target.{OnPipe}
 use Rattle.unixmodel.specs.Outcome.{answers, limited, pending_arg}
@@ -167,27 +167,6 @@ draws-keeps k i q address count new is active pipe made =
     let run = run-of k i is active in
     let here = some-pipe (slot k.spaces.pipes q) pipe in
     rw made (draws-kernel k i run.0 run.1.0 run.1.1 is q (unwrap_or (slot k.spaces.pipes q) []) here address count)
-
--- ---- what a descriptor names
-
--- descriptor d names an open file on t
-pub record IsFileAt (opens : List (Option OpenFile)) (ds : List (Option ℕ)) (d : ℕ) (t : Target) : Type 0 where
-  pub number : ℕ
-  pub file : OpenFile
-  pub named : slot ds d ≡ Some number
-  pub opened : slot opens number ≡ Some file
-  pub on : file.target ≡ t
-
-file-in : (opens : List (Option OpenFile)) (ds : List (Option ℕ)) (d : ℕ) (t : Target) (n : ℕ) (o : Option OpenFile) → slot ds d ≡ Some n → slot opens n ≡ o → option_map (λ (f : OpenFile). f.target) o ≡ Some t → IsFileAt opens ds d t
-file-in opens ds d t n None named at is = absurd (cc)
-file-in opens ds d t n (Some f) named at is = record { number = n; file = f; named = named; opened = at; on = cc }
-
-file-go : (opens : List (Option OpenFile)) (ds : List (Option ℕ)) (d : ℕ) (t : Target) (o : Option ℕ) → slot ds d ≡ o → option_map (λ (f : OpenFile). f.target) (option_and_then (slot opens) o) ≡ Some t → IsFileAt opens ds d t
-file-go opens ds d t None named is = absurd (cc)
-file-go opens ds d t (Some n) named is = file-in opens ds d t n (slot opens n) named refl is
-
-pub file-at : (opens : List (Option OpenFile)) (ds : List (Option ℕ)) (d : ℕ) (t : Target) → option_map (λ (f : OpenFile). f.target) (file_named opens ds d) ≡ Some t → IsFileAt opens ds d t
-file-at opens ds d t is = file-go opens ds d t (slot ds d) refl is
 
 -- ---- by what the kernel answers
 

@@ -7,7 +7,7 @@ use Rattle.std.proofs.lemmas.List.Quantifiers.{position-Some}
 use Rattle.std.proofs.lemmas.List.Sums.{count_by-le-length, sum_by-cons}
 use Rattle.calls.specs.Descriptors.{all_shared, named_by, names_in}
 use Rattle.calls.specs.Kernel.{Kernel, answered, base, child_of, entered, forked, memories, memory_in, on_hart, rest_of, state_of}
-use Rattle.calls.specs.Says.{IsUnforked, called}
+use Rattle.calls.specs.Says.{IsUnforked, called, Forks}
 use Rattle.calls.specs.Sound.{IsKernel, IsLive, IsMode, IsOpened, IsPlace, IsPlaced, is_at}
 use Rattle.calls.proofs.Changes.{other-at}
 use Rattle.calls.proofs.Named.{counted-forked, opens-all_shared, table-all_shared}
@@ -295,3 +295,22 @@ fork-keeps k i q seat is active z a held seats fits =
     let kept = forked-kernel k i run.0 run.1.0 r is z a seat (seat-is k.table seat seats) few in
     subst (λ (x : Process). IsKernel (record k { table = seated k.table (child_of x) seat; spaces = with_held k.spaces seat.place (held_at k.spaces i); files = all_shared k.files x.descriptors })) e
     (subst (λ (y : Held). IsKernel (record k { table = seated k.table (child_of (on_hart k.spaces run.0)) seat; spaces = with_held k.spaces seat.place y; files = all_shared k.files run.0.descriptors })) h kept)
+
+does-go : (k : Kernel) (i : ℕ) (q : Process) (seat : Seat) (o : Option Process) → slot k.table.places i ≡ o → option_map (on_hart k.spaces) o ≡ Some q
+    → record k { table = seated k.table (child_of q) seat; spaces = with_held k.spaces seat.place (held_at k.spaces i); files = all_shared k.files q.descriptors } ≡ forked k i seat
+does-go k i q seat None at held = absurd (cc)
+does-go k i q seat (Some p) at held =
+    let e : q ≡ on_hart k.spaces p = cc in
+    rw at (ap (λ (x : Process). record k { table = seated k.table (child_of x) seat; spaces = with_held k.spaces seat.place (held_at k.spaces i); files = all_shared k.files x.descriptors }) e)
+
+-- k is what the fields show, and now is the kernel's value
+pub fork-does : (k now : Kernel) (i : ℕ) (q : Process) (seat : Seat) → k ≡ now → option_map (on_hart k.spaces) (slot k.table.places i) ≡ Some q → seat_of k.table ≡ Ok seat
+    → Forks now i (record k { table = seated k.table (child_of q) seat; spaces = with_held k.spaces seat.place (held_at k.spaces i); files = all_shared k.files q.descriptors }) (Some seat.pid)
+fork-does k now i q seat same held seats = (
+  seat,
+  (
+    ap (λ (x : Kernel). seat_of x.table) (sym same) ∙ seats,
+    refl,
+    does-go k i q seat (slot k.table.places i) refl held ∙ ap (λ (x : Kernel). forked x i seat) same,
+  ),
+)

@@ -4,7 +4,7 @@ use Rattle.std.specs.Prelude.{option_map, slice_index, slice_index_or, slice_set
 use Rattle.std.proofs.lemmas.Bool.{le-leb}
 use Rattle.std.proofs.lemmas.List.{get_or-set_other, length-map, length-set, map-set, set-get_or}
 use Rattle.calls.specs.Descriptors.{descriptors_in}
-use Rattle.calls.specs.Kernel.{Kernel, answered, argument, base, ended, entered, halted_by, loaded, marked, memories, memory_in, on_hart, rest_of, state_of, with_mark}
+use Rattle.calls.specs.Kernel.{Kernel, answered, argument, base, ended, entered, halted_by, loaded, marked, memories, memory_in, on_hart, rest_of, state_of}
 use Rattle.calls.specs.Says.{called, named}
 use Rattle.calls.specs.Sound.{IsKernel, IsMode, IsPlace, WaitsWell, is_at}
 use Rattle.calls.proofs.Changes.{ended-is, ended-kernel, ended_to, other-at, stands-put}
@@ -14,12 +14,12 @@ use Rattle.calls.proofs.Named.{counts-joined, reap-closed}
 use Rattle.calls.proofs.Opens.{opened-put}
 use Rattle.calls.proofs.Reaped.{IsMatch, match-loaded, within-state_with}
 use Rattle.calls.proofs.Rows.{aligned-next, enters-kernel, enters-run, numbered, refuses}
-use Rattle.calls.proofs.Runs.{IsRun, loaded-run, memory-at, process-run, process-with, put-with, run-of, runs-set, same_or_not, self, set-twice, slot-other, slot-put, slot-within, state-run, with_process, within-run}
+use Rattle.calls.proofs.Runs.{IsRun, loaded-run, memory-at, process-run, process-with, put-with, run-of, runs-set, same_or_not, self, set-slot, set-twice, slot-other, slot-put, slot-within, state-run, with_process, within-run}
 use Rattle.calls.proofs.Settles.{after, change-put, change-run, regs-kernel, regs-run, settle-limited}
 use Rattle.files.specs.Places.{opens_of}
 use Rattle.proc.specs.declared.process.Process.{Process}
 use Rattle.proc.specs.Places as table
-use Rattle.proc.specs.Places.{Places, changed, has_pid, orphaned, place_where, zombie_of}
+use Rattle.proc.specs.Places.{Places, changed, has_pid, orphaned, place_where, with_mark, zombie_of}
 use Rattle.proc.specs.Whole.{change_process-with_table, place_of_pid-with_table, place_where-Some, with_memory, with_table, with_zombie-with_table}
 use Rattle.spaces.specs.Spaces.{Held}
 use Rattle.unixmodel.specs.Calls.{call_of, end_if_killed, quiet, settle}
@@ -70,6 +70,18 @@ marked-kernel k j q is at rests =
       fits = is.fits;
       opened = opened-put k.files k.spaces.pipes k.table.places j (Some (with_mark q)) (sym (ap descriptors_in at)) (subst (WaitsWell (opens_of k.files)) at (is.opened.waits j)) is.opened;
     }
+
+rests-at : (o : Option ℕ) (j : ℕ) → o ≢ Some j → is_at j o ≡ false
+rests-at None j other = refl
+rests-at (Some i) j other = other-at i j (λ same. other (ap Some (sym same)))
+
+marks-go : (k : Kernel) (j : ℕ) (o : Option Process) → IsKernel k → slot k.table.places j ≡ o → is_at j k.spaces.active ≡ false → IsKernel (marked k j)
+marks-go k j None is at rests = rw (at, set-slot k.table.places j None at) is
+marks-go k j (Some q) is at rests = rw (marked-is k j q at) (marked-kernel k j q is at rests)
+
+-- k is what the fields show, and now is the kernel's value
+pub marks-keeps : (k now : Kernel) (j : ℕ) → k ≡ now → IsKernel k → now.spaces.active ≢ Some j → IsKernel (marked k j)
+marks-keeps k now j same is other = marks-go k j (slot k.table.places j) is refl (ap (λ (x : Kernel). is_at j x.spaces.active) same ∙ rests-at now.spaces.active j other)
 
 module _ (k : Kernel) (i : ℕ) (p : Process) (h : Held) (r : IsRun k i p h) (is : IsKernel k) where
   -- ---- another process is marked

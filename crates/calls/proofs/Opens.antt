@@ -5,7 +5,7 @@ use Rattle.std.proofs.lemmas.Bool.Decides.{nat_tests}
 use Rattle.std.proofs.lemmas.List.Sums.{sum_by-cons}
 use Rattle.calls.specs.Descriptors.{IsCounted, descriptors_in, named_by, names_in}
 use Rattle.calls.specs.Kernel.{Kernel, on_hart}
-use Rattle.calls.specs.Sound.{IsAwaiting, IsForPipe, IsFresh, IsOpenFile, IsOpened, WaitsAs, WaitsWell, console_file, is_on_pipe}
+use Rattle.calls.specs.Sound.{IsAwaiting, IsForPipe, IsFresh, IsOpenFile, IsOpened, WaitsAs, WaitsWell, console_file, file_named, is_on_pipe}
 use Rattle.files.specs.Counts as counts
 use Rattle.files.specs.Counts.{count_of, names, names-clear, one_at}
 use Rattle.files.specs.Places.{Counted, count_at, count_in, opens_of}
@@ -22,7 +22,7 @@ use Rattle.unixmodel.specs.declared.process.Pending.{Pending}
 use Rattle.unixmodel.specs.Files.{slot, taken}
 use Rattle.unixmodel.specs.Memory.{Memory}
 use Rattle.unixmodel.specs.Numbers.{low}
-use Rattle.unixmodel.specs.OpenFiles.{OpenFile}
+use Rattle.unixmodel.specs.OpenFiles.{OpenFile, Target}
 use Rattle.unixmodel.specs.Outcome.{pending_arg}
 use Rattle.unixmodel.specs.Process as unix
 use Rattle.unixmodel.specs.State.{State}
@@ -183,3 +183,24 @@ module _ (files : List (Option Counted)) (pipes : List (Option (List ℕ))) (os 
   pub open-named : (i : ℕ) (p : Process) (d n : ℕ) → slot os i ≡ Some p → slot p.descriptors d ≡ Some n → (f : OpenFile) × ((slot (opens_of files) n ≡ Some f) × IsOpenFile f)
   open-named i p d n at named =
       open-go n (slot files n) refl (place-counts files os is.counted i (Some p) at d n named)
+
+-- ---- what a descriptor names
+
+-- descriptor d names an open file on t
+pub record IsFileAt (opens : List (Option OpenFile)) (ds : List (Option ℕ)) (d : ℕ) (t : Target) : Type 0 where
+  pub number : ℕ
+  pub file : OpenFile
+  pub named : slot ds d ≡ Some number
+  pub opened : slot opens number ≡ Some file
+  pub on : file.target ≡ t
+
+file-in : (opens : List (Option OpenFile)) (ds : List (Option ℕ)) (d : ℕ) (t : Target) (n : ℕ) (o : Option OpenFile) → slot ds d ≡ Some n → slot opens n ≡ o → option_map (λ (f : OpenFile). f.target) o ≡ Some t → IsFileAt opens ds d t
+file-in opens ds d t n None named at is = absurd (cc)
+file-in opens ds d t n (Some f) named at is = record { number = n; file = f; named = named; opened = at; on = cc }
+
+file-go : (opens : List (Option OpenFile)) (ds : List (Option ℕ)) (d : ℕ) (t : Target) (o : Option ℕ) → slot ds d ≡ o → option_map (λ (f : OpenFile). f.target) (option_and_then (slot opens) o) ≡ Some t → IsFileAt opens ds d t
+file-go opens ds d t None named is = absurd (cc)
+file-go opens ds d t (Some n) named is = file-in opens ds d t n (slot opens n) named refl is
+
+pub file-at : (opens : List (Option OpenFile)) (ds : List (Option ℕ)) (d : ℕ) (t : Target) → option_map (λ (f : OpenFile). f.target) (file_named opens ds d) ≡ Some t → IsFileAt opens ds d t
+file-at opens ds d t is = file-go opens ds d t (slot ds d) refl is

@@ -6,16 +6,15 @@ use Rattle.std.proofs.lemmas.List.{length-set}
 use Rattle.std.proofs.lemmas.List.Sums.{sum_by-set}
 use Rattle.calls.specs.Descriptors.{IsCounted, descriptors_in, named_by, names_in}
 use Rattle.calls.specs.Kernel.{Kernel, answered, argument, descriptors_at, entered, state_of}
-use Rattle.calls.specs.Renamed.{AreFree, Ends, LacksEnds, OpensAs, free_descriptors, piped, with_descriptor}
+use Rattle.calls.specs.Renamed.{AreFree, Ends, LacksEnds, OpensAs, free_descriptors, piped}
 use Rattle.calls.specs.Says.{called}
 use Rattle.calls.specs.Sound.{IsKernel, IsOpenFile, IsOpened, IsPlace, IsPlaced}
 use Rattle.calls.proofs.Collects.{length-write_bytes}
 use Rattle.calls.proofs.Opens.{place-counts, waits-kept, waits-running, waits-set}
 use Rattle.calls.proofs.Reaped.{match-active, match-place, over-state}
-use Rattle.calls.proofs.Renames.{runs-mode}
 use Rattle.calls.proofs.Rows.{enters-kernel, enters-run, numbered, refuses}
 use Rattle.calls.proofs.Runs.{IsRun, eq-self, moved, moved-state, run-of, runs-set, same_or_not, self, set-twice, slot-other, slot-put, slot-within, stands-set, with_process, within-run}
-use Rattle.calls.proofs.Settles.{live, not-killed, settle-limited}
+use Rattle.calls.proofs.Settles.{live, not-killed, runs-mode, settle-limited}
 use Rattle.calls.proofs.Steps.{held-run}
 use Rattle.files.specs.Counts.{count-opened, names, names-put}
 use Rattle.files.specs.Free.{free-None, free-Some, free-opens, free-place, free-put}
@@ -24,7 +23,7 @@ use Rattle.files.specs.declared.table.FileFault.{FileFault}
 use Rattle.files.specs.Places.{Counted, count_at, count_in, free_count, opened, opens_of, place_for, place_from}
 use Rattle.files.specs.Whole.{free_slot-opens, opens-opened, table-opened}
 use Rattle.proc.specs.declared.process.Process.{Process}
-use Rattle.proc.specs.Places.{Places, changed}
+use Rattle.proc.specs.Places.{Places, changed, with_descriptor}
 use Rattle.spaces.specs.Spaces.{Held, Spaces, frames_in, held_at, taken_frames, with_held, with_pipe, written}
 use Rattle.spaces.specs.SpacesLemmas.{taken-placed}
 use Rattle.unixmodel.specs.Calls.{call_of, quiet, settle}
@@ -367,6 +366,9 @@ module _ (k now : Kernel) (i a : ℕ) (same : k ≡ now) where
 
   pub lacks-places : free_count k.files < 2 → LacksEnds now i a
   lacks-places few = lacks-now (λ x free. absurd (two-free (opens_of k.files) (pipe_end x.pipe ReadEnd) x.reader x.writer free.reader free.writer (omega (arith, few, free-opens k.files))))
+
+  pub lacks-room : free_slot k.spaces.pipes ≡ None → LacksEnds now i a
+  lacks-room none = lacks-now (λ x free. let some = free.pipe in absurd (cc))
 
   pub lacks-frames : (b : ℕ) → IsKernel k → now.spaces.active ≡ Some i → free_slot k.spaces.pipes ≡ Some b → k.spaces.frames < taken_frames (with_pipe k.spaces b (Some [])) → LacksEnds now i a
   lacks-frames b is at place over = lacks-now (λ x free.

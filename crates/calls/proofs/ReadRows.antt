@@ -1,19 +1,19 @@
 -- The row of read: its tests, and what it goes on with.
 use Rattle.std.proofs.Common.{◌≡◌, [], ℕ, zero, suc, ◌<◌, Bool, true, false, List, Option, Some, None, refl, ap, sym, ◌∙◌, arith}
-use Rattle.std.specs.Prelude.{IfSome, is_some, option_and_then, option_map, slice_index}
+use Rattle.std.specs.Prelude.{is_some, option_and_then, option_map, slice_index}
 use Rattle.std.specs.Result.{result_ok}
 use Rattle.calls.specs.Descriptors.{descriptors_in}
 use Rattle.calls.specs.Kernel.{Kernel, answered, argument, descriptors_at, entered, state_of}
 use Rattle.calls.specs.Says.{called, gone_on, line_for, pending_for}
 use Rattle.calls.specs.Sends.{target_named}
-use Rattle.calls.specs.Sound.{IsFresh, IsKernel, IsOpenOn, IsReading, console_file, file_named, is_on_pipe}
-use Rattle.calls.proofs.Draws.{IsFileAt, draws-within, file-at}
+use Rattle.calls.specs.Sound.{IsKernel, IsOpenOn, IsReading, console_file, file_named}
+use Rattle.calls.proofs.Draws.{draws-within}
 use Rattle.calls.proofs.Goes.{gone-run}
-use Rattle.calls.proofs.Opens.{IsNamed, open-named}
+use Rattle.calls.proofs.Opens.{IsFileAt, IsNamed, file-at}
 use Rattle.calls.proofs.Readies.{stands-open}
 use Rattle.calls.proofs.Receives.{row-within}
 use Rattle.calls.proofs.Rows.{enters-kernel, enters-run, numbered, refuses}
-use Rattle.calls.proofs.Runs.{IsRun, run-of, self}
+use Rattle.calls.proofs.Runs.{IsRun, self}
 use Rattle.calls.proofs.Settles.{settle-limited}
 use Rattle.calls.proofs.Steps.{held-run}
 use Rattle.calls.proofs.Writes.{int-low}
@@ -28,7 +28,7 @@ use Rattle.unixmodel.specs.FileCalls.{is_usable, read_on, read_row}
 use Rattle.unixmodel.specs.Files.{slot}
 use Rattle.unixmodel.specs.Memory.{Memory, can_write}
 use Rattle.unixmodel.specs.Numbers.{int_of, low, natural}
-use Rattle.unixmodel.specs.OpenFiles.{End, OpenFile, Target}
+use Rattle.unixmodel.specs.OpenFiles.{OpenFile, Target}
 use Rattle.unixmodel.specs.OpenFiles.Target.{OnNode, OnPipe}
 use Rattle.unixmodel.specs.Outcome.{Outcome, limited, minus_one, pending_arg, pending_of}
 use Rattle.unixmodel.specs.Outcome.Outcome.{Done, Refused}
@@ -79,27 +79,6 @@ module _ (k : Kernel) (is : IsKernel k) (i d : ℕ) where
       let both : Some file.number ≡ Some m = sym file.named ∙ named in
       let same : file.number ≡ m = cc in
       ap (slot (opens_of k.files)) (sym same) ∙ file.opened ∙ ap Some (console-file file.file file.file.target n offset file.on (is.opened.each file.number file.file file.opened))
-
-  -- a descriptor that names something is open on something
-  target-go : (p : Process) → slot k.table.places i ≡ Some p → (o : Option ℕ) → slot (descriptors_at k i) d ≡ o → is_some o ≡ true → target_named k i d ≡ None → ⊥
-  target-go p at None named some none = absurd (cc)
-  target-go p at (Some n) named some none =
-      let there : slot p.descriptors d ≡ Some n = ap (λ (q : Option Process). slot (descriptors_in q) d) (sym at) ∙ named in
-      let f = open-named k.files k.spaces.pipes k.table.places is.opened i p d n at there in
-      let open-file : target_named k i d ≡ Some f.0.target =
-      ap (λ (o : Option ℕ). option_map (λ (x : OpenFile). x.target) (option_and_then (slot (opens_of k.files)) o)) named ∙ ap (option_map (λ (x : OpenFile). x.target)) f.1.0 in
-      absurd (let bad : None ≡ Some f.0.target = sym none ∙ open-file in cc)
-
-  pub target-some : k.spaces.active ≡ Some i → is_some (slot (descriptors_at k i) d) ≡ true → target_named k i d ≡ None → ⊥
-  target-some active named none = let run = run-of k i is active in target-go run.0 run.1.1.process (slot (descriptors_at k i) d) refl named none
-
-fresh-in : (o : Option OpenFile) (P : Type 0) (q : ℕ) (end : End) → option_map (λ (f : OpenFile). f.target) o ≡ Some (OnPipe q end) → IfSome o (λ f. is_on_pipe f.target ≡ true → P) → P
-fresh-in None P q end on is = let bad : None ≡ Some (OnPipe q end) = on in absurd (cc)
-fresh-in (Some f) P q end on is = let same : f.target ≡ OnPipe q end = cc in is (ap is_on_pipe same)
-
--- a read of a pipe that may go on has taken nothing
-pub fresh-start : (k : Kernel) (i : ℕ) (w : Pending) (q : ℕ) (end : End) → w.number ≡ Read → IsFresh (opens_of k.files) (descriptors_at k i) w → target_named k i (low (pending_arg w 0)) ≡ Some (OnPipe q end) → w.done ≡ 0
-fresh-start k i w q end number fresh on = fresh-in (file_named (opens_of k.files) (descriptors_at k i) (low (pending_arg w 0))) (w.done ≡ 0) q end on (fresh number)
 
 -- ---- the row
 

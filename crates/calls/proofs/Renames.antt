@@ -1,5 +1,5 @@
 -- A descriptor of the running process names what another one names.
-use Rattle.std.proofs.Common.{◌≡◌, ℕ, ◌+◌, ◌<◌, inl, inr, List, [], length, Option, Some, None, false, refl, ap, sym, subst, ◌∙◌, arith}
+use Rattle.std.proofs.Common.{◌≡◌, ℕ, ◌+◌, ◌<◌, inl, inr, List, [], length, Option, Some, None, refl, ap, sym, subst, ◌∙◌, arith}
 use Rattle.std.specs.Prelude.{slice_index}
 use Rattle.std.proofs.lemmas.List.{length-set}
 use Rattle.std.proofs.lemmas.List.Sums.{sum_by-set}
@@ -7,12 +7,12 @@ use Rattle.calls.specs.Descriptors.{IsCounted, descriptors_in, named_by, names_i
 use Rattle.calls.specs.Kernel.{Kernel, answered, argument, descriptors_at, entered, state_of}
 use Rattle.calls.specs.Renamed.{Duplicates, duplicated}
 use Rattle.calls.specs.Says.{called}
-use Rattle.calls.specs.Sound.{IsKernel, IsLive, IsMode, IsOpened, IsPlaced}
+use Rattle.calls.specs.Sound.{IsKernel, IsOpened, IsPlaced}
 use Rattle.calls.proofs.Rows.{enters-kernel, enters-run, numbered, refuses}
 use Rattle.calls.proofs.Runs.{IsRun, eq-self, moved, moved-state, run-of, runs-set, self, set-slot, slot-put, with_process, within-run}
 use Rattle.calls.proofs.Changes.{stands-put}
 use Rattle.calls.proofs.Opens.{place-counts, waits-running, waits-set}
-use Rattle.calls.proofs.Settles.{live, not-killed, settle-limited}
+use Rattle.calls.proofs.Settles.{live, not-killed, runs-mode, settle-limited}
 use Rattle.files.specs.Counts.{count-shared, names, names-put}
 use Rattle.files.specs.Free.{free-place}
 use Rattle.files.specs.Pipes.{IsPiped}
@@ -22,22 +22,13 @@ use Rattle.proc.specs.declared.process.Process.{Process}
 use Rattle.spaces.specs.Spaces.{Held}
 use Rattle.unixmodel.specs.Calls.{call_of, quiet, settle}
 use Rattle.unixmodel.specs.declared.call.Call.TheVariants.{Dup}
-use Rattle.unixmodel.specs.declared.process.Mode.{Mode}
-use Rattle.unixmodel.specs.declared.process.Mode.TheVariants.{Ready, Running, Waiting, Zombie}
 use Rattle.unixmodel.specs.FileCalls.{descriptor, dup_row}
 use Rattle.unixmodel.specs.Files.{free_slot, put, slot}
 use Rattle.unixmodel.specs.Outcome.{Outcome, limited, minus_one}
 use Rattle.unixmodel.specs.Outcome.Outcome.{Done, Refused}
-use Rattle.unixmodel.specs.Memory.{Memory}
 use Rattle.unixmodel.specs.Numbers.{low}
 use Rattle.unixmodel.specs.OpenFiles.{OpenFile}
 use Rattle.unixmodel.specs.State.{State, put_process}
-
-pub runs-mode : (p : Process) (memory : Memory) (mode : Mode) → mode ≡ Running → IsLive p → p.killed ≡ false → IsMode p memory mode
-runs-mode p memory Running e l n = (l, n)
-runs-mode p memory Ready e l n = absurd (cc)
-runs-mode p memory (Waiting w) e l n = absurd (cc)
-runs-mode p memory (Zombie status) e l n = absurd (cc)
 
 -- what a descriptor names is counted
 pub named-counts : (k : Kernel) (i : ℕ) (p : Process) (h : Held) → IsRun k i p h → IsKernel k → (d n : ℕ) → slot p.descriptors d ≡ Some n → 0 < count_at k.files n
@@ -184,13 +175,3 @@ dups k now i d fd n x same is at there named free =
       made = subst (λ (y : Kernel). Duplicates y i d (duplicated k i fd n) (Some fd)) same (n, (rw ds named, rw ds free, refl));
       keeps = rw (duplicated-is k i run.0 run.1.0 run.1.1 is fd n f.1 f.0 some) (duplicated-kernel k i run.0 run.1.0 run.1.1 is fd n f.1 f.0 some);
     }
-
--- nothing changed
-pub dups-unnamed : (k now : Kernel) (i d : ℕ) (x : Process) → k ≡ now → slot k.table.places i ≡ Some x → slot x.descriptors d ≡ None → Duplicates now i d k None
-dups-unnamed k now i d x same there named = (same, inl (ap (λ (y : Kernel). slot (descriptors_at y i) d) (sym same) ∙ ap (λ (o : Option Process). slot (descriptors_in o) d) there ∙ named))
-
-pub dups-full : (k now : Kernel) (i d : ℕ) (x : Process) → k ≡ now → slot k.table.places i ≡ Some x → free_slot x.descriptors ≡ None → Duplicates now i d k None
-dups-full k now i d x same there full = (same, inr (ap (λ (y : Kernel). free_slot (descriptors_at y i)) (sym same) ∙ ap (λ (o : Option Process). free_slot (descriptors_in o)) there ∙ full))
-
-pub dups-nowhere : (k now : Kernel) (i d : ℕ) → k ≡ now → slot k.table.places i ≡ None → Duplicates now i d k None
-dups-nowhere k now i d same there = (same, inl (ap (λ (y : Kernel). slot (descriptors_at y i) d) (sym same) ∙ ap (λ (o : Option Process). slot (descriptors_in o) d) there))

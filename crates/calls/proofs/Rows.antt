@@ -6,7 +6,7 @@ use Rattle.std.proofs.lemmas.Int.{of_z-to_z}
 use Rattle.calls.specs.Kernel.{Kernel, answered, argument, blocked, ended, entered, halted_by, left_as, loaded, on_hart, state_of}
 use Rattle.calls.specs.Says.{IsUnbuilt, called, called_by}
 use Rattle.calls.specs.Sound.{IsAwaiting, IsKernel, IsPending, IsPlaced, is_at}
-use Rattle.calls.proofs.Changes.{ended-is, ended-kernel, ended-state, left-as, left-kernel, left-state, left_to, other-at}
+use Rattle.calls.proofs.Changes.{ended-is, ended-state, left-as, left-kernel, left-state, left_to, other-at}
 use Rattle.calls.proofs.Reaped.{reap-state}
 use Rattle.calls.proofs.Runs.{IsRun, loaded-run, process-run, self, slot-put, within-run}
 use Rattle.calls.proofs.Settles.{call-run, change-run, live, regs-kernel, regs-run, settle-limited, settle-refused}
@@ -114,13 +114,7 @@ module _ (k : Kernel) (i : ℕ) (p : Process) (h : Held) (r : IsRun k i p h) (is
     pub ends-at : (status : ℤ) → end_at (state_of k) i status (process_at (state_of k) i) ≡ state_of (ended k i status)
     ends-at status = ap (end_at (state_of k) i status) (process-run k i p h r) ∙ ends-run status
 
-    pub ends-kernel : (status : ℤ) → IsKernel (ended k i status)
-    ends-kernel status = rw (ended-is k is z a i (on_hart k.spaces p) h there r.space pids alone status) (ended-kernel k is z a i (on_hart k.spaces p) h there r.space pids alone status)
-
     -- ---- the process waits
-
-    waits-q : Pending → Process
-    waits-q w = record p { registers = k.spaces.registers; pc = k.spaces.pc; mode = Waiting w }
 
     waits-placed : (w : Pending) → IsPending p.descriptors h.memory w w.number → IsPlaced (record p { registers = k.spaces.registers; pc = k.spaces.pc; mode = Waiting w }) h
     waits-placed w pending = let l = live k i p h r is in record {

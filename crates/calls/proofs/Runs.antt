@@ -5,7 +5,7 @@ use Rattle.std.proofs.lemmas.Bool.Decides.{nat_tests}
 use Rattle.std.proofs.lemmas.List.{get_or-set_other, get_or-set_same, length-map, length-set, map-set, set-get_or}
 use Rattle.std.proofs.Math.ListN as listn
 use Rattle.calls.specs.Descriptors.{descriptors_in}
-use Rattle.calls.specs.Kernel.{Kernel, base, descriptors_at, lives, loaded, memories, memory_in, on_hart, rest_of, state_of}
+use Rattle.calls.specs.Kernel.{Kernel, base, descriptors_at, loaded, memories, memory_in, on_hart, rest_of, state_of}
 use Rattle.calls.specs.Sound.{IsKernel, IsOpenFile, IsPlace, IsPlaced, console_file, is_at}
 use Rattle.calls.proofs.Opens.{IsConsole, IsNamed, open-named, opened-put, waits-running}
 use Rattle.files.specs.Places.{opens_of}
@@ -13,7 +13,7 @@ use Rattle.proc.specs.declared.process.Process.{Process}
 use Rattle.proc.specs.Places as table
 use Rattle.proc.specs.Places.{Places, changed}
 use Rattle.proc.specs.Whole.{put-joined, slot-joined, with_memory, with_table}
-use Rattle.spaces.specs.Spaces.{Held, Spaces, taken_frames}
+use Rattle.spaces.specs.Spaces.{Held, Spaces, has_space, taken_frames}
 use Rattle.unixmodel.specs.declared.process.Mode.{Mode}
 use Rattle.unixmodel.specs.declared.process.Mode.TheVariants.{Ready, Running, Waiting, Zombie}
 use Rattle.unixmodel.specs.Files.{put, slot}
@@ -104,6 +104,22 @@ run-of k i is active =
     let here : is_at i k.spaces.active ≡ true = rw active (eq-self i) in
     run-go k i (slot k.table.places i) (slot k.spaces.places i) active refl refl (is.stands i) (is.runs i ∙ here)
 
+pub place-space : (o : Option Process) (q : Option Held) (p : Process) → o ≡ Some p → IsPlace o q → is_some q ≡ true
+place-space None q p e is = absurd (cc)
+place-space (Some r) None p e is = absurd is
+place-space (Some r) (Some h) p e is = refl
+
+-- over the fields: k is what they show, and now is the kernel's value
+module _ (k now : Kernel) (i : ℕ) (same : k ≡ now) (is : IsKernel k) (active : now.spaces.active ≡ Some i) where
+  abbrev pub run-now : (p : Process) × ((h : Held) × IsRun k i p h)
+  run-now = run-of k i is (ap (λ (x : Kernel). x.spaces.active) same ∙ active)
+
+  pub active-space : has_space k.spaces i ≡ true
+  active-space = ap is_some run-now.1.1.space
+
+  pub active-there : slot k.table.places i ≡ None → ⊥
+  active-there none = let here = run-now.1.1.process in absurd (cc)
+
 -- as the abstract Unix sees it
 abbrev pub self : Kernel → Process → Held → unix.Process
 self k p h = with_memory h.memory (on_hart k.spaces p)
@@ -111,9 +127,6 @@ self k p h = with_memory h.memory (on_hart k.spaces p)
 module _ (k : Kernel) (i : ℕ) (p : Process) (h : Held) (r : IsRun k i p h) where
   pub loaded-run : loaded k ≡ with_process k.table i (on_hart k.spaces p)
   loaded-run = rw (r.active, r.process) refl
-
-  pub lives-run : lives p ≡ true
-  lives-run = rw r.runs refl
 
   pub within-run : i < length k.table.places
   within-run = slot-within k.table.places i p r.process

@@ -1,7 +1,7 @@
 -- The running process has another size, and the row of sbrk.
 use Rattle.std.proofs.Common.{◌≡◌, ℕ, ◌+◌, ◌-◌, ◌<◌, ◌≤◌, true, false, [], length, Option, Some, None, pos, refl, ap, subst, sym, ◌∙◌, arith}
 use Rattle.std.specs.Prelude.{slice_index, ◌+ℤ◌}
-use Rattle.calls.specs.Kernel.{Kernel, answered, argument, asked, entered, resized, sized, state_of, with_size}
+use Rattle.calls.specs.Kernel.{Kernel, answered, argument, asked, entered, resized, sized, state_of}
 use Rattle.calls.specs.Says.{IsOver, called}
 use Rattle.calls.specs.Sound.{IsKernel, IsLive, IsMode, IsPlace, IsPlaced}
 use Rattle.calls.proofs.Reaped.{match-active, match-place, over-state}
@@ -10,7 +10,7 @@ use Rattle.calls.proofs.Runs.{IsRun, moved, moved-kernel, moved-run, moved-state
 use Rattle.calls.proofs.Settles.{live, not-killed, settle-limited}
 use Rattle.calls.proofs.Steps.{held-run}
 use Rattle.proc.specs.declared.process.Process.{Process}
-use Rattle.proc.specs.Places.{Places, changed}
+use Rattle.proc.specs.Places.{Places, changed, with_size}
 use Rattle.spaces.specs.Spaces.{Held, Spaces, grown, held_at, shrunk, taken_frames, with_held}
 use Rattle.spaces.specs.SpacesLemmas.{grown-with_pages, held-same, shrunk-with_pages}
 use Rattle.unixmodel.specs.Calls.{call_of, quiet, settle}

@@ -1,15 +1,16 @@
 -- A write to a pipe goes on.
+use Rattle.std.specs.Result.{result_ok}
 use Rattle.std.proofs.Common.{◌≡◌, ◌≢◌, ℕ, zero, suc, ◌+◌, ◌-◌, ◌<◌, ◌≤◌, ◌%◌, ◌^◌, Bool, true, false, nat_eq, List, [], ◌∷◌, length, take, drop, eq-eqb, Option, Some, None, is_some, unwrap_or, refl, ap, subst, sym, ◌∙◌, arith}
-use Rattle.std.specs.Prelude.{IfSome, option_and_then, option_map, slice_index}
+use Rattle.std.specs.Prelude.{option_map, slice_index}
 use Rattle.std.proofs.lemmas.Bool.{ne_eqb}
 use Rattle.std.proofs.lemmas.List.{drop-take, length-drop, length-set}
 use Rattle.calls.specs.Descriptors.{descriptors_in}
 use Rattle.calls.specs.Kernel.{Kernel, answered, argument, blocked, descriptors_at, entered, started, state_of}
 use Rattle.calls.specs.Says.{IsOnPipe, called, further, gone_on, pending_for}
 use Rattle.calls.specs.Sends.{sent, sent_count, target_named, unsent}
-use Rattle.calls.specs.Sound.{IsForPipe, IsKernel, IsPending, IsWriting, file_named, is_on_pipe}
+use Rattle.calls.specs.Sound.{IsForPipe, IsKernel, IsPending, IsWriting, file_named, CanRun, IsAwaiting, WaitsAs, WaitsWell}
 use Rattle.calls.proofs.Goes.{IsResting, gone-run}
-use Rattle.calls.proofs.Opens.{IsNamed, waits-writing}
+use Rattle.calls.proofs.Opens.{IsNamed, file-at, waits-writing}
 use Rattle.calls.proofs.Readies.{stands-open}
 use Rattle.calls.proofs.Reaped.{within-state}
 use Rattle.calls.proofs.Rows.{enters-kernel, enters-run, waits-run}
@@ -17,14 +18,15 @@ use Rattle.calls.proofs.Runs.{IsRun, file-run, run-of, self}
 use Rattle.calls.proofs.Settles.{settle-done}
 use Rattle.calls.proofs.Starts.{started-is, started-run, started_to}
 use Rattle.calls.proofs.Steps.{held-run}
-use Rattle.calls.proofs.Writes.{begun, can-run, int-low, length-read, readable-count, rows-write-begins, to_write}
-use Rattle.files.specs.Places.{has_end, opens_of}
+use Rattle.calls.proofs.Writes.{begun, can-run, int-low, length-read, readable-count, rows-write-begins, to_write, flag-yes}
+use Rattle.files.specs.Places.{has_end, opens_of, writable_at}
 use Rattle.proc.specs.declared.process.Process.{Process}
 use Rattle.spaces.specs.Spaces.{Held, Spaces, bytes_in, filled, fitting, has_pipe, held_at, no_pages, read_at, with_pipe}
 use Rattle.spaces.specs.SpacesLemmas.{some-pipe}
 use Rattle.unixmodel.specs.Calls.{call_of, goes_on, quiet, settle}
 use Rattle.unixmodel.specs.declared.call.Call.{Call}
-use Rattle.unixmodel.specs.declared.call.Call.TheVariants.{Write}
+use Rattle.unixmodel.specs.declared.call.Call.TheVariants.{Chdir, Close, Dup, Exec, Exit, Fork, Fstat, Getpid, Kill, Link, Mkdir, Mknod, Open, Pipe, Read, Sbrk, Sleep, Unlink, Uptime, Wait, Write}
+use Rattle.unixmodel.specs.declared.process.Mode.TheVariants.{Running, Waiting}
 use Rattle.unixmodel.specs.declared.process.Pending.{Pending}
 use Rattle.unixmodel.specs.declared.trap.Access.TheVariants.{Load}
 use Rattle.unixmodel.specs.FileCalls.{write_on, write_pipe}
@@ -33,7 +35,7 @@ use Rattle.unixmodel.specs.Memory.{Memory, reach, read_bytes}
 use Rattle.unixmodel.specs.Numbers.{int_of, low, natural}
 use Rattle.unixmodel.specs.OpenFiles.{End, OpenFile, Target}
 use Rattle.unixmodel.specs.OpenFiles.End.{ReadEnd}
-use Rattle.unixmodel.specs.OpenFiles.Target.{OnNode, OnPipe}
+use Rattle.unixmodel.specs.OpenFiles.Target.{OnPipe}
 use Rattle.unixmodel.specs.Outcome.{limited, minus_one, pending_arg}
 use Rattle.unixmodel.specs.Outcome.Outcome.{Done, Waits}
 use Rattle.unixmodel.specs.Process as unix
@@ -198,8 +200,19 @@ module _ (k : Kernel) (i : ℕ) (p : Process) (h : Held) (r : IsRun k i p h) (is
 
 -- ---- the call of the running process
 
+writable-file : (o : Option OpenFile) (t : Target) → result_ok (writable_at o) ≡ Some t → option_map (λ (f : OpenFile). f.target) o ≡ Some t
+writable-file None t is = let bad : None ≡ Some t = is in absurd (cc)
+writable-file (Some f) t is = ap Some (flag-yes f.target t f.writable is).1
+
+-- the target of a write that may begin
+pub writable-named : (k : Kernel) (i d : ℕ) (t : Target) → result_ok (writable_at (file_named (opens_of k.files) (descriptors_at k i) d)) ≡ Some t → target_named k i d ≡ Some t
+writable-named k i d t is = writable-file (file_named (opens_of k.files) (descriptors_at k i) d) t is
+
+pub named-some : (k : Kernel) (i d : ℕ) (t : Target) → target_named k i d ≡ Some t → is_some (slot (descriptors_at k i) d) ≡ true
+named-some k i d t is = ap is_some (file-at (opens_of k.files) (descriptors_at k i) d t is).named
+
 -- a write that begins
-writing-begins : (k : Kernel) (descriptors : List (Option ℕ)) (mem : Memory) (n : ℕ) → is_some (slot descriptors (low (argument k 0))) ≡ true → natural (int_of (argument k 2)) ≡ Some n → 0 < n → is_some (read_bytes mem (argument k 1) n) ≡ true → IsWriting descriptors mem (pending_for k Write)
+pub writing-begins : (k : Kernel) (descriptors : List (Option ℕ)) (mem : Memory) (n : ℕ) → is_some (slot descriptors (low (argument k 0))) ≡ true → natural (int_of (argument k 2)) ≡ Some n → 0 < n → is_some (read_bytes mem (argument k 1) n) ≡ true → IsWriting descriptors mem (pending_for k Write)
 writing-begins k descriptors mem n named count some can =
     let same : low (argument k 2) ≡ n = int-low (argument k 2) n count in
     record {
@@ -221,21 +234,12 @@ module _ (k : Kernel) (i : ℕ) (p : Process) (h : Held) (r : IsRun k i p h) (is
 
 -- ---- by what the kernel says
 
-pipe-file : (k : Kernel) (p : Process) (h : Held) (w : Pending) (q : ℕ) (end : End) (n : ℕ) (o : Option OpenFile) → slot p.descriptors (low (pending_arg w 0)) ≡ Some n → slot (opens_of k.files) n ≡ o
-    → option_map (λ (f : OpenFile). f.target) o ≡ Some (OnPipe q end) → ToPipe k p h w q
-pipe-file k p h w q end n None named opened on = absurd (cc)
-pipe-file k p h w q end n (Some f) named opened on = record { file = f; end = end; named = record { number = n; named = named; opened = opened }; on = let same : f.target ≡ OnPipe q end = cc in same }
-
-pipe-named : (k : Kernel) (p : Process) (h : Held) (w : Pending) (q : ℕ) (end : End) (o : Option ℕ) → slot p.descriptors (low (pending_arg w 0)) ≡ o
-    → option_map (λ (f : OpenFile). f.target) (option_and_then (slot (opens_of k.files)) o) ≡ Some (OnPipe q end) → ToPipe k p h w q
-pipe-named k p h w q end None named on = absurd (cc)
-pipe-named k p h w q end (Some n) named on = pipe-file k p h w q end n (slot (opens_of k.files) n) named refl on
-
 -- the open file of a write to a pipe
 pub to-pipe : (k : Kernel) (i : ℕ) (p : Process) (h : Held) → IsRun k i p h → (w : Pending) (q : ℕ) → IsOnPipe k i w q → ToPipe k p h w q
 to-pipe k i p h r w q to =
-    pipe-named k p h w q to.0 (slot p.descriptors (low (pending_arg w 0))) refl
-    (ap (λ (o : Option Process). option_map (λ (f : OpenFile). f.target) (file_named (opens_of k.files) (descriptors_in o) (low (pending_arg w 0)))) (sym r.process) ∙ to.1)
+    let here = ap (λ (o : Option Process). option_map (λ (f : OpenFile). f.target) (file_named (opens_of k.files) (descriptors_in o) (low (pending_arg w 0)))) (sym r.process) ∙ to.1 in
+    let f = file-at (opens_of k.files) p.descriptors (low (pending_arg w 0)) (OnPipe q to.0) here in
+    record { file = f.file; end = to.0; named = record { number = f.number; named = f.named; opened = f.opened }; on = f.on }
 
 module _ (k : Kernel) (i : ℕ) (w : Pending) (q : ℕ) (is : IsKernel k) (active : k.spaces.active ≡ Some i) (can : IsWriting (descriptors_at k i) (held_at k.spaces i).memory w) (to : IsOnPipe k i w q) where
   abbrev p : Process
@@ -283,8 +287,9 @@ module _ (k : Kernel) (i : ℕ) (w : Pending) (q : ℕ) (is : IsKernel k) (activ
           goes-waits k i p h r is w q file writing z a number some (ne_eqb (w.done + n') (low (pending_arg w 2)) other) less
           ∙ sym (ap (λ (x : Kernel). quiet (state_of (blocked x i (further w m)))) makes ∙ ap (λ (x : ℕ). quiet (state_of (blocked (sent_to k i p h r is w q file writing) i (further w x)))) counts)
 
--- ---- a write that waits has a pipe
+-- ---- what a pending call has
 
+-- a descriptor that names something is open on something
 some-file : (k : Kernel) (i : ℕ) (p : Process) (h : Held) → IsRun k i p h → IsKernel k → (d : ℕ) → is_some (slot p.descriptors d) ≡ true → target_named k i d ≡ None → ⊥
 some-file k i p h r is d some none =
     let f = file-run k i p h r is d some in
@@ -292,33 +297,70 @@ some-file k i p h r is d some none =
     let bad : Some f.0.target ≡ None = sym (ap (option_map (λ (x : OpenFile). x.target)) named) ∙ ap (λ (o : Option Process). option_map (λ (x : OpenFile). x.target) (file_named (opens_of k.files) (descriptors_in o) d)) (sym r.process) ∙ none in
     absurd (cc)
 
-pub writes-some : (k : Kernel) (i : ℕ) (w : Pending) → IsKernel k → k.spaces.active ≡ Some i → IsWriting (descriptors_at k i) (held_at k.spaces i).memory w → target_named k i (low (pending_arg w 0)) ≡ None → ⊥
-writes-some k i w is active can none =
+pub target-some : (k : Kernel) (i d : ℕ) → IsKernel k → k.spaces.active ≡ Some i → is_some (slot (descriptors_at k i) d) ≡ true → target_named k i d ≡ None → ⊥
+target-some k i d is active some none =
     let run = run-of k i is active in
-    some-file k i run.0 run.1.0 run.1.1 is (low (pending_arg w 0)) (ap (λ (o : Option Process). is_some (slot (descriptors_in o) (low (pending_arg w 0)))) (sym run.1.1.process) ∙ can.named) none
+    some-file k i run.0 run.1.0 run.1.1 is d (ap (λ (o : Option Process). is_some (slot (descriptors_in o) d)) (sym run.1.1.process) ∙ some) none
 
-node-for : (o : Option OpenFile) (n offset : ℕ) → option_map (λ (f : OpenFile). f.target) o ≡ Some (OnNode n offset) → IfSome o (λ f. is_on_pipe f.target ≡ true) → ⊥
-node-for None n offset on is = absurd (cc)
-node-for (Some f) n offset on is =
-    let same : f.target ≡ OnNode n offset = cc in
-    let bad : true ≡ false = sym is ∙ ap is_on_pipe same in
-    absurd (cc)
+-- ---- a process that waits, and runs again
 
-pub writes-node : (k : Kernel) (i : ℕ) (w : Pending) (n offset : ℕ) → w.number ≡ Write → IsForPipe (opens_of k.files) (descriptors_at k i) w → target_named k i (low (pending_arg w 0)) ≡ Some (OnNode n offset) → ⊥
-writes-node k i w n offset number for on = node-for (file_named (opens_of k.files) (descriptors_at k i) (low (pending_arg w 0))) n offset on (for number)
+only-sleep : (ds : List (Option ℕ)) (memory : Memory) (w : Pending) (call : Call) → IsPending ds memory w call → call ≢ Wait → call ≢ Read → call ≢ Write → call ≡ Sleep
+only-sleep ds memory w Fork is wait read write = absurd is
+only-sleep ds memory w Exit is wait read write = absurd is
+only-sleep ds memory w Wait is wait read write = absurd (wait refl)
+only-sleep ds memory w Pipe is wait read write = absurd is
+only-sleep ds memory w Read is wait read write = absurd (read refl)
+only-sleep ds memory w Kill is wait read write = absurd is
+only-sleep ds memory w Exec is wait read write = absurd is
+only-sleep ds memory w Fstat is wait read write = absurd is
+only-sleep ds memory w Chdir is wait read write = absurd is
+only-sleep ds memory w Dup is wait read write = absurd is
+only-sleep ds memory w Getpid is wait read write = absurd is
+only-sleep ds memory w Sbrk is wait read write = absurd is
+only-sleep ds memory w Sleep is wait read write = refl
+only-sleep ds memory w Uptime is wait read write = absurd is
+only-sleep ds memory w Open is wait read write = absurd is
+only-sleep ds memory w Write is wait read write = absurd (write refl)
+only-sleep ds memory w Mknod is wait read write = absurd is
+only-sleep ds memory w Unlink is wait read write = absurd is
+only-sleep ds memory w Link is wait read write = absurd is
+only-sleep ds memory w Mkdir is wait read write = absurd is
+only-sleep ds memory w Close is wait read write = absurd is
 
--- a process that waits in a write, and runs again
-pub resting-writes : (k : Kernel) (i : ℕ) (p : Process) (h : Held) (w : Pending) → IsKernel k → k.spaces.active ≡ None → IsResting k i p h w → w.number ≡ Write
-    → IsWriting (descriptors_at (started k i) i) (held_at (started k i).spaces i).memory w
-resting-writes k i p h w is none f number =
-    let to = started-is k i p h is none f.there.process f.there.space f.alive in
-    let run = started-run k i p h is none f.there.process f.there.space f.alive f.live f.free in
-    let new = started_to k i p h is none f.there.process f.there.space f.alive in
-    let held : held_at new.spaces i ≡ h = ap (λ (o : Option Held). unwrap_or o no_pages) run.space in
-    let waits : IsWriting p.descriptors h.memory w = subst (IsPending p.descriptors h.memory w) number f.pending in
-    let here : IsWriting p.descriptors (held_at new.spaces i).memory w = subst (λ (y : Held). IsWriting p.descriptors y.memory w) (sym held) waits in
-    let there : IsWriting (descriptors_at new i) (held_at new.spaces i).memory w = subst (λ (o : Option Process). IsWriting (descriptors_in o) (held_at new.spaces i).memory w) (sym run.process) here in
-    subst (λ (x : Kernel). IsWriting (descriptors_at x i) (held_at x.spaces i).memory w) (sym to) there
+module _ (k : Kernel) (i : ℕ) (p : Process) (h : Held) (w : Pending) (is : IsKernel k) (none : k.spaces.active ≡ None) (f : IsResting k i p h w) where
+  abbrev resting_to : Kernel
+  resting_to = started_to k i p h is none f.there.process f.there.space f.alive
+
+  resting-is : started k i ≡ resting_to
+  resting-is = started-is k i p h is none f.there.process f.there.space f.alive
+
+  resting-run : IsRun resting_to i (record p { mode = Running }) h
+  resting-run = started-run k i p h is none f.there.process f.there.space f.alive f.live f.free
+
+  pub resting-can : CanRun (slot k.table.places i)
+  resting-can = rw f.there.process (f.live, rw f.waits refl, f.free)
+
+  pub resting-active : (started k i).spaces.active ≡ Some i
+  resting-active = ap (λ (x : Kernel). x.spaces.active) resting-is ∙ resting-run.active
+
+  -- its call is pending still
+  pub resting-pending : (call : Call) → w.number ≡ call → IsPending (descriptors_at (started k i) i) (held_at (started k i).spaces i).memory w call
+  resting-pending call number =
+      let held : held_at resting_to.spaces i ≡ h = ap (λ (o : Option Held). unwrap_or o no_pages) resting-run.space in
+      let waits : IsPending p.descriptors h.memory w call = subst (IsPending p.descriptors h.memory w) number f.pending in
+      let here : IsPending p.descriptors (held_at resting_to.spaces i).memory w call = subst (λ (y : Held). IsPending p.descriptors y.memory w call) (sym held) waits in
+      let there : IsPending (descriptors_at resting_to i) (held_at resting_to.spaces i).memory w call = subst (λ (o : Option Process). IsPending (descriptors_in o) (held_at resting_to.spaces i).memory w call) (sym resting-run.process) here in
+      subst (λ (x : Kernel). IsPending (descriptors_at x i) (held_at x.spaces i).memory w call) (sym resting-is) there
+
+  pub resting-awaits : IsAwaiting (opens_of (started k i).files) (descriptors_at (started k i) i) w
+  resting-awaits =
+      let waits : WaitsAs (opens_of k.files) p.descriptors (Waiting w) = subst (WaitsAs (opens_of k.files) p.descriptors) f.waits (subst (WaitsWell (opens_of k.files)) f.there.process (is.opened.waits i)) in
+      let there : IsAwaiting (opens_of resting_to.files) (descriptors_at resting_to i) w = subst (λ (o : Option Process). IsAwaiting (opens_of k.files) (descriptors_in o) w) (sym resting-run.process) waits in
+      subst (λ (x : Kernel). IsAwaiting (opens_of x.files) (descriptors_at x i) w) (sym resting-is) there
+
+  -- what is neither of these is a sleep
+  pub resting-sleeps : w.number ≢ Wait → w.number ≢ Read → w.number ≢ Write → w.number ≡ Sleep
+  resting-sleeps wait read write = only-sleep p.descriptors h.memory w w.number f.pending wait read write
 
 -- ---- over the fields: k is what they show, and now is the kernel's value
 

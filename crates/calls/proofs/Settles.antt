@@ -28,6 +28,13 @@ after state bytes = record { state = state; bytes = bytes }
 abbrev pub on_regs : Kernel → List ℕ → ℕ → Kernel
 on_regs k registers pc = record k { spaces = record k.spaces { registers = registers; pc = pc } }
 
+-- a running process may be in that mode
+pub runs-mode : (p : Process) (memory : Memory) (mode : Mode) → mode ≡ Running → IsLive p → p.killed ≡ false → IsMode p memory mode
+runs-mode p memory Running e l n = (l, n)
+runs-mode p memory Ready e l n = absurd (cc)
+runs-mode p memory (Waiting w) e l n = absurd (cc)
+runs-mode p memory (Zombie status) e l n = absurd (cc)
+
 -- a process that was put in a place is changed
 pub change-put : (i : ℕ) (s : State) (p : unix.Process) (change : unix.Process → unix.Process) → i < length s.places → change_process (put_process s i p) i change ≡ put_process s i (change p)
 change-put i s p change short =

@@ -1,15 +1,13 @@
 -- What a kernel shows of its processes, in the words of its state.
-use Rattle.std.proofs.Common.{◌≡◌, ◌≢◌, inl, inr, ℕ, zero, suc, ◌+◌, ◌<◌, Bool, true, false, nat_eq, List, [], ◌∷◌, Option, Some, None, refl, ap, sym, ◌∙◌, arith}
+use Rattle.std.proofs.Common.{◌≡◌, inl, inr, ℕ, zero, suc, ◌+◌, Bool, true, List, [], ◌∷◌, Option, Some, None, refl, ap, ◌∙◌}
 use Rattle.std.specs.Prelude.{IfSome, cond, is_some, not, option_and_then, option_map, position, slice_get, slice_set, unwrap_or}
-use Rattle.std.specs.Option.{option_eq}
 use Rattle.std.specs.List.{prefix_len}
-use Rattle.std.proofs.lemmas.Bool.{eqb-true}
 use Rattle.std.proofs.lemmas.List.{length-set}
 use Rattle.calls.proofs.Reaped.{frames-with, match-loaded}
-use Rattle.calls.proofs.Runs.{eq-self, memory-at, same_or_not, slot-other, slot-put, slot-within}
+use Rattle.calls.proofs.Runs.{memory-at, place-space, same_or_not, slot-other, slot-put, slot-within}
 use Rattle.calls.specs.Kernel.{Kernel, base, loaded, memories, memory_in, on_hart, rest_of, state_of}
 use Rattle.calls.specs.Shows.{bare}
-use Rattle.calls.specs.Sound.{IsKernel, IsPlace}
+use Rattle.calls.specs.Sound.{IsKernel}
 use Rattle.proc.specs.declared.process.Process.{Process}
 use Rattle.proc.specs.Places.{Places, changed_at, has_pid, place_where}
 use Rattle.proc.specs.Whole.{place_of_pid-with_table, place_where-Some, slot-joined, with_memory}
@@ -64,32 +62,8 @@ bare-with : (m : Memory) (o : Option Process) → option_map bare (option_map (w
 bare-with m None = refl
 bare-with m (Some p) = refl
 
--- ---- whether it runs
-
-pub is-active : (o : Option ℕ) (i : ℕ) → option_eq nat_eq o (Some i) ≡ true → o ≡ Some i
-is-active None i same = absurd (cc)
-is-active (Some j) i same = ap Some (eqb-true j i same)
-
-pub is-other : (o : Option ℕ) (i : ℕ) → option_eq nat_eq o (Some i) ≡ false → o ≢ Some i
-is-other o i other same = let here : option_eq nat_eq o (Some i) ≡ true = rw same (eq-self i) in cc
-
--- the running process, with what the hart holds of it
-pub shown-running : (k : Kernel) (pid i : ℕ) → IsKernel k → place_where k.table.places (has_pid pid) ≡ Some i → i < 64 → k.spaces.active ≡ Some i
-    → option_map bare (shown_process (state_of k) pid) ≡ option_map (on_hart k.spaces) (slot k.table.places i)
-shown-running k pid i is found low active =
-    let here : slot (loaded k).places i ≡ option_map (on_hart k.spaces) (slot k.table.places i) =
-    rw active (slot-put k.table.places i (option_map (on_hart k.spaces) (slot k.table.places i)) (omega (arith, is.all, low))) in
-    ap (option_map bare) (shown-at k pid i found) ∙ bare-with (memory_in (slot k.spaces.places i)) (slot (loaded k).places i) ∙ here
-
-other-slot : (k : Kernel) (i : ℕ) (o : Option ℕ) → o ≢ Some i → slot (changed_at k.table (on_hart k.spaces) o).places i ≡ slot k.table.places i
-other-slot k i None other = refl
-other-slot k i (Some j) other = slot-other k.table.places j i (option_map (on_hart k.spaces) (slot k.table.places j)) (λ same. other (ap Some (sym same)))
-
--- another process, as the table has it
-pub shown-resting : (k : Kernel) (pid i : ℕ) → place_where k.table.places (has_pid pid) ≡ Some i → k.spaces.active ≢ Some i
-    → option_map bare (shown_process (state_of k) pid) ≡ slot k.table.places i
-shown-resting k pid i found other =
-    ap (option_map bare) (shown-at k pid i found) ∙ bare-with (memory_in (slot k.spaces.places i)) (slot (loaded k).places i) ∙ other-slot k i k.spaces.active other
+pub shown-loaded : (k : Kernel) (pid i : ℕ) → place_where k.table.places (has_pid pid) ≡ Some i → option_map bare (shown_process (state_of k) pid) ≡ slot (loaded k).places i
+shown-loaded k pid i found = ap (option_map bare) (shown-at k pid i found) ∙ bare-with (memory_in (slot k.spaces.places i)) (slot (loaded k).places i)
 
 -- ---- its memory
 
@@ -104,17 +78,12 @@ memory-held : (o : Option Held) → memory_in o ≡ (unwrap_or o no_pages).memor
 memory-held None = refl
 memory-held (Some h) = refl
 
-seat-space : (o : Option Process) (q : Option Held) (p : Process) → o ≡ Some p → IsPlace o q → is_some q ≡ true
-seat-space None q p e is = absurd (cc)
-seat-space (Some r) None p e is = absurd is
-seat-space (Some r) (Some h) p e is = refl
-
 module _ (k : Kernel) (pid i : ℕ) (found : place_where k.table.places (has_pid pid) ≡ Some i) where
   -- the place that is found has a space
   pub found-space : IsKernel k → has_space k.spaces i ≡ true
   found-space is =
       let p = place_where-Some (has_pid pid) k.table.places i found in
-      seat-space (slot k.table.places i) (slot k.spaces.places i) p.0 p.1.0 (is.stands i)
+      place-space (slot k.table.places i) (slot k.spaces.places i) p.0 p.1.0 (is.stands i)
 
   pub shown-some : (q : Process) × (shown_process (state_of k) pid ≡ Some (with_memory (held_at k.spaces i).memory q))
   shown-some =

@@ -25,9 +25,6 @@ use Rattle.unixmodel.specs.State.{State, put_process}
 pub picked-state : (k : Kernel) (i : ℕ) → k.spaces.active ≡ None → state_of (picked k i) ≡ record (state_of k) { last = i }
 picked-state k i idle = rw idle refl
 
-pub picked-kernel : (k : Kernel) (i : ℕ) → IsKernel k → IsKernel (picked k i)
-picked-kernel k i is = record { all = is.all; spaces = is.spaces; stands = is.stands; runs = is.runs; fits = is.fits; opened = is.opened }
-
 placed-is : (o : Option Process) (q : Option Held) (p : Process) (h : Held) → o ≡ Some p → q ≡ Some h → IsPlace o q → IsPlaced p h
 placed-is None q p h at space is = absurd (cc)
 placed-is (Some x) None p h at space is = absurd (cc)

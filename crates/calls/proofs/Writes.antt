@@ -107,7 +107,7 @@ flag-no : (t : Target) (b : Bool) → result_ok {E = FileFault} (if b then Ok t 
 flag-no t true bad = absurd (let wrong : Some t ≡ None = bad in cc)
 flag-no t false bad = refl
 
-flag-yes : (u t : Target) (b : Bool) → result_ok {E = FileFault} (if b then Ok u else Err NotWritable) ≡ Some t → (b ≡ true) × (u ≡ t)
+pub flag-yes : (u t : Target) (b : Bool) → result_ok {E = FileFault} (if b then Ok u else Err NotWritable) ≡ Some t → (b ≡ true) × (u ≡ t)
 flag-yes u t true good = (refl, let same : Some u ≡ Some t = good in cc)
 flag-yes u t false good = absurd (let wrong : None ≡ Some t = good in cc)
 

@@ -1,11 +1,11 @@
 -- A kernel of many processes, as plain values, and the state of the abstract Unix that it stands for.
-use Rattle.std.specs.Prelude.{Bool, List, None, Option, Some, [], false, if◌then◌else◌, map, not, pos, slice_index, slice_set, true, ℕ, ℤ, ◌%◌, ◌+ℤ◌, ◌+◌, ◌==◌, ◌^◌}
+use Rattle.std.specs.Prelude.{Bool, List, None, Option, Some, [], false, if◌then◌else◌, map, not, pos, slice_index, slice_set, ℕ, ℤ, ◌%◌, ◌+ℤ◌, ◌+◌, ◌==◌, ◌^◌}
 use Rattle.std.specs.Int.{cast_unsigned, w32}
 use Rattle.calls.specs.Descriptors.{all_closed, all_shared, descriptors_in, standing}
 use Rattle.files.specs.Places.{Counted, opens_of}
 use Rattle.proc.specs.declared.process.Process.{Process}
 use Rattle.proc.specs.declared.table.Seat.{Seat}
-use Rattle.proc.specs.Places.{Places, changed, changed_at, exited, seated, with_mode, without}
+use Rattle.proc.specs.Places.{Places, changed, changed_at, exited, seated, with_mark, with_mode, with_size, without}
 use Rattle.proc.specs.Whole.{with_table}
 use Rattle.spaces.specs.Spaces as spaces
 use Rattle.spaces.specs.Spaces.{Held, Spaces, held_at, taken_to, with_held, with_place}
@@ -115,9 +115,6 @@ answered k value = record k { spaces = record k.spaces { registers = slice_set k
 -- after an instruction
 abbrev pub computed : Kernel → ℕ → Computed → Kernel
 computed k i d = record k { spaces = spaces.computed k.spaces i d }
-
-abbrev pub with_size : ℕ → Process → Process
-with_size size p = record p { size = size }
 
 -- a space with another size
 abbrev pub sized : Held → ℕ → Held
@@ -244,9 +241,6 @@ collected k i address j status = record k {
 }
 
 -- ---- kill
-
-abbrev pub with_mark : Process → Process
-with_mark p = record p { killed = true }
 
 -- process j is marked
 abbrev pub marked : Kernel → ℕ → Kernel

@@ -1,20 +1,15 @@
 -- What dup, close and pipe make of a kernel, and what the kernel's steps for them answer.
-use Rattle.std.specs.Prelude.{List, None, Option, Some, [], count_by, is_none, slice_set, ℕ, ◌++◌, ◌<◌, ◌⊎◌, ◌≡◌}
+use Rattle.std.specs.Prelude.{List, None, Option, Some, [], count_by, is_none, ℕ, ◌++◌, ◌<◌, ◌⊎◌, ◌≡◌}
 use Rattle.calls.specs.Descriptors.{descriptors_in, standing}
 use Rattle.calls.specs.Kernel.{Kernel, descriptors_at}
 use Rattle.files.specs.Places.{Counted, closed, opened, opens_of, shared}
-use Rattle.proc.specs.declared.process.Process.{Process}
-use Rattle.proc.specs.Places.{Places, changed}
+use Rattle.proc.specs.Places.{Places, changed, with_descriptor}
 use Rattle.spaces.specs.Spaces.{held_at, taken_frames, with_held, with_pipe, written}
 use Rattle.unixmodel.specs.FileCalls.{pipe_end}
 use Rattle.unixmodel.specs.Files.{free_slot, put, slot}
 use Rattle.unixmodel.specs.Numbers.{le}
 use Rattle.unixmodel.specs.OpenFiles.{OpenFile}
 use Rattle.unixmodel.specs.OpenFiles.End.{ReadEnd, WriteEnd}
-
--- a descriptor names another open file, or none
-abbrev pub with_descriptor : ℕ → Option ℕ → Process → Process
-with_descriptor fd o p = record p { descriptors = slice_set p.descriptors fd o }
 
 -- ---- dup
 

@@ -1,5 +1,5 @@
 //! The calls: each row of the table of calls is a function.
-ghost use Rattle.std.specs.Prelude.{◌≡◌, ◌≤◌, Some, None, true, slice_index};
+ghost use Rattle.std.specs.Prelude.{◌≡◌, ◌≢◌, ◌≤◌, Some, None, true, slice_index};
 ghost use Rattle.calls.specs.Does.{Dispatches};
 ghost use Rattle.calls.specs.Kernel.{state_of};
 ghost use Rattle.calls.specs.Says.{IsUnbuilt, called, gone_on};
@@ -89,7 +89,6 @@ fn sleep<T: Translate + Drop>(kernel: &mut Kernel<T>, at: usize)
     requires number { call_of (low (slice_index kernel.old.spaces.registers 17)) ≡ Some Call.Sleep }
     ensures gives { called (state_of kernel.old) at ≡ quiet (state_of kernel.new) }
 {
-    let _sound = kernel.active();
     kernel.enter();
     let pending = kernel.pending(Call::Sleep);
     sleep_on(kernel, at, pending);
@@ -115,7 +114,6 @@ fn exit<T: Translate + Drop>(kernel: &mut Kernel<T>, at: usize)
     requires number { call_of (low (slice_index kernel.old.spaces.registers 17)) ≡ Some Call.Exit }
     ensures gives { called (state_of kernel.old) at ≡ quiet (state_of kernel.new) }
 {
-    let _sound = kernel.active();
     kernel.enter();
     let status = int(kernel.argument(0));
     kernel.finish(at, status);
@@ -127,7 +125,6 @@ fn fork<T: Translate + Drop>(kernel: &mut Kernel<T>, at: usize)
     requires number { call_of (low (slice_index kernel.old.spaces.registers 17)) ≡ Some Call.Fork }
     ensures gives { called (state_of kernel.old) at ≡ quiet (state_of kernel.new) }
 {
-    let _sound = kernel.active();
     kernel.enter();
     let forked = kernel.fork(at);
     let _kept = kernel.active();
@@ -137,17 +134,14 @@ fn fork<T: Translate + Drop>(kernel: &mut Kernel<T>, at: usize)
     }
 }
 
-/// The call that the running process makes.
-pub fn call<T: Translate + Drop, W: Out>(
-    kernel: &mut Kernel<T>,
-    at: usize,
-    console: &mut W,
-) -> Result<(), Halt>
+// A call that prints nothing.
+fn serve<T: Translate + Drop>(kernel: &mut Kernel<T>, at: usize, call: Option<Call>)
     requires running { kernel.old.spaces.active ≡ Some at }
-    ensures gives { Dispatches kernel.new (called (state_of kernel.old) at) (W.contents console.old) (W.contents console.new) (Rises (W.failures console.old) (W.failures console.new)) result }
-    ensures later { W.failures console.old ≤ W.failures console.new }
+    requires number { call_of (low (slice_index kernel.old.spaces.registers 17)) ≡ call }
+    requires other { call ≢ Some Call.Write }
+    ensures gives { called (state_of kernel.old) at ≡ quiet (state_of kernel.new) }
 {
-    match call_of(kernel.number()) {
+    match call {
         Some(Call::Fork) => fork(kernel, at),
         Some(Call::Exit) => exit(kernel, at),
         Some(Call::Wait) => family::wait(kernel, at),
@@ -160,13 +154,30 @@ pub fn call<T: Translate + Drop, W: Out>(
         Some(Call::Dup) => open::dup(kernel, at),
         Some(Call::Close) => open::close(kernel, at),
         Some(Call::Pipe) => open::pipe(kernel, at),
-        Some(Call::Write) => {
-            return match write::write(kernel, at, console) {
-                Ok(()) => Ok(()),
-                Err(OutFault::Writer) => Err(Halt::Console),
-            };
-        }
+        Some(Call::Write) => unreachable!(),
         _ => refuse(kernel, at),
     }
-    Ok(())
+}
+
+/// The call that the running process makes.
+#[inline(never)]
+pub fn call<T: Translate + Drop, W: Out>(
+    kernel: &mut Kernel<T>,
+    at: usize,
+    console: &mut W,
+) -> Result<(), Halt>
+    requires running { kernel.old.spaces.active ≡ Some at }
+    ensures gives { Dispatches kernel.new (called (state_of kernel.old) at) (W.contents console.old) (W.contents console.new) (Rises (W.failures console.old) (W.failures console.new)) result }
+    ensures later { W.failures console.old ≤ W.failures console.new }
+{
+    match call_of(kernel.number()) {
+        Some(Call::Write) => match write::write(kernel, at, console) {
+            Ok(()) => Ok(()),
+            Err(OutFault::Writer) => Err(Halt::Console),
+        },
+        other => {
+            serve(kernel, at, other);
+            Ok(())
+        }
+    }
 }

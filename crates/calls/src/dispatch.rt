@@ -1,4 +1,7 @@
 //! What a machine asks of the kernel: an event, or a part of one.
+//!
+//! What seldom happens is kept out of line (`inline(never)`), so that the code of a step that only does an
+//! instruction stays small.
 ghost use Rattle.std.specs.Prelude.{◌≡◌, ◌≤◌, Ok, Some, None, true, IfOk, OnErr};
 ghost use Rattle.calls.specs.Does.{Dispatches, Does, halt_of};
 ghost use Rattle.calls.specs.Kernel.{state_of};
@@ -44,6 +47,7 @@ fn is_call(cause: Cause) -> bool
 
 impl<T: Translate + Drop> Kernel<T> {
     /// A timer interrupt.
+    #[inline(never)]
     pub fn tick(&mut self)
         ensures { next (state_of self.old) Tick ≡ quiet (state_of self.new) }
     {
@@ -53,6 +57,7 @@ impl<T: Translate + Drop> Kernel<T> {
 
     /// A key was typed: it changes the line that is edited, and what shows that is printed. `Console`: the console failed,
     /// and the key is lost.
+    #[inline(never)]
     pub fn key<W: Out>(&mut self, byte: u8, console: &mut W) -> Result<(), Halt>
         ensures gives { Dispatches self.new (next (state_of self.old) (Key byte)) (W.contents console.old) (W.contents console.new) (Rises (W.failures console.old) (W.failures console.new)) result }
         ensures lost { OnErr result (self.new ≡ self.old) }
@@ -166,6 +171,7 @@ impl<T: Translate + Drop> Kernel<T> {
     }
 
     // A turn, where none runs.
+    #[inline(never)]
     fn take_turn(&mut self)
         requires { self.old.spaces.active ≡ None }
         ensures { take_turn (state_of self.old) (turn (state_of self.old)) ≡ quiet (state_of self.new) }

@@ -23,7 +23,6 @@ pub fn wait<T: Translate + Drop>(kernel: &mut Kernel<T>, at: usize)
     requires number { call_of (low (slice_index kernel.old.spaces.registers 17)) ≡ Some Call.Wait }
     ensures gives { called (state_of kernel.old) at ≡ quiet (state_of kernel.new) }
 {
-    let _sound = kernel.active();
     kernel.enter();
     let pid = kernel.pid(at);
     let address = kernel.argument(0);
@@ -63,7 +62,6 @@ pub fn kill<T: Translate + Drop>(kernel: &mut Kernel<T>, at: usize)
     requires number { call_of (low (slice_index kernel.old.spaces.registers 17)) ≡ Some Call.Kill }
     ensures gives { called (state_of kernel.old) at ≡ quiet (state_of kernel.new) }
 {
-    let _sound = kernel.active();
     kernel.enter();
     let Some(place) = named(kernel, kernel.argument(0)) else {
         kernel.answer(REFUSED);

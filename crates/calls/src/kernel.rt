@@ -4,7 +4,7 @@ ghost use Rattle.std.specs.Bool.{OnTrue, OnFalse};
 ghost use Rattle.std.specs.Prelude.{if◌then◌else◌, ◌==◌, option_map, OnOk, OnErr, Ok, Err};
 ghost use Rattle.std.specs.Io.KnownBytes.{Appends};
 ghost use Rattle.std.specs.Option.{option_copied};
-ghost use Rattle.calls.specs.Kernel.{answered, argument, asked, begun, blocked, computed, descriptors_at, ended, entered, left_as, loaded, marked, on_hart, picked, resized, started, state_of, ticked, typed, with_size, with_status};
+ghost use Rattle.calls.specs.Kernel.{answered, argument, asked, begun, blocked, computed, descriptors_at, ended, entered, left_as, loaded, marked, on_hart, picked, resized, started, state_of, ticked, typed, with_status};
 ghost use Rattle.calls.specs.Says.{Collects, Forks, IsFront, IsOver, pending_for};
 ghost use Rattle.calls.specs.Sends.{target_named};
 ghost use Rattle.calls.specs.Sound.{CanRun, IsAwaiting, IsKernel, IsPending, can_answer};
@@ -12,7 +12,7 @@ ghost use Rattle.calls.specs.Told.{CanEnd};
 ghost use Rattle.console.specs.Output.{AppendsBeginning};
 ghost use Rattle.files.specs.Meant.{target_of};
 ghost use Rattle.files.specs.Places.{opens_of};
-ghost use Rattle.proc.specs.Places.{changed, has_pid, is_child_of, place_where};
+ghost use Rattle.proc.specs.Places.{has_pid, is_child_of, place_where};
 ghost use Rattle.spaces.specs.Spaces.{has_space, held_at, taken_frames, with_held};
 ghost use Rattle.unixmodel.specs.Console.{key};
 ghost use Rattle.unixmodel.specs.Cycle.{cycle};
@@ -31,7 +31,7 @@ mod receive;
 mod send;
 mod show;
 
-use crate::descriptors::{close_all, share_all};
+use crate::descriptors::{close_all, named, share_all};
 use crate::ready::Awaited;
 use console::{Console, Out, OutFault};
 use files::{Files, Target};
@@ -80,16 +80,6 @@ fn halted_after(pid: u32, status: i32, halted: Option<i32>) -> Option<i32>
     ensures { result ≡ (if pid == 1 then Some status else halted) }
 {
     if pid == 1 { Some(status) } else { halted }
-}
-
-// The process in a place has another size.
-fn set_size(table: &mut Table, at: usize, size: u64)
-    ensures { table.new ≡ changed table.old at (with_size size) }
-{
-    if let Some(process) = table.process(at) {
-        let process = Process { size, ..*process };
-        table.put(at, process);
-    }
 }
 
 // Writes the status of a child at an address of a place, unless that is 0.
@@ -171,21 +161,27 @@ impl<T: Translate + Drop> Kernel<T> {
     }
 
     /// The open file that a descriptor of the process in a place names.
-    pub(crate) fn open_id(&self, at: usize, descriptor: u32) -> Option<usize>
-        ensures { result ≡ slot (descriptors_at self.now at) descriptor }
+    pub(crate) fn open_id(&self, at: usize, descriptor: u32) -> Option<u8>
+        ensures named { result ≡ slot (descriptors_at self.now at) descriptor }
+        ensures within { IfSome result (λ _. descriptor < 16) }
     {
-        let process = self.table.process(at)?;
-        let named = process.descriptors.get(descriptor as usize)?;
-        named.map(usize::from)
+        match self.table.process(at) {
+            Some(process) => named(&process.descriptors, descriptor),
+            None => None,
+        }
     }
 
     /// What the open file that a descriptor of the process in a place names is open on.
     pub(crate) fn open_target(&self, at: usize, descriptor: u32) -> Option<Target>
         ensures { option_map target_of result ≡ target_named self.now at descriptor }
     {
-        let id = self.open_id(at, descriptor)?;
-        let file = self.files.file(id)?;
-        Some(file.target)
+        let Some(id) = self.open_id(at, descriptor) else {
+            return None;
+        };
+        match self.files.file(usize::from(id)) {
+            Some(file) => Some(file.target),
+            None => None,
+        }
     }
 
     /// The number of the call that the process makes: the low 32 bits of a7.
@@ -199,7 +195,10 @@ impl<T: Translate + Drop> Kernel<T> {
     pub(crate) fn enter(&mut self)
         ensures entered { self.new ≡ entered self.old }
         ensures sound { IsKernel self.old }
+        ensures zero { slice_index self.old.spaces.registers 0 ≡ 0 }
+        ensures aligned { self.old.spaces.pc % 4 ≡ 0 }
     {
+        let _registers = self.spaces.registers();
         let pc = self.spaces.pc();
         self.spaces.set_pc(pc.wrapping_add(4));
     }
@@ -246,30 +245,24 @@ impl<T: Translate + Drop> Kernel<T> {
     {
         let registers = *self.spaces.registers();
         let pc = self.spaces.pc();
-        let process = self.table.process(at)?;
-        Some(Process {
-            registers,
-            pc,
-            ..*process
-        })
+        match self.table.process(at) {
+            Some(process) => Some(Process {
+                registers,
+                pc,
+                ..*process
+            }),
+            None => None,
+        }
     }
 
-    // The running process becomes ready.
-    fn stop(&mut self, at: usize)
-        requires { self.old.spaces.active ≡ Some at }
-        ensures { self.new ≡ left_as self.old at Ready }
+    // The process that ran, in a place, runs no more.
+    fn leave(&mut self, at: usize, mode: Mode)
+        requires { IsKernel (left_as self.old at mode) }
+        ensures { self.new ≡ left_as self.old at mode }
     {
-        let _sound = self.active();
-        if let Some(process) = self.on_hart(at) {
-            self.table.put(
-                at,
-                Process {
-                    mode: Mode::Ready,
-                    ..process
-                },
-            );
-            self.spaces.deactivate();
-        }
+        self.table
+            .leave(at, self.spaces.registers(), self.spaces.pc(), mode);
+        self.spaces.deactivate();
     }
 
     /// The running process waits.
@@ -280,16 +273,7 @@ impl<T: Translate + Drop> Kernel<T> {
         ensures { self.new ≡ blocked self.old at pending }
     {
         let _sound = self.active();
-        if let Some(process) = self.on_hart(at) {
-            self.table.put(
-                at,
-                Process {
-                    mode: Mode::Waiting(pending),
-                    ..process
-                },
-            );
-            self.spaces.deactivate();
-        }
+        self.leave(at, Mode::Waiting(pending));
     }
 
     // The process in a place, of the running one with what the hart holds.
@@ -305,6 +289,7 @@ impl<T: Translate + Drop> Kernel<T> {
     }
 
     /// The running process ends with this status, or a process where none runs.
+    #[inline(never)]
     pub(crate) fn finish(&mut self, at: usize, status: i32)
         requires { CanEnd self.old at }
         ensures { self.new ≡ ended self.old at status }
@@ -326,8 +311,9 @@ impl<T: Translate + Drop> Kernel<T> {
         requires { self.old.spaces.active ≡ Some at }
         ensures { Forks self.old at self.new result }
     {
-        let _sound = self.active();
-        let process = self.on_hart(at)?;
+        let Some(process) = self.on_hart(at) else {
+            return None;
+        };
         let Ok(seat) = self.table.next_seat() else {
             return None;
         };
@@ -450,7 +436,7 @@ impl<T: Translate + Drop> Kernel<T> {
             return false;
         }
         let size = self.spaces.size(at);
-        set_size(&mut self.table, at, size);
+        self.table.set_size(at, size);
         true
     }
 
@@ -464,7 +450,7 @@ impl<T: Translate + Drop> Kernel<T> {
         self.spaces.shrink(at, bytes);
         let size = self.spaces.size(at);
         let _free = self.spaces.free();
-        set_size(&mut self.table, at, size);
+        self.table.set_size(at, size);
     }
 
     /// Changes the size of the running process by so many bytes. `false`: that would leave a size below 0, or the frames
@@ -533,13 +519,7 @@ impl<T: Translate + Drop> Kernel<T> {
         requires { self.old.spaces.active ≢ Some at }
         ensures { self.new ≡ marked self.old at }
     {
-        if let Some(process) = self.table.process(at) {
-            let process = Process {
-                killed: true,
-                ..*process
-            };
-            self.table.put(at, process);
-        }
+        self.table.mark(at);
     }
 
     /// A key was typed. Where `out` fails nothing changes, and a beginning of what shows the key was put out.
@@ -560,7 +540,7 @@ impl<T: Translate + Drop> Kernel<T> {
         ensures sound { IsKernel self.old }
     {
         if let Some(at) = self.active() {
-            self.stop(at);
+            self.leave(at, Mode::Ready);
         }
         self.ticks = self.ticks.wrapping_add(1);
     }

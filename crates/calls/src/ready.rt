@@ -8,6 +8,7 @@ ghost use Rattle.proc.specs.Whole.{with_memory};
 ghost use Rattle.unixmodel.specs.OpenFiles.{OpenFile};
 ghost use Rattle.unixmodel.specs.Turn.{can_go_on, can_read_from, can_write_to, is_ready, pending_file, ready};
 
+use crate::descriptors::named;
 use crate::numbers::{low, natural};
 use console::Console;
 use files::{End, Files, Target};
@@ -41,9 +42,13 @@ impl<T: Translate + Drop> Awaited<'_, T> {
         ensures target { option_map target_of result ≡ option_map (λ (f : OpenFile). f.target) (pending_file (awaited self.now) (with_memory [] process.now) pending.now) }
         ensures stands { IfSome result (λ t. Stands self.now.spaces.now (target_of t)) }
     {
-        let named = process.descriptors.get(low(pending.args[0]) as usize)?;
-        let file = self.files.file(usize::from((*named)?))?;
-        Some(file.target)
+        let Some(id) = named(&process.descriptors, low(pending.args[0])) else {
+            return None;
+        };
+        match self.files.file(usize::from(id)) {
+            Some(file) => Some(file.target),
+            None => None,
+        }
     }
 
     // Whether a read can go on: a byte is there, or none can come.

@@ -6,8 +6,6 @@
 
 mod file;
 mod table;
-#[cfg(test)]
-mod tests;
 
 pub use file::{End, OpenFile, Target};
 pub use table::{FileFault, Files, PLACES};

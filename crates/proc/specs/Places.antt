@@ -1,5 +1,5 @@
 -- The places, in the words of the abstract Unix's state: a process is as there, but for its memory.
-use Rattle.std.specs.Prelude.{Bool, Err, List, None, Ok, Option, Result, Some, if◌then◌else◌, map, nat_le, option_map, position, slice_set, ℕ, ℤ, ◌&&◌, ◌+◌, ◌==◌}
+use Rattle.std.specs.Prelude.{Bool, Err, List, None, Ok, Option, Result, Some, if◌then◌else◌, map, nat_le, option_map, position, slice_set, true, ℕ, ℤ, ◌&&◌, ◌+◌, ◌==◌}
 use Rattle.proc.specs.declared.process.Process.{Process}
 use Rattle.proc.specs.declared.table.ProcFault.{ProcFault}
 use Rattle.proc.specs.declared.table.ProcFault.TheVariants.{Pids, Slots}
@@ -35,6 +35,20 @@ is_zombie_child_of pid p = is_child_of pid p && is_zombie_mode p.mode
 
 abbrev pub with_mode : Mode → Process → Process
 with_mode mode p = record p { mode = mode }
+
+abbrev pub with_size : ℕ → Process → Process
+with_size size p = record p { size = size }
+
+-- a descriptor names another open file, or none
+abbrev pub with_descriptor : ℕ → Option ℕ → Process → Process
+with_descriptor fd o p = record p { descriptors = slice_set p.descriptors fd o }
+
+abbrev pub with_mark : Process → Process
+with_mark p = record p { killed = true }
+
+-- a process that ran, with what the hart held
+abbrev pub left : List ℕ → ℕ → Mode → Process → Process
+left registers pc mode p = record p { registers = registers; pc = pc; mode = mode }
 
 -- descriptors and directory are given up
 abbrev pub zombie_of : Process → ℤ → Process

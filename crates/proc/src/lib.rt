@@ -3,8 +3,6 @@
 
 mod process;
 mod table;
-#[cfg(test)]
-mod tests;
 
 pub use process::{Place, Process};
 pub use table::{PLACES, ProcFault, Reaped, Seat, Table, zombie_child};

@@ -1,7 +1,7 @@
 //! The table of processes.
 ghost use Rattle.std.specs.Prelude.{◌≡◌, ◌+◌, ◌<◌, ◌≤◌, ◌%◌, List, ℕ, Some, None, true, false, length, map, option_map, position, is_some, IfSome, IfNone, IfOk, OnErr};
 ghost use Rattle.std.specs.Option.{option_copied};
-ghost use Rattle.unixmodel.specs.Files.{free_slot, free_slots, put, slot};
+ghost use Rattle.unixmodel.specs.Files.{clear, free_slot, free_slots, put, slot};
 ghost use Rattle.unixmodel.specs.ProcessCalls.{status_of};
 ghost use Rattle.proc.specs.Places.{is_zombie_child_of, orphaned, place_where, zombie_of};
 ghost use Rattle.unixmodel.specs.State.{holds, place_limit};
@@ -120,7 +120,7 @@ fn status(mode: Mode) -> i32
 }
 
 impl Table {
-    ghost use Rattle.proc.specs.Places.{Places, changed, exited, has_pid, is_child_of, is_running, reaped_at, seat_of, seated, with_mode, with_running, without, zombie_place};
+    ghost use Rattle.proc.specs.Places.{Places, changed, exited, has_pid, is_child_of, is_running, left, reaped_at, seat_of, seated, with_descriptor, with_mark, with_mode, with_running, with_size, without, zombie_place};
     ghost use Rattle.proc.specs.Pick.{Answers, Picks};
 
     /// Free places. The first process gets this pid.
@@ -164,6 +164,58 @@ impl Table {
         ensures { self.new ≡ record self.old { places = put self.old.places at process } }
     {
         self.places[at] = Some(process);
+    }
+
+    /// The process in a place has another size. Nothing changes where the place is free.
+    pub fn set_size(&mut self, at: usize, size: u64)
+        ensures { self.new ≡ changed self.old at (with_size size) }
+    {
+        if let Some(process) = self.process(at).copied() {
+            self.put(at, Process { size, ..process });
+        }
+    }
+
+    /// A descriptor of the process in a place names another open file, or none. Nothing changes where the place is free.
+    pub fn set_descriptor(&mut self, at: usize, descriptor: usize, id: Option<u8>)
+        requires { descriptor < 16 }
+        ensures { self.new ≡ changed self.old at (with_descriptor descriptor id) }
+    {
+        if let Some(mut process) = self.process(at).copied() {
+            process.descriptors[descriptor] = id;
+            self.put(at, process);
+        }
+    }
+
+    /// The process in a place is killed. Nothing changes where the place is free.
+    pub fn mark(&mut self, at: usize)
+        ensures { self.new ≡ changed self.old at with_mark }
+    {
+        if let Some(process) = self.process(at).copied() {
+            self.put(
+                at,
+                Process {
+                    killed: true,
+                    ..process
+                },
+            );
+        }
+    }
+
+    /// The process in a place runs no more: it keeps these registers and this pc. Nothing changes where the place is free.
+    pub fn leave(&mut self, at: usize, registers: &[u64; 32], pc: u64, mode: Mode)
+        ensures { self.new ≡ changed self.old at (left registers.now pc mode) }
+    {
+        if let Some(process) = self.process(at).copied() {
+            self.put(
+                at,
+                Process {
+                    registers: *registers,
+                    pc,
+                    mode,
+                    ..process
+                },
+            );
+        }
     }
 
     /// The place of the running process.
@@ -230,6 +282,14 @@ impl Table {
     {
         let _ = &self.last;
         self.places[at]
+    }
+
+    // A place becomes free.
+    fn clear(&mut self, at: usize)
+        requires { at < 64 }
+        ensures { self.new ≡ record self.old { places = clear self.old.places at } }
+    {
+        self.places[at] = None;
     }
 
     // The children of a process go to process 1.
@@ -340,9 +400,9 @@ impl Table {
         ensures places { self.new ≡ without self.old (zombie_place self.old parent) }
         ensures within { IfSome result (λ reaped. reaped.place < 64) }
     {
-        let at = zombie_child(self.places.as_slice(), parent)?;
-        let place = self.places[at];
-        self.places[at] = None;
+        let at = zombie_child(self.places(), parent)?;
+        let place = self.place(at);
+        self.clear(at);
         let process = place?;
         Some(Reaped {
             place: at,

@@ -1,6 +1,6 @@
 -- One pipe trades frames, or is read or written: what is left of the fields, and what they show then.
 use Rattle.frames.specs.declared.Frames.{Frames}
-use Rattle.frames.specs.Free.{IsFreeList, SameBut, among, free_count, free_of}
+use Rattle.frames.specs.Free.{IsFreeList, SameBut, among, free_of}
 use Rattle.frames.specs.HolderLemmas.{Trades-none, among-none, count_of-append, count_of-first, holders-free, one_if-le}
 use Rattle.frames.specs.Holders.{Trades, count_of, one_if}
 use Rattle.pipe.specs.Pipe.{Pipe, Stays, bytes_of}
@@ -13,11 +13,11 @@ use Rattle.spaces.specs.Ends.{IsOpen}
 use Rattle.spaces.specs.Spaces.{bytes_in, has_pipe, taken_frames, with_pipe}
 use Rattle.spaces.specs.SpacesLemmas.{some-pipe, taken-piped, within}
 use Rattle.spaces.specs.View.{IsActive, IsSpaces, frames_at, pipe_frames, pipe_shown, shown, spaces_of}
-use Rattle.std.proofs.Common.{◌≡◌, ◌≢◌, ℕ, zero, suc, ◌+◌, ◌<◌, ◌≤◌, inl, inr, List, [], ◌∷◌, ◌++◌, false, length, map, slice_set, subst, true, Option, Some, None, refl, sym, ap, ◌∙◌, arith, length-set, get_or-set_other, get_or-set_same, ltb}
+use Rattle.std.proofs.Common.{◌≡◌, ◌≢◌, ℕ, ◌+◌, ◌<◌, ◌≤◌, inl, inr, List, [], ◌∷◌, false, length, map, slice_set, subst, true, Option, Some, None, refl, sym, ap, ◌∙◌, arith, length-set, get_or-set_other, get_or-set_same, ltb}
 use Rattle.std.proofs.lemmas.Bool.{cases_eq, cases_lt, le-ltb}
 use Rattle.std.proofs.lemmas.List.{length-map}
 use Rattle.std.specs.List.{flat_map}
-use Rattle.std.specs.Prelude.{Bool, not, unwrap_or, ◌||◌}
+use Rattle.std.specs.Prelude.{Bool, is_some, not, unwrap_or, ◌||◌}
 use Rattle.unixmodel.specs.Files.{slot}
 use Rattle.unixmodel.specs.Translation as translation
 use Rattle.vm.specs.declared.Space.{Space}
@@ -140,6 +140,18 @@ piped-read held i q p z qs is at e stays =
 
 pub pipe-is : {T : Type 0} (i : Inside T) (q : ℕ) (p : Pipe) → slot i.pipes.items q ≡ Some p → bytes_in (spaces_of i) q ≡ bytes_of i.ram p
 pipe-is i q p e = ap (λ o. unwrap_or o []) (pipe-slot i.ram i.pipes.items q ∙ ap (pipe_shown i.ram) e)
+
+some-pipe_shown : (m : List (List ℕ)) (o : Option Pipe) → is_some o ≡ is_some (pipe_shown m o)
+some-pipe_shown m None = refl
+some-pipe_shown m (Some p) = refl
+
+-- a place that shows a pipe has one, and what that is, by the slice that a borrow of the places shows
+pub pipe-stands : {T : Type 0} (i : Inside T) (xs : List (Option Pipe)) (q : ℕ) → xs ≡ i.pipes.items → has_pipe (spaces_of i) q ≡ true → is_some (slot xs q) ≡ true
+pipe-stands i xs q same has =
+    ap (λ l. is_some (slot l q)) same ∙ some-pipe_shown i.ram (slot i.pipes.items q) ∙ ap is_some (sym (pipe-slot i.ram i.pipes.items q)) ∙ has
+
+pub pipe-seen : (xs ps : List (Option Pipe)) (q : ℕ) (p : Pipe) → xs ≡ ps → slot xs q ≡ Some p → slot ps q ≡ Some p
+pipe-seen xs ps q p same e = ap (λ l. slot l q) (sym same) ∙ e
 
 pub pipes-count : {T : Type 0} (i : Inside T) → length (spaces_of i).pipes ≡ length i.pipes.items
 pipes-count i = length-map i.pipes.items (pipe_shown i.ram)

@@ -2,15 +2,15 @@
 use Rattle.frames.specs.declared.Frames.{Frames}
 use Rattle.frames.specs.HolderLemmas.{count_of-append, count_of-first}
 use Rattle.frames.specs.Holders.{Trades, count_of}
-use Rattle.pipe.specs.Pipe.{Pipe, bytes_of}
+use Rattle.pipe.specs.Pipe.{Pipe}
 use Rattle.pipe.specs.PipeLemmas.{bytes_of-same}
 use Rattle.ram.specs.Memory.{frame_of}
 use Rattle.spaces.specs.View.{frames_at, pipe_frames, pipe_shown}
-use Rattle.std.proofs.Common.{◌≡◌, ◌≢◌, ℕ, zero, suc, ◌+◌, ◌<◌, ◌≤◌, List, [], ◌∷◌, ◌++◌, length, get_or, map, replicate, slice_set, Option, Some, None, refl, sym, ap, ap₂, ◌∙◌, arith, length-set}
+use Rattle.std.proofs.Common.{◌≡◌, ◌≢◌, ℕ, zero, suc, ◌+◌, ◌<◌, ◌≤◌, List, [], ◌∷◌, length, get_or, map, replicate, slice_set, Option, Some, None, refl, sym, ap, ap₂, ◌∙◌, arith, length-set}
 use Rattle.std.proofs.lemmas.List.Concat.{flat_map-cons}
 use Rattle.arrayvec.proofs.ArrayVecLemmas.{items-with_items}
 use Rattle.std.proofs.lemmas.List.{length-map}
-use Rattle.std.specs.List.{flat_map, prefix_len, refill}
+use Rattle.std.specs.List.{prefix_len, refill}
 use Rattle.std.specs.Prelude.{cond, is_none, not}
 use Rattle.unixmodel.specs.Files.{free_slot, slot, taken}
 use Rattle.vm.specs.declared.Space.{Space}
@@ -46,10 +46,6 @@ get_or-default : (ps : List (Option Pipe)) (q : ℕ) (d e : Option Pipe) → q <
 get_or-default [] q d e h = absurd (omega (arith, h))
 get_or-default (p ∷ ps) zero d e h = refl
 get_or-default (p ∷ ps) (suc q) d e h = get_or-default ps q d e (omega (arith, h))
-
-pub pipe-there : (shown ps : List (Option Pipe)) (q : ℕ) (o : Option Pipe) (p : Pipe) → shown ≡ ps → o ≡ get_or shown q o → o ≡ Some p → q < length ps → slot ps q ≡ Some p
-pipe-there shown ps q o p same read is hi =
-    get_or-default ps q None o hi ∙ ap (λ l. get_or l q o) (sym same) ∙ sym read ∙ is
 
 pub pipe-found : (shown ps : List (Option Pipe)) (q : ℕ) (o : Option Pipe) (p : Pipe) → shown ≡ ps → get_or shown q o ≡ Some p → q < length ps → slot ps q ≡ Some p
 pipe-found shown ps q o p same is hi = get_or-default ps q None o hi ∙ ap (λ l. get_or l q o) (sym same) ∙ is

@@ -2,11 +2,11 @@
 use Rattle.frames.specs.Free.{free_count}
 use Rattle.frames.specs.Holders.{one_if}
 use Rattle.spaces.specs.declared.Spaces.TheInside.{Inside}
-use Rattle.spaces.specs.Spaces.{frames_in, held_at, no_pages, taken_frames}
+use Rattle.spaces.specs.Spaces.{frames_in, has_space, held_at, no_pages, taken_frames}
 use Rattle.spaces.specs.View.{IsSpaces, held_with, pipe_frames, shown, spaces_of}
 use Rattle.spaces.proofs.Pipes.{pipes-taken}
 use Rattle.std.proofs.Common.{◌≡◌, ℕ, zero, suc, ◌+◌, ◌≤◌, Bool, true, false, List, [], ◌∷◌, length, get_or, map, nat_lt, Option, Some, None, refl, sym, ap, ◌∙◌, arith}
-use Rattle.std.specs.Prelude.{if◌then◌else◌, sum_by, unwrap_or}
+use Rattle.std.specs.Prelude.{if◌then◌else◌, is_some, sum_by, unwrap_or}
 use Rattle.std.proofs.lemmas.List.{length-map}
 use Rattle.std.proofs.lemmas.List.Sums.{sum_by-cons}
 use Rattle.unixmodel.specs.Counts.{page_frames}
@@ -30,6 +30,18 @@ shown-slot m (x ∷ xs) (suc at) = shown-slot m xs at
 
 pub slot-is : {T : Type 0} (i : Inside T) (at : ℕ) (o : Option Space) → slot i.places.items at ≡ o → slot (spaces_of i).places at ≡ shown i.ram o
 slot-is i at o e = shown-slot i.ram i.places.items at ∙ ap (shown i.ram) e
+
+some-shown : (m : List (List ℕ)) (o : Option Space) → is_some o ≡ is_some (shown m o)
+some-shown m None = refl
+some-shown m (Some x) = refl
+
+-- a place shows a space where it has one
+pub shown-there : {T : Type 0} (i : Inside T) (xs : List (Option Space)) (at : ℕ) → xs ≡ i.places.items → is_some (slot xs at) ≡ has_space (spaces_of i) at
+shown-there i xs at same =
+    ap (λ l. is_some (slot l at)) same ∙ some-shown i.ram (slot i.places.items at) ∙ ap is_some (sym (shown-slot i.ram i.places.items at))
+
+pub stands-there : {T : Type 0} (i : Inside T) (xs : List (Option Space)) (at : ℕ) → xs ≡ i.places.items → has_space (spaces_of i) at ≡ true → is_some (slot xs at) ≡ true
+stands-there i xs at same has = shown-there i xs at same ∙ has
 
 pub held-is : {T : Type 0} (i : Inside T) (at : ℕ) (x : Space) → slot i.places.items at ≡ Some x → held_at (spaces_of i) at ≡ held_with (pages_of i.ram x) x.size
 held-is i at x e = ap (λ o. unwrap_or o no_pages) (slot-is i at (Some x) e)

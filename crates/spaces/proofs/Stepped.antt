@@ -12,7 +12,7 @@ use Rattle.spaces.specs.Spaces.{computed, held_at}
 use Rattle.spaces.specs.SpacesLemmas.{within}
 use Rattle.spaces.specs.View.{IsActive, IsSpaces, Runs, held_with, pipe_frames, shown, spaces_of}
 use Rattle.spaces.proofs.Pipes.{pipes-beside}
-use Rattle.std.proofs.Common.{◌≡◌, inl, inr, ℕ, ◌<◌, ◌≤◌, List, [], length, map, slice_set, true, Option, Some, None, Ok, Err, refl, sym, ap, ◌∙◌, arith}
+use Rattle.std.proofs.Common.{◌≡◌, inl, inr, ℕ, ◌<◌, ◌≤◌, List, length, map, slice_set, true, Option, Some, None, Ok, Err, refl, sym, ap, ◌∙◌, arith}
 use Rattle.std.specs.Prelude.{IfNone, IfSome, is_some, slice_get}
 use Rattle.sv39.specs.Mapping.{Mapped, Shows, WalksTo, coherent-kept, memory_of, shows-coherent}
 use Rattle.sv39.specs.WalkLemmas.{walk_page-inside}

@@ -31,9 +31,6 @@ ghost use Rattle.vm.specs.Leaf.{marks_from};
 ghost use Rattle.vm.specs.Reach.{IsSized, piece_at};
 ghost use Rattle.vm.specs.Space.{IsMapped, pages_of};
 
-#[cfg(test)]
-mod tests;
-
 use arrayvec::ArrayVec;
 use frames::Frames;
 use hart::hart::Hart;
@@ -94,6 +91,35 @@ fn root_of(space: &Space, ram: &Ram) -> FrameNo
 {
     space.walks(ram);
     space.root()
+}
+
+// The space of a place that has one.
+fn space_at(places: &[Option<Space>], at: usize) -> &Space
+    requires { is_some (slot places.now at) ≡ true }
+    ensures { slot places.now at ≡ Some result.now }
+{
+    match &places[at] {
+        Some(space) => space,
+        None => unreachable!(),
+    }
+}
+
+// Whether a place has a space.
+fn stands(places: &[Option<Space>], at: usize) -> bool
+    ensures { result ≡ is_some (slot places.now at) }
+{
+    matches!(places.get(at), Some(Some(_)))
+}
+
+// The pipe of a place that has one.
+fn pipe_at(pipes: &[Option<Pipe>], q: usize) -> &Pipe
+    requires { is_some (slot pipes.now q) ≡ true }
+    ensures { slot pipes.now q ≡ Some result.now }
+{
+    match &pipes[q] {
+        Some(pipe) => pipe,
+        None => unreachable!(),
+    }
 }
 
 // The lowest free place for pipes.
@@ -180,7 +206,7 @@ impl<T: Translate + Drop> Spaces<T> {
     pub fn has_space(&self, at: usize) -> bool
         ensures { result ≡ has_space self.now at }
     {
-        matches!(self.places.as_slice().get(at), Some(Some(_)))
+        stands(self.places.as_slice(), at)
     }
 
     /// The size of a place's space in bytes.
@@ -188,10 +214,8 @@ impl<T: Translate + Drop> Spaces<T> {
         requires { has_space self.now at ≡ true }
         ensures { result ≡ (held_at self.now at).size }
     {
-        match &self.places[at] {
-            Some(space) => space.size(),
-            None => unreachable!(),
-        }
+        let space = space_at(self.places.as_slice(), at);
+        space.size()
     }
 
     /// How many pages a place's space has. They are no more than frames, and each has 4096 bytes.
@@ -203,10 +227,8 @@ impl<T: Translate + Drop> Spaces<T> {
         ensures sized { IsSized (held_at self.now at).memory }
     {
         let _count = self.ram.frame_count();
-        match &self.places[at] {
-            Some(space) => vm::pages_in(space.size()),
-            None => unreachable!(),
-        }
+        let space = space_at(self.places.as_slice(), at);
+        vm::pages_in(space.size())
     }
 
     /// Whether the program of a place may read so many bytes.
@@ -215,10 +237,8 @@ impl<T: Translate + Drop> Spaces<T> {
         ensures reach { result ≡ nat_le count (length (reach Load (held_at self.now at).memory address)) }
         ensures read { result ≡ is_some (read_bytes (held_at self.now at).memory address count) }
     {
-        match &self.places[at] {
-            Some(space) => space.can_read(&self.ram, address, count),
-            None => unreachable!(),
-        }
+        let space = space_at(self.places.as_slice(), at);
+        space.can_read(&self.ram, address, count)
     }
 
     /// Whether the program of a place may write so many bytes.
@@ -226,10 +246,8 @@ impl<T: Translate + Drop> Spaces<T> {
         requires { has_space self.now at ≡ true }
         ensures { result ≡ can_write (held_at self.now at).memory address count }
     {
-        match &self.places[at] {
-            Some(space) => space.can_write(&self.ram, address, count),
-            None => unreachable!(),
-        }
+        let space = space_at(self.places.as_slice(), at);
+        space.can_write(&self.ram, address, count)
     }
 
     /// The bytes from an address of a place to the end of its page; none where its program may not read them.
@@ -237,10 +255,8 @@ impl<T: Translate + Drop> Spaces<T> {
         requires { has_space self.now at ≡ true }
         ensures { result.now ≡ piece_at Load (held_at self.now at).memory address }
     {
-        match &self.places[at] {
-            Some(space) => space.readable(&self.ram, address),
-            None => unreachable!(),
-        }
+        let space = space_at(self.places.as_slice(), at);
+        space.readable(&self.ram, address)
     }
 
     /// The bytes and the marks of a page of a place; `None` past the last one.
@@ -248,13 +264,9 @@ impl<T: Translate + Drop> Spaces<T> {
         requires { has_space self.now at ≡ true }
         ensures { option_map (λ r. let p : Page = record { bytes = r.0.now; marks = marks_from r.1 } in p) result ≡ slice_get (held_at self.now at).memory n }
     {
-        match &self.places[at] {
-            Some(space) => {
-                let (frame, perm) = space.find_page(&self.ram, n)?;
-                Some((self.ram.frame(frame), perm))
-            }
-            None => unreachable!(),
-        }
+        let space = space_at(self.places.as_slice(), at);
+        let (frame, perm) = space.find_page(&self.ram, n)?;
+        Some((self.ram.frame(frame), perm))
     }
 
     /// The memory, and the frame of the root of a place's page table.
@@ -262,10 +274,8 @@ impl<T: Translate + Drop> Spaces<T> {
         requires { has_space self.now at ≡ true }
         ensures { ShowsMemory result.0.now result.1.0 (held_at self.now at).memory }
     {
-        match &self.places[at] {
-            Some(space) => (&self.ram, root_of(space, &self.ram)),
-            None => unreachable!(),
-        }
+        let space = space_at(self.places.as_slice(), at);
+        (&self.ram, root_of(space, &self.ram))
     }
 
     /// Makes a space without pages in a free place. `false`: fewer than 4 frames are free; then nothing changed.
@@ -293,11 +303,8 @@ impl<T: Translate + Drop> Spaces<T> {
         ensures done { OnTrue result ((taken_frames (with_held self.old to (held_at self.old from)) ≤ self.old.frames) × (self.new ≡ with_held self.old to (held_at self.old from))) }
         ensures refused { OnFalse result ((self.old.frames < taken_frames (with_held self.old to (held_at self.old from))) × (self.new ≡ self.old)) }
     {
-        let copied = match &self.places[from] {
-            Some(space) => space.copy(&mut self.ram, &mut self.frames),
-            None => unreachable!(),
-        };
-        match copied {
+        let space = space_at(self.places.as_slice(), from);
+        match space.copy(&mut self.ram, &mut self.frames) {
             Ok(space) => {
                 self.places[to] = Some(space);
                 true
@@ -356,10 +363,8 @@ impl<T: Translate + Drop> Spaces<T> {
         requires inside { (i : ℕ) → i < length bytes.now → (address + i) / 4096 < length (held_at self.old at).memory }
         ensures { self.new ≡ with_held self.old at (written (held_at self.old at) address bytes.now) }
     {
-        match &self.places[at] {
-            Some(space) => space.fill(&mut self.ram, address, bytes),
-            None => unreachable!(),
-        }
+        let space = space_at(self.places.as_slice(), at);
+        space.fill(&mut self.ram, address, bytes);
     }
 
     /// Copies bytes to an address of a place. `false`: its program may not write them all; then nothing changed.
@@ -369,10 +374,8 @@ impl<T: Translate + Drop> Spaces<T> {
         ensures done { OnTrue result (self.new ≡ with_held self.old at (written (held_at self.old at) address bytes.now)) }
         ensures refused { OnFalse result (self.new ≡ self.old) }
     {
-        match &self.places[at] {
-            Some(space) => space.copy_out(&mut self.ram, address, bytes).is_ok(),
-            None => unreachable!(),
-        }
+        let space = space_at(self.places.as_slice(), at);
+        space.copy_out(&mut self.ram, address, bytes).is_ok()
     }
 
     /// Copies bytes from an address of a place. `false`: its program may not read them all; then none is copied.
@@ -382,10 +385,8 @@ impl<T: Translate + Drop> Spaces<T> {
         ensures done { OnTrue result (read_bytes (held_at self.now at).memory address (length buffer.old) ≡ Some buffer.new) }
         ensures refused { OnFalse result (buffer.new ≡ buffer.old) }
     {
-        match &self.places[at] {
-            Some(space) => space.copy_in(&self.ram, address, buffer).is_ok(),
-            None => unreachable!(),
-        }
+        let space = space_at(self.places.as_slice(), at);
+        space.copy_in(&self.ram, address, buffer).is_ok()
     }
 
     /// Makes a place the active one: the hart takes these registers, this pc and the tables of the place's space.
@@ -395,10 +396,7 @@ impl<T: Translate + Drop> Spaces<T> {
         requires aligned { pc % 4 ≡ 0 }
         ensures { self.new ≡ record self.old { active = Some at; registers = registers.now; pc = pc } }
     {
-        let root = match &self.places[at] {
-            Some(space) => space.root(),
-            None => unreachable!(),
-        };
+        let root = space_at(self.places.as_slice(), at).root();
         self.hart = Hart {
             registers: *registers,
             pc,
@@ -502,10 +500,8 @@ impl<T: Translate + Drop> Spaces<T> {
         requires { has_pipe self.now q ≡ true }
         ensures { result ≡ not (is_empty (bytes_in self.now q)) }
     {
-        match &self.pipes[q] {
-            Some(pipe) => pipe.can_read(),
-            None => unreachable!(),
-        }
+        let pipe = pipe_at(self.pipes.as_slice(), q);
+        pipe.can_read()
     }
 
     /// Whether a byte fits into a pipe.
@@ -514,10 +510,8 @@ impl<T: Translate + Drop> Spaces<T> {
         ensures room { result ≡ nat_lt (length (bytes_in self.now q)) pipe_room }
         ensures few { length (bytes_in self.now q) ≤ pipe_room }
     {
-        match &self.pipes[q] {
-            Some(pipe) => pipe.can_write(),
-            None => unreachable!(),
-        }
+        let pipe = pipe_at(self.pipes.as_slice(), q);
+        pipe.can_write()
     }
 
     // Puts what fits of these bytes behind those of a pipe, and tells how many.

@@ -2,11 +2,10 @@
 ghost use Rattle.std.specs.Prelude.{◌≡◌, ◌<◌, ◌++◌, ℕ, None, Some, true};
 ghost use Rattle.std.specs.Bool.{OnFalse, OnTrue};
 ghost use Rattle.calls.specs.Kernel.{descriptors_at};
-ghost use Rattle.calls.specs.Renamed.{AreFree, Duplicates, Ends, LacksEnds, OpensAs, free_descriptors, piped, with_descriptor, without_descriptor};
+ghost use Rattle.calls.specs.Renamed.{AreFree, Duplicates, Ends, LacksEnds, OpensAs, free_descriptors, piped, without_descriptor};
 ghost use Rattle.calls.specs.Sound.{IsKernel};
 ghost use Rattle.files.specs.Meant.{end_of, file_of};
 ghost use Rattle.files.specs.Places.{free_count};
-ghost use Rattle.proc.specs.Places.{changed};
 ghost use Rattle.spaces.specs.Spaces.{held_at};
 ghost use Rattle.unixmodel.specs.FileCalls.{pipe_end};
 ghost use Rattle.unixmodel.specs.Files.{slot};
@@ -16,20 +15,8 @@ ghost use Rattle.unixmodel.specs.Numbers.{le};
 use crate::descriptors::{close, free_count, free_descriptor, named};
 use crate::kernel::Kernel;
 use files::{End, Files, OpenFile, Target};
-use proc::{Process, Table};
+use proc::Table;
 use sv39::Translate;
-
-// A descriptor of the process in a place names another open file, or none.
-fn set_descriptor(table: &mut Table, at: usize, descriptor: usize, id: Option<u8>)
-    requires { descriptor < 16 }
-    ensures { table.new ≡ changed table.old at (with_descriptor descriptor id) }
-{
-    if let Some(process) = table.process(at) {
-        let mut process = *process;
-        process.descriptors[descriptor] = id;
-        table.put(at, process);
-    }
-}
 
 // An end of a pipe, as an open file.
 fn pipe_end(pipe: usize, end: End) -> OpenFile
@@ -58,7 +45,7 @@ fn open_end(table: &mut Table, files: &mut Files, at: usize, pipe: usize, end: E
     let Ok(id) = files.open(pipe_end(pipe, end)) else {
         unreachable!()
     };
-    set_descriptor(table, at, free, Some(id as u8));
+    table.set_descriptor(at, free, Some(id as u8));
     free
 }
 
@@ -78,10 +65,16 @@ impl<T: Translate + Drop> Kernel<T> {
         requires { self.old.spaces.active ≡ Some at }
         ensures { Duplicates self.old at descriptor self.new result }
     {
-        let descriptors = &self.table.process(at)?.descriptors;
-        let id = named(descriptors, descriptor)?;
-        let free = free_descriptor(descriptors)?;
-        set_descriptor(&mut self.table, at, free, Some(id));
+        let Some(process) = self.table.process(at) else {
+            return None;
+        };
+        let Some(id) = named(&process.descriptors, descriptor) else {
+            return None;
+        };
+        let Some(free) = free_descriptor(&process.descriptors) else {
+            return None;
+        };
+        self.table.set_descriptor(at, free, Some(id));
         self.files.dup(usize::from(id));
         Some(free)
     }
@@ -92,13 +85,10 @@ impl<T: Translate + Drop> Kernel<T> {
         ensures done { OnTrue result ((n : ℕ) × (slot (descriptors_at self.old at) descriptor ≡ Some n) × (self.new ≡ without_descriptor self.old at descriptor n)) }
         ensures refused { OnFalse result ((slot (descriptors_at self.old at) descriptor ≡ None) × (self.new ≡ self.old)) }
     {
-        let Some(process) = self.table.process(at) else {
+        let Some(id) = self.open_id(at, descriptor) else {
             return false;
         };
-        let Some(id) = named(&process.descriptors, descriptor) else {
-            return false;
-        };
-        set_descriptor(&mut self.table, at, descriptor as usize, None);
+        self.table.set_descriptor(at, descriptor as usize, None);
         close(&mut self.files, &mut self.spaces, usize::from(id));
         true
     }

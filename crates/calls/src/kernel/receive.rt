@@ -25,8 +25,10 @@ impl<T: Translate + Drop> Kernel<T> {
     pub(crate) fn target_for_reading(&self, at: usize, descriptor: u32) -> Option<Target>
         ensures { option_map target_of result ≡ result_ok (readable_at (file_named (opens_of self.now.files) (descriptors_at self.now at) descriptor)) }
     {
-        let id = self.open_id(at, descriptor)?;
-        self.files.read(id).ok()
+        match self.open_id(at, descriptor) {
+            Some(id) => self.files.read(usize::from(id)).ok(),
+            None => None,
+        }
     }
 
     /// Whether a pipe holds a byte.

@@ -22,8 +22,10 @@ impl<T: Translate + Drop> Kernel<T> {
     pub(crate) fn target_for_writing(&self, at: usize, descriptor: u32) -> Option<Target>
         ensures { option_map target_of result ≡ result_ok (writable_at (file_named (opens_of self.now.files) (descriptors_at self.now at) descriptor)) }
     {
-        let id = self.open_id(at, descriptor)?;
-        self.files.write(id).ok()
+        match self.open_id(at, descriptor) {
+            Some(id) => self.files.write(usize::from(id)).ok(),
+            None => None,
+        }
     }
 
     /// Whether a pipe has a read end.

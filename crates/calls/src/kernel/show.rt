@@ -19,11 +19,7 @@ impl<T: Translate + Drop> Kernel<T> {
         ensures { result ≡ option_map bare (shown_process (state_of self.now) pid) }
     {
         let at = self.table.find(pid)?;
-        if self.spaces.active() == Some(at) {
-            self.on_hart(at)
-        } else {
-            self.table.process(at).copied()
-        }
+        self.whole(at)
     }
 
     /// The bytes and the marks of a page of the process with a pid; `None` past its last page, and where there is no

@@ -10,7 +10,7 @@ use Rattle.calls.proofs.calls.fork.Goals as goal
 pub returns-in-Some : goal.returns-in-Some
 returns-in-Some g c =
     let k = c.args.kernel.now in
-    let s = c.active-sound.ensures in
+    let s = c.enter.ensures in
     let run = run-of k c.args.at s.sound c.requires.running in
     let entered' = c.enter.ensures.entered in
     let d = subst (λ (o : Option ℕ). Forks c.enter.new.self c.args.at c.fork-forked.new.self o) c.in-Some.is c.fork-forked.ensures in
@@ -24,7 +24,7 @@ returns-in-Some g c =
 pub returns-in-None : goal.returns-in-None
 returns-in-None g c =
     let k = c.args.kernel.now in
-    let s = c.active-sound.ensures in
+    let s = c.enter.ensures in
     let run = run-of k c.args.at s.sound c.requires.running in
     let entered' = c.enter.ensures.entered in
     let d = subst (λ (o : Option ℕ). Forks c.enter.new.self c.args.at c.fork-forked.new.self o) c.in-None.is c.fork-forked.ensures in

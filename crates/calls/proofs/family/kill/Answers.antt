@@ -4,7 +4,7 @@ use Rattle.calls.proofs.family.kill.Goals as goal
 
 pub returns-in_default : goal.returns-in_default
 returns-in_default g c =
-    let s = c.active-sound.ensures in
+    let s = c.enter.ensures in
     record {
       gives = rw c.answer.ensures (kills-none c.args.kernel.now c.enter.new.self c.args.at c.enter.ensures.entered s.sound c.requires.running c.requires.number c.argument.result c.argument.ensures c.named.result c.named.ensures c.in_default.is);
     }
@@ -13,7 +13,7 @@ pub returns : goal.returns
 returns g c =
     let k = c.args.kernel.now in
     let e = c.enter.new.self in
-    let s = c.active-sound.ensures in
+    let s = c.enter.ensures in
     record {
       gives = rw c.mark.ensures (elim c.if-place-at.branch [
         | then-place-at w ↦

@@ -6,7 +6,7 @@ use Rattle.calls.proofs.family.wait.Goals as goal
 pub returns-then-not-has_child : goal.returns-then-not-has_child
 returns-then-not-has_child g c =
     let k = c.args.kernel.now in
-    let s = c.active-sound.ensures in
+    let s = c.enter.ensures in
     record {
       gives = rw c.answer.ensures (elim c.then-not-has_child.branch [
         | then-not-has_child-via-then-not-has_child w ↦
@@ -19,7 +19,7 @@ returns-then-not-has_child g c =
 pub returns : goal.returns
 returns g c =
     let k = c.args.kernel.now in
-    let s = c.active-sound.ensures in
+    let s = c.enter.ensures in
     record {
       gives =
           waits-begun k c.enter.new.self c.args.at c.enter.ensures.entered s.sound c.requires.running c.requires.number c.pid-pid.result c.argument-address.result c.pending-pending.result

@@ -1,4 +1,4 @@
-use Rattle.calls.proofs.ReadRows.{target-some}
+use Rattle.calls.proofs.Sends.{target-some}
 use Rattle.calls.specs.Sends.{target_named}
 use Rattle.files.specs.Meant.{target_of}
 use Rattle.std.proofs.Common.{None, ap, sym, ◌∙◌, ◌≡◌}
@@ -12,4 +12,4 @@ unreachable-requires g c =
     let k = c.args.kernel.now in
     let none : target_named k c.args.at (low (pending_arg c.args.pending 0)) ≡ None =
     ap (target_named k c.args.at) (sym c.low.ensures) ∙ sym c.open_target.ensures ∙ ap (option_map target_of) c.in_default.is in
-    target-some k c.active-sound.ensures.sound c.args.at (low (pending_arg c.args.pending 0)) c.requires.running c.requires.can.named none
+    target-some k c.args.at (low (pending_arg c.args.pending 0)) c.active-sound.ensures.sound c.requires.running c.requires.can.named none

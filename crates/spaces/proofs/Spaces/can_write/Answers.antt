@@ -1,5 +1,8 @@
 use Rattle.spaces.proofs.Spaces.can_write.Goals as goal
-use Rattle.spaces.proofs.Places.{there}
+use Rattle.spaces.proofs.Places.{stands-there, there}
+
+pub space_at-space-requires : goal.space_at-space-requires
+space_at-space-requires g c = stands-there c.self.inside c.as_slice.result.now c.args.at c.as_slice.ensures.value (rw (← c.self.view_is) at c.requires)
 
 pub can_write-requires : goal.can_write-requires
-can_write-requires g c = (c.self.invariant.machine.each c.args.at c.in-Some.space (there c.deref.result.now c.self.inside.places.items c.args.at c.in-Some.space c.deref.ensures.0 c.in-Some.is)).dense
+can_write-requires g c = (c.self.invariant.machine.each c.args.at c.space_at-space.result.now (there c.as_slice.result.now c.self.inside.places.items c.args.at c.space_at-space.result.now c.as_slice.ensures.value c.space_at-space.ensures)).dense

@@ -40,3 +40,10 @@ returns-clause-bytes g c =
     let wrote = piped-written held i c.args.q p z k (frame_of k p.frame) _ c.self.invariant e
     (pipe-refilled i.pipes.items c.deref_mut.result.now c.args.q (Some z) (Some z) c.deref_mut.ensures.value refl) c.put_in.ensures.stays c.put_in.ensures.memory in
     rw (← c.self.view_is, pipe-is i c.args.q p e) (piped-as held i _ c.args.q (Some (bytes_of k z)) (Some (bytes_of i.ram p ++ take (512 - length (bytes_of i.ram p)) c.args.bytes.now)) wrote (ap Some c.put_in.ensures.bytes)).view
+
+pub returns-clause-count : goal.returns-clause-count
+returns-clause-count g c =
+    let i = c.self.inside in
+    let p = c.in-Some.pipe in
+    let e = pipe-found c.deref_mut.result.now i.pipes.items c.args.q c.index-deref_mut-q.result p c.deref_mut.ensures.value c.in-Some.is (pipe-within i c.args.q (rw (← c.self.view_is) at c.requires)) in
+    rw (← c.self.view_is, pipe-is i c.args.q p e) c.put_in.ensures.count

@@ -10,6 +10,6 @@ dup-requires g c = let few = counts-few (kernel_of c.self.inside) c.self.invaria
 
 pub invariant_of-self : goal.invariant_of-self
 invariant_of-self g c =
-    let there = sym c.process.ensures.process ∙ ap option_copied c.in_ok-descriptors.was in
-    let made = dups (kernel_of c.self.inside) c.args.self.now c.args.at c.args.descriptor c.in_ok-free.free c.in_ok-id.id c.in_ok-descriptors.field-0.now c.self.view_is c.self.invariant c.requires there (sym c.named.ensures.named ∙ c.in_ok-id.was) (sym c.free_descriptor.ensures.place ∙ c.in_ok-free.was) in
+    let there = sym c.process.ensures.process ∙ ap option_copied c.in-Some.is in
+    let made = dups (kernel_of c.self.inside) c.args.self.now c.args.at c.args.descriptor c.in-Some-free_descriptor.free c.in-Some-named.id c.in-Some.process.now c.self.view_is c.self.invariant c.requires there (sym c.named.ensures.named ∙ c.in-Some-named.is) (sym c.free_descriptor.ensures.place ∙ c.in-Some-free_descriptor.is) in
     rw (c.dup.ensures, c.set_descriptor.ensures, c.from.ensures) made.keeps

@@ -9,9 +9,9 @@ returns-then-not-grow-clause-refused g c =
 pub returns-clause-done : goal.returns-clause-done
 returns-clause-done g c =
     grow-done (kernel_of c.self.inside) c.args.self.now c.args.at c.args.bytes c.grow.new.self c.self.view_is c.self.invariant c.requires c.pages-pages.ensures.whole
-    c.set_size.new.table c.size-size.result c.size-size.ensures c.set_size.ensures c.if-not-grow.ensures.done.1
+    c.set_size.new.self c.size-size.result c.size-size.ensures c.set_size.ensures c.if-not-grow.ensures.done.1
 
 pub invariant_of-self-2 : goal.invariant_of-self-2
 invariant_of-self-2 g c =
     grow-keeps (kernel_of c.self.inside) c.args.self.now c.args.at c.args.bytes c.grow.new.self c.self.view_is c.self.invariant c.requires c.pages-pages.ensures.whole
-    c.set_size.new.table c.size-size.result c.size-size.ensures c.set_size.ensures c.if-not-grow.ensures.done
+    c.set_size.new.self c.size-size.result c.size-size.ensures c.set_size.ensures c.if-not-grow.ensures.done

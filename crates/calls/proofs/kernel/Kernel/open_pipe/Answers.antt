@@ -2,7 +2,8 @@ use Rattle.std.proofs.Common.{ap, arith, refl, sym, ◌∙◌}
 use Rattle.std.specs.Prelude.{is_some}
 use Rattle.std.specs.Option.{option_copied}
 use Rattle.calls.specs.View.{kernel_of}
-use Rattle.calls.proofs.Pipes.{descriptor-left, lacks-descriptors, lacks-frames, lacks-places, opened-both, place-left}
+use Rattle.calls.proofs.Runs.{active-space, active-there}
+use Rattle.calls.proofs.Pipes.{descriptor-left, lacks-descriptors, lacks-frames, lacks-places, lacks-room, opened-both, place-left}
 use Rattle.files.specs.Free.{free-place}
 use Rattle.unixmodel.specs.FileCalls.{pipe_end}
 use Rattle.unixmodel.specs.OpenFiles.End.{ReadEnd}
@@ -42,6 +43,9 @@ open_end-writer-requires-clause-free g c =
     let there = sym c.process.ensures.process ∙ ap option_copied c.in-Some.is in
     descriptor-left c.self.inside.table c.open_end-reader.new.table c.self.inside.files c.open_end-reader.new.files c.args.at (pipe_end c.in-Some-free_pipe.pipe ReadEnd) c.open_end-reader.result c.in-Some.process.now there c.open_end-reader.ensures.opens (omega arith)
 
+pub invariant_of-self : goal.invariant_of-self
+invariant_of-self g c = rw c.if-not-create_pipe.ensures.refused.1 c.self.invariant
+
 pub invariant_of-self-2 : goal.invariant_of-self-2
 invariant_of-self-2 g c =
     let there = sym c.process.ensures.process ∙ ap option_copied c.in-Some.is in
@@ -71,3 +75,20 @@ returns-clause-kept g c =
     (opened-both (kernel_of c.self.inside) c.args.self.now c.args.at c.args.address c.in-Some-free_pipe.pipe c.open_end-reader.result c.open_end-writer.result c.in-Some.process.now c.self.view_is c.self.invariant c.requires.running c.requires.can there place
     c.open_end-reader.new.table c.open_end-writer.new.table c.open_end-reader.new.files c.open_end-writer.new.files c.open_end-reader.ensures.opens c.open_end-writer.ensures.opens
     c.create_pipe.new.self c.write-written.new.self c.ints.result c.write-written.result d.1 c.ints.ensures w.can w.done d.0).keeps
+
+pub returns-in_default-clause-refused : goal.returns-in_default-clause-refused
+returns-in_default-clause-refused g c =
+    let none = sym c.process.ensures.process ∙ ap option_copied c.in_default.is in
+    absurd (active-there (kernel_of c.self.inside) c.args.self.now c.args.at c.self.view_is c.self.invariant c.requires.running none)
+
+pub returns-in_default-free_pipe-clause-refused : goal.returns-in_default-free_pipe-clause-refused
+returns-in_default-free_pipe-clause-refused g c =
+    (refl, lacks-room (kernel_of c.self.inside) c.args.self.now c.args.at c.args.address c.self.view_is (sym c.free_pipe.ensures.place ∙ c.in_default-free_pipe.is))
+
+pub open_end-reader-requires-clause-free : goal.open_end-reader-requires-clause-free
+open_end-reader-requires-clause-free g c =
+    let there = sym c.process.ensures.process ∙ ap option_copied c.in-Some.is in
+    rw there (omega arith)
+
+pub write-written-requires : goal.write-written-requires
+write-written-requires g c = rw c.if-not-create_pipe.ensures.done.1 (active-space (kernel_of c.self.inside) c.args.self.now c.args.at c.self.view_is c.self.invariant c.requires.running)
