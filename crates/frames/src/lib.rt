@@ -78,33 +78,3 @@ impl Frames {
         self.count += 1;
     }
 }
-
-#[cfg(test)]
-mod tests {
-    use super::*;
-    use std::test::Fail;
-
-    #[test]
-    fn takes_each_frame_once(rt: HostRuntime) -> Result<(), Fail> {
-        let mut ram = Ram::new(rt.alloc(), 3)?;
-        let mut frames = Frames::new(&mut ram);
-        assert_eq!(rt; frames.free(), 3);
-        assert_eq!(rt; frames.take(&ram), Some(FrameNo(0)));
-        assert_eq!(rt; frames.take(&ram), Some(FrameNo(1)));
-        assert_eq!(rt; frames.take(&ram), Some(FrameNo(2)));
-        assert_eq!(rt; frames.take(&ram), None);
-        Ok(())
-    }
-
-    #[test]
-    fn takes_what_was_given_last(rt: HostRuntime) -> Result<(), Fail> {
-        let mut ram = Ram::new(rt.alloc(), 3)?;
-        let mut frames = Frames::new(&mut ram);
-        let taken = frames.take(&ram).ok_or("no frame is free")?;
-        assert_eq!(rt; frames.free(), 2);
-        frames.give(&mut ram, taken);
-        assert_eq!(rt; frames.free(), 3);
-        assert_eq!(rt; frames.take(&ram), Some(taken));
-        Ok(())
-    }
-}

@@ -66,7 +66,7 @@ pub fn place(address: u64) -> usize
 }
 
 /// The frame of the page that an address is on, or None where the access isn't allowed.
-#[inline]
+#[inline(always)]
 pub fn locate<T: Translate>(
     trans: &mut T,
     ram: &Ram,

