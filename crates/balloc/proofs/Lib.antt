@@ -1,3 +1,5 @@
 mod Bits
+pub mod Exits
 mod Formatting
 mod Records
+mod Scanning

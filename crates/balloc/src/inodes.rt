@@ -30,8 +30,7 @@ pub fn read_inode<D: BlockDev>(
     ensures cause { HasCause disk.old.failures disk.new.failures result }
 {
     let block = disk.read(2 + number / 16)?;
-    let at = 64 * (number % 16);
-    Ok(DiskInode::from_front(&block[at..at + 64]))
+    Ok(inode_in(&block, number % 16))
 }
 
 /// Writes the record of an inode.

@@ -1,30 +1,40 @@
 -- What lies inside an image.
-use Rattle.std.proofs.Common.{◌≡◌, ◌≢◌, ℕ, ◌+◌, ◌*◌, ◌<◌, ◌≤◌, List, length, arith, subst, inl, inr}
+use Rattle.std.proofs.Common.{◌≡◌, ◌≢◌, ℕ, ◌+◌, ◌*◌, ◌/◌, ◌<◌, ◌≤◌, List, length, arith, subst, inl, inr}
 use Rattle.std.proofs.lemmas.Bool.{cases_lt}
 use Rattle.layout.specs.declared.Geometry.{Geometry}
-use Rattle.unixmodel.specs.Image.{data_start, inode_at, kind_in}
-use Rattle.image.specs.Fields.{HasGeometry, HasInode}
+use Rattle.unixmodel.specs.Image.{HasSuper, bitmap_start, data_start, inode_at, kind_in}
+use Rattle.image.specs.Fields.{HasGeometry, HasInode, HasSuper-of}
 use Rattle.image.specs.Pieces.{HasSizes}
 
 module _ {image : List ℕ} {g : Geometry} (h : HasGeometry image g) where
+  pub super-is : HasSuper image
+  super-is = HasSuper-of image h.rules
+
   pub inodes-most : g.inodes ≤ 8192
-  inodes-most = let a = h.super.inodes_most in omega (arith, h.inodes)
+  inodes-most = let a = super-is.inodes_most in omega (arith, h.inodes)
 
   pub inodes-least : 16 ≤ g.inodes
-  inodes-least = let a = h.super.inodes_least in omega (arith, h.inodes)
+  inodes-least = let a = super-is.inodes_least in omega (arith, h.inodes)
 
   pub size-most : g.size ≤ 16384
-  size-most = let a = h.super.size_most in omega (arith, h.size)
+  size-most = let a = super-is.size_most in omega (arith, h.size)
 
   -- the data blocks are not the first, and there is one
   pub data-room : data_start g.size g.inodes < g.size
-  data-room = let a = h.super.blocks in let b = h.super.some_blocks in omega (arith, h.size, h.inodes)
+  data-room = let a = super-is.blocks in let b = super-is.some_blocks in omega (arith, h.size, h.inodes)
 
   pub length-is : length image ≡ 1024 * g.size
-  length-is = let a = h.super.whole in omega (arith, h.size)
+  length-is = let a = super-is.whole in omega (arith, h.size)
 
   pub inode-inside : (n : ℕ) → n < g.inodes → inode_at n + 64 ≤ length image
   inode-inside n l = omega (arith, data-room, length-is)
+
+  -- the bitmap begins below the last number of a block, and the bit of each block lies in the image
+  pub bitmap-low : (start : ℕ) → start ≡ bitmap_start g.inodes → start ≤ 16384
+  bitmap-low start e = omega (arith, inodes-most)
+
+  pub bit-inside : (start : ℕ) → start ≡ bitmap_start g.inodes → (b : ℕ) → b < g.size → 1024 * start + b / 8 < length image
+  bit-inside start e b l = omega (arith, data-room, length-is)
 
   -- block b of the image lies in it
   pub block-inside : (b : ℕ) → b < g.size → 1024 * b + 1024 ≤ length image

@@ -1,6 +1,7 @@
 -- What a result of a pass tells, from what the pass before it tells.
-use Rattle.std.proofs.Common.{Err, List, Ok, Result, ℕ}
+use Rattle.std.proofs.Common.{Err, List, Ok, Result, ℕ, ◌≤◌, arith}
 use Rattle.std.specs.Prelude.{IfErr, OnOk}
+use Rattle.unixmodel.specs.Failures.{Rises}
 use Rattle.unixmodel.specs.Files.{Files}
 use Rattle.unixmodel.specs.Image.{Denotes}
 use Rattle.image.specs.Faults.{IsOfImage, Tells}
@@ -19,3 +20,7 @@ OnOk-with (Err e) q = tt
 pub refused-from : {T : Type 0} (image : List ℕ) (r : Result T ImageFault) → IfErr r (λ fault. Tells image fault) → IfErr r (λ fault. IsOfImage fault → (files : Files) → Denotes image files → ⊥)
 refused-from image (Ok x) h = tt
 refused-from image (Err fault) h = λ i files d. Tells-not image files fault i h d
+
+-- a rise from a later count is one from an earlier
+pub Rises-before : (a b c : ℕ) → a ≤ b → Rises b c → Rises a c
+Rises-before a b c h r = omega arith

@@ -8,7 +8,7 @@ use Rattle.layout.specs.declared.SuperBlock.{SuperBlock}
 use Rattle.unixmodel.specs.Image.{HasSuper, bitmap_start, data_start, inodes_in, size_in, super_number}
 use Rattle.unixmodel.specs.Numbers.{number_at}
 use Rattle.image.specs.Content.{image_of, length-image_of, part-image_of}
-use Rattle.image.specs.Fields.{HasGeometry}
+use Rattle.image.specs.Fields.{HasGeometry, HasSuper-of}
 use Rattle.image.specs.Pieces.{HasLength}
 use Rattle.image.proofs.Numbers.{number_at-drop, number_at-part}
 
@@ -97,4 +97,4 @@ HasLength-not_few blocks sizes few h = let l = h.least in absurd (omega (arith, 
 
 -- the geometry tells how many blocks there are
 pub count-is : (blocks : List (List ℕ)) → AreBlocks blocks → {g : Geometry} → HasGeometry (image_of blocks) g → g.size ≡ length blocks
-count-is blocks sizes h = let w = h.super.whole in omega (arith, length-image_of blocks sizes, h.size)
+count-is blocks sizes h = let w = (HasSuper-of (image_of blocks) h.rules).whole in omega (arith, length-image_of blocks sizes, h.size)

@@ -19,6 +19,18 @@ pub record HasBlocks (image : List ℕ) : Type 0 where
   pub once : NamesOnce image
   pub bitmap : HasBitmap image
 
+-- these rules as one word: a search over the facts of an image doesn't look into it
+unfoldable pub BlockRules : List ℕ → Type 0
+BlockRules image = HasBlocks image
+
+pub BlockRules-of : {image : List ℕ} → HasBlocks image → BlockRules image
+unfolding BlockRules
+BlockRules-of h = h
+
+pub HasBlocks-of : (image : List ℕ) → BlockRules image → HasBlocks image
+unfolding BlockRules
+HasBlocks-of image h = h
+
 -- the rules of the files of an image whose blocks are sound
 pub record HasFiles (image : List ℕ) : Type 0 where
   pub entries : HasEntries (files_in image)

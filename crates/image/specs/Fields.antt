@@ -4,9 +4,21 @@ use Rattle.layout.specs.declared.Geometry.{Geometry}
 use Rattle.unixmodel.specs.Files.{longest}
 use Rattle.unixmodel.specs.Image.{HasSuper, data_start, inode_at, inodes_in, length_in, size_in}
 
+-- the rules of the super block as one word: a search over the facts of an image doesn't look into it
+unfoldable pub SuperRules : List ℕ → Type 0
+SuperRules image = HasSuper image
+
+pub SuperRules-of : {image : List ℕ} → HasSuper image → SuperRules image
+unfolding SuperRules
+SuperRules-of h = h
+
+pub HasSuper-of : (image : List ℕ) → SuperRules image → HasSuper image
+unfolding SuperRules
+HasSuper-of image h = h
+
 -- the super block is sound, and tells these numbers
 pub record HasGeometry (image : List ℕ) (g : Geometry) : Type 0 where
-  pub super : HasSuper image
+  pub rules : SuperRules image
   pub size : g.size ≡ size_in image
   pub inodes : g.inodes ≡ inodes_in image
 

@@ -3,7 +3,7 @@
 ghost use Rattle.std.specs.Prelude.{◌≡◌, ◌≢◌, ℕ, ◌+◌, ◌*◌, ◌<◌, ◌≤◌, ◌++◌, length, flat_map, All, OnOk};
 ghost use Rattle.unixmodel.specs.Image.{block_at, contents_in, kind_in};
 ghost use Rattle.image.specs.Fields.{HasGeometry};
-ghost use Rattle.image.specs.Pieces.{HasAddresses, HasSizes};
+ghost use Rattle.image.specs.Faults.{BlockRules};
 
 use crate::blocks::{MOST, block_count, block_numbers};
 use crate::fields::size;
@@ -34,8 +34,7 @@ pub fn read_contents<A: Allocator>(
     bytes: &mut Vec<u8, A>,
 ) -> Result<(), AllocError>
     requires geometry { HasGeometry image.now geometry }
-    requires sizes { HasSizes image.now }
-    requires addresses { HasAddresses image.now }
+    requires blocks { BlockRules image.now }
     requires low { 1 ≤ n }
     requires high { n < geometry.inodes }
     requires used { kind_in image.now n ≢ 0 }

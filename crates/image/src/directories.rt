@@ -3,7 +3,7 @@
 ghost use Rattle.std.specs.Prelude.{◌≡◌, ◌<◌, ◌≤◌, ◌++◌, [], IfErr, IsErrOf, OnOk};
 ghost use Rattle.unixmodel.specs.Image.{contents_in, kind_in};
 ghost use Rattle.image.specs.Entries.{HasNames, NamesDirectories, entries_in};
-ghost use Rattle.image.specs.Faults.{HasBlocks, Tells};
+ghost use Rattle.image.specs.Faults.{BlockRules, Tells};
 ghost use Rattle.image.specs.Fields.{HasGeometry};
 ghost use Rattle.image.specs.Namings.{namings_in, namings_of};
 
@@ -24,7 +24,7 @@ fn test_directory<A: Allocator>(
     namings: &mut Vec<Naming, A>,
 ) -> Result<(), ImageFault>
     requires geometry { HasGeometry image.now geometry }
-    requires blocks { HasBlocks image.now }
+    requires blocks { BlockRules image.now }
     requires low { 1 ≤ n }
     requires high { n < geometry.inodes }
     requires directory { kind_in image.now n ≡ 1 }
@@ -52,7 +52,7 @@ pub fn test_directories<A: Allocator>(
     namings: &mut Vec<Naming, A>,
 ) -> Result<(), ImageFault>
     requires geometry { HasGeometry image.now geometry }
-    requires blocks { HasBlocks image.now }
+    requires blocks { BlockRules image.now }
     requires fresh { namings.old.items ≡ [] }
     ensures named { OnOk result (NamesDirectories image.now) }
     ensures namings { OnOk result (namings.new.items ≡ namings_in image.now) }

@@ -2,7 +2,7 @@
 
 ghost use Rattle.std.specs.Prelude.{◌≡◌, ◌≤◌, List, length, IfErr, IsErrOf, OnOk};
 ghost use Rattle.image.specs.Entries.{NamesDirectories};
-ghost use Rattle.image.specs.Faults.{HasBlocks, HasFiles, Tells};
+ghost use Rattle.image.specs.Faults.{BlockRules, HasFiles, Tells};
 ghost use Rattle.image.specs.Fields.{HasGeometry};
 ghost use Rattle.image.specs.Namings.{TellsNames, namings_in};
 ghost use Rattle.image.specs.Places.{HasEntries, HasLinks, files_in};
@@ -27,7 +27,7 @@ fn test_entries<A: Allocator>(
     counts: &[usize],
 ) -> Result<(), ImageFault>
     requires geometry { HasGeometry image.now geometry }
-    requires blocks { HasBlocks image.now }
+    requires blocks { BlockRules image.now }
     requires names { NamesDirectories image.now }
     requires namings { namings.now ≡ namings_in image.now }
     requires counts_long { length counts.now ≡ geometry.inodes }
@@ -53,7 +53,7 @@ fn test_links<A: Allocator>(
     counts: &[usize],
 ) -> Result<(), ImageFault>
     requires geometry { HasGeometry image.now geometry }
-    requires blocks { HasBlocks image.now }
+    requires blocks { BlockRules image.now }
     requires names { NamesDirectories image.now }
     requires entries { HasEntries (files_in image.now) }
     requires namings { namings.now ≡ namings_in image.now }
@@ -79,7 +79,7 @@ fn test_namings<A: Allocator>(
     namings: &[Naming],
 ) -> Result<(), ImageFault>
     requires geometry { HasGeometry image.now geometry }
-    requires blocks { HasBlocks image.now }
+    requires blocks { BlockRules image.now }
     requires names { NamesDirectories image.now }
     requires namings { namings.now ≡ namings_in image.now }
     ensures entries { OnOk result (HasEntries (files_in image.now)) }
@@ -100,7 +100,7 @@ pub fn test_files<A: Allocator>(
     geometry: Geometry,
 ) -> Result<(), ImageFault>
     requires geometry { HasGeometry image.now geometry }
-    requires blocks { HasBlocks image.now }
+    requires blocks { BlockRules image.now }
     ensures sound { OnOk result (HasFiles image.now) }
     ensures fault { IfErr result (λ fault. Tells image.now fault) }
     ensures device { IsErrOf result ImageFault.Device → ⊥ }

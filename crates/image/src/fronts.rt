@@ -4,7 +4,7 @@ ghost use Rattle.std.specs.Prelude.{◌≡◌, ℕ, ◌<◌, ◌≤◌, ◌==◌
 ghost use Rattle.std.specs.Bool.{OnTrue, OnFalse};
 ghost use Rattle.unixmodel.specs.Image.{contents_in, kind_in, parent_of};
 ghost use Rattle.image.specs.Entries.{AreNamed, FitsFront, HasFronts};
-ghost use Rattle.image.specs.Faults.{HasBlocks, Tells};
+ghost use Rattle.image.specs.Faults.{BlockRules, Tells};
 ghost use Rattle.image.specs.Fields.{HasGeometry};
 ghost use Rattle.image.specs.Namings.{HasParents, TellsNames};
 ghost use Rattle.image.specs.Places.{files_in, place_of_bytes};
@@ -52,7 +52,7 @@ fn test_front<A: Allocator>(
     bytes: &mut Vec<u8, A>,
 ) -> Result<(), ImageFault>
     requires geometry { HasGeometry image.now geometry }
-    requires blocks { HasBlocks image.now }
+    requires blocks { BlockRules image.now }
     requires low { 1 ≤ n }
     requires high { n < geometry.inodes }
     requires directory { kind_in image.now n ≡ 1 }
@@ -76,7 +76,7 @@ pub fn test_fronts<A: Allocator>(
     parents: &[u16],
 ) -> Result<(), ImageFault>
     requires geometry { HasGeometry image.now geometry }
-    requires blocks { HasBlocks image.now }
+    requires blocks { BlockRules image.now }
     requires long { length parents.now ≡ geometry.inodes }
     requires parents { HasParents image.now parents.now }
     ensures fronts { OnOk result (HasFronts image.now) }

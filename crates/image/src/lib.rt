@@ -23,38 +23,67 @@ use blockdev::DeviceFault;
 pub use maker::{Entry, MakeFault, Manifest, Thing, make};
 pub use rules::{Summary, check};
 use std::alloc::AllocError;
+use std::fmt;
 use thiserror::Error;
 
 /// Why an image is refused. Each rule is judged where those before it hold, in the order `Length`, `Magic`, `Numbers`,
 /// `NodeType`, `Size`, `Address`, `SharedBlock`, `Bitmap`, `Entry`, `Links`, `Unreached`.
 #[derive(Clone, Copy, Debug, PartialEq, Eq, Error)]
 pub enum ImageFault {
-    #[error("the device has another number of blocks than the super block says")]
+    /// The device has another number of blocks than the super block says.
     Length,
-    #[error("the magic number is wrong")]
+    /// The magic number is wrong.
     Magic,
-    #[error("the numbers of the super block don't fit one another")]
+    /// The numbers of the super block don't fit one another.
     Numbers,
-    #[error("an inode has an unknown type, or the root is no directory")]
+    /// An inode has an unknown type, or the root is no directory.
     NodeType,
-    #[error("an inode's number names no data block, or isn't 0 where its size asks for none")]
+    /// An inode's number names no data block, or isn't 0 where its size asks for none.
     Address,
-    #[error("a block is named twice")]
+    /// A block is named twice.
     SharedBlock,
-    #[error("the bitmap doesn't mark the blocks that are in use")]
+    /// The bitmap doesn't mark the blocks that are in use.
     Bitmap,
-    #[error("an inode has a size that its type can't have")]
+    /// An inode has a size that its type can't have.
     Size,
-    #[error("a place of a directory is wrong")]
+    /// A place of a directory is wrong.
     Entry,
-    #[error("a count of links is wrong")]
+    /// A count of links is wrong.
     Links,
-    #[error("an inode in use isn't reached from the root")]
+    /// An inode in use isn't reached from the root.
     Unreached,
-    #[error("a device access failed")]
+    /// A device access failed.
     Device,
-    #[error("no memory")]
+    /// No memory.
     NoMemory,
+}
+
+impl ImageFault {
+    // What it says to a person.
+    fn text(&self) -> &'static str {
+        match self {
+            Self::Length => "the device has another number of blocks than the super block says",
+            Self::Magic => "the magic number is wrong",
+            Self::Numbers => "the numbers of the super block don't fit one another",
+            Self::NodeType => "an inode has an unknown type, or the root is no directory",
+            Self::Address =>
+                "an inode's number names no data block, or isn't 0 where its size asks for none",
+            Self::SharedBlock => "a block is named twice",
+            Self::Bitmap => "the bitmap doesn't mark the blocks that are in use",
+            Self::Size => "an inode has a size that its type can't have",
+            Self::Entry => "a place of a directory is wrong",
+            Self::Links => "a count of links is wrong",
+            Self::Unreached => "an inode in use isn't reached from the root",
+            Self::Device => "a device access failed",
+            Self::NoMemory => "no memory",
+        }
+    }
+}
+
+impl fmt::Display for ImageFault {
+    fn fmt<W: fmt::Write>(&self, f: &mut fmt::Formatter<W>) -> fmt::Result {
+        f.write_str(self.text())
+    }
 }
 
 impl From<DeviceFault> for ImageFault {
@@ -78,6 +107,3 @@ impl From<AllocError> for ImageFault {
         ImageFault::NoMemory
     }
 }
-
-#[cfg(test)]
-mod tests;

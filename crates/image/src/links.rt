@@ -2,7 +2,7 @@
 
 ghost use Rattle.std.specs.Prelude.{◌≡◌, ℕ, ◌<◌, ◌≤◌, length};
 ghost use Rattle.std.specs.Bool.{OnTrue, OnFalse};
-ghost use Rattle.image.specs.Faults.{HasBlocks};
+ghost use Rattle.image.specs.Faults.{BlockRules};
 ghost use Rattle.image.specs.Fields.{HasGeometry};
 ghost use Rattle.image.specs.Namings.{FitsLinks, TellsNames, TellsSubdirectories};
 ghost use Rattle.image.specs.Places.{HasLinks, files_in};
@@ -31,7 +31,7 @@ pub fn has_links(
     subdirectories: &[usize],
 ) -> bool
     requires geometry { HasGeometry image.now geometry }
-    requires blocks { HasBlocks image.now }
+    requires blocks { BlockRules image.now }
     requires names_long { length names.now ≡ geometry.inodes }
     requires names { TellsNames image.now names.now }
     requires subdirectories_long { length subdirectories.now ≡ geometry.inodes }

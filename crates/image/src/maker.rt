@@ -15,8 +15,6 @@ mod made;
 mod manifest;
 mod path;
 mod store;
-#[cfg(test)]
-mod tests;
 
 use balloc::format;
 use blockdev::{BLOCK_SIZE, BlockDev, MemDisk};

@@ -3,7 +3,7 @@
 ghost use Rattle.std.specs.Prelude.{◌≡◌, ◌≢◌, ℕ, ◌+◌, ◌*◌, ◌/◌, ◌%◌, ◌<◌, ◌≤◌, length, IfErr, IsErrOf, OnOk};
 ghost use Rattle.std.specs.Bool.{OnTrue, OnFalse};
 ghost use Rattle.unixmodel.specs.Image.{parent_of};
-ghost use Rattle.image.specs.Faults.{HasBlocks, Tells};
+ghost use Rattle.image.specs.Faults.{BlockRules, Tells};
 ghost use Rattle.image.specs.Fields.{HasGeometry};
 ghost use Rattle.image.specs.Places.{HasEntries, HasLinks, IsReached, files_in};
 ghost use Rattle.image.specs.Reach.{Climbs, HasWalked, IsDirectoryIn};
@@ -16,7 +16,7 @@ use std::alloc::Allocator;
 // The directory that a directory's ".." names.
 fn parent(image: &[u8], geometry: Geometry, n: usize) -> usize
     requires geometry { HasGeometry image.now geometry }
-    requires blocks { HasBlocks image.now }
+    requires blocks { BlockRules image.now }
     requires entries { HasEntries (files_in image.now) }
     requires links { HasLinks (files_in image.now) }
     requires directory { IsDirectoryIn image.now n }
@@ -31,7 +31,7 @@ fn parent(image: &[u8], geometry: Geometry, n: usize) -> usize
 // whether it came to one that an earlier walk met, or else round to one of its own.
 fn climb(image: &[u8], geometry: Geometry, start: usize, marks: &mut [u16]) -> bool
     requires geometry { HasGeometry image.now geometry }
-    requires blocks { HasBlocks image.now }
+    requires blocks { BlockRules image.now }
     requires entries { HasEntries (files_in image.now) }
     requires links { HasLinks (files_in image.now) }
     requires directory { IsDirectoryIn image.now start }
@@ -58,7 +58,7 @@ pub fn test_reach<A: Allocator>(
     geometry: Geometry,
 ) -> Result<(), ImageFault>
     requires geometry { HasGeometry image.now geometry }
-    requires blocks { HasBlocks image.now }
+    requires blocks { BlockRules image.now }
     requires entries { HasEntries (files_in image.now) }
     requires links { HasLinks (files_in image.now) }
     ensures sound { OnOk result (IsReached (files_in image.now)) }

@@ -5,7 +5,7 @@ ghost use Rattle.unixmodel.specs.Failures.{Rises};
 ghost use Rattle.unixmodel.specs.Files.{Files};
 ghost use Rattle.unixmodel.specs.Image.{Denotes, named_blocks, numbers_in_use};
 ghost use Rattle.image.specs.Content.{image_of};
-ghost use Rattle.image.specs.Faults.{HasBlocks, HasInodes, IsOfImage, Tells};
+ghost use Rattle.image.specs.Faults.{BlockRules, HasInodes, IsOfImage, Tells};
 ghost use Rattle.image.specs.Fields.{HasGeometry};
 ghost use Rattle.image.specs.Marks.{HasMarks};
 ghost use Rattle.image.specs.Pieces.{HasAddresses};
@@ -34,7 +34,7 @@ pub struct Summary {
 // Tests the inodes and the blocks that they name: the rules from the types to the bitmap.
 fn test_blocks<A: Allocator>(alloc: A, image: &[u8], geometry: Geometry) -> Result<(), ImageFault>
     requires { HasGeometry image.now geometry }
-    ensures sound { OnOk result (HasBlocks image.now) }
+    ensures sound { OnOk result (BlockRules image.now) }
     ensures fault { IfErr result (λ fault. Tells image.now fault) }
     ensures device { IsErrOf result ImageFault.Device → ⊥ }
 {
@@ -58,7 +58,7 @@ fn test_marks(image: &[u8], geometry: Geometry, marks: &mut [bool]) -> Result<()
     requires addresses { HasAddresses image.now }
     requires long { length marks.old ≡ geometry.size }
     requires fresh { HasMarks [] marks.old }
-    ensures sound { OnOk result (HasBlocks image.now) }
+    ensures sound { OnOk result (BlockRules image.now) }
     ensures fault { IfErr result (λ fault. Tells image.now fault) }
     ensures device { IsErrOf result ImageFault.Device → ⊥ }
 {
@@ -74,7 +74,7 @@ fn test_marks(image: &[u8], geometry: Geometry, marks: &mut [bool]) -> Result<()
 // Tests the inodes, their blocks and the files: the rules from the types on.
 fn test_image<A: Allocator>(alloc: A, image: &[u8], geometry: Geometry) -> Result<(), ImageFault>
     requires { HasGeometry image.now geometry }
-    ensures sound { OnOk result (HasBlocks image.now) }
+    ensures sound { OnOk result (BlockRules image.now) }
     ensures denotes { OnOk result (Denotes image.now (files_in image.now)) }
     ensures fault { IfErr result (λ fault. Tells image.now fault) }
     ensures device { IsErrOf result ImageFault.Device → ⊥ }

@@ -43,6 +43,12 @@ splice-splice at done len bytes old h l =
       ]
     ])
 
+-- the length of a piece
+pub length-piece : (done len : ℕ) (bytes : List ℕ) → done + len ≤ length bytes → length (take (done + len - done) (drop done bytes)) ≡ len
+length-piece done len bytes h =
+    let k : done + len - done ≡ len = omega arith in
+    ap (λ m. length (take m (drop done bytes))) k ∙ length-part done len bytes h
+
 module _ (g : Geometry) (first disk new : List (List ℕ)) (n at done : ℕ) (bytes : List ℕ) (within : at ≤ length (bytes_of first n)) (wrote : Wrote g first disk n (splice at (take done bytes) (bytes_of first n))) where
   -- the next piece
   pub Wrote-piece : (len : ℕ) → done + len ≤ length bytes → Wrote g disk new n (splice (at + done) (take (done + len - done) (drop done bytes)) (bytes_of disk n)) → Wrote g first new n (splice at (take (done + len) bytes) (bytes_of first n))

@@ -4,8 +4,6 @@
 mod empty;
 mod grow;
 mod read;
-#[cfg(test)]
-mod tests;
 mod write;
 
 use blockdev::DeviceFault;

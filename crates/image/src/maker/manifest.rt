@@ -4,6 +4,7 @@ ghost use Rattle.std.specs.Prelude.{◌≡◌};
 ghost use Rattle.image.specs.Making.{makes_directory};
 
 use std::alloc::AllocError;
+use std::fmt;
 use thiserror::Error;
 
 /// A path, and what it names.
@@ -54,26 +55,40 @@ pub struct Manifest {
 #[derive(Clone, Copy, Debug, PartialEq, Eq, Error)]
 pub enum MakeFault {
     /// The path doesn't begin with a slash, or one of its names is none.
-    #[error("a path or a name in it is wrong")]
     Name = 1,
     /// The name is there already.
-    #[error("a name stands twice")]
     Twice,
     /// A file or a directory would be too long, or the blocks don't suffice.
-    #[error("the blocks don't suffice")]
     Blocks,
     /// No number is left.
-    #[error("the inodes don't suffice")]
     Inodes,
     /// The directory above is neither the root nor an earlier entry.
-    #[error("a directory isn't there")]
     Parent,
     /// The size or the count of inodes isn't one of an image.
-    #[error("the numbers fit no image")]
     Numbers,
     /// The host has no memory left.
-    #[error("no memory")]
     NoMemory,
+}
+
+impl MakeFault {
+    // What it says to a person.
+    fn text(&self) -> &'static str {
+        match self {
+            Self::Name => "a path or a name in it is wrong",
+            Self::Twice => "a name stands twice",
+            Self::Blocks => "the blocks don't suffice",
+            Self::Inodes => "the inodes don't suffice",
+            Self::Parent => "a directory isn't there",
+            Self::Numbers => "the numbers fit no image",
+            Self::NoMemory => "no memory",
+        }
+    }
+}
+
+impl fmt::Display for MakeFault {
+    fn fmt<W: fmt::Write>(&self, f: &mut fmt::Formatter<W>) -> fmt::Result {
+        f.write_str(self.text())
+    }
 }
 
 impl From<AllocError> for MakeFault {

@@ -3,8 +3,9 @@ use Rattle.std.proofs.lemmas.List.{append-nil}
 use Rattle.unixmodel.specs.Image.{contents_in, inodes_in, kind_in}
 use Rattle.image.specs.Entries.{HasNames, entries_in}
 use Rattle.image.specs.Namings.{namings_of}
-use Rattle.image.proofs.Bounds.{inode-inside, inodes-most, up_to_more}
+use Rattle.image.proofs.Bounds.{inode-inside, inodes-least, inodes-most, up_to_more}
 use Rattle.image.proofs.Collecting.{entries_at, entries_other, namings_to, namings_to-all, namings_to-first, namings_to-more}
+use Rattle.image.specs.Faults.{HasBlocks-of}
 use Rattle.image.proofs.directories.test_directories.Goals as goal
 use Rattle.image.proofs.directories.test_directories.Goals.{else-kind-eq1, then-kind-eq1+in_ok-test_directory}
 
@@ -16,7 +17,7 @@ kind-requires-clause-inside g c = inode-inside c.requires.geometry c.loop-n.n c.
 
 pub loop-n-init : goal.loop-n-init
 loop-n-init g c =
-    let least = c.requires.geometry.super.inodes_least in
+    let least = inodes-least c.requires.geometry in
     record {
       named = λ m low high. absurd (omega arith);
       collected = c.requires.fresh ∙ sym (namings_to-first c.args.image.now (omega arith));
@@ -42,7 +43,7 @@ loop-n-preserved g c =
         | else-kind-eq1 w ↦
             let other : kind_in image n ≢ 1 = λ e. w.if-kind-eq1.false (c.kind.ensures ∙ e) in
             ap (λ v. v.items) w.namings-is ∙ inv.collected ∙ sym (append-nil (namings_to image n))
-            ∙ ap (λ es. namings_to image n ++ namings_of n es) (sym (entries_other image c.requires.blocks n other)) ∙ sym (namings_to-more image n)
+            ∙ ap (λ es. namings_to image n ++ namings_of n es) (sym (entries_other image (HasBlocks-of c.args.image.now c.requires.blocks) n other)) ∙ sym (namings_to-more image n)
       ];
     }
 
@@ -52,6 +53,6 @@ returns-clause-named g c = λ n low high directory. c.loop-n.invariant.named n l
 pub returns-clause-namings : goal.returns-clause-namings
 returns-clause-namings g c =
     let image = c.args.image.now in
-    let least = c.requires.geometry.super.inodes_least in
+    let least = inodes-least c.requires.geometry in
     let end : c.loop-n.n ≡ inodes_in image = omega (arith, c.requires.geometry.inodes, c.loop-n.auto.n-end (omega (arith, c.requires.geometry.inodes)), c.loop-n-test.false) in
     c.loop-n.invariant.collected ∙ ap (namings_to image) end ∙ namings_to-all image

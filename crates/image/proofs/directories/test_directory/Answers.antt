@@ -5,6 +5,7 @@ use Rattle.unixmodel.specs.Image.{contents_in, inodes_in}
 use Rattle.image.specs.Entries.{AreOther, IsGood, entries_in}
 use Rattle.image.proofs.Bounds.{inodes-most}
 use Rattle.image.proofs.Naming.{directory-least, good-at, once-at}
+use Rattle.image.specs.Faults.{HasBlocks-of}
 use Rattle.image.proofs.directories.test_directory.Goals as goal
 
 pub are_good-requires-clause-least : goal.are_good-requires-clause-least
@@ -13,7 +14,7 @@ are_good-requires-clause-least g c =
     let n = c.args.n in
     let high : n < inodes_in image = omega (arith, c.requires.geometry.inodes, c.requires.high) in
     let e : c.deref.result.now ≡ contents_in image n = c.deref.ensures.value ∙ c.in_ok-read_contents.ensures in
-    subst (λ xs. 32 ≤ length xs) (sym e) (directory-least image n c.requires.low high c.requires.directory c.requires.blocks)
+    subst (λ xs. 32 ≤ length xs) (sym e) (directory-least image n c.requires.low high c.requires.directory (HasBlocks-of c.args.image.now c.requires.blocks))
 
 pub returns-then-not-are_good-clause-fault : goal.returns-then-not-are_good-clause-fault
 returns-then-not-are_good-clause-fault g c =
@@ -21,7 +22,7 @@ returns-then-not-are_good-clause-fault g c =
     let n = c.args.n in
     let high : n < inodes_in image = omega (arith, c.requires.geometry.inodes, c.requires.high) in
     let e : c.deref.result.now ≡ contents_in image n = c.deref.ensures.value ∙ c.in_ok-read_contents.ensures in
-    (c.requires.blocks, λ h. OnFalse_at c.if-not-are_good.true c.are_good.ensures.bad (subst (λ xs. All (IsGood image) (entries_in xs)) (sym e) (good-at image n c.requires.low high c.requires.directory h)))
+    (HasBlocks-of c.args.image.now c.requires.blocks, λ h. OnFalse_at c.if-not-are_good.true c.are_good.ensures.bad (subst (λ xs. All (IsGood image) (entries_in xs)) (sym e) (good-at image n c.requires.low high c.requires.directory h)))
 
 pub are_distinct-requires : goal.are_distinct-requires
 are_distinct-requires g c =
@@ -29,7 +30,7 @@ are_distinct-requires g c =
     let n = c.args.n in
     let high : n < inodes_in image = omega (arith, c.requires.geometry.inodes, c.requires.high) in
     let f : c.deref-2.result.now ≡ contents_in image n = c.deref-2.ensures.value ∙ c.in_ok-read_contents.ensures in
-    subst (λ xs. 32 ≤ length xs) (sym f) (directory-least image n c.requires.low high c.requires.directory c.requires.blocks)
+    subst (λ xs. 32 ≤ length xs) (sym f) (directory-least image n c.requires.low high c.requires.directory (HasBlocks-of c.args.image.now c.requires.blocks))
 
 pub returns-then-not-are_distinct-clause-fault : goal.returns-then-not-are_distinct-clause-fault
 returns-then-not-are_distinct-clause-fault g c =
@@ -37,7 +38,7 @@ returns-then-not-are_distinct-clause-fault g c =
     let n = c.args.n in
     let high : n < inodes_in image = omega (arith, c.requires.geometry.inodes, c.requires.high) in
     let f : c.deref-2.result.now ≡ contents_in image n = c.deref-2.ensures.value ∙ c.in_ok-read_contents.ensures in
-    (c.requires.blocks, λ h. OnFalse_at c.if-not-are_distinct.true c.are_distinct.ensures.bad (subst (λ xs. AllPairs AreOther (entries_in xs)) (sym f) (once-at image n c.requires.low high c.requires.directory h)))
+    (HasBlocks-of c.args.image.now c.requires.blocks, λ h. OnFalse_at c.if-not-are_distinct.true c.are_distinct.ensures.bad (subst (λ xs. AllPairs AreOther (entries_in xs)) (sym f) (once-at image n c.requires.low high c.requires.directory h)))
 
 pub returns-clause-named : goal.returns-clause-named
 returns-clause-named g c =
@@ -60,4 +61,4 @@ add_entries-requires g c =
     let n = c.args.n in
     let high : n < inodes_in image = omega (arith, c.requires.geometry.inodes, c.requires.high) in
     let h : c.deref-3.result.now ≡ contents_in image n = c.deref-3.ensures.value ∙ c.in_ok-read_contents.ensures in
-    subst (λ xs. 32 ≤ length xs) (sym h) (directory-least image n c.requires.low high c.requires.directory c.requires.blocks)
+    subst (λ xs. 32 ≤ length xs) (sym h) (directory-least image n c.requires.low high c.requires.directory (HasBlocks-of c.args.image.now c.requires.blocks))

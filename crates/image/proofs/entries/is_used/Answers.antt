@@ -4,10 +4,17 @@ use Rattle.std.proofs.lemmas.Bool.{OnFalse_from, OnTrue_from, eq-eqb, eqb-true, 
 use Rattle.unixmodel.specs.Files.{slot}
 use Rattle.image.specs.Places.{files_in}
 use Rattle.image.proofs.Entering.{none_free, none_past, none_zero, used_some}
+use Rattle.image.proofs.Bounds.{inodes-least, inode-inside, inodes-most}
 use Rattle.image.proofs.entries.is_used.Goals as goal
 
+pub kind-requires-clause-number : goal.kind-requires-clause-number
+kind-requires-clause-number c = omega (arith, inodes-most c.requires, c.if-n-geometry.false)
+
+pub kind-requires-clause-inside : goal.kind-requires-clause-inside
+kind-requires-clause-inside c = inode-inside c.requires c.args.n c.if-n-geometry.false
+
 pub returns-then-n-eq0-clause-bad : goal.returns-then-n-eq0-clause-bad
-returns-then-n-eq0-clause-bad c = let least = c.requires.super.inodes_least in none_zero c.args.image.now c.args.n (omega arith) c.if-n-eq0.true
+returns-then-n-eq0-clause-bad c = let least = inodes-least c.requires in none_zero c.args.image.now c.args.n (omega arith) c.if-n-eq0.true
 
 pub returns-then-n-geometry-clause-bad : goal.returns-then-n-geometry-clause-bad
 returns-then-n-geometry-clause-bad c = none_past c.args.image.now c.args.n (omega (arith, c.requires.inodes, c.if-n-geometry.true))

@@ -7,14 +7,16 @@ use Rattle.image.specs.Namings.{HasParents, IsNaming}
 use Rattle.image.proofs.Collecting.{HasParents-from, namings-fit}
 use Rattle.image.proofs.Sounding.{OnOk-from}
 use Rattle.image.proofs.Standing.{AreNamed-from, HasEntries-from, some_high}
+use Rattle.image.proofs.Bounds.{inodes-least}
+use Rattle.image.specs.Faults.{HasBlocks-of}
 use Rattle.image.proofs.files.test_entries.Goals as goal
 
 pub returns-then-not-are_named-clause-fault : goal.returns-then-not-are_named-clause-fault
-returns-then-not-are_named-clause-fault g c = (c.requires.blocks, λ h. OnFalse_at c.if-not-are_named.true c.are_named.ensures.bad (AreNamed-from c.args.image.now h))
+returns-then-not-are_named-clause-fault g c = (HasBlocks-of c.args.image.now c.requires.blocks, λ h. OnFalse_at c.if-not-are_named.true c.are_named.ensures.bad (AreNamed-from c.args.image.now h))
 
 pub find_parents-requires-clause-root : goal.find_parents-requires-clause-root
 find_parents-requires-clause-root g c =
-    let least = c.requires.geometry.super.inodes_least in
+    let least = inodes-least c.requires.geometry in
     let long : length c.deref_mut.result.now ≡ c.args.geometry.inodes = c.deref_mut.ensures.len ∙ c.in_ok-parents.ensures.len in
     omega (arith, c.requires.geometry.inodes)
 
@@ -22,7 +24,7 @@ pub find_parents-requires-clause-within : goal.find_parents-requires-clause-with
 find_parents-requires-clause-within g c = λ k d l.
     let image = c.args.image.now in
     let m = get_or c.args.namings.now k d in
-    let fits : All (IsNaming image) c.args.namings.now = subst (All (IsNaming image)) (sym c.requires.namings) (namings-fit image c.requires.blocks c.requires.names) in
+    let fits : All (IsNaming image) c.args.namings.now = subst (All (IsNaming image)) (sym c.requires.namings) (namings-fit image (HasBlocks-of c.args.image.now c.requires.blocks) c.requires.names) in
     let high = some_high image m.number (fits k d l).number in
     let long : length c.deref_mut.result.now ≡ c.args.geometry.inodes = c.deref_mut.ensures.len ∙ c.in_ok-parents.ensures.len in
     omega (arith, c.requires.geometry.inodes)
@@ -30,7 +32,7 @@ find_parents-requires-clause-within g c = λ k d l.
 pub find_parents-requires-clause-some : goal.find_parents-requires-clause-some
 find_parents-requires-clause-some g c = λ k d l.
     let image = c.args.image.now in
-    let fits : All (IsNaming image) c.args.namings.now = subst (All (IsNaming image)) (sym c.requires.namings) (namings-fit image c.requires.blocks c.requires.names) in
+    let fits : All (IsNaming image) c.args.namings.now = subst (All (IsNaming image)) (sym c.requires.namings) (namings-fit image (HasBlocks-of c.args.image.now c.requires.blocks) c.requires.names) in
     (fits k d l).low
 
 pub find_parents-requires-clause-fresh : goal.find_parents-requires-clause-fresh
@@ -48,4 +50,4 @@ pub returns-clause-sound : goal.returns-clause-sound
 returns-clause-sound g c =
     let image = c.args.image.now in
     OnOk-from c.test_fronts.result c.test_fronts.ensures.fronts
-    (HasEntries-from image c.requires.blocks c.requires.names (OnTrue_at c.if-not-are_named.false c.are_named.ensures.good))
+    (HasEntries-from image (HasBlocks-of c.args.image.now c.requires.blocks) c.requires.names (OnTrue_at c.if-not-are_named.false c.are_named.ensures.good))

@@ -4,11 +4,16 @@ use Rattle.std.proofs.lemmas.List.{take_at}
 use Rattle.std.proofs.lemmas.List.Elements.{All-replicate}
 use Rattle.image.specs.Namings.{IsNaming, TellsSubdirectories}
 use Rattle.image.proofs.Collecting.{TellsSubdirectories-from, namings-fit}
+use Rattle.image.specs.Faults.{HasBlocks-of}
+use Rattle.std.proofs.lemmas.Bool.{OnFalse_at}
 use Rattle.image.proofs.files.test_links.Goals as goal
+
+pub returns-then-not-has_links-clause-fault : goal.returns-then-not-has_links-clause-fault
+returns-then-not-has_links-clause-fault g c = (HasBlocks-of c.args.image.now c.requires.blocks, c.requires.entries, OnFalse_at c.if-not-has_links.true c.has_links.ensures.bad)
 
 pub count_subdirectories-requires-clause-namings : goal.count_subdirectories-requires-clause-namings
 count_subdirectories-requires-clause-namings g c =
-    subst (All (IsNaming c.args.image.now)) (sym c.requires.namings) (namings-fit c.args.image.now c.requires.blocks c.requires.names)
+    subst (All (IsNaming c.args.image.now)) (sym c.requires.namings) (namings-fit c.args.image.now (HasBlocks-of c.args.image.now c.requires.blocks) c.requires.names)
 
 pub count_subdirectories-requires-clause-fresh : goal.count_subdirectories-requires-clause-fresh
 count_subdirectories-requires-clause-fresh g c =

@@ -5,13 +5,14 @@ use Rattle.std.proofs.lemmas.List.Elements.{All-replicate}
 use Rattle.image.specs.Namings.{IsNaming, TellsNames}
 use Rattle.image.proofs.Collecting.{TellsNames-from, namings-fit}
 use Rattle.image.proofs.Standing.{some_high}
+use Rattle.image.specs.Faults.{HasBlocks-of}
 use Rattle.image.proofs.files.test_namings.Goals as goal
 
 pub count_names-requires-clause-within : goal.count_names-requires-clause-within
 count_names-requires-clause-within g c = λ k d l.
     let image = c.args.image.now in
     let m = get_or c.args.namings.now k d in
-    let fits : All (IsNaming image) c.args.namings.now = subst (All (IsNaming image)) (sym c.requires.namings) (namings-fit image c.requires.blocks c.requires.names) in
+    let fits : All (IsNaming image) c.args.namings.now = subst (All (IsNaming image)) (sym c.requires.namings) (namings-fit image (HasBlocks-of c.args.image.now c.requires.blocks) c.requires.names) in
     let high = some_high image m.number (fits k d l).number in
     let long : length c.deref_mut.result.now ≡ c.args.geometry.inodes = c.deref_mut.ensures.len ∙ c.in_ok-counts.ensures.len in
     omega (arith, c.requires.geometry.inodes)

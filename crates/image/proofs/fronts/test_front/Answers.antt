@@ -4,6 +4,7 @@ use Rattle.unixmodel.specs.Image.{contents_in, inodes_in}
 use Rattle.image.specs.Entries.{FitsFront}
 use Rattle.image.proofs.Naming.{directory-least}
 use Rattle.image.proofs.Standing.{HasFronts-from}
+use Rattle.image.specs.Faults.{HasBlocks-of}
 use Rattle.image.proofs.fronts.test_front.Goals as goal
 
 pub fits_front-requires : goal.fits_front-requires
@@ -12,7 +13,7 @@ fits_front-requires g c =
     let n = c.args.n in
     let high : n < inodes_in image = omega (arith, c.requires.geometry.inodes, c.requires.high) in
     let e : c.deref.result.now ≡ contents_in image n = c.deref.ensures.value ∙ c.in_ok-read_contents.ensures in
-    subst (λ xs. 32 ≤ length xs) (sym e) (directory-least image n c.requires.low high c.requires.directory c.requires.blocks)
+    subst (λ xs. 32 ≤ length xs) (sym e) (directory-least image n c.requires.low high c.requires.directory (HasBlocks-of c.args.image.now c.requires.blocks))
 
 pub returns-then-not-fits_front-clause-fault : goal.returns-then-not-fits_front-clause-fault
 returns-then-not-fits_front-clause-fault g c =
@@ -20,7 +21,7 @@ returns-then-not-fits_front-clause-fault g c =
     let n = c.args.n in
     let high : n < inodes_in image = omega (arith, c.requires.geometry.inodes, c.requires.high) in
     let e : c.deref.result.now ≡ contents_in image n = c.deref.ensures.value ∙ c.in_ok-read_contents.ensures in (
-      c.requires.blocks,
+      (HasBlocks-of c.args.image.now c.requires.blocks),
       λ h. OnFalse_at c.if-not-fits_front.true c.fits_front.ensures.bad
           (subst (FitsFront n c.args.parent) (sym e) (subst (λ p. FitsFront n p (contents_in image n)) (sym c.requires.parent) (HasFronts-from image h n c.requires.low high c.requires.directory))),
     )

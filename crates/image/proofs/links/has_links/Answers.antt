@@ -4,6 +4,7 @@ use Rattle.unixmodel.specs.Image.{kind_in, links_in, names_of, subdirectories}
 use Rattle.image.specs.Places.{files_in}
 use Rattle.image.proofs.Bounds.{inode-inside, inodes-most, up_to_more}
 use Rattle.image.proofs.Standing.{FitsLinks-at, FitsLinks-same, HasLinks-from, LinksFit}
+use Rattle.image.specs.Faults.{HasBlocks-of}
 use Rattle.image.proofs.links.has_links.Goals as goal
 
 pub links-told-requires-clause-number : goal.links-told-requires-clause-number
@@ -28,7 +29,7 @@ returns-then-not-fits_links-clause-bad c = λ h.
     OnFalse_at c.if-not-fits_links.true c.fits_links.ensures.bad
     (FitsLinks-same (kind_in image n) (links_in image n) (names_of files n) (subdirectories files n) c.kind.result c.links-told.result (get_or c.args.names.now n 0) (get_or c.args.subdirectories.now n 0)
     (sym c.kind.ensures) (sym c.links-told.ensures) (sym (c.requires.names n in_names)) (sym (c.requires.subdirectories n in_subdirectories))
-    (FitsLinks-at image c.requires.blocks h n (omega arith) (omega (arith, c.requires.geometry.inodes, c.loop-n-test.true))))
+    (FitsLinks-at image (HasBlocks-of c.args.image.now c.requires.blocks) h n (omega arith) (omega (arith, c.requires.geometry.inodes, c.loop-n-test.true))))
 
 pub loop-n-preserved : goal.loop-n-preserved
 loop-n-preserved c =
@@ -43,4 +44,4 @@ loop-n-preserved c =
 
 pub returns-clause-good : goal.returns-clause-good
 returns-clause-good c =
-    HasLinks-from c.args.image.now c.requires.blocks (λ n low high. c.loop-n.invariant n low (omega (arith, c.requires.geometry.inodes, c.loop-n-test.false)))
+    HasLinks-from c.args.image.now (HasBlocks-of c.args.image.now c.requires.blocks) (λ n low high. c.loop-n.invariant n low (omega (arith, c.requires.geometry.inodes, c.loop-n-test.false)))

@@ -2,6 +2,7 @@ use Rattle.std.proofs.Common.{◌≡◌, ◌≤◌, length, ap, sym, refl, ◌�
 use Rattle.blockdev.specs.Blocks.{block_at}
 use Rattle.layout.specs.Super.{super_of}
 use Rattle.image.proofs.Super.{HasLength-from, HasLength-not, HasLength-not_few, HasNumbers-from, HasSuper-from, inodes-is, magic-is, size-is}
+use Rattle.image.specs.Fields.{SuperRules-of}
 use Rattle.image.proofs.load.read_geometry.Goals as goal
 
 pub returns-then-count-lt2-clause-fault : goal.returns-then-count-lt2-clause-fault
@@ -26,7 +27,7 @@ returns-in-Ok-clause-geometry g c =
     let e : s ≡ super_of (block_at blocks 1) = c.from_front-numbers.ensures ∙ ap super_of c.in_ok-block.ensures.bytes in
     let size : s.size ≡ length blocks = c.if-numbers-count.false ∙ c.blocks-count.ensures in
     record {
-      super = HasSuper-from blocks sizes two s e size c.in-Ok.ensures.ok.0 c.in-Ok.ensures.ok.1;
+      rules = SuperRules-of (HasSuper-from blocks sizes two s e size c.in-Ok.ensures.ok.0 c.in-Ok.ensures.ok.1);
       size = sym c.if-numbers-count.false ∙ size-is blocks sizes two s e;
       inodes = inodes-is blocks sizes two s e;
     }

@@ -4,10 +4,25 @@ use Rattle.std.proofs.lemmas.Bool.{OnFalse_at, OnFalse_from, OnTrue_at, OnTrue_f
 use Rattle.std.proofs.lemmas.List.{append-nil, append_assoc}
 use Rattle.image.specs.Marks.{HasMarks, IsOnce, blocks_of}
 use Rattle.image.specs.Pieces.{FitsAddresses}
-use Rattle.image.proofs.Bounds.{HasInode-at}
+use Rattle.image.proofs.Bounds.{HasInode-at, inode-inside, inodes-most}
 use Rattle.image.proofs.Marking.{IsOnce-left, blocks_of-few, blocks_of-free, blocks_of-many, blocks_of-split, mark_more, mark_shared}
 use Rattle.image.proofs.Uses.{FitsAddresses-at, FitsAddresses-below, fits_indirect-at, indirect-below, indirect-inside}
 use Rattle.image.proofs.marks.mark_inode.Goals as goal
+
+pub kind-requires-clause-number : goal.kind-requires-clause-number
+kind-requires-clause-number c = omega (arith, inodes-most c.requires.geometry)
+
+pub kind-requires-clause-inside : goal.kind-requires-clause-inside
+kind-requires-clause-inside c = inode-inside c.requires.geometry c.args.n c.requires.high
+
+pub block_count-count-requires : goal.block_count-count-requires
+block_count-count-requires c = HasInode-at c.requires.geometry c.requires.sizes c.args.n c.requires.low c.requires.high (λ z. c.if-kind-eq0.false (c.kind.ensures ∙ z))
+
+pub indirect-requires-clause-number : goal.indirect-requires-clause-number
+indirect-requires-clause-number c = omega (arith, inodes-most c.requires.geometry)
+
+pub indirect-requires-clause-inside : goal.indirect-requires-clause-inside
+indirect-requires-clause-inside c = inode-inside c.requires.geometry c.args.n c.requires.high
 
 pub returns-then-kind-eq0-clause-good : goal.returns-then-kind-eq0-clause-good
 returns-then-kind-eq0-clause-good c = λ before h.

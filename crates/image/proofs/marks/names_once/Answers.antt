@@ -3,6 +3,7 @@ use Rattle.std.proofs.lemmas.Bool.{OnFalse_at, OnTrue_at}
 use Rattle.unixmodel.specs.Image.{inodes_in}
 use Rattle.image.specs.Marks.{HasMarks, IsOnce}
 use Rattle.image.proofs.Marking.{named_before, named_before-all, named_before-front, named_before-more}
+use Rattle.image.proofs.Bounds.{inodes-least}
 use Rattle.image.proofs.marks.names_once.Goals as goal
 
 pub returns-then-not-mark_inode-clause-bad : goal.returns-then-not-mark_inode-clause-bad
@@ -21,6 +22,6 @@ loop-n-preserved c =
 
 pub returns-clause-good : goal.returns-clause-good
 returns-clause-good c =
-    let least = c.requires.geometry.super.inodes_least in
+    let least = inodes-least c.requires.geometry in
     let end : c.loop-n.n ≡ inodes_in c.args.image.now = omega (arith, c.requires.geometry.inodes, c.loop-n.auto.n-end (omega (arith, c.requires.geometry.inodes)), c.loop-n-test.false) in
     subst (λ xs. HasMarks xs c.loop-n.marks) (ap (named_before c.args.image.now) end ∙ named_before-all c.args.image.now) c.loop-n.invariant

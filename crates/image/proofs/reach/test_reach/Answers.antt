@@ -1,5 +1,5 @@
 use Rattle.std.proofs.Common.{◌≡◌, ◌+◌, length, replicate, set, sym, subst, ap, ◌∙◌, arith}
-use Rattle.std.proofs.lemmas.Bool.{OnTrue_at}
+use Rattle.std.proofs.lemmas.Bool.{OnTrue_at, OnFalse_at}
 use Rattle.std.proofs.lemmas.List.{length-replicate, length-set, with_items_is}
 use Rattle.unixmodel.specs.Image.{kind_in}
 use Rattle.image.specs.Places.{files_in}
@@ -8,8 +8,12 @@ use Rattle.image.proofs.Bounds.{inode-inside, inodes-least, inodes-most, up_to_m
 use Rattle.image.proofs.Parents.{IsDirectoryIn-from}
 use Rattle.image.proofs.Reaching.{IsReached-from}
 use Rattle.image.proofs.Walking.{HasWalked-first, HasWalked-later}
+use Rattle.image.specs.Faults.{HasBlocks-of}
 use Rattle.image.proofs.reach.test_reach.Goals as goal
 use Rattle.image.proofs.reach.test_reach.Goals.{else-kind-eq1-via-else-kind-eq1, else-kind-eq1-via-then-kind-eq1+else-not-climb}
+
+pub returns-then-not-climb-clause-fault : goal.returns-then-not-climb-clause-fault
+returns-then-not-climb-clause-fault g c = (HasBlocks-of c.args.image.now c.requires.blocks, c.requires.entries, c.requires.links, OnFalse_at c.if-not-climb.true c.climb.ensures.round)
 
 pub index_mut-requires : goal.index_mut-requires
 index_mut-requires g c = let least = inodes-least c.requires.geometry in omega (arith, c.in_ok-marks.ensures.len)

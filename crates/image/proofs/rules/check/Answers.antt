@@ -1,16 +1,19 @@
-use Rattle.std.proofs.Common.{◌≡◌, ◌≤◌, Err, Ok, Result, length, ap, sym, subst, ◌∙◌, arith, ℕ}
+use Rattle.std.proofs.Common.{◌≡◌, Err, Ok, Result, length, ap, sym, subst, ◌∙◌, arith}
 use Rattle.std.proofs.lemmas.Result.{err_from_is_err_and}
-use Rattle.unixmodel.specs.Failures.{Rises}
 use Rattle.std.specs.Prelude.{IfErr}
 use Rattle.unixmodel.specs.Image.{Denotes, named_blocks, numbers_in_use}
 use Rattle.image.specs.Content.{image_of}
-use Rattle.image.specs.Faults.{Tells}
+use Rattle.image.specs.Faults.{Tells, HasBlocks-of}
 use Rattle.image.specs.Fields.{HasGeometry}
 use Rattle.image.specs.Pieces.{HasSizes}
 use Rattle.image.specs.Places.{files_in}
-use Rattle.image.proofs.Sounding.{refused-from}
+use Rattle.image.proofs.Sounding.{refused-from, Rises-before}
 use Rattle.image.proofs.Super.{count-is}
+use Rattle.image.proofs.Bounds.{size-most}
 use Rattle.image.proofs.rules.check.Goals as goal
+
+pub read_blocks-requires-clause-most : goal.read_blocks-requires-clause-most
+read_blocks-requires-clause-most g c = size-most c.in_ok-geometry.ensures.geometry
 
 -- a result has one fault
 abbrev fault_or : {T E : Type 0} → Result T E → E → E
@@ -19,10 +22,6 @@ fault_or (Err fault) other = fault
 
 same_fault : {T E : Type 0} (x y : E) (r : Result T E) → r ≡ Err x → r ≡ Err y → x ≡ y
 same_fault x y r p q = ap (λ s. fault_or s x) (sym p ∙ q)
-
--- a rise later is one
-Rises-before : (a b c : ℕ) → a ≤ b → Rises b c → Rises a c
-Rises-before a b c h r = omega arith
 
 pub read_blocks-requires-clause-count : goal.read_blocks-requires-clause-count
 read_blocks-requires-clause-count g c =
@@ -83,7 +82,7 @@ blocks_in_use-requires-clause-sizes g c =
     let e : c.deref.result.now ≡ image_of blocks = c.deref.ensures.value ∙ c.in_ok-image.ensures.bytes ∙ ap image_of c.read_geometry.ensures.same in
     let blocks = g.D.BlockDev.content c.args.device.now in
     let e3 : c.deref-3.result.now ≡ image_of blocks = c.deref-3.ensures.value ∙ c.in_ok-image.ensures.bytes ∙ ap image_of c.read_geometry.ensures.same in
-    subst HasSizes (e ∙ sym e3) c.in_ok-test_image.ensures.sound.inodes.sizes
+    subst HasSizes (e ∙ sym e3) (HasBlocks-of c.deref.result.now c.in_ok-test_image.ensures.sound).inodes.sizes
 
 pub returns-clause-denotes : goal.returns-clause-denotes
 returns-clause-denotes g c =

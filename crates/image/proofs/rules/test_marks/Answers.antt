@@ -1,20 +1,48 @@
+use Rattle.std.proofs.Common.{◌∙◌}
 use Rattle.std.proofs.lemmas.Bool.{OnFalse_at, OnTrue_at}
+use Rattle.image.specs.Faults.{BlockRules-of}
 use Rattle.image.proofs.rules.test_marks.Goals as goal
 
-pub returns-then-not-names_once-clause-fault : goal.returns-then-not-names_once-clause-fault
-returns-then-not-names_once-clause-fault c = (c.requires.inodes, c.requires.addresses, OnFalse_at c.if-not-names_once.true c.names_once.ensures.bad)
+pub names_once-requires : goal.names_once-requires
+names_once-requires c = record {
+  geometry = c.requires.geometry;
+  sizes = c.requires.inodes.sizes;
+  addresses = c.requires.addresses;
+  long = c.requires.long;
+  fresh = c.requires.fresh;
+}
+
+pub returns-then-not-names_once : goal.returns-then-not-names_once
+returns-then-not-names_once c = record {
+  sound = tt;
+  fault = (c.requires.inodes, c.requires.addresses, OnFalse_at c.if-not-names_once.true c.names_once.ensures.bad);
+  device = λ e. cc;
+}
+
+pub has_bitmap-requires-clause-geometry : goal.has_bitmap-requires-clause-geometry
+has_bitmap-requires-clause-geometry c = c.requires.geometry
+
+pub has_bitmap-requires-clause-long : goal.has_bitmap-requires-clause-long
+has_bitmap-requires-clause-long c = c.names_once.auto.marks ∙ c.requires.long
 
 pub has_bitmap-requires-clause-marks : goal.has_bitmap-requires-clause-marks
 has_bitmap-requires-clause-marks c = OnTrue_at c.if-not-names_once.false c.names_once.ensures.good
 
-pub returns-then-not-has_bitmap-clause-fault : goal.returns-then-not-has_bitmap-clause-fault
-returns-then-not-has_bitmap-clause-fault c =
-    (c.requires.inodes, c.requires.addresses, (OnTrue_at c.if-not-names_once.false c.names_once.ensures.good).once, OnFalse_at c.if-not-has_bitmap.true c.has_bitmap.ensures.bad)
+pub returns-then-not-has_bitmap : goal.returns-then-not-has_bitmap
+returns-then-not-has_bitmap c = record {
+  sound = tt;
+  fault = (c.requires.inodes, c.requires.addresses, (OnTrue_at c.if-not-names_once.false c.names_once.ensures.good).once, OnFalse_at c.if-not-has_bitmap.true c.has_bitmap.ensures.bad);
+  device = λ e. cc;
+}
 
-pub returns-clause-sound : goal.returns-clause-sound
-returns-clause-sound c = record {
-  inodes = c.requires.inodes;
-  addresses = c.requires.addresses;
-  once = (OnTrue_at c.if-not-names_once.false c.names_once.ensures.good).once;
-  bitmap = OnTrue_at c.if-not-has_bitmap.false c.has_bitmap.ensures.good;
+pub returns : goal.returns
+returns c = record {
+  sound = BlockRules-of (record {
+    inodes = c.requires.inodes;
+    addresses = c.requires.addresses;
+    once = (OnTrue_at c.if-not-names_once.false c.names_once.ensures.good).once;
+    bitmap = OnTrue_at c.if-not-has_bitmap.false c.has_bitmap.ensures.good;
+  });
+  fault = tt;
+  device = λ e. cc;
 }

@@ -3,7 +3,11 @@ use Rattle.std.proofs.lemmas.List.{length-append}
 use Rattle.unixmodel.specs.Image.{inodes_in}
 use Rattle.image.specs.Marks.{blocks_of}
 use Rattle.image.proofs.Marking.{named_before, named_before-all, named_before-more}
+use Rattle.image.proofs.Bounds.{inodes-least, inodes-most}
 use Rattle.image.proofs.summary.blocks_in_use.Goals as goal
+
+pub overflow_add-total : goal.overflow_add-total
+overflow_add-total c = let most = inodes-most c.requires.geometry in omega (arith, c.loop-n.invariant.most, c.block_total-total.ensures.most, c.loop-n-test.true)
 
 pub loop-n-preserved : goal.loop-n-preserved
 loop-n-preserved c =
@@ -18,6 +22,6 @@ loop-n-preserved c =
 
 pub returns : goal.returns
 returns c =
-    let least = c.requires.geometry.super.inodes_least in
+    let least = inodes-least c.requires.geometry in
     let end : c.loop-n.n ≡ inodes_in c.args.image.now = omega (arith, c.requires.geometry.inodes, c.loop-n.auto.n-end (omega (arith, c.requires.geometry.inodes)), c.loop-n-test.false) in
     c.loop-n.invariant.total ∙ ap length (ap (named_before c.args.image.now) end ∙ named_before-all c.args.image.now)

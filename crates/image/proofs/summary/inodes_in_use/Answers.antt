@@ -3,8 +3,15 @@ use Rattle.std.specs.Prelude.{filter}
 use Rattle.std.specs.List.{range_with_len}
 use Rattle.unixmodel.specs.Image.{inodes_in, is_in_use}
 use Rattle.image.proofs.Summing.{unused_more, used_more}
+use Rattle.image.proofs.Bounds.{inodes-least, inode-inside, inodes-most}
 use Rattle.image.proofs.summary.inodes_in_use.Goals as goal
 use Rattle.image.proofs.summary.inodes_in_use.Goals.{else-kind-ne0, then-kind-ne0}
+
+pub kind-requires-clause-number : goal.kind-requires-clause-number
+kind-requires-clause-number c = omega (arith, inodes-most c.requires, c.loop-n-test.true)
+
+pub kind-requires-clause-inside : goal.kind-requires-clause-inside
+kind-requires-clause-inside c = inode-inside c.requires c.loop-n.n c.loop-n-test.true
 
 pub loop-n-preserved : goal.loop-n-preserved
 loop-n-preserved c =
@@ -24,6 +31,6 @@ loop-n-preserved c =
 
 pub returns : goal.returns
 returns c =
-    let least = c.requires.super.inodes_least in
+    let least = inodes-least c.requires in
     let end : c.loop-n.n ≡ inodes_in c.args.image.now = omega (arith, c.requires.inodes, c.loop-n.auto.n-end (omega (arith, c.requires.inodes)), c.loop-n-test.false) in
     c.loop-n.invariant.total ∙ ap (λ m. length (filter (is_in_use c.args.image.now) (range_with_len 1 (m - 1)))) end

@@ -8,12 +8,13 @@ use Rattle.image.specs.Places.{files_in}
 use Rattle.image.specs.declared.namings.Naming.{Naming}
 use Rattle.image.proofs.Counting.{tally_kept, tally_more}
 use Rattle.image.proofs.Standing.{some_high, some_low}
+use Rattle.image.proofs.Bounds.{inodes-least}
 use Rattle.image.proofs.tables.count_subdirectories.Goals as goal
 use Rattle.image.proofs.tables.count_subdirectories.Goals.{else-is_directory, then-is_directory}
 
 pub is_directory-requires-clause-low : goal.is_directory-requires-clause-low
 is_directory-requires-clause-low c =
-    let least = c.requires.geometry.super.inodes_least in
+    let least = inodes-least c.requires.geometry in
     let none : Naming = record { directory = 0; number = 0 } in
     some_low c.args.image.now (get_or c.args.namings.now c.loop-naming.naming-index none).number (omega arith) (c.requires.namings c.loop-naming.naming-index none c.loop-naming-test.true).number
 
@@ -25,6 +26,18 @@ is_directory-requires-clause-high c =
       c.requires.geometry.inodes,
       some_high c.args.image.now (get_or c.args.namings.now c.loop-naming.naming-index none).number (c.requires.namings c.loop-naming.naming-index none c.loop-naming-test.true).number,
     )
+
+pub bounds-counts-naming : goal.bounds-counts-naming
+bounds-counts-naming c =
+    let none : Naming = record { directory = 0; number = 0 } in
+    let high = (c.requires.namings c.loop-naming.naming-index none c.loop-naming-test.true).high in
+    omega (arith, c.requires.geometry.inodes, c.requires.long, c.loop-naming.invariant.long)
+
+pub bounds-counts-naming-then-is_directory : goal.bounds-counts-naming-then-is_directory
+bounds-counts-naming-then-is_directory c =
+    let none : Naming = record { directory = 0; number = 0 } in
+    let high = (c.requires.namings c.loop-naming.naming-index none c.loop-naming-test.true).high in
+    omega (arith, c.requires.geometry.inodes, c.requires.long, c.loop-naming.invariant.long)
 
 and_true : (x y : Bool) → x ≡ true → y ≡ true → (x && y) ≡ true
 and_true true y e f = f

@@ -1,11 +1,11 @@
 use Rattle.std.proofs.Common.{◌≡◌, ◌/◌, sym, ◌∙◌, arith, subst, inl, refl}
-use Rattle.std.proofs.lemmas.Result.{on_ok_weaker}
+use Rattle.std.proofs.lemmas.Result.{err_from_is_err_and, on_ok_weaker}
 use Rattle.layout.specs.Image.{slot_of}
 use Rattle.layout.specs.Grow.{WritesInode}
 use Rattle.inode.proofs.Growing.{own_fits, own_used}
 use Rattle.inode.proofs.Reading.{numbers_in_disk, slot_in_hand}
 use Rattle.layout.specs.Inode.{Fits}
-use Rattle.inode.proofs.Causes.{HasCause-after}
+use Rattle.inode.proofs.Causes.{HasCause-after, HasCause-told}
 use Rattle.inode.proofs.Filling.{inside_fits, inside_kept, inside_longer, inside_parts}
 use Rattle.inode.proofs.grow.write_inside.Goals as goal
 
@@ -50,3 +50,30 @@ returns-clause-wrote g c = on_ok_weaker c.write_inode.result
 pub returns-clause-cause : goal.returns-clause-cause
 returns-clause-cause g c = HasCause-after c.args.disk.now.failures c.write.new.self.failures c.write_inode.new.disk.failures c.write_inode.result
     (omega (arith, c.block_number.ensures.cause.later, c.write.ensures.cause.later)) c.write_inode.ensures.cause
+
+pub returns-in_err-target-clause-wrote : goal.returns-in_err-target-clause-wrote
+returns-in_err-target-clause-wrote g c = let p = err_from_is_err_and c.from_residual.result c.from_residual.ensures.1 in rw p.1 tt
+
+pub returns-in_err-target-clause-count : goal.returns-in_err-target-clause-count
+returns-in_err-target-clause-count g c = c.block_number.ensures.count
+
+pub returns-in_err-target-clause-cause : goal.returns-in_err-target-clause-cause
+returns-in_err-target-clause-cause g c = HasCause-told c.args.disk.now.failures c.args.disk.now.failures c.block_number.new.disk.failures c.block_number.result c.from_residual.result c.in_err-target.field-0.0 (omega arith) c.block_number.ensures.cause c.in_err-target.was
+
+pub returns-in_err-write-clause-wrote : goal.returns-in_err-write-clause-wrote
+returns-in_err-write-clause-wrote g c = let p = err_from_is_err_and c.from_residual-in_err-write.result c.from_residual-in_err-write.ensures.1 in rw p.1 tt
+
+pub returns-in_err-write-clause-count : goal.returns-in_err-write-clause-count
+returns-in_err-write-clause-count g c = c.write.ensures.count ∙ c.block_number.ensures.count
+
+pub returns-in_err-write-clause-cause : goal.returns-in_err-write-clause-cause
+returns-in_err-write-clause-cause g c = HasCause-told c.args.disk.now.failures c.block_number.new.disk.failures c.write.new.self.failures c.write.result c.from_residual-in_err-write.result c.in_err-write.field-0.0 (c.block_number.ensures.cause.later) c.write.ensures.cause c.in_err-write.was
+
+pub block_number-requires-clause-sizes : goal.block_number-requires-clause-sizes
+block_number-requires-clause-sizes g c = c.requires.sound.parts.sizes
+
+pub write_inode-requires-clause-high : goal.write_inode-requires-clause-high
+write_inode-requires-clause-high g c = c.requires.inode.high
+
+pub returns-clause-count : goal.returns-clause-count
+returns-clause-count g c = c.write_inode.ensures.count ∙ c.write.ensures.count ∙ c.block_number.ensures.count

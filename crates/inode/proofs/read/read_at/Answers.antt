@@ -1,6 +1,7 @@
-use Rattle.std.proofs.Common.{◌≡◌, ℕ, ◌+◌, ◌-◌, ◌/◌, ◌%◌, ◌≤◌, List, length, take, drop, min, ap, sym, ◌∙◌, arith, subst}
+use Rattle.std.proofs.Common.{◌≡◌, ℕ, ◌+◌, ◌-◌, ◌/◌, ◌%◌, ◌≤◌, List, length, take, drop, min, ap, sym, ◌∙◌, arith, refl, subst}
 use borrow.Rule.Slice.PartMut.{put_mid}
-use Rattle.blockdev.specs.Blocks.{block_at}
+use Rattle.std.proofs.lemmas.Result.{err_from_is_err_and}
+use Rattle.blockdev.specs.Blocks.{AreBlocks, block_at}
 use Rattle.blockdev.specs.Splice.{part, splice, put_mid-splice, length-part}
 use Rattle.layout.specs.Image.{bytes_of, inode_at, slot_of, IsUsed}
 use Rattle.layout.specs.Frame.{length-bytes_of}
@@ -86,3 +87,57 @@ returns-in_err-source-clause-cause g c = HasCause-told c.args.disk.now.failures 
 pub returns-in_err-block-clause-cause : goal.returns-in_err-block-clause-cause
 returns-in_err-block-clause-cause g c = HasCause-told c.args.disk.now.failures c.block_number.new.disk.failures c.read.new.self.failures c.read.result c.from_residual-in_err-block.result c.in_err-block.field-0.0
     (omega (arith, c.chunk.invariant.failures, c.block_number.ensures.cause.later)) c.read.ensures.cause c.in_err-block.was
+
+pub returns-in_err-inode-clause-count : goal.returns-in_err-inode-clause-count
+returns-in_err-inode-clause-count g c = let p = err_from_is_err_and c.from_residual.result c.from_residual.ensures.1 in rw p.1 tt
+
+pub returns-in_err-inode-clause-read : goal.returns-in_err-inode-clause-read
+returns-in_err-inode-clause-read g c = let p = err_from_is_err_and c.from_residual.result c.from_residual.ensures.1 in rw p.1 tt
+
+pub returns-in_err-inode-clause-same : goal.returns-in_err-inode-clause-same
+returns-in_err-inode-clause-same g c = let p = err_from_is_err_and c.from_residual.result c.from_residual.ensures.1 in rw p.1 tt
+
+pub returns-in_err-inode-clause-blocks : goal.returns-in_err-inode-clause-blocks
+returns-in_err-inode-clause-blocks g c = c.read_inode.ensures.count
+
+pub returns-in_err-source-clause-count : goal.returns-in_err-source-clause-count
+returns-in_err-source-clause-count g c = let p = err_from_is_err_and c.from_residual-in_err-source.result c.from_residual-in_err-source.ensures.1 in rw p.1 tt
+
+pub returns-in_err-source-clause-read : goal.returns-in_err-source-clause-read
+returns-in_err-source-clause-read g c = let p = err_from_is_err_and c.from_residual-in_err-source.result c.from_residual-in_err-source.ensures.1 in rw p.1 tt
+
+pub returns-in_err-source-clause-same : goal.returns-in_err-source-clause-same
+returns-in_err-source-clause-same g c = let p = err_from_is_err_and c.from_residual-in_err-source.result c.from_residual-in_err-source.ensures.1 in rw p.1 tt
+
+pub returns-in_err-source-clause-blocks : goal.returns-in_err-source-clause-blocks
+returns-in_err-source-clause-blocks g c = c.block_number.ensures.count ∙ ap length c.chunk.invariant.disk
+
+pub returns-in_err-block-clause-count : goal.returns-in_err-block-clause-count
+returns-in_err-block-clause-count g c = let p = err_from_is_err_and c.from_residual-in_err-block.result c.from_residual-in_err-block.ensures.1 in rw p.1 tt
+
+pub returns-in_err-block-clause-read : goal.returns-in_err-block-clause-read
+returns-in_err-block-clause-read g c = let p = err_from_is_err_and c.from_residual-in_err-block.result c.from_residual-in_err-block.ensures.1 in rw p.1 tt
+
+pub returns-in_err-block-clause-same : goal.returns-in_err-block-clause-same
+returns-in_err-block-clause-same g c = let p = err_from_is_err_and c.from_residual-in_err-block.result c.from_residual-in_err-block.ensures.1 in rw p.1 tt
+
+pub returns-in_err-block-clause-blocks : goal.returns-in_err-block-clause-blocks
+returns-in_err-block-clause-blocks g c = c.read.ensures.count ∙ c.block_number.ensures.count ∙ ap length c.chunk.invariant.disk
+
+pub returns-in_err-inode-clause-cause : goal.returns-in_err-inode-clause-cause
+returns-in_err-inode-clause-cause g c = HasCause-told c.args.disk.now.failures c.args.disk.now.failures c.read_inode.new.disk.failures c.read_inode.result c.from_residual.result c.in_err-inode.field-0.0 (omega arith) c.read_inode.ensures.cause c.in_err-inode.was
+
+pub returns-clause-same : goal.returns-clause-same
+returns-clause-same g c = c.chunk.invariant.disk
+
+pub returns-clause-blocks : goal.returns-clause-blocks
+returns-clause-blocks g c = ap length c.chunk.invariant.disk
+
+pub block_number-requires-clause-sizes : goal.block_number-requires-clause-sizes
+block_number-requires-clause-sizes g c = subst AreBlocks (sym c.chunk.invariant.disk) c.requires.sound.parts.sizes
+
+pub block_number-requires-clause-slot : goal.block_number-requires-clause-slot
+block_number-requires-clause-slot g c = omega (arith, c.requires.sound.fits c.args.number c.requires.inode, ap (λ i. i.size) c.in_ok-inode.ensures.inode, c.saturating_sub.ensures, c.min-count.ensures, c.chunk-test.true)
+
+pub chunk-init : goal.chunk-init
+chunk-init g c = record { disk = c.in_ok-inode.ensures.same; failures = c.read_inode.ensures.cause.later; within = omega arith; has_read = record { length_same = refl; front = λ i h. absurd (omega (arith, h)); rest = λ i h. refl } }

@@ -1,8 +1,21 @@
-use Rattle.std.proofs.Common.{◌+◌, Some, set, ap, ◌∙◌}
-use Rattle.layout.specs.Image.{bytes_of, free_blocks, inode_at, nodes_of}
+use Rattle.std.proofs.Common.{◌+◌, Some, set, ap, ◌∙◌, subst, sym}
+use Rattle.layout.specs.Image.{bytes_of, free_blocks, inode_at, nodes_of, IsInode}
 use Rattle.inode.specs.Writing.{node_linked}
 use Rattle.image.proofs.AddedNodes.{Stores-linked}
+use Rattle.layout.specs.Sound.{IsSound}
 use Rattle.image.proofs.maker.store.add_link.Goals as goal
+
+pub stat-requires-clause-sound : goal.stat-requires-clause-sound
+stat-requires-clause-sound g c = c.requires.sound
+
+pub stat-requires-clause-inode : goal.stat-requires-clause-inode
+stat-requires-clause-inode g c = c.requires.inode
+
+pub set_links-requires-clause-sound : goal.set_links-requires-clause-sound
+set_links-requires-clause-sound g c = subst (IsSound c.args.geometry) (sym c.in-Ok.ensures.same) c.requires.sound
+
+pub set_links-requires-clause-inode : goal.set_links-requires-clause-inode
+set_links-requires-clause-inode g c = subst (λ b. IsInode b c.args.geometry.inodes c.args.number) (sym c.in-Ok.ensures.same) c.requires.inode
 
 pub returns-in-Ok-set_links-clause-put : goal.returns-in-Ok-set_links-clause-put
 returns-in-Ok-set_links-clause-put g c =

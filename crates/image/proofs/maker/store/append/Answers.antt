@@ -1,9 +1,22 @@
 use Rattle.std.proofs.Common.{◌≡◌, ◌++◌, ap, arith, length, subst, sym, ◌∙◌, Err}
-use Rattle.layout.specs.Image.{bytes_of}
+use Rattle.layout.specs.Image.{bytes_of, IsInode}
 use Rattle.inode.specs.Writing.{Wrote}
 use Rattle.image.proofs.AddedBytes.{few-more, splice-end}
 use Rattle.image.proofs.AddedNodes.{Stores-wide, lacks-blocks, lacks-long, wide-short}
+use Rattle.layout.specs.Sound.{IsSound}
 use Rattle.image.proofs.maker.store.append.Goals as goal
+
+pub stat-requires-clause-sound : goal.stat-requires-clause-sound
+stat-requires-clause-sound g c = c.requires.sound
+
+pub stat-requires-clause-inode : goal.stat-requires-clause-inode
+stat-requires-clause-inode g c = c.requires.inode
+
+pub write_at-requires-clause-sound : goal.write_at-requires-clause-sound
+write_at-requires-clause-sound g c = subst (IsSound c.args.geometry) (sym c.in-Ok.ensures.same) c.requires.sound
+
+pub write_at-requires-clause-inode : goal.write_at-requires-clause-inode
+write_at-requires-clause-inode g c = subst (λ b. IsInode b c.args.geometry.inodes c.args.number) (sym c.in-Ok.ensures.same) c.requires.inode
 
 pub returns-in-Ok-write_at-clause-put : goal.returns-in-Ok-write_at-clause-put
 returns-in-Ok-write_at-clause-put g c = λ files old new stores here wide.

@@ -5,6 +5,12 @@ use Rattle.image.specs.Stored.{bare}
 use Rattle.image.proofs.AddedThings.{IsPut-bytes, IsPut-folder, put-inode}
 use Rattle.image.proofs.maker.store.store_node.Goals as goal
 
+pub take-requires-clause-sound : goal.take-requires-clause-sound
+take-requires-clause-sound g c = c.requires.able.1.sound
+
+pub take-requires-clause-lowest : goal.take-requires-clause-lowest
+take-requires-clause-lowest g c = c.requires.lowest
+
 pub append-requires-clause-sound : goal.append-requires-clause-sound
 append-requires-clause-sound g c = (c.in_ok-take.ensures.put c.requires.able.0 c.requires.able.1).sound
 
