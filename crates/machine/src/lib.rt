@@ -5,8 +5,6 @@ mod boot;
 mod fault;
 mod machine;
 mod seen;
-#[cfg(test)]
-mod tests;
 
 pub use boot::{boot_flat, boot_flat_with};
 pub use calls::Halt;

@@ -1,0 +1,32 @@
+//! Memories for rows, and what accesses to them need.
+ghost use Rattle.std.specs.Prelude.{◌≡◌, ◌≤◌, length};
+
+use ram::{FrameNo, Ram};
+use std::process::Abort;
+
+/// The memory has so many frames.
+pub fn has_frames(rt: &impl Abort, ram: &Ram, count: u32)
+    ensures { length ram.now ≡ count }
+{
+    let frames = ram.frame_count();
+    assert!(rt; frames == count);
+}
+
+/// A memory of so many frames.
+pub fn memory(rt: &(impl Abort + AllocGlobal), count: u32) -> Ram
+    requires { count ≤ 32768 }
+    ensures { length result ≡ count }
+{
+    let ram = Ram::new(rt.alloc(), count).expect(rt, "memory");
+    has_frames(rt, &ram, count);
+    ram
+}
+
+/// Puts numbers of 8 bytes into frames, each at its place.
+pub fn store_all(rt: &impl Abort, ram: &mut Ram, rows: &[(u32, usize, u64)]) {
+    for (frame, at, number) in rows {
+        let frames = ram.frame_count();
+        assert!(rt; *frame < frames && *at <= 4088);
+        ram.store_u64(FrameNo(*frame), *at, *number);
+    }
+}

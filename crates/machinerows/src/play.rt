@@ -1,0 +1,467 @@
+//! Programs, and runs of them: a list of acts, each of which does something to the machine or looks at it.
+use blockdev::MemDisk;
+use console::Writer;
+use machine::{Halt, Machine, ProcessState, Seen, boot_flat};
+use ram::{FRAME_SIZE, FrameNo, Ram};
+use std::alloc::{AllocError, Global};
+use std::io;
+use std::io::Write;
+use std::process::Abort;
+use sv39::{Plain, walk};
+use unixmodel::call::Call;
+use unixmodel::event::Event;
+use unixmodel::trap::Access;
+use vm::Perm;
+
+/// -1 in a register.
+pub(crate) const MINUS_ONE: u64 = u64::MAX;
+
+pub(crate) const FORK: u64 = 1;
+
+pub(crate) const EXIT: u64 = 2;
+
+pub(crate) const WAIT: u64 = 3;
+
+pub(crate) const PIPE: u64 = 4;
+
+pub(crate) const READ: u64 = 5;
+
+pub(crate) const KILL: u64 = 6;
+
+pub(crate) const DUP: u64 = 10;
+
+pub(crate) const GETPID: u64 = 11;
+
+pub(crate) const SBRK: u64 = 12;
+
+pub(crate) const SLEEP: u64 = 13;
+
+pub(crate) const UPTIME: u64 = 14;
+
+pub(crate) const WRITE: u64 = 16;
+
+pub(crate) const CLOSE: u64 = 21;
+
+pub(crate) const READY: ProcessState = ProcessState::Ready;
+
+pub(crate) const RUNNING: ProcessState = ProcessState::Running;
+
+pub(crate) const WAITING: ProcessState = ProcessState::Waiting(Call::Wait);
+
+pub(crate) const SLEEPING: ProcessState = ProcessState::Waiting(Call::Sleep);
+
+pub(crate) const READING: ProcessState = ProcessState::Waiting(Call::Read);
+
+pub(crate) const WRITING: ProcessState = ProcessState::Waiting(Call::Write);
+
+// Makes one call after the other, as a table behind the instructions says: a0, a1, a2 and a7 of each.
+const CALLER: [u32; 8] = [
+    0x0200_0293, // addi t0, zero, 32
+    0x0002_b503, // ld   a0, 0(t0)
+    0x0082_b583, // ld   a1, 8(t0)
+    0x0102_b603, // ld   a2, 16(t0)
+    0x0182_b883, // ld   a7, 24(t0)
+    0x0000_0073, // ecall
+    0x0202_8293, // addi t0, t0, 32
+    0xfe9f_f06f, // jal  zero, -24
+];
+
+/// The steps of a list of calls to the first answer, and from one answer to the next.
+pub(crate) const NEXT_CALL: usize = 7;
+
+// Makes one call after the other, as rows behind the instructions say: a0, a1, a2 and a7 of each, and the address of the
+// row that is next where the answer is 0.
+const FAMILY: [u32; 11] = [
+    0x0400_0293, // addi t0, zero, 64
+    0x0002_b503, // ld   a0, 0(t0)
+    0x0082_b583, // ld   a1, 8(t0)
+    0x0102_b603, // ld   a2, 16(t0)
+    0x0182_b883, // ld   a7, 24(t0)
+    0x0000_0073, // ecall
+    0x0005_1663, // bne  a0, zero, 12
+    0x0202_b283, // ld   t0, 32(t0)
+    0xfe5f_f06f, // jal  zero, -28
+    0x0282_8293, // addi t0, t0, 40
+    0xfddf_f06f, // jal  zero, -36
+];
+
+// Where the rows are, and how long one is.
+const ROWS: u64 = 64;
+
+const ROW: u64 = 40;
+
+/// The steps of a family to its first answer.
+pub(crate) const FIRST_ANSWER: usize = 7;
+
+/// The steps of a family from one answer to the next.
+pub(crate) const NEXT_ANSWER: usize = 8;
+
+/// As many bytes as no program prints.
+pub(crate) const ROOM: usize = 4096;
+
+/// A call: a0, a1, a2 and its number, and the row that is next where its answer is 0.
+#[derive(Clone, Copy)]
+pub(crate) struct Row(pub(crate) [u64; 4], pub(crate) u64);
+
+/// A program.
+#[derive(Clone, Copy)]
+pub(crate) enum Program<'a> {
+    /// Instructions, and the bytes behind them.
+    Words(&'a [u32], &'a [u8]),
+    /// Calls, one after the other: a0, a1, a2 and the number of each.
+    Calls(&'a [[u64; 4]]),
+    /// Calls of a process and of its children.
+    Family(&'a [Row]),
+}
+
+/// What happens to a machine, or what is expected of it: of one process, by its pid, or of the whole.
+#[derive(Clone, Copy)]
+pub(crate) enum Act<'a> {
+    /// So many steps, none of which stops the machine.
+    Steps(usize),
+    /// A timer interrupt and a step.
+    Turn,
+    /// Typed keys.
+    Keys(&'a [u8]),
+    /// A step at which the machine stops.
+    Halts(Halt),
+    /// A list of events, and why the machine stops at one of them, if it does.
+    Runs(&'a [Event], Option<Halt>),
+    /// How many frames are free.
+    Free(u32),
+    /// What stands in a0 of the process with this pid.
+    Answer(u32, u64),
+    /// What a process is doing.
+    Is(u32, ProcessState),
+    /// The pid of a process's parent.
+    Parent(u32, u32),
+    /// Its pc.
+    Pc(u32, u64),
+    /// Its size in bytes.
+    Size(u32, u64),
+    /// Whether it was killed.
+    Killed(u32, bool),
+    /// Its registers x0 to x31.
+    Registers(u32, &'a [u64; 32]),
+    /// There is no process with this pid.
+    Gone(u32),
+    /// The bytes from an address of a process on.
+    Bytes(u32, u64, &'a [u8]),
+    /// The marks of a page of a process, and its first bytes, behind which all are zero.
+    Page(u32, u64, Perm, &'a [u8]),
+    /// There is no such page of this process.
+    NoPage(u32, u64),
+    /// There are no tables of this process's pages.
+    NoTables(u32),
+    /// The byte that the tables of process 1 reach at an address, for this access.
+    Reaches(u64, Access, u8),
+    /// The tables of process 1 don't allow this access.
+    Faults(u64, Access),
+}
+
+fn flat(alloc: Global, words: &[u32], rest: &[u8]) -> Result<Vec<u8>, AllocError> {
+    let mut bytes = Vec::new(alloc);
+    for word in words {
+        bytes.extend_from_slice(&word.to_le_bytes())?;
+    }
+    bytes.extend_from_slice(rest)?;
+    Ok(bytes)
+}
+
+fn put(bytes: &mut Vec<u8>, numbers: &[u64]) -> Result<(), AllocError> {
+    for number in numbers {
+        bytes.extend_from_slice(&number.to_le_bytes())?;
+    }
+    Ok(())
+}
+
+fn caller(alloc: Global, calls: &[[u64; 4]]) -> Result<Vec<u8>, AllocError> {
+    let mut bytes = flat(alloc, &CALLER, &[])?;
+    for call in calls {
+        put(&mut bytes, call)?;
+    }
+    Ok(bytes)
+}
+
+fn family(alloc: Global, rows: &[Row]) -> Result<Vec<u8>, AllocError> {
+    let mut bytes = flat(alloc, &FAMILY, &[0; 20])?;
+    for Row([a0, a1, a2, number], next) in rows {
+        let next = ROWS.wrapping_add(ROW.wrapping_mul(*next));
+        put(&mut bytes, &[*a0, *a1, *a2, *number, next])?;
+    }
+    Ok(bytes)
+}
+
+impl Program<'_> {
+    fn bytes(self, alloc: Global) -> Result<Vec<u8>, AllocError> {
+        match self {
+            Program::Words(words, rest) => flat(alloc, words, rest),
+            Program::Calls(calls) => caller(alloc, calls),
+            Program::Family(rows) => family(alloc, rows),
+        }
+    }
+}
+
+// Whether the machine stopped for this reason, or went on.
+fn stops(done: Result<(), Halt>, why: Option<Halt>) -> bool {
+    match (done, why) {
+        (Ok(()), None) => true,
+        (Err(found), Some(expected)) => found == expected,
+        _ => false,
+    }
+}
+
+// The process that the act is about, or process 1.
+fn pid_of(act: Act<'_>) -> u32 {
+    match act {
+        Act::Answer(pid, _)
+        | Act::Is(pid, _)
+        | Act::Parent(pid, _)
+        | Act::Pc(pid, _)
+        | Act::Size(pid, _)
+        | Act::Killed(pid, _)
+        | Act::Registers(pid, _) => pid,
+        _ => 1,
+    }
+}
+
+// Whether the act says what is told of its process.
+fn tells(seen: &Seen, act: Act<'_>) -> bool {
+    match act {
+        Act::Answer(_, a0) => seen.registers[10] == a0,
+        Act::Is(_, state) => seen.state == state,
+        Act::Parent(_, parent) => seen.parent == parent,
+        Act::Pc(_, pc) => seen.pc == pc,
+        Act::Size(_, size) => seen.size == size,
+        Act::Killed(_, killed) => seen.killed == killed,
+        Act::Registers(_, registers) => seen.registers == *registers,
+        _ => false,
+    }
+}
+
+// Whether these bytes are from a place on in a page.
+fn holds(page: &[u8; FRAME_SIZE], place: usize, bytes: &[u8]) -> bool {
+    match page.get(place..) {
+        Some(rest) => rest.starts_with(bytes),
+        None => false,
+    }
+}
+
+// Whether a page has nothing but zeros from a place on.
+fn is_zero(page: &[u8; FRAME_SIZE], place: usize) -> bool {
+    match page.get(place..) {
+        Some(rest) => [0; FRAME_SIZE].starts_with(rest),
+        None => false,
+    }
+}
+
+// The byte at a physical address.
+fn byte_at(ram: &Ram, pa: u64) -> Option<u8> {
+    let frame = FrameNo((pa / 4096 % 0x8_0000) as u32);
+    if frame.0 < ram.frame_count() {
+        Some(ram.frame(frame)[(pa % 4096) as usize])
+    } else {
+        None
+    }
+}
+
+// A console that takes one byte at a time, so many of them, and then none.
+#[derive(Drop)]
+struct Narrow {
+    taken: Vec<u8>,
+    room: usize,
+}
+
+impl Write for Narrow {
+    fn write(&mut self, buf: &[u8]) -> io::Result<usize> {
+        match buf.first() {
+            Some(byte) if self.taken.len() < self.room => {
+                self.taken.push(*byte)?;
+                Ok(1)
+            }
+            _ => Ok(0),
+        }
+    }
+
+    fn flush(&mut self) -> io::Result<()> {
+        Ok(())
+    }
+}
+
+// A machine, and what it prints.
+#[derive(Drop)]
+struct Play {
+    machine: Machine<MemDisk, Plain>,
+    out: Writer<Narrow>,
+}
+
+impl Play {
+    // Boots a program in so many frames, with a console that takes so many bytes.
+    fn boot(alloc: Global, program: Program<'_>, frames: u32, room: usize) -> Option<Play> {
+        let bytes = program.bytes(alloc).ok()?;
+        let machine = boot_flat(alloc, bytes.as_slice(), frames).ok()?;
+        let taken = Vec::new(alloc);
+        let out = Writer::new(Narrow { taken, room });
+        Some(Play { machine, out })
+    }
+
+    fn event(&mut self, event: Event) -> Result<(), Halt> {
+        self.machine.step(event, &mut self.out)
+    }
+
+    fn steps(&mut self, count: usize) -> bool {
+        for _ in 0..count {
+            if self.event(Event::Step).is_err() {
+                return false;
+            }
+        }
+        true
+    }
+
+    fn keys(&mut self, keys: &[u8]) -> bool {
+        for key in keys {
+            if self.event(Event::Key(*key)).is_err() {
+                return false;
+            }
+        }
+        true
+    }
+
+    fn runs(&mut self, events: &[Event]) -> Result<(), Halt> {
+        self.machine.run(events, &mut self.out)
+    }
+
+    fn holds(&self, pid: u32, address: u64, bytes: &[u8]) -> bool {
+        match self.machine.peek(pid, address / 4096) {
+            Some((page, _)) => holds(page, (address % 4096) as usize, bytes),
+            None => false,
+        }
+    }
+
+    fn is_page(&self, pid: u32, page: u64, marks: Perm, bytes: &[u8]) -> bool {
+        match self.machine.peek(pid, page) {
+            Some((page, perm)) => {
+                perm == marks && holds(page, 0, bytes) && is_zero(page, bytes.len())
+            }
+            None => false,
+        }
+    }
+
+    fn reached(&self, address: u64, access: Access) -> Option<u8> {
+        let (ram, root) = self.machine.tables(1)?;
+        let pa = walk(ram, root, address, access).ok()?;
+        byte_at(ram, pa)
+    }
+
+    fn faults(&self, address: u64, access: Access) -> bool {
+        match self.machine.tables(1) {
+            Some((ram, root)) => walk(ram, root, address, access).is_err(),
+            None => false,
+        }
+    }
+
+    fn tells(&self, act: Act<'_>) -> bool {
+        let pid = pid_of(act);
+        match self.machine.inspect(pid) {
+            Some(seen) => seen.pid == pid && tells(&seen, act),
+            None => false,
+        }
+    }
+
+    // Whether the machine is as the act says.
+    fn shows(&self, act: Act<'_>) -> bool {
+        match act {
+            Act::Free(free) => self.machine.free_frames() == free,
+            Act::Gone(pid) => self.machine.inspect(pid).is_none(),
+            Act::Bytes(pid, address, bytes) => self.holds(pid, address, bytes),
+            Act::Page(pid, page, marks, bytes) => self.is_page(pid, page, marks, bytes),
+            Act::NoPage(pid, page) => self.machine.peek(pid, page).is_none(),
+            Act::NoTables(pid) => self.machine.tables(pid).is_none(),
+            Act::Reaches(address, access, byte) => self.reached(address, access) == Some(byte),
+            Act::Faults(address, access) => self.faults(address, access),
+            _ => self.tells(act),
+        }
+    }
+
+    // Whether the act goes as it says.
+    fn does(&mut self, act: Act<'_>) -> bool {
+        match act {
+            Act::Steps(count) => self.steps(count),
+            Act::Turn => self.event(Event::Tick).is_ok() && self.steps(1),
+            Act::Keys(keys) => self.keys(keys),
+            Act::Halts(why) => stops(self.event(Event::Step), Some(why)),
+            Act::Runs(events, why) => stops(self.runs(events), why),
+            _ => self.shows(act),
+        }
+    }
+
+    // The number of the first act that doesn't go as it says.
+    fn first_wrong(&mut self, acts: &[Act<'_>]) -> Option<usize> {
+        for (number, act) in acts.iter().enumerate() {
+            if !self.does(*act) {
+                return Some(number);
+            }
+        }
+        None
+    }
+
+    // The number of the first call that isn't answered so, or leaves another count of frames free.
+    fn first_answer_wrong(&mut self, answers: &[(u64, u32)]) -> Option<usize> {
+        for (number, (a0, free)) in answers.iter().enumerate() {
+            let acts = [Act::Steps(NEXT_CALL), Act::Answer(1, *a0), Act::Free(*free)];
+            if self.first_wrong(&acts).is_some() {
+                return Some(number);
+            }
+        }
+        None
+    }
+
+    // Whether it printed this text.
+    fn printed(self, text: &[u8]) -> bool {
+        let Play { machine: _, out } = self;
+        out.into_inner().taken.as_slice() == text
+    }
+}
+
+/// It holds what a row of a table says.
+pub(crate) fn holds_at(rt: &impl Abort, row: usize, holds: bool) {
+    assert!(rt; holds, "row {row}");
+}
+
+fn none_wrong(rt: &impl Abort, wrong: Option<usize>) {
+    if let Some(row) = wrong {
+        holds_at(rt, row, false);
+    }
+}
+
+/// Boots a program in 64 frames, and does these acts.
+pub(crate) fn run(rt: &(impl Abort + AllocGlobal), program: Program<'_>, acts: &[Act<'_>]) {
+    let mut play = Play::boot(rt.alloc(), program, 64, ROOM).expect(rt, "a machine");
+    none_wrong(rt, play.first_wrong(acts));
+}
+
+/// Boots a program in so many frames, with a console that takes so many bytes, and does these acts. After them it has
+/// printed a text.
+pub(crate) fn prints(
+    rt: &(impl Abort + AllocGlobal),
+    program: Program<'_>,
+    (frames, room): (u32, usize),
+    acts: &[Act<'_>],
+    text: &[u8],
+) {
+    let mut play = Play::boot(rt.alloc(), program, frames, room).expect(rt, "a machine");
+    none_wrong(rt, play.first_wrong(acts));
+    holds_at(rt, acts.len(), play.printed(text));
+}
+
+/// After each of these calls: what it answers, and how many frames are free.
+pub(crate) fn expect_answers(
+    rt: &(impl Abort + AllocGlobal),
+    frames: u32,
+    calls: &[[u64; 4]],
+    answers: &[(u64, u32)],
+) {
+    let program = Program::Calls(calls);
+    let mut play = Play::boot(rt.alloc(), program, frames, ROOM).expect(rt, "a machine");
+    none_wrong(rt, play.first_answer_wrong(answers));
+}

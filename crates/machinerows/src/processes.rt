@@ -1,0 +1,287 @@
+//! Processes that fork, wait, kill, sleep and take turns.
+use crate::play::Act::{
+    Answer, Bytes, Free, Gone, Halts, Is, Killed, NoPage, NoTables, Parent, Pc, Size, Steps, Turn,
+};
+use crate::play::{
+    Act, EXIT, FIRST_ANSWER, FORK, GETPID, KILL, MINUS_ONE, NEXT_ANSWER, Program, READY, RUNNING,
+    Row, SLEEP, SLEEPING, WAIT, WAITING, run,
+};
+use machine::{Halt, ProcessState};
+
+#[test]
+fn forks_until_no_frames_are_left(rt: HostRuntime) {
+    const FORKS: Row = Row([0, 0, 0, FORK], 0);
+    const ROWS: [Row; 7] = [FORKS, FORKS, FORKS, FORKS, FORKS, FORKS, FORKS];
+    const ACTS: [Act; 27] = [
+        Steps(FIRST_ANSWER),
+        Answer(1, 2),
+        Free(46),
+        Steps(NEXT_ANSWER),
+        Answer(1, 3),
+        Free(37),
+        Steps(NEXT_ANSWER),
+        Answer(1, 4),
+        Free(28),
+        Steps(NEXT_ANSWER),
+        Answer(1, 5),
+        Free(19),
+        Steps(NEXT_ANSWER),
+        Answer(1, 6),
+        Free(10),
+        Steps(NEXT_ANSWER),
+        Answer(1, 7),
+        Free(1),
+        Steps(NEXT_ANSWER),
+        Answer(1, MINUS_ONE),
+        Free(1),
+        Parent(7, 1),
+        Pc(7, 24),
+        Size(7, 12288),
+        Answer(7, 0),
+        Is(7, READY),
+        Gone(8),
+    ];
+    run(&rt, Program::Family(&ROWS), &ACTS);
+}
+
+#[test]
+fn frames_come_back_as_a_child_is_waited_for(rt: HostRuntime) {
+    const ROWS: [Row; 3] = [
+        Row([0, 0, 0, FORK], 2),
+        Row([0, 0, 0, WAIT], 0),
+        Row([5, 0, 0, EXIT], 0),
+    ];
+    const ACTS: [Act; 17] = [
+        Steps(FIRST_ANSWER),
+        Answer(1, 2),
+        Free(46),
+        Steps(NEXT_ANSWER),
+        Is(1, WAITING),
+        Steps(1),
+        Is(2, RUNNING),
+        Steps(NEXT_ANSWER),
+        Is(2, ProcessState::Zombie(5)),
+        Free(46),
+        Steps(1),
+        Is(1, RUNNING),
+        Gone(2),
+        NoPage(2, 0),
+        NoTables(2),
+        Answer(1, 2),
+        Free(55),
+    ];
+    run(&rt, Program::Family(&ROWS), &ACTS);
+}
+
+// A child goes on with the fourth word; its parent waits with address 0x2000.
+const ZEROS: [u32; 7] = [
+    0x0010_0893, // addi a7, zero, 1
+    0x0000_0073, // ecall
+    0x0005_1463, // bne  a0, zero, 8
+    0x0000_0000,
+    0x0000_2537, // lui  a0, 2
+    0x0030_0893, // addi a7, zero, 3
+    0x0000_0073, // ecall
+];
+
+const ONES: [u32; 7] = [
+    0x0010_0893, // addi a7, zero, 1
+    0x0000_0073, // ecall
+    0x0005_1463, // bne  a0, zero, 8
+    0xffff_ffff,
+    0x0000_2537, // lui  a0, 2
+    0x0030_0893, // addi a7, zero, 3
+    0x0000_0073, // ecall
+];
+
+#[test]
+fn a_wrong_instruction_ends_a_child(rt: HostRuntime) {
+    const ACTS: [Act; 10] = [
+        // the fork, the parent's wait, the child's turn and its branch
+        Steps(3 + 4 + 1 + 1),
+        Is(2, RUNNING),
+        Steps(1),
+        Is(2, ProcessState::Zombie(-1)),
+        Pc(2, 12),
+        Bytes(1, 0x2000, &[0; 5]),
+        Steps(1),
+        Bytes(1, 0x2000, &[0xff, 0xff, 0xff, 0xff, 0]),
+        Answer(1, 2),
+        Free(55),
+    ];
+    for words in [ZEROS, ONES] {
+        run(&rt, Program::Words(&words, &[]), &ACTS);
+    }
+}
+
+#[test]
+fn a_wait_that_cannot_tell_leaves_the_child(rt: HostRuntime) {
+    const ROWS: [Row; 4] = [
+        Row([0, 0, 0, FORK], 3),
+        Row([0x1000, 0, 0, WAIT], 0),
+        Row([0, 0, 0, WAIT], 0),
+        Row([0, 0, 0, EXIT], 0),
+    ];
+    const ACTS: [Act; 10] = [
+        Steps(FIRST_ANSWER),
+        Turn,
+        Steps(NEXT_ANSWER),
+        Is(2, ProcessState::Zombie(0)),
+        Steps(1 + NEXT_ANSWER),
+        Answer(1, MINUS_ONE),
+        Free(46),
+        Steps(NEXT_ANSWER),
+        Answer(1, 2),
+        Free(55),
+    ];
+    run(&rt, Program::Family(&ROWS), &ACTS);
+}
+
+// 1 forks 2, 2 forks 3, 2 exits, and then 3.
+#[test]
+fn orphans_go_to_process_1(rt: HostRuntime) {
+    const ROWS: [Row; 6] = [
+        Row([0, 0, 0, FORK], 3),
+        Row([0, 0, 0, WAIT], 0),
+        Row([0, 0, 0, WAIT], 0),
+        Row([0, 0, 0, FORK], 5),
+        Row([7, 0, 0, EXIT], 0),
+        Row([8, 0, 0, EXIT], 0),
+    ];
+    const ACTS: [Act; 16] = [
+        Steps(FIRST_ANSWER),
+        // the wait, the turn of 2, and its fork
+        Steps(NEXT_ANSWER + 1 + NEXT_ANSWER),
+        Answer(2, 3),
+        Free(37),
+        Parent(3, 2),
+        Steps(NEXT_ANSWER),
+        Is(2, ProcessState::Zombie(7)),
+        Parent(3, 1),
+        Steps(1 + NEXT_ANSWER),
+        Is(3, ProcessState::Zombie(8)),
+        Steps(1),
+        Answer(1, 2),
+        Free(46),
+        Steps(NEXT_ANSWER),
+        Answer(1, 3),
+        Free(55),
+    ];
+    run(&rt, Program::Family(&ROWS), &ACTS);
+}
+
+#[test]
+fn kills_by_pid(rt: HostRuntime) {
+    const ROWS: [Row; 6] = [
+        Row([0, 0, 0, KILL], 0),
+        Row([MINUS_ONE, 0, 0, KILL], 0),
+        Row([0, 0, 0, FORK], 5),
+        Row([2, 0, 0, KILL], 4),
+        Row([1, 0, 0, KILL], 4),
+        Row([3, 0, 0, EXIT], 0),
+    ];
+    const ACTS: [Act; 21] = [
+        Steps(FIRST_ANSWER),
+        Answer(1, MINUS_ONE),
+        Free(55),
+        Steps(NEXT_ANSWER),
+        Answer(1, MINUS_ONE),
+        Free(55),
+        Steps(NEXT_ANSWER),
+        Turn,
+        Steps(NEXT_ANSWER),
+        Is(2, ProcessState::Zombie(3)),
+        Steps(1 + NEXT_ANSWER),
+        Answer(1, 0),
+        Free(46),
+        Killed(2, true),
+        Is(2, ProcessState::Zombie(3)),
+        Steps(NEXT_ANSWER - 1),
+        Halts(Halt::InitEnded(-1)),
+        Killed(1, true),
+        Is(1, ProcessState::Zombie(-1)),
+        Answer(1, 0),
+        Pc(1, 24),
+    ];
+    run(&rt, Program::Family(&ROWS), &ACTS);
+}
+
+#[test]
+fn a_killed_sleeper_ends_at_its_turn(rt: HostRuntime) {
+    const ROWS: [Row; 4] = [
+        Row([0, 0, 0, FORK], 3),
+        Row([2, 0, 0, KILL], 2),
+        Row([0, 0, 0, WAIT], 0),
+        Row([1000, 0, 0, SLEEP], 0),
+    ];
+    const ACTS: [Act; 14] = [
+        Steps(FIRST_ANSWER),
+        Turn,
+        Steps(NEXT_ANSWER),
+        Is(2, SLEEPING),
+        Steps(1 + NEXT_ANSWER),
+        Answer(1, 0),
+        Free(46),
+        Killed(2, true),
+        Is(2, SLEEPING),
+        // the wait, and the turns of both
+        Steps(NEXT_ANSWER + 1),
+        Is(2, ProcessState::Zombie(-1)),
+        Steps(1),
+        Answer(1, 2),
+        Free(55),
+    ];
+    run(&rt, Program::Family(&ROWS), &ACTS);
+}
+
+#[test]
+fn turns_go_round(rt: HostRuntime) {
+    const ROWS: [Row; 3] = [
+        Row([0, 0, 0, FORK], 2),
+        Row([0, 0, 0, FORK], 2),
+        Row([0, 0, 0, GETPID], 0),
+    ];
+    const ACTS: [Act; 19] = [
+        Steps(FIRST_ANSWER + NEXT_ANSWER),
+        Answer(1, 3),
+        Free(37),
+        Turn,
+        Is(1, READY),
+        Is(2, RUNNING),
+        Is(3, READY),
+        Turn,
+        Is(1, READY),
+        Is(2, READY),
+        Is(3, RUNNING),
+        Turn,
+        Is(1, RUNNING),
+        Is(2, READY),
+        Is(3, READY),
+        Turn,
+        Is(1, READY),
+        Is(2, RUNNING),
+        Is(3, READY),
+    ];
+    run(&rt, Program::Family(&ROWS), &ACTS);
+}
+
+#[test]
+fn sleeps_by_ticks(rt: HostRuntime) {
+    const ROWS: [Row; 2] = [Row([2, 0, 0, SLEEP], 1), Row([MINUS_ONE, 0, 0, SLEEP], 2)];
+    const ACTS: [Act; 13] = [
+        Steps(FIRST_ANSWER),
+        Is(1, SLEEPING),
+        Turn,
+        Is(1, SLEEPING),
+        Answer(1, 2),
+        Turn,
+        Is(1, RUNNING),
+        Answer(1, 0),
+        Steps(NEXT_ANSWER - 1),
+        Answer(1, MINUS_ONE),
+        Steps(1),
+        Is(1, RUNNING),
+        Answer(1, 0),
+    ];
+    run(&rt, Program::Family(&ROWS), &ACTS);
+}
