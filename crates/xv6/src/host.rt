@@ -1,19 +1,7 @@
-//! Where files come from and go to.
+//! The host of the program: real files.
+use commands::{Host, HostFault};
 use std::fs;
 use std::rt::Files;
-
-/// A file could not be read or written.
-#[derive(Clone, Copy, Debug, PartialEq, Eq)]
-pub struct HostFault;
-
-/// Files by their names.
-pub trait Host {
-    /// The whole of a file.
-    fn read(&mut self, name: &str) -> Result<Vec<u8>, HostFault>;
-
-    /// Makes a file of the bytes, in place of the one of that name if there is one.
-    fn write(&mut self, name: &str, bytes: &[u8]) -> Result<(), HostFault>;
-}
 
 /// The files of the system that the program runs on.
 #[derive(Drop)]

@@ -1,22 +1,13 @@
 //! The command line of the machine: does the job that the words name, on real files.
 #![tactic(auto)]
 
-mod command_line;
 mod host;
-mod jobs;
-mod lines;
-mod manifest;
-mod perform;
-mod play;
-mod report;
-mod script;
 #[cfg(test)]
 mod tests;
 
-use command_line::job;
+use commands::perform::perform;
+use commands::{job, refuse};
 use host::RealFiles;
-use perform::perform;
-use report::refuse;
 use std::alloc::AllocError;
 use std::io::{self, BufWriter};
 use std::process::ExitCode;

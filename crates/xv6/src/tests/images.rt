@@ -1,68 +1,14 @@
 //! Stored runs of the commands on disk images.
-use crate::command_line::job;
-use crate::host::{Host, HostFault};
-use crate::jobs::{Check, Job, Mkfs};
-use crate::perform::perform;
-use std::alloc::{AllocError, Global};
+use crate::tests::{Files, expect, files_of};
+use commands::{Check, Job, Mkfs};
 use std::process::Abort;
 
-// The files `manifest`, `host` and `image`, of which the last can be written.
-#[derive(Drop)]
-struct Disk {
-    manifest: Vec<u8>,
-    host: Vec<u8>,
-    image: Vec<u8>,
-}
+const CHECK: Job<'static> = Job::Check(Check { image: "image" });
 
-impl Host for Disk {
-    fn read(&mut self, name: &str) -> Result<Vec<u8>, HostFault> {
-        match name.as_bytes() {
-            b"manifest" => self.manifest.clone().map_err(|_| HostFault),
-            b"image" => self.image.clone().map_err(|_| HostFault),
-            b"host" => self.host.clone().map_err(|_| HostFault),
-            _ => Err(HostFault),
-        }
-    }
-
-    fn write(&mut self, name: &str, bytes: &[u8]) -> Result<(), HostFault> {
-        if name != "image" {
-            return Err(HostFault);
-        }
-        self.image.clear();
-        self.image.extend_from_slice(bytes).map_err(|_| HostFault)
-    }
-}
-
-fn bytes_of(alloc: Global, text: &str) -> Result<Vec<u8>, AllocError> {
-    let mut bytes = Vec::new(alloc);
-    bytes.extend_from_slice(text.as_bytes())?;
-    Ok(bytes)
-}
-
-// A disk with this manifest and a file of so many bytes.
-fn with_files(rt: &(impl Abort + AllocGlobal), manifest: &str, length: usize) -> Disk {
-    Disk {
-        manifest: bytes_of(rt.alloc(), manifest).expect(rt, "memory"),
-        host: vec![in rt.alloc(); 0u8; length].expect(rt, "memory"),
-        image: Vec::new(rt.alloc()),
-    }
-}
-
-// Does a job: it has to write these texts, and to exit with this status.
-fn expect(
-    rt: &(impl Abort + AllocGlobal),
-    disk: &mut Disk,
-    job: Job<'_>,
-    stdout: &str,
-    stderr: &str,
-    status: u8,
-) {
-    let mut out = Vec::new(rt.alloc());
-    let mut err = Vec::new(rt.alloc());
-    let ended = perform(rt.alloc(), &job, disk, &mut out, &mut err);
-    assert_eq!(rt; out.as_slice(), stdout.as_bytes(), "{stdout}");
-    assert_eq!(rt; err.as_slice(), stderr.as_bytes(), "{stderr}");
-    assert_eq!(rt; ended, status, "{stdout}{stderr}");
+// Files with this manifest, and so many bytes of a file of the host.
+fn with_files(rt: &(impl Abort + AllocGlobal), manifest: &str, length: usize) -> Files {
+    let bytes = vec![in rt.alloc(); 0u8; length].expect(rt, "memory");
+    files_of(rt.alloc(), bytes, manifest.as_bytes()).expect(rt, "memory")
 }
 
 fn mkfs(size: u32, inodes: u32) -> Job<'static> {
@@ -74,188 +20,180 @@ fn mkfs(size: u32, inodes: u32) -> Job<'static> {
     })
 }
 
-fn check() -> Job<'static> {
-    Job::Check(Check { image: "image" })
+// Makes an image, which the check accepts with this line.
+fn expect_made(rt: &(impl Abort + AllocGlobal), files: &mut Files, job: &Job<'_>, line: &str) {
+    expect(rt, files, job, "", "", 0);
+    expect(rt, files, &CHECK, line, "", 0);
 }
 
-// Makes an image of 32 blocks and 16 inodes, which the check accepts with this line.
-fn expect_made(rt: &(impl Abort + AllocGlobal), manifest: &str, length: usize, line: &str) {
-    let mut disk = with_files(rt, manifest, length);
-    expect(rt, &mut disk, mkfs(32, 16), "", "", 0);
-    expect(rt, &mut disk, check(), line, "", 0);
+// Makes images of 32 blocks and 16 inodes: the manifest, the length of the host's file, and what
+// the check says.
+fn expect_images(rt: &(impl Abort + AllocGlobal), rows: &[(&str, usize, &str)]) {
+    for (manifest, length, line) in rows {
+        let mut files = with_files(rt, manifest, *length);
+        expect_made(rt, &mut files, &mkfs(32, 16), line);
+    }
 }
 
-// Makes no image of 32 blocks and 16 inodes, and says why.
-fn expect_fault(rt: &(impl Abort + AllocGlobal), manifest: &str, length: usize, line: &str) {
-    let mut disk = with_files(rt, manifest, length);
-    expect(rt, &mut disk, mkfs(32, 16), "", line, 1);
-    assert!(rt; disk.image.is_empty(), "{line}");
+// Makes no image of 32 blocks and 16 inodes: the manifest, the length of the host's file, and why.
+fn expect_faults(rt: &(impl Abort + AllocGlobal), rows: &[(&str, usize, &str)]) {
+    for (manifest, length, line) in rows {
+        let mut files = with_files(rt, manifest, *length);
+        expect(rt, &mut files, &mkfs(32, 16), "", line, 1);
+        assert!(rt; files.image.is_empty(), "{line}");
+    }
 }
+
+// From that byte on the image has these bytes.
+fn expect_bytes(rt: &impl Abort, image: &[u8], start: usize, wanted: &[u8]) {
+    match image.get(start..) {
+        Some(rest) => assert!(rt; rest.starts_with(wanted), "at {start}: {wanted:?}"),
+        None => assert!(rt; false, "a short image"),
+    }
+}
+
+// The words of the super block.
+static NUMBERS: [u8; 32] = [
+    0x40, 0x30, 0x20, 0x10, 0x20, 0, 0, 0, 0x1b, 0, 0, 0, 0x10, 0, 0, 0, 0, 0, 0, 0, 2, 0, 0, 0, 2,
+    0, 0, 0, 4, 0, 0, 0,
+];
 
 #[test]
 fn makes_an_empty_image(rt: HostRuntime) {
-    let mut disk = with_files(&rt, "", 0);
-    expect(&rt, &mut disk, mkfs(32, 16), "", "", 0);
-    let numbers = [
-        0x40, 0x30, 0x20, 0x10, 0x20, 0, 0, 0, 0x1b, 0, 0, 0, 0x10, 0, 0, 0, 0, 0, 0, 0, 2, 0, 0,
-        0, 2, 0, 0, 0, 4, 0, 0, 0,
-    ];
-    assert_eq!(rt; disk.image.get(1024..1056), Some(numbers.as_slice()));
-    assert_eq!(rt; disk.image.len(), 32768);
-    expect(&rt, &mut disk, check(), "ok 1 inodes 1 blocks\n", "", 0);
+    let mut files = with_files(&rt, "", 0);
+    expect_made(&rt, &mut files, &mkfs(32, 16), "ok 1 inodes 1 blocks\n");
+    expect_bytes(&rt, files.image.as_slice(), 1024, &NUMBERS);
+    assert_eq!(rt; files.image.len(), 32768);
 }
 
 // The defaults give the bitmap block 15, and 1984 blocks for data.
 #[test]
 fn makes_an_image_of_default_size(rt: HostRuntime) {
-    let mut disk = with_files(&rt, "", 0);
-    expect(&rt, &mut disk, mkfs(2000, 200), "", "", 0);
-    let blocks = [0xc0, 7, 0, 0];
-    let bitmap = [15, 0, 0, 0];
-    assert_eq!(rt; disk.image.get(1032..1036), Some(blocks.as_slice()));
-    assert_eq!(rt; disk.image.get(1052..1056), Some(bitmap.as_slice()));
-    expect(&rt, &mut disk, check(), "ok 1 inodes 1 blocks\n", "", 0);
+    let mut files = with_files(&rt, "", 0);
+    expect_made(&rt, &mut files, &mkfs(2000, 200), "ok 1 inodes 1 blocks\n");
+    expect_bytes(&rt, files.image.as_slice(), 1032, &[0xc0, 7, 0, 0]);
+    expect_bytes(&rt, files.image.as_slice(), 1052, &[15, 0, 0, 0]);
 }
+
+static NUMBER_FAULTS: [(u32, u32); 5] = [(31, 16), (32, 15), (32, 448), (16385, 16), (16384, 8193)];
 
 #[test]
 fn knows_the_numbers_of_an_image(rt: HostRuntime) {
-    let mut disk = with_files(&rt, "", 0);
-    for (size, inodes) in [(31, 16), (32, 15), (32, 448), (16385, 16), (16384, 8193)] {
-        expect(
-            &rt,
-            &mut disk,
-            mkfs(size, inodes),
-            "",
-            "fault 6 Numbers\n",
-            1,
-        );
+    let mut files = with_files(&rt, "", 0);
+    for (size, inodes) in &NUMBER_FAULTS {
+        let job = mkfs(*size, *inodes);
+        expect(&rt, &mut files, &job, "", "fault 6 Numbers\n", 1);
     }
-    expect(&rt, &mut disk, mkfs(32, 447), "", "", 0);
-    expect(&rt, &mut disk, check(), "ok 1 inodes 1 blocks\n", "", 0);
+    expect_made(&rt, &mut files, &mkfs(32, 447), "ok 1 inodes 1 blocks\n");
 }
 
 #[test]
 fn counts_the_blocks_of_files(rt: HostRuntime) {
-    let file = "file /a host";
-    expect_made(&rt, file, 0, "ok 2 inodes 1 blocks\n");
-    expect_made(&rt, file, 12288, "ok 2 inodes 13 blocks\n");
-    expect_made(&rt, file, 12289, "ok 2 inodes 15 blocks\n");
-    expect_made(&rt, file, 25600, "ok 2 inodes 27 blocks\n");
-    expect_fault(&rt, file, 25601, "fault 3 Blocks\n");
-    expect_fault(&rt, file, 274433, "fault 3 Blocks\n");
+    static IMAGES: [(&str, usize, &str); 4] = [
+        ("file /a host", 0, "ok 2 inodes 1 blocks\n"),
+        ("file /a host", 12288, "ok 2 inodes 13 blocks\n"),
+        ("file /a host", 12289, "ok 2 inodes 15 blocks\n"),
+        ("file /a host", 25600, "ok 2 inodes 27 blocks\n"),
+    ];
+    static FAULTS: [(&str, usize, &str); 2] = [
+        ("file /a host", 25601, "fault 3 Blocks\n"),
+        ("file /a host", 274433, "fault 3 Blocks\n"),
+    ];
+    expect_images(&rt, &IMAGES);
+    expect_faults(&rt, &FAULTS);
 }
+
+const FOURTEEN: &str = "dir /a\ndir /b\ndir /c\ndir /d\ndir /e\ndir /f\ndir /g\n\
+    dir /h\ndir /i\ndir /j\ndir /k\ndir /l\ndir /m\ndir /n\n";
+
+const FIFTEEN: &str = "dir /a\ndir /b\ndir /c\ndir /d\ndir /e\ndir /f\ndir /g\n\
+    dir /h\ndir /i\ndir /j\ndir /k\ndir /l\ndir /m\ndir /n\ndir /o\n";
 
 #[test]
 fn counts_the_inodes_of_directories(rt: HostRuntime) {
-    let fourteen = "dir /a\ndir /b\ndir /c\ndir /d\ndir /e\ndir /f\ndir /g\n\
-        dir /h\ndir /i\ndir /j\ndir /k\ndir /l\ndir /m\ndir /n\n";
-    let fifteen = "dir /a\ndir /b\ndir /c\ndir /d\ndir /e\ndir /f\ndir /g\n\
-        dir /h\ndir /i\ndir /j\ndir /k\ndir /l\ndir /m\ndir /n\ndir /o\n";
-    expect_made(&rt, fourteen, 0, "ok 15 inodes 15 blocks\n");
-    expect_fault(&rt, fifteen, 0, "fault 4 Inodes\n");
+    static IMAGES: [(&str, usize, &str); 1] = [(FOURTEEN, 0, "ok 15 inodes 15 blocks\n")];
+    static FAULTS: [(&str, usize, &str); 1] = [(FIFTEEN, 0, "fault 4 Inodes\n")];
+    expect_images(&rt, &IMAGES);
+    expect_faults(&rt, &FAULTS);
 }
+
+const LONG_NAMES: &str =
+    "dir /abcdefghijklmn\n\ndir /abcdefghijklmn/b\ndev /b 1 32767\nfile /abcdefghijklmn/b/c host";
 
 #[test]
 fn tells_what_is_wrong_with_paths(rt: HostRuntime) {
-    for (manifest, line) in [
-        ("dir /a/b", "fault 5 Parent\n"),
-        ("dir /a/", "fault 1 Name\n"),
-        ("dir a", "fault 1 Name\n"),
-        ("dir /", "fault 1 Name\n"),
-        ("dir ", "fault 1 Name\n"),
-        ("dir /.", "fault 1 Name\n"),
-        ("dir /a\ndir /a/..", "fault 1 Name\n"),
-        ("dir /abcdefghijklmno", "fault 1 Name\n"),
-        ("dev /a 1 2\ndir /a/b", "fault 5 Parent\n"),
-        ("dir /a\nfile /a host", "fault 2 Twice\n"),
-    ] {
-        expect_fault(&rt, manifest, 0, line);
-    }
-    let manifest =
-        "dir /abcdefghijklmn\n\ndir /abcdefghijklmn/b\ndev /b 1 32767\nfile /abcdefghijklmn/b/c host";
-    expect_made(&rt, manifest, 3, "ok 5 inodes 4 blocks\n");
+    static FAULTS: [(&str, usize, &str); 10] = [
+        ("dir /a/b", 0, "fault 5 Parent\n"),
+        ("dir /a/", 0, "fault 1 Name\n"),
+        ("dir a", 0, "fault 1 Name\n"),
+        ("dir /", 0, "fault 1 Name\n"),
+        ("dir ", 0, "fault 1 Name\n"),
+        ("dir /.", 0, "fault 1 Name\n"),
+        ("dir /a\ndir /a/..", 0, "fault 1 Name\n"),
+        ("dir /abcdefghijklmno", 0, "fault 1 Name\n"),
+        ("dev /a 1 2\ndir /a/b", 0, "fault 5 Parent\n"),
+        ("dir /a\nfile /a host", 0, "fault 2 Twice\n"),
+    ];
+    static IMAGES: [(&str, usize, &str); 1] = [(LONG_NAMES, 3, "ok 5 inodes 4 blocks\n")];
+    expect_faults(&rt, &FAULTS);
+    expect_images(&rt, &IMAGES);
 }
 
 #[test]
 fn tells_lines_that_cannot_be_read(rt: HostRuntime) {
-    for (manifest, line) in [
-        ("dir", "manifest line 1\n"),
-        ("\n\nfile /a", "manifest line 3\n"),
-        ("dir  /a", "manifest line 1\n"),
-        ("dir /a /b", "manifest line 1\n"),
-        ("dir /a\nlink /a /b\n", "manifest line 2\n"),
-        ("dev /a 1", "manifest line 1\n"),
-        ("dev /a 1 32768", "manifest line 1\n"),
-        ("dev /a 1 -1", "manifest line 1\n"),
-        ("dev /a 1 2 3", "manifest line 1\n"),
-        (" ", "manifest line 1\n"),
-        ("file /a none\ndir", "manifest line 2\n"),
-        ("dir /a/b\nfile /a none", "cannot read none\n"),
-    ] {
-        expect_fault(&rt, manifest, 0, line);
+    static FAULTS: [(&str, usize, &str); 12] = [
+        ("dir", 0, "manifest line 1\n"),
+        ("\n\nfile /a", 0, "manifest line 3\n"),
+        ("dir  /a", 0, "manifest line 1\n"),
+        ("dir /a /b", 0, "manifest line 1\n"),
+        ("dir /a\nlink /a /b\n", 0, "manifest line 2\n"),
+        ("dev /a 1", 0, "manifest line 1\n"),
+        ("dev /a 1 32768", 0, "manifest line 1\n"),
+        ("dev /a 1 -1", 0, "manifest line 1\n"),
+        ("dev /a 1 2 3", 0, "manifest line 1\n"),
+        (" ", 0, "manifest line 1\n"),
+        ("file /a none\ndir", 0, "manifest line 2\n"),
+        ("dir /a/b\nfile /a none", 0, "cannot read none\n"),
+    ];
+    expect_faults(&rt, &FAULTS);
+}
+
+// Jobs on files that are not there, or can't be written, or are no image, and standard error.
+static UNUSABLE: [(Job<'static>, &str); 4] = [
+    (
+        Job::Mkfs(Mkfs {
+            size: 32,
+            inodes: 16,
+            manifest: "none",
+            image: "image",
+        }),
+        "cannot read none\n",
+    ),
+    (
+        Job::Mkfs(Mkfs {
+            size: 32,
+            inodes: 16,
+            manifest: "manifest",
+            image: "none",
+        }),
+        "cannot write none\n",
+    ),
+    (Job::Check(Check { image: "none" }), "cannot read none\n"),
+    (Job::Check(Check { image: "image" }), "fault 1 Length\n"),
+];
+
+#[test]
+fn tells_files_that_cannot_be_used(rt: HostRuntime) {
+    let mut files = with_files(&rt, "", 0);
+    for (job, line) in &UNUSABLE {
+        expect(&rt, &mut files, job, "", line, 1);
     }
 }
 
 #[test]
-fn tells_files_that_cannot_be_used(rt: HostRuntime) {
-    let mut disk = with_files(&rt, "", 0);
-    let job = Job::Mkfs(Mkfs {
-        size: 32,
-        inodes: 16,
-        manifest: "none",
-        image: "image",
-    });
-    expect(&rt, &mut disk, job, "", "cannot read none\n", 1);
-    let job = Job::Mkfs(Mkfs {
-        size: 32,
-        inodes: 16,
-        manifest: "manifest",
-        image: "none",
-    });
-    expect(&rt, &mut disk, job, "", "cannot write none\n", 1);
-    let job = Job::Check(Check { image: "none" });
-    expect(&rt, &mut disk, job, "", "cannot read none\n", 1);
-    expect(&rt, &mut disk, check(), "", "fault 1 Length\n", 1);
-}
-
-#[test]
 fn checks_what_was_made(rt: HostRuntime) {
-    let mut disk = with_files(&rt, "file /a host\ndir /b", 2000);
-    expect(&rt, &mut disk, mkfs(32, 16), "", "", 0);
-    expect(&rt, &mut disk, check(), "ok 3 inodes 4 blocks\n", "", 0);
-    let _ = disk.image.pop();
-    expect(&rt, &mut disk, check(), "", "fault 1 Length\n", 1);
-}
-
-#[test]
-fn knows_the_words_of_images(rt: HostRuntime) {
-    let alloc = rt.alloc();
-    let words = ["xv6", "mkfs", "a", "b"];
-    let found = job(alloc, words.as_slice()).expect(&rt, "a job");
-    let (manifest, image) = ("a", "b");
-    let (size, inodes) = (2000, 200);
-    assert!(rt;
-        found
-            == Job::Mkfs(Mkfs {
-                size,
-                inodes,
-                manifest,
-                image
-            })
-    );
-    let words = ["xv6", "mkfs", "--inodes", "16", "--size=32", "a", "b"];
-    let found = job(alloc, words.as_slice()).expect(&rt, "a job");
-    let (size, inodes) = (32, 16);
-    assert!(rt;
-        found
-            == Job::Mkfs(Mkfs {
-                size,
-                inodes,
-                manifest,
-                image
-            })
-    );
-    let words = ["xv6", "check", "b"];
-    let found = job(alloc, words.as_slice()).expect(&rt, "a job");
-    assert!(rt; found == Job::Check(Check { image }));
+    let mut files = with_files(&rt, "file /a host\ndir /b", 2000);
+    expect_made(&rt, &mut files, &mkfs(32, 16), "ok 3 inodes 4 blocks\n");
+    let _ = files.image.pop();
+    expect(&rt, &mut files, &CHECK, "", "fault 1 Length\n", 1);
 }

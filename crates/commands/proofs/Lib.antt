@@ -1,0 +1,5 @@
+pub mod EventLemmas
+pub mod PlayLemmas
+pub mod LineLemmas
+pub mod CommandLineLemmas
+pub mod ManifestLemmas

@@ -1,0 +1,30 @@
+use Rattle.std.proofs.Common.{arith, length, map, ◌<◌}
+use Rattle.std.proofs.lemmas.List.{length-map}
+use Rattle.std.proofs.lemmas.Result.{err_from_is_err_and}
+use Rattle.machine.specs.RunLemmas.{Rises-later, goes_on, so_far_at_first, stops}
+use Rattle.unixmodel.specs.declared.event.Event.TheVariants.{Key}
+use Rattle.commands.proofs.EventLemmas.{press-next}
+use Rattle.commands.proofs.play.press.Goals as goal
+
+pub loop-key-init : goal.loop-key-init
+loop-key-init g c = record {
+  so_far = so_far_at_first _ _ _ c.requires;
+  later = omega arith;
+}
+
+pub returns-in_err-step-clause-gives : goal.returns-in_err-step-clause-gives
+returns-in_err-step-clause-gives g c =
+    let p = err_from_is_err_and c.from_residual.result c.from_residual.ensures.1 in
+    let before = c.loop-key.invariant in
+    let more : c.loop-key.key-index < length (map Key c.args.keys.now) = rw (length-map c.args.keys.now Key) c.loop-key-test.true in
+    rw (p.1, p.2) (stops _ _ _ _ c.loop-key.key-index (map Key c.args.keys.now) _ _ _ _ _ _ _ more (press-next _ _ c.loop-key-test.true) before.so_far
+    (λ r. Rises-later _ _ _ before.later r c.step.ensures.later) c.in_err-step.ensures.gives)
+
+pub loop-key-preserved : goal.loop-key-preserved
+loop-key-preserved g c =
+    let before = c.loop-key.invariant in
+    let more : c.loop-key.key-index < length (map Key c.args.keys.now) = rw (length-map c.args.keys.now Key) c.loop-key-test.true in
+    record {
+      so_far = goes_on _ _ _ _ c.loop-key.key-index (map Key c.args.keys.now) _ _ _ _ more (press-next _ _ c.loop-key-test.true) before.so_far c.in_ok-step.ensures.gives.1;
+      later = let l = before.later in let m = c.step.ensures.later in omega arith;
+    }

@@ -1,0 +1,17 @@
+-- The events that a script stands for.
+use Rattle.std.specs.Prelude.{List, [], ◌∷◌, ◌++◌, map, replicate}
+use Rattle.unixmodel.specs.declared.event.Event.{Event}
+use Rattle.unixmodel.specs.declared.event.Event.TheVariants.{Key, Step, Tick}
+use Rattle.commands.specs.declared.script.lines.Command.{Command}
+use Rattle.commands.specs.declared.script.lines.Command.TheVariants as command
+
+-- a typed line ends with the key 0x0a
+abbrev pub events_of : Command → List Event
+events_of (command.Step n) = replicate n Step
+events_of (command.Tick n) = replicate n Tick
+events_of (command.Keys keys) = map Key keys.items
+events_of (command.Type text) = map Key text.now ++ map Key (10 ∷ [])
+
+abbrev pub script_events : List Command → List Event
+script_events [] = []
+script_events (c ∷ commands) = events_of c ++ script_events commands

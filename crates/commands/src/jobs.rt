@@ -1,0 +1,43 @@
+//! What the program can do.
+
+/// A command, with its words, numbers and flags.
+#[derive(Clone, Copy, PartialEq, Eq)]
+pub enum Job<'a> {
+    /// Boots a flat program and gives it the events of a script.
+    Flat(Flat<'a>),
+    /// Makes a disk image.
+    Mkfs(Mkfs<'a>),
+    /// Checks a disk image.
+    Check(Check<'a>),
+}
+
+/// The words of the command `flat`.
+#[derive(Clone, Copy, PartialEq, Eq)]
+pub struct Flat<'a> {
+    /// How many frames the memory has.
+    pub frames: u32,
+    /// The name of the program's file.
+    pub file: &'a str,
+    /// The name of the script's file.
+    pub script: &'a str,
+}
+
+/// The words of the command `mkfs`.
+#[derive(Clone, Copy, PartialEq, Eq)]
+pub struct Mkfs<'a> {
+    /// How many blocks of 1024 bytes the image has.
+    pub size: u32,
+    /// How many inodes it has.
+    pub inodes: u32,
+    /// The name of the manifest's file.
+    pub manifest: &'a str,
+    /// The name of the image's file, which is written.
+    pub image: &'a str,
+}
+
+/// The word of the command `check`.
+#[derive(Clone, Copy, PartialEq, Eq)]
+pub struct Check<'a> {
+    /// The name of the image's file.
+    pub image: &'a str,
+}

@@ -1,0 +1,77 @@
+//! Stored words, and the jobs that they name.
+use clap::error::ErrorKind;
+use commands::{Check, Flat, Job, Mkfs, job};
+
+static JOBS: [(&[&str], Job<'static>); 5] = [
+    (
+        &["xv6", "flat", "a", "b"],
+        Job::Flat(Flat {
+            frames: 256,
+            file: "a",
+            script: "b",
+        }),
+    ),
+    (
+        &["xv6", "flat", "--frames", "4294967295", "--", "a", "-b"],
+        Job::Flat(Flat {
+            frames: 4294967295,
+            file: "a",
+            script: "-b",
+        }),
+    ),
+    (
+        &["xv6", "mkfs", "a", "b"],
+        Job::Mkfs(Mkfs {
+            size: 2000,
+            inodes: 200,
+            manifest: "a",
+            image: "b",
+        }),
+    ),
+    (
+        &["xv6", "mkfs", "--inodes", "16", "--size=32", "a", "b"],
+        Job::Mkfs(Mkfs {
+            size: 32,
+            inodes: 16,
+            manifest: "a",
+            image: "b",
+        }),
+    ),
+    (&["xv6", "check", "b"], Job::Check(Check { image: "b" })),
+];
+
+#[test]
+fn knows_its_words(rt: HostRuntime) {
+    for (words, wanted) in &JOBS {
+        let found = job(rt.alloc(), words).expect(&rt, "a job");
+        assert!(rt; found == *wanted);
+    }
+}
+
+static REFUSALS: [(&[&str], ErrorKind); 6] = [
+    (&["xv6", "--help", "", ""], ErrorKind::DisplayHelp),
+    (&["xv6", "flat", "a", "--help"], ErrorKind::DisplayHelp),
+    (&["xv6", "sharp", "a", "b"], ErrorKind::InvalidSubcommand),
+    (
+        &["xv6", "flat", "--frames=1", "a"],
+        ErrorKind::MissingRequiredArgument,
+    ),
+    (
+        &["xv6", "flat", "--frames=x", "a"],
+        ErrorKind::ValueValidation,
+    ),
+    (
+        &["xv6", "flat", "--frames=4294967296", "a"],
+        ErrorKind::ValueValidation,
+    ),
+];
+
+#[test]
+fn refuses_other_words(rt: HostRuntime) {
+    for (words, kind) in &REFUSALS {
+        match job(rt.alloc(), words) {
+            Ok(_) => assert!(rt; false, "a job"),
+            Err(error) => assert!(rt; error.kind() == *kind, "{error}"),
+        }
+    }
+}
