@@ -3,3 +3,4 @@ pub mod Pick
 pub mod Sound
 pub mod Whole
 pub mod Turns
+pub mod Lending

@@ -1,7 +1,8 @@
 //! The table of processes.
 ghost use Rattle.std.specs.Prelude.{◌≡◌, ◌+◌, ◌<◌, ◌≤◌, ◌%◌, List, ℕ, Some, None, true, false, length, map, option_map, position, is_some, IfSome, IfNone, IfOk, OnErr};
-ghost use Rattle.std.specs.Option.{option_copied};
-ghost use Rattle.unixmodel.specs.Files.{clear, free_slot, free_slots, put, slot};
+ghost use Rattle.std.specs.Borrow.{sem};
+ghost use Rattle.std.specs.Option.{option_copied, option_copied_mut};
+ghost use Rattle.unixmodel.specs.Files.{free_slot, free_slots, put, slot};
 ghost use Rattle.unixmodel.specs.ProcessCalls.{status_of};
 ghost use Rattle.proc.specs.Places.{is_zombie_child_of, orphaned, place_where, zombie_of};
 ghost use Rattle.unixmodel.specs.State.{holds, place_limit};
@@ -75,15 +76,13 @@ pub fn zombie_child(places: &[Place], parent: u32) -> Option<usize>
 }
 
 // A child of a process goes to process 1.
-fn orphan(place: Place, pid: u32) -> Place
-    ensures { result ≡ option_map (orphaned pid) place }
+fn orphan(place: &mut Place, pid: u32)
+    ensures { place.new ≡ option_map (orphaned pid) place.old }
 {
-    match place {
-        Some(process) if process.parent == pid => Some(Process {
-            parent: 1,
-            ..process
-        }),
-        _ => place,
+    if let Some(process) = place
+        && process.parent == pid
+    {
+        process.parent = 1;
     }
 }
 
@@ -92,7 +91,7 @@ fn orphan_all(places: &mut [Place], pid: u32)
     ensures { places.new ≡ map (option_map (orphaned pid)) places.old }
 {
     for place in places.iter_mut() {
-        *place = orphan(*place, pid);
+        orphan(place, pid);
     }
 }
 
@@ -121,6 +120,7 @@ fn status(mode: Mode) -> i32
 
 impl Table {
     ghost use Rattle.proc.specs.Places.{Places, changed, exited, has_pid, is_child_of, is_running, left, reaped_at, seat_of, seated, with_descriptor, with_mark, with_mode, with_running, with_size, without, zombie_place};
+    ghost use Rattle.proc.specs.Lending.{LendsProcess};
     ghost use Rattle.proc.specs.Pick.{Answers, Picks};
 
     /// Free places. The first process gets this pid.
@@ -158,6 +158,14 @@ impl Table {
         }
     }
 
+    // The process in a place, to be changed there.
+    fn process_mut(&mut self, at: usize) -> Option<&mut Process>
+        ensures* writes_back { sem 𝓛 (LendsProcess self.entry at result) }
+        ensures process { option_copied_mut result ≡ slot self.old.places at }
+    {
+        self.places.get_mut(at)?.as_mut()
+    }
+
     /// Puts a process in a place.
     pub fn put(&mut self, at: usize, process: Process)
         requires { at < 64 }
@@ -170,8 +178,8 @@ impl Table {
     pub fn set_size(&mut self, at: usize, size: u64)
         ensures { self.new ≡ changed self.old at (with_size size) }
     {
-        if let Some(process) = self.process(at).copied() {
-            self.put(at, Process { size, ..process });
+        if let Some(process) = self.process_mut(at) {
+            process.size = size;
         }
     }
 
@@ -180,9 +188,8 @@ impl Table {
         requires { descriptor < 16 }
         ensures { self.new ≡ changed self.old at (with_descriptor descriptor id) }
     {
-        if let Some(mut process) = self.process(at).copied() {
+        if let Some(process) = self.process_mut(at) {
             process.descriptors[descriptor] = id;
-            self.put(at, process);
         }
     }
 
@@ -190,14 +197,8 @@ impl Table {
     pub fn mark(&mut self, at: usize)
         ensures { self.new ≡ changed self.old at with_mark }
     {
-        if let Some(process) = self.process(at).copied() {
-            self.put(
-                at,
-                Process {
-                    killed: true,
-                    ..process
-                },
-            );
+        if let Some(process) = self.process_mut(at) {
+            process.killed = true;
         }
     }
 
@@ -205,16 +206,10 @@ impl Table {
     pub fn leave(&mut self, at: usize, registers: &[u64; 32], pc: u64, mode: Mode)
         ensures { self.new ≡ changed self.old at (left registers.now pc mode) }
     {
-        if let Some(process) = self.process(at).copied() {
-            self.put(
-                at,
-                Process {
-                    registers: *registers,
-                    pc,
-                    mode,
-                    ..process
-                },
-            );
+        if let Some(process) = self.process_mut(at) {
+            process.registers = *registers;
+            process.pc = pc;
+            process.mode = mode;
         }
     }
 
@@ -275,23 +270,6 @@ impl Table {
         None
     }
 
-    // A place.
-    fn place(&self, at: usize) -> Place
-        requires { at < 64 }
-        ensures { result ≡ slot self.now.places at }
-    {
-        let _ = &self.last;
-        self.places[at]
-    }
-
-    // A place becomes free.
-    fn clear(&mut self, at: usize)
-        requires { at < 64 }
-        ensures { self.new ≡ record self.old { places = clear self.old.places at } }
-    {
-        self.places[at] = None;
-    }
-
     // The children of a process go to process 1.
     fn orphan_children(&mut self, pid: u32)
         ensures { self.new ≡ record self.old { places = map (option_map (orphaned pid)) self.old.places } }
@@ -301,17 +279,15 @@ impl Table {
 
     // The process in a place gets a mode.
     fn set_mode(&mut self, at: usize, mode: Mode)
-        requires { at < 64 }
         ensures { self.new ≡ changed self.old at (with_mode mode) }
     {
-        if let Some(process) = self.place(at) {
-            self.put(at, Process { mode, ..process });
+        if let Some(process) = self.process_mut(at) {
+            process.mode = mode;
         }
     }
 
     /// The process in a place runs. Nothing changes where the place is free.
     pub fn run(&mut self, at: usize)
-        requires { at < 64 }
         ensures { self.new ≡ changed self.old at (with_mode Running) }
     {
         self.set_mode(at, Mode::Running);
@@ -385,10 +361,9 @@ impl Table {
     /// The process in a place ends: it gives up its descriptors and its directory, and becomes a zombie with this
     /// status, and its children go to process 1. Nothing changes where the place is free.
     pub fn exit(&mut self, at: usize, status: i32)
-        requires { at < 64 }
         ensures { self.new ≡ exited self.old at status }
     {
-        if let Some(process) = self.place(at) {
+        if let Some(process) = self.process(at).copied() {
             self.orphan_children(process.pid);
             self.put(at, zombie(process, status));
         }
@@ -401,9 +376,7 @@ impl Table {
         ensures within { IfSome result (λ reaped. reaped.place < 64) }
     {
         let at = zombie_child(self.places(), parent)?;
-        let place = self.place(at);
-        self.clear(at);
-        let process = place?;
+        let process = self.places[at].take()?;
         Some(Reaped {
             place: at,
             pid: process.pid,
