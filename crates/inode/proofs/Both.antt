@@ -10,14 +10,14 @@ use Rattle.layout.specs.NumberLemmas.{number_at-take}
 use Rattle.layout.specs.Super.{bitmap_start_of}
 use Rattle.layout.specs.declared.DiskInode.{DiskInode}
 use Rattle.layout.specs.declared.Geometry.{Geometry}
-use Rattle.layout.specs.Image.{Asks, IsFree, IsInode, IsSpare, IsUsed, bit_of, blocks_for, bytes_of, free_blocks, inode_at, slot_in, slot_of, taken_for}
-use Rattle.layout.specs.Sound.{IsSound}
+use Rattle.layout.specs.Image.{Asks, IsFree, IsSpare, IsUsed, bit_of, blocks_for, bytes_of, free_blocks, inode_at, slot_in, slot_of, taken_for}
 use Rattle.layout.specs.Slots.{slot_in-direct, slot_in-indirect, slot_in-last}
 use Rattle.layout.specs.Grow.{Grows, IsFresh}
 use Rattle.balloc.specs.Bitmap.{TakesTwo}
 use Rattle.balloc.specs.Counting.{free_blocks-take}
+use Rattle.inode.specs.Held.{HasInode}
 use Rattle.inode.specs.Writing.{Prepares}
-use Rattle.inode.proofs.Growing.{Grows-step, HoldsBytes-append, Leaves, Leaves-put, PutsBlock, PutsBlock-write, own_asks, own_slot, own_used, taken_large, taken_small, used_apart}
+use Rattle.inode.proofs.Growing.{Grows-step, HoldsBytes-append, Leaves, Leaves-put, PutsBlock, PutsBlock-write, own_asks, own_node, own_slot, own_used, taken_large, taken_small, used_apart}
 use Rattle.inode.proofs.Steps.{free_put}
 
 -- a number of a block that is written whole
@@ -26,7 +26,7 @@ number_at-whole new block i e f h =
     sym (number_at-take 1024 i (splice 0 new block) (omega arith))
     ∙ ap (λ l. number_at l i) (part-splice_same 0 1024 new block (sym e) (omega arith))
 
-module _ (g : Geometry) (old m2 m3 mid : List (List ℕ)) (n : ℕ) (inode : DiskInode) (b x : ℕ) (bytes index : List ℕ) (sound : IsSound g old) (used : IsInode old g.inodes n) (same : inode ≡ inode_at old n) (fits : Fits inode)
+module _ {g : Geometry} {old m2 m3 mid : List (List ℕ)} {n : ℕ} {inode : DiskInode} {b x : ℕ} (bytes index : List ℕ) (held : HasInode g old n inode) (fits : Fits inode)
     (whole : inode.size ≡ 12 * 1024) (some : 0 < length bytes) (room : length bytes ≤ 1024) (takes : TakesTwo g old m2 b x)
     (index_long : length index ≡ 1024) (first : number_at index 0 ≡ b) (others : (k : ℕ) → 1 ≤ k → number_at index k ≡ 0)
     (written : m3 ≡ set m2 b (splice 0 bytes (block_at m2 b)))
@@ -64,7 +64,7 @@ module _ (g : Geometry) (old m2 m3 mid : List (List ℕ)) (n : ℕ) (inode : Dis
 
   leaves_two : Leaves g old m2 F F
   leaves_two = record {
-    count = takes.second.takes.parts.count ∙ sym sound.parts.count;
+    count = takes.second.takes.parts.count ∙ sym held.sound.parts.count;
     sizes = takes.second.takes.parts.sizes;
     front = λ k h. takes.second.takes.before k h ∙ takes.first.takes.before k h;
     rest = λ p h apart. takes.second.takes.after p h ∙ takes.first.takes.after p h;
@@ -114,24 +114,24 @@ module _ (g : Geometry) (old m2 m3 mid : List (List ℕ)) (n : ℕ) (inode : Dis
 
   kept : (j : ℕ) → IsUsed old g.inodes n j → slot_in mid grown j ≡ slot_of old n j
   kept j u =
-      let l : j < 12 = asks_low j (own_asks g old n inode sound used same j u) in
+      let l : j < 12 = asks_low j (own_asks held j u) in
       slot_in-direct mid grown j l ∙ get_or-set_other inode.addresses 12 j x 0 (omega arith)
-      ∙ sym (slot_in-direct old inode j l) ∙ sym (own_slot g old n inode sound used same j)
+      ∙ sym (slot_in-direct old inode j l) ∙ sym (own_slot held j)
 
   fresh_is : (j : ℕ) → IsFresh g old n grown j → (j ≡ 12) ⊎ (j ≡ 268)
   fresh_is j f = elim f.0 [
     | inl h ↦ elim (cases_lt j 12) [
-      | inl l ↦ absurd (f.1 (own_used g old n inode sound used same j (inl (omega arith))))
+      | inl l ↦ absurd (f.1 (own_used held j (inl (omega arith))))
       | inr l ↦ inl (omega arith)
     ]
     | inr h ↦ inr h.0
   ]
 
   fresh_b : IsFresh g old n grown 12
-  fresh_b = (inl (omega arith), λ u. let l = asks_low 12 (own_asks g old n inode sound used same 12 u) in omega arith)
+  fresh_b = (inl (omega arith), λ u. let l = asks_low 12 (own_asks held 12 u) in omega arith)
 
   fresh_x : IsFresh g old n grown 268
-  fresh_x = (inr (refl, omega arith), λ u. let l = asks_low 268 (own_asks g old n inode sound used same 268 u) in omega arith)
+  fresh_x = (inr (refl, omega arith), λ u. let l = asks_low 268 (own_asks held 268 u) in omega arith)
 
   fresh_F : (j : ℕ) → IsFresh g old n grown j → F (slot_in mid grown j)
   fresh_F j f = elim (fresh_is j f) [
@@ -164,20 +164,20 @@ module _ (g : Geometry) (old m2 m3 mid : List (List ℕ)) (n : ℕ) (inode : Dis
   ]
 
   grows : Grows g old mid n grown
-  grows = Grows-step g old n inode sound used same mid grown F F leaves_both (λ p t. inl (F_free p t)) choice refl (omega arith) (omega arith)
+  grows = Grows-step held mid grown F F leaves_both (λ p t. inl (F_free p t)) choice refl (omega arith) (omega arith)
       kept fresh_F F_free fresh_at once spare
 
   pub Prepares-both : Prepares g old mid n grown (splice inode.size bytes (bytes_of old n))
   Prepares-both = record {
     grows = grows;
-    holds = HoldsBytes-append g old n inode sound used same mid grown kept b bytes (block_at m2 b) (omega arith) room refl
+    holds = HoldsBytes-append held mid grown kept b bytes (block_at m2 b) (omega arith) room refl
         (let e : inode.size / 1024 ≡ 12 = omega arith in ap (slot_in mid grown) e ∙ here_b)
         (puts_x.rest b (λ e. x_apart (sym e)) ∙ puts_b.here)
-        (λ j l u. leaves_both.rest (slot_of old n j) (sound.in_range n j u).0 (λ t. elim t [
-          | inl e ↦ used_apart g old n inode sound used same j b u b_free e
-          | inr e ↦ used_apart g old n inode sound used same j x u x_free e
+        (λ j l u. leaves_both.rest (slot_of old n j) (held.sound.in_range n j u).0 (λ t. elim t [
+          | inl e ↦ used_apart held j b u b_free e
+          | inr e ↦ used_apart held j x u x_free e
         ]));
-    same = record { kind = ap (λ (i : DiskInode). i.kind) same; major = ap (λ (i : DiskInode). i.major) same; minor = ap (λ (i : DiskInode). i.minor) same; links = ap (λ (i : DiskInode). i.links) same };
+    same = own_node held grown refl refl refl refl;
     fits = record {
       kind = fits.kind;
       major = fits.major;
@@ -186,7 +186,7 @@ module _ (g : Geometry) (old m2 m3 mid : List (List ℕ)) (n : ℕ) (inode : Dis
       size = omega arith;
       addresses = λ i h. elim (cases_eq i 12) [
         | inl e ↦ let v : get_or (set inode.addresses 12 x) i 0 ≡ x = ap (λ q. get_or (set inode.addresses 12 x) q 0) e ∙ x_address in
-            let z = x_free.high in let y = sound.parts.size_high in omega arith
+            let z = x_free.high in let y = held.sound.parts.size_high in omega arith
         | inr e ↦ let v : get_or (set inode.addresses 12 x) i 0 ≡ get_or inode.addresses i 0 = get_or-set_other inode.addresses 12 i x 0 e in
             let z = fits.addresses i (omega (arith, length-set inode.addresses 12 x)) in omega arith
       ];
@@ -198,7 +198,7 @@ module _ (g : Geometry) (old m2 m3 mid : List (List ℕ)) (n : ℕ) (inode : Dis
         let t : free_blocks g takes.mid + 1 ≡ free_blocks g old = free_blocks-take g old takes.mid b b_free takes.first.takes in
         let u : free_blocks g m2 + 1 ≡ free_blocks g takes.mid = free_blocks-take g takes.mid m2 x takes.second.lowest.free takes.second.takes in
         let c : taken_for (inode.size + length bytes) ≡ blocks_for (inode.size + length bytes) + 1 = taken_large (inode.size + length bytes) (omega arith) in
-        let d : taken_for (inode_at old n).size ≡ blocks_for inode.size = ap (λ (i : DiskInode). taken_for i.size) (sym same) ∙ taken_small inode.size (omega arith) in
+        let d : taken_for (inode_at old n).size ≡ blocks_for inode.size = ap (λ (i : DiskInode). taken_for i.size) (sym held.same) ∙ taken_small inode.size (omega arith) in
         let e : blocks_for (inode.size + length bytes) ≡ blocks_for inode.size + 1 = omega arith in
         omega arith;
   }

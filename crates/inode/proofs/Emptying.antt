@@ -7,13 +7,13 @@ use Rattle.layout.specs.Super.{bitmap_start_of, data_start_of}
 use Rattle.layout.specs.declared.DiskInode.{DiskInode}
 use Rattle.layout.specs.declared.Geometry.{Geometry}
 use Rattle.layout.specs.Grow.{WritesInode}
-use Rattle.layout.specs.Image.{IsInode, IsUsed, bit_of, blocks_for, inode_at, slot_in, slot_of, taken_for}
-use Rattle.layout.specs.Sound.{IsSound}
+use Rattle.layout.specs.Image.{IsUsed, bit_of, blocks_for, slot_in, slot_of, taken_for}
 use Rattle.layout.specs.Slots.{slot_of-last, used_last}
 use Rattle.balloc.specs.Bitmap.{SetsBit}
+use Rattle.inode.specs.Held.{HasInode}
 use Rattle.inode.specs.Freeing.{Freed, Freed-as, Freed-more, Freed-taken, IsOwn, Wrote-freed, slot_in_freed}
 use Rattle.inode.specs.Writing.{Wrote}
-use Rattle.inode.proofs.Growing.{own_fits, own_used, taken_large, taken_small}
+use Rattle.inode.proofs.Growing.{own_fits, own_node, own_used, taken_large, taken_small}
 
 -- numbers that are 0, and past them
 pub zero_at : (n k : ℕ) → ◌≡◌ {A = ℕ} (get_or (replicate n 0) k 0) 0
@@ -24,44 +24,44 @@ zero_at n k = elim (cases_lt k n) [
 
 -- ---- block k, where those before it are free
 
-module _ (g : Geometry) (old mid : List (List ℕ)) (n k : ℕ) (inode : DiskInode) (sound : IsSound g old) (used : IsInode old g.inodes n) (same : inode ≡ inode_at old n)
+module _ {g : Geometry} {old mid : List (List ℕ)} {n k : ℕ} {inode : DiskInode} (held : HasInode g old n inode)
     (freed : Freed g old mid n (λ j. j < k) k) (below : k < blocks_for inode.size) where
   here_used : IsUsed old g.inodes n k
-  here_used = own_used g old n inode sound used same k (inl below)
+  here_used = own_used held k (inl below)
 
   pub here_low : k < 268
-  here_low = let f : inode.size ≤ 274432 = own_fits g old n inode sound used same in omega arith
+  here_low = let f : inode.size ≤ 274432 = own_fits held in omega arith
 
   pub here_numbers : 12 ≤ k → get_or inode.addresses 12 0 < length mid
   here_numbers h =
       let last : IsUsed old g.inodes n 268 = used_last old g.inodes n k here_used h in
-      let at : slot_of old n 268 ≡ get_or inode.addresses 12 0 = slot_of-last old n ∙ ap (λ (i : DiskInode). get_or i.addresses 12 0) (sym same) in
-      omega (arith, (sound.in_range n 268 last).1, freed.parts.count)
+      let at : slot_of old n 268 ≡ get_or inode.addresses 12 0 = slot_of-last old n ∙ ap (λ (i : DiskInode). get_or i.addresses 12 0) (sym held.same) in
+      omega (arith, (held.sound.in_range n 268 last).1, freed.parts.count)
 
-  pub here_is : (b : ℕ) → b ≡ slot_in mid inode k → b ≡ slot_of old n k
-  here_is b e = e ∙ slot_in_freed g old mid n k k (λ j. j < k) inode sound freed same here_used
+  pub here_is : {b : ℕ} → b ≡ slot_in mid inode k → b ≡ slot_of old n k
+  here_is {b} e = e ∙ slot_in_freed g old mid n k k (λ j. j < k) inode held.sound freed held.same here_used
 
-  module _ (now : List (List ℕ)) (b : ℕ) (now_is : now ≡ mid) (b_is : b ≡ slot_in mid inode k) where
+  module _ {now : List (List ℕ)} {b : ℕ} (now_is : now ≡ mid) (b_is : b ≡ slot_in mid inode k) where
     pub here_first : data_start_of g.size g.inodes ≤ b
-    here_first = let e : b ≡ slot_of old n k = here_is b b_is in omega (arith, (sound.in_range n k here_used).0)
+    here_first = let e : b ≡ slot_of old n k = here_is b_is in omega (arith, (held.sound.in_range n k here_used).0)
 
     pub here_end : b < g.size
-    here_end = let e : b ≡ slot_of old n k = here_is b b_is in omega (arith, (sound.in_range n k here_used).1)
+    here_end = let e : b ≡ slot_of old n k = here_is b_is in omega (arith, (held.sound.in_range n k here_used).1)
 
     pub here_taken : bit_of now (bitmap_start_of g.inodes) b ≡ 1
     here_taken =
-        ap (λ x. bit_of x (bitmap_start_of g.inodes) b) now_is ∙ ap (bit_of mid (bitmap_start_of g.inodes)) (here_is b b_is)
-        ∙ Freed-taken g old mid n k k (λ j. j < k) sound freed here_used (λ h. omega arith)
+        ap (λ x. bit_of x (bitmap_start_of g.inodes) b) now_is ∙ ap (bit_of mid (bitmap_start_of g.inodes)) (here_is b_is)
+        ∙ Freed-taken g old mid n k k (λ j. j < k) held.sound freed here_used (λ h. omega arith)
 
-    pub here_freed : (new : List (List ℕ)) → SetsBit g now new b 0 → Freed g old new n (λ j. j < k + 1) (k + 1)
-    here_freed new sets =
-        Freed-more g old mid n k k (λ j. j < k) sound freed here_used (λ h. omega arith) new (λ j. j < k + 1)
-        (subst (λ x. SetsBit g mid new x 0) (here_is b b_is) (subst (λ x. SetsBit g x new b 0) now_is sets))
+    pub here_freed : {new : List (List ℕ)} → SetsBit g now new b 0 → Freed g old new n (λ j. j < k + 1) (k + 1)
+    here_freed {new} sets =
+        Freed-more g old mid n k k (λ j. j < k) held.sound freed here_used (λ h. omega arith) new (λ j. j < k + 1)
+        (subst (λ x. SetsBit g mid new x 0) (here_is b_is) (subst (λ x. SetsBit g x new b 0) now_is sets))
         (λ j h. elim (cases_lt j k) [ inl l ↦ inl l | inr l ↦ inr (omega arith) ]) (λ j h. omega arith) (omega arith)
 
 -- ---- the end
 
-module _ (g : Geometry) (old mid : List (List ℕ)) (n count : ℕ) (inode : DiskInode) (sound : IsSound g old) (used : IsInode old g.inodes n) (same : inode ≡ inode_at old n)
+module _ {g : Geometry} {old mid : List (List ℕ)} {n count : ℕ} {inode : DiskInode} (held : HasInode g old n inode)
     (freed : Freed g old mid n (λ j. j < count) count) (all : count ≡ blocks_for inode.size) where
   pub freed_few : count ≤ 12 → Freed g old mid n (IsOwn inode.size) (taken_for inode.size)
   freed_few few =
@@ -72,27 +72,27 @@ module _ (g : Geometry) (old mid : List (List ℕ)) (n count : ℕ) (inode : Dis
 
   module _ (many : 12 < count) where
     last_used : IsUsed old g.inodes n 268
-    last_used = own_used g old n inode sound used same 268 (inr (refl, omega arith))
+    last_used = own_used held 268 (inr (refl, omega arith))
 
     last_is : slot_of old n 268 ≡ get_or inode.addresses 12 0
-    last_is = slot_of-last old n ∙ ap (λ (i : DiskInode). get_or i.addresses 12 0) (sym same)
+    last_is = slot_of-last old n ∙ ap (λ (i : DiskInode). get_or i.addresses 12 0) (sym held.same)
 
     last_unfreed : 268 < count → ⊥
-    last_unfreed h = let f : inode.size ≤ 274432 = own_fits g old n inode sound used same in omega arith
+    last_unfreed h = let f : inode.size ≤ 274432 = own_fits held in omega arith
 
     pub last_first : data_start_of g.size g.inodes ≤ get_or inode.addresses 12 0
-    last_first = let e : slot_of old n 268 ≡ get_or inode.addresses 12 0 = last_is in omega (arith, (sound.in_range n 268 last_used).0)
+    last_first = let e : slot_of old n 268 ≡ get_or inode.addresses 12 0 = last_is in omega (arith, (held.sound.in_range n 268 last_used).0)
 
     pub last_end : get_or inode.addresses 12 0 < g.size
-    last_end = let e : slot_of old n 268 ≡ get_or inode.addresses 12 0 = last_is in omega (arith, (sound.in_range n 268 last_used).1)
+    last_end = let e : slot_of old n 268 ≡ get_or inode.addresses 12 0 = last_is in omega (arith, (held.sound.in_range n 268 last_used).1)
 
     pub last_taken : bit_of mid (bitmap_start_of g.inodes) (get_or inode.addresses 12 0) ≡ 1
-    last_taken = ap (bit_of mid (bitmap_start_of g.inodes)) (sym last_is) ∙ Freed-taken g old mid n 268 count (λ j. j < count) sound freed last_used last_unfreed
+    last_taken = ap (bit_of mid (bitmap_start_of g.inodes)) (sym last_is) ∙ Freed-taken g old mid n 268 count (λ j. j < count) held.sound freed last_used last_unfreed
 
-    pub freed_all : (new : List (List ℕ)) → SetsBit g mid new (get_or inode.addresses 12 0) 0 → Freed g old new n (IsOwn inode.size) (taken_for inode.size)
-    freed_all new sets =
+    pub freed_all : {new : List (List ℕ)} → SetsBit g mid new (get_or inode.addresses 12 0) 0 → Freed g old new n (IsOwn inode.size) (taken_for inode.size)
+    freed_all {new} sets =
         Freed-as g old new n (count + 1) (taken_for inode.size) (λ j. (j < count) ⊎ (j ≡ 268)) (IsOwn inode.size)
-        (Freed-more g old mid n 268 count (λ j. j < count) sound freed last_used last_unfreed new (λ j. (j < count) ⊎ (j ≡ 268))
+        (Freed-more g old mid n 268 count (λ j. j < count) held.sound freed last_used last_unfreed new (λ j. (j < count) ⊎ (j ≡ 268))
         (subst (λ x. SetsBit g mid new x 0) (sym last_is) sets) (λ j q. q) (λ j h. inl h) (inr refl))
         (λ j u q. elim q [ inl h ↦ inl (omega arith) | inr h ↦ inr h.0 ])
         (λ j q. elim q [ inl h ↦ inl (omega arith) | inr h ↦ inr (h, omega arith) ])
@@ -103,13 +103,13 @@ module _ (g : Geometry) (old mid : List (List ℕ)) (n count : ℕ) (inode : Dis
 abbrev pub emptied : DiskInode → DiskInode
 emptied inode = record inode { size = 0; addresses = replicate 13 0 }
 
-module _ (g : Geometry) (old read mid new : List (List ℕ)) (n : ℕ) (inode : DiskInode) (sound : IsSound g old) (used : IsInode old g.inodes n) (same : inode ≡ inode_at old n) (read_is : read ≡ old)
+module _ {g : Geometry} {old read mid new : List (List ℕ)} {n : ℕ} {inode : DiskInode} (held : HasInode g old n inode) (read_is : read ≡ old)
     (freed : Freed g read mid n (IsOwn inode.size) (taken_for inode.size)) (writes : WritesInode g mid new n (emptied inode)) where
   pub Wrote-empty : Wrote g old new n []
   Wrote-empty =
-      Wrote-freed g old mid new n (emptied inode) sound used
-      (subst (λ (i : DiskInode). Freed g old mid n (IsOwn i.size) (taken_for i.size)) same (subst (λ x. Freed g x mid n (IsOwn inode.size) (taken_for inode.size)) read_is freed))
-      (record { kind = ap (λ (i : DiskInode). i.kind) same; major = ap (λ (i : DiskInode). i.major) same; minor = ap (λ (i : DiskInode). i.minor) same; links = ap (λ (i : DiskInode). i.links) same })
+      Wrote-freed g old mid new n (emptied inode) held.sound held.used
+      (subst (λ (i : DiskInode). Freed g old mid n (IsOwn i.size) (taken_for i.size)) held.same (subst (λ x. Freed g x mid n (IsOwn inode.size) (taken_for inode.size)) read_is freed))
+      (own_node held (emptied inode) refl refl refl refl)
       refl (zero_at 13) writes
 
 pub Fits-empty : (inode : DiskInode) → Fits inode → Fits (emptied inode)

@@ -8,47 +8,40 @@ use Rattle.layout.specs.declared.DiskInode.{DiskInode}
 use Rattle.layout.specs.declared.Geometry.{Geometry}
 use Rattle.layout.specs.Frame.{IsSound-replace, KeepsOthers, nodes_of-changed}
 use Rattle.layout.specs.Grow.{Grows, Grows-keeps, Grows-node, Grows-sound, WritesInode}
-use Rattle.layout.specs.Image.{IsInode, bit_in, blocks_for, bytes_of, free_blocks, inode_at, nodes_of, slot_in, slot_of, taken_for}
+use Rattle.layout.specs.Image.{bit_in, blocks_for, bytes_of, free_blocks, inode_at, nodes_of, slot_in, slot_of, taken_for}
 use Rattle.layout.specs.Plain.{Grows-same, HoldsBytes-same}
 use Rattle.layout.specs.Sound.{HasParts, IsSound}
 use Rattle.balloc.specs.Counting.{free_blocks-same}
-use Rattle.inode.specs.Writing.{Prepares, Wrote, node_linked}
+use Rattle.inode.specs.Held.{HasInode}
+use Rattle.inode.specs.Writing.{BeginsBlock, LacksBlocks, LiesInBlock, Prepares, Wrote, node_linked}
 use Rattle.inode.specs.Wrote.{Wrote-record, WritesInode-same}
-use Rattle.inode.proofs.Growing.{taken_large, taken_small}
+use Rattle.inode.proofs.Growing.{own_length, taken_large, taken_small}
 use Rattle.inode.proofs.Reading.{slot_in_hand}
 use Rattle.inode.proofs.Steps.{Prepares-inside, put_written}
 
-pub few_direct : (free size : ℕ) → size % 1024 ≡ 0 → size < 12 * 1024 → free ≡ 0 → free + taken_for size < taken_for (size + 1)
-few_direct free size whole direct none =
-    let a : taken_for size ≡ blocks_for size = taken_small size (omega arith) in
-    let b : taken_for (size + 1) ≡ blocks_for (size + 1) = taken_small (size + 1) (omega arith) in
-    let c : blocks_for (size + 1) ≡ blocks_for size + 1 = omega arith in
-    omega arith
+module _ {g : Geometry} {old : List (List ℕ)} {n : ℕ} {inode : DiskInode} (held : HasInode g old n inode) where
+  -- the blocks that the file has, and those that it is to have
+  lacks : (have want : ℕ) → taken_for inode.size ≡ have → taken_for (inode.size + 1) ≡ want → free_blocks g old + have < want → LacksBlocks g old n inode.size
+  lacks have want e f h =
+      let long : taken_for (length (bytes_of old n)) ≡ taken_for inode.size = ap taken_for (own_length held) in
+      omega arith
 
-pub few_indirect : (free size : ℕ) → size % 1024 ≡ 0 → 12 * 1024 < size → free ≡ 0 → free + taken_for size < taken_for (size + 1)
-few_indirect free size whole indirect none =
-    let a : taken_for size ≡ blocks_for size + 1 = taken_large size (omega arith) in
-    let b : taken_for (size + 1) ≡ blocks_for (size + 1) + 1 = taken_large (size + 1) (omega arith) in
-    let c : blocks_for (size + 1) ≡ blocks_for size + 1 = omega arith in
-    omega arith
+  pub lacks_direct : inode.size % 1024 ≡ 0 → inode.size < 12 * 1024 → free_blocks g old ≡ 0 → LacksBlocks g old n inode.size
+  lacks_direct whole direct none =
+      lacks (blocks_for inode.size) (blocks_for (inode.size + 1)) (taken_small inode.size (omega arith)) (taken_small (inode.size + 1) (omega arith)) (omega arith)
 
-pub few_both : (free size : ℕ) → size ≡ 12 * 1024 → free ≤ 1 → free + taken_for size < taken_for (size + 1)
-few_both free size whole few =
-    let a : taken_for size ≡ blocks_for size = taken_small size (omega arith) in
-    let b : taken_for (size + 1) ≡ blocks_for (size + 1) + 1 = taken_large (size + 1) (omega arith) in
-    omega arith
+  pub lacks_indirect : inode.size % 1024 ≡ 0 → 12 * 1024 < inode.size → free_blocks g old ≡ 0 → LacksBlocks g old n inode.size
+  lacks_indirect whole indirect none =
+      lacks (blocks_for inode.size + 1) (blocks_for (inode.size + 1) + 1) (taken_large inode.size (omega arith)) (taken_large (inode.size + 1) (omega arith)) (omega arith)
 
-pub few_as : (g : Geometry) (read old : List (List ℕ)) (size long at : ℕ) → read ≡ old → size ≡ long → at ≡ size → free_blocks g read + taken_for size < taken_for (size + 1) → free_blocks g old + taken_for long < taken_for (at + 1)
-few_as g read old size long at e f h few =
-    let a : free_blocks g read ≡ free_blocks g old = ap (free_blocks g) e in
-    let b : taken_for size ≡ taken_for long = ap taken_for f in
-    let c : taken_for (at + 1) ≡ taken_for (size + 1) = ap (λ k. taken_for (k + 1)) h in
-    omega arith
+  pub lacks_both : inode.size ≡ 12 * 1024 → free_blocks g old ≤ 1 → LacksBlocks g old n inode.size
+  lacks_both last few =
+      lacks (blocks_for inode.size) (blocks_for (inode.size + 1) + 1) (taken_small inode.size (omega arith)) (taken_large (inode.size + 1) (omega arith)) (omega arith)
 
 -- ---- the parts of a disk that is prepared
 
-pub Grows-parts : (g : Geometry) (old mid : List (List ℕ)) (n : ℕ) (inode : DiskInode) → HasParts g old → Grows g old mid n inode → HasParts g mid
-Grows-parts g old mid n inode parts grows = record {
+pub Grows-parts : {g : Geometry} {old mid : List (List ℕ)} {n : ℕ} {inode : DiskInode} → HasParts g old → Grows g old mid n inode → HasParts g mid
+Grows-parts parts grows = record {
   count = grows.count ∙ parts.count;
   sizes = grows.sizes;
   size_high = parts.size_high;
@@ -59,88 +52,96 @@ Grows-parts g old mid n inode parts grows = record {
 
 -- ---- bytes within a block that the file has
 
-module _ (g : Geometry) (old mid : List (List ℕ)) (n at : ℕ) (inode : DiskInode) (bytes : List ℕ) (sound : IsSound g old) (used : IsInode old g.inodes n) (same : inode ≡ inode_at old n) (fits : Fits inode)
-    (there : at / 1024 < blocks_for inode.size) (within : at ≤ inode.size) (room : at % 1024 + length bytes ≤ 1024)
+module _ {g : Geometry} {old mid : List (List ℕ)} {n at : ℕ} {inode : DiskInode} (bytes : List ℕ) (held : HasInode g old n inode) (fits : Fits inode)
+    (lies : LiesInBlock inode at bytes)
     (written : mid ≡ set old (slot_of old n (at / 1024)) (splice (at % 1024) bytes (block_at old (slot_of old n (at / 1024))))) where
   prepared_same : at + length bytes ≤ inode.size → Prepares g old mid n (record inode { size = inode.size }) (splice at bytes (bytes_of old n))
-  prepared_same short = Prepares-inside g old mid n inode at inode.size bytes sound used same fits there within room (omega arith) written
+  prepared_same short = Prepares-inside {size = inode.size} bytes held fits lies.there lies.within lies.room (omega arith) written
 
   prepared_longer : inode.size ≤ at + length bytes → Prepares g old mid n (record inode { size = at + length bytes }) (splice at bytes (bytes_of old n))
-  prepared_longer long = Prepares-inside g old mid n inode at (at + length bytes) bytes sound used same fits there within room (omega arith) written
+  prepared_longer long = Prepares-inside {size = at + length bytes} bytes held fits lies.there lies.within lies.room (omega arith) written
 
   pub Wrote-kept : at + length bytes ≤ inode.size → Wrote g old mid n (splice at bytes (bytes_of old n))
   Wrote-kept short =
       let p : Prepares g old mid n (record inode { size = inode.size }) (splice at bytes (bytes_of old n)) = prepared_same short in
-      Wrote-record g old mid mid n (record inode { size = inode.size }) (splice at bytes (bytes_of old n)) sound used p
-      (WritesInode-same g old mid n (record inode { size = inode.size }) used.high p.grows same)
+      Wrote-record g old mid mid n (record inode { size = inode.size }) (splice at bytes (bytes_of old n)) held.sound held.used p
+      (WritesInode-same g old mid n (record inode { size = inode.size }) held.used.high p.grows held.same)
 
   module _ (long : inode.size ≤ at + length bytes) where
     pub parts_longer : HasParts g mid
-    parts_longer = Grows-parts g old mid n (record inode { size = at + length bytes }) sound.parts (prepared_longer long).grows
+    parts_longer = Grows-parts held.sound.parts (prepared_longer long).grows
 
     pub fits_longer : Fits (record inode { size = at + length bytes })
     fits_longer = (prepared_longer long).fits
 
-    pub Wrote-longer : (new : List (List ℕ)) → WritesInode g mid new n (record inode { size = at + length bytes }) → Wrote g old new n (splice at bytes (bytes_of old n))
-    Wrote-longer new writes = Wrote-record g old mid new n (record inode { size = at + length bytes }) (splice at bytes (bytes_of old n)) sound used (prepared_longer long) writes
+    pub Wrote-longer : {new : List (List ℕ)} → WritesInode g mid new n (record inode { size = at + length bytes }) → Wrote g old new n (splice at bytes (bytes_of old n))
+    Wrote-longer {new} writes = Wrote-record g old mid new n (record inode { size = at + length bytes }) (splice at bytes (bytes_of old n)) held.sound held.used (prepared_longer long) writes
 
 -- ---- the same, as the code does it
 
-module _ (g : Geometry) (old read mid : List (List ℕ)) (n at target : ℕ) (inode : DiskInode) (bytes : List ℕ) (sound : IsSound g old) (used : IsInode old g.inodes n) (same : inode ≡ inode_at old n) (fits : Fits inode)
-    (there : at / 1024 < blocks_for inode.size) (within : at ≤ inode.size) (room : at % 1024 + length bytes ≤ 1024) (read_is : read ≡ old) (target_is : target ≡ slot_in old inode (at / 1024))
+module _ {g : Geometry} {old read mid : List (List ℕ)} {n at target : ℕ} {inode : DiskInode} (bytes : List ℕ) (held : HasInode g old n inode) (fits : Fits inode)
+    (lies : LiesInBlock inode at bytes) (read_is : read ≡ old) (target_is : target ≡ slot_in old inode (at / 1024))
     (e : mid ≡ set read target (splice (at % 1024) bytes (block_at read target))) where
   written_is : mid ≡ set old (slot_of old n (at / 1024)) (splice (at % 1024) bytes (block_at old (slot_of old n (at / 1024))))
-  written_is = put_written old read mid target (slot_of old n (at / 1024)) (at % 1024) bytes e read_is (target_is ∙ slot_in_hand old old n (at / 1024) inode same refl)
+  written_is = put_written old read mid target (slot_of old n (at / 1024)) (at % 1024) bytes e read_is (target_is ∙ slot_in_hand held refl (at / 1024))
 
   pub inside_kept : at + length bytes ≤ inode.size → Wrote g old mid n (splice at bytes (bytes_of old n))
-  inside_kept = Wrote-kept g old mid n at inode bytes sound used same fits there within room written_is
+  inside_kept = Wrote-kept bytes held fits lies written_is
 
   pub inside_parts : inode.size ≤ at + length bytes → HasParts g mid
-  inside_parts = parts_longer g old mid n at inode bytes sound used same fits there within room written_is
+  inside_parts = parts_longer bytes held fits lies written_is
 
   pub inside_fits : inode.size ≤ at + length bytes → Fits (record inode { size = at + length bytes })
-  inside_fits = fits_longer g old mid n at inode bytes sound used same fits there within room written_is
+  inside_fits = fits_longer bytes held fits lies written_is
 
-  pub inside_longer : inode.size ≤ at + length bytes → (new : List (List ℕ)) → WritesInode g mid new n (record inode { size = at + length bytes }) → Wrote g old new n (splice at bytes (bytes_of old n))
-  inside_longer = Wrote-longer g old mid n at inode bytes sound used same fits there within room written_is
+  pub inside_longer : inode.size ≤ at + length bytes → {new : List (List ℕ)} → WritesInode g mid new n (record inode { size = at + length bytes }) → Wrote g old new n (splice at bytes (bytes_of old n))
+  inside_longer = Wrote-longer bytes held fits lies written_is
 
 -- ---- a block more
 
-pub at_end : (at size : ℕ) → at ≤ size → blocks_for size ≤ at / 1024 → at ≡ size
-at_end at size within past = omega arith
+module _ {g : Geometry} {old : List (List ℕ)} {n at : ℕ} {inode : DiskInode} (held : HasInode g old n inode) (within : at ≤ length (bytes_of old n)) where
+  pub within_size : at ≤ inode.size
+  within_size = omega (arith, own_length held)
 
-pub whole_end : (at size : ℕ) → at ≤ size → blocks_for size ≤ at / 1024 → size % 1024 ≡ 0
-whole_end at size within past = omega arith
+  -- behind the blocks that the file has is only its end
+  module _ (past : blocks_for inode.size ≤ at / 1024) where
+    pub at_end : at ≡ inode.size
+    at_end = let w : at ≤ inode.size = within_size in omega arith
 
-pub Wrote-grown : (g : Geometry) (old mid new : List (List ℕ)) (n at size : ℕ) (next : DiskInode) (bytes : List ℕ) → IsSound g old → IsInode old g.inodes n → at ≡ size
-    → Prepares g old mid n next (splice size bytes (bytes_of old n)) → WritesInode g mid new n next → Wrote g old new n (splice at bytes (bytes_of old n))
-Wrote-grown g old mid new n at size next bytes sound used e prepares writes =
-    Wrote-record g old mid new n next (splice at bytes (bytes_of old n)) sound used
-    (subst (λ k. Prepares g old mid n next (splice k bytes (bytes_of old n))) (sym e) prepares) writes
+    pub BeginsBlock-end : (bytes : List ℕ) → 0 < length bytes → at % 1024 + length bytes ≤ 1024 → at + length bytes ≤ 274432 → BeginsBlock inode bytes
+    BeginsBlock-end bytes some room short =
+        let e : at ≡ inode.size = at_end in
+        record { whole = omega arith; some = some; room = omega arith; short = omega arith }
+
+    pub Wrote-grown : {mid new : List (List ℕ)} {next : DiskInode} (bytes : List ℕ) → Prepares g old mid n next (splice inode.size bytes (bytes_of old n)) → WritesInode g mid new n next
+        → Wrote g old new n (splice at bytes (bytes_of old n))
+    Wrote-grown {mid} {new} {next} bytes prepares writes =
+        Wrote-record g old mid new n next (splice at bytes (bytes_of old n)) held.sound held.used
+        (subst (λ k. Prepares g old mid n next (splice k bytes (bytes_of old n))) (sym at_end) prepares) writes
 
 -- ---- another number of links
 
 abbrev pub with_links : DiskInode → ℕ → DiskInode
 with_links inode links = record inode { links = links }
 
-module _ (g : Geometry) (old new : List (List ℕ)) (n links : ℕ) (inode : DiskInode) (sound : IsSound g old) (used : IsInode old g.inodes n) (same : inode ≡ inode_at old n) (written : WritesInode g old new n (with_links inode links)) where
+module _ {g : Geometry} {old read new : List (List ℕ)} {n : ℕ} (links : ℕ) {inode : DiskInode} (held : HasInode g old n inode) (read_is : read ≡ old) (written : WritesInode g read new n (with_links inode links)) where
   abbrev writes : WritesInode g old new n (with_links (inode_at old n) links)
-  writes = subst (λ i. WritesInode g old new n (with_links i links)) same written
+  writes = subst (λ i. WritesInode g old new n (with_links i links)) held.same (subst (λ b. WritesInode g b new n (with_links inode links)) read_is written)
 
   abbrev grows : Grows g old old n (with_links (inode_at old n) links)
-  grows = Grows-same g old n (with_links (inode_at old n) links) sound used refl refl (sound.kinds n used.low used.high) used.kind
+  grows = Grows-same g old n (with_links (inode_at old n) links) held.sound held.used refl refl (held.sound.kinds n held.used.low held.used.high) held.used.kind
 
   abbrev keeps : KeepsOthers g old new n
-  keeps = Grows-keeps g old old new n (with_links (inode_at old n) links) sound used.low used.high grows writes
+  keeps = Grows-keeps g old old new n (with_links (inode_at old n) links) held.sound held.used.low held.used.high grows writes
 
   pub linked_sound : IsSound g new
-  linked_sound = IsSound-replace g old new n sound keeps (Grows-sound g old old new n (with_links (inode_at old n) links) sound used.low used.high grows writes)
+  linked_sound = IsSound-replace g old new n held.sound keeps (Grows-sound g old old new n (with_links (inode_at old n) links) held.sound held.used.low held.used.high grows writes)
 
   pub linked_nodes : nodes_of new g.inodes ≡ set (nodes_of old g.inodes) n (Some (node_linked (inode_at old n) links (bytes_of old n)))
   linked_nodes =
-      nodes_of-changed g old new n sound keeps used.high
-      ∙ ap (set (nodes_of old g.inodes) n) (Grows-node g old old new n (with_links (inode_at old n) links) sound used.low used.high grows writes (bytes_of old n) used.kind
-      (HoldsBytes-same g old n (with_links (inode_at old n) links) sound used refl refl))
+      nodes_of-changed g old new n held.sound keeps held.used.high
+      ∙ ap (set (nodes_of old g.inodes) n) (Grows-node g old old new n (with_links (inode_at old n) links) held.sound held.used.low held.used.high grows writes (bytes_of old n) held.used.kind
+      (HoldsBytes-same g old n (with_links (inode_at old n) links) held.sound held.used refl refl))
 
   pub linked_free : free_blocks g new ≡ free_blocks g old
-  linked_free = free_blocks-same g old new (λ b h. ap (λ c. bit_in c (b % 8192)) (writes.rest (bitmap_start_of g.inodes + b / 8192) (let z = used.high in omega arith)))
+  linked_free = free_blocks-same g old new (λ b h. ap (λ c. bit_in c (b % 8192)) (writes.rest (bitmap_start_of g.inodes + b / 8192) (let z = held.used.high in omega arith)))

@@ -8,11 +8,12 @@ use Rattle.blockdev.specs.Splice.{splice, length-splice}
 use Rattle.layout.specs.Super.{bitmap_start_of, data_start_of}
 use Rattle.layout.specs.declared.DiskInode.{DiskInode}
 use Rattle.layout.specs.declared.Geometry.{Geometry}
-use Rattle.layout.specs.Image.{Asks, IsFree, IsInode, IsSpare, IsUsed, bit_in, bit_of, blocks_for, byte_of, bytes_of, inode_at, slot_in, slot_of, taken_for}
-use Rattle.layout.specs.Sound.{IsSound}
+use Rattle.layout.specs.Image.{Asks, IsFree, IsSpare, IsUsed, bit_in, bit_of, blocks_for, byte_of, bytes_of, inode_at, slot_in, slot_of, taken_for}
 use Rattle.layout.specs.Slots.{asks_at}
 use Rattle.layout.specs.Frame.{get_or-bytes_of, length-bytes_of}
 use Rattle.layout.specs.Grow.{Grows, HoldsBytes, IsFresh}
+use Rattle.inode.specs.Held.{HasInode}
+use Rattle.inode.specs.Writing.{IsSameNode}
 
 -- ---- counts
 
@@ -104,16 +105,16 @@ Leaves-put g old mid new F T S p block leaves puts low weaker touched = record {
 
 -- ---- the inode whose bytes are written
 
-module _ (g : Geometry) (old : List (List ℕ)) (n : ℕ) (inode : DiskInode) (sound : IsSound g old) (used : IsInode old g.inodes n) (same : inode ≡ inode_at old n) where
+module _ {g : Geometry} {old : List (List ℕ)} {n : ℕ} {inode : DiskInode} (held : HasInode g old n inode) where
   size_same : inode.size ≡ (inode_at old n).size
-  size_same = ap (λ (i : DiskInode). i.size) same
+  size_same = ap (λ (i : DiskInode). i.size) held.same
 
   pub own_slot : (j : ℕ) → slot_of old n j ≡ slot_in old inode j
   unfolding slot_of
-  own_slot j = ap (λ i. slot_in old i j) (sym same)
+  own_slot j = ap (λ i. slot_in old i j) (sym held.same)
 
   pub own_used : (j : ℕ) → Asks inode.size j → IsUsed old g.inodes n j
-  own_used j a = let e : inode.size ≡ (inode_at old n).size = size_same in record { inode = used; slot = elim a [ inl h ↦ inl (omega arith) | inr h ↦ let k = h.1 in inr (h.0, omega arith) ] }
+  own_used j a = let e : inode.size ≡ (inode_at old n).size = size_same in record { inode = held.used; slot = elim a [ inl h ↦ inl (omega arith) | inr h ↦ let k = h.1 in inr (h.0, omega arith) ] }
 
   pub own_asks : (j : ℕ) → IsUsed old g.inodes n j → Asks inode.size j
   own_asks j u = let e : inode.size ≡ (inode_at old n).size = size_same in elim u.slot [ inl h ↦ inl (omega arith) | inr h ↦ let k = h.1 in inr (h.0, omega arith) ]
@@ -121,20 +122,38 @@ module _ (g : Geometry) (old : List (List ℕ)) (n : ℕ) (inode : DiskInode) (s
   pub own_spare : (j : ℕ) → IsSpare inode.size j → slot_in old inode j ≡ 0
   own_spare j s =
       let e : inode.size ≡ (inode_at old n).size = size_same in
-      sym (own_slot j) ∙ sound.spare n j used (record { within = s.within; unasked = λ a. s.unasked (own_asks j (record { inode = used; slot = a })); index = λ h l. let k = s.index h l in omega arith })
+      sym (own_slot j) ∙ held.sound.spare n j held.used (record { within = s.within; unasked = λ a. s.unasked (own_asks j (record { inode = held.used; slot = a })); index = λ h l. let k = s.index h l in omega arith })
 
   pub own_fits : inode.size ≤ 274432
-  own_fits = let e : inode.size ≡ (inode_at old n).size = size_same in omega (arith, sound.fits n used)
+  own_fits = let e : inode.size ≡ (inode_at old n).size = size_same in omega (arith, held.sound.fits n held.used)
 
   pub own_length : length (bytes_of old n) ≡ inode.size
   own_length = length-bytes_of old n ∙ sym size_same
 
+  -- a place that isn't past the end, and bytes from there on that are not too many
+  pub own_within : {at : ℕ} → at ≤ inode.size → at ≤ length (bytes_of old n)
+  own_within {at} h = let e : length (bytes_of old n) ≡ inode.size = own_length in omega arith
+
+  pub own_past : {at : ℕ} → inode.size < at → length (bytes_of old n) < at
+  own_past {at} h = let e : length (bytes_of old n) ≡ inode.size = own_length in omega arith
+
+  pub own_short : {at len : ℕ} → at ≤ inode.size → len ≤ 274432 - at → at + len ≤ 274432
+  own_short {at} {len} h l = let f : inode.size ≤ 274432 = own_fits in omega arith
+
+  pub own_node : (next : DiskInode) → next.kind ≡ inode.kind → next.major ≡ inode.major → next.minor ≡ inode.minor → next.links ≡ inode.links → IsSameNode (inode_at old n) next
+  own_node next kind major minor links = record {
+    kind = kind ∙ ap (λ (i : DiskInode). i.kind) held.same;
+    major = major ∙ ap (λ (i : DiskInode). i.major) held.same;
+    minor = minor ∙ ap (λ (i : DiskInode). i.minor) held.same;
+    links = links ∙ ap (λ (i : DiskInode). i.links) held.same;
+  }
+
   -- a block in use isn't free
   pub used_apart : (j b : ℕ) → IsUsed old g.inodes n j → IsFree g old b → slot_of old n j ≢ b
-  used_apart j b u free e = let one = (sound.marked b free.high).1 (inr (n, j, u, e)) in let zero = free.clear in omega arith
+  used_apart j b u free e = let one = (held.sound.marked b free.high).1 (inr (n, j, u, e)) in let zero = free.clear in omega arith
 
   pub other_apart : (m j b : ℕ) → IsUsed old g.inodes m j → IsFree g old b → slot_of old m j ≢ b
-  other_apart m j b u free e = let one = (sound.marked b free.high).1 (inr (m, j, u, e)) in let zero = free.clear in omega arith
+  other_apart m j b u free e = let one = (held.sound.marked b free.high).1 (inr (m, j, u, e)) in let zero = free.clear in omega arith
 
   -- the bytes of a new block b behind those that there are
   pub HoldsBytes-append : (mid : List (List ℕ)) (next : DiskInode) → ((j : ℕ) → IsUsed old g.inodes n j → slot_in mid next j ≡ slot_of old n j) → (b : ℕ) (bytes block : List ℕ) → inode.size % 1024 ≡ 0 → length bytes ≤ 1024 → next.size ≡ inode.size + length bytes
@@ -178,17 +197,17 @@ module _ (g : Geometry) (old : List (List ℕ)) (n : ℕ) (inode : DiskInode) (s
       (spare : (j : ℕ) → IsSpare next.size j → slot_in mid next j ≡ 0) where
     pub Grows-step : Grows g old mid n next
     Grows-step =
-        let node : inode.kind ≡ (inode_at old n).kind = ap (λ (i : DiskInode). i.kind) same in
+        let node : inode.kind ≡ (inode_at old n).kind = ap (λ (i : DiskInode). i.kind) held.same in
         record {
           count = leaves.count;
           sizes = leaves.sizes;
           front = leaves.front;
-          named = λ m j u apart. leaves.rest (slot_of old m j) (sound.in_range m j u).0 (λ t. elim (own (slot_of old m j) t) [
+          named = λ m j u apart. leaves.rest (slot_of old m j) (held.sound.in_range m j u).0 (λ t. elim (own (slot_of old m j) t) [
             | inl free ↦ other_apart m j (slot_of old m j) u free refl
-            | inr (i, v, e) ↦ apart (sound.once m j n i u v (sym e)).0
+            | inr (i, v, e) ↦ apart (held.sound.once m j n i u v (sym e)).0
           ]);
-          kind = let k = sound.kinds n used.low used.high in omega arith;
-          used = λ j a z. used.kind (sym node ∙ sym kind ∙ z);
+          kind = let k = held.sound.kinds n held.used.low held.used.high in omega arith;
+          used = λ j a z. held.used.kind (sym node ∙ sym kind ∙ z);
           fits = fits;
           asks = λ j u. elim (own_asks j u) [ inl h ↦ inl (omega arith) | inr h ↦ let k = h.1 in inr (h.0, omega arith) ];
           kept = kept;

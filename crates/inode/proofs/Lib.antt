@@ -1,6 +1,7 @@
 mod Both
 mod Causes
 mod Emptying
+mod Ends
 mod Filling
 mod Growing
 mod Pieces

@@ -1,17 +1,24 @@
 -- A write goes on piece by piece.
-use Rattle.std.proofs.Common.{◌≡◌, ℕ, ◌+◌, ◌-◌, ◌<◌, ◌≤◌, List, ◌++◌, length, get_or, take, drop, ap, sym, ◌∙◌, arith, inl, inr, subst}
+use Rattle.std.proofs.Common.{◌≡◌, ℕ, ◌+◌, ◌-◌, ◌%◌, ◌<◌, ◌≤◌, List, Result, Err, ◌++◌, length, get_or, min, take, drop, ap, sym, ◌∙◌, arith, inl, inr, subst}
 use Rattle.std.proofs.lemmas.Bool.{cases_lt}
-use Rattle.std.proofs.lemmas.List.{ext_get_or, get_or-take, length-take-le, take-append-drop}
+use Rattle.std.proofs.lemmas.List.{ext_get_or, get_or-take, length-take-le, take-append-drop, take_all}
 use Rattle.blockdev.specs.Splice.{part, splice, length-part, get_or-part}
 use Rattle.layout.specs.declared.Geometry.{Geometry}
-use Rattle.layout.specs.Image.{bytes_of, free_blocks, taken_for}
-use Rattle.inode.specs.Writing.{IsFull, Wrote}
-use Rattle.inode.specs.Wrote.{Wrote-trans}
+use Rattle.layout.specs.Image.{IsInode, bytes_of, taken_for}
+use Rattle.layout.specs.Sound.{IsSound}
+use Rattle.inode.specs.declared.InodeFault.{InodeFault}
+use Rattle.inode.specs.declared.InodeFault.TheVariants.{Blocks}
+use Rattle.inode.specs.Writing.{IsFull, LacksBlocks, Wrote}
+use Rattle.inode.specs.Wrote.{Wrote-nothing, Wrote-trans}
+use Rattle.inode.proofs.Causes.{told_written}
 use Rattle.inode.proofs.Growing.{get_or-extend_after, get_or-extend_before, get_or-extend_inside, length-extend}
 
 -- no bytes written over
-pub splice-none : (at : ℕ) (bytes old : List ℕ) → at ≤ length old → splice at (take 0 bytes) old ≡ old
-splice-none at bytes old h = ap (λ i. take at old ++ drop i old) (omega arith) ∙ take-append-drop at old
+pub Wrote-begin : {g : Geometry} {old read : List (List ℕ)} {n at : ℕ} (bytes : List ℕ) → at ≤ length (bytes_of old n) → read ≡ old → IsSound g old → IsInode old g.inodes n
+    → Wrote g old read n (splice at (take 0 bytes) (bytes_of old n))
+Wrote-begin {g} {old} {read} {n} {at} bytes within same sound used =
+    let none : splice at (take 0 bytes) (bytes_of old n) ≡ bytes_of old n = ap (λ i. take at (bytes_of old n) ++ drop i (bytes_of old n)) (omega arith) ∙ take-append-drop at (bytes_of old n) in
+    subst (Wrote g old read n) (sym none) (Wrote-nothing g old read n same sound used)
 
 -- a part behind the part that was written before
 pub splice-splice : (at done len : ℕ) (bytes old : List ℕ) → at ≤ length old → done + len ≤ length bytes
@@ -43,29 +50,57 @@ splice-splice at done len bytes old h l =
       ]
     ])
 
--- the length of a piece
-pub length-piece : (done len : ℕ) (bytes : List ℕ) → done + len ≤ length bytes → length (take (done + len - done) (drop done bytes)) ≡ len
+-- ---- the next piece, up to the end of a block or of the bytes
+
+-- the bytes of a piece, as the code takes them
+abbrev pub piece_of : (done len : ℕ) (bytes : List ℕ) → List ℕ
+piece_of done len bytes = take (done + len - done) (drop done bytes)
+
+pub length-piece : (done len : ℕ) (bytes : List ℕ) → done + len ≤ length bytes → length (piece_of done len bytes) ≡ len
 length-piece done len bytes h =
     let k : done + len - done ≡ len = omega arith in
     ap (λ m. length (take m (drop done bytes))) k ∙ length-part done len bytes h
 
-module _ (g : Geometry) (first disk new : List (List ℕ)) (n at done : ℕ) (bytes : List ℕ) (within : at ≤ length (bytes_of first n)) (wrote : Wrote g first disk n (splice at (take done bytes) (bytes_of first n))) where
+module _ (at : ℕ) (bytes : List ℕ) {done len : ℕ} (left : done < length bytes) (len_is : len ≡ min (1024 - (at + done) % 1024) (length bytes - done)) where
+  pub piece_within : done + len ≤ length bytes
+  piece_within = omega arith
+
+  pub piece_less : length bytes - (done + len) < length bytes - done
+  piece_less = omega arith
+
+  piece_long : length (piece_of done len bytes) ≡ len
+  piece_long = length-piece done len bytes piece_within
+
+  pub piece_some : 0 < length (piece_of done len bytes)
+  piece_some = let e : length (piece_of done len bytes) ≡ len = piece_long in omega arith
+
+  pub piece_room : (at + done) % 1024 + length (piece_of done len bytes) ≤ 1024
+  piece_room = let e : length (piece_of done len bytes) ≡ len = piece_long in omega arith
+
+  pub piece_short : at + length bytes ≤ 274432 → at + done + length (piece_of done len bytes) ≤ 274432
+  piece_short short = let e : length (piece_of done len bytes) ≡ len = piece_long in let w = piece_within in omega arith
+
+module _ {g : Geometry} {first disk : List (List ℕ)} {n at : ℕ} (done : ℕ) (bytes : List ℕ) (within : at ≤ length (bytes_of first n)) (wrote : Wrote g first disk n (splice at (take done bytes) (bytes_of first n))) where
   -- the next piece
-  pub Wrote-piece : (len : ℕ) → done + len ≤ length bytes → Wrote g disk new n (splice (at + done) (take (done + len - done) (drop done bytes)) (bytes_of disk n)) → Wrote g first new n (splice at (take (done + len) bytes) (bytes_of first n))
-  Wrote-piece len h next =
+  pub Wrote-piece : {new : List (List ℕ)} (len : ℕ) → done + len ≤ length bytes → Wrote g disk new n (splice (at + done) (piece_of done len bytes) (bytes_of disk n)) → Wrote g first new n (splice at (take (done + len) bytes) (bytes_of first n))
+  Wrote-piece {new} len h next =
       let k : done + len - done ≡ len = omega arith in
-      let e : splice (at + done) (take (done + len - done) (drop done bytes)) (bytes_of disk n) ≡ splice at (take (done + len) bytes) (bytes_of first n) =
+      let e : splice (at + done) (piece_of done len bytes) (bytes_of disk n) ≡ splice at (take (done + len) bytes) (bytes_of first n) =
       ap (λ i. splice (at + done) (take i (drop done bytes)) (bytes_of disk n)) k
       ∙ ap (splice (at + done) (part done len bytes)) wrote.own
       ∙ splice-splice at done len bytes (bytes_of first n) within h in
       Wrote-trans g first disk new n (splice at (take done bytes) (bytes_of first n)) (splice at (take (done + len) bytes) (bytes_of first n)) wrote (subst (λ ys. Wrote g disk new n ys) e next)
 
-  -- how long the file is now
-  pub long_now : length (bytes_of disk n) ≡ at + (length (take done bytes) + (length (bytes_of first n) - (at + length (take done bytes))))
-  long_now = ap length wrote.own ∙ length-extend at (take done bytes) (bytes_of first n) within
+  -- the next place isn't past the end
+  pub place_within : done ≤ length bytes → at + done ≤ length (bytes_of disk n)
+  place_within h =
+      let long : length (bytes_of disk n) ≡ at + (length (take done bytes) + (length (bytes_of first n) - (at + length (take done bytes)))) =
+      ap length wrote.own ∙ length-extend at (take done bytes) (bytes_of first n) within in
+      let front : length (take done bytes) ≡ done = length-take-le done bytes h in
+      omega arith
 
   -- the blocks don't suffice
-  pub IsFull-piece : done < length bytes → at + length bytes ≤ 274432 → new ≡ disk → free_blocks g disk + taken_for (length (bytes_of disk n)) < taken_for (at + done + 1) → IsFull g first new n at bytes done
+  pub IsFull-piece : {new : List (List ℕ)} → done < length bytes → at + length bytes ≤ 274432 → new ≡ disk → LacksBlocks g disk n (at + done) → IsFull g first new n at bytes done
   IsFull-piece left short same few =
       let b = wrote.balance in
       let e : taken_for (length (bytes_of disk n)) ≡ taken_for (length (splice at (take done bytes) (bytes_of first n))) = ap (λ l. taken_for (length l)) wrote.own in
@@ -76,3 +111,11 @@ module _ (g : Geometry) (first disk new : List (List ℕ)) (n at done : ℕ) (by
         within = within;
         short = short;
       }
+
+  -- all is written
+  pub Wrote-all : length bytes ≤ done → Wrote g first disk n (splice at bytes (bytes_of first n))
+  Wrote-all all = subst (λ xs. Wrote g first disk n (splice at xs (bytes_of first n))) (take_all done bytes all) wrote
+
+-- a refusal tells how many bytes are written
+pub IsFull-told : {T : Type 0} {g : Geometry} {old new : List (List ℕ)} {n at j k : ℕ} {bytes : List ℕ} → IsFull g old new n at bytes j → ◌≡◌ {A = Result T InodeFault} (Err (Blocks j)) (Err (Blocks k)) → IsFull g old new n at bytes k
+IsFull-told {g = g} {old} {new} {n} {at} {j} {k} {bytes} full told = subst (IsFull g old new n at bytes) (told_written j k told) full

@@ -1,16 +1,19 @@
 -- A step of a read, and its end.
-use Rattle.std.proofs.Common.{◌≡◌, ℕ, ◌+◌, ◌-◌, ◌/◌, ◌%◌, ◌<◌, ◌≤◌, List, ◌++◌, length, drop, get_or, ap, sym, ◌∙◌, arith, inl, inr}
+use Rattle.std.proofs.Common.{◌≡◌, ℕ, ◌+◌, ◌-◌, ◌/◌, ◌%◌, ◌<◌, ◌≤◌, List, ◌++◌, length, take, drop, get_or, min, ap, sym, ◌∙◌, arith, inl, inr, refl, subst}
+use borrow.Rule.Slice.PartMut.{put_mid}
 use Rattle.std.proofs.lemmas.Bool.{cases_lt}
 use Rattle.std.proofs.lemmas.List.{ext_get_or, length-append, length-drop, length-take-le, get_or_append_left, get_or-append_right, get_or-drop}
 use Rattle.blockdev.specs.Blocks.{block_at}
-use Rattle.blockdev.specs.Splice.{part, splice, length-part, get_or-part, length-splice, get_or-splice_before, get_or-splice_inside, get_or-splice_after}
+use Rattle.blockdev.specs.Splice.{part, splice, put_mid-splice, length-part, get_or-part, length-splice, get_or-splice_before, get_or-splice_inside, get_or-splice_after}
 use Rattle.layout.specs.declared.DiskInode.{DiskInode}
-use Rattle.layout.specs.Image.{IsUsed, slot_in, slot_of, byte_of, bytes_of, inode_at}
+use Rattle.layout.specs.Image.{IsInode, IsUsed, blocks_for, slot_in, slot_of, byte_of, bytes_of, inode_at}
 use Rattle.layout.specs.declared.Geometry.{Geometry}
 use Rattle.layout.specs.Sound.{IsSound}
 use Rattle.layout.specs.Slots.{slot_of-last, used_last}
 use Rattle.layout.specs.Frame.{length-bytes_of, get_or-bytes_of}
+use Rattle.inode.specs.Held.{HasInode, IsInHand, IsInHand-of}
 use Rattle.inode.specs.Reading.{HasRead}
+use Rattle.inode.proofs.Growing.{own_fits, own_length, own_used}
 
 -- a byte of the block that is read
 byte_of-block : (blocks : List (List ℕ)) (n k i from : ℕ) → i / 1024 ≡ k → i % 1024 ≡ from → byte_of blocks n i ≡ get_or (block_at blocks (slot_of blocks n k)) from 0
@@ -56,15 +59,73 @@ HasRead-all blocks n at k old out has room within =
 
 -- ---- what code that has the record in hand reads
 
--- the slots of the record, on a disk that is the same
-pub slot_in_hand : (old now : List (List ℕ)) (n k : ℕ) (inode : DiskInode) → inode ≡ inode_at old n → now ≡ old → slot_in now inode k ≡ slot_of old n k
-unfolding slot_of
-slot_in_hand old now n k inode e f = ap (λ x. slot_in x inode k) f ∙ ap (λ i. slot_in old i k) e
+pub HasInode-read : {g : Geometry} {blocks : List (List ℕ)} {n : ℕ} {inode : DiskInode} → IsSound g blocks → IsInode blocks g.inodes n → inode ≡ inode_at blocks n → HasInode g blocks n inode
+HasInode-read sound used same = record { sound = sound; used = used; same = same }
 
--- the block of numbers is one of the disk
-pub numbers_in_disk : (g : Geometry) (old now : List (List ℕ)) (n k : ℕ) (inode : DiskInode) → IsSound g old → inode ≡ inode_at old n → now ≡ old → IsUsed old g.inodes n k → 12 ≤ k → get_or inode.addresses 12 0 < length now
-numbers_in_disk g old now n k inode sound e f used h =
-    let last : IsUsed old g.inodes n 268 = used_last old g.inodes n k used h in
-    let at : slot_of old n 268 ≡ get_or inode.addresses 12 0 = slot_of-last old n ∙ ap (λ (i : DiskInode). get_or i.addresses 12 0) (sym e) in
-    let long : length now ≡ length old = ap length f in
-    omega (arith, (sound.in_range n 268 last).1, sound.parts.count)
+-- it is handed on, on a disk that is the same
+pub IsInHand-read : {g : Geometry} {old now : List (List ℕ)} {n : ℕ} {inode : DiskInode} → now ≡ old → HasInode g old n inode → IsInHand g now n inode
+IsInHand-read {g} {n = n} {inode} e held = subst (λ b. IsInHand g b n inode) (sym e) (IsInHand-of held)
+
+-- block k of the file, on a disk that is the same
+module _ {g : Geometry} {old now : List (List ℕ)} {n : ℕ} {inode : DiskInode} (held : HasInode g old n inode) (now_is : now ≡ old) (k : ℕ) where
+  pub slot_in_hand : slot_in now inode k ≡ slot_of old n k
+  unfolding slot_of
+  slot_in_hand = ap (λ x. slot_in x inode k) now_is ∙ ap (λ i. slot_in old i k) held.same
+
+  module _ (below : k < blocks_for inode.size) where
+    slot_used : IsUsed old g.inodes n k
+    slot_used = own_used held k (inl below)
+
+    pub slot_low : k < 268
+    slot_low = let f : inode.size ≤ 274432 = own_fits held in omega arith
+
+    pub slot_in_disk : slot_in now inode k < length now
+    slot_in_disk =
+        let e : slot_in now inode k ≡ slot_of old n k = slot_in_hand in
+        let long : length now ≡ length old = ap length now_is in
+        omega (arith, (held.sound.in_range n k slot_used).1, held.sound.parts.count)
+
+    pub numbers_in_disk : 12 ≤ k → get_or inode.addresses 12 0 < length now
+    numbers_in_disk h =
+        let last : IsUsed old g.inodes n 268 = used_last old g.inodes n k slot_used h in
+        let at : slot_of old n 268 ≡ get_or inode.addresses 12 0 = slot_of-last old n ∙ ap (λ (i : DiskInode). get_or i.addresses 12 0) (sym held.same) in
+        let long : length now ≡ length old = ap length now_is in
+        omega (arith, (held.sound.in_range n 268 last).1, held.sound.parts.count)
+
+    -- what is read of it
+    pub slot_block : {source : ℕ} {block : List ℕ} → source ≡ slot_in now inode k → block ≡ block_at now source → block ≡ block_at old (slot_of old n k)
+    slot_block {source} e f = f ∙ ap (λ b. block_at b source) now_is ∙ ap (block_at old) (e ∙ slot_in_hand)
+
+    pub slot_whole : length (block_at old (slot_of old n k)) ≡ 1024
+    slot_whole = held.sound.parts.sizes (slot_of old n k) (omega (arith, (held.sound.in_range n k slot_used).1, held.sound.parts.count))
+
+-- ---- a read of as many bytes as there are, up to the end of a block at a time
+
+module _ {g : Geometry} {old : List (List ℕ)} {n : ℕ} {inode : DiskInode} (held : HasInode g old n inode) (at long : ℕ) {rest count : ℕ} (count_is : count ≡ min long rest) (rest_is : rest ≡ inode.size - at) where
+  pub count_of : count ≡ min long (length (bytes_of old n) - at)
+  count_of = count_is ∙ ap (min long) (rest_is ∙ ap (λ s. s - at) (sym (own_length held)))
+
+  pub HasRead-end : {done : ℕ} (buffer out : List ℕ) → length buffer ≡ long → done ≤ count → count ≤ done → HasRead old n at done buffer out → out ≡ part at count (bytes_of old n) ++ drop count buffer
+  HasRead-end {done} buffer out long_is within over has =
+      let all : done ≡ count = omega arith in
+      let e : count ≡ min long (length (bytes_of old n) - at) = count_of in
+      HasRead-all old n at count buffer out (subst (λ k. HasRead old n at k buffer out) all has) (omega arith) (omega arith)
+
+  module _ {done len : ℕ} (left : done < count) (len_is : len ≡ min (1024 - (at + done) % 1024) (count - done)) where
+    pub chunk_below : (at + done) / 1024 < blocks_for inode.size
+    chunk_below = omega arith
+
+    pub chunk_within : done + len ≤ count
+    chunk_within = omega arith
+
+    -- the code's copy of a part of the block over a part of the buffer
+    pub HasRead-chunk : (buffer out block piece : List ℕ) → length buffer ≡ long → HasRead old n at done buffer out → block ≡ block_at old (slot_of old n ((at + done) / 1024))
+        → piece ≡ take ((at + done) % 1024 + len - (at + done) % 1024) (drop ((at + done) % 1024) block) → HasRead old n at (done + len) buffer (put_mid done (done + len - done) out piece)
+    HasRead-chunk buffer out block piece long_is has e piece_is =
+        let k : (at + done) % 1024 + len - (at + done) % 1024 ≡ len = omega arith in
+        let w : done + len ≤ count = chunk_within in
+        let same : length out ≡ length buffer = has.length_same in
+        let size : length block ≡ 1024 = ap length e ∙ slot_whole held refl ((at + done) / 1024) chunk_below in
+        let copied : put_mid done (done + len - done) out piece ≡ splice done (part ((at + done) % 1024) len block) out =
+        put_mid-splice done (done + len - done) out piece (part ((at + done) % 1024) len block) (piece_is ∙ ap (λ n. take n (drop ((at + done) % 1024) block)) k) (omega (arith, length-part ((at + done) % 1024) len block)) in
+        subst (HasRead old n at (done + len) buffer) (sym copied) (HasRead-step old n at done len buffer out block has e size (omega arith) (omega arith))

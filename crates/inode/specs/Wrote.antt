@@ -90,5 +90,5 @@ WritesInode-same g old mid n inode high grows e = record {
 }
 
 -- the inode stays one
-pub Wrote-inode : (g : Geometry) (old new : List (List ℕ)) (n : ℕ) (bytes : List ℕ) → IsInode old g.inodes n → Wrote g old new n bytes → IsInode new g.inodes n
-Wrote-inode g old new n bytes used wrote = record { low = used.low; high = used.high; kind = λ z. used.kind (sym wrote.same.kind ∙ z) }
+pub IsInode-same : {old new : List (List ℕ)} {inodes n : ℕ} → IsInode old inodes n → IsSameNode (inode_at old n) (inode_at new n) → IsInode new inodes n
+IsInode-same used same = record { low = used.low; high = used.high; kind = λ z. used.kind (sym same.kind ∙ z) }

@@ -2,9 +2,10 @@
 
 ghost use Rattle.std.specs.Prelude.{◌≡◌, ◌≢◌, ℕ, ◌+◌, ◌-◌, ◌<◌, ◌≤◌, List, [], length, OnOk};
 ghost use Rattle.unixmodel.specs.Failures.{HasCause};
-ghost use Rattle.layout.specs.Image.{IsInode, inode_at, taken_for};
+ghost use Rattle.layout.specs.Image.{IsInode, taken_for};
 ghost use Rattle.layout.specs.Sound.{IsSound};
 ghost use Rattle.inode.specs.Freeing.{Freed, IsOwn};
+ghost use Rattle.inode.specs.Held.{IsInHand};
 ghost use Rattle.inode.specs.Writing.{Wrote};
 
 use crate::read::block_number;
@@ -42,9 +43,7 @@ fn give_blocks<D: BlockDev>(
     number: usize,
     inode: &DiskInode,
 ) -> Result<(), DeviceFault>
-    requires sound { IsSound geometry disk.old.blocks }
-    requires inode { IsInode disk.old.blocks geometry.inodes number }
-    requires same { inode.now ≡ inode_at disk.old.blocks number }
+    requires { IsInHand geometry disk.old.blocks number inode.now }
     ensures freed { OnOk result (Freed geometry disk.old.blocks disk.new.blocks number (IsOwn inode.now.size) (taken_for inode.now.size)) }
     ensures count { length disk.new.blocks ≡ length disk.old.blocks }
     ensures cause { HasCause disk.old.failures disk.new.failures result }

@@ -2,15 +2,15 @@
 //!
 //! A new block is taken before anything is written, and with it the block of numbers where it needs one: both or none.
 
-ghost use Rattle.std.specs.Prelude.{◌≡◌, ◌≢◌, ℕ, ◌+◌, ◌-◌, ◌*◌, ◌/◌, ◌%◌, ◌<◌, ◌≤◌, List, length, get_or, slice_set, OnOk, IfOk, IsErrOf};
+ghost use Rattle.std.specs.Prelude.{◌≡◌, ◌≢◌, ℕ, ◌+◌, ◌*◌, ◌/◌, ◌%◌, ◌<◌, ◌≤◌, length, get_or, slice_set, OnOk};
 ghost use Rattle.byteorder.specs.Endian.{little_bytes};
-ghost use Rattle.unixmodel.specs.Failures.{HasCause, Rises};
+ghost use Rattle.unixmodel.specs.Failures.{HasCause};
 ghost use Rattle.blockdev.specs.Splice.{splice};
 ghost use Rattle.layout.specs.Inode.{Fits};
 ghost use Rattle.layout.specs.Numbers.{number_at};
-ghost use Rattle.layout.specs.Image.{IsInode, blocks_for, bytes_of, free_blocks, inode_at};
-ghost use Rattle.layout.specs.Sound.{IsSound};
-ghost use Rattle.inode.specs.Writing.{Prepares, Wrote};
+ghost use Rattle.layout.specs.Image.{bytes_of};
+ghost use Rattle.inode.specs.Held.{IsInHand};
+ghost use Rattle.inode.specs.Writing.{BeginsBlock, LiesInBlock, PutsBehind, Wrote};
 
 use crate::read::block_number;
 use balloc::{BallocFault, take_block, take_two, write_inode};
@@ -28,13 +28,9 @@ pub fn write_inside<D: BlockDev>(
     at: usize,
     bytes: &[u8],
 ) -> Result<(), DeviceFault>
-    requires sound { IsSound geometry disk.old.blocks }
-    requires inode { IsInode disk.old.blocks geometry.inodes number }
-    requires same { inode.now ≡ inode_at disk.old.blocks number }
+    requires held { IsInHand geometry disk.old.blocks number inode.now }
     requires fits { Fits inode.now }
-    requires there { at / 1024 < blocks_for inode.now.size }
-    requires within { at ≤ inode.now.size }
-    requires room { at % 1024 + length bytes.now ≤ 1024 }
+    requires lies { LiesInBlock inode.now at bytes.now }
     ensures wrote { OnOk result (Wrote geometry disk.old.blocks disk.new.blocks number (splice at bytes.now (bytes_of disk.old.blocks number))) }
     ensures count { length disk.new.blocks ≡ length disk.old.blocks }
     ensures cause { HasCause disk.old.failures disk.new.failures result }
@@ -56,21 +52,11 @@ pub fn grow_direct<D: BlockDev>(
     inode: &DiskInode,
     bytes: &[u8],
 ) -> Result<DiskInode, BallocFault>
-    requires sound { IsSound geometry disk.old.blocks }
-    requires inode { IsInode disk.old.blocks geometry.inodes number }
-    requires same { inode.now ≡ inode_at disk.old.blocks number }
+    requires held { IsInHand geometry disk.old.blocks number inode.now }
     requires fits { Fits inode.now }
-    requires whole { inode.now.size % 1024 ≡ 0 }
+    requires begins { BeginsBlock inode.now bytes.now }
     requires direct { inode.now.size < 12 * 1024 }
-    requires some { 0 < length bytes.now }
-    requires room { length bytes.now ≤ 1024 }
-    ensures prepared { IfOk result (λ next. Prepares geometry disk.old.blocks disk.new.blocks number next (splice inode.now.size bytes.now (bytes_of disk.old.blocks number))) }
-    ensures few { IsErrOf result BallocFault.Blocks → free_blocks geometry disk.old.blocks ≡ 0 }
-    ensures unchanged { IsErrOf result BallocFault.Blocks → disk.new.blocks ≡ disk.old.blocks }
-    ensures only { IsErrOf result BallocFault.Inodes → ⊥ }
-    ensures count { length disk.new.blocks ≡ length disk.old.blocks }
-    ensures later { disk.old.failures ≤ disk.new.failures }
-    ensures failed { IsErrOf result BallocFault.Device → Rises disk.old.failures disk.new.failures }
+    ensures { PutsBehind geometry disk.old disk.new number inode.now bytes.now result }
 {
     let b = take_block(disk, geometry)?;
     disk.write(b, 0, bytes)?;
@@ -87,22 +73,11 @@ pub fn grow_indirect<D: BlockDev>(
     inode: &DiskInode,
     bytes: &[u8],
 ) -> Result<DiskInode, BallocFault>
-    requires sound { IsSound geometry disk.old.blocks }
-    requires inode { IsInode disk.old.blocks geometry.inodes number }
-    requires same { inode.now ≡ inode_at disk.old.blocks number }
+    requires held { IsInHand geometry disk.old.blocks number inode.now }
     requires fits { Fits inode.now }
-    requires whole { inode.now.size % 1024 ≡ 0 }
+    requires begins { BeginsBlock inode.now bytes.now }
     requires indirect { 12 * 1024 < inode.now.size }
-    requires some { 0 < length bytes.now }
-    requires room { length bytes.now ≤ 1024 }
-    requires short { inode.now.size + length bytes.now ≤ 274432 }
-    ensures prepared { IfOk result (λ next. Prepares geometry disk.old.blocks disk.new.blocks number next (splice inode.now.size bytes.now (bytes_of disk.old.blocks number))) }
-    ensures few { IsErrOf result BallocFault.Blocks → free_blocks geometry disk.old.blocks ≡ 0 }
-    ensures unchanged { IsErrOf result BallocFault.Blocks → disk.new.blocks ≡ disk.old.blocks }
-    ensures only { IsErrOf result BallocFault.Inodes → ⊥ }
-    ensures count { length disk.new.blocks ≡ length disk.old.blocks }
-    ensures later { disk.old.failures ≤ disk.new.failures }
-    ensures failed { IsErrOf result BallocFault.Device → Rises disk.old.failures disk.new.failures }
+    ensures { PutsBehind geometry disk.old disk.new number inode.now bytes.now result }
 {
     let b = take_block(disk, geometry)?;
     disk.write(b, 0, bytes)?;
@@ -120,20 +95,11 @@ pub fn grow_both<D: BlockDev>(
     inode: &DiskInode,
     bytes: &[u8],
 ) -> Result<DiskInode, BallocFault>
-    requires sound { IsSound geometry disk.old.blocks }
-    requires inode { IsInode disk.old.blocks geometry.inodes number }
-    requires same { inode.now ≡ inode_at disk.old.blocks number }
+    requires held { IsInHand geometry disk.old.blocks number inode.now }
     requires fits { Fits inode.now }
-    requires whole { inode.now.size ≡ 12 * 1024 }
-    requires some { 0 < length bytes.now }
-    requires room { length bytes.now ≤ 1024 }
-    ensures prepared { IfOk result (λ next. Prepares geometry disk.old.blocks disk.new.blocks number next (splice inode.now.size bytes.now (bytes_of disk.old.blocks number))) }
-    ensures few { IsErrOf result BallocFault.Blocks → free_blocks geometry disk.old.blocks ≤ 1 }
-    ensures unchanged { IsErrOf result BallocFault.Blocks → disk.new.blocks ≡ disk.old.blocks }
-    ensures only { IsErrOf result BallocFault.Inodes → ⊥ }
-    ensures count { length disk.new.blocks ≡ length disk.old.blocks }
-    ensures later { disk.old.failures ≤ disk.new.failures }
-    ensures failed { IsErrOf result BallocFault.Device → Rises disk.old.failures disk.new.failures }
+    requires begins { BeginsBlock inode.now bytes.now }
+    requires last { inode.now.size ≡ 12 * 1024 }
+    ensures { PutsBehind geometry disk.old disk.new number inode.now bytes.now result }
 {
     let two = take_two(disk, geometry)?;
     let (b, numbers) = two;

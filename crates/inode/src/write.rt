@@ -4,9 +4,10 @@ ghost use Rattle.std.specs.Prelude.{◌≡◌, ◌≢◌, ◌⊎◌, ℕ, ◌+�
 ghost use Rattle.unixmodel.specs.Failures.{HasCause, Rises};
 ghost use Rattle.blockdev.specs.Splice.{splice};
 ghost use Rattle.layout.specs.Inode.{Fits};
-ghost use Rattle.layout.specs.Image.{IsInode, bytes_of, free_blocks, inode_at, nodes_of, taken_for};
+ghost use Rattle.layout.specs.Image.{IsInode, bytes_of, free_blocks, inode_at, nodes_of};
 ghost use Rattle.layout.specs.Sound.{IsSound};
-ghost use Rattle.inode.specs.Writing.{IsFull, Prepares, Wrote, node_linked};
+ghost use Rattle.inode.specs.Held.{IsInHand};
+ghost use Rattle.inode.specs.Writing.{BeginsBlock, IsFull, IsStep, PutsBehind, Wrote, node_linked};
 
 use crate::InodeFault;
 use crate::grow::{grow_both, grow_direct, grow_indirect, write_inside};
@@ -90,13 +91,7 @@ fn write_piece<D: BlockDev>(
     requires some { 0 < length bytes.now }
     requires room { at % 1024 + length bytes.now ≤ 1024 }
     requires short { at + length bytes.now ≤ 274432 }
-    ensures wrote { OnOk result (Wrote geometry disk.old.blocks disk.new.blocks number (splice at bytes.now (bytes_of disk.old.blocks number))) }
-    ensures few { IsErrOf result BallocFault.Blocks → free_blocks geometry disk.old.blocks + taken_for (length (bytes_of disk.old.blocks number)) < taken_for (at + 1) }
-    ensures unchanged { IsErrOf result BallocFault.Blocks → disk.new.blocks ≡ disk.old.blocks }
-    ensures only { IsErrOf result BallocFault.Inodes → ⊥ }
-    ensures count { length disk.new.blocks ≡ length disk.old.blocks }
-    ensures later { disk.old.failures ≤ disk.new.failures }
-    ensures failed { IsErrOf result BallocFault.Device → Rises disk.old.failures disk.new.failures }
+    ensures { IsStep geometry disk.old disk.new number at result (λ _. Wrote geometry disk.old.blocks disk.new.blocks number (splice at bytes.now (bytes_of disk.old.blocks number))) }
 {
     let inode = read_inode(disk, geometry, number)?;
     let held = (inode.size as usize).div_ceil(1024);
@@ -118,21 +113,10 @@ fn grow<D: BlockDev>(
     inode: &DiskInode,
     bytes: &[u8],
 ) -> Result<DiskInode, BallocFault>
-    requires sound { IsSound geometry disk.old.blocks }
-    requires inode { IsInode disk.old.blocks geometry.inodes number }
-    requires same { inode.now ≡ inode_at disk.old.blocks number }
+    requires held { IsInHand geometry disk.old.blocks number inode.now }
     requires fits { Fits inode.now }
-    requires whole { inode.now.size % 1024 ≡ 0 }
-    requires some { 0 < length bytes.now }
-    requires room { length bytes.now ≤ 1024 }
-    requires short { inode.now.size + length bytes.now ≤ 274432 }
-    ensures prepared { IfOk result (λ next. Prepares geometry disk.old.blocks disk.new.blocks number next (splice inode.now.size bytes.now (bytes_of disk.old.blocks number))) }
-    ensures few { IsErrOf result BallocFault.Blocks → free_blocks geometry disk.old.blocks + taken_for inode.now.size < taken_for (inode.now.size + 1) }
-    ensures unchanged { IsErrOf result BallocFault.Blocks → disk.new.blocks ≡ disk.old.blocks }
-    ensures only { IsErrOf result BallocFault.Inodes → ⊥ }
-    ensures count { length disk.new.blocks ≡ length disk.old.blocks }
-    ensures later { disk.old.failures ≤ disk.new.failures }
-    ensures failed { IsErrOf result BallocFault.Device → Rises disk.old.failures disk.new.failures }
+    requires begins { BeginsBlock inode.now bytes.now }
+    ensures { PutsBehind geometry disk.old disk.new number inode.now bytes.now result }
 {
     if inode.size < 12 * 1024 {
         return grow_direct(disk, geometry, number, inode, bytes);

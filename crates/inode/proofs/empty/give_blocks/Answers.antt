@@ -1,58 +1,91 @@
-use Rattle.std.proofs.Common.{arith}
-use Rattle.std.proofs.lemmas.Result.{on_ok_weaker}
-use Rattle.inode.proofs.Causes.{HasCause-after, HasCause-told}
-use Rattle.inode.proofs.Emptying.{freed_all, freed_few, here_end, here_first, here_freed, here_numbers, here_taken, last_end, last_first, last_taken}
+use Rattle.std.proofs.Common.{◌≡◌, ◌<◌, ◌∙◌, arith, refl}
+use Rattle.std.proofs.lemmas.Result.{err_from_is_err_and, on_ok_weaker}
+use Rattle.layout.specs.Image.{blocks_for}
+use Rattle.inode.specs.Held.{HasInode-of}
+use Rattle.inode.specs.Freeing.{Freed-none}
+use Rattle.inode.proofs.Causes.{HasCause-after, HasCause-good, HasCause-told}
+use Rattle.inode.proofs.Emptying.{freed_all, freed_few, here_end, here_first, here_freed, here_low, here_numbers, here_taken, last_end, last_first, last_taken}
 use Rattle.inode.proofs.empty.give_blocks.Goals as goal
 
-pub block_number-requires-clause-numbers : goal.block_number-requires-clause-numbers
-block_number-requires-clause-numbers g c = here_numbers c.args.geometry c.args.disk.now.blocks c.block.disk.blocks c.args.number c.block.index c.args.inode.now c.requires.sound c.requires.inode c.requires.same c.block.invariant.freed
-    (omega (arith, c.block-test.true, c.div_ceil-count.ensures))
+pub block-init : goal.block-init
+block-init g c = record {
+  freed = Freed-none c.args.geometry c.args.disk.now.blocks c.args.disk.now.blocks c.args.number (HasInode-of c.requires).sound.parts refl;
+  count = refl;
+  failures = omega arith;
+  within = omega arith;
+}
 
-pub give_block-requires-clause-low : goal.give_block-requires-clause-low
-give_block-requires-clause-low g c = here_first c.args.geometry c.args.disk.now.blocks c.block.disk.blocks c.args.number c.block.index c.args.inode.now c.requires.sound c.requires.inode c.requires.same c.block.invariant.freed
-    (omega (arith, c.block-test.true, c.div_ceil-count.ensures)) c.block_number.new.disk.blocks c.in_ok-b.b c.in_ok-b.ensures.same c.in_ok-b.ensures.value
+-- ---- a data block
 
-pub give_block-requires-clause-high : goal.give_block-requires-clause-high
-give_block-requires-clause-high g c = here_end c.args.geometry c.args.disk.now.blocks c.block.disk.blocks c.args.number c.block.index c.args.inode.now c.requires.sound c.requires.inode c.requires.same c.block.invariant.freed
-    (omega (arith, c.block-test.true, c.div_ceil-count.ensures)) c.block_number.new.disk.blocks c.in_ok-b.b c.in_ok-b.ensures.same c.in_ok-b.ensures.value
+pub block_number-requires : goal.block_number-requires
+block_number-requires g c =
+    let below : c.block.index < blocks_for c.args.inode.now.size = omega (arith, c.block-test.true, c.div_ceil-count.ensures) in
+    record {
+      slot = here_low (HasInode-of c.requires) c.block.invariant.freed below;
+      sizes = c.block.invariant.freed.parts.sizes;
+      numbers = here_numbers (HasInode-of c.requires) c.block.invariant.freed below;
+    }
 
-pub give_block-requires-clause-taken : goal.give_block-requires-clause-taken
-give_block-requires-clause-taken g c = here_taken c.args.geometry c.args.disk.now.blocks c.block.disk.blocks c.args.number c.block.index c.args.inode.now c.requires.sound c.requires.inode c.requires.same c.block.invariant.freed
-    (omega (arith, c.block-test.true, c.div_ceil-count.ensures)) c.block_number.new.disk.blocks c.in_ok-b.b c.in_ok-b.ensures.same c.in_ok-b.ensures.value
+pub returns-in_err-b : goal.returns-in_err-b
+returns-in_err-b g c = record {
+  freed = rw (err_from_is_err_and c.from_residual.result c.from_residual.ensures.1).1 tt;
+  count = c.block_number.ensures.count ∙ c.block.invariant.count;
+  cause = HasCause-told c.block.invariant.failures c.block_number.ensures.cause c.in_err-b.was;
+}
 
-pub returns-in_err-give_block-clause-cause : goal.returns-in_err-give_block-clause-cause
-returns-in_err-give_block-clause-cause g c = HasCause-told c.args.disk.now.failures c.block_number.new.disk.failures c.give_block.new.disk.failures c.give_block.result c.from_residual-in_err-give_block.result c.in_err-give_block.field-0.0
-    (omega (arith, c.block.invariant.failures, c.block_number.ensures.cause.later)) c.give_block.ensures.cause c.in_err-give_block.was
+pub give_block-requires : goal.give_block-requires
+give_block-requires g c =
+    let below : c.block.index < blocks_for c.args.inode.now.size = omega (arith, c.block-test.true, c.div_ceil-count.ensures) in
+    record {
+      parts = rw c.in_ok-b.ensures.same c.block.invariant.freed.parts;
+      low = here_first (HasInode-of c.requires) c.block.invariant.freed below c.in_ok-b.ensures.same c.in_ok-b.ensures.value;
+      high = here_end (HasInode-of c.requires) c.block.invariant.freed below c.in_ok-b.ensures.same c.in_ok-b.ensures.value;
+      taken = here_taken (HasInode-of c.requires) c.block.invariant.freed below c.in_ok-b.ensures.same c.in_ok-b.ensures.value;
+    }
+
+pub returns-in_err-give_block : goal.returns-in_err-give_block
+returns-in_err-give_block g c = record {
+  freed = rw (err_from_is_err_and c.from_residual-in_err-give_block.result c.from_residual-in_err-give_block.ensures.1).1 tt;
+  count = c.give_block.ensures.count ∙ c.block_number.ensures.count ∙ c.block.invariant.count;
+  cause = HasCause-told (omega (arith, c.block.invariant.failures, c.block_number.ensures.cause.later)) c.give_block.ensures.cause c.in_err-give_block.was;
+}
 
 pub block-preserved : goal.block-preserved
 block-preserved g c = record {
-  freed = here_freed c.args.geometry c.args.disk.now.blocks c.block.disk.blocks c.args.number c.block.index c.args.inode.now c.requires.sound c.requires.inode c.requires.same c.block.invariant.freed
-      (omega (arith, c.block-test.true, c.div_ceil-count.ensures)) c.block_number.new.disk.blocks c.in_ok-b.b c.in_ok-b.ensures.same c.in_ok-b.ensures.value c.give_block.new.disk.blocks c.in_ok-give_block.ensures.given;
-  count = omega (arith, c.give_block.ensures.count, c.block_number.ensures.count, c.block.invariant.count);
+  freed = here_freed (HasInode-of c.requires) c.block.invariant.freed (omega (arith, c.block-test.true, c.div_ceil-count.ensures)) c.in_ok-b.ensures.same c.in_ok-b.ensures.value c.in_ok-give_block.ensures.given;
+  count = c.give_block.ensures.count ∙ c.block_number.ensures.count ∙ c.block.invariant.count;
   failures = omega (arith, c.give_block.ensures.cause.later, c.block_number.ensures.cause.later, c.block.invariant.failures);
   within = omega (arith, c.block-test.true);
 }
 
-pub returns-then-count-le12-clause-freed : goal.returns-then-count-le12-clause-freed
-returns-then-count-le12-clause-freed g c = freed_few c.args.geometry c.args.disk.now.blocks c.block.disk.blocks c.args.number c.block.index c.args.inode.now c.requires.sound c.requires.inode c.requires.same c.block.invariant.freed
-    (omega (arith, c.block-test.false, c.block.invariant.within, c.div_ceil-count.ensures)) (omega (arith, c.if-count-le12.true, c.block.invariant.within))
+-- ---- the block of numbers
 
-pub give_block-requires-2-clause-low : goal.give_block-requires-2-clause-low
-give_block-requires-2-clause-low g c = last_first c.args.geometry c.args.disk.now.blocks c.block.disk.blocks c.args.number c.block.index c.args.inode.now c.requires.sound c.requires.inode c.requires.same c.block.invariant.freed
-    (omega (arith, c.block-test.false, c.block.invariant.within, c.div_ceil-count.ensures)) (omega (arith, c.if-count-le12.false, c.block-test.false))
+pub returns-then-count-le12 : goal.returns-then-count-le12
+returns-then-count-le12 g c =
+    let all : c.block.index ≡ blocks_for c.args.inode.now.size = omega (arith, c.block-test.false, c.block.invariant.within, c.div_ceil-count.ensures) in
+    record {
+      freed = freed_few (HasInode-of c.requires) c.block.invariant.freed all (omega (arith, c.if-count-le12.true, c.block.invariant.within));
+      count = c.block.invariant.count;
+      cause = HasCause-good c.block.invariant.failures;
+    }
 
-pub give_block-requires-2-clause-high : goal.give_block-requires-2-clause-high
-give_block-requires-2-clause-high g c = last_end c.args.geometry c.args.disk.now.blocks c.block.disk.blocks c.args.number c.block.index c.args.inode.now c.requires.sound c.requires.inode c.requires.same c.block.invariant.freed
-    (omega (arith, c.block-test.false, c.block.invariant.within, c.div_ceil-count.ensures)) (omega (arith, c.if-count-le12.false, c.block-test.false))
+pub give_block-requires-2 : goal.give_block-requires-2
+give_block-requires-2 g c =
+    let all : c.block.index ≡ blocks_for c.args.inode.now.size = omega (arith, c.block-test.false, c.block.invariant.within, c.div_ceil-count.ensures) in
+    let many : 12 < c.block.index = omega (arith, c.if-count-le12.false, c.block-test.false) in
+    record {
+      parts = c.block.invariant.freed.parts;
+      low = last_first (HasInode-of c.requires) c.block.invariant.freed all many;
+      high = last_end (HasInode-of c.requires) c.block.invariant.freed all many;
+      taken = last_taken (HasInode-of c.requires) c.block.invariant.freed all many;
+    }
 
-pub give_block-requires-2-clause-taken : goal.give_block-requires-2-clause-taken
-give_block-requires-2-clause-taken g c = last_taken c.args.geometry c.args.disk.now.blocks c.block.disk.blocks c.args.number c.block.index c.args.inode.now c.requires.sound c.requires.inode c.requires.same c.block.invariant.freed
-    (omega (arith, c.block-test.false, c.block.invariant.within, c.div_ceil-count.ensures)) (omega (arith, c.if-count-le12.false, c.block-test.false))
-
-pub returns-clause-freed : goal.returns-clause-freed
-returns-clause-freed g c = on_ok_weaker c.give_block-2.result
-    (λ sets. freed_all c.args.geometry c.args.disk.now.blocks c.block.disk.blocks c.args.number c.block.index c.args.inode.now c.requires.sound c.requires.inode c.requires.same c.block.invariant.freed
-    (omega (arith, c.block-test.false, c.block.invariant.within, c.div_ceil-count.ensures)) (omega (arith, c.if-count-le12.false, c.block-test.false)) c.give_block-2.new.disk.blocks sets) c.give_block-2.ensures.given
-
-pub returns-clause-cause : goal.returns-clause-cause
-returns-clause-cause g c = HasCause-after c.args.disk.now.failures c.block.disk.failures c.give_block-2.new.disk.failures c.give_block-2.result c.block.invariant.failures c.give_block-2.ensures.cause
+pub returns : goal.returns
+returns g c =
+    let all : c.block.index ≡ blocks_for c.args.inode.now.size = omega (arith, c.block-test.false, c.block.invariant.within, c.div_ceil-count.ensures) in
+    let many : 12 < c.block.index = omega (arith, c.if-count-le12.false, c.block-test.false) in
+    record {
+      freed = on_ok_weaker c.give_block-2.result (freed_all (HasInode-of c.requires) c.block.invariant.freed all many) c.give_block-2.ensures.given;
+      count = c.give_block-2.ensures.count ∙ c.block.invariant.count;
+      cause = HasCause-after c.block.invariant.failures c.give_block-2.ensures.cause;
+    }

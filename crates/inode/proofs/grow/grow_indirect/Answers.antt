@@ -1,94 +1,38 @@
-use Rattle.std.proofs.Common.{length, ap, sym, arith, subst, refl, ◌∙◌}
-use Rattle.std.proofs.lemmas.Result.{err_from_is_err_and}
-use Rattle.std.specs.Result.{is_err}
-use Rattle.balloc.proofs.Exits.{not_blocks, not_inodes, told_device, told_same}
-use Rattle.blockdev.specs.Splice.{splice}
-use Rattle.layout.specs.Image.{bytes_of}
-use Rattle.inode.specs.Writing.{Prepares}
-use Rattle.std.proofs.Common.{inr}
-use Rattle.inode.proofs.Growing.{own_used}
+use Rattle.std.proofs.Common.{length, ap, arith, le_refl, refl, ◌∙◌}
+use Rattle.inode.specs.Held.{HasInode-of}
+use Rattle.inode.proofs.Ends.{IsStep-done, IsStep-failed, IsStep-refused}
+use Rattle.inode.proofs.Filling.{lacks_indirect}
 use Rattle.inode.proofs.Reading.{numbers_in_disk}
 use Rattle.inode.proofs.Steps.{Prepares-indirect}
 use Rattle.inode.proofs.grow.grow_indirect.Goals as goal
 
-pub returns-clause-prepared : goal.returns-clause-prepared
-returns-clause-prepared g c =
-    subst (λ next. Prepares c.args.geometry c.args.disk.now.blocks c.write-2.new.self.blocks c.args.number next (splice c.args.inode.now.size c.args.bytes.now (bytes_of c.args.disk.now.blocks c.args.number))) (sym c.with_size.ensures)
-    (Prepares-indirect c.args.geometry c.args.disk.now.blocks c.take_block.new.disk.blocks c.write.new.self.blocks c.write-2.new.self.blocks c.args.number c.args.inode.now c.in_ok-b.b c.args.bytes.now c.number_bytes.result
-    c.requires.sound c.requires.inode c.requires.same c.requires.fits c.requires.whole c.requires.indirect c.requires.some c.requires.room c.requires.short c.in_ok-b.ensures.taken
-    c.number_bytes.ensures (ap length c.number_bytes.ensures) c.in_ok-write.ensures.written c.in_ok-write-2.ensures.written)
+pub take_block-requires : goal.take_block-requires
+take_block-requires g c = (HasInode-of c.requires.held).sound.parts
+
+pub returns-in_err-b : goal.returns-in_err-b
+returns-in_err-b g c =
+    IsStep-refused c.take_block.ensures.count c.from_residual.ensures.1
+    (λ told. lacks_indirect (HasInode-of c.requires.held) c.requires.begins.whole c.requires.indirect (c.in_err-b.ensures.none told))
+    c.in_err-b.ensures.unchanged c.in_err-b.ensures.only c.take_block.ensures.later c.in_err-b.ensures.failed
+
+pub returns-in_err-write : goal.returns-in_err-write
+returns-in_err-write g c =
+    IsStep-failed (c.write.ensures.count ∙ c.take_block.ensures.count)
+    c.from_residual-in_err-write.ensures.1 c.take_block.ensures.later c.write.ensures.cause c.in_err-write.was
+
+pub returns-in_err-write-2 : goal.returns-in_err-write-2
+returns-in_err-write-2 g c =
+    IsStep-failed (c.write-2.ensures.count ∙ c.write.ensures.count ∙ c.take_block.ensures.count)
+    c.from_residual-in_err-write-2.ensures.1 (omega (arith, c.take_block.ensures.later, c.write.ensures.cause.later)) c.write-2.ensures.cause c.in_err-write-2.was
+
+pub returns : goal.returns
+returns g c =
+    IsStep-done (c.write-2.ensures.count ∙ c.write.ensures.count ∙ c.take_block.ensures.count)
+    (rw c.with_size.ensures (Prepares-indirect c.args.bytes.now c.number_bytes.result (HasInode-of c.requires.held) c.requires.fits c.requires.begins.whole c.requires.indirect c.requires.begins.some c.requires.begins.room c.requires.begins.short c.in_ok-b.ensures.taken
+    c.number_bytes.ensures (ap length c.number_bytes.ensures) c.in_ok-write.ensures.written c.in_ok-write-2.ensures.written))
+    (omega (arith, c.take_block.ensures.later, c.write.ensures.cause.later, c.write-2.ensures.cause.later))
 
 pub write-requires-2-clause-block : goal.write-requires-2-clause-block
 write-requires-2-clause-block g c =
-    let used = own_used c.args.geometry c.args.disk.now.blocks c.args.number c.args.inode.now c.requires.sound c.requires.inode c.requires.same 268 (inr (refl, omega (arith, c.requires.indirect))) in
-    let high = numbers_in_disk c.args.geometry c.args.disk.now.blocks c.args.disk.now.blocks c.args.number 268 c.args.inode.now c.requires.sound c.requires.same refl used (omega arith) in
-    omega (arith, high, c.write.ensures.count, c.take_block.ensures.count)
-
-pub returns-in_err-b-clause-prepared : goal.returns-in_err-b-clause-prepared
-returns-in_err-b-clause-prepared g c = let p = err_from_is_err_and c.from_residual.result c.from_residual.ensures.1 in rw p.1 tt
-
-pub returns-in_err-b-clause-few : goal.returns-in_err-b-clause-few
-returns-in_err-b-clause-few g c = λ told. c.in_err-b.ensures.none (told_same c.from_residual.result _ _ c.from_residual.ensures.1 told)
-
-pub returns-in_err-b-clause-unchanged : goal.returns-in_err-b-clause-unchanged
-returns-in_err-b-clause-unchanged g c = λ told. c.in_err-b.ensures.unchanged (told_same c.from_residual.result _ _ c.from_residual.ensures.1 told)
-
-pub returns-in_err-b-clause-only : goal.returns-in_err-b-clause-only
-returns-in_err-b-clause-only g c = λ told. c.in_err-b.ensures.only (told_same c.from_residual.result _ _ c.from_residual.ensures.1 told)
-
-pub returns-in_err-b-clause-count : goal.returns-in_err-b-clause-count
-returns-in_err-b-clause-count g c = c.take_block.ensures.count
-
-pub returns-in_err-b-clause-later : goal.returns-in_err-b-clause-later
-returns-in_err-b-clause-later g c = c.take_block.ensures.later
-
-pub returns-in_err-b-clause-failed : goal.returns-in_err-b-clause-failed
-returns-in_err-b-clause-failed g c = λ told. c.in_err-b.ensures.failed (told_same c.from_residual.result _ _ c.from_residual.ensures.1 told)
-
-pub returns-in_err-write-clause-prepared : goal.returns-in_err-write-clause-prepared
-returns-in_err-write-clause-prepared g c = rw (told_device c.from_residual-in_err-write.result c.from_residual-in_err-write.ensures.1) tt
-
-pub returns-in_err-write-clause-few : goal.returns-in_err-write-clause-few
-returns-in_err-write-clause-few g c = λ told. absurd (not_blocks c.from_residual-in_err-write.result (told_device c.from_residual-in_err-write.result c.from_residual-in_err-write.ensures.1) told)
-
-pub returns-in_err-write-clause-unchanged : goal.returns-in_err-write-clause-unchanged
-returns-in_err-write-clause-unchanged g c = λ told. absurd (not_blocks c.from_residual-in_err-write.result (told_device c.from_residual-in_err-write.result c.from_residual-in_err-write.ensures.1) told)
-
-pub returns-in_err-write-clause-only : goal.returns-in_err-write-clause-only
-returns-in_err-write-clause-only g c = not_inodes c.from_residual-in_err-write.result (told_device c.from_residual-in_err-write.result c.from_residual-in_err-write.ensures.1)
-
-pub returns-in_err-write-clause-count : goal.returns-in_err-write-clause-count
-returns-in_err-write-clause-count g c = c.write.ensures.count ∙ c.take_block.ensures.count
-
-pub returns-in_err-write-clause-later : goal.returns-in_err-write-clause-later
-returns-in_err-write-clause-later g c = omega (arith, c.take_block.ensures.later, c.write.ensures.cause.later)
-
-pub returns-in_err-write-clause-failed : goal.returns-in_err-write-clause-failed
-returns-in_err-write-clause-failed g c = λ _. let f = c.write.ensures.cause.failed (ap is_err c.in_err-write.was) in omega (arith, f, c.take_block.ensures.later)
-
-pub returns-in_err-write-2-clause-prepared : goal.returns-in_err-write-2-clause-prepared
-returns-in_err-write-2-clause-prepared g c = rw (told_device c.from_residual-in_err-write-2.result c.from_residual-in_err-write-2.ensures.1) tt
-
-pub returns-in_err-write-2-clause-few : goal.returns-in_err-write-2-clause-few
-returns-in_err-write-2-clause-few g c = λ told. absurd (not_blocks c.from_residual-in_err-write-2.result (told_device c.from_residual-in_err-write-2.result c.from_residual-in_err-write-2.ensures.1) told)
-
-pub returns-in_err-write-2-clause-unchanged : goal.returns-in_err-write-2-clause-unchanged
-returns-in_err-write-2-clause-unchanged g c = λ told. absurd (not_blocks c.from_residual-in_err-write-2.result (told_device c.from_residual-in_err-write-2.result c.from_residual-in_err-write-2.ensures.1) told)
-
-pub returns-in_err-write-2-clause-only : goal.returns-in_err-write-2-clause-only
-returns-in_err-write-2-clause-only g c = not_inodes c.from_residual-in_err-write-2.result (told_device c.from_residual-in_err-write-2.result c.from_residual-in_err-write-2.ensures.1)
-
-pub returns-in_err-write-2-clause-count : goal.returns-in_err-write-2-clause-count
-returns-in_err-write-2-clause-count g c = c.write-2.ensures.count ∙ c.write.ensures.count ∙ c.take_block.ensures.count
-
-pub returns-in_err-write-2-clause-later : goal.returns-in_err-write-2-clause-later
-returns-in_err-write-2-clause-later g c = omega (arith, c.take_block.ensures.later, c.write.ensures.cause.later, c.write-2.ensures.cause.later)
-
-pub returns-in_err-write-2-clause-failed : goal.returns-in_err-write-2-clause-failed
-returns-in_err-write-2-clause-failed g c = λ _. let f = c.write-2.ensures.cause.failed (ap is_err c.in_err-write-2.was) in omega (arith, f, c.take_block.ensures.later, c.write.ensures.cause.later)
-
-pub returns-clause-count : goal.returns-clause-count
-returns-clause-count g c = c.write-2.ensures.count ∙ c.write.ensures.count ∙ c.take_block.ensures.count
-
-pub returns-clause-later : goal.returns-clause-later
-returns-clause-later g c = omega (arith, c.take_block.ensures.later, c.write.ensures.cause.later, c.write-2.ensures.cause.later)
+    let last = numbers_in_disk (HasInode-of c.requires.held) refl 12 (omega (arith, c.requires.indirect)) (le_refl 12) in
+    omega (arith, last, c.write.ensures.count, c.take_block.ensures.count)

@@ -1,15 +1,20 @@
 use Rattle.std.proofs.Common.{arith}
-use Rattle.inode.proofs.Filling.{few_both, few_direct, few_indirect}
 use Rattle.inode.proofs.write.grow.Goals as goal
 
-pub returns-then-inode-clause-few : goal.returns-then-inode-clause-few
-returns-then-inode-clause-few g c = λ told. few_direct _ c.args.inode.now.size c.requires.whole c.if-inode.true (c.grow_direct.ensures.few told)
+pub grow_direct-requires : goal.grow_direct-requires
+grow_direct-requires g c = record { held = c.requires.held; fits = c.requires.fits; begins = c.requires.begins; direct = c.if-inode.true }
 
-pub returns-then-inode-2-clause-few : goal.returns-then-inode-2-clause-few
-returns-then-inode-2-clause-few g c = λ told. few_indirect _ c.args.inode.now.size c.requires.whole c.if-inode-2.true (c.grow_indirect.ensures.few told)
+pub returns-then-inode : goal.returns-then-inode
+returns-then-inode g c = c.grow_direct.ensures
 
-pub returns-clause-few : goal.returns-clause-few
-returns-clause-few g c = λ told. few_both _ c.args.inode.now.size (omega (arith, c.if-inode.false, c.if-inode-2.false)) (c.grow_both.ensures.few told)
+pub grow_indirect-requires : goal.grow_indirect-requires
+grow_indirect-requires g c = record { held = c.requires.held; fits = c.requires.fits; begins = c.requires.begins; indirect = c.if-inode-2.true }
 
-pub grow_both-requires-clause-whole : goal.grow_both-requires-clause-whole
-grow_both-requires-clause-whole g c = omega (arith, c.if-inode.false, c.if-inode-2.false)
+pub returns-then-inode-2 : goal.returns-then-inode-2
+returns-then-inode-2 g c = c.grow_indirect.ensures
+
+pub grow_both-requires : goal.grow_both-requires
+grow_both-requires g c = record { held = c.requires.held; fits = c.requires.fits; begins = c.requires.begins; last = omega (arith, c.if-inode.false, c.if-inode-2.false) }
+
+pub returns : goal.returns
+returns g c = c.grow_both.ensures
