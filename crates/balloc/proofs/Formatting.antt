@@ -203,6 +203,11 @@ free_blocks-all g blocks room clear =
 
 -- ---- as the code makes it
 
+pub record IsNew (g : Geometry) (blocks : List (List ℕ)) : Type 0 where
+  pub sound : IsSound g blocks
+  pub nodes : nodes_of blocks g.inodes ≡ replicate g.inodes None
+  pub free : free_blocks g blocks + data_start_of g.size g.inodes ≡ g.size
+
 module _ (g : Geometry) (cleared written : List (List ℕ)) (bytes : List ℕ) (parts : HasParts g cleared) (low : 32 ≤ g.size) (zeros : Cleared cleared (data_start_of g.size g.inodes))
     (spelled : bytes ≡ super_bytes (new_super g)) (e : written ≡ set cleared 1 (splice 0 bytes (block_at cleared 1))) where
   rest : (k : ℕ) → k ≢ 1 → block_at written k ≡ block_at cleared k
@@ -219,11 +224,9 @@ module _ (g : Geometry) (cleared written : List (List ℕ)) (bytes : List ℕ) (
     new_zeros : (k : ℕ) → 2 ≤ k → k < bitmap_start_of g.inodes → (i : ℕ) → get_or (block_at new k) i 0 ≡ 0
     new_zeros k h l i = ap (λ x. get_or x i 0) (front.before k l ∙ rest k (omega arith)) ∙ zeros k (omega arith) i
 
-    pub new_sound : IsSound g new
-    new_sound = IsSound-empty g new front.parts new_zeros new_head front.marked front.unmarked
-
-    pub new_nodes : nodes_of new g.inodes ≡ replicate g.inodes None
-    new_nodes = no_nodes g new front.parts new_zeros
-
-    pub new_free : free_blocks g new + data_start_of g.size g.inodes ≡ g.size
-    new_free = free_blocks-all g new parts.room front.unmarked
+    pub new_system : IsNew g new
+    new_system = record {
+      sound = IsSound-empty g new front.parts new_zeros new_head front.marked front.unmarked;
+      nodes = no_nodes g new front.parts new_zeros;
+      free = free_blocks-all g new parts.room front.unmarked;
+    }

@@ -3,3 +3,4 @@ pub mod Exits
 mod Formatting
 mod Records
 mod Scanning
+mod Taking

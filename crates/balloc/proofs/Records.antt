@@ -1,5 +1,5 @@
 -- The record of an inode without blocks is written.
-use Rattle.std.proofs.Common.{◌≡◌, ◌≢◌, ℕ, ◌+◌, ◌*◌, ◌/◌, ◌%◌, ◌<◌, ◌≤◌, List, [], ◌∷◌, length, get_or, set, replicate, Some, None, ap, ◌∙◌, arith, inl, inr, refl}
+use Rattle.std.proofs.Common.{◌≡◌, ◌≢◌, ℕ, ◌+◌, ◌*◌, ◌/◌, ◌%◌, ◌^◌, ◌<◌, ◌≤◌, List, [], ◌∷◌, length, get_or, set, replicate, subst, Option, Some, None, ap, ◌∙◌, arith, inl, inr, refl}
 use Rattle.std.proofs.lemmas.Bool.{cases_lt}
 use Rattle.std.proofs.lemmas.List.{get_or-replicate, get_or_past, length-replicate}
 use Rattle.layout.specs.Inode.{Fits, inode_bytes}
@@ -7,12 +7,13 @@ use Rattle.layout.specs.Numbers.{spelled}
 use Rattle.layout.specs.Super.{bitmap_start_of}
 use Rattle.layout.specs.declared.DiskInode.{DiskInode}
 use Rattle.layout.specs.declared.Geometry.{Geometry}
-use Rattle.layout.specs.Image.{IsUsed, bit_in, free_blocks, inode_at, node_with, nodes_of}
+use Rattle.layout.specs.Image.{IsInode, IsUsed, RawNode, bit_in, free_blocks, inode_at, node_at, node_with, nodes_of}
 use Rattle.layout.specs.Sound.{IsSound}
 use Rattle.layout.specs.Frame.{IsSound-replace, KeepsOthers, node_at-none, nodes_of-changed}
 use Rattle.layout.specs.Grow.{Grows, Grows-keeps, Grows-node, Grows-sound, WritesInode}
 use Rattle.layout.specs.Plain.{Grows-empty, HoldsBytes-empty, asks_none}
 use Rattle.balloc.specs.Counting.{free_blocks-same}
+use Rattle.balloc.specs.Inodes.{IsLowestUnused, fresh_inode, fresh_node}
 
 length-spelled : (xs : List ℕ) → length (spelled xs) ≡ 4 * length xs
 length-spelled [] = refl
@@ -28,13 +29,27 @@ zero_at n k = elim (cases_lt k n) [
   | inr h ↦ get_or_past (replicate {A = ℕ} n 0) k 0 (omega (arith, length-replicate {A = ℕ} n 0))
 ]
 
+-- the record of an inode without bytes
+pub fresh_fits : (kind major minor links : ℕ) → kind < 2 ^ 16 → major < 2 ^ 16 → minor < 2 ^ 16 → links < 2 ^ 16 → Fits (fresh_inode kind major minor links)
+fresh_fits kind major minor links a b c d = record {
+  kind = a;
+  major = b;
+  minor = c;
+  links = d;
+  size = omega arith;
+  addresses = λ i h. let z = zero_at 13 i in omega arith;
+  places = refl;
+}
+
 -- an inode without bytes has no blocks
-pub unused_empty : (blocks : List (List ℕ)) (inodes n : ℕ) → (inode_at blocks n).size ≡ 0 → (j : ℕ) → IsUsed blocks inodes n j → ⊥
+unused_empty : (blocks : List (List ℕ)) (inodes n : ℕ) → (inode_at blocks n).size ≡ 0 → (j : ℕ) → IsUsed blocks inodes n j → ⊥
 unused_empty blocks inodes n e j u = asks_none (inode_at blocks n).size j e u.slot
 
--- nor has a free one
-pub unused_free : (blocks : List (List ℕ)) (inodes n : ℕ) → (inode_at blocks n).kind ≡ 0 → (j : ℕ) → IsUsed blocks inodes n j → ⊥
-unused_free blocks inodes n e j u = u.inode.kind e
+-- what is so once a record is written for this node, or for none
+pub record IsRecorded (g : Geometry) (old new : List (List ℕ)) (n : ℕ) (node : Option RawNode) : Type 0 where
+  pub sound : IsSound g new
+  pub nodes : nodes_of new g.inodes ≡ set (nodes_of old g.inodes) n node
+  pub free : free_blocks g new ≡ free_blocks g old
 
 module _ (g : Geometry) (old new : List (List ℕ)) (n : ℕ) (inode : DiskInode) (sound : IsSound g old) (low : 1 ≤ n) (high : n < g.inodes) (unused : (j : ℕ) → IsUsed old g.inodes n j → ⊥)
     (kind : inode.kind ≤ 3) (empty : inode.size ≡ 0) (zero : (k : ℕ) → get_or inode.addresses k 0 ≡ 0) (writes : WritesInode g old new n inode) where
@@ -44,18 +59,27 @@ module _ (g : Geometry) (old new : List (List ℕ)) (n : ℕ) (inode : DiskInode
   abbrev keeps : KeepsOthers g old new n
   keeps = Grows-keeps g old old new n inode sound low high grows writes
 
-  pub record_sound : IsSound g new
-  record_sound = IsSound-replace g old new n sound keeps (Grows-sound g old old new n inode sound low high grows writes)
+  recorded : (shown : Option RawNode) → node_at new n ≡ shown → IsRecorded g old new n shown
+  recorded shown is = record {
+    sound = IsSound-replace g old new n sound keeps (Grows-sound g old old new n inode sound low high grows writes);
+    nodes = nodes_of-changed g old new n sound keeps high ∙ ap (set (nodes_of old g.inodes) n) is;
+    free = free_blocks-same g old new (λ b h. ap (λ c. bit_in c (b % 8192)) (writes.rest (bitmap_start_of g.inodes + b / 8192) (omega arith)));
+  }
 
-  pub record_some : inode.kind ≢ 0 → nodes_of new g.inodes ≡ set (nodes_of old g.inodes) n (Some (node_with inode []))
-  record_some taken =
-      nodes_of-changed g old new n sound keeps high
-      ∙ ap (set (nodes_of old g.inodes) n) (Grows-node g old old new n inode sound low high grows writes [] taken (HoldsBytes-empty old inode empty))
+  recorded_some : inode.kind ≢ 0 → IsRecorded g old new n (Some (node_with inode []))
+  recorded_some taken = recorded (Some (node_with inode [])) (Grows-node g old old new n inode sound low high grows writes [] taken (HoldsBytes-empty old inode empty))
 
-  pub record_none : inode.kind ≡ 0 → nodes_of new g.inodes ≡ set (nodes_of old g.inodes) n None
-  record_none free =
-      nodes_of-changed g old new n sound keeps high
-      ∙ ap (set (nodes_of old g.inodes) n) (node_at-none new n (inr (ap (λ (i : DiskInode). i.kind) writes.here ∙ free)))
+  recorded_none : inode.kind ≡ 0 → IsRecorded g old new n None
+  recorded_none free = recorded None (node_at-none new n (inr (ap (λ (i : DiskInode). i.kind) writes.here ∙ free)))
 
-  pub record_free : free_blocks g new ≡ free_blocks g old
-  record_free = free_blocks-same g old new (λ b h. ap (λ c. bit_in c (b % 8192)) (writes.rest (bitmap_start_of g.inodes + b / 8192) (omega arith)))
+-- a free inode is taken
+pub recorded_fresh : {g : Geometry} {old mid new : List (List ℕ)} {n kind major minor links : ℕ} → IsSound g old → IsLowestUnused g old n → 1 ≤ kind → kind ≤ 3 → mid ≡ old → WritesInode g mid new n (fresh_inode kind major minor links)
+    → IsRecorded g old new n (Some (fresh_node kind major minor links))
+recorded_fresh {g} {old} {new = new} {n} {kind} {major} {minor} {links} sound unused some kinds same writes =
+    recorded_some g old new n (fresh_inode kind major minor links) sound unused.low unused.high (λ j u. u.inode.kind unused.unused) kinds refl (zero_at 13)
+    (subst (λ b. WritesInode g b new n (fresh_inode kind major minor links)) same writes) (λ z. omega arith)
+
+-- an inode without bytes is given back
+pub recorded_given : {g : Geometry} {old new : List (List ℕ)} {n : ℕ} → IsSound g old → IsInode old g.inodes n → (inode_at old n).size ≡ 0 → WritesInode g old new n (fresh_inode 0 0 0 0) → IsRecorded g old new n None
+recorded_given {g} {old} {new} {n} sound inode empty writes =
+    recorded_none g old new n (fresh_inode 0 0 0 0) sound inode.low inode.high (unused_empty old g.inodes n empty) (omega arith) refl (zero_at 13) writes refl

@@ -14,6 +14,16 @@ pub record SetsBit (g : Geometry) (old new : List (List ℕ)) (b bit : ℕ) : Ty
   pub before : (k : ℕ) → k < bitmap_start_of g.inodes → block_at new k ≡ block_at old k
   pub after : (k : ℕ) → data_start_of g.size g.inodes ≤ k → block_at new k ≡ block_at old k
 
+-- each block from here on is taken
+abbrev pub IsFullFrom : Geometry → List (List ℕ) → ℕ → Type 0
+IsFullFrom g blocks from = (c : ℕ) → from ≤ c → c < g.size → bit_of blocks (bitmap_start_of g.inodes) c ≡ 1
+
+-- b is the lowest free block from here on
+pub record IsFirstFree (g : Geometry) (blocks : List (List ℕ)) (from b : ℕ) : Type 0 where
+  pub low : from ≤ b
+  pub free : IsFree g blocks b
+  pub before : (c : ℕ) → from ≤ c → c < b → bit_of blocks (bitmap_start_of g.inodes) c ≡ 1
+
 -- b is the lowest free block
 pub record IsLowestFree (g : Geometry) (blocks : List (List ℕ)) (b : ℕ) : Type 0 where
   pub free : IsFree g blocks b

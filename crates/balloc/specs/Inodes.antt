@@ -4,6 +4,10 @@ use Rattle.layout.specs.declared.DiskInode.{DiskInode}
 use Rattle.layout.specs.declared.Geometry.{Geometry}
 use Rattle.layout.specs.Image.{RawNode, inode_at}
 
+-- no inode is free
+abbrev pub AreAllUsed : Geometry → List (List ℕ) → Type 0
+AreAllUsed g blocks = (n : ℕ) → 1 ≤ n → n < g.inodes → (inode_at blocks n).kind ≢ 0
+
 -- n is the lowest number whose inode is free
 pub record IsLowestUnused (g : Geometry) (blocks : List (List ℕ)) (n : ℕ) : Type 0 where
   pub low : 1 ≤ n

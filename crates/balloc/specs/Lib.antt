@@ -3,3 +3,4 @@ pub mod Bits
 pub mod Counting
 pub mod Format
 pub mod Inodes
+pub mod Refusals

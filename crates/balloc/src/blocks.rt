@@ -8,7 +8,8 @@ ghost use Rattle.unixmodel.specs.Failures.{HasCause, Rises};
 ghost use Rattle.layout.specs.Super.{bitmap_start_of, data_start_of};
 ghost use Rattle.layout.specs.Image.{IsFree, bit_in, bit_of, free_blocks};
 ghost use Rattle.layout.specs.Sound.{HasParts};
-ghost use Rattle.balloc.specs.Bitmap.{SetsBit, TakesLowest, TakesTwo};
+ghost use Rattle.balloc.specs.Bitmap.{IsFirstFree, IsFullFrom, SetsBit, TakesLowest, TakesTwo};
+ghost use Rattle.balloc.specs.Refusals.{Refuses};
 
 use crate::BallocFault;
 use blockdev::{Block, BlockDev, DeviceFault};
@@ -30,10 +31,7 @@ pub fn take_block<D: BlockDev>(
     ensures later { disk.old.failures ≤ disk.new.failures }
     ensures failed { IsErrOf result BallocFault.Device → Rises disk.old.failures disk.new.failures }
 {
-    let found = find_free(disk, geometry, geometry.data_start())?;
-    let Some(b) = found else {
-        return Err(BallocFault::Blocks);
-    };
+    let b = find_free(disk, geometry, geometry.data_start())?;
     mark(disk, geometry, b)?;
     Ok(b)
 }
@@ -53,14 +51,8 @@ pub fn take_two<D: BlockDev>(
     ensures later { disk.old.failures ≤ disk.new.failures }
     ensures failed { IsErrOf result BallocFault.Device → Rises disk.old.failures disk.new.failures }
 {
-    let lowest = find_free(disk, geometry, geometry.data_start())?;
-    let Some(first) = lowest else {
-        return Err(BallocFault::Blocks);
-    };
-    let next = find_free(disk, geometry, first + 1)?;
-    let Some(second) = next else {
-        return Err(BallocFault::Blocks);
-    };
+    let first = find_free(disk, geometry, geometry.data_start())?;
+    let second = find_free(disk, geometry, first + 1)?;
     mark(disk, geometry, first)?;
     mark(disk, geometry, second)?;
     Ok((first, second))
@@ -112,15 +104,12 @@ fn find_free<D: BlockDev>(
     disk: &mut Cache<D>,
     geometry: Geometry,
     from: usize,
-) -> Result<Option<usize>, DeviceFault>
+) -> Result<usize, BallocFault>
     requires parts { HasParts geometry disk.old.blocks }
     requires from { data_start_of geometry.size geometry.inodes ≤ from }
-    ensures found { IfOk result (λ r. IfSome r (λ b. (from ≤ b) × IsFree geometry disk.old.blocks b)) }
-    ensures lowest { IfOk result (λ r. IfSome r (λ b. (c : ℕ) → from ≤ c → c < b → bit_of disk.old.blocks (bitmap_start_of geometry.inodes) c ≡ 1)) }
-    ensures none { IfOk result (λ r. IfNone r ((c : ℕ) → from ≤ c → c < geometry.size → bit_of disk.old.blocks (bitmap_start_of geometry.inodes) c ≡ 1)) }
+    ensures found { IfOk result (λ b. IsFirstFree geometry disk.old.blocks from b) }
     ensures same { OnOk result (disk.new.blocks ≡ disk.old.blocks) }
-    ensures count { length disk.new.blocks ≡ length disk.old.blocks }
-    ensures cause { HasCause disk.old.failures disk.new.failures result }
+    ensures refuses { Refuses disk.old disk.new result BallocFault.Blocks BallocFault.Inodes (IsFullFrom geometry disk.old.blocks from) }
 {
     let start = geometry.bitmap_start();
     let mut b = from;
@@ -129,11 +118,11 @@ fn find_free<D: BlockDev>(
         let first = b / 8192 * 8192;
         let end = geometry.size.min(first + 8192);
         if let Some(i) = first_clear(&block, b % 8192, end - first) {
-            return Ok(Some(first + i));
+            return Ok(first + i);
         }
         b = end;
     }
-    Ok(None)
+    Err(BallocFault::Blocks)
 }
 
 // The lowest clear bit of a block in a range.

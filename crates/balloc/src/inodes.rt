@@ -8,7 +8,8 @@ ghost use Rattle.layout.specs.Inode.{Fits, inode_of};
 ghost use Rattle.layout.specs.Image.{IsInode, free_blocks, inode_at, nodes_of};
 ghost use Rattle.layout.specs.Sound.{HasParts, IsSound};
 ghost use Rattle.layout.specs.Grow.{WritesInode};
-ghost use Rattle.balloc.specs.Inodes.{IsLowestUnused, fresh_inode, fresh_node};
+ghost use Rattle.balloc.specs.Inodes.{AreAllUsed, IsLowestUnused, fresh_inode, fresh_node};
+ghost use Rattle.balloc.specs.Refusals.{Refuses};
 
 use crate::BallocFault;
 use blockdev::{Block, BlockDev, DeviceFault};
@@ -75,10 +76,7 @@ pub fn take_inode<D: BlockDev>(
     ensures later { disk.old.failures ≤ disk.new.failures }
     ensures failed { IsErrOf result BallocFault.Device → Rises disk.old.failures disk.new.failures }
 {
-    let found = find_unused(disk, geometry)?;
-    let Some(number) = found else {
-        return Err(BallocFault::Inodes);
-    };
+    let number = find_unused(disk, geometry)?;
     let inode = DiskInode {
         kind,
         major,
@@ -118,16 +116,11 @@ pub fn give_inode<D: BlockDev>(
 }
 
 // The lowest number from 1 on whose type is 0.
-fn find_unused<D: BlockDev>(
-    disk: &mut Cache<D>,
-    geometry: Geometry,
-) -> Result<Option<usize>, DeviceFault>
+fn find_unused<D: BlockDev>(disk: &mut Cache<D>, geometry: Geometry) -> Result<usize, BallocFault>
     requires { HasParts geometry disk.old.blocks }
-    ensures found { IfOk result (λ r. IfSome r (λ n. IsLowestUnused geometry disk.old.blocks n)) }
-    ensures none { IfOk result (λ r. IfNone r ((n : ℕ) → 1 ≤ n → n < geometry.inodes → (inode_at disk.old.blocks n).kind ≢ 0)) }
+    ensures found { IfOk result (λ n. IsLowestUnused geometry disk.old.blocks n) }
     ensures same { OnOk result (disk.new.blocks ≡ disk.old.blocks) }
-    ensures count { length disk.new.blocks ≡ length disk.old.blocks }
-    ensures cause { HasCause disk.old.failures disk.new.failures result }
+    ensures refuses { Refuses disk.old disk.new result BallocFault.Inodes BallocFault.Blocks (AreAllUsed geometry disk.old.blocks) }
 {
     let mut n = 1;
     'scan: while n < geometry.inodes {
@@ -135,11 +128,11 @@ fn find_unused<D: BlockDev>(
         let first = n / 16 * 16;
         let end = geometry.inodes.min(first + 16);
         if let Some(i) = first_unused(&block, n % 16, end - first) {
-            return Ok(Some(first + i));
+            return Ok(first + i);
         }
         n = end;
     }
-    Ok(None)
+    Err(BallocFault::Inodes)
 }
 
 // The lowest record of a block in a range whose type is 0.

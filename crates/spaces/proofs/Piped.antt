@@ -5,18 +5,18 @@ use Rattle.frames.specs.HolderLemmas.{Trades-none, among-none, count_of-append, 
 use Rattle.frames.specs.Holders.{Trades, count_of, one_if}
 use Rattle.pipe.specs.Pipe.{Pipe, Stays, bytes_of}
 use Rattle.ram.specs.Memory.{frame_of}
-use Rattle.spaces.proofs.Pipes.{one-pipe, pipe-free, pipe-held, pipe-slot, pipes-placed, set-pipe, two-pipes}
+use Rattle.spaces.proofs.Pipes.{one-pipe, pipe-found, pipe-free, pipe-held, pipe-refilled, pipe-slot, pipes-placed, set-pipe, two-pipes}
 use Rattle.spaces.proofs.Places.{free-taken, taken-fits}
 use Rattle.spaces.proofs.Traded.{map-same, same-shown}
 use Rattle.spaces.specs.declared.Spaces.TheInside.{Inside}
 use Rattle.spaces.specs.Ends.{IsOpen}
 use Rattle.spaces.specs.Spaces.{bytes_in, has_pipe, taken_frames, with_pipe}
-use Rattle.spaces.specs.SpacesLemmas.{some-pipe, taken-piped, within}
+use Rattle.spaces.specs.SpacesLemmas.{none-pipe, some-pipe, taken-piped, within}
 use Rattle.spaces.specs.View.{IsActive, IsSpaces, frames_at, pipe_frames, pipe_shown, shown, spaces_of}
-use Rattle.std.proofs.Common.{◌≡◌, ◌≢◌, ℕ, ◌+◌, ◌<◌, ◌≤◌, inl, inr, List, [], ◌∷◌, false, length, map, slice_set, subst, true, Option, Some, None, refl, sym, ap, ◌∙◌, arith, length-set, get_or-set_other, get_or-set_same, ltb}
+use Rattle.std.proofs.Common.{◌≡◌, ◌≢◌, ℕ, ◌+◌, ◌<◌, ◌≤◌, inl, inr, List, [], ◌∷◌, false, length, get_or, map, slice_set, subst, true, Option, Some, None, refl, sym, ap, ◌∙◌, arith, length-set, get_or-set_other, get_or-set_same, ltb}
 use Rattle.std.proofs.lemmas.Bool.{cases_eq, cases_lt, le-ltb}
 use Rattle.std.proofs.lemmas.List.{length-map}
-use Rattle.std.specs.List.{flat_map}
+use Rattle.std.specs.List.{flat_map, refill}
 use Rattle.std.specs.Prelude.{Bool, is_some, not, unwrap_or, ◌||◌}
 use Rattle.unixmodel.specs.Files.{slot}
 use Rattle.unixmodel.specs.Translation as translation
@@ -98,7 +98,7 @@ piped held i q y k n qs is hi e free trades here =
     }
 
 -- a pipe comes
-pub piped-new : {T : Type 0} (held : T → translation.Held) (i : Inside T) (q : ℕ) (p : Pipe) (f : ℕ) (n : Frames) (qs : List (Option Pipe))
+piped-new : {T : Type 0} (held : T → translation.Held) (i : Inside T) (q : ℕ) (p : Pipe) (f : ℕ) (n : Frames) (qs : List (Option Pipe))
     → IsSpaces held i → q < length i.pipes.items → slot i.pipes.items q ≡ None → qs ≡ slice_set i.pipes.items q (Some p)
     → IsFreeList i.ram n → free_of i.ram i.frames ≡ f ∷ free_of i.ram n → p.frame ≡ f → IsOpen p → bytes_of i.ram p ≡ []
     → Piped held i (record i { frames = n; pipes = record { items = qs } }) q (Some [])
@@ -145,29 +145,48 @@ some-pipe_shown : (m : List (List ℕ)) (o : Option Pipe) → is_some o ≡ is_s
 some-pipe_shown m None = refl
 some-pipe_shown m (Some p) = refl
 
--- a place that shows a pipe has one, and what that is, by the slice that a borrow of the places shows
-pub pipe-stands : {T : Type 0} (i : Inside T) (xs : List (Option Pipe)) (q : ℕ) → xs ≡ i.pipes.items → has_pipe (spaces_of i) q ≡ true → is_some (slot xs q) ≡ true
-pipe-stands i xs q same has =
-    ap (λ l. is_some (slot l q)) same ∙ some-pipe_shown i.ram (slot i.pipes.items q) ∙ ap is_some (sym (pipe-slot i.ram i.pipes.items q)) ∙ has
-
-pub pipe-seen : (xs ps : List (Option Pipe)) (q : ℕ) (p : Pipe) → xs ≡ ps → slot xs q ≡ Some p → slot ps q ≡ Some p
-pipe-seen xs ps q p same e = ap (λ l. slot l q) (sym same) ∙ e
+-- a place that shows a pipe has one
+pub pipe-stands : {T : Type 0} (i : Inside T) (q : ℕ) → has_pipe (spaces_of i) q ≡ true → is_some (slot i.pipes.items q) ≡ true
+pipe-stands i q has = some-pipe_shown i.ram (slot i.pipes.items q) ∙ ap is_some (sym (pipe-slot i.ram i.pipes.items q)) ∙ has
 
 pub pipes-count : {T : Type 0} (i : Inside T) → length (spaces_of i).pipes ≡ length i.pipes.items
 pipes-count i = length-map i.pipes.items (pipe_shown i.ram)
 
 -- no frame is left for a pipe
-pub over-piped : {T : Type 0} (held : T → translation.Held) (i : Inside T) (q : ℕ) → IsSpaces held i → q < length i.pipes.items → slot (spaces_of i).pipes q ≡ None → free_of i.ram i.frames ≡ [] → length i.ram < taken_frames (with_pipe (spaces_of i) q (Some []))
+over-piped : {T : Type 0} (held : T → translation.Held) (i : Inside T) (q : ℕ) → IsSpaces held i → q < length i.pipes.items → slot (spaces_of i).pipes q ≡ None → free_of i.ram i.frames ≡ [] → length i.ram < taken_frames (with_pipe (spaces_of i) q (Some []))
 over-piped held i q is hi none full =
     let more = taken-piped (spaces_of i) q [] (rw (pipes-count i) hi) none in
     omega (arith, free-taken held i is, ap length full, more)
 
 -- a place that has a pipe is one of those there are, and one that has none is free
-pub pipe-within : {T : Type 0} (i : Inside T) (q : ℕ) → has_pipe (spaces_of i) q ≡ true → q < length i.pipes.items
+pipe-within : {T : Type 0} (i : Inside T) (q : ℕ) → has_pipe (spaces_of i) q ≡ true → q < length i.pipes.items
 pipe-within i q has = rw (← pipes-count i) (within (spaces_of i).pipes q (bytes_in (spaces_of i) q) (some-pipe (slot (spaces_of i).pipes q) has))
 
-pub pipe-none : {T : Type 0} (i : Inside T) (q : ℕ) → slot (spaces_of i).pipes q ≡ None → slot i.pipes.items q ≡ None
+pub pipe-there : {T : Type 0} (i : Inside T) (q : ℕ) (xs : List (Option Pipe)) (o : Option Pipe) (p : Pipe) → has_pipe (spaces_of i) q ≡ true → xs ≡ i.pipes.items → get_or xs q o ≡ Some p → slot i.pipes.items q ≡ Some p
+pipe-there i q xs o p has same e = pipe-found xs i.pipes.items q o (Some p) same e (pipe-within i q has)
+
+pub pipe-missing : {T : Type 0} (i : Inside T) (q : ℕ) (xs : List (Option Pipe)) (o : Option Pipe) → has_pipe (spaces_of i) q ≡ true → xs ≡ i.pipes.items → get_or xs q o ≡ None → ⊥
+pipe-missing i q xs o has same e =
+    let bad : false ≡ true = ap is_some (sym (pipe-found xs i.pipes.items q o None same e (pipe-within i q has))) ∙ pipe-stands i q has in
+    cc
+
+pipe-none : {T : Type 0} (i : Inside T) (q : ℕ) → slot (spaces_of i).pipes q ≡ None → slot i.pipes.items q ≡ None
 pipe-none i q none = pipe-free i.ram (slot i.pipes.items q) (sym (pipe-slot i.ram i.pipes.items q) ∙ none)
+
+-- a pipe comes into a free place, by a write of the place through the slice of all
+free-place : {T : Type 0} (held : T → translation.Held) (i : Inside T) (q : ℕ) → IsSpaces held i → q < 100 → has_pipe (spaces_of i) q ≡ false → (q < length i.pipes.items) × (slot (spaces_of i).pipes q ≡ None)
+free-place held i q is low free = (let all = is.pipes in omega (arith, low, all), none-pipe (slot (spaces_of i).pipes q) free)
+
+pub piped-there : {T : Type 0} (held : T → translation.Held) (i : Inside T) (q : ℕ) (p : Pipe) (f : ℕ) (n : Frames) (xs : List (Option Pipe))
+    → IsSpaces held i → q < 100 → has_pipe (spaces_of i) q ≡ false → xs ≡ i.pipes.items → IsFreeList i.ram n → free_of i.ram i.frames ≡ f ∷ free_of i.ram n → p.frame ≡ f → IsOpen p → bytes_of i.ram p ≡ []
+    → Piped held i (record i { frames = n; pipes = record { items = refill (length i.pipes.items) i.pipes.items (slice_set xs q (Some p)) } }) q (Some [])
+piped-there held i q p f n xs is low free same valid taken frame opens empty =
+    let place = free-place held i q is low free in
+    piped-new held i q p f n _ is place.0 (pipe-none i q place.1) (pipe-refilled i.pipes.items xs q (Some p) (Some p) same refl) valid taken frame opens empty
+
+-- or no frame is left for it
+pub over-free : {T : Type 0} (held : T → translation.Held) (i : Inside T) (q : ℕ) → IsSpaces held i → q < 100 → has_pipe (spaces_of i) q ≡ false → free_of i.ram i.frames ≡ [] → length i.ram < taken_frames (with_pipe (spaces_of i) q (Some []))
+over-free held i q is low free full = let place = free-place held i q is low free in over-piped held i q is place.0 place.1 full
 
 -- an end that is open is no reason to go on
 pub or-open : (b w : Bool) → w ≡ true → (b || not w) ≡ b

@@ -47,8 +47,8 @@ get_or-default [] q d e h = absurd (omega (arith, h))
 get_or-default (p ∷ ps) zero d e h = refl
 get_or-default (p ∷ ps) (suc q) d e h = get_or-default ps q d e (omega (arith, h))
 
-pub pipe-found : (shown ps : List (Option Pipe)) (q : ℕ) (o : Option Pipe) (p : Pipe) → shown ≡ ps → get_or shown q o ≡ Some p → q < length ps → slot ps q ≡ Some p
-pipe-found shown ps q o p same is hi = get_or-default ps q None o hi ∙ ap (λ l. get_or l q o) (sym same) ∙ is
+pub pipe-found : (shown ps : List (Option Pipe)) (q : ℕ) (o y : Option Pipe) → shown ≡ ps → get_or shown q o ≡ y → q < length ps → slot ps q ≡ y
+pipe-found shown ps q o y same is hi = get_or-default ps q None o hi ∙ ap (λ l. get_or l q o) (sym same) ∙ is
 
 -- a write of one place through the slice of all
 pub pipe-refilled : (ps shown : List (Option Pipe)) (q : ℕ) (y z : Option Pipe) → shown ≡ ps → z ≡ y → refill (length ps) ps (slice_set shown q z) ≡ slice_set ps q y

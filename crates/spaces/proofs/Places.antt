@@ -36,12 +36,16 @@ some-shown m None = refl
 some-shown m (Some x) = refl
 
 -- a place shows a space where it has one
-pub shown-there : {T : Type 0} (i : Inside T) (xs : List (Option Space)) (at : ℕ) → xs ≡ i.places.items → is_some (slot xs at) ≡ has_space (spaces_of i) at
-shown-there i xs at same =
-    ap (λ l. is_some (slot l at)) same ∙ some-shown i.ram (slot i.places.items at) ∙ ap is_some (sym (shown-slot i.ram i.places.items at))
+pub shown-there : {T : Type 0} (i : Inside T) (at : ℕ) → is_some (slot i.places.items at) ≡ has_space (spaces_of i) at
+shown-there i at = some-shown i.ram (slot i.places.items at) ∙ ap is_some (sym (shown-slot i.ram i.places.items at))
 
-pub stands-there : {T : Type 0} (i : Inside T) (xs : List (Option Space)) (at : ℕ) → xs ≡ i.places.items → has_space (spaces_of i) at ≡ true → is_some (slot xs at) ≡ true
-stands-there i xs at same has = shown-there i xs at same ∙ has
+pub stands-there : {T : Type 0} (i : Inside T) (at : ℕ) → has_space (spaces_of i) at ≡ true → is_some (slot i.places.items at) ≡ true
+stands-there i at has = shown-there i at ∙ has
+
+pub missing : {T : Type 0} (i : Inside T) (at : ℕ) (xs : List (Option Space)) → has_space (spaces_of i) at ≡ true → xs ≡ i.places.items → get_or xs at None ≡ None → ⊥
+missing i at xs has same e =
+    let bad : false ≡ true = ap is_some (sym e) ∙ ap (λ l. is_some (get_or l at None)) same ∙ stands-there i at has in
+    cc
 
 pub held-is : {T : Type 0} (i : Inside T) (at : ℕ) (x : Space) → slot i.places.items at ≡ Some x → held_at (spaces_of i) at ≡ held_with (pages_of i.ram x) x.size
 held-is i at x e = ap (λ o. unwrap_or o no_pages) (slot-is i at (Some x) e)

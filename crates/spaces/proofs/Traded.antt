@@ -4,14 +4,14 @@ use Rattle.frames.specs.Free.{IsFreeList, free_count}
 use Rattle.frames.specs.Holders.{Trades}
 use Rattle.ram.specs.declared.FrameNo.{FrameNo}
 use Rattle.spaces.specs.declared.Spaces.TheInside.{Inside}
-use Rattle.spaces.specs.Spaces.{Held, frames_in, grown, no_pages, taken_frames, with_place}
-use Rattle.spaces.specs.SpacesLemmas.{taken-placed, within}
+use Rattle.spaces.specs.Spaces.{Held, frames_in, grown, has_space, no_pages, taken_frames, with_place}
+use Rattle.spaces.specs.SpacesLemmas.{place-free, taken-placed, within}
 use Rattle.spaces.specs.View.{IsActive, IsSpaces, Runs, held_with, pipe_frames, shown, spaces_of}
 use Rattle.spaces.proofs.Pipes.{pipes-beside}
-use Rattle.spaces.proofs.Places.{frames-shown, frames_for-pages, free-taken, length-pages_of, places-count, slot-is, taken-fits}
+use Rattle.spaces.proofs.Places.{frames-shown, frames_for-pages, free-is, free-taken, length-pages_of, places-count, slot-is, taken-fits}
 use Rattle.arrayvec.proofs.ArrayVecLemmas.{items-with_items}
 use Rattle.std.specs.List.{refill}
-use Rattle.std.proofs.Common.{◌≡◌, ◌≢◌, ℕ, zero, suc, ◌+◌, ◌-◌, ◌<◌, ◌≤◌, ◌⊎◌, inl, inr, List, [], ◌∷◌, length, get_or, map, replicate, slice_set, subst, take, Option, Some, None, Result, Ok, Err, refl, sym, ap, ◌∙◌, arith, length-append, length-set, get_or-set_other, get_or-set_same}
+use Rattle.std.proofs.Common.{◌≡◌, ◌≢◌, ℕ, zero, suc, ◌+◌, ◌-◌, ◌<◌, ◌≤◌, ◌⊎◌, inl, inr, List, [], ◌∷◌, false, length, get_or, map, replicate, slice_set, subst, take, Option, Some, None, Result, Ok, Err, refl, sym, ap, ◌∙◌, arith, length-append, length-set, get_or-set_other, get_or-set_same}
 use Rattle.std.proofs.lemmas.Bool.{cases_eq}
 use Rattle.std.proofs.lemmas.List.{length-replicate, set-get_or, take_all}
 use Rattle.std.specs.Prelude.{OnErr, OnOk}
@@ -102,6 +102,9 @@ active-placed old new m k root places at y (Some j) others fewer here run = elim
 
 -- ---- all of it
 
+pub shown-as : (k : List (List ℕ)) (z : Space) (memory : Memory) (size : ℕ) → pages_of k z ≡ memory → z.size ≡ size → shown k (Some z) ≡ Some (held_with memory size)
+shown-as k z memory size p e = ap (λ (m : Memory). Some (held_with m z.size)) p ∙ ap (λ (n : ℕ). Some (held_with memory n)) e
+
 -- the fields after a change of one place, which shows this then
 pub record Placed {T : Type 0} (held : T → translation.Held) (i j : Inside T) (at : ℕ) (y : Option Held) : Type 0 where
   pub sound : IsSpaces held j
@@ -136,11 +139,23 @@ traded held i at y k n t q is hi e place trades fewer here =
     }
 
 -- a space that was made settles in a free place
-pub settled : {T : Type 0} (held : T → translation.Held) (i : Inside T) (at : ℕ) (z : Space) (k : List (List ℕ)) (n : Frames) (q : List (Option Space))
+settled : {T : Type 0} (held : T → translation.Held) (i : Inside T) (at : ℕ) (z : Space) (k : List (List ℕ)) (n : Frames) (q : List (Option Space))
     → IsSpaces held i → at < length i.places.items → slot i.places.items at ≡ None → q ≡ slice_set i.places.items at (Some z) → IsSpace k z n → Trades i.ram k i.frames n [] (holds k z)
     → Placed held i (record i { ram = k; frames = n; places = record { items = q } }) at (shown k (Some z))
 settled held i at z k n q is hi none e space trades =
     traded held i at (Some z) k n i.translator q is hi e space (rw none trades) (λ x h. h) (λ a run. absurd (let bad : None ≡ Some run.space = sym none ∙ run.stands in cc))
+
+free-place : {T : Type 0} (held : T → translation.Held) (i : Inside T) (at : ℕ) → IsSpaces held i → at < 64 → has_space (spaces_of i) at ≡ false → (at < length i.places.items) × (slot i.places.items at ≡ None)
+free-place held i at is low free = (let all = is.all in omega (arith, low, all), free-is i at (place-free (spaces_of i) at free))
+
+-- by a write of the place through the slice of all
+pub settled-there : {T : Type 0} (held : T → translation.Held) (i : Inside T) (at : ℕ) (z : Space) (k : List (List ℕ)) (n : Frames) (xs : List (Option Space)) (y : Option Held)
+    → IsSpaces held i → at < 64 → has_space (spaces_of i) at ≡ false → xs ≡ i.places.items → IsSpace k z n → Trades i.ram k i.frames n [] (holds k z) → shown k (Some z) ≡ y
+    → Placed held i (record i { ram = k; frames = n; places = record { items = refill (length i.places.items) i.places.items (slice_set xs at (Some z)) } }) at y
+settled-there held i at z k n xs y is low free same space trades shows =
+    let place = free-place held i at is low free in
+    placed-as held i _ at (shown k (Some z)) y
+    (settled held i at z k n _ is place.0 place.1 (refilled i.places.items xs at (Some z) (Some z) same refl) space trades) shows
 
 -- a place that isn't the active one loses its space
 pub destroyed : {T : Type 0} (held : T → translation.Held) (i : Inside T) (at : ℕ) (x : Space) (k : List (List ℕ)) (n : Frames) (q : List (Option Space))
@@ -167,6 +182,12 @@ stood held i at x k is e stands =
     let space = is.machine.each at x e in
     changed held i at x x k i.frames i.translator i.places.items is e (same-place i.places.items at x e) (stands.space i.frames space) (stands.trades i.frames space) refl (λ u h. h) (λ a was. rw stands.mapping was)
 
+-- and show this memory then
+pub stood-showing : {T : Type 0} (held : T → translation.Held) (i : Inside T) (at : ℕ) (x : Space) (k : List (List ℕ)) (memory : Memory) → IsSpaces held i → slot i.places.items at ≡ Some x → Stands i.ram k x → pages_of k x ≡ memory
+    → Placed held i (record i { ram = k }) at (Some (held_with memory x.size))
+stood-showing held i at x k memory is e stands pages =
+    placed-as held i (record i { ram = k }) at (shown k (Some x)) (Some (held_with memory x.size)) (stood held i at x k is e stands) (shown-as k x memory x.size pages refl)
+
 -- nothing changed
 pub view-same : {T : Type 0} (i : Inside T) (at : ℕ) (x : Space) (k : List (List ℕ)) (n : Frames) (z : Space) (q : List (Option Space)) → (k ≡ i.ram) × (n ≡ i.frames) × (z ≡ x) → slot i.places.items at ≡ Some x
     → q ≡ slice_set i.places.items at (Some z) → spaces_of (record i { ram = k; frames = n; places = record { items = q } }) ≡ spaces_of i
@@ -175,9 +196,6 @@ view-same i at x k n z q u e same =
     rw (u.0, stays) refl
 
 -- ---- what spaces show
-
-pub shown-as : (k : List (List ℕ)) (z : Space) (memory : Memory) (size : ℕ) → pages_of k z ≡ memory → z.size ≡ size → shown k (Some z) ≡ Some (held_with memory size)
-shown-as k z memory size p e = ap (λ (m : Memory). Some (held_with m z.size)) p ∙ ap (λ (n : ℕ). Some (held_with memory n)) e
 
 empty-list : (xs : Memory) → length xs ≡ 0 → xs ≡ []
 empty-list [] e = refl
@@ -195,11 +213,18 @@ grown-front m k s n x z (Err f) front same = rw (same.0, same.2) (take_all (leng
 -- ---- refusals
 
 -- the frames don't suffice for what a place would have
-pub over : {T : Type 0} (held : T → translation.Held) (i : Inside T) (at : ℕ) (o : Option Space) (y : Option Held) → IsSpaces held i → at < length i.places.items → slot i.places.items at ≡ o
+over : {T : Type 0} (held : T → translation.Held) (i : Inside T) (at : ℕ) (o : Option Space) (y : Option Held) → IsSpaces held i → at < length i.places.items → slot i.places.items at ≡ o
     → frames_in (shown i.ram o) + free_count i.ram i.frames < frames_in y → length i.ram < taken_frames (with_place (spaces_of i) at y)
 over held i at o y is hi e more =
     let within : at < length (spaces_of i).places = rw (places-count i) hi in
     omega (arith, free-taken held i is, taken-placed (spaces_of i) at y within, ap frames_in (slot-is i at o e), more)
+
+-- nor for one more space
+pub over-free : {T : Type 0} (held : T → translation.Held) (i : Inside T) (at : ℕ) (y : Option Held) → IsSpaces held i → at < 64 → has_space (spaces_of i) at ≡ false → free_count i.ram i.frames < frames_in y
+    → length i.ram < taken_frames (with_place (spaces_of i) at y)
+over-free held i at y is low free more =
+    let place = free-place held i at is low free in
+    over held i at None y is place.0 place.1 (omega (arith, more))
 
 -- nor for a space of more bytes, which is refused where it would pass the greatest size or takes more frames than are free
 pub over-grown : {T : Type 0} (held : T → translation.Held) (i : Inside T) (at : ℕ) (x : Space) (bytes : ℕ) (marks : Marks) → IsSpaces held i → slot i.places.items at ≡ Some x → length i.ram ≤ 32768

@@ -94,29 +94,29 @@ fn root_of(space: &Space, ram: &Ram) -> FrameNo
 }
 
 // The space of a place that has one.
-fn space_at(places: &[Option<Space>], at: usize) -> &Space
-    requires { is_some (slot places.now at) ≡ true }
-    ensures { slot places.now at ≡ Some result.now }
+fn space_at(places: &ArrayVec<Option<Space>, 64>, at: usize) -> &Space
+    requires { is_some (slot places.now.items at) ≡ true }
+    ensures { slot places.now.items at ≡ Some result.now }
 {
-    match &places[at] {
+    match &places.as_slice()[at] {
         Some(space) => space,
         None => unreachable!(),
     }
 }
 
 // Whether a place has a space.
-fn stands(places: &[Option<Space>], at: usize) -> bool
-    ensures { result ≡ is_some (slot places.now at) }
+fn stands(places: &ArrayVec<Option<Space>, 64>, at: usize) -> bool
+    ensures { result ≡ is_some (slot places.now.items at) }
 {
-    matches!(places.get(at), Some(Some(_)))
+    matches!(places.as_slice().get(at), Some(Some(_)))
 }
 
 // The pipe of a place that has one.
-fn pipe_at(pipes: &[Option<Pipe>], q: usize) -> &Pipe
-    requires { is_some (slot pipes.now q) ≡ true }
-    ensures { slot pipes.now q ≡ Some result.now }
+fn pipe_at(pipes: &ArrayVec<Option<Pipe>, 100>, q: usize) -> &Pipe
+    requires { is_some (slot pipes.now.items q) ≡ true }
+    ensures { slot pipes.now.items q ≡ Some result.now }
 {
-    match &pipes[q] {
+    match &pipes.as_slice()[q] {
         Some(pipe) => pipe,
         None => unreachable!(),
     }
@@ -206,7 +206,7 @@ impl<T: Translate + Drop> Spaces<T> {
     pub fn has_space(&self, at: usize) -> bool
         ensures { result ≡ has_space self.now at }
     {
-        stands(self.places.as_slice(), at)
+        stands(&self.places, at)
     }
 
     /// The size of a place's space in bytes.
@@ -214,7 +214,7 @@ impl<T: Translate + Drop> Spaces<T> {
         requires { has_space self.now at ≡ true }
         ensures { result ≡ (held_at self.now at).size }
     {
-        let space = space_at(self.places.as_slice(), at);
+        let space = space_at(&self.places, at);
         space.size()
     }
 
@@ -227,7 +227,7 @@ impl<T: Translate + Drop> Spaces<T> {
         ensures sized { IsSized (held_at self.now at).memory }
     {
         let _count = self.ram.frame_count();
-        let space = space_at(self.places.as_slice(), at);
+        let space = space_at(&self.places, at);
         vm::pages_in(space.size())
     }
 
@@ -237,7 +237,7 @@ impl<T: Translate + Drop> Spaces<T> {
         ensures reach { result ≡ nat_le count (length (reach Load (held_at self.now at).memory address)) }
         ensures read { result ≡ is_some (read_bytes (held_at self.now at).memory address count) }
     {
-        let space = space_at(self.places.as_slice(), at);
+        let space = space_at(&self.places, at);
         space.can_read(&self.ram, address, count)
     }
 
@@ -246,7 +246,7 @@ impl<T: Translate + Drop> Spaces<T> {
         requires { has_space self.now at ≡ true }
         ensures { result ≡ can_write (held_at self.now at).memory address count }
     {
-        let space = space_at(self.places.as_slice(), at);
+        let space = space_at(&self.places, at);
         space.can_write(&self.ram, address, count)
     }
 
@@ -255,7 +255,7 @@ impl<T: Translate + Drop> Spaces<T> {
         requires { has_space self.now at ≡ true }
         ensures { result.now ≡ piece_at Load (held_at self.now at).memory address }
     {
-        let space = space_at(self.places.as_slice(), at);
+        let space = space_at(&self.places, at);
         space.readable(&self.ram, address)
     }
 
@@ -264,7 +264,7 @@ impl<T: Translate + Drop> Spaces<T> {
         requires { has_space self.now at ≡ true }
         ensures { option_map (λ r. let p : Page = record { bytes = r.0.now; marks = marks_from r.1 } in p) result ≡ slice_get (held_at self.now at).memory n }
     {
-        let space = space_at(self.places.as_slice(), at);
+        let space = space_at(&self.places, at);
         let (frame, perm) = space.find_page(&self.ram, n)?;
         Some((self.ram.frame(frame), perm))
     }
@@ -274,7 +274,7 @@ impl<T: Translate + Drop> Spaces<T> {
         requires { has_space self.now at ≡ true }
         ensures { ShowsMemory result.0.now result.1.0 (held_at self.now at).memory }
     {
-        let space = space_at(self.places.as_slice(), at);
+        let space = space_at(&self.places, at);
         (&self.ram, root_of(space, &self.ram))
     }
 
@@ -303,7 +303,7 @@ impl<T: Translate + Drop> Spaces<T> {
         ensures done { OnTrue result ((taken_frames (with_held self.old to (held_at self.old from)) ≤ self.old.frames) × (self.new ≡ with_held self.old to (held_at self.old from))) }
         ensures refused { OnFalse result ((self.old.frames < taken_frames (with_held self.old to (held_at self.old from))) × (self.new ≡ self.old)) }
     {
-        let space = space_at(self.places.as_slice(), from);
+        let space = space_at(&self.places, from);
         match space.copy(&mut self.ram, &mut self.frames) {
             Ok(space) => {
                 self.places[to] = Some(space);
@@ -363,7 +363,7 @@ impl<T: Translate + Drop> Spaces<T> {
         requires inside { (i : ℕ) → i < length bytes.now → (address + i) / 4096 < length (held_at self.old at).memory }
         ensures { self.new ≡ with_held self.old at (written (held_at self.old at) address bytes.now) }
     {
-        let space = space_at(self.places.as_slice(), at);
+        let space = space_at(&self.places, at);
         space.fill(&mut self.ram, address, bytes);
     }
 
@@ -374,7 +374,7 @@ impl<T: Translate + Drop> Spaces<T> {
         ensures done { OnTrue result (self.new ≡ with_held self.old at (written (held_at self.old at) address bytes.now)) }
         ensures refused { OnFalse result (self.new ≡ self.old) }
     {
-        let space = space_at(self.places.as_slice(), at);
+        let space = space_at(&self.places, at);
         space.copy_out(&mut self.ram, address, bytes).is_ok()
     }
 
@@ -385,7 +385,7 @@ impl<T: Translate + Drop> Spaces<T> {
         ensures done { OnTrue result (read_bytes (held_at self.now at).memory address (length buffer.old) ≡ Some buffer.new) }
         ensures refused { OnFalse result (buffer.new ≡ buffer.old) }
     {
-        let space = space_at(self.places.as_slice(), at);
+        let space = space_at(&self.places, at);
         space.copy_in(&self.ram, address, buffer).is_ok()
     }
 
@@ -396,7 +396,7 @@ impl<T: Translate + Drop> Spaces<T> {
         requires aligned { pc % 4 ≡ 0 }
         ensures { self.new ≡ record self.old { active = Some at; registers = registers.now; pc = pc } }
     {
-        let root = space_at(self.places.as_slice(), at).root();
+        let root = space_at(&self.places, at).root();
         self.hart = Hart {
             registers: *registers,
             pc,
@@ -500,7 +500,7 @@ impl<T: Translate + Drop> Spaces<T> {
         requires { has_pipe self.now q ≡ true }
         ensures { result ≡ not (is_empty (bytes_in self.now q)) }
     {
-        let pipe = pipe_at(self.pipes.as_slice(), q);
+        let pipe = pipe_at(&self.pipes, q);
         pipe.can_read()
     }
 
@@ -510,7 +510,7 @@ impl<T: Translate + Drop> Spaces<T> {
         ensures room { result ≡ nat_lt (length (bytes_in self.now q)) pipe_room }
         ensures few { length (bytes_in self.now q) ≤ pipe_room }
     {
-        let pipe = pipe_at(self.pipes.as_slice(), q);
+        let pipe = pipe_at(&self.pipes, q);
         pipe.can_write()
     }
 

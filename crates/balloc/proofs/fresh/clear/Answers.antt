@@ -1,4 +1,5 @@
-use Rattle.std.proofs.Common.{◌<◌, replicate, arith, refl}
+use Rattle.std.proofs.Common.{◌<◌, ◌∙◌, replicate, arith, refl}
+use Rattle.balloc.proofs.Exits.{HasCause-failed, told_err}
 use Rattle.balloc.proofs.Formatting.{Cleared-more, HasParts-write}
 use Rattle.balloc.proofs.fresh.clear.Goals as goal
 
@@ -12,3 +13,8 @@ block-preserved g c =
       failures = omega (arith, c.write.ensures.cause.later, c.block.invariant.failures);
       within = omega (arith, c.block-test.true);
     }
+
+pub returns-in_err-write : goal.returns-in_err-write
+returns-in_err-write g c =
+    let e = told_err c.from_residual.result c.from_residual.ensures.1 in
+    record { parts = rw e tt; cleared = rw e tt; count = c.write.ensures.count ∙ c.block.invariant.count; cause = HasCause-failed c.block.invariant.failures c.write.ensures.cause c.in_err-write.was }

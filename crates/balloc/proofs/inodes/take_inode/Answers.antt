@@ -1,69 +1,68 @@
-use Rattle.std.proofs.Common.{ap, replicate, refl, subst, arith}
-use Rattle.std.specs.Result.{is_err}
-use Rattle.layout.specs.Grow.{WritesInode}
-use Rattle.balloc.specs.Inodes.{IsLowestUnused}
-use Rattle.balloc.proofs.Exits.{not_blocks, not_inodes, told_device}
-use Rattle.balloc.proofs.Records.{record_free, record_some, record_sound, unused_free, zero_at}
+use Rattle.std.proofs.Common.{◌∙◌, arith, refl}
+use Rattle.balloc.proofs.Exits.{Refuses-done, Refuses-failed, Refuses-part, for_inodes, told_err}
+use Rattle.balloc.proofs.Records.{fresh_fits, recorded_fresh}
 use Rattle.balloc.proofs.inodes.take_inode.Goals as goal
 
-pub returns-clause-sound : goal.returns-clause-sound
-returns-clause-sound g c =
-    let unused : IsLowestUnused c.args.geometry c.args.disk.now.blocks c.in-Some.number = rw c.in-Some.is at c.in_ok-found.ensures.found in
-    record_sound c.args.geometry c.args.disk.now.blocks c.write_inode.new.disk.blocks c.in-Some.number
-    (record { kind = c.args.kind; major = c.args.major; minor = c.args.minor; links = c.args.links; size = 0; addresses = replicate 13 0 })
-    c.requires.sound unused.low unused.high (unused_free c.args.disk.now.blocks c.args.geometry.inodes c.in-Some.number unused.unused) c.requires.kind refl (zero_at 13)
-    (subst (λ b. WritesInode c.args.geometry b c.write_inode.new.disk.blocks c.in-Some.number (record { kind = c.args.kind; major = c.args.major; minor = c.args.minor; links = c.args.links; size = 0; addresses = replicate 13 0 })) c.in_ok-found.ensures.same c.in_ok-write_inode.ensures.writes)
-
-pub returns-clause-nodes : goal.returns-clause-nodes
-returns-clause-nodes g c =
-    let unused : IsLowestUnused c.args.geometry c.args.disk.now.blocks c.in-Some.number = rw c.in-Some.is at c.in_ok-found.ensures.found in
-    let some = c.requires.some in
-    record_some c.args.geometry c.args.disk.now.blocks c.write_inode.new.disk.blocks c.in-Some.number
-    (record { kind = c.args.kind; major = c.args.major; minor = c.args.minor; links = c.args.links; size = 0; addresses = replicate 13 0 })
-    c.requires.sound unused.low unused.high (unused_free c.args.disk.now.blocks c.args.geometry.inodes c.in-Some.number unused.unused) c.requires.kind refl (zero_at 13)
-    (subst (λ b. WritesInode c.args.geometry b c.write_inode.new.disk.blocks c.in-Some.number (record { kind = c.args.kind; major = c.args.major; minor = c.args.minor; links = c.args.links; size = 0; addresses = replicate 13 0 })) c.in_ok-found.ensures.same c.in_ok-write_inode.ensures.writes)
-    (λ z. omega arith)
-
-pub returns-clause-free : goal.returns-clause-free
-returns-clause-free g c =
-    let unused : IsLowestUnused c.args.geometry c.args.disk.now.blocks c.in-Some.number = rw c.in-Some.is at c.in_ok-found.ensures.found in
-    record_free c.args.geometry c.args.disk.now.blocks c.write_inode.new.disk.blocks c.in-Some.number
-    (record { kind = c.args.kind; major = c.args.major; minor = c.args.minor; links = c.args.links; size = 0; addresses = replicate 13 0 })
-    c.requires.sound unused.low unused.high (unused_free c.args.disk.now.blocks c.args.geometry.inodes c.in-Some.number unused.unused) c.requires.kind refl (zero_at 13)
-    (subst (λ b. WritesInode c.args.geometry b c.write_inode.new.disk.blocks c.in-Some.number (record { kind = c.args.kind; major = c.args.major; minor = c.args.minor; links = c.args.links; size = 0; addresses = replicate 13 0 })) c.in_ok-found.ensures.same c.in_ok-write_inode.ensures.writes)
-
-pub returns-in_err-found : goal.returns-in_err-found
-returns-in_err-found g c =
-    let e = told_device c.from_residual.result c.from_residual.ensures.1 in
-    let f = c.find_unused.ensures.cause.failed (ap is_err c.in_err-found.was) in
+pub returns-in_err-number : goal.returns-in_err-number
+returns-in_err-number g c =
+    let told = c.from_residual.ensures.1 in
+    let e = told_err c.from_residual.result told in
+    let r = Refuses-part c.args.disk.now c.find_unused.new.disk told c.in_err-number.ensures.refuses (λ all. all) refl (omega arith) in
     record {
       taken = rw e tt;
       inode = rw e tt;
       sound = rw e tt;
       nodes = rw e tt;
       free = rw e tt;
-      none = λ q. absurd (not_inodes c.from_residual.result e q);
-      unchanged = λ q. absurd (not_inodes c.from_residual.result e q);
-      only = not_blocks c.from_residual.result e;
-      count = omega (arith, c.find_unused.ensures.count);
-      later = omega (arith, c.find_unused.ensures.cause.later);
-      failed = λ _. omega (arith, f);
+      none = r.none;
+      unchanged = r.unchanged;
+      only = r.only;
+      count = r.count;
+      later = r.later;
+      failed = r.failed;
     }
+
+pub write_inode-requires : goal.write_inode-requires
+write_inode-requires g c = record {
+  parts = rw c.in_ok-number.ensures.same c.requires.sound.parts;
+  high = c.in_ok-number.ensures.found.high;
+  fits = fresh_fits c.args.kind c.args.major c.args.minor c.args.links (omega (arith, c.requires.kind)) (omega (arith, c.ranges.major)) (omega (arith, c.ranges.minor)) (omega (arith, c.ranges.links));
+}
 
 pub returns-in_err-write_inode : goal.returns-in_err-write_inode
 returns-in_err-write_inode g c =
-    let e = told_device c.from_residual-in_err-write_inode.result c.from_residual-in_err-write_inode.ensures.1 in
-    let f = c.write_inode.ensures.cause.failed (ap is_err c.in_err-write_inode.was) in
+    let told = c.from_residual-in_err-write_inode.ensures.1 in
+    let e = told_err c.from_residual-in_err-write_inode.result told in
+    let r = Refuses-failed c.args.disk.now c.write_inode.new.disk for_inodes told (c.write_inode.ensures.count ∙ c.find_unused.ensures.refuses.count) c.find_unused.ensures.refuses.later c.write_inode.ensures.cause c.in_err-write_inode.was in
     record {
       taken = rw e tt;
       inode = rw e tt;
       sound = rw e tt;
       nodes = rw e tt;
       free = rw e tt;
-      none = λ q. absurd (not_inodes c.from_residual-in_err-write_inode.result e q);
-      unchanged = λ q. absurd (not_inodes c.from_residual-in_err-write_inode.result e q);
-      only = not_blocks c.from_residual-in_err-write_inode.result e;
-      count = omega (arith, c.find_unused.ensures.count, c.write_inode.ensures.count);
-      later = omega (arith, c.find_unused.ensures.cause.later, c.write_inode.ensures.cause.later);
-      failed = λ _. omega (arith, f, c.find_unused.ensures.cause.later);
+      none = r.none;
+      unchanged = r.unchanged;
+      only = r.only;
+      count = r.count;
+      later = r.later;
+      failed = r.failed;
+    }
+
+pub returns : goal.returns
+returns g c =
+    let r = Refuses-done c.args.disk.now c.write_inode.new.disk (c.write_inode.ensures.count ∙ c.find_unused.ensures.refuses.count) (omega (arith, c.find_unused.ensures.refuses.later, c.write_inode.ensures.cause.later)) in
+    let found = c.in_ok-number.ensures.found in
+    let made = recorded_fresh c.requires.sound found c.requires.some c.requires.kind c.in_ok-number.ensures.same c.in_ok-write_inode.ensures.writes in
+    record {
+      taken = found;
+      inode = c.in_ok-write_inode.ensures.writes.here;
+      sound = made.sound;
+      nodes = made.nodes;
+      free = made.free;
+      none = r.none;
+      unchanged = r.unchanged;
+      only = r.only;
+      count = r.count;
+      later = r.later;
+      failed = r.failed;
     }

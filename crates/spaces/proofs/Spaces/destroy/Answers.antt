@@ -1,5 +1,5 @@
 use Rattle.spaces.proofs.Spaces.destroy.Goals as goal
-use Rattle.spaces.proofs.Places.{there}
+use Rattle.spaces.proofs.Places.{missing, there}
 use Rattle.spaces.proofs.Traded.{destroyed, refilled}
 use Rattle.std.proofs.Common.{None, sym, ◌∙◌}
 
@@ -30,3 +30,6 @@ returns g c =
     let gone = destroyed held i c.args.at x c.destroy.new.ram c.destroy.new.frames _ c.self.invariant e (rw (← c.self.view_is) at c.requires.idle)
     (refilled i.places.items c.deref_mut.result.now c.args.at None c.take.new.self c.deref_mut.ensures.value c.take.ensures.after) c.destroy.ensures.valid c.destroy.ensures.trades in
     rw (← c.self.view_is) gone.view
+
+pub unreachable-requires : goal.unreachable-requires
+unreachable-requires g c = missing c.self.inside c.args.at c.deref_mut.result.now (rw (← c.self.view_is) at c.requires.space) c.deref_mut.ensures.value (sym c.take.ensures.value ∙ c.in-None.is)

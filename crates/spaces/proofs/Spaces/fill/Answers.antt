@@ -1,53 +1,29 @@
+use Rattle.spaces.proofs.Spaces.fill.Given as given
 use Rattle.spaces.proofs.Spaces.fill.Goals as goal
-use Rattle.spaces.proofs.Places.{held-is, length-pages_of, stands-there, there}
-use Rattle.spaces.proofs.Traded.{placed-as, shown-as, stood}
-use Rattle.spaces.specs.View.{held_with, shown}
-use Rattle.std.proofs.Common.{Some, refl}
+use Rattle.spaces.proofs.Places.{held-is, length-pages_of, stands-there}
+use Rattle.spaces.proofs.Traded.{Placed, stood-showing}
+use Rattle.spaces.specs.View.{held_with}
+use Rattle.std.proofs.Common.{Some}
 use Rattle.unixmodel.specs.Memory.{write_bytes}
 use Rattle.vm.specs.Space.{pages_of}
 
 pub space_at-space-requires : goal.space_at-space-requires
-space_at-space-requires g c = stands-there c.self.inside c.as_slice.result.now c.args.at c.as_slice.ensures.value (rw (← c.self.view_is) at c.requires.space)
+space_at-space-requires g c = stands-there c.self.inside c.args.at (rw (← c.self.view_is) at c.requires.space)
 
-pub fill-requires-clause-mapped : goal.fill-requires-clause-mapped
-fill-requires-clause-mapped g c =
+pub fill-requires : goal.fill-requires
+fill-requires g c =
     let i = c.self.inside in
     let x = c.space_at-space.result.now in
-    let held = g.T.Translate.held in
-    let e = there c.as_slice.result.now i.places.items c.args.at x c.as_slice.ensures.value c.space_at-space.ensures in
-    (c.self.invariant.machine.each c.args.at x e).dense
+    let e = c.space_at-space.ensures in
+    let space = c.self.invariant.machine.each c.args.at x e in
+    record { mapped = space.dense; once = space.once; inside = rw (← c.self.view_is, held-is i c.args.at x e, length-pages_of i.ram x) at c.requires.inside }
 
-pub fill-requires-clause-once : goal.fill-requires-clause-once
-fill-requires-clause-once g c =
-    let i = c.self.inside in
-    let x = c.space_at-space.result.now in
-    let held = g.T.Translate.held in
-    let e = there c.as_slice.result.now i.places.items c.args.at x c.as_slice.ensures.value c.space_at-space.ensures in
-    (c.self.invariant.machine.each c.args.at x e).once
-
-pub fill-requires-clause-inside : goal.fill-requires-clause-inside
-fill-requires-clause-inside g c =
-    let i = c.self.inside in
-    let x = c.space_at-space.result.now in
-    let held = g.T.Translate.held in
-    let e = there c.as_slice.result.now i.places.items c.args.at x c.as_slice.ensures.value c.space_at-space.ensures in
-    rw (← c.self.view_is, held-is i c.args.at x e, length-pages_of i.ram x) at c.requires.inside
+filled : (g : given.Over) (c : goal.After-fill g) → Placed g.T.Translate.held c.self.inside (record c.self.inside { ram = c.fill.new.ram }) c.args.at
+    (Some (held_with (write_bytes (pages_of c.self.inside.ram c.space_at-space.result.now) c.args.address c.args.bytes.now) c.space_at-space.result.now.size))
+filled g c = stood-showing g.T.Translate.held c.self.inside c.args.at c.space_at-space.result.now c.fill.new.ram _ c.self.invariant c.space_at-space.ensures c.fill.ensures.stands c.fill.ensures.written
 
 pub invariant_of-self : goal.invariant_of-self
-invariant_of-self g c =
-    let i = c.self.inside in
-    let x = c.space_at-space.result.now in
-    let held = g.T.Translate.held in
-    let e = there c.as_slice.result.now i.places.items c.args.at x c.as_slice.ensures.value c.space_at-space.ensures in
-    (stood held i c.args.at x c.fill.new.ram c.self.invariant e c.fill.ensures.stands).sound
+invariant_of-self g c = (filled g c).sound
 
 pub returns : goal.returns
-returns g c =
-    let i = c.self.inside in
-    let x = c.space_at-space.result.now in
-    let held = g.T.Translate.held in
-    let e = there c.as_slice.result.now i.places.items c.args.at x c.as_slice.ensures.value c.space_at-space.ensures in
-    let memory = write_bytes (pages_of i.ram x) c.args.address c.args.bytes.now in
-    let all = placed-as held i (record i { ram = c.fill.new.ram }) c.args.at (shown c.fill.new.ram (Some x)) (Some (held_with memory x.size))
-    (stood held i c.args.at x c.fill.new.ram c.self.invariant e c.fill.ensures.stands) (shown-as c.fill.new.ram x memory x.size c.fill.ensures.written refl) in
-    rw (← c.self.view_is, held-is i c.args.at x e) all.view
+returns g c = rw (← c.self.view_is, held-is c.self.inside c.args.at c.space_at-space.result.now c.space_at-space.ensures) (filled g c).view

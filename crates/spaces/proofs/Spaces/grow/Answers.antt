@@ -1,6 +1,6 @@
 use Rattle.spaces.proofs.Spaces.grow.Goals as goal
 use Rattle.frames.specs.Free.{free_count}
-use Rattle.spaces.proofs.Places.{held-is, there}
+use Rattle.spaces.proofs.Places.{held-is, missing, there}
 use Rattle.spaces.proofs.Results.{err-false, ok-true}
 use Rattle.spaces.proofs.Traded.{changed, grown-front, over-grown, placed-as, refilled, shown-as, view-same}
 use Rattle.spaces.specs.View.{held_with, shown}
@@ -58,3 +58,6 @@ returns-clause-refused g c =
       view-same i c.args.at x c.grow.new.ram c.grow.new.frames c.grow.new.self _ u e
           (refilled i.places.items c.deref_mut.result.now c.args.at (Some c.grow.new.self) (Some c.grow.new.self) c.deref_mut.ensures.value refl),
     )))
+
+pub unreachable-requires : goal.unreachable-requires
+unreachable-requires g c = missing c.self.inside c.args.at c.deref_mut.result.now (rw (← c.self.view_is) at c.requires) c.deref_mut.ensures.value c.in-None.is

@@ -1,16 +1,16 @@
 use Rattle.spaces.proofs.Spaces.has_bytes.Goals as goal
 use Rattle.pipe.specs.Pipe.{bytes_of}
-use Rattle.spaces.proofs.Piped.{or-open, pipe-is, pipe-seen, pipe-stands}
+use Rattle.spaces.proofs.Piped.{or-open, pipe-is, pipe-stands}
 use Rattle.std.proofs.Common.{◌∙◌}
 use Rattle.std.specs.Prelude.{not}
 use Rattle.unixmodel.specs.Turn.{is_empty}
 
 pub pipe_at-pipe-requires : goal.pipe_at-pipe-requires
-pipe_at-pipe-requires g c = pipe-stands c.self.inside c.as_slice.result.now c.args.q c.as_slice.ensures.value (rw (← c.self.view_is) at c.requires)
+pipe_at-pipe-requires g c = pipe-stands c.self.inside c.args.q (rw (← c.self.view_is) at c.requires)
 
 pub returns : goal.returns
 returns g c =
     let i = c.self.inside in
     let p = c.pipe_at-pipe.result.now in
-    let e = pipe-seen c.as_slice.result.now i.pipes.items c.args.q p c.as_slice.ensures.value c.pipe_at-pipe.ensures in
+    let e = c.pipe_at-pipe.ensures in
     rw (← c.self.view_is, pipe-is i c.args.q p e) (c.can_read.ensures i.ram ∙ or-open (not (is_empty (bytes_of i.ram p))) p.write_open (c.self.invariant.both c.args.q p e).write)

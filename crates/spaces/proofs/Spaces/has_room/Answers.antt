@@ -1,22 +1,22 @@
 use Rattle.spaces.proofs.Spaces.has_room.Goals as goal
 use Rattle.pipe.specs.Pipe.{bytes_of}
-use Rattle.spaces.proofs.Piped.{or-open, pipe-is, pipe-seen, pipe-stands}
+use Rattle.spaces.proofs.Piped.{or-open, pipe-is, pipe-stands}
 use Rattle.std.proofs.Common.{◌∙◌, length}
 use Rattle.std.specs.Prelude.{nat_lt}
 
 pub pipe_at-pipe-requires : goal.pipe_at-pipe-requires
-pipe_at-pipe-requires g c = pipe-stands c.self.inside c.as_slice.result.now c.args.q c.as_slice.ensures.value (rw (← c.self.view_is) at c.requires)
+pipe_at-pipe-requires g c = pipe-stands c.self.inside c.args.q (rw (← c.self.view_is) at c.requires)
 
 pub returns-clause-room : goal.returns-clause-room
 returns-clause-room g c =
     let i = c.self.inside in
     let p = c.pipe_at-pipe.result.now in
-    let e = pipe-seen c.as_slice.result.now i.pipes.items c.args.q p c.as_slice.ensures.value c.pipe_at-pipe.ensures in
+    let e = c.pipe_at-pipe.ensures in
     rw (← c.self.view_is, pipe-is i c.args.q p e) (c.can_write.ensures.can i.ram ∙ or-open (nat_lt (length (bytes_of i.ram p)) 512) p.read_open (c.self.invariant.both c.args.q p e).read)
 
 pub returns-clause-few : goal.returns-clause-few
 returns-clause-few g c =
     let i = c.self.inside in
     let p = c.pipe_at-pipe.result.now in
-    let e = pipe-seen c.as_slice.result.now i.pipes.items c.args.q p c.as_slice.ensures.value c.pipe_at-pipe.ensures in
+    let e = c.pipe_at-pipe.ensures in
     rw (← c.self.view_is, pipe-is i c.args.q p e) (c.can_write.ensures.within i.ram)

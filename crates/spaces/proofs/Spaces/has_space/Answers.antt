@@ -3,4 +3,4 @@ use Rattle.spaces.proofs.Places.{shown-there}
 use Rattle.std.proofs.Common.{◌∙◌}
 
 pub returns : goal.returns
-returns g c = rw (← c.self.view_is) (c.stands.ensures ∙ shown-there c.self.inside c.as_slice.result.now c.args.at c.as_slice.ensures.value)
+returns g c = rw (← c.self.view_is) (c.stands.ensures ∙ shown-there c.self.inside c.args.at)

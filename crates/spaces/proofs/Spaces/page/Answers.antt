@@ -1,26 +1,26 @@
 use Rattle.spaces.proofs.Spaces.page.Goals as goal
-use Rattle.spaces.proofs.Places.{held-is, stands-there, there}
+use Rattle.spaces.proofs.Places.{held-is, stands-there}
 use Rattle.std.proofs.Common.{sym}
 use Rattle.vm.specs.Leaf.{mapped_as}
 use Rattle.vm.specs.Space.{mapping_of}
 use Rattle.vm.specs.WalkLaw.{mapped-page, unmapped-page}
 
 pub space_at-space-requires : goal.space_at-space-requires
-space_at-space-requires g c = stands-there c.self.inside c.as_slice.result.now c.args.at c.as_slice.ensures.value (rw (← c.self.view_is) at c.requires)
+space_at-space-requires g c = stands-there c.self.inside c.args.at (rw (← c.self.view_is) at c.requires)
 
 pub find_page-requires : goal.find_page-requires
-find_page-requires g c = (c.self.invariant.machine.each c.args.at c.space_at-space.result.now (there c.as_slice.result.now c.self.inside.places.items c.args.at c.space_at-space.result.now c.as_slice.ensures.value c.space_at-space.ensures)).dense
+find_page-requires g c = (c.self.invariant.machine.each c.args.at c.space_at-space.result.now c.space_at-space.ensures).dense
 
 pub returns-in_err-frame : goal.returns-in_err-frame
 returns-in_err-frame g c =
     let i = c.self.inside in
-    let e = there c.as_slice.result.now c.self.inside.places.items c.args.at c.space_at-space.result.now c.as_slice.ensures.value c.space_at-space.ensures in
+    let e = c.space_at-space.ensures in
     rw (← c.self.view_is, held-is i c.args.at c.space_at-space.result.now e, c.from_residual.ensures)
     (sym (unmapped-page i.ram (mapping_of i.ram c.space_at-space.result.now) c.args.n c.in_err-frame.ensures.found))
 
 pub returns : goal.returns
 returns g c =
     let i = c.self.inside in
-    let e = there c.as_slice.result.now c.self.inside.places.items c.args.at c.space_at-space.result.now c.as_slice.ensures.value c.space_at-space.ensures in
+    let e = c.space_at-space.ensures in
     rw (← c.self.view_is, held-is i c.args.at c.space_at-space.result.now e, c.frame.ensures)
     (sym (mapped-page i.ram (mapping_of i.ram c.space_at-space.result.now) c.args.n (mapped_as c.in_ok-frame.frame.0 c.in_ok-frame.perm) c.in_ok-frame.ensures.found))

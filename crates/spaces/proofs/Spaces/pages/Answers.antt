@@ -1,40 +1,40 @@
 use Rattle.spaces.proofs.Spaces.pages.Goals as goal
-use Rattle.spaces.proofs.Places.{held-is, length-pages_of, stands-there, there}
+use Rattle.spaces.proofs.Places.{held-is, length-pages_of, stands-there}
 use Rattle.std.proofs.Common.{◌≤◌, ◌∙◌, ap, arith, sym}
 use Rattle.vm.specs.SizedLemmas.{pages-sized}
 use Rattle.vm.specs.Space.{pages_in}
 
 pub space_at-space-requires : goal.space_at-space-requires
-space_at-space-requires g c = stands-there c.self.inside c.as_slice.result.now c.args.at c.as_slice.ensures.value (rw (← c.self.view_is) at c.requires)
+space_at-space-requires g c = stands-there c.self.inside c.args.at (rw (← c.self.view_is) at c.requires)
 
 pub pages_in-requires : goal.pages_in-requires
 pages_in-requires g c =
-    let e = there c.as_slice.result.now c.self.inside.places.items c.args.at c.space_at-space.result.now c.as_slice.ensures.value c.space_at-space.ensures in
+    let e = c.space_at-space.ensures in
     let small : pages_in c.space_at-space.result.now.size ≤ 32768 = (c.self.invariant.machine.each c.args.at c.space_at-space.result.now e).dense.small in
     rw c.size.ensures (omega (arith, small))
 
 pub returns-clause-count : goal.returns-clause-count
 returns-clause-count g c =
     let i = c.self.inside in
-    let e = there c.as_slice.result.now c.self.inside.places.items c.args.at c.space_at-space.result.now c.as_slice.ensures.value c.space_at-space.ensures in
+    let e = c.space_at-space.ensures in
     rw (← c.self.view_is, held-is i c.args.at c.space_at-space.result.now e) (c.pages_in.ensures ∙ ap pages_in c.size.ensures ∙ sym (length-pages_of i.ram c.space_at-space.result.now))
 
 pub returns-clause-few : goal.returns-clause-few
 returns-clause-few g c =
     let i = c.self.inside in
-    let e = there c.as_slice.result.now c.self.inside.places.items c.args.at c.space_at-space.result.now c.as_slice.ensures.value c.space_at-space.ensures in
+    let e = c.space_at-space.ensures in
     let small : pages_in c.space_at-space.result.now.size ≤ 32768 = (c.self.invariant.machine.each c.args.at c.space_at-space.result.now e).dense.small in
     rw (← c.self.view_is, held-is i c.args.at c.space_at-space.result.now e, length-pages_of i.ram c.space_at-space.result.now) small
 
 pub returns-clause-whole : goal.returns-clause-whole
 returns-clause-whole g c =
     let i = c.self.inside in
-    let e = there c.as_slice.result.now c.self.inside.places.items c.args.at c.space_at-space.result.now c.as_slice.ensures.value c.space_at-space.ensures in
+    let e = c.space_at-space.ensures in
     rw (← c.self.view_is, held-is i c.args.at c.space_at-space.result.now e) (length-pages_of i.ram c.space_at-space.result.now)
 
 pub returns-clause-sized : goal.returns-clause-sized
 returns-clause-sized g c =
     let i = c.self.inside in
     let x = c.space_at-space.result.now in
-    let e = there c.as_slice.result.now c.self.inside.places.items c.args.at c.space_at-space.result.now c.as_slice.ensures.value c.space_at-space.ensures in
+    let e = c.space_at-space.ensures in
     rw (← c.self.view_is, held-is i c.args.at x e) (pages-sized i.ram x.root.0 x.trap.0 (pages_in x.size) c.frame_count-count.ensures.memory (c.self.invariant.machine.each c.args.at x e).dense)

@@ -1,23 +1,23 @@
 use Rattle.spaces.proofs.Spaces.read.Goals as goal
-use Rattle.spaces.proofs.Places.{held-is, stands-there, there}
+use Rattle.spaces.proofs.Places.{held-is, stands-there}
 use Rattle.spaces.proofs.Results.{ok-true, read-can}
 
 pub space_at-space-requires : goal.space_at-space-requires
-space_at-space-requires g c = stands-there c.self.inside c.as_slice.result.now c.args.at c.as_slice.ensures.value (rw (← c.self.view_is) at c.requires)
+space_at-space-requires g c = stands-there c.self.inside c.args.at (rw (← c.self.view_is) at c.requires)
 
 pub copy_in-requires : goal.copy_in-requires
-copy_in-requires g c = (c.self.invariant.machine.each c.args.at c.space_at-space.result.now (there c.as_slice.result.now c.self.inside.places.items c.args.at c.space_at-space.result.now c.as_slice.ensures.value c.space_at-space.ensures)).dense
+copy_in-requires g c = (c.self.invariant.machine.each c.args.at c.space_at-space.result.now c.space_at-space.ensures).dense
 
 pub returns-clause-can : goal.returns-clause-can
 returns-clause-can g c =
     let i = c.self.inside in
     let x = c.space_at-space.result.now in
-    let e = there c.as_slice.result.now i.places.items c.args.at x c.as_slice.ensures.value c.space_at-space.ensures in
+    let e = c.space_at-space.ensures in
     rw (← c.self.view_is, held-is i c.args.at x e) (read-can c.copy_in.result _ c.copy_in.new.buffer c.is_ok.result c.is_ok.ensures.value c.copy_in.ensures.read c.copy_in.ensures.bad c.copy_in.ensures.only)
 
 pub returns-clause-done : goal.returns-clause-done
 returns-clause-done g c =
     let i = c.self.inside in
     let x = c.space_at-space.result.now in
-    let e = there c.as_slice.result.now i.places.items c.args.at x c.as_slice.ensures.value c.space_at-space.ensures in
+    let e = c.space_at-space.ensures in
     rw (← c.self.view_is, held-is i c.args.at x e) (ok-true c.copy_in.result c.is_ok.result _ _ _ c.is_ok.ensures.value c.copy_in.ensures.read c.copy_in.ensures.read (λ one two. one))

@@ -1,5 +1,5 @@
 use Rattle.spaces.proofs.Spaces.shrink.Goals as goal
-use Rattle.spaces.proofs.Places.{held-is, there}
+use Rattle.spaces.proofs.Places.{held-is, missing, there}
 use Rattle.spaces.proofs.Traded.{changed, placed-as, refilled, shown-as}
 use Rattle.spaces.specs.View.{held_with, shown}
 use Rattle.std.proofs.Common.{◌≡◌, ◌-◌, Some, arith, refl, take}
@@ -39,3 +39,6 @@ returns g c =
     let size : z.size ≡ x.size - c.args.bytes = let h = c.shrink.ensures.size in omega (arith, h) in
     let all = placed-as held i _ c.args.at (shown c.shrink.new.ram (Some z)) (Some (held_with memory (x.size - c.args.bytes))) less (shown-as c.shrink.new.ram z memory (x.size - c.args.bytes) c.shrink.ensures.pages size) in
     rw (← c.self.view_is, held-is i c.args.at x e) all.view
+
+pub unreachable-requires : goal.unreachable-requires
+unreachable-requires g c = missing c.self.inside c.args.at c.deref_mut.result.now (rw (← c.self.view_is) at c.requires.space) c.deref_mut.ensures.value c.in-None.is

@@ -1,0 +1,8 @@
+use Rattle.std.proofs.Common.{arith}
+use Rattle.balloc.proofs.Exits.{HasCause-failed, told_err}
+use Rattle.balloc.proofs.inodes.read_inode.Goals as goal
+
+pub returns-in_err-block : goal.returns-in_err-block
+returns-in_err-block g c =
+    let e = told_err c.from_residual.result c.from_residual.ensures.1 in
+    record { inode = rw e tt; fits = rw e tt; same = rw e tt; count = c.read.ensures.count; cause = HasCause-failed (omega arith) c.read.ensures.cause c.in_err-block.was }
