@@ -494,23 +494,23 @@ module _ (k e : Kernel) (i : ℕ) (same : e ≡ entered k) (is : IsKernel k) (ac
       ∙ ap (can_answer (held_at e.spaces i).memory) (sym is-a)
       ∙ can
 
-  pub waits-childless : (pid : ℕ) → IfSome (slot e.table.places i) (λ p. pid ≡ p.pid) → is_some (place_where e.table.places (is_child_of pid)) ≡ false
+  pub waits-childless : (pid : ℕ) → IfSome (slot e.table.places i) (λ p. pid ≡ p.pid) → (b : Bool) → b ≡ is_some (place_where e.table.places (is_child_of pid)) → b ≡ false
       → called (state_of k) i ≡ quiet (state_of (answered e minus_one))
-  waits-childless pid parent has =
+  waits-childless pid parent b told has =
       let run = run-of k i is active in
-      rows-wait-childless k i run.0 run.1.0 run.1.1 is number (child-entered pid false parent has)
+      rows-wait-childless k i run.0 run.1.0 run.1.1 is number (child-entered pid false parent (sym told ∙ has))
       ∙ ap (λ (x : Kernel). quiet (state_of (answered x minus_one))) (sym same)
 
-  pub waits-unwritable : (a : ℕ) → a ≡ argument e 0 → can_answer (held_at e.spaces i).memory a ≡ false → called (state_of k) i ≡ quiet (state_of (answered e minus_one))
-  waits-unwritable a is-a can =
+  pub waits-unwritable : (a : ℕ) → a ≡ argument e 0 → (b : Bool) → b ≡ can_answer (held_at e.spaces i).memory a → b ≡ false → called (state_of k) i ≡ quiet (state_of (answered e minus_one))
+  waits-unwritable a is-a b told can =
       let run = run-of k i is active in
-      rows-wait-unwritable k i run.0 run.1.0 run.1.1 is number (answer-entered a false is-a can)
+      rows-wait-unwritable k i run.0 run.1.0 run.1.1 is number (answer-entered a false is-a (sym told ∙ can))
       ∙ ap (λ (x : Kernel). quiet (state_of (answered x minus_one))) (sym same)
 
-  pub waits-begun : (pid a : ℕ) (w : Pending) → IfSome (slot e.table.places i) (λ p. pid ≡ p.pid) → is_some (place_where e.table.places (is_child_of pid)) ≡ true
-      → a ≡ argument e 0 → can_answer (held_at e.spaces i).memory a ≡ true → w ≡ pending_for e Wait → called (state_of k) i ≡ gone_on (state_of e) i w
-  waits-begun pid a w parent has is-a can begun =
+  pub waits-begun : (pid a : ℕ) (w : Pending) → IfSome (slot e.table.places i) (λ p. pid ≡ p.pid) → (b : Bool) → b ≡ is_some (place_where e.table.places (is_child_of pid)) → b ≡ true
+      → a ≡ argument e 0 → (d : Bool) → d ≡ can_answer (held_at e.spaces i).memory a → d ≡ true → w ≡ pending_for e Wait → called (state_of k) i ≡ gone_on (state_of e) i w
+  waits-begun pid a w parent b told has is-a d answers can begun =
       let run = run-of k i is active in
-      rows-wait k i run.0 run.1.0 run.1.1 is number (child-entered pid true parent has) (answer-entered a true is-a can)
+      rows-wait k i run.0 run.1.0 run.1.1 is number (child-entered pid true parent (sym told ∙ has)) (answer-entered a true is-a (sym answers ∙ can))
       ∙ ap (λ (x : Kernel). gone_on (state_of x) i (pending_for x Wait)) (sym same)
       ∙ ap (gone_on (state_of e) i) (sym begun)

@@ -203,28 +203,28 @@ module _ (k : Kernel) (i : ℕ) (w : Pending) (q : ℕ) (is : IsKernel k) (on : 
   }
 
   module _ (active : k.spaces.active ≡ Some i) (number : w.number ≡ Read) where
-    pub reads-taken : not (is_empty (bytes_in k.spaces q)) ≡ true → w.done ≡ 0 → (new : Kernel) (n : ℕ) → new ≡ drawn k i q (pending_arg w 1) (low (pending_arg w 2)) → n ≡ min (low (pending_arg w 2)) (length (bytes_in k.spaces q))
+    pub reads-taken : (b : Bool) → b ≡ not (is_empty (bytes_in k.spaces q)) → b ≡ true → w.done ≡ 0 → (new : Kernel) (n : ℕ) → new ≡ drawn k i q (pending_arg w 1) (low (pending_arg w 2)) → n ≡ min (low (pending_arg w 2)) (length (bytes_in k.spaces q))
         → gone_on (state_of k) i w ≡ quiet (state_of (answered new n))
-    reads-taken some start new n made counted =
+    reads-taken b told some start new n made counted =
         let run = run-of k i is active in
         let c = low (pending_arg w 2) in
         let place : pending_arg w 1 + w.done ≡ pending_arg w 1 = omega (arith, start) in
         let same : drawn k i q (pending_arg w 1 + w.done) c ≡ new = ap (λ (a : ℕ). drawn k i q a c) place ∙ sym made in
-        goes-taken k i run.0 run.1.0 run.1.1 is w q (bytes_in k.spaces q) here file.file (named run.0 run.1.0 run.1.1) on.0 file.on number (some-bytes (length (bytes_in k.spaces q)) some)
+        goes-taken k i run.0 run.1.0 run.1.1 is w q (bytes_in k.spaces q) here file.file (named run.0 run.1.0 run.1.1) on.0 file.on number (some-bytes (length (bytes_in k.spaces q)) (sym told ∙ some))
         ∙ ap (λ (x : Kernel). quiet (state_of (answered x (min c (length (bytes_in k.spaces q)))))) same
         ∙ ap (λ (m : ℕ). quiet (state_of (answered new m))) (sym counted)
 
-    pub reads-ended : not (is_empty (bytes_in k.spaces q)) ≡ false → has_end (opens_of k.files) q WriteEnd ≡ false → gone_on (state_of k) i w ≡ quiet (state_of (answered k 0))
-    reads-ended none ends =
+    pub reads-ended : (b : Bool) → b ≡ not (is_empty (bytes_in k.spaces q)) → b ≡ false → (e : Bool) → e ≡ has_end (opens_of k.files) q WriteEnd → e ≡ false → gone_on (state_of k) i w ≡ quiet (state_of (answered k 0))
+    reads-ended b told none e stands ends =
         let run = run-of k i is active in
-        goes-ended k i run.0 run.1.0 run.1.1 is w q (bytes_in k.spaces q) here file.file (named run.0 run.1.0 run.1.1) on.0 file.on number (no-bytes (length (bytes_in k.spaces q)) none) ends
+        goes-ended k i run.0 run.1.0 run.1.1 is w q (bytes_in k.spaces q) here file.file (named run.0 run.1.0 run.1.1) on.0 file.on number (no-bytes (length (bytes_in k.spaces q)) (sym told ∙ none)) (sym stands ∙ ends)
 
-    pub reads-waiting : slice_index k.spaces.registers 0 ≡ 0 → k.spaces.pc % 4 ≡ 0 → not (is_empty (bytes_in k.spaces q)) ≡ false → has_end (opens_of k.files) q WriteEnd ≡ true
+    pub reads-waiting : slice_index k.spaces.registers 0 ≡ 0 → k.spaces.pc % 4 ≡ 0 → (b : Bool) → b ≡ not (is_empty (bytes_in k.spaces q)) → b ≡ false → (e : Bool) → e ≡ has_end (opens_of k.files) q WriteEnd → e ≡ true
         → IsReading (descriptors_at k i) (held_at k.spaces i).memory w → w.done ≡ 0 → gone_on (state_of k) i w ≡ quiet (state_of (blocked k i w))
-    reads-waiting z a none ends can start =
+    reads-waiting z a b told none e stands ends can start =
         let run = run-of k i is active in
         let p1 = subst (λ (o : Option Process). IsReading (descriptors_in o) (held_at k.spaces i).memory w) run.1.1.process can in
         let p2 = subst (λ (y : Held). IsReading run.0.descriptors y.memory w) (held-run k i run.0 run.1.0 run.1.1 is) p1 in
         let p3 = subst (λ (c : Call). IsPending run.0.descriptors run.1.0.memory w c) (sym number) p2 in
-        goes-waiting k i run.0 run.1.0 run.1.1 is w q (bytes_in k.spaces q) here file.file (named run.0 run.1.0 run.1.1) on.0 file.on number z a (no-bytes (length (bytes_in k.spaces q)) none) ends p3
+        goes-waiting k i run.0 run.1.0 run.1.1 is w q (bytes_in k.spaces q) here file.file (named run.0 run.1.0 run.1.1) on.0 file.on number z a (no-bytes (length (bytes_in k.spaces q)) (sym told ∙ none)) (sym stands ∙ ends) p3
         (waits-reading (opens_of k.files) run.0.descriptors w number (start-fresh (opens_of k.files) run.0.descriptors w start))

@@ -13,6 +13,8 @@ pub mod Readies
 pub mod Shown
 pub mod Goes
 pub mod Takes
+pub mod Prints
+mod Transfers
 pub mod Sbrk
 pub mod Writes
 pub mod Collects

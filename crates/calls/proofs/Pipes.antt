@@ -333,24 +333,24 @@ module _ (k e new : Kernel) (i a : ℕ) (same : e ≡ entered k) (is : IsKernel 
       ∙ refuses k i run.0 run.1.0 run.1.1 is
       ∙ sym (ap (λ (x : Kernel). quiet (state_of (answered x minus_one))) (made ∙ same))
 
-  pub pipes-unwritable : can_write (held_at e.spaces i).memory a 8 ≡ false → new ≡ e → called (state_of k) i ≡ quiet (state_of (answered new minus_one))
-  pipes-unwritable can made =
+  pub pipes-unwritable : (b : Bool) → b ≡ can_write (held_at e.spaces i).memory a 8 → b ≡ false → new ≡ e → called (state_of k) i ≡ quiet (state_of (answered new minus_one))
+  pipes-unwritable b told cannot made =
       let run = run-of k i is active in
-      pipe-refused (ap limited (pipe-unwritable (entered k) i run.0 run.1.0 (enters-run k i run.0 run.1.0 run.1.1 is) (enters-kernel k i run.0 run.1.0 run.1.1 is) (can-entered false can))) made
+      pipe-refused (ap limited (pipe-unwritable (entered k) i run.0 run.1.0 (enters-run k i run.0 run.1.0 run.1.1 is) (enters-kernel k i run.0 run.1.0 run.1.1 is) (can-entered false (sym told ∙ cannot)))) made
 
-  pub pipes-lacks : can_write (held_at e.spaces i).memory a 8 ≡ true → new ≡ e → LacksEnds e i a → called (state_of k) i ≡ quiet (state_of (answered new minus_one))
-  pipes-lacks can made lacks =
+  pub pipes-lacks : (b : Bool) → b ≡ can_write (held_at e.spaces i).memory a 8 → b ≡ true → new ≡ e → LacksEnds e i a → called (state_of k) i ≡ quiet (state_of (answered new minus_one))
+  pipes-lacks b told can made lacks =
       let run = run-of k i is active in
       let lacks' : LacksEnds (entered k) i (argument k 0) = subst (LacksEnds (entered k) i) a-entered (subst (λ (x : Kernel). LacksEnds x i a) same lacks) in
-      pipe-refused (pipe-lacks (entered k) i run.0 run.1.0 (enters-run k i run.0 run.1.0 run.1.1 is) (enters-kernel k i run.0 run.1.0 run.1.1 is) (can-entered true can) lacks') made
+      pipe-refused (pipe-lacks (entered k) i run.0 run.1.0 (enters-run k i run.0 run.1.0 run.1.1 is) (enters-kernel k i run.0 run.1.0 run.1.1 is) (can-entered true (sym told ∙ can)) lacks') made
 
-  pub pipes-opened : can_write (held_at e.spaces i).memory a 8 ≡ true → (x : Ends) → AreFree e i x → new ≡ piped e i a x → IsKernel new → called (state_of k) i ≡ quiet (state_of (answered new 0))
-  pipes-opened can x free made kept =
+  pub pipes-opened : (b : Bool) → b ≡ can_write (held_at e.spaces i).memory a 8 → b ≡ true → (x : Ends) → AreFree e i x → new ≡ piped e i a x → IsKernel new → called (state_of k) i ≡ quiet (state_of (answered new 0))
+  pipes-opened b told can x free made kept =
       let run = run-of k i is active in
       let to : new ≡ piped (entered k) i (argument k 0) x = made ∙ ap (λ (y : Kernel). piped y i a x) same ∙ ap (λ (n : ℕ). piped (entered k) i n x) a-entered in
       let free' : AreFree (entered k) i x = subst (λ (y : Kernel). AreFree y i x) same free in
       numbered k i run.0 run.1.0 run.1.1 is (Some Pipe) number
-      ∙ pipe-settles (entered k) i run.0 run.1.0 (enters-run k i run.0 run.1.0 run.1.1 is) (enters-kernel k i run.0 run.1.0 run.1.1 is) (can-entered true can) (state_of (entered k)) x free' (subst (λ (y : Kernel). IsKernel y) to kept)
+      ∙ pipe-settles (entered k) i run.0 run.1.0 (enters-run k i run.0 run.1.0 run.1.1 is) (enters-kernel k i run.0 run.1.0 run.1.1 is) (can-entered true (sym told ∙ can)) (state_of (entered k)) x free' (subst (λ (y : Kernel). IsKernel y) to kept)
       ∙ sym (ap (λ (y : Kernel). quiet (state_of (answered y 0))) to)
 
 -- ---- over the fields: k is what they show, and now is the kernel's value

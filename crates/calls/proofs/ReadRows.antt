@@ -1,27 +1,27 @@
 -- The row of read: its tests, and what it goes on with.
-use Rattle.std.proofs.Common.{◌≡◌, [], ℕ, zero, suc, ◌<◌, Bool, true, false, List, Option, Some, None, refl, ap, sym, ◌∙◌, arith}
-use Rattle.std.specs.Prelude.{is_some, option_and_then, option_map, slice_index}
+use Rattle.std.proofs.Common.{◌≡◌, ◌≢◌, [], ℕ, zero, suc, ◌<◌, Bool, true, false, List, Option, Some, None, refl, ap, subst, sym, ◌∙◌, arith}
+use Rattle.std.specs.Prelude.{is_some, option_and_then, option_map}
 use Rattle.std.specs.Result.{result_ok}
 use Rattle.calls.specs.Descriptors.{descriptors_in}
-use Rattle.calls.specs.Kernel.{Kernel, answered, argument, descriptors_at, entered, state_of}
+use Rattle.calls.specs.Kernel.{Kernel, answered, argument, descriptors_at, state_of}
 use Rattle.calls.specs.Says.{called, gone_on, line_for, pending_for}
 use Rattle.calls.specs.Sends.{target_named}
-use Rattle.calls.specs.Sound.{IsKernel, IsOpenOn, IsReading, console_file, file_named}
+use Rattle.calls.specs.Sound.{IsKernel, IsReading, file_named}
 use Rattle.calls.proofs.Draws.{draws-within}
 use Rattle.calls.proofs.Goes.{gone-run}
 use Rattle.calls.proofs.Opens.{IsFileAt, IsNamed, file-at}
 use Rattle.calls.proofs.Readies.{stands-open}
 use Rattle.calls.proofs.Receives.{row-within}
-use Rattle.calls.proofs.Rows.{enters-kernel, enters-run, numbered, refuses}
+use Rattle.calls.proofs.Rows.{IsBegun, begun-done, begun-refused}
 use Rattle.calls.proofs.Runs.{IsRun, self}
-use Rattle.calls.proofs.Settles.{settle-limited}
 use Rattle.calls.proofs.Steps.{held-run}
-use Rattle.calls.proofs.Writes.{int-low}
+use Rattle.calls.proofs.Writes.{console-only, int-low, usable-open}
+use Rattle.calls.specs.Transfers.{Begins}
 use Rattle.files.specs.Places.{opens_of, readable_at}
 use Rattle.proc.specs.declared.process.Process.{Process}
 use Rattle.spaces.specs.Spaces.{Held, bytes_in, held_at}
 use Rattle.spaces.specs.SpacesLemmas.{some-pipe}
-use Rattle.unixmodel.specs.Calls.{call_of, quiet, settle}
+use Rattle.unixmodel.specs.Calls.{quiet, settle}
 use Rattle.unixmodel.specs.declared.call.Call.TheVariants.{Read}
 use Rattle.unixmodel.specs.declared.process.Pending.{Pending}
 use Rattle.unixmodel.specs.FileCalls.{is_usable, read_on, read_row}
@@ -58,27 +58,6 @@ readable-file (Some f) t is = ap Some (readable-choice f t f.readable refl is).1
 -- the target of a read that may begin
 pub readable-named : (opens : List (Option OpenFile)) (ds : List (Option ℕ)) (d : ℕ) (t : Target) → readable_on opens ds d ≡ Some t → option_map (λ (f : OpenFile). f.target) (file_named opens ds d) ≡ Some t
 readable-named opens ds d t is = readable-file (file_named opens ds d) t is
-
--- what is open can be used
-usable-open : (f : OpenFile) (t : Target) → f.target ≡ t → IsOpenOn f t → is_usable flat_files t ≡ true
-unfolding flat_files
-usable-open f (OnNode n offset) on is =
-    let same : OnNode n offset ≡ OnNode 2 0 = sym on ∙ ap (λ (g : OpenFile). g.target) is in
-    ap (is_usable flat_files) same
-usable-open f (OnPipe q end) on is = refl
-
-console-file : (f : OpenFile) (t : Target) (n offset : ℕ) → t ≡ OnNode n offset → IsOpenOn f t → f ≡ console_file
-console-file f (OnNode m o) n offset e is = is
-console-file f (OnPipe q end) n offset e is = absurd (cc)
-
-module _ (k : Kernel) (is : IsKernel k) (i d : ℕ) where
-  -- a descriptor of a node names the console
-  pub console-only : (n offset : ℕ) → target_named k i d ≡ Some (OnNode n offset) → (m : ℕ) → slot (descriptors_at k i) d ≡ Some m → slot (opens_of k.files) m ≡ Some console_file
-  console-only n offset at m named =
-      let file = file-at (opens_of k.files) (descriptors_at k i) d (OnNode n offset) at in
-      let both : Some file.number ≡ Some m = sym file.named ∙ named in
-      let same : file.number ≡ m = cc in
-      ap (slot (opens_of k.files)) (sym same) ∙ file.opened ∙ ap Some (console-file file.file file.file.target n offset file.on (is.opened.each file.number file.file file.opened))
 
 -- ---- the row
 
@@ -132,60 +111,6 @@ module _ (k : Kernel) (i : ℕ) (p : Process) (h : Held) (r : IsRun k i p h) (is
       draws-within k i p h r is w q (bytes_in k.spaces q) (some-pipe (slot k.spaces.pipes q) stands) file.file
       (record { number = file.number; named = of-run (low (pending_arg w 0)) file.number file.named; opened = file.opened }) end file.on
 
-module _ (k : Kernel) (i : ℕ) (p : Process) (h : Held) (r : IsRun k i p h) (is : IsKernel k) (number : call_of (low (slice_index k.spaces.registers 17)) ≡ Some Read) where
-  not-done : read_row (state_of (entered k)) i (self (entered k) p h) ≡ Refused → called (state_of k) i ≡ quiet (state_of (answered (entered k) minus_one))
-  not-done row = numbered k i p h r is (Some Read) number ∙ ap (λ (o : Outcome). settle (state_of (entered k)) i (limited o)) row ∙ refuses k i p h r is
-
-  pub rows-read-refused : readable_on (opens_of k.files) (descriptors_at k i) (low (argument k 0)) ≡ None → called (state_of k) i ≡ quiet (state_of (answered (entered k) minus_one))
-  rows-read-refused none =
-      not-done
-      (refused-go (state_of (entered k)) i (self (entered k) p h) (slot p.descriptors (low (argument k 0))) refl
-      (ap (λ (o : Option Process). readable_on (opens_of k.files) (descriptors_in o) (low (argument k 0))) (sym r.process) ∙ none))
-
-  module _ (t : Target) (source : readable_on (opens_of k.files) (descriptors_at k i) (low (argument k 0)) ≡ Some t) where
-    on : target_named k i (low (argument k 0)) ≡ Some t
-    on = readable-named (opens_of k.files) (descriptors_at k i) (low (argument k 0)) t source
-
-    file : IsFileAt (opens_of k.files) (descriptors_at k i) (low (argument k 0)) t
-    file = file-at (opens_of k.files) (descriptors_at k i) (low (argument k 0)) t on
-
-    named : IsNamed (state_of (entered k)) (self (entered k) p h) (low (argument k 0)) file.file
-    named = record { number = file.number; named = of-run k i p h r is (low (argument k 0)) file.number file.named; opened = file.opened }
-
-    readable : file.file.readable ≡ true
-    readable =
-        let there : file_named (opens_of k.files) (descriptors_at k i) (low (argument k 0)) ≡ Some file.file = rw (file.named, file.opened) refl in
-        (readable-choice file.file t file.file.readable refl (ap (λ (o : Option OpenFile). result_ok (readable_at o)) (sym there) ∙ source)).0
-
-    usable : is_usable flat_files file.file.target ≡ true
-    usable = usable-open file.file file.file.target refl (is.opened.each file.number file.file file.opened)
-
-    pub rows-read-below : natural (int_of (argument k 2)) ≡ None → called (state_of k) i ≡ quiet (state_of (answered (entered k) minus_one))
-    rows-read-below below = not-done (read-below (state_of (entered k)) i (self (entered k) p h) refl file.file named readable usable below)
-
-    pub rows-read-nothing : natural (int_of (argument k 2)) ≡ Some 0 → called (state_of k) i ≡ quiet (state_of (answered (entered k) 0))
-    rows-read-nothing none =
-        numbered k i p h r is (Some Read) number
-        ∙ ap (λ (o : Outcome). settle (state_of (entered k)) i (limited o)) (read-nothing (state_of (entered k)) i (self (entered k) p h) refl file.file named readable usable none)
-        ∙ settle-limited (entered k) i p h (enters-run k i p h r is) (enters-kernel k i p h r is) (state_of (entered k)) 0 []
-
-    pub rows-read-unwritable : (n : ℕ) → natural (int_of (argument k 2)) ≡ Some n → 0 < n → can_write (held_at k.spaces i).memory (argument k 1) n ≡ false → called (state_of k) i ≡ quiet (state_of (answered (entered k) minus_one))
-    rows-read-unwritable n count some cannot =
-        let memory = ap (λ (y : Held). can_write y.memory (argument k 1) n) (held-run k i p h r is) in
-        not-done (read-unwritable (state_of (entered k)) i (self (entered k) p h) refl file.file named readable usable n count some (sym memory ∙ cannot))
-
-    -- the call goes on as it would later
-    pub rows-read : (n : ℕ) → natural (int_of (argument k 2)) ≡ Some n → 0 < n → can_write (held_at k.spaces i).memory (argument k 1) n ≡ true → called (state_of k) i ≡ gone_on (state_of (entered k)) i (pending_for (entered k) Read)
-    rows-read n count some can =
-        let memory = ap (λ (y : Held). can_write y.memory (argument k 1) n) (held-run k i p h r is) in
-        let r' = enters-run k i p h r is in
-        let is' = enters-kernel k i p h r is in
-        let w = pending_for (entered k) Read in
-        numbered k i p h r is (Some Read) number
-        ∙ ap (λ (o : Outcome). settle (state_of (entered k)) i (limited o)) (read-begins (state_of (entered k)) i (self (entered k) p h) refl file.file named readable usable n count some (sym memory ∙ can))
-        ∙ ap (settle (state_of (entered k)) i) (within-on (entered k) i p h r' is' w t on)
-        ∙ sym (gone-run (entered k) i p h r' w)
-
 -- a read that begins
 pub reading-begins : (k : Kernel) (i d : ℕ) (t : Target) (mem : Memory) (n : ℕ) → d ≡ low (argument k 0) → target_named k i d ≡ Some t → natural (int_of (argument k 2)) ≡ Some n → 0 < n → can_write mem (argument k 1) n ≡ true → IsReading (descriptors_at k i) mem (pending_for k Read)
 reading-begins k i d t mem n place on count some can =
@@ -196,3 +121,77 @@ reading-begins k i d t mem n place on count some can =
       buffer = ap (can_write mem (argument k 1)) same ∙ can;
       left = omega (arith, same, some);
     }
+
+-- a read has begun in kernel e with pending call w, and d is its descriptor
+module _ (k e : Kernel) (i : ℕ) (x : IsBegun k e i Read) (w : Pending) (begins : w ≡ pending_for e Read) (d : ℕ) (place : d ≡ low (pending_arg w 0)) where
+  argument-is : (n : ℕ) → pending_arg w n ≡ pending_arg (pending_for e Read) n
+  argument-is n = ap (λ (v : Pending). pending_arg v n) begins
+
+  refused : read_row (state_of e) i (self e x.process x.held) ≡ Refused → called (state_of k) i ≡ quiet (state_of (answered e minus_one))
+  refused row = begun-refused k e i Read x (ap limited row)
+
+  at-first : (o : Option Target) → readable_on (opens_of e.files) (descriptors_at e i) d ≡ o → readable_on (opens_of e.files) (descriptors_at e i) (low (argument e 0)) ≡ o
+  at-first o source = ap (readable_on (opens_of e.files) (descriptors_at e i)) (ap low (sym (argument-is 0)) ∙ sym place) ∙ source
+
+  pub reads-unnamed : readable_on (opens_of e.files) (descriptors_at e i) d ≡ None → called (state_of k) i ≡ quiet (state_of (answered e minus_one))
+  reads-unnamed none =
+      refused
+      (refused-go (state_of e) i (self e x.process x.held) (slot x.process.descriptors (low (argument e 0))) refl
+      (ap (λ (o : Option Process). readable_on (opens_of e.files) (descriptors_in o) (low (argument e 0))) (sym x.run.process) ∙ at-first None none))
+
+  module _ (t : Target) (source : readable_on (opens_of e.files) (descriptors_at e i) d ≡ Some t) where
+    on : target_named e i (low (argument e 0)) ≡ Some t
+    on = readable-named (opens_of e.files) (descriptors_at e i) (low (argument e 0)) t (at-first (Some t) source)
+
+    file : IsFileAt (opens_of e.files) (descriptors_at e i) (low (argument e 0)) t
+    file = file-at (opens_of e.files) (descriptors_at e i) (low (argument e 0)) t on
+
+    named : IsNamed (state_of e) (self e x.process x.held) (low (argument e 0)) file.file
+    named = record { number = file.number; named = of-run e i x.process x.held x.run x.sound (low (argument e 0)) file.number file.named; opened = file.opened }
+
+    readable : file.file.readable ≡ true
+    readable =
+        let there : file_named (opens_of e.files) (descriptors_at e i) (low (argument e 0)) ≡ Some file.file = rw (file.named, file.opened) refl in
+        (readable-choice file.file t file.file.readable refl (ap (λ (o : Option OpenFile). result_ok (readable_at o)) (sym there) ∙ at-first (Some t) source)).0
+
+    usable : is_usable flat_files file.file.target ≡ true
+    usable = usable-open file.file file.file.target refl (x.sound.opened.each file.number file.file file.opened)
+
+    third-is : (o : Option ℕ) → natural (int_of (pending_arg w 2)) ≡ o → natural (int_of (argument e 2)) ≡ o
+    third-is o count = ap (λ (a : ℕ). natural (int_of a)) (sym (argument-is 2)) ∙ count
+
+    pub reads-below : natural (int_of (pending_arg w 2)) ≡ None → called (state_of k) i ≡ quiet (state_of (answered e minus_one))
+    reads-below below = refused (read-below (state_of e) i (self e x.process x.held) refl file.file named readable usable (third-is None below))
+
+    module _ (n : ℕ) (count : natural (int_of (pending_arg w 2)) ≡ Some n) where
+      pub reads-nothing : n ≡ 0 → called (state_of k) i ≡ quiet (state_of (answered e 0))
+      reads-nothing none = begun-done k e i Read x 0 (ap limited (read-nothing (state_of e) i (self e x.process x.held) refl file.file named readable usable (third-is (Some 0) (count ∙ ap Some none))))
+
+      module _ (some : n ≢ 0) (m : ℕ) (same : m ≡ n) where
+        writable-at : (b : Bool) → can_write (held_at e.spaces i).memory (pending_arg w 1) m ≡ b → can_write (held_at e.spaces i).memory (argument e 1) n ≡ b
+        writable-at b can = ap (λ (a : ℕ). can_write (held_at e.spaces i).memory a n) (sym (argument-is 1)) ∙ ap (can_write (held_at e.spaces i).memory (pending_arg w 1)) (sym same) ∙ can
+
+        writable-run : (b : Bool) → can_write (held_at e.spaces i).memory (pending_arg w 1) m ≡ b → can_write x.held.memory (argument e 1) n ≡ b
+        writable-run b can = ap (λ (y : Held). can_write y.memory (argument e 1) n) (sym (held-run e i x.process x.held x.run x.sound)) ∙ writable-at b can
+
+        pub reads-unwritable : can_write (held_at e.spaces i).memory (pending_arg w 1) m ≡ false → called (state_of k) i ≡ quiet (state_of (answered e minus_one))
+        reads-unwritable cannot = refused (read-unwritable (state_of e) i (self e x.process x.held) refl file.file named readable usable n (third-is (Some n) count) (omega arith) (writable-run false cannot))
+
+        pub reads-begins : can_write (held_at e.spaces i).memory (pending_arg w 1) m ≡ true → Begins k e i Read t w
+        reads-begins can =
+            let v = pending_for e Read in
+            let gives : called (state_of k) i ≡ gone_on (state_of e) i v =
+            x.row
+            ∙ ap (λ (o : Outcome). settle (state_of e) i (limited o)) (read-begins (state_of e) i (self e x.process x.held) refl file.file named readable usable n (third-is (Some n) count) (omega arith) (writable-run true can))
+            ∙ ap (settle (state_of e) i) (within-on e i x.process x.held x.run x.sound v t on)
+            ∙ sym (gone-run e i x.process x.held x.run v) in
+            let here : Begins k e i Read t v = record {
+              running = x.run.active;
+              sound = x.sound;
+              number = refl;
+              fresh = refl;
+              target = on;
+              can = reading-begins e i (low (argument e 0)) t (held_at e.spaces i).memory n refl on (third-is (Some n) count) (omega arith) (writable-at true can);
+              gives = gives;
+            } in
+            subst (λ (y : Pending). Begins k e i Read t y) (sym begins) here

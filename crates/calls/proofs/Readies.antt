@@ -111,6 +111,9 @@ module _ (s : State) (places : List (Option Process)) where
   pub ready-seen : (i : ℕ) (o : Option Process) → slot places i ≡ o → turn.ready (seen s places) i ≡ holds (turn.is_ready (seen s places)) (option_map (with_memory []) o)
   ready-seen i o at = ap (holds (turn.is_ready (seen s places))) (slot-joined places [] i ∙ ap (option_map (with_memory [])) at)
 
+  pub ready-some : (i : ℕ) (p : Process) (b : Bool) → slot places i ≡ Some p → b ≡ turn.is_ready (seen s places) (with_memory [] p) → b ≡ turn.ready (seen s places) i
+  ready-some i p b at is = is ∙ sym (ready-seen i (Some p) at)
+
 -- ---- where none runs
 
 module _ (k : Kernel) (idle : k.spaces.active ≡ None) where

@@ -1,5 +1,5 @@
 -- The calls of the running process: what each makes of the state.
-use Rattle.std.proofs.Common.{◌≡◌, ◌≢◌, ℕ, ◌%◌, true, false, List, [], Option, Some, None, Err, ℤ, negsuc, refl, ap, sym, ◌∙◌, arith}
+use Rattle.std.proofs.Common.{◌≡◌, ◌≢◌, ℕ, ◌%◌, true, false, List, [], Option, Some, None, Err, ℤ, negsuc, refl, ap, subst, sym, ◌∙◌, arith}
 use Rattle.std.specs.Prelude.{slice_index}
 use Rattle.std.specs.Int.{cast_signed, cast_unsigned, w32}
 use Rattle.std.proofs.lemmas.Int.{of_z-to_z}
@@ -8,7 +8,7 @@ use Rattle.calls.specs.Says.{IsUnbuilt, called, called_by}
 use Rattle.calls.specs.Sound.{IsAwaiting, IsKernel, IsPending, IsPlaced, is_at}
 use Rattle.calls.proofs.Changes.{ended-is, ended-state, left-as, left-kernel, left-state, left_to, other-at}
 use Rattle.calls.proofs.Reaped.{reap-state}
-use Rattle.calls.proofs.Runs.{IsRun, loaded-run, process-run, self, slot-put, within-run}
+use Rattle.calls.proofs.Runs.{IsRun, loaded-run, process-run, run-of, self, slot-put, within-run}
 use Rattle.calls.proofs.Settles.{call-run, change-run, live, regs-kernel, regs-run, settle-limited, settle-refused}
 use Rattle.files.specs.Places.{opens_of}
 use Rattle.proc.specs.declared.process.Process.{Process}
@@ -151,6 +151,36 @@ module _ (k : Kernel) (i : ℕ) (p : Process) (h : Held) (r : IsRun k i p h) (is
     stops-run =
         let q = record p { registers = k.spaces.registers; pc = k.spaces.pc; mode = Ready } in
         change-run k i p h r is (unix.with_mode Ready) ∙ sym (left-state k i p h r is q stops-placed refl) ∙ sym (ap state_of (left-as k i p h r is Ready))
+
+-- ---- a call has begun
+
+-- e is kernel k once its process i has begun a call, and the row of the call is looked up in it
+pub record IsBegun (k e : Kernel) (i : ℕ) (call : Call) : Type 0 where
+  pub process : Process
+  pub held : Held
+  pub run : IsRun e i process held
+  pub sound : IsKernel e
+  pub row : called (state_of k) i ≡ settle (state_of e) i (outcome_of (state_of e) i (self e process held) (Some call))
+
+pub begun-of : (k e : Kernel) (i : ℕ) (call : Call) → e ≡ entered k → IsKernel k → k.spaces.active ≡ Some i → call_of (low (slice_index k.spaces.registers 17)) ≡ Some call → IsBegun k e i call
+begun-of k e i call same is active number =
+    let run = run-of k i is active in
+    let begun : IsBegun k (entered k) i call = record {
+      process = run.0;
+      held = run.1.0;
+      run = enters-run k i run.0 run.1.0 run.1.1 is;
+      sound = enters-kernel k i run.0 run.1.0 run.1.1 is;
+      row = numbered k i run.0 run.1.0 run.1.1 is (Some call) number;
+    } in
+    subst (λ (x : Kernel). IsBegun k x i call) (sym same) begun
+
+module _ (k e : Kernel) (i : ℕ) (call : Call) (x : IsBegun k e i call) where
+  -- the row refuses it, or does it and makes nothing but the answer
+  pub begun-refused : outcome_of (state_of e) i (self e x.process x.held) (Some call) ≡ Refused → called (state_of k) i ≡ quiet (state_of (answered e minus_one))
+  begun-refused row = x.row ∙ ap (settle (state_of e) i) row ∙ settle-refused e i x.process x.held x.run x.sound
+
+  pub begun-done : (value : ℕ) → outcome_of (state_of e) i (self e x.process x.held) (Some call) ≡ limited (Done (state_of e) value []) → called (state_of k) i ≡ quiet (state_of (answered e value))
+  begun-done value row = x.row ∙ ap (settle (state_of e) i) row ∙ settle-limited e i x.process x.held x.run x.sound (state_of e) value []
 
 -- ---- rows that end the process, or where it waits
 

@@ -5,25 +5,29 @@ use Rattle.std.specs.Prelude.{option_map, slice_index}
 use Rattle.std.proofs.lemmas.Bool.{ne_eqb}
 use Rattle.std.proofs.lemmas.List.{drop-take, length-drop, length-set}
 use Rattle.calls.specs.Descriptors.{descriptors_in}
-use Rattle.calls.specs.Kernel.{Kernel, answered, argument, blocked, descriptors_at, entered, started, state_of}
+use Rattle.calls.specs.Kernel.{Kernel, answered, argument, blocked, descriptors_at, started, state_of}
 use Rattle.calls.specs.Says.{IsOnPipe, called, further, gone_on, pending_for}
 use Rattle.calls.specs.Sends.{sent, sent_count, target_named, unsent}
 use Rattle.calls.specs.Sound.{IsForPipe, IsKernel, IsPending, IsWriting, file_named, CanRun, IsAwaiting, WaitsAs, WaitsWell}
-use Rattle.calls.proofs.Goes.{IsResting, gone-run}
-use Rattle.calls.proofs.Opens.{IsNamed, file-at, waits-writing}
+use Rattle.calls.proofs.Goes.{IsResting, gone-run, resting-of, resumes}
+use Rattle.calls.proofs.Opens.{IsConsole, IsNamed, file-at, waits-writing}
 use Rattle.calls.proofs.Readies.{stands-open}
 use Rattle.calls.proofs.Reaped.{within-state}
-use Rattle.calls.proofs.Rows.{enters-kernel, enters-run, waits-run}
+use Rattle.calls.proofs.Rows.{IsBegun, waits-run}
 use Rattle.calls.proofs.Runs.{IsRun, file-run, run-of, self}
 use Rattle.calls.proofs.Settles.{settle-done}
 use Rattle.calls.proofs.Starts.{started-is, started-run, started_to}
 use Rattle.calls.proofs.Steps.{held-run}
-use Rattle.calls.proofs.Writes.{begun, can-run, int-low, length-read, readable-count, rows-write-begins, to_write, flag-yes}
+use Rattle.calls.proofs.Writes.{Written, argument-is, bytes-are, console-only, flag-yes, int-low, length-read, print-go, readable-count, third-is, to, writable_on, writes-begin}
+use Rattle.calls.specs.Told.{WaitsIn, resumed}
+use Rattle.calls.specs.Transfers.{Begins}
+use Rattle.files.specs.declared.file.Target as files
+use Rattle.files.specs.Meant.{target_of}
 use Rattle.files.specs.Places.{has_end, opens_of, writable_at}
 use Rattle.proc.specs.declared.process.Process.{Process}
 use Rattle.spaces.specs.Spaces.{Held, Spaces, bytes_in, filled, fitting, has_pipe, held_at, no_pages, read_at, with_pipe}
 use Rattle.spaces.specs.SpacesLemmas.{some-pipe}
-use Rattle.unixmodel.specs.Calls.{call_of, goes_on, quiet, settle}
+use Rattle.unixmodel.specs.Calls.{After, goes_on, quiet, settle}
 use Rattle.unixmodel.specs.declared.call.Call.{Call}
 use Rattle.unixmodel.specs.declared.call.Call.TheVariants.{Chdir, Close, Dup, Exec, Exit, Fork, Fstat, Getpid, Kill, Link, Mkdir, Mknod, Open, Pipe, Read, Sbrk, Sleep, Unlink, Uptime, Wait, Write}
 use Rattle.unixmodel.specs.declared.process.Mode.TheVariants.{Running, Waiting}
@@ -35,8 +39,8 @@ use Rattle.unixmodel.specs.Memory.{Memory, reach, read_bytes}
 use Rattle.unixmodel.specs.Numbers.{int_of, low, natural}
 use Rattle.unixmodel.specs.OpenFiles.{End, OpenFile, Target}
 use Rattle.unixmodel.specs.OpenFiles.End.{ReadEnd}
-use Rattle.unixmodel.specs.OpenFiles.Target.{OnPipe}
-use Rattle.unixmodel.specs.Outcome.{limited, minus_one, pending_arg}
+use Rattle.unixmodel.specs.OpenFiles.Target.{OnNode, OnPipe}
+use Rattle.unixmodel.specs.Outcome.{Outcome, limited, minus_one, pending_arg}
 use Rattle.unixmodel.specs.Outcome.Outcome.{Done, Waits}
 use Rattle.unixmodel.specs.Process as unix
 use Rattle.unixmodel.specs.State.{State}
@@ -221,25 +225,80 @@ writing-begins k descriptors mem n named count some can =
       left = omega (arith, same, some);
     }
 
-module _ (k : Kernel) (i : ℕ) (p : Process) (h : Held) (r : IsRun k i p h) (is : IsKernel k) (number : call_of (low (slice_index k.spaces.registers 17)) ≡ Some Write) where
-  -- a write to a pipe goes on as it would later
-  pub rows-write-pipe : (t : Target) → to_write k i ≡ Some t → (n : ℕ) → natural (int_of (argument k 2)) ≡ Some n → 0 < n → is_some (read_bytes (held_at k.spaces i).memory (argument k 1) n) ≡ true
-      → (q : ℕ) (end : End) → t ≡ OnPipe q end → called (state_of k) i ≡ gone_on (state_of (entered k)) i (pending_for (entered k) Write)
-  rows-write-pipe t named n count some can q end pipe =
-      let x = begun k i p h r is number t named in
-      let w = pending_for (entered k) Write in
-      let to : ToPipe (entered k) p h w q = record { file = x.file; end = end; named = x.written.file; on = x.on ∙ pipe } in
-      let writing : IsWriting p.descriptors h.memory w = writing-begins (entered k) p.descriptors h.memory n (ap is_some x.written.file.named) count some (can-run k i p h r is number t named n count some can) in
-      rows-write-begins k i p h r is number t named n count some can (row-within (entered k) i p h (enters-run k i p h r is) (enters-kernel k i p h r is) w q to writing)
+-- a write of the running process to the console puts out all of its bytes
+console-row : (k : Kernel) (i : ℕ) (p : Process) (h : Held) → IsRun k i p h → IsKernel k → (w : Pending) → IsWriting p.descriptors h.memory w → (n offset : ℕ) → target_named k i (low (pending_arg w 0)) ≡ Some (OnNode n offset)
+    → write_on (state_of k) i (self k p h) w ≡ Done (state_of k) (low (pending_arg w 2)) (unwrap_or (read_bytes h.memory (pending_arg w 1) (low (pending_arg w 2))) [])
+console-row k i p h r is w can n offset on =
+    let d = low (pending_arg w 0) in
+    let f = file-at (opens_of k.files) (descriptors_at k i) d (OnNode n offset) on in
+    let named : slot p.descriptors d ≡ Some f.number = ap (λ (o : Option Process). slot (descriptors_in o) d) (sym r.process) ∙ f.named in
+    let console : IsConsole (state_of k) (self k p h) d = record { number = f.number; named = named; opened = console-only k is i d n offset on f.number f.named } in
+    print-go (state_of k) i (self k p h) refl w console (read_bytes h.memory (pending_arg w 1) (low (pending_arg w 2))) refl can.readable
+
+-- the open file of a write to a pipe
+to-pipe : (k : Kernel) (i : ℕ) (p : Process) (h : Held) → IsRun k i p h → (w : Pending) (q : ℕ) (end : End) → target_named k i (low (pending_arg w 0)) ≡ Some (OnPipe q end) → ToPipe k p h w q
+to-pipe k i p h r w q end on =
+    let here = ap (λ (o : Option Process). option_map (λ (f : OpenFile). f.target) (file_named (opens_of k.files) (descriptors_in o) (low (pending_arg w 0)))) (sym r.process) ∙ on in
+    let f = file-at (opens_of k.files) p.descriptors (low (pending_arg w 0)) (OnPipe q end) here in
+    record { file = f.file; end = end; named = record { number = f.number; named = f.named; opened = f.opened }; on = f.on }
+
+-- a write of the running process keeps the limits
+write-within : (k : Kernel) (i : ℕ) (p : Process) (h : Held) → IsRun k i p h → IsKernel k → (w : Pending) → IsWriting p.descriptors h.memory w → (t : Target) → target_named k i (low (pending_arg w 0)) ≡ Some t
+    → limited (write_on (state_of k) i (self k p h) w) ≡ write_on (state_of k) i (self k p h) w
+write-within k i p h r is w can (OnNode n offset) on = rw (console-row k i p h r is w can n offset on) (rw (within-state k is) refl)
+write-within k i p h r is w can (OnPipe q end) on = row-within k i p h r is w q (to-pipe k i p h r w q end on) can
+
+-- a write begins
+module _ (k e : Kernel) (i : ℕ) (x : IsBegun k e i Write) (w : Pending) (begins : w ≡ pending_for e Write) (d : ℕ) (place : d ≡ low (pending_arg w 0)) (t : Target) (named : writable_on e i d ≡ Some t)
+    (n : ℕ) (count : natural (int_of (pending_arg w 2)) ≡ Some n) (some : n ≢ 0) (m : ℕ) (same : m ≡ n) (can : is_some (read_bytes (held_at e.spaces i).memory (pending_arg w 1) m) ≡ true) where
+  abbrev v : Pending
+  v = pending_for e Write
+
+  abbrev source : Written e x.process x.held (low (argument e 0)) t
+  source = to k e i x w begins d place t named
+
+  run-writing : IsWriting x.process.descriptors x.held.memory v
+  run-writing =
+      writing-begins e x.process.descriptors x.held.memory n (ap is_some source.written.file.named) (third-is k e i x w begins d place t named (Some n) count) (omega arith)
+      (bytes-are k e i x w begins d place t named n count some m same true can)
+
+  at-writing : IsWriting (descriptors_at e i) (held_at e.spaces i).memory v
+  at-writing =
+      let here = subst (λ (o : Option Process). IsWriting (descriptors_in o) x.held.memory v) (sym x.run.process) run-writing in
+      subst (λ (y : Held). IsWriting (descriptors_at e i) y.memory v) (sym (held-run e i x.process x.held x.run x.sound)) here
+
+  on : target_named e i (low (argument e 0)) ≡ Some t
+  on = writable-named e i (low (argument e 0)) t (ap (λ (a : ℕ). writable_on e i (low a)) (sym (argument-is k e i x w begins d place 0)) ∙ ap (writable_on e i) (sym place) ∙ named)
+
+  pub writes-begins : Begins k e i Write t w
+  writes-begins =
+      let gives : called (state_of k) i ≡ gone_on (state_of e) i v =
+      x.row
+      ∙ ap (λ (o : Outcome). settle (state_of e) i (limited o)) (writes-begin k e i x w begins d place t named n count some m same can)
+      ∙ ap (settle (state_of e) i) (write-within e i x.process x.held x.run x.sound v run-writing t on)
+      ∙ sym (gone-run e i x.process x.held x.run v) in
+      let here : Begins k e i Write t v = record { running = x.run.active; sound = x.sound; number = refl; fresh = refl; target = on; can = at-writing; gives = gives } in
+      subst (λ (y : Pending). Begins k e i Write t y) (sym begins) here
 
 -- ---- by what the kernel says
 
--- the open file of a write to a pipe
-pub to-pipe : (k : Kernel) (i : ℕ) (p : Process) (h : Held) → IsRun k i p h → (w : Pending) (q : ℕ) → IsOnPipe k i w q → ToPipe k p h w q
-to-pipe k i p h r w q to =
-    let here = ap (λ (o : Option Process). option_map (λ (f : OpenFile). f.target) (file_named (opens_of k.files) (descriptors_in o) (low (pending_arg w 0)))) (sym r.process) ∙ to.1 in
-    let f = file-at (opens_of k.files) p.descriptors (low (pending_arg w 0)) (OnPipe q to.0) here in
-    record { file = f.file; end = to.0; named = record { number = f.number; named = f.named; opened = f.opened }; on = f.on }
+module _ (k : Kernel) (i : ℕ) (w : Pending) (is : IsKernel k) (active : k.spaces.active ≡ Some i) (can : IsWriting (descriptors_at k i) (held_at k.spaces i).memory w) where
+  writing-run : (p : Process) (h : Held) → IsRun k i p h → IsWriting p.descriptors h.memory w
+  writing-run p h r = subst (λ (o : Option Process). IsWriting (descriptors_in o) h.memory w) r.process (subst (λ (y : Held). IsWriting (descriptors_at k i) y.memory w) (held-run k i p h r is) can)
+
+-- a write to the console that has begun puts out its bytes
+pub begins-printed : (old k : Kernel) (i : ℕ) (t : Target) (w : Pending) → Begins old k i Write t w → (n offset : ℕ) → t ≡ OnNode n offset
+    → called (state_of old) i ≡ record { state = state_of (answered k (low (pending_arg w 2))); bytes = unwrap_or (read_bytes (held_at k.spaces i).memory (pending_arg w 1) (low (pending_arg w 2))) [] }
+begins-printed old k i t w b n offset node =
+    let run = run-of k i b.sound b.running in
+    let count = low (pending_arg w 2) in
+    let bytes = λ (y : Held). unwrap_or (read_bytes y.memory (pending_arg w 1) count) [] in
+    b.gives
+    ∙ gone-run k i run.0 run.1.0 run.1.1 w
+    ∙ ap (λ (call : Call). settle (state_of k) i (goes_on (state_of k) i (self k run.0 run.1.0) w call)) b.number
+    ∙ ap (settle (state_of k) i) (console-row k i run.0 run.1.0 run.1.1 b.sound w (writing-run k i w b.sound b.running b.can run.0 run.1.0 run.1.1) n offset (b.target ∙ ap Some node))
+    ∙ settle-done k i run.0 run.1.0 run.1.1 b.sound (state_of k) count (bytes run.1.0)
+    ∙ ap (λ (y : Held). let a : After = record { state = state_of (answered k count); bytes = bytes y } in a) (sym (held-run k i run.0 run.1.0 run.1.1 b.sound))
 
 module _ (k : Kernel) (i : ℕ) (w : Pending) (q : ℕ) (is : IsKernel k) (active : k.spaces.active ≡ Some i) (can : IsWriting (descriptors_at k i) (held_at k.spaces i).memory w) (to : IsOnPipe k i w q) where
   abbrev p : Process
@@ -252,20 +311,23 @@ module _ (k : Kernel) (i : ℕ) (w : Pending) (q : ℕ) (is : IsKernel k) (activ
   r = (run-of k i is active).1.1
 
   writing : IsWriting p.descriptors h.memory w
-  writing = subst (λ (o : Option Process). IsWriting (descriptors_in o) h.memory w) r.process (subst (λ (y : Held). IsWriting (descriptors_at k i) y.memory w) (held-run k i p h r is) can)
+  writing = writing-run k i w is active can p h r
 
   file : ToPipe k p h w q
-  file = to-pipe k i p h r w q to
+  file = to-pipe k i p h r w q to.0 to.1
 
   -- the pipe is there
   pub sends-stands : has_pipe k.spaces q ≡ true
   sends-stands = pipe-stands k i p h r is w q file writing
 
   module _ (number : w.number ≡ Write) where
-    pub sends-closed : has_end (opens_of k.files) q ReadEnd ≡ false → gone_on (state_of k) i w ≡ quiet (state_of (answered k minus_one))
-    sends-closed none = goes-closed k i p h r is w q file writing number none
+    pub sends-closed : (b : Bool) → b ≡ has_end (opens_of k.files) q ReadEnd → b ≡ false → gone_on (state_of k) i w ≡ quiet (state_of (answered k minus_one))
+    sends-closed b told closed = goes-closed k i p h r is w q file writing number (sym told ∙ closed)
 
-    module _ (new : Kernel) (m : ℕ) (made : new ≡ sent k i q w) (count : m ≡ sent_count k i q w) (some : has_end (opens_of k.files) q ReadEnd ≡ true) where
+    module _ (new : Kernel) (m : ℕ) (made : new ≡ sent k i q w) (count : m ≡ sent_count k i q w) (b : Bool) (told : b ≡ has_end (opens_of k.files) q ReadEnd) (yes : b ≡ true) where
+      some : has_end (opens_of k.files) q ReadEnd ≡ true
+      some = sym told ∙ yes
+
       abbrev n' : ℕ
       n' = length (fitting (bytes_in k.spaces q) (drop w.done (unwrap_or (read_bytes h.memory (pending_arg w 1) (low (pending_arg w 2))) [])))
 
@@ -297,10 +359,12 @@ some-file k i p h r is d some none =
     let bad : Some f.0.target ≡ None = sym (ap (option_map (λ (x : OpenFile). x.target)) named) ∙ ap (λ (o : Option Process). option_map (λ (x : OpenFile). x.target) (file_named (opens_of k.files) (descriptors_in o) d)) (sym r.process) ∙ none in
     absurd (cc)
 
-pub target-some : (k : Kernel) (i d : ℕ) → IsKernel k → k.spaces.active ≡ Some i → is_some (slot (descriptors_at k i) d) ≡ true → target_named k i d ≡ None → ⊥
-target-some k i d is active some none =
+-- so it is told, where e is the descriptor that was looked up
+pub target-some : (k : Kernel) (i d : ℕ) → IsKernel k → k.spaces.active ≡ Some i → is_some (slot (descriptors_at k i) d) ≡ true → (e : ℕ) → e ≡ d → (r : Option files.Target) → option_map target_of r ≡ target_named k i e → r ≡ None → ⊥
+target-some k i d is active some e place r told none =
     let run = run-of k i is active in
-    some-file k i run.0 run.1.0 run.1.1 is d (ap (λ (o : Option Process). is_some (slot (descriptors_in o) d)) (sym run.1.1.process) ∙ some) none
+    some-file k i run.0 run.1.0 run.1.1 is d (ap (λ (o : Option Process). is_some (slot (descriptors_in o) d)) (sym run.1.1.process) ∙ some)
+    (ap (target_named k i) (sym place) ∙ sym told ∙ ap (option_map target_of) none)
 
 -- ---- a process that waits, and runs again
 
@@ -337,14 +401,14 @@ module _ (k : Kernel) (i : ℕ) (p : Process) (h : Held) (w : Pending) (is : IsK
   resting-run : IsRun resting_to i (record p { mode = Running }) h
   resting-run = started-run k i p h is none f.there.process f.there.space f.alive f.live f.free
 
-  pub resting-can : CanRun (slot k.table.places i)
+  resting-can : CanRun (slot k.table.places i)
   resting-can = rw f.there.process (f.live, rw f.waits refl, f.free)
 
-  pub resting-active : (started k i).spaces.active ≡ Some i
+  resting-active : (started k i).spaces.active ≡ Some i
   resting-active = ap (λ (x : Kernel). x.spaces.active) resting-is ∙ resting-run.active
 
   -- its call is pending still
-  pub resting-pending : (call : Call) → w.number ≡ call → IsPending (descriptors_at (started k i) i) (held_at (started k i).spaces i).memory w call
+  resting-pending : (call : Call) → w.number ≡ call → IsPending (descriptors_at (started k i) i) (held_at (started k i).spaces i).memory w call
   resting-pending call number =
       let held : held_at resting_to.spaces i ≡ h = ap (λ (o : Option Held). unwrap_or o no_pages) resting-run.space in
       let waits : IsPending p.descriptors h.memory w call = subst (IsPending p.descriptors h.memory w) number f.pending in
@@ -352,15 +416,40 @@ module _ (k : Kernel) (i : ℕ) (p : Process) (h : Held) (w : Pending) (is : IsK
       let there : IsPending (descriptors_at resting_to i) (held_at resting_to.spaces i).memory w call = subst (λ (o : Option Process). IsPending (descriptors_in o) (held_at resting_to.spaces i).memory w call) (sym resting-run.process) here in
       subst (λ (x : Kernel). IsPending (descriptors_at x i) (held_at x.spaces i).memory w call) (sym resting-is) there
 
-  pub resting-awaits : IsAwaiting (opens_of (started k i).files) (descriptors_at (started k i) i) w
+  resting-awaits : IsAwaiting (opens_of (started k i).files) (descriptors_at (started k i) i) w
   resting-awaits =
       let waits : WaitsAs (opens_of k.files) p.descriptors (Waiting w) = subst (WaitsAs (opens_of k.files) p.descriptors) f.waits (subst (WaitsWell (opens_of k.files)) f.there.process (is.opened.waits i)) in
       let there : IsAwaiting (opens_of resting_to.files) (descriptors_at resting_to i) w = subst (λ (o : Option Process). IsAwaiting (opens_of k.files) (descriptors_in o) w) (sym resting-run.process) waits in
       subst (λ (x : Kernel). IsAwaiting (opens_of x.files) (descriptors_at x i) w) (sym resting-is) there
 
   -- what is neither of these is a sleep
-  pub resting-sleeps : w.number ≢ Wait → w.number ≢ Read → w.number ≢ Write → w.number ≡ Sleep
+  resting-sleeps : w.number ≢ Wait → w.number ≢ Read → w.number ≢ Write → w.number ≡ Sleep
   resting-sleeps wait read write = only-sleep p.descriptors h.memory w w.number f.pending wait read write
+
+-- what there is once the process in place i, which waited with w, runs again in kernel s
+pub record Resumes (k s : Kernel) (i : ℕ) (w : Pending) : Type 0 where
+  pub running : s.spaces.active ≡ Some i
+  pub pending : (call : Call) → w.number ≡ call → IsPending (descriptors_at s i) (held_at s.spaces i).memory w call
+  pub awaits : IsAwaiting (opens_of s.files) (descriptors_at s i) w
+  pub sleeps : w.number ≢ Wait → w.number ≢ Read → w.number ≢ Write → w.number ≡ Sleep
+  pub gives : resumed (state_of k) i ≡ gone_on (state_of s) i w
+
+module _ (k : Kernel) (i : ℕ) (w : Pending) (is : IsKernel k) (none : k.spaces.active ≡ None) (waits : WaitsIn (slot k.table.places i) w) where
+  pub waiting-can : CanRun (slot k.table.places i)
+  waiting-can = let r = resting-of k i w is waits in resting-can k i r.0 r.1.0 w is none r.1.1
+
+  pub resumes-of : (s : Kernel) → s ≡ started k i → Resumes k s i w
+  resumes-of s same =
+      let r = resting-of k i w is waits in
+      let f = r.1.1 in
+      let here : Resumes k (started k i) i w = record {
+        running = resting-active k i r.0 r.1.0 w is none f;
+        pending = resting-pending k i r.0 r.1.0 w is none f;
+        awaits = resting-awaits k i r.0 r.1.0 w is none f;
+        sleeps = resting-sleeps k i r.0 r.1.0 w is none f;
+        gives = resumes k i r.0 r.1.0 is none f.there f.alive f.live f.free w f.waits;
+      } in
+      subst (λ (x : Kernel). Resumes k x i w) (sym same) here
 
 -- ---- over the fields: k is what they show, and now is the kernel's value
 
@@ -383,20 +472,23 @@ module _ (k now : Kernel) (i : ℕ) (w : Pending) (same : k ≡ now) (can : IsWr
       let page = (reach-page Load mem (pending_arg w 1) w.done sized (let a = whole.0 in let b = writes.left in omega (arith, a, b))).0 in
       omega (arith, page, few)
 
-  module _ (left : ℕ) (rest : left ≡ low (pending_arg w 2) - w.done) where
-    pub send-readable : left ≤ length (reach Load mem (pending_arg w 1 + w.done))
-    send-readable = rw further-on (let a = whole.0 in let b = writes.left in let l = length-drop w.done (reach Load mem (pending_arg w 1)) in omega (arith, a, b, l, rest))
+  module _ (count : ℕ) (all : count ≡ low (pending_arg w 2)) where
+    abbrev most : ℕ
+    most = count - w.done
+
+    pub send-readable : most ≤ length (reach Load mem (pending_arg w 1 + w.done))
+    send-readable = rw further-on (let a = whole.0 in let b = writes.left in let l = length-drop w.done (reach Load mem (pending_arg w 1)) in omega (arith, a, b, l, all))
 
     -- they are those that were not put yet
-    read-rest : read_at (held_at k.spaces i) (pending_arg w 1 + w.done) left ≡ unsent k i w
+    read-rest : read_at (held_at k.spaces i) (pending_arg w 1 + w.done) most ≡ unsent k i w
     read-rest =
-        let sum : w.done + left ≡ low (pending_arg w 2) = let b = writes.left in omega (arith, b, rest) in
-        ap (take left) further-on
-        ∙ sym (drop-take w.done left (reach Load mem (pending_arg w 1)))
+        let sum : w.done + most ≡ low (pending_arg w 2) = let b = writes.left in omega (arith, b, all) in
+        ap (take most) further-on
+        ∙ sym (drop-take w.done most (reach Load mem (pending_arg w 1)))
         ∙ ap (λ (n : ℕ). drop w.done (take n (reach Load mem (pending_arg w 1)))) sum
         ∙ sym (ap (drop w.done) whole.1)
 
-    module _ (q : ℕ) (new : Spaces) (bytes : new ≡ with_pipe k.spaces q (Some (filled (bytes_in k.spaces q) (read_at (held_at k.spaces i) (pending_arg w 1 + w.done) left)))) where
+    module _ (q : ℕ) (new : Spaces) (bytes : new ≡ with_pipe k.spaces q (Some (filled (bytes_in k.spaces q) (read_at (held_at k.spaces i) (pending_arg w 1 + w.done) most)))) where
       made-here : record k { spaces = new } ≡ sent k i q w
       made-here =
           ap (λ (s : Spaces). record k { spaces = s }) bytes
@@ -410,8 +502,8 @@ module _ (k now : Kernel) (i : ℕ) (w : Pending) (same : k ≡ now) (can : IsWr
           let there : has_pipe k.spaces q ≡ true = ap (λ (x : Kernel). has_pipe x.spaces q) same ∙ stands in
           rw made-here (piped-kernel k is q (bytes_in k.spaces q) (filled (bytes_in k.spaces q) (unsent k i w)) (some-pipe (slot k.spaces.pipes q) there))
 
-    pub send-count : (q n : ℕ) → n ≡ length (fitting (bytes_in k.spaces q) (read_at (held_at k.spaces i) (pending_arg w 1 + w.done) left)) → n ≡ sent_count now i q w
-    send-count q n count =
-        count
+    pub send-count : (q n : ℕ) → n ≡ length (fitting (bytes_in k.spaces q) (read_at (held_at k.spaces i) (pending_arg w 1 + w.done) most)) → n ≡ sent_count now i q w
+    send-count q n counted =
+        counted
         ∙ ap (λ (bs : List ℕ). length (fitting (bytes_in k.spaces q) bs)) read-rest
         ∙ ap (λ (x : Kernel). sent_count x i q w) same

@@ -1,5 +1,5 @@
 -- What a kernel shows of its processes, in the words of its state.
-use Rattle.std.proofs.Common.{◌≡◌, inl, inr, ℕ, zero, suc, ◌+◌, Bool, true, List, [], ◌∷◌, Option, Some, None, refl, ap, ◌∙◌}
+use Rattle.std.proofs.Common.{◌≡◌, inl, inr, ℕ, zero, suc, ◌+◌, Bool, true, List, [], ◌∷◌, Option, Some, None, refl, ap, sym, ◌∙◌}
 use Rattle.std.specs.Prelude.{IfSome, cond, is_some, not, option_and_then, option_map, position, slice_get, slice_set, unwrap_or}
 use Rattle.std.specs.List.{prefix_len}
 use Rattle.std.proofs.lemmas.List.{length-set}
@@ -64,6 +64,14 @@ bare-with m (Some p) = refl
 
 pub shown-loaded : (k : Kernel) (pid i : ℕ) → place_where k.table.places (has_pid pid) ≡ Some i → option_map bare (shown_process (state_of k) pid) ≡ slot (loaded k).places i
 shown-loaded k pid i found = ap (option_map bare) (shown-at k pid i found) ∙ bare-with (memory_in (slot k.spaces.places i)) (slot (loaded k).places i)
+
+-- over the fields: k is what they show, and now is the kernel's value; r is the place that was found
+pub whole-shown : (k now : Kernel) (pid i : ℕ) → k ≡ now → (r : Option ℕ) → r ≡ place_where k.table.places (has_pid pid) → r ≡ Some i → (o : Option Process) → o ≡ slot (loaded now).places i → o ≡ option_map bare (shown_process (state_of now) pid)
+whole-shown k now pid i same r told found o whole =
+    whole
+    ∙ ap (λ (x : Kernel). slot (loaded x).places i) (sym same)
+    ∙ sym (shown-loaded k pid i (sym told ∙ found))
+    ∙ ap (λ (x : Kernel). option_map bare (shown_process (state_of x) pid)) same
 
 -- ---- its memory
 

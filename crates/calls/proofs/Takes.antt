@@ -1,8 +1,6 @@
 -- A step: the running process does an instruction, or a turn where none runs.
-use Rattle.std.proofs.Common.{◌≡◌, ℕ, ◌%◌, Bool, true, false, List, [], Option, Some, None, Ok, Err, ℤ, negsuc, refl, ap, subst, sym, ◌∙◌}
-use Rattle.std.specs.Io.KnownBytes.{Appends}
+use Rattle.std.proofs.Common.{◌≡◌, ℕ, ◌%◌, Bool, true, false, List, Option, Some, None, Ok, Err, ℤ, negsuc, refl, ap, subst, sym, ◌∙◌}
 use Rattle.std.specs.Prelude.{if◌then◌else◌, slice_index}
-use Rattle.std.proofs.lemmas.List.{append-nil}
 use Rattle.calls.specs.declared.halt.Halt.{Halt}
 use Rattle.calls.specs.declared.halt.Halt.TheVariants.{Console, Device, Halted, InitEnded}
 use Rattle.calls.specs.Does.{Dispatches, Does, IsMade, halt_of}
@@ -11,6 +9,7 @@ use Rattle.calls.specs.Says.{called}
 use Rattle.calls.specs.Sound.{IsKernel, IsLive, IsMode}
 use Rattle.calls.specs.Told.{IsAlive, resumed, resumed_by, resumed_in, taken, taken_by}
 use Rattle.calls.proofs.Goes.{IsThere, process-idle, there-of}
+use Rattle.calls.proofs.Prints.{Appends-none}
 use Rattle.calls.proofs.Readies.{turn-alive}
 use Rattle.calls.proofs.Rows.{executes-call, executes-fault}
 use Rattle.calls.proofs.Runs.{run-of}
@@ -37,10 +36,6 @@ use Rattle.unixmodel.specs.Turn.{round_from}
 
 -- ---- what is told
 
-pub Appends-none : (a : Option (List ℕ)) → Appends a a []
-Appends-none None = tt
-Appends-none (Some xs) = sym (append-nil xs)
-
 -- nothing is printed
 pub made-quiet : (new : Kernel) (a : After) (at : Option (List ℕ)) → a ≡ quiet (state_of new) → IsMade new a at at
 made-quiet new a at made = rw made (record { state = refl; printed = Appends-none at })
@@ -63,11 +58,12 @@ does-err new a b before after rising e same made = subst (λ (x : After). Does n
 -- ---- the running process
 
 module _ (k : Kernel) (i : ℕ) (is : IsKernel k) (active : k.spaces.active ≡ Some i) where
-  pub step-computes : (d : Computed) → cycle k.spaces.registers k.spaces.pc (held_at k.spaces i).memory ≡ Ok d → execute_at (state_of k) i (process_at (state_of k) i) ≡ quiet (state_of (computed k i d))
-  step-computes d effect =
+  pub step-computes : (d : Computed) → cycle k.spaces.registers k.spaces.pc (held_at k.spaces i).memory ≡ Ok d → (new : Kernel) → new ≡ computed k i d → (bytes : Option (List ℕ)) → IsMade new (execute_at (state_of k) i (process_at (state_of k) i)) bytes bytes
+  step-computes d effect new made bytes =
       let run = run-of k i is active in
       let r = run.1.1 in
-      computed-state k i run.0 run.1.0 r is d (rw (held-run k i run.0 run.1.0 r is) at effect)
+      let e = computed-state k i run.0 run.1.0 r is d (rw (held-run k i run.0 run.1.0 r is) at effect) in
+      made-quiet new (execute_at (state_of k) i (process_at (state_of k) i)) bytes (e ∙ ap (λ (x : Kernel). quiet (state_of x)) (sym made))
 
   pub step-calls : slice_index k.spaces.registers 0 ≡ 0 → k.spaces.pc % 4 ≡ 0 → (t : Trap) → cycle k.spaces.registers k.spaces.pc (held_at k.spaces i).memory ≡ Err t → is_ecall t.cause ≡ true → execute_at (state_of k) i (process_at (state_of k) i) ≡ called (state_of k) i
   step-calls z a t effect ecall =
@@ -76,11 +72,13 @@ module _ (k : Kernel) (i : ℕ) (is : IsKernel k) (active : k.spaces.active ≡ 
       executes-call k i run.0 run.1.0 r is z a t (rw (held-run k i run.0 run.1.0 r is) at effect) ecall
 
   pub step-faults : slice_index k.spaces.registers 0 ≡ 0 → k.spaces.pc % 4 ≡ 0 → (t : Trap) → cycle k.spaces.registers k.spaces.pc (held_at k.spaces i).memory ≡ Err t → is_ecall t.cause ≡ false
-      → execute_at (state_of k) i (process_at (state_of k) i) ≡ quiet (state_of (ended k i (negsuc 0)))
-  step-faults z a t effect fault =
+      → (same new : Kernel) → same ≡ k → new ≡ ended same i (negsuc 0) → (bytes : Option (List ℕ)) → IsMade new (execute_at (state_of k) i (process_at (state_of k) i)) bytes bytes
+  step-faults z a t effect fault same new kept made bytes =
       let run = run-of k i is active in
       let r = run.1.1 in
-      executes-fault k i run.0 run.1.0 r is z a t (rw (held-run k i run.0 run.1.0 r is) at effect) fault
+      let e = executes-fault k i run.0 run.1.0 r is z a t (rw (held-run k i run.0 run.1.0 r is) at effect) fault in
+      let to : new ≡ ended k i (negsuc 0) = made ∙ ap (λ (x : Kernel). ended x i (negsuc 0)) kept in
+      made-quiet new (execute_at (state_of k) i (process_at (state_of k) i)) bytes (e ∙ ap (λ (x : Kernel). quiet (state_of x)) (sym to))
 
 -- ---- a picked process
 

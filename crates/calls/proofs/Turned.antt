@@ -1,9 +1,11 @@
 -- Who runs, and what an event begins with.
 use Rattle.std.proofs.Common.{◌≡◌, ℕ, ◌+◌, ◌<◌, ◌%◌, ◌^◌, true, false, nat_lt, List, length, Option, Some, None, refl, ap, ◌∙◌, arith}
 use Rattle.std.specs.Prelude.{slice_index}
+use Rattle.std.specs.Io.KnownBytes.{Appends}
 use Rattle.std.specs.List.{position_or_len}
 use Rattle.std.proofs.lemmas.Bool.{le-ltb, lt-ltb}
 use Rattle.std.proofs.lemmas.List.Sums.{position_or_len_is}
+use Rattle.calls.specs.Does.{IsMade}
 use Rattle.calls.specs.Kernel.{Kernel, base, loaded, memories, rest_of, state_of, stopped_at, ticked, typed}
 use Rattle.calls.specs.Sound.{IsKernel, is_at}
 use Rattle.calls.proofs.Changes.{length-active, other-at, running-active}
@@ -64,3 +66,6 @@ next-ticks k is z a =
 pub next-keys : (k : Kernel) (b : ℕ) → next.next (state_of k) (Key b) ≡ record { state = state_of (typed k (key k.console b).console); bytes = (key k.console b).echo }
 unfolding next.next
 next-keys k b = refl
+
+pub keys-made : (k new : Kernel) (b : ℕ) (before after : Option (List ℕ)) → new ≡ typed k (key k.console b).console → Appends before after (key k.console b).echo → IsMade new (next.next (state_of k) (Key b)) before after
+keys-made k new b before after made printed = rw (next-keys k b) (record { state = ap state_of made; printed = printed })

@@ -1,30 +1,28 @@
--- The row of write, and bytes in pieces.
-use Rattle.std.proofs.Common.{◌≡◌, ℕ, zero, suc, ◌<◌, ◌≤◌, ◌^◌, Bool, true, false, nat_le, List, [], ◌++◌, length, take, drop, Option, Some, None, Ok, Err, is_some, unwrap_or, ℤ, pos, negsuc, refl, ap, subst, sym, ◌∙◌, arith, append_assoc, append-nil}
-use Rattle.std.specs.Prelude.{if◌then◌else◌, option_and_then, slice_index}
+-- The row of write.
+use Rattle.std.proofs.Common.{◌≡◌, ◌≢◌, ℕ, zero, suc, ◌<◌, ◌≤◌, ◌^◌, Bool, true, false, nat_le, List, [], length, take, Option, Some, None, Ok, Err, is_some, unwrap_or, ℤ, pos, negsuc, refl, ap, sym, ◌∙◌, arith}
+use Rattle.std.specs.Prelude.{if◌then◌else◌, option_and_then}
 use Rattle.std.specs.Int.{cast_signed, cast_unsigned, w32}
-use Rattle.std.specs.Io.KnownBytes.{Appends}
 use Rattle.std.specs.Result.{result_ok}
 use Rattle.std.proofs.lemmas.Bool.{leb-true}
 use Rattle.std.proofs.lemmas.Int.{of_z-to_z}
-use Rattle.std.proofs.lemmas.List.{length-take-le, take-append-drop, take-take}
-use Rattle.console.specs.Output.{AppendsBeginning}
+use Rattle.std.proofs.lemmas.List.{length-take-le}
 use Rattle.calls.specs.Descriptors.{descriptors_in}
-use Rattle.calls.specs.Kernel.{Kernel, answered, argument, descriptors_at, entered, state_of}
-use Rattle.calls.specs.Says.{called, gone_on, pending_for}
+use Rattle.calls.specs.Kernel.{Kernel, answered, argument, descriptors_at, state_of}
+use Rattle.calls.specs.Says.{called, pending_for}
+use Rattle.calls.specs.Sends.{target_named}
 use Rattle.calls.specs.Sound.{IsKernel, IsOpenFile, IsOpenOn, console_file, file_named}
-use Rattle.calls.proofs.Goes.{gone-run}
-use Rattle.calls.proofs.Opens.{IsConsole, IsNamed}
-use Rattle.calls.proofs.Rows.{enters-kernel, enters-run, numbered, refuses}
+use Rattle.calls.proofs.Opens.{IsConsole, IsNamed, file-at}
+use Rattle.calls.proofs.Rows.{IsBegun, begun-done, begun-refused}
 use Rattle.calls.proofs.Runs.{IsRun, self}
-use Rattle.calls.proofs.Settles.{settle-limited}
 use Rattle.calls.proofs.Steps.{held-run}
 use Rattle.files.specs.declared.table.FileFault.{FileFault}
 use Rattle.files.specs.declared.table.FileFault.TheVariants.{NotWritable}
 use Rattle.files.specs.Places.{opens_of, writable_at}
 use Rattle.proc.specs.declared.process.Process.{Process}
 use Rattle.spaces.specs.Spaces.{Held, held_at}
-use Rattle.unixmodel.specs.Calls.{After, call_of, quiet, settle}
+use Rattle.unixmodel.specs.Calls.{quiet}
 use Rattle.unixmodel.specs.declared.call.Call.TheVariants.{Write}
+use Rattle.unixmodel.specs.declared.process.Pending.{Pending}
 use Rattle.unixmodel.specs.declared.trap.Access.TheVariants.{Load}
 use Rattle.unixmodel.specs.FileCalls.{is_usable, write_on, write_row}
 use Rattle.unixmodel.specs.Files.{free_slots, slot}
@@ -32,37 +30,12 @@ use Rattle.unixmodel.specs.Memory.{Memory, reach, read_bytes}
 use Rattle.unixmodel.specs.Numbers.{int_of, low, natural}
 use Rattle.unixmodel.specs.OpenFiles.{OpenFile, Target}
 use Rattle.unixmodel.specs.OpenFiles.Target.{OnNode, OnPipe}
-use Rattle.unixmodel.specs.Outcome.{Outcome, limited, minus_one, pending_of}
+use Rattle.unixmodel.specs.Outcome.{limited, minus_one, pending_arg, pending_of}
 use Rattle.unixmodel.specs.Outcome.Outcome.{Done, Refused}
 use Rattle.unixmodel.specs.Process as unix
 use Rattle.unixmodel.specs.Process.{arg}
 use Rattle.unixmodel.specs.Start.{flat_files}
 use Rattle.unixmodel.specs.State.{State}
-
--- ---- bytes in pieces
-
-pub front-rest : (xs : List ℕ) (a n : ℕ) → a ≤ n → take a xs ++ drop a (take n xs) ≡ take n xs
-front-rest xs a n less = ap (λ ys. ys ++ drop a (take n xs)) (sym (take-take a n xs less)) ∙ take-append-drop a (take n xs)
-
-pub Appends-none : (a : Option (List ℕ)) → Appends a a []
-Appends-none None = tt
-Appends-none (Some xs) = sym (append-nil xs)
-
--- a writer that took two parts took both
-pub Appends-trans : (a b c : Option (List ℕ)) (xs ys : List ℕ) → Appends a b xs → Appends b c ys → Appends a c (xs ++ ys)
-Appends-trans None b c xs ys h k = tt
-Appends-trans (Some x) None c xs ys h k = absurd h
-Appends-trans (Some x) (Some y) None xs ys h k = k
-Appends-trans (Some x) (Some y) (Some z) xs ys h k = rw (k, h) (append_assoc x xs ys)
-
--- a beginning of what comes after what was printed
-pub begins_more : (before mid after : Option (List ℕ)) (xs ys zs all : List ℕ) → Appends before mid xs → AppendsBeginning mid after ys → (xs ++ ys) ++ zs ≡ all → AppendsBeginning before after all
-begins_more before mid after xs ys zs all h k e = record {
-  front = xs ++ k.front;
-  rest = k.rest ++ zs;
-  parts = append_assoc xs k.front (k.rest ++ zs) ∙ ap (λ bs. xs ++ bs) (sym (append_assoc k.front k.rest zs)) ∙ ap (λ bs. xs ++ (bs ++ zs)) k.parts ∙ sym (append_assoc xs ys zs) ∙ e;
-  took = Appends-trans before mid after xs k.front h k.took;
-}
 
 -- ---- bytes that are read
 
@@ -154,15 +127,15 @@ module _ (s : State) (i : ℕ) (p : unix.Process) where
     begins-go (suc c) None count some read can = absurd cc
     begins-go (suc c) (Some bytes) count some read can = write-read c bytes count read
 
-  -- a write to the console puts out all of its bytes
-  module _ (files : s.files ≡ flat_files) (console : IsConsole s p (low (arg p 0))) where
-    write-bytes : (n : ℕ) (bytes : List ℕ) → low (arg p 2) ≡ n → read_bytes p.memory (arg p 1) n ≡ Some bytes → write_on s i p (pending_of Write s p) ≡ Done s (length bytes) bytes
+  -- a pending write to the console puts out all of its bytes
+  module _ (files : s.files ≡ flat_files) (w : Pending) (console : IsConsole s p (low (pending_arg w 0))) where
+    write-bytes : (bytes : List ℕ) → read_bytes p.memory (pending_arg w 1) (low (pending_arg w 2)) ≡ Some bytes → write_on s i p w ≡ Done s (length bytes) bytes
     unfolding write_on flat_files free_slots
-    write-bytes n bytes same read = rw (console.named, console.opened, files, same, read) refl
+    write-bytes bytes read = rw (console.named, console.opened, files, read) refl
 
-    print-go : (n : ℕ) (o : Option (List ℕ)) → low (arg p 2) ≡ n → read_bytes p.memory (arg p 1) n ≡ o → is_some o ≡ true → write_on s i p (pending_of Write s p) ≡ Done s n (unwrap_or o [])
-    print-go n None same read can = absurd cc
-    print-go n (Some bytes) same read can = write-bytes n bytes same read ∙ ap (λ (m : ℕ). Done s m bytes) (length-read p.memory (arg p 1) n bytes read)
+    pub print-go : (o : Option (List ℕ)) → read_bytes p.memory (pending_arg w 1) (low (pending_arg w 2)) ≡ o → is_some o ≡ true → write_on s i p w ≡ Done s (low (pending_arg w 2)) (unwrap_or o [])
+    print-go None read can = absurd cc
+    print-go (Some bytes) read can = write-bytes bytes read ∙ ap (λ (m : ℕ). Done s m bytes) (length-read p.memory (pending_arg w 1) (low (pending_arg w 2)) bytes read)
 
 -- ---- the call of the running process
 
@@ -182,6 +155,15 @@ usable-open f (OnPipe q end) on is = refl
 pub console-open : (f : OpenFile) (t : Target) (n offset : ℕ) → t ≡ OnNode n offset → IsOpenOn f t → f ≡ console_file
 console-open f (OnNode m at) n offset on is = is
 console-open f (OnPipe q end) n offset on is = absurd (cc)
+
+module _ (k : Kernel) (is : IsKernel k) (i d : ℕ) where
+  -- a descriptor of a node names the console
+  pub console-only : (n offset : ℕ) → target_named k i d ≡ Some (OnNode n offset) → (m : ℕ) → slot (descriptors_at k i) d ≡ Some m → slot (opens_of k.files) m ≡ Some console_file
+  console-only n offset at m named =
+      let file = file-at (opens_of k.files) (descriptors_at k i) d (OnNode n offset) at in
+      let both : Some file.number ≡ Some m = sym file.named ∙ named in
+      let same : file.number ≡ m = cc in
+      ap (slot (opens_of k.files)) (sym same) ∙ file.opened ∙ ap Some (console-open file.file file.file.target n offset file.on (is.opened.each file.number file.file file.opened))
 
 -- the open file of a write
 pub record Written (k : Kernel) (p : Process) (h : Held) (d : ℕ) (t : Target) : Type 0 where
@@ -210,64 +192,55 @@ module _ (k : Kernel) (i : ℕ) (p : Process) (h : Held) (r : IsRun k i p h) (is
   pub written-of : result_ok (writable_at (file_named (opens_of k.files) p.descriptors d)) ≡ Some t → Written k p h d t
   written-of good = written-named (slot p.descriptors d) refl good
 
--- what the kernel says of the open file of a write
-abbrev pub to_write : Kernel → ℕ → Option Target
-to_write k i = result_ok (writable_at (file_named (opens_of k.files) (descriptors_at k i) (low (argument k 0))))
+-- what the open file that a descriptor names is open on, where a write may be made to it
+abbrev pub writable_on : Kernel → ℕ → ℕ → Option Target
+writable_on k i d = result_ok (writable_at (file_named (opens_of k.files) (descriptors_at k i) d))
 
-module _ (k : Kernel) (i : ℕ) (p : Process) (h : Held) (r : IsRun k i p h) (is : IsKernel k) (number : call_of (low (slice_index k.spaces.registers 17)) ≡ Some Write) where
-  not-done : write_row (state_of (entered k)) i (self (entered k) p h) ≡ Refused → called (state_of k) i ≡ quiet (state_of (answered (entered k) minus_one))
-  not-done row = numbered k i p h r is (Some Write) number ∙ ap (λ o. settle (state_of (entered k)) i (limited o)) row ∙ refuses k i p h r is
+-- a write has begun in kernel e with pending call w, and d is its descriptor
+module _ (k e : Kernel) (i : ℕ) (x : IsBegun k e i Write) (w : Pending) (begins : w ≡ pending_for e Write) (d : ℕ) (place : d ≡ low (pending_arg w 0)) where
+  pub argument-is : (n : ℕ) → pending_arg w n ≡ pending_arg (pending_for e Write) n
+  argument-is n = ap (λ (v : Pending). pending_arg v n) begins
 
-  is-done : (value : ℕ) (bytes : List ℕ) → write_row (state_of (entered k)) i (self (entered k) p h) ≡ Done (state_of (entered k)) value bytes
-      → called (state_of k) i ≡ record { state = state_of (answered (entered k) value); bytes = bytes }
-  is-done value bytes row =
-      numbered k i p h r is (Some Write) number
-      ∙ ap (λ o. settle (state_of (entered k)) i (limited o)) row
-      ∙ settle-limited (entered k) i p h (enters-run k i p h r is) (enters-kernel k i p h r is) (state_of (entered k)) value bytes
+  pub at-run : (o : Option Target) → writable_on e i d ≡ o → result_ok (writable_at (file_named (opens_of e.files) x.process.descriptors (low (argument e 0)))) ≡ o
+  at-run o named =
+      ap (λ (y : Option Process). result_ok (writable_at (file_named (opens_of e.files) (descriptors_in y) (low (argument e 0))))) (sym x.run.process)
+      ∙ ap (λ (a : ℕ). writable_on e i (low a)) (sym (argument-is 0))
+      ∙ ap (writable_on e i) (sym place)
+      ∙ named
 
-  pub to-write-run : (o : Option Target) → to_write k i ≡ o → result_ok (writable_at (file_named (opens_of k.files) p.descriptors (low (argument k 0)))) ≡ o
-  to-write-run o named = ap (λ (x : Option Process). result_ok (writable_at (file_named (opens_of k.files) (descriptors_in x) (low (argument k 0))))) (sym r.process) ∙ named
+  refused : write_row (state_of e) i (self e x.process x.held) ≡ Refused → called (state_of k) i ≡ quiet (state_of (answered e minus_one))
+  refused row = begun-refused k e i Write x (ap limited row)
 
-  pub rows-write-unwritable : to_write k i ≡ None → called (state_of k) i ≡ quiet (state_of (answered (entered k) minus_one))
-  rows-write-unwritable bad = not-done (write-unwritable (state_of (entered k)) i (self (entered k) p h) (to-write-run None bad))
+  pub writes-unnamed : writable_on e i d ≡ None → called (state_of k) i ≡ quiet (state_of (answered e minus_one))
+  writes-unnamed none = refused (write-unwritable (state_of e) i (self e x.process x.held) (at-run None none))
 
-  module _ (t : Target) (named : to_write k i ≡ Some t) where
-    abbrev pub begun : Written (entered k) p h (low (argument k 0)) t
-    begun = written-of (entered k) i p h (enters-run k i p h r is) (enters-kernel k i p h r is) (low (argument k 0)) t (to-write-run (Some t) named)
+  module _ (t : Target) (named : writable_on e i d ≡ Some t) where
+    abbrev pub to : Written e x.process x.held (low (argument e 0)) t
+    to = written-of e i x.process x.held x.run x.sound (low (argument e 0)) t (at-run (Some t) named)
 
-    pub rows-write-below : natural (int_of (argument k 2)) ≡ None → called (state_of k) i ≡ quiet (state_of (answered (entered k) minus_one))
-    rows-write-below below = not-done (write-below (state_of (entered k)) i (self (entered k) p h) begun.file begun.written below)
+    pub third-is : (o : Option ℕ) → natural (int_of (pending_arg w 2)) ≡ o → natural (int_of (argument e 2)) ≡ o
+    third-is o count = ap (λ (a : ℕ). natural (int_of a)) (sym (argument-is 2)) ∙ count
 
-    pub rows-write-nothing : natural (int_of (argument k 2)) ≡ Some 0 → called (state_of k) i ≡ quiet (state_of (answered (entered k) 0))
-    rows-write-nothing none = is-done 0 [] (write-nothing (state_of (entered k)) i (self (entered k) p h) begun.file begun.written none)
+    pub writes-below : natural (int_of (pending_arg w 2)) ≡ None → called (state_of k) i ≡ quiet (state_of (answered e minus_one))
+    writes-below below = refused (write-below (state_of e) i (self e x.process x.held) to.file to.written (third-is None below))
 
-    pub rows-write-unreadable : (n : ℕ) → natural (int_of (argument k 2)) ≡ Some n → 0 < n → is_some (read_bytes (held_at k.spaces i).memory (argument k 1) n) ≡ false
-        → called (state_of k) i ≡ quiet (state_of (answered (entered k) minus_one))
-    rows-write-unreadable n count some cannot =
-        let memory = ap (λ (y : Held). is_some (read_bytes y.memory (argument k 1) n)) (held-run k i p h r is) in
-        not-done (unreadable-go (state_of (entered k)) i (self (entered k) p h) begun.file begun.written n (read_bytes h.memory (argument k 1) n) count some refl (sym memory ∙ cannot))
+    module _ (n : ℕ) (count : natural (int_of (pending_arg w 2)) ≡ Some n) where
+      pub writes-nothing : n ≡ 0 → called (state_of k) i ≡ quiet (state_of (answered e 0))
+      writes-nothing none = begun-done k e i Write x 0 (ap limited (write-nothing (state_of e) i (self e x.process x.held) to.file to.written (third-is (Some 0) (count ∙ ap Some none))))
 
-    module _ (n : ℕ) (count : natural (int_of (argument k 2)) ≡ Some n) (some : 0 < n) (can : is_some (read_bytes (held_at k.spaces i).memory (argument k 1) n) ≡ true) where
-      pub can-run : is_some (read_bytes h.memory (argument k 1) n) ≡ true
-      can-run = sym (ap (λ (y : Held). is_some (read_bytes y.memory (argument k 1) n)) (held-run k i p h r is)) ∙ can
+      module _ (some : n ≢ 0) (m : ℕ) (same : m ≡ n) where
+        abbrev bytes : ℕ → Option (List ℕ)
+        bytes a = read_bytes x.held.memory a n
 
-      begins : write_row (state_of (entered k)) i (self (entered k) p h) ≡ write_on (state_of (entered k)) i (self (entered k) p h) (pending_for (entered k) Write)
-      begins = begins-go (state_of (entered k)) i (self (entered k) p h) begun.file begun.written n (read_bytes h.memory (argument k 1) n) count some refl can-run
+        pub bytes-are : (b : Bool) → is_some (read_bytes (held_at e.spaces i).memory (pending_arg w 1) m) ≡ b → is_some (bytes (argument e 1)) ≡ b
+        bytes-are b can =
+            ap (λ (a : ℕ). is_some (bytes a)) (sym (argument-is 1))
+            ∙ ap (λ (y : Held). is_some (read_bytes y.memory (pending_arg w 1) n)) (sym (held-run e i x.process x.held x.run x.sound))
+            ∙ ap (λ (l : ℕ). is_some (read_bytes (held_at e.spaces i).memory (pending_arg w 1) l)) (sym same)
+            ∙ can
 
-      pub rows-write-print : (m offset : ℕ) → t ≡ OnNode m offset → called (state_of k) i ≡ record { state = state_of (answered (entered k) n); bytes = unwrap_or (read_bytes (held_at k.spaces i).memory (argument k 1) n) [] }
-      rows-write-print m offset node =
-          let bytes = ap (λ (y : Held). unwrap_or (read_bytes y.memory (argument k 1) n) []) (held-run k i p h r is) in
-          let same : begun.file ≡ console_file = console-open begun.file begun.file.target m offset (begun.on ∙ node) begun.open_file in
-          let console : IsConsole (state_of (entered k)) (self (entered k) p h) (low (argument k 0)) = subst (IsNamed (state_of (entered k)) (self (entered k) p h) (low (argument k 0))) same begun.written.file in
-          is-done n (unwrap_or (read_bytes h.memory (argument k 1) n) [])
-          (begins ∙ print-go (state_of (entered k)) i (self (entered k) p h) refl console n (read_bytes h.memory (argument k 1) n) (int-low (argument k 2) n count) refl can-run)
-          ∙ ap (λ (bs : List ℕ). let a : After = record { state = state_of (answered (entered k) n); bytes = bs } in a) (sym bytes)
+        pub writes-unreadable : is_some (read_bytes (held_at e.spaces i).memory (pending_arg w 1) m) ≡ false → called (state_of k) i ≡ quiet (state_of (answered e minus_one))
+        writes-unreadable cannot = refused (unreadable-go (state_of e) i (self e x.process x.held) to.file to.written n (bytes (argument e 1)) (third-is (Some n) count) (omega arith) refl (bytes-are false cannot))
 
-      -- a write that keeps the limits goes on as it would later
-      pub rows-write-begins : limited (write_on (state_of (entered k)) i (self (entered k) p h) (pending_for (entered k) Write)) ≡ write_on (state_of (entered k)) i (self (entered k) p h) (pending_for (entered k) Write)
-          → called (state_of k) i ≡ gone_on (state_of (entered k)) i (pending_for (entered k) Write)
-      rows-write-begins within =
-          numbered k i p h r is (Some Write) number
-          ∙ ap (λ (o : Outcome). settle (state_of (entered k)) i (limited o)) begins
-          ∙ ap (settle (state_of (entered k)) i) within
-          ∙ sym (gone-run (entered k) i p h (enters-run k i p h r is) (pending_for (entered k) Write))
+        pub writes-begin : is_some (read_bytes (held_at e.spaces i).memory (pending_arg w 1) m) ≡ true → write_row (state_of e) i (self e x.process x.held) ≡ write_on (state_of e) i (self e x.process x.held) (pending_for e Write)
+        writes-begin can = begins-go (state_of e) i (self e x.process x.held) to.file to.written n (bytes (argument e 1)) (third-is (Some n) count) (omega arith) refl (bytes-are true can)

@@ -6,5 +6,6 @@ pub mod Says
 pub mod Does
 pub mod Shows
 pub mod Told
+pub mod Transfers
 pub mod Renamed
 pub mod Sends

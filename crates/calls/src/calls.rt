@@ -10,7 +10,7 @@ ghost use Rattle.unixmodel.specs.Numbers.{low};
 
 use crate::halt::Halt;
 use crate::kernel::Kernel;
-use crate::numbers::int;
+use crate::numbers::{int, low};
 use crate::ready::has_slept;
 use crate::{family, memory, open, read, write};
 use console::{Out, OutFault};
@@ -170,7 +170,7 @@ pub fn call<T: Translate + Drop, W: Out>(
     ensures gives { Dispatches kernel.new (called (state_of kernel.old) at) (W.contents console.old) (W.contents console.new) (Rises (W.failures console.old) (W.failures console.new)) result }
     ensures later { W.failures console.old ≤ W.failures console.new }
 {
-    match call_of(kernel.number()) {
+    match call_of(low(kernel.argument(7))) {
         Some(Call::Write) => match write::write(kernel, at, console) {
             Ok(()) => Ok(()),
             Err(OutFault::Writer) => Err(Halt::Console),

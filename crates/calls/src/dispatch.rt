@@ -115,15 +115,10 @@ impl<T: Translate + Drop> Kernel<T> {
         ensures later { W.failures console.old ≤ W.failures console.new }
     {
         match self.active() {
-            Some(at) => {
-                self.instruct(at, console)?;
-                self.goes()
-            }
-            None => {
-                self.take_turn();
-                self.goes()
-            }
+            Some(at) => self.instruct(at, console)?,
+            None => self.take_turn(),
         }
+        self.goes()
     }
 
     // Whether the machine goes on.

@@ -10,8 +10,8 @@ ghost use Rattle.calls.specs.Sends.{target_named};
 ghost use Rattle.calls.specs.Sound.{CanRun, IsAwaiting, IsKernel, IsPending, can_answer};
 ghost use Rattle.calls.specs.Told.{CanEnd};
 ghost use Rattle.console.specs.Output.{AppendsBeginning};
-ghost use Rattle.files.specs.Meant.{target_of};
-ghost use Rattle.files.specs.Places.{opens_of};
+ghost use Rattle.files.specs.Meant.{end_of, target_of};
+ghost use Rattle.files.specs.Places.{has_end, opens_of};
 ghost use Rattle.proc.specs.Places.{has_pid, is_child_of, place_where};
 ghost use Rattle.spaces.specs.Spaces.{has_space, held_at, taken_frames, with_held};
 ghost use Rattle.unixmodel.specs.Console.{key};
@@ -30,11 +30,12 @@ mod open;
 mod receive;
 mod send;
 mod show;
+mod transfer;
 
 use crate::descriptors::{close_all, named, share_all};
 use crate::ready::Awaited;
 use console::{Console, Out, OutFault};
-use files::{Files, Target};
+use files::{End, Files, Target};
 use proc::{Process, Table};
 use spaces::Spaces;
 use std::marker::Model;
@@ -142,9 +143,9 @@ impl<T: Translate + Drop> Kernel<T> {
         self.table.process(at)
     }
 
-    /// Argument `n` of a call: the registers a0 to a5.
+    /// The registers a0 to a7: the arguments of a call, and its number.
     pub(crate) fn argument(&self, n: usize) -> u64
-        requires { n < 6 }
+        requires { n < 8 }
         ensures { result ≡ argument self.now n }
     {
         self.spaces.registers()[10 + n]
@@ -184,11 +185,11 @@ impl<T: Translate + Drop> Kernel<T> {
         }
     }
 
-    /// The number of the call that the process makes: the low 32 bits of a7.
-    pub(crate) fn number(&self) -> u32
-        ensures { result ≡ low (slice_index self.now.spaces.registers 17) }
+    /// Whether an end of a pipe is open.
+    pub(crate) fn has_end(&self, pipe: usize, end: End) -> bool
+        ensures { result ≡ has_end (opens_of self.now.files) pipe (end_of end) }
     {
-        (self.spaces.registers()[17] % 0x1_0000_0000) as u32
+        self.files.has_end(pipe, end)
     }
 
     /// Begins a call: the pc goes on by 4.
@@ -397,16 +398,7 @@ impl<T: Translate + Drop> Kernel<T> {
         requires { self.now.spaces.active ≡ Some at }
         ensures { result ≡ can_answer (held_at self.now.spaces at).memory address }
     {
-        let _sound = self.active();
-        address == 0 || self.spaces.can_write(at, address, 4)
-    }
-
-    /// Whether the running process may read so many bytes.
-    pub(crate) fn can_read(&self, at: usize, address: u64, count: u64) -> bool
-        requires { self.now.spaces.active ≡ Some at }
-        ensures { result ≡ is_some (read_bytes (held_at self.now.spaces at).memory address count) }
-    {
-        self.spaces.can_read(at, address, count)
+        address == 0 || self.can_write(at, address, 4)
     }
 
     /// Whether the running process may write so many bytes.

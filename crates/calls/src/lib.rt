@@ -13,6 +13,7 @@ mod open;
 mod outcome;
 mod read;
 mod ready;
+mod transfer;
 mod write;
 
 pub use halt::Halt;

@@ -3,7 +3,7 @@
 use unixmodel::process::Pending;
 
 /// What a call of a process came to.
-#[derive(Clone, Copy, PartialEq, Eq, Debug)]
+#[derive(Clone, Copy, Debug, PartialEq, Eq)]
 pub enum Outcome {
     /// It is done and answers this in a0, here as a signed number.
     Done(i64),

@@ -1,6 +1,6 @@
 //! The call read.
-ghost use Rattle.std.specs.Prelude.{◌≡◌, ℕ, Some, option_map, slice_index, ◌+◌, ◌<◌, ◌%◌, ◌^◌};
-ghost use Rattle.calls.specs.Kernel.{argument, descriptors_at, state_of};
+ghost use Rattle.std.specs.Prelude.{◌≡◌, ℕ, Some, slice_index};
+ghost use Rattle.calls.specs.Kernel.{descriptors_at, state_of};
 ghost use Rattle.calls.specs.Says.{IsOnPipe, called, gone_on};
 ghost use Rattle.calls.specs.Sends.{target_named};
 ghost use Rattle.calls.specs.Sound.{IsFresh, IsReading, console_file};
@@ -13,10 +13,10 @@ ghost use Rattle.unixmodel.specs.Files.{slot};
 ghost use Rattle.unixmodel.specs.Numbers.{low};
 ghost use Rattle.unixmodel.specs.Outcome.{pending_arg};
 
-use crate::calls::REFUSED;
 use crate::kernel::Kernel;
-use crate::numbers::{low, natural};
-use files::Target;
+use crate::numbers::low;
+use crate::transfer::begin;
+use files::{End, Target};
 use sv39::Translate;
 use unixmodel::call::Call;
 use unixmodel::process::Pending;
@@ -28,26 +28,9 @@ pub fn read<T: Translate + Drop>(kernel: &mut Kernel<T>, at: usize)
     requires number { call_of (low (slice_index kernel.old.spaces.registers 17)) ≡ Some Call.Read }
     ensures gives { called (state_of kernel.old) at ≡ quiet (state_of kernel.new) }
 {
-    kernel.enter();
-    let Some(target) = kernel.target_for_reading(at, low(kernel.argument(0))) else {
-        kernel.answer(REFUSED);
-        return;
-    };
-    let Some(count) = natural(kernel.argument(2)) else {
-        kernel.answer(REFUSED);
-        return;
-    };
-    if count == 0 {
-        kernel.answer(0);
-        return;
+    if let Some((target, pending)) = begin(kernel, at, End::Read) {
+        read_from(kernel, at, target, pending);
     }
-    let address = kernel.argument(1);
-    if !kernel.can_write(at, address, u64::from(count)) {
-        kernel.answer(REFUSED);
-        return;
-    }
-    let pending = kernel.pending(Call::Read);
-    read_from(kernel, at, target, pending);
 }
 
 /// The process goes on with its pending read.
@@ -117,7 +100,7 @@ fn read_pipe<T: Translate + Drop>(kernel: &mut Kernel<T>, at: usize, pipe: usize
     if kernel.has_bytes(pipe) {
         let count = kernel.draw(at, pipe, &pending);
         kernel.answer(count);
-    } else if kernel.has_writer(pipe) {
+    } else if kernel.has_end(pipe, End::Write) {
         kernel.block(at, pending);
     } else {
         kernel.answer(0);

@@ -1,47 +1,27 @@
 //! The call write.
-ghost use Rattle.std.specs.Prelude.{◌≡◌, ◌≤◌, [], List, OnErr, OnOk, Some, is_some, slice_index, true, unwrap_or, ℕ};
+ghost use Rattle.std.specs.Prelude.{◌≡◌, ◌≤◌, List, OnErr, OnOk, Some, slice_index, ℕ};
 ghost use Rattle.std.specs.Io.KnownBytes.{Appends};
-ghost use Rattle.calls.specs.Kernel.{answered, descriptors_at, state_of};
+ghost use Rattle.calls.specs.Kernel.{descriptors_at, state_of};
 ghost use Rattle.calls.specs.Says.{IsOnPipe, called, gone_on};
 ghost use Rattle.calls.specs.Sound.{IsForPipe, IsWriting};
 ghost use Rattle.console.specs.Output.{AppendsBeginning};
+ghost use Rattle.files.specs.Meant.{target_of};
 ghost use Rattle.files.specs.Places.{opens_of};
 ghost use Rattle.spaces.specs.Spaces.{held_at};
 ghost use Rattle.unixmodel.specs.Calls.{call_of, quiet};
 ghost use Rattle.unixmodel.specs.declared.call.Call.TheVariants as Call;
 ghost use Rattle.unixmodel.specs.Failures.{Rises};
-ghost use Rattle.unixmodel.specs.Memory.{read_bytes};
 ghost use Rattle.unixmodel.specs.Numbers.{low};
 
 use crate::calls::REFUSED;
 use crate::kernel::Kernel;
-use crate::numbers::{low, natural};
+use crate::numbers::low;
+use crate::transfer::begin;
 use console::{Out, OutFault};
-use files::Target;
+use files::{End, Target};
 use sv39::Translate;
 use unixmodel::call::Call;
 use unixmodel::process::Pending;
-
-// Puts out the bytes of a write to the console, and answers their count.
-fn print<T: Translate + Drop, W: Out>(
-    kernel: &mut Kernel<T>,
-    at: usize,
-    address: u64,
-    count: u64,
-    console: &mut W,
-) -> Result<(), OutFault>
-    requires running { kernel.old.spaces.active ≡ Some at }
-    requires readable { is_some (read_bytes (held_at kernel.old.spaces at).memory address count) ≡ true }
-    ensures answer { OnOk result (kernel.new ≡ answered kernel.old count) }
-    ensures ok { OnOk result (Appends (W.contents console.old) (W.contents console.new) (unwrap_or (read_bytes (held_at kernel.old.spaces at).memory address count) [])) }
-    ensures err { OnErr result (AppendsBeginning (W.contents console.old) (W.contents console.new) (unwrap_or (read_bytes (held_at kernel.old.spaces at).memory address count) [])) }
-    ensures later { W.failures console.old ≤ W.failures console.new }
-    ensures cause { OnErr result (Rises (W.failures console.old) (W.failures console.new)) }
-{
-    kernel.print(at, address, count, console)?;
-    kernel.answer(count);
-    Ok(())
-}
 
 // A write to a pipe goes on: what fits of its bytes is put in, and it waits while some are left. Without a read end it
 // answers -1.
@@ -53,7 +33,7 @@ fn send<T: Translate + Drop>(kernel: &mut Kernel<T>, at: usize, pipe: usize, pen
     ensures gives { gone_on (state_of kernel.old) at pending ≡ quiet (state_of kernel.new) }
 {
     let _sound = kernel.active();
-    if !kernel.has_reader(pipe) {
+    if !kernel.has_end(pipe, End::Read) {
         kernel.answer(REFUSED);
         return;
     }
@@ -78,33 +58,18 @@ pub fn write<T: Translate + Drop, W: Out>(
     ensures later { W.failures console.old ≤ W.failures console.new }
     ensures cause { OnErr result (Rises (W.failures console.old) (W.failures console.new)) }
 {
-    kernel.enter();
-    let Some(target) = kernel.target_for_writing(at, low(kernel.argument(0))) else {
-        kernel.answer(REFUSED);
+    let Some((target, pending)) = begin(kernel, at, End::Write) else {
         return Ok(());
     };
-    let Some(count) = natural(kernel.argument(2)) else {
-        kernel.answer(REFUSED);
-        return Ok(());
-    };
-    if count == 0 {
-        kernel.answer(0);
-        return Ok(());
-    }
-    let address = kernel.argument(1);
-    let count = u64::from(count);
-    if !kernel.can_read(at, address, count) {
-        kernel.answer(REFUSED);
-        return Ok(());
-    }
     match target {
-        Target::Node { .. } => print(kernel, at, address, count, console),
-        Target::Pipe { pipe, .. } => {
-            let pending = kernel.pending(Call::Write);
-            send(kernel, at, pipe, pending);
-            Ok(())
+        Target::Node { .. } => {
+            let count = u64::from(low(pending.args[2]));
+            kernel.print(at, pending.args[1], count, console)?;
+            kernel.answer(count);
         }
+        Target::Pipe { pipe, .. } => send(kernel, at, pipe, pending),
     }
+    Ok(())
 }
 
 /// The process goes on with its pending write, which is one to a pipe.

@@ -1,49 +1,27 @@
 //! What a read takes of the console or of a pipe.
-ghost use Rattle.std.specs.Prelude.{◌≡◌, ◌+◌, ◌-◌, ◌<◌, ◌≤◌, ◌%◌, ◌^◌, Some, length, min, not, option_map, true};
+ghost use Rattle.std.specs.Prelude.{◌≡◌, ◌+◌, ◌-◌, ◌<◌, ◌≤◌, ◌%◌, ◌^◌, Some, length, min, not, true};
 ghost use Rattle.std.specs.Bool.{OnFalse};
-ghost use Rattle.std.specs.Result.{result_ok};
 ghost use Rattle.calls.specs.Kernel.{descriptors_at, drawn, received};
 ghost use Rattle.calls.specs.Says.{further, line_for, next_place};
-ghost use Rattle.calls.specs.Sound.{IsReading, file_named};
-ghost use Rattle.files.specs.Meant.{target_of};
-ghost use Rattle.files.specs.Places.{has_end, opens_of, readable_at};
+ghost use Rattle.calls.specs.Sound.{IsReading};
 ghost use Rattle.spaces.specs.Spaces.{bytes_in, has_pipe, held_at};
 ghost use Rattle.unixmodel.specs.Numbers.{low};
-ghost use Rattle.unixmodel.specs.OpenFiles.End.{WriteEnd};
 ghost use Rattle.unixmodel.specs.Outcome.{pending_arg};
 ghost use Rattle.unixmodel.specs.Turn.{is_empty};
 
 use crate::kernel::Kernel;
 use crate::numbers::low;
 use console::{ROOM, Taken};
-use files::{End, Target};
 use sv39::Translate;
 use unixmodel::process::Pending;
 
 impl<T: Translate + Drop> Kernel<T> {
-    /// What the open file that a descriptor names is open on, where it is open for reading.
-    pub(crate) fn target_for_reading(&self, at: usize, descriptor: u32) -> Option<Target>
-        ensures { option_map target_of result ≡ result_ok (readable_at (file_named (opens_of self.now.files) (descriptors_at self.now at) descriptor)) }
-    {
-        match self.open_id(at, descriptor) {
-            Some(id) => self.files.read(usize::from(id)).ok(),
-            None => None,
-        }
-    }
-
     /// Whether a pipe holds a byte.
     pub(crate) fn has_bytes(&self, pipe: usize) -> bool
         requires { has_pipe self.now.spaces pipe ≡ true }
         ensures { result ≡ not (is_empty (bytes_in self.now.spaces pipe)) }
     {
         self.spaces.has_bytes(pipe)
-    }
-
-    /// Whether a pipe has a write end.
-    pub(crate) fn has_writer(&self, pipe: usize) -> bool
-        ensures { result ≡ has_end (opens_of self.now.files) pipe WriteEnd }
-    {
-        self.files.has_end(pipe, End::Write)
     }
 
     /// A read takes what it can of what was typed, into its buffer behind what it took before.

@@ -1,4 +1,4 @@
-use Rattle.calls.proofs.ReadRows.{console-only}
+use Rattle.calls.proofs.Writes.{console-only}
 use Rattle.files.specs.Meant.{target_of}
 use Rattle.std.proofs.Common.{Some, ap, ◌∙◌}
 use Rattle.unixmodel.specs.Numbers.{low}

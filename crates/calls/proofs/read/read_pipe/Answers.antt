@@ -1,6 +1,5 @@
 use Rattle.calls.proofs.Draws.{reads-ended, reads-stands, reads-taken, reads-waiting, start-fresh}
 use Rattle.calls.proofs.Opens.{waits-reading}
-use Rattle.std.proofs.Common.{sym, ◌∙◌}
 use Rattle.calls.proofs.read.read_pipe.Goals as goal
 
 pub has_bytes-requires : goal.has_bytes-requires
@@ -16,16 +15,16 @@ pub returns-then-has_bytes : goal.returns-then-has_bytes
 returns-then-has_bytes g c =
     let k = c.args.kernel.now in
     let e = c.draw-count.ensures in
-    record { gives = rw c.answer.ensures (reads-taken k c.args.at c.args.pending c.args.pipe c.active-sound.ensures.sound c.requires.pipe c.requires.running c.requires.number (sym c.has_bytes.ensures ∙ c.if-has_bytes.true) c.requires.fresh c.draw-count.new.self c.draw-count.result e.drawn e.count) }
+    record { gives = rw c.answer.ensures (reads-taken k c.args.at c.args.pending c.args.pipe c.active-sound.ensures.sound c.requires.pipe c.requires.running c.requires.number c.has_bytes.result c.has_bytes.ensures c.if-has_bytes.true c.requires.fresh c.draw-count.new.self c.draw-count.result e.drawn e.count) }
 
-pub returns-then-has_writer : goal.returns-then-has_writer
-returns-then-has_writer g c =
+pub returns-then-has_end : goal.returns-then-has_end
+returns-then-has_end g c =
     let k = c.args.kernel.now in
     let s = c.active-sound.ensures in
-    record { gives = rw c.block.ensures (reads-waiting k c.args.at c.args.pending c.args.pipe s.sound c.requires.pipe c.requires.running c.requires.number s.zero s.aligned (sym c.has_bytes.ensures ∙ c.if-has_bytes.false) (sym c.has_writer.ensures ∙ c.if-has_writer.true) c.requires.can c.requires.fresh) }
+    record { gives = rw c.block.ensures (reads-waiting k c.args.at c.args.pending c.args.pipe s.sound c.requires.pipe c.requires.running c.requires.number s.zero s.aligned c.has_bytes.result c.has_bytes.ensures c.if-has_bytes.false c.has_end.result c.has_end.ensures c.if-has_end.true c.requires.can c.requires.fresh) }
 
-pub returns-else-has_writer : goal.returns-else-has_writer
-returns-else-has_writer g c =
+pub returns-else-has_end : goal.returns-else-has_end
+returns-else-has_end g c =
     let k = c.args.kernel.now in
     let s = c.active-sound.ensures in
-    record { gives = rw c.answer-else-has_writer.ensures (reads-ended k c.args.at c.args.pending c.args.pipe s.sound c.requires.pipe c.requires.running c.requires.number (sym c.has_bytes.ensures ∙ c.if-has_bytes.false) (sym c.has_writer.ensures ∙ c.if-has_writer.false)) }
+    record { gives = rw c.answer-else-has_end.ensures (reads-ended k c.args.at c.args.pending c.args.pipe s.sound c.requires.pipe c.requires.running c.requires.number c.has_bytes.result c.has_bytes.ensures c.if-has_bytes.false c.has_end.result c.has_end.ensures c.if-has_end.false) }

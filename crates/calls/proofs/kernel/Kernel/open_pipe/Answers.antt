@@ -48,33 +48,18 @@ invariant_of-self g c = rw c.if-not-create_pipe.ensures.refused.1 c.self.invaria
 
 pub invariant_of-self-2 : goal.invariant_of-self-2
 invariant_of-self-2 g c =
-    let there = sym c.process.ensures.process ∙ ap option_copied c.in-Some.is in
-    let place = sym c.free_pipe.ensures.place ∙ c.in-Some-free_pipe.is in
     let d = c.if-not-create_pipe.ensures.done in
     let w = c.write-written.ensures in
-    (opened-both (kernel_of c.self.inside) c.args.self.now c.args.at c.args.address c.in-Some-free_pipe.pipe c.open_end-reader.result c.open_end-writer.result c.in-Some.process.now c.self.view_is c.self.invariant c.requires.running c.requires.can there place
-    c.open_end-reader.new.table c.open_end-writer.new.table c.open_end-reader.new.files c.open_end-writer.new.files c.open_end-reader.ensures.opens c.open_end-writer.ensures.opens
-    c.create_pipe.new.self c.write-written.new.self c.ints.result c.write-written.result d.1 c.ints.ensures w.can w.done d.0).keeps
+    (opened-both _ _ c.args.at c.args.address _ _ _ _ c.self.view_is c.self.invariant c.requires.running c.requires.can (sym c.process.ensures.process ∙ ap option_copied c.in-Some.is) (sym c.free_pipe.ensures.place ∙ c.in-Some-free_pipe.is)
+    _ _ _ _ c.open_end-reader.ensures.opens c.open_end-writer.ensures.opens _ _ _ _ d.1 c.ints.ensures w.can w.done d.0).keeps
 
-pub returns-clause-done : goal.returns-clause-done
-returns-clause-done g c =
-    let there = sym c.process.ensures.process ∙ ap option_copied c.in-Some.is in
-    let place = sym c.free_pipe.ensures.place ∙ c.in-Some-free_pipe.is in
+pub returns : goal.returns
+returns g c =
     let d = c.if-not-create_pipe.ensures.done in
     let w = c.write-written.ensures in
-    (opened-both (kernel_of c.self.inside) c.args.self.now c.args.at c.args.address c.in-Some-free_pipe.pipe c.open_end-reader.result c.open_end-writer.result c.in-Some.process.now c.self.view_is c.self.invariant c.requires.running c.requires.can there place
-    c.open_end-reader.new.table c.open_end-writer.new.table c.open_end-reader.new.files c.open_end-writer.new.files c.open_end-reader.ensures.opens c.open_end-writer.ensures.opens
-    c.create_pipe.new.self c.write-written.new.self c.ints.result c.write-written.result d.1 c.ints.ensures w.can w.done d.0).made
-
-pub returns-clause-kept : goal.returns-clause-kept
-returns-clause-kept g c =
-    let there = sym c.process.ensures.process ∙ ap option_copied c.in-Some.is in
-    let place = sym c.free_pipe.ensures.place ∙ c.in-Some-free_pipe.is in
-    let d = c.if-not-create_pipe.ensures.done in
-    let w = c.write-written.ensures in
-    (opened-both (kernel_of c.self.inside) c.args.self.now c.args.at c.args.address c.in-Some-free_pipe.pipe c.open_end-reader.result c.open_end-writer.result c.in-Some.process.now c.self.view_is c.self.invariant c.requires.running c.requires.can there place
-    c.open_end-reader.new.table c.open_end-writer.new.table c.open_end-reader.new.files c.open_end-writer.new.files c.open_end-reader.ensures.opens c.open_end-writer.ensures.opens
-    c.create_pipe.new.self c.write-written.new.self c.ints.result c.write-written.result d.1 c.ints.ensures w.can w.done d.0).keeps
+    let opened = opened-both _ _ c.args.at c.args.address _ _ _ _ c.self.view_is c.self.invariant c.requires.running c.requires.can (sym c.process.ensures.process ∙ ap option_copied c.in-Some.is) (sym c.free_pipe.ensures.place ∙ c.in-Some-free_pipe.is)
+    _ _ _ _ c.open_end-reader.ensures.opens c.open_end-writer.ensures.opens _ _ _ _ d.1 c.ints.ensures w.can w.done d.0 in
+    record { done = opened.made; refused = tt; kept = opened.keeps }
 
 pub returns-in_default-clause-refused : goal.returns-in_default-clause-refused
 returns-in_default-clause-refused g c =

@@ -1,70 +1,33 @@
-use Rattle.calls.proofs.kernel.Kernel.print.Goals as goal
-use Rattle.calls.proofs.Writes.{Appends-none, Appends-trans, begins_more, front-rest, readable-count}
-use Rattle.calls.specs.Kernel.{Kernel}
-use Rattle.spaces.specs.Spaces.{held_at}
-use Rattle.vm.specs.Reach.{IsSized}
-use Rattle.std.proofs.Common.{◌≡◌, ◌+◌, ◌<◌, ◌≤◌, ap, arith, drop, length, subst, take, ◌++◌, ◌∙◌}
-use Rattle.std.proofs.lemmas.List.{length-drop}
+use Rattle.calls.proofs.Prints.{Appends-none, next-fits, next-readable, prints-all, prints-front, prints-more, prints-within}
+use Rattle.std.proofs.Common.{arith}
 use Rattle.std.proofs.lemmas.Result.{err_from_is_err_and}
-use Rattle.unixmodel.specs.declared.trap.Access.TheVariants.{Load}
-use Rattle.unixmodel.specs.Memory.{reach}
-use Rattle.vm.specs.ReachLemmas.{reach-drop, reach-next, reach-page}
+use Rattle.calls.proofs.kernel.Kernel.print.Goals as goal
 
 pub loop-done-init : goal.loop-done-init
 loop-done-init g c = record { within = omega arith; printed = Appends-none _; later = omega arith }
 
 pub overflow_add-address : goal.overflow_add-address
 overflow_add-address g c =
-    let mem = (held_at c.args.self.now.spaces c.args.at).memory in
-    let sized : IsSized mem = subst (λ (x : Kernel). IsSized (held_at x.spaces c.args.at).memory) c.self.view_is c.pages-pages.ensures.sized in
-    let all = (readable-count mem c.args.address c.args.count c.requires.readable).0 in
-    let near : c.loop-done.done < length (reach Load mem c.args.address) = let t = c.loop-done-test.true in omega (arith, all, t) in
-    let page = (reach-page Load mem c.args.address c.loop-done.done sized near).0 in
-    let few : length mem ≤ 32768 = subst (λ (x : Kernel). length (held_at x.spaces c.args.at).memory ≤ 32768) c.self.view_is c.pages-pages.ensures.few in
-    omega (arith, page, few)
+    let fits = next-fits _ c.args.self.now c.args.at c.args.address c.args.count c.loop-done.done c.self.view_is c.pages-pages.ensures.sized c.requires.readable c.loop-done-test.true c.pages-pages.ensures.few in
+    omega (arith, fits)
 
 pub piece-piece-requires-clause-readable : goal.piece-piece-requires-clause-readable
-piece-piece-requires-clause-readable g c =
-    let mem = (held_at c.args.self.now.spaces c.args.at).memory in
-    let sized : IsSized mem = subst (λ (x : Kernel). IsSized (held_at x.spaces c.args.at).memory) c.self.view_is c.pages-pages.ensures.sized in
-    let all = (readable-count mem c.args.address c.args.count c.requires.readable).0 in
-    let near : c.loop-done.done < length (reach Load mem c.args.address) = let t = c.loop-done-test.true in omega (arith, all, t) in
-    rw (reach-drop Load mem c.args.address c.loop-done.done sized (omega arith))
-    (omega (arith, length-drop c.loop-done.done (reach Load mem c.args.address), near))
+piece-piece-requires-clause-readable g c = next-readable _ c.args.self.now c.args.at c.args.address c.args.count c.loop-done.done c.self.view_is c.pages-pages.ensures.sized c.requires.readable c.loop-done-test.true
 
--- what is put out of a piece continues what was put out before
 pub returns-in_err-put-clause-err : goal.returns-in_err-put-clause-err
 returns-in_err-put-clause-err g c =
-    let mem = (held_at c.args.self.now.spaces c.args.at).memory in
-    let sized : IsSized mem = subst (λ (x : Kernel). IsSized (held_at x.spaces c.args.at).memory) c.self.view_is c.pages-pages.ensures.sized in
-    let asked = readable-count mem c.args.address c.args.count c.requires.readable in
+    let p = c.piece-piece.ensures in
     let e = err_from_is_err_and c.from_residual.result c.from_residual.ensures.1 in
-    let most : c.loop-done.done + length c.piece-piece.result.now ≤ c.args.count = let m = c.piece-piece.ensures.most in let t = c.loop-done-test.true in omega (arith, m, t) in
-    let piece = c.piece-piece.ensures.piece in
-    let more : take c.loop-done.done (reach Load mem c.args.address) ++ c.piece-piece.result.now ≡ take (c.loop-done.done + length c.piece-piece.result.now) (reach Load mem c.args.address) =
-    ap (λ bs. take c.loop-done.done (reach Load mem c.args.address) ++ bs) piece.1
-    ∙ reach-next Load mem c.args.address c.loop-done.done (length c.piece-piece.result.now) sized (omega (arith, asked.0, most)) piece.0 in
-    rw (e.1, asked.1) (begins_more _ _ _ _ _ (drop (c.loop-done.done + length c.piece-piece.result.now) (take c.args.count (reach Load mem c.args.address))) _
-    c.loop-done.invariant.printed c.in_err-put.ensures.err (rw more (front-rest (reach Load mem c.args.address) (c.loop-done.done + length c.piece-piece.result.now) c.args.count most)))
+    rw e.1 (prints-front _ c.args.self.now c.args.at c.args.address c.args.count c.loop-done.done c.self.view_is c.pages-pages.ensures.sized c.requires.readable c.loop-done-test.true c.piece-piece.result.now p.most p.piece _ _ _ c.loop-done.invariant.printed c.in_err-put.ensures.err)
 
 pub loop-done-preserved : goal.loop-done-preserved
 loop-done-preserved g c =
-    let mem = (held_at c.args.self.now.spaces c.args.at).memory in
-    let sized : IsSized mem = subst (λ (x : Kernel). IsSized (held_at x.spaces c.args.at).memory) c.self.view_is c.pages-pages.ensures.sized in
-    let asked = readable-count mem c.args.address c.args.count c.requires.readable in
-    let most : c.loop-done.done + length c.piece-piece.result.now ≤ c.args.count = let m = c.piece-piece.ensures.most in let t = c.loop-done-test.true in omega (arith, m, t) in
-    let piece = c.piece-piece.ensures.piece in
-    let more : take c.loop-done.done (reach Load mem c.args.address) ++ c.piece-piece.result.now ≡ take (c.loop-done.done + length c.piece-piece.result.now) (reach Load mem c.args.address) =
-    ap (λ bs. take c.loop-done.done (reach Load mem c.args.address) ++ bs) piece.1
-    ∙ reach-next Load mem c.args.address c.loop-done.done (length c.piece-piece.result.now) sized (omega (arith, asked.0, most)) piece.0 in
+    let p = c.piece-piece.ensures in
     record {
-      within = omega (arith, most);
-      printed = rw more at (Appends-trans _ _ _ _ _ c.loop-done.invariant.printed c.in_ok-put.ensures.ok);
+      within = prints-within _ c.args.self.now c.args.at c.args.address c.args.count c.loop-done.done c.self.view_is c.pages-pages.ensures.sized c.requires.readable c.loop-done-test.true c.piece-piece.result.now p.most p.piece;
+      printed = prints-more _ c.args.self.now c.args.at c.args.address c.args.count c.loop-done.done c.self.view_is c.pages-pages.ensures.sized c.requires.readable c.loop-done-test.true c.piece-piece.result.now p.most p.piece _ _ _ c.loop-done.invariant.printed c.in_ok-put.ensures.ok;
       later = let l = c.loop-done.invariant.later in let m = c.put.ensures.later in omega (arith, l, m);
     }
 
 pub returns-clause-ok : goal.returns-clause-ok
-returns-clause-ok g c =
-    let whole = (readable-count (held_at c.args.self.now.spaces c.args.at).memory c.args.address c.args.count c.requires.readable).1 in
-    let end : c.loop-done.done ≡ c.args.count = let t = c.loop-done-test.false in let h = c.loop-done.invariant.within in omega (arith, t, h) in
-    rw whole (rw end at c.loop-done.invariant.printed)
+returns-clause-ok g c = prints-all _ c.args.address c.args.count c.loop-done.done c.requires.readable c.loop-done.invariant.within c.loop-done-test.false _ _ c.loop-done.invariant.printed

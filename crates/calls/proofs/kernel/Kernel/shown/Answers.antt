@@ -1,5 +1,5 @@
 use Rattle.calls.specs.View.{kernel_of}
-use Rattle.calls.proofs.Shown.{shown-loaded, shown-none}
+use Rattle.calls.proofs.Shown.{shown-none, whole-shown}
 use Rattle.std.proofs.Common.{refl, sym, ◌∙◌}
 use Rattle.calls.proofs.kernel.Kernel.shown.Goals as goal
 
@@ -9,6 +9,4 @@ returns-in_err-at g c =
     rw (← c.self.view_is, none, c.from_residual.ensures) refl
 
 pub returns : goal.returns
-returns g c =
-    let found = sym c.find.ensures.place ∙ c.in_ok-at.was in
-    rw (← c.self.view_is) ((rw (← c.self.view_is) at c.whole.ensures.process) ∙ sym (shown-loaded (kernel_of c.self.inside) c.args.pid c.in_ok-at.at found))
+returns g c = whole-shown (kernel_of c.self.inside) c.args.self.now c.args.pid c.in_ok-at.at c.self.view_is c.find.result c.find.ensures.place c.in_ok-at.was c.whole.result c.whole.ensures.process
