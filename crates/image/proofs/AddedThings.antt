@@ -138,6 +138,10 @@ IsPut-bytes g old mid new files n d t bytes result is h before stores append =
     (IsPut-again g new files n (File 1 []) (File 1 bytes) result
     (append (set files n (Some (File 1 []))) (File 1 []) (File 1 bytes) (subst (λ k. Stores g mid (set files n (Some (bare k)))) is stores) (slot-put files n (File 1 []) high) (wide-bytes bytes)))
 
+pub IsPut-special : (g : Geometry) (new : List (List ℕ)) (files : Files) (n d major minor : ℕ) (t : Thing) → t ≡ Special major minor → Stores g new (put files n (bare t)) → IsPut g new files n (node_for n d t) (Ok tt)
+IsPut-special g new files n d major minor t is stores =
+    subst (λ k. Stores g new (set files n (Some (node_for n d k))) × (size_of (node_for n d k) ≤ longest)) (sym is) (subst (λ k. Stores g new (set files n (Some (bare k)))) is stores, omega arith)
+
 -- ---- a name is put
 
 pub wide-held : (g : Geometry) (blocks : List (List ℕ)) (d : ℕ) (e : Entry) (bytes : List ℕ) → bytes ≡ place_bytes (Some e) → length e.name ≤ 14 → (files : Files) (node : Node) → Stores g blocks files → slot files d ≡ Some node → IsTrue (is_directory node)

@@ -1,25 +1,28 @@
 -- The entries of all directories, one directory after the other, and what tables of them tell of the files.
-use Rattle.std.proofs.Common.{◌≡◌, ◌≢◌, ℕ, ◌+◌, ◌<◌, ◌≤◌, Bool, List, [], ◌∷◌, ◌++◌, None, Option, Some, length, get_or, map, ap, sym, refl, ◌∙◌, arith, subst, cond, inl, inr, true, false, zero, suc}
+use Rattle.std.proofs.Common.{◌≡◌, ◌≢◌, ℕ, ◌+◌, ◌*◌, ◌/◌, ◌<◌, ◌≤◌, Bool, List, [], ◌∷◌, ◌++◌, None, Option, Some, length, get_or, map, replicate, take, drop, ap, sym, refl, ◌∙◌, arith, subst, cond, inl, inr, true, false, zero, suc}
 use Rattle.std.specs.Prelude.{All, IsSome, count_by, filter, flat_map, option_map, slice_get, unwrap_or, ◌&&◌, ◌==◌}
+use Rattle.std.specs.Option.{option_to_list}
 use Rattle.std.specs.List.{find, range_with_len, sum_by}
 use Rattle.std.proofs.lemmas.Bool.{cases_eq, eq-eqb, ne_eqb}
-use Rattle.std.proofs.lemmas.List.{append-nil, map-append}
+use Rattle.std.proofs.lemmas.List.{append-nil, append_assoc, map-append}
 use Rattle.std.proofs.lemmas.List.Concat.{flat_map-append}
-use Rattle.std.proofs.lemmas.List.Elements.{All-map, All-nil}
+use Rattle.std.proofs.lemmas.List.Elements.{All-map, All-nil, All-replicate}
 use Rattle.std.proofs.lemmas.List.FromFn.{get_or-range_with_len, length-range_with_len}
 use Rattle.std.proofs.lemmas.List.Sums.{sum_by-append, sum_by-cons}
+use Rattle.layout.specs.declared.Geometry.{Geometry}
 use Rattle.unixmodel.specs.Files.{Entry, slot}
 use Rattle.unixmodel.specs.Image.{all_entries, contents_in, entries_of, inodes_in, is_directory_at, kind_in, names_number, names_of, parent_of, subdirectories}
-use Rattle.image.specs.Entries.{NamesDirectories, entries_in}
-use Rattle.image.specs.Faults.{HasBlocks}
-use Rattle.image.specs.Namings.{CountsNames, CountsSubdirectories, HasParents, HasParentsAmong, IsNaming, TellsNames, TellsSubdirectories, naming, namings_in, namings_of, parent_among, times_holding, times_named}
-use Rattle.image.specs.Places.{files_in}
+use Rattle.image.specs.Entries.{NamesDirectories, entries_in, entries_to}
+use Rattle.image.specs.Faults.{BlockRules, HasBlocks, HasBlocks-of}
+use Rattle.image.specs.Namings.{CountsNames, CountsSubdirectories, HasParents, HasParentsAmong, IsListed, IsNaming, TellsNames, TellsSubdirectories, naming, namings_in, namings_of, parent_among, times_holding, times_named}
+use Rattle.image.specs.Places.{files_in, place_of_bytes}
 use Rattle.image.specs.declared.namings.Naming.{Naming}
+use Rattle.image.proofs.Entering.{entries_more}
 use Rattle.image.proofs.Lists.{All-flat_map}
 use Rattle.image.proofs.Marking.{range-split}
 use Rattle.image.proofs.Naming.{slot-directory}
 use Rattle.image.proofs.Nodes.{length-files_in}
-use Rattle.image.proofs.Standing.{slot-zero, stands_each}
+use Rattle.image.proofs.Standing.{slot-zero, some_high, stands_each}
 
 -- ---- lists
 
@@ -58,7 +61,7 @@ namings_to-all image =
     ∙ sym (map-flat_map naming (λ (d : ℕ). map (λ (e : Entry). (d, e)) (entries_of (slot files d))) (namings_at image)
     (λ d. map-map naming (λ (e : Entry). (d, e)) (entries_of (slot files d))) (range_with_len 0 (length files)))
 
-pub namings_to-more : (image : List ℕ) (n : ℕ) → namings_to image (n + 1) ≡ namings_to image n ++ namings_of n (entries_of (slot (files_in image) n))
+namings_to-more : (image : List ℕ) (n : ℕ) → namings_to image (n + 1) ≡ namings_to image n ++ namings_of n (entries_of (slot (files_in image) n))
 namings_to-more image n =
     let f : 0 + n ≡ n = omega arith in
     ap (flat_map (namings_at image)) (range-split 0 n 1) ∙ flat_map-append (namings_at image) (range_with_len 0 n) (range_with_len (0 + n) 1)
@@ -68,16 +71,38 @@ pub namings_to-first : (image : List ℕ) → 0 < inodes_in image → namings_to
 namings_to-first image h = ap (λ o. namings_of 0 (entries_of o) ++ []) (slot-zero image h)
 
 -- a directory's entries, and those of another inode
-pub entries_at : (image : List ℕ) (n : ℕ) → 1 ≤ n → n < inodes_in image → kind_in image n ≡ 1 → entries_of (slot (files_in image) n) ≡ entries_in (contents_in image n)
+entries_at : (image : List ℕ) (n : ℕ) → 1 ≤ n → n < inodes_in image → kind_in image n ≡ 1 → entries_of (slot (files_in image) n) ≡ entries_in (contents_in image n)
 entries_at image n low high directory = ap entries_of (slot-directory image n low high directory)
 
-pub entries_other : (image : List ℕ) → HasBlocks image → (n : ℕ) → kind_in image n ≢ 1 → entries_of (slot (files_in image) n) ≡ []
+entries_other : (image : List ℕ) → HasBlocks image → (n : ℕ) → kind_in image n ≢ 1 → entries_of (slot (files_in image) n) ≡ []
 entries_other image b n other =
     stands_each image b (λ m o. kind_in image m ≢ 1 → entries_of o ≡ []) (λ m k. refl) (λ m low high e k. absurd (k e)) (λ m low high e k. refl) (λ m low high e k. refl) n other
 
+-- one inode more, a directory or another
+pub namings_to-directory : (image : List ℕ) (n : ℕ) (now new : List Naming) → 1 ≤ n → n < inodes_in image → kind_in image n ≡ 1
+    → now ≡ namings_to image n → new ≡ now ++ namings_of n (entries_in (contents_in image n)) → new ≡ namings_to image (n + 1)
+namings_to-directory image n now new low high directory before more =
+    more ∙ ap (λ r. r ++ namings_of n (entries_in (contents_in image n))) before
+    ∙ ap (λ es. namings_to image n ++ namings_of n es) (sym (entries_at image n low high directory)) ∙ sym (namings_to-more image n)
+
+pub namings_to-other : (image : List ℕ) → BlockRules image → (n : ℕ) (now : List Naming) → kind_in image n ≢ 1 → now ≡ namings_to image n → now ≡ namings_to image (n + 1)
+namings_to-other image rules n now other before =
+    before ∙ sym (append-nil (namings_to image n)) ∙ ap (λ es. namings_to image n ++ namings_of n es) (sym (entries_other image (HasBlocks-of image rules) n other)) ∙ sym (namings_to-more image n)
+
+-- those before place k of a directory with these bytes, and the one there
+pub namings-place : (old now new : List Naming) (d k : ℕ) (bytes place : List ℕ) → 2 ≤ k → k < length bytes / 16 → place ≡ take 16 (drop (16 * k) bytes)
+    → now ≡ old ++ namings_of d (entries_to bytes k) → new ≡ now ++ namings_of d (option_to_list (place_of_bytes place)) → new ≡ old ++ namings_of d (entries_to bytes (k + 1))
+namings-place old now new d k bytes place low high at before more =
+    let here = option_to_list (place_of_bytes place) in
+    more ∙ ap (λ r. r ++ namings_of d here) before ∙ append_assoc old (namings_of d (entries_to bytes k)) (namings_of d here)
+    ∙ ap (λ r. old ++ r)
+    (sym (map-append (λ (e : Entry). naming (d, e)) (entries_to bytes k) here)
+    ∙ ap (λ p. namings_of d (entries_to bytes k ++ option_to_list (place_of_bytes p))) at
+    ∙ ap (namings_of d) (sym (entries_more bytes k low high)))
+
 -- ---- each is one of a directory and of a number in use
 
-pub namings-fit : (image : List ℕ) → HasBlocks image → NamesDirectories image → All (IsNaming image) (namings_in image)
+namings-fit : (image : List ℕ) → HasBlocks image → NamesDirectories image → All (IsNaming image) (namings_in image)
 namings-fit image b named =
     subst (All (IsNaming image)) (namings_to-all image)
     (All-flat_map (IsNaming image) (namings_at image) (range_with_len 0 (inodes_in image)) (λ k d l.
@@ -102,6 +127,18 @@ namings-fit image b named =
             (of_entries n low high (entries_in (contents_in image n)) (λ k d l. ((named n low high directory).good k d l).number))
       ]
     ]
+
+module _ {image : List ℕ} {g : Geometry} {namings : List Naming} (h : IsListed image g namings) where
+  pub namings-fitting : All (IsNaming image) namings
+  namings-fitting = subst (All (IsNaming image)) (sym h.all) (namings-fit image (HasBlocks-of image h.blocks) h.names)
+
+  -- each number has a row in a table that is as long as there are inodes
+  pub numbers-within : (long : ℕ) → long ≡ g.inodes → All (λ (m : Naming). m.number < long) namings
+  numbers-within long e k d l = let high = some_high image (get_or namings k d).number (namings-fitting k d l).number in omega (arith, h.geometry.inodes)
+
+-- a table that has just been made
+pub zeros : (xs ys : List ℕ) (n : ℕ) → xs ≡ ys → ys ≡ replicate n 0 → All (λ x. x ≡ 0) xs
+zeros xs ys n e f = subst (All (λ x. x ≡ 0)) (sym (e ∙ f)) (All-replicate (λ x. x ≡ 0) n 0 refl)
 
 -- ---- how many places name a number
 

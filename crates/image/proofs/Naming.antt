@@ -1,11 +1,12 @@
 -- The names of a directory, and the rules of its entries.
-use Rattle.std.proofs.Common.{◌≡◌, ◌≢◌, ℕ, ◌<◌, ◌≤◌, List, Some, length, ap, ◌∙◌, arith, subst}
-use Rattle.std.specs.Prelude.{All, AllPairs}
+use Rattle.std.proofs.Common.{◌≡◌, ◌≢◌, ℕ, ◌<◌, ◌≤◌, List, Some, length, ap, sym, ◌∙◌, arith, subst}
+use Rattle.layout.specs.declared.Geometry.{Geometry}
 use Rattle.unixmodel.specs.Files.{slot}
 use Rattle.unixmodel.specs.Files.Node.{Directory}
 use Rattle.unixmodel.specs.Image.{contents_in, inodes_in, kind_in, links_in}
-use Rattle.image.specs.Entries.{AreOther, IsGood, entries_in}
-use Rattle.image.specs.Faults.{HasBlocks}
+use Rattle.image.specs.Entries.{HasNames}
+use Rattle.image.specs.Faults.{BlockRules, HasBlocks, HasBlocks-of}
+use Rattle.image.specs.Fields.{HasGeometry}
 use Rattle.image.specs.Places.{EntriesAt, FitsEntries, HasEntries, files_in, places_in}
 use Rattle.image.proofs.Denoting.{contents-long}
 use Rattle.image.proofs.Nodes.{file_in-used, node_in-directory, slot-files_in}
@@ -20,13 +21,16 @@ module _ (image : List ℕ) (n : ℕ) (low : 1 ≤ n) (high : n < inodes_in imag
   pub entries-at : HasEntries (files_in image) → FitsEntries (files_in image) n (places_in (contents_in image n))
   entries-at h = subst (EntriesAt (files_in image) n) slot-directory (h n)
 
-  pub good-at : HasEntries (files_in image) → All (IsGood image) (entries_in (contents_in image n))
-  good-at h =
+  pub names-at : HasEntries (files_in image) → HasNames image (contents_in image n)
+  names-at h =
       let fits = entries-at h in
-      λ k d l. record { name = fits.names k d l; number = fits.numbers k d l }
-
-  pub once-at : HasEntries (files_in image) → AllPairs AreOther (entries_in (contents_in image n))
-  once-at h = (entries-at h).once
+      record { good = λ k d l. record { name = fits.names k d l; number = fits.numbers k d l }; once = fits.once }
 
   pub directory-least : HasBlocks image → 32 ≤ length (contents_in image n)
   directory-least b = omega (arith, contents-long image b n low high used, (b.inodes.sizes n low high).directory_least directory)
+
+-- the bytes of a directory have its first two places
+pub least-in : {image : List ℕ} {g : Geometry} → HasGeometry image g → BlockRules image → (n : ℕ) → 1 ≤ n → n < g.inodes → kind_in image n ≡ 1
+    → (bytes : List ℕ) → bytes ≡ contents_in image n → 32 ≤ length bytes
+least-in {image = image} h rules n low high directory bytes e =
+    subst (λ xs. 32 ≤ length xs) (sym e) (directory-least image n low (omega (arith, h.inodes)) directory (HasBlocks-of image rules))

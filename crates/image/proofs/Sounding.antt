@@ -1,25 +1,69 @@
 -- What a result of a pass tells, from what the pass before it tells.
-use Rattle.std.proofs.Common.{Err, List, Ok, Result, ℕ, ◌≤◌, arith}
-use Rattle.std.specs.Prelude.{IfErr, OnOk}
+use Rattle.std.proofs.Common.{Err, List, Ok, Result, length, ℕ, ◌≡◌, ◌≤◌, ap, arith, subst}
+use Rattle.std.specs.Prelude.{IfErr, IfOk, IsErrOf, OnOk}
 use Rattle.unixmodel.specs.Failures.{Rises}
 use Rattle.unixmodel.specs.Files.{Files}
-use Rattle.unixmodel.specs.Image.{Denotes}
-use Rattle.image.specs.Faults.{IsOfImage, Tells}
+use Rattle.unixmodel.specs.Image.{Denotes, named_blocks, numbers_in_use}
+use Rattle.image.specs.Faults.{Finds, IsOfImage, Tells}
+use Rattle.image.specs.Places.{files_in}
+use Rattle.image.specs.Summaries.{IsSummary}
 use Rattle.image.specs.declared.ImageFault.{ImageFault}
+use Rattle.image.specs.declared.rules.Summary.{Summary}
+use Rattle.image.specs.declared.ImageFault.TheVariants.{Address, Bitmap, Device, Entry, Length, Links, Magic, NoMemory, NodeType, Numbers, SharedBlock, Size, Unreached}
 use Rattle.image.proofs.Denoting.{Tells-not}
 
 pub OnOk-from : {T E P Q : Type 0} (r : Result T E) → OnOk r P → (P → Q) → OnOk r Q
 OnOk-from (Ok x) h f = f h
 OnOk-from (Err e) h f = tt
 
-pub OnOk-with : {T E Q : Type 0} (r : Result T E) → Q → OnOk r Q
-OnOk-with (Ok x) q = q
-OnOk-with (Err e) q = tt
-
 -- a fault of the image that is told rules out that it denotes files
 pub refused-from : {T : Type 0} (image : List ℕ) (r : Result T ImageFault) → IfErr r (λ fault. Tells image fault) → IfErr r (λ fault. IsOfImage fault → (files : Files) → Denotes image files → ⊥)
 refused-from image (Ok x) h = tt
 refused-from image (Err fault) h = λ i files d. Tells-not image files fault i h d
+
+-- a pass over an image tells what it finds, and blames no device
+pub Finds-told : (image : List ℕ) (fault : ImageFault) → Finds image fault → Tells image fault
+Finds-told image Length h = h
+Finds-told image Magic h = h
+Finds-told image Numbers h = h
+Finds-told image NodeType h = h
+Finds-told image Size h = h
+Finds-told image Address h = h
+Finds-told image SharedBlock h = h
+Finds-told image Bitmap h = h
+Finds-told image Entry h = h
+Finds-told image Links h = h
+Finds-told image Unreached h = h
+Finds-told image Device h = absurd h
+Finds-told image NoMemory h = h
+
+pub Finds-not_device : {T : Type 0} (image : List ℕ) (r : Result T ImageFault) → IfErr r (Finds image) → IsErrOf r Device → ⊥
+Finds-not_device image r h told = subst (λ x. IfErr x (Finds image)) told h
+
+-- the parts of a summary
+pub record IsTold (image : List ℕ) (r : Result Summary ImageFault) : Type 0 where
+  pub denotes : OnOk r (Denotes image (files_in image))
+  pub inodes : IfOk r (λ summary. summary.inodes ≡ length (numbers_in_use image))
+  pub blocks : IfOk r (λ summary. summary.blocks ≡ length (named_blocks image))
+
+pub Summary-told : (image : List ℕ) (r : Result Summary ImageFault) → IfOk r (IsSummary image) → IsTold image r
+Summary-told image (Ok summary) h = record { denotes = h.denotes; inodes = h.inodes; blocks = h.blocks }
+Summary-told image (Err fault) h = record { denotes = tt; inodes = tt; blocks = tt }
+
+-- a fault of the image is neither the device's nor memory's
+pub record IsOwn {T : Type 0} (r : Result T ImageFault) : Type 0 where
+  pub device : IsErrOf r Device → ⊥
+  pub memory : IsErrOf r NoMemory → ⊥
+
+pub IsOfImage-not : {T : Type 0} (r : Result T ImageFault) → IfErr r IsOfImage → IsOwn r
+IsOfImage-not r h = record {
+  device = λ told. subst (λ x. IfErr x IsOfImage) told h;
+  memory = λ told. subst (λ x. IfErr x IsOfImage) told h;
+}
+
+-- a result that is handed on has the fault of the one before it
+pub same-fault : {T U E : Type 0} (r : Result T E) (x y : E) → r ≡ Err x → r ≡ Err y → IsErrOf {T = U} (Err x) y
+same-fault r x y p q = let e : x ≡ y = cc in ap Err e
 
 -- a rise from a later count is one from an earlier
 pub Rises-before : (a b c : ℕ) → a ≤ b → Rises b c → Rises a c

@@ -7,16 +7,18 @@ use Rattle.layout.specs.declared.Geometry.{Geometry}
 use Rattle.layout.specs.declared.SuperBlock.{SuperBlock}
 use Rattle.unixmodel.specs.Image.{HasSuper, bitmap_start, data_start, inodes_in, size_in, super_number}
 use Rattle.unixmodel.specs.Numbers.{number_at}
-use Rattle.image.specs.Content.{image_of, length-image_of, part-image_of}
-use Rattle.image.specs.Fields.{HasGeometry, HasSuper-of}
+use Rattle.image.specs.Content.{IsFront, image_of, length-image_of, part-image_of}
+use Rattle.image.specs.Fields.{HasGeometry, HasSuper-of, SuperRules-of}
+use Rattle.image.specs.Faults.{Tells}
+use Rattle.image.specs.declared.ImageFault.TheVariants.{Length, Magic, Numbers}
 use Rattle.image.specs.Pieces.{HasLength}
 use Rattle.image.proofs.Numbers.{number_at-drop, number_at-part}
 
 module _ (blocks : List (List ℕ)) (sizes : AreBlocks blocks) (two : 2 ≤ length blocks) where
-  pub length-is : length (image_of blocks) ≡ 1024 * length blocks
+  length-is : length (image_of blocks) ≡ 1024 * length blocks
   length-is = length-image_of blocks sizes
 
-  pub super-at : (k : ℕ) → k < 8 → number_in (block_at blocks 1) k ≡ super_number (image_of blocks) k
+  super-at : (k : ℕ) → k < 8 → number_in (block_at blocks 1) k ≡ super_number (image_of blocks) k
   super-at k h =
       let long : length (block_at blocks 1) ≡ 1024 = sizes 1 (omega arith) in
       number_at-drop 4 (4 * k) (block_at blocks 1) (omega arith)
@@ -30,7 +32,7 @@ module _ (blocks : List (List ℕ)) (sizes : AreBlocks blocks) (two : 2 ≤ leng
     pub inodes-is : s.inodes ≡ inodes_in (image_of blocks)
     inodes-is = ap (λ (t : SuperBlock). t.inodes) e ∙ super-at 3 (omega arith)
 
-    pub magic-is : s.magic ≡ super_number (image_of blocks) 0
+    magic-is : s.magic ≡ super_number (image_of blocks) 0
     magic-is = ap (λ (t : SuperBlock). t.magic) e ∙ super-at 0 (omega arith)
 
     blocks-is : s.blocks ≡ super_number (image_of blocks) 2
@@ -52,13 +54,13 @@ module _ (blocks : List (List ℕ)) (sizes : AreBlocks blocks) (two : 2 ≤ leng
     data-is = ap (λ a. data_start_of a s.inodes) size-is ∙ ap (data_start_of (size_in (image_of blocks))) inodes-is
 
     -- the length that the block tells
-    pub HasLength-from : s.size ≡ length blocks → HasLength (image_of blocks)
+    HasLength-from : s.size ≡ length blocks → HasLength (image_of blocks)
     HasLength-from h = record {
       least = omega (arith, length-is);
       whole = omega (arith, length-is, size-is);
     }
 
-    pub HasLength-not : s.size ≢ length blocks → HasLength (image_of blocks) → ⊥
+    HasLength-not : s.size ≢ length blocks → HasLength (image_of blocks) → ⊥
     HasLength-not n h = let w = h.whole in n (omega (arith, length-is, size-is))
 
     pub HasSuper-from : s.size ≡ length blocks → s.magic ≡ 0x10203040 → HasNumbers s → HasSuper (image_of blocks)
@@ -77,7 +79,7 @@ module _ (blocks : List (List ℕ)) (sizes : AreBlocks blocks) (two : 2 ≤ leng
       some_blocks = let a = n.some_blocks in omega (arith, blocks-is);
     }
 
-    pub HasNumbers-from : HasSuper (image_of blocks) → HasNumbers s
+    HasNumbers-from : HasSuper (image_of blocks) → HasNumbers s
     HasNumbers-from h = record {
       size_low = let a = h.size_least in omega (arith, size-is);
       size_high = let a = h.size_most in omega (arith, size-is);
@@ -90,6 +92,36 @@ module _ (blocks : List (List ℕ)) (sizes : AreBlocks blocks) (two : 2 ≤ leng
       blocks = let a = h.blocks in omega (arith, blocks-is, data-is, size-is);
       some_blocks = let a = h.some_blocks in omega (arith, blocks-is);
     }
+
+-- ---- what the super block of a device of so many blocks tells, if it has this length
+
+module _ (blocks : List (List ℕ)) (count : ℕ) (block : List ℕ) (front : IsFront blocks count block) (least : 2 ≤ count) (s : SuperBlock) (read : s ≡ super_of block) where
+  two : 2 ≤ length blocks
+  two = omega (arith, front.many)
+
+  e : s ≡ super_of (block_at blocks 1)
+  e = read ∙ ap super_of front.front
+
+  pub Length-told : s.size ≢ count → Tells (image_of blocks) Length
+  Length-told n = HasLength-not blocks front.sizes two s e (λ z. n (z ∙ sym front.many))
+
+  module _ (size : s.size ≡ count) where
+    pub HasGeometry-from : s.magic ≡ 0x10203040 → HasNumbers s → HasGeometry (image_of blocks) (record { size = count; inodes = s.inodes })
+    HasGeometry-from magic numbers = record {
+      rules = SuperRules-of (HasSuper-from blocks front.sizes two s e (size ∙ front.many) magic numbers);
+      size = sym size ∙ size-is blocks front.sizes two s e;
+      inodes = inodes-is blocks front.sizes two s e;
+    }
+
+    pub Magic-told : s.magic ≢ 0x10203040 → Tells (image_of blocks) Magic
+    Magic-told n = (HasLength-from blocks front.sizes two s e (size ∙ front.many), λ m. n (magic-is blocks front.sizes two s e ∙ m))
+
+    pub Numbers-told : s.magic ≡ 0x10203040 → (HasNumbers s → ⊥) → Tells (image_of blocks) Numbers
+    Numbers-told magic n = (
+      HasLength-from blocks front.sizes two s e (size ∙ front.many),
+      sym (magic-is blocks front.sizes two s e) ∙ magic,
+      λ h. n (HasNumbers-from blocks front.sizes two s e h),
+    )
 
 -- fewer than two blocks
 pub HasLength-not_few : (blocks : List (List ℕ)) → AreBlocks blocks → length blocks < 2 → HasLength (image_of blocks) → ⊥

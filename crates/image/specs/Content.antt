@@ -36,3 +36,9 @@ image_of-more blocks k l =
     ap (λ r. image_of (take k blocks) ++ r) (sym (append-nil (block_at blocks k)))
     ∙ sym (flat_map-append (λ b. b) (take k blocks) (block_at blocks k ∷ []))
     ∙ ap image_of (sym (take_more blocks k [] l))
+
+-- a device of these blocks has so many, and this is the one with its super block
+pub record IsFront (blocks : List (List ℕ)) (count : ℕ) (block : List ℕ) : Type 0 where
+  pub sizes : AreBlocks blocks
+  pub many : count ≡ length blocks
+  pub front : block ≡ block_at blocks 1

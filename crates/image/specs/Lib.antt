@@ -13,4 +13,5 @@ pub mod Pieces
 pub mod Places
 pub mod Reach
 pub mod Stored
+pub mod Summaries
 pub mod Whole

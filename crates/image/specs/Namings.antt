@@ -3,6 +3,10 @@ use Rattle.std.specs.Prelude.{IsSome, List, Option, count_by, if◌then◌else�
 use Rattle.std.specs.List.{find}
 use Rattle.unixmodel.specs.Files.{Entry, most_links, slot}
 use Rattle.unixmodel.specs.Image.{all_entries, inodes_in, is_directory_at, names_of, parent_of, subdirectories}
+use Rattle.layout.specs.declared.Geometry.{Geometry}
+use Rattle.image.specs.Entries.{NamesDirectories}
+use Rattle.image.specs.Faults.{BlockRules}
+use Rattle.image.specs.Fields.{HasGeometry}
 use Rattle.image.specs.Places.{files_in}
 use Rattle.image.specs.declared.namings.Naming.{Naming}
 
@@ -22,6 +26,13 @@ pub record IsNaming (image : List ℕ) (m : Naming) : Type 0 where
   pub low : 1 ≤ m.directory
   pub high : m.directory < inodes_in image
   pub number : IsSome (slot (files_in image) m.number)
+
+-- these are the entries of all directories of an image whose blocks are sound, and those of each have good names
+pub record IsListed (image : List ℕ) (g : Geometry) (namings : List Naming) : Type 0 where
+  pub geometry : HasGeometry image g
+  pub blocks : BlockRules image
+  pub names : NamesDirectories image
+  pub all : namings ≡ namings_in image
 
 -- ---- what a table tells of some of them
 

@@ -1,10 +1,9 @@
 //! The files of an image whose inodes and blocks are sound: their entries, their links and that each is reached.
 
-ghost use Rattle.std.specs.Prelude.{◌≡◌, ◌≤◌, List, length, IfErr, IsErrOf, OnOk};
-ghost use Rattle.image.specs.Entries.{NamesDirectories};
-ghost use Rattle.image.specs.Faults.{BlockRules, HasFiles, Tells};
+ghost use Rattle.std.specs.Prelude.{◌≡◌, ◌≤◌, List, length, IfErr, OnOk};
+ghost use Rattle.image.specs.Faults.{BlockRules, Finds, HasFiles};
 ghost use Rattle.image.specs.Fields.{HasGeometry};
-ghost use Rattle.image.specs.Namings.{TellsNames, namings_in};
+ghost use Rattle.image.specs.Namings.{IsListed, TellsNames};
 ghost use Rattle.image.specs.Places.{HasEntries, HasLinks, files_in};
 ghost use Rattle.image.specs.declared.namings.Naming.{Naming};
 
@@ -26,15 +25,11 @@ fn test_entries<A: Allocator>(
     namings: &[Naming],
     counts: &[usize],
 ) -> Result<(), ImageFault>
-    requires geometry { HasGeometry image.now geometry }
-    requires blocks { BlockRules image.now }
-    requires names { NamesDirectories image.now }
-    requires namings { namings.now ≡ namings_in image.now }
+    requires listed { IsListed image.now geometry namings.now }
     requires counts_long { length counts.now ≡ geometry.inodes }
     requires counts { TellsNames image.now counts.now }
     ensures sound { OnOk result (HasEntries (files_in image.now)) }
-    ensures fault { IfErr result (λ fault. Tells image.now fault) }
-    ensures device { IsErrOf result ImageFault.Device → ⊥ }
+    ensures fault { IfErr result (Finds image.now) }
 {
     if !are_named(image, geometry, counts) {
         return Err(ImageFault::Entry);
@@ -44,26 +39,23 @@ fn test_entries<A: Allocator>(
     test_fronts(&alloc, image, geometry, &parents)
 }
 
-// Tests the counts of links.
-fn test_links<A: Allocator>(
+// Tests the first two places of the directories, how many entries name each, and the counts of links.
+fn test_counts<A: Allocator>(
     alloc: A,
     image: &[u8],
     geometry: Geometry,
     namings: &[Naming],
     counts: &[usize],
 ) -> Result<(), ImageFault>
-    requires geometry { HasGeometry image.now geometry }
-    requires blocks { BlockRules image.now }
-    requires names { NamesDirectories image.now }
-    requires entries { HasEntries (files_in image.now) }
-    requires namings { namings.now ≡ namings_in image.now }
+    requires listed { IsListed image.now geometry namings.now }
     requires counts_long { length counts.now ≡ geometry.inodes }
     requires counts { TellsNames image.now counts.now }
-    ensures sound { OnOk result (HasLinks (files_in image.now)) }
-    ensures fault { IfErr result (λ fault. Tells image.now fault) }
-    ensures device { IsErrOf result ImageFault.Device → ⊥ }
+    ensures entries { OnOk result (HasEntries (files_in image.now)) }
+    ensures links { OnOk result (HasLinks (files_in image.now)) }
+    ensures fault { IfErr result (Finds image.now) }
 {
-    let mut subdirectories = vec![in alloc; 0; geometry.inodes]?;
+    test_entries(&alloc, image, geometry, namings, counts)?;
+    let mut subdirectories = vec![in &alloc; 0; geometry.inodes]?;
     count_subdirectories(image, geometry, namings, &mut subdirectories);
     if !has_links(image, geometry, counts, &subdirectories) {
         return Err(ImageFault::Links);
@@ -78,19 +70,14 @@ fn test_namings<A: Allocator>(
     geometry: Geometry,
     namings: &[Naming],
 ) -> Result<(), ImageFault>
-    requires geometry { HasGeometry image.now geometry }
-    requires blocks { BlockRules image.now }
-    requires names { NamesDirectories image.now }
-    requires namings { namings.now ≡ namings_in image.now }
+    requires { IsListed image.now geometry namings.now }
     ensures entries { OnOk result (HasEntries (files_in image.now)) }
     ensures links { OnOk result (HasLinks (files_in image.now)) }
-    ensures fault { IfErr result (λ fault. Tells image.now fault) }
-    ensures device { IsErrOf result ImageFault.Device → ⊥ }
+    ensures fault { IfErr result (Finds image.now) }
 {
     let mut counts = vec![in &alloc; 0; geometry.inodes]?;
     count_names(namings, &mut counts);
-    test_entries(&alloc, image, geometry, namings, &counts)?;
-    test_links(&alloc, image, geometry, namings, &counts)
+    test_counts(&alloc, image, geometry, namings, &counts)
 }
 
 // Tests the files: the rules from the entries to the reach.
@@ -102,12 +89,10 @@ pub fn test_files<A: Allocator>(
     requires geometry { HasGeometry image.now geometry }
     requires blocks { BlockRules image.now }
     ensures sound { OnOk result (HasFiles image.now) }
-    ensures fault { IfErr result (λ fault. Tells image.now fault) }
-    ensures device { IsErrOf result ImageFault.Device → ⊥ }
+    ensures fault { IfErr result (Finds image.now) }
 {
-    let mut bytes = Vec::new(&alloc);
     let mut namings = Vec::new(&alloc);
-    test_directories(image, geometry, &mut bytes, &mut namings)?;
+    test_directories(&alloc, image, geometry, &mut namings)?;
     test_namings(&alloc, image, geometry, &namings)?;
     test_reach(&alloc, image, geometry)
 }

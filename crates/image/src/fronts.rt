@@ -1,10 +1,10 @@
 //! The first two places of directories, "." and "..", and how many places name a directory.
 
-ghost use Rattle.std.specs.Prelude.{◌≡◌, ℕ, ◌<◌, ◌≤◌, ◌==◌, if◌then◌else◌, List, Some, length, IfErr, IsErrOf, OnOk};
+ghost use Rattle.std.specs.Prelude.{◌≡◌, ℕ, ◌<◌, ◌≤◌, ◌==◌, if◌then◌else◌, List, Some, length, IfErr, OnOk};
 ghost use Rattle.std.specs.Bool.{OnTrue, OnFalse};
 ghost use Rattle.unixmodel.specs.Image.{contents_in, kind_in, parent_of};
 ghost use Rattle.image.specs.Entries.{AreNamed, FitsFront, HasFronts};
-ghost use Rattle.image.specs.Faults.{BlockRules, Tells};
+ghost use Rattle.image.specs.Faults.{BlockRules, Finds};
 ghost use Rattle.image.specs.Fields.{HasGeometry};
 ghost use Rattle.image.specs.Namings.{HasParents, TellsNames};
 ghost use Rattle.image.specs.Places.{files_in, place_of_bytes};
@@ -58,8 +58,7 @@ fn test_front<A: Allocator>(
     requires directory { kind_in image.now n ≡ 1 }
     requires parent { parent ≡ parent_of (files_in image.now) n }
     ensures front { OnOk result (FitsFront n (parent_of (files_in image.now) n) (contents_in image.now n)) }
-    ensures fault { IfErr result (λ fault. Tells image.now fault) }
-    ensures device { IsErrOf result ImageFault.Device → ⊥ }
+    ensures fault { IfErr result (Finds image.now) }
 {
     read_contents(image, geometry, n, bytes)?;
     if !fits_front(bytes, n, parent) {
@@ -80,8 +79,7 @@ pub fn test_fronts<A: Allocator>(
     requires long { length parents.now ≡ geometry.inodes }
     requires parents { HasParents image.now parents.now }
     ensures fronts { OnOk result (HasFronts image.now) }
-    ensures fault { IfErr result (λ fault. Tells image.now fault) }
-    ensures device { IsErrOf result ImageFault.Device → ⊥ }
+    ensures fault { IfErr result (Finds image.now) }
 {
     let mut bytes = Vec::new(alloc);
     for n in 1..geometry.inodes {

@@ -1,15 +1,37 @@
 //! Reading an image from its device.
 
-ghost use Rattle.std.specs.Prelude.{◌≡◌, ◌≤◌, List, length, IfOk, IfErr, IsErrOf};
+ghost use Rattle.std.specs.Prelude.{◌≡◌, ◌≤◌, ℕ, List, length, IfOk, IfErr, IsErrOf};
 ghost use Rattle.unixmodel.specs.Failures.{Rises};
-ghost use Rattle.image.specs.Content.{image_of};
-ghost use Rattle.image.specs.Faults.{Tells};
+ghost use Rattle.image.specs.Content.{IsFront, image_of};
+ghost use Rattle.image.specs.Faults.{IsOfImage, Tells};
 ghost use Rattle.image.specs.Fields.{HasGeometry};
 
 use crate::ImageFault;
-use blockdev::{BLOCK_SIZE, BlockDev};
+use blockdev::{BLOCK_SIZE, Block, BlockDev};
 use layout::{Geometry, LayoutFault, SuperBlock};
 use std::alloc::Allocator;
+
+// The geometry that the super block tells of a device of so many blocks, if its numbers and the length are right.
+fn geometry_in(block: &Block, count: usize) -> Result<Geometry, ImageFault>
+    requires { 2 ≤ count }
+    ensures geometry { IfOk result (λ g. (blocks : List (List ℕ)) → IsFront blocks count block.now → HasGeometry (image_of blocks) g) }
+    ensures fault { IfErr result (λ fault. (blocks : List (List ℕ)) → IsFront blocks count block.now → Tells (image_of blocks) fault) }
+    ensures own { IfErr result IsOfImage }
+{
+    let numbers = SuperBlock::from_front(block);
+    if numbers.size as usize != count {
+        return Err(ImageFault::Length);
+    }
+    match numbers.test() {
+        Ok(()) => Ok(Geometry {
+            size: count,
+            inodes: numbers.inodes as usize,
+        }),
+        Err(LayoutFault::Magic) => Err(ImageFault::Magic),
+        Err(LayoutFault::Numbers) => Err(ImageFault::Numbers),
+        Err(LayoutFault::Short) => Err(ImageFault::Length),
+    }
+}
 
 // Reads the super block, and tests the length and its numbers.
 pub fn read_geometry<D: BlockDev>(device: &mut D) -> Result<Geometry, ImageFault>
@@ -25,19 +47,7 @@ pub fn read_geometry<D: BlockDev>(device: &mut D) -> Result<Geometry, ImageFault
         return Err(ImageFault::Length);
     }
     let block = device.read(1)?;
-    let numbers = SuperBlock::from_front(&block);
-    if numbers.size as usize != count {
-        return Err(ImageFault::Length);
-    }
-    match numbers.test() {
-        Ok(()) => Ok(Geometry {
-            size: count,
-            inodes: numbers.inodes as usize,
-        }),
-        Err(LayoutFault::Magic) => Err(ImageFault::Magic),
-        Err(LayoutFault::Numbers) => Err(ImageFault::Numbers),
-        Err(LayoutFault::Short) => Err(ImageFault::Length),
-    }
+    geometry_in(&block, count)
 }
 
 // Reads all blocks.

@@ -1,9 +1,9 @@
 //! Whether all inodes in use are reached from the root.
 
-ghost use Rattle.std.specs.Prelude.{◌≡◌, ◌≢◌, ℕ, ◌+◌, ◌*◌, ◌/◌, ◌%◌, ◌<◌, ◌≤◌, length, IfErr, IsErrOf, OnOk};
+ghost use Rattle.std.specs.Prelude.{◌≡◌, ◌≢◌, ℕ, ◌+◌, ◌*◌, ◌/◌, ◌%◌, ◌<◌, ◌≤◌, length, IfErr, OnOk};
 ghost use Rattle.std.specs.Bool.{OnTrue, OnFalse};
 ghost use Rattle.unixmodel.specs.Image.{parent_of};
-ghost use Rattle.image.specs.Faults.{BlockRules, Tells};
+ghost use Rattle.image.specs.Faults.{BlockRules, Finds};
 ghost use Rattle.image.specs.Fields.{HasGeometry};
 ghost use Rattle.image.specs.Places.{HasEntries, HasLinks, IsReached, files_in};
 ghost use Rattle.image.specs.Reach.{Climbs, HasWalked, IsDirectoryIn};
@@ -62,8 +62,7 @@ pub fn test_reach<A: Allocator>(
     requires entries { HasEntries (files_in image.now) }
     requires links { HasLinks (files_in image.now) }
     ensures sound { OnOk result (IsReached (files_in image.now)) }
-    ensures fault { IfErr result (λ fault. Tells image.now fault) }
-    ensures device { IsErrOf result ImageFault.Device → ⊥ }
+    ensures fault { IfErr result (Finds image.now) }
 {
     let mut marks = vec![in alloc; 0; geometry.inodes]?;
     marks[1] = 1;

@@ -5,11 +5,12 @@ ghost use Rattle.unixmodel.specs.Failures.{Rises};
 ghost use Rattle.unixmodel.specs.Files.{Files};
 ghost use Rattle.unixmodel.specs.Image.{Denotes, named_blocks, numbers_in_use};
 ghost use Rattle.image.specs.Content.{image_of};
-ghost use Rattle.image.specs.Faults.{BlockRules, HasInodes, IsOfImage, Tells};
+ghost use Rattle.image.specs.Faults.{BlockRules, Finds, HasInodes, IsOfImage, Tells};
 ghost use Rattle.image.specs.Fields.{HasGeometry};
 ghost use Rattle.image.specs.Marks.{HasMarks};
 ghost use Rattle.image.specs.Pieces.{HasAddresses};
 ghost use Rattle.image.specs.Places.{files_in};
+ghost use Rattle.image.specs.Summaries.{IsSummary};
 
 use crate::ImageFault;
 use crate::blocks::has_addresses;
@@ -35,8 +36,7 @@ pub struct Summary {
 fn test_blocks<A: Allocator>(alloc: A, image: &[u8], geometry: Geometry) -> Result<(), ImageFault>
     requires { HasGeometry image.now geometry }
     ensures sound { OnOk result (BlockRules image.now) }
-    ensures fault { IfErr result (λ fault. Tells image.now fault) }
-    ensures device { IsErrOf result ImageFault.Device → ⊥ }
+    ensures fault { IfErr result (Finds image.now) }
 {
     if !has_kinds(image, geometry) {
         return Err(ImageFault::NodeType);
@@ -59,8 +59,7 @@ fn test_marks(image: &[u8], geometry: Geometry, marks: &mut [bool]) -> Result<()
     requires long { length marks.old ≡ geometry.size }
     requires fresh { HasMarks [] marks.old }
     ensures sound { OnOk result (BlockRules image.now) }
-    ensures fault { IfErr result (λ fault. Tells image.now fault) }
-    ensures device { IsErrOf result ImageFault.Device → ⊥ }
+    ensures fault { IfErr result (Finds image.now) }
 {
     if !names_once(image, geometry, marks) {
         return Err(ImageFault::SharedBlock);
@@ -71,16 +70,22 @@ fn test_marks(image: &[u8], geometry: Geometry, marks: &mut [bool]) -> Result<()
     Ok(())
 }
 
-// Tests the inodes, their blocks and the files: the rules from the types on.
-fn test_image<A: Allocator>(alloc: A, image: &[u8], geometry: Geometry) -> Result<(), ImageFault>
+// Tests the inodes, their blocks and the files, the rules from the types on, and counts what is in use.
+fn summary_of<A: Allocator>(
+    alloc: A,
+    image: &[u8],
+    geometry: Geometry,
+) -> Result<Summary, ImageFault>
     requires { HasGeometry image.now geometry }
-    ensures sound { OnOk result (BlockRules image.now) }
-    ensures denotes { OnOk result (Denotes image.now (files_in image.now)) }
-    ensures fault { IfErr result (λ fault. Tells image.now fault) }
-    ensures device { IsErrOf result ImageFault.Device → ⊥ }
+    ensures summary { IfOk result (IsSummary image.now) }
+    ensures fault { IfErr result (Finds image.now) }
 {
     test_blocks(&alloc, image, geometry)?;
-    test_files(&alloc, image, geometry)
+    test_files(&alloc, image, geometry)?;
+    Ok(Summary {
+        inodes: inodes_in_use(image, geometry),
+        blocks: blocks_in_use(image, geometry),
+    })
 }
 
 /// Reads an image and tests that it denotes files: its length, its super block, its inodes, the blocks that they name,
@@ -100,9 +105,5 @@ pub fn check<A: Allocator, D: BlockDev>(alloc: A, device: &mut D) -> Result<Summ
 {
     let geometry = read_geometry(device)?;
     let image = read_blocks(&alloc, device, geometry.size)?;
-    test_image(&alloc, &image, geometry)?;
-    Ok(Summary {
-        inodes: inodes_in_use(&image, geometry),
-        blocks: blocks_in_use(&image, geometry),
-    })
+    summary_of(&alloc, &image, geometry)
 }

@@ -8,7 +8,7 @@ use crate::entries::are_same;
 use crate::maker::path::first_slash;
 
 // A name that stands in a directory. The first that is made has number 2, the next 3 and so on.
-#[derive(Debug, Drop)]
+#[derive(Drop)]
 pub struct Made {
     // The number of the directory.
     pub directory: usize,

@@ -84,10 +84,10 @@ fn store_name<D: BlockDev>(
     ensures count { length disk.new.blocks ≡ length disk.old.blocks }
 {
     append(disk, geometry, directory, &place(name, number))?;
-    match thing {
-        Thing::Directory => add_link(disk, geometry, directory),
-        Thing::File(_) | Thing::Device { .. } => Ok(()),
+    if !thing.is_directory() {
+        return Ok(());
     }
+    add_link(disk, geometry, directory)
 }
 
 // Takes the lowest inode for a thing that has no bytes yet. One is free, so a failed access alone is in the way.

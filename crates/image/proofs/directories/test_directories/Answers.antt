@@ -1,11 +1,9 @@
-use Rattle.std.proofs.Common.{◌≡◌, ◌≢◌, ◌<◌, ◌++◌, sym, ap, ◌∙◌, arith}
-use Rattle.std.proofs.lemmas.List.{append-nil}
+use Rattle.std.proofs.Common.{◌≡◌, ◌<◌, List, sym, ap, ◌∙◌, arith}
 use Rattle.unixmodel.specs.Image.{contents_in, inodes_in, kind_in}
-use Rattle.image.specs.Entries.{HasNames, entries_in}
-use Rattle.image.specs.Namings.{namings_of}
+use Rattle.image.specs.Entries.{HasNames}
 use Rattle.image.proofs.Bounds.{inode-inside, inodes-least, inodes-most, up_to_more}
-use Rattle.image.proofs.Collecting.{entries_at, entries_other, namings_to, namings_to-all, namings_to-first, namings_to-more}
-use Rattle.image.specs.Faults.{HasBlocks-of}
+use Rattle.image.specs.declared.namings.Naming.{Naming}
+use Rattle.image.proofs.Collecting.{namings_to, namings_to-all, namings_to-directory, namings_to-first, namings_to-other}
 use Rattle.image.proofs.directories.test_directories.Goals as goal
 use Rattle.image.proofs.directories.test_directories.Goals.{else-kind-eq1, then-kind-eq1+in_ok-test_directory}
 
@@ -36,14 +34,10 @@ loop-n-preserved g c =
     record {
       named = up_to_more (λ m. kind_in image m ≡ 1 → HasNames image (contents_in image m)) n inv.named here;
       collected = elim c.if-kind-eq1.branch [
-        | then-kind-eq1+in_ok-test_directory w ↦
-            let directory : kind_in image n ≡ 1 = sym c.kind.ensures ∙ w.if-kind-eq1.true in
-            ap (λ v. v.items) w.namings-is ∙ w.in_ok-test_directory.ensures.namings ∙ ap (λ r. r ++ namings_of n (entries_in (contents_in image n))) inv.collected
-            ∙ ap (λ es. namings_to image n ++ namings_of n es) (sym (entries_at image n (omega arith) high directory)) ∙ sym (namings_to-more image n)
-        | else-kind-eq1 w ↦
-            let other : kind_in image n ≢ 1 = λ e. w.if-kind-eq1.false (c.kind.ensures ∙ e) in
-            ap (λ v. v.items) w.namings-is ∙ inv.collected ∙ sym (append-nil (namings_to image n))
-            ∙ ap (λ es. namings_to image n ++ namings_of n es) (sym (entries_other image (HasBlocks-of c.args.image.now c.requires.blocks) n other)) ∙ sym (namings_to-more image n)
+        | then-kind-eq1+in_ok-test_directory w ↦ ◌∙◌ {A = List Naming} (ap (λ v. v.items) w.namings-is)
+            (namings_to-directory image n c.loop-n.namings.items w.test_directory.new.namings.items (omega arith) high (sym c.kind.ensures ∙ w.if-kind-eq1.true) inv.collected w.in_ok-test_directory.ensures.namings)
+        | else-kind-eq1 w ↦ ◌∙◌ {A = List Naming} (ap (λ v. v.items) w.namings-is)
+            (namings_to-other image c.requires.blocks n c.loop-n.namings.items (λ e. w.if-kind-eq1.false (c.kind.ensures ∙ e)) inv.collected)
       ];
     }
 

@@ -16,7 +16,6 @@ pub returns-then-not-names_once : goal.returns-then-not-names_once
 returns-then-not-names_once c = record {
   sound = tt;
   fault = (c.requires.inodes, c.requires.addresses, OnFalse_at c.if-not-names_once.true c.names_once.ensures.bad);
-  device = λ e. cc;
 }
 
 pub has_bitmap-requires-clause-geometry : goal.has_bitmap-requires-clause-geometry
@@ -32,7 +31,6 @@ pub returns-then-not-has_bitmap : goal.returns-then-not-has_bitmap
 returns-then-not-has_bitmap c = record {
   sound = tt;
   fault = (c.requires.inodes, c.requires.addresses, (OnTrue_at c.if-not-names_once.false c.names_once.ensures.good).once, OnFalse_at c.if-not-has_bitmap.true c.has_bitmap.ensures.bad);
-  device = λ e. cc;
 }
 
 pub returns : goal.returns
@@ -44,5 +42,4 @@ returns c = record {
     bitmap = OnTrue_at c.if-not-has_bitmap.false c.has_bitmap.ensures.good;
   });
   fault = tt;
-  device = λ e. cc;
 }

@@ -1,31 +1,34 @@
 use Rattle.std.proofs.Common.{◌∙◌, ap, sym}
+use Rattle.std.proofs.lemmas.Result.{err_from_is_err_and}
 use Rattle.unixmodel.specs.Manifest.Thing.{Bytes}
 use Rattle.image.specs.Making.{thing_of}
 use Rattle.image.specs.Stored.{bare}
-use Rattle.image.proofs.AddedThings.{IsPut-bytes, IsPut-folder, put-inode}
+use Rattle.image.proofs.AddedThings.{IsPut-bytes, IsPut-folder, IsPut-special, put-inode}
 use Rattle.image.proofs.maker.store.store_node.Goals as goal
 
-pub take-requires-clause-sound : goal.take-requires-clause-sound
-take-requires-clause-sound g c = c.requires.able.1.sound
+pub take-requires : goal.take-requires
+take-requires g c = record { sound = c.requires.able.1.sound; lowest = c.requires.lowest }
 
-pub take-requires-clause-lowest : goal.take-requires-clause-lowest
-take-requires-clause-lowest g c = c.requires.lowest
+pub returns-in_err-take-clause-put : goal.returns-in_err-take-clause-put
+returns-in_err-take-clause-put g c = λ files stores.
+    let p = err_from_is_err_and c.from_residual.result c.from_residual.ensures.1 in
+    rw (p.1, p.2, c.in_err-take.ensures.fault) tt
 
-pub append-requires-clause-sound : goal.append-requires-clause-sound
-append-requires-clause-sound g c = (c.in_ok-take.ensures.put c.requires.able.0 c.requires.able.1).sound
+pub append-requires : goal.append-requires
+append-requires g c =
+    let put = c.in_ok-take.ensures.put c.requires.able.0 c.requires.able.1 in
+    record {
+      sound = put.sound;
+      inode = put-inode c.args.geometry c.args.disk.now.blocks c.take.new.disk.blocks c.args.number (bare (thing_of c.args.thing.now)) c.requires.lowest.high c.requires.able.0 c.requires.able.1 put;
+    }
 
-pub append-requires-clause-inode : goal.append-requires-clause-inode
-append-requires-clause-inode g c =
-    put-inode c.args.geometry c.args.disk.now.blocks c.take.new.disk.blocks c.args.number (bare (thing_of c.args.thing.now)) c.requires.lowest.high c.requires.able.0 c.requires.able.1
-    (c.in_ok-take.ensures.put c.requires.able.0 c.requires.able.1)
-
-pub append-requires-in-File-clause-sound : goal.append-requires-in-File-clause-sound
-append-requires-in-File-clause-sound g c = (c.in_ok-take.ensures.put c.requires.able.0 c.requires.able.1).sound
-
-pub append-requires-in-File-clause-inode : goal.append-requires-in-File-clause-inode
-append-requires-in-File-clause-inode g c =
-    put-inode c.args.geometry c.args.disk.now.blocks c.take.new.disk.blocks c.args.number (bare (thing_of c.args.thing.now)) c.requires.lowest.high c.requires.able.0 c.requires.able.1
-    (c.in_ok-take.ensures.put c.requires.able.0 c.requires.able.1)
+pub append-requires-in-File : goal.append-requires-in-File
+append-requires-in-File g c =
+    let put = c.in_ok-take.ensures.put c.requires.able.0 c.requires.able.1 in
+    record {
+      sound = put.sound;
+      inode = put-inode c.args.geometry c.args.disk.now.blocks c.take.new.disk.blocks c.args.number (bare (thing_of c.args.thing.now)) c.requires.lowest.high c.requires.able.0 c.requires.able.1 put;
+    }
 
 pub returns-in-Directory-clause-put : goal.returns-in-Directory-clause-put
 returns-in-Directory-clause-put g c = λ files stores.
@@ -36,3 +39,7 @@ pub returns-in-File-clause-put : goal.returns-in-File-clause-put
 returns-in-File-clause-put g c = λ files stores.
     IsPut-bytes c.args.geometry c.args.disk.now.blocks c.take.new.disk.blocks c.append-in-File.new.disk.blocks files c.args.number c.args.directory (thing_of c.args.thing.now) c.deref.result.now c.append-in-File.result
     (ap thing_of c.in-File.is ∙ ap Bytes (sym c.deref.ensures.value)) c.requires.lowest.high stores (c.in_ok-take.ensures.put files stores) c.append-in-File.ensures.put
+
+pub returns-in-Device-clause-put : goal.returns-in-Device-clause-put
+returns-in-Device-clause-put g c = λ files stores.
+    IsPut-special c.args.geometry c.take.new.disk.blocks files c.args.number c.args.directory _ _ (thing_of c.args.thing.now) (ap thing_of c.in-Device.is) (c.in_ok-take.ensures.put files stores)
