@@ -1,6 +1,8 @@
 -- What the lines of a text say, one after the other.
-use Rattle.std.specs.Prelude.{◌≡◌, ℕ, ◌+◌, ◌<◌, ◌==◌, List, [], ◌∷◌, take, length}
+use Rattle.std.specs.Prelude.{◌≡◌, ℕ, ◌+◌, ◌<◌, ◌==◌, List, [], ◌∷◌, take, length, ⊤}
 use Rattle.std.specs.List.{slice_index_or, slice_split}
+use Rattle.commands.specs.declared.lines.TextFault.{TextFault}
+use Rattle.commands.specs.declared.lines.TextFault.TheVariants as fault
 
 -- the lines of a text, each ended by LF but for the last
 abbrev pub lines_of : List ℕ → List (List ℕ)
@@ -21,3 +23,8 @@ pub record IsFirstFault {X : Type 0} (Says : List ℕ → X → Type 0) (lines :
   pub none : (item : X) → ¬ (Says (slice_index_or lines index []) item)
   pub before : List X
   pub sound : AreSaid Says (take index lines) before
+
+-- why a text of these lines can't be read: a line says nothing, or memory ran out
+abbrev pub IsFaultOf : {X : Type 0} → (List ℕ → X → Type 0) → List (List ℕ) → TextFault → Type 0
+IsFaultOf Says lines (fault.Line number) = IsFirstFault Says lines number
+IsFaultOf Says lines fault.NoMemory = ⊤

@@ -1,11 +1,8 @@
 -- What a manifest's text says.
-use Rattle.std.specs.Prelude.{◌≡◌, ℕ, ◌+◌, ◌≤◌, ◌==◌, ◌++◌, List, None, Option, Some, codes, drop, option_map, position, take, ⊤}
+use Rattle.std.specs.Prelude.{◌≡◌, ℕ, ◌+◌, ◌≤◌, ◌==◌, ◌++◌, List, None, Option, Some, codes, drop, option_map, position, take}
 use Rattle.std.specs.Str.Parse.{IsNumeral, digits_value}
-use Rattle.commands.specs.Lines.{IsFirstFault}
 use Rattle.commands.specs.declared.manifest.Line.{Line}
 use Rattle.commands.specs.declared.manifest.Line.TheVariants as line
-use Rattle.commands.specs.declared.manifest.ManifestFault.{ManifestFault}
-use Rattle.commands.specs.declared.manifest.ManifestFault.TheVariants as fault
 
 -- the bytes before the first blank, and those behind it
 abbrev pub split_field : List ℕ → Option (List ℕ × List ℕ)
@@ -34,13 +31,3 @@ abbrev pub IsLine : List ℕ → Line → Type 0
 IsLine text (line.Directory path) = (rest : List ℕ) × (text ≡ codes "dir " ++ rest) × IsDirectory rest path.now
 IsLine text (line.File path host) = (rest : List ℕ) × (text ≡ codes "file " ++ rest) × IsFile rest path.now host.now
 IsLine text (line.Device path major minor) = (rest : List ℕ) × (text ≡ codes "dev " ++ rest) × IsDevice rest path.now major minor
-
--- why a line says nothing: it can't be read, or memory ran out
-abbrev pub IsLineFault : List ℕ → ℕ → ManifestFault → Type 0
-IsLineFault text number (fault.Line n) = (n ≡ number) × ((l : Line) → ¬ (IsLine text l))
-IsLineFault text number fault.NoMemory = ⊤
-
--- why the lines are no manifest
-abbrev pub IsFaultOf : List (List ℕ) → ManifestFault → Type 0
-IsFaultOf lines (fault.Line number) = IsFirstFault IsLine lines number
-IsFaultOf lines fault.NoMemory = ⊤

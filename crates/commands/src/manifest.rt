@@ -1,11 +1,11 @@
 //! Manifests: what a disk image is made of, one entry a line.
-ghost use Rattle.std.specs.Prelude.{◌≡◌, ◌<◌, ◌==◌, IfErr, IfOk, IfSome, List, MatchOption, length, map, option_map, position, ℕ};
-ghost use Rattle.commands.specs.Lines.{AreSaid, lines_of};
-ghost use Rattle.commands.specs.Manifests.{IsDevice, IsDirectory, IsFaultOf, IsFile, IsLine, IsLineFault, IsMajor, split_field};
+ghost use Rattle.std.specs.Prelude.{◌≡◌, ◌<◌, ◌==◌, IfSome, List, MatchOption, length, option_map, position, ℕ};
+ghost use Rattle.commands.specs.Manifests.{IsDevice, IsDirectory, IsFile, IsLine, IsMajor, split_field};
+ghost use Rattle.commands.specs.declared.manifest.Line.{Line};
 
-use crate::lines::{after, split_lines};
+use crate::lines::{FromLine, after};
 use crate::script::count;
-use std::alloc::{AllocError, AllocFailed, Global};
+use std::alloc::{AllocError, Global};
 
 /// The highest number of a device.
 const MOST: u32 = 32767;
@@ -19,35 +19,6 @@ pub enum Line<'a> {
     File(&'a [u8], &'a [u8]),
     /// A device of this major and minor.
     Device(&'a [u8], u16, u16),
-}
-
-/// Why a text is no manifest.
-#[derive(Clone, Copy)]
-pub enum ManifestFault {
-    /// The line of this number, from 1 on, can't be read.
-    Line(usize),
-    /// Memory ran out.
-    NoMemory,
-}
-
-impl<T: Drop> From<AllocFailed<T>> for ManifestFault {
-    ghost use Rattle.commands.specs.declared.manifest.ManifestFault.TheVariants as fault;
-
-    ghost from_gives = { λ _ e. e ≡ fault.NoMemory };
-
-    fn from(_failed: AllocFailed<T>) -> Self {
-        ManifestFault::NoMemory
-    }
-}
-
-impl From<AllocError> for ManifestFault {
-    ghost use Rattle.commands.specs.declared.manifest.ManifestFault.TheVariants as fault;
-
-    ghost from_gives = { λ _ e. e ≡ fault.NoMemory };
-
-    fn from(_failed: AllocError) -> Self {
-        ManifestFault::NoMemory
-    }
 }
 
 // The place of the first blank.
@@ -107,50 +78,25 @@ fn device<'a>(rest: &'a [u8]) -> Option<(&'a [u8], u16, u16)>
     Some((path, major(first)?, major(second)?))
 }
 
-impl<'a> Line<'a> {
-    // What the line of this number says.
-    fn from_line(line: &'a [u8], number: usize) -> Result<Self, ManifestFault>
-        ensures ok { IfOk result (IsLine line.now) }
-        ensures err { IfErr result (IsLineFault line.now number) }
-    {
-        let fault = ManifestFault::Line(number);
-        if let Some(rest) = after(line, b"dir ") {
-            return Ok(Line::Directory(directory(rest).ok_or(fault)?));
-        }
-        if let Some(rest) = after(line, b"file ") {
-            return match file(rest) {
-                Some((path, host)) => Ok(Line::File(path, host)),
-                None => Err(fault),
-            };
-        }
-        let rest = after(line, b"dev ").ok_or(fault)?;
-        match device(rest) {
-            Some((path, major, minor)) => Ok(Line::Device(path, major, minor)),
-            None => Err(fault),
-        }
+// What a line says.
+fn line_of<'a>(line: &'a [u8]) -> Option<Line<'a>>
+    ensures { MatchOption result ((said : Line) → ¬ (IsLine line.now said)) (IsLine line.now) }
+{
+    if let Some(rest) = after(line, b"dir ") {
+        return Some(Line::Directory(directory(rest)?));
     }
-
-    // What lines say, in order; empty ones are passed over.
-    fn from_lines(alloc: Global, lines: &[&'a [u8]]) -> Result<Vec<Self>, ManifestFault>
-        ensures ok { IfOk result (λ said. AreSaid IsLine (map (λ line. line.now) lines.now) said.items) }
-        ensures err { IfErr result (IsFaultOf (map (λ line. line.now) lines.now)) }
-    {
-        let mut said = Vec::new(alloc);
-        for (index, line) in lines.iter().enumerate() {
-            if line.is_empty() {
-                continue;
-            }
-            said.push(Line::from_line(line, index + 1)?)?;
-        }
-        Ok(said)
+    if let Some(rest) = after(line, b"file ") {
+        let (path, host) = file(rest)?;
+        return Some(Line::File(path, host));
     }
+    let (path, major, minor) = device(after(line, b"dev ")?)?;
+    Some(Line::Device(path, major, minor))
+}
 
-    /// What the lines of a text say, in order. Lines end at LF alone, and empty ones are passed over.
-    pub fn parse(alloc: Global, text: &'a [u8]) -> Result<Vec<Self>, ManifestFault>
-        ensures ok { IfOk result (λ said. AreSaid IsLine (lines_of text.now) said.items) }
-        ensures err { IfErr result (IsFaultOf (lines_of text.now)) }
-    {
-        let lines = split_lines(alloc, text)?;
-        Self::from_lines(alloc, lines.as_slice())
+impl<'a> FromLine<'a> for Line<'a> {
+    ghost says = { IsLine };
+
+    fn from_line(_alloc: Global, line: &'a [u8]) -> Result<Option<Self>, AllocError> {
+        Ok(line_of(line))
     }
 }

@@ -3,11 +3,12 @@ mod images;
 
 use crate::host::Host;
 use crate::jobs::{Check, Flat, Job, Mkfs};
+use crate::lines::{TextFault, parse};
 use crate::play::play;
 use crate::report::{End, Failure};
-use crate::script::{Command, ScriptFault};
+use crate::script::Command;
 use console::Writer;
-use machine::{BootFault, Halt, boot_flat};
+use machine::{Halt, boot_flat};
 use std::alloc::Global;
 use std::io::Write;
 
@@ -25,32 +26,39 @@ fn script_of<'a, 'b>(
     let Ok(text) = str::from_utf8(bytes) else {
         return Err(Failure::Read(name));
     };
-    match Command::parse(alloc, text.as_bytes()) {
+    match parse(alloc, text.as_bytes()) {
         Ok(commands) => Ok(commands),
-        Err(ScriptFault::Line(line)) => Err(Failure::Script(line)),
-        Err(ScriptFault::NoMemory) => Err(Failure::NoMemory),
+        Err(TextFault::Line(line)) => Err(Failure::Script(line)),
+        Err(TextFault::NoMemory) => Err(Failure::NoMemory),
+    }
+}
+
+// How a run ended. Bytes that the writer had kept back and cannot write are lost: then the console failed.
+fn end_of(ended: Result<(), Halt>, is_written: bool) -> End {
+    if !is_written {
+        return End::Halted(Halt::Console);
+    }
+    match ended {
+        Ok(()) => End::Running,
+        Err(halt) => End::Halted(halt),
     }
 }
 
 // Boots a flat program and gives it the events of a script.
-fn run_flat<W: Write>(
+fn run_flat<'a, W: Write>(
     alloc: Global,
     program: &[u8],
     frames: u32,
     script: &[Command<'_>],
     stdout: &mut W,
-) -> Result<End, BootFault> {
-    let mut machine = boot_flat(alloc, program, frames)?;
+) -> Result<End, Failure<'a>> {
+    let mut machine = match boot_flat(alloc, program, frames) {
+        Ok(machine) => machine,
+        Err(fault) => return Err(Failure::Boot(fault)),
+    };
     let mut out = Writer::new(stdout);
     let ended = play(&mut machine, script, &mut out);
-    // Bytes that the writer had kept back and cannot write are lost: then the console failed.
-    if out.into_inner().flush().is_err() {
-        return Ok(End::Halted(Halt::Console));
-    }
-    match ended {
-        Ok(()) => Ok(End::Running),
-        Err(halt) => Ok(End::Halted(halt)),
-    }
+    Ok(end_of(ended, out.into_inner().flush().is_ok()))
 }
 
 // The command `flat`. Its files are read in the order of the command line, and the script is
@@ -64,17 +72,13 @@ fn flat<'a, H: Host, W: Write>(
     let program = read(host, words.file)?;
     let bytes = read(host, words.script)?;
     let script = script_of(alloc, words.script, bytes.as_slice())?;
-    let booted = run_flat(
+    run_flat(
         alloc,
         program.as_slice(),
         words.frames,
         script.as_slice(),
         stdout,
-    );
-    match booted {
-        Ok(end) => Ok(end),
-        Err(fault) => Err(Failure::Boot(fault)),
-    }
+    )
 }
 
 // Tells why a job was not done, and answers the status to exit with.

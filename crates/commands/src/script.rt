@@ -4,4 +4,4 @@ mod fields;
 mod lines;
 
 pub use fields::count;
-pub use lines::{Command, ScriptFault};
+pub use lines::Command;

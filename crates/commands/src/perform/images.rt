@@ -1,7 +1,8 @@
 //! Makes and checks disk images.
 use crate::host::Host;
 use crate::jobs::{Check, Mkfs};
-use crate::manifest::{Line, ManifestFault};
+use crate::lines::{TextFault, parse};
+use crate::manifest::Line;
 use crate::perform::read;
 use crate::report::Failure;
 use blockdev::MemDisk;
@@ -17,10 +18,10 @@ fn lines_of<'a>(
     if str::from_utf8(text).is_err() {
         return Err(Failure::Read(name));
     }
-    match Line::parse(alloc, text) {
+    match parse(alloc, text) {
         Ok(lines) => Ok(lines),
-        Err(ManifestFault::Line(line)) => Err(Failure::Manifest(line)),
-        Err(ManifestFault::NoMemory) => Err(Failure::NoMemory),
+        Err(TextFault::Line(line)) => Err(Failure::Manifest(line)),
+        Err(TextFault::NoMemory) => Err(Failure::NoMemory),
     }
 }
 
