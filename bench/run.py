@@ -2,19 +2,18 @@
 """Times `xv6 flat` on flat programs, beside a plain Rust interpreter of the same design, and `xv6 mkfs`
 and `xv6 check` on full images.
 
-    bench/run.py PROGRAM
-
-PROGRAM is the built `xv6`. Each flat program runs in both, turn by turn, and the least processor
-times, their ratio and the peak memory of `xv6` are printed. Two programs take more than 100 million
-steps. Three ask for memory and give it back, so many pages at a time; the last two of these take as
-long as each other where a page costs the same however large the space is. Two have many processes:
-children that are waited for, and 64 that share the hart by a timer. The last two move bytes: through
-a pipe from one process to another, and from the keys to the console. `rustc` has to be in the PATH.
+Each flat program runs in both, turn by turn, and the least processor times, their ratio and the peak
+memory of `xv6` are printed. Two programs take more than 100 million steps. Three ask for memory and
+give it back, so many pages at a time; the last two of these take as long as each other where a page
+costs the same however large the space is. Two have many processes: children that are waited for, and
+64 that share the hart by a timer. The last two move bytes: through a pipe from one process to another,
+and from the keys to the console. `rustc` has to be in the PATH.
 
 The images have as many inodes and blocks as they can hold, all in use: one of 16384 blocks and 8192
 inodes, and one of half of both, beside which the other may take twice as long.
 """
 
+import argparse
 import os
 import pathlib
 import subprocess
@@ -119,10 +118,19 @@ def time_images(program, room):
               f"ratio {full / half:.2f}, peak {took[1][2]} KiB", flush=True)
 
 
+def program_of_words():
+    """The program that the command line names."""
+    how = argparse.RawDescriptionHelpFormatter
+    words = argparse.ArgumentParser(description=__doc__, formatter_class=how)
+    words.add_argument("program", metavar="PROGRAM", type=pathlib.Path, help="the built xv6")
+    program = words.parse_args().program.resolve()
+    if not (program.is_file() and os.access(program, os.X_OK)):
+        words.error(f"{program} is no program: `make build` makes crates/xv6/out/xv6")
+    return program
+
+
 def main():
-    if len(sys.argv) != 2:
-        sys.exit(__doc__)
-    program = pathlib.Path(sys.argv[1]).resolve()
+    program = program_of_words()
     with tempfile.TemporaryDirectory() as folder:
         room = pathlib.Path(folder)
         baseline, script, image = room / "baseline", room / "script", room / "program"
