@@ -18,6 +18,7 @@ pub mod Reap
 pub mod Outcome
 pub mod ProcessCalls
 pub mod FileCalls
+pub mod NameCalls
 pub mod Calls
 pub mod Turn
 pub mod Next
@@ -26,3 +27,9 @@ pub mod Start
 pub mod Shown
 pub mod Manifest
 pub mod ElfFile
+pub mod Names
+pub mod Disassembly
+pub mod Tokens
+pub mod Operands
+pub mod Statements
+pub mod Assembly

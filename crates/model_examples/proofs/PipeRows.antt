@@ -1,10 +1,10 @@
 -- Small cases of descriptors, pipes and turns.
 use Rattle.std.specs.Prelude.{None, Some, [], length, refl, replicate, unwrap_or, ℕ, ◌++◌, ◌∷◌, ◌≡◌}
 use Rattle.std.specs.List.{range_with_len}
-use Rattle.modelrows.proofs.FamilyRows.{fork}
-use Rattle.modelrows.proofs.Opened.{all_opened}
-use Rattle.modelrows.proofs.ProcessRows.{free_after, sbrk}
-use Rattle.modelrows.proofs.Scripts.{Asked, answer_at, ask, ask_all, bytes_in, flat_state, on_flat, plain, runs_with}
+use Rattle.model_examples.proofs.FamilyRows.{fork}
+use Rattle.model_examples.proofs.Opened.{all_opened}
+use Rattle.model_examples.proofs.ProcessRows.{free_after, sbrk}
+use Rattle.model_examples.proofs.Scripts.{Asked, answer_at, ask, ask_all, bytes_in, flat_state, on_flat, plain, runs_with}
 use Rattle.unixmodel.specs.declared.event.Event.TheVariants.{Step, Tick}
 use Rattle.unixmodel.specs.Files.{slot}
 use Rattle.unixmodel.specs.Outcome.{minus_one}

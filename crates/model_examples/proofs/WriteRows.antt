@@ -1,7 +1,7 @@
 -- Small cases of writes to the console and to files.
 use Rattle.std.specs.Prelude.{List, codes, map, refl, true, unwrap_or, [], ℕ, ◌∷◌, ◌≡◌}
-use Rattle.modelrows.proofs.Opened.{all_opened}
-use Rattle.modelrows.proofs.Scripts.{Asked, answer_at, answers_to, ask, ask_all, flat_state, plain}
+use Rattle.model_examples.proofs.Opened.{all_opened}
+use Rattle.model_examples.proofs.Scripts.{Asked, answer_at, answers_to, ask, ask_all, flat_state, plain}
 use Rattle.unixmodel.specs.Counts.{blocks_of}
 use Rattle.unixmodel.specs.FileCalls.{with_descriptor}
 use Rattle.unixmodel.specs.Files.{enter, put}

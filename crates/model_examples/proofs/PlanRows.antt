@@ -1,7 +1,7 @@
 -- Small cases of programs.
 use Rattle.std.specs.Prelude.{List, None, Some, [], codes, false, is_some, length, option_map, pos, refl, replicate, ℕ, ◌++◌, ◌∷◌, ◌≡◌}
-use Rattle.modelrows.proofs.FlatRows.{bytes_and_end, hi_program, nine_steps}
-use Rattle.modelrows.proofs.Opened.{all_opened}
+use Rattle.model_examples.proofs.FlatRows.{bytes_and_end, hi_program, nine_steps}
+use Rattle.model_examples.proofs.Opened.{all_opened}
 use Rattle.unixmodel.specs.ElfFile.{elf_file, elf_header, program_header}
 use Rattle.unixmodel.specs.Files.{Files, dot, dot_dot}
 use Rattle.unixmodel.specs.Files.Node.{Directory, File}

@@ -4,8 +4,8 @@ use Rattle.unixmodel.specs.declared.call.Call.TheVariants.{Read}
 use Rattle.unixmodel.specs.declared.event.Event.{Event}
 use Rattle.unixmodel.specs.declared.event.Event.TheVariants.{Key, Step}
 use Rattle.unixmodel.specs.declared.process.Mode.TheVariants.{Waiting}
-use Rattle.modelrows.proofs.Opened.{all_opened}
-use Rattle.modelrows.proofs.Scripts.{Asked, answer_at, answers_to, ask, bytes_in, flat_state, mode_of, plain}
+use Rattle.model_examples.proofs.Opened.{all_opened}
+use Rattle.model_examples.proofs.Scripts.{Asked, answer_at, answers_to, ask, bytes_in, flat_state, mode_of, plain}
 use Rattle.unixmodel.specs.Calls.{After}
 use Rattle.unixmodel.specs.Memory.{read_bytes}
 use Rattle.unixmodel.specs.Run.{run}

@@ -4,7 +4,7 @@ use Rattle.std.proofs.Common.{ap, arith, eqb→eq, inl, inr, lit≤, subst, sym,
 use Rattle.std.proofs.lemmas.Bool.{cases_eq}
 use Rattle.std.proofs.lemmas.List.Sums.{AllPass-from_list_all}
 use Rattle.std.specs.List.{range_with_len}
-use Rattle.modelrows.proofs.Opened.{all_opened}
+use Rattle.model_examples.proofs.Opened.{all_opened}
 use Rattle.unixmodel.specs.Files.{Entry, dot, dot_dot, find, node_bytes, slot, taken}
 use Rattle.unixmodel.specs.Image.{Denotes, HasSuper, IsDirectory, KeepsNode, KeepsRules, KeepsSize, Stands, all_unused, bit_of, contents_in, is_data_block, is_name, is_named, named_blocks, names_of, numbers_in_use, parent_of, subdirectories, super_number}
 use Rattle.unixmodel.specs.Memory.{zeros}

@@ -3,7 +3,7 @@
 use Rattle.std.specs.Prelude.{Err, List, None, Ok, Option, Some, false, is_some, negsuc, option_and_then, option_map, pos, refl, replicate, slice_index, true, [], ℕ, ℤ, ◌++◌, ◌∷◌, ◌≡◌}
 use Rattle.unixmodel.specs.declared.event.Event.{Event}
 use Rattle.unixmodel.specs.declared.event.Event.TheVariants.{Step, Tick}
-use Rattle.modelrows.proofs.Opened.{all_opened}
+use Rattle.model_examples.proofs.Opened.{all_opened}
 use Rattle.unixmodel.specs.Calls.{After}
 use Rattle.unixmodel.specs.Numbers.{le}
 use Rattle.unixmodel.specs.Run.{run}

@@ -1,7 +1,7 @@
 -- Small manifests: what they make, and what is wrong with others.
 use Rattle.std.specs.Prelude.{Err, List, None, Ok, Option, Result, Some, [], codes, length, map, refl, replicate, ℕ, ◌++◌, ◌+◌, ◌∷◌, ◌≡◌}
 use Rattle.std.specs.List.{range_with_len}
-use Rattle.modelrows.proofs.Opened.{all_opened}
+use Rattle.model_examples.proofs.Opened.{all_opened}
 use Rattle.unixmodel.specs.Counts.{blocks_of}
 use Rattle.unixmodel.specs.Files.{Files, find, links_of, slot, taken}
 use Rattle.unixmodel.specs.Manifest.{ManifestEntry, Wrong, data_blocks_of, files_made}

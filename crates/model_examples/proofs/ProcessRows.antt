@@ -2,8 +2,8 @@
 use Rattle.std.specs.Prelude.{List, None, Option, Some, length, negsuc, pos, refl, [], ℕ, ◌++◌, ◌-◌, ◌^◌, ◌∷◌, ◌≡◌, ℤ}
 use Rattle.unixmodel.specs.declared.event.Event.TheVariants.{Step, Tick}
 use Rattle.unixmodel.specs.declared.process.Mode.TheVariants.{Zombie}
-use Rattle.modelrows.proofs.Opened.{all_opened}
-use Rattle.modelrows.proofs.Scripts.{Asked, answers_to, ask, ask_all, bytes_in, flat_state, mode_of, on_flat, plain}
+use Rattle.model_examples.proofs.Opened.{all_opened}
+use Rattle.model_examples.proofs.Scripts.{Asked, answers_to, ask, ask_all, bytes_in, flat_state, mode_of, on_flat, plain}
 use Rattle.unixmodel.specs.Counts.{frames_of, free_frames}
 use Rattle.unixmodel.specs.Memory.{write_bytes}
 use Rattle.unixmodel.specs.Outcome.{minus_one}

@@ -12,7 +12,7 @@ use Rattle.unixmodel.specs.declared.instr.StoreOp.{StoreOp}
 use Rattle.unixmodel.specs.declared.instr.StoreOp.TheVariants.{Sb, Sd, Sh, Sw}
 use Rattle.unixmodel.specs.declared.trap.Cause.TheVariants.{InstructionMisaligned, LoadMisaligned, LoadPageFault, StoreMisaligned, StorePageFault}
 use Rattle.unixmodel.specs.declared.trap.Trap.{Trap}
-use Rattle.modelrows.proofs.Opened.{all_opened}
+use Rattle.model_examples.proofs.Opened.{all_opened}
 use Rattle.unixmodel.specs.Meaning.{Effect, act}
 use Rattle.unixmodel.specs.Memory.{Memory, Page, pages_of, zero_page, zeros}
 use Rattle.unixmodel.specs.Next.{memory_after}

@@ -1,7 +1,7 @@
 -- Small cases of the page-table walk.
 use Rattle.std.specs.Prelude.{Bool, List, None, Option, Some, false, is_some, map, refl, true, [], ℕ, ◌*◌, ◌++◌, ◌+◌, ◌-◌, ◌^◌, ◌∷◌, ◌≡◌}
 use Rattle.unixmodel.specs.declared.trap.Access.TheVariants.{Fetch, Load, Store}
-use Rattle.modelrows.proofs.Opened.{all_opened}
+use Rattle.model_examples.proofs.Opened.{all_opened}
 use Rattle.unixmodel.specs.Memory.{zeros}
 use Rattle.unixmodel.specs.Numbers.{le}
 use Rattle.unixmodel.specs.Translation.{walk, walk_count}

@@ -1,8 +1,8 @@
 -- Small cases of many processes: fork, exit, wait, kill, sleep and the turn.
 use Rattle.std.specs.Prelude.{None, Some, [], negsuc, option_map, refl, replicate, ℕ, ◌++◌, ◌∷◌, ◌≡◌}
-use Rattle.modelrows.proofs.Opened.{all_opened}
-use Rattle.modelrows.proofs.ProcessRows.{below_zero, free_after}
-use Rattle.modelrows.proofs.Scripts.{Asked, answers_to, ask, ask_all, bytes_in, flat_state, on_flat, plain, runs_with}
+use Rattle.model_examples.proofs.Opened.{all_opened}
+use Rattle.model_examples.proofs.ProcessRows.{below_zero, free_after}
+use Rattle.model_examples.proofs.Scripts.{Asked, answers_to, ask, ask_all, bytes_in, flat_state, on_flat, plain, runs_with}
 use Rattle.unixmodel.specs.Counts.{frames_of, free_frames}
 use Rattle.unixmodel.specs.declared.event.Event.TheVariants.{Step, Tick}
 use Rattle.unixmodel.specs.declared.process.Mode.TheVariants.{Zombie}
