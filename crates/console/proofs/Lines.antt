@@ -3,7 +3,7 @@ use Rattle.std.proofs.Common.{◌≡◌, ◌<◌, ℕ, zero, suc, ◌+◌, ◌-�
 use Rattle.unixmodel.specs.Console.{commit, with_byte}
 use Rattle.console.specs.Line.{line_of, without_last}
 use Rattle.ring.specs.Ring.{ring}
-use Rattle.ring.specs.RingLemmas.{length-ring, take-ring, ring-append, ring-around, ring-set_behind, ring-push}
+use Rattle.ring.proofs.RingLemmas.{length-ring, take-ring, ring-append, ring-around, ring-set_behind, ring-push}
 
 pub line-push : (xs : List ℕ) (k c e b : ℕ) → length xs ≡ 128 → k < 128 → c + e < 128 → line_of (set xs ((k + c + e) % 128) b) k c (e + 1) ≡ with_byte (line_of xs k c e) b
 line-push xs k c e b full start fits =

@@ -27,7 +27,9 @@ enum Change {
 /// What a read took: how many bytes, and whether it is over.
 #[derive(Clone, Copy, Debug, PartialEq, Eq)]
 pub struct Taken {
+    /// How many bytes it took.
     pub count: usize,
+    /// It answers now, and takes no more.
     pub over: bool,
 }
 

@@ -5,4 +5,3 @@ pub mod Mapped
 pub mod Counts
 pub mod Whole
 pub mod Pipes
-pub mod Free

@@ -72,7 +72,7 @@ impl Frames {
         ensures valid { IsFreeList ram.new self.new }
         ensures others { SameBut (frame.0 ∷ []) ram.old ram.new }
     {
-        let _count = ram.frame_count();
+        ram.frames_are_whole();
         ram.store_u32(frame, 0, self.first.0);
         self.first = frame;
         self.count += 1;

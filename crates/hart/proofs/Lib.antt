@@ -1,3 +1,7 @@
 pub mod Bytes
-pub mod Effects
 pub mod Mappings
+pub mod Steps
+pub mod ChangeLemmas
+pub mod CycleLemmas
+pub mod FollowsLemmas
+pub mod Registers

@@ -1,11 +1,11 @@
 -- A hart does what an effect says.
 use Rattle.std.specs.Prelude.{ℕ, ◌≡◌, List, Option, Some, None, MatchResult}
 use Rattle.unixmodel.specs.declared.trap.Trap.{Trap}
-use Rattle.unixmodel.specs.Meaning.{Change, Effect}
+use Rattle.unixmodel.specs.Meaning.{Effect}
 use Rattle.unixmodel.specs.Meaning.Change.{Nothing}
 use Rattle.sv39.specs.Mapping.{Mapped}
 use Rattle.hart.specs.Changes.{changed}
-use Rattle.hart.specs.declared.hart.Hart.{Hart}
+use Rattle.hart.specs.declared.state.Hart.{Hart}
 
 -- The registers and the pc are the effect's, and it writes no memory. A trap changes nothing.
 abbrev pub Computes : Effect → Option Trap → Hart → Hart → Type 0

@@ -1,7 +1,4 @@
-pub mod Locates
+pub mod Sizes
 pub mod Changes
-pub mod Registers
 pub mod Follows
-pub mod CycleLemmas
-pub mod ChangeLemmas
-pub mod FollowsLemmas
+pub mod Answered

@@ -4,9 +4,9 @@ ghost use Rattle.std.specs.Result.{result_ok};
 ghost use Rattle.unixmodel.specs.Numbers.{le, number};
 ghost use Rattle.unixmodel.specs.Memory.{overwrite};
 ghost use Rattle.unixmodel.specs.Meaning.{load_size, loaded, store_size};
-ghost use Rattle.unixmodel.specs.Translation.{HoldsInside, IsKept};
-ghost use Rattle.sv39.specs.Mapping.{Mapped, Shows};
-ghost use Rattle.hart.specs.Locates.{IsSize, Locates};
+ghost use Rattle.std.specs.Option.{option_map};
+ghost use Rattle.unixmodel.specs.Translation.{HoldsInside, IsAnswer, IsKept, place_in};
+ghost use Rattle.hart.specs.Sizes.{IsSize};
 
 use crate::bits;
 use ram::{FrameNo, Ram};
@@ -75,12 +75,11 @@ pub fn locate<T: Translate>(
     access: Access,
 ) -> Option<FrameNo>
     requires { HoldsInside (T.held trans.old) ram.now }
-    ensures located { (mapping : List Mapped) → Shows (T.held trans.old) ram.now root.0 mapping → Locates ram.now mapping address access result }
+    ensures answer { IsAnswer (T.held trans.old) ram.now root.0 address access (option_map (λ f. place_in address f.0) result) }
     ensures inside { IfSome result (λ f. f.0 < length ram.now) }
     ensures kept { IsKept (T.held trans.old) (T.held trans.new) ram.now root.0 }
 {
-    // no memory has more frames than a u32 counts
-    let _count = ram.frame_count();
+    ram.frames_are_whole();
     match trans.translate(ram, root, address, access) {
         Ok(physical) => Some(FrameNo((physical / 4096 - BASE) as u32)),
         Err(Fault) => None,

@@ -3,17 +3,18 @@
 //! From the RISC-V unprivileged manual, its chapters on RV32I and RV64I. An instruction that raises a trap changes
 //! nothing; the address that is told with it is the target of a jump, the accessed address of a load or store, and
 //! else the pc.
-ghost use Rattle.std.specs.Prelude.{◌≡◌, ◌%◌, ◌/◌, ◌<◌, ◌+◌, ◌*◌, ◌^◌, ◌==◌, ◌≤◌, Option, Some, None, ℕ, List, length, slice_index, option_map};
+ghost use Rattle.std.specs.Prelude.{◌≡◌, ◌%◌, ◌/◌, ◌<◌, ◌+◌, ◌*◌, ◌^◌, ◌==◌, ◌≤◌, Option, Some, None, ℕ, List, length, slice_index, IfSome, IfNone};
 ghost use Rattle.unixmodel.specs.Numbers.{number};
-ghost use Rattle.unixmodel.specs.Memory.{bytes_at, page_for};
-ghost use Rattle.unixmodel.specs.Meaning.{act, branch, jump, load, set_register, store, write};
+ghost use Rattle.unixmodel.specs.Memory.{bytes_at};
+ghost use Rattle.unixmodel.specs.Meaning.{branch, jump, set_register, write};
 ghost use Rattle.unixmodel.specs.Cycle.{cycle};
-ghost use Rattle.unixmodel.specs.Translation.{HoldsInside, IsKept};
+ghost use Rattle.unixmodel.specs.Translation.{HoldsInside, IsAnswer, IsKept, place_in};
 ghost use Rattle.sv39.specs.Mapping.{Mapped, Shows, memory_of};
+ghost use Rattle.hart.specs.Answered.{IsStep, act_by, cycle_by, given, load_by, store_by};
 ghost use Rattle.hart.specs.Follows.{Computes, Follows};
 
 use crate::access::{is_aligned, load_size, load_value, locate, place, store_size, store_value};
-use crate::hart::Hart;
+use crate::state::Hart;
 use crate::{alu, bits};
 use isa::decode;
 use ram::Ram;
@@ -107,8 +108,7 @@ impl Hart {
         trans: &mut T,
     ) -> Option<Trap>
         requires { HoldsInside (T.held trans.old) ram.now }
-        ensures step { (mapping : List Mapped) → Shows (T.held trans.old) ram.now self.old.root.0 mapping →
-            Computes (load self.old.registers self.old.pc (memory_of ram.now mapping) op rd address) result self.old self.new }
+        ensures step { IsStep (T.held trans.old) (load_by self.old.registers self.old.pc op rd address) result self.old self.new ram.now ram.now }
         ensures kept { IsKept (T.held trans.old) (T.held trans.new) ram.now self.old.root.0 }
     {
         if !is_aligned(address, load_size(op)) {
@@ -131,8 +131,7 @@ impl Hart {
         trans: &mut T,
     ) -> Option<Trap>
         requires { HoldsInside (T.held trans.old) ram.old }
-        ensures step { (mapping : List Mapped) → Shows (T.held trans.old) ram.old self.old.root.0 mapping →
-            Follows (store self.old.registers self.old.pc (memory_of ram.old mapping) op address value) mapping result self.old self.new ram.old ram.new }
+        ensures step { IsStep (T.held trans.old) (store_by self.old.registers self.old.pc op address value) result self.old self.new ram.old ram.new }
         ensures kept { IsKept (T.held trans.old) (T.held trans.new) ram.old self.old.root.0 }
         ensures count { length ram.new ≡ length ram.old }
     {
@@ -153,8 +152,9 @@ impl Hart {
     #[tactic(auto, using(crate::proofs::Bytes::number_of_word))]
     fn fetch<T: Translate>(&self, ram: &Ram, trans: &mut T) -> Option<u32>
         requires { HoldsInside (T.held trans.old) ram.now }
-        ensures fetched { (mapping : List Mapped) → Shows (T.held trans.old) ram.now self.now.root.0 mapping →
-            result ≡ option_map (λ p. number (bytes_at 4 self.now.pc p)) (page_for Access.Fetch (memory_of ram.now mapping) self.now.pc) }
+        ensures fault { IfNone result (IsAnswer (T.held trans.old) ram.now self.now.root.0 self.now.pc Access.Fetch None) }
+        ensures word { IfSome result (λ word. (f : ℕ) × IsAnswer (T.held trans.old) ram.now self.now.root.0 self.now.pc Access.Fetch (Some (place_in self.now.pc f))
+            × (word ≡ number (bytes_at 4 self.now.pc (given ram.now f)))) }
         ensures kept { IsKept (T.held trans.old) (T.held trans.new) ram.now self.now.root.0 }
     {
         let f = locate(trans, ram, self.root, self.pc, Access::Fetch)?;
@@ -163,11 +163,10 @@ impl Hart {
 
     /// Does an instruction. Registers are read before rd is written.
     #[inline]
-    #[tactic(auto, using(crate::proofs::Effects::follows_computes), unfolding(unixmodel::specs::Meaning::act))]
+    #[tactic(auto, using(crate::proofs::Steps::step_acts), unfolding(unixmodel::specs::Meaning::act, crate::specs::Answered::act_by))]
     fn execute<T: Translate>(&mut self, i: Instr, ram: &mut Ram, trans: &mut T) -> Option<Trap>
         requires { HoldsInside (T.held trans.old) ram.old }
-        ensures step { (mapping : List Mapped) → Shows (T.held trans.old) ram.old self.old.root.0 mapping →
-            Follows (act i self.old.registers self.old.pc (memory_of ram.old mapping)) mapping result self.old self.new ram.old ram.new }
+        ensures step { IsStep (T.held trans.old) (act_by i self.old.registers self.old.pc) result self.old self.new ram.old ram.new }
         ensures kept { IsKept (T.held trans.old) (T.held trans.new) ram.old self.old.root.0 }
         ensures count { length ram.new ≡ length ram.old }
     {
@@ -242,11 +241,11 @@ impl Hart {
         }
     }
 
-    /// Does one instruction, or says why it isn't done.
-    pub fn step<T: Translate>(&mut self, ram: &mut Ram, trans: &mut T) -> Option<Trap>
+    /// Fetches, decodes and executes.
+    #[inline(always)]
+    fn cycle<T: Translate>(&mut self, ram: &mut Ram, trans: &mut T) -> Option<Trap>
         requires { HoldsInside (T.held trans.old) ram.old }
-        ensures step { (mapping : List Mapped) → Shows (T.held trans.old) ram.old self.old.root.0 mapping →
-            Follows (cycle self.old.registers self.old.pc (memory_of ram.old mapping)) mapping result self.old self.new ram.old ram.new }
+        ensures step { IsStep (T.held trans.old) (cycle_by self.old.registers self.old.pc) result self.old self.new ram.old ram.new }
         ensures kept { IsKept (T.held trans.old) (T.held trans.new) ram.old self.old.root.0 }
         ensures count { length ram.new ≡ length ram.old }
     {
@@ -257,5 +256,22 @@ impl Hart {
             Some(i) => self.execute(i, ram, trans),
             None => trap(Cause::IllegalInstruction, self.pc),
         }
+    }
+
+    /// Does one instruction, or says why it isn't done.
+    ///
+    /// `answered` holds whatever the tables are, and for every translator; `trap` is a part of it. `step` is what follows
+    /// where all answers that the translator may give are those of a mapping: then the registers, the pc and the frames
+    /// are the instruction's on the memory which that mapping shows.
+    pub fn step<T: Translate>(&mut self, ram: &mut Ram, trans: &mut T) -> Option<Trap>
+        requires { HoldsInside (T.held trans.old) ram.old }
+        ensures answered { IsStep (T.held trans.old) (cycle_by self.old.registers self.old.pc) result self.old self.new ram.old ram.new }
+        ensures trap { IfSome result (λ t. (self.new ≡ self.old) × (ram.new ≡ ram.old)) }
+        ensures step { (mapping : List Mapped) → Shows (T.held trans.old) ram.old self.old.root.0 mapping →
+            Follows (cycle self.old.registers self.old.pc (memory_of ram.old mapping)) mapping result self.old self.new ram.old ram.new }
+        ensures kept { IsKept (T.held trans.old) (T.held trans.new) ram.old self.old.root.0 }
+        ensures count { length ram.new ≡ length ram.old }
+    {
+        self.cycle(ram, trans)
     }
 }

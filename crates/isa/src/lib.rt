@@ -12,3 +12,4 @@ mod operations;
 
 pub use decoder::decode;
 pub use encoder::encode;
+pub use unixmodel::instr::Instr;

@@ -2,11 +2,4 @@ pub mod Tree
 pub mod TreeLemmas
 pub mod Marks
 pub mod Agree
-pub mod Shown
-pub mod Beside
-pub mod Unlink
 pub mod Shape
-pub mod ShapeLemmas
-pub mod EmptyLemmas
-pub mod LookupLemmas
-pub mod UnmapLemmas

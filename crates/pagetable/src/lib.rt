@@ -2,8 +2,6 @@
 //! entries, each table in a frame of its own. A page's number is its address divided by 4096; its
 //! bits 26 to 18, 17 to 9 and 8 to 0 are its indexes in the tables of the three levels.
 //!
-//! A call of `frame_count` whose result is not used is there for what its contract says of the memory.
-//!
 //! Contracts see a page table as a map: `lookup_of m root page` is the frame and the marks of a page.
 //! `walks_by_map` says that the walk of the hardware gives what the map gives.
 #![tactic(auto)]
@@ -79,7 +77,7 @@ fn child(ram: &Ram, table: FrameNo, index: u64) -> Option<FrameNo>
     requires sound { IsTableEntry (length ram.now) (entry_of ram.now table.0 index) }
     ensures { option_map (λ f. f.0) result ≡ child_of (entry_of ram.now table.0 index) }
 {
-    let _count = ram.frame_count();
+    ram.frames_are_whole();
     let entry = ram.load_u64(table, ENTRY_SIZE * index as usize);
     if entry == 0 {
         None
@@ -96,7 +94,7 @@ fn leaf(ram: &Ram, table: FrameNo, index: u64) -> Option<(FrameNo, Marks)>
     requires sound { IsLeafEntry (length ram.now) (entry_of ram.now table.0 index) }
     ensures { option_map (λ x. (x.0.0, x.1.0)) result ≡ leaf_of (entry_of ram.now table.0 index) }
 {
-    let _count = ram.frame_count();
+    ram.frames_are_whole();
     let entry = ram.load_u64(table, ENTRY_SIZE * index as usize);
     if entry == 0 {
         None
@@ -119,12 +117,12 @@ fn link(ram: &mut Ram, frames: &mut Frames, table: FrameNo, index: u64) -> Frame
     ensures valid { IsFreeList ram.new frames.new }
     ensures links { Links ram.old ram.new table.0 index result.0 }
 {
-    let _count = ram.frame_count();
+    ram.frames_are_whole();
     let Some(fresh) = frames.take(ram) else {
         unreachable!()
     };
     ram.zero(fresh);
-    let _after = ram.frame_count();
+    ram.frames_are_whole();
     ram.store_u64(
         table,
         ENTRY_SIZE * index as usize,
@@ -140,7 +138,7 @@ fn write(ram: &mut Ram, table: FrameNo, index: u64, frame: FrameNo, marks: Marks
     requires marks { marks.0 < 1024 }
     ensures { Writes ram.old ram.new table.0 index (leaf_entry frame.0 marks.0) }
 {
-    let _count = ram.frame_count();
+    ram.frames_are_whole();
     ram.store_u64(
         table,
         ENTRY_SIZE * index as usize,
@@ -169,7 +167,7 @@ fn clear(ram: &mut Ram, table: FrameNo, index: u64)
     requires index { index < 512 }
     ensures { Writes ram.old ram.new table.0 index 0 }
 {
-    let _count = ram.frame_count();
+    ram.frames_are_whole();
     ram.store_u64(table, ENTRY_SIZE * index as usize, 0);
 }
 
@@ -186,7 +184,7 @@ impl PageTable {
         ensures bytes { IfSome result (λ t. ram.new ≡ slice_set ram.old t.root.0 (replicate 4096 0)) }
         ensures none { IfNone result ((free_of ram.old frames.old ≡ []) × (ram.new ≡ ram.old) × (frames.new ≡ frames.old)) }
     {
-        let _count = ram.frame_count();
+        ram.frames_are_whole();
         match frames.take(ram) {
             Some(root) => {
                 ram.zero(root);
@@ -232,12 +230,12 @@ impl PageTable {
     /// where its leaf allows the access and bits 63 to 39 of its addresses equal bit 38, and a fault
     /// elsewhere.
     ///
-    /// It runs no code that matters; its contract is the theorem.
+    /// It runs no code; its contract is the theorem.
     pub fn walks_by_map(&self, ram: &Ram)
         requires { IsTree ram.now self.now.root.0 }
         ensures { (page : ℕ) (access : Access) → (walk_page ram.now self.now.root.0 page access).frame ≡ given_frame ram.now self.now.root.0 page access }
     {
-        let _count = ram.frame_count();
+        ram.frames_are_whole();
     }
 
     // Makes the table of the middle level on the way to a page.
@@ -458,6 +456,7 @@ impl PageTable {
     /// Gives back the root of a page table that maps nothing, which is its only table.
     pub fn destroy(self, ram: &mut Ram, frames: &mut Frames)
         requires paged { IsPaged ram.old self.root.0 frames.old }
+        requires empty { IsEmpty ram.old self.root.0 }
         ensures given { free_of ram.new frames.new ≡ self.root.0 ∷ free_of ram.old frames.old }
         ensures valid { IsFreeList ram.new frames.new }
         ensures others { SameBut (self.root.0 ∷ []) ram.old ram.new }

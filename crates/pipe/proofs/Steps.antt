@@ -4,7 +4,7 @@ use Rattle.std.proofs.lemmas.Bool.{cases_lt}
 use Rattle.std.proofs.lemmas.List.{take_all, take_at, take_more}
 use Rattle.ram.specs.Memory.{frame_of, sized}
 use Rattle.ring.specs.Ring.{ring}
-use Rattle.ring.specs.RingLemmas.{drop-ring, length-ring, ring-append, ring-around, ring-push, take-ring}
+use Rattle.ring.proofs.RingLemmas.{drop-ring, length-ring, ring-append, ring-around, ring-push, take-ring}
 
 -- the first bytes are written, and then one more
 pub append-more : (ys xs bs : List ℕ) (k n i b : ℕ) → 512 ≤ length ys → k < 512 → n + length bs ≤ 512 → i < length bs → b ≡ get_or bs i 0 → ring 512 ys k (n + i) ≡ ring 512 xs k n ++ take i bs

@@ -2,5 +2,4 @@ pub mod Places
 pub mod Pick
 pub mod Sound
 pub mod Whole
-pub mod Turns
 pub mod Lending

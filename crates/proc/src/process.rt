@@ -2,12 +2,16 @@
 
 use unixmodel::process::Mode;
 
+/// All that a process has but its memory.
 #[derive(Clone, Copy, Debug, PartialEq, Eq)]
 pub struct Process {
+    /// Its number, from 1 on, which no other process has.
     pub pid: u32,
-    /// 0 for process 1.
+    /// The pid of its parent, and 0 for process 1.
     pub parent: u32,
+    /// x0 to x31, while it doesn't run.
     pub registers: [u64; 32],
+    /// The address of its next instruction, while it doesn't run.
     pub pc: u64,
     /// The size of its memory in bytes.
     pub size: u64,
@@ -15,7 +19,9 @@ pub struct Process {
     pub descriptors: [Option<u8>; 16],
     /// The number of the working directory, and 0 once it is given up.
     pub directory: u32,
+    /// It ends before it does another instruction.
     pub killed: bool,
+    /// Whether it runs, is ready, waits or has ended.
     pub mode: Mode,
 }
 

@@ -32,15 +32,20 @@ pub enum ProcFault {
 /// Where a new process stands, and its pid.
 #[derive(Clone, Copy, Debug, PartialEq, Eq)]
 pub struct Seat {
+    /// The number of the place.
     pub place: usize,
+    /// The pid of the process.
     pub pid: u32,
 }
 
 /// A zombie that was waited for, and the place that it had.
 #[derive(Clone, Copy, Debug, PartialEq, Eq)]
 pub struct Reaped {
+    /// The number of the place.
     pub place: usize,
+    /// The pid of the process.
     pub pid: u32,
+    /// The status with which it ended.
     pub status: i32,
 }
 

@@ -133,6 +133,15 @@ impl Ram {
         self.frames.len() as u32
     }
 
+    /// A law: there are at most 32768 frames, each of 4096 bytes. It runs no code.
+    #[inline]
+    pub fn frames_are_whole(&self)
+        ensures small { length self.now ≤ 32768 }
+        ensures memory { IsMemory self.now }
+    {
+        let _frames = &self.frames;
+    }
+
     /// The bytes of a frame.
     #[inline]
     pub fn frame(&self, f: FrameNo) -> &[u8; FRAME_SIZE]

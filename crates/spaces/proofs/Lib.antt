@@ -4,3 +4,4 @@ mod Traded
 mod Piped
 mod Stepped
 mod Results
+pub mod SpacesLemmas

@@ -1,7 +1,7 @@
 -- One pipe trades frames, or is read or written: what is left of the fields, and what they show then.
 use Rattle.frames.specs.declared.Frames.{Frames}
 use Rattle.frames.specs.Free.{IsFreeList, SameBut, among, free_of}
-use Rattle.frames.specs.HolderLemmas.{Trades-none, among-none, count_of-append, count_of-first, holders-free, one_if-le}
+use Rattle.frames.proofs.HolderLemmas.{Trades-none, among-none, count_of-append, count_of-first, holders-free, one_if-le}
 use Rattle.frames.specs.Holders.{Trades, count_of, one_if}
 use Rattle.pipe.specs.Pipe.{Pipe, Stays, bytes_of}
 use Rattle.ram.specs.Memory.{frame_of}
@@ -11,7 +11,7 @@ use Rattle.spaces.proofs.Traded.{map-same, same-shown}
 use Rattle.spaces.specs.declared.Spaces.TheInside.{Inside}
 use Rattle.spaces.specs.Ends.{IsOpen}
 use Rattle.spaces.specs.Spaces.{bytes_in, has_pipe, taken_frames, with_pipe}
-use Rattle.spaces.specs.SpacesLemmas.{none-pipe, some-pipe, taken-piped, within}
+use Rattle.spaces.proofs.SpacesLemmas.{none-pipe, some-pipe, taken-piped, within}
 use Rattle.spaces.specs.View.{IsActive, IsSpaces, frames_at, pipe_frames, pipe_shown, shown, spaces_of}
 use Rattle.std.proofs.Common.{◌≡◌, ◌≢◌, ℕ, ◌+◌, ◌<◌, ◌≤◌, inl, inr, List, [], ◌∷◌, false, length, get_or, map, slice_set, subst, true, Option, Some, None, refl, sym, ap, ◌∙◌, arith, length-set, get_or-set_other, get_or-set_same, ltb}
 use Rattle.std.proofs.lemmas.Bool.{cases_eq, cases_lt, le-ltb}
@@ -23,7 +23,7 @@ use Rattle.unixmodel.specs.Translation as translation
 use Rattle.vm.specs.declared.Space.{Space}
 use Rattle.vm.specs.Shares as shares
 use Rattle.vm.specs.Shares.{AllUntouched, IsMachine}
-use Rattle.vm.specs.SharesLemmas.{Trades-give, Trades-take, Trades-write, rest-held, rest-machine, rest-untouched}
+use Rattle.vm.proofs.SharesLemmas.{Trades-give, Trades-take, Trades-write, rest-held, rest-machine, rest-untouched}
 
 -- ---- the frame of a pipe
 

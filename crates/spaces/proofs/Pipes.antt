@@ -1,9 +1,9 @@
 -- What the places for pipes show, and the frames that they hold.
 use Rattle.frames.specs.declared.Frames.{Frames}
-use Rattle.frames.specs.HolderLemmas.{count_of-append, count_of-first}
+use Rattle.frames.proofs.HolderLemmas.{count_of-append, count_of-first}
 use Rattle.frames.specs.Holders.{Trades, count_of}
 use Rattle.pipe.specs.Pipe.{Pipe}
-use Rattle.pipe.specs.PipeLemmas.{bytes_of-same}
+use Rattle.pipe.proofs.PipeLemmas.{bytes_of-same}
 use Rattle.ram.specs.Memory.{frame_of}
 use Rattle.spaces.specs.View.{frames_at, pipe_frames, pipe_shown}
 use Rattle.std.proofs.Common.{◌≡◌, ◌≢◌, ℕ, zero, suc, ◌+◌, ◌<◌, ◌≤◌, List, [], ◌∷◌, length, get_or, map, replicate, slice_set, Option, Some, None, refl, sym, ap, ap₂, ◌∙◌, arith, length-set}
@@ -16,7 +16,7 @@ use Rattle.unixmodel.specs.Files.{free_slot, slot, taken}
 use Rattle.vm.specs.declared.Space.{Space}
 use Rattle.vm.specs.Shares as shares
 use Rattle.vm.specs.Shares.{IsMachine}
-use Rattle.vm.specs.SharesLemmas.{trade-rest}
+use Rattle.vm.proofs.SharesLemmas.{trade-rest}
 
 -- ---- one place
 

@@ -14,9 +14,9 @@ use Rattle.unixmodel.specs.Files.{slot}
 use Rattle.unixmodel.specs.Translation as translation
 use Rattle.vm.specs.declared.Space.{Space}
 use Rattle.vm.specs.Dense.{frames_for}
-use Rattle.vm.specs.PageLemmas.{length-mapping}
+use Rattle.vm.proofs.PageLemmas.{length-mapping}
 use Rattle.vm.specs.Shares.{frames_used}
-use Rattle.vm.specs.SharesLemmas.{free-left}
+use Rattle.vm.proofs.SharesLemmas.{free-left}
 use Rattle.vm.specs.Space.{mapping_of, pages_in, pages_of}
 
 -- a place of the fields, by the slice that a borrow of them shows

@@ -1,15 +1,15 @@
 -- A step of the hart in the space of the active place.
-use Rattle.hart.specs.ChangeLemmas.{memory_of-cycle}
+use Rattle.hart.proofs.ChangeLemmas.{memory_of-cycle}
 use Rattle.hart.specs.Changes.{IsSound, WritesOnly, WritesPage}
-use Rattle.hart.specs.declared.hart.Hart.{Hart}
+use Rattle.hart.specs.declared.state.Hart.{Hart}
 use Rattle.hart.specs.Follows.{Follows}
-use Rattle.hart.specs.FollowsLemmas.{follows-cases, follows-only}
+use Rattle.hart.proofs.FollowsLemmas.{follows-cases, follows-only}
 use Rattle.ram.specs.Memory.{IsMemory}
 use Rattle.spaces.proofs.Places.{held-is}
 use Rattle.spaces.proofs.Traded.{same-place, shown-as, shown-placed}
 use Rattle.spaces.specs.declared.Spaces.TheInside.{Inside}
 use Rattle.spaces.specs.Spaces.{computed, held_at}
-use Rattle.spaces.specs.SpacesLemmas.{within}
+use Rattle.spaces.proofs.SpacesLemmas.{within}
 use Rattle.spaces.specs.View.{IsActive, IsSpaces, Runs, held_with, pipe_frames, shown, spaces_of}
 use Rattle.spaces.proofs.Pipes.{pipes-beside}
 use Rattle.std.proofs.Common.{◌≡◌, inl, inr, ℕ, ◌<◌, ◌≤◌, List, length, map, slice_set, true, Option, Some, None, Ok, Err, refl, sym, ap, ◌∙◌, arith}
@@ -25,10 +25,10 @@ use Rattle.unixmodel.specs.Translation.{HoldsInside, IsKept}
 use Rattle.vm.specs.declared.Space.{Space}
 use Rattle.vm.specs.Dense.{frame_at}
 use Rattle.vm.specs.Shares.{OthersUntouched}
-use Rattle.vm.specs.SharesLemmas.{trade-machine, trade-others}
+use Rattle.vm.proofs.SharesLemmas.{trade-machine, trade-others}
 use Rattle.vm.specs.Space.{IsMapped, IsOnce, Stands, holds, mapping_of, pages_in, pages_of}
-use Rattle.vm.specs.StoreLemmas.{Stands-none, page-inside, pages-same, space-stored}
-use Rattle.vm.specs.WalkLaw.{mapping-is, mapping-within, walks-mapping}
+use Rattle.vm.proofs.StoreLemmas.{Stands-none, page-inside, pages-same, space-stored}
+use Rattle.vm.proofs.WalkLaw.{mapping-is, mapping-within, walks-mapping}
 
 -- ---- one space
 

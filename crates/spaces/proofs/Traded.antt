@@ -5,7 +5,7 @@ use Rattle.frames.specs.Holders.{Trades}
 use Rattle.ram.specs.declared.FrameNo.{FrameNo}
 use Rattle.spaces.specs.declared.Spaces.TheInside.{Inside}
 use Rattle.spaces.specs.Spaces.{Held, frames_in, grown, has_space, no_pages, taken_frames, with_place}
-use Rattle.spaces.specs.SpacesLemmas.{place-free, taken-placed, within}
+use Rattle.spaces.proofs.SpacesLemmas.{place-free, taken-placed, within}
 use Rattle.spaces.specs.View.{IsActive, IsSpaces, Runs, held_with, pipe_frames, shown, spaces_of}
 use Rattle.spaces.proofs.Pipes.{pipes-beside}
 use Rattle.spaces.proofs.Places.{frames-shown, frames_for-pages, free-is, free-taken, length-pages_of, places-count, slot-is, taken-fits}
@@ -24,10 +24,10 @@ use Rattle.unixmodel.specs.Memory.{Marks, Memory, zero_page}
 use Rattle.vm.specs.declared.Space.{Space}
 use Rattle.vm.specs.declared.VmFault.{VmFault}
 use Rattle.vm.specs.Dense.{frames_for}
-use Rattle.vm.specs.PageLemmas.{length-mapping}
+use Rattle.vm.proofs.PageLemmas.{length-mapping}
 use Rattle.vm.specs.Shares as shares
 use Rattle.vm.specs.Shares.{IsMachine, IsPlace, OthersUntouched}
-use Rattle.vm.specs.SharesLemmas.{trade-machine, trade-others}
+use Rattle.vm.proofs.SharesLemmas.{trade-machine, trade-others}
 use Rattle.vm.specs.Space.{IsSpace, IsUntouched, Stands, holds, mapping_of, pages_in, pages_of}
 
 -- a write of one place through the slice of all

@@ -1,4 +1,3 @@
 pub mod Ends
 pub mod Spaces
-pub mod SpacesLemmas
 pub mod View

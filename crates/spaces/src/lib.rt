@@ -33,7 +33,7 @@ ghost use Rattle.vm.specs.Space.{IsMapped, pages_of};
 
 use arrayvec::ArrayVec;
 use frames::Frames;
-use hart::hart::Hart;
+use hart::Hart;
 use pipe::Pipe;
 use ram::{FRAME_SIZE, FrameNo, Ram};
 use std::marker::Model;
@@ -226,7 +226,7 @@ impl<T: Translate + Drop> Spaces<T> {
         ensures whole { length (held_at self.now at).memory ≡ ceil_div (held_at self.now at).size 4096 }
         ensures sized { IsSized (held_at self.now at).memory }
     {
-        let _count = self.ram.frame_count();
+        self.ram.frames_are_whole();
         let space = space_at(&self.places, at);
         vm::pages_in(space.size())
     }
@@ -335,7 +335,7 @@ impl<T: Translate + Drop> Spaces<T> {
         ensures done { OnTrue result ((taken_frames (with_held self.old at (grown (held_at self.old at) bytes (marks_from perm))) ≤ self.old.frames) × (self.new ≡ with_held self.old at (grown (held_at self.old at) bytes (marks_from perm)))) }
         ensures refused { OnFalse result ((self.old.frames < taken_frames (with_held self.old at (grown (held_at self.old at) bytes (marks_from perm)))) × (self.new ≡ self.old)) }
     {
-        let _count = self.ram.frame_count();
+        self.ram.frames_are_whole();
         match &mut self.places[at] {
             Some(space) => space
                 .grow(&mut self.ram, &mut self.frames, bytes, perm)
@@ -455,7 +455,7 @@ impl<T: Translate + Drop> Spaces<T> {
         ensures done { IfNone result (IfSome self.old.active (λ at. (d : Computed) × (cycle self.old.registers self.old.pc (held_at self.old at).memory ≡ Ok d) × (self.new ≡ computed self.old at d))) }
         ensures trap { IfSome result (λ t. IfSome self.old.active (λ at. (cycle self.old.registers self.old.pc (held_at self.old at).memory ≡ Err t) × (self.new ≡ self.old))) }
     {
-        let _count = self.ram.frame_count();
+        self.ram.frames_are_whole();
         self.hart.step(&mut self.ram, &mut self.translator)
     }
 
@@ -464,7 +464,7 @@ impl<T: Translate + Drop> Spaces<T> {
         ensures place { result ≡ free_slot self.now.pipes }
         ensures within { IfSome result (λ q. q < 100) }
     {
-        let _count = self.ram.frame_count();
+        self.ram.frames_are_whole();
         lowest_free(self.pipes.as_slice())
     }
 

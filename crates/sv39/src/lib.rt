@@ -8,13 +8,18 @@
 ghost use Rattle.std.specs.Prelude.{⊤, ◌≡◌, ◌≢◌, ◌==◌, ℕ, ◌+◌, ◌-◌, ◌*◌, ◌/◌, ◌%◌, ◌^◌, ◌<◌, ◌≤◌, List, [], ◌∷◌, length, codes, IsTrue, IfSome, IfOk, bit_and, None, Some};
 ghost use Rattle.std.specs.Result.{result_ok};
 ghost use Rattle.std.specs.Option.{option_map};
-ghost use Rattle.unixmodel.specs.Translation.{walk_page, walk, place_in, Translation, IsAnswer, IsKept, HoldsNothing, HoldsInside};
+ghost use Rattle.unixmodel.specs.Translation.{walk_page, walk, walk_count, place_in, Translation, IsAnswer, IsKept, HoldsNothing, HoldsInside};
 ghost use Rattle.sv39.specs.Entry.{has, allows, marks_of, number_of, is_sound, is_table, turn_of, IsSmall};
 ghost use Rattle.sv39.specs.Walk.{base, frame_at, entry_of, turn_at, follow, is_canonical, walk_low, walk_mid, walk_high, walk_of};
+ghost use Rattle.sv39.specs.Counts.{count_mid, count_high, count_levels};
 
+mod lookaside;
+
+pub use crate::lookaside::Tlb;
 use bitflags::{Flag, Flags, bitflag_items};
 use ram::{FrameNo, Ram};
-use unixmodel::trap::Access;
+use std::marker::Model;
+pub use unixmodel::trap::Access;
 
 /// The marks of an entry: its low 10 bits.
 #[derive(Clone, Copy, PartialEq, Eq, Debug)]
@@ -58,6 +63,9 @@ impl Flags for Marks {
 /// No translation: the tables give the page no frame for this access.
 #[derive(Clone, Copy, PartialEq, Eq, Debug)]
 pub struct Fault;
+
+/// A physical address.
+pub type Pa = u64;
 
 /// The number by which entries and physical addresses name the first frame of the memory.
 pub const BASE: u64 = 0x80000;
@@ -191,6 +199,13 @@ fn turn_at(ram: &Ram, table: FrameNo, span: u64, page: u64, access: Access) -> T
     entry.turn(span, access)
 }
 
+// What a walk gives, and how many entries it read.
+#[derive(Clone, Copy)]
+struct Found {
+    frame: Option<FrameNo>,
+    count: u32,
+}
+
 // The walk from a table of the lowest level, whose leaves have one page.
 #[inline(always)]
 #[tactic(auto, unfolding(crate::specs::Walk::walk_low))]
@@ -207,53 +222,101 @@ fn walk_low(ram: &Ram, table: FrameNo, page: u64, access: Access) -> Option<Fram
 
 // The walk from a table of the middle level, whose leaves have 512 pages.
 #[inline(always)]
-#[tactic(auto, unfolding(crate::specs::Walk::walk_mid))]
-fn walk_mid(ram: &Ram, table: FrameNo, page: u64, access: Access) -> Option<FrameNo>
+#[tactic(auto, unfolding(crate::specs::Walk::walk_mid, crate::specs::Counts::count_mid))]
+fn walk_mid(ram: &Ram, table: FrameNo, page: u64, access: Access) -> Found
     requires { table.0 < length ram.now }
-    ensures value { option_map (λ f. f.0) result ≡ walk_mid ram.now page access table.0 }
-    ensures inside { IfSome result (λ f. f.0 < length ram.now) }
+    ensures value { option_map (λ f. f.0) result.frame ≡ walk_mid ram.now page access table.0 }
+    ensures inside { IfSome result.frame (λ f. f.0 < length ram.now) }
+    ensures count { result.count ≡ count_mid ram.now page access table.0 }
+    ensures few { result.count ≤ 2 }
 {
     match turn_at(ram, table, 512, page, access) {
-        Turn::Leaf(number) => frame_of_number(ram, number + page % 512),
-        Turn::Down(number) => match frame_of_number(ram, number) {
-            Some(next) => walk_low(ram, next, page, access),
-            None => None,
+        Turn::Leaf(number) => Found {
+            frame: frame_of_number(ram, number + page % 512),
+            count: 1,
         },
-        Turn::Stop => None,
+        Turn::Down(number) => match frame_of_number(ram, number) {
+            Some(next) => Found {
+                frame: walk_low(ram, next, page, access),
+                count: 2,
+            },
+            None => Found {
+                frame: None,
+                count: 1,
+            },
+        },
+        Turn::Stop => Found {
+            frame: None,
+            count: 1,
+        },
     }
 }
 
 // The walk from the root's table, whose leaves have 512 * 512 pages.
 #[inline(always)]
-#[tactic(auto, unfolding(crate::specs::Walk::walk_high))]
-fn walk_high(ram: &Ram, table: FrameNo, page: u64, access: Access) -> Option<FrameNo>
+#[tactic(auto, unfolding(crate::specs::Walk::walk_high, crate::specs::Counts::count_high))]
+fn walk_high(ram: &Ram, table: FrameNo, page: u64, access: Access) -> Found
     requires { table.0 < length ram.now }
-    ensures value { option_map (λ f. f.0) result ≡ walk_high ram.now page access table.0 }
-    ensures inside { IfSome result (λ f. f.0 < length ram.now) }
+    ensures value { option_map (λ f. f.0) result.frame ≡ walk_high ram.now page access table.0 }
+    ensures inside { IfSome result.frame (λ f. f.0 < length ram.now) }
+    ensures count { result.count ≡ count_high ram.now page access table.0 }
+    ensures few { result.count ≤ 3 }
 {
     match turn_at(ram, table, 262144, page, access) {
-        Turn::Leaf(number) => frame_of_number(ram, number + page % 262144),
-        Turn::Down(number) => match frame_of_number(ram, number) {
-            Some(next) => walk_mid(ram, next, page, access),
-            None => None,
+        Turn::Leaf(number) => Found {
+            frame: frame_of_number(ram, number + page % 262144),
+            count: 1,
         },
-        Turn::Stop => None,
+        Turn::Down(number) => match frame_of_number(ram, number) {
+            Some(next) => {
+                let below = walk_mid(ram, next, page, access);
+                Found {
+                    frame: below.frame,
+                    count: 1 + below.count,
+                }
+            }
+            None => Found {
+                frame: None,
+                count: 1,
+            },
+        },
+        Turn::Stop => Found {
+            frame: None,
+            count: 1,
+        },
     }
 }
 
 // The walk where the page has a number whose addresses are canonical.
 #[inline(always)]
-#[tactic(auto, unfolding(crate::specs::Walk::walk_of))]
-fn walk_levels(ram: &Ram, root: FrameNo, page: u64, access: Access) -> Option<FrameNo>
-    ensures value { option_map (λ f. f.0) result ≡ walk_of ram.now root.0 page access }
-    ensures inside { IfSome result (λ f. f.0 < length ram.now) }
+#[tactic(auto, unfolding(crate::specs::Walk::walk_of, crate::specs::Counts::count_levels))]
+fn walk_levels(ram: &Ram, root: FrameNo, page: u64, access: Access) -> Found
+    ensures value { option_map (λ f. f.0) result.frame ≡ walk_of ram.now root.0 page access }
+    ensures inside { IfSome result.frame (λ f. f.0 < length ram.now) }
+    ensures count { result.count ≡ count_levels ram.now root.0 page access }
+    ensures few { result.count ≤ 3 }
 {
     let canonical = page < 1 << 26 || (page >= (1 << 52) - (1 << 26) && page < 1 << 52);
     if canonical && root.0 < ram.frame_count() {
         walk_high(ram, root, page, access)
     } else {
-        None
+        Found {
+            frame: None,
+            count: 0,
+        }
     }
+}
+
+// The frame that the tables from a root give to a page for an access, if they give one, and the number
+// of the entries that were read.
+#[inline(always)]
+fn walked(ram: &Ram, root: FrameNo, page: u64, access: Access) -> Found
+    ensures is { option_map (λ f. f.0) result.frame ≡ (walk_page ram.now root.0 page access).frame }
+    ensures inside { IfSome result.frame (λ f. f.0 < length ram.now) }
+    ensures count { result.count ≡ (walk_page ram.now root.0 page access).count }
+    ensures few { result.count ≤ 3 }
+{
+    walk_levels(ram, root, page, access)
 }
 
 /// The frame that the tables from a root give to a page for an access, if they give one.
@@ -264,12 +327,12 @@ pub fn walk_page(ram: &Ram, root: FrameNo, page: u64, access: Access) -> Option<
     ensures is { option_map (λ f. f.0) result ≡ (walk_page ram.now root.0 page access).frame }
     ensures inside { IfSome result (λ f. f.0 < length ram.now) }
 {
-    walk_levels(ram, root, page, access)
+    walked(ram, root, page, access).frame
 }
 
 // The physical address of a virtual address whose page has this frame.
 #[inline]
-fn address(frame: FrameNo, va: u64) -> u64
+fn address(frame: FrameNo, va: u64) -> Pa
     ensures { result ≡ place_in va frame.0 }
 {
     (BASE + u64::from(frame.0)) * 4096 + va % 4096
@@ -277,7 +340,7 @@ fn address(frame: FrameNo, va: u64) -> u64
 
 /// The physical address of a virtual address, by the tables from a root.
 #[inline(always)]
-pub fn walk(ram: &Ram, root: FrameNo, va: u64, access: Access) -> Result<u64, Fault>
+pub fn walk(ram: &Ram, root: FrameNo, va: u64, access: Access) -> Result<Pa, Fault>
     ensures is { result_ok result ≡ walk ram.now root.0 va access }
     ensures inside { IfOk result (λ pa. (2 ^ 31 ≤ pa) × (pa / 4096 - 0x80000 < length ram.now)) }
 {
@@ -287,13 +350,28 @@ pub fn walk(ram: &Ram, root: FrameNo, va: u64, access: Access) -> Result<u64, Fa
     }
 }
 
+/// The same as `walk`, and how many entries of tables were read: at most three.
+#[inline(always)]
+pub fn walk_counted(ram: &Ram, root: FrameNo, va: u64, access: Access) -> (Result<Pa, Fault>, u32)
+    ensures is { result_ok result.0 ≡ walk ram.now root.0 va access }
+    ensures inside { IfOk result.0 (λ pa. (2 ^ 31 ≤ pa) × (pa / 4096 - 0x80000 < length ram.now)) }
+    ensures count { result.1 ≡ walk_count ram.now root.0 va access }
+    ensures few { result.1 ≤ 3 }
+{
+    let walked = walked(ram, root, va / 4096, access);
+    match walked.frame {
+        Some(frame) => (Ok(address(frame, va)), walked.count),
+        None => (Err(Fault), walked.count),
+    }
+}
+
 /// Translates addresses, and may hold translations until it is fenced, as the manual allows.
 pub trait Translate {
     ghost held: { Self → Translation → Type 0 };
 
     /// The physical address of a virtual address, by the tables from a root or by a translation that
     /// is held.
-    fn translate(&mut self, ram: &Ram, root: FrameNo, va: u64, access: Access) -> Result<u64, Fault>
+    fn translate(&mut self, ram: &Ram, root: FrameNo, va: u64, access: Access) -> Result<Pa, Fault>
         requires { HoldsInside (held self.old) ram.now }
         ensures answer { IsAnswer (held self.old) ram.now root.0 va access (result_ok result) }
         ensures inside { IfOk result (λ pa. (2 ^ 31 ≤ pa) × (pa / 4096 - 0x80000 < length ram.now)) }
@@ -304,14 +382,33 @@ pub trait Translate {
         ensures { HoldsNothing (held self.new) };
 }
 
-/// Holds nothing, and walks each time.
+/// Holds nothing, and walks each time. In contracts it is the number of the entries that it read.
 #[derive(Drop)]
-pub struct Plain;
+pub struct Plain {
+    reads: u64,
+}
+
+impl Model for Plain {
+    ghost use Rattle.std.specs.Prelude.{ℕ};
+
+    ghost Value = { ℕ };
+
+    ghost view = { λ p. p.reads };
+}
 
 impl Plain {
     /// A translator.
-    pub fn new() -> Plain {
-        Plain
+    pub fn new() -> Plain
+        ensures { result ≡ 0 }
+    {
+        Plain { reads: 0 }
+    }
+
+    /// How many entries of tables it has read, modulo 2^64.
+    pub fn reads(&self) -> u64
+        ensures { result ≡ self.now }
+    {
+        self.reads
     }
 }
 
@@ -319,15 +416,17 @@ impl Translate for Plain {
     ghost held = { λ _ _. ⊥ };
 
     #[inline(always)]
-    fn translate(
-        &mut self,
-        ram: &Ram,
-        root: FrameNo,
-        va: u64,
-        access: Access,
-    ) -> Result<u64, Fault> {
-        walk(ram, root, va, access)
+    fn translate(&mut self, ram: &Ram, root: FrameNo, va: u64, access: Access) -> Result<Pa, Fault>
+        ensures answer { result_ok result ≡ walk ram.now root.0 va access }
+        ensures inside { IfOk result (λ pa. (2 ^ 31 ≤ pa) × (pa / 4096 - 0x80000 < length ram.now)) }
+        ensures reads { self.new ≡ (self.old + walk_count ram.now root.0 va access) % 2 ^ 64 }
+    {
+        let (answer, count) = walk_counted(ram, root, va, access);
+        self.reads = self.reads.wrapping_add(u64::from(count));
+        answer
     }
 
-    fn fence(&mut self) {}
+    fn fence(&mut self)
+        ensures { self.new ≡ self.old }
+    {}
 }

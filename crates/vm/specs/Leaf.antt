@@ -11,7 +11,7 @@ IsUserLeaf leaf = leaf ≡ leaf_marks (page_marks leaf)
 
 -- the marks that a caller gives
 abbrev pub marks_from : Perm → Marks
-marks_from p = record { writable = p.writable; executable = p.executable; user = p.user }
+marks_from p = record { writable = p.w; executable = p.x; user = p.u }
 
 -- an entry of a mapping, by its parts
 abbrev pub mapped_as : ℕ → Perm → Mapped

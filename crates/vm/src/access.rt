@@ -22,9 +22,9 @@ fn perm_of(leaf: Marks) -> Perm
     ensures { marks_from result ≡ page_marks leaf.0 }
 {
     Perm {
-        writable: leaf.contains(Marks::WRITE),
-        executable: leaf.contains(Marks::EXECUTE),
-        user: leaf.contains(Marks::USER),
+        w: leaf.contains(Marks::WRITE),
+        x: leaf.contains(Marks::EXECUTE),
+        u: leaf.contains(Marks::USER),
     }
 }
 
@@ -34,9 +34,9 @@ impl Perm {
         ensures { result ≡ permits access (marks_from self) }
     {
         match access {
-            Access::Fetch => self.executable && self.user,
-            Access::Load => self.user,
-            Access::Store => self.writable && self.user,
+            Access::Fetch => self.x && self.u,
+            Access::Load => self.u,
+            Access::Store => self.w && self.u,
         }
     }
 }
@@ -47,7 +47,7 @@ fn write_part(ram: &mut Ram, frame: FrameNo, at: usize, bytes: &[u8])
     requires place { at + length bytes.now ≤ 4096 }
     ensures { ram.new ≡ put ram.old frame.0 at bytes.now }
 {
-    let _count = ram.frame_count();
+    ram.frames_are_whole();
     let page = ram.frame_mut(frame);
     page[at..at + bytes.len()].copy_from_slice(bytes);
 }
@@ -69,7 +69,7 @@ impl Space {
         ensures inside { (page : ℕ) (e : Mapped) → slice_get (mapping_of ram.now self.now) page ≡ Some e → e.frame < length ram.now }
         ensures apart { IsOnce ram.now self.now → (p q : ℕ) (e d : Mapped) → slice_get (mapping_of ram.now self.now) p ≡ Some e → slice_get (mapping_of ram.now self.now) q ≡ Some d → e.frame ≡ d.frame → p ≡ q }
     {
-        let _count = ram.frame_count();
+        ram.frames_are_whole();
     }
 
     /// The frame and the marks of a page; `None` past the last page.
@@ -122,7 +122,7 @@ impl Space {
         requires { IsMapped ram.now self.now }
         ensures { result ≡ nat_le len (length (reach access (pages_of ram.now self.now) address)) }
     {
-        let _count = ram.frame_count();
+        ram.frames_are_whole();
         if len == 0 {
             return true;
         }
@@ -160,7 +160,7 @@ impl Space {
         ensures only { OnErr result (IsErrOf result VmFault.BadAddress) }
         ensures unchanged { OnErr result (buffer.new ≡ buffer.old) }
     {
-        let _count = ram.frame_count();
+        ram.frames_are_whole();
         if !self.can_read(ram, address, buffer.len() as u64) {
             return Err(VmFault::BadAddress);
         }
@@ -189,7 +189,7 @@ impl Space {
         ensures string { option_map (λ n. take n buffer.new) result ≡ short_string (length buffer.old) (string_at (pages_of ram.now self.now) address) }
         ensures within { IfSome result (λ n. n ≤ length buffer.old) }
     {
-        let _count = ram.frame_count();
+        ram.frames_are_whole();
         for i in 0..buffer.len() {
             match self.byte_at(ram, address + i as u64) {
                 Some(0) => return Some(i),
@@ -249,7 +249,7 @@ impl Space {
         ensures stands { Stands ram.old ram.new self.now }
         ensures registers { registers_of ram.new self.now ≡ registers_of ram.old self.now }
     {
-        let _count = ram.frame_count();
+        ram.frames_are_whole();
         if !self.can_write(ram, address, bytes.len() as u64) {
             return Err(VmFault::BadAddress);
         }

@@ -45,13 +45,15 @@ pub enum VmFault {
     BadAddress,
 }
 
-/// The marks of a page, as Sv39 has them: with `user` a program may read it, and write or execute it
-/// where the other marks are set; without `user` it may do nothing there.
+/// The marks of a page, as Sv39 has them. Without `u` a program may do nothing there.
 #[derive(Clone, Copy, PartialEq, Eq, Debug)]
 pub struct Perm {
-    pub writable: bool,
-    pub executable: bool,
-    pub user: bool,
+    /// A program may write it.
+    pub w: bool,
+    /// A program may execute it.
+    pub x: bool,
+    /// A program may read it, and do what the other marks say.
+    pub u: bool,
 }
 
 impl Perm {
@@ -59,7 +61,7 @@ impl Perm {
     fn leaf(self) -> Marks
         ensures { result.0 ≡ leaf_marks (marks_from self) }
     {
-        leaf_marks(self.writable, self.executable, self.user)
+        leaf_marks(self.w, self.x, self.u)
     }
 }
 
@@ -122,7 +124,7 @@ impl Space {
         ensures unchanged { OnErr result ((ram.new ≡ ram.old) × (frames.new ≡ frames.old)) }
         ensures trades { IfOk result (λ s. Trades ram.old ram.new frames.old frames.new [] (holds ram.new s)) }
     {
-        let _count = ram.frame_count();
+        ram.frames_are_whole();
         if frames.free() < 4 {
             return Err(VmFault::Frames);
         }
@@ -159,7 +161,7 @@ impl Space {
         ensures trades { Trades ram.old ram.new frames.old frames.new (held ram.old self.now.root.0 self.now.trap.0 n) (held ram.new self.now.root.0 self.now.trap.0 (n + 1)) }
         ensures room { frames_for (n + 1) + free_count ram.new frames.new ≡ frames_for n + free_count ram.old frames.old }
     {
-        let _count = ram.frame_count();
+        ram.frames_are_whole();
         let table = PageTable { root: self.root };
         match frames.take(ram) {
             Some(frame) => {
@@ -188,7 +190,7 @@ impl Space {
         ensures trades { Trades ram.old ram.new frames.old frames.new (held ram.old self.now.root.0 self.now.trap.0 n) (held ram.new self.now.root.0 self.now.trap.0 (n + 1)) }
         ensures room { frames_for (n + 1) + free_count ram.new frames.new ≡ frames_for n + free_count ram.old frames.old }
     {
-        let _count = ram.frame_count();
+        ram.frames_are_whole();
         let table = PageTable { root: self.root };
         match frames.take(ram) {
             Some(frame) => {
@@ -218,7 +220,7 @@ impl Space {
         ensures unchanged { OnErr result ((ram.new ≡ ram.old) × (frames.new ≡ frames.old)) }
         ensures trades { IfOk result (λ c. Trades ram.old ram.new frames.old frames.new [] (holds ram.new c)) }
     {
-        let _count = ram.frame_count();
+        ram.frames_are_whole();
         let pages = pages_in(self.size);
         if u64::from(frames.free()) < frames_for(pages) {
             return Err(VmFault::Frames);
@@ -263,7 +265,7 @@ impl Space {
         ensures unchanged { OnErr result ((ram.new ≡ ram.old) × (frames.new ≡ frames.old) × (self.new ≡ self.old)) }
         ensures trades { Trades ram.old ram.new frames.old frames.new (holds ram.old self.old) (holds ram.new self.new) }
     {
-        let _count = ram.frame_count();
+        ram.frames_are_whole();
         if bytes > MAX_SIZE - self.size {
             return Err(VmFault::TooLarge);
         }
@@ -290,7 +292,7 @@ impl Space {
         ensures trap { frame_of ram.new self.now.trap.0 ≡ frame_of ram.old self.now.trap.0 }
         ensures trades { Trades ram.old ram.new frames.old frames.new (held ram.old self.now.root.0 self.now.trap.0 (n + 1)) (held ram.new self.now.root.0 self.now.trap.0 n) }
     {
-        let _count = ram.frame_count();
+        ram.frames_are_whole();
         let table = PageTable { root: self.root };
         let frame = table.unmap(ram, frames, n);
         frames.give(ram, frame);
@@ -334,7 +336,7 @@ impl Space {
         ensures valid { IsFreeList ram.new frames.new }
         ensures trades { Trades ram.old ram.new frames.old frames.new (holds ram.old self) [] }
     {
-        let _count = ram.frame_count();
+        ram.frames_are_whole();
         self.drop_pages(ram, frames, pages_in(self.size), 0);
         let table = PageTable { root: self.root };
         let trap = table.unmap(ram, frames, TRAP_PAGE);

@@ -24,7 +24,7 @@ fn place_of(register: usize) -> usize
 
 impl Space {
     /// Puts the registers and the program counter into the trap frame. Register x0 is 0, and isn't put there.
-    pub fn save_registers(&self, ram: &mut Ram, registers: &[u64; 32], pc: u64)
+    pub fn save_regs(&self, ram: &mut Ram, registers: &[u64; 32], pc: u64)
         requires mapped { IsMapped ram.old self.now }
         requires once { IsOnce ram.old self.now }
         requires zero { slice_index registers.now 0 ≡ 0 }
@@ -34,16 +34,16 @@ impl Space {
         ensures pages { pages_of ram.new self.now ≡ pages_of ram.old self.now }
         ensures stands { Stands ram.old ram.new self.now }
     {
-        let _count = ram.frame_count();
+        ram.frames_are_whole();
         ram.store_u64(self.trap, PC, pc);
         for register in 1..32 {
-            let _count = ram.frame_count();
+            ram.frames_are_whole();
             ram.store_u64(self.trap, place_of(register), registers[register]);
         }
     }
 
     /// Takes the registers from the trap frame, and tells the program counter.
-    pub fn load_registers(&self, ram: &Ram, registers: &mut [u64; 32]) -> u64
+    pub fn load_regs(&self, ram: &Ram, registers: &mut [u64; 32]) -> u64
         requires { IsMapped ram.now self.now }
         ensures registers { registers.new ≡ saved_registers ram.now self.now }
         ensures pc { result ≡ saved_pc ram.now self.now }

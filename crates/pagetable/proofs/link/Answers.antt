@@ -12,7 +12,7 @@ links : goal.returns-clause-links
 links c =
     let inside = (free-first c.args.ram.now c.args.frames.now c.in-Some.fresh.0 (free_of c.args.ram.now c.take.new.self) c.requires.valid c.in-Some.ensures.some).0 in
     rw (c.store_u64.ensures, c.zero.ensures, c.from.ensures, c.from-2.ensures)
-    (Links-put c.args.ram.now c.args.table.0 c.args.index c.in-Some.fresh.0 c.frame_count-count.ensures.memory c.requires.table inside
+    (Links-put c.args.ram.now c.args.table.0 c.args.index c.in-Some.fresh.0 c.frames_are_whole.ensures.memory c.requires.table inside
     (taken_apart c.args.ram.now c.args.frames.now c.args.table.0 c.in-Some.fresh.0 (free_of c.args.ram.now c.take.new.self) c.in-Some.ensures.some c.requires.apart)
     c.requires.index (omega (arith, inside)))
 

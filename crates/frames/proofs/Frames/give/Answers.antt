@@ -5,7 +5,7 @@ use Rattle.frames.specs.FreeLemmas.{count-le, free_of-give, IsFreeList-give, Sam
 use Rattle.frames.proofs.Frames.give.Goals as goal
 
 given : goal.returns-clause-free
-given c = rw c.store_u32.ensures (free_of-give c.args.ram.now c.args.self.now.first.0 c.args.self.now.count c.args.frame.0 c.frame_count-count.ensures.memory c.requires.inside (omega arith) c.requires.held)
+given c = rw c.store_u32.ensures (free_of-give c.args.ram.now c.args.self.now.first.0 c.args.self.now.count c.args.frame.0 c.frames_are_whole.ensures.memory c.requires.inside (omega arith) c.requires.held)
 
 pub overflow_add-self : goal.overflow_add-self
 overflow_add-self c = omega (arith, count-le c.args.ram.now c.args.self.now c.requires.valid)

@@ -2,7 +2,7 @@ use Rattle.std.proofs.Common.{◌≡◌, refl, arith, length, sym, ap, ◌∙◌
 use Rattle.std.specs.List.{range_with_len}
 use Rattle.frames.specs.Free.{among, free_of}
 use Rattle.frames.specs.FreeLemmas.{free_of-none, IsFreeList-none, among-range_below, range-before}
-use Rattle.frames.specs.HolderLemmas.{IsShared-new}
+use Rattle.frames.proofs.HolderLemmas.{IsShared-new}
 use Rattle.frames.proofs.Frames.new.Goals as goal
 
 pub loop-i-init : goal.loop-i-init

@@ -1,6 +1,6 @@
 use Rattle.std.proofs.Common.{refl, ◌≡◌, ◌<◌, ℕ, arith, length, ap, ◌∙◌, sym, Some, None}
 use Rattle.pagetable.specs.TreeLemmas.{missing_zero, missing_one, missing_two}
-use Rattle.pagetable.specs.ShapeLemmas.{Adds-zero, Adds-one, Adds-two, IsTidy-insert, Inserts-after}
+use Rattle.pagetable.proofs.ShapeLemmas.{Adds-zero, Adds-one, Adds-two, IsTidy-insert, Inserts-after}
 use Rattle.pagetable.proofs.PageTable.map.Goals as goal
 
 pub returns-then-free-lt1-clause-full : goal.returns-then-free-lt1-clause-full

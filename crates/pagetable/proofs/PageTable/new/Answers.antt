@@ -1,6 +1,6 @@
 use Rattle.frames.specs.Free.{free_of}
 use Rattle.pagetable.specs.TreeLemmas.{free-first}
-use Rattle.pagetable.specs.EmptyLemmas.{IsPaged-new, IsTidy-empty}
+use Rattle.pagetable.proofs.EmptyLemmas.{IsPaged-new, IsTidy-empty}
 use Rattle.pagetable.proofs.PageTable.new.Goals as goal
 
 pub zero-requires : goal.zero-requires

@@ -2,8 +2,8 @@ use Rattle.std.proofs.Common.{◌≡◌, ℕ, ◌%◌, Option, Some, None, lengt
 use Rattle.sv39.specs.Walk.{entry_of}
 use Rattle.pagetable.specs.Tree.{lookup_of, leaf_of}
 use Rattle.pagetable.specs.TreeLemmas.{tree-leaf_sound, lookup_of-low}
-use Rattle.pagetable.specs.LookupLemmas.{leaf_of-sound, first-same}
-use Rattle.pagetable.specs.ShapeLemmas.{IsTidy-set}
+use Rattle.pagetable.proofs.LookupLemmas.{leaf_of-sound, first-same}
+use Rattle.pagetable.proofs.ShapeLemmas.{IsTidy-set}
 use Rattle.pagetable.proofs.PageTable.set_perm.Goals as goal
 
 pub leaf-requires-clause-sound : goal.leaf-requires-clause-sound

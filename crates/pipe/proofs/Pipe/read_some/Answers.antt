@@ -1,7 +1,7 @@
 use Rattle.std.proofs.Common.{◌++◌, ◌≡◌, ◌∙◌, ap, arith, drop, length, length-take, refl, take}
 use Rattle.ram.specs.Memory.{frame_of}
 use Rattle.ring.specs.Ring.{ring}
-use Rattle.ring.specs.RingLemmas.{length-ring}
+use Rattle.ring.proofs.RingLemmas.{length-ring}
 use Rattle.pipe.proofs.Steps.{read-bytes, read-nothing, read-rest, ring-none}
 use Rattle.pipe.proofs.Pipe.read_some.Goals as goal
 use Rattle.pipe.proofs.Pipe.read_some.Goals.{else-self-eq0-via-then-self-eq0+else-self, else-self-eq0-via-else-self-eq0}

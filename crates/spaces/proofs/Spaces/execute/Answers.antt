@@ -4,8 +4,8 @@ use Rattle.spaces.proofs.Stepped.{Steps, done, sound-stepped, trap}
 pub invariant_of-self : goal.invariant_of-self
 invariant_of-self g c =
     let steps : Steps g.T.Translate.held c.self.inside c.step.new.trans c.step.new.self c.step.new.ram c.step.result = record {
-      memory = c.frame_count-count.ensures.memory;
-      small = c.frame_count-count.ensures.small;
+      memory = c.frames_are_whole.ensures.memory;
+      small = c.frames_are_whole.ensures.small;
       step = c.step.ensures.step;
       kept = c.step.ensures.kept;
       count = c.step.ensures.count;
@@ -15,8 +15,8 @@ invariant_of-self g c =
 pub returns : goal.returns
 returns g c =
     let steps : Steps g.T.Translate.held c.self.inside c.step.new.trans c.step.new.self c.step.new.ram c.step.result = record {
-      memory = c.frame_count-count.ensures.memory;
-      small = c.frame_count-count.ensures.small;
+      memory = c.frames_are_whole.ensures.memory;
+      small = c.frames_are_whole.ensures.small;
       step = c.step.ensures.step;
       kept = c.step.ensures.kept;
       count = c.step.ensures.count;

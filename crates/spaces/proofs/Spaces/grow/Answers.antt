@@ -9,7 +9,7 @@ use Rattle.unixmodel.specs.Memory.{zero_page}
 use Rattle.vm.specs.Dense.{frames_for}
 use Rattle.vm.specs.Leaf.{marks_from}
 use Rattle.vm.specs.Space.{mapping_of, pages_in, pages_of}
-use Rattle.vm.specs.WalkLaw.{coherent-grown}
+use Rattle.vm.proofs.WalkLaw.{coherent-grown}
 
 pub grow-requires : goal.grow-requires
 grow-requires g c =
@@ -54,7 +54,7 @@ returns-clause-refused g c =
     rw (← c.self.view_is, held-is i c.args.at x e) (err-false c.grow.result c.is_ok.result _ _ _ c.is_ok.ensures.value c.grow.ensures.only c.grow.ensures.unchanged (λ why u.
     let more : (274877898752 < x.size + c.args.bytes) ⊎ (frames_for (pages_in x.size) + free_count i.ram i.frames < frames_for (pages_in (x.size + c.args.bytes))) =
     elim why [ inl large ↦ inl (c.grow.ensures.large.0 large) | inr full ↦ inr (c.grow.ensures.full.0 full).1 ] in (
-      over-grown held i c.args.at x c.args.bytes (marks_from c.args.perm) c.self.invariant e c.frame_count-count.ensures.small more,
+      over-grown held i c.args.at x c.args.bytes (marks_from c.args.perm) c.self.invariant e c.frames_are_whole.ensures.small more,
       view-same i c.args.at x c.grow.new.ram c.grow.new.frames c.grow.new.self _ u e
           (refilled i.places.items c.deref_mut.result.now c.args.at (Some c.grow.new.self) (Some c.grow.new.self) c.deref_mut.ensures.value refl),
     )))

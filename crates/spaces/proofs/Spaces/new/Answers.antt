@@ -1,6 +1,6 @@
 use Rattle.spaces.proofs.Spaces.new.Goals as goal
 use Rattle.spaces.proofs.Pipes.{no-frames, no-pipe}
-use Rattle.vm.specs.SharesLemmas.{machine-new}
+use Rattle.vm.proofs.SharesLemmas.{machine-new}
 
 pub invariant_of-result-2 : goal.invariant_of-result-2
 invariant_of-result-2 g c = record {

@@ -3,7 +3,7 @@ use Rattle.spaces.proofs.Places.{held-is, stands-there}
 use Rattle.std.proofs.Common.{sym}
 use Rattle.vm.specs.Leaf.{mapped_as}
 use Rattle.vm.specs.Space.{mapping_of}
-use Rattle.vm.specs.WalkLaw.{mapped-page, unmapped-page}
+use Rattle.vm.proofs.WalkLaw.{mapped-page, unmapped-page}
 
 pub space_at-space-requires : goal.space_at-space-requires
 space_at-space-requires g c = stands-there c.self.inside c.args.at (rw (← c.self.view_is) at c.requires)

@@ -1,10 +1,10 @@
 use Rattle.std.proofs.Common.{refl, ◌≡◌, ◌<◌, ℕ, arith, length, ap, ◌∙◌, sym, ◌+◌, replicate, add-one, slice_set}
 use Rattle.frames.specs.Free.{free_of}
 use Rattle.ram.specs.Memory.{frame_of}
-use Rattle.vm.specs.GrowLemmas.{IsTidy-same}
+use Rattle.vm.proofs.GrowLemmas.{IsTidy-same}
 use Rattle.pagetable.specs.TreeLemmas.{free-first}
 use Rattle.std.proofs.Common.{get_or-set_same}
-use Rattle.vm.specs.StepLemmas.{IsTaken, IsNext, IsTaken-set, IsPaged-taken, tables-same, missing-taken, IsHeld-next, Trades-next, pages-next, room-next, trap-next, mapping-next}
+use Rattle.vm.proofs.StepLemmas.{IsTaken, IsNext, IsTaken-set, IsPaged-taken, tables-same, missing-taken, IsHeld-next, Trades-next, pages-next, room-next, trap-next, mapping-next}
 use Rattle.vm.proofs.Space.add_copy.Goals as goal
 
 pub copy-requires-clause-to : goal.copy-requires-clause-to

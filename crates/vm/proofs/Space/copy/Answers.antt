@@ -1,16 +1,16 @@
 use Rattle.std.proofs.Common.{◌≡◌, ℕ, ◌+◌, ◌-◌, ◌<◌, ◌≤◌, List, [], ◌∷◌, ◌++◌, length, Option, Some, None, replicate, refl, sym, ap, ◌∙◌, arith}
-use Rattle.frames.specs.HolderLemmas.{Trades-twice, Trades-lengths}
+use Rattle.frames.proofs.HolderLemmas.{Trades-twice, Trades-lengths}
 use Rattle.frames.specs.Holders.{Trades}
 use Rattle.frames.specs.Free.{free_of}
 use Rattle.ram.specs.Memory.{frame_of}
-use Rattle.vm.specs.DenseLemmas.{length-held}
+use Rattle.vm.proofs.DenseLemmas.{length-held}
 use Rattle.pagetable.specs.Tree.{lookup_of}
-use Rattle.pagetable.specs.LookupLemmas.{lookup-sound}
+use Rattle.pagetable.proofs.LookupLemmas.{lookup-sound}
 use Rattle.vm.specs.Dense.{IsHeld, frames_for, held, page_with, pages_below}
 use Rattle.vm.specs.Space.{pages_in, IsSpace}
-use Rattle.vm.specs.DenseLemmas.{pages_below-zero}
-use Rattle.vm.specs.GrowLemmas.{marks_at-is}
-use Rattle.vm.specs.CopyLemmas.{copy-page, copy-space, copy-untouched, kept-lookup}
+use Rattle.vm.proofs.DenseLemmas.{pages_below-zero}
+use Rattle.vm.proofs.GrowLemmas.{marks_at-is}
+use Rattle.vm.proofs.CopyLemmas.{copy-page, copy-space, copy-untouched, kept-lookup}
 use Rattle.vm.proofs.Space.copy.Goals as goal
 
 pub loop-page-init : goal.loop-page-init

@@ -5,9 +5,9 @@ use Rattle.std.proofs.lemmas.List.{take_all}
 use Rattle.std.proofs.lemmas.Slice.{take-put_mid}
 use Rattle.unixmodel.specs.declared.trap.Access.TheVariants.{Load}
 use Rattle.unixmodel.specs.Memory.{reach}
-use Rattle.vm.specs.PageLemmas.{length-pages}
-use Rattle.vm.specs.ReachLemmas.{reach-page, reach-next}
-use Rattle.vm.specs.SizedLemmas.{pages-sized}
+use Rattle.vm.proofs.PageLemmas.{length-pages}
+use Rattle.vm.proofs.ReachLemmas.{reach-page, reach-next}
+use Rattle.vm.proofs.SizedLemmas.{pages-sized}
 use Rattle.vm.specs.Space.{pages_in, pages_of}
 use Rattle.vm.proofs.Space.copy_in.Goals as goal
 
@@ -17,7 +17,7 @@ overflow_add-address c =
     let s = c.args.self.now in
     let n = pages_in s.size in
     let mem = pages_of m s in
-    let sized = pages-sized m s.root.0 s.trap.0 n c.frame_count-count.ensures.memory c.requires in
+    let sized = pages-sized m s.root.0 s.trap.0 n c.frames_are_whole.ensures.memory c.requires in
     let long : length c.args.buffer.now ≤ length (reach Load mem c.args.address) = leb-true _ _ (sym c.if-not-can_read.ensures.reach) in
     let next = reach-page Load mem c.args.address c.loop-done.done sized (omega (arith, long)) in
     omega (arith, next.0, length-pages m s.root.0 n, c.requires.small)
@@ -27,7 +27,7 @@ loop-done-smaller c =
     let m = c.args.ram.now in
     let s = c.args.self.now in
     let mem = pages_of m s in
-    let sized = pages-sized m s.root.0 s.trap.0 (pages_in s.size) c.frame_count-count.ensures.memory c.requires in
+    let sized = pages-sized m s.root.0 s.trap.0 (pages_in s.size) c.frames_are_whole.ensures.memory c.requires in
     let long : length c.args.buffer.now ≤ length (reach Load mem c.args.address) = leb-true _ _ (sym c.if-not-can_read.ensures.reach) in
     let next = reach-page Load mem c.args.address c.loop-done.done sized (omega (arith, long)) in
     omega (arith, next.1, ap length c.readable-piece.ensures)
@@ -40,7 +40,7 @@ loop-done-preserved c =
     let d = c.loop-done.done in
     let n = c.min-len.result in
     let i = c.loop-done.invariant in
-    let sized = pages-sized m s.root.0 s.trap.0 (pages_in s.size) c.frame_count-count.ensures.memory c.requires in
+    let sized = pages-sized m s.root.0 s.trap.0 (pages_in s.size) c.frames_are_whole.ensures.memory c.requires in
     let long : length c.args.buffer.now ≤ length (reach Load mem c.args.address) = leb-true _ _ (sym c.if-not-can_read.ensures.reach) in
     record {
       within = omega arith;

@@ -2,10 +2,10 @@ use Rattle.std.proofs.Common.{◌≡◌, ◌≢◌, ℕ, ◌+◌, ◌<◌, ◌�
 use Rattle.std.specs.Prelude.{slice_get}
 use Rattle.unixmodel.specs.declared.trap.Access.TheVariants.{Load}
 use Rattle.unixmodel.specs.Memory.{reach, string_at}
-use Rattle.vm.specs.PageLemmas.{length-pages}
-use Rattle.vm.specs.SizedLemmas.{pages-sized}
+use Rattle.vm.proofs.PageLemmas.{length-pages}
+use Rattle.vm.proofs.SizedLemmas.{pages-sized}
 use Rattle.vm.specs.Space.{pages_in, pages_of}
-use Rattle.vm.specs.StringLemmas.{piece-first, strings-start, strings-next, string-open, string-ends, string-long, string-fits}
+use Rattle.vm.proofs.StringLemmas.{piece-first, strings-start, strings-next, string-open, string-ends, string-long, string-fits}
 use Rattle.vm.proofs.Space.copy_string.Goals as goal
 
 pub loop-i-init : goal.loop-i-init
@@ -16,7 +16,7 @@ overflow_add-address c =
     let m = c.args.ram.now in
     let s = c.args.self.now in
     let n = pages_in s.size in
-    omega (arith, string-fits Load (pages_of m s) c.args.address c.loop-i.i (pages-sized m s.root.0 s.trap.0 n c.frame_count-count.ensures.memory c.requires) (omega (arith, length-pages m s.root.0 n, c.requires.small)) (omega arith) c.loop-i.invariant.within)
+    omega (arith, string-fits Load (pages_of m s) c.args.address c.loop-i.i (pages-sized m s.root.0 s.trap.0 n c.frames_are_whole.ensures.memory c.requires) (omega (arith, length-pages m s.root.0 n, c.requires.small)) (omega arith) c.loop-i.invariant.within)
 
 pub returns-in-Some-eq0-clause-string : goal.returns-in-Some-eq0-clause-string
 unfolding string_at
@@ -24,7 +24,7 @@ returns-in-Some-eq0-clause-string c =
     let m = c.args.ram.now in
     let s = c.args.self.now in
     let mem = pages_of m s in
-    let sized = pages-sized m s.root.0 s.trap.0 (pages_in s.size) c.frame_count-count.ensures.memory c.requires in
+    let sized = pages-sized m s.root.0 s.trap.0 (pages_in s.size) c.frames_are_whole.ensures.memory c.requires in
     let next = piece-first Load mem c.args.address c.loop-i.i sized c.loop-i.invariant.within in
     sym (string-ends (reach Load mem c.args.address) c.loop-i.buffer c.loop-i.i (length c.args.buffer.now) c.loop-i.invariant (omega arith) (sym next ∙ sym c.in-Some-eq0.ensures ∙ ap Some c.in-Some-eq0.field-0-test))
 
@@ -34,7 +34,7 @@ returns-in-None-clause-string c =
     let m = c.args.ram.now in
     let s = c.args.self.now in
     let mem = pages_of m s in
-    let sized = pages-sized m s.root.0 s.trap.0 (pages_in s.size) c.frame_count-count.ensures.memory c.requires in
+    let sized = pages-sized m s.root.0 s.trap.0 (pages_in s.size) c.frames_are_whole.ensures.memory c.requires in
     let next = piece-first Load mem c.args.address c.loop-i.i sized c.loop-i.invariant.within in
     sym (string-open (reach Load mem c.args.address) c.loop-i.buffer c.loop-i.i (length c.args.buffer.now) c.loop-i.invariant (sym next ∙ sym c.in-None.ensures))
 
@@ -43,7 +43,7 @@ loop-i-preserved c =
     let m = c.args.ram.now in
     let s = c.args.self.now in
     let mem = pages_of m s in
-    let sized = pages-sized m s.root.0 s.trap.0 (pages_in s.size) c.frame_count-count.ensures.memory c.requires in
+    let sized = pages-sized m s.root.0 s.trap.0 (pages_in s.size) c.frames_are_whole.ensures.memory c.requires in
     let next = piece-first Load mem c.args.address c.loop-i.i sized c.loop-i.invariant.within in
     strings-next (reach Load mem c.args.address) c.loop-i.buffer c.loop-i.i c.in-Some.byte c.loop-i.invariant (omega arith) (sym next ∙ sym c.in-Some.ensures) c.in-Some.byte-test.1
 
@@ -53,7 +53,7 @@ overflow_add-address-2 c =
     let s = c.args.self.now in
     let n = pages_in s.size in
     let all : length c.loop-i.buffer ≡ c.loop-i.i = omega arith in
-    omega (arith, string-fits Load (pages_of m s) c.args.address (length c.loop-i.buffer) (pages-sized m s.root.0 s.trap.0 n c.frame_count-count.ensures.memory c.requires) (omega (arith, length-pages m s.root.0 n, c.requires.small)) (omega arith) (omega (arith, all, c.loop-i.invariant.within)))
+    omega (arith, string-fits Load (pages_of m s) c.args.address (length c.loop-i.buffer) (pages-sized m s.root.0 s.trap.0 n c.frames_are_whole.ensures.memory c.requires) (omega (arith, length-pages m s.root.0 n, c.requires.small)) (omega arith) (omega (arith, all, c.loop-i.invariant.within)))
 
 pub returns-in-Some-eq0-byte_at-clause-string : goal.returns-in-Some-eq0-byte_at-clause-string
 unfolding string_at
@@ -62,7 +62,7 @@ returns-in-Some-eq0-byte_at-clause-string c =
     let s = c.args.self.now in
     let mem = pages_of m s in
     let all : length c.loop-i.buffer ≡ c.loop-i.i = omega arith in
-    let sized = pages-sized m s.root.0 s.trap.0 (pages_in s.size) c.frame_count-count.ensures.memory c.requires in
+    let sized = pages-sized m s.root.0 s.trap.0 (pages_in s.size) c.frames_are_whole.ensures.memory c.requires in
     let next = piece-first Load mem c.args.address c.loop-i.i sized c.loop-i.invariant.within in
     ap (λ n. Some (take n c.loop-i.buffer)) all
     ∙ sym (string-ends (reach Load mem c.args.address) c.loop-i.buffer c.loop-i.i (length c.args.buffer.now) c.loop-i.invariant (omega arith)
@@ -76,7 +76,7 @@ returns-in_default-clause-string c =
     let mem = pages_of m s in
     let all : length c.loop-i.buffer ≡ c.loop-i.i = omega arith in
     let most : c.loop-i.i ≡ length c.args.buffer.now = omega arith in
-    let sized = pages-sized m s.root.0 s.trap.0 (pages_in s.size) c.frame_count-count.ensures.memory c.requires in
+    let sized = pages-sized m s.root.0 s.trap.0 (pages_in s.size) c.frames_are_whole.ensures.memory c.requires in
     let next = piece-first Load mem c.args.address c.loop-i.i sized c.loop-i.invariant.within in
     let long = string-long (reach Load mem c.args.address) c.loop-i.buffer c.loop-i.i c.in_default.field-0 c.loop-i.invariant (sym next ∙ sym (rw all at c.byte_at-2.ensures) ∙ c.in_default.is) (λ z. c.in_default.field-0-test.1 (cc (z, c.in_default.field-0-is))) in
     sym (rw most at long)
@@ -88,6 +88,6 @@ returns-in_default-2-clause-string c =
     let s = c.args.self.now in
     let mem = pages_of m s in
     let all : length c.loop-i.buffer ≡ c.loop-i.i = omega arith in
-    let sized = pages-sized m s.root.0 s.trap.0 (pages_in s.size) c.frame_count-count.ensures.memory c.requires in
+    let sized = pages-sized m s.root.0 s.trap.0 (pages_in s.size) c.frames_are_whole.ensures.memory c.requires in
     let next = piece-first Load mem c.args.address c.loop-i.i sized c.loop-i.invariant.within in
     sym (string-open (reach Load mem c.args.address) c.loop-i.buffer c.loop-i.i (length c.args.buffer.now) c.loop-i.invariant (sym next ∙ sym (rw all at c.byte_at-2.ensures) ∙ c.in_default.is))

@@ -1,7 +1,7 @@
 use Rattle.unixmodel.specs.declared.trap.Access.TheVariants.{Load}
 use Rattle.unixmodel.specs.Memory.{reach}
 use Rattle.vm.specs.Space.{pages_of}
-use Rattle.vm.specs.StringLemmas.{Strings}
+use Rattle.vm.proofs.StringLemmas.{Strings}
 use Rattle.vm.proofs.Space.copy_string.Given as goal
 
 abbrev pub invariant-loop-i : goal.invariant-loop-i

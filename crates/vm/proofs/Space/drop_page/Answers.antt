@@ -1,8 +1,8 @@
 use Rattle.std.proofs.Common.{◌≡◌, ℕ, ◌+◌, suc, ◌≢◌, Option, Some, None, List, length, refl, sym, ap, ◌∙◌, arith, add-one}
 use Rattle.frames.specs.declared.Frames.{Frames}
 use Rattle.vm.specs.Dense.{IsHeld}
-use Rattle.vm.specs.DropLemmas.{unmapped-was, give-inside, give-held, IsHeld-drop, Trades-drop, pages-drop, mapping-drop, trap-drop}
-use Rattle.vm.specs.StepLemmas.{IsHeld-paged}
+use Rattle.vm.proofs.DropLemmas.{unmapped-was, give-inside, give-held, IsHeld-drop, Trades-drop, pages-drop, mapping-drop, trap-drop}
+use Rattle.vm.proofs.StepLemmas.{IsHeld-paged}
 use Rattle.vm.proofs.Space.drop_page.Goals as goal
 
 one_more : (m : List (List ℕ)) (r t n : ℕ) (s : Frames) → IsHeld m r t (n + 1) s → IsHeld m r t (suc n) s

@@ -4,12 +4,12 @@ use Rattle.std.proofs.lemmas.Bool.{leb-true}
 use Rattle.std.proofs.lemmas.List.{drop_all, drop-drop, take_all}
 use Rattle.unixmodel.specs.declared.trap.Access.TheVariants.{Store}
 use Rattle.unixmodel.specs.Memory.{reach, write_bytes}
-use Rattle.vm.specs.PageLemmas.{length-pages}
-use Rattle.vm.specs.ReachLemmas.{reach-page}
-use Rattle.vm.specs.SizedLemmas.{pages-sized}
+use Rattle.vm.proofs.PageLemmas.{length-pages}
+use Rattle.vm.proofs.ReachLemmas.{reach-page}
+use Rattle.vm.proofs.SizedLemmas.{pages-sized}
 use Rattle.vm.specs.Space.{pages_in, pages_of}
-use Rattle.vm.specs.StoreLemmas.{Stands-none, Stands-twice}
-use Rattle.vm.specs.WriteLemmas.{write-none}
+use Rattle.vm.proofs.StoreLemmas.{Stands-none, Stands-twice}
+use Rattle.vm.proofs.WriteLemmas.{write-none}
 use Rattle.vm.proofs.Space.fill.Goals as goal
 
 pub loop-done-init : goal.loop-done-init

@@ -1,12 +1,12 @@
 use Rattle.std.proofs.Common.{◌≡◌, ℕ, ◌<◌, ◌≤◌, Some, None, length, refl, sym, ap, ◌∙◌, arith}
-use Rattle.pagetable.specs.LookupLemmas.{lookup-sound}
+use Rattle.pagetable.proofs.LookupLemmas.{lookup-sound}
 use Rattle.unixmodel.specs.Memory.{Marks}
 use Rattle.sv39.specs.Mapping.{Mapped}
 use Rattle.pagetable.specs.Marks.{page_marks}
 use Rattle.vm.specs.Dense.{frame_at, marks_at}
-use Rattle.vm.specs.GrowLemmas.{frame_at-is, marks_at-is}
+use Rattle.vm.proofs.GrowLemmas.{frame_at-is, marks_at-is}
 use Rattle.vm.specs.Space.{pages_in}
-use Rattle.vm.specs.WalkLaw.{get-mapping, mapping-past, mapped-parts}
+use Rattle.vm.proofs.WalkLaw.{get-mapping, mapping-past, mapped-parts}
 use Rattle.vm.proofs.Space.find_page.Goals as goal
 
 pub returns-then-page-pages_in-clause-found : goal.returns-then-page-pages_in-clause-found

@@ -1,13 +1,13 @@
 use Rattle.std.proofs.Common.{◌≡◌, ℕ, ◌+◌, ◌-◌, ◌≤◌, List, [], ◌∷◌, ◌++◌, length, replicate, refl, sym, ap, ◌∙◌, arith, append-nil, append_assoc}
 use Rattle.std.proofs.lemmas.List.{replicate_more}
-use Rattle.frames.specs.HolderLemmas.{Trades-none, Trades-twice, held-count}
+use Rattle.frames.proofs.HolderLemmas.{Trades-none, Trades-twice, held-count}
 use Rattle.vm.specs.Dense.{IsHeld, frames_for, held, page_with, pages_below}
-use Rattle.vm.specs.DenseLemmas.{length-held}
+use Rattle.vm.proofs.DenseLemmas.{length-held}
 use Rattle.unixmodel.specs.Memory.{zero_page}
 use Rattle.pagetable.specs.Marks.{IsLeafMarks-leaf_marks}
 use Rattle.vm.specs.Leaf.{marks_from}
-use Rattle.vm.specs.LeafLemmas.{leaf-user, page-zero}
-use Rattle.vm.specs.PageLemmas.{take-mapping}
+use Rattle.vm.proofs.LeafLemmas.{leaf-user, page-zero}
+use Rattle.vm.proofs.PageLemmas.{take-mapping}
 use Rattle.vm.specs.Space.{pages_in}
 use Rattle.vm.proofs.Space.grow.Goals as goal
 

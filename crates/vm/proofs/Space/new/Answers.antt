@@ -2,10 +2,10 @@ use Rattle.std.proofs.Common.{refl, ◌≡◌, ◌<◌, ℕ, arith, length, ap, 
 use Rattle.frames.specs.Free.{free_of}
 use Rattle.ram.specs.Memory.{frame_of}
 use Rattle.pagetable.specs.TreeLemmas.{free-first}
-use Rattle.pagetable.specs.EmptyLemmas.{IsTidy-empty}
-use Rattle.vm.specs.StepLemmas.{IsTaken, IsTaken-set}
-use Rattle.vm.specs.LeafLemmas.{leaf-trap}
-use Rattle.vm.specs.NewLemmas.{start-empty, start-paged, start-missing, start-free, IsHeld-start, Trades-start, registers-start}
+use Rattle.pagetable.proofs.EmptyLemmas.{IsTidy-empty}
+use Rattle.vm.proofs.StepLemmas.{IsTaken, IsTaken-set}
+use Rattle.vm.proofs.LeafLemmas.{leaf-trap}
+use Rattle.vm.proofs.NewLemmas.{start-empty, start-paged, start-missing, start-free, IsHeld-start, Trades-start, registers-start}
 use Rattle.vm.proofs.Space.new.Goals as goal
 
 pub zero-requires : goal.zero-requires

@@ -2,9 +2,9 @@ use Rattle.std.proofs.Common.{◌≡◌, ℕ, ◌+◌, ◌<◌, ◌≤◌, Some,
 use Rattle.unixmodel.specs.Memory.{permits}
 use Rattle.vm.specs.Leaf.{mapped_as}
 use Rattle.vm.specs.Reach.{run_of}
-use Rattle.vm.specs.ReachLemmas.{run-more, run-stop, run-end}
+use Rattle.vm.proofs.ReachLemmas.{run-more, run-stop, run-end}
 use Rattle.vm.specs.Space.{mapping_of, pages_of}
-use Rattle.vm.specs.WalkLaw.{mapped-page, unmapped-page}
+use Rattle.vm.proofs.WalkLaw.{mapped-page, unmapped-page}
 use Rattle.vm.proofs.Space.run.Goals as goal
 
 pub returns-in_default : goal.returns-in_default

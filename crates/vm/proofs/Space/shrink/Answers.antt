@@ -1,7 +1,7 @@
 use Rattle.std.proofs.Common.{◌≡◌, ◌-◌, ◌≤◌, ap, ◌∙◌, sym, take, arith}
 use Rattle.vm.specs.Dense.{mapping_below, pages_below}
 use Rattle.vm.specs.Space.{pages_in}
-use Rattle.vm.specs.PageLemmas.{take-pages, take-mapping}
+use Rattle.vm.proofs.PageLemmas.{take-pages, take-mapping}
 use Rattle.vm.proofs.Space.shrink.Goals as goal
 
 pub returns-clause-pages : goal.returns-clause-pages

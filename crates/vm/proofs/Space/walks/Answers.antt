@@ -2,12 +2,12 @@ use Rattle.std.proofs.Common.{◌≡◌, ℕ, ◌<◌, length, refl, sym, ap, �
 use Rattle.sv39.specs.Mapping.{Mapped}
 use Rattle.pagetable.specs.TreeLemmas.{tree-root}
 use Rattle.vm.specs.Space.{pages_in}
-use Rattle.vm.specs.StoreLemmas.{page-inside, pages-same}
-use Rattle.vm.specs.WalkLaw.{walks-mapping, mapping-within, mapping-is}
+use Rattle.vm.proofs.StoreLemmas.{page-inside, pages-same}
+use Rattle.vm.proofs.WalkLaw.{walks-mapping, mapping-within, mapping-is}
 use Rattle.vm.proofs.Space.walks.Goals as goal
 
 pub returns-clause-walks : goal.returns-clause-walks
-returns-clause-walks c = walks-mapping c.args.ram.now c.args.self.now.root.0 c.args.self.now.trap.0 (pages_in c.args.self.now.size) c.frame_count-count.ensures.small c.requires
+returns-clause-walks c = walks-mapping c.args.ram.now c.args.self.now.root.0 c.args.self.now.trap.0 (pages_in c.args.self.now.size) c.frames_are_whole.ensures.small c.requires
 
 pub returns-clause-root : goal.returns-clause-root
 returns-clause-root c = tree-root c.args.ram.now c.args.self.now.root.0 c.requires.tree

@@ -6,8 +6,8 @@ use Rattle.unixmodel.specs.Memory.{write_bytes}
 use Rattle.vm.specs.Dense.{frame_at, mapped_at, page_at}
 use Rattle.vm.specs.Leaf.{mapped_as}
 use Rattle.vm.specs.Space.{pages_in, mapping_of, pages_of}
-use Rattle.vm.specs.WalkLaw.{get-mapping, mapping-is, mapped-page}
-use Rattle.vm.specs.WriteLemmas.{put-stored, put-written, write-page}
+use Rattle.vm.proofs.WalkLaw.{get-mapping, mapping-is, mapped-page}
+use Rattle.vm.proofs.WriteLemmas.{put-stored, put-written, write-page}
 use Rattle.vm.proofs.Space.write_page.Goals as goal
 
 none-some : (e : Mapped) → None ≡ Some e → ⊥

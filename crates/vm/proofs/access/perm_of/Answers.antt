@@ -1,5 +1,5 @@
 use Rattle.std.proofs.Common.{◌≡◌, ℕ}
-use Rattle.vm.specs.LeafLemmas.{leaf-read}
+use Rattle.vm.proofs.LeafLemmas.{leaf-read}
 use Rattle.vm.proofs.access.perm_of.Goals as goal
 
 pub returns : goal.returns

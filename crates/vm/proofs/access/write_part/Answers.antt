@@ -1,7 +1,7 @@
 use Rattle.std.proofs.Common.{◌≡◌, ℕ, ◌+◌, ◌-◌, ◌≤◌, length, refl, sym, ap, ◌∙◌, arith, slice_set}
 use Rattle.ram.specs.Memory.{frame_of, put}
-use Rattle.vm.specs.PartLemmas.{part-put}
+use Rattle.vm.proofs.PartLemmas.{part-put}
 use Rattle.vm.proofs.access.write_part.Goals as goal
 
 pub returns : goal.returns
-returns c = part-put c.args.ram.now c.args.frame.0 c.args.at c.args.bytes.now _ _ _ (omega arith) c.requires.place (c.frame_count-count.ensures.memory.sized c.args.frame.0 c.requires.frame) c.frame_mut-page.ensures.value c.copy_from_slice.ensures.after
+returns c = part-put c.args.ram.now c.args.frame.0 c.args.at c.args.bytes.now _ _ _ (omega arith) c.requires.place (c.frames_are_whole.ensures.memory.sized c.args.frame.0 c.requires.frame) c.frame_mut-page.ensures.value c.copy_from_slice.ensures.after

@@ -1,4 +1,4 @@
-use Rattle.vm.specs.SharesLemmas.{free-left}
+use Rattle.vm.proofs.SharesLemmas.{free-left}
 use Rattle.vm.proofs.shares.free_frames_are_the_rest.Goals as goal
 
 pub returns : goal.returns

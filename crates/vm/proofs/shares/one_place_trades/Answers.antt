@@ -1,4 +1,4 @@
-use Rattle.vm.specs.SharesLemmas.{trade-machine, trade-others, trade-rest}
+use Rattle.vm.proofs.SharesLemmas.{trade-machine, trade-others, trade-rest}
 use Rattle.vm.proofs.shares.one_place_trades.Goals as goal
 
 pub returns-clause-machine : goal.returns-clause-machine

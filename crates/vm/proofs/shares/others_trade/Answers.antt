@@ -1,4 +1,4 @@
-use Rattle.vm.specs.SharesLemmas.{rest-machine, rest-untouched}
+use Rattle.vm.proofs.SharesLemmas.{rest-machine, rest-untouched}
 use Rattle.vm.proofs.shares.others_trade.Goals as goal
 
 pub returns-clause-machine : goal.returns-clause-machine

@@ -1,6 +1,6 @@
 use Rattle.std.proofs.Common.{arith}
 use Rattle.console.proofs.Lines.{line-drop_first}
-use Rattle.ring.specs.RingLemmas.{length-ring}
+use Rattle.ring.proofs.RingLemmas.{length-ring}
 use Rattle.console.proofs.input.Console.drop_first.Goals as goal
 
 pub overflow_sub-self : goal.overflow_sub-self

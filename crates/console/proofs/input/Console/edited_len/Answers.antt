@@ -1,5 +1,5 @@
 use Rattle.std.proofs.Common.{sym}
-use Rattle.ring.specs.RingLemmas.{length-ring}
+use Rattle.ring.proofs.RingLemmas.{length-ring}
 use Rattle.console.proofs.input.Console.edited_len.Goals as goal
 
 pub returns : goal.returns

@@ -1,5 +1,5 @@
 use Rattle.std.proofs.Common.{arith, sym}
-use Rattle.ring.specs.RingLemmas.{length-ring, first-ring, none-ring}
+use Rattle.ring.proofs.RingLemmas.{length-ring, first-ring, none-ring}
 use Rattle.console.proofs.input.Console.first.Goals as goal
 
 pub returns-then-self-eq0-clause-first : goal.returns-then-self-eq0-clause-first

@@ -1,7 +1,7 @@
 use Rattle.std.proofs.Common.{◌<◌, ◌≡◌, arith, false, inl, inr, length, refl, rules, sym}
 use Rattle.std.proofs.lemmas.List.{length-drop, take_more_set}
 use Rattle.console.proofs.ReadSteps.{first-some, read-begin, read-end, read-kept, read-last, read-more, read-none, read-over}
-use Rattle.ring.specs.RingLemmas.{length-ring}
+use Rattle.ring.proofs.RingLemmas.{length-ring}
 use Rattle.console.proofs.input.Console.take.Goals as goal
 
 pub loop-count-init : goal.loop-count-init

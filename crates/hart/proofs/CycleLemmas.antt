@@ -1,0 +1,164 @@
+-- What an instruction leaves, whichever it is.
+use Rattle.std.proofs.Common.{Bool, true, false, cond, arith, refl, ap, ◌∙◌, ◌≡◌, ℕ, zero, suc, ◌*◌, ◌/◌, ◌%◌, ◌^◌, ◌<◌, inl, inr, subst, List, length, length-set, get_or-set_other, Option, Some, None, Ok, Err}
+use Rattle.std.specs.Prelude.{◌==◌, slice_index}
+use Rattle.std.proofs.lemmas.Bool.Decides.{nat_tests}
+use Rattle.unixmodel.specs.declared.instr.Instr.{Instr}
+use Rattle.unixmodel.specs.declared.instr.LoadOp.{LoadOp}
+use Rattle.unixmodel.specs.declared.instr.StoreOp.{StoreOp}
+use Rattle.unixmodel.specs.declared.instr.StoreOp.TheVariants.{Sb, Sd, Sh, Sw}
+use Rattle.unixmodel.specs.declared.trap.Access.TheVariants.{Fetch, Load, Store}
+use Rattle.unixmodel.specs.declared.trap.Cause.{Cause}
+use Rattle.unixmodel.specs.declared.trap.Cause.TheVariants.{IllegalInstruction, InstructionPageFault}
+use Rattle.unixmodel.specs.Cycle.{act_word, cycle, fetched}
+use Rattle.unixmodel.specs.Meaning.{Computed, Effect, act, branch, is_taken, jump, load_from, load_size, store_size, store_to, trap, write}
+use Rattle.unixmodel.specs.Memory.{Memory, Page, bytes_at, page_for}
+use Rattle.unixmodel.specs.Numbers.{extend, le, number, plus}
+use Rattle.unixmodel.specs.Words.{instruction_of}
+use Rattle.hart.specs.Changes.{Stores}
+use Rattle.hart.specs.Sizes.{IsSize}
+use Rattle.hart.proofs.Registers.{IsHart}
+use Rattle.unixmodel.specs.declared.instr.Instr.TheVariants as instr
+
+-- ---- what holds of traps and of each instruction's effect holds of a cycle's
+
+at_word : (P : Effect → Type 0) (regs : List ℕ) (pc : ℕ) (mem : Memory) (found : Option Instr) → ((c : Cause) (address : ℕ) → P (trap c address)) → ((i : Instr) → P (act i regs pc mem)) → P (act_word found regs pc mem)
+at_word P regs pc mem None traps acts = traps IllegalInstruction pc
+at_word P regs pc mem (Some i) traps acts = acts i
+
+at_page : (P : Effect → Type 0) (regs : List ℕ) (pc : ℕ) (mem : Memory) (page : Option Page) → ((c : Cause) (address : ℕ) → P (trap c address)) → ((i : Instr) → P (act i regs pc mem)) → P (fetched page regs pc mem)
+at_page P regs pc mem None traps acts = traps InstructionPageFault pc
+at_page P regs pc mem (Some p) traps acts = at_word P regs pc mem (instruction_of (number (bytes_at 4 pc p))) traps acts
+
+at_cycle : (P : Effect → Type 0) (regs : List ℕ) (pc : ℕ) (mem : Memory) → ((c : Cause) (address : ℕ) → P (trap c address)) → ((i : Instr) → P (act i regs pc mem)) → P (cycle regs pc mem)
+unfolding cycle
+at_cycle P regs pc mem traps acts = at_page P regs pc mem (page_for Fetch mem pc) traps acts
+
+at_test : (P : Effect → Type 0) (b : Bool) (d e : Effect) → (b ≡ true → P d) → P e → P (cond b d e)
+at_test P true d e f g = f refl
+at_test P false d e f g = g
+
+is_zero : (n : ℕ) → (n == 0) ≡ true → n ≡ 0
+is_zero n h = grind (arith, nat_tests)
+
+-- ---- the change of the memory
+
+abbrev Leaves : Memory → Effect → Type 0
+Leaves mem (Ok d) = Stores mem d.change
+Leaves mem (Err t) = Unit {0}
+
+length-le : (n x : ℕ) → length (le n x) ≡ n
+length-le zero x = refl
+length-le (suc n) x = ap suc (length-le n (x / 256))
+
+store_size-is : (op : StoreOp) → IsSize (store_size op)
+store_size-is Sb = inl refl
+store_size-is Sh = inr (inl refl)
+store_size-is Sw = inr (inr (inl refl))
+store_size-is Sd = inr (inr (inr refl))
+
+load-leaves : (regs : List ℕ) (pc : ℕ) (mem : Memory) (op : LoadOp) (rd address : ℕ) (page : Option Page) → Leaves mem (load_from regs pc op rd address page)
+load-leaves regs pc mem op rd address None = tt
+load-leaves regs pc mem op rd address (Some p) = tt
+
+store-leaves : (regs : List ℕ) (pc : ℕ) (mem : Memory) (op : StoreOp) (address value : ℕ) (page : Option Page) → page_for Store mem address ≡ page → address % store_size op ≡ 0 → Leaves mem (store_to regs pc address (le (store_size op) value) page)
+store-leaves regs pc mem op address value None found aligned = tt
+store-leaves regs pc mem op address value (Some p) found aligned =
+    let count : length (le (store_size op) value) ≡ store_size op = length-le (store_size op) value in
+    record { page = p; found = found; size = rw count (store_size-is op); aligned = rw count aligned }
+
+act-leaves : (regs : List ℕ) (pc : ℕ) (mem : Memory) (i : Instr) → Leaves mem (act i regs pc mem)
+unfolding act
+act-leaves regs pc mem (instr.Jal rd offset) = let target = plus pc (extend 21 offset) in at_test (Leaves mem) (target % 4 == 0) _ _ (λ _. tt) tt
+act-leaves regs pc mem (instr.Jalr rd rs1 imm) = let target = plus (slice_index regs rs1) (extend 12 imm) / 2 * 2 in at_test (Leaves mem) (target % 4 == 0) _ _ (λ _. tt) tt
+act-leaves regs pc mem (instr.Branch op rs1 rs2 offset) =
+    let target = plus pc (extend 13 offset) in
+    at_test (Leaves mem) (is_taken op (slice_index regs rs1) (slice_index regs rs2)) _ _ (λ _. at_test (Leaves mem) (target % 4 == 0) _ _ (λ _. tt) tt) tt
+act-leaves regs pc mem (instr.Load op rd rs1 imm) =
+    let address = plus (slice_index regs rs1) (extend 12 imm) in
+    at_test (Leaves mem) (address % load_size op == 0) _ _ (λ _. load-leaves regs pc mem op rd address (page_for Load mem address)) tt
+act-leaves regs pc mem (instr.Store op rs1 rs2 imm) =
+    let address = plus (slice_index regs rs1) (extend 12 imm) in
+    at_test (Leaves mem) (address % store_size op == 0) _ _ (λ h. store-leaves regs pc mem op address (slice_index regs rs2) (page_for Store mem address) refl (is_zero _ h)) tt
+act-leaves regs pc mem _ = tt
+
+-- what an instruction writes is what a store may write
+pub cycle-stores : (regs : List ℕ) (pc : ℕ) (mem : Memory) (d : Computed) → cycle regs pc mem ≡ Ok d → Stores mem d.change
+cycle-stores regs pc mem d h = subst (Leaves mem) h (at_cycle (Leaves mem) regs pc mem (λ c address. tt) (act-leaves regs pc mem))
+
+-- ---- the registers and the pc
+
+abbrev Shapes : Effect → Type 0
+Shapes (Ok d) = IsHart d.regs d.pc
+Shapes (Err t) = Unit {0}
+
+length-write : (regs : List ℕ) (rd value : ℕ) → length (write regs rd value) ≡ length regs
+length-write regs zero value = refl
+length-write regs (suc r) value = length-set regs (suc r) value
+
+write-first : (regs : List ℕ) (rd value : ℕ) → slice_index (write regs rd value) 0 ≡ slice_index regs 0
+write-first regs zero value = refl
+write-first regs (suc r) value = get_or-set_other regs (suc r) 0 value 0 (λ h. absurd (omega arith))
+
+IsHart-write : (regs : List ℕ) (pc rd value next : ℕ) → IsHart regs pc → next < 2 ^ 64 → next % 4 ≡ 0 → IsHart (write regs rd value) next
+IsHart-write regs pc rd value next was small aligned =
+    record { count = length-write regs rd value ∙ was.count; zero = write-first regs rd value ∙ was.zero; bounded = small; aligned = aligned }
+
+next-aligned : (pc : ℕ) → pc % 4 ≡ 0 → plus pc 4 % 4 ≡ 0
+next-aligned pc h = omega arith
+
+plus-small : (a b : ℕ) → plus a b < 2 ^ 64
+plus-small a b = omega arith
+
+set_register-shapes : (regs : List ℕ) (pc rd value : ℕ) → IsHart regs pc → IsHart (write regs rd value) (plus pc 4)
+set_register-shapes regs pc rd value was = IsHart-write regs pc rd value (plus pc 4) was (plus-small pc 4) (next-aligned pc was.aligned)
+
+jump-shapes : (regs : List ℕ) (pc rd target : ℕ) → IsHart regs pc → target < 2 ^ 64 → Shapes (jump regs pc rd target)
+jump-shapes regs pc rd target was small =
+    at_test Shapes (target % 4 == 0) _ _ (λ h. IsHart-write regs pc rd (plus pc 4) target was small (is_zero _ h)) tt
+
+advance-shapes : (regs : List ℕ) (pc : ℕ) → IsHart regs pc → IsHart regs (plus pc 4)
+advance-shapes regs pc was = record { count = was.count; zero = was.zero; bounded = plus-small pc 4; aligned = next-aligned pc was.aligned }
+
+branch-shapes : (regs : List ℕ) (pc : ℕ) (taken : Bool) (target : ℕ) → IsHart regs pc → target < 2 ^ 64 → Shapes (branch regs pc taken target)
+branch-shapes regs pc taken target was small =
+    at_test Shapes taken _ _
+    (λ _. at_test Shapes (target % 4 == 0) _ _ (λ h. record { count = was.count; zero = was.zero; bounded = small; aligned = is_zero _ h }) tt)
+    (advance-shapes regs pc was)
+
+load-shapes : (regs : List ℕ) (pc : ℕ) (op : LoadOp) (rd address : ℕ) (page : Option Page) → IsHart regs pc → Shapes (load_from regs pc op rd address page)
+load-shapes regs pc op rd address None was = tt
+load-shapes regs pc op rd address (Some p) was = set_register-shapes regs pc rd _ was
+
+store-shapes : (regs : List ℕ) (pc address : ℕ) (bytes : List ℕ) (page : Option Page) → IsHart regs pc → Shapes (store_to regs pc address bytes page)
+store-shapes regs pc address bytes None was = tt
+store-shapes regs pc address bytes (Some p) was = advance-shapes regs pc was
+
+halved : (x : ℕ) → x < 2 ^ 64 → x / 2 * 2 < 2 ^ 64
+halved x h = omega arith
+
+act-shapes : (regs : List ℕ) (pc : ℕ) (mem : Memory) → IsHart regs pc → (i : Instr) → Shapes (act i regs pc mem)
+unfolding act
+act-shapes regs pc mem was (instr.Lui rd imm) = set_register-shapes regs pc rd _ was
+act-shapes regs pc mem was (instr.Auipc rd imm) = set_register-shapes regs pc rd _ was
+act-shapes regs pc mem was (instr.Jal rd offset) = jump-shapes regs pc rd _ was (plus-small pc (extend 21 offset))
+act-shapes regs pc mem was (instr.Jalr rd rs1 imm) = jump-shapes regs pc rd _ was (halved _ (plus-small (slice_index regs rs1) (extend 12 imm)))
+act-shapes regs pc mem was (instr.Branch op rs1 rs2 offset) = branch-shapes regs pc (is_taken op (slice_index regs rs1) (slice_index regs rs2)) _ was (plus-small pc (extend 13 offset))
+act-shapes regs pc mem was (instr.Load op rd rs1 imm) =
+    let address = plus (slice_index regs rs1) (extend 12 imm) in
+    at_test Shapes (address % load_size op == 0) _ _ (λ _. load-shapes regs pc op rd address (page_for Load mem address) was) tt
+act-shapes regs pc mem was (instr.Store op rs1 rs2 imm) =
+    let address = plus (slice_index regs rs1) (extend 12 imm) in
+    at_test Shapes (address % store_size op == 0) _ _ (λ _. store-shapes regs pc address _ (page_for Store mem address) was) tt
+act-shapes regs pc mem was (instr.Imm op rd rs1 imm) = set_register-shapes regs pc rd _ was
+act-shapes regs pc mem was (instr.Shift op rd rs1 amount) = set_register-shapes regs pc rd _ was
+act-shapes regs pc mem was (instr.Reg op rd rs1 rs2) = set_register-shapes regs pc rd _ was
+act-shapes regs pc mem was (instr.Addiw rd rs1 imm) = set_register-shapes regs pc rd _ was
+act-shapes regs pc mem was (instr.ShiftW op rd rs1 amount) = set_register-shapes regs pc rd _ was
+act-shapes regs pc mem was (instr.RegW op rd rs1 rs2) = set_register-shapes regs pc rd _ was
+act-shapes regs pc mem was (instr.Fence rd rs1 imm) = advance-shapes regs pc was
+act-shapes regs pc mem was instr.Ecall = tt
+act-shapes regs pc mem was instr.Ebreak = tt
+
+-- an instruction leaves registers and a pc that a hart may have
+pub cycle-registers : (regs : List ℕ) (pc : ℕ) (mem : Memory) (d : Computed) → IsHart regs pc → cycle regs pc mem ≡ Ok d → IsHart d.regs d.pc
+cycle-registers regs pc mem d was h = subst Shapes h (at_cycle Shapes regs pc mem (λ c address. tt) (act-shapes regs pc mem was))

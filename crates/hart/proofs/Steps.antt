@@ -1,0 +1,416 @@
+-- Steps whose accesses a translator answers.
+use Rattle.std.proofs.Common.{◌≡◌, ℕ, ◌-◌, ◌/◌, ◌%◌, List, [], Option, Some, None, Ok, Err, refl, arith, ap, sym, subst, ◌∙◌, inl, inr, Bool, true, false, ◌&&◌, ◌==◌}
+use Rattle.std.specs.Prelude.{if◌then◌else◌, IfSome, slice_get, slice_index, slice_index_or, slice_set, option_map}
+use Rattle.std.proofs.lemmas.Bool.{and_parts, eqb-true, eq-eqb}
+use Rattle.unixmodel.specs.declared.instr.Instr.{Instr}
+use Rattle.unixmodel.specs.declared.instr.LoadOp.{LoadOp}
+use Rattle.unixmodel.specs.declared.instr.StoreOp.{StoreOp}
+use Rattle.unixmodel.specs.declared.trap.Access.{Access}
+use Rattle.unixmodel.specs.declared.trap.Access.TheVariants.{Fetch, Load, Store}
+use Rattle.unixmodel.specs.declared.trap.Cause.TheVariants.{IllegalInstruction, InstructionPageFault, LoadMisaligned, StoreMisaligned, StorePageFault}
+use Rattle.unixmodel.specs.declared.trap.Trap.{Trap}
+use Rattle.unixmodel.specs.Cycle.{act_word, cycle, fetched}
+use Rattle.unixmodel.specs.Meaning.{Change, Computed, Effect, act, load_from, load_size, store_size, store_to, trap}
+use Rattle.unixmodel.specs.Meaning.Change.{Bytes, Nothing}
+use Rattle.unixmodel.specs.Memory.{Memory, Page, bytes_at, overwrite, page_for}
+use Rattle.unixmodel.specs.Numbers.{extend, le, number, plus}
+use Rattle.unixmodel.specs.Translation.{Held, IsAnswer, IsKept, place_in, walk_page}
+use Rattle.unixmodel.specs.Words.{instruction_of}
+use Rattle.sv39.specs.Mapping.{Mapped, Shows, allowed, frame_for, memory_of, page_in}
+use Rattle.hart.specs.Answered.{Answers, AreAllowed, Does, IsStep, Sight, act_by, cycle_by, fetched_by, given, load_by, put_at, seen, store_by, stored, word_by}
+use Rattle.hart.proofs.ChangeLemmas.{stored-entry}
+use Rattle.hart.specs.Changes.{Stores, changed, put_in}
+use Rattle.hart.proofs.CycleLemmas.{cycle-stores}
+use Rattle.hart.specs.Follows.{Computes, Follows}
+use Rattle.hart.specs.declared.state.Hart.{Hart}
+use Rattle.hart.proofs.Mappings.{page_for-memory_of}
+use Rattle.unixmodel.specs.declared.instr.Instr.TheVariants as instr
+
+-- ---- an answer
+
+pub frame_in : (va frame pa : ℕ) → pa ≡ place_in va frame → pa / 4096 - 0x80000 ≡ frame
+frame_in va frame pa is = omega (arith, is)
+
+walked-frame : (va pa : ℕ) (o : Option ℕ) → Some pa ≡ option_map (place_in va) o → Some (place_in va (pa / 4096 - 0x80000)) ≡ option_map (place_in va) o
+walked-frame va pa None h = absurd (cc)
+walked-frame va pa (Some f) h =
+    let is : pa ≡ place_in va f = cc in
+    ap (λ n. Some (place_in va n)) (frame_in va f pa is)
+
+-- an address that was answered is a place in a frame
+pub answered-frame : (held : Held) (ram : List (List ℕ)) (root va pa : ℕ) (access : Access) → IsAnswer held ram root va access (Some pa) → IsAnswer held ram root va access (Some (place_in va (pa / 4096 - 0x80000)))
+answered-frame held ram root va pa access (inl now) = inl (walked-frame va pa (walk_page ram root (va / 4096) access).frame now)
+answered-frame held ram root va pa access (inr kept) =
+    let is : pa ≡ place_in va kept.0 = cc (kept.2) in
+    inr (kept.0, kept.1, ap (λ n. Some (place_in va n)) (frame_in va kept.0 pa is))
+
+-- what may be answered later may be answered before
+pub answered-kept : (old new : Held) (ram : List (List ℕ)) (root va : ℕ) (access : Access) (answer : Option ℕ) → IsKept old new ram root → IsAnswer new ram root va access answer → IsAnswer old ram root va access answer
+answered-kept old new ram root va access answer kept (inl walked) = inl walked
+answered-kept old new ram root va access answer kept (inr held) =
+    elim (kept (record { root = root; page = va / 4096; access = access; frame = held.0 }) held.1) [
+      | inl before ↦ inr (held.0, before, held.2)
+      | inr now ↦ inl (held.2 ∙ ap (option_map (place_in va)) (sym now.1))
+    ]
+
+-- ---- answers
+
+-- those of the walk
+abbrev walked : List (List ℕ) → ℕ → Answers
+walked ram root access address = (walk_page ram root (address / 4096) access).frame
+
+abbrev same : Access → Access → Bool
+same Fetch Fetch = true
+same Fetch Load = false
+same Fetch Store = false
+same Load Fetch = false
+same Load Load = true
+same Load Store = false
+same Store Fetch = false
+same Store Load = false
+same Store Store = true
+
+same-is : (a b : Access) → same a b ≡ true → a ≡ b
+same-is Fetch Fetch h = refl
+same-is Fetch Load h = absurd (cc)
+same-is Fetch Store h = absurd (cc)
+same-is Load Fetch h = absurd (cc)
+same-is Load Load h = refl
+same-is Load Store h = absurd (cc)
+same-is Store Fetch h = absurd (cc)
+same-is Store Load h = absurd (cc)
+same-is Store Store h = refl
+
+same-self : (a : Access) → same a a ≡ true
+same-self Fetch = refl
+same-self Load = refl
+same-self Store = refl
+
+-- with another answer to one access
+abbrev with_answer : Access → ℕ → Option ℕ → Answers → Answers
+with_answer access address o answers a b = if same access a && (address == b) then o else answers a b
+
+with_answer-itself : (access : Access) (address : ℕ) (o : Option ℕ) (answers : Answers) → with_answer access address o answers access address ≡ o
+with_answer-itself access address o answers = rw (same-self access, eq-eqb address address refl) refl
+
+chosen : (held : Held) (ram : List (List ℕ)) (root va : ℕ) (access : Access) (t : Bool) (o p : Option ℕ)
+    → (t ≡ true → IsAnswer held ram root va access (option_map (place_in va) o)) → IsAnswer held ram root va access (option_map (place_in va) p)
+    → IsAnswer held ram root va access (option_map (place_in va) (if t then o else p))
+chosen held ram root va access true o p f g = f refl
+chosen held ram root va access false o p f g = g
+
+with_answer-allowed : (held : Held) (ram : List (List ℕ)) (root : ℕ) (access : Access) (address : ℕ) (o : Option ℕ) (answers : Answers) → AreAllowed held ram root answers
+    → IsAnswer held ram root address access (option_map (place_in address) o) → AreAllowed held ram root (with_answer access address o answers)
+with_answer-allowed held ram root access address o answers allowed is a b =
+    chosen held ram root b a (same access a && (address == b)) o (answers a b)
+    (λ h.
+    let both = and_parts (same access a) (address == b) h in
+    let P : Access → Type 0 = λ x. IsAnswer held ram root b x (option_map (place_in b) o) in
+    let Q : ℕ → Type 0 = λ n. IsAnswer held ram root n access (option_map (place_in n) o) in
+    subst P (same-is access a both.0) (subst Q (eqb-true address b both.1) is))
+    (allowed a b)
+
+-- ---- steps without an access
+
+pub does_computes : (effect : Effect) (answers : Answers) (result : Option Trap) (old new : Hart) (ram : List (List ℕ)) → Computes effect result old new → Does effect answers result old new ram ram
+does_computes (Ok d) answers result old new ram h = (h.0, h.1, h.2, h.3, ap (stored ram answers) (sym h.4))
+does_computes (Err t) answers result old new ram h = (h.0, h.1, refl)
+
+-- all instructions but loads and stores
+abbrev pub has_no_access : Instr → Bool
+has_no_access (instr.Load op rd rs1 imm) = false
+has_no_access (instr.Store op rs1 rs2 imm) = false
+has_no_access i = true
+
+act_by-without : (i : Instr) (regs : List ℕ) (pc : ℕ) (see : Sight) → has_no_access i ≡ true → act_by i regs pc see ≡ act i regs pc []
+unfolding act_by
+act_by-without (instr.Lui rd imm) regs pc see h = refl
+act_by-without (instr.Auipc rd imm) regs pc see h = refl
+act_by-without (instr.Jal rd offset) regs pc see h = refl
+act_by-without (instr.Jalr rd rs1 imm) regs pc see h = refl
+act_by-without (instr.Branch op rs1 rs2 offset) regs pc see h = refl
+act_by-without (instr.Load op rd rs1 imm) regs pc see h = absurd (cc)
+act_by-without (instr.Store op rs1 rs2 imm) regs pc see h = absurd (cc)
+act_by-without (instr.Imm op rd rs1 imm) regs pc see h = refl
+act_by-without (instr.Shift op rd rs1 amount) regs pc see h = refl
+act_by-without (instr.Reg op rd rs1 rs2) regs pc see h = refl
+act_by-without (instr.Addiw rd rs1 imm) regs pc see h = refl
+act_by-without (instr.ShiftW op rd rs1 amount) regs pc see h = refl
+act_by-without (instr.RegW op rd rs1 rs2) regs pc see h = refl
+act_by-without (instr.Fence rd rs1 imm) regs pc see h = refl
+act_by-without instr.Ecall regs pc see h = refl
+act_by-without instr.Ebreak regs pc see h = refl
+
+pub step_acts : (held : Held) (i : Instr) (result : Option Trap) (old new : Hart) (ram : List (List ℕ)) → has_no_access i ≡ true → Computes (act i old.registers old.pc []) result old new
+    → IsStep held (act_by i old.registers old.pc) result old new ram ram
+step_acts held i result old new ram none h =
+    let answers : Answers = walked ram old.root.0 in
+    let P : Effect → Type 0 = λ e. Does e answers result old new ram ram in
+    record {
+      answers = answers;
+      allowed = λ access address. inl refl;
+      does = subst P (sym (act_by-without i old.registers old.pc (seen ram answers) none)) (does_computes (act i old.registers old.pc []) answers result old new ram h);
+    }
+
+-- ---- a step with one access
+
+-- the meaning looks at one access alone, and was answered so
+pub step_answered : (held : Held) (meaning : Sight → Effect) (result : Option Trap) (old new : Hart) (ram ram' : List (List ℕ)) (access : Access) (address : ℕ) (o : Option ℕ)
+    → IsAnswer held ram old.root.0 address access (option_map (place_in address) o)
+    → ((answers : Answers) → answers access address ≡ o → Does (meaning (seen ram answers)) answers result old new ram ram')
+    → IsStep held meaning result old new ram ram'
+step_answered held meaning result old new ram ram' access address o is does =
+    let answers : Answers = with_answer access address o (walked ram old.root.0) in
+    record {
+      answers = answers;
+      allowed = with_answer-allowed held ram old.root.0 access address o (walked ram old.root.0) (λ a b. inl refl) is;
+      does = does answers (with_answer-itself access address o (walked ram old.root.0));
+    }
+
+-- ---- traps
+
+pub trap-still : (effect : Effect) (answers : Answers) (result : Option Trap) (old new : Hart) (ram ram' : List (List ℕ)) → Does effect answers result old new ram ram'
+    → IfSome result (λ t. (new ≡ old) × (ram' ≡ ram))
+trap-still (Ok d) answers result old new ram ram' h = rw h.0 tt
+trap-still (Err t) answers result old new ram ram' h = rw h.0 (h.1, h.2)
+
+-- ---- loads and stores
+
+pub load-misaligned : (held : Held) (ram : List (List ℕ)) (old new : Hart) (result : Option Trap) (op : LoadOp) (rd address : ℕ) → (address % load_size op == 0) ≡ false
+    → Computes (trap LoadMisaligned address) result old new → IsStep held (load_by old.registers old.pc op rd address) result old new ram ram
+load-misaligned held ram old new result op rd address odd h =
+    record {
+      answers = walked ram old.root.0;
+      allowed = λ access address. inl refl;
+      does = rw odd (does_computes (trap LoadMisaligned address) (walked ram old.root.0) result old new ram h);
+    }
+
+pub load-answered : (held : Held) (ram : List (List ℕ)) (old new : Hart) (result : Option Trap) (op : LoadOp) (rd address : ℕ) (o : Option ℕ) → (address % load_size op == 0) ≡ true
+    → IsAnswer held ram old.root.0 address Load (option_map (place_in address) o)
+    → Computes (load_from old.registers old.pc op rd address (option_map (given ram) o)) result old new → IsStep held (load_by old.registers old.pc op rd address) result old new ram ram
+load-answered held ram old new result op rd address o aligned is h =
+    step_answered held (load_by old.registers old.pc op rd address) result old new ram ram Load address o is (λ answers same.
+    rw (aligned, same) (does_computes (load_from old.registers old.pc op rd address (option_map (given ram) o)) answers result old new ram h))
+
+pub store-misaligned : (held : Held) (ram : List (List ℕ)) (old new : Hart) (result : Option Trap) (op : StoreOp) (address value : ℕ) → (address % store_size op == 0) ≡ false
+    → Computes (trap StoreMisaligned address) result old new → IsStep held (store_by old.registers old.pc op address value) result old new ram ram
+store-misaligned held ram old new result op address value odd h =
+    record {
+      answers = walked ram old.root.0;
+      allowed = λ access address. inl refl;
+      does = rw odd (does_computes (trap StoreMisaligned address) (walked ram old.root.0) result old new ram h);
+    }
+
+pub store-fault : (held : Held) (ram : List (List ℕ)) (old new : Hart) (result : Option Trap) (op : StoreOp) (address value : ℕ) → (address % store_size op == 0) ≡ true
+    → IsAnswer held ram old.root.0 address Store None
+    → Computes (trap StorePageFault address) result old new → IsStep held (store_by old.registers old.pc op address value) result old new ram ram
+store-fault held ram old new result op address value aligned is h =
+    step_answered held (store_by old.registers old.pc op address value) result old new ram ram Store address None is (λ answers same.
+    rw (aligned, same) (does_computes (trap StorePageFault address) answers result old new ram h))
+
+pub store-done : (held : Held) (ram ram' : List (List ℕ)) (old new : Hart) (result : Option Trap) (op : StoreOp) (address value f : ℕ) → (address % store_size op == 0) ≡ true
+    → IsAnswer held ram old.root.0 address Store (Some (place_in address f))
+    → result ≡ None → new.registers ≡ old.registers → new.pc ≡ plus old.pc 4 → new.root ≡ old.root
+    → ram' ≡ slice_set ram f (overwrite (slice_index_or ram f []) (address % 4096) (le (store_size op) value))
+    → IsStep held (store_by old.registers old.pc op address value) result old new ram ram'
+store-done held ram ram' old new result op address value f aligned is none registers pc root memory =
+    step_answered held (store_by old.registers old.pc op address value) result old new ram ram' Store address (Some f) is (λ answers same.
+    rw (aligned, same) (none, registers, pc, root, rw same memory))
+
+-- ---- the instruction at the pc
+
+-- but for a fetch an instruction looks at the same answers
+act_by-fetch : (i : Instr) (regs : List ℕ) (pc at : ℕ) (ram : List (List ℕ)) (o : Option ℕ) (answers : Answers)
+    → act_by i regs pc (seen ram (with_answer Fetch at o answers)) ≡ act_by i regs pc (seen ram answers)
+unfolding act_by
+act_by-fetch (instr.Lui rd imm) regs pc at ram o answers = refl
+act_by-fetch (instr.Auipc rd imm) regs pc at ram o answers = refl
+act_by-fetch (instr.Jal rd offset) regs pc at ram o answers = refl
+act_by-fetch (instr.Jalr rd rs1 imm) regs pc at ram o answers = refl
+act_by-fetch (instr.Branch op rs1 rs2 offset) regs pc at ram o answers = refl
+act_by-fetch (instr.Load op rd rs1 imm) regs pc at ram o answers = refl
+act_by-fetch (instr.Store op rs1 rs2 imm) regs pc at ram o answers = refl
+act_by-fetch (instr.Imm op rd rs1 imm) regs pc at ram o answers = refl
+act_by-fetch (instr.Shift op rd rs1 amount) regs pc at ram o answers = refl
+act_by-fetch (instr.Reg op rd rs1 rs2) regs pc at ram o answers = refl
+act_by-fetch (instr.Addiw rd rs1 imm) regs pc at ram o answers = refl
+act_by-fetch (instr.ShiftW op rd rs1 amount) regs pc at ram o answers = refl
+act_by-fetch (instr.RegW op rd rs1 rs2) regs pc at ram o answers = refl
+act_by-fetch (instr.Fence rd rs1 imm) regs pc at ram o answers = refl
+act_by-fetch instr.Ecall regs pc at ram o answers = refl
+act_by-fetch instr.Ebreak regs pc at ram o answers = refl
+
+stored-fetch : (ram : List (List ℕ)) (at : ℕ) (o : Option ℕ) (answers : Answers) (change : Change) → stored ram (with_answer Fetch at o answers) change ≡ stored ram answers change
+stored-fetch ram at o answers Nothing = refl
+stored-fetch ram at o answers (Bytes address bytes) = refl
+
+does-fetch : (effect : Effect) (at : ℕ) (o : Option ℕ) (answers : Answers) (result : Option Trap) (old new : Hart) (ram ram' : List (List ℕ)) → Does effect answers result old new ram ram'
+    → Does effect (with_answer Fetch at o answers) result old new ram ram'
+does-fetch (Ok d) at o answers result old new ram ram' h = (h.0, h.1, h.2, h.3, h.4 ∙ sym (stored-fetch ram at o answers d.change))
+does-fetch (Err t) at o answers result old new ram ram' h = h
+
+-- nothing was fetched
+pub step-unfetched : (held : Held) (ram : List (List ℕ)) (old new : Hart) (result : Option Trap) → IsAnswer held ram old.root.0 old.pc Fetch None
+    → Computes (trap InstructionPageFault old.pc) result old new → IsStep held (cycle_by old.registers old.pc) result old new ram ram
+unfolding cycle_by
+step-unfetched held ram old new result is h =
+    step_answered held (cycle_by old.registers old.pc) result old new ram ram Fetch old.pc None is (λ answers same.
+    rw same (does_computes (trap InstructionPageFault old.pc) answers result old new ram h))
+
+-- the word that was fetched is no instruction
+pub step-illegal : (held : Held) (ram : List (List ℕ)) (old new : Hart) (result : Option Trap) (f word : ℕ) → IsAnswer held ram old.root.0 old.pc Fetch (Some (place_in old.pc f))
+    → word ≡ number (bytes_at 4 old.pc (given ram f)) → instruction_of word ≡ None
+    → Computes (trap IllegalInstruction old.pc) result old new → IsStep held (cycle_by old.registers old.pc) result old new ram ram
+unfolding cycle_by
+step-illegal held ram old new result f word is read none h =
+    step_answered held (cycle_by old.registers old.pc) result old new ram ram Fetch old.pc (Some f) is (λ answers same.
+    rw (same, ← read, none) (does_computes (trap IllegalInstruction old.pc) answers result old new ram h))
+
+-- it is one, which was done
+pub step-executed : (held mid : Held) (ram ram' : List (List ℕ)) (old new : Hart) (result : Option Trap) (f word : ℕ) (i : Instr) → IsAnswer held ram old.root.0 old.pc Fetch (Some (place_in old.pc f))
+    → IsKept held mid ram old.root.0
+    → word ≡ number (bytes_at 4 old.pc (given ram f)) → instruction_of word ≡ Some i
+    → IsStep mid (act_by i old.registers old.pc) result old new ram ram' → IsStep held (cycle_by old.registers old.pc) result old new ram ram'
+unfolding cycle_by
+step-executed held mid ram ram' old new result f word i is kept read found step =
+    let answers : Answers = with_answer Fetch old.pc (Some f) step.answers in
+    let before : AreAllowed held ram old.root.0 step.answers = λ access address. answered-kept held mid ram old.root.0 address access _ kept (step.allowed access address) in
+    let itself : with_answer Fetch old.pc (Some f) step.answers Fetch old.pc ≡ Some f = with_answer-itself Fetch old.pc (Some f) step.answers in
+    let is_act : cycle_by old.registers old.pc (seen ram answers) ≡ act_by i old.registers old.pc (seen ram step.answers) =
+    ap (λ o. fetched_by (option_map (given ram) o) old.registers old.pc (seen ram answers)) itself
+    ∙ ap (λ n. word_by (instruction_of n) old.registers old.pc (seen ram answers)) (sym read)
+    ∙ ap (λ o. word_by o old.registers old.pc (seen ram answers)) found
+    ∙ act_by-fetch i old.registers old.pc old.pc ram (Some f) step.answers in
+    record {
+      answers = answers;
+      allowed = with_answer-allowed held ram old.root.0 Fetch old.pc (Some f) step.answers before is;
+      does =
+          let P : Effect → Type 0 = λ e. Does e answers result old new ram ram' in
+          subst P (sym is_act) (does-fetch (act_by i old.registers old.pc (seen ram step.answers)) old.pc (Some f) step.answers result old new ram ram' step.does);
+    }
+
+-- ---- where all allowed answers are a mapping's
+
+place-frame : (va : ℕ) (o p : Option ℕ) → option_map (place_in va) o ≡ option_map (place_in va) p → o ≡ p
+place-frame va None None h = refl
+place-frame va None (Some g) h = absurd (cc)
+place-frame va (Some f) None h = absurd (cc)
+place-frame va (Some f) (Some g) h =
+    let is : place_in va f ≡ place_in va g = cc in
+    let same : f ≡ g = omega (arith, is) in
+    ap Some same
+
+shown-answer : (held : Held) (ram : List (List ℕ)) (root : ℕ) (mapping : List Mapped) (answers : Answers) → Shows held ram root mapping → AreAllowed held ram root answers
+    → (access : Access) (address : ℕ) → answers access address ≡ frame_for mapping (address / 4096) access
+shown-answer held ram root mapping answers shows allowed access address =
+    place-frame address (answers access address) (frame_for mapping (address / 4096) access) (shows address access _ (allowed access address))
+
+-- two pages, if there are any, have the same bytes
+abbrev Alike : Option Page → Option Page → Type 0
+Alike o p = option_map (λ (a : Page). a.bytes) o ≡ option_map (λ (a : Page). a.bytes) p
+
+given-alike : (ram : List (List ℕ)) (o : Option Mapped) → Alike (option_map (given ram) (option_map (λ (e : Mapped). e.frame) o)) (option_map (page_in ram) o)
+given-alike ram None = refl
+given-alike ram (Some e) = refl
+
+seen-alike : (held : Held) (ram : List (List ℕ)) (root : ℕ) (mapping : List Mapped) (answers : Answers) → Shows held ram root mapping → AreAllowed held ram root answers
+    → (access : Access) (address : ℕ) → Alike (seen ram answers access address) (page_for access (memory_of ram mapping) address)
+seen-alike held ram root mapping answers shows allowed_all access address =
+    let o : Option Mapped = allowed access (slice_get mapping (address / 4096)) in
+    ap (λ f. option_map (λ (a : Page). a.bytes) (option_map (given ram) f)) (shown-answer held ram root mapping answers shows allowed_all access address)
+    ∙ given-alike ram o
+    ∙ ap (option_map (λ (a : Page). a.bytes)) (sym (page_for-memory_of ram mapping access address))
+
+load_from-alike : (regs : List ℕ) (pc : ℕ) (op : LoadOp) (rd address : ℕ) (o p : Option Page) → Alike o p → load_from regs pc op rd address o ≡ load_from regs pc op rd address p
+load_from-alike regs pc op rd address None None h = refl
+load_from-alike regs pc op rd address None (Some p) h = absurd (cc)
+load_from-alike regs pc op rd address (Some o) None h = absurd (cc)
+load_from-alike regs pc op rd address (Some o) (Some p) h =
+    let same : o.bytes ≡ p.bytes = cc in
+    ap (λ bytes. load_from regs pc op rd address (Some (record { bytes = bytes; marks = p.marks }))) same
+
+store_to-alike : (regs : List ℕ) (pc address : ℕ) (bytes : List ℕ) (o p : Option Page) → Alike o p → store_to regs pc address bytes o ≡ store_to regs pc address bytes p
+store_to-alike regs pc address bytes None None h = refl
+store_to-alike regs pc address bytes None (Some p) h = absurd (cc)
+store_to-alike regs pc address bytes (Some o) None h = absurd (cc)
+store_to-alike regs pc address bytes (Some o) (Some p) h = refl
+
+act_by-alike : (i : Instr) (regs : List ℕ) (pc : ℕ) (see : Sight) (mem : Memory) → ((access : Access) (address : ℕ) → Alike (see access address) (page_for access mem address))
+    → act_by i regs pc see ≡ act i regs pc mem
+unfolding act_by act
+act_by-alike (instr.Lui rd imm) regs pc see mem h = refl
+act_by-alike (instr.Auipc rd imm) regs pc see mem h = refl
+act_by-alike (instr.Jal rd offset) regs pc see mem h = refl
+act_by-alike (instr.Jalr rd rs1 imm) regs pc see mem h = refl
+act_by-alike (instr.Branch op rs1 rs2 offset) regs pc see mem h = refl
+act_by-alike (instr.Load op rd rs1 imm) regs pc see mem h =
+    let address : ℕ = plus (slice_index regs rs1) (extend 12 imm) in
+    ap (λ e. if address % load_size op == 0 then e else trap LoadMisaligned address)
+    (load_from-alike regs pc op rd address (see Load address) (page_for Load mem address) (h Load address))
+act_by-alike (instr.Store op rs1 rs2 imm) regs pc see mem h =
+    let address : ℕ = plus (slice_index regs rs1) (extend 12 imm) in
+    ap (λ e. if address % store_size op == 0 then e else trap StoreMisaligned address)
+    (store_to-alike regs pc address (le (store_size op) (slice_index regs rs2)) (see Store address) (page_for Store mem address) (h Store address))
+act_by-alike (instr.Imm op rd rs1 imm) regs pc see mem h = refl
+act_by-alike (instr.Shift op rd rs1 amount) regs pc see mem h = refl
+act_by-alike (instr.Reg op rd rs1 rs2) regs pc see mem h = refl
+act_by-alike (instr.Addiw rd rs1 imm) regs pc see mem h = refl
+act_by-alike (instr.ShiftW op rd rs1 amount) regs pc see mem h = refl
+act_by-alike (instr.RegW op rd rs1 rs2) regs pc see mem h = refl
+act_by-alike (instr.Fence rd rs1 imm) regs pc see mem h = refl
+act_by-alike instr.Ecall regs pc see mem h = refl
+act_by-alike instr.Ebreak regs pc see mem h = refl
+
+word_by-alike : (found : Option Instr) (regs : List ℕ) (pc : ℕ) (see : Sight) (mem : Memory) → ((access : Access) (address : ℕ) → Alike (see access address) (page_for access mem address))
+    → word_by found regs pc see ≡ act_word found regs pc mem
+word_by-alike None regs pc see mem h = refl
+word_by-alike (Some i) regs pc see mem h = act_by-alike i regs pc see mem h
+
+fetched_by-alike : (o p : Option Page) (regs : List ℕ) (pc : ℕ) (see : Sight) (mem : Memory) → Alike o p → ((access : Access) (address : ℕ) → Alike (see access address) (page_for access mem address))
+    → fetched_by o regs pc see ≡ fetched p regs pc mem
+fetched_by-alike None None regs pc see mem same h = refl
+fetched_by-alike None (Some p) regs pc see mem same h = absurd (cc (same))
+fetched_by-alike (Some o) None regs pc see mem same h = absurd (cc (same))
+fetched_by-alike (Some o) (Some p) regs pc see mem same h =
+    let bytes : o.bytes ≡ p.bytes = cc (same) in
+    ap (λ bs. word_by (instruction_of (number (bytes_at 4 pc (record { bytes = bs; marks = p.marks })))) regs pc see) bytes
+    ∙ word_by-alike (instruction_of (number (bytes_at 4 pc p))) regs pc see mem h
+
+-- what is seen alike means alike
+pub cycle_by-alike : (regs : List ℕ) (pc : ℕ) (see : Sight) (mem : Memory) → ((access : Access) (address : ℕ) → Alike (see access address) (page_for access mem address))
+    → cycle_by regs pc see ≡ cycle regs pc mem
+unfolding cycle_by cycle
+cycle_by-alike regs pc see mem h = fetched_by-alike (see Fetch pc) (page_for Fetch mem pc) regs pc see mem (h Fetch pc) h
+
+-- the frame that a store was given is that of the mapping
+stored-changed : (ram : List (List ℕ)) (mapping : List Mapped) (answers : Answers) (change : Change) → ((access : Access) (address : ℕ) → answers access address ≡ frame_for mapping (address / 4096) access)
+    → Stores (memory_of ram mapping) change → stored ram answers change ≡ changed ram mapping change
+stored-changed ram mapping answers Nothing shown stores = refl
+stored-changed ram mapping answers (Bytes address bytes) shown stores =
+    let entry = stored-entry ram mapping address bytes stores in
+    let e : Mapped = entry.0 in
+    let found : allowed Store (slice_get mapping (address / 4096)) ≡ Some e = ap (allowed Store) entry.1 ∙ ap (λ t. if t then Some e else None) entry.2 in
+    let frame : answers Store address ≡ Some e.frame = shown Store address ∙ ap (option_map (λ (d : Mapped). d.frame)) found in
+    ap (λ o. put_at ram o (address % 4096) bytes) frame
+    ∙ sym (ap (λ o. put_in ram o (address % 4096) bytes) entry.1)
+
+does-follows : (effect : Effect) (mapping : List Mapped) (answers : Answers) (result : Option Trap) (old new : Hart) (ram ram' : List (List ℕ))
+    → ((access : Access) (address : ℕ) → answers access address ≡ frame_for mapping (address / 4096) access)
+    → ((d : Computed) → effect ≡ Ok d → Stores (memory_of ram mapping) d.change)
+    → Does effect answers result old new ram ram' → Follows effect mapping result old new ram ram'
+does-follows (Ok d) mapping answers result old new ram ram' shown stores h =
+    (h.0, h.1, h.2, h.3, h.4 ∙ stored-changed ram mapping answers d.change shown (stores d refl))
+does-follows (Err t) mapping answers result old new ram ram' shown stores h = h
+
+-- a step is the cycle on the memory of each mapping that all allowed answers agree with
+pub step-follows : (held : Held) (mapping : List Mapped) (result : Option Trap) (old new : Hart) (ram ram' : List (List ℕ)) → Shows held ram old.root.0 mapping
+    → IsStep held (cycle_by old.registers old.pc) result old new ram ram' → Follows (cycle old.registers old.pc (memory_of ram mapping)) mapping result old new ram ram'
+step-follows held mapping result old new ram ram' shows step =
+    let mem : Memory = memory_of ram mapping in
+    let is : cycle_by old.registers old.pc (seen ram step.answers) ≡ cycle old.registers old.pc mem =
+    cycle_by-alike old.registers old.pc (seen ram step.answers) mem (seen-alike held ram old.root.0 mapping step.answers shows step.allowed) in
+    let P : Effect → Type 0 = λ e. Does e step.answers result old new ram ram' in
+    does-follows (cycle old.registers old.pc mem) mapping step.answers result old new ram ram'
+    (shown-answer held ram old.root.0 mapping step.answers shows step.allowed)
+    (cycle-stores old.registers old.pc mem)
+    (subst P is step.does)

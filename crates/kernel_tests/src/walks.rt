@@ -1,0 +1,71 @@
+//! Walks of page tables that are written by hand.
+use crate::expected::{memory, store_all};
+use bitflags::Flags;
+use ram::FrameNo;
+use sv39::{Access, BASE, Marks, Plain, Pte, Tlb, Translate, Turn, walk, walk_counted, walk_page};
+
+#[test]
+fn addresses_are_translated(rt: HostRuntime) {
+    let mut ram = memory(&rt, 4);
+    // tables in frames 0, 1 and 2: page 3 is a leaf that is read, and pages 512 to 1023 are one leaf
+    store_all(
+        &rt,
+        &mut ram,
+        &[
+            (0, 0, 0x2000_0401),
+            (1, 0, 0x2000_0801),
+            (1, 8, 0x2000_00df),
+            (2, 24, 0x2000_0c53),
+        ],
+    );
+    let mut plain = Plain::new();
+    for (va, access, want) in [
+        (0x3abc, Access::Load, Some(0x8000_3abc)),
+        (0x3abc, Access::Store, None),
+        (0x3abc, Access::Fetch, None),
+        (0x4000, Access::Load, None),
+        (0x20_2005, Access::Store, Some(0x8000_2005)),
+        (0x20_3ffc, Access::Fetch, Some(0x8000_3ffc)),
+        (0x20_4000, Access::Load, None),
+        (0x40_0000_0000, Access::Load, None),
+        (0x40_0000_3abc, Access::Load, None),
+        (0xffff_ffff_ffff_f000, Access::Load, None),
+    ] {
+        let walked = walk(&ram, FrameNo(0), va, access).ok();
+        let translated = plain.translate(&ram, FrameNo(0), va, access).ok();
+        plain.fence();
+        let looked_up = Tlb::<64>::new()
+            .translate(&ram, FrameNo(0), va, access)
+            .ok();
+        assert!(rt;
+            walked == want && translated == want && looked_up == want,
+            "at {va}"
+        );
+    }
+    for (root, want) in [(0, Some(FrameNo(3))), (4, None)] {
+        assert!(rt; walk_page(&ram, FrameNo(root), 3, Access::Load) == want);
+    }
+}
+
+#[test]
+fn addresses_that_are_too_high_are_not_looked_up(rt: HostRuntime) {
+    let ram = memory(&rt, 1);
+    let (answer, count) = walk_counted(&ram, FrameNo(0), 0x40_0000_0000, Access::Load);
+    assert!(rt; answer.is_err() && count == 0);
+}
+
+#[test]
+fn entries_are_read(rt: HostRuntime) {
+    let entry = Pte(0x2000_0c53);
+    assert!(rt; entry.number() == BASE + 3);
+    assert!(rt; entry.marks().contains(Marks::READ | Marks::USER));
+    for (entry, is_last, access, want) in [
+        (entry, true, Access::Load, Turn::Leaf(BASE + 3)),
+        (entry, true, Access::Fetch, Turn::Stop),
+        (entry, false, Access::Load, Turn::Stop),
+        (Pte(0x2000_0401), false, Access::Load, Turn::Down(BASE + 1)),
+    ] {
+        let span = if is_last { 1 } else { 512 };
+        assert!(rt; entry.turn(span, access) == want);
+    }
+}

@@ -1,0 +1,119 @@
+-- A page that goes.
+use Rattle.std.proofs.Common.{◌≡◌, ◌≢◌, ℕ, ◌+◌, ◌*◌, ◌/◌, ◌%◌, ◌^◌, ◌<◌, ◌⊎◌, inl, inr, false, true, List, [], ◌∷◌, ◌++◌, length, Option, Some, None, unwrap_or, refl, sym, ap, ◌∙◌, arith}
+use Rattle.std.proofs.lemmas.Bool.{cases_eq, ne_eqb}
+use Rattle.frames.specs.declared.Frames.{Frames}
+use Rattle.frames.specs.Free.{among, free_of, IsFreeList, SameBut}
+use Rattle.frames.specs.FreeLemmas.{free_of-same, IsFreeList-same}
+use Rattle.ram.specs.Memory.{frame_of}
+use Rattle.sv39.specs.Walk.{entry_of}
+use Rattle.pagetable.specs.Tree.{child_of, leaf_of, Node, Root, Mid, Low, IsNode, IsUpper, next_node, table_at, child_at, leaf_at, low_node, mid_node, lookup_of, IsTree, Holds, Writes, IsEntry, no_table, no_leaf, IsTableEntry, IsPaged, Keeps}
+use Rattle.pagetable.specs.TreeLemmas.{low_is_node, mid_is_node, table_at-write, IsTree-write, free_of-write, write-stays, lookup_of-write_other, leaf_of-zero, leaf_of-some, child_of-some, table_at-low, cases_node}
+use Rattle.pagetable.proofs.Beside.{table_at-same}
+use Rattle.pagetable.proofs.Unlink.{unlink_cases, among_not, table_at-unlink_other, table_at-unlink_same}
+use Rattle.pagetable.specs.Shape.{IsUsed, IsTidy, Removes}
+
+-- ---- the entry of the page
+
+pub IsPaged-clear : (m k : List (List ℕ)) (r : ℕ) (s : Frames) (page t : ℕ) → IsPaged m r s → table_at m r (low_node page) ≡ Some t → Writes m k t (page % 512) 0 → IsPaged k r s
+IsPaged-clear m k r s page t is at w =
+    let node = low_is_node page in
+    let stays = table_at-write m k r (page / 262144 % 512) (page / 512 % 512) t (page % 512) 0 is.tree node at w in
+    record {
+      tree = IsTree-write m k r (page / 262144 % 512) (page / 512 % 512) t (page % 512) 0 is.tree node at w (no_leaf refl);
+      free = IsFreeList-same m k s is.free w.count (write-stays m k r s (low_node page) t (page % 512) 0 is node at w);
+      apart = λ x v nx h. rw (free_of-write m k r s page t 0 is at w) (is.apart x v nx (sym (stays x nx) ∙ h));
+    }
+
+lookup-clear : (m k : List (List ℕ)) (r page t : ℕ) → IsTree m r → table_at m r (low_node page) ≡ Some t → Writes m k t (page % 512) 0 → lookup_of k r page ≡ None
+unfolding lookup_of
+lookup-clear m k r page t is at w =
+    rw (table_at-write m k r (page / 262144 % 512) (page / 512 % 512) t (page % 512) 0 is (low_is_node page) at w (low_node page) (low_is_node page), at, w.here) leaf_of-zero
+
+pub Removes-clear : (m k : List (List ℕ)) (r page t : ℕ) → IsTree m r → table_at m r (low_node page) ≡ Some t → Writes m k t (page % 512) 0 → page < 2 ^ 27 → Removes (lookup_of m r) (lookup_of k r) page
+Removes-clear m k r page t is at w small = record {
+  changed = lookup-clear m k r page t is at w;
+  others = λ p sp ne. lookup_of-write_other m k r page t 0 p is at w small sp ne;
+}
+
+-- ---- a table that goes
+
+unlinked-same : (m k l : List (List ℕ)) (r : ℕ) (x : Node) (t c u : ℕ) → IsTree m r → IsNode x → IsNode (next_node x c) → IsUpper x → c < 512 → table_at m r x ≡ Some t → table_at m r (next_node x c) ≡ Some u
+    → ((i : ℕ) → i < 512 → entry_of m u i ≡ 0) → Writes m k t c 0 → SameBut (u ∷ []) k l → (v : ℕ) → Holds k r v → frame_of l v ≡ frame_of k v
+unlinked-same m k l r x t c u is nx nn up sc at below empty w given v h =
+    given.others v (among_not v u [] (unlink_cases m k r x t c u is nx nn up sc at below empty w h.place v h.is_node h.at_place).0 refl)
+
+pub unlinked-beside : (m k l : List (List ℕ)) (r : ℕ) (x : Node) (t c u : ℕ) → IsTree m r → IsNode x → IsNode (next_node x c) → IsUpper x → c < 512 → table_at m r x ≡ Some t → table_at m r (next_node x c) ≡ Some u
+    → ((i : ℕ) → i < 512 → entry_of m u i ≡ 0) → Writes m k t c 0 → SameBut (u ∷ []) k l → (y : Node) → IsNode y → y ≢ next_node x c → table_at l r y ≡ table_at m r y
+unlinked-beside m k l r x t c u is nx nn up sc at below empty w given y ny ne =
+    table_at-same k l r (unlinked-same m k l r x t c u is nx nn up sc at below empty w given) y ny ∙ table_at-unlink_other m k r x t c u is nx up sc at below empty w y ny ne
+
+pub unlinked-gone : (m k l : List (List ℕ)) (r : ℕ) (x : Node) (t c u : ℕ) → IsTree m r → IsNode x → IsNode (next_node x c) → IsUpper x → c < 512 → table_at m r x ≡ Some t → table_at m r (next_node x c) ≡ Some u
+    → ((i : ℕ) → i < 512 → entry_of m u i ≡ 0) → Writes m k t c 0 → SameBut (u ∷ []) k l → table_at l r (next_node x c) ≡ None
+unlinked-gone m k l r x t c u is nx nn up sc at below empty w given =
+    table_at-same k l r (unlinked-same m k l r x t c u is nx nn up sc at below empty w given) (next_node x c) nn ∙ table_at-unlink_same m k r x t c is nx up sc at w
+
+-- ---- no table but the root is empty afterwards
+
+pub IsTidy-remove : (m k : List (List ℕ)) (r page : ℕ) → IsTidy m r → Removes (lookup_of m r) (lookup_of k r) page → ((x : Node) (t : ℕ) → IsNode x → table_at k r x ≡ Some t → table_at m r x ≡ Some t)
+    → ((x : Node) (t : ℕ) → IsNode x → table_at k r x ≡ Some t → (x ≡ mid_node page) ⊎ (x ≡ low_node page) → IsUsed k r x) → IsTidy k r
+IsTidy-remove m k r page is rem stood other = record {
+  used = λ x t nx nr h.
+      let u = is.used x t nx nr (stood x t nx h) in
+      elim (cases_eq u.page page) [
+        | inl same ↦ other x t nx h (elim u.over [ inl e ↦ inl (e ∙ ap mid_node same) | inr e ↦ inr (e ∙ ap low_node same) ])
+        | inr ne ↦ record { page = u.page; value = u.value; inside = u.inside; over = u.over; mapped = rem.others u.page u.inside ne ∙ u.mapped }
+      ];
+}
+
+-- a used entry of the low table
+pub used-low : (k : List (List ℕ)) (r page u i : ℕ) → page < 2 ^ 27 → table_at k r (low_node page) ≡ Some u → i < 512 → entry_of k u i ≢ 0 → (x : Node) → (x ≡ mid_node page) ⊎ (x ≡ low_node page) → IsUsed k r x
+unfolding lookup_of
+used-low k r page u i small at low ne x o =
+    let q = page / 512 * 512 + i in
+    let a : q / 262144 % 512 ≡ page / 262144 % 512 = omega arith in
+    let b : q / 512 % 512 ≡ page / 512 % 512 = omega arith in
+    let c : q % 512 ≡ i = omega arith in
+    let mid : mid_node q ≡ mid_node page = ap Mid a in
+    let node : low_node q ≡ low_node page = ap (λ y. Low y (q / 512 % 512)) a ∙ ap (Low (page / 262144 % 512)) b in
+    record {
+      page = q;
+      value = _;
+      inside = omega arith;
+      over = elim o [ inl e ↦ inl (e ∙ sym mid) | inr e ↦ inr (e ∙ sym node) ];
+      mapped = ap (λ y. leaf_at k (table_at k r y) (q % 512)) node ∙ ap (λ y. leaf_at k y (q % 512)) at ∙ ap (λ y. leaf_of (entry_of k u y)) c ∙ leaf_of-some (entry_of k u i) ne;
+    }
+
+some-none : (v : ℕ) → ◌≡◌ {A = Option ℕ} (Some v) None → ⊥
+some-none v e = cc
+
+low-first-same : (a b c d : ℕ) → Low a b ≡ Low c d → a ≡ c
+low-first-same a b c d e = cc
+
+-- a used entry of the mid table
+pub used-mid : (m k : List (List ℕ)) (r page t j : ℕ) → page < 2 ^ 27 → IsTidy m r → Removes (lookup_of m r) (lookup_of k r) page → ((x : Node) (v : ℕ) → IsNode x → table_at k r x ≡ Some v → table_at m r x ≡ Some v)
+    → table_at k r (mid_node page) ≡ Some t → table_at k r (low_node page) ≡ None → j < 512 → entry_of k t j ≢ 0 → IsUsed k r (mid_node page)
+unfolding table_at
+used-mid m k r page t j small is rem stood at none low ne =
+    let a = page / 262144 % 512 in
+    let there : table_at k r (Low a j) ≡ Some _ = ap (λ o. child_at k o j) at ∙ child_of-some (entry_of k t j) ne in
+    let u = is.used (Low a j) _ (omega arith, low) (λ e. cc) (stood (Low a j) _ (omega arith, low) there) in
+    elim u.over [
+      | inl e ↦ absurd cc
+      | inr e ↦
+          let other : u.page ≢ page = λ (f : u.page ≡ page). some-none _ (sym there ∙ ap (table_at k r) (e ∙ ap low_node f) ∙ none) in
+          let first : a ≡ u.page / 262144 % 512 = low-first-same a j (u.page / 262144 % 512) (u.page / 512 % 512) e in
+          record { page = u.page; value = u.value; inside = u.inside; over = inl (ap Mid first); mapped = rem.others u.page u.inside other ∙ u.mapped }
+    ]
+
+pub Removes-after : (m k l : List (List ℕ)) (r page : ℕ) → ((p : ℕ) → lookup_of l r p ≡ lookup_of k r p) → Removes (lookup_of m r) (lookup_of k r) page → Removes (lookup_of m r) (lookup_of l r) page
+Removes-after m k l r page same rem = record { changed = same page ∙ rem.changed; others = λ p small ne. same p ∙ rem.others p small ne }
+
+-- a table that stands where another one went stood before
+pub stood-gone : (m k : List (List ℕ)) (r : ℕ) (y : Node) → ((x : Node) → IsNode x → x ≢ y → table_at k r x ≡ table_at m r x) → table_at k r y ≡ None → (x : Node) (t : ℕ) → IsNode x → table_at k r x ≡ Some t → table_at m r x ≡ Some t
+stood-gone m k r y beside gone x t nx h = elim (cases_node x y) [
+  | inl e ↦ absurd (some-none t (sym h ∙ ap (table_at k r) e ∙ gone))
+  | inr ne ↦ sym (beside x nx ne) ∙ h
+]
+
+pub gone-used : (k : List (List ℕ)) (r : ℕ) (x y : Node) (t : ℕ) → table_at k r x ≡ Some t → x ≡ y → table_at k r y ≡ None → IsUsed k r x
+gone-used k r x y t h e gone = absurd (some-none t (sym h ∙ ap (table_at k r) e ∙ gone))

@@ -1,0 +1,193 @@
+-- Lemmas on dense spaces.
+use Rattle.std.proofs.Common.{◌≡◌, ◌≢◌, ℕ, zero, suc, ◌+◌, ◌-◌, ◌*◌, ◌/◌, ◌%◌, ◌^◌, ◌<◌, ◌≤◌, ◌⊎◌, inl, inr, Bool, false, true, List, [], ◌∷◌, ◌++◌, length, Option, Some, None, unwrap_or, refl, sym, ap, ◌∙◌, arith, length-append, eqb, eq-eqb, ltb}
+use Rattle.std.specs.Prelude.{if◌then◌else◌}
+use Rattle.std.proofs.lemmas.Bool.{cases_eq, cases_lt, ne_eqb, lt-ltb, le-ltb}
+use Rattle.ram.specs.Memory.{frame_of}
+use Rattle.frames.specs.declared.Frames.{Frames}
+use Rattle.frames.specs.Free.{among, free_of, IsFreeList}
+use Rattle.frames.specs.FreeLemmas.{free_of-same, IsFreeList-same}
+use Rattle.frames.specs.Holders.{one_if, count_of, holders_of, Trades}
+use Rattle.frames.proofs.HolderLemmas.{one_if-le, count_of-append, count_of-first, count_of-other, among-none, none-among, holders-free}
+use Rattle.pagetable.specs.Tree.{Node, Root, Mid, Low, IsNode, child_at, leaf_at, mid_node, low_node, table_at, lookup_of, IsTree, IsPaged, Holds, Keeps, Inserts, missing, missing_by}
+use Rattle.pagetable.specs.TreeLemmas.{low_is_node, mid_is_node, root_at, table_at-low}
+use Rattle.pagetable.proofs.Beside.{IsTree-same, table_at-same, lookup_of-same}
+use Rattle.pagetable.specs.Shape.{table_of, IsUsed, IsTidy, made, made_by, Adds}
+use Rattle.pagetable.proofs.ShapeLemmas.{table_of-some, length-made}
+use Rattle.std.proofs.lemmas.List.{map-append}
+use Rattle.sv39.specs.Mapping.{memory_of, page_in}
+use Rattle.vm.specs.Dense.{trap_page, trap_marks, frame_at, marks_at, page_at, mapped_at, mapping_below, pages_below, frames_below, tables_for, tables_below, held, frames_for, IsDense, IsHeld}
+
+-- ---- how many
+
+length_if : (b : Bool) (t : ℕ) → length (if b then t ∷ [] else []) ≡ one_if b
+length_if true t = refl
+length_if false t = refl
+
+pub length-tables_for : (m : List (List ℕ)) (r n : ℕ) → length (tables_for m r n) ≡ one_if (eqb n 0) + one_if (eqb (n % 512) 0)
+length-tables_for m r n =
+    length-append (if eqb n 0 then table_of m r (mid_node n) ∷ [] else []) (if eqb (n % 512) 0 then table_of m r (low_node n) ∷ [] else [])
+    ∙ rw (length_if (eqb n 0) (table_of m r (mid_node n)), length_if (eqb (n % 512) 0) (table_of m r (low_node n))) refl
+
+-- one more page
+pub frames_for-more : (n : ℕ) → frames_for (suc n) ≡ 1 + frames_for n + (one_if (eqb n 0) + one_if (eqb (n % 512) 0))
+frames_for-more n =
+    let later : one_if (ltb 0 (suc n)) ≡ 1 = ap one_if (lt-ltb 0 (suc n) (omega arith)) in
+    let first : one_if (ltb 0 n) + one_if (eqb n 0) ≡ 1 = elim (cases_eq n 0) [
+      | inl e ↦ rw (le-ltb 0 n (omega arith), eq-eqb n 0 e) refl
+      | inr ne ↦ rw (lt-ltb 0 n (omega arith), ne_eqb n 0 ne) refl
+    ] in
+    let low : (suc n + 511) / 512 ≡ (n + 511) / 512 + one_if (eqb (n % 512) 0) = elim (cases_eq (n % 512) 0) [
+      | inl e ↦ rw (eq-eqb (n % 512) 0 e) (omega (arith, e))
+      | inr ne ↦ rw (ne_eqb (n % 512) 0 ne) (omega (arith, ne))
+    ] in
+    omega (arith, later, first, low)
+
+pub length-frames_below : (m : List (List ℕ)) (r n : ℕ) → length (frames_below m r n) ≡ n
+unfolding frames_below
+length-frames_below m r zero = refl
+length-frames_below m r (suc n) = ap suc (length-frames_below m r n)
+
+pub length-tables_below : (m : List (List ℕ)) (r n : ℕ) → length (tables_below m r n) + 1 + n ≡ frames_for n
+unfolding tables_below
+length-tables_below m r zero = refl
+length-tables_below m r (suc n) =
+    omega (arith, length-append (tables_for m r n) (tables_below m r n), length-tables_for m r n, length-tables_below m r n, frames_for-more n)
+
+-- a space of n pages holds as many frames
+pub length-held : (m : List (List ℕ)) (r t n : ℕ) → length (held m r t n) ≡ frames_for n
+length-held m r t n = omega (arith, length-append (tables_below m r n) (t ∷ frames_below m r n), length-tables_below m r n, length-frames_below m r n)
+
+pub count-held : (m : List (List ℕ)) (r t n f : ℕ) → count_of f (held m r t n) ≡ count_of f (tables_below m r n) + (count_of f (t ∷ []) + count_of f (frames_below m r n))
+count-held m r t n f = rw (count_of-append f (tables_below m r n) (t ∷ frames_below m r n)) (omega arith)
+
+-- no frame has more than one holder, so what is held stands there once
+pub IsHeld-made : (m : List (List ℕ)) (r t n : ℕ) (s : Frames) → IsDense m r t n → IsFreeList m s → ((f : ℕ) → count_of f (held m r t n) ≤ holders_of m s f) → IsHeld m r t n s
+IsHeld-made m r t n s dense free all = record {
+  dense = dense;
+  once = λ f. omega (arith, all f, holders-free m s free f, one_if-le (ltb f (length m)));
+  free = free;
+  held = all;
+}
+
+-- ---- where a frame stands
+
+pub page-held : (m : List (List ℕ)) (r n p : ℕ) → p < n → 0 < count_of (frame_at m r p) (frames_below m r n)
+unfolding frames_below
+page-held m r zero p h = absurd (omega arith)
+page-held m r (suc n) p h = elim (cases_eq p n) [
+  | inl e ↦ omega (arith, count_of-first (frame_at m r p) (frame_at m r n) (frames_below m r n) (ap (frame_at m r) e))
+  | inr ne ↦ omega (arith, page-held m r n p (omega arith))
+]
+
+-- different pages have different frames
+pub pages-apart : (m : List (List ℕ)) (r n p q : ℕ) → ((f : ℕ) → count_of f (frames_below m r n) ≤ 1) → p < q → q < n → frame_at m r p ≢ frame_at m r q
+unfolding frames_below
+pages-apart m r zero p q one low high e = omega arith
+pages-apart m r (suc n) p q one low high e = elim (cases_eq q n) [
+  | inl last ↦ omega (arith, one (frame_at m r p), count_of-first (frame_at m r p) (frame_at m r n) (frames_below m r n) (e ∙ ap (frame_at m r) last), page-held m r n p (omega arith))
+  | inr ne ↦ pages-apart m r n p q (λ f. omega (arith, one f)) low (omega arith) e
+]
+
+tables-later : (m : List (List ℕ)) (r n f : ℕ) → count_of f (tables_below m r n) ≤ count_of f (tables_below m r (suc n))
+unfolding tables_below
+tables-later m r n f = omega (arith, count_of-append f (tables_for m r n) (tables_below m r n))
+
+tables-after : (m : List (List ℕ)) (r n d f : ℕ) → count_of f (tables_below m r n) ≤ count_of f (tables_below m r (d + n))
+tables-after m r n zero f = let e : 0 + n ≡ n = omega arith in rw e (omega arith)
+tables-after m r n (suc d) f = let e : suc d + n ≡ suc (d + n) = omega arith in rw e (omega (arith, tables-after m r n d f, tables-later m r (d + n) f))
+
+tables-grow : (m : List (List ℕ)) (r k n f : ℕ) → k ≤ n → count_of f (tables_below m r k) ≤ count_of f (tables_below m r n)
+tables-grow m r k n f h = let e : n ≡ (n - k) + k = omega arith in rw e (tables-after m r k (n - k) f)
+
+mid-first : (m : List (List ℕ)) (r : ℕ) → 0 < count_of (table_of m r (mid_node 0)) (tables_below m r 1)
+unfolding tables_below
+mid-first m r = omega (arith, count_of-first (table_of m r (mid_node 0)) (table_of m r (mid_node 0)) (table_of m r (low_node 0) ∷ tables_below m r 0) refl)
+
+low-first : (m : List (List ℕ)) (r p : ℕ) → p % 512 ≡ 0 → 0 < count_of (table_of m r (low_node p)) (tables_below m r (suc p))
+unfolding tables_below
+low-first m r p h =
+    let t = table_of m r (low_node p) in
+    let first = if eqb p 0 then table_of m r (mid_node p) ∷ [] else [] in
+    rw (eq-eqb (p % 512) 0 h) (omega (arith, count_of-append t (first ++ (t ∷ [])) (tables_below m r p), count_of-append t first (t ∷ []), count_of-first t t [] refl))
+
+base-root : (m : List (List ℕ)) (r : ℕ) → 0 < count_of r (tables_below m r 0)
+unfolding tables_below
+base-root m r = omega (arith, count_of-first r r (table_of m r (mid_node trap_page) ∷ table_of m r (low_node trap_page) ∷ []) refl)
+
+base-mid : (m : List (List ℕ)) (r : ℕ) → 0 < count_of (table_of m r (mid_node trap_page)) (tables_below m r 0)
+unfolding tables_below
+base-mid m r = omega (arith, count_of-first (table_of m r (mid_node trap_page)) (table_of m r (mid_node trap_page)) (table_of m r (low_node trap_page) ∷ []) refl)
+
+base-low : (m : List (List ℕ)) (r : ℕ) → 0 < count_of (table_of m r (low_node trap_page)) (tables_below m r 0)
+unfolding tables_below
+base-low m r = omega (arith, count_of-first (table_of m r (low_node trap_page)) (table_of m r (low_node trap_page)) [] refl)
+
+-- a mapped page is one of the pages or the trap frame's
+pub mapped-cases : (m : List (List ℕ)) (r t n p : ℕ) (v : ℕ × ℕ) → IsDense m r t n → p < 2 ^ 27 → lookup_of m r p ≡ Some v → (p < n) ⊎ (p ≡ trap_page)
+mapped-cases m r t n p v is small h = elim (cases_lt p n) [
+  | inl low ↦ inl low
+  | inr high ↦ elim (cases_eq p trap_page) [ inl e ↦ inr e | inr ne ↦ absurd (let none = is.rest p high small ne in cc) ]
+]
+
+pub low-0 : (p : ℕ) → p < 32768 → low_node p ≡ Low 0 (p / 512)
+low-0 p h = let a : p / 262144 % 512 ≡ 0 = omega arith in let b : p / 512 % 512 ≡ p / 512 = omega arith in rw (a, b) refl
+
+pub mid-0 : (p : ℕ) → p < 32768 → mid_node p ≡ Mid 0
+mid-0 p h = let a : p / 262144 % 512 ≡ 0 = omega arith in rw a refl
+
+-- the place of the table of the block that a page is in
+block-start : (p : ℕ) → p < 32768 → low_node (p / 512 * 512) ≡ low_node p
+block-start p h = let a : p / 512 * 512 / 512 ≡ p / 512 = omega arith in low-0 (p / 512 * 512) (omega arith) ∙ ap (Low 0) a ∙ sym (low-0 p h)
+
+held_mid : (m : List (List ℕ)) (r t n p v : ℕ) → IsDense m r t n → (p < n) ⊎ (p ≡ trap_page) → table_at m r (mid_node p) ≡ Some v → 0 < count_of v (tables_below m r n)
+held_mid m r t n p v is (inl low) at =
+    let e : table_of m r (mid_node 0) ≡ v = ap (table_of m r) (mid-0 0 (omega arith) ∙ sym (mid-0 p (omega (arith, is.small)))) ∙ table_of-some m r (mid_node p) v at in
+    rw (← e) (omega (arith, mid-first m r, tables-grow m r 1 n (table_of m r (mid_node 0)) (omega arith)))
+held_mid m r t n p v is (inr same) at =
+    let e : table_of m r (mid_node trap_page) ≡ v = ap (λ q. table_of m r (mid_node q)) (sym same) ∙ table_of-some m r (mid_node p) v at in
+    rw (← e) (omega (arith, base-mid m r, tables-grow m r 0 n (table_of m r (mid_node trap_page)) (omega arith)))
+
+held_low : (m : List (List ℕ)) (r t n p v : ℕ) → IsDense m r t n → (p < n) ⊎ (p ≡ trap_page) → table_at m r (low_node p) ≡ Some v → 0 < count_of v (tables_below m r n)
+held_low m r t n p v is (inl low) at =
+    let q = p / 512 * 512 in
+    let e : table_of m r (low_node q) ≡ v = ap (table_of m r) (block-start p (omega (arith, is.small))) ∙ table_of-some m r (low_node p) v at in
+    rw (← e) (omega (arith, low-first m r q (omega arith), tables-grow m r (suc q) n (table_of m r (low_node q)) (omega arith)))
+held_low m r t n p v is (inr same) at =
+    let e : table_of m r (low_node trap_page) ≡ v = ap (λ q. table_of m r (low_node q)) (sym same) ∙ table_of-some m r (low_node p) v at in
+    rw (← e) (omega (arith, base-low m r, tables-grow m r 0 n (table_of m r (low_node trap_page)) (omega arith)))
+
+used-held : (m : List (List ℕ)) (r t n : ℕ) (x : Node) (v : ℕ) → IsDense m r t n → IsUsed m r x → table_at m r x ≡ Some v → 0 < count_of v (tables_below m r n)
+used-held m r t n x v is u at =
+    let cases = mapped-cases m r t n u.page u.value is u.inside u.mapped in
+    elim u.over [
+      | inl e ↦ held_mid m r t n u.page v is cases (ap (table_at m r) (sym e) ∙ at)
+      | inr e ↦ held_low m r t n u.page v is cases (ap (table_at m r) (sym e) ∙ at)
+    ]
+
+cases_root : (x : Node) → (x ≡ Root) ⊎ (x ≢ Root)
+cases_root Root = inl refl
+cases_root (Mid a) = inr (λ e. cc)
+cases_root (Low a b) = inr (λ e. cc)
+
+-- each table is counted
+pub table-held : (m : List (List ℕ)) (r t n v : ℕ) → IsDense m r t n → Holds m r v → 0 < count_of v (tables_below m r n)
+table-held m r t n v is h = elim (cases_root h.place) [
+  | inl e ↦
+      let same : Some r ≡ Some v = sym (root_at m r) ∙ ap (table_at m r) (sym e) ∙ h.at_place in
+      let f : r ≡ v = cc in
+      rw (← f) (omega (arith, base-root m r, tables-grow m r 0 n r (omega arith)))
+  | inr ne ↦ used-held m r t n h.place v is (is.tidy.used h.place v h.is_node ne h.at_place) h.at_place
+]
+
+-- ---- the pages
+
+pub mapping_below-more : (m : List (List ℕ)) (r n : ℕ) → mapping_below m r (suc n) ≡ mapping_below m r n ++ (mapped_at m r n ∷ [])
+unfolding mapping_below
+mapping_below-more m r n = refl
+
+pub pages_below-zero : (m : List (List ℕ)) (r : ℕ) → pages_below m r 0 ≡ []
+unfolding mapping_below
+pages_below-zero m r = refl
+
+pub pages_below-more : (m : List (List ℕ)) (r n : ℕ) → pages_below m r (suc n) ≡ pages_below m r n ++ (page_at m r n ∷ [])
+pages_below-more m r n = ap (memory_of m) (mapping_below-more m r n) ∙ map-append (page_in m) (mapping_below m r n) (mapped_at m r n ∷ [])

@@ -1,0 +1,115 @@
+-- A space of no pages goes.
+use Rattle.std.proofs.Common.{◌≡◌, ◌≢◌, ℕ, zero, suc, ◌+◌, ◌<◌, ◌≤◌, ◌⊎◌, inl, inr, false, true, List, [], ◌∷◌, ◌++◌, length, Option, Some, None, unwrap_or, refl, sym, ap, ◌∙◌, arith, eqb, ltb, ◌^◌}
+use Rattle.std.proofs.lemmas.Bool.{cases_eq}
+use Rattle.ram.specs.Memory.{frame_of}
+use Rattle.frames.specs.declared.Frames.{Frames}
+use Rattle.frames.specs.Free.{among, free_of, IsFreeList, SameBut}
+use Rattle.frames.specs.Holders.{one_if, count_of, holders_of, Trades}
+use Rattle.frames.proofs.HolderLemmas.{one_if-le, count_of-append, count_of-first, count_of-other, among-none, none-among, holders-free}
+use Rattle.pagetable.specs.Tree.{Node, Root, Mid, Low, IsNode, mid_node, low_node, table_at, lookup_of, IsTree, IsPaged, Holds, Keeps}
+use Rattle.pagetable.specs.TreeLemmas.{mid_is_node, root_at}
+use Rattle.pagetable.proofs.Beside.{IsTree-same, table_at-same}
+use Rattle.pagetable.specs.Shape.{table_of, IsTidy, IsEmpty, made, Adds, Removes}
+use Rattle.pagetable.proofs.EmptyLemmas.{IsEmpty-tables}
+use Rattle.pagetable.proofs.ShapeLemmas.{made-two}
+use Rattle.pagetable.proofs.LookupLemmas.{lookup-sound}
+use Rattle.vm.specs.Dense.{trap_page, trap_marks, frame_at, marks_at, frames_below, tables_below, held, IsDense, IsHeld}
+use Rattle.vm.proofs.DenseLemmas.{count-held, table-held}
+use Rattle.vm.proofs.StepLemmas.{held-not_free}
+use Rattle.vm.proofs.DropLemmas.{IsUnmapped, IsGiven}
+
+none-none : (v : ℕ × ℕ) (o : Option (ℕ × ℕ)) → o ≡ Some v → o ≡ None → ⊥
+none-none v o a b = cc
+
+-- nothing is mapped then
+pub end-tables : (m j : List (List ℕ)) (r t f : ℕ) (s a : Frames) → IsHeld m r t 0 s → IsUnmapped m j r trap_page f s a → (x : Node) (v : ℕ) → IsNode x → x ≢ Root → table_at j r x ≡ Some v → ⊥
+end-tables m j r t f s a is u x v nx nr h =
+    let w = u.tidy.used x v nx nr h in
+    none-none w.value (lookup_of j r w.page) w.mapped (elim (cases_eq w.page trap_page) [
+      | inl e ↦ ap (lookup_of j r) e ∙ u.removes.changed
+      | inr ne ↦ u.removes.others w.page w.inside ne ∙ is.dense.rest w.page (omega arith) w.inside ne
+    ])
+
+none-of : (o : Option ℕ) → ((v : ℕ) → o ≡ Some v → ⊥) → o ≡ None
+none-of None h = refl
+none-of (Some v) h = absurd (h v refl)
+
+root-or : (x : Node) → (x ≡ Root) ⊎ (x ≢ Root)
+root-or Root = inl refl
+root-or (Mid a) = inr (λ e. cc)
+root-or (Low a b) = inr (λ e. cc)
+
+end-root : (m j : List (List ℕ)) (r t f : ℕ) (s a : Frames) → IsHeld m r t 0 s → IsUnmapped m j r trap_page f s a → (v : ℕ) → Holds j r v → v ≡ r
+end-root m j r t f s a is u v h = elim (root-or h.place) [
+  | inl e ↦ let g : Some v ≡ Some r = sym h.at_place ∙ ap (table_at j r) e ∙ root_at j r in cc
+  | inr ne ↦ absurd (end-tables m j r t f s a is u h.place v h.is_node ne h.at_place)
+]
+
+-- all its frames are free or those two
+pub count-unmapped : (m j : List (List ℕ)) (r t f : ℕ) (s a : Frames) → IsHeld m r t 0 s → IsUnmapped m j r trap_page f s a → (g : ℕ)
+    → count_of g (held m r t 0) + count_of g (free_of m s) ≡ one_if (eqb g r) + one_if (eqb g t) + count_of g (free_of j a)
+unfolding tables_below frames_below
+count-unmapped m j r t f s a is u g =
+    let none = none-of (table_at j r (mid_node trap_page)) (λ v h. end-tables m j r t f s a is u (mid_node trap_page) v (mid_is_node trap_page) (λ e. cc) h) in
+    let two = made-two j m r trap_page (table_of m r (mid_node trap_page)) (table_of m r (low_node trap_page)) none u.drops.mid u.drops.low in
+    let all : free_of j a ≡ table_of m r (mid_node trap_page) ∷ table_of m r (low_node trap_page) ∷ free_of m s = u.drops.taken ∙ ap (λ l. l ++ free_of m s) two in
+    omega (arith, ap (count_of g) all)
+
+first-one : (f : ℕ) → one_if (eqb f f) ≡ 1
+first-one f = omega (arith, count_of-first f f [] refl)
+
+pub end-trap : (m j : List (List ℕ)) (r t f : ℕ) (s a : Frames) → IsHeld m r t 0 s → IsUnmapped m j r trap_page f s a → f ≡ t
+end-trap m j r t f s a is u = sym u.was ∙ ap (λ (o : Option (ℕ × ℕ)). (unwrap_or o (0, 0)).0) is.dense.trap
+
+pub end-inside : (m j : List (List ℕ)) (r t f : ℕ) (s a : Frames) → IsHeld m r t 0 s → IsUnmapped m j r trap_page f s a → f < length j
+end-inside m j r t f s a is u =
+    let found = lookup-sound m r trap_page t trap_marks is.dense.tree is.dense.trap in
+    omega (arith, found.0, end-trap m j r t f s a is u, u.keeps.count)
+
+pub end-held : (m j : List (List ℕ)) (r t f : ℕ) (s a : Frames) → IsHeld m r t 0 s → IsUnmapped m j r trap_page f s a → among f (free_of j a) ≡ false
+end-held m j r t f s a is u = rw (end-trap m j r t f s a is u) (among-none t (free_of j a) (omega (arith, count-unmapped m j r t f s a is u t, held-not_free m r t 0 s is t, first-one t)))
+
+end-apart : (m j : List (List ℕ)) (r t f : ℕ) (s a : Frames) → IsHeld m r t 0 s → IsUnmapped m j r trap_page f s a → r ≢ f
+end-apart m j r t f s a is u e =
+    omega (arith, count-unmapped m j r t f s a is u r, held-not_free m r t 0 s is r, first-one r, ap (λ x. one_if (eqb r x)) (e ∙ end-trap m j r t f s a is u))
+
+given-other : (j k : List (List ℕ)) (f : ℕ) (a w : Frames) → IsGiven j k f a w → (v : ℕ) → v ≢ f → frame_of k v ≡ frame_of j v
+given-other j k f a w g v ne = g.others.others v (among-none v (f ∷ []) (count_of-other v f [] ne))
+
+end-same : (m j k : List (List ℕ)) (r t f : ℕ) (s a w : Frames) → IsHeld m r t 0 s → IsUnmapped m j r trap_page f s a → IsGiven j k f a w → (v : ℕ) → Holds j r v → frame_of k v ≡ frame_of j v
+end-same m j k r t f s a w is u g v h = given-other j k f a w g v (λ e. end-apart m j r t f s a is u (sym (end-root m j r t f s a is u v h) ∙ e))
+
+-- the root is its only table then
+pub end-empty : (m j k : List (List ℕ)) (r t f : ℕ) (s a w : Frames) → IsHeld m r t 0 s → IsUnmapped m j r trap_page f s a → IsGiven j k f a w → IsEmpty k r
+end-empty m j k r t f s a w is u g =
+    IsEmpty-tables k r (λ x nx nr. none-of (table_at k r x) (λ v h.
+    end-tables m j r t f s a is u x v nx nr (sym (table_at-same j k r (end-same m j k r t f s a w is u g) x nx) ∙ h)))
+
+pub end-paged : (m j k : List (List ℕ)) (r t f : ℕ) (s a w : Frames) → IsHeld m r t 0 s → IsUnmapped m j r trap_page f s a → IsGiven j k f a w → IsPaged k r w
+end-paged m j k r t f s a w is u g =
+    let same = end-same m j k r t f s a w is u g in
+    record {
+      tree = IsTree-same j k r u.paged.tree g.others.count same;
+      free = g.valid;
+      apart = λ x v nx h.
+          let old : table_at j r x ≡ Some v = sym (table_at-same j k r same x nx) ∙ h in
+          let held_v : Holds j r v = record { place = x; is_node = nx; at_place = old } in
+          let e = end-root m j r t f s a is u v held_v in
+          among-none v (free_of k w) (omega (arith, ap (count_of v) g.free, none-among v (free_of j a) (u.paged.apart x v nx old), count_of-other v f (free_of j a) (λ z. end-apart m j r t f s a is u (sym e ∙ z))));
+    }
+
+pub Trades-end : (m j k l : List (List ℕ)) (r t f : ℕ) (s a w q : Frames) → IsHeld m r t 0 s → IsUnmapped m j r trap_page f s a → IsGiven j k f a w → IsGiven k l r w q → Trades m l s q (held m r t 0) []
+Trades-end m j k l r t f s a w q is u g e =
+    let len : length l ≡ length m = e.others.count ∙ g.others.count ∙ u.keeps.count in
+    let trap = end-trap m j r t f s a is u in
+    record {
+      count = len;
+      moved = λ v. omega (arith, count-unmapped m j r t f s a is u v, ap (count_of v) g.free, ap (count_of v) e.free, ap (λ x. one_if (eqb v x)) trap, holders-free m s is.free v, holders-free l q e.valid v, ap (λ n. one_if (ltb v n)) len);
+      others = λ v h.
+          let none : count_of v (held m r t 0) ≡ 0 = omega (arith, h, holders-free m s is.free v, one_if-le (ltb v (length m))) in
+          let free : count_of v (free_of m s) ≡ 0 = omega (arith, h, holders-free m s is.free v, one_if-le (ltb v (length m))) in
+          let both = count-unmapped m j r t f s a is u v in
+          given-other k l r w q e v (λ z. omega (arith, none, free, both, ap (λ x. one_if (eqb v x)) (sym z), first-one v))
+          ∙ given-other j k f a w g v (λ z. omega (arith, none, free, both, ap (λ x. one_if (eqb v x)) (sym (z ∙ trap)), first-one v))
+          ∙ u.keeps.others v (λ y. omega (arith, none, count-held m r t 0 v, table-held m r t 0 v is.dense y)) (among-none v (free_of m s) free);
+    }

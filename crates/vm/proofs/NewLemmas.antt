@@ -1,0 +1,106 @@
+-- A space of no pages.
+use Rattle.std.proofs.Common.{◌≡◌, ◌≢◌, ℕ, zero, suc, ◌+◌, ◌-◌, ◌*◌, ◌/◌, ◌%◌, ◌^◌, ◌<◌, ◌≤◌, ◌⊎◌, inl, inr, Bool, false, true, List, [], ◌∷◌, ◌++◌, length, Option, Some, None, refl, sym, ap, ◌∙◌, arith, length-append, eqb, ltb, slice_set, length-set, get_or-set_other, get_or-set_same, replicate}
+use Rattle.ram.specs.Memory.{frame_of}
+use Rattle.frames.specs.declared.Frames.{Frames}
+use Rattle.frames.specs.Free.{among, free_of, IsFreeList}
+use Rattle.frames.specs.FreeLemmas.{free_of-same, IsFreeList-same, among_first_not}
+use Rattle.frames.specs.Holders.{one_if, count_of, holders_of, Trades}
+use Rattle.frames.proofs.HolderLemmas.{one_if-le, count_of-append, count_of-first, count_of-other, among-none, none-among, holders-free}
+use Rattle.pagetable.specs.Tree.{Node, Root, Mid, Low, IsNode, mid_node, low_node, table_at, lookup_of, IsTree, IsPaged, Holds, Keeps, Inserts, missing}
+use Rattle.pagetable.specs.TreeLemmas.{free-first, low_is_node, mid_is_node, root_at, missing_two}
+use Rattle.pagetable.proofs.Beside.{IsTree-same, table_at-same, lookup_of-same}
+use Rattle.pagetable.specs.Shape.{table_of, IsTidy, IsEmpty, made, Adds}
+use Rattle.pagetable.proofs.ShapeLemmas.{made-two}
+use Rattle.pagetable.proofs.EmptyLemmas.{IsTidy-empty, only-root}
+use Rattle.vm.specs.Dense.{trap_page, trap_marks, frame_at, marks_at, frames_below, tables_below, held, IsDense, IsHeld}
+use Rattle.vm.proofs.DenseLemmas.{IsHeld-made, count-held}
+use Rattle.vm.proofs.StepLemmas.{IsTaken, IsNext, free-after}
+use Rattle.frames.specs.FreeLemmas.{among_first}
+
+-- an empty page table whose frame was free, and then a frame that is taken
+pub record IsStart (m j z : List (List ℕ)) (s a q : Frames) (r t : ℕ) : Type 0 where
+  pub free : IsFreeList m s
+  pub first : free_of m s ≡ r ∷ free_of j a
+  pub start : j ≡ slice_set m r (replicate 4096 0)
+  pub paged : IsPaged j r a
+  pub empty : IsEmpty j r
+  pub taken : IsTaken j z a q t
+
+pub start-apart : (m j z : List (List ℕ)) (s a q : Frames) (r t : ℕ) → IsStart m j z s a q r t → t ≢ r
+start-apart m j z s a q r t is e =
+    let out : among r (free_of j a) ≡ false = is.paged.apart Root r tt (root_at j r) in
+    let at : among t (free_of j a) ≡ true = ap (among t) is.taken.taken ∙ among_first t (free_of j q) in
+    cc (ap (λ x. among x (free_of j a)) e, out, at)
+
+start-same : (m j z : List (List ℕ)) (s a q : Frames) (r t : ℕ) → IsStart m j z s a q r t → (v : ℕ) → Holds j r v → frame_of z v ≡ frame_of j v
+start-same m j z s a q r t is v h = is.taken.others v (λ e. start-apart m j z s a q r t is (sym e ∙ (only-root j r is.empty h.place v h.is_node h.at_place).1))
+
+pub start-empty : (m j z : List (List ℕ)) (s a q : Frames) (r t : ℕ) → IsStart m j z s a q r t → IsEmpty z r
+start-empty m j z s a q r t is =
+    let same = start-same m j z s a q r t is in
+    record { tables = λ x nx nr. table_at-same j z r same x nx ∙ is.empty.tables x nx nr; pages = λ p. lookup_of-same j z r same p ∙ is.empty.pages p }
+
+pub start-paged : (m j z : List (List ℕ)) (s a q : Frames) (r t : ℕ) → IsStart m j z s a q r t → IsPaged z r q
+start-paged m j z s a q r t is =
+    let same = start-same m j z s a q r t is in
+    let after = free-after j z a q t is.paged.free is.taken in
+    record {
+      tree = IsTree-same j z r is.paged.tree is.taken.count same;
+      free = after.1;
+      apart = λ x v nx h.
+          let old : table_at j r x ≡ Some v = sym (table_at-same j z r same x nx) ∙ h in
+          let out : among v (t ∷ free_of j q) ≡ false = ap (among v) (sym is.taken.taken) ∙ is.paged.apart x v nx old in
+          rw (after.0) (among_first_not v t (free_of j q) out).1;
+    }
+
+pub start-missing : (m j z : List (List ℕ)) (s a q : Frames) (r t : ℕ) → IsStart m j z s a q r t → missing z r trap_page ≡ 2
+start-missing m j z s a q r t is = missing_two z r trap_page (sym ((start-empty m j z s a q r t is).tables (mid_node trap_page) (mid_is_node trap_page) (λ e. cc)))
+
+pub start-free : (m j z : List (List ℕ)) (s a q : Frames) (r t : ℕ) → IsStart m j z s a q r t → free_of m s ≡ r ∷ t ∷ free_of z q
+start-free m j z s a q r t is = is.first ∙ ap (λ l. r ∷ l) (is.taken.taken ∙ ap (λ l. t ∷ l) (sym (free-after j z a q t is.paged.free is.taken).0))
+
+pub IsDense-start : (m j z k : List (List ℕ)) (s a q w : Frames) (r t : ℕ) → IsStart m j z s a q r t → IsNext z k r trap_page t trap_marks q w → IsDense k r t 0
+IsDense-start m j z k s a q w r t is next = record {
+  tree = next.paged.tree;
+  tidy = next.tidy;
+  small = omega arith;
+  pages = λ p h. absurd (omega arith);
+  leaves = λ p h. absurd (omega arith);
+  trap = next.inserts.changed;
+  rest = λ p _ low ne. next.inserts.others p low ne ∙ (start-empty m j z s a q r t is).pages p;
+}
+
+pub count-start : (m j z k : List (List ℕ)) (s a q w : Frames) (r t : ℕ) → IsStart m j z s a q r t → IsNext z k r trap_page t trap_marks q w → (g : ℕ) → count_of g (held k r t 0) + count_of g (free_of k w) ≡ count_of g (free_of m s)
+unfolding tables_below frames_below
+count-start m j z k s a q w r t is next g =
+    let none = (start-empty m j z s a q r t is).tables (mid_node trap_page) (mid_is_node trap_page) (λ e. cc) in
+    let two = made-two z k r trap_page (table_of k r (mid_node trap_page)) (table_of k r (low_node trap_page)) none next.adds.mid next.adds.low in
+    let all : free_of m s ≡ r ∷ t ∷ table_of k r (mid_node trap_page) ∷ table_of k r (low_node trap_page) ∷ free_of k w =
+    start-free m j z s a q r t is ∙ ap (λ l. r ∷ t ∷ l) (next.adds.taken ∙ ap (λ l. l ++ free_of k w) two) in
+    omega (arith, ap (count_of g) all)
+
+pub IsHeld-start : (m j z k : List (List ℕ)) (s a q w : Frames) (r t : ℕ) → IsStart m j z s a q r t → IsNext z k r trap_page t trap_marks q w → length k ≡ length m → IsHeld k r t 0 w
+IsHeld-start m j z k s a q w r t is next len = IsHeld-made k r t 0 w
+    (IsDense-start m j z k s a q w r t is next)
+    next.paged.free
+    (λ g. omega (arith, count-start m j z k s a q w r t is next g, holders-free m s is.free g, holders-free k w next.paged.free g, ap (λ l. one_if (ltb g l)) len))
+
+start-stays : (m j z k : List (List ℕ)) (s a q w : Frames) (r t : ℕ) → IsStart m j z s a q r t → IsNext z k r trap_page t trap_marks q w → (g : ℕ) → g ≢ r → count_of g (free_of z q) ≡ 0 → frame_of k g ≡ frame_of z g
+start-stays m j z k s a q w r t is next g ne none = next.keeps.others g (λ h. ne (only-root z r (start-empty m j z s a q r t is) h.place g h.is_node h.at_place).1) (among-none g (free_of z q) none)
+
+pub Trades-start : (m j z k : List (List ℕ)) (s a q w : Frames) (r t : ℕ) → IsStart m j z s a q r t → IsNext z k r trap_page t trap_marks q w → length k ≡ length m → Trades m k s w [] (held k r t 0)
+Trades-start m j z k s a q w r t is next len = record {
+  count = len;
+  moved = λ g. omega (arith, count-start m j z k s a q w r t is next g, holders-free m s is.free g, holders-free k w next.paged.free g, ap (λ l. one_if (ltb g l)) len);
+  others = λ g h.
+      let none : count_of g (r ∷ t ∷ free_of z q) ≡ 0 = ap (count_of g) (sym (start-free m j z s a q r t is)) ∙ omega (arith, h, holders-free m s is.free g, one_if-le (ltb g (length m))) in
+      let not_r : g ≢ r = λ (e : g ≡ r). omega (arith, none, count_of-first g r (t ∷ free_of z q) e) in
+      let not_t : g ≢ t = λ (e : g ≡ t). omega (arith, none, count_of-first g t (free_of z q) e) in
+      start-stays m j z k s a q w r t is next g not_r (omega (arith, none)) ∙ is.taken.others g not_t ∙ rw is.start (get_or-set_other m r g (replicate {A = ℕ} 4096 0) [] not_r);
+}
+
+pub registers-start : (m j z k : List (List ℕ)) (s a q w : Frames) (r t : ℕ) → IsStart m j z s a q r t → IsNext z k r trap_page t trap_marks q w → frame_of k t ≡ frame_of z t
+registers-start m j z k s a q w r t is next =
+    let first = free-first j a t (free_of j q) is.paged.free is.taken.taken in
+    let after = free-after j z a q t is.paged.free is.taken in
+    start-stays m j z k s a q w r t is next t (start-apart m j z s a q r t is) (none-among t (free_of z q) (ap (among t) (after.0) ∙ first.1))

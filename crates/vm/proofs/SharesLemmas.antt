@@ -1,0 +1,242 @@
+-- Lemmas on all frames of a machine.
+use Rattle.std.proofs.Common.{◌≡◌, ◌≢◌, ℕ, zero, suc, ◌+◌, ◌<◌, ◌≤◌, List, [], ◌∷◌, ◌++◌, length, true, get_or, slice_set, Option, Some, None, refl, sym, ap, ◌∙◌, arith, length-append, length-set, get_or-set_other, get_or-set_same, ◌⊎◌, inl, inr, replicate, ltb, add-one}
+use Rattle.std.proofs.lemmas.Bool.{cases_eq, cases_lt}
+use Rattle.std.specs.List.{sum_by, flat_map}
+use Rattle.std.proofs.lemmas.List.Concat.{flat_map-cons, flat_map-append}
+use Rattle.std.proofs.lemmas.List.Sums.{sum_by-cons}
+use Rattle.ram.specs.Memory.{frame_of}
+use Rattle.frames.specs.declared.Frames.{Frames}
+use Rattle.frames.specs.Free.{among, free_of, free_count, IsFreeList, SameBut}
+use Rattle.frames.specs.FreeLemmas.{free_of-same, IsFreeList-same}
+use Rattle.frames.specs.Holders.{one_if, count_of, holders_of, IsShared, Trades}
+use Rattle.frames.proofs.HolderLemmas.{count_of-append, count_of-first, count_of-other, among-none, none-among, holders-free, one_if-le, IsShared-trade, shared-count}
+use Rattle.vm.specs.declared.Space.{Space}
+use Rattle.vm.specs.Dense.{frames_for, held}
+use Rattle.vm.proofs.DenseLemmas.{length-held}
+use Rattle.vm.specs.Space.{IsSpace, holds, pages_in, IsUntouched}
+use Rattle.vm.proofs.Beside.{Trades-untouched, Trades-space}
+use Rattle.vm.specs.Shares.{held_at, all_held, IsPlace, IsMachine, frames_used, frames_of, OthersUntouched, AllUntouched}
+
+-- ---- counts in a list of places
+
+-- one place counts no more than all, and two places neither
+one-place : (g : Option Space → List ℕ) (f : ℕ) (xs : List (Option Space)) (i : ℕ) → g None ≡ [] → count_of f (g (get_or xs i None)) ≤ count_of f (flat_map g xs)
+one-place g f [] i none = omega (arith, ap (count_of f) none)
+one-place g f (x ∷ xs) zero none = omega (arith, count_of-append f (g x) (flat_map g xs))
+one-place g f (x ∷ xs) (suc i) none = omega (arith, count_of-append f (g x) (flat_map g xs), one-place g f xs i none)
+
+two-places : (g : Option Space → List ℕ) (f : ℕ) (xs : List (Option Space)) (i j : ℕ) → g None ≡ [] → j ≢ i → count_of f (g (get_or xs i None)) + count_of f (g (get_or xs j None)) ≤ count_of f (flat_map g xs)
+two-places g f [] i j none ne = omega (arith, ap (count_of f) none)
+two-places g f (x ∷ xs) zero zero none ne = absurd (ne refl)
+two-places g f (x ∷ xs) zero (suc j) none ne = omega (arith, count_of-append f (g x) (flat_map g xs), one-place g f xs j none)
+two-places g f (x ∷ xs) (suc i) zero none ne = omega (arith, count_of-append f (g x) (flat_map g xs), one-place g f xs i none)
+two-places g f (x ∷ xs) (suc i) (suc j) none ne = omega (arith, count_of-append f (g x) (flat_map g xs), two-places g f xs i j none (λ e. ne (ap suc e)))
+
+same-places : (g h : Option Space → List ℕ) (xs : List (Option Space)) → ((j : ℕ) → h (get_or xs j None) ≡ g (get_or xs j None)) → flat_map h xs ≡ flat_map g xs
+same-places g h [] same = refl
+same-places g h (x ∷ xs) same = ap (λ l. l ++ flat_map h xs) (same 0) ∙ ap (λ l. g x ++ l) (same-places g h xs (λ j. same (suc j)))
+
+-- one place changes
+set-place : (g h : Option Space → List ℕ) (f : ℕ) (xs : List (Option Space)) (i : ℕ) (y : Option Space) → i < length xs → ((j : ℕ) → j ≢ i → h (get_or xs j None) ≡ g (get_or xs j None))
+    → count_of f (flat_map h (slice_set xs i y)) + count_of f (g (get_or xs i None)) ≡ count_of f (flat_map g xs) + count_of f (h y)
+set-place g h f [] i y hi same = absurd (omega arith)
+set-place g h f (x ∷ xs) zero y hi same =
+    let rest : flat_map h xs ≡ flat_map g xs = same-places g h xs (λ j. same (suc j) (omega arith)) in
+    omega (arith, count_of-append f (h y) (flat_map h xs), count_of-append f (g x) (flat_map g xs), ap (count_of f) rest)
+set-place g h f (x ∷ xs) (suc i) y hi same =
+    omega (
+      arith,
+      count_of-append f (h x) (flat_map h (slice_set xs i y)),
+      count_of-append f (g x) (flat_map g xs),
+      ap (count_of f) (same 0 (omega arith)),
+      set-place g h f xs i y (omega arith) (λ j ne. same (suc j) (λ e. ne (omega arith))),
+    )
+
+-- ---- one place trades
+
+held-by : (m : List (List ℕ)) (places : List (Option Space)) (j : ℕ) (x : Space) → get_or places j None ≡ Some x → holds m x ≡ held_at m (get_or places j None)
+held-by m places j x e = ap (held_at m) (sym e)
+
+room : (m : List (List ℕ)) (s : Frames) (places : List (Option Space)) (others : List ℕ) (i j : ℕ) (x : Space) → IsMachine m s places others → j ≢ i → get_or places j None ≡ Some x
+    → (f : ℕ) → count_of f (held_at m (get_or places i None)) + count_of f (holds m x) ≤ holders_of m s f
+room m s places others i j x is ne e f =
+    omega (arith, is.shared.each f, count_of-append f (flat_map (held_at m) places) others, two-places (held_at m) f places i j refl ne, ap (count_of f) (held-by m places j x e))
+
+-- what one place trades leaves the others as they were
+pub trade-others : (m k : List (List ℕ)) (s n : Frames) (places : List (Option Space)) (others new : List ℕ) (i : ℕ) → IsMachine m s places others → Trades m k s n (held_at m (get_or places i None)) new → OthersUntouched m k places i
+trade-others m k s n places others new i is t j x ne e = Trades-untouched m k s n (held_at m (get_or places i None)) new x (is.each j x e) (room m s places others i j x is ne e) t
+
+same-held : (m k : List (List ℕ)) (o : Option Space) → ((x : Space) → o ≡ Some x → IsUntouched m k x) → held_at k o ≡ held_at m o
+same-held m k None h = refl
+same-held m k (Some x) h = (h x refl).frames
+
+place-free : (k : List (List ℕ)) (y : Option Space) (n : Frames) → IsPlace k y n → IsFreeList k n
+place-free k None n h = h
+place-free k (Some x) n h = h.free
+
+place-space : (k : List (List ℕ)) (y : Option Space) (n : Frames) (x : Space) → IsPlace k y n → y ≡ Some x → IsSpace k x n
+place-space k None n x h e = absurd cc
+place-space k (Some z) n x h e = let same : z ≡ x = cc in rw (← same) h
+
+-- the machine stays one where one place trades: a space that grows or shrinks, is written, comes, goes or is replaced
+pub trade-machine : (m k : List (List ℕ)) (s n : Frames) (places : List (Option Space)) (others : List ℕ) (i : ℕ) (y : Option Space) → IsMachine m s places others → i < length places → IsPlace k y n
+    → Trades m k s n (held_at m (get_or places i None)) (held_at k y) → IsMachine k n (slice_set places i y) others
+trade-machine m k s n places others i y is hi new t =
+    let stay = trade-others m k s n places others (held_at k y) i is t in
+    record {
+      free = place-free k y n new;
+      each = λ j x e. elim (cases_eq j i) [
+        | inl same ↦ place-space k y n x new (sym (get_or-set_same places i y None hi) ∙ ap (λ p. get_or (slice_set places i y) p None) (sym same) ∙ e)
+        | inr ne ↦
+            let old : get_or places j None ≡ Some x = sym (get_or-set_other places i j y None ne) ∙ e in
+            Trades-space m k s n (held_at m (get_or places i None)) (held_at k y) x (is.each j x old) (room m s places others i j x is ne old) t (place-free k y n new)
+      ];
+      shared = IsShared-trade m k s n (all_held m places others) (all_held k (slice_set places i y) others) (held_at m (get_or places i None)) (held_at k y) is.shared t
+          (λ f. omega (
+            arith,
+            count_of-append f (flat_map (held_at m) places) others,
+            count_of-append f (flat_map (held_at k) (slice_set places i y)) others,
+            set-place (held_at m) (held_at k) f places i y hi (λ j ne. same-held m k (get_or places j None) (λ x e. stay j x ne e)),
+          ));
+    }
+
+-- the other frames keep their bytes then
+pub trade-rest : (m k : List (List ℕ)) (s n : Frames) (places : List (Option Space)) (others new : List ℕ) (i f : ℕ) → IsMachine m s places others → Trades m k s n (held_at m (get_or places i None)) new → 0 < count_of f others → frame_of k f ≡ frame_of m f
+trade-rest m k s n places others new i f is t some =
+    t.others f (omega (arith, some, is.shared.each f, count_of-append f (flat_map (held_at m) places) others, one-place (held_at m) f places i refl))
+
+-- ---- the others trade
+
+beside-rest : (m : List (List ℕ)) (s : Frames) (places : List (Option Space)) (others old : List ℕ) (j : ℕ) (x : Space) → IsMachine m s places others → ((f : ℕ) → count_of f old ≤ count_of f others) → get_or places j None ≡ Some x
+    → (f : ℕ) → count_of f old + count_of f (holds m x) ≤ holders_of m s f
+beside-rest m s places others old j x is low e f =
+    omega (arith, low f, is.shared.each f, count_of-append f (flat_map (held_at m) places) others, one-place (held_at m) f places j refl, ap (count_of f) (held-by m places j x e))
+
+-- all spaces are as they were where other frames come, go or are written
+pub rest-untouched : (m k : List (List ℕ)) (s n : Frames) (places : List (Option Space)) (others old new : List ℕ) → IsMachine m s places others → ((f : ℕ) → count_of f old ≤ count_of f others) → Trades m k s n old new → AllUntouched m k places
+rest-untouched m k s n places others old new is low t j x e = Trades-untouched m k s n old new x (is.each j x e) (beside-rest m s places others old j x is low e) t
+
+pub rest-machine : (m k : List (List ℕ)) (s n : Frames) (places : List (Option Space)) (others after old new : List ℕ) → IsMachine m s places others → IsFreeList k n → ((f : ℕ) → count_of f old ≤ count_of f others)
+    → Trades m k s n old new → ((f : ℕ) → count_of f after + count_of f old ≡ count_of f others + count_of f new) → IsMachine k n places after
+rest-machine m k s n places others after old new is free low t moved =
+    let stay = rest-untouched m k s n places others old new is low t in
+    record {
+      free = free;
+      each = λ j x e. Trades-space m k s n old new x (is.each j x e) (beside-rest m s places others old j x is low e) t free;
+      shared = IsShared-trade m k s n (all_held m places others) (all_held k places after) old new is.shared t
+          (λ f. omega (
+            arith,
+            moved f,
+            count_of-append f (flat_map (held_at m) places) others,
+            count_of-append f (flat_map (held_at k) places) after,
+            ap (count_of f) (same-places (held_at m) (held_at k) places (λ j. same-held m k (get_or places j None) (λ x e. stay j x e))),
+          ));
+    }
+
+-- a free frame is taken by one of the others, a frame is given back, or written
+pub Trades-take : (m : List (List ℕ)) (s n : Frames) (f : ℕ) → IsFreeList m s → IsFreeList m n → free_of m s ≡ f ∷ free_of m n → Trades m m s n [] (f ∷ [])
+Trades-take m s n f is after e = record {
+  count = refl;
+  moved = λ g. omega (arith, holders-free m s is g, holders-free m n after g, ap (count_of g) e);
+  others = λ g h. refl;
+}
+
+pub Trades-give : (m k : List (List ℕ)) (s n : Frames) (f : ℕ) → IsFreeList m s → IsFreeList k n → free_of k n ≡ f ∷ free_of m s → SameBut (f ∷ []) m k → Trades m k s n (f ∷ []) []
+Trades-give m k s n f is after e same = record {
+  count = same.count;
+  moved = λ g. omega (arith, holders-free m s is g, holders-free k n after g, ap (count_of g) e, ap (λ l. one_if (ltb g l)) same.count);
+  others = λ g h. same.others g (among-none g (f ∷ []) (omega (arith, h, holders-free m s is g, one_if-le (ltb g (length m)))));
+}
+
+pub Trades-write : (m k : List (List ℕ)) (s : Frames) (f : ℕ) (w : List ℕ) → IsFreeList m s → 0 < holders_of m s f → k ≡ slice_set m f w → Trades m k s s (f ∷ []) (f ∷ []) × IsFreeList k s
+Trades-write m k s f w is some e =
+    let len : length k ≡ length m = rw e (length-set m f w) in
+    let other : (g : ℕ) → g ≢ f → frame_of k g ≡ frame_of m g = λ (g : ℕ) (ne : g ≢ f). rw e (get_or-set_other m f g w [] ne) in
+    let stays : (g : ℕ) → among g (free_of m s) ≡ true → frame_of k g ≡ frame_of m g = λ (g : ℕ) (at : among g (free_of m s) ≡ true). other g (λ z.
+    cc (ap (λ x. among x (free_of m s)) z, at, among-none f (free_of m s) (omega (arith, some, holders-free m s is f, one_if-le (ltb f (length m)))))) in
+    let free : IsFreeList k s = IsFreeList-same m k s is len stays in (
+      record {
+        count = len;
+        moved = λ g. omega (arith, holders-free m s is g, holders-free k s free g, ap (count_of g) (free_of-same m k s stays), ap (λ l. one_if (ltb g l)) len);
+        others = λ g h. other g (λ z. omega (arith, h, count_of-first g f [] z, holders-free m s is g, one_if-le (ltb g (length m))));
+      },
+      free,
+    )
+
+-- one of the others has a holder
+pub rest-held : (m : List (List ℕ)) (s : Frames) (places : List (Option Space)) (others : List ℕ) (f : ℕ) → IsMachine m s places others → 0 < count_of f others → 0 < holders_of m s f
+rest-held m s places others f is some = omega (arith, some, is.shared.each f, count_of-append f (flat_map (held_at m) places) others)
+
+-- ---- a space is made beside the others, and gets a place
+
+-- a holder that comes and one that goes: one is replaced
+pub Trades-replace : (m k l : List (List ℕ)) (s n q : Frames) (old new : List ℕ) → Trades m k s n [] new → Trades k l n q old [] → Trades m l s q old new
+Trades-replace m k l s n q old new a b = record {
+  count = b.count ∙ a.count;
+  moved = λ f. omega (arith, a.moved f, b.moved f);
+  others = λ f h. b.others f (omega (arith, a.moved f, h)) ∙ a.others f (omega (arith, h));
+}
+
+-- while a space is made, it is one of the others
+pub beside-machine : (m k : List (List ℕ)) (s n : Frames) (places : List (Option Space)) (others new : List ℕ) → IsMachine m s places others → IsFreeList k n → Trades m k s n [] new → IsMachine k n places (others ++ new) × AllUntouched m k places
+beside-machine m k s n places others new is free t = (
+  rest-machine m k s n places others (others ++ new) [] new is free (λ f. omega arith) t (λ f. omega (arith, count_of-append f others new)),
+  rest-untouched m k s n places others [] new is (λ f. omega arith) t,
+)
+
+-- and then it gets a place that has none
+pub settle-machine : (m : List (List ℕ)) (s : Frames) (places : List (Option Space)) (others : List ℕ) (i : ℕ) (y : Space) → IsMachine m s places (others ++ holds m y) → i < length places → get_or places i None ≡ None → IsSpace m y s
+    → IsMachine m s (slice_set places i (Some y)) others
+settle-machine m s places others i y is hi none new = record {
+  free = is.free;
+  each = λ j x e. elim (cases_eq j i) [
+    | inl same ↦ place-space m (Some y) s x new (sym (get_or-set_same places i (Some y) None hi) ∙ ap (λ p. get_or (slice_set places i (Some y)) p None) (sym same) ∙ e)
+    | inr ne ↦ is.each j x (sym (get_or-set_other places i j (Some y) None ne) ∙ e)
+  ];
+  shared = record {
+    each = λ f. omega (
+      arith,
+      is.shared.each f,
+      count_of-append f (flat_map (held_at m) places) (others ++ holds m y),
+      count_of-append f others (holds m y),
+      count_of-append f (flat_map (held_at m) (slice_set places i (Some y))) others,
+      set-place (held_at m) (held_at m) f places i (Some y) hi (λ j ne. refl),
+      ap (λ o. count_of f (held_at m o)) none,
+    );
+  };
+}
+
+-- ---- how many frames are free
+
+length-all : (m : List (List ℕ)) (places : List (Option Space)) → length (flat_map (held_at m) places) ≡ sum_by frames_used places
+length-all m [] = refl
+length-all m (None ∷ xs) = length-all m xs ∙ (omega (arith, sum_by-cons frames_used None xs))
+length-all m (Some x ∷ xs) =
+    length-append (holds m x) (flat_map (held_at m) xs)
+    ∙ ap (λ n. n + length (flat_map (held_at m) xs)) (length-held m x.root.0 x.trap.0 (pages_in x.size))
+    ∙ ap (λ n. frames_for (pages_in x.size) + n) (length-all m xs)
+    ∙ sym (sum_by-cons frames_used (Some x) xs)
+
+-- what is free is what the counts leave
+pub free-left : (m : List (List ℕ)) (s : Frames) (places : List (Option Space)) (others : List ℕ) → IsMachine m s places others → free_count m s + frames_of places others ≡ length m
+free-left m s places others is =
+    omega (arith, shared-count m s (all_held m places others) is.free is.shared, length-append (flat_map (held_at m) places) others, length-all m places)
+
+-- ---- the start
+
+none-held : (m : List (List ℕ)) (n : ℕ) → flat_map (held_at m) (replicate n None) ≡ []
+none-held m zero = refl
+none-held m (suc n) = none-held m n
+
+none-there : (n j : ℕ) (x : Space) → get_or (replicate n None) j None ≡ Some x → ⊥
+none-there zero j x e = cc
+none-there (suc n) zero x e = cc
+none-there (suc n) (suc j) x e = none-there n j x e
+
+-- where all frames are free no place has a space
+pub machine-new : (m : List (List ℕ)) (s : Frames) (n : ℕ) → IsFreeList m s → IsShared m s [] → IsMachine m s (replicate n None) []
+machine-new m s n free shared = record {
+  free = free;
+  each = λ j x e. absurd (none-there n j x e);
+  shared = record { each = λ f. omega (arith, shared.each f, count_of-append f (flat_map (held_at m) (replicate n None)) [], ap (count_of f) (none-held m n)) };
+}

@@ -1,0 +1,37 @@
+use Rattle.std.proofs.Common.{◌≡◌, ℕ, ◌+◌, ◌*◌, ◌<◌, length, get_or, refl, sym, ap, ◌∙◌, arith}
+use Rattle.ram.specs.Memory.{put, word_bytes}
+use Rattle.vm.proofs.TrapLemmas.{trap-inside, saved-is, saves-start, saves-next}
+use Rattle.vm.proofs.Space.save_regs.Goals as goal
+
+pub store_u64-requires-clause-frame : goal.store_u64-requires-clause-frame
+store_u64-requires-clause-frame c = trap-inside c.args.ram.now c.args.self.now c.requires.mapped
+
+pub loop-register-init : goal.loop-register-init
+loop-register-init c = saves-start c.args.ram.now c.store_u64.new.self c.args.self.now c.args.registers.now c.args.pc c.frames_are_whole.ensures.memory c.requires.mapped c.requires.once (omega arith) c.store_u64.ensures
+
+pub store_u64-requires-in-loop-register-clause-frame :
+    goal.store_u64-requires-in-loop-register-clause-frame
+store_u64-requires-in-loop-register-clause-frame c = trap-inside c.loop-register.ram c.args.self.now c.loop-register.invariant.stands.mapped
+
+pub loop-register-preserved : goal.loop-register-preserved
+loop-register-preserved c =
+    saves-next c.args.ram.now c.loop-register.ram c.store_u64-in-loop-register.new.self c.args.self.now c.args.registers.now c.args.pc c.loop-register.register (get_or c.args.registers.now c.loop-register.register 0)
+    c.frames_are_whole-in-loop-register.ensures.memory c.loop-register.invariant (omega arith) c.loop-register-test.true (c.fits-registers c.loop-register.register) refl
+    (c.store_u64-in-loop-register.ensures ∙ ap (λ o. put c.loop-register.ram c.args.self.now.trap.0 o (word_bytes 8 (get_or c.args.registers.now c.loop-register.register 0))) c.place_of.ensures)
+
+pub returns-clause-registers : goal.returns-clause-registers
+returns-clause-registers c =
+    let all : c.loop-register.register ≡ 32 = omega arith in
+    saved-is c.loop-register.ram c.args.self.now c.args.registers.now c.told-registers c.requires.zero (λ j low high. c.loop-register.invariant.saved j low (omega (arith, all)))
+
+pub returns-clause-pc : goal.returns-clause-pc
+returns-clause-pc c = c.loop-register.invariant.counter
+
+pub returns-clause-spare : goal.returns-clause-spare
+returns-clause-spare c = c.loop-register.invariant.spare
+
+pub returns-clause-pages : goal.returns-clause-pages
+returns-clause-pages c = c.loop-register.invariant.pages
+
+pub returns-clause-stands : goal.returns-clause-stands
+returns-clause-stands c = c.loop-register.invariant.stands

@@ -1,0 +1,157 @@
+-- Pages and the trap frame are written: the space stands.
+use Rattle.std.proofs.Common.{◌≡◌, ◌≢◌, ℕ, zero, suc, ◌+◌, ◌<◌, ◌≤◌, ◌⊎◌, inl, inr, false, true, List, [], ◌∷◌, ◌++◌, length, refl, sym, ap, ◌∙◌, arith, ltb, slice_set, length-set, get_or, get_or-set_other, get_or-set_same}
+use Rattle.std.proofs.lemmas.Bool.{cases_lt, cases_eq}
+use Rattle.std.proofs.lemmas.List.{ext_get_or}
+use Rattle.ram.specs.Memory.{frame_of}
+use Rattle.frames.specs.declared.Frames.{Frames}
+use Rattle.frames.specs.Free.{among, free_of, IsFreeList}
+use Rattle.frames.specs.FreeLemmas.{free_of-same, IsFreeList-same}
+use Rattle.frames.specs.Holders.{one_if, count_of, holders_of, Trades}
+use Rattle.frames.proofs.HolderLemmas.{one_if-le, among-none, none-among, count_of-first, count_of-other, holders-free, Trades-none, Trades-twice}
+use Rattle.pagetable.specs.Tree.{lookup_of, Holds}
+use Rattle.pagetable.proofs.Beside.{table_at-same, lookup_of-same}
+use Rattle.pagetable.proofs.LookupLemmas.{lookup-sound}
+use Rattle.unixmodel.specs.Memory.{Page}
+use Rattle.vm.specs.declared.Space.{Space}
+use Rattle.vm.specs.Dense.{frame_at, marks_at, page_at, page_with, mapping_below, pages_below, frames_below, tables_below, held, IsDense, IsHeld}
+use Rattle.vm.proofs.DenseLemmas.{IsHeld-made, count-held, page-held, pages-apart, table-held}
+use Rattle.vm.proofs.GrowLemmas.{IsDense-same, held-same, frame_at-same, marks_at-same}
+use Rattle.vm.proofs.PageLemmas.{length-pages, get_or-pages}
+use Rattle.vm.proofs.StepLemmas.{held-not_free, mapping_below-same, pages_below-same}
+use Rattle.vm.specs.Space.{pages_in, IsMapped, IsOnce, IsSpace, mapping_of, pages_of, registers_of, holds, Stands}
+
+-- only frames of pages and the trap frame have other bytes now
+pub record Writes (m k : List (List ℕ)) (r t n : ℕ) : Type 0 where
+  pub count : length k ≡ length m
+  pub others : (f : ℕ) → count_of f (t ∷ frames_below m r n) ≡ 0 → frame_of k f ≡ frame_of m f
+
+tables-stay : (m k : List (List ℕ)) (r t n : ℕ) → IsDense m r t n → ((f : ℕ) → count_of f (held m r t n) ≤ 1) → Writes m k r t n → (v : ℕ) → Holds m r v → frame_of k v ≡ frame_of m v
+tables-stay m k r t n is once w v h = w.others v (omega (arith, once v, count-held m r t n v, table-held m r t n v is h))
+
+held-stays : (m k : List (List ℕ)) (r t n : ℕ) → IsDense m r t n → ((f : ℕ) → count_of f (held m r t n) ≤ 1) → Writes m k r t n → held k r t n ≡ held m r t n
+held-stays m k r t n is once w =
+    let tables = tables-stay m k r t n is once w in
+    let lists = held-same m k r t n is (λ q h. lookup_of-same m k r tables q) (λ x v nx h. table_at-same m k r tables x nx ∙ h) in
+    ap (λ l. l ++ (t ∷ frames_below k r n)) (lists.0) ∙ ap (λ l. tables_below m r n ++ (t ∷ l)) (lists.1)
+
+free-stays : (m k : List (List ℕ)) (r t n : ℕ) (s : Frames) → IsHeld m r t n s → Writes m k r t n → (g : ℕ) → among g (free_of m s) ≡ true → frame_of k g ≡ frame_of m g
+free-stays m k r t n s is w g at = elim (cases_eq (count_of g (t ∷ frames_below m r n)) 0) [
+  | inl none ↦ w.others g none
+  | inr some ↦ absurd (cc (at, among-none g (free_of m s) (omega (arith, some, held-not_free m r t n s is g, count-held m r t n g))))
+]
+
+space-stays : (m k : List (List ℕ)) (r t n : ℕ) (s : Frames) → IsHeld m r t n s → Writes m k r t n → IsHeld k r t n s × Trades m k s s (held m r t n) (held k r t n)
+space-stays m k r t n s is w =
+    let same = held-stays m k r t n is.dense is.once w in
+    let stays = free-stays m k r t n s is w in
+    let free : IsFreeList k s = IsFreeList-same m k s is.free w.count stays in
+    let holders : (v : ℕ) → holders_of k s v ≡ holders_of m s v = λ (v : ℕ). omega (arith, holders-free m s is.free v, holders-free k s free v, ap (count_of v) (free_of-same m k s stays), ap (λ l. one_if (ltb v l)) w.count) in (
+      IsHeld-made k r t n s (IsDense-same m k r t n is.dense w.count (tables-stay m k r t n is.dense is.once w)) free (λ v. omega (arith, is.held v, holders v, ap (count_of v) same)),
+      record {
+        count = w.count;
+        moved = λ v. omega (arith, holders v, ap (count_of v) same);
+        others = λ v h. w.others v (omega (arith, h, count-held m r t n v, holders-free m s is.free v, one_if-le (ltb v (length m))));
+      },
+    )
+
+-- the space stands where only its pages and its trap frame are written
+pub stands : (m k : List (List ℕ)) (s : Space) → IsMapped m s → IsOnce m s → Writes m k s.root.0 s.trap.0 (pages_in s.size) → Stands m k s
+stands m k s is once w =
+    let r = s.root.0 in
+    let t = s.trap.0 in
+    let n = pages_in s.size in
+    let tables = tables-stay m k r t n is once w in
+    record {
+      count = w.count;
+      mapped = IsDense-same m k r t n is w.count tables;
+      once = λ f. omega (arith, once f, ap (count_of f) (held-stays m k r t n is once w));
+      mapping = mapping_below-same m k r n (λ p h. lookup_of-same m k r tables p);
+      frames = held-stays m k r t n is once w;
+      space = λ free h. (space-stays m k r t n free h w).0;
+      trades = λ free h. (space-stays m k r t n free h w).1;
+    }
+
+-- a page's frame is one of the memory, is neither another page's nor the trap frame
+pub page-inside : (m : List (List ℕ)) (r t n p : ℕ) → IsDense m r t n → p < n → frame_at m r p < length m
+page-inside m r t n p is low = (lookup-sound m r p (frame_at m r p) (marks_at m r p) is.tree (is.pages p low)).0
+
+pub page-apart : (m : List (List ℕ)) (r t n p q : ℕ) → ((f : ℕ) → count_of f (held m r t n) ≤ 1) → p < n → q < n → q ≢ p → frame_at m r q ≢ frame_at m r p
+page-apart m r t n p q once low high ne e =
+    let single : (x : ℕ) → count_of x (frames_below m r n) ≤ 1 = λ (x : ℕ). omega (arith, once x, count-held m r t n x) in
+    elim (cases_lt p q) [
+      | inl less ↦ pages-apart m r n p q single less high (sym e)
+      | inr more ↦ pages-apart m r n q p single (omega arith) low e
+    ]
+
+pub pages-same : (m : List (List ℕ)) (r t n p q : ℕ) → ((f : ℕ) → count_of f (held m r t n) ≤ 1) → p < n → q < n → frame_at m r p ≡ frame_at m r q → p ≡ q
+pages-same m r t n p q once low high same = elim (cases_eq p q) [ inl e ↦ e | inr ne ↦ absurd (page-apart m r t n q p once high low ne same) ]
+
+pub trap-apart : (m : List (List ℕ)) (r t n p : ℕ) → ((f : ℕ) → count_of f (held m r t n) ≤ 1) → p < n → t ≢ frame_at m r p
+trap-apart m r t n p once low e =
+    omega (arith, once t, count-held m r t n t, count_of-first t t [] refl, page-held m r n p low, ap (λ x. count_of x (frames_below m r n)) e)
+
+pub Writes-page : (m k : List (List ℕ)) (r t n p : ℕ) (w : List ℕ) → p < n → k ≡ slice_set m (frame_at m r p) w → Writes m k r t n
+Writes-page m k r t n p w low e =
+    let f = frame_at m r p in
+    record {
+      count = rw e (length-set m f w);
+      others = λ v none. rw e (get_or-set_other m f v w [] (λ z. omega (arith, none, page-held m r n p low, ap (λ x. count_of x (frames_below m r n)) z)));
+    }
+
+pub Writes-trap : (m k : List (List ℕ)) (r t n : ℕ) (w : List ℕ) → k ≡ slice_set m t w → Writes m k r t n
+Writes-trap m k r t n w e = record {
+  count = rw e (length-set m t w);
+  others = λ v none. rw e (get_or-set_other m t v w [] (λ z. omega (arith, none, count_of-first v t (frames_below m r n) z)));
+}
+
+-- a store into a page keeps the space
+pub space-stored : (m k : List (List ℕ)) (s : Space) (p : ℕ) (w : List ℕ) → IsMapped m s → IsOnce m s → p < pages_in s.size → k ≡ slice_set m (frame_at m s.root.0 p) w → Stands m k s × (registers_of k s ≡ registers_of m s)
+space-stored m k s p w is once low e = (
+  stands m k s is once (Writes-page m k s.root.0 s.trap.0 (pages_in s.size) p w low e),
+  rw e (get_or-set_other m (frame_at m s.root.0 p) s.trap.0 w [] (trap-apart m s.root.0 s.trap.0 (pages_in s.size) p once low)),
+)
+
+-- and sets that page's bytes
+pub pages-stored : (m k : List (List ℕ)) (s : Space) (p : ℕ) (w : List ℕ) → IsMapped m s → IsOnce m s → p < pages_in s.size → k ≡ slice_set m (frame_at m s.root.0 p) w
+    → pages_of k s ≡ slice_set (pages_of m s) p (page_with w (marks_at m s.root.0 p))
+pages-stored m k s p w is once low e =
+    let r = s.root.0 in
+    let t = s.trap.0 in
+    let n = pages_in s.size in
+    let f = frame_at m r p in
+    let d : Page = page_with w (marks_at m r p) in
+    let old = pages_below m r n in
+    let looks = lookup_of-same m k r (tables-stay m k r t n is once (Writes-page m k r t n p w low e)) in
+    let page : (q : ℕ) → page_at k r q ≡ page_with (frame_of k (frame_at m r q)) (marks_at m r q) = λ (q : ℕ). ap (λ x. page_with (frame_of k x) (marks_at k r q)) (frame_at-same m k r q (looks q)) ∙ ap (page_with (frame_of k (frame_at m r q))) (marks_at-same m k r q (looks q)) in
+    let here : page_at k r p ≡ d = page p ∙ ap (λ b. page_with b (marks_at m r p)) (ap (λ x. frame_of x f) e ∙ get_or-set_same m f w [] (page-inside m r t n p is low)) in
+    let others : (q : ℕ) → q < n → q ≢ p → page_at k r q ≡ page_at m r q = λ (q : ℕ) (h : q < n) (ne : q ≢ p). page q ∙ ap (λ b. page_with b (marks_at m r q)) (ap (λ x. frame_of x (frame_at m r q)) e ∙ get_or-set_other m f (frame_at m r q) w [] (page-apart m r t n p q once low h ne)) in
+    ext_get_or d (pages_below k r n) (slice_set old p d) (length-pages k r n ∙ sym (length-set old p d ∙ length-pages m r n)) (λ q h.
+    let inside : q < n = omega (arith, h, length-pages k r n) in
+    get_or-pages k r n q d inside ∙ (elim (cases_eq q p) [
+      | inl z ↦ ap (page_at k r) z ∙ here ∙ sym (ap (λ x. get_or (slice_set old p d) x d) z ∙ get_or-set_same old p d d (omega (arith, length-pages m r n, low)))
+      | inr ne ↦ others q inside ne ∙ sym (get_or-set_other old p q d d ne ∙ get_or-pages m r n q d inside)
+    ]))
+
+-- the pages keep their bytes where only the trap frame is written
+pub pages-kept : (m k : List (List ℕ)) (s : Space) (w : List ℕ) → IsMapped m s → IsOnce m s → k ≡ slice_set m s.trap.0 w → pages_of k s ≡ pages_of m s
+pages-kept m k s w is once e =
+    let r = s.root.0 in
+    let t = s.trap.0 in
+    let n = pages_in s.size in
+    pages_below-same m k r n
+    (λ p h. lookup_of-same m k r (tables-stay m k r t n is once (Writes-trap m k r t n w e)) p)
+    (λ p h. rw e (get_or-set_other m t (frame_at m r p) w [] (λ z. trap-apart m r t n p once h (sym z))))
+
+pub Stands-none : (m : List (List ℕ)) (s : Space) → IsMapped m s → IsOnce m s → Stands m m s
+Stands-none m s is once = record { count = refl; mapped = is; once = once; mapping = refl; frames = refl; space = λ free h. h; trades = λ free h. Trades-none m free (holds m s) }
+
+pub Stands-twice : (m k l : List (List ℕ)) (s : Space) → Stands m k s → Stands k l s → Stands m l s
+Stands-twice m k l s a b = record {
+  count = b.count ∙ a.count;
+  mapped = b.mapped;
+  once = b.once;
+  mapping = b.mapping ∙ a.mapping;
+  frames = b.frames ∙ a.frames;
+  space = λ free h. b.space free (a.space free h);
+  trades = λ free h. Trades-twice m k l free free free (holds m s) (holds k s) (holds l s) (a.trades free h) (b.trades free (a.space free h));
+}

@@ -1,0 +1,116 @@
+-- A string is read byte by byte.
+use Rattle.std.proofs.Common.{◌≡◌, ◌≢◌, ℕ, zero, suc, ◌+◌, ◌-◌, ◌/◌, ◌%◌, ◌^◌, ◌<◌, ◌≤◌, ◌⊎◌, inl, inr, List, [], ◌∷◌, ◌++◌, length, take, drop, Option, Some, None, refl, sym, ap, ◌∙◌, arith, length-append, length-take, append_assoc, append-nil, slice_set, leb, true}
+use Rattle.std.specs.Prelude.{if◌then◌else◌, slice_get, option_map}
+use Rattle.std.proofs.lemmas.Bool.{lt-leb, le-leb}
+use Rattle.unixmodel.specs.declared.trap.Access.{Access}
+use Rattle.unixmodel.specs.declared.trap.Access.TheVariants.{Load}
+use Rattle.unixmodel.specs.Memory.{Memory, reach, before_nul, path_at, short_path, string_at}
+use Rattle.vm.specs.Reach.{IsSized, piece_at, short_string}
+use Rattle.vm.proofs.ReachLemmas.{reach-front, reach-drop, reach-page}
+
+first-drop : (xs : List ℕ) (q : ℕ) → slice_get (drop q xs) 0 ≡ slice_get xs q
+first-drop xs zero = refl
+first-drop [] (suc q) = refl
+first-drop (x ∷ xs) (suc q) = first-drop xs q
+
+first-take : (xs : List ℕ) → slice_get (take 1 xs) 0 ≡ slice_get xs 0
+first-take [] = refl
+first-take (x ∷ xs) = refl
+
+-- the first byte of a piece is the next that is reached
+pub piece-first : (a : Access) (mem : Memory) (at d : ℕ) → IsSized mem → d ≤ length (reach a mem at) → slice_get (piece_at a mem (at + d)) 0 ≡ slice_get (reach a mem at) d
+piece-first a mem at d h low =
+    sym (first-take (piece_at a mem (at + d)))
+    ∙ ap (λ l. slice_get l 0) (sym (reach-front a mem (at + d) 1 h (omega arith)))
+    ∙ first-take (reach a mem (at + d))
+    ∙ ap (λ l. slice_get l 0) (reach-drop a mem at d h low)
+    ∙ first-drop (reach a mem at) d
+
+-- the bytes below i are in the buffer, and none of them is 0
+pub record Strings (bytes buffer : List ℕ) (i : ℕ) : Type 0 where
+  pub within : i ≤ length bytes
+  pub same : take i buffer ≡ take i bytes
+  pub rest : before_nul bytes ≡ option_map (λ r. take i bytes ++ r) (before_nul (drop i bytes))
+
+mapped-nil : (o : Option (List ℕ)) → o ≡ option_map (λ r. [] ++ r) o
+mapped-nil None = refl
+mapped-nil (Some r) = refl
+
+pub strings-start : (bytes buffer : List ℕ) → Strings bytes buffer 0
+strings-start bytes buffer = record { within = omega arith; same = refl; rest = mapped-nil (before_nul bytes) }
+
+split : (xs : List ℕ) (i x : ℕ) → slice_get xs i ≡ Some x → (drop i xs ≡ x ∷ drop (suc i) xs) × (take (suc i) xs ≡ take i xs ++ (x ∷ [])) × (i < length xs)
+split [] i x e = absurd cc
+split (y ∷ ys) zero x e = let same : y ≡ x = cc in (ap (λ z. z ∷ ys) same, ap (λ z. z ∷ []) same, omega arith)
+split (y ∷ ys) (suc i) x e = let s = split ys i x e in (s.0, ap (λ l. y ∷ l) (s.1), omega (arith, s.2))
+
+twice : (front : List ℕ) (x : ℕ) (o : Option (List ℕ)) → option_map (λ r. front ++ r) (option_map (λ r. x ∷ r) o) ≡ option_map (λ r. (front ++ (x ∷ [])) ++ r) o
+twice front x None = refl
+twice front x (Some r) = ap Some (sym (append_assoc front (x ∷ []) r))
+
+before-more : (x : ℕ) (xs : List ℕ) → x ≢ 0 → before_nul (x ∷ xs) ≡ option_map (λ r. x ∷ r) (before_nul xs)
+before-more zero xs ne = absurd (ne refl)
+before-more (suc x) xs ne = refl
+
+take-set : (buffer : List ℕ) (i x : ℕ) → i < length buffer → take (suc i) (slice_set buffer i x) ≡ take i buffer ++ (x ∷ [])
+take-set [] i x h = absurd (omega (arith, h))
+take-set (y ∷ ys) zero x h = refl
+take-set (y ∷ ys) (suc i) x h = ap (λ l. y ∷ l) (take-set ys i x (omega (arith, h)))
+
+-- one more byte
+pub strings-next : (bytes buffer : List ℕ) (i x : ℕ) → Strings bytes buffer i → i < length buffer → slice_get bytes i ≡ Some x → x ≢ 0 → Strings bytes (slice_set buffer i x) (i + 1)
+strings-next bytes buffer i x was room at ne =
+    let s = split bytes i x at in
+    let one : i + 1 ≡ suc i = omega arith in
+    rw one (record {
+      within = omega (arith, s.2);
+      same = take-set buffer i x room ∙ ap (λ l. l ++ (x ∷ [])) was.same ∙ sym (s.1);
+      rest = was.rest ∙ ap (λ l. option_map (λ r. take i bytes ++ r) (before_nul l)) (s.0)
+          ∙ ap (option_map (λ r. take i bytes ++ r)) (before-more x (drop (suc i) bytes) ne)
+          ∙ twice (take i bytes) x (before_nul (drop (suc i) bytes))
+          ∙ ap (λ f. option_map (λ r. f ++ r) (before_nul (drop (suc i) bytes))) (sym (s.1));
+    })
+
+drop-end : (xs : List ℕ) (i : ℕ) → slice_get xs i ≡ None → drop i xs ≡ []
+drop-end [] zero e = refl
+drop-end [] (suc i) e = refl
+drop-end (x ∷ xs) zero e = absurd cc
+drop-end (x ∷ xs) (suc i) e = drop-end xs i e
+
+-- the bytes end before a 0
+pub string-open : (bytes buffer : List ℕ) (i most : ℕ) → Strings bytes buffer i → slice_get bytes i ≡ None → short_string most (before_nul bytes) ≡ None
+string-open bytes buffer i most was e = ap (short_string most) (was.rest ∙ ap (λ l. option_map (λ r. take i bytes ++ r) (before_nul l)) (drop-end bytes i e))
+
+-- the 0 is there
+pub string-ends : (bytes buffer : List ℕ) (i most : ℕ) → Strings bytes buffer i → i ≤ most → slice_get bytes i ≡ Some 0 → short_string most (before_nul bytes) ≡ Some (take i buffer)
+string-ends bytes buffer i most was fits e =
+    let s = split bytes i 0 e in
+    let found : before_nul bytes ≡ Some (take i buffer) = was.rest ∙ ap (λ l. option_map (λ r. take i bytes ++ r) (before_nul l)) (s.0) ∙ ap Some (append-nil (take i bytes) ∙ sym was.same) in
+    let short : leb (length (take i buffer)) most ≡ true = le-leb (length (take i buffer)) most (omega (arith, fits, length-take i buffer)) in
+    ap (short_string most) found ∙ ap (λ b. if b then Some (take i buffer) else None) short
+
+long-string : (front : List ℕ) (x most : ℕ) (o : Option (List ℕ)) → most ≤ length front → short_string most (option_map (λ r. front ++ r) (option_map (λ r. x ∷ r) o)) ≡ None
+long-string front x most None h = refl
+long-string front x most (Some r) h =
+    ap (λ b. if b then Some (front ++ (x ∷ r)) else None) (lt-leb (length (front ++ (x ∷ r))) most (omega (arith, h, length-append front (x ∷ r))))
+
+-- it is not there in time
+pub string-long : (bytes buffer : List ℕ) (i x : ℕ) → Strings bytes buffer i → slice_get bytes i ≡ Some x → x ≢ 0 → short_string i (before_nul bytes) ≡ None
+string-long bytes buffer i x was e ne =
+    let s = split bytes i x e in
+    ap (short_string i) (was.rest ∙ ap (λ l. option_map (λ r. take i bytes ++ r) (before_nul l)) (s.0) ∙ ap (option_map (λ r. take i bytes ++ r)) (before-more x (drop (suc i) bytes) ne))
+    ∙ long-string (take i bytes) x i (before_nul (drop (suc i) bytes)) (omega (arith, was.within, length-take i bytes))
+
+-- the next address is one of 64 bits
+pub string-fits : (a : Access) (mem : Memory) (at i : ℕ) → IsSized mem → length mem ≤ 32768 → at < 2 ^ 64 → i ≤ length (reach a mem at) → at + i < 2 ^ 64
+string-fits a mem at zero h small fits low = omega (arith, fits)
+string-fits a mem at (suc i) h small fits low = omega (arith, (reach-page a mem at i h (omega (arith, low))).0, small)
+
+path-short : (o : Option (List ℕ)) → short_path o ≡ short_string 127 o
+path-short None = refl
+path-short (Some s) = refl
+
+-- a path is a string of no more than 127 bytes
+pub path-string : (mem : Memory) (at : ℕ) → path_at mem at ≡ short_string 127 (string_at mem at)
+unfolding path_at
+path-string mem at = path-short (string_at mem at)

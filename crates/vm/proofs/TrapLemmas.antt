@@ -1,0 +1,126 @@
+-- Lemmas on trap frames.
+use Rattle.std.proofs.Common.{◌≡◌, ◌≢◌, ℕ, zero, suc, ◌+◌, ◌*◌, ◌^◌, ◌<◌, ◌≤◌, ◌⊎◌, inl, inr, List, [], ◌∷◌, length, map, get_or, replicate, refl, sym, ap, ◌∙◌, arith, slice_set, length-set, get_or-set_same, get_or-set_other}
+use Rattle.std.proofs.lemmas.List.{ext_get_or, get_or-replicate}
+use Rattle.std.proofs.lemmas.List.FromFn.{length-map-range_with_len, get_or-map-range_with_len}
+use Rattle.std.specs.List.{range_with_len}
+use Rattle.std.proofs.lemmas.Bool.{cases_eq}
+use Rattle.ram.specs.Memory.{frame_of, put, put_bytes, word_of, word_bytes, IsMemory}
+use Rattle.pagetable.proofs.LookupLemmas.{lookup-sound}
+use Rattle.vm.specs.Dense.{trap_page, trap_marks}
+use Rattle.ram.specs.MemoryLemmas.{word_of-frame, word_of-zeros, get_or-put_bytes_below, get_or-put_bytes_above, frame_of-put_same, length-word_bytes, word_of-put_same, word_of-put_beside}
+use Rattle.vm.specs.declared.Space.{Space}
+use Rattle.vm.specs.Space.{pages_in, IsMapped, IsOnce, mapping_of, pages_of, registers_of, Stands}
+use Rattle.vm.proofs.StoreLemmas.{stands, Writes-trap, pages-kept, Stands-twice}
+use Rattle.vm.specs.TrapFrame.{saved_pc, saved_register, saved_registers, IsSpare}
+
+-- the registers, one by one
+pub get-saved : (m : List (List ℕ)) (s : Space) (i : ℕ) → 0 < i → i < 32 → get_or (saved_registers m s) i 0 ≡ saved_register m s i
+unfolding saved_registers
+get-saved m s zero low high = absurd (omega arith)
+get-saved m s (suc i) low high = get_or-map-range_with_len (saved_register m s) 1 31 i (suc i) 0 (omega arith) (omega arith)
+
+pub length-saved : (m : List (List ℕ)) (s : Space) → length (saved_registers m s) ≡ 32
+unfolding saved_registers
+length-saved m s = ap suc (length-map-range_with_len (saved_register m s) 1 31)
+
+first-saved : (m : List (List ℕ)) (s : Space) → get_or (saved_registers m s) 0 0 ≡ 0
+unfolding saved_registers
+first-saved m s = refl
+
+each : (m : List (List ℕ)) (s : Space) (xs : List ℕ) → length xs ≡ 32 → get_or xs 0 0 ≡ 0 → ((i : ℕ) → 0 < i → i < 32 → saved_register m s i ≡ get_or xs i 0) → (i : ℕ) → i < 32 → get_or (saved_registers m s) i 0 ≡ get_or xs i 0
+each m s xs len none same zero h = first-saved m s ∙ sym none
+each m s xs len none same (suc i) h = get-saved m s (suc i) (omega arith) h ∙ same (suc i) (omega arith) h
+
+pub saved-is : (m : List (List ℕ)) (s : Space) (xs : List ℕ) → length xs ≡ 32 → get_or xs 0 0 ≡ 0 → ((i : ℕ) → 0 < i → i < 32 → saved_register m s i ≡ get_or xs i 0) → saved_registers m s ≡ xs
+saved-is m s xs len none same = ext_get_or 0 (saved_registers m s) xs (length-saved m s ∙ sym len) (λ i h. each m s xs len none same i (omega (arith, h, length-saved m s)))
+
+-- a store into the trap frame leaves the pages
+pub trap-stored : (m k : List (List ℕ)) (s : Space) (o x : ℕ) → IsMapped m s → IsOnce m s → k ≡ put m s.trap.0 o (word_bytes 8 x) → Stands m k s × (pages_of k s ≡ pages_of m s)
+unfolding put
+trap-stored m k s o x is once e =
+    let w = put_bytes (frame_of m s.trap.0) o (word_bytes 8 x) in
+    let writes = Writes-trap m k s.root.0 s.trap.0 (pages_in s.size) w e in
+    (stands m k s is once writes, pages-kept m k s w is once e)
+
+-- and the bytes beside it
+pub beside-stored : (m k : List (List ℕ)) (s : Space) (o x at : ℕ) → s.trap.0 < length m → length (frame_of m s.trap.0) ≡ 4096 → o + 8 ≤ 4096 → (at < o) ⊎ (o + 8 ≤ at) → k ≡ put m s.trap.0 o (word_bytes 8 x)
+    → get_or (registers_of k s) at 0 ≡ get_or (registers_of m s) at 0
+beside-stored m k s o x at inside whole fits (inl low) e =
+    ap (λ n. get_or (frame_of n s.trap.0) at 0) e ∙ ap (λ b. get_or b at 0) (frame_of-put_same m s.trap.0 o (word_bytes 8 x) inside)
+    ∙ get_or-put_bytes_below (frame_of m s.trap.0) o (word_bytes 8 x) at 0 (omega (arith, fits, whole, length-word_bytes 8 x)) low
+beside-stored m k s o x at inside whole fits (inr high) e =
+    ap (λ n. get_or (frame_of n s.trap.0) at 0) e ∙ ap (λ b. get_or b at 0) (frame_of-put_same m s.trap.0 o (word_bytes 8 x) inside)
+    ∙ get_or-put_bytes_above (frame_of m s.trap.0) o (word_bytes 8 x) at 0 (omega (arith, fits, whole, length-word_bytes 8 x)) (omega (arith, high, length-word_bytes 8 x))
+
+-- a trap frame of zeros
+word-zero : (m : List (List ℕ)) (t o k : ℕ) → t < length m → frame_of m t ≡ replicate 4096 0 → word_of m t o k ≡ 0
+word-zero m t o k inside e =
+    word_of-frame m (slice_set m t (replicate 4096 0)) t t o k (e ∙ sym (get_or-set_same m t (replicate 4096 0) [] inside))
+    ∙ word_of-zeros m t o k 4096 inside
+
+zero_at : (i : ℕ) → i < 32 → get_or (replicate {A = ℕ} 32 0) i 0 ≡ 0
+zero_at i h = get_or-replicate 32 i 0 0 h
+
+pub saved-zero : (m : List (List ℕ)) (s : Space) → s.trap.0 < length m → registers_of m s ≡ replicate 4096 0 → (saved_registers m s ≡ replicate {A = ℕ} 32 0) × (saved_pc m s ≡ 0)
+saved-zero m s inside e =
+    (saved-is m s (replicate {A = ℕ} 32 0) refl refl (λ i low high. word-zero m s.trap.0 (32 + 8 * i) 8 inside e ∙ sym (zero_at i high)), word-zero m s.trap.0 24 8 inside e)
+
+pub trap-inside : (m : List (List ℕ)) (s : Space) → IsMapped m s → s.trap.0 < length m
+trap-inside m s is = (lookup-sound m s.root.0 trap_page s.trap.0 trap_marks is.tree is.trap).0
+
+-- the program counter and the registers below i are in the trap frame, and all else is as it was
+pub record Saves (m k : List (List ℕ)) (s : Space) (xs : List ℕ) (pc i : ℕ) : Type 0 where
+  pub stands : Stands m k s
+  pub pages : pages_of k s ≡ pages_of m s
+  pub counter : saved_pc k s ≡ pc
+  pub saved : (j : ℕ) → 0 < j → j < i → saved_register k s j ≡ get_or xs j 0
+  pub spare : (at : ℕ) → IsSpare at → get_or (registers_of k s) at 0 ≡ get_or (registers_of m s) at 0
+
+pub saves-start : (m k : List (List ℕ)) (s : Space) (xs : List ℕ) (pc : ℕ) → IsMemory m → IsMapped m s → IsOnce m s → pc < 2 ^ 64 → k ≡ put m s.trap.0 24 (word_bytes 8 pc) → Saves m k s xs pc 1
+saves-start m k s xs pc memory is once small e =
+    let inside = trap-inside m s is in
+    let both = trap-stored m k s 24 pc is once e in
+    record {
+      stands = both.0;
+      pages = both.1;
+      counter = ap (λ n. word_of n s.trap.0 24 8) e ∙ word_of-put_same m s.trap.0 24 8 pc memory inside (omega arith) small;
+      saved = λ j low high. absurd (omega arith);
+      spare = λ at free. beside-stored m k s 24 pc at inside (memory.sized s.trap.0 inside) (omega arith) (elim free [ inl a ↦ inl a | inr b ↦ elim b [ inl x ↦ inr (omega (arith, x.0)) | inr y ↦ inr (omega (arith, y)) ] ]) e;
+    }
+
+pub saves-next : (m k l : List (List ℕ)) (s : Space) (xs : List ℕ) (pc i x : ℕ) → IsMemory k → Saves m k s xs pc i → 0 < i → i < 32 → x < 2 ^ 64 → x ≡ get_or xs i 0 → l ≡ put k s.trap.0 (32 + 8 * i) (word_bytes 8 x) → Saves m l s xs pc (i + 1)
+saves-next m k l s xs pc i x memory was low high small is e =
+    let t = s.trap.0 in
+    let o = 32 + 8 * i in
+    let inside = trap-inside k s was.stands.mapped in
+    let size = length-word_bytes 8 x in
+    let both = trap-stored k l s o x was.stands.mapped was.stands.once e in
+    record {
+      stands = Stands-twice m k l s was.stands both.0;
+      pages = both.1 ∙ was.pages;
+      counter = ap (λ n. word_of n t 24 8) e ∙ word_of-put_beside k t o (word_bytes 8 x) 24 8 memory inside (omega (arith, size)) (inl (omega arith)) ∙ was.counter;
+      saved = λ j lo hi. elim (cases_eq j i) [
+        | inl same ↦ ap (λ q. word_of l t (32 + 8 * q) 8) same ∙ ap (λ n. word_of n t o 8) e ∙ word_of-put_same k t o 8 x memory inside (omega arith) small ∙ is ∙ ap (λ q. get_or xs q 0) (sym same)
+        | inr ne ↦ ap (λ n. word_of n t (32 + 8 * j) 8) e ∙ word_of-put_beside k t o (word_bytes 8 x) (32 + 8 * j) 8 memory inside (omega (arith, size)) (inl (omega (arith, ne))) ∙ was.saved j lo (omega (arith, ne))
+      ];
+      spare = λ at free. beside-stored k l s o x at inside (memory.sized t inside) (omega arith) (elim free [ inl a ↦ inl (omega (arith, a)) | inr b ↦ elim b [ inl x ↦ inl (omega (arith, x.1)) | inr y ↦ inr (omega (arith, y)) ] ]) e ∙ was.spare at free;
+    }
+
+-- the registers below i of a list are those of the trap frame
+pub record Loads (m : List (List ℕ)) (s : Space) (xs : List ℕ) (i : ℕ) : Type 0 where
+  pub count : length xs ≡ 32
+  pub first : get_or xs 0 0 ≡ 0
+  pub loaded : (j : ℕ) → 0 < j → j < i → saved_register m s j ≡ get_or xs j 0
+
+pub loads-start : (m : List (List ℕ)) (s : Space) (xs : List ℕ) → length xs ≡ 32 → Loads m s (slice_set xs 0 0) 1
+loads-start m s xs len = record { count = length-set xs 0 0 ∙ len; first = get_or-set_same xs 0 0 0 (omega (arith, len)); loaded = λ j low high. absurd (omega arith) }
+
+pub loads-next : (m : List (List ℕ)) (s : Space) (xs : List ℕ) (i x : ℕ) → Loads m s xs i → 0 < i → i < 32 → x ≡ saved_register m s i → Loads m s (slice_set xs i x) (i + 1)
+loads-next m s xs i x was low high is = record {
+  count = length-set xs i x ∙ was.count;
+  first = get_or-set_other xs i 0 x 0 (omega arith) ∙ was.first;
+  loaded = λ j lo hi. elim (cases_eq j i) [
+    | inl same ↦ ap (saved_register m s) same ∙ sym is ∙ sym (ap (λ k. get_or (slice_set xs i x) k 0) same ∙ get_or-set_same xs i x 0 (omega (arith, was.count)))
+    | inr ne ↦ was.loaded j lo (omega (arith, ne)) ∙ sym (get_or-set_other xs i j x 0 ne)
+  ];
+}

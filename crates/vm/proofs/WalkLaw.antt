@@ -1,0 +1,142 @@
+-- The walk goes by the mapping of a space.
+use Rattle.std.proofs.Common.{◌≡◌, ◌≢◌, ◌==◌, ℕ, zero, suc, ◌+◌, ◌-◌, ◌*◌, ◌/◌, ◌%◌, ◌^◌, ◌<◌, ◌≤◌, ◌⊎◌, inl, inr, Bool, true, false, ◌||◌, List, [], ◌∷◌, length, take, get_or, Option, Some, None, refl, sym, ap, ◌∙◌, arith, eq-eqb}
+use Rattle.std.specs.Prelude.{if◌then◌else◌, option_map, slice_get}
+use Rattle.std.proofs.lemmas.Bool.{cases_eq, cases_lt, eqb-true}
+use Rattle.std.proofs.lemmas.Option.{slice_get-get_or, slice_get_past, slice_get_within, slice_get-map}
+use Rattle.unixmodel.specs.declared.trap.Access.{Access}
+use Rattle.unixmodel.specs.declared.trap.Access.TheVariants.{Fetch, Load, Store}
+use Rattle.unixmodel.specs.Memory.{Marks, permits}
+use Rattle.unixmodel.specs.Translation.{walk_page, leaf_allows, is_canonical, Translation, Held}
+use Rattle.sv39.specs.Mapping.{Mapped, memory_of, page_in, allowed, frame_for, WalksTo, IsCoherent}
+use Rattle.pagetable.specs.Agree.{translation, given_frame, walk_page-tree}
+use Rattle.pagetable.specs.Marks.{page_marks, leaf_allows-leaf_marks}
+use Rattle.pagetable.specs.Tree.{lookup_of, table_at, low_node, leaf_at}
+use Rattle.vm.specs.Dense.{trap_page, trap_marks, frame_at, marks_at, mapped_at, mapping_below, IsDense}
+use Rattle.vm.proofs.PageLemmas.{length-mapping, get_or-mapping}
+
+-- ---- the mapping, an entry at a time
+
+abbrev mapped_of : ℕ → Marks → Mapped
+mapped_of f a = record { frame = f; marks = a }
+
+none_mapped : Mapped
+none_mapped = record { frame = 0; marks = record { writable = false; executable = false; user = false } }
+
+pub get-mapping : (m : List (List ℕ)) (r n p : ℕ) → p < n → slice_get (mapping_below m r n) p ≡ Some (mapped_at m r p)
+get-mapping m r n p h =
+    slice_get-get_or (mapping_below m r n) p none_mapped (omega (arith, h, length-mapping m r n))
+    ∙ ap Some (get_or-mapping m r n p none_mapped h)
+
+pub mapping-past : (m : List (List ℕ)) (r n p : ℕ) → n ≤ p → slice_get (mapping_below m r n) p ≡ None
+mapping-past m r n p h = slice_get_past (mapping_below m r n) p (omega (arith, h, length-mapping m r n))
+
+pub mapping-within : (m : List (List ℕ)) (r n p : ℕ) (e : Mapped) → slice_get (mapping_below m r n) p ≡ Some e → p < n
+mapping-within m r n p e h = omega (arith, slice_get_within (mapping_below m r n) p e h, length-mapping m r n)
+
+pub mapping-is : (m : List (List ℕ)) (r n p : ℕ) (e : Mapped) → slice_get (mapping_below m r n) p ≡ Some e → mapped_at m r p ≡ e
+mapping-is m r n p e h =
+    let both : Some (mapped_at m r p) ≡ Some e = sym (get-mapping m r n p (mapping-within m r n p e h)) ∙ h in
+    cc
+
+pub mapped-parts : (f g : ℕ) (a b : Marks) → f ≡ g → a ≡ b → mapped_of f a ≡ mapped_of g b
+mapped-parts f g a b e h = ap (λ x. mapped_of x a) e ∙ ap (mapped_of g) h
+
+-- an entry of the mapping is a page of the memory
+pub mapped-page : (m : List (List ℕ)) (mapping : List Mapped) (p : ℕ) (e : Mapped) → Some e ≡ slice_get mapping p → slice_get (memory_of m mapping) p ≡ Some (page_in m e)
+mapped-page m mapping p e h = slice_get-map (page_in m) mapping p ∙ ap (option_map (page_in m)) (sym h)
+
+pub unmapped-page : (m : List (List ℕ)) (mapping : List Mapped) (p : ℕ) → None ≡ slice_get mapping p → slice_get (memory_of m mapping) p ≡ None
+unmapped-page m mapping p h = slice_get-map (page_in m) mapping p ∙ ap (option_map (page_in m)) (sym h)
+
+-- ---- the walk
+
+framed : (b : Bool) (e : Mapped) → option_map (λ x. x.frame) (if b then Some e else None) ≡ (if b then Some e.frame else None)
+framed true e = refl
+framed false e = refl
+
+frame-mapped : (m : List (List ℕ)) (r n p : ℕ) (a : Access) → p < n → frame_for (mapping_below m r n) p a ≡ (if permits a (page_marks (marks_at m r p)) then Some (frame_at m r p) else None)
+frame-mapped m r n p a h =
+    ap (λ o. option_map (λ x. x.frame) (allowed a o)) (get-mapping m r n p h)
+    ∙ framed (permits a (page_marks (marks_at m r p))) (mapped_at m r p)
+
+frame-past : (m : List (List ℕ)) (r n p : ℕ) (a : Access) → n ≤ p → frame_for (mapping_below m r n) p a ≡ None
+frame-past m r n p a h = ap (λ o. option_map (λ x. x.frame) (allowed a o)) (mapping-past m r n p h)
+
+-- the trap frame's page allows programs nothing
+trap-closed : (a : Access) → leaf_allows a trap_marks ≡ false
+trap-closed Fetch = refl
+trap-closed Load = refl
+trap-closed Store = refl
+
+lookup-low : (m : List (List ℕ)) (r p : ℕ) → lookup_of m r p ≡ lookup_of m r (p % 2 ^ 27)
+unfolding lookup_of
+lookup-low m r p =
+    let q = p % 2 ^ 27 in
+    let mid : q / 262144 % 512 ≡ p / 262144 % 512 = omega arith in
+    let low : q / 512 % 512 ≡ p / 512 % 512 = omega arith in
+    let last : q % 512 ≡ p % 512 = omega arith in
+    rw (mid, low, last) refl
+
+beyond : (a b : Bool) → (a || b) ≡ true → (a ≢ true) → (b ≢ true) → ⊥
+beyond true b e f g = f refl
+beyond false true e f g = g refl
+beyond false false e f g = cc
+
+canonical-low : (p : ℕ) → is_canonical p ≡ true → (p < 2 ^ 26) ⊎ (2 ^ 26 ≤ p % 2 ^ 27)
+canonical-low p e = elim (cases_eq (p / 2 ^ 26) 0) [
+  | inl low ↦ inl (omega (arith, low))
+  | inr high ↦ elim (cases_eq (p / 2 ^ 26) (2 ^ 26 - 1)) [
+    | inl top ↦ inr (omega (arith, top))
+    | inr other ↦ absurd (beyond (p / 2 ^ 26 == 0) (p / 2 ^ 26 == 2 ^ 26 - 1) e (λ t. high (eqb-true (p / 2 ^ 26) 0 t)) (λ t. other (eqb-true (p / 2 ^ 26) (2 ^ 26 - 1) t)))
+  ]
+]
+
+closed : (m : List (List ℕ)) (r t n q : ℕ) (a : Access) → IsDense m r t n → n ≤ q → q < 2 ^ 27 → translation a (lookup_of m r q) ≡ None
+closed m r t n q a is high low = elim (cases_eq q trap_page) [
+  | inl e ↦ ap (λ p. translation a (lookup_of m r p)) e ∙ ap (translation a) is.trap ∙ ap (λ b. if b then Some t else None) (trap-closed a)
+  | inr ne ↦ ap (translation a) (is.rest q high low ne)
+]
+
+given-past : (m : List (List ℕ)) (r t n p : ℕ) (a : Access) (b : Bool) → IsDense m r t n → n ≤ p → is_canonical p ≡ b → (if b then translation a (lookup_of m r p) else None) ≡ None
+given-past m r t n p a false is high e = refl
+given-past m r t n p a true is high e =
+    let small : n ≤ 32768 = is.small in
+    ap (translation a) (lookup-low m r p) ∙ closed m r t n (p % 2 ^ 27) a is (elim (canonical-low p e) [ inl low ↦ omega (arith, low, high) | inr top ↦ omega (arith, top, small) ]) (omega arith)
+
+given-mapped : (m : List (List ℕ)) (r t n p : ℕ) (a : Access) → IsDense m r t n → p < n → given_frame m r p a ≡ (if permits a (page_marks (marks_at m r p)) then Some (frame_at m r p) else None)
+given-mapped m r t n p a is h =
+    let small : n ≤ 32768 = is.small in
+    let low : p / 2 ^ 26 ≡ 0 = omega (arith, h, small) in
+    let allows : leaf_allows a (marks_at m r p) ≡ permits a (page_marks (marks_at m r p)) = ap (leaf_allows a) (is.leaves p h) ∙ leaf_allows-leaf_marks a (page_marks (marks_at m r p)) in
+    rw low (ap (translation a) (is.pages p h) ∙ ap (λ b. if b then Some (frame_at m r p) else None) allows)
+
+pub walks-mapping : (m : List (List ℕ)) (r t n : ℕ) → length m ≤ 32768 → IsDense m r t n → WalksTo m r (mapping_below m r n)
+walks-mapping m r t n small is = record {
+  walks = λ p a. walk_page-tree m r p a small is.tree ∙ (elim (cases_lt p n) [
+    | inl low ↦ given-mapped m r t n p a is low ∙ sym (frame-mapped m r n p a low)
+    | inr high ↦ given-past m r t n p a (is_canonical p) is high refl ∙ sym (frame-past m r n p a high)
+  ]);
+}
+
+-- ---- a mapping that goes on
+
+get-take : (xs : List Mapped) (n p : ℕ) → p < n → slice_get (take n xs) p ≡ slice_get xs p
+get-take [] zero p h = refl
+get-take [] (suc n) p h = refl
+get-take (x ∷ xs) zero p h = absurd (omega (arith, h))
+get-take (x ∷ xs) (suc n) zero h = refl
+get-take (x ∷ xs) (suc n) (suc p) h = get-take xs n p (omega (arith, h))
+
+none-found : (xs : List Mapped) (p f : ℕ) (a : Access) → length xs ≤ p → frame_for xs p a ≡ Some f → ⊥
+none-found xs p f a h e =
+    let none : frame_for xs p a ≡ None = ap (λ o. option_map (λ x. x.frame) (allowed a o)) (slice_get_past xs p h) in
+    cc
+
+-- what a translator holds of a mapping it may hold when pages come after it
+pub coherent-grown : (held : Held) (root : ℕ) (old new : List Mapped) → take (length old) new ≡ old → IsCoherent held root old → IsCoherent held root new
+coherent-grown held root old new front is = record {
+  walks = λ t h same. elim (cases_lt t.page (length old)) [
+    | inl low ↦ ap (λ o. option_map (λ x. x.frame) (allowed t.access o)) (sym (get-take new (length old) t.page low) ∙ ap (λ l. slice_get l t.page) front) ∙ is.walks t h same
+    | inr high ↦ absurd (none-found old t.page t.frame t.access high (is.walks t h same))
+  ];
+}

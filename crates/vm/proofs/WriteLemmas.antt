@@ -1,0 +1,102 @@
+-- Bytes that are written a page at a time.
+use Rattle.std.proofs.Common.{◌≡◌, ◌≢◌, ℕ, zero, suc, ◌+◌, ◌-◌, ◌*◌, ◌/◌, ◌%◌, ◌<◌, ◌≤◌, ◌⊎◌, inl, inr, List, [], ◌∷◌, ◌++◌, length, take, drop, min, Option, Some, None, refl, sym, ap, ◌∙◌, arith, slice_set, get_or, length-drop, append_assoc}
+use Rattle.std.specs.Prelude.{slice_get}
+use Rattle.std.proofs.lemmas.Bool.{cases_lt}
+use Rattle.std.proofs.lemmas.List.{take-append-drop}
+use Rattle.unixmodel.specs.Memory.{Page, Memory, overwrite, write_from, write_bytes}
+use Rattle.ram.specs.Memory.{frame_of, put, put_bytes}
+use Rattle.vm.specs.declared.Space.{Space}
+use Rattle.vm.specs.Dense.{frame_at, marks_at, page_at, page_with}
+use Rattle.vm.specs.Reach.{written}
+use Rattle.vm.specs.Space.{pages_in, IsMapped, IsOnce, pages_of, registers_of, Stands}
+use Rattle.vm.proofs.StoreLemmas.{space-stored, pages-stored}
+
+write_from-none : (ps : List Page) (at : ℕ) → write_from ps at [] ≡ ps
+write_from-none [] at = refl
+write_from-none (p ∷ ps) at = refl
+
+-- nothing is written
+pub write-none : (mem : Memory) (at : ℕ) → write_bytes mem at [] ≡ mem
+unfolding write_bytes
+write-none mem at = ap (λ ps. take (at / 4096) mem ++ ps) (write_from-none (drop (at / 4096) mem) (at % 4096)) ∙ take-append-drop (at / 4096) mem
+
+split-page : (mem : List Page) (q : ℕ) (p : Page) → slice_get mem q ≡ Some p → drop q mem ≡ p ∷ drop (suc q) mem
+split-page [] q p at = absurd cc
+split-page (x ∷ xs) zero p at = let same : x ≡ p = cc in ap (λ y. y ∷ xs) same
+split-page (x ∷ xs) (suc q) p at = split-page xs q p at
+
+take-set : (mem : List Page) (q : ℕ) (p w : Page) → slice_get mem q ≡ Some p → take (suc q) (slice_set mem q w) ≡ take q mem ++ (w ∷ [])
+take-set [] q p w at = absurd cc
+take-set (x ∷ xs) zero p w at = refl
+take-set (x ∷ xs) (suc q) p w at = ap (λ l. x ∷ l) (take-set xs q p w at)
+
+drop-set : (mem : List Page) (q : ℕ) (w : Page) → drop (suc q) (slice_set mem q w) ≡ drop (suc q) mem
+drop-set [] q w = refl
+drop-set (x ∷ xs) zero w = refl
+drop-set (x ∷ xs) (suc q) w = drop-set xs q w
+
+write_from-first : (p : Page) (ps : List Page) (at : ℕ) (bs : List ℕ) → 0 < length bs → write_from (p ∷ ps) at bs ≡ written p at (take (4096 - at) bs) ∷ write_from ps 0 (drop (4096 - at) bs)
+write_from-first p ps at [] h = absurd (omega (arith, h))
+write_from-first p ps at (b ∷ bs) h = refl
+
+-- the part that lies in the first page is written, and then the rest
+whole-page : (mem : Memory) (at : ℕ) (p : Page) (bs : List ℕ) → 0 < length bs → slice_get mem (at / 4096) ≡ Some p
+    → write_bytes (slice_set mem (at / 4096) (written p (at % 4096) (take (4096 - at % 4096) bs))) (at + (4096 - at % 4096)) (drop (4096 - at % 4096) bs) ≡ write_bytes mem at bs
+unfolding write_bytes
+whole-page mem at p bs some here =
+    let q = at / 4096 in
+    let o = at % 4096 in
+    let w = written p o (take (4096 - o) bs) in
+    let rest = drop (4096 - o) bs in
+    let page : (at + (4096 - o)) / 4096 ≡ suc q = omega arith in
+    let start : (at + (4096 - o)) % 4096 ≡ 0 = omega arith in
+    let front : take (suc q) (slice_set mem q w) ≡ take q mem ++ (w ∷ []) = take-set mem q p w here in
+    let back : drop (suc q) (slice_set mem q w) ≡ drop (suc q) mem = drop-set mem q w in
+    let first : write_from (drop q mem) o bs ≡ w ∷ write_from (drop (suc q) mem) 0 rest = ap (λ l. write_from l o bs) (split-page mem q p here) ∙ write_from-first p (drop (suc q) mem) o bs some in
+    rw (page, start, front, back) (append_assoc (take q mem) (w ∷ []) (write_from (drop (suc q) mem) 0 rest) ∙ sym (ap (λ l. take q mem ++ l) first))
+
+drop-all : (n : ℕ) (bs : List ℕ) → length bs ≤ n → drop n bs ≡ []
+drop-all zero [] h = refl
+drop-all zero (b ∷ bs) h = absurd (omega (arith, h))
+drop-all (suc n) [] h = refl
+drop-all (suc n) (b ∷ bs) h = drop-all n bs (omega (arith, h))
+
+take-all : (n : ℕ) (bs : List ℕ) → length bs ≤ n → take n bs ≡ bs
+take-all zero [] h = refl
+take-all zero (b ∷ bs) h = absurd (omega (arith, h))
+take-all (suc n) [] h = refl
+take-all (suc n) (b ∷ bs) h = ap (λ l. b ∷ l) (take-all n bs (omega (arith, h)))
+
+pub write-page : (mem : Memory) (at n : ℕ) (p : Page) (bs : List ℕ) → 0 < length bs → slice_get mem (at / 4096) ≡ Some p → n ≡ min (4096 - at % 4096) (length bs)
+    → write_bytes (slice_set mem (at / 4096) (written p (at % 4096) (take n bs))) (at + n) (drop n bs) ≡ write_bytes mem at bs
+write-page mem at n p bs some here is = elim (cases_lt (length bs) (4096 - at % 4096)) [
+  | inl short ↦
+      let l = 4096 - at % 4096 in
+      let all : n ≡ length bs = omega (arith, is, short) in
+      let none : drop n bs ≡ [] = drop-all n bs (omega (arith, all)) in
+      let none_l : drop l bs ≡ [] = drop-all l bs (omega (arith, short)) in
+      let same : take n bs ≡ take l bs = take-all n bs (omega (arith, all)) ∙ sym (take-all l bs (omega (arith, short))) in
+      let k = slice_set mem (at / 4096) (written p (at % 4096) (take n bs)) in
+      ap (write_bytes k (at + n)) none ∙ write-none k (at + n) ∙ ap (λ x. slice_set mem (at / 4096) (written p (at % 4096) x)) same
+      ∙ sym (write-none (slice_set mem (at / 4096) (written p (at % 4096) (take l bs))) (at + l)) ∙ ap (write_bytes (slice_set mem (at / 4096) (written p (at % 4096) (take l bs))) (at + l)) (sym none_l)
+      ∙ whole-page mem at p bs some here
+  | inr long ↦
+      let e : n ≡ 4096 - at % 4096 = omega (arith, is, long) in
+      rw e (whole-page mem at p bs some here)
+]
+
+-- ---- the frames
+
+pub put-stored : (m k : List (List ℕ)) (s : Space) (p at : ℕ) (bs : List ℕ) → IsMapped m s → IsOnce m s → p < pages_in s.size → k ≡ put m (frame_at m s.root.0 p) at bs → Stands m k s × (registers_of k s ≡ registers_of m s)
+unfolding put
+put-stored m k s p at bs is once low e = space-stored m k s p (put_bytes (frame_of m (frame_at m s.root.0 p)) at bs) is once low e
+
+pub put-written : (m k : List (List ℕ)) (s : Space) (p at : ℕ) (bs : List ℕ) → IsMapped m s → IsOnce m s → p < pages_in s.size → k ≡ put m (frame_at m s.root.0 p) at bs
+    → pages_of k s ≡ slice_set (pages_of m s) p (written (page_at m s.root.0 p) at bs)
+unfolding put put_bytes
+put-written m k s p at bs is once low e =
+    let f = frame_at m s.root.0 p in
+    let bytes = frame_of m f in
+    let same : put_bytes bytes at bs ≡ overwrite bytes at bs = sym (append_assoc (take at bytes) bs (drop (at + length bs) bytes)) in
+    pages-stored m k s p (put_bytes bytes at bs) is once low e
+    ∙ ap (λ b. slice_set (pages_of m s) p (page_with b (marks_at m s.root.0 p))) same
