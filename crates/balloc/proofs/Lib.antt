@@ -1,6 +1,10 @@
 mod Bits
+mod Clearing
 pub mod Exits
+pub mod Enough
 mod Formatting
 mod Records
 mod Scanning
+mod Searching
 mod Taking
+pub mod BitRules

@@ -1,5 +1,5 @@
 -- The record of an inode without blocks is written.
-use Rattle.std.proofs.Common.{◌≡◌, ◌≢◌, ℕ, ◌+◌, ◌*◌, ◌/◌, ◌%◌, ◌^◌, ◌<◌, ◌≤◌, List, [], ◌∷◌, length, get_or, set, replicate, subst, Option, Some, None, ap, ◌∙◌, arith, inl, inr, refl}
+use Rattle.std.proofs.Common.{◌≡◌, ◌≢◌, ℕ, ◌+◌, ◌*◌, ◌/◌, ◌%◌, ◌^◌, ◌<◌, ◌≤◌, List, [], ◌∷◌, length, get_or, set, replicate, Option, Some, None, ap, ◌∙◌, arith, inl, inr, refl}
 use Rattle.std.proofs.lemmas.Bool.{cases_lt}
 use Rattle.std.proofs.lemmas.List.{get_or-replicate, get_or_past, length-replicate}
 use Rattle.layout.specs.Inode.{Fits, inode_bytes}
@@ -13,7 +13,7 @@ use Rattle.layout.specs.Frame.{IsSound-replace, KeepsOthers, node_at-none, nodes
 use Rattle.layout.specs.Grow.{Grows, Grows-keeps, Grows-node, Grows-sound, WritesInode}
 use Rattle.layout.specs.Plain.{Grows-empty, HoldsBytes-empty, asks_none}
 use Rattle.balloc.specs.Counting.{free_blocks-same}
-use Rattle.balloc.specs.Inodes.{IsLowestUnused, fresh_inode, fresh_node}
+use Rattle.balloc.specs.Inodes.{IsLowestUnused, IsUnused, fresh_inode, fresh_node}
 
 length-spelled : (xs : List ℕ) → length (spelled xs) ≡ 4 * length xs
 length-spelled [] = refl
@@ -73,13 +73,17 @@ module _ (g : Geometry) (old new : List (List ℕ)) (n : ℕ) (inode : DiskInode
   recorded_none free = recorded None (node_at-none new n (inr (ap (λ (i : DiskInode). i.kind) writes.here ∙ free)))
 
 -- a free inode is taken
-pub recorded_fresh : {g : Geometry} {old mid new : List (List ℕ)} {n kind major minor links : ℕ} → IsSound g old → IsLowestUnused g old n → 1 ≤ kind → kind ≤ 3 → mid ≡ old → WritesInode g mid new n (fresh_inode kind major minor links)
+pub recorded_fresh : {g : Geometry} {old new : List (List ℕ)} {n kind major minor links : ℕ} → IsSound g old → IsUnused g old n → 1 ≤ kind → kind ≤ 3 → WritesInode g old new n (fresh_inode kind major minor links)
     → IsRecorded g old new n (Some (fresh_node kind major minor links))
-recorded_fresh {g} {old} {new = new} {n} {kind} {major} {minor} {links} sound unused some kinds same writes =
+recorded_fresh {g} {old} {new} {n} {kind} {major} {minor} {links} sound unused some kinds writes =
     recorded_some g old new n (fresh_inode kind major minor links) sound unused.low unused.high (λ j u. u.inode.kind unused.unused) kinds refl (zero_at 13)
-    (subst (λ b. WritesInode g b new n (fresh_inode kind major minor links)) same writes) (λ z. omega arith)
+    writes (λ z. omega arith)
 
 -- an inode without bytes is given back
 pub recorded_given : {g : Geometry} {old new : List (List ℕ)} {n : ℕ} → IsSound g old → IsInode old g.inodes n → (inode_at old n).size ≡ 0 → WritesInode g old new n (fresh_inode 0 0 0 0) → IsRecorded g old new n None
 recorded_given {g} {old} {new} {n} sound inode empty writes =
     recorded_none g old new n (fresh_inode 0 0 0 0) sound inode.low inode.high (unused_empty old g.inodes n empty) (omega arith) refl (zero_at 13) writes refl
+
+-- the lowest free one is free
+pub unused-lowest : {g : Geometry} {blocks : List (List ℕ)} {n : ℕ} → IsLowestUnused g blocks n → IsUnused g blocks n
+unused-lowest lowest = record { low = lowest.low; high = lowest.high; unused = lowest.unused }

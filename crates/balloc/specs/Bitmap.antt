@@ -1,10 +1,15 @@
--- What a change of one bit of the bitmap says.
-use Rattle.std.specs.Prelude.{◌≡◌, ◌≢◌, ℕ, ◌<◌, ◌≤◌, List}
+-- The lowest clear bit, and what a change of one bit of the bitmap says.
+use Rattle.std.specs.Prelude.{◌≡◌, ◌≢◌, ℕ, ◌-◌, ◌<◌, ◌≤◌, ◌==◌, List, Option, find}
+use Rattle.std.specs.List.{range_with_len}
 use Rattle.blockdev.specs.Blocks.{block_at}
 use Rattle.layout.specs.Super.{bitmap_start_of, data_start_of}
 use Rattle.layout.specs.declared.Geometry.{Geometry}
-use Rattle.layout.specs.Image.{IsFree, bit_of}
+use Rattle.layout.specs.Image.{IsFree, bit_in, bit_of}
 use Rattle.layout.specs.Sound.{HasParts}
+
+-- the lowest clear bit of a block from here up to and without there
+abbrev pub lowest_clear : List ℕ → ℕ → ℕ → Option ℕ
+lowest_clear block from to = find (λ i. bit_in block i == 0) (range_with_len from (to - from))
 
 -- new is old but for the bit of b
 pub record SetsBit (g : Geometry) (old new : List (List ℕ)) (b bit : ℕ) : Type 0 where

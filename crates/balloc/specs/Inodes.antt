@@ -8,6 +8,12 @@ use Rattle.layout.specs.Image.{RawNode, inode_at}
 abbrev pub AreAllUsed : Geometry → List (List ℕ) → Type 0
 AreAllUsed g blocks = (n : ℕ) → 1 ≤ n → n < g.inodes → (inode_at blocks n).kind ≢ 0
 
+-- the inode of this number is free
+pub record IsUnused (g : Geometry) (blocks : List (List ℕ)) (n : ℕ) : Type 0 where
+  pub low : 1 ≤ n
+  pub high : n < g.inodes
+  pub unused : (inode_at blocks n).kind ≡ 0
+
 -- n is the lowest number whose inode is free
 pub record IsLowestUnused (g : Geometry) (blocks : List (List ℕ)) (n : ℕ) : Type 0 where
   pub low : 1 ≤ n

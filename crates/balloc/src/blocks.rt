@@ -1,6 +1,6 @@
 //! The bitmap of blocks. A call looks for a free block from the first data block on.
 
-ghost use Rattle.std.specs.Prelude.{◌≡◌, ◌≢◌, ℕ, ◌+◌, ◌-◌, ◌*◌, ◌/◌, ◌%◌, ◌<◌, ◌≤◌, List, length, OnOk, IfOk, IfSome, IfNone, IsErrOf};
+ghost use Rattle.std.specs.Prelude.{◌≡◌, ◌≢◌, ℕ, ◌+◌, ◌-◌, ◌*◌, ◌/◌, ◌%◌, ◌<◌, ◌≤◌, List, length, OnOk, IfOk, IfSome, IfNone, IsErrOf, nat_le};
 ghost use Rattle.std.specs.Bool.{OnTrue, OnFalse};
 ghost use Rattle.std.specs.Int.{bit_at};
 ghost use Rattle.blockdev.specs.Blocks.{block_at};
@@ -12,7 +12,8 @@ ghost use Rattle.balloc.specs.Bitmap.{IsFirstFree, IsFullFrom, SetsBit, TakesLow
 ghost use Rattle.balloc.specs.Refusals.{Refuses};
 
 use crate::BallocFault;
-use blockdev::{Block, BlockDev, DeviceFault};
+use crate::bitmap::first_clear;
+use blockdev::{BlockDev, DeviceFault};
 use cache::Cache;
 use layout::Geometry;
 
@@ -99,6 +100,32 @@ pub fn mark<D: BlockDev>(
     disk.write(at, place, &[byte])
 }
 
+/// Whether at least this many data blocks are free.
+pub fn has_blocks<D: BlockDev>(
+    disk: &mut Cache<D>,
+    geometry: Geometry,
+    wanted: usize,
+) -> Result<bool, DeviceFault>
+    requires { HasParts geometry disk.old.blocks }
+    ensures told { IfOk result (λ enough. enough ≡ nat_le wanted (free_blocks geometry disk.old.blocks)) }
+    ensures same { OnOk result (disk.new.blocks ≡ disk.old.blocks) }
+    ensures count { length disk.new.blocks ≡ length disk.old.blocks }
+    ensures cause { HasCause disk.old.failures disk.new.failures result }
+{
+    let mut from = geometry.data_start();
+    let mut found = 0;
+    'search: while found < wanted {
+        match find_free(disk, geometry, from) {
+            Ok(b) => from = b + 1,
+            Err(BallocFault::Blocks) => return Ok(false),
+            Err(BallocFault::Device) => return Err(DeviceFault),
+            Err(BallocFault::Inodes) => unreachable!(),
+        }
+        found += 1;
+    }
+    Ok(true)
+}
+
 // The lowest free block from a data block on.
 fn find_free<D: BlockDev>(
     disk: &mut Cache<D>,
@@ -125,34 +152,8 @@ fn find_free<D: BlockDev>(
     Err(BallocFault::Blocks)
 }
 
-// The lowest clear bit of a block in a range.
-#[tactic(auto, unfolding(layout::specs::Image::bit_in))]
-fn first_clear(block: &Block, from: usize, to: usize) -> Option<usize>
-    requires { to ≤ 8192 }
-    ensures some { IfSome result (λ i. (from ≤ i) × (i < to) × (bit_in block.now i ≡ 0)) }
-    ensures lowest { IfSome result (λ i. (k : ℕ) → from ≤ k → k < i → bit_in block.now k ≡ 1) }
-    ensures none { IfNone result ((k : ℕ) → from ≤ k → k < to → bit_in block.now k ≡ 1) }
-{
-    for i in from..to {
-        if !is_set(block, i) {
-            return Some(i);
-        }
-    }
-    None
-}
-
-// Whether a bit of a block is set.
-#[tactic(auto, unfolding(layout::specs::Image::bit_in))]
-fn is_set(block: &Block, i: usize) -> bool
-    requires { i < 8192 }
-    ensures set { OnTrue result (bit_in block.now i ≡ 1) }
-    ensures clear { OnFalse result (bit_in block.now i ≡ 0) }
-{
-    block[i / 8] >> (i % 8) & 1 == 1
-}
-
 // A byte with a bit set.
-#[tactic(auto, using(crate::specs::Bits::one_bit))]
+#[tactic(auto, using(crate::proofs::BitRules::one_bit))]
 fn with_bit(byte: u8, k: usize) -> u8
     requires { k < 8 }
     ensures here { bit_at result k ≡ 1 }
@@ -162,7 +163,7 @@ fn with_bit(byte: u8, k: usize) -> u8
 }
 
 // A byte with a bit clear.
-#[tactic(auto, using(crate::specs::Bits::one_bit))]
+#[tactic(auto, using(crate::proofs::BitRules::one_bit))]
 fn without_bit(byte: u8, k: usize) -> u8
     requires { k < 8 }
     ensures here { bit_at result k ≡ 0 }

@@ -8,7 +8,7 @@ ghost use Rattle.layout.specs.Inode.{Fits, inode_of};
 ghost use Rattle.layout.specs.Image.{IsInode, free_blocks, inode_at, nodes_of};
 ghost use Rattle.layout.specs.Sound.{HasParts, IsSound};
 ghost use Rattle.layout.specs.Grow.{WritesInode};
-ghost use Rattle.balloc.specs.Inodes.{AreAllUsed, IsLowestUnused, fresh_inode, fresh_node};
+ghost use Rattle.balloc.specs.Inodes.{AreAllUsed, IsLowestUnused, IsUnused, fresh_inode, fresh_node};
 ghost use Rattle.balloc.specs.Refusals.{Refuses};
 
 use crate::BallocFault;
@@ -77,6 +77,31 @@ pub fn take_inode<D: BlockDev>(
     ensures failed { IsErrOf result BallocFault.Device → Rises disk.old.failures disk.new.failures }
 {
     let number = find_unused(disk, geometry)?;
+    take_inode_at(disk, geometry, number, kind, major, minor, links)?;
+    Ok(number)
+}
+
+/// Takes an inode that is known to be free, for a node without bytes of this type, major, minor and number of links.
+pub fn take_inode_at<D: BlockDev>(
+    disk: &mut Cache<D>,
+    geometry: Geometry,
+    number: usize,
+    kind: u16,
+    major: u16,
+    minor: u16,
+    links: u16,
+) -> Result<(), DeviceFault>
+    requires sound { IsSound geometry disk.old.blocks }
+    requires unused { IsUnused geometry disk.old.blocks number }
+    requires some { 1 ≤ kind }
+    requires kind { kind ≤ 3 }
+    ensures inode { OnOk result (inode_at disk.new.blocks number ≡ fresh_inode kind major minor links) }
+    ensures sound { OnOk result (IsSound geometry disk.new.blocks) }
+    ensures nodes { OnOk result (nodes_of disk.new.blocks geometry.inodes ≡ slice_set (nodes_of disk.old.blocks geometry.inodes) number (Some (fresh_node kind major minor links))) }
+    ensures free { OnOk result (free_blocks geometry disk.new.blocks ≡ free_blocks geometry disk.old.blocks) }
+    ensures count { length disk.new.blocks ≡ length disk.old.blocks }
+    ensures cause { HasCause disk.old.failures disk.new.failures result }
+{
     let inode = DiskInode {
         kind,
         major,
@@ -85,8 +110,7 @@ pub fn take_inode<D: BlockDev>(
         size: 0,
         addresses: [0; 13],
     };
-    write_inode(disk, geometry, number, &inode)?;
-    Ok(number)
+    write_inode(disk, geometry, number, &inode)
 }
 
 /// Gives back an inode that has no bytes.

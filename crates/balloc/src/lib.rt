@@ -1,14 +1,16 @@
 //! Which blocks and inodes of a disk are free: the lowest free one is taken first.
 #![tactic(auto)]
 
+mod bitmap;
 mod blocks;
 mod fresh;
 mod inodes;
 
+pub use bitmap::first_clear;
 use blockdev::DeviceFault;
-pub use blocks::{give_block, take_block, take_two};
+pub use blocks::{give_block, has_blocks, take_block, take_two};
 pub use fresh::format;
-pub use inodes::{give_inode, read_inode, take_inode, write_inode};
+pub use inodes::{give_inode, read_inode, take_inode, take_inode_at, write_inode};
 use thiserror::Error;
 
 /// Why nothing is taken.

@@ -46,9 +46,10 @@ pub struct DiskInode {
 }
 
 impl DiskInode {
-    /// The inode that the first 64 bytes spell; `Short` where there are fewer.
+    /// The inode that the first 64 bytes spell, which `to_bytes` gives back; `Short` where there are fewer.
     pub fn from_bytes(bytes: &[u8]) -> Result<DiskInode, LayoutFault>
         ensures inode { IfOk result (λ inode. (inode ≡ inode_of bytes.now) × Fits inode) }
+        ensures spells { IfOk result (λ inode. inode_bytes inode ≡ take 64 bytes.now) }
         ensures short { IsErrOf result LayoutFault.Short ↔ (length bytes.now < 64) }
         ensures only { IfErr result (λ fault. fault ≡ LayoutFault.Short) }
     {
@@ -116,9 +117,10 @@ impl Entry {
         }
     }
 
-    /// The entry that the first 16 bytes spell; `Short` where there are fewer.
+    /// The entry that the first 16 bytes spell, which `to_bytes` gives back; `Short` where there are fewer.
     pub fn from_bytes(bytes: &[u8]) -> Result<Entry, LayoutFault>
         ensures entry { IfOk result (λ entry. entry ≡ entry_of bytes.now) }
+        ensures spells { IfOk result (λ entry. entry_bytes entry ≡ take 16 bytes.now) }
         ensures short { IsErrOf result LayoutFault.Short ↔ (length bytes.now < 16) }
         ensures only { IfErr result (λ fault. fault ≡ LayoutFault.Short) }
     {
@@ -218,9 +220,11 @@ pub struct SuperBlock {
 }
 
 impl SuperBlock {
-    /// The super block that the first 32 bytes spell. `Short` comes before `Magic`, and that before `Numbers`.
+    /// The super block that the first 32 bytes spell, which `to_bytes` gives back. `Short` comes before `Magic`, and
+    /// that before `Numbers`.
     pub fn from_bytes(bytes: &[u8]) -> Result<SuperBlock, LayoutFault>
         ensures numbers { IfOk result (λ s. (s ≡ super_of bytes.now) × (s.magic ≡ 0x10203040) × HasNumbers s) }
+        ensures spells { IfOk result (λ s. super_bytes s ≡ take 32 bytes.now) }
         ensures short { IsErrOf result LayoutFault.Short ↔ (length bytes.now < 32) }
         ensures magic { IsErrOf result LayoutFault.Magic ↔ ((32 ≤ length bytes.now) × ((super_of bytes.now).magic ≢ 0x10203040)) }
         ensures refused { IsErrOf result LayoutFault.Numbers ↔ ((32 ≤ length bytes.now) × ((super_of bytes.now).magic ≡ 0x10203040) × (HasNumbers (super_of bytes.now) → ⊥)) }

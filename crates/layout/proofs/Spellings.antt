@@ -1,0 +1,91 @@
+-- The spelling of the record that bytes spell is these bytes.
+use Rattle.std.proofs.Common.{◌≡◌, ℕ, zero, suc, ◌+◌, ◌*◌, ◌/◌, ◌%◌, ◌^◌, ◌<◌, ◌≤◌, List, [], ◌∷◌, ◌++◌, length, take, drop, get_or, refl, sym, ap, ◌∙◌, arith}
+use Rattle.std.specs.Prelude.{map}
+use Rattle.std.specs.Int.{byte_at, bytes_low_first}
+use Rattle.std.specs.List.{range_with_len}
+use Rattle.std.proofs.Math.Nat.{div-div-eq-div-mul, pow-succ'}
+use Rattle.std.proofs.lemmas.List.{drop-drop, get_or-drop, length-drop}
+use Rattle.byteorder.specs.Endian.{little_number, little_bytes}
+use Rattle.byteorder.specs.Numbers.{little_from-cons}
+use Rattle.layout.specs.Entries.{entry_of, entry_bytes}
+use Rattle.layout.specs.Inode.{inode_of, inode_bytes}
+use Rattle.layout.specs.Numbers.{number_at, numbers_in, spelled}
+use Rattle.layout.specs.Super.{super_of, super_bytes}
+
+-- each is below 256
+abbrev pub AreBytes : List ℕ → Type 0
+AreBytes xs = (i : ℕ) → get_or xs i 0 < 2 ^ 8
+
+bytes-drop : (k : ℕ) (xs : List ℕ) → AreBytes xs → AreBytes (drop k xs)
+bytes-drop k xs are i = let e = get_or-drop k xs i 0 in let b = are (k + i) in omega arith
+
+take-nil : (k : ℕ) → ◌≡◌ {A = List ℕ} (take k []) []
+take-nil zero = refl
+take-nil (suc k) = refl
+
+take-add : (n m : ℕ) (xs : List ℕ) → take n xs ++ take m (drop n xs) ≡ take (n + m) xs
+take-add zero m xs = ap (λ k. take k xs) (let e : m ≡ 0 + m = omega arith in e)
+take-add (suc n) m [] = take-nil m ∙ sym (take-nil (suc n + m))
+take-add (suc n) m (x ∷ xs) =
+    let e : suc (n + m) ≡ suc n + m = omega arith in
+    ap (λ t. x ∷ t) (take-add n m xs) ∙ ap (λ k. take k (x ∷ xs)) e
+
+-- ---- a number
+
+-- a byte of a number is one lower in the number without its lowest byte
+byte_at-suc : (i x : ℕ) → byte_at (suc i) x ≡ byte_at i (x / 256)
+byte_at-suc zero x = refl
+byte_at-suc (suc i) x = ap (λ p. x / p % 256) (pow-succ' 256 (suc i)) ∙ ap (λ y. y % 256) (sym (div-div-eq-div-mul x 256 (256 ^ suc i)))
+
+bytes_low_first-suc : (i n x : ℕ) → bytes_low_first (suc i) n x ≡ bytes_low_first i n (x / 256)
+bytes_low_first-suc i zero x = refl
+bytes_low_first-suc i (suc n) x = rw (byte_at-suc i x, bytes_low_first-suc (suc i) n x) refl
+
+bytes-number : (n : ℕ) (xs : List ℕ) → n ≤ length xs → AreBytes xs → little_bytes n (little_number n xs) ≡ take n xs
+bytes-number zero xs h are = refl
+bytes-number (suc n) [] h are = absurd (omega arith)
+bytes-number (suc n) (x ∷ xs) h are =
+    let rest = little_number n xs in
+    let small : x < 256 = are 0 in
+    let low : (x + 256 * rest) % 256 ≡ x = omega arith in
+    let high : (x + 256 * rest) / 256 ≡ rest = omega arith in
+    ap (λ r. little_bytes (suc n) (x + 256 * r)) (little_from-cons 0 n x xs)
+    ∙ rw (bytes_low_first-suc 0 n (x + 256 * rest), low, high, bytes-number n xs (omega arith) (λ i. are (suc i))) refl
+
+-- a number of n bytes that stand before others
+in_front : (k n m : ℕ) (bytes : List ℕ) → k + n ≤ length bytes → AreBytes bytes
+    → little_bytes n (little_number n (drop k bytes)) ++ take m (drop (k + n) bytes) ≡ take (n + m) (drop k bytes)
+in_front k n m bytes h are =
+    let within : n ≤ length (drop k bytes) = omega (arith, length-drop k bytes) in
+    ap (λ front. front ++ take m (drop (k + n) bytes)) (bytes-number n (drop k bytes) within (bytes-drop k bytes are))
+    ∙ ap (λ rest. take n (drop k bytes) ++ take m rest) (sym (drop-drop n k bytes))
+    ∙ take-add n m (drop k bytes)
+
+-- ---- numbers of four bytes
+
+spelled-range : (n i : ℕ) (bytes : List ℕ) → 4 * i + 4 * n ≤ length bytes → AreBytes bytes
+    → spelled (map (number_at bytes) (range_with_len i n)) ≡ take (4 * n) (drop (4 * i) bytes)
+spelled-range zero i bytes h are = refl
+spelled-range (suc n) i bytes h are =
+    let next : 4 * (i + 1) ≡ 4 * i + 4 = omega arith in
+    let whole : 4 + 4 * n ≡ 4 * suc n = omega arith in
+    ap (λ rest. little_bytes 4 (number_at bytes i) ++ rest) (spelled-range n (i + 1) bytes (omega arith) are ∙ ap (λ k. take (4 * n) (drop k bytes)) next)
+    ∙ in_front (4 * i) 4 (4 * n) bytes (omega arith) are
+    ∙ ap (λ k. take k (drop (4 * i) bytes)) whole
+
+spelled-numbers_in : (n : ℕ) (bytes : List ℕ) → 4 * n ≤ length bytes → AreBytes bytes → spelled (numbers_in n bytes) ≡ take (4 * n) bytes
+unfolding numbers_in
+spelled-numbers_in n bytes h are = spelled-range n 0 bytes (omega arith) are
+
+-- ---- the records
+
+pub entry_bytes-entry_of : (bytes : List ℕ) → 16 ≤ length bytes → AreBytes bytes → entry_bytes (entry_of bytes) ≡ take 16 bytes
+entry_bytes-entry_of bytes h are = in_front 0 2 14 bytes (omega arith) are
+
+pub super_bytes-super_of : (bytes : List ℕ) → 32 ≤ length bytes → AreBytes bytes → super_bytes (super_of bytes) ≡ take 32 bytes
+super_bytes-super_of bytes h are = spelled-range 8 0 bytes h are
+
+pub inode_bytes-inode_of : (bytes : List ℕ) → 64 ≤ length bytes → AreBytes bytes → inode_bytes (inode_of bytes) ≡ take 64 bytes
+inode_bytes-inode_of bytes h are =
+    let addresses : spelled (numbers_in 13 (drop 12 bytes)) ≡ take 52 (drop 12 bytes) = spelled-numbers_in 13 (drop 12 bytes) (omega (arith, length-drop 12 bytes)) (bytes-drop 12 bytes are) in
+    rw (addresses, in_front 8 4 52 bytes (omega arith) are, in_front 6 2 56 bytes (omega arith) are, in_front 4 2 58 bytes (omega arith) are, in_front 2 2 60 bytes (omega arith) are) (in_front 0 2 62 bytes (omega arith) are)

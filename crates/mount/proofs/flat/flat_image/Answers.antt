@@ -1,0 +1,14 @@
+use Rattle.std.proofs.Common.{subst}
+use Rattle.imagemake.specs.Making.{MakesImage, Refuses}
+use Rattle.unixmodel.specs.Manifest.{files_made}
+use Rattle.mount.proofs.Console.{IsFlatImage-made, not-refused}
+use Rattle.mount.proofs.flat.flat_image.Goals as goal
+
+pub returns-in-Ok : goal.returns-in-Ok
+returns-in-Ok c =
+    let image = c.in-Ok.image.items in
+    IsFlatImage-made image (subst (λ entries. MakesImage entries 32 16 image) c.in_ok-manifest.ensures c.in-Ok.ensures.made)
+
+pub unreachable-requires : goal.unreachable-requires
+unreachable-requires c =
+    not-refused c.in-Err.fault (subst (λ entries. Refuses (files_made entries 32 16) c.in-Err.fault) c.in_ok-manifest.ensures c.in-Err.ensures.refused) c.in_default.not-NoMemory

@@ -1,0 +1,22 @@
+use Rattle.std.proofs.Common.{arith, refl, vec_len, ◌%◌, ◌≡◌}
+use Rattle.blockdev.specs.Blocks.{blocks_of}
+use Rattle.imagerules.specs.Content.{image_of}
+use Rattle.unixmodel.specs.Start.{flat_files}
+use Rattle.mount.proofs.Console.{Denotes-disk, IsFlat-mounted, not-unmounted}
+use Rattle.mount.proofs.flat.mount_flat.Goals as goal
+
+pub unreachable-requires : goal.unreachable-requires
+unreachable-requires c =
+    let image = c.in_ok-image.image in
+    let whole = c.in_ok-image.ensures.whole in
+    let long : vec_len c.in_ok-image.image % 1024 ≡ 0 = omega (arith, image.ok) in
+    c.in_default.ensures.length.0 refl long
+
+pub unreachable-requires-in_default-fault : goal.unreachable-requires-in_default-fault
+unreachable-requires-in_default-fault c =
+    let bytes = c.in-Ok.device.bytes in
+    not-unmounted (image_of (blocks_of bytes)) flat_files c.in-Err.fault (Denotes-disk bytes c.in_ok-image.image.items c.in-Ok.ensures.bytes c.in_ok-image.ensures) c.in-Err.ensures.unmounted c.in_default-fault.not-NoMemory
+
+pub returns-in-Ok-mount : goal.returns-in-Ok-mount
+returns-in-Ok-mount c =
+    IsFlat-mounted c.in-Ok.device.bytes c.in_ok-image.image.items 0 c.in-Ok-mount.tree c.in-Ok.ensures.bytes c.in_ok-image.ensures c.in-Ok-mount.ensures.mounted

@@ -1,0 +1,50 @@
+-- The files of an image, in use.
+use Rattle.std.specs.Prelude.{List, [], codes, false, length, ℕ, ◌*◌, ◌∷◌, ◌≡◌, ◌≤◌}
+use Rattle.imagecheck.specs.Faults.{IsOfImage, Tells}
+use Rattle.imagecheck.specs.declared.ImageFault.{ImageFault}
+use Rattle.imagecheck.specs.declared.ImageFault.TheVariants.{Device}
+use Rattle.layout.specs.declared.Geometry.{Geometry}
+use Rattle.tree.specs.Tree.{FileTree}
+use Rattle.unixmodel.specs.Failures.{Rises}
+use Rattle.unixmodel.specs.Files.{Files}
+use Rattle.unixmodel.specs.Image.{Denotes, inodes_in, size_in}
+use Rattle.unixmodel.specs.Manifest.{ManifestEntry, data_blocks_of}
+use Rattle.unixmodel.specs.Manifest.Thing.{Special}
+use Rattle.unixmodel.specs.Start.{flat_files}
+
+-- the numbers of an image's super block
+pub record TellsNumbers (image : List ℕ) (g : Geometry) : Type 0 where
+  pub size : g.size ≡ size_in image
+  pub inodes : g.inodes ≡ inodes_in image
+
+-- the files that the image denotes, and there are no others; an access of the device had failed this often before
+pub record IsMounted (image : List ℕ) (failures : ℕ) (tree : FileTree) : Type 0 where
+  pub denotes : Denotes image tree.files
+  pub only : (files : Files) → Denotes image files → files ≡ tree.files
+  pub limit : tree.block_limit ≡ data_blocks_of (size_in image) (inodes_in image)
+  pub up : tree.failed ≡ false
+  pub later : failures ≤ tree.failures
+
+-- why none are in use: the fault is one of the image, which then denotes no files; or an access of the device failed, and the
+-- device that is left counts it; or the host has no memory
+pub record IsUnmounted {D : Type 0} (count : D → ℕ) (image : List ℕ) (failures : ℕ) (fault : ImageFault) : Type 0 where
+  pub tells : Tells image fault
+  pub none : IsOfImage fault → (files : Files) → Denotes image files → ⊥
+  pub failed : fault ≡ Device → (left : D) × Rises failures (count left)
+
+-- ---- without a disk
+
+-- the console, and nothing else
+abbrev pub console_manifest : List ManifestEntry
+console_manifest = record { path = codes "/console"; thing = Special 1 0 } ∷ []
+
+-- an image of 32 blocks of a root and the console
+pub record IsFlatImage (image : List ℕ) : Type 0 where
+  pub denotes : Denotes image flat_files
+  pub whole : length image ≡ 1024 * 32
+
+-- its files, in use
+pub record IsFlat (tree : FileTree) : Type 0 where
+  pub files : tree.files ≡ flat_files
+  pub limit : tree.block_limit ≡ 27
+  pub up : tree.failed ≡ false

@@ -1,0 +1,40 @@
+//! The image of a device.
+
+ghost use Rattle.std.specs.Prelude.{◌≡◌, ◌≤◌, IfErr, IfOk, length};
+ghost use Rattle.imagerules.specs.Content.{image_of};
+ghost use Rattle.mount.specs.Mounted.{IsMounted, IsUnmounted, TellsNumbers};
+ghost use Rattle.unixmodel.specs.Failures.{HasCause};
+
+use blockdev::{BlockDev, DeviceFault};
+use cache::Cache;
+use image::{ImageFault, check};
+use layout::{Geometry, SuperBlock};
+use std::alloc::Global;
+use tree::Tree;
+
+// The numbers that the super block tells.
+fn read_geometry<D: BlockDev>(device: &mut D) -> Result<Geometry, DeviceFault>
+    requires { 2 ≤ length (D.content device.old) }
+    ensures numbers { IfOk result (TellsNumbers (image_of (D.content device.old))) }
+    ensures same { D.content device.new ≡ D.content device.old }
+    ensures cause { HasCause (D.failures device.old) (D.failures device.new) result }
+{
+    let block = device.read(1)?;
+    let numbers = SuperBlock::from_front(&block);
+    Ok(Geometry {
+        size: numbers.size as usize,
+        inodes: numbers.inodes as usize,
+    })
+}
+
+/// The files of a device's image, which is checked first: there is a tree exactly where the check accepts the image and
+/// neither the device nor the host's memory fails, and a fault is the check's.
+pub fn mount<D: BlockDev>(alloc: Global, mut device: D) -> Result<Tree<D>, ImageFault>
+    ensures mounted { IfOk result (IsMounted (image_of (D.content device)) (D.failures device)) }
+    ensures unmounted { IfErr result (IsUnmounted D.failures (image_of (D.content device)) (D.failures device)) }
+{
+    let _summary = check(alloc, &mut device)?;
+    let geometry = read_geometry(&mut device)?;
+    let disk = Cache::new(alloc, device)?;
+    Ok(Tree::new(alloc, disk, geometry)?)
+}

@@ -1,0 +1,8 @@
+//! The files of an image, in use: of the image that a device has, or of one that is made in memory.
+#![tactic(auto)]
+
+mod device;
+mod flat;
+
+pub use device::mount;
+pub use flat::mount_flat;

@@ -1,0 +1,50 @@
+-- What calls on names make of files keeps the rules, where they answer.
+use Rattle.std.proofs.Common.{◌≡◌, ℕ, Bool, true, false, cond, not, None, Option, Some, refl, subst}
+use Rattle.std.specs.Prelude.{option_map, ◌&&◌}
+use Rattle.std.proofs.lemmas.Bool.{and_parts, not-true}
+use Rattle.std.proofs.lemmas.Option.{none-some, same_Some}
+use Rattle.unixmodel.specs.Files.{Files, Node, Spot, change_node, enter, is_directory, slot}
+use Rattle.names.specs.Changes.{Changed}
+use Rattle.unixmodel.specs.NameCalls.{Made, has_room_for_link, is_free_name, linked, linked_node, made_at, made_below, made_directory, make_at, more_links, new_directory}
+use Rattle.names.specs.Rules.{KeepsTree}
+use Rattle.names.proofs.Finding.{none-is}
+use Rattle.names.proofs.Making.{IsNewFile, links-file, makes-directory, makes-file}
+use Rattle.names.proofs.Spots.{IsSpot, gap-from}
+
+passed : {X : Type 0} (b : Bool) (o : Option X) (x : X) → cond b o None ≡ Some x → (b ≡ true) × (o ≡ Some x)
+passed true o x h = (refl, h)
+passed false o x h = absurd (none-some x h)
+
+module _ {files : Files} (keeps : KeepsTree files) (at : Spot) (spot : IsSpot files at) where
+  -- a file or a device
+  pub keeps-made : (node : ℕ → Node) → ((n : ℕ) → IsNewFile (node n)) → (made : Made) → made_at files at node ≡ Some made → Changed files made.files
+  unfolding made_at
+  keeps-made node new made h =
+      let is = passed (is_free_name files at) (make_at files at node) made h in
+      makes-file keeps at (gap-from keeps at spot (none-is _ is.0)) node new made is.1
+
+  pub keeps-made-directory : (more : Files) → made_directory files at ≡ Some more → Changed files more
+  unfolding made_directory
+  keeps-made-directory more h = go (slot files at.directory) h where
+    made_more : (o : Option Made) → make_at files at (new_directory at.directory) ≡ o → is_free_name files at ≡ true
+        → option_map (λ (made : Made). change_node made.files at.directory more_links) o ≡ Some more → Changed files more
+    made_more None e free h = absurd (none-some more h)
+    made_more (Some made) e free h =
+        subst (Changed files) (same_Some (change_node made.files at.directory more_links) more h) (makes-directory keeps at (gap-from keeps at spot (none-is _ free)) made e)
+
+    go : (o : Option Node) → made_below files at o ≡ Some more → Changed files more
+    go None h = absurd (none-some more h)
+    go (Some parent) h =
+        let is = passed (is_free_name files at && has_room_for_link parent) (option_map (λ (made : Made). change_node made.files at.directory more_links) (make_at files at (new_directory at.directory))) more h in
+        made_more (make_at files at (new_directory at.directory)) refl (and_parts (is_free_name files at) (has_room_for_link parent) is.0).0 is.1
+
+  pub keeps-linked : (n : ℕ) (more : Files) → linked files at n ≡ Some more → Changed files more
+  unfolding linked
+  keeps-linked n more h = go (slot files n) refl h where
+    go : (o : Option Node) → slot files n ≡ o → linked_node files at n o ≡ Some more → Changed files more
+    go None here h = absurd (none-some more h)
+    go (Some node) here h =
+        let is = passed (not (is_directory node) && has_room_for_link node && is_free_name files at) (enter (change_node files n more_links) at n) more h in
+        let all = and_parts (not (is_directory node) && has_room_for_link node) (is_free_name files at) is.0 in
+        let both = and_parts (not (is_directory node)) (has_room_for_link node) all.0 in
+        links-file keeps at (gap-from keeps at spot (none-is _ all.1)) n node here (not-true (is_directory node) both.0) both.1 more is.1

@@ -1,0 +1,250 @@
+-- Changes that leave all names: a node without links goes, or a file has other bytes.
+use Rattle.std.proofs.Common.{◌≡◌, ◌≢◌, ℕ, zero, suc, ◌+◌, ◌≤◌, Bool, true, false, cond, List, [], ◌∷◌, ◌++◌, None, Option, Some, inl, inr, ◌⊎◌, drop, length, set, take, ap, sym, refl, ◌∙◌, arith, subst}
+use Rattle.std.specs.Prelude.{count_by, nat_lt, option_map, unwrap_or, ◌==◌, ◌||◌}
+use Rattle.std.proofs.lemmas.Bool.{cases_eq, cond-false, cond-true, false≢true, lt-ltb, ltb-true, or_left}
+use Rattle.std.proofs.lemmas.List.{get_or-set_other, get_or-set_same, length-append, length-drop, length-set, length-take, set-get_or}
+use Rattle.std.proofs.lemmas.Option.{none-some, same_Some}
+use Rattle.unixmodel.specs.Files.{Entry, Files, Node, change_node, clear, is_directory, links_of, longest, put, slot}
+use Rattle.unixmodel.specs.Files.Node.{Device, Directory, File}
+use Rattle.unixmodel.specs.Image.{KeepsSize, is_directory_at, names_of}
+use Rattle.unixmodel.specs.Memory.{overwrite}
+use Rattle.unixmodel.specs.Reap.{is_used, kept, without_nodes}
+use Rattle.unixmodel.specs.State.{State}
+use Rattle.names.specs.Changes.{Changed, shape}
+use Rattle.unixmodel.specs.NameCalls.{emptied}
+use Rattle.names.specs.Rules.{HasRoot, KeepsLive, KeepsTree, entries, names_by, names_for}
+use Rattle.names.proofs.Counts.{names-same, names_by-le}
+use Rattle.names.proofs.Finding.{change-is, slot-within}
+use Rattle.names.proofs.Steps.{IsStep, live-kept}
+
+-- a node is as it was, or no directory, with the same names, and what may be named stays a directory or none
+pub record IsAlike (n : ℕ) (o q : Option Node) : Type 0 where
+  pub names : (m : ℕ) → names_by q m ≡ names_by o m
+  pub wanted : names_for n q ≡ names_for n o
+  pub kind : 1 ≤ names_for n o → unwrap_or (option_map is_directory q) false ≡ unwrap_or (option_map is_directory o) false
+  pub size : KeepsSize o → KeepsSize q
+  pub live : (q ≡ o) ⊎ ((files : Files) → KeepsLive files n o → KeepsLive files n q)
+
+pub alike-same : (n : ℕ) (o : Option Node) → IsAlike n o o
+alike-same n o = record { names = λ m. refl; wanted = refl; kind = λ h. refl; size = λ h. h; live = inl refl }
+
+module _ {files : Files} (keeps : KeepsTree files) (more : Files) (count : length more ≡ length files) (alike : (n : ℕ) → IsAlike n (slot files n) (slot more n)) where
+  kinds : (n : ℕ) → 1 ≤ names_of files n → is_directory_at more n ≡ is_directory_at files n
+  kinds n h = (alike n).kind (omega (arith, h, keeps.named n))
+
+  step : (n : ℕ) → IsStep files more n
+  step n = record { count = count; names = λ p m s. (alike p).names m; kinds = kinds }
+
+  nodes-alike : (n : ℕ) → KeepsLive more n (slot more n)
+  nodes-alike n =
+      let kept = live-kept (step (suc n)) n (slot files n) (λ e. absurd (omega arith)) refl (keeps.nodes n) in
+      elim (alike n).live [
+        | inl e ↦ subst (KeepsLive more n) (sym e) kept
+        | inr f ↦ f more kept
+      ]
+
+  pub keeps-alike : HasRoot more → KeepsTree more
+  keeps-alike root = record {
+    root = root;
+    sizes = λ n. (alike n).size (keeps.sizes n);
+    named = λ n. names-same files more n count (λ p. (alike p).names n) ∙ keeps.named n ∙ sym (alike n).wanted;
+    nodes = nodes-alike;
+    depth = keeps.depth;
+    ranked = λ d n h directory.
+        let by = subst (λ c. 1 ≤ c) ((alike d).names n) h in
+        keeps.ranked d n by (sym (kinds n (omega (arith, by, names_by-le files d n))) ∙ directory);
+  }
+
+-- ---- a node without links
+
+bare-none : (es : List Entry) (m : ℕ) → es ≡ [] → count_by (λ (e : Entry). e.number == m) es ≡ 0
+bare-none es m h = rw h refl
+
+-- it has no names and names nothing
+pub alike-gone : (files : Files) (n : ℕ) (node : Node) → KeepsLive files n (Some node) → links_of node ≡ 0 → IsAlike n (Some node) None
+unfolding names_by
+alike-gone files n (File links bytes) k h = record { names = λ m. refl; wanted = sym h; kind = λ l. absurd (omega arith); size = λ s. tt; live = inr (λ fs l. tt) }
+alike-gone files n (Device links major minor) k h = record { names = λ m. refl; wanted = sym h; kind = λ l. absurd (omega arith); size = λ s. tt; live = inr (λ fs l. tt) }
+alike-gone files n (Directory zero places) k h = record { names = λ m. sym (bare-none (entries places) m k); wanted = refl; kind = λ l. absurd (omega arith); size = λ s. tt; live = inr (λ fs l. tt) }
+alike-gone files n (Directory (suc links) places) k h = absurd (omega arith)
+
+-- the root has links
+root-links : {files : Files} (keeps : KeepsTree files) (node : Node) → slot files 1 ≡ Some node → links_of node ≢ 0
+root-links keeps node h z =
+    let e : suc keeps.root.links ≡ links_of node = ap links_of (same_Some (Directory (suc keeps.root.links) keeps.root.places) node (sym keeps.root.here ∙ h)) in
+    omega arith
+
+pub releases : {files : Files} → KeepsTree files → (n : ℕ) (node : Node) → slot files n ≡ Some node → links_of node ≡ 0 → KeepsTree (clear files n)
+releases {files} keeps n node here none =
+    let away : 1 ≢ n = λ e. root-links keeps node (ap (slot files) e ∙ here) none in
+    keeps-alike keeps (clear files n) (length-set files n None) (λ m. elim (cases_eq m n) [
+      | inl e ↦ subst (λ j. IsAlike j (slot files j) (slot (clear files n) j)) (sym e)
+          (subst (λ q. IsAlike n (slot files n) q) (sym (get_or-set_same files n None None (slot-within files n node here)))
+          (subst (λ o. IsAlike n o None) (sym here) (alike-gone files n node (subst (KeepsLive files n) here (keeps.nodes n)) none)))
+      | inr s ↦ subst (λ q. IsAlike m (slot files m) q) (sym (get_or-set_other files n m None None s)) (alike-same m (slot files m))
+    ])
+    (record { links = keeps.root.links; places = keeps.root.places; here = get_or-set_other files n 1 None None away ∙ keeps.root.here })
+
+-- ---- other bytes
+
+alike-bytes : (n links : ℕ) (old new : List ℕ) → length new ≤ longest → IsAlike n (Some (File links old)) (Some (File links new))
+unfolding names_by
+alike-bytes n links old new h = record { names = λ m. refl; wanted = refl; kind = λ l. refl; size = λ s. h; live = inr (λ fs l. l) }
+
+module _ {files : Files} (keeps : KeepsTree files) where
+  -- where nothing changes
+  changed-same : Changed files files
+  changed-same = record { tree = keeps; stays = λ m used. refl; idle = λ m node here none. record { was = node; here = here; none = none } }
+
+  module _ (n links : ℕ) (old new : List ℕ) (here : slot files n ≡ Some (File links old)) (size : length new ≤ longest) where
+    abbrev written : Files
+    written = put files n (File links new)
+
+    at-file : slot written n ≡ Some (File links new)
+    at-file = get_or-set_same files n (Some (File links new)) None (slot-within files n (File links old) here)
+
+    beside : (m : ℕ) → m ≢ n → slot written m ≡ slot files m
+    beside m s = get_or-set_other files n m (Some (File links new)) None s
+
+    away : 1 ≢ n
+    away e = false≢true (ap (λ o. unwrap_or (option_map is_directory o) false) (sym here ∙ ap (slot files) (sym e) ∙ keeps.root.here))
+
+    alike-written : (m : ℕ) → IsAlike m (slot files m) (slot written m)
+    alike-written m = elim (cases_eq m n) [
+      | inl e ↦ subst (λ j. IsAlike j (slot files j) (slot written j)) (sym e)
+          (subst (λ q. IsAlike n (slot files n) q) (sym at-file) (subst (λ o. IsAlike n o (Some (File links new))) (sym here) (alike-bytes n links old new size)))
+      | inr s ↦ subst (λ q. IsAlike m (slot files m) q) (sym (beside m s)) (alike-same m (slot files m))
+    ]
+
+    pub writes-bytes : Changed files written
+    writes-bytes = record {
+      tree = keeps-alike keeps written (length-set files n (Some (File links new))) alike-written
+          (record { links = keeps.root.links; places = keeps.root.places; here = beside 1 away ∙ keeps.root.here });
+      stays = λ m used. elim (cases_eq m n) [
+        | inl e ↦ ap (λ j. option_map shape (slot written j)) e ∙ ap (option_map shape) at-file ∙ sym (ap (λ j. option_map shape (slot files j)) e ∙ ap (option_map shape) here)
+        | inr s ↦ ap (option_map shape) (beside m s)
+      ];
+      idle = λ m node at none. elim (cases_eq m n) [
+        | inl e ↦ record {
+          was = File links old;
+          here = ap (slot files) e ∙ here;
+          none = ap links_of (same_Some (File links new) node (sym at-file ∙ ap (slot written) (sym e) ∙ at)) ∙ none;
+        }
+        | inr s ↦ record { was = node; here = sym (beside m s) ∙ at; none = none }
+      ];
+    }
+
+  length-over : (old new : List ℕ) (offset : ℕ) → length old ≤ longest → offset + length new ≤ longest → length (overwrite old offset new) ≤ longest
+  length-over old new offset fits room =
+      let whole : length (overwrite old offset new) ≡ length (take offset old) + length new + length (drop (offset + length new) old) =
+      length-append (take offset old ++ new) (drop (offset + length new) old) ∙ ap (λ c. c + length (drop (offset + length new) old)) (length-append (take offset old) new) in
+      omega (arith, whole, length-take offset old, length-drop (offset + length new) old)
+
+  -- some of the bytes of a write, from its offset on
+  pub writes-over : (n links : ℕ) (old new : List ℕ) (offset k : ℕ) → slot files n ≡ Some (File links old) → offset + length new ≤ longest → Changed files (put files n (File links (overwrite old offset (take k new))))
+  writes-over n links old new offset k here room =
+      let part = length-take k new in
+      writes-bytes n links old (overwrite old offset (take k new)) here
+      (length-over old (take k new) offset (subst KeepsSize here (keeps.sizes n)) (omega arith))
+
+  -- a file is emptied, and any other node stays
+  emptied-is : (n : ℕ) (node : Node) → slot files n ≡ Some node → emptied node ≡ node → change_node files n emptied ≡ files
+  emptied-is n node here same = ap (λ o. set files n (option_map emptied o)) here ∙ ap (λ x. set files n (Some x)) same ∙ ap (set files n) (sym here) ∙ set-get_or files n None
+
+  pub truncates : (n : ℕ) → Changed files (change_node files n emptied)
+  truncates n = go (slot files n) refl where
+    go : (o : Option Node) → slot files n ≡ o → Changed files (change_node files n emptied)
+    go None here = subst (Changed files) (sym (ap (λ o. set files n (option_map emptied o)) here ∙ ap (set files n) (sym here) ∙ set-get_or files n None)) changed-same
+    go (Some (File links bytes)) here = subst (Changed files) (sym (change-is files n emptied (File links bytes) here)) (writes-bytes n links bytes [] here (omega arith))
+    go (Some (Device links major minor)) here = subst (Changed files) (sym (emptied-is n (Device links major minor) here refl)) changed-same
+    go (Some (Directory links places)) here = subst (Changed files) (sym (emptied-is n (Directory links places) here refl)) changed-same
+
+-- ---- without nodes that have no links
+
+one_kept : (Node → Bool) → Option Node → Option Node
+one_kept test None = None
+one_kept test (Some node) = cond (test node) (Some node) None
+
+module _ (test : ℕ → Node → Bool) where
+  pub length-kept : (k : ℕ) (files : Files) → length (kept test k files) ≡ length files
+  length-kept k [] = refl
+  length-kept k (None ∷ files) = ap suc (length-kept (k + 1) files)
+  length-kept k (Some node ∷ files) = ap suc (length-kept (k + 1) files)
+
+  slot-kept : (k : ℕ) (files : Files) (n : ℕ) → slot (kept test k files) n ≡ one_kept (test (k + n)) (slot files n)
+  unfolding one_kept
+  slot-kept k [] n = refl
+  slot-kept k (None ∷ files) zero = refl
+  slot-kept k (None ∷ files) (suc n) = let e : k + 1 + n ≡ k + suc n = omega arith in slot-kept (k + 1) files n ∙ ap (λ j. one_kept (test j) (slot files n)) e
+  slot-kept k (Some node ∷ files) zero = let e : k ≡ k + 0 = omega arith in ap (λ j. cond (test j node) (Some node) None) e
+  slot-kept k (Some node ∷ files) (suc n) = let e : k + 1 + n ≡ k + suc n = omega arith in slot-kept (k + 1) files n ∙ ap (λ j. one_kept (test j) (slot files n)) e
+
+  slot-here : (files : Files) (n : ℕ) → slot (kept test 0 files) n ≡ one_kept (test n) (slot files n)
+  slot-here files n = let e : 0 + n ≡ n = omega arith in slot-kept 0 files n ∙ ap (λ j. one_kept (test j) (slot files n)) e
+
+  pub kept-none : (files : Files) (n : ℕ) → slot files n ≡ None → slot (kept test 0 files) n ≡ None
+  unfolding one_kept
+  kept-none files n here = slot-here files n ∙ ap (one_kept (test n)) here
+
+  pub kept-here : (files : Files) (n : ℕ) (node : Node) → slot files n ≡ Some node → test n node ≡ true → slot (kept test 0 files) n ≡ Some node
+  unfolding one_kept
+  kept-here files n node here h = slot-here files n ∙ ap (one_kept (test n)) here ∙ cond-true (test n node) (Some node) None h
+
+  pub kept-gone : (files : Files) (n : ℕ) (node : Node) → slot files n ≡ Some node → test n node ≡ false → slot (kept test 0 files) n ≡ None
+  unfolding one_kept
+  kept-gone files n node here h = slot-here files n ∙ ap (one_kept (test n)) here ∙ cond-false (test n node) (Some node) None h
+
+  -- nodes with links stay
+  module _ (stays : (n : ℕ) (node : Node) → 1 ≤ links_of node → test n node ≡ true) where
+    alike-kept : (files : Files) (n : ℕ) (o : Option Node) → KeepsLive files n o → IsAlike n o (one_kept (test n) o)
+    unfolding one_kept
+    alike-kept files n None k = alike-same n None
+    alike-kept files n (Some node) k = go (test n node) refl where
+      go : (b : Bool) → test n node ≡ b → IsAlike n (Some node) (cond b (Some node) None)
+      go true h = alike-same n (Some node)
+      go false h = alike-gone files n node k (elim (cases_eq (links_of node) 0) [
+        | inl z ↦ z
+        | inr s ↦ absurd (false≢true (sym h ∙ stays n node (omega arith)))
+      ])
+
+    -- some nodes without links go
+    pub keeps-kept : {files : Files} → KeepsTree files → KeepsTree (kept test 0 files)
+    unfolding one_kept
+    keeps-kept {files} keeps =
+        keeps-alike keeps (kept test 0 files) (length-kept 0 files) (λ n. subst (λ q. IsAlike n (slot files n) q) (sym (slot-here files n)) (alike-kept files n (slot files n) (keeps.nodes n)))
+        (record {
+          links = keeps.root.links;
+          places = keeps.root.places;
+          here = kept-here files 1 (Directory (suc keeps.root.links) keeps.root.places) keeps.root.here
+              (stays 1 (Directory (suc keeps.root.links) keeps.root.places) (omega arith));
+        })
+
+-- what is left without all of them
+abbrev pub left : Files → Files
+left files = kept (λ n node. nat_lt 0 (links_of node)) 0 files
+
+left-stays : (n : ℕ) (node : Node) → 1 ≤ links_of node → nat_lt 0 (links_of node) ≡ true
+left-stays n node h = lt-ltb 0 (links_of node) (omega arith)
+
+pub leaves : {files : Files} → KeepsTree files → KeepsTree (left files)
+leaves keeps = keeps-kept (λ n node. nat_lt 0 (links_of node)) left-stays keeps
+
+-- each node has links
+abbrev pub HasLinked : Files → Type 0
+HasLinked files = (n : ℕ) (node : Node) → slot files n ≡ Some node → 1 ≤ links_of node
+
+one-linked : (o : Option Node) (node : Node) → one_kept (λ x. nat_lt 0 (links_of x)) o ≡ Some node → 1 ≤ links_of node
+unfolding one_kept
+one-linked None node h = absurd (none-some node h)
+one-linked (Some x) node h = go (nat_lt 0 (links_of x)) refl h where
+  go : (b : Bool) → nat_lt 0 (links_of x) ≡ b → cond b (Some x) None ≡ Some node → 1 ≤ links_of node
+  go true e h = let some = ltb-true 0 (links_of x) e in omega (arith, ap links_of (same_Some x node h))
+  go false e h = absurd (none-some node h)
+
+pub left-linked : (files : Files) → HasLinked (left files)
+left-linked files n node h = one-linked (slot files n) node (sym (slot-here (λ n node. nat_lt 0 (links_of node)) files n) ∙ h)
+
+-- without those that nothing uses: what a close, an exit and a change of the directory leave
+pub keeps-used : (s : State) → KeepsTree s.files → KeepsTree (without_nodes s).files
+unfolding without_nodes
+keeps-used s keeps = keeps-kept (λ n node. nat_lt 0 (links_of node) || is_used s n) (λ n node h. or_left (nat_lt 0 (links_of node)) (is_used s n) (left-stays n node h)) keeps

@@ -1,0 +1,108 @@
+-- A new file or device: why it is refused, and what the disk holds.
+use Rattle.std.proofs.Common.{◌≡◌, ◌≢◌, ℕ, ◌+◌, ◌<◌, ◌≤◌, List, [], ◌∷◌, Option, Some, length, ap, sym, refl, ◌∙◌, arith, true, suc, not}
+use Rattle.std.specs.Prelude.{All, nat_le, ◌&&◌, ◌==◌}
+use Rattle.std.specs.List.{list_all}
+use Rattle.std.proofs.lemmas.Bool.{and_parts, eq-eqb, false≢true, leb-true}
+use Rattle.std.proofs.lemmas.List.Elements.{All-cons, All-nil}
+use Rattle.std.proofs.lemmas.Option.{same_Some}
+use Rattle.layout.specs.declared.Geometry.{Geometry}
+use Rattle.layout.specs.Image.{free_blocks}
+use Rattle.names.proofs.Spots.{is_part, is_plain, spot-parts}
+use Rattle.tree.specs.declared.making.Leaf.{Leaf}
+use Rattle.tree.specs.declared.making.Leaf.TheVariants as leaf
+use Rattle.tree.specs.declared.TreeFault.{TreeFault}
+use Rattle.tree.specs.declared.TreeFault.TheVariants.{Blocks, DeadDir, DotName, Exists, Full, Inodes, IsDir, Links, NotDir, NotEmpty, NotFound}
+use Rattle.tree.specs.declared.TreeFault.TheVariants as fault
+use Rattle.tree.specs.Answers.{Overflows}
+use Rattle.tree.specs.Entering.{HasGap, HasRoom, entered, growth, made_files, made_in}
+use Rattle.tree.specs.Held.{Holds, IsHeld, IsPlain, files_of}
+use Rattle.tree.specs.Lacking.{LacksGap, LacksMaking}
+use Rattle.tree.specs.Leaves.{leaf_node}
+use Rattle.unixmodel.specs.Files.{Entry, Files, Node, Spot, free_number, put, size_of, slot}
+use Rattle.unixmodel.specs.Files.Node.{Device, Directory, File}
+use Rattle.unixmodel.specs.Manifest.{data_blocks_of}
+use Rattle.unixmodel.specs.NameCalls.{Made}
+use Rattle.tree.proofs.Gaps.{lacks-dead, lacks-other, made-done, made-full, made-nowhere, made-there, over-blocks, over-none, still-here}
+use Rattle.tree.proofs.Spots.{spot-none}
+use Rattle.tree.proofs.Storing.{files-are, held-again, length-held}
+use Rattle.tree.proofs.Taking.{IsFreeNumber, free-number, fresh-blocks}
+
+pub leaf-empty : (l : Leaf) → size_of (leaf_node l) ≡ 0
+leaf-empty leaf.File = refl
+leaf-empty (leaf.Device major minor) = refl
+
+-- a name that has no room makes nothing
+pub weaker-gap : (limit : ℕ) (files : Files) (d : ℕ) (path : List ℕ) (node : Node) → size_of node ≡ 0 → (told : TreeFault) → told ≢ fault.Device → LacksGap limit files d path 0 told
+    → Overflows limit (made_files (made_in files d path node)) × LacksMaking limit files d path 0 told
+weaker-gap limit files d path node empty NotFound known why = (over-none limit files d path node empty (made-nowhere limit files d path node empty (spot-none files d path why)), why)
+weaker-gap limit files d path node empty NotDir known why = (over-none limit files d path node empty (made-nowhere limit files d path node empty (lacks-other files d path why)), why)
+weaker-gap limit files d path node empty Exists known why = (over-none limit files d path node empty (made-there limit files d path node empty why.at why.spot why.named), why)
+weaker-gap limit files d path node empty IsDir known why = absurd why
+weaker-gap limit files d path node empty NotEmpty known why = absurd why
+weaker-gap limit files d path node empty DotName known why = absurd why
+weaker-gap limit files d path node empty DeadDir known why = (over-none limit files d path node empty (made-nowhere limit files d path node empty (lacks-dead files d path why)), why)
+weaker-gap limit files d path node empty Links known why = absurd why
+weaker-gap limit files d path node empty Blocks known why = (over-blocks limit files d path node empty why, why)
+weaker-gap limit files d path node empty Inodes known why = absurd why
+weaker-gap limit files d path node empty Full known why = (over-none limit files d path node empty (made-full limit files d path node empty why.at why.spot why.none), why)
+weaker-gap limit files d path node empty fault.Device known why = absurd (known refl)
+
+-- ---- an entry for a node that has come
+
+plain-bytes : (w : List ℕ) → list_all is_plain w ≡ true → All (λ b. b ≢ 0) w
+plain-bytes [] h = All-nil (λ b. b ≢ 0)
+plain-bytes (b ∷ bs) h =
+    let both = and_parts (is_plain b) (list_all is_plain bs) h in
+    let zero = and_parts (not (b == 0)) (not (b == 0x2f)) both.0 in
+    All-cons (λ b. b ≢ 0) b bs (λ z. false≢true (ap not (sym (eq-eqb b 0 z)) ∙ zero.0)) (plain-bytes bs both.1)
+
+pub plain-name : (name : List ℕ) (n : ℕ) → is_part name ≡ true → n < 65536 → IsPlain (record { name = name; number = n })
+plain-name name n h high =
+    let both = and_parts (nat_le 1 (length name) && nat_le (length name) 14) (list_all is_plain name) h in
+    let sizes = and_parts (nat_le 1 (length name)) (nat_le (length name) 14) both.0 in
+    record { number = high; some = leb-true 1 (length name) sizes.0; most = leb-true (length name) 14 sizes.1; plain = plain-bytes name both.1 }
+
+abbrev pub places-of : Node → List (Option Entry)
+places-of (File links bytes) = []
+places-of (Device links major minor) = []
+places-of (Directory links places) = places
+
+module _ {g : Geometry} {old mid : List (List ℕ)} {files : Files} (holds : Holds g old files) (d : ℕ) (path : List ℕ) (node : Node) (empty : size_of node ≡ 0) (at : Spot) (k more : ℕ) (gap : HasGap g old files d path more at k) (n : ℕ) (is : free_number files ≡ Some n) (now : Holds g mid (put files n node)) where
+  number : IsFreeNumber files n
+  number = free-number files n is
+
+  here-now : slot (files_of g mid) at.directory ≡ Some (Directory (suc gap.links) gap.places)
+  here-now =
+      ap (λ (fs : Files). slot fs at.directory) (files-are g mid (put files n node) now)
+      ∙ still-here (data_blocks_of g.size g.inodes) files d path node empty at gap.spot n number (Directory (suc gap.links) gap.places) gap.here
+
+  pub entry-plain : All (λ b. b ≢ 0) path → IsPlain (record { name = at.name; number = n })
+  entry-plain plain =
+      let long = length-held g old files holds in
+      let most = holds.sound.parts.inodes_high in
+      let high = number.high in
+      plain-name at.name n (spot-parts files d path at plain gap.spot).name (omega arith)
+
+  pub entry-room : HasRoom (files_of g mid) at.directory k
+  entry-room = record { links = suc gap.links; places = gap.places; here = here-now; room = gap.room }
+
+  pub entry-fits : (room : HasRoom (files_of g mid) at.directory k) → growth room.places k + more ≤ free_blocks g mid
+  entry-fits room =
+      let same : room.places ≡ gap.places = ap places-of (same_Some (Directory room.links room.places) (Directory (suc gap.links) gap.places) (sym room.here ∙ here-now)) in
+      let before = holds.free in
+      let after = now.free in
+      let blocks = fresh-blocks files n node number empty in
+      let fits = gap.fits in
+      let grown : growth room.places k ≡ growth gap.places k = ap (λ ps. growth ps k) same in
+      omega arith
+
+  pub made-held : {new : List (List ℕ)} → Holds g new (entered (files_of g mid) at.directory k (record { name = at.name; number = n }))
+      → IsHeld g new × (made_in files d path node ≡ Some (record { files = files_of g new; number = n }))
+  made-held {new} holds' =
+      let e : Entry = record { name = at.name; number = n } in
+      let same : files_of g new ≡ entered (put files n node) at.directory k e =
+      files-are g new (entered (files_of g mid) at.directory k e) holds' ∙ ap (λ (fs : Files). entered fs at.directory k e) (files-are g mid (put files n node) now) in (
+        held-again g new (entered (files_of g mid) at.directory k e) holds',
+        made-done (data_blocks_of g.size g.inodes) files d path node empty at gap.spot gap.links gap.places gap.here k gap.room n is gap.free
+            ∙ ap (λ (fs : Files). let made : Made = record { files = fs; number = n } in Some made) (sym same),
+      )

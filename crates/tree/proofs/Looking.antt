@@ -1,0 +1,89 @@
+-- A name is looked up in a node.
+use Rattle.std.proofs.Common.{◌≡◌, ◌≢◌, ℕ, Bool, List, None, Option, Some, ap, sym, refl, ◌∙◌, arith, true, false, zero, suc}
+use Rattle.std.specs.Prelude.{IfNone, IsSome, nat_lt, option_and_then, option_map, position, ◌&&◌, ◌==◌}
+use Rattle.std.proofs.lemmas.Bool.{false≢true, lt-ltb}
+use Rattle.layout.specs.declared.Geometry.{Geometry}
+use Rattle.layout.specs.Image.{bytes_of, inode_at}
+use Rattle.tree.specs.declared.place.Found.{Found}
+use Rattle.tree.specs.Held.{Holds}
+use Rattle.tree.specs.Names.{found_at, found_in}
+use Rattle.tree.specs.Places.{places_in}
+use Rattle.unixmodel.specs.Files.{Entry, Files, Node, entry_number, has_name, kind_of, links_of, live_places, lookup, slot}
+use Rattle.unixmodel.specs.Files.Node.{Device, Directory, File}
+use Rattle.tree.proofs.Storing.{held-raw}
+use Rattle.tree.proofs.Unlinking.{directory-places}
+
+pub IfNone-of : {X P : Type 0} (o : Option X) → P → IfNone o P
+IfNone-of None h = h
+IfNone-of (Some x) h = tt
+
+pub node-of : (o : Option Node) → IsSome o → (node : Node) × (o ≡ Some node)
+node-of None h = absurd (false≢true h)
+node-of (Some node) h = (node, refl)
+
+pub not-none : (o : Option Node) → IsSome o → o ≢ None
+not-none None h = λ e. absurd (false≢true h)
+not-none (Some node) h = λ e. cc
+
+-- ---- directories with links
+
+-- d is a directory with links
+pub record IsLiveAt (files : Files) (d : ℕ) : Type 0 where
+  pub links : ℕ
+  pub places : List (Option Entry)
+  pub here : slot files d ≡ Some (Directory (suc links) places)
+
+abbrev is_live : Node → Bool
+is_live node = (kind_of node == 1) && nat_lt 0 (links_of node)
+
+live-yes : (files : Files) (d : ℕ) (node : Node) → slot files d ≡ Some node → is_live node ≡ true → IsLiveAt files d
+live-yes files d (File links bytes) here h = absurd (false≢true h)
+live-yes files d (Device links major minor) here h = absurd (false≢true h)
+live-yes files d (Directory zero places) here h = absurd (false≢true h)
+live-yes files d (Directory (suc links) places) here h = record { links = links; places = places; here = here }
+
+live-no : (node : Node) → is_live node ≡ false → live_places (Some node) ≡ None
+live-no (File links bytes) h = refl
+live-no (Device links major minor) h = refl
+live-no (Directory zero places) h = refl
+live-no (Directory (suc links) places) h = absurd (false≢true (sym h ∙ lt-ltb 0 (suc links) (omega arith)))
+
+-- ---- a name in a directory
+
+module _ (files : Files) (d links : ℕ) (places : List (Option Entry)) (here : slot files d ≡ Some (Directory (suc links) places)) (name : List ℕ) where
+  pub lookup-in : lookup files d name ≡ option_map (λ (f : Found). f.number) (found_in places name)
+  unfolding lookup found_in
+  lookup-in = ap (λ o. option_and_then (λ ps. entry_number (option_and_then (slot ps) (position (has_name name) ps))) (live_places o)) here ∙ go (position (has_name name) places) where
+    at : (k : ℕ) (o : Option Entry) → entry_number o ≡ option_map (λ (f : Found). f.number) (found_at k o)
+    at k None = refl
+    at k (Some e) = refl
+
+    go : (o : Option ℕ) → entry_number (option_and_then (slot places) o) ≡ option_map (λ (f : Found). f.number) (option_and_then (λ k. found_at k (slot places k)) o)
+    go None = refl
+    go (Some k) = at k (slot places k)
+
+lookup-dead : (files : Files) (d : ℕ) (name : List ℕ) → live_places (slot files d) ≡ None → lookup files d name ≡ None
+unfolding lookup
+lookup-dead files d name e = ap (option_and_then (λ ps. entry_number (option_and_then (slot ps) (position (has_name name) ps)))) e
+
+-- ---- as the disk tells it
+
+module _ {g : Geometry} {blocks : List (List ℕ)} {files : Files} (holds : Holds g blocks files) (d : ℕ) (used : IsSome (slot files d)) {kind links : ℕ} (kind-is : kind ≡ (inode_at blocks d).kind) (links-are : links ≡ (inode_at blocks d).links) where
+  live-is : (node : Node) → slot files d ≡ Some node → is_live node ≡ ((kind == 1) && nat_lt 0 links)
+  live-is node here =
+      let raw = held-raw g blocks files holds d node here in
+      sym (ap (λ k. (k == 1) && nat_lt 0 links) (kind-is ∙ raw.kind) ∙ ap (λ l. (kind_of node == 1) && nat_lt 0 l) (links-are ∙ raw.links))
+
+  pub live-told : ((kind == 1) && nat_lt 0 links) ≡ true → IsLiveAt files d
+  live-told h = let at = node-of (slot files d) used in live-yes files d at.0 at.1 (live-is at.0 at.1 ∙ h)
+
+  pub dead-told : ((kind == 1) && nat_lt 0 links) ≡ false → (name : List ℕ) → None ≡ lookup files d name
+  dead-told h name = let at = node-of (slot files d) used in sym (lookup-dead files d name (ap live_places at.1 ∙ live-no at.0 (live-is at.0 at.1 ∙ h)))
+
+  pub lookup-told : ((kind == 1) && nat_lt 0 links) ≡ true → (name : List ℕ) {mid : List (List ℕ)} → mid ≡ blocks → (o : Option Found) → o ≡ found_in (places_in (bytes_of mid d)) name
+      → option_map (λ (f : Found). f.number) o ≡ lookup files d name
+  lookup-told h name same o told =
+      let live = live-told h in
+      sym (lookup-in files d live.links live.places live.here name
+      ∙ ap (λ ps. option_map (λ (f : Found). f.number) (found_in ps name)) (sym (ap (λ b. places_in (bytes_of b d)) same ∙ directory-places g blocks files holds d (suc live.links) live.places live.here))
+      ∙ ap (option_map (λ (f : Found). f.number)) (sym told))

@@ -1,0 +1,230 @@
+-- The names of a path, one after the other, and what they reach.
+use Rattle.std.proofs.Common.{◌≡◌, ℕ, ◌+◌, ◌-◌, ◌<◌, ◌≤◌, Bool, List, [], ◌∷◌, None, Option, Some, length, get_or, take, drop, map, ap, sym, refl, ◌∙◌, arith, subst, true, false, not, zero, suc, inl, inr}
+use Rattle.std.specs.Prelude.{IsSome, filter, is_some, min, nat_lt, option_and_then, option_map, position, unwrap_or, ◌==◌}
+use Rattle.std.specs.List.{position_or_len}
+use Rattle.std.proofs.lemmas.Bool.{cases_lt, cond-false, cond-true, cond_both, false≢true, lt-ltb, not-true}
+use Rattle.std.proofs.lemmas.List.{drop_all, get_or-drop, length-drop, length-take, length-take-le, take-take, take_all, take_rest}
+use Rattle.std.proofs.lemmas.List.Quantifiers.{position-Some}
+use Rattle.std.proofs.lemmas.List.Sums.{fails_before_first}
+use Rattle.std.proofs.lemmas.Option.{none-some, same_Some}
+use Rattle.unixmodel.specs.Files.{Files, find, follow, live_spot, lookup, onto_first, parts, pieces, slot, split_last, spot_of, start_of, with_last}
+use Rattle.names.specs.Rules.{KeepsTree}
+use Rattle.names.proofs.Naming.{follow-used}
+use Rattle.tree.specs.Paths.{above, reach}
+
+abbrev is_slash : ℕ → Bool
+is_slash b = b == 0x2f
+
+not-false : (b : Bool) → not b ≡ false → b ≡ true
+not-false true e = refl
+not-false false e = absurd (false≢true (sym e))
+
+take-min : (n : ℕ) (xs : List ℕ) → take 14 (take n xs) ≡ take (min n 14) xs
+take-min n xs = elim (cases_lt n 14) [
+  | inl l ↦ let e : n ≡ min n 14 = omega arith in take_all 14 (take n xs) (omega (arith, length-take n xs)) ∙ ap (λ k. take k xs) e
+  | inr m ↦ let e : 14 ≡ min n 14 = omega arith in take-take 14 n xs m ∙ ap (λ k. take k xs) e
+]
+
+-- where no item passes
+position-None : {X : Type 0} (p : X → Bool) (xs : List X) (d : X) → position p xs ≡ None → (k : ℕ) → k < length xs → p (get_or xs k d) ≡ false
+position-None p xs d none k h =
+    elim (cases_lt (position_or_len p xs) (length xs)) [
+      | inl l ↦ absurd (none-some (position_or_len p xs) (sym none ∙ cond-true _ (Some (position_or_len p xs)) None (lt-ltb (position_or_len p xs) (length xs) l)))
+      | inr m ↦ fails_before_first p xs k d (omega arith)
+    ]
+
+-- ---- slashes and names
+
+-- slashes at the front are passed over
+parts-skip : (bs : List ℕ) (i : ℕ) → i ≤ length bs → ((k : ℕ) → k < i → is_slash (get_or bs k 0) ≡ true) → parts bs ≡ parts (drop i bs)
+unfolding parts
+parts-skip bs zero h slashes = refl
+parts-skip [] (suc i) h slashes = absurd (omega arith)
+parts-skip (b ∷ bs) (suc i) h slashes =
+    ap (λ ws. map (take 14) (filter (λ w. nat_lt 0 (length w)) ws)) (cond-true (b == 0x2f) ([] ∷ pieces bs) (onto_first b (pieces bs)) (slashes 0 (omega arith)))
+    ∙ parts-skip bs i (omega arith) (λ k l. slashes (suc k) (omega arith))
+
+pieces-split : (bs : List ℕ) (i : ℕ) → i < length bs → is_slash (get_or bs i 0) ≡ true → ((k : ℕ) → k < i → is_slash (get_or bs k 0) ≡ false) → pieces bs ≡ take i bs ∷ pieces (drop (suc i) bs)
+pieces-split [] i h slash none = absurd (omega arith)
+pieces-split (b ∷ bs) zero h slash none = cond-true (b == 0x2f) ([] ∷ pieces bs) (onto_first b (pieces bs)) slash
+pieces-split (b ∷ bs) (suc i) h slash none =
+    cond-false (b == 0x2f) ([] ∷ pieces bs) (onto_first b (pieces bs)) (none 0 (omega arith))
+    ∙ ap (onto_first b) (pieces-split bs i (omega arith) slash (λ k l. none (suc k) (omega arith)))
+
+pieces-whole : (bs : List ℕ) → ((k : ℕ) → k < length bs → is_slash (get_or bs k 0) ≡ false) → pieces bs ≡ bs ∷ []
+pieces-whole [] none = refl
+pieces-whole (b ∷ bs) none =
+    cond-false (b == 0x2f) ([] ∷ pieces bs) (onto_first b (pieces bs)) (none 0 (omega arith))
+    ∙ ap (onto_first b) (pieces-whole bs (λ k l. none (suc k) (omega arith)))
+
+-- a piece with bytes is a name
+parts-piece : (bs w : List ℕ) (ws rest : List (List ℕ)) → pieces bs ≡ w ∷ ws → 1 ≤ length w → map (take 14) (filter (λ w. nat_lt 0 (length w)) ws) ≡ rest → parts bs ≡ take 14 w ∷ rest
+unfolding parts
+parts-piece bs w ws rest e some same =
+    ap (λ xs. map (take 14) (filter (λ w. nat_lt 0 (length w)) xs)) e
+    ∙ ap (map (take 14)) (cond-true (nat_lt 0 (length w)) (w ∷ filter (λ w. nat_lt 0 (length w)) ws) (filter (λ w. nat_lt 0 (length w)) ws) (lt-ltb 0 (length w) some))
+    ∙ ap (λ r. take 14 w ∷ r) same
+
+parts-nothing : parts [] ≡ []
+unfolding parts
+parts-nothing = refl
+
+-- the parts behind a slash
+parts-behind : (bs : List ℕ) (i : ℕ) → i < length bs → is_slash (get_or bs i 0) ≡ true → parts (drop i bs) ≡ parts (drop (suc i) bs)
+unfolding parts
+parts-behind [] i h slash = absurd (omega arith)
+parts-behind (b ∷ bs) zero h slash = ap (λ ws. map (take 14) (filter (λ w. nat_lt 0 (length w)) ws)) (cond-true (b == 0x2f) ([] ∷ pieces bs) (onto_first b (pieces bs)) slash)
+parts-behind (b ∷ bs) (suc i) h slash = parts-behind bs i (omega arith) slash
+
+-- the name at the front
+pub record IsFront (bs : List ℕ) (end : ℕ) : Type 0 where
+  pub some : 1 ≤ end
+  pub within : end ≤ length bs
+  pub parts : parts bs ≡ take 14 (take end bs) ∷ parts (drop end bs)
+
+module _ (bs : List ℕ) (some : 1 ≤ length bs) (first : is_slash (get_or bs 0 0) ≡ false) where
+  front-split : (i : ℕ) → position (λ b. b == 0x2f) bs ≡ Some i → IsFront bs i
+  unfolding parts
+  front-split i at =
+      let s = position-Some (λ b. b == 0x2f) bs i 0 at in
+      let positive : 1 ≤ i = elim (cases_lt 0 i) [ inl l ↦ l | inr m ↦ let z : i ≡ 0 = omega arith in absurd (false≢true (sym first ∙ ap (λ k. is_slash (get_or bs k 0)) (sym z) ∙ s.1)) ] in
+      record {
+        some = positive;
+        within = let h = s.0 in omega arith;
+        parts = parts-piece bs (take i bs) (pieces (drop (suc i) bs)) (parts (drop i bs)) (pieces-split bs i s.0 s.1 s.2)
+            (let h = s.0 in omega (arith, length-take-le i bs (omega arith))) (sym (parts-behind bs i s.0 s.1));
+      }
+
+  front-whole : position (λ b. b == 0x2f) bs ≡ None → IsFront bs (length bs)
+  unfolding parts
+  front-whole none = record {
+    some = some;
+    within = omega arith;
+    parts = parts-piece bs bs [] [] (pieces-whole bs (position-None (λ b. b == 0x2f) bs 0 none)) some refl
+        ∙ ap (λ w. take 14 w ∷ []) (sym (take_all (length bs) bs (omega arith))) ∙ ap (λ r. take 14 (take (length bs) bs) ∷ r) (sym (ap parts (drop_all (length bs) bs (omega arith)) ∙ parts-nothing));
+  }
+
+  front-of : (o : Option ℕ) → position (λ b. b == 0x2f) bs ≡ o → IsFront bs (unwrap_or o (length bs))
+  front-of None e = front-whole e
+  front-of (Some i) e = front-split i e
+
+-- ---- the first name
+
+pub no-name : (path : List ℕ) → position (λ b. not (b == 0x2f)) path ≡ None → parts path ≡ []
+no-name path none =
+    parts-skip path (length path) (omega arith) (λ k h. not-false (is_slash (get_or path k 0)) (position-None (λ b. not (b == 0x2f)) path 0 none k h))
+    ∙ ap parts (drop_all (length path) path (omega arith)) ∙ parts-nothing
+
+pub record IsFirst (path : List ℕ) (i end : ℕ) : Type 0 where
+  pub parts : parts path ≡ take (min end 14) (drop i path) ∷ parts (drop end (drop i path))
+  pub shorter : length (drop end (drop i path)) < length path
+  pub within : end ≤ length (drop i path)
+
+pub first-name : (path : List ℕ) (i end : ℕ) → position (λ b. not (b == 0x2f)) path ≡ Some i → end ≡ unwrap_or (position (λ b. b == 0x2f) (drop i path)) (length (drop i path)) → IsFirst path i end
+first-name path i end at is =
+    let s = position-Some (λ b. not (b == 0x2f)) path i 0 at in
+    let high = s.0 in
+    let z : i + 0 ≡ i = omega arith in
+    let front = front-of (drop i path) (omega (arith, length-drop i path)) (ap is_slash (get_or-drop i path 0 0 ∙ ap (λ k. get_or path k 0) z) ∙ not-true (is_slash (get_or path i 0)) s.1) (position (λ b. b == 0x2f) (drop i path)) refl in
+    let e = sym is in
+    let some : 1 ≤ end = subst (λ k. 1 ≤ k) e front.some in
+    let within : end ≤ length (drop i path) = subst (λ k. k ≤ length (drop i path)) e front.within in
+    record {
+      parts = parts-skip path i (omega arith) (λ k h. not-false (is_slash (get_or path k 0)) (s.2 k h))
+          ∙ subst (λ k. parts (drop i path) ≡ take 14 (take k (drop i path)) ∷ parts (drop k (drop i path))) e front.parts
+          ∙ ap (λ w. w ∷ parts (drop end (drop i path))) (take-min end (drop i path));
+      shorter = omega (arith, length-drop end (drop i path), length-drop i path);
+      within = within;
+    }
+
+-- ---- what names reach
+
+module _ (files : Files) (k : ℕ) (name : List ℕ) (names : List (List ℕ)) where
+  pub reach-last : names ≡ [] → reach files k (name ∷ names) ≡ Some (k, name)
+  reach-last e = ap (λ ws. reach files k (name ∷ ws)) e
+
+  module _ (w : List ℕ) (ws : List (List ℕ)) (more : names ≡ w ∷ ws) where
+    reach-more : reach files k (name ∷ names) ≡ option_and_then (λ m. reach files m (w ∷ ws)) (lookup files k name)
+    reach-more = ap (λ xs. reach files k (name ∷ xs)) more ∙ go (lookup files k name) where
+      go : (o : Option ℕ) → option_map (λ n. (n, (with_last w (split_last ws)).1)) (option_and_then (λ m. follow files m (with_last w (split_last ws)).0) o) ≡ option_and_then (λ m. reach files m (w ∷ ws)) o
+      go None = refl
+      go (Some m) = refl
+
+    pub reach-next : (m : ℕ) → lookup files k name ≡ Some m → reach files k (name ∷ names) ≡ reach files m (w ∷ ws)
+    reach-next m e = reach-more ∙ ap (option_and_then (λ m. reach files m (w ∷ ws))) e
+
+    pub reach-none : lookup files k name ≡ None → reach files k (name ∷ names) ≡ None
+    reach-none e = reach-more ∙ ap (option_and_then (λ m. reach files m (w ∷ ws))) e
+
+pub follow-next : (files : Files) (k m : ℕ) (names : List (List ℕ)) (name : List ℕ) (ws : List (List ℕ)) → names ≡ name ∷ ws → lookup files k name ≡ Some m → follow files k names ≡ follow files m ws
+follow-next files k m names name ws e at = ap (follow files k) e ∙ ap (option_and_then (λ n. follow files n ws)) at
+
+pub follow-none : (files : Files) (k : ℕ) (names : List (List ℕ)) (name : List ℕ) (ws : List (List ℕ)) → names ≡ name ∷ ws → lookup files k name ≡ None → follow files k names ≡ None
+follow-none files k names name ws e at = ap (follow files k) e ∙ ap (option_and_then (λ n. follow files n ws)) at
+
+-- the first name and what follows it, as a path is cut
+module _ (path rest : List ℕ) (i end cut : ℕ) (o : Option ℕ) (at : position (λ b. not (b == 0x2f)) path ≡ Some i) (from : rest ≡ drop i path) (slash : o ≡ position (λ b. b == 0x2f) rest) (is : end ≡ unwrap_or o (length rest)) (cuts : cut ≡ min end 14) where
+  first : IsFirst path i end
+  first = first-name path i end at (is ∙ ap (λ q. unwrap_or q (length rest)) slash ∙ ap (λ r. unwrap_or (position (λ b. b == 0x2f) r) (length r)) from)
+
+  pub cut-parts : parts path ≡ take cut rest ∷ parts (take (length rest - end) (drop end rest))
+  cut-parts =
+      first.parts
+      ∙ ap (λ r. take (min end 14) r ∷ parts (drop end r)) (sym from)
+      ∙ ap (λ k. take k rest ∷ parts (drop end rest)) (sym cuts)
+      ∙ ap (λ t. take cut rest ∷ parts t) (sym (take_rest rest end))
+
+  pub cut-shorter : length (take (length rest - end) (drop end rest)) < length path
+  cut-shorter =
+      let s = first.shorter in
+      let e : length (take (length rest - end) (drop end rest)) ≡ length (drop end (drop i path)) = ap length (take_rest rest end) ∙ ap (λ r. length (drop end r)) from in
+      omega arith
+
+-- ---- where a path starts
+
+pub find-start : (files : Files) (d : ℕ) (path : List ℕ) (n : ℕ) → n ≡ start_of d path → follow files n (parts path) ≡ find files d path
+unfolding find
+find-start files d path n e = ap (λ k. follow files k (parts path)) e
+
+pub above-start : (files : Files) (d : ℕ) (path : List ℕ) (n : ℕ) (name : List ℕ) (names : List (List ℕ)) → n ≡ start_of d path → parts path ≡ name ∷ names → reach files n (name ∷ names) ≡ above files d path
+unfolding above
+above-start files d path n name names e p = ap (reach files n) (sym p) ∙ ap (λ k. reach files k (parts path)) e
+
+pub above-nothing : (files : Files) (d : ℕ) (path : List ℕ) → parts path ≡ [] → None ≡ above files d path
+unfolding above
+above-nothing files d path p = sym (ap (reach files (start_of d path)) p)
+
+pub start-held : {files : Files} → KeepsTree files → (d : ℕ) (path : List ℕ) → IsSome (slot files d) → (n : ℕ) → n ≡ start_of d path → IsSome (slot files n)
+start-held {files} keeps d path used n e = subst (λ k. IsSome (slot files k)) (sym e) (go path) where
+  go : (path : List ℕ) → IsSome (slot files (start_of d path))
+  go [] = used
+  go (b ∷ bs) = cond_both (b == 0x2f) 1 d (λ m. IsSome (slot files m)) (λ t. ap is_some keeps.root.here) (λ t. used)
+
+-- ---- what stands above a last name
+
+module _ {files : Files} (keeps : KeepsTree files) (d : ℕ) (path : List ℕ) (used : IsSome (slot files d)) (k : ℕ) (name : List ℕ) (is : above files d path ≡ Some (k, name)) where
+  pub above-used : IsSome (slot files k)
+  unfolding above
+  above-used = go (split_last (parts path)) is where
+    at : (w : List ℕ) (names : List (List ℕ)) (o : Option ℕ) → follow files (start_of d path) names ≡ o → option_map (λ m. let two : ℕ × List ℕ = (m, w) in two) o ≡ Some (k, name) → IsSome (slot files k)
+    at w names None e h = absurd (none-some (k, name) h)
+    at w names (Some m) e h =
+        subst (λ j. IsSome (slot files j)) (ap (λ (two : ℕ × List ℕ). two.0) (same_Some (m, w) (k, name) h))
+        (follow-used keeps names (start_of d path) m (start-held keeps d path used (start_of d path) refl) e)
+
+    go : (o : Option (List (List ℕ) × List ℕ)) → option_and_then (λ (split : List (List ℕ) × List ℕ). option_map (λ m. let two : ℕ × List ℕ = (m, split.1) in two) (follow files (start_of d path) split.0)) o ≡ Some (k, name) → IsSome (slot files k)
+    go None h = absurd (none-some (k, name) h)
+    go (Some split) h = at split.1 split.0 (follow files (start_of d path) split.0) refl h
+
+-- a spot is what stands above, where it is a directory with links
+pub spot-above : (files : Files) (d : ℕ) (path : List ℕ) → spot_of files d path ≡ option_and_then (λ (two : ℕ × List ℕ). live_spot files two.1 two.0) (above files d path)
+unfolding spot_of above
+spot-above files d path = go (split_last (parts path)) where
+  at : (name : List ℕ) (o : Option ℕ) → option_and_then (live_spot files name) o ≡ option_and_then (λ (two : ℕ × List ℕ). live_spot files two.1 two.0) (option_map (λ k. (k, name)) o)
+  at name None = refl
+  at name (Some k) = refl
+
+  go : (o : Option (List (List ℕ) × List ℕ)) → option_and_then (λ split. option_and_then (live_spot files split.1) (follow files (start_of d path) split.0)) o
+      ≡ option_and_then (λ (two : ℕ × List ℕ). live_spot files two.1 two.0) (option_and_then (λ split. option_map (λ k. (k, split.1)) (follow files (start_of d path) split.0)) o)
+  go None = refl
+  go (Some split) = at split.1 (follow files (start_of d path) split.0)

@@ -1,0 +1,115 @@
+-- The lowest free number is taken for a node without bytes.
+use Rattle.std.proofs.Common.{◌≡◌, ◌≢◌, ℕ, ◌+◌, ◌-◌, ◌<◌, ◌≤◌, List, None, Option, Some, length, get_or, drop, set, ap, sym, refl, ◌∙◌, arith, subst, true, false, zero, suc}
+use Rattle.std.specs.Prelude.{is_none, option_map, position, ◌==◌, ◌||◌}
+use Rattle.std.proofs.lemmas.Bool.{cond-false, false≢true, ne_eqb, or_from}
+use Rattle.std.proofs.lemmas.List.{get_or-drop, length-drop}
+use Rattle.std.proofs.lemmas.List.Quantifiers.{position-Some}
+use Rattle.std.proofs.lemmas.Option.{none-some, same_Some}
+use Rattle.balloc.specs.Inodes.{IsLowestUnused, fresh_node}
+use Rattle.layout.specs.declared.Geometry.{Geometry}
+use Rattle.layout.specs.Frame.{get_or-nodes_of}
+use Rattle.layout.specs.Image.{bytes_of, free_blocks, inode_at, node_at, node_with, nodes_of}
+use Rattle.layout.specs.Sound.{IsSound}
+use Rattle.tree.specs.Entering.{fresh}
+use Rattle.tree.specs.Held.{Agrees, FitsPlaces, Holds, IsRaw}
+use Rattle.unixmodel.specs.Counts.{blocks_of}
+use Rattle.unixmodel.specs.Files.{Files, Node, blocks_for, free_number, put, size_of, slot}
+use Rattle.tree.proofs.Reading.{position-at, position-none}
+use Rattle.tree.proofs.Storing.{Holds-put, blocks_of-set, held-inode, length-held, used_by}
+
+-- ---- the lowest free number
+
+drop-slot : (files : Files) (k : ℕ) → slot (drop 1 files) k ≡ slot files (1 + k)
+drop-slot files k = get_or-drop 1 files k None
+
+module _ (g : Geometry) (blocks : List (List ℕ)) (files : Files) (holds : Holds g blocks files) where
+  unused-slot : (n : ℕ) → (inode_at blocks n).kind ≡ 0 → slot files n ≡ None
+  unused-slot n e = go (slot files n) refl where
+    go : (o : Option Node) → slot files n ≡ o → o ≡ None
+    go None here = refl
+    go (Some node) here = absurd ((held-inode g blocks files holds n node here).kind e)
+
+  used-slot : (n : ℕ) → 1 ≤ n → n < length files → (inode_at blocks n).kind ≢ 0 → is_none (slot files n) ≡ false
+  unfolding node_at
+  used-slot n low high used = go (slot files n) refl where
+    raw : get_or (nodes_of blocks g.inodes) n None ≡ Some (node_with (inode_at blocks n) (bytes_of blocks n))
+    raw =
+        get_or-nodes_of blocks g.inodes n (let l = length-held g blocks files holds in omega arith)
+        ∙ cond-false ((n == 0) || ((inode_at blocks n).kind == 0)) None (Some (node_with (inode_at blocks n) (bytes_of blocks n)))
+        (or_from (n == 0) ((inode_at blocks n).kind == 0) (ne_eqb n 0 (λ z. omega arith)) (ne_eqb (inode_at blocks n).kind 0 used))
+
+    go : (o : Option Node) → slot files n ≡ o → is_none o ≡ false
+    go None here = absurd (subst (Agrees (Some (node_with (inode_at blocks n) (bytes_of blocks n)))) here (subst (λ r. Agrees r (slot files n)) raw (holds.nodes.each n high)))
+    go (Some node) here = refl
+
+  pub lowest-number : (n : ℕ) → IsLowestUnused g blocks n → free_number files ≡ Some n
+  unfolding free_number
+  lowest-number n lowest =
+      let long = length-held g blocks files holds in
+      let low = lowest.low in
+      let high = lowest.high in
+      let one : 1 + (n - 1) ≡ n = omega arith in
+      let next : suc (n - 1) ≡ n = omega arith in
+      ap (option_map suc) (position-at is_none (drop 1 files) (n - 1) None (omega (arith, length-drop 1 files))
+      (λ k l. ap is_none (drop-slot files k) ∙ used-slot (1 + k) (omega arith) (omega arith) (lowest.lowest (1 + k) (omega arith) (omega arith)))
+      (ap is_none (drop-slot files (n - 1) ∙ ap (slot files) one ∙ unused-slot n lowest.unused)))
+      ∙ ap Some next
+
+  pub no-number : ((n : ℕ) → 1 ≤ n → n < g.inodes → (inode_at blocks n).kind ≢ 0) → free_number files ≡ None
+  unfolding free_number
+  no-number all =
+      let long = length-held g blocks files holds in
+      ap (option_map suc) (position-none is_none (drop 1 files) (length (drop 1 files)) None (omega arith)
+      (λ k l. ap is_none (drop-slot files k) ∙ used-slot (1 + k) (omega arith) (omega (arith, length-drop 1 files)) (all (1 + k) (omega arith) (omega (arith, length-drop 1 files)))))
+
+-- what a free number is
+pub record IsFreeNumber (files : Files) (n : ℕ) : Type 0 where
+  pub low : 1 ≤ n
+  pub high : n < length files
+  pub free : slot files n ≡ None
+
+pub free-number : (files : Files) (n : ℕ) → free_number files ≡ Some n → IsFreeNumber files n
+unfolding free_number
+free-number files n h = go (position is_none (drop 1 files)) refl h where
+  none-is : (o : Option Node) → is_none o ≡ true → o ≡ None
+  none-is None e = refl
+  none-is (Some node) e = absurd (false≢true e)
+
+  go : (o : Option ℕ) → position is_none (drop 1 files) ≡ o → option_map suc o ≡ Some n → IsFreeNumber files n
+  go None at q = absurd (none-some n q)
+  go (Some k) at q =
+      let s = position-Some is_none (drop 1 files) k None at in
+      let high = s.0 in
+      let is : suc k ≡ n = same_Some (suc k) n q in
+      let one : 1 + k ≡ n = omega arith in
+      record { low = omega arith; high = omega (arith, length-drop 1 files); free = ap (slot files) (sym one) ∙ sym (drop-slot files k) ∙ none-is (slot (drop 1 files) k) s.1 }
+
+-- ---- a node without bytes
+
+fresh-raw : (kind major minor : ℕ) → 1 ≤ kind → kind ≤ 3 → IsRaw (fresh_node kind major minor 1) (fresh kind major minor) × FitsPlaces (Some (fresh kind major minor)) × (size_of (fresh kind major minor) ≡ 0)
+fresh-raw zero major minor low high = absurd (omega arith)
+fresh-raw (suc zero) major minor low high = (record { kind = refl; links = refl; bytes = refl; device = tt }, λ k d l. absurd (omega arith), refl)
+fresh-raw (suc (suc zero)) major minor low high = (record { kind = refl; links = refl; bytes = refl; device = tt }, tt, refl)
+fresh-raw (suc (suc (suc zero))) major minor low high = (record { kind = refl; links = refl; bytes = refl; device = (refl, refl) }, tt, refl)
+fresh-raw (suc (suc (suc (suc k)))) major minor low high = absurd (omega arith)
+
+pub fresh-size : (kind major minor : ℕ) → 1 ≤ kind → kind ≤ 3 → size_of (fresh kind major minor) ≡ 0
+fresh-size kind major minor low high = (fresh-raw kind major minor low high).2
+
+-- what take_inode ensures
+pub Holds-fresh : (g : Geometry) (old new : List (List ℕ)) (files : Files) → Holds g old files → (kind major minor n : ℕ) → 1 ≤ kind → kind ≤ 3 → free_number files ≡ Some n
+    → IsSound g new → nodes_of new g.inodes ≡ set (nodes_of old g.inodes) n (Some (fresh_node kind major minor 1)) → free_blocks g new ≡ free_blocks g old → Holds g new (put files n (fresh kind major minor))
+Holds-fresh g old new files holds kind major minor n low high is sound nodes free =
+    let number = free-number files n is in
+    let raw = fresh-raw kind major minor low high in
+    let none : used_by (slot files n) ≡ 0 = ap used_by number.free in
+    let small : blocks_for (size_of (fresh kind major minor)) ≡ 0 = ap blocks_for raw.2 in
+    Holds-put g old new files holds n (fresh_node kind major minor 1) (fresh kind major minor) number.high sound nodes raw.0 raw.1 (omega arith)
+
+-- the blocks that are free stay free
+pub fresh-blocks : (files : Files) (n : ℕ) (node : Node) → IsFreeNumber files n → size_of node ≡ 0 → blocks_of (put files n node) ≡ blocks_of files
+fresh-blocks files n node number empty =
+    let b = blocks_of-set files n (Some node) number.high in
+    let none : used_by (slot files n) ≡ 0 = ap used_by number.free in
+    let small : used_by (Some node) ≡ 0 = ap blocks_for empty in
+    omega arith

@@ -1,0 +1,171 @@
+-- A name goes: what the definitions make of the files, and what the steps on the disk do.
+use Rattle.std.proofs.Common.{◌≡◌, ◌≢◌, ℕ, Bool, List, None, Option, Some, ap, sym, refl, ◌∙◌, arith, subst, cond, true, false, inl, inr, set}
+use Rattle.std.specs.Prelude.{IsSome, option_and_then, option_map, position, suc}
+use Rattle.std.proofs.lemmas.Bool.{cases_eq, false≢true}
+use Rattle.std.proofs.lemmas.List.{get_or-set_other, get_or-set_same}
+use Rattle.std.proofs.lemmas.Option.{none-some, same_Some}
+use Rattle.layout.specs.declared.Geometry.{Geometry}
+use Rattle.layout.specs.Image.{IsInode, bytes_of, inode_at}
+use Rattle.tree.specs.declared.place.Found.{Found}
+use Rattle.tree.specs.Held.{Holds}
+use Rattle.tree.specs.Names.{dropped, found_at, found_in, is_bare, removal}
+use Rattle.unixmodel.specs.NameCalls.{may_remove, removed_node, unlinked, without_name}
+use Rattle.tree.specs.Places.{places_in}
+use Rattle.tree.specs.Steps.{HasPlace}
+use Rattle.tree.specs.Unlinks.{IsNaming}
+use Rattle.unixmodel.specs.Files.{Entry, Files, Node, Spot, change_node, entry_number, erase, has_name, is_directory, is_dot_name, live_places, lookup, place_of, put, slot, without_place}
+use Rattle.unixmodel.specs.Files.Node.{Device, Directory, File}
+use Rattle.tree.proofs.Spelling.{places_in-back}
+use Rattle.tree.proofs.Storing.{held-fits, held-inode, held-raw, slot-within}
+
+-- ---- a name among places
+
+-- where a name is found
+pub record IsFound (places : List (Option Entry)) (name : List ℕ) (f : Found) : Type 0 where
+  pub entry : Entry
+  pub first : position (has_name name) places ≡ Some f.place
+  pub here : slot places f.place ≡ Some entry
+  pub number : entry.number ≡ f.number
+
+pub found-parts : (places : List (Option Entry)) (name : List ℕ) (f : Found) → found_in places name ≡ Some f → IsFound places name f
+unfolding found_in
+found-parts places name f e = go (position (has_name name) places) refl e where
+  at : (k : ℕ) → position (has_name name) places ≡ Some k → (o : Option Entry) → slot places k ≡ o → found_at k o ≡ Some f → IsFound places name f
+  at k p None q h = absurd (none-some f h)
+  at k p (Some entry) q h =
+      let same = same_Some (let m : Found = record { place = k; number = entry.number } in m) f h in
+      let place : k ≡ f.place = ap (λ (x : Found). x.place) same in
+      record { entry = entry; first = p ∙ ap Some place; here = ap (slot places) (sym place) ∙ q; number = ap (λ (x : Found). x.number) same }
+
+  go : (o : Option ℕ) → position (has_name name) places ≡ o → option_and_then (λ k. found_at k (slot places k)) o ≡ Some f → IsFound places name f
+  go None p h = absurd (none-some f h)
+  go (Some k) p h = at k p (slot places k) refl h
+
+missing-number : (places : List (Option Entry)) (name : List ℕ) → found_in places name ≡ None → entry_number (option_and_then (slot places) (position (has_name name) places)) ≡ None
+unfolding found_in
+missing-number places name e = go (position (has_name name) places) e where
+  at : (k : ℕ) (o : Option Entry) → found_at k o ≡ None → entry_number o ≡ None
+  at k None h = refl
+  at k (Some entry) h = absurd (none-some _ (sym h))
+
+  go : (o : Option ℕ) → option_and_then (λ k. found_at k (slot places k)) o ≡ None → entry_number (option_and_then (slot places) o) ≡ None
+  go None h = refl
+  go (Some k) h = at k (slot places k) h
+
+-- ---- the definitions
+
+pub unlinked-dot : (files : Files) (at : Spot) → is_dot_name at.name ≡ true → unlinked files at ≡ None
+unfolding unlinked
+unlinked-dot files at e = rw e refl
+
+module _ (files : Files) (d : ℕ) (naming : IsNaming files d) (name : List ℕ) where
+  abbrev spot : Spot
+  spot = record { directory = d; name = name }
+
+  pub lookup-is : lookup files d name ≡ entry_number (option_and_then (slot naming.places) (position (has_name name) naming.places))
+  unfolding lookup
+  lookup-is = ap (λ o. option_and_then (λ places. entry_number (option_and_then (slot places) (position (has_name name) places))) (live_places o)) naming.here
+
+  place-of-is : place_of files d name ≡ position (has_name name) naming.places
+  unfolding place_of
+  place-of-is = ap (λ o. option_and_then (position (has_name name)) (live_places o)) naming.here
+
+  pub lookup-missing : found_in naming.places name ≡ None → lookup files d name ≡ None
+  lookup-missing e = lookup-is ∙ missing-number naming.places name e
+
+  no-number : (o : Option ℕ) → option_and_then (λ k. option_and_then (λ n. removed_node files d k n (slot files n)) None) o ≡ None
+  no-number None = refl
+  no-number (Some k) = refl
+
+  unlinked-not : (b : Bool) → is_dot_name name ≡ b → (o : Option Files) → option_and_then (λ k. option_and_then (λ n. removed_node files d k n (slot files n)) (lookup files d name)) (place_of files d name) ≡ o → o ≡ None → unlinked files spot ≡ None
+  unfolding unlinked
+  unlinked-not true e o is none = rw e refl
+  unlinked-not false e o is none = rw (e, is) none
+
+  pub unlinked-missing : found_in naming.places name ≡ None → unlinked files spot ≡ None
+  unlinked-missing e = unlinked-not (is_dot_name name) refl _ refl (ap (λ l. option_and_then (λ k. option_and_then (λ n. removed_node files d k n (slot files n)) l) (place_of files d name)) (lookup-missing e) ∙ no-number (place_of files d name))
+
+  module _ (f : Found) (found : IsFound naming.places name f) where
+    pub lookup-found : lookup files d name ≡ Some f.number
+    lookup-found = lookup-is ∙ ap (λ o. entry_number (option_and_then (slot naming.places) o)) found.first ∙ ap entry_number found.here ∙ ap Some found.number
+
+    pub found-place : HasPlace files d f.place
+    found-place = record { links = suc naming.links; places = naming.places; here = naming.here; within = slot-within naming.places f.place found.entry found.here }
+
+    pub found-node : (node : Node) × (slot files f.number ≡ Some node)
+    found-node = go (slot files f.number) refl (subst (λ n. IsSome (slot files n)) found.number (naming.numbers f.place found.entry found.here)) where
+      go : (o : Option Node) → slot files f.number ≡ o → IsSome o → (node : Node) × (slot files f.number ≡ Some node)
+      go None e h = absurd (false≢true h)
+      go (Some node) e h = (node, e)
+
+    removed-is : option_and_then (λ k. option_and_then (λ n. removed_node files d k n (slot files n)) (lookup files d name)) (place_of files d name) ≡ removed_node files d f.place f.number (slot files f.number)
+    removed-is =
+        ap (λ l. option_and_then (λ k. option_and_then (λ n. removed_node files d k n (slot files n)) l) (place_of files d name)) lookup-found
+        ∙ ap (λ o. option_and_then (λ k. removed_node files d k f.number (slot files f.number)) o) (place-of-is ∙ found.first)
+
+    module _ (node : Node) (here : slot files f.number ≡ Some node) where
+      refused-node : (b : Bool) → may_remove node ≡ b → removal node ≡ None → removed_node files d f.place f.number (Some node) ≡ None
+      refused-node true e h = absurd (none-some (is_directory node) (sym h ∙ ap (λ b. cond b (Some (is_directory node)) None) e))
+      refused-node false e h = ap (λ b. cond b (Some (without_name files d f.place f.number node)) None) e
+
+      taken-node : (goes b : Bool) → may_remove node ≡ b → removal node ≡ Some goes → removed_node files d f.place f.number (Some node) ≡ Some (dropped (erase files d f.place) f.number d goes)
+      taken-node goes false e h = absurd (none-some goes (sym (ap (λ b. cond b (Some (is_directory node)) None) e) ∙ h))
+      taken-node goes true e h =
+          let is : is_directory node ≡ goes = same_Some (is_directory node) goes (sym (ap (λ b. cond b (Some (is_directory node)) None) e) ∙ h) in
+          ap (λ b. cond b (Some (without_name files d f.place f.number node)) None) e ∙ ap (λ b. Some (dropped (erase files d f.place) f.number d b)) is
+
+      pub unlinked-full : removal node ≡ None → unlinked files spot ≡ None
+      unlinked-full h = unlinked-not (is_dot_name name) refl _ refl (removed-is ∙ ap (removed_node files d f.place f.number) here ∙ refused-node (may_remove node) refl h)
+
+      pub unlinked-done : (goes : Bool) → is_dot_name name ≡ false → removal node ≡ Some goes → unlinked files spot ≡ Some (dropped (erase files d f.place) f.number d goes)
+      unfolding unlinked
+      unlinked-done goes e h = rw e (removed-is ∙ ap (removed_node files d f.place f.number) here ∙ taken-node goes (may_remove node) refl h)
+
+-- ---- the disk
+
+module _ (g : Geometry) (blocks : List (List ℕ)) (files : Files) (holds : Holds g blocks files) where
+  pub naming-inode : (d : ℕ) → IsNaming files d → IsInode blocks g.inodes d
+  naming-inode d naming = held-inode g blocks files holds d (Directory (suc naming.links) naming.places) naming.here
+
+  pub directory-places : (n links : ℕ) (places : List (Option Entry)) → slot files n ≡ Some (Directory links places) → places_in (bytes_of blocks n) ≡ places
+  directory-places n links places here =
+      let is = held-raw g blocks files holds n (Directory links places) here in
+      ap places_in is.bytes ∙ places_in-back places (held-fits g blocks files holds n (Directory links places) here)
+
+  pub naming-places : (d : ℕ) (naming : IsNaming files d) → places_in (bytes_of blocks d) ≡ naming.places
+  naming-places d naming = directory-places d (suc naming.links) naming.places naming.here
+
+  -- what is told of a node by its type and its places
+  pub removal-other : (n : ℕ) (node : Node) → slot files n ≡ Some node → (inode_at blocks n).kind ≢ 1 → removal node ≡ Some false
+  removal-other n (File links bytes) here k = refl
+  removal-other n (Device links major minor) here k = refl
+  removal-other n (Directory links places) here k = absurd (k (held-raw g blocks files holds n (Directory links places) here).kind)
+
+  pub removal-directory : (n : ℕ) (node : Node) → slot files n ≡ Some node → (inode_at blocks n).kind ≡ 1 → (bare : Bool) → bare ≡ is_bare (places_in (bytes_of blocks n)) → removal node ≡ cond bare (Some true) None
+  removal-directory n (File links bytes) here k bare is = absurd (let z : 2 ≡ 1 = sym (held-raw g blocks files holds n (File links bytes) here).kind ∙ k in omega arith)
+  removal-directory n (Device links major minor) here k bare is = absurd (let z : 3 ≡ 1 = sym (held-raw g blocks files holds n (Device links major minor) here).kind ∙ k in omega arith)
+  removal-directory n (Directory links places) here k bare is =
+      ap (λ b. cond b (Some true) None) (sym (is ∙ ap is_bare (directory-places n links places here)))
+
+-- ---- the nodes that are there stay
+
+module _ (files : Files) (n : ℕ) (change : Node → Node) (m : ℕ) where
+  other-node : (o : Option Node) → m ≢ n → slot files m ≢ None → slot (set files n o) m ≢ None
+  other-node o away some h = some (sym (get_or-set_other files n m o None away) ∙ h)
+
+  same-node : (o : Option Node) → slot files n ≡ o → m ≡ n → slot files m ≢ None → slot (set files n (option_map change o)) m ≢ None
+  same-node None e same some h = some (ap (slot files) same ∙ e)
+  same-node (Some node) e same some h = none-some (change node) (sym h ∙ ap (slot (put files n (change node))) same ∙ get_or-set_same files n (Some (change node)) None (slot-within files n node e))
+
+  pub stays-node : slot files m ≢ None → slot (change_node files n change) m ≢ None
+  stays-node some = elim (cases_eq m n) [
+    | inl same ↦ same-node (slot files n) refl same some
+    | inr away ↦ other-node (option_map change (slot files n)) away some
+  ]
+
+pub stays-erased : (files : Files) (d k m : ℕ) → slot files m ≢ None → slot (erase files d k) m ≢ None
+unfolding erase
+stays-erased files d k m some = stays-node files d (without_place k) m some
+
+pub some-not : (o : Option Node) (node : Node) → o ≡ Some node → o ≢ None
+some-not o node e h = none-some node (sym h ∙ e)

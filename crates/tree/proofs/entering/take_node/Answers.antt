@@ -1,0 +1,20 @@
+use Rattle.std.proofs.Common.{Err, ap, refl, ◌∙◌}
+use Rattle.tree.specs.Held.{files_of}
+use Rattle.tree.proofs.Answering.{Answers-no, Answers-yes}
+use Rattle.tree.proofs.Taking.{Holds-fresh, lowest-number, no-number}
+use Rattle.tree.proofs.entering.take_node.Goals as goal
+
+pub returns-in-Ok : goal.returns-in-Ok
+returns-in-Ok g c =
+    let blocks = c.args.disk.now.blocks in
+    let files = files_of c.args.geometry blocks in
+    let is = lowest-number c.args.geometry blocks files c.requires.held c.in-Ok.number c.in-Ok.ensures.taken in
+    Answers-yes _ (is, Holds-fresh c.args.geometry blocks c.take_inode.new.disk.blocks files c.requires.held c.args.kind c.args.major c.args.minor c.in-Ok.number c.requires.some c.requires.kind is c.in-Ok.ensures.sound c.in-Ok.ensures.nodes c.in-Ok.ensures.free)
+    c.take_inode.ensures.count c.take_inode.ensures.later
+
+pub returns-in-Err-Inodes : goal.returns-in-Err-Inodes
+returns-in-Err-Inodes g c =
+    let blocks = c.args.disk.now.blocks in
+    let told = c.in-Err-Inodes.is ∙ ap Err c.in-Err-Inodes.field-0-is in
+    Answers-no _ (λ e. cc) (c.take_inode.ensures.unchanged told) c.take_inode.ensures.later
+    (no-number c.args.geometry blocks (files_of c.args.geometry blocks) c.requires.held (c.take_inode.ensures.none told)) refl

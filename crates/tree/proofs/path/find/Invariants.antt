@@ -1,0 +1,16 @@
+use Rattle.std.proofs.Common.{◌≡◌, ◌≤◌, length}
+use Rattle.std.specs.Prelude.{IsSome}
+use Rattle.tree.specs.Held.{files_of}
+use Rattle.unixmodel.specs.Files.{find, follow, parts, slot}
+use Rattle.tree.proofs.path.find.Given as goal
+
+abbrev pub invariant-name : goal.invariant-name
+invariant-name g l = record {
+  same : l.disk.blocks ≡ l.fn.disk.blocks;
+  failures : l.fn.disk.failures ≤ l.disk.failures;
+  used : IsSome (slot (files_of l.geometry l.fn.disk.blocks) l.number);
+  rest : follow (files_of l.geometry l.fn.disk.blocks) l.number (parts l.rest) ≡ find (files_of l.geometry l.fn.disk.blocks) l.directory l.path;
+}
+
+abbrev pub decreases-name : goal.decreases-name
+decreases-name g l = length l.rest

@@ -1,0 +1,40 @@
+use Rattle.std.proofs.Common.{◌≡◌, Some, ap, arith, refl, sym, ◌∙◌}
+use Rattle.std.proofs.lemmas.Result.{err_from_is_err_and}
+use Rattle.names.proofs.Naming.{lookup-used}
+use Rattle.tree.specs.Held.{files_of}
+use Rattle.unixmodel.specs.Files.{lookup, parts}
+use Rattle.tree.proofs.Parts.{above-nothing, above-start, reach-next, start-held}
+use Rattle.tree.proofs.Reading.{Reads-fails, Reads-good, read-later, read-same, read-told}
+use Rattle.tree.proofs.path.reach.Goals as goal
+
+pub returns-in_default : goal.returns-in_default
+returns-in_default g c = Reads-good _ refl (omega arith) (above-nothing (files_of c.args.geometry c.args.disk.now.blocks) c.args.directory c.args.path.now c.in_default.ensures.none)
+
+pub name-init : goal.name-init
+name-init g c =
+    let files = files_of c.args.geometry c.args.disk.now.blocks in
+    record {
+      same = refl;
+      failures = omega arith;
+      used = start-held c.requires.rules c.args.directory c.args.path.now c.requires.directory c.start-number.result c.start-number.ensures;
+      rest = above-start files c.args.directory c.args.path.now c.start-number.result c.in-Some.first.now (parts c.in-Some.after.now) c.start-number.ensures c.in-Some.ensures.some;
+    }
+
+pub returns-in_err-next : goal.returns-in_err-next
+returns-in_err-next g c =
+    Reads-fails c.lookup.ensures c.name.invariant.same c.name.invariant.failures c.in_err-next.was
+    (err_from_is_err_and c.from_residual.result c.from_residual.ensures.1).1
+
+pub name-preserved : goal.name-preserved
+name-preserved g c =
+    let files = files_of c.args.geometry c.args.disk.now.blocks in
+    let i = c.name.invariant in
+    let name = c.name.name.now in
+    let found : lookup files c.name.number name ≡ Some c.in-Some-2.next =
+    sym (sym c.in-Some-2.is ∙ read-told c.lookup.ensures c.in_ok-next.field-0 c.in_ok-next.was ∙ ap (λ b. lookup (files_of c.args.geometry b) c.name.number name) i.same) in
+    record {
+      same = read-same c.lookup.ensures c.in_ok-next.field-0 c.in_ok-next.was ∙ i.same;
+      failures = let f = read-later c.lookup.ensures in let h = i.failures in omega arith;
+      used = lookup-used c.requires.rules c.name.number name c.in-Some-2.next found;
+      rest = sym (reach-next files c.name.number name (parts c.name.rest.now) c.in-Some-first_name.last.now (parts c.in-Some-first_name.after.now) c.in-Some-first_name.ensures.some c.in-Some-2.next found) ∙ i.rest;
+    }

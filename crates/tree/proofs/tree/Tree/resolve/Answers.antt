@@ -1,0 +1,19 @@
+use Rattle.std.proofs.Common.{ap, sym, subst, ◌∙◌}
+use Rattle.std.specs.Prelude.{IsSome}
+use Rattle.names.specs.Rules.{KeepsTree}
+use Rattle.tree.specs.Tree.{FileTree}
+use Rattle.tree.proofs.Serving.{find-serves}
+use Rattle.unixmodel.specs.Files.{slot}
+use Rattle.tree.proofs.tree.Tree.resolve.Goals as goal
+
+pub find-result-requires-clause-rules : goal.find-result-requires-clause-rules
+find-result-requires-clause-rules g c = subst (λ (t : FileTree). KeepsTree t.files) (sym c.self.view_is) c.requires.rules
+
+pub find-result-requires-clause-directory : goal.find-result-requires-clause-directory
+find-result-requires-clause-directory g c = subst (λ (t : FileTree). IsSome (slot t.files c.args.directory)) (sym c.self.view_is) c.requires.directory
+
+pub returns : goal.returns
+returns g c =
+    let up = ap (λ (t : FileTree). t.failed) c.self.view_is ∙ c.requires.up in
+    rw (← c.self.view_is) (find-serves c.self.inside.geometry c.self.inside.disk c.find-result.new.disk c.args.directory c.args.path.now c.self.inside.failed c.is_err-self-inside.result up
+    c.find-result.result c.find-result.ensures c.is_err-self-inside.ensures.value)

@@ -1,0 +1,109 @@
+-- How an entry comes into a directory, and what it needs.
+use Rattle.std.specs.Prelude.{IsSome, List, None, Option, Some, [], if◌then◌else◌, length, nat_lt, option_and_then, option_map, suc, ℕ, ◌*◌, ◌++◌, ◌+◌, ◌-◌, ◌<◌, ◌==◌, ◌∷◌, ◌≡◌, ◌≤◌}
+use Rattle.layout.specs.declared.Geometry.{Geometry}
+use Rattle.layout.specs.Image.{free_blocks, taken_for}
+use Rattle.unixmodel.specs.Counts.{blocks_of}
+use Rattle.unixmodel.specs.Files.{Entry, Files, Node, Spot, change_node, find, free_slot, lookup, most_places, places_at, put, slot, spot_of}
+use Rattle.unixmodel.specs.Files.Node.{Device, Directory, File}
+use Rattle.unixmodel.specs.NameCalls.{Made, linked, made_at}
+
+-- ---- the place of a new entry
+
+-- behind all places, while there is room
+abbrev pub room_behind : ℕ → Option ℕ
+room_behind count = if nat_lt count most_places then Some count else None
+
+-- the first free place, or the end
+abbrev pub room_at : List (Option Entry) → Option ℕ → Option ℕ
+room_at places (Some k) = Some k
+room_at places None = room_behind (length places)
+
+unfoldable pub room_in : List (Option Entry) → Option ℕ
+room_in places = room_at places (free_slot places)
+
+abbrev pub placed : List (Option Entry) → ℕ → Entry → List (Option Entry)
+placed places k e = if nat_lt k (length places) then put places k e else places ++ Some e ∷ []
+
+abbrev pub with_place : ℕ → Entry → Node → Node
+with_place k e (File links bytes) = File links bytes
+with_place k e (Device links major minor) = Device links major minor
+with_place k e (Directory links places) = Directory links (placed places k e)
+
+-- the files with an entry at place k of directory d
+unfoldable pub entered : Files → ℕ → ℕ → Entry → Files
+entered files d k e = change_node files d (with_place k e)
+
+-- ---- the blocks that it takes
+
+-- how many blocks more are taken with a place
+abbrev pub growth : List (Option Entry) → ℕ → ℕ
+growth places k = if nat_lt k (length places) then 0 else taken_for (16 * length places + 16) - taken_for (16 * length places)
+
+-- d is a directory in which place k is the next for an entry
+pub record HasRoom (files : Files) (d k : ℕ) : Type 0 where
+  pub links : ℕ
+  pub places : List (Option Entry)
+  pub here : slot files d ≡ Some (Directory links places)
+  pub room : room_in places ≡ Some k
+
+-- ---- a new name
+
+-- this spot is that of a path, its name is free, and its entry is to stand in place k; there are `more` blocks beside those that
+-- it takes
+pub record HasGap (g : Geometry) (blocks : List (List ℕ)) (files : Files) (d : ℕ) (path : List ℕ) (more : ℕ) (at : Spot) (k : ℕ) : Type 0 where
+  pub spot : spot_of files d path ≡ Some at
+  pub free : lookup files at.directory at.name ≡ None
+  pub links : ℕ
+  pub places : List (Option Entry)
+  pub here : slot files at.directory ≡ Some (Directory (suc links) places)
+  pub room : room_in places ≡ Some k
+  pub fits : growth places k + more ≤ free_blocks g blocks
+
+-- the name is there
+pub record IsThere (files : Files) (d : ℕ) (path : List ℕ) : Type 0 where
+  pub at : Spot
+  pub spot : spot_of files d path ≡ Some at
+  pub named : IsSome (lookup files at.directory at.name)
+
+-- the directory has no room for an entry
+pub record IsFullAt (files : Files) (d : ℕ) (path : List ℕ) : Type 0 where
+  pub at : Spot
+  pub spot : spot_of files d path ≡ Some at
+  pub none : option_and_then room_in (places_at files at.directory) ≡ None
+
+-- the disk has no room for it and `more` blocks
+pub record LacksBlocks (limit : ℕ) (files : Files) (d : ℕ) (path : List ℕ) (more : ℕ) : Type 0 where
+  pub at : Spot
+  pub spot : spot_of files d path ≡ Some at
+  pub places : List (Option Entry)
+  pub here : places_at files at.directory ≡ Some places
+  pub place : ℕ
+  pub room : room_in places ≡ Some place
+  pub few : limit < blocks_of files + growth places place + more
+
+-- ---- a new node
+
+-- a node without bytes, of a type as inodes tell it
+abbrev pub fresh : ℕ → ℕ → ℕ → Node
+fresh kind major minor = if kind == 1 then Directory 1 [] else if kind == 2 then File 1 [] else Device 1 major minor
+
+-- the files with a new file or device
+unfoldable pub made_in : Files → ℕ → List ℕ → Node → Option Made
+made_in files d path node = option_and_then (λ at. made_at files at (λ n. node)) (spot_of files d path)
+
+abbrev pub made_files : Option Made → Option Files
+made_files o = option_map (λ (made : Made). made.files) o
+
+-- ---- another name
+
+-- the files with another name for what the old path reaches
+unfoldable pub linked_in : Files → ℕ → List ℕ → List ℕ → Option Files
+linked_in files d old new = option_and_then (λ n. option_and_then (λ at. linked files at n) (spot_of files d new)) (find files d old)
+
+-- a path reaches a node of which this holds
+pub record Reaches (files : Files) (d : ℕ) (path : List ℕ) (P : Node → Type 0) : Type 0 where
+  pub number : ℕ
+  pub node : Node
+  pub found : find files d path ≡ Some number
+  pub here : slot files number ≡ Some node
+  pub is : P node

@@ -1,0 +1,11 @@
+pub mod Places
+pub mod Held
+pub mod Names
+pub mod Steps
+pub mod Unlinks
+pub mod Answers
+pub mod Paths
+pub mod Entering
+pub mod Lacking
+pub mod Leaves
+pub mod Tree

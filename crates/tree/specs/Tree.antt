@@ -1,0 +1,68 @@
+-- A file system in use, as callers see it.
+use Rattle.std.specs.Prelude.{Bool, Err, IfErr, IfOk, IsErrOf, Ok, OnErr, OnOk, Result, false, true, ℕ, ◌≡◌, ◌≢◌, ◌≤◌}
+use Rattle.blockdev.specs.declared.DeviceFault.{DeviceFault}
+use Rattle.cache.specs.Disk.{Disk}
+use Rattle.layout.specs.declared.Geometry.{Geometry}
+use Rattle.tree.specs.declared.tree.Tree.TheInside.{Inside}
+use Rattle.tree.specs.declared.TreeFault.{TreeFault}
+use Rattle.tree.specs.declared.TreeFault.TheVariants.{Device}
+use Rattle.tree.specs.Held.{IsHeld, files_of}
+use Rattle.unixmodel.specs.Failures.{HasCause, Rises}
+use Rattle.unixmodel.specs.Files.{Files}
+use Rattle.unixmodel.specs.Manifest.{data_blocks_of}
+
+pub record FileTree : Type 0 where
+  pub files : Files
+  -- how many data blocks the disk has
+  pub block_limit : ℕ
+  -- an access of the device has failed: nothing is promised of the files any more
+  pub failed : Bool
+  pub failures : ℕ
+
+-- the files that a disk holds, before any access has failed
+abbrev pub tree_over : Geometry → Disk → FileTree
+tree_over g disk = record { files = files_of g disk.blocks; block_limit = data_blocks_of g.size g.inodes; failed = false; failures = disk.failures }
+
+abbrev pub tree_of : {D : Type 0} → Inside D → FileTree
+tree_of t = record {
+  files = files_of t.geometry t.disk.blocks;
+  block_limit = data_blocks_of t.geometry.size t.geometry.inodes;
+  failed = t.failed;
+  failures = t.disk.failures;
+}
+
+abbrev pub IsInside : {D : Type 0} → Inside D → Type 0
+IsInside t = t.failed ≡ false → IsHeld t.geometry t.disk.blocks
+
+-- what a call on a file system answers: what is told holds, and no access has failed; an error is told only where the device
+-- counts one
+pub record Serves {T : Type 0} (old new : FileTree) (result : Result T DeviceFault) (Told : T → Type 0) : Type 0 where
+  pub told : IfOk result Told
+  pub up : OnOk result (new.failed ≡ false)
+  pub down : OnErr result (new.failed ≡ true)
+  pub cause : HasCause old.failures new.failures result
+
+-- ---- calls on names
+
+abbrev pub is_device : TreeFault → Bool
+is_device Device = true
+is_device _ = false
+
+abbrev pub has_failed : {T : Type 0} → Result T TreeFault → Bool
+has_failed (Ok x) = false
+has_failed (Err fault) = is_device fault
+
+-- a refusal: what it means, why it is, and the files are as they were
+pub record IsRefusal (old new : FileTree) (Refused Why : Type 0) : Type 0 where
+  pub refused : Refused
+  pub why : Why
+  pub same : new.files ≡ old.files
+
+-- what a call that changes names answers
+pub record Acts {T : Type 0} (old new : FileTree) (result : Result T TreeFault) (Done : T → Type 0) (Refused : Type 0) (Why : TreeFault → Type 0) : Type 0 where
+  pub done : IfOk result Done
+  pub refused : IfErr result (λ fault. fault ≢ Device → IsRefusal old new Refused (Why fault))
+  pub failed : new.failed ≡ has_failed result
+  pub limit : new.block_limit ≡ old.block_limit
+  pub later : old.failures ≤ new.failures
+  pub cause : IsErrOf result Device → Rises old.failures new.failures

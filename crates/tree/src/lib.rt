@@ -1,0 +1,58 @@
+//! Files by name: the places of directories, and how names come and go.
+#![tactic(auto)]
+
+mod entering;
+mod making;
+mod path;
+mod place;
+mod removing;
+mod step;
+mod tree;
+
+use blockdev::DeviceFault;
+pub use making::{Leaf, create, link};
+pub use path::{find, spot};
+pub use place::{Found, find_name};
+pub use removing::unlink;
+use thiserror::Error;
+pub use tree::Tree;
+
+/// Why a call on names is refused.
+#[derive(Clone, Copy, Debug, PartialEq, Eq, Error)]
+pub enum TreeFault {
+    #[error("it is not found")]
+    NotFound = 1,
+    #[error("it is no directory")]
+    NotDir,
+    #[error("the name is there already")]
+    Exists,
+    #[error("it is a directory")]
+    IsDir,
+    #[error("the directory has entries")]
+    NotEmpty,
+    #[error("the name is a dot or two")]
+    DotName,
+    #[error("the directory has no links")]
+    DeadDir,
+    #[error("no link is left")]
+    Links,
+    #[error("no block is free")]
+    Blocks,
+    #[error("no inode is free")]
+    Inodes,
+    #[error("the directory is full")]
+    Full,
+    #[error("a device access failed")]
+    Device,
+}
+
+impl From<DeviceFault> for TreeFault {
+    ghost use Rattle.std.specs.Prelude.{◌≡◌};
+    ghost use Rattle.tree.specs.declared.TreeFault.TheVariants.{Device};
+
+    ghost from_gives = { λ _ fault. fault ≡ Device };
+
+    fn from(_fault: DeviceFault) -> TreeFault {
+        TreeFault::Device
+    }
+}

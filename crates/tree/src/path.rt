@@ -1,0 +1,137 @@
+//! Paths: their names, and what they reach.
+
+ghost use Rattle.std.specs.Prelude.{◌≡◌, ◌<◌, IfNone, IfSome, IsSome, None, Some, [], ◌∷◌, length, not, option_map, position, ◌==◌};
+ghost use Rattle.names.specs.Rules.{KeepsTree};
+ghost use Rattle.tree.specs.Answers.{Answers};
+ghost use Rattle.tree.specs.Held.{IsHeld, files_of};
+ghost use Rattle.tree.specs.Paths.{LacksSpot, above};
+ghost use Rattle.tree.specs.Steps.{Reads};
+ghost use Rattle.unixmodel.specs.Files.{find, parts, slot, spot_of, start_of};
+
+use crate::TreeFault;
+use crate::place::{DIRECTORY, lookup};
+use blockdev::{BlockDev, DeviceFault};
+use cache::Cache;
+use inode::stat;
+use layout::Geometry;
+
+// The number of the root.
+const ROOT: usize = 1;
+
+// The longest name.
+const NAME_SIZE: usize = 14;
+
+// The number from which a path is followed.
+fn start(directory: usize, path: &[u8]) -> usize
+    ensures { result ≡ start_of directory path.now }
+{
+    if path.is_empty() {
+        return directory;
+    }
+    if path[0] == b'/' { ROOT } else { directory }
+}
+
+// Where the first name of a path begins.
+fn name_start(path: &[u8]) -> Option<usize>
+    ensures { result ≡ position (λ b. not (b == 0x2f)) path.now }
+{
+    path.iter().position(|b| *b != b'/')
+}
+
+// The place of the first slash.
+fn first_slash(path: &[u8]) -> Option<usize>
+    ensures { result ≡ position (λ b. b == 0x2f) path.now }
+{
+    path.iter().position(|b| *b == b'/')
+}
+
+// The first name of a path, cut to 14 bytes, and what follows it.
+fn first_name<'a>(path: &'a [u8]) -> Option<(&'a [u8], &'a [u8])>
+    ensures some { IfSome result (λ two. parts path.now ≡ two.0.now ∷ parts two.1.now) }
+    ensures shorter { IfSome result (λ two. length two.1.now < length path.now) }
+    ensures none { IfNone result (parts path.now ≡ []) }
+{
+    let from = name_start(path)?;
+    let rest = &path[from..];
+    let end = first_slash(rest).unwrap_or(rest.len());
+    Some((&rest[..end.min(NAME_SIZE)], &rest[end..]))
+}
+
+/// The number that a path reaches from a directory.
+pub fn find<D: BlockDev>(
+    disk: &mut Cache<D>,
+    geometry: Geometry,
+    directory: usize,
+    path: &[u8],
+) -> Result<Option<usize>, DeviceFault>
+    requires held { IsHeld geometry disk.old.blocks }
+    requires rules { KeepsTree (files_of geometry disk.old.blocks) }
+    requires directory { IsSome (slot (files_of geometry disk.old.blocks) directory) }
+    ensures { Reads disk.old disk.new result (λ number. number ≡ find (files_of geometry disk.old.blocks) directory path.now) }
+{
+    let mut number = start(directory, path);
+    let mut rest = path;
+    'name: while let Some((name, after)) = first_name(rest) {
+        let Some(next) = lookup(disk, geometry, number, name)? else {
+            return Ok(None);
+        };
+        number = next;
+        rest = after;
+    }
+    Ok(Some(number))
+}
+
+// What all but the last name of a path reach, and the last.
+fn reach<'a, D: BlockDev>(
+    disk: &mut Cache<D>,
+    geometry: Geometry,
+    directory: usize,
+    path: &'a [u8],
+) -> Result<Option<(usize, &'a [u8])>, DeviceFault>
+    requires held { IsHeld geometry disk.old.blocks }
+    requires rules { KeepsTree (files_of geometry disk.old.blocks) }
+    requires directory { IsSome (slot (files_of geometry disk.old.blocks) directory) }
+    ensures { Reads disk.old disk.new result (λ o. option_map (λ two. (two.0, two.1.now)) o ≡ above (files_of geometry disk.old.blocks) directory path.now) }
+{
+    let Some((first, after)) = first_name(path) else {
+        return Ok(None);
+    };
+    let mut number = start(directory, path);
+    let mut name = first;
+    let mut rest = after;
+    'name: while let Some((last, after)) = first_name(rest) {
+        let Some(next) = lookup(disk, geometry, number, name)? else {
+            return Ok(None);
+        };
+        number = next;
+        name = last;
+        rest = after;
+    }
+    Ok(Some((number, name)))
+}
+
+/// The directory in which the last name of a path stands or is to stand, and that name. `NotFound` comes where nothing stands
+/// above it, `NotDir` where that is no directory, and `DeadDir` where it is one without links.
+pub fn spot<'a, D: BlockDev>(
+    disk: &mut Cache<D>,
+    geometry: Geometry,
+    directory: usize,
+    path: &'a [u8],
+) -> Result<(usize, &'a [u8]), TreeFault>
+    requires held { IsHeld geometry disk.old.blocks }
+    requires rules { KeepsTree (files_of geometry disk.old.blocks) }
+    requires directory { IsSome (slot (files_of geometry disk.old.blocks) directory) }
+    ensures { Answers disk.old disk.new result (λ two. (spot_of (files_of geometry disk.old.blocks) directory path.now ≡ Some (record { directory = two.0; name = two.1.now })) × (disk.new.blocks ≡ disk.old.blocks)) (spot_of (files_of geometry disk.old.blocks) directory path.now ≡ None) (LacksSpot (files_of geometry disk.old.blocks) directory path.now) }
+{
+    let Some((number, name)) = reach(disk, geometry, directory, path)? else {
+        return Err(TreeFault::NotFound);
+    };
+    let node = stat(disk, geometry, number)?;
+    if node.kind != DIRECTORY {
+        return Err(TreeFault::NotDir);
+    }
+    if node.links == 0 {
+        return Err(TreeFault::DeadDir);
+    }
+    Ok((number, name))
+}
