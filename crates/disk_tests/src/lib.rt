@@ -1,0 +1,23 @@
+//! The crates of the disk on worked rows, through their public calls: records and their bytes, the cache, free blocks and
+//! inodes, the bytes of files, images, their making, and the files of an image in use. Each expected value is worked out
+//! apart from the code.
+#![tactic(auto)]
+
+#[cfg(test)]
+mod blocks;
+#[cfg(test)]
+mod cached;
+#[cfg(test)]
+mod images;
+#[cfg(test)]
+mod inodes;
+#[cfg(test)]
+mod maker;
+#[cfg(test)]
+mod mounted;
+#[cfg(test)]
+mod records;
+#[cfg(test)]
+mod turned;
+#[cfg(test)]
+mod volume;

@@ -1,7 +1,0 @@
-use Rattle.std.proofs.Common.{ℕ, ◌<◌, ◌≤◌}
-use Rattle.unixmodel.specs.Image.{kind_in, length_in}
-use Rattle.image.specs.Pieces.{FitsKind}
-use Rattle.image.proofs.kinds.has_sizes.Given as goal
-
-abbrev pub invariant-loop-n : goal.invariant-loop-n
-invariant-loop-n l = (m : ℕ) → 1 ≤ m → m < l.n → FitsKind (kind_in l.image m) (length_in l.image m)

@@ -1,6 +1,0 @@
-use Rattle.image.specs.Marks.{HasMarks}
-use Rattle.image.proofs.Marking.{named_before}
-use Rattle.image.proofs.marks.names_once.Given as goal
-
-abbrev pub invariant-loop-n : goal.invariant-loop-n
-invariant-loop-n l = HasMarks (named_before l.image l.n) l.marks

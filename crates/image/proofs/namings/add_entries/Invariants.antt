@@ -1,7 +1,0 @@
-use Rattle.std.proofs.Common.{◌≡◌, ◌++◌}
-use Rattle.image.specs.Entries.{entries_to}
-use Rattle.image.specs.Namings.{namings_of}
-use Rattle.image.proofs.namings.add_entries.Given as goal
-
-abbrev pub invariant-loop-k : goal.invariant-loop-k
-invariant-loop-k g l = l.namings.items ≡ l.initial.namings.items ++ namings_of l.directory (entries_to l.bytes l.k)

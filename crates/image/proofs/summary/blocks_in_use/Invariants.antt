@@ -1,9 +1,0 @@
-use Rattle.std.proofs.Common.{◌≡◌, ◌≤◌, ◌*◌, length}
-use Rattle.image.proofs.Marking.{named_before}
-use Rattle.image.proofs.summary.blocks_in_use.Given as goal
-
-abbrev pub invariant-loop-n : goal.invariant-loop-n
-invariant-loop-n l = record {
-  total : l.total ≡ length (named_before l.image l.n);
-  most : l.total ≤ 269 * l.n;
-}

@@ -1,9 +1,0 @@
-use Rattle.std.proofs.Common.{◌≡◌, length, take}
-use Rattle.image.specs.Namings.{HasFirsts}
-use Rattle.image.proofs.tables.find_firsts.Given as goal
-
-abbrev pub invariant-loop-naming : goal.invariant-loop-naming
-invariant-loop-naming l = record {
-  long : length l.parents ≡ length l.initial.parents;
-  found : HasFirsts (take l.naming-index l.namings) l.parents;
-}

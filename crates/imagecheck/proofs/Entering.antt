@@ -1,0 +1,121 @@
+-- The places of a directory, one after the other.
+use Rattle.std.proofs.Common.{◌≡◌, ◌≢◌, ℕ, ◌+◌, ◌-◌, ◌*◌, ◌/◌, ◌<◌, ◌≤◌, List, [], ◌∷◌, ◌++◌, None, Option, Some, length, get_or, take, drop, ap, sym, refl, ◌∙◌, arith, subst, true, false}
+use Rattle.std.specs.Prelude.{All, IsSome, is_some, ◌==◌}
+use Rattle.std.specs.List.{list_all}
+use Rattle.std.specs.Option.{option_to_list}
+use Rattle.std.proofs.lemmas.Bool.{cond-false, cond-true, false≢true}
+use Rattle.std.proofs.lemmas.List.{drop-append-le, drop_all, length-take, length-take-le, take-append-drop, take_all, take_more}
+use Rattle.std.proofs.lemmas.List.Elements.{All-append, All-cons, All-head, All-nil, filter_map-append}
+use Rattle.unixmodel.specs.Files.{Entry, slot, taken}
+use Rattle.unixmodel.specs.Image.{inodes_in, kind_in}
+use Rattle.unixmodel.specs.Numbers.{number_at}
+use Rattle.imagecheck.specs.Entries.{Holds, entries_in, entries_to}
+use Rattle.imagerules.specs.Places.{before_zeros, files_in, place_of_bytes, places_in, without_zeros}
+use Rattle.imagerules.proofs.Lists.{All-left, All-right}
+use Rattle.imagerules.proofs.Nodes.{file_in-free, file_in-used, file_in-zero, slot-files_in, slot-past}
+use Rattle.imagerules.proofs.Spelling.{before_zeros-plain, length-places_in, slot-places_in}
+
+-- ---- the zeros at the end of a name
+
+pub without_zeros-zero : (xs : List ℕ) → without_zeros (xs ++ 0 ∷ []) ≡ without_zeros xs
+without_zeros-zero [] = refl
+without_zeros-zero (b ∷ bs) = ap (before_zeros b) (without_zeros-zero bs)
+
+before_zeros-some : (x b : ℕ) (xs : List ℕ) → before_zeros x (xs ++ b ∷ []) ≡ x ∷ (xs ++ b ∷ [])
+before_zeros-some x b [] = refl
+before_zeros-some x b (y ∷ ys) = refl
+
+pub without_zeros-last : (xs : List ℕ) (b : ℕ) → b ≢ 0 → without_zeros (xs ++ b ∷ []) ≡ xs ++ b ∷ []
+without_zeros-last [] b h = before_zeros-plain b [] h
+without_zeros-last (x ∷ xs) b h = ap (before_zeros x) (without_zeros-last xs b h) ∙ before_zeros-some x b xs
+
+module _ (xs : List ℕ) (n : ℕ) (low : 1 ≤ n) (high : n ≤ length xs) where
+  front-is : take n xs ≡ take (n - 1) xs ++ get_or xs (n - 1) 0 ∷ []
+  front-is = let e : n ≡ n - 1 + 1 = omega arith in ap (λ m. take m xs) e ∙ take_more xs (n - 1) 0 (omega arith)
+
+  pub trimmed_more : get_or xs (n - 1) 0 ≡ 0 → without_zeros (take (n - 1) xs) ≡ without_zeros (take n xs)
+  trimmed_more z = sym (ap without_zeros (front-is ∙ ap (λ b. take (n - 1) xs ++ b ∷ []) z) ∙ without_zeros-zero (take (n - 1) xs))
+
+  pub trimmed_all : get_or xs (n - 1) 0 ≢ 0 → take n xs ≡ without_zeros (take n xs)
+  trimmed_all z = front-is ∙ sym (without_zeros-last (take (n - 1) xs) (get_or xs (n - 1) 0) z) ∙ ap without_zeros (sym front-is)
+
+-- ---- numbers in use
+
+pub used_some : (image : List ℕ) (n : ℕ) → 1 ≤ n → n < inodes_in image → kind_in image n ≢ 0 → IsSome (slot (files_in image) n)
+used_some image n low high used = ap is_some (slot-files_in image n high ∙ file_in-used image n low used)
+
+pub none_past : (image : List ℕ) (n : ℕ) → inodes_in image ≤ n → IsSome (slot (files_in image) n) → ⊥
+none_past image n past h = false≢true (sym (ap is_some (slot-past image n past)) ∙ h)
+
+pub none_free : (image : List ℕ) (n : ℕ) → n < inodes_in image → kind_in image n ≡ 0 → IsSome (slot (files_in image) n) → ⊥
+none_free image n high free h = false≢true (sym (ap is_some (slot-files_in image n high ∙ file_in-free image n free)) ∙ h)
+
+pub none_zero : (image : List ℕ) (n : ℕ) → 0 < inodes_in image → n ≡ 0 → IsSome (slot (files_in image) n) → ⊥
+none_zero image n some z h = false≢true (sym (ap is_some (ap (slot (files_in image)) z ∙ slot-files_in image 0 some ∙ file_in-zero image)) ∙ h)
+
+-- ---- one place
+
+pub place-free : (bytes : List ℕ) → list_all (λ b. b == 0) bytes ≡ true → place_of_bytes bytes ≡ None
+place-free bytes h = cond-true (list_all (λ b. b == 0) bytes) None (Some (record { name = without_zeros (drop 2 bytes); number = number_at 2 0 bytes })) h
+
+pub place-taken : (bytes : List ℕ) → list_all (λ b. b == 0) bytes ≡ false → place_of_bytes bytes ≡ Some (record { name = without_zeros (drop 2 bytes); number = number_at 2 0 bytes })
+place-taken bytes h = cond-false (list_all (λ b. b == 0) bytes) None (Some (record { name = without_zeros (drop 2 bytes); number = number_at 2 0 bytes })) h
+
+-- ---- the entries, one place more
+
+taken_one : (o : Option Entry) → taken (o ∷ []) ≡ option_to_list o
+taken_one None = refl
+taken_one (Some e) = refl
+
+pub taken_more : (places : List (Option Entry)) (k : ℕ) → 2 ≤ k → k < length places → taken (drop 2 (take (k + 1) places)) ≡ taken (drop 2 (take k places)) ++ option_to_list (get_or places k None)
+taken_more places k low high =
+    let two : 2 ≤ length (take k places) = omega (arith, length-take-le k places (omega arith)) in
+    ap (λ os. taken (drop 2 os)) (take_more places k None high)
+    ∙ ap taken (drop-append-le 2 (take k places) (get_or places k None ∷ []) two)
+    ∙ filter_map-append (λ o. o) (drop 2 (take k places)) (get_or places k None ∷ [])
+    ∙ ap (λ r. taken (drop 2 (take k places)) ++ r) (taken_one (get_or places k None))
+
+module _ (bytes : List ℕ) (k : ℕ) (low : 2 ≤ k) (high : k < length bytes / 16) where
+  pub entries_more : entries_to bytes (k + 1) ≡ entries_to bytes k ++ option_to_list (place_of_bytes (take 16 (drop (16 * k) bytes)))
+  entries_more =
+      taken_more (places_in bytes) k low (omega (arith, length-places_in bytes))
+      ∙ ap (λ o. entries_to bytes k ++ option_to_list o) (slot-places_in bytes k high)
+
+  -- the entries from place k on
+  pub entries_split : (rest : List Entry) × (entries_in bytes ≡ entries_to bytes (k + 1) ++ rest)
+  entries_split =
+      let places = places_in bytes in
+      let two : 2 ≤ length (take (k + 1) places) = omega (arith, length-take-le (k + 1) places (omega (arith, length-places_in bytes))) in (
+        taken (drop (k + 1) places),
+        ap (λ os. taken (drop 2 os)) (sym (take-append-drop (k + 1) places))
+            ∙ ap taken (drop-append-le 2 (take (k + 1) places) (drop (k + 1) places) two)
+            ∙ filter_map-append (λ o. o) (drop 2 (take (k + 1) places)) (drop (k + 1) places),
+      )
+
+pub entries_none : (bytes : List ℕ) → entries_to bytes 2 ≡ []
+entries_none bytes = ap taken (drop_all 2 (take 2 (places_in bytes)) (omega (arith, length-take 2 (places_in bytes))))
+
+pub entries_all : (bytes : List ℕ) (k : ℕ) → length bytes / 16 ≤ k → entries_to bytes k ≡ entries_in bytes
+entries_all bytes k h = ap (λ os. taken (drop 2 os)) (take_all k (places_in bytes) (omega (arith, length-places_in bytes)))
+
+module _ (P : Entry → Type 0) where
+  All-option : (o : Option Entry) → Holds P o → All P (option_to_list o)
+  All-option None h = All-nil P
+  All-option (Some e) h = All-cons P e [] h (All-nil P)
+
+  pub Holds-option : (o : Option Entry) → All P (option_to_list o) → Holds P o
+  Holds-option None h = tt
+  Holds-option (Some e) h = All-head P e [] h
+
+  module _ (bytes : List ℕ) (k : ℕ) (low : 2 ≤ k) (high : k < length bytes / 16) where
+    pub all_more : All P (entries_to bytes k) → Holds P (place_of_bytes (take 16 (drop (16 * k) bytes))) → All P (entries_to bytes (k + 1))
+    all_more h here =
+        subst (All P) (sym (entries_more bytes k low high))
+        (All-append P (entries_to bytes k) (option_to_list (place_of_bytes (take 16 (drop (16 * k) bytes)))) h (All-option (place_of_bytes (take 16 (drop (16 * k) bytes))) here))
+
+    pub all_here : All P (entries_in bytes) → Holds P (place_of_bytes (take 16 (drop (16 * k) bytes)))
+    all_here h =
+        let split = entries_split bytes k low high in
+        let front : All P (entries_to bytes (k + 1)) = All-left P (entries_to bytes (k + 1)) split.0 (subst (All P) split.1 h) in
+        Holds-option (place_of_bytes (take 16 (drop (16 * k) bytes)))
+        (All-right P (entries_to bytes k) (option_to_list (place_of_bytes (take 16 (drop (16 * k) bytes)))) (subst (All P) (entries_more bytes k low high) front))

@@ -1,0 +1,13 @@
+pub mod Collecting
+pub mod Copying
+pub mod Counting
+pub mod Distinct
+pub mod Entering
+pub mod Naming
+pub mod Parents
+pub mod Paths
+pub mod Reaching
+pub mod Sounding
+pub mod Standing
+pub mod Telling
+pub mod Walking

@@ -1,0 +1,90 @@
+-- What a result of a pass tells, from what the pass before it tells.
+use Rattle.std.proofs.Common.{Err, List, Ok, Result, length, ℕ, ◌≡◌, ◌≤◌, ap, arith, subst, sym, ◌∙◌}
+use Rattle.std.specs.Prelude.{IfErr, IfOk, IsErrOf, OnOk}
+use Rattle.unixmodel.specs.Failures.{Rises}
+use Rattle.unixmodel.specs.Files.{Files}
+use Rattle.unixmodel.specs.Image.{Denotes, named_blocks, numbers_in_use}
+use Rattle.imagecheck.specs.Faults.{Finds, IsOfImage, Tells}
+use Rattle.imagerules.specs.Places.{files_in}
+use Rattle.imagecheck.specs.Summaries.{IsSummary}
+use Rattle.imagecheck.specs.declared.ImageFault.{ImageFault}
+use Rattle.imagecheck.specs.declared.rules.Summary.{Summary}
+use Rattle.imagecheck.specs.declared.ImageFault.TheVariants.{Address, Bitmap, Device, Entry, Length, Links, Magic, NoMemory, NodeType, Numbers, SharedBlock, Size, Unreached}
+use Rattle.imagecheck.specs.declared.ImageFault.TheVariants as fault
+use Rattle.imagerules.proofs.Denoting.{HasEntries-denotes, HasKinds-denotes, HasLinks-denotes, HasSizes-denotes, IsReached-denotes}
+
+-- a fault that holds rules out that the image denotes files
+pub Tells-not : (image : List ℕ) (files : Files) (fault : ImageFault) → IsOfImage fault → Tells image fault → Denotes image files → ⊥
+Tells-not image files fault.Length i t d = t (record { least = let l = d.super.size_least in let w = d.super.whole in omega arith; whole = d.super.whole })
+Tells-not image files fault.Magic i t d = t.1 d.super.magic
+Tells-not image files fault.Numbers i t d = t.2 d.super
+Tells-not image files fault.NodeType i t d = t.1 (HasKinds-denotes image files d)
+Tells-not image files fault.Size i t d = t.2 (HasSizes-denotes image files d)
+Tells-not image files fault.Address i t d = t.1 (record { blocks = d.blocks; unused = d.unused })
+Tells-not image files fault.SharedBlock i t d = t.2 d.once
+Tells-not image files fault.Bitmap i t d = t.3 d.bitmap
+Tells-not image files fault.Entry i t d = t.1 (HasEntries-denotes image files d)
+Tells-not image files fault.Links i t d = t.2 (HasLinks-denotes image files d)
+Tells-not image files fault.Unreached i t d = t.3 (IsReached-denotes image files d)
+Tells-not image files fault.Device i t d = i
+Tells-not image files fault.NoMemory i t d = i
+
+pub OnOk-from : {T E P Q : Type 0} (r : Result T E) → OnOk r P → (P → Q) → OnOk r Q
+OnOk-from (Ok x) h f = f h
+OnOk-from (Err e) h f = tt
+
+-- a fault of the image that is told rules out that it denotes files
+pub refused-from : {T : Type 0} (image : List ℕ) (r : Result T ImageFault) → IfErr r (λ fault. Tells image fault) → IfErr r (λ fault. IsOfImage fault → (files : Files) → Denotes image files → ⊥)
+refused-from image (Ok x) h = tt
+refused-from image (Err fault) h = λ i files d. Tells-not image files fault i h d
+
+-- a pass over an image tells what it finds, and blames no device
+pub Finds-told : (image : List ℕ) (fault : ImageFault) → Finds image fault → Tells image fault
+Finds-told image Length h = h
+Finds-told image Magic h = h
+Finds-told image Numbers h = h
+Finds-told image NodeType h = h
+Finds-told image Size h = h
+Finds-told image Address h = h
+Finds-told image SharedBlock h = h
+Finds-told image Bitmap h = h
+Finds-told image Entry h = h
+Finds-told image Links h = h
+Finds-told image Unreached h = h
+Finds-told image Device h = absurd h
+Finds-told image NoMemory h = h
+
+pub Finds-not_device : {T : Type 0} (image : List ℕ) (r : Result T ImageFault) → IfErr r (Finds image) → IsErrOf r Device → ⊥
+Finds-not_device image r h told = subst (λ x. IfErr x (Finds image)) told h
+
+pub NoMemory-found : {T : Type 0} (image : List ℕ) (r : Result T ImageFault) (fault : ImageFault) → r ≡ Err fault → fault ≡ NoMemory → IfErr r (Finds image)
+NoMemory-found image r fault e memory = subst (λ x. IfErr x (Finds image)) (sym (e ∙ ap Err memory)) tt
+
+-- the parts of a summary
+pub record IsTold (image : List ℕ) (r : Result Summary ImageFault) : Type 0 where
+  pub denotes : OnOk r (Denotes image (files_in image))
+  pub inodes : IfOk r (λ summary. summary.inodes ≡ length (numbers_in_use image))
+  pub blocks : IfOk r (λ summary. summary.blocks ≡ length (named_blocks image))
+
+pub Summary-told : (image : List ℕ) (r : Result Summary ImageFault) → IfOk r (IsSummary image) → IsTold image r
+Summary-told image (Ok summary) h = record { denotes = h.denotes; inodes = h.inodes; blocks = h.blocks }
+Summary-told image (Err fault) h = record { denotes = tt; inodes = tt; blocks = tt }
+
+-- a fault of the image is neither the device's nor memory's
+pub record IsOwn {T : Type 0} (r : Result T ImageFault) : Type 0 where
+  pub device : IsErrOf r Device → ⊥
+  pub memory : IsErrOf r NoMemory → ⊥
+
+pub IsOfImage-not : {T : Type 0} (r : Result T ImageFault) → IfErr r IsOfImage → IsOwn r
+IsOfImage-not r h = record {
+  device = λ told. subst (λ x. IfErr x IsOfImage) told h;
+  memory = λ told. subst (λ x. IfErr x IsOfImage) told h;
+}
+
+-- a result that is handed on has the fault of the one before it
+pub same-fault : {T U E : Type 0} (r : Result T E) (x y : E) → r ≡ Err x → r ≡ Err y → IsErrOf {T = U} (Err x) y
+same-fault r x y p q = let e : x ≡ y = cc in ap Err e
+
+-- a rise from a later count is one from an earlier
+pub Rises-before : (a b c : ℕ) → a ≤ b → Rises b c → Rises a c
+Rises-before a b c h r = omega arith

@@ -1,0 +1,130 @@
+-- Walks up from directories, which mark whom they meet.
+use Rattle.std.proofs.Common.{◌≡◌, ◌≢◌, ℕ, ◌+◌, ◌<◌, ◌≤◌, List, length, get_or, replicate, set, ap, sym, ◌∙◌, arith, subst, cond, inl, inr, zero, suc}
+use Rattle.std.specs.Prelude.{count_by, slice_index, ◌==◌, ◌⊎◌}
+use Rattle.std.proofs.lemmas.Bool.{cases_eq, cases_lt, cond-false, cond-true, eq-eqb, ne_eqb}
+use Rattle.std.proofs.lemmas.List.{get_or-replicate, get_or-set_other, get_or-set_same, get_or_past, length-replicate}
+use Rattle.std.proofs.lemmas.List.Sums.{sum_by-set}
+use Rattle.unixmodel.specs.Files.{Files}
+use Rattle.unixmodel.specs.Image.{parent_of}
+use Rattle.imagecheck.specs.Reach.{Climbs, HasWalked, ancestor}
+use Rattle.imagecheck.proofs.Reaching.{Climbs-child}
+
+-- a walk from a start has come to n: whom it met is marked with the start
+pub record IsWalk (files : Files) (start n : ℕ) (marks : List ℕ) : Type 0 where
+  pub root : slice_index marks 1 ≡ 1
+  pub most : (m : ℕ) → slice_index marks m ≤ start
+  pub before : (m : ℕ) → slice_index marks m ≢ 0 → slice_index marks m ≢ start → Climbs files m
+  pub met : (m : ℕ) → slice_index marks m ≡ start → Climbs files n → Climbs files m
+  pub first : Climbs files n → Climbs files start
+  pub next : (m : ℕ) → slice_index marks m ≡ start → (slice_index marks (parent_of files m) ≡ start) ⊎ (parent_of files m ≡ n)
+
+pub IsWalk-start : (files : Files) (start : ℕ) (marks : List ℕ) → HasWalked files start marks → IsWalk files start start marks
+IsWalk-start files start marks h = record {
+  root = h.root;
+  most = λ m. omega (arith, h.before m);
+  before = λ m some other. h.climbs m some;
+  met = λ m here c. absurd (omega (arith, h.before m));
+  first = λ c. c;
+  next = λ m here. absurd (omega (arith, h.before m));
+}
+
+module _ (files : Files) (start n : ℕ) (marks : List ℕ) (h : IsWalk files start n marks) (above : 1 < start) where
+  -- one step up
+  pub IsWalk-more : n < length marks → slice_index marks n ≡ 0 → IsWalk files start (parent_of files n) (set marks n start)
+  IsWalk-more within free =
+      let same : get_or (set marks n start) n 0 ≡ start = get_or-set_same marks n start 0 within in
+      let other = λ (m : ℕ) (not_n : m ≢ n). get_or-set_other marks n m start 0 not_n in
+      record {
+        root = other 1 (λ e. let z : slice_index marks 1 ≡ 0 = ap (λ k. get_or marks k 0) e ∙ free in let r = h.root in absurd (omega arith)) ∙ h.root;
+        most = λ m. elim (cases_eq m n) [
+          | inl e ↦ let k : get_or (set marks n start) m 0 ≡ start = ap (λ k. get_or (set marks n start) k 0) e ∙ same in omega arith
+          | inr not_n ↦ let k = other m not_n in omega (arith, h.most m)
+        ];
+        before = λ m some not. elim (cases_eq m n) [
+          | inl e ↦ absurd (not (ap (λ k. get_or (set marks n start) k 0) e ∙ same))
+          | inr not_n ↦ h.before m (λ z. some (other m not_n ∙ z)) (λ z. not (other m not_n ∙ z))
+        ];
+        met = λ m here c. elim (cases_eq m n) [
+          | inl e ↦ subst (Climbs files) (sym e) (Climbs-child files n c)
+          | inr not_n ↦ h.met m (sym (other m not_n) ∙ here) (Climbs-child files n c)
+        ];
+        first = λ c. h.first (Climbs-child files n c);
+        next = λ m here. elim (cases_eq m n) [
+          | inl e ↦ inr (ap (parent_of files) e)
+          | inr not_n ↦ elim (cases_eq (parent_of files m) n) [
+            | inl e ↦ inl (ap (λ k. get_or (set marks n start) k 0) e ∙ same)
+            | inr up ↦ elim (h.next m (sym (other m not_n) ∙ here)) [
+              | inl e ↦ inl (other (parent_of files m) up ∙ e)
+              | inr e ↦ absurd (up e)
+            ]
+          ]
+        ];
+      }
+
+  -- it comes to one that an earlier walk met
+  pub climbs_before : slice_index marks n ≢ 0 → slice_index marks n ≢ start → Climbs files start
+  climbs_before some other = h.first (h.before n some other)
+
+  pub HasWalked-more : slice_index marks n ≢ 0 → slice_index marks n ≢ start → HasWalked files (start + 1) marks
+  HasWalked-more some other = record {
+    root = h.root;
+    before = λ m. omega (arith, h.most m);
+    climbs = λ m used. elim (cases_eq (slice_index marks m) start) [
+      | inl e ↦ h.met m e (h.before n some other)
+      | inr other_mark ↦ h.before m used other_mark
+    ];
+  }
+
+  -- it comes round to one of its own: none of these climbs to the root
+  round_on : slice_index marks n ≡ start → (k m : ℕ) → slice_index marks m ≡ start → ancestor files k m ≡ 1 → ⊥
+  round_on own zero m here e = let one : slice_index marks m ≡ 1 = ap (λ i. get_or marks i 0) e ∙ h.root in absurd (omega arith)
+  round_on own (suc k) m here e = elim (h.next m here) [
+    | inl up ↦ round_on own k (parent_of files m) up e
+    | inr up ↦ round_on own k (parent_of files m) (ap (λ i. get_or marks i 0) up ∙ own) e
+  ]
+
+  pub round_not : slice_index marks n ≡ start → Climbs files n → ⊥
+  round_not own c = round_on own c.steps n own c.root
+
+-- ---- the numbers without a mark get fewer
+
+abbrev pub unmarked : List ℕ → ℕ
+unmarked marks = count_by (λ m. m == 0) marks
+
+pub unmarked_less : (marks : List ℕ) (n start : ℕ) → n < length marks → get_or marks n 0 ≡ 0 → start ≢ 0 → unmarked (set marks n start) < unmarked marks
+unmarked_less marks n start within free some =
+    let was : cond {A = ℕ} (get_or marks n 0 == 0) 1 0 ≡ 1 = cond-true (get_or marks n 0 == 0) 1 0 (eq-eqb (get_or marks n 0) 0 free) in
+    let now : cond {A = ℕ} (start == 0) 1 0 ≡ 0 = cond-false (start == 0) 1 0 (ne_eqb start 0 some) in
+    let sums : unmarked (set marks n start) + cond {A = ℕ} (get_or marks n 0 == 0) 1 0 ≡ unmarked marks + cond {A = ℕ} (start == 0) 1 0 = sum_by-set (λ m. cond (m == 0) 1 0) marks n start 0 within in
+    omega arith
+
+-- ---- the walks one after the other
+
+none_marked : (count m : ℕ) → get_or {A = ℕ} (replicate count 0) m 0 ≡ 0
+none_marked count m = elim (cases_lt m count) [
+  | inl l ↦ get_or-replicate count m 0 0 l
+  | inr r ↦ get_or_past (replicate count 0) m 0 (omega (arith, length-replicate {A = ℕ} count 0))
+]
+
+one_marked : (files : Files) (marks : List ℕ) → slice_index marks 1 ≡ 1 → ((m : ℕ) → m ≢ 1 → slice_index marks m ≡ 0) → HasWalked files 2 marks
+one_marked files marks root free = record {
+  root = root;
+  before = λ m. elim (cases_eq m 1) [
+    | inl e ↦ let one : slice_index marks m ≡ 1 = ap (slice_index marks) e ∙ root in omega arith
+    | inr other ↦ let none : slice_index marks m ≡ 0 = free m other in omega arith
+  ];
+  climbs = λ m some. elim (cases_eq m 1) [ inl e ↦ record { steps = 0; root = e } | inr other ↦ absurd (some (free m other)) ];
+}
+
+-- at first the root alone is marked
+pub HasWalked-first : (files : Files) (count : ℕ) → 1 < count → HasWalked files 2 (set (replicate count 0) 1 1)
+HasWalked-first files count l =
+    one_marked files (set (replicate count 0) 1 1) (get_or-set_same (replicate count 0) 1 1 0 (omega (arith, length-replicate {A = ℕ} count 0)))
+    (λ m other. get_or-set_other (replicate count 0) 1 m 1 0 other ∙ none_marked count m)
+
+pub HasWalked-later : (files : Files) (next : ℕ) (marks : List ℕ) → HasWalked files next marks → HasWalked files (next + 1) marks
+HasWalked-later files next marks h = record {
+  root = h.root;
+  before = λ m. omega (arith, h.before m);
+  climbs = h.climbs;
+}

@@ -1,0 +1,23 @@
+use Rattle.std.proofs.Common.{◌≡◌, ◌+◌, ◌*◌, ap, ◌∙◌, arith}
+use Rattle.unixmodel.specs.Numbers.{number_at}
+use Rattle.imagecheck.specs.Reach.{first_block}
+use Rattle.imagerules.specs.Rules.{HasBlocks-of}
+use Rattle.imagerules.proofs.Bounds.{inode-inside, inodes-most}
+use Rattle.imagecheck.proofs.Parents.{first_inside}
+use Rattle.imagecheck.proofs.contents.front_place.Goals as goal
+
+pub inode_place-requires : goal.inode_place-requires
+inode_place-requires c = let h = c.requires.directory.high in omega (arith, inodes-most c.requires.geometry, c.requires.geometry.inodes)
+
+pub number32-requires : goal.number32-requires
+number32-requires c =
+    let h = c.requires.directory.high in
+    omega (arith, inode-inside c.requires.geometry c.args.n (omega (arith, c.requires.geometry.inodes)), c.inode_place.ensures)
+
+pub returns-clause-place : goal.returns-clause-place
+returns-clause-place c = ap (λ b. 1024 * b) (c.number32.ensures ∙ ap (λ p. number_at 4 (p + 12) c.args.image.now) c.inode_place.ensures)
+
+pub returns-clause-inside : goal.returns-clause-inside
+returns-clause-inside c =
+    let e : c.number32.result ≡ first_block c.args.image.now c.args.n = c.number32.ensures ∙ ap (λ p. number_at 4 (p + 12) c.args.image.now) c.inode_place.ensures in
+    omega (arith, first_inside c.args.image.now (HasBlocks-of c.args.image.now c.requires.blocks) c.args.n c.requires.directory)

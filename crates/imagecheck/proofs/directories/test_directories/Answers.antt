@@ -1,0 +1,52 @@
+use Rattle.std.proofs.Common.{◌≡◌, ◌<◌, List, sym, ap, ◌∙◌, arith}
+use Rattle.unixmodel.specs.Image.{contents_in, inodes_in, kind_in}
+use Rattle.imagecheck.specs.Entries.{HasNames}
+use Rattle.imagerules.proofs.Bounds.{inode-inside, inodes-least, inodes-most, up_to_more}
+use Rattle.imagecheck.specs.declared.namings.Naming.{Naming}
+use Rattle.imagecheck.proofs.Collecting.{namings_to, namings_to-all, namings_to-directory, namings_to-first, namings_to-other}
+use Rattle.imagecheck.proofs.directories.test_directories.Goals as goal
+use Rattle.imagecheck.proofs.directories.test_directories.Goals.{else-kind-eq1, then-kind-eq1+in_ok-test_directory}
+
+pub kind-requires-clause-number : goal.kind-requires-clause-number
+kind-requires-clause-number g c = omega (arith, inodes-most c.requires.geometry)
+
+pub kind-requires-clause-inside : goal.kind-requires-clause-inside
+kind-requires-clause-inside g c = inode-inside c.requires.geometry c.loop-n.n c.loop-n-test.true
+
+pub loop-n-init : goal.loop-n-init
+loop-n-init g c =
+    let least = inodes-least c.requires.geometry in
+    record {
+      named = λ m low high. absurd (omega arith);
+      collected = c.requires.fresh ∙ sym (namings_to-first c.args.image.now (omega arith));
+    }
+
+pub loop-n-preserved : goal.loop-n-preserved
+loop-n-preserved g c =
+    let image = c.args.image.now in
+    let n = c.loop-n.n in
+    let inv = c.loop-n.invariant in
+    let high : n < inodes_in image = omega (arith, c.requires.geometry.inodes, c.loop-n-test.true) in
+    let here : kind_in image n ≡ 1 → HasNames image (contents_in image n) = elim c.if-kind-eq1.branch [
+      | then-kind-eq1+in_ok-test_directory w ↦ λ e. w.in_ok-test_directory.ensures.named
+      | else-kind-eq1 w ↦ λ e. absurd (w.if-kind-eq1.false (c.kind.ensures ∙ e))
+    ] in
+    record {
+      named = up_to_more (λ m. kind_in image m ≡ 1 → HasNames image (contents_in image m)) n inv.named here;
+      collected = elim c.if-kind-eq1.branch [
+        | then-kind-eq1+in_ok-test_directory w ↦ ◌∙◌ {A = List Naming} (ap (λ v. v.items) w.namings-is)
+            (namings_to-directory image n c.loop-n.namings.items w.test_directory.new.namings.items (omega arith) high (sym c.kind.ensures ∙ w.if-kind-eq1.true) inv.collected w.in_ok-test_directory.ensures.namings)
+        | else-kind-eq1 w ↦ ◌∙◌ {A = List Naming} (ap (λ v. v.items) w.namings-is)
+            (namings_to-other image c.requires.blocks n c.loop-n.namings.items (λ e. w.if-kind-eq1.false (c.kind.ensures ∙ e)) inv.collected)
+      ];
+    }
+
+pub returns-clause-named : goal.returns-clause-named
+returns-clause-named g c = λ n low high directory. c.loop-n.invariant.named n low (omega (arith, c.requires.geometry.inodes, c.loop-n-test.false)) directory
+
+pub returns-clause-namings : goal.returns-clause-namings
+returns-clause-namings g c =
+    let image = c.args.image.now in
+    let least = inodes-least c.requires.geometry in
+    let end : c.loop-n.n ≡ inodes_in image = omega (arith, c.requires.geometry.inodes, c.loop-n.auto.n-end (omega (arith, c.requires.geometry.inodes)), c.loop-n-test.false) in
+    c.loop-n.invariant.collected ∙ ap (namings_to image) end ∙ namings_to-all image

@@ -1,0 +1,8 @@
+use Rattle.std.proofs.Common.{ℕ, ◌≡◌, ◌<◌, ◌≤◌}
+use Rattle.unixmodel.specs.Image.{contents_in, kind_in, parent_of}
+use Rattle.imagecheck.specs.Entries.{FitsFront}
+use Rattle.imagerules.specs.Places.{files_in}
+use Rattle.imagecheck.proofs.fronts.has_fronts.Given as goal
+
+abbrev pub invariant-loop-n : goal.invariant-loop-n
+invariant-loop-n l = (m : ℕ) → 1 ≤ m → m < l.n → kind_in l.image m ≡ 1 → FitsFront m (parent_of (files_in l.image) m) (contents_in l.image m)

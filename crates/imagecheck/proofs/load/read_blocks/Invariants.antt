@@ -1,0 +1,10 @@
+use Rattle.std.proofs.Common.{◌≡◌, ◌≤◌, take}
+use Rattle.imagerules.specs.Content.{image_of}
+use Rattle.imagecheck.proofs.load.read_blocks.Given as goal
+
+abbrev pub invariant-loop-n : goal.invariant-loop-n
+invariant-loop-n g l = record {
+  bytes : l.image.items ≡ image_of (take l.n (g.D.BlockDev.content l.initial.device));
+  same : g.D.BlockDev.content l.device ≡ g.D.BlockDev.content l.initial.device;
+  later : g.D.BlockDev.failures l.initial.device ≤ g.D.BlockDev.failures l.device;
+}

@@ -1,0 +1,59 @@
+use Rattle.std.proofs.Common.{◌≡◌, below_more, sym, ◌∙◌, arith}
+use Rattle.std.specs.Prelude.{nat_lt, ◌||◌}
+use Rattle.std.proofs.lemmas.Bool.{lt-ltb}
+use Rattle.unixmodel.specs.Image.{bit_of, data_start, inodes_in, is_named, size_in}
+use Rattle.imagerules.proofs.Marking.{bit_is, marked_no, marked_yes, other_tests, same_tests}
+use Rattle.imagerules.proofs.Bounds.{bit-inside, bitmap-low, inodes-most, size-most}
+use Rattle.imagecheck.proofs.marks.has_bitmap.Goals as goal
+use Rattle.imagecheck.proofs.marks.has_bitmap.Goals.{else-block-first, then-block-first}
+
+pub bitmap_start-start-requires : goal.bitmap_start-start-requires
+bitmap_start-start-requires c = inodes-most c.requires.geometry
+
+pub data_start-first-requires-clause-inodes : goal.data_start-first-requires-clause-inodes
+data_start-first-requires-clause-inodes c = inodes-most c.requires.geometry
+
+pub data_start-first-requires-clause-size : goal.data_start-first-requires-clause-size
+data_start-first-requires-clause-size c = size-most c.requires.geometry
+
+pub bit-requires-clause-block : goal.bit-requires-clause-block
+bit-requires-clause-block c = omega (arith, size-most c.requires.geometry, c.loop-block-test.true)
+
+pub bit-requires-clause-start : goal.bit-requires-clause-start
+bit-requires-clause-start c = bitmap-low c.requires.geometry c.bitmap_start-start.result c.bitmap_start-start.ensures
+
+pub bit-requires-clause-inside : goal.bit-requires-clause-inside
+bit-requires-clause-inside c = bit-inside c.requires.geometry c.bitmap_start-start.result c.bitmap_start-start.ensures c.loop-block.block c.loop-block-test.true
+
+pub loop-block-init : goal.loop-block-init
+loop-block-init c = λ b l. absurd (omega arith)
+
+pub returns-then-bit-marks-clause-bad : goal.returns-then-bit-marks-clause-bad
+returns-then-bit-marks-clause-bad c = λ h.
+    let image = c.args.image.now in
+    let b = c.loop-block.block in
+    let r = c.requires in
+    let value : c.if-block-first.value ≡ (nat_lt b (data_start (size_in image) (inodes_in image)) || is_named image b) = elim c.if-block-first.branch [
+      | then-block-first w ↦ w.value-is ∙ lt-ltb b c.data_start-first.result w.if-block-first.true
+          ∙ sym (marked_yes r.geometry c.args.marks.now r.marks r.long b c.data_start-first.result c.loop-block-test.true c.data_start-first.ensures w.if-block-first.true)
+      | else-block-first w ↦ w.value-is ∙ sym (marked_no r.geometry c.args.marks.now r.marks r.long b c.data_start-first.result c.loop-block-test.true c.data_start-first.ensures w.if-block-first.false)
+    ] in
+    let bit : c.bit.result ≡ bit_of image b = c.bit.ensures ∙ bit_is r.geometry c.args.marks.now r.marks r.long b c.bitmap_start-start.result c.loop-block-test.true c.bitmap_start-start.ensures in
+    other_tests c.bit.result c.if-block-first.value c.if-bit-marks.true (bit ∙ h b (omega (arith, r.geometry.size, c.loop-block-test.true)) ∙ sym value)
+
+pub loop-block-preserved : goal.loop-block-preserved
+loop-block-preserved c =
+    let image = c.args.image.now in
+    let b = c.loop-block.block in
+    let r = c.requires in
+    let value : c.if-block-first.value ≡ (nat_lt b (data_start (size_in image) (inodes_in image)) || is_named image b) = elim c.if-block-first.branch [
+      | then-block-first w ↦ w.value-is ∙ lt-ltb b c.data_start-first.result w.if-block-first.true
+          ∙ sym (marked_yes r.geometry c.args.marks.now r.marks r.long b c.data_start-first.result c.loop-block-test.true c.data_start-first.ensures w.if-block-first.true)
+      | else-block-first w ↦ w.value-is ∙ sym (marked_no r.geometry c.args.marks.now r.marks r.long b c.data_start-first.result c.loop-block-test.true c.data_start-first.ensures w.if-block-first.false)
+    ] in
+    let bit : c.bit.result ≡ bit_of image b = c.bit.ensures ∙ bit_is r.geometry c.args.marks.now r.marks r.long b c.bitmap_start-start.result c.loop-block-test.true c.bitmap_start-start.ensures in
+    below_more (λ m. bit_of image m ≡ (nat_lt m (data_start (size_in image) (inodes_in image)) || is_named image m)) b c.loop-block.invariant
+    (sym bit ∙ same_tests c.bit.result c.if-block-first.value c.if-bit-marks.false ∙ value)
+
+pub returns-clause-good : goal.returns-clause-good
+returns-clause-good c = λ b l. c.loop-block.invariant b (omega (arith, c.requires.geometry.size, c.loop-block-test.false))

@@ -1,0 +1,11 @@
+use Rattle.std.proofs.Common.{ap, length, sym, ◌∙◌, arith}
+use Rattle.std.proofs.lemmas.Slice.{between_to_end}
+use Rattle.byteorder.specs.Endian.{little_number}
+use Rattle.imagecheck.proofs.Distinct.{number-pushed}
+use Rattle.imagecheck.proofs.names.add_name.Goals as goal
+
+pub returns : goal.returns
+returns g c =
+    let place = c.args.place.now in
+    number-pushed c.args.names.now.items c.push.new.self.items place c.read_uint128.result c.requires c.in_ok-push.ensures.items
+    (c.read_uint128.ensures ∙ ap (little_number 14) (between_to_end place 2 (length place) (omega arith))) (sym c.is_zero.ensures ∙ c.if-is_zero.false)

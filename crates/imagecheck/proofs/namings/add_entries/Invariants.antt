@@ -1,0 +1,7 @@
+use Rattle.std.proofs.Common.{◌≡◌, ◌++◌}
+use Rattle.imagecheck.specs.Entries.{entries_to}
+use Rattle.imagecheck.specs.Namings.{namings_of}
+use Rattle.imagecheck.proofs.namings.add_entries.Given as goal
+
+abbrev pub invariant-loop-k : goal.invariant-loop-k
+invariant-loop-k g l = l.namings.items ≡ l.initial.namings.items ++ namings_of l.directory (entries_to l.bytes l.k)

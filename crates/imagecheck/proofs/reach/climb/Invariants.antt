@@ -1,0 +1,13 @@
+use Rattle.imagerules.specs.Places.{files_in}
+use Rattle.imagecheck.specs.Reach.{IsDirectoryIn}
+use Rattle.imagecheck.proofs.Walking.{IsWalk, unmarked}
+use Rattle.imagecheck.proofs.reach.climb.Given as goal
+
+abbrev pub invariant-loop-marks : goal.invariant-loop-marks
+invariant-loop-marks l = record {
+  walk : IsWalk (files_in l.image) l.start l.n l.marks;
+  directory : IsDirectoryIn l.image l.n;
+}
+
+abbrev pub decreases-loop-marks : goal.decreases-loop-marks
+decreases-loop-marks l = unmarked l.marks

@@ -1,0 +1,19 @@
+use Rattle.std.proofs.Common.{◌≡◌, ◌+◌, ap, sym, subst, ◌∙◌}
+use Rattle.unixmodel.specs.Image.{parent_of}
+use Rattle.unixmodel.specs.Numbers.{number_at}
+use Rattle.imagerules.specs.Places.{files_in}
+use Rattle.imagerules.specs.Rules.{HasBlocks-of}
+use Rattle.imagecheck.specs.Reach.{IsDirectoryIn}
+use Rattle.imagecheck.proofs.Parents.{parent-read, parent_directory}
+use Rattle.imagecheck.proofs.reach.parent.Goals as goal
+
+pub returns : goal.returns
+returns c =
+    let image = c.args.image.now in
+    let blocks = HasBlocks-of image c.requires.blocks in
+    let is : c.number16.result ≡ parent_of (files_in image) c.args.n =
+    c.number16.ensures ∙ ap (λ at. number_at 2 (at + 16) image) c.front_place.ensures.place ∙ parent-read image blocks c.args.n c.requires.directory c.requires.entries in
+    record {
+      parent = is;
+      directory = subst (IsDirectoryIn image) (sym is) (parent_directory image blocks c.requires.entries c.requires.links c.args.n c.requires.directory);
+    }

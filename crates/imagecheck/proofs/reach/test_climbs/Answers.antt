@@ -1,0 +1,55 @@
+use Rattle.std.proofs.Common.{◌≡◌, ◌+◌, length, ap, subst, sym, ◌∙◌, arith}
+use Rattle.std.proofs.lemmas.Bool.{OnTrue_at, OnFalse_at}
+use Rattle.unixmodel.specs.Image.{kind_in}
+use Rattle.imagerules.specs.Places.{files_in}
+use Rattle.imagecheck.specs.Reach.{Climbs, HasWalked, IsDirectoryIn}
+use Rattle.imagerules.proofs.Bounds.{inode-inside, inodes-most, up_to_more}
+use Rattle.imagecheck.proofs.Parents.{IsDirectoryIn-from}
+use Rattle.imagecheck.proofs.Reaching.{IsReached-from}
+use Rattle.imagecheck.proofs.Walking.{HasWalked-later}
+use Rattle.imagerules.specs.Rules.{HasBlocks-of}
+use Rattle.imagecheck.proofs.reach.test_climbs.Goals as goal
+use Rattle.imagecheck.proofs.reach.test_climbs.Goals.{else-kind-eq1-via-else-kind-eq1, else-kind-eq1-via-then-kind-eq1+else-not-climb}
+
+pub returns-then-not-climb-clause-fault : goal.returns-then-not-climb-clause-fault
+returns-then-not-climb-clause-fault c = (HasBlocks-of c.args.image.now c.requires.blocks, c.requires.entries, c.requires.links, OnFalse_at c.if-not-climb.true c.climb.ensures.round)
+
+pub loop-n-init : goal.loop-n-init
+loop-n-init c = record {
+  long = c.requires.long;
+  walked = c.requires.walked;
+  climb = λ m low high k. record { steps = 0; root = omega arith };
+}
+
+pub kind-requires-clause-number : goal.kind-requires-clause-number
+kind-requires-clause-number c = omega (arith, inodes-most c.requires.geometry)
+
+pub kind-requires-clause-inside : goal.kind-requires-clause-inside
+kind-requires-clause-inside c = inode-inside c.requires.geometry c.loop-n.n c.loop-n-test.true
+
+pub loop-n-preserved : goal.loop-n-preserved
+loop-n-preserved c =
+    let image = c.args.image.now in
+    let n = c.loop-n.n in
+    record {
+      long = elim c.else-kind-eq1.branch [
+        | else-kind-eq1-via-then-kind-eq1+else-not-climb w ↦ ap length w.marks-is ∙ w.climb.auto.marks ∙ c.loop-n.invariant.long
+        | else-kind-eq1-via-else-kind-eq1 w ↦ ap length w.marks-is ∙ c.loop-n.invariant.long
+      ];
+      walked = elim c.else-kind-eq1.branch [
+        | else-kind-eq1-via-then-kind-eq1+else-not-climb w ↦
+            subst (HasWalked (files_in image) (n + 1)) (sym w.marks-is) (OnTrue_at {P = HasWalked (files_in image) (n + 1) w.climb.new.marks} w.if-not-climb.false w.climb.ensures.walked)
+        | else-kind-eq1-via-else-kind-eq1 w ↦ subst (HasWalked (files_in image) (n + 1)) (sym w.marks-is) (HasWalked-later (files_in image) n c.loop-n.marks c.loop-n.invariant.walked)
+      ];
+      climb = up_to_more (λ m. kind_in image m ≡ 1 → Climbs (files_in image) m) n c.loop-n.invariant.climb (elim c.else-kind-eq1.branch [
+        | else-kind-eq1-via-then-kind-eq1+else-not-climb w ↦ λ _. OnTrue_at {P = Climbs (files_in image) n} w.if-not-climb.false w.climb.ensures.climbs
+        | else-kind-eq1-via-else-kind-eq1 w ↦ λ e. absurd (w.if-kind-eq1.false (c.kind.ensures ∙ e))
+      ]);
+    }
+
+pub returns-clause-sound : goal.returns-clause-sound
+returns-clause-sound c =
+    let image = c.args.image.now in
+    IsReached-from (files_in image) c.requires.entries c.requires.links (λ n directory.
+    let d : IsDirectoryIn image n = IsDirectoryIn-from image n directory in
+    c.loop-n.invariant.climb n d.low (omega (arith, c.requires.geometry.inodes, c.loop-n-test.false)) d.kind)

@@ -1,0 +1,18 @@
+use Rattle.std.proofs.Common.{◌<◌, ℕ, arith, get_or}
+use Rattle.imagerules.specs.Rules.{HasBlocks-of}
+use Rattle.imagerules.proofs.Denoting.{Denotes-from}
+use Rattle.imagecheck.proofs.rules.summary_of.Goals as goal
+
+pub blocks_in_use-requires-clause-sizes : goal.blocks_in_use-requires-clause-sizes
+blocks_in_use-requires-clause-sizes g c = (HasBlocks-of c.args.image.now c.in_ok-test_blocks.ensures.sound).inodes.sizes
+
+pub returns-clause-summary : goal.returns-clause-summary
+returns-clause-summary g c =
+    let image = c.args.image.now in
+    let bytes : (i : ℕ) → get_or image i 0 < 256 = λ i. omega (arith, c.type_inv.image i) in
+    let files = c.in_ok-test_files.ensures.sound in
+    record {
+      denotes = Denotes-from image (HasBlocks-of image c.in_ok-test_blocks.ensures.sound) bytes files.entries files.links files.reached;
+      inodes = c.inodes_in_use.ensures;
+      blocks = c.blocks_in_use.ensures;
+    }

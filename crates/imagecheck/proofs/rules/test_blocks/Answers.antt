@@ -1,0 +1,19 @@
+use Rattle.std.proofs.Common.{sym, subst, ◌∙◌}
+use Rattle.std.specs.Prelude.{[]}
+use Rattle.imagerules.specs.Marks.{HasMarks}
+use Rattle.imagerules.proofs.Marking.{HasMarks-none}
+use Rattle.std.proofs.lemmas.Result.{err_from_is_err_and}
+use Rattle.imagecheck.proofs.Sounding.{NoMemory-found}
+use Rattle.imagecheck.proofs.rules.test_blocks.Goals as goal
+
+pub returns-in_err-marks-clause-fault : goal.returns-in_err-marks-clause-fault
+returns-in_err-marks-clause-fault g c =
+    let p = err_from_is_err_and c.from_residual-in_err-marks.result c.from_residual-in_err-marks.ensures.1 in
+    NoMemory-found c.args.image.now c.from_residual-in_err-marks.result p.0 p.1 p.2
+
+pub test_marks-requires-clause-long : goal.test_marks-requires-clause-long
+test_marks-requires-clause-long g c = c.deref_mut.ensures.len ∙ c.in_ok-marks.ensures.len
+
+pub test_marks-requires-clause-fresh : goal.test_marks-requires-clause-fresh
+test_marks-requires-clause-fresh g c =
+    subst (HasMarks []) (sym (c.deref_mut.ensures.value ∙ c.in_ok-marks.ensures.items_if_clones_equal (λ y e. cc))) (HasMarks-none c.args.geometry.size)

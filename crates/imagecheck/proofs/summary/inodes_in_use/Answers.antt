@@ -1,0 +1,36 @@
+use Rattle.std.proofs.Common.{◌≡◌, ◌+◌, ◌-◌, length, ap, sym, ◌∙◌, arith}
+use Rattle.std.specs.Prelude.{filter}
+use Rattle.std.specs.List.{range_with_len}
+use Rattle.unixmodel.specs.Image.{inodes_in, is_in_use}
+use Rattle.imagerules.proofs.Summing.{unused_more, used_more}
+use Rattle.imagerules.proofs.Bounds.{inodes-least, inode-inside, inodes-most}
+use Rattle.imagecheck.proofs.summary.inodes_in_use.Goals as goal
+use Rattle.imagecheck.proofs.summary.inodes_in_use.Goals.{else-kind-ne0, then-kind-ne0}
+
+pub kind-requires-clause-number : goal.kind-requires-clause-number
+kind-requires-clause-number c = omega (arith, inodes-most c.requires, c.loop-n-test.true)
+
+pub kind-requires-clause-inside : goal.kind-requires-clause-inside
+kind-requires-clause-inside c = inode-inside c.requires c.loop-n.n c.loop-n-test.true
+
+pub loop-n-preserved : goal.loop-n-preserved
+loop-n-preserved c =
+    let image = c.args.image.now in
+    let n = c.loop-n.n in
+    let i = c.loop-n.invariant in
+    elim c.if-kind-ne0.branch [
+      | then-kind-ne0 w ↦ record {
+        total = w.total-is ∙ ap (λ m. m + 1) i.total ∙ sym (used_more image n (omega arith) (λ z. w.if-kind-ne0.true (c.kind.ensures ∙ z)));
+        most = omega (arith, w.total-is, i.most);
+      }
+      | else-kind-ne0 w ↦ record {
+        total = w.total-is ∙ i.total ∙ sym (unused_more image n (omega arith) (sym c.kind.ensures ∙ w.if-kind-ne0.false));
+        most = omega (arith, w.total-is, i.most);
+      }
+    ]
+
+pub returns : goal.returns
+returns c =
+    let least = inodes-least c.requires in
+    let end : c.loop-n.n ≡ inodes_in c.args.image.now = omega (arith, c.requires.inodes, c.loop-n.auto.n-end (omega (arith, c.requires.inodes)), c.loop-n-test.false) in
+    c.loop-n.invariant.total ∙ ap (λ m. length (filter (is_in_use c.args.image.now) (range_with_len 1 (m - 1)))) end

@@ -1,0 +1,11 @@
+use Rattle.std.proofs.Common.{◌≡◌, ◌≤◌, ◌-◌, length}
+use Rattle.std.specs.Prelude.{filter}
+use Rattle.std.specs.List.{range_with_len}
+use Rattle.unixmodel.specs.Image.{is_in_use}
+use Rattle.imagecheck.proofs.summary.inodes_in_use.Given as goal
+
+abbrev pub invariant-loop-n : goal.invariant-loop-n
+invariant-loop-n l = record {
+  total : l.total ≡ length (filter (is_in_use l.image) (range_with_len 1 (l.n - 1)));
+  most : l.total ≤ l.n;
+}

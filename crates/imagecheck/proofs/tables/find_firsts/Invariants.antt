@@ -1,0 +1,9 @@
+use Rattle.std.proofs.Common.{◌≡◌, length, take}
+use Rattle.imagecheck.specs.Namings.{HasFirsts}
+use Rattle.imagecheck.proofs.tables.find_firsts.Given as goal
+
+abbrev pub invariant-loop-naming : goal.invariant-loop-naming
+invariant-loop-naming l = record {
+  long : length l.parents ≡ length l.initial.parents;
+  found : HasFirsts (take l.naming-index l.namings) l.parents;
+}

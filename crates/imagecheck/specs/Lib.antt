@@ -1,0 +1,5 @@
+pub mod Entries
+pub mod Faults
+pub mod Namings
+pub mod Reach
+pub mod Summaries

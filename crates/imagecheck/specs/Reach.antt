@@ -1,0 +1,31 @@
+-- Directories and their parents, up to the root.
+use Rattle.std.specs.Prelude.{List, slice_index, suc, zero, ℕ, ◌+◌, ◌<◌, ◌≡◌, ◌≢◌, ◌≤◌}
+use Rattle.unixmodel.specs.Files.{Files}
+use Rattle.unixmodel.specs.Image.{inode_at, inodes_in, kind_in, parent_of}
+use Rattle.unixmodel.specs.Numbers.{number_at}
+
+-- the parent of a parent and so on, so many times
+abbrev pub ancestor : Files → ℕ → ℕ → ℕ
+ancestor files zero n = n
+ancestor files (suc k) n = ancestor files k (parent_of files n)
+
+-- the chain of parents comes to the root
+pub record Climbs (files : Files) (n : ℕ) : Type 0 where
+  pub steps : ℕ
+  pub root : ancestor files steps n ≡ 1
+
+-- n is the number of a directory
+pub record IsDirectoryIn (image : List ℕ) (n : ℕ) : Type 0 where
+  pub low : 1 ≤ n
+  pub high : n < inodes_in image
+  pub kind : kind_in image n ≡ 1
+
+-- the walks from the directories before one have marked whom they met, and each of these climbs
+pub record HasWalked (files : Files) (next : ℕ) (marks : List ℕ) : Type 0 where
+  pub root : slice_index marks 1 ≡ 1
+  pub before : (n : ℕ) → slice_index marks n < next
+  pub climbs : (n : ℕ) → slice_index marks n ≢ 0 → Climbs files n
+
+-- the first data block of an inode
+abbrev pub first_block : List ℕ → ℕ → ℕ
+first_block image n = number_at 4 (inode_at n + 12) image

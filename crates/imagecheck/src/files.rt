@@ -1,0 +1,110 @@
+//! The files of an image whose inodes and blocks are sound: their entries, their links and that each is reached.
+
+ghost use Rattle.std.specs.Prelude.{◌≡◌, ◌≤◌, List, length, IfErr, OnOk};
+ghost use Rattle.imagecheck.specs.Entries.{NamesDirectories};
+ghost use Rattle.imagecheck.specs.Faults.{Finds, IsOfImage};
+ghost use Rattle.imagerules.specs.Rules.{BlockRules, HasFiles};
+ghost use Rattle.imagerules.specs.Fields.{HasGeometry};
+ghost use Rattle.imagecheck.specs.Namings.{HasParents, IsListed, TellsNames, TellsSubdirectories};
+ghost use Rattle.imagerules.specs.Places.{HasEntries, HasLinks, files_in};
+ghost use Rattle.imagecheck.specs.declared.namings.Naming.{Naming};
+
+use crate::ImageFault;
+use crate::directories::test_directories;
+use crate::fronts::{are_named, has_fronts};
+use crate::links::has_links;
+use crate::namings::Naming;
+use crate::reach::test_reach;
+use crate::tables::{count_names, count_subdirectories, find_parents};
+use layout::Geometry;
+use std::alloc::Allocator;
+
+// Tests the first two places of the directories, and how many entries name each.
+fn test_entries(
+    image: &[u8],
+    geometry: Geometry,
+    counts: &[usize],
+    parents: &[u16],
+) -> Result<(), ImageFault>
+    requires geometry { HasGeometry image.now geometry }
+    requires blocks { BlockRules image.now }
+    requires names { NamesDirectories image.now }
+    requires counts_long { length counts.now ≡ geometry.inodes }
+    requires counts { TellsNames image.now counts.now }
+    requires parents_long { length parents.now ≡ geometry.inodes }
+    requires parents { HasParents image.now parents.now }
+    ensures sound { OnOk result (HasEntries (files_in image.now)) }
+    ensures fault { IfErr result (Finds image.now) }
+    ensures own { IfErr result IsOfImage }
+{
+    if !are_named(image, geometry, counts) {
+        return Err(ImageFault::Entry);
+    }
+    if !has_fronts(image, geometry, parents) {
+        return Err(ImageFault::Entry);
+    }
+    Ok(())
+}
+
+// Tests the counts of links.
+fn test_links(
+    image: &[u8],
+    geometry: Geometry,
+    counts: &[usize],
+    subdirectories: &[usize],
+) -> Result<(), ImageFault>
+    requires geometry { HasGeometry image.now geometry }
+    requires blocks { BlockRules image.now }
+    requires entries { HasEntries (files_in image.now) }
+    requires counts_long { length counts.now ≡ geometry.inodes }
+    requires counts { TellsNames image.now counts.now }
+    requires subdirectories_long { length subdirectories.now ≡ geometry.inodes }
+    requires subdirectories { TellsSubdirectories image.now subdirectories.now }
+    ensures sound { OnOk result (HasLinks (files_in image.now)) }
+    ensures fault { IfErr result (Finds image.now) }
+    ensures own { IfErr result IsOfImage }
+{
+    if !has_links(image, geometry, counts, subdirectories) {
+        return Err(ImageFault::Links);
+    }
+    Ok(())
+}
+
+// Tests what the entries of all directories tell: the first two places, how many name each number, and the links.
+fn test_namings<A: Allocator>(
+    alloc: A,
+    image: &[u8],
+    geometry: Geometry,
+    namings: &[Naming],
+) -> Result<(), ImageFault>
+    requires { IsListed image.now geometry namings.now }
+    ensures entries { OnOk result (HasEntries (files_in image.now)) }
+    ensures links { OnOk result (HasLinks (files_in image.now)) }
+    ensures fault { IfErr result (Finds image.now) }
+{
+    let mut counts = vec![in &alloc; 0; geometry.inodes]?;
+    count_names(namings, &mut counts);
+    let mut parents = vec![in &alloc; 0; geometry.inodes]?;
+    find_parents(namings, &mut parents);
+    test_entries(image, geometry, &counts, &parents)?;
+    let mut subdirectories = vec![in &alloc; 0; geometry.inodes]?;
+    count_subdirectories(image, geometry, namings, &mut subdirectories);
+    test_links(image, geometry, &counts, &subdirectories)
+}
+
+// Tests the files: the rules from the entries to the reach.
+pub fn test_files<A: Allocator>(
+    alloc: A,
+    image: &[u8],
+    geometry: Geometry,
+) -> Result<(), ImageFault>
+    requires geometry { HasGeometry image.now geometry }
+    requires blocks { BlockRules image.now }
+    ensures sound { OnOk result (HasFiles image.now) }
+    ensures fault { IfErr result (Finds image.now) }
+{
+    let mut namings = Vec::new(&alloc);
+    test_directories(&alloc, image, geometry, &mut namings)?;
+    test_namings(&alloc, image, geometry, &namings)?;
+    test_reach(&alloc, image, geometry)
+}

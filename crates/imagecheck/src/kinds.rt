@@ -1,0 +1,52 @@
+//! The types and the sizes of inodes.
+
+ghost use Rattle.std.specs.Prelude.{◌≡◌, ℕ, ◌+◌, ◌*◌, ◌/◌, ◌%◌, ◌<◌, ◌≤◌, length};
+ghost use Rattle.std.specs.Bool.{OnTrue, OnFalse};
+ghost use Rattle.imagerules.specs.Fields.{HasGeometry};
+ghost use Rattle.imagerules.specs.Pieces.{HasKinds, HasSizes, FitsKind};
+
+use crate::fields::{kind, size};
+use layout::Geometry;
+
+// Whether each type is known, and the root is a directory.
+pub fn has_kinds(image: &[u8], geometry: Geometry) -> bool
+    requires { HasGeometry image.now geometry }
+    ensures good { OnTrue result (HasKinds image.now) }
+    ensures bad { OnFalse result (HasKinds image.now → ⊥) }
+{
+    for n in 1..geometry.inodes {
+        if kind(image, n) > 3 {
+            return false;
+        }
+    }
+    kind(image, 1) == 1
+}
+
+// Whether an inode of this type may have this size in bytes.
+fn fits_kind(kind: u16, size: u32) -> bool
+    requires { kind ≤ 3 }
+    ensures good { OnTrue result (FitsKind kind size) }
+    ensures bad { OnFalse result (FitsKind kind size → ⊥) }
+{
+    match kind {
+        0 => true,
+        1 => size >= 32 && size <= 274_432 && size % 16 == 0,
+        2 => size <= 274_432,
+        _ => size == 0,
+    }
+}
+
+// Whether each inode has a size that its type may have.
+pub fn has_sizes(image: &[u8], geometry: Geometry) -> bool
+    requires geometry { HasGeometry image.now geometry }
+    requires kinds { HasKinds image.now }
+    ensures good { OnTrue result (HasSizes image.now) }
+    ensures bad { OnFalse result (HasSizes image.now → ⊥) }
+{
+    for n in 1..geometry.inodes {
+        if !fits_kind(kind(image, n), size(image, n)) {
+            return false;
+        }
+    }
+    true
+}

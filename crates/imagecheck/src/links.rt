@@ -1,0 +1,49 @@
+//! The counts of links.
+
+ghost use Rattle.std.specs.Prelude.{◌≡◌, ℕ, ◌<◌, ◌≤◌, length};
+ghost use Rattle.std.specs.Bool.{OnTrue, OnFalse};
+ghost use Rattle.imagerules.specs.Rules.{BlockRules};
+ghost use Rattle.imagerules.specs.Fields.{HasGeometry};
+ghost use Rattle.imagecheck.specs.Namings.{FitsLinks, TellsNames, TellsSubdirectories};
+ghost use Rattle.imagerules.specs.Places.{HasLinks, files_in};
+
+use crate::fields::{kind, links};
+use layout::Geometry;
+
+// Whether an inode of this type may have this count of links: a directory one more than its subdirectories, a file or a
+// device as many as there are places that name it.
+fn fits_links(kind: u16, links: usize, names: usize, subdirectories: usize) -> bool
+    ensures good { OnTrue result (FitsLinks kind links names subdirectories) }
+    ensures bad { OnFalse result (FitsLinks kind links names subdirectories → ⊥) }
+{
+    match kind {
+        0 => true,
+        1 => links >= 1 && links - 1 == subdirectories,
+        _ => links >= 1 && links <= 32767 && links == names,
+    }
+}
+
+// Whether each inode has the count of links that its names ask for.
+pub fn has_links(
+    image: &[u8],
+    geometry: Geometry,
+    names: &[usize],
+    subdirectories: &[usize],
+) -> bool
+    requires geometry { HasGeometry image.now geometry }
+    requires blocks { BlockRules image.now }
+    requires names_long { length names.now ≡ geometry.inodes }
+    requires names { TellsNames image.now names.now }
+    requires subdirectories_long { length subdirectories.now ≡ geometry.inodes }
+    requires subdirectories { TellsSubdirectories image.now subdirectories.now }
+    ensures good { OnTrue result (HasLinks (files_in image.now)) }
+    ensures bad { OnFalse result (HasLinks (files_in image.now) → ⊥) }
+{
+    for n in 1..geometry.inodes {
+        let told = links(image, n) as usize;
+        if !fits_links(kind(image, n), told, names[n], subdirectories[n]) {
+            return false;
+        }
+    }
+    true
+}

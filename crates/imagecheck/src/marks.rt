@@ -1,0 +1,110 @@
+//! Marks of the blocks that inodes name: none is named twice, and the bitmap agrees with them.
+
+ghost use Rattle.std.specs.Prelude.{◌≡◌, ◌≢◌, ℕ, ◌+◌, ◌*◌, ◌/◌, ◌%◌, ◌<◌, ◌≤◌, ◌++◌, [], List, not, length, slice_index, slice_index_or, slice_set, false, true, All, AllPairs};
+ghost use Rattle.std.specs.Bool.{OnTrue, OnFalse};
+ghost use Rattle.unixmodel.specs.Numbers.{has_bit};
+ghost use Rattle.unixmodel.specs.Image.{named_blocks, bitmap_start, is_in_use};
+ghost use Rattle.imagerules.specs.Fields.{HasGeometry};
+ghost use Rattle.imagerules.specs.Marks.{HasMarks, IsOnce, blocks_of};
+ghost use Rattle.imagerules.specs.Pieces.{HasSizes, HasAddresses, NamesOnce, HasBitmap};
+
+use crate::blocks::{MOST, block_count, block_numbers};
+use crate::fields::{indirect, kind};
+use layout::Geometry;
+
+// Marks a block, and tells whether it had no mark.
+fn mark(marks: &mut [bool], block: usize) -> bool
+    requires { block < length marks.old }
+    ensures free { result ≡ not (slice_index_or marks.old block false) }
+    ensures marks { marks.new ≡ slice_set marks.old block true }
+{
+    let free = !marks[block];
+    marks[block] = true;
+    free
+}
+
+// Marks blocks one after the other, up to the first that has a mark, and tells whether there was none.
+fn mark_all(marks: &mut [bool], numbers: &[u32]) -> bool
+    requires { All (λ b. b < length marks.old) numbers.now }
+    ensures good { (before : List ℕ) → HasMarks before marks.old → OnTrue result (HasMarks (before ++ numbers.now) marks.new) }
+    ensures bad { (before : List ℕ) → HasMarks before marks.old → OnFalse result (IsOnce (before ++ numbers.now) → ⊥) }
+{
+    for number in numbers {
+        if !mark(marks, *number as usize) {
+            return false;
+        }
+    }
+    true
+}
+
+// Marks the blocks that an inode names, and tells whether none had a mark. An inode that is free names none.
+fn mark_inode(image: &[u8], geometry: Geometry, n: usize, marks: &mut [bool]) -> bool
+    requires geometry { HasGeometry image.now geometry }
+    requires sizes { HasSizes image.now }
+    requires addresses { HasAddresses image.now }
+    requires low { 1 ≤ n }
+    requires high { n < geometry.inodes }
+    requires long { length marks.old ≡ geometry.size }
+    ensures good { (before : List ℕ) → HasMarks before marks.old → OnTrue result (HasMarks (before ++ blocks_of image.now n) marks.new) }
+    ensures bad { (before : List ℕ) → HasMarks before marks.old → OnFalse result (IsOnce (before ++ blocks_of image.now n) → ⊥) }
+{
+    if kind(image, n) == 0 {
+        return true;
+    }
+    let mut numbers = [0; MOST];
+    block_numbers(image, n, &mut numbers);
+    let count = block_count(image, n);
+    if !mark_all(marks, &numbers[..count]) {
+        return false;
+    }
+    if count <= 12 {
+        return true;
+    }
+    mark(marks, indirect(image, n) as usize)
+}
+
+// Marks each block that an inode names, and tells whether none is named twice.
+pub fn names_once(image: &[u8], geometry: Geometry, marks: &mut [bool]) -> bool
+    requires geometry { HasGeometry image.now geometry }
+    requires sizes { HasSizes image.now }
+    requires addresses { HasAddresses image.now }
+    requires long { length marks.old ≡ geometry.size }
+    requires fresh { HasMarks [] marks.old }
+    ensures good { OnTrue result (HasMarks (named_blocks image.now) marks.new) }
+    ensures bad { OnFalse result (NamesOnce image.now → ⊥) }
+{
+    for n in 1..geometry.inodes {
+        if !mark_inode(image, geometry, n, marks) {
+            return false;
+        }
+    }
+    true
+}
+
+// A bit of the bitmap that begins at a block.
+fn bit(image: &[u8], start: usize, block: usize) -> bool
+    requires block { block ≤ 16384 }
+    requires start { start ≤ 16384 }
+    requires inside { 1024 * start + block / 8 < length image.now }
+    ensures { result ≡ has_bit (slice_index image.now (1024 * start + block / 8)) (block % 8) }
+{
+    image[1024 * start + block / 8] >> (block % 8) & 1 == 1
+}
+
+// Whether the bitmap marks the blocks before the data and those that are named, and no others.
+pub fn has_bitmap(image: &[u8], geometry: Geometry, marks: &[bool]) -> bool
+    requires geometry { HasGeometry image.now geometry }
+    requires long { length marks.now ≡ geometry.size }
+    requires marks { HasMarks (named_blocks image.now) marks.now }
+    ensures good { OnTrue result (HasBitmap image.now) }
+    ensures bad { OnFalse result (HasBitmap image.now → ⊥) }
+{
+    let start = geometry.bitmap_start();
+    let first = geometry.data_start();
+    for block in 0..geometry.size {
+        if bit(image, start, block) != (block < first || marks[block]) {
+            return false;
+        }
+    }
+    true
+}

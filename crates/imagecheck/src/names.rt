@@ -1,0 +1,44 @@
+//! The names of a directory as numbers, by which they are told apart.
+
+ghost use Rattle.std.specs.Prelude.{◌≡◌, ◌≢◌, ℕ, ◌+◌, ◌*◌, ◌≤◌, ◌++◌, AllPairs, length, OnOk};
+ghost use Rattle.std.specs.Bool.{OnTrue, OnFalse};
+ghost use Rattle.std.specs.Option.{option_to_list};
+ghost use Rattle.imagecheck.specs.Entries.{entries_in, name_numbers};
+ghost use Rattle.imagerules.specs.Places.{place_of_bytes};
+
+use crate::entries::{is_zero, place};
+use byteorder::{ByteOrder, LittleEndian};
+use std::alloc::{AllocError, Allocator};
+
+// Appends the number of the name in a place, if it is taken.
+fn add_name<A: Allocator>(place: &[u8], names: &mut Vec<u128, A>) -> Result<(), AllocError>
+    requires { length place.now ≡ 16 }
+    ensures { OnOk result (names.new.items ≡ names.old.items ++ name_numbers (option_to_list (place_of_bytes place.now))) }
+{
+    if is_zero(place) {
+        return Ok(());
+    }
+    names.push(LittleEndian::read_uint128(&place[2..], 14))?;
+    Ok(())
+}
+
+// Puts the numbers of the names of a directory with these bytes in place of others.
+pub fn read_names<A: Allocator>(bytes: &[u8], names: &mut Vec<u128, A>) -> Result<(), AllocError>
+    requires { 32 ≤ length bytes.now }
+    ensures { OnOk result (names.new.items ≡ name_numbers (entries_in bytes.now)) }
+{
+    names.clear();
+    for k in 2..bytes.len() / 16 {
+        add_name(place(bytes, k), names)?;
+    }
+    Ok(())
+}
+
+// Whether no two names have one number. The numbers are sorted.
+pub fn are_distinct(names: &mut [u128]) -> bool
+    ensures good { OnTrue result (AllPairs (λ a b. a ≢ b) names.old) }
+    ensures bad { OnFalse result (AllPairs (λ a b. a ≢ b) names.old → ⊥) }
+{
+    names.sort_unstable();
+    names.is_sorted_by(|a, b| a < b)
+}

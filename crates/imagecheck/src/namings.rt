@@ -1,0 +1,54 @@
+//! The entries of all directories, each as the directory that it stands in and the number that it names.
+
+ghost use Rattle.std.specs.Prelude.{◌≡◌, ℕ, ◌+◌, ◌*◌, ◌≤◌, ◌++◌, length, OnOk};
+ghost use Rattle.std.specs.Option.{option_to_list};
+ghost use Rattle.imagecheck.specs.Entries.{entries_in};
+ghost use Rattle.imagecheck.specs.Namings.{namings_of};
+ghost use Rattle.imagerules.specs.Places.{place_of_bytes};
+
+use crate::entries::{is_zero, place};
+use crate::fields::number16;
+use std::alloc::{AllocError, Allocator};
+
+// An entry of a directory.
+#[derive(Clone, Copy)]
+pub struct Naming {
+    // The directory that it stands in.
+    pub directory: u16,
+    // The number that it names.
+    pub number: u16,
+}
+
+// Appends the entry in a place, if it is taken.
+fn add_entry<A: Allocator>(
+    place: &[u8],
+    directory: u16,
+    namings: &mut Vec<Naming, A>,
+) -> Result<(), AllocError>
+    requires { length place.now ≡ 16 }
+    ensures { OnOk result (namings.new.items ≡ namings.old.items ++ namings_of directory (option_to_list (place_of_bytes place.now))) }
+{
+    if is_zero(place) {
+        return Ok(());
+    }
+    namings.push(Naming {
+        directory,
+        number: number16(place, 0),
+    })?;
+    Ok(())
+}
+
+// Appends the entries of a directory with these bytes.
+pub fn add_entries<A: Allocator>(
+    bytes: &[u8],
+    directory: u16,
+    namings: &mut Vec<Naming, A>,
+) -> Result<(), AllocError>
+    requires { 32 ≤ length bytes.now }
+    ensures { OnOk result (namings.new.items ≡ namings.old.items ++ namings_of directory (entries_in bytes.now)) }
+{
+    for k in 2..bytes.len() / 16 {
+        add_entry(place(bytes, k), directory, namings)?;
+    }
+    Ok(())
+}

@@ -1,0 +1,123 @@
+//! The rules of an image, one after the other.
+
+ghost use Rattle.std.specs.Prelude.{◌≡◌, ◌≤◌, [], List, length, IfOk, IfErr, IsErrOf, OnOk};
+ghost use Rattle.unixmodel.specs.Failures.{Rises};
+ghost use Rattle.unixmodel.specs.Files.{Files};
+ghost use Rattle.unixmodel.specs.Image.{Denotes, named_blocks, numbers_in_use};
+ghost use Rattle.imagerules.specs.Content.{image_of};
+ghost use Rattle.imagecheck.specs.Faults.{Finds, IsOfImage, Tells};
+ghost use Rattle.imagerules.specs.Rules.{BlockRules, HasInodes};
+ghost use Rattle.imagerules.specs.Fields.{HasGeometry};
+ghost use Rattle.imagerules.specs.Marks.{HasMarks};
+ghost use Rattle.imagerules.specs.Pieces.{HasAddresses};
+ghost use Rattle.imagerules.specs.Places.{files_in};
+ghost use Rattle.imagecheck.specs.Summaries.{IsSummary};
+
+use crate::ImageFault;
+use crate::blocks::has_addresses;
+use crate::files::test_files;
+use crate::kinds::{has_kinds, has_sizes};
+use crate::load::{read_blocks, read_geometry};
+use crate::marks::{has_bitmap, names_once};
+use crate::summary::{blocks_in_use, inodes_in_use};
+use blockdev::BlockDev;
+use layout::Geometry;
+use std::alloc::Allocator;
+
+/// What an image uses.
+#[derive(Clone, Copy, Debug, PartialEq, Eq)]
+pub struct Summary {
+    /// The inodes in use.
+    pub inodes: usize,
+    /// The data blocks that they name.
+    pub blocks: usize,
+}
+
+// Tests the inodes: the rules from the types to the addresses.
+fn test_inodes(image: &[u8], geometry: Geometry) -> Result<(), ImageFault>
+    requires { HasGeometry image.now geometry }
+    ensures inodes { OnOk result (HasInodes image.now) }
+    ensures addresses { OnOk result (HasAddresses image.now) }
+    ensures fault { IfErr result (Finds image.now) }
+    ensures own { IfErr result IsOfImage }
+{
+    if !has_kinds(image, geometry) {
+        return Err(ImageFault::NodeType);
+    }
+    if !has_sizes(image, geometry) {
+        return Err(ImageFault::Size);
+    }
+    if !has_addresses(image, geometry) {
+        return Err(ImageFault::Address);
+    }
+    Ok(())
+}
+
+// Marks the blocks that the inodes name: tests that none is named twice, and that the bitmap marks the same.
+fn test_marks(image: &[u8], geometry: Geometry, marks: &mut [bool]) -> Result<(), ImageFault>
+    requires geometry { HasGeometry image.now geometry }
+    requires inodes { HasInodes image.now }
+    requires addresses { HasAddresses image.now }
+    requires long { length marks.old ≡ geometry.size }
+    requires fresh { HasMarks [] marks.old }
+    ensures sound { OnOk result (BlockRules image.now) }
+    ensures fault { IfErr result (Finds image.now) }
+    ensures own { IfErr result IsOfImage }
+{
+    if !names_once(image, geometry, marks) {
+        return Err(ImageFault::SharedBlock);
+    }
+    if !has_bitmap(image, geometry, marks) {
+        return Err(ImageFault::Bitmap);
+    }
+    Ok(())
+}
+
+// Tests the inodes and the blocks that they name: the rules from the types to the bitmap.
+fn test_blocks<A: Allocator>(alloc: A, image: &[u8], geometry: Geometry) -> Result<(), ImageFault>
+    requires { HasGeometry image.now geometry }
+    ensures sound { OnOk result (BlockRules image.now) }
+    ensures fault { IfErr result (Finds image.now) }
+{
+    test_inodes(image, geometry)?;
+    let mut marks = vec![in alloc; false; geometry.size]?;
+    test_marks(image, geometry, &mut marks)
+}
+
+// Tests the inodes, their blocks and the files, the rules from the types on, and counts what is in use.
+fn summary_of<A: Allocator>(
+    alloc: A,
+    image: &[u8],
+    geometry: Geometry,
+) -> Result<Summary, ImageFault>
+    requires { HasGeometry image.now geometry }
+    ensures summary { IfOk result (IsSummary image.now) }
+    ensures fault { IfErr result (Finds image.now) }
+{
+    test_blocks(&alloc, image, geometry)?;
+    test_files(&alloc, image, geometry)?;
+    Ok(Summary {
+        inodes: inodes_in_use(image, geometry),
+        blocks: blocks_in_use(image, geometry),
+    })
+}
+
+/// Reads an image and tests that it denotes files: its length, its super block, its inodes, the blocks that they name,
+/// the places of its directories, the counts of links, and that a path reaches each inode in use.
+///
+/// The fault is that of the first rule that the image breaks, in the order that `ImageFault` tells. An image that has one
+/// denotes no files.
+pub fn check<A: Allocator, D: BlockDev>(alloc: A, device: &mut D) -> Result<Summary, ImageFault>
+    ensures denotes { OnOk result (Denotes (image_of (D.content device.old)) (files_in (image_of (D.content device.old)))) }
+    ensures inodes { IfOk result (λ summary. summary.inodes ≡ length (numbers_in_use (image_of (D.content device.old)))) }
+    ensures blocks { IfOk result (λ summary. summary.blocks ≡ length (named_blocks (image_of (D.content device.old)))) }
+    ensures fault { IfErr result (λ fault. Tells (image_of (D.content device.old)) fault) }
+    ensures refused { IfErr result (λ fault. IsOfImage fault → (files : Files) → Denotes (image_of (D.content device.old)) files → ⊥) }
+    ensures same { D.content device.new ≡ D.content device.old }
+    ensures later { D.failures device.old ≤ D.failures device.new }
+    ensures failed { IsErrOf result ImageFault.Device → Rises (D.failures device.old) (D.failures device.new) }
+{
+    let geometry = read_geometry(device)?;
+    let image = read_blocks(&alloc, device, geometry.size)?;
+    summary_of(&alloc, &image, geometry)
+}

@@ -1,0 +1,134 @@
+-- A step on the disk puts a node.
+use Rattle.std.proofs.Common.{◌≡◌, ℕ, ◌+◌, ◌<◌, ◌≤◌, List, ◌++◌, None, Option, Some, length, set, ap, sym, refl, ◌∙◌, arith, inl, inr}
+use Rattle.std.proofs.lemmas.List.{length-append}
+use Rattle.unixmodel.specs.Files.{Files, Node, blocks_for, kind_of, links_of, longest, node_bytes, put, size_of, slot, with_links}
+use Rattle.unixmodel.specs.Files.Node.{Device, Directory, File}
+use Rattle.unixmodel.specs.Manifest.{Thing}
+use Rattle.unixmodel.specs.Manifest.Thing.{Bytes, Folder, Special}
+use Rattle.layout.specs.declared.Geometry.{Geometry}
+use Rattle.layout.specs.Image.{RawNode, bytes_of, free_blocks, inode_at, nodes_of, taken_for}
+use Rattle.layout.specs.Sound.{IsSound}
+use Rattle.balloc.specs.Inodes.{IsUnused, fresh_node}
+use Rattle.inode.specs.Writing.{Wrote, node_linked}
+use Rattle.imagemake.specs.Added.{LacksRoomFor, Widens}
+use Rattle.imagemake.specs.Stored.{Stores, bare, major_of, minor_of, raw_of}
+use Rattle.imagemake.proofs.Storing.{Stores-put, blocks_of-set, held-bytes, held-inode, held-node, held-whole, length-stored, slot-within, used_by}
+
+-- the same fields make the same node
+same-raw : {k k' a a' i i' l l' : ℕ} {b b' : List ℕ} → k ≡ k' → a ≡ a' → i ≡ i' → l ≡ l' → b ≡ b'
+    → ◌≡◌ {A = RawNode} (record { kind = k; major = a; minor = i; links = l; bytes = b }) (record { kind = k'; major = a'; minor = i'; links = l'; bytes = b' })
+same-raw p q r t u = λ i. record { kind = p i; major = q i; minor = r i; links = t i; bytes = u i }
+
+-- ---- a node without bytes
+
+slot-unused : (g : Geometry) (blocks : List (List ℕ)) (files : Files) → Stores g blocks files → (n : ℕ) → (inode_at blocks n).kind ≡ 0 → (o : Option Node) → slot files n ≡ o → slot files n ≡ None
+slot-unused g blocks files stores n free None e = e
+slot-unused g blocks files stores n free (Some node) e = absurd ((held-inode g blocks files stores n node e).kind free)
+
+fresh-bare : (t : Thing) → fresh_node (kind_of (bare t)) (major_of (bare t)) (minor_of (bare t)) 1 ≡ raw_of (bare t)
+fresh-bare Folder = refl
+fresh-bare (Bytes bytes) = refl
+fresh-bare (Special major minor) = refl
+
+bare-size : (t : Thing) → size_of (bare t) ≡ 0
+bare-size Folder = refl
+bare-size (Bytes bytes) = refl
+bare-size (Special major minor) = refl
+
+bare-whole : (t : Thing) → length (node_bytes (bare t)) ≡ size_of (bare t)
+bare-whole Folder = refl
+bare-whole (Bytes bytes) = refl
+bare-whole (Special major minor) = refl
+
+bare-blocks : (size : ℕ) → size ≡ 0 → blocks_for size ≡ 0
+bare-blocks size e = ap blocks_for e
+
+pub Stores-taken : (g : Geometry) (old new : List (List ℕ)) (n : ℕ) (t : Thing) (kind major minor : ℕ) → kind ≡ kind_of (bare t) → major ≡ major_of (bare t) → minor ≡ minor_of (bare t)
+    → IsUnused g old n → IsSound g new → nodes_of new g.inodes ≡ set (nodes_of old g.inodes) n (Some (fresh_node kind major minor 1)) → free_blocks g new ≡ free_blocks g old
+    → (files : Files) → Stores g old files → Stores g new (put files n (bare t))
+Stores-taken g old new n t kind major minor k a i fresh sound nodes free files stores =
+    let none : slot files n ≡ None = slot-unused g old files stores n fresh.unused (slot files n) refl in
+    let no_blocks : blocks_for (size_of (bare t)) ≡ 0 = bare-blocks (size_of (bare t)) (bare-size t) in
+    let unused : used_by (slot files n) ≡ 0 = ap used_by none in
+    Stores-put g old new files stores n (bare t) (omega (arith, fresh.high, length-stored g old files stores)) sound
+    (nodes ∙ ap (λ node. set (nodes_of old g.inodes) n (Some node)) (same-raw k a i refl refl ∙ fresh-bare t))
+    (bare-whole t)
+    (omega arith)
+
+-- ---- more bytes
+
+module _ (g : Geometry) (old new : List (List ℕ)) (n : ℕ) (bytes : List ℕ) (files : Files) (before after : Node) (stores : Stores g old files) (here : slot files n ≡ Some before) (wide : Widens bytes before after) where
+  wide-size : size_of after ≡ length (bytes_of old n) + length bytes
+  wide-size =
+      wide.size ∙ ap length wide.content ∙ length-append (node_bytes before) bytes
+      ∙ ap (λ b. length b + length bytes) (sym (held-bytes g old files stores n before here))
+
+  was-size : size_of before ≡ length (bytes_of old n)
+  was-size = sym (held-whole g old files stores n before here) ∙ ap length (sym (held-bytes g old files stores n before here))
+
+  was-blocks : used_by (slot files n) ≡ taken_for (length (bytes_of old n))
+  was-blocks = ap used_by here ∙ ap blocks_for was-size
+
+  wide-blocks : blocks_for (size_of after) ≡ taken_for (length (bytes_of old n) + length bytes)
+  wide-blocks = ap blocks_for wide-size
+
+  pub Stores-wide : Wrote g old new n (bytes_of old n ++ bytes) → Stores g new (put files n after)
+  Stores-wide wrote =
+      let is = held-node g old files stores n before here in
+      let balance = wrote.balance in
+      let long : taken_for (length (bytes_of old n ++ bytes)) ≡ taken_for (length (bytes_of old n) + length bytes) = ap taken_for (length-append (bytes_of old n) bytes) in
+      Stores-put g old new files stores n after (slot-within files n before here) wrote.sound
+      (wrote.nodes ∙ ap (λ node. set (nodes_of old g.inodes) n (Some node)) (same-raw
+      (ap (λ (r : RawNode). r.kind) is ∙ sym wide.kind)
+      (ap (λ (r : RawNode). r.major) is ∙ sym wide.major)
+      (ap (λ (r : RawNode). r.minor) is ∙ sym wide.minor)
+      (ap (λ (r : RawNode). r.links) is ∙ sym wide.links)
+      (ap (λ b. b ++ bytes) (held-bytes g old files stores n before here) ∙ sym wide.content)))
+      (sym wide.size)
+      (omega (arith, was-blocks, wide-blocks))
+
+  pub wide-short : length (bytes_of old n) + length bytes ≤ 274432 → size_of after ≤ longest
+  wide-short h = omega (arith, wide-size)
+
+  pub lacks-long : 274432 < length (bytes_of old n) + length bytes → LacksRoomFor g files n after
+  lacks-long h = inl (omega (arith, wide-size))
+
+  pub lacks-blocks : free_blocks g old + taken_for (length (bytes_of old n)) < taken_for (length (bytes_of old n) + length bytes) → LacksRoomFor g files n after
+  lacks-blocks few =
+      let free = stores.free in
+      inr (omega (arith, was-blocks, wide-blocks, blocks_of-set files n (Some after) (slot-within files n before here)))
+
+-- ---- another number of links
+
+raw-links : (node : Node) (k : ℕ) → raw_of (with_links node k) ≡ record { kind = kind_of node; major = major_of node; minor = minor_of node; links = k; bytes = node_bytes node }
+raw-links (File links bytes) k = refl
+raw-links (Device links major minor) k = refl
+raw-links (Directory links places) k = refl
+
+pub links-size : (node : Node) (k : ℕ) → size_of (with_links node k) ≡ size_of node
+links-size (File links bytes) k = refl
+links-size (Device links major minor) k = refl
+links-size (Directory links places) k = refl
+
+links-bytes : (node : Node) (k : ℕ) → node_bytes (with_links node k) ≡ node_bytes node
+links-bytes (File links bytes) k = refl
+links-bytes (Device links major minor) k = refl
+links-bytes (Directory links places) k = refl
+
+pub Stores-linked : (g : Geometry) (old new : List (List ℕ)) (n k : ℕ) → IsSound g new
+    → nodes_of new g.inodes ≡ set (nodes_of old g.inodes) n (Some (node_linked (inode_at old n) k (bytes_of old n))) → free_blocks g new ≡ free_blocks g old → k ≡ (inode_at old n).links + 1
+    → (files : Files) (node : Node) → Stores g old files → slot files n ≡ Some node → Stores g new (put files n (with_links node (links_of node + 1)))
+Stores-linked g old new n k sound nodes free one files node stores here =
+    let is = held-node g old files stores n node here in
+    let more : k ≡ links_of node + 1 = one ∙ ap (λ (r : RawNode). r.links + 1) is in
+    let same : blocks_for (size_of (with_links node (links_of node + 1))) ≡ blocks_for (size_of node) = ap blocks_for (links-size node (links_of node + 1)) in
+    let used : used_by (slot files n) ≡ blocks_for (size_of node) = ap used_by here in
+    Stores-put g old new files stores n (with_links node (links_of node + 1)) (slot-within files n node here) sound
+    (nodes ∙ ap (λ r. set (nodes_of old g.inodes) n (Some r)) (same-raw
+    (ap (λ (r : RawNode). r.kind) is)
+    (ap (λ (r : RawNode). r.major) is)
+    (ap (λ (r : RawNode). r.minor) is)
+    more
+    (held-bytes g old files stores n node here) ∙ sym (raw-links node (links_of node + 1))))
+    (ap length (links-bytes node (links_of node + 1)) ∙ held-whole g old files stores n node here ∙ sym (links-size node (links_of node + 1)))
+    (omega arith)

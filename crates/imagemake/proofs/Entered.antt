@@ -1,0 +1,109 @@
+-- An entry is put on a disk.
+use Rattle.std.proofs.Common.{◌≡◌, ℕ, ◌+◌, ◌*◌, ◌<◌, ◌≤◌, List, [], ◌∷◌, ◌++◌, None, Option, Some, Ok, Err, Result, length, drop, inl, inr, ap, sym, refl, ◌∙◌, arith, subst}
+use Rattle.std.specs.Prelude.{IsSome, is_some}
+use Rattle.std.proofs.lemmas.Bool.{cases_lt, false≢true}
+use Rattle.std.proofs.lemmas.List.{get_or_past, length-drop, length_push}
+use Rattle.std.proofs.lemmas.List.Sums.{count_by-le-length}
+use Rattle.unixmodel.specs.Files.{Entry, Files, is_directory, longest, slot, taken}
+use Rattle.unixmodel.specs.Files.Node.{Directory}
+use Rattle.unixmodel.specs.Image.{KeepsNode, KeepsRules, KeepsSize, entries_of, is_directory_at, subdirectories}
+use Rattle.unixmodel.specs.Manifest.{ManifestEntry, Thing, added, data_blocks_of, if_room, node_for, with_manifest_entry}
+use Rattle.layout.specs.declared.Geometry.{Geometry}
+use Rattle.imagemake.specs.Added.{CanAdd, IsStored}
+use Rattle.imagemake.specs.Begins.{AddsEntry, IsMade, IsSpot, listing, make_fault}
+use Rattle.imagemake.specs.Begun.{IsBegun}
+use Rattle.imagemake.specs.Stored.{Stores}
+use Rattle.imagemake.specs.Made.{MadeName}
+use Rattle.imagemake.specs.Making.{Refuses}
+use Rattle.imagemake.specs.declared.store.StoreFault.{StoreFault}
+use Rattle.imagemake.specs.declared.store.StoreFault.TheVariants.{Blocks, Device}
+use Rattle.imagemake.proofs.MadeEntry.{Adds-added, directory-at}
+use Rattle.imagemake.proofs.MadeFiles.{IsBegun-entry}
+use Rattle.imagemake.proofs.MadeSearch.{IsListed-more}
+use Rattle.imagemake.proofs.Spotting.{folder-made, spot-good, spot-room}
+
+-- ---- how many there are
+
+length-taken : {X : Type 0} (xs : List (Option X)) → length (taken xs) ≤ length xs
+length-taken [] = omega arith
+length-taken (None ∷ xs) = let h = length-taken xs in omega arith
+length-taken (Some x ∷ xs) = let h = length-taken xs in omega arith
+
+few-links : (files : Files) (d links : ℕ) (places : List (Option Entry)) → KeepsRules files → slot files d ≡ Some (Directory links places) → links < 65535
+unfolding subdirectories
+few-links files d links places rules at =
+    let kept : KeepsNode files d (Some (Directory links places)) = subst (KeepsNode files d) at (rules.nodes d) in
+    let size : 16 * length places ≤ longest = subst KeepsSize at (rules.sizes d) in
+    let counted : links ≡ 1 + subdirectories files d = kept.counted in
+    let most : subdirectories files d ≤ length (entries_of (slot files d)) = count_by-le-length (λ (e : Entry). is_directory_at files e.number) (entries_of (slot files d)) in
+    let e : length (entries_of (slot files d)) ≡ length (taken (drop 2 places)) = ap (λ o. length (entries_of o)) at in
+    omega (arith, length-taken (drop 2 places), length-drop 2 places)
+
+within : (files : Files) (n : ℕ) → IsSome (slot files n) → n < length files
+within files n some = elim (cases_lt n (length files)) [ inl l ↦ l | inr m ↦ absurd (false≢true (sym (ap is_some (get_or_past files n None m)) ∙ some)) ]
+
+module _ (g : Geometry) (blocks : List (List ℕ)) (made : List MadeName) (files : Files) (is : IsMade g blocks made files) where
+  pub made-inodes : length made + 2 ≤ g.inodes
+  made-inodes =
+      let count : length files ≡ g.inodes = is.begun.count in
+      let last : length made + 1 < length files = within files (length made + 1) (is.begun.used (length made + 1) (omega arith) (omega arith)) in
+      omega arith
+
+  pub made-few : length made < 65536
+  made-few = let h = is.stores.sound.parts.inodes_high in let k = made-inodes in omega arith
+
+  module _ (path : List ℕ) (d : ℕ) (name : List ℕ) (spot : IsSpot made path d name) (room : length made + 2 < g.inodes) where
+    pub CanAdd-spot : CanAdd files d name (length made + 2)
+    CanAdd-spot =
+        let above = directory-at (slot files d) (folder-made made files is.listed d ∙ spot.folder) in
+        let count : length files ≡ g.inodes = is.begun.count in
+        record {
+          links = above.0;
+          places = above.1;
+          directory = above.2;
+          few = few-links files d above.0 above.1 is.begun.rules above.2;
+          named = spot-good made path d name spot;
+          low = omega arith;
+          high = omega arith;
+          unused = is.begun.free (length made + 2) (omega arith);
+        }
+
+    -- the same of a name and a number that are equal
+    module _ (w : List ℕ) (k : ℕ) (same : w ≡ name) (next : k ≡ length made + 2) where
+      pub CanAdd-named : CanAdd files d w k
+      CanAdd-named = subst (λ v. CanAdd files d v k) (sym same) (subst (CanAdd files d name) (sym next) CanAdd-spot)
+
+      pub IsStored-spot : (new : List (List ℕ)) (thing : Thing) (r : Result (Unit {0}) StoreFault) → IsStored g new files d w k thing r → IsStored g new files d name (length made + 2) thing r
+      IsStored-spot new thing r h = subst (λ v. IsStored g new files d v (length made + 2) thing r) same (subst (λ n. IsStored g new files d w n thing r) next h)
+
+    -- it is stored
+    pub AddsEntry-stored : (new : List (List ℕ)) (thing : Thing) (one : MadeName) (now : List MadeName) → now ≡ made ++ one ∷ [] → one.directory ≡ d → one.name ≡ name → one.folder ≡ is_directory (node_for (length made + 2) d thing)
+        → Stores g new (added files d name (length made + 2) thing) → if_room (data_blocks_of g.size g.inodes) d (length made + 2) (added files d name (length made + 2) thing) ≡ Ok (added files d name (length made + 2) thing)
+        → AddsEntry g new made now files (record { path = path; thing = thing })
+    AddsEntry-stored new thing one now pushed stands named folder stores fits =
+        let n = length made + 2 in
+        let more = added files d name n thing in
+        let entry : ManifestEntry = record { path = path; thing = thing } in
+        let passed : with_manifest_entry (data_blocks_of g.size g.inodes) g.inodes files n entry ≡ Ok more =
+        spot-room made path d name spot (data_blocks_of g.size g.inodes) g.inodes files n thing is.listed room ∙ fits in
+        let above = directory-at (slot files d) (folder-made made files is.listed d ∙ spot.folder) in
+        let count : length files ≡ g.inodes = is.begun.count in
+        let high : n < length files = omega arith in
+        let long : n + 1 ≡ length (made ++ one ∷ []) + 2 = omega (arith, length_push made one) in
+        let adds = Adds-added files d above.0 above.1 name n thing high (is.begun.free n (omega arith)) above.2 in
+        record {
+          more = more;
+          is = passed;
+          longer = ap length pushed ∙ length_push made one;
+          made_more = subst (λ names. IsMade g new names more) (sym pushed) (record {
+            stores = stores;
+            begun = subst (IsBegun (data_blocks_of g.size g.inodes) g.inodes more) long (IsBegun-entry (data_blocks_of g.size g.inodes) g.inodes files n entry more is.begun passed);
+            listed = IsListed-more adds is.begun.rules listing made one refl is.listed stands named folder;
+          });
+        }
+
+    -- it isn't
+    pub refused-stored : (new : List (List ℕ)) (thing : Thing) (fault : StoreFault) → IsStored g new files d name (length made + 2) thing (Err fault)
+        → Refuses (with_manifest_entry (data_blocks_of g.size g.inodes) g.inodes files (length made + 2) (record { path = path; thing = thing })) (make_fault fault)
+    refused-stored new thing Blocks told = spot-room made path d name spot (data_blocks_of g.size g.inodes) g.inodes files (length made + 2) thing is.listed room ∙ told
+    refused-stored new thing Device told = tt

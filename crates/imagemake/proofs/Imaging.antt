@@ -1,0 +1,121 @@
+-- From a disk that stores files to the bytes of an image that denotes them.
+use Rattle.std.proofs.Common.{◌≡◌, ℕ, ◌+◌, ◌*◌, ◌/◌, ◌%◌, ◌≤◌, true, false, cond, List, ◌∷◌, ◌++◌, None, Option, Some, Ok, Err, length, get_or, take, map, zero, suc, ap, sym, refl, ◌∙◌, arith, subst}
+use Rattle.std.specs.Prelude.{flat_map, replicate}
+use Rattle.std.specs.List.{range_with_len}
+use Rattle.std.proofs.lemmas.List.{append-nil, length-map, take_all}
+use Rattle.std.proofs.lemmas.List.Concat.{flat_map-append}
+use Rattle.std.proofs.lemmas.List.Folds.{flat_map-map}
+use Rattle.blockdev.specs.Blocks as device
+use Rattle.blockdev.specs.Blocks.{block_of}
+use Rattle.layout.specs.declared.Geometry.{Geometry}
+use Rattle.layout.specs.Image.{free_blocks, nodes_of}
+use Rattle.layout.specs.Sound.{IsSound}
+use Rattle.layout.specs.Super.{data_start_of}
+use Rattle.unixmodel.specs.Counts.{blocks_of}
+use Rattle.unixmodel.specs.Files.{Files, Node, free_slots, slot}
+use Rattle.unixmodel.specs.Files.Node.{Device, Directory, File}
+use Rattle.unixmodel.specs.Image.{Denotes}
+use Rattle.unixmodel.specs.Manifest.{ManifestEntry, bare_files, data_blocks_of, files_made, has_numbers, with_entries}
+use Rattle.unixmodel.specs.Manifest.Wrong.{Numbers}
+use Rattle.imagemake.specs.Begins.{MakesEntries}
+use Rattle.imagerules.specs.Content.{image_of, length-image_of}
+use Rattle.imagemake.specs.Making.{MakesImage, Refuses}
+use Rattle.imagemake.specs.Stored.{IsWhole, Stores, raw_slot}
+use Rattle.imagemake.proofs.Whole.{HoldsFiles, IsHeld}
+use Rattle.imagemake.specs.declared.manifest.MakeFault.{MakeFault}
+use Rattle.imagemake.proofs.Denoted.{Denotes-sound}
+use Rattle.imagemake.proofs.MadeFiles.{KeepsRules-made}
+use Rattle.imagerules.proofs.Marking.{range-split}
+use Rattle.imagerules.proofs.Spelling.{take_next}
+use Rattle.imagemake.proofs.Storing.{get-map}
+
+-- ---- blocks and bytes
+
+fronts : (bytes : List ℕ) (n : ℕ) → 1024 * n ≤ length bytes → flat_map (block_of bytes) (range_with_len 0 n) ≡ take (1024 * n) bytes
+fronts bytes zero h = refl
+fronts bytes (suc n) h =
+    let e : suc n ≡ n + 1 = omega arith in
+    let z : 0 + n ≡ n = omega arith in
+    let m : 1024 * n + 1024 ≡ 1024 * suc n = omega arith in
+    ap (flat_map (block_of bytes)) (ap (range_with_len 0) e ∙ range-split 0 n 1)
+    ∙ flat_map-append (block_of bytes) (range_with_len 0 n) (range_with_len (0 + n) 1)
+    ∙ ap (λ r. flat_map (block_of bytes) (range_with_len 0 n) ++ r) (append-nil (block_of bytes (0 + n)) ∙ ap (block_of bytes) z)
+    ∙ ap (λ r. r ++ block_of bytes n) (fronts bytes n (omega arith))
+    ∙ take_next (1024 * n) 1024 bytes ∙ ap (λ k. take k bytes) m
+
+-- whole blocks, one after the other
+pub image_of-blocks : (bytes : List ℕ) → length bytes % 1024 ≡ 0 → image_of (device.blocks_of bytes) ≡ bytes
+image_of-blocks bytes whole =
+    flat_map-map (λ (b : List ℕ). b) (block_of bytes) (range_with_len 0 (length bytes / 1024))
+    ∙ fronts bytes (length bytes / 1024) (omega arith)
+    ∙ take_all (1024 * (length bytes / 1024)) bytes (omega arith)
+
+-- ---- a disk without files
+
+none-of : (n i : ℕ) → slot {X = Node} (free_slots n) i ≡ None
+unfolding free_slots
+none-of zero i = refl
+none-of (suc n) zero = refl
+none-of (suc n) (suc i) = none-of n i
+
+map-none : (n : ℕ) → map raw_slot (replicate n None) ≡ replicate n None
+map-none zero = refl
+map-none (suc n) = ap (λ r. None ∷ r) (map-none n)
+
+no-blocks : (n : ℕ) → blocks_of (free_slots n) ≡ 0
+unfolding blocks_of free_slots
+no-blocks zero = refl
+no-blocks (suc n) = no-blocks n
+
+pub Stores-none : (g : Geometry) (blocks : List (List ℕ)) → IsSound g blocks → nodes_of blocks g.inodes ≡ replicate g.inodes None → free_blocks g blocks + data_start_of g.size g.inodes ≡ g.size → Stores g blocks (free_slots g.inodes)
+unfolding free_slots
+Stores-none g blocks sound nodes free =
+    let z : blocks_of (free_slots g.inodes) ≡ 0 = no-blocks g.inodes in
+    record {
+      sound = sound;
+      nodes = nodes ∙ sym (map-none g.inodes);
+      free = omega arith;
+      whole = λ n. subst IsWhole (sym (none-of g.inodes n)) tt;
+    }
+
+-- ---- the files that a disk stores
+
+held-raw : (o : Option Node) → IsHeld (raw_slot o) o
+held-raw None = tt
+held-raw (Some (File links bytes)) = record { kind = refl; links = refl; bytes = refl; device = tt }
+held-raw (Some (Device links major minor)) = record { kind = refl; links = refl; bytes = refl; device = (refl, refl) }
+held-raw (Some (Directory links places)) = record { kind = refl; links = refl; bytes = refl; device = tt }
+
+pub HoldsFiles-stored : (g : Geometry) (blocks : List (List ℕ)) (files : Files) → Stores g blocks files → HoldsFiles (nodes_of blocks g.inodes) files
+HoldsFiles-stored g blocks files stores = record {
+  count = ap length stores.nodes ∙ length-map files raw_slot;
+  each = λ n h. subst (λ raw. IsHeld raw (slot files n)) (sym (ap (λ nodes. get_or nodes n None) stores.nodes ∙ get-map files n)) (held-raw (slot files n));
+}
+
+-- ---- what a manifest makes
+
+module _ (entries : List ManifestEntry) (size inodes : ℕ) where
+  pub refused-numbers : has_numbers size inodes ≡ false → files_made entries size inodes ≡ Err Numbers
+  unfolding files_made
+  refused-numbers h = ap (λ b. cond b (with_entries (data_blocks_of size inodes) inodes (bare_files inodes) 2 entries) (Err Numbers)) h
+
+  made-by : has_numbers size inodes ≡ true → files_made entries size inodes ≡ with_entries (data_blocks_of size inodes) inodes (bare_files inodes) 2 entries
+  unfolding files_made
+  made-by h = ap (λ b. cond b (with_entries (data_blocks_of size inodes) inodes (bare_files inodes) 2 entries) (Err Numbers)) h
+
+  pub refused-entries : has_numbers size inodes ≡ true → (fault : MakeFault) → Refuses (with_entries (data_blocks_of size inodes) inodes (bare_files inodes) 2 entries) fault → Refuses (files_made entries size inodes) fault
+  refused-entries h fault told = subst (λ r. Refuses r fault) (sym (made-by h)) told
+
+  pub MakesImage-entries : has_numbers size inodes ≡ true → (g : Geometry) (blocks : List (List ℕ)) (image : List ℕ) → g.size ≡ size → g.inodes ≡ inodes → MakesEntries g blocks entries → image ≡ image_of blocks → MakesImage entries size inodes image
+  MakesImage-entries h g blocks image e f makes bytes =
+      let made : files_made entries size inodes ≡ Ok makes.files =
+      made-by h ∙ ap (λ s. with_entries (data_blocks_of s inodes) inodes (bare_files inodes) 2 entries) (sym e)
+      ∙ ap (λ i. with_entries (data_blocks_of g.size i) i (bare_files i) 2 entries) (sym f) ∙ makes.is in
+      let parts = makes.stores.sound.parts in
+      record {
+        files = makes.files;
+        made = made;
+        denotes = subst (λ b. Denotes b makes.files) (sym bytes)
+            (Denotes-sound g blocks makes.files makes.stores.sound (HoldsFiles-stored g blocks makes.files makes.stores) (KeepsRules-made entries size inodes makes.files made).0);
+        whole = ap length bytes ∙ length-image_of blocks parts.sizes ∙ ap (λ k. 1024 * k) (parts.count ∙ e);
+      }

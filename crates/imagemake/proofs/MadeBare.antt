@@ -1,0 +1,127 @@
+-- The files of an image with a root alone keep the rules.
+use Rattle.std.proofs.Common.{◌≡◌, ◌≢◌, ℕ, zero, suc, ◌+◌, ◌-◌, ◌≤◌, false, List, [], ◌∷◌, ◌++◌, length, None, Some, inl, inr, map, ap, sym, refl, ◌∙◌, arith, subst}
+use Rattle.std.specs.Prelude.{IsSome, IsTrue, count_by, flat_map, is_some, option_map, sum_by, unwrap_or, ◌==◌}
+use Rattle.std.specs.List.{range_with_len}
+use Rattle.std.proofs.lemmas.Bool.{cases_eq, cases_lt, false≢true}
+use Rattle.std.proofs.lemmas.List.{get_or-replicate, get_or-set_other, get_or-set_same, get_or_past, length-replicate, length-set}
+use Rattle.std.proofs.lemmas.List.Elements.{All-nil}
+use Rattle.unixmodel.specs.Counts.{blocks_of}
+use Rattle.unixmodel.specs.Files.{Entry, Node, blocks_for, dot_dot, find, free_slots, is_directory, parts, size_of, slot, taken}
+use Rattle.unixmodel.specs.Image.{KeepsNode, KeepsRules, KeepsSize, all_entries, entries_of, is_name, names_of, parent_of, subdirectories}
+use Rattle.unixmodel.specs.Manifest.{bare_directory, bare_files}
+use Rattle.imagemake.specs.Begun.{IsBegun}
+
+length-free : (n : ℕ) → length (free_slots {X = Node} n) ≡ n
+unfolding free_slots
+length-free n = length-replicate n None
+
+slot-free : (n m : ℕ) → slot (free_slots {X = Node} n) m ≡ None
+unfolding free_slots
+slot-free n m = elim (cases_lt m n) [
+  | inl l ↦ get_or-replicate n m None None l
+  | inr r ↦ get_or_past (free_slots n) m None (omega (arith, length-free n))
+]
+
+taken-free : (n : ℕ) → taken (free_slots {X = Node} n) ≡ []
+unfolding free_slots
+taken-free zero = refl
+taken-free (suc n) = taken-free n
+
+pub flat_map-none : {X Y : Type 0} (f : X → List Y) → ((x : X) → f x ≡ []) → (xs : List X) → flat_map f xs ≡ []
+flat_map-none f h [] = refl
+flat_map-none f h (x ∷ xs) = ap (λ r. r ++ flat_map f xs) (h x) ∙ flat_map-none f h xs
+
+bare-blocks : (n : ℕ) → blocks_of (bare_files (suc (suc n))) ≡ 1
+unfolding bare_files blocks_of free_slots
+bare-blocks n = ap (λ xs. sum_by (λ (node : Node). blocks_for (size_of node)) (bare_directory 1 1 ∷ xs)) (taken-free n)
+
+module _ (inodes : ℕ) (some : 2 ≤ inodes) where
+  pub length-bare : length (bare_files inodes) ≡ inodes
+  unfolding bare_files
+  length-bare = length-set (free_slots inodes) 1 (Some (bare_directory 1 1)) ∙ length-free inodes
+
+  pub slot-root : slot (bare_files inodes) 1 ≡ Some (bare_directory 1 1)
+  unfolding bare_files
+  slot-root = get_or-set_same (free_slots inodes) 1 (Some (bare_directory 1 1)) None (omega (arith, length-free inodes))
+
+  pub slot-bare : (m : ℕ) → m ≢ 1 → slot (bare_files inodes) m ≡ None
+  unfolding bare_files
+  slot-bare m s = get_or-set_other (free_slots inodes) 1 m (Some (bare_directory 1 1)) None s ∙ slot-free inodes m
+
+  bare-used : (m : ℕ) → IsSome (slot (bare_files inodes) m) → m ≡ 1
+  bare-used m h = elim (cases_eq m 1) [
+    | inl e ↦ e
+    | inr s ↦ absurd (false≢true (sym (ap is_some (slot-bare m s)) ∙ h))
+  ]
+
+  bare-entries : (m : ℕ) → entries_of (slot (bare_files inodes) m) ≡ []
+  bare-entries m = elim (cases_eq m 1) [
+    | inl e ↦ ap (λ k. entries_of (slot (bare_files inodes) k)) e ∙ ap entries_of slot-root
+    | inr s ↦ ap entries_of (slot-bare m s)
+  ]
+
+  no_entries : all_entries (bare_files inodes) ≡ []
+  unfolding all_entries
+  no_entries =
+      flat_map-none (λ d. map (λ (e : Entry). (d, e)) (entries_of (slot (bare_files inodes) d)))
+      (λ d. ap (map (λ (e : Entry). (d, e))) (bare-entries d)) (range_with_len 0 (length (bare_files inodes)))
+
+  bare-named : names_of (bare_files inodes) 1 ≡ 0
+  unfolding names_of
+  bare-named = ap (count_by (λ (e : ℕ × Entry). e.1.number == 1)) no_entries
+
+  bare-parent : parent_of (bare_files inodes) 1 ≡ 1
+  unfolding parent_of
+  bare-parent = refl
+
+  bare-subdirectories : subdirectories (bare_files inodes) 1 ≡ 0
+  unfolding subdirectories
+  bare-subdirectories = ap (count_by _) (bare-entries 1)
+
+  bare-reached : find (bare_files inodes) 1 [] ≡ Some 1
+  unfolding find parts
+  bare-reached = refl
+
+  bare-node : (m : ℕ) → KeepsNode (bare_files inodes) m (slot (bare_files inodes) m)
+  bare-node m = elim (cases_eq m 1) [
+    | inl e ↦ subst (λ k. KeepsNode (bare_files inodes) k (slot (bare_files inodes) k)) (sym e) (subst (KeepsNode (bare_files inodes) 1) (sym slot-root) record {
+      own = refl;
+      parent = ap (λ (p : ℕ). Some (record { name = dot_dot; number = p })) (sym bare-parent);
+      names = All-nil (λ (x : Entry). IsTrue (is_name x.name));
+      once = λ i j x l u. absurd (omega arith);
+      numbers = All-nil (λ (x : Entry). IsSome (slot (bare_files inodes) x.number));
+      named = bare-named;
+      counted = ap (λ c. 1 + c) (sym bare-subdirectories);
+    })
+    | inr s ↦ subst (KeepsNode (bare_files inodes) m) (sym (slot-bare m s)) tt
+  ]
+
+  bare-size : (m : ℕ) → KeepsSize (slot (bare_files inodes) m)
+  bare-size m = elim (cases_eq m 1) [
+    | inl e ↦ subst (λ k. KeepsSize (slot (bare_files inodes) k)) (sym e) (subst KeepsSize (sym slot-root) (omega arith))
+    | inr s ↦ subst KeepsSize (sym (slot-bare m s)) tt
+  ]
+
+  pub KeepsRules-bare : KeepsRules (bare_files inodes)
+  KeepsRules-bare = record {
+    root = ap (λ o. unwrap_or (option_map is_directory o) false) slot-root;
+    sizes = bare-size;
+    nodes = bare-node;
+    reached = λ m h. ([], bare-reached ∙ ap Some (sym (bare-used m h)));
+  }
+
+  room_bare : blocks_of (bare_files inodes) ≡ 1
+  room_bare =
+      let e : inodes ≡ suc (suc (inodes - 2)) = omega arith in
+      ap (λ k. blocks_of (bare_files k)) e ∙ bare-blocks (inodes - 2)
+
+  pub IsBegun-bare : (blocks : ℕ) → 1 ≤ blocks → IsBegun blocks inodes (bare_files inodes) 2
+  IsBegun-bare blocks h = record {
+    rules = KeepsRules-bare;
+    count = length-bare;
+    zero = slot-bare 0 (λ e. absurd (omega arith));
+    used = λ m l u. let e : m ≡ 1 = omega arith in ap (λ k. is_some (slot (bare_files inodes) k)) e ∙ ap is_some slot-root;
+    free = λ m l. slot-bare m (λ e. absurd (omega arith));
+    next = omega arith;
+    room = omega (arith, room_bare);
+  }

@@ -1,0 +1,83 @@
+-- Files with an entry more: names lead where they led before, and the new one to its number.
+use Rattle.std.proofs.Common.{◌≡◌, ℕ, ◌≤◌, List, [], ◌∷◌, ◌++◌, None, Option, Some, inl, inr, ap, sym, refl, ◌∙◌, arith}
+use Rattle.std.specs.Prelude.{IsSome, bytes_eq, is_some, option_and_then}
+use Rattle.std.proofs.lemmas.Bool.{cases_eq, cond-true}
+use Rattle.std.proofs.lemmas.Option.{none-some, option_and_then_some}
+use Rattle.std.proofs.lemmas.Slice.Eq.{bytes_eq-Decides}
+use Rattle.unixmodel.specs.Files.{Entry, Files, entry_number, find, follow, lookup, parts, slot}
+use Rattle.unixmodel.specs.Image.{KeepsRules}
+use Rattle.unixmodel.specs.Manifest.{Thing}
+use Rattle.unixmodel.specs.Manifest.Thing.{Bytes, Folder, Special}
+use Rattle.imagemake.proofs.MadeEntry.{Adds, entry_for, links_with}
+use Rattle.imagemake.proofs.MadeLookup.{first, first-kept, first-past, found, lookup-directory, lookup-found, number-none, number-some}
+use Rattle.imagemake.proofs.MadeNames.{directory-above}
+use Rattle.imagemake.proofs.MadePaths.{IsGiven, find-root, follow-append, parts-slash}
+
+links_least : (thing : Thing) (links : ℕ) → 1 ≤ links → 1 ≤ links_with thing links
+links_least Folder links h = omega arith
+links_least (Bytes bytes) links h = h
+links_least (Special major minor) links h = h
+
+module _ {files more : Files} {d links : ℕ} {places : List (Option Entry)} {name : List ℕ} {n : ℕ} {thing : Thing} (a : Adds files more d links places name n thing) (rules : KeepsRules files) where
+  live_before : 1 ≤ links
+  live_before = let counted = (directory-above a rules).counted in omega arith
+
+  pub lookup-above : (w : List ℕ) → lookup more d w ≡ entry_number (first w (places ++ Some (entry_for name n) ∷ []))
+  lookup-above w = lookup-directory more d (links_with thing links) (places ++ Some (entry_for name n) ∷ []) w a.above (links_least thing links live_before)
+
+  pub lookup-before : (w : List ℕ) → lookup files d w ≡ entry_number (first w places)
+  lookup-before w = lookup-directory files d links places w a.before live_before
+
+  pub first-absent : lookup files d name ≡ None → first name places ≡ None
+  first-absent absent = number-none (first name places) (sym (lookup-before name) ∙ absent)
+
+  pub lookup-new : lookup files d name ≡ None → lookup more d name ≡ Some n
+  lookup-new absent =
+      lookup-above name
+      ∙ ap entry_number (first-past name places (Some (entry_for name n) ∷ []) (first-absent absent) ∙ cond-true (bytes_eq name name) (Some (entry_for name n)) None ((bytes_eq-Decides name name).1 refl))
+
+  lookup-kept_above : (w : List ℕ) (m : ℕ) → lookup files d w ≡ Some m → lookup more d w ≡ Some m
+  lookup-kept_above w m h =
+      let r = number-some (first w places) m (sym (lookup-before w) ∙ h) in
+      lookup-above w ∙ ap entry_number (first-kept w places (Some (entry_for name n) ∷ []) r.0 r.1) ∙ ap Some r.2
+
+  -- what a name led to stays
+  pub lookup-kept : (k : ℕ) (w : List ℕ) (m : ℕ) → lookup files k w ≡ Some m → lookup more k w ≡ Some m
+  lookup-kept k w m h = elim (cases_eq k d) [
+    | inl e ↦ ap (λ j. lookup more j w) e ∙ lookup-kept_above w m (ap (λ j. lookup files j w) (sym e) ∙ h)
+    | inr t ↦ elim (cases_eq k n) [
+      | inl e ↦ absurd (none-some m (sym (lookup-found files k w ∙ ap (λ j. found w (slot files j)) e ∙ ap (found w) a.free) ∙ h))
+      | inr s ↦ lookup-found more k w ∙ ap (found w) (a.others k s t) ∙ sym (lookup-found files k w) ∙ h
+    ]
+  ]
+
+  pub follow-kept : (ws : List (List ℕ)) (k m : ℕ) → follow files k ws ≡ Some m → follow more k ws ≡ Some m
+  follow-kept [] k m h = h
+  follow-kept (w ∷ ws) k m h =
+      option_and_then_some (λ next. follow files next ws) (lookup files k w) m h (λ j e f.
+      ap (option_and_then (λ next. follow more next ws)) (lookup-kept k w j e) ∙ follow-kept ws j m f)
+
+  reached_before : (m : ℕ) → IsSome (slot files m) → (path : List ℕ) × (find more 1 path ≡ Some m)
+  reached_before m h =
+      let r = rules.reached m h in
+      (r.0, find-root more r.0 ∙ follow-kept (parts r.0) 1 m (sym (find-root files r.0) ∙ r.1))
+
+  module _ (given : IsGiven name) (absent : lookup files d name ≡ None) where
+    reached_new : (path : List ℕ) × (find more 1 path ≡ Some n)
+    reached_new =
+        let r = rules.reached d (ap is_some a.before) in (
+          r.0 ++ 0x2f ∷ name,
+          find-root more (r.0 ++ 0x2f ∷ name) ∙ ap (follow more 1) (parts-slash r.0 name given)
+              ∙ follow-append more 1 (parts r.0) (name ∷ [])
+              ∙ ap (option_and_then (λ k. follow more k (name ∷ []))) (follow-kept (parts r.0) 1 d (sym (find-root files r.0) ∙ r.1))
+              ∙ ap (option_and_then (λ k. Some k)) (lookup-new absent),
+        )
+
+    pub reached-more : (m : ℕ) → IsSome (slot more m) → (path : List ℕ) × (find more 1 path ≡ Some m)
+    reached-more m h = elim (cases_eq m n) [
+      | inl e ↦ let r = reached_new in (r.0, r.1 ∙ ap Some (sym e))
+      | inr s ↦ elim (cases_eq m d) [
+        | inl e ↦ reached_before m (ap (λ k. is_some (slot files k)) e ∙ ap is_some a.before)
+        | inr t ↦ reached_before m (ap is_some (sym (a.others m s t)) ∙ h)
+      ]
+    ]

@@ -1,0 +1,156 @@
+-- The pieces of a path, one after the other, and what they reach in the list of what is made.
+use Rattle.std.proofs.Common.{◌≡◌, ℕ, ◌+◌, ◌-◌, ◌<◌, ◌≤◌, Bool, List, [], ◌∷◌, None, Option, Some, length, get_or, take, drop, ap, sym, refl, ◌∙◌, arith, cond, true, false, not, zero, suc, inl, inr, add-one}
+use Rattle.std.specs.Prelude.{nat_lt, option_and_then, option_map, position, slice_get, unwrap_or, ◌&&◌, ◌==◌}
+use Rattle.std.specs.List.{list_all, position_or_len}
+use Rattle.std.proofs.lemmas.Bool.{cases_lt, cond-false, cond-true, le-ltb, lt-ltb}
+use Rattle.std.proofs.lemmas.List.{drop-drop, length-drop, take_rest}
+use Rattle.std.proofs.lemmas.List.Quantifiers.{position-Some}
+use Rattle.std.proofs.lemmas.List.Sums.{fails_before_first, position_or_len_is}
+use Rattle.std.proofs.lemmas.Option.{none-some, slice_get-get_or, slice_get_past}
+use Rattle.unixmodel.specs.Files.{onto_first, pieces, split_last, with_last}
+use Rattle.unixmodel.specs.Image.{is_name}
+use Rattle.imagemake.specs.Made.{MadeName, found, is_folder, reach, seek, stands_at}
+
+-- where no item passes
+pub position-None : {X : Type 0} (p : X → Bool) (xs : List X) (d : X) → position p xs ≡ None → (k : ℕ) → k < length xs → p (get_or xs k d) ≡ false
+position-None p xs d none k h =
+    elim (cases_lt (position_or_len p xs) (length xs)) [
+      | inl l ↦ absurd (none-some (position_or_len p xs) (sym none ∙ cond-true _ (Some (position_or_len p xs)) None (lt-ltb (position_or_len p xs) (length xs) l)))
+      | inr m ↦ fails_before_first p xs k d (omega arith)
+    ]
+
+pieces_split : (bs : List ℕ) (i : ℕ) → i < length bs → (get_or bs i 0 == 0x2f) ≡ true → ((k : ℕ) → k < i → (get_or bs k 0 == 0x2f) ≡ false)
+    → pieces bs ≡ take i bs ∷ pieces (drop (suc i) bs)
+pieces_split [] i h slash none = absurd (omega arith)
+pieces_split (b ∷ bs) zero h slash none = cond-true (b == 0x2f) ([] ∷ pieces bs) (onto_first b (pieces bs)) slash
+pieces_split (b ∷ bs) (suc i) h slash none =
+    cond-false (b == 0x2f) ([] ∷ pieces bs) (onto_first b (pieces bs)) (none 0 (omega arith))
+    ∙ ap (onto_first b) (pieces_split bs i (omega arith) slash (λ k l. none (suc k) (omega arith)))
+
+pieces_whole : (bs : List ℕ) → ((k : ℕ) → k < length bs → (get_or bs k 0 == 0x2f) ≡ false) → pieces bs ≡ bs ∷ []
+pieces_whole [] none = refl
+pieces_whole (b ∷ bs) none =
+    cond-false (b == 0x2f) ([] ∷ pieces bs) (onto_first b (pieces bs)) (none 0 (omega arith))
+    ∙ ap (onto_first b) (pieces_whole bs (λ k l. none (suc k) (omega arith)))
+
+-- up to the first slash
+pub pieces_first : (bs : List ℕ) (i : ℕ) → position (λ b. b == 0x2f) bs ≡ Some i → pieces bs ≡ take i bs ∷ pieces (drop (i + 1) bs)
+pieces_first bs i at =
+    let s = position-Some (λ b. b == 0x2f) bs i 0 at in
+    pieces_split bs i s.0 s.1 s.2 ∙ ap (λ n. take i bs ∷ pieces (drop n bs)) (sym (add-one i))
+
+pub pieces_last : (bs : List ℕ) → position (λ b. b == 0x2f) bs ≡ None → pieces bs ≡ bs ∷ []
+pieces_last bs none = pieces_whole bs (position-None (λ b. b == 0x2f) bs 0 none)
+
+module _ (path : List ℕ) (at i : ℕ) (slash : position (λ b. b == 0x2f) (drop at path) ≡ Some i) where
+  pub within_next : at + (i + 1) ≤ length path
+  within_next = let s = (position-Some (λ b. b == 0x2f) (drop at path) i 0 slash).0 in omega (arith, length-drop at path)
+
+  pub pieces_next : pieces (drop at path) ≡ take i (drop at path) ∷ pieces (drop (at + (i + 1)) path)
+  pieces_next = pieces_first (drop at path) i slash ∙ ap (λ bs. take i (drop at path) ∷ pieces bs) (drop-drop (i + 1) at path)
+
+  pub good_next : (name : List ℕ) → name ≡ take i (drop at path) → is_name name ≡ true → list_all is_name (pieces (drop at path)) ≡ list_all is_name (pieces (drop (at + (i + 1)) path))
+  good_next name e good =
+      ap (list_all is_name) pieces_next
+      ∙ ap (λ b. b && list_all is_name (pieces (drop (at + (i + 1)) path))) (ap is_name (sym e) ∙ good)
+
+  pub bad_next : (name : List ℕ) → name ≡ take i (drop at path) → is_name name ≡ false → list_all is_name (pieces (drop at path)) ≡ false
+  bad_next name e bad =
+      ap (list_all is_name) pieces_next
+      ∙ ap (λ b. b && list_all is_name (pieces (drop (at + (i + 1)) path))) (ap is_name (sym e) ∙ bad)
+
+and-true : (b : Bool) → (b && true) ≡ b
+and-true true = refl
+and-true false = refl
+
+pub good_last : (bs : List ℕ) → position (λ b. b == 0x2f) bs ≡ None → list_all is_name (pieces bs) ≡ is_name bs
+good_last bs none = ap (list_all is_name) (pieces_last bs none) ∙ and-true (is_name bs)
+
+-- ---- what all but the last name reach
+
+onto_some : (made : List MadeName) (d : ℕ) (w : List ℕ) (ws : List (List ℕ)) (o : Option (List (List ℕ) × List ℕ)) → split_last ws ≡ o → (s : List (List ℕ) × List ℕ) → o ≡ Some s
+    → reach made d (w ∷ ws) ≡ Some (option_and_then (λ next. seek made next s.0) (found made d w), s.1)
+unfolding reach
+onto_some made d w ws o e s f = ap (λ o. option_map (λ (split : List (List ℕ) × List ℕ). (seek made d split.0, split.1)) (Some (with_last w o))) (e ∙ f)
+
+pub reach_some : (made : List MadeName) (d : ℕ) (ws : List (List ℕ)) (s : List (List ℕ) × List ℕ) → split_last ws ≡ Some s → reach made d ws ≡ Some (seek made d s.0, s.1)
+unfolding reach
+reach_some made d ws s e = ap (option_map (λ (split : List (List ℕ) × List ℕ). (seek made d split.0, split.1))) e
+
+pub split-pieces : (bs : List ℕ) → (s : List (List ℕ) × List ℕ) × (split_last (pieces bs) ≡ Some s)
+split-pieces [] = (([], []), refl)
+split-pieces (b ∷ bs) = go (b == 0x2f) (pieces bs) (split-pieces bs) where
+  onto : (b : ℕ) (ws : List (List ℕ)) → (s : List (List ℕ) × List ℕ) × (split_last (onto_first b ws) ≡ Some s)
+  onto b [] = (([], b ∷ []), refl)
+  onto b (w ∷ ws) = (with_last (b ∷ w) (split_last ws), refl)
+
+  go : (t : Bool) (ws : List (List ℕ)) → (s : List (List ℕ) × List ℕ) × (split_last ws ≡ Some s) → (s : List (List ℕ) × List ℕ) × (split_last (cond t ([] ∷ ws) (onto_first b ws)) ≡ Some s)
+  go true ws h = (with_last [] (split_last ws), refl)
+  go false ws h = onto b ws
+
+module _ (made : List MadeName) (d : ℕ) (w bs : List ℕ) where
+  pub reach_found : (next : ℕ) → found made d w ≡ Some next → reach made d (w ∷ pieces bs) ≡ reach made next (pieces bs)
+  reach_found next e =
+      let s = split-pieces bs in
+      onto_some made d w (pieces bs) (Some s.0) s.1 s.0 refl
+      ∙ ap (λ o. Some (option_and_then (λ n. seek made n s.0.0) o, s.0.1)) e
+      ∙ sym (reach_some made next (pieces bs) s.0 s.1)
+
+  pub reach_none : found made d w ≡ None → (last : List ℕ) × (reach made d (w ∷ pieces bs) ≡ Some (None, last))
+  reach_none e =
+      let s = split-pieces bs in (
+        s.0.1,
+        onto_some made d w (pieces bs) (Some s.0) s.1 s.0 refl
+            ∙ ap (λ o. Some (option_and_then (λ n. seek made n s.0.0) o, s.0.1)) e,
+      )
+
+pub reach_last : (made : List MadeName) (d : ℕ) (bs : List ℕ) → position (λ b. b == 0x2f) bs ≡ None → reach made d (pieces bs) ≡ Some (Some d, bs)
+unfolding reach
+reach_last made d bs none = ap (reach made d) (pieces_last bs none)
+
+-- ---- the first that stands there
+
+module _ {X : Type 0} (p : X → Bool) (xs : List X) where
+  pub position-at : (i : ℕ) (d : X) → i < length xs → ((k : ℕ) → k < i → p (get_or xs k d) ≡ false) → p (get_or xs i d) ≡ true → position p xs ≡ Some i
+  position-at i d h before here =
+      let e : position_or_len p xs ≡ i = position_or_len_is p xs i d (omega arith) before (λ _. here) in
+      ap (λ n. cond (nat_lt n (length xs)) (Some n) None) e ∙ cond-true (nat_lt i (length xs)) (Some i) None (lt-ltb i (length xs) h)
+
+  pub position-none : (n : ℕ) → length xs ≤ n → ((k : ℕ) (d : X) → k < n → p (get_or xs k d) ≡ false) → position p xs ≡ None
+  position-none n past none = go xs none past where
+    all : (ys : List X) → ((k : ℕ) (d : X) → k < length ys → p (get_or ys k d) ≡ false) → position_or_len p ys ≡ length ys
+    all [] h = refl
+    all (y ∷ ys) h = ap (λ b. cond (not b) (1 + position_or_len p ys) 0) (h 0 y (omega arith)) ∙ let r = all ys (λ k d l. h (suc k) d (omega arith)) in omega arith
+
+    go : (ys : List X) → ((k : ℕ) (d : X) → k < n → p (get_or ys k d) ≡ false) → length ys ≤ n → position p ys ≡ None
+    go ys h l =
+        let e : position_or_len p ys ≡ length ys = all ys (λ k d m. h k d (omega arith)) in
+        cond-false (nat_lt (position_or_len p ys) (length ys)) (Some (position_or_len p ys)) None (le-ltb (position_or_len p ys) (length ys) (omega arith))
+
+pub found-at : (made : List MadeName) (d : ℕ) (name : List ℕ) (i : ℕ) (m : MadeName) → i < length made → ((k : ℕ) (x : MadeName) → k < i → stands_at d name (get_or made k x) ≡ false) → stands_at d name (get_or made i m) ≡ true → found made d name ≡ Some (i + 2)
+unfolding found
+found-at made d name i m h before here = ap (option_map (λ k. k + 2)) (position-at (stands_at d name) made i m h (λ k l. before k m l) here)
+
+pub found-none : (made : List MadeName) (d : ℕ) (name : List ℕ) (n : ℕ) → length made ≤ n → ((k : ℕ) (x : MadeName) → k < n → stands_at d name (get_or made k x) ≡ false) → found made d name ≡ None
+unfolding found
+found-none made d name n past none = ap (option_map (λ k. k + 2)) (position-none (stands_at d name) made n past none)
+
+-- ---- directories
+
+pub is_folder-low : (made : List MadeName) (n : ℕ) → n < 2 → is_folder made n ≡ (n == 1)
+unfolding is_folder
+is_folder-low made n h = cond-true (nat_lt n 2) _ _ (lt-ltb n 2 h)
+
+pub is_folder-high : (made : List MadeName) (n : ℕ) → 2 ≤ n → is_folder made n ≡ unwrap_or (option_map (λ (m : MadeName). m.folder) (slice_get made (n - 2))) false
+unfolding is_folder
+is_folder-high made n h = cond-false (nat_lt n 2) _ _ (le-ltb n 2 h)
+
+pub is_folder-at : (made : List MadeName) (n : ℕ) (m : MadeName) → 2 ≤ n → n - 2 < length made → is_folder made n ≡ (get_or made (n - 2) m).folder
+is_folder-at made n m h l = is_folder-high made n h ∙ ap (λ o. unwrap_or (option_map (λ (x : MadeName). x.folder) o) false) (slice_get-get_or made (n - 2) m l)
+
+pub is_folder-past : (made : List MadeName) (n : ℕ) → 2 ≤ n → length made ≤ n - 2 → is_folder made n ≡ false
+is_folder-past made n h l = is_folder-high made n h ∙ ap (λ o. unwrap_or (option_map (λ (x : MadeName). x.folder) o) false) (slice_get_past made (n - 2) l)
+
+-- what stands from a place on, as a range of a slice has it
+pub first-in : (path : List ℕ) (at : ℕ) (o : Option ℕ) → o ≡ position (λ b. b == 0x2f) (take (length path - at) (drop at path)) → position (λ b. b == 0x2f) (drop at path) ≡ o
+first-in path at o e = ap (position (λ b. b == 0x2f)) (sym (take_rest path at)) ∙ sym e

@@ -1,0 +1,126 @@
+-- The spot of a path's last name, looked up in the list of what is made.
+use Rattle.std.proofs.Common.{◌≡◌, ℕ, ◌<◌, ◌≤◌, Bool, true, false, cond, List, [], ◌∷◌, None, Option, Some, Err, drop, ap, sym, refl, ◌∙◌}
+use Rattle.std.specs.Prelude.{is_some, ◌&&◌, ◌==◌}
+use Rattle.std.specs.List.{list_all}
+use Rattle.std.proofs.lemmas.Bool.{and_parts, false≢true}
+use Rattle.std.proofs.lemmas.List.Folds.{list_all-append}
+use Rattle.std.proofs.lemmas.Option.{some_pair_parts}
+use Rattle.unixmodel.specs.Files.{Files, follow, lookup, pieces, split_last}
+use Rattle.unixmodel.specs.Image.{is_directory_at, is_name}
+use Rattle.unixmodel.specs.Manifest.{Thing, added, if_room, names_in, with_manifest_entry}
+use Rattle.unixmodel.specs.Manifest.Wrong.{Inodes, Name, Parent, Twice}
+use Rattle.imagemake.specs.Begins.{IsSpot, listing}
+use Rattle.imagemake.specs.Begun.{IsListed}
+use Rattle.imagemake.specs.Made.{MadeName, found, is_folder, reach, seek}
+use Rattle.imagemake.proofs.MadeSearch.{follow-by}
+use Rattle.imagemake.proofs.MadeTests.{names-good, split-names}
+use Rattle.imagemake.proofs.MadeWrong.{entry-inodes, entry-name, entry-nowhere, entry-parent, entry-room, entry-twice}
+use Rattle.imagemake.proofs.Pathing.{reach_some, split-pieces}
+
+-- ---- the names of a path
+
+is-none : {X : Type 0} (o : Option X) → is_some o ≡ false → o ≡ None
+is-none None h = refl
+is-none (Some x) h = absurd (false≢true (sym h))
+
+pub no-names : (path : List ℕ) → is_some (names_in path) ≡ false → names_in path ≡ None
+no-names path h = is-none (names_in path) h
+
+pub path-names : (path : List ℕ) → is_some (names_in path) ≡ true → names_in path ≡ Some (pieces (drop 1 path))
+path-names [] h = absurd (false≢true h)
+path-names (b ∷ rest) h = go (b == 0x2f && list_all is_name (pieces rest)) h where
+  go : (t : Bool) → is_some (cond t (Some (pieces rest)) None) ≡ true → cond t (Some (pieces rest)) None ≡ Some (pieces rest)
+  go true h = refl
+  go false h = absurd (false≢true h)
+
+reach-split : (made : List MadeName) (rest : List ℕ) (o : Option ℕ) (last : List ℕ) → reach made 1 (pieces rest) ≡ Some (o, last)
+    → (above : List (List ℕ)) × (split_last (pieces rest) ≡ Some (above, last)) × (seek made 1 above ≡ o)
+reach-split made rest o last h =
+    let s = split-pieces rest in
+    let e = some_pair_parts (seek made 1 s.0.0) o s.0.1 last (sym (reach_some made 1 (pieces rest) s.0 s.1) ∙ h) in
+    (s.0.0, s.1 ∙ ap (λ w. Some (s.0.0, w)) e.1, e.0)
+
+split-good : (ws above : List (List ℕ)) (last : List ℕ) → split_last ws ≡ Some (above, last) → list_all is_name ws ≡ true → (list_all is_name above ≡ true) × (is_name last ≡ true)
+split-good ws above last split good =
+    let p = and_parts (list_all is_name above) (list_all is_name (last ∷ [])) (sym (list_all-append is_name above (last ∷ [])) ∙ ap (list_all is_name) (sym (split-names ws (above, last) split)) ∙ good) in
+    (p.0, (and_parts (is_name last) true p.1).0)
+
+-- ---- in files that the list tells
+
+module _ (made : List MadeName) (files : Files) (listed : IsListed listing files made) where
+  pub lookup-made : (d : ℕ) (name : List ℕ) → is_name name ≡ true → lookup files d name ≡ found made d name
+  unfolding found
+  lookup-made d name good = listed.names d name good
+
+  pub folder-made : (n : ℕ) → is_directory_at files n ≡ is_folder made n
+  unfolding is_folder
+  folder-made n = listed.folders n
+
+  pub follow-made : (ws : List (List ℕ)) → list_all is_name ws ≡ true → (d : ℕ) → follow files d ws ≡ seek made d ws
+  follow-made = follow-by files (found made) (seek made) (λ d. refl) (λ d w ws. refl) lookup-made
+
+pub refused-name : (path : List ℕ) (blocks inodes : ℕ) (files : Files) (n : ℕ) (thing : Thing) → is_some (names_in path) ≡ false → with_manifest_entry blocks inodes files n (record { path = path; thing = thing }) ≡ Err Name
+refused-name path blocks inodes files n thing h = entry-name blocks inodes files n (record { path = path; thing = thing }) (no-names path h)
+
+module _ (made : List MadeName) (path : List ℕ) (good : is_some (names_in path) ≡ true) (o : Option ℕ) (last : List ℕ) (reached : reach made 1 (pieces (drop 1 path)) ≡ Some (o, last)) where
+  parts : (above : List (List ℕ)) × (split_last (pieces (drop 1 path)) ≡ Some (above, last)) × (seek made 1 above ≡ o)
+  parts = reach-split made (drop 1 path) o last reached
+
+  goods : (list_all is_name parts.0 ≡ true) × (is_name last ≡ true)
+  goods = split-good (pieces (drop 1 path)) parts.0 last parts.1 (names-good path (pieces (drop 1 path)) (path-names path good))
+
+  module _ (blocks inodes : ℕ) (files : Files) (n : ℕ) (thing : Thing) (listed : IsListed listing files made) where
+    followed : follow files 1 parts.0 ≡ o
+    followed = follow-made made files listed parts.0 goods.0 1 ∙ parts.2
+
+    pub refused-nowhere : o ≡ None → with_manifest_entry blocks inodes files n (record { path = path; thing = thing }) ≡ Err Parent
+    refused-nowhere e = entry-nowhere blocks inodes files n (record { path = path; thing = thing }) (pieces (drop 1 path)) parts.0 last (path-names path good) parts.1 (followed ∙ e)
+
+    module _ (d : ℕ) (at : o ≡ Some d) where
+      pub refused-parent : is_folder made d ≡ false → with_manifest_entry blocks inodes files n (record { path = path; thing = thing }) ≡ Err Parent
+      refused-parent h =
+          entry-parent blocks inodes files n (record { path = path; thing = thing }) (pieces (drop 1 path)) parts.0 last (path-names path good) parts.1 d (followed ∙ at)
+          (folder-made made files listed d ∙ h)
+
+      pub refused-twice : is_folder made d ≡ true → is_some (found made d last) ≡ true → with_manifest_entry blocks inodes files n (record { path = path; thing = thing }) ≡ Err Twice
+      refused-twice h t =
+          entry-twice blocks inodes files n (record { path = path; thing = thing }) (pieces (drop 1 path)) parts.0 last (path-names path good) parts.1 d (followed ∙ at)
+          (folder-made made files listed d ∙ h) (ap is_some (lookup-made made files listed d last goods.1) ∙ t)
+
+  pub IsSpot-reached : (d : ℕ) → o ≡ Some d → is_folder made d ≡ true → is_some (found made d last) ≡ false → IsSpot made path d last
+  IsSpot-reached d at folder absent = record {
+    names = pieces (drop 1 path);
+    above = parts.0;
+    named = path-names path good;
+    split = parts.1;
+    reached = parts.2 ∙ at;
+    folder = folder;
+    absent = is-none (found made d last) absent;
+  }
+
+-- ---- at a spot
+
+module _ (made : List MadeName) (path : List ℕ) (d : ℕ) (name : List ℕ) (spot : IsSpot made path d name) where
+  spot-goods : (list_all is_name spot.above ≡ true) × (is_name name ≡ true)
+  spot-goods = split-good spot.names spot.above name spot.split (names-good path spot.names spot.named)
+
+  pub spot-good : is_name name ≡ true
+  spot-good = spot-goods.1
+
+  module _ (blocks inodes : ℕ) (files : Files) (n : ℕ) (thing : Thing) (listed : IsListed listing files made) where
+    spot-followed : follow files 1 spot.above ≡ Some d
+    spot-followed = follow-made made files listed spot.above spot-goods.0 1 ∙ spot.reached
+
+    spot-directory : is_directory_at files d ≡ true
+    spot-directory = folder-made made files listed d ∙ spot.folder
+
+    spot-absent : lookup files d name ≡ None
+    spot-absent = lookup-made made files listed d name spot-good ∙ spot.absent
+
+    pub spot-inodes : inodes ≤ n → with_manifest_entry blocks inodes files n (record { path = path; thing = thing }) ≡ Err Inodes
+    spot-inodes h =
+        entry-inodes blocks inodes files n (record { path = path; thing = thing }) spot.names spot.above name spot.named spot.split d spot-followed spot-directory spot-absent h
+
+    pub spot-room : n < inodes → with_manifest_entry blocks inodes files n (record { path = path; thing = thing }) ≡ if_room blocks d n (added files d name n thing)
+    spot-room h =
+        entry-room blocks inodes files n (record { path = path; thing = thing }) spot.names spot.above name spot.named spot.split d spot-followed spot-directory spot-absent h

@@ -1,0 +1,31 @@
+use Rattle.std.proofs.Common.{None, Some, ap, drop, refl, sym, ◌∙◌}
+use Rattle.std.proofs.lemmas.List.{take_rest}
+use Rattle.std.specs.Prelude.{is_some}
+use Rattle.imagemake.specs.Made.{found}
+use Rattle.imagemake.proofs.Spotting.{IsSpot-reached, refused-name, refused-nowhere, refused-parent, refused-twice}
+use Rattle.imagemake.proofs.entry.spot.Goals as goal
+
+pub returns-then-not-is_path-clause-refused : goal.returns-then-not-is_path-clause-refused
+returns-then-not-is_path-clause-refused c = λ blocks inodes files n thing listed. refused-name c.args.path.now blocks inodes files n thing (sym c.if-not-is_path.ensures)
+
+pub returns-in_default-clause-refused : goal.returns-in_default-clause-refused
+returns-in_default-clause-refused c = λ blocks inodes files n thing listed.
+    let none = c.in_default.ensures.none in
+    refused-nowhere c.args.made.now.items c.args.path.now (sym c.if-not-is_path.ensures) None none.0 none.1 blocks inodes files n thing listed refl
+
+pub returns-then-not-is_directory-clause-refused : goal.returns-then-not-is_directory-clause-refused
+returns-then-not-is_directory-clause-refused c = λ blocks inodes files n thing listed.
+    refused-parent c.args.made.now.items c.args.path.now (sym c.if-not-is_path.ensures) (Some c.in-Some.directory) (drop c.in-Some.at c.args.path.now) c.in-Some.ensures.found
+    blocks inodes files n thing listed c.in-Some.directory refl (sym c.if-not-is_directory.ensures)
+
+pub returns-then-is_some-clause-refused : goal.returns-then-is_some-clause-refused
+returns-then-is_some-clause-refused c = λ blocks inodes files n thing listed.
+    refused-twice c.args.made.now.items c.args.path.now (sym c.if-not-is_path.ensures) (Some c.in-Some.directory) (drop c.in-Some.at c.args.path.now) c.in-Some.ensures.found
+    blocks inodes files n thing listed c.in-Some.directory refl (sym c.if-not-is_directory.ensures)
+    (ap is_some (sym (c.find.ensures ∙ ap (found c.args.made.now.items c.in-Some.directory) (take_rest c.args.path.now c.in-Some.at))) ∙ sym c.if-is_some.ensures)
+
+pub returns-clause-spot : goal.returns-clause-spot
+returns-clause-spot c =
+    IsSpot-reached c.args.made.now.items c.args.path.now (sym c.if-not-is_path.ensures) (Some c.in-Some.directory) (drop c.in-Some.at c.args.path.now) c.in-Some.ensures.found
+    c.in-Some.directory refl (sym c.if-not-is_directory.ensures)
+    (ap is_some (sym (c.find.ensures ∙ ap (found c.args.made.now.items c.in-Some.directory) (take_rest c.args.path.now c.in-Some.at))) ∙ sym c.if-is_some.ensures)

@@ -1,0 +1,30 @@
+use Rattle.std.proofs.Common.{◌≡◌, ℕ, Global, Vec, refl, subst, sym}
+use Rattle.std.proofs.lemmas.Result.{IfOk-weaker, err_from_is_err_and}
+use Rattle.unixmodel.specs.Manifest.{bare_files, data_blocks_of, with_entries}
+use Rattle.imagemake.specs.Begins.{MakesEntries}
+use Rattle.imagerules.specs.Content.{image_of}
+use Rattle.imagemake.specs.Making.{MakesImage, Refuses, meaning}
+use Rattle.layout.specs.declared.Geometry.{Geometry}
+use Rattle.imagemake.proofs.Imaging.{MakesImage-entries, refused-entries, refused-numbers}
+use Rattle.imagemake.proofs.make.Goals as goal
+
+pub returns-then-not-is_possible-clause-refused : goal.returns-then-not-is_possible-clause-refused
+returns-then-not-is_possible-clause-refused c = refused-numbers (meaning c.args.manifest.now.entries.items) c.args.size c.args.inodes (sym c.if-not-is_possible.ensures)
+
+pub returns-in_err-put_files-clause-refused : goal.returns-in_err-put_files-clause-refused
+returns-in_err-put_files-clause-refused c =
+    let p = err_from_is_err_and c.from_residual-in_err-put_files.result c.from_residual-in_err-put_files.ensures.1 in
+    let fault = c.in_err-put_files.field-0.0 in
+    rw (p.1, p.2)
+    (refused-entries (meaning c.args.manifest.now.entries.items) c.args.size c.args.inodes (sym c.if-not-is_possible.ensures) fault
+    (subst (λ entries. Refuses (with_entries (data_blocks_of c.args.size c.args.inodes) c.args.inodes (bare_files c.args.inodes) 2 (meaning entries)) fault) c.deref.ensures.value c.in_err-put_files.ensures.refused))
+
+pub returns-clause-made : goal.returns-clause-made
+returns-clause-made c =
+    let entries = meaning c.args.manifest.now.entries.items in
+    let g : Geometry = record { size = c.args.size; inodes = c.args.inodes } in
+    let blocks = c.put_files.new.disk.blocks in
+    let makes = subst (λ es. MakesEntries g blocks (meaning es)) c.deref.ensures.value c.in_ok-put_files.ensures.made in
+    IfOk-weaker c.bytes_of_disk.result (λ (image : Vec ℕ Global). image.items ≡ image_of blocks) (λ (image : Vec ℕ Global). MakesImage entries c.args.size c.args.inodes image.items)
+    (λ image e. MakesImage-entries entries c.args.size c.args.inodes (sym c.if-not-is_possible.ensures) g blocks image.items refl refl makes e)
+    c.bytes_of_disk.ensures.bytes

@@ -1,0 +1,16 @@
+use Rattle.std.proofs.Common.{◌≡◌, ◌-◌, ◌≤◌, drop, length}
+use Rattle.std.specs.Prelude.{is_some}
+use Rattle.std.specs.List.{list_all}
+use Rattle.unixmodel.specs.Files.{pieces}
+use Rattle.unixmodel.specs.Image.{is_name}
+use Rattle.unixmodel.specs.Manifest.{names_in}
+use Rattle.imagemake.proofs.path.is_path.Given as goal
+
+abbrev pub invariant-name : goal.invariant-name
+invariant-name l = record {
+  within : l.at ≤ length l.path;
+  rest : list_all is_name (pieces (drop l.at l.path)) ≡ is_some (names_in l.path);
+}
+
+abbrev pub decreases-name : goal.decreases-name
+decreases-name l = length l.path - l.at

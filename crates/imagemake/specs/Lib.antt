@@ -1,0 +1,6 @@
+pub mod Added
+pub mod Begins
+pub mod Begun
+pub mod Made
+pub mod Making
+pub mod Stored

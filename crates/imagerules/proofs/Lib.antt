@@ -1,0 +1,11 @@
+pub mod Bounds
+pub mod Denoting
+pub mod Lists
+pub mod Marking
+pub mod Named
+pub mod Nodes
+pub mod Numbers
+pub mod Spelling
+pub mod Summing
+pub mod Super
+pub mod Uses

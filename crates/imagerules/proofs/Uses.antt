@@ -1,0 +1,151 @@
+-- What holds of the inodes in use, one by one and in a list.
+use Rattle.std.proofs.Common.{◌≡◌, ◌≢◌, ℕ, ◌+◌, ◌-◌, ◌*◌, ◌<◌, ◌≤◌, List, [], ◌∷◌, ◌++◌, length, get_or, take, drop, ap, sym, ◌∙◌, arith, subst, cond, Bool, true, false}
+use Rattle.std.specs.Prelude.{All, IsTrue, flat_map, nat_eq, nat_le, nat_lt, ◌&&◌}
+use Rattle.std.specs.List.{range_with_len}
+use Rattle.std.proofs.lemmas.Bool.{false≢true}
+use Rattle.std.proofs.lemmas.Bool.Decides.{Decides-ltb, Decides-eqb}
+use Rattle.std.proofs.lemmas.List.Elements.{All-append, All-cons, All-head, All-nil, All-weaker}
+use Rattle.std.proofs.lemmas.List.{drop-take, take-take}
+use Rattle.std.proofs.lemmas.List.FromFn.{get_or-range_with_len, length-range_with_len}
+use Rattle.unixmodel.specs.Image.{all_unused, count_in, data_blocks, data_start, direct_in, index_in, indirect_in, inodes_in, is_data_block, is_in_use, kind_in, named_blocks, named_by, needs_indirect, numbers_in_use, size_in, unused_numbers}
+use Rattle.layout.specs.declared.Geometry.{Geometry}
+use Rattle.imagerules.specs.Fields.{HasGeometry, is_data_in}
+use Rattle.imagerules.specs.Pieces.{FitsAddresses, HasAddresses, fits_indirect}
+use Rattle.imagerules.proofs.Bounds.{block-inside}
+use Rattle.imagerules.proofs.Named.{is_data_in-is}
+use Rattle.imagerules.proofs.Lists.{All-flat_map, All-from_flat_map, All-from_passing, All-left, All-passing, All-right}
+
+-- an inode is in use where its type isn't 0
+pub in_use : (image : List ℕ) (n : ℕ) → kind_in image n ≢ 0 → is_in_use image n ≡ true
+in_use image n h = (Decides-ltb 0 (kind_in image n)).1 (omega arith)
+
+pub from_in_use : (image : List ℕ) (n : ℕ) → is_in_use image n ≡ true → kind_in image n ≢ 0
+from_in_use image n h = let l : 0 < kind_in image n = (Decides-ltb 0 (kind_in image n)).0 h in omega arith
+
+module _ (image : List ℕ) (P : ℕ → Type 0) (f : ℕ → List ℕ) where
+  pub All-numbers : ((n : ℕ) → 1 ≤ n → n < inodes_in image → kind_in image n ≢ 0 → All P (f n)) → All P (flat_map f (numbers_in_use image))
+  All-numbers h =
+      All-flat_map P f (numbers_in_use image) (All-passing (λ n. All P (f n)) (is_in_use image) (range_with_len 1 (inodes_in image - 1)) (λ k d l u.
+      let k_in : k < inodes_in image - 1 = omega (arith, length-range_with_len 1 (inodes_in image - 1)) in
+      let e : get_or (range_with_len 1 (inodes_in image - 1)) k d ≡ 1 + k = get_or-range_with_len 1 (inodes_in image - 1) k d k_in in
+      subst (λ n. All P (f n)) (sym e) (h (1 + k) (omega arith) (omega arith) (from_in_use image (1 + k) (subst (λ n. is_in_use image n ≡ true) e u)))))
+
+  pub All-number : All P (flat_map f (numbers_in_use image)) → (n : ℕ) → 1 ≤ n → n < inodes_in image → kind_in image n ≢ 0 → All P (f n)
+  All-number h n low high used =
+      let e : get_or (range_with_len 1 (inodes_in image - 1)) (n - 1) 0 ≡ n = get_or-range_with_len 1 (inodes_in image - 1) (n - 1) 0 (omega arith) ∙ omega arith in
+      let at : is_in_use image (get_or (range_with_len 1 (inodes_in image - 1)) (n - 1) 0) ≡ true → All P (f (get_or (range_with_len 1 (inodes_in image - 1)) (n - 1) 0)) =
+      All-from_passing (λ n. All P (f n)) (is_in_use image) (range_with_len 1 (inodes_in image - 1)) (All-from_flat_map P f (numbers_in_use image) h) (n - 1) 0
+      (omega (arith, length-range_with_len 1 (inodes_in image - 1))) in
+      subst (λ n. All P (f n)) e (at (subst (λ n. is_in_use image n ≡ true) (sym e) (in_use image n used)))
+
+pub HasAddresses-from : (image : List ℕ) → ((n : ℕ) → 1 ≤ n → n < inodes_in image → kind_in image n ≢ 0 → FitsAddresses image n) → HasAddresses image
+unfolding named_blocks all_unused
+HasAddresses-from image h = record {
+  blocks = All-numbers image (λ b. IsTrue (is_data_block image b)) (named_by image) (λ n low high used. (h n low high used).blocks);
+  unused = All-numbers image (λ b. b ≡ 0) (unused_numbers image) (λ n low high used. (h n low high used).unused);
+}
+
+pub FitsAddresses-at : (image : List ℕ) → HasAddresses image → (n : ℕ) → 1 ≤ n → n < inodes_in image → kind_in image n ≢ 0 → FitsAddresses image n
+unfolding named_blocks all_unused
+FitsAddresses-at image h n low high used = record {
+  blocks = All-number image (λ b. IsTrue (is_data_block image b)) (named_by image) h.blocks n low high used;
+  unused = All-number image (λ b. b ≡ 0) (unused_numbers image) h.unused n low high used;
+}
+
+-- ---- the numbers of one inode
+
+All-one : (P : ℕ → Type 0) (x : ℕ) → P x → All P (x ∷ [])
+All-one P x h = All-cons P x [] h (All-nil P)
+
+if_blocks : (b : Bool) (P : ℕ → Type 0) (test zero : Bool) (x : ℕ) → (test ≡ true → P x) → cond b test zero ≡ true → All P (cond b (x ∷ []) [])
+if_blocks true P test zero x h e = All-one P x (h e)
+if_blocks false P test zero x h e = All-nil P
+
+if_unused : (b : Bool) (P : ℕ → Type 0) (test zero : Bool) (x : ℕ) → (zero ≡ true → P x) → cond b test zero ≡ true → All P (cond b [] (x ∷ []))
+if_unused true P test zero x h e = All-nil P
+if_unused false P test zero x h e = All-one P x (h e)
+
+if_both : (b : Bool) (P Q : ℕ → Type 0) (test zero : Bool) (x : ℕ) → (P x → test ≡ true) → (Q x → zero ≡ true) → All P (cond b (x ∷ []) []) → All Q (cond b [] (x ∷ [])) → cond b test zero ≡ true
+if_both true P Q test zero x p q h k = p (All-head P x [] h)
+if_both false P Q test zero x p q h k = q (All-head Q x [] k)
+
+module _ (image : List ℕ) (n : ℕ) where
+  pub FitsAddresses-from : fits_indirect image n ≡ true → All (λ b. IsTrue (is_data_block image b)) (take (count_in image n) (direct_in image n ++ index_in image n))
+      → All (λ b. b ≡ 0) (drop (count_in image n) (direct_in image n ++ index_in image n)) → FitsAddresses image n
+  unfolding named_by unused_numbers data_blocks
+  FitsAddresses-from h blocks rest = record {
+    blocks = All-append (λ b. IsTrue (is_data_block image b)) (take (count_in image n) (direct_in image n ++ index_in image n)) (cond (needs_indirect image n) (indirect_in image n ∷ []) []) blocks
+        (if_blocks (needs_indirect image n) (λ b. IsTrue (is_data_block image b)) (is_data_block image (indirect_in image n)) (nat_eq (indirect_in image n) 0) (indirect_in image n) (λ e. e) h);
+    unused = All-append (λ b. b ≡ 0) (drop (count_in image n) (direct_in image n ++ index_in image n)) (cond (needs_indirect image n) [] (indirect_in image n ∷ [])) rest
+        (if_unused (needs_indirect image n) (λ b. b ≡ 0) (is_data_block image (indirect_in image n)) (nat_eq (indirect_in image n) 0) (indirect_in image n) (Decides-eqb (indirect_in image n) 0).0 h);
+  }
+
+  pub fits_indirect-at : FitsAddresses image n → fits_indirect image n ≡ true
+  unfolding named_by unused_numbers data_blocks
+  fits_indirect-at h =
+      if_both (needs_indirect image n) (λ b. IsTrue (is_data_block image b)) (λ b. b ≡ 0) (is_data_block image (indirect_in image n)) (nat_eq (indirect_in image n) 0) (indirect_in image n) (λ e. e) (Decides-eqb (indirect_in image n) 0).1
+      (All-right (λ b. IsTrue (is_data_block image b)) (take (count_in image n) (direct_in image n ++ index_in image n)) (cond (needs_indirect image n) (indirect_in image n ∷ []) []) h.blocks)
+      (All-right (λ b. b ≡ 0) (drop (count_in image n) (direct_in image n ++ index_in image n)) (cond (needs_indirect image n) [] (indirect_in image n ∷ [])) h.unused)
+
+  pub All-data_blocks : FitsAddresses image n → All (λ b. IsTrue (is_data_block image b)) (take (count_in image n) (direct_in image n ++ index_in image n))
+  unfolding named_by data_blocks
+  All-data_blocks h = All-left (λ b. IsTrue (is_data_block image b)) (take (count_in image n) (direct_in image n ++ index_in image n)) (cond (needs_indirect image n) (indirect_in image n ∷ []) []) h.blocks
+
+  pub All-rest : FitsAddresses image n → All (λ b. b ≡ 0) (drop (count_in image n) (direct_in image n ++ index_in image n))
+  unfolding unused_numbers
+  All-rest h = All-left (λ b. b ≡ 0) (drop (count_in image n) (direct_in image n ++ index_in image n)) (cond (needs_indirect image n) [] (indirect_in image n ∷ [])) h.unused
+
+-- ---- the same, as the check reads them
+
+cond_true : (b : Bool) (x y : Bool) → b ≡ true → cond b x y ≡ true → x ≡ true
+cond_true true x y e h = h
+cond_true false x y e h = absurd (false≢true e)
+
+below_from : (a b c : ℕ) → (nat_le a b && nat_lt b c) ≡ true → b < c
+below_from a b c h = (Decides-ltb b c).0 (and_right (nat_le a b) (nat_lt b c) h) where
+  and_right : (x y : Bool) → (x && y) ≡ true → y ≡ true
+  and_right true y h = h
+  and_right false y h = absurd (false≢true h)
+
+-- a data block lies in the image
+pub is_data_block-below : (image : List ℕ) (b : ℕ) → is_data_block image b ≡ true → b < size_in image
+is_data_block-below image b h = below_from (data_start (size_in image) (inodes_in image)) b (size_in image) h
+
+pub indirect-inside : {image : List ℕ} {g : Geometry} → HasGeometry image g → (n : ℕ) → fits_indirect image n ≡ true → IsTrue (needs_indirect image n) → 1024 * indirect_in image n + 1024 ≤ length image
+indirect-inside {image} h n fits needs =
+    let l : indirect_in image n < size_in image = is_data_block-below image (indirect_in image n) (cond_true (needs_indirect image n) (is_data_block image (indirect_in image n)) (nat_eq (indirect_in image n) 0) needs fits) in
+    block-inside h (indirect_in image n) (omega (arith, h.size))
+
+module _ {image : List ℕ} {g : Geometry} (h : HasGeometry image g) (n count end : ℕ) (numbers : List ℕ) (e : take end numbers ≡ direct_in image n ++ index_in image n) (c : count ≡ count_in image n) (l : count ≤ end) where
+  pub front_is : take count numbers ≡ take (count_in image n) (direct_in image n ++ index_in image n)
+  front_is = sym (take-take count end numbers l) ∙ ap (take count) e ∙ ap (λ m. take m (direct_in image n ++ index_in image n)) c
+
+  rest_is : take (end - count) (drop count numbers) ≡ drop (count_in image n) (direct_in image n ++ index_in image n)
+  rest_is =
+      let m : count + (end - count) ≡ end = omega arith in
+      sym (drop-take count (end - count) numbers) ∙ ap (λ m. drop count (take m numbers)) m ∙ ap (drop count) e ∙ ap (λ m. drop m (direct_in image n ++ index_in image n)) c
+
+  pub FitsAddresses-read : fits_indirect image n ≡ true → All (λ b. IsTrue (is_data_in g b)) (take count numbers) → All (λ b. b ≡ 0) (take (end - count) (drop count numbers)) → FitsAddresses image n
+  FitsAddresses-read fits front rest =
+      FitsAddresses-from image n fits
+      (All-weaker (λ b. IsTrue (is_data_in g b)) (λ b. IsTrue (is_data_block image b)) (λ b t. sym (is_data_in-is image g h b) ∙ t) (take (count_in image n) (direct_in image n ++ index_in image n)) (subst (All (λ b. IsTrue (is_data_in g b))) front_is front))
+      (subst (All (λ b. b ≡ 0)) rest_is rest)
+
+  pub FitsAddresses-front : FitsAddresses image n → All (λ b. IsTrue (is_data_in g b)) (take count numbers)
+  FitsAddresses-front fits =
+      subst (All (λ b. IsTrue (is_data_in g b))) (sym front_is)
+      (All-weaker (λ b. IsTrue (is_data_block image b)) (λ b. IsTrue (is_data_in g b)) (λ b t. is_data_in-is image g h b ∙ t) (take (count_in image n) (direct_in image n ++ index_in image n)) (All-data_blocks image n fits))
+
+  pub FitsAddresses-rest : FitsAddresses image n → All (λ b. b ≡ 0) (take (end - count) (drop count numbers))
+  FitsAddresses-rest fits = subst (All (λ b. b ≡ 0)) (sym rest_is) (All-rest image n fits)
+
+  pub FitsAddresses-below : FitsAddresses image n → All (λ b. b < g.size) (take count numbers)
+  FitsAddresses-below fits =
+      All-weaker (λ b. IsTrue (is_data_in g b)) (λ b. b < g.size) (λ b t. below_from (data_start g.size g.inodes) b g.size t) (take count numbers) (FitsAddresses-front fits)
+
+pub indirect-below : {image : List ℕ} {g : Geometry} → HasGeometry image g → (n : ℕ) → FitsAddresses image n → 12 < count_in image n → indirect_in image n < g.size
+indirect-below {image} h n fits many =
+    let l : indirect_in image n < size_in image =
+    is_data_block-below image (indirect_in image n)
+    (cond_true (needs_indirect image n) (is_data_block image (indirect_in image n)) (nat_eq (indirect_in image n) 0) ((Decides-ltb 12 (count_in image n)).1 many) (fits_indirect-at image n fits)) in
+    omega (arith, h.size)
