@@ -1,74 +1,32 @@
 -- A pending call goes on, and the end of a process that runs or where none runs.
 use Rattle.std.proofs.Common.{◌≡◌, ◌≢◌, ℕ, ◌%◌, true, false, List, [], Option, Some, None, ℤ, refl, ap, subst, sym, ◌∙◌}
-use Rattle.std.specs.Prelude.{if◌then◌else◌, slice_index, slice_index_or}
+use Rattle.std.specs.Prelude.{slice_index, slice_index_or}
 use Rattle.calls.specs.Descriptors.{all_closed, standing}
-use Rattle.calls.specs.Kernel.{Kernel, answered, base, blocked, ended, entered, halted_by, idle, lives, loaded, memories, memory_in, on_hart, rest_of, started, state_of}
-use Rattle.calls.specs.Says.{called, gone_on, gone_on_by, has_slept, pending_for}
+use Rattle.calls.specs.Kernel.{Kernel, base, ended, halted_by, idle, lives, loaded, memories, memory_in, on_hart, rest_of, started, state_of}
+use Rattle.calls.specs.Says.{gone_on, gone_on_by}
 use Rattle.calls.specs.Sound.{IsKernel, IsLive, IsMode, IsPending, IsPlace, IsPlaced, is_at}
 use Rattle.calls.specs.Told.{CanEnd, CanEndIn, IsAlive, WaitsIn, resumed, resumed_by, resumed_in}
 use Rattle.calls.proofs.Changes.{descriptors-loaded, ended-is, ended-kernel, loaded-placed, other-at}
-use Rattle.calls.proofs.Opens.{waits-other}
-use Rattle.calls.proofs.Reaped.{within-state}
-use Rattle.calls.proofs.Rows.{ends-at, enters-kernel, enters-run, numbered, waits-run}
+use Rattle.calls.proofs.Rows.{ends-at}
 use Rattle.calls.proofs.Runs.{IsRun, loaded-run, memory-at, process-run, process-with, run-of, self, set-slot, slot-put, with_process, within-run}
-use Rattle.calls.proofs.Settles.{settle-done}
 use Rattle.calls.proofs.Starts.{killed-ends, started-is, started-run, started-state, state-idle}
 use Rattle.files.specs.Places.{opens_of}
 use Rattle.proc.specs.declared.process.Process.{Process}
 use Rattle.proc.specs.Places.{Places, exited}
 use Rattle.proc.specs.Whole.{with_memory}
 use Rattle.spaces.specs.Spaces.{Held}
-use Rattle.unixmodel.specs.Calls.{call_of, end_at, goes_on, quiet, resume, settle}
-use Rattle.unixmodel.specs.declared.call.Call.{Call}
-use Rattle.unixmodel.specs.declared.call.Call.TheVariants.{Sleep}
+use Rattle.unixmodel.specs.Calls.{end_at, goes_on, resume, settle}
 use Rattle.unixmodel.specs.declared.process.Mode.{Mode}
 use Rattle.unixmodel.specs.declared.process.Mode.TheVariants.{Running, Waiting}
 use Rattle.unixmodel.specs.declared.process.Pending.{Pending}
-use Rattle.unixmodel.specs.Counts.{is_within}
 use Rattle.unixmodel.specs.Files.{slot}
 use Rattle.unixmodel.specs.Memory.{Memory}
-use Rattle.unixmodel.specs.Numbers.{low}
-use Rattle.unixmodel.specs.Outcome.{answers, limited}
-use Rattle.unixmodel.specs.Outcome.Outcome.{Waits}
-use Rattle.unixmodel.specs.Process as unix
-use Rattle.unixmodel.specs.ProcessCalls.{sleep_on}
 use Rattle.unixmodel.specs.State.{State, process_at}
-
--- ---- sleep
-
--- a sleep keeps the limits where they are kept
-limited-sleep : (s : State) (i : ℕ) (p : unix.Process) (w : Pending) → is_within s ≡ true → limited (sleep_on s i p w) ≡ sleep_on s i p w
-unfolding sleep_on
-limited-sleep s i p w within = elim (has_slept s.ticks w) as (λ b. limited (if b then answers s 0 else Waits s w) ≡ (if b then answers s 0 else Waits s w)) [ true ↦ rw within refl | false ↦ refl ]
 
 module _ (k : Kernel) (i : ℕ) (p : Process) (h : Held) (r : IsRun k i p h) where
   -- the process in the place that the pending call is looked up in
   pub gone-run : (w : Pending) → gone_on (state_of k) i w ≡ settle (state_of k) i (goes_on (state_of k) i (self k p h) w w.number)
   gone-run w = ap (gone_on_by (state_of k) i w) (process-run k i p h r)
-
-  module _ (is : IsKernel k) where
-    pub sleeps-done : (w : Pending) → w.number ≡ Sleep → has_slept k.ticks w ≡ true → gone_on (state_of k) i w ≡ quiet (state_of (answered k 0))
-    unfolding sleep_on
-    sleeps-done w number slept =
-        gone-run w
-        ∙ ap (λ (call : Call). settle (state_of k) i (goes_on (state_of k) i (self k p h) w call)) number
-        ∙ rw slept (settle-done k i p h r is (state_of k) 0 [])
-
-    pub sleeps-waits : slice_index k.spaces.registers 0 ≡ 0 → k.spaces.pc % 4 ≡ 0 → (w : Pending) → w.number ≡ Sleep → has_slept k.ticks w ≡ false
-        → gone_on (state_of k) i w ≡ quiet (state_of (blocked k i w))
-    unfolding sleep_on
-    sleeps-waits z a w number slept =
-        gone-run w
-        ∙ ap (λ (call : Call). settle (state_of k) i (goes_on (state_of k) i (self k p h) w call)) number
-        ∙ rw slept (ap quiet (waits-run k i p h r is z a w (subst (λ (call : Call). IsPending p.descriptors h.memory w call) (sym number) tt) (waits-other (opens_of k.files) p.descriptors w Sleep (λ same. absurd (cc)) (λ same. absurd (cc)) number)))
-
--- the row of sleep: it goes on at once
-pub rows-sleep : (k : Kernel) (i : ℕ) (p : Process) (h : Held) → IsRun k i p h → IsKernel k → call_of (low (slice_index k.spaces.registers 17)) ≡ Some Sleep
-    → called (state_of k) i ≡ gone_on (state_of (entered k)) i (pending_for k Sleep)
-rows-sleep k i p h r is number =
-    numbered k i p h r is (Some Sleep) number
-    ∙ ap (settle (state_of (entered k)) i) (limited-sleep (state_of (entered k)) i (self (entered k) p h) (pending_for k Sleep) (within-state (entered k) (enters-kernel k i p h r is)))
-    ∙ sym (gone-run (entered k) i p h (enters-run k i p h r is) (pending_for k Sleep))
 
 -- ---- where none runs
 

@@ -1,38 +1,39 @@
--- A process is killed.
-use Rattle.std.proofs.Common.{◌≡◌, ◌≢◌, ℕ, zero, suc, ◌<◌, ◌%◌, inl, inr, Bool, true, false, nat_le, List, [], length, map, Option, Some, None, negsuc, refl, ap, sym, subst, ◌∙◌, arith}
+-- kill: a process is marked; one that marks itself is answered, and ends.
+use Rattle.std.proofs.Common.{◌≡◌, ◌≢◌, ℕ, zero, suc, ◌<◌, ◌%◌, inl, inr, true, false, nat_le, List, [], length, map, Option, Some, None, negsuc, refl, ap, sym, subst, ◌∙◌, arith}
 use Rattle.std.specs.Prelude.{option_map, slice_index, slice_index_or, slice_set}
 use Rattle.std.proofs.lemmas.Bool.{le-leb}
 use Rattle.std.proofs.lemmas.List.{get_or-set_other, length-map, length-set, map-set, set-get_or}
+use Rattle.calls.specs.Acts.{Acts, Runs, marked_by, settled_by}
+use Rattle.calls.specs.declared.outcome.Came.TheVariants.{Answers, KillsItself, Refuses}
 use Rattle.calls.specs.Descriptors.{descriptors_in}
-use Rattle.calls.specs.Kernel.{Kernel, answered, argument, base, ended, entered, halted_by, loaded, marked, memories, memory_in, on_hart, rest_of, state_of}
-use Rattle.calls.specs.Says.{called, named}
+use Rattle.calls.specs.Kernel.{Kernel, answered, argument, base, ended, halted_by, loaded, marked, memories, memory_in, on_hart, rest_of, state_of}
+use Rattle.calls.specs.Says.{named}
 use Rattle.calls.specs.Sound.{IsKernel, IsMode, IsPlace, WaitsWell, is_at}
+use Rattle.calls.proofs.Acts.{Here, came, does, here-of, me, refused}
 use Rattle.calls.proofs.Changes.{ended-is, ended-kernel, ended_to, other-at, stands-put}
 use Rattle.calls.proofs.Collects.{where-put}
 use Rattle.calls.proofs.Forks.{set-swap}
 use Rattle.calls.proofs.Named.{counts-joined, reap-closed}
 use Rattle.calls.proofs.Opens.{opened-put}
 use Rattle.calls.proofs.Reaped.{IsMatch, match-loaded, within-state_with}
-use Rattle.calls.proofs.Rows.{aligned-next, enters-kernel, enters-run, numbered, refuses}
-use Rattle.calls.proofs.Runs.{IsRun, loaded-run, memory-at, process-run, process-with, put-with, run-of, runs-set, same_or_not, self, set-slot, set-twice, slot-other, slot-put, slot-within, state-run, with_process, within-run}
-use Rattle.calls.proofs.Settles.{after, change-put, change-run, regs-kernel, regs-run, settle-limited}
+use Rattle.calls.proofs.Runs.{IsRun, loaded-run, memory-at, process-run, process-with, put-with, runs-set, same_or_not, self, set-slot, set-twice, slot-other, slot-put, slot-within, state-run, with_process, within-run}
+use Rattle.calls.proofs.Settles.{change-put, change-run, regs-kernel, regs-run}
 use Rattle.files.specs.Places.{opens_of}
 use Rattle.proc.specs.declared.process.Process.{Process}
 use Rattle.proc.specs.Places as table
 use Rattle.proc.specs.Places.{Places, changed, has_pid, orphaned, place_where, with_mark, zombie_of}
 use Rattle.proc.specs.Whole.{change_process-with_table, place_of_pid-with_table, place_where-Some, with_memory, with_table, with_zombie-with_table}
 use Rattle.spaces.specs.Spaces.{Held}
-use Rattle.unixmodel.specs.Calls.{call_of, end_if_killed, quiet, settle}
+use Rattle.unixmodel.specs.Calls.{end_at, quiet, settle}
 use Rattle.unixmodel.specs.Counts.{is_within}
 use Rattle.unixmodel.specs.declared.call.Call.TheVariants.{Kill}
 use Rattle.unixmodel.specs.declared.process.Mode.{Mode}
 use Rattle.unixmodel.specs.declared.process.Mode.TheVariants.{Ready, Running, Waiting, Zombie}
 use Rattle.unixmodel.specs.Files.{put, slot}
 use Rattle.unixmodel.specs.Memory.{Memory}
-use Rattle.unixmodel.specs.Numbers.{int_of, low, natural}
-use Rattle.unixmodel.specs.Outcome.{Outcome, answers, end_process, given, limited, minus_one, provided}
+use Rattle.unixmodel.specs.Numbers.{int_of, natural}
+use Rattle.unixmodel.specs.Outcome.{Outcome, answers, end_process, given, limited, provided}
 use Rattle.unixmodel.specs.Outcome.Outcome.{Done}
-use Rattle.unixmodel.specs.Process as unix
 use Rattle.unixmodel.specs.Process.{is_running_mode, with_answer}
 use Rattle.unixmodel.specs.ProcessCalls as rows
 use Rattle.unixmodel.specs.ProcessCalls.{kill_row}
@@ -83,7 +84,19 @@ marks-go k j (Some q) is at rests = rw (marked-is k j q at) (marked-kernel k j q
 pub marks-keeps : (k now : Kernel) (j : ℕ) → k ≡ now → IsKernel k → now.spaces.active ≢ Some j → IsKernel (marked k j)
 marks-keeps k now j same is other = marks-go k j (slot k.table.places j) is refl (ap (λ (x : Kernel). is_at j x.spaces.active) same ∙ rests-at now.spaces.active j other)
 
-module _ (k : Kernel) (i : ℕ) (p : Process) (h : Held) (r : IsRun k i p h) (is : IsKernel k) where
+module _ (k : Kernel) (i : ℕ) (x : Here k i) where
+  abbrev p : Process
+  p = x.process
+
+  abbrev h : Held
+  h = x.held
+
+  abbrev r : IsRun k i p h
+  r = x.run
+
+  abbrev is : IsKernel k
+  is = x.sound
+
   -- ---- another process is marked
 
   module _ (j : ℕ) (q : Process) (at : slot k.table.places j ≡ Some q) (apart : j ≢ i) where
@@ -96,8 +109,8 @@ module _ (k : Kernel) (i : ℕ) (p : Process) (h : Held) (r : IsRun k i p h) (is
       runs = r.runs;
     }
 
-    mark-kernel : IsKernel (marked_to k j q)
-    mark-kernel = marked-kernel k j q is at (ap (is_at j) r.active ∙ other-at i j apart)
+    mark-here : Here (marked_to k j q) i
+    mark-here = record { process = p; held = h; run = mark-run; sound = marked-kernel k j q is at (ap (is_at j) r.active ∙ other-at i j apart) }
 
     mark-state : change_process (state_of k) j rows.marked ≡ state_of (marked_to k j q)
     mark-state =
@@ -111,12 +124,6 @@ module _ (k : Kernel) (i : ℕ) (p : Process) (h : Held) (r : IsRun k i p h) (is
         ∙ ap (λ (o : Option Process). with_table rest (record old { places = slice_set old.places j (option_map with_mark o) }) (memories k.spaces)) there
         ∙ sym (ap (λ (places : List (Option Process)). with_table rest (record k.table { places = places }) (memories k.spaces)) swap)
         ∙ sym (state-run (marked_to k j q) i p h mark-run)
-
-    pub mark-settles : (begun : State) → settle begun i (limited (Done (change_process (state_of k) j rows.marked) 0 [])) ≡ quiet (state_of (marked (answered k 0) j))
-    mark-settles begun =
-        ap (λ (s : State). settle begun i (limited (Done s 0 []))) mark-state
-        ∙ settle-limited (marked_to k j q) i p h mark-run mark-kernel begun 0 []
-        ∙ sym (ap (λ (x : Kernel). quiet (state_of (answered x 0))) (marked-is k j q at))
 
   -- ---- the running process is marked
 
@@ -179,12 +186,20 @@ module _ (k : Kernel) (i : ℕ) (p : Process) (h : Held) (r : IsRun k i p h) (is
   abbrev answered_table : Places
   answered_table = with_process k.table i (with_mark q)
 
-  self-answered : change_process (change_process (state_of k) i rows.marked) i (with_answer 0) ≡ with_table rest answered_table (memories k.spaces)
+  self-answered : marked_by (state_of k) i ≡ with_table rest answered_table (memories k.spaces)
   self-answered =
       let short : i < length (state_of k).places = slot-within (state_of k).places i (self k p h) (process-run k i p h r) in
       ap (λ (s : State). change_process s i (with_answer 0)) (change-run k i p h r is rows.marked)
       ∙ change-put i (state_of k) (rows.marked (self k p h)) (with_answer 0) short
       ∙ put-run (with_mark q)
+
+  self-there : process_at (marked_by (state_of k) i) i ≡ Some (with_memory (slice_index_or (memories k.spaces) i []) (with_mark q))
+  self-there =
+      ap (λ (s : State). process_at s i) self-answered
+      ∙ process-with rest answered_table (memories k.spaces) i (with_mark q) (slot-put k.table.places i (Some (with_mark q)) (within-run k i p h r))
+
+  self-settles : settle (state_of k) i (limited (Done (change_process (state_of k) i rows.marked) 0 [])) ≡ quiet (settled_by (state_of k) i KillsItself)
+  self-settles = rw (self-within, self-there) refl
 
   -- ---- and ends
 
@@ -237,16 +252,13 @@ module _ (k : Kernel) (i : ℕ) (p : Process) (h : Held) (r : IsRun k i p h) (is
         ∙ reap-closed (state_of (marked_to gone i zombie)) k.files k.spaces.pipes q.descriptors refl is.opened.table is.opened.piped
         (counts-joined gone.files (marked_to gone i zombie).table.places (memories k.spaces) gone-kernel.opened.counted)
 
-    pub self-settles : (begun : State) → settle begun i (limited (Done (change_process (state_of k) i rows.marked) 0 [])) ≡ quiet (state_of (marked (ended k' i (negsuc 0)) i))
-    self-settles begun =
-        let s = change_process (state_of k) i rows.marked in
+    pub self-ends : state_of (marked (ended k' i (negsuc 0)) i) ≡ settled_by (state_of k) i KillsItself
+    self-ends =
         let same : marked (ended k' i (negsuc 0)) i ≡ marked_to gone i zombie = ap (λ (x : Kernel). marked x i) (ended-is k' kernel' zero' a i q h there r.space pids alone (negsuc 0)) ∙ marked-is gone i zombie gone-at in
-        ap (λ (b : Bool). settle begun i (provided b (Done s 0 []))) self-within
-        ∙ ap (λ (x : State). after (end_if_killed x i (process_at x i)) []) self-answered
-        ∙ ap (λ (o : Option unix.Process). after (end_if_killed (with_table rest answered_table (memories k.spaces)) i o) [])
-        (process-with rest answered_table (memories k.spaces) i (with_mark q) (slot-put k.table.places i (Some (with_mark q)) (within-run k i p h r)))
-        ∙ ap (λ (x : State). after x []) gone-ends
-        ∙ sym (ap (λ (x : Kernel). quiet (state_of x)) same)
+        sym (ap (end_at (marked_by (state_of k) i) i (negsuc 0)) self-there
+        ∙ ap (λ (s : State). end_process s i (with_memory (slice_index_or (memories k.spaces) i []) (with_mark q)) (negsuc 0)) self-answered
+        ∙ gone-ends
+        ∙ sym (ap state_of same))
 
 -- ---- the row
 
@@ -260,13 +272,16 @@ pub named-is : (os : List (Option Process)) (n : ℕ) → n ≢ 0 → named os (
 named-is os zero some = absurd (some refl)
 named-is os (suc n) some = refl
 
-module _ (k : Kernel) (i : ℕ) (p : Process) (h : Held) (r : IsRun k i p h) (is : IsKernel k) where
+module _ {k : Kernel} {i : ℕ} (runs : Runs k i) where
+  abbrev here : Here k i
+  here = here-of k i runs.sound runs.active
+
   pid-run : (pid : ℕ) → place_of_pid (state_of k) pid ≡ place_where k.table.places (has_pid pid)
   pid-run pid =
-      let q = on_hart k.spaces p in
-      ap (λ (s : State). place_of_pid s pid) (state-run k i p h r)
+      let q = on_hart k.spaces here.process in
+      ap (λ (s : State). place_of_pid s pid) (state-run k i here.process here.held here.run)
       ∙ place_of_pid-with_table (base (rest_of k)) (with_process k.table i q) (memories k.spaces) pid
-      ∙ where-put (has_pid pid) k.table.places i p q r.process refl
+      ∙ where-put (has_pid pid) k.table.places i here.process q here.run.process refl
 
   abbrev kills : Option ℕ → Outcome
   kills o = given o (λ j. answers (change_process (state_of k) j rows.marked) 0)
@@ -278,52 +293,24 @@ module _ (k : Kernel) (i : ℕ) (p : Process) (h : Held) (r : IsRun k i p h) (is
       let some : nat_le 1 (suc n) ≡ true = le-leb _ _ (omega arith) in
       rw some (ap kills (pid-run (suc n)))
 
-module _ (k : Kernel) (i : ℕ) (p : Process) (h : Held) (r : IsRun k i p h) (is : IsKernel k) (number : call_of (low (slice_index k.spaces.registers 17)) ≡ Some Kill) where
-  kill-run : (o : Option ℕ) → named k.table.places (natural (int_of (argument k 0))) ≡ o → called (state_of k) i ≡ settle (state_of (entered k)) i (limited (given o (λ j. answers (change_process (state_of (entered k)) j rows.marked) 0)))
+  abbrev number : Option ℕ
+  number = natural (int_of (argument k 0))
+
+  kill-is : (o : Option ℕ) → named k.table.places number ≡ o → kill_row (state_of k) i (me k i here) ≡ kills o
   unfolding kill_row
-  kill-run o found =
-      numbered k i p h r is (Some Kill) number
-      ∙ ap (λ (x : Outcome). settle (state_of (entered k)) i (limited x)) (kill-named (entered k) i p h (enters-run k i p h r is) (enters-kernel k i p h r is) (natural (int_of (argument k 0))))
-      ∙ ap (λ (o : Option ℕ). settle (state_of (entered k)) i (limited (given o (λ j. answers (change_process (state_of (entered k)) j rows.marked) 0)))) found
+  kill-is o found = kill-named number ∙ ap kills found
 
-  pub rows-kill-none : named k.table.places (natural (int_of (argument k 0))) ≡ None → called (state_of k) i ≡ quiet (state_of (answered (entered k) minus_one))
-  rows-kill-none none = kill-run None none ∙ refuses k i p h r is
+  pub kills-none : named k.table.places number ≡ None → Acts k k i (Some Kill) Refuses
+  kills-none none = refused k i here (Some Kill) (ap limited (kill-is None none))
 
-  pub rows-kill : (j : ℕ) → named k.table.places (natural (int_of (argument k 0))) ≡ Some j → j ≢ i → called (state_of k) i ≡ quiet (state_of (marked (answered (entered k) 0) j))
-  rows-kill j found apart =
-      let f = named-some k.table.places (natural (int_of (argument k 0))) j found in
-      kill-run (Some j) found ∙ mark-settles (entered k) i p h (enters-run k i p h r is) (enters-kernel k i p h r is) j f.0 f.1 apart (state_of (entered k))
+  pub kills-other : (j : ℕ) → named k.table.places number ≡ Some j → j ≢ i → Acts k (marked k j) i (Some Kill) (Answers 0)
+  kills-other j found apart =
+      let f = named-some k.table.places number j found in
+      rw (marked-is k j f.0 f.1) (does k i here (marked_to k j f.0) Kill 0 (mark-here k i here j f.0 f.1 apart) (kill-is (Some j) found ∙ ap (λ (s : State). Done s 0 []) (mark-state k i here j f.0 f.1 apart)))
 
-  pub rows-kill-self : slice_index k.spaces.registers 0 ≡ 0 → k.spaces.pc % 4 ≡ 0 → named k.table.places (natural (int_of (argument k 0))) ≡ Some i
-      → called (state_of k) i ≡ quiet (state_of (marked (ended (answered (entered k) 0) i (negsuc 0)) i))
-  rows-kill-self z a found =
-      kill-run (Some i) found ∙ self-settles (entered k) i p h (enters-run k i p h r is) (enters-kernel k i p h r is) z (aligned-next k.spaces.pc a) (state_of (entered k))
+  pub kills-self : named k.table.places number ≡ Some i → Acts k k i (Some Kill) KillsItself
+  kills-self found = came k i here (Some Kill) KillsItself tt (ap (λ (o : Outcome). settle (state_of k) i (limited o)) (kill-is (Some i) found) ∙ self-settles k i here)
 
--- ---- the row, where e is the kernel after the pc moved
-
-module _ (k e : Kernel) (i : ℕ) (same : e ≡ entered k) (is : IsKernel k) (active : k.spaces.active ≡ Some i) (number : call_of (low (slice_index k.spaces.registers 17)) ≡ Some Kill) (a : ℕ) (is-a : a ≡ argument e 0) where
-  found-entered : (o : Option ℕ) → o ≡ named e.table.places (natural (int_of a)) → named k.table.places (natural (int_of (argument k 0))) ≡ o
-  found-entered o found =
-      ap (λ (x : Kernel). named x.table.places (natural (int_of (argument x 0)))) (sym same)
-      ∙ ap (λ (n : ℕ). named e.table.places (natural (int_of n))) (sym is-a)
-      ∙ sym found
-
-  pub kills-none : (o : Option ℕ) → o ≡ named e.table.places (natural (int_of a)) → o ≡ None → called (state_of k) i ≡ quiet (state_of (answered e minus_one))
-  kills-none o found none =
-      let run = run-of k i is active in
-      rows-kill-none k i run.0 run.1.0 run.1.1 is number (found-entered o found ∙ none)
-      ∙ ap (λ (x : Kernel). quiet (state_of (answered x minus_one))) (sym same)
-
-  pub kills-other : (o : Option ℕ) (j : ℕ) → o ≡ named e.table.places (natural (int_of a)) → o ≡ Some j → j ≢ i → called (state_of k) i ≡ quiet (state_of (marked (answered e 0) j))
-  kills-other o j found some apart =
-      let run = run-of k i is active in
-      rows-kill k i run.0 run.1.0 run.1.1 is number j (found-entered o found ∙ some) apart
-      ∙ ap (λ (x : Kernel). quiet (state_of (marked (answered x 0) j))) (sym same)
-
-  pub kills-self : (o : Option ℕ) (j : ℕ) → o ≡ named e.table.places (natural (int_of a)) → o ≡ Some j → j ≡ i → slice_index k.spaces.registers 0 ≡ 0 → k.spaces.pc % 4 ≡ 0
-      → called (state_of k) i ≡ quiet (state_of (marked (ended (answered e 0) i (negsuc 0)) j))
-  kills-self o j found some here z aligned =
-      let run = run-of k i is active in
-      rows-kill-self k i run.0 run.1.0 run.1.1 is number z aligned (found-entered o found ∙ some ∙ ap Some here)
-      ∙ ap (λ (x : Kernel). quiet (state_of (marked (ended (answered x 0) i (negsuc 0)) i))) (sym same)
-      ∙ ap (λ (n : ℕ). quiet (state_of (marked (ended (answered e 0) i (negsuc 0)) n))) (sym here)
+  -- it is answered, ends, and is marked
+  pub settles-killed : (last : Kernel) → last ≡ marked (ended (answered k 0) i (negsuc 0)) i → state_of last ≡ settled_by (state_of k) i KillsItself
+  settles-killed last made = rw made (self-ends k i here runs.zero runs.aligned)

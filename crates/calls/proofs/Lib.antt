@@ -5,6 +5,7 @@ pub mod Runs
 pub mod Settles
 pub mod Changes
 pub mod Rows
+pub mod Acts
 pub mod Steps
 pub mod Forks
 pub mod Starts
@@ -12,6 +13,7 @@ pub mod Turned
 pub mod Readies
 pub mod Shown
 pub mod Goes
+pub mod Resumes
 pub mod Takes
 pub mod Prints
 mod Transfers
@@ -25,4 +27,4 @@ pub mod Closes
 pub mod Pipes
 pub mod Sends
 pub mod Draws
-pub mod ReadRows
+pub mod Puts

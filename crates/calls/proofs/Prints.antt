@@ -10,7 +10,7 @@ use Rattle.spaces.specs.Spaces.{held_at}
 use Rattle.unixmodel.specs.declared.trap.Access.TheVariants.{Load}
 use Rattle.unixmodel.specs.Memory.{Memory, reach, read_bytes}
 use Rattle.vm.specs.Reach.{IsSized, piece_at}
-use Rattle.vm.specs.ReachLemmas.{reach-drop, reach-next, reach-page}
+use Rattle.vm.proofs.ReachLemmas.{reach-drop, reach-next, reach-page}
 
 front-rest : (xs : List ℕ) (a n : ℕ) → a ≤ n → take a xs ++ drop a (take n xs) ≡ take n xs
 front-rest xs a n less = ap (λ ys. ys ++ drop a (take n xs)) (sym (take-take a n xs less)) ∙ take-append-drop a (take n xs)

@@ -3,7 +3,7 @@ use Rattle.std.proofs.Common.{◌≡◌, ◌≢◌, ℕ, ◌%◌, true, false, L
 use Rattle.std.specs.Prelude.{slice_index}
 use Rattle.std.specs.Int.{cast_signed, cast_unsigned, w32}
 use Rattle.std.proofs.lemmas.Int.{of_z-to_z}
-use Rattle.calls.specs.Kernel.{Kernel, answered, argument, blocked, ended, entered, halted_by, left_as, loaded, on_hart, state_of}
+use Rattle.calls.specs.Kernel.{Kernel, answered, blocked, ended, entered, halted_by, left_as, loaded, on_hart, state_of}
 use Rattle.calls.specs.Says.{IsUnbuilt, called, called_by}
 use Rattle.calls.specs.Sound.{IsAwaiting, IsKernel, IsPending, IsPlaced, is_at}
 use Rattle.calls.proofs.Changes.{ended-is, ended-state, left-as, left-kernel, left-state, left_to, other-at}
@@ -86,14 +86,6 @@ module _ (k : Kernel) (i : ℕ) (p : Process) (h : Held) (r : IsRun k i p h) (is
   pub rows-unbuilt : IsUnbuilt (call_of (low (slice_index k.spaces.registers 17))) → called (state_of k) i ≡ refused
   rows-unbuilt none = unbuilt (call_of (low (slice_index k.spaces.registers 17))) refl none
 
-  -- ---- getpid, uptime
-
-  pub rows-getpid : call_of (low (slice_index k.spaces.registers 17)) ≡ Some Getpid → called (state_of k) i ≡ quiet (state_of (answered (entered k) p.pid))
-  rows-getpid number = numbered (Some Getpid) number ∙ done p.pid []
-
-  pub rows-uptime : call_of (low (slice_index k.spaces.registers 17)) ≡ Some Uptime → called (state_of k) i ≡ quiet (state_of (answered (entered k) k.ticks))
-  rows-uptime number = numbered (Some Uptime) number ∙ done k.ticks []
-
   -- ---- the end of the process
 
   module _ (z : slice_index k.spaces.registers 0 ≡ 0) (a : k.spaces.pc % 4 ≡ 0) where
@@ -152,47 +144,12 @@ module _ (k : Kernel) (i : ℕ) (p : Process) (h : Held) (r : IsRun k i p h) (is
         let q = record p { registers = k.spaces.registers; pc = k.spaces.pc; mode = Ready } in
         change-run k i p h r is (unix.with_mode Ready) ∙ sym (left-state k i p h r is q stops-placed refl) ∙ sym (ap state_of (left-as k i p h r is Ready))
 
--- ---- a call has begun
-
--- e is kernel k once its process i has begun a call, and the row of the call is looked up in it
-pub record IsBegun (k e : Kernel) (i : ℕ) (call : Call) : Type 0 where
-  pub process : Process
-  pub held : Held
-  pub run : IsRun e i process held
-  pub sound : IsKernel e
-  pub row : called (state_of k) i ≡ settle (state_of e) i (outcome_of (state_of e) i (self e process held) (Some call))
-
-pub begun-of : (k e : Kernel) (i : ℕ) (call : Call) → e ≡ entered k → IsKernel k → k.spaces.active ≡ Some i → call_of (low (slice_index k.spaces.registers 17)) ≡ Some call → IsBegun k e i call
-begun-of k e i call same is active number =
-    let run = run-of k i is active in
-    let begun : IsBegun k (entered k) i call = record {
-      process = run.0;
-      held = run.1.0;
-      run = enters-run k i run.0 run.1.0 run.1.1 is;
-      sound = enters-kernel k i run.0 run.1.0 run.1.1 is;
-      row = numbered k i run.0 run.1.0 run.1.1 is (Some call) number;
-    } in
-    subst (λ (x : Kernel). IsBegun k x i call) (sym same) begun
-
-module _ (k e : Kernel) (i : ℕ) (call : Call) (x : IsBegun k e i call) where
-  -- the row refuses it, or does it and makes nothing but the answer
-  pub begun-refused : outcome_of (state_of e) i (self e x.process x.held) (Some call) ≡ Refused → called (state_of k) i ≡ quiet (state_of (answered e minus_one))
-  begun-refused row = x.row ∙ ap (settle (state_of e) i) row ∙ settle-refused e i x.process x.held x.run x.sound
-
-  pub begun-done : (value : ℕ) → outcome_of (state_of e) i (self e x.process x.held) (Some call) ≡ limited (Done (state_of e) value []) → called (state_of k) i ≡ quiet (state_of (answered e value))
-  begun-done value row = x.row ∙ ap (settle (state_of e) i) row ∙ settle-limited e i x.process x.held x.run x.sound (state_of e) value []
-
 -- ---- rows that end the process, or where it waits
 
 pub aligned-next : (pc : ℕ) → pc % 4 ≡ 0 → plus pc 4 % 4 ≡ 0
 aligned-next pc h = omega arith
 
 module _ (k : Kernel) (i : ℕ) (p : Process) (h : Held) (r : IsRun k i p h) (is : IsKernel k) (z : slice_index k.spaces.registers 0 ≡ 0) (a : k.spaces.pc % 4 ≡ 0) where
-  pub rows-exit : call_of (low (slice_index k.spaces.registers 17)) ≡ Some Exit → called (state_of k) i ≡ quiet (state_of (ended (entered k) i (int_of (argument k 0))))
-  rows-exit number =
-      numbered k i p h r is (Some Exit) number
-      ∙ ap quiet (ends-at (entered k) i p h (enters-run k i p h r is) (enters-kernel k i p h r is) z (aligned-next k.spaces.pc a) (int_of (argument k 0)))
-
   -- ---- an instruction
 
   pub executes-call : (t : Trap) → cycle k.spaces.registers k.spaces.pc h.memory ≡ Err t → is_ecall t.cause ≡ true → execute_at (state_of k) i (process_at (state_of k) i) ≡ called (state_of k) i

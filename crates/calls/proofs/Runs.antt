@@ -142,30 +142,6 @@ module _ (k : Kernel) (i : ℕ) (p : Process) (h : Held) (r : IsRun k i p h) whe
       ∙ process-with (base (rest_of k)) table (memories k.spaces) i (on_hart k.spaces p) (slot-put k.table.places i (Some (on_hart k.spaces p)) within-run)
       ∙ ap (λ (m : Memory). Some (with_memory m (on_hart k.spaces p))) memory
 
--- ---- what its descriptors name
-
-module _ (k : Kernel) (i : ℕ) (p : Process) (h : Held) (r : IsRun k i p h) (is : IsKernel k) where
-  file-go : (d : ℕ) (o : Option ℕ) → slot p.descriptors d ≡ o → is_some o ≡ true → (f : OpenFile) × (IsNamed (state_of k) (self k p h) d f × IsOpenFile f)
-  file-go d None named some = absurd (cc)
-  file-go d (Some n) named some =
-      let there = open-named k.files k.spaces.pipes k.table.places is.opened i p d n r.process named in
-      (there.0, (record { number = n; named = named; opened = there.1.0 }, there.1.1))
-
-  -- a descriptor that names something names an open file
-  pub file-run : (d : ℕ) → is_some (slot p.descriptors d) ≡ true → (f : OpenFile) × (IsNamed (state_of k) (self k p h) d f × IsOpenFile f)
-  file-run d some = file-go d (slot p.descriptors d) refl some
-
-  console-go : (d : ℕ) (o : Option ℕ) → slot p.descriptors d ≡ o → is_some o ≡ true → ((n : ℕ) → slot p.descriptors d ≡ Some n → slot (opens_of k.files) n ≡ Some console_file) → IsConsole (state_of k) (self k p h) d
-  console-go d None named some only = absurd (cc)
-  console-go d (Some n) named some only = record { number = n; named = named; opened = only n named }
-
-  -- a descriptor that names something names the console, where that is all that it can name
-  pub console-run : (d : ℕ) → is_some (slot p.descriptors d) ≡ true → ((n : ℕ) → slot p.descriptors d ≡ Some n → slot (opens_of k.files) n ≡ Some console_file) → IsConsole (state_of k) (self k p h) d
-  console-run d some only = console-go d (slot p.descriptors d) refl some only
-
-  pub named-run : (d : ℕ) (b : Bool) → is_some (slot (descriptors_at k i) d) ≡ b → is_some (slot p.descriptors d) ≡ b
-  named-run d b named = ap (λ (o : Option Process). is_some (slot (descriptors_in o) d)) (sym r.process) ∙ named
-
 -- ---- the running process alone changes
 
 -- it is p now, but for its registers and its pc, and its space shows h
@@ -193,7 +169,7 @@ runs-set os i o before after short here others runs j = elim (same_or_not j i) [
 ]
 
 module _ (k : Kernel) (i : ℕ) (p : Process) (h : Held) (r : IsRun k i p h) (is : IsKernel k) where
-  within-space : i < length k.spaces.places
+  pub within-space : i < length k.spaces.places
   within-space = slot-within k.spaces.places i h r.space
 
   module _ (p' : Process) (h' : Held) (registers : List ℕ) (pc : ℕ) (placed : IsPlaced p' h') (runs : p'.mode ≡ Running) where

@@ -1,18 +1,17 @@
 -- A kernel of many processes, as plain values, and the state of the abstract Unix that it stands for.
 use Rattle.std.specs.Prelude.{Bool, List, None, Option, Some, [], false, if◌then◌else◌, map, not, pos, slice_index, slice_set, ℕ, ℤ, ◌%◌, ◌+ℤ◌, ◌+◌, ◌==◌, ◌^◌}
 use Rattle.std.specs.Int.{cast_unsigned, w32}
-use Rattle.calls.specs.Descriptors.{all_closed, all_shared, descriptors_in, standing}
+use Rattle.calls.specs.Descriptors.{all_closed, descriptors_in, standing}
 use Rattle.files.specs.Places.{Counted, opens_of}
 use Rattle.proc.specs.declared.process.Process.{Process}
-use Rattle.proc.specs.declared.table.Seat.{Seat}
-use Rattle.proc.specs.Places.{Places, changed, changed_at, exited, seated, with_mark, with_mode, with_size, without}
+use Rattle.proc.specs.Places.{Places, changed, changed_at, exited, with_mark, with_mode, with_size, without}
 use Rattle.proc.specs.Whole.{with_table}
 use Rattle.spaces.specs.Spaces as spaces
-use Rattle.spaces.specs.Spaces.{Held, Spaces, held_at, taken_to, with_held, with_place}
+use Rattle.spaces.specs.Spaces.{Held, Spaces, held_at, with_held, with_place}
 use Rattle.unixmodel.specs.declared.process.Mode.{Mode}
 use Rattle.unixmodel.specs.declared.process.Mode.TheVariants.{Ready, Running, Waiting}
 use Rattle.unixmodel.specs.declared.process.Pending.{Pending}
-use Rattle.unixmodel.specs.Console.{Console, Taken}
+use Rattle.unixmodel.specs.Console.{Console}
 use Rattle.unixmodel.specs.Files.{slot}
 use Rattle.unixmodel.specs.Meaning.{Computed}
 use Rattle.unixmodel.specs.Memory.{Memory}
@@ -137,19 +136,6 @@ asked k i delta = natural (pos (held_at k.spaces i).size +ℤ delta)
 abbrev pub typed : Kernel → Console → Kernel
 typed k c = record k { console = c }
 
--- what a read takes goes into the buffer of process i, at an address
-abbrev pub received : Kernel → ℕ → ℕ → Taken → Kernel
-received k i address t = record k {
-  console = record k.console { committed = t.rest };
-  spaces = with_held k.spaces i (spaces.written (held_at k.spaces i) address t.bytes);
-}
-
--- ---- pipes
-
--- what a read takes of pipe q goes to an address of process i, so many bytes at the most
-abbrev pub drawn : Kernel → ℕ → ℕ → ℕ → ℕ → Kernel
-drawn k i q address count = record k { spaces = taken_to k.spaces q i address count }
-
 -- ---- which process runs
 
 abbrev pub idle : Spaces → Spaces
@@ -214,18 +200,6 @@ ended k i status = record k {
 
 abbrev pub child_of : Process → Process
 child_of p = record p { parent = p.pid; registers = slice_set p.registers 10 0; killed = false; mode = Ready }
-
-abbrev pub forked_as : Kernel → ℕ → Seat → Option Process → Kernel
-forked_as k i seat None = k
-forked_as k i seat (Some p) = record k {
-  table = seated k.table (child_of (on_hart k.spaces p)) seat;
-  spaces = with_held k.spaces seat.place (held_at k.spaces i);
-  files = all_shared k.files p.descriptors;
-}
-
--- process i, which runs, has a child at a seat
-abbrev pub forked : Kernel → ℕ → Seat → Kernel
-forked k i seat = forked_as k i seat (slot k.table.places i)
 
 -- ---- wait
 

@@ -3,9 +3,9 @@ pub mod Kernel
 pub mod Sound
 pub mod View
 pub mod Says
+pub mod Acts
 pub mod Does
 pub mod Shows
 pub mod Told
 pub mod Transfers
 pub mod Renamed
-pub mod Sends

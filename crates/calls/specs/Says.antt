@@ -1,27 +1,21 @@
 -- What the kernel's own steps answer.
-use Rattle.std.specs.Prelude.{Bool, Err, List, None, Ok, Option, Result, Some, [], length, nat_le, nat_lt, take, true, ℕ, ◌%◌, ◌+◌, ◌-◌, ◌<◌, ◌≤◌, ◌^◌, ◌∷◌, ◌≡◌, suc, zero}
+use Rattle.std.specs.Prelude.{Bool, List, None, Option, Some, [], length, nat_le, take, true, ℕ, ◌%◌, ◌+◌, ◌-◌, ◌≤◌, ◌^◌, ◌∷◌, ◌≡◌, suc, zero}
 use Rattle.calls.specs.declared.ready.Awaited.{Awaited}
-use Rattle.calls.specs.Kernel.{Kernel, argument, base, collected, forked, resized}
-use Rattle.calls.specs.Sends.{target_named}
+use Rattle.calls.specs.Kernel.{Kernel, argument, base}
 use Rattle.files.specs.Places.{opens_of}
 use Rattle.proc.specs.declared.process.Process.{Process}
-use Rattle.proc.specs.declared.table.ProcFault.{ProcFault}
-use Rattle.proc.specs.declared.table.Seat.{Seat}
-use Rattle.proc.specs.Places.{has_pid, place_where, seat_of, zombie_place}
+use Rattle.proc.specs.Places.{has_pid, place_where}
 use Rattle.proc.specs.Whole.{with_table}
-use Rattle.spaces.specs.Spaces.{Spaces, has_pipe, taken_frames}
+use Rattle.spaces.specs.Spaces.{Spaces, has_pipe}
 use Rattle.unixmodel.specs.Calls.{After, call, goes_on, quiet, settle}
-use Rattle.unixmodel.specs.Console.{Console, Taken, take_line}
+use Rattle.unixmodel.specs.Console.{Console}
 use Rattle.unixmodel.specs.declared.call.Call.{Call}
 use Rattle.unixmodel.specs.declared.call.Call.TheVariants.{Close, Dup, Exit, Fork, Getpid, Kill, Pipe, Read, Sbrk, Sleep, Uptime, Wait, Write}
 use Rattle.unixmodel.specs.declared.process.Pending.{Pending}
-use Rattle.unixmodel.specs.Files.{slot}
-use Rattle.unixmodel.specs.Numbers.{low}
-use Rattle.unixmodel.specs.OpenFiles.{End, OpenFile, Target}
+use Rattle.unixmodel.specs.OpenFiles.{OpenFile, Target}
 use Rattle.unixmodel.specs.OpenFiles.Target.{OnNode, OnPipe}
-use Rattle.unixmodel.specs.Outcome.{pending_arg}
 use Rattle.unixmodel.specs.Process as unix
-use Rattle.unixmodel.specs.ProcessCalls.{sleep_time, status_of}
+use Rattle.unixmodel.specs.ProcessCalls.{sleep_time}
 use Rattle.unixmodel.specs.State.{State, process_at}
 
 -- ---- what the abstract Unix makes of the state
@@ -60,13 +54,6 @@ IsUnbuilt (Some Write) = ⊥
 IsUnbuilt (Some Close) = ⊥
 IsUnbuilt (Some _) = Unit {0}
 
--- ---- sbrk
-
--- the size that is asked for is below 0, or its frames aren't there
-abbrev pub IsOver : Kernel → ℕ → Option ℕ → Type 0
-IsOver k i None = Unit {0}
-IsOver k i (Some size) = k.spaces.frames < taken_frames (resized k i size).spaces
-
 -- ---- write
 
 -- a front of some bytes
@@ -83,24 +70,6 @@ pending_for k number = record { number = number; args = argument k 0 ∷ argumen
 
 abbrev pub has_slept : ℕ → Pending → Bool
 has_slept ticks w = nat_le (sleep_time w) ((ticks + (2 ^ 32 - w.since)) % 2 ^ 32)
-
--- ---- read
-
--- what a read takes of the console
-abbrev pub line_for : Kernel → Pending → Taken
-line_for k w = take_line (nat_lt 0 w.done) (low (pending_arg w 2) - w.done) k.console.committed
-
--- where the next byte that a read takes goes
-abbrev pub next_place : Pending → ℕ
-next_place w = pending_arg w 1 + w.done
-
--- a call that did so much more
-abbrev pub further : Pending → ℕ → Pending
-further w n = record w { done = w.done + n }
-
--- the pending call of process i is one on an end of pipe q
-abbrev pub IsOnPipe : Kernel → ℕ → Pending → ℕ → Type 0
-IsOnPipe k i w q = (end : End) × (target_named k i (low (pending_arg w 0)) ≡ Some (OnPipe q end))
 
 -- ---- who is ready
 
@@ -120,30 +89,6 @@ seen s places = with_table s (record { places = places; last = 0; next_pid = 0 }
 abbrev pub Stands : Spaces → Target → Type 0
 Stands s (OnNode n offset) = Unit {0}
 Stands s (OnPipe q end) = has_pipe s q ≡ true
-
--- ---- fork
-
--- no place or no pid is left, or the frames don't suffice
-abbrev pub IsUnforked : Kernel → ℕ → Result Seat ProcFault → Type 0
-IsUnforked k i (Err fault) = Unit {0}
-IsUnforked k i (Ok seat) = k.spaces.frames < taken_frames (forked k i seat).spaces
-
--- process i has a child at the seat with this pid, or none as there is no place, no pid, or too few frames
-abbrev pub Forks : Kernel → ℕ → Kernel → Option ℕ → Type 0
-Forks k i new None = (new ≡ k) × IsUnforked k i (seat_of k.table)
-Forks k i new (Some pid) = (seat : Seat) × ((seat_of k.table ≡ Ok seat) × (pid ≡ seat.pid) × (new ≡ forked k i seat))
-
--- ---- wait
-
--- the first zombie child of process i is waited for, or there is none
-abbrev pub CollectsFor : Kernel → ℕ → ℕ → Kernel → Option ℕ → Option Process → Type 0
-CollectsFor k i address new result None = ⊥
-CollectsFor k i address new None (Some p) = (new ≡ k) × (zombie_place k.table p.pid ≡ None)
-CollectsFor k i address new (Some pid) (Some p) = (j : ℕ) × ((child : Process) × ((zombie_place k.table p.pid ≡ Some j)
-    × (slot k.table.places j ≡ Some child) × (pid ≡ child.pid) × (new ≡ collected k i address j (status_of child.mode))))
-
-abbrev pub Collects : Kernel → ℕ → ℕ → Kernel → Option ℕ → Type 0
-Collects k i address new result = CollectsFor k i address new result (slot k.table.places i)
 
 -- ---- kill
 

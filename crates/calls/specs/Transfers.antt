@@ -1,25 +1,31 @@
--- How read and write begin. Which of them it is goes by the end of a pipe that it would use.
-use Rattle.std.specs.Prelude.{Bool, Option, Some, is_some, ℕ, ◌≡◌}
+-- How read and write begin, and go on with what a descriptor names. Which of them it is goes by the end of a pipe that it
+-- would use.
+use Rattle.std.specs.Prelude.{Bool, Option, Some, is_some, option_map, ℕ, ◌≡◌}
 use Rattle.std.specs.Result.{result_ok}
+use Rattle.calls.specs.Acts.{Runs, going_at, outcome_at}
 use Rattle.calls.specs.Kernel.{Kernel, descriptors_at, state_of}
-use Rattle.calls.specs.Says.{called, gone_on}
-use Rattle.calls.specs.Sends.{target_named}
-use Rattle.calls.specs.Sound.{IsKernel, IsPending}
+use Rattle.calls.specs.Sound.{IsFresh, IsPending, file_named}
 use Rattle.files.specs.declared.file.End.{End}
 use Rattle.files.specs.declared.file.End.TheVariants as end
-use Rattle.files.specs.Places.{readable_at, writable_at}
+use Rattle.files.specs.Places.{opens_of, readable_at, writable_at}
 use Rattle.spaces.specs.Spaces.{held_at}
 use Rattle.unixmodel.specs.declared.call.Call.{Call}
 use Rattle.unixmodel.specs.declared.call.Call.TheVariants.{Read, Write}
 use Rattle.unixmodel.specs.declared.process.Pending.{Pending}
 use Rattle.unixmodel.specs.Memory.{Memory, can_write, read_bytes}
 use Rattle.unixmodel.specs.Numbers.{low}
+use Rattle.unixmodel.specs.OpenFiles as unix
 use Rattle.unixmodel.specs.OpenFiles.{OpenFile, Target}
-use Rattle.unixmodel.specs.Outcome.{pending_arg}
+use Rattle.unixmodel.specs.OpenFiles.Target.{OnNode, OnPipe}
+use Rattle.unixmodel.specs.Outcome.{limited, pending_arg}
 
 abbrev pub call_on : End → Call
 call_on end.Read = Read
 call_on end.Write = Write
+
+-- what the open file that a descriptor names is open on
+abbrev pub target_named : Kernel → ℕ → ℕ → Option Target
+target_named k i d = option_map (λ (f : OpenFile). f.target) (file_named (opens_of k.files) (descriptors_at k i) d)
 
 -- what an open file is open on, if such a call may be made on it
 abbrev pub target_for : End → Option OpenFile → Option Target
@@ -31,12 +37,22 @@ abbrev pub can_transfer : End → Memory → ℕ → ℕ → Bool
 can_transfer end.Read memory address count = can_write memory address count
 can_transfer end.Write memory address count = is_some (read_bytes memory address count)
 
--- a call of kernel old has begun in kernel new, and is what a pending call w on t makes when it goes on
-pub record Begins (old new : Kernel) (i : ℕ) (call : Call) (t : Target) (w : Pending) : Type 0 where
-  pub running : new.spaces.active ≡ Some i
-  pub sound : IsKernel new
-  pub number : w.number ≡ call
-  pub fresh : w.done ≡ 0
-  pub target : target_named new i (low (pending_arg w 0)) ≡ Some t
-  pub can : IsPending (descriptors_at new i) (held_at new.spaces i).memory w call
-  pub gives : called (state_of old) i ≡ gone_on (state_of new) i w
+-- process i, which runs, goes on with pending call w on an end, of what is open on t
+pub record Transfers (k : Kernel) (i : ℕ) (end : End) (t : Target) (w : Pending) : Type 0 where
+  pub runs : Runs k i
+  pub number : w.number ≡ call_on end
+  pub can : IsPending (descriptors_at k i) (held_at k.spaces i).memory w (call_on end)
+  pub fresh : IsFresh (opens_of k.files) (descriptors_at k i) w
+  pub target : target_named k i (low (pending_arg w 0)) ≡ Some t
+
+-- what is open there is a node, or some end of pipe q
+abbrev pub OnSomeNode : Kernel → ℕ → End → Pending → Type 0
+OnSomeNode k i end w = (n : ℕ) × ((offset : ℕ) × Transfers k i end (OnNode n offset) w)
+
+abbrev pub OnThePipe : Kernel → ℕ → End → ℕ → Pending → Type 0
+OnThePipe k i end q w = (e : unix.End) × Transfers k i end (OnPipe q e) w
+
+-- its row is what the pending call comes to, within the limits
+pub record Begins (k : Kernel) (i : ℕ) (end : End) (t : Target) (w : Pending) : Type 0 where
+  pub goes : Transfers k i end t w
+  pub row : outcome_at (state_of k) i (Some (call_on end)) ≡ limited (going_at (state_of k) i w)

@@ -15,18 +15,15 @@ ghost use Rattle.unixmodel.specs.Next.{execute_at, is_ecall, next, take_turn};
 ghost use Rattle.unixmodel.specs.State.{process_at};
 ghost use Rattle.unixmodel.specs.Turn.{turn};
 
+use crate::calls;
 use crate::halt::Halt;
-use crate::kernel::Kernel;
+use crate::kernel::{KILLED, Kernel};
 use crate::outcome::Outcome;
-use crate::{calls, family, read, write};
 use console::{Out, OutFault};
 use sv39::Translate;
 use unixmodel::call::Call;
 use unixmodel::process::{Mode, Pending};
 use unixmodel::trap::Cause;
-
-// The status of a process that kill or a fault ended.
-const KILLED: i32 = -1;
 
 // Whether a trap is a call.
 fn is_call(cause: Cause) -> bool
@@ -206,11 +203,7 @@ impl<T: Translate + Drop> Kernel<T> {
     {
         let _sound = self.active();
         self.start(at);
-        match pending.number {
-            Call::Wait => family::wait_on(self, at, pending),
-            Call::Read => read::read_on(self, at, pending),
-            Call::Write => write::write_on(self, at, pending),
-            _ => calls::sleep_on(self, at, pending),
-        }
+        let came = self.proceed(at, pending);
+        self.settle(at, came);
     }
 }

@@ -1,19 +1,19 @@
 //! The kernel's own steps: each touches the table, the spaces and the ticks, and keeps them together.
-ghost use Rattle.std.specs.Prelude.{◌≡◌, ◌≢◌, ◌+◌, ◌-◌, ◌<◌, ◌≤◌, ◌%◌, ◌^◌, ℕ, length, Some, None, true, false, is_some, nat_le, IfSome, IfNone, slice_index, unwrap_or, []};
-ghost use Rattle.std.specs.Bool.{OnTrue, OnFalse};
+ghost use Rattle.std.specs.Prelude.{◌≡◌, ◌≢◌, ◌+◌, ◌<◌, ◌≤◌, ◌%◌, ◌^◌, length, Some, None, true, is_some, IfSome, IfNone, slice_index, unwrap_or, []};
 ghost use Rattle.std.specs.Prelude.{if◌then◌else◌, ◌==◌, option_map, OnOk, OnErr, Ok, Err};
 ghost use Rattle.std.specs.Io.KnownBytes.{Appends};
 ghost use Rattle.std.specs.Option.{option_copied};
-ghost use Rattle.calls.specs.Kernel.{answered, argument, asked, begun, blocked, computed, descriptors_at, ended, entered, left_as, loaded, marked, on_hart, picked, resized, started, state_of, ticked, typed, with_status};
-ghost use Rattle.calls.specs.Says.{Collects, Forks, IsFront, IsOver, pending_for};
-ghost use Rattle.calls.specs.Sends.{target_named};
+ghost use Rattle.calls.specs.Acts.{CanCome, CanGoOn, GoesOn, IsBegun, settled_by};
+ghost use Rattle.calls.specs.Kernel.{answered, argument, begun, blocked, computed, descriptors_at, ended, entered, left_as, loaded, marked, on_hart, picked, started, state_of, ticked, typed};
+ghost use Rattle.calls.specs.Says.{IsFront, pending_for};
+ghost use Rattle.calls.specs.Transfers.{target_named};
 ghost use Rattle.calls.specs.Sound.{CanRun, IsAwaiting, IsKernel, IsPending, can_answer};
 ghost use Rattle.calls.specs.Told.{CanEnd};
 ghost use Rattle.console.specs.Output.{AppendsBeginning};
 ghost use Rattle.files.specs.Meant.{end_of, target_of};
 ghost use Rattle.files.specs.Places.{has_end, opens_of};
-ghost use Rattle.proc.specs.Places.{has_pid, is_child_of, place_where};
-ghost use Rattle.spaces.specs.Spaces.{has_space, held_at, taken_frames, with_held};
+ghost use Rattle.proc.specs.Places.{has_pid, place_where};
+ghost use Rattle.spaces.specs.Spaces.{held_at};
 ghost use Rattle.unixmodel.specs.Console.{key};
 ghost use Rattle.unixmodel.specs.Cycle.{cycle};
 ghost use Rattle.unixmodel.specs.Failures.{Rises};
@@ -22,17 +22,17 @@ ghost use Rattle.unixmodel.specs.Meaning.{Computed};
 ghost use Rattle.unixmodel.specs.Memory.{can_write, reach, read_bytes};
 ghost use Rattle.unixmodel.specs.declared.trap.Access.TheVariants.{Load};
 ghost use Rattle.vm.specs.Reach.{piece_at};
-ghost use Rattle.unixmodel.specs.Numbers.{low, natural, int_of};
 ghost use Rattle.unixmodel.specs.Turn.{turn};
 ghost use Rattle.unixmodel.specs.declared.process.Mode.TheVariants.{Ready};
 
-mod open;
-mod receive;
-mod send;
+mod descriptor_calls;
+mod process_calls;
 mod show;
-mod transfer;
+mod transfer_calls;
 
-use crate::descriptors::{close_all, named, share_all};
+use crate::calls::REFUSED;
+use crate::descriptors::{close_all, named};
+use crate::outcome::Came;
 use crate::ready::Awaited;
 use console::{Console, Out, OutFault};
 use files::{End, Files, Target};
@@ -43,14 +43,9 @@ use sv39::Translate;
 use unixmodel::call::Call;
 use unixmodel::process::{Mode, Pending};
 use unixmodel::trap::Trap;
-use vm::Perm;
 
-/// The marks of the pages that sbrk adds.
-const HEAP: Perm = Perm {
-    writable: true,
-    executable: false,
-    user: true,
-};
+/// The status of a process that kill or a fault ended.
+pub(crate) const KILLED: i32 = -1;
 
 /// The processes of a machine, their spaces, the hart that runs one of them, their open files, and what is typed at the
 /// console.
@@ -81,17 +76,6 @@ fn halted_after(pid: u32, status: i32, halted: Option<i32>) -> Option<i32>
     ensures { result ≡ (if pid == 1 then Some status else halted) }
 {
     if pid == 1 { Some(status) } else { halted }
-}
-
-// Writes the status of a child at an address of a place, unless that is 0.
-fn write_status<T: Translate + Drop>(spaces: &mut Spaces<T>, at: usize, address: u64, status: i32)
-    requires space { has_space spaces.old at ≡ true }
-    requires can { can_answer (held_at spaces.old at).memory address ≡ true }
-    ensures { spaces.new ≡ with_held spaces.old at (with_status (held_at spaces.old at) address status) }
-{
-    if address != 0 {
-        let _written = spaces.write(at, address, &status.to_le_bytes());
-    }
 }
 
 impl<T: Translate + Drop> Kernel<T> {
@@ -161,6 +145,19 @@ impl<T: Translate + Drop> Kernel<T> {
         }
     }
 
+    /// A pending call of the running process goes on, but for what it comes to.
+    pub(crate) fn proceed(&mut self, at: usize, pending: Pending) -> Came
+        requires { CanGoOn self.old at pending }
+        ensures { GoesOn self.old self.new at pending result }
+    {
+        match pending.number {
+            Call::Wait => self.wait_on(at, pending),
+            Call::Read => self.read_on(at, pending),
+            Call::Write => self.write_on(at, pending),
+            _ => self.sleep_on(at, pending),
+        }
+    }
+
     /// The open file that a descriptor of the process in a place names.
     pub(crate) fn open_id(&self, at: usize, descriptor: u32) -> Option<u8>
         ensures named { result ≡ slot (descriptors_at self.now at) descriptor }
@@ -202,6 +199,34 @@ impl<T: Translate + Drop> Kernel<T> {
         let _registers = self.spaces.registers();
         let pc = self.spaces.pc();
         self.spaces.set_pc(pc.wrapping_add(4));
+    }
+
+    /// The running process begins its call: the pc goes on by 4.
+    pub(crate) fn begin(&mut self, at: usize)
+        requires { self.old.spaces.active ≡ Some at }
+        ensures { IsBegun self.old self.new at }
+    {
+        self.enter();
+    }
+
+    /// A call of the running process is done.
+    pub(crate) fn settle(&mut self, at: usize, came: Came)
+        requires running { self.old.spaces.active ≡ Some at }
+        requires can { CanCome self.old at came }
+        ensures { state_of self.new ≡ settled_by (state_of self.old) at came }
+    {
+        let _sound = self.active();
+        match came {
+            Came::Answers(value) => self.answer(value),
+            Came::Refuses => self.answer(REFUSED),
+            Came::Blocks(pending) => self.block(at, pending),
+            Came::Exits(status) => self.finish(at, status),
+            Came::KillsItself => {
+                self.answer(0);
+                self.finish(at, KILLED);
+                self.mark(at);
+            }
+        }
     }
 
     /// Puts the answer of a call into a0.
@@ -306,49 +331,6 @@ impl<T: Translate + Drop> Kernel<T> {
         }
     }
 
-    /// The running process has a child, which is ready and whose pid is the answer. `None`: no place or no pid is left, or
-    /// the frames don't suffice; then nothing changed.
-    pub(crate) fn fork(&mut self, at: usize) -> Option<u32>
-        requires { self.old.spaces.active ≡ Some at }
-        ensures { Forks self.old at self.new result }
-    {
-        let Some(process) = self.on_hart(at) else {
-            return None;
-        };
-        let Ok(seat) = self.table.next_seat() else {
-            return None;
-        };
-        if !self.spaces.copy(at, seat.place) {
-            return None;
-        }
-        share_all(&mut self.files, &process.descriptors);
-        let mut registers = process.registers;
-        registers[10] = 0;
-        let _seat = self.table.alloc(Process {
-            parent: process.pid,
-            registers,
-            killed: false,
-            mode: Mode::Ready,
-            ..process
-        });
-        Some(seat.pid)
-    }
-
-    /// Waits for the first zombie child of the running process: its status is written at the address, unless that is 0,
-    /// its place is free, and its pid is the answer. `None`: there is no zombie child; then nothing changed.
-    pub(crate) fn collect(&mut self, at: usize, address: u64) -> Option<u32>
-        requires running { self.old.spaces.active ≡ Some at }
-        requires can { can_answer (held_at self.old.spaces at).memory address ≡ true }
-        ensures { Collects self.old at address self.new result }
-    {
-        let _sound = self.active();
-        let parent = self.pid(at);
-        let reaped = self.table.reap(parent)?;
-        write_status(&mut self.spaces, at, address, reaped.status);
-        self.spaces.destroy(reaped.place);
-        Some(reaped.pid)
-    }
-
     /// Picks the process whose turn it is; `None`: none is ready.
     pub fn turn(&mut self) -> Option<usize>
         requires { self.old.spaces.active ≡ None }
@@ -386,13 +368,6 @@ impl<T: Translate + Drop> Kernel<T> {
         self.table.find(pid)
     }
 
-    /// Whether a process has a child.
-    pub(crate) fn has_child(&self, pid: u32) -> bool
-        ensures { result ≡ is_some (place_where self.now.table.places (is_child_of pid)) }
-    {
-        self.table.has_child(pid)
-    }
-
     /// Whether a status can be written at an address of the running process; at address 0 none is.
     pub(crate) fn can_answer(&self, at: usize, address: u64) -> bool
         requires { self.now.spaces.active ≡ Some at }
@@ -415,52 +390,6 @@ impl<T: Translate + Drop> Kernel<T> {
         ensures { result ≡ (held_at self.now.spaces at).size }
     {
         self.spaces.size(at)
-    }
-
-    // Adds pages of zeros that the process reads and writes. `false`: the frames don't suffice.
-    fn grow(&mut self, at: usize, bytes: u64) -> bool
-        requires { self.old.spaces.active ≡ Some at }
-        ensures done { OnTrue result (self.new ≡ resized self.old at ((held_at self.old.spaces at).size + bytes)) }
-        ensures refused { OnFalse result ((self.new ≡ self.old) × (self.old.spaces.frames < taken_frames (resized self.old at ((held_at self.old.spaces at).size + bytes)).spaces)) }
-    {
-        let _pages = self.spaces.pages(at);
-        if !self.spaces.grow(at, bytes, HEAP) {
-            return false;
-        }
-        let size = self.spaces.size(at);
-        self.table.set_size(at, size);
-        true
-    }
-
-    // Takes pages away.
-    fn shrink(&mut self, at: usize, bytes: u64)
-        requires running { self.old.spaces.active ≡ Some at }
-        requires less { bytes ≤ (held_at self.old.spaces at).size }
-        ensures { self.new ≡ resized self.old at ((held_at self.old.spaces at).size - bytes) }
-    {
-        let _pages = self.spaces.pages(at);
-        self.spaces.shrink(at, bytes);
-        let size = self.spaces.size(at);
-        let _free = self.spaces.free();
-        self.table.set_size(at, size);
-    }
-
-    /// Changes the size of the running process by so many bytes. `false`: that would leave a size below 0, or the frames
-    /// don't suffice; then nothing changed. A new page is 0 throughout, and a page that stays keeps its bytes.
-    pub(crate) fn resize(&mut self, at: usize, delta: i32) -> bool
-        requires { self.old.spaces.active ≡ Some at }
-        ensures done { OnTrue result ((size : ℕ) × (asked self.old at delta ≡ Some size) × (self.new ≡ resized self.old at size)) }
-        ensures refused { OnFalse result ((self.new ≡ self.old) × IsOver self.old at (asked self.old at delta)) }
-    {
-        let bytes = u64::from(delta.unsigned_abs());
-        if delta >= 0 {
-            return self.grow(at, bytes);
-        }
-        if bytes > self.size(at) {
-            return false;
-        }
-        self.shrink(at, bytes);
-        true
     }
 
     // The next bytes to put out: at most so many, and at least one.

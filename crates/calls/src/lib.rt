@@ -4,17 +4,11 @@
 mod calls;
 mod descriptors;
 mod dispatch;
-mod family;
 mod halt;
 mod kernel;
-mod memory;
 mod numbers;
-mod open;
 mod outcome;
-mod read;
 mod ready;
-mod transfer;
-mod write;
 
 pub use halt::Halt;
 pub use kernel::Kernel;

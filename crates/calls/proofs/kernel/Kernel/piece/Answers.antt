@@ -4,7 +4,7 @@ use Rattle.calls.proofs.kernel.Kernel.piece.Goals as goal
 use Rattle.spaces.specs.Spaces.{held_at}
 use Rattle.unixmodel.specs.declared.trap.Access.TheVariants.{Load}
 use Rattle.vm.specs.Reach.{piece_at}
-use Rattle.vm.specs.ReachLemmas.{piece-some}
+use Rattle.vm.proofs.ReachLemmas.{piece-some}
 
 pub returns-else-piece-most-clause-some : goal.returns-else-piece-most-clause-some
 returns-else-piece-most-clause-some g c =

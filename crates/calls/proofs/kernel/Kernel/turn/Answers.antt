@@ -2,7 +2,7 @@ use Rattle.std.proofs.Common.{rules, ap, sym, ◌∙◌}
 use Rattle.calls.specs.Kernel.{Kernel, base, memories, rest_of}
 use Rattle.calls.specs.View.{kernel_of}
 use Rattle.calls.proofs.Readies.{ready-same, turn-idle}
-use Rattle.proc.specs.Turns.{turn-from_pick}
+use Rattle.proc.proofs.Turns.{turn-from_pick}
 use Rattle.proc.specs.Whole.{with_table}
 use Rattle.unixmodel.specs.Turn.{turn}
 use Rattle.calls.proofs.kernel.Kernel.turn.Goals as goal

@@ -1,0 +1,241 @@
+-- Calls of the running process that are answered at once.
+use Rattle.std.proofs.Common.{◌≡◌, Err, ℕ, ◌<◌, ◌≤◌, List, [], length, Option, Some, None, refl, ap, sym, ◌∙◌, Bool, true, false, ◌%◌, ℤ}
+use Rattle.std.specs.Prelude.{IfSome, slice_index, slice_set, unwrap_or}
+use Rattle.std.proofs.lemmas.List.{length-set}
+use Rattle.std.specs.Io.KnownBytes.{Appends}
+use Rattle.calls.specs.Acts.{Acts, CanCome, Comes, GoesOn, IsBegun, Runs, Tries, going_at, going_by, outcome_at, outcome_by, settled_by}
+use Rattle.calls.specs.declared.halt.Halt.{Halt}
+use Rattle.calls.specs.declared.halt.Halt.TheVariants.{Console, Device, Halted, InitEnded}
+use Rattle.calls.specs.declared.outcome.Came.{Came}
+use Rattle.calls.specs.declared.outcome.Came.TheVariants.{Answers, Blocks, Exits, Refuses}
+use Rattle.calls.specs.Descriptors.{descriptors_in}
+use Rattle.calls.specs.Does.{Dispatches, IsMade}
+use Rattle.calls.proofs.Opens.{waits-other}
+use Rattle.calls.specs.Kernel.{Kernel, answered, entered, on_hart, state_of, argument, blocked, ended}
+use Rattle.calls.specs.Says.{called, has_slept, pending_for}
+use Rattle.calls.specs.Sound.{IsKernel, IsOpened, IsPlaced}
+use Rattle.calls.proofs.Reaped.{match-active, match-place, over-state, within-state}
+use Rattle.calls.proofs.Rows.{aligned-next, int-bits, enters-kernel, enters-run, numbered, ends-at, waits-run}
+use Rattle.calls.proofs.Runs.{IsRun, eq-self, moved-state, process-run, run-of, runs-set, self, slot-put, stands-set, with_process, within-run, within-space}
+use Rattle.calls.proofs.Settles.{after, answer-run, live, not-killed, runs-mode, settle-limited, settle-done}
+use Rattle.files.specs.Places.{Counted, opens_of}
+use Rattle.proc.specs.declared.process.Process.{Process}
+use Rattle.proc.specs.Whole.{with_memory}
+use Rattle.spaces.specs.Spaces.{Held, no_pages, taken_frames}
+use Rattle.unixmodel.specs.Calls.{call_of, end_at, outcome_of, quiet, row, settle, goes_on}
+use Rattle.unixmodel.specs.declared.call.Call.{Call}
+use Rattle.unixmodel.specs.declared.call.Call.TheVariants.{Getpid, Exit, Sleep, Uptime}
+use Rattle.unixmodel.specs.declared.process.Mode.TheVariants.{Running}
+use Rattle.unixmodel.specs.Files.{put, slot}
+use Rattle.unixmodel.specs.Numbers.{low, int_of}
+use Rattle.unixmodel.specs.Outcome.{Outcome, limited, provided}
+use Rattle.unixmodel.specs.Outcome.Outcome.{Done, Refused, Waits}
+use Rattle.unixmodel.specs.Counts.{is_within}
+use Rattle.unixmodel.specs.declared.process.Pending.{Pending}
+use Rattle.unixmodel.specs.ProcessCalls.{sleep_on}
+use Rattle.unixmodel.specs.Process as unix
+use Rattle.unixmodel.specs.Process.{with_answer}
+use Rattle.unixmodel.specs.State.{State, put_process}
+
+-- the running process and its space, in a kernel that is sound
+pub record Here (k : Kernel) (i : ℕ) : Type 0 where
+  pub process : Process
+  pub held : Held
+  pub run : IsRun k i process held
+  pub sound : IsKernel k
+
+pub here-of : (k : Kernel) (i : ℕ) → IsKernel k → k.spaces.active ≡ Some i → Here k i
+here-of k i is active = let run = run-of k i is active in record { process = run.0; held = run.1.0; run = run.1.1; sound = is }
+
+-- over the fields: at is what they show, and k is the kernel's value
+pub here-now : {at k : Kernel} {i : ℕ} → at ≡ k → IsKernel at → Runs k i → Here at i
+here-now {at = at} {i = i} same is x = here-of at i is (ap (λ (y : Kernel). y.spaces.active) same ∙ x.active)
+
+pub begins : (k e : Kernel) (i : ℕ) → e ≡ entered k → Runs k i → IsBegun k e i
+begins k e i same x =
+    let y = here-of k i x.sound x.active in
+    rw same (record {
+      runs = record { active = x.active; sound = enters-kernel k i y.process y.held y.run y.sound; zero = x.zero; aligned = aligned-next k.spaces.pc x.aligned };
+      row = λ call number. numbered k i y.process y.held y.run y.sound call number ∙ ap (settle (state_of (entered k)) i) (sym (ap (outcome_by (state_of (entered k)) i call) (process-run (entered k) i y.process y.held (enters-run k i y.process y.held y.run y.sound))));
+    })
+
+-- the row is done once it is settled
+pub answers : {k e new : Kernel} {i : ℕ} {call : Option Call} {bytes : List ℕ} {came : Came} → IsBegun k e i → call_of (low (slice_index k.spaces.registers 17)) ≡ call
+    → Comes e new i (outcome_at (state_of e) i call) bytes came → (last : State) → last ≡ settled_by (state_of new) i came → called (state_of k) i ≡ after last bytes
+answers {call = call} {bytes = bytes} b number a last done = b.row call number ∙ a.makes ∙ ap (λ (s : State). after s bytes) (sym done)
+
+module _ (k last : Kernel) (i : ℕ) (is : IsKernel k) (active : k.spaces.active ≡ Some i) where
+  abbrev at-work : Here k i
+  at-work = here-of k i is active
+
+  pub settles-answer : (value : ℕ) → last ≡ answered k value → state_of last ≡ settled_by (state_of k) i (Answers value)
+  settles-answer value made = let x = at-work in rw made (sym (answer-run k i x.process x.held x.run x.sound value))
+
+  module _ (z : slice_index k.spaces.registers 0 ≡ 0) (a : k.spaces.pc % 4 ≡ 0) where
+    pub settles-blocks : (w : Pending) → CanCome k i (Blocks w) → last ≡ blocked k i w → state_of last ≡ settled_by (state_of k) i (Blocks w)
+    settles-blocks w can made = let x = at-work in rw made (sym (waits-run k i x.process x.held x.run x.sound z a w (rw (ap (λ (o : Option Held). unwrap_or o no_pages) x.run.space, ap descriptors_in x.run.process) at can.0) (rw (ap descriptors_in x.run.process) at can.1)))
+
+    pub settles-exits : (status : ℤ) → last ≡ ended k i status → state_of last ≡ settled_by (state_of k) i (Exits status)
+    settles-exits status made = let x = at-work in rw made (sym (ends-at k i x.process x.held x.run x.sound z a status))
+
+-- where the device and the console's writer may fail
+module _ {k e : Kernel} {i : ℕ} {call : Option Call} (begun : IsBegun k e i) (number : call_of (low (slice_index k.spaces.registers 17)) ≡ call) (new : Kernel) (before after : Option (List ℕ)) where
+  pub makes-of : {bytes : List ℕ} {came : Came} → Comes e new i (outcome_at (state_of e) i call) bytes came → Appends before after bytes → (last : Kernel) → state_of last ≡ settled_by (state_of new) i came → IsMade last (called (state_of k) i) before after
+  makes-of comes printed last done = rw (answers begun number comes _ done) (record { state = refl; printed = printed })
+
+  pub fails-of : (rising : Type 0) (halt : Halt) → Tries e new i (outcome_at (state_of e) i call) before after rising ⊥ (Err halt) → Dispatches {X = Unit {0}} new (called (state_of k) i) before after rising (Err halt)
+  fails-of rising (InitEnded status) tried = absurd tried
+  fails-of rising Console tried = (tried.0, rw (begun.row call number) tried.1)
+  fails-of rising Device tried = absurd tried.0
+  fails-of rising Halted tried = absurd tried
+
+-- ---- what the row comes to
+
+module _ (k : Kernel) (i : ℕ) (x : Here k i) where
+  abbrev pub me : unix.Process
+  me = self k x.process x.held
+
+  pub outcome-here : (call : Option Call) → outcome_at (state_of k) i call ≡ outcome_of (state_of k) i me call
+  outcome-here call = ap (outcome_by (state_of k) i call) (process-run k i x.process x.held x.run)
+
+  pub came : (call : Option Call) (c : Came) → CanCome k i c → settle (state_of k) i (outcome_of (state_of k) i me call) ≡ quiet (settled_by (state_of k) i c) → Acts k k i call c
+  came call c can is = record { makes = ap (settle (state_of k) i) (outcome-here call) ∙ is; active = x.run.active; sound = x.sound; can = can }
+
+  pub refused : (call : Option Call) → outcome_of (state_of k) i me call ≡ Refused → Acts k k i call Refuses
+  refused call is = came call Refuses tt (ap (settle (state_of k) i) is)
+
+  -- what the row makes once it is settled, with bytes for the console
+  pub settles : (new : Kernel) (call : Call) (answer : ℕ) (bytes : List ℕ) → Here new i → settle (state_of k) i (outcome_of (state_of k) i me (Some call)) ≡ after (state_of (answered new answer)) bytes
+      → Comes k new i (outcome_at (state_of k) i (Some call)) bytes (Answers answer)
+  settles new call answer bytes y is = record {
+    makes = ap (settle (state_of k) i) (outcome-here (Some call)) ∙ is ∙ ap (λ (s : State). after s bytes) (sym (answer-run new i y.process y.held y.run y.sound answer));
+    active = y.run.active;
+    sound = y.sound;
+    can = tt;
+  }
+
+  pub settled : (new : Kernel) (call : Call) (answer : ℕ) → Here new i → settle (state_of k) i (outcome_of (state_of k) i me (Some call)) ≡ quiet (state_of (answered new answer)) → Acts k new i (Some call) (Answers answer)
+  settled new call answer y is = settles new call answer [] y is
+
+  pub prints : (new : Kernel) (call : Call) (answer : ℕ) (bytes : List ℕ) → Here new i → row (state_of k) i me call ≡ Done (state_of new) answer bytes → Comes k new i (outcome_at (state_of k) i (Some call)) bytes (Answers answer)
+  prints new call answer bytes y is = settles new call answer bytes y (ap (λ (o : Outcome). settle (state_of k) i (limited o)) is ∙ settle-limited new i y.process y.held y.run y.sound (state_of k) answer bytes)
+
+  pub does : (new : Kernel) (call : Call) (answer : ℕ) → Here new i → row (state_of k) i me call ≡ Done (state_of new) answer [] → Acts k new i (Some call) (Answers answer)
+  does new call answer y is = prints new call answer [] y is
+
+  -- ---- a pending call that goes on
+
+  module _ (w : Pending) where
+    abbrev pub going : Outcome
+    going = goes_on (state_of k) i me w w.number
+
+    pub going-here : going_at (state_of k) i w ≡ going
+    going-here = ap (going_by (state_of k) i w) (process-run k i x.process x.held x.run)
+
+    -- it is done, or waits with v
+    pub goes-done : (new : Kernel) (answer : ℕ) → Here new i → going ≡ Done (state_of new) answer [] → GoesOn k new i w (Answers answer)
+    goes-done new answer y is = record {
+      comes = record {
+        makes = ap (settle (state_of k) i) (going-here ∙ is) ∙ settle-done new i y.process y.held y.run y.sound (state_of k) answer [] ∙ ap quiet (sym (answer-run new i y.process y.held y.run y.sound answer));
+        active = y.run.active;
+        sound = y.sound;
+        can = tt;
+      };
+      within = rw (going-here ∙ is) (ap (λ (b : Bool). provided b (Done (state_of new) answer [])) (within-state new y.sound));
+    }
+
+    pub goes-waits : (new : Kernel) (v : Pending) → Here new i → CanCome new i (Blocks v) → going ≡ Waits (state_of new) v → GoesOn k new i w (Blocks v)
+    goes-waits new v y can is = record {
+      comes = record { makes = ap (settle (state_of k) i) (going-here ∙ is); active = y.run.active; sound = y.sound; can = can };
+      within = rw (going-here ∙ is) refl;
+    }
+
+    -- a call that begins so goes on at once
+    pub begins-on : {new : Kernel} {came : Came} → (call : Call) → row (state_of k) i me call ≡ going → GoesOn k new i w came → Acts k new i (Some call) came
+    begins-on call is goes = record {
+      makes = ap (settle (state_of k) i) (outcome-here (Some call) ∙ ap limited (is ∙ sym going-here) ∙ goes.within) ∙ goes.comes.makes;
+      active = goes.comes.active;
+      sound = goes.comes.sound;
+      can = goes.comes.can;
+    }
+
+-- ---- getpid
+
+pub getpid-is : (o : Option Process) (p : Process) (pid : ℕ) → o ≡ Some p → IfSome o (λ r. pid ≡ r.pid) → pid ≡ p.pid
+getpid-is None p pid at is = absurd (cc)
+getpid-is (Some r) p pid at is = is ∙ cc
+
+pub getpids : (k : Kernel) (i pid : ℕ) → Runs k i → IfSome (slot k.table.places i) (λ p. pid ≡ p.pid) → Acts k k i (Some Getpid) (Answers pid)
+getpids k i pid runs is = let x = here-of k i runs.sound runs.active in rw (getpid-is (slot k.table.places i) x.process pid x.run.process is) (does k i x k Getpid x.process.pid x refl)
+
+-- ---- uptime, exit and sleep
+
+module _ (k : Kernel) (i : ℕ) (runs : Runs k i) where
+  abbrev now : Here k i
+  now = here-of k i runs.sound runs.active
+
+  pub uptimes : (ticks : ℕ) → ticks ≡ k.ticks → Acts k k i (Some Uptime) (Answers ticks)
+  uptimes ticks is = rw is (does k i now k Uptime k.ticks now refl)
+
+  pub exits : Acts k k i (Some Exit) (Exits (int_of (argument k 0)))
+  exits = came k i now (Some Exit) (Exits (int_of (argument k 0))) (int-bits (argument k 0)) (ap (λ (o : Option unix.Process). quiet (end_at (state_of k) i (int_of (argument k 0)) o)) refl)
+
+  module _ (w : Pending) (is : w.number ≡ Sleep) where
+    -- it has slept, or sleeps on
+    pub sleeps-over : has_slept k.ticks w ≡ true → GoesOn k k i w (Answers 0)
+    unfolding sleep_on
+    sleeps-over over = goes-done k i now w k 0 now (rw (is, over) refl)
+
+    pub sleeps-on : has_slept k.ticks w ≡ false → GoesOn k k i w (Blocks w)
+    unfolding sleep_on
+    sleeps-on more = goes-waits k i now w k w now (rw is tt, waits-other _ _ w Sleep (λ same. absurd (cc)) (λ same. absurd (cc)) is) (rw (is, more) refl)
+
+  pub sleeps : {c : Came} → GoesOn k k i (pending_for k Sleep) c → Acts k k i (Some Sleep) c
+  sleeps goes = begins-on k i now (pending_for k Sleep) Sleep refl goes
+
+-- ---- the running process is q now, its space shows h, and open files and pipes are others
+
+module _ (k : Kernel) (i : ℕ) (x : Here k i) (q : Process) (h : Held) (files : List (Option Counted)) (pipes : List (Option (List ℕ))) (placed : IsPlaced q h) (runs : q.mode ≡ Running) where
+  abbrev pub turned : Kernel
+  turned = record k { table = with_process k.table i q; spaces = record k.spaces { places = slice_set k.spaces.places i (Some h); pipes = pipes }; files = files }
+
+  pub turned-here : IsOpened files pipes (put k.table.places i q) → taken_frames turned.spaces ≤ k.spaces.frames → Here turned i
+  turned-here opened fits =
+      let r = x.run in
+      let is = x.sound in
+      let short = within-run k i x.process x.held r in
+      let low = within-space k i x.process x.held r is in
+      record {
+        process = q;
+        held = h;
+        run = record { active = r.active; process = slot-put k.table.places i (Some q) short; space = slot-put k.spaces.places i (Some h) low; placed = placed; runs = runs };
+        sound = record {
+          all = length-set k.table.places i (Some q) ∙ is.all;
+          spaces = length-set k.spaces.places i (Some h) ∙ is.spaces;
+          stands = stands-set k.table.places k.spaces.places i (Some q) (Some h) short low placed is.stands;
+          runs = runs-set k.table.places i (Some q) k.spaces.active k.spaces.active short (rw (runs, r.active) (sym (eq-self i))) (λ j other. refl) is.runs;
+          fits = fits;
+          opened = opened;
+        };
+      }
+
+  pub turned-state : state_of turned ≡ record (put_process (state_of k) i (with_memory h.memory (on_hart k.spaces q))) { opens = opens_of files; pipes = pipes }
+  turned-state = ap (λ (s : State). record s { opens = opens_of files; pipes = pipes }) (moved-state k i x.process x.held x.run x.sound q h k.spaces.registers k.spaces.pc placed runs)
+
+  -- the frames don't suffice for that
+  pub turned-full : k.spaces.frames < taken_frames turned.spaces → is_within (state_of turned) ≡ false
+  turned-full over =
+      let stands = stands-set k.table.places k.spaces.places i (Some q) (Some h) (within-run k i x.process x.held x.run) (within-space k i x.process x.held x.run x.sound) placed x.sound.stands in
+      over-state turned (match-active turned turned.spaces.active (λ j. match-place (slot turned.table.places j) (slot turned.spaces.places j) (stands j))) over
+
+  pub turned-over : (call : Call) (answer : ℕ) → row (state_of k) i (me k i x) call ≡ Done (state_of turned) answer [] → k.spaces.frames < taken_frames turned.spaces → Acts k k i (Some call) Refuses
+  turned-over call answer made over = refused k i x (Some call) (ap limited made ∙ rw (turned-full over) refl)
+
+-- with other descriptors
+pub named-placed : (k : Kernel) (i : ℕ) (x : Here k i) (ds : List (Option ℕ)) → length ds ≡ length x.process.descriptors → IsPlaced (record x.process { descriptors = ds }) x.held
+named-placed k i x ds same = let l = live k i x.process x.held x.run x.sound in let placed = x.run.placed in record {
+  size = placed.size;
+  zero = placed.zero;
+  aligned = placed.aligned;
+  mode = runs-mode (record x.process { descriptors = ds }) x.held.memory x.process.mode x.run.runs (record { descriptors = same ∙ l.descriptors; directory = l.directory }) (not-killed k i x.process x.held x.run x.sound);
+}

@@ -1,0 +1,78 @@
+-- A write to the console puts out all of its bytes.
+use Rattle.std.proofs.Common.{◌≡◌, ℕ, List, [], Option, Some, None, is_some, length, unwrap_or, true, refl, ap, sym, ◌∙◌}
+use Rattle.std.specs.Io.KnownBytes.{Appends}
+use Rattle.calls.specs.Acts.{Comes, GoesOn, going_at}
+use Rattle.calls.specs.declared.outcome.Came.{Came}
+use Rattle.calls.specs.declared.outcome.Came.TheVariants.{Answers}
+use Rattle.calls.specs.Kernel.{Kernel, answered, state_of}
+use Rattle.calls.specs.Transfers.{OnSomeNode, Transfers}
+use Rattle.calls.proofs.Acts.{Here, going, going-here, me}
+use Rattle.calls.proofs.Opens.{IsConsole}
+use Rattle.calls.proofs.Prints.{Appends-none}
+use Rattle.calls.proofs.Settles.{after, answer-run, settle-limited}
+use Rattle.calls.proofs.Transfers.{console-named, going-is, held-here, here}
+use Rattle.calls.proofs.Writes.{length-read}
+use Rattle.console.specs.Output.{AppendsBeginning}
+use Rattle.files.specs.declared.file.End.TheVariants as end
+use Rattle.spaces.specs.Spaces.{Held, held_at}
+use Rattle.spaces.proofs.SpacesLemmas.{some-pipe}
+use Rattle.unixmodel.specs.Calls.{settle}
+use Rattle.unixmodel.specs.declared.process.Pending.{Pending}
+use Rattle.unixmodel.specs.FileCalls.{write_on}
+use Rattle.unixmodel.specs.Files.{free_slots}
+use Rattle.unixmodel.specs.Memory.{read_bytes}
+use Rattle.unixmodel.specs.Numbers.{low}
+use Rattle.unixmodel.specs.OpenFiles.Target.{OnNode}
+use Rattle.unixmodel.specs.Outcome.{Outcome, limited, pending_arg}
+use Rattle.unixmodel.specs.Outcome.Outcome.{Done}
+use Rattle.unixmodel.specs.Process as unix
+use Rattle.unixmodel.specs.Start.{flat_files}
+use Rattle.unixmodel.specs.State.{State}
+
+write-bytes : (s : State) (i : ℕ) (p : unix.Process) → s.files ≡ flat_files → (w : Pending) → IsConsole s p (low (pending_arg w 0)) → (bytes : List ℕ) → read_bytes p.memory (pending_arg w 1) (low (pending_arg w 2)) ≡ Some bytes → write_on s i p w ≡ Done s (length bytes) bytes
+unfolding write_on flat_files free_slots
+write-bytes s i p files w console bytes read = rw (console.named, console.opened, files, read) refl
+
+module _ (k : Kernel) (i : ℕ) (w : Pending) (on : OnSomeNode k i end.Write w) where
+  abbrev g : Transfers k i end.Write (OnNode on.0 on.1.0) w
+  g = on.1.1
+
+  abbrev x : Here k i
+  x = here g
+
+  abbrev count : ℕ
+  count = low (pending_arg w 2)
+
+  abbrev bytes : List ℕ
+  bytes = unwrap_or (read_bytes (held_at k.spaces i).memory (pending_arg w 1) count) []
+
+  row : going k i x w ≡ Done (state_of k) count bytes
+  row =
+      let read : read_bytes (held_at k.spaces i).memory (pending_arg w 1) count ≡ Some bytes = some-pipe (read_bytes (held_at k.spaces i).memory (pending_arg w 1) count) g.can.readable in
+      going-is g
+      ∙ write-bytes (state_of k) i (me k i x) refl w (console-named g) bytes (ap (λ (h : Held). read_bytes h.memory (pending_arg w 1) count) (sym (held-here g)) ∙ read)
+      ∙ ap (λ (n : ℕ). Done (state_of k) n bytes) (length-read (held_at k.spaces i).memory (pending_arg w 1) count bytes read)
+
+  settles : settle (state_of k) i (limited (going_at (state_of k) i w)) ≡ after (state_of (answered k count)) bytes
+  settles = ap (λ (o : Outcome). settle (state_of k) i (limited o)) (going-here k i x w ∙ row) ∙ settle-limited k i x.process x.held x.run x.sound (state_of k) count bytes
+
+  module _ (n : ℕ) (all : n ≡ count) (before now : Option (List ℕ)) where
+    pub puts-all : Appends before now (unwrap_or (read_bytes (held_at k.spaces i).memory (pending_arg w 1) n) []) → (bs : List ℕ) × Comes k k i (limited (going_at (state_of k) i w)) bs (Answers n) × Appends before now bs
+    puts-all printed = rw all (
+      bytes,
+      record {
+        makes = settles ∙ ap (λ (s : State). after s bytes) (sym (answer-run k i x.process x.held x.run x.sound count));
+        active = x.run.active;
+        sound = x.sound;
+        can = tt;
+      },
+      rw all at printed,
+    )
+
+    -- the console failed
+    pub puts-beginning : AppendsBeginning before now (unwrap_or (read_bytes (held_at k.spaces i).memory (pending_arg w 1) n) []) → AppendsBeginning before now (settle (state_of k) i (limited (going_at (state_of k) i w))).bytes
+    puts-beginning printed = rw settles (rw all at printed)
+
+-- nothing is put out
+pub puts-none : {k new : Kernel} {i : ℕ} {w : Pending} {came : Came} (at : Option (List ℕ)) → GoesOn k new i w came → (bs : List ℕ) × Comes k new i (limited (going_at (state_of k) i w)) bs came × Appends at at bs
+puts-none at goes = ([], rw goes.within goes.comes, Appends-none at)

@@ -1,0 +1,10 @@
+use Rattle.std.proofs.Common.{None, rules, ◌≡◌}
+use Rattle.calls.specs.Kernel.{argument, asked}
+use Rattle.calls.proofs.Sbrk.{sbrk-below}
+use Rattle.unixmodel.specs.Numbers.{int_of}
+use Rattle.calls.proofs.kernel.Kernel.sbrk.Goals as goal
+
+pub returns-then-bytes-size : goal.returns-then-bytes-size
+returns-then-bytes-size g c =
+    let below : asked c.args.self.now c.args.at (int_of (argument c.args.self.now 0)) ≡ None = search rules in
+    sbrk-below c.args.self.now c.args.at c.requires below
