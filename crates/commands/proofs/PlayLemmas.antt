@@ -2,8 +2,8 @@
 use Rattle.std.proofs.Common.{◌≡◌, ◌∙◌, ℕ, ℤ, ◌+◌, List, ◌++◌, take, length, Option, Some, None, Result, Ok, Err, ap, sym, arith, append_assoc, append-nil, length-append, refl, []}
 use Rattle.std.proofs.Math.Seq.{take-append-add}
 use Rattle.std.proofs.lemmas.List.{take-append-le}
-use Rattle.machine.specs.Runs.{run-append, then_runs}
-use Rattle.machine.specs.RunLemmas.{Appends-trans, Rises-later, SoFar, up_now}
+use Rattle.machine.proofs.Runs.{run-append, then_runs}
+use Rattle.machine.proofs.RunLemmas.{Appends-trans, Rises-later, SoFar, up_now}
 use Rattle.calls.specs.declared.halt.Halt.{Halt}
 use Rattle.calls.specs.declared.halt.Halt.TheVariants.{Console, Device, Halted, InitEnded}
 use Rattle.machine.specs.Gives.{IsDone, RunGives}

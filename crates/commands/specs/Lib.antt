@@ -1,6 +1,3 @@
-pub mod Commands
-pub mod Declarations
-pub mod Lines
-pub mod Manifests
+pub mod Entries
 pub mod Plays
-pub mod Scripts
+pub mod Reports

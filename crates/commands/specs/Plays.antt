@@ -2,8 +2,8 @@
 use Rattle.std.specs.Prelude.{List, [], ◌∷◌, ◌++◌, map, replicate}
 use Rattle.unixmodel.specs.declared.event.Event.{Event}
 use Rattle.unixmodel.specs.declared.event.Event.TheVariants.{Key, Step, Tick}
-use Rattle.commands.specs.declared.script.lines.Command.{Command}
-use Rattle.commands.specs.declared.script.lines.Command.TheVariants as command
+use Rattle.texts.specs.declared.script.lines.Command.{Command}
+use Rattle.texts.specs.declared.script.lines.Command.TheVariants as command
 
 -- a typed line ends with the key 0x0a
 abbrev pub events_of : Command → List Event

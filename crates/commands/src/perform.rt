@@ -1,16 +1,20 @@
 //! Does a job.
+ghost use Rattle.std.specs.Prelude.{◌≡◌};
+ghost use Rattle.commands.specs.Reports.{end_of};
+
 mod images;
 
 use crate::host::Host;
-use crate::jobs::{Check, Flat, Job, Mkfs};
-use crate::lines::{TextFault, parse};
 use crate::play::play;
-use crate::report::{End, Failure};
-use crate::script::Command;
+use crate::report::{End, Failure, print, tell};
+use commandline::{Check, Flat, Job, Mkfs};
 use console::Writer;
+use image::Summary;
 use machine::{Halt, boot_flat};
 use std::alloc::Global;
+use std::fmt;
 use std::io::Write;
+use texts::{Command, TextFault, parse};
 
 // A file's bytes.
 fn read<'a, H: Host>(host: &mut H, name: &'a str) -> Result<Vec<u8>, Failure<'a>> {
@@ -33,8 +37,21 @@ fn script_of<'a, 'b>(
     }
 }
 
+// What is told of an image that is accepted.
+#[derive(Clone, Copy)]
+struct Accepted(Summary);
+
+impl fmt::Display for Accepted {
+    fn fmt<W: fmt::Write>(&self, f: &mut fmt::Formatter<W>) -> fmt::Result {
+        let (inodes, blocks) = (self.0.inodes, self.0.blocks);
+        writeln!(f, "ok {inodes} inodes {blocks} blocks")
+    }
+}
+
 // How a run ended. Bytes that the writer had kept back and cannot write are lost: then the console failed.
-fn end_of(ended: Result<(), Halt>, is_written: bool) -> End {
+fn end_of(ended: Result<(), Halt>, is_written: bool) -> End
+    ensures { result ≡ end_of ended is_written }
+{
     if !is_written {
         return End::Halted(Halt::Console);
     }
@@ -81,12 +98,6 @@ fn flat<'a, H: Host, W: Write>(
     )
 }
 
-// Tells why a job was not done, and answers the status to exit with.
-fn tell<E: Write>(failure: &Failure<'_>, stderr: &mut E) -> u8 {
-    let _ = writeln!(stderr, "{failure}");
-    1
-}
-
 // Boots a flat program, runs a script, and tells how that ended.
 fn perform_flat<H: Host, W: Write, E: Write>(
     alloc: Global,
@@ -130,14 +141,7 @@ fn perform_check<H: Host, W: Write, E: Write>(
     stderr: &mut E,
 ) -> u8 {
     match images::check(alloc, words, host) {
-        Ok(summary) => {
-            let (inodes, blocks) = (summary.inodes, summary.blocks);
-            let _ = writeln!(stdout, "ok {inodes} inodes {blocks} blocks");
-            match stdout.flush() {
-                Ok(()) => 0,
-                Err(_) => 1,
-            }
-        }
+        Ok(summary) => print(&Accepted(summary), stdout, stderr),
         Err(failure) => tell(&failure, stderr),
     }
 }

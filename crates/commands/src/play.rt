@@ -6,11 +6,11 @@ ghost use Rattle.unixmodel.specs.Failures.{Rises};
 ghost use Rattle.unixmodel.specs.declared.event.Event.TheVariants.{Key};
 ghost use Rattle.commands.specs.Plays.{events_of, script_events};
 
-use crate::script::Command;
 use blockdev::BlockDev;
 use console::Out;
 use machine::{Halt, Machine};
 use sv39::Translate;
+use texts::Command;
 use unixmodel::event::Event;
 
 /// The key that ends a typed line.

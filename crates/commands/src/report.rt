@@ -1,4 +1,7 @@
 //! What the program tells of how a job ended.
+ghost use Rattle.std.specs.Prelude.{◌≡◌};
+ghost use Rattle.commands.specs.Reports.{boot_name, boot_number, image_name, image_number, make_name, make_number, status_of};
+
 use clap::Error;
 use clap::error::ErrorKind;
 use image::{ImageFault, MakeFault};
@@ -16,8 +19,10 @@ pub enum End {
 }
 
 impl End {
-    /// The status to exit with.
-    pub fn status(&self) -> u8 {
+    /// The status to exit with: 0 where the script came to its end or process 1 has ended, else 1.
+    pub fn status(&self) -> u8
+        ensures { result ≡ status_of self.now }
+    {
         match self {
             End::Running | End::Halted(Halt::InitEnded(_)) => 0,
             _ => 1,
@@ -54,6 +59,8 @@ pub enum Failure<'a> {
     Make(MakeFault),
     /// The image does not denote files.
     Image(ImageFault),
+    /// Standard output took not all that was written to it.
+    Output,
     /// The program itself found no memory.
     NoMemory,
 }
@@ -68,73 +75,116 @@ impl fmt::Display for Failure<'_> {
             Failure::Boot(fault) => write_fault(f, boot_fault(*fault)),
             Failure::Make(fault) => write_fault(f, make_fault(*fault)),
             Failure::Image(fault) => write_fault(f, image_fault(*fault)),
+            Failure::Output => write!(f, "cannot write standard output"),
             Failure::NoMemory => write!(f, "no memory"),
         }
     }
 }
 
-// A fault's line: its number and its name.
-fn write_fault<W: fmt::Write>(f: &mut fmt::Formatter<W>, fault: (u8, &'static str)) -> fmt::Result {
-    let (number, name) = fault;
+// A fault as it is told: by its number and its name.
+#[derive(Clone, Copy)]
+struct Fault {
+    number: u8,
+    name: &'static str,
+}
+
+impl Fault {
+    fn new(number: u8, name: &'static str) -> Fault
+        ensures number { result.number ≡ number }
+        ensures name { result.name.now ≡ name.now }
+    {
+        Fault { number, name }
+    }
+}
+
+// A fault's line.
+fn write_fault<W: fmt::Write>(f: &mut fmt::Formatter<W>, fault: Fault) -> fmt::Result {
+    let (number, name) = (fault.number, fault.name);
     write!(f, "fault {number} {name}")
 }
 
-// The number and the name of a boot's fault.
-fn boot_fault(fault: BootFault) -> (u8, &'static str) {
+// A boot's fault; of an image that is refused the image's own.
+fn boot_fault(fault: BootFault) -> Fault
+    ensures number { result.number ≡ boot_number fault }
+    ensures name { result.name.now ≡ boot_name fault }
+{
     match fault {
         BootFault::Image(fault) => image_fault(fault),
-        BootFault::FrameCount => (2, "FrameCount"),
-        BootFault::Device => (3, "Device"),
-        BootFault::NoMemory => (4, "NoMemory"),
-        BootFault::NoInit => (5, "NoInit"),
+        BootFault::FrameCount => Fault::new(2, "FrameCount"),
+        BootFault::Device => Fault::new(3, "Device"),
+        BootFault::NoMemory => Fault::new(4, "NoMemory"),
+        BootFault::NoInit => Fault::new(5, "NoInit"),
     }
 }
 
-// The number and the name of what is wrong with a manifest.
-fn make_fault(fault: MakeFault) -> (u8, &'static str) {
+// What is wrong with a manifest.
+fn make_fault(fault: MakeFault) -> Fault
+    ensures number { result.number ≡ make_number fault }
+    ensures name { result.name.now ≡ make_name fault }
+{
     match fault {
-        MakeFault::Name => (1, "Name"),
-        MakeFault::Twice => (2, "Twice"),
-        MakeFault::Blocks => (3, "Blocks"),
-        MakeFault::Inodes => (4, "Inodes"),
-        MakeFault::Parent => (5, "Parent"),
-        MakeFault::Numbers => (6, "Numbers"),
-        MakeFault::NoMemory => (7, "NoMemory"),
+        MakeFault::Name => Fault::new(1, "Name"),
+        MakeFault::Twice => Fault::new(2, "Twice"),
+        MakeFault::Blocks => Fault::new(3, "Blocks"),
+        MakeFault::Inodes => Fault::new(4, "Inodes"),
+        MakeFault::Parent => Fault::new(5, "Parent"),
+        MakeFault::Numbers => Fault::new(6, "Numbers"),
+        MakeFault::NoMemory => Fault::new(7, "NoMemory"),
     }
 }
 
-// The number and the name of an image's fault.
-fn image_fault(fault: ImageFault) -> (u8, &'static str) {
+// What is wrong with an image.
+fn image_fault(fault: ImageFault) -> Fault
+    ensures number { result.number ≡ image_number fault }
+    ensures name { result.name.now ≡ image_name fault }
+{
     match fault {
-        ImageFault::Length => (1, "Length"),
-        ImageFault::Magic => (2, "Magic"),
-        ImageFault::Numbers => (3, "Numbers"),
-        ImageFault::NodeType => (4, "NodeType"),
-        ImageFault::Address => (5, "Address"),
-        ImageFault::SharedBlock => (6, "SharedBlock"),
-        ImageFault::Bitmap => (7, "Bitmap"),
-        ImageFault::Size => (8, "Size"),
-        ImageFault::Entry => (9, "Entry"),
-        ImageFault::Links => (10, "Links"),
-        ImageFault::Unreached => (11, "Unreached"),
-        ImageFault::Device => (12, "Device"),
-        ImageFault::NoMemory => (13, "NoMemory"),
+        ImageFault::Length => Fault::new(1, "Length"),
+        ImageFault::Magic => Fault::new(2, "Magic"),
+        ImageFault::Numbers => Fault::new(3, "Numbers"),
+        ImageFault::NodeType => Fault::new(4, "NodeType"),
+        ImageFault::Address => Fault::new(5, "Address"),
+        ImageFault::SharedBlock => Fault::new(6, "SharedBlock"),
+        ImageFault::Bitmap => Fault::new(7, "Bitmap"),
+        ImageFault::Size => Fault::new(8, "Size"),
+        ImageFault::Entry => Fault::new(9, "Entry"),
+        ImageFault::Links => Fault::new(10, "Links"),
+        ImageFault::Unreached => Fault::new(11, "Unreached"),
+        ImageFault::Device => Fault::new(12, "Device"),
+        ImageFault::NoMemory => Fault::new(13, "NoMemory"),
     }
 }
 
-/// Tells why the words are no job, or the help that they ask for, and answers the status.
+/// Tells why a job was not done, and answers the status to exit with.
+pub(crate) fn tell<E: Write>(failure: &Failure<'_>, stderr: &mut E) -> u8
+    ensures { result ≡ 1 }
+{
+    let _ = writeln!(stderr, "{failure}");
+    1
+}
+
+/// Writes a text to standard output, and writes that out; where it is not taken, that is told. The answer is the status to
+/// exit with.
+pub(crate) fn print<T: fmt::Display, W: Write, E: Write>(
+    text: &T,
+    stdout: &mut W,
+    stderr: &mut E,
+) -> u8 {
+    if write!(stdout, "{text}").is_err() || stdout.flush().is_err() {
+        return tell(&Failure::Output, stderr);
+    }
+    0
+}
+
+/// Tells why the words are no job, or the help that they ask for, and answers the status: 0 for help, 2 for words that are
+/// no job, 1 where memory or standard output is wanting.
 pub fn refuse<W: Write, E: Write>(error: &Error, stdout: &mut W, stderr: &mut E) -> u8 {
     if error.kind() == ErrorKind::OutOfMemory {
-        let _ = writeln!(stderr, "no memory");
-        return 1;
+        return tell(&Failure::NoMemory, stderr);
     }
     if error.use_stderr() {
         let _ = write!(stderr, "{error}");
         return 2;
     }
-    let _ = write!(stdout, "{error}");
-    match stdout.flush() {
-        Ok(()) => 0,
-        Err(_) => 1,
-    }
+    print(error, stdout, stderr)
 }

@@ -1,2 +1,4 @@
 mod Steps
 mod FlatLemmas
+pub mod RunLemmas
+pub mod Runs

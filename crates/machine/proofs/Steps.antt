@@ -4,7 +4,7 @@ use Rattle.calls.specs.declared.halt.Halt.{Halt}
 use Rattle.calls.specs.declared.halt.Halt.TheVariants.{Console, Device, Halted, InitEnded}
 use Rattle.calls.specs.Kernel.{Kernel, state_of}
 use Rattle.machine.specs.Gives.{IsDone, StepGives, fails}
-use Rattle.machine.specs.RunLemmas.{Appends-none}
+use Rattle.machine.proofs.RunLemmas.{Appends-none}
 use Rattle.machine.specs.Told.{IsUp, Told}
 use Rattle.unixmodel.specs.Calls.{After, quiet}
 use Rattle.unixmodel.specs.declared.event.Event.TheVariants.{Key, Tick}

@@ -3,5 +3,3 @@ pub mod Show
 pub mod Gives
 pub mod Seen
 pub mod Flat
-pub mod Runs
-pub mod RunLemmas

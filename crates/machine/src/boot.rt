@@ -33,23 +33,23 @@ const CONSOLE: usize = 0;
 
 /// The marks of the pages of a flat program.
 const SEGMENT: Perm = Perm {
-    writable: true,
-    executable: true,
-    user: true,
+    w: true,
+    x: true,
+    u: true,
 };
 
 /// The marks of the guard page below a stack: no program may use it.
 const GUARD: Perm = Perm {
-    writable: true,
-    executable: false,
-    user: false,
+    w: true,
+    x: false,
+    u: false,
 };
 
 /// The marks of a stack's page.
 const STACK: Perm = Perm {
-    writable: true,
-    executable: false,
-    user: true,
+    w: true,
+    x: false,
+    u: true,
 };
 
 // The address spaces of a machine, of which the first has a flat program: its bytes from address 0 on, a guard page, and

@@ -9,15 +9,26 @@ use commands::perform::perform;
 use commands::{job, refuse};
 use host::RealFiles;
 use std::alloc::AllocError;
-use std::io::{self, BufWriter};
+use std::io::{self, BufWriter, ErrorKind};
 use std::process::ExitCode;
+
+/// The status of a wrong command line.
+const WRONG_WORDS: u8 = 2;
 
 /// Does the job that the process's words name. Standard output is buffered, and written out before
 /// the line that tells how the job ended.
 fn run(rt: &HostRuntime) -> Result<u8, AllocError> {
     let alloc = rt.alloc();
+    let args = match std::env::args(rt) {
+        Ok(args) => args,
+        Err(error) if error.kind() == ErrorKind::InvalidData => {
+            let _ = eprintln!(rt; "error: a word of the command line is not UTF-8");
+            return Ok(WRONG_WORDS);
+        }
+        Err(_) => return Err(AllocError),
+    };
     let mut kept = Vec::new(alloc);
-    for word in std::env::args(rt).map_err(|_| AllocError)? {
+    for word in args {
         kept.push(word)?;
     }
     let words: Vec<&str> = kept.iter().map(|word| word.as_str()).collect(alloc)?;

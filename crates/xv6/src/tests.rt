@@ -468,11 +468,12 @@ fn reads_files_in_order(rt: HostRuntime) {
     }
 }
 
-// Takes one byte at a time, so many of them, and then fails.
+// Takes one byte at a time, so many of them, and then fails; a flush may fail too.
 #[derive(Drop)]
 struct Narrow {
     taken: Vec<u8>,
     room: usize,
+    flushes: bool,
 }
 
 impl Write for Narrow {
@@ -487,29 +488,41 @@ impl Write for Narrow {
     }
 
     fn flush(&mut self) -> io::Result<()> {
-        Ok(())
+        if self.flushes {
+            return Ok(());
+        }
+        Err(io::Error::from(io::ErrorKind::StorageFull))
     }
 }
 
-// How many bytes the console takes, which those are, standard error and status.
-static CONSOLES: [(usize, &str, &str, u8); 3] = [
-    (3, "hi\n", "halt 1 InitEnded 0\n", 0),
-    (2, "hi", "halt 3 Console\n", 1),
-    (0, "", "halt 3 Console\n", 1),
+// How many bytes the console takes, whether it can be flushed, which bytes it took, standard error and status.
+static CONSOLES: [(usize, bool, &str, &str, u8); 4] = [
+    (3, true, "hi\n", "halt 1 InitEnded 0\n", 0),
+    (3, false, "hi\n", "halt 3 Console\n", 1),
+    (2, true, "hi", "halt 3 Console\n", 1),
+    (0, true, "", "halt 3 Console\n", 1),
 ];
 
-fn expect_console(
+// An output that takes so many bytes.
+fn output_of(alloc: Global, room: usize, flushes: bool) -> Narrow {
+    Narrow {
+        taken: Vec::new(alloc),
+        room,
+        flushes,
+    }
+}
+
+// Does a job on a standard output that takes so many bytes, and can be flushed or not.
+fn expect_narrow(
     rt: &(impl Abort + AllocGlobal),
     files: &mut Files,
-    room: usize,
-    stdout: &str,
-    stderr: &str,
-    status: u8,
+    job: &Job<'_>,
+    row: (usize, bool, &str, &str, u8),
 ) {
-    let taken = Vec::new(rt.alloc());
-    let mut out = Narrow { taken, room };
+    let (room, flushes, stdout, stderr, status) = row;
+    let mut out = output_of(rt.alloc(), room, flushes);
     let mut err = Vec::new(rt.alloc());
-    let ended = perform(rt.alloc(), &flat(256), files, &mut out, &mut err);
+    let ended = perform(rt.alloc(), job, files, &mut out, &mut err);
     let told = (out.taken.as_slice(), err.as_slice(), ended);
     expect_told(rt, told, stdout, stderr, status);
 }
@@ -518,7 +531,7 @@ fn expect_console(
 fn halts_where_the_console_fails(rt: HostRuntime) {
     let program = hello(rt.alloc()).expect(&rt, "memory");
     let mut files = files_of(rt.alloc(), program, b"step 9").expect(&rt, "memory");
-    for (room, taken, line, status) in &CONSOLES {
-        expect_console(&rt, &mut files, *room, taken, line, *status);
+    for row in &CONSOLES {
+        expect_narrow(&rt, &mut files, &flat(256), *row);
     }
 }

@@ -1,13 +1,15 @@
 //! Makes and checks disk images.
+ghost use Rattle.std.specs.Prelude.{◌≡◌, IfOk};
+ghost use Rattle.commands.specs.Entries.{IsEntryOf};
+
 use crate::host::Host;
-use crate::jobs::{Check, Mkfs};
-use crate::lines::{TextFault, parse};
-use crate::manifest::Line;
 use crate::perform::read;
 use crate::report::Failure;
 use blockdev::MemDisk;
+use commandline::{Check, Mkfs};
 use image::{Entry, ImageFault, MakeFault, Manifest, Summary, Thing};
 use std::alloc::{AllocError, Global};
+use texts::{Line, TextFault, parse};
 
 // What the lines of a manifest say; the text has to be one.
 fn lines_of<'a>(
@@ -34,24 +36,28 @@ fn host_file<'a, H: Host>(host: &mut H, name: &'a [u8]) -> Result<Vec<u8>, Failu
 }
 
 // An entry of this path.
-fn entry(alloc: Global, path: &[u8], thing: Thing) -> Result<Entry, AllocError> {
+fn entry(alloc: Global, path: &[u8], thing: Thing) -> Result<Entry, AllocError>
+    ensures path { IfOk result (λ e. e.path.items ≡ path.now) }
+    ensures thing { IfOk result (λ e. e.thing ≡ thing) }
+{
     let mut bytes = Vec::new(alloc);
     bytes.extend_from_slice(path)?;
     Ok(Entry { path: bytes, thing })
 }
 
 // The entry that a line asks for.
-fn entry_of<'a, H: Host>(
-    alloc: Global,
-    line: &Line<'a>,
-    host: &mut H,
-) -> Result<Entry, Failure<'a>> {
-    let (path, thing) = match *line {
-        Line::Directory(path) => (path, Thing::Directory),
-        Line::File(path, name) => (path, Thing::File(host_file(host, name)?)),
-        Line::Device(path, major, minor) => (path, Thing::Device { major, minor }),
+fn entry_of<'a, H: Host>(alloc: Global, line: &Line<'a>, host: &mut H) -> Result<Entry, Failure<'a>>
+    ensures { IfOk result (IsEntryOf line.now) }
+{
+    let made = match *line {
+        Line::Directory(path) => entry(alloc, path, Thing::Directory),
+        Line::File(path, name) => entry(alloc, path, Thing::File(host_file(host, name)?)),
+        Line::Device(path, major, minor) => entry(alloc, path, Thing::Device { major, minor }),
     };
-    entry(alloc, path, thing).map_err(|_| Failure::NoMemory)
+    match made {
+        Ok(entry) => Ok(entry),
+        Err(_) => Err(Failure::NoMemory),
+    }
 }
 
 // The manifest that the lines say. All of the host's files are read, in their order.

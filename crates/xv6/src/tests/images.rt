@@ -1,5 +1,5 @@
 //! Stored runs of the commands on disk images.
-use crate::tests::{Files, expect, files_of};
+use crate::tests::{Files, expect, expect_narrow, files_of};
 use commands::{Check, Job, Mkfs};
 use std::process::Abort;
 
@@ -196,4 +196,95 @@ fn checks_what_was_made(rt: HostRuntime) {
     expect_made(&rt, &mut files, &mkfs(32, 16), "ok 3 inodes 4 blocks\n");
     let _ = files.image.pop();
     expect(&rt, &mut files, &CHECK, "", "fault 1 Length\n", 1);
+}
+
+// How many bytes standard output takes, whether it can be flushed, which bytes it took, standard error and status.
+static OUTPUTS: [(usize, bool, &str, &str, u8); 3] = [
+    (0, true, "", "cannot write standard output\n", 1),
+    (
+        20,
+        false,
+        "ok 1 inodes 1 blocks",
+        "cannot write standard output\n",
+        1,
+    ),
+    (
+        21,
+        false,
+        "ok 1 inodes 1 blocks\n",
+        "cannot write standard output\n",
+        1,
+    ),
+];
+
+#[test]
+fn tells_an_output_that_takes_nothing(rt: HostRuntime) {
+    let mut files = with_files(&rt, "", 0);
+    expect(&rt, &mut files, &mkfs(32, 16), "", "", 0);
+    for row in &OUTPUTS {
+        expect_narrow(&rt, &mut files, &CHECK, *row);
+    }
+}
+
+// A device's inode has its major, and then its minor.
+#[test]
+fn keeps_major_and_minor_apart(rt: HostRuntime) {
+    let mut files = with_files(&rt, "dev /a 258 772", 0);
+    expect_made(&rt, &mut files, &mkfs(32, 16), "ok 2 inodes 1 blocks\n");
+    expect_bytes(&rt, files.image.as_slice(), 2176, &[3, 0, 2, 1, 4, 3, 1, 0]);
+}
+
+// Bytes of an image with a file and a directory (inodes 2 and 3) that are changed, and what the check tells.
+static CHANGES: [(&[(usize, u8)], &str); 10] = [
+    (&[(1024, 0x41)], "fault 2 Magic\n"),
+    (&[(1032, 0x1c)], "fault 3 Numbers\n"),
+    (&[(2176, 9)], "fault 4 NodeType\n"),
+    (&[(2188, 4)], "fault 5 Address\n"),
+    (&[(2188, 5)], "fault 6 SharedBlock\n"),
+    (&[(4096, 0)], "fault 7 Bitmap\n"),
+    (&[(2187, 1)], "fault 8 Size\n"),
+    (&[(5154, b'/')], "fault 9 Entry\n"),
+    (&[(2182, 2)], "fault 10 Links\n"),
+    (&[(2182, 0)], "fault 10 Links\n"),
+];
+
+// The image of a manifest with these bytes changed is refused.
+fn expect_refused(
+    rt: &(impl Abort + AllocGlobal),
+    manifest: &str,
+    changes: &[(usize, u8)],
+    line: &str,
+) {
+    let mut files = with_files(rt, manifest, 1000);
+    expect(rt, &mut files, &mkfs(32, 16), "", "", 0);
+    for (at, byte) in changes {
+        if let Some(old) = files.image.get_mut(*at) {
+            *old = *byte;
+        }
+    }
+    expect(rt, &mut files, &CHECK, "", line, 1);
+}
+
+#[test]
+fn tells_what_is_wrong_with_images(rt: HostRuntime) {
+    for (changes, line) in &CHANGES {
+        expect_refused(&rt, "file /a host\ndir /b", changes, line);
+    }
+}
+
+// /a and /a/b (inodes 2 and 3, blocks 6 and 7) name one another, and the root names neither.
+static CYCLE: [(usize, u8); 8] = [
+    (2118, 1),
+    (5152, 0),
+    (5154, 0),
+    (6160, 3),
+    (2246, 2),
+    (2248, 48),
+    (7200, 2),
+    (7202, b'c'),
+];
+
+#[test]
+fn tells_directories_that_are_not_reached(rt: HostRuntime) {
+    expect_refused(&rt, "dir /a\ndir /a/b", &CYCLE, "fault 11 Unreached\n");
 }

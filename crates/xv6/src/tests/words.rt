@@ -1,6 +1,7 @@
 //! Stored words, and the jobs that they name.
+use crate::tests::output_of;
 use clap::error::ErrorKind;
-use commands::{Check, Flat, Job, Mkfs, job};
+use commands::{Check, Flat, Job, Mkfs, job, refuse};
 
 static JOBS: [(&[&str], Job<'static>); 5] = [
     (
@@ -48,7 +49,7 @@ fn knows_its_words(rt: HostRuntime) {
     }
 }
 
-static REFUSALS: [(&[&str], ErrorKind); 6] = [
+static REFUSALS: [(&[&str], ErrorKind); 8] = [
     (&["xv6", "--help", "", ""], ErrorKind::DisplayHelp),
     (&["xv6", "flat", "a", "--help"], ErrorKind::DisplayHelp),
     (&["xv6", "sharp", "a", "b"], ErrorKind::InvalidSubcommand),
@@ -64,6 +65,14 @@ static REFUSALS: [(&[&str], ErrorKind); 6] = [
         &["xv6", "flat", "--frames=4294967296", "a"],
         ErrorKind::ValueValidation,
     ),
+    (
+        &["xv6", "flat", "--frames", "+64", "a", "b"],
+        ErrorKind::ValueValidation,
+    ),
+    (
+        &["xv6", "mkfs", "--inodes=+16", "a", "b"],
+        ErrorKind::ValueValidation,
+    ),
 ];
 
 #[test]
@@ -72,6 +81,38 @@ fn refuses_other_words(rt: HostRuntime) {
         match job(rt.alloc(), words) {
             Ok(_) => assert!(rt; false, "a job"),
             Err(error) => assert!(rt; error.kind() == *kind, "{error}"),
+        }
+    }
+}
+
+// What is told of words that are no job: the words, how many bytes standard output takes, how standard error begins, and
+// the status.
+static TOLD: [(&[&str], usize, &str, u8); 4] = [
+    (&["xv6", "--help"], 100_000, "", 0),
+    (&["xv6", "--help"], 99, "cannot write standard output\n", 1),
+    (&["xv6", "sharp"], 100_000, "error: ", 2),
+    (
+        &["xv6", "flat", "--frames", "+64", "a", "b"],
+        100_000,
+        "error: ",
+        2,
+    ),
+];
+
+#[test]
+fn tells_why_words_are_refused(rt: HostRuntime) {
+    for (words, room, line, status) in &TOLD {
+        let mut out = output_of(rt.alloc(), *room, true);
+        let mut err = Vec::new(rt.alloc());
+        match job(rt.alloc(), words) {
+            Ok(_) => assert!(rt; false, "a job"),
+            Err(error) => {
+                let ended = refuse(&error, &mut out, &mut err);
+                assert!(rt;
+                    ended == *status && err.starts_with(line.as_bytes()),
+                    "{error}"
+                );
+            }
         }
     }
 }

@@ -1,6 +1,6 @@
 use Rattle.std.proofs.Common.{ap, map, ◌∷◌, []}
 use Rattle.std.proofs.lemmas.Result.{err_from_is_err_and}
-use Rattle.machine.specs.RunLemmas.{Rises-later}
+use Rattle.machine.proofs.RunLemmas.{Rises-later}
 use Rattle.unixmodel.specs.declared.event.Event.TheVariants.{Key}
 use Rattle.commands.specs.Plays.{events_of}
 use Rattle.commands.proofs.PlayLemmas.{ends_with, runs_on}

@@ -1,6 +1,6 @@
 use Rattle.std.proofs.Common.{arith}
 use Rattle.std.proofs.lemmas.Result.{err_from_is_err_and}
-use Rattle.machine.specs.RunLemmas.{Rises-later, so_far_at_first, up_now}
+use Rattle.machine.proofs.RunLemmas.{Rises-later, so_far_at_first, up_now}
 use Rattle.commands.proofs.EventLemmas.{script-next, script-whole}
 use Rattle.commands.proofs.PlayLemmas.{ends_with, goes_on_by, stops_in}
 use Rattle.commands.proofs.play.play.Goals as goal

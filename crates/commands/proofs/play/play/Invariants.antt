@@ -1,5 +1,5 @@
 use Rattle.std.proofs.Common.{◌≤◌, take}
-use Rattle.machine.specs.RunLemmas.{SoFar}
+use Rattle.machine.proofs.RunLemmas.{SoFar}
 use Rattle.commands.specs.Plays.{script_events}
 use Rattle.commands.proofs.play.play.Given as goal
 

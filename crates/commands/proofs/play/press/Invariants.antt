@@ -1,5 +1,5 @@
 use Rattle.std.proofs.Common.{◌≤◌, map, take}
-use Rattle.machine.specs.RunLemmas.{SoFar}
+use Rattle.machine.proofs.RunLemmas.{SoFar}
 use Rattle.unixmodel.specs.declared.event.Event.TheVariants.{Key}
 use Rattle.commands.proofs.play.press.Given as goal
 

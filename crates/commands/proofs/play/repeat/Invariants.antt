@@ -1,5 +1,5 @@
 use Rattle.std.proofs.Common.{◌≤◌, replicate, take}
-use Rattle.machine.specs.RunLemmas.{SoFar}
+use Rattle.machine.proofs.RunLemmas.{SoFar}
 use Rattle.commands.proofs.play.repeat.Given as goal
 
 -- the events so far are done as the model says

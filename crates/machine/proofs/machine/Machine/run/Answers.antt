@@ -1,7 +1,7 @@
 use Rattle.std.proofs.Common.{◌<◌, arith, length}
 use Rattle.std.proofs.lemmas.List.{take_more}
 use Rattle.std.proofs.lemmas.Result.{err_from_is_err_and}
-use Rattle.machine.specs.RunLemmas.{Rises-later, so_far_at_first, goes_on, stops}
+use Rattle.machine.proofs.RunLemmas.{Rises-later, so_far_at_first, goes_on, stops}
 use Rattle.machine.proofs.machine.Machine.run.Goals as goal
 
 pub loop-event-init : goal.loop-event-init

@@ -1,5 +1,5 @@
 use Rattle.std.proofs.Common.{◌≤◌, take}
-use Rattle.machine.specs.RunLemmas.{SoFar}
+use Rattle.machine.proofs.RunLemmas.{SoFar}
 use Rattle.machine.proofs.machine.Machine.run.Given as goal
 
 -- the events so far are done as the model says

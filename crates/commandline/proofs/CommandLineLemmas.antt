@@ -1,0 +1,36 @@
+-- What a command declares, and what was found of its words.
+use Rattle.std.proofs.Common.{◌≡◌, ◌∙◌, ap₂, ℕ, List, Option, Some, None, Result, IfSome, false, option_map, refl, sym}
+use Rattle.std.specs.Str.Parse.{ParsesUnsigned}
+use Rattle.std.specs.Box.{box_value}
+use Rattle.std.specs.Prelude.{Box}
+use Rattle.clap.specs.Built.{AddsArg}
+use Rattle.clap.specs.Matches.{ReadsOne, one_text}
+use Rattle.clap.specs.Simple.{App, subcommand_rows, with_rule}
+use Rattle.clap.specs.Walk.{Row, Rule, Text, rows_of, rule_of}
+use Rattle.clap.specs.declared.builder.arg.Arg.{Arg}
+use Rattle.clap.specs.declared.builder.command.Command.{Command}
+use Rattle.clap.specs.declared.parser.matches.ArgMatches.TheViews.{out-SubCommand}
+use Rattle.clap.specs.declared.parser.matches.Found.{Found}
+use Rattle.clap.specs.declared.parser.matches.SubCommand.{SubCommand}
+use Rattle.clap.proofs.WalkLemmas.{one_text-rows}
+use Rattle.commandline.specs.Declarations.{DeclaresOwn, IsWritten, Writes}
+
+-- an argument that is the command's own is one rule more
+pub adds-rule : (old new : Command) (a : Arg) (rule : Rule) → AddsArg old a new → a.global ≡ false → rule_of a ≡ rule → (app : App) → DeclaresOwn app old
+    → DeclaresOwn (with_rule app rule) new
+adds-rule old new a rule h local is app own = record {
+  shape = h.shape local ∙ ap₂ with_rule own.shape is;
+  local = rw (h.globals, own.local, local) refl;
+}
+
+-- the command that was found, by its name and by its rows
+module _ {Z : Type 0} where
+  pub named-rows : (sub : Option (Box SubCommand Z)) (name : Text) (rows : List Row) → option_map (λ b. (out-SubCommand (box_value b)).name.now) sub ≡ Some name
+      → option_map (λ p. p.1) (subcommand_rows sub) ≡ Some rows → subcommand_rows sub ≡ Some (name, rows)
+  named-rows None name rows named are = cc
+  named-rows (Some b) name rows named are = cc
+
+-- the word that an argument has
+pub word-found : {W : Type 0} (text_of : W → Text) (r : Option W) (first : Option Text) → option_map text_of r ≡ first → IfSome r (λ word. first ≡ Some (text_of word))
+word-found text_of None first is = tt
+word-found text_of (Some word) first is = sym is

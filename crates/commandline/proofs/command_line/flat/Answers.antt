@@ -1,0 +1,18 @@
+use Rattle.std.proofs.Common.{refl}
+use Rattle.clap.specs.Walk.{rows_of}
+use Rattle.clap.specs.Matches.{found_of}
+use Rattle.commandline.proofs.command_line.flat.Goals as goal
+
+pub returns : goal.returns
+returns c =
+    let frames = c.in_ok-frames.ensures in (
+      rows_of (found_of c.args.found.now),
+      refl,
+      record {
+        text = frames.0;
+        given = frames.1;
+        frames = frames.2;
+        file = c.in_ok-file.ensures;
+        script = c.in_ok-script.ensures;
+      },
+    )

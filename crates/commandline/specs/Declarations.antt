@@ -1,0 +1,95 @@
+-- The command line that the program declares, and what a job says of it.
+use Rattle.std.specs.Prelude.{◌≡◌, ℕ, pos, List, [], ◌∷◌, Option, Some, Result, IfOk, true, false, codes}
+use Rattle.std.specs.Str.Parse.{IsNumeral, digits_value}
+use Rattle.clap.specs.Words.{App, Row, Rule, Text, app_of, first_of, new_app, new_rule, with_rule, with_subcommand}
+use Rattle.clap.specs.declared.builder.command.Command.{Command}
+use Rattle.clap.specs.declared.builder.command.Command.TheViews.{out-Command}
+use Rattle.clap.specs.declared.builder.value_parser.ValueParser.TheVariants.{Signed}
+use Rattle.commandline.specs.declared.jobs.Check.{Check}
+use Rattle.commandline.specs.declared.jobs.Flat.{Flat}
+use Rattle.commandline.specs.declared.jobs.Job.{Job}
+use Rattle.commandline.specs.declared.jobs.Job.TheVariants as job
+use Rattle.commandline.specs.declared.jobs.Mkfs.{Mkfs}
+
+-- a word that has to be there
+abbrev pub word_rule : Text → Rule
+word_rule name = record (new_rule name) { required = true }
+
+-- --name N, a number of 32 bits, with a default where it is left out
+abbrev pub number_rule : Text → Text → Rule
+number_rule name default = record (new_rule name) {
+  long = Some name;
+  value_names = 1;
+  parser = Some (Signed (pos 0) (pos 4294967295));
+  defaults = default ∷ [];
+}
+
+-- flat [--frames N] FILE SCRIPT
+abbrev pub declared_flat : App
+declared_flat =
+    with_rule (with_rule (with_rule (new_app (codes "flat")) (number_rule (codes "frames") (codes "256"))) (word_rule (codes "FILE"))) (word_rule (codes "SCRIPT"))
+
+-- mkfs [--size N] [--inodes N] MANIFEST IMAGE
+abbrev pub declared_mkfs : App
+declared_mkfs =
+    with_rule (with_rule (with_rule (with_rule (new_app (codes "mkfs"))
+    (number_rule (codes "size") (codes "2000"))) (number_rule (codes "inodes") (codes "200")))
+    (word_rule (codes "MANIFEST"))) (word_rule (codes "IMAGE"))
+
+-- check IMAGE
+abbrev pub declared_check : App
+declared_check = with_rule (new_app (codes "check")) (word_rule (codes "IMAGE"))
+
+-- a command has to be there
+abbrev pub declared_top : App
+declared_top = record (new_app (codes "xv6")) {
+  top = record (new_app (codes "xv6")).top { subcommand_required = true; arg_required_else_help = true };
+}
+
+abbrev pub declared : App
+declared = with_subcommand (with_subcommand (with_subcommand declared_top declared_flat.top) declared_mkfs.top) declared_check.top
+
+-- the command declares no more than this, for itself alone
+pub record DeclaresOwn (app : App) (command : Command) : Type 0 where
+  pub shape : app_of command ≡ app
+  pub local : (out-Command command).has_globals ≡ false
+
+-- the new command declares one rule more than the old one, if there are both
+abbrev pub AddsRule : {E : Type 0} → Rule → Result Command E → Result Command E → Type 0
+AddsRule rule old new = (app : App) → IfOk old (DeclaresOwn app) → IfOk new (DeclaresOwn (with_rule app rule))
+
+-- the text is n in decimal digits alone
+pub record Writes (text : Text) (n : ℕ) : Type 0 where
+  pub numeral : IsNumeral 10 text
+  pub value : digits_value 10 text ≡ n
+
+-- the number that was found of this name
+abbrev pub IsWritten : Text → List Row → ℕ → Type 0
+IsWritten name found n = (text : Text) × (first_of name found ≡ Some text) × Writes text n
+
+-- the words and the numbers are those found
+pub record IsFlat (found : List Row) (flat : Flat) : Type 0 where
+  pub text : Text
+  pub given : first_of (codes "frames") found ≡ Some text
+  pub frames : Writes text flat.frames
+  pub file : first_of (codes "FILE") found ≡ Some flat.file.now
+  pub script : first_of (codes "SCRIPT") found ≡ Some flat.script.now
+
+pub record IsMkfs (found : List Row) (mkfs : Mkfs) : Type 0 where
+  pub size_text : Text
+  pub size_given : first_of (codes "size") found ≡ Some size_text
+  pub size : Writes size_text mkfs.size
+  pub inodes_text : Text
+  pub inodes_given : first_of (codes "inodes") found ≡ Some inodes_text
+  pub inodes : Writes inodes_text mkfs.inodes
+  pub manifest : first_of (codes "MANIFEST") found ≡ Some mkfs.manifest.now
+  pub image : first_of (codes "IMAGE") found ≡ Some mkfs.image.now
+
+pub record IsCheck (found : List Row) (check : Check) : Type 0 where
+  pub image : first_of (codes "IMAGE") found ≡ Some check.image.now
+
+-- the job is the command found, with its words
+abbrev pub IsJob : Option (Text × List Row) → Job → Type 0
+IsJob found (job.Flat flat) = (rows : List Row) × (found ≡ Some (codes "flat", rows)) × IsFlat rows flat
+IsJob found (job.Mkfs mkfs) = (rows : List Row) × (found ≡ Some (codes "mkfs", rows)) × IsMkfs rows mkfs
+IsJob found (job.Check check) = (rows : List Row) × (found ≡ Some (codes "check", rows)) × IsCheck rows check

@@ -1,0 +1,259 @@
+//! What the words of a command line ask for.
+ghost use Rattle.std.specs.Prelude.{◌≡◌, IfOk, IfSome, Some, codes, false, map};
+ghost use Rattle.clap.specs.Words.{App, app_of, first_of, found_of, new_app, rows_of, rule_of, subcommand_of, subcommand_rows_of, with_subcommand};
+ghost use Rattle.commandline.specs.Declarations.{AddsRule, DeclaresOwn, IsJob, IsWritten, Writes, declared, declared_check, declared_flat, declared_mkfs, declared_top, number_rule, word_rule};
+
+use crate::jobs::{Check, Flat, Job, Mkfs};
+use clap::error::ErrorKind;
+use clap::{Arg, ArgMatches, Command, Error, value_parser};
+use std::alloc::{AllocError, Global};
+
+const EXAMPLE: &str = "\
+Example: hello.bin is a program of RV64I instructions, loaded at address 0, and hello.txt says
+what happens to the machine, one command a line:
+
+    step 1000       1000 instructions or turns
+    tick 1          a timer interrupt
+    type ls         the keys l, s and return
+    keys 7f04       keys by their codes
+
+xv6 flat --frames 128 hello.bin hello.txt
+
+The console's bytes go to standard output. At the end standard error has `running`, or how the
+machine came to a halt, as `halt 1 InitEnded 0`.
+
+A disk image is made of what a manifest lists, one entry a line, a directory before what is in it:
+
+    dir /bin
+    file /bin/hello hello.bin
+    dev /console 1 0
+
+xv6 mkfs --size 64 --inodes 16 manifest.txt disk.img
+xv6 check disk.img
+
+The second prints `ok 4 inodes 3 blocks`: what is in use.";
+
+// An option with a number.
+fn number<'a>(alloc: Global, name: &'a str, default: &'a str, help: &'a str) -> Arg<'a>
+    ensures rule { rule_of result ≡ number_rule name.now default.now }
+    ensures local { result.global ≡ false }
+{
+    Arg::new(alloc, name)
+        .long(name)
+        .value_name("N")
+        .help(help)
+        .value_parser(value_parser!(u32))
+        .default_value(default)
+}
+
+// The command with an option that takes a number.
+fn with_number<'a>(
+    alloc: Global,
+    command: Result<Command<'a>, AllocError>,
+    name: &'a str,
+    default: &'a str,
+    help: &'a str,
+) -> Result<Command<'a>, AllocError>
+    ensures { AddsRule (number_rule name.now default.now) command.entry result }
+{
+    command?.arg(number(alloc, name, default, help))
+}
+
+// The command with a word that has to be there.
+fn with_word<'a>(
+    alloc: Global,
+    command: Result<Command<'a>, AllocError>,
+    name: &'a str,
+    help: &'a str,
+) -> Result<Command<'a>, AllocError>
+    ensures { AddsRule (word_rule name.now) command.entry result }
+{
+    command?.arg(Arg::new(alloc, name).help(help).required(true))
+}
+
+// A command of this name, with no words yet.
+fn named<'a>(alloc: Global, name: &'a str, about: &'a str) -> Result<Command<'a>, AllocError>
+    ensures { IfOk result (DeclaresOwn (new_app name.now)) }
+{
+    Ok(Command::new(alloc, name).about(about))
+}
+
+// The command `flat`.
+fn flat_command<'a>(alloc: Global) -> Result<Command<'a>, AllocError>
+    ensures { IfOk result (DeclaresOwn declared_flat) }
+{
+    let file = "The program: instructions and bytes, from address 0 on";
+    let script = "What happens: lines `step N`, `tick N`, `keys HEX` and `type TEXT`";
+    let frames = "Frames of 4096 bytes, 64 to 32768";
+    let bare = named(
+        alloc,
+        "flat",
+        "Boots a flat program and runs a script of events",
+    );
+    let numbered = with_number(alloc, bare, "frames", "256", frames);
+    let filed = with_word(alloc, numbered, "FILE", file);
+    with_word(alloc, filed, "SCRIPT", script)
+}
+
+// The command `mkfs`.
+fn mkfs_command<'a>(alloc: Global) -> Result<Command<'a>, AllocError>
+    ensures { IfOk result (DeclaresOwn declared_mkfs) }
+{
+    let size = "Blocks of 1024 bytes, 32 to 16384";
+    let manifest =
+        "What is made: lines `dir PATH`, `file PATH HOSTFILE` and `dev PATH MAJOR MINOR`";
+    let bare = named(alloc, "mkfs", "Makes a disk image of what a manifest lists");
+    let sized = with_number(alloc, bare, "size", "2000", size);
+    let numbered = with_number(alloc, sized, "inodes", "200", "Inodes, 16 to 8192");
+    let listed = with_word(alloc, numbered, "MANIFEST", manifest);
+    with_word(alloc, listed, "IMAGE", "The image, which is written")
+}
+
+// The command `check`.
+fn check_command<'a>(alloc: Global) -> Result<Command<'a>, AllocError>
+    ensures { IfOk result (DeclaresOwn declared_check) }
+{
+    let bare = named(alloc, "check", "Checks that a disk image denotes files");
+    with_word(alloc, bare, "IMAGE", "The image")
+}
+
+// The command line without its commands, of which one has to be there.
+fn bare_command<'a>(alloc: Global) -> Command<'a>
+    ensures { app_of result ≡ declared_top }
+{
+    let about = "A RISC-V Unix in the manner of xv6, as a machine that is proved correct";
+    Command::new(alloc, "xv6")
+        .about(about)
+        .after_help(EXAMPLE)
+        .subcommand_required(true)
+        .arg_required_else_help(true)
+}
+
+// The command with another below it.
+fn with_command<'a>(
+    command: Command<'a>,
+    below: Result<Command<'a>, AllocError>,
+) -> Result<Command<'a>, AllocError>
+    ensures { IfOk result (λ new. (app : App) → IfOk below.entry (DeclaresOwn app) → app_of new ≡ with_subcommand (app_of command.entry) app.top) }
+{
+    match below {
+        Ok(below) => command.subcommand(below),
+        Err(error) => Err(error),
+    }
+}
+
+// The whole command line.
+fn command<'a>(alloc: Global) -> Result<Command<'a>, AllocError>
+    ensures { IfOk result (λ command. app_of command ≡ declared) }
+{
+    let flat = with_command(bare_command(alloc), flat_command(alloc))?;
+    let both = with_command(flat, mkfs_command(alloc))?;
+    with_command(both, check_command(alloc))
+}
+
+// The word that was found of this name.
+fn word_found<'a>(found: &ArgMatches<'a>, name: &str) -> Option<&'a str>
+    ensures { IfSome result (λ word. first_of name.now (rows_of (found_of found.now)) ≡ Some word.now) }
+{
+    found.get_str(name)
+}
+
+// The number that digits alone write.
+fn number_of(text: &str) -> Option<u32>
+    ensures { IfSome result (Writes text.now) }
+{
+    if text.as_bytes().first() == Some(&b'+') {
+        return None;
+    }
+    text.parse().ok()
+}
+
+// The number that was found of this name.
+fn number_found<'a>(found: &ArgMatches<'a>, name: &str) -> Option<u32>
+    ensures { IfSome result (IsWritten name.now (rows_of (found_of found.now))) }
+{
+    number_of(word_found(found, name)?)
+}
+
+// What the words after `flat` ask for.
+fn flat<'a>(found: &ArgMatches<'a>) -> Option<Job<'a>>
+    ensures { IfSome result (IsJob (Some (codes "flat", rows_of (found_of found.now)))) }
+{
+    let frames = number_found(found, "frames")?;
+    let file = word_found(found, "FILE")?;
+    let script = word_found(found, "SCRIPT")?;
+    Some(Job::Flat(Flat {
+        frames,
+        file,
+        script,
+    }))
+}
+
+// What the words after `mkfs` ask for.
+fn mkfs<'a>(found: &ArgMatches<'a>) -> Option<Job<'a>>
+    ensures { IfSome result (IsJob (Some (codes "mkfs", rows_of (found_of found.now)))) }
+{
+    let size = number_found(found, "size")?;
+    let inodes = number_found(found, "inodes")?;
+    let manifest = word_found(found, "MANIFEST")?;
+    let image = word_found(found, "IMAGE")?;
+    Some(Job::Mkfs(Mkfs {
+        size,
+        inodes,
+        manifest,
+        image,
+    }))
+}
+
+// What the word after `check` asks for.
+fn check<'a>(found: &ArgMatches<'a>) -> Option<Job<'a>>
+    ensures { IfSome result (IsJob (Some (codes "check", rows_of (found_of found.now)))) }
+{
+    let image = word_found(found, "IMAGE")?;
+    Some(Job::Check(Check { image }))
+}
+
+// The job that was found.
+fn job_found<'a>(matches: &ArgMatches<'a>) -> Option<Job<'a>>
+    ensures { IfSome result (IsJob (subcommand_rows_of matches.now)) }
+{
+    if let Some(found) = matches.subcommand_matches("flat") {
+        return flat(found);
+    }
+    if let Some(found) = matches.subcommand_matches("mkfs") {
+        return mkfs(found);
+    }
+    check(matches.subcommand_matches("check")?)
+}
+
+// Why the words are no job, where the command line let them pass: a number has a sign.
+fn signed<'a>(command: &mut Command<'a>) -> Error {
+    match command.error(
+        ErrorKind::ValueValidation,
+        "a number is written in digits alone",
+    ) {
+        Ok(error) => error,
+        Err(error) => Error::from(error),
+    }
+}
+
+// The job that the command line reads in the words.
+fn job_read<'a>(command: &mut Command<'a>, words: &'a [&'a str]) -> Result<Job<'a>, Error>
+    requires { app_of command.old ≡ declared }
+    ensures { IfOk result (IsJob (subcommand_of declared (map (λ word. word.now) words.now))) }
+{
+    let matches = command.try_get_matches_from_mut(words)?;
+    match job_found(&matches) {
+        Some(job) => Ok(job),
+        None => Err(signed(command)),
+    }
+}
+
+/// The job that the words name; the first of them is the program's name. An error is a refusal,
+/// the help that the words ask for, or want of memory.
+pub fn job<'a>(alloc: Global, words: &'a [&'a str]) -> Result<Job<'a>, Error>
+    ensures { IfOk result (IsJob (subcommand_of declared (map (λ word. word.now) words.now))) }
+{
+    let mut command = command(alloc)?;
+    job_read(&mut command, words)
+}

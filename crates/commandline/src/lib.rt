@@ -1,0 +1,8 @@
+//! The command line of the program: the job that its words name.
+#![tactic(auto)]
+
+mod command_line;
+mod jobs;
+
+pub use command_line::job;
+pub use jobs::{Check, Flat, Job, Mkfs};

@@ -1,7 +1,0 @@
-use Rattle.std.proofs.Common.{refl}
-use Rattle.clap.specs.Walk.{rows_of}
-use Rattle.clap.specs.Matches.{found_of}
-use Rattle.commands.proofs.command_line.check.Goals as goal
-
-pub returns : goal.returns
-returns c = (rows_of (found_of c.args.found.now), refl, record { image = c.in_ok-image.ensures })

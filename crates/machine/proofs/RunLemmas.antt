@@ -1,0 +1,142 @@
+-- How a run goes on by one step.
+use Rattle.std.proofs.Common.{◌≡◌, ℕ, ℤ, ◌+◌, ◌<◌, ◌≤◌, List, [], ◌∷◌, ◌++◌, take, drop, length, Option, Some, None, Err, refl, ap, sym, ◌∙◌, arith, append_assoc, append-nil}
+use Rattle.std.proofs.lemmas.List.{take-append-drop}
+use Rattle.std.specs.Io.KnownBytes.{Appends}
+use Rattle.console.specs.Output.{AppendsBeginning}
+use Rattle.machine.proofs.Runs.{run-append, run-more, then_runs}
+use Rattle.calls.specs.declared.halt.Halt.{Halt}
+use Rattle.calls.specs.declared.halt.Halt.TheVariants.{Console, Device, Halted, InitEnded}
+use Rattle.machine.specs.Gives.{IsDone, RunGives, StepGives}
+use Rattle.machine.specs.Told.{IsUp, Told}
+use Rattle.unixmodel.specs.Calls.{After}
+use Rattle.unixmodel.specs.declared.event.Event.{Event}
+use Rattle.unixmodel.specs.Failures.{Rises}
+use Rattle.unixmodel.specs.Next.{next}
+use Rattle.unixmodel.specs.Run.{after_bytes, run}
+use Rattle.unixmodel.specs.State.{State}
+
+-- a writer that took two parts took both
+pub Appends-trans : (a b c : Option (List ℕ)) (xs ys : List ℕ) → Appends a b xs → Appends b c ys → Appends a c (xs ++ ys)
+Appends-trans None b c xs ys h k = tt
+Appends-trans (Some x) None c xs ys h k = absurd h
+Appends-trans (Some x) (Some y) None xs ys h k = k
+Appends-trans (Some x) (Some y) (Some z) xs ys h k = rw (k, h) (append_assoc x xs ys)
+
+-- a rise from a later count is a rise
+pub Rises-later : (a b c : ℕ) → a ≤ b → Rises b c → b ≤ c → Rises a c
+Rises-later a b c ab bc l = omega arith
+
+-- all events so far are done as the model says, and the machine takes more
+pub record SoFar {D : Type 0} (failures : D → ℕ) (first now : Told D) (events : List Event) (before after : Option (List ℕ)) : Type 0 where
+  pub began : IsUp first
+  pub done : IsDone failures first now (run first.state events) before after None
+
+pub up_now : {D : Type 0} (failures : D → ℕ) (first now : Told D) (events : List Event) (before after : Option (List ℕ)) → SoFar failures first now events before after → IsUp now
+up_now failures first now events before after h = record { sound = h.done.sound; goes = rw h.done.state h.done.halts }
+
+-- a step that is done
+pub done_more : {D : Type 0} (failures : D → ℕ) (first now new : Told D) (xs : List Event) (e : Event) (before mid after : Option (List ℕ)) (r : Option ℤ)
+    → SoFar failures first now xs before mid → IsDone failures now new (next now.state e) mid after r
+    → IsDone failures first new (run first.state (xs ++ e ∷ [])) before after r
+done_more failures first now new xs e before mid after r h k =
+    let more : run first.state (xs ++ e ∷ []) ≡ after_bytes (run first.state xs).bytes (next now.state e) =
+    run-more xs e first.state h.began.goes h.done.halts ∙ ap (λ s. after_bytes (run first.state xs).bytes (next s e)) (sym h.done.state) in
+    rw more (record {
+      state = k.state;
+      halts = k.halts;
+      sound = k.sound;
+      printed = Appends-trans _ _ _ _ _ h.done.printed k.printed;
+      later = let l = h.done.later in let m = k.later in omega arith;
+    })
+
+-- the whole run is that of the first events and the rest
+whole : (s : State) (i : ℕ) (es : List Event) → s.halted ≡ None → run s es ≡ then_runs (drop i es) (run s (take i es)) (run s (take i es)).state.halted
+whole s i es up = ap (λ xs. run s xs) (sym (take-append-drop i es)) ∙ run-append (take i es) (drop i es) s up
+
+-- what the first events halt with the whole run halts with
+pub run-halts : (s : State) (i : ℕ) (es : List Event) (status : ℤ) → s.halted ≡ None → (run s (take i es)).state.halted ≡ Some status → run s es ≡ run s (take i es)
+run-halts s i es status up is = whole s i es up ∙ rw is refl
+
+then_begins : (ys : List Event) (o : After) (r : Option ℤ) → (rest : List ℕ) × (o.bytes ++ rest ≡ (then_runs ys o r).bytes)
+then_begins ys o (Some status) = ([], append-nil o.bytes)
+then_begins ys o None = ((run o.state ys).bytes, refl)
+
+-- what the first events print is a beginning
+pub run-begins : (s : State) (i : ℕ) (es : List Event) → s.halted ≡ None → (rest : List ℕ) × ((run s (take i es)).bytes ++ rest ≡ (run s es).bytes)
+run-begins s i es up = rw (whole s i es up) (then_begins (drop i es) (run s (take i es)) (run s (take i es)).state.halted)
+
+-- a beginning of what comes after what was printed
+pub begins_more : (before mid after : Option (List ℕ)) (xs ys zs all : List ℕ) → Appends before mid xs → AppendsBeginning mid after ys → (xs ++ ys) ++ zs ≡ all → AppendsBeginning before after all
+begins_more before mid after xs ys zs all h k e = record {
+  front = xs ++ k.front;
+  rest = k.rest ++ zs;
+  parts = append_assoc xs k.front (k.rest ++ zs) ∙ ap (λ bs. xs ++ bs) (sym (append_assoc k.front k.rest zs)) ∙ ap (λ bs. xs ++ (bs ++ zs)) k.parts ∙ sym (append_assoc xs ys zs) ∙ e;
+  took = Appends-trans before mid after xs k.front h k.took;
+}
+
+-- a step that stops a run
+pub stops : {D : Type 0} (failures : D → ℕ) (first now new : Told D) (i : ℕ) (es : List Event) (e : Event) (before mid after : Option (List ℕ)) (step_rises rises : Type 0) (halt : Halt)
+    → i < length es → take (i + 1) es ≡ take i es ++ e ∷ []
+    → SoFar failures first now (take i es) before mid
+    → (step_rises → rises)
+    → StepGives failures now new (next now.state e) mid after step_rises (Err halt)
+    → RunGives failures first new es before after rises (Err halt)
+stops failures first now new i es e before mid after step_rises rises (InitEnded status) more is h r k =
+    let d = done_more failures first now new (take i es) e before mid after (Some status) h k.1 in
+    let halts : (run first.state (take (i + 1) es)).state.halted ≡ Some status = rw is d.halts in
+    (h.began, rw (run-halts first.state (i + 1) es status h.began.goes halts, is) d)
+stops failures first now new i es e before mid after step_rises rises Device more is h r k = (
+  h.began,
+  record {
+    done = i;
+    more = more;
+    goes = h.done.halts;
+    fails = record {
+      rises = Rises-later _ _ _ h.done.later k.1.rises k.1.later;
+      later = let l = h.done.later in let m = k.1.later in omega arith;
+      failed = k.1.failed;
+      printed = rw (append-nil (run first.state (take i es)).bytes) at (Appends-trans _ _ _ _ _ h.done.printed k.1.printed);
+    };
+  },
+)
+stops failures first now new i es e before mid after step_rises rises Console more is h r k = (
+  h.began,
+  record {
+    rises = r k.1.rises;
+    failed = k.1.failed;
+    printed =
+        let more_bytes : (run first.state (take (i + 1) es)).bytes ≡ (run first.state (take i es)).bytes ++ (next now.state e).bytes =
+        ap (λ (o : After). o.bytes) (ap (λ xs. run first.state xs) is ∙ run-more (take i es) e first.state h.began.goes h.done.halts ∙ ap (λ s. after_bytes (run first.state (take i es)).bytes (next s e)) (sym h.done.state)) in
+        let all = run-begins first.state (i + 1) es h.began.goes in
+        begins_more before mid after _ _ all.0 _ h.done.printed k.1.printed (ap (λ bs. bs ++ all.0) (sym more_bytes) ∙ all.1);
+  },
+)
+stops failures first now new i es e before mid after step_rises rises Halted more is h r k = absurd (k.stopped (up_now failures first now (take i es) before mid h))
+
+pub Appends-none : (a : Option (List ℕ)) → Appends a a []
+Appends-none None = tt
+Appends-none (Some xs) = sym (append-nil xs)
+
+-- before the first event
+pub so_far_at_first : {D : Type 0} (failures : D → ℕ) (first : Told D) (at : Option (List ℕ)) → IsUp first → SoFar failures first first [] at at
+unfolding run
+so_far_at_first failures first at up = record {
+  began = up;
+  done = record {
+    state = refl;
+    halts = up.goes;
+    sound = up.sound;
+    printed = Appends-none at;
+    later = omega arith;
+  };
+}
+
+-- a step that goes on
+pub goes_on : {D : Type 0} (failures : D → ℕ) (first now new : Told D) (i : ℕ) (es : List Event) (e : Event) (before mid after : Option (List ℕ))
+    → i < length es → take (i + 1) es ≡ take i es ++ e ∷ []
+    → SoFar failures first now (take i es) before mid → IsDone failures now new (next now.state e) mid after None
+    → SoFar failures first new (take (i + 1) es) before after
+goes_on failures first now new i es e before mid after more is h k = rw is (record {
+  began = h.began;
+  done = done_more failures first now new (take i es) e before mid after None h k;
+})

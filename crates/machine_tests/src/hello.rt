@@ -1,0 +1,199 @@
+//! A program that says `hi`: its console, its process, its pages and its tables.
+use crate::play::Act::{
+    Faults, Gone, Halts, Is, Killed, NoPage, NoTables, Page, Parent, Pc, Reaches, Registers, Runs,
+    Size, Steps,
+};
+use crate::play::{Act, Program, READY, ROOM, RUNNING, holds_at, prints, run};
+use console::Writer;
+use machine::{Halt, ProcessState, boot_flat_with};
+use ram::{FrameNo, Ram};
+use std::cell::Cell;
+use sv39::{Fault, Translate, walk};
+use unixmodel::event::Event;
+use unixmodel::trap::Access;
+use vm::Perm;
+
+// Writes `hi` and a line feed, which stand behind the instructions, and exits with status 0.
+const HELLO: [u32; 8] = [
+    0x0010_0513, // addi a0, zero, 1
+    0x0200_0593, // addi a1, zero, 32
+    0x0030_0613, // addi a2, zero, 3
+    0x0100_0893, // addi a7, zero, 16
+    0x0000_0073, // ecall
+    0x0000_0513, // addi a0, zero, 0
+    0x0020_0893, // addi a7, zero, 2
+    0x0000_0073, // ecall
+];
+
+const HI: Program<'static> = Program::Words(&HELLO, b"hi\n");
+
+// The bytes of that program.
+const BYTES: [u8; 35] = [
+    0x13, 0x05, 0x10, 0x00, 0x93, 0x05, 0x00, 0x02, 0x13, 0x06, 0x30, 0x00, 0x93, 0x08, 0x00, 0x01,
+    0x73, 0x00, 0x00, 0x00, 0x13, 0x05, 0x00, 0x00, 0x93, 0x08, 0x20, 0x00, 0x73, 0x00, 0x00, 0x00,
+    0x68, 0x69, 0x0a,
+];
+
+#[test]
+fn says_hi(rt: HostRuntime) {
+    const ACTS: [Act; 5] = [
+        Steps(8),
+        Halts(Halt::InitEnded(0)),
+        Halts(Halt::Halted),
+        Runs(&[Event::Tick], Some(Halt::Halted)),
+        Is(1, ProcessState::Zombie(0)),
+    ];
+    prints(&rt, HI, (256, ROOM), &ACTS, b"hi\n");
+}
+
+#[test]
+fn a_tick_costs_a_turn(rt: HostRuntime) {
+    const EVENTS: [Event; 13] = [
+        Event::Step,
+        Event::Step,
+        Event::Step,
+        Event::Tick,
+        Event::Step,
+        Event::Step,
+        Event::Step,
+        Event::Step,
+        Event::Key(0x61),
+        Event::Step,
+        Event::Step,
+        Event::Step,
+        Event::Step,
+    ];
+    const CASES: [(usize, &[u8], Option<Halt>); 5] = [
+        (7, b"", None),
+        (8, b"hi\n", None),
+        (11, b"hi\na", None),
+        (12, b"hi\na", Some(Halt::InitEnded(0))),
+        (13, b"hi\na", Some(Halt::InitEnded(0))),
+    ];
+    for (count, text, why) in &CASES {
+        let events = EVENTS.get(..*count).unwrap_or(&EVENTS);
+        prints(&rt, HI, (256, ROOM), &[Runs(events, *why)], text);
+    }
+}
+
+#[test]
+fn tells_its_process(rt: HostRuntime) {
+    const FIRST: [u64; 32] = [
+        0, 0, 12272, 0, 0, 0, 0, 0, 0, 0, 0, 12272, 0, 0, 0, 0, 0, 0, 0, 0, 0, 0, 0, 0, 0, 0, 0, 0,
+        0, 0, 0, 0,
+    ];
+    const NEXT: [u64; 32] = [
+        0, 0, 12272, 0, 0, 0, 0, 0, 0, 0, 1, 12272, 0, 0, 0, 0, 0, 0, 0, 0, 0, 0, 0, 0, 0, 0, 0, 0,
+        0, 0, 0, 0,
+    ];
+    const ACTS: [Act; 12] = [
+        Parent(1, 0),
+        Pc(1, 0),
+        Size(1, 12288),
+        Registers(1, &FIRST),
+        Killed(1, false),
+        Is(1, READY),
+        Gone(0),
+        Gone(2),
+        Steps(2),
+        Registers(1, &NEXT),
+        Pc(1, 4),
+        Is(1, RUNNING),
+    ];
+    run(&rt, HI, &ACTS);
+}
+
+#[test]
+fn shows_its_pages(rt: HostRuntime) {
+    const PROGRAM: Perm = Perm {
+        w: true,
+        x: true,
+        u: true,
+    };
+    const GUARD: Perm = Perm {
+        w: true,
+        x: false,
+        u: false,
+    };
+    const STACK: Perm = Perm {
+        w: true,
+        x: false,
+        u: true,
+    };
+    const ACTS: [Act; 6] = [
+        Page(1, 0, PROGRAM, &BYTES),
+        Page(1, 1, GUARD, &[]),
+        Page(1, 2, STACK, &[]),
+        NoPage(1, 3),
+        NoPage(1, 0x3ff_fffe),
+        NoPage(2, 0),
+    ];
+    run(&rt, HI, &ACTS);
+}
+
+#[test]
+fn its_tables_show_its_pages(rt: HostRuntime) {
+    const ACTS: [Act; 10] = [
+        Reaches(32, Access::Fetch, b'h'),
+        Reaches(33, Access::Load, b'i'),
+        Reaches(33, Access::Store, b'i'),
+        Faults(0x1000, Access::Load),
+        Reaches(0x2000, Access::Load, 0),
+        Faults(0x2000, Access::Fetch),
+        Faults(0x3000, Access::Load),
+        Faults(0x3f_ffff_e000, Access::Load),
+        Faults(0x40_0000_0000, Access::Load),
+        NoTables(2),
+    ];
+    run(&rt, HI, &ACTS);
+}
+
+// It takes one byte, and fails at the next.
+#[test]
+fn halts_where_the_console_fails(rt: HostRuntime) {
+    const ACTS: [Act; 5] = [
+        Steps(5),
+        Halts(Halt::Console),
+        Halts(Halt::Halted),
+        Runs(&[], Some(Halt::Halted)),
+        Parent(1, 0),
+    ];
+    prints(&rt, HI, (64, 1), &ACTS, b"h");
+}
+
+// Walks, and counts the fetches.
+#[derive(Drop)]
+struct Counting<'a> {
+    fetches: &'a Cell<u32>,
+}
+
+impl Translate for Counting<'_> {
+    ghost held = { λ _ _. ⊥ };
+
+    fn translate(
+        &mut self,
+        ram: &Ram,
+        root: FrameNo,
+        va: u64,
+        access: Access,
+    ) -> Result<u64, Fault> {
+        if access == Access::Fetch {
+            self.fetches.set(self.fetches.get().wrapping_add(1));
+        }
+        walk(ram, root, va, access)
+    }
+
+    fn fence(&mut self) {}
+}
+
+// The first of nine steps is a turn, and each of the others is an instruction.
+#[test]
+fn each_fetch_is_translated(rt: HostRuntime) {
+    let fetches = Cell::new(0);
+    let counting = Counting { fetches: &fetches };
+    let mut machine = boot_flat_with(rt.alloc(), &BYTES, counting, 64).expect(&rt, "a machine");
+    let mut out = Writer::new(Vec::new(rt.alloc()));
+    let done = machine.run(&[Event::Step; 9], &mut out);
+    holds_at(&rt, 0, done == Err(Halt::InitEnded(0)));
+    holds_at(&rt, 1, fetches.get() == 8);
+}
