@@ -10,7 +10,10 @@ costs the same however large the space is. Two have many processes: children tha
 and from the keys to the console. `rustc` has to be in the PATH.
 
 The images have as many inodes and blocks as they can hold, all in use: one of 16384 blocks and 8192
-inodes, and one of half of both, beside which the other may take twice as long.
+inodes, and one of half of both, beside which the other may take twice as long. Further images have many
+inodes, blocks, names in a directory and large directories, each beside one of half as many. Then come
+manifests of as many names as an image can have, and of half as many: all in the root, and each in the one
+before.
 """
 
 import argparse
@@ -23,6 +26,7 @@ import time
 
 sys.dont_write_bytecode = True
 
+import images
 import programs
 
 HERE = pathlib.Path(__file__).resolve().parent
@@ -118,6 +122,50 @@ def time_images(program, room):
               f"ratio {full / half:.2f}, peak {took[1][2]} KiB", flush=True)
 
 
+def time_checks(program, room):
+    """Checks images of many inodes, blocks and names, and prints the times beside those of half as many."""
+    rows = [
+        ("8192 inodes", images.many_inodes(4096), images.many_inodes(8192)),
+        ("16384 blocks", images.many_blocks(8192), images.many_blocks(16384)),
+        ("17000 names in a directory", images.many_names(8500), images.many_names(17000)),
+        ("60 directories of 17000 names", images.many_names(8500, 60), images.many_names(17000, 60)),
+    ]
+    for name, *sizes in rows:
+        took = []
+        for image in sizes:
+            (room / "image").write_bytes(image)
+            took.append(min(run([program, "check", "image"], "", room) for _ in range(TURNS)))
+        half, full = took[0][0], took[1][0]
+        print(f"check of {name}: {full:.2f} s, of half as many {half:.2f} s, "
+              f"ratio {full / half:.2f}, peak {took[1][1]} KiB", flush=True)
+
+
+def flat_manifest(count):
+    """The manifest of so many devices in the root: it has no bytes but those of the root's places."""
+    return "".join(f"dev /d{name} 1 1\n" for name in range(count))
+
+
+def chain_manifest(depth):
+    """The manifest of directories that stand in one another."""
+    return "".join(f"dir {'/d' * (level + 1)}\n" for level in range(depth))
+
+
+def time_manifests(program, room):
+    """Makes images of many names and of a deep directory, and prints the times beside those of half as many.
+    A path is as long as its directory is deep, so the text of a chain is four times as long where it is twice as deep."""
+    numbers = ["--size", "16384", "--inodes", "8192"]
+    mkfs = [program, "mkfs", *numbers, "manifest", "image"]
+    for name, manifest in [("devices", flat_manifest), ("directories in one another", chain_manifest)]:
+        took = []
+        for count in [4095, 8190]:
+            text = manifest(count)
+            (room / "manifest").write_text(text)
+            took.append((min(run(mkfs, "", room) for _ in range(TURNS))[0], len(text)))
+        (half, short), (full, long) = took
+        print(f"mkfs of 8190 {name}: {full:.2f} s, of half as many {half:.2f} s, ratio {full / half:.2f}, "
+              f"ratio for each byte of the manifest {full * short / (half * long):.2f}", flush=True)
+
+
 def program_of_words():
     """The program that the command line names."""
     how = argparse.RawDescriptionHelpFormatter
@@ -152,6 +200,8 @@ def main():
             print(f"{name}: {steps} steps: xv6 {took:.2f} s, plain Rust {other:.2f} s, "
                   f"ratio {took / other:.2f}, peak {max(ran[1] for ran in ours)} KiB", flush=True)
         time_images(program, room)
+        time_checks(program, room)
+        time_manifests(program, room)
 
 
 if __name__ == "__main__":
