@@ -46,9 +46,6 @@ abbrev pub free_from : Geometry → List (List ℕ) → ℕ → ℕ
 free_from g blocks from = zeros_in (drop (from - data_start_of g.size g.inodes) (data_bits g blocks))
 
 module _ (g : Geometry) (blocks : List (List ℕ)) where
-  pub free_from-start : (from : ℕ) → from ≡ data_start_of g.size g.inodes → free_blocks g blocks ≡ free_from g blocks from
-  free_from-start from e = let z : 0 ≡ from - data_start_of g.size g.inodes = omega arith in ap (λ k. zeros_in (drop k (data_bits g blocks))) z
-
   bit-at : (i : ℕ) → i < g.size - data_start_of g.size g.inodes → get_or (data_bits g blocks) i 0 ≡ bit_of blocks (bitmap_start_of g.inodes) (data_start_of g.size g.inodes + i)
   bit-at i high = get_or-data_bits g blocks i high
 
@@ -73,9 +70,6 @@ module _ (g : Geometry) (blocks : List (List ℕ)) where
         zeros-skip (data_bits g blocks) (from - start) (length (data_bits g blocks)) (omega (arith, length-data_bits g blocks)) (omega arith)
         (λ k l h. bit-at k (omega (arith, length-data_bits g blocks)) ∙ full (start + k) (omega arith) (omega (arith, length-data_bits g blocks)))
         ∙ zeros-past (data_bits g blocks)
-
-pub enough-yes : (free wanted found left : ℕ) → free ≡ found + left → wanted ≤ found → true ≡ nat_le wanted free
-enough-yes free wanted found left e h = sym (le-leb wanted free (omega arith))
 
 pub enough-no : (free wanted found left : ℕ) → free ≡ found + left → left ≡ 0 → found < wanted → false ≡ nat_le wanted free
 enough-no free wanted found left e z h = sym (lt-leb wanted free (omega arith))

@@ -72,20 +72,6 @@ unfolding bit_in
 bit_of-cleared g blocks b cleared high =
     ap (λ x. bit_at x (b % 8192 % 8)) (cleared (bitmap_start_of g.inodes + b / 8192) (omega arith) (b % 8192 / 8)) ∙ bit_at-zero (b % 8192 % 8)
 
-pub HasFront-none : (g : Geometry) (old : List (List ℕ)) → HasParts g old → ((b : ℕ) → b < g.size → bit_of old (bitmap_start_of g.inodes) b ≡ 0) → HasFront g old old 0
-HasFront-none g old parts clear = record { parts = parts; before = λ k h. refl; marked = λ b h l. absurd (omega arith); unmarked = λ b h l. clear b l }
-
-pub HasFront-more : (g : Geometry) (old mid new : List (List ℕ)) (b : ℕ) → HasFront g old mid b → SetsBit g mid new b 1 → b < g.size → HasFront g old new (b + 1)
-HasFront-more g old mid new b front sets high = record {
-  parts = sets.parts;
-  before = λ k h. sets.before k h ∙ front.before k h;
-  marked = λ c h l. elim (cases_eq c b) [
-    | inl met ↦ ap (bit_of new (bitmap_start_of g.inodes)) met ∙ sets.here
-    | inr other ↦ sets.others c l other ∙ front.marked c (omega arith) l
-  ];
-  unmarked = λ c h l. sets.others c l (omega arith) ∙ front.unmarked c (omega arith) l;
-}
-
 -- ---- the super block
 
 fits_more : (x : ℕ) (xs : List ℕ) → x < 2 ^ 32 → ((i : ℕ) → get_or xs i 0 < 2 ^ 32) → (i : ℕ) → get_or (x ∷ xs) i 0 < 2 ^ 32

@@ -23,13 +23,6 @@ adds-rule old new a rule h local is app own = record {
   local = rw (h.globals, own.local, local) refl;
 }
 
--- the command that was found, by its name and by its rows
-module _ {Z : Type 0} where
-  pub named-rows : (sub : Option (Box SubCommand Z)) (name : Text) (rows : List Row) → option_map (λ b. (out-SubCommand (box_value b)).name.now) sub ≡ Some name
-      → option_map (λ p. p.1) (subcommand_rows sub) ≡ Some rows → subcommand_rows sub ≡ Some (name, rows)
-  named-rows None name rows named are = cc
-  named-rows (Some b) name rows named are = cc
-
 -- the word that an argument has
 pub word-found : {W : Type 0} (text_of : W → Text) (r : Option W) (first : Option Text) → option_map text_of r ≡ first → IfSome r (λ word. first ≡ Some (text_of word))
 word-found text_of None first is = tt

@@ -58,22 +58,3 @@ pub free-opens : (t : List (Option Counted)) → count_by is_none (opens_of t) �
 free-opens [] = refl
 free-opens (None ∷ t) = rw (free-cons None (opens_of t), free-cons None t, free-opens t) refl
 free-opens (Some c ∷ t) = rw (free-cons (Some c.file) (opens_of t), free-cons (Some c) t, free-opens t) refl
-
--- fewer than two are free: a call that takes two is refused
-pub two-refused : {X : Type 0} (xs : List (Option X)) (x : X) (rest : ℕ → ℕ → Outcome) → count_by is_none xs < 2 → given (free_slot xs) (λ k. given (free_slot (put xs k x)) (rest k)) ≡ Refused
-two-refused xs x rest few = elim (cases_lt 0 (count_by is_none xs)) [
-  | inl one ↦
-      let first = free-Some xs one in
-      let at = free-place xs (taken_first xs) first in
-      let left = free-put xs (taken_first xs) x at.0 at.1 in
-      rw (first, free-None (put xs (taken_first xs) x) (omega (arith, left, few))) refl
-  | inr none ↦ rw (free-None xs (omega (arith, none))) refl
-]
-
--- two are: the call goes on with the lowest, and the lowest then
-pub two-taken : {X : Type 0} (xs : List (Option X)) (x : X) → 2 ≤ count_by is_none xs → (k : ℕ) × ((m : ℕ) × ((free_slot xs ≡ Some k) × (free_slot (put xs k x) ≡ Some m)))
-two-taken xs x two =
-    let first = free-Some xs (omega (arith, two)) in
-    let at = free-place xs (taken_first xs) first in
-    let left = free-put xs (taken_first xs) x at.0 at.1 in
-    (taken_first xs, (taken_first (put xs (taken_first xs) x), (first, free-Some (put xs (taken_first xs) x) (omega (arith, left, two)))))

@@ -64,26 +64,11 @@ names-none k = names-free k 16
 
 -- ---- processes
 
--- a process takes a place, or changes there
-pub count-put : (k : ℕ) (places : List (Option Process)) (i : ℕ) (p : Process) → i < length places → count_of (put places i p) k + names_in k (slot places i) ≡ count_of places k + names k p.descriptors
-count-put k places i p h = sum_by-set (names_in k) places i (Some p) None h
-
--- a place becomes free
-pub count-clear : (k : ℕ) (places : List (Option Process)) (i : ℕ) → i < length places → count_of (clear places i) k + names_in k (slot places i) ≡ count_of places k
-count-clear k places i h = sum_by-set (names_in k) places i None None h ∙ omega arith
-
 -- processes change but for their descriptors
 pub count-map : (change : Process → Process) → ((p : Process) → (change p).descriptors ≡ p.descriptors) → (k : ℕ) (places : List (Option Process)) → count_of (map (option_map change) places) k ≡ count_of places k
 count-map change same k [] = refl
 count-map change same k (None ∷ ps) = rw (sum_by-cons (names_in k) None (map (option_map change) ps), sum_by-cons (names_in k) None ps, count-map change same k ps) refl
 count-map change same k (Some p ∷ ps) = rw (sum_by-cons (names_in k) (Some (change p)) (map (option_map change) ps), sum_by-cons (names_in k) (Some p) ps, count-map change same k ps, same p) refl
-
--- a count is small: that of a table in memory doesn't overflow
-pub count-bound : (k most : ℕ) (places : List (Option Process)) → ((i : ℕ) (p : Process) → slot places i ≡ Some p → length p.descriptors ≤ most) → count_of places k ≤ most * length places
-count-bound k most [] few = omega arith
-count-bound k most (None ∷ ps) few = rw (sum_by-cons (names_in k) None ps) (omega (arith, count-bound k most ps (λ i. few (suc i))))
-count-bound k most (Some p ∷ ps) few =
-    rw (sum_by-cons (names_in k) (Some p) ps) (omega (arith, count_by-le-length (is_same k) p.descriptors, few 0 p refl, count-bound k most ps (λ i. few (suc i))))
 
 -- ---- the table
 

@@ -46,12 +46,6 @@ has_pipe-put opens k f q h free = any-put (λ (g : OpenFile). is_pipe q g.target
 pub has_pipe-clear : (opens : List (Option OpenFile)) (k : ℕ) (f : OpenFile) (q : ℕ) → slot opens k ≡ Some f → has_pipe opens q ≡ (is_pipe q f.target || has_pipe (clear opens k) q)
 has_pipe-clear opens k f q at = any-clear (λ (g : OpenFile). is_pipe q g.target) opens k f at
 
-pub has_end-put : (opens : List (Option OpenFile)) (k : ℕ) (f : OpenFile) (q : ℕ) (e : End) → k < length opens → slot opens k ≡ None → has_end (put opens k f) q e ≡ (is_end q e f.target || has_end opens q e)
-has_end-put opens k f q e h free = any-put (λ (g : OpenFile). is_end q e g.target) opens k f h free
-
-pub has_end-clear : (opens : List (Option OpenFile)) (k : ℕ) (f : OpenFile) (q : ℕ) (e : End) → slot opens k ≡ Some f → has_end opens q e ≡ (is_end q e f.target || has_end (clear opens k) q e)
-has_end-clear opens k f q e at = any-clear (λ (g : OpenFile). is_end q e g.target) opens k f at
-
 eq-self : (n : ℕ) → (n == n) ≡ true
 eq-self n = grind (arith, nat_tests)
 

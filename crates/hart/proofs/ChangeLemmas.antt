@@ -83,11 +83,6 @@ changed-only ram mapping (Bytes address bytes) is sound stores =
 pub cycle-only : (ram : List (List ℕ)) (mapping : List Mapped) (regs : List ℕ) (pc : ℕ) (d : Computed) → IsMemory ram → IsSound ram mapping → cycle regs pc (memory_of ram mapping) ≡ Ok d → WritesOnly ram mapping (changed ram mapping d.change)
 cycle-only ram mapping regs pc d is sound h = changed-only ram mapping d.change is sound (cycle-stores regs pc (memory_of ram mapping) d h)
 
--- frames stay whole
-pub IsMemory-writes : (ram : List (List ℕ)) (mapping : List Mapped) (ram' : List (List ℕ)) → IsMemory ram → WritesOnly ram mapping ram' → IsMemory ram'
-IsMemory-writes ram mapping ram' is (inl same) = rw same is
-IsMemory-writes ram mapping ram' is (inr w) = rw w.is (IsMemory-set ram w.entry.frame w.bytes is w.whole)
-
 -- ---- the memory that is shown
 
 -- page k of the memory

@@ -87,10 +87,6 @@ cycle-stores regs pc mem d h = subst (Leaves mem) h (at_cycle (Leaves mem) regs 
 
 -- ---- the registers and the pc
 
-abbrev Shapes : Effect → Type 0
-Shapes (Ok d) = IsHart d.regs d.pc
-Shapes (Err t) = Unit {0}
-
 length-write : (regs : List ℕ) (rd value : ℕ) → length (write regs rd value) ≡ length regs
 length-write regs zero value = refl
 length-write regs (suc r) value = length-set regs (suc r) value
@@ -108,57 +104,3 @@ next-aligned pc h = omega arith
 
 plus-small : (a b : ℕ) → plus a b < 2 ^ 64
 plus-small a b = omega arith
-
-set_register-shapes : (regs : List ℕ) (pc rd value : ℕ) → IsHart regs pc → IsHart (write regs rd value) (plus pc 4)
-set_register-shapes regs pc rd value was = IsHart-write regs pc rd value (plus pc 4) was (plus-small pc 4) (next-aligned pc was.aligned)
-
-jump-shapes : (regs : List ℕ) (pc rd target : ℕ) → IsHart regs pc → target < 2 ^ 64 → Shapes (jump regs pc rd target)
-jump-shapes regs pc rd target was small =
-    at_test Shapes (target % 4 == 0) _ _ (λ h. IsHart-write regs pc rd (plus pc 4) target was small (is_zero _ h)) tt
-
-advance-shapes : (regs : List ℕ) (pc : ℕ) → IsHart regs pc → IsHart regs (plus pc 4)
-advance-shapes regs pc was = record { count = was.count; zero = was.zero; bounded = plus-small pc 4; aligned = next-aligned pc was.aligned }
-
-branch-shapes : (regs : List ℕ) (pc : ℕ) (taken : Bool) (target : ℕ) → IsHart regs pc → target < 2 ^ 64 → Shapes (branch regs pc taken target)
-branch-shapes regs pc taken target was small =
-    at_test Shapes taken _ _
-    (λ _. at_test Shapes (target % 4 == 0) _ _ (λ h. record { count = was.count; zero = was.zero; bounded = small; aligned = is_zero _ h }) tt)
-    (advance-shapes regs pc was)
-
-load-shapes : (regs : List ℕ) (pc : ℕ) (op : LoadOp) (rd address : ℕ) (page : Option Page) → IsHart regs pc → Shapes (load_from regs pc op rd address page)
-load-shapes regs pc op rd address None was = tt
-load-shapes regs pc op rd address (Some p) was = set_register-shapes regs pc rd _ was
-
-store-shapes : (regs : List ℕ) (pc address : ℕ) (bytes : List ℕ) (page : Option Page) → IsHart regs pc → Shapes (store_to regs pc address bytes page)
-store-shapes regs pc address bytes None was = tt
-store-shapes regs pc address bytes (Some p) was = advance-shapes regs pc was
-
-halved : (x : ℕ) → x < 2 ^ 64 → x / 2 * 2 < 2 ^ 64
-halved x h = omega arith
-
-act-shapes : (regs : List ℕ) (pc : ℕ) (mem : Memory) → IsHart regs pc → (i : Instr) → Shapes (act i regs pc mem)
-unfolding act
-act-shapes regs pc mem was (instr.Lui rd imm) = set_register-shapes regs pc rd _ was
-act-shapes regs pc mem was (instr.Auipc rd imm) = set_register-shapes regs pc rd _ was
-act-shapes regs pc mem was (instr.Jal rd offset) = jump-shapes regs pc rd _ was (plus-small pc (extend 21 offset))
-act-shapes regs pc mem was (instr.Jalr rd rs1 imm) = jump-shapes regs pc rd _ was (halved _ (plus-small (slice_index regs rs1) (extend 12 imm)))
-act-shapes regs pc mem was (instr.Branch op rs1 rs2 offset) = branch-shapes regs pc (is_taken op (slice_index regs rs1) (slice_index regs rs2)) _ was (plus-small pc (extend 13 offset))
-act-shapes regs pc mem was (instr.Load op rd rs1 imm) =
-    let address = plus (slice_index regs rs1) (extend 12 imm) in
-    at_test Shapes (address % load_size op == 0) _ _ (λ _. load-shapes regs pc op rd address (page_for Load mem address) was) tt
-act-shapes regs pc mem was (instr.Store op rs1 rs2 imm) =
-    let address = plus (slice_index regs rs1) (extend 12 imm) in
-    at_test Shapes (address % store_size op == 0) _ _ (λ _. store-shapes regs pc address _ (page_for Store mem address) was) tt
-act-shapes regs pc mem was (instr.Imm op rd rs1 imm) = set_register-shapes regs pc rd _ was
-act-shapes regs pc mem was (instr.Shift op rd rs1 amount) = set_register-shapes regs pc rd _ was
-act-shapes regs pc mem was (instr.Reg op rd rs1 rs2) = set_register-shapes regs pc rd _ was
-act-shapes regs pc mem was (instr.Addiw rd rs1 imm) = set_register-shapes regs pc rd _ was
-act-shapes regs pc mem was (instr.ShiftW op rd rs1 amount) = set_register-shapes regs pc rd _ was
-act-shapes regs pc mem was (instr.RegW op rd rs1 rs2) = set_register-shapes regs pc rd _ was
-act-shapes regs pc mem was (instr.Fence rd rs1 imm) = advance-shapes regs pc was
-act-shapes regs pc mem was instr.Ecall = tt
-act-shapes regs pc mem was instr.Ebreak = tt
-
--- an instruction leaves registers and a pc that a hart may have
-pub cycle-registers : (regs : List ℕ) (pc : ℕ) (mem : Memory) (d : Computed) → IsHart regs pc → cycle regs pc mem ≡ Ok d → IsHart d.regs d.pc
-cycle-registers regs pc mem d was h = subst Shapes h (at_cycle Shapes regs pc mem (λ c address. tt) (act-shapes regs pc mem was))

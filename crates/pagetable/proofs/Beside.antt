@@ -34,26 +34,3 @@ unfolding lookup_of
 lookup_of-same m k r same page =
     ap (λ o. leaf_at k o (page % 512)) (table_at-same m k r same (low_node page) (low_is_node page))
     ∙ leaf_at-same m k (table_at m r (low_node page)) (page % 512) (λ v g. entry_of-frame m k v (page % 512) (same v (held_at m r (low_node page) v (low_is_node page) g)))
-
--- what is done to the tree of another root keeps the frames of this one
-pub beside-same : (m k : List (List ℕ)) (r q : ℕ) (s n : Frames) → IsPaged m r s → IsBeside m r q → Keeps m k q s n → (v : ℕ) → Holds m r v → frame_of k v ≡ frame_of m v
-beside-same m k r q s n is beside keeps v h = keeps.others v (beside.apart v h) (is.apart h.place v h.is_node h.at_place)
-
-pub IsPaged-beside : (m k : List (List ℕ)) (r q : ℕ) (s n : Frames) → IsPaged m r s → IsBeside m r q → Keeps m k q s n → IsFreeList k n → IsPaged k r n
-IsPaged-beside m k r q s n is beside keeps free =
-    let same = beside-same m k r q s n is beside keeps in
-    record {
-      tree = IsTree-same m k r is.tree keeps.count same;
-      free = free;
-      apart = λ x t nx h.
-          let old : table_at m r x ≡ Some t = sym (table_at-same m k r same x nx) ∙ h in
-          (keeps.outside t (beside.apart t (held_at m r x t nx old)) (is.apart x t nx old)).1;
-    }
-
-pub IsBeside-stays : (m k : List (List ℕ)) (r q : ℕ) (s n : Frames) → IsPaged m r s → IsBeside m r q → Keeps m k q s n → IsBeside k r q
-IsBeside-stays m k r q s n is beside keeps = record {
-  apart = λ v h.
-      let same = beside-same m k r q s n is beside keeps in
-      let old : table_at m r h.place ≡ Some v = sym (table_at-same m k r same h.place h.is_node) ∙ h.at_place in
-      (keeps.outside v (beside.apart v (held_at m r h.place v h.is_node old)) (is.apart h.place v h.is_node old)).0;
-}

@@ -312,18 +312,6 @@ lookup_of-link m k r x t c u is nx up sc at w new none p =
 
 -- ---- entries that fit
 
-pub table_entry_fits : (n e : ℕ) → IsTableEntry n e → e ≢ 0 → (base ≤ e / 1024) × (e / 1024 - base < n)
-table_entry_fits n e (no_table z) ne = absurd (ne z)
-table_entry_fits n e (a_table t h is) ne =
-    let top : ((base + t) * 1024 + 1) / 1024 ≡ base + t = div-mul-add (base + t) 1024 1 (omega arith) in
-    rw (is, top) (omega arith, omega arith)
-
-pub leaf_entry_fits : (n e : ℕ) → IsLeafEntry n e → e ≢ 0 → (base ≤ e / 1024) × (e / 1024 - base < n)
-leaf_entry_fits n e (no_leaf z) ne = absurd (ne z)
-leaf_entry_fits n e (a_leaf f marks h small is) ne =
-    let top : ((base + f) * 1024 + marks) / 1024 ≡ base + f = div-mul-add (base + f) 1024 marks small.0 in
-    rw (is, top) (omega arith, omega arith)
-
 pub child_of-some : (e : ℕ) → e ≢ 0 → child_of e ≡ Some (e / 1024 - base)
 unfolding child_of
 child_of-some e ne = rw (ne_eqb _ _ ne) refl

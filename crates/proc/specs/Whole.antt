@@ -92,11 +92,6 @@ joined-free_slots zero ms = refl
 joined-free_slots (suc n) [] = ap (λ qs. None ∷ qs) (joined-free_slots n [])
 joined-free_slots (suc n) (m ∷ ms) = ap (λ qs. None ∷ qs) (joined-free_slots n ms)
 
--- the first process of all takes place 0
-pub first_joined : (p : Process) (m : Memory) (ms : List Memory) → joined (put (free_slots 64) 0 p) (m ∷ ms) ≡ Some (with_memory m p) ∷ free_slots 63
-unfolding joined free_slots
-first_joined p m ms = ap (λ qs. Some (with_memory m p) ∷ qs) (joined-free_slots 63 ms)
-
 pub seat_of-first : (last pid : ℕ) → pid ≤ 2147483647 → table.seat_of (record { places = free_slots 64; last = last; next_pid = pid }) ≡ Ok (record { place = 0; pid = pid })
 unfolding free_slots
 seat_of-first last pid h = let fits : nat_le pid 2147483647 ≡ true = grind (arith, nat_tests) in rw fits refl
@@ -189,14 +184,6 @@ module _ (s : State) (t : Places) (ms : List Memory) where
   stopped_at : (o : Option ℕ) → stopped (with_table s t ms) o ≡ with_table s (changed_at t (table.with_mode Ready) o) ms
   stopped_at None = refl
   stopped_at (Some i) = with_mode-with_table i Ready
-
-  -- the running process becomes ready
-  pub stopped-with_table : stopped (with_table s t ms) (running (with_table s t ms)) ≡ with_table s (with_running t (table.with_mode Ready)) ms
-  stopped-with_table = rw running-with_table (stopped_at (place_where t.places table.is_running))
-
-  -- a process that keeps its memory is put in its place
-  pub put_process-with_table : (i : ℕ) (p : Process) → put_process (with_table s t ms) i (with_memory (slice_index_or ms i []) p) ≡ with_table s (record t { places = put t.places i p }) ms
-  put_process-with_table i p = ap (λ places. record (with_table s t ms) { places = places }) (put_kept-joined t.places ms i p)
 
   -- a process and its memory take a place and a pid
   pub seated-with_table : (p : Process) (seat : Seat) (m : Memory) → seat.place < length ms → record (with_table s t ms) { places = put (joined t.places ms) seat.place (with_memory m (record p { pid = seat.pid })); next_pid = t.next_pid + 1 } ≡ with_table s (table.seated t p seat) (slice_set ms seat.place m)

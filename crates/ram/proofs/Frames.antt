@@ -73,16 +73,6 @@ put-view m v f a r part bs is full read fits given =
     rw (rest, append-nil, e, drop-drop, ← read) refl in
     set-view_full m v f (take a r ++ (part ++ post_of a (4096 - a) r)) is whole ∙ ap (λ w. set v f w) new
 
--- after a write of bs to the part of a frame from place a
-pub put_mid-view : (m v : List (List ℕ)) (f a k : ℕ) (r bs : List ℕ) → map sized m ≡ v → length r ≡ 4096 → r ≡ frame_of v f → a + k ≤ 4096 → length bs ≡ k
-    → map sized (set m f (take a r ++ (bs ++ post_of a k r))) ≡ put v f a bs
-unfolding put put_bytes
-put_mid-view m v f a k r bs is full read fits len =
-    let whole : length (take a r ++ (bs ++ post_of a k r)) ≡ 4096 =
-    omega (arith, full, fits, len, length-append (take a r) (bs ++ drop k (drop a r)), length-append bs (drop k (drop a r)), length-take-le a r (omega (arith, full, fits)), length-drop k (drop a r), length-drop a r) in
-    let new : take a r ++ (bs ++ post_of a k r) ≡ put_bytes (frame_of v f) a bs = rw (drop-drop, ← len, ← read) refl in
-    set-view_full m v f (take a r ++ (bs ++ post_of a k r)) is whole ∙ ap (λ w. set v f w) new
-
 pub put_mid-bytes : (a k : ℕ) (r bs : List ℕ) → length bs ≡ k → take a r ++ (bs ++ post_of a k r) ≡ put_bytes r a bs
 unfolding put_bytes
 put_mid-bytes a k r bs len = rw (drop-drop, ← len) refl

@@ -89,11 +89,6 @@ IsMemory-set m f w is full = record {
       ];
 }
 
-pub IsMemory-put : (m : List (List ℕ)) (f o : ℕ) (bs : List ℕ) → IsMemory m → f < length m → o + length bs ≤ 4096 → IsMemory (put m f o bs)
-unfolding put
-IsMemory-put m f o bs is h fits =
-    IsMemory-set m f (put_bytes (frame_of m f) o bs) is (length-put_bytes (frame_of m f) o bs (omega (arith, is.sized f h)) ∙ is.sized f h)
-
 -- ---- a frame of zeros
 
 get_or-zeros : (n j : ℕ) → get_or (replicate {A = ℕ} n 0) j 0 ≡ 0

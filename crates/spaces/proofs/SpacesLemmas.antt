@@ -15,20 +15,9 @@ within [] i x e = absurd (cc)
 within (y ∷ xs) zero x e = omega arith
 within (y ∷ xs) (suc i) x e = let h = within xs i x e in omega (arith, h)
 
-some-place : (o : Option Held) → is_some o ≡ true → o ≡ Some (unwrap_or o no_pages)
-some-place None e = absurd (cc)
-some-place (Some h) e = refl
-
 none-place : (o : Option Held) → is_some o ≡ false → o ≡ None
 none-place None e = refl
 none-place (Some h) e = absurd (cc)
-
--- a place with a space has what `held_at` says, and is one of the places
-pub place-held : (s : Spaces) (at : ℕ) → has_space s at ≡ true → slot s.places at ≡ Some (held_at s at)
-place-held s at has = some-place (slot s.places at) has
-
-pub place-within : (s : Spaces) (at : ℕ) → has_space s at ≡ true → at < length s.places
-place-within s at has = within s.places at (held_at s at) (place-held s at has)
 
 pub place-free : (s : Spaces) (at : ℕ) → has_space s at ≡ false → slot s.places at ≡ None
 place-free s at free = none-place (slot s.places at) free
@@ -50,12 +39,6 @@ held-same s at h within = ap (λ o. unwrap_or o no_pages) (get_or-set_same s.pla
 
 pub held-other : (s : Spaces) (at other : ℕ) (y : Option Held) → other ≢ at → held_at (with_place s at y) other ≡ held_at s other
 held-other s at other y ne = ap (λ o. unwrap_or o no_pages) (get_or-set_other s.places at other y None ne)
-
-pub space-same : (s : Spaces) (at : ℕ) (h : Held) → at < length s.places → has_space (with_held s at h) at ≡ true
-space-same s at h within = ap is_some (get_or-set_same s.places at (Some h) None within)
-
-pub space-other : (s : Spaces) (at other : ℕ) (y : Option Held) → other ≢ at → has_space (with_place s at y) other ≡ has_space s other
-space-other s at other y ne = ap is_some (get_or-set_other s.places at other y None ne)
 
 -- ---- other sizes, as the abstract Unix has them
 

@@ -35,6 +35,3 @@ copy-space m l s q b new is tr free = Trades-space m l s q [] new b is (λ f. om
 
 pub copy-untouched : (m l : List (List ℕ)) (s q : Frames) (b : Space) (new : List ℕ) → IsSpace m b s → Trades m l s q [] new → IsUntouched m l b
 copy-untouched m l s q b new is tr = Trades-untouched m l s q [] new b is (λ f. omega (arith, is.held f)) tr
-
-pub IsUntouched-none : (m : List (List ℕ)) (b : Space) → IsUntouched m m b
-IsUntouched-none m b = record { mapping = refl; pages = refl; registers = refl; frames = refl }

@@ -169,21 +169,6 @@ rest-held m s places others f is some = omega (arith, some, is.shared.each f, co
 
 -- ---- a space is made beside the others, and gets a place
 
--- a holder that comes and one that goes: one is replaced
-pub Trades-replace : (m k l : List (List ℕ)) (s n q : Frames) (old new : List ℕ) → Trades m k s n [] new → Trades k l n q old [] → Trades m l s q old new
-Trades-replace m k l s n q old new a b = record {
-  count = b.count ∙ a.count;
-  moved = λ f. omega (arith, a.moved f, b.moved f);
-  others = λ f h. b.others f (omega (arith, a.moved f, h)) ∙ a.others f (omega (arith, h));
-}
-
--- while a space is made, it is one of the others
-pub beside-machine : (m k : List (List ℕ)) (s n : Frames) (places : List (Option Space)) (others new : List ℕ) → IsMachine m s places others → IsFreeList k n → Trades m k s n [] new → IsMachine k n places (others ++ new) × AllUntouched m k places
-beside-machine m k s n places others new is free t = (
-  rest-machine m k s n places others (others ++ new) [] new is free (λ f. omega arith) t (λ f. omega (arith, count_of-append f others new)),
-  rest-untouched m k s n places others [] new is (λ f. omega arith) t,
-)
-
 -- and then it gets a place that has none
 pub settle-machine : (m : List (List ℕ)) (s : Frames) (places : List (Option Space)) (others : List ℕ) (i : ℕ) (y : Space) → IsMachine m s places (others ++ holds m y) → i < length places → get_or places i None ≡ None → IsSpace m y s
     → IsMachine m s (slice_set places i (Some y)) others

@@ -105,12 +105,3 @@ string-long bytes buffer i x was e ne =
 pub string-fits : (a : Access) (mem : Memory) (at i : ℕ) → IsSized mem → length mem ≤ 32768 → at < 2 ^ 64 → i ≤ length (reach a mem at) → at + i < 2 ^ 64
 string-fits a mem at zero h small fits low = omega (arith, fits)
 string-fits a mem at (suc i) h small fits low = omega (arith, (reach-page a mem at i h (omega (arith, low))).0, small)
-
-path-short : (o : Option (List ℕ)) → short_path o ≡ short_string 127 o
-path-short None = refl
-path-short (Some s) = refl
-
--- a path is a string of no more than 127 bytes
-pub path-string : (mem : Memory) (at : ℕ) → path_at mem at ≡ short_string 127 (string_at mem at)
-unfolding path_at
-path-string mem at = path-short (string_at mem at)

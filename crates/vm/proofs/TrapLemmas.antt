@@ -52,18 +52,8 @@ beside-stored m k s o x at inside whole fits (inr high) e =
     ap (λ n. get_or (frame_of n s.trap.0) at 0) e ∙ ap (λ b. get_or b at 0) (frame_of-put_same m s.trap.0 o (word_bytes 8 x) inside)
     ∙ get_or-put_bytes_above (frame_of m s.trap.0) o (word_bytes 8 x) at 0 (omega (arith, fits, whole, length-word_bytes 8 x)) (omega (arith, high, length-word_bytes 8 x))
 
--- a trap frame of zeros
-word-zero : (m : List (List ℕ)) (t o k : ℕ) → t < length m → frame_of m t ≡ replicate 4096 0 → word_of m t o k ≡ 0
-word-zero m t o k inside e =
-    word_of-frame m (slice_set m t (replicate 4096 0)) t t o k (e ∙ sym (get_or-set_same m t (replicate 4096 0) [] inside))
-    ∙ word_of-zeros m t o k 4096 inside
-
 zero_at : (i : ℕ) → i < 32 → get_or (replicate {A = ℕ} 32 0) i 0 ≡ 0
 zero_at i h = get_or-replicate 32 i 0 0 h
-
-pub saved-zero : (m : List (List ℕ)) (s : Space) → s.trap.0 < length m → registers_of m s ≡ replicate 4096 0 → (saved_registers m s ≡ replicate {A = ℕ} 32 0) × (saved_pc m s ≡ 0)
-saved-zero m s inside e =
-    (saved-is m s (replicate {A = ℕ} 32 0) refl refl (λ i low high. word-zero m s.trap.0 (32 + 8 * i) 8 inside e ∙ sym (zero_at i high)), word-zero m s.trap.0 24 8 inside e)
 
 pub trap-inside : (m : List (List ℕ)) (s : Space) → IsMapped m s → s.trap.0 < length m
 trap-inside m s is = (lookup-sound m s.root.0 trap_page s.trap.0 trap_marks is.tree is.trap).0
