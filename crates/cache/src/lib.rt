@@ -1,7 +1,8 @@
 //! The blocks of a device as one list, for the layers above.
 //!
-//! Each access is passed through to the device. The contracts leave room for writes that reach the device later:
-//! only after `flush` the device has what was written.
+//! At most 30 blocks are held, those that were used last. A write changes the held block alone; the device has it
+//! once the block had to leave, or after `flush`. Where there is no memory for a block it isn't held: a read answers
+//! from the one block that was read, and a write goes to the device at once.
 #![tactic(auto)]
 
 ghost use Rattle.std.specs.Prelude.{◌≡◌, ℕ, ◌+◌, ◌<◌, ◌≤◌, List, length, OnOk, OnErr, IfOk, IfErr, slice_set};
@@ -9,33 +10,53 @@ ghost use Rattle.blockdev.specs.Blocks.{AreBlocks, block_at};
 ghost use Rattle.unixmodel.specs.Failures.{HasCause};
 ghost use Rattle.blockdev.specs.Splice.{splice};
 
+mod held;
+
 use blockdev::{Block, BlockDev, DeviceFault};
-use std::alloc::{AllocError, Allocator};
+use held::{Held, Slot, make_room, next_to_write, write_now, write_out};
+use lru::LruCache;
+use std::alloc::{AllocError, Allocator, Global};
 use std::marker::Model;
+use std::num::NonZeroUsize;
+
+/// How many blocks are held at most.
+const HELD: usize = 30;
 
 /// The blocks of a device. After a fault it is open what they hold, but not how many they are.
 #[derive(Drop)]
-pub struct Cache<D: BlockDev> {
+pub struct Cache<D: BlockDev, A: Allocator + Clone = Global> {
     device: D,
+    held: Held<A>,
+    // Whether a write failed since the last good flush: then no held block is known to be the device's.
+    in_doubt: bool,
 }
 
-impl<D: BlockDev> Model for Cache<D> {
+impl<D: BlockDev, A: Allocator + Clone> Model for Cache<D, A> {
     ghost use Rattle.cache.specs.Disk.{Disk};
 
     ghost Value = { Disk };
 
-    ghost view = { λ c. record { blocks = D.content c.device; stored = D.content c.device; failures = D.failures c.device } };
+    ghost use Rattle.cache.specs.Overlay.{overlay, AreHeld};
+
+    ghost view = { λ c. record { blocks = overlay c.held.entries (D.content c.device); stored = D.content c.device; failures = D.failures c.device } };
+
+    ghost invariant = { λ c. AreHeld c.held.entries (D.content c.device) c.in_doubt };
 }
 
-impl<D: BlockDev> Cache<D> {
-    /// The blocks of the device. It is the only call that can ask for host memory.
-    pub fn new<A: Allocator>(_alloc: A, device: D) -> Result<Cache<D>, AllocError>
+impl<D: BlockDev, A: Allocator + Clone> Cache<D, A> {
+    /// The blocks of the device. It is the only call that can ask for host memory and be refused.
+    pub fn new(alloc: A, device: D) -> Result<Cache<D, A>, AllocError>
         ensures blocks { IfOk result (λ cache. cache.blocks ≡ D.content device) }
         ensures stored { IfOk result (λ cache. cache.stored ≡ D.content device) }
         ensures failures { IfOk result (λ cache. cache.failures ≡ D.failures device) }
         ensures sizes { AreBlocks (D.content device) }
     {
-        Ok(Cache { device })
+        let held = LruCache::new(alloc, NonZeroUsize::new(HELD).unwrap())?;
+        Ok(Cache {
+            device,
+            held,
+            in_doubt: false,
+        })
     }
 
     /// Gives up the cache for the device, which has what was flushed.
@@ -43,7 +64,21 @@ impl<D: BlockDev> Cache<D> {
         ensures stored { D.content result ≡ self.stored }
         ensures failures { D.failures result ≡ self.failures }
     {
-        self.device
+        let Cache {
+            device,
+            held,
+            in_doubt: _,
+        } = self;
+        drop(held);
+        device
+    }
+
+    /// The device below, which has what was flushed.
+    pub fn device(&self) -> &D
+        ensures stored { D.content result.now ≡ self.now.stored }
+        ensures failures { D.failures result.now ≡ self.now.failures }
+    {
+        &self.device
     }
 
     /// How many blocks there are.
@@ -64,7 +99,18 @@ impl<D: BlockDev> Cache<D> {
         ensures stored { length self.new.stored ≡ length self.old.stored }
         ensures cause { HasCause self.old.failures self.new.failures result }
     {
-        self.device.read(n)
+        if let Some(slot) = self.held.get(&n) {
+            return Ok(slot.bytes);
+        }
+        let bytes = self.device.read(n)?;
+        make_room(&mut self.device, &self.held, &mut self.in_doubt)?;
+        let slot = Slot {
+            bytes,
+            changed: false,
+        };
+        // Without memory for it the block isn't held.
+        let _ = self.held.put(n, slot);
+        Ok(bytes)
     }
 
     /// Writes bytes into block `n` from the place `at` on.
@@ -76,9 +122,23 @@ impl<D: BlockDev> Cache<D> {
         ensures stored { length self.new.stored ≡ length self.old.stored }
         ensures cause { HasCause self.old.failures self.new.failures result }
     {
+        if let Some(slot) = self.held.get_mut(&n) {
+            slot.changed = true;
+            slot.bytes[at..at + bytes.len()].copy_from_slice(bytes);
+            return Ok(());
+        }
         let mut block = self.device.read(n)?;
         block[at..at + bytes.len()].copy_from_slice(bytes);
-        self.device.write(n, &block)
+        make_room(&mut self.device, &self.held, &mut self.in_doubt)?;
+        let slot = Slot {
+            bytes: block,
+            changed: true,
+        };
+        match self.held.put(n, slot) {
+            Ok(_) => Ok(()),
+            // Without memory for it the block isn't held.
+            Err(_) => write_now(&mut self.device, n, &block, &mut self.in_doubt),
+        }
     }
 
     /// Writes to the device what it lacks.
@@ -89,7 +149,14 @@ impl<D: BlockDev> Cache<D> {
         ensures length { length self.new.stored ≡ length self.old.stored }
         ensures cause { HasCause self.old.failures self.new.failures result }
     {
-        let _ = &self.device;
+        // Their count has 64 bits, so the number after a block's has, too.
+        let _ = self.device.blocks();
+        let mut from = 0;
+        'block: while let Some(n) = next_to_write(&self.held, from, self.in_doubt) {
+            write_out(&mut self.device, &mut self.held, n, &mut self.in_doubt)?;
+            from = n + 1;
+        }
+        self.in_doubt = false;
         Ok(())
     }
 }

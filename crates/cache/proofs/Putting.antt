@@ -1,0 +1,113 @@
+-- A block comes into the cache, and another leaves.
+use Rattle.std.proofs.Common.{◌≡◌, ◌≢◌, ℕ, ◌-◌, ◌<◌, ◌≤◌, Bool, true, false, ◌||◌, Bor, List, [], ◌∷◌, length, set, take, slice_get, Result, Ok, Err, OnOk, Option, Some, None, nat_eq, refl, sym, ap, subst, ◌∙◌, arith, inl, inr}
+use Rattle.std.specs.List.{IsDistinct}
+use Rattle.std.specs.Option.{option_map_or, option_map}
+use Rattle.std.specs.Map.Iter.{deref_pair}
+use Rattle.std.specs.Map.{keys_of, lookup}
+use Rattle.std.specs.Cmp.{nat_eq_equiv}
+use Rattle.std.proofs.lemmas.Bool.{cases_eq}
+use Rattle.std.proofs.lemmas.Map.Entries.{lookup_from_place}
+use Rattle.std.proofs.lemmas.List.{get_or-set_same}
+use Rattle.lru.specs.LruCache.{LruCache, put_entries, last_entry}
+use Rattle.blockdev.specs.Blocks.{block_at}
+use Rattle.cache.specs.declared.held.Slot.{Slot}
+use Rattle.cache.specs.Overlay.{AreHeld, IsHeld, IsLastSafe, held_or, overlay}
+use Rattle.cache.proofs.Entries.{lookup-cut, lookup-here, lookup-later, put-is}
+use Rattle.cache.proofs.Overlays.{held-some, held-none, overlay-put, overlay-same}
+
+-- which block leaves
+pub last-lookup : (es : List (ℕ × Slot)) (k : ℕ) (s : Slot) → IsDistinct nat_eq (keys_of es) → last_entry es ≡ Some (k, s) → lookup (nat_eq k) es ≡ Some s
+last-lookup es k s distinct h = lookup_from_place nat_eq_equiv es (length es - 1) k s distinct h
+
+pub safe-one : (c : LruCache ℕ Slot) (d : List (List ℕ)) (k : ℕ) (s : Slot) → length c.entries ≤ c.cap → last_entry c.entries ≡ Some (k, s) → s.bytes ≡ block_at d k → IsLastSafe c d
+safe-one c d k s h one same = record {
+  fits = h;
+  last = λ j t _ is.
+      let equal : Some (k, s) ≡ Some (j, t) = sym one ∙ is in
+      let pair : (k, s) ≡ (j, t) = cc in
+      ap (λ (p : ℕ × Slot). p.1.bytes) (sym pair) ∙ same ∙ ap (λ (p : ℕ × Slot). block_at d p.0) pair;
+}
+
+or-left : (a b : Bool) → (a || b) ≡ false → a ≡ false
+or-left true b h = absurd cc
+or-left false b h = refl
+
+or-right : (a b : Bool) → (a || b) ≡ false → b ≡ false
+or-right true b h = absurd cc
+or-right false b h = h
+
+-- what a look at the last entry tells
+pub is-last : (es : List (ℕ × Slot)) (r : Option (Bor ℕ × Bor Slot)) (x : Bor ℕ × Bor Slot) → option_map deref_pair r ≡ last_entry es → r ≡ Some x → last_entry es ≡ Some (x.0.now, x.1.now)
+is-last es r x told is = sym told ∙ ap (option_map deref_pair) is
+
+pub none-last : (es : List (ℕ × Slot)) (r : Option (Bor ℕ × Bor Slot)) → option_map deref_pair r ≡ last_entry es → r ≡ None → last_entry es ≡ None
+none-last es r told is = sym told ∙ ap (option_map deref_pair) is
+
+-- the last block is as the device has it
+pub safe-clean : (c : LruCache ℕ Slot) (d : List (List ℕ)) (b : Bool) (k : ℕ) (s : Slot) → length c.entries ≤ c.cap → IsDistinct nat_eq (keys_of c.entries) → last_entry c.entries ≡ Some (k, s) → AreHeld c.entries d b → (s.changed || b) ≡ false → IsLastSafe c d
+unfolding AreHeld
+safe-clean c d b k s fits distinct last held clean =
+    safe-one c d k s fits last ((held k s (last-lookup c.entries k s distinct last)).clean (or-right s.changed b clean) (or-left s.changed b clean))
+
+-- it is written
+pub low-last : (c : LruCache ℕ Slot) (d : List (List ℕ)) (b : Bool) (k : ℕ) (s : Slot) → IsDistinct nat_eq (keys_of c.entries) → last_entry c.entries ≡ Some (k, s) → AreHeld c.entries d b → k < length d
+unfolding AreHeld
+low-last c d b k s distinct last held = (held k s (last-lookup c.entries k s distinct last)).inside
+
+pub safe-written : (c : LruCache ℕ Slot) (d new : List (List ℕ)) (k : ℕ) (s : Slot) → length c.entries ≤ c.cap → k < length d → last_entry c.entries ≡ Some (k, s) → new ≡ set d k s.bytes → IsLastSafe c new
+safe-written c d new k s fits low last is = safe-one c new k s fits last (sym (ap (λ l. block_at l k) is ∙ get_or-set_same d k s.bytes [] low))
+
+pub safe-room : (c : LruCache ℕ Slot) (d : List (List ℕ)) → length c.entries < c.cap → IsLastSafe c d
+safe-room c d h = record { fits = omega arith; last = λ k s full _. absurd (omega arith) }
+
+pub safe-none : (c : LruCache ℕ Slot) (d : List (List ℕ)) → length c.entries ≤ c.cap → last_entry c.entries ≡ None → IsLastSafe c d
+safe-none c d h none = record { fits = h; last = λ k s _ is. let wrong : None ≡ Some (k, s) = sym none ∙ is in absurd cc }
+
+pub safe-tried : {E : Type 0} (c : LruCache ℕ Slot) (d new : List (List ℕ)) (k : ℕ) (s : Slot) (r : Result Unit E) → length c.entries ≤ c.cap → k < length d → last_entry c.entries ≡ Some (k, s) → OnOk r (new ≡ set d k s.bytes) → OnOk r (IsLastSafe c new)
+safe-tried c d new k s (Ok x) fits low last is = safe-written c d new k s fits low last is
+safe-tried c d new k s (Err x) fits low last is = is
+
+module _ (c : LruCache ℕ Slot) (n : ℕ) (v : Slot) (absent : lookup (nat_eq n) c.entries ≡ None) where
+  abbrev after : List (ℕ × Slot)
+  after = (n, v) ∷ take (c.cap - 1) c.entries
+
+  held-after : (d : List (List ℕ)) (b : Bool) → length c.entries ≤ c.cap → AreHeld c.entries d b → IsHeld d b n v → AreHeld after d b
+  unfolding AreHeld
+  held-after d b fits held new k s e = elim (cases_eq k n) [
+    | inl is ↦ let same : Some v ≡ Some s = sym (lookup-here (n, v) (take (c.cap - 1) c.entries) k is) ∙ e in
+        let value : v ≡ s = cc in subst (λ i. IsHeld d b i s) (sym is) (subst (λ t. IsHeld d b n t) value new)
+    | inr not ↦ let rest : lookup (nat_eq k) (take (c.cap - 1) c.entries) ≡ Some s = sym (lookup-later (n, v) (take (c.cap - 1) c.entries) k not) ∙ e in
+        (elim (lookup-cut (c.cap - 1) c.entries k (omega arith)) [
+          | inl same ↦ held k s (sym same ∙ rest)
+          | inr gone ↦ let wrong : None ≡ Some s = sym gone.0 ∙ rest in absurd cc
+        ])
+  ]
+
+  others : (d : List (List ℕ)) → IsLastSafe c d → (k : ℕ) → k ≢ n → held_or after d k ≡ held_or c.entries d k
+  others d safe k not =
+      ap (λ o. option_map_or (λ (s : Slot). s.bytes) o (block_at d k)) (lookup-later (n, v) (take (c.cap - 1) c.entries) k not)
+      ∙ (elim (lookup-cut (c.cap - 1) c.entries k (omega (arith, safe.fits))) [
+        | inl same ↦ ap (λ o. option_map_or (λ (s : Slot). s.bytes) o (block_at d k)) same
+        | inr gone ↦
+            let cut = gone.1 in
+            let full : length c.entries ≡ c.cap = omega (arith, safe.fits, cut.1) in
+            let place : slice_get c.entries (length c.entries - 1) ≡ Some (k, cut.0) = ap (λ i. slice_get c.entries (i - 1)) full ∙ cut.2 in
+            held-none (take (c.cap - 1) c.entries) d k gone.0 ∙ sym (safe.last k cut.0 full place) ∙ sym (held-some c.entries d k cut.0 cut.3)
+      ])
+
+  pub AreHeld-put : (d : List (List ℕ)) (b : Bool) → IsLastSafe c d → AreHeld c.entries d b → IsHeld d b n v → AreHeld (put_entries nat_eq c n v) d b
+  AreHeld-put d b safe held new = subst (λ es. AreHeld es d b) (sym (put-is c n v absent)) (held-after d b safe.fits held new)
+
+  -- a changed block comes in
+  pub overlay-changed : (d : List (List ℕ)) → IsLastSafe c d → n < length d → overlay (put_entries nat_eq c n v) d ≡ set (overlay c.entries d) n v.bytes
+  overlay-changed d safe low = ap (λ es. overlay es d) (put-is c n v absent)
+      ∙ overlay-put c.entries after d d n v.bytes refl low (λ k _ not. others d safe k not) (held-some after d n v (lookup-here (n, v) (take (c.cap - 1) c.entries) n refl))
+
+  -- a block as it was read comes in
+  pub overlay-read : (d : List (List ℕ)) → IsLastSafe c d → v.bytes ≡ block_at d n → overlay (put_entries nat_eq c n v) d ≡ overlay c.entries d
+  overlay-read d safe same = ap (λ es. overlay es d) (put-is c n v absent)
+      ∙ overlay-same c.entries after d d refl (λ k _. elim (cases_eq k n) [
+        | inl is ↦ held-some after d k v (lookup-here (n, v) (take (c.cap - 1) c.entries) k is) ∙ same ∙ ap (block_at d) (sym is)
+            ∙ sym (held-none c.entries d k (ap (λ i. lookup (nat_eq i) c.entries) is ∙ absent))
+        | inr not ↦ others d safe k not
+      ])
