@@ -1,7 +1,5 @@
 -- The entries of all directories, one directory after the other, and what tables of them tell of the files.
-use Rattle.std.proofs.Common.{◌≡◌, ◌≢◌, ℕ, ◌+◌, ◌*◌, ◌/◌, ◌<◌, ◌≤◌, Bool, List, [], ◌∷◌, ◌++◌, None, Option, Some, length, get_or, map, replicate, take, drop, ap, sym, refl, ◌∙◌, arith, subst, cond, inl, inr, true, false, zero, suc}
-use Rattle.std.specs.Prelude.{All, IsSome, count_by, filter, flat_map, option_map, slice_get, unwrap_or, ◌&&◌, ◌==◌}
-use Rattle.std.specs.Option.{option_to_list}
+use Rattle.std.proofs.Common.{◌≡◌, ◌≢◌, ℕ, ◌+◌, ◌*◌, ◌/◌, ◌<◌, ◌≤◌, Bool, List, [], ◌∷◌, ◌++◌, None, Option, Some, length, get_or, map, replicate, take, drop, ap, sym, refl, ◌∙◌, arith, subst, cond, inl, inr, true, false, zero, suc, All, IsSome, count_by, filter, flat_map, option_map, slice_get, unwrap_or, ◌&&◌, ◌==◌, option_to_list}
 use Rattle.std.specs.List.{find, range_with_len, sum_by}
 use Rattle.std.proofs.lemmas.Bool.{cases_eq, eq-eqb, ne_eqb}
 use Rattle.std.proofs.lemmas.List.{append-nil, append_assoc, map-append}

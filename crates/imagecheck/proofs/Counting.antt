@@ -1,7 +1,5 @@
 -- Tables of what items tell, one item more at a time.
-use Rattle.std.proofs.Common.{◌≡◌, ◌≢◌, ℕ, ◌+◌, ◌<◌, ◌≤◌, Bool, List, [], ◌∷◌, None, Option, Some, length, get_or, set, take, ap, sym, refl, ◌∙◌, arith, subst, cond, inl, inr, true, false}
-use Rattle.std.specs.Prelude.{All, count_by, ◌==◌}
-use Rattle.std.specs.List.{find}
+use Rattle.std.proofs.Common.{◌≡◌, ◌≢◌, ℕ, ◌+◌, ◌<◌, ◌≤◌, Bool, List, [], ◌∷◌, None, Option, Some, length, get_or, set, take, ap, sym, refl, ◌∙◌, arith, subst, cond, inl, inr, true, false, All, count_by, ◌==◌, find}
 use Rattle.std.specs.Option.{option_or}
 use Rattle.std.proofs.lemmas.Bool.{cases_eq, eq-eqb, ne_eqb}
 use Rattle.std.proofs.lemmas.List.{get_or-set_other, get_or-set_same, length-set, take_more}

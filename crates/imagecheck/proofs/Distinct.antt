@@ -1,12 +1,7 @@
 -- Names that stand once, told apart by their numbers.
-use Rattle.std.proofs.Common.{◌≡◌, ◌≢◌, ℕ, ◌+◌, ◌-◌, ◌*◌, ◌/◌, ◌<◌, ◌≤◌, Bool, List, [], ◌∷◌, ◌++◌, None, Some, length, get_or, take, drop, ap, sym, refl, ◌∙◌, arith, cond, subst, true, false, zero, suc}
-use Rattle.std.specs.Prelude.{All, AllPairs, nat_eq, nat_lt, ◌==◌}
+use Rattle.std.proofs.Common.{◌≡◌, ◌≢◌, ℕ, ◌+◌, ◌-◌, ◌*◌, ◌/◌, ◌<◌, ◌≤◌, Bool, List, [], ◌∷◌, ◌++◌, None, Some, length, get_or, take, drop, ap, sym, refl, ◌∙◌, arith, cond, subst, true, false, zero, suc, All, AllPairs, nat_eq, nat_lt, ◌==◌, IsPermutation, IsSorted, option_to_list, nat_cmp, bytes_eq}
 use Rattle.std.specs.Bool.{OnFalse, OnTrue}
 use Rattle.std.specs.List.{IsAllAdjacentAnswer, list_all}
-use Rattle.std.specs.List.Sorted.{IsPermutation, IsSorted}
-use Rattle.std.specs.Option.{option_to_list}
-use Rattle.std.specs.Ordering.{nat_cmp}
-use Rattle.std.specs.Str.{bytes_eq}
 use Rattle.std.proofs.lemmas.Bool.{false≢true, ltb-false, ltb-true}
 use Rattle.std.proofs.lemmas.Bool.Decides.{Decides-eqb, Decides-like, same_from_decides}
 use Rattle.std.proofs.lemmas.List.{get_or-drop, get_or-map, length-drop, length-map, length-take-le, map-append, take_all}

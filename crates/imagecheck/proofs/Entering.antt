@@ -1,8 +1,6 @@
 -- The places of a directory, one after the other.
-use Rattle.std.proofs.Common.{◌≡◌, ◌≢◌, ℕ, ◌+◌, ◌-◌, ◌*◌, ◌/◌, ◌<◌, ◌≤◌, List, [], ◌∷◌, ◌++◌, None, Option, Some, length, get_or, take, drop, ap, sym, refl, ◌∙◌, arith, subst, true, false}
-use Rattle.std.specs.Prelude.{All, IsSome, is_some, ◌==◌}
+use Rattle.std.proofs.Common.{◌≡◌, ◌≢◌, ℕ, ◌+◌, ◌-◌, ◌*◌, ◌/◌, ◌<◌, ◌≤◌, List, [], ◌∷◌, ◌++◌, None, Option, Some, length, get_or, take, drop, ap, sym, refl, ◌∙◌, arith, subst, true, false, All, IsSome, is_some, ◌==◌, option_to_list}
 use Rattle.std.specs.List.{list_all}
-use Rattle.std.specs.Option.{option_to_list}
 use Rattle.std.proofs.lemmas.Bool.{cond-false, cond-true, false≢true}
 use Rattle.std.proofs.lemmas.List.{drop-append-le, drop_all, length-take, length-take-le, take-append-drop, take_all, take_more}
 use Rattle.std.proofs.lemmas.List.Elements.{All-append, All-cons, All-head, All-nil, filter_map-append}

@@ -1,6 +1,5 @@
 -- The number that a directory's ".." tells.
-use Rattle.std.proofs.Common.{◌≡◌, ◌≢◌, ℕ, ◌+◌, ◌-◌, ◌*◌, ◌<◌, ◌≤◌, Bool, List, [], ◌∷◌, ◌++◌, None, Some, length, get_or, take, drop, ap, sym, refl, ◌∙◌, arith, subst, cond, inl, inr, true, false}
-use Rattle.std.specs.Prelude.{flat_map, is_some, option_map, slice_range, unwrap_or, ◌==◌, ◌↔◌}
+use Rattle.std.proofs.Common.{◌≡◌, ◌≢◌, ℕ, ◌+◌, ◌-◌, ◌*◌, ◌<◌, ◌≤◌, Bool, List, [], ◌∷◌, ◌++◌, None, Some, length, get_or, take, drop, ap, sym, refl, ◌∙◌, arith, subst, cond, inl, inr, true, false, flat_map, is_some, option_map, slice_range, unwrap_or, ◌==◌, ◌↔◌}
 use Rattle.std.specs.List.{list_all}
 use Rattle.std.proofs.lemmas.Bool.{cases_eq, cases_lt, eqb-true, false≢true}
 use Rattle.std.proofs.lemmas.List.{ext_get_or, get_or-drop, get_or-take, get_or_append_left, length-append, length-drop, length-take, length-take-le}

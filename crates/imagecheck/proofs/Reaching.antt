@@ -1,27 +1,27 @@
 -- What is reached from the root, by the parents of directories.
-use Rattle.std.proofs.Common.{◌≡◌, ◌≢◌, ℕ, ◌+◌, ◌<◌, ◌≤◌, List, [], ◌∷◌, ◌++◌, None, Option, Some, length, get_or, drop, map, ap, sym, refl, ◌∙◌, arith, subst, inl, inr, true, false, zero, suc}
-use Rattle.std.specs.Prelude.{All, IfSome, IsSome, filter, option_and_then, option_map, position, slice_get, unwrap_or, ◌==◌}
+use Rattle.std.proofs.Common.{◌≡◌, ◌≢◌, ℕ, ◌+◌, ◌<◌, ◌≤◌, List, [], ◌∷◌, ◌++◌, None, Option, Some, length, get_or, drop, map, ap, sym, refl, ◌∙◌, arith, subst, inl, inr, true, false, zero, suc, All, IfSome, IsSome, filter, option_and_then, option_map, position, slice_get, unwrap_or, ◌==◌}
 use Rattle.std.specs.List.{range_with_len}
 use Rattle.std.proofs.lemmas.Bool.{cases_eq, cond-false, eq-eqb, eqb-true, false≢true, ne_eqb}
-use Rattle.std.proofs.lemmas.List.Elements.{All-append, All-cons, All-filter, All-head, All-map, All-nil, filter_passes}
+use Rattle.std.proofs.lemmas.List.Elements.{All-cons, All-filter, All-head, All-map, All-nil, filter_passes}
 use Rattle.std.proofs.lemmas.List.FromFn.{get_or-range_with_len, length-range_with_len}
 use Rattle.std.proofs.lemmas.List.Sums.{length-filter}
 use Rattle.std.proofs.lemmas.Option.{none-some}
 use Rattle.unixmodel.specs.Files.{Entry, Files, Node, dot, dot_dot, entry_number, find, follow, has_name, is_directory, live_places, lookup, parts, slot, taken}
-use Rattle.unixmodel.specs.Files.Node.{Device, Directory, File}
-use Rattle.unixmodel.specs.Image.{all_entries, entries_of, is_directory_at, names_number, names_of, parent_of, subdirectories}
+use Rattle.unixmodel.specs.Files.Node.{Directory}
+use Rattle.unixmodel.specs.Image.{all_entries, entries_of, is_directory_at, names_number, names_of, parent_of, subdirectories, is_name}
 use Rattle.imagecheck.specs.Entries.{Holds}
 use Rattle.imagerules.specs.Places.{EntriesAt, FitsEntries, HasEntries, HasLinks, IsReached, LinksAt}
 use Rattle.imagecheck.specs.Reach.{Climbs, ancestor}
 use Rattle.imagerules.proofs.Denoting.{below-slot}
 use Rattle.imagerules.proofs.Lists.{All-flat_map, All-from_flat_map, All-from_map, All-from_passing}
-use Rattle.imagecheck.proofs.Paths.{IsName, behind_dots, each_named, find-parts, first_named, first_named-is, follow-append, holds_named, holds_taken, name_no_dot, parts-path, path_of}
+use Rattle.imagerules.proofs.Paths.{IsGiven-name, find-empty, find-root, find-slash, first_named, first_named-is}
+use Rattle.imagecheck.proofs.Paths.{behind_dots, each_named, holds_named, holds_taken}
 
 -- ---- an entry leads from its directory to its number
 
 pub record Leads (files : Files) (x : ℕ × Entry) : Type 0 where
   pub found : lookup files x.0 x.1.name ≡ Some x.1.number
-  pub name : IsName x.1.name
+  pub name : is_name x.1.name ≡ true
   pub directory : is_directory_at files x.0 ≡ true
 
 live : (links : ℕ) (places : List (Option Entry)) (n : ℕ) → links ≡ 1 + n → live_places (Some (Directory links places)) ≡ Some places
@@ -30,17 +30,15 @@ live (suc links) places n h = refl
 
 leads_from : (files : Files) (d : ℕ) (o : Option Node) → slot files d ≡ o → EntriesAt files d o → LinksAt files d o → All (λ e. Leads files (d, e)) (entries_of o)
 unfolding lookup
-leads_from files d None at e l = All-nil (λ e. Leads files (d, e))
-leads_from files d (Some (File links bytes)) at e l = All-nil (λ e. Leads files (d, e))
-leads_from files d (Some (Device links major minor)) at e l = All-nil (λ e. Leads files (d, e))
 leads_from files d (Some (Directory links places)) at e l = λ k x m.
     let entry = get_or (taken (drop 2 places)) k x in
     record {
       found = ap (option_and_then (λ ps. entry_number (option_and_then (slot ps) (position (has_name entry.name) ps)))) (ap live_places at ∙ live links places (subdirectories files d) l)
-          ∙ ap entry_number (first_named-is entry.name places ∙ behind_dots entry.name places d (parent_of files d) e.own e.parent (name_no_dot entry.name (e.names k x m)) ∙ each_named (drop 2 places) e.once k x m);
+          ∙ ap entry_number (first_named-is entry.name places ∙ behind_dots entry.name places d (parent_of files d) e.own e.parent (IsGiven-name entry.name (e.names k x m)).no_dots ∙ each_named (drop 2 places) e.once k x m);
       name = e.names k x m;
       directory = ap (λ o. unwrap_or (option_map is_directory o) false) at;
     }
+leads_from files d o at e l = All-nil (λ e. Leads files (d, e))
 
 all_lead : (files : Files) → HasEntries files → HasLinks files → All (Leads files) (all_entries files)
 unfolding all_entries
@@ -52,9 +50,8 @@ all_lead files entries links =
 -- what is in use, the root aside, has a name
 some_name : (files : Files) (n : ℕ) (o : Option Node) → EntriesAt files n o → LinksAt files n o → IsSome o → n ≢ 1 → 1 ≤ names_of files n
 some_name files n None e l used other = absurd (false≢true used)
-some_name files n (Some (File links bytes)) e l used other = let a = l.0 in let b = l.1 in omega arith
-some_name files n (Some (Device links major minor)) e l used other = let a = l.0 in let b = l.1 in omega arith
 some_name files n (Some (Directory links places)) e l used other = let a = e.named ∙ cond-false (n == 1) 0 1 (ne_eqb n 1 other) in omega arith
+some_name files n o e l used other = let a = l.0 in let b = l.1 in omega arith
 
 first_leads : (files : Files) (n : ℕ) (xs : List (ℕ × Entry)) → 1 ≤ length xs → All (Leads files) xs → All (λ x. names_number n x ≡ true) xs
     → (e : Entry) × (e.number ≡ n) × Leads files (unwrap_or (option_map (λ (x : ℕ × Entry). x.0) (slice_get xs 0)) 0, e)
@@ -80,33 +77,24 @@ used_from None h = absurd (false≢true h)
 used_from (Some node) h = refl
 
 module _ (files : Files) (entries : HasEntries files) (links : HasLinks files) where
-  names_to : (k n : ℕ) → ancestor files k n ≡ 1 → IsSome (slot files n) → (names : List (List ℕ)) × All IsName names × (follow files 1 names ≡ Some n)
-  names_to zero n h used = ([], All-nil IsName, ap Some (sym h))
-  names_to (suc k) n h used = elim (cases_eq n 1) [
-    | inl root ↦ ([], All-nil IsName, ap Some (sym root))
+  path_to : (k n : ℕ) → ancestor files k n ≡ 1 → IsSome (slot files n) → (path : List ℕ) × (find files 1 path ≡ Some n)
+  path_to zero n h used = ([], find-empty files ∙ ap Some (sym h))
+  path_to (suc k) n h used = elim (cases_eq n 1) [
+    | inl root ↦ ([], find-empty files ∙ ap Some (sym root))
     | inr other ↦
         let lead = parent_leads files entries links n used other in
-        let way = names_to k (parent_of files n) h (used_from (slot files (parent_of files n)) lead.2.directory) in (
-          way.0 ++ lead.0.name ∷ [],
-          All-append IsName way.0 (lead.0.name ∷ []) way.1 (All-cons IsName lead.0.name [] lead.2.name (All-nil IsName)),
-          follow-append files 1 way.0 (lead.0.name ∷ []) ∙ ap (option_and_then (λ m. follow files m (lead.0.name ∷ []))) way.2
-              ∙ ap (option_and_then (λ m. follow files m [])) lead.2.found ∙ ap Some lead.1,
-        )
+        let way = path_to k (parent_of files n) h (used_from (slot files (parent_of files n)) lead.2.directory) in
+        (way.0 ++ 0x2f ∷ lead.0.name, find-slash files way.0 lead.0.name (parent_of files n) n lead.2.name way.1 (lead.2.found ∙ ap Some lead.1))
   ]
-
-  path_to : (n : ℕ) → Climbs files n → IsSome (slot files n) → (path : List ℕ) × (find files 1 path ≡ Some n)
-  path_to n climbs used =
-      let way = names_to climbs.steps n climbs.root used in
-      (path_of way.0, find-parts files (path_of way.0) ∙ ap (follow files 1) (parts-path way.0 way.1) ∙ way.2)
 
   -- where each directory climbs to the root, all is reached from there
   pub IsReached-from : ((n : ℕ) → is_directory_at files n ≡ true → Climbs files n) → IsReached files
   IsReached-from climbs n used = elim (cases_eq n 1) [
-    | inl root ↦ path_to n (record { steps = 0; root = root }) used
+    | inl root ↦ path_to 0 n root used
     | inr other ↦
         let lead = parent_leads files entries links n used other in
         let above = climbs (parent_of files n) lead.2.directory in
-        path_to n (record { steps = suc above.steps; root = above.root }) used
+        path_to (suc above.steps) n above.root used
   ]
 
 -- ---- from a path to a chain of parents
@@ -142,10 +130,8 @@ all_alone (x ∷ []) h = All-cons (λ (y : ℕ × Entry). x.0 ≡ y.0) x [] refl
 all_alone (x ∷ y ∷ ys) h = absurd (omega arith)
 
 directory_named : (files : Files) (n : ℕ) (o : Option Node) → EntriesAt files n o → unwrap_or (option_map is_directory o) false ≡ true → n ≢ 1 → names_of files n ≡ 1
-directory_named files n None e h other = absurd (false≢true h)
-directory_named files n (Some (File links bytes)) e h other = absurd (false≢true h)
-directory_named files n (Some (Device links major minor)) e h other = absurd (false≢true h)
 directory_named files n (Some (Directory links places)) e h other = e.named ∙ cond-false (n == 1) 0 1 (ne_eqb n 1 other)
+directory_named files n o e h other = absurd (false≢true h)
 
 module _ (files : Files) (entries : HasEntries files) where
   -- the directory that names a directory is its parent
@@ -182,16 +168,13 @@ module _ (files : Files) (entries : HasEntries files) where
 
   step_climbs : (d : ℕ) (w : List ℕ) (o : Option Node) → slot files d ≡ o → EntriesAt files d o → IsClimber files d
       → IfSome (option_and_then (λ places. entry_number (option_and_then (slot places) (position (has_name w) places))) (live_places o)) (IsClimber files)
-  step_climbs d w None at e h = tt
-  step_climbs d w (Some (File links bytes)) at e h = tt
-  step_climbs d w (Some (Device links major minor)) at e h = tt
-  step_climbs d w (Some (Directory zero places)) at e h = tt
   step_climbs d w (Some (Directory (suc links) places)) at e h =
       let P = λ (e : Entry). IsClimber files e.number in
       let climbs = h (ap (λ o. unwrap_or (option_map is_directory o) false) at) in
       let within = below-slot files d (used_from (slot files d) (ap (λ o. unwrap_or (option_map is_directory o) false) at)) in
       subst (λ r. IfSome (entry_number r) (IsClimber files)) (sym (first_named-is w places))
       (number_climbs (first_named w places) (holds_named P w places (places_climb d within climbs places e (subst (λ o. All P (entries_of o)) at (entries_climb d within climbs)))))
+  step_climbs d w o at e h = tt
 
   lookup_climbs : (d : ℕ) (w : List ℕ) → IsClimber files d → IfSome (lookup files d w) (IsClimber files)
   unfolding lookup
@@ -210,4 +193,4 @@ module _ (files : Files) (entries : HasEntries files) where
   pub Climbs-reached : IsReached files → (n : ℕ) → is_directory_at files n ≡ true → Climbs files n
   Climbs-reached reached n directory =
       let path = reached n (used_from (slot files n) directory) in
-      subst (λ o. IfSome o (IsClimber files)) (sym (find-parts files path.0) ∙ path.1) (follow_climbs (parts path.0) 1 (λ _. record { steps = 0; root = refl })) directory
+      subst (λ o. IfSome o (IsClimber files)) (sym (find-root files path.0) ∙ path.1) (follow_climbs (parts path.0) 1 (λ _. record { steps = 0; root = refl })) directory

@@ -1,6 +1,5 @@
 -- What a result of a pass tells, from what the pass before it tells.
-use Rattle.std.proofs.Common.{Err, List, Ok, Result, length, ℕ, ◌≡◌, ◌≤◌, ap, arith, subst, sym, ◌∙◌}
-use Rattle.std.specs.Prelude.{IfErr, IfOk, IsErrOf, OnOk}
+use Rattle.std.proofs.Common.{Err, List, Ok, Result, length, ℕ, ◌≡◌, ◌≤◌, ap, arith, subst, sym, ◌∙◌, IfErr, IfOk, IsErrOf, OnOk}
 use Rattle.unixmodel.specs.Failures.{Rises}
 use Rattle.unixmodel.specs.Files.{Files}
 use Rattle.unixmodel.specs.Image.{Denotes, named_blocks, numbers_in_use}
@@ -40,19 +39,8 @@ refused-from image (Err fault) h = λ i files d. Tells-not image files fault i h
 
 -- a pass over an image tells what it finds, and blames no device
 pub Finds-told : (image : List ℕ) (fault : ImageFault) → Finds image fault → Tells image fault
-Finds-told image Length h = h
-Finds-told image Magic h = h
-Finds-told image Numbers h = h
-Finds-told image NodeType h = h
-Finds-told image Size h = h
-Finds-told image Address h = h
-Finds-told image SharedBlock h = h
-Finds-told image Bitmap h = h
-Finds-told image Entry h = h
-Finds-told image Links h = h
-Finds-told image Unreached h = h
 Finds-told image Device h = absurd h
-Finds-told image NoMemory h = h
+Finds-told image fault h = h
 
 pub Finds-not_device : {T : Type 0} (image : List ℕ) (r : Result T ImageFault) → IfErr r (Finds image) → IsErrOf r Device → ⊥
 Finds-not_device image r h told = subst (λ x. IfErr x (Finds image)) told h

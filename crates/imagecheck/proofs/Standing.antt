@@ -1,8 +1,7 @@
 -- What holds of each number of the files of an image, type by type, and so the rules of entries and of links.
-use Rattle.std.proofs.Common.{◌≡◌, ◌≢◌, ℕ, ◌<◌, ◌≤◌, Bool, List, None, Option, Some, ap, sym, refl, ◌∙◌, arith, subst, cond, inl, inr, true, false}
-use Rattle.std.specs.Prelude.{IsSome, nat_eq, option_map, unwrap_or, ◌==◌}
+use Rattle.std.proofs.Common.{◌≡◌, ◌≢◌, ℕ, ◌<◌, ◌≤◌, Bool, List, None, Option, Some, ap, sym, refl, ◌∙◌, arith, subst, cond, inl, inr, true, false, IsSome, nat_eq, option_map, unwrap_or, ◌==◌}
 use Rattle.std.proofs.lemmas.Bool.{cases_eq, cases_lt, eq-eqb, ne_eqb}
-use Rattle.unixmodel.specs.Files.{Node, is_directory, slot}
+use Rattle.unixmodel.specs.Files.{Node, is_directory, slot, most_links}
 use Rattle.unixmodel.specs.Files.Node.{Device, Directory, File}
 use Rattle.unixmodel.specs.Image.{contents_in, inodes_in, is_directory_at, kind_in, links_in, major_in, minor_in, names_of, subdirectories}
 use Rattle.imagecheck.specs.Entries.{AreNamed, HasFronts, NamesDirectories}
@@ -86,17 +85,11 @@ LinksFit image n = FitsLinks (kind_in image n) (links_in image n) (names_of (fil
 
 pub HasLinks-from : (image : List ℕ) → HasBlocks image → ((n : ℕ) → 1 ≤ n → n < inodes_in image → LinksFit image n) → HasLinks (files_in image)
 HasLinks-from image b h =
-    stands_each image b (LinksAt (files_in image)) (λ n. tt) (λ n low high e. (h n low high).directory e)
-    (λ n low high e.
-    let fits = h n low high in
-    let used : kind_in image n ≢ 0 = λ z. absurd (omega arith) in
-    let other : kind_in image n ≢ 1 = λ z. absurd (omega arith) in
-    (fits.counted used other, fits.least used other, fits.most used other))
-    (λ n low high e.
-    let fits = h n low high in
-    let used : kind_in image n ≢ 0 = λ z. absurd (omega arith) in
-    let other : kind_in image n ≢ 1 = λ z. absurd (omega arith) in
-    (fits.counted used other, fits.least used other, fits.most used other))
+    stands_each image b (LinksAt (files_in image)) (λ n. tt) (λ n low high e. (h n low high).directory e) (λ n low high e. named n low high (λ z. absurd (omega arith)) (λ z. absurd (omega arith)))
+    (λ n low high e. named n low high (λ z. absurd (omega arith)) (λ z. absurd (omega arith)))
+  where
+    named : (n : ℕ) → 1 ≤ n → n < inodes_in image → kind_in image n ≢ 0 → kind_in image n ≢ 1 → (links_in image n ≡ names_of (files_in image) n) × (1 ≤ links_in image n) × (links_in image n ≤ most_links)
+    named n low high used other = let fits = h n low high in (fits.counted used other, fits.least used other, fits.most used other)
 
 pub FitsLinks-same : (k l n s k' l' n' s' : ℕ) → k ≡ k' → l ≡ l' → n ≡ n' → s ≡ s' → FitsLinks k l n s → FitsLinks k' l' n' s'
 FitsLinks-same k l n s k' l' n' s' a b c d h =

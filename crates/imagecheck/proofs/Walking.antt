@@ -1,6 +1,5 @@
 -- Walks up from directories, which mark whom they meet.
-use Rattle.std.proofs.Common.{◌≡◌, ◌≢◌, ℕ, ◌+◌, ◌<◌, ◌≤◌, List, length, get_or, replicate, set, ap, sym, ◌∙◌, arith, subst, cond, inl, inr, zero, suc}
-use Rattle.std.specs.Prelude.{count_by, slice_index, ◌==◌, ◌⊎◌}
+use Rattle.std.proofs.Common.{◌≡◌, ◌≢◌, ℕ, ◌+◌, ◌<◌, ◌≤◌, List, length, get_or, replicate, set, ap, sym, ◌∙◌, arith, subst, cond, inl, inr, zero, suc, count_by, slice_index, ◌==◌, ◌⊎◌}
 use Rattle.std.proofs.lemmas.Bool.{cases_eq, cases_lt, cond-false, cond-true, eq-eqb, ne_eqb}
 use Rattle.std.proofs.lemmas.List.{get_or-replicate, get_or-set_other, get_or-set_same, get_or_past, length-replicate}
 use Rattle.std.proofs.lemmas.List.Sums.{sum_by-set}

@@ -26,32 +26,11 @@ Tells image NoMemory = ⊤
 
 -- the fault that a pass over an image in memory finds: one of the image, or that memory ran out
 abbrev pub Finds : List ℕ → ImageFault → Type 0
-Finds image Length = Tells image Length
-Finds image Magic = Tells image Magic
-Finds image Numbers = Tells image Numbers
-Finds image NodeType = Tells image NodeType
-Finds image Size = Tells image Size
-Finds image Address = Tells image Address
-Finds image SharedBlock = Tells image SharedBlock
-Finds image Bitmap = Tells image Bitmap
-Finds image Entry = Tells image Entry
-Finds image Links = Tells image Links
-Finds image Unreached = Tells image Unreached
 Finds image Device = ⊥
-Finds image NoMemory = ⊤
+Finds image fault = Tells image fault
 
 -- the fault is one of the image, and not of the device or of memory
 abbrev pub IsOfImage : ImageFault → Type 0
-IsOfImage Length = ⊤
-IsOfImage Magic = ⊤
-IsOfImage Numbers = ⊤
-IsOfImage NodeType = ⊤
-IsOfImage Size = ⊤
-IsOfImage Address = ⊤
-IsOfImage SharedBlock = ⊤
-IsOfImage Bitmap = ⊤
-IsOfImage Entry = ⊤
-IsOfImage Links = ⊤
-IsOfImage Unreached = ⊤
 IsOfImage Device = ⊥
 IsOfImage NoMemory = ⊥
+IsOfImage fault = ⊤

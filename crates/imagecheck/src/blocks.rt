@@ -1,17 +1,18 @@
 //! The blocks that inodes name.
 
-ghost use Rattle.std.specs.Prelude.{◌≡◌, ◌≢◌, ℕ, ◌+◌, ◌-◌, ◌*◌, ◌/◌, ◌%◌, ◌<◌, ◌≤◌, ◌⊎◌, ◌++◌, nat_le, nat_lt, ◌&&◌, length, take, All, IsTrue};
+ghost use Rattle.std.specs.Prelude.{◌≡◌, ◌≢◌, ℕ, ◌+◌, ◌-◌, ◌*◌, ◌/◌, ◌%◌, ◌<◌, ◌≤◌, ◌⊎◌, ◌++◌, nat_le, nat_lt, ◌&&◌, ◌==◌, length, take, All, IsTrue};
 ghost use Rattle.std.specs.Bool.{OnTrue, OnFalse};
+ghost use Rattle.std.specs.List.{list_all};
 ghost use Rattle.unixmodel.specs.Numbers.{ceil_div};
-ghost use Rattle.unixmodel.specs.Image.{numbers_at, data_start, count_in, kind_in, length_in, needs_indirect, indirect_in, is_data_block, direct_in, index_in};
+ghost use Rattle.unixmodel.specs.Image.{numbers_at, data_start, count_in, kind_in, length_in, named_by, needs_indirect, indirect_in, is_data_block, direct_in, index_in};
 ghost use Rattle.imagerules.specs.Fields.{HasGeometry, HasInode, is_data_in};
 ghost use Rattle.imagerules.specs.Pieces.{HasSizes, HasAddresses, FitsAddresses, fits_indirect};
 
 use crate::fields::{indirect, inode_place, kind, size};
 use layout::Geometry;
 
-// The numbers in an inode and in its indirect block.
-pub const MOST: usize = 12 + 256;
+// The blocks that an inode can name: those whose numbers stand in it and in its indirect block, and that block.
+pub const MOST: usize = 12 + 256 + 1;
 
 // Reads numbers of four bytes that stand one after the other from a place on.
 fn read_numbers(image: &[u8], at: usize, numbers: &mut [u32])
@@ -46,9 +47,25 @@ pub fn block_numbers(image: &[u8], n: usize, numbers: &mut [u32; MOST]) -> usize
     read_numbers(
         image,
         1024 * indirect(image, n) as usize,
-        &mut numbers[12..],
+        &mut numbers[12..268],
     );
-    MOST
+    268
+}
+
+// Reads the numbers of all blocks that an inode names, and tells how many these are.
+pub fn named(image: &[u8], n: usize, numbers: &mut [u32; MOST]) -> usize
+    requires inode { HasInode image.now n }
+    requires index { IsTrue (needs_indirect image.now n) → 1024 * indirect_in image.now n + 1024 ≤ length image.now }
+    ensures blocks { take result numbers.new ≡ named_by image.now n }
+    ensures most { result ≤ 269 }
+{
+    block_numbers(image, n, numbers);
+    let count = block_count(image, n);
+    if count <= 12 {
+        return count;
+    }
+    numbers[count] = indirect(image, n);
+    count + 1
 }
 
 // Whether the block is a data block.
@@ -64,28 +81,18 @@ fn is_data(geometry: Geometry, block: usize) -> bool
 fn are_data(geometry: Geometry, numbers: &[u32]) -> bool
     requires inodes { geometry.inodes ≤ 8192 }
     requires size { geometry.size ≤ 16384 }
-    ensures good { OnTrue result (All (λ b. IsTrue (is_data_in geometry b)) numbers.now) }
-    ensures bad { OnFalse result (All (λ b. IsTrue (is_data_in geometry b)) numbers.now → ⊥) }
+    ensures { result ≡ list_all (is_data_in geometry) numbers.now }
 {
-    for number in numbers {
-        if !is_data(geometry, *number as usize) {
-            return false;
-        }
-    }
-    true
+    numbers
+        .iter()
+        .all(|number| is_data(geometry, *number as usize))
 }
 
 // Whether all these numbers are 0.
 fn are_zero(numbers: &[u32]) -> bool
-    ensures good { OnTrue result (All (λ b. b ≡ 0) numbers.now) }
-    ensures bad { OnFalse result (All (λ b. b ≡ 0) numbers.now → ⊥) }
+    ensures { result ≡ list_all (λ b. b == 0) numbers.now }
 {
-    for number in numbers {
-        if *number != 0 {
-            return false;
-        }
-    }
-    true
+    numbers.iter().all(|number| *number == 0)
 }
 
 // Whether the indirect number of an inode is a data block where its size needs one, and else 0.

@@ -25,12 +25,7 @@ pub fn place(bytes: &[u8], k: usize) -> &[u8]
 pub fn is_zero(bytes: &[u8]) -> bool
     ensures { result ≡ list_all (λ b. b == 0) bytes.now }
 {
-    for byte in bytes {
-        if *byte != 0 {
-            return false;
-        }
-    }
-    true
+    bytes.iter().all(|byte| *byte == 0)
 }
 
 // The bytes before the zeros at the end.

@@ -3,6 +3,7 @@
 ghost use Rattle.std.specs.Prelude.{◌≡◌, ℕ, ◌+◌, ◌*◌, ◌/◌, ◌%◌, ◌<◌, ◌≤◌, length};
 ghost use Rattle.unixmodel.specs.Numbers.{number_at};
 ghost use Rattle.unixmodel.specs.Image.{inode_at, kind_in, links_in, length_in, indirect_in};
+ghost use Rattle.imagerules.specs.Fields.{HasPlace};
 
 use byteorder::{ByteOrder, LittleEndian};
 
@@ -32,8 +33,7 @@ pub fn inode_place(n: usize) -> usize
 
 // The type of an inode: 0 free, 1 directory, 2 file, 3 device.
 pub fn kind(image: &[u8], n: usize) -> u16
-    requires number { n < 8192 }
-    requires inside { inode_at n + 64 ≤ length image.now }
+    requires { HasPlace image.now n }
     ensures { result ≡ kind_in image.now n }
 {
     number16(image, inode_place(n))
@@ -41,8 +41,7 @@ pub fn kind(image: &[u8], n: usize) -> u16
 
 // How many names an inode says that it has.
 pub fn links(image: &[u8], n: usize) -> u16
-    requires number { n < 8192 }
-    requires inside { inode_at n + 64 ≤ length image.now }
+    requires { HasPlace image.now n }
     ensures { result ≡ links_in image.now n }
 {
     number16(image, inode_place(n) + 6)
@@ -50,8 +49,7 @@ pub fn links(image: &[u8], n: usize) -> u16
 
 // The size of an inode in bytes.
 pub fn size(image: &[u8], n: usize) -> u32
-    requires number { n < 8192 }
-    requires inside { inode_at n + 64 ≤ length image.now }
+    requires { HasPlace image.now n }
     ensures { result ≡ length_in image.now n }
 {
     number32(image, inode_place(n) + 8)
@@ -59,8 +57,7 @@ pub fn size(image: &[u8], n: usize) -> u32
 
 // The number of the block that holds the numbers past the twelfth.
 pub fn indirect(image: &[u8], n: usize) -> u32
-    requires number { n < 8192 }
-    requires inside { inode_at n + 64 ≤ length image.now }
+    requires { HasPlace image.now n }
     ensures { result ≡ indirect_in image.now n }
 {
     number32(image, inode_place(n) + 60)

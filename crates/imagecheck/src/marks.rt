@@ -8,8 +8,8 @@ ghost use Rattle.imagerules.specs.Fields.{HasGeometry};
 ghost use Rattle.imagerules.specs.Marks.{HasMarks, IsOnce, blocks_of};
 ghost use Rattle.imagerules.specs.Pieces.{HasSizes, HasAddresses, NamesOnce, HasBitmap};
 
-use crate::blocks::{MOST, block_count, block_numbers};
-use crate::fields::{indirect, kind};
+use crate::blocks::{MOST, named};
+use crate::fields::kind;
 use layout::Geometry;
 
 // Marks a block, and tells whether it had no mark.
@@ -52,15 +52,8 @@ fn mark_inode(image: &[u8], geometry: Geometry, n: usize, marks: &mut [bool]) ->
         return true;
     }
     let mut numbers = [0; MOST];
-    block_numbers(image, n, &mut numbers);
-    let count = block_count(image, n);
-    if !mark_all(marks, &numbers[..count]) {
-        return false;
-    }
-    if count <= 12 {
-        return true;
-    }
-    mark(marks, indirect(image, n) as usize)
+    let count = named(image, n, &mut numbers);
+    mark_all(marks, &numbers[..count])
 }
 
 // Marks each block that an inode names, and tells whether none is named twice.

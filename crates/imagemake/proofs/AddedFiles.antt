@@ -1,8 +1,7 @@
 -- What the steps of an entry and of the root make of the files, and whether they have room.
-use Rattle.std.proofs.Common.{◌≡◌, ◌≢◌, ℕ, ◌<◌, ◌≤◌, Bool, Err, List, None, Ok, Result, Some, length, set, cond, true, false, zero, suc, ap, sym, refl, ◌∙◌, arith, subst, inl, inr}
-use Rattle.std.specs.Prelude.{MatchResult, nat_le, option_map, unwrap_or, ◌&&◌, ◌⊎◌}
+use Rattle.std.proofs.Common.{◌≡◌, ◌≢◌, ℕ, ◌<◌, ◌≤◌, Bool, Err, List, None, Ok, Result, Some, length, set, cond, true, false, ap, sym, refl, ◌∙◌, arith, subst, inl, inr, MatchResult, nat_le, option_map, unwrap_or, ◌&&◌, ◌⊎◌}
 use Rattle.std.proofs.lemmas.Bool.{le-leb, lt-leb, true≢false}
-use Rattle.std.proofs.lemmas.List.{get_or-set_other, get_or-replicate, length-replicate, length-set, length_push, set_comm}
+use Rattle.std.proofs.lemmas.List.{get_or-set_other, length-set, length_push, set_comm}
 use Rattle.std.proofs.lemmas.Option.{none-some}
 use Rattle.unixmodel.specs.Counts.{blocks_of}
 use Rattle.unixmodel.specs.Files.{Entry, Files, Node, blocks_for, free_slots, longest, put, size_of, slot}
@@ -15,8 +14,9 @@ use Rattle.imagemake.specs.declared.store.StoreFault.TheVariants.{Blocks, Device
 use Rattle.imagemake.specs.Added.{CanAdd, HasDirectory, IsPut, IsStored, LacksRoomFor, TellsFull}
 use Rattle.imagemake.specs.Stored.{Stores}
 use Rattle.imagemake.proofs.Storing.{blocks_of-set, length-stored, slot-within, unused-kind, used_by}
-use Rattle.imagemake.proofs.AddedBytes.{taken-grows}
 use Rattle.imagemake.proofs.AddedThings.{TellsFull-weaker, linked-size, slot-put}
+use Rattle.imagemake.proofs.MadeBare.{length-free, no-files, slot-free}
+use Rattle.imagemake.proofs.AddedNodes.{taken-grows}
 
 -- ---- three tests
 
@@ -142,25 +142,12 @@ directory-after g mid files d name n thing can stores = record {
 
 -- ---- the root
 
-no-files : (n : ℕ) → blocks_of (free_slots n) ≡ 0
-unfolding blocks_of free_slots
-no-files zero = refl
-no-files (suc n) = no-files n
-
-slot-free : (n i : ℕ) → i < n → slot (free_slots {X = Node} n) i ≡ None
-unfolding free_slots
-slot-free n i h = get_or-replicate n i None None h
-
-length-free : (n : ℕ) → length (free_slots {X = Node} n) ≡ n
-unfolding free_slots
-length-free n = length-replicate n None
-
 root-room : (g : Geometry) (blocks : List (List ℕ)) → Stores g blocks (free_slots g.inodes) → LacksRoomFor g (free_slots g.inodes) 1 (bare_directory 1 1) → ⊥
 root-room g blocks stores lacks =
     let room = stores.sound.parts.room in
     let many = stores.sound.parts.inodes_low in
     let set = blocks_of-set (free_slots g.inodes) 1 (Some (bare_directory 1 1)) (omega (arith, length-free g.inodes)) in
-    let none : used_by (slot (free_slots g.inodes) 1) ≡ 0 = ap used_by (slot-free g.inodes 1 (omega arith)) in
+    let none : used_by (slot (free_slots g.inodes) 1) ≡ 0 = ap used_by (slot-free g.inodes 1) in
     elim lacks [ inl long ↦ omega arith | inr full ↦ omega (arith, no-files g.inodes) ]
 
 pub unused-root : (g : Geometry) (blocks : List (List ℕ)) → Stores g blocks (free_slots g.inodes) → IsUnused g blocks 1
@@ -169,7 +156,7 @@ unused-root g blocks stores =
     record {
       low = omega arith;
       high = omega arith;
-      unused = unused-kind g blocks (free_slots g.inodes) stores 1 (omega arith) (omega arith) (slot-free g.inodes 1 (omega arith));
+      unused = unused-kind g blocks (free_slots g.inodes) stores 1 (omega arith) (omega arith) (slot-free g.inodes 1);
     }
 
 only-device : {P : Type 0} → (P → ⊥) → (told : StoreFault) → TellsFull P told → told ≡ Device

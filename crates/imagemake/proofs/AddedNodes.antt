@@ -1,18 +1,40 @@
 -- A step on the disk puts a node.
-use Rattle.std.proofs.Common.{◌≡◌, ℕ, ◌+◌, ◌<◌, ◌≤◌, List, ◌++◌, None, Option, Some, length, set, ap, sym, refl, ◌∙◌, arith, inl, inr}
-use Rattle.std.proofs.lemmas.List.{length-append}
+use Rattle.std.proofs.Common.{◌≡◌, ℕ, ◌+◌, ◌<◌, ◌≤◌, List, ◌++◌, None, Option, Some, length, set, ap, sym, refl, ◌∙◌, arith, inl, inr, length-append, ◌/◌, drop, subst, cond, nat_lt}
 use Rattle.unixmodel.specs.Files.{Files, Node, blocks_for, kind_of, links_of, longest, node_bytes, put, size_of, slot, with_links}
-use Rattle.unixmodel.specs.Files.Node.{Device, Directory, File}
+use Rattle.unixmodel.specs.Files.Node.{File}
 use Rattle.unixmodel.specs.Manifest.{Thing}
-use Rattle.unixmodel.specs.Manifest.Thing.{Bytes, Folder, Special}
+use Rattle.unixmodel.specs.Manifest.Thing.{Folder}
 use Rattle.layout.specs.declared.Geometry.{Geometry}
 use Rattle.layout.specs.Image.{RawNode, bytes_of, free_blocks, inode_at, nodes_of, taken_for}
 use Rattle.layout.specs.Sound.{IsSound}
 use Rattle.balloc.specs.Inodes.{IsUnused, fresh_node}
-use Rattle.inode.specs.Writing.{Wrote, node_linked}
+use Rattle.inode.specs.Writing.{Wrote, node_linked, IsFull}
 use Rattle.imagemake.specs.Added.{LacksRoomFor, Widens}
 use Rattle.imagemake.specs.Stored.{Stores, bare, major_of, minor_of, raw_of}
 use Rattle.imagemake.proofs.Storing.{Stores-put, blocks_of-set, held-bytes, held-inode, held-node, held-whole, length-stored, slot-within, used_by}
+use Rattle.std.proofs.lemmas.Bool.Decides.{nat_tests}
+use Rattle.std.proofs.lemmas.List.{append-nil, drop_all, take_all}
+use Rattle.blockdev.specs.Splice.{splice}
+
+pub splice-end : (at : ℕ) (bytes old : List ℕ) → at ≡ length old → splice at bytes old ≡ old ++ bytes
+splice-end at bytes old e =
+    ap (λ r. r ++ (bytes ++ drop (at + length bytes) old)) (take_all at old (omega arith))
+    ∙ ap (λ r. old ++ (bytes ++ r)) (drop_all (at + length bytes) old (omega arith))
+    ∙ ap (λ r. old ++ r) (append-nil bytes)
+
+pub taken-grows : (a b : ℕ) → a ≤ b → taken_for a ≤ taken_for b
+taken-grows a b h = go ((a + 1023) / 1024) ((b + 1023) / 1024) (omega arith) where
+  go : (x y : ℕ) → x ≤ y → x + cond (nat_lt 12 x) 1 0 ≤ y + cond (nat_lt 12 y) 1 0
+  go x y k = grind (arith, nat_tests)
+
+-- a write that isn't done wants more blocks than are free
+pub few-more : (g : Geometry) (old mid new : List (List ℕ)) (n at : ℕ) (bytes : List ℕ) (k : ℕ) → mid ≡ old → at ≡ length (bytes_of old n) → IsFull g mid new n at bytes k
+    → free_blocks g old + taken_for (length (bytes_of old n)) < taken_for (length (bytes_of old n) + length bytes)
+few-more g old mid new n at bytes k same e full =
+    let f : free_blocks g old + taken_for (length (bytes_of old n)) < taken_for (at + k + 1) = subst (λ b. free_blocks g b + taken_for (length (bytes_of b n)) < taken_for (at + k + 1)) same full.few in
+    let l = full.some_left in
+    let m = taken-grows (at + k + 1) (length (bytes_of old n) + length bytes) (omega arith) in
+    omega arith
 
 -- the same fields make the same node
 same-raw : {k k' a a' i i' l l' : ℕ} {b b' : List ℕ} → k ≡ k' → a ≡ a' → i ≡ i' → l ≡ l' → b ≡ b'
@@ -27,18 +49,15 @@ slot-unused g blocks files stores n free (Some node) e = absurd ((held-inode g b
 
 fresh-bare : (t : Thing) → fresh_node (kind_of (bare t)) (major_of (bare t)) (minor_of (bare t)) 1 ≡ raw_of (bare t)
 fresh-bare Folder = refl
-fresh-bare (Bytes bytes) = refl
-fresh-bare (Special major minor) = refl
+fresh-bare thing = refl
 
 bare-size : (t : Thing) → size_of (bare t) ≡ 0
 bare-size Folder = refl
-bare-size (Bytes bytes) = refl
-bare-size (Special major minor) = refl
+bare-size thing = refl
 
 bare-whole : (t : Thing) → length (node_bytes (bare t)) ≡ size_of (bare t)
 bare-whole Folder = refl
-bare-whole (Bytes bytes) = refl
-bare-whole (Special major minor) = refl
+bare-whole thing = refl
 
 bare-blocks : (size : ℕ) → size ≡ 0 → blocks_for size ≡ 0
 bare-blocks size e = ap blocks_for e
@@ -102,18 +121,15 @@ module _ (g : Geometry) (old new : List (List ℕ)) (n : ℕ) (bytes : List ℕ)
 
 raw-links : (node : Node) (k : ℕ) → raw_of (with_links node k) ≡ record { kind = kind_of node; major = major_of node; minor = minor_of node; links = k; bytes = node_bytes node }
 raw-links (File links bytes) k = refl
-raw-links (Device links major minor) k = refl
-raw-links (Directory links places) k = refl
+raw-links node k = refl
 
 pub links-size : (node : Node) (k : ℕ) → size_of (with_links node k) ≡ size_of node
 links-size (File links bytes) k = refl
-links-size (Device links major minor) k = refl
-links-size (Directory links places) k = refl
+links-size node k = refl
 
 links-bytes : (node : Node) (k : ℕ) → node_bytes (with_links node k) ≡ node_bytes node
 links-bytes (File links bytes) k = refl
-links-bytes (Device links major minor) k = refl
-links-bytes (Directory links places) k = refl
+links-bytes node k = refl
 
 pub Stores-linked : (g : Geometry) (old new : List (List ℕ)) (n k : ℕ) → IsSound g new
     → nodes_of new g.inodes ≡ set (nodes_of old g.inodes) n (Some (node_linked (inode_at old n) k (bytes_of old n))) → free_blocks g new ≡ free_blocks g old → k ≡ (inode_at old n).links + 1

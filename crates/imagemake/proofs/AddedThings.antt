@@ -1,6 +1,5 @@
 -- What the steps that put a thing and its name make of the files.
-use Rattle.std.proofs.Common.{◌≡◌, ℕ, ◌+◌, ◌-◌, ◌<◌, ◌≤◌, List, [], ◌∷◌, ◌++◌, None, Ok, Result, Some, length, replicate, set, ap, sym, refl, ◌∙◌, arith, subst, inl, inr}
-use Rattle.std.specs.Prelude.{IsTrue, MatchResult, flat_map, ◌⊎◌}
+use Rattle.std.proofs.Common.{◌≡◌, ℕ, ◌+◌, ◌-◌, ◌<◌, ◌≤◌, List, [], ◌∷◌, ◌++◌, None, Ok, Result, Some, length, replicate, set, ap, sym, refl, ◌∙◌, arith, subst, inl, inr, IsTrue, MatchResult, flat_map, ◌⊎◌}
 use Rattle.std.proofs.lemmas.Bool.{false≢true}
 use Rattle.std.proofs.lemmas.List.{flat_map_more, get_or-set_same, length-append, length-replicate, length_push, set-set}
 use Rattle.unixmodel.specs.Counts.{blocks_of}
@@ -64,13 +63,11 @@ wide-name e (Directory links places) bytes is short directory whole =
 
 pub appended-links : (e : Entry) (node : Node) → links_of (appended e node) ≡ links_of node
 appended-links e (File links bytes) = refl
-appended-links e (Device links major minor) = refl
-appended-links e (Directory links places) = refl
+appended-links e node = refl
 
 pub linked-size : (t : Thing) (node : Node) → size_of (linked t node) ≡ size_of node
 linked-size Folder node = links-size node (links_of node + 1)
-linked-size (Bytes bytes) node = refl
-linked-size (Special major minor) node = refl
+linked-size thing node = refl
 
 pub TellsFull-weaker : {P Q : Type 0} → (P → Q) → (told : StoreFault) → TellsFull P told → TellsFull Q told
 TellsFull-weaker f fault.Blocks h = f h

@@ -1,6 +1,5 @@
 -- Lists of blocks that are made of lists, one for each number of a range.
-use Rattle.std.proofs.Common.{◌≡◌, ◌≢◌, ℕ, ◌+◌, ◌-◌, ◌<◌, ◌≤◌, Bool, List, ◌++◌, length, get_or, ap, sym, refl, ◌∙◌, arith, subst, inl, inr, zero, suc, true}
-use Rattle.std.specs.Prelude.{All, flat_map}
+use Rattle.std.proofs.Common.{◌≡◌, ◌≢◌, ℕ, ◌+◌, ◌-◌, ◌<◌, ◌≤◌, Bool, List, ◌++◌, length, get_or, ap, sym, refl, ◌∙◌, arith, subst, inl, inr, zero, suc, true, All, flat_map}
 use Rattle.std.specs.List.{list_any, range_with_len}
 use Rattle.std.proofs.lemmas.Bool.{cases_eq, cases_lt, or_left, or_right}
 use Rattle.std.proofs.lemmas.List.{get_or-append_right, get_or_append_left, length-append}

@@ -1,8 +1,6 @@
 -- An entry is put on a disk.
-use Rattle.std.proofs.Common.{◌≡◌, ℕ, ◌+◌, ◌*◌, ◌<◌, ◌≤◌, List, [], ◌∷◌, ◌++◌, None, Option, Some, Ok, Err, Result, length, drop, inl, inr, ap, sym, refl, ◌∙◌, arith, subst}
-use Rattle.std.specs.Prelude.{IsSome, is_some}
-use Rattle.std.proofs.lemmas.Bool.{cases_lt, false≢true}
-use Rattle.std.proofs.lemmas.List.{get_or_past, length-drop, length_push}
+use Rattle.std.proofs.Common.{◌≡◌, ℕ, ◌+◌, ◌*◌, ◌<◌, ◌≤◌, List, [], ◌∷◌, ◌++◌, None, Option, Some, Ok, Err, Result, length, drop, ap, sym, refl, ◌∙◌, arith, subst}
+use Rattle.std.proofs.lemmas.List.{length-drop, length_push}
 use Rattle.std.proofs.lemmas.List.Sums.{count_by-le-length}
 use Rattle.unixmodel.specs.Files.{Entry, Files, is_directory, longest, slot, taken}
 use Rattle.unixmodel.specs.Files.Node.{Directory}
@@ -10,17 +8,18 @@ use Rattle.unixmodel.specs.Image.{KeepsNode, KeepsRules, KeepsSize, entries_of, 
 use Rattle.unixmodel.specs.Manifest.{ManifestEntry, Thing, added, data_blocks_of, if_room, node_for, with_manifest_entry}
 use Rattle.layout.specs.declared.Geometry.{Geometry}
 use Rattle.imagemake.specs.Added.{CanAdd, IsStored}
-use Rattle.imagemake.specs.Begins.{AddsEntry, IsMade, IsSpot, listing, make_fault}
+use Rattle.imagemake.specs.Begins.{AddsEntry, IsMade, IsSpot, make_fault}
 use Rattle.imagemake.specs.Begun.{IsBegun}
 use Rattle.imagemake.specs.Stored.{Stores}
 use Rattle.imagemake.specs.Made.{MadeName}
 use Rattle.imagemake.specs.Making.{Refuses}
 use Rattle.imagemake.specs.declared.store.StoreFault.{StoreFault}
 use Rattle.imagemake.specs.declared.store.StoreFault.TheVariants.{Blocks, Device}
-use Rattle.imagemake.proofs.MadeEntry.{Adds-added, directory-at}
-use Rattle.imagemake.proofs.MadeFiles.{IsBegun-entry}
+use Rattle.imagemake.proofs.MadeEntry.{directory-at}
+use Rattle.imagemake.proofs.MadeFiles.{IsBegun-more, adds-more}
 use Rattle.imagemake.proofs.MadeSearch.{IsListed-more}
-use Rattle.imagemake.proofs.Spotting.{folder-made, spot-good, spot-room}
+use Rattle.imagemake.proofs.Spotting.{spot-good, spot-room}
+use Rattle.imagerules.proofs.Denoting.{below-slot}
 
 -- ---- how many there are
 
@@ -39,14 +38,11 @@ few-links files d links places rules at =
     let e : length (entries_of (slot files d)) ≡ length (taken (drop 2 places)) = ap (λ o. length (entries_of o)) at in
     omega (arith, length-taken (drop 2 places), length-drop 2 places)
 
-within : (files : Files) (n : ℕ) → IsSome (slot files n) → n < length files
-within files n some = elim (cases_lt n (length files)) [ inl l ↦ l | inr m ↦ absurd (false≢true (sym (ap is_some (get_or_past files n None m)) ∙ some)) ]
-
 module _ (g : Geometry) (blocks : List (List ℕ)) (made : List MadeName) (files : Files) (is : IsMade g blocks made files) where
   pub made-inodes : length made + 2 ≤ g.inodes
   made-inodes =
       let count : length files ≡ g.inodes = is.begun.count in
-      let last : length made + 1 < length files = within files (length made + 1) (is.begun.used (length made + 1) (omega arith) (omega arith)) in
+      let last : length made + 1 < length files = below-slot files (length made + 1) (is.begun.used (length made + 1) (omega arith) (omega arith)) in
       omega arith
 
   pub made-few : length made < 65536
@@ -55,7 +51,7 @@ module _ (g : Geometry) (blocks : List (List ℕ)) (made : List MadeName) (files
   module _ (path : List ℕ) (d : ℕ) (name : List ℕ) (spot : IsSpot made path d name) (room : length made + 2 < g.inodes) where
     pub CanAdd-spot : CanAdd files d name (length made + 2)
     CanAdd-spot =
-        let above = directory-at (slot files d) (folder-made made files is.listed d ∙ spot.folder) in
+        let above = directory-at (slot files d) (is.listed.folders d ∙ spot.folder) in
         let count : length files ≡ g.inodes = is.begun.count in
         record {
           links = above.0;
@@ -86,19 +82,15 @@ module _ (g : Geometry) (blocks : List (List ℕ)) (made : List MadeName) (files
         let entry : ManifestEntry = record { path = path; thing = thing } in
         let passed : with_manifest_entry (data_blocks_of g.size g.inodes) g.inodes files n entry ≡ Ok more =
         spot-room made path d name spot (data_blocks_of g.size g.inodes) g.inodes files n thing is.listed room ∙ fits in
-        let above = directory-at (slot files d) (folder-made made files is.listed d ∙ spot.folder) in
-        let count : length files ≡ g.inodes = is.begun.count in
-        let high : n < length files = omega arith in
         let long : n + 1 ≡ length (made ++ one ∷ []) + 2 = omega (arith, length_push made one) in
-        let adds = Adds-added files d above.0 above.1 name n thing high (is.begun.free n (omega arith)) above.2 in
         record {
           more = more;
           is = passed;
           longer = ap length pushed ∙ length_push made one;
           made_more = subst (λ names. IsMade g new names more) (sym pushed) (record {
             stores = stores;
-            begun = subst (IsBegun (data_blocks_of g.size g.inodes) g.inodes more) long (IsBegun-entry (data_blocks_of g.size g.inodes) g.inodes files n entry more is.begun passed);
-            listed = IsListed-more adds is.begun.rules listing made one refl is.listed stands named folder;
+            begun = subst (IsBegun (data_blocks_of g.size g.inodes) g.inodes more) long (IsBegun-more is.begun d name thing CanAdd-spot (is.listed.names d name (spot-good made path d name spot) ∙ spot.absent) fits);
+            listed = IsListed-more (adds-more is.begun d name thing CanAdd-spot) is.begun.rules made one refl is.listed stands named folder;
           });
         }
 

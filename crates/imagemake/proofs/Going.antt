@@ -4,25 +4,20 @@ use Rattle.std.proofs.lemmas.List.{drop_all, drop_more}
 use Rattle.unixmodel.specs.Files.{Files}
 use Rattle.unixmodel.specs.Manifest.{ManifestEntry, Wrong, and_then, bare_files, data_blocks_of, with_entries, with_manifest_entry}
 use Rattle.layout.specs.declared.Geometry.{Geometry}
-use Rattle.imagemake.specs.Begins.{AddsEntry, IsGoing, MakesEntries, listing}
+use Rattle.imagemake.specs.Begins.{AddsEntry, IsGoing, MakesEntries}
 use Rattle.imagemake.specs.Made.{MadeName}
 use Rattle.imagemake.specs.Making.{Refuses, entry_of, meaning}
 use Rattle.imagemake.specs.Stored.{Stores}
 use Rattle.imagemake.specs.declared.manifest.Entry.{Entry}
 use Rattle.imagemake.specs.declared.manifest.MakeFault.{MakeFault}
-use Rattle.imagemake.specs.declared.manifest.MakeFault.TheVariants.{Blocks, Inodes, Name, NoMemory, Numbers, Parent, Twice}
+use Rattle.imagemake.specs.declared.manifest.MakeFault.TheVariants.{NoMemory}
 use Rattle.imagemake.proofs.MadeBare.{IsBegun-bare}
 use Rattle.imagemake.proofs.MadeSearch.{IsListed-bare}
 
 -- what is wrong with one is wrong with all
 Refuses-step : (r : Result Files Wrong) (rest : Files → Result Files Wrong) (fault : MakeFault) → Refuses r fault → Refuses (and_then r rest) fault
-Refuses-step r rest Name h = ap (λ x. and_then x rest) h
-Refuses-step r rest Twice h = ap (λ x. and_then x rest) h
-Refuses-step r rest Blocks h = ap (λ x. and_then x rest) h
-Refuses-step r rest Inodes h = ap (λ x. and_then x rest) h
-Refuses-step r rest Parent h = ap (λ x. and_then x rest) h
-Refuses-step r rest Numbers h = ap (λ x. and_then x rest) h
 Refuses-step r rest NoMemory h = tt
+Refuses-step r rest fault h = ap (λ x. and_then x rest) h
 
 module _ (g : Geometry) where
   -- the root alone
@@ -35,7 +30,7 @@ module _ (g : Geometry) where
         made_so_far = record {
           stores = stores;
           begun = IsBegun-bare g.inodes (omega arith) (data_blocks_of g.size g.inodes) (omega arith);
-          listed = IsListed-bare listing g.inodes (omega arith);
+          listed = IsListed-bare g.inodes (omega arith);
         };
         still = refl;
       })
@@ -71,4 +66,5 @@ module _ (g : Geometry) where
     files = going.files;
     is = going.still ∙ ap (λ xs. with_entries (data_blocks_of g.size g.inodes) g.inodes going.files (length made + 2) (meaning xs)) (drop_all i es h);
     stores = going.made_so_far.stores;
+    rules = going.made_so_far.begun.rules;
   }

@@ -1,8 +1,7 @@
 -- From a disk that stores files to the bytes of an image that denotes them.
-use Rattle.std.proofs.Common.{◌≡◌, ℕ, ◌+◌, ◌*◌, ◌/◌, ◌%◌, ◌≤◌, true, false, cond, List, ◌∷◌, ◌++◌, None, Option, Some, Ok, Err, length, get_or, take, map, zero, suc, ap, sym, refl, ◌∙◌, arith, subst}
-use Rattle.std.specs.Prelude.{flat_map, replicate}
+use Rattle.std.proofs.Common.{◌≡◌, ℕ, ◌+◌, ◌*◌, ◌/◌, ◌%◌, ◌≤◌, true, false, cond, List, ◌∷◌, ◌++◌, None, Ok, Err, length, take, map, zero, suc, ap, sym, refl, ◌∙◌, arith, subst, flat_map, replicate}
 use Rattle.std.specs.List.{range_with_len}
-use Rattle.std.proofs.lemmas.List.{append-nil, length-map, take_all}
+use Rattle.std.proofs.lemmas.List.{append-nil, take_all}
 use Rattle.std.proofs.lemmas.List.Concat.{flat_map-append}
 use Rattle.std.proofs.lemmas.List.Folds.{flat_map-map}
 use Rattle.blockdev.specs.Blocks as device
@@ -12,8 +11,7 @@ use Rattle.layout.specs.Image.{free_blocks, nodes_of}
 use Rattle.layout.specs.Sound.{IsSound}
 use Rattle.layout.specs.Super.{data_start_of}
 use Rattle.unixmodel.specs.Counts.{blocks_of}
-use Rattle.unixmodel.specs.Files.{Files, Node, free_slots, slot}
-use Rattle.unixmodel.specs.Files.Node.{Device, Directory, File}
+use Rattle.unixmodel.specs.Files.{free_slots}
 use Rattle.unixmodel.specs.Image.{Denotes}
 use Rattle.unixmodel.specs.Manifest.{ManifestEntry, bare_files, data_blocks_of, files_made, has_numbers, with_entries}
 use Rattle.unixmodel.specs.Manifest.Wrong.{Numbers}
@@ -21,13 +19,11 @@ use Rattle.imagemake.specs.Begins.{MakesEntries}
 use Rattle.imagerules.specs.Content.{image_of, length-image_of}
 use Rattle.imagemake.specs.Making.{MakesImage, Refuses}
 use Rattle.imagemake.specs.Stored.{IsWhole, Stores, raw_slot}
-use Rattle.imagemake.proofs.Whole.{HoldsFiles, IsHeld}
 use Rattle.imagemake.specs.declared.manifest.MakeFault.{MakeFault}
-use Rattle.imagemake.proofs.Denoted.{Denotes-sound}
-use Rattle.imagemake.proofs.MadeFiles.{KeepsRules-made}
+use Rattle.imagemake.proofs.Denoted.{Denotes-stored}
 use Rattle.imagerules.proofs.Marking.{range-split}
 use Rattle.imagerules.proofs.Spelling.{take_next}
-use Rattle.imagemake.proofs.Storing.{get-map}
+use Rattle.imagemake.proofs.MadeBare.{no-files, slot-free}
 
 -- ---- blocks and bytes
 
@@ -52,45 +48,20 @@ image_of-blocks bytes whole =
 
 -- ---- a disk without files
 
-none-of : (n i : ℕ) → slot {X = Node} (free_slots n) i ≡ None
-unfolding free_slots
-none-of zero i = refl
-none-of (suc n) zero = refl
-none-of (suc n) (suc i) = none-of n i
-
 map-none : (n : ℕ) → map raw_slot (replicate n None) ≡ replicate n None
 map-none zero = refl
 map-none (suc n) = ap (λ r. None ∷ r) (map-none n)
 
-no-blocks : (n : ℕ) → blocks_of (free_slots n) ≡ 0
-unfolding blocks_of free_slots
-no-blocks zero = refl
-no-blocks (suc n) = no-blocks n
-
 pub Stores-none : (g : Geometry) (blocks : List (List ℕ)) → IsSound g blocks → nodes_of blocks g.inodes ≡ replicate g.inodes None → free_blocks g blocks + data_start_of g.size g.inodes ≡ g.size → Stores g blocks (free_slots g.inodes)
 unfolding free_slots
 Stores-none g blocks sound nodes free =
-    let z : blocks_of (free_slots g.inodes) ≡ 0 = no-blocks g.inodes in
+    let z : blocks_of (free_slots g.inodes) ≡ 0 = no-files g.inodes in
     record {
       sound = sound;
       nodes = nodes ∙ sym (map-none g.inodes);
       free = omega arith;
-      whole = λ n. subst IsWhole (sym (none-of g.inodes n)) tt;
+      whole = λ n. subst IsWhole (sym (slot-free g.inodes n)) tt;
     }
-
--- ---- the files that a disk stores
-
-held-raw : (o : Option Node) → IsHeld (raw_slot o) o
-held-raw None = tt
-held-raw (Some (File links bytes)) = record { kind = refl; links = refl; bytes = refl; device = tt }
-held-raw (Some (Device links major minor)) = record { kind = refl; links = refl; bytes = refl; device = (refl, refl) }
-held-raw (Some (Directory links places)) = record { kind = refl; links = refl; bytes = refl; device = tt }
-
-pub HoldsFiles-stored : (g : Geometry) (blocks : List (List ℕ)) (files : Files) → Stores g blocks files → HoldsFiles (nodes_of blocks g.inodes) files
-HoldsFiles-stored g blocks files stores = record {
-  count = ap length stores.nodes ∙ length-map files raw_slot;
-  each = λ n h. subst (λ raw. IsHeld raw (slot files n)) (sym (ap (λ nodes. get_or nodes n None) stores.nodes ∙ get-map files n)) (held-raw (slot files n));
-}
 
 -- ---- what a manifest makes
 
@@ -116,6 +87,6 @@ module _ (entries : List ManifestEntry) (size inodes : ℕ) where
         files = makes.files;
         made = made;
         denotes = subst (λ b. Denotes b makes.files) (sym bytes)
-            (Denotes-sound g blocks makes.files makes.stores.sound (HoldsFiles-stored g blocks makes.files makes.stores) (KeepsRules-made entries size inodes makes.files made).0);
+            (Denotes-stored g blocks makes.files makes.stores makes.rules);
         whole = ap length bytes ∙ length-image_of blocks parts.sizes ∙ ap (λ k. 1024 * k) (parts.count ∙ e);
       }

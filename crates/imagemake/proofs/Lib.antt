@@ -1,4 +1,3 @@
-pub mod AddedBytes
 pub mod AddedFiles
 pub mod AddedNodes
 pub mod AddedThings
@@ -7,6 +6,7 @@ pub mod Denoted
 pub mod Entered
 pub mod Going
 pub mod Imaging
+pub mod Legible
 pub mod Located
 pub mod MadeBare
 pub mod MadeEntry
@@ -14,12 +14,9 @@ pub mod MadeFiles
 pub mod MadeLists
 pub mod MadeLookup
 pub mod MadeNames
-pub mod MadePaths
-pub mod MadePlaces
 pub mod MadeReached
 pub mod MadeRules
 pub mod MadeSearch
-pub mod MadeTests
 pub mod MadeWrong
 pub mod NameMap
 pub mod Owned
@@ -28,4 +25,3 @@ pub mod Slotted
 pub mod Spotting
 pub mod Storing
 pub mod Things
-pub mod Whole

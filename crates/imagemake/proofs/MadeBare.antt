@@ -1,6 +1,5 @@
 -- The files of an image with a root alone keep the rules.
-use Rattle.std.proofs.Common.{◌≡◌, ◌≢◌, ℕ, zero, suc, ◌+◌, ◌-◌, ◌≤◌, false, List, [], ◌∷◌, ◌++◌, length, None, Some, inl, inr, map, ap, sym, refl, ◌∙◌, arith, subst}
-use Rattle.std.specs.Prelude.{IsSome, IsTrue, count_by, flat_map, is_some, option_map, sum_by, unwrap_or, ◌==◌}
+use Rattle.std.proofs.Common.{◌≡◌, ◌≢◌, ℕ, zero, suc, ◌+◌, ◌-◌, ◌≤◌, false, List, [], ◌∷◌, ◌++◌, length, None, Some, inl, inr, map, ap, sym, refl, ◌∙◌, arith, subst, IsSome, IsTrue, count_by, flat_map, is_some, option_map, sum_by, unwrap_or, ◌==◌}
 use Rattle.std.specs.List.{range_with_len}
 use Rattle.std.proofs.lemmas.Bool.{cases_eq, cases_lt, false≢true}
 use Rattle.std.proofs.lemmas.List.{get_or-replicate, get_or-set_other, get_or-set_same, get_or_past, length-replicate, length-set}
@@ -11,11 +10,11 @@ use Rattle.unixmodel.specs.Image.{KeepsNode, KeepsRules, KeepsSize, all_entries,
 use Rattle.unixmodel.specs.Manifest.{bare_directory, bare_files}
 use Rattle.imagemake.specs.Begun.{IsBegun}
 
-length-free : (n : ℕ) → length (free_slots {X = Node} n) ≡ n
+pub length-free : (n : ℕ) → length (free_slots {X = Node} n) ≡ n
 unfolding free_slots
 length-free n = length-replicate n None
 
-slot-free : (n m : ℕ) → slot (free_slots {X = Node} n) m ≡ None
+pub slot-free : (n m : ℕ) → slot (free_slots {X = Node} n) m ≡ None
 unfolding free_slots
 slot-free n m = elim (cases_lt m n) [
   | inl l ↦ get_or-replicate n m None None l
@@ -27,7 +26,11 @@ unfolding free_slots
 taken-free zero = refl
 taken-free (suc n) = taken-free n
 
-pub flat_map-none : {X Y : Type 0} (f : X → List Y) → ((x : X) → f x ≡ []) → (xs : List X) → flat_map f xs ≡ []
+pub no-files : (n : ℕ) → blocks_of (free_slots n) ≡ 0
+unfolding blocks_of
+no-files n = ap (sum_by (λ (node : Node). blocks_for (size_of node))) (taken-free n)
+
+flat_map-none : {X Y : Type 0} (f : X → List Y) → ((x : X) → f x ≡ []) → (xs : List X) → flat_map f xs ≡ []
 flat_map-none f h [] = refl
 flat_map-none f h (x ∷ xs) = ap (λ r. r ++ flat_map f xs) (h x) ∙ flat_map-none f h xs
 

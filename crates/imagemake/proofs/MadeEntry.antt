@@ -1,17 +1,17 @@
 -- Files with an entry more: what stands at each number, and what the entries of the directories are.
-use Rattle.std.proofs.Common.{◌≡◌, ◌≢◌, ℕ, ◌+◌, ◌<◌, ◌≤◌, true, false, List, [], ◌∷◌, ◌++◌, length, None, Option, Some, inl, inr, drop, map, ap, sym, refl, ◌∙◌, arith, subst}
-use Rattle.std.specs.Prelude.{IsSome, flat_map, is_some, option_map, unwrap_or}
+use Rattle.std.proofs.Common.{◌≡◌, ◌≢◌, ℕ, ◌+◌, ◌<◌, ◌≤◌, true, false, List, [], ◌∷◌, ◌++◌, length, None, Option, Some, inl, inr, drop, map, ap, sym, refl, ◌∙◌, arith, subst, IsSome, flat_map, is_some, option_map, unwrap_or}
 use Rattle.std.specs.List.{range_with_len}
-use Rattle.std.proofs.lemmas.Bool.{cases_eq, cases_lt, false≢true}
-use Rattle.std.proofs.lemmas.List.{drop-append-le, get_or-set_other, get_or-set_same, get_or_past, length-set, map-append}
+use Rattle.std.proofs.lemmas.Bool.{cases_eq, false≢true}
+use Rattle.std.proofs.lemmas.List.{drop-append-le, get_or-set_other, get_or-set_same, length-set, map-append}
 use Rattle.std.proofs.lemmas.List.Elements.{filter_map-append}
 use Rattle.std.proofs.lemmas.Option.{none-some}
 use Rattle.unixmodel.specs.Files.{Entry, Files, Node, change_node, is_directory, slot, taken}
-use Rattle.unixmodel.specs.Files.Node.{Device, Directory, File}
+use Rattle.unixmodel.specs.Files.Node.{Directory}
 use Rattle.unixmodel.specs.Image.{all_entries, entries_of}
 use Rattle.unixmodel.specs.Manifest.{Thing, added, appended, linked, node_for}
-use Rattle.unixmodel.specs.Manifest.Thing.{Bytes, Folder, Special}
+use Rattle.unixmodel.specs.Manifest.Thing.{Folder}
 use Rattle.imagemake.proofs.MadeLists.{HasOneMore, HasOneMore-flat_map}
+use Rattle.imagerules.proofs.Denoting.{below-slot}
 
 abbrev pub entry_for : List ℕ → ℕ → Entry
 entry_for name n = record { name = name; number = n }
@@ -19,8 +19,7 @@ entry_for name n = record { name = name; number = n }
 -- the links of a directory with such an entry more
 abbrev pub links_with : Thing → ℕ → ℕ
 links_with Folder links = links + 1
-links_with (Bytes bytes) links = links
-links_with (Special major minor) links = links
+links_with thing links = links
 
 -- more is files with number n, which has this name in directory d
 pub record Adds (files more : Files) (d links : ℕ) (places : List (Option Entry)) (name : List ℕ) (n : ℕ) (thing : Thing) : Type 0 where
@@ -33,22 +32,13 @@ pub record Adds (files more : Files) (d links : ℕ) (places : List (Option Entr
   pub here : slot more n ≡ Some (node_for n d thing)
   pub others : (m : ℕ) → m ≢ n → m ≢ d → slot more m ≡ slot files m
 
-pub used-below : (files : Files) (n : ℕ) → IsSome (slot files n) → n < length files
-used-below files n h = elim (cases_lt n (length files)) [
-  | inl l ↦ l
-  | inr r ↦ absurd (false≢true (sym (ap is_some (get_or_past files n None r)) ∙ h))
-]
-
 pub directory-at : (o : Option Node) → unwrap_or (option_map is_directory o) false ≡ true → (links : ℕ) × (places : List (Option Entry)) × (o ≡ Some (Directory links places))
-directory-at None h = absurd (false≢true h)
-directory-at (Some (File links bytes)) h = absurd (false≢true h)
-directory-at (Some (Device links major minor)) h = absurd (false≢true h)
 directory-at (Some (Directory links places)) h = (links, places, refl)
+directory-at o h = absurd (false≢true h)
 
 linked-directory : (thing : Thing) (links : ℕ) (places : List (Option Entry)) → linked thing (Directory links places) ≡ Directory (links_with thing links) places
 linked-directory Folder links places = refl
-linked-directory (Bytes bytes) links places = refl
-linked-directory (Special major minor) links places = refl
+linked-directory thing links places = refl
 
 module _ (files : Files) (d links : ℕ) (places : List (Option Entry)) (name : List ℕ) (n : ℕ) (thing : Thing) (within : n < length files) (free : slot files n ≡ None) (at : slot files d ≡ Some (Directory links places)) where
   pub Adds-added : Adds files (added files d name n thing) d links places name n thing
@@ -57,7 +47,7 @@ module _ (files : Files) (d links : ℕ) (places : List (Option Entry)) (name : 
       let e = entry_for name n in
       let change = λ (node : Node). linked thing (appended e node) in
       let above = change_node files d change in
-      let below : d < length files = used-below files d (ap is_some at) in
+      let below : d < length files = below-slot files d (ap is_some at) in
       let other : d ≢ n = λ s. none-some (Directory links places) (sym free ∙ ap (slot files) (sym s) ∙ at) in
       let long : length above ≡ length files = length-set files d (option_map change (slot files d)) in
       record {
@@ -77,8 +67,7 @@ module _ (files : Files) (d links : ℕ) (places : List (Option Entry)) (name : 
 
 node-entries : (n d : ℕ) (thing : Thing) → entries_of (Some (node_for n d thing)) ≡ []
 node-entries n d Folder = refl
-node-entries n d (Bytes bytes) = refl
-node-entries n d (Special major minor) = refl
+node-entries n d thing = refl
 
 -- an entry with the directory that it stands in
 abbrev beside : ℕ → Entry → ℕ × Entry

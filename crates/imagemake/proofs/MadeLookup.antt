@@ -1,37 +1,12 @@
 -- The first entry of a name in the places of a directory.
-use Rattle.std.proofs.Common.{◌≡◌, ◌≢◌, ℕ, zero, suc, ◌+◌, ◌≤◌, Bool, true, false, cond, not, List, [], ◌∷◌, ◌++◌, length, None, Option, Some, ap, sym, refl, ◌∙◌, arith}
-use Rattle.std.specs.Prelude.{All, bytes_eq, nat_lt, option_and_then, position}
-use Rattle.std.specs.List.{prefix_len}
-use Rattle.std.proofs.lemmas.Bool.{false≢true, lt-ltb}
+use Rattle.std.proofs.Common.{◌≡◌, ◌≢◌, ℕ, zero, suc, ◌≤◌, Bool, true, false, cond, List, [], ◌∷◌, ◌++◌, None, Option, Some, ap, sym, refl, ◌∙◌, arith, All, bytes_eq, option_and_then, position}
+use Rattle.std.proofs.lemmas.Bool.{false≢true}
 use Rattle.std.proofs.lemmas.List.Elements.{All-cons, All-nil}
 use Rattle.std.proofs.lemmas.Slice.Eq.{bytes_eq-Decides}
 use Rattle.std.proofs.lemmas.Option.{none-some, same_Some}
 use Rattle.unixmodel.specs.Files.{Entry, Files, Node, entry_number, has_name, live_places, lookup, places_at, slot, taken}
 use Rattle.unixmodel.specs.Files.Node.{Directory}
-use Rattle.imagemake.proofs.MadePlaces.{lt_suc}
-
-abbrev pub first : List ℕ → List (Option Entry) → Option Entry
-first name [] = None
-first name (o ∷ os) = cond (has_name name o) o (first name os)
-
--- ---- it is what a lookup finds
-
-at_place : (o : Option Entry) (os : List (Option Entry)) (b : Bool) (n : ℕ) → option_and_then (slot (o ∷ os)) (cond b (Some (suc n)) None) ≡ option_and_then (slot os) (cond b (Some n) None)
-at_place o os true n = refl
-at_place o os false n = refl
-
-first_step : (o : Option Entry) (os : List (Option Entry)) (t : Bool) (n : ℕ) (r : Option Entry) → option_and_then (slot os) (cond (nat_lt n (length os)) (Some n) None) ≡ r
-    → option_and_then (slot (o ∷ os)) (cond (nat_lt (cond (not t) (1 + n) 0) (length (o ∷ os))) (Some (cond (not t) (1 + n) 0)) None) ≡ cond t o r
-first_step o os true n r h = ap (λ b. option_and_then (slot (o ∷ os)) (cond b (Some 0) None)) (lt-ltb 0 (suc (length os)) (omega arith))
-first_step o os false n r h =
-    let e : 1 + n ≡ suc n = omega arith in
-    ap (λ m. option_and_then (slot (o ∷ os)) (cond (nat_lt m (length (o ∷ os))) (Some m) None)) e
-    ∙ ap (λ b. option_and_then (slot (o ∷ os)) (cond b (Some (suc n)) None)) (lt_suc n (length os))
-    ∙ at_place o os (nat_lt n (length os)) n ∙ h
-
-first-position : (name : List ℕ) (os : List (Option Entry)) → option_and_then (slot os) (position (has_name name) os) ≡ first name os
-first-position name [] = refl
-first-position name (o ∷ os) = first_step o os (has_name name o) (prefix_len (λ x. not (has_name name x)) os) (first name os) (first-position name os)
+use Rattle.imagerules.proofs.Paths.{first_named as first, first_named-is as first-position}
 
 pub lookup-first : (files : Files) (d : ℕ) (name : List ℕ) → lookup files d name ≡ option_and_then (λ places. entry_number (first name places)) (places_at files d)
 unfolding lookup

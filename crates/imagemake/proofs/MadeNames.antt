@@ -1,31 +1,23 @@
 -- Files with an entry more: how many places name a number, which directory a number stands in, and how many directories a directory has.
-use Rattle.std.proofs.Common.{◌≡◌, ◌≢◌, ℕ, ◌+◌, ◌≤◌, false, cond, List, [], ◌∷◌, length, None, Option, Some, inl, inr, map, get_or, ap, sym, refl, ◌∙◌, arith, subst}
-use Rattle.std.specs.Prelude.{All, IsSome, count_by, filter, option_map, slice_get, unwrap_or, ◌==◌}
+use Rattle.std.proofs.Common.{◌≡◌, ◌≢◌, ℕ, ◌+◌, ◌≤◌, false, cond, List, length, Option, Some, inl, inr, map, get_or, ap, sym, refl, ◌∙◌, arith, subst, All, IsSome, count_by, filter, option_map, slice_get, unwrap_or, ◌==◌}
 use Rattle.std.specs.List.{range_with_len}
 use Rattle.std.proofs.lemmas.Bool.{cases_eq, cond-false, eq-eqb, ne_eqb}
 use Rattle.std.proofs.lemmas.List.Elements.{All-map, All-nil}
-use Rattle.std.proofs.lemmas.Option.{none-some}
 use Rattle.unixmodel.specs.Files.{Entry, Files, Node, is_directory, slot}
-use Rattle.unixmodel.specs.Files.Node.{Device, Directory, File}
+use Rattle.unixmodel.specs.Files.Node.{Directory}
 use Rattle.unixmodel.specs.Image.{IsDirectory, KeepsNode, KeepsRules, all_entries, entries_of, is_directory_at, names_number, names_of, parent_of, subdirectories}
 use Rattle.unixmodel.specs.Manifest.{Thing, node_for}
-use Rattle.unixmodel.specs.Manifest.Thing.{Bytes, Folder, Special}
+use Rattle.unixmodel.specs.Manifest.Thing.{Folder}
 use Rattle.imagerules.proofs.Lists.{All-flat_map}
 use Rattle.imagemake.proofs.MadeEntry.{Adds, entries-above, entries-here, entries-other, entry_for, links_with, one_entry_more, used-not_new}
 use Rattle.imagemake.proofs.MadeLists.{count_by-none, count_by-one_more, count_by-push, count_by-same, filter-first, filter-none, filter-other}
-
-two_places : (places : List (Option Entry)) (a : Entry) → slot places 1 ≡ Some a → 2 ≤ length places
-two_places [] a h = absurd (none-some a h)
-two_places (o ∷ []) a h = absurd (none-some a h)
-two_places (o ∷ r ∷ os) a h = omega arith
+use Rattle.imagerules.proofs.Denoting.{two_places}
 
 -- ---- every entry's number is in use
 
 node_numbers : (files : Files) (n : ℕ) (o : Option Node) → KeepsNode files n o → All (λ (e : Entry). IsSome (slot files e.number)) (entries_of o)
-node_numbers files n None k = All-nil (λ (e : Entry). IsSome (slot files e.number))
-node_numbers files n (Some (File links bytes)) k = All-nil (λ (e : Entry). IsSome (slot files e.number))
-node_numbers files n (Some (Device links major minor)) k = All-nil (λ (e : Entry). IsSome (slot files e.number))
 node_numbers files n (Some (Directory links places)) k = k.numbers
+node_numbers files n o k = All-nil (λ (e : Entry). IsSome (slot files e.number))
 
 pub entry-numbers : (files : Files) (n : ℕ) → KeepsRules files → All (λ (e : Entry). IsSome (slot files e.number)) (entries_of (slot files n))
 entry-numbers files n rules = node_numbers files n (slot files n) (rules.nodes n)
@@ -39,8 +31,7 @@ all_numbers files rules =
 
 links-with : (thing : Thing) (n d links : ℕ) → links_with thing links ≡ links + cond (is_directory (node_for n d thing)) 1 0
 links-with Folder n d links = refl
-links-with (Bytes bytes) n d links = omega arith
-links-with (Special major minor) n d links = omega arith
+links-with thing n d links = omega arith
 
 module _ {files more : Files} {d links : ℕ} {places : List (Option Entry)} {name : List ℕ} {n : ℕ} {thing : Thing} (a : Adds files more d links places name n thing) (rules : KeepsRules files) where
   pub directory-above : IsDirectory files d links places

@@ -1,22 +1,20 @@
 -- Files with an entry more: names lead where they led before, and the new one to its number.
-use Rattle.std.proofs.Common.{◌≡◌, ℕ, ◌≤◌, List, [], ◌∷◌, ◌++◌, None, Option, Some, inl, inr, ap, sym, refl, ◌∙◌, arith}
-use Rattle.std.specs.Prelude.{IsSome, bytes_eq, is_some, option_and_then}
+use Rattle.std.proofs.Common.{◌≡◌, ℕ, ◌≤◌, List, [], ◌∷◌, ◌++◌, None, Option, Some, inl, inr, ap, sym, refl, ◌∙◌, arith, IsSome, bytes_eq, is_some, option_and_then, true}
 use Rattle.std.proofs.lemmas.Bool.{cases_eq, cond-true}
 use Rattle.std.proofs.lemmas.Option.{none-some, option_and_then_some}
 use Rattle.std.proofs.lemmas.Slice.Eq.{bytes_eq-Decides}
 use Rattle.unixmodel.specs.Files.{Entry, Files, entry_number, find, follow, lookup, parts, slot}
-use Rattle.unixmodel.specs.Image.{KeepsRules}
+use Rattle.unixmodel.specs.Image.{KeepsRules, is_name}
 use Rattle.unixmodel.specs.Manifest.{Thing}
-use Rattle.unixmodel.specs.Manifest.Thing.{Bytes, Folder, Special}
+use Rattle.unixmodel.specs.Manifest.Thing.{Folder}
 use Rattle.imagemake.proofs.MadeEntry.{Adds, entry_for, links_with}
-use Rattle.imagemake.proofs.MadeLookup.{first, first-kept, first-past, found, lookup-directory, lookup-found, number-none, number-some}
+use Rattle.imagemake.proofs.MadeLookup.{first-kept, first-past, found, lookup-directory, lookup-found, number-none, number-some}
 use Rattle.imagemake.proofs.MadeNames.{directory-above}
-use Rattle.imagemake.proofs.MadePaths.{IsGiven, find-root, follow-append, parts-slash}
+use Rattle.imagerules.proofs.Paths.{find-root, find-slash, first_named as first}
 
 links_least : (thing : Thing) (links : ℕ) → 1 ≤ links → 1 ≤ links_with thing links
 links_least Folder links h = omega arith
-links_least (Bytes bytes) links h = h
-links_least (Special major minor) links h = h
+links_least thing links h = h
 
 module _ {files more : Files} {d links : ℕ} {places : List (Option Entry)} {name : List ℕ} {n : ℕ} {thing : Thing} (a : Adds files more d links places name n thing) (rules : KeepsRules files) where
   live_before : 1 ≤ links
@@ -62,16 +60,11 @@ module _ {files more : Files} {d links : ℕ} {places : List (Option Entry)} {na
       let r = rules.reached m h in
       (r.0, find-root more r.0 ∙ follow-kept (parts r.0) 1 m (sym (find-root files r.0) ∙ r.1))
 
-  module _ (given : IsGiven name) (absent : lookup files d name ≡ None) where
+  module _ (good : is_name name ≡ true) (absent : lookup files d name ≡ None) where
     reached_new : (path : List ℕ) × (find more 1 path ≡ Some n)
     reached_new =
-        let r = rules.reached d (ap is_some a.before) in (
-          r.0 ++ 0x2f ∷ name,
-          find-root more (r.0 ++ 0x2f ∷ name) ∙ ap (follow more 1) (parts-slash r.0 name given)
-              ∙ follow-append more 1 (parts r.0) (name ∷ [])
-              ∙ ap (option_and_then (λ k. follow more k (name ∷ []))) (follow-kept (parts r.0) 1 d (sym (find-root files r.0) ∙ r.1))
-              ∙ ap (option_and_then (λ k. Some k)) (lookup-new absent),
-        )
+        let r = reached_before d (ap is_some a.before) in
+        (r.0 ++ 0x2f ∷ name, find-slash more r.0 name d n good r.1 (lookup-new absent))
 
     pub reached-more : (m : ℕ) → IsSome (slot more m) → (path : List ℕ) × (find more 1 path ≡ Some m)
     reached-more m h = elim (cases_eq m n) [

@@ -1,19 +1,17 @@
 -- Files with an entry more keep the rules.
-use Rattle.std.proofs.Common.{◌≡◌, ◌≢◌, ℕ, zero, suc, ◌+◌, ◌≤◌, true, List, [], ◌∷◌, ◌++◌, length, None, Option, Some, inl, inr, drop, ap, sym, refl, ◌∙◌, arith, subst}
-use Rattle.std.specs.Prelude.{All, AllPairs, IsSome, IsTrue, is_some, ◌==◌}
+use Rattle.std.proofs.Common.{◌≡◌, ◌≢◌, ℕ, zero, suc, ◌+◌, ◌≤◌, true, List, [], ◌∷◌, ◌++◌, length, None, Option, Some, inl, inr, drop, ap, sym, refl, ◌∙◌, arith, subst, All, AllPairs, IsSome, IsTrue, is_some, ◌==◌}
 use Rattle.std.proofs.lemmas.Bool.{cases_eq, cond-false, ne_eqb}
 use Rattle.std.proofs.lemmas.List.{get_or_append_left}
 use Rattle.std.proofs.lemmas.List.Elements.{All-nil, All-push, All-tail, All-weaker}
 use Rattle.std.proofs.lemmas.List.Quantifiers.{all_pairs_push}
 use Rattle.unixmodel.specs.Files.{Entry, Files, Node, dot_dot, lookup, slot, taken}
-use Rattle.unixmodel.specs.Files.Node.{Device, Directory, File}
+use Rattle.unixmodel.specs.Files.Node.{Directory}
 use Rattle.unixmodel.specs.Image.{KeepsNode, KeepsRules, KeepsSize, is_name, names_of, parent_of, subdirectories}
 use Rattle.unixmodel.specs.Manifest.{Thing, node_for}
 use Rattle.unixmodel.specs.Manifest.Thing.{Bytes, Folder, Special}
 use Rattle.imagemake.proofs.MadeEntry.{Adds, entry_for, links_with, places-above, used-kept}
 use Rattle.imagemake.proofs.MadeLookup.{first-none}
 use Rattle.imagemake.proofs.MadeNames.{directory-above, directory-same, links-above, names-new, names-other, parent-new, parent-other, subdirectories-new, subdirectories-other, two-places}
-use Rattle.imagemake.proofs.MadePaths.{IsGiven-name}
 use Rattle.imagemake.proofs.MadeReached.{first-absent, reached-more}
 
 -- ---- the new node
@@ -48,8 +46,6 @@ module _ {files more : Files} {d links : ℕ} {places : List (Option Entry)} {na
 
   node_other : (m : ℕ) (o : Option Node) → m ≢ n → m ≢ d → KeepsNode files m o → KeepsNode more m o
   node_other m None s t k = tt
-  node_other m (Some (File links bytes)) s t k = record { counted = k.counted ∙ sym (names-other a rules m s); least = k.least; most = k.most }
-  node_other m (Some (Device links major minor)) s t k = record { counted = k.counted ∙ sym (names-other a rules m s); least = k.least; most = k.most }
   node_other m (Some (Directory links places)) s t k = record {
     own = k.own;
     parent = parent_kept m places s k.parent;
@@ -59,6 +55,7 @@ module _ {files more : Files} {d links : ℕ} {places : List (Option Entry)} {na
     named = names-other a rules m s ∙ k.named;
     counted = k.counted ∙ ap (λ c. 1 + c) (sym (subdirectories-other a rules m t));
   }
+  node_other m o s t k = record { counted = k.counted ∙ sym (names-other a rules m s); least = k.least; most = k.most }
 
   module _ (low : 2 ≤ n) (good : is_name name ≡ true) (absent : lookup files d name ≡ None) where
     -- ---- the directory above
@@ -108,5 +105,5 @@ module _ {files more : Files} {d links : ℕ} {places : List (Option Entry)} {na
         root = directory-same a rules 1 (λ s. absurd (omega arith)) ∙ rules.root;
         sizes = size_at;
         nodes = node_at;
-        reached = reached-more a rules (IsGiven-name name good) absent;
+        reached = reached-more a rules good absent;
       }

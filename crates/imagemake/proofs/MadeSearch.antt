@@ -1,25 +1,52 @@
--- A name in a directory of what is made is found in the list of the entries made so far. An item of the list tells the
--- directory that an entry stands in, its name, and whether it is a directory.
-use Rattle.std.proofs.Common.{◌≡◌, ◌≢◌, ℕ, ◌+◌, ◌-◌, ◌<◌, ◌≤◌, Bool, true, false, cond, List, [], ◌∷◌, ◌++◌, length, None, Option, Some, inl, inr, ap, ap₂, sym, refl, ◌∙◌, arith}
-use Rattle.std.specs.Prelude.{bytes_eq, nat_lt, option_and_then, option_map, position, slice_get, unwrap_or, ◌&&◌, ◌==◌}
-use Rattle.std.specs.List.{list_all}
+-- A name in a directory of what is made is found in the list of the names that are made so far.
+use Rattle.std.proofs.Common.{◌≡◌, ◌≢◌, ℕ, ◌+◌, ◌-◌, ◌≤◌, Bool, true, false, cond, List, [], ◌∷◌, ◌++◌, length, None, Option, Some, inl, inr, ap, ap₂, sym, refl, ◌∙◌, arith, bytes_eq, nat_lt, option_and_then, option_map, position, slice_get, unwrap_or, ◌&&◌, ◌==◌, zero, suc, ◌<◌, not, eqb, eq-eqb, ne_eqb}
+use Rattle.std.specs.List.{list_all, position_or_len}
 use Rattle.std.specs.Option.{option_or}
-use Rattle.std.proofs.lemmas.Bool.{and_parts, cases_eq, cases_lt, cond-false, cond-true, eq-eqb, false_from_ne_true, le-ltb, lt-ltb, ne_eqb, or_parts}
+use Rattle.std.proofs.lemmas.Bool.{and_parts, cases_eq, cases_lt, eq-eqb, false_from_ne_true, ne_eqb, or_parts, le-ltb, lt-ltb, cond-false, cond-true}
 use Rattle.std.proofs.lemmas.List.{length_push}
 use Rattle.std.proofs.lemmas.Option.{slice_get_past}
 use Rattle.std.proofs.lemmas.Slice.Eq.{bytes_eq-Decides}
 use Rattle.unixmodel.specs.Files.{Entry, Files, dot, dot_dot, entry_number, follow, is_directory, lookup, slot}
 use Rattle.unixmodel.specs.Image.{KeepsRules, is_directory_at, is_name}
 use Rattle.unixmodel.specs.Manifest.{Thing, bare_directory, bare_files, node_for}
-use Rattle.unixmodel.specs.Manifest.Thing.{Bytes, Folder, Special}
-use Rattle.imagemake.specs.Begun.{IsListed, Listing, folder_in, number_in}
+use Rattle.unixmodel.specs.Manifest.Thing.{Folder}
+use Rattle.imagemake.specs.Begun.{IsListed}
+use Rattle.imagemake.specs.Made.{MadeName, found as made_found, is_folder, seek, stands_at}
+use Rattle.imagemake.proofs.Pathing.{is_folder-high, is_folder-low}
 use Rattle.imagemake.proofs.MadeBare.{slot-bare, slot-root}
 use Rattle.imagemake.proofs.MadeEntry.{Adds, entry_for}
-use Rattle.imagemake.proofs.MadeLookup.{first, first-past, found, lookup-found, number-none}
+use Rattle.imagemake.proofs.MadeLookup.{first-past, found, lookup-found, number-none}
 use Rattle.imagemake.proofs.MadeNames.{directory-same}
-use Rattle.imagemake.proofs.MadePaths.{IsGiven-name}
-use Rattle.imagemake.proofs.MadePlaces.{position-push, slice_get-left, slice_get-push}
+use Rattle.imagerules.proofs.Paths.{IsGiven-name, first_named as first}
 use Rattle.imagemake.proofs.MadeReached.{lookup-above, lookup-before, lookup-kept}
+use Rattle.std.proofs.lemmas.List.Folds.{position_or_len_push}
+use Rattle.std.proofs.lemmas.List.Sums.{prefix_len-le-length}
+
+push_step : (n k m : ℕ) (b : Bool) → n ≤ k → m ≡ cond (eqb n k) (k + cond b 0 1) n → cond (nat_lt m (k + 1)) (Some m) None ≡ option_or (cond (nat_lt n k) (Some n) None) (cond b (Some k) None)
+push_step n k m b h e = elim (cases_lt n k) [
+  | inl l ↦ ap (λ i. cond (nat_lt i (k + 1)) (Some i) None) (e ∙ cond-false (eqb n k) (k + cond b 0 1) n (ne_eqb n k (λ z. absurd (omega arith))))
+      ∙ cond-true (nat_lt n (k + 1)) (Some n) None (lt-ltb n (k + 1) (omega arith)) ∙ sym (ap (λ o. option_or o (cond b (Some k) None)) (cond-true (nat_lt n k) (Some n) None (lt-ltb n k l)))
+  | inr g ↦ ap (λ i. cond (nat_lt i (k + 1)) (Some i) None) (e ∙ cond-true (eqb n k) (k + cond b 0 1) n (eq-eqb n k (omega arith)))
+      ∙ last b ∙ sym (ap (λ o. option_or o (cond b (Some k) None)) (cond-false (nat_lt n k) (Some n) None (le-ltb n k g)))
+]
+  where
+    last : (b : Bool) → cond (nat_lt (k + cond b 0 1) (k + 1)) (Some (k + cond b 0 1)) None ≡ cond b (Some k) None
+    last true = cond-true (nat_lt (k + 0) (k + 1)) (Some (k + 0)) None (lt-ltb (k + 0) (k + 1) (omega arith)) ∙ ap Some (omega arith)
+    last false = cond-false (nat_lt (k + 1) (k + 1)) (Some (k + 1)) None (le-ltb (k + 1) (k + 1) (omega arith))
+
+pub position-push : {X : Type 0} (p : X → Bool) (xs : List X) (x : X) → position p (xs ++ x ∷ []) ≡ option_or (position p xs) (cond (p x) (Some (length xs)) None)
+position-push p xs x =
+    ap (λ k. cond (nat_lt (position_or_len p (xs ++ x ∷ [])) k) (Some (position_or_len p (xs ++ x ∷ []))) None) (length_push xs x)
+    ∙ push_step (position_or_len p xs) (length xs) (position_or_len p (xs ++ x ∷ [])) (p x) (prefix_len-le-length (λ y. not (p y)) xs) (position_or_len_push p xs x)
+
+pub slice_get-left : {X : Type 0} (xs ys : List X) (k : ℕ) → k < length xs → slice_get (xs ++ ys) k ≡ slice_get xs k
+slice_get-left [] ys k h = absurd (omega arith)
+slice_get-left (x ∷ xs) ys zero h = refl
+slice_get-left (x ∷ xs) ys (suc k) h = slice_get-left xs ys k (omega arith)
+
+pub slice_get-push : {X : Type 0} (xs : List X) (x : X) → slice_get (xs ++ x ∷ []) (length xs) ≡ Some x
+slice_get-push [] x = refl
+slice_get-push (y ∷ ys) x = slice_get-push ys x
 
 -- ---- a name that is neither "." nor "..", where no such name stands yet
 
@@ -36,8 +63,7 @@ bare_first n d w good =
 
 node_found : (n d : ℕ) (thing : Thing) (w : List ℕ) → is_name w ≡ true → found w (Some (node_for n d thing)) ≡ None
 node_found n d Folder w good = bare_first n d w good
-node_found n d (Bytes bytes) w good = refl
-node_found n d (Special major minor) w good = refl
+node_found n d thing w good = refl
 
 module _ {files more : Files} {d links : ℕ} {places : List (Option Entry)} {name : List ℕ} {n : ℕ} {thing : Thing} (a : Adds files more d links places name n thing) (rules : KeepsRules files) where
   -- a name that led nowhere leads nowhere, but for the new one
@@ -61,32 +87,22 @@ module _ {files more : Files} {d links : ℕ} {places : List (Option Entry)} {na
 
   -- ---- the list with an item more
 
-  module _ {X : Type 0} (tells : Listing X) (made : List X) (x : X) (long : length made + 2 ≡ n) (listed : IsListed tells files made) (stands : tells.directory x ≡ d) (named : tells.name x ≡ name)
-      (folder : tells.folder x ≡ is_directory (node_for n d thing)) where
-    name_more : (k : ℕ) (w : List ℕ) → is_name w ≡ true → (o : Option ℕ) → position (λ y. (tells.directory y == k) && bytes_eq (tells.name y) w) made ≡ o
-        → lookup more k w ≡ option_map (λ j. j + 2) (option_or o (cond ((tells.directory x == k) && bytes_eq (tells.name x) w) (Some (length made)) None))
+  module _ (made : List MadeName) (x : MadeName) (long : length made + 2 ≡ n) (listed : IsListed files made) (stands : x.directory ≡ d) (named : x.name ≡ name) (folder : x.folder ≡ is_directory (node_for n d thing)) where
+    name_more : (k : ℕ) (w : List ℕ) → is_name w ≡ true → (o : Option ℕ) → position (stands_at k w) made ≡ o → lookup more k w ≡ option_map (λ j. j + 2) (option_or o (cond (stands_at k w x) (Some (length made)) None))
+    unfolding made_found
     name_more k w good (Some i) e = lookup-kept a rules k w (i + 2) (listed.names k w good ∙ ap (option_map (λ j. j + 2)) e)
     name_more k w good None e =
         lookup-past k w good (listed.names k w good ∙ ap (option_map (λ j. j + 2)) e)
         ∙ ap₂ (λ s t. cond ((s == k) && bytes_eq t w) (Some n) None) (sym stands) (sym named)
-        ∙ moved ((tells.directory x == k) && bytes_eq (tells.name x) w)
+        ∙ moved (stands_at k w x)
       where
         moved : (b : Bool) → cond b (Some n) None ≡ option_map (λ j. j + 2) (cond b (Some (length made)) None)
         moved true = ap Some (sym long)
         moved false = refl
 
-    names_more : (k : ℕ) (w : List ℕ) → is_name w ≡ true → lookup more k w ≡ number_in tells (made ++ x ∷ []) k w
-    names_more k w good =
-        let test = λ (y : X). (tells.directory y == k) && bytes_eq (tells.name y) w in
-        name_more k w good (position test made) refl ∙ ap (option_map (λ j. j + 2)) (sym (position-push test made x))
-
-    high : (m : ℕ) → 2 ≤ m → (xs : List X) → folder_in tells xs m ≡ unwrap_or (option_map tells.folder (slice_get xs (m - 2))) false
-    high m l xs = cond-false (nat_lt m 2) (m == 1) (unwrap_or (option_map tells.folder (slice_get xs (m - 2))) false) (le-ltb m 2 l)
-
-    low_number : (m : ℕ) → m < 2 → folder_in tells made m ≡ folder_in tells (made ++ x ∷ []) m
-    low_number m l =
-        cond-true (nat_lt m 2) (m == 1) (unwrap_or (option_map tells.folder (slice_get made (m - 2))) false) (lt-ltb m 2 l)
-        ∙ sym (cond-true (nat_lt m 2) (m == 1) (unwrap_or (option_map tells.folder (slice_get (made ++ x ∷ []) (m - 2))) false) (lt-ltb m 2 l))
+    names_more : (k : ℕ) (w : List ℕ) → is_name w ≡ true → lookup more k w ≡ made_found (made ++ x ∷ []) k w
+    unfolding made_found
+    names_more k w good = name_more k w good (position (stands_at k w) made) refl ∙ ap (option_map (λ j. j + 2)) (sym (position-push (stands_at k w) made x))
 
     old_number : (m : ℕ) → 2 ≤ m → m ≢ n → slice_get made (m - 2) ≡ slice_get (made ++ x ∷ []) (m - 2)
     old_number m l s = elim (cases_lt (m - 2) (length made)) [
@@ -94,36 +110,37 @@ module _ {files more : Files} {d links : ℕ} {places : List (Option Entry)} {na
       | inr past ↦ slice_get_past made (m - 2) past ∙ sym (slice_get_past (made ++ x ∷ []) (m - 2) (omega (arith, length_push made x)))
     ]
 
-    folder_more : (m : ℕ) → is_directory_at more m ≡ folder_in tells (made ++ x ∷ []) m
+    folder_more : (m : ℕ) → is_directory_at more m ≡ is_folder (made ++ x ∷ []) m
     folder_more m = elim (cases_eq m n) [
       | inl e ↦
           let at : m - 2 ≡ length made = omega arith in
           ap (λ k. is_directory_at more k) e ∙ ap (λ o. unwrap_or (option_map is_directory o) false) a.here ∙ sym folder
-          ∙ sym (high m (omega arith) (made ++ x ∷ []) ∙ ap (λ k. unwrap_or (option_map tells.folder (slice_get (made ++ x ∷ []) k)) false) at
-          ∙ ap (λ o. unwrap_or (option_map tells.folder o) false) (slice_get-push made x))
+          ∙ sym (is_folder-high (made ++ x ∷ []) m (omega arith) ∙ ap (λ k. unwrap_or (option_map (λ (y : MadeName). y.folder) (slice_get (made ++ x ∷ []) k)) false) at
+          ∙ ap (λ o. unwrap_or (option_map (λ (y : MadeName). y.folder) o) false) (slice_get-push made x))
       | inr s ↦ directory-same a rules m s ∙ listed.folders m ∙ elim (cases_lt m 2) [
-        | inl l ↦ low_number m l
-        | inr l ↦ high m l made ∙ ap (λ o. unwrap_or (option_map tells.folder o) false) (old_number m l s) ∙ sym (high m l (made ++ x ∷ []))
+        | inl l ↦ is_folder-low made m l ∙ sym (is_folder-low (made ++ x ∷ []) m l)
+        | inr l ↦ is_folder-high made m l ∙ ap (λ o. unwrap_or (option_map (λ (y : MadeName). y.folder) o) false) (old_number m l s) ∙ sym (is_folder-high (made ++ x ∷ []) m l)
       ]
     ]
 
-    pub IsListed-more : IsListed tells more (made ++ x ∷ [])
+    pub IsListed-more : IsListed more (made ++ x ∷ [])
     IsListed-more = record { names = names_more; folders = folder_more }
 
 -- ---- the root alone
 
-pub IsListed-bare : {X : Type 0} (tells : Listing X) (inodes : ℕ) → 2 ≤ inodes → IsListed tells (bare_files inodes) []
-IsListed-bare tells inodes some = record { names = no_name; folders = root_alone }
+pub IsListed-bare : (inodes : ℕ) → 2 ≤ inodes → IsListed (bare_files inodes) []
+unfolding made_found is_folder
+IsListed-bare inodes some = record { names = no_name; folders = root_alone }
   where
-    no_name : (d : ℕ) (w : List ℕ) → is_name w ≡ true → lookup (bare_files inodes) d w ≡ None
+    no_name : (d : ℕ) (w : List ℕ) → is_name w ≡ true → lookup (bare_files inodes) d w ≡ made_found [] d w
     no_name d w good = elim (cases_eq d 1) [
       | inl e ↦ lookup-found (bare_files inodes) d w ∙ ap (λ k. found w (slot (bare_files inodes) k)) e ∙ ap (found w) (slot-root inodes some) ∙ bare_first 1 1 w good
       | inr s ↦ lookup-found (bare_files inodes) d w ∙ ap (found w) (slot-bare inodes some d s)
     ]
 
-    root_alone : (n : ℕ) → is_directory_at (bare_files inodes) n ≡ folder_in tells [] n
+    root_alone : (n : ℕ) → is_directory_at (bare_files inodes) n ≡ is_folder [] n
     root_alone n = elim (cases_eq n 1) [
-      | inl e ↦ ap (λ k. is_directory_at (bare_files inodes) k) e ∙ ap (λ o. unwrap_or (option_map is_directory o) false) (slot-root inodes some) ∙ sym (ap (folder_in tells []) e)
+      | inl e ↦ ap (λ k. is_directory_at (bare_files inodes) k) e ∙ ap (λ o. unwrap_or (option_map is_directory o) false) (slot-root inodes some) ∙ sym (ap (is_folder []) e)
       | inr s ↦ ap (λ o. unwrap_or (option_map is_directory o) false) (slot-bare inodes some n s) ∙ sym (other (nat_lt n 2) (ne_eqb n 1 s))
     ]
       where
@@ -133,17 +150,12 @@ IsListed-bare tells inodes some = record { names = no_name; folders = root_alone
 
 -- ---- names in turn
 
--- a search that goes on from name to name follows good names
-pub follow-by : (files : Files) (find_in : ℕ → List ℕ → Option ℕ) (seek : ℕ → List (List ℕ) → Option ℕ) → ((d : ℕ) → seek d [] ≡ Some d)
-    → ((d : ℕ) (w : List ℕ) (ws : List (List ℕ)) → seek d (w ∷ ws) ≡ option_and_then (λ next. seek next ws) (find_in d w))
-    → ((d : ℕ) (w : List ℕ) → is_name w ≡ true → lookup files d w ≡ find_in d w)
-    → (ws : List (List ℕ)) → list_all is_name ws ≡ true → (d : ℕ) → follow files d ws ≡ seek d ws
-follow-by files find_in seek done step same [] good d = sym (done d)
-follow-by files find_in seek done step same (w ∷ ws) good d =
+pub follow-made : (made : List MadeName) (files : Files) → IsListed files made → (ws : List (List ℕ)) → list_all is_name ws ≡ true → (d : ℕ) → follow files d ws ≡ seek made d ws
+follow-made made files listed [] good d = refl
+follow-made made files listed (w ∷ ws) good d =
     let parts = and_parts (is_name w) (list_all is_name ws) good in
-    ap (option_and_then (λ next. follow files next ws)) (same d w parts.0)
-    ∙ along (find_in d w) (λ next. follow-by files find_in seek done step same ws parts.1 next) ∙ sym (step d w ws)
+    ap (option_and_then (λ next. follow files next ws)) (listed.names d w parts.0) ∙ along (made_found made d w) (λ next. follow-made made files listed ws parts.1 next)
   where
-    along : (o : Option ℕ) → ((next : ℕ) → follow files next ws ≡ seek next ws) → option_and_then (λ next. follow files next ws) o ≡ option_and_then (λ next. seek next ws) o
+    along : (o : Option ℕ) → ((next : ℕ) → follow files next ws ≡ seek made next ws) → option_and_then (λ next. follow files next ws) o ≡ option_and_then (λ next. seek made next ws) o
     along None h = refl
     along (Some next) h = h next

@@ -1,6 +1,5 @@
 -- What an entry of a manifest comes to, test by test.
-use Rattle.std.proofs.Common.{◌≡◌, ℕ, ◌<◌, ◌≤◌, true, false, cond, not, List, None, Some, Err, ap, ◌∙◌}
-use Rattle.std.specs.Prelude.{is_some, nat_le}
+use Rattle.std.proofs.Common.{◌≡◌, ℕ, ◌<◌, ◌≤◌, true, false, cond, not, List, None, Some, Err, ap, ◌∙◌, is_some, nat_le}
 use Rattle.std.proofs.lemmas.Bool.{le-leb, lt-leb}
 use Rattle.unixmodel.specs.Files.{Files, follow, lookup, split_last}
 use Rattle.unixmodel.specs.Image.{is_directory_at}

@@ -1,7 +1,5 @@
 -- Names that are made, as the entries of a map.
-use Rattle.std.proofs.Common.{◌≡◌, ℕ, ◌+◌, ◌-◌, ◌≤◌, Bool, false, cond, not, List, [], ◌∷◌, ◌++◌, map, None, Option, Some, ap, ap₂, sym, refl, ◌∙◌}
-use Rattle.std.specs.Prelude.{bytes_eq, nat_eq, nat_lt, option_map, position, slice_get, unwrap_or, ◌&&◌}
-use Rattle.std.specs.Borrow.{Bor}
+use Rattle.std.proofs.Common.{◌≡◌, ℕ, ◌+◌, ◌-◌, ◌≤◌, Bool, false, cond, not, List, [], ◌∷◌, ◌++◌, map, None, Option, Some, ap, ap₂, sym, refl, ◌∙◌, bytes_eq, nat_eq, nat_lt, option_map, position, slice_get, unwrap_or, ◌&&◌, Bor}
 use Rattle.std.specs.Cmp.{nat_eq_equiv}
 use Rattle.std.specs.Cmp.Lexicographic.{nat_list_eq_equiv}
 use Rattle.std.specs.List.{position_or_len}

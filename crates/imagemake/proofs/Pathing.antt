@@ -1,15 +1,14 @@
 -- The pieces of a path, one after the other, and what they reach in the list of what is made.
-use Rattle.std.proofs.Common.{◌≡◌, ℕ, ◌+◌, ◌-◌, ◌<◌, ◌≤◌, Bool, List, [], ◌∷◌, None, Option, Some, length, get_or, take, drop, ap, sym, refl, ◌∙◌, arith, cond, true, false, not, zero, suc, inl, inr, add-one}
-use Rattle.std.specs.Prelude.{nat_lt, option_and_then, option_map, position, slice_get, unwrap_or, ◌&&◌, ◌==◌}
+use Rattle.std.proofs.Common.{◌≡◌, ℕ, ◌+◌, ◌-◌, ◌<◌, ◌≤◌, Bool, List, [], ◌∷◌, None, Option, Some, length, get_or, take, drop, ap, sym, refl, ◌∙◌, arith, cond, true, false, zero, suc, inl, inr, add-one, nat_lt, option_and_then, option_map, position, slice_get, unwrap_or, ◌&&◌, ◌==◌}
 use Rattle.std.specs.List.{list_all, position_or_len}
 use Rattle.std.proofs.lemmas.Bool.{cases_lt, cond-false, cond-true, le-ltb, lt-ltb}
 use Rattle.std.proofs.lemmas.List.{drop-drop, length-drop, take_rest}
 use Rattle.std.proofs.lemmas.List.Quantifiers.{position-Some}
-use Rattle.std.proofs.lemmas.List.Sums.{fails_before_first, position_or_len_is}
-use Rattle.std.proofs.lemmas.Option.{none-some, slice_get-get_or, slice_get_past}
+use Rattle.std.proofs.lemmas.List.Sums.{fails_before_first}
+use Rattle.std.proofs.lemmas.Option.{none-some}
 use Rattle.unixmodel.specs.Files.{onto_first, pieces, split_last, with_last}
 use Rattle.unixmodel.specs.Image.{is_name}
-use Rattle.imagemake.specs.Made.{MadeName, found, is_folder, reach, seek, stands_at}
+use Rattle.imagemake.specs.Made.{MadeName, found, is_folder, reach, seek}
 
 -- where no item passes
 pub position-None : {X : Type 0} (p : X → Bool) (xs : List X) (d : X) → position p xs ≡ None → (k : ℕ) → k < length xs → p (get_or xs k d) ≡ false
@@ -108,33 +107,6 @@ pub reach_last : (made : List MadeName) (d : ℕ) (bs : List ℕ) → position (
 unfolding reach
 reach_last made d bs none = ap (reach made d) (pieces_last bs none)
 
--- ---- the first that stands there
-
-module _ {X : Type 0} (p : X → Bool) (xs : List X) where
-  pub position-at : (i : ℕ) (d : X) → i < length xs → ((k : ℕ) → k < i → p (get_or xs k d) ≡ false) → p (get_or xs i d) ≡ true → position p xs ≡ Some i
-  position-at i d h before here =
-      let e : position_or_len p xs ≡ i = position_or_len_is p xs i d (omega arith) before (λ _. here) in
-      ap (λ n. cond (nat_lt n (length xs)) (Some n) None) e ∙ cond-true (nat_lt i (length xs)) (Some i) None (lt-ltb i (length xs) h)
-
-  pub position-none : (n : ℕ) → length xs ≤ n → ((k : ℕ) (d : X) → k < n → p (get_or xs k d) ≡ false) → position p xs ≡ None
-  position-none n past none = go xs none past where
-    all : (ys : List X) → ((k : ℕ) (d : X) → k < length ys → p (get_or ys k d) ≡ false) → position_or_len p ys ≡ length ys
-    all [] h = refl
-    all (y ∷ ys) h = ap (λ b. cond (not b) (1 + position_or_len p ys) 0) (h 0 y (omega arith)) ∙ let r = all ys (λ k d l. h (suc k) d (omega arith)) in omega arith
-
-    go : (ys : List X) → ((k : ℕ) (d : X) → k < n → p (get_or ys k d) ≡ false) → length ys ≤ n → position p ys ≡ None
-    go ys h l =
-        let e : position_or_len p ys ≡ length ys = all ys (λ k d m. h k d (omega arith)) in
-        cond-false (nat_lt (position_or_len p ys) (length ys)) (Some (position_or_len p ys)) None (le-ltb (position_or_len p ys) (length ys) (omega arith))
-
-pub found-at : (made : List MadeName) (d : ℕ) (name : List ℕ) (i : ℕ) (m : MadeName) → i < length made → ((k : ℕ) (x : MadeName) → k < i → stands_at d name (get_or made k x) ≡ false) → stands_at d name (get_or made i m) ≡ true → found made d name ≡ Some (i + 2)
-unfolding found
-found-at made d name i m h before here = ap (option_map (λ k. k + 2)) (position-at (stands_at d name) made i m h (λ k l. before k m l) here)
-
-pub found-none : (made : List MadeName) (d : ℕ) (name : List ℕ) (n : ℕ) → length made ≤ n → ((k : ℕ) (x : MadeName) → k < n → stands_at d name (get_or made k x) ≡ false) → found made d name ≡ None
-unfolding found
-found-none made d name n past none = ap (option_map (λ k. k + 2)) (position-none (stands_at d name) made n past none)
-
 -- ---- directories
 
 pub is_folder-low : (made : List MadeName) (n : ℕ) → n < 2 → is_folder made n ≡ (n == 1)
@@ -144,12 +116,6 @@ is_folder-low made n h = cond-true (nat_lt n 2) _ _ (lt-ltb n 2 h)
 pub is_folder-high : (made : List MadeName) (n : ℕ) → 2 ≤ n → is_folder made n ≡ unwrap_or (option_map (λ (m : MadeName). m.folder) (slice_get made (n - 2))) false
 unfolding is_folder
 is_folder-high made n h = cond-false (nat_lt n 2) _ _ (le-ltb n 2 h)
-
-pub is_folder-at : (made : List MadeName) (n : ℕ) (m : MadeName) → 2 ≤ n → n - 2 < length made → is_folder made n ≡ (get_or made (n - 2) m).folder
-is_folder-at made n m h l = is_folder-high made n h ∙ ap (λ o. unwrap_or (option_map (λ (x : MadeName). x.folder) o) false) (slice_get-get_or made (n - 2) m l)
-
-pub is_folder-past : (made : List MadeName) (n : ℕ) → 2 ≤ n → length made ≤ n - 2 → is_folder made n ≡ false
-is_folder-past made n h l = is_folder-high made n h ∙ ap (λ o. unwrap_or (option_map (λ (x : MadeName). x.folder) o) false) (slice_get_past made (n - 2) l)
 
 -- what stands from a place on, as a range of a slice has it
 pub first-in : (path : List ℕ) (at : ℕ) (o : Option ℕ) → o ≡ position (λ b. b == 0x2f) (take (length path - at) (drop at path)) → position (λ b. b == 0x2f) (drop at path) ≡ o

@@ -1,23 +1,41 @@
 -- The spot of a path's last name, looked up in the list of what is made.
-use Rattle.std.proofs.Common.{◌≡◌, ℕ, ◌<◌, ◌≤◌, Bool, true, false, cond, List, [], ◌∷◌, None, Option, Some, Err, drop, ap, sym, refl, ◌∙◌}
-use Rattle.std.specs.Prelude.{is_some, ◌&&◌, ◌==◌}
+use Rattle.std.proofs.Common.{◌≡◌, ℕ, ◌<◌, ◌≤◌, Bool, true, false, cond, List, [], ◌∷◌, None, Option, Some, Err, drop, ap, sym, refl, ◌∙◌, is_some, ◌&&◌, ◌==◌, ◌++◌}
 use Rattle.std.specs.List.{list_all}
 use Rattle.std.proofs.lemmas.Bool.{and_parts, false≢true}
 use Rattle.std.proofs.lemmas.List.Folds.{list_all-append}
-use Rattle.std.proofs.lemmas.Option.{some_pair_parts}
-use Rattle.unixmodel.specs.Files.{Files, follow, lookup, pieces, split_last}
+use Rattle.std.proofs.lemmas.Option.{some_pair_parts, cond_some, same_Some}
+use Rattle.unixmodel.specs.Files.{Files, follow, lookup, pieces, split_last, with_last}
 use Rattle.unixmodel.specs.Image.{is_directory_at, is_name}
 use Rattle.unixmodel.specs.Manifest.{Thing, added, if_room, names_in, with_manifest_entry}
 use Rattle.unixmodel.specs.Manifest.Wrong.{Inodes, Name, Parent, Twice}
-use Rattle.imagemake.specs.Begins.{IsSpot, listing}
+use Rattle.imagemake.specs.Begins.{IsSpot}
 use Rattle.imagemake.specs.Begun.{IsListed}
 use Rattle.imagemake.specs.Made.{MadeName, found, is_folder, reach, seek}
-use Rattle.imagemake.proofs.MadeSearch.{follow-by}
-use Rattle.imagemake.proofs.MadeTests.{names-good, split-names}
+use Rattle.imagemake.proofs.MadeSearch.{follow-made}
 use Rattle.imagemake.proofs.MadeWrong.{entry-inodes, entry-name, entry-nowhere, entry-parent, entry-room, entry-twice}
 use Rattle.imagemake.proofs.Pathing.{reach_some, split-pieces}
 
 -- ---- the names of a path
+
+split_names : (w : List ℕ) (ws : List (List ℕ)) → w ∷ ws ≡ (with_last w (split_last ws)).0 ++ (with_last w (split_last ws)).1 ∷ []
+split_names w [] = refl
+split_names w (x ∷ xs) = ap (λ r. w ∷ r) (split_names x xs)
+
+split-names : (ws : List (List ℕ)) (split : List (List ℕ) × List ℕ) → split_last ws ≡ Some split → ws ≡ split.0 ++ split.1 ∷ []
+split-names [] split h = absurd (clash h)
+  where
+    clash : None ≡ Some split → ⊥
+    clash e = cc
+split-names (w ∷ ws) split h = split_names w ws ∙ ap (λ (p : List (List ℕ) × List ℕ). p.0 ++ p.1 ∷ []) (same_Some (with_last w (split_last ws)) split h)
+
+names-good : (path : List ℕ) (ws : List (List ℕ)) → names_in path ≡ Some ws → list_all is_name ws ≡ true
+names-good [] ws h = absurd (clash h)
+  where
+    clash : None ≡ Some ws → ⊥
+    clash e = cc
+names-good (b ∷ rest) ws h =
+    let parts = cond_some (b == 0x2f && list_all is_name (pieces rest)) (pieces rest) ws h in
+    ap (list_all is_name) (sym parts.1) ∙ (and_parts (b == 0x2f) (list_all is_name (pieces rest)) parts.0).1
 
 is-none : {X : Type 0} (o : Option X) → is_some o ≡ false → o ≡ None
 is-none None h = refl
@@ -45,20 +63,6 @@ split-good ws above last split good =
     let p = and_parts (list_all is_name above) (list_all is_name (last ∷ [])) (sym (list_all-append is_name above (last ∷ [])) ∙ ap (list_all is_name) (sym (split-names ws (above, last) split)) ∙ good) in
     (p.0, (and_parts (is_name last) true p.1).0)
 
--- ---- in files that the list tells
-
-module _ (made : List MadeName) (files : Files) (listed : IsListed listing files made) where
-  pub lookup-made : (d : ℕ) (name : List ℕ) → is_name name ≡ true → lookup files d name ≡ found made d name
-  unfolding found
-  lookup-made d name good = listed.names d name good
-
-  pub folder-made : (n : ℕ) → is_directory_at files n ≡ is_folder made n
-  unfolding is_folder
-  folder-made n = listed.folders n
-
-  pub follow-made : (ws : List (List ℕ)) → list_all is_name ws ≡ true → (d : ℕ) → follow files d ws ≡ seek made d ws
-  follow-made = follow-by files (found made) (seek made) (λ d. refl) (λ d w ws. refl) lookup-made
-
 pub refused-name : (path : List ℕ) (blocks inodes : ℕ) (files : Files) (n : ℕ) (thing : Thing) → is_some (names_in path) ≡ false → with_manifest_entry blocks inodes files n (record { path = path; thing = thing }) ≡ Err Name
 refused-name path blocks inodes files n thing h = entry-name blocks inodes files n (record { path = path; thing = thing }) (no-names path h)
 
@@ -69,7 +73,7 @@ module _ (made : List MadeName) (path : List ℕ) (good : is_some (names_in path
   goods : (list_all is_name parts.0 ≡ true) × (is_name last ≡ true)
   goods = split-good (pieces (drop 1 path)) parts.0 last parts.1 (names-good path (pieces (drop 1 path)) (path-names path good))
 
-  module _ (blocks inodes : ℕ) (files : Files) (n : ℕ) (thing : Thing) (listed : IsListed listing files made) where
+  module _ (blocks inodes : ℕ) (files : Files) (n : ℕ) (thing : Thing) (listed : IsListed files made) where
     followed : follow files 1 parts.0 ≡ o
     followed = follow-made made files listed parts.0 goods.0 1 ∙ parts.2
 
@@ -80,12 +84,12 @@ module _ (made : List MadeName) (path : List ℕ) (good : is_some (names_in path
       pub refused-parent : is_folder made d ≡ false → with_manifest_entry blocks inodes files n (record { path = path; thing = thing }) ≡ Err Parent
       refused-parent h =
           entry-parent blocks inodes files n (record { path = path; thing = thing }) (pieces (drop 1 path)) parts.0 last (path-names path good) parts.1 d (followed ∙ at)
-          (folder-made made files listed d ∙ h)
+          (listed.folders d ∙ h)
 
       pub refused-twice : is_folder made d ≡ true → is_some (found made d last) ≡ true → with_manifest_entry blocks inodes files n (record { path = path; thing = thing }) ≡ Err Twice
       refused-twice h t =
           entry-twice blocks inodes files n (record { path = path; thing = thing }) (pieces (drop 1 path)) parts.0 last (path-names path good) parts.1 d (followed ∙ at)
-          (folder-made made files listed d ∙ h) (ap is_some (lookup-made made files listed d last goods.1) ∙ t)
+          (listed.folders d ∙ h) (ap is_some (listed.names d last goods.1) ∙ t)
 
   pub IsSpot-reached : (d : ℕ) → o ≡ Some d → is_folder made d ≡ true → is_some (found made d last) ≡ false → IsSpot made path d last
   IsSpot-reached d at folder absent = record {
@@ -107,15 +111,15 @@ module _ (made : List MadeName) (path : List ℕ) (d : ℕ) (name : List ℕ) (s
   pub spot-good : is_name name ≡ true
   spot-good = spot-goods.1
 
-  module _ (blocks inodes : ℕ) (files : Files) (n : ℕ) (thing : Thing) (listed : IsListed listing files made) where
+  module _ (blocks inodes : ℕ) (files : Files) (n : ℕ) (thing : Thing) (listed : IsListed files made) where
     spot-followed : follow files 1 spot.above ≡ Some d
     spot-followed = follow-made made files listed spot.above spot-goods.0 1 ∙ spot.reached
 
     spot-directory : is_directory_at files d ≡ true
-    spot-directory = folder-made made files listed d ∙ spot.folder
+    spot-directory = listed.folders d ∙ spot.folder
 
     spot-absent : lookup files d name ≡ None
-    spot-absent = lookup-made made files listed d name spot-good ∙ spot.absent
+    spot-absent = listed.names d name spot-good ∙ spot.absent
 
     pub spot-inodes : inodes ≤ n → with_manifest_entry blocks inodes files n (record { path = path; thing = thing }) ≡ Err Inodes
     spot-inodes h =

@@ -1,6 +1,5 @@
 -- What a step on the disk does to the files that it holds.
-use Rattle.std.proofs.Common.{◌≡◌, ◌≢◌, ℕ, ◌+◌, ◌<◌, ◌≤◌, List, [], ◌∷◌, None, Option, Some, length, get_or, set, ap, sym, refl, ◌∙◌, arith, subst, cond, zero, suc, inl, inr}
-use Rattle.std.specs.Prelude.{map, sum_by, ◌==◌, ◌||◌}
+use Rattle.std.proofs.Common.{◌≡◌, ◌≢◌, ℕ, ◌+◌, ◌<◌, ◌≤◌, List, [], ◌∷◌, None, Option, Some, length, get_or, set, ap, sym, refl, ◌∙◌, arith, subst, cond, zero, suc, inl, inr, map, sum_by, ◌==◌, ◌||◌}
 use Rattle.std.proofs.lemmas.Bool.{cases_eq, cases_lt, cond-false, cond-true, eq-eqb, ne_eqb, or_from, or_left, or_right}
 use Rattle.std.proofs.lemmas.List.{get_or-set_other, get_or-set_same, get_or_past, length-map, map-set}
 use Rattle.std.proofs.lemmas.List.Sums.{sum_by-cons, sum_by-set}
@@ -9,9 +8,8 @@ use Rattle.unixmodel.specs.Counts.{blocks_of}
 use Rattle.unixmodel.specs.Files.{Files, Node, blocks_for, node_bytes, put, size_of, slot, taken}
 use Rattle.layout.specs.declared.Geometry.{Geometry}
 use Rattle.layout.specs.Frame.{get_or-nodes_of, length-nodes_of}
-use Rattle.layout.specs.Image.{IsInode, RawNode, bytes_of, free_blocks, inode_at, node_at, node_with, nodes_of, taken_for}
+use Rattle.layout.specs.Image.{IsInode, RawNode, bytes_of, free_blocks, inode_at, node_at, node_with, nodes_of}
 use Rattle.layout.specs.Sound.{IsSound}
-use Rattle.inode.specs.Writing.{node_linked}
 use Rattle.imagemake.specs.Stored.{IsWhole, Stores, raw_of, raw_slot}
 
 -- ---- the nodes by their numbers
@@ -95,10 +93,6 @@ whole-put files n node h w whole m = elim (cases_eq m n) [
   | inr away ↦ subst IsWhole (sym (get_or-set_other files n m (Some node) None away)) (whole m)
 ]
 
--- the blocks of a size, as both layers count them
-taken-same : (size : ℕ) → taken_for size ≡ blocks_for size
-taken-same size = refl
-
 module _ (g : Geometry) (old new : List (List ℕ)) (files : Files) (stores : Stores g old files) (n : ℕ) (node : Node) (high : n < length files) where
   pub Stores-put : IsSound g new → nodes_of new g.inodes ≡ set (nodes_of old g.inodes) n (Some (raw_of node)) → length (node_bytes node) ≡ size_of node
       → free_blocks g new + blocks_for (size_of node) ≡ free_blocks g old + used_by (slot files n) → Stores g new (put files n node)
@@ -111,18 +105,3 @@ module _ (g : Geometry) (old new : List (List ℕ)) (files : Files) (stores : St
         free = omega arith;
         whole = whole-put files n node high w stores.whole;
       }
-
--- the same node with another number of links
-abbrev pub relinks : RawNode → ℕ → RawNode
-relinks r links = record { kind = r.kind; major = r.major; minor = r.minor; links = links; bytes = r.bytes }
-
-module _ (g : Geometry) (old new : List (List ℕ)) (files : Files) (stores : Stores g old files) (n : ℕ) (node next : Node) (here : slot files n ≡ Some node) where
-  -- the number of links is written
-  pub Stores-linked : (links : ℕ) → IsSound g new → nodes_of new g.inodes ≡ set (nodes_of old g.inodes) n (Some (node_linked (inode_at old n) links (bytes_of old n))) → free_blocks g new ≡ free_blocks g old
-      → relinks (raw_of node) links ≡ raw_of next → size_of next ≡ size_of node → Stores g new (put files n next)
-  Stores-linked links sound nodes free same size =
-      let w : length (node_bytes next) ≡ size_of next = ap (λ (r : RawNode). length r.bytes) (sym same) ∙ held-whole g old files stores n node here ∙ sym size in
-      let u : used_by (slot files n) ≡ blocks_for (size_of next) = ap used_by here ∙ ap blocks_for (sym size) in
-      Stores-put g old new files stores n next (slot-within files n node here) sound
-      (nodes ∙ ap (λ r. set (nodes_of old g.inodes) n (Some (relinks r links))) (held-node g old files stores n node here) ∙ ap (λ r. set (nodes_of old g.inodes) n (Some r)) same)
-      w (omega arith)

@@ -6,20 +6,17 @@ use Rattle.unixmodel.specs.Manifest.{linked, node_for}
 use Rattle.unixmodel.specs.Manifest.Thing.{Folder}
 use Rattle.imagemake.specs.Making.{makes_directory, thing_of}
 use Rattle.imagemake.specs.declared.manifest.Thing.{Thing}
-use Rattle.imagemake.specs.declared.manifest.Thing.TheVariants.{Device, Directory, File}
+use Rattle.imagemake.specs.declared.manifest.Thing.TheVariants.{Directory}
 
 pub folder-thing : (n d : ℕ) (thing : Thing) → makes_directory thing ≡ is_directory (node_for n d (thing_of thing))
 folder-thing n d Directory = refl
-folder-thing n d (File bytes) = refl
-folder-thing n d (Device major minor) = refl
+folder-thing n d node = refl
 
 pub thing-folder : (thing : Thing) → makes_directory thing ≡ true → thing_of thing ≡ Folder
 thing-folder Directory e = refl
-thing-folder (File bytes) e = absurd (false≢true e)
-thing-folder (Device major minor) e = absurd (false≢true e)
+thing-folder node e = absurd (false≢true e)
 
 -- nothing else makes a link
 pub thing-unlinked : (thing : Thing) (node : Node) → makes_directory thing ≡ false → linked (thing_of thing) node ≡ node
 thing-unlinked Directory node e = absurd (false≢true (sym e))
-thing-unlinked (File bytes) node e = refl
-thing-unlinked (Device major minor) node e = refl
+thing-unlinked x node e = refl

@@ -16,10 +16,13 @@ abbrev pub TellsFull : Type 0 → StoreFault → Type 0
 TellsFull full Blocks = full
 TellsFull full Device = ⊤
 
--- that an access failed is told only where the device owns up to it
-pub record OwnsUp (before now : ℕ) (result : Result (Unit {0}) StoreFault) : Type 0 where
+-- a fault is told only where the device counts a failed access
+pub record Owns {E : Type 0} (fault : E) (before now : ℕ) (result : Result (Unit {0}) E) : Type 0 where
   pub later : before ≤ now
-  pub failed : IsErrOf result Device → Rises before now
+  pub failed : IsErrOf result fault → Rises before now
+
+abbrev pub OwnsUp : ℕ → ℕ → Result (Unit {0}) StoreFault → Type 0
+OwnsUp before now result = Owns Device before now result
 
 -- ---- a node
 

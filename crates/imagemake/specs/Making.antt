@@ -18,8 +18,7 @@ thing_of (Device major minor) = Special major minor
 
 abbrev pub makes_directory : Thing → Bool
 makes_directory Directory = true
-makes_directory (File bytes) = false
-makes_directory (Device major minor) = false
+makes_directory node = false
 
 abbrev pub entry_of : Entry → ManifestEntry
 entry_of e = record { path = e.path.items; thing = thing_of e.thing }

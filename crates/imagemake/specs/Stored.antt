@@ -11,14 +11,12 @@ use Rattle.layout.specs.Image.{RawNode, free_blocks, nodes_of}
 use Rattle.layout.specs.Sound.{IsSound}
 
 abbrev pub major_of : Node → ℕ
-major_of (File links bytes) = 0
 major_of (Device links major minor) = major
-major_of (Directory links places) = 0
+major_of node = 0
 
 abbrev pub minor_of : Node → ℕ
-minor_of (File links bytes) = 0
 minor_of (Device links major minor) = minor
-minor_of (Directory links places) = 0
+minor_of node = 0
 
 -- a node as an inode spells it
 abbrev pub raw_of : Node → RawNode

@@ -2,8 +2,8 @@
 use Rattle.std.proofs.Common.{◌≡◌, ◌≢◌, ℕ, ◌+◌, ◌*◌, ◌/◌, ◌<◌, ◌≤◌, List, length, arith, subst, inl, inr}
 use Rattle.std.proofs.lemmas.Bool.{cases_lt}
 use Rattle.layout.specs.declared.Geometry.{Geometry}
-use Rattle.unixmodel.specs.Image.{HasSuper, bitmap_start, data_start, inode_at, kind_in}
-use Rattle.imagerules.specs.Fields.{HasGeometry, HasInode, HasSuper-of}
+use Rattle.unixmodel.specs.Image.{HasSuper, bitmap_start, data_start, kind_in}
+use Rattle.imagerules.specs.Fields.{HasGeometry, HasInode, HasPlace, HasSuper-of}
 use Rattle.imagerules.specs.Pieces.{HasSizes}
 
 module _ {image : List ℕ} {g : Geometry} (h : HasGeometry image g) where
@@ -26,8 +26,8 @@ module _ {image : List ℕ} {g : Geometry} (h : HasGeometry image g) where
   pub length-is : length image ≡ 1024 * g.size
   length-is = let a = super-is.whole in omega (arith, h.size)
 
-  pub inode-inside : (n : ℕ) → n < g.inodes → inode_at n + 64 ≤ length image
-  inode-inside n l = omega (arith, data-room, length-is)
+  pub HasPlace-at : (n : ℕ) → n < g.inodes → HasPlace image n
+  HasPlace-at n l = record { number = omega (arith, inodes-most); inside = omega (arith, data-room, length-is) }
 
   -- the bitmap begins below the last number of a block, and the bit of each block lies in the image
   pub bitmap-low : (start : ℕ) → start ≡ bitmap_start g.inodes → start ≤ 16384
@@ -49,7 +49,6 @@ up_to_more P n before here m low high = elim (cases_lt m n) [
 
 pub HasInode-at : {image : List ℕ} {g : Geometry} → HasGeometry image g → HasSizes image → (n : ℕ) → 1 ≤ n → n < g.inodes → kind_in image n ≢ 0 → HasInode image n
 HasInode-at h sizes n low high used = record {
-  number = let m = inodes-most h in omega arith;
-  inside = inode-inside h n high;
+  place = HasPlace-at h n high;
   size = (sizes n low (omega (arith, h.inodes))).most used;
 }

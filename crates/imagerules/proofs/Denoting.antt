@@ -1,12 +1,11 @@
 -- What the rules of an image give: the files that it denotes, and no others.
-use Rattle.std.proofs.Common.{◌≡◌, ◌≢◌, ℕ, ◌+◌, ◌*◌, ◌<◌, ◌≤◌, Bool, List, [], ◌∷◌, ◌++◌, None, Option, Some, length, get_or, take, drop, map, ap, sym, refl, ◌∙◌, arith, subst, cond, inl, inr, true, false}
-use Rattle.std.specs.Prelude.{All, IsSome, IsTrue, filter, is_some, nat_le, not, option_map, slice_get, unwrap_or, ◌&&◌, ◌==◌}
+use Rattle.std.proofs.Common.{◌≡◌, ◌≢◌, ℕ, ◌+◌, ◌*◌, ◌<◌, ◌≤◌, Bool, List, [], ◌∷◌, ◌++◌, None, Option, Some, length, get_or, take, drop, map, ap, sym, ◌∙◌, arith, subst, cond, inl, inr, true, false, All, IsSome, IsTrue, filter, is_some, not, option_map, slice_get, unwrap_or, ◌&&◌, ◌==◌}
 use Rattle.std.specs.List.{list_all, range_with_len}
-use Rattle.std.proofs.lemmas.Bool.{and_parts, cases_eq, cases_lt, false≢true, leb-true}
+use Rattle.std.proofs.lemmas.Bool.{and_parts, cases_eq, cases_lt, false≢true}
 use Rattle.std.proofs.lemmas.List.{ext_get_or, get_or_past}
 use Rattle.std.proofs.lemmas.List.Elements.{All-cons, All-filter, All-head, All-map, All-nil, All-tail, All-weaker}
 use Rattle.std.proofs.lemmas.List.FromFn.{get_or-range_with_len, length-range_with_len}
-use Rattle.unixmodel.specs.Files.{Entry, Files, Node, dot, dot_dot, is_directory, is_dot_name, kind_of, longest, slot, taken}
+use Rattle.unixmodel.specs.Files.{Entry, Files, Node, dot, dot_dot, is_directory, kind_of, longest, slot, taken}
 use Rattle.unixmodel.specs.Files.Node.{Device, Directory, File}
 use Rattle.unixmodel.specs.Image.{Denotes, IsNode, KeepsNode, KeepsSize, Stands, all_entries, contents_in, count_in, data_blocks, direct_in, entries_of, index_in, inodes_in, is_data_block, is_name, kind_in, length_in, names_number, parent_of}
 use Rattle.imagerules.specs.Rules.{HasBlocks}
@@ -17,12 +16,12 @@ use Rattle.imagerules.proofs.Nodes.{IsNode-from, IsNode-same, PlacesFit, content
 use Rattle.imagerules.proofs.Spelling.{IsPlain, PlaceFits}
 use Rattle.imagerules.proofs.Summing.{length-data_blocks}
 use Rattle.imagerules.proofs.Uses.{All-data_blocks, FitsAddresses-at, is_data_block-below}
+use Rattle.std.proofs.lemmas.Option.{none-some}
+use Rattle.imagerules.proofs.Paths.{IsGiven-name}
 
 -- the rules of each node, from those of its entries and those of its links
 KeepsNode-from : (files : Files) (n : ℕ) (o : Option Node) → EntriesAt files n o → LinksAt files n o → KeepsNode files n o
 KeepsNode-from files n None e l = tt
-KeepsNode-from files n (Some (File links bytes)) e l = record { counted = l.0; least = l.1; most = l.2 }
-KeepsNode-from files n (Some (Device links major minor)) e l = record { counted = l.0; least = l.1; most = l.2 }
 KeepsNode-from files n (Some (Directory links places)) e l = record {
   own = e.own;
   parent = e.parent;
@@ -32,11 +31,9 @@ KeepsNode-from files n (Some (Directory links places)) e l = record {
   named = e.named;
   counted = l;
 }
+KeepsNode-from files n o e l = record { counted = l.0; least = l.1; most = l.2 }
 
 pub EntriesAt-from : (files : Files) (n : ℕ) (o : Option Node) → KeepsNode files n o → EntriesAt files n o
-EntriesAt-from files n None k = tt
-EntriesAt-from files n (Some (File links bytes)) k = tt
-EntriesAt-from files n (Some (Device links major minor)) k = tt
 EntriesAt-from files n (Some (Directory links places)) k = record {
   own = k.own;
   parent = k.parent;
@@ -45,12 +42,12 @@ EntriesAt-from files n (Some (Directory links places)) k = record {
   numbers = k.numbers;
   named = k.named;
 }
+EntriesAt-from files n o k = tt
 
 pub LinksAt-from : (files : Files) (n : ℕ) (o : Option Node) → KeepsNode files n o → LinksAt files n o
 LinksAt-from files n None k = tt
-LinksAt-from files n (Some (File links bytes)) k = (k.counted, k.least, k.most)
-LinksAt-from files n (Some (Device links major minor)) k = (k.counted, k.least, k.most)
 LinksAt-from files n (Some (Directory links places)) k = k.counted
+LinksAt-from files n o k = (k.counted, k.least, k.most)
 
 -- ---- the places of a directory that keeps the rules are plain
 
@@ -62,12 +59,7 @@ bytes_plain (b ∷ bs) h =
     All-cons (λ x. x ≢ 0) b bs (λ z. false≢true (ap (λ x. not (x == 0)) (sym z) ∙ q.0)) (bytes_plain bs p.1)
 
 pub IsPlain-name : (e : Entry) → is_name e.name ≡ true → e.number < 65536 → IsPlain e
-IsPlain-name e h low =
-    let name = e.name in
-    let a = and_parts (nat_le 1 (length name) && nat_le (length name) 14 && list_all (λ b. not (b == 0) && not (b == 0x2f)) name) (not (is_dot_name name)) h in
-    let b = and_parts (nat_le 1 (length name) && nat_le (length name) 14) (list_all (λ b. not (b == 0) && not (b == 0x2f)) name) a.0 in
-    let c = and_parts (nat_le 1 (length name)) (nat_le (length name) 14) b.0 in
-    record { number = low; some = leb-true 1 (length name) c.0; most = leb-true (length name) 14 c.1; plain = bytes_plain name b.1 }
+IsPlain-name e h low = let given = IsGiven-name e.name h in record { number = low; some = given.least; most = given.most; plain = bytes_plain e.name given.plain }
 
 -- the places that are taken are plain, so all places are
 fits_taken : (os : List (Option Entry)) → All IsPlain (taken os) → All PlaceFits os
@@ -75,35 +67,21 @@ fits_taken [] h = All-nil PlaceFits
 fits_taken (None ∷ os) h = All-cons PlaceFits None os tt (fits_taken os h)
 fits_taken (Some e ∷ os) h = All-cons PlaceFits (Some e) os (All-head IsPlain e (taken os) h) (fits_taken os (All-tail IsPlain e (taken os) h))
 
-dot-plain : (e : Entry) → e.number < 65536 → e.name ≡ dot → IsPlain e
-dot-plain e low is = record {
-  number = low;
-  some = subst (λ name. 1 ≤ length name) (sym is) (omega arith);
-  most = subst (λ name. length name ≤ 14) (sym is) (omega arith);
-  plain = subst (All (λ b. b ≢ 0)) (sym is) dot_bytes;
-}
-  where
-    dot_bytes : All (λ b. b ≢ 0) dot
-    dot_bytes = All-cons (λ b. b ≢ 0) 0x2e [] (λ z. absurd (omega arith)) (All-nil (λ b. b ≢ 0))
+dot-plain : (n : ℕ) → n < 65536 → IsPlain (record { name = dot; number = n })
+dot-plain n low = record { number = low; some = omega arith; most = omega arith; plain = All-cons (λ b. b ≢ 0) 0x2e [] (λ z. absurd (omega arith)) (All-nil (λ b. b ≢ 0)) }
 
-dot_dot-plain : (e : Entry) → e.number < 65536 → e.name ≡ dot_dot → IsPlain e
-dot_dot-plain e low is = record {
+dot_dot-plain : (n : ℕ) → n < 65536 → IsPlain (record { name = dot_dot; number = n })
+dot_dot-plain n low = record {
   number = low;
-  some = subst (λ name. 1 ≤ length name) (sym is) (omega arith);
-  most = subst (λ name. length name ≤ 14) (sym is) (omega arith);
-  plain = subst (All (λ b. b ≢ 0)) (sym is) dot_bytes;
+  some = omega arith;
+  most = omega arith;
+  plain = All-cons (λ b. b ≢ 0) 0x2e (0x2e ∷ []) (λ z. absurd (omega arith)) (All-cons (λ b. b ≢ 0) 0x2e [] (λ z. absurd (omega arith)) (All-nil (λ b. b ≢ 0)));
 }
-  where
-    dot_bytes : All (λ b. b ≢ 0) dot_dot
-    dot_bytes = All-cons (λ b. b ≢ 0) 0x2e (0x2e ∷ []) (λ z. absurd (omega arith)) (All-cons (λ b. b ≢ 0) 0x2e [] (λ z. absurd (omega arith)) (All-nil (λ b. b ≢ 0)))
-
-none_some : {X : Type 0} (x : X) → None ≡ Some x → ⊥
-none_some x e = cc
 
 -- two places and more, of which the first two are given
 places_fit : (places : List (Option Entry)) (a b : Entry) → slot places 0 ≡ Some a → slot places 1 ≡ Some b → IsPlain a → IsPlain b → All IsPlain (taken (drop 2 places)) → All PlaceFits places
-places_fit [] a b p q ha hb h = absurd (none_some a p)
-places_fit (o ∷ []) a b p q ha hb h = absurd (none_some b q)
+places_fit [] a b p q ha hb h = absurd (none-some a p)
+places_fit (o ∷ []) a b p q ha hb h = absurd (none-some b q)
 places_fit (o ∷ r ∷ os) a b p q ha hb h =
     All-cons PlaceFits o (r ∷ os) (subst PlaceFits (sym p) ha) (All-cons PlaceFits r os (subst PlaceFits (sym q) hb) (fits_taken os h))
 
@@ -141,14 +119,13 @@ node_fits files n (File links bytes) a b l k = tt
 node_fits files n (Device links major minor) a b l k = tt
 node_fits files n (Directory links places) a b l k =
     places_fit places (record { name = dot; number = n }) (record { name = dot_dot; number = parent_of files n }) k.own k.parent
-    (dot-plain (record { name = dot; number = n }) (omega arith) refl)
-    (dot_dot-plain (record { name = dot_dot; number = parent_of files n }) (omega (arith, parent_below files n a)) refl)
+    (dot-plain n (omega arith))
+    (dot_dot-plain (parent_of files n) (omega (arith, parent_below files n a)))
     (λ j e m. IsPlain-name (get_or (taken (drop 2 places)) j e) (k.names j e m) (omega (arith, below-slot files (get_or (taken (drop 2 places)) j e).number (k.numbers j e m))))
 
 used_kind : (image : List ℕ) (n : ℕ) (node : Node) → kind_in image n ≡ kind_of node → kind_in image n ≢ 0
 used_kind image n (File links bytes) h = λ z. absurd (omega arith)
-used_kind image n (Device links major minor) h = λ z. absurd (omega arith)
-used_kind image n (Directory links places) h = λ z. absurd (omega arith)
+used_kind image n node h = λ z. absurd (omega arith)
 
 same_option : (image : List ℕ) (files : Files) (n : ℕ) (o : Option Node) → 1 < length files → length files ≤ 8192 → n < length files → 1 ≤ n → Stands image n o → KeepsNode files n o → o ≡ file_in image n
 same_option image files n None a b l low s k = sym (file_in-free image n s)
@@ -248,19 +225,16 @@ module _ (image : List ℕ) (b : HasBlocks image) (fits : (i : ℕ) → get_or i
 kind_most : (image : List ℕ) (n : ℕ) (o : Option Node) → Stands image n o → kind_in image n ≤ 3
 kind_most image n None s = omega arith
 kind_most image n (Some (File links bytes)) s = let k = s.kind in omega arith
-kind_most image n (Some (Device links major minor)) s = let k = s.kind in omega arith
-kind_most image n (Some (Directory links places)) s = let k = s.kind in omega arith
+kind_most image n (Some node) s = let k = s.kind in omega arith
 
 root_kind : (image : List ℕ) (o : Option Node) → Stands image 1 o → unwrap_or (option_map is_directory o) false ≡ true → kind_in image 1 ≡ 1
-root_kind image None s h = absurd (false≢true h)
-root_kind image (Some (File links bytes)) s h = absurd (false≢true h)
-root_kind image (Some (Device links major minor)) s h = absurd (false≢true h)
 root_kind image (Some (Directory links places)) s h = s.kind
+root_kind image o s h = absurd (false≢true h)
 
-two_places : (places : List (Option Entry)) (a b : Entry) → slot places 0 ≡ Some a → slot places 1 ≡ Some b → 2 ≤ length places
-two_places [] a b p q = absurd (none_some a p)
-two_places (o ∷ []) a b p q = absurd (none_some b q)
-two_places (o ∷ r ∷ os) a b p q = omega arith
+pub two_places : (places : List (Option Entry)) (a : Entry) → slot places 1 ≡ Some a → 2 ≤ length places
+two_places [] a h = absurd (none-some a h)
+two_places (o ∷ []) a h = absurd (none-some a h)
+two_places (o ∷ r ∷ os) a h = omega arith
 
 fits_kind : (image : List ℕ) (files : Files) (n : ℕ) (o : Option Node) → Stands image n o → KeepsNode files n o → KeepsSize o → FitsKind (kind_in image n) (length_in image n)
 fits_kind image files n None s k z = record {
@@ -290,7 +264,7 @@ fits_kind image files n (Some (Device links major minor)) s k z =
 fits_kind image files n (Some (Directory links places)) s k z =
     let e = s.kind in
     let size = s.size in
-    let two = two_places places (record { name = dot; number = n }) (record { name = dot_dot; number = parent_of files n }) k.own k.parent in
+    let two = two_places places (record { name = dot_dot; number = parent_of files n }) k.parent in
     record {
       most = λ u. omega arith;
       directory_least = λ f. omega arith;

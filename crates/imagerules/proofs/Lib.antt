@@ -5,6 +5,7 @@ pub mod Marking
 pub mod Named
 pub mod Nodes
 pub mod Numbers
+pub mod Paths
 pub mod Spelling
 pub mod Summing
 pub mod Super

@@ -1,12 +1,11 @@
 -- Marks, one block more at a time.
-use Rattle.std.proofs.Common.{◌≡◌, ◌≢◌, ℕ, ◌+◌, ◌-◌, ◌*◌, ◌/◌, ◌%◌, ◌<◌, ◌≤◌, Bool, List, [], ◌∷◌, ◌++◌, length, get_or, set, take, drop, replicate, ap, sym, refl, ◌∙◌, arith, subst, cond, true, false, inl, inr, zero, suc}
-use Rattle.std.specs.Prelude.{filter, flat_map, nat_eq, nat_lt, not, ◌||◌}
+use Rattle.std.proofs.Common.{◌≡◌, ◌≢◌, ℕ, ◌+◌, ◌-◌, ◌*◌, ◌/◌, ◌%◌, ◌<◌, ◌≤◌, Bool, List, [], ◌∷◌, ◌++◌, length, get_or, set, take, drop, replicate, ap, sym, refl, ◌∙◌, arith, subst, cond, true, false, inl, inr, zero, suc, filter, flat_map, nat_eq, nat_lt, not, ◌||◌, add-one, ap₂}
 use Rattle.std.specs.List.{list_any, range_with_len}
-use Rattle.std.proofs.lemmas.Bool.{cases_eq, cases_lt, false≢true, le-ltb, lt-ltb, not-false, not-true}
+use Rattle.std.proofs.lemmas.Bool.{cases_eq, false≢true, le-ltb, lt-ltb, not-false, not-true, ne_eqb}
 use Rattle.std.proofs.lemmas.Bool.Decides.{Decides-eqb}
-use Rattle.std.proofs.lemmas.List.{append-nil, append_assoc, drop_more, get_or-replicate, get_or-set_other, get_or-set_same, get_or_append_left, get_or_at, length-append, length-replicate, length-set, take-append-drop, take_more}
+use Rattle.std.proofs.lemmas.List.{append-nil, append_assoc, drop_more, get_or-replicate, get_or-set_other, get_or-set_same, get_or_append_left, get_or_at, length-append, length-replicate, length-set, take-append-drop, take_more, get_or_default}
 use Rattle.std.proofs.lemmas.List.Concat.{flat_map-append}
-use Rattle.std.proofs.lemmas.List.Folds.{list_any-append, list_any_at}
+use Rattle.std.proofs.lemmas.List.Folds.{list_any-append, list_any_at, Any-from_list_any}
 use Rattle.std.proofs.lemmas.List.Quantifiers.{all_pairs_push}
 use Rattle.unixmodel.specs.Image.{bit_of, bitmap_start, count_in, data_blocks, data_start, direct_in, index_in, indirect_in, inodes_in, is_in_use, is_named, kind_in, named_blocks, named_by, size_in}
 use Rattle.unixmodel.specs.Numbers.{has_bit}
@@ -16,6 +15,7 @@ use mathlib.Core.Bool.{beq}
 use Rattle.imagerules.proofs.Named.{cond_no, cond_yes}
 use Rattle.imagerules.proofs.Uses.{front_is}
 use Rattle.layout.specs.declared.Geometry.{Geometry}
+use Rattle.std.proofs.Math.Seq.{take-suc-set}
 
 -- a list in which no block stands twice has no such front
 pub IsOnce-left : (xs ys : List ℕ) → IsOnce (xs ++ ys) → IsOnce xs
@@ -23,23 +23,13 @@ IsOnce-left xs ys h i j d l m =
     subst (λ y. get_or xs i d ≢ y) (get_or_append_left xs ys d j m)
     (subst (λ x. x ≢ get_or (xs ++ ys) j d) (get_or_append_left xs ys d i (omega arith)) (h i j d l (omega (arith, length-append xs ys))))
 
--- a block that a list lists stands somewhere in it
-listed_rest : (b x : ℕ) (xs : List ℕ) (t : Bool) → nat_eq b x ≡ t → (list_any (nat_eq b) xs ≡ true → (k : ℕ) × (k < length xs) × ((d : ℕ) → get_or xs k d ≡ b))
-    → (t || list_any (nat_eq b) xs) ≡ true → (k : ℕ) × (k < length (x ∷ xs)) × ((d : ℕ) → get_or (x ∷ xs) k d ≡ b)
-listed_rest b x xs true e rest k = (0, omega arith, λ d. sym ((Decides-eqb b x).0 e))
-listed_rest b x xs false e rest k = let r = rest k in (suc r.0, omega (arith, r.1), λ d. r.2 d)
-
-listed : (b : ℕ) (xs : List ℕ) → list_any (nat_eq b) xs ≡ true → (k : ℕ) × (k < length xs) × ((d : ℕ) → get_or xs k d ≡ b)
-listed b [] h = absurd (false≢true h)
-listed b (x ∷ xs) h = listed_rest b x xs (nat_eq b x) refl (listed b xs) h
-
 -- a second place for a block that is listed
 IsOnce-not : (xs ys : List ℕ) (b : ℕ) → list_any (nat_eq b) xs ≡ true → IsOnce (xs ++ (b ∷ ys)) → ⊥
 IsOnce-not xs ys b h once =
-    let at = listed b xs h in
+    let at = Any-from_list_any (nat_eq b) xs h in
     let here : get_or (xs ++ (b ∷ ys)) (length xs) 0 ≡ b = get_or_at xs b ys 0 (length xs) refl in
-    let there : get_or (xs ++ (b ∷ ys)) at.0 0 ≡ b = get_or_append_left xs (b ∷ ys) 0 at.0 at.1 ∙ at.2 0 in
-    once at.0 (length xs) 0 at.1 (omega (arith, length-append xs (b ∷ ys))) (there ∙ sym here)
+    let there : get_or (xs ++ (b ∷ ys)) at.0 0 ≡ b = get_or_append_left xs (b ∷ ys) 0 at.0 at.2 ∙ get_or_default xs at.0 0 at.1 at.2 ∙ at.3 ∙ sym ((Decides-eqb b at.1).0 at.4) in
+    once at.0 (length xs) 0 at.2 (omega (arith, length-append xs (b ∷ ys))) (there ∙ sym here)
 
 module _ (before : List ℕ) (marks : List Bool) (h : HasMarks before marks) (b : ℕ) (within : b < length marks) where
   pub HasMarks-more : get_or marks b false ≡ false → HasMarks (before ++ b ∷ []) (set marks b true)
@@ -51,7 +41,7 @@ module _ (before : List ℕ) (marks : List Bool) (h : HasMarks before marks) (b 
           ∙ sym (ap (λ x. list_any (nat_eq x) (before ++ b ∷ [])) here ∙ list_any_at (nat_eq b) (before ++ b ∷ []) (length before) 0 (omega (arith, length-append before (b ∷ [])))
           ((Decides-eqb b (get_or (before ++ b ∷ []) (length before) 0)).1 (sym (get_or_at before b [] 0 (length before) refl))))
       | inr other ↦ get_or-set_other marks b c true false other ∙ h.marked c (omega (arith, length-set marks b true))
-          ∙ sym (list_any-append (nat_eq c) before (b ∷ []) ∙ or_false (list_any (nat_eq c) before) (nat_eq c b) (not_eq c b other))
+          ∙ sym (list_any-append (nat_eq c) before (b ∷ []) ∙ or_false (list_any (nat_eq c) before) (nat_eq c b) (ne_eqb c b other))
     ];
   }
     where
@@ -59,12 +49,6 @@ module _ (before : List ℕ) (marks : List Bool) (h : HasMarks before marks) (b 
       or_false true y e = refl
       or_false false true e = e
       or_false false false e = refl
-
-      not_eq : (c b : ℕ) → c ≢ b → nat_eq c b ≡ false
-      not_eq c b n = go (nat_eq c b) refl where
-        go : (t : Bool) → nat_eq c b ≡ t → t ≡ false
-        go true e = absurd (n ((Decides-eqb c b).0 e))
-        go false e = refl
 
   pub HasMarks-shared : get_or marks b false ≡ true → (rest : List ℕ) → IsOnce (before ++ (b ∷ rest)) → ⊥
   HasMarks-shared taken rest = IsOnce-not before rest b (sym (h.marked b within) ∙ taken)
@@ -153,19 +137,14 @@ unfolding named_by data_blocks
 named_by-many image n h = ap (λ r. take (count_in image n) (direct_in image n ++ index_in image n) ++ r) (cond_yes 12 (count_in image n) (indirect_in image n ∷ []) [] h)
 
 -- the same, as the check reads the numbers
-module _ {image : List ℕ} {g : Geometry} (geometry : HasGeometry image g) (n count end : ℕ) (numbers : List ℕ) (e : take end numbers ≡ direct_in image n ++ index_in image n) (c : count ≡ count_in image n) (l : count ≤ end)
-    (used : kind_in image n ≢ 0) where
-  pub blocks_of-few : count ≤ 12 → blocks_of image n ≡ take count numbers
-  blocks_of-few h = blocks_of-used image n used ∙ named_by-few image n (omega arith) ∙ sym (front_is geometry n count end numbers e c l)
+module _ (image : List ℕ) (n count end : ℕ) (numbers : List ℕ) (e : take end numbers ≡ direct_in image n ++ index_in image n) (c : count ≡ count_in image n) (l : count ≤ end) where
+  pub named-few : count ≤ 12 → take count numbers ≡ named_by image n
+  named-few h = front_is image n count end numbers e c l ∙ sym (named_by-few image n (omega arith))
 
-  pub blocks_of-many : 12 < count → blocks_of image n ≡ take count numbers ++ (indirect_in image n ∷ [])
-  blocks_of-many h = blocks_of-used image n used ∙ named_by-many image n (omega arith) ∙ ap (λ r. r ++ (indirect_in image n ∷ [])) (sym (front_is geometry n count end numbers e c l))
-
-  pub blocks_of-split : (rest : List ℕ) × (blocks_of image n ≡ take count numbers ++ rest)
-  blocks_of-split = elim (cases_lt 12 count) [
-    | inl many ↦ (indirect_in image n ∷ [], blocks_of-many many)
-    | inr few ↦ ([], blocks_of-few few ∙ sym (append-nil (take count numbers)))
-  ]
+  pub named-many : 12 < count → (b : ℕ) → b ≡ indirect_in image n → count < length numbers → take (count + 1) (set numbers count b) ≡ named_by image n
+  named-many h b is within =
+      ap (λ m. take m (set numbers count b)) (add-one count) ∙ take-suc-set numbers count b within
+      ∙ ap₂ (λ xs x. xs ++ x ∷ []) (front_is image n count end numbers e c l) is ∙ sym (named_by-many image n (omega arith))
 
 pub HasMarks-none : (n : ℕ) → HasMarks [] (replicate n false)
 HasMarks-none n = record {

@@ -1,7 +1,6 @@
 -- The blocks that inodes name.
-use Rattle.std.proofs.Common.{◌≡◌, ℕ, ◌+◌, ◌*◌, ◌<◌, ◌≤◌, List, [], length, ap, ◌∙◌, arith, cond}
+use Rattle.std.proofs.Common.{◌≡◌, ℕ, ◌+◌, ◌*◌, ◌<◌, ◌≤◌, List, [], length, ap, ◌∙◌, arith, cond, nat_le, nat_lt, ◌&&◌}
 use Rattle.std.proofs.lemmas.Bool.Decides.{nat_tests}
-use Rattle.std.specs.Prelude.{nat_le, nat_lt, ◌&&◌}
 use Rattle.layout.specs.declared.Geometry.{Geometry}
 use Rattle.unixmodel.specs.Image.{block_at, count_in, data_start, index_in, indirect_in, is_data_block, numbers_at, size_in}
 use Rattle.imagerules.specs.Fields.{HasGeometry, is_data_in}

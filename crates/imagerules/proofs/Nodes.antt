@@ -1,6 +1,6 @@
 -- The files of an image whose inodes and blocks are sound.
-use Rattle.std.proofs.Common.{◌≡◌, ◌≢◌, ℕ, ◌+◌, ◌-◌, ◌*◌, ◌<◌, ◌≤◌, List, [], ◌∷◌, None, Some, length, get_or, take, drop, ap, sym, refl, ◌∙◌, arith, subst, inl, inr}
-use Rattle.std.specs.Prelude.{All, flat_map, ⊤, ◌==◌, ◌||◌, ◌⊎◌}
+use Rattle.std.proofs.Common.{◌≡◌, ◌≢◌, ℕ, ◌+◌, ◌-◌, ◌*◌, ◌<◌, ◌≤◌, List, [], ◌∷◌, None, Some, length, get_or, take, drop, ap, sym, refl, ◌∙◌, arith, subst, inl, inr, All, flat_map, ◌==◌, ◌||◌, ◌⊎◌}
+use Rattle.std.specs.Prelude.{⊤}
 use Rattle.std.proofs.lemmas.Bool.{cases_eq, cases_lt, cond-false, cond-true, eq-eqb, ne_eqb, or_from, or_right}
 use Rattle.std.proofs.lemmas.List.{get_or-drop, get_or-take, get_or_default, get_or_past, length-append, length-drop, length-take, length-take-le, nil_from_length}
 use Rattle.std.proofs.lemmas.List.Elements.{All-append, All-head, All-nil, All-tail, All-take}
@@ -138,9 +138,8 @@ module _ (image : List ℕ) (n : ℕ) (fits : FitsKind (kind_in image n) (length
 -- ---- a node that stands for an inode is the inode's
 
 abbrev pub PlacesFit : Node → Type 0
-PlacesFit (File links bytes) = ⊤
-PlacesFit (Device links major minor) = ⊤
 PlacesFit (Directory links places) = All PlaceFits places
+PlacesFit node = ⊤
 
 pub IsNode-same : (image : List ℕ) (n : ℕ) (node : Node) → IsNode image n node → PlacesFit node → node ≡ node_in image n
 IsNode-same image n (File links bytes) h fit =

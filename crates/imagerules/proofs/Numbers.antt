@@ -1,7 +1,5 @@
 -- Numbers in bytes, as the definitions of them read them.
-use Rattle.std.proofs.Common.{◌≡◌, ℕ, ◌+◌, ◌-◌, ◌*◌, ◌<◌, ◌≤◌, List, [], ◌∷◌, ◌++◌, length, take, drop, ap, sym, refl, ◌∙◌, arith, zero, suc, get_or}
-use Rattle.std.specs.Prelude.{slice_range}
-use Rattle.std.proofs.lemmas.List.{append_assoc, drop-drop, ext_get_or, get_or-drop, get_or-take, length-append, length-drop, length-take-le, take_at}
+use Rattle.std.proofs.Common.{◌≡◌, ℕ, ◌+◌, ◌-◌, ◌*◌, ◌<◌, ◌≤◌, List, [], ◌∷◌, ◌++◌, length, take, drop, ap, sym, refl, ◌∙◌, arith, zero, suc, get_or, slice_range, append_assoc, drop-drop, ext_get_or, get_or-drop, get_or-take, length-append, length-drop, length-take-le, take_at}
 use Rattle.std.proofs.lemmas.List.FromFn.{length-map-range_with_len, get_or-map-range_with_len}
 use Rattle.byteorder.specs.Endian.{little_number}
 use Rattle.byteorder.specs.Numbers.{little_from-cons}
@@ -73,8 +71,8 @@ numbers_at-part n b m xs h l =
     ∙ sym (get_or-numbers_at n b xs k i))
 
 -- two parts of a list, written one after the other
-pub take-put_mid : (m k : ℕ) (xs rest ys : List ℕ) → length xs ≡ m → length rest ≡ k → length ys ≡ k → take (m + k) (put_mid m k (xs ++ rest) ys) ≡ xs ++ ys
-take-put_mid m k xs rest ys a b c =
+pub take-put_mid : (m k : ℕ) (xs rest ys : List ℕ) → length xs ≡ m → length ys ≡ k → take (m + k) (put_mid m k (xs ++ rest) ys) ≡ xs ++ ys
+take-put_mid m k xs rest ys a c =
     ap (λ q. take (m + k) (q ++ (ys ++ drop k (drop m (xs ++ rest))))) (take_at xs rest m a)
     ∙ ap (take (m + k)) (sym (append_assoc xs ys (drop k (drop m (xs ++ rest)))))
     ∙ take_at (xs ++ ys) (drop k (drop m (xs ++ rest))) (m + k) (omega (arith, length-append xs ys))

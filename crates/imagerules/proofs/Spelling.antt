@@ -1,6 +1,6 @@
 -- A directory's bytes and the places that they spell.
-use Rattle.std.proofs.Common.{◌≡◌, ◌≢◌, ℕ, ◌+◌, ◌-◌, ◌*◌, ◌/◌, ◌%◌, ◌<◌, ◌≤◌, Bool, List, [], ◌∷◌, ◌++◌, None, Option, Some, length, get_or, take, drop, inl, inr, ap, sym, refl, ◌∙◌, arith, cond, true, false, zero, suc}
-use Rattle.std.specs.Prelude.{All, flat_map, nat_eq, ⊤, ◌==◌, ◌&&◌}
+use Rattle.std.proofs.Common.{◌≡◌, ◌≢◌, ℕ, ◌+◌, ◌-◌, ◌*◌, ◌/◌, ◌%◌, ◌<◌, ◌≤◌, Bool, List, [], ◌∷◌, ◌++◌, None, Option, Some, length, get_or, take, drop, inl, inr, ap, sym, refl, ◌∙◌, arith, cond, true, false, zero, suc, All, flat_map, nat_eq, ◌==◌, ◌&&◌}
+use Rattle.std.specs.Prelude.{⊤}
 use Rattle.std.specs.List.{list_all, range_with_len}
 use Rattle.std.proofs.lemmas.Bool.{and_parts, cases_lt, cond-false, false≢true, eqb-true, ne_eqb}
 use Rattle.std.proofs.lemmas.List.{append-nil, drop-drop, drop-take, drop_at, ext_get_or, get_or-drop, get_or-take, get_or_past, length-append, length-drop, length-replicate, length-take, length-take-le, take-append-drop, take-take, take_all, take_at}

@@ -1,9 +1,7 @@
 -- How many blocks inodes name, and how many inodes are in use.
-use Rattle.std.proofs.Common.{◌≡◌, ◌≢◌, ℕ, ◌+◌, ◌-◌, ◌<◌, ◌≤◌, Bool, List, [], ◌∷◌, ◌++◌, length, take, ap, ◌∙◌, arith, cond, inl, inr}
-use Rattle.std.specs.Prelude.{filter, nat_lt}
+use Rattle.std.proofs.Common.{◌≡◌, ◌≢◌, ℕ, ◌+◌, ◌-◌, ◌<◌, ◌≤◌, Bool, List, [], ◌∷◌, ◌++◌, length, take, ap, ◌∙◌, arith, cond, inl, inr, filter, nat_lt, length-append, length-take-le}
 use Rattle.std.specs.List.{range_with_len}
 use Rattle.std.proofs.lemmas.Bool.{cases_lt}
-use Rattle.std.proofs.lemmas.List.{length-append, length-take-le}
 use Rattle.std.proofs.lemmas.List.Elements.{filter-append}
 use Rattle.unixmodel.specs.Image.{block_at, count_in, data_blocks, direct_in, index_in, indirect_in, inode_at, is_in_use, kind_in, numbers_at}
 use Rattle.imagerules.specs.Marks.{blocks_of}

@@ -1,8 +1,7 @@
 -- What holds of the inodes in use, one by one and in a list.
-use Rattle.std.proofs.Common.{◌≡◌, ◌≢◌, ℕ, ◌+◌, ◌-◌, ◌*◌, ◌<◌, ◌≤◌, List, [], ◌∷◌, ◌++◌, length, get_or, take, drop, ap, sym, ◌∙◌, arith, subst, cond, Bool, true, false}
-use Rattle.std.specs.Prelude.{All, IsTrue, flat_map, nat_eq, nat_le, nat_lt, ◌&&◌}
-use Rattle.std.specs.List.{range_with_len}
-use Rattle.std.proofs.lemmas.Bool.{false≢true}
+use Rattle.std.proofs.Common.{◌≡◌, ◌≢◌, ℕ, ◌+◌, ◌-◌, ◌*◌, ◌<◌, ◌≤◌, List, [], ◌∷◌, ◌++◌, length, get_or, take, drop, ap, sym, ◌∙◌, arith, subst, cond, Bool, true, false, All, IsTrue, flat_map, nat_eq, nat_le, nat_lt, ◌==◌, eqb-true, eq-eqb}
+use Rattle.std.specs.List.{range_with_len, list_all}
+use Rattle.std.proofs.lemmas.Bool.{and_parts, ltb-true}
 use Rattle.std.proofs.lemmas.Bool.Decides.{Decides-ltb, Decides-eqb}
 use Rattle.std.proofs.lemmas.List.Elements.{All-append, All-cons, All-head, All-nil, All-weaker}
 use Rattle.std.proofs.lemmas.List.{drop-take, take-take}
@@ -14,6 +13,7 @@ use Rattle.imagerules.specs.Pieces.{FitsAddresses, HasAddresses, fits_indirect}
 use Rattle.imagerules.proofs.Bounds.{block-inside}
 use Rattle.imagerules.proofs.Named.{is_data_in-is}
 use Rattle.imagerules.proofs.Lists.{All-flat_map, All-from_flat_map, All-from_passing, All-left, All-passing, All-right}
+use Rattle.std.proofs.lemmas.List.Sums.{AllPass-from_list_all, list_all-from_AllPass}
 
 -- an inode is in use where its type isn't 0
 pub in_use : (image : List ℕ) (n : ℕ) → kind_in image n ≢ 0 → is_in_use image n ≡ true
@@ -97,26 +97,16 @@ module _ (image : List ℕ) (n : ℕ) where
 
 -- ---- the same, as the check reads them
 
-cond_true : (b : Bool) (x y : Bool) → b ≡ true → cond b x y ≡ true → x ≡ true
-cond_true true x y e h = h
-cond_true false x y e h = absurd (false≢true e)
-
-below_from : (a b c : ℕ) → (nat_le a b && nat_lt b c) ≡ true → b < c
-below_from a b c h = (Decides-ltb b c).0 (and_right (nat_le a b) (nat_lt b c) h) where
-  and_right : (x y : Bool) → (x && y) ≡ true → y ≡ true
-  and_right true y h = h
-  and_right false y h = absurd (false≢true h)
-
 -- a data block lies in the image
 pub is_data_block-below : (image : List ℕ) (b : ℕ) → is_data_block image b ≡ true → b < size_in image
-is_data_block-below image b h = below_from (data_start (size_in image) (inodes_in image)) b (size_in image) h
+is_data_block-below image b h = ltb-true b (size_in image) (and_parts (nat_le (data_start (size_in image) (inodes_in image)) b) (nat_lt b (size_in image)) h).1
 
 pub indirect-inside : {image : List ℕ} {g : Geometry} → HasGeometry image g → (n : ℕ) → fits_indirect image n ≡ true → IsTrue (needs_indirect image n) → 1024 * indirect_in image n + 1024 ≤ length image
 indirect-inside {image} h n fits needs =
-    let l : indirect_in image n < size_in image = is_data_block-below image (indirect_in image n) (cond_true (needs_indirect image n) (is_data_block image (indirect_in image n)) (nat_eq (indirect_in image n) 0) needs fits) in
+    let l : indirect_in image n < size_in image = is_data_block-below image (indirect_in image n) (sym (ap (λ t. cond t (is_data_block image (indirect_in image n)) (nat_eq (indirect_in image n) 0)) needs) ∙ fits) in
     block-inside h (indirect_in image n) (omega (arith, h.size))
 
-module _ {image : List ℕ} {g : Geometry} (h : HasGeometry image g) (n count end : ℕ) (numbers : List ℕ) (e : take end numbers ≡ direct_in image n ++ index_in image n) (c : count ≡ count_in image n) (l : count ≤ end) where
+module _ (image : List ℕ) (n count end : ℕ) (numbers : List ℕ) (e : take end numbers ≡ direct_in image n ++ index_in image n) (c : count ≡ count_in image n) (l : count ≤ end) where
   pub front_is : take count numbers ≡ take (count_in image n) (direct_in image n ++ index_in image n)
   front_is = sym (take-take count end numbers l) ∙ ap (take count) e ∙ ap (λ m. take m (direct_in image n ++ index_in image n)) c
 
@@ -125,27 +115,25 @@ module _ {image : List ℕ} {g : Geometry} (h : HasGeometry image g) (n count en
       let m : count + (end - count) ≡ end = omega arith in
       sym (drop-take count (end - count) numbers) ∙ ap (λ m. drop count (take m numbers)) m ∙ ap (drop count) e ∙ ap (λ m. drop m (direct_in image n ++ index_in image n)) c
 
-  pub FitsAddresses-read : fits_indirect image n ≡ true → All (λ b. IsTrue (is_data_in g b)) (take count numbers) → All (λ b. b ≡ 0) (take (end - count) (drop count numbers)) → FitsAddresses image n
-  FitsAddresses-read fits front rest =
-      FitsAddresses-from image n fits
-      (All-weaker (λ b. IsTrue (is_data_in g b)) (λ b. IsTrue (is_data_block image b)) (λ b t. sym (is_data_in-is image g h b) ∙ t) (take (count_in image n) (direct_in image n ++ index_in image n)) (subst (All (λ b. IsTrue (is_data_in g b))) front_is front))
-      (subst (All (λ b. b ≡ 0)) rest_is rest)
+  -- the tests of these numbers
+  module _ {g : Geometry} (h : HasGeometry image g) where
+    pub FitsAddresses-read : fits_indirect image n ≡ true → list_all (is_data_in g) (take count numbers) ≡ true → list_all (λ b. b == 0) (take (end - count) (drop count numbers)) ≡ true → FitsAddresses image n
+    FitsAddresses-read fits front rest =
+        FitsAddresses-from image n fits
+        (subst (All (λ b. IsTrue (is_data_block image b))) front_is
+        (All-weaker (λ b. IsTrue (is_data_in g b)) (λ b. IsTrue (is_data_block image b)) (λ b t. sym (is_data_in-is image g h b) ∙ t) (take count numbers) (AllPass-from_list_all (is_data_in g) (take count numbers) front)))
+        (subst (All (λ b. b ≡ 0)) rest_is
+        (All-weaker (λ b. (b == 0) ≡ true) (λ b. b ≡ 0) (λ b t. eqb-true b 0 t) (take (end - count) (drop count numbers)) (AllPass-from_list_all (λ b. b == 0) (take (end - count) (drop count numbers)) rest)))
 
-  pub FitsAddresses-front : FitsAddresses image n → All (λ b. IsTrue (is_data_in g b)) (take count numbers)
-  FitsAddresses-front fits =
-      subst (All (λ b. IsTrue (is_data_in g b))) (sym front_is)
-      (All-weaker (λ b. IsTrue (is_data_block image b)) (λ b. IsTrue (is_data_in g b)) (λ b t. is_data_in-is image g h b ∙ t) (take (count_in image n) (direct_in image n ++ index_in image n)) (All-data_blocks image n fits))
+    pub FitsAddresses-front : FitsAddresses image n → list_all (is_data_in g) (take count numbers) ≡ true
+    FitsAddresses-front fits =
+        list_all-from_AllPass (is_data_in g) (take count numbers)
+        (All-weaker (λ b. IsTrue (is_data_block image b)) (λ b. IsTrue (is_data_in g b)) (λ b t. is_data_in-is image g h b ∙ t) (take count numbers) (subst (All (λ b. IsTrue (is_data_block image b))) (sym front_is) (All-data_blocks image n fits)))
 
-  pub FitsAddresses-rest : FitsAddresses image n → All (λ b. b ≡ 0) (take (end - count) (drop count numbers))
-  FitsAddresses-rest fits = subst (All (λ b. b ≡ 0)) (sym rest_is) (All-rest image n fits)
+    pub FitsAddresses-rest : FitsAddresses image n → list_all (λ b. b == 0) (take (end - count) (drop count numbers)) ≡ true
+    FitsAddresses-rest fits =
+        list_all-from_AllPass (λ b. b == 0) (take (end - count) (drop count numbers))
+        (All-weaker (λ b. b ≡ 0) (λ b. (b == 0) ≡ true) (λ b z. eq-eqb b 0 z) (take (end - count) (drop count numbers)) (subst (All (λ b. b ≡ 0)) (sym rest_is) (All-rest image n fits)))
 
-  pub FitsAddresses-below : FitsAddresses image n → All (λ b. b < g.size) (take count numbers)
-  FitsAddresses-below fits =
-      All-weaker (λ b. IsTrue (is_data_in g b)) (λ b. b < g.size) (λ b t. below_from (data_start g.size g.inodes) b g.size t) (take count numbers) (FitsAddresses-front fits)
-
-pub indirect-below : {image : List ℕ} {g : Geometry} → HasGeometry image g → (n : ℕ) → FitsAddresses image n → 12 < count_in image n → indirect_in image n < g.size
-indirect-below {image} h n fits many =
-    let l : indirect_in image n < size_in image =
-    is_data_block-below image (indirect_in image n)
-    (cond_true (needs_indirect image n) (is_data_block image (indirect_in image n)) (nat_eq (indirect_in image n) 0) ((Decides-ltb 12 (count_in image n)).1 many) (fits_indirect-at image n fits)) in
-    omega (arith, h.size)
+pub named-below : {image : List ℕ} {g : Geometry} → HasGeometry image g → (n : ℕ) → FitsAddresses image n → All (λ b. b < g.size) (named_by image n)
+named-below {image} {g} h n fits = All-weaker (λ b. IsTrue (is_data_block image b)) (λ b. b < g.size) (λ b t. omega (arith, is_data_block-below image b t, h.size)) (named_by image n) fits.blocks

@@ -22,10 +22,14 @@ pub record HasGeometry (image : List ℕ) (g : Geometry) : Type 0 where
   pub size : g.size ≡ size_in image
   pub inodes : g.inodes ≡ inodes_in image
 
--- inode n lies in the image, and its size fits in its numbers
-pub record HasInode (image : List ℕ) (n : ℕ) : Type 0 where
+-- inode n lies in the image
+pub record HasPlace (image : List ℕ) (n : ℕ) : Type 0 where
   pub number : n < 8192
   pub inside : inode_at n + 64 ≤ length image
+
+-- and its size fits in its numbers
+pub record HasInode (image : List ℕ) (n : ℕ) : Type 0 where
+  pub place : HasPlace image n
   pub size : length_in image n ≤ longest
 
 abbrev pub is_data_in : Geometry → ℕ → Bool

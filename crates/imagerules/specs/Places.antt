@@ -52,10 +52,8 @@ pub record FitsEntries (files : Files) (d : ℕ) (places : List (Option Entry)) 
   pub named : names_of files d ≡ (if d == 1 then 0 else 1)
 
 abbrev pub EntriesAt : Files → ℕ → Option Node → Type 0
-EntriesAt files n None = ⊤
-EntriesAt files n (Some (File links bytes)) = ⊤
-EntriesAt files n (Some (Device links major minor)) = ⊤
 EntriesAt files n (Some (Directory links places)) = FitsEntries files n places
+EntriesAt files n o = ⊤
 
 abbrev pub HasEntries : Files → Type 0
 HasEntries files = (n : ℕ) → EntriesAt files n (slot files n)

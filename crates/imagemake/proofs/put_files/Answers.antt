@@ -1,14 +1,14 @@
 use Rattle.std.proofs.Common.{arith}
 use Rattle.std.proofs.lemmas.Result.{err_from_is_err_and}
 use Rattle.imagemake.proofs.Imaging.{Stores-none}
-use Rattle.imagemake.proofs.Owned.{Blames-after, Blames-failed, Blames-stored, told}
+use Rattle.imagemake.proofs.Owned.{Owns-after, Owns-failed, Blames-stored, told}
 use Rattle.imagemake.proofs.put_files.Goals as goal
 
 pub store_root-requires : goal.store_root-requires
 store_root-requires g c = record { empty = Stores-none c.args.geometry c.format.new.disk.blocks c.in-Ok.ensures.sound c.in-Ok.ensures.nodes c.in-Ok.ensures.free }
 
 pub returns-in_default-clause-cause : goal.returns-in_default-clause-cause
-returns-in_default-clause-cause g c = Blames-failed (omega arith) c.format.ensures.cause c.in_default.is
+returns-in_default-clause-cause g c = Owns-failed (omega arith) c.format.ensures.cause c.in_default.is
 
 pub returns-in_err-store_root-clause-refused : goal.returns-in_err-store_root-clause-refused
 returns-in_err-store_root-clause-refused g c =
@@ -20,4 +20,4 @@ returns-in_err-store_root-clause-cause g c =
     Blames-stored c.in_err-store_root.field-0.0 (omega arith) c.in_err-store_root.ensures.cause (told c.from_residual.result c.from_residual.ensures.1)
 
 pub returns-clause-cause : goal.returns-clause-cause
-returns-clause-cause g c = Blames-after (omega arith) c.add_entries.ensures.cause
+returns-clause-cause g c = Owns-after (omega arith) c.add_entries.ensures.cause

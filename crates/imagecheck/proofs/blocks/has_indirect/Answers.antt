@@ -1,15 +1,11 @@
-use Rattle.std.proofs.Common.{ap, sym, ◌∙◌, arith}
-use Rattle.std.specs.Prelude.{nat_eq}
+use Rattle.std.proofs.Common.{ap, sym, ◌∙◌, arith, nat_eq}
 use Rattle.unixmodel.specs.Image.{count_in, indirect_in, is_data_block}
 use Rattle.imagerules.proofs.Named.{cond_no, cond_yes, is_data_in-is}
 use Rattle.imagerules.proofs.Bounds.{inodes-most, size-most}
 use Rattle.imagecheck.proofs.blocks.has_indirect.Goals as goal
 
-pub is_data-requires-clause-inodes : goal.is_data-requires-clause-inodes
-is_data-requires-clause-inodes c = inodes-most c.requires.geometry
-
-pub is_data-requires-clause-size : goal.is_data-requires-clause-size
-is_data-requires-clause-size c = size-most c.requires.geometry
+pub is_data-requires : goal.is_data-requires
+is_data-requires c = record { inodes = inodes-most c.requires.geometry; size = size-most c.requires.geometry }
 
 pub returns-then-block_count-le12 : goal.returns-then-block_count-le12
 returns-then-block_count-le12 c =

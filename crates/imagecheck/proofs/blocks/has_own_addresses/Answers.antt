@@ -1,16 +1,12 @@
-use Rattle.std.proofs.Common.{◌≢◌, ◌∙◌, sym, arith}
-use Rattle.std.specs.Prelude.{nat_eq}
+use Rattle.std.proofs.Common.{◌≢◌, ◌∙◌, sym, nat_eq}
 use Rattle.std.proofs.lemmas.Bool.{OnFalse_at, OnFalse_from, OnTrue_at, OnTrue_from}
 use Rattle.unixmodel.specs.Image.{kind_in}
 use Rattle.imagerules.specs.Pieces.{FitsAddresses}
-use Rattle.imagerules.proofs.Bounds.{HasInode-at, inodes-most, inode-inside}
+use Rattle.imagerules.proofs.Bounds.{HasInode-at, HasPlace-at}
 use Rattle.imagecheck.proofs.blocks.has_own_addresses.Goals as goal
 
-pub kind-requires-clause-number : goal.kind-requires-clause-number
-kind-requires-clause-number c = omega (arith, inodes-most c.requires.geometry)
-
-pub kind-requires-clause-inside : goal.kind-requires-clause-inside
-kind-requires-clause-inside c = inode-inside c.requires.geometry c.args.n c.requires.high
+pub kind-requires : goal.kind-requires
+kind-requires c = HasPlace-at c.requires.geometry c.args.n c.requires.high
 
 pub fits_addresses-requires-clause-inode : goal.fits_addresses-requires-clause-inode
 fits_addresses-requires-clause-inode c = HasInode-at c.requires.geometry c.requires.sizes c.args.n c.requires.low c.requires.high (λ z. c.if-kind-eq0.false (c.kind.ensures ∙ z))

@@ -1,6 +1,4 @@
-use Rattle.std.proofs.Common.{◌++◌, sym, ap, ◌∙◌, arith}
-use Rattle.std.specs.Prelude.{flat_map}
-use Rattle.std.proofs.lemmas.List.{append-nil, take_all}
+use Rattle.std.proofs.Common.{◌++◌, sym, ap, ◌∙◌, arith, flat_map, append-nil, take_all}
 use Rattle.unixmodel.specs.Image.{block_at}
 use Rattle.imagecheck.proofs.Copying.{copied_more}
 use Rattle.imagecheck.proofs.contents.copy_blocks.Goals as goal

@@ -1,5 +1,4 @@
-use Rattle.std.proofs.Common.{◌≡◌, ◌++◌, take}
-use Rattle.std.specs.Prelude.{flat_map}
+use Rattle.std.proofs.Common.{◌≡◌, ◌++◌, take, flat_map}
 use Rattle.unixmodel.specs.Image.{block_at}
 use Rattle.imagecheck.proofs.contents.copy_blocks.Given as goal
 

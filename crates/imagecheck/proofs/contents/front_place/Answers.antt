@@ -2,7 +2,7 @@ use Rattle.std.proofs.Common.{◌≡◌, ◌+◌, ◌*◌, ap, ◌∙◌, arith}
 use Rattle.unixmodel.specs.Numbers.{number_at}
 use Rattle.imagecheck.specs.Reach.{first_block}
 use Rattle.imagerules.specs.Rules.{HasBlocks-of}
-use Rattle.imagerules.proofs.Bounds.{inode-inside, inodes-most}
+use Rattle.imagerules.proofs.Bounds.{HasPlace-at, inodes-most}
 use Rattle.imagecheck.proofs.Parents.{first_inside}
 use Rattle.imagecheck.proofs.contents.front_place.Goals as goal
 
@@ -12,7 +12,7 @@ inode_place-requires c = let h = c.requires.directory.high in omega (arith, inod
 pub number32-requires : goal.number32-requires
 number32-requires c =
     let h = c.requires.directory.high in
-    omega (arith, inode-inside c.requires.geometry c.args.n (omega (arith, c.requires.geometry.inodes)), c.inode_place.ensures)
+    omega (arith, (HasPlace-at c.requires.geometry c.args.n (omega (arith, c.requires.geometry.inodes))).inside, c.inode_place.ensures)
 
 pub returns-clause-place : goal.returns-clause-place
 returns-clause-place c = ap (λ b. 1024 * b) (c.number32.ensures ∙ ap (λ p. number_at 4 (p + 12) c.args.image.now) c.inode_place.ensures)

@@ -1,5 +1,4 @@
-use Rattle.std.proofs.Common.{◌≢◌, ◌<◌, ℕ, arith, get_or, subst, sym}
-use Rattle.std.specs.Prelude.{AllPairs}
+use Rattle.std.proofs.Common.{◌≢◌, ◌<◌, ℕ, arith, get_or, subst, sym, AllPairs}
 use Rattle.std.proofs.lemmas.Bool.{OnFalse_at, OnFalse_from, OnTrue_at, OnTrue_from}
 use Rattle.imagecheck.specs.Entries.{HasNames, entries_in}
 use Rattle.imagecheck.proofs.Distinct.{all-trimmed, names-from_numbers, numbers-from_names}

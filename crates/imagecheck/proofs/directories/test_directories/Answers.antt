@@ -1,17 +1,14 @@
 use Rattle.std.proofs.Common.{◌≡◌, ◌<◌, List, sym, ap, ◌∙◌, arith}
 use Rattle.unixmodel.specs.Image.{contents_in, inodes_in, kind_in}
 use Rattle.imagecheck.specs.Entries.{HasNames}
-use Rattle.imagerules.proofs.Bounds.{inode-inside, inodes-least, inodes-most, up_to_more}
+use Rattle.imagerules.proofs.Bounds.{HasPlace-at, inodes-least, up_to_more}
 use Rattle.imagecheck.specs.declared.namings.Naming.{Naming}
 use Rattle.imagecheck.proofs.Collecting.{namings_to, namings_to-all, namings_to-directory, namings_to-first, namings_to-other}
 use Rattle.imagecheck.proofs.directories.test_directories.Goals as goal
 use Rattle.imagecheck.proofs.directories.test_directories.Goals.{else-kind-eq1, then-kind-eq1+in_ok-test_directory}
 
-pub kind-requires-clause-number : goal.kind-requires-clause-number
-kind-requires-clause-number g c = omega (arith, inodes-most c.requires.geometry)
-
-pub kind-requires-clause-inside : goal.kind-requires-clause-inside
-kind-requires-clause-inside g c = inode-inside c.requires.geometry c.loop-n.n c.loop-n-test.true
+pub kind-requires : goal.kind-requires
+kind-requires g c = HasPlace-at c.requires.geometry c.loop-n.n c.loop-n-test.true
 
 pub loop-n-init : goal.loop-n-init
 loop-n-init g c =

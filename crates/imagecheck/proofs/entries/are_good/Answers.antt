@@ -1,5 +1,4 @@
-use Rattle.std.proofs.Common.{sym, ap, subst, arith}
-use Rattle.std.specs.Prelude.{All}
+use Rattle.std.proofs.Common.{sym, ap, subst, arith, All}
 use Rattle.std.proofs.lemmas.Bool.{OnFalse_at, OnTrue_at}
 use Rattle.imagecheck.specs.Entries.{GoodPlace, IsGood}
 use Rattle.imagerules.specs.Places.{place_of_bytes}

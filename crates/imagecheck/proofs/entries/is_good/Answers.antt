@@ -1,5 +1,4 @@
-use Rattle.std.proofs.Common.{◌≡◌, false, length, drop, sym, ap, subst, ◌∙◌, arith}
-use Rattle.std.specs.Prelude.{IsSome, ◌==◌}
+use Rattle.std.proofs.Common.{◌≡◌, false, length, drop, sym, ap, subst, ◌∙◌, arith, IsSome, ◌==◌}
 use Rattle.std.specs.List.{list_all}
 use Rattle.std.proofs.lemmas.Bool.{OnFalse_from, OnTrue_at, OnTrue_from, false≢true}
 use Rattle.std.proofs.lemmas.Slice.{between_to_end}

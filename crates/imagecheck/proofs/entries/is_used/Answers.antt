@@ -1,17 +1,13 @@
-use Rattle.std.proofs.Common.{sym, ap, ◌∙◌, arith}
-use Rattle.std.specs.Prelude.{IsSome, nat_eq, not}
+use Rattle.std.proofs.Common.{sym, ap, ◌∙◌, arith, IsSome, nat_eq, not}
 use Rattle.std.proofs.lemmas.Bool.{OnFalse_from, OnTrue_from, eq-eqb, eqb-true, false≢true, not-false}
 use Rattle.unixmodel.specs.Files.{slot}
 use Rattle.imagerules.specs.Places.{files_in}
 use Rattle.imagecheck.proofs.Entering.{none_free, none_past, none_zero, used_some}
-use Rattle.imagerules.proofs.Bounds.{inodes-least, inode-inside, inodes-most}
+use Rattle.imagerules.proofs.Bounds.{inodes-least, HasPlace-at}
 use Rattle.imagecheck.proofs.entries.is_used.Goals as goal
 
-pub kind-requires-clause-number : goal.kind-requires-clause-number
-kind-requires-clause-number c = omega (arith, inodes-most c.requires, c.if-n-geometry.false)
-
-pub kind-requires-clause-inside : goal.kind-requires-clause-inside
-kind-requires-clause-inside c = inode-inside c.requires c.args.n c.if-n-geometry.false
+pub kind-requires : goal.kind-requires
+kind-requires c = HasPlace-at c.requires c.args.n c.if-n-geometry.false
 
 pub returns-then-n-eq0-clause-bad : goal.returns-then-n-eq0-clause-bad
 returns-then-n-eq0-clause-bad c = let least = inodes-least c.requires in none_zero c.args.image.now c.args.n (omega arith) c.if-n-eq0.true

@@ -1,5 +1,4 @@
-use Rattle.std.proofs.Common.{◌≡◌, length, sym, subst, ◌∙◌, arith}
-use Rattle.std.proofs.lemmas.List.{take_at}
+use Rattle.std.proofs.Common.{◌≡◌, length, sym, subst, ◌∙◌, arith, take_at}
 use Rattle.imagecheck.specs.Namings.{HasParents, TellsNames, TellsSubdirectories}
 use Rattle.imagerules.proofs.Bounds.{inodes-least}
 use Rattle.imagecheck.proofs.Collecting.{HasParents-from, TellsNames-from, TellsSubdirectories-from, namings-fitting, numbers-within, zeros}

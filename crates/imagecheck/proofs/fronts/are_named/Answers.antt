@@ -1,16 +1,12 @@
-use Rattle.std.proofs.Common.{◌≡◌, ◌<◌, cond, length, sym, ◌∙◌, arith}
-use Rattle.std.specs.Prelude.{◌==◌}
+use Rattle.std.proofs.Common.{◌≡◌, ◌<◌, cond, length, sym, ◌∙◌, arith, ◌==◌}
 use Rattle.std.proofs.lemmas.Bool.{OnFalse_at, OnTrue_at}
 use Rattle.unixmodel.specs.Image.{kind_in, names_of}
 use Rattle.imagerules.specs.Places.{files_in}
-use Rattle.imagerules.proofs.Bounds.{inode-inside, inodes-most, up_to_more}
+use Rattle.imagerules.proofs.Bounds.{HasPlace-at, up_to_more}
 use Rattle.imagecheck.proofs.fronts.are_named.Goals as goal
 
-pub kind-requires-clause-number : goal.kind-requires-clause-number
-kind-requires-clause-number c = omega (arith, inodes-most c.requires.geometry, c.loop-n-test.true)
-
-pub kind-requires-clause-inside : goal.kind-requires-clause-inside
-kind-requires-clause-inside c = inode-inside c.requires.geometry c.loop-n.n c.loop-n-test.true
+pub kind-requires : goal.kind-requires
+kind-requires c = HasPlace-at c.requires.geometry c.loop-n.n c.loop-n-test.true
 
 pub returns-then-not-fits_names-clause-bad : goal.returns-then-not-fits_names-clause-bad
 returns-then-not-fits_names-clause-bad c = λ h.

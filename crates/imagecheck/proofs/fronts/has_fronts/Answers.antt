@@ -1,18 +1,14 @@
-use Rattle.std.proofs.Common.{◌≡◌, ◌∙◌, arith, subst}
-use Rattle.std.specs.Prelude.{slice_index}
+use Rattle.std.proofs.Common.{◌≡◌, ◌∙◌, arith, subst, slice_index}
 use Rattle.std.proofs.lemmas.Bool.{OnTrue_at}
 use Rattle.unixmodel.specs.Image.{contents_in, kind_in, parent_of}
 use Rattle.imagecheck.specs.Entries.{FitsFront}
 use Rattle.imagerules.specs.Places.{files_in}
-use Rattle.imagerules.proofs.Bounds.{inode-inside, inodes-most, up_to_more}
+use Rattle.imagerules.proofs.Bounds.{HasPlace-at, up_to_more}
 use Rattle.imagecheck.proofs.fronts.has_fronts.Goals as goal
 use Rattle.imagecheck.proofs.fronts.has_fronts.Goals.{else-kind-eq1-via-else-kind-eq1, else-kind-eq1-via-then-kind-eq1+else-not-has_front}
 
-pub kind-requires-clause-number : goal.kind-requires-clause-number
-kind-requires-clause-number c = omega (arith, inodes-most c.requires.geometry)
-
-pub kind-requires-clause-inside : goal.kind-requires-clause-inside
-kind-requires-clause-inside c = inode-inside c.requires.geometry c.loop-n.n c.loop-n-test.true
+pub kind-requires : goal.kind-requires
+kind-requires c = HasPlace-at c.requires.geometry c.loop-n.n c.loop-n-test.true
 
 pub loop-n-preserved : goal.loop-n-preserved
 loop-n-preserved c =

@@ -1,5 +1,4 @@
-use Rattle.std.proofs.Common.{◌≡◌, ℕ, List, [], None, Some, length, drop, sym, ap, ◌∙◌, arith}
-use Rattle.std.specs.Prelude.{Option}
+use Rattle.std.proofs.Common.{◌≡◌, ℕ, List, [], None, Some, length, drop, sym, ap, ◌∙◌, arith, Option}
 use Rattle.std.proofs.lemmas.Bool.{OnFalse_from, OnTrue_from}
 use Rattle.std.proofs.lemmas.Slice.{between_to_end}
 use Rattle.unixmodel.specs.Files.{Entry}

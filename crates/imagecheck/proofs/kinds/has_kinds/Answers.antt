@@ -3,17 +3,14 @@ use Rattle.std.proofs.lemmas.Bool.{OnTrue_from, OnFalse_from, false≢true}
 use Rattle.std.proofs.lemmas.Bool.Decides.{Decides-eqb}
 use Rattle.unixmodel.specs.Image.{kind_in}
 use Rattle.imagerules.specs.Pieces.{HasKinds}
-use Rattle.imagerules.proofs.Bounds.{up_to_more, inode-inside, inodes-most, inodes-least}
+use Rattle.imagerules.proofs.Bounds.{up_to_more, HasPlace-at, inodes-least}
 use Rattle.imagecheck.proofs.kinds.has_kinds.Goals as goal
 
-pub kind-requires-clause-number : goal.kind-requires-clause-number
-kind-requires-clause-number c = omega (arith, inodes-most c.requires, c.loop-n-test.true)
+pub kind-requires : goal.kind-requires
+kind-requires c = HasPlace-at c.requires c.loop-n.n c.loop-n-test.true
 
-pub kind-requires-clause-inside : goal.kind-requires-clause-inside
-kind-requires-clause-inside c = inode-inside c.requires c.loop-n.n c.loop-n-test.true
-
-pub kind-requires-2-clause-inside : goal.kind-requires-2-clause-inside
-kind-requires-2-clause-inside c = inode-inside c.requires 1 (omega (arith, inodes-least c.requires))
+pub kind-requires-2 : goal.kind-requires-2
+kind-requires-2 c = HasPlace-at c.requires 1 (omega (arith, inodes-least c.requires))
 
 pub returns-then-kind-gt3-clause-bad : goal.returns-then-kind-gt3-clause-bad
 returns-then-kind-gt3-clause-bad c = λ h.

@@ -2,20 +2,14 @@ use Rattle.std.proofs.Common.{sym, subst, arith}
 use Rattle.std.proofs.lemmas.Bool.{OnFalse_at, OnTrue_at}
 use Rattle.unixmodel.specs.Image.{kind_in, length_in}
 use Rattle.imagerules.specs.Pieces.{FitsKind}
-use Rattle.imagerules.proofs.Bounds.{up_to_more, inodes-most, inode-inside}
+use Rattle.imagerules.proofs.Bounds.{up_to_more, HasPlace-at}
 use Rattle.imagecheck.proofs.kinds.has_sizes.Goals as goal
 
-pub kind-requires-clause-number : goal.kind-requires-clause-number
-kind-requires-clause-number c = omega (arith, inodes-most c.requires.geometry)
+pub kind-requires : goal.kind-requires
+kind-requires c = HasPlace-at c.requires.geometry c.loop-n.n c.loop-n-test.true
 
-pub kind-requires-clause-inside : goal.kind-requires-clause-inside
-kind-requires-clause-inside c = inode-inside c.requires.geometry c.loop-n.n c.loop-n-test.true
-
-pub size-requires-clause-number : goal.size-requires-clause-number
-size-requires-clause-number c = omega (arith, inodes-most c.requires.geometry)
-
-pub size-requires-clause-inside : goal.size-requires-clause-inside
-size-requires-clause-inside c = inode-inside c.requires.geometry c.loop-n.n c.loop-n-test.true
+pub size-requires : goal.size-requires
+size-requires c = HasPlace-at c.requires.geometry c.loop-n.n c.loop-n-test.true
 
 pub returns-then-not-fits_kind-clause-bad : goal.returns-then-not-fits_kind-clause-bad
 returns-then-not-fits_kind-clause-bad c = λ h.

@@ -2,22 +2,16 @@ use Rattle.std.proofs.Common.{◌<◌, length, get_or, sym, arith}
 use Rattle.std.proofs.lemmas.Bool.{OnFalse_at, OnTrue_at}
 use Rattle.unixmodel.specs.Image.{kind_in, links_in, names_of, subdirectories}
 use Rattle.imagerules.specs.Places.{files_in}
-use Rattle.imagerules.proofs.Bounds.{inode-inside, inodes-most, up_to_more}
+use Rattle.imagerules.proofs.Bounds.{HasPlace-at, up_to_more}
 use Rattle.imagecheck.proofs.Standing.{FitsLinks-at, FitsLinks-same, HasLinks-from, LinksFit}
 use Rattle.imagerules.specs.Rules.{HasBlocks-of}
 use Rattle.imagecheck.proofs.links.has_links.Goals as goal
 
-pub links-told-requires-clause-number : goal.links-told-requires-clause-number
-links-told-requires-clause-number c = omega (arith, inodes-most c.requires.geometry, c.loop-n-test.true)
+pub links-told-requires : goal.links-told-requires
+links-told-requires c = HasPlace-at c.requires.geometry c.loop-n.n c.loop-n-test.true
 
-pub links-told-requires-clause-inside : goal.links-told-requires-clause-inside
-links-told-requires-clause-inside c = inode-inside c.requires.geometry c.loop-n.n c.loop-n-test.true
-
-pub kind-requires-clause-number : goal.kind-requires-clause-number
-kind-requires-clause-number c = omega (arith, inodes-most c.requires.geometry, c.loop-n-test.true)
-
-pub kind-requires-clause-inside : goal.kind-requires-clause-inside
-kind-requires-clause-inside c = inode-inside c.requires.geometry c.loop-n.n c.loop-n-test.true
+pub kind-requires : goal.kind-requires
+kind-requires c = HasPlace-at c.requires.geometry c.loop-n.n c.loop-n-test.true
 
 pub returns-then-not-fits_links-clause-bad : goal.returns-then-not-fits_links-clause-bad
 returns-then-not-fits_links-clause-bad c = λ h.

@@ -1,5 +1,4 @@
-use Rattle.std.proofs.Common.{◌≡◌, ◌<◌, ◌++◌, length, ap, refl, ◌∙◌, arith}
-use Rattle.std.proofs.lemmas.List.{take_all}
+use Rattle.std.proofs.Common.{◌≡◌, ◌<◌, ◌++◌, length, ap, refl, ◌∙◌, arith, take_all}
 use Rattle.blockdev.specs.Blocks.{block_at}
 use Rattle.imagerules.specs.Content.{image_of, image_of-more}
 use Rattle.imagecheck.proofs.Sounding.{Rises-before}

@@ -1,6 +1,4 @@
-use Rattle.std.proofs.Common.{◌≡◌, below_more, sym, ◌∙◌, arith}
-use Rattle.std.specs.Prelude.{nat_lt, ◌||◌}
-use Rattle.std.proofs.lemmas.Bool.{lt-ltb}
+use Rattle.std.proofs.Common.{◌≡◌, below_more, sym, ◌∙◌, arith, nat_lt, ◌||◌, lt-ltb}
 use Rattle.unixmodel.specs.Image.{bit_of, data_start, inodes_in, is_named, size_in}
 use Rattle.imagerules.proofs.Marking.{bit_is, marked_no, marked_yes, other_tests, same_tests}
 use Rattle.imagerules.proofs.Bounds.{bit-inside, bitmap-low, inodes-most, size-most}
@@ -10,20 +8,11 @@ use Rattle.imagecheck.proofs.marks.has_bitmap.Goals.{else-block-first, then-bloc
 pub bitmap_start-start-requires : goal.bitmap_start-start-requires
 bitmap_start-start-requires c = inodes-most c.requires.geometry
 
-pub data_start-first-requires-clause-inodes : goal.data_start-first-requires-clause-inodes
-data_start-first-requires-clause-inodes c = inodes-most c.requires.geometry
+pub data_start-first-requires : goal.data_start-first-requires
+data_start-first-requires c = record { inodes = inodes-most c.requires.geometry; size = size-most c.requires.geometry }
 
-pub data_start-first-requires-clause-size : goal.data_start-first-requires-clause-size
-data_start-first-requires-clause-size c = size-most c.requires.geometry
-
-pub bit-requires-clause-block : goal.bit-requires-clause-block
-bit-requires-clause-block c = omega (arith, size-most c.requires.geometry, c.loop-block-test.true)
-
-pub bit-requires-clause-start : goal.bit-requires-clause-start
-bit-requires-clause-start c = bitmap-low c.requires.geometry c.bitmap_start-start.result c.bitmap_start-start.ensures
-
-pub bit-requires-clause-inside : goal.bit-requires-clause-inside
-bit-requires-clause-inside c = bit-inside c.requires.geometry c.bitmap_start-start.result c.bitmap_start-start.ensures c.loop-block.block c.loop-block-test.true
+pub bit-requires : goal.bit-requires
+bit-requires c = record { block = omega (arith, size-most c.requires.geometry, c.loop-block-test.true); start = bitmap-low c.requires.geometry c.bitmap_start-start.result c.bitmap_start-start.ensures; inside = bit-inside c.requires.geometry c.bitmap_start-start.result c.bitmap_start-start.ensures c.loop-block.block c.loop-block-test.true }
 
 pub loop-block-init : goal.loop-block-init
 loop-block-init c = λ b l. absurd (omega arith)

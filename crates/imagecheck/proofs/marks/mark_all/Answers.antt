@@ -1,5 +1,4 @@
-use Rattle.std.proofs.Common.{◌+◌, ◌++◌, take, drop, get_or, subst, arith}
-use Rattle.std.proofs.lemmas.List.{take_all}
+use Rattle.std.proofs.Common.{◌+◌, ◌++◌, take, drop, get_or, subst, arith, take_all}
 use Rattle.imagerules.specs.Marks.{HasMarks, IsOnce}
 use Rattle.imagerules.proofs.Marking.{list_more, list_split, mark_more, mark_shared}
 use Rattle.imagecheck.proofs.marks.mark_all.Goals as goal

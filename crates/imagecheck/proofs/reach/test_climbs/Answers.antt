@@ -3,7 +3,7 @@ use Rattle.std.proofs.lemmas.Bool.{OnTrue_at, OnFalse_at}
 use Rattle.unixmodel.specs.Image.{kind_in}
 use Rattle.imagerules.specs.Places.{files_in}
 use Rattle.imagecheck.specs.Reach.{Climbs, HasWalked, IsDirectoryIn}
-use Rattle.imagerules.proofs.Bounds.{inode-inside, inodes-most, up_to_more}
+use Rattle.imagerules.proofs.Bounds.{HasPlace-at, up_to_more}
 use Rattle.imagecheck.proofs.Parents.{IsDirectoryIn-from}
 use Rattle.imagecheck.proofs.Reaching.{IsReached-from}
 use Rattle.imagecheck.proofs.Walking.{HasWalked-later}
@@ -21,11 +21,8 @@ loop-n-init c = record {
   climb = λ m low high k. record { steps = 0; root = omega arith };
 }
 
-pub kind-requires-clause-number : goal.kind-requires-clause-number
-kind-requires-clause-number c = omega (arith, inodes-most c.requires.geometry)
-
-pub kind-requires-clause-inside : goal.kind-requires-clause-inside
-kind-requires-clause-inside c = inode-inside c.requires.geometry c.loop-n.n c.loop-n-test.true
+pub kind-requires : goal.kind-requires
+kind-requires c = HasPlace-at c.requires.geometry c.loop-n.n c.loop-n-test.true
 
 pub loop-n-preserved : goal.loop-n-preserved
 loop-n-preserved c =

@@ -1,6 +1,5 @@
-use Rattle.std.proofs.Common.{◌≡◌, Err, length, ap, sym, subst, ◌∙◌, arith}
+use Rattle.std.proofs.Common.{◌≡◌, Err, length, ap, sym, subst, ◌∙◌, arith, IfErr, IfOk}
 use Rattle.std.proofs.lemmas.Result.{IfErr-weaker, err_from_is_err_and}
-use Rattle.std.specs.Prelude.{IfErr, IfOk}
 use Rattle.imagerules.specs.Content.{image_of}
 use Rattle.imagecheck.specs.Faults.{Finds, Tells}
 use Rattle.imagerules.specs.Fields.{HasGeometry}

@@ -1,5 +1,4 @@
-use Rattle.std.proofs.Common.{sym, subst, ◌∙◌}
-use Rattle.std.specs.Prelude.{[]}
+use Rattle.std.proofs.Common.{sym, subst, ◌∙◌, []}
 use Rattle.imagerules.specs.Marks.{HasMarks}
 use Rattle.imagerules.proofs.Marking.{HasMarks-none}
 use Rattle.std.proofs.lemmas.Result.{err_from_is_err_and}

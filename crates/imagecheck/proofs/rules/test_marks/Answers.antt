@@ -19,14 +19,8 @@ returns-then-not-names_once c = record {
   own = tt;
 }
 
-pub has_bitmap-requires-clause-geometry : goal.has_bitmap-requires-clause-geometry
-has_bitmap-requires-clause-geometry c = c.requires.geometry
-
-pub has_bitmap-requires-clause-long : goal.has_bitmap-requires-clause-long
-has_bitmap-requires-clause-long c = c.names_once.auto.marks ∙ c.requires.long
-
-pub has_bitmap-requires-clause-marks : goal.has_bitmap-requires-clause-marks
-has_bitmap-requires-clause-marks c = OnTrue_at c.if-not-names_once.false c.names_once.ensures.good
+pub has_bitmap-requires : goal.has_bitmap-requires
+has_bitmap-requires c = record { geometry = c.requires.geometry; long = c.names_once.auto.marks ∙ c.requires.long; marks = OnTrue_at c.if-not-names_once.false c.names_once.ensures.good }
 
 pub returns-then-not-has_bitmap : goal.returns-then-not-has_bitmap
 returns-then-not-has_bitmap c = record {

@@ -1,13 +1,10 @@
 use Rattle.std.proofs.Common.{◌+◌, ap, sym, ◌∙◌, arith}
-use Rattle.imagerules.proofs.Bounds.{HasInode-at, inode-inside, inodes-most}
+use Rattle.imagerules.proofs.Bounds.{HasInode-at, HasPlace-at}
 use Rattle.imagerules.proofs.Summing.{length-few, length-many}
 use Rattle.imagecheck.proofs.summary.block_total.Goals as goal
 
-pub kind-requires-clause-number : goal.kind-requires-clause-number
-kind-requires-clause-number c = omega (arith, inodes-most c.requires.geometry)
-
-pub kind-requires-clause-inside : goal.kind-requires-clause-inside
-kind-requires-clause-inside c = inode-inside c.requires.geometry c.args.n c.requires.high
+pub kind-requires : goal.kind-requires
+kind-requires c = HasPlace-at c.requires.geometry c.args.n c.requires.high
 
 pub block_count-count-requires : goal.block_count-count-requires
 block_count-count-requires c = HasInode-at c.requires.geometry c.requires.sizes c.args.n c.requires.low c.requires.high (λ z. c.if-kind-eq0.false (c.kind.ensures ∙ z))

@@ -1,5 +1,4 @@
-use Rattle.std.proofs.Common.{◌≡◌, ◌+◌, length, ap, ◌∙◌, arith}
-use Rattle.std.proofs.lemmas.List.{length-append}
+use Rattle.std.proofs.Common.{◌≡◌, ◌+◌, length, ap, ◌∙◌, arith, length-append}
 use Rattle.unixmodel.specs.Image.{inodes_in}
 use Rattle.imagerules.specs.Marks.{blocks_of}
 use Rattle.imagerules.proofs.Marking.{named_before, named_before-all, named_before-more}

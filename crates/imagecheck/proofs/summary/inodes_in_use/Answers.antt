@@ -1,17 +1,13 @@
-use Rattle.std.proofs.Common.{◌≡◌, ◌+◌, ◌-◌, length, ap, sym, ◌∙◌, arith}
-use Rattle.std.specs.Prelude.{filter}
+use Rattle.std.proofs.Common.{◌≡◌, ◌+◌, ◌-◌, length, ap, sym, ◌∙◌, arith, filter}
 use Rattle.std.specs.List.{range_with_len}
 use Rattle.unixmodel.specs.Image.{inodes_in, is_in_use}
 use Rattle.imagerules.proofs.Summing.{unused_more, used_more}
-use Rattle.imagerules.proofs.Bounds.{inodes-least, inode-inside, inodes-most}
+use Rattle.imagerules.proofs.Bounds.{inodes-least, HasPlace-at}
 use Rattle.imagecheck.proofs.summary.inodes_in_use.Goals as goal
 use Rattle.imagecheck.proofs.summary.inodes_in_use.Goals.{else-kind-ne0, then-kind-ne0}
 
-pub kind-requires-clause-number : goal.kind-requires-clause-number
-kind-requires-clause-number c = omega (arith, inodes-most c.requires, c.loop-n-test.true)
-
-pub kind-requires-clause-inside : goal.kind-requires-clause-inside
-kind-requires-clause-inside c = inode-inside c.requires c.loop-n.n c.loop-n-test.true
+pub kind-requires : goal.kind-requires
+kind-requires c = HasPlace-at c.requires c.loop-n.n c.loop-n-test.true
 
 pub loop-n-preserved : goal.loop-n-preserved
 loop-n-preserved c =

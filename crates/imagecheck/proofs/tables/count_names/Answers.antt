@@ -1,7 +1,4 @@
-use Rattle.std.proofs.Common.{◌<◌, ◌+◌, ℕ, Bool, length, get_or, sym, refl, ◌∙◌, arith}
-use Rattle.std.specs.Prelude.{◌==◌}
-use Rattle.std.proofs.lemmas.Bool.{eq-eqb, ne_eqb}
-use Rattle.std.proofs.lemmas.List.{length-set}
+use Rattle.std.proofs.Common.{◌<◌, ◌+◌, ℕ, Bool, length, get_or, sym, refl, ◌∙◌, arith, ◌==◌, eq-eqb, ne_eqb, length-set}
 use Rattle.imagecheck.specs.declared.namings.Naming.{Naming}
 use Rattle.imagecheck.proofs.Counting.{tally_more}
 use Rattle.imagecheck.proofs.tables.count_names.Goals as goal

@@ -1,7 +1,4 @@
-use Rattle.std.proofs.Common.{◌≡◌, ℕ, ◌<◌, ◌+◌, Bool, length, get_or, take, sym, ap, subst, ◌∙◌, arith, true, false, refl}
-use Rattle.std.specs.Prelude.{◌&&◌, ◌==◌}
-use Rattle.std.proofs.lemmas.Bool.{eq-eqb, ne_eqb}
-use Rattle.std.proofs.lemmas.List.{length-set, take_all}
+use Rattle.std.proofs.Common.{◌≡◌, ℕ, ◌<◌, ◌+◌, Bool, length, get_or, take, sym, ap, subst, ◌∙◌, arith, true, false, refl, ◌&&◌, ◌==◌, eq-eqb, ne_eqb, length-set, take_all}
 use Rattle.unixmodel.specs.Image.{is_directory_at}
 use Rattle.imagecheck.specs.Namings.{CountsSubdirectories, IsNaming}
 use Rattle.imagerules.specs.Places.{files_in}

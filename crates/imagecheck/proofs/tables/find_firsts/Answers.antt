@@ -1,5 +1,4 @@
-use Rattle.std.proofs.Common.{◌<◌, ◌≤◌, ◌+◌, length, get_or, take, sym, ap, subst, ◌∙◌, arith}
-use Rattle.std.proofs.lemmas.List.{length-set}
+use Rattle.std.proofs.Common.{◌<◌, ◌≤◌, ◌+◌, length, get_or, take, sym, ap, subst, ◌∙◌, arith, length-set}
 use Rattle.std.proofs.lemmas.List.Elements.{All-take}
 use Rattle.imagecheck.specs.Namings.{HasFirsts}
 use Rattle.imagecheck.specs.declared.namings.Naming.{Naming}

@@ -4,7 +4,7 @@ use Rattle.unixmodel.specs.Manifest.{data_blocks_of, with_manifest_entry}
 use Rattle.imagemake.specs.Begins.{AddsEntry}
 use Rattle.imagemake.specs.Making.{Refuses, entry_of, meaning}
 use Rattle.imagemake.proofs.Going.{IsGoing-more, IsGoing-root, MakesEntries-going, refused-going}
-use Rattle.imagemake.proofs.Owned.{Blames-done, Blames-told, told}
+use Rattle.imagemake.proofs.Owned.{Owns-done, Owns-told, told}
 use Rattle.imagemake.proofs.entry.add_entries.Goals as goal
 
 pub loop-entry-init : goal.loop-entry-init
@@ -30,7 +30,7 @@ returns-in_err-add_entry-clause-refused g c =
     (subst (λ e. Refuses (with_manifest_entry blocks c.args.geometry.inodes going.files (length made + 2) (entry_of e)) fault) c.entry-item.is (c.in_err-add_entry.ensures.refused going.files going.made_so_far)))
 
 pub returns-in_err-add_entry-clause-cause : goal.returns-in_err-add_entry-clause-cause
-returns-in_err-add_entry-clause-cause g c = Blames-told c.loop-entry.invariant.failures c.in_err-add_entry.ensures.cause (told c.from_residual.result c.from_residual.ensures.1)
+returns-in_err-add_entry-clause-cause g c = Owns-told c.loop-entry.invariant.failures c.in_err-add_entry.ensures.cause (told c.from_residual.result c.from_residual.ensures.1)
 
 pub loop-entry-preserved : goal.loop-entry-preserved
 loop-entry-preserved g c =
@@ -51,4 +51,4 @@ returns-clause-made g c =
     MakesEntries-going c.args.geometry c.loop-entry.disk.blocks c.loop-entry.made.items (meaning c.args.entries.now) c.args.entries.now c.loop-entry.entry-index (omega arith) c.loop-entry.invariant.going
 
 pub returns-clause-cause : goal.returns-clause-cause
-returns-clause-cause g c = Blames-done c.loop-entry.invariant.failures
+returns-clause-cause g c = Owns-done c.loop-entry.invariant.failures

@@ -6,7 +6,7 @@ use Rattle.imagemake.specs.Begins.{AddsEntry, make_fault}
 use Rattle.imagemake.specs.Made.{found}
 use Rattle.imagemake.specs.Making.{Refuses, thing_of}
 use Rattle.imagemake.proofs.Entered.{AddsEntry-stored, CanAdd-named, IsStored-spot, made-few, refused-stored}
-use Rattle.imagemake.proofs.Owned.{Blames-done, Blames-other, Blames-stored, told}
+use Rattle.imagemake.proofs.Owned.{Owns-done, Owns-other, Blames-stored, told}
 use Rattle.imagemake.proofs.Things.{folder-thing}
 use Rattle.imagemake.proofs.Spotting.{spot-inodes}
 use Rattle.imagemake.proofs.entry.add_entry.Goals as goal
@@ -28,7 +28,7 @@ returns-in_err-directory-clause-refused g c =
     (c.in_err-directory.ensures.refused blocks c.args.geometry.inodes files (length c.args.made.now.items + 2) thing is.listed))
 
 pub returns-in_err-directory-clause-cause : goal.returns-in_err-directory-clause-cause
-returns-in_err-directory-clause-cause g c = Blames-other (omega arith) c.in_err-directory.ensures.memory (told c.from_residual.result c.from_residual.ensures.1)
+returns-in_err-directory-clause-cause g c = Owns-other (omega arith) c.in_err-directory.ensures.memory (told c.from_residual.result c.from_residual.ensures.1)
 
 pub returns-then-number-geometry-clause-refused : goal.returns-then-number-geometry-clause-refused
 returns-then-number-geometry-clause-refused g c = λ files is.
@@ -39,7 +39,7 @@ returns-then-number-geometry-clause-refused g c = λ files is.
     blocks c.args.geometry.inodes files (length c.args.made.now.items + 2) thing is.listed (omega (arith, c.if-number-geometry.true, c.len-number.ensures))
 
 pub returns-then-number-geometry-clause-cause : goal.returns-then-number-geometry-clause-cause
-returns-then-number-geometry-clause-cause g c = Blames-other (omega arith) (λ e. cc) refl
+returns-then-number-geometry-clause-cause g c = Owns-other (omega arith) (λ e. cc) refl
 
 pub store_entry-requires : goal.store_entry-requires
 store_entry-requires g c =
@@ -115,4 +115,4 @@ returns-clause-room g c =
     omega (arith, c.requires.room, c.push.ensures.room, longer)
 
 pub returns-clause-cause : goal.returns-clause-cause
-returns-clause-cause g c = Blames-done c.in_ok-store_entry.ensures.cause.later
+returns-clause-cause g c = Owns-done c.in_ok-store_entry.ensures.cause.later

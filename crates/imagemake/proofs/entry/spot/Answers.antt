@@ -1,6 +1,5 @@
-use Rattle.std.proofs.Common.{None, Some, ap, drop, refl, sym, ◌∙◌}
+use Rattle.std.proofs.Common.{None, Some, ap, drop, refl, sym, ◌∙◌, is_some}
 use Rattle.std.proofs.lemmas.List.{take_rest}
-use Rattle.std.specs.Prelude.{is_some}
 use Rattle.imagemake.specs.Made.{found}
 use Rattle.imagemake.proofs.Spotting.{IsSpot-reached, refused-name, refused-nowhere, refused-parent, refused-twice}
 use Rattle.imagemake.proofs.entry.spot.Goals as goal

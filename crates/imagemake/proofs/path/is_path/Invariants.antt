@@ -1,5 +1,4 @@
-use Rattle.std.proofs.Common.{◌≡◌, ◌-◌, ◌≤◌, drop, length}
-use Rattle.std.specs.Prelude.{is_some}
+use Rattle.std.proofs.Common.{◌≡◌, ◌-◌, ◌≤◌, drop, length, is_some}
 use Rattle.std.specs.List.{list_all}
 use Rattle.unixmodel.specs.Files.{pieces}
 use Rattle.unixmodel.specs.Image.{is_name}

@@ -6,17 +6,11 @@ use Rattle.layout.specs.Sound.{IsSound}
 use Rattle.imagemake.proofs.Owned.{OnOk-three}
 use Rattle.imagemake.proofs.store.add_link.Goals as goal
 
-pub stat-requires-clause-sound : goal.stat-requires-clause-sound
-stat-requires-clause-sound g c = c.requires.sound
+pub stat-requires : goal.stat-requires
+stat-requires g c = record { sound = c.requires.sound; inode = c.requires.inode }
 
-pub stat-requires-clause-inode : goal.stat-requires-clause-inode
-stat-requires-clause-inode g c = c.requires.inode
-
-pub set_links-requires-clause-sound : goal.set_links-requires-clause-sound
-set_links-requires-clause-sound g c = subst (IsSound c.args.geometry) (sym c.in_ok-before.ensures.same) c.requires.sound
-
-pub set_links-requires-clause-inode : goal.set_links-requires-clause-inode
-set_links-requires-clause-inode g c = subst (λ b. IsInode b c.args.geometry.inodes c.args.number) (sym c.in_ok-before.ensures.same) c.requires.inode
+pub set_links-requires : goal.set_links-requires
+set_links-requires g c = record { sound = subst (IsSound c.args.geometry) (sym c.in_ok-before.ensures.same) c.requires.sound; inode = subst (λ b. IsInode b c.args.geometry.inodes c.args.number) (sym c.in_ok-before.ensures.same) c.requires.inode }
 
 pub returns-clause-put : goal.returns-clause-put
 returns-clause-put g c =

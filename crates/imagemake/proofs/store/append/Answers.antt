@@ -1,42 +1,36 @@
-use Rattle.std.proofs.Common.{◌≡◌, ◌++◌, ap, arith, length, subst, sym, ◌∙◌, Err}
+use Rattle.std.proofs.Common.{◌≡◌, ◌++◌, ap, arith, length, subst, sym, ◌∙◌, Err, refl}
 use Rattle.layout.specs.Image.{bytes_of, IsInode}
 use Rattle.inode.specs.Writing.{Wrote}
-use Rattle.imagemake.proofs.AddedBytes.{few-more, splice-end}
-use Rattle.imagemake.proofs.AddedNodes.{Stores-wide, lacks-blocks, lacks-long, wide-short}
-use Rattle.imagemake.proofs.Owned.{IsPut-failed, OwnsUp-done, OwnsUp-failed, OwnsUp-full, OwnsUp-rises, told}
+use Rattle.imagemake.proofs.AddedNodes.{Stores-wide, lacks-blocks, lacks-long, wide-short, few-more, splice-end}
+use Rattle.imagemake.proofs.Owned.{IsPut-failed, Owns-done, Owns-failed, Owns-other, Owns-rises, told}
 use Rattle.layout.specs.Sound.{IsSound}
 use Rattle.imagemake.proofs.store.append.Goals as goal
+use Rattle.imagemake.specs.declared.store.StoreFault.TheVariants.{Blocks}
 
-pub stat-requires-clause-sound : goal.stat-requires-clause-sound
-stat-requires-clause-sound g c = c.requires.sound
+pub stat-requires : goal.stat-requires
+stat-requires g c = record { sound = c.requires.sound; inode = c.requires.inode }
 
-pub stat-requires-clause-inode : goal.stat-requires-clause-inode
-stat-requires-clause-inode g c = c.requires.inode
-
-pub write_at-requires-clause-sound : goal.write_at-requires-clause-sound
-write_at-requires-clause-sound g c = subst (IsSound c.args.geometry) (sym c.in_ok-before.ensures.same) c.requires.sound
-
-pub write_at-requires-clause-inode : goal.write_at-requires-clause-inode
-write_at-requires-clause-inode g c = subst (λ b. IsInode b c.args.geometry.inodes c.args.number) (sym c.in_ok-before.ensures.same) c.requires.inode
+pub write_at-requires : goal.write_at-requires
+write_at-requires g c = record { sound = subst (IsSound c.args.geometry) (sym c.in_ok-before.ensures.same) c.requires.sound; inode = subst (λ b. IsInode b c.args.geometry.inodes c.args.number) (sym c.in_ok-before.ensures.same) c.requires.inode }
 
 pub returns-in_err-before-clause-put : goal.returns-in_err-before-clause-put
 returns-in_err-before-clause-put g c = λ files old new stores here wide. IsPut-failed c.args.geometry c.stat.new.disk.blocks files c.args.number new (told c.from_residual.result c.from_residual.ensures.1)
 
 pub returns-in_err-before-clause-cause : goal.returns-in_err-before-clause-cause
-returns-in_err-before-clause-cause g c = OwnsUp-failed (omega arith) c.stat.ensures.cause c.in_err-before.was
+returns-in_err-before-clause-cause g c = Owns-failed (omega arith) c.stat.ensures.cause c.in_err-before.was
 
 pub returns-in-Ok-clause-cause : goal.returns-in-Ok-clause-cause
-returns-in-Ok-clause-cause g c = OwnsUp-done (omega (arith, c.stat.ensures.cause.later, c.write_at.ensures.later))
+returns-in-Ok-clause-cause g c = Owns-done (omega (arith, c.stat.ensures.cause.later, c.write_at.ensures.later))
 
 pub returns-in-Err-Device-clause-cause : goal.returns-in-Err-Device-clause-cause
 returns-in-Err-Device-clause-cause g c =
-    OwnsUp-rises c.stat.ensures.cause.later c.write_at.ensures.later (c.write_at.ensures.failed (c.in-Err-Device.is ∙ ap Err c.in-Err-Device.field-0-is))
+    Owns-rises c.stat.ensures.cause.later c.write_at.ensures.later (c.write_at.ensures.failed (c.in-Err-Device.is ∙ ap Err c.in-Err-Device.field-0-is))
 
 pub returns-in-Err-Blocks-clause-cause : goal.returns-in-Err-Blocks-clause-cause
-returns-in-Err-Blocks-clause-cause g c = OwnsUp-full (omega (arith, c.stat.ensures.cause.later, c.write_at.ensures.later))
+returns-in-Err-Blocks-clause-cause g c = Owns-other {other = Blocks} (omega (arith, c.stat.ensures.cause.later, c.write_at.ensures.later)) (λ e. cc) refl
 
 pub returns-in-Err-TooLong-clause-cause : goal.returns-in-Err-TooLong-clause-cause
-returns-in-Err-TooLong-clause-cause g c = OwnsUp-full (omega (arith, c.stat.ensures.cause.later, c.write_at.ensures.later))
+returns-in-Err-TooLong-clause-cause g c = Owns-other {other = Blocks} (omega (arith, c.stat.ensures.cause.later, c.write_at.ensures.later)) (λ e. cc) refl
 
 pub returns-in-Ok-clause-put : goal.returns-in-Ok-clause-put
 returns-in-Ok-clause-put g c = λ files old new stores here wide.

@@ -3,7 +3,7 @@ use Rattle.std.proofs.lemmas.Result.{err_from_is_err_and}
 use Rattle.unixmodel.specs.Files.Node.{Directory}
 use Rattle.imagemake.specs.Making.{thing_of}
 use Rattle.imagemake.proofs.AddedFiles.{IsStored-named, directory-after, few-files, unused-added, node-refused, still-there}
-use Rattle.imagemake.proofs.Owned.{OwnsUp-after, OwnsUp-told, told}
+use Rattle.imagemake.proofs.Owned.{Owns-after, Owns-told, told}
 use Rattle.imagemake.proofs.Storing.{slot-within}
 use Rattle.imagemake.proofs.store.store_entry.Goals as goal
 
@@ -33,10 +33,10 @@ returns-in_err-store_node-clause-stored g c = λ files stores can.
     rw (p.1, p.2) (node-refused files c.args.directory c.args.name.now c.args.number (thing_of c.args.thing.now) can c.args.geometry _ (c.in_err-store_node.ensures.put files stores))
 
 pub returns-in_err-store_node-clause-cause : goal.returns-in_err-store_node-clause-cause
-returns-in_err-store_node-clause-cause g c = OwnsUp-told (omega arith) c.in_err-store_node.ensures.cause (told c.from_residual.result c.from_residual.ensures.1)
+returns-in_err-store_node-clause-cause g c = Owns-told (omega arith) c.in_err-store_node.ensures.cause (told c.from_residual.result c.from_residual.ensures.1)
 
 pub returns-clause-cause : goal.returns-clause-cause
-returns-clause-cause g c = OwnsUp-after c.in_ok-store_node.ensures.cause.later c.store_name.ensures.cause
+returns-clause-cause g c = Owns-after c.in_ok-store_node.ensures.cause.later c.store_name.ensures.cause
 
 pub returns-clause-stored : goal.returns-clause-stored
 returns-clause-stored g c = λ files stores can.

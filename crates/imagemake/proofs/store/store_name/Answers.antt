@@ -4,7 +4,7 @@ use Rattle.unixmodel.specs.Manifest.{appended}
 use Rattle.imagemake.specs.Making.{thing_of}
 use Rattle.imagemake.proofs.Storing.{held-inode, slot-within}
 use Rattle.imagemake.proofs.AddedThings.{IsPut-linked, IsPut-unlinked, TellsFull-linked, named-directory, wide-held}
-use Rattle.imagemake.proofs.Owned.{IsPut-failed, OwnsUp-done, OwnsUp-failed, OwnsUp-told, told}
+use Rattle.imagemake.proofs.Owned.{IsPut-failed, Owns-done, Owns-failed, Owns-told, told}
 use Rattle.imagemake.proofs.Things.{thing-folder, thing-unlinked}
 use Rattle.imagemake.proofs.store.store_name.Goals as goal
 
@@ -32,19 +32,19 @@ returns-then-not-is_directory-clause-put g c = λ files node stores here directo
     (wide-held c.args.geometry c.args.disk.now.blocks c.args.directory (record { name = c.args.name.now; number = c.args.number }) c.place.result c.place.ensures c.requires.name files node stores here directory))
 
 pub returns-in_err-append-clause-cause : goal.returns-in_err-append-clause-cause
-returns-in_err-append-clause-cause g c = OwnsUp-told (omega arith) c.in_err-append.ensures.cause (told c.from_residual.result c.from_residual.ensures.1)
+returns-in_err-append-clause-cause g c = Owns-told (omega arith) c.in_err-append.ensures.cause (told c.from_residual.result c.from_residual.ensures.1)
 
 pub returns-in_err-add_link-clause-put : goal.returns-in_err-add_link-clause-put
 returns-in_err-add_link-clause-put g c = λ files node stores here directory. IsPut-failed c.args.geometry c.add_link.new.disk.blocks files c.args.directory _ (told c.from_residual-in_err-add_link.result c.from_residual-in_err-add_link.ensures.1)
 
 pub returns-in_err-add_link-clause-cause : goal.returns-in_err-add_link-clause-cause
-returns-in_err-add_link-clause-cause g c = OwnsUp-failed c.in_ok-append.ensures.cause.later c.add_link.ensures.cause c.in_err-add_link.was
+returns-in_err-add_link-clause-cause g c = Owns-failed c.in_ok-append.ensures.cause.later c.add_link.ensures.cause c.in_err-add_link.was
 
 pub returns-then-not-is_directory-clause-cause : goal.returns-then-not-is_directory-clause-cause
-returns-then-not-is_directory-clause-cause g c = OwnsUp-done (omega (arith, c.in_ok-append.ensures.cause.later))
+returns-then-not-is_directory-clause-cause g c = Owns-done (omega (arith, c.in_ok-append.ensures.cause.later))
 
 pub returns-clause-cause : goal.returns-clause-cause
-returns-clause-cause g c = OwnsUp-done (omega (arith, c.in_ok-append.ensures.cause.later, c.add_link.ensures.cause.later))
+returns-clause-cause g c = Owns-done (omega (arith, c.in_ok-append.ensures.cause.later, c.add_link.ensures.cause.later))
 
 pub returns-clause-put : goal.returns-clause-put
 returns-clause-put g c = λ files node stores here directory.

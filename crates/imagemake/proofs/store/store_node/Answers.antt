@@ -3,7 +3,7 @@ use Rattle.unixmodel.specs.Manifest.Thing.{Bytes}
 use Rattle.imagemake.specs.Making.{thing_of}
 use Rattle.imagemake.specs.Stored.{bare}
 use Rattle.imagemake.proofs.AddedThings.{IsPut-bytes, IsPut-folder, IsPut-special, put-inode}
-use Rattle.imagemake.proofs.Owned.{IsPut-failed, OwnsUp-after, OwnsUp-done, OwnsUp-failed, told}
+use Rattle.imagemake.proofs.Owned.{IsPut-failed, Owns-after, Owns-done, Owns-failed, told}
 use Rattle.imagemake.proofs.store.store_node.Goals as goal
 
 pub take-requires : goal.take-requires
@@ -13,16 +13,16 @@ pub returns-in_err-take-clause-put : goal.returns-in_err-take-clause-put
 returns-in_err-take-clause-put g c = λ files stores. IsPut-failed c.args.geometry c.take.new.disk.blocks files c.args.number _ (told c.from_residual.result c.from_residual.ensures.1)
 
 pub returns-in_err-take-clause-cause : goal.returns-in_err-take-clause-cause
-returns-in_err-take-clause-cause g c = OwnsUp-failed (omega arith) c.take.ensures.cause c.in_err-take.was
+returns-in_err-take-clause-cause g c = Owns-failed (omega arith) c.take.ensures.cause c.in_err-take.was
 
 pub returns-in-Directory-clause-cause : goal.returns-in-Directory-clause-cause
-returns-in-Directory-clause-cause g c = OwnsUp-after c.take.ensures.cause.later c.append.ensures.cause
+returns-in-Directory-clause-cause g c = Owns-after c.take.ensures.cause.later c.append.ensures.cause
 
 pub returns-in-File-clause-cause : goal.returns-in-File-clause-cause
-returns-in-File-clause-cause g c = OwnsUp-after c.take.ensures.cause.later c.append-in-File.ensures.cause
+returns-in-File-clause-cause g c = Owns-after c.take.ensures.cause.later c.append-in-File.ensures.cause
 
 pub returns-in-Device-clause-cause : goal.returns-in-Device-clause-cause
-returns-in-Device-clause-cause g c = OwnsUp-done c.take.ensures.cause.later
+returns-in-Device-clause-cause g c = Owns-done c.take.ensures.cause.later
 
 pub append-requires : goal.append-requires
 append-requires g c =
