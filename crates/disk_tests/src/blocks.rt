@@ -28,6 +28,7 @@ fn use_all(
     let second = take_block(disk, geometry)?;
     give_block(disk, geometry, second)?;
     let two = take_two(disk, geometry)?;
+    disk.flush()?;
     Ok((number, first, second, two))
 }
 
@@ -66,11 +67,11 @@ fn tells_that_no_block_is_free(rt: HostRuntime) -> Result<(), Fail> {
 
 #[test]
 fn tells_each_failure(rt: HostRuntime) -> Result<(), Fail> {
-    for good in 0..54 {
+    for good in 0..14 {
         let mut disk = disk_of(rt.alloc(), SMALL, 0, good)?;
         let result = use_all(&mut disk, SMALL);
         let failed = disk.into_device().has_failed();
-        assert_eq!(rt; failed, good < 51, "after {good}");
+        assert_eq!(rt; failed, good < 10, "after {good}");
         let want = if failed {
             Err(BallocFault::Device)
         } else {

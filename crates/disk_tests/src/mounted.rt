@@ -5,6 +5,7 @@ use blockdev::{FlakyDisk, MemDisk};
 use image::ImageFault;
 use mount::{mount, mount_flat};
 use std::test::Fail;
+use tree::TreeFault;
 
 #[test]
 fn mounts_a_small_image(rt: HostRuntime) -> Result<(), Fail> {
@@ -22,5 +23,22 @@ fn mounts_the_console(rt: HostRuntime) -> Result<(), Fail> {
     let mut tree = mount_flat(rt.alloc())?;
     let console = tree.stat(2)?;
     assert_eq!(rt; (console.kind, console.links, console.size), (3, 1, 0));
+    Ok(())
+}
+
+#[test]
+fn takes_names_away(rt: HostRuntime) -> Result<(), Fail> {
+    for (path, want) in [
+        (b"/console".as_slice(), Ok(())),
+        (b".//console/".as_slice(), Ok(())),
+        (b"/..".as_slice(), Err(TreeFault::DotName)),
+        (b"/none".as_slice(), Err(TreeFault::NotFound)),
+        (b"/console/none".as_slice(), Err(TreeFault::NotDir)),
+        (b"//".as_slice(), Err(TreeFault::NotFound)),
+    ] {
+        let mut tree = mount_flat(rt.alloc())?;
+        let told = tree.unlink(1, path);
+        assert_eq!(rt; told, want);
+    }
     Ok(())
 }

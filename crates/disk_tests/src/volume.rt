@@ -118,6 +118,7 @@ pub fn first_wrong(
         }
         volume = next;
     }
+    volume.flush()?;
     Ok(None)
 }
 
@@ -211,6 +212,13 @@ impl Volume {
                 Ok((volume, told == *before))
             }
         }
+    }
+
+    // Writes what the device lacks.
+    fn flush(self) -> Result<(), InodeFault> {
+        let Volume { mut disk, .. } = self;
+        disk.flush()?;
+        Ok(())
     }
 
     // A new file, and its number; none where no inode is free.

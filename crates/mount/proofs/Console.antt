@@ -1,5 +1,5 @@
 -- The image of the console alone, and its files in use.
-use Rattle.std.proofs.Common.{Err, List, Ok, Result, length, ℕ, ◌%◌, ◌∙◌, ◌≡◌, ap, arith, refl, subst, sym}
+use Rattle.std.proofs.Common.{Err, List, Ok, Result, length, replicate, ℕ, ◌%◌, ◌∙◌, ◌≡◌, ap, arith, refl, subst, sym}
 use Rattle.blockdev.specs.Blocks as device
 use Rattle.unixmodel.specs.Counts.{blocks_of}
 use Rattle.unixmodel.specs.Files.{Files, find, free_slots, lookup, parts, place_of}
@@ -57,19 +57,9 @@ Denotes-disk bytes image e flat =
 
 -- on a device that never fails it is refused only where there is no memory
 pub not-unmounted : {D : Type 0} (image : List ℕ) (files : Files) (f : ImageFault) → Denotes image files → IsUnmounted {D = D} (λ _. 0) image 0 f → (f ≡ fault.NoMemory → ⊥) → ⊥
-not-unmounted image files fault.Length d u other = u.none tt files d
-not-unmounted image files fault.Magic d u other = u.none tt files d
-not-unmounted image files fault.Numbers d u other = u.none tt files d
-not-unmounted image files fault.NodeType d u other = u.none tt files d
-not-unmounted image files fault.Size d u other = u.none tt files d
-not-unmounted image files fault.Address d u other = u.none tt files d
-not-unmounted image files fault.SharedBlock d u other = u.none tt files d
-not-unmounted image files fault.Bitmap d u other = u.none tt files d
-not-unmounted image files fault.Entry d u other = u.none tt files d
-not-unmounted image files fault.Links d u other = u.none tt files d
-not-unmounted image files fault.Unreached d u other = u.none tt files d
 not-unmounted image files fault.Device d u other = let rises = (u.failed refl).1 in absurd (omega arith)
 not-unmounted image files fault.NoMemory d u other = other refl
+not-unmounted image files f d u other = u.none tt files d
 
 length-flat : length flat_files ≡ 16
 unfolding flat_files free_slots
@@ -86,6 +76,9 @@ IsFlat-mounted bytes image failures tree e flat mounted =
     let inodes : inodes_in disk ≡ 16 = sym d.count ∙ length-flat in
     record {
       files = sym (mounted.only flat_files d);
+      rules = mounted.rules;
+      linked = mounted.linked;
+      holds = mounted.holds ∙ ap (λ n. replicate n 0) inodes;
       limit = mounted.limit ∙ ap (λ s. data_blocks_of s (inodes_in disk)) size ∙ ap (data_blocks_of 32) inodes;
       up = mounted.up;
     }

@@ -1,6 +1,5 @@
 -- A disk whose image denotes files holds them.
-use Rattle.std.proofs.Common.{◌≡◌, ℕ, ◌+◌, ◌-◌, ◌<◌, ◌≤◌, List, [], ◌∷◌, None, Option, Some, length, ap, sym, refl, ◌∙◌, arith, subst, inl, inr, suc, zero}
-use Rattle.std.specs.Prelude.{count_by, nat_eq, not, sum_by, ◌==◌, ◌||◌}
+use Rattle.std.proofs.Common.{◌≡◌, ℕ, ◌+◌, ◌-◌, ◌<◌, ◌≤◌, List, [], ◌∷◌, None, Option, Some, length, ap, sym, refl, ◌∙◌, arith, subst, inl, inr, suc, zero, count_by, nat_eq, not, sum_by, ◌==◌, ◌||◌}
 use Rattle.std.specs.List.{list_any, range_with_len}
 use Rattle.std.proofs.lemmas.Bool.{cases_eq, cases_lt, le-ltb}
 use Rattle.std.proofs.lemmas.List.{get_or_past}
@@ -24,12 +23,12 @@ use Rattle.imagerules.proofs.Denoting.{node_fits}
 use Rattle.imagemake.proofs.Located.{kind-located, links-located, major-located, minor-located}
 use Rattle.imagerules.proofs.Marking.{blocks_of-free, named_before-all}
 use Rattle.imagerules.proofs.Nodes.{PlacesFit}
-use Rattle.imagemake.proofs.Slotted.{contents-are}
+use Rattle.imagemake.proofs.Slotted.{contents-are, length-listed}
+use Rattle.imagemake.proofs.Legible.{bit-held}
 use Rattle.imagerules.proofs.Spelling as spelled
 use Rattle.tree.specs.Held.{Agrees, FitsPlaces, HasDevice, Holds, HoldsFiles, PlaceFits}
 use Rattle.mount.proofs.Ranges.{count-map, count-named, count-same}
-use Rattle.mount.proofs.Slots.{length-listed}
-use Rattle.mount.proofs.Sounding.{IsDenoted, IsSound-denoted, bit-held, data-named, readable}
+use Rattle.mount.proofs.Sounding.{IsDenoted, IsSound-denoted, data-named, legible, readable}
 
 -- ---- places
 
@@ -38,9 +37,8 @@ place-fits None h = tt
 place-fits (Some e) h = record { number = h.number; some = h.some; most = h.most; plain = h.plain }
 
 node-places : (node : Node) → PlacesFit node → FitsPlaces (Some node)
-node-places (File links bytes) h = tt
-node-places (Device links major minor) h = tt
 node-places (Directory links places) h = All-weaker spelled.PlaceFits PlaceFits (λ o fit. place-fits o fit) places h
+node-places node h = tt
 
 option-places : (files : Files) (n : ℕ) (o : Option Node) → 1 < length files → length files ≤ 8192 → n < length files → KeepsNode files n o → FitsPlaces o
 option-places files n None a b l k = tt
@@ -71,8 +69,7 @@ sum-nodes taken_by (o ∷ os) a h =
 
 kind-some : (node : Node) → 1 ≤ kind_of node
 kind-some (File links bytes) = omega arith
-kind-some (Device links major minor) = omega arith
-kind-some (Directory links places) = omega arith
+kind-some node = omega arith
 
 module _ (g : Geometry) (blocks : List (List ℕ)) (files : Files) (h : IsDenoted g blocks files) where
   -- ---- the nodes
@@ -84,9 +81,8 @@ module _ (g : Geometry) (blocks : List (List ℕ)) (files : Files) (h : IsDenote
   inode-held n low high node is = record { low = low; high = high; kind = λ z. let e = is.kind in absurd (omega (arith, kind-some node, kind-located g blocks parts n high)) }
 
   device-held : (n : ℕ) → n < g.inodes → (node : Node) → HasMajor (image_of blocks) n node → HasDevice (node_with (disk.inode_at blocks n) (bytes_of blocks n)) node
-  device-held n high (File links bytes) m = tt
   device-held n high (Device links major minor) m = (major-located g blocks parts n high ∙ m.0, minor-located g blocks parts n high ∙ m.1)
-  device-held n high (Directory links places) m = tt
+  device-held n high node m = tt
 
   agrees : (n : ℕ) → 1 ≤ n → n < g.inodes → (o : Option Node) → Stands (image_of blocks) n o → Agrees (node_at blocks n) o
   agrees n low high None free = subst (λ raw. Agrees raw None) (sym (node_at-none blocks n (inr (kind-located g blocks parts n high ∙ free)))) tt
@@ -95,7 +91,7 @@ module _ (g : Geometry) (blocks : List (List ℕ)) (files : Files) (h : IsDenote
       subst (λ raw. Agrees raw (Some node)) (sym (node_at-some blocks n low inode.kind)) (record {
         kind = kind-located g blocks parts n high ∙ is.kind;
         links = links-located g blocks parts n high ∙ is.links;
-        bytes = sym (contents-are g blocks (IsSound-denoted g blocks files h) n inode) ∙ is.contents;
+        bytes = sym (contents-are g blocks n (readable g blocks files h n inode) (λ k asks. let r = ((IsSound-denoted g blocks files h).in_range n k (record { inode = inode; slot = asks })).1 in omega (arith, parts.count))) ∙ is.contents;
         device = device-held n high node is.major;
       })
 
@@ -157,7 +153,7 @@ module _ (g : Geometry) (blocks : List (List ℕ)) (files : Files) (h : IsDenote
       let image = image_of blocks in
       let past : data_start (size_in image) (inodes_in image) ≤ b = omega (arith, h.size, h.inodes) in
       bit-clear (disk.bit_of blocks (bitmap_start_of g.inodes) b) (bit-small (disk.bit_of blocks (bitmap_start_of g.inodes) b) refl)
-      ∙ ap not (sym (bit-held g blocks files h b high) ∙ h.denotes.bitmap b (omega (arith, h.size)) ∙ ap (λ t. t || is_named image b) (le-ltb b (data_start (size_in image) (inodes_in image)) past))
+      ∙ ap not (sym (bit-held g blocks (legible g blocks files h) b high) ∙ h.denotes.bitmap b (omega (arith, h.size)) ∙ ap (λ t. t || is_named image b) (le-ltb b (data_start (size_in image) (inodes_in image)) past))
     where
       bit-small : (v : ℕ) → v ≡ disk.bit_of blocks (bitmap_start_of g.inodes) b → v < 2
       bit-small v e = omega arith

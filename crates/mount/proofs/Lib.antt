@@ -1,7 +1,6 @@
 pub mod Ranges
-pub mod Slots
 pub mod Sounding
 pub mod Holding
 pub mod Console
-pub mod Unmounting
 pub mod Mounting
+pub mod Saving

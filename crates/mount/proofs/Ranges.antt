@@ -1,6 +1,5 @@
 -- Lists of blocks that are made of lists, one for each number of a range: what holds of all holds of each.
-use Rattle.std.proofs.Common.{◌≡◌, ◌≢◌, ℕ, ◌+◌, ◌-◌, ◌<◌, ◌≤◌, Bool, List, [], ◌∷◌, ◌++◌, length, get_or, ap, sym, refl, ◌∙◌, arith, subst, inl, inr, zero, suc, true, false, cond, map}
-use Rattle.std.specs.Prelude.{All, count_by, flat_map, nat_eq, not, ◌||◌}
+use Rattle.std.proofs.Common.{◌≡◌, ◌≢◌, ℕ, ◌+◌, ◌-◌, ◌<◌, ◌≤◌, Bool, List, [], ◌∷◌, ◌++◌, length, get_or, ap, sym, refl, ◌∙◌, arith, subst, inl, inr, zero, suc, true, false, cond, map, All, count_by, flat_map, nat_eq, not, ◌||◌}
 use Rattle.std.specs.List.{list_any, range_with_len}
 use Rattle.std.proofs.lemmas.Bool.{cases_eq, eq-eqb, ne_eqb}
 use Rattle.std.proofs.lemmas.List.{get_or-append-add, get_or_append_left, get_or_default, length-append}
@@ -31,7 +30,7 @@ once-one f a (suc m) h n low high = elim (cases_eq n a) [
 ]
 
 -- what holds of all holds of those of one list
-pub All-one : (P : ℕ → Type 0) (f : ℕ → List ℕ) (a m : ℕ) → All P (flat_map f (range_with_len a m)) → (n : ℕ) → a ≤ n → n < a + m → All P (f n)
+All-one : (P : ℕ → Type 0) (f : ℕ → List ℕ) (a m : ℕ) → All P (flat_map f (range_with_len a m)) → (n : ℕ) → a ≤ n → n < a + m → All P (f n)
 All-one P f a m h n low high =
     let e : get_or (range_with_len a m) (n - a) 0 ≡ n = get_or-range_with_len a m (n - a) 0 (omega arith) ∙ omega arith in
     subst (λ k. All P (f k)) e (All-from_flat_map P f (range_with_len a m) h (n - a) 0 (omega (arith, length-range_with_len a m)))

@@ -1,35 +1,29 @@
 -- A disk whose image denotes files is sound.
-use Rattle.std.proofs.Common.{◌≡◌, ◌≢◌, ℕ, ◌+◌, ◌-◌, ◌*◌, ◌/◌, ◌%◌, ◌^◌, ◌<◌, ◌≤◌, List, length, get_or, ap, sym, ◌∙◌, arith, subst, inl, inr, true}
-use Rattle.std.specs.Prelude.{All, IsTrue, flat_map, min, nat_eq, nat_le, nat_lt, ◌==◌, ◌⊎◌}
-use Rattle.std.specs.Bool.{Decides}
-use Rattle.std.specs.List.{list_any, range_with_len}
-use Rattle.std.proofs.lemmas.Bool.{and_parts, cases_eq, cases_lt, leb-true, ltb-true}
-use Rattle.std.proofs.lemmas.Bool.Decides.{Decides-eqb, Decides-ltb, Decides-or}
-use Rattle.std.proofs.lemmas.List.Elements.{All-nil}
-use Rattle.std.proofs.lemmas.List.Folds.{Any-from_list_any, list_any_at}
-use Rattle.std.proofs.lemmas.List.FromFn.{get_or-range_with_len, length-range_with_len}
+use Rattle.std.proofs.Common.{◌≡◌, ◌≢◌, ℕ, ◌-◌, ◌<◌, ◌≤◌, List, length, get_or, ap, sym, ◌∙◌, arith, subst, inl, inr, All, IsTrue, flat_map, min, nat_le, nat_lt, ◌==◌, ◌⊎◌, Decides, refl}
+use Rattle.std.specs.List.{range_with_len}
+use Rattle.std.proofs.lemmas.Bool.{and_parts, cases_lt, leb-true, ltb-true}
+use Rattle.std.proofs.lemmas.Bool.Decides.{Decides-eqb}
 use Rattle.blockdev.specs.Blocks as device
 use Rattle.blockdev.specs.Blocks.{AreBlocks}
 use Rattle.layout.specs.Image as disk
 use Rattle.layout.specs.Image.{IsInode, IsUsed, bit_in, slot_of}
-use Rattle.layout.specs.Numbers.{number_at as number_in}
 use Rattle.layout.specs.Sound.{HasParts, IsNamed, IsSound, TellsGeometry}
-use Rattle.layout.specs.Super.{bitmap_start_of, data_start_of}
+use Rattle.layout.specs.Super.{bitmap_start_of, data_start_of, super_of}
 use Rattle.layout.specs.declared.Geometry.{Geometry}
 use Rattle.unixmodel.specs.Files.{Files}
-use Rattle.unixmodel.specs.Image.{Denotes, bit_of, bitmap_start, count_in, data_start, indirect_in, inodes_in, is_data_block, is_named, kind_in, length_in, named_blocks, size_in, super_number}
+use Rattle.unixmodel.specs.Image.{Denotes, bit_of, count_in, data_start, indirect_in, inodes_in, is_data_block, kind_in, length_in, named_blocks, size_in}
 use Rattle.imagerules.specs.Content.{image_of, length-image_of}
 use Rattle.imagerules.specs.Marks.{IsOnce, blocks_of}
 use Rattle.imagerules.specs.Pieces.{FitsAddresses}
-use Rattle.imagemake.proofs.Apart.{any-range}
 use Rattle.imagerules.proofs.Denoting.{HasKinds-denotes, HasSizes-denotes}
-use Rattle.imagerules.proofs.Lists.{All-flat_map}
-use Rattle.imagemake.proofs.Located.{byte-located, kind-located, number-located, size-located}
-use Rattle.imagerules.proofs.Marking.{blocks_of-free, named_before-all}
+use Rattle.imagemake.proofs.Located.{kind-located, size-located}
+use Rattle.imagerules.proofs.Marking.{named_before-all, blocks_of-used}
 use Rattle.imagerules.proofs.Named.{cond_yes}
 use Rattle.imagerules.proofs.Uses.{FitsAddresses-at, fits_indirect-at, is_data_block-below}
-use Rattle.mount.proofs.Ranges.{All-one, apart-two, once-one}
-use Rattle.mount.proofs.Slots.{IsReadable, listed-once, listed-slot, listed-within, slot-listed, spare-zero}
+use Rattle.mount.proofs.Ranges.{apart-two, once-one}
+use Rattle.imagemake.proofs.Slotted.{IsReadable, listed-once, listed-slot, listed-within, spare-zero}
+use Rattle.imagemake.proofs.Legible.{IsLegible, bit-held, named-decides}
+use Rattle.imagerules.proofs.Super.{HasNumbers-from, inodes-is, magic-is, size-is}
 
 -- the blocks of a device whose image denotes these files, and the numbers that its super block tells
 pub record IsDenoted (g : Geometry) (blocks : List (List ℕ)) (files : Files) : Type 0 where
@@ -56,28 +50,16 @@ module _ (g : Geometry) (blocks : List (List ℕ)) (files : Files) (h : IsDenote
         room = let blocks_in = super.blocks in let some = super.some_blocks in omega (arith, h.size, h.inodes);
       }
 
-  super-at : (k : ℕ) → k < 8 → number_in (device.block_at blocks 1) k ≡ super_number (image_of blocks) k
-  super-at k low = let least = h.denotes.super.size_least in number-located blocks h.sizes 1 (omega (arith, count-held, h.size)) 4 (4 * k) (omega arith)
-
   head-held : TellsGeometry g (device.block_at blocks 1)
   head-held =
-      let super = h.denotes.super in
+      let least = h.denotes.super.size_least in
+      let two : 2 ≤ length blocks = omega (arith, count-held, h.size) in
+      let s = super_of (device.block_at blocks 1) in
       record {
-        numbers = record {
-          size_low = let least = super.size_least in omega (arith, super-at 1 (omega arith));
-          size_high = let most = super.size_most in omega (arith, super-at 1 (omega arith));
-          inodes_low = let least = super.inodes_least in omega (arith, super-at 3 (omega arith));
-          inodes_high = let most = super.inodes_most in omega (arith, super-at 3 (omega arith));
-          log = super-at 4 (omega arith) ∙ super.log_size;
-          log_start = super-at 5 (omega arith) ∙ super.log_start;
-          inode_start = super-at 6 (omega arith) ∙ super.inode_start;
-          bitmap_start = super-at 7 (omega arith) ∙ super.bitmap ∙ ap bitmap_start_of (sym (super-at 3 (omega arith)));
-          blocks = let blocks_in = super.blocks in omega (arith, super-at 1 (omega arith), super-at 2 (omega arith), super-at 3 (omega arith));
-          some_blocks = let some = super.some_blocks in omega (arith, super-at 2 (omega arith));
-        };
-        magic = super-at 0 (omega arith) ∙ super.magic;
-        size = super-at 1 (omega arith) ∙ sym h.size;
-        inodes = super-at 3 (omega arith) ∙ sym h.inodes;
+        numbers = HasNumbers-from blocks h.sizes two s refl h.denotes.super;
+        magic = magic-is blocks h.sizes two s refl ∙ h.denotes.super.magic;
+        size = size-is blocks h.sizes two s refl ∙ sym h.size;
+        inodes = inodes-is blocks h.sizes two s refl ∙ sym h.inodes;
       }
 
   -- ---- an inode in use
@@ -106,6 +88,9 @@ module _ (g : Geometry) (blocks : List (List ℕ)) (files : Files) (h : IsDenote
           omega (arith, count-held, h.size);
     }
 
+  pub legible : IsLegible g blocks
+  legible = record { parts = parts-held; size = h.size; inodes = h.inodes; readable = readable }
+
   -- ---- the blocks that inodes name
 
   abbrev IsData : ℕ → Type 0
@@ -124,12 +109,9 @@ module _ (g : Geometry) (blocks : List (List ℕ)) (files : Files) (h : IsDenote
   once-all : IsOnce all_listed
   once-all = subst IsOnce (sym (named_before-all (image_of blocks))) h.denotes.once
 
-  data-all : All IsData all_listed
-  data-all = subst (All IsData) (sym (named_before-all (image_of blocks))) h.denotes.blocks
-
   module _ (n : ℕ) (inode : IsInode blocks g.inodes n) where
     data-listed : All IsData (blocks_of (image_of blocks) n)
-    data-listed = let in_range = within-inode n inode in All-one IsData (blocks_of (image_of blocks)) 1 (inodes_in (image_of blocks) - 1) data-all n inode.low (omega arith)
+    data-listed = subst (All IsData) (sym (blocks_of-used (image_of blocks) n (used-inode n inode))) (addresses-held n inode).blocks
 
     once-listed : IsOnce (blocks_of (image_of blocks) n)
     once-listed = let in_range = within-inode n inode in once-one (blocks_of (image_of blocks)) 1 (inodes_in (image_of blocks) - 1) once-all n inode.low (omega arith)
@@ -175,65 +157,9 @@ module _ (g : Geometry) (blocks : List (List ℕ)) (files : Files) (h : IsDenote
     ]
   ]
 
-  -- ---- the bitmap
-
-  listed-named : (n : ℕ) → 1 ≤ n → n < g.inodes → All (IsNamed blocks g.inodes) (blocks_of (image_of blocks) n)
-  listed-named n low high = elim (cases_eq (kind_in (image_of blocks) n) 0) [
-    | inl free ↦ subst (All (IsNamed blocks g.inodes)) (sym (blocks_of-free (image_of blocks) n free)) (All-nil (IsNamed blocks g.inodes))
-    | inr used ↦
-        let inode : IsInode blocks g.inodes n = record { low = low; high = high; kind = λ z. used (sym (kind-located g blocks parts-held n high) ∙ z) } in
-        λ p d l.
-        let at = slot-listed g blocks n (readable n inode) p d l in
-        (n, at.0, record { inode = inode; slot = at.1 }, sym at.2)
-  ]
-
-  all-named : All (IsNamed blocks g.inodes) (named_blocks (image_of blocks))
-  all-named =
-      subst (All (IsNamed blocks g.inodes)) (named_before-all (image_of blocks))
-      (All-flat_map (IsNamed blocks g.inodes) (blocks_of (image_of blocks)) (range_with_len 1 (inodes_in (image_of blocks) - 1)) (λ k d l.
-      let within : k < inodes_in (image_of blocks) - 1 = omega (arith, length-range_with_len 1 (inodes_in (image_of blocks) - 1)) in
-      let e : get_or (range_with_len 1 (inodes_in (image_of blocks) - 1)) k d ≡ 1 + k = get_or-range_with_len 1 (inodes_in (image_of blocks) - 1) k d within in
-      subst (λ n. All (IsNamed blocks g.inodes) (blocks_of (image_of blocks) n)) (sym e) (listed-named (1 + k) (omega arith) (omega (arith, h.inodes)))))
-
-  named-to : (b : ℕ) → is_named (image_of blocks) b ≡ true → IsNamed blocks g.inodes b
-  unfolding is_named
-  named-to b t =
-      let at = Any-from_list_any (nat_eq b) (named_blocks (image_of blocks)) t in
-      subst (IsNamed blocks g.inodes) (at.3 ∙ sym ((Decides-eqb b at.1).0 at.4)) (all-named at.0 at.1 at.2)
-
-  named-from : (b : ℕ) → IsNamed blocks g.inodes b → is_named (image_of blocks) b ≡ true
-  unfolding is_named
-  named-from b (n, k, u, e) =
-      let image = image_of blocks in
-      let r = readable n u.inode in
-      let in_range = within-inode n u.inode in
-      ap (list_any (nat_eq b)) (sym (named_before-all image))
-      ∙ any-range (nat_eq b) (blocks_of image) 1 (inodes_in image - 1) n u.inode.low (omega arith)
-      (list_any_at (nat_eq b) (blocks_of image n) (min k (count_in image n)) 0 (listed-within g blocks n r k u.slot) ((Decides-eqb b (get_or (blocks_of image n) (min k (count_in image n)) 0)).1 (sym (listed-slot g blocks n r k 0 u.slot ∙ e))))
-
-  -- a bit of the image is that of the disk
-  pub bit-held : (b : ℕ) → b < g.size → bit_of (image_of blocks) b ≡ (disk.bit_of blocks (bitmap_start_of g.inodes) b == 1)
-  unfolding bit_of bit_in
-  bit-held b high =
-      let image = image_of blocks in
-      let q = bitmap_start_of g.inodes + b / 8192 in
-      let room = parts-held.room in
-      let within : q < length blocks = omega (arith, count-held) in
-      let place : 1024 * bitmap_start (inodes_in image) + b / 8 ≡ 1024 * q + b % 8192 / 8 = omega (arith, h.inodes) in
-      let byte : get_or image (1024 * bitmap_start (inodes_in image) + b / 8) 0 ≡ get_or (device.block_at blocks q) (b % 8192 / 8) 0 =
-      ap (λ p. get_or image p 0) place ∙ sym (byte-located blocks h.sizes q within (b % 8192 / 8) (omega arith)) in
-      let small : b % 8 ≡ b % 8192 % 8 = omega arith in
-      ap (λ v. v / 2 ^ (b % 8) % 2 == 1) byte ∙ ap (λ s. get_or (device.block_at blocks q) (b % 8192 / 8) 0 / 2 ^ s % 2 == 1) small
-
   -- a block before the data has its bit set, and one that is named, and no others
   bit-decides : (b : ℕ) → b < g.size → Decides (bit_of (image_of blocks) b) ((b < data_start_of g.size g.inodes) ⊎ IsNamed blocks g.inodes b)
-  bit-decides b high =
-      let image = image_of blocks in
-      let start : data_start (size_in image) (inodes_in image) ≡ data_start_of g.size g.inodes = omega (arith, h.size, h.inodes) in
-      subst (λ t. Decides t ((b < data_start_of g.size g.inodes) ⊎ IsNamed blocks g.inodes b)) (sym (h.denotes.bitmap b (omega (arith, h.size))))
-      (Decides-or (nat_lt b (data_start (size_in image) (inodes_in image))) (is_named image b)
-      (subst (λ s. Decides (nat_lt b s) (b < data_start_of g.size g.inodes)) (sym start) (Decides-ltb b (data_start_of g.size g.inodes)))
-      (named-to b, named-from b))
+  bit-decides b high = subst (λ t. Decides t ((b < data_start_of g.size g.inodes) ⊎ IsNamed blocks g.inodes b)) (sym (h.denotes.bitmap b (omega (arith, h.size)))) (named-decides g blocks legible b)
 
   -- ---- the disk
 
@@ -247,7 +173,7 @@ module _ (g : Geometry) (blocks : List (List ℕ)) (files : Files) (h : IsDenote
     once = once-slots;
     spare = λ n k inode spare. spare-zero g blocks n (readable n inode) (addresses-held n inode).unused k spare;
     marked = λ b high.
-        let bit = bit-held b high in
+        let bit = bit-held g blocks legible b high in
         let decides = bit-decides b high in
         let one = Decides-eqb (disk.bit_of blocks (bitmap_start_of g.inodes) b) 1 in
         (λ e. decides.0 (bit ∙ one.1 e), λ why. one.0 (sym bit ∙ decides.1 why));

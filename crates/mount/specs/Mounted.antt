@@ -1,26 +1,35 @@
 -- The files of an image, in use.
-use Rattle.std.specs.Prelude.{List, [], codes, false, length, ℕ, ◌*◌, ◌∷◌, ◌≡◌, ◌≤◌}
+use Rattle.std.specs.Prelude.{List, Some, [], codes, false, length, replicate, ℕ, ◌*◌, ◌∷◌, ◌≡◌, ◌≤◌}
 use Rattle.imagecheck.specs.Faults.{IsOfImage, Tells}
 use Rattle.imagecheck.specs.declared.ImageFault.{ImageFault}
 use Rattle.imagecheck.specs.declared.ImageFault.TheVariants.{Device}
 use Rattle.layout.specs.declared.Geometry.{Geometry}
+use Rattle.names.specs.Rules.{KeepsTree}
 use Rattle.tree.specs.Tree.{FileTree}
 use Rattle.unixmodel.specs.Failures.{Rises}
-use Rattle.unixmodel.specs.Files.{Files}
+use Rattle.unixmodel.specs.Files.{Files, Node, links_of, slot}
 use Rattle.unixmodel.specs.Image.{Denotes, inodes_in, size_in}
 use Rattle.unixmodel.specs.Manifest.{ManifestEntry, data_blocks_of}
 use Rattle.unixmodel.specs.Manifest.Thing.{Special}
 use Rattle.unixmodel.specs.Start.{flat_files}
+
+-- each node has a link
+abbrev pub AreLinked : Files → Type 0
+AreLinked files = (n : ℕ) (node : Node) → slot files n ≡ Some node → 1 ≤ links_of node
 
 -- the numbers of an image's super block
 pub record TellsNumbers (image : List ℕ) (g : Geometry) : Type 0 where
   pub size : g.size ≡ size_in image
   pub inodes : g.inodes ≡ inodes_in image
 
--- the files that the image denotes, and there are no others; an access of the device had failed this often before
+-- the files that the image denotes, and there are no others: they keep the rules of names, each node of them has links, and
+-- nobody holds any; an access of the device had failed this often before
 pub record IsMounted (image : List ℕ) (failures : ℕ) (tree : FileTree) : Type 0 where
   pub denotes : Denotes image tree.files
   pub only : (files : Files) → Denotes image files → files ≡ tree.files
+  pub rules : KeepsTree tree.files
+  pub linked : AreLinked tree.files
+  pub holds : tree.holds ≡ replicate (inodes_in image) 0
   pub limit : tree.block_limit ≡ data_blocks_of (size_in image) (inodes_in image)
   pub up : tree.failed ≡ false
   pub later : failures ≤ tree.failures
@@ -46,5 +55,8 @@ pub record IsFlatImage (image : List ℕ) : Type 0 where
 -- its files, in use
 pub record IsFlat (tree : FileTree) : Type 0 where
   pub files : tree.files ≡ flat_files
+  pub rules : KeepsTree tree.files
+  pub linked : AreLinked tree.files
+  pub holds : tree.holds ≡ replicate 16 0
   pub limit : tree.block_limit ≡ 27
   pub up : tree.failed ≡ false

@@ -1,9 +1,11 @@
 //! The image of a device.
 
-ghost use Rattle.std.specs.Prelude.{◌≡◌, ◌≤◌, IfErr, IfOk, length};
+ghost use Rattle.std.specs.Prelude.{◌≡◌, ◌≤◌, IfErr, IfOk, OnOk, false, length};
 ghost use Rattle.imagerules.specs.Content.{image_of};
-ghost use Rattle.mount.specs.Mounted.{IsMounted, IsUnmounted, TellsNumbers};
+ghost use Rattle.mount.specs.Mounted.{AreLinked, IsMounted, IsUnmounted, TellsNumbers};
+ghost use Rattle.names.specs.Rules.{KeepsTree};
 ghost use Rattle.unixmodel.specs.Failures.{HasCause};
+ghost use Rattle.unixmodel.specs.Image.{Denotes};
 
 use blockdev::{BlockDev, DeviceFault};
 use cache::Cache;
@@ -37,4 +39,16 @@ pub fn mount<D: BlockDev>(alloc: Global, mut device: D) -> Result<Tree<D>, Image
     let geometry = read_geometry(&mut device)?;
     let disk = Cache::new(alloc, device)?;
     Ok(Tree::new(alloc, disk, geometry)?)
+}
+
+/// Gives up files in use for their device, whose image denotes them then. Where an access fails it isn't told what the device
+/// has.
+pub fn unmount<D: BlockDev>(tree: Tree<D>) -> (D, Result<(), DeviceFault>)
+    requires up { tree.failed ≡ false }
+    requires rules { KeepsTree tree.files }
+    requires linked { AreLinked tree.files }
+    ensures denotes { OnOk result.1 (Denotes (image_of (D.content result.0)) tree.files) }
+    ensures cause { HasCause tree.failures (D.failures result.0) result.1 }
+{
+    tree.into_device()
 }

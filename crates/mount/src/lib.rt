@@ -4,5 +4,5 @@
 mod device;
 mod flat;
 
-pub use device::mount;
+pub use device::{mount, unmount};
 pub use flat::mount_flat;

@@ -93,7 +93,7 @@ alike-bytes n links old new h = record { names = λ m. refl; wanted = refl; kind
 
 module _ {files : Files} (keeps : KeepsTree files) where
   -- where nothing changes
-  changed-same : Changed files files
+  pub changed-same : Changed files files
   changed-same = record { tree = keeps; stays = λ m used. refl; idle = λ m node here none. record { was = node; here = here; none = none } }
 
   module _ (n links : ℕ) (old new : List ℕ) (here : slot files n ≡ Some (File links old)) (size : length new ≤ longest) where

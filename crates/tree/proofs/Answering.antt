@@ -11,14 +11,14 @@ use Rattle.tree.specs.declared.TreeFault.TheVariants.{Device}
 use Rattle.unixmodel.specs.Failures.{HasCause}
 use Rattle.tree.proofs.Reading.{Rises-before}
 
-told-err : {T E : Type 0} {fault : E} (r : Result T E) → IsErrAnd r (λ f. f ≡ fault) → r ≡ Err fault
+pub told-err : {T E : Type 0} {fault : E} (r : Result T E) → IsErrAnd r (λ f. f ≡ fault) → r ≡ Err fault
 told-err r h = let p = err_from_is_err_and r h in p.1 ∙ ap Err p.2
 
 abbrev fault-or : {T : Type 0} → Result T TreeFault → TreeFault → TreeFault
 fault-or (Ok x) other = other
 fault-or (Err fault) other = fault
 
-err-is : {T : Type 0} (e f : TreeFault) → ◌≡◌ {A = Result T TreeFault} (Err e) (Err f) → e ≡ f
+pub err-is : {T : Type 0} (e f : TreeFault) → ◌≡◌ {A = Result T TreeFault} (Err e) (Err f) → e ≡ f
 err-is e f h = ap (λ r. fault-or r e) h
 
 module _ {T : Type 0} {old new : Disk} {Done : T → Type 0} {Refused : Type 0} {Why : TreeFault → Type 0} where

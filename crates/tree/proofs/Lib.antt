@@ -17,5 +17,11 @@ pub mod Gaps
 pub mod Leaves
 pub mod Emptying
 pub mod Links
+pub mod Folders
+pub mod Dots
 pub mod Serving
 pub mod Releasing
+pub mod Letting
+pub mod Fitting
+pub mod Unnaming
+pub mod Keeping

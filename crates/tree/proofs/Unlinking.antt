@@ -9,7 +9,7 @@ use Rattle.layout.specs.Image.{IsInode, bytes_of, inode_at}
 use Rattle.tree.specs.declared.place.Found.{Found}
 use Rattle.tree.specs.Held.{Holds}
 use Rattle.tree.specs.Names.{dropped, found_at, found_in, is_bare, removal}
-use Rattle.unixmodel.specs.NameCalls.{may_remove, removed_node, unlinked, without_name}
+use Rattle.unixmodel.specs.NameCalls.{fewer_links, may_remove, removed_node, unlinked, without_name}
 use Rattle.tree.specs.Places.{places_in}
 use Rattle.tree.specs.Steps.{HasPlace}
 use Rattle.tree.specs.Unlinks.{IsNaming}
@@ -121,6 +121,13 @@ module _ (files : Files) (d : ℕ) (naming : IsNaming files d) (name : List ℕ)
       unfolding unlinked
       unlinked-done goes e h = rw e (removed-is ∙ ap (removed_node files d f.place f.number) here ∙ taken-node goes (may_remove node) refl h)
 
+-- a node that isn't taken away has names
+pub stays-busy : (node : Node) → removal node ≡ None → may_remove node ≡ false
+stays-busy node h = go (may_remove node) h where
+  go : (b : Bool) → cond b (Some (is_directory node)) None ≡ None → b ≡ false
+  go true q = absurd (none-some (is_directory node) (sym q))
+  go false q = refl
+
 -- ---- the disk
 
 module _ (g : Geometry) (blocks : List (List ℕ)) (files : Files) (holds : Holds g blocks files) where
@@ -169,3 +176,7 @@ stays-erased files d k m some = stays-node files d (without_place k) m some
 
 pub some-not : (o : Option Node) (node : Node) → o ≡ Some node → o ≢ None
 some-not o node e h = none-some node (sym h ∙ e)
+
+pub stays-dropped : (files : Files) (n d : ℕ) (goes : Bool) (m : ℕ) → slot files m ≢ None → slot (dropped files n d goes) m ≢ None
+stays-dropped files n d true m some = stays-node (change_node files n fewer_links) d fewer_links m (stays-node files n fewer_links m some)
+stays-dropped files n d false m some = stays-node files n fewer_links m some

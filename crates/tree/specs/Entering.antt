@@ -5,7 +5,7 @@ use Rattle.layout.specs.Image.{free_blocks, taken_for}
 use Rattle.unixmodel.specs.Counts.{blocks_of}
 use Rattle.unixmodel.specs.Files.{Entry, Files, Node, Spot, change_node, find, free_slot, lookup, most_places, places_at, put, slot, spot_of}
 use Rattle.unixmodel.specs.Files.Node.{Device, Directory, File}
-use Rattle.unixmodel.specs.NameCalls.{Made, linked, made_at}
+use Rattle.unixmodel.specs.NameCalls.{Made, linked, made_at, made_directory}
 
 -- ---- the place of a new entry
 
@@ -93,6 +93,11 @@ made_in files d path node = option_and_then (λ at. made_at files at (λ n. node
 
 abbrev pub made_files : Option Made → Option Files
 made_files o = option_map (λ (made : Made). made.files) o
+
+-- ---- a new directory
+
+unfoldable pub folder_in : Files → ℕ → List ℕ → Option Files
+folder_in files d path = option_and_then (made_directory files) (spot_of files d path)
 
 -- ---- another name
 

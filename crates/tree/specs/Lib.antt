@@ -4,8 +4,10 @@ pub mod Names
 pub mod Steps
 pub mod Unlinks
 pub mod Answers
+pub mod Holding
 pub mod Paths
 pub mod Entering
 pub mod Lacking
 pub mod Leaves
+pub mod Written
 pub mod Tree

@@ -1,5 +1,5 @@
 -- A file system in use, as callers see it.
-use Rattle.std.specs.Prelude.{Bool, Err, IfErr, IfOk, IsErrOf, Ok, OnErr, OnOk, Result, false, true, ℕ, ◌≡◌, ◌≢◌, ◌≤◌}
+use Rattle.std.specs.Prelude.{Bool, Err, IfErr, IfOk, IsErrOf, List, Ok, OnErr, OnOk, Result, false, length, replicate, true, ℕ, ◌≡◌, ◌≢◌, ◌≤◌}
 use Rattle.blockdev.specs.declared.DeviceFault.{DeviceFault}
 use Rattle.cache.specs.Disk.{Disk}
 use Rattle.layout.specs.declared.Geometry.{Geometry}
@@ -15,24 +15,28 @@ pub record FileTree : Type 0 where
   pub files : Files
   -- how many data blocks the disk has
   pub block_limit : ℕ
+  -- how many open files and working directories hold each number
+  pub holds : List ℕ
   -- an access of the device has failed: nothing is promised of the files any more
   pub failed : Bool
   pub failures : ℕ
 
--- the files that a disk holds, before any access has failed
+-- the files that a disk holds, of which nobody holds any, before any access has failed
 abbrev pub tree_over : Geometry → Disk → FileTree
-tree_over g disk = record { files = files_of g disk.blocks; block_limit = data_blocks_of g.size g.inodes; failed = false; failures = disk.failures }
+tree_over g disk = record { files = files_of g disk.blocks; block_limit = data_blocks_of g.size g.inodes; holds = replicate g.inodes 0; failed = false; failures = disk.failures }
 
 abbrev pub tree_of : {D : Type 0} → Inside D → FileTree
 tree_of t = record {
   files = files_of t.geometry t.disk.blocks;
   block_limit = data_blocks_of t.geometry.size t.geometry.inodes;
+  holds = t.holds.items;
   failed = t.failed;
   failures = t.disk.failures;
 }
 
-abbrev pub IsInside : {D : Type 0} → Inside D → Type 0
-IsInside t = t.failed ≡ false → IsHeld t.geometry t.disk.blocks
+pub record IsInside {D : Type 0} (t : Inside D) : Type 0 where
+  pub count : length t.holds.items ≡ t.geometry.inodes
+  pub held : t.failed ≡ false → IsHeld t.geometry t.disk.blocks
 
 -- what a call on a file system answers: what is told holds, and no access has failed; an error is told only where the device
 -- counts one
@@ -64,5 +68,6 @@ pub record Acts {T : Type 0} (old new : FileTree) (result : Result T TreeFault) 
   pub refused : IfErr result (λ fault. fault ≢ Device → IsRefusal old new Refused (Why fault))
   pub failed : new.failed ≡ has_failed result
   pub limit : new.block_limit ≡ old.block_limit
+  pub holds : new.holds ≡ old.holds
   pub later : old.failures ≤ new.failures
   pub cause : IsErrOf result Device → Rises old.failures new.failures

@@ -8,12 +8,12 @@ mod place;
 mod removing;
 mod step;
 mod tree;
+mod writing;
 
 use blockdev::DeviceFault;
 pub use making::{Leaf, create, link};
 pub use path::{find, spot};
 pub use place::{Found, find_name};
-pub use removing::unlink;
 use thiserror::Error;
 pub use tree::Tree;
 

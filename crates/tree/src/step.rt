@@ -1,7 +1,8 @@
 //! Steps that change one node of a disk.
 
-ghost use Rattle.std.specs.Prelude.{◌≡◌, ◌≢◌, ℕ, ◌+◌, ◌-◌, ◌*◌, ◌<◌, ◌≤◌, None, Some};
+ghost use Rattle.std.specs.Prelude.{◌≡◌, ◌≢◌, ℕ, ◌+◌, ◌-◌, ◌*◌, ◌<◌, ◌≤◌, None, Some, length};
 ghost use Rattle.tree.specs.Held.{IsHeld, files_of};
+ghost use Rattle.tree.specs.Holding.{let_go};
 ghost use Rattle.tree.specs.Names.{dropped};
 ghost use Rattle.unixmodel.specs.NameCalls.{emptied, fewer_links, more_links};
 ghost use Rattle.tree.specs.Steps.{HasPlace, Turns};
@@ -82,6 +83,28 @@ pub fn drop_links<D: BlockDev>(
         return drop_link(disk, geometry, directory);
     }
     Ok(())
+}
+
+/// A node goes with its blocks where it has no links and nobody holds it.
+pub fn let_go<D: BlockDev>(
+    disk: &mut Cache<D>,
+    geometry: Geometry,
+    holds: &[u16],
+    number: usize,
+) -> Result<(), DeviceFault>
+    requires held { IsHeld geometry disk.old.blocks }
+    requires node { slot (files_of geometry disk.old.blocks) number ≢ None }
+    requires within { number < length holds.now }
+    ensures { Turns geometry disk.old disk.new result (let_go holds.now (files_of geometry disk.old.blocks) number) }
+{
+    if holds[number] > 0 {
+        return Ok(());
+    }
+    let node = stat(disk, geometry, number)?;
+    if node.links > 0 {
+        return Ok(());
+    }
+    release(disk, geometry, number)
 }
 
 /// A node goes with its blocks.

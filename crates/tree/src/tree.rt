@@ -1,21 +1,27 @@
 //! A file system in use.
 
-ghost use Rattle.std.specs.Prelude.{◌≡◌, ◌≢◌, All, ℕ, ◌+◌, ◌-◌, ◌≤◌, ◌++◌, Some, None, IfOk, IsSome, drop, false, length, min};
+ghost use Rattle.std.specs.Prelude.{◌≡◌, ◌≢◌, All, ℕ, ◌+◌, ◌-◌, ◌<◌, ◌≤◌, ◌++◌, Some, None, IfOk, IsSome, OnOk, drop, false, length, min};
 ghost use Rattle.blockdev.specs.Splice.{part};
 ghost use Rattle.names.specs.Rules.{KeepsTree};
 ghost use Rattle.tree.specs.Answers.{Overflows};
-ghost use Rattle.tree.specs.Entering.{linked_in, made_files, made_in};
-ghost use Rattle.tree.specs.Held.{IsHeld};
-ghost use Rattle.tree.specs.Lacking.{LacksLinking, LacksMaking};
+ghost use Rattle.tree.specs.Entering.{folder_in, linked_in, made_files, made_in};
+ghost use Rattle.tree.specs.Held.{IsHeld, IsStored};
+ghost use Rattle.tree.specs.Holding.{holders, let_go, with_hold, without_hold};
+ghost use Rattle.tree.specs.Lacking.{LacksFolder, LacksLinking, LacksMaking, LacksUnlinking};
 ghost use Rattle.tree.specs.Leaves.{leaf_node};
 ghost use Rattle.tree.specs.Tree.{Acts, Serves, has_failed, tree_over};
+ghost use Rattle.tree.specs.Unlinks.{unlinked_in};
+ghost use Rattle.tree.specs.Written.{IsFile, count_of, files_after, written};
+ghost use Rattle.unixmodel.specs.Failures.{HasCause};
 ghost use Rattle.unixmodel.specs.NameCalls.{emptied};
 ghost use Rattle.unixmodel.specs.Files.{Node, change_node, find, kind_of, links_of, node_bytes, size_of, slot};
 
 use crate::TreeFault;
-use crate::making::{Leaf, create, link};
+use crate::making::{Leaf, create, create_directory, link};
 use crate::path::find;
-use crate::step::empty_file;
+use crate::removing::unlink;
+use crate::step::{empty_file, let_go};
+use crate::writing::write;
 use blockdev::{BlockDev, DeviceFault};
 use cache::Cache;
 use inode::{InodeStat, read_at, stat};
@@ -29,6 +35,8 @@ use std::marker::Model;
 pub struct Tree<D: BlockDev> {
     disk: Cache<D>,
     geometry: Geometry,
+    // how many open files and working directories hold each node
+    holds: Vec<u16>,
     failed: bool,
 }
 
@@ -45,16 +53,36 @@ impl<D: BlockDev> Model for Tree<D> {
 }
 
 impl<D: BlockDev> Tree<D> {
-    /// The files that a disk of this geometry holds. It is the only call that can ask for host memory.
-    pub fn new(_alloc: Global, disk: Cache<D>, geometry: Geometry) -> Result<Tree<D>, AllocError>
+    /// The files that a disk of this geometry holds, of which nobody holds any. It is the only call that asks for host memory.
+    pub fn new(alloc: Global, disk: Cache<D>, geometry: Geometry) -> Result<Tree<D>, AllocError>
         requires { IsHeld geometry disk.blocks }
         ensures { IfOk result (λ tree. tree ≡ tree_over geometry disk) }
     {
         Ok(Tree {
             disk,
             geometry,
+            holds: vec![in alloc; 0; geometry.inodes]?,
             failed: false,
         })
+    }
+
+    /// The device below, which counts its failures.
+    pub fn device(&self) -> &D
+        ensures { D.failures result.now ≡ self.now.failures }
+    {
+        self.disk.device()
+    }
+
+    /// Gives up the files for their device, which gets what it lacks first. Where an access fails it isn't told what the device
+    /// has.
+    pub fn into_device(self) -> (D, Result<(), DeviceFault>)
+        requires up { self.failed ≡ false }
+        ensures stored { OnOk result.1 (IsStored (D.content result.0) self.files) }
+        ensures cause { HasCause self.failures (D.failures result.0) result.1 }
+    {
+        let Tree { mut disk, .. } = self;
+        let flushed = disk.flush();
+        (disk.into_device(), flushed)
     }
 
     /// Reads bytes of a node from the place `at` on, as many as there are, and tells how many.
@@ -64,6 +92,23 @@ impl<D: BlockDev> Tree<D> {
         ensures { Serves self.old self.new result (λ k. (self.new ≡ record self.old { failures = self.new.failures }) × ((node : Node) → slot self.old.files number ≡ Some node → (k ≡ min (length out.old) (length (node_bytes node) - at)) × (out.new ≡ part at k (node_bytes node) ++ drop k out.old))) }
     {
         let result = read_at(&mut self.disk, self.geometry, number, at, out);
+        self.failed = result.is_err();
+        result
+    }
+
+    /// Writes bytes into a file from the place `at` on, as many as there are blocks for, and tells how many. `None` comes
+    /// where the place lies past the file's end or the file would be longer than 274432 bytes; nothing is written then.
+    pub fn write(
+        &mut self,
+        number: usize,
+        at: usize,
+        bytes: &[u8],
+    ) -> Result<Option<usize>, DeviceFault>
+        requires up { self.old.failed ≡ false }
+        requires file { IsFile self.old.files number }
+        ensures { Serves self.old self.new result (λ count. (self.new ≡ record self.old { files = files_after self.old.files (written self.old.block_limit self.old.files number at bytes.now); failures = self.new.failures }) × (count ≡ count_of (written self.old.block_limit self.old.files number at bytes.now))) }
+    {
+        let result = write(&mut self.disk, self.geometry, number, at, bytes);
         self.failed = result.is_err();
         result
     }
@@ -106,6 +151,22 @@ impl<D: BlockDev> Tree<D> {
         result
     }
 
+    /// Makes a directory with the lowest free number, and a name for it: the one above has a link more. Beside what has no
+    /// spot, it is refused by `Exists` where the name is there, `Full` where the directory above has no room, `Links` where
+    /// that has 32767 links already, `Blocks` where the disk has no room for the name and a block, and `Inodes` where no
+    /// number is free.
+    pub fn create_directory(&mut self, directory: usize, path: &[u8]) -> Result<(), TreeFault>
+        requires up { self.old.failed ≡ false }
+        requires rules { KeepsTree self.old.files }
+        requires directory { IsSome (slot self.old.files directory) }
+        requires path { All (λ b. b ≢ 0) path.now }
+        ensures { Acts self.old self.new result (λ done. folder_in self.old.files directory path.now ≡ Some self.new.files) (Overflows self.old.block_limit (folder_in self.old.files directory path.now)) (LacksFolder self.old.block_limit self.old.files directory path.now) }
+    {
+        let result = create_directory(&mut self.disk, self.geometry, directory, path);
+        self.failed = has_failed(&result);
+        result
+    }
+
     /// Gives a file or a device another name. `NotFound` comes where the old path reaches nothing, `IsDir` where it reaches a
     /// directory, `Links` where the node has 32767 links already, and else what is in the way of a new name.
     pub fn link(&mut self, directory: usize, old: &[u8], new: &[u8]) -> Result<(), TreeFault>
@@ -117,6 +178,43 @@ impl<D: BlockDev> Tree<D> {
     {
         let result = link(&mut self.disk, self.geometry, directory, old, new);
         self.failed = has_failed(&result);
+        result
+    }
+
+    /// Takes a name away, and its node too where that has no links any more and nobody holds it. Beside what has no spot, it
+    /// is refused by `DotName` for "." and "..", `NotFound` where the name isn't there, and `NotEmpty` where it is that of a
+    /// directory with names.
+    pub fn unlink(&mut self, directory: usize, path: &[u8]) -> Result<(), TreeFault>
+        requires up { self.old.failed ≡ false }
+        requires rules { KeepsTree self.old.files }
+        requires directory { IsSome (slot self.old.files directory) }
+        ensures { Acts self.old self.new result (λ done. unlinked_in self.old.holds self.old.files directory path.now ≡ Some self.new.files) (unlinked_in self.old.holds self.old.files directory path.now ≡ None) (LacksUnlinking self.old.files directory path.now) }
+    {
+        let result = unlink(&mut self.disk, self.geometry, &self.holds, directory, path);
+        self.failed = has_failed(&result);
+        result
+    }
+
+    /// One open file or working directory more holds a node: it stays until that lets go, also where its last name goes.
+    pub fn hold(&mut self, number: usize)
+        requires up { self.old.failed ≡ false }
+        requires node { slot self.old.files number ≢ None }
+        requires few { holders self.old.holds number < 65535 }
+        ensures { self.new ≡ record self.old { holds = with_hold self.old.holds number } }
+    {
+        self.holds[number] += 1;
+    }
+
+    /// One that held a node lets go: it goes with its blocks where it has no links and nobody else holds it.
+    pub fn drop_hold(&mut self, number: usize) -> Result<(), DeviceFault>
+        requires up { self.old.failed ≡ false }
+        requires node { slot self.old.files number ≢ None }
+        requires some { 1 ≤ holders self.old.holds number }
+        ensures { Serves self.old self.new result (λ done. self.new ≡ record self.old { files = let_go (without_hold self.old.holds number) self.old.files number; holds = without_hold self.old.holds number; failures = self.new.failures }) }
+    {
+        self.holds[number] -= 1;
+        let result = let_go(&mut self.disk, self.geometry, &self.holds, number);
+        self.failed = result.is_err();
         result
     }
 

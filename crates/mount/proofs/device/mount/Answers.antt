@@ -2,8 +2,7 @@ use Rattle.std.proofs.Common.{length, ◌∙◌, ◌≤◌, arith, refl, subst, 
 use Rattle.std.proofs.lemmas.Result.{err_from_is_err_and}
 use Rattle.imagerules.specs.Content.{image_of}
 use Rattle.imagerules.specs.Places.{files_in}
-use Rattle.mount.proofs.Mounting.{IsHeld-mounted, IsMounted-over, two-blocks}
-use Rattle.mount.proofs.Unmounting.{unmounted-check, unmounted-device, unmounted-memory}
+use Rattle.mount.proofs.Mounting.{IsHeld-mounted, IsMounted-over, two-blocks, unmounted-check, unmounted-device, unmounted-memory}
 use Rattle.mount.proofs.device.mount.Goals as goal
 use Rattle.mount.specs.Mounted.{IsMounted, TellsNumbers}
 

@@ -13,7 +13,7 @@ pub create-result-requires-clause-directory : goal.create-result-requires-clause
 create-result-requires-clause-directory g c = subst (λ (t : FileTree). IsSome (slot t.files c.args.directory)) (sym c.self.view_is) c.requires.directory
 
 pub returns : goal.returns
-returns g c = rw (← c.self.view_is) (acts c.self.inside.geometry c.self.inside.disk c.create-result.new.disk c.create-result.ensures c.has_failed-self-inside.ensures)
+returns g c = rw (← c.self.view_is) (acts c.self.inside.geometry c.self.inside.disk c.create-result.new.disk c.self.inside.holds.items c.create-result.ensures c.has_failed-self-inside.ensures)
 
 pub invariant_of-self : goal.invariant_of-self
-invariant_of-self g c = answers-held c.create-result.ensures c.has_failed-self-inside.ensures (c.self.invariant (ap (λ (t : FileTree). t.failed) c.self.view_is ∙ c.requires.up))
+invariant_of-self g c = record { count = c.self.invariant.count; held = answers-held c.create-result.ensures c.has_failed-self-inside.ensures (c.self.invariant.held (ap (λ (t : FileTree). t.failed) c.self.view_is ∙ c.requires.up)) }

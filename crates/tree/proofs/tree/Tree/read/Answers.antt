@@ -8,12 +8,12 @@ use Rattle.tree.proofs.tree.Tree.read.Goals as goal
 
 pub read_at-result-requires-clause-inode : goal.read_at-result-requires-clause-inode
 read_at-result-requires-clause-inode g c =
-    let held = c.self.invariant (ap (λ (t : FileTree). t.failed) c.self.view_is ∙ c.requires.up) in
+    let held = c.self.invariant.held (ap (λ (t : FileTree). t.failed) c.self.view_is ∙ c.requires.up) in
     held-inode c.self.inside.geometry c.self.inside.disk.blocks (files_of c.self.inside.geometry c.self.inside.disk.blocks) held c.args.number c.requires.node.0
     (ap (λ (t : FileTree). slot t.files c.args.number) c.self.view_is ∙ c.requires.node.1)
 
 pub returns : goal.returns
 returns g c =
     let up = ap (λ (t : FileTree). t.failed) c.self.view_is ∙ c.requires.up in
-    rw (← c.self.view_is) (read-serves c.self.inside.geometry c.self.inside.disk c.read_at-result.new.disk c.args.number c.args.at c.args.out.now c.read_at-result.new.out c.self.inside.failed c.is_err-self-inside.result up (c.self.invariant up)
+    rw (← c.self.view_is) (read-serves c.self.inside.geometry c.self.inside.disk c.read_at-result.new.disk c.self.inside.holds.items c.args.number c.args.at c.args.out.now c.read_at-result.new.out c.self.inside.failed c.is_err-self-inside.result up (c.self.invariant.held up)
     c.read_at-result.result c.read_at-result.ensures.count c.read_at-result.ensures.read c.read_at-result.ensures.same c.read_at-result.ensures.cause c.is_err-self-inside.ensures.value)

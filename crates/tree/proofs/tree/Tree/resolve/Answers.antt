@@ -15,5 +15,5 @@ find-result-requires-clause-directory g c = subst (λ (t : FileTree). IsSome (sl
 pub returns : goal.returns
 returns g c =
     let up = ap (λ (t : FileTree). t.failed) c.self.view_is ∙ c.requires.up in
-    rw (← c.self.view_is) (find-serves c.self.inside.geometry c.self.inside.disk c.find-result.new.disk c.args.directory c.args.path.now c.self.inside.failed c.is_err-self-inside.result up
+    rw (← c.self.view_is) (find-serves c.self.inside.geometry c.self.inside.disk c.find-result.new.disk c.self.inside.holds.items c.args.directory c.args.path.now c.self.inside.failed c.is_err-self-inside.result up
     c.find-result.result c.find-result.ensures c.is_err-self-inside.ensures.value)

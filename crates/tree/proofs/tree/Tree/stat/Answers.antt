@@ -8,12 +8,12 @@ use Rattle.tree.proofs.tree.Tree.stat.Goals as goal
 
 pub stat-result-requires-clause-inode : goal.stat-result-requires-clause-inode
 stat-result-requires-clause-inode g c =
-    let held = c.self.invariant (ap (λ (t : FileTree). t.failed) c.self.view_is ∙ c.requires.up) in
+    let held = c.self.invariant.held (ap (λ (t : FileTree). t.failed) c.self.view_is ∙ c.requires.up) in
     held-inode c.self.inside.geometry c.self.inside.disk.blocks (files_of c.self.inside.geometry c.self.inside.disk.blocks) held c.args.number c.requires.node.0
     (ap (λ (t : FileTree). slot t.files c.args.number) c.self.view_is ∙ c.requires.node.1)
 
 pub returns : goal.returns
 returns g c =
     let up = ap (λ (t : FileTree). t.failed) c.self.view_is ∙ c.requires.up in
-    rw (← c.self.view_is) (stat-serves c.self.inside.geometry c.self.inside.disk c.stat-result.new.disk c.args.number c.self.inside.failed c.is_err-self-inside.result up (c.self.invariant up)
+    rw (← c.self.view_is) (stat-serves c.self.inside.geometry c.self.inside.disk c.stat-result.new.disk c.self.inside.holds.items c.args.number c.self.inside.failed c.is_err-self-inside.result up (c.self.invariant.held up)
     c.stat-result.result c.stat-result.ensures.kind c.stat-result.ensures.links c.stat-result.ensures.size c.stat-result.ensures.same c.stat-result.ensures.cause c.is_err-self-inside.ensures.value)

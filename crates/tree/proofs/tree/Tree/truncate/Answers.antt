@@ -12,8 +12,8 @@ empty_file-result-requires-clause-node g c = subst (λ (t : FileTree). slot t.fi
 pub returns : goal.returns
 returns g c =
     let up = ap (λ (t : FileTree). t.failed) c.self.view_is ∙ c.requires.up in
-    rw (← c.self.view_is) (turns-serves c.self.inside.geometry c.self.inside.disk c.empty_file-result.new.disk c.self.inside.failed c.is_err-self-inside.result
+    rw (← c.self.view_is) (turns-serves c.self.inside.geometry c.self.inside.disk c.empty_file-result.new.disk c.self.inside.holds.items c.self.inside.holds.items c.self.inside.failed c.is_err-self-inside.result
     (change_node (files_of c.self.inside.geometry c.self.inside.disk.blocks) c.args.number emptied) c.empty_file-result.result up c.empty_file-result.ensures c.is_err-self-inside.ensures.value)
 
 pub invariant_of-self : goal.invariant_of-self
-invariant_of-self g c = turns-held c.empty_file-result.ensures c.is_err-self-inside.ensures.value
+invariant_of-self g c = record { count = c.self.invariant.count; held = turns-held c.empty_file-result.ensures c.is_err-self-inside.ensures.value }

@@ -1,0 +1,284 @@
+-- A new directory: why it is refused, and what the disk holds.
+use Rattle.std.proofs.Common.{◌≡◌, ◌≢◌, ℕ, ◌+◌, ◌<◌, ◌≤◌, Bool, List, [], None, Option, Some, ap, sym, refl, ◌∙◌, arith, subst, cond, true, false, suc}
+use Rattle.std.specs.Prelude.{All, IsSome, is_none, option_and_then, option_map, ◌&&◌}
+use Rattle.std.proofs.lemmas.Bool.{and_from, and_left, and_right, cond-false, cond-true, false≢true, le-ltb, lt-ltb}
+use Rattle.std.proofs.lemmas.List.{get_or-set_other, get_or-set_same}
+use Rattle.std.proofs.lemmas.Option.{none-some, same_Some}
+use Rattle.layout.specs.declared.Geometry.{Geometry}
+use Rattle.layout.specs.Image.{free_blocks, inode_at}
+use Rattle.names.proofs.Spots.{spot-parts}
+use Rattle.tree.specs.declared.TreeFault.{TreeFault}
+use Rattle.tree.specs.declared.TreeFault.TheVariants.{Blocks, DeadDir, DotName, Exists, Full, Inodes, IsDir, Links, NotDir, NotEmpty, NotFound}
+use Rattle.tree.specs.declared.TreeFault.TheVariants as fault
+use Rattle.tree.specs.Answers.{Overflows}
+use Rattle.tree.specs.Entering.{HasGap, HasRoom, LacksBlocks, entered, folder_in, fresh, growth, placed, room_in}
+use Rattle.tree.specs.Held.{Holds, IsHeld, IsPlain, files_of}
+use Rattle.tree.specs.Lacking.{LacksFolder, LacksGap}
+use Rattle.unixmodel.specs.Counts.{blocks_of}
+use Rattle.unixmodel.specs.Files.{Entry, Files, Node, Spot, blocks_for, change_node, enter, free_number, links_of, live_places, lookup, most_links, put, slot, spot_of, with_links}
+use Rattle.unixmodel.specs.Files.Node.{Directory}
+use Rattle.unixmodel.specs.NameCalls.{Made, has_room_for_link, is_free_name, made_below, made_directory, make_at, more_links, new_directory}
+use Rattle.tree.proofs.Dots.{put-put}
+use Rattle.tree.proofs.Gaps.{lacks-dead, lacks-other, spot-directory}
+use Rattle.tree.proofs.Leaves.{places-of, plain-name}
+use Rattle.tree.proofs.Linking.{links-size}
+use Rattle.tree.proofs.Looking.{IsLiveAt}
+use Rattle.tree.proofs.Rooms.{blocks_of-entered, enter-full, enter-room, entered-is}
+use Rattle.tree.proofs.Spots.{spot-none}
+use Rattle.tree.proofs.Storing.{blocks_of-set, change-is, files-are, held-again, held-raw, length-held, slot-within, used_by}
+use Rattle.tree.proofs.Taking.{IsFreeNumber, free-number, fresh-blocks}
+
+-- a link more takes no block
+more-blocks : (files : Files) (n : ℕ) (node : Node) → slot files n ≡ Some node → blocks_of (change_node files n more_links) ≡ blocks_of files
+more-blocks files n node here =
+    let next = with_links node (links_of node + 1) in
+    let b = blocks_of-set files n (Some next) (slot-within files n node here) in
+    let was : used_by (slot files n) ≡ used_by (Some node) = ap used_by here in
+    let same : used_by (Some next) ≡ used_by (Some node) = ap blocks_for (links-size node (links_of node + 1)) in
+    let is = ap blocks_of (change-is files n more_links node here) in
+    omega arith
+
+module _ (files : Files) (d : ℕ) (path : List ℕ) where
+  pub folder-nowhere : spot_of files d path ≡ None → folder_in files d path ≡ None
+  unfolding folder_in
+  folder-nowhere e = ap (option_and_then (made_directory files)) e
+
+  module _ (at : Spot) (spot : spot_of files d path ≡ Some at) where
+    abbrev linked : Option Made → Option Files
+    linked o = option_map (λ (made : Made). change_node made.files at.directory more_links) o
+
+    folder-at : (parent : Node) → slot files at.directory ≡ Some parent → folder_in files d path ≡ cond (is_free_name files at && has_room_for_link parent) (linked (make_at files at (new_directory at.directory))) None
+    unfolding folder_in made_directory
+    folder-at parent here = ap (option_and_then (made_directory files)) spot ∙ ap (made_below files at) here
+
+    pub folder-there : (parent : Node) → slot files at.directory ≡ Some parent → IsSome (lookup files at.directory at.name) → folder_in files d path ≡ None
+    folder-there parent here some =
+        folder-at parent here
+        ∙ cond-false (is_free_name files at && has_room_for_link parent) (linked (make_at files at (new_directory at.directory))) None
+        (and_left (is_free_name files at) (has_room_for_link parent) (go (lookup files at.directory at.name) some))
+      where
+        go : (o : Option ℕ) → IsSome o → is_none o ≡ false
+        go None h = absurd (false≢true h)
+        go (Some m) h = refl
+
+    pub folder-many : (parent : Node) → slot files at.directory ≡ Some parent → most_links ≤ links_of parent → folder_in files d path ≡ None
+    folder-many parent here many =
+        folder-at parent here
+        ∙ cond-false (is_free_name files at && has_room_for_link parent) (linked (make_at files at (new_directory at.directory))) None
+        (and_right (is_free_name files at) (has_room_for_link parent) (le-ltb (links_of parent) most_links many))
+
+    unmade : (parent : Node) → slot files at.directory ≡ Some parent → make_at files at (new_directory at.directory) ≡ None → folder_in files d path ≡ None
+    unmade parent here none = folder-at parent here ∙ ap (λ o. cond (is_free_name files at && has_room_for_link parent) (linked o) None) none ∙ go (is_free_name files at && has_room_for_link parent) where
+      go : (b : Bool) → cond b (let none : Option Files = None in none) None ≡ None
+      go true = refl
+      go false = refl
+
+    abbrev entered_one : ℕ → Option Made
+    entered_one n = option_map (λ (new : Files). let made : Made = record { files = new; number = n } in made) (enter (put files n (new_directory at.directory n)) at n)
+
+    pub folder-unnumbered : (parent : Node) → slot files at.directory ≡ Some parent → free_number files ≡ None → folder_in files d path ≡ None
+    unfolding make_at
+    folder-unnumbered parent here none = unmade parent here (ap (option_and_then entered_one) none)
+
+    module _ (links : ℕ) (places : List (Option Entry)) (here : slot files at.directory ≡ Some (Directory (suc links) places)) where
+      -- the directory above stays as it is while a node comes
+      still : (n : ℕ) → IsFreeNumber files n → (node : Node) → slot (put files n node) at.directory ≡ Some (Directory (suc links) places)
+      still n number node =
+          get_or-set_other files n at.directory (Some node) None (λ e. none-some (Directory (suc links) places) (sym number.free ∙ ap (slot files) (sym e) ∙ here)) ∙ here
+
+      pub folder-full : room_in places ≡ None → folder_in files d path ≡ None
+      unfolding make_at
+      folder-full none = unmade (Directory (suc links) places) here (go (free_number files) refl) where
+        go : (o : Option ℕ) → free_number files ≡ o → option_and_then entered_one o ≡ None
+        go None e = refl
+        go (Some n) e =
+            ap (option_map (λ (new : Files). let made : Made = record { files = new; number = n } in made))
+            (enter-full (put files n (new_directory at.directory n)) at n links places (still n (free-number files n e) (new_directory at.directory n)) none)
+
+      module _ (k : ℕ) (room : room_in places ≡ Some k) (n : ℕ) (is : free_number files ≡ Some n) where
+        abbrev e : Entry
+        e = record { name = at.name; number = n }
+
+        abbrev second : Files
+        second = put files n (new_directory at.directory n)
+
+        abbrev third : Files
+        third = entered second at.directory k e
+
+        number : IsFreeNumber files n
+        number = free-number files n is
+
+        second-here : slot second at.directory ≡ Some (Directory (suc links) places)
+        second-here = still n number (new_directory at.directory n)
+
+        pub third-here : slot third at.directory ≡ Some (Directory (suc links) (placed places k e))
+        third-here =
+            ap (λ (fs : Files). slot fs at.directory) (entered-is second at.directory (suc links) places second-here k e)
+            ∙ get_or-set_same second at.directory (Some (Directory (suc links) (placed places k e))) None (slot-within second at.directory (Directory (suc links) places) second-here)
+
+        pub second-blocks : blocks_of second ≡ blocks_of files + 1
+        second-blocks =
+            let b = blocks_of-set files n (Some (new_directory at.directory n)) number.high in
+            let none : used_by (slot files n) ≡ 0 = ap used_by number.free in
+            let one : used_by (Some (new_directory at.directory n)) ≡ 1 = refl in
+            omega arith
+
+        folder-blocks : blocks_of (change_node third at.directory more_links) ≡ blocks_of files + 1 + growth places k
+        folder-blocks =
+            more-blocks third at.directory (Directory (suc links) (placed places k e)) third-here
+            ∙ blocks_of-entered second at.directory (suc links) places second-here k e ∙ ap (λ b. b + growth places k) second-blocks
+
+        make-is : make_at files at (new_directory at.directory) ≡ Some (record { files = third; number = n })
+        unfolding make_at
+        make-is =
+            ap (option_and_then entered_one) is
+            ∙ ap (option_map (λ (new : Files). let made : Made = record { files = new; number = n } in made)) (enter-room second at n links places second-here k room)
+
+        pub folder-done : suc links < most_links → lookup files at.directory at.name ≡ None → folder_in files d path ≡ Some (change_node third at.directory more_links)
+        folder-done few free =
+            folder-at (Directory (suc links) places) here
+            ∙ cond-true (is_free_name files at && has_room_for_link (Directory (suc links) places)) (linked (make_at files at (new_directory at.directory))) None
+            (and_from (is_free_name files at) (has_room_for_link (Directory (suc links) places)) (ap is_none free) (lt-ltb (suc links) most_links few))
+            ∙ ap linked make-is
+
+        -- the files with it take a block beside the name
+        folder-over : (limit : ℕ) → limit < blocks_of files + growth places k + 1 → (made : Files) → folder_in files d path ≡ Some made → limit < blocks_of made
+        folder-over limit few made h = go (is_free_name files at && has_room_for_link (Directory (suc links) places)) (sym (folder-at (Directory (suc links) places) here) ∙ h) where
+          go : (b : Bool) → cond b (linked (make_at files at (new_directory at.directory))) None ≡ Some made → limit < blocks_of made
+          go false q = absurd (none-some made q)
+          go true q =
+              let same = ap blocks_of (same_Some (change_node third at.directory more_links) made (sym (ap linked make-is) ∙ q)) in
+              let blocks = folder-blocks in
+              omega arith
+
+  -- the disk has no room for it
+  over-folder : (limit : ℕ) → LacksBlocks limit files d path 1 → Overflows limit (folder_in files d path)
+  over-folder limit lacks made h = go (spot-directory files d path lacks.at lacks.spot) (free_number files) refl where
+    go : IsLiveAt files lacks.at.directory → (o : Option ℕ) → free_number files ≡ o → limit < blocks_of made
+    go live None e = absurd (none-some made (sym (folder-unnumbered lacks.at lacks.spot (Directory (suc live.links) live.places) live.here e) ∙ h))
+    go live (Some n) e =
+        let same : live.places ≡ lacks.places = same_Some live.places lacks.places (sym (ap live_places live.here) ∙ lacks.here) in
+        let grown : growth live.places lacks.place ≡ growth lacks.places lacks.place = ap (λ ps. growth ps lacks.place) same in
+        let few = lacks.few in
+        folder-over lacks.at lacks.spot live.links live.places live.here lacks.place (ap room_in same ∙ lacks.room) n e limit (omega arith) made h
+
+  module _ (limit : ℕ) where
+    pub folder-none : folder_in files d path ≡ None → Overflows limit (folder_in files d path)
+    folder-none e made h = absurd (none-some made (sym e ∙ h))
+
+    -- a name that has no room makes no directory
+    pub weaker-folder : (told : TreeFault) → told ≢ fault.Device → LacksGap limit files d path 1 told → Overflows limit (folder_in files d path) × LacksFolder limit files d path told
+    weaker-folder NotFound known why = (folder-none (folder-nowhere (spot-none files d path why)), why)
+    weaker-folder NotDir known why = (folder-none (folder-nowhere (lacks-other files d path why)), why)
+    weaker-folder Exists known why =
+        let live = spot-directory files d path why.at why.spot in
+        (folder-none (folder-there why.at why.spot (Directory (suc live.links) live.places) live.here why.named), why)
+    weaker-folder IsDir known why = absurd why
+    weaker-folder NotEmpty known why = absurd why
+    weaker-folder DotName known why = absurd why
+    weaker-folder DeadDir known why = (folder-none (folder-nowhere (lacks-dead files d path why)), why)
+    weaker-folder Links known why = absurd why
+    weaker-folder Blocks known why = (over-folder limit why, why)
+    weaker-folder Inodes known why = absurd why
+    weaker-folder Full known why =
+        let live = spot-directory files d path why.at why.spot in
+        let full : room_in live.places ≡ None = sym (ap (λ o. option_and_then room_in (live_places o)) live.here) ∙ why.none in
+        (folder-none (folder-full why.at why.spot live.links live.places live.here full), why)
+    weaker-folder fault.Device known why = absurd (known refl)
+
+-- ---- the disk
+
+module _ {g : Geometry} {old : List (List ℕ)} {files : Files} (holds : Holds g old files) (d : ℕ) (path : List ℕ) (at : Spot) (k : ℕ) (gap : HasGap g old files d path 1 at k) where
+  abbrev parent : Node
+  parent = Directory (suc gap.links) gap.places
+
+  pub parent-high : at.directory < 65536
+  parent-high =
+      let long = length-held g old files holds in
+      let most = holds.sound.parts.inodes_high in
+      let high = slot-within files at.directory parent gap.here in
+      omega arith
+
+  -- what is told of the links of the directory above
+  pub parent-links : {mid : List (List ℕ)} → mid ≡ old → {links : ℕ} → links ≡ (inode_at mid at.directory).links → links ≡ suc gap.links
+  parent-links same told = told ∙ ap (λ b. (inode_at b at.directory).links) same ∙ (held-raw g old files holds at.directory parent gap.here).links
+
+  module _ (n : ℕ) (is : free_number files ≡ Some n) where
+    abbrev first : Files
+    first = put files n (Directory 1 [])
+
+    abbrev next : Files
+    next = put files n (new_directory at.directory n)
+
+    abbrev name : Entry
+    name = record { name = at.name; number = n }
+
+    abbrev last : Files
+    last = entered next at.directory k name
+
+    free-n : IsFreeNumber files n
+    free-n = free-number files n is
+
+    pub number-high : n < 65536
+    number-high =
+        let long = length-held g old files holds in
+        let most = holds.sound.parts.inodes_high in
+        let high = free-n.high in
+        omega arith
+
+    pub name-plain : All (λ b. b ≢ 0) path → IsPlain name
+    name-plain plain = plain-name at.name n (spot-parts files d path at plain gap.spot).name number-high
+
+    module _ {mid : List (List ℕ)} (now : Holds g mid first) where
+      pub first-here : slot (files_of g mid) n ≡ Some (Directory 1 [])
+      first-here = ap (λ (fs : Files). slot fs n) (files-are g mid first now) ∙ get_or-set_same files n (Some (Directory 1 [])) None free-n.high
+
+      pub first-block : 1 ≤ free_blocks g mid
+      first-block =
+          let before = holds.free in
+          let after = now.free in
+          let blocks = fresh-blocks files n (Directory 1 []) free-n refl in
+          let fits = gap.fits in
+          omega arith
+
+      pub first-next : {new : List (List ℕ)} → Holds g new (put (files_of g mid) n (new_directory at.directory n)) → Holds g new next
+      first-next {new} h = subst (Holds g new) (ap (λ (fs : Files). put fs n (new_directory at.directory n)) (files-are g mid first now) ∙ put-put files n (Directory 1 []) (new_directory at.directory n)) h
+
+    module _ {mid : List (List ℕ)} (now : Holds g mid next) where
+      here-now : slot (files_of g mid) at.directory ≡ Some parent
+      here-now = ap (λ (fs : Files). slot fs at.directory) (files-are g mid next now) ∙ second-here files d path at gap.spot gap.links gap.places gap.here k gap.room n is
+
+      pub next-room : HasRoom (files_of g mid) at.directory k
+      next-room = record { links = suc gap.links; places = gap.places; here = here-now; room = gap.room }
+
+      pub next-fits : (room : HasRoom (files_of g mid) at.directory k) → growth room.places k ≤ free_blocks g mid
+      next-fits room =
+          let same : room.places ≡ gap.places = ap places-of (same_Some (Directory room.links room.places) parent (sym room.here ∙ here-now)) in
+          let before = holds.free in
+          let after = now.free in
+          let fits = gap.fits in
+          let blocks = second-blocks files d path at gap.spot gap.links gap.places gap.here k gap.room n is in
+          let grown : growth room.places k ≡ growth gap.places k = ap (λ ps. growth ps k) same in
+          omega arith
+
+      pub next-last : {new : List (List ℕ)} → Holds g new (entered (files_of g mid) at.directory k name) → Holds g new last
+      next-last {new} h = subst (Holds g new) (ap (λ (fs : Files). entered fs at.directory k name) (files-are g mid next now)) h
+
+    module _ {mid : List (List ℕ)} (now : Holds g mid last) (few : suc gap.links < most_links) where
+      pub last-node : (node : Node) × (slot (files_of g mid) at.directory ≡ Some node) × (links_of node < 65535)
+      last-node = (
+        Directory (suc gap.links) (placed gap.places k name),
+        ap (λ (fs : Files). slot fs at.directory) (files-are g mid last now) ∙ third-here files d path at gap.spot gap.links gap.places gap.here k gap.room n is,
+        omega arith,
+      )
+
+      pub folder-held : {new : List (List ℕ)} → Holds g new (change_node (files_of g mid) at.directory more_links) → IsHeld g new × (folder_in files d path ≡ Some (files_of g new))
+      folder-held {new} h =
+          let same : files_of g new ≡ change_node last at.directory more_links =
+          files-are g new (change_node (files_of g mid) at.directory more_links) h ∙ ap (λ (fs : Files). change_node fs at.directory more_links) (files-are g mid last now) in
+          (held-again g new (change_node (files_of g mid) at.directory more_links) h, folder-done files d path at gap.spot gap.links gap.places gap.here k gap.room n is few gap.free ∙ ap Some (sym same))
+
+-- the lowest free number is taken
+pub taken-first : {g : Geometry} {old mid new : List (List ℕ)} {n : ℕ} → mid ≡ old → (free_number (files_of g mid) ≡ Some n) × Holds g new (put (files_of g mid) n (fresh 1 0 0))
+    → (free_number (files_of g old) ≡ Some n) × Holds g new (put (files_of g old) n (Directory 1 []))
+taken-first {g} {old} {mid} {new} {n} same told = subst (λ b. (free_number (files_of g b) ≡ Some n) × Holds g new (put (files_of g b) n (Directory 1 []))) same told

@@ -1,0 +1,35 @@
+-- A node goes, unless it has a link or somebody holds it.
+use Rattle.std.proofs.Common.{◌≡◌, ◌≢◌, ℕ, ◌≤◌, List, None, Option, Some, cond, get_or, ap, sym, refl, ◌∙◌, true}
+use Rattle.std.specs.Prelude.{nat_lt, ◌||◌}
+use Rattle.std.proofs.lemmas.Bool.{cond-false, cond-true, lt-ltb, or_from, or_left, or_right}
+use Rattle.names.proofs.Reaped.{is_held, kept-but}
+use Rattle.tree.specs.Holding.{let_go, stays}
+use Rattle.unixmodel.specs.Files.{Files, Node, clear, links_of, slot}
+use Rattle.unixmodel.specs.Reap.{kept}
+
+module _ (holds : List ℕ) (files : Files) (n : ℕ) where
+  pub let-go-held : 1 ≤ get_or holds n 0 → let_go holds files n ≡ files
+  unfolding let_go
+  let-go-held some = go (slot files n) where
+    go : (o : Option Node) → cond (stays holds n o) files (clear files n) ≡ files
+    go None = refl
+    go (Some node) = cond-true (nat_lt 0 (links_of node) || nat_lt 0 (get_or holds n 0)) files (clear files n) (or_right (nat_lt 0 (links_of node)) (nat_lt 0 (get_or holds n 0)) (lt-ltb 0 (get_or holds n 0) some))
+
+  module _ (node : Node) (here : slot files n ≡ Some node) where
+    let-go-is : let_go holds files n ≡ cond (nat_lt 0 (links_of node) || nat_lt 0 (get_or holds n 0)) files (clear files n)
+    unfolding let_go
+    let-go-is = ap (λ o. cond (stays holds n o) files (clear files n)) here
+
+    pub let-go-linked : 1 ≤ links_of node → let_go holds files n ≡ files
+    let-go-linked some = let-go-is ∙ cond-true (nat_lt 0 (links_of node) || nat_lt 0 (get_or holds n 0)) files (clear files n) (or_left (nat_lt 0 (links_of node)) (nat_lt 0 (get_or holds n 0)) (lt-ltb 0 (links_of node) some))
+
+    pub let-go-clear : get_or holds n 0 ≡ 0 → links_of node ≡ 0 → let_go holds files n ≡ clear files n
+    let-go-clear none bare =
+        let-go-is
+        ∙ cond-false (nat_lt 0 (links_of node) || nat_lt 0 (get_or holds n 0)) files (clear files n)
+        (or_from (nat_lt 0 (links_of node)) (nat_lt 0 (get_or holds n 0)) (ap (nat_lt 0) bare) (ap (nat_lt 0) none))
+
+    -- where all other nodes are kept by a link or somebody, no node stays that isn't kept
+    pub let-go-reaps : ((m : ℕ) (x : Node) → m ≢ n → slot files m ≡ Some x → is_held (λ k. nat_lt 0 (get_or holds k 0)) m x ≡ true)
+        → let_go holds files n ≡ kept (is_held (λ k. nat_lt 0 (get_or holds k 0))) 0 files
+    let-go-reaps others = let-go-is ∙ sym (kept-but (is_held (λ k. nat_lt 0 (get_or holds k 0))) files n node here others)

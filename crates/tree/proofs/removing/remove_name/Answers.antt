@@ -1,0 +1,122 @@
+use Rattle.std.proofs.Common.{◌≡◌, Some, None, ap, refl, sym, subst, ◌∙◌}
+use Rattle.tree.specs.Held.{Holds, files_of}
+use Rattle.tree.specs.Names.{dropped, found_in, removal}
+use Rattle.tree.specs.Steps.{HasPlace}
+use Rattle.tree.proofs.Linking.{turned}
+use Rattle.tree.proofs.Reading.{read-same, read-told}
+use Rattle.tree.proofs.Storing.{files-are, held-again}
+use Rattle.tree.proofs.Unlinking.{IsFound, found-node, found-parts, found-place, lookup-found, lookup-missing, naming-inode, naming-places, some-not, stays-busy, stays-dropped, stays-erased, unlinked-done, unlinked-dot, unlinked-full, unlinked-missing}
+use Rattle.unixmodel.specs.Files.{Files, Node, erase, slot}
+use Rattle.unixmodel.specs.Files.Node.{Directory}
+use Rattle.std.specs.Prelude.{suc}
+use Rattle.tree.proofs.removing.remove_name.Goals as goal
+
+pub returns-then-is_dot_name-clause-gives : goal.returns-then-is_dot_name-clause-gives
+returns-then-is_dot_name-clause-gives g c =
+    let dot = sym c.is_dot_name.ensures ∙ c.if-is_dot_name.true in
+    (record { none = unlinked-dot (files_of c.args.geometry c.args.disk.now.blocks) _ dot; same = refl }, dot)
+
+pub find_name-requires-clause-inode : goal.find_name-requires-clause-inode
+find_name-requires-clause-inode g c = naming-inode c.args.geometry c.args.disk.now.blocks (files_of c.args.geometry c.args.disk.now.blocks) c.requires.held c.args.directory c.requires.naming
+
+pub returns-in_default-clause-gives : goal.returns-in_default-clause-gives
+returns-in_default-clause-gives g c =
+    let files = files_of c.args.geometry c.args.disk.now.blocks in
+    let missing : found_in c.requires.naming.places c.args.name.now ≡ None =
+    ap (λ p. found_in p c.args.name.now) (sym (naming-places c.args.geometry c.args.disk.now.blocks files c.requires.held c.args.directory c.requires.naming))
+    ∙ sym (read-told c.find_name.ensures c.in_ok-found.field-0 c.in_ok-found.was) ∙ c.in_default.is in (
+      record { none = unlinked-missing files c.args.directory c.requires.naming c.args.name.now missing; same = read-same c.find_name.ensures c.in_ok-found.field-0 c.in_ok-found.was },
+      lookup-missing files c.args.directory c.requires.naming c.args.name.now missing,
+    )
+
+pub removal-requires-clause-node : goal.removal-requires-clause-node
+removal-requires-clause-node g c =
+    let files = files_of c.args.geometry c.args.disk.now.blocks in
+    let found : IsFound c.requires.naming.places c.args.name.now c.in-Some.found =
+    found-parts c.requires.naming.places c.args.name.now c.in-Some.found
+    (ap (λ p. found_in p c.args.name.now) (sym (naming-places c.args.geometry c.args.disk.now.blocks files c.requires.held c.args.directory c.requires.naming))
+    ∙ sym (read-told c.find_name.ensures c.in_ok-found.field-0 c.in_ok-found.was) ∙ c.in-Some.is) in
+    subst (λ b. (x : Node) × (slot (files_of c.args.geometry b) c.in-Some.found.number ≡ Some x)) (sym (read-same c.find_name.ensures c.in_ok-found.field-0 c.in_ok-found.was))
+    (found-node files c.args.directory c.requires.naming c.args.name.now c.in-Some.found found)
+
+pub returns-in_default-2-clause-gives : goal.returns-in_default-2-clause-gives
+returns-in_default-2-clause-gives g c =
+    let files = files_of c.args.geometry c.args.disk.now.blocks in
+    let found : IsFound c.requires.naming.places c.args.name.now c.in-Some.found =
+    found-parts c.requires.naming.places c.args.name.now c.in-Some.found
+    (ap (λ p. found_in p c.args.name.now) (sym (naming-places c.args.geometry c.args.disk.now.blocks files c.requires.held c.args.directory c.requires.naming))
+    ∙ sym (read-told c.find_name.ensures c.in_ok-found.field-0 c.in_ok-found.was) ∙ c.in-Some.is) in
+    let node = found-node files c.args.directory c.requires.naming c.args.name.now c.in-Some.found found in
+    let same = read-same c.find_name.ensures c.in_ok-found.field-0 c.in_ok-found.was in
+    let none : removal node.0 ≡ None =
+    sym (read-told c.removal.ensures c.in_ok-is_directory.field-0 c.in_ok-is_directory.was node.0 (ap (λ b. slot (files_of c.args.geometry b) c.in-Some.found.number) same ∙ node.1)) ∙ c.in_default-2.is in (
+      record {
+        none = unlinked-full files c.args.directory c.requires.naming c.args.name.now c.in-Some.found found node.0 node.1 none;
+        same = read-same c.removal.ensures c.in_ok-is_directory.field-0 c.in_ok-is_directory.was ∙ same;
+      },
+      record { number = c.in-Some.found.number; node = node.0; named = lookup-found files c.args.directory c.requires.naming c.args.name.now c.in-Some.found found; here = node.1; busy = stays-busy node.0 none },
+    )
+
+pub free_place-requires-clause-place : goal.free_place-requires-clause-place
+free_place-requires-clause-place g c =
+    let files = files_of c.args.geometry c.args.disk.now.blocks in
+    let found : IsFound c.requires.naming.places c.args.name.now c.in-Some.found =
+    found-parts c.requires.naming.places c.args.name.now c.in-Some.found
+    (ap (λ p. found_in p c.args.name.now) (sym (naming-places c.args.geometry c.args.disk.now.blocks files c.requires.held c.args.directory c.requires.naming))
+    ∙ sym (read-told c.find_name.ensures c.in_ok-found.field-0 c.in_ok-found.was) ∙ c.in-Some.is) in
+    subst (λ b. HasPlace (files_of c.args.geometry b) c.args.directory c.in-Some.found.place)
+    (sym (read-same c.removal.ensures c.in_ok-is_directory.field-0 c.in_ok-is_directory.was ∙ read-same c.find_name.ensures c.in_ok-found.field-0 c.in_ok-found.was))
+    (found-place files c.args.directory c.requires.naming c.args.name.now c.in-Some.found found)
+
+pub drop_links-requires-clause-held : goal.drop_links-requires-clause-held
+drop_links-requires-clause-held g c =
+    held-again c.args.geometry c.free_place.new.disk.blocks (erase (files_of c.args.geometry c.removal.new.disk.blocks) c.args.directory c.in-Some.found.place)
+    (turned c.free_place.ensures c.in_ok-free_place.field-0 c.in_ok-free_place.was)
+
+pub drop_links-requires-clause-node : goal.drop_links-requires-clause-node
+drop_links-requires-clause-node g c =
+    let files = files_of c.args.geometry c.args.disk.now.blocks in
+    let found : IsFound c.requires.naming.places c.args.name.now c.in-Some.found =
+    found-parts c.requires.naming.places c.args.name.now c.in-Some.found
+    (ap (λ p. found_in p c.args.name.now) (sym (naming-places c.args.geometry c.args.disk.now.blocks files c.requires.held c.args.directory c.requires.naming))
+    ∙ sym (read-told c.find_name.ensures c.in_ok-found.field-0 c.in_ok-found.was) ∙ c.in-Some.is) in
+    let node = found-node files c.args.directory c.requires.naming c.args.name.now c.in-Some.found found in
+    let same = read-same c.removal.ensures c.in_ok-is_directory.field-0 c.in_ok-is_directory.was ∙ read-same c.find_name.ensures c.in_ok-found.field-0 c.in_ok-found.was in
+    let now : files_of c.args.geometry c.free_place.new.disk.blocks ≡ erase files c.args.directory c.in-Some.found.place =
+    files-are c.args.geometry c.free_place.new.disk.blocks _ (turned c.free_place.ensures c.in_ok-free_place.field-0 c.in_ok-free_place.was)
+    ∙ ap (λ b. erase (files_of c.args.geometry b) c.args.directory c.in-Some.found.place) same in
+    λ e. stays-erased files c.args.directory c.in-Some.found.place c.in-Some.found.number (some-not _ node.0 node.1) (ap (λ (fs : Files). slot fs c.in-Some.found.number) (sym now) ∙ e)
+
+pub drop_links-requires-clause-directory : goal.drop_links-requires-clause-directory
+drop_links-requires-clause-directory g c =
+    let files = files_of c.args.geometry c.args.disk.now.blocks in
+    let same = read-same c.removal.ensures c.in_ok-is_directory.field-0 c.in_ok-is_directory.was ∙ read-same c.find_name.ensures c.in_ok-found.field-0 c.in_ok-found.was in
+    let now : files_of c.args.geometry c.free_place.new.disk.blocks ≡ erase files c.args.directory c.in-Some.found.place =
+    files-are c.args.geometry c.free_place.new.disk.blocks _ (turned c.free_place.ensures c.in_ok-free_place.field-0 c.in_ok-free_place.was)
+    ∙ ap (λ b. erase (files_of c.args.geometry b) c.args.directory c.in-Some.found.place) same in
+    λ e. stays-erased files c.args.directory c.in-Some.found.place c.args.directory (some-not _ (Directory (suc c.requires.naming.links) c.requires.naming.places) c.requires.naming.here) (ap (λ (fs : Files). slot fs c.args.directory) (sym now) ∙ e)
+
+pub returns-clause-gives : goal.returns-clause-gives
+returns-clause-gives g c =
+    let files = files_of c.args.geometry c.args.disk.now.blocks in
+    let found : IsFound c.requires.naming.places c.args.name.now c.in-Some.found =
+    found-parts c.requires.naming.places c.args.name.now c.in-Some.found
+    (ap (λ p. found_in p c.args.name.now) (sym (naming-places c.args.geometry c.args.disk.now.blocks files c.requires.held c.args.directory c.requires.naming))
+    ∙ sym (read-told c.find_name.ensures c.in_ok-found.field-0 c.in_ok-found.was) ∙ c.in-Some.is) in
+    let node = found-node files c.args.directory c.requires.naming c.args.name.now c.in-Some.found found in
+    let first = read-same c.find_name.ensures c.in_ok-found.field-0 c.in_ok-found.was in
+    let same = read-same c.removal.ensures c.in_ok-is_directory.field-0 c.in_ok-is_directory.was ∙ first in
+    let goes : removal node.0 ≡ Some c.in-Some-2.is_directory =
+    sym (read-told c.removal.ensures c.in_ok-is_directory.field-0 c.in_ok-is_directory.was node.0 (ap (λ b. slot (files_of c.args.geometry b) c.in-Some.found.number) first ∙ node.1)) ∙ c.in-Some-2.is in
+    let now : files_of c.args.geometry c.free_place.new.disk.blocks ≡ erase files c.args.directory c.in-Some.found.place =
+    files-are c.args.geometry c.free_place.new.disk.blocks _ (turned c.free_place.ensures c.in_ok-free_place.field-0 c.in_ok-free_place.was)
+    ∙ ap (λ b. erase (files_of c.args.geometry b) c.args.directory c.in-Some.found.place) same in
+    record {
+      files = dropped (erase files c.args.directory c.in-Some.found.place) c.in-Some.found.number c.args.directory c.in-Some-2.is_directory;
+      made = unlinked-done files c.args.directory c.requires.naming c.args.name.now c.in-Some.found found node.0 node.1 c.in-Some-2.is_directory (sym c.is_dot_name.ensures ∙ c.if-is_dot_name.false) goes;
+      holds = subst (λ (fs : Files). Holds c.args.geometry c.drop_links.new.disk.blocks (dropped fs c.in-Some.found.number c.args.directory c.in-Some-2.is_directory)) now
+          (turned c.drop_links.ensures c.in_ok-drop_links.field-0 c.in_ok-drop_links.was);
+      named = lookup-found files c.args.directory c.requires.naming c.args.name.now c.in-Some.found found;
+      stands = stays-dropped (erase files c.args.directory c.in-Some.found.place) c.in-Some.found.number c.args.directory c.in-Some-2.is_directory c.in-Some.found.number
+          (stays-erased files c.args.directory c.in-Some.found.place c.in-Some.found.number (some-not _ node.0 node.1));
+    }

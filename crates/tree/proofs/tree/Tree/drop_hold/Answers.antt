@@ -1,0 +1,22 @@
+use Rattle.std.proofs.Common.{◌≢◌, ◌-◌, None, ap, set, subst, sym, ◌∙◌}
+use Rattle.std.proofs.lemmas.Grind.{get_or_default_zero}
+use Rattle.std.proofs.lemmas.List.{length-set}
+use Rattle.tree.specs.Tree.{FileTree}
+use Rattle.tree.proofs.Serving.{drop-serves, held-within, turns-held}
+use Rattle.unixmodel.specs.Files.{slot}
+use Rattle.tree.proofs.tree.Tree.drop_hold.Goals as goal
+
+pub invariant_of-self : goal.invariant_of-self
+invariant_of-self g c = record {
+  count = length-set c.self.inside.holds.items c.args.number (c.index_mut.result.now - 1) ∙ c.self.invariant.count;
+  held = turns-held c.let_go-result.ensures c.is_err-self-inside.ensures.value;
+}
+
+pub returns : goal.returns
+returns g c =
+    let items = c.self.inside.holds.items in
+    let up = ap (λ (t : FileTree). t.failed) c.self.view_is ∙ c.requires.up in
+    let within = held-within (c.self.invariant.held up) c.args.number (subst (λ (t : FileTree). slot t.files c.args.number ≢ None) (sym c.self.view_is) c.requires.node) items c.self.invariant.count in
+    let value = c.index_mut.ensures.value ∙ get_or_default_zero items c.args.number c.index_mut.result.now within in
+    rw (← c.self.view_is) (drop-serves c.self.inside.geometry c.self.inside.disk c.let_go-result.new.disk items (set items c.args.number (c.index_mut.result.now - 1)) c.deref.result.now c.args.number c.self.inside.failed c.is_err-self-inside.result
+    c.let_go-result.result up (ap (λ k. set items c.args.number (k - 1)) value) c.deref.ensures.value c.let_go-result.ensures c.is_err-self-inside.ensures.value)
