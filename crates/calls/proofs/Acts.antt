@@ -1,27 +1,32 @@
 -- Calls of the running process that are answered at once.
-use Rattle.std.proofs.Common.{◌≡◌, Err, ℕ, ◌<◌, ◌≤◌, List, [], length, Option, Some, None, refl, ap, sym, ◌∙◌, Bool, true, false, ◌%◌, ℤ}
+use Rattle.std.proofs.Common.{◌≡◌, Err, ℕ, ◌<◌, ◌≤◌, List, [], length, Option, Some, None, refl, ap, subst, sym, ◌∙◌, Bool, true, false, ◌%◌, ℤ}
 use Rattle.std.specs.Prelude.{IfSome, slice_index, slice_set, unwrap_or}
 use Rattle.std.proofs.lemmas.List.{length-set}
 use Rattle.std.specs.Io.KnownBytes.{Appends}
-use Rattle.calls.specs.Acts.{Acts, CanCome, Comes, GoesOn, IsBegun, Runs, Tries, going_at, going_by, outcome_at, outcome_by, settled_by}
+use Rattle.calls.specs.Acts.{Acts, CanCome, Comes, GoesOn, IsBegun, Runs, Tries, going_at, going_by, outcome_at, outcome_by, settled_by, called, pending_for}
 use Rattle.calls.specs.declared.halt.Halt.{Halt}
 use Rattle.calls.specs.declared.halt.Halt.TheVariants.{Console, Device, Halted, InitEnded}
 use Rattle.calls.specs.declared.outcome.Came.{Came}
 use Rattle.calls.specs.declared.outcome.Came.TheVariants.{Answers, Blocks, Exits, Refuses}
-use Rattle.calls.specs.Descriptors.{descriptors_in}
-use Rattle.calls.specs.Does.{Dispatches, IsMade}
-use Rattle.calls.proofs.Opens.{waits-other}
-use Rattle.calls.specs.Kernel.{Kernel, answered, entered, on_hart, state_of, argument, blocked, ended}
-use Rattle.calls.specs.Says.{called, has_slept, pending_for}
-use Rattle.calls.specs.Sound.{IsKernel, IsOpened, IsPlaced}
-use Rattle.calls.proofs.Reaped.{match-active, match-place, over-state, within-state}
-use Rattle.calls.proofs.Rows.{aligned-next, int-bits, enters-kernel, enters-run, numbered, ends-at, waits-run}
-use Rattle.calls.proofs.Runs.{IsRun, eq-self, moved-state, process-run, run-of, runs-set, self, slot-put, stands-set, with_process, within-run, within-space}
-use Rattle.calls.proofs.Settles.{after, answer-run, live, not-killed, runs-mode, settle-limited, settle-done}
+use Rattle.kernel.specs.Descriptors.{descriptors_in}
+use Rattle.calls.specs.Does.{Dispatches, IsLost, IsMade, IsServed, LeavesTree}
+use Rattle.calls.proofs.Prints.{Appends-none}
+use Rattle.calls.proofs.Served.{same-served}
+use Rattle.kernel.proofs.Opens.{waits-other}
+use Rattle.kernel.specs.Kernel.{Kernel, answered, entered, on_hart, state_of, argument, blocked, ended}
+use Rattle.kernel.specs.Ready.{has_slept}
+use Rattle.kernel.specs.Sound.{IsKernel, IsOpened, IsPlaced}
+use Rattle.kernel.proofs.Reaped.{match-active, match-place, over-state, within-state}
+use Rattle.calls.proofs.Rows.{aligned-next, int-bits, enters-kernel, enters-run, numbered}
+use Rattle.kernel.proofs.Leaving.{ends-at, waits-run}
+use Rattle.kernel.proofs.Runs.{IsRun, eq-self, moved-state, process-run, run-of, runs-set, self, slot-put, stands-set, with_process, within-run, within-space}
+use Rattle.calls.proofs.Settles.{after, settle-limited, settle-done}
+use Rattle.kernel.proofs.Running.{answer-run, live, not-killed, runs-mode}
 use Rattle.files.specs.Places.{Counted, opens_of}
 use Rattle.proc.specs.declared.process.Process.{Process}
 use Rattle.proc.specs.Whole.{with_memory}
 use Rattle.spaces.specs.Spaces.{Held, no_pages, taken_frames}
+use Rattle.tree.specs.Tree.{FileTree}
 use Rattle.unixmodel.specs.Calls.{call_of, end_at, outcome_of, quiet, row, settle, goes_on}
 use Rattle.unixmodel.specs.declared.call.Call.{Call}
 use Rattle.unixmodel.specs.declared.call.Call.TheVariants.{Getpid, Exit, Sleep, Uptime}
@@ -56,8 +61,13 @@ begins k e i same x =
     let y = here-of k i x.sound x.active in
     rw same (record {
       runs = record { active = x.active; sound = enters-kernel k i y.process y.held y.run y.sound; zero = x.zero; aligned = aligned-next k.spaces.pc x.aligned };
+      tree = refl;
       row = λ call number. numbered k i y.process y.held y.run y.sound call number ∙ ap (settle (state_of (entered k)) i) (sym (ap (outcome_by (state_of (entered k)) i call) (process-run (entered k) i y.process y.held (enters-run k i y.process y.held y.run y.sound))));
     })
+
+-- the call has the number that a7 tells
+pub numbers : (k : Kernel) {a n : ℕ} {call : Option Call} → a ≡ argument k 7 → n ≡ low a → call ≡ call_of n → call_of (low (slice_index k.spaces.registers 17)) ≡ call
+numbers k a n call = sym (call ∙ ap call_of (n ∙ ap low a))
 
 -- the row is done once it is settled
 pub answers : {k e new : Kernel} {i : ℕ} {call : Option Call} {bytes : List ℕ} {came : Came} → IsBegun k e i → call_of (low (slice_index k.spaces.registers 17)) ≡ call
@@ -89,6 +99,13 @@ module _ {k e : Kernel} {i : ℕ} {call : Option Call} (begun : IsBegun k e i) (
   fails-of rising Device tried = absurd tried.0
   fails-of rising Halted tried = absurd tried
 
+  -- what that leaves of the files of the disk
+  pub fails-leave : (rising device : Type 0) (halt : Halt) → Tries e new i (outcome_at (state_of e) i call) before after rising device (Err halt) → LeavesTree {X = Unit {0}} k.tree new.tree (Err halt)
+  fails-leave rising device (InitEnded status) tried = absurd tried
+  fails-leave rising device Console tried = tried.2 ∙ begun.tree
+  fails-leave rising device Device tried = subst (λ (t : FileTree). IsLost t new.tree) begun.tree tried.1
+  fails-leave rising device Halted tried = absurd tried
+
 -- ---- what the row comes to
 
 module _ (k : Kernel) (i : ℕ) (x : Here k i) where
@@ -99,29 +116,31 @@ module _ (k : Kernel) (i : ℕ) (x : Here k i) where
   outcome-here call = ap (outcome_by (state_of k) i call) (process-run k i x.process x.held x.run)
 
   pub came : (call : Option Call) (c : Came) → CanCome k i c → settle (state_of k) i (outcome_of (state_of k) i me call) ≡ quiet (settled_by (state_of k) i c) → Acts k k i call c
-  came call c can is = record { makes = ap (settle (state_of k) i) (outcome-here call) ∙ is; active = x.run.active; sound = x.sound; can = can }
+  came call c can is = record { makes = ap (settle (state_of k) i) (outcome-here call) ∙ is; active = x.run.active; sound = x.sound; can = can; served = same-served refl x.run.up }
 
   pub refused : (call : Option Call) → outcome_of (state_of k) i me call ≡ Refused → Acts k k i call Refuses
   refused call is = came call Refuses tt (ap (settle (state_of k) i) is)
 
   -- what the row makes once it is settled, with bytes for the console
-  pub settles : (new : Kernel) (call : Call) (answer : ℕ) (bytes : List ℕ) → Here new i → settle (state_of k) i (outcome_of (state_of k) i me (Some call)) ≡ after (state_of (answered new answer)) bytes
+  pub settles : (new : Kernel) (call : Call) (answer : ℕ) (bytes : List ℕ) → Here new i → IsServed k.tree new.tree → settle (state_of k) i (outcome_of (state_of k) i me (Some call)) ≡ after (state_of (answered new answer)) bytes
       → Comes k new i (outcome_at (state_of k) i (Some call)) bytes (Answers answer)
-  settles new call answer bytes y is = record {
+  settles new call answer bytes y served is = record {
     makes = ap (settle (state_of k) i) (outcome-here (Some call)) ∙ is ∙ ap (λ (s : State). after s bytes) (sym (answer-run new i y.process y.held y.run y.sound answer));
     active = y.run.active;
     sound = y.sound;
     can = tt;
+    served = served;
   }
 
-  pub settled : (new : Kernel) (call : Call) (answer : ℕ) → Here new i → settle (state_of k) i (outcome_of (state_of k) i me (Some call)) ≡ quiet (state_of (answered new answer)) → Acts k new i (Some call) (Answers answer)
-  settled new call answer y is = settles new call answer [] y is
+  pub settled : (new : Kernel) (call : Call) (answer : ℕ) → Here new i → new.tree ≡ k.tree → settle (state_of k) i (outcome_of (state_of k) i me (Some call)) ≡ quiet (state_of (answered new answer)) → Acts k new i (Some call) (Answers answer)
+  settled new call answer y same is = settles new call answer [] y (same-served same x.run.up) is
 
-  pub prints : (new : Kernel) (call : Call) (answer : ℕ) (bytes : List ℕ) → Here new i → row (state_of k) i me call ≡ Done (state_of new) answer bytes → Comes k new i (outcome_at (state_of k) i (Some call)) bytes (Answers answer)
-  prints new call answer bytes y is = settles new call answer bytes y (ap (λ (o : Outcome). settle (state_of k) i (limited o)) is ∙ settle-limited new i y.process y.held y.run y.sound (state_of k) answer bytes)
+  pub prints : (new : Kernel) (call : Call) (answer : ℕ) (bytes : List ℕ) → Here new i → IsServed k.tree new.tree → row (state_of k) i me call ≡ Done (state_of new) answer bytes → Comes k new i (outcome_at (state_of k) i (Some call)) bytes (Answers answer)
+  prints new call answer bytes y served is = settles new call answer bytes y served (ap (λ (o : Outcome). settle (state_of k) i (limited o)) is ∙ settle-limited new i y.process y.held y.run y.sound (state_of k) answer bytes)
 
-  pub does : (new : Kernel) (call : Call) (answer : ℕ) → Here new i → row (state_of k) i me call ≡ Done (state_of new) answer [] → Acts k new i (Some call) (Answers answer)
-  does new call answer y is = prints new call answer [] y is
+  -- the files of the disk are as they were
+  pub does : (new : Kernel) (call : Call) (answer : ℕ) → Here new i → new.tree ≡ k.tree → row (state_of k) i me call ≡ Done (state_of new) answer [] → Acts k new i (Some call) (Answers answer)
+  does new call answer y same is = prints new call answer [] y (same-served same x.run.up) is
 
   -- ---- a pending call that goes on
 
@@ -133,20 +152,21 @@ module _ (k : Kernel) (i : ℕ) (x : Here k i) where
     going-here = ap (going_by (state_of k) i w) (process-run k i x.process x.held x.run)
 
     -- it is done, or waits with v
-    pub goes-done : (new : Kernel) (answer : ℕ) → Here new i → going ≡ Done (state_of new) answer [] → GoesOn k new i w (Answers answer)
-    goes-done new answer y is = record {
+    pub goes-done : (new : Kernel) (answer : ℕ) → Here new i → new.tree ≡ k.tree → going ≡ Done (state_of new) answer [] → GoesOn k new i w (Answers answer)
+    goes-done new answer y same is = record {
       comes = record {
         makes = ap (settle (state_of k) i) (going-here ∙ is) ∙ settle-done new i y.process y.held y.run y.sound (state_of k) answer [] ∙ ap quiet (sym (answer-run new i y.process y.held y.run y.sound answer));
         active = y.run.active;
         sound = y.sound;
         can = tt;
+        served = same-served same x.run.up;
       };
-      within = rw (going-here ∙ is) (ap (λ (b : Bool). provided b (Done (state_of new) answer [])) (within-state new y.sound));
+      within = rw (going-here ∙ is) (ap (λ (b : Bool). provided b (Done (state_of new) answer [])) (within-state new y.sound y.run.up));
     }
 
-    pub goes-waits : (new : Kernel) (v : Pending) → Here new i → CanCome new i (Blocks v) → going ≡ Waits (state_of new) v → GoesOn k new i w (Blocks v)
-    goes-waits new v y can is = record {
-      comes = record { makes = ap (settle (state_of k) i) (going-here ∙ is); active = y.run.active; sound = y.sound; can = can };
+    pub goes-waits : (new : Kernel) (v : Pending) → Here new i → new.tree ≡ k.tree → CanCome new i (Blocks v) → going ≡ Waits (state_of new) v → GoesOn k new i w (Blocks v)
+    goes-waits new v y same can is = record {
+      comes = record { makes = ap (settle (state_of k) i) (going-here ∙ is); active = y.run.active; sound = y.sound; can = can; served = same-served same x.run.up };
       within = rw (going-here ∙ is) refl;
     }
 
@@ -157,7 +177,13 @@ module _ (k : Kernel) (i : ℕ) (x : Here k i) where
       active = goes.comes.active;
       sound = goes.comes.sound;
       can = goes.comes.can;
+      served = goes.comes.served;
     }
+
+-- a call of no number, or one that isn't built yet
+pub unbuilt : {k : Kernel} {i : ℕ} {call : Option Call} → (other : Option Call) → Runs k i → call ≡ other → ((p : unix.Process) → outcome_of (state_of k) i p other ≡ Refused) → (at : Option (List ℕ))
+    → (bytes : List ℕ) × Comes k k i (outcome_at (state_of k) i call) bytes Refuses × Appends at at bytes
+unbuilt {k = k} {i = i} other runs is none at = let x = here-of k i runs.sound runs.active in rw is ([], refused k i x other (none (me k i x)), Appends-none at)
 
 -- ---- getpid
 
@@ -166,7 +192,7 @@ getpid-is None p pid at is = absurd (cc)
 getpid-is (Some r) p pid at is = is ∙ cc
 
 pub getpids : (k : Kernel) (i pid : ℕ) → Runs k i → IfSome (slot k.table.places i) (λ p. pid ≡ p.pid) → Acts k k i (Some Getpid) (Answers pid)
-getpids k i pid runs is = let x = here-of k i runs.sound runs.active in rw (getpid-is (slot k.table.places i) x.process pid x.run.process is) (does k i x k Getpid x.process.pid x refl)
+getpids k i pid runs is = let x = here-of k i runs.sound runs.active in rw (getpid-is (slot k.table.places i) x.process pid x.run.process is) (does k i x k Getpid x.process.pid x refl refl)
 
 -- ---- uptime, exit and sleep
 
@@ -175,7 +201,7 @@ module _ (k : Kernel) (i : ℕ) (runs : Runs k i) where
   now = here-of k i runs.sound runs.active
 
   pub uptimes : (ticks : ℕ) → ticks ≡ k.ticks → Acts k k i (Some Uptime) (Answers ticks)
-  uptimes ticks is = rw is (does k i now k Uptime k.ticks now refl)
+  uptimes ticks is = rw is (does k i now k Uptime k.ticks now refl refl)
 
   pub exits : Acts k k i (Some Exit) (Exits (int_of (argument k 0)))
   exits = came k i now (Some Exit) (Exits (int_of (argument k 0))) (int-bits (argument k 0)) (ap (λ (o : Option unix.Process). quiet (end_at (state_of k) i (int_of (argument k 0)) o)) refl)
@@ -184,11 +210,11 @@ module _ (k : Kernel) (i : ℕ) (runs : Runs k i) where
     -- it has slept, or sleeps on
     pub sleeps-over : has_slept k.ticks w ≡ true → GoesOn k k i w (Answers 0)
     unfolding sleep_on
-    sleeps-over over = goes-done k i now w k 0 now (rw (is, over) refl)
+    sleeps-over over = goes-done k i now w k 0 now refl (rw (is, over) refl)
 
     pub sleeps-on : has_slept k.ticks w ≡ false → GoesOn k k i w (Blocks w)
     unfolding sleep_on
-    sleeps-on more = goes-waits k i now w k w now (rw is tt, waits-other _ _ w Sleep (λ same. absurd (cc)) (λ same. absurd (cc)) is) (rw (is, more) refl)
+    sleeps-on more = goes-waits k i now w k w now refl (rw is tt, waits-other _ _ w Sleep (λ same. absurd (cc)) (λ same. absurd (cc)) is) (rw (is, more) refl)
 
   pub sleeps : {c : Came} → GoesOn k k i (pending_for k Sleep) c → Acts k k i (Some Sleep) c
   sleeps goes = begins-on k i now (pending_for k Sleep) Sleep refl goes
@@ -208,12 +234,13 @@ module _ (k : Kernel) (i : ℕ) (x : Here k i) (q : Process) (h : Held) (files :
       record {
         process = q;
         held = h;
-        run = record { active = r.active; process = slot-put k.table.places i (Some q) short; space = slot-put k.spaces.places i (Some h) low; placed = placed; runs = runs };
+        run = record { active = r.active; process = slot-put k.table.places i (Some q) short; space = slot-put k.spaces.places i (Some h) low; placed = placed; runs = runs; up = r.up };
         sound = record {
           all = length-set k.table.places i (Some q) ∙ is.all;
           spaces = length-set k.spaces.places i (Some h) ∙ is.spaces;
           stands = stands-set k.table.places k.spaces.places i (Some q) (Some h) short low placed is.stands;
           runs = runs-set k.table.places i (Some q) k.spaces.active k.spaces.active short (rw (runs, r.active) (sym (eq-self i))) (λ j other. refl) is.runs;
+          filed = is.filed;
           fits = fits;
           opened = opened;
         };

@@ -5,19 +5,19 @@ use Rattle.std.specs.Prelude.{cond, is_some, not, option_map, slice_index_or, sl
 use Rattle.std.specs.Int.{cast_unsigned, w32}
 use Rattle.std.proofs.lemmas.Bool.{ne_eqb}
 use Rattle.std.proofs.lemmas.List.{length-append, length-set, map-set, take-append-drop}
-use Rattle.calls.specs.Acts.{Acts, GoesOn, Runs}
+use Rattle.calls.specs.Acts.{Acts, GoesOn, Runs, pending_for}
 use Rattle.calls.specs.declared.outcome.Came.{Came}
 use Rattle.calls.specs.declared.outcome.Came.TheVariants.{Answers, Blocks, Refuses}
-use Rattle.calls.specs.Descriptors.{names_in}
-use Rattle.calls.specs.Kernel.{Kernel, argument, base, collected, descriptors_at, memories, memory_in, on_hart, rest_of, state_of, with_status}
-use Rattle.calls.specs.Says.{pending_for}
-use Rattle.calls.specs.Sound.{IsEnded, IsKernel, IsMode, IsPending, IsPlace, IsPlaced, can_answer, is_at}
+use Rattle.kernel.specs.Descriptors.{names_in}
+use Rattle.kernel.specs.Kernel.{Kernel, argument, base, descriptors_at, memories, memory_in, on_hart, rest_of, state_of}
+use Rattle.calls.specs.Processes.{collected, with_status}
+use Rattle.kernel.specs.Sound.{IsEnded, IsKernel, IsMode, IsPending, IsPlace, IsPlaced, can_answer, is_at}
 use Rattle.calls.proofs.Acts.{Here, begins-on, getpid-is, goes-done, goes-waits, here-of, me, refused}
-use Rattle.calls.proofs.Changes.{other-at}
+use Rattle.kernel.proofs.Changes.{other-at}
 use Rattle.calls.proofs.Forks.{set-swap}
-use Rattle.calls.proofs.Opens.{opened-names, waits-other}
-use Rattle.calls.proofs.Runs.{IsRun, moved, moved-kernel, moved-run, moved-state, place-space, process-with, runs-set, self, set-slot, slot-other, slot-within, stands-set, state-run, with_process}
-use Rattle.calls.proofs.Steps.{held-run, placed-with}
+use Rattle.kernel.proofs.Opens.{opened-names, waits-other}
+use Rattle.kernel.proofs.Runs.{IsRun, moved, moved-kernel, moved-run, moved-state, place-space, process-with, runs-set, self, set-slot, slot-other, slot-within, stands-set, state-run, with_process}
+use Rattle.kernel.proofs.Steps.{held-run, placed-with}
 use Rattle.files.specs.Counts.{names, names-none}
 use Rattle.proc.specs.declared.process.Process.{Process}
 use Rattle.proc.specs.declared.table.Reaped.{Reaped}
@@ -97,6 +97,7 @@ module _ (k : Kernel) (i : ℕ) (x : Here k i) (j : ℕ) (child : Process) (z : 
   cleared-run : IsRun cleared i x.process x.held
   cleared-run = record {
     active = x.run.active;
+    up = x.run.up;
     process = slot-other k.table.places j i None back ∙ x.run.process;
     space = slot-other k.spaces.places j i None back ∙ x.run.space;
     placed = x.run.placed;
@@ -125,6 +126,7 @@ module _ (k : Kernel) (i : ℕ) (x : Here k i) (j : ℕ) (child : Process) (z : 
     spaces = length-set k.spaces.places j None ∙ is.spaces;
     stands = stands-set k.table.places k.spaces.places j None None in-table in-spaces tt is.stands;
     runs = runs-set k.table.places j None k.spaces.active k.spaces.active in-table (sym (ap (is_at j) x.run.active ∙ other-at i j z.apart)) (λ n other. refl) is.runs;
+    filed = is.filed;
     fits = fewer;
     opened = opened-names k.files k.spaces.pipes k.table.places j None (λ n. sym (ap (names_in n) z.at ∙ ap (names n) no-names ∙ names-none n)) tt is.opened;
   }
@@ -277,7 +279,7 @@ module _ (k : Kernel) (i : ℕ) (x : Here k i) where
       wait-goes : w.number ≡ Wait → GoesOn k (collected k i (pending_arg w 0) j (status_of child.mode)) i w (Answers child.pid)
       wait-goes number =
           subst (λ (y : Kernel). GoesOn k y i w (Answers child.pid)) (collected-is k i x j child z (pending_arg w 0) (status_of child.mode))
-          (goes-done k i x w new child.pid (collected-here k i x j child z (pending_arg w 0) (status_of child.mode)) (ap (goes_on (state_of k) i (me k i x) w) number ∙ wait-some))
+          (goes-done k i x w new child.pid (collected-here k i x j child z (pending_arg w 0) (status_of child.mode)) refl (ap (goes_on (state_of k) i (me k i x) w) number ∙ wait-some))
 
 -- ---- over the fields: at is what they show
 
@@ -341,7 +343,7 @@ module _ {k : Kernel} {i : ℕ} (runs : Runs k i) (parent : ℕ) (named : IfSome
         let none = unreaped-go k.table parent (zombie_place k.table parent) refl (rw same at is) in
         let none' : zombie_place k.table x.process.pid ≡ None = ap (zombie_place k.table) (sym parent-is) ∙ none in
         rw (same, none)
-        (goes-waits k i x w k w x (subst (IsPending (descriptors_at k i) (held_at k.spaces i).memory w) (sym number) can, waits-other _ _ w Wait (λ same. absurd (cc)) (λ same. absurd (cc)) number)
+        (goes-waits k i x w k w x refl (subst (IsPending (descriptors_at k i) (held_at k.spaces i).memory w) (sym number) can, waits-other _ _ w Wait (λ same. absurd (cc)) (λ same. absurd (cc)) number)
         (ap (goes_on (state_of k) i (me k i x) w) number ∙ wait-none k i x w none'))
 
   -- ---- the call begins

@@ -1,32 +1,30 @@
 -- A read from a pipe goes on.
 use Rattle.std.proofs.Common.{◌≡◌, ℕ, ◌+◌, ◌<◌, ◌≤◌, Bool, true, false, List, [], ◌∷◌, length, min, take, drop, Option, Some, None, refl, ap, subst, sym, ◌∙◌, arith}
-use Rattle.std.specs.Prelude.{IfSome, if◌then◌else◌, not, slice_set, ◌==◌}
+use Rattle.std.specs.Prelude.{IfSome, if◌then◌else◌, not, ◌==◌}
 use Rattle.std.proofs.lemmas.Bool.Decides.{nat_tests}
 use Rattle.calls.specs.Acts.{GoesOn}
 use Rattle.calls.specs.declared.outcome.Came.TheVariants.{Answers, Blocks}
-use Rattle.calls.specs.Kernel.{Kernel, descriptors_at, state_of}
-use Rattle.calls.specs.Sound.{IsOpened, IsPending, file_named, is_on_pipe}
+use Rattle.kernel.specs.Kernel.{Kernel, descriptors_at, state_of}
+use Rattle.kernel.specs.Sound.{IsOpened, IsPending, file_named, is_on_pipe}
 use Rattle.calls.specs.Transfers.{OnThePipe, Transfers}
 use Rattle.calls.proofs.Acts.{Here, goes-done, goes-waits, going, me, turned, turned-here, turned-state}
 use Rattle.calls.proofs.Collects.{length-write_bytes}
-use Rattle.calls.proofs.Opens.{waits-reading}
-use Rattle.calls.proofs.Runs.{set-slot, slot-within}
+use Rattle.kernel.proofs.Opens.{waits-reading}
+use Rattle.kernel.proofs.Runs.{set-slot, slot-within}
 use Rattle.calls.proofs.Sends.{piped-kernel}
-use Rattle.calls.proofs.Steps.{placed-with}
-use Rattle.calls.proofs.Transfers.{file, file-named, going-is, held-here, here, start-fresh, transfer-stands}
+use Rattle.kernel.proofs.Steps.{placed-with}
+use Rattle.calls.proofs.Transfers.{file, file-named, going-is, held-here, here, transfer-stands}
 use Rattle.files.specs.declared.file.End.TheVariants as end
 use Rattle.files.specs.Places.{has_end, opens_of}
-use Rattle.proc.specs.declared.process.Process.{Process}
 use Rattle.spaces.specs.Spaces.{Held, Spaces, bytes_in, frames_in, has_pipe, held_at, taken_frames, taken_to, with_held, with_pipe, written}
 use Rattle.spaces.proofs.SpacesLemmas.{some-pipe, taken-placed}
 use Rattle.unixmodel.specs.Counts.{page_frames}
 use Rattle.unixmodel.specs.declared.process.Pending.{Pending}
-use Rattle.unixmodel.specs.FileCalls as rows
 use Rattle.unixmodel.specs.FileCalls.{read_on, read_pipe}
 use Rattle.unixmodel.specs.Files.{put, slot}
-use Rattle.unixmodel.specs.Memory.{Memory, write_bytes}
+use Rattle.unixmodel.specs.Memory.{write_bytes}
 use Rattle.unixmodel.specs.Numbers.{low}
-use Rattle.unixmodel.specs.OpenFiles.{End, OpenFile}
+use Rattle.unixmodel.specs.OpenFiles.{OpenFile}
 use Rattle.unixmodel.specs.OpenFiles.End.{WriteEnd}
 use Rattle.unixmodel.specs.OpenFiles.Target.{OnPipe}
 use Rattle.unixmodel.specs.Outcome.{answers, pending_arg}
@@ -116,7 +114,7 @@ module _ (k : Kernel) (i : ℕ) (w : Pending) (q : ℕ) (on : OnThePipe k i end.
       ∙ ap (λ (s : State). Done s (min count (length (b ∷ bs))) []) (sym (turned-state k i x x.process h' k.files pipes (placed-with k i x.process x.held x.run x.sound (write_bytes x.held.memory address (take count bytes))) x.run.runs))
 
   drawn-acts : 0 < length bytes → GoesOn k drawn i w (Answers (min count (length bytes)))
-  drawn-acts some = rw drawn-is (goes-done k i x w to (min count (length bytes)) to-here (row ∙ row-taken bytes refl some))
+  drawn-acts some = rw drawn-is (goes-done k i x w to (min count (length bytes)) to-here refl (row ∙ row-taken bytes refl some))
 
   -- at is what the kernel's fields show
   pub reads-taken : (at : Kernel) → at ≡ k → (b : Bool) → b ≡ not (is_empty (bytes_in at.spaces q)) → b ≡ true → (m : ℕ) → m ≡ count → (new : Spaces) (n : ℕ) → new ≡ taken_to at.spaces q i address m → n ≡ min m (length (bytes_in at.spaces q))
@@ -134,7 +132,7 @@ module _ (k : Kernel) (i : ℕ) (w : Pending) (q : ℕ) (on : OnThePipe k i end.
     empty c is = row ∙ row-empty bytes (no-bytes (length bytes) (sym (rw same at told) ∙ none)) c (sym ends ∙ is)
 
     pub reads-ended : e ≡ false → GoesOn k k i w (Answers 0)
-    reads-ended is = goes-done k i x w k 0 x (empty false is)
+    reads-ended is = goes-done k i x w k 0 x refl (empty false is)
 
     pub reads-waiting : e ≡ true → GoesOn k k i w (Blocks w)
-    reads-waiting is = goes-waits k i x w k w x (subst (IsPending (descriptors_at k i) (held_at k.spaces i).memory w) (sym g.number) g.can, waits-reading (opens_of k.files) (descriptors_at k i) w g.number g.fresh) (empty true is)
+    reads-waiting is = goes-waits k i x w k w x refl (subst (IsPending (descriptors_at k i) (held_at k.spaces i).memory w) (sym g.number) g.can, waits-reading (opens_of k.files) (descriptors_at k i) w g.number g.fresh) (empty true is)

@@ -2,87 +2,40 @@
 use Rattle.std.proofs.Common.{◌≡◌, ◌≢◌, ℕ, zero, suc, ◌<◌, ◌%◌, inl, inr, true, false, nat_le, List, [], length, map, Option, Some, None, negsuc, refl, ap, sym, subst, ◌∙◌, arith}
 use Rattle.std.specs.Prelude.{option_map, slice_index, slice_index_or, slice_set}
 use Rattle.std.proofs.lemmas.Bool.{le-leb}
-use Rattle.std.proofs.lemmas.List.{get_or-set_other, length-map, length-set, map-set, set-get_or}
+use Rattle.std.proofs.lemmas.List.{get_or-set_other, length-map, map-set, set-get_or}
 use Rattle.calls.specs.Acts.{Acts, Runs, marked_by, settled_by}
 use Rattle.calls.specs.declared.outcome.Came.TheVariants.{Answers, KillsItself, Refuses}
-use Rattle.calls.specs.Descriptors.{descriptors_in}
-use Rattle.calls.specs.Kernel.{Kernel, answered, argument, base, ended, halted_by, loaded, marked, memories, memory_in, on_hart, rest_of, state_of}
-use Rattle.calls.specs.Says.{named}
-use Rattle.calls.specs.Sound.{IsKernel, IsMode, IsPlace, WaitsWell, is_at}
+use Rattle.kernel.specs.Kernel.{Kernel, answered, argument, base, ended, halted_by, loaded, marked, memories, memory_in, on_hart, rest_of, state_of}
+use Rattle.calls.specs.Processes.{named}
+use Rattle.kernel.specs.Sound.{IsKernel, is_at}
 use Rattle.calls.proofs.Acts.{Here, came, does, here-of, me, refused}
-use Rattle.calls.proofs.Changes.{ended-is, ended-kernel, ended_to, other-at, stands-put}
+use Rattle.kernel.proofs.Changes.{ended-is, ended-kernel, ended_to, other-at}
 use Rattle.calls.proofs.Collects.{where-put}
 use Rattle.calls.proofs.Forks.{set-swap}
-use Rattle.calls.proofs.Named.{counts-joined, reap-closed}
-use Rattle.calls.proofs.Opens.{opened-put}
-use Rattle.calls.proofs.Reaped.{IsMatch, match-loaded, within-state_with}
-use Rattle.calls.proofs.Runs.{IsRun, loaded-run, memory-at, process-run, process-with, put-with, runs-set, same_or_not, self, set-slot, set-twice, slot-other, slot-put, slot-within, state-run, with_process, within-run}
-use Rattle.calls.proofs.Settles.{change-put, change-run, regs-kernel, regs-run}
+use Rattle.kernel.proofs.Marks.{marked-is, marked-kernel, marked_to}
+use Rattle.kernel.proofs.Named.{counts-joined, reap-closed}
+use Rattle.kernel.proofs.Reaped.{IsMatch, match-loaded, within-state_with}
+use Rattle.kernel.proofs.Runs.{IsRun, loaded-run, memory-at, process-run, process-with, put-with, same_or_not, self, set-twice, slot-other, slot-put, slot-within, state-run, with_process, within-run}
+use Rattle.kernel.proofs.Running.{change-put, change-run, regs-kernel, regs-run}
 use Rattle.files.specs.Places.{opens_of}
 use Rattle.proc.specs.declared.process.Process.{Process}
 use Rattle.proc.specs.Places as table
-use Rattle.proc.specs.Places.{Places, changed, has_pid, orphaned, place_where, with_mark, zombie_of}
+use Rattle.proc.specs.Places.{Places, has_pid, orphaned, place_where, with_mark, zombie_of}
 use Rattle.proc.specs.Whole.{change_process-with_table, place_of_pid-with_table, place_where-Some, with_memory, with_table, with_zombie-with_table}
 use Rattle.spaces.specs.Spaces.{Held}
 use Rattle.unixmodel.specs.Calls.{end_at, quiet, settle}
 use Rattle.unixmodel.specs.Counts.{is_within}
 use Rattle.unixmodel.specs.declared.call.Call.TheVariants.{Kill}
-use Rattle.unixmodel.specs.declared.process.Mode.{Mode}
-use Rattle.unixmodel.specs.declared.process.Mode.TheVariants.{Ready, Running, Waiting, Zombie}
 use Rattle.unixmodel.specs.Files.{put, slot}
 use Rattle.unixmodel.specs.Memory.{Memory}
 use Rattle.unixmodel.specs.Numbers.{int_of, natural}
 use Rattle.unixmodel.specs.Outcome.{Outcome, answers, end_process, given, limited, provided}
 use Rattle.unixmodel.specs.Outcome.Outcome.{Done}
-use Rattle.unixmodel.specs.Process.{is_running_mode, with_answer}
+use Rattle.unixmodel.specs.Process.{with_answer}
 use Rattle.unixmodel.specs.ProcessCalls as rows
 use Rattle.unixmodel.specs.ProcessCalls.{kill_row}
 use Rattle.unixmodel.specs.Reap.{reap}
-use Rattle.unixmodel.specs.State.{State, change_process, holds, place_of_pid, process_at, put_process}
-
--- ---- a process that doesn't run is marked
-
-mark-mode : (p : Process) (m : Memory) (mode : Mode) → is_running_mode mode ≡ false → IsMode p m mode → IsMode (with_mark p) m mode
-mark-mode p m Running rests is = absurd (cc)
-mark-mode p m Ready rests is = record { descriptors = is.descriptors; directory = is.directory }
-mark-mode p m (Waiting w) rests is = (record { descriptors = is.0.descriptors; directory = is.0.directory }, is.1)
-mark-mode p m (Zombie status) rests is = record { descriptors = is.descriptors; directory = is.directory }
-
-mark-placed : (q : Process) (o : Option Held) → is_running_mode q.mode ≡ false → IsPlace (Some q) o → IsPlace (Some (with_mark q)) o
-mark-placed q None rests is = is
-mark-placed q (Some h) rests is = record { size = is.size; zero = is.zero; aligned = is.aligned; mode = mark-mode q h.memory q.mode rests is.mode }
-
-abbrev pub marked_to : Kernel → ℕ → Process → Kernel
-marked_to k j q = record k { table = with_process k.table j (with_mark q) }
-
-pub marked-is : (k : Kernel) (j : ℕ) (q : Process) → slot k.table.places j ≡ Some q → marked k j ≡ marked_to k j q
-marked-is k j q at = rw at refl
-
-pub marked-kernel : (k : Kernel) (j : ℕ) (q : Process) → IsKernel k → slot k.table.places j ≡ Some q → is_at j k.spaces.active ≡ false → IsKernel (marked_to k j q)
-marked-kernel k j q is at rests =
-    let short : j < length k.table.places = slot-within k.table.places j q at in
-    let stays : is_running_mode q.mode ≡ false = sym (ap (holds table.is_running) at) ∙ is.runs j ∙ rests in
-    let there : IsPlace (Some q) (slot k.spaces.places j) = subst (λ (o : Option Process). IsPlace o (slot k.spaces.places j)) at (is.stands j) in
-    record {
-      all = length-set k.table.places j (Some (with_mark q)) ∙ is.all;
-      spaces = is.spaces;
-      stands = stands-put k.table.places k.spaces.places j (Some (with_mark q)) short (mark-placed q (slot k.spaces.places j) stays there) is.stands;
-      runs = runs-set k.table.places j (Some (with_mark q)) k.spaces.active k.spaces.active short (stays ∙ sym rests) (λ n other. refl) is.runs;
-      fits = is.fits;
-      opened = opened-put k.files k.spaces.pipes k.table.places j (Some (with_mark q)) (sym (ap descriptors_in at)) (subst (WaitsWell (opens_of k.files)) at (is.opened.waits j)) is.opened;
-    }
-
-rests-at : (o : Option ℕ) (j : ℕ) → o ≢ Some j → is_at j o ≡ false
-rests-at None j other = refl
-rests-at (Some i) j other = other-at i j (λ same. other (ap Some (sym same)))
-
-marks-go : (k : Kernel) (j : ℕ) (o : Option Process) → IsKernel k → slot k.table.places j ≡ o → is_at j k.spaces.active ≡ false → IsKernel (marked k j)
-marks-go k j None is at rests = rw (at, set-slot k.table.places j None at) is
-marks-go k j (Some q) is at rests = rw (marked-is k j q at) (marked-kernel k j q is at rests)
-
--- k is what the fields show, and now is the kernel's value
-pub marks-keeps : (k now : Kernel) (j : ℕ) → k ≡ now → IsKernel k → now.spaces.active ≢ Some j → IsKernel (marked k j)
-marks-keeps k now j same is other = marks-go k j (slot k.table.places j) is refl (ap (λ (x : Kernel). is_at j x.spaces.active) same ∙ rests-at now.spaces.active j other)
+use Rattle.unixmodel.specs.State.{State, change_process, place_of_pid, process_at, put_process}
 
 module _ (k : Kernel) (i : ℕ) (x : Here k i) where
   abbrev p : Process
@@ -103,6 +56,7 @@ module _ (k : Kernel) (i : ℕ) (x : Here k i) where
     mark-run : IsRun (marked_to k j q) i p h
     mark-run = record {
       active = r.active;
+      up = r.up;
       process = slot-other k.table.places j i (Some (with_mark q)) (λ e. apart (sym e)) ∙ r.process;
       space = r.space;
       placed = r.placed;
@@ -166,7 +120,7 @@ module _ (k : Kernel) (i : ℕ) (x : Here k i) where
   self-within : is_within (change_process (state_of k) i rows.marked) ≡ true
   self-within =
       ap is_within self-marked
-      ∙ within-state_with k t is.opened.table match-self
+      ∙ within-state_with k t (is.filed.flat r.up) (is.filed.limit r.up) is.opened.table match-self
       ∙ le-leb _ _ is.fits
 
   -- ---- it has its answer
@@ -249,7 +203,7 @@ module _ (k : Kernel) (i : ℕ) (x : Here k i) where
     gone-ends =
         ap reap (with_zombie-with_table rest answered_table (memories k.spaces) i (with_mark q) (negsuc 0))
         ∙ ap (λ (t : Places). reap (record (with_table (base (rest_of gone)) t (memories k.spaces)) { opens = opens_of k.files; pipes = k.spaces.pipes })) gone-table
-        ∙ reap-closed (state_of (marked_to gone i zombie)) k.files k.spaces.pipes q.descriptors refl is.opened.table is.opened.piped
+        ∙ reap-closed (state_of (marked_to gone i zombie)) k.files k.spaces.pipes q.descriptors (is.filed.flat r.up) is.opened.table is.opened.piped
         (counts-joined gone.files (marked_to gone i zombie).table.places (memories k.spaces) gone-kernel.opened.counted)
 
     pub self-ends : state_of (marked (ended k' i (negsuc 0)) i) ≡ settled_by (state_of k) i KillsItself
@@ -306,7 +260,7 @@ module _ {k : Kernel} {i : ℕ} (runs : Runs k i) where
   pub kills-other : (j : ℕ) → named k.table.places number ≡ Some j → j ≢ i → Acts k (marked k j) i (Some Kill) (Answers 0)
   kills-other j found apart =
       let f = named-some k.table.places number j found in
-      rw (marked-is k j f.0 f.1) (does k i here (marked_to k j f.0) Kill 0 (mark-here k i here j f.0 f.1 apart) (kill-is (Some j) found ∙ ap (λ (s : State). Done s 0 []) (mark-state k i here j f.0 f.1 apart)))
+      rw (marked-is k j f.0 f.1) (does k i here (marked_to k j f.0) Kill 0 (mark-here k i here j f.0 f.1 apart) refl (kill-is (Some j) found ∙ ap (λ (s : State). Done s 0 []) (mark-state k i here j f.0 f.1 apart)))
 
   pub kills-self : named k.table.places number ≡ Some i → Acts k k i (Some Kill) KillsItself
   kills-self found = came k i here (Some Kill) KillsItself tt (ap (λ (o : Outcome). settle (state_of k) i (limited o)) (kill-is (Some i) found) ∙ self-settles k i here)

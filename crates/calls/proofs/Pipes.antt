@@ -6,16 +6,16 @@ use Rattle.std.proofs.lemmas.List.{length-set}
 use Rattle.std.proofs.lemmas.List.Sums.{sum_by-set}
 use Rattle.calls.specs.Acts.{Acts, Runs}
 use Rattle.calls.specs.declared.outcome.Came.TheVariants.{Answers, Refuses}
-use Rattle.calls.specs.Descriptors.{IsCounted, descriptors_in, named_by, names_in}
-use Rattle.calls.specs.Kernel.{Kernel, argument, descriptors_at, state_of}
+use Rattle.kernel.specs.Descriptors.{IsCounted, descriptors_in, named_by, names_in}
+use Rattle.kernel.specs.Kernel.{Kernel, argument, descriptors_at, state_of}
 use Rattle.calls.specs.Renamed.{OpensAs, free_descriptors}
-use Rattle.calls.specs.Sound.{IsKernel, IsOpenFile, IsOpened, IsPlaced}
+use Rattle.kernel.specs.Sound.{IsKernel, IsOpenFile, IsOpened, IsPlaced}
 use Rattle.calls.proofs.Acts.{Here, does, here-of, me, refused, turned, turned-full, turned-here, turned-state}
 use Rattle.calls.proofs.Collects.{length-write_bytes}
-use Rattle.calls.proofs.Opens.{place-counts, waits-kept, waits-running, waits-set}
-use Rattle.calls.proofs.Runs.{same_or_not, set-twice, slot-other, slot-put, slot-within, with_process, within-run}
-use Rattle.calls.proofs.Settles.{live, not-killed, runs-mode}
-use Rattle.calls.proofs.Steps.{held-run}
+use Rattle.kernel.proofs.Opens.{place-counts, waits-kept, waits-running, waits-set}
+use Rattle.kernel.proofs.Runs.{same_or_not, set-twice, slot-other, slot-put, slot-within, with_process, within-run}
+use Rattle.kernel.proofs.Running.{live, not-killed, runs-mode}
+use Rattle.kernel.proofs.Steps.{held-run}
 use Rattle.files.specs.Counts.{count-opened, names, names-put}
 use Rattle.files.proofs.Free.{free-None, free-Some, free-opens, free-place, free-put}
 use Rattle.files.specs.Pipes.{IsPiped, piped-both}
@@ -282,7 +282,7 @@ module _ {k : Kernel} {i : ℕ} (runs : Runs k i) where
         let one : free_slot here.process.descriptors ≡ Some x.read_fd = rw (← names-here) free.read_fd in
         let two : free_slot (put here.process.descriptors x.read_fd x.reader) ≡ Some x.write_fd = rw (← names-here) free.write_fd in
         let there = turned-here k i here (q k i here a x free) (h k i here a x free) (both k i here a x free) (pipes k i here a x free) (placed k i here a x free) here.run.runs (both-opened k i here a x free) (let same = to-frames k i here a x free in omega (arith, same, fits)) in
-        does k i here new Pipe 0 there (rw (can-here true can, free.pipe, free.reader, free.writer, one, two) (ap (λ (s : State). Done s 0 []) (sym (to-state k i here a x free))))
+        does k i here new Pipe 0 there refl (rw (can-here true can, free.pipe, free.reader, free.writer, one, two) (ap (λ (s : State). Done s 0 []) (sym (to-state k i here a x free))))
 
     -- some of the places isn't there, or the frames don't suffice
     pub pipe-lacks : ((x : Ends) → AreFree k i x → k.spaces.frames < taken_frames (with_pipe k.spaces x.pipe (Some []))) → Acts k k i (Some Pipe) Refuses

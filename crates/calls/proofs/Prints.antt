@@ -3,8 +3,8 @@ use Rattle.std.proofs.Common.{◌≡◌, ℕ, ◌+◌, ◌-◌, ◌<◌, ◌≤�
 use Rattle.std.specs.Io.KnownBytes.{Appends}
 use Rattle.std.proofs.lemmas.List.{length-drop, take-append-drop, take-take}
 use Rattle.console.specs.Output.{AppendsBeginning}
-use Rattle.calls.specs.Kernel.{Kernel}
-use Rattle.calls.specs.Says.{IsFront}
+use Rattle.kernel.specs.Kernel.{Kernel}
+use Rattle.calls.specs.Transfers.{IsFront}
 use Rattle.calls.proofs.Writes.{readable-count}
 use Rattle.spaces.specs.Spaces.{held_at}
 use Rattle.unixmodel.specs.declared.trap.Access.TheVariants.{Load}

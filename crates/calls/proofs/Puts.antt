@@ -1,15 +1,17 @@
 -- A write to the console puts out all of its bytes.
-use Rattle.std.proofs.Common.{◌≡◌, ℕ, List, [], Option, Some, None, is_some, length, unwrap_or, true, refl, ap, sym, ◌∙◌}
+use Rattle.std.proofs.Common.{◌≡◌, ℕ, List, [], Option, Some, length, unwrap_or, refl, ap, sym, ◌∙◌}
 use Rattle.std.specs.Io.KnownBytes.{Appends}
+use Rattle.calls.proofs.Served.{same-served}
 use Rattle.calls.specs.Acts.{Comes, GoesOn, going_at}
 use Rattle.calls.specs.declared.outcome.Came.{Came}
 use Rattle.calls.specs.declared.outcome.Came.TheVariants.{Answers}
-use Rattle.calls.specs.Kernel.{Kernel, answered, state_of}
+use Rattle.kernel.specs.Kernel.{Kernel, answered, state_of}
 use Rattle.calls.specs.Transfers.{OnSomeNode, Transfers}
 use Rattle.calls.proofs.Acts.{Here, going, going-here, me}
-use Rattle.calls.proofs.Opens.{IsConsole}
+use Rattle.kernel.proofs.Opens.{IsConsole}
 use Rattle.calls.proofs.Prints.{Appends-none}
-use Rattle.calls.proofs.Settles.{after, answer-run, settle-limited}
+use Rattle.calls.proofs.Settles.{after, settle-limited}
+use Rattle.kernel.proofs.Running.{answer-run}
 use Rattle.calls.proofs.Transfers.{console-named, going-is, held-here, here}
 use Rattle.calls.proofs.Writes.{length-read}
 use Rattle.console.specs.Output.{AppendsBeginning}
@@ -50,7 +52,7 @@ module _ (k : Kernel) (i : ℕ) (w : Pending) (on : OnSomeNode k i end.Write w) 
   row =
       let read : read_bytes (held_at k.spaces i).memory (pending_arg w 1) count ≡ Some bytes = some-pipe (read_bytes (held_at k.spaces i).memory (pending_arg w 1) count) g.can.readable in
       going-is g
-      ∙ write-bytes (state_of k) i (me k i x) refl w (console-named g) bytes (ap (λ (h : Held). read_bytes h.memory (pending_arg w 1) count) (sym (held-here g)) ∙ read)
+      ∙ write-bytes (state_of k) i (me k i x) (x.sound.filed.flat x.run.up) w (console-named g) bytes (ap (λ (h : Held). read_bytes h.memory (pending_arg w 1) count) (sym (held-here g)) ∙ read)
       ∙ ap (λ (n : ℕ). Done (state_of k) n bytes) (length-read (held_at k.spaces i).memory (pending_arg w 1) count bytes read)
 
   settles : settle (state_of k) i (limited (going_at (state_of k) i w)) ≡ after (state_of (answered k count)) bytes
@@ -65,6 +67,7 @@ module _ (k : Kernel) (i : ℕ) (w : Pending) (on : OnSomeNode k i end.Write w) 
         active = x.run.active;
         sound = x.sound;
         can = tt;
+        served = same-served refl x.run.up;
       },
       rw all at printed,
     )

@@ -7,14 +7,14 @@ use Rattle.std.proofs.lemmas.Bool.{le-leb, leb-true}
 use Rattle.std.proofs.lemmas.List.{length-drop, length-take-le, take-append-drop}
 use Rattle.calls.specs.Acts.{GoesOn}
 use Rattle.calls.specs.declared.outcome.Came.TheVariants.{Answers, Blocks}
-use Rattle.calls.specs.Kernel.{Kernel, descriptors_at, state_of, typed}
-use Rattle.calls.specs.Sound.{IsKernel, IsOpened, IsPending, IsPlaced, IsReading, console_file}
+use Rattle.kernel.specs.Kernel.{Kernel, descriptors_at, state_of, typed}
+use Rattle.kernel.specs.Sound.{IsKernel, IsOpened, IsPending, IsPlaced, IsReading, console_file}
 use Rattle.calls.specs.Transfers.{OnSomeNode, Transfers}
 use Rattle.calls.proofs.Acts.{Here, goes-done, goes-waits, going, me, turned, turned-here, turned-state}
 use Rattle.calls.proofs.Draws.{rewritten-fits}
-use Rattle.calls.proofs.Opens.{IsConsole, console-fresh, waits-reading}
-use Rattle.calls.proofs.Runs.{set-slot, slot-put, slot-within}
-use Rattle.calls.proofs.Steps.{placed-with}
+use Rattle.kernel.proofs.Opens.{IsConsole, console-fresh, waits-reading}
+use Rattle.kernel.proofs.Runs.{set-slot, slot-put, slot-within}
+use Rattle.kernel.proofs.Steps.{placed-with}
 use Rattle.calls.proofs.Transfers.{console-named, going-is, held-here, here}
 use Rattle.calls.proofs.Writes.{console-only}
 use Rattle.files.specs.declared.file.End.TheVariants as end
@@ -183,7 +183,7 @@ module _ (k : Kernel) (i : ℕ) (w : Pending) (on : OnSomeNode k i end.Read w) w
       omega (arith, page, few')
 
   row : going k i x w ≡ read_taken (state_of k) i (me k i x) w (line_for k w)
-  row = going-is g ∙ reads-console (state_of k) i (me k i x) refl w (console-named g)
+  row = going-is g ∙ reads-console (state_of k) i (me k i x) (x.sound.filed.flat x.run.up) w (console-named g)
 
   module _ (n : ℕ) (buffer : List ℕ) (over wrote : Bool) (new : Spaces) (console : Console) (f : Took k i w n buffer over wrote new console) where
     abbrev address : ℕ
@@ -222,8 +222,8 @@ module _ (k : Kernel) (i : ℕ) (w : Pending) (on : OnSomeNode k i end.Read w) w
     rest-here = let r = x.run in let is = x.sound in record {
       process = x.process;
       held = x.held;
-      run = record { active = r.active; process = r.process; space = r.space; placed = r.placed; runs = r.runs };
-      sound = record { all = is.all; spaces = is.spaces; stands = is.stands; runs = is.runs; fits = is.fits; opened = is.opened };
+      run = record { active = r.active; process = r.process; space = r.space; placed = r.placed; runs = r.runs; up = r.up };
+      sound = record { all = is.all; spaces = is.spaces; stands = is.stands; runs = is.runs; fits = is.fits; opened = is.opened; filed = is.filed };
     }
 
     placed : IsPlaced x.process (written x.held address bytes)
@@ -249,7 +249,7 @@ module _ (k : Kernel) (i : ℕ) (w : Pending) (on : OnSomeNode k i end.Read w) w
     goes-over : over ≡ true → GoesOn k made i w (Answers (w.done + n))
     goes-over passed =
         rw made-is (subst (λ (m : ℕ). GoesOn k to i w (Answers (w.done + m))) count
-        (goes-done k i x w to (w.done + length bytes) to-here (row ∙ ap (read_taken (state_of k) i (me k i x) w) f.took ∙ taken-over (state_of k) i (me k i x) w t passed ∙ ap (λ (s : State). Done s (w.done + length bytes) []) left-is)))
+        (goes-done k i x w to (w.done + length bytes) to-here refl (row ∙ ap (read_taken (state_of k) i (me k i x) w) f.took ∙ taken-over (state_of k) i (me k i x) w t passed ∙ ap (λ (s : State). Done s (w.done + length bytes) []) left-is)))
 
     low-place : i < length k.spaces.places
     low-place = slot-within k.spaces.places i x.held x.run.space
@@ -277,7 +277,7 @@ module _ (k : Kernel) (i : ℕ) (w : Pending) (on : OnSomeNode k i end.Read w) w
         let further = record w { done = w.done + n } in
         let made-here : Here made i = subst (λ (y : Kernel). Here y i) (sym made-is) to-here in
         let pending : IsPending (descriptors_at k i) (held_at new i).memory further w.number = subst (IsPending (descriptors_at k i) (held_at new i).memory further) (sym g.number) (reads-on kept more) in
-        goes-waits k i x w made further made-here (pending, waits-reading (opens_of k.files) (descriptors_at k i) further g.number (console-fresh (opens_of k.files) (descriptors_at k i) further only))
+        goes-waits k i x w made further made-here refl (pending, waits-reading (opens_of k.files) (descriptors_at k i) further g.number (console-fresh (opens_of k.files) (descriptors_at k i) further only))
         (row ∙ ap (read_taken (state_of k) i (me k i x) w) f.took ∙ taken-waits (state_of k) i (me k i x) w t more
         ∙ ap (λ (s : State). Waits s (record w { done = w.done + length bytes })) (left-is ∙ sym (ap state_of made-is))
         ∙ ap (λ (m : ℕ). Waits (state_of made) (record w { done = w.done + m })) count)

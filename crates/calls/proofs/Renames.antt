@@ -4,13 +4,13 @@ use Rattle.std.proofs.lemmas.List.{length-set}
 use Rattle.std.proofs.lemmas.List.Sums.{sum_by-set}
 use Rattle.calls.specs.Acts.{Acts, Runs}
 use Rattle.calls.specs.declared.outcome.Came.TheVariants.{Answers, Refuses}
-use Rattle.calls.specs.Descriptors.{IsCounted, descriptors_in, named_by, names_in}
-use Rattle.calls.specs.Kernel.{Kernel, argument, descriptors_at, state_of}
+use Rattle.kernel.specs.Descriptors.{IsCounted, descriptors_in, named_by, names_in}
+use Rattle.kernel.specs.Kernel.{Kernel, argument, descriptors_at, state_of}
 use Rattle.calls.specs.Renamed.{duplicated}
-use Rattle.calls.specs.Sound.{IsKernel, IsOpened}
+use Rattle.kernel.specs.Sound.{IsKernel, IsOpened}
 use Rattle.calls.proofs.Acts.{Here, does, here-of, me, named-placed, refused, turned, turned-here, turned-state}
-use Rattle.calls.proofs.Opens.{place-counts, waits-running, waits-set}
-use Rattle.calls.proofs.Runs.{IsRun, set-slot, within-run}
+use Rattle.kernel.proofs.Opens.{place-counts, waits-running, waits-set}
+use Rattle.kernel.proofs.Runs.{IsRun, set-slot, within-run}
 use Rattle.files.specs.Counts.{count-shared, names, names-put}
 use Rattle.files.proofs.Free.{free-place}
 use Rattle.files.specs.Pipes.{IsPiped}
@@ -62,7 +62,7 @@ module _ (k : Kernel) (i : ℕ) (x : Here k i) (n fd : ℕ) (named : slot x.proc
       let to = turned k i x q x.held (shared k.files n) k.spaces.pipes placed x.run.runs in
       let state : state_of to ≡ put_process (state_of k) i (with_descriptor (me k i x) fd n) =
       turned-state k i x q x.held (shared k.files n) k.spaces.pipes placed x.run.runs ∙ ap (λ (os : List (Option OpenFile)). record (put_process (state_of k) i (with_descriptor (me k i x) fd n)) { opens = os }) (opens-shared k.files n) in
-      let acts = does k i x to Dup fd (turned-here k i x q x.held (shared k.files n) k.spaces.pipes placed x.run.runs opened (rw same x.sound.fits)) (rw (named, free) (ap (λ (s : State). Done s fd []) (sym state))) in
+      let acts = does k i x to Dup fd (turned-here k i x q x.held (shared k.files n) k.spaces.pipes placed x.run.runs opened (rw same x.sound.fits)) refl (rw (named, free) (ap (λ (s : State). Done s fd []) (sym state))) in
       subst (λ (y : Kernel). Acts k y i (Some Dup) (Answers fd)) (rw (x.run.process, same) refl) acts
 
 module _ (k : Kernel) (i : ℕ) (runs : Runs k i) where

@@ -3,14 +3,15 @@ use Rattle.std.proofs.Common.{◌≡◌, ℕ, ◌+◌, ◌-◌, ◌<◌, ◌≤�
 use Rattle.std.specs.Prelude.{◌+ℤ◌}
 use Rattle.calls.specs.Acts.{Acts, Runs}
 use Rattle.calls.specs.declared.outcome.Came.TheVariants.{Answers, Refuses}
-use Rattle.calls.specs.Descriptors.{descriptors_in}
-use Rattle.calls.specs.Kernel.{Kernel, argument, asked, resized, sized, state_of}
-use Rattle.calls.specs.Sound.{IsOpened, IsPlaced}
+use Rattle.kernel.specs.Descriptors.{descriptors_in}
+use Rattle.kernel.specs.Kernel.{Kernel, argument, state_of}
+use Rattle.calls.specs.Processes.{asked, resized, sized}
+use Rattle.kernel.specs.Sound.{IsOpened, IsPlaced}
 use Rattle.calls.proofs.Acts.{Here, does, here-of, me, refused, turned, turned-here, turned-over, turned-state}
-use Rattle.calls.proofs.Opens.{opened-put, waits-running}
-use Rattle.calls.proofs.Runs.{slot-within}
-use Rattle.calls.proofs.Settles.{live, not-killed, runs-mode}
-use Rattle.calls.proofs.Steps.{held-run}
+use Rattle.kernel.proofs.Opens.{opened-put, waits-running}
+use Rattle.kernel.proofs.Runs.{slot-within}
+use Rattle.kernel.proofs.Running.{live, not-killed, runs-mode}
+use Rattle.kernel.proofs.Steps.{held-run}
 use Rattle.files.specs.Places.{opens_of}
 use Rattle.proc.specs.declared.process.Process.{Process}
 use Rattle.proc.specs.Places.{Places, changed, with_size}
@@ -70,7 +71,7 @@ module _ (k : Kernel) (i : ℕ) (x : Here k i) (size : ℕ) (can : asked k i (in
 
   sbrk-acts : taken_frames (resized k i size).spaces ≤ k.spaces.frames → Acts k (resized k i size) i (Some Sbrk) (Answers (held_at k.spaces i).size)
   sbrk-acts fits = subst (λ (y : Kernel). Acts k y i (Some Sbrk) (Answers (held_at k.spaces i).size)) (sym resized-is)
-      (rw held (does k i x to Sbrk x.held.size (turned-here k i x q h k.files k.spaces.pipes placed x.run.runs opened (subst (λ (y : Kernel). taken_frames y.spaces ≤ k.spaces.frames) resized-is fits)) made))
+      (rw held (does k i x to Sbrk x.held.size (turned-here k i x q h k.files k.spaces.pipes placed x.run.runs opened (subst (λ (y : Kernel). taken_frames y.spaces ≤ k.spaces.frames) resized-is fits)) refl made))
 
   sbrk-over : k.spaces.frames < taken_frames (resized k i size).spaces → Acts k k i (Some Sbrk) Refuses
   sbrk-over over = turned-over k i x q h k.files k.spaces.pipes placed x.run.runs Sbrk x.held.size made (subst (λ (y : Kernel). k.spaces.frames < taken_frames y.spaces) resized-is over)

@@ -2,13 +2,13 @@
 use Rattle.std.proofs.Common.{◌≡◌, ◌≢◌, ℕ, zero, suc, ◌+◌, ◌-◌, ◌<◌, ◌≤◌, ◌^◌, Bool, true, false, nat_eq, List, [], ◌∷◌, length, take, drop, eq-eqb, Option, Some, None, is_some, unwrap_or, refl, ap, subst, sym, ◌∙◌, arith}
 use Rattle.std.proofs.lemmas.Bool.{ne_eqb}
 use Rattle.std.proofs.lemmas.List.{drop-take, length-drop, length-set, length-take}
-use Rattle.calls.specs.Acts.{CanCome, GoesOn}
+use Rattle.calls.specs.Acts.{GoesOn}
 use Rattle.calls.specs.declared.outcome.Came.TheVariants.{Answers, Blocks}
-use Rattle.calls.specs.Kernel.{Kernel, descriptors_at, state_of}
-use Rattle.calls.specs.Sound.{IsForPipe, IsKernel, IsPending, IsWriting}
+use Rattle.kernel.specs.Kernel.{Kernel, descriptors_at, state_of}
+use Rattle.kernel.specs.Sound.{IsForPipe, IsKernel, IsPending, IsWriting}
 use Rattle.calls.specs.Transfers.{OnThePipe, Transfers}
-use Rattle.calls.proofs.Acts.{Here, goes-done, goes-waits, going, me}
-use Rattle.calls.proofs.Opens.{IsNamed, waits-writing}
+use Rattle.calls.proofs.Acts.{Here, goes-done, goes-waits, going}
+use Rattle.kernel.proofs.Opens.{waits-writing}
 use Rattle.calls.proofs.Transfers.{file, file-named, going-is, held-here, here, transfer-stands}
 use Rattle.calls.proofs.Writes.{length-read, readable-count}
 use Rattle.files.specs.declared.file.End.TheVariants as end
@@ -25,8 +25,6 @@ use Rattle.unixmodel.specs.OpenFiles.{pipe_room}
 use Rattle.unixmodel.specs.OpenFiles.End.{ReadEnd}
 use Rattle.unixmodel.specs.OpenFiles.Target.{OnPipe}
 use Rattle.unixmodel.specs.Outcome.{minus_one, pending_arg}
-use Rattle.unixmodel.specs.Outcome.Outcome.{Done, Waits}
-use Rattle.unixmodel.specs.State.{State}
 use Rattle.vm.specs.Reach.{IsSized}
 use Rattle.vm.proofs.ReachLemmas.{reach-drop, reach-page}
 
@@ -52,6 +50,7 @@ piped-kernel k is q old new at = record {
   spaces = is.spaces;
   stands = is.stands;
   runs = is.runs;
+  filed = is.filed;
   fits = omega (arith, is.fits, taken-same k.spaces.pipes q old new at);
   opened = record {
     table = is.opened.table;
@@ -140,7 +139,7 @@ module _ (k : Kernel) (i : ℕ) (w : Pending) (q : ℕ) (on : OnThePipe k i end.
   sent-here = let r = x.run in record {
     process = x.process;
     held = x.held;
-    run = record { active = r.active; process = r.process; space = r.space; placed = r.placed; runs = r.runs };
+    run = record { active = r.active; process = r.process; space = r.space; placed = r.placed; runs = r.runs; up = r.up };
     sound = piped-kernel k x.sound q held (filled held left) at-pipe;
   }
 
@@ -153,7 +152,7 @@ module _ (k : Kernel) (i : ℕ) (w : Pending) (q : ℕ) (on : OnThePipe k i end.
 
   -- nobody can read it
   pub sends-closed : (e : Bool) → e ≡ has_end (opens_of k.files) q ReadEnd → e ≡ false → GoesOn k k i w (Answers minus_one)
-  sends-closed e told closed = let none : has_end (opens_of k.files) q ReadEnd ≡ false = sym told ∙ closed in goes-done k i x w k minus_one x (row ∙ rw none refl)
+  sends-closed e told closed = let none : has_end (opens_of k.files) q ReadEnd ≡ false = sym told ∙ closed in goes-done k i x w k minus_one x refl (row ∙ rw none refl)
 
   module _ (e : Bool) (told : e ≡ has_end (opens_of k.files) q ReadEnd) (yes : e ≡ true) where
     some : has_end (opens_of k.files) q ReadEnd ≡ true
@@ -163,7 +162,7 @@ module _ (k : Kernel) (i : ℕ) (w : Pending) (q : ℕ) (on : OnThePipe k i end.
     all-test b test = ap (nat_eq (w.done + n)) length-new ∙ test
 
     sends-all : w.done + n ≡ low (pending_arg w 2) → GoesOn k sent i w (Answers (w.done + n))
-    sends-all all = let test = all-test true (eq-eqb (w.done + n) (low (pending_arg w 2)) all) in goes-done k i x w sent (w.done + n) sent-here (row ∙ rw (some, test) refl)
+    sends-all all = let test = all-test true (eq-eqb (w.done + n) (low (pending_arg w 2)) all) in goes-done k i x w sent (w.done + n) sent-here refl (row ∙ rw (some, test) refl)
 
     sends-waits : w.done + n ≢ low (pending_arg w 2) → w.done + n ≤ low (pending_arg w 2) → GoesOn k sent i w (Blocks (record w { done = w.done + n }))
     sends-waits rests within =
@@ -172,7 +171,7 @@ module _ (k : Kernel) (i : ℕ) (w : Pending) (q : ℕ) (on : OnThePipe k i end.
         let f = file g in
         let writing : IsWriting (descriptors_at k i) memory further = record { named = can.named; readable = can.readable; left = omega (arith, rests, within) } in
         let for : IsForPipe (opens_of k.files) (descriptors_at k i) further = λ write. rw (f.named, f.opened, f.on) refl in
-        goes-waits k i x w sent further sent-here (subst (IsPending (descriptors_at k i) memory further) (sym g.number) writing, waits-writing (opens_of k.files) (descriptors_at k i) further g.number for) (row ∙ rw (some, test) refl)
+        goes-waits k i x w sent further sent-here refl (subst (IsPending (descriptors_at k i) memory further) (sym g.number) writing, waits-writing (opens_of k.files) (descriptors_at k i) further g.number for) (row ∙ rw (some, test) refl)
 
   -- at is what the kernel's fields show, and m what is left to put
   module _ (at : Kernel) (same : at ≡ k) (sized : IsSized (held_at at.spaces i).memory) (m : ℕ) (wide : m ≡ low (pending_arg w 2) - w.done) where

@@ -4,17 +4,17 @@ use Rattle.std.specs.Prelude.{if◌then◌else◌, slice_index}
 use Rattle.calls.specs.declared.halt.Halt.{Halt}
 use Rattle.calls.specs.declared.halt.Halt.TheVariants.{Console, Device, Halted, InitEnded}
 use Rattle.calls.specs.Does.{Dispatches, Does, IsMade, halt_of}
-use Rattle.calls.specs.Kernel.{Kernel, computed, ended, lives, picked, started, state_of}
-use Rattle.calls.specs.Says.{called}
-use Rattle.calls.specs.Sound.{IsKernel, IsLive, IsMode}
-use Rattle.calls.specs.Told.{IsAlive, resumed, resumed_by, resumed_in, taken, taken_by}
-use Rattle.calls.proofs.Goes.{IsThere, process-idle, there-of}
+use Rattle.kernel.specs.Kernel.{Kernel, computed, ended, lives, picked, started, state_of}
+use Rattle.calls.specs.Acts.{called}
+use Rattle.kernel.specs.Sound.{IsKernel, IsLive, IsMode, IsAlive}
+use Rattle.calls.specs.Told.{resumed, resumed_by, resumed_in, taken, taken_by}
+use Rattle.kernel.proofs.Finishes.{IsThere, process-idle, there-of}
 use Rattle.calls.proofs.Prints.{Appends-none}
-use Rattle.calls.proofs.Readies.{turn-alive}
-use Rattle.calls.proofs.Rows.{executes-call, executes-fault}
-use Rattle.calls.proofs.Runs.{run-of}
-use Rattle.calls.proofs.Starts.{picked-state, picks-killed, picks-ready}
-use Rattle.calls.proofs.Steps.{computed-state, held-run}
+use Rattle.kernel.proofs.Readies.{turn-alive}
+use Rattle.calls.proofs.Rows.{executes-call, executes-fault, computed-state}
+use Rattle.kernel.proofs.Runs.{run-of}
+use Rattle.kernel.proofs.Starts.{picked-state, picks-killed, picks-ready}
+use Rattle.kernel.proofs.Steps.{held-run}
 use Rattle.proc.specs.declared.process.Process.{Process}
 use Rattle.proc.specs.Whole.{with_memory}
 use Rattle.spaces.specs.Spaces.{Held, held_at}
@@ -89,7 +89,7 @@ alive-some (Some p) alive = (p, (refl, alive))
 live-mode : (p : Process) (m : Memory) (mode : Mode) → mode ≡ Ready → IsMode p m mode → IsLive p
 live-mode p m mode e is = rw e at is
 
-module _ (k : Kernel) (i : ℕ) (p : Process) (is : IsKernel k) (none : k.spaces.active ≡ None) (at : slot k.table.places i ≡ Some p) where
+module _ (k : Kernel) (i : ℕ) (p : Process) (is : IsKernel k) (none : k.spaces.active ≡ None) (at : slot k.table.places i ≡ Some p) (up : k.tree.failed ≡ false) where
   taken-is : (alive : lives p ≡ true) → (h : Held) × (IsThere k i p h × (taken (state_of k) i ≡ next.picked (state_of k) i (with_memory h.memory p)))
   taken-is alive =
       let t = there-of k i p is at in
@@ -102,13 +102,13 @@ module _ (k : Kernel) (i : ℕ) (p : Process) (is : IsKernel k) (none : k.spaces
   takes-killed z a lives killed =
       let alive = alive-here lives in
       let t = taken-is alive in
-      t.1.1 ∙ picks-killed k i p t.0 is none at t.1.0.space alive z a killed
+      t.1.1 ∙ picks-killed k i p t.0 is none at t.1.0.space alive up z a killed
 
   pub takes-ready : p.killed ≡ false → p.mode ≡ Ready → taken (state_of k) i ≡ quiet (state_of (started k i))
   takes-ready free ready =
       let alive : lives p ≡ true = rw ready refl in
       let t = taken-is alive in
-      t.1.1 ∙ picks-ready k i p t.0 is none at t.1.0.space alive (live-mode p t.0.memory p.mode ready t.1.0.placed.mode) free ready
+      t.1.1 ∙ picks-ready k i p t.0 is none at t.1.0.space alive (live-mode p t.0.memory p.mode ready t.1.0.placed.mode) free up ready
 
   pub takes-waiting : (w : Pending) → p.killed ≡ false → p.mode ≡ Waiting w → taken (state_of k) i ≡ resumed (state_of k) i
   takes-waiting w free waits =

@@ -1,18 +1,18 @@
 -- How a read and a write begin, and what they go on with: their tests are the same.
 use Rattle.std.proofs.Common.{◌≡◌, ◌≢◌, ℕ, zero, suc, ◌<◌, Bool, true, false, ◌&&◌, List, Option, Some, None, refl, ap, subst, sym, ◌∙◌, arith}
 use Rattle.std.specs.Prelude.{IfSome, if◌then◌else◌, is_some, option_and_then, option_map}
-use Rattle.calls.specs.Acts.{Acts, CanGoOn, Comes, GoesOn, Runs, going_at, outcome_at}
+use Rattle.calls.specs.Acts.{Acts, CanWait, GoesOn, Runs, pending_for}
 use Rattle.calls.specs.declared.outcome.Came.{Came}
 use Rattle.calls.specs.declared.outcome.Came.TheVariants.{Answers, Refuses}
-use Rattle.calls.specs.Descriptors.{descriptors_in}
-use Rattle.calls.specs.Kernel.{Kernel, argument, descriptors_at, state_of}
-use Rattle.calls.specs.Says.{Stands, pending_for}
-use Rattle.calls.specs.Sound.{IsForPipe, IsFresh, IsPending, file_named, is_on_pipe}
+use Rattle.kernel.specs.Descriptors.{descriptors_in}
+use Rattle.kernel.specs.Kernel.{Kernel, argument, descriptors_at, state_of}
+use Rattle.kernel.specs.Ready.{Stands}
+use Rattle.kernel.specs.Sound.{IsForPipe, IsFresh, IsPending, file_named, is_on_pipe}
 use Rattle.calls.specs.Transfers.{Begins, Transfers, call_on, can_transfer, target_for, target_named}
 use Rattle.calls.proofs.Acts.{Here, does, going, going-here, here-of, me, outcome-here, refused}
-use Rattle.calls.proofs.Opens.{IsConsole, IsFileAt, IsNamed, file-at, open-named}
-use Rattle.calls.proofs.Readies.{stands-open}
-use Rattle.calls.proofs.Steps.{held-run}
+use Rattle.kernel.proofs.Opens.{IsConsole, IsFileAt, IsNamed, file-at, open-named}
+use Rattle.kernel.proofs.Readies.{stands-open}
+use Rattle.kernel.proofs.Steps.{held-run}
 use Rattle.calls.proofs.Writes.{console-only, int-low, usable-open}
 use Rattle.files.specs.declared.file.End.{End}
 use Rattle.files.specs.declared.file.End.TheVariants.{Read, Write}
@@ -25,7 +25,7 @@ use Rattle.unixmodel.specs.Calls.{goes_on, row}
 use Rattle.unixmodel.specs.declared.call.Call.{Call}
 use Rattle.unixmodel.specs.declared.process.Pending.{Pending}
 use Rattle.unixmodel.specs.FileCalls.{is_usable, read_row, unless_empty, write_row}
-use Rattle.unixmodel.specs.Files.{slot}
+use Rattle.unixmodel.specs.Files.{Files, slot}
 use Rattle.unixmodel.specs.Memory.{Memory, can_write, read_bytes}
 use Rattle.unixmodel.specs.Numbers.{int_of, low, natural}
 use Rattle.unixmodel.specs.OpenFiles.{OpenFile, Target}
@@ -34,7 +34,6 @@ use Rattle.unixmodel.specs.Outcome.{Outcome, given, limited, pending_arg, pendin
 use Rattle.unixmodel.specs.Outcome.Outcome.{Refused}
 use Rattle.unixmodel.specs.Process as unix
 use Rattle.unixmodel.specs.Process.{arg}
-use Rattle.unixmodel.specs.Start.{flat_files}
 use Rattle.unixmodel.specs.State.{State}
 
 -- ---- an open file, for reading or for writing
@@ -142,17 +141,17 @@ module _ (k : Kernel) (i : ℕ) (runs : Runs k i) (e : End) where
     row-counted =
         let there : named ≡ Some f.file = rw (f.named, f.opened) refl in
         let flag = (may-go e f.file t (may e f.file) refl (ap (target_for e) (sym there) ∙ is)).0 in
-        let usable = usable-open f.file f.file.target refl (x.sound.opened.each f.number f.file f.opened) in
+        let usable = ap (λ (all : Files). is_usable all f.file.target) (x.sound.filed.flat x.run.up) ∙ usable-open f.file f.file.target refl (x.sound.opened.each f.number f.file f.opened) in
         row-here
         ∙ ap (λ (o : Option OpenFile). filed e (state_of k) o rest) there
-        ∙ ap (λ (b : Bool). provided (b && is_usable flat_files f.file.target) rest) flag
+        ∙ ap (λ (b : Bool). provided (b && is_usable k.tree.files f.file.target) rest) flag
         ∙ ap (λ (b : Bool). provided b rest) usable
 
     below : natural (int_of (argument k 2)) ≡ None → Acts k k i (Some (call_on e)) Refuses
     below none = refuses (row-counted ∙ rw none refl)
 
     nothing : natural (int_of (argument k 2)) ≡ Some 0 → Acts k k i (Some (call_on e)) (Answers 0)
-    nothing none = does k i x k (call_on e) 0 x (row-counted ∙ rw none refl)
+    nothing none = does k i x k (call_on e) 0 x refl (row-counted ∙ rw none refl)
 
     module _ (n : ℕ) (count : natural (int_of (argument k 2)) ≡ Some n) (some : 0 < n) (b : Bool) (can : can_transfer e (held_at k.spaces i).memory (argument k 1) n ≡ b) where
       row-tested : row (state_of k) i (me k i x) (call_on e) ≡ provided b (going k i x w)
@@ -259,9 +258,9 @@ some-named None some = absurd (cc)
 some-named (Some n) some = (n, refl)
 
 -- r is what its descriptor d is open on
-module _ {k : Kernel} {i : ℕ} {w : Pending} (e : End) (can : CanGoOn k i w) (number : w.number ≡ call_on e) {d : ℕ} (place : d ≡ low (pending_arg w 0)) (r : Option files.Target) (told : option_map target_of r ≡ target_named k i d) where
+module _ {k : Kernel} {i : ℕ} {w : Pending} (e : End) (runs : Runs k i) (can : CanWait k i w) (number : w.number ≡ call_on e) {d : ℕ} (place : d ≡ low (pending_arg w 0)) (r : Option files.Target) (told : option_map target_of r ≡ target_named k i d) where
   pending : IsPending (descriptors_at k i) (held_at k.spaces i).memory w (call_on e)
-  pending = subst (IsPending (descriptors_at k i) (held_at k.spaces i).memory w) number can.pending
+  pending = subst (IsPending (descriptors_at k i) (held_at k.spaces i).memory w) number can.0
 
   open-on : (s : Option files.Target) → r ≡ s → target_named k i (low (pending_arg w 0)) ≡ option_map target_of s
   open-on s is = ap (target_named k i) (sym place) ∙ sym told ∙ ap (option_map target_of) is
@@ -269,7 +268,7 @@ module _ {k : Kernel} {i : ℕ} {w : Pending} (e : End) (can : CanGoOn k i w) (n
   -- it is open on something
   pub target-some : r ≡ None → ⊥
   target-some none =
-      let x = here-of k i can.runs.sound can.runs.active in
+      let x = here-of k i runs.sound runs.active in
       let n = some-named (slot (descriptors_at k i) (low (pending_arg w 0))) (pending-named e (descriptors_at k i) (held_at k.spaces i).memory w pending) in
       let there = open-named k.files k.spaces.pipes k.table.places x.sound.opened i x.process (low (pending_arg w 0)) n.0 x.run.process (ap (λ (o : Option Process). slot (descriptors_in o) (low (pending_arg w 0))) (sym x.run.process) ∙ n.1) in
       let named : file_named (opens_of k.files) (descriptors_at k i) (low (pending_arg w 0)) ≡ Some there.0 = ap (option_and_then (slot (opens_of k.files))) n.1 ∙ there.1.0 in
@@ -277,7 +276,7 @@ module _ {k : Kernel} {i : ℕ} {w : Pending} (e : End) (can : CanGoOn k i w) (n
       absurd (cc)
 
   pub goes-transfers : {t : files.Target} → r ≡ Some t → Transfers k i e (target_of t) w
-  goes-transfers {t = t} is = record { runs = can.runs; number = number; can = pending; fresh = can.awaits.read; target = open-on (Some t) is }
+  goes-transfers {t = t} is = record { runs = runs; number = number; can = pending; fresh = can.1.read; target = open-on (Some t) is }
 
 -- a write that waits is one to a pipe
 pub pipe-only : {k : Kernel} {i : ℕ} {w : Pending} (n offset : ℕ) → Transfers k i Write (OnNode n offset) w → IsForPipe (opens_of k.files) (descriptors_at k i) w → ⊥

@@ -6,11 +6,11 @@ use Rattle.std.specs.List.{position_or_len}
 use Rattle.std.proofs.lemmas.Bool.{le-ltb, lt-ltb}
 use Rattle.std.proofs.lemmas.List.Sums.{position_or_len_is}
 use Rattle.calls.specs.Does.{IsMade}
-use Rattle.calls.specs.Kernel.{Kernel, base, loaded, memories, rest_of, state_of, stopped_at, ticked, typed}
-use Rattle.calls.specs.Sound.{IsKernel, is_at}
-use Rattle.calls.proofs.Changes.{length-active, other-at, running-active}
-use Rattle.calls.proofs.Rows.{stops-run}
-use Rattle.calls.proofs.Runs.{eq-self, run-of, slot-within}
+use Rattle.kernel.specs.Kernel.{Kernel, base, loaded, memories, rest_of, state_of, stopped_at, ticked, typed}
+use Rattle.kernel.specs.Sound.{IsKernel, is_at}
+use Rattle.kernel.proofs.Changes.{length-active, other-at, running-active}
+use Rattle.kernel.proofs.Leaving.{stops-run}
+use Rattle.kernel.proofs.Runs.{eq-self, run-of, slot-within}
 use Rattle.proc.specs.declared.process.Process.{Process}
 use Rattle.proc.specs.Places as table
 use Rattle.proc.specs.Places.{place_where}

@@ -1,14 +1,14 @@
 -- Bytes that are read, and nodes that are open.
-use Rattle.std.proofs.Common.{◌≡◌, ℕ, ◌<◌, ◌≤◌, ◌^◌, Bool, true, false, nat_le, List, [], length, take, Option, Some, None, is_some, unwrap_or, ℤ, pos, negsuc, refl, ap, sym, ◌∙◌, arith}
+use Rattle.std.proofs.Common.{◌≡◌, ℕ, ◌<◌, ◌≤◌, ◌^◌, Bool, true, false, nat_le, List, [], length, take, Some, None, is_some, unwrap_or, ℤ, pos, negsuc, refl, ap, sym, ◌∙◌, arith}
 use Rattle.std.specs.Prelude.{if◌then◌else◌}
 use Rattle.std.specs.Int.{cast_signed, cast_unsigned, w32}
 use Rattle.std.proofs.lemmas.Bool.{leb-true}
 use Rattle.std.proofs.lemmas.Int.{of_z-to_z}
 use Rattle.std.proofs.lemmas.List.{length-take-le}
-use Rattle.calls.specs.Kernel.{Kernel, descriptors_at}
-use Rattle.calls.specs.Sound.{IsKernel, IsOpenOn, console_file}
+use Rattle.kernel.specs.Kernel.{Kernel, descriptors_at}
+use Rattle.kernel.specs.Sound.{IsKernel, IsOpenOn, console_file}
 use Rattle.calls.specs.Transfers.{target_named}
-use Rattle.calls.proofs.Opens.{file-at}
+use Rattle.kernel.proofs.Opens.{file-at}
 use Rattle.files.specs.Places.{opens_of}
 use Rattle.unixmodel.specs.declared.trap.Access.TheVariants.{Load}
 use Rattle.unixmodel.specs.FileCalls.{is_usable}

@@ -1,18 +1,18 @@
 -- What a call of the running process makes of the state, once it has begun, and what the kernel's function for it promises.
 use Rattle.std.specs.Io.KnownBytes.{Appends}
-use Rattle.std.specs.Prelude.{Err, List, None, Ok, Option, Result, Some, [], negsuc, slice_index, ℕ, ◌%◌, ◌≡◌}
+use Rattle.std.specs.Prelude.{Err, List, None, Ok, Option, Result, Some, [], negsuc, slice_index, ℕ, ◌%◌, ◌∷◌, ◌≡◌}
 use Rattle.std.specs.Int.{cast_signed, cast_unsigned, w32}
 use Rattle.calls.specs.declared.halt.Halt.{Halt}
 use Rattle.calls.specs.declared.halt.Halt.TheVariants.{Console, Device, Halted, InitEnded}
 use Rattle.calls.specs.declared.outcome.Came.{Came}
 use Rattle.calls.specs.declared.outcome.Came.TheVariants.{Answers, Blocks, Exits, KillsItself, Refuses}
-use Rattle.calls.specs.Kernel.{Kernel, descriptors_at, state_of}
-use Rattle.calls.specs.Says.{called}
-use Rattle.calls.specs.Sound.{IsAwaiting, IsKernel, IsPending}
+use Rattle.calls.specs.Does.{IsLost, IsServed}
+use Rattle.kernel.specs.Kernel.{Kernel, argument, descriptors_at, state_of}
+use Rattle.kernel.specs.Sound.{IsAwaiting, IsKernel, IsPending}
 use Rattle.console.specs.Output.{AppendsBeginning}
 use Rattle.files.specs.Places.{opens_of}
 use Rattle.spaces.specs.Spaces.{held_at}
-use Rattle.unixmodel.specs.Calls.{call_of, end_at, goes_on, outcome_of, settle}
+use Rattle.unixmodel.specs.Calls.{After, call, call_of, end_at, goes_on, outcome_of, quiet, settle}
 use Rattle.unixmodel.specs.declared.call.Call.{Call}
 use Rattle.unixmodel.specs.declared.call.Call.TheVariants.{Close, Dup, Exit, Fork, Getpid, Kill, Pipe, Read, Sbrk, Sleep, Uptime, Wait, Write}
 use Rattle.unixmodel.specs.declared.process.Mode.TheVariants.{Waiting}
@@ -25,6 +25,36 @@ use Rattle.unixmodel.specs.Process.{with_answer, with_mode}
 use Rattle.unixmodel.specs.ProcessCalls.{marked}
 use Rattle.unixmodel.specs.Reap.{reap}
 use Rattle.unixmodel.specs.State.{State, change_process, process_at}
+
+-- ---- what the abstract Unix makes of a call
+
+-- the call of the process in a place
+abbrev pub called_by : State → ℕ → Option unix.Process → After
+called_by s i None = quiet s
+called_by s i (Some p) = call s i p
+
+abbrev pub called : State → ℕ → After
+called s i = called_by s i (process_at s i)
+
+-- a number of no call, or of a call that isn't built yet
+abbrev pub IsUnbuilt : Option Call → Type 0
+IsUnbuilt None = Unit {0}
+IsUnbuilt (Some Fork) = ⊥
+IsUnbuilt (Some Exit) = ⊥
+IsUnbuilt (Some Wait) = ⊥
+IsUnbuilt (Some Pipe) = ⊥
+IsUnbuilt (Some Read) = ⊥
+IsUnbuilt (Some Kill) = ⊥
+IsUnbuilt (Some Dup) = ⊥
+IsUnbuilt (Some Getpid) = ⊥
+IsUnbuilt (Some Sbrk) = ⊥
+IsUnbuilt (Some Sleep) = ⊥
+IsUnbuilt (Some Uptime) = ⊥
+IsUnbuilt (Some Write) = ⊥
+IsUnbuilt (Some Close) = ⊥
+IsUnbuilt (Some _) = Unit {0}
+
+-- ---- the call of the running process
 
 -- the process in place i runs
 pub record Runs (k : Kernel) (i : ℕ) : Type 0 where
@@ -44,6 +74,7 @@ outcome_at s i call = outcome_by s i call (process_at s i)
 -- e is kernel k once its process i has begun its call
 pub record IsBegun (k e : Kernel) (i : ℕ) : Type 0 where
   pub runs : Runs e i
+  pub tree : e.tree ≡ k.tree
   pub row : (call : Option Call) → call_of (low (slice_index k.spaces.registers 17)) ≡ call → called (state_of k) i ≡ settle (state_of e) i (outcome_at (state_of e) i call)
 
 -- what the process in place i comes to as it goes on with a pending call
@@ -58,12 +89,6 @@ going_at s i w = going_by s i w (process_at s i)
 abbrev pub marked_by : State → ℕ → State
 marked_by s i = change_process (change_process s i marked) i (with_answer 0)
 
--- process i, which runs, may go on with that pending call
-pub record CanGoOn (k : Kernel) (i : ℕ) (w : Pending) : Type 0 where
-  pub runs : Runs k i
-  pub pending : IsPending (descriptors_at k i) (held_at k.spaces i).memory w w.number
-  pub awaits : IsAwaiting (opens_of k.files) (descriptors_at k i) w
-
 -- the state once the call of process i is settled so
 abbrev pub settled_by : State → ℕ → Came → State
 settled_by s i (Answers value) = change_process s i (with_answer value)
@@ -72,11 +97,19 @@ settled_by s i (Blocks w) = reap (change_process s i (with_mode (Waiting w)))
 settled_by s i (Exits status) = end_at s i status (process_at s i)
 settled_by s i KillsItself = end_at (marked_by s i) i (negsuc 0) (process_at (marked_by s i) i)
 
--- a call may wait so; a status is an int
+-- the call that waits, as it begins
+abbrev pub pending_for : Kernel → Call → Pending
+pending_for k number = record { number = number; args = argument k 0 ∷ argument k 1 ∷ argument k 2 ∷ []; done = 0; since = k.ticks }
+
+-- a call may wait so
+abbrev pub CanWait : Kernel → ℕ → Pending → Type 0
+CanWait k i w = IsPending (descriptors_at k i) (held_at k.spaces i).memory w w.number × IsAwaiting (opens_of k.files) (descriptors_at k i) w
+
+-- a call may come to that: a status is an int
 abbrev pub CanCome : Kernel → ℕ → Came → Type 0
 CanCome k i (Answers value) = Unit {0}
 CanCome k i Refuses = Unit {0}
-CanCome k i (Blocks w) = IsPending (descriptors_at k i) (held_at k.spaces i).memory w w.number × IsAwaiting (opens_of k.files) (descriptors_at k i) w
+CanCome k i (Blocks w) = CanWait k i w
 CanCome k i (Exits status) = cast_signed w32 (cast_unsigned w32 status) ≡ status
 CanCome k i KillsItself = Unit {0}
 
@@ -86,6 +119,7 @@ pub record Comes (old new : Kernel) (i : ℕ) (o : Outcome) (bytes : List ℕ) (
   pub active : new.spaces.active ≡ Some i
   pub sound : IsKernel new
   pub can : CanCome new i came
+  pub served : IsServed old.tree new.tree
 
 -- a call that puts out nothing
 abbrev pub Acts : Kernel → Kernel → ℕ → Option Call → Came → Type 0
@@ -106,26 +140,9 @@ but_files s = record s { files = [] }
 -- the device's did
 abbrev pub Tries : Kernel → Kernel → ℕ → Outcome → Option (List ℕ) → Option (List ℕ) → Type 0 → Type 0 → Result Came Halt → Type 0
 Tries old new i o before after console device (Ok came) = (bytes : List ℕ) × Comes old new i o bytes came × Appends before after bytes
--- a beginning of what it puts out is on the console
-Tries old new i o before after console device (Err Console) = console × AppendsBeginning before after (settle (state_of old) i o).bytes
+-- a beginning of what it puts out is on the console, and the files are as they were
+Tries old new i o before after console device (Err Console) = console × AppendsBeginning before after (settle (state_of old) i o).bytes × (new.tree ≡ old.tree)
 -- nothing is, and all but the files is as it was
-Tries old new i o before after console device (Err Device) = device × Appends before after [] × (but_files (state_of new) ≡ but_files (state_of old))
+Tries old new i o before after console device (Err Device) = device × IsLost old.tree new.tree × Appends before after [] × (but_files (state_of new) ≡ but_files (state_of old))
 Tries old new i o before after console device (Err (InitEnded status)) = ⊥
 Tries old new i o before after console device (Err Halted) = ⊥
-
--- the calls that are served so
-abbrev pub IsAtOnce : Option Call → Type 0
-IsAtOnce (Some Read) = Unit {0}
-IsAtOnce (Some Write) = Unit {0}
-IsAtOnce (Some Fork) = Unit {0}
-IsAtOnce (Some Getpid) = Unit {0}
-IsAtOnce (Some Sbrk) = Unit {0}
-IsAtOnce (Some Dup) = Unit {0}
-IsAtOnce (Some Close) = Unit {0}
-IsAtOnce (Some Sleep) = Unit {0}
-IsAtOnce (Some Uptime) = Unit {0}
-IsAtOnce (Some Exit) = Unit {0}
-IsAtOnce (Some Wait) = Unit {0}
-IsAtOnce (Some Kill) = Unit {0}
-IsAtOnce (Some Pipe) = Unit {0}
-IsAtOnce _ = ⊥

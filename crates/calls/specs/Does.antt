@@ -2,9 +2,11 @@
 use Rattle.console.specs.Output.{AppendsBeginning}
 use Rattle.calls.specs.declared.halt.Halt.{Halt}
 use Rattle.calls.specs.declared.halt.Halt.TheVariants.{Console, Device, Halted, InitEnded}
-use Rattle.calls.specs.Kernel.{Kernel, state_of}
+use Rattle.kernel.specs.Kernel.{Kernel, state_of}
 use Rattle.std.specs.Io.KnownBytes.{Appends}
-use Rattle.std.specs.Prelude.{Err, List, None, Ok, Option, Result, Some, ℕ, ℤ, ◌≡◌}
+use Rattle.std.specs.Prelude.{Err, List, None, Ok, Option, Result, Some, false, true, ℕ, ℤ, ◌≡◌, ◌≤◌}
+use Rattle.tree.specs.Tree.{FileTree}
+use Rattle.unixmodel.specs.Failures.{Rises}
 use Rattle.unixmodel.specs.Calls.{After}
 
 -- the kernel's state is the one that is made, it halts so, and its bytes were printed
@@ -38,3 +40,24 @@ Does new a before after rising (Err (InitEnded status)) = Makes new a before aft
 Does new a before after rising (Err Console) = rising × AppendsBeginning before after a.bytes
 Does new a before after rising (Err Device) = ⊥
 Does new a before after rising (Err Halted) = ⊥
+
+-- ---- the files of the disk
+
+-- no access of the device has failed, and its count of failures is not lower
+pub record IsServed (old new : FileTree) : Type 0 where
+  pub up : new.failed ≡ false
+  pub later : old.failures ≤ new.failures
+
+-- an access of the device has failed, and its count of failures rose
+pub record IsLost (old new : FileTree) : Type 0 where
+  pub down : new.failed ≡ true
+  pub later : old.failures ≤ new.failures
+  pub rises : Rises old.failures new.failures
+
+-- what an event that is answered so leaves of the files of the disk
+abbrev pub LeavesTree : {X : Type 0} → FileTree → FileTree → Result X Halt → Type 0
+LeavesTree old new (Ok x) = IsServed old new
+LeavesTree old new (Err (InitEnded status)) = IsServed old new
+LeavesTree old new (Err Device) = IsLost old new
+LeavesTree old new (Err Console) = new ≡ old
+LeavesTree old new (Err Halted) = new ≡ old

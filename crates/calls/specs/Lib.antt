@@ -1,11 +1,6 @@
-pub mod Descriptors
-pub mod Kernel
-pub mod Sound
-pub mod View
-pub mod Says
+pub mod Processes
 pub mod Acts
 pub mod Does
-pub mod Shows
 pub mod Told
 pub mod Transfers
 pub mod Renamed

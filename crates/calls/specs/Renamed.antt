@@ -1,7 +1,7 @@
 -- What dup, close and pipe make of a kernel, and what the kernel's steps for them answer.
 use Rattle.std.specs.Prelude.{List, Option, Some, count_by, is_none, ℕ, ◌≡◌}
-use Rattle.calls.specs.Descriptors.{descriptors_in}
-use Rattle.calls.specs.Kernel.{Kernel}
+use Rattle.kernel.specs.Descriptors.{descriptors_in}
+use Rattle.kernel.specs.Kernel.{Kernel}
 use Rattle.files.specs.Places.{Counted, opened, opens_of, shared}
 use Rattle.proc.specs.Places.{Places, changed, with_descriptor}
 use Rattle.unixmodel.specs.Files.{free_slot, slot}

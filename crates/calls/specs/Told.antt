@@ -1,9 +1,9 @@
 -- What the kernel is asked from outside, and what it tells of a call.
-use Rattle.std.specs.Prelude.{None, Option, Some, false, pos, slice_index, true, ℕ, ◌≡◌}
+use Rattle.std.specs.Prelude.{None, Option, Some, false, pos, slice_index, ℕ, ◌≡◌}
 use Rattle.std.specs.Int.{cast_signed, w64}
 use Rattle.calls.specs.declared.outcome.Outcome.{Outcome}
 use Rattle.calls.specs.declared.outcome.Outcome.TheVariants.{Blocks, Done, Ends}
-use Rattle.calls.specs.Kernel.{Kernel, lives}
+use Rattle.kernel.specs.Kernel.{Kernel}
 use Rattle.proc.specs.declared.process.Process.{Process}
 use Rattle.unixmodel.specs.Calls.{After, quiet, resume}
 use Rattle.unixmodel.specs.declared.process.Mode.{Mode}
@@ -13,20 +13,6 @@ use Rattle.unixmodel.specs.Files.{slot}
 use Rattle.unixmodel.specs.Next as next
 use Rattle.unixmodel.specs.Process as unix
 use Rattle.unixmodel.specs.State.{State, process_at}
-
--- ---- the end of a process
-
-abbrev pub IsAlive : Option Process → Type 0
-IsAlive None = ⊥
-IsAlive (Some p) = lives p ≡ true
-
-abbrev pub CanEndIn : Kernel → ℕ → Option ℕ → Type 0
-CanEndIn k i None = IsAlive (slot k.table.places i)
-CanEndIn k i (Some j) = j ≡ i
-
--- process i runs; or none runs, and it has not ended
-abbrev pub CanEnd : Kernel → ℕ → Type 0
-CanEnd k i = CanEndIn k i k.spaces.active
 
 -- ---- a process that waits
 

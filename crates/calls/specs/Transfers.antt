@@ -1,10 +1,10 @@
 -- How read and write begin, and go on with what a descriptor names. Which of them it is goes by the end of a pipe that it
 -- would use.
-use Rattle.std.specs.Prelude.{Bool, Option, Some, is_some, option_map, ℕ, ◌≡◌}
+use Rattle.std.specs.Prelude.{Bool, List, Option, Some, is_some, length, option_map, take, ℕ, ◌≡◌, ◌≤◌}
 use Rattle.std.specs.Result.{result_ok}
 use Rattle.calls.specs.Acts.{Runs, going_at, outcome_at}
-use Rattle.calls.specs.Kernel.{Kernel, descriptors_at, state_of}
-use Rattle.calls.specs.Sound.{IsFresh, IsPending, file_named}
+use Rattle.kernel.specs.Kernel.{Kernel, descriptors_at, state_of}
+use Rattle.kernel.specs.Sound.{IsFresh, IsPending, file_named}
 use Rattle.files.specs.declared.file.End.{End}
 use Rattle.files.specs.declared.file.End.TheVariants as end
 use Rattle.files.specs.Places.{opens_of, readable_at, writable_at}
@@ -56,3 +56,9 @@ OnThePipe k i end q w = (e : unix.End) × Transfers k i end (OnPipe q e) w
 pub record Begins (k : Kernel) (i : ℕ) (end : End) (t : Target) (w : Pending) : Type 0 where
   pub goes : Transfers k i end t w
   pub row : outcome_at (state_of k) i (Some (call_on end)) ≡ limited (going_at (state_of k) i w)
+
+-- ---- write
+
+-- a front of some bytes
+abbrev pub IsFront : List ℕ → List ℕ → Type 0
+IsFront front bytes = (length front ≤ length bytes) × (front ≡ take (length front) bytes)

@@ -1,23 +1,22 @@
 //! The calls: each row of the table of calls is a function.
-ghost use Rattle.std.specs.Prelude.{◌≡◌, ◌≤◌, Some, None, true, slice_index};
-ghost use Rattle.calls.specs.Acts.{IsAtOnce, Runs, Tries, outcome_at};
-ghost use Rattle.calls.specs.Does.{Dispatches};
-ghost use Rattle.calls.specs.Kernel.{state_of};
-ghost use Rattle.calls.specs.Says.{IsUnbuilt, called};
-ghost use Rattle.unixmodel.specs.Calls.{call_of, quiet};
+ghost use Rattle.std.specs.Prelude.{◌≡◌, ◌≤◌, Some};
+ghost use Rattle.calls.specs.Acts.{IsBegun, Runs, Tries, called, outcome_at};
+ghost use Rattle.calls.specs.Does.{Dispatches, LeavesTree};
+ghost use Rattle.kernel.specs.Kernel.{state_of};
+ghost use Rattle.unixmodel.specs.Calls.{call_of};
 ghost use Rattle.unixmodel.specs.Failures.{Rises};
-ghost use Rattle.unixmodel.specs.Numbers.{low};
 
+use crate::descriptor_calls::{close, dup, pipe};
 use crate::halt::Halt;
-use crate::kernel::Kernel;
-use crate::numbers::low;
-use crate::outcome::Came;
+use crate::outcome::{Came, settle};
+use crate::process_calls::{exit, fork, getpid, kill, sbrk, sleep, uptime, wait};
+use crate::transfer_calls::{read, write};
+use blockdev::BlockDev;
 use console::Out;
+use kernel::Kernel;
+use kernel::numbers::low;
 use sv39::Translate;
 use unixmodel::call::Call;
-
-/// a0 of a call that is refused.
-pub const REFUSED: u64 = u64::MAX;
 
 // The call that has a number.
 fn call_of(number: u32) -> Option<Call>
@@ -49,96 +48,67 @@ fn call_of(number: u32) -> Option<Call>
     }
 }
 
-// A call that is refused.
-fn refuse<T: Translate + Drop>(kernel: &mut Kernel<T>, at: usize)
-    requires running { kernel.old.spaces.active ≡ Some at }
-    requires number { IsUnbuilt (call_of (low (slice_index kernel.old.spaces.registers 17))) }
-    ensures gives { called (state_of kernel.old) at ≡ quiet (state_of kernel.new) }
+/// The running process begins its call: the pc goes on by 4.
+pub(crate) fn begin<D: BlockDev, T: Translate + Drop>(kernel: &mut Kernel<D, T>, at: usize)
+    requires { kernel.old.spaces.active ≡ Some at }
+    ensures { IsBegun kernel.old kernel.new at }
 {
+    kernel.is_sound();
     kernel.enter();
-    kernel.answer(REFUSED);
 }
 
-// A call, but for what it comes to. `Console`: the console failed.
-fn act<T: Translate + Drop, W: Out>(
-    kernel: &mut Kernel<T>,
+// A call that has begun, but for what it comes to; one that isn't built yet is refused. `Console`: the console failed.
+fn act<D: BlockDev, T: Translate + Drop, W: Out>(
+    kernel: &mut Kernel<D, T>,
     at: usize,
     call: Option<Call>,
     console: &mut W,
 ) -> Result<Came, Halt>
-    requires runs { Runs kernel.old at }
-    requires at_once { IsAtOnce call }
+    requires { Runs kernel.old at }
     ensures tries { Tries kernel.old kernel.new at (outcome_at (state_of kernel.old) at call) (W.contents console.old) (W.contents console.new) (Rises (W.failures console.old) (W.failures console.new)) ⊥ result }
     ensures later { W.failures console.old ≤ W.failures console.new }
 {
     match call {
-        Some(Call::Fork) => Ok(kernel.fork(at)),
-        Some(Call::Read) => Ok(kernel.read(at)),
-        Some(Call::Write) => kernel.write(at, console),
-        Some(Call::Exit) => Ok(kernel.exit(at)),
-        Some(Call::Wait) => Ok(kernel.wait(at)),
-        Some(Call::Kill) => Ok(kernel.kill(at)),
-        Some(Call::Pipe) => Ok(kernel.pipe(at)),
-        Some(Call::Getpid) => Ok(kernel.getpid(at)),
-        Some(Call::Sleep) => Ok(kernel.sleep(at)),
-        Some(Call::Uptime) => Ok(kernel.uptime(at)),
-        Some(Call::Sbrk) => Ok(kernel.sbrk(at)),
-        Some(Call::Dup) => Ok(kernel.dup(at)),
-        Some(Call::Close) => Ok(kernel.close(at)),
-        _ => unreachable!(),
+        Some(Call::Fork) => Ok(fork(kernel, at)),
+        Some(Call::Read) => Ok(read(kernel, at)),
+        Some(Call::Write) => write(kernel, at, console),
+        Some(Call::Exit) => Ok(exit(kernel, at)),
+        Some(Call::Wait) => Ok(wait(kernel, at)),
+        Some(Call::Kill) => Ok(kill(kernel, at)),
+        Some(Call::Pipe) => Ok(pipe(kernel, at)),
+        Some(Call::Getpid) => Ok(getpid(kernel, at)),
+        Some(Call::Sleep) => Ok(sleep(kernel, at)),
+        Some(Call::Uptime) => Ok(uptime(kernel, at)),
+        Some(Call::Sbrk) => Ok(sbrk(kernel, at)),
+        Some(Call::Dup) => Ok(dup(kernel, at)),
+        Some(Call::Close) => Ok(close(kernel, at)),
+        Some(Call::Exec) => Ok(Came::Refuses),
+        Some(Call::Fstat) => Ok(Came::Refuses),
+        Some(Call::Chdir) => Ok(Came::Refuses),
+        Some(Call::Open) => Ok(Came::Refuses),
+        Some(Call::Mknod) => Ok(Came::Refuses),
+        Some(Call::Unlink) => Ok(Came::Refuses),
+        Some(Call::Link) => Ok(Came::Refuses),
+        Some(Call::Mkdir) => Ok(Came::Refuses),
+        None => Ok(Came::Refuses),
     }
-}
-
-// A call that is answered at once.
-fn answer<T: Translate + Drop, W: Out>(
-    kernel: &mut Kernel<T>,
-    at: usize,
-    call: Option<Call>,
-    console: &mut W,
-) -> Result<(), Halt>
-    requires running { kernel.old.spaces.active ≡ Some at }
-    requires number { call_of (low (slice_index kernel.old.spaces.registers 17)) ≡ call }
-    requires at_once { IsAtOnce call }
-    ensures gives { Dispatches kernel.new (called (state_of kernel.old) at) (W.contents console.old) (W.contents console.new) (Rises (W.failures console.old) (W.failures console.new)) result }
-    ensures later { W.failures console.old ≤ W.failures console.new }
-{
-    kernel.begin(at);
-    let came = act(kernel, at, call, console)?;
-    kernel.settle(at, came);
-    Ok(())
 }
 
 /// The call that the running process makes.
 #[inline(never)]
-pub fn call<T: Translate + Drop, W: Out>(
-    kernel: &mut Kernel<T>,
+pub fn call<D: BlockDev, T: Translate + Drop, W: Out>(
+    kernel: &mut Kernel<D, T>,
     at: usize,
     console: &mut W,
 ) -> Result<(), Halt>
     requires running { kernel.old.spaces.active ≡ Some at }
     ensures gives { Dispatches kernel.new (called (state_of kernel.old) at) (W.contents console.old) (W.contents console.new) (Rises (W.failures console.old) (W.failures console.new)) result }
+    ensures tree { LeavesTree kernel.old.tree kernel.new.tree result }
     ensures later { W.failures console.old ≤ W.failures console.new }
 {
     let call = call_of(low(kernel.argument(7)));
-    match call {
-        Some(
-            Call::Read
-            | Call::Write
-            | Call::Fork
-            | Call::Exit
-            | Call::Wait
-            | Call::Kill
-            | Call::Pipe
-            | Call::Getpid
-            | Call::Sbrk
-            | Call::Sleep
-            | Call::Uptime
-            | Call::Dup
-            | Call::Close,
-        ) => answer(kernel, at, call, console),
-        _ => {
-            refuse(kernel, at);
-            Ok(())
-        }
-    }
+    begin(kernel, at);
+    let came = act(kernel, at, call, console)?;
+    settle(kernel, at, came);
+    Ok(())
 }

@@ -1,15 +1,15 @@
-//! The kernel of many processes: events in, the calls that they make, and the turns.
+//! The rows of the table of calls, and the events of a machine that make them.
 #![tactic(auto)]
 
 mod calls;
-mod descriptors;
-mod dispatch;
+mod descriptor_calls;
+mod events;
 mod halt;
-mod kernel;
-mod numbers;
 mod outcome;
-mod ready;
+mod process_calls;
+mod transfer_calls;
 
+pub use events::{dispatch, end, key, resume, step, tick};
 pub use halt::Halt;
 pub use kernel::Kernel;
 pub use outcome::Outcome;

@@ -1,6 +1,19 @@
-//! What a call came to.
+//! What a call came to, and how that is settled.
+ghost use Rattle.std.specs.Prelude.{◌≡◌, Some};
+ghost use Rattle.calls.specs.Acts.{CanCome, pending_for, settled_by};
+ghost use Rattle.kernel.specs.Kernel.{state_of};
 
+use blockdev::BlockDev;
+use kernel::Kernel;
+use sv39::Translate;
+use unixmodel::call::Call;
 use unixmodel::process::Pending;
+
+/// a0 of a call that is refused.
+pub const REFUSED: u64 = u64::MAX;
+
+/// The status of a process that kill or a fault ended.
+pub const KILLED: i32 = -1;
 
 /// What a call of a process came to.
 #[derive(Clone, Copy, Debug, PartialEq, Eq)]
@@ -26,4 +39,44 @@ pub enum Came {
     Exits(i32),
     /// The process has killed itself: it is answered with 0, and ends.
     KillsItself,
+}
+
+/// The call that the process in place `at` makes, as it begins to wait.
+pub(crate) fn pending<D: BlockDev, T: Translate + Drop>(
+    kernel: &Kernel<D, T>,
+    number: Call,
+) -> Pending
+    ensures { result ≡ pending_for kernel.now number }
+{
+    Pending {
+        number,
+        args: [kernel.argument(0), kernel.argument(1), kernel.argument(2)],
+        done: 0,
+        since: kernel.ticks,
+    }
+}
+
+/// A call of the running process is done.
+pub(crate) fn settle<D: BlockDev, T: Translate + Drop>(
+    kernel: &mut Kernel<D, T>,
+    at: usize,
+    came: Came,
+)
+    requires running { kernel.old.spaces.active ≡ Some at }
+    requires can { CanCome kernel.old at came }
+    ensures gives { state_of kernel.new ≡ settled_by (state_of kernel.old) at came }
+    ensures tree { kernel.new.tree ≡ kernel.old.tree }
+{
+    kernel.is_sound();
+    match came {
+        Came::Answers(value) => kernel.answer(value),
+        Came::Refuses => kernel.answer(REFUSED),
+        Came::Blocks(pending) => kernel.block(at, pending),
+        Came::Exits(status) => kernel.finish(at, status),
+        Came::KillsItself => {
+            kernel.answer(0);
+            kernel.finish(at, KILLED);
+            kernel.mark(at);
+        }
+    }
 }

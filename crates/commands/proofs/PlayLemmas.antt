@@ -14,18 +14,18 @@ use Rattle.unixmodel.specs.Run.{after_bytes, run}
 use Rattle.unixmodel.specs.State.{State}
 
 -- the model's run over both lists
-both : {D : Type 0} (failures : D → ℕ) (first now : Told D) (xs ys : List Event) (before mid : Option (List ℕ))
-    → SoFar failures first now xs before mid
+both : (first now : Told) (xs ys : List Event) (before mid : Option (List ℕ))
+    → SoFar first now xs before mid
     → run first.state (xs ++ ys) ≡ after_bytes (run first.state xs).bytes (run now.state ys)
 unfolding run
-both failures first now xs ys before mid h =
+both first now xs ys before mid h =
     let goes : then_runs ys (run first.state xs) (run first.state xs).state.halted ≡ after_bytes (run first.state xs).bytes (run (run first.state xs).state ys) = rw h.done.halts refl in
     run-append xs ys first.state h.began.goes ∙ goes ∙ ap (λ s. after_bytes (run first.state xs).bytes (run s ys)) (sym h.done.state)
 
-module _ {D : Type 0} (failures : D → ℕ) (first now new : Told D) (xs ys : List Event) (before mid after : Option (List ℕ)) where
-  done_both : (r : Option ℤ) → SoFar failures first now xs before mid → IsDone failures now new (run now.state ys) mid after r
-      → IsDone failures first new (run first.state (xs ++ ys)) before after r
-  done_both r h k = rw (both failures first now xs ys before mid h) (record {
+module _ (first now new : Told) (xs ys : List Event) (before mid after : Option (List ℕ)) where
+  done_both : (r : Option ℤ) → SoFar first now xs before mid → IsDone now new (run now.state ys) mid after r
+      → IsDone first new (run first.state (xs ++ ys)) before after r
+  done_both r h k = rw (both first now xs ys before mid h) (record {
     state = k.state;
     halts = k.halts;
     sound = k.sound;
@@ -34,20 +34,20 @@ module _ {D : Type 0} (failures : D → ℕ) (first now new : Told D) (xs ys : L
   })
 
   -- a run that goes on
-  pub goes_on_by : SoFar failures first now xs before mid → IsDone failures now new (run now.state ys) mid after None
-      → SoFar failures first new (xs ++ ys) before after
+  pub goes_on_by : SoFar first now xs before mid → IsDone now new (run now.state ys) mid after None
+      → SoFar first new (xs ++ ys) before after
   goes_on_by h k = record { began = h.began; done = done_both None h k }
 
   -- a run that stops
-  pub stops_in : (step_rises rises : Type 0) (halt : Halt) → SoFar failures first now xs before mid → (step_rises → rises)
-      → RunGives failures now new ys mid after step_rises (Err halt)
-      → RunGives failures first new (xs ++ ys) before after rises (Err halt)
+  pub stops_in : (step_rises rises : Type 0) (halt : Halt) → SoFar first now xs before mid → (step_rises → rises)
+      → RunGives now new ys mid after step_rises (Err halt)
+      → RunGives first new (xs ++ ys) before after rises (Err halt)
   stops_in step_rises rises (InitEnded status) h r k = (h.began, done_both (Some status) h k.1)
   stops_in step_rises rises Device h r k =
       let n = k.1.done in
       let front : take (length xs + n) (xs ++ ys) ≡ xs ++ take n ys = take-append-add xs ys n in
       let whole : run first.state (take (length xs + n) (xs ++ ys)) ≡ after_bytes (run first.state xs).bytes (run now.state (take n ys)) =
-      ap (run first.state) front ∙ both failures first now xs (take n ys) before mid h in (
+      ap (run first.state) front ∙ both first now xs (take n ys) before mid h in (
         h.began,
         record {
           done = length xs + n;
@@ -61,20 +61,29 @@ module _ {D : Type 0} (failures : D → ℕ) (first now new : Told D) (xs ys : L
           });
         },
       )
-  stops_in step_rises rises Console h r k = (
-    h.began,
-    record {
-      rises = r k.1.rises;
-      failed = k.1.failed;
-      printed = rw (both failures first now xs ys before mid h) (record {
-        front = (run first.state xs).bytes ++ k.1.printed.front;
-        rest = k.1.printed.rest;
-        parts = append_assoc (run first.state xs).bytes k.1.printed.front k.1.printed.rest ∙ ap (λ bs. (run first.state xs).bytes ++ bs) k.1.printed.parts;
-        took = Appends-trans _ _ _ _ _ h.done.printed k.1.printed.took;
-      });
-    },
-  )
-  stops_in step_rises rises Halted h r k = absurd (k.stopped (up_now failures first now xs before mid h))
+  stops_in step_rises rises Console h r k =
+      let n = k.1.done in
+      let front : take (length xs + n) (xs ++ ys) ≡ xs ++ take n ys = take-append-add xs ys n in
+      let whole : run first.state (take (length xs + n) (xs ++ ys)) ≡ after_bytes (run first.state xs).bytes (run now.state (take n ys)) =
+      ap (run first.state) front ∙ both first now xs (take n ys) before mid h in (
+        h.began,
+        record {
+          rises = r k.1.rises;
+          failed = k.1.failed;
+          printed = rw (both first now xs ys before mid h) (record {
+            front = (run first.state xs).bytes ++ k.1.printed.front;
+            rest = k.1.printed.rest;
+            parts = append_assoc (run first.state xs).bytes k.1.printed.front k.1.printed.rest ∙ ap (λ bs. (run first.state xs).bytes ++ bs) k.1.printed.parts;
+            took = Appends-trans _ _ _ _ _ h.done.printed k.1.printed.took;
+          });
+          done = length xs + n;
+          more = rw (length-append xs ys) (let m = k.1.more in omega arith);
+          goes = rw whole k.1.goes;
+          files = rw whole k.1.files;
+          later = let l = h.done.later in let m = k.1.later in omega arith;
+        },
+      )
+  stops_in step_rises rises Halted h r k = absurd (k.stopped (up_now first now xs before mid h))
 
 -- what the first events print is a beginning of what all print
 begins_both : (xs ys : List Event) (s : State) → s.halted ≡ None → (rest : List ℕ) × ((run s xs).bytes ++ rest ≡ (run s (xs ++ ys)).bytes)
@@ -85,12 +94,12 @@ begins_both xs ys s up = rw (run-append xs ys s up) (begins (run s xs) (run s xs
     begins a None = ((run a.state ys).bytes, refl)
 
 -- a run that stopped is answered in the same way whatever events follow
-pub stops_before : {D : Type 0} (failures : D → ℕ) (old new : Told D) (ys zs : List Event) (before after : Option (List ℕ)) (rises : Type 0) (halt : Halt)
-    → RunGives failures old new ys before after rises (Err halt) → RunGives failures old new (ys ++ zs) before after rises (Err halt)
-stops_before failures old new ys zs before after rises (InitEnded status) k =
+pub stops_before : (old new : Told) (ys zs : List Event) (before after : Option (List ℕ)) (rises : Type 0) (halt : Halt)
+    → RunGives old new ys before after rises (Err halt) → RunGives old new (ys ++ zs) before after rises (Err halt)
+stops_before old new ys zs before after rises (InitEnded status) k =
     let whole : run old.state (ys ++ zs) ≡ run old.state ys = run-append ys zs old.state k.0.goes ∙ rw k.1.halts refl in
     (k.0, rw whole k.1)
-stops_before failures old new ys zs before after rises Device k =
+stops_before old new ys zs before after rises Device k =
     let n = k.1.done in
     let front : take n (ys ++ zs) ≡ take n ys = take-append-le n ys zs (let m = k.1.more in omega arith) in (
       k.0,
@@ -101,7 +110,9 @@ stops_before failures old new ys zs before after rises Device k =
         fails = rw front k.1.fails;
       },
     )
-stops_before failures old new ys zs before after rises Console k =
+stops_before old new ys zs before after rises Console k =
+    let n = k.1.done in
+    let front : take n (ys ++ zs) ≡ take n ys = take-append-le n ys zs (let m = k.1.more in omega arith) in
     let more = begins_both ys zs old.state k.0.goes in (
       k.0,
       record {
@@ -113,23 +124,28 @@ stops_before failures old new ys zs before after rises Console k =
           parts = sym (append_assoc k.1.printed.front k.1.printed.rest more.0) ∙ ap (λ bs. bs ++ more.0) k.1.printed.parts ∙ more.1;
           took = k.1.printed.took;
         };
+        done = n;
+        more = rw (length-append ys zs) (let m = k.1.more in omega arith);
+        goes = rw front k.1.goes;
+        files = rw front k.1.files;
+        later = k.1.later;
       },
     )
-stops_before failures old new ys zs before after rises Halted k = k
+stops_before old new ys zs before after rises Halted k = k
 
 -- a result that is handed on
-pub ends_with : {D : Type 0} (failures : D → ℕ) (old new : Told D) (all ys zs : List Event) (before after : Option (List ℕ)) (rises : Type 0)
+pub ends_with : (old new : Told) (all ys zs : List Event) (before after : Option (List ℕ)) (rises : Type 0)
     (r : Result (Unit {0}) Halt) (given halt : Halt) → all ≡ ys ++ zs → r ≡ Err given → given ≡ halt
-    → RunGives failures old new ys before after rises (Err halt) → RunGives failures old new all before after rises r
-ends_with failures old new all ys zs before after rises r given halt whole is same k =
-    rw (whole, is, same) (stops_before failures old new ys zs before after rises halt k)
+    → RunGives old new ys before after rises (Err halt) → RunGives old new all before after rises r
+ends_with old new all ys zs before after rises r given halt whole is same k =
+    rw (whole, is, same) (stops_before old new ys zs before after rises halt k)
 
 -- a run that is followed by a second is answered as the second
-pub runs_on : {D : Type 0} (failures : D → ℕ) (first now new : Told D) (xs ys : List Event) (before mid after : Option (List ℕ)) (step_rises rises : Type 0)
-    (r : Result (Unit {0}) Halt) → SoFar failures first now xs before mid → (step_rises → rises)
-    → RunGives failures now new ys mid after step_rises r → RunGives failures first new (xs ++ ys) before after rises r
-runs_on failures first now new xs ys before mid after step_rises rises (Ok u) h r k =
-    let d = goes_on_by failures first now new xs ys before mid after h k.1 in
+pub runs_on : (first now new : Told) (xs ys : List Event) (before mid after : Option (List ℕ)) (step_rises rises : Type 0)
+    (r : Result (Unit {0}) Halt) → SoFar first now xs before mid → (step_rises → rises)
+    → RunGives now new ys mid after step_rises r → RunGives first new (xs ++ ys) before after rises r
+runs_on first now new xs ys before mid after step_rises rises (Ok u) h r k =
+    let d = goes_on_by first now new xs ys before mid after h k.1 in
     (d.began, d.done)
-runs_on failures first now new xs ys before mid after step_rises rises (Err halt) h r k =
-    stops_in failures first now new xs ys before mid after step_rises rises halt h r k
+runs_on first now new xs ys before mid after step_rises rises (Err halt) h r k =
+    stops_in first now new xs ys before mid after step_rises rises halt h r k

@@ -24,7 +24,7 @@ fn repeat<D: BlockDev, T: Translate + Drop, W: Out>(
     out: &mut W,
 ) -> Result<(), Halt>
     requires { IsUp machine.old }
-    ensures gives { RunGives D.failures machine.old machine.new (replicate times event) (W.contents out.old) (W.contents out.new) (Rises (W.failures out.old) (W.failures out.new)) result }
+    ensures gives { RunGives machine.old machine.new (replicate times event) (W.contents out.old) (W.contents out.new) (Rises (W.failures out.old) (W.failures out.new)) result }
     ensures later { W.failures out.old ≤ W.failures out.new }
 {
     for _made in 0..times {
@@ -40,7 +40,7 @@ fn press<D: BlockDev, T: Translate + Drop, W: Out>(
     out: &mut W,
 ) -> Result<(), Halt>
     requires { IsUp machine.old }
-    ensures gives { RunGives D.failures machine.old machine.new (map Key keys.now) (W.contents out.old) (W.contents out.new) (Rises (W.failures out.old) (W.failures out.new)) result }
+    ensures gives { RunGives machine.old machine.new (map Key keys.now) (W.contents out.old) (W.contents out.new) (Rises (W.failures out.old) (W.failures out.new)) result }
     ensures later { W.failures out.old ≤ W.failures out.new }
 {
     for key in keys {
@@ -56,7 +56,7 @@ fn obey<D: BlockDev, T: Translate + Drop, W: Out>(
     out: &mut W,
 ) -> Result<(), Halt>
     requires { IsUp machine.old }
-    ensures gives { RunGives D.failures machine.old machine.new (events_of command.now) (W.contents out.old) (W.contents out.new) (Rises (W.failures out.old) (W.failures out.new)) result }
+    ensures gives { RunGives machine.old machine.new (events_of command.now) (W.contents out.old) (W.contents out.new) (Rises (W.failures out.old) (W.failures out.new)) result }
     ensures later { W.failures out.old ≤ W.failures out.new }
 {
     match command {
@@ -78,7 +78,7 @@ pub fn play<D: BlockDev, T: Translate + Drop, W: Out>(
     out: &mut W,
 ) -> Result<(), Halt>
     requires { IsUp machine.old }
-    ensures gives { RunGives D.failures machine.old machine.new (script_events script.now) (W.contents out.old) (W.contents out.new) (Rises (W.failures out.old) (W.failures out.new)) result }
+    ensures gives { RunGives machine.old machine.new (script_events script.now) (W.contents out.old) (W.contents out.new) (Rises (W.failures out.old) (W.failures out.new)) result }
     ensures later { W.failures out.old ≤ W.failures out.new }
 {
     for command in script {

@@ -1,13 +1,14 @@
 -- A flat program in memory, and the state and the kernel that begin with it.
 use lib.Seq.{drop-append-add}
-use Rattle.calls.specs.Descriptors.{IsCounted, named_by, names_in}
-use Rattle.calls.specs.Kernel.{memory_in, state_of}
-use Rattle.calls.specs.Sound.{IsKernel, IsLive, IsOpenFile, IsOpened, IsPlace, IsPlaced, WaitsWell, console_file}
+use Rattle.kernel.specs.Descriptors.{IsCounted, named_by, names_in}
+use Rattle.kernel.specs.Kernel.{memory_in, state_of}
+use Rattle.kernel.specs.Sound.{IsFiled, IsKernel, IsLive, IsOpenFile, IsOpened, IsPlace, IsPlaced, WaitsWell, console_file}
 use Rattle.files.specs.Counts.{names, names-free, one_in}
 use Rattle.files.specs.declared.table.FileFault.{FileFault}
 use Rattle.files.specs.Places.{Counted, count_at, count_in, opened, opens_of, place_for}
 use Rattle.files.specs.Whole.{slot-opens}
 use Rattle.machine.specs.Flat.{alone, bare_plan, first, first_files, first_kernel, first_table, flat_memory, flat_space}
+use Rattle.mount.specs.Mounted.{IsFlat}
 use Rattle.proc.specs.declared.process.Process.{Process}
 use Rattle.proc.specs.Places.{is_running, seated}
 use Rattle.proc.specs.Whole.{joined, joined-free_slots}
@@ -21,8 +22,9 @@ use Rattle.std.proofs.lemmas.List.Sums.{sum_by-cons}
 use Rattle.std.proofs.Math.Nat.{zero-add}
 use Rattle.std.proofs.Math.Seq.{take-append-add}
 use Rattle.std.specs.Prelude.{IfOk, if◌then◌else◌, option_map, slice_index, sum_by, ◌==◌}
+use Rattle.tree.specs.Tree.{FileTree}
 use Rattle.unixmodel.specs.Counts.{frames_of, page_frames}
-use Rattle.unixmodel.specs.Files.{free_slots, slot}
+use Rattle.unixmodel.specs.Files.{Files, free_slots, slot}
 use Rattle.unixmodel.specs.Memory.{Marks, Memory, Page, overwrite, pages_of, write_bytes, write_from, zero_page, zeros}
 use Rattle.unixmodel.specs.Numbers.{ceil_div, le, round_down}
 use Rattle.unixmodel.specs.OpenFiles.{OpenFile}
@@ -133,10 +135,6 @@ length-free : (X : Type 0) (n : ℕ) → let free : List (Option X) = replicate 
 length-free X zero = refl
 length-free X (suc n) = ap suc (length-free X n)
 
-map-free : (n : ℕ) → map memory_in (replicate n None) ≡ replicate n []
-map-free zero = refl
-map-free (suc n) = ap (λ ms. [] ∷ ms) (map-free n)
-
 no-frames : (n : ℕ) → sum_by frames_in (replicate n None) ≡ 0
 no-frames zero = refl
 no-frames (suc n) = omega (arith, sum_by-cons frames_in None (replicate n None), no-frames n)
@@ -148,10 +146,12 @@ taken-alone frames h = omega (arith, sum_by-cons frames_in (Some h) (replicate 6
 abbrev begun : ℕ → Held → State
 begun frames h = first_state flat_files 27 frames flat_opens (first_process (bare_plan h.memory h.size) flat_descriptors)
 
-state-first : (frames : ℕ) (h : Held) → state_of (first_kernel frames h) ≡ begun frames h
+state-first : (tree : FileTree) → IsFlat tree → (frames : ℕ) (h : Held) → state_of (first_kernel tree frames h) ≡ begun frames h
 unfolding joined flat_opens free_slots
-state-first frames h =
-    ap (λ (places : List (Option unix.Process)). record (begun frames h) { places = Some (first_process (bare_plan h.memory h.size) flat_descriptors) ∷ places })
+state-first tree flat frames h =
+    ap (λ (files : Files). record (state_of (first_kernel tree frames h)) { files = files }) flat.files
+    ∙ ap (λ (limit : ℕ). record (state_of (first_kernel tree frames h)) { files = flat_files; block_limit = limit }) flat.limit
+    ∙ ap (λ (places : List (Option unix.Process)). record (begun frames h) { places = Some (first_process (bare_plan h.memory h.size) flat_descriptors) ∷ places })
     (joined-free_slots 63 (map memory_in (replicate 63 None)))
 
 frames-begun : (frames : ℕ) (h : Held) → frames_of (begun frames h) ≡ 4 + page_frames (length h.memory)
@@ -162,10 +162,10 @@ starts : (bytes : List ℕ) (frames : ℕ) → start_flat bytes frames ≡ if_fi
 unfolding start_flat
 starts bytes frames = rw (plan-is bytes) refl
 
-pub start-fits : (bytes : List ℕ) (frames : ℕ) → 4 + page_frames (length (flat_memory bytes)) ≤ frames → start_flat bytes frames ≡ Some (state_of (first_kernel frames (flat_space bytes)))
-start-fits bytes frames fits =
+pub start-fits : (tree : FileTree) → IsFlat tree → (bytes : List ℕ) (frames : ℕ) → 4 + page_frames (length (flat_memory bytes)) ≤ frames → start_flat bytes frames ≡ Some (state_of (first_kernel tree frames (flat_space bytes)))
+start-fits tree flat bytes frames fits =
     let within : nat_le (frames_of (begun frames (flat_space bytes))) frames ≡ true = rw (frames-begun frames (flat_space bytes)) (le-leb _ _ fits) in
-    starts bytes frames ∙ rw within (ap Some (sym (state-first frames (flat_space bytes))))
+    starts bytes frames ∙ rw within (ap Some (sym (state-first tree flat frames (flat_space bytes))))
 
 pub start-over : (bytes : List ℕ) (frames : ℕ) → frames < 4 + page_frames (length (flat_memory bytes)) → start_flat bytes frames ≡ None
 start-over bytes frames over =
@@ -249,14 +249,18 @@ first-opened size = record {
   waits = first-waits size;
 }
 
-pub first-sound : (frames : ℕ) (h : Held) → 4 + page_frames (length h.memory) ≤ frames → IsKernel (first_kernel frames h)
-first-sound frames h fits = record {
+first-filed : (tree : FileTree) → IsFlat tree → IsFiled tree None
+first-filed tree flat = record { up = λ i e. absurd (cc); flat = λ up. flat.files; limit = λ up. flat.limit }
+
+pub first-sound : (tree : FileTree) → IsFlat tree → (frames : ℕ) (h : Held) → 4 + page_frames (length h.memory) ≤ frames → IsKernel (first_kernel tree frames h)
+first-sound tree flat frames h fits = record {
   all = first-all h.size;
   spaces = ap suc (length-free Held 63);
   stands = first-stands h;
   runs = first-rests h.size;
   fits = rw (taken-alone frames h) fits;
   opened = first-opened h.size;
+  filed = first-filed tree flat;
 }
 
 pub table-first : (size : ℕ) → seated (record { places = free_slots 64; last = 63; next_pid = 1 }) (first size) (record { place = 0; pid = 1 }) ≡ first_table size

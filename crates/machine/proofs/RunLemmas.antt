@@ -27,18 +27,18 @@ pub Rises-later : (a b c : ℕ) → a ≤ b → Rises b c → b ≤ c → Rises 
 Rises-later a b c ab bc l = omega arith
 
 -- all events so far are done as the model says, and the machine takes more
-pub record SoFar {D : Type 0} (failures : D → ℕ) (first now : Told D) (events : List Event) (before after : Option (List ℕ)) : Type 0 where
+pub record SoFar (first now : Told) (events : List Event) (before after : Option (List ℕ)) : Type 0 where
   pub began : IsUp first
-  pub done : IsDone failures first now (run first.state events) before after None
+  pub done : IsDone first now (run first.state events) before after None
 
-pub up_now : {D : Type 0} (failures : D → ℕ) (first now : Told D) (events : List Event) (before after : Option (List ℕ)) → SoFar failures first now events before after → IsUp now
-up_now failures first now events before after h = record { sound = h.done.sound; goes = rw h.done.state h.done.halts }
+pub up_now : (first now : Told) (events : List Event) (before after : Option (List ℕ)) → SoFar first now events before after → IsUp now
+up_now first now events before after h = record { sound = h.done.sound; goes = rw h.done.state h.done.halts }
 
 -- a step that is done
-pub done_more : {D : Type 0} (failures : D → ℕ) (first now new : Told D) (xs : List Event) (e : Event) (before mid after : Option (List ℕ)) (r : Option ℤ)
-    → SoFar failures first now xs before mid → IsDone failures now new (next now.state e) mid after r
-    → IsDone failures first new (run first.state (xs ++ e ∷ [])) before after r
-done_more failures first now new xs e before mid after r h k =
+pub done_more : (first now new : Told) (xs : List Event) (e : Event) (before mid after : Option (List ℕ)) (r : Option ℤ)
+    → SoFar first now xs before mid → IsDone now new (next now.state e) mid after r
+    → IsDone first new (run first.state (xs ++ e ∷ [])) before after r
+done_more first now new xs e before mid after r h k =
     let more : run first.state (xs ++ e ∷ []) ≡ after_bytes (run first.state xs).bytes (next now.state e) =
     run-more xs e first.state h.began.goes h.done.halts ∙ ap (λ s. after_bytes (run first.state xs).bytes (next s e)) (sym h.done.state) in
     rw more (record {
@@ -75,17 +75,17 @@ begins_more before mid after xs ys zs all h k e = record {
 }
 
 -- a step that stops a run
-pub stops : {D : Type 0} (failures : D → ℕ) (first now new : Told D) (i : ℕ) (es : List Event) (e : Event) (before mid after : Option (List ℕ)) (step_rises rises : Type 0) (halt : Halt)
+pub stops : (first now new : Told) (i : ℕ) (es : List Event) (e : Event) (before mid after : Option (List ℕ)) (step_rises rises : Type 0) (halt : Halt)
     → i < length es → take (i + 1) es ≡ take i es ++ e ∷ []
-    → SoFar failures first now (take i es) before mid
+    → SoFar first now (take i es) before mid
     → (step_rises → rises)
-    → StepGives failures now new (next now.state e) mid after step_rises (Err halt)
-    → RunGives failures first new es before after rises (Err halt)
-stops failures first now new i es e before mid after step_rises rises (InitEnded status) more is h r k =
-    let d = done_more failures first now new (take i es) e before mid after (Some status) h k.1 in
+    → StepGives now new (next now.state e) mid after step_rises (Err halt)
+    → RunGives first new es before after rises (Err halt)
+stops first now new i es e before mid after step_rises rises (InitEnded status) more is h r k =
+    let d = done_more first now new (take i es) e before mid after (Some status) h k.1 in
     let halts : (run first.state (take (i + 1) es)).state.halted ≡ Some status = rw is d.halts in
     (h.began, rw (run-halts first.state (i + 1) es status h.began.goes halts, is) d)
-stops failures first now new i es e before mid after step_rises rises Device more is h r k = (
+stops first now new i es e before mid after step_rises rises Device more is h r k = (
   h.began,
   record {
     done = i;
@@ -99,7 +99,7 @@ stops failures first now new i es e before mid after step_rises rises Device mor
     };
   },
 )
-stops failures first now new i es e before mid after step_rises rises Console more is h r k = (
+stops first now new i es e before mid after step_rises rises Console more is h r k = (
   h.began,
   record {
     rises = r k.1.rises;
@@ -109,18 +109,23 @@ stops failures first now new i es e before mid after step_rises rises Console mo
         ap (λ (o : After). o.bytes) (ap (λ xs. run first.state xs) is ∙ run-more (take i es) e first.state h.began.goes h.done.halts ∙ ap (λ s. after_bytes (run first.state (take i es)).bytes (next s e)) (sym h.done.state)) in
         let all = run-begins first.state (i + 1) es h.began.goes in
         begins_more before mid after _ _ all.0 _ h.done.printed k.1.printed (ap (λ bs. bs ++ all.0) (sym more_bytes) ∙ all.1);
+    done = i;
+    more = more;
+    goes = h.done.halts;
+    files = k.1.files ∙ ap (λ (s : State). s.files) h.done.state;
+    later = let l = h.done.later in rw k.1.same l;
   },
 )
-stops failures first now new i es e before mid after step_rises rises Halted more is h r k = absurd (k.stopped (up_now failures first now (take i es) before mid h))
+stops first now new i es e before mid after step_rises rises Halted more is h r k = absurd (k.stopped (up_now first now (take i es) before mid h))
 
 pub Appends-none : (a : Option (List ℕ)) → Appends a a []
 Appends-none None = tt
 Appends-none (Some xs) = sym (append-nil xs)
 
 -- before the first event
-pub so_far_at_first : {D : Type 0} (failures : D → ℕ) (first : Told D) (at : Option (List ℕ)) → IsUp first → SoFar failures first first [] at at
+pub so_far_at_first : (first : Told) (at : Option (List ℕ)) → IsUp first → SoFar first first [] at at
 unfolding run
-so_far_at_first failures first at up = record {
+so_far_at_first first at up = record {
   began = up;
   done = record {
     state = refl;
@@ -132,11 +137,11 @@ so_far_at_first failures first at up = record {
 }
 
 -- a step that goes on
-pub goes_on : {D : Type 0} (failures : D → ℕ) (first now new : Told D) (i : ℕ) (es : List Event) (e : Event) (before mid after : Option (List ℕ))
+pub goes_on : (first now new : Told) (i : ℕ) (es : List Event) (e : Event) (before mid after : Option (List ℕ))
     → i < length es → take (i + 1) es ≡ take i es ++ e ∷ []
-    → SoFar failures first now (take i es) before mid → IsDone failures now new (next now.state e) mid after None
-    → SoFar failures first new (take (i + 1) es) before after
-goes_on failures first now new i es e before mid after more is h k = rw is (record {
+    → SoFar first now (take i es) before mid → IsDone now new (next now.state e) mid after None
+    → SoFar first new (take (i + 1) es) before after
+goes_on first now new i es e before mid after more is h k = rw is (record {
   began = h.began;
-  done = done_more failures first now new (take i es) e before mid after None h k;
+  done = done_more first now new (take i es) e before mid after None h k;
 })

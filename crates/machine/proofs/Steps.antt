@@ -1,66 +1,79 @@
 -- What an event comes to, from what the kernel makes of it.
-use Rattle.calls.specs.Does.{Dispatches, Does, Makes}
+use Rattle.calls.specs.Does.{Dispatches, Does, LeavesTree, Makes}
 use Rattle.calls.specs.declared.halt.Halt.{Halt}
 use Rattle.calls.specs.declared.halt.Halt.TheVariants.{Console, Device, Halted, InitEnded}
-use Rattle.calls.specs.Kernel.{Kernel, state_of}
-use Rattle.machine.specs.Gives.{IsDone, StepGives, fails}
+use Rattle.kernel.specs.Kernel.{Kernel, state_of}
+use Rattle.machine.specs.Gives.{ConsoleFails, IsDone, StepGives, fails}
 use Rattle.machine.proofs.RunLemmas.{Appends-none}
 use Rattle.machine.specs.Told.{IsUp, Told}
+use Rattle.console.specs.Output.{AppendsBeginning}
+use Rattle.tree.specs.Tree.{FileTree}
 use Rattle.unixmodel.specs.Calls.{After, quiet}
 use Rattle.unixmodel.specs.declared.event.Event.TheVariants.{Key, Tick}
 use Rattle.unixmodel.specs.Next.{next, stopped}
 use Rattle.unixmodel.specs.State.{State, running}
-use Rattle.std.proofs.Common.{◌≡◌, ℕ, ℤ, Bool, false, List, Option, Some, None, Result, Ok, Err, arith, refl}
+use Rattle.std.proofs.Common.{◌≡◌, ◌≤◌, ℕ, ℤ, Bool, true, false, List, Option, Some, None, Result, Ok, Err, arith, refl, ap, sym, ◌∙◌}
 
-abbrev pub told : {D : Type 0} → Kernel → D → Bool → Told D
-told k disk failed = record { state = state_of k; disk = disk; failed = failed }
+abbrev pub told : Kernel → Bool → Told
+told k failed = record { state = state_of k; failures = k.tree.failures; failed = failed }
 
-up : {D : Type 0} (k : Kernel) (disk : D) → k.halted ≡ None → IsUp (told k disk false)
-up k disk goes = record { sound = refl; goes = goes }
+up : (k : Kernel) → k.halted ≡ None → IsUp (told k false)
+up k goes = record { sound = refl; goes = goes }
 
-done-gives : {D : Type 0} (failures : D → ℕ) (old new : Kernel) (disk : D) (a : After) (before after : Option (List ℕ)) (r : Option ℤ)
-    → Makes new a before after r → IsDone failures (told old disk false) (told new disk false) a before after r
-done-gives failures old new disk a before after r made = record {
+done-gives : (old new : Kernel) (a : After) (before after : Option (List ℕ)) (r : Option ℤ)
+    → Makes new a before after r → old.tree.failures ≤ new.tree.failures → IsDone (told old false) (told new false) a before after r
+done-gives old new a before after r made later = record {
   state = made.state;
   halts = made.halts;
   sound = refl;
   printed = made.printed;
-  later = omega arith;
+  later = later;
+}
+
+-- the writer failed, and the disk is as it was
+console-gives : (old new : Kernel) (before after : Option (List ℕ)) (rising : Type 0) (bytes : List ℕ)
+    → rising → AppendsBeginning before after bytes → new.tree ≡ old.tree → ConsoleFails (told old false) (told new true) before after rising bytes
+console-gives old new before after rising bytes rises printed same = record {
+  rises = rises;
+  failed = refl;
+  printed = printed;
+  files = ap (λ (t : FileTree). t.files) same;
+  same = ap (λ (t : FileTree). t.failures) same;
 }
 
 -- what the kernel does is what the machine gives
-pub does-gives : {D : Type 0} (failures : D → ℕ) (old new : Kernel) (disk : D) (failed : Bool) (a : After) (before after : Option (List ℕ)) (rising : Type 0) (result : Result (Unit {0}) Halt)
-    → old.halted ≡ None → failed ≡ fails result → Does new a before after rising result
-    → StepGives failures (told old disk false) (told new disk failed) a before after rising result
-does-gives failures old new disk failed a before after rising (Ok u) goes flag made = rw flag (up old disk goes, done-gives failures old new disk a before after None made)
-does-gives failures old new disk failed a before after rising (Err (InitEnded status)) goes flag made = rw flag (up old disk goes, done-gives failures old new disk a before after (Some status) made)
-does-gives failures old new disk failed a before after rising (Err Console) goes flag made = rw flag (up old disk goes, record { rises = made.0; failed = refl; printed = made.1 })
-does-gives failures old new disk failed a before after rising (Err Device) goes flag made = absurd made
-does-gives failures old new disk failed a before after rising (Err Halted) goes flag made = absurd made
+pub does-gives : (old new : Kernel) (failed : Bool) (a : After) (before after : Option (List ℕ)) (rising : Type 0) (result : Result (Unit {0}) Halt)
+    → old.halted ≡ None → failed ≡ fails result → Does new a before after rising result → LeavesTree old.tree new.tree result
+    → StepGives (told old false) (told new failed) a before after rising result
+does-gives old new failed a before after rising (Ok u) goes flag made leaves = rw flag (up old goes, done-gives old new a before after None made leaves.later)
+does-gives old new failed a before after rising (Err (InitEnded status)) goes flag made leaves = rw flag (up old goes, done-gives old new a before after (Some status) made leaves.later)
+does-gives old new failed a before after rising (Err Console) goes flag made leaves = rw flag (up old goes, console-gives old new before after rising a.bytes made.0 made.1 leaves)
+does-gives old new failed a before after rising (Err Device) goes flag made leaves = absurd made
+does-gives old new failed a before after rising (Err Halted) goes flag made leaves = absurd made
 
--- an event that halts nothing: it is done, or the console failed
-pub goes-gives : {D : Type 0} (failures : D → ℕ) (old new : Kernel) (disk : D) (failed : Bool) (a : After) (before after : Option (List ℕ)) (rising : Type 0) (result : Result (Unit {0}) Halt)
-    → old.halted ≡ None → a.state.halted ≡ None → failed ≡ fails result → Dispatches new a before after rising result
-    → StepGives failures (told old disk false) (told new disk failed) a before after rising result
-goes-gives failures old new disk failed a before after rising (Ok u) goes on flag made =
-    rw flag (up old disk goes, done-gives failures old new disk a before after None (record { state = made.state; halts = on; printed = made.printed }))
-goes-gives failures old new disk failed a before after rising (Err (InitEnded status)) goes on flag made = absurd made
-goes-gives failures old new disk failed a before after rising (Err Console) goes on flag made = rw flag (up old disk goes, record { rises = made.0; failed = refl; printed = made.1 })
-goes-gives failures old new disk failed a before after rising (Err Device) goes on flag made = absurd made
-goes-gives failures old new disk failed a before after rising (Err Halted) goes on flag made = absurd made
+-- an event that halts nothing and leaves the disk as it is: it is done, or the console failed
+pub goes-gives : (old new : Kernel) (failed : Bool) (a : After) (before after : Option (List ℕ)) (rising : Type 0) (result : Result (Unit {0}) Halt)
+    → old.halted ≡ None → a.state.halted ≡ None → failed ≡ fails result → Dispatches new a before after rising result → new.tree ≡ old.tree
+    → StepGives (told old false) (told new failed) a before after rising result
+goes-gives old new failed a before after rising (Ok u) goes on flag made same =
+    rw flag (up old goes, done-gives old new a before after None (record { state = made.state; halts = on; printed = made.printed }) (rw same (omega arith)))
+goes-gives old new failed a before after rising (Err (InitEnded status)) goes on flag made same = absurd made
+goes-gives old new failed a before after rising (Err Console) goes on flag made same = rw flag (up old goes, console-gives old new before after rising a.bytes made.0 made.1 same)
+goes-gives old new failed a before after rising (Err Device) goes on flag made same = absurd made
+goes-gives old new failed a before after rising (Err Halted) goes on flag made same = absurd made
 
--- an event that halts nothing and prints nothing
-pub quiet-gives : {D : Type 0} (failures : D → ℕ) (old new : Kernel) (disk : D) (a : After) (at : Option (List ℕ))
-    → old.halted ≡ None → a.state.halted ≡ None → a ≡ quiet (state_of new)
-    → IsUp (told old disk false) × IsDone failures (told old disk false) (told new disk false) a at at None
-quiet-gives failures old new disk a at goes on made = (
+-- an event that halts nothing, prints nothing, and leaves the disk as it is
+pub quiet-gives : (old new : Kernel) (a : After) (at : Option (List ℕ))
+    → old.halted ≡ None → a.state.halted ≡ None → a ≡ quiet (state_of new) → new.tree ≡ old.tree
+    → IsUp (told old false) × IsDone (told old false) (told new false) a at at None
+quiet-gives old new a at goes on made same = (
   record { sound = refl; goes = goes },
   record {
     state = rw made refl;
     halts = on;
     sound = refl;
     printed = rw made (Appends-none at);
-    later = omega arith;
+    later = rw same (omega arith);
   },
 )
 

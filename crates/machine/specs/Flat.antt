@@ -1,11 +1,12 @@
 -- A flat program in memory, and the process and the spaces that begin with it.
 use Rattle.std.specs.Prelude.{List, None, Option, Some, [], false, length, replicate, true, ℕ, ◌*◌, ◌-◌, ◌∷◌}
-use Rattle.calls.specs.Kernel.{Kernel, begun}
-use Rattle.calls.specs.Sound.{console_file}
+use Rattle.kernel.specs.Kernel.{Kernel, begun}
+use Rattle.kernel.specs.Sound.{console_file}
 use Rattle.files.specs.Places.{Counted}
 use Rattle.proc.specs.declared.process.Process.{Process}
 use Rattle.proc.specs.Places.{Places}
 use Rattle.spaces.specs.Spaces.{Held, Spaces}
+use Rattle.tree.specs.Tree.{FileTree}
 use Rattle.unixmodel.specs.declared.process.Mode.TheVariants.{Ready}
 use Rattle.unixmodel.specs.Files.{free_slots}
 use Rattle.unixmodel.specs.Memory.{Memory, pages_of, zeros}
@@ -60,6 +61,6 @@ first_table size = record { places = Some (first size) ∷ free_slots 63; last =
 abbrev pub first_files : List (Option Counted)
 first_files = Some (record { file = console_file; count = 3 }) ∷ replicate 99 None
 
--- the kernel of a machine that begins with a space
-abbrev pub first_kernel : ℕ → Held → Kernel
-first_kernel frames space = begun (first_table space.size) (alone frames space) first_files
+-- the kernel of a machine that begins with a space, over the files of a disk
+abbrev pub first_kernel : FileTree → ℕ → Held → Kernel
+first_kernel tree frames space = begun tree (first_table space.size) (alone frames space) first_files

@@ -1,18 +1,19 @@
 -- What clauses see of a machine.
-use Rattle.std.specs.Prelude.{Bool, None, false, ◌≡◌}
+use Rattle.std.specs.Prelude.{Bool, None, false, ℕ, ◌≡◌}
 use Rattle.unixmodel.specs.State.{State}
 
--- the state of the abstract Unix, the device, and whether the machine has failed
-pub record Told (D : Type 0) : Type 0 where
+-- the state of the abstract Unix, whose files are those of the disk; the device's count of failures; and whether the machine
+-- has failed
+pub record Told : Type 0 where
   pub state : State
-  pub disk : D
+  pub failures : ℕ
   pub failed : Bool
 
 -- it takes events
-pub record IsUp {D : Type 0} (m : Told D) : Type 0 where
+pub record IsUp (m : Told) : Type 0 where
   pub sound : m.failed ≡ false
   pub goes : m.state.halted ≡ None
 
 -- a machine that has not failed
-abbrev pub told : {D : Type 0} → State → D → Told D
-told state disk = record { state = state; disk = disk; failed = false }
+abbrev pub told : State → ℕ → Told
+told state failures = record { state = state; failures = failures; failed = false }

@@ -10,7 +10,7 @@ use crate::machine::Machine;
 use blockdev::MemDisk;
 use calls::Kernel;
 use files::{Files, OpenFile, Target};
-use image::ImageFault;
+use mount::mount_flat;
 use proc::{Process, Table};
 use ram::{FRAME_SIZE, Ram};
 use spaces::Spaces;
@@ -172,13 +172,13 @@ pub fn boot_flat_with<T: Translate + Drop>(
     let Ok(ram) = Ram::new(alloc, frames) else {
         return Err(BootFault::NoMemory);
     };
+    let Ok(tree) = mount_flat(alloc) else {
+        return Err(BootFault::NoMemory);
+    };
     let Some(spaces) = load(ram, translator, bytes) else {
         return Err(BootFault::NoInit);
     };
     let table = first_table(spaces.size(FIRST));
-    let kernel = Kernel::new(table, spaces, first_files());
-    match MemDisk::new(Vec::new(alloc)) {
-        Ok(disk) => Ok(Machine::new(kernel, disk)),
-        Err(_) => Err(BootFault::Image(ImageFault::Length)),
-    }
+    let kernel = Kernel::new(tree, table, spaces, first_files());
+    Ok(Machine::new(kernel))
 }

@@ -11,3 +11,4 @@ pub use calls::Halt;
 pub use fault::BootFault;
 pub use machine::Machine;
 pub use seen::{ProcessState, Seen};
+pub use vm::Perm;

@@ -3,7 +3,7 @@ ghost use Rattle.std.specs.Prelude.{◌≡◌, ◌≤◌, ◌+◌, ℕ, None, So
 ghost use Rattle.std.specs.Io.KnownBytes.{Appends};
 ghost use Rattle.unixmodel.specs.Failures.{Rises};
 ghost use Rattle.unixmodel.specs.Next.{next};
-ghost use Rattle.calls.specs.Kernel.{state_of};
+ghost use Rattle.kernel.specs.Kernel.{state_of};
 ghost use Rattle.machine.specs.Gives.{fails};
 ghost use Rattle.machine.specs.Seen.{seen_of};
 ghost use Rattle.machine.specs.Told.{told};
@@ -22,42 +22,43 @@ use sv39::Translate;
 use unixmodel::event::Event;
 use vm::Perm;
 
-/// A machine over a disk and a translator.
+/// A machine over the device of its disk and a translator.
 #[derive(Drop)]
 pub struct Machine<D: BlockDev, T: Translate + Drop> {
-    kernel: Kernel<T>,
-    disk: D,
+    kernel: Kernel<D, T>,
     failed: bool,
 }
 
 impl<D: BlockDev, T: Translate + Drop> Model for Machine<D, T> {
     ghost use Rattle.machine.specs.Told.{Told};
 
-    ghost Value = { Told D };
+    ghost Value = { Told };
 
-    ghost use Rattle.machine.specs.Show.{told_of};
+    ghost use Rattle.machine.specs.Show.{IsSound, told_of};
 
     ghost view = { told_of };
+
+    ghost invariant = { IsSound };
 }
 
-// Whether the console failed.
-fn is_console(done: &Result<(), Halt>) -> bool
+// Whether the device or the console failed.
+fn is_failure(done: &Result<(), Halt>) -> bool
     ensures { result ≡ fails done.now }
 {
-    matches!(done, Err(Halt::Console))
+    matches!(done, Err(Halt::Device | Halt::Console))
 }
 
 impl<D: BlockDev, T: Translate + Drop> Machine<D, T> {
     ghost use Rattle.machine.specs.Told.{IsUp, Told};
     ghost use Rattle.machine.specs.Gives.{ConsoleFails, RunGives, StepGives, halt_of};
 
-    /// The machine of a kernel and a disk.
-    pub(crate) fn new(kernel: Kernel<T>, disk: D) -> Machine<D, T>
-        ensures { result ≡ told (state_of kernel) disk }
+    /// The machine of a kernel whose device has not failed.
+    pub(crate) fn new(kernel: Kernel<D, T>) -> Machine<D, T>
+        requires { kernel.tree.failed ≡ false }
+        ensures { result ≡ told (state_of kernel) kernel.tree.failures }
     {
         Machine {
             kernel,
-            disk,
             failed: false,
         }
     }
@@ -73,7 +74,7 @@ impl<D: BlockDev, T: Translate + Drop> Machine<D, T> {
     /// One event. An error says why the machine stops; after `Device` and `Console` it is of no more use, and every
     /// later call answers `Halted`.
     pub fn step<W: Out>(&mut self, event: Event, console: &mut W) -> Result<(), Halt>
-        ensures gives { StepGives D.failures self.old self.new (next self.old.state event) (W.contents console.old) (W.contents console.new) (Rises (W.failures console.old) (W.failures console.new)) result }
+        ensures gives { StepGives self.old self.new (next self.old.state event) (W.contents console.old) (W.contents console.new) (Rises (W.failures console.old) (W.failures console.new)) result }
         ensures later { W.failures console.old ≤ W.failures console.new }
     {
         if self.is_stopped() {
@@ -81,17 +82,17 @@ impl<D: BlockDev, T: Translate + Drop> Machine<D, T> {
         }
         match event {
             Event::Step => {
-                let done = self.kernel.step(console);
-                self.failed = is_console(&done);
+                let done = calls::step(&mut self.kernel, console);
+                self.failed = is_failure(&done);
                 done
             }
             Event::Tick => {
-                self.kernel.tick();
+                calls::tick(&mut self.kernel);
                 Ok(())
             }
             Event::Key(byte) => {
-                let done = self.kernel.key(byte, console);
-                self.failed = is_console(&done);
+                let done = calls::key(&mut self.kernel, byte, console);
+                self.failed = is_failure(&done);
                 done
             }
         }
@@ -99,7 +100,7 @@ impl<D: BlockDev, T: Translate + Drop> Machine<D, T> {
 
     /// The events of a list up to the first at which the machine stops.
     pub fn run<W: Out>(&mut self, events: &[Event], console: &mut W) -> Result<(), Halt>
-        ensures gives { RunGives D.failures self.old self.new events.now (W.contents console.old) (W.contents console.new) (Rises (W.failures console.old) (W.failures console.new)) result }
+        ensures gives { RunGives self.old self.new events.now (W.contents console.old) (W.contents console.new) (Rises (W.failures console.old) (W.failures console.new)) result }
         ensures later { W.failures console.old ≤ W.failures console.new }
     {
         if self.is_stopped() {
@@ -109,6 +110,13 @@ impl<D: BlockDev, T: Translate + Drop> Machine<D, T> {
             self.step(*event, console)?;
         }
         Ok(())
+    }
+
+    /// The device of the disk, which counts its failures: where it can't fail, no call answers `Device`.
+    pub fn device(&self) -> &D
+        ensures { D.failures result.now ≡ self.now.failures }
+    {
+        self.kernel.device()
     }
 
     /// What is told of the process with a pid; `None` where there is none.

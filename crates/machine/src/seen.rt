@@ -1,7 +1,8 @@
 //! What a machine tells of its processes.
 
-ghost use Rattle.std.specs.Prelude.{◌≡◌};
-ghost use Rattle.machine.specs.Seen.{state_seen, told_as};
+ghost use Rattle.std.specs.Prelude.{◌≡◌, Some};
+ghost use Rattle.machine.specs.Seen.{number_of, state_seen, told_as};
+ghost use Rattle.unixmodel.specs.Calls.{call_of};
 
 use proc::Process;
 use unixmodel::call::Call;
@@ -29,10 +30,40 @@ pub enum ProcessState {
     Running,
     /// In user state, and not running.
     Ready,
-    /// In this call.
-    Waiting(Call),
+    /// In the call with this number.
+    Waiting(u32),
     /// Ended with this status, and not waited for.
     Zombie(i32),
+}
+
+// The number of a call.
+fn number(call: Call) -> u32
+    ensures number { result ≡ number_of call }
+    ensures call { call_of result ≡ Some call }
+{
+    match call {
+        Call::Fork => 1,
+        Call::Exit => 2,
+        Call::Wait => 3,
+        Call::Pipe => 4,
+        Call::Read => 5,
+        Call::Kill => 6,
+        Call::Exec => 7,
+        Call::Fstat => 8,
+        Call::Chdir => 9,
+        Call::Dup => 10,
+        Call::Getpid => 11,
+        Call::Sbrk => 12,
+        Call::Sleep => 13,
+        Call::Uptime => 14,
+        Call::Open => 15,
+        Call::Write => 16,
+        Call::Mknod => 17,
+        Call::Unlink => 18,
+        Call::Link => 19,
+        Call::Mkdir => 20,
+        Call::Close => 21,
+    }
 }
 
 // What a mode is told as.
@@ -42,7 +73,7 @@ fn state(mode: Mode) -> ProcessState
     match mode {
         Mode::Running => ProcessState::Running,
         Mode::Ready => ProcessState::Ready,
-        Mode::Waiting(pending) => ProcessState::Waiting(pending.number),
+        Mode::Waiting(pending) => ProcessState::Waiting(number(pending.number)),
         Mode::Zombie(status) => ProcessState::Zombie(status),
     }
 }

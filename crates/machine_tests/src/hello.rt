@@ -5,13 +5,12 @@ use crate::play::Act::{
 };
 use crate::play::{Act, Program, READY, ROOM, RUNNING, holds_at, prints, run};
 use console::Writer;
-use machine::{Halt, ProcessState, boot_flat_with};
+use machine::{Halt, Perm, ProcessState, boot_flat_with};
 use ram::{FrameNo, Ram};
 use std::cell::Cell;
 use sv39::{Fault, Translate, walk};
 use unixmodel::event::Event;
 use unixmodel::trap::Access;
-use vm::Perm;
 
 // Writes `hi` and a line feed, which stand behind the instructions, and exits with status 0.
 const HELLO: [u32; 8] = [

@@ -1,17 +1,15 @@
 //! Programs, and runs of them: a list of acts, each of which does something to the machine or looks at it.
 use blockdev::MemDisk;
 use console::Writer;
-use machine::{Halt, Machine, ProcessState, Seen, boot_flat};
+use machine::{Halt, Machine, Perm, ProcessState, Seen, boot_flat};
 use ram::{FRAME_SIZE, FrameNo, Ram};
 use std::alloc::{AllocError, Global};
 use std::io;
 use std::io::Write;
 use std::process::Abort;
 use sv39::{Plain, walk};
-use unixmodel::call::Call;
 use unixmodel::event::Event;
 use unixmodel::trap::Access;
-use vm::Perm;
 
 /// -1 in a register.
 pub(crate) const MINUS_ONE: u64 = u64::MAX;
@@ -46,13 +44,13 @@ pub(crate) const READY: ProcessState = ProcessState::Ready;
 
 pub(crate) const RUNNING: ProcessState = ProcessState::Running;
 
-pub(crate) const WAITING: ProcessState = ProcessState::Waiting(Call::Wait);
+pub(crate) const WAITING: ProcessState = ProcessState::Waiting(WAIT as u32);
 
-pub(crate) const SLEEPING: ProcessState = ProcessState::Waiting(Call::Sleep);
+pub(crate) const SLEEPING: ProcessState = ProcessState::Waiting(SLEEP as u32);
 
-pub(crate) const READING: ProcessState = ProcessState::Waiting(Call::Read);
+pub(crate) const READING: ProcessState = ProcessState::Waiting(READ as u32);
 
-pub(crate) const WRITING: ProcessState = ProcessState::Waiting(Call::Write);
+pub(crate) const WRITING: ProcessState = ProcessState::Waiting(WRITE as u32);
 
 // Makes one call after the other, as a table behind the instructions says: a0, a1, a2 and a7 of each.
 const CALLER: [u32; 8] = [

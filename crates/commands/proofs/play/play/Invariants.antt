@@ -6,6 +6,6 @@ use Rattle.commands.proofs.play.play.Given as goal
 -- the commands so far are done as the model says
 abbrev pub invariant-loop-command : goal.invariant-loop-command
 invariant-loop-command g l = record {
-  so_far : SoFar g.D.BlockDev.failures l.fn.machine l.machine (script_events (take l.command-index l.script)) (g.W.Out.contents l.fn.out) (g.W.Out.contents l.out);
+  so_far : SoFar l.fn.machine l.machine (script_events (take l.command-index l.script)) (g.W.Out.contents l.fn.out) (g.W.Out.contents l.out);
   later : g.W.Out.failures l.fn.out ≤ g.W.Out.failures l.out;
 }

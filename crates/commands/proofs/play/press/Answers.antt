@@ -8,7 +8,7 @@ use Rattle.commands.proofs.play.press.Goals as goal
 
 pub loop-key-init : goal.loop-key-init
 loop-key-init g c = record {
-  so_far = so_far_at_first _ _ _ c.requires;
+  so_far = so_far_at_first _ _ c.requires;
   later = omega arith;
 }
 
@@ -17,7 +17,7 @@ returns-in_err-step-clause-gives g c =
     let p = err_from_is_err_and c.from_residual.result c.from_residual.ensures.1 in
     let before = c.loop-key.invariant in
     let more : c.loop-key.key-index < length (map Key c.args.keys.now) = rw (length-map c.args.keys.now Key) c.loop-key-test.true in
-    rw (p.1, p.2) (stops _ _ _ _ c.loop-key.key-index (map Key c.args.keys.now) _ _ _ _ _ _ _ more (press-next _ _ c.loop-key-test.true) before.so_far
+    rw (p.1, p.2) (stops _ _ _ c.loop-key.key-index (map Key c.args.keys.now) _ _ _ _ _ _ _ more (press-next _ _ c.loop-key-test.true) before.so_far
     (λ r. Rises-later _ _ _ before.later r c.step.ensures.later) c.in_err-step.ensures.gives)
 
 pub loop-key-preserved : goal.loop-key-preserved
@@ -25,6 +25,6 @@ loop-key-preserved g c =
     let before = c.loop-key.invariant in
     let more : c.loop-key.key-index < length (map Key c.args.keys.now) = rw (length-map c.args.keys.now Key) c.loop-key-test.true in
     record {
-      so_far = goes_on _ _ _ _ c.loop-key.key-index (map Key c.args.keys.now) _ _ _ _ more (press-next _ _ c.loop-key-test.true) before.so_far c.in_ok-step.ensures.gives.1;
+      so_far = goes_on _ _ _ c.loop-key.key-index (map Key c.args.keys.now) _ _ _ _ more (press-next _ _ c.loop-key-test.true) before.so_far c.in_ok-step.ensures.gives.1;
       later = let l = before.later in let m = c.step.ensures.later in omega arith;
     }

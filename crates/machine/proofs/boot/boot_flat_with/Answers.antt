@@ -1,4 +1,4 @@
-use Rattle.calls.specs.Kernel.{Kernel, state_of}
+use Rattle.kernel.specs.Kernel.{Kernel, state_of}
 use Rattle.machine.proofs.boot.boot_flat_with.Goals as goal
 use Rattle.machine.proofs.FlatLemmas.{first-sound, length-flat, start-fits, start-over}
 use Rattle.machine.specs.Flat.{first_kernel, flat_memory, flat_space}
@@ -19,12 +19,12 @@ first_table-table-requires g c =
 pub new-kernel-requires : goal.new-kernel-requires
 new-kernel-requires g c =
     let size : c.size.result ≡ 4096 * length (flat_memory c.args.bytes.now) = c.size.ensures ∙ ap (λ (s : Spaces). (held_at s 0).size) c.in-Some.ensures.some in
-    rw (c.first_table-table.ensures, c.first_files.ensures, size, c.in-Some.ensures.some) (first-sound _ (flat_space c.args.bytes.now) c.in-Some.ensures.fits)
+    rw (c.first_table-table.ensures, c.first_files.ensures, size, c.in-Some.ensures.some) (first-sound c.in-Ok-mount_flat.tree c.in-Ok-mount_flat.ensures _ (flat_space c.args.bytes.now) c.in-Some.ensures.fits)
 
-pub returns-in-Ok-new-clause-booted : goal.returns-in-Ok-new-clause-booted
-returns-in-Ok-new-clause-booted g c =
+pub returns-clause-booted : goal.returns-clause-booted
+returns-clause-booted g c =
     let bytes = c.args.bytes.now in
     let frames : length c.in-Ok.ram ≡ c.args.frames = ap length c.in-Ok.ensures ∙ length-replicate c.args.frames (replicate 4096 0) in
     let size : c.size.result ≡ 4096 * length (flat_memory bytes) = c.size.ensures ∙ ap (λ (s : Spaces). (held_at s 0).size) c.in-Some.ensures.some in
-    let kernel : c.new-kernel.result ≡ first_kernel c.args.frames (flat_space bytes) = c.new-kernel.ensures ∙ rw (c.first_table-table.ensures, c.first_files.ensures, size, c.in-Some.ensures.some, frames) refl in
-    rw c.new-in-Ok-new.ensures (start-fits bytes c.args.frames (rw frames at c.in-Some.ensures.fits) ∙ ap (λ (k : Kernel). Some (state_of k)) (sym kernel))
+    let kernel : c.new-kernel.result ≡ first_kernel c.in-Ok-mount_flat.tree c.args.frames (flat_space bytes) = c.new-kernel.ensures ∙ rw (c.first_table-table.ensures, c.first_files.ensures, size, c.in-Some.ensures.some, frames) refl in
+    rw c.new-2.ensures (start-fits c.in-Ok-mount_flat.tree c.in-Ok-mount_flat.ensures bytes c.args.frames (rw frames at c.in-Some.ensures.fits) ∙ ap (λ (k : Kernel). Some (state_of k)) (sym kernel))

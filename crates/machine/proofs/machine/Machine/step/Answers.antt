@@ -1,25 +1,28 @@
 use Rattle.machine.proofs.machine.Machine.step.Goals as goal
 use Rattle.machine.proofs.Steps.{does-gives, goes-gives, key-halts, quiet-gives, tick-halts}
-use Rattle.calls.specs.Kernel.{state_of}
+use Rattle.kernel.specs.Kernel.{state_of}
 use Rattle.std.proofs.Common.{◌∙◌}
 use Rattle.unixmodel.specs.declared.event.Event.TheVariants.{Key, Step, Tick}
 use Rattle.unixmodel.specs.Next.{next}
 
-pub step-done-requires : goal.step-done-requires
-step-done-requires g c = (rw (← c.self.view_is) at (c.is_stopped.ensures.up c.if-is_stopped.false)).goes
+pub step-done-requires-clause-goes : goal.step-done-requires-clause-goes
+step-done-requires-clause-goes g c = (rw (← c.self.view_is) at (c.is_stopped.ensures.up c.if-is_stopped.false)).goes
+
+pub step-done-requires-clause-up : goal.step-done-requires-clause-up
+step-done-requires-clause-up g c = c.self.invariant (rw (← c.self.view_is) at (c.is_stopped.ensures.up c.if-is_stopped.false)).sound
 
 pub returns-in-Step-clause-gives : goal.returns-in-Step-clause-gives
 returns-in-Step-clause-gives g c =
     let k = c.self.inside.kernel in
     let up = rw (← c.self.view_is) at (c.is_stopped.ensures.up c.if-is_stopped.false) in
     rw (← c.self.view_is, up.sound, c.in-Step.is)
-    (does-gives _ k c.step-done.new.self _ _ (next (state_of k) Step) _ _ _ c.step-done.result up.goes c.is_console-self-inside.ensures c.step-done.ensures.does)
+    (does-gives k c.step-done.new.kernel _ (next (state_of k) Step) _ _ _ c.step-done.result up.goes c.is_failure-self-inside.ensures c.step-done.ensures.does c.step-done.ensures.tree)
 
 pub returns-in-Tick-clause-gives : goal.returns-in-Tick-clause-gives
 returns-in-Tick-clause-gives g c =
     let k = c.self.inside.kernel in
     let up = rw (← c.self.view_is) at (c.is_stopped.ensures.up c.if-is_stopped.false) in
-    rw (← c.self.view_is, up.sound, c.in-Tick.is) (quiet-gives _ k c.tick.new.self _ (next (state_of k) Tick) _ up.goes (tick-halts (state_of k) ∙ up.goes) c.tick.ensures)
+    rw (← c.self.view_is, up.sound, c.in-Tick.is) (quiet-gives k c.tick.new.kernel (next (state_of k) Tick) _ up.goes (tick-halts (state_of k) ∙ up.goes) c.tick.ensures.gives c.tick.ensures.tree)
 
 pub returns-in-Key-clause-gives : goal.returns-in-Key-clause-gives
 returns-in-Key-clause-gives g c =
@@ -27,4 +30,4 @@ returns-in-Key-clause-gives g c =
     let b = c.in-Key.byte in
     let up = rw (← c.self.view_is) at (c.is_stopped.ensures.up c.if-is_stopped.false) in
     rw (← c.self.view_is, up.sound, c.in-Key.is)
-    (goes-gives _ k c.key-done.new.self _ _ (next (state_of k) (Key b)) _ _ _ c.key-done.result up.goes (key-halts (state_of k) b ∙ up.goes) c.is_console-self-inside-in-Key.ensures c.key-done.ensures.gives)
+    (goes-gives k c.key-done.new.kernel _ (next (state_of k) (Key b)) _ _ _ c.key-done.result up.goes (key-halts (state_of k) b ∙ up.goes) c.is_failure-self-inside-in-Key.ensures c.key-done.ensures.gives c.key-done.ensures.tree)

@@ -1,5 +1,0 @@
-use Rattle.calls.proofs.Named.{Closing}
-use Rattle.calls.proofs.descriptors.close_all.Given as goal
-
-abbrev pub invariant-loop-descriptor : goal.invariant-loop-descriptor
-invariant-loop-descriptor g l = Closing l.fn.files l.fn.spaces l.fn.descriptors l.files l.spaces l.descriptor-index

@@ -1,8 +1,0 @@
-use Rattle.std.proofs.Common.{drop, ℕ, ◌+◌, ◌≡◌, ◌≤◌}
-use Rattle.calls.specs.Descriptors.{all_shared}
-use Rattle.files.specs.Places.{count_at}
-use Rattle.calls.proofs.descriptors.share_all.Given as goal
-
--- the descriptors that are left make of the open files what all make of the old ones
-abbrev pub invariant-loop-descriptor : goal.invariant-loop-descriptor
-invariant-loop-descriptor l = (all_shared l.files (drop l.descriptor-index l.descriptors) ≡ all_shared l.fn.files l.fn.descriptors) × ((n : ℕ) → count_at l.files n ≤ 1024 + l.descriptor-index)

@@ -1,0 +1,17 @@
+use Rattle.kernel.proofs.Readies.{turn-alive}
+use Rattle.calls.proofs.Takes.{turn-takes}
+use Rattle.std.proofs.Common.{sym, ◌∙◌}
+use Rattle.calls.proofs.events.take_turn.Goals as goal
+
+pub take-requires-clause-alive : goal.take-requires-clause-alive
+take-requires-clause-alive g c =
+    let found = sym c.turn.ensures.turn ∙ c.in-Some.is in
+    rw c.in-Some.ensures.picked (turn-alive c.args.kernel.now c.requires.idle c.in-Some.at found)
+
+pub returns-in-Some-clause-gives : goal.returns-in-Some-clause-gives
+returns-in-Some-clause-gives g c =
+    let found = sym c.turn.ensures.turn ∙ c.in-Some.is in
+    turn-takes c.args.kernel.now c.in-Some.at c.is_sound.ensures.sound c.requires.idle found ∙ (rw c.in-Some.ensures.picked at c.take.ensures.gives)
+
+pub returns-in-Some-clause-tree : goal.returns-in-Some-clause-tree
+returns-in-Some-clause-tree g c = rw c.in-Some.ensures.picked at c.take.ensures.tree

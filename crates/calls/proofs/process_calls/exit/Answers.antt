@@ -1,0 +1,13 @@
+use Rattle.std.proofs.Common.{◌≡◌, ℤ, ap, ◌∙◌}
+use Rattle.std.specs.Int.{cast_signed, cast_unsigned, w32}
+use Rattle.kernel.specs.Kernel.{argument}
+use Rattle.calls.proofs.Acts.{exits}
+use Rattle.calls.proofs.Rows.{int-bits}
+use Rattle.unixmodel.specs.Numbers.{int_of}
+use Rattle.calls.proofs.process_calls.exit.Goals as goal
+
+pub returns : goal.returns
+returns g c =
+    let status : cast_signed w32 (cast_unsigned w32 c.int.result) ≡ int_of (argument c.args.kernel.now 0) =
+    ap (λ (z : ℤ). cast_signed w32 (cast_unsigned w32 z)) (c.int.ensures ∙ ap int_of c.argument.ensures) ∙ int-bits (argument c.args.kernel.now 0) in
+    rw status (exits c.args.kernel.now c.args.at c.requires)

@@ -1,0 +1,42 @@
+use Rattle.std.proofs.Common.{◌≡◌, Ok, ap, sym, ◌∙◌}
+use Rattle.calls.specs.Processes.{child_of}
+use Rattle.kernel.specs.View.{kernel_of}
+use Rattle.calls.proofs.Forks.{counts-few, fork-unfit, fork-unseated, forks, seat-free}
+use Rattle.kernel.proofs.Runs.{active-space}
+use Rattle.proc.specs.Places.{seat_of, seated}
+use Rattle.spaces.specs.Spaces.{Spaces}
+use Rattle.calls.proofs.process_calls.fork.Goals as goal
+
+pub returns-in_default-next_seat : goal.returns-in_default-next_seat
+returns-in_default-next_seat g c = fork-unseated c.args.kernel.now c.args.at c.requires (kernel_of c.kernel.inside) c.kernel.view_is c.in_default-next_seat.field-0 (sym c.next_seat.ensures.seat ∙ c.in_default-next_seat.is)
+
+pub copy-requires-clause-from : goal.copy-requires-clause-from
+copy-requires-clause-from g c = active-space (kernel_of c.kernel.inside) c.args.kernel.now c.args.at c.kernel.view_is c.kernel.invariant c.requires.active
+
+pub copy-requires-clause-free : goal.copy-requires-clause-free
+copy-requires-clause-free g c = seat-free (kernel_of c.kernel.inside) c.kernel.invariant c.in-Ok.seat (sym c.next_seat.ensures.seat ∙ c.in-Ok.is)
+
+pub returns-then-not-copy : goal.returns-then-not-copy
+returns-then-not-copy g c =
+    let d = c.if-not-copy.ensures.refused in
+    let same = ap (λ (s : Spaces). record (kernel_of c.kernel.inside) { spaces = s }) d.1 ∙ c.kernel.view_is in
+    rw same (fork-unfit c.args.kernel.now c.args.at c.requires (kernel_of c.kernel.inside) c.kernel.view_is c.in-Ok.seat (sym c.next_seat.ensures.seat ∙ c.in-Ok.is) d.0)
+
+pub share_all-requires : goal.share_all-requires
+share_all-requires g c = record { few = counts-few (kernel_of c.kernel.inside) c.kernel.invariant }
+
+pub invariant_of-kernel-2 : goal.invariant_of-kernel-2
+invariant_of-kernel-2 g c =
+    let k = kernel_of c.kernel.inside in
+    let seats : seat_of k.table ≡ Ok c.in-Ok.seat = sym c.next_seat.ensures.seat ∙ c.in-Ok.is in
+    let table : c.alloc-seat.new.self ≡ seated k.table (child_of c.in-Some.process) c.in-Ok.seat = rw (c.alloc-seat.ensures.seat, seats) at c.alloc-seat.ensures.ok in
+    let made = forks c.args.kernel.now c.args.at c.requires k c.kernel.view_is c.in-Ok.seat seats c.in-Some.process (sym c.on_hart.ensures.process ∙ c.in-Some.is) c.if-not-copy.ensures.done.0 in
+    rw (table, c.if-not-copy.ensures.done.1, c.share_all.ensures) made.sound
+
+pub returns : goal.returns
+returns g c =
+    let k = kernel_of c.kernel.inside in
+    let seats : seat_of k.table ≡ Ok c.in-Ok.seat = sym c.next_seat.ensures.seat ∙ c.in-Ok.is in
+    let table : c.alloc-seat.new.self ≡ seated k.table (child_of c.in-Some.process) c.in-Ok.seat = rw (c.alloc-seat.ensures.seat, seats) at c.alloc-seat.ensures.ok in
+    let made = forks c.args.kernel.now c.args.at c.requires k c.kernel.view_is c.in-Ok.seat seats c.in-Some.process (sym c.on_hart.ensures.process ∙ c.in-Some.is) c.if-not-copy.ensures.done.0 in
+    rw (table, c.if-not-copy.ensures.done.1, c.share_all.ensures, c.from.ensures) made

@@ -1,0 +1,11 @@
+use Rattle.std.proofs.Common.{None, rules, ◌≡◌}
+use Rattle.kernel.specs.Kernel.{argument}
+use Rattle.calls.specs.Processes.{asked}
+use Rattle.calls.proofs.Sbrk.{sbrk-below}
+use Rattle.unixmodel.specs.Numbers.{int_of}
+use Rattle.calls.proofs.process_calls.sbrk.Goals as goal
+
+pub returns-then-bytes-size : goal.returns-then-bytes-size
+returns-then-bytes-size g c =
+    let below : asked c.args.kernel.now c.args.at (int_of (argument c.args.kernel.now 0)) ≡ None = search rules in
+    sbrk-below c.args.kernel.now c.args.at c.requires below

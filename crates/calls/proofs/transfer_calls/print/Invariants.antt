@@ -1,0 +1,17 @@
+use Rattle.std.proofs.Common.{◌≤◌, ◌-◌, take}
+use Rattle.std.specs.Io.KnownBytes.{Appends}
+use Rattle.spaces.specs.Spaces.{held_at}
+use Rattle.unixmodel.specs.declared.trap.Access.TheVariants.{Load}
+use Rattle.unixmodel.specs.Memory.{reach}
+use Rattle.calls.proofs.transfer_calls.print.Given as goal
+
+-- the bytes so far are put out
+abbrev pub invariant-loop-done : goal.invariant-loop-done
+invariant-loop-done g l = record {
+  within : l.done ≤ l.count;
+  printed : Appends (g.W.Out.contents l.fn.out) (g.W.Out.contents l.out) (take l.done (reach Load (held_at l.kernel.spaces l.at).memory l.address));
+  later : g.W.Out.failures l.fn.out ≤ g.W.Out.failures l.out;
+}
+
+abbrev pub decreases-loop-done : goal.decreases-loop-done
+decreases-loop-done g l = l.count - l.done

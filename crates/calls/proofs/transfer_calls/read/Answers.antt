@@ -1,0 +1,8 @@
+use Rattle.calls.proofs.Transfers.{begun-acts}
+use Rattle.calls.proofs.transfer_calls.read.Goals as goal
+
+pub read_from-requires : goal.read_from-requires
+read_from-requires g c = c.in-Ok.ensures.begins.goes
+
+pub returns-in-Ok : goal.returns-in-Ok
+returns-in-Ok g c = begun-acts c.in-Ok.ensures.begins c.read_from.ensures

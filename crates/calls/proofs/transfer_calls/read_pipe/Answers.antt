@@ -1,0 +1,20 @@
+use Rattle.kernel.specs.View.{kernel_of}
+use Rattle.calls.proofs.Draws.{reads-ended, reads-stands, reads-taken, reads-waiting}
+use Rattle.calls.proofs.transfer_calls.read_pipe.Goals as goal
+
+pub has_bytes-requires : goal.has_bytes-requires
+has_bytes-requires g c = reads-stands c.args.kernel.now c.args.at c.args.pending c.args.pipe c.requires (kernel_of c.kernel.inside) c.kernel.view_is
+
+pub invariant_of-kernel : goal.invariant_of-kernel
+invariant_of-kernel g c =
+    (reads-taken c.args.kernel.now c.args.at c.args.pending c.args.pipe c.requires (kernel_of c.kernel.inside) c.kernel.view_is _ c.has_bytes.ensures c.if-has_bytes.true _ c.low-count.ensures _ _ c.read_pipe-taken.ensures.bytes c.read_pipe-taken.ensures.count).comes.sound
+
+pub returns-then-has_bytes : goal.returns-then-has_bytes
+returns-then-has_bytes g c =
+    reads-taken c.args.kernel.now c.args.at c.args.pending c.args.pipe c.requires (kernel_of c.kernel.inside) c.kernel.view_is _ c.has_bytes.ensures c.if-has_bytes.true _ c.low-count.ensures _ _ c.read_pipe-taken.ensures.bytes c.read_pipe-taken.ensures.count
+
+pub returns-then-has_end : goal.returns-then-has_end
+returns-then-has_end g c = reads-waiting c.args.kernel.now c.args.at c.args.pending c.args.pipe c.requires (kernel_of c.kernel.inside) c.kernel.view_is _ c.has_bytes.ensures c.if-has_bytes.false _ c.has_end.ensures c.if-has_end.true
+
+pub returns-else-has_end : goal.returns-else-has_end
+returns-else-has_end g c = reads-ended c.args.kernel.now c.args.at c.args.pending c.args.pipe c.requires (kernel_of c.kernel.inside) c.kernel.view_is _ c.has_bytes.ensures c.if-has_bytes.false _ c.has_end.ensures c.if-has_end.false

@@ -1,0 +1,54 @@
+-- What the calls on processes make of a kernel.
+use Rattle.std.specs.Prelude.{List, None, Option, Some, false, if◌then◌else◌, pos, slice_set, ℕ, ℤ, ◌+ℤ◌, ◌==◌, suc, zero}
+use Rattle.std.specs.Int.{cast_unsigned, w32}
+use Rattle.proc.specs.declared.process.Process.{Process}
+use Rattle.proc.specs.Places.{changed, with_size, without, has_pid, place_where}
+use Rattle.spaces.specs.Spaces as spaces
+use Rattle.spaces.specs.Spaces.{Held, held_at, with_held, with_place}
+use Rattle.unixmodel.specs.declared.process.Mode.TheVariants.{Ready}
+use Rattle.unixmodel.specs.Numbers.{ceil_div, le, natural}
+use Rattle.unixmodel.specs.ProcessCalls.{with_pages}
+use Rattle.kernel.specs.Kernel.{Kernel}
+
+-- ---- sbrk
+
+-- a space with another size
+abbrev pub sized : Held → ℕ → Held
+sized h size = record { memory = with_pages h.memory (ceil_div size 4096); size = size }
+
+-- process i with another size
+abbrev pub resized : Kernel → ℕ → ℕ → Kernel
+resized k i size = record k {
+  table = changed k.table i (with_size size);
+  spaces = with_held k.spaces i (sized (held_at k.spaces i) size);
+}
+
+-- the size that is asked for, if it is not below 0
+abbrev pub asked : Kernel → ℕ → ℤ → Option ℕ
+asked k i delta = natural (pos (held_at k.spaces i).size +ℤ delta)
+
+-- ---- fork
+
+abbrev pub child_of : Process → Process
+child_of p = record p { parent = p.pid; registers = slice_set p.registers 10 0; killed = false; mode = Ready }
+
+-- ---- wait
+
+abbrev pub with_status : Held → ℕ → ℤ → Held
+with_status h address status =
+    if address == 0 then h else spaces.written h address (le 4 (cast_unsigned w32 status))
+
+-- the zombie in place j is waited for by process i, and its place is free
+abbrev pub collected : Kernel → ℕ → ℕ → ℕ → ℤ → Kernel
+collected k i address j status = record k {
+  table = without k.table (Some j);
+  spaces = with_place (with_held k.spaces i (with_status (held_at k.spaces i) address status)) j None;
+}
+
+-- ---- kill
+
+-- the place of the process with a pid that is not below 1
+abbrev pub named : List (Option Process) → Option ℕ → Option ℕ
+named places None = None
+named places (Some zero) = None
+named places (Some (suc n)) = place_where places (has_pid (suc n))

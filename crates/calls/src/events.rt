@@ -1,0 +1,269 @@
+//! What a machine asks of the kernel: an event, or a part of one.
+//!
+//! What seldom happens is kept out of line (`inline(never)`), so that the code of a step that only does an
+//! instruction stays small.
+ghost use Rattle.std.specs.Prelude.{false, ◌≡◌, ◌≤◌, Ok, Some, None, true, IfOk, OnErr};
+ghost use Rattle.calls.specs.Acts.{CanWait, GoesOn, Runs, called};
+ghost use Rattle.calls.specs.Does.{Dispatches, Does, IsServed, LeavesTree, halt_of};
+ghost use Rattle.kernel.specs.Kernel.{state_of};
+ghost use Rattle.kernel.specs.Sound.{CanEnd, IsAlive};
+ghost use Rattle.calls.specs.Told.{CanResume, WaitsIn, became, resumed, taken};
+ghost use Rattle.unixmodel.specs.Calls.{end_at, quiet};
+ghost use Rattle.unixmodel.specs.declared.call.Call.TheVariants as Call;
+ghost use Rattle.unixmodel.specs.declared.event.Event.TheVariants.{Key, Step, Tick};
+ghost use Rattle.unixmodel.specs.Files.{slot};
+ghost use Rattle.unixmodel.specs.Failures.{Rises};
+ghost use Rattle.unixmodel.specs.Next.{execute_at, is_ecall, next, take_turn};
+ghost use Rattle.unixmodel.specs.State.{process_at};
+ghost use Rattle.unixmodel.specs.Turn.{turn};
+
+use crate::calls;
+use crate::halt::Halt;
+use crate::outcome::{Came, KILLED, Outcome, settle};
+use crate::process_calls::{sleep_on, wait_on};
+use crate::transfer_calls::{read_on, write_on};
+use blockdev::BlockDev;
+use console::{Out, OutFault};
+use kernel::Kernel;
+use sv39::Translate;
+use unixmodel::call::Call;
+use unixmodel::process::{Mode, Pending};
+use unixmodel::trap::Cause;
+
+// Whether a trap is a call.
+fn is_call(cause: Cause) -> bool
+    ensures { result ≡ is_ecall cause }
+{
+    match cause {
+        Cause::EnvironmentCall => true,
+        Cause::InstructionMisaligned
+        | Cause::IllegalInstruction
+        | Cause::Breakpoint
+        | Cause::LoadMisaligned
+        | Cause::StoreMisaligned
+        | Cause::InstructionPageFault
+        | Cause::LoadPageFault
+        | Cause::StorePageFault => false,
+    }
+}
+
+/// A timer interrupt.
+#[inline(never)]
+pub fn tick<D: BlockDev, T: Translate + Drop>(kernel: &mut Kernel<D, T>)
+    ensures gives { next (state_of kernel.old) Tick ≡ quiet (state_of kernel.new) }
+    ensures tree { kernel.new.tree ≡ kernel.old.tree }
+{
+    kernel.is_sound();
+    kernel.interrupt();
+}
+
+/// A key was typed: it changes the line that is edited, and what shows that is printed. `Console`: the console failed,
+/// and the key is lost.
+#[inline(never)]
+pub fn key<D: BlockDev, T: Translate + Drop, W: Out>(
+    kernel: &mut Kernel<D, T>,
+    byte: u8,
+    console: &mut W,
+) -> Result<(), Halt>
+    ensures gives { Dispatches kernel.new (next (state_of kernel.old) (Key byte)) (W.contents console.old) (W.contents console.new) (Rises (W.failures console.old) (W.failures console.new)) result }
+    ensures lost { OnErr result (kernel.new ≡ kernel.old) }
+    ensures tree { kernel.new.tree ≡ kernel.old.tree }
+    ensures later { W.failures console.old ≤ W.failures console.new }
+{
+    match kernel.type_key(byte, console) {
+        Ok(()) => Ok(()),
+        Err(OutFault::Writer) => Err(Halt::Console),
+    }
+}
+
+/// The call of the running process. `Console`: the console failed.
+pub fn dispatch<D: BlockDev, T: Translate + Drop, W: Out>(
+    kernel: &mut Kernel<D, T>,
+    at: usize,
+    console: &mut W,
+) -> Result<Outcome, Halt>
+    requires running { kernel.old.spaces.active ≡ Some at }
+    ensures gives { Dispatches kernel.new (called (state_of kernel.old) at) (W.contents console.old) (W.contents console.new) (Rises (W.failures console.old) (W.failures console.new)) result }
+    ensures told { IfOk result (λ o. o ≡ became kernel.new at) }
+    ensures tree { LeavesTree kernel.old.tree kernel.new.tree result }
+    ensures later { W.failures console.old ≤ W.failures console.new }
+{
+    calls::call(kernel, at, console)?;
+    Ok(outcome(kernel, at))
+}
+
+/// A picked process that waits, where none runs, goes on with its pending call.
+pub fn resume<D: BlockDev, T: Translate + Drop>(
+    kernel: &mut Kernel<D, T>,
+    at: usize,
+) -> Result<Outcome, Halt>
+    requires idle { kernel.old.spaces.active ≡ None }
+    requires up { kernel.old.tree.failed ≡ false }
+    requires waits { CanResume (slot kernel.old.table.places at) }
+    ensures gives { resumed (state_of kernel.old) at ≡ quiet (state_of kernel.new) }
+    ensures told { result ≡ Ok (became kernel.new at) }
+    ensures tree { IsServed kernel.old.tree kernel.new.tree }
+{
+    if let Some(process) = kernel.process(at).copied() {
+        if let Mode::Waiting(pending) = process.mode {
+            go_on(kernel, at, pending);
+        }
+    }
+    Ok(outcome(kernel, at))
+}
+
+/// Ends the running process with a status, or a process where none runs. `InitEnded`: it was process 1.
+pub fn end<D: BlockDev, T: Translate + Drop>(
+    kernel: &mut Kernel<D, T>,
+    at: usize,
+    status: i32,
+) -> Result<(), Halt>
+    requires up { kernel.old.halted ≡ None }
+    requires can { CanEnd kernel.old at }
+    ensures gives { state_of kernel.new ≡ end_at (state_of kernel.old) at status (process_at (state_of kernel.old) at) }
+    ensures halts { result ≡ halt_of kernel.new.halted }
+    ensures tree { kernel.new.tree ≡ kernel.old.tree }
+{
+    kernel.is_sound();
+    kernel.finish(at, status);
+    goes(kernel)
+}
+
+/// One step: the running process does an instruction, and the call or the end that it traps into; where none runs
+/// there is a turn.
+pub fn step<D: BlockDev, T: Translate + Drop, W: Out>(
+    kernel: &mut Kernel<D, T>,
+    console: &mut W,
+) -> Result<(), Halt>
+    requires goes { kernel.old.halted ≡ None }
+    requires up { kernel.old.tree.failed ≡ false }
+    ensures does { Does kernel.new (next (state_of kernel.old) Step) (W.contents console.old) (W.contents console.new) (Rises (W.failures console.old) (W.failures console.new)) result }
+    ensures tree { LeavesTree kernel.old.tree kernel.new.tree result }
+    ensures later { W.failures console.old ≤ W.failures console.new }
+{
+    kernel.is_sound();
+    match kernel.active() {
+        Some(at) => instruct(kernel, at, console)?,
+        None => take_turn(kernel),
+    }
+    goes(kernel)
+}
+
+// Whether the machine goes on.
+fn goes<D: BlockDev, T: Translate + Drop>(kernel: &Kernel<D, T>) -> Result<(), Halt>
+    ensures { result ≡ halt_of kernel.now.halted }
+{
+    match kernel.halted() {
+        None => Ok(()),
+        Some(status) => Err(Halt::InitEnded(status)),
+    }
+}
+
+// What the call of a process came to.
+fn outcome<D: BlockDev, T: Translate + Drop>(kernel: &Kernel<D, T>, at: usize) -> Outcome
+    ensures { result ≡ became kernel.now at }
+{
+    match kernel.process(at) {
+        None => Outcome::Done(0),
+        Some(process) => match process.mode {
+            Mode::Running => Outcome::Done(kernel.argument(0).cast_signed()),
+            Mode::Ready => Outcome::Done(process.registers[10].cast_signed()),
+            Mode::Waiting(pending) => Outcome::Blocks(pending),
+            Mode::Zombie(status) => Outcome::Ends(status),
+        },
+    }
+}
+
+// The running process does an instruction, and the call or the end that it traps into.
+fn instruct<D: BlockDev, T: Translate + Drop, W: Out>(
+    kernel: &mut Kernel<D, T>,
+    at: usize,
+    console: &mut W,
+) -> Result<(), Halt>
+    requires { kernel.old.spaces.active ≡ Some at }
+    ensures gives { Dispatches kernel.new (execute_at (state_of kernel.old) at (process_at (state_of kernel.old) at)) (W.contents console.old) (W.contents console.new) (Rises (W.failures console.old) (W.failures console.new)) result }
+    ensures tree { LeavesTree kernel.old.tree kernel.new.tree result }
+    ensures later { W.failures console.old ≤ W.failures console.new }
+{
+    kernel.is_sound();
+    match kernel.execute(at) {
+        None => Ok(()),
+        Some(trap) => {
+            if is_call(trap.cause) {
+                return calls::call(kernel, at, console);
+            }
+            kernel.finish(at, KILLED);
+            Ok(())
+        }
+    }
+}
+
+// A turn, where none runs.
+#[inline(never)]
+fn take_turn<D: BlockDev, T: Translate + Drop>(kernel: &mut Kernel<D, T>)
+    requires idle { kernel.old.spaces.active ≡ None }
+    requires up { kernel.old.tree.failed ≡ false }
+    ensures gives { take_turn (state_of kernel.old) (turn (state_of kernel.old)) ≡ quiet (state_of kernel.new) }
+    ensures tree { IsServed kernel.old.tree kernel.new.tree }
+{
+    kernel.is_sound();
+    if let Some(at) = kernel.turn() {
+        take(kernel, at);
+    }
+}
+
+// The process in a place, which was picked, ends if it is killed; else it runs, or goes on with its call.
+fn take<D: BlockDev, T: Translate + Drop>(kernel: &mut Kernel<D, T>, at: usize)
+    requires idle { kernel.old.spaces.active ≡ None }
+    requires up { kernel.old.tree.failed ≡ false }
+    requires alive { IsAlive (slot kernel.old.table.places at) }
+    ensures gives { taken (state_of kernel.old) at ≡ quiet (state_of kernel.new) }
+    ensures tree { IsServed kernel.old.tree kernel.new.tree }
+{
+    kernel.is_sound();
+    let Some(process) = kernel.process(at).copied() else {
+        return;
+    };
+    if process.killed {
+        kernel.finish(at, KILLED);
+        return;
+    }
+    match process.mode {
+        Mode::Ready => kernel.start(at),
+        Mode::Waiting(pending) => go_on(kernel, at, pending),
+        Mode::Running | Mode::Zombie(_) => {}
+    }
+}
+
+// The process in a place, where none runs, goes on with its pending call.
+fn go_on<D: BlockDev, T: Translate + Drop>(kernel: &mut Kernel<D, T>, at: usize, pending: Pending)
+    requires idle { kernel.old.spaces.active ≡ None }
+    requires up { kernel.old.tree.failed ≡ false }
+    requires waits { WaitsIn (slot kernel.old.table.places at) pending }
+    ensures gives { resumed (state_of kernel.old) at ≡ quiet (state_of kernel.new) }
+    ensures tree { IsServed kernel.old.tree kernel.new.tree }
+{
+    kernel.is_sound();
+    kernel.start(at);
+    let came = act_on(kernel, at, pending);
+    settle(kernel, at, came);
+}
+
+// What a pending call of the running process comes to.
+fn act_on<D: BlockDev, T: Translate + Drop>(
+    kernel: &mut Kernel<D, T>,
+    at: usize,
+    pending: Pending,
+) -> Came
+    requires runs { Runs kernel.old at }
+    requires can { CanWait kernel.old at pending }
+    ensures { GoesOn kernel.old kernel.new at pending result }
+{
+    match pending.number {
+        Call::Wait => wait_on(kernel, at, pending),
+        Call::Read => read_on(kernel, at, pending),
+        Call::Write => write_on(kernel, at, pending),
+        Call::Sleep => sleep_on(kernel, at, pending),
+        _ => unreachable!(),
+    }
+}

@@ -1,0 +1,238 @@
+//! The calls on processes: fork, exit, wait, kill, getpid, sbrk, sleep, uptime.
+ghost use Rattle.std.specs.Prelude.{◌≡◌, ◌+◌, ◌-◌, ◌≤◌, Some, true};
+ghost use Rattle.calls.specs.Acts.{Acts, GoesOn, Runs};
+ghost use Rattle.kernel.specs.Kernel.{argument};
+ghost use Rattle.calls.specs.Processes.{asked, named, with_status};
+ghost use Rattle.kernel.specs.Sound.{can_answer};
+ghost use Rattle.spaces.specs.Spaces.{has_space, held_at, with_held};
+ghost use Rattle.unixmodel.specs.declared.call.Call.TheVariants as Call;
+ghost use Rattle.unixmodel.specs.Numbers.{int_of, natural};
+ghost use Rattle.unixmodel.specs.Outcome.{pending_arg};
+
+use crate::outcome::{Came, pending};
+use blockdev::BlockDev;
+use kernel::descriptors::share_all;
+use kernel::numbers::{int, natural};
+use kernel::{Kernel, has_slept};
+use proc::Process;
+use spaces::Spaces;
+use sv39::Translate;
+use unixmodel::call::Call;
+use unixmodel::process::{Mode, Pending};
+use vm::Perm;
+
+/// The marks of the pages that sbrk adds.
+const HEAP: Perm = Perm {
+    w: true,
+    x: false,
+    u: true,
+};
+
+// Whether a status can be written at an address of the running process; at address 0 none is.
+fn can_answer<D: BlockDev, T: Translate + Drop>(
+    kernel: &Kernel<D, T>,
+    at: usize,
+    address: u64,
+) -> bool
+    requires { kernel.now.spaces.active ≡ Some at }
+    ensures { result ≡ can_answer (held_at kernel.now.spaces at).memory address }
+{
+    address == 0 || kernel.can_write(at, address, 4)
+}
+
+// Writes the status of a child at an address of a place, unless that is 0.
+fn write_status<T: Translate + Drop>(spaces: &mut Spaces<T>, at: usize, address: u64, status: i32)
+    requires space { has_space spaces.old at ≡ true }
+    requires can { can_answer (held_at spaces.old at).memory address ≡ true }
+    ensures { spaces.new ≡ with_held spaces.old at (with_status (held_at spaces.old at) address status) }
+{
+    if address != 0 {
+        let _written = spaces.write(at, address, &status.to_le_bytes());
+    }
+}
+
+/// fork(): a child that is ready, with the same pages, descriptors and directory, to which it answers 0.
+pub(crate) fn fork<D: BlockDev, T: Translate + Drop>(kernel: &mut Kernel<D, T>, at: usize) -> Came
+    requires { Runs kernel.old at }
+    ensures { Acts kernel.old kernel.new at (Some Call.Fork) result }
+{
+    let Some(process) = kernel.on_hart(at) else {
+        return Came::Refuses;
+    };
+    let Ok(seat) = kernel.table.next_seat() else {
+        return Came::Refuses;
+    };
+    if !kernel.spaces.copy(at, seat.place) {
+        return Came::Refuses;
+    }
+    share_all(&mut kernel.files, &process.descriptors);
+    let mut registers = process.registers;
+    registers[10] = 0;
+    let _seat = kernel.table.alloc(Process {
+        parent: process.pid,
+        registers,
+        killed: false,
+        mode: Mode::Ready,
+        ..process
+    });
+    Came::Answers(u64::from(seat.pid))
+}
+
+/// exit(status): the process ends.
+pub(crate) fn exit<D: BlockDev, T: Translate + Drop>(kernel: &Kernel<D, T>, at: usize) -> Came
+    requires { Runs kernel.now at }
+    ensures { Acts kernel.now kernel.now at (Some Call.Exit) result }
+{
+    Came::Exits(int(kernel.argument(0)))
+}
+
+/// wait(address): waits for a zombie child, whose status is written at the address, unless that is 0, and whose pid is
+/// the answer.
+pub(crate) fn wait<D: BlockDev, T: Translate + Drop>(kernel: &mut Kernel<D, T>, at: usize) -> Came
+    requires { Runs kernel.old at }
+    ensures { Acts kernel.old kernel.new at (Some Call.Wait) result }
+{
+    let parent = kernel.pid(at);
+    if !kernel.table.has_child(parent) || !can_answer(kernel, at, kernel.argument(0)) {
+        return Came::Refuses;
+    }
+    let pending = pending(kernel, Call::Wait);
+    wait_on(kernel, at, pending)
+}
+
+/// A wait goes on: it takes the first zombie child, or waits still.
+pub(crate) fn wait_on<D: BlockDev, T: Translate + Drop>(
+    kernel: &mut Kernel<D, T>,
+    at: usize,
+    pending: Pending,
+) -> Came
+    requires runs { Runs kernel.old at }
+    requires number { pending.number ≡ Call.Wait }
+    requires can { can_answer (held_at kernel.old.spaces at).memory (pending_arg pending 0) ≡ true }
+    ensures { GoesOn kernel.old kernel.new at pending result }
+{
+    let parent = kernel.pid(at);
+    let Some(reaped) = kernel.table.reap(parent) else {
+        return Came::Blocks(pending);
+    };
+    write_status(&mut kernel.spaces, at, pending.args[0], reaped.status);
+    kernel.spaces.destroy(reaped.place);
+    Came::Answers(u64::from(reaped.pid))
+}
+
+// The place of the process that an argument names by its pid.
+fn named<D: BlockDev, T: Translate + Drop>(kernel: &Kernel<D, T>, argument: u64) -> Option<usize>
+    ensures { result ≡ named kernel.now.table.places (natural (int_of argument)) }
+{
+    let pid = natural(argument)?;
+    if pid == 0 { None } else { kernel.find(pid) }
+}
+
+/// kill(pid): the process is marked, and ends when its turn comes; a process that kills itself ends at once.
+pub(crate) fn kill<D: BlockDev, T: Translate + Drop>(kernel: &mut Kernel<D, T>, at: usize) -> Came
+    requires { Runs kernel.old at }
+    ensures { Acts kernel.old kernel.new at (Some Call.Kill) result }
+{
+    let Some(place) = named(kernel, kernel.argument(0)) else {
+        return Came::Refuses;
+    };
+    if place == at {
+        return Came::KillsItself;
+    }
+    kernel.mark(place);
+    Came::Answers(0)
+}
+
+/// getpid()
+pub(crate) fn getpid<D: BlockDev, T: Translate + Drop>(kernel: &Kernel<D, T>, at: usize) -> Came
+    requires { Runs kernel.now at }
+    ensures { Acts kernel.now kernel.now at (Some Call.Getpid) result }
+{
+    Came::Answers(u64::from(kernel.pid(at)))
+}
+
+// sbrk of more: pages of zeros that the process reads and writes.
+fn grow<D: BlockDev, T: Translate + Drop>(kernel: &mut Kernel<D, T>, at: usize, bytes: u64) -> Came
+    requires runs { Runs kernel.old at }
+    requires asked { asked kernel.old at (int_of (argument kernel.old 0)) ≡ Some ((held_at kernel.old.spaces at).size + bytes) }
+    ensures { Acts kernel.old kernel.new at (Some Call.Sbrk) result }
+{
+    let old = kernel.size(at);
+    let _pages = kernel.spaces.pages(at);
+    if !kernel.spaces.grow(at, bytes, HEAP) {
+        return Came::Refuses;
+    }
+    let size = kernel.spaces.size(at);
+    kernel.table.set_size(at, size);
+    Came::Answers(old)
+}
+
+// sbrk of less: pages go.
+fn shrink<D: BlockDev, T: Translate + Drop>(
+    kernel: &mut Kernel<D, T>,
+    at: usize,
+    bytes: u64,
+) -> Came
+    requires runs { Runs kernel.old at }
+    requires less { bytes ≤ (held_at kernel.old.spaces at).size }
+    requires asked { asked kernel.old at (int_of (argument kernel.old 0)) ≡ Some ((held_at kernel.old.spaces at).size - bytes) }
+    ensures { Acts kernel.old kernel.new at (Some Call.Sbrk) result }
+{
+    let old = kernel.size(at);
+    let _pages = kernel.spaces.pages(at);
+    kernel.spaces.shrink(at, bytes);
+    let size = kernel.spaces.size(at);
+    let _free = kernel.spaces.free();
+    kernel.table.set_size(at, size);
+    Came::Answers(old)
+}
+
+/// sbrk(bytes): the size changes by so many bytes, unless that leaves one below 0 or the frames don't suffice, and the
+/// old one is the answer.
+pub(crate) fn sbrk<D: BlockDev, T: Translate + Drop>(kernel: &mut Kernel<D, T>, at: usize) -> Came
+    requires { Runs kernel.old at }
+    ensures { Acts kernel.old kernel.new at (Some Call.Sbrk) result }
+{
+    let delta = int(kernel.argument(0));
+    let bytes = u64::from(delta.unsigned_abs());
+    if delta >= 0 {
+        return grow(kernel, at, bytes);
+    }
+    if bytes > kernel.size(at) {
+        return Came::Refuses;
+    }
+    shrink(kernel, at, bytes)
+}
+
+/// sleep(ticks): waits until so many ticks have passed.
+pub(crate) fn sleep<D: BlockDev, T: Translate + Drop>(kernel: &Kernel<D, T>, at: usize) -> Came
+    requires { Runs kernel.now at }
+    ensures { Acts kernel.now kernel.now at (Some Call.Sleep) result }
+{
+    sleep_on(kernel, at, pending(kernel, Call::Sleep))
+}
+
+/// A sleep goes on, or waits still.
+pub(crate) fn sleep_on<D: BlockDev, T: Translate + Drop>(
+    kernel: &Kernel<D, T>,
+    at: usize,
+    pending: Pending,
+) -> Came
+    requires runs { Runs kernel.now at }
+    requires number { pending.number ≡ Call.Sleep }
+    ensures { GoesOn kernel.now kernel.now at pending result }
+{
+    if has_slept(kernel.ticks(), &pending) {
+        Came::Answers(0)
+    } else {
+        Came::Blocks(pending)
+    }
+}
+
+/// uptime(): the ticks so far.
+pub(crate) fn uptime<D: BlockDev, T: Translate + Drop>(kernel: &Kernel<D, T>, at: usize) -> Came
+    requires { Runs kernel.now at }
+    ensures { Acts kernel.now kernel.now at (Some Call.Uptime) result }
+{
+    Came::Answers(u64::from(kernel.ticks()))
+}

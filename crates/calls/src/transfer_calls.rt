@@ -1,0 +1,356 @@
+//! The calls read and write, and how they go on. Which of them it is goes by the end of a pipe that it would use.
+ghost use Rattle.std.specs.Prelude.{[], ◌<◌, ◌≡◌, ◌≤◌, IfErr, IfOk, OnErr, OnOk, Some, is_some, length, option_map, true, unwrap_or};
+ghost use Rattle.std.specs.Io.KnownBytes.{Appends};
+ghost use Rattle.calls.specs.Acts.{Acts, CanWait, GoesOn, Runs, Tries, going_at, outcome_at};
+ghost use Rattle.kernel.specs.Kernel.{descriptors_at, state_of};
+ghost use Rattle.kernel.specs.Sound.{file_named};
+ghost use Rattle.calls.specs.Transfers.{Begins, OnSomeNode, OnThePipe, Transfers, IsFront, call_on, can_transfer, target_for, target_named};
+ghost use Rattle.files.specs.declared.file.End.TheVariants as End;
+ghost use Rattle.console.specs.Output.{AppendsBeginning};
+ghost use Rattle.files.specs.Meant.{end_of, target_of};
+ghost use Rattle.files.specs.Places.{has_end, opens_of};
+ghost use Rattle.spaces.specs.Spaces.{held_at};
+ghost use Rattle.unixmodel.specs.declared.call.Call.TheVariants as Call;
+ghost use Rattle.unixmodel.specs.Failures.{Rises};
+ghost use Rattle.unixmodel.specs.Memory.{reach, read_bytes};
+ghost use Rattle.unixmodel.specs.Outcome.{limited};
+ghost use Rattle.unixmodel.specs.declared.trap.Access.TheVariants.{Load};
+ghost use Rattle.vm.specs.Reach.{piece_at};
+
+use crate::halt::Halt;
+use crate::outcome::{Came, REFUSED, pending};
+use blockdev::BlockDev;
+use console::{Out, OutFault, ROOM};
+use files::{End, Target};
+use kernel::Kernel;
+use kernel::numbers::{low, natural};
+use sv39::Translate;
+use unixmodel::call::Call;
+use unixmodel::process::Pending;
+
+// The call that uses an end.
+fn call_on(end: End) -> Call
+    ensures { result ≡ call_on end }
+{
+    match end {
+        End::Read => Call::Read,
+        End::Write => Call::Write,
+    }
+}
+
+// What the open file that a descriptor of the process in a place names is open on.
+fn open_target<D: BlockDev, T: Translate + Drop>(
+    kernel: &Kernel<D, T>,
+    at: usize,
+    descriptor: u32,
+) -> Option<Target>
+    ensures { option_map target_of result ≡ target_named kernel.now at descriptor }
+{
+    let Some(id) = kernel.open_id(at, descriptor) else {
+        return None;
+    };
+    match kernel.files.file(usize::from(id)) {
+        Some(file) => Some(file.target),
+        None => None,
+    }
+}
+
+// Whether an end of a pipe is open.
+fn has_end<D: BlockDev, T: Translate + Drop>(kernel: &Kernel<D, T>, pipe: usize, end: End) -> bool
+    ensures { result ≡ has_end (opens_of kernel.now.files) pipe (end_of end) }
+{
+    kernel.files.has_end(pipe, end)
+}
+
+// What the open file that a descriptor names is open on, where it is open for reading or writing.
+fn target_for<D: BlockDev, T: Translate + Drop>(
+    kernel: &Kernel<D, T>,
+    end: End,
+    at: usize,
+    descriptor: u32,
+) -> Option<Target>
+    ensures { option_map target_of result ≡ target_for end (file_named (opens_of kernel.now.files) (descriptors_at kernel.now at) descriptor) }
+{
+    let Some(id) = kernel.open_id(at, descriptor) else {
+        return None;
+    };
+    let id = usize::from(id);
+    match end {
+        End::Read => kernel.files.read(id).ok(),
+        End::Write => kernel.files.write(id).ok(),
+    }
+}
+
+// Whether the running process may transfer so many bytes: a read writes them, and a write reads them.
+fn can_transfer<D: BlockDev, T: Translate + Drop>(
+    kernel: &Kernel<D, T>,
+    end: End,
+    at: usize,
+    address: u64,
+    count: u64,
+) -> bool
+    requires { kernel.now.spaces.active ≡ Some at }
+    ensures { result ≡ can_transfer end (held_at kernel.now.spaces at).memory address count }
+{
+    match end {
+        End::Read => kernel.spaces.can_write(at, address, count),
+        End::Write => kernel.spaces.can_read(at, address, count),
+    }
+}
+
+// A read or a write begins: its arguments are tested. `Err`: it goes on with nothing, and comes to this.
+fn begin_transfer<D: BlockDev, T: Translate + Drop>(
+    kernel: &Kernel<D, T>,
+    at: usize,
+    end: End,
+) -> Result<(Target, Pending), Came>
+    requires { Runs kernel.now at }
+    ensures answered { IfErr result (λ came. Acts kernel.now kernel.now at (Some (call_on end)) came) }
+    ensures begins { IfOk result (λ r. Begins kernel.now at end (target_of r.0) r.1) }
+{
+    let pending = pending(kernel, call_on(end));
+    let Some(target) = target_for(kernel, end, at, low(pending.args[0])) else {
+        return Err(Came::Refuses);
+    };
+    let Some(count) = natural(pending.args[2]) else {
+        return Err(Came::Refuses);
+    };
+    if count == 0 {
+        return Err(Came::Answers(0));
+    }
+    if !can_transfer(kernel, end, at, pending.args[1], u64::from(count)) {
+        return Err(Came::Refuses);
+    }
+    Ok((target, pending))
+}
+
+// ---- read
+
+/// read(descriptor, address, count) from the console or from a pipe. Its bytes go to an address that may be written
+/// for all of the count, which is tested first.
+pub(crate) fn read<D: BlockDev, T: Translate + Drop>(kernel: &mut Kernel<D, T>, at: usize) -> Came
+    requires { Runs kernel.old at }
+    ensures { Acts kernel.old kernel.new at (Some Call.Read) result }
+{
+    match begin_transfer(kernel, at, End::Read) {
+        Ok((target, pending)) => read_from(kernel, at, target, pending),
+        Err(came) => came,
+    }
+}
+
+/// The process goes on with its pending read.
+pub(crate) fn read_on<D: BlockDev, T: Translate + Drop>(
+    kernel: &mut Kernel<D, T>,
+    at: usize,
+    pending: Pending,
+) -> Came
+    requires runs { Runs kernel.old at }
+    requires can { CanWait kernel.old at pending }
+    requires number { pending.number ≡ Call.Read }
+    ensures { GoesOn kernel.old kernel.new at pending result }
+{
+    let Some(target) = open_target(kernel, at, low(pending.args[0])) else {
+        unreachable!()
+    };
+    read_from(kernel, at, target, pending)
+}
+
+// A read goes on, of what is open there.
+fn read_from<D: BlockDev, T: Translate + Drop>(
+    kernel: &mut Kernel<D, T>,
+    at: usize,
+    target: Target,
+    pending: Pending,
+) -> Came
+    requires { Transfers kernel.old at End.Read (target_of target) pending }
+    ensures { GoesOn kernel.old kernel.new at pending result }
+{
+    match target {
+        Target::Node { .. } => read_console(kernel, at, pending),
+        Target::Pipe { pipe, .. } => read_pipe(kernel, at, pipe, pending),
+    }
+}
+
+// From the console: the process takes what was typed, and waits on for the rest of a line.
+fn read_console<D: BlockDev, T: Translate + Drop>(
+    kernel: &mut Kernel<D, T>,
+    at: usize,
+    pending: Pending,
+) -> Came
+    requires { OnSomeNode kernel.old at End.Read pending }
+    ensures { GoesOn kernel.old kernel.new at pending result }
+{
+    let _pages = kernel.spaces.pages(at);
+    let left = u64::from(low(pending.args[2])) - pending.done;
+    let mut buffer = [0; ROOM];
+    let taken = kernel
+        .console
+        .take(left as usize, pending.done > 0, &mut buffer);
+    let address = pending.args[1] + pending.done;
+    let _written = kernel.spaces.write(at, address, &buffer[..taken.count]);
+    let _kept = kernel.spaces.pages(at);
+    let done = pending.done + taken.count as u64;
+    if taken.over {
+        return Came::Answers(done);
+    }
+    Came::Blocks(Pending { done, ..pending })
+}
+
+// From a pipe: the process takes what is there; from an empty one it takes nothing where no byte can come, and else
+// waits.
+fn read_pipe<D: BlockDev, T: Translate + Drop>(
+    kernel: &mut Kernel<D, T>,
+    at: usize,
+    pipe: usize,
+    pending: Pending,
+) -> Came
+    requires { OnThePipe kernel.old at End.Read pipe pending }
+    ensures { GoesOn kernel.old kernel.new at pending result }
+{
+    if kernel.spaces.has_bytes(pipe) {
+        let count = low(pending.args[2]) as usize;
+        let taken = kernel.spaces.read_pipe(pipe, at, pending.args[1], count);
+        return Came::Answers(taken as u64);
+    }
+    if has_end(kernel, pipe, End::Write) {
+        Came::Blocks(pending)
+    } else {
+        Came::Answers(0)
+    }
+}
+
+// ---- write
+
+// The next bytes to put out: at most so many, and at least one.
+fn piece<D: BlockDev, T: Translate + Drop>(
+    kernel: &Kernel<D, T>,
+    at: usize,
+    address: u64,
+    most: u64,
+) -> &[u8]
+    requires running { kernel.now.spaces.active ≡ Some at }
+    requires readable { 0 < length (reach Load (held_at kernel.now.spaces at).memory address) }
+    requires most { 0 < most }
+    ensures some { 0 < length result.now }
+    ensures most { length result.now ≤ most }
+    ensures piece { IsFront result.now (piece_at Load (held_at kernel.now.spaces at).memory address) }
+{
+    let _pages = kernel.spaces.pages(at);
+    let piece = kernel.spaces.readable(at, address);
+    if piece.len() as u64 > most {
+        &piece[..most as usize]
+    } else {
+        piece
+    }
+}
+
+// Puts out so many bytes of the running process, a page at a time.
+fn print<D: BlockDev, T: Translate + Drop, W: Out>(
+    kernel: &Kernel<D, T>,
+    at: usize,
+    address: u64,
+    count: u64,
+    out: &mut W,
+) -> Result<(), OutFault>
+    requires running { kernel.now.spaces.active ≡ Some at }
+    requires readable { is_some (read_bytes (held_at kernel.now.spaces at).memory address count) ≡ true }
+    ensures ok { OnOk result (Appends (W.contents out.old) (W.contents out.new) (unwrap_or (read_bytes (held_at kernel.now.spaces at).memory address count) [])) }
+    ensures err { OnErr result (AppendsBeginning (W.contents out.old) (W.contents out.new) (unwrap_or (read_bytes (held_at kernel.now.spaces at).memory address count) [])) }
+    ensures later { W.failures out.old ≤ W.failures out.new }
+    ensures cause { OnErr result (Rises (W.failures out.old) (W.failures out.new)) }
+{
+    let _pages = kernel.spaces.pages(at);
+    let mut done = 0;
+    while done < count {
+        let piece = piece(kernel, at, address + done, count - done);
+        out.put(piece)?;
+        done += piece.len() as u64;
+    }
+    Ok(())
+}
+
+/// write(descriptor, address, count) to the console or a pipe. Its bytes are all readable, which is tested first.
+/// `Console`: the console failed.
+pub(crate) fn write<D: BlockDev, T: Translate + Drop, W: Out>(
+    kernel: &mut Kernel<D, T>,
+    at: usize,
+    console: &mut W,
+) -> Result<Came, Halt>
+    requires { Runs kernel.old at }
+    ensures tries { Tries kernel.old kernel.new at (outcome_at (state_of kernel.old) at (Some Call.Write)) (W.contents console.old) (W.contents console.new) (Rises (W.failures console.old) (W.failures console.new)) ⊥ result }
+    ensures later { W.failures console.old ≤ W.failures console.new }
+{
+    match begin_transfer(kernel, at, End::Write) {
+        Ok((target, pending)) => write_to(kernel, at, target, pending, console),
+        Err(came) => Ok(came),
+    }
+}
+
+// A write begins, to what is open there: to the console it puts out all of its bytes.
+fn write_to<D: BlockDev, T: Translate + Drop, W: Out>(
+    kernel: &mut Kernel<D, T>,
+    at: usize,
+    target: Target,
+    pending: Pending,
+    console: &mut W,
+) -> Result<Came, Halt>
+    requires { Transfers kernel.old at End.Write (target_of target) pending }
+    ensures tries { Tries kernel.old kernel.new at (limited (going_at (state_of kernel.old) at pending)) (W.contents console.old) (W.contents console.new) (Rises (W.failures console.old) (W.failures console.new)) ⊥ result }
+    ensures later { W.failures console.old ≤ W.failures console.new }
+{
+    match target {
+        Target::Node { .. } => {
+            let count = u64::from(low(pending.args[2]));
+            match print(kernel, at, pending.args[1], count, console) {
+                Ok(()) => Ok(Came::Answers(count)),
+                Err(OutFault::Writer) => Err(Halt::Console),
+            }
+        }
+        Target::Pipe { pipe, .. } => Ok(write_pipe(kernel, at, pipe, pending)),
+    }
+}
+
+/// The process goes on with its pending write, which is one to a pipe.
+pub(crate) fn write_on<D: BlockDev, T: Translate + Drop>(
+    kernel: &mut Kernel<D, T>,
+    at: usize,
+    pending: Pending,
+) -> Came
+    requires runs { Runs kernel.old at }
+    requires can { CanWait kernel.old at pending }
+    requires number { pending.number ≡ Call.Write }
+    ensures { GoesOn kernel.old kernel.new at pending result }
+{
+    let Some(target) = open_target(kernel, at, low(pending.args[0])) else {
+        unreachable!()
+    };
+    match target {
+        Target::Node { .. } => unreachable!(),
+        Target::Pipe { pipe, .. } => write_pipe(kernel, at, pipe, pending),
+    }
+}
+
+// To a pipe: what fits of its bytes is put in, and the process waits while some are left. Without a read end it answers
+// -1.
+fn write_pipe<D: BlockDev, T: Translate + Drop>(
+    kernel: &mut Kernel<D, T>,
+    at: usize,
+    pipe: usize,
+    pending: Pending,
+) -> Came
+    requires { OnThePipe kernel.old at End.Write pipe pending }
+    ensures { GoesOn kernel.old kernel.new at pending result }
+{
+    if !has_end(kernel, pipe, End::Read) {
+        return Came::Answers(REFUSED);
+    }
+    let _pages = kernel.spaces.pages(at);
+    let left = u64::from(low(pending.args[2])) - pending.done;
+    let address = pending.args[1] + pending.done;
+    let sent = kernel.spaces.write_pipe(pipe, at, address, left as usize);
+    let done = pending.done + sent as u64;
+    if done == u64::from(low(pending.args[2])) {
+        return Came::Answers(done);
+    }
+    Came::Blocks(Pending { done, ..pending })
+}

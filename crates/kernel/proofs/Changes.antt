@@ -1,0 +1,258 @@
+-- Which process runs, and the end of a process.
+use Rattle.std.proofs.Common.{◌≡◌, ◌≢◌, ℕ, zero, suc, ◌<◌, ◌≤◌, ◌%◌, inl, inr, true, false, nat_eq, List, [], ◌∷◌, length, map, Option, Some, None, ℤ, refl, ap, sym, ◌∙◌, arith}
+use Rattle.std.specs.Prelude.{if◌then◌else◌, option_map, slice_index, slice_index_or, slice_set}
+use Rattle.std.proofs.lemmas.Bool.{ne_eqb}
+use Rattle.std.proofs.lemmas.Bool.Decides.{nat_tests}
+use Rattle.std.proofs.lemmas.List.{get_or-set_other, length-map, length-set, set-get_or}
+use Rattle.std.specs.Option.{option_eq}
+use Rattle.std.proofs.Math.ListN as listn
+use Rattle.kernel.specs.Descriptors.{all_closed, descriptors_in, standing}
+use Rattle.kernel.specs.Kernel.{Kernel, base, descriptors_at, ended, halted_by, idle, left_as, left_files, loaded, memories, memory_in, on_hart, rest_of, state_of}
+use Rattle.kernel.specs.Sound.{idle-filed, IsKernel, IsMode, IsPlace, IsPlaced, WaitsWell, is_at}
+use Rattle.kernel.proofs.Named.{Leaves, counted-ended, counts-joined, fewer-pipes, leaves-standing, opens-all_closed, reap-closed, table-all_closed}
+use Rattle.kernel.proofs.Opens.{opened-put, waits-fewer, waits-set}
+use Rattle.kernel.proofs.Reaped.{opened-loaded}
+use Rattle.kernel.proofs.Runs.{IsRun, memory-at, put-with, runs-set, same_or_not, set-twice, slot-other, slot-put, slot-within, state-run, with_process, within-run}
+use Rattle.files.specs.Counts.{Counts}
+use Rattle.files.specs.Places.{Counted, opens_of}
+use Rattle.proc.specs.declared.process.Process.{Process}
+use Rattle.proc.specs.Places as table
+use Rattle.proc.specs.Places.{Places, changed_at, exited, orphaned, zombie_of}
+use Rattle.proc.specs.Whole.{with_memory, with_table, with_zombie-with_table}
+use Rattle.spaces.specs.Spaces.{Held, Spaces, taken_frames}
+use Rattle.unixmodel.specs.declared.process.Mode.{Mode}
+use Rattle.unixmodel.specs.declared.process.Mode.TheVariants.{Ready, Running, Waiting, Zombie}
+use Rattle.unixmodel.specs.Files.{put, slot}
+use Rattle.unixmodel.specs.Memory.{Memory}
+use Rattle.unixmodel.specs.OpenFiles.{OpenFile}
+use Rattle.unixmodel.specs.Outcome as ends
+use Rattle.unixmodel.specs.Outcome.{end_process}
+use Rattle.unixmodel.specs.Process.{is_running_mode}
+use Rattle.unixmodel.specs.Reap.{reap}
+use Rattle.unixmodel.specs.State.{State, holds, put_process}
+
+-- ---- places
+
+-- where the process of a place is another one
+pub stands-put : (os : List (Option Process)) (hs : List (Option Held)) (i : ℕ) (o : Option Process) → i < length os → IsPlace o (slot hs i)
+    → ((j : ℕ) → IsPlace (slot os j) (slot hs j)) → (j : ℕ) → IsPlace (slot (slice_set os i o) j) (slot hs j)
+stands-put os hs i o short is stands j = elim (same_or_not j i) [
+  | inl same ↦ rw (same, slot-put os i o short) is
+  | inr other ↦ rw (slot-other os i j o other) (stands j)
+]
+
+mode-kept : (s : Spaces) (p : Process) (m : Memory) (mode : Mode) → IsMode p m mode → IsMode (on_hart s p) m mode
+mode-kept s p m Running is = (record { descriptors = is.0.descriptors; directory = is.0.directory }, is.1)
+mode-kept s p m Ready is = record { descriptors = is.descriptors; directory = is.directory }
+mode-kept s p m (Waiting w) is = (record { descriptors = is.0.descriptors; directory = is.0.directory }, is.1)
+mode-kept s p m (Zombie status) is = record { descriptors = is.descriptors; directory = is.directory }
+
+-- the hart's process stands as well as its table's
+hart-placed : (s : Spaces) → slice_index s.registers 0 ≡ 0 → s.pc % 4 ≡ 0 → (o : Option Process) (q : Option Held) → IsPlace o q → IsPlace (option_map (on_hart s) o) q
+hart-placed s zero' aligned None None is = is
+hart-placed s zero' aligned None (Some h) is = is
+hart-placed s zero' aligned (Some p) None is = is
+hart-placed s zero' aligned (Some p) (Some h) is = record { size = is.size; zero = zero'; aligned = aligned; mode = mode-kept s p h.memory p.mode is.mode }
+
+changed-placed : (s : Spaces) → slice_index s.registers 0 ≡ 0 → s.pc % 4 ≡ 0 → (os : List (Option Process)) (hs : List (Option Held)) (i : ℕ) → ((j : ℕ) → IsPlace (slot os j) (slot hs j))
+    → (j : ℕ) → IsPlace (slot (slice_set os i (option_map (on_hart s) (slot os i))) j) (slot hs j)
+changed-placed s z a [] hs i is j = is j
+changed-placed s z a (o ∷ os) hs zero is zero = hart-placed s z a o (slot hs 0) (is 0)
+changed-placed s z a (o ∷ os) hs zero is (suc j) = is (suc j)
+changed-placed s z a (o ∷ os) hs (suc i) is zero = is 0
+changed-placed s z a (o ∷ os) [] (suc i) is (suc j) = changed-placed s z a os [] i (λ b. is (suc b)) j
+changed-placed s z a (o ∷ os) (h ∷ hs) (suc i) is (suc j) = changed-placed s z a os hs i (λ b. is (suc b)) j
+
+active-placed : (k : Kernel) → slice_index k.spaces.registers 0 ≡ 0 → k.spaces.pc % 4 ≡ 0 → (o : Option ℕ) → ((j : ℕ) → IsPlace (slot k.table.places j) (slot k.spaces.places j))
+    → (j : ℕ) → IsPlace (slot (changed_at k.table (on_hart k.spaces) o).places j) (slot k.spaces.places j)
+active-placed k z a None is j = is j
+active-placed k z a (Some i) is j = changed-placed k.spaces z a k.table.places k.spaces.places i is j
+
+pub loaded-placed : (k : Kernel) → IsKernel k → slice_index k.spaces.registers 0 ≡ 0 → k.spaces.pc % 4 ≡ 0 → (j : ℕ) → IsPlace (slot (loaded k).places j) (slot k.spaces.places j)
+loaded-placed k is z a j = active-placed k z a k.spaces.active is.stands j
+
+running-changed : (s : Spaces) (os : List (Option Process)) (i j : ℕ) → holds table.is_running (slot (slice_set os i (option_map (on_hart s) (slot os i))) j) ≡ holds table.is_running (slot os j)
+running-changed s [] i j = refl
+running-changed s (None ∷ os) zero zero = refl
+running-changed s (Some p ∷ os) zero zero = refl
+running-changed s (o ∷ os) zero (suc j) = refl
+running-changed s (o ∷ os) (suc i) zero = refl
+running-changed s (o ∷ os) (suc i) (suc j) = running-changed s os i j
+
+pub running-active : (k : Kernel) (o : Option ℕ) (j : ℕ) → holds table.is_running (slot (changed_at k.table (on_hart k.spaces) o).places j) ≡ holds table.is_running (slot k.table.places j)
+running-active k None j = refl
+running-active k (Some i) j = running-changed k.spaces k.table.places i j
+
+pub length-active : (k : Kernel) (o : Option ℕ) → length (changed_at k.table (on_hart k.spaces) o).places ≡ length k.table.places
+length-active k None = refl
+length-active k (Some i) = length-set k.table.places i (option_map (on_hart k.spaces) (slot k.table.places i))
+
+-- a process that doesn't run is that of the table
+pub slot-idle : (k : Kernel) (at : ℕ) (o : Option ℕ) → option_eq nat_eq o (Some at) ≡ false → slot (changed_at k.table (on_hart k.spaces) o).places at ≡ slot k.table.places at
+slot-idle k at None other = refl
+slot-idle k at (Some i) other = get_or-set_other k.table.places i at (option_map (on_hart k.spaces) (slot k.table.places i)) None (grind (arith, nat_tests, other))
+
+descriptors-changed : (s : Spaces) (os : List (Option Process)) (i j : ℕ) → descriptors_in (slot (slice_set os i (option_map (on_hart s) (slot os i))) j) ≡ descriptors_in (slot os j)
+descriptors-changed s [] i j = refl
+descriptors-changed s (None ∷ os) zero zero = refl
+descriptors-changed s (Some p ∷ os) zero zero = refl
+descriptors-changed s (o ∷ os) zero (suc j) = refl
+descriptors-changed s (o ∷ os) (suc i) zero = refl
+descriptors-changed s (o ∷ os) (suc i) (suc j) = descriptors-changed s os i j
+
+descriptors-active : (k : Kernel) (o : Option ℕ) (j : ℕ) → descriptors_in (slot (changed_at k.table (on_hart k.spaces) o).places j) ≡ descriptors_at k j
+descriptors-active k None j = refl
+descriptors-active k (Some i) j = descriptors-changed k.spaces k.table.places i j
+
+-- the descriptors are those of the loaded table's process
+pub descriptors-loaded : (k : Kernel) (j : ℕ) (q : Process) → slot (loaded k).places j ≡ Some q → descriptors_at k j ≡ q.descriptors
+descriptors-loaded k j q at = sym (descriptors-active k k.spaces.active j) ∙ ap descriptors_in at
+
+-- ---- the process that ran runs no more
+
+abbrev pub left_to : Kernel → ℕ → Process → Kernel
+left_to k i q = record k { table = with_process k.table i q; spaces = idle k.spaces }
+
+pub other-at : (i j : ℕ) → j ≢ i → nat_eq i j ≡ false
+other-at i j other = ne_eqb i j (λ e. other (sym e))
+
+module _ (k : Kernel) (i : ℕ) (p : Process) (h : Held) (r : IsRun k i p h) (is : IsKernel k) where
+  pub left-as : (mode : Mode) → left_as k i mode ≡ left_to k i (record p { registers = k.spaces.registers; pc = k.spaces.pc; mode = mode })
+  left-as mode = rw r.process refl
+
+  module _ (q : Process) (placed : IsPlaced q h) (rests : is_running_mode q.mode ≡ false) where
+    pub left-kernel : q.descriptors ≡ p.descriptors → WaitsWell (opens_of k.files) (Some q) → IsKernel (left_to k i q)
+    left-kernel same well = record {
+      all = length-set k.table.places i (Some q) ∙ is.all;
+      spaces = is.spaces;
+      stands = stands-put k.table.places k.spaces.places i (Some q) (within-run k i p h r) (rw r.space placed) is.stands;
+      runs = runs-set k.table.places i (Some q) k.spaces.active None (within-run k i p h r) rests (λ j other. rw (r.active, other-at i j other) refl) is.runs;
+      filed = idle-filed is.filed;
+      fits = is.fits;
+      opened = opened-put k.files k.spaces.pipes k.table.places i (Some q) (same ∙ sym (ap descriptors_in r.process)) well is.opened;
+    }
+
+    pub left-state : state_of (left_to k i q) ≡ put_process (state_of k) i (with_memory h.memory q)
+    left-state =
+        let rest = base (rest_of k) in
+        let old = with_process k.table i (on_hart k.spaces p) in
+        let twice : put k.table.places i q ≡ put (put k.table.places i (on_hart k.spaces p)) i q = sym (set-twice k.table.places i (Some (on_hart k.spaces p)) (Some q)) in
+        let at : slice_index_or (memories k.spaces) i [] ≡ h.memory = memory-at k.spaces i ∙ ap memory_in r.space in
+        let same : memories k.spaces ≡ slice_set (memories k.spaces) i h.memory = sym (ap (λ m. slice_set (memories k.spaces) i m) (sym at) ∙ set-get_or (memories k.spaces) i []) in
+        let short : i < length (memories k.spaces) = rw (length-map k.spaces.places memory_in) (slot-within k.spaces.places i h r.space) in
+        ap (λ (places : List (Option Process)). with_table rest (record k.table { places = places }) (memories k.spaces)) twice
+        ∙ ap (λ (ms : List Memory). with_table rest (with_process old i q) ms) same
+        ∙ sym (put-with rest old (memories k.spaces) i q h.memory short)
+        ∙ sym (ap (λ (s : State). put_process s i (with_memory h.memory q)) (state-run k i p h r))
+
+-- ---- the end of a process
+
+parent-kept : (p : Process) (m : Memory) (mode : Mode) → IsMode p m mode → IsMode (record p { parent = 1 }) m mode
+parent-kept p m Running is = (record { descriptors = is.0.descriptors; directory = is.0.directory }, is.1)
+parent-kept p m Ready is = record { descriptors = is.descriptors; directory = is.directory }
+parent-kept p m (Waiting w) is = (record { descriptors = is.0.descriptors; directory = is.0.directory }, is.1)
+parent-kept p m (Zombie status) is = record { descriptors = is.descriptors; directory = is.directory }
+
+orphan-placed : (pid : ℕ) (o : Option Process) (q : Option Held) → IsPlace o q → IsPlace (option_map (orphaned pid) o) q
+orphan-placed pid None None is = is
+orphan-placed pid None (Some h) is = is
+orphan-placed pid (Some p) None is = is
+orphan-placed pid (Some p) (Some h) is = elim (nat_eq p.parent pid) as (λ b. IsPlaced (if b then record p { parent = 1 } else p) h) [
+  | true ↦ record { size = is.size; zero = is.zero; aligned = is.aligned; mode = parent-kept p h.memory p.mode is.mode }
+  | false ↦ is
+]
+
+orphan-runs : (pid : ℕ) (o : Option Process) → holds table.is_running (option_map (orphaned pid) o) ≡ holds table.is_running o
+orphan-runs pid None = refl
+orphan-runs pid (Some p) = elim (nat_eq p.parent pid) as (λ b. table.is_running (if b then record p { parent = 1 } else p) ≡ table.is_running p) [ true ↦ refl | false ↦ refl ]
+
+orphan-waits : (opens : List (Option OpenFile)) (pid : ℕ) (o : Option Process) → WaitsWell opens o → WaitsWell opens (option_map (orphaned pid) o)
+orphan-waits opens pid None is = tt
+orphan-waits opens pid (Some p) is = elim (nat_eq p.parent pid) as (λ b. WaitsWell opens (Some (if b then record p { parent = 1 } else p))) [ true ↦ is | false ↦ is ]
+
+slot-map : (f : Process → Process) (os : List (Option Process)) (j : ℕ) → slot (map (option_map f) os) j ≡ option_map f (slot os j)
+slot-map f os j = listn.get_or-map (option_map f) os j None
+
+-- k: the loaded table has process q in place i, which lives, and no other place runs
+module _ (k : Kernel) (is : IsKernel k) (z : slice_index k.spaces.registers 0 ≡ 0) (a : k.spaces.pc % 4 ≡ 0) (i : ℕ) (q : Process) (h : Held)
+    (there : slot (loaded k).places i ≡ Some q) (space : slot k.spaces.places i ≡ Some h) (pids : halted_by (slot k.table.places i) ≡ halted_by (Some q)) (alone : (j : ℕ) → j ≢ i → is_at j k.spaces.active ≡ false) (status : ℤ) where
+  abbrev orphans : List (Option Process)
+  orphans = map (option_map (orphaned q.pid)) (loaded k).places
+
+  abbrev gone : Process
+  gone = zombie_of q status
+
+  abbrev pub left : List (Option Counted)
+  left = all_closed k.files q.descriptors
+
+  abbrev pub ended_to : Kernel
+  ended_to = record k {
+    table = record (loaded k) { places = put orphans i gone };
+    spaces = record (idle k.spaces) { pipes = standing k.spaces.pipes (opens_of left) };
+    files = left;
+    halted = halted_by (Some q) status k.halted;
+  }
+
+  pub ended-is : ended k i status ≡ ended_to
+  ended-is =
+      ap (λ (o : Option Process). record k { table = table.ended (loaded k) i status o; spaces = record (idle k.spaces) { pipes = standing k.spaces.pipes (opens_of (left_files k i)) }; files = left_files k i; halted = halted_by (slot k.table.places i) status k.halted }) there
+      ∙ ap (λ (ds : List (Option ℕ)). record k {
+        table = record (loaded k) { places = put orphans i gone };
+        spaces = record (idle k.spaces) { pipes = standing k.spaces.pipes (opens_of (all_closed k.files ds)) };
+        files = all_closed k.files ds;
+        halted = halted_by (slot k.table.places i) status k.halted;
+      }) (descriptors-loaded k i q there)
+      ∙ ap (λ (f : ℤ → Option ℤ → Option ℤ). record k { table = record (loaded k) { places = put orphans i gone }; spaces = record (idle k.spaces) { pipes = standing k.spaces.pipes (opens_of left) }; files = left; halted = f status k.halted }) pids
+
+  short : i < length orphans
+  short = rw (length-map (loaded k).places (option_map (orphaned q.pid))) (slot-within (loaded k).places i q there)
+
+  placed-q : IsPlace (Some q) (Some h)
+  placed-q = rw (there, space) at (loaded-placed k is z a i)
+
+  gone-placed : IsPlaced gone h
+  gone-placed = record { size = placed-q.size; zero = placed-q.zero; aligned = placed-q.aligned; mode = record { descriptors = refl; directory = refl } }
+
+  orphans-placed : (j : ℕ) → IsPlace (slot orphans j) (slot k.spaces.places j)
+  orphans-placed j = rw (slot-map (orphaned q.pid) (loaded k).places j) (orphan-placed q.pid (slot (loaded k).places j) (slot k.spaces.places j) (loaded-placed k is z a j))
+
+  orphans-run : (j : ℕ) → holds table.is_running (slot orphans j) ≡ is_at j k.spaces.active
+  orphans-run j = rw (slot-map (orphaned q.pid) (loaded k).places j) (orphan-runs q.pid (slot (loaded k).places j) ∙ running-active k k.spaces.active j ∙ is.runs j)
+
+  orphans-wait : (j : ℕ) → WaitsWell (opens_of k.files) (slot orphans j)
+  orphans-wait j = rw (slot-map (orphaned q.pid) (loaded k).places j) (orphan-waits (opens_of k.files) q.pid (slot (loaded k).places j) ((opened-loaded k is).waits j))
+
+  leaves : Leaves left k.spaces.pipes (standing k.spaces.pipes (opens_of left))
+  leaves = leaves-standing k.files k.spaces.pipes q.descriptors is.opened.piped
+
+  fewer : taken_frames ended_to.spaces ≤ k.spaces.frames
+  fewer = omega (arith, is.fits, fewer-pipes k.spaces.pipes (standing k.spaces.pipes (opens_of left)) leaves.1.all leaves.1.each)
+
+  pub ended-kernel : IsKernel ended_to
+  ended-kernel = record {
+    all = length-set orphans i (Some gone) ∙ length-map (loaded k).places (option_map (orphaned q.pid)) ∙ length-active k k.spaces.active ∙ is.all;
+    spaces = is.spaces;
+    stands = stands-put orphans k.spaces.places i (Some gone) short (rw space gone-placed) orphans-placed;
+    runs = runs-set orphans i (Some gone) k.spaces.active None short refl (λ j other. sym (alone j other)) orphans-run;
+    filed = idle-filed is.filed;
+    fits = fewer;
+    opened = record {
+      table = table-all_closed k.files q.descriptors is.opened.table;
+      counted = counted-ended k.files (loaded k).places i q status (opened-loaded k is).counted there;
+      each = λ n f at. is.opened.each n f (opens-all_closed k.files q.descriptors n f at);
+      all = leaves.1.all ∙ is.opened.all;
+      piped = leaves.0;
+      waits = waits-set (opens_of left) orphans i (Some gone) tt (λ j. waits-fewer (opens_of k.files) (opens_of left) (opens-all_closed k.files q.descriptors) (slot orphans j) (orphans-wait j));
+    };
+  }
+
+  pub ended-state : k.tree.failed ≡ false → end_process (state_of k) i (with_memory h.memory q) status ≡ state_of ended_to
+  unfolding end_process
+  ended-state up =
+      let at : h.memory ≡ slice_index_or (memories k.spaces) i [] = sym (memory-at k.spaces i ∙ ap memory_in space) in
+      let rest = base (rest_of k) in
+      let old = record (state_of ended_to) { opens = opens_of k.files; pipes = k.spaces.pipes } in
+      let counts : Counts left old.places = counts-joined left ended_to.table.places (memories k.spaces) ended-kernel.opened.counted in
+      ap (λ (m : Memory). reap (ends.with_zombie (with_table rest (loaded k) (memories k.spaces)) i (with_memory m q) status)) at
+      ∙ ap reap (with_zombie-with_table rest (loaded k) (memories k.spaces) i q status)
+      ∙ reap-closed old k.files k.spaces.pipes q.descriptors (is.filed.flat up) is.opened.table is.opened.piped counts

@@ -1,0 +1,150 @@
+-- The end of a process that runs, or where none runs.
+use Rattle.std.proofs.Common.{◌≡◌, ◌≢◌, ℕ, ◌%◌, true, false, List, [], Option, Some, None, ℤ, refl, ap, subst, sym, ◌∙◌}
+use Rattle.std.specs.Prelude.{slice_index, slice_index_or}
+use Rattle.kernel.specs.Descriptors.{all_closed, standing}
+use Rattle.kernel.specs.Kernel.{Kernel, base, ended, halted_by, idle, lives, loaded, memories, memory_in, on_hart, rest_of, state_of}
+use Rattle.kernel.specs.Sound.{IsKernel, IsPlace, IsPlaced, is_at, CanEnd, CanEndIn, IsAlive}
+use Rattle.kernel.proofs.Changes.{descriptors-loaded, ended-is, ended-kernel, loaded-placed, other-at}
+use Rattle.kernel.proofs.Leaving.{ends-at}
+use Rattle.kernel.proofs.Runs.{loaded-run, memory-at, process-with, run-of, set-slot, slot-put, with_process, within-run}
+use Rattle.kernel.proofs.Starts.{killed-ends, state-idle}
+use Rattle.files.specs.Places.{opens_of}
+use Rattle.proc.specs.declared.process.Process.{Process}
+use Rattle.proc.specs.Places.{Places, exited}
+use Rattle.proc.specs.Whole.{with_memory}
+use Rattle.spaces.specs.Spaces.{Held}
+use Rattle.unixmodel.specs.Calls.{end_at}
+use Rattle.unixmodel.specs.Files.{slot}
+use Rattle.unixmodel.specs.Memory.{Memory}
+use Rattle.unixmodel.specs.State.{State, process_at}
+
+-- ---- where none runs
+
+-- process p, which lives, stands in place i with its space
+pub record IsThere (k : Kernel) (i : ℕ) (p : Process) (h : Held) : Type 0 where
+  pub process : slot k.table.places i ≡ Some p
+  pub space : slot k.spaces.places i ≡ Some h
+  pub placed : IsPlaced p h
+
+there-go : (k : Kernel) (i : ℕ) (p : Process) (o : Option Process) (q : Option Held) → slot k.table.places i ≡ o → slot k.spaces.places i ≡ q → IsPlace o q → o ≡ Some p → (h : Held) × IsThere k i p h
+there-go k i p None q process space is at = absurd (cc)
+there-go k i p (Some x) None process space is at = absurd is
+there-go k i p (Some x) (Some h) process space is at =
+    let e : x ≡ p = cc in
+    (h, record { process = process ∙ at; space = space; placed = subst (λ (y : Process). IsPlaced y h) e is })
+
+pub there-of : (k : Kernel) (i : ℕ) (p : Process) → IsKernel k → slot k.table.places i ≡ Some p → (h : Held) × IsThere k i p h
+there-of k i p is at = there-go k i p (slot k.table.places i) (slot k.spaces.places i) refl refl (is.stands i) at
+
+module _ (k : Kernel) (i : ℕ) (p : Process) (h : Held) (is : IsKernel k) (none : k.spaces.active ≡ None) (t : IsThere k i p h) (alive : lives p ≡ true) where
+  pub process-idle : process_at (state_of k) i ≡ Some (with_memory h.memory p)
+  process-idle =
+      let memory : slice_index_or (memories k.spaces) i [] ≡ h.memory = memory-at k.spaces i ∙ ap memory_in t.space in
+      ap (λ (s : State). process_at s i) (state-idle k i p h is none t.process t.space alive)
+      ∙ process-with (base (rest_of k)) k.table (memories k.spaces) i p t.process
+      ∙ ap (λ (m : Memory). Some (with_memory m p)) memory
+
+-- ---- the end of a process
+
+ends-idle : (k : Kernel) (i : ℕ) (o : Option Process) (status : ℤ) → IsKernel k → slice_index k.spaces.registers 0 ≡ 0 → k.spaces.pc % 4 ≡ 0 → k.spaces.active ≡ None → slot k.table.places i ≡ o → IsAlive o → k.tree.failed ≡ false
+    → end_at (state_of k) i status (process_at (state_of k) i) ≡ state_of (ended k i status)
+ends-idle k i None status is z a none at alive up = absurd alive
+ends-idle k i (Some p) status is z a none at alive up =
+    let t = there-of k i p is at in
+    ap (end_at (state_of k) i status) (process-idle k i p t.0 is none t.1 alive)
+    ∙ killed-ends k i p t.0 is none at t.1.space alive up z a status
+
+ends-go : (k : Kernel) (i : ℕ) (o : Option ℕ) (status : ℤ) → IsKernel k → slice_index k.spaces.registers 0 ≡ 0 → k.spaces.pc % 4 ≡ 0 → k.spaces.active ≡ o → CanEndIn k i o
+    → end_at (state_of k) i status (process_at (state_of k) i) ≡ state_of (ended k i status)
+ends-go k i (Some j) status is z a active can =
+    let run = run-of k i is (active ∙ ap Some can) in
+    ends-at k i run.0 run.1.0 run.1.1 is z a status
+ends-go k i None status is z a active can = ends-idle k i (slot k.table.places i) status is z a active refl can.0 can.1
+
+-- what the end of a process makes of the state
+pub ends-can : (k : Kernel) (i : ℕ) (status : ℤ) → IsKernel k → slice_index k.spaces.registers 0 ≡ 0 → k.spaces.pc % 4 ≡ 0 → CanEnd k i
+    → end_at (state_of k) i status (process_at (state_of k) i) ≡ state_of (ended k i status)
+ends-can k i status is z a can = ends-go k i k.spaces.active status is z a refl can
+
+-- process q is what the loaded table has in place i, and no other place runs
+pub record IsWhole (k : Kernel) (i : ℕ) (q : Process) : Type 0 where
+  pub put : loaded k ≡ with_process k.table i q
+  pub pids : halted_by (slot k.table.places i) ≡ halted_by (Some q)
+  pub alone : (j : ℕ) → j ≢ i → is_at j k.spaces.active ≡ false
+
+whole-go : (k : Kernel) (i : ℕ) (q : Process) (o : Option ℕ) → IsKernel k → k.spaces.active ≡ o → CanEndIn k i o → slot (loaded k).places i ≡ Some q → IsWhole k i q
+whole-go k i q (Some j) is active can at =
+    let here : k.spaces.active ≡ Some i = active ∙ ap Some can in
+    let run = run-of k i is here in
+    let load = loaded-run k i run.0 run.1.0 run.1.1 in
+    let held : slot (loaded k).places i ≡ Some (on_hart k.spaces run.0) = ap (λ (t : Places). slot t.places i) load ∙ slot-put k.table.places i (Some (on_hart k.spaces run.0)) (within-run k i run.0 run.1.0 run.1.1) in
+    let e : on_hart k.spaces run.0 ≡ q = cc in
+    record {
+      put = load ∙ ap (with_process k.table i) e;
+      pids = ap halted_by run.1.1.process ∙ ap (λ (x : Process). halted_by (Some x)) e;
+      alone = λ n other. ap (is_at n) here ∙ other-at i n other;
+    }
+whole-go k i q None is active can at =
+    let same : loaded k ≡ k.table = rw active refl in
+    let there : slot k.table.places i ≡ Some q = ap (λ (t : Places). slot t.places i) (sym same) ∙ at in
+    record {
+      put = same ∙ ap (λ (places : List (Option Process)). record k.table { places = places }) (sym (set-slot k.table.places i (Some q) there));
+      pids = ap halted_by there;
+      alone = λ n other. ap (is_at n) active;
+    }
+
+pub whole-of : (k : Kernel) (i : ℕ) (q : Process) → IsKernel k → CanEnd k i → slot (loaded k).places i ≡ Some q → IsWhole k i q
+whole-of k i q is can at = whole-go k i q k.spaces.active is refl can at
+
+-- it is put back, its descriptors are closed, and it ends
+abbrev pub finished : Kernel → ℕ → Process → ℤ → Kernel
+finished k i q status = record k {
+  table = exited (with_process k.table i q) i status;
+  spaces = record (idle k.spaces) { pipes = standing k.spaces.pipes (opens_of (all_closed k.files q.descriptors)) };
+  files = all_closed k.files q.descriptors;
+  halted = halted_by (Some q) status k.halted;
+}
+
+pub finish-is : (k : Kernel) (i : ℕ) (q : Process) (status : ℤ) → IsKernel k → CanEnd k i → slot (loaded k).places i ≡ Some q → finished k i q status ≡ ended k i status
+finish-is k i q status is can at =
+    let w = whole-of k i q is can at in
+    let left = λ (ds : List (Option ℕ)). standing k.spaces.pipes (opens_of (all_closed k.files ds)) in
+    ap (λ (t : Places). record (finished k i q status) { table = exited t i status }) (sym w.put)
+    ∙ ap (λ (ds : List (Option ℕ)). record (finished k i q status) { table = exited (loaded k) i status; spaces = record (idle k.spaces) { pipes = left ds }; files = all_closed k.files ds }) (sym (descriptors-loaded k i q at))
+    ∙ ap (λ (f : ℤ → Option ℤ → Option ℤ). record (ended k i status) { halted = f status k.halted }) (sym w.pids)
+
+space-go : (o : Option Process) (q : Option Held) (p : Process) → IsPlace o q → o ≡ Some p → (h : Held) × (q ≡ Some h)
+space-go None q p is at = absurd (cc)
+space-go (Some x) None p is at = absurd is
+space-go (Some x) (Some h) p is at = (h, refl)
+
+finish-keeps : (k : Kernel) (i : ℕ) (q : Process) (status : ℤ) → IsKernel k → CanEnd k i → slice_index k.spaces.registers 0 ≡ 0 → k.spaces.pc % 4 ≡ 0 → slot (loaded k).places i ≡ Some q → IsKernel (ended k i status)
+finish-keeps k i q status is can z a at =
+    let w = whole-of k i q is can at in
+    let s = space-go (slot (loaded k).places i) (slot k.spaces.places i) q (loaded-placed k is z a i) at in
+    rw (ended-is k is z a i q s.0 at s.1 w.pids w.alone status) (ended-kernel k is z a i q s.0 at s.1 w.pids w.alone status)
+
+-- over the fields: k is what they show, and now is the kernel's value
+pub finish-closes : (k now : Kernel) (i : ℕ) (q : Process) (status : ℤ) → k ≡ now → IsKernel now → CanEnd now i → slice_index now.spaces.registers 0 ≡ 0 → now.spaces.pc % 4 ≡ 0 → slot (loaded now).places i ≡ Some q
+    → IsKernel (finished k i q status)
+finish-closes k now i q status same is can z a at =
+    let keeps : IsKernel (finished now i q status) = rw (finish-is now i q status is can at) (finish-keeps now i q status is can z a at) in
+    rw same keeps
+
+pub finish-made : (k now : Kernel) (i : ℕ) (q : Process) (status : ℤ) → k ≡ now → IsKernel now → CanEnd now i → slot (loaded now).places i ≡ Some q → finished k i q status ≡ ended now i status
+finish-made k now i q status same is can at = ap (λ (x : Kernel). finished x i q status) same ∙ finish-is now i q status is can at
+
+-- there is a process that may end
+finish-some-go : (k : Kernel) (i : ℕ) (o : Option ℕ) → IsKernel k → k.spaces.active ≡ o → CanEndIn k i o → slot (loaded k).places i ≡ None → ⊥
+finish-some-go k i (Some j) is active can at =
+    let run = run-of k i is (active ∙ ap Some can) in
+    let held : slot (loaded k).places i ≡ Some (on_hart k.spaces run.0) =
+    ap (λ (t : Places). slot t.places i) (loaded-run k i run.0 run.1.0 run.1.1) ∙ slot-put k.table.places i (Some (on_hart k.spaces run.0)) (within-run k i run.0 run.1.0 run.1.1) in
+    absurd (cc)
+finish-some-go k i None is active can at =
+    let same : loaded k ≡ k.table = rw active refl in
+    let there : slot k.table.places i ≡ None = ap (λ (t : Places). slot t.places i) (sym same) ∙ at in
+    rw there at can.0
+
+pub finish-some : (k : Kernel) (i : ℕ) → IsKernel k → CanEnd k i → slot (loaded k).places i ≡ None → ⊥
+finish-some k i is can at = finish-some-go k i k.spaces.active is refl can at

@@ -1,0 +1,13 @@
+pub mod Opens
+pub mod Named
+pub mod Reaped
+pub mod Runs
+pub mod Running
+pub mod Changes
+pub mod Leaving
+pub mod Steps
+pub mod Starts
+pub mod Finishes
+pub mod Marks
+pub mod Readies
+pub mod Shown

@@ -1,0 +1,319 @@
+-- The open files and the pipes keep what holds of them where descriptors come and go, and what is left of them is what
+-- the abstract Unix leaves.
+use Rattle.std.proofs.Common.{Bool, List, None, Option, Some, [], ap, arith, cond, false, inl, inr, length, refl, subst, suc, sym, true, zero, ℕ, ℤ, ◌+◌, ◌<◌, ◌≡◌, ◌≤◌, ◌∙◌, ◌∷◌}
+use Rattle.std.specs.Prelude.{drop, is_some, map, option_and_then, option_map, slice_index_or, slice_set, ◌==◌}
+use Rattle.std.proofs.lemmas.Bool.{cases_lt}
+use Rattle.std.proofs.lemmas.Bool.Decides.{nat_tests}
+use Rattle.std.proofs.lemmas.List.{length-map, set-get_or}
+use Rattle.std.proofs.lemmas.List.Sums.{sum_by-cons, sum_by-set}
+use Rattle.std.proofs.Math.ListN as listn
+use Rattle.kernel.specs.Descriptors.{IsCounted, after_close, all_closed, all_shared, closed_in, named_by, names_in, shared_in, standing}
+use Rattle.kernel.proofs.Opens.{count-joined}
+use Rattle.kernel.proofs.Reaped.{nodes-stay}
+use Rattle.files.specs.Counts.{Counts, count-closed, count-shared, lt-no, lt-yes, names, names-none, one_at, one_in}
+use Rattle.files.specs.Pipes.{IsLeftOf, IsPiped, has_pipe-clear, pipes-clear, pipes-left, pipes-same, piped-end, piped-last, piped-node, without_pipes-left}
+use Rattle.files.specs.Places.{Counted, IsTable, closed, count_at, fewer, has_pipe, last_in, last_target, opens_of}
+use Rattle.files.specs.Whole.{IsLeft, left-closed, left-same, opens-closed, opens-closed_last, opens-shared, slot-opens, table-closed, table-shared, without_opens-left}
+use Rattle.proc.specs.declared.process.Process.{Process}
+use Rattle.proc.specs.Places.{orphaned, zombie_of}
+use Rattle.proc.specs.Whole.{joined}
+use Rattle.spaces.specs.Spaces.{Spaces}
+use Rattle.unixmodel.specs.Files.{clear, put, slot, taken}
+use Rattle.unixmodel.specs.Memory.{Memory}
+use Rattle.unixmodel.specs.OpenFiles.{End, OpenFile, Target}
+use Rattle.unixmodel.specs.OpenFiles.Target.{OnNode, OnPipe}
+use Rattle.unixmodel.specs.Reap.{reap, without_nodes, without_pipes}
+use Rattle.unixmodel.specs.Start.{flat_files}
+use Rattle.unixmodel.specs.State.{State}
+
+slot-within : {X : Type 0} (xs : List (Option X)) (i : ℕ) (x : X) → slot xs i ≡ Some x → i < length xs
+slot-within [] i x at = absurd (let bad : None ≡ Some x = at in cc)
+slot-within (y ∷ xs) zero x at = omega arith
+slot-within (y ∷ xs) (suc i) x at = omega (arith, slot-within xs i x at)
+
+-- ---- descriptors that a table counts
+
+-- each open file is counted as often as these descriptors name it, or oftener
+abbrev pub AreNamed : List (Option Counted) → List (Option ℕ) → Type 0
+AreNamed t ds = (n : ℕ) → names n ds ≤ count_at t n
+
+names-cons : (n : ℕ) (d : Option ℕ) (ds : List (Option ℕ)) → names n (d ∷ ds) ≡ one_in n d + names n ds
+names-cons n d ds = sum_by-cons (one_in n) d ds
+
+one_at-self : (n : ℕ) → one_at n n ≡ 1
+one_at-self n = grind (arith, nat_tests)
+
+pub first-named : (t : List (Option Counted)) (n : ℕ) (ds : List (Option ℕ)) → AreNamed t (Some n ∷ ds) → 0 < count_at t n
+first-named t n ds are = omega (arith, are n, names-cons n (Some n) ds, one_at-self n)
+
+-- those of a process are counted
+pub names-counted : (t : List (Option Counted)) (places : List (Option Process)) (i : ℕ) (p : Process) → IsCounted t places → slot places i ≡ Some p → AreNamed t p.descriptors
+names-counted t places i p counted at n =
+    let sums = sum_by-set (names_in n) places i None None (slot-within places i p at) in
+    let one : names_in n (slot places i) ≡ names n p.descriptors = ap (names_in n) at in
+    omega (arith, counted n, sums, one)
+
+-- ---- fork
+
+count-share : (t : List (Option Counted)) (d : Option ℕ) (ds : List (Option ℕ)) → AreNamed t (d ∷ ds) → (n : ℕ) → count_at (shared_in t d) n ≡ count_at t n + one_in n d
+count-share t None ds are n = omega arith
+count-share t (Some k) ds are n = count-shared t k (first-named t k ds are) n
+
+pub named-share : (t : List (Option Counted)) (d : Option ℕ) (ds : List (Option ℕ)) → AreNamed t (d ∷ ds) → AreNamed (shared_in t d) ds
+named-share t d ds are n = omega (arith, are n, names-cons n d ds, count-share t d ds are n)
+
+pub count-all_shared : (t : List (Option Counted)) (ds : List (Option ℕ)) → AreNamed t ds → (n : ℕ) → count_at (all_shared t ds) n ≡ count_at t n + names n ds
+count-all_shared t [] are n = omega arith
+count-all_shared t (d ∷ ds) are n =
+    let rest = count-all_shared (shared_in t d) ds (named-share t d ds are) n in
+    omega (arith, rest, names-cons n d ds, count-share t d ds are n)
+
+table-share : (t : List (Option Counted)) (d : Option ℕ) → IsTable t → IsTable (shared_in t d)
+table-share t None is = is
+table-share t (Some n) is = table-shared t n is
+
+pub table-all_shared : (t : List (Option Counted)) (ds : List (Option ℕ)) → IsTable t → IsTable (all_shared t ds)
+table-all_shared t [] is = is
+table-all_shared t (d ∷ ds) is = table-all_shared (shared_in t d) ds (table-share t d is)
+
+opens-share : (t : List (Option Counted)) (d : Option ℕ) → opens_of (shared_in t d) ≡ opens_of t
+opens-share t None = refl
+opens-share t (Some n) = opens-shared t n
+
+-- the open files are the same
+pub opens-all_shared : (t : List (Option Counted)) (ds : List (Option ℕ)) → opens_of (all_shared t ds) ≡ opens_of t
+opens-all_shared t [] = refl
+opens-all_shared t (d ∷ ds) = opens-all_shared (shared_in t d) ds ∙ opens-share t d
+
+-- the table counts the descriptors of a child too, which are those of process i
+pub counted-forked : (t : List (Option Counted)) (places : List (Option Process)) (i j : ℕ) (p child : Process) → IsCounted t places → slot places i ≡ Some p → j < length places → slot places j ≡ None
+    → child.descriptors ≡ p.descriptors → IsCounted (all_shared t p.descriptors) (put places j child)
+counted-forked t places i j p child counted at short free same n =
+    let more = sum_by-set (names_in n) places j (Some child) None short in
+    let none : names_in n (slot places j) ≡ 0 = ap (names_in n) free in
+    let names_same : names n child.descriptors ≡ names n p.descriptors = ap (names n) same in
+    let all = count-all_shared t p.descriptors (names-counted t places i p counted at) n in
+    omega (arith, counted n, more, none, names_same, all)
+
+-- ---- the end of a process
+
+count-close : (t : List (Option Counted)) (d : Option ℕ) (ds : List (Option ℕ)) → AreNamed t (d ∷ ds) → (n : ℕ) → count_at (closed_in t d) n + one_in n d ≡ count_at t n
+count-close t None ds are n = omega arith
+count-close t (Some k) ds are n = count-closed t k (first-named t k ds are) n
+
+pub named-close : (t : List (Option Counted)) (d : Option ℕ) (ds : List (Option ℕ)) → AreNamed t (d ∷ ds) → AreNamed (closed_in t d) ds
+named-close t d ds are n = omega (arith, are n, names-cons n d ds, count-close t d ds are n)
+
+pub count-all_closed : (t : List (Option Counted)) (ds : List (Option ℕ)) → AreNamed t ds → (n : ℕ) → count_at (all_closed t ds) n + names n ds ≡ count_at t n
+count-all_closed t [] are n = omega arith
+count-all_closed t (d ∷ ds) are n =
+    let rest = count-all_closed (closed_in t d) ds (named-close t d ds are) n in
+    omega (arith, rest, names-cons n d ds, count-close t d ds are n)
+
+table-close : (t : List (Option Counted)) (d : Option ℕ) → IsTable t → IsTable (closed_in t d)
+table-close t None is = is
+table-close t (Some n) is = table-closed t n is
+
+pub table-all_closed : (t : List (Option Counted)) (ds : List (Option ℕ)) → IsTable t → IsTable (all_closed t ds)
+table-all_closed t [] is = is
+table-all_closed t (d ∷ ds) is = table-all_closed (closed_in t d) ds (table-close t d is)
+
+left-close : (old new : List (Option Counted)) (d : Option ℕ) → IsLeft old new → IsLeft old (closed_in new d)
+left-close old new None left = left
+left-close old new (Some n) left = left-closed old new n left
+
+left-all : (old new : List (Option Counted)) (ds : List (Option ℕ)) → IsLeft old new → IsLeft old (all_closed new ds)
+left-all old new [] left = left
+left-all old new (d ∷ ds) left = left-all old (closed_in new d) ds (left-close old new d left)
+
+pub left-all_closed : (t : List (Option Counted)) (ds : List (Option ℕ)) → IsLeft t (all_closed t ds)
+left-all_closed t ds = left-all t t ds (left-same t)
+
+opens-left : (old new : List (Option Counted)) (n : ℕ) (f : OpenFile) → IsLeft old new → (o : Option Counted) → slot new n ≡ o → slot (opens_of new) n ≡ Some f → slot (opens_of old) n ≡ Some f
+opens-left old new n f left None is at = absurd (let bad : None ≡ Some f = ap (option_map (λ (c : Counted). c.file)) (sym is) ∙ sym (slot-opens new n) ∙ at in cc)
+opens-left old new n f left (Some c) is at = left.each n c is ∙ (ap (option_map (λ (c : Counted). c.file)) (sym is) ∙ sym (slot-opens new n) ∙ at)
+
+-- the open files that are left were there
+pub opens-all_closed : (t : List (Option Counted)) (ds : List (Option ℕ)) (n : ℕ) (f : OpenFile) → slot (opens_of (all_closed t ds)) n ≡ Some f → slot (opens_of t) n ≡ Some f
+opens-all_closed t ds n f at = opens-left t (all_closed t ds) n f (left-all_closed t ds) (slot (all_closed t ds) n) refl at
+
+-- ---- the counts of an ended process's table
+
+orphaned-names : (pid n : ℕ) (o : Option Process) → names_in n (option_map (orphaned pid) o) ≡ names_in n o
+orphaned-names pid n None = refl
+orphaned-names pid n (Some q) = elim (q.parent == pid) as (λ b. names n (cond b (record q { parent = 1 }) q).descriptors ≡ names n q.descriptors) [ true ↦ refl | false ↦ refl ]
+
+named_by-mapped : (f : Process → Process) (n : ℕ) → ((o : Option Process) → names_in n (option_map f o) ≡ names_in n o) → (places : List (Option Process)) → named_by (map (option_map f) places) n ≡ named_by places n
+named_by-mapped f n same [] = refl
+named_by-mapped f n same (o ∷ os) = rw (sum_by-cons (names_in n) (option_map f o) (map (option_map f) os), sum_by-cons (names_in n) o os, same o, named_by-mapped f n same os) refl
+
+slot-map : (f : Process → Process) (os : List (Option Process)) (j : ℕ) → slot (map (option_map f) os) j ≡ option_map f (slot os j)
+slot-map f os j = listn.get_or-map (option_map f) os j None
+
+named_by-ended : (places : List (Option Process)) (i : ℕ) (p : Process) (status : ℤ) → slot places i ≡ Some p
+    → (n : ℕ) → named_by (put (map (option_map (orphaned p.pid)) places) i (zombie_of p status)) n + names n p.descriptors ≡ named_by places n
+named_by-ended places i p status at n =
+    let orphans : List (Option Process) = map (option_map (orphaned p.pid)) places in
+    let short : i < length orphans = rw (length-map places (option_map (orphaned p.pid))) (slot-within places i p at) in
+    let sums = sum_by-set (names_in n) orphans i (Some (zombie_of p status)) None short in
+    let there : names_in n (slot orphans i) ≡ names n p.descriptors = ap (names_in n) (slot-map (orphaned p.pid) places i) ∙ orphaned-names p.pid n (slot places i) ∙ ap (names_in n) at in
+    omega (arith, sums, there, named_by-mapped (orphaned p.pid) n (orphaned-names p.pid n) places, names-none n)
+
+-- once process i has ended, the table counts the descriptors of all the others
+pub counted-ended : (t : List (Option Counted)) (places : List (Option Process)) (i : ℕ) (p : Process) (status : ℤ) → IsCounted t places → slot places i ≡ Some p
+    → IsCounted (all_closed t p.descriptors) (put (map (option_map (orphaned p.pid)) places) i (zombie_of p status))
+counted-ended t places i p status counted at n =
+    let closed_all = count-all_closed t p.descriptors (names-counted t places i p counted at) n in
+    omega (arith, closed_all, counted n, named_by-ended places i p status at n)
+
+-- ---- pipes
+
+abbrev Follows : List (Option (List ℕ)) → List (Option Counted) → ℕ → Option Counted → Type 0
+Follows pipes t n o = IsPiped (after_close pipes (opens_of (closed t n)) (option_and_then last_in o)) (opens_of (closed t n))
+
+module _ (pipes : List (Option (List ℕ))) (t : List (Option Counted)) (n : ℕ) (is : IsPiped pipes (opens_of t)) where
+  stays : opens_of (closed t n) ≡ opens_of t → IsPiped pipes (opens_of (closed t n))
+  stays same = rw same is
+
+  goes-end : (f : OpenFile) (q : ℕ) (e : End) (b : Bool) → slot (opens_of t) n ≡ Some f → f.target ≡ OnPipe q e → has_pipe (clear (opens_of t) n) q ≡ b
+      → IsPiped (cond b pipes (clear pipes q)) (clear (opens_of t) n)
+  goes-end f q e true at on stands = piped-end pipes (opens_of t) n q f e is at on stands
+  goes-end f q e false at on stands = piped-last pipes (opens_of t) n q f e is at on stands
+
+  goes : (f : OpenFile) (on : Target) → slot (opens_of t) n ≡ Some f → f.target ≡ on → IsPiped (after_close pipes (clear (opens_of t) n) (Some on)) (clear (opens_of t) n)
+  goes f (OnNode number offset) at on = piped-node pipes (opens_of t) n number offset f is at on
+  goes f (OnPipe q e) at on = goes-end f q e (has_pipe (clear (opens_of t) n) q) at on refl
+
+  follows : (o : Option Counted) → slot t n ≡ o → Follows pipes t n o
+  follows None at = stays (ap (λ o. opens_of (slice_set t n (option_and_then fewer o))) at ∙ ap opens_of (rw (← at) (set-get_or t n None)))
+  follows (Some c) at = elim (cases_lt 1 c.count) [
+    | inl more ↦ (let many : 1 < count_at t n = rw at more in rw (lt-yes 1 c.count more) (stays (opens-closed t n many)))
+    | inr last ↦
+        let one : count_at t n ≤ 1 = rw at last in
+        rw (lt-no 1 c.count last) (subst (λ (os : List (Option OpenFile)). IsPiped (after_close pipes os (Some c.file.target)) os) (sym (opens-closed_last t n one)) (goes c.file c.file.target (slot-opens t n ∙ ap (option_map (λ (d : Counted). d.file)) at) refl))
+  ]
+
+  pub piped-close : IsPiped (after_close pipes (opens_of (closed t n)) (last_target t n)) (opens_of (closed t n))
+  piped-close = follows (slot t n) refl
+
+pub left-close_pipe : (old pipes : List (Option (List ℕ))) (opens : List (Option OpenFile)) (o : Option Target) → IsLeftOf old pipes → IsLeftOf old (after_close pipes opens o)
+left-close_pipe old pipes opens None left = left
+left-close_pipe old pipes opens (Some (OnNode number offset)) left = left
+left-close_pipe old pipes opens (Some (OnPipe q e)) left = elim (has_pipe opens q) as (λ b. IsLeftOf old (cond b pipes (clear pipes q))) [ true ↦ left | false ↦ pipes-clear old pipes q left ]
+
+last-is : (o : Option Counted) (on : Target) → option_and_then last_in o ≡ Some on → (c : Counted) × ((o ≡ Some c) × (c.file.target ≡ on))
+last-is None on last = absurd (let bad : None ≡ Some on = last in cc)
+last-is (Some c) on last = elim (cases_lt 1 c.count) [
+  | inl more ↦ absurd (let bad : None ≡ Some on = rw (lt-yes 1 c.count more) at last in cc)
+  | inr one ↦ (let same : Some c.file.target ≡ Some on = rw (lt-no 1 c.count one) at last in (c, (refl, cc)))
+]
+
+eq-self : (n : ℕ) → (n == n) ≡ true
+eq-self n = grind (arith, nat_tests)
+
+-- the pipe of a last end stood until then
+pub stands-last : (t : List (Option Counted)) (pipes : List (Option (List ℕ))) (n q : ℕ) (e : End) → IsPiped pipes (opens_of t) → last_target t n ≡ Some (OnPipe q e) → is_some (slot pipes q) ≡ true
+stands-last t pipes n q e is last =
+    let c = last-is (slot t n) (OnPipe q e) last in
+    let at : slot (opens_of t) n ≡ Some c.0.file = slot-opens t n ∙ ap (option_map (λ (d : Counted). d.file)) c.1.0 in
+    is q ∙ has_pipe-clear (opens_of t) n c.0.file q at ∙ rw (c.1.1, eq-self q) refl
+
+-- a state with these open files alone
+abbrev with_opens : List (Option OpenFile) → State
+with_opens opens = record {
+  places = [];
+  files = [];
+  opens = opens;
+  pipes = [];
+  console = record { committed = []; edited = [] };
+  ticks = 0;
+  next_pid = 0;
+  last = 0;
+  frame_limit = 0;
+  block_limit = 0;
+  halted = None;
+}
+
+-- the pipes that are left where they follow the open files
+pub standing-is : (opens : List (Option OpenFile)) (old new : List (Option (List ℕ))) → IsPiped new opens → IsLeftOf old new → standing old opens ≡ new
+standing-is opens old new is left = pipes-left (with_opens opens) old new is left
+
+-- ---- what is left as a whole
+
+-- some pipes that are left, where descriptors were closed
+abbrev pub Leaves : List (Option Counted) → List (Option (List ℕ)) → List (Option (List ℕ)) → Type 0
+Leaves new before pipes = IsPiped pipes (opens_of new) × IsLeftOf before pipes
+
+leaves-one : (t : List (Option Counted)) (before pipes : List (Option (List ℕ))) (d : Option ℕ) → Leaves t before pipes → (after : List (Option (List ℕ))) × Leaves (closed_in t d) before after
+leaves-one t before pipes None is = (pipes, is)
+leaves-one t before pipes (Some n) is = (after_close pipes (opens_of (closed t n)) (last_target t n), (piped-close pipes t n is.0, left-close_pipe before pipes (opens_of (closed t n)) (last_target t n) is.1))
+
+leaves-all : (t : List (Option Counted)) (before pipes : List (Option (List ℕ))) (ds : List (Option ℕ)) → Leaves t before pipes → (after : List (Option (List ℕ))) × Leaves (all_closed t ds) before after
+leaves-all t before pipes [] is = (pipes, is)
+leaves-all t before pipes (d ∷ ds) is = let one = leaves-one t before pipes d is in leaves-all (closed_in t d) before one.0 ds one.1
+
+pub leaves-standing : (t : List (Option Counted)) (pipes : List (Option (List ℕ))) (ds : List (Option ℕ)) → IsPiped pipes (opens_of t) → Leaves (all_closed t ds) pipes (standing pipes (opens_of (all_closed t ds)))
+leaves-standing t pipes ds is =
+    let all = leaves-all t pipes pipes ds (is, pipes-same pipes) in
+    rw (standing-is (opens_of (all_closed t ds)) pipes all.0 all.1.0 all.1.1) all.1
+
+-- no more pipes stand than did
+pub fewer-pipes : (old new : List (Option (List ℕ))) → length new ≡ length old → ((q : ℕ) (bytes : List ℕ) → slot new q ≡ Some bytes → slot old q ≡ Some bytes) → length (taken new) ≤ length (taken old)
+fewer-pipes [] [] all each = omega arith
+fewer-pipes [] (o ∷ new) all each = absurd (omega (arith, all))
+fewer-pipes (o ∷ old) [] all each = absurd (omega (arith, all))
+fewer-pipes (None ∷ old) (None ∷ new) all each = fewer-pipes old new (omega (arith, all)) (λ q. each (suc q))
+fewer-pipes (Some b ∷ old) (None ∷ new) all each = let rest = fewer-pipes old new (omega (arith, all)) (λ q. each (suc q)) in omega (arith, rest)
+fewer-pipes (None ∷ old) (Some b ∷ new) all each = absurd (let bad : None ≡ Some b = each 0 b refl in cc)
+fewer-pipes (Some b ∷ old) (Some c ∷ new) all each = let rest = fewer-pipes old new (omega (arith, all)) (λ q. each (suc q)) in omega (arith, rest)
+
+-- ---- what the abstract Unix leaves
+
+-- the descriptors are those of the state's processes
+pub counts-joined : (t : List (Option Counted)) (os : List (Option Process)) (ms : List Memory) → IsCounted t os → Counts t (joined os ms)
+counts-joined t os ms counted n = counted n ∙ sym (count-joined os ms n)
+
+pub reap-left : (s : State) (old new : List (Option Counted)) (before pipes : List (Option (List ℕ))) → s.files ≡ flat_files → IsTable new → IsLeft old new → Counts new s.places → Leaves new before pipes
+    → reap (record s { opens = opens_of old; pipes = before }) ≡ record s { opens = opens_of new; pipes = pipes }
+unfolding reap
+reap-left s old new before pipes flat is left counts leaves =
+    ap (λ (x : State). without_nodes (without_pipes x)) (without_opens-left (record s { pipes = before }) old new is left counts)
+    ∙ ap without_nodes (without_pipes-left (record s { opens = opens_of new }) before pipes leaves.0 leaves.1)
+    ∙ nodes-stay (record s { opens = opens_of new; pipes = pipes }) flat
+
+-- where descriptors were closed, what is left of the table and the pipes is what the state is left with
+pub reap-closed : (s : State) (t : List (Option Counted)) (pipes : List (Option (List ℕ))) (ds : List (Option ℕ)) → s.files ≡ flat_files → IsTable t → IsPiped pipes (opens_of t) → Counts (all_closed t ds) s.places
+    → reap (record s { opens = opens_of t; pipes = pipes }) ≡ record s { opens = opens_of (all_closed t ds); pipes = standing pipes (opens_of (all_closed t ds)) }
+reap-closed s t pipes ds flat is piped counts =
+    reap-left s t (all_closed t ds) pipes (standing pipes (opens_of (all_closed t ds))) flat (table-all_closed t ds is) (left-all_closed t ds) counts (leaves-standing t pipes ds piped)
+
+-- ---- one descriptor after the other
+
+drop-cons : {X : Type 0} (xs : List X) (i : ℕ) (d : X) → i < length xs → drop i xs ≡ slice_index_or xs i d ∷ drop (suc i) xs
+drop-cons [] i d h = absurd (omega (arith, h))
+drop-cons (x ∷ xs) zero d h = refl
+drop-cons (x ∷ xs) (suc i) d h = drop-cons xs i d (omega (arith, h))
+
+next-closed : (t : List (Option Counted)) (ds : List (Option ℕ)) (i : ℕ) (o : Option ℕ) → i < length ds → slot ds i ≡ o → all_closed t (drop i ds) ≡ all_closed (closed_in t o) (drop (i + 1) ds)
+next-closed t ds i o h at =
+    let next : suc i ≡ i + 1 = omega arith in
+    ap (all_closed t) (drop-cons ds i None h ∙ ap (λ d. d ∷ drop (suc i) ds) at) ∙ ap (λ j. all_closed (closed_in t o) (drop j ds)) next
+
+-- the first i descriptors were closed
+abbrev pub Closing : List (Option Counted) → Spaces → List (Option ℕ) → List (Option Counted) → Spaces → ℕ → Type 0
+Closing old before ds t s i = (all_closed t (drop i ds) ≡ all_closed old ds) × (Leaves t before.pipes s.pipes × (s ≡ record before { pipes = s.pipes }))
+
+module _ (old : List (Option Counted)) (before : Spaces) (ds : List (Option ℕ)) (t : List (Option Counted)) (s : Spaces) (i : ℕ) (h : i < length ds) (is : Closing old before ds t s i) where
+  pub closing-none : slot ds i ≡ None → Closing old before ds t s (i + 1)
+  closing-none at = (sym (next-closed t ds i None h at) ∙ is.0, is.1)
+
+  pub closing-some : (n : ℕ) → slot ds i ≡ Some n → Closing old before ds (closed t n) (record s { pipes = after_close s.pipes (opens_of (closed t n)) (last_target t n) }) (i + 1)
+  closing-some n at =
+      let next = after_close s.pipes (opens_of (closed t n)) (last_target t n) in (
+        sym (next-closed t ds i (Some n) h at) ∙ is.0,
+        ((piped-close s.pipes t n is.1.0.0, left-close_pipe before.pipes s.pipes (opens_of (closed t n)) (last_target t n) is.1.0.1), ap (λ (x : Spaces). record x { pipes = next }) is.1.1),
+      )
+
+-- all were
+pub closing-all : (old : List (Option Counted)) (before : Spaces) (ds : List (Option ℕ)) (t : List (Option Counted)) (s : Spaces) (i : ℕ) → Closing old before ds t s i → s ≡ record before { pipes = standing before.pipes (opens_of t) }
+closing-all old before ds t s i is = is.1.1 ∙ ap (λ (ps : List (Option (List ℕ))). record before { pipes = ps }) (sym (standing-is (opens_of t) before.pipes s.pipes is.1.0.0 is.1.0.1))

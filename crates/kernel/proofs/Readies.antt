@@ -1,0 +1,156 @@
+-- Who is ready: that depends on the processes, the console, the ticks, and the open files with their pipes.
+use Rattle.std.proofs.Common.{◌≡◌, ℕ, Bool, true, false, ◌||◌, List, Option, Some, None, refl, ap, subst, sym, ◌∙◌, arith}
+use Rattle.std.specs.Prelude.{cond, find, is_some, option_map, slice_index_or, [], ◌∷◌, ◌==◌}
+use Rattle.std.proofs.lemmas.Bool.Decides.{nat_tests}
+use Rattle.kernel.specs.Kernel.{Kernel, Rest, base, lives, memories, rest_of, state_of}
+use Rattle.kernel.specs.Ready.{Stands, awaited_in, seen}
+use Rattle.kernel.specs.Sound.{IsAlive}
+use Rattle.files.specs.Pipes.{IsPiped, has_pipe-clear}
+use Rattle.files.specs.Places.{has_pipe}
+use Rattle.proc.specs.declared.process.Process.{Process}
+use Rattle.proc.specs.Places.{Places, is_zombie_child_of, place_where}
+use Rattle.proc.specs.Whole.{slot-joined, with_memory, with_table, zombie_child-with_table}
+use Rattle.spaces.specs.Spaces.{Spaces}
+use Rattle.unixmodel.specs.declared.call.Call.{Call}
+use Rattle.unixmodel.specs.declared.call.Call.TheVariants.{Chdir, Close, Dup, Exec, Exit, Fork, Fstat, Getpid, Kill, Link, Mkdir, Mknod, Open, Pipe, Read, Sbrk, Sleep, Unlink, Uptime, Wait, Write}
+use Rattle.unixmodel.specs.declared.process.Mode.{Mode}
+use Rattle.unixmodel.specs.declared.process.Mode.TheVariants.{Ready, Running, Waiting, Zombie}
+use Rattle.unixmodel.specs.declared.process.Pending.{Pending}
+use Rattle.unixmodel.specs.Files.{clear, slot}
+use Rattle.unixmodel.specs.Memory.{Memory}
+use Rattle.unixmodel.specs.OpenFiles.{OpenFile, Target, is_pipe}
+use Rattle.unixmodel.specs.OpenFiles.Target.{OnNode, OnPipe}
+use Rattle.unixmodel.specs.State.{State, holds}
+use Rattle.unixmodel.specs.Turn as turn
+
+-- ---- the pipe of an open file
+
+same_pipe : (q : ℕ) → (q == q) ≡ true
+same_pipe q = grind (arith, nat_tests)
+
+-- the pipe that an open file is an end of is there
+pub stands-open : (s : Spaces) (opens : List (Option OpenFile)) (k : ℕ) (f : OpenFile) (t : Target) → IsPiped s.pipes opens → slot opens k ≡ Some f → f.target ≡ t → Stands s t
+stands-open s opens k f (OnNode n offset) is at on = tt
+stands-open s opens k f (OnPipe q end) is at on =
+    is q
+    ∙ has_pipe-clear opens k f q at
+    ∙ ap (λ (t : Target). is_pipe q t || has_pipe (clear opens k) q) on
+    ∙ ap (λ (b : Bool). b || has_pipe (clear opens k) q) (same_pipe q)
+
+-- ---- what readiness depends on
+
+-- tests that agree
+held-same : (f g : Target → Bool) → ((t : Target) → f t ≡ g t) → (o : Option OpenFile) → turn.holds_of f o ≡ turn.holds_of g o
+held-same f g same None = refl
+held-same f g same (Some file) = same file.target
+
+module _ (rest : Rest) (t : Places) (ms : List Memory) where
+  abbrev s : State
+  s = with_table (base rest) t ms
+
+  abbrev a : State
+  a = seen (awaited_in rest.opens rest.pipes rest.console rest.ticks) t.places
+
+  reads-same : (x : Target) → turn.can_read_from s x ≡ turn.can_read_from a x
+  reads-same (OnNode n offset) = refl
+  reads-same (OnPipe q end) = refl
+
+  writes-same : (x : Target) → turn.can_write_to s x ≡ turn.can_write_to a x
+  writes-same (OnNode n offset) = refl
+  writes-same (OnPipe q end) = refl
+
+  goes-same : (p : Process) (m : Memory) (w : Pending) (number : Call) → turn.can_go_on s (with_memory m p) w number ≡ turn.can_go_on a (with_memory [] p) w number
+  goes-same p m w Wait =
+      ap is_some
+      (zombie_child-with_table (base rest) t ms p.pid
+      ∙ sym (zombie_child-with_table (awaited_in rest.opens rest.pipes rest.console rest.ticks) (record { places = t.places; last = 0; next_pid = 0 }) [] p.pid))
+  goes-same p m w Read = held-same (turn.can_read_from s) (turn.can_read_from a) reads-same (turn.pending_file s (with_memory m p) w)
+  goes-same p m w Write = held-same (turn.can_write_to s) (turn.can_write_to a) writes-same (turn.pending_file s (with_memory m p) w)
+  goes-same p m w Sleep = refl
+  goes-same p m w Fork = refl
+  goes-same p m w Exit = refl
+  goes-same p m w Pipe = refl
+  goes-same p m w Kill = refl
+  goes-same p m w Exec = refl
+  goes-same p m w Fstat = refl
+  goes-same p m w Chdir = refl
+  goes-same p m w Dup = refl
+  goes-same p m w Getpid = refl
+  goes-same p m w Sbrk = refl
+  goes-same p m w Uptime = refl
+  goes-same p m w Open = refl
+  goes-same p m w Mknod = refl
+  goes-same p m w Unlink = refl
+  goes-same p m w Link = refl
+  goes-same p m w Mkdir = refl
+  goes-same p m w Close = refl
+
+  mode-same : (p : Process) (m : Memory) (mode : Mode) → turn.is_ready_in s (with_memory m p) mode ≡ turn.is_ready_in a (with_memory [] p) mode
+  mode-same p m Running = refl
+  mode-same p m Ready = refl
+  mode-same p m (Waiting w) = ap (λ b. b || p.killed) (goes-same p m w w.number)
+  mode-same p m (Zombie status) = refl
+
+  place-same : (o : Option Process) (m : Memory) → holds (turn.is_ready s) (option_map (with_memory m) o) ≡ holds (turn.is_ready a) (option_map (with_memory []) o)
+  unfolding turn.is_ready
+  place-same None m = refl
+  place-same (Some p) m = mode-same p m p.mode
+
+  pub ready-same : (i : ℕ) → turn.ready s i ≡ turn.ready a i
+  ready-same i =
+      ap (holds (turn.is_ready s)) (slot-joined t.places ms i)
+      ∙ place-same (slot t.places i) (slice_index_or ms i [])
+      ∙ sym (ap (holds (turn.is_ready a)) (slot-joined t.places [] i))
+
+-- ---- one place, by the code's words
+
+module _ (s : State) (places : List (Option Process)) where
+  pub children-seen : (p : Process) (w : Pending) → turn.can_go_on (seen s places) (with_memory [] p) w Wait ≡ is_some (place_where places (is_zombie_child_of p.pid))
+  children-seen p w = ap is_some (zombie_child-with_table s (record { places = places; last = 0; next_pid = 0 }) [] p.pid)
+
+  pub ready-seen : (i : ℕ) (o : Option Process) → slot places i ≡ o → turn.ready (seen s places) i ≡ holds (turn.is_ready (seen s places)) (option_map (with_memory []) o)
+  ready-seen i o at = ap (holds (turn.is_ready (seen s places))) (slot-joined places [] i ∙ ap (option_map (with_memory [])) at)
+
+  pub ready-some : (i : ℕ) (p : Process) (b : Bool) → slot places i ≡ Some p → b ≡ turn.is_ready (seen s places) (with_memory [] p) → b ≡ turn.ready (seen s places) i
+  ready-some i p b at is = is ∙ sym (ready-seen i (Some p) at)
+
+-- ---- where none runs
+
+module _ (k : Kernel) (idle : k.spaces.active ≡ None) where
+  idle-state : state_of k ≡ with_table (base (rest_of k)) k.table (memories k.spaces)
+  idle-state = rw idle refl
+
+  -- the place that the kernel's test finds has the turn
+  pub turn-idle : turn.turn (with_table (base (rest_of k)) k.table (memories k.spaces)) ≡ turn.turn (state_of k)
+  turn-idle = ap turn.turn (sym idle-state)
+
+  -- who is ready lives
+  alive-mode : (s : State) (m : Memory) (p : Process) (mode : Mode) → p.mode ≡ mode → turn.is_ready_in s (with_memory m p) mode ≡ true → lives p ≡ true
+  alive-mode s m p Running e ready = rw e refl
+  alive-mode s m p Ready e ready = rw e refl
+  alive-mode s m p (Waiting w) e ready = rw e refl
+  alive-mode s m p (Zombie status) e ready = absurd (cc)
+
+  alive-go : (s : State) (m : Memory) (o : Option Process) → holds (turn.is_ready s) (option_map (with_memory m) o) ≡ true → IsAlive o
+  unfolding turn.is_ready
+  alive-go s m None ready = absurd (cc)
+  alive-go s m (Some p) ready = alive-mode s m p p.mode refl ready
+
+  -- what a search finds passes
+  find-true : (f : ℕ → Bool) (xs : List ℕ) (i : ℕ) → find f xs ≡ Some i → f i ≡ true
+  find-true f [] i is = absurd (cc)
+  find-true f (x ∷ xs) i is =
+      (elim (f x) as (λ b. f x ≡ b → cond b (Some x) (find f xs) ≡ Some i → f i ≡ true) [
+        | true ↦ λ passes found. let same : x ≡ i = cc in subst (λ (y : ℕ). f y ≡ true) same passes
+        | false ↦ λ fails found. find-true f xs i found
+      ]) refl is
+
+  -- the place that has the turn has a process that lives
+  pub turn-alive : (i : ℕ) → turn.turn (state_of k) ≡ Some i → IsAlive (slot k.table.places i)
+  unfolding turn.turn
+  turn-alive i found =
+      let s = with_table (base (rest_of k)) k.table (memories k.spaces) in
+      let passes : turn.ready (state_of k) i ≡ true = find-true (turn.ready (state_of k)) (turn.round_from (state_of k).last) i found in
+      let here : holds (turn.is_ready s) (option_map (with_memory (slice_index_or (memories k.spaces) i [])) (slot k.table.places i)) ≡ true =
+      sym (ap (holds (turn.is_ready s)) (slot-joined k.table.places (memories k.spaces) i)) ∙ ap (λ (x : State). turn.ready x i) (sym idle-state) ∙ passes in
+      alive-go s (slice_index_or (memories k.spaces) i []) (slot k.table.places i) here

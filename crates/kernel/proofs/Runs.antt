@@ -1,0 +1,210 @@
+-- The running process, and what becomes of the state where it alone changes.
+use Rattle.std.proofs.Common.{false, ◌≡◌, ◌≢◌, ℕ, zero, suc, ◌<◌, ◌≤◌, ◌⊎◌, inl, inr, true, nat_eq, List, [], ◌∷◌, length, Option, Some, None, refl, ap, sym, ◌∙◌, arith}
+use Rattle.std.specs.Prelude.{is_some, option_map, slice_set, slice_index_or}
+use Rattle.std.proofs.lemmas.Bool.Decides.{nat_tests}
+use Rattle.std.proofs.lemmas.List.{get_or-set_other, get_or-set_same, length-map, length-set, map-set, set-get_or}
+use Rattle.std.proofs.Math.ListN as listn
+use Rattle.kernel.specs.Descriptors.{descriptors_in}
+use Rattle.kernel.specs.Kernel.{Kernel, base, loaded, memories, memory_in, on_hart, rest_of, state_of}
+use Rattle.kernel.specs.Sound.{IsKernel, IsPlace, IsPlaced, is_at}
+use Rattle.kernel.proofs.Opens.{opened-put, waits-running}
+use Rattle.files.specs.Places.{opens_of}
+use Rattle.proc.specs.declared.process.Process.{Process}
+use Rattle.proc.specs.Places as table
+use Rattle.proc.specs.Places.{Places, changed}
+use Rattle.proc.specs.Whole.{put-joined, slot-joined, with_memory, with_table}
+use Rattle.spaces.specs.Spaces.{Held, Spaces, has_space, taken_frames}
+use Rattle.unixmodel.specs.declared.process.Mode.{Mode}
+use Rattle.unixmodel.specs.declared.process.Mode.TheVariants.{Ready, Running, Waiting, Zombie}
+use Rattle.unixmodel.specs.Files.{put, slot}
+use Rattle.unixmodel.specs.Memory.{Memory}
+use Rattle.unixmodel.specs.Process as unix
+use Rattle.unixmodel.specs.Process.{is_running_mode}
+use Rattle.unixmodel.specs.State.{State, holds, process_at, put_process}
+
+-- ---- places
+
+pub same_or_not : (j i : ℕ) → (j ≡ i) ⊎ (j ≢ i)
+same_or_not j i = grind arith
+
+pub slot-put : {X : Type 0} (xs : List (Option X)) (i : ℕ) (o : Option X) → i < length xs → slot (slice_set xs i o) i ≡ o
+slot-put xs i o h = get_or-set_same xs i o None h
+
+pub slot-other : {X : Type 0} (xs : List (Option X)) (i j : ℕ) (o : Option X) → j ≢ i → slot (slice_set xs i o) j ≡ slot xs j
+slot-other xs i j o h = get_or-set_other xs i j o None h
+
+pub set-twice : {X : Type 0} (xs : List X) (i : ℕ) (a b : X) → slice_set (slice_set xs i a) i b ≡ slice_set xs i b
+set-twice [] i a b = refl
+set-twice (x ∷ xs) zero a b = refl
+set-twice (x ∷ xs) (suc i) a b = ap (λ ys. x ∷ ys) (set-twice xs i a b)
+
+-- what stands in a place already is put there
+pub set-slot : {X : Type 0} (xs : List (Option X)) (i : ℕ) (o : Option X) → slot xs i ≡ o → slice_set xs i o ≡ xs
+set-slot xs i o is = rw (← is) (set-get_or xs i None)
+
+pub slot-within : {X : Type 0} (xs : List (Option X)) (i : ℕ) (x : X) → slot xs i ≡ Some x → i < length xs
+slot-within [] i x is = absurd (cc)
+slot-within (y ∷ xs) zero x is = omega arith
+slot-within (y ∷ xs) (suc i) x is = let h = slot-within xs i x is in omega (arith, h)
+
+pub memory-at : (s : Spaces) (i : ℕ) → slice_index_or (memories s) i [] ≡ memory_in (slot s.places i)
+memory-at s i = listn.get_or-map memory_in s.places i None
+
+abbrev pub with_process : Places → ℕ → Process → Places
+with_process t i p = record t { places = put t.places i p }
+
+-- a process and its memory are put in place i
+module _ (s : State) (t : Places) (ms : List Memory) (i : ℕ) where
+  pub put-with : (p : Process) (m : Memory) → i < length ms → put_process (with_table s t ms) i (with_memory m p) ≡ with_table s (with_process t i p) (slice_set ms i m)
+  put-with p m h = ap (λ places. record (with_table s t ms) { places = places }) (put-joined t.places ms i p m h)
+
+  pub process-with : (p : Process) → slot t.places i ≡ Some p → process_at (with_table s t ms) i ≡ Some (with_memory (slice_index_or ms i []) p)
+  process-with p is = slot-joined t.places ms i ∙ ap (option_map (with_memory (slice_index_or ms i []))) is
+
+-- ---- the running process
+
+pub record IsRun (k : Kernel) (i : ℕ) (p : Process) (h : Held) : Type 0 where
+  pub active : k.spaces.active ≡ Some i
+  pub process : slot k.table.places i ≡ Some p
+  pub space : slot k.spaces.places i ≡ Some h
+  pub placed : IsPlaced p h
+  pub runs : p.mode ≡ Running
+  pub up : k.tree.failed ≡ false
+
+pub eq-self : (i : ℕ) → nat_eq i i ≡ true
+eq-self i = grind (arith, nat_tests)
+
+running-mode : (m : Mode) → is_running_mode m ≡ true → m ≡ Running
+running-mode Running h = refl
+running-mode Ready h = absurd (cc)
+running-mode (Waiting w) h = absurd (cc)
+running-mode (Zombie status) h = absurd (cc)
+
+run-go : (k : Kernel) (i : ℕ) (o : Option Process) (q : Option Held) → k.tree.failed ≡ false → k.spaces.active ≡ Some i → slot k.table.places i ≡ o → slot k.spaces.places i ≡ q → IsPlace o q → holds table.is_running o ≡ true
+    → (p : Process) × ((h : Held) × IsRun k i p h)
+run-go k i None q up active process space stands runs = absurd (cc)
+run-go k i (Some p) None up active process space stands runs = absurd stands
+run-go k i (Some p) (Some h) up active process space stands runs = (
+  p,
+  (
+    h,
+    record {
+      active = active;
+      process = process;
+      space = space;
+      placed = stands;
+      runs = running-mode p.mode runs;
+      up = up;
+    },
+  ),
+)
+
+-- the active place has the running process
+pub run-of : (k : Kernel) (i : ℕ) → IsKernel k → k.spaces.active ≡ Some i → (p : Process) × ((h : Held) × IsRun k i p h)
+run-of k i is active =
+    let here : is_at i k.spaces.active ≡ true = rw active (eq-self i) in
+    run-go k i (slot k.table.places i) (slot k.spaces.places i) (is.filed.up i active) active refl refl (is.stands i) (is.runs i ∙ here)
+
+pub place-space : (o : Option Process) (q : Option Held) (p : Process) → o ≡ Some p → IsPlace o q → is_some q ≡ true
+place-space None q p e is = absurd (cc)
+place-space (Some r) None p e is = absurd is
+place-space (Some r) (Some h) p e is = refl
+
+-- over the fields: k is what they show, and now is the kernel's value
+module _ (k now : Kernel) (i : ℕ) (same : k ≡ now) (is : IsKernel k) (active : now.spaces.active ≡ Some i) where
+  abbrev pub run-now : (p : Process) × ((h : Held) × IsRun k i p h)
+  run-now = run-of k i is (ap (λ (x : Kernel). x.spaces.active) same ∙ active)
+
+  pub active-space : has_space k.spaces i ≡ true
+  active-space = ap is_some run-now.1.1.space
+
+-- as the abstract Unix sees it
+abbrev pub self : Kernel → Process → Held → unix.Process
+self k p h = with_memory h.memory (on_hart k.spaces p)
+
+module _ (k : Kernel) (i : ℕ) (p : Process) (h : Held) (r : IsRun k i p h) where
+  pub loaded-run : loaded k ≡ with_process k.table i (on_hart k.spaces p)
+  loaded-run = rw (r.active, r.process) refl
+
+  pub within-run : i < length k.table.places
+  within-run = slot-within k.table.places i p r.process
+
+  pub state-run : state_of k ≡ with_table (base (rest_of k)) (with_process k.table i (on_hart k.spaces p)) (memories k.spaces)
+  state-run = rw loaded-run refl
+
+  pub process-run : process_at (state_of k) i ≡ Some (self k p h)
+  process-run =
+      let memory : slice_index_or (memories k.spaces) i [] ≡ h.memory = memory-at k.spaces i ∙ ap memory_in r.space in
+      let table = with_process k.table i (on_hart k.spaces p) in
+      ap (λ (s : State). process_at s i) state-run
+      ∙ process-with (base (rest_of k)) table (memories k.spaces) i (on_hart k.spaces p) (slot-put k.table.places i (Some (on_hart k.spaces p)) within-run)
+      ∙ ap (λ (m : Memory). Some (with_memory m (on_hart k.spaces p))) memory
+
+-- ---- the running process alone changes
+
+-- it is p now, but for its registers and its pc, and its space shows h
+abbrev pub moved : Kernel → ℕ → Process → Held → List ℕ → ℕ → Kernel
+moved k i p h registers pc = record k {
+  table = with_process k.table i p;
+  spaces = record k.spaces { places = slice_set k.spaces.places i (Some h); registers = registers; pc = pc };
+}
+
+-- where a place has another process and another space
+pub stands-set : (os : List (Option Process)) (hs : List (Option Held)) (i : ℕ) (o : Option Process) (q : Option Held) → i < length os → i < length hs → IsPlace o q
+    → ((j : ℕ) → IsPlace (slot os j) (slot hs j)) → (j : ℕ) → IsPlace (slot (slice_set os i o) j) (slot (slice_set hs i q) j)
+stands-set os hs i o q short low is stands j = elim (same_or_not j i) [
+  | inl same ↦ rw (same, slot-put os i o short, slot-put hs i q low) is
+  | inr other ↦ rw (slot-other os i j o other, slot-other hs i j q other) (stands j)
+]
+
+-- where another place runs
+pub runs-set : (os : List (Option Process)) (i : ℕ) (o : Option Process) (before after : Option ℕ) → i < length os → holds table.is_running o ≡ is_at i after
+    → ((j : ℕ) → j ≢ i → is_at j after ≡ is_at j before)
+    → ((j : ℕ) → holds table.is_running (slot os j) ≡ is_at j before) → (j : ℕ) → holds table.is_running (slot (slice_set os i o) j) ≡ is_at j after
+runs-set os i o before after short here others runs j = elim (same_or_not j i) [
+  | inl same ↦ rw (same, slot-put os i o short) here
+  | inr other ↦ rw (slot-other os i j o other, others j other) (runs j)
+]
+
+module _ (k : Kernel) (i : ℕ) (p : Process) (h : Held) (r : IsRun k i p h) (is : IsKernel k) where
+  pub within-space : i < length k.spaces.places
+  within-space = slot-within k.spaces.places i h r.space
+
+  module _ (p' : Process) (h' : Held) (registers : List ℕ) (pc : ℕ) (placed : IsPlaced p' h') (runs : p'.mode ≡ Running) where
+    pub moved-run : IsRun (moved k i p' h' registers pc) i p' h'
+    moved-run = record {
+      active = r.active;
+      up = r.up;
+      process = slot-put k.table.places i (Some p') (within-run k i p h r);
+      space = slot-put k.spaces.places i (Some h') within-space;
+      placed = placed;
+      runs = runs;
+    }
+
+    pub moved-kernel : p'.descriptors ≡ p.descriptors → taken_frames (moved k i p' h' registers pc).spaces ≤ k.spaces.frames → IsKernel (moved k i p' h' registers pc)
+    moved-kernel same fits = record {
+      all = length-set k.table.places i (Some p') ∙ is.all;
+      spaces = length-set k.spaces.places i (Some h') ∙ is.spaces;
+      stands = stands-set k.table.places k.spaces.places i (Some p') (Some h') (within-run k i p h r) within-space placed is.stands;
+      runs = runs-set k.table.places i (Some p') k.spaces.active k.spaces.active (within-run k i p h r) (rw (runs, r.active) (sym (eq-self i))) (λ j other. refl) is.runs;
+      filed = is.filed;
+      fits = fits;
+      opened = opened-put k.files k.spaces.pipes k.table.places i (Some p') (same ∙ sym (ap descriptors_in r.process)) (waits-running (opens_of k.files) p' runs) is.opened;
+    }
+
+    -- that is what the abstract Unix puts in its place
+    pub moved-state : state_of (moved k i p' h' registers pc) ≡ put_process (state_of k) i (with_memory h'.memory (record p' { registers = registers; pc = pc }))
+    moved-state =
+        let new = moved k i p' h' registers pc in
+        let q = record p' { registers = registers; pc = pc } in
+        let short : i < length (memories k.spaces) = rw (length-map k.spaces.places memory_in) within-space in
+        let twice : put (put k.table.places i p') i q ≡ put (put k.table.places i (on_hart k.spaces p)) i q =
+        set-twice k.table.places i (Some p') (Some q) ∙ sym (set-twice k.table.places i (Some (on_hart k.spaces p)) (Some q)) in
+        let shown : memories new.spaces ≡ slice_set (memories k.spaces) i h'.memory = map-set memory_in k.spaces.places i (Some h') in
+        let rest = base (rest_of k) in
+        let old = with_process k.table i (on_hart k.spaces p) in
+        state-run new i p' h' moved-run
+        ∙ ap (λ (places : List (Option Process)). with_table rest (record k.table { places = places }) (memories new.spaces)) twice
+        ∙ ap (λ (ms : List Memory). with_table rest (with_process old i q) ms) shown
+        ∙ sym (put-with rest old (memories k.spaces) i q h'.memory short)
+        ∙ sym (ap (λ (s : State). put_process s i (with_memory h'.memory q)) (state-run k i p h r))

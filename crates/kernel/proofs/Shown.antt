@@ -1,0 +1,117 @@
+-- What a kernel shows of its processes, in the words of its state.
+use Rattle.std.proofs.Common.{◌≡◌, inl, inr, ℕ, zero, suc, ◌+◌, Bool, true, List, [], ◌∷◌, Option, Some, None, refl, ap, sym, ◌∙◌}
+use Rattle.std.specs.Prelude.{IfSome, cond, is_some, not, option_and_then, option_map, position, slice_get, slice_set, unwrap_or}
+use Rattle.std.specs.List.{prefix_len}
+use Rattle.std.proofs.lemmas.List.{length-set}
+use Rattle.kernel.proofs.Reaped.{frames-with, match-loaded}
+use Rattle.kernel.proofs.Runs.{memory-at, place-space, same_or_not, slot-other, slot-put, slot-within}
+use Rattle.kernel.specs.Kernel.{Kernel, base, loaded, memories, memory_in, on_hart, rest_of, state_of}
+use Rattle.kernel.specs.Shows.{bare}
+use Rattle.kernel.specs.Sound.{IsKernel}
+use Rattle.proc.specs.declared.process.Process.{Process}
+use Rattle.proc.specs.Places.{Places, changed_at, has_pid, place_where}
+use Rattle.proc.specs.Whole.{place_of_pid-with_table, place_where-Some, slot-joined, with_memory}
+use Rattle.spaces.specs.Spaces.{Held, Spaces, has_space, held_at, no_pages, taken_frames}
+use Rattle.unixmodel.specs.Counts.{frames_of}
+use Rattle.unixmodel.specs.Files.{slot}
+use Rattle.unixmodel.specs.Memory.{Memory}
+use Rattle.unixmodel.specs.Process as unix
+use Rattle.unixmodel.specs.Shown.{ShowsMemory, shown_page, shown_process}
+use Rattle.unixmodel.specs.State.{holds, place_of_pid, process_at}
+
+-- ---- a search
+
+module _ (test : Option Process → Bool) where
+  prefix_len-set : (os : List (Option Process)) (i : ℕ) (o : Option Process) → test o ≡ test (slot os i) → prefix_len (λ q. not (test q)) (slice_set os i o) ≡ prefix_len (λ q. not (test q)) os
+  prefix_len-set [] i o same = refl
+  prefix_len-set (q ∷ os) zero o same = rw same refl
+  prefix_len-set (q ∷ os) (suc i) o same = ap (λ n. cond (not (test q)) (1 + n) 0) (prefix_len-set os i o same)
+
+  position-set : (os : List (Option Process)) (i : ℕ) (o : Option Process) → test o ≡ test (slot os i) → position test (slice_set os i o) ≡ position test os
+  position-set os i o same = rw (prefix_len-set os i o same, length-set os i o) refl
+
+pid-on : (s : Spaces) (pid : ℕ) (o : Option Process) → holds (has_pid pid) (option_map (on_hart s) o) ≡ holds (has_pid pid) o
+pid-on s pid None = refl
+pid-on s pid (Some p) = refl
+
+place-changed : (t : Places) (s : Spaces) (pid : ℕ) (o : Option ℕ) → place_where (changed_at t (on_hart s) o).places (has_pid pid) ≡ place_where t.places (has_pid pid)
+place-changed t s pid None = refl
+place-changed t s pid (Some i) = position-set (holds (has_pid pid)) t.places i (option_map (on_hart s) (slot t.places i)) (pid-on s pid (slot t.places i))
+
+-- ---- the process with a pid
+
+module _ (k : Kernel) where
+  pub place-state : (pid : ℕ) → place_of_pid (state_of k) pid ≡ place_where k.table.places (has_pid pid)
+  place-state pid =
+      place_of_pid-with_table (base (rest_of k)) (loaded k) (memories k.spaces) pid
+      ∙ place-changed k.table k.spaces pid k.spaces.active
+
+  pub process-state : (i : ℕ) → process_at (state_of k) i ≡ option_map (with_memory (memory_in (slot k.spaces.places i))) (slot (loaded k).places i)
+  process-state i = slot-joined (loaded k).places (memories k.spaces) i ∙ ap (λ (m : Memory). option_map (with_memory m) (slot (loaded k).places i)) (memory-at k.spaces i)
+
+  shown-go : (pid : ℕ) (o : Option ℕ) → place_where k.table.places (has_pid pid) ≡ o → shown_process (state_of k) pid ≡ option_and_then (process_at (state_of k)) o
+  shown-go pid o found = ap (option_and_then (process_at (state_of k))) (place-state pid ∙ found)
+
+  pub shown-none : (pid : ℕ) → place_where k.table.places (has_pid pid) ≡ None → shown_process (state_of k) pid ≡ None
+  shown-none pid found = shown-go pid None found
+
+  pub shown-at : (pid i : ℕ) → place_where k.table.places (has_pid pid) ≡ Some i → shown_process (state_of k) pid ≡ option_map (with_memory (memory_in (slot k.spaces.places i))) (slot (loaded k).places i)
+  shown-at pid i found = shown-go pid (Some i) found ∙ process-state i
+
+bare-with : (m : Memory) (o : Option Process) → option_map bare (option_map (with_memory m) o) ≡ o
+bare-with m None = refl
+bare-with m (Some p) = refl
+
+pub shown-loaded : (k : Kernel) (pid i : ℕ) → place_where k.table.places (has_pid pid) ≡ Some i → option_map bare (shown_process (state_of k) pid) ≡ slot (loaded k).places i
+shown-loaded k pid i found = ap (option_map bare) (shown-at k pid i found) ∙ bare-with (memory_in (slot k.spaces.places i)) (slot (loaded k).places i)
+
+-- over the fields: k is what they show, and now is the kernel's value; r is the place that was found
+pub whole-shown : (k now : Kernel) (pid i : ℕ) → k ≡ now → (r : Option ℕ) → r ≡ place_where k.table.places (has_pid pid) → r ≡ Some i → (o : Option Process) → o ≡ slot (loaded now).places i → o ≡ option_map bare (shown_process (state_of now) pid)
+whole-shown k now pid i same r told found o whole =
+    whole
+    ∙ ap (λ (x : Kernel). slot (loaded x).places i) (sym same)
+    ∙ sym (shown-loaded k pid i (sym told ∙ found))
+    ∙ ap (λ (x : Kernel). option_map bare (shown_process (state_of x) pid)) same
+
+-- ---- its memory
+
+loaded-some : (k : Kernel) (i : ℕ) (p : Process) (o : Option ℕ) → slot k.table.places i ≡ Some p → (q : Process) × (slot (changed_at k.table (on_hart k.spaces) o).places i ≡ Some q)
+loaded-some k i p None is = (p, is)
+loaded-some k i p (Some j) is = elim (same_or_not i j) [
+  | inl same ↦ (on_hart k.spaces p, rw (← same, slot-put k.table.places i (option_map (on_hart k.spaces) (slot k.table.places i)) (slot-within k.table.places i p is), is) refl)
+  | inr other ↦ (p, slot-other k.table.places j i (option_map (on_hart k.spaces) (slot k.table.places j)) other ∙ is)
+]
+
+memory-held : (o : Option Held) → memory_in o ≡ (unwrap_or o no_pages).memory
+memory-held None = refl
+memory-held (Some h) = refl
+
+module _ (k : Kernel) (pid i : ℕ) (found : place_where k.table.places (has_pid pid) ≡ Some i) where
+  -- the place that is found has a space
+  pub found-space : IsKernel k → has_space k.spaces i ≡ true
+  found-space is =
+      let p = place_where-Some (has_pid pid) k.table.places i found in
+      place-space (slot k.table.places i) (slot k.spaces.places i) p.0 p.1.0 (is.stands i)
+
+  pub shown-some : (q : Process) × (shown_process (state_of k) pid ≡ Some (with_memory (held_at k.spaces i).memory q))
+  shown-some =
+      let p = place_where-Some (has_pid pid) k.table.places i found in
+      let q = loaded-some k i p.0 k.spaces.active p.1.0 in (
+        q.0,
+        shown-at k pid i found ∙ ap (option_map (with_memory (memory_in (slot k.spaces.places i)))) q.1
+            ∙ ap (λ (m : Memory). Some (with_memory m q.0)) (memory-held (slot k.spaces.places i)),
+      )
+
+  pub page-shown : (n : ℕ) → shown_page (state_of k) pid n ≡ slice_get (held_at k.spaces i).memory n
+  page-shown n = ap (option_and_then (λ (p : unix.Process). slice_get p.memory n)) shown-some.1
+
+  pub tables-shown : (ram : List (List ℕ)) (root : ℕ) → ShowsMemory ram root (held_at k.spaces i).memory → IfSome (shown_process (state_of k) pid) (λ p. ShowsMemory ram root p.memory)
+  tables-shown ram root shows = rw shown-some.1 shows
+
+  pub some-shown : is_some (shown_process (state_of k) pid) ≡ true
+  some-shown = ap is_some shown-some.1
+
+-- ---- frames
+
+pub frames-state : (k : Kernel) → IsKernel k → frames_of (state_of k) ≡ taken_frames k.spaces
+frames-state k is = frames-with k (loaded k) (match-loaded k is)

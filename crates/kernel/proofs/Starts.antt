@@ -1,0 +1,161 @@
+-- A process is picked.
+use Rattle.std.proofs.Common.{◌≡◌, ◌≢◌, ℕ, ◌<◌, ◌%◌, Bool, true, false, List, [], length, Option, Some, None, ℤ, negsuc, refl, ap, sym, subst, ◌∙◌}
+use Rattle.std.specs.Prelude.{if◌then◌else◌, is_some, not, slice_index, slice_index_or, slice_set}
+use Rattle.std.proofs.lemmas.List.{length-map, length-set, set-get_or}
+use Rattle.kernel.specs.Descriptors.{descriptors_in}
+use Rattle.kernel.specs.Kernel.{Kernel, base, ended, halted_by, lives, loaded, memories, memory_in, picked, rest_of, started, started_as, state_of}
+use Rattle.kernel.specs.Sound.{started-filed, CanRun, IsKernel, IsLive, IsPlace, IsPlaced, is_at}
+use Rattle.kernel.proofs.Changes.{ended-is, ended-state, other-at, stands-put}
+use Rattle.kernel.proofs.Opens.{opened-put}
+use Rattle.kernel.proofs.Runs.{IsRun, eq-self, memory-at, put-with, runs-set, set-twice, slot-put, slot-within, state-run, with_process}
+use Rattle.proc.specs.declared.process.Process.{Process}
+use Rattle.proc.specs.Places.{changed, with_mode}
+use Rattle.proc.specs.Whole.{with_memory, with_table}
+use Rattle.spaces.specs.Spaces.{Held, has_space}
+use Rattle.unixmodel.specs.Calls.{quiet}
+use Rattle.unixmodel.specs.declared.process.Mode.{Mode}
+use Rattle.unixmodel.specs.declared.process.Mode.TheVariants.{Ready, Running}
+use Rattle.unixmodel.specs.Files.{slot}
+use Rattle.unixmodel.specs.Memory.{Memory}
+use Rattle.unixmodel.specs.Next as next
+use Rattle.unixmodel.specs.Outcome.{end_process}
+use Rattle.unixmodel.specs.State.{State, put_process}
+
+-- none runs: the state has the table as it is
+pub picked-state : (k : Kernel) (i : ℕ) → k.spaces.active ≡ None → state_of (picked k i) ≡ record (state_of k) { last = i }
+picked-state k i idle = rw idle refl
+
+placed-is : (o : Option Process) (q : Option Held) (p : Process) (h : Held) → o ≡ Some p → q ≡ Some h → IsPlace o q → IsPlaced p h
+placed-is None q p h at space is = absurd (cc)
+placed-is (Some x) None p h at space is = absurd (cc)
+placed-is (Some x) (Some y) p h at space is = let e : x ≡ p = cc in let f : y ≡ h = cc in subst (λ (z : Process). IsPlaced z h) e (subst (λ (z : Held). IsPlaced x z) f is)
+
+-- process p, which lives, stands in place i, and none runs
+module _ (k : Kernel) (i : ℕ) (p : Process) (h : Held) (is : IsKernel k) (idle : k.spaces.active ≡ None) (process : slot k.table.places i ≡ Some p) (space : slot k.spaces.places i ≡ Some h) (alive : lives p ≡ true) where
+  table-idle : loaded k ≡ k.table
+  table-idle = rw idle refl
+
+  short : i < length k.table.places
+  short = slot-within k.table.places i p process
+
+  placed : IsPlaced p h
+  placed = placed-is (slot k.table.places i) (slot k.spaces.places i) p h process space (is.stands i)
+
+  pub state-idle : state_of k ≡ with_table (base (rest_of k)) k.table (memories k.spaces)
+  state-idle = rw idle refl
+
+  -- ---- it is killed
+
+  pub killed-ends : k.tree.failed ≡ false → slice_index k.spaces.registers 0 ≡ 0 → k.spaces.pc % 4 ≡ 0 → (status : ℤ) → end_process (state_of k) i (with_memory h.memory p) status ≡ state_of (ended k i status)
+  killed-ends up z a status =
+      let there : slot (loaded k).places i ≡ Some p = ap (λ t. slot t.places i) table-idle ∙ process in
+      let pids : halted_by (slot k.table.places i) ≡ halted_by (Some p) = ap halted_by process in
+      let alone : (j : ℕ) → j ≢ i → is_at j k.spaces.active ≡ false = λ j other. ap (is_at j) idle in
+      ended-state k is z a i p h there space pids alone status up ∙ sym (ap state_of (ended-is k is z a i p h there space pids alone status))
+
+  -- ---- it runs
+
+  abbrev q : Process
+  q = record p { mode = Running }
+
+  abbrev pub started_to : Kernel
+  started_to = record k { table = with_process k.table i q; spaces = record k.spaces { active = Some i; registers = p.registers; pc = p.pc } }
+
+  pub started-is : started k i ≡ started_to
+  started-is = ap (started_as k i) process ∙ rw process refl
+
+  module _ (l : IsLive p) (n : p.killed ≡ false) (up : k.tree.failed ≡ false) where
+    q-placed : IsPlaced q h
+    q-placed = record { size = placed.size; zero = placed.zero; aligned = placed.aligned; mode = (record { descriptors = l.descriptors; directory = l.directory }, n) }
+
+    pub started-run : IsRun started_to i q h
+    started-run = record { active = refl; process = slot-put k.table.places i (Some q) short; space = space; placed = q-placed; runs = refl; up = up }
+
+    pub started-kernel : IsKernel started_to
+    started-kernel = record {
+      all = length-set k.table.places i (Some q) ∙ is.all;
+      spaces = is.spaces;
+      stands = stands-put k.table.places k.spaces.places i (Some q) short (rw space q-placed) is.stands;
+      runs = runs-set k.table.places i (Some q) k.spaces.active (Some i) short (sym (eq-self i)) (λ j other. other-at i j other ∙ sym (ap (is_at j) idle)) is.runs;
+      filed = started-filed up is.filed;
+      fits = is.fits;
+      opened = opened-put k.files k.spaces.pipes k.table.places i (Some q) (sym (ap descriptors_in process)) tt is.opened;
+    }
+
+    pub started-state : state_of started_to ≡ put_process (state_of k) i (with_memory h.memory q)
+    started-state =
+        let rest = base (rest_of k) in
+        let at : slice_index_or (memories k.spaces) i [] ≡ h.memory = memory-at k.spaces i ∙ ap memory_in space in
+        let same : memories k.spaces ≡ slice_set (memories k.spaces) i h.memory = sym (ap (λ m. slice_set (memories k.spaces) i m) (sym at) ∙ set-get_or (memories k.spaces) i []) in
+        let low : i < length (memories k.spaces) = rw (length-map k.spaces.places memory_in) (slot-within k.spaces.places i h space) in
+        state-run started_to i q h started-run
+        ∙ ap (λ (places : List (Option Process)). with_table rest (record k.table { places = places }) (memories k.spaces)) (set-twice k.table.places i (Some q) (Some q))
+        ∙ ap (λ (ms : List Memory). with_table rest (with_process k.table i q) ms) same
+        ∙ sym (put-with rest k.table (memories k.spaces) i q h.memory low)
+        ∙ sym (ap (λ (s : State). put_process s i (with_memory h.memory q)) state-idle)
+
+    -- a picked process in user state runs
+    pub picks-ready : p.mode ≡ Ready → next.picked (state_of k) i (with_memory h.memory p) ≡ quiet (state_of (started k i))
+    picks-ready ready =
+        let self = with_memory h.memory p in
+        ap (λ (b : Bool). if b then quiet (end_process (state_of k) i self (negsuc 0)) else next.picked_in (state_of k) i self self.mode) n
+        ∙ ap (λ (m : Mode). next.picked_in (state_of k) i self m) ready
+        ∙ ap quiet (sym (ap state_of started-is ∙ started-state))
+
+  -- a picked process that is killed ends
+  pub picks-killed : k.tree.failed ≡ false → slice_index k.spaces.registers 0 ≡ 0 → k.spaces.pc % 4 ≡ 0 → p.killed ≡ true → next.picked (state_of k) i (with_memory h.memory p) ≡ quiet (state_of (ended k i (negsuc 0)))
+  picks-killed up z a killed =
+      let self = with_memory h.memory p in
+      ap (λ (b : Bool). if b then quiet (end_process (state_of k) i self (negsuc 0)) else next.picked_in (state_of k) i self self.mode) killed
+      ∙ ap quiet (killed-ends up z a (negsuc 0))
+
+  -- the space that is there, and what the hart takes over
+  pub start-space : has_space k.spaces i ≡ true
+  start-space = ap is_some space
+
+  pub start-zero : slice_index p.registers 0 ≡ 0
+  start-zero = placed.zero
+
+  pub start-aligned : p.pc % 4 ≡ 0
+  start-aligned = placed.aligned
+
+-- ---- over the fields
+
+-- a process that may run, with its space
+pub record IsIdle (k : Kernel) (i : ℕ) (p : Process) (h : Held) : Type 0 where
+  pub process : slot k.table.places i ≡ Some p
+  pub space : slot k.spaces.places i ≡ Some h
+  pub alive : lives p ≡ true
+  pub live : IsLive p
+  pub free : p.killed ≡ false
+
+idle-go : (k : Kernel) (i : ℕ) (o : Option Process) (q : Option Held) → slot k.table.places i ≡ o → slot k.spaces.places i ≡ q → IsPlace o q → CanRun o → (p : Process) × ((h : Held) × IsIdle k i p h)
+idle-go k i None q process space is can = absurd can
+idle-go k i (Some p) None process space is can = absurd is
+idle-go k i (Some p) (Some h) process space is can = (p, (h, record { process = process; space = space; alive = ap not can.1; live = can.0; free = can.2 }))
+
+pub idle-of : (k : Kernel) (i : ℕ) → IsKernel k → CanRun (slot k.table.places i) → (p : Process) × ((h : Held) × IsIdle k i p h)
+idle-of k i is can = idle-go k i (slot k.table.places i) (slot k.spaces.places i) refl refl (is.stands i) can
+
+-- what the hart takes over
+pub record Takes (k : Kernel) (i : ℕ) (x : Process) : Type 0 where
+  pub space : has_space k.spaces i ≡ true
+  pub zero : slice_index x.registers 0 ≡ 0
+  pub aligned : x.pc % 4 ≡ 0
+  pub starts : started k i ≡ record k { table = changed k.table i (with_mode Running); spaces = record k.spaces { active = Some i; registers = x.registers; pc = x.pc } }
+  pub keeps : IsKernel (record k { table = changed k.table i (with_mode Running); spaces = record k.spaces { active = Some i; registers = x.registers; pc = x.pc } })
+
+pub takes : (k : Kernel) (i : ℕ) (x : Process) → IsKernel k → k.spaces.active ≡ None → k.tree.failed ≡ false → CanRun (slot k.table.places i) → slot k.table.places i ≡ Some x → Takes k i x
+takes k i x is idle up can at =
+    let f = idle-of k i is can in
+    let r = f.1.1 in
+    let e : x ≡ f.0 = let a = r.process in cc in
+    let here : slot k.table.places i ≡ Some x = at in
+    let starts : started k i ≡ record k { table = changed k.table i (with_mode Running); spaces = record k.spaces { active = Some i; registers = x.registers; pc = x.pc } } = ap (started_as k i) here in
+    record {
+      space = start-space k i f.0 f.1.0 is idle r.process r.space r.alive;
+      zero = ap (λ (y : Process). slice_index y.registers 0) e ∙ start-zero k i f.0 f.1.0 is idle r.process r.space r.alive;
+      aligned = ap (λ (y : Process). y.pc % 4) e ∙ start-aligned k i f.0 f.1.0 is idle r.process r.space r.alive;
+      starts = starts;
+      keeps = subst (λ (y : Kernel). IsKernel y) (sym (started-is k i f.0 f.1.0 is idle r.process r.space r.alive) ∙ starts) (started-kernel k i f.0 f.1.0 is idle r.process r.space r.alive r.live r.free up);
+    }

@@ -1,0 +1,83 @@
+-- The kernel's own steps keep what a kernel keeps.
+use Rattle.std.proofs.Common.{true, ◌≡◌, ℕ, ◌≤◌, ◌%◌, Option, Some, None, Ok, Err, refl, ap, subst, sym, ◌∙◌}
+use Rattle.std.specs.Prelude.{IfNone, IfSome, slice_index, unwrap_or}
+use Rattle.kernel.specs.Descriptors.{descriptors_in}
+use Rattle.kernel.specs.Kernel.{Kernel, blocked, computed, descriptors_at, left_as}
+use Rattle.tree.specs.Tree.{FileTree}
+use Rattle.kernel.specs.Sound.{IsAwaiting, IsFiled, IsKernel, failed-filed, IsPending, IsPlaced}
+use Rattle.kernel.proofs.Leaving.{stops-kernel, waits-kernel}
+use Rattle.kernel.proofs.Runs.{IsRun, moved, moved-kernel, run-of, set-slot}
+use Rattle.kernel.proofs.Running.{live, not-killed, runs-mode}
+use Rattle.files.specs.Places.{opens_of}
+use Rattle.proc.specs.declared.process.Process.{Process}
+use Rattle.spaces.specs.Spaces as spaces
+use Rattle.spaces.specs.Spaces.{Held, Spaces, held_at, no_pages, taken_frames}
+use Rattle.unixmodel.specs.Cycle.{cycle}
+use Rattle.unixmodel.specs.declared.process.Mode.TheVariants.{Ready}
+use Rattle.unixmodel.specs.declared.process.Pending.{Pending}
+use Rattle.unixmodel.specs.declared.trap.Trap.{Trap}
+use Rattle.unixmodel.specs.Meaning.{Computed}
+use Rattle.unixmodel.specs.Memory.{Memory}
+use Rattle.unixmodel.specs.Next.{memory_after}
+
+pub stop-keeps : (k : Kernel) (i : ℕ) → IsKernel k → k.spaces.active ≡ Some i → slice_index k.spaces.registers 0 ≡ 0 → k.spaces.pc % 4 ≡ 0 → IsKernel (left_as k i Ready)
+stop-keeps k i is active z a = let run = run-of k i is active in stops-kernel k i run.0 run.1.0 run.1.1 is z a
+
+pub block-keeps : (k : Kernel) (i : ℕ) (w : Pending) → IsKernel k → k.spaces.active ≡ Some i → slice_index k.spaces.registers 0 ≡ 0 → k.spaces.pc % 4 ≡ 0
+    → IsPending (descriptors_at k i) (held_at k.spaces i).memory w w.number → IsAwaiting (opens_of k.files) (descriptors_at k i) w → IsKernel (blocked k i w)
+block-keeps k i w is active z a pending for =
+    let run = run-of k i is active in
+    let held : held_at k.spaces i ≡ run.1.0 = ap (λ o. unwrap_or o no_pages) run.1.1.space in
+    waits-kernel k i run.0 run.1.0 run.1.1 is z a w (rw (held, ap descriptors_in run.1.1.process) at pending) (rw (ap descriptors_in run.1.1.process) at for)
+
+-- where the device fails none runs any more
+pub with-tree : (k : Kernel) (t : FileTree) → IsKernel k → IsFiled t k.spaces.active → IsKernel (record k { tree = t })
+with-tree k t is filed = record { all = is.all; spaces = is.spaces; stands = is.stands; runs = is.runs; fits = is.fits; opened = is.opened; filed = filed }
+
+pub fail-keeps : (k now : Kernel) (i : ℕ) (t : FileTree) → k ≡ now → IsKernel now → now.spaces.active ≡ Some i → slice_index now.spaces.registers 0 ≡ 0 → now.spaces.pc % 4 ≡ 0 → t.failed ≡ true → IsKernel (record (left_as k i Ready) { tree = t })
+fail-keeps k now i t same is active z a down =
+    with-tree (left_as k i Ready) t (subst (λ (x : Kernel). IsKernel (left_as x i Ready)) (sym same) (stop-keeps now i is active z a)) (failed-filed down)
+
+-- ---- an instruction
+
+module _ (k : Kernel) (i : ℕ) (p : Process) (h : Held) (r : IsRun k i p h) (is : IsKernel k) where
+  -- the running process may have any memory
+  pub placed-with : (memory : Memory) → IsPlaced p (record h { memory = memory })
+  placed-with memory = record {
+    size = r.placed.size;
+    zero = r.placed.zero;
+    aligned = r.placed.aligned;
+    mode = runs-mode p memory p.mode r.runs (live k i p h r is) (not-killed k i p h r is);
+  }
+
+  pub held-run : held_at k.spaces i ≡ h
+  held-run = ap (λ o. unwrap_or o no_pages) r.space
+
+  module _ (d : Computed) where
+    pub computed-is : computed k i d ≡ moved k i p (record h { memory = memory_after h.memory d.change }) d.regs d.pc
+    computed-is = rw (held-run, set-slot k.table.places i (Some p) r.process) refl
+
+    pub computed-kernel : taken_frames (computed k i d).spaces ≤ k.spaces.frames → IsKernel (computed k i d)
+    computed-kernel fits =
+        rw computed-is (moved-kernel k i p h r is p (record h { memory = memory_after h.memory d.change }) d.regs d.pc (placed-with (memory_after h.memory d.change)) r.runs refl (subst (λ (x : Kernel). taken_frames x.spaces ≤ k.spaces.frames) computed-is fits))
+
+execute-ends : (k : Kernel) (i : ℕ) (new : Spaces) (result : Option Trap) → IsKernel k → k.spaces.active ≡ Some i → taken_frames new ≤ new.frames
+    → IfNone result (IfSome (Some i) (λ at. (d : Computed) × (cycle k.spaces.registers k.spaces.pc (held_at k.spaces at).memory ≡ Ok d) × (new ≡ spaces.computed k.spaces at d)))
+    → IfSome result (λ t. IfSome (Some i) (λ at. (cycle k.spaces.registers k.spaces.pc (held_at k.spaces at).memory ≡ Err t) × (new ≡ k.spaces)))
+    → IsKernel (record k { spaces = new })
+execute-ends k i new None is active fits done trap =
+    let run = run-of k i is active in
+    let e : new ≡ spaces.computed k.spaces i done.0 = done.2 in
+    let few : taken_frames (computed k i done.0).spaces ≤ k.spaces.frames = rw e at fits in
+    rw e (computed-kernel k i run.0 run.1.0 run.1.1 is done.0 few)
+execute-ends k i new (Some t) is active fits done trap = rw trap.1 is
+
+pub execute-closes : (k now : Kernel) (i : ℕ) (new : Spaces) (result : Option Trap) → k ≡ now → IsKernel k → now.spaces.active ≡ Some i → taken_frames new ≤ new.frames
+    → IfNone result (IfSome k.spaces.active (λ at. (d : Computed) × (cycle k.spaces.registers k.spaces.pc (held_at k.spaces at).memory ≡ Ok d) × (new ≡ spaces.computed k.spaces at d)))
+    → IfSome result (λ t. IfSome k.spaces.active (λ at. (cycle k.spaces.registers k.spaces.pc (held_at k.spaces at).memory ≡ Err t) × (new ≡ k.spaces)))
+    → IsKernel (record k { spaces = new })
+execute-closes k now i new result same is at fits done trap =
+    let active : k.spaces.active ≡ Some i = ap (λ (x : Kernel). x.spaces.active) same ∙ at in
+    execute-ends k i new result is active fits
+    (subst (λ (o : Option ℕ). IfNone result (IfSome o (λ at. (d : Computed) × (cycle k.spaces.registers k.spaces.pc (held_at k.spaces at).memory ≡ Ok d) × (new ≡ spaces.computed k.spaces at d)))) active done)
+    (subst (λ (o : Option ℕ). IfSome result (λ t. IfSome o (λ at. (cycle k.spaces.registers k.spaces.pc (held_at k.spaces at).memory ≡ Err t) × (new ≡ k.spaces)))) active trap)

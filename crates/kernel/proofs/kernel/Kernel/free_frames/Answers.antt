@@ -1,0 +1,7 @@
+use Rattle.kernel.specs.View.{kernel_of}
+use Rattle.kernel.proofs.Shown.{frames-state}
+use Rattle.std.proofs.Common.{◌+◌, ap, ◌∙◌}
+use Rattle.kernel.proofs.kernel.Kernel.free_frames.Goals as goal
+
+pub returns : goal.returns
+returns g c = rw (← c.self.view_is) (ap (λ n. c.free.result + n) (frames-state (kernel_of c.self.inside) c.self.invariant) ∙ c.free.ensures)

@@ -1,0 +1,14 @@
+use Rattle.kernel.specs.Kernel.{Kernel, left_as}
+use Rattle.kernel.specs.Sound.{IsKernel}
+use Rattle.std.proofs.Common.{ap, subst, sym}
+use Rattle.kernel.proofs.kernel.Kernel.leave.Goals as goal
+
+pub invariant_of-self : goal.invariant_of-self
+invariant_of-self g c =
+    rw (c.leave.ensures, c.deactivate.ensures, c.registers.ensures.registers, c.pc.ensures.pc)
+    (subst (λ (k : Kernel). IsKernel (left_as k c.args.at c.args.mode)) (sym c.self.view_is) c.requires)
+
+pub returns : goal.returns
+returns g c =
+    rw (c.leave.ensures, c.deactivate.ensures, c.registers.ensures.registers, c.pc.ensures.pc)
+    (ap (λ (k : Kernel). left_as k c.args.at c.args.mode) c.self.view_is)

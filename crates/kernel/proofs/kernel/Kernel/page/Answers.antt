@@ -1,0 +1,15 @@
+use Rattle.kernel.specs.View.{kernel_of}
+use Rattle.kernel.proofs.Shown.{found-space, page-shown, shown-none}
+use Rattle.std.proofs.Common.{sym, ◌∙◌, refl}
+use Rattle.kernel.proofs.kernel.Kernel.page.Goals as goal
+
+pub returns-in_err-at : goal.returns-in_err-at
+returns-in_err-at g c =
+    let none = shown-none (kernel_of c.self.inside) c.args.pid (sym c.find.ensures.place ∙ c.in_err-at.was) in
+    rw (← c.self.view_is, none, c.from_residual.ensures) refl
+
+pub page-requires : goal.page-requires
+page-requires g c = found-space (kernel_of c.self.inside) c.args.pid c.in_ok-at.at (sym c.find.ensures.place ∙ c.in_ok-at.was) c.self.invariant
+
+pub returns : goal.returns
+returns g c = rw (← c.self.view_is) (c.page.ensures ∙ sym (page-shown (kernel_of c.self.inside) c.args.pid c.in_ok-at.at (sym c.find.ensures.place ∙ c.in_ok-at.was) c.args.n))

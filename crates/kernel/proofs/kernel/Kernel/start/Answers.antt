@@ -1,0 +1,24 @@
+use Rattle.std.proofs.Common.{ap, subst, sym, ◌∙◌}
+use Rattle.std.specs.Option.{option_copied}
+use Rattle.kernel.proofs.Starts.{takes}
+use Rattle.kernel.specs.Kernel.{Kernel, started}
+use Rattle.kernel.specs.Sound.{CanRun}
+use Rattle.kernel.specs.View.{kernel_of}
+use Rattle.unixmodel.specs.Files.{slot}
+use Rattle.kernel.proofs.kernel.Kernel.start.Goals as goal
+
+pub invariant_of-self : goal.invariant_of-self
+invariant_of-self g c =
+    let k = kernel_of c.self.inside in
+    let idle = ap (λ (x : Kernel). x.spaces.active) c.self.view_is ∙ c.requires.idle in
+    let can = subst (λ (x : Kernel). CanRun (slot x.table.places c.args.at)) (sym c.self.view_is) c.requires.can in
+    let there = sym c.process.ensures.process ∙ ap option_copied c.in-Some.is in
+    rw (c.run.ensures, c.activate.ensures) (takes k c.args.at c.in-Some.process.now c.self.invariant idle (ap (λ (x : Kernel). x.tree.failed) c.self.view_is ∙ c.requires.up) can there).keeps
+
+pub returns-in-Some : goal.returns-in-Some
+returns-in-Some g c =
+    let k = kernel_of c.self.inside in
+    let idle = ap (λ (x : Kernel). x.spaces.active) c.self.view_is ∙ c.requires.idle in
+    let can = subst (λ (x : Kernel). CanRun (slot x.table.places c.args.at)) (sym c.self.view_is) c.requires.can in
+    let there = sym c.process.ensures.process ∙ ap option_copied c.in-Some.is in
+    rw (c.run.ensures, c.activate.ensures) (sym (takes k c.args.at c.in-Some.process.now c.self.invariant idle (ap (λ (x : Kernel). x.tree.failed) c.self.view_is ∙ c.requires.up) can there).starts ∙ ap (λ (x : Kernel). started x c.args.at) c.self.view_is)

@@ -1,0 +1,17 @@
+use Rattle.kernel.proofs.Readies.{children-seen}
+use Rattle.kernel.specs.Ready.{awaited, seen}
+use Rattle.proc.specs.Whole.{with_memory}
+use Rattle.std.proofs.Common.{[], ap, is_some, sym, ◌∙◌}
+use Rattle.unixmodel.specs.declared.call.Call.{Call}
+use Rattle.unixmodel.specs.Turn.{can_go_on}
+use Rattle.kernel.proofs.ready.Awaited.can_go_on.Goals as goal
+
+pub returns-in-Wait : goal.returns-in-Wait
+returns-in-Wait g c =
+    let p = c.args.process.now in
+    let w = c.args.pending.now in
+    let s = awaited c.args.self.now in
+    c.is_some.ensures
+    ∙ ap is_some c.zombie_child.ensures.place
+    ∙ sym (children-seen s c.args.places.now p w)
+    ∙ sym (ap (λ (call : Call). can_go_on (seen s c.args.places.now) (with_memory [] p) w call) c.in-Wait.is)

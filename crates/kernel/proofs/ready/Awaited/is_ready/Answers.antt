@@ -1,0 +1,15 @@
+use Rattle.kernel.proofs.Readies.{ready-seen, ready-some}
+use Rattle.kernel.specs.Ready.{awaited}
+use Rattle.std.proofs.Common.{None, rules, sym, ◌∙◌}
+use Rattle.kernel.proofs.ready.Awaited.is_ready.Goals as goal
+
+pub returns-in-Some-Some : goal.returns-in-Some-Some
+returns-in-Some-Some g c =
+    let at = c.in-Some-Some.ensures.lookup in
+    ready-some (awaited c.args.self.now) c.args.places.now c.args.at c.in-Some-Some.process c.is_process_ready.result (sym (at.3.1 None) ∙ c.in-Some-Some.field-0-is) c.is_process_ready.ensures
+
+pub returns-in_default : goal.returns-in_default
+returns-in_default g c = sym (ready-seen (awaited c.args.self.now) c.args.places.now c.args.at None (search rules))
+
+pub returns-in_default-2 : goal.returns-in_default-2
+returns-in_default-2 g c = sym (ready-seen (awaited c.args.self.now) c.args.places.now c.args.at None (search rules))

@@ -1,0 +1,190 @@
+-- A kernel of many processes, as plain values, and the state of the abstract Unix that it stands for.
+use Rattle.std.specs.Prelude.{Bool, List, None, Option, Some, [], if◌then◌else◌, map, not, slice_index, slice_set, ℕ, ℤ, ◌%◌, ◌+◌, ◌==◌, ◌^◌}
+use Rattle.kernel.specs.Descriptors.{all_closed, descriptors_in, standing}
+use Rattle.files.specs.Places.{Counted, opens_of}
+use Rattle.proc.specs.declared.process.Process.{Process}
+use Rattle.proc.specs.Places.{Places, changed, changed_at, exited, with_mark, with_mode}
+use Rattle.proc.specs.Whole.{with_table}
+use Rattle.spaces.specs.Spaces as spaces
+use Rattle.spaces.specs.Spaces.{Held, Spaces}
+use Rattle.unixmodel.specs.declared.process.Mode.{Mode}
+use Rattle.unixmodel.specs.declared.process.Mode.TheVariants.{Ready, Running, Waiting}
+use Rattle.unixmodel.specs.declared.process.Pending.{Pending}
+use Rattle.unixmodel.specs.Console.{Console}
+use Rattle.tree.specs.Tree.{FileTree}
+use Rattle.unixmodel.specs.Files.{Files, slot}
+use Rattle.unixmodel.specs.Meaning.{Computed}
+use Rattle.unixmodel.specs.Memory.{Memory}
+use Rattle.unixmodel.specs.Numbers.{plus}
+use Rattle.unixmodel.specs.OpenFiles.{OpenFile}
+use Rattle.unixmodel.specs.Process.{is_zombie_mode}
+use Rattle.unixmodel.specs.State.{State}
+
+pub record Kernel : Type 0 where
+  -- the files of the disk
+  pub tree : FileTree
+  pub table : Places
+  pub spaces : Spaces
+  -- 100 places, each free or with an open file and how many descriptors name it
+  pub files : List (Option Counted)
+  pub console : Console
+  -- modulo 2^32
+  pub ticks : ℕ
+  -- the status of process 1, once it has ended
+  pub halted : Option ℤ
+
+-- a kernel over processes, their spaces and their open files, as it begins
+abbrev pub begun : FileTree → Places → Spaces → List (Option Counted) → Kernel
+begun tree t s files = record { tree = tree; table = t; spaces = s; files = files; console = record { committed = []; edited = [] }; ticks = 0; halted = None }
+
+-- ---- the state
+
+-- a process with what the hart holds of it
+abbrev pub on_hart : Spaces → Process → Process
+on_hart s p = record p { registers = s.registers; pc = s.pc }
+
+-- the table in which the process of the active place has what the hart holds
+abbrev pub loaded : Kernel → Places
+loaded k = changed_at k.table (on_hart k.spaces) k.spaces.active
+
+abbrev pub memory_in : Option Held → Memory
+memory_in None = []
+memory_in (Some h) = h.memory
+
+abbrev pub memories : Spaces → List Memory
+memories s = map memory_in s.places
+
+-- a process that has not ended
+abbrev pub lives : Process → Bool
+lives p = not (is_zombie_mode p.mode)
+
+-- what the state takes over from a kernel beside its processes
+pub record Rest : Type 0 where
+  pub files : Files
+  pub block_limit : ℕ
+  pub opens : List (Option OpenFile)
+  pub pipes : List (Option (List ℕ))
+  pub console : Console
+  pub ticks : ℕ
+  pub frames : ℕ
+  pub halted : Option ℤ
+
+abbrev pub rest_of : Kernel → Rest
+rest_of k = record { files = k.tree.files; block_limit = k.tree.block_limit; opens = opens_of k.files; pipes = k.spaces.pipes; console = k.console; ticks = k.ticks; frames = k.spaces.frames; halted = k.halted }
+
+-- the state but for the table
+abbrev pub base : Rest → State
+base rest = record {
+  places = [];
+  files = rest.files;
+  opens = rest.opens;
+  pipes = rest.pipes;
+  console = rest.console;
+  ticks = rest.ticks;
+  next_pid = 0;
+  last = 0;
+  frame_limit = rest.frames;
+  block_limit = rest.block_limit;
+  halted = rest.halted;
+}
+
+-- the state with these places and memories
+abbrev pub state_with : Places → List Memory → Rest → State
+state_with t memories rest = with_table (base rest) t memories
+
+abbrev pub state_of : Kernel → State
+state_of k = state_with (loaded k) (memories k.spaces) (rest_of k)
+
+-- ---- what calls do to the running process, in place i
+
+-- the descriptors of process i
+abbrev pub descriptors_at : Kernel → ℕ → List (Option ℕ)
+descriptors_at k i = descriptors_in (slot k.table.places i)
+
+-- argument n of a call
+abbrev pub argument : Kernel → ℕ → ℕ
+argument k n = slice_index k.spaces.registers (10 + n)
+
+-- the pc goes on by 4 as a call begins
+abbrev pub entered : Kernel → Kernel
+entered k = record k { spaces = record k.spaces { pc = plus k.spaces.pc 4 } }
+
+-- an answer stands in a0
+abbrev pub answered : Kernel → ℕ → Kernel
+answered k value = record k { spaces = record k.spaces { registers = slice_set k.spaces.registers 10 value } }
+
+-- after an instruction
+abbrev pub computed : Kernel → ℕ → Computed → Kernel
+computed k i d = record k { spaces = spaces.computed k.spaces i d }
+
+-- ---- the console
+
+-- the console is another
+abbrev pub typed : Kernel → Console → Kernel
+typed k c = record k { console = c }
+
+-- ---- which process runs
+
+abbrev pub idle : Spaces → Spaces
+idle s = record s { active = None }
+
+-- process i, which ran, runs no more
+abbrev pub left_as : Kernel → ℕ → Mode → Kernel
+left_as k i mode = record k {
+  table = changed k.table i (λ p. with_mode mode (on_hart k.spaces p));
+  spaces = idle k.spaces;
+}
+
+abbrev pub blocked : Kernel → ℕ → Pending → Kernel
+blocked k i w = left_as k i (Waiting w)
+
+abbrev pub stopped_at : Kernel → Option ℕ → Kernel
+stopped_at k None = k
+stopped_at k (Some i) = left_as k i Ready
+
+-- a timer interrupt
+abbrev pub ticked : Kernel → Kernel
+ticked k = record (stopped_at k k.spaces.active) { ticks = (k.ticks + 1) % 2 ^ 32 }
+
+abbrev pub with_last : Places → ℕ → Places
+with_last t i = record t { last = i }
+
+abbrev pub started_as : Kernel → ℕ → Option Process → Kernel
+started_as k i None = k
+started_as k i (Some p) = record k {
+  table = changed k.table i (with_mode Running);
+  spaces = record k.spaces { active = Some i; registers = p.registers; pc = p.pc };
+}
+
+-- process i, where none runs, runs
+abbrev pub started : Kernel → ℕ → Kernel
+started k i = started_as k i (slot k.table.places i)
+
+-- place i is the one that was picked last
+abbrev pub picked : Kernel → ℕ → Kernel
+picked k i = record k { table = with_last k.table i }
+
+-- ---- the end of a process
+
+abbrev pub halted_by : Option Process → ℤ → Option ℤ → Option ℤ
+halted_by None status halted = halted
+halted_by (Some p) status halted = if p.pid == 1 then Some status else halted
+
+-- the open files that process i leaves
+abbrev pub left_files : Kernel → ℕ → List (Option Counted)
+left_files k i = all_closed k.files (descriptors_at k i)
+
+-- process i, which ran, or where none runs, has ended: its descriptors are closed, and a pipe that has no end any more goes
+abbrev pub ended : Kernel → ℕ → ℤ → Kernel
+ended k i status = record k {
+  table = exited (loaded k) i status;
+  spaces = record (idle k.spaces) { pipes = standing k.spaces.pipes (opens_of (left_files k i)) };
+  files = left_files k i;
+  halted = halted_by (slot k.table.places i) status k.halted;
+}
+
+-- ---- kill
+
+-- process j is marked
+abbrev pub marked : Kernel → ℕ → Kernel
+marked k j = record k { table = changed k.table j with_mark }

@@ -1,0 +1,6 @@
+pub mod Descriptors
+pub mod Kernel
+pub mod Sound
+pub mod View
+pub mod Ready
+pub mod Shows

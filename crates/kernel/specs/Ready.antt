@@ -1,0 +1,38 @@
+-- Who is ready, as far as the kernel looks at the state.
+use Rattle.std.specs.Prelude.{Bool, List, None, Option, [], nat_le, true, ℕ, ◌%◌, ◌+◌, ◌-◌, ◌^◌, ◌≡◌}
+use Rattle.kernel.specs.declared.ready.Awaited.{Awaited}
+use Rattle.kernel.specs.Kernel.{base}
+use Rattle.files.specs.Places.{opens_of}
+use Rattle.proc.specs.declared.process.Process.{Process}
+use Rattle.proc.specs.Whole.{with_table}
+use Rattle.spaces.specs.Spaces.{Spaces, has_pipe}
+use Rattle.unixmodel.specs.Console.{Console}
+use Rattle.unixmodel.specs.declared.process.Pending.{Pending}
+use Rattle.unixmodel.specs.OpenFiles.{OpenFile, Target}
+use Rattle.unixmodel.specs.OpenFiles.Target.{OnNode, OnPipe}
+use Rattle.unixmodel.specs.ProcessCalls.{sleep_time}
+use Rattle.unixmodel.specs.State.{State}
+
+-- ---- sleep
+
+abbrev pub has_slept : ℕ → Pending → Bool
+has_slept ticks w = nat_le (sleep_time w) ((ticks + (2 ^ 32 - w.since)) % 2 ^ 32)
+
+-- ---- who is ready
+
+-- the state as far as pending calls look at it beside the processes
+abbrev pub awaited_in : List (Option OpenFile) → List (Option (List ℕ)) → Console → ℕ → State
+awaited_in opens pipes console ticks =
+    base (record { files = []; block_limit = 0; opens = opens; pipes = pipes; console = console; ticks = ticks; frames = 0; halted = None })
+
+abbrev pub awaited : {T : Type 0} → Awaited T → State
+awaited a = awaited_in (opens_of a.files.now) a.spaces.now.pipes a.console.now a.ticks
+
+-- with these processes, whose memories don't count
+abbrev pub seen : State → List (Option Process) → State
+seen s places = with_table s (record { places = places; last = 0; next_pid = 0 }) []
+
+-- the pipe that it is an end of is there
+abbrev pub Stands : Spaces → Target → Type 0
+Stands s (OnNode n offset) = Unit {0}
+Stands s (OnPipe q end) = has_pipe s q ≡ true

@@ -1,0 +1,80 @@
+//! The open files that the descriptors of a process name.
+ghost use Rattle.std.specs.Prelude.{◌≡◌, ◌<◌, ◌≤◌, ℕ, IfSome, count_by, is_none};
+ghost use Rattle.kernel.specs.Descriptors.{after_close, all_closed, all_shared, standing};
+ghost use Rattle.files.specs.Pipes.{IsPiped};
+ghost use Rattle.files.specs.Places.{closed, count_at, last_target, opens_of};
+ghost use Rattle.unixmodel.specs.Files.{free_slot, slot};
+
+use files::{Files, Target};
+use spaces::Spaces;
+use sv39::Translate;
+
+/// The open file that a descriptor names.
+pub fn named(descriptors: &[Option<u8>; 16], descriptor: u32) -> Option<u8>
+    ensures named { result ≡ slot descriptors.now descriptor }
+    ensures within { IfSome result (λ _. descriptor < 16) }
+{
+    *descriptors.get(descriptor as usize)?
+}
+
+/// The lowest free descriptor.
+pub fn free_descriptor(descriptors: &[Option<u8>; 16]) -> Option<usize>
+    ensures place { result ≡ free_slot descriptors.now }
+    ensures within { IfSome result (λ free. free < 16) }
+{
+    descriptors
+        .iter()
+        .position(|descriptor| descriptor.is_none())
+}
+
+/// How many descriptors are free.
+pub fn free_count(descriptors: &[Option<u8>; 16]) -> usize
+    ensures { result ≡ count_by is_none descriptors.now }
+{
+    descriptors
+        .iter()
+        .filter(|descriptor| descriptor.is_none())
+        .count()
+}
+
+/// One descriptor more names each open file that these name.
+pub fn share_all(files: &mut Files, descriptors: &[Option<u8>; 16])
+    requires few { (n : ℕ) → count_at files.old n ≤ 1024 }
+    ensures { files.new ≡ all_shared files.old descriptors.now }
+{
+    for descriptor in descriptors {
+        if let Some(id) = descriptor {
+            files.dup(usize::from(*id));
+        }
+    }
+}
+
+/// One descriptor of an open file is closed, and a pipe that has no end any more goes.
+pub fn close<T: Translate + Drop>(files: &mut Files, spaces: &mut Spaces<T>, id: usize)
+    requires { IsPiped spaces.old.pipes (opens_of files.old) }
+    ensures files { files.new ≡ closed files.old id }
+    ensures pipes { spaces.new ≡ record spaces.old { pipes = after_close spaces.old.pipes (opens_of (closed files.old id)) (last_target files.old id) } }
+{
+    if let Some(Target::Pipe { pipe, .. }) = files.close(id) {
+        if !files.has_pipe(pipe) {
+            spaces.destroy_pipe(pipe);
+        }
+    }
+}
+
+/// The descriptors are closed, and a pipe that has no end any more goes.
+pub fn close_all<T: Translate + Drop>(
+    files: &mut Files,
+    spaces: &mut Spaces<T>,
+    descriptors: &[Option<u8>; 16],
+)
+    requires { IsPiped spaces.old.pipes (opens_of files.old) }
+    ensures files { files.new ≡ all_closed files.old descriptors.now }
+    ensures pipes { spaces.new ≡ record spaces.old { pipes = standing spaces.old.pipes (opens_of files.new) } }
+{
+    for descriptor in descriptors {
+        if let Some(id) = descriptor {
+            close(files, spaces, usize::from(*id));
+        }
+    }
+}

@@ -1,0 +1,349 @@
+//! The kernel's own steps: each touches the table, the spaces and the ticks, and keeps them together.
+ghost use Rattle.std.specs.Prelude.{false, ◌≡◌, ◌≢◌, ◌+◌, ◌<◌, ◌≤◌, ◌%◌, ◌^◌, length, Some, None, true, is_some, IfSome, IfNone, slice_index, unwrap_or, []};
+ghost use Rattle.std.specs.Prelude.{if◌then◌else◌, ◌==◌, option_map, OnOk, OnErr, Ok, Err};
+ghost use Rattle.std.specs.Io.KnownBytes.{Appends};
+ghost use Rattle.std.specs.Option.{option_copied};
+ghost use Rattle.kernel.specs.Kernel.{answered, argument, begun, blocked, computed, descriptors_at, ended, entered, left_as, loaded, marked, on_hart, picked, started, state_of, ticked, typed};
+ghost use Rattle.kernel.specs.Sound.{CanRun, IsAwaiting, IsKernel, IsPending, can_answer};
+ghost use Rattle.kernel.specs.Sound.{CanEnd};
+ghost use Rattle.console.specs.Output.{AppendsBeginning};
+ghost use Rattle.files.specs.Meant.{end_of, target_of};
+ghost use Rattle.files.specs.Places.{has_end, opens_of};
+ghost use Rattle.proc.specs.Places.{has_pid, place_where};
+ghost use Rattle.spaces.specs.Spaces.{held_at};
+ghost use Rattle.unixmodel.specs.Console.{key};
+ghost use Rattle.unixmodel.specs.Cycle.{cycle};
+ghost use Rattle.unixmodel.specs.Failures.{Rises};
+ghost use Rattle.unixmodel.specs.Files.{slot};
+ghost use Rattle.unixmodel.specs.Meaning.{Computed};
+ghost use Rattle.unixmodel.specs.Memory.{can_write, reach, read_bytes};
+ghost use Rattle.unixmodel.specs.declared.trap.Access.TheVariants.{Load};
+ghost use Rattle.vm.specs.Reach.{piece_at};
+ghost use Rattle.unixmodel.specs.Turn.{turn};
+ghost use Rattle.unixmodel.specs.declared.process.Mode.TheVariants.{Ready};
+
+mod show;
+
+use crate::descriptors::{close_all, named};
+use crate::ready::Awaited;
+use blockdev::BlockDev;
+use console::{Console, Out, OutFault};
+use files::{End, Files, Target};
+use proc::{Process, Table};
+use spaces::Spaces;
+use std::marker::Model;
+use sv39::Translate;
+use tree::Tree;
+use unixmodel::call::Call;
+use unixmodel::process::{Mode, Pending};
+use unixmodel::trap::Trap;
+
+/// The processes of a machine, their spaces, the hart that runs one of them, their open files, and what is typed at the
+/// console.
+#[derive(Drop)]
+pub struct Kernel<D: BlockDev, T: Translate + Drop> {
+    /// The files of the disk.
+    pub tree: Tree<D>,
+    /// The processes.
+    pub table: Table,
+    /// Their spaces, and the hart.
+    pub spaces: Spaces<T>,
+    /// What their descriptors name.
+    pub files: Files,
+    /// What is typed.
+    pub console: Console,
+    /// Modulo 2^32.
+    pub ticks: u32,
+    /// The status of process 1, once it has ended.
+    pub halted: Option<i32>,
+}
+
+impl<D: BlockDev, T: Translate + Drop> Model for Kernel<D, T> {
+    ghost use Rattle.kernel.specs.Kernel.{Kernel};
+
+    ghost Value = { Kernel };
+
+    ghost use Rattle.kernel.specs.View.{IsInside, kernel_of};
+
+    ghost view = { kernel_of };
+
+    ghost invariant = { IsInside };
+}
+
+// Whether the machine halts, once the process with this pid has ended.
+fn halted_after(pid: u32, status: i32, halted: Option<i32>) -> Option<i32>
+    ensures { result ≡ (if pid == 1 then Some status else halted) }
+{
+    if pid == 1 { Some(status) } else { halted }
+}
+
+impl<D: BlockDev, T: Translate + Drop> Kernel<D, T> {
+    /// A kernel over processes, their spaces and their open files.
+    pub fn new(tree: Tree<D>, table: Table, spaces: Spaces<T>, files: Files) -> Kernel<D, T>
+        requires { IsKernel (begun tree table spaces files) }
+        ensures { result ≡ begun tree table spaces files }
+    {
+        Kernel {
+            tree,
+            table,
+            spaces,
+            files,
+            console: Console::new(),
+            ticks: 0,
+            halted: None,
+        }
+    }
+
+    /// The device of the disk, which counts its failures.
+    pub fn device(&self) -> &D
+        ensures { D.failures result.now ≡ self.now.tree.failures }
+    {
+        self.tree.device()
+    }
+
+    /// The place of the running process.
+    pub fn active(&self) -> Option<usize>
+        ensures { result ≡ self.now.spaces.active }
+    {
+        self.spaces.active()
+    }
+
+    /// A law: what every kernel keeps. It runs no code.
+    #[inline]
+    pub fn is_sound(&self)
+        ensures sound { IsKernel self.now }
+        ensures zero { slice_index self.now.spaces.registers 0 ≡ 0 }
+        ensures aligned { self.now.spaces.pc % 4 ≡ 0 }
+    {
+        let _registers = self.spaces.registers();
+        let _pc = self.spaces.pc();
+    }
+
+    /// The status of process 1, once it has ended.
+    pub fn halted(&self) -> Option<i32>
+        ensures { result ≡ self.now.halted }
+    {
+        self.halted
+    }
+
+    /// The ticks so far, modulo 2^32.
+    pub fn ticks(&self) -> u32
+        ensures { result ≡ self.now.ticks }
+    {
+        self.ticks
+    }
+
+    /// The process in a place. Of the running one the hart holds the registers and the pc.
+    pub fn process(&self, at: usize) -> Option<&Process>
+        ensures { option_copied result ≡ slot self.now.table.places at }
+    {
+        self.table.process(at)
+    }
+
+    /// The registers a0 to a7: the arguments of a call, and its number.
+    pub fn argument(&self, n: usize) -> u64
+        requires { n < 8 }
+        ensures { result ≡ argument self.now n }
+    {
+        self.spaces.registers()[10 + n]
+    }
+
+    /// The pid of the process in a place.
+    pub fn pid(&self, at: usize) -> u32
+        ensures { IfSome (slot self.now.table.places at) (λ p. result ≡ p.pid) }
+    {
+        match self.table.process(at) {
+            Some(process) => process.pid,
+            None => 0,
+        }
+    }
+
+    /// The open file that a descriptor of the process in a place names.
+    pub fn open_id(&self, at: usize, descriptor: u32) -> Option<u8>
+        ensures named { result ≡ slot (descriptors_at self.now at) descriptor }
+        ensures within { IfSome result (λ _. descriptor < 16) }
+    {
+        match self.table.process(at) {
+            Some(process) => named(&process.descriptors, descriptor),
+            None => None,
+        }
+    }
+
+    /// Begins a call: the pc goes on by 4.
+    pub fn enter(&mut self)
+        ensures { self.new ≡ entered self.old }
+    {
+        let pc = self.spaces.pc();
+        self.spaces.set_pc(pc.wrapping_add(4));
+    }
+
+    /// Puts the answer of a call into a0.
+    pub fn answer(&mut self, value: u64)
+        ensures { self.new ≡ answered self.old value }
+    {
+        self.spaces.set_register(10, value);
+    }
+
+    /// Does the instruction at the pc of the running process, or says why it isn't done.
+    pub fn execute(&mut self, at: usize) -> Option<Trap>
+        requires { self.old.spaces.active ≡ Some at }
+        ensures done { IfNone result ((d : Computed) × (cycle self.old.spaces.registers self.old.spaces.pc (held_at self.old.spaces at).memory ≡ Ok d) × (self.new ≡ computed self.old at d)) }
+        ensures trap { IfSome result (λ t. (cycle self.old.spaces.registers self.old.spaces.pc (held_at self.old.spaces at).memory ≡ Err t) × (self.new ≡ self.old)) }
+    {
+        let trap = self.spaces.execute();
+        let _free = self.spaces.free();
+        trap
+    }
+
+    /// The process in a place with what the hart holds.
+    pub fn on_hart(&self, at: usize) -> Option<Process>
+        ensures process { result ≡ option_map (on_hart self.now.spaces) (slot self.now.table.places at) }
+        ensures within { IfSome result (λ _. at < 64) }
+    {
+        let registers = *self.spaces.registers();
+        let pc = self.spaces.pc();
+        match self.table.process(at) {
+            Some(process) => Some(Process {
+                registers,
+                pc,
+                ..*process
+            }),
+            None => None,
+        }
+    }
+
+    // The process that ran, in a place, runs no more.
+    fn leave(&mut self, at: usize, mode: Mode)
+        requires { IsKernel (left_as self.old at mode) }
+        ensures { self.new ≡ left_as self.old at mode }
+    {
+        self.table
+            .leave(at, self.spaces.registers(), self.spaces.pc(), mode);
+        self.spaces.deactivate();
+    }
+
+    /// The running process waits.
+    pub fn block(&mut self, at: usize, pending: Pending)
+        requires running { self.old.spaces.active ≡ Some at }
+        requires pending { IsPending (descriptors_at self.old at) (held_at self.old.spaces at).memory pending pending.number }
+        requires awaits { IsAwaiting (opens_of self.old.files) (descriptors_at self.old at) pending }
+        ensures { self.new ≡ blocked self.old at pending }
+    {
+        self.is_sound();
+        self.leave(at, Mode::Waiting(pending));
+    }
+
+    // The process in a place, of the running one with what the hart holds.
+    fn whole(&self, at: usize) -> Option<Process>
+        ensures process { result ≡ slot (loaded self.now).places at }
+        ensures within { IfSome result (λ _. at < 64) }
+    {
+        if self.spaces.active() == Some(at) {
+            self.on_hart(at)
+        } else {
+            self.table.process(at).copied()
+        }
+    }
+
+    /// The running process ends with this status, or a process where none runs.
+    #[inline(never)]
+    pub fn finish(&mut self, at: usize, status: i32)
+        requires { CanEnd self.old at }
+        ensures { self.new ≡ ended self.old at status }
+    {
+        self.is_sound();
+        if let Some(process) = self.whole(at) {
+            let halted = halted_after(process.pid, status, self.halted);
+            close_all(&mut self.files, &mut self.spaces, &process.descriptors);
+            self.table.put(at, process);
+            self.table.exit(at, status);
+            self.spaces.deactivate();
+            self.halted = halted;
+        }
+    }
+
+    /// Picks the process whose turn it is; `None`: none is ready.
+    pub fn turn(&mut self) -> Option<usize>
+        requires { self.old.spaces.active ≡ None }
+        ensures turn { result ≡ turn (state_of self.old) }
+        ensures picked { IfSome result (λ i. self.new ≡ picked self.old i) }
+        ensures none { IfNone result (self.new ≡ self.old) }
+    {
+        self.is_sound();
+        let awaited = Awaited {
+            ticks: self.ticks,
+            console: &self.console,
+            files: &self.files,
+            spaces: &self.spaces,
+        };
+        self.table.pick(|places, at| awaited.is_ready(places, at))
+    }
+
+    /// A process runs, where none did.
+    pub fn start(&mut self, at: usize)
+        requires idle { self.old.spaces.active ≡ None }
+        requires up { self.old.tree.failed ≡ false }
+        requires can { CanRun (slot self.old.table.places at) }
+        ensures { self.new ≡ started self.old at }
+    {
+        if let Some(process) = self.table.process(at) {
+            self.spaces.activate(at, &process.registers, process.pc);
+            self.table.run(at);
+        }
+    }
+
+    /// The place of the process with a pid.
+    pub fn find(&self, pid: u32) -> Option<usize>
+        ensures place { result ≡ place_where self.now.table.places (has_pid pid) }
+        ensures within { IfSome result (λ i. i < 64) }
+    {
+        self.table.find(pid)
+    }
+
+    /// Whether the running process may write so many bytes.
+    pub fn can_write(&self, at: usize, address: u64, count: u64) -> bool
+        requires { self.now.spaces.active ≡ Some at }
+        ensures { result ≡ can_write (held_at self.now.spaces at).memory address count }
+    {
+        self.spaces.can_write(at, address, count)
+    }
+
+    /// The size of the running process in bytes.
+    pub fn size(&self, at: usize) -> u64
+        requires { self.now.spaces.active ≡ Some at }
+        ensures { result ≡ (held_at self.now.spaces at).size }
+    {
+        self.spaces.size(at)
+    }
+
+    /// Marks the process in a place, which doesn't run.
+    pub fn mark(&mut self, at: usize)
+        requires { self.old.spaces.active ≢ Some at }
+        ensures { self.new ≡ marked self.old at }
+    {
+        self.table.mark(at);
+    }
+
+    /// A key was typed. Where `out` fails nothing changes, and a beginning of what shows the key was put out.
+    pub fn type_key<W: Out>(&mut self, byte: u8, out: &mut W) -> Result<(), OutFault>
+        ensures ok { OnOk result (self.new ≡ typed self.old (key self.old.console byte).console) }
+        ensures echo { OnOk result (Appends (W.contents out.old) (W.contents out.new) (key self.old.console byte).echo) }
+        ensures err { OnErr result (self.new ≡ self.old) }
+        ensures beginning { OnErr result (AppendsBeginning (W.contents out.old) (W.contents out.new) (key self.old.console byte).echo) }
+        ensures later { W.failures out.old ≤ W.failures out.new }
+        ensures cause { OnErr result (Rises (W.failures out.old) (W.failures out.new)) }
+    {
+        self.console.key(byte, out)
+    }
+
+    /// A timer interrupt: the running process becomes ready.
+    pub fn interrupt(&mut self)
+        ensures { self.new ≡ ticked self.old }
+    {
+        self.is_sound();
+        if let Some(at) = self.active() {
+            self.leave(at, Mode::Ready);
+        }
+        self.ticks = self.ticks.wrapping_add(1);
+    }
+}

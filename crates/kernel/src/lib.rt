@@ -1,0 +1,10 @@
+//! The kernel's value: the processes of a machine with their spaces and open files, what it keeps, and its own steps.
+#![tactic(auto)]
+
+pub mod descriptors;
+mod kernel;
+pub mod numbers;
+mod ready;
+
+pub use kernel::Kernel;
+pub use ready::has_slept;
