@@ -1,0 +1,18 @@
+-- Zeros and padding, as numbers that are tested.
+use Rattle.std.proofs.Common.{◌≡◌, ◌-◌, ◌%◌, Bool, None, Some, false, negsuc, option_map, pos, refl, true, if◌then◌else◌, ℕ, ℤ}
+use Rattle.unixmodel.specs.Assembly.{filled, if_room, is_step, room_at}
+use Rattle.unixmodel.specs.Statements.Statement.{Padding, Zeros}
+use Rattle.asmtext.specs.Numbers.{natural_within}
+use Rattle.asm.specs.Placed.{step_of}
+
+pub zeros_within : (address : ℕ) (n : ℤ) → natural_within (room_at address) n ≡ filled address (Zeros n)
+zeros_within address (pos n) = refl
+zeros_within address (negsuc n) = refl
+
+pub padding_within : (address : ℕ) (n : ℤ) → filled address (Padding n) ≡ if_room address (option_map (λ step. (step - address % step) % step) (step_of n))
+padding_within address (negsuc n) = refl
+padding_within address (pos n) = step (is_step n)
+  where
+    step : (b : Bool) → if_room address (if b then Some ((n - address % n) % n) else None) ≡ if_room address (option_map (λ step. (step - address % step) % step) (if b then Some n else None))
+    step true = refl
+    step false = refl

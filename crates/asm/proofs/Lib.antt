@@ -1,0 +1,5 @@
+mod AssembleLemmas
+mod DistanceLemmas
+mod EmitLemmas
+mod FileLemmas
+mod LayoutLemmas

@@ -1,0 +1,9 @@
+use Rattle.std.proofs.Common.{◌≡◌, drop, map}
+use Rattle.unixmodel.specs.Assembly as the
+use Rattle.asm.specs.Emitted.{behind}
+use Rattle.asm.specs.Placed.{placed_seen}
+use Rattle.asm.proofs.emit.codes.Given as goal
+
+abbrev pub invariant-loop-line : goal.invariant-loop-line
+invariant-loop-line l =
+    behind l.out.items (the.codes_from (map placed_seen l.placed) (map placed_seen (drop l.line-index l.placed))) ≡ the.codes_from (map placed_seen l.placed) (map placed_seen l.placed)

@@ -1,0 +1,16 @@
+//! The assembler: from assembly text to an ELF file.
+//!
+//! A text is read line by line (`asmtext`), each line is placed at its address, and then put out where it stands.
+#![tactic(auto)]
+
+mod assembler;
+mod distance;
+mod emit;
+mod fault;
+mod file;
+mod layout;
+
+pub use assembler::assemble;
+pub use fault::AsmFault;
+pub use file::{NoMemory, file_is_flat, write_elf};
+pub use unixmodel::assembly::AsmKind;

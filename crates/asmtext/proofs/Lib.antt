@@ -1,0 +1,5 @@
+mod LineLemmas
+mod NameLemmas
+pub mod NumberLemmas
+mod PartLemmas
+mod WordLemmas

@@ -1,0 +1,7 @@
+use Rattle.std.proofs.Common.{◌≡◌, map, take}
+use Rattle.unixmodel.specs.Statements as the
+use Rattle.asmtext.specs.Statements.{line_seen}
+use Rattle.asmtext.proofs.line.read_lines.Given as goal
+
+abbrev pub invariant-loop-line : goal.invariant-loop-line
+invariant-loop-line l = map line_seen l.lines.items ≡ map (λ line. the.line_of line.now) (take l.line-index l.split)

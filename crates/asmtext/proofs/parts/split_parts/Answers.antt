@@ -1,0 +1,11 @@
+use Rattle.std.proofs.Common.{rules, tests}
+use Rattle.std.proofs.lemmas.Iterator.Consumers.{map_from_collect}
+use Rattle.std.proofs.lemmas.Iterator.Splits.{YieldsList-from_slice_split}
+use Rattle.asmtext.specs.Symbols.{is_comma}
+use Rattle.asmtext.proofs.parts.split_parts.Goals as goal
+
+pub returns : goal.returns
+returns c =
+    let split = c.split.ensures in
+    map_from_collect _ c.collect.ensures.ran
+    (YieldsList-from_slice_split _ is_comma c.args.symbols.now split.rest split.done split.closure (λ x b q k. search (rules, tests)))

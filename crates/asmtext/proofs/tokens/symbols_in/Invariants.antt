@@ -1,0 +1,7 @@
+use Rattle.std.proofs.Common.{◌≡◌, [], fold, take}
+use Rattle.unixmodel.specs.Tokens as the
+use Rattle.asmtext.specs.Symbols.{reader_of}
+use Rattle.asmtext.proofs.tokens.symbols_in.Given as goal
+
+abbrev pub invariant-loop-c : goal.invariant-loop-c
+invariant-loop-c l = reader_of l.reader ≡ fold the.read (the.standing [] the.Mode.Outside) (take l.c-index l.line)

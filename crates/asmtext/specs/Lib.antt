@@ -1,0 +1,5 @@
+pub mod Forms
+pub mod Numbers
+pub mod Operations
+pub mod Statements
+pub mod Symbols
