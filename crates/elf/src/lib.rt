@@ -1,0 +1,237 @@
+//! The headers of a program file, as exec reads them: ELF64, whose numbers stand lowest byte first.
+//!
+//! Only what exec asks for is looked at: the first four bytes, the entry, where the program headers stand and how many they
+//! are, and of each its type, flags, places and sizes. What the segments make of memory is the caller's affair.
+#![tactic(auto)]
+
+ghost use Rattle.std.specs.Prelude.{◌≡◌};
+ghost use Rattle.elf.specs.Headers.{header_of, is_within, segment_of, segment_shown, wrong};
+ghost use Rattle.unixmodel.specs.Plan.{segment_at};
+
+use byteorder::{ByteOrder, LittleEndian};
+use thiserror::Error;
+
+/// How many bytes the header of a file has.
+pub const HEADER_SIZE: usize = 64;
+
+/// How many bytes a program header has.
+pub const PROGRAM_HEADER_SIZE: usize = 56;
+
+// The bytes 7f 45 4c 46, with which a file begins.
+const MAGIC: u32 = 0x464C_457F;
+
+// The type of a program header whose segment is loaded.
+const LOAD: u32 = 1;
+
+/// Why a program file is refused.
+#[derive(Clone, Copy, Debug, PartialEq, Eq, Error)]
+pub enum ElfFault {
+    #[error("the file does not begin as an ELF file")]
+    Magic = 1,
+    #[error("a segment has more bytes in the file than in memory, or ends past the last address")]
+    Sizes,
+    #[error("a segment does not begin where a page begins")]
+    Align,
+    #[error("a segment begins before the last page of the one before it ends")]
+    Overlap,
+    #[error("the file ends too early")]
+    Short,
+}
+
+/// What exec takes from the header of a file.
+#[derive(Clone, Copy, Debug, PartialEq, Eq)]
+pub struct FileHeader {
+    /// The address of the first instruction, a multiple of 4.
+    pub entry: u64,
+    /// Where in the file the program headers stand, one after the other.
+    pub program_headers: u64,
+    /// How many they are.
+    pub count: u16,
+}
+
+/// A part of a file that is loaded into memory.
+#[derive(Clone, Copy, Debug, PartialEq, Eq)]
+pub struct LoadSegment {
+    /// The program may write it.
+    pub writable: bool,
+    /// The program may execute it.
+    pub executable: bool,
+    /// Where its bytes stand in the file.
+    pub offset: u64,
+    /// Where they go in memory: a multiple of 4096.
+    pub address: u64,
+    /// How many bytes it has in the file.
+    pub file_size: u64,
+    /// How many it has in memory: those behind the file's are 0.
+    pub size: u64,
+}
+
+/// What the first 64 bytes of a file of `len` bytes say. `Magic` where it doesn't begin as an ELF file, and `Short` where the
+/// file has no 64 bytes, or ends before its program headers do.
+pub fn header(bytes: &[u8; HEADER_SIZE], len: u64) -> Result<FileHeader, ElfFault>
+    ensures { result ≡ header_of bytes.now len }
+{
+    if LittleEndian::read_u32(bytes) != MAGIC {
+        return Err(ElfFault::Magic);
+    }
+    let header = FileHeader {
+        entry: LittleEndian::read_u64(&bytes[24..]) / 4 * 4,
+        program_headers: LittleEndian::read_u64(&bytes[32..]),
+        count: LittleEndian::read_u16(&bytes[56..]),
+    };
+    let size = PROGRAM_HEADER_SIZE as u64 * u64::from(header.count);
+    if len < HEADER_SIZE as u64 || !is_within(header.program_headers, size, len) {
+        return Err(ElfFault::Short);
+    }
+    Ok(header)
+}
+
+/// The segment that a program header asks for, behind what ends at address `end`, of a file of `len` bytes; `None` for a
+/// program header of a type that isn't loaded. Of several refusals the first in the order of `ElfFault` is told.
+pub fn segment(
+    bytes: &[u8; PROGRAM_HEADER_SIZE],
+    end: u64,
+    len: u64,
+) -> Result<Option<LoadSegment>, ElfFault>
+    ensures { result ≡ segment_of bytes.now end len }
+{
+    if LittleEndian::read_u32(bytes) != LOAD {
+        return Ok(None);
+    }
+    let segment = segment_in(bytes);
+    match fault(segment, end, len) {
+        Some(fault) => Err(fault),
+        None => Ok(Some(segment)),
+    }
+}
+
+// The segment that a program header tells of.
+fn segment_in(bytes: &[u8; PROGRAM_HEADER_SIZE]) -> LoadSegment
+    ensures { result ≡ segment_shown (segment_at bytes.now 0) }
+{
+    let flags = LittleEndian::read_u32(&bytes[4..]);
+    LoadSegment {
+        writable: flags / 2 % 2 == 1,
+        executable: flags % 2 == 1,
+        offset: LittleEndian::read_u64(&bytes[8..]),
+        address: LittleEndian::read_u64(&bytes[16..]),
+        file_size: LittleEndian::read_u64(&bytes[32..]),
+        size: LittleEndian::read_u64(&bytes[40..]),
+    }
+}
+
+// What is wrong with a segment, if anything is.
+fn fault(segment: LoadSegment, end: u64, len: u64) -> Option<ElfFault>
+    ensures { result ≡ wrong segment end len }
+{
+    if segment.file_size > segment.size || segment.address.checked_add(segment.size).is_none() {
+        Some(ElfFault::Sizes)
+    } else if segment.address % 4096 != 0 {
+        Some(ElfFault::Align)
+    } else if segment.address < end {
+        Some(ElfFault::Overlap)
+    } else if !is_within(segment.offset, segment.file_size, len) {
+        Some(ElfFault::Short)
+    } else {
+        None
+    }
+}
+
+// Whether a file of `len` bytes has `size` bytes at a place. It has none anywhere.
+fn is_within(at: u64, size: u64, len: u64) -> bool
+    ensures { result ≡ is_within at size len }
+{
+    size == 0 || at.checked_add(size).is_some_and(|end| end <= len)
+}
+
+#[cfg(test)]
+mod tests {
+    use super::*;
+    use std::test::Fail;
+
+    // The header of a file with so many program headers from a place on, whose entry is 6.
+    fn header_with(program_headers: u64, count: u16) -> [u8; HEADER_SIZE] {
+        let mut bytes = [0; HEADER_SIZE];
+        LittleEndian::write_u32(&mut bytes, MAGIC);
+        LittleEndian::write_u64(&mut bytes[24..], 6);
+        LittleEndian::write_u64(&mut bytes[32..], program_headers);
+        LittleEndian::write_u16(&mut bytes[56..], count);
+        bytes
+    }
+
+    // A program header with these numbers, that may be written and not executed, at offset 4096.
+    fn program_header(
+        kind: u32,
+        address: u64,
+        file_size: u64,
+        size: u64,
+    ) -> [u8; PROGRAM_HEADER_SIZE] {
+        let mut bytes = [0; PROGRAM_HEADER_SIZE];
+        LittleEndian::write_u32(&mut bytes, kind);
+        LittleEndian::write_u32(&mut bytes[4..], 6);
+        LittleEndian::write_u64(&mut bytes[8..], 4096);
+        LittleEndian::write_u64(&mut bytes[16..], address);
+        LittleEndian::write_u64(&mut bytes[32..], file_size);
+        LittleEndian::write_u64(&mut bytes[40..], size);
+        bytes
+    }
+
+    #[test]
+    fn reads_the_header_of_a_file(rt: HostRuntime) -> Result<(), Fail> {
+        let told = FileHeader {
+            entry: 4,
+            program_headers: 64,
+            count: 2,
+        };
+        assert_eq!(rt; header(&header_with(64, 2), 176), Ok(told));
+        assert_eq!(rt; header(&header_with(64, 2), 175), Err(ElfFault::Short));
+        assert_eq!(rt; header(&[0; HEADER_SIZE], 4096), Err(ElfFault::Magic));
+        for (at, count, len, fits) in [
+            (64, 0, 64, true),
+            (64, 0, 63, false),
+            (64, 65535, 120, false),
+            (0xffff_ffff_ffff_fff0, 1, 4096, false),
+            (0xffff_ffff_ffff_fff0, 0, 4096, true),
+        ] {
+            assert_eq!(rt;
+                header(&header_with(at, count), len).is_ok(),
+                fits,
+                "{count} at {at}"
+            );
+        }
+        Ok(())
+    }
+
+    #[test]
+    fn reads_a_program_header(rt: HostRuntime) -> Result<(), Fail> {
+        let told = LoadSegment {
+            writable: true,
+            executable: false,
+            offset: 4096,
+            address: 8192,
+            file_size: 3,
+            size: 5,
+        };
+        assert_eq!(rt;
+            segment(&program_header(1, 8192, 3, 5), 4097, 4099),
+            Ok(Some(told))
+        );
+        assert_eq!(rt; segment(&program_header(6, 1, 5, 3), 0, 0), Ok(None));
+        Ok(())
+    }
+
+    #[test]
+    fn tells_what_is_wrong_with_a_segment(rt: HostRuntime) -> Result<(), Fail> {
+        for (address, file_size, size, fault) in [
+            (8192, 1, 0, ElfFault::Sizes),
+            (0xffff_ffff_ffff_f000, 0, 4096, ElfFault::Sizes),
+            (8193, 0, 1, ElfFault::Align),
+            (4096, 0, 1, ElfFault::Overlap),
+            (8192, 4, 4, ElfFault::Short),
+        ] {
+            let answer = segment(&program_header(1, address, file_size, size), 8192, 4099);
+            assert_eq!(rt; answer, Err(fault), "{address}");
+        }
+        Ok(())
+    }
+}
