@@ -1,11 +1,12 @@
 -- Lemmas on holders.
-use Rattle.std.proofs.Common.{◌≡◌, ◌≢◌, ℕ, zero, suc, ◌+◌, ◌-◌, ◌<◌, ◌≤◌, ◌⊎◌, inl, inr, Bool, true, false, nat_eq, List, [], ◌∷◌, ◌++◌, length, refl, sym, ap, ◌∙◌, arith, eq-eqb, ◌||◌, ltb, eqb, length-append}
-use Rattle.std.proofs.lemmas.Grind.{common_steps}
-use Rattle.std.proofs.lemmas.Bool.{cases_eq, cases_lt, le-ltb, lt-ltb, ne_eqb, ltb-true}
-use Rattle.std.specs.List.{list_any, IsDistinct, AllByRecursion, range_with_len}
+use Rattle.std.proofs.Common.{◌≡◌, ◌≢◌, ℕ, zero, suc, ◌+◌, ◌<◌, ◌≤◌, ◌⊎◌, inl, inr, Bool, true, false, nat_eq, List, [], ◌∷◌, ◌++◌, length, refl, sym, ap, ◌∙◌, arith, eq-eqb, ltb, eqb, length-append, get_or, slice_set}
+use Rattle.std.proofs.lemmas.Bool.{cases_eq, cases_lt, le-ltb, lt-ltb, ne_eqb}
+use Rattle.std.proofs.lemmas.List.Sums.{sum_by-cons}
+use Rattle.std.specs.List.{IsDistinct, AllByRecursion, range_with_len, sum_by}
 use Rattle.ram.specs.Memory.{frame_of}
 use Rattle.frames.specs.declared.Frames.{Frames}
-use Rattle.frames.specs.Free.{among, free_count, free_of, IsFreeList}
+use Rattle.frames.specs.Free.{among, counted, free_count, free_of, further_at, less_one, extra_of, IsFreeList, SameBut}
+use Rattle.frames.specs.FreeLemmas.{further-is, further-free, further-past, further-count, shared-is, not_free}
 use Rattle.frames.specs.Holders.{one_if, count_of, holders_of, IsShared, Trades}
 
 pub one_if-le : (b : Bool) → one_if b ≤ 1
@@ -41,7 +42,7 @@ apart-none : (f : ℕ) (xs : List ℕ) → AllByRecursion (λ y. nat_eq f y ≡ 
 apart-none f [] h = refl
 apart-none f (x ∷ xs) h = rw (h.0) (omega (arith, apart-none f xs h.1))
 
-distinct-count : (f : ℕ) (xs : List ℕ) → IsDistinct nat_eq xs → count_of f xs ≤ 1
+pub distinct-count : (f : ℕ) (xs : List ℕ) → IsDistinct nat_eq xs → count_of f xs ≤ 1
 unfolding IsDistinct
 distinct-count f [] h = omega arith
 distinct-count f (x ∷ xs) h = elim (cases_eq f x) [
@@ -49,16 +50,59 @@ distinct-count f (x ∷ xs) h = elim (cases_eq f x) [
   | inr other ↦ rw (count_of-other f x xs other) (distinct-count f xs h.1)
 ]
 
-count-cases : (f : ℕ) (xs : List ℕ) → (among f xs ≡ true) ⊎ (count_of f xs ≡ 0)
+-- a frame is among these, or stands there no time
+pub count-cases : (f : ℕ) (xs : List ℕ) → (among f xs ≡ true) ⊎ (count_of f xs ≡ 0)
 count-cases f xs = elim (among f xs) as (λ b. among f xs ≡ b → (among f xs ≡ true) ⊎ (count_of f xs ≡ 0)) [ true ↦ λ e. inl e | false ↦ λ e. inr (none-among f xs e) ] refl
 
--- a frame of the memory is free or has a holder
-pub holders-free : (m : List (List ℕ)) (s : Frames) → IsFreeList m s → (f : ℕ) → holders_of m s f + count_of f (free_of m s) ≡ one_if (ltb f (length m))
+-- a frame of the memory is free or has a holder, and some have more
+pub holders-free : (m : List (List ℕ)) (s : Frames) → IsFreeList m s → (f : ℕ) → holders_of m s f + count_of f (free_of m s) ≡ one_if (ltb f (length m)) + further_at s f
 unfolding holders_of
 holders-free m s is f = elim (count-cases f (free_of m s)) [
   | inl at ↦ let e = lt-ltb f (length m) (is.inside f at) in rw e (omega (arith, distinct-count f (free_of m s) is.distinct))
   | inr none ↦ rw none (omega arith)
 ]
+
+pub among-count : (f : ℕ) (xs : List ℕ) → among f xs ≡ true → 0 < count_of f xs
+among-count f xs at = elim (cases_eq (count_of f xs) 0) [
+  | inl z ↦ absurd (cc (at, among-none f xs z))
+  | inr some ↦ omega (arith, some)
+]
+
+-- the table counts the holders
+pub holders-counted : (m : List (List ℕ)) (s : Frames) (f : ℕ) → IsFreeList m s → f < length m → holders_of m s f ≡ counted s f
+holders-counted m s f is low =
+    let sum = holders-free m s is f in
+    let one = ap one_if (lt-ltb f (length m) low) in
+    elim (count-cases f (free_of m s)) [
+      | inl at ↦ omega (arith, sum, one, further-is s f, is.none f at, among-count f (free_of m s) at)
+      | inr none ↦ omega (arith, sum, one, further-is s f, none, is.some f low (among-none f (free_of m s) none))
+    ]
+
+-- a frame with a holder is one of the memory, and isn't free
+pub held-inside : (m : List (List ℕ)) (s : Frames) (f : ℕ) → IsFreeList m s → 0 < holders_of m s f → (f < length m) × (among f (free_of m s) ≡ false)
+held-inside m s f is some =
+    let sum = holders-free m s is f in
+    let low : f < length m = elim (cases_lt f (length m)) [ inl low ↦ low | inr past ↦ absurd (omega (arith, some, sum, ap one_if (le-ltb f (length m) past), further-past m s f is past)) ] in
+    (low, not_free m s f is (omega (arith, some, holders-counted m s f is low)))
+
+-- one that isn't free has a holder
+pub not-free-held : (m : List (List ℕ)) (s : Frames) (f : ℕ) → IsFreeList m s → f < length m → among f (free_of m s) ≡ false → holders_of m s f ≡ 1 + further_at s f
+not-free-held m s f is low absent = omega (arith, holders-free m s is f, ap one_if (lt-ltb f (length m) low), none-among f (free_of m s) absent)
+
+-- one with no more than one holder has no further one
+pub single : (m : List (List ℕ)) (s : Frames) (f : ℕ) → IsFreeList m s → holders_of m s f ≤ 1 → further_at s f ≡ 0
+single m s f is few = elim (cases_lt f (length m)) [
+  | inl low ↦ omega (arith, few, further-is s f, holders-counted m s f is low)
+  | inr past ↦ further-past m s f is past
+]
+
+-- one that isn't shared has no more than one
+pub one-holder : (m : List (List ℕ)) (s : Frames) (f : ℕ) → IsFreeList m s → further_at s f ≡ 0 → holders_of m s f ≤ 1
+one-holder m s f is alone = omega (arith, holders-free m s is f, one_if-le (ltb f (length m)), alone)
+
+-- a free frame has none
+pub free-holders : (m : List (List ℕ)) (s : Frames) (f : ℕ) → IsFreeList m s → among f (free_of m s) ≡ true → holders_of m s f ≡ 0
+free-holders m s f is at = omega (arith, holders-free m s is f, one_if-le (ltb f (length m)), further-free m s f is at, among-count f (free_of m s) at)
 
 count_of-range : (f a n : ℕ) → a ≤ f → f < a + n → 1 ≤ count_of f (range_with_len a n)
 count_of-range f a zero low high = absurd (omega arith)
@@ -68,18 +112,18 @@ count_of-range f a (suc n) low high = elim (cases_eq f a) [
 ]
 
 -- where all frames are free nobody holds one
-pub IsShared-new : (m : List (List ℕ)) (s : Frames) → IsFreeList m s → free_of m s ≡ range_with_len 0 (length m) → IsShared m s []
-IsShared-new m s is e = record {
+pub IsShared-new : (m : List (List ℕ)) (s : Frames) → IsFreeList m s → free_of m s ≡ range_with_len 0 (length m) → ((f : ℕ) → further_at s f ≡ 0) → IsShared m s []
+IsShared-new m s is e alone = record {
   each = λ f.
       let sum = holders-free m s is f in
       elim (cases_lt f (length m)) [
-        | inl low ↦ omega (arith, sum, ap one_if (lt-ltb f (length m) low), ap (count_of f) e, count_of-range f 0 (length m) (omega arith) (omega (arith, low)))
-        | inr high ↦ omega (arith, sum, ap one_if (le-ltb f (length m) high))
+        | inl low ↦ omega (arith, sum, alone f, ap one_if (lt-ltb f (length m) low), ap (count_of f) e, count_of-range f 0 (length m) (omega arith) (omega (arith, low)))
+        | inr high ↦ omega (arith, sum, alone f, ap one_if (le-ltb f (length m) high))
       ];
 }
 
 pub Trades-none : (m : List (List ℕ)) (s : Frames) (old : List ℕ) → Trades m m s s old old
-Trades-none m s old = record { count = refl; moved = λ f. refl; others = λ f h. refl }
+Trades-none m s old = record { count = refl; moved = λ f. refl; others = λ f h. refl; fresh = λ f none some. absurd (omega (arith, none, some)) }
 
 -- one trade after another
 pub Trades-twice : (m k l : List (List ℕ)) (s n q : Frames) (old mid new : List ℕ) → Trades m k s n old mid → Trades k l n q mid new → Trades m l s q old new
@@ -87,6 +131,10 @@ Trades-twice m k l s n q old mid new a b = record {
   count = b.count ∙ a.count;
   moved = λ f. omega (arith, a.moved f, b.moved f);
   others = λ f h. b.others f (omega (arith, a.moved f, h)) ∙ a.others f h;
+  fresh = λ f none some. elim (cases_eq (count_of f mid) 0) [
+    | inl gone ↦ omega (arith, none, gone, b.fresh f gone some, a.moved f)
+    | inr there ↦ a.fresh f none (omega (arith, there))
+  ];
 }
 
 -- after a trade of one holder the holders still hold all that is not free
@@ -116,6 +164,30 @@ sum_below-le : (n : ℕ) (g : ℕ → ℕ) → ((f : ℕ) → g f ≤ 1) → sum
 sum_below-le zero g h = omega arith
 sum_below-le (suc n) g h = omega (arith, h n, sum_below-le n g h)
 
+pub sum_below-mono : (n : ℕ) (g h : ℕ → ℕ) → ((f : ℕ) → g f ≤ h f) → sum_below n g ≤ sum_below n h
+sum_below-mono zero g h le = omega arith
+sum_below-mono (suc n) g h le = omega (arith, le n, sum_below-mono n g h le)
+
+pub sum_below-plus : (n : ℕ) (g h : ℕ → ℕ) → sum_below n (λ f. g f + h f) ≡ sum_below n g + sum_below n h
+sum_below-plus zero g h = refl
+sum_below-plus (suc n) g h = omega (arith, sum_below-plus n g h)
+
+sum_below-first : (n : ℕ) (g : ℕ → ℕ) → sum_below (suc n) g ≡ g 0 + sum_below n (λ f. g (suc f))
+sum_below-first zero g = refl
+sum_below-first (suc n) g = omega (arith, sum_below-first n g)
+
+sum_below-list : (h : ℕ → ℕ) (xs : List ℕ) → sum_below (length xs) (λ f. h (get_or xs f 0)) ≡ sum_by h xs
+sum_below-list h [] = refl
+sum_below-list h (x ∷ xs) = sum_below-first (length xs) (λ f. h (get_or (x ∷ xs) f 0)) ∙ ap (λ n. h x + n) (sum_below-list h xs) ∙ sym (sum_by-cons h x xs)
+
+-- all further holders
+pub further-sum : (m : List (List ℕ)) (s : Frames) → IsFreeList m s → sum_below (length m) (further_at s) ≡ s.shared
+further-sum m s is =
+    sum_below-same (length m) (further_at s) (λ f. less_one (get_or s.holders.items f 0)) (λ f l. further-is s f)
+    ∙ ap (λ n. sum_below n (λ f. less_one (get_or s.holders.items f 0))) (sym is.size)
+    ∙ sum_below-list less_one s.holders.items
+    ∙ sym is.sum
+
 sum_below-one : (n x : ℕ) (g : ℕ → ℕ) → x < n → sum_below n (λ f. one_if (eqb f x) + g f) ≡ 1 + sum_below n g
 sum_below-one zero x g h = absurd (omega arith)
 sum_below-one (suc n) x g h = elim (cases_eq n x) [
@@ -134,34 +206,120 @@ sum_below-ones : (n : ℕ) → sum_below n (λ f. 1) ≡ n
 sum_below-ones zero = refl
 sum_below-ones (suc n) = omega (arith, sum_below-ones n)
 
--- what is held and what is free are all frames of the memory
+-- a free frame or one that is held, as often as it is, and all of them together
+ones : (m : List (List ℕ)) (s : Frames) → IsFreeList m s → sum_below (length m) (λ f. one_if (ltb f (length m)) + further_at s f) ≡ length m + s.shared
+ones m s is =
+    sum_below-plus (length m) (λ f. one_if (ltb f (length m))) (further_at s)
+    ∙ ap (λ n. n + sum_below (length m) (further_at s)) (sum_below-same (length m) (λ f. one_if (ltb f (length m))) (λ f. 1) (λ f l. ap one_if (lt-ltb f (length m) l)) ∙ sum_below-ones (length m))
+    ∙ ap (λ n. length m + n) (further-sum m s is)
+
+past-none : (m : List (List ℕ)) (s : Frames) (f : ℕ) → IsFreeList m s → length m ≤ f → one_if (ltb f (length m)) + further_at s f ≡ 0
+past-none m s f is l = omega (arith, ap one_if (le-ltb f (length m) l), further-past m s f is l)
+
+-- what the holders hold, frames that are shared as often as they are, and what is free are all frames of the memory
 pub shared-count : (m : List (List ℕ)) (s : Frames) (all : List ℕ) → IsFreeList m s → IsShared m s all → free_count m s + length all ≡ length m
 shared-count m s hs is all =
-    let both : (f : ℕ) → count_of f (free_of m s ++ hs) ≡ one_if (ltb f (length m)) = λ (f : ℕ). rw (count_of-append f (free_of m s) hs) (omega (arith, all.each f, holders-free m s is f)) in
-    let high : (f : ℕ) → length m ≤ f → count_of f (free_of m s ++ hs) ≡ 0 = λ (f : ℕ) (l : length m ≤ f). both f ∙ ap one_if (le-ltb f (length m) l) in
-    sym (length-append (free_of m s) hs)
-    ∙ length-counts (free_of m s ++ hs) (length m) high
-    ∙ sum_below-same (length m) (λ f. count_of f (free_of m s ++ hs)) (λ f. 1) (λ f l. both f ∙ ap one_if (lt-ltb f (length m) l))
-    ∙ sum_below-ones (length m)
+    let both : (f : ℕ) → count_of f (free_of m s ++ hs) ≡ one_if (ltb f (length m)) + further_at s f = λ (f : ℕ). rw (count_of-append f (free_of m s) hs) (omega (arith, all.each f, holders-free m s is f)) in
+    let sum : length (free_of m s ++ hs) ≡ length m + s.shared =
+    length-counts (free_of m s ++ hs) (length m) (λ f l. both f ∙ past-none m s f is l)
+    ∙ sum_below-same (length m) (λ f. count_of f (free_of m s ++ hs)) (λ f. one_if (ltb f (length m)) + further_at s f) (λ f l. both f)
+    ∙ ones m s is in
+    omega (arith, sum, length-append (free_of m s) hs, is.room, shared-is s)
 
 -- frames that are held as often as they have holders at the most, and the free ones, are no more than the memory has
 pub held-count : (m : List (List ℕ)) (s : Frames) (old : List ℕ) → IsFreeList m s → ((f : ℕ) → count_of f old ≤ holders_of m s f) → free_count m s + length old ≤ length m
 held-count m s old is all =
-    let both : (f : ℕ) → count_of f (free_of m s ++ old) ≤ one_if (ltb f (length m)) = λ (f : ℕ). rw (count_of-append f (free_of m s) old) (omega (arith, all f, holders-free m s is f)) in
-    let high : (f : ℕ) → length m ≤ f → count_of f (free_of m s ++ old) ≡ 0 = λ (f : ℕ) (l : length m ≤ f). omega (arith, both f, ap one_if (le-ltb f (length m) l)) in
-    rw (← length-append (free_of m s) old, length-counts (free_of m s ++ old) (length m) high)
-    (sum_below-le (length m) (λ f. count_of f (free_of m s ++ old)) (λ f. omega (arith, both f, one_if-le (ltb f (length m)))))
+    let both : (f : ℕ) → count_of f (free_of m s ++ old) ≤ one_if (ltb f (length m)) + further_at s f = λ (f : ℕ). rw (count_of-append f (free_of m s) old) (omega (arith, all f, holders-free m s is f)) in
+    let sum : length (free_of m s ++ old) ≡ sum_below (length m) (λ f. count_of f (free_of m s ++ old)) = length-counts (free_of m s ++ old) (length m) (λ f l. omega (arith, both f, past-none m s f is l)) in
+    omega (
+      arith,
+      sum,
+      sum_below-mono (length m) (λ f. count_of f (free_of m s ++ old)) (λ f. one_if (ltb f (length m)) + further_at s f) both,
+      ones m s is,
+      length-append (free_of m s) old,
+      is.room,
+      shared-is s,
+    )
 
 -- what a trade takes is no longer free
 pub Trades-lengths : (m k : List (List ℕ)) (s n : Frames) (old new : List ℕ) → IsFreeList m s → IsFreeList k n → ((f : ℕ) → count_of f old ≤ holders_of m s f) → Trades m k s n old new → free_count k n + length new ≡ free_count m s + length old
 Trades-lengths m k s n old new is_m is_k room t =
     let before = free_of m s ++ old in
     let after = free_of k n ++ new in
-    let both : (f : ℕ) → count_of f after ≡ count_of f before = λ (f : ℕ). rw (count_of-append f (free_of k n) new, count_of-append f (free_of m s) old)
+    let both : (f : ℕ) → count_of f after + further_at s f ≡ count_of f before + further_at n f = λ (f : ℕ). rw (count_of-append f (free_of k n) new, count_of-append f (free_of m s) old)
     (omega (arith, t.moved f, holders-free m s is_m f, holders-free k n is_k f, ap (λ l. one_if (ltb f l)) t.count)) in
-    let high : (f : ℕ) → length m ≤ f → count_of f before ≡ 0 = λ (f : ℕ) (l : length m ≤ f). rw (count_of-append f (free_of m s) old) (omega (arith, room f, holders-free m s is_m f, ap one_if (le-ltb f (length m) l))) in
-    sym (length-append (free_of k n) new)
-    ∙ length-counts after (length m) (λ f l. both f ∙ high f l)
-    ∙ sum_below-same (length m) (λ f. count_of f after) (λ f. count_of f before) (λ f l. both f)
-    ∙ sym (length-counts before (length m) high)
-    ∙ length-append (free_of m s) old
+    let high : (f : ℕ) → length m ≤ f → count_of f before ≡ 0 = λ (f : ℕ) (l : length m ≤ f). rw (count_of-append f (free_of m s) old) (omega (arith, room f, holders-free m s is_m f, past-none m s f is_m l)) in
+    let past : (f : ℕ) → length m ≤ f → count_of f after ≡ 0 = λ (f : ℕ) (l : length m ≤ f). omega (arith, both f, high f l, further-past m s f is_m l, further-past k n f is_k (omega (arith, l, t.count))) in
+    let sums : sum_below (length m) (λ f. count_of f after + further_at s f) ≡ sum_below (length m) (λ f. count_of f before + further_at n f) =
+    sum_below-same (length m) (λ f. count_of f after + further_at s f) (λ f. count_of f before + further_at n f) (λ f l. both f) in
+    let further : sum_below (length m) (further_at n) ≡ n.shared = ap (λ l. sum_below l (further_at n)) (sym t.count) ∙ further-sum k n is_k in
+    omega (
+      arith,
+      sums,
+      sum_below-plus (length m) (λ f. count_of f after) (further_at s),
+      sum_below-plus (length m) (λ f. count_of f before) (further_at n),
+      further-sum m s is_m,
+      further,
+      length-counts after (length m) past,
+      length-counts before (length m) high,
+      length-append (free_of k n) new,
+      length-append (free_of m s) old,
+      is_m.room,
+      is_k.room,
+      shared-is s,
+      shared-is n,
+    )
+
+-- ---- what the calls on frames do, as trades
+
+-- the holders where the free list is another and the table the same
+pub holders-table : (m k : List (List ℕ)) (s n : Frames) → IsFreeList m s → IsFreeList k n → length k ≡ length m → extra_of n ≡ extra_of s → (f : ℕ) → holders_of k n f + count_of f (free_of k n) ≡ holders_of m s f + count_of f (free_of m s)
+holders-table m k s n is after len same f = omega (arith, holders-free m s is f, holders-free k n after f, ap (λ l. one_if (ltb f l)) len, ap (λ (t : List ℕ × ℕ). get_or t.0 f 0) same)
+
+pub Trades-take : (m : List (List ℕ)) (s n : Frames) (f : ℕ) → IsFreeList m s → IsFreeList m n → free_of m s ≡ f ∷ free_of m n → extra_of n ≡ extra_of s → Trades m m s n [] (f ∷ [])
+Trades-take m s n f is after e same = record {
+  count = refl;
+  moved = λ g. omega (arith, holders-table m m s n is after refl same g, ap (count_of g) e);
+  others = λ g h. refl;
+  fresh = λ g none some. elim (cases_eq g f) [
+    | inl here ↦ free-holders m s g is (rw (e, here) (rw (eq-eqb f f refl) refl))
+    | inr other ↦ absurd (omega (arith, some, count_of-other g f [] other))
+  ];
+}
+
+-- a frame that is given back, by its last holder or by another
+pub Trades-give : (m k : List (List ℕ)) (s n : Frames) (f : ℕ) → IsFreeList m s → ((g : ℕ) → holders_of k n g + count_of g (f ∷ []) ≡ holders_of m s g) → SameBut (f ∷ []) m k
+    → (0 < further_at s f → k ≡ m) → 0 < holders_of m s f → Trades m k s n (f ∷ []) []
+Trades-give m k s n f is moved same stays held = record {
+  count = same.count;
+  moved = λ g. omega (arith, moved g);
+  others = λ g h. elim (cases_eq g f) [
+    | inl here ↦
+        let in_memory = held-inside m s f is held in
+        let more : 0 < further_at s f = omega (arith, h, count_of-first g f [] here, ap (holders_of m s) here, not-free-held m s f is in_memory.0 in_memory.1) in
+        ap (λ x. frame_of x g) (stays more)
+    | inr other ↦ same.others g (rw (ne_eqb g f other) refl)
+  ];
+  fresh = λ g none some. absurd (omega (arith, some));
+}
+
+pub holders-more : (m : List (List ℕ)) (s t : Frames) (f x : ℕ) → IsFreeList m s → IsFreeList m t → free_of m t ≡ free_of m s → f < length m → 0 < counted s f → t.holders.items ≡ slice_set s.holders.items f x → x ≡ counted s f + 1
+    → (g : ℕ) → holders_of m t g ≡ holders_of m s g + count_of g (f ∷ [])
+holders-more m s t f x is after e low some items more g =
+    elim (further-count s t f x g (omega (arith, low, is.size)) items) [
+      | inl here ↦ omega (arith, holders-free m s is g, holders-free m t after g, ap (count_of g) e, here.1, here.2, more, some, count_of-first g f [] here.0)
+      | inr other ↦ omega (arith, holders-free m s is g, holders-free m t after g, ap (count_of g) e, other.1, count_of-other g f [] other.0)
+    ]
+
+pub holders-fewer : (m : List (List ℕ)) (s t : Frames) (f x : ℕ) → IsFreeList m s → IsFreeList m t → free_of m t ≡ free_of m s → f < length m → t.holders.items ≡ slice_set s.holders.items f x → x + 1 ≡ counted s f → 0 < x
+    → (g : ℕ) → holders_of m t g + count_of g (f ∷ []) ≡ holders_of m s g
+holders-fewer m s t f x is after e low items fewer some g =
+    elim (further-count s t f x g (omega (arith, low, is.size)) items) [
+      | inl here ↦ omega (arith, holders-free m s is g, holders-free m t after g, ap (count_of g) e, here.1, here.2, fewer, some, count_of-first g f [] here.0)
+      | inr other ↦ omega (arith, holders-free m s is g, holders-free m t after g, ap (count_of g) e, other.1, count_of-other g f [] other.0)
+    ]
+
+-- a frame comes into the list, from its last holder
+pub holders-list : (m k : List (List ℕ)) (s t : Frames) (f : ℕ) → IsFreeList m s → IsFreeList k t → length k ≡ length m → free_of k t ≡ f ∷ free_of m s → extra_of t ≡ extra_of s
+    → (g : ℕ) → holders_of k t g + count_of g (f ∷ []) ≡ holders_of m s g
+holders-list m k s t f is after len e same g = omega (arith, holders-table m k s t is after len same g, ap (count_of g) e)

@@ -1,6 +1,6 @@
 -- The free frames of a memory, as a list that runs through the frames themselves.
-use Rattle.std.specs.Prelude.{◌≡◌, ◌≢◌, ◌<◌, ℕ, zero, suc, Bool, true, false, nat_eq, List, [], ◌∷◌, length}
-use Rattle.std.specs.List.{list_any, IsDistinct}
+use Rattle.std.specs.Prelude.{◌≡◌, ◌<◌, ◌≤◌, ◌-◌, ℕ, zero, suc, Bool, true, false, nat_eq, List, [], ◌∷◌, length, map, slice_index_or}
+use Rattle.std.specs.List.{list_any, IsDistinct, sum_by}
 use Rattle.ram.specs.Memory.{frame_of, word_of}
 use Rattle.frames.specs.declared.Frames.{Frames}
 
@@ -17,14 +17,36 @@ chain m (suc n) first = first ∷ chain m n (word_of m first 0 4)
 unfoldable pub free_of : List (List ℕ) → Frames → List ℕ
 free_of m s = chain m s.count s.first.0
 
--- how many frames are free
-abbrev pub free_count : List (List ℕ) → Frames → ℕ
-free_count m s = length (free_of m s)
+-- how many hold a frame, as the table has it
+abbrev pub counted : Frames → ℕ → ℕ
+counted s f = slice_index_or s.holders.items f 0
 
--- every free frame is one of the memory, and none stands twice
+-- a count without the first
+abbrev pub less_one : ℕ → ℕ
+less_one n = n - 1
+
+-- how many hold each frame beyond its first holder, and the sum of that
+unfoldable pub extra_of : Frames → List ℕ × ℕ
+extra_of s = (map less_one s.holders.items, s.shared)
+
+-- how many hold a frame beyond its first holder
+abbrev pub further_at : Frames → ℕ → ℕ
+further_at s f = slice_index_or (extra_of s).0 f 0
+
+-- how many frames could be taken still, if each holder had frames of its own
+abbrev pub free_count : List (List ℕ) → Frames → ℕ
+free_count m s = length (free_of m s) - (extra_of s).1
+
+-- Every free frame is one of the memory, and none stands twice; the frames without holders are the free ones. There are
+-- as many free frames as would be needed if each further holder got a frame of its own.
 pub record IsFreeList (m : List (List ℕ)) (s : Frames) : Type 0 where
   pub inside : (f : ℕ) → among f (free_of m s) ≡ true → f < length m
   pub distinct : IsDistinct nat_eq (free_of m s)
+  pub size : length s.holders.items ≡ length m
+  pub none : (f : ℕ) → among f (free_of m s) ≡ true → counted s f ≡ 0
+  pub some : (f : ℕ) → f < length m → among f (free_of m s) ≡ false → 0 < counted s f
+  pub sum : s.shared ≡ sum_by less_one s.holders.items
+  pub room : s.shared ≤ length (free_of m s)
 
 -- the memory is the same but for the bytes of these frames
 pub record SameBut (fs : List ℕ) (old new : List (List ℕ)) : Type 0 where

@@ -1,13 +1,17 @@
 -- Lemmas on free lists.
-use Rattle.std.proofs.Common.{◌≡◌, ◌≢◌, ℕ, zero, suc, ◌+◌, ◌-◌, ◌<◌, ◌≤◌, ◌⊎◌, inl, inr, Bool, true, false, nat_eq, List, [], ◌∷◌, length, refl, sym, ap, ◌∙◌, arith, rules, add-one, ◌^◌, eq-eqb, ◌||◌, ltb}
-use Rattle.std.proofs.lemmas.Grind.{common_steps}
+use Rattle.std.proofs.Common.{◌≡◌, ◌≢◌, ℕ, zero, suc, ◌+◌, ◌-◌, ◌<◌, ◌≤◌, ◌⊎◌, inl, inr, true, false, nat_eq, List, [], ◌∷◌, length, refl, sym, ap, ◌∙◌, arith, add-one, ◌^◌, eq-eqb, ◌||◌, slice_set, length-set, get_or, get_or-set_other, get_or-set_same, replicate}
+use Rattle.std.proofs.lemmas.Grind.{common_steps, get_or_default_zero}
 use Rattle.std.proofs.lemmas.Map.Steps.{length-le_from_distinct_below}
-use Rattle.std.proofs.lemmas.Bool.{cases_eq, cases_lt, le-ltb, lt-ltb, ne_eqb}
-use Rattle.std.specs.List.{list_any, IsDistinct, AllByRecursion, range_with_len}
+use Rattle.std.proofs.lemmas.Bool.{cases_eq, cases_lt, ne_eqb}
+use Rattle.std.proofs.Math.ListN.{get_or-map}
+use Rattle.std.proofs.Math.Seq.{map-set_same}
+use Rattle.std.proofs.lemmas.List.{get_or_past, get_or-replicate, length-replicate}
+use Rattle.std.proofs.lemmas.List.Sums.{sum_by-cons, sum_by-set, get_or-le-sum_by}
+use Rattle.std.specs.List.{IsDistinct, AllByRecursion, range_with_len, sum_by}
 use Rattle.ram.specs.Memory.{frame_of, word_of, IsMemory, put, word_bytes}
 use Rattle.ram.specs.MemoryLemmas.{word_of-frame, word_of-put_same, frame_of-put_other, length-put}
 use Rattle.frames.specs.declared.Frames.{Frames}
-use Rattle.frames.specs.Free.{among, chain, free_of, IsFreeList, SameBut}
+use Rattle.frames.specs.Free.{among, chain, free_of, counted, less_one, extra_of, further_at, free_count, IsFreeList, SameBut}
 
 pub length-chain : (m : List (List ℕ)) (n first : ℕ) → length (chain m n first) ≡ n
 unfolding chain
@@ -47,7 +51,15 @@ free_of-same m k s h = chain-same m k s.count s.first.0 h
 pub IsFreeList-same : (m k : List (List ℕ)) (s : Frames) → IsFreeList m s → length k ≡ length m → ((g : ℕ) → among g (free_of m s) ≡ true → frame_of k g ≡ frame_of m g) → IsFreeList k s
 IsFreeList-same m k s is len h =
     let same : free_of k s ≡ free_of m s = free_of-same m k s h in
-    record { inside = λ f at. rw len (is.inside f (rw (← same) at)); distinct = rw same is.distinct }
+    record {
+      inside = λ f at. rw len (is.inside f (rw (← same) at));
+      distinct = rw same is.distinct;
+      size = is.size ∙ sym len;
+      none = λ f at. is.none f (rw (← same) at);
+      some = λ f low absent. is.some f (rw (← len) low) (rw (← same) absent);
+      sum = is.sum;
+      room = rw same is.room;
+    }
 
 pub chain-step : (m : List (List ℕ)) (n first : ℕ) → n ≢ 0 → chain m n first ≡ first ∷ chain m (n - 1) (word_of m first 0 4)
 unfolding chain
@@ -55,18 +67,92 @@ chain-step m zero first ne = absurd (ne refl)
 chain-step m (suc n) first ne = let e : suc n - 1 ≡ n = omega arith in rw e refl
 
 -- the first free frame is taken
-pub free_of-take : (m : List (List ℕ)) (first count : ℕ) → count ≢ 0 → free_of m (record { first = record { 0 = first }; count = count }) ≡ first ∷ free_of m (record { first = record { 0 = word_of m first 0 4 }; count = count - 1 })
+pub free_of-take : (m : List (List ℕ)) (s t : Frames) → s.count ≢ 0 → t.first.0 ≡ word_of m s.first.0 0 4 → t.count ≡ s.count - 1 → free_of m s ≡ s.first.0 ∷ free_of m t
 unfolding free_of
-free_of-take m first count ne = chain-step m count first ne
+free_of-take m s t ne first count = chain-step m s.count s.first.0 ne ∙ ap (λ n. s.first.0 ∷ chain m n (word_of m s.first.0 0 4)) (sym count) ∙ ap (λ f. s.first.0 ∷ chain m t.count f) (sym first)
 
-pub IsFreeList-take : (m : List (List ℕ)) (s t : Frames) (f : ℕ) → IsFreeList m s → free_of m s ≡ f ∷ free_of m t → IsFreeList m t
+first-is : (m : List (List ℕ)) (s : Frames) → s.count ≢ 0 → free_of m s ≡ s.first.0 ∷ chain m (s.count - 1) (word_of m s.first.0 0 4)
+unfolding free_of
+first-is m s ne = chain-step m s.count s.first.0 ne
+
+-- ---- the counts of holders
+
+pub further-is : (s : Frames) (f : ℕ) → further_at s f ≡ counted s f - 1
+unfolding extra_of
+further-is s f = get_or-map less_one s.holders.items f 0
+
+pub shared-is : (s : Frames) → (extra_of s).1 ≡ s.shared
+unfolding extra_of
+shared-is s = refl
+
+-- a count is new, and no further holder
+table-same : (s t : Frames) (f x : ℕ) → t.holders.items ≡ slice_set s.holders.items f x → t.shared ≡ s.shared → less_one x ≡ less_one (counted s f) → extra_of t ≡ extra_of s
+unfolding extra_of
+table-same s t f x items shared e = rw (items, shared) (ap (λ (l : List ℕ). (l, s.shared)) (map-set_same less_one s.holders.items f x 0 e))
+
+counted-same : (s t : Frames) (f x : ℕ) → t.holders.items ≡ slice_set s.holders.items f x → f < length s.holders.items → counted t f ≡ x
+counted-same s t f x items low = ap (λ l. get_or l f 0) items ∙ get_or-set_same s.holders.items f x 0 low
+
+counted-other : (s t : Frames) (f g x : ℕ) → t.holders.items ≡ slice_set s.holders.items f x → g ≢ f → counted t g ≡ counted s g
+counted-other s t f g x items ne = ap (λ l. get_or l g 0) items ∙ get_or-set_other s.holders.items f g x 0 ne
+
+size-set : (s t : Frames) (f x n : ℕ) → t.holders.items ≡ slice_set s.holders.items f x → length s.holders.items ≡ n → length t.holders.items ≡ n
+size-set s t f x n items size = ap length items ∙ length-set s.holders.items f x ∙ size
+
+sum-set : (s t : Frames) (f x : ℕ) → t.holders.items ≡ slice_set s.holders.items f x → f < length s.holders.items → sum_by less_one t.holders.items + less_one (counted s f) ≡ sum_by less_one s.holders.items + less_one x
+sum-set s t f x items low = ap (λ l. sum_by less_one l + less_one (counted s f)) items ∙ sum_by-set less_one s.holders.items f x 0 low
+
+-- a free frame has no holder beyond the first, which it lacks too
+pub further-free : (m : List (List ℕ)) (s : Frames) (f : ℕ) → IsFreeList m s → among f (free_of m s) ≡ true → further_at s f ≡ 0
+further-free m s f is at = omega (arith, further-is s f, is.none f at)
+
+-- nor has what is no frame
+pub further-past : (m : List (List ℕ)) (s : Frames) (f : ℕ) → IsFreeList m s → length m ≤ f → further_at s f ≡ 0
+further-past m s f is past = omega (arith, further-is s f, get_or_past s.holders.items f 0 (omega (arith, is.size, past)))
+
+pub not_free : (m : List (List ℕ)) (s : Frames) (f : ℕ) → IsFreeList m s → 0 < counted s f → among f (free_of m s) ≡ false
+not_free m s f is some = elim (among f (free_of m s)) as (λ b. among f (free_of m s) ≡ b → b ≡ false) [ true ↦ λ e. absurd (omega (arith, some, is.none f e)) | false ↦ λ e. refl ] refl
+
+-- one with a further holder is held
+pub further-held : (m : List (List ℕ)) (s : Frames) (f : ℕ) → IsFreeList m s → 0 < further_at s f → (among f (free_of m s) ≡ false) × (f < length m)
+further-held m s f is some = (
+  not_free m s f is (omega (arith, some, further-is s f)),
+  elim (cases_lt f (length m)) [ inl low ↦ low | inr past ↦ absurd (omega (arith, some, further-past m s f is past)) ],
+)
+
+apart-not : (f : ℕ) (fs : List ℕ) → AllByRecursion (λ y. nat_eq f y ≡ false) fs → among f fs ≡ false
+apart-not f [] h = refl
+apart-not f (g ∷ fs) h = rw (h.0) (apart-not f fs h.1)
+
+among-other : (f g : ℕ) (fs : List ℕ) → g ≢ f → among g (f ∷ fs) ≡ among g fs
+among-other f g fs ne = rw (ne_eqb g f ne) refl
+
+pub IsFreeList-take : (m : List (List ℕ)) (s t : Frames) (f : ℕ) → IsFreeList m s → free_of m s ≡ f ∷ free_of m t → t.holders.items ≡ slice_set s.holders.items f 1 → t.shared ≡ s.shared → s.shared < length (free_of m s)
+    → IsFreeList m t × (extra_of t ≡ extra_of s)
 unfolding IsDistinct
-IsFreeList-take m s t f is e = record {
-  inside = λ g at. is.inside g (rw e (among_later g f (free_of m t) at));
-  distinct = (rw e at is.distinct).1;
-}
+IsFreeList-take m s t f is e items shared room =
+    let here : among f (free_of m s) ≡ true = rw e (among_first f (free_of m t)) in
+    let low : f < length s.holders.items = omega (arith, is.inside f here, is.size) in
+    let zero_before : counted s f ≡ 0 = is.none f here in (
+      record {
+        inside = λ g at. is.inside g (rw e (among_later g f (free_of m t) at));
+        distinct = (rw e at is.distinct).1;
+        size = size-set s t f 1 (length m) items is.size;
+        none = λ g at. elim (cases_eq g f) [
+          | inl same ↦ absurd (cc (apart-not f (free_of m t) (rw e at is.distinct).0, ap (λ x. among x (free_of m t)) same, at))
+          | inr other ↦ counted-other s t f g 1 items other ∙ is.none g (rw e (among_later g f (free_of m t) at))
+        ];
+        some = λ g inside absent. elim (cases_eq g f) [
+          | inl same ↦ omega (arith, ap (counted t) same, counted-same s t f 1 items low)
+          | inr other ↦ omega (arith, counted-other s t f g 1 items other, is.some g inside (ap (among g) e ∙ among-other f g (free_of m t) other ∙ absent))
+        ];
+        sum = omega (arith, shared, is.sum, sum-set s t f 1 items low, zero_before);
+        room = omega (arith, shared, room, ap length e);
+      },
+      table-same s t f 1 items shared (ap less_one (sym zero_before)),
+    )
 
--- there are absent more free frames than frames
+-- there are no more free frames than frames
 pub count-le : (m : List (List ℕ)) (s : Frames) → IsFreeList m s → s.count ≤ length m
 count-le m s is = rw (← length-free_of m s) (length-le_from_distinct_below (free_of m s) (length m) is.distinct is.inside)
 
@@ -85,23 +171,72 @@ unfolding IsDistinct
 distinct_first f fs absent is = (apart f fs absent, is)
 
 -- a frame that is given back comes first
-pub free_of-give : (m : List (List ℕ)) (first count f : ℕ) → IsMemory m → f < length m → first < 256 ^ 4 → among f (free_of m (record { first = record { 0 = first }; count = count })) ≡ false
-    → free_of (put m f 0 (word_bytes 4 first)) (record { first = record { 0 = f }; count = count + 1 }) ≡ f ∷ free_of m (record { first = record { 0 = first }; count = count })
+pub free_of-give : (m : List (List ℕ)) (s t : Frames) (f : ℕ) → IsMemory m → f < length m → s.first.0 < 256 ^ 4 → among f (free_of m s) ≡ false → t.first.0 ≡ f → t.count ≡ s.count + 1
+    → free_of (put m f 0 (word_bytes 4 s.first.0)) t ≡ f ∷ free_of m s
 unfolding free_of chain
-free_of-give m first count f mem inside fits absent =
-    let k = put m f 0 (word_bytes 4 first) in
-    let next : word_of k f 0 4 ≡ first = word_of-put_same m f 0 4 first mem inside (omega arith) fits in
-    rw add-one (ap (λ l. f ∷ l) (ap (λ x. chain k count x) next ∙ chain-same m k count first (λ g at. frame_of-put_other m f 0 (word_bytes 4 first) g (λ e. cc (rw (← e) at absent)))))
+free_of-give m s t f mem inside fits absent first count =
+    let k = put m f 0 (word_bytes 4 s.first.0) in
+    let next : word_of k f 0 4 ≡ s.first.0 = word_of-put_same m f 0 4 s.first.0 mem inside (omega arith) fits in
+    rw (first, count, add-one) (ap (λ l. f ∷ l) (ap (λ x. chain k s.count x) next ∙ chain-same m k s.count s.first.0 (λ g at. frame_of-put_other m f 0 (word_bytes 4 s.first.0) g (λ e. cc (rw (← e) at absent)))))
 
-pub IsFreeList-give : (m k : List (List ℕ)) (s t : Frames) (f : ℕ) → IsFreeList m s → length k ≡ length m → f < length m → among f (free_of m s) ≡ false → free_of k t ≡ f ∷ free_of m s → IsFreeList k t
-IsFreeList-give m k s t f is len inside absent e = record {
-  inside = λ g at.
-      elim (cases_eq g f) [
-        | inl same ↦ omega (arith, same, inside, len)
-        | inr other ↦ omega (arith, len, is.inside g (among_rest g f (free_of m s) other (rw e at at)))
+pub IsFreeList-give : (m k : List (List ℕ)) (s t : Frames) (f : ℕ) → IsFreeList m s → length k ≡ length m → f < length m → among f (free_of m s) ≡ false → free_of k t ≡ f ∷ free_of m s
+    → t.holders.items ≡ slice_set s.holders.items f 0 → t.shared ≡ s.shared → further_at s f ≡ 0 → IsFreeList k t × (extra_of t ≡ extra_of s)
+IsFreeList-give m k s t f is len inside absent e items shared last =
+    let low : f < length s.holders.items = omega (arith, inside, is.size) in
+    let one_before : less_one (counted s f) ≡ 0 = sym (further-is s f) ∙ last in (
+      record {
+        inside = λ g at.
+            elim (cases_eq g f) [
+              | inl same ↦ omega (arith, same, inside, len)
+              | inr other ↦ omega (arith, len, is.inside g (among_rest g f (free_of m s) other (rw e at at)))
+            ];
+        distinct = rw e (distinct_first f (free_of m s) absent is.distinct);
+        size = size-set s t f 0 (length k) items (is.size ∙ sym len);
+        none = λ g at. elim (cases_eq g f) [
+          | inl same ↦ ap (counted t) same ∙ counted-same s t f 0 items low
+          | inr other ↦ counted-other s t f g 0 items other ∙ is.none g (among_rest g f (free_of m s) other (rw e at at))
+        ];
+        some = λ g within out. elim (cases_eq g f) [
+          | inl same ↦ absurd (cc (among_first f (free_of m s), ap (λ x. among x (free_of k t)) same, ap (among f) e, out))
+          | inr other ↦ omega (arith, counted-other s t f g 0 items other, is.some g (omega (arith, within, len)) (sym (among-other f g (free_of m s) other) ∙ sym (ap (among g) e) ∙ out))
+        ];
+        sum = omega (arith, shared, is.sum, sum-set s t f 0 items low, one_before);
+        room = omega (arith, shared, is.room, ap length e);
+      },
+      table-same s t f 0 items shared (sym one_before),
+    )
+
+-- a frame with a holder has another count of them
+pub IsFreeList-count : (m : List (List ℕ)) (s t : Frames) (f x : ℕ) → IsFreeList m s → f < length m → 0 < counted s f → 0 < x → free_of m t ≡ free_of m s
+    → t.holders.items ≡ slice_set s.holders.items f x → t.shared + counted s f ≡ s.shared + x → t.shared ≤ length (free_of m s) → IsFreeList m t
+IsFreeList-count m s t f x is inside held new e items shared room =
+    let low : f < length s.holders.items = omega (arith, inside, is.size) in
+    record {
+      inside = λ g at. is.inside g (rw e at at);
+      distinct = rw e is.distinct;
+      size = size-set s t f x (length m) items is.size;
+      none = λ g at. elim (cases_eq g f) [
+        | inl same ↦ absurd (omega (arith, held, ap (counted s) same, is.none g (rw e at at)))
+        | inr other ↦ counted-other s t f g x items other ∙ is.none g (rw e at at)
       ];
-  distinct = rw e (distinct_first f (free_of m s) absent is.distinct);
-}
+      some = λ g within out. elim (cases_eq g f) [
+        | inl same ↦ omega (arith, new, ap (counted t) same, counted-same s t f x items low)
+        | inr other ↦ omega (arith, counted-other s t f g x items other, is.some g within (rw e at out))
+      ];
+      sum = omega (arith, shared, is.sum, sum-set s t f x items low, held, new);
+      room = omega (arith, room, ap length e);
+    }
+
+-- how many further holders frames have then
+pub further-count : (s t : Frames) (f x g : ℕ) → f < length s.holders.items → t.holders.items ≡ slice_set s.holders.items f x → ((g ≡ f) × (further_at t g ≡ x - 1) × (further_at s g ≡ counted s f - 1)) ⊎ ((g ≢ f) × (further_at t g ≡ further_at s g))
+further-count s t f x g low items = elim (cases_eq g f) [
+  | inl same ↦ inl (same, further-is t g ∙ ap less_one (ap (counted t) same ∙ counted-same s t f x items low), further-is s g ∙ ap (λ h. less_one (counted s h)) same)
+  | inr other ↦ inr (other, further-is t g ∙ ap less_one (counted-other s t f g x items other) ∙ sym (further-is s g))
+]
+
+-- a further holder is one of the sum
+pub further-le : (m : List (List ℕ)) (s : Frames) (f : ℕ) → IsFreeList m s → f < length m → counted s f ≤ s.shared + 1
+further-le m s f is inside = omega (arith, is.sum, get_or-le-sum_by less_one s.holders.items f 0 (omega (arith, inside, is.size)))
 
 pub SameBut-put : (m : List (List ℕ)) (f o : ℕ) (bs : List ℕ) → SameBut (f ∷ []) m (put m f o bs)
 SameBut-put m f o bs = record {
@@ -115,13 +250,38 @@ free_of-none m s e = rw e refl
 
 -- the first free frame is one of the memory
 pub free_of-first : (m : List (List ℕ)) (s : Frames) → IsFreeList m s → s.count ≢ 0 → s.first.0 < length m
-free_of-first m s is ne = is.inside s.first.0 (rw (free_of-take m s.first.0 s.count ne) (among_first s.first.0 (free_of m (record { first = record { 0 = word_of m s.first.0 0 4 }; count = s.count - 1 }))))
+free_of-first m s is ne = is.inside s.first.0 (ap (among s.first.0) (first-is m s ne) ∙ among_first s.first.0 (chain m (s.count - 1) (word_of m s.first.0 0 4)))
 
 -- ---- the list of all frames
 
-pub IsFreeList-none : (m : List (List ℕ)) (s : Frames) → free_of m s ≡ [] → IsFreeList m s
+replicate-one : (n i : ℕ) → i < n → get_or (replicate {A = ℕ} n 1) i 0 ≡ 1
+replicate-one n i low = get_or-replicate {A = ℕ} n i 1 0 low
+
+sum-ones : (n : ℕ) → sum_by less_one (replicate n 1) ≡ 0
+sum-ones zero = refl
+sum-ones (suc n) = omega (arith, sum_by-cons less_one 1 (replicate {A = ℕ} n 1), sum-ones n)
+
+-- where each frame has a holder none is free
+pub IsFreeList-none : (m : List (List ℕ)) (s : Frames) → free_of m s ≡ [] → s.holders.items ≡ replicate (length m) 1 → s.shared ≡ 0 → IsFreeList m s
 unfolding IsDistinct
-IsFreeList-none m s none = record { inside = λ f at. absurd (cc (rw none at at)); distinct = rw none tt }
+IsFreeList-none m s none items shared = record {
+  inside = λ f at. absurd (cc (rw none at at));
+  distinct = rw none tt;
+  size = ap length items ∙ length-replicate (length m) 1;
+  none = λ f at. absurd (cc (rw none at at));
+  some = λ f low absent. omega (arith, ap (λ l. get_or l f 0) items, replicate-one (length m) f low);
+  sum = shared ∙ sym (ap (sum_by less_one) items ∙ sum-ones (length m));
+  room = omega (arith, shared);
+}
+
+further-ones : (n f : ℕ) → less_one (get_or (replicate n 1) f 0) ≡ 0
+further-ones n f = elim (cases_lt f n) [
+  | inl low ↦ ap less_one (replicate-one n f low)
+  | inr past ↦ ap less_one (get_or_past (replicate n 1) f 0 (rw (length-replicate {A = ℕ} n 1) past))
+]
+
+pub further-none : (s : Frames) (n f : ℕ) → s.holders.items ≡ replicate n 1 → further_at s f ≡ 0
+further-none s n f items = further-is s f ∙ ap (λ l. less_one (get_or l f 0)) items ∙ further-ones n f
 
 -- a range has no frame below it
 pub among-range_below : (f a n : ℕ) → f < a → among f (range_with_len a n) ≡ false
@@ -131,3 +291,28 @@ among-range_below f a (suc n) h = rw (ne_eqb f a (omega arith)) (among-range_bel
 -- a range and the frame before it
 pub range-before : (a b i : ℕ) → a + 1 ≡ b → range_with_len a (i + 1) ≡ a ∷ range_with_len b i
 range-before a b i e = rw (add-one, ← e) refl
+
+-- ---- how many could be taken
+
+pub some-free : (m : List (List ℕ)) (s : Frames) → 0 < free_count m s → (s.shared < length (free_of m s)) × (s.count ≢ 0)
+some-free m s h = (omega (arith, h, shared-is s), λ e. omega (arith, h, length-free_of m s, e))
+
+pub none-free : (m : List (List ℕ)) (s : Frames) → IsFreeList m s → free_count m s ≢ 0 → s.shared < length (free_of m s)
+none-free m s is h = omega (arith, h, shared-is s)
+
+pub free_count-fewer : (m : List (List ℕ)) (s t : Frames) → free_of m t ≡ free_of m s → s.shared < length (free_of m s) → t.shared ≡ s.shared + 1 → free_count m s ≡ free_count m t + 1
+free_count-fewer m s t e room shared = omega (arith, shared-is s, shared-is t, ap length e, room, shared)
+
+pub free_count-more : (m : List (List ℕ)) (s t : Frames) → free_of m t ≡ free_of m s → s.shared ≤ length (free_of m s) → t.shared + 1 ≡ s.shared → free_count m t ≡ free_count m s + 1
+free_count-more m s t e room shared = omega (arith, shared-is s, shared-is t, ap length e, room, shared)
+
+-- a frame comes into the list, or goes, and no further holder with it
+pub free_count-list : (m k : List (List ℕ)) (s t : Frames) (f : ℕ) → s.shared ≤ length (free_of m s) → free_of k t ≡ f ∷ free_of m s → extra_of t ≡ extra_of s → free_count k t ≡ free_count m s + 1
+free_count-list m k s t f room e same = omega (arith, shared-is s, ap length e, room, ap (λ (x : List ℕ × ℕ). x.1) same)
+
+pub shared-some : (m : List (List ℕ)) (s : Frames) (f : ℕ) → IsFreeList m s → 0 < further_at s f → 0 < s.shared
+shared-some m s f is some = omega (arith, further-le m s f is (further-held m s f is some).1, further-is s f, some)
+
+-- a count that was read
+pub count-read : (m : List (List ℕ)) (s : Frames) (f x : ℕ) → IsFreeList m s → f < length m → x ≡ get_or s.holders.items f x → x ≡ counted s f
+count-read m s f x is inside e = e ∙ get_or_default_zero s.holders.items f x (omega (arith, inside, is.size))

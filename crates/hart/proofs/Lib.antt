@@ -5,3 +5,4 @@ pub mod ChangeLemmas
 pub mod CycleLemmas
 pub mod FollowsLemmas
 pub mod Registers
+pub mod Retries

@@ -1,11 +1,9 @@
 -- A page table outlives what is done beside it.
-use Rattle.std.proofs.Common.{◌≡◌, ◌≢◌, ℕ, ◌+◌, ◌*◌, ◌/◌, ◌%◌, ◌<◌, false, true, List, length, Option, Some, None, refl, sym, ap, ◌∙◌, arith}
+use Rattle.std.proofs.Common.{◌≡◌, ℕ, ◌%◌, List, length, Some, refl, sym, ap, ◌∙◌}
 use Rattle.ram.specs.Memory.{frame_of}
 use Rattle.sv39.specs.Walk.{entry_of}
-use Rattle.frames.specs.declared.Frames.{Frames}
-use Rattle.frames.specs.Free.{among, free_of, IsFreeList}
-use Rattle.pagetable.specs.Tree.{child_of, Node, Root, Mid, Low, IsNode, table_at, child_at, leaf_at, low_node, lookup_of, IsTree, Holds, IsPaged, Keeps, IsBeside}
-use Rattle.pagetable.specs.TreeLemmas.{entry_of-frame, child_at-same, leaf_at-same, low_is_node, root_at}
+use Rattle.pagetable.specs.Tree.{child_of, Node, Root, Mid, Low, IsNode, table_at, child_at, leaf_at, low_node, lookup_of, IsTree, Holds}
+use Rattle.pagetable.specs.TreeLemmas.{entry_of-frame, child_at-same, leaf_at-same, low_is_node}
 
 held_at : (m : List (List ℕ)) (r : ℕ) (x : Node) (v : ℕ) → IsNode x → table_at m r x ≡ Some v → Holds m r v
 held_at m r x v nx at = record { place = x; is_node = nx; at_place = at }

@@ -1,12 +1,12 @@
 -- A page table that maps nothing.
-use Rattle.std.proofs.Common.{◌≡◌, ◌≢◌, ℕ, ◌+◌, ◌*◌, ◌/◌, ◌%◌, ◌^◌, ◌<◌, ◌⊎◌, inl, inr, false, true, List, [], ◌∷◌, ◌++◌, length, Option, Some, None, unwrap_or, refl, sym, ap, ◌∙◌, arith, slice_set, get_or-set_other, length-set, replicate}
+use Rattle.std.proofs.Common.{◌≡◌, ◌≢◌, ℕ, ◌<◌, true, List, [], ◌∷◌, length, Some, None, refl, sym, ap, ◌∙◌, arith, slice_set, get_or-set_other, length-set, replicate}
 use Rattle.frames.specs.declared.Frames.{Frames}
-use Rattle.frames.specs.Free.{among, free_of, IsFreeList}
+use Rattle.frames.specs.Free.{among, free_of, extra_of, IsFreeList}
 use Rattle.frames.specs.FreeLemmas.{free_of-same, IsFreeList-same}
 use Rattle.ram.specs.Memory.{frame_of}
 use Rattle.sv39.specs.Walk.{entry_of}
-use Rattle.pagetable.specs.Tree.{child_of, leaf_of, Node, Root, Mid, Low, IsNode, IsUpper, next_node, table_at, child_at, leaf_at, low_node, mid_node, lookup_of, IsTree, IsEntry, no_table, no_leaf, IsTableEntry, IsPaged}
-use Rattle.pagetable.specs.TreeLemmas.{child_of-zero, root_at, free-first, entry_of-zeros}
+use Rattle.pagetable.specs.Tree.{Node, Root, Mid, Low, IsNode, table_at, low_node, lookup_of, no_table, IsPaged}
+use Rattle.pagetable.specs.TreeLemmas.{further-taken, child_of-zero, root_at, free-first, entry_of-zeros}
 use Rattle.pagetable.specs.Shape.{IsTidy, IsEmpty}
 
 pub empty-tables : (k : List (List ℕ)) (r : ℕ) → ((i : ℕ) → i < 512 → entry_of k r i ≡ 0) → (x : Node) → IsNode x → x ≢ Root → table_at k r x ≡ None
@@ -34,9 +34,9 @@ only-root k r is Root t nx h = (refl, let e = root_at k r in cc)
 only-root k r is (Mid a) t nx h = absurd (let none = is.tables (Mid a) nx (λ e. cc) in cc)
 only-root k r is (Low a b) t nx h = absurd (let none = is.tables (Low a b) nx (λ e. cc) in cc)
 
-pub IsPaged-new : (m : List (List ℕ)) (r : ℕ) (s n : Frames) → IsFreeList m s → free_of m s ≡ r ∷ free_of m n → IsFreeList m n → (k : List (List ℕ)) → k ≡ slice_set m r (replicate 4096 0)
+pub IsPaged-new : (m : List (List ℕ)) (r : ℕ) (s n : Frames) → IsFreeList m s → free_of m s ≡ r ∷ free_of m n → IsFreeList m n → (k : List (List ℕ)) → k ≡ slice_set m r (replicate 4096 0) → extra_of n ≡ extra_of s
     → IsPaged k r n × IsEmpty k r × (free_of m s ≡ r ∷ free_of k n)
-IsPaged-new m r s n is taken after k e =
+IsPaged-new m r s n is taken after k e table =
     let first = free-first m s r (free_of m n) is taken in
     let len : length k ≡ length m = rw e (length-set m r (replicate {A = ℕ} 4096 0)) in
     let others : (g : ℕ) → g ≢ r → frame_of k g ≡ frame_of m g = λ (g : ℕ) (ne : g ≢ r). rw e (get_or-set_other m r g (replicate {A = ℕ} 4096 0) [] ne) in
@@ -53,6 +53,7 @@ IsPaged-new m r s n is taken after k e =
         };
         free = IsFreeList-same m k n after len same;
         apart = λ x t nx h. rw ((root x t nx h).1, free) (first.1);
+        own = λ x t nx h. rw ((root x t nx h).1) (further-taken m s n r (free_of m n) is taken table);
       },
       empty,
       taken ∙ ap (λ l. r ∷ l) (sym free),

@@ -1,14 +1,11 @@
 -- Lemmas on the tables that come and go.
-use Rattle.std.proofs.Common.{◌≡◌, ◌≢◌, ℕ, ◌+◌, ◌*◌, ◌/◌, ◌%◌, ◌^◌, ◌<◌, ◌⊎◌, inl, inr, false, true, List, [], ◌∷◌, ◌++◌, length, Option, Some, None, unwrap_or, refl, sym, ap, ◌∙◌, arith}
-use Rattle.std.proofs.lemmas.Bool.{cases_eq, ne_eqb}
+use Rattle.std.proofs.Common.{◌≡◌, ◌≢◌, ℕ, ◌^◌, ◌<◌, ◌⊎◌, inl, inr, List, [], ◌∷◌, length, Option, Some, None, refl, sym, ap, ◌∙◌}
+use Rattle.std.proofs.lemmas.Bool.{cases_eq}
 use Rattle.frames.specs.declared.Frames.{Frames}
-use Rattle.frames.specs.Free.{among, free_of, IsFreeList, SameBut}
-use Rattle.frames.specs.FreeLemmas.{free_of-same, IsFreeList-same}
-use Rattle.ram.specs.Memory.{frame_of}
-use Rattle.sv39.specs.Walk.{entry_of}
-use Rattle.pagetable.specs.Tree.{child_of, leaf_of, Node, Root, Mid, Low, IsNode, IsUpper, next_node, table_at, child_at, leaf_at, low_node, mid_node, lookup_of, IsTree, Holds, Writes, Links, IsEntry, no_table, no_leaf, IsTableEntry, IsPaged, Keeps, Inserts, missing, missing_by}
-use Rattle.pagetable.specs.TreeLemmas.{entry_of-frame, child_at-same, leaf_at-same, low_is_node, mid_is_node, root_at, tables_apart, entry-write, child_of-zero, leaf_of-zero, cases_node, low_not_upper, write-stays, table_at-link_other, table_at-write, held_absent, IsTree-write, free_of-write, lookup_of-write_other, no_low}
-use Rattle.pagetable.specs.Shape.{table_of, IsUsed, IsTidy, made, made_by, Adds, Removes}
+use Rattle.frames.specs.Free.{free_of}
+use Rattle.pagetable.specs.Tree.{Node, IsNode, IsUpper, next_node, table_at, low_node, mid_node, lookup_of, Links, IsPaged, Inserts, missing, missing_by}
+use Rattle.pagetable.specs.TreeLemmas.{low_is_node, mid_is_node, cases_node, table_at-link_other, held_absent, no_low}
+use Rattle.pagetable.specs.Shape.{table_of, IsUsed, IsTidy, made, made_by, Adds}
 
 -- ---- a page that comes
 

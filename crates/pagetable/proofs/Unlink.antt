@@ -1,14 +1,14 @@
 -- A table that maps nothing leaves the tree.
-use Rattle.std.proofs.Common.{◌≡◌, ◌≢◌, ℕ, ◌+◌, ◌*◌, ◌/◌, ◌%◌, ◌<◌, ◌⊎◌, inl, inr, false, true, List, [], ◌∷◌, length, Option, Some, None, refl, sym, ap, ◌∙◌, arith}
+use Rattle.std.proofs.Common.{◌≡◌, ◌≢◌, ℕ, ◌/◌, ◌%◌, ◌<◌, inl, inr, false, List, [], ◌∷◌, length, Some, None, refl, sym, ap, ◌∙◌, arith}
 use Rattle.std.proofs.lemmas.Bool.{cases_eq, ne_eqb}
 use Rattle.frames.specs.declared.Frames.{Frames}
-use Rattle.frames.specs.Free.{among, free_of, IsFreeList, SameBut}
+use Rattle.frames.specs.Free.{among, free_of, extra_of, IsFreeList, SameBut}
 use Rattle.frames.specs.FreeLemmas.{free_of-same, IsFreeList-same}
 use Rattle.pagetable.proofs.Beside.{IsTree-same, table_at-same, lookup_of-same}
 use Rattle.ram.specs.Memory.{frame_of}
 use Rattle.sv39.specs.Walk.{entry_of}
-use Rattle.pagetable.specs.Tree.{child_of, leaf_of, Node, Root, Mid, Low, IsNode, IsUpper, next_node, table_at, child_at, leaf_at, low_node, lookup_of, IsTree, Holds, Writes, IsEntry, no_table, IsTableEntry, IsPaged, Keeps}
-use Rattle.pagetable.specs.TreeLemmas.{entry_of-frame, child_at-same, leaf_at-same, low_is_node, root_at, tables_apart, entry-write, child_of-zero, leaf_of-zero, cases_node, low_not_upper, write-stays}
+use Rattle.pagetable.specs.Tree.{child_of, leaf_of, Node, Root, Mid, Low, IsNode, IsUpper, next_node, table_at, child_at, leaf_at, low_node, lookup_of, IsTree, Holds, Writes, IsEntry, no_table, IsPaged, Keeps}
+use Rattle.pagetable.specs.TreeLemmas.{further-same, child_at-same, leaf_at-same, low_is_node, root_at, tables_apart, entry-write, child_of-zero, leaf_of-zero, cases_node, low_not_upper, write-stays}
 
 root-unlink : (m k : List (List ℕ)) (r d t c : ℕ) → IsTree m r → d < 512 → table_at m r (Mid d) ≡ Some t → Writes m k t c 0 → (a : ℕ) → a < 512 → entry_of k r a ≡ entry_of m r a
 root-unlink m k r d t c is nd at w a small = entry-write m k t c 0 r a w small (inl (tables_apart m r is Root (Mid d) r t tt nd (root_at m r) at (λ g. cc)))
@@ -114,8 +114,8 @@ free-unlink m k r s x t c is nx at w =
     (free_of-same m k s stays, IsFreeList-same m k s is.free w.count stays)
 
 pub IsPaged-unlink : (m k l : List (List ℕ)) (r : ℕ) (s n : Frames) (x : Node) (t c u : ℕ) → IsPaged m r s → IsNode x → IsNode (next_node x c) → IsUpper x → c < 512 → table_at m r x ≡ Some t → table_at m r (next_node x c) ≡ Some u
-    → ((i : ℕ) → i < 512 → entry_of m u i ≡ 0) → Writes m k t c 0 → SameBut (u ∷ []) k l → free_of l n ≡ u ∷ free_of m s → IsFreeList l n → IsPaged l r n
-IsPaged-unlink m k l r s n x t c u is nx nn up sc at below empty w given e valid =
+    → ((i : ℕ) → i < 512 → entry_of m u i ≡ 0) → Writes m k t c 0 → SameBut (u ∷ []) k l → free_of l n ≡ u ∷ free_of m s → IsFreeList l n → extra_of n ≡ extra_of s → IsPaged l r n
+IsPaged-unlink m k l r s n x t c u is nx nn up sc at below empty w given e valid table =
     let cases = unlink_cases m k r x t c u is.tree nx nn up sc at below empty w in
     let same : (v : ℕ) → Holds k r v → frame_of l v ≡ frame_of k v = λ (v : ℕ) (h : Holds k r v). given.others v (among_not v u [] (cases h.place v h.is_node h.at_place).0 refl) in
     record {
@@ -124,6 +124,9 @@ IsPaged-unlink m k l r s n x t c u is nx nn up sc at below empty w given e valid
       apart = λ y v ny h.
           let old = cases y v ny (sym (table_at-same k l r same y ny) ∙ h) in
           rw e (among_not v u (free_of m s) (old.0) (is.apart y v ny (old.1)));
+      own = λ y v ny h.
+          let old = cases y v ny (sym (table_at-same k l r same y ny) ∙ h) in
+          further-same s n v table ∙ is.own y v ny (old.1);
     }
 
 pub Keeps-unlink : (m k l : List (List ℕ)) (r : ℕ) (s n : Frames) (x : Node) (t c u : ℕ) → IsPaged m r s → IsNode x → IsNode (next_node x c) → IsUpper x → c < 512 → table_at m r x ≡ Some t → table_at m r (next_node x c) ≡ Some u

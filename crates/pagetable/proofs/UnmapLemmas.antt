@@ -1,13 +1,13 @@
 -- A page that goes.
-use Rattle.std.proofs.Common.{◌≡◌, ◌≢◌, ℕ, ◌+◌, ◌*◌, ◌/◌, ◌%◌, ◌^◌, ◌<◌, ◌⊎◌, inl, inr, false, true, List, [], ◌∷◌, ◌++◌, length, Option, Some, None, unwrap_or, refl, sym, ap, ◌∙◌, arith}
-use Rattle.std.proofs.lemmas.Bool.{cases_eq, ne_eqb}
+use Rattle.std.proofs.Common.{◌≡◌, ◌≢◌, ℕ, ◌+◌, ◌*◌, ◌/◌, ◌%◌, ◌^◌, ◌<◌, ◌⊎◌, inl, inr, List, [], ◌∷◌, Option, Some, None, refl, sym, ap, ◌∙◌, arith}
+use Rattle.std.proofs.lemmas.Bool.{cases_eq}
 use Rattle.frames.specs.declared.Frames.{Frames}
-use Rattle.frames.specs.Free.{among, free_of, IsFreeList, SameBut}
-use Rattle.frames.specs.FreeLemmas.{free_of-same, IsFreeList-same}
+use Rattle.frames.specs.Free.{SameBut}
+use Rattle.frames.specs.FreeLemmas.{IsFreeList-same}
 use Rattle.ram.specs.Memory.{frame_of}
 use Rattle.sv39.specs.Walk.{entry_of}
-use Rattle.pagetable.specs.Tree.{child_of, leaf_of, Node, Root, Mid, Low, IsNode, IsUpper, next_node, table_at, child_at, leaf_at, low_node, mid_node, lookup_of, IsTree, Holds, Writes, IsEntry, no_table, no_leaf, IsTableEntry, IsPaged, Keeps}
-use Rattle.pagetable.specs.TreeLemmas.{low_is_node, mid_is_node, table_at-write, IsTree-write, free_of-write, write-stays, lookup_of-write_other, leaf_of-zero, leaf_of-some, child_of-some, table_at-low, cases_node}
+use Rattle.pagetable.specs.Tree.{leaf_of, Node, Mid, Low, IsNode, IsUpper, next_node, table_at, child_at, leaf_at, low_node, mid_node, lookup_of, IsTree, Holds, Writes, no_leaf, IsPaged}
+use Rattle.pagetable.specs.TreeLemmas.{low_is_node, table_at-write, IsTree-write, free_of-write, write-stays, lookup_of-write_other, leaf_of-zero, leaf_of-some, child_of-some, cases_node}
 use Rattle.pagetable.proofs.Beside.{table_at-same}
 use Rattle.pagetable.proofs.Unlink.{unlink_cases, among_not, table_at-unlink_other, table_at-unlink_same}
 use Rattle.pagetable.specs.Shape.{IsUsed, IsTidy, Removes}
@@ -22,6 +22,7 @@ IsPaged-clear m k r s page t is at w =
       tree = IsTree-write m k r (page / 262144 % 512) (page / 512 % 512) t (page % 512) 0 is.tree node at w (no_leaf refl);
       free = IsFreeList-same m k s is.free w.count (write-stays m k r s (low_node page) t (page % 512) 0 is node at w);
       apart = λ x v nx h. rw (free_of-write m k r s page t 0 is at w) (is.apart x v nx (sym (stays x nx) ∙ h));
+      own = λ x v nx h. is.own x v nx (sym (stays x nx) ∙ h);
     }
 
 lookup-clear : (m k : List (List ℕ)) (r page t : ℕ) → IsTree m r → table_at m r (low_node page) ≡ Some t → Writes m k t (page % 512) 0 → lookup_of k r page ≡ None

@@ -1,16 +1,14 @@
 -- What writes leave of a page table.
-use Rattle.std.proofs.Common.{◌≡◌, ◌≢◌, ◌==◌, ℕ, zero, suc, ◌+◌, ◌-◌, ◌*◌, ◌/◌, ◌%◌, ◌^◌, ◌<◌, ◌≤◌, ◌⊎◌, inl, inr, Bool, true, false, nat_eq, List, [], ◌∷◌, length, Option, Some, None, refl, sym, ap, ◌∙◌, subst, arith, rules, slice_set, get_or-set_other, get_or-set_same, get_or, replicate, length-set, drop, ◌||◌}
-use Rattle.std.proofs.lemmas.Grind.{common_steps}
+use Rattle.std.proofs.Common.{◌≡◌, ◌≢◌, ℕ, ◌+◌, ◌-◌, ◌*◌, ◌/◌, ◌%◌, ◌^◌, ◌<◌, ◌≤◌, ◌⊎◌, inl, inr, true, false, nat_eq, List, [], ◌∷◌, length, Option, Some, None, refl, sym, ap, ◌∙◌, arith, slice_set, get_or-set_other, get_or, replicate, length-set}
 use Rattle.std.proofs.lemmas.Bool.{cases_eq, cases_lt}
-use Rattle.ram.specs.Memory.{frame_of, word_of, word_bytes, put, IsMemory}
+use Rattle.ram.specs.Memory.{frame_of, word_bytes, put, IsMemory}
 use Rattle.ram.specs.MemoryLemmas.{word_of-frame, word_of-put_same, word_of-put_beside, frame_of-put_other, length-put, length-word_bytes, word_of-put_other, IsMemory-set, word_of-zeros}
 use Rattle.std.proofs.lemmas.List.{length-replicate}
 use Rattle.std.specs.List.{AllByRecursion, IsDistinct}
 use Rattle.frames.specs.declared.Frames.{Frames}
-use Rattle.frames.specs.Free.{among, free_of, IsFreeList}
-use Rattle.frames.specs.FreeLemmas.{among_first, among_first_not, free_of-same, IsFreeList-same}
+use Rattle.frames.specs.Free.{among, free_of, free_count, extra_of, further_at, IsFreeList}
+use Rattle.frames.specs.FreeLemmas.{among_first, among_first_not, free_of-same, further-free, shared-is, IsFreeList-same}
 use Rattle.sv39.specs.Walk.{base, entry_of}
-use Rattle.sv39.specs.Entry.{has}
 use Rattle.pagetable.specs.Tree.{table_entry, leaf_entry, child_of, leaf_of, Node, Root, Mid, Low, IsNode, child_at, table_at, leaf_at, low_node, mid_node, lookup_of, IsTableEntry, no_table, a_table, IsLeafMarks, IsLeafEntry, no_leaf, a_leaf, IsEntry, IsTree, Holds, Inserts, Writes, Links, next_node, IsUpper, IsPaged, Keeps, missing, missing_by}
 use Rattle.std.proofs.Math.Nat.{div-div-eq-div-mul}
 use Rattle.std.proofs.lemmas.Nat.{div-mul-add, mod-mul-add}
@@ -424,14 +422,26 @@ IsFreeList-link m k s n t c u is after e out w = IsFreeList-same m k n after w.c
 pub taken_apart : (m : List (List ℕ)) (s : Frames) (t u : ℕ) (fs : List ℕ) → free_of m s ≡ u ∷ fs → among t (free_of m s) ≡ false → t ≢ u
 taken_apart m s t u fs e out = (among_first_not t u fs (rw e at out)).0
 
+-- ---- the holders of tables
+
+pub further-same : (s n : Frames) (f : ℕ) → extra_of n ≡ extra_of s → further_at n f ≡ further_at s f
+further-same s n f table = ap (λ (t : List ℕ × ℕ). get_or t.0 f 0) table
+
+pub further-taken : (m : List (List ℕ)) (s n : Frames) (u : ℕ) (fs : List ℕ) → IsFreeList m s → free_of m s ≡ u ∷ fs → extra_of n ≡ extra_of s → further_at n u ≡ 0
+further-taken m s n u fs is e table = further-same s n u table ∙ further-free m s u is (ap (among u) e ∙ among_first u fs)
+
+-- so many free frames are taken
+pub free_count-taken : (m k : List (List ℕ)) (s n : Frames) (j : ℕ) → length (free_of m s) ≡ j + length (free_of k n) → extra_of n ≡ extra_of s → IsFreeList k n → free_count m s ≡ j + free_count k n
+free_count-taken m k s n j e table is = omega (arith, e, ap (λ (t : List ℕ × ℕ). t.1) table, is.room, shared-is n)
+
 -- ---- the tree beside the free frames
 
 pub held_absent : (m : List (List ℕ)) (r : ℕ) (s : Frames) (u : ℕ) (fs : List ℕ) → IsPaged m r s → free_of m s ≡ u ∷ fs → ¬ Holds m r u
 held_absent m r s u fs is e h = cc (is.apart h.place u h.is_node h.at_place, ap (among u) e, among_first u fs)
 
 pub IsPaged-link : (m k : List (List ℕ)) (r : ℕ) (s n : Frames) (x : Node) (t c u : ℕ) → IsPaged m r s → IsNode x → IsUpper x → c < 512 → table_at m r x ≡ Some t → Links m k t c u
-    → table_at m r (next_node x c) ≡ None → free_of m s ≡ u ∷ free_of k n → IsFreeList k n → IsPaged k r n
-IsPaged-link m k r s n x t c u is nx up sc at w none e valid =
+    → table_at m r (next_node x c) ≡ None → free_of m s ≡ u ∷ free_of k n → IsFreeList k n → extra_of n ≡ extra_of s → IsPaged k r n
+IsPaged-link m k r s n x t c u is nx up sc at w none e valid table =
     let new = held_absent m r s u (free_of k n) is e in
     let first = free-first m s u (free_of k n) is.free e in
     record {
@@ -440,6 +450,10 @@ IsPaged-link m k r s n x t c u is nx up sc at w none e valid =
       apart = λ y v ny h. elim (link_cases m k r x t c u is.tree nx up sc at w new none y v ny h) [
         | inl fresh ↦ rw (fresh.1) (first.1)
         | inr old ↦ (among_first_not v u (free_of k n) (rw e at (is.apart y v ny old))).1
+      ];
+      own = λ y v ny h. elim (link_cases m k r x t c u is.tree nx up sc at w new none y v ny h) [
+        | inl fresh ↦ rw (fresh.1) (further-taken m s n u (free_of k n) is.free e table)
+        | inr old ↦ further-same s n v table ∙ is.own y v ny old
       ];
     }
 
@@ -484,6 +498,7 @@ IsPaged-write m k r s page t f marks is at w inside good =
       tree = IsTree-write m k r (page / 262144 % 512) (page / 512 % 512) t (page % 512) e is.tree node at w (a_leaf f marks inside good refl);
       free = IsFreeList-same m k s is.free w.count (write-stays m k r s (low_node page) t (page % 512) e is node at w);
       apart = λ x v nx h. rw (free_of-write m k r s page t e is at w) (is.apart x v nx (sym (stays x nx) ∙ h));
+      own = λ x v nx h. is.own x v nx (sym (stays x nx) ∙ h);
     }
 
 pub Keeps-write : (m k : List (List ℕ)) (r : ℕ) (s : Frames) (page t e : ℕ) → IsPaged m r s → table_at m r (low_node page) ≡ Some t → Writes m k t (page % 512) e → Keeps m k r s s

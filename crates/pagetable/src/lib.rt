@@ -8,7 +8,7 @@
 
 ghost use Rattle.std.specs.Prelude.{◌≡◌, ◌≢◌, ℕ, ◌+◌, ◌*◌, ◌/◌, ◌%◌, ◌^◌, ◌<◌, ◌≤◌, List, [], ◌∷◌, length, None, Some, true, false, OnOk, OnErr, IsErr, IsTrue, ◌↔◌, IfSome, IfNone};
 ghost use Rattle.std.specs.Option.{option_map};
-ghost use Rattle.frames.specs.Free.{among, free_of, free_count, IsFreeList, SameBut};
+ghost use Rattle.frames.specs.Free.{among, free_of, free_count, extra_of, IsFreeList, SameBut};
 ghost use Rattle.frames.specs.Holders.{one_if};
 ghost use Rattle.sv39.specs.Walk.{base, entry_of};
 ghost use Rattle.unixmodel.specs.declared.trap.Access.{Access};
@@ -116,6 +116,7 @@ fn link(ram: &mut Ram, frames: &mut Frames, table: FrameNo, index: u64) -> Frame
     ensures taken { free_of ram.old frames.old ≡ result.0 ∷ free_of ram.new frames.new }
     ensures valid { IsFreeList ram.new frames.new }
     ensures links { Links ram.old ram.new table.0 index result.0 }
+    ensures extra { extra_of frames.new ≡ extra_of frames.old }
 {
     ram.frames_are_whole();
     let Some(fresh) = frames.take(ram) else {
@@ -182,7 +183,8 @@ impl PageTable {
         ensures tidy { IfSome result (λ t. IsTidy ram.new t.root.0) }
         ensures taken { IfSome result (λ t. free_of ram.old frames.old ≡ t.root.0 ∷ free_of ram.new frames.new) }
         ensures bytes { IfSome result (λ t. ram.new ≡ slice_set ram.old t.root.0 (replicate 4096 0)) }
-        ensures none { IfNone result ((free_of ram.old frames.old ≡ []) × (ram.new ≡ ram.old) × (frames.new ≡ frames.old)) }
+        ensures none { IfNone result ((free_count ram.old frames.old ≡ 0) × (ram.new ≡ ram.old) × (frames.new ≡ frames.old)) }
+        ensures extra { extra_of frames.new ≡ extra_of frames.old }
     {
         ram.frames_are_whole();
         match frames.take(ram) {
@@ -250,6 +252,7 @@ impl PageTable {
         ensures beside { (x : Node) → IsNode x → x ≢ mid_node page → table_at ram.new self.now.root.0 x ≡ table_at ram.old self.now.root.0 x }
         ensures same { (p : ℕ) → lookup_of ram.new self.now.root.0 p ≡ lookup_of ram.old self.now.root.0 p }
         ensures keeps { Keeps ram.old ram.new self.now.root.0 frames.old frames.new }
+        ensures extra { extra_of frames.new ≡ extra_of frames.old }
     {
         link(ram, frames, self.root, page / MID_PAGES % ENTRIES)
     }
@@ -266,6 +269,7 @@ impl PageTable {
         ensures beside { (x : Node) → IsNode x → x ≢ low_node page → table_at ram.new self.now.root.0 x ≡ table_at ram.old self.now.root.0 x }
         ensures same { (p : ℕ) → lookup_of ram.new self.now.root.0 p ≡ lookup_of ram.old self.now.root.0 p }
         ensures keeps { Keeps ram.old ram.new self.now.root.0 frames.old frames.new }
+        ensures extra { extra_of frames.new ≡ extra_of frames.old }
     {
         link(ram, frames, mid, page / LOW_PAGES % ENTRIES)
     }
@@ -319,6 +323,7 @@ impl PageTable {
         ensures unchanged { OnErr result ((ram.new ≡ ram.old) × (frames.new ≡ frames.old)) }
         ensures paged { IsPaged ram.new self.now.root.0 frames.new }
         ensures keeps { Keeps ram.old ram.new self.now.root.0 frames.old frames.new }
+        ensures extra { extra_of frames.new ≡ extra_of frames.old }
     {
         match self.mid_table(ram, page) {
             Some(mid) => match self.low_table(ram, page) {
@@ -369,6 +374,26 @@ impl PageTable {
         self.set_leaf(ram, frames, page, table, frame, marks);
     }
 
+    /// Gives a page that is mapped another frame and other marks. No table comes or goes.
+    pub fn remap(&self, ram: &mut Ram, frames: &Frames, page: u64, frame: FrameNo, marks: Marks)
+        requires paged { IsPaged ram.old self.now.root.0 frames.now }
+        requires page { page < 2 ^ 27 }
+        requires mapped { lookup_of ram.old self.now.root.0 page ≢ None }
+        requires frame { frame.0 < length ram.old }
+        requires marks { IsLeafMarks marks.0 }
+        ensures paged { IsPaged ram.new self.now.root.0 frames.now }
+        ensures inserts { Inserts (lookup_of ram.old self.now.root.0) (lookup_of ram.new self.now.root.0) page (frame.0, marks.0) }
+        ensures tidy { IsTidy ram.old self.now.root.0 → IsTidy ram.new self.now.root.0 }
+        ensures tables { (x : Node) → IsNode x → table_at ram.new self.now.root.0 x ≡ table_at ram.old self.now.root.0 x }
+        ensures free { free_of ram.new frames.now ≡ free_of ram.old frames.now }
+        ensures keeps { Keeps ram.old ram.new self.now.root.0 frames.now frames.now }
+    {
+        let Some(lowest) = self.low_table(ram, page) else {
+            unreachable!()
+        };
+        self.set_leaf(ram, frames, page, lowest, frame, marks);
+    }
+
     // Gives back a table of the lowest level that maps nothing.
     fn drop_low(&self, ram: &mut Ram, frames: &mut Frames, page: u64, mid: FrameNo, low: FrameNo)
         requires paged { IsPaged ram.old self.now.root.0 frames.old }
@@ -381,6 +406,7 @@ impl PageTable {
         ensures beside { (x : Node) → IsNode x → x ≢ low_node page → table_at ram.new self.now.root.0 x ≡ table_at ram.old self.now.root.0 x }
         ensures same { (p : ℕ) → lookup_of ram.new self.now.root.0 p ≡ lookup_of ram.old self.now.root.0 p }
         ensures keeps { Keeps ram.old ram.new self.now.root.0 frames.old frames.new }
+        ensures extra { extra_of frames.new ≡ extra_of frames.old }
     {
         clear(ram, mid, page / LOW_PAGES % ENTRIES);
         frames.give(ram, low);
@@ -397,6 +423,7 @@ impl PageTable {
         ensures beside { (x : Node) → IsNode x → x ≢ mid_node page → table_at ram.new self.now.root.0 x ≡ table_at ram.old self.now.root.0 x }
         ensures same { (p : ℕ) → lookup_of ram.new self.now.root.0 p ≡ lookup_of ram.old self.now.root.0 p }
         ensures keeps { Keeps ram.old ram.new self.now.root.0 frames.old frames.new }
+        ensures extra { extra_of frames.new ≡ extra_of frames.old }
     {
         clear(ram, self.root, page / MID_PAGES % ENTRIES);
         frames.give(ram, mid);
@@ -431,6 +458,7 @@ impl PageTable {
         ensures tidy { IsTidy ram.new self.now.root.0 }
         ensures paged { IsPaged ram.new self.now.root.0 frames.new }
         ensures keeps { Keeps ram.old ram.new self.now.root.0 frames.old frames.new }
+        ensures extra { extra_of frames.new ≡ extra_of frames.old }
     {
         let Some(mid) = self.mid_table(ram, page) else {
             unreachable!()
@@ -460,6 +488,7 @@ impl PageTable {
         ensures given { free_of ram.new frames.new ≡ self.root.0 ∷ free_of ram.old frames.old }
         ensures valid { IsFreeList ram.new frames.new }
         ensures others { SameBut (self.root.0 ∷ []) ram.old ram.new }
+        ensures extra { extra_of frames.new ≡ extra_of frames.old }
     {
         frames.give(ram, self.root);
     }

@@ -110,19 +110,11 @@ copied-view m v n from i to j len is h g fit room e whole full =
     ∙ ap (λ x. set v to (put_bytes x j (part (frame_of m from)))) (frame_of-view m v to is g full)
     ∙ ap (λ x. set v to (put_bytes (frame_of v to) j (part x))) (frame_of-view m v from is h whole)
 
-put_bytes-whole : (xs bs : List ℕ) → length xs ≡ length bs → put_bytes xs 0 bs ≡ bs
-unfolding put_bytes
-put_bytes-whole xs bs len = rw (drop_all (0 + length bs) xs (omega arith), append-nil) refl
-
 -- after a copy of a whole frame
-pub copied-whole : (m v n : List (List ℕ)) (from to : ℕ) → map sized m ≡ v → from < length v → to < length v
-    → n ≡ set m to (put_bytes (frame_of m to) 0 (slice_range (frame_of m from) 0 4096)) → length (frame_of m from) ≡ 4096 → length (frame_of m to) ≡ 4096
+pub copied-whole : (m v n : List (List ℕ)) (from to : ℕ) → map sized m ≡ v → from < length v → n ≡ set m to (frame_of m from) → length (frame_of m from) ≡ 4096
     → map sized n ≡ set v to (frame_of v from)
-copied-whole m v n from to is h g e whole full =
-    let all : slice_range (frame_of m from) 0 4096 ≡ frame_of m from = take_all 4096 (frame_of m from) (omega arith) in
-    let new : put_bytes (frame_of m to) 0 (slice_range (frame_of m from) 0 4096) ≡ frame_of m from =
-    ap (put_bytes (frame_of m to) 0) all ∙ put_bytes-whole (frame_of m to) (frame_of m from) (full ∙ sym whole) in
-    ap (map sized) e ∙ ap (λ w. map sized (set m to w)) new ∙ set-view_full m v to (frame_of m from) is whole ∙ ap (set v to) (frame_of-view m v from is h whole)
+copied-whole m v n from to is h e whole =
+    ap (map sized) e ∙ set-view_full m v to (frame_of m from) is whole ∙ ap (set v to) (frame_of-view m v from is h whole)
 
 pub copied-length : (m n : List (List ℕ)) (k : ℕ) (w : List ℕ) → n ≡ set m k w → length n ≡ length m
 copied-length m n k w e = ap length e ∙ length-set m k w

@@ -8,6 +8,8 @@ ghost use Rattle.std.specs.Prelude.{◌≡◌, ◌≢◌, ℕ, ◌+◌, ◌*◌,
 ghost use Rattle.std.specs.Borrow.{sem};
 ghost use Rattle.ram.specs.Memory.{frame_of, put, put_bytes, word_of, word_bytes, IsMemory};
 
+mod lanes;
+
 use byteorder::{ByteOrder, LittleEndian};
 use std::alloc::{AllocError, Global};
 use std::marker::Model;
@@ -106,6 +108,24 @@ fn copy_between(
     } else {
         let (low, high) = frames.split_at_mut(from);
         copy_bytes(&high[0], i, &mut low[to], j, len);
+    }
+}
+
+// Copies a frame of a list to another.
+#[inline]
+fn copy_frame(frames: &mut [[u8; FRAME_SIZE]], from: usize, to: usize)
+    requires from { from < length frames.old }
+    requires to { to < length frames.old }
+    requires apart { from ≢ to }
+    ensures value { frames.new ≡ slice_set frames.old to (frame_of frames.old from) }
+    ensures from { length (frame_of frames.old from) ≡ 4096 }
+{
+    if from < to {
+        let (low, high) = frames.split_at_mut(to);
+        lanes::copy(&low[from], &mut high[0]);
+    } else {
+        let (low, high) = frames.split_at_mut(from);
+        lanes::copy(&high[0], &mut low[to]);
     }
 }
 
@@ -264,9 +284,7 @@ impl Ram {
         requires { f.0 < length self.old }
         ensures { self.new ≡ slice_set self.old f.0 (replicate 4096 0) }
     {
-        let frame = &mut self.frames[f.0 as usize];
-        whole(frame);
-        frame.fill(0);
+        lanes::clear(&mut self.frames[f.0 as usize]);
     }
 
     /// Copies all bytes of a frame to another, or to itself.
@@ -276,14 +294,7 @@ impl Ram {
         ensures { self.new ≡ slice_set self.old to.0 (frame_of self.old from.0) }
     {
         if from.0 != to.0 {
-            copy_between(
-                &mut self.frames,
-                from.0 as usize,
-                0,
-                to.0 as usize,
-                0,
-                FRAME_SIZE,
-            );
+            copy_frame(&mut self.frames, from.0 as usize, to.0 as usize);
         }
     }
 

@@ -1,7 +1,9 @@
 mod Pipes
 mod Places
+mod Closed
 mod Traded
 mod Piped
 mod Stepped
 mod Results
+mod Strings
 pub mod SpacesLemmas

@@ -1,8 +1,8 @@
 -- One pipe trades frames, or is read or written: what is left of the fields, and what they show then.
 use Rattle.frames.specs.declared.Frames.{Frames}
-use Rattle.frames.specs.Free.{IsFreeList, SameBut, among, free_of}
-use Rattle.frames.proofs.HolderLemmas.{Trades-none, among-none, count_of-append, count_of-first, holders-free, one_if-le}
-use Rattle.frames.specs.Holders.{Trades, count_of, one_if}
+use Rattle.frames.specs.Free.{IsFreeList, SameBut, among, extra_of, free_count, free_of, further_at}
+use Rattle.frames.proofs.HolderLemmas.{Trades-give, Trades-none, Trades-take, count_of-append, count_of-first, held-inside, one_if-le}
+use Rattle.frames.specs.Holders.{Trades, count_of, holders_of}
 use Rattle.pipe.specs.Pipe.{Pipe, Stays, bytes_of}
 use Rattle.ram.specs.Memory.{frame_of}
 use Rattle.spaces.proofs.Pipes.{one-pipe, pipe-found, pipe-free, pipe-held, pipe-refilled, pipe-slot, pipes-placed, set-pipe, two-pipes}
@@ -13,8 +13,8 @@ use Rattle.spaces.specs.Ends.{IsOpen}
 use Rattle.spaces.specs.Spaces.{bytes_in, has_pipe, taken_frames, with_pipe}
 use Rattle.spaces.proofs.SpacesLemmas.{none-pipe, some-pipe, taken-piped, within}
 use Rattle.spaces.specs.View.{IsActive, IsSpaces, frames_at, pipe_frames, pipe_shown, shown, spaces_of}
-use Rattle.std.proofs.Common.{◌≡◌, ◌≢◌, ℕ, ◌+◌, ◌<◌, ◌≤◌, inl, inr, List, [], ◌∷◌, false, length, get_or, map, slice_set, subst, true, Option, Some, None, refl, sym, ap, ◌∙◌, arith, length-set, get_or-set_other, get_or-set_same, ltb}
-use Rattle.std.proofs.lemmas.Bool.{cases_eq, cases_lt, le-ltb}
+use Rattle.std.proofs.Common.{◌≡◌, ◌≢◌, ℕ, ◌+◌, ◌<◌, ◌≤◌, inl, inr, List, [], ◌∷◌, false, length, get_or, map, slice_set, subst, true, Option, Some, None, refl, sym, ap, ◌∙◌, arith, length-set, get_or-set_other, get_or-set_same, eqb}
+use Rattle.std.proofs.lemmas.Bool.{cases_eq}
 use Rattle.std.proofs.lemmas.List.{length-map}
 use Rattle.std.specs.List.{flat_map, refill}
 use Rattle.std.specs.Prelude.{Bool, is_some, not, unwrap_or, ◌||◌}
@@ -23,17 +23,14 @@ use Rattle.unixmodel.specs.Translation as translation
 use Rattle.vm.specs.declared.Space.{Space}
 use Rattle.vm.specs.Shares as shares
 use Rattle.vm.specs.Shares.{AllUntouched, IsMachine}
-use Rattle.vm.proofs.SharesLemmas.{Trades-give, Trades-take, Trades-write, rest-held, rest-machine, rest-untouched}
+use Rattle.vm.proofs.SharesLemmas.{Trades-write, rest-held, rest-machine, rest-untouched}
 
 -- ---- the frame of a pipe
 
 -- it isn't free, and one of the memory's
 pub pipe-frame : {T : Type 0} (held : T → translation.Held) (i : Inside T) (q : ℕ) (p : Pipe) → IsSpaces held i → slot i.pipes.items q ≡ Some p → (p.frame < length i.ram) × (among p.frame (free_of i.ram i.frames) ≡ false)
 pipe-frame held i q p is e =
-    let some = rest-held i.ram i.frames i.places.items (pipe_frames i.pipes.items) p.frame is.machine (pipe-held i.pipes.items q p e) in
-    let sum = holders-free i.ram i.frames is.machine.free p.frame in
-    let inside : p.frame < length i.ram = elim (cases_lt p.frame (length i.ram)) [ inl low ↦ low | inr high ↦ absurd (omega (arith, some, sum, ap one_if (le-ltb p.frame (length i.ram) high))) ] in
-    (inside, among-none p.frame (free_of i.ram i.frames) (omega (arith, some, sum, one_if-le (ltb p.frame (length i.ram)))))
+    held-inside i.ram i.frames p.frame is.machine.free (rest-held i.ram i.frames i.places.items (pipe_frames i.pipes.items) p.frame is.machine (pipe-held i.pipes.items q p e))
 
 -- the other pipes keep their bytes
 pipe-others : (m k : List (List ℕ)) (s n : Frames) (places : List (Option Space)) (ps : List (Option Pipe)) (q : ℕ) (new : List ℕ) → IsMachine m s places (pipe_frames ps) → Trades m k s n (frames_at (slot ps q)) new
@@ -51,7 +48,7 @@ runs-kept held m k root places (Some at) all run = record {
   space = run.space;
   stands = run.stands;
   same = run.same;
-  coherent = rw (all at run.space run.stands).mapping run.coherent;
+  coherent = rw (all at run.space run.stands).entries run.coherent;
 }
 
 shown-all : (m k : List (List ℕ)) (places : List (Option Space)) → AllUntouched m k places → map (shown k) places ≡ map (shown m) places
@@ -74,6 +71,10 @@ pub record Piped {T : Type 0} (held : T → translation.Held) (i j : Inside T) (
 pub piped-as : {T : Type 0} (held : T → translation.Held) (i j : Inside T) (q : ℕ) (y z : Option (List ℕ)) → Piped held i j q y → y ≡ z → Piped held i j q z
 piped-as held i j q y z p e = subst (λ (o : Option (List ℕ)). Piped held i j q o) e p
 
+one-each : (y : Option Pipe) → (f : ℕ) → count_of f (frames_at y) ≤ 1
+one-each None f = omega arith
+one-each (Some p) f = omega (arith, one_if-le (eqb f p.frame))
+
 pub piped : {T : Type 0} (held : T → translation.Held) (i : Inside T) (q : ℕ) (y : Option Pipe) (k : List (List ℕ)) (n : Frames) (qs : List (Option Pipe))
     → IsSpaces held i → q < length i.pipes.items → qs ≡ slice_set i.pipes.items q y → IsFreeList k n
     → Trades i.ram k i.frames n (frames_at (slot i.pipes.items q)) (frames_at y) → ((p : Pipe) → y ≡ Some p → IsOpen p)
@@ -82,7 +83,7 @@ piped held i q y k n qs is hi e free trades here =
     let ps = i.pipes.items in
     let all = rest-untouched i.ram k i.frames n i.places.items (pipe_frames ps) (frames_at (slot ps q)) (frames_at y) is.machine (λ f. one-pipe f ps q) trades in
     let sound : IsSpaces held (record i { ram = k; frames = n; pipes = record { items = qs } }) = record {
-      machine = rw e (rest-machine i.ram k i.frames n i.places.items (pipe_frames ps) (pipe_frames (slice_set ps q y)) (frames_at (slot ps q)) (frames_at y) is.machine free (λ f. one-pipe f ps q) trades (λ f. set-pipe f ps q y hi));
+      machine = rw e (rest-machine i.ram k i.frames n i.places.items (pipe_frames ps) (pipe_frames (slice_set ps q y)) (frames_at (slot ps q)) (frames_at y) is.machine free (λ f. one-pipe f ps q) trades (one-each y) (λ f. set-pipe f ps q y hi));
       all = is.all;
       active = runs-kept (held i.translator) i.ram k i.hart.root.0 i.places.items i.active all is.active;
       inside = λ x h. let old = is.inside x h in let count = trades.count in omega (arith, old, count);
@@ -100,20 +101,20 @@ piped held i q y k n qs is hi e free trades here =
 -- a pipe comes
 piped-new : {T : Type 0} (held : T → translation.Held) (i : Inside T) (q : ℕ) (p : Pipe) (f : ℕ) (n : Frames) (qs : List (Option Pipe))
     → IsSpaces held i → q < length i.pipes.items → slot i.pipes.items q ≡ None → qs ≡ slice_set i.pipes.items q (Some p)
-    → IsFreeList i.ram n → free_of i.ram i.frames ≡ f ∷ free_of i.ram n → p.frame ≡ f → IsOpen p → bytes_of i.ram p ≡ []
+    → IsFreeList i.ram n → free_of i.ram i.frames ≡ f ∷ free_of i.ram n → extra_of n ≡ extra_of i.frames → p.frame ≡ f → IsOpen p → bytes_of i.ram p ≡ []
     → Piped held i (record i { frames = n; pipes = record { items = qs } }) q (Some [])
-piped-new held i q p f n qs is hi none e free taken frame opens empty =
-    let trades : Trades i.ram i.ram i.frames n (frames_at (slot i.pipes.items q)) (frames_at (Some p)) = rw (none, frame) (Trades-take i.ram i.frames n f is.machine.free free taken) in
+piped-new held i q p f n qs is hi none e free taken extra frame opens empty =
+    let trades : Trades i.ram i.ram i.frames n (frames_at (slot i.pipes.items q)) (frames_at (Some p)) = rw (none, frame) (Trades-take i.ram i.frames n f is.machine.free free taken extra) in
     piped-as held i (record i { frames = n; pipes = record { items = qs } }) q (pipe_shown i.ram (Some p)) (Some [])
     (piped held i q (Some p) i.ram n qs is hi e free trades (λ z at. (let same : p ≡ z = cc in subst (λ (z : Pipe). IsOpen z) same opens))) (ap Some empty)
 
 -- a pipe goes
 pub piped-gone : {T : Type 0} (held : T → translation.Held) (i : Inside T) (q : ℕ) (p : Pipe) (k : List (List ℕ)) (n : Frames) (qs : List (Option Pipe))
     → IsSpaces held i → slot i.pipes.items q ≡ Some p → qs ≡ slice_set i.pipes.items q None
-    → IsFreeList k n → free_of k n ≡ p.frame ∷ free_of i.ram i.frames → SameBut (p.frame ∷ []) i.ram k
+    → IsFreeList k n → ((f : ℕ) → holders_of k n f + count_of f (p.frame ∷ []) ≡ holders_of i.ram i.frames f) → SameBut (p.frame ∷ []) i.ram k → (0 < further_at i.frames p.frame → k ≡ i.ram)
     → Piped held i (record i { ram = k; frames = n; pipes = record { items = qs } }) q None
-piped-gone held i q p k n qs is at e free given same =
-    let trades : Trades i.ram k i.frames n (frames_at (slot i.pipes.items q)) [] = rw at (Trades-give i.ram k i.frames n p.frame is.machine.free free given same) in
+piped-gone held i q p k n qs is at e free given same stays =
+    let trades : Trades i.ram k i.frames n (frames_at (slot i.pipes.items q)) [] = rw at (Trades-give i.ram k i.frames n p.frame is.machine.free given same stays (rest-held i.ram i.frames i.places.items (pipe_frames i.pipes.items) p.frame is.machine (pipe-held i.pipes.items q p at))) in
     piped held i q None k n qs is (within i.pipes.items q p at) e free trades (λ z bad. absurd (let no : None ≡ Some z = bad in cc))
 
 -- a pipe changes, and keeps its frame and its ends
@@ -125,7 +126,7 @@ pub piped-written : {T : Type 0} (held : T → translation.Held) (i : Inside T) 
     → Piped held i (record i { ram = k; pipes = record { items = qs } }) q (Some (bytes_of k z))
 piped-written held i q p z k w qs is at e stays wrote =
     let some = rest-held i.ram i.frames i.places.items (pipe_frames i.pipes.items) p.frame is.machine (pipe-held i.pipes.items q p at) in
-    let both = Trades-write i.ram k i.frames p.frame w is.machine.free some wrote in
+    let both = Trades-write i.ram k i.frames p.frame w is.machine.free some (is.machine.alone p.frame (pipe-held i.pipes.items q p at)) wrote in
     let trades : Trades i.ram k i.frames i.frames (frames_at (slot i.pipes.items q)) (frames_at (Some z)) = rw (at, stays.frame) both.0 in
     piped held i q (Some z) k i.frames qs is (within i.pipes.items q p at) e both.1 trades (λ x here. (let same : z ≡ x = cc in subst (λ (x : Pipe). IsOpen x) same (open-stays p z stays (is.both q p at))))
 
@@ -153,10 +154,10 @@ pub pipes-count : {T : Type 0} (i : Inside T) → length (spaces_of i).pipes ≡
 pipes-count i = length-map i.pipes.items (pipe_shown i.ram)
 
 -- no frame is left for a pipe
-over-piped : {T : Type 0} (held : T → translation.Held) (i : Inside T) (q : ℕ) → IsSpaces held i → q < length i.pipes.items → slot (spaces_of i).pipes q ≡ None → free_of i.ram i.frames ≡ [] → length i.ram < taken_frames (with_pipe (spaces_of i) q (Some []))
+over-piped : {T : Type 0} (held : T → translation.Held) (i : Inside T) (q : ℕ) → IsSpaces held i → q < length i.pipes.items → slot (spaces_of i).pipes q ≡ None → free_count i.ram i.frames ≡ 0 → length i.ram < taken_frames (with_pipe (spaces_of i) q (Some []))
 over-piped held i q is hi none full =
     let more = taken-piped (spaces_of i) q [] (rw (pipes-count i) hi) none in
-    omega (arith, free-taken held i is, ap length full, more)
+    omega (arith, free-taken held i is, full, more)
 
 -- a place that has a pipe is one of those there are, and one that has none is free
 pipe-within : {T : Type 0} (i : Inside T) (q : ℕ) → has_pipe (spaces_of i) q ≡ true → q < length i.pipes.items
@@ -178,14 +179,14 @@ free-place : {T : Type 0} (held : T → translation.Held) (i : Inside T) (q : �
 free-place held i q is low free = (let all = is.pipes in omega (arith, low, all), none-pipe (slot (spaces_of i).pipes q) free)
 
 pub piped-there : {T : Type 0} (held : T → translation.Held) (i : Inside T) (q : ℕ) (p : Pipe) (f : ℕ) (n : Frames) (xs : List (Option Pipe))
-    → IsSpaces held i → q < 100 → has_pipe (spaces_of i) q ≡ false → xs ≡ i.pipes.items → IsFreeList i.ram n → free_of i.ram i.frames ≡ f ∷ free_of i.ram n → p.frame ≡ f → IsOpen p → bytes_of i.ram p ≡ []
+    → IsSpaces held i → q < 100 → has_pipe (spaces_of i) q ≡ false → xs ≡ i.pipes.items → IsFreeList i.ram n → free_of i.ram i.frames ≡ f ∷ free_of i.ram n → extra_of n ≡ extra_of i.frames → p.frame ≡ f → IsOpen p → bytes_of i.ram p ≡ []
     → Piped held i (record i { frames = n; pipes = record { items = refill (length i.pipes.items) i.pipes.items (slice_set xs q (Some p)) } }) q (Some [])
-piped-there held i q p f n xs is low free same valid taken frame opens empty =
+piped-there held i q p f n xs is low free same valid taken extra frame opens empty =
     let place = free-place held i q is low free in
-    piped-new held i q p f n _ is place.0 (pipe-none i q place.1) (pipe-refilled i.pipes.items xs q (Some p) (Some p) same refl) valid taken frame opens empty
+    piped-new held i q p f n _ is place.0 (pipe-none i q place.1) (pipe-refilled i.pipes.items xs q (Some p) (Some p) same refl) valid taken extra frame opens empty
 
 -- or no frame is left for it
-pub over-free : {T : Type 0} (held : T → translation.Held) (i : Inside T) (q : ℕ) → IsSpaces held i → q < 100 → has_pipe (spaces_of i) q ≡ false → free_of i.ram i.frames ≡ [] → length i.ram < taken_frames (with_pipe (spaces_of i) q (Some []))
+pub over-free : {T : Type 0} (held : T → translation.Held) (i : Inside T) (q : ℕ) → IsSpaces held i → q < 100 → has_pipe (spaces_of i) q ≡ false → free_count i.ram i.frames ≡ 0 → length i.ram < taken_frames (with_pipe (spaces_of i) q (Some []))
 over-free held i q is low free full = let place = free-place held i q is low free in over-piped held i q is place.0 place.1 full
 
 -- an end that is open is no reason to go on

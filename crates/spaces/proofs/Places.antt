@@ -15,6 +15,7 @@ use Rattle.unixmodel.specs.Translation as translation
 use Rattle.vm.specs.declared.Space.{Space}
 use Rattle.vm.specs.Dense.{frames_for}
 use Rattle.vm.proofs.PageLemmas.{length-mapping}
+use Rattle.vm.specs.Leaf.{right_marks}
 use Rattle.vm.specs.Shares.{frames_used}
 use Rattle.vm.proofs.SharesLemmas.{free-left}
 use Rattle.vm.specs.Space.{mapping_of, pages_in, pages_of}
@@ -70,7 +71,7 @@ pub frames_for-pages : (n : ℕ) → frames_for n ≡ 4 + page_frames n
 frames_for-pages n = omega (arith, one_if-if (nat_lt 0 n))
 
 pub length-pages_of : (m : List (List ℕ)) (x : Space) → length (pages_of m x) ≡ pages_in x.size
-length-pages_of m x = length-map (mapping_of m x) _ ∙ length-mapping m x.root.0 (pages_in x.size)
+length-pages_of m x = length-map (mapping_of m x) _ ∙ length-mapping right_marks m x.root.0 (pages_in x.size)
 
 pub frames-shown : (m : List (List ℕ)) (x : Space) → frames_in (shown m (Some x)) ≡ frames_for (pages_in x.size)
 frames-shown m x = ap (λ n. 4 + page_frames n) (length-pages_of m x) ∙ sym (frames_for-pages (pages_in x.size))

@@ -11,24 +11,25 @@ use Rattle.spaces.proofs.Pipes.{pipes-beside}
 use Rattle.spaces.proofs.Places.{frames-shown, frames_for-pages, free-is, free-taken, length-pages_of, places-count, slot-is, taken-fits}
 use Rattle.arrayvec.proofs.ArrayVecLemmas.{items-with_items}
 use Rattle.std.specs.List.{refill}
-use Rattle.std.proofs.Common.{◌≡◌, ◌≢◌, ℕ, zero, suc, ◌+◌, ◌-◌, ◌<◌, ◌≤◌, ◌⊎◌, inl, inr, List, [], ◌∷◌, false, length, get_or, map, replicate, slice_set, subst, take, Option, Some, None, Result, Ok, Err, refl, sym, ap, ◌∙◌, arith, length-append, length-set, get_or-set_other, get_or-set_same}
+use Rattle.std.proofs.Common.{◌≡◌, ◌≢◌, ℕ, zero, suc, ◌+◌, ◌-◌, ◌<◌, ◌≤◌, ◌⊎◌, inl, inr, List, [], ◌∷◌, ◌++◌, false, length, get_or, map, replicate, slice_set, subst, take, Option, Some, None, Result, Ok, Err, refl, sym, ap, ◌∙◌, arith, length-append, length-set, get_or-set_other, get_or-set_same}
 use Rattle.std.proofs.lemmas.Bool.{cases_eq}
 use Rattle.std.proofs.lemmas.List.{length-replicate, set-get_or, take_all}
 use Rattle.std.specs.Prelude.{OnErr, OnOk}
-use Rattle.sv39.specs.Mapping.{IsCoherent, Mapped}
+use Rattle.sv39.specs.Mapping.{IsCoherent, Mapped, coherent-nothing}
 use Rattle.unixmodel.specs.Files.{slot}
 use Rattle.unixmodel.specs.Translation as translation
-use Rattle.unixmodel.specs.Translation.{Translation, HoldsInside}
+use Rattle.unixmodel.specs.Translation.{Translation, HoldsNothing}
 use Rattle.unixmodel.specs.Counts.{page_frames}
 use Rattle.unixmodel.specs.Memory.{Marks, Memory, zero_page}
 use Rattle.vm.specs.declared.Space.{Space}
 use Rattle.vm.specs.declared.VmFault.{VmFault}
 use Rattle.vm.specs.Dense.{frames_for}
 use Rattle.vm.proofs.PageLemmas.{length-mapping}
+use Rattle.vm.specs.Leaf.{entry_marks}
 use Rattle.vm.specs.Shares as shares
-use Rattle.vm.specs.Shares.{IsMachine, IsPlace, OthersUntouched}
-use Rattle.vm.proofs.SharesLemmas.{trade-machine, trade-others}
-use Rattle.vm.specs.Space.{IsSpace, IsUntouched, Stands, holds, mapping_of, pages_in, pages_of}
+use Rattle.vm.specs.Shares.{IsPlace, OthersUntouched}
+use Rattle.vm.proofs.SharesLemmas.{fork-machine, trade-machine, trade-others}
+use Rattle.vm.specs.Space.{IsSpace, IsUntouched, Reframes, holds, entries_of, pages_in, pages_of}
 
 -- a write of one place through the slice of all
 pub refilled : (xs ys : List (Option Space)) (at : ℕ) (y z : Option Space) → ys ≡ xs → z ≡ y → refill (length xs) xs (slice_set ys at z) ≡ slice_set xs at y
@@ -68,14 +69,14 @@ coherent-fewer old new root mapping fewer is = record { walks = λ t h same. is.
 
 -- the space of the active place changes, and keeps its root
 pub runs-changed : (old new : translation.Held) (m k : List (List ℕ)) (root : ℕ) (places : List (Option Space)) (at : ℕ) (x z : Space) → at < length places → slot places at ≡ Some x → z.root ≡ x.root
-    → (IsCoherent old x.root.0 (mapping_of m x) → IsCoherent new x.root.0 (mapping_of k z))
+    → (IsCoherent old x.root.0 (entries_of m x) → IsCoherent new x.root.0 (entries_of k z))
     → Runs old m root places at → Runs new k root (slice_set places at (Some z)) at
 runs-changed old new m k root places at x z hi e same coherent run =
     let both : Some run.space ≡ Some x = sym run.stands ∙ e in
     let is : run.space ≡ x = cc in
     let root_is : z.root.0 ≡ x.root.0 = ap (λ (r : FrameNo). r.0) same in
-    let was : IsCoherent old x.root.0 (mapping_of m x) = subst (λ (d : Space). IsCoherent old d.root.0 (mapping_of m d)) is run.coherent in
-    let now : IsCoherent new z.root.0 (mapping_of k z) = subst (λ (r : ℕ). IsCoherent new r (mapping_of k z)) (sym root_is) (coherent was) in
+    let was : IsCoherent old x.root.0 (entries_of m x) = subst (λ (d : Space). IsCoherent old d.root.0 (entries_of m d)) is run.coherent in
+    let now : IsCoherent new z.root.0 (entries_of k z) = subst (λ (r : ℕ). IsCoherent new r (entries_of k z)) (sym root_is) (coherent was) in
     record {
       space = z;
       stands = get_or-set_same places at (Some z) None hi;
@@ -96,7 +97,7 @@ active-placed old new m k root places at y (Some j) others fewer here run = elim
         space = run.space;
         stands = get_or-set_other places at j y None ne ∙ run.stands;
         same = run.same;
-        coherent = rw stays.mapping (coherent-fewer old new run.space.root.0 (mapping_of m run.space) fewer run.coherent);
+        coherent = rw stays.entries (coherent-fewer old new run.space.root.0 (entries_of m run.space) fewer run.coherent);
       }
 ]
 
@@ -157,6 +158,58 @@ settled-there held i at z k n xs y is low free same space trades shows =
     placed-as held i _ at (shown k (Some z)) y
     (settled held i at z k n _ is place.0 place.1 (refilled i.places.items xs at (Some z) (Some z) same refl) space trades) shows
 
+-- ---- a place gets a space that shares the frames of another one's
+
+shown-forked : (m k : List (List ℕ)) (places : List (Option Space)) (from to : ℕ) (x z : Space) → slot places from ≡ Some x → pages_of k x ≡ pages_of m x → OthersUntouched m k places from
+    → map (shown k) (slice_set places to (Some z)) ≡ slice_set (map (shown m) places) to (shown k (Some z))
+shown-forked m k places from to x z stands pages others = map-placed (shown m) (shown k) places to (Some z) (λ j ne. elim (cases_eq j from) [
+  | inl same ↦
+      let at : slot places j ≡ Some x = ap (slot places) same ∙ stands in
+      ap (shown k) at ∙ shown-as k x (pages_of m x) x.size pages refl ∙ sym (ap (shown m) at)
+  | inr other ↦ same-shown m k (slot places j) (λ y e. others j y other e)
+])
+
+active-forked : (old new : translation.Held) (m k : List (List ℕ)) (root : ℕ) (places : List (Option Space)) (from to : ℕ) (y : Option Space) (a : Option ℕ) → slot places to ≡ None → OthersUntouched m k places from → ((t : Translation) → new t → old t)
+    → (a ≡ Some from → HoldsNothing new) → IsActive old m root places a → IsActive new k root (slice_set places to y) a
+active-forked old new m k root places from to y None none others fewer fenced run = tt
+active-forked old new m k root places from to y (Some j) none others fewer fenced run =
+    let apart : j ≢ to = λ (e : j ≡ to). let bad : None ≡ Some run.space = sym none ∙ ap (slot places) (sym e) ∙ run.stands in cc in
+    let stands = get_or-set_other places to j y None apart ∙ run.stands in
+    elim (cases_eq j from) [
+      | inl same ↦ record { space = run.space; stands = stands; same = run.same; coherent = coherent-nothing new run.space.root.0 (entries_of k run.space) (fenced (ap Some same)) }
+      | inr ne ↦
+          let stays = others j run.space ne run.stands in
+          record { space = run.space; stands = stands; same = run.same; coherent = rw stays.entries (coherent-fewer old new run.space.root.0 (entries_of m run.space) fewer run.coherent) }
+    ]
+
+pub shared-there : {T : Type 0} (held : T → translation.Held) (i : Inside T) (from to : ℕ) (x z : Space) (k : List (List ℕ)) (n : Frames) (t : T) (xs : List (Option Space)) (y : Option Held)
+    → IsSpaces held i → to < 64 → has_space (spaces_of i) to ≡ false → xs ≡ i.places.items → slot i.places.items from ≡ Some x → IsSpace k x n → IsSpace k z n → Trades i.ram k i.frames n (holds i.ram x) (holds k x ++ holds k z) → pages_of k x ≡ pages_of i.ram x
+    → ((u : Translation) → held t u → held i.translator u) → (i.active ≡ Some from → HoldsNothing (held t)) → shown k (Some z) ≡ y
+    → Placed held i (record i { ram = k; frames = n; translator = t; places = record { items = refill (length i.places.items) i.places.items (slice_set xs to (Some z)) } }) to y
+shared-there held i from to x z k n t xs y is low free same stands parent child trades pages fewer fenced shows =
+    let place = free-place held i to is low free in
+    let q = refill (length i.places.items) i.places.items (slice_set xs to (Some z)) in
+    let e : q ≡ slice_set i.places.items to (Some z) = refilled i.places.items xs to (Some z) (Some z) same refl in
+    let first : Trades i.ram k i.frames n (shares.held_at i.ram (slot i.places.items from)) (holds k x ++ holds k z) = rw stands trades in
+    let others = trade-others i.ram k i.frames n i.places.items (pipe_frames i.pipes.items) (holds k x ++ holds k z) from is.machine first in
+    let sound : IsSpaces held (record i { ram = k; frames = n; translator = t; places = record { items = q } }) = record {
+      machine = rw e (fork-machine i.ram k i.frames n i.places.items (pipe_frames i.pipes.items) from to x z is.machine stands place.0 place.1 parent child trades);
+      all = ap length e ∙ length-set i.places.items to (Some z) ∙ is.all;
+      active = rw e (active-forked (held i.translator) (held t) i.ram k i.hart.root.0 i.places.items from to (Some z) i.active place.1 others fewer fenced is.active);
+      inside = λ v h. let old = is.inside v (fewer v h) in let count = trades.count in omega (arith, old, count);
+      pipes = is.pipes;
+      both = is.both;
+    } in
+    let view : spaces_of (record i { ram = k; frames = n; translator = t; places = record { items = q } }) ≡ with_place (spaces_of i) to (shown k (Some z)) =
+    rw (e, shown-forked i.ram k i.places.items from to x z stands pages others, pipes-beside i.ram k i.frames n i.places.items i.pipes.items (holds k x ++ holds k z) from is.machine first, trades.count) refl in
+    placed-as held i (record i { ram = k; frames = n; translator = t; places = record { items = q } }) to (shown k (Some z)) y
+    (record {
+      sound = sound;
+      view = view;
+      fits = omega (arith, ap taken_frames view, taken-fits held (record i { ram = k; frames = n; translator = t; places = record { items = q } }) sound, trades.count);
+    })
+    shows
+
 -- a place that isn't the active one loses its space
 pub destroyed : {T : Type 0} (held : T → translation.Held) (i : Inside T) (at : ℕ) (x : Space) (k : List (List ℕ)) (n : Frames) (q : List (Option Space))
     → IsSpaces held i → slot i.places.items at ≡ Some x → i.active ≢ Some at → q ≡ slice_set i.places.items at None → IsFreeList k n → Trades i.ram k i.frames n (holds i.ram x) []
@@ -168,25 +221,24 @@ destroyed held i at x k n q is stands idle e free trades =
 pub changed : {T : Type 0} (held : T → translation.Held) (i : Inside T) (at : ℕ) (x z : Space) (k : List (List ℕ)) (n : Frames) (t : T) (q : List (Option Space))
     → IsSpaces held i → slot i.places.items at ≡ Some x → q ≡ slice_set i.places.items at (Some z) → IsSpace k z n → Trades i.ram k i.frames n (holds i.ram x) (holds k z) → z.root ≡ x.root
     → ((u : Translation) → held t u → held i.translator u)
-    → (i.active ≡ Some at → IsCoherent (held i.translator) x.root.0 (mapping_of i.ram x) → IsCoherent (held t) x.root.0 (mapping_of k z))
+    → (i.active ≡ Some at → IsCoherent (held i.translator) x.root.0 (entries_of i.ram x) → IsCoherent (held t) x.root.0 (entries_of k z))
     → Placed held i (record i { ram = k; frames = n; translator = t; places = record { items = q } }) at (shown k (Some z))
 changed held i at x z k n t q is stands e space trades root fewer coherent =
     let hi = within i.places.items at x stands in
     traded held i at (Some z) k n t q is hi e space (rw stands trades) fewer
     (λ a run. runs-changed (held i.translator) (held t) i.ram k i.hart.root.0 i.places.items at x z hi stands root (coherent a) run)
 
--- pages of a space are written
-pub stood : {T : Type 0} (held : T → translation.Held) (i : Inside T) (at : ℕ) (x : Space) (k : List (List ℕ)) → IsSpaces held i → slot i.places.items at ≡ Some x → Stands i.ram k x
-    → Placed held i (record i { ram = k }) at (shown k (Some x))
-stood held i at x k is e stands =
-    let space = is.machine.each at x e in
-    changed held i at x x k i.frames i.translator i.places.items is e (same-place i.places.items at x e) (stands.space i.frames space) (stands.trades i.frames space) refl (λ u h. h) (λ a was. rw stands.mapping was)
+-- pages of a space are written, and may have other frames: then nothing is held for the active place
+pub reframed : {T : Type 0} (held : T → translation.Held) (i : Inside T) (at : ℕ) (x : Space) (k : List (List ℕ)) (n : Frames) (t : T) → IsSpaces held i → slot i.places.items at ≡ Some x → Reframes i.ram k x i.frames n
+    → ((u : Translation) → held t u → held i.translator u) → (i.active ≡ Some at → HoldsNothing (held t)) → Placed held i (record i { ram = k; frames = n; translator = t }) at (shown k (Some x))
+reframed held i at x k n t is e r fewer fenced =
+    changed held i at x x k n t i.places.items is e (same-place i.places.items at x e) r.space r.trades refl fewer (λ a was. coherent-nothing (held t) x.root.0 (entries_of k x) (fenced a))
 
 -- and show this memory then
-pub stood-showing : {T : Type 0} (held : T → translation.Held) (i : Inside T) (at : ℕ) (x : Space) (k : List (List ℕ)) (memory : Memory) → IsSpaces held i → slot i.places.items at ≡ Some x → Stands i.ram k x → pages_of k x ≡ memory
-    → Placed held i (record i { ram = k }) at (Some (held_with memory x.size))
-stood-showing held i at x k memory is e stands pages =
-    placed-as held i (record i { ram = k }) at (shown k (Some x)) (Some (held_with memory x.size)) (stood held i at x k is e stands) (shown-as k x memory x.size pages refl)
+pub reframed-showing : {T : Type 0} (held : T → translation.Held) (i : Inside T) (at : ℕ) (x : Space) (k : List (List ℕ)) (n : Frames) (t : T) (memory : Memory) → IsSpaces held i → slot i.places.items at ≡ Some x → Reframes i.ram k x i.frames n
+    → ((u : Translation) → held t u → held i.translator u) → (i.active ≡ Some at → HoldsNothing (held t)) → pages_of k x ≡ memory → Placed held i (record i { ram = k; frames = n; translator = t }) at (Some (held_with memory x.size))
+reframed-showing held i at x k n t memory is e r fewer fenced pages =
+    placed-as held i (record i { ram = k; frames = n; translator = t }) at (shown k (Some x)) (Some (held_with memory x.size)) (reframed held i at x k n t is e r fewer fenced) (shown-as k x memory x.size pages refl)
 
 -- nothing changed
 pub view-same : {T : Type 0} (i : Inside T) (at : ℕ) (x : Space) (k : List (List ℕ)) (n : Frames) (z : Space) (q : List (Option Space)) → (k ≡ i.ram) × (n ≡ i.frames) × (z ≡ x) → slot i.places.items at ≡ Some x
@@ -206,9 +258,9 @@ shown-bare k z e = shown-as k z [] 0 (empty-list (pages_of k z) (length-pages_of
 
 -- the first pages of a space that grew, or didn't, are mapped as they were
 pub grown-front : (m k : List (List ℕ)) (s n : Frames) (x z : Space) (r : Result (Unit {0}) VmFault)
-    → OnOk r (take (pages_in x.size) (mapping_of k z) ≡ mapping_of m x) → OnErr r ((k ≡ m) × (n ≡ s) × (z ≡ x)) → take (length (mapping_of m x)) (mapping_of k z) ≡ mapping_of m x
-grown-front m k s n x z (Ok u) front same = rw (length-mapping m x.root.0 (pages_in x.size)) front
-grown-front m k s n x z (Err f) front same = rw (same.0, same.2) (take_all (length (mapping_of m x)) (mapping_of m x) (omega arith))
+    → OnOk r (take (pages_in x.size) (entries_of k z) ≡ entries_of m x) → OnErr r ((k ≡ m) × (n ≡ s) × (z ≡ x)) → take (length (entries_of m x)) (entries_of k z) ≡ entries_of m x
+grown-front m k s n x z (Ok u) front same = rw (length-mapping entry_marks m x.root.0 (pages_in x.size)) front
+grown-front m k s n x z (Err f) front same = rw (same.0, same.2) (take_all (length (entries_of m x)) (entries_of m x) (omega arith))
 
 -- ---- refusals
 

@@ -27,6 +27,17 @@ pub record Spaces : Type 0 where
   -- 100 of them, each free or with the bytes of a pipe, the oldest first
   pub pipes : List (Option (List ℕ))
 
+-- no space and no pipe over so many frames
+abbrev pub no_spaces : ℕ → Spaces
+no_spaces frames = record {
+  places = replicate 64 None;
+  active = None;
+  registers = replicate 32 0;
+  pc = 0;
+  frames = frames;
+  pipes = replicate 100 None;
+}
+
 -- ---- places
 
 abbrev pub has_space : Spaces → ℕ → Bool

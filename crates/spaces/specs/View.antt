@@ -12,7 +12,7 @@ use Rattle.unixmodel.specs.Translation as translation
 use Rattle.unixmodel.specs.Translation.{HoldsInside}
 use Rattle.vm.specs.declared.Space.{Space}
 use Rattle.vm.specs.Shares.{IsMachine}
-use Rattle.vm.specs.Space.{mapping_of, pages_of}
+use Rattle.vm.specs.Space.{entries_of, pages_of}
 
 abbrev pub held_with : Memory → ℕ → Held
 held_with memory size = record { memory = memory; size = size }
@@ -50,7 +50,7 @@ pub record Runs (held : translation.Held) (m : List (List ℕ)) (root : ℕ) (pl
   pub space : Space
   pub stands : slot places at ≡ Some space
   pub same : root ≡ space.root.0
-  pub coherent : IsCoherent held space.root.0 (mapping_of m space)
+  pub coherent : IsCoherent held space.root.0 (entries_of m space)
 
 abbrev pub IsActive : translation.Held → List (List ℕ) → ℕ → List (Option Space) → Option ℕ → Type 0
 IsActive held m root places None = Unit {0}

@@ -6,39 +6,46 @@
 //! bytes of each pipe, the hart's registers, and how many frames there are. No frame and no table shows, and what is done
 //! to one place leaves the others as they are.
 //!
+//! Spaces may share frames: a copy has those of its source, and a page gets a frame of its own before it is written.
+//!
 //! A translator may hold translations, so it is fenced where one that it may hold for the active place goes: where
-//! another space becomes the active one, and where the active one shrinks. A space that grows or is written keeps the
-//! frames that it had, and what is held for spaces that aren't active doesn't count.
+//! another space becomes the active one, and where the active one shrinks, is copied, so that its pages are closed, or is
+//! written, so that a page may get another frame. A space that grows keeps the frames that it had, and what is held for
+//! spaces that aren't active doesn't count.
 #![tactic(auto)]
 
-ghost use Rattle.std.specs.Prelude.{◌≡◌, ◌≢◌, ◌+◌, ◌-◌, ◌++◌, ◌<◌, ◌≤◌, ◌/◌, ◌%◌, ℕ, [], Some, None, true, false, drop, length, is_some, min, nat_le, nat_lt, not, option_map, replicate, slice_get, slice_index, slice_set, take, IfSome, IfNone, Ok, Err};
+ghost use Rattle.std.specs.Prelude.{◌≡◌, ◌≢◌, ◌+◌, ◌-◌, ◌++◌, ◌<◌, ◌≤◌, ◌/◌, ◌%◌, ◌^◌, ℕ, [], All, Some, None, true, false, drop, length, is_some, min, nat_le, nat_lt, not, option_and_then, option_map, replicate, slice_get, slice_index, slice_set, take, IfOk, IfSome, IfNone, Ok, Err};
 ghost use Rattle.std.specs.Bool.{OnTrue, OnFalse};
-ghost use Rattle.spaces.specs.Spaces.{bytes_in, computed, filled, fitting, grown, has_pipe, has_space, held_at, no_pages, read_at, shrunk, taken_frames, taken_to, with_held, with_pipe, with_place, written};
+ghost use Rattle.spaces.specs.Spaces.{bytes_in, computed, filled, fitting, grown, has_pipe, has_space, held_at, no_pages, no_spaces, read_at, shrunk, taken_frames, taken_to, with_held, with_pipe, with_place, written};
 ghost use Rattle.spaces.specs.Ends.{IsOpen};
 ghost use Rattle.pipe.specs.Pipe.{Stays, bytes_of};
 ghost use Rattle.ram.specs.Memory.{frame_of};
 ghost use Rattle.unixmodel.specs.Cycle.{cycle};
 ghost use Rattle.unixmodel.specs.Files.{free_slot, slot};
 ghost use Rattle.unixmodel.specs.Meaning.{Computed};
-ghost use Rattle.unixmodel.specs.declared.trap.Access.TheVariants.{Load};
-ghost use Rattle.unixmodel.specs.Memory.{Page, can_write, reach, read_bytes};
+ghost use Rattle.unixmodel.specs.declared.trap.Access.{Access};
+ghost use Rattle.unixmodel.specs.declared.trap.Access.TheVariants.{Load, Store};
+ghost use Rattle.unixmodel.specs.declared.trap.Cause.TheVariants.{StorePageFault};
+ghost use Rattle.unixmodel.specs.Memory.{Page, page_for, can_write, path_at, reach, read_bytes, string_at};
 ghost use Rattle.unixmodel.specs.Numbers.{ceil_div};
 ghost use Rattle.unixmodel.specs.OpenFiles.{pipe_room};
-ghost use Rattle.unixmodel.specs.Shown.{ShowsMemory};
+ghost use Rattle.unixmodel.specs.Shown.{ShowsMemory, byte_at, page_byte};
 ghost use Rattle.unixmodel.specs.Turn.{is_empty};
-ghost use Rattle.unixmodel.specs.Translation.{HoldsNothing, Translation};
+ghost use Rattle.unixmodel.specs.Translation.{HoldsNothing, Translation, walk};
+ghost use Rattle.sv39.specs.Mapping.{memory_of};
 ghost use Rattle.vm.specs.Leaf.{marks_from};
-ghost use Rattle.vm.specs.Reach.{IsSized, piece_at};
-ghost use Rattle.vm.specs.Space.{IsMapped, pages_of};
+ghost use Rattle.vm.specs.Reach.{IsSized, piece_at, short_string};
+ghost use Rattle.vm.specs.Space.{IsMapped, entries_of, pages_in, pages_of};
 
 use arrayvec::ArrayVec;
 use frames::Frames;
 use hart::Hart;
 use pipe::Pipe;
-use ram::{FRAME_SIZE, FrameNo, Ram};
+use ram::{FRAME_SIZE, FrameNo, NoMemory, Ram};
+use std::alloc::Global;
 use std::marker::Model;
 use sv39::Translate;
-use unixmodel::trap::Trap;
+use unixmodel::trap::{Access, Cause, Trap};
 use vm::{Perm, Space};
 
 /// How many places there are.
@@ -87,10 +94,26 @@ fn fence_active<T: Translate>(translator: &mut T, active: Option<usize>, at: usi
 // The root of a space, from which walks reach its pages.
 fn root_of(space: &Space, ram: &Ram) -> FrameNo
     requires { IsMapped ram.now space.now }
-    ensures { ShowsMemory ram.now result.0 (pages_of ram.now space.now) }
+    ensures { (va : ℕ) (access : Access) → va < 2 ^ 64 → option_and_then (byte_at ram.now) (walk ram.now result.0 va access) ≡ page_byte (memory_of ram.now (entries_of ram.now space.now)) va access }
 {
     space.walks(ram);
     space.root()
+}
+
+// The page of a store that faulted, where the program of the space may write it by right.
+fn closed_page(space: &Space, ram: &Ram, trap: Trap) -> Option<u64>
+    requires { IsMapped ram.now space.now }
+    ensures some { IfSome result (λ page. (trap.cause ≡ StorePageFault) × (page ≡ trap.address / 4096) × (page < pages_in space.now.size)) }
+    ensures none { IfNone result (trap.cause ≡ StorePageFault → page_for Store (pages_of ram.now space.now) trap.address ≡ None) }
+{
+    let Cause::StorePageFault = trap.cause else {
+        return None;
+    };
+    let page = trap.address / 4096;
+    match space.find_page(ram, page) {
+        Some((_, perm)) if perm.permits(Access::Store) => Some(page),
+        _ => None,
+    }
 }
 
 // The space of a place that has one.
@@ -164,14 +187,16 @@ fn all_of(registers: &[u64; 32])
 
 impl<T: Translate + Drop> Spaces<T> {
     /// No spaces over a memory; the hart's registers are 0. The translator is fenced: it may hold anything.
-    pub fn new(ram: Ram, translator: T) -> Spaces<T>
-        ensures { result ≡ record { places = replicate 64 None; active = None; registers = replicate 32 0; pc = 0; frames = length ram; pipes = replicate 100 None } }
+    ///
+    /// It takes 2 bytes a frame of the host: `NoMemory` where it has none for them.
+    pub fn new(alloc: Global, ram: Ram, translator: T) -> Result<Spaces<T>, NoMemory>
+        ensures { IfOk result (λ s. s ≡ no_spaces (length ram)) }
     {
         let mut ram = ram;
         let mut translator = translator;
         translator.fence();
-        let frames = Frames::new(&mut ram);
-        Spaces {
+        let frames = Frames::new(alloc, &mut ram)?;
+        Ok(Spaces {
             ram,
             frames,
             translator,
@@ -183,7 +208,7 @@ impl<T: Translate + Drop> Spaces<T> {
             },
             active: None,
             pipes: ArrayVec::from_array_in((), [None; 100]),
-        }
+        })
     }
 
     /// How many frames are free.
@@ -296,6 +321,9 @@ impl<T: Translate + Drop> Spaces<T> {
 
     /// Makes a space in a free place with the pages of another place's. `false`: the frames don't suffice; then nothing
     /// changed.
+    ///
+    /// The two share their frames, each page counted in full. The other place's pages are closed then, so there is a fence
+    /// where it is the active one.
     pub fn copy(&mut self, from: usize, to: usize) -> bool
         requires from { has_space self.old from ≡ true }
         requires inside { to < 64 }
@@ -307,6 +335,7 @@ impl<T: Translate + Drop> Spaces<T> {
         match space.copy(&mut self.ram, &mut self.frames) {
             Ok(space) => {
                 self.places[to] = Some(space);
+                fence_active(&mut self.translator, self.active, from);
                 true
             }
             Err(_) => false,
@@ -364,7 +393,8 @@ impl<T: Translate + Drop> Spaces<T> {
         ensures { self.new ≡ with_held self.old at (written (held_at self.old at) address bytes.now) }
     {
         let space = space_at(&self.places, at);
-        space.fill(&mut self.ram, address, bytes);
+        space.fill(&mut self.ram, &mut self.frames, address, bytes);
+        fence_active(&mut self.translator, self.active, at);
     }
 
     /// Copies bytes to an address of a place. `false`: its program may not write them all; then nothing changed.
@@ -375,7 +405,11 @@ impl<T: Translate + Drop> Spaces<T> {
         ensures refused { OnFalse result (self.new ≡ self.old) }
     {
         let space = space_at(&self.places, at);
-        space.copy_out(&mut self.ram, address, bytes).is_ok()
+        let done = space
+            .copy_out(&mut self.ram, &mut self.frames, address, bytes)
+            .is_ok();
+        fence_active(&mut self.translator, self.active, at);
+        done
     }
 
     /// Copies bytes from an address of a place. `false`: its program may not read them all; then none is copied.
@@ -387,6 +421,28 @@ impl<T: Translate + Drop> Spaces<T> {
     {
         let space = space_at(&self.places, at);
         space.copy_in(&self.ram, address, buffer).is_ok()
+    }
+
+    /// Copies the string at an address of a place into a buffer, and tells its length: the bytes before the first 0, none of
+    /// which is 0, without it. `None` where its program may not read them and the 0, or the buffer is too short.
+    pub fn copy_string(&self, at: usize, address: u64, buffer: &mut [u8]) -> Option<usize>
+        requires { has_space self.now at ≡ true }
+        ensures string { option_map (λ n. take n buffer.new) result ≡ short_string (length buffer.old) (string_at (held_at self.now at).memory address) }
+        ensures within { IfSome result (λ n. n ≤ length buffer.old) }
+        ensures bytes { IfSome result (λ n. All (λ b. b ≢ 0) (take n buffer.new)) }
+    {
+        let space = space_at(&self.places, at);
+        space.copy_string(&self.ram, address, buffer)
+    }
+
+    /// Copies the path at an address of a place into a buffer, and tells its length: it is a string of 127 bytes at the most.
+    pub fn copy_path(&self, at: usize, address: u64, buffer: &mut [u8; 127]) -> Option<usize>
+        requires { has_space self.now at ≡ true }
+        ensures path { option_map (λ n. take n buffer.new) result ≡ path_at (held_at self.now at).memory address }
+        ensures within { IfSome result (λ n. n ≤ 127) }
+        ensures bytes { IfSome result (λ n. All (λ b. b ≢ 0) (take n buffer.new)) }
+    {
+        self.copy_string(at, address, buffer)
     }
 
     /// Makes a place the active one: the hart takes these registers, this pc and the tables of the place's space.
@@ -450,13 +506,30 @@ impl<T: Translate + Drop> Spaces<T> {
     }
 
     /// Does the instruction at the pc in the memory of the active place, or says why it isn't done.
+    ///
+    /// A store that faults at a page which the program may write by right is done in the same step: the page is opened,
+    /// and gets a frame of its own where others hold its frame too.
     pub fn execute(&mut self) -> Option<Trap>
         requires { is_some self.old.active ≡ true }
         ensures done { IfNone result (IfSome self.old.active (λ at. (d : Computed) × (cycle self.old.registers self.old.pc (held_at self.old at).memory ≡ Ok d) × (self.new ≡ computed self.old at d))) }
         ensures trap { IfSome result (λ t. IfSome self.old.active (λ at. (cycle self.old.registers self.old.pc (held_at self.old at).memory ≡ Err t) × (self.new ≡ self.old))) }
     {
         self.ram.frames_are_whole();
-        self.hart.step(&mut self.ram, &mut self.translator)
+        let Some(at) = self.active else {
+            unreachable!()
+        };
+        let Some(trap) = self.hart.step(&mut self.ram, &mut self.translator) else {
+            return None;
+        };
+        let space = space_at(&self.places, at);
+        let Some(page) = closed_page(space, &self.ram, trap) else {
+            return Some(trap);
+        };
+        space.open_page(&mut self.ram, &mut self.frames, page);
+        self.ram.frames_are_whole();
+        let translator = &mut self.translator;
+        translator.fence();
+        self.hart.step(&mut self.ram, translator)
     }
 
     /// The lowest free place for pipes.

@@ -1,9 +1,9 @@
 //! A translator that remembers what it found, so that most accesses need no walk.
-ghost use Rattle.std.specs.Prelude.{◌≡◌, ◌≢◌, ℕ, ◌+◌, ◌-◌, ◌*◌, ◌/◌, ◌%◌, ◌^◌, ◌<◌, ◌≤◌, ◌⊎◌, List, length, slice_set, IfSome, IfNone, IfOk};
+ghost use Rattle.std.specs.Prelude.{◌≡◌, ◌≢◌, ℕ, ◌+◌, ◌-◌, ◌*◌, ◌/◌, ◌%◌, ◌^◌, ◌<◌, ◌≤◌, ◌⊎◌, List, length, slice_set, Some, IfSome, IfNone, IfOk};
 ghost use Rattle.std.specs.Result.{result_ok};
 ghost use Rattle.std.specs.Option.{option_map};
 ghost use Rattle.unixmodel.specs.Translation.{walk_page, walk, walk_count, place_in, Translation, IsAnswer, IsKept, HoldsNothing, HoldsInside};
-ghost use Rattle.sv39.specs.Lookaside.{Keeps, IsPlaced, asked, filled, for_access};
+ghost use Rattle.sv39.specs.Lookaside.{Keeps, IsFound, IsPlaced, asked, filled, for_access};
 
 use crate::{Access, Fault, Pa, Translate, address, walked};
 use ram::{FrameNo, Ram};
@@ -122,6 +122,26 @@ impl<const N: usize> Tlb<N> {
         }
         walked.frame
     }
+
+    // The frame of an address: what is kept, or else what a walk finds. Both ways join here, at a frame, so that the
+    // hart's way from the physical address back to it is left out.
+    #[inline(always)]
+    fn frame(&mut self, ram: &Ram, root: FrameNo, va: u64, access: Access) -> Option<FrameNo>
+        requires { HoldsInside (Keeps N self.old.fetches self.old.loads self.old.stores) ram.now }
+        ensures found { IsFound (Keeps N self.old.fetches self.old.loads self.old.stores) ram.now root.0 va access (option_map (λ f. f.0) result) }
+        ensures inside { IfSome result (λ f. f.0 < length ram.now) }
+        ensures kept { IsKept (Keeps N self.old.fetches self.old.loads self.old.stores) (Keeps N self.new.fetches self.new.loads self.new.stores) ram.now root.0 }
+        ensures hit { (frame : ℕ) → Keeps N self.old.fetches self.old.loads self.old.stores (asked root.0 va access frame) → (option_map (λ f. f.0) result ≡ Some frame) × (self.new ≡ self.old) }
+        ensures walks { ((frame : ℕ) → ¬ Keeps N self.old.fetches self.old.loads self.old.stores (asked root.0 va access frame)) →
+            (option_map (λ f. f.0) result ≡ (walk_page ram.now root.0 (va / 4096) access).frame) × (self.new.reads ≡ (self.old.reads + walk_count ram.now root.0 va access) % 2 ^ 64) }
+        ensures joins { IfSome result (λ f. Keeps N self.new.fetches self.new.loads self.new.stores (asked root.0 va access f.0)) }
+        ensures stays { (t : Translation) → t.page % N ≢ va / 4096 % N → Keeps N self.old.fetches self.old.loads self.old.stores t → Keeps N self.new.fetches self.new.loads self.new.stores t }
+    {
+        if let Some(frame) = self.kept(root, va, access) {
+            return Some(frame);
+        }
+        self.look_up(ram, root, va / 4096, access)
+    }
 }
 
 impl<const N: usize> Translate for Tlb<N> {
@@ -139,10 +159,7 @@ impl<const N: usize> Translate for Tlb<N> {
         ensures joins { IfOk result (λ pa. (frame : ℕ) × Keeps N self.new.fetches self.new.loads self.new.stores (asked root.0 va access frame) × (pa ≡ place_in va frame)) }
         ensures stays { (t : Translation) → t.page % N ≢ va / 4096 % N → Keeps N self.old.fetches self.old.loads self.old.stores t → Keeps N self.new.fetches self.new.loads self.new.stores t }
     {
-        if let Some(frame) = self.kept(root, va, access) {
-            return Ok(address(frame, va));
-        }
-        match self.look_up(ram, root, va / 4096, access) {
+        match self.frame(ram, root, va, access) {
             Some(frame) => Ok(address(frame, va)),
             None => Err(Fault),
         }

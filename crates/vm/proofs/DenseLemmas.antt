@@ -1,21 +1,17 @@
 -- Lemmas on dense spaces.
-use Rattle.std.proofs.Common.{◌≡◌, ◌≢◌, ℕ, zero, suc, ◌+◌, ◌-◌, ◌*◌, ◌/◌, ◌%◌, ◌^◌, ◌<◌, ◌≤◌, ◌⊎◌, inl, inr, Bool, false, true, List, [], ◌∷◌, ◌++◌, length, Option, Some, None, unwrap_or, refl, sym, ap, ◌∙◌, arith, length-append, eqb, eq-eqb, ltb}
+use Rattle.std.proofs.Common.{◌≡◌, ◌≢◌, ℕ, zero, suc, ◌+◌, ◌-◌, ◌*◌, ◌/◌, ◌%◌, ◌^◌, ◌<◌, ◌≤◌, ◌⊎◌, inl, inr, Bool, false, true, List, [], ◌∷◌, ◌++◌, length, Some, refl, sym, ap, ◌∙◌, arith, length-append, eqb, eq-eqb, ltb}
 use Rattle.std.specs.Prelude.{if◌then◌else◌}
 use Rattle.std.proofs.lemmas.Bool.{cases_eq, cases_lt, ne_eqb, lt-ltb, le-ltb}
-use Rattle.ram.specs.Memory.{frame_of}
-use Rattle.frames.specs.declared.Frames.{Frames}
-use Rattle.frames.specs.Free.{among, free_of, IsFreeList}
-use Rattle.frames.specs.FreeLemmas.{free_of-same, IsFreeList-same}
-use Rattle.frames.specs.Holders.{one_if, count_of, holders_of, Trades}
-use Rattle.frames.proofs.HolderLemmas.{one_if-le, count_of-append, count_of-first, count_of-other, among-none, none-among, holders-free}
-use Rattle.pagetable.specs.Tree.{Node, Root, Mid, Low, IsNode, child_at, leaf_at, mid_node, low_node, table_at, lookup_of, IsTree, IsPaged, Holds, Keeps, Inserts, missing, missing_by}
-use Rattle.pagetable.specs.TreeLemmas.{low_is_node, mid_is_node, root_at, table_at-low}
-use Rattle.pagetable.proofs.Beside.{IsTree-same, table_at-same, lookup_of-same}
-use Rattle.pagetable.specs.Shape.{table_of, IsUsed, IsTidy, made, made_by, Adds}
-use Rattle.pagetable.proofs.ShapeLemmas.{table_of-some, length-made}
+use Rattle.frames.specs.Holders.{one_if, count_of}
+use Rattle.frames.proofs.HolderLemmas.{count_of-append, count_of-first}
+use Rattle.pagetable.specs.Tree.{Node, Root, Mid, Low, mid_node, low_node, table_at, lookup_of, Holds}
+use Rattle.pagetable.specs.TreeLemmas.{root_at}
+use Rattle.pagetable.specs.Shape.{table_of, IsUsed}
+use Rattle.pagetable.proofs.ShapeLemmas.{table_of-some}
 use Rattle.std.proofs.lemmas.List.{map-append}
 use Rattle.sv39.specs.Mapping.{memory_of, page_in}
-use Rattle.vm.specs.Dense.{trap_page, trap_marks, frame_at, marks_at, page_at, mapped_at, mapping_below, pages_below, frames_below, tables_for, tables_below, held, frames_for, IsDense, IsHeld}
+use Rattle.vm.specs.Leaf.{right_marks}
+use Rattle.vm.specs.Dense.{trap_page, frame_at, page_at, read_at, read_below, mapping_below, pages_below, frames_below, tables_for, tables_below, held, frames_for, IsDense}
 
 -- ---- how many
 
@@ -59,15 +55,6 @@ length-held m r t n = omega (arith, length-append (tables_below m r n) (t ∷ fr
 
 pub count-held : (m : List (List ℕ)) (r t n f : ℕ) → count_of f (held m r t n) ≡ count_of f (tables_below m r n) + (count_of f (t ∷ []) + count_of f (frames_below m r n))
 count-held m r t n f = rw (count_of-append f (tables_below m r n) (t ∷ frames_below m r n)) (omega arith)
-
--- no frame has more than one holder, so what is held stands there once
-pub IsHeld-made : (m : List (List ℕ)) (r t n : ℕ) (s : Frames) → IsDense m r t n → IsFreeList m s → ((f : ℕ) → count_of f (held m r t n) ≤ holders_of m s f) → IsHeld m r t n s
-IsHeld-made m r t n s dense free all = record {
-  dense = dense;
-  once = λ f. omega (arith, all f, holders-free m s free f, one_if-le (ltb f (length m)));
-  free = free;
-  held = all;
-}
 
 -- ---- where a frame stands
 
@@ -181,13 +168,13 @@ table-held m r t n v is h = elim (cases_root h.place) [
 
 -- ---- the pages
 
-pub mapping_below-more : (m : List (List ℕ)) (r n : ℕ) → mapping_below m r (suc n) ≡ mapping_below m r n ++ (mapped_at m r n ∷ [])
-unfolding mapping_below
+mapping_below-more : (m : List (List ℕ)) (r n : ℕ) → mapping_below m r (suc n) ≡ mapping_below m r n ++ (read_at right_marks m r n ∷ [])
+unfolding read_below
 mapping_below-more m r n = refl
 
 pub pages_below-zero : (m : List (List ℕ)) (r : ℕ) → pages_below m r 0 ≡ []
-unfolding mapping_below
+unfolding read_below
 pages_below-zero m r = refl
 
 pub pages_below-more : (m : List (List ℕ)) (r n : ℕ) → pages_below m r (suc n) ≡ pages_below m r n ++ (page_at m r n ∷ [])
-pages_below-more m r n = ap (memory_of m) (mapping_below-more m r n) ∙ map-append (page_in m) (mapping_below m r n) (mapped_at m r n ∷ [])
+pages_below-more m r n = ap (memory_of m) (mapping_below-more m r n) ∙ map-append (page_in m) (mapping_below m r n) (read_at right_marks m r n ∷ [])

@@ -1,20 +1,23 @@
 -- The last page goes.
-use Rattle.std.proofs.Common.{◌≡◌, ◌≢◌, ℕ, zero, suc, ◌+◌, ◌-◌, ◌*◌, ◌/◌, ◌%◌, ◌^◌, ◌<◌, ◌≤◌, ◌⊎◌, inl, inr, Bool, false, true, List, [], ◌∷◌, ◌++◌, length, Option, Some, None, unwrap_or, refl, sym, ap, ◌∙◌, arith, length-append, eqb, ltb, add-one}
+use Rattle.std.proofs.Common.{◌≡◌, ◌≢◌, ℕ, suc, ◌+◌, ◌<◌, ◌≤◌, inl, inr, false, true, List, [], ◌∷◌, ◌++◌, length, Option, Some, unwrap_or, refl, sym, ap, ◌∙◌, arith, eqb}
 use Rattle.std.specs.Option.{option_map}
-use Rattle.std.proofs.lemmas.Bool.{cases_eq, cases_lt}
+use Rattle.std.proofs.lemmas.Bool.{cases_eq}
 use Rattle.ram.specs.Memory.{frame_of}
 use Rattle.frames.specs.declared.Frames.{Frames}
-use Rattle.frames.specs.Free.{among, free_of, IsFreeList, SameBut}
+use Rattle.frames.specs.Free.{among, free_of, extra_of, further_at, IsFreeList, SameBut}
 use Rattle.frames.specs.Holders.{one_if, count_of, holders_of, Trades}
-use Rattle.frames.proofs.HolderLemmas.{one_if-le, count_of-append, count_of-first, count_of-other, among-none, holders-free}
-use Rattle.pagetable.specs.Tree.{Node, IsNode, mid_node, low_node, table_at, lookup_of, IsTree, IsPaged, Holds, Keeps}
-use Rattle.pagetable.proofs.Beside.{IsTree-same, table_at-same, lookup_of-same}
-use Rattle.pagetable.specs.Shape.{table_of, IsTidy, made, Adds, Removes}
+use Rattle.frames.proofs.HolderLemmas.{count_of-append, count_of-first, among-none, held-inside, holders-table, Trades-give}
+use Rattle.pagetable.specs.Tree.{lookup_of, IsPaged, Holds, Keeps}
+use Rattle.pagetable.specs.Shape.{IsTidy, Adds, Removes}
 use Rattle.pagetable.proofs.LookupLemmas.{lookup-sound}
-use Rattle.vm.specs.Dense.{trap_page, trap_marks, frame_at, marks_at, mapping_below, pages_below, frames_below, tables_for, tables_below, held, IsDense, IsHeld}
-use Rattle.vm.proofs.DenseLemmas.{IsHeld-made, count-held, page-held, pages-apart, table-held}
-use Rattle.vm.proofs.GrowLemmas.{lookup-parts, marks_at-same, IsDense-same, held-same, made-tables}
-use Rattle.vm.proofs.StepLemmas.{held-not_free, mapping_below-same, pages_below-same}
+use Rattle.vm.specs.Dense.{trap_page, frame_at, marks_at, read_below, pages_below, frames_below, tables_for, tables_below, held, IsDense, IsHeld}
+use Rattle.vm.proofs.Beside.{Besides, Trades-held}
+use Rattle.vm.proofs.DenseLemmas.{count-held, page-held, table-held}
+use Rattle.vm.proofs.GrowLemmas.{frame_at-same, lookup-parts, marks_at-same, held-same, made-tables}
+use Rattle.pagetable.specs.TreeLemmas.{further-same}
+use Rattle.vm.proofs.StepLemmas.{held-not_free, beyond-held, read_below-same, pages_below-same}
+use Rattle.unixmodel.specs.Memory.{Marks}
+use Rattle.vm.specs.Leaf.{is_open}
 
 -- page n is unmapped, and then its frame f is given back
 pub record IsUnmapped (m j : List (List ℕ)) (r n f : ℕ) (s a : Frames) : Type 0 where
@@ -24,9 +27,18 @@ pub record IsUnmapped (m j : List (List ℕ)) (r n f : ℕ) (s a : Frames) : Typ
   pub tidy : IsTidy j r
   pub paged : IsPaged j r a
   pub keeps : Keeps m j r s a
+  pub extra : extra_of a ≡ extra_of s
 
+-- its holder goes: it is free then, where it had no other one
+pub record IsReleased (j k : List (List ℕ)) (f : ℕ) (a w : Frames) : Type 0 where
+  pub valid : IsFreeList k w
+  pub holders : (v : ℕ) → holders_of k w v + count_of v (f ∷ []) ≡ holders_of j a v
+  pub others : SameBut (f ∷ []) j k
+  pub stays : 0 < further_at a f → k ≡ j
+
+-- a frame that had one holder is given back
 pub record IsGiven (j k : List (List ℕ)) (f : ℕ) (a w : Frames) : Type 0 where
-  pub free : free_of k w ≡ f ∷ free_of j a
+  pub last : further_at a f ≡ 0 → (free_of k w ≡ f ∷ free_of j a) × (extra_of w ≡ extra_of a)
   pub valid : IsFreeList k w
   pub others : SameBut (f ∷ []) j k
 
@@ -73,87 +85,93 @@ give-inside m j r t n f s a is u =
 pub give-held : (m j : List (List ℕ)) (r t n f : ℕ) (s a : Frames) → IsHeld m r t (suc n) s → IsUnmapped m j r n f s a → among f (free_of j a) ≡ false
 give-held m j r t n f s a is u = among-none f (free_of j a) (omega (arith, free-unmapped m j r t n f s a is u f, count-last m j r t n f s a is u f, held-not_free m r t (suc n) s is f, last-first f))
 
--- the frame was no table
-not-table : (m j : List (List ℕ)) (r t n f : ℕ) (s a : Frames) → IsHeld m r t (suc n) s → IsUnmapped m j r n f s a → (v : ℕ) → Holds j r v → v ≢ f
-not-table m j r t n f s a is u v h e =
-    omega (
-      arith,
-      last-first f,
-      count-last m j r t n f s a is u f,
-      held-not_free m r t (suc n) s is f,
-      count-held m r t n f,
-      ap (count_of f) (lists-unmapped m j r t n f s a is u).0,
-      table-held j r t n v (IsDense-unmapped m j r t n f s a is u) h,
-      ap (λ x. count_of x (tables_below j r n)) e,
-    )
+-- ---- the space without the page, whose frame it still holds
 
-given-other : (j k : List (List ℕ)) (f : ℕ) (a w : Frames) → IsGiven j k f a w → (v : ℕ) → v ≢ f → frame_of k v ≡ frame_of j v
-given-other j k f a w g v ne = g.others.others v (among-none v (f ∷ []) (count_of-other v f [] ne))
-
-tables-given : (m j k : List (List ℕ)) (r t n f : ℕ) (s a w : Frames) → IsHeld m r t (suc n) s → IsUnmapped m j r n f s a → IsGiven j k f a w → (v : ℕ) → Holds j r v → frame_of k v ≡ frame_of j v
-tables-given m j k r t n f s a w is u g v h = given-other j k f a w g v (not-table m j r t n f s a is u v h)
-
-pub lists-given : (m j k : List (List ℕ)) (r t n f : ℕ) (s a w : Frames) → IsHeld m r t (suc n) s → IsUnmapped m j r n f s a → IsGiven j k f a w → held k r t n ≡ held m r t n
-lists-given m j k r t n f s a w is u g =
-    let is_j = IsDense-unmapped m j r t n f s a is u in
-    let same = tables-given m j k r t n f s a w is u g in
-    let one = held-same j k r t n is_j (λ p h. lookup_of-same j k r same p) (λ x v nx h. table_at-same j k r same x nx ∙ h) in
+held-unmapped : (m j : List (List ℕ)) (r t n f : ℕ) (s a : Frames) → IsHeld m r t (suc n) s → IsUnmapped m j r n f s a → held j r t n ≡ held m r t n
+held-unmapped m j r t n f s a is u =
     let two = lists-unmapped m j r t n f s a is u in
-    ap (λ l. l ++ (t ∷ frames_below k r n)) (one.0 ∙ sym two.0) ∙ ap (λ l. tables_below m r n ++ (t ∷ l)) (one.1 ∙ sym two.1)
+    ap (λ l. l ++ (t ∷ frames_below j r n)) (sym two.0) ∙ ap (λ l. tables_below m r n ++ (t ∷ l)) (sym two.1)
 
-pub count-drop : (m j k : List (List ℕ)) (r t n f : ℕ) (s a w : Frames) → IsHeld m r t (suc n) s → IsUnmapped m j r n f s a → IsGiven j k f a w → (v : ℕ)
-    → count_of v (held k r t n) + count_of v (free_of k w) ≡ count_of v (held m r t (suc n)) + count_of v (free_of m s)
-count-drop m j k r t n f s a w is u g v =
-    omega (arith, ap (count_of v) (lists-given m j k r t n f s a w is u g), count-last m j r t n f s a is u v, free-unmapped m j r t n f s a is u v, ap (count_of v) g.free)
+holders-unmapped : (m j : List (List ℕ)) (r t n f : ℕ) (s a : Frames) → IsHeld m r t (suc n) s → IsUnmapped m j r n f s a → (v : ℕ) → holders_of j a v + count_of v (tables_for m r n) ≡ holders_of m s v
+holders-unmapped m j r t n f s a is u v = omega (arith, holders-table m j s a is.free u.paged.free u.keeps.count u.extra v, free-unmapped m j r t n f s a is u v)
 
-pub IsHeld-drop : (m j k : List (List ℕ)) (r t n f : ℕ) (s a w : Frames) → IsHeld m r t (suc n) s → IsUnmapped m j r n f s a → IsGiven j k f a w → IsHeld k r t n w
-IsHeld-drop m j k r t n f s a w is u g =
-    let len : length k ≡ length m = g.others.count ∙ u.keeps.count in
-    IsHeld-made k r t n w
-    (IsDense-same j k r t n (IsDense-unmapped m j r t n f s a is u) g.others.count (tables-given m j k r t n f s a w is u g))
-    g.valid
-    (λ v. omega (arith, count-drop m j k r t n f s a w is u g v, is.held v, holders-free m s is.free v, holders-free k w g.valid v, ap (λ l. one_if (ltb v l)) len))
+tables-last : (m j : List (List ℕ)) (r t n f : ℕ) (s a : Frames) → IsHeld m r t (suc n) s → IsUnmapped m j r n f s a → (v : ℕ) → count_of v (tables_below m r (suc n)) ≡ count_of v (tables_for m r n) + count_of v (tables_below j r n)
+unfolding tables_below
+tables-last m j r t n f s a is u v = count_of-append v (tables_for m r n) (tables_below m r n) ∙ ap (λ l. count_of v (tables_for m r n) + count_of v l) (lists-unmapped m j r t n f s a is u).0
 
-pub stays-drop : (m j k : List (List ℕ)) (r t n f : ℕ) (s a w : Frames) → IsHeld m r t (suc n) s → IsUnmapped m j r n f s a → IsGiven j k f a w → (v : ℕ) → v ≢ f → count_of v (tables_below m r (suc n)) ≡ 0 → count_of v (free_of m s) ≡ 0 → frame_of k v ≡ frame_of m v
-stays-drop m j k r t n f s a w is u g v ne none free =
-    given-other j k f a w g v ne ∙ u.keeps.others v (λ h. omega (arith, none, table-held m r t (suc n) v is.dense h)) (among-none v (free_of m s) free)
+-- what was held: the page's frame, the tables that went, and what is held now
+count-unmapped : (m j : List (List ℕ)) (r t n f : ℕ) (s a : Frames) → IsHeld m r t (suc n) s → IsUnmapped m j r n f s a → (v : ℕ) → count_of v (held m r t (suc n)) ≡ count_of v (f ∷ []) + count_of v (tables_for m r n) + count_of v (held j r t n)
+count-unmapped m j r t n f s a is u v = omega (arith, count-last m j r t n f s a is u v, ap (count_of v) (held-unmapped m j r t n f s a is u))
 
-pub Trades-drop : (m j k : List (List ℕ)) (r t n f : ℕ) (s a w : Frames) → IsHeld m r t (suc n) s → IsUnmapped m j r n f s a → IsGiven j k f a w → Trades m k s w (held m r t (suc n)) (held k r t n)
+IsHeld-unmapped : (m j : List (List ℕ)) (r t n f : ℕ) (s a : Frames) → IsHeld m r t (suc n) s → IsUnmapped m j r n f s a → IsHeld j r t n a
+IsHeld-unmapped m j r t n f s a is u = record {
+  dense = IsDense-unmapped m j r t n f s a is u;
+  once = λ v. omega (arith, is.once v, count-unmapped m j r t n f s a is u v);
+  free = u.paged.free;
+  own = λ v some. further-same s a v u.extra ∙ is.own v (omega (arith, some, tables-last m j r t n f s a is u v));
+  alone = λ p h wide.
+      let looks = u.removes.others p (omega (arith, is.dense.small, h)) (omega (arith, h)) in
+      ap (further_at a) (frame_at-same m j r p looks) ∙ further-same s a (frame_at m r p) u.extra ∙ is.alone p (omega (arith, h)) (ap is_open (sym (marks_at-same m j r p looks)) ∙ wide);
+  held = λ v. omega (arith, is.held v, count-unmapped m j r t n f s a is u v, holders-unmapped m j r t n f s a is u v);
+}
+
+-- a frame that has a holder and was no table of the space keeps its bytes
+bytes-unmapped : (m j : List (List ℕ)) (r t n f : ℕ) (s a : Frames) → IsHeld m r t (suc n) s → IsUnmapped m j r n f s a → (v : ℕ) → 0 < holders_of m s v → count_of v (tables_below m r (suc n)) ≡ 0 → frame_of j v ≡ frame_of m v
+bytes-unmapped m j r t n f s a is u v some none = u.keeps.others v (λ h. omega (arith, none, table-held m r t (suc n) v is.dense h)) (held-inside m s v is.free some).1
+
+stays-unmapped : (m j : List (List ℕ)) (r t n f : ℕ) (s a : Frames) → IsHeld m r t (suc n) s → IsUnmapped m j r n f s a → (v : ℕ) → 0 < count_of v (frames_below m r n) + count_of v (t ∷ []) → frame_of j v ≡ frame_of m v
+stays-unmapped m j r t n f s a is u v some =
+    let two = lists-unmapped m j r t n f s a is u in
+    let more : 0 < count_of v (held j r t n) = omega (arith, some, count-held j r t n v, ap (count_of v) two.1) in
+    bytes-unmapped m j r t n f s a is u v (omega (arith, is.held v, count-unmapped m j r t n f s a is u v, more))
+    (omega (arith, is.once v, some, count-unmapped m j r t n f s a is u v, tables-last m j r t n f s a is u v, count-held m r t (suc n) v, count-held j r t n v, ap (count_of v) two.1))
+
+-- ---- and then it goes
+
+releases : (m j k : List (List ℕ)) (r t n f : ℕ) (s a w : Frames) → IsHeld m r t (suc n) s → IsUnmapped m j r n f s a → IsReleased j k f a w → Trades j k a w (f ∷ []) []
+releases m j k r t n f s a w is u g = Trades-give j k a w f u.paged.free g.holders g.others g.stays
+    (omega (arith, is.held f, count-unmapped m j r t n f s a is u f, holders-unmapped m j r t n f s a is u f, count_of-first f f [] refl))
+
+beside-drop : (m j k : List (List ℕ)) (r t n f : ℕ) (s a w : Frames) → IsHeld m r t (suc n) s → IsUnmapped m j r n f s a → IsReleased j k f a w → Besides j k w r t n
+beside-drop m j k r t n f s a w is u g =
+    Trades-held j k a w (f ∷ []) [] r t n (IsHeld-unmapped m j r t n f s a is u)
+    (λ v. omega (arith, is.held v, count-unmapped m j r t n f s a is u v, holders-unmapped m j r t n f s a is u v))
+    (releases m j k r t n f s a w is u g) g.valid
+
+pub IsHeld-drop : (m j k : List (List ℕ)) (r t n f : ℕ) (s a w : Frames) → IsHeld m r t (suc n) s → IsUnmapped m j r n f s a → IsReleased j k f a w → IsHeld k r t n w
+IsHeld-drop m j k r t n f s a w is u g = (beside-drop m j k r t n f s a w is u g).space
+
+pub Trades-drop : (m j k : List (List ℕ)) (r t n f : ℕ) (s a w : Frames) → IsHeld m r t (suc n) s → IsUnmapped m j r n f s a → IsReleased j k f a w → Trades m k s w (held m r t (suc n)) (held k r t n)
 Trades-drop m j k r t n f s a w is u g =
-    let len : length k ≡ length m = g.others.count ∙ u.keeps.count in
+    let give = releases m j k r t n f s a w is u g in
+    let counts = count-unmapped m j r t n f s a is u in
+    let now : (v : ℕ) → count_of v (held k r t n) ≡ count_of v (held j r t n) = λ (v : ℕ). ap (count_of v) (beside-drop m j k r t n f s a w is u g).same in
     record {
-      count = len;
-      moved = λ v. omega (arith, count-drop m j k r t n f s a w is u g v, holders-free m s is.free v, holders-free k w g.valid v, ap (λ l. one_if (ltb v l)) len);
-      others = λ v h.
-          let none : count_of v (held m r t (suc n)) ≡ 0 = omega (arith, h, holders-free m s is.free v, one_if-le (ltb v (length m))) in
-          stays-drop m j k r t n f s a w is u g v (λ e. omega (arith, none, count-last m j r t n f s a is u v, ap (λ x. one_if (eqb v x)) (sym e), last-first v))
-          (omega (arith, none, count-held m r t (suc n) v)) (omega (arith, h, holders-free m s is.free v, one_if-le (ltb v (length m))));
+      count = give.count ∙ u.keeps.count;
+      moved = λ v. omega (arith, counts v, holders-unmapped m j r t n f s a is u v, g.holders v, now v);
+      others = λ v more.
+          let beyond = beyond-held m r t (suc n) s is v more in
+          give.others v (omega (arith, more, counts v, holders-unmapped m j r t n f s a is u v)) ∙ bytes-unmapped m j r t n f s a is u v (omega (arith, more)) (omega (arith, beyond.0));
+      fresh = λ v none some. absurd (omega (arith, none, some, now v, counts v));
     }
 
-pub pages-drop : (m j k : List (List ℕ)) (r t n f b : ℕ) (s a w : Frames) → IsHeld m r t (suc n) s → IsUnmapped m j r n f s a → IsGiven j k f a w → b ≤ n → pages_below k r b ≡ pages_below m r b
+pub pages-drop : (m j k : List (List ℕ)) (r t n f b : ℕ) (s a w : Frames) → IsHeld m r t (suc n) s → IsUnmapped m j r n f s a → IsReleased j k f a w → b ≤ n → pages_below k r b ≡ pages_below m r b
 pages-drop m j k r t n f b s a w is u g le =
-    pages_below-same m k r b
-    (λ p h. lookup_of-same j k r (tables-given m j k r t n f s a w is u g) p ∙ u.removes.others p (omega (arith, is.dense.small)) (omega arith))
-    (λ p h. let v = frame_at m r p in
-    let one = held-not_free m r t (suc n) s is v in
-    stays-drop m j k r t n f s a w is u g v
-    (λ e. pages-apart m r (suc n) p n (λ x. omega (arith, held-not_free m r t (suc n) s is x, count-held m r t (suc n) x)) (omega arith) (omega arith) (e ∙ sym u.was))
-    (omega (arith, one, count-held m r t (suc n) v, page-held m r (suc n) p (omega arith)))
-    (omega (arith, one, count-held m r t (suc n) v, page-held m r (suc n) p (omega arith))))
+    let stays = (beside-drop m j k r t n f s a w is u g).stays in
+    let looks : (p : ℕ) → p < b → lookup_of j r p ≡ lookup_of m r p = λ (p : ℕ) (h : p < b). u.removes.others p (omega (arith, is.dense.small, h, le)) (omega (arith, h, le)) in
+    let space = IsHeld-unmapped m j r t n f s a is u in
+    let give = releases m j k r t n f s a w is u g in
+    pages_below-same j k r b (λ p h. stays.looks p)
+    (λ p h. give.others (frame_at j r p) (omega (arith, is.held (frame_at j r p), count-unmapped m j r t n f s a is u (frame_at j r p), holders-unmapped m j r t n f s a is u (frame_at j r p), count-held j r t n (frame_at j r p), page-held j r n p (omega (arith, h, le)))))
+    ∙ pages_below-same m j r b looks
+    (λ p h. stays-unmapped m j r t n f s a is u (frame_at m r p) (omega (arith, page-held m r n p (omega (arith, h, le)))))
 
-pub mapping-drop : (m j k : List (List ℕ)) (r t n f b : ℕ) (s a w : Frames) → IsHeld m r t (suc n) s → IsUnmapped m j r n f s a → IsGiven j k f a w → b ≤ n → mapping_below k r b ≡ mapping_below m r b
-mapping-drop m j k r t n f b s a w is u g le =
-    mapping_below-same m k r b
-    (λ p h. lookup_of-same j k r (tables-given m j k r t n f s a w is u g) p ∙ u.removes.others p (omega (arith, is.dense.small)) (omega arith))
+pub mapping-drop : (read : ℕ → Marks) (m j k : List (List ℕ)) (r t n f b : ℕ) (s a w : Frames) → IsHeld m r t (suc n) s → IsUnmapped m j r n f s a → IsReleased j k f a w → b ≤ n → read_below read k r b ≡ read_below read m r b
+mapping-drop read m j k r t n f b s a w is u g le =
+    read_below-same read m k r b (λ p h. (beside-drop m j k r t n f s a w is u g).stays.looks p ∙ u.removes.others p (omega (arith, is.dense.small, h, le)) (omega (arith, h, le)))
 
-pub trap-drop : (m j k : List (List ℕ)) (r t n f : ℕ) (s a w : Frames) → IsHeld m r t (suc n) s → IsUnmapped m j r n f s a → IsGiven j k f a w → frame_of k t ≡ frame_of m t
-trap-drop m j k r t n f s a w is u g =
-    let one = held-not_free m r t (suc n) s is t in
-    let here = count_of-first t t [] refl in
-    stays-drop m j k r t n f s a w is u g t
-    (λ e. omega (arith, one, here, count-held m r t n t, count-last m j r t n f s a is u t, ap (λ x. one_if (eqb t x)) (sym e), last-first t))
-    (omega (arith, one, count-held m r t (suc n) t, here))
-    (omega (arith, one, count-held m r t (suc n) t, here))
+pub trap-drop : (m j k : List (List ℕ)) (r t n f : ℕ) (s a w : Frames) → IsHeld m r t (suc n) s → IsUnmapped m j r n f s a → IsReleased j k f a w → frame_of k t ≡ frame_of m t
+trap-drop m j k r t n f s a w is u g = (beside-drop m j k r t n f s a w is u g).stays.trap ∙ stays-unmapped m j r t n f s a is u t (omega (arith, count_of-first t t [] refl))
 
 pub unmapped-was : (m : List (List ℕ)) (r n f : ℕ) (a : ℕ × ℕ) → lookup_of m r n ≡ Some a → ◌≡◌ {A = Option ℕ} (option_map (λ (x : ℕ × ℕ). x.0) (lookup_of m r n)) (Some f) → frame_at m r n ≡ f
 unmapped-was m r n f a found e =

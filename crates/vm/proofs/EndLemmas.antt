@@ -1,21 +1,21 @@
 -- A space of no pages goes.
-use Rattle.std.proofs.Common.{◌≡◌, ◌≢◌, ℕ, zero, suc, ◌+◌, ◌<◌, ◌≤◌, ◌⊎◌, inl, inr, false, true, List, [], ◌∷◌, ◌++◌, length, Option, Some, None, unwrap_or, refl, sym, ap, ◌∙◌, arith, eqb, ltb, ◌^◌}
+use Rattle.std.proofs.Common.{◌≡◌, ◌≢◌, ℕ, ◌+◌, ◌<◌, ◌⊎◌, inl, inr, false, List, [], ◌∷◌, ◌++◌, length, Option, Some, None, unwrap_or, refl, sym, ap, ◌∙◌, arith, eqb}
 use Rattle.std.proofs.lemmas.Bool.{cases_eq}
 use Rattle.ram.specs.Memory.{frame_of}
 use Rattle.frames.specs.declared.Frames.{Frames}
-use Rattle.frames.specs.Free.{among, free_of, IsFreeList, SameBut}
-use Rattle.frames.specs.Holders.{one_if, count_of, holders_of, Trades}
-use Rattle.frames.proofs.HolderLemmas.{one_if-le, count_of-append, count_of-first, count_of-other, among-none, none-among, holders-free}
-use Rattle.pagetable.specs.Tree.{Node, Root, Mid, Low, IsNode, mid_node, low_node, table_at, lookup_of, IsTree, IsPaged, Holds, Keeps}
-use Rattle.pagetable.specs.TreeLemmas.{mid_is_node, root_at}
+use Rattle.frames.specs.Free.{among, free_of, extra_of}
+use Rattle.frames.specs.Holders.{one_if, count_of, Trades}
+use Rattle.frames.proofs.HolderLemmas.{count_of-first, count_of-other, among-none, none-among, holders-table}
+use Rattle.pagetable.specs.Tree.{Node, Root, Mid, Low, IsNode, mid_node, low_node, table_at, lookup_of, IsPaged, Holds}
+use Rattle.pagetable.specs.TreeLemmas.{further-same, mid_is_node, root_at}
 use Rattle.pagetable.proofs.Beside.{IsTree-same, table_at-same}
-use Rattle.pagetable.specs.Shape.{table_of, IsTidy, IsEmpty, made, Adds, Removes}
+use Rattle.pagetable.specs.Shape.{table_of, IsEmpty}
 use Rattle.pagetable.proofs.EmptyLemmas.{IsEmpty-tables}
 use Rattle.pagetable.proofs.ShapeLemmas.{made-two}
 use Rattle.pagetable.proofs.LookupLemmas.{lookup-sound}
-use Rattle.vm.specs.Dense.{trap_page, trap_marks, frame_at, marks_at, frames_below, tables_below, held, IsDense, IsHeld}
+use Rattle.vm.specs.Dense.{trap_page, trap_marks, frames_below, tables_below, held, IsHeld}
 use Rattle.vm.proofs.DenseLemmas.{count-held, table-held}
-use Rattle.vm.proofs.StepLemmas.{held-not_free}
+use Rattle.vm.proofs.StepLemmas.{beyond-held, held-not_free}
 use Rattle.vm.proofs.DropLemmas.{IsUnmapped, IsGiven}
 
 none-none : (v : ℕ × ℕ) (o : Option (ℕ × ℕ)) → o ≡ Some v → o ≡ None → ⊥
@@ -44,6 +44,11 @@ end-root m j r t f s a is u v h = elim (root-or h.place) [
   | inl e ↦ let g : Some v ≡ Some r = sym h.at_place ∙ ap (table_at j r) e ∙ root_at j r in cc
   | inr ne ↦ absurd (end-tables m j r t f s a is u h.place v h.is_node ne h.at_place)
 ]
+
+-- a space of no pages holds its tables and its trap frame
+none-held : (m : List (List ℕ)) (r t v : ℕ) → count_of v (tables_below m r 0) + count_of v (t ∷ []) ≡ 0 → count_of v (held m r t 0) ≡ 0
+unfolding frames_below
+none-held m r t v none = omega (arith, none, count-held m r t 0 v)
 
 -- all its frames are free or those two
 pub count-unmapped : (m j : List (List ℕ)) (r t f : ℕ) (s a : Frames) → IsHeld m r t 0 s → IsUnmapped m j r trap_page f s a → (g : ℕ)
@@ -85,6 +90,16 @@ end-empty m j k r t f s a w is u g =
     IsEmpty-tables k r (λ x nx nr. none-of (table_at k r x) (λ v h.
     end-tables m j r t f s a is u x v nx nr (sym (table_at-same j k r (end-same m j k r t f s a w is u g) x nx) ∙ h)))
 
+-- the trap frame had no other holder, nor had the root
+end-free : (m j k : List (List ℕ)) (r t f : ℕ) (s a w : Frames) → IsHeld m r t 0 s → IsUnmapped m j r trap_page f s a → IsGiven j k f a w → (free_of k w ≡ f ∷ free_of j a) × (extra_of w ≡ extra_of a)
+end-free m j k r t f s a w is u g =
+    g.last (further-same s a f u.extra ∙ is.own f (omega (arith, first-one t, ap (λ x. count_of x (t ∷ [])) (end-trap m j r t f s a is u))))
+
+root-free : (m j k l : List (List ℕ)) (r t f : ℕ) (s a w q : Frames) → IsHeld m r t 0 s → IsUnmapped m j r trap_page f s a → IsGiven j k f a w → IsGiven k l r w q → (free_of l q ≡ r ∷ free_of k w) × (extra_of q ≡ extra_of w)
+root-free m j k l r t f s a w q is u g e =
+    let root : Holds m r r = record { place = Root; is_node = tt; at_place = root_at m r } in
+    e.last (further-same s w r ((end-free m j k r t f s a w is u g).1 ∙ u.extra) ∙ is.own r (omega (arith, table-held m r t 0 r is.dense root)))
+
 pub end-paged : (m j k : List (List ℕ)) (r t f : ℕ) (s a w : Frames) → IsHeld m r t 0 s → IsUnmapped m j r trap_page f s a → IsGiven j k f a w → IsPaged k r w
 end-paged m j k r t f s a w is u g =
     let same = end-same m j k r t f s a w is u g in
@@ -95,21 +110,26 @@ end-paged m j k r t f s a w is u g =
           let old : table_at j r x ≡ Some v = sym (table_at-same j k r same x nx) ∙ h in
           let held_v : Holds j r v = record { place = x; is_node = nx; at_place = old } in
           let e = end-root m j r t f s a is u v held_v in
-          among-none v (free_of k w) (omega (arith, ap (count_of v) g.free, none-among v (free_of j a) (u.paged.apart x v nx old), count_of-other v f (free_of j a) (λ z. end-apart m j r t f s a is u (sym e ∙ z))));
+          among-none v (free_of k w) (omega (arith, ap (count_of v) (end-free m j k r t f s a w is u g).0, none-among v (free_of j a) (u.paged.apart x v nx old), count_of-other v f (free_of j a) (λ z. end-apart m j r t f s a is u (sym e ∙ z))));
+      own = λ x v nx h. further-same a w v (end-free m j k r t f s a w is u g).1 ∙ u.paged.own x v nx (sym (table_at-same j k r same x nx) ∙ h);
     }
 
 pub Trades-end : (m j k l : List (List ℕ)) (r t f : ℕ) (s a w q : Frames) → IsHeld m r t 0 s → IsUnmapped m j r trap_page f s a → IsGiven j k f a w → IsGiven k l r w q → Trades m l s q (held m r t 0) []
 Trades-end m j k l r t f s a w q is u g e =
     let len : length l ≡ length m = e.others.count ∙ g.others.count ∙ u.keeps.count in
     let trap = end-trap m j r t f s a is u in
+    let given = end-free m j k r t f s a w is u g in
+    let root = root-free m j k l r t f s a w q is u g e in
     record {
       count = len;
-      moved = λ v. omega (arith, count-unmapped m j r t f s a is u v, ap (count_of v) g.free, ap (count_of v) e.free, ap (λ x. one_if (eqb v x)) trap, holders-free m s is.free v, holders-free l q e.valid v, ap (λ n. one_if (ltb v n)) len);
+      moved = λ v. omega (arith, count-unmapped m j r t f s a is u v, ap (count_of v) given.0, ap (count_of v) root.0, ap (λ x. one_if (eqb v x)) trap, holders-table m l s q is.free e.valid len (root.1 ∙ given.1 ∙ u.extra) v);
       others = λ v h.
-          let none : count_of v (held m r t 0) ≡ 0 = omega (arith, h, holders-free m s is.free v, one_if-le (ltb v (length m))) in
-          let free : count_of v (free_of m s) ≡ 0 = omega (arith, h, holders-free m s is.free v, one_if-le (ltb v (length m))) in
+          let beyond = beyond-held m r t 0 s is v h in
+          let none = none-held m r t v beyond.0 in
+          let free = beyond.1 in
           let both = count-unmapped m j r t f s a is u v in
           given-other k l r w q e v (λ z. omega (arith, none, free, both, ap (λ x. one_if (eqb v x)) (sym z), first-one v))
           ∙ given-other j k f a w g v (λ z. omega (arith, none, free, both, ap (λ x. one_if (eqb v x)) (sym (z ∙ trap)), first-one v))
           ∙ u.keeps.others v (λ y. omega (arith, none, count-held m r t 0 v, table-held m r t 0 v is.dense y)) (among-none v (free_of m s) free);
+      fresh = λ v none some. absurd (omega (arith, some));
     }

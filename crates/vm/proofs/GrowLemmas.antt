@@ -1,20 +1,14 @@
 -- One more page.
-use Rattle.std.proofs.Common.{◌≡◌, ◌≢◌, ℕ, zero, suc, ◌+◌, ◌-◌, ◌*◌, ◌/◌, ◌%◌, ◌^◌, ◌<◌, ◌≤◌, ◌⊎◌, inl, inr, Bool, false, true, List, [], ◌∷◌, ◌++◌, length, Option, Some, None, unwrap_or, refl, sym, ap, ◌∙◌, arith, length-append, eqb, eq-eqb, ltb}
-use Rattle.std.specs.Prelude.{if◌then◌else◌}
-use Rattle.std.proofs.lemmas.Bool.{cases_eq, cases_lt, ne_eqb, lt-ltb, le-ltb}
+use Rattle.std.proofs.Common.{◌≡◌, ◌≢◌, ℕ, zero, suc, ◌+◌, ◌-◌, ◌/◌, ◌%◌, ◌<◌, ◌⊎◌, inl, inr, List, [], ◌∷◌, length, Option, Some, None, unwrap_or, refl, sym, ap, ◌∙◌, arith, eq-eqb}
+use Rattle.std.proofs.lemmas.Bool.{cases_eq, ne_eqb}
 use Rattle.ram.specs.Memory.{frame_of}
-use Rattle.frames.specs.declared.Frames.{Frames}
-use Rattle.frames.specs.Free.{among, free_of, IsFreeList}
-use Rattle.frames.specs.FreeLemmas.{free_of-same, IsFreeList-same, among_first_not, among_first}
-use Rattle.frames.specs.Holders.{one_if, count_of, holders_of, Trades}
-use Rattle.frames.proofs.HolderLemmas.{one_if-le, count_of-append, count_of-first, count_of-other, among-none, none-among, holders-free}
-use Rattle.pagetable.specs.Tree.{Node, Root, Mid, Low, IsNode, child_at, leaf_at, mid_node, low_node, table_at, lookup_of, IsTree, IsPaged, Holds, Keeps, Inserts, missing, missing_by}
-use Rattle.pagetable.specs.TreeLemmas.{low_is_node, mid_is_node, root_at, table_at-low, no_low, free-first}
+use Rattle.pagetable.specs.Tree.{Node, Mid, Low, IsNode, leaf_at, mid_node, low_node, table_at, lookup_of, Holds, missing}
+use Rattle.pagetable.specs.TreeLemmas.{low_is_node, mid_is_node, no_low}
 use Rattle.pagetable.proofs.Beside.{IsTree-same, table_at-same, lookup_of-same}
-use Rattle.pagetable.specs.Shape.{table_of, IsUsed, IsTidy, made, made_by, Adds}
-use Rattle.pagetable.proofs.ShapeLemmas.{table_of-some, some-table_of, length-made}
-use Rattle.vm.specs.Dense.{trap_page, trap_marks, frame_at, marks_at, page_at, pages_below, frames_below, tables_for, tables_below, held, frames_for, IsDense, IsHeld}
-use Rattle.vm.proofs.DenseLemmas.{count-held, page-held, pages-apart, table-held, mapped-cases, low-0, mid-0, length-tables_for, frames_for-more}
+use Rattle.pagetable.specs.Shape.{table_of, IsTidy, made}
+use Rattle.pagetable.proofs.ShapeLemmas.{table_of-some, length-made}
+use Rattle.vm.specs.Dense.{trap_page, trap_marks, frame_at, marks_at, frames_below, tables_for, tables_below, frames_for, IsDense}
+use Rattle.vm.proofs.DenseLemmas.{mapped-cases, low-0, mid-0, length-tables_for, frames_for-more}
 
 -- ---- what stays where the frames of the tables stay
 

@@ -1,14 +1,16 @@
+pub mod Added
 pub mod Beside
-pub mod CopyLemmas
 pub mod DenseLemmas
 pub mod DropLemmas
 pub mod EndLemmas
+pub mod Forked
 pub mod GrowLemmas
 pub mod LeafLemmas
 pub mod NewLemmas
 pub mod PageLemmas
 pub mod PartLemmas
 pub mod ReachLemmas
+pub mod Remap
 pub mod SharesLemmas
 pub mod SizedLemmas
 pub mod StepLemmas

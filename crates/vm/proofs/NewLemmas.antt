@@ -1,20 +1,20 @@
 -- A space of no pages.
-use Rattle.std.proofs.Common.{◌≡◌, ◌≢◌, ℕ, zero, suc, ◌+◌, ◌-◌, ◌*◌, ◌/◌, ◌%◌, ◌^◌, ◌<◌, ◌≤◌, ◌⊎◌, inl, inr, Bool, false, true, List, [], ◌∷◌, ◌++◌, length, Option, Some, None, refl, sym, ap, ◌∙◌, arith, length-append, eqb, ltb, slice_set, length-set, get_or-set_other, get_or-set_same, replicate}
+use Rattle.std.proofs.Common.{◌≡◌, ◌≢◌, ℕ, ◌+◌, false, true, List, [], ◌∷◌, ◌++◌, length, Some, sym, ap, ◌∙◌, arith, slice_set, get_or-set_other, replicate}
 use Rattle.ram.specs.Memory.{frame_of}
 use Rattle.frames.specs.declared.Frames.{Frames}
-use Rattle.frames.specs.Free.{among, free_of, IsFreeList}
-use Rattle.frames.specs.FreeLemmas.{free_of-same, IsFreeList-same, among_first_not}
-use Rattle.frames.specs.Holders.{one_if, count_of, holders_of, Trades}
-use Rattle.frames.proofs.HolderLemmas.{one_if-le, count_of-append, count_of-first, count_of-other, among-none, none-among, holders-free}
-use Rattle.pagetable.specs.Tree.{Node, Root, Mid, Low, IsNode, mid_node, low_node, table_at, lookup_of, IsTree, IsPaged, Holds, Keeps, Inserts, missing}
-use Rattle.pagetable.specs.TreeLemmas.{free-first, low_is_node, mid_is_node, root_at, missing_two}
+use Rattle.frames.specs.Free.{among, free_of, free_count, extra_of, IsFreeList}
+use Rattle.frames.specs.FreeLemmas.{among_first_not}
+use Rattle.frames.specs.Holders.{count_of, Trades}
+use Rattle.frames.proofs.HolderLemmas.{count_of-first, among-none, none-among, holders-table, held-inside, distinct-count}
+use Rattle.pagetable.specs.Tree.{Root, mid_node, low_node, table_at, IsPaged, Holds, missing}
+use Rattle.pagetable.specs.TreeLemmas.{free-first, free_count-taken, further-same, mid_is_node, root_at, missing_two}
 use Rattle.pagetable.proofs.Beside.{IsTree-same, table_at-same, lookup_of-same}
-use Rattle.pagetable.specs.Shape.{table_of, IsTidy, IsEmpty, made, Adds}
+use Rattle.pagetable.specs.Shape.{table_of, IsEmpty}
 use Rattle.pagetable.proofs.ShapeLemmas.{made-two}
-use Rattle.pagetable.proofs.EmptyLemmas.{IsTidy-empty, only-root}
-use Rattle.vm.specs.Dense.{trap_page, trap_marks, frame_at, marks_at, frames_below, tables_below, held, IsDense, IsHeld}
-use Rattle.vm.proofs.DenseLemmas.{IsHeld-made, count-held}
-use Rattle.vm.proofs.StepLemmas.{IsTaken, IsNext, free-after}
+use Rattle.pagetable.proofs.EmptyLemmas.{only-root}
+use Rattle.vm.specs.Dense.{trap_page, trap_marks, frames_below, tables_below, held, IsDense, IsHeld}
+use Rattle.vm.proofs.DenseLemmas.{count-held}
+use Rattle.vm.proofs.StepLemmas.{IsTaken, IsNext, alone-next, fresh-next, free-after}
 use Rattle.frames.specs.FreeLemmas.{among_first}
 
 -- an empty page table whose frame was free, and then a frame that is taken
@@ -25,6 +25,7 @@ pub record IsStart (m j z : List (List ℕ)) (s a q : Frames) (r t : ℕ) : Type
   pub paged : IsPaged j r a
   pub empty : IsEmpty j r
   pub taken : IsTaken j z a q t
+  pub extra : extra_of a ≡ extra_of s
 
 pub start-apart : (m j z : List (List ℕ)) (s a q : Frames) (r t : ℕ) → IsStart m j z s a q r t → t ≢ r
 start-apart m j z s a q r t is e =
@@ -51,6 +52,7 @@ start-paged m j z s a q r t is =
           let old : table_at j r x ≡ Some v = sym (table_at-same j z r same x nx) ∙ h in
           let out : among v (t ∷ free_of j q) ≡ false = ap (among v) (sym is.taken.taken) ∙ is.paged.apart x v nx old in
           rw (after.0) (among_first_not v t (free_of j q) out).1;
+      own = λ x v nx h. further-same a q v is.taken.extra ∙ is.paged.own x v nx (sym (table_at-same j z r same x nx) ∙ h);
     }
 
 pub start-missing : (m j z : List (List ℕ)) (s a q : Frames) (r t : ℕ) → IsStart m j z s a q r t → missing z r trap_page ≡ 2
@@ -58,6 +60,9 @@ start-missing m j z s a q r t is = missing_two z r trap_page (sym ((start-empty 
 
 pub start-free : (m j z : List (List ℕ)) (s a q : Frames) (r t : ℕ) → IsStart m j z s a q r t → free_of m s ≡ r ∷ t ∷ free_of z q
 start-free m j z s a q r t is = is.first ∙ ap (λ l. r ∷ l) (is.taken.taken ∙ ap (λ l. t ∷ l) (sym (free-after j z a q t is.paged.free is.taken).0))
+
+pub start-count : (m j z : List (List ℕ)) (s a q : Frames) (r t : ℕ) → IsStart m j z s a q r t → free_count m s ≡ 2 + free_count z q
+start-count m j z s a q r t is = free_count-taken m z s q 2 (omega (arith, ap length (start-free m j z s a q r t is))) (is.taken.extra ∙ is.extra) (free-after j z a q t is.paged.free is.taken).1
 
 pub IsDense-start : (m j z k : List (List ℕ)) (s a q w : Frames) (r t : ℕ) → IsStart m j z s a q r t → IsNext z k r trap_page t trap_marks q w → IsDense k r t 0
 IsDense-start m j z k s a q w r t is next = record {
@@ -79,11 +84,22 @@ count-start m j z k s a q w r t is next g =
     start-free m j z s a q r t is ∙ ap (λ l. r ∷ t ∷ l) (next.adds.taken ∙ ap (λ l. l ++ free_of k w) two) in
     omega (arith, ap (count_of g) all)
 
+tables-start : (k : List (List ℕ)) (r t g : ℕ) → count_of g (tables_below k r 0) + count_of g (t ∷ []) ≡ count_of g (held k r t 0)
+unfolding frames_below
+tables-start k r t g = omega (arith, count-held k r t 0 g)
+
 pub IsHeld-start : (m j z k : List (List ℕ)) (s a q w : Frames) (r t : ℕ) → IsStart m j z s a q r t → IsNext z k r trap_page t trap_marks q w → length k ≡ length m → IsHeld k r t 0 w
-IsHeld-start m j z k s a q w r t is next len = IsHeld-made k r t 0 w
-    (IsDense-start m j z k s a q w r t is next)
-    next.paged.free
-    (λ g. omega (arith, count-start m j z k s a q w r t is next g, holders-free m s is.free g, holders-free k w next.paged.free g, ap (λ l. one_if (ltb g l)) len))
+IsHeld-start m j z k s a q w r t is next len =
+    let counts = count-start m j z k s a q w r t is next in
+    let extra = next.extra ∙ is.taken.extra ∙ is.extra in
+    record {
+      dense = IsDense-start m j z k s a q w r t is next;
+      once = λ g. omega (arith, counts g, distinct-count g (free_of m s) is.free.distinct);
+      free = next.paged.free;
+      own = λ g. alone-next m s w g 0 (count_of g (tables_below k r 0) + count_of g (t ∷ [])) is.free extra (λ none. absurd (omega (arith, none))) (omega (arith, counts g, tables-start k r t g));
+      alone = λ p low wide. absurd (omega (arith, low));
+      held = λ g. omega (arith, counts g, holders-table m k s w is.free next.paged.free len extra g);
+    }
 
 start-stays : (m j z k : List (List ℕ)) (s a q w : Frames) (r t : ℕ) → IsStart m j z s a q r t → IsNext z k r trap_page t trap_marks q w → (g : ℕ) → g ≢ r → count_of g (free_of z q) ≡ 0 → frame_of k g ≡ frame_of z g
 start-stays m j z k s a q w r t is next g ne none = next.keeps.others g (λ h. ne (only-root z r (start-empty m j z s a q r t is) h.place g h.is_node h.at_place).1) (among-none g (free_of z q) none)
@@ -91,12 +107,13 @@ start-stays m j z k s a q w r t is next g ne none = next.keeps.others g (λ h. n
 pub Trades-start : (m j z k : List (List ℕ)) (s a q w : Frames) (r t : ℕ) → IsStart m j z s a q r t → IsNext z k r trap_page t trap_marks q w → length k ≡ length m → Trades m k s w [] (held k r t 0)
 Trades-start m j z k s a q w r t is next len = record {
   count = len;
-  moved = λ g. omega (arith, count-start m j z k s a q w r t is next g, holders-free m s is.free g, holders-free k w next.paged.free g, ap (λ l. one_if (ltb g l)) len);
+  moved = λ g. omega (arith, count-start m j z k s a q w r t is next g, holders-table m k s w is.free next.paged.free len (next.extra ∙ is.taken.extra ∙ is.extra) g);
   others = λ g h.
-      let none : count_of g (r ∷ t ∷ free_of z q) ≡ 0 = ap (count_of g) (sym (start-free m j z s a q r t is)) ∙ omega (arith, h, holders-free m s is.free g, one_if-le (ltb g (length m))) in
+      let none : count_of g (r ∷ t ∷ free_of z q) ≡ 0 = ap (count_of g) (sym (start-free m j z s a q r t is)) ∙ none-among g (free_of m s) (held-inside m s g is.free (omega (arith, h))).1 in
       let not_r : g ≢ r = λ (e : g ≡ r). omega (arith, none, count_of-first g r (t ∷ free_of z q) e) in
       let not_t : g ≢ t = λ (e : g ≡ t). omega (arith, none, count_of-first g t (free_of z q) e) in
       start-stays m j z k s a q w r t is next g not_r (omega (arith, none)) ∙ is.taken.others g not_t ∙ rw is.start (get_or-set_other m r g (replicate {A = ℕ} 4096 0) [] not_r);
+  fresh = λ g. fresh-next m s g [] (held k r t 0) is.free (omega (arith, count-start m j z k s a q w r t is next g));
 }
 
 pub registers-start : (m j z k : List (List ℕ)) (s a q w : Frames) (r t : ℕ) → IsStart m j z s a q r t → IsNext z k r trap_page t trap_marks q w → frame_of k t ≡ frame_of z t

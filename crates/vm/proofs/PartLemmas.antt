@@ -1,5 +1,5 @@
 -- A part of a frame is written.
-use Rattle.std.proofs.Common.{◌≡◌, ℕ, ◌+◌, ◌-◌, ◌<◌, ◌≤◌, List, [], ◌++◌, length, take, drop, replicate, refl, sym, ap, ◌∙◌, arith, slice_set, length-append, length-take, length-drop}
+use Rattle.std.proofs.Common.{◌≡◌, ℕ, ◌+◌, ◌≤◌, List, ◌++◌, length, take, drop, replicate, refl, ap, ◌∙◌, arith, slice_set, length-append, length-take, length-drop}
 use Rattle.std.proofs.lemmas.List.{take_at, drop-drop}
 use Rattle.ram.specs.Memory.{frame_of, put, put_bytes, sized}
 

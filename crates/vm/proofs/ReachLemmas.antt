@@ -1,13 +1,13 @@
 -- Lemmas on what a program's memory shows from an address on.
-use Rattle.std.proofs.Common.{◌≡◌, ◌≢◌, ℕ, zero, suc, ◌+◌, ◌-◌, ◌*◌, ◌/◌, ◌%◌, ◌<◌, ◌≤◌, ◌⊎◌, inl, inr, Bool, true, false, cond, List, [], ◌∷◌, ◌++◌, length, take, drop, min, Option, Some, None, refl, sym, ap, ◌∙◌, arith, length-append, length-drop, length-take, slice_set, leb}
-use Rattle.std.proofs.lemmas.Bool.{cases_eq, cases_lt, le-leb, lt-leb}
-use Rattle.std.proofs.lemmas.List.{drop-drop, drop_at, drop-append-le, take-append-le, take-append-drop}
+use Rattle.std.proofs.Common.{◌≡◌, ℕ, zero, suc, ◌+◌, ◌-◌, ◌*◌, ◌/◌, ◌%◌, ◌<◌, ◌≤◌, ◌⊎◌, inl, inr, Bool, true, false, List, [], ◌∷◌, ◌++◌, length, take, drop, min, Option, Some, None, refl, sym, ap, ◌∙◌, arith, length-append, length-drop, length-take, leb}
+use Rattle.std.proofs.lemmas.Bool.{cases_lt, le-leb, lt-leb}
+use Rattle.std.proofs.lemmas.List.{drop-drop, drop_at, drop-append-le, take-append-le}
 use Rattle.std.proofs.lemmas.List.Concat.{flat_map-cons}
 use Rattle.std.proofs.lemmas.List.Sums.{take_while-cons, prefix_len-le-length}
 use Rattle.std.specs.List.{flat_map, prefix_len, take_while}
 use Rattle.std.specs.Prelude.{if◌then◌else◌, slice_get}
 use Rattle.unixmodel.specs.declared.trap.Access.{Access}
-use Rattle.unixmodel.specs.Memory.{Page, Memory, permits, permitted, page_for, reach}
+use Rattle.unixmodel.specs.Memory.{Page, Memory, permits, permitted, reach}
 use Rattle.vm.specs.Reach.{IsSized, run_of, rest_of, piece_at}
 
 either : (b : Bool) → (b ≡ true) ⊎ (b ≡ false)

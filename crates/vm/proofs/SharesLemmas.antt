@@ -1,20 +1,20 @@
 -- Lemmas on all frames of a machine.
-use Rattle.std.proofs.Common.{◌≡◌, ◌≢◌, ℕ, zero, suc, ◌+◌, ◌<◌, ◌≤◌, List, [], ◌∷◌, ◌++◌, length, true, get_or, slice_set, Option, Some, None, refl, sym, ap, ◌∙◌, arith, length-append, length-set, get_or-set_other, get_or-set_same, ◌⊎◌, inl, inr, replicate, ltb, add-one}
-use Rattle.std.proofs.lemmas.Bool.{cases_eq, cases_lt}
+use Rattle.std.proofs.Common.{◌≡◌, ◌≢◌, ℕ, zero, suc, ◌+◌, ◌<◌, ◌≤◌, List, [], ◌∷◌, ◌++◌, length, true, get_or, slice_set, Option, Some, None, refl, sym, ap, ◌∙◌, arith, length-append, length-set, get_or-set_other, get_or-set_same, inl, inr, replicate, ltb}
+use Rattle.std.proofs.lemmas.Bool.{cases_eq}
 use Rattle.std.specs.List.{sum_by, flat_map}
-use Rattle.std.proofs.lemmas.List.Concat.{flat_map-cons, flat_map-append}
+use Rattle.std.proofs.lemmas.List.{set-get_or}
 use Rattle.std.proofs.lemmas.List.Sums.{sum_by-cons}
 use Rattle.ram.specs.Memory.{frame_of}
 use Rattle.frames.specs.declared.Frames.{Frames}
-use Rattle.frames.specs.Free.{among, free_of, free_count, IsFreeList, SameBut}
+use Rattle.frames.specs.Free.{among, free_of, free_count, further_at, IsFreeList}
 use Rattle.frames.specs.FreeLemmas.{free_of-same, IsFreeList-same}
 use Rattle.frames.specs.Holders.{one_if, count_of, holders_of, IsShared, Trades}
-use Rattle.frames.proofs.HolderLemmas.{count_of-append, count_of-first, count_of-other, among-none, none-among, holders-free, one_if-le, IsShared-trade, shared-count}
+use Rattle.frames.proofs.HolderLemmas.{count_of-append, count_of-first, holders-free, held-inside, one-holder, single, IsShared-trade, shared-count}
 use Rattle.vm.specs.declared.Space.{Space}
-use Rattle.vm.specs.Dense.{frames_for, held}
+use Rattle.vm.specs.Dense.{frames_for}
 use Rattle.vm.proofs.DenseLemmas.{length-held}
 use Rattle.vm.specs.Space.{IsSpace, holds, pages_in, IsUntouched}
-use Rattle.vm.proofs.Beside.{Trades-untouched, Trades-space}
+use Rattle.vm.proofs.Beside.{alone-stays, Trades-untouched, Trades-space}
 use Rattle.vm.specs.Shares.{held_at, all_held, IsPlace, IsMachine, frames_used, frames_of, OthersUntouched, AllUntouched}
 
 -- ---- counts in a list of places
@@ -52,19 +52,24 @@ set-place g h f (x ∷ xs) (suc i) y hi same =
       set-place g h f xs i y (omega arith) (λ j ne. same (suc j) (λ e. ne (omega arith))),
     )
 
+within-places : (xs : List (Option Space)) (i : ℕ) (x : Space) → get_or xs i None ≡ Some x → i < length xs
+within-places [] i x e = absurd cc
+within-places (y ∷ xs) zero x e = omega arith
+within-places (y ∷ xs) (suc i) x e = let h = within-places xs i x e in omega (arith, h)
+
 -- ---- one place trades
 
 held-by : (m : List (List ℕ)) (places : List (Option Space)) (j : ℕ) (x : Space) → get_or places j None ≡ Some x → holds m x ≡ held_at m (get_or places j None)
 held-by m places j x e = ap (held_at m) (sym e)
 
-room : (m : List (List ℕ)) (s : Frames) (places : List (Option Space)) (others : List ℕ) (i j : ℕ) (x : Space) → IsMachine m s places others → j ≢ i → get_or places j None ≡ Some x
+room-of : (m : List (List ℕ)) (s : Frames) (places : List (Option Space)) (others : List ℕ) (i j : ℕ) (x : Space) → IsMachine m s places others → j ≢ i → get_or places j None ≡ Some x
     → (f : ℕ) → count_of f (held_at m (get_or places i None)) + count_of f (holds m x) ≤ holders_of m s f
-room m s places others i j x is ne e f =
+room-of m s places others i j x is ne e f =
     omega (arith, is.shared.each f, count_of-append f (flat_map (held_at m) places) others, two-places (held_at m) f places i j refl ne, ap (count_of f) (held-by m places j x e))
 
 -- what one place trades leaves the others as they were
 pub trade-others : (m k : List (List ℕ)) (s n : Frames) (places : List (Option Space)) (others new : List ℕ) (i : ℕ) → IsMachine m s places others → Trades m k s n (held_at m (get_or places i None)) new → OthersUntouched m k places i
-trade-others m k s n places others new i is t j x ne e = Trades-untouched m k s n (held_at m (get_or places i None)) new x (is.each j x e) (room m s places others i j x is ne e) t
+trade-others m k s n places others new i is t j x ne e = Trades-untouched m k s n (held_at m (get_or places i None)) new x (is.each j x e) (room-of m s places others i j x is ne e) t
 
 same-held : (m k : List (List ℕ)) (o : Option Space) → ((x : Space) → o ≡ Some x → IsUntouched m k x) → held_at k o ≡ held_at m o
 same-held m k None h = refl
@@ -89,7 +94,7 @@ trade-machine m k s n places others i y is hi new t =
         | inl same ↦ place-space k y n x new (sym (get_or-set_same places i y None hi) ∙ ap (λ p. get_or (slice_set places i y) p None) (sym same) ∙ e)
         | inr ne ↦
             let old : get_or places j None ≡ Some x = sym (get_or-set_other places i j y None ne) ∙ e in
-            Trades-space m k s n (held_at m (get_or places i None)) (held_at k y) x (is.each j x old) (room m s places others i j x is ne old) t (place-free k y n new)
+            Trades-space m k s n (held_at m (get_or places i None)) (held_at k y) x (is.each j x old) (room-of m s places others i j x is ne old) t (place-free k y n new)
       ];
       shared = IsShared-trade m k s n (all_held m places others) (all_held k (slice_set places i y) others) (held_at m (get_or places i None)) (held_at k y) is.shared t
           (λ f. omega (
@@ -98,6 +103,51 @@ trade-machine m k s n places others i y is hi new t =
             count_of-append f (flat_map (held_at k) (slice_set places i y)) others,
             set-place (held_at m) (held_at k) f places i y hi (λ j ne. same-held m k (get_or places j None) (λ x e. stay j x ne e)),
           ));
+      alone = λ f some.
+          let room : count_of f (held_at m (get_or places i None)) + count_of f others ≤ holders_of m s f =
+          omega (arith, is.shared.each f, count_of-append f (flat_map (held_at m) places) others, one-place (held_at m) f places i refl) in
+          alone-stays m k s n (held_at m (get_or places i None)) (held_at k y) f is.free (place-free k y n new) t (omega (arith, room, some)) (is.alone f some);
+    }
+
+-- the machine stays one where a space shares its frames with a new one, which gets a place that had none
+pub fork-machine : (m k : List (List ℕ)) (s n : Frames) (places : List (Option Space)) (others : List ℕ) (i j : ℕ) (x c : Space) → IsMachine m s places others → get_or places i None ≡ Some x → j < length places → get_or places j None ≡ None → IsSpace k x n → IsSpace k c n
+    → Trades m k s n (holds m x) (holds k x ++ holds k c) → IsMachine k n (slice_set places j (Some c)) others
+fork-machine m k s n places others i j x c is at hi none parent child t =
+    let first : Trades m k s n (held_at m (get_or places i None)) (holds k x ++ holds k c) = rw at t in
+    let stay = trade-others m k s n places others (holds k x ++ holds k c) i is first in
+    let low : i < length places = within-places places i x at in
+    let same : slice_set places i (Some x) ≡ places = ap (slice_set places i) (sym at) ∙ set-get_or places i None in
+    let one : (f : ℕ) → count_of f (flat_map (held_at k) places) + count_of f (holds m x) ≡ count_of f (flat_map (held_at m) places) + count_of f (holds k x) = λ (f : ℕ).
+    omega (
+      arith,
+      set-place (held_at m) (held_at k) f places i (Some x) low (λ p ne. same-held m k (get_or places p None) (λ y e. stay p y ne e)),
+      ap (λ (l : List (Option Space)). count_of f (flat_map (held_at k) l)) same,
+      ap (λ o. count_of f (held_at m o)) at,
+    ) in
+    let room : (f : ℕ) → count_of f (holds m x) + count_of f others ≤ holders_of m s f = λ (f : ℕ).
+    omega (arith, is.shared.each f, count_of-append f (flat_map (held_at m) places) others, one-place (held_at m) f places i refl, ap (λ o. count_of f (held_at m o)) at) in
+    record {
+      free = child.free;
+      each = λ p y e. elim (cases_eq p j) [
+        | inl new ↦ place-space k (Some c) n y child (sym (get_or-set_same places j (Some c) None hi) ∙ ap (λ q. get_or (slice_set places j (Some c)) q None) (sym new) ∙ e)
+        | inr ne ↦
+            let old : get_or places p None ≡ Some y = sym (get_or-set_other places j p (Some c) None ne) ∙ e in
+            elim (cases_eq p i) [
+              | inl is_i ↦ place-space k (Some x) n y parent (sym at ∙ ap (λ q. get_or places q None) (sym is_i) ∙ old)
+              | inr other ↦ Trades-space m k s n (held_at m (get_or places i None)) (holds k x ++ holds k c) y (is.each p y old) (room-of m s places others i p y is other old) first child.free
+            ]
+      ];
+      shared = IsShared-trade m k s n (all_held m places others) (all_held k (slice_set places j (Some c)) others) (holds m x) (holds k x ++ holds k c) is.shared t
+          (λ f. omega (
+            arith,
+            count_of-append f (flat_map (held_at m) places) others,
+            count_of-append f (flat_map (held_at k) (slice_set places j (Some c))) others,
+            count_of-append f (holds k x) (holds k c),
+            one f,
+            set-place (held_at k) (held_at k) f places j (Some c) hi (λ p ne. refl),
+            ap (λ o. count_of f (held_at k o)) none,
+          ));
+      alone = λ f some. alone-stays m k s n (holds m x) (holds k x ++ holds k c) f is.free child.free t (omega (arith, room f, some)) (is.alone f some);
     }
 
 -- the other frames keep their bytes then
@@ -116,9 +166,27 @@ beside-rest m s places others old j x is low e f =
 pub rest-untouched : (m k : List (List ℕ)) (s n : Frames) (places : List (Option Space)) (others old new : List ℕ) → IsMachine m s places others → ((f : ℕ) → count_of f old ≤ count_of f others) → Trades m k s n old new → AllUntouched m k places
 rest-untouched m k s n places others old new is low t j x e = Trades-untouched m k s n old new x (is.each j x e) (beside-rest m s places others old j x is low e) t
 
+-- what is of the others then, they alone hold
+rest-alone : (m k : List (List ℕ)) (s n : Frames) (places : List (Option Space)) (others after old new : List ℕ) → IsMachine m s places others → IsFreeList k n → ((f : ℕ) → count_of f old ≤ count_of f others)
+    → Trades m k s n old new → ((f : ℕ) → count_of f new ≤ 1) → ((f : ℕ) → count_of f after + count_of f old ≡ count_of f others + count_of f new) → (f : ℕ) → 0 < count_of f after → further_at n f ≡ 0
+rest-alone m k s n places others after old new is free low t once moved f some =
+    let held : count_of f others ≤ holders_of m s f = omega (arith, is.shared.each f, count_of-append f (flat_map (held_at m) places) others) in
+    single k n f free (elim (cases_eq (count_of f others) 0) [
+      | inl none ↦ omega (arith, t.moved f, once f, t.fresh f (omega (arith, none, low f)) (omega (arith, none, some, moved f)))
+      | inr there ↦
+          let one = one-holder m s f is.free (is.alone f (omega (arith, there))) in
+          elim (cases_eq (count_of f old) 0) [
+            | inl kept ↦ elim (cases_eq (count_of f new) 0) [
+              | inl none ↦ omega (arith, t.moved f, one, none)
+              | inr fresh ↦ absurd (omega (arith, t.fresh f kept (omega (arith, fresh)), held, there))
+            ]
+            | inr given ↦ omega (arith, t.moved f, one, given, once f)
+          ]
+    ])
+
 pub rest-machine : (m k : List (List ℕ)) (s n : Frames) (places : List (Option Space)) (others after old new : List ℕ) → IsMachine m s places others → IsFreeList k n → ((f : ℕ) → count_of f old ≤ count_of f others)
-    → Trades m k s n old new → ((f : ℕ) → count_of f after + count_of f old ≡ count_of f others + count_of f new) → IsMachine k n places after
-rest-machine m k s n places others after old new is free low t moved =
+    → Trades m k s n old new → ((f : ℕ) → count_of f new ≤ 1) → ((f : ℕ) → count_of f after + count_of f old ≡ count_of f others + count_of f new) → IsMachine k n places after
+rest-machine m k s n places others after old new is free low t once moved =
     let stay = rest-untouched m k s n places others old new is low t in
     record {
       free = free;
@@ -131,34 +199,22 @@ rest-machine m k s n places others after old new is free low t moved =
             count_of-append f (flat_map (held_at k) places) after,
             ap (count_of f) (same-places (held_at m) (held_at k) places (λ j. same-held m k (get_or places j None) (λ x e. stay j x e))),
           ));
+      alone = λ f some. rest-alone m k s n places others after old new is free low t once moved f some;
     }
 
--- a free frame is taken by one of the others, a frame is given back, or written
-pub Trades-take : (m : List (List ℕ)) (s n : Frames) (f : ℕ) → IsFreeList m s → IsFreeList m n → free_of m s ≡ f ∷ free_of m n → Trades m m s n [] (f ∷ [])
-Trades-take m s n f is after e = record {
-  count = refl;
-  moved = λ g. omega (arith, holders-free m s is g, holders-free m n after g, ap (count_of g) e);
-  others = λ g h. refl;
-}
-
-pub Trades-give : (m k : List (List ℕ)) (s n : Frames) (f : ℕ) → IsFreeList m s → IsFreeList k n → free_of k n ≡ f ∷ free_of m s → SameBut (f ∷ []) m k → Trades m k s n (f ∷ []) []
-Trades-give m k s n f is after e same = record {
-  count = same.count;
-  moved = λ g. omega (arith, holders-free m s is g, holders-free k n after g, ap (count_of g) e, ap (λ l. one_if (ltb g l)) same.count);
-  others = λ g h. same.others g (among-none g (f ∷ []) (omega (arith, h, holders-free m s is g, one_if-le (ltb g (length m)))));
-}
-
-pub Trades-write : (m k : List (List ℕ)) (s : Frames) (f : ℕ) (w : List ℕ) → IsFreeList m s → 0 < holders_of m s f → k ≡ slice_set m f w → Trades m k s s (f ∷ []) (f ∷ []) × IsFreeList k s
-Trades-write m k s f w is some e =
+-- one of the others is written
+pub Trades-write : (m k : List (List ℕ)) (s : Frames) (f : ℕ) (w : List ℕ) → IsFreeList m s → 0 < holders_of m s f → further_at s f ≡ 0 → k ≡ slice_set m f w → Trades m k s s (f ∷ []) (f ∷ []) × IsFreeList k s
+Trades-write m k s f w is some alone e =
     let len : length k ≡ length m = rw e (length-set m f w) in
     let other : (g : ℕ) → g ≢ f → frame_of k g ≡ frame_of m g = λ (g : ℕ) (ne : g ≢ f). rw e (get_or-set_other m f g w [] ne) in
     let stays : (g : ℕ) → among g (free_of m s) ≡ true → frame_of k g ≡ frame_of m g = λ (g : ℕ) (at : among g (free_of m s) ≡ true). other g (λ z.
-    cc (ap (λ x. among x (free_of m s)) z, at, among-none f (free_of m s) (omega (arith, some, holders-free m s is f, one_if-le (ltb f (length m)))))) in
+    cc (ap (λ x. among x (free_of m s)) z, at, (held-inside m s f is some).1)) in
     let free : IsFreeList k s = IsFreeList-same m k s is len stays in (
       record {
         count = len;
         moved = λ g. omega (arith, holders-free m s is g, holders-free k s free g, ap (count_of g) (free_of-same m k s stays), ap (λ l. one_if (ltb g l)) len);
-        others = λ g h. other g (λ z. omega (arith, h, count_of-first g f [] z, holders-free m s is g, one_if-le (ltb g (length m))));
+        others = λ g h. other g (λ z. omega (arith, h, count_of-first g f [] z, ap (holders_of m s) z, one-holder m s f is alone));
+        fresh = λ g none has. absurd (omega (arith, none, has));
       },
       free,
     )
@@ -189,6 +245,7 @@ settle-machine m s places others i y is hi none new = record {
       ap (λ o. count_of f (held_at m o)) none,
     );
   };
+  alone = λ f some. is.alone f (omega (arith, some, count_of-append f others (holds m y)));
 }
 
 -- ---- how many frames are free
@@ -224,4 +281,5 @@ machine-new m s n free shared = record {
   free = free;
   each = λ j x e. absurd (none-there n j x e);
   shared = record { each = λ f. omega (arith, shared.each f, count_of-append f (flat_map (held_at m) (replicate n None)) [], ap (count_of f) (none-held m n)) };
+  alone = λ f some. absurd (omega (arith, some));
 }

@@ -1,8 +1,7 @@
 -- The pages of a space have 4096 bytes.
-use Rattle.std.proofs.Common.{◌≡◌, ℕ, ◌<◌, List, length, Option, Some, None, refl, sym, ap, ◌∙◌, arith, get_or}
-use Rattle.std.specs.Prelude.{slice_get}
+use Rattle.std.proofs.Common.{◌≡◌, ℕ, ◌<◌, List, length, sym, ap, ◌∙◌, arith}
 use Rattle.std.proofs.lemmas.Option.{slice_get_within, get_or_from_slice_get}
-use Rattle.ram.specs.Memory.{frame_of, IsMemory}
+use Rattle.ram.specs.Memory.{IsMemory}
 use Rattle.unixmodel.specs.Memory.{Page}
 use Rattle.vm.specs.Dense.{frame_at, page_at, pages_below, IsDense}
 use Rattle.vm.proofs.PageLemmas.{length-pages, get_or-pages}

@@ -1,22 +1,22 @@
 -- A frame that is taken becomes the next page.
-use Rattle.std.proofs.Common.{◌≡◌, ◌≢◌, ℕ, zero, suc, ◌+◌, ◌-◌, ◌*◌, ◌/◌, ◌%◌, ◌^◌, ◌<◌, ◌≤◌, ◌⊎◌, inl, inr, Bool, false, true, List, [], ◌∷◌, ◌++◌, length, Option, Some, None, unwrap_or, refl, sym, ap, ◌∙◌, arith, length-append, eqb, eq-eqb, ltb, slice_set, length-set, get_or-set_other, add-one}
-use Rattle.std.specs.Prelude.{if◌then◌else◌}
-use Rattle.std.proofs.lemmas.Bool.{cases_eq, cases_lt, ne_eqb, lt-ltb, le-ltb}
+use Rattle.std.proofs.Common.{◌≡◌, ◌≢◌, ℕ, zero, suc, ◌+◌, ◌<◌, ◌≤◌, inl, inr, true, List, [], ◌∷◌, ◌++◌, length, Option, Some, unwrap_or, refl, sym, ap, ◌∙◌, arith, length-append, eqb, slice_set, length-set, get_or-set_other, add-one}
+use Rattle.std.proofs.lemmas.Bool.{cases_eq}
 use Rattle.ram.specs.Memory.{frame_of}
 use Rattle.frames.specs.declared.Frames.{Frames}
-use Rattle.frames.specs.Free.{among, free_of, IsFreeList}
-use Rattle.frames.specs.FreeLemmas.{free_of-same, IsFreeList-same, among_first_not, among_first}
+use Rattle.frames.specs.Free.{among, free_of, free_count, extra_of, further_at, IsFreeList}
+use Rattle.frames.specs.FreeLemmas.{among_first, free_of-same, IsFreeList-same, further-free}
 use Rattle.frames.specs.Holders.{one_if, count_of, holders_of, Trades}
-use Rattle.frames.proofs.HolderLemmas.{one_if-le, count_of-append, count_of-first, count_of-other, among-none, none-among, holders-free}
-use Rattle.pagetable.specs.Tree.{Node, Root, Mid, Low, IsNode, mid_node, low_node, table_at, lookup_of, IsTree, IsPaged, Holds, Keeps, Inserts, missing}
-use Rattle.pagetable.specs.TreeLemmas.{free-first}
+use Rattle.frames.proofs.HolderLemmas.{count_of-append, count_of-first, among-none, none-among, holders-table, free-holders, held-inside, one-holder, distinct-count, count-cases}
+use Rattle.pagetable.specs.Tree.{table_at, lookup_of, IsPaged, Holds, Keeps, Inserts, missing}
+use Rattle.pagetable.specs.TreeLemmas.{free-first, further-same, free_count-taken}
 use Rattle.pagetable.proofs.Beside.{IsTree-same, table_at-same, lookup_of-same}
-use Rattle.pagetable.specs.Shape.{table_of, IsTidy, made, Adds}
+use Rattle.pagetable.specs.Shape.{IsTidy, made, Adds}
 use Rattle.pagetable.proofs.ShapeLemmas.{length-made}
-use Rattle.vm.specs.Dense.{trap_page, trap_marks, frame_at, marks_at, page_at, page_with, mapped_at, mapped_by, mapping_below, pages_below, frames_below, tables_for, tables_below, held, frames_for, IsDense, IsHeld}
-use Rattle.vm.specs.Leaf.{IsUserLeaf}
-use Rattle.vm.proofs.DenseLemmas.{IsHeld-made, pages_below-zero, pages_below-more, count-held, page-held, pages-apart, table-held, mapped-cases}
-use Rattle.vm.proofs.GrowLemmas.{missing-next, IsTidy-same, lookup-parts, frame_at-is, marks_at-is, frame_at-same, marks_at-same, IsDense-same, held-same, made-tables}
+use Rattle.vm.specs.Dense.{trap_page, frame_at, marks_at, page_at, page_with, read_at, read_by, read_below, pages_below, frames_below, tables_for, tables_below, held, frames_for, IsDense, IsHeld}
+use Rattle.unixmodel.specs.Memory.{Marks}
+use Rattle.vm.specs.Leaf.{IsUserLeaf, is_open}
+use Rattle.vm.proofs.DenseLemmas.{pages_below-zero, pages_below-more, count-held, page-held, table-held}
+use Rattle.vm.proofs.GrowLemmas.{missing-next, lookup-parts, frame_at-is, marks_at-is, frame_at-same, marks_at-same, IsDense-same, held-same, made-tables}
 
 -- frame f was free and is taken, and others keep their bytes
 pub record IsTaken (m z : List (List ℕ)) (s n : Frames) (f : ℕ) : Type 0 where
@@ -24,10 +24,38 @@ pub record IsTaken (m z : List (List ℕ)) (s n : Frames) (f : ℕ) : Type 0 whe
   pub after : IsFreeList m n
   pub count : length z ≡ length m
   pub others : (g : ℕ) → g ≢ f → frame_of z g ≡ frame_of m g
+  pub extra : extra_of n ≡ extra_of s
 
--- what a space holds is not free
+-- what a space holds is not free, and nothing is free twice
 pub held-not_free : (m : List (List ℕ)) (r t n : ℕ) (s : Frames) → IsHeld m r t n s → (f : ℕ) → count_of f (held m r t n) + count_of f (free_of m s) ≤ 1
-held-not_free m r t n s is f = omega (arith, is.held f, holders-free m s is.free f, one_if-le (ltb f (length m)))
+held-not_free m r t n s is f = elim (cases_eq (count_of f (held m r t n)) 0) [
+  | inl none ↦ omega (arith, none, distinct-count f (free_of m s) is.free.distinct)
+  | inr some ↦ omega (arith, is.once f, none-among f (free_of m s) (held-inside m s f is.free (omega (arith, is.held f, some))).1)
+]
+
+-- a frame with more holders than this space is none of its tables, nor its trap frame, and isn't free
+pub beyond-held : (m : List (List ℕ)) (r t n : ℕ) (s : Frames) → IsHeld m r t n s → (f : ℕ) → count_of f (held m r t n) < holders_of m s f
+    → (count_of f (tables_below m r n) + count_of f (t ∷ []) ≡ 0) × (count_of f (free_of m s) ≡ 0)
+beyond-held m r t n s is f more =
+    let free = none-among f (free_of m s) (held-inside m s f is.free (omega (arith, more))).1 in
+    elim (cases_eq (count_of f (tables_below m r n) + count_of f (t ∷ [])) 0) [
+      | inl none ↦ (none, free)
+      | inr some ↦ absurd (omega (arith, more, some, count-held m r t n f, one-holder m s f is.free (is.own f (omega (arith, some)))))
+    ]
+
+-- a frame that had no further holder, or was free, has none afterwards: so often it stood, and so often it stands
+pub alone-next : (m : List (List ℕ)) (s w : Frames) (f old new : ℕ) → IsFreeList m s → extra_of w ≡ extra_of s → (0 < old → further_at s f ≡ 0) → new ≤ old + count_of f (free_of m s) → 0 < new → further_at w f ≡ 0
+alone-next m s w f old new is same alone le some = further-same s w f same ∙ elim (count-cases f (free_of m s)) [
+  | inl at ↦ further-free m s f is at
+  | inr none ↦ alone (omega (arith, le, some, none))
+]
+
+-- and one that comes to a holder was free
+pub fresh-next : (m : List (List ℕ)) (s : Frames) (f : ℕ) (old new : List ℕ) → IsFreeList m s → count_of f new ≤ count_of f old + count_of f (free_of m s) → count_of f old ≡ 0 → 0 < count_of f new → holders_of m s f ≡ 0
+fresh-next m s f old new is le none some = elim (count-cases f (free_of m s)) [
+  | inl at ↦ free-holders m s f is at
+  | inr absent ↦ absurd (omega (arith, le, none, some, absent))
+]
 
 pub fresh-not_held : (m z : List (List ℕ)) (r t n : ℕ) (s q : Frames) (f : ℕ) → IsHeld m r t n s → IsTaken m z s q f → count_of f (held m r t n) ≡ 0
 fresh-not_held m z r t n s q f is k = omega (arith, held-not_free m r t n s is f, ap (count_of f) k.taken, count_of-first f f (free_of m q) refl)
@@ -54,6 +82,9 @@ IsPaged-taken m z r t n s q f is k =
           let held_v : Holds m r v = record { place = x; is_node = nx; at_place = old } in
           among-none v (free_of z q) (rw ((free-after m z s q f is.free k).0)
           (omega (arith, held-not_free m r t n s is v, count-held m r t n v, table-held m r t n v is.dense held_v, ap (count_of v) k.taken)));
+      own = λ x v nx h.
+          let held_v : Holds m r v = record { place = x; is_node = nx; at_place = sym (table_at-same m z r same x nx) ∙ h } in
+          further-same s q v k.extra ∙ is.own v (omega (arith, table-held m r t n v is.dense held_v));
     }
 
 -- the page has come
@@ -64,6 +95,7 @@ pub record IsNext (z k : List (List ℕ)) (r n f marks : ℕ) (q w : Frames) : T
   pub tidy : IsTidy k r
   pub paged : IsPaged k r w
   pub keeps : Keeps z k r q w
+  pub extra : extra_of w ≡ extra_of q
 
 pub IsDense-next : (m z k : List (List ℕ)) (r t n f marks : ℕ) (s q w : Frames) → IsHeld m r t n s → IsTaken m z s q f → n < 32768 → IsNext z k r n f marks q w → IsDense k r t (suc n)
 IsDense-next m z k r t n f marks s q w is k1 small next =
@@ -107,13 +139,42 @@ count-next m z k r t n f marks s q w is k1 small next g =
     let tables : count_of g (tables_below k r (suc n)) ≡ count_of g (tables_for k r n) + count_of g (tables_below m r n) = count_of-append g (tables_for k r n) (tables_below k r n) ∙ ap (λ l. count_of g (tables_for k r n) + count_of g l) (both.0) in
     omega (arith, count-held m r t n g, count-held k r t (suc n) g, free_m, free_z, frames, tables)
 
+-- the tables that came were free
+tables-next : (m z k : List (List ℕ)) (r t n f marks : ℕ) (s q w : Frames) → IsHeld m r t n s → IsTaken m z s q f → n < 32768 → IsNext z k r n f marks q w → (g : ℕ) → count_of g (tables_below k r (suc n)) ≤ count_of g (tables_below m r n) + count_of g (free_of m s)
+unfolding tables_below
+tables-next m z k r t n f marks s q w is k1 small next g =
+    let is_z : IsDense z r t n = IsDense-same m z r t n is.dense k1.count (tables-same m z r t n s q f is k1) in
+    let both = held-next m z k r t n f marks s q w is k1 small next in
+    let free : count_of g (free_of m q) ≡ count_of g (tables_for k r n) + count_of g (free_of k w) =
+    ap (count_of g) (sym (free-after m z s q f is.free k1).0 ∙ next.adds.taken ∙ ap (λ l. l ++ free_of k w) (made-tables z k r t n is_z small)) ∙ count_of-append g (tables_for k r n) (free_of k w) in
+    omega (arith, ap (count_of g) k1.taken, free, count_of-append g (tables_for k r n) (tables_below k r n), ap (count_of g) both.0)
+
+-- the page's frame was free
+open-next : (m z k : List (List ℕ)) (r t n f marks : ℕ) (s q w : Frames) → IsHeld m r t n s → IsTaken m z s q f → n < 32768 → IsNext z k r n f marks q w → (p : ℕ) → p < suc n → is_open (marks_at k r p) ≡ true → further_at w (frame_at k r p) ≡ 0
+open-next m z k r t n f marks s q w is k1 small next p low wide =
+    let further : (v : ℕ) → further_at w v ≡ further_at s v = λ (v : ℕ). further-same s w v (next.extra ∙ k1.extra) in
+    elim (cases_eq p n) [
+      | inl e ↦
+          let at : among f (free_of m s) ≡ true = ap (among f) k1.taken ∙ among_first f (free_of m q) in
+          ap (λ x. further_at w (frame_at k r x)) e ∙ ap (further_at w) (frame_at-is k r n f marks next.inserts.changed) ∙ further f ∙ further-free m s f is.free at
+      | inr ne ↦
+          let looks : lookup_of k r p ≡ lookup_of m r p = next.inserts.others p (omega (arith, low, small)) ne ∙ lookup_of-same m z r (tables-same m z r t n s q f is k1) p in
+          ap (further_at w) (frame_at-same m k r p looks) ∙ further (frame_at m r p) ∙ is.alone p (omega (arith, low, ne)) (ap is_open (sym (marks_at-same m k r p looks)) ∙ wide)
+    ]
+
 pub IsHeld-next : (m z k : List (List ℕ)) (r t n f marks : ℕ) (s q w : Frames) → IsHeld m r t n s → IsTaken m z s q f → n < 32768 → IsNext z k r n f marks q w → IsHeld k r t (suc n) w
 IsHeld-next m z k r t n f marks s q w is k1 small next =
     let len : length k ≡ length m = next.keeps.count ∙ k1.count in
-    IsHeld-made k r t (suc n) w
-    (IsDense-next m z k r t n f marks s q w is k1 small next)
-    next.paged.free
-    (λ g. omega (arith, count-next m z k r t n f marks s q w is k1 small next g, is.held g, holders-free m s is.free g, holders-free k w next.paged.free g, ap (λ l. one_if (ltb g l)) len))
+    let counts = count-next m z k r t n f marks s q w is k1 small next in
+    record {
+      dense = IsDense-next m z k r t n f marks s q w is k1 small next;
+      once = λ g. omega (arith, counts g, held-not_free m r t n s is g);
+      free = next.paged.free;
+      own = λ g. alone-next m s w g (count_of g (tables_below m r n) + count_of g (t ∷ [])) (count_of g (tables_below k r (suc n)) + count_of g (t ∷ [])) is.free (next.extra ∙ k1.extra) (is.own g)
+          (omega (arith, tables-next m z k r t n f marks s q w is k1 small next g));
+      alone = open-next m z k r t n f marks s q w is k1 small next;
+      held = λ g. omega (arith, counts g, is.held g, holders-table m k s w is.free next.paged.free len (next.extra ∙ k1.extra) g);
+    }
 
 -- a frame that is neither a table nor free keeps its bytes
 pub stays-next : (m z k : List (List ℕ)) (r t n f marks : ℕ) (s q w : Frames) → IsHeld m r t n s → IsTaken m z s q f → IsNext z k r n f marks q w
@@ -132,19 +193,20 @@ Trades-next m z k r t n f marks s q w is k1 small next =
     let len : length k ≡ length m = next.keeps.count ∙ k1.count in
     record {
       count = len;
-      moved = λ g. omega (arith, count-next m z k r t n f marks s q w is k1 small next g, holders-free m s is.free g, holders-free k w next.paged.free g, ap (λ l. one_if (ltb g l)) len);
-      others = λ g h. stays-next m z k r t n f marks s q w is k1 next g
-          (omega (arith, h, count-held m r t n g, holders-free m s is.free g, one_if-le (ltb g (length m))))
-          (omega (arith, h, holders-free m s is.free g, one_if-le (ltb g (length m))));
+      moved = λ g. omega (arith, count-next m z k r t n f marks s q w is k1 small next g, holders-table m k s w is.free next.paged.free len (next.extra ∙ k1.extra) g);
+      others = λ g h.
+          let beyond = beyond-held m r t n s is g h in
+          stays-next m z k r t n f marks s q w is k1 next g (omega (arith, beyond.0)) beyond.1;
+      fresh = λ g. fresh-next m s g (held m r t n) (held k r t (suc n)) is.free (omega (arith, count-next m z k r t n f marks s q w is k1 small next g));
     }
 
 -- the pages that stay
-pub mapping_below-same : (m k : List (List ℕ)) (r n : ℕ) → ((p : ℕ) → p < n → lookup_of k r p ≡ lookup_of m r p) → mapping_below k r n ≡ mapping_below m r n
-unfolding mapping_below
-mapping_below-same m k r zero looks = refl
-mapping_below-same m k r (suc n) looks =
-    let here : mapped_at k r n ≡ mapped_at m r n = ap (λ (o : Option (ℕ × ℕ)). mapped_by (unwrap_or o (0, 0))) (looks n (omega arith)) in
-    ap (λ l. l ++ (mapped_at k r n ∷ [])) (mapping_below-same m k r n (λ p h. looks p (omega arith))) ∙ ap (λ x. mapping_below m r n ++ (x ∷ [])) here
+pub read_below-same : (read : ℕ → Marks) (m k : List (List ℕ)) (r n : ℕ) → ((p : ℕ) → p < n → lookup_of k r p ≡ lookup_of m r p) → read_below read k r n ≡ read_below read m r n
+unfolding read_below
+read_below-same read m k r zero looks = refl
+read_below-same read m k r (suc n) looks =
+    let here : read_at read k r n ≡ read_at read m r n = ap (λ (o : Option (ℕ × ℕ)). read_by read (unwrap_or o (0, 0))) (looks n (omega arith)) in
+    ap (λ l. l ++ (read_at read k r n ∷ [])) (read_below-same read m k r n (λ p h. looks p (omega arith))) ∙ ap (λ x. read_below read m r n ++ (x ∷ [])) here
 
 pub pages_below-same : (m k : List (List ℕ)) (r n : ℕ) → ((p : ℕ) → p < n → lookup_of k r p ≡ lookup_of m r p) → ((p : ℕ) → p < n → frame_of k (frame_at m r p) ≡ frame_of m (frame_at m r p)) → pages_below k r n ≡ pages_below m r n
 pages_below-same m k r zero looks same = pages_below-zero k r ∙ sym (pages_below-zero m r)
@@ -171,30 +233,35 @@ pages-next m z k r t n f marks s q w is k1 small next =
     let page : page_at k r n ≡ page_with (frame_of z f) marks = ap (λ b. page_with b (marks_at k r n)) (ap (frame_of k) here ∙ bytes) ∙ ap (page_with (frame_of z f)) (marks_at-is k r n f marks next.inserts.changed) in
     pages_below-more k r n ∙ ap (λ x. pages_below k r n ++ (x ∷ [])) page ∙ ap (λ l. l ++ (page_with (frame_of z f) marks ∷ [])) old
 
-pub mapping-next : (m z k : List (List ℕ)) (r t n f marks b : ℕ) (s q w : Frames) → IsHeld m r t n s → IsTaken m z s q f → n < 32768 → IsNext z k r n f marks q w → b ≤ n → mapping_below k r b ≡ mapping_below m r b
-mapping-next m z k r t n f marks b s q w is k1 small next le =
+pub mapping-next : (read : ℕ → Marks) (m z k : List (List ℕ)) (r t n f marks b : ℕ) (s q w : Frames) → IsHeld m r t n s → IsTaken m z s q f → n < 32768 → IsNext z k r n f marks q w → b ≤ n → read_below read k r b ≡ read_below read m r b
+mapping-next read m z k r t n f marks b s q w is k1 small next le =
     let same = tables-same m z r t n s q f is k1 in
-    mapping_below-same m k r b (λ p h. next.inserts.others p (omega arith) (omega arith) ∙ lookup_of-same m z r same p)
+    read_below-same read m k r b (λ p h. next.inserts.others p (omega arith) (omega arith) ∙ lookup_of-same m z r same p)
 
-pub IsTaken-set : (m z : List (List ℕ)) (s q : Frames) (f : ℕ) (w : List ℕ) → free_of m s ≡ f ∷ free_of m q → IsFreeList m q → z ≡ slice_set m f w → IsTaken m z s q f
-IsTaken-set m z s q f w taken after e = record {
+pub IsTaken-set : (m z : List (List ℕ)) (s q : Frames) (f : ℕ) (w : List ℕ) → free_of m s ≡ f ∷ free_of m q → IsFreeList m q → z ≡ slice_set m f w → extra_of q ≡ extra_of s → IsTaken m z s q f
+IsTaken-set m z s q f w taken after e extra = record {
   taken = taken;
   after = after;
   count = rw e (length-set m f w);
   others = λ g ne. rw e (get_or-set_other m f g w [] ne);
+  extra = extra;
 }
 
-pub missing-taken : (m z : List (List ℕ)) (r t n f : ℕ) (s q : Frames) → IsHeld m r t n s → IsTaken m z s q f → n < 32768 → frames_for (n + 1) ≤ frames_for n + length (free_of m s) → missing z r n ≤ length (free_of z q)
+pub missing-taken : (m z : List (List ℕ)) (r t n f : ℕ) (s q : Frames) → IsHeld m r t n s → IsTaken m z s q f → n < 32768 → frames_for (n + 1) ≤ frames_for n + free_count m s → missing z r n ≤ free_count z q
 missing-taken m z r t n f s q is k small room =
     let is_z : IsDense z r t n = IsDense-same m z r t n is.dense k.count (tables-same m z r t n s q f is k) in
     let more : frames_for (n + 1) ≡ frames_for (suc n) = ap frames_for (add-one n) in
-    omega (arith, room, more, missing-next z r t n is_z small, ap length k.taken, ap length (free-after m z s q f is.free k).0)
+    let after = free-after m z s q f is.free k in
+    let taken = free_count-taken m z s q 1 (omega (arith, ap length k.taken, ap length after.0)) k.extra after.1 in
+    omega (arith, room, more, missing-next z r t n is_z small, taken)
 
-pub room-next : (m z k : List (List ℕ)) (r t n f marks : ℕ) (s q w : Frames) → IsHeld m r t n s → IsTaken m z s q f → n < 32768 → IsNext z k r n f marks q w → frames_for (n + 1) + length (free_of k w) ≡ frames_for n + length (free_of m s)
+pub room-next : (m z k : List (List ℕ)) (r t n f marks : ℕ) (s q w : Frames) → IsHeld m r t n s → IsTaken m z s q f → n < 32768 → IsNext z k r n f marks q w → frames_for (n + 1) + free_count k w ≡ frames_for n + free_count m s
 room-next m z k r t n f marks s q w is k1 small next =
     let is_z : IsDense z r t n = IsDense-same m z r t n is.dense k1.count (tables-same m z r t n s q f is k1) in
     let more : frames_for (n + 1) ≡ frames_for (suc n) = ap frames_for (add-one n) in
-    omega (arith, more, missing-next z r t n is_z small, length-made z k r n, ap length k1.taken, ap length (free-after m z s q f is.free k1).0, ap length next.adds.taken, length-append (made z k r n) (free_of k w))
+    let lengths : length (free_of m s) ≡ 1 + missing z r n + length (free_of k w) =
+    omega (arith, length-made z k r n, ap length k1.taken, ap length (free-after m z s q f is.free k1).0, ap length next.adds.taken, length-append (made z k r n) (free_of k w)) in
+    omega (arith, more, missing-next z r t n is_z small, free_count-taken m k s w (1 + missing z r n) lengths (next.extra ∙ k1.extra) next.paged.free)
 
 pub trap-next : (m z k : List (List ℕ)) (r t n f marks : ℕ) (s q w : Frames) → IsHeld m r t n s → IsTaken m z s q f → IsNext z k r n f marks q w → frame_of k t ≡ frame_of m t
 trap-next m z k r t n f marks s q w is k1 next =
@@ -210,4 +277,5 @@ IsHeld-paged m r t n s is = record {
   apart = λ x v nx h.
       let held_v : Holds m r v = record { place = x; is_node = nx; at_place = h } in
       among-none v (free_of m s) (omega (arith, held-not_free m r t n s is v, count-held m r t n v, table-held m r t n v is.dense held_v));
+  own = λ x v nx h. is.own v (omega (arith, table-held m r t n v is.dense (record { place = x; is_node = nx; at_place = h })));
 }

@@ -1,24 +1,25 @@
 -- Pages and the trap frame are written: the space stands.
-use Rattle.std.proofs.Common.{◌≡◌, ◌≢◌, ℕ, zero, suc, ◌+◌, ◌<◌, ◌≤◌, ◌⊎◌, inl, inr, false, true, List, [], ◌∷◌, ◌++◌, length, refl, sym, ap, ◌∙◌, arith, ltb, slice_set, length-set, get_or, get_or-set_other, get_or-set_same}
+use Rattle.std.proofs.Common.{◌≡◌, ◌≢◌, ℕ, ◌<◌, ◌≤◌, inl, inr, true, List, [], ◌∷◌, ◌++◌, length, refl, sym, ap, ◌∙◌, arith, ltb, slice_set, length-set, get_or, get_or-set_other, get_or-set_same}
 use Rattle.std.proofs.lemmas.Bool.{cases_lt, cases_eq}
 use Rattle.std.proofs.lemmas.List.{ext_get_or}
 use Rattle.ram.specs.Memory.{frame_of}
 use Rattle.frames.specs.declared.Frames.{Frames}
-use Rattle.frames.specs.Free.{among, free_of, IsFreeList}
+use Rattle.frames.specs.Free.{among, free_of, further_at, IsFreeList}
 use Rattle.frames.specs.FreeLemmas.{free_of-same, IsFreeList-same}
 use Rattle.frames.specs.Holders.{one_if, count_of, holders_of, Trades}
-use Rattle.frames.proofs.HolderLemmas.{one_if-le, among-none, none-among, count_of-first, count_of-other, holders-free, Trades-none, Trades-twice}
-use Rattle.pagetable.specs.Tree.{lookup_of, Holds}
+use Rattle.frames.proofs.HolderLemmas.{among-none, count_of-first, holders-free, one-holder, Trades-none, Trades-twice}
+use Rattle.pagetable.specs.Tree.{Holds}
 use Rattle.pagetable.proofs.Beside.{table_at-same, lookup_of-same}
 use Rattle.pagetable.proofs.LookupLemmas.{lookup-sound}
 use Rattle.unixmodel.specs.Memory.{Page}
 use Rattle.vm.specs.declared.Space.{Space}
-use Rattle.vm.specs.Dense.{frame_at, marks_at, page_at, page_with, mapping_below, pages_below, frames_below, tables_below, held, IsDense, IsHeld}
-use Rattle.vm.proofs.DenseLemmas.{IsHeld-made, count-held, page-held, pages-apart, table-held}
+use Rattle.vm.specs.Dense.{frame_at, marks_at, page_at, page_with, pages_below, frames_below, tables_below, held, IsDense, IsHeld}
+use Rattle.vm.proofs.DenseLemmas.{count-held, page-held, pages-apart, table-held}
 use Rattle.vm.proofs.GrowLemmas.{IsDense-same, held-same, frame_at-same, marks_at-same}
 use Rattle.vm.proofs.PageLemmas.{length-pages, get_or-pages}
-use Rattle.vm.proofs.StepLemmas.{held-not_free, mapping_below-same, pages_below-same}
-use Rattle.vm.specs.Space.{pages_in, IsMapped, IsOnce, IsSpace, mapping_of, pages_of, registers_of, holds, Stands}
+use Rattle.vm.proofs.StepLemmas.{held-not_free, read_below-same, pages_below-same}
+use Rattle.vm.specs.Leaf.{entry_marks, is_open, right_marks}
+use Rattle.vm.specs.Space.{pages_in, IsMapped, IsOnce, IsSpace, pages_of, holds, Stands}
 
 -- only frames of pages and the trap frame have other bytes now
 pub record Writes (m k : List (List ℕ)) (r t n : ℕ) : Type 0 where
@@ -40,23 +41,38 @@ free-stays m k r t n s is w g at = elim (cases_eq (count_of g (t ∷ frames_belo
   | inr some ↦ absurd (cc (at, among-none g (free_of m s) (omega (arith, some, held-not_free m r t n s is g, count-held m r t n g))))
 ]
 
-space-stays : (m k : List (List ℕ)) (r t n : ℕ) (s : Frames) → IsHeld m r t n s → Writes m k r t n → IsHeld k r t n s × Trades m k s s (held m r t n) (held k r t n)
-space-stays m k r t n s is w =
+-- the space stands beside free frames and other holders where frames with several holders aren't written
+pub space-stays : (m k : List (List ℕ)) (r t n : ℕ) (s : Frames) → IsHeld m r t n s → Writes m k r t n → ((f : ℕ) → further_at s f ≢ 0 → frame_of k f ≡ frame_of m f) → IsHeld k r t n s × Trades m k s s (held m r t n) (held k r t n)
+space-stays m k r t n s is w private =
     let same = held-stays m k r t n is.dense is.once w in
+    let tables = tables-stay m k r t n is.dense is.once w in
+    let looks = lookup_of-same m k r tables in
+    let lists = held-same m k r t n is.dense (λ q h. looks q) (λ x v nx h. table_at-same m k r tables x nx ∙ h) in
     let stays = free-stays m k r t n s is w in
     let free : IsFreeList k s = IsFreeList-same m k s is.free w.count stays in
     let holders : (v : ℕ) → holders_of k s v ≡ holders_of m s v = λ (v : ℕ). omega (arith, holders-free m s is.free v, holders-free k s free v, ap (count_of v) (free_of-same m k s stays), ap (λ l. one_if (ltb v l)) w.count) in (
-      IsHeld-made k r t n s (IsDense-same m k r t n is.dense w.count (tables-stay m k r t n is.dense is.once w)) free (λ v. omega (arith, is.held v, holders v, ap (count_of v) same)),
+      record {
+        dense = IsDense-same m k r t n is.dense w.count tables;
+        once = λ v. omega (arith, is.once v, ap (count_of v) same);
+        free = free;
+        own = λ v some. is.own v (omega (arith, some, ap (count_of v) lists.0));
+        alone = λ p h wide. ap (further_at s) (frame_at-same m k r p (looks p)) ∙ is.alone p h (ap is_open (sym (marks_at-same m k r p (looks p))) ∙ wide);
+        held = λ v. omega (arith, is.held v, holders v, ap (count_of v) same);
+      },
       record {
         count = w.count;
         moved = λ v. omega (arith, holders v, ap (count_of v) same);
-        others = λ v h. w.others v (omega (arith, h, count-held m r t n v, holders-free m s is.free v, one_if-le (ltb v (length m))));
+        others = λ v h. elim (cases_eq (further_at s v) 0) [
+          | inl one ↦ w.others v (omega (arith, h, count-held m r t n v, one-holder m s v is.free one))
+          | inr more ↦ private v more
+        ];
+        fresh = λ v none some. absurd (omega (arith, none, some, ap (count_of v) same));
       },
     )
 
--- the space stands where only its pages and its trap frame are written
-pub stands : (m k : List (List ℕ)) (s : Space) → IsMapped m s → IsOnce m s → Writes m k s.root.0 s.trap.0 (pages_in s.size) → Stands m k s
-stands m k s is once w =
+-- the space stands where only its pages and its trap frame are written, and those alone that it alone holds
+pub stands : (m k : List (List ℕ)) (s : Space) → IsMapped m s → IsOnce m s → Writes m k s.root.0 s.trap.0 (pages_in s.size) → ((free : Frames) → IsSpace m s free → (f : ℕ) → further_at free f ≢ 0 → frame_of k f ≡ frame_of m f) → Stands m k s
+stands m k s is once w private =
     let r = s.root.0 in
     let t = s.trap.0 in
     let n = pages_in s.size in
@@ -65,10 +81,11 @@ stands m k s is once w =
       count = w.count;
       mapped = IsDense-same m k r t n is w.count tables;
       once = λ f. omega (arith, once f, ap (count_of f) (held-stays m k r t n is once w));
-      mapping = mapping_below-same m k r n (λ p h. lookup_of-same m k r tables p);
+      mapping = read_below-same right_marks m k r n (λ p h. lookup_of-same m k r tables p);
+      entries = read_below-same entry_marks m k r n (λ p h. lookup_of-same m k r tables p);
       frames = held-stays m k r t n is once w;
-      space = λ free h. (space-stays m k r t n free h w).0;
-      trades = λ free h. (space-stays m k r t n free h w).1;
+      space = λ free h. (space-stays m k r t n free h w (private free h)).0;
+      trades = λ free h. (space-stays m k r t n free h w (private free h)).1;
     }
 
 -- a page's frame is one of the memory, is neither another page's nor the trap frame
@@ -104,12 +121,14 @@ Writes-trap m k r t n w e = record {
   others = λ v none. rw e (get_or-set_other m t v w [] (λ z. omega (arith, none, count_of-first v t (frames_below m r n) z)));
 }
 
--- a store into a page keeps the space
-pub space-stored : (m k : List (List ℕ)) (s : Space) (p : ℕ) (w : List ℕ) → IsMapped m s → IsOnce m s → p < pages_in s.size → k ≡ slice_set m (frame_at m s.root.0 p) w → Stands m k s × (registers_of k s ≡ registers_of m s)
-space-stored m k s p w is once low e = (
-  stands m k s is once (Writes-page m k s.root.0 s.trap.0 (pages_in s.size) p w low e),
-  rw e (get_or-set_other m (frame_at m s.root.0 p) s.trap.0 w [] (trap-apart m s.root.0 s.trap.0 (pages_in s.size) p once low)),
-)
+-- one frame is written, and it has one holder
+pub private-set : (m k : List (List ℕ)) (s : Frames) (f : ℕ) (w : List ℕ) → further_at s f ≡ 0 → k ≡ slice_set m f w → (v : ℕ) → further_at s v ≢ 0 → frame_of k v ≡ frame_of m v
+private-set m k s f w one e v more = rw e (get_or-set_other m f v w [] (λ z. more (ap (further_at s) z ∙ one)))
+
+-- a store into an open page keeps the space
+pub space-stored : (m k : List (List ℕ)) (s : Space) (p : ℕ) (w : List ℕ) → IsMapped m s → IsOnce m s → p < pages_in s.size → is_open (marks_at m s.root.0 p) ≡ true → k ≡ slice_set m (frame_at m s.root.0 p) w → Stands m k s
+space-stored m k s p w is once low wide e =
+    stands m k s is once (Writes-page m k s.root.0 s.trap.0 (pages_in s.size) p w low e) (λ free h. private-set m k free (frame_at m s.root.0 p) w (h.alone p low wide) e)
 
 -- and sets that page's bytes
 pub pages-stored : (m k : List (List ℕ)) (s : Space) (p : ℕ) (w : List ℕ) → IsMapped m s → IsOnce m s → p < pages_in s.size → k ≡ slice_set m (frame_at m s.root.0 p) w
@@ -143,7 +162,7 @@ pages-kept m k s w is once e =
     (λ p h. rw e (get_or-set_other m t (frame_at m r p) w [] (λ z. trap-apart m r t n p once h (sym z))))
 
 pub Stands-none : (m : List (List ℕ)) (s : Space) → IsMapped m s → IsOnce m s → Stands m m s
-Stands-none m s is once = record { count = refl; mapped = is; once = once; mapping = refl; frames = refl; space = λ free h. h; trades = λ free h. Trades-none m free (holds m s) }
+Stands-none m s is once = record { count = refl; mapped = is; once = once; mapping = refl; entries = refl; frames = refl; space = λ free h. h; trades = λ free h. Trades-none m free (holds m s) }
 
 pub Stands-twice : (m k l : List (List ℕ)) (s : Space) → Stands m k s → Stands k l s → Stands m l s
 Stands-twice m k l s a b = record {
@@ -151,6 +170,7 @@ Stands-twice m k l s a b = record {
   mapped = b.mapped;
   once = b.once;
   mapping = b.mapping ∙ a.mapping;
+  entries = b.entries ∙ a.entries;
   frames = b.frames ∙ a.frames;
   space = λ free h. b.space free (a.space free h);
   trades = λ free h. Trades-twice m k l free free free (holds m s) (holds k s) (holds l s) (a.trades free h) (b.trades free (a.space free h));

@@ -1,10 +1,9 @@
 -- A string is read byte by byte.
-use Rattle.std.proofs.Common.{◌≡◌, ◌≢◌, ℕ, zero, suc, ◌+◌, ◌-◌, ◌/◌, ◌%◌, ◌^◌, ◌<◌, ◌≤◌, ◌⊎◌, inl, inr, List, [], ◌∷◌, ◌++◌, length, take, drop, Option, Some, None, refl, sym, ap, ◌∙◌, arith, length-append, length-take, append_assoc, append-nil, slice_set, leb, true}
+use Rattle.std.proofs.Common.{◌≡◌, ◌≢◌, ℕ, zero, suc, ◌+◌, ◌^◌, ◌<◌, ◌≤◌, List, [], ◌∷◌, ◌++◌, length, take, drop, Option, Some, None, refl, sym, ap, ◌∙◌, arith, length-append, length-take, append_assoc, append-nil, slice_set, leb, true}
 use Rattle.std.specs.Prelude.{if◌then◌else◌, slice_get, option_map}
 use Rattle.std.proofs.lemmas.Bool.{lt-leb, le-leb}
 use Rattle.unixmodel.specs.declared.trap.Access.{Access}
-use Rattle.unixmodel.specs.declared.trap.Access.TheVariants.{Load}
-use Rattle.unixmodel.specs.Memory.{Memory, reach, before_nul, path_at, short_path, string_at}
+use Rattle.unixmodel.specs.Memory.{Memory, reach, before_nul}
 use Rattle.vm.specs.Reach.{IsSized, piece_at, short_string}
 use Rattle.vm.proofs.ReachLemmas.{reach-front, reach-drop, reach-page}
 

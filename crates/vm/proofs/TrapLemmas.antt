@@ -1,16 +1,16 @@
 -- Lemmas on trap frames.
-use Rattle.std.proofs.Common.{◌≡◌, ◌≢◌, ℕ, zero, suc, ◌+◌, ◌*◌, ◌^◌, ◌<◌, ◌≤◌, ◌⊎◌, inl, inr, List, [], ◌∷◌, length, map, get_or, replicate, refl, sym, ap, ◌∙◌, arith, slice_set, length-set, get_or-set_same, get_or-set_other}
+use Rattle.std.proofs.Common.{◌≡◌, ℕ, zero, suc, ◌+◌, ◌*◌, ◌^◌, ◌<◌, ◌≤◌, ◌⊎◌, inl, inr, List, [], length, get_or, replicate, refl, sym, ap, ◌∙◌, arith, slice_set, length-set, get_or-set_same, get_or-set_other}
 use Rattle.std.proofs.lemmas.List.{ext_get_or, get_or-replicate}
 use Rattle.std.proofs.lemmas.List.FromFn.{length-map-range_with_len, get_or-map-range_with_len}
-use Rattle.std.specs.List.{range_with_len}
 use Rattle.std.proofs.lemmas.Bool.{cases_eq}
 use Rattle.ram.specs.Memory.{frame_of, put, put_bytes, word_of, word_bytes, IsMemory}
+use Rattle.frames.proofs.HolderLemmas.{count_of-first}
 use Rattle.pagetable.proofs.LookupLemmas.{lookup-sound}
 use Rattle.vm.specs.Dense.{trap_page, trap_marks}
-use Rattle.ram.specs.MemoryLemmas.{word_of-frame, word_of-zeros, get_or-put_bytes_below, get_or-put_bytes_above, frame_of-put_same, length-word_bytes, word_of-put_same, word_of-put_beside}
+use Rattle.ram.specs.MemoryLemmas.{get_or-put_bytes_below, get_or-put_bytes_above, frame_of-put_same, length-word_bytes, word_of-put_same, word_of-put_beside}
 use Rattle.vm.specs.declared.Space.{Space}
-use Rattle.vm.specs.Space.{pages_in, IsMapped, IsOnce, mapping_of, pages_of, registers_of, Stands}
-use Rattle.vm.proofs.StoreLemmas.{stands, Writes-trap, pages-kept, Stands-twice}
+use Rattle.vm.specs.Space.{pages_in, IsMapped, IsOnce, pages_of, registers_of, Stands}
+use Rattle.vm.proofs.StoreLemmas.{private-set, stands, Writes-trap, pages-kept, Stands-twice}
 use Rattle.vm.specs.TrapFrame.{saved_pc, saved_register, saved_registers, IsSpare}
 
 -- the registers, one by one
@@ -40,7 +40,7 @@ unfolding put
 trap-stored m k s o x is once e =
     let w = put_bytes (frame_of m s.trap.0) o (word_bytes 8 x) in
     let writes = Writes-trap m k s.root.0 s.trap.0 (pages_in s.size) w e in
-    (stands m k s is once writes, pages-kept m k s w is once e)
+    (stands m k s is once writes (λ free h. private-set m k free s.trap.0 w (h.own s.trap.0 (omega (arith, count_of-first s.trap.0 s.trap.0 [] refl))) e), pages-kept m k s w is once e)
 
 -- and the bytes beside it
 pub beside-stored : (m k : List (List ℕ)) (s : Space) (o x at : ℕ) → s.trap.0 < length m → length (frame_of m s.trap.0) ≡ 4096 → o + 8 ≤ 4096 → (at < o) ⊎ (o + 8 ≤ at) → k ≡ put m s.trap.0 o (word_bytes 8 x)

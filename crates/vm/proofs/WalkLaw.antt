@@ -1,17 +1,18 @@
 -- The walk goes by the mapping of a space.
-use Rattle.std.proofs.Common.{◌≡◌, ◌≢◌, ◌==◌, ℕ, zero, suc, ◌+◌, ◌-◌, ◌*◌, ◌/◌, ◌%◌, ◌^◌, ◌<◌, ◌≤◌, ◌⊎◌, inl, inr, Bool, true, false, ◌||◌, List, [], ◌∷◌, length, take, get_or, Option, Some, None, refl, sym, ap, ◌∙◌, arith, eq-eqb}
+use Rattle.std.proofs.Common.{◌≡◌, ◌≢◌, ◌==◌, ℕ, zero, suc, ◌-◌, ◌/◌, ◌%◌, ◌^◌, ◌<◌, ◌≤◌, ◌⊎◌, inl, inr, Bool, true, false, ◌||◌, List, [], ◌∷◌, ◌++◌, length, take, Some, None, refl, sym, ap, ◌∙◌, arith}
 use Rattle.std.specs.Prelude.{if◌then◌else◌, option_map, slice_get}
 use Rattle.std.proofs.lemmas.Bool.{cases_eq, cases_lt, eqb-true}
 use Rattle.std.proofs.lemmas.Option.{slice_get-get_or, slice_get_past, slice_get_within, slice_get-map}
 use Rattle.unixmodel.specs.declared.trap.Access.{Access}
 use Rattle.unixmodel.specs.declared.trap.Access.TheVariants.{Fetch, Load, Store}
 use Rattle.unixmodel.specs.Memory.{Marks, permits}
-use Rattle.unixmodel.specs.Translation.{walk_page, leaf_allows, is_canonical, Translation, Held}
+use Rattle.unixmodel.specs.Translation.{leaf_allows, is_canonical, Held}
 use Rattle.sv39.specs.Mapping.{Mapped, memory_of, page_in, allowed, frame_for, WalksTo, IsCoherent}
 use Rattle.pagetable.specs.Agree.{translation, given_frame, walk_page-tree}
-use Rattle.pagetable.specs.Marks.{page_marks, leaf_allows-leaf_marks}
-use Rattle.pagetable.specs.Tree.{lookup_of, table_at, low_node, leaf_at}
-use Rattle.vm.specs.Dense.{trap_page, trap_marks, frame_at, marks_at, mapped_at, mapping_below, IsDense}
+use Rattle.pagetable.specs.Tree.{lookup_of}
+use Rattle.vm.specs.Dense.{trap_page, trap_marks, frame_at, marks_at, read_at, read_below, entries_below, IsDense}
+use Rattle.vm.specs.Leaf.{entry_marks}
+use Rattle.vm.proofs.LeafLemmas.{leaf-allows}
 use Rattle.vm.proofs.PageLemmas.{length-mapping, get_or-mapping}
 
 -- ---- the mapping, an entry at a time
@@ -22,20 +23,20 @@ mapped_of f a = record { frame = f; marks = a }
 none_mapped : Mapped
 none_mapped = record { frame = 0; marks = record { writable = false; executable = false; user = false } }
 
-pub get-mapping : (m : List (List ℕ)) (r n p : ℕ) → p < n → slice_get (mapping_below m r n) p ≡ Some (mapped_at m r p)
-get-mapping m r n p h =
-    slice_get-get_or (mapping_below m r n) p none_mapped (omega (arith, h, length-mapping m r n))
-    ∙ ap Some (get_or-mapping m r n p none_mapped h)
+pub get-mapping : (read : ℕ → Marks) (m : List (List ℕ)) (r n p : ℕ) → p < n → slice_get (read_below read m r n) p ≡ Some (read_at read m r p)
+get-mapping read m r n p h =
+    slice_get-get_or (read_below read m r n) p none_mapped (omega (arith, h, length-mapping read m r n))
+    ∙ ap Some (get_or-mapping read m r n p none_mapped h)
 
-pub mapping-past : (m : List (List ℕ)) (r n p : ℕ) → n ≤ p → slice_get (mapping_below m r n) p ≡ None
-mapping-past m r n p h = slice_get_past (mapping_below m r n) p (omega (arith, h, length-mapping m r n))
+pub mapping-past : (read : ℕ → Marks) (m : List (List ℕ)) (r n p : ℕ) → n ≤ p → slice_get (read_below read m r n) p ≡ None
+mapping-past read m r n p h = slice_get_past (read_below read m r n) p (omega (arith, h, length-mapping read m r n))
 
-pub mapping-within : (m : List (List ℕ)) (r n p : ℕ) (e : Mapped) → slice_get (mapping_below m r n) p ≡ Some e → p < n
-mapping-within m r n p e h = omega (arith, slice_get_within (mapping_below m r n) p e h, length-mapping m r n)
+pub mapping-within : (read : ℕ → Marks) (m : List (List ℕ)) (r n p : ℕ) (e : Mapped) → slice_get (read_below read m r n) p ≡ Some e → p < n
+mapping-within read m r n p e h = omega (arith, slice_get_within (read_below read m r n) p e h, length-mapping read m r n)
 
-pub mapping-is : (m : List (List ℕ)) (r n p : ℕ) (e : Mapped) → slice_get (mapping_below m r n) p ≡ Some e → mapped_at m r p ≡ e
-mapping-is m r n p e h =
-    let both : Some (mapped_at m r p) ≡ Some e = sym (get-mapping m r n p (mapping-within m r n p e h)) ∙ h in
+pub mapping-is : (read : ℕ → Marks) (m : List (List ℕ)) (r n p : ℕ) (e : Mapped) → slice_get (read_below read m r n) p ≡ Some e → read_at read m r p ≡ e
+mapping-is read m r n p e h =
+    let both : Some (read_at read m r p) ≡ Some e = sym (get-mapping read m r n p (mapping-within read m r n p e h)) ∙ h in
     cc
 
 pub mapped-parts : (f g : ℕ) (a b : Marks) → f ≡ g → a ≡ b → mapped_of f a ≡ mapped_of g b
@@ -54,13 +55,13 @@ framed : (b : Bool) (e : Mapped) → option_map (λ x. x.frame) (if b then Some 
 framed true e = refl
 framed false e = refl
 
-frame-mapped : (m : List (List ℕ)) (r n p : ℕ) (a : Access) → p < n → frame_for (mapping_below m r n) p a ≡ (if permits a (page_marks (marks_at m r p)) then Some (frame_at m r p) else None)
+frame-mapped : (m : List (List ℕ)) (r n p : ℕ) (a : Access) → p < n → frame_for (entries_below m r n) p a ≡ (if permits a (entry_marks (marks_at m r p)) then Some (frame_at m r p) else None)
 frame-mapped m r n p a h =
-    ap (λ o. option_map (λ x. x.frame) (allowed a o)) (get-mapping m r n p h)
-    ∙ framed (permits a (page_marks (marks_at m r p))) (mapped_at m r p)
+    ap (λ o. option_map (λ x. x.frame) (allowed a o)) (get-mapping entry_marks m r n p h)
+    ∙ framed (permits a (entry_marks (marks_at m r p))) (read_at entry_marks m r p)
 
-frame-past : (m : List (List ℕ)) (r n p : ℕ) (a : Access) → n ≤ p → frame_for (mapping_below m r n) p a ≡ None
-frame-past m r n p a h = ap (λ o. option_map (λ x. x.frame) (allowed a o)) (mapping-past m r n p h)
+frame-past : (m : List (List ℕ)) (r n p : ℕ) (a : Access) → n ≤ p → frame_for (entries_below m r n) p a ≡ None
+frame-past m r n p a h = ap (λ o. option_map (λ x. x.frame) (allowed a o)) (mapping-past entry_marks m r n p h)
 
 -- the trap frame's page allows programs nothing
 trap-closed : (a : Access) → leaf_allows a trap_marks ≡ false
@@ -103,15 +104,14 @@ given-past m r t n p a true is high e =
     let small : n ≤ 32768 = is.small in
     ap (translation a) (lookup-low m r p) ∙ closed m r t n (p % 2 ^ 27) a is (elim (canonical-low p e) [ inl low ↦ omega (arith, low, high) | inr top ↦ omega (arith, top, small) ]) (omega arith)
 
-given-mapped : (m : List (List ℕ)) (r t n p : ℕ) (a : Access) → IsDense m r t n → p < n → given_frame m r p a ≡ (if permits a (page_marks (marks_at m r p)) then Some (frame_at m r p) else None)
+given-mapped : (m : List (List ℕ)) (r t n p : ℕ) (a : Access) → IsDense m r t n → p < n → given_frame m r p a ≡ (if permits a (entry_marks (marks_at m r p)) then Some (frame_at m r p) else None)
 given-mapped m r t n p a is h =
     let small : n ≤ 32768 = is.small in
     let low : p / 2 ^ 26 ≡ 0 = omega (arith, h, small) in
-    let allows : leaf_allows a (marks_at m r p) ≡ permits a (page_marks (marks_at m r p)) = ap (leaf_allows a) (is.leaves p h) ∙ leaf_allows-leaf_marks a (page_marks (marks_at m r p)) in
-    rw low (ap (translation a) (is.pages p h) ∙ ap (λ b. if b then Some (frame_at m r p) else None) allows)
+    rw low (ap (translation a) (is.pages p h) ∙ ap (λ b. if b then Some (frame_at m r p) else None) (leaf-allows a (marks_at m r p) (is.leaves p h)))
 
-pub walks-mapping : (m : List (List ℕ)) (r t n : ℕ) → length m ≤ 32768 → IsDense m r t n → WalksTo m r (mapping_below m r n)
-walks-mapping m r t n small is = record {
+pub walks-entries : (m : List (List ℕ)) (r t n : ℕ) → length m ≤ 32768 → IsDense m r t n → WalksTo m r (entries_below m r n)
+walks-entries m r t n small is = record {
   walks = λ p a. walk_page-tree m r p a small is.tree ∙ (elim (cases_lt p n) [
     | inl low ↦ given-mapped m r t n p a is low ∙ sym (frame-mapped m r n p a low)
     | inr high ↦ given-past m r t n p a (is_canonical p) is high refl ∙ sym (frame-past m r n p a high)

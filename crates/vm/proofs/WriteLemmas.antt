@@ -1,15 +1,17 @@
 -- Bytes that are written a page at a time.
-use Rattle.std.proofs.Common.{◌≡◌, ◌≢◌, ℕ, zero, suc, ◌+◌, ◌-◌, ◌*◌, ◌/◌, ◌%◌, ◌<◌, ◌≤◌, ◌⊎◌, inl, inr, List, [], ◌∷◌, ◌++◌, length, take, drop, min, Option, Some, None, refl, sym, ap, ◌∙◌, arith, slice_set, get_or, length-drop, append_assoc}
+use Rattle.std.proofs.Common.{◌≡◌, ℕ, zero, suc, ◌+◌, ◌-◌, ◌/◌, ◌%◌, ◌<◌, ◌≤◌, inl, inr, List, [], ◌∷◌, ◌++◌, length, take, drop, min, Some, refl, sym, ap, ◌∙◌, arith, slice_set, get_or-set_other, append_assoc}
 use Rattle.std.specs.Prelude.{slice_get}
 use Rattle.std.proofs.lemmas.Bool.{cases_lt}
 use Rattle.std.proofs.lemmas.List.{take-append-drop}
 use Rattle.unixmodel.specs.Memory.{Page, Memory, overwrite, write_from, write_bytes}
+use Rattle.frames.specs.declared.Frames.{Frames}
+use Rattle.frames.specs.Free.{further_at}
 use Rattle.ram.specs.Memory.{frame_of, put, put_bytes}
 use Rattle.vm.specs.declared.Space.{Space}
 use Rattle.vm.specs.Dense.{frame_at, marks_at, page_at, page_with}
 use Rattle.vm.specs.Reach.{written}
-use Rattle.vm.specs.Space.{pages_in, IsMapped, IsOnce, pages_of, registers_of, Stands}
-use Rattle.vm.proofs.StoreLemmas.{space-stored, pages-stored}
+use Rattle.vm.specs.Space.{pages_in, IsMapped, IsOnce, IsSpace, pages_of, Reframes}
+use Rattle.vm.proofs.StoreLemmas.{Writes-page, pages-stored, private-set, space-stays, trap-apart}
 
 write_from-none : (ps : List Page) (at : ℕ) → write_from ps at [] ≡ ps
 write_from-none [] at = refl
@@ -87,9 +89,16 @@ write-page mem at n p bs some here is = elim (cases_lt (length bs) (4096 - at % 
 
 -- ---- the frames
 
-pub put-stored : (m k : List (List ℕ)) (s : Space) (p at : ℕ) (bs : List ℕ) → IsMapped m s → IsOnce m s → p < pages_in s.size → k ≡ put m (frame_at m s.root.0 p) at bs → Stands m k s × (registers_of k s ≡ registers_of m s)
+-- a page whose frame the space alone holds is written
+pub put-reframes : (m k : List (List ℕ)) (s : Space) (q : Frames) (p at : ℕ) (bs : List ℕ) → IsSpace m s q → p < pages_in s.size → further_at q (frame_at m s.root.0 p) ≡ 0 → k ≡ put m (frame_at m s.root.0 p) at bs → Reframes m k s q q
 unfolding put
-put-stored m k s p at bs is once low e = space-stored m k s p (put_bytes (frame_of m (frame_at m s.root.0 p)) at bs) is once low e
+put-reframes m k s q p at bs is low sole e =
+    let r = s.root.0 in
+    let n = pages_in s.size in
+    let f = frame_at m r p in
+    let w = put_bytes (frame_of m f) at bs in
+    let both = space-stays m k r s.trap.0 n q is (Writes-page m k r s.trap.0 n p w low e) (private-set m k q f w sole e) in
+    record { space = both.0; registers = rw e (get_or-set_other m f s.trap.0 w [] (trap-apart m r s.trap.0 n p is.once low)); trades = both.1 }
 
 pub put-written : (m k : List (List ℕ)) (s : Space) (p at : ℕ) (bs : List ℕ) → IsMapped m s → IsOnce m s → p < pages_in s.size → k ≡ put m (frame_at m s.root.0 p) at bs
     → pages_of k s ≡ slice_set (pages_of m s) p (written (page_at m s.root.0 p) at bs)

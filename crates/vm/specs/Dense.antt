@@ -1,15 +1,14 @@
 -- Address spaces, read off a memory.
-use Rattle.std.specs.Prelude.{◌≡◌, ◌≢◌, ◌==◌, ◌<◌, ◌≤◌, ℕ, zero, suc, ◌+◌, ◌-◌, ◌*◌, ◌/◌, ◌%◌, ◌^◌, if◌then◌else◌, nat_lt, List, [], ◌∷◌, ◌++◌, length, Option, Some, None, unwrap_or}
+use Rattle.std.specs.Prelude.{◌≡◌, ◌≢◌, ◌==◌, ◌<◌, ◌≤◌, ℕ, zero, suc, ◌+◌, ◌/◌, ◌%◌, ◌^◌, if◌then◌else◌, nat_lt, true, List, [], ◌∷◌, ◌++◌, Some, None, unwrap_or}
 use Rattle.ram.specs.Memory.{frame_of}
 use Rattle.frames.specs.declared.Frames.{Frames}
-use Rattle.frames.specs.Free.{free_of, IsFreeList}
+use Rattle.frames.specs.Free.{further_at, IsFreeList}
 use Rattle.frames.specs.Holders.{one_if, count_of, holders_of}
-use Rattle.pagetable.specs.Tree.{mid_node, low_node, table_at, lookup_of, IsTree}
+use Rattle.pagetable.specs.Tree.{mid_node, low_node, lookup_of, IsTree}
 use Rattle.pagetable.specs.Shape.{table_of, IsTidy}
-use Rattle.sv39.specs.Mapping.{Mapped, memory_of, page_in}
+use Rattle.sv39.specs.Mapping.{Mapped, memory_of}
 use Rattle.unixmodel.specs.Memory.{Marks, Page, Memory}
-use Rattle.pagetable.specs.Marks.{page_marks}
-use Rattle.vm.specs.Leaf.{IsUserLeaf}
+use Rattle.vm.specs.Leaf.{IsUserLeaf, entry_marks, is_open, right_marks}
 
 -- the page of the trap frame
 abbrev pub trap_page : ℕ
@@ -17,7 +16,7 @@ trap_page = 67108862
 
 -- the marks of the trap frame: readable and writable for the kernel
 abbrev pub trap_marks : ℕ
-trap_marks = 199
+trap_marks = 455
 
 -- the frame that a page is mapped to
 abbrev pub frame_at : List (List ℕ) → ℕ → ℕ → ℕ
@@ -27,25 +26,33 @@ frame_at m r p = (unwrap_or (lookup_of m r p) (0, 0)).0
 abbrev pub marks_at : List (List ℕ) → ℕ → ℕ → ℕ
 marks_at m r p = (unwrap_or (lookup_of m r p) (0, 0)).1
 
--- the frame and what a program may do there
-abbrev pub mapped_by : ℕ × ℕ → Mapped
-mapped_by leaf = record { frame = leaf.0; marks = page_marks leaf.1 }
+-- the frame of a leaf, and marks as they are read off it
+abbrev pub read_by : (ℕ → Marks) → ℕ × ℕ → Mapped
+read_by read leaf = record { frame = leaf.0; marks = read leaf.1 }
 
-abbrev pub mapped_at : List (List ℕ) → ℕ → ℕ → Mapped
-mapped_at m r p = mapped_by (frame_at m r p, marks_at m r p)
+abbrev pub read_at : (ℕ → Marks) → List (List ℕ) → ℕ → ℕ → Mapped
+read_at read m r p = read_by read (frame_at m r p, marks_at m r p)
 
 -- a page with these bytes and the marks of this leaf
 abbrev pub page_with : List ℕ → ℕ → Page
-page_with bytes leaf = record { bytes = bytes; marks = page_marks leaf }
+page_with bytes leaf = record { bytes = bytes; marks = right_marks leaf }
 
--- the bytes and the marks of a page
+-- the bytes of a page, and what a program may do there by right
 abbrev pub page_at : List (List ℕ) → ℕ → ℕ → Page
 page_at m r p = page_with (frame_of m (frame_at m r p)) (marks_at m r p)
 
--- the mapping of the pages below n
-unfoldable pub mapping_below : List (List ℕ) → ℕ → ℕ → List Mapped
-mapping_below m r zero = []
-mapping_below m r (suc n) = mapping_below m r n ++ (mapped_at m r n ∷ [])
+-- the frames of the pages below n, and their marks as they are read off the leaves
+unfoldable pub read_below : (ℕ → Marks) → List (List ℕ) → ℕ → ℕ → List Mapped
+read_below read m r zero = []
+read_below read m r (suc n) = read_below read m r n ++ (read_at read m r n ∷ [])
+
+-- the mapping of the pages below n, by right
+abbrev pub mapping_below : List (List ℕ) → ℕ → ℕ → List Mapped
+mapping_below m r n = read_below right_marks m r n
+
+-- what the walk gives of them
+abbrev pub entries_below : List (List ℕ) → ℕ → ℕ → List Mapped
+entries_below m r n = read_below entry_marks m r n
 
 -- the pages below n
 abbrev pub pages_below : List (List ℕ) → ℕ → ℕ → Memory
@@ -83,9 +90,12 @@ pub record IsDense (m : List (List ℕ)) (r t n : ℕ) : Type 0 where
   pub trap : lookup_of m r trap_page ≡ Some (t, trap_marks)
   pub rest : (p : ℕ) → n ≤ p → p < 2 ^ 27 → p ≢ trap_page → lookup_of m r p ≡ None
 
--- a space of n pages beside the free frames and other holders
+-- A space of n pages beside the free frames and other holders: it alone holds its tables, its trap frame and the frames
+-- of open pages.
 pub record IsHeld (m : List (List ℕ)) (r t n : ℕ) (s : Frames) : Type 0 where
   pub dense : IsDense m r t n
   pub once : (f : ℕ) → count_of f (held m r t n) ≤ 1
   pub free : IsFreeList m s
+  pub own : (f : ℕ) → 0 < count_of f (tables_below m r n) + count_of f (t ∷ []) → further_at s f ≡ 0
+  pub alone : (p : ℕ) → p < n → is_open (marks_at m r p) ≡ true → further_at s (frame_at m r p) ≡ 0
   pub held : (f : ℕ) → count_of f (held m r t n) ≤ holders_of m s f

@@ -1,9 +1,9 @@
 -- All frames of a machine: free, of a space, or of something else, as a pipe.
-use Rattle.std.specs.Prelude.{◌≡◌, ◌≢◌, ◌<◌, ◌≤◌, ℕ, ◌+◌, List, [], ◌∷◌, ◌++◌, length, Option, Some, None, slice_index_or}
+use Rattle.std.specs.Prelude.{◌≡◌, ◌≢◌, ◌<◌, ℕ, ◌+◌, List, [], ◌++◌, length, Option, Some, None, slice_index_or}
 use Rattle.std.specs.List.{sum_by, flat_map}
 use Rattle.frames.specs.declared.Frames.{Frames}
-use Rattle.frames.specs.Free.{IsFreeList}
-use Rattle.frames.specs.Holders.{IsShared}
+use Rattle.frames.specs.Free.{further_at, IsFreeList}
+use Rattle.frames.specs.Holders.{count_of, IsShared}
 use Rattle.vm.specs.declared.Space.{Space}
 use Rattle.vm.specs.Dense.{frames_for}
 use Rattle.vm.specs.Space.{IsSpace, holds, pages_in, IsUntouched}
@@ -22,11 +22,12 @@ abbrev pub IsPlace : List (List ℕ) → Option Space → Frames → Type 0
 IsPlace m None s = IsFreeList m s
 IsPlace m (Some x) s = IsSpace m x s
 
--- the places and the others hold all that is not free, each frame once
+-- the places and the others hold all that is not free, and what is of the others they alone hold
 pub record IsMachine (m : List (List ℕ)) (s : Frames) (places : List (Option Space)) (others : List ℕ) : Type 0 where
   pub free : IsFreeList m s
   pub each : (j : ℕ) (x : Space) → slice_index_or places j None ≡ Some x → IsSpace m x s
   pub shared : IsShared m s (all_held m places others)
+  pub alone : (f : ℕ) → 0 < count_of f others → further_at s f ≡ 0
 
 -- how many frames a place holds
 abbrev pub frames_used : Option Space → ℕ

@@ -1,9 +1,9 @@
 -- What a space is.
-use Rattle.std.specs.Prelude.{◌≡◌, ◌<◌, ◌≤◌, ℕ, ◌+◌, ◌-◌, ◌/◌, List, [], ◌∷◌, ◌++◌, length, replicate}
+use Rattle.std.specs.Prelude.{◌≡◌, ◌≤◌, ℕ, ◌+◌, ◌/◌, List, length}
 use Rattle.ram.specs.Memory.{frame_of}
 use Rattle.frames.specs.declared.Frames.{Frames}
 use Rattle.vm.specs.declared.Space.{Space}
-use Rattle.vm.specs.Dense.{mapping_below, held, IsDense, IsHeld}
+use Rattle.vm.specs.Dense.{mapping_below, entries_below, held, IsDense, IsHeld}
 use Rattle.frames.specs.Holders.{count_of, Trades}
 use Rattle.sv39.specs.Mapping.{Mapped, memory_of}
 use Rattle.unixmodel.specs.Memory.{Memory}
@@ -24,9 +24,13 @@ IsSpace m s free = IsHeld m s.root.0 s.trap.0 (pages_in s.size) free
 abbrev pub IsMapped : List (List ℕ) → Space → Type 0
 IsMapped m s = IsDense m s.root.0 s.trap.0 (pages_in s.size)
 
--- the frame and the marks of each page of a space
+-- the frame of each page of a space, and what a program may do there by right
 abbrev pub mapping_of : List (List ℕ) → Space → List Mapped
 mapping_of m s = mapping_below m s.root.0 (pages_in s.size)
+
+-- what the walk gives of each page
+abbrev pub entries_of : List (List ℕ) → Space → List Mapped
+entries_of m s = entries_below m s.root.0 (pages_in s.size)
 
 -- the memory of a program
 abbrev pub pages_of : List (List ℕ) → Space → Memory
@@ -50,6 +54,7 @@ pub record Stands (m k : List (List ℕ)) (s : Space) : Type 0 where
   pub mapped : IsMapped k s
   pub once : IsOnce k s
   pub mapping : mapping_of k s ≡ mapping_of m s
+  pub entries : entries_of k s ≡ entries_of m s
   pub frames : holds k s ≡ holds m s
   pub space : (free : Frames) → IsSpace m s free → IsSpace k s free
   pub trades : (free : Frames) → IsSpace m s free → Trades m k free free (holds m s) (holds k s)
@@ -57,6 +62,18 @@ pub record Stands (m k : List (List ℕ)) (s : Space) : Type 0 where
 -- a space that another one's change leaves as it was
 pub record IsUntouched (m k : List (List ℕ)) (s : Space) : Type 0 where
   pub mapping : mapping_of k s ≡ mapping_of m s
+  pub entries : entries_of k s ≡ entries_of m s
   pub pages : pages_of k s ≡ pages_of m s
   pub registers : registers_of k s ≡ registers_of m s
   pub frames : holds k s ≡ holds m s
+
+-- A space that may have other frames than it had, of which it traded what it holds: its registers are as they were.
+pub record Reframes (m k : List (List ℕ)) (x : Space) (s q : Frames) : Type 0 where
+  pub space : IsSpace k x q
+  pub registers : registers_of k x ≡ registers_of m x
+  pub trades : Trades m k s q (holds m x) (holds k x)
+
+-- and whose program sees what it saw
+pub record IsRearranged (m k : List (List ℕ)) (x : Space) (s q : Frames) : Type 0 where
+  pub frames : Reframes m k x s q
+  pub pages : pages_of k x ≡ pages_of m x

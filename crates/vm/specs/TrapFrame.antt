@@ -1,6 +1,6 @@
 -- The trap frame of a space: a program's registers while it doesn't run.
 -- Numbers of 8 bytes, the lowest first: the program counter from place 24 on, and register x1 to x31, each at 32 and 8 times its number.
-use Rattle.std.specs.Prelude.{◌≡◌, ◌<◌, ◌≤◌, ◌⊎◌, ℕ, ◌+◌, ◌*◌, List, ◌∷◌, map}
+use Rattle.std.specs.Prelude.{◌<◌, ◌≤◌, ◌⊎◌, ℕ, ◌+◌, ◌*◌, List, ◌∷◌, map}
 use Rattle.std.specs.List.{range_with_len}
 use Rattle.ram.specs.Memory.{word_of}
 use Rattle.vm.specs.declared.Space.{Space}

@@ -3,26 +3,26 @@
 ghost use Rattle.std.specs.Prelude.{◌≡◌, ◌≢◌, ℕ, ◌+◌, ◌-◌, ◌*◌, ◌/◌, ◌%◌, ◌^◌, ◌<◌, ◌≤◌, List, [], ◌∷◌, ◌++◌, length, min, take, drop, nat_le, option_map, slice_get, None, Some, false, OnOk, OnErr, IfSome, IsTrue, IsErrOf, ◌↔◌, ◌⊎◌};
 ghost use Rattle.ram.specs.Memory.{frame_of, put};
 ghost use Rattle.sv39.specs.Mapping.{Mapped, WalksTo};
-ghost use Rattle.pagetable.specs.Marks.{page_marks};
 ghost use Rattle.unixmodel.specs.declared.trap.Access.TheVariants.{Load, Store};
 ghost use Rattle.unixmodel.specs.Memory.{permits, reach, can_write, read_bytes, string_at, write_bytes};
-ghost use Rattle.vm.specs.Leaf.{marks_from, mapped_as};
+ghost use Rattle.vm.specs.Leaf.{marks_from, mapped_as, right_marks};
 ghost use Rattle.vm.specs.Reach.{run_of, piece_at, short_string};
-ghost use Rattle.vm.specs.Space.{pages_in, IsMapped, IsOnce, mapping_of, pages_of, registers_of, Stands};
+ghost use Rattle.vm.specs.Space.{pages_in, IsMapped, IsOnce, IsSpace, entries_of, mapping_of, pages_of, Reframes};
 
-use crate::{Perm, Space, VmFault, pages_in};
+use crate::{Perm, RIGHT, Space, VmFault, pages_in};
 use bitflags::Flags;
+use frames::Frames;
 use pagetable::PageTable;
 use ram::{FrameNo, Ram};
 use sv39::Marks;
 use unixmodel::trap::Access;
 
-// What the marks of a leaf say of its page.
-fn perm_of(leaf: Marks) -> Perm
-    ensures { marks_from result ≡ page_marks leaf.0 }
+// What a program may do by right at the page of a leaf.
+pub(crate) fn perm_of(leaf: Marks) -> Perm
+    ensures { marks_from result ≡ right_marks leaf.0 }
 {
     Perm {
-        w: leaf.contains(Marks::WRITE),
+        w: leaf.contains(RIGHT),
         x: leaf.contains(Marks::EXECUTE),
         u: leaf.contains(Marks::USER),
     }
@@ -60,13 +60,13 @@ impl Space {
         self.root
     }
 
-    /// The walk from the root goes by the mapping: it gives a page's frame for each access that
-    /// the page's marks permit, and nothing elsewhere, not even at the trap frame.
+    /// The walk from the root goes by the entries: it gives a page's frame for each access that the page's marks permit,
+    /// and nothing elsewhere, not even at the trap frame. A store goes through at open pages alone.
     pub fn walks(&self, ram: &Ram)
         requires { IsMapped ram.now self.now }
-        ensures walks { WalksTo ram.now self.now.root.0 (mapping_of ram.now self.now) }
+        ensures entries { WalksTo ram.now self.now.root.0 (entries_of ram.now self.now) }
         ensures root { self.now.root.0 < length ram.now }
-        ensures inside { (page : ℕ) (e : Mapped) → slice_get (mapping_of ram.now self.now) page ≡ Some e → e.frame < length ram.now }
+        ensures inside { (page : ℕ) (e : Mapped) → slice_get (entries_of ram.now self.now) page ≡ Some e → e.frame < length ram.now }
         ensures apart { IsOnce ram.now self.now → (p q : ℕ) (e d : Mapped) → slice_get (mapping_of ram.now self.now) p ≡ Some e → slice_get (mapping_of ram.now self.now) q ≡ Some d → e.frame ≡ d.frame → p ≡ q }
     {
         ram.frames_are_whole();
@@ -204,56 +204,58 @@ impl Space {
     }
 
     // Writes the bytes that lie in the page of an address, and tells how many.
-    fn write_page(&self, ram: &mut Ram, address: u64, bytes: &[u8]) -> usize
-        requires mapped { IsMapped ram.old self.now }
-        requires once { IsOnce ram.old self.now }
+    fn write_page(&self, ram: &mut Ram, frames: &mut Frames, address: u64, bytes: &[u8]) -> usize
+        requires space { IsSpace ram.old self.now frames.old }
         requires page { address / 4096 < pages_in self.now.size }
         requires some { 0 < length bytes.now }
         ensures count { result ≡ min (4096 - address % 4096) (length bytes.now) }
         ensures rest { write_bytes (pages_of ram.new self.now) (address + result) (drop result bytes.now) ≡ write_bytes (pages_of ram.old self.now) address bytes.now }
-        ensures stands { Stands ram.old ram.new self.now }
-        ensures registers { registers_of ram.new self.now ≡ registers_of ram.old self.now }
+        ensures frames { Reframes ram.old ram.new self.now frames.old frames.new }
     {
         let at = (address % 4096) as usize;
         let len = (4096 - at).min(bytes.len());
-        match self.find_page(ram, address / 4096) {
-            Some((frame, _)) => write_part(ram, frame, at, &bytes[..len]),
-            None => unreachable!(),
-        }
+        let frame = self.open_page(ram, frames, address / 4096);
+        write_part(ram, frame, at, &bytes[..len]);
         len
     }
 
     /// Puts bytes into the pages from an address on, whatever the marks of the pages, as a loader does.
-    pub fn fill(&self, ram: &mut Ram, address: u64, bytes: &[u8])
-        requires mapped { IsMapped ram.old self.now }
-        requires once { IsOnce ram.old self.now }
+    ///
+    /// A page whose frame others hold too gets a frame of its own first.
+    pub fn fill(&self, ram: &mut Ram, frames: &mut Frames, address: u64, bytes: &[u8])
+        requires space { IsSpace ram.old self.now frames.old }
         requires inside { (i : ℕ) → i < length bytes.now → (address + i) / 4096 < pages_in self.now.size }
         ensures written { pages_of ram.new self.now ≡ write_bytes (pages_of ram.old self.now) address bytes.now }
-        ensures stands { Stands ram.old ram.new self.now }
-        ensures registers { registers_of ram.new self.now ≡ registers_of ram.old self.now }
+        ensures frames { Reframes ram.old ram.new self.now frames.old frames.new }
     {
         let mut done = 0;
         while done < bytes.len() {
-            done += self.write_page(ram, address + done as u64, &bytes[done..]);
+            done += self.write_page(ram, frames, address + done as u64, &bytes[done..]);
         }
     }
 
     /// Copies bytes to an address. `BadAddress` where a program may not write them all.
-    pub fn copy_out(&self, ram: &mut Ram, address: u64, bytes: &[u8]) -> Result<(), VmFault>
-        requires mapped { IsMapped ram.old self.now }
-        requires once { IsOnce ram.old self.now }
+    ///
+    /// A page whose frame others hold too gets a frame of its own first.
+    pub fn copy_out(
+        &self,
+        ram: &mut Ram,
+        frames: &mut Frames,
+        address: u64,
+        bytes: &[u8],
+    ) -> Result<(), VmFault>
+        requires { IsSpace ram.old self.now frames.old }
         ensures written { OnOk result (pages_of ram.new self.now ≡ write_bytes (pages_of ram.old self.now) address bytes.now) }
         ensures bad { IsErrOf result VmFault.BadAddress ↔ can_write (pages_of ram.old self.now) address (length bytes.now) ≡ false }
         ensures only { OnErr result (IsErrOf result VmFault.BadAddress) }
-        ensures unchanged { OnErr result (ram.new ≡ ram.old) }
-        ensures stands { Stands ram.old ram.new self.now }
-        ensures registers { registers_of ram.new self.now ≡ registers_of ram.old self.now }
+        ensures unchanged { OnErr result ((ram.new ≡ ram.old) × (frames.new ≡ frames.old)) }
+        ensures frames { Reframes ram.old ram.new self.now frames.old frames.new }
     {
         ram.frames_are_whole();
         if !self.can_write(ram, address, bytes.len() as u64) {
             return Err(VmFault::BadAddress);
         }
-        self.fill(ram, address, bytes);
+        self.fill(ram, frames, address, bytes);
         Ok(())
     }
 }

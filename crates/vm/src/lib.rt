@@ -10,19 +10,20 @@
 //! refused changes nothing. Nothing here takes memory of the host.
 #![tactic(auto)]
 
-ghost use Rattle.std.specs.Prelude.{◌≡◌, ◌≢◌, ℕ, ◌+◌, ◌-◌, ◌*◌, ◌/◌, ◌%◌, ◌^◌, ◌<◌, ◌≤◌, List, [], ◌∷◌, ◌++◌, length, take, replicate, None, Some, false, OnOk, OnErr, IsErrOf, IsTrue, ◌↔◌, ◌⊎◌};
+ghost use Rattle.std.specs.Prelude.{◌≡◌, ◌≢◌, ℕ, ◌+◌, ◌-◌, ◌*◌, ◌/◌, ◌%◌, ◌^◌, ◌<◌, ◌≤◌, List, [], ◌∷◌, ◌++◌, length, take, replicate, None, Some, true, false, OnOk, OnErr, IsErrOf, IsTrue, ◌↔◌, ◌⊎◌};
 ghost use Rattle.ram.specs.Memory.{frame_of};
 ghost use Rattle.frames.specs.Free.{among, free_of, free_count, IsFreeList};
-ghost use Rattle.frames.specs.Holders.{Trades};
+ghost use Rattle.frames.specs.Holders.{Trades, holders_of};
 ghost use Rattle.pagetable.specs.Tree.{IsLeafMarks};
-ghost use Rattle.vm.specs.Dense.{IsDense, IsHeld, frames_for, held, mapping_below, page_with, pages_below};
-ghost use Rattle.pagetable.specs.Marks.{leaf_marks, page_marks};
-ghost use Rattle.vm.specs.Leaf.{marks_from, IsUserLeaf};
-ghost use Rattle.vm.specs.Space.{pages_in, max_size, IsSpace, mapping_of, pages_of, registers_of, holds, IsUntouched};
+ghost use Rattle.vm.specs.Dense.{IsDense, IsHeld, frame_at, frames_for, held, page_with, pages_below, read_below};
+ghost use Rattle.unixmodel.specs.Memory.{Marks as Rights};
+ghost use Rattle.vm.specs.Leaf.{marks_from, user_leaf, IsUserLeaf};
+ghost use Rattle.vm.specs.Space.{pages_in, max_size, IsSpace, entries_of, mapping_of, pages_of, registers_of, holds};
 ghost use Rattle.unixmodel.specs.Memory.{zero_page};
 
 mod access;
 pub mod shares;
+mod sharing;
 mod trapframe;
 
 use frames::Frames;
@@ -59,9 +60,26 @@ pub struct Perm {
 impl Perm {
     // The marks of the leaf of a page.
     fn leaf(self) -> Marks
-        ensures { result.0 ≡ leaf_marks (marks_from self) }
+        ensures { result.0 ≡ user_leaf (marks_from self) true }
     {
-        leaf_marks(self.w, self.x, self.u)
+        let leaf = leaf_marks(self.w, self.x, self.u);
+        if self.w {
+            Marks(leaf.0 + RIGHT.0)
+        } else {
+            leaf
+        }
+    }
+
+    // The same without W: a store faults, also where the page is writable by right.
+    fn closed_leaf(self) -> Marks
+        ensures { result.0 ≡ user_leaf (marks_from self) false }
+    {
+        let closed = leaf_marks(false, self.x, self.u);
+        if self.w {
+            Marks(closed.0 + RIGHT.0)
+        } else {
+            closed
+        }
     }
 }
 
@@ -83,8 +101,11 @@ pub const MAX_SIZE: u64 = 0x3fffffe000;
 /// The page of the trap frame.
 pub const TRAP_PAGE: u64 = 0x3fffffe;
 
-// The marks of the trap frame's page: V, R, W, A and D, and no U.
-const TRAP: Marks = Marks(199);
+// The mark that a program may write a page by right. The walk doesn't look at it: where W is missing a store faults.
+const RIGHT: Marks = Marks(256);
+
+// The marks of the trap frame's page: V, R, W, A, D and the right to write, and no U.
+const TRAP: Marks = Marks(455);
 
 /// How many frames a space of so many pages holds: the pages, the trap frame, the root, two tables for
 /// the trap frame, a table for each 512 pages, and one above those.
@@ -156,7 +177,7 @@ impl Space {
         requires user { IsUserLeaf marks.0 }
         ensures held { IsHeld ram.new self.now.root.0 self.now.trap.0 (n + 1) frames.new }
         ensures pages { pages_below ram.new self.now.root.0 (n + 1) ≡ pages_below ram.old self.now.root.0 n ++ (page_with (replicate 4096 0) marks.0 ∷ []) }
-        ensures mapping { (k : ℕ) → k ≤ n → mapping_below ram.new self.now.root.0 k ≡ mapping_below ram.old self.now.root.0 k }
+        ensures mapping { (read : ℕ → Rights) (k : ℕ) → k ≤ n → read_below read ram.new self.now.root.0 k ≡ read_below read ram.old self.now.root.0 k }
         ensures trap { frame_of ram.new self.now.trap.0 ≡ frame_of ram.old self.now.trap.0 }
         ensures trades { Trades ram.old ram.new frames.old frames.new (held ram.old self.now.root.0 self.now.trap.0 n) (held ram.new self.now.root.0 self.now.trap.0 (n + 1)) }
         ensures room { frames_for (n + 1) + free_count ram.new frames.new ≡ frames_for n + free_count ram.old frames.old }
@@ -175,38 +196,10 @@ impl Space {
         }
     }
 
-    // Makes a free frame, with the bytes of another, the next page.
-    fn add_copy(&self, ram: &mut Ram, frames: &mut Frames, n: u64, source: FrameNo, marks: Marks)
-        requires held { IsHeld ram.old self.now.root.0 self.now.trap.0 n frames.old }
-        requires small { n < 32768 }
-        requires room { frames_for (n + 1) ≤ frames_for n + free_count ram.old frames.old }
-        requires source { source.0 < length ram.old }
-        requires marks { IsLeafMarks marks.0 }
-        requires user { IsUserLeaf marks.0 }
-        ensures held { IsHeld ram.new self.now.root.0 self.now.trap.0 (n + 1) frames.new }
-        ensures pages { pages_below ram.new self.now.root.0 (n + 1) ≡ pages_below ram.old self.now.root.0 n ++ (page_with (frame_of ram.old source.0) marks.0 ∷ []) }
-        ensures mapping { (k : ℕ) → k ≤ n → mapping_below ram.new self.now.root.0 k ≡ mapping_below ram.old self.now.root.0 k }
-        ensures trap { frame_of ram.new self.now.trap.0 ≡ frame_of ram.old self.now.trap.0 }
-        ensures trades { Trades ram.old ram.new frames.old frames.new (held ram.old self.now.root.0 self.now.trap.0 n) (held ram.new self.now.root.0 self.now.trap.0 (n + 1)) }
-        ensures room { frames_for (n + 1) + free_count ram.new frames.new ≡ frames_for n + free_count ram.old frames.old }
-    {
-        ram.frames_are_whole();
-        let table = PageTable { root: self.root };
-        match frames.take(ram) {
-            Some(frame) => {
-                ram.copy(source, frame);
-                match table.map(ram, frames, n, frame, marks) {
-                    Ok(()) => {}
-                    Err(_) => unreachable!(),
-                }
-            }
-            None => unreachable!(),
-        }
-    }
-
-    /// Makes a space with the same pages, in frames of its own; its trap frame is all 0.
+    /// Makes a space with the same pages, whose frames each have one holder more then; its trap frame is all 0.
     ///
-    /// `Frames` where fewer frames are free than it needs.
+    /// Every page is closed in both: who may write it by right and stores to it first gets a frame of its own. Each page
+    /// is counted in full: `Frames` where fewer frames are free than the space would need if it shared none.
     pub fn copy(&self, ram: &mut Ram, frames: &mut Frames) -> Result<Space, VmFault>
         requires { IsSpace ram.old self.now frames.old }
         ensures space { IfOk result (λ c. IsSpace ram.new c frames.new) }
@@ -214,26 +207,21 @@ impl Space {
         ensures pages { IfOk result (λ c. pages_of ram.new c ≡ pages_of ram.old self.now) }
         ensures registers { IfOk result (λ c. registers_of ram.new c ≡ replicate 4096 0) }
         ensures source { IsSpace ram.new self.now frames.new }
-        ensures untouched { IsUntouched ram.old ram.new self.now }
+        ensures kept { (pages_of ram.new self.now ≡ pages_of ram.old self.now) × (registers_of ram.new self.now ≡ registers_of ram.old self.now) }
+        ensures shared { IfOk result (λ c. (p : ℕ) → p < pages_in self.now.size → frame_at ram.new c.root.0 p ≡ frame_at ram.old self.now.root.0 p) }
+        ensures holders { OnOk result ((p : ℕ) → p < pages_in self.now.size → holders_of ram.new frames.new (frame_at ram.old self.now.root.0 p) ≡ holders_of ram.old frames.old (frame_at ram.old self.now.root.0 p) + 1) }
         ensures full { IsErrOf result VmFault.Frames ↔ free_count ram.old frames.old < frames_for (pages_in self.now.size) }
         ensures only { OnErr result (IsErrOf result VmFault.Frames) }
         ensures unchanged { OnErr result ((ram.new ≡ ram.old) × (frames.new ≡ frames.old)) }
-        ensures trades { IfOk result (λ c. Trades ram.old ram.new frames.old frames.new [] (holds ram.new c)) }
+        ensures trades { IfOk result (λ c. Trades ram.old ram.new frames.old frames.new (holds ram.old self.now) (holds ram.new self.now ++ holds ram.new c)) }
     {
         ram.frames_are_whole();
-        let pages = pages_in(self.size);
-        if u64::from(frames.free()) < frames_for(pages) {
+        if u64::from(frames.free()) < frames_for(pages_in(self.size)) {
             return Err(VmFault::Frames);
         }
-        let table = PageTable { root: self.root };
         match Space::new(ram, frames) {
             Ok(mut child) => {
-                for page in 0..pages {
-                    match table.find(ram, page) {
-                        Some((frame, marks)) => child.add_copy(ram, frames, page, frame, marks),
-                        None => unreachable!(),
-                    }
-                }
+                self.share_pages(&child, ram, frames);
                 child.size = self.size;
                 Ok(child)
             }
@@ -257,6 +245,7 @@ impl Space {
         ensures size { OnOk result (self.new.size ≡ self.old.size + bytes) }
         ensures pages { OnOk result (pages_of ram.new self.new ≡ pages_of ram.old self.old ++ replicate (pages_in (self.old.size + bytes) - pages_in self.old.size) (zero_page (marks_from perm))) }
         ensures mapping { OnOk result (take (pages_in self.old.size) (mapping_of ram.new self.new) ≡ mapping_of ram.old self.old) }
+        ensures entries { OnOk result (take (pages_in self.old.size) (entries_of ram.new self.new) ≡ entries_of ram.old self.old) }
         ensures root { self.new.root ≡ self.old.root }
         ensures registers { registers_of ram.new self.new ≡ registers_of ram.old self.old }
         ensures large { IsErrOf result VmFault.TooLarge ↔ max_size < self.old.size + bytes }
@@ -288,7 +277,7 @@ impl Space {
         requires { IsHeld ram.old self.now.root.0 self.now.trap.0 (n + 1) frames.old }
         ensures held { IsHeld ram.new self.now.root.0 self.now.trap.0 n frames.new }
         ensures pages { (k : ℕ) → k ≤ n → pages_below ram.new self.now.root.0 k ≡ pages_below ram.old self.now.root.0 k }
-        ensures mapping { (k : ℕ) → k ≤ n → mapping_below ram.new self.now.root.0 k ≡ mapping_below ram.old self.now.root.0 k }
+        ensures mapping { (read : ℕ → Rights) (k : ℕ) → k ≤ n → read_below read ram.new self.now.root.0 k ≡ read_below read ram.old self.now.root.0 k }
         ensures trap { frame_of ram.new self.now.trap.0 ≡ frame_of ram.old self.now.trap.0 }
         ensures trades { Trades ram.old ram.new frames.old frames.new (held ram.old self.now.root.0 self.now.trap.0 (n + 1)) (held ram.new self.now.root.0 self.now.trap.0 n) }
     {
@@ -304,7 +293,7 @@ impl Space {
         requires order { to ≤ from }
         ensures held { IsHeld ram.new self.now.root.0 self.now.trap.0 to frames.new }
         ensures pages { pages_below ram.new self.now.root.0 to ≡ pages_below ram.old self.now.root.0 to }
-        ensures mapping { mapping_below ram.new self.now.root.0 to ≡ mapping_below ram.old self.now.root.0 to }
+        ensures mapping { (read : ℕ → Rights) → read_below read ram.new self.now.root.0 to ≡ read_below read ram.old self.now.root.0 to }
         ensures trap { frame_of ram.new self.now.trap.0 ≡ frame_of ram.old self.now.trap.0 }
         ensures trades { Trades ram.old ram.new frames.old frames.new (held ram.old self.now.root.0 self.now.trap.0 from) (held ram.new self.now.root.0 self.now.trap.0 to) }
     {
@@ -321,6 +310,7 @@ impl Space {
         ensures size { self.new.size + bytes ≡ self.old.size }
         ensures pages { pages_of ram.new self.new ≡ take (pages_in (self.old.size - bytes)) (pages_of ram.old self.old) }
         ensures mapping { mapping_of ram.new self.new ≡ take (pages_in (self.old.size - bytes)) (mapping_of ram.old self.old) }
+        ensures entries { entries_of ram.new self.new ≡ take (pages_in (self.old.size - bytes)) (entries_of ram.old self.old) }
         ensures root { self.new.root ≡ self.old.root }
         ensures registers { registers_of ram.new self.new ≡ registers_of ram.old self.old }
         ensures trades { Trades ram.old ram.new frames.old frames.new (holds ram.old self.old) (holds ram.new self.new) }

@@ -19,9 +19,15 @@ pub fn one_place_trades()
     ensures rest { (m k : List (List ℕ)) (s n : Frames) (places : List (Option Space)) (others new : List ℕ) (i f : ℕ) → IsMachine m s places others → Trades m k s n (held_at m (slice_index_or places i None)) new → 0 < count_of f others → frame_of k f ≡ frame_of m f }
 {}
 
-/// Frames that no space holds come, go or are written: the machine stays one, and all spaces are as they were.
+/// A space shares its frames with a new one, which gets a place that has none: the machine stays one, and all else is as
+/// it was.
+pub fn one_place_forks()
+    ensures machine { (m k : List (List ℕ)) (s n : Frames) (places : List (Option Space)) (others : List ℕ) (i j : ℕ) (x c : Space) → IsMachine m s places others → slice_index_or places i None ≡ Some x → j < length places → slice_index_or places j None ≡ None → IsSpace k x n → IsSpace k c n → Trades m k s n (holds m x) (holds k x ++ holds k c) → IsMachine k n (slice_set places j (Some c)) others }
+{}
+
+/// Frames that no space holds come, each once, go or are written: the machine stays one, and all spaces are as they were.
 pub fn others_trade()
-    ensures machine { (m k : List (List ℕ)) (s n : Frames) (places : List (Option Space)) (others after old new : List ℕ) → IsMachine m s places others → IsFreeList k n → ((f : ℕ) → count_of f old ≤ count_of f others) → Trades m k s n old new → ((f : ℕ) → count_of f after + count_of f old ≡ count_of f others + count_of f new) → IsMachine k n places after }
+    ensures machine { (m k : List (List ℕ)) (s n : Frames) (places : List (Option Space)) (others after old new : List ℕ) → IsMachine m s places others → IsFreeList k n → ((f : ℕ) → count_of f old ≤ count_of f others) → Trades m k s n old new → ((f : ℕ) → count_of f new ≤ 1) → ((f : ℕ) → count_of f after + count_of f old ≡ count_of f others + count_of f new) → IsMachine k n places after }
     ensures untouched { (m k : List (List ℕ)) (s n : Frames) (places : List (Option Space)) (others old new : List ℕ) → IsMachine m s places others → ((f : ℕ) → count_of f old ≤ count_of f others) → Trades m k s n old new → AllUntouched m k places }
 {}
 

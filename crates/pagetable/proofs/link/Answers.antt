@@ -1,8 +1,6 @@
-use Rattle.std.proofs.Common.{refl, ◌≡◌, ◌<◌, ℕ, arith, length, ap, ◌∙◌, sym, zero, suc, ◌+◌, ◌-◌, ◌/◌, ◌%◌, Some, None, ◌*◌, ◌^◌}
-use Rattle.ram.specs.Memory.{put, word_bytes}
-use Rattle.frames.specs.Free.{free_of, IsFreeList}
-use Rattle.pagetable.specs.Tree.{mid_node, low_node, child_at, leaf_at, Writes, Links, leaf_entry, table_entry}
-use Rattle.pagetable.specs.TreeLemmas.{Writes-put, Links-put, free-first, free_of-link, IsFreeList-link, taken_apart}
+use Rattle.std.proofs.Common.{arith}
+use Rattle.frames.specs.Free.{free_of}
+use Rattle.pagetable.specs.TreeLemmas.{Links-put, free-first, free_of-link, IsFreeList-link, taken_apart}
 use Rattle.pagetable.proofs.link.Goals as goal
 
 pub zero-requires : goal.zero-requires

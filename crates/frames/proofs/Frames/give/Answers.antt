@@ -1,22 +1,22 @@
-use Rattle.std.proofs.Common.{◌≡◌, arith, length}
-use Rattle.ram.specs.Memory.{word_bytes}
-use Rattle.ram.specs.MemoryLemmas.{length-put}
-use Rattle.frames.specs.FreeLemmas.{count-le, free_of-give, IsFreeList-give, SameBut-put}
+use Rattle.std.proofs.Common.{arith}
+use Rattle.frames.specs.FreeLemmas.{count-read, further-is, free_count-list}
+use Rattle.frames.proofs.HolderLemmas.{holders-list}
 use Rattle.frames.proofs.Frames.give.Goals as goal
 
-given : goal.returns-clause-free
-given c = rw c.store_u32.ensures (free_of-give c.args.ram.now c.args.self.now.first.0 c.args.self.now.count c.args.frame.0 c.frames_are_whole.ensures.memory c.requires.inside (omega arith) c.requires.held)
+pub unshare-requires-clause-shared : goal.unshare-requires-clause-shared
+unshare-requires-clause-shared c = omega (arith, further-is c.args.self.now c.args.frame.0, count-read c.args.ram.now c.args.self.now c.args.frame.0 c.index.result.now c.requires.valid c.requires.inside c.index.ensures, c.if-index-gt1.true)
 
-pub overflow_add-self : goal.overflow_add-self
-overflow_add-self c = omega (arith, count-le c.args.ram.now c.args.self.now c.requires.valid)
+pub push-requires-clause-last : goal.push-requires-clause-last
+push-requires-clause-last c = omega (arith, further-is c.args.self.now c.args.frame.0, count-read c.args.ram.now c.args.self.now c.args.frame.0 c.index.result.now c.requires.valid c.requires.inside c.index.ensures, c.if-index-gt1.false)
 
-pub returns-clause-free : goal.returns-clause-free
-returns-clause-free c = given c
+pub returns-then-index-gt1-clause-last : goal.returns-then-index-gt1-clause-last
+returns-then-index-gt1-clause-last c = λ z. absurd (omega (arith, z, further-is c.args.self.now c.args.frame.0, count-read c.args.ram.now c.args.self.now c.args.frame.0 c.index.result.now c.requires.valid c.requires.inside c.index.ensures, c.if-index-gt1.true))
 
-pub returns-clause-valid : goal.returns-clause-valid
-returns-clause-valid c =
-    let len : length c.store_u32.new.self ≡ length c.args.ram.now = rw c.store_u32.ensures (length-put c.args.ram.now c.args.frame.0 0 (word_bytes 4 c.args.self.now.first.0)) in
-    IsFreeList-give c.args.ram.now c.store_u32.new.self c.args.self.now _ c.args.frame.0 c.requires.valid len c.requires.inside c.requires.held (given c)
+pub returns-else-index-gt1-clause-stays : goal.returns-else-index-gt1-clause-stays
+returns-else-index-gt1-clause-stays c = λ some. absurd (omega (arith, some, further-is c.args.self.now c.args.frame.0, count-read c.args.ram.now c.args.self.now c.args.frame.0 c.index.result.now c.requires.valid c.requires.inside c.index.ensures, c.if-index-gt1.false))
 
-pub returns-clause-others : goal.returns-clause-others
-returns-clause-others c = rw c.store_u32.ensures (SameBut-put c.args.ram.now c.args.frame.0 0 (word_bytes 4 c.args.self.now.first.0))
+pub returns-else-index-gt1-clause-holders : goal.returns-else-index-gt1-clause-holders
+returns-else-index-gt1-clause-holders c = holders-list c.args.ram.now c.push.new.ram c.args.self.now c.push.new.self c.args.frame.0 c.requires.valid c.push.ensures.valid c.push.ensures.others.count c.push.ensures.free c.push.ensures.extra
+
+pub returns-else-index-gt1-clause-more : goal.returns-else-index-gt1-clause-more
+returns-else-index-gt1-clause-more c = free_count-list c.args.ram.now c.push.new.ram c.args.self.now c.push.new.self c.args.frame.0 c.requires.valid.room c.push.ensures.free c.push.ensures.extra

@@ -1,5 +1,5 @@
-use Rattle.std.proofs.Common.{refl, ◌≡◌, ◌<◌, ℕ, arith, length, ap, ◌∙◌, sym, Some, None}
-use Rattle.pagetable.specs.TreeLemmas.{missing_zero, missing_one, missing_two}
+use Rattle.std.proofs.Common.{refl, arith, length, ap, ◌∙◌, sym}
+use Rattle.pagetable.specs.TreeLemmas.{free_count-taken, missing_zero, missing_one, missing_two}
 use Rattle.pagetable.proofs.ShapeLemmas.{Adds-zero, Adds-one, Adds-two, IsTidy-insert, Inserts-after}
 use Rattle.pagetable.proofs.PageTable.map.Goals as goal
 
@@ -10,13 +10,13 @@ pub returns-then-free-lt2-clause-full : goal.returns-then-free-lt2-clause-full
 returns-then-free-lt2-clause-full c = omega (arith, missing_two c.args.ram.now c.args.self.now.root.0 c.args.page c.in-None.ensures, c.free-in-None.ensures c.args.ram.now)
 
 pub returns-in-Some-low_table-clause-taken : goal.returns-in-Some-low_table-clause-taken
-returns-in-Some-low_table-clause-taken c = omega (arith, missing_zero c.args.ram.now c.args.self.now.root.0 c.args.page c.in-Some.mid.0 c.in-Some-low_table.low.0 c.in-Some.ensures c.in-Some-low_table.ensures, ap length c.set_leaf.ensures.free)
+returns-in-Some-low_table-clause-taken c = omega (arith, missing_zero c.args.ram.now c.args.self.now.root.0 c.args.page c.in-Some.mid.0 c.in-Some-low_table.low.0 c.in-Some.ensures c.in-Some-low_table.ensures, free_count-taken c.args.ram.now c.set_leaf.new.ram c.args.frames.now c.args.frames.now 0 (omega (arith, ap length c.set_leaf.ensures.free)) refl c.set_leaf.ensures.paged.free)
 
 pub returns-else-free-lt1-clause-taken : goal.returns-else-free-lt1-clause-taken
-returns-else-free-lt1-clause-taken c = omega (arith, missing_one c.args.ram.now c.args.self.now.root.0 c.args.page c.in-Some.mid.0 c.in-Some.ensures c.in-None-low_table.ensures, ap length c.make_low-low.ensures.taken, ap length c.set_leaf-in-None-low_table.ensures.free)
+returns-else-free-lt1-clause-taken c = omega (arith, missing_one c.args.ram.now c.args.self.now.root.0 c.args.page c.in-Some.mid.0 c.in-Some.ensures c.in-None-low_table.ensures, free_count-taken c.args.ram.now c.set_leaf-in-None-low_table.new.ram c.args.frames.now c.make_low-low.new.frames 1 (omega (arith, ap length c.make_low-low.ensures.taken, ap length c.set_leaf-in-None-low_table.ensures.free)) c.make_low-low.ensures.extra c.set_leaf-in-None-low_table.ensures.paged.free)
 
 pub returns-else-free-lt2-clause-taken : goal.returns-else-free-lt2-clause-taken
-returns-else-free-lt2-clause-taken c = omega (arith, missing_two c.args.ram.now c.args.self.now.root.0 c.args.page c.in-None.ensures, ap length c.make_mid-mid.ensures.taken, ap length c.make_low-low-in-None.ensures.taken, ap length c.set_leaf-in-None.ensures.free)
+returns-else-free-lt2-clause-taken c = omega (arith, missing_two c.args.ram.now c.args.self.now.root.0 c.args.page c.in-None.ensures, free_count-taken c.args.ram.now c.set_leaf-in-None.new.ram c.args.frames.now c.make_low-low-in-None.new.frames 2 (omega (arith, ap length c.make_mid-mid.ensures.taken, ap length c.make_low-low-in-None.ensures.taken, ap length c.set_leaf-in-None.ensures.free)) (c.make_low-low-in-None.ensures.extra ∙ c.make_mid-mid.ensures.extra) c.set_leaf-in-None.ensures.paged.free)
 
 pub returns-in-Some-low_table-clause-adds : goal.returns-in-Some-low_table-clause-adds
 returns-in-Some-low_table-clause-adds c = Adds-zero c.args.ram.now c.set_leaf.new.ram c.args.self.now.root.0 c.args.page c.args.frames.now c.in-Some.mid.0 c.in-Some-low_table.low.0 (sym c.in-Some.ensures) (sym c.in-Some-low_table.ensures) c.set_leaf.ensures.tables c.set_leaf.ensures.free

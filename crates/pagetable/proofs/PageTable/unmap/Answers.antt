@@ -1,7 +1,6 @@
-use Rattle.std.proofs.Common.{◌≡◌, ℕ, ◌%◌, ◌⊎◌, inl, inr, Option, Some, None, length, refl, sym, ap, ◌∙◌}
+use Rattle.std.proofs.Common.{ℕ, inl, inr, Some, None, sym, ap, ◌∙◌}
 use Rattle.std.specs.Option.{option_map}
-use Rattle.sv39.specs.Walk.{entry_of}
-use Rattle.pagetable.specs.Tree.{lookup_of, leaf_of, mid_node, low_node, table_at}
+use Rattle.pagetable.specs.Tree.{mid_node, low_node}
 use Rattle.pagetable.specs.TreeLemmas.{tree-leaf_sound, lookup_of-low, low_is_node, mid_is_node, table_at-low}
 use Rattle.pagetable.proofs.ShapeLemmas.{Adds-zero, Adds-one, Adds-two}
 use Rattle.pagetable.proofs.UnmapLemmas.{IsTidy-remove, used-low, used-mid, Removes-after, stood-gone, gone-used}

@@ -1,4 +1,4 @@
-use Rattle.std.proofs.Common.{◌≡◌, ◌∙◌, replicate, set, ℕ, List, ap, map}
+use Rattle.std.proofs.Common.{◌∙◌, replicate, set, ℕ, List, ap, map}
 use Rattle.ram.specs.Memory.{sized}
 use Rattle.ram.proofs.Frames.{set-view_full, length-zeros}
 use Rattle.ram.proofs.Ram.zero.Goals as goal
@@ -6,5 +6,4 @@ use Rattle.ram.proofs.Ram.zero.Goals as goal
 pub returns : goal.returns
 returns c =
     let m = c.self.inside.frames.items in
-    let new : c.fill.new.self ≡ replicate 4096 0 = c.fill.ensures.after (λ y e. e) ∙ ap (λ (n : ℕ). replicate {A = ℕ} n 0) c.whole.ensures in
-    ap (λ (w : List ℕ). map sized (set m c.args.f.0 w)) new ∙ set-view_full m c.args.self.now c.args.f.0 (replicate 4096 0) c.self.view_is length-zeros
+    ap (λ (w : List ℕ). map sized (set m c.args.f.0 w)) c.clear.ensures ∙ set-view_full m c.args.self.now c.args.f.0 (replicate 4096 0) c.self.view_is length-zeros

@@ -18,7 +18,7 @@ invariant_of-self g c =
     let e = pipe-there i c.args.q c.deref_mut.result.now _ p (rw (← c.self.view_is) at c.requires) c.deref_mut.ensures.value (sym c.take.ensures.value ∙ c.in-Some.is) in
     (piped-gone g.T.Translate.held i c.args.q p c.give.new.ram c.give.new.self _ c.self.invariant e
     (pipe-refilled i.pipes.items c.deref_mut.result.now c.args.q None c.take.new.self c.deref_mut.ensures.value c.take.ensures.after)
-    c.give.ensures.valid (rw c.frame.ensures.frame at c.give.ensures.free) (rw c.frame.ensures.frame at c.give.ensures.others)).sound
+    c.give.ensures.valid (rw c.frame.ensures.frame at c.give.ensures.holders) (rw c.frame.ensures.frame at c.give.ensures.others) (λ more. (c.give.ensures.stays (rw c.frame.ensures.frame more)).1)).sound
 
 pub returns : goal.returns
 returns g c =
@@ -27,7 +27,7 @@ returns g c =
     let e = pipe-there i c.args.q c.deref_mut.result.now _ p (rw (← c.self.view_is) at c.requires) c.deref_mut.ensures.value (sym c.take.ensures.value ∙ c.in-Some.is) in
     let gone = piped-gone g.T.Translate.held i c.args.q p c.give.new.ram c.give.new.self _ c.self.invariant e
     (pipe-refilled i.pipes.items c.deref_mut.result.now c.args.q None c.take.new.self c.deref_mut.ensures.value c.take.ensures.after)
-    c.give.ensures.valid (rw c.frame.ensures.frame at c.give.ensures.free) (rw c.frame.ensures.frame at c.give.ensures.others) in
+    c.give.ensures.valid (rw c.frame.ensures.frame at c.give.ensures.holders) (rw c.frame.ensures.frame at c.give.ensures.others) (λ more. (c.give.ensures.stays (rw c.frame.ensures.frame more)).1) in
     rw (← c.self.view_is) gone.view
 
 pub unreachable-requires : goal.unreachable-requires

@@ -8,7 +8,7 @@ use Rattle.std.proofs.Common.{◌+◌, ◌++◌, ◌-◌, ◌<◌, ◌⊎◌, So
 use Rattle.unixmodel.specs.Memory.{zero_page}
 use Rattle.vm.specs.Dense.{frames_for}
 use Rattle.vm.specs.Leaf.{marks_from}
-use Rattle.vm.specs.Space.{mapping_of, pages_in, pages_of}
+use Rattle.vm.specs.Space.{entries_of, pages_in, pages_of}
 use Rattle.vm.proofs.WalkLaw.{coherent-grown}
 
 pub grow-requires : goal.grow-requires
@@ -26,7 +26,7 @@ invariant_of-self g c =
     let e = there c.deref_mut.result.now i.places.items c.args.at x c.deref_mut.ensures.value c.in-Some.is in
     let more = changed held i c.args.at x z c.grow.new.ram c.grow.new.frames i.translator _ c.self.invariant e
     (refilled i.places.items c.deref_mut.result.now c.args.at (Some z) (Some z) c.deref_mut.ensures.value refl) c.grow.ensures.space c.grow.ensures.trades c.grow.ensures.root (λ t h. h)
-    (λ a was. coherent-grown (held i.translator) x.root.0 (mapping_of i.ram x) (mapping_of c.grow.new.ram z) (grown-front i.ram c.grow.new.ram i.frames c.grow.new.frames x z c.grow.result c.grow.ensures.mapping c.grow.ensures.unchanged) was) in
+    (λ a was. coherent-grown (held i.translator) x.root.0 (entries_of i.ram x) (entries_of c.grow.new.ram z) (grown-front i.ram c.grow.new.ram i.frames c.grow.new.frames x z c.grow.result c.grow.ensures.entries c.grow.ensures.unchanged) was) in
     more.sound
 
 pub returns-clause-done : goal.returns-clause-done
@@ -38,7 +38,7 @@ returns-clause-done g c =
     let e = there c.deref_mut.result.now i.places.items c.args.at x c.deref_mut.ensures.value c.in-Some.is in
     let more = changed held i c.args.at x z c.grow.new.ram c.grow.new.frames i.translator _ c.self.invariant e
     (refilled i.places.items c.deref_mut.result.now c.args.at (Some z) (Some z) c.deref_mut.ensures.value refl) c.grow.ensures.space c.grow.ensures.trades c.grow.ensures.root (λ t h. h)
-    (λ a was. coherent-grown (held i.translator) x.root.0 (mapping_of i.ram x) (mapping_of c.grow.new.ram z) (grown-front i.ram c.grow.new.ram i.frames c.grow.new.frames x z c.grow.result c.grow.ensures.mapping c.grow.ensures.unchanged) was) in
+    (λ a was. coherent-grown (held i.translator) x.root.0 (entries_of i.ram x) (entries_of c.grow.new.ram z) (grown-front i.ram c.grow.new.ram i.frames c.grow.new.frames x z c.grow.result c.grow.ensures.entries c.grow.ensures.unchanged) was) in
     let memory = pages_of i.ram x ++ replicate (pages_in (x.size + c.args.bytes) - pages_in x.size) (zero_page (marks_from c.args.perm)) in
     let size = x.size + c.args.bytes in
     rw (← c.self.view_is, held-is i c.args.at x e) (ok-true c.grow.result c.is_ok.result _ _ _ c.is_ok.ensures.value c.grow.ensures.pages c.grow.ensures.size (λ pages grew.

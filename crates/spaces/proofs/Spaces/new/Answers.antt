@@ -4,7 +4,7 @@ use Rattle.vm.proofs.SharesLemmas.{machine-new}
 
 pub invariant_of-result-2 : goal.invariant_of-result-2
 invariant_of-result-2 g c = record {
-  machine = rw (c.from_array_in-2.ensures.items, no-frames, c.from_array_in.ensures.items) (machine-new c.new-frames.new.ram c.new-frames.result 64 c.new-frames.ensures.valid c.new-frames.ensures.shared);
+  machine = rw (c.from_array_in-2.ensures.items, no-frames, c.from_array_in.ensures.items) (machine-new _ _ 64 c.in_ok-frames.ensures.valid c.in_ok-frames.ensures.shared);
   all = c.from_array_in.ensures.len;
   active = tt;
   inside = λ t h. absurd (c.fence.ensures t h);

@@ -4,7 +4,7 @@ use Rattle.spaces.proofs.Traded.{changed, placed-as, refilled, shown-as}
 use Rattle.spaces.specs.View.{held_with, shown}
 use Rattle.std.proofs.Common.{◌≡◌, ◌-◌, Some, arith, refl, take}
 use Rattle.sv39.specs.Mapping.{coherent-nothing}
-use Rattle.vm.specs.Space.{mapping_of, pages_in, pages_of}
+use Rattle.vm.specs.Space.{entries_of, pages_in, pages_of}
 
 pub shrink-requires-clause-space : goal.shrink-requires-clause-space
 shrink-requires-clause-space g c =
@@ -22,7 +22,7 @@ invariant_of-self g c =
     let e = there c.deref_mut.result.now i.places.items c.args.at x c.deref_mut.ensures.value c.in-Some.is in
     let less = changed held i c.args.at x z c.shrink.new.ram c.shrink.new.frames c.fence_active.new.translator _ c.self.invariant e
     (refilled i.places.items c.deref_mut.result.now c.args.at (Some z) (Some z) c.deref_mut.ensures.value refl) c.shrink.ensures.space c.shrink.ensures.trades c.shrink.ensures.root c.fence_active.ensures.fewer
-    (λ a was. coherent-nothing (held c.fence_active.new.translator) x.root.0 (mapping_of c.shrink.new.ram z) (c.fence_active.ensures.fenced a)) in
+    (λ a was. coherent-nothing (held c.fence_active.new.translator) x.root.0 (entries_of c.shrink.new.ram z) (c.fence_active.ensures.fenced a)) in
     less.sound
 
 pub returns : goal.returns
@@ -34,7 +34,7 @@ returns g c =
     let e = there c.deref_mut.result.now i.places.items c.args.at x c.deref_mut.ensures.value c.in-Some.is in
     let less = changed held i c.args.at x z c.shrink.new.ram c.shrink.new.frames c.fence_active.new.translator _ c.self.invariant e
     (refilled i.places.items c.deref_mut.result.now c.args.at (Some z) (Some z) c.deref_mut.ensures.value refl) c.shrink.ensures.space c.shrink.ensures.trades c.shrink.ensures.root c.fence_active.ensures.fewer
-    (λ a was. coherent-nothing (held c.fence_active.new.translator) x.root.0 (mapping_of c.shrink.new.ram z) (c.fence_active.ensures.fenced a)) in
+    (λ a was. coherent-nothing (held c.fence_active.new.translator) x.root.0 (entries_of c.shrink.new.ram z) (c.fence_active.ensures.fenced a)) in
     let memory = take (pages_in (x.size - c.args.bytes)) (pages_of i.ram x) in
     let size : z.size ≡ x.size - c.args.bytes = let h = c.shrink.ensures.size in omega (arith, h) in
     let all = placed-as held i _ c.args.at (shown c.shrink.new.ram (Some z)) (Some (held_with memory (x.size - c.args.bytes))) less (shown-as c.shrink.new.ram z memory (x.size - c.args.bytes) c.shrink.ensures.pages size) in

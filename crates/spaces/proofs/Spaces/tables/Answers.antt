@@ -1,5 +1,8 @@
 use Rattle.spaces.proofs.Spaces.tables.Goals as goal
+use Rattle.spaces.proofs.Closed.{shows-right}
 use Rattle.spaces.proofs.Places.{held-is, stands-there}
+use Rattle.spaces.proofs.Stepped.{let_through, narrows}
+use Rattle.vm.specs.Space.{pages_of}
 
 pub space_at-space-requires : goal.space_at-space-requires
 space_at-space-requires g c = stands-there c.self.inside c.args.at (rw (← c.self.view_is) at c.requires)
@@ -10,4 +13,7 @@ root_of-requires g c = (c.self.invariant.machine.each c.args.at c.space_at-space
 pub returns : goal.returns
 returns g c =
     let e = c.space_at-space.ensures in
-    rw (← c.self.view_is, held-is c.self.inside c.args.at c.space_at-space.result.now e) c.root_of.ensures
+    let i = c.self.inside in
+    let x = c.space_at-space.result.now in
+    rw (← c.self.view_is, held-is i c.args.at x e)
+    (shows-right i.ram c.root_of.result.0 (let_through i.ram x) (pages_of i.ram x) (narrows i.ram x (c.self.invariant.machine.each c.args.at x e).dense) c.root_of.ensures)

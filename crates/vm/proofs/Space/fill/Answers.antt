@@ -1,14 +1,8 @@
-use Rattle.std.proofs.Common.{◌≡◌, ℕ, ◌+◌, ◌-◌, ◌/◌, ◌<◌, ◌≤◌, ◌%◌, List, [], length, take, drop, min, true, refl, sym, ap, ◌∙◌, arith, length-drop}
-use Rattle.std.specs.Prelude.{nat_le}
-use Rattle.std.proofs.lemmas.Bool.{leb-true}
+use Rattle.std.proofs.Common.{◌≡◌, ◌+◌, ◌-◌, ◌%◌, [], length, take, drop, min, sym, ap, ◌∙◌, arith, length-drop}
 use Rattle.std.proofs.lemmas.List.{drop_all, drop-drop, take_all}
-use Rattle.unixmodel.specs.declared.trap.Access.TheVariants.{Store}
-use Rattle.unixmodel.specs.Memory.{reach, write_bytes}
-use Rattle.vm.proofs.PageLemmas.{length-pages}
-use Rattle.vm.proofs.ReachLemmas.{reach-page}
-use Rattle.vm.proofs.SizedLemmas.{pages-sized}
-use Rattle.vm.specs.Space.{pages_in, pages_of}
-use Rattle.vm.proofs.StoreLemmas.{Stands-none, Stands-twice}
+use Rattle.unixmodel.specs.Memory.{write_bytes}
+use Rattle.vm.specs.Space.{pages_of}
+use Rattle.vm.proofs.Remap.{reframes-none, reframes-twice}
 use Rattle.vm.proofs.WriteLemmas.{write-none}
 use Rattle.vm.proofs.Space.fill.Goals as goal
 
@@ -18,18 +12,14 @@ loop-done-init c =
     record {
       within = omega arith;
       rest = ap (λ at. write_bytes (pages_of c.args.ram.now c.args.self.now) at c.args.bytes.now) start;
-      stands = Stands-none c.args.ram.now c.args.self.now c.requires.mapped c.requires.once;
-      registers = refl;
+      frames = reframes-none c.args.ram.now c.args.self.now c.args.frames.now c.requires.space;
     }
 
 pub overflow_add-address : goal.overflow_add-address
-overflow_add-address c = omega (arith, c.requires.inside c.loop-done.done c.loop-done-test.true, c.requires.mapped.small)
+overflow_add-address c = omega (arith, c.requires.inside c.loop-done.done c.loop-done-test.true, c.requires.space.dense.small)
 
-pub write_page-done-requires-clause-mapped : goal.write_page-done-requires-clause-mapped
-write_page-done-requires-clause-mapped c = c.loop-done.invariant.stands.mapped
-
-pub write_page-done-requires-clause-once : goal.write_page-done-requires-clause-once
-write_page-done-requires-clause-once c = c.loop-done.invariant.stands.once
+pub write_page-done-requires-clause-space : goal.write_page-done-requires-clause-space
+write_page-done-requires-clause-space c = c.loop-done.invariant.frames.space
 
 pub write_page-done-requires-clause-page : goal.write_page-done-requires-clause-page
 write_page-done-requires-clause-page c = c.requires.inside c.loop-done.done c.loop-done-test.true
@@ -49,8 +39,7 @@ loop-done-preserved c =
       rest = ap (λ at. write_bytes (pages_of c.write_page-done.new.ram c.args.self.now) at (drop (d + n) bs)) place
           ∙ ap (write_bytes (pages_of c.write_page-done.new.ram c.args.self.now) (c.args.address + d + n)) (sym (drop-drop n d bs))
           ∙ (rw left at e.rest) ∙ i.rest;
-      stands = Stands-twice c.args.ram.now c.loop-done.ram c.write_page-done.new.ram c.args.self.now i.stands e.stands;
-      registers = e.registers ∙ i.registers;
+      frames = reframes-twice c.args.ram.now c.loop-done.ram c.write_page-done.new.ram c.args.self.now c.args.frames.now c.loop-done.frames c.write_page-done.new.frames i.frames e.frames;
     }
 
 pub returns-clause-written : goal.returns-clause-written
@@ -61,8 +50,5 @@ returns-clause-written c =
     ∙ ap (write_bytes (pages_of c.loop-done.ram c.args.self.now) (c.args.address + c.loop-done.done)) (sym none)
     ∙ i.rest
 
-pub returns-clause-stands : goal.returns-clause-stands
-returns-clause-stands c = c.loop-done.invariant.stands
-
-pub returns-clause-registers : goal.returns-clause-registers
-returns-clause-registers c = c.loop-done.invariant.registers
+pub returns-clause-frames : goal.returns-clause-frames
+returns-clause-frames c = c.loop-done.invariant.frames

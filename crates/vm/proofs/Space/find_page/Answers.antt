@@ -1,8 +1,6 @@
-use Rattle.std.proofs.Common.{◌≡◌, ℕ, ◌<◌, ◌≤◌, Some, None, length, refl, sym, ap, ◌∙◌, arith}
+use Rattle.std.proofs.Common.{Some, sym, ap, ◌∙◌, arith}
 use Rattle.pagetable.proofs.LookupLemmas.{lookup-sound}
-use Rattle.unixmodel.specs.Memory.{Marks}
-use Rattle.sv39.specs.Mapping.{Mapped}
-use Rattle.pagetable.specs.Marks.{page_marks}
+use Rattle.vm.specs.Leaf.{right_marks}
 use Rattle.vm.specs.Dense.{frame_at, marks_at}
 use Rattle.vm.proofs.GrowLemmas.{frame_at-is, marks_at-is}
 use Rattle.vm.specs.Space.{pages_in}
@@ -10,15 +8,15 @@ use Rattle.vm.proofs.WalkLaw.{get-mapping, mapping-past, mapped-parts}
 use Rattle.vm.proofs.Space.find_page.Goals as goal
 
 pub returns-then-page-pages_in-clause-found : goal.returns-then-page-pages_in-clause-found
-returns-then-page-pages_in-clause-found c = sym (mapping-past c.args.ram.now c.args.self.now.root.0 (pages_in c.args.self.now.size) c.args.page (omega (arith, c.pages_in.ensures, c.if-page-pages_in.true)))
+returns-then-page-pages_in-clause-found c = sym (mapping-past right_marks c.args.ram.now c.args.self.now.root.0 (pages_in c.args.self.now.size) c.args.page (omega (arith, c.pages_in.ensures, c.if-page-pages_in.true)))
 
 pub returns-clause-found : goal.returns-clause-found
 returns-clause-found c =
     let m = c.args.ram.now in
     let r = c.args.self.now.root.0 in
     let found = sym c.in-Some.ensures in
-    ap Some (mapped-parts c.in-Some.frame.0 (frame_at m r c.args.page) _ (page_marks (marks_at m r c.args.page)) (sym (frame_at-is m r c.args.page c.in-Some.frame.0 c.in-Some.leaf.0 found)) (c.perm_of.ensures ∙ ap page_marks (sym (marks_at-is m r c.args.page c.in-Some.frame.0 c.in-Some.leaf.0 found))))
-    ∙ sym (get-mapping m r (pages_in c.args.self.now.size) c.args.page (omega (arith, c.pages_in.ensures, c.if-page-pages_in.false)))
+    ap Some (mapped-parts c.in-Some.frame.0 (frame_at m r c.args.page) _ (right_marks (marks_at m r c.args.page)) (sym (frame_at-is m r c.args.page c.in-Some.frame.0 c.in-Some.leaf.0 found)) (c.perm_of.ensures ∙ ap right_marks (sym (marks_at-is m r c.args.page c.in-Some.frame.0 c.in-Some.leaf.0 found))))
+    ∙ sym (get-mapping right_marks m r (pages_in c.args.self.now.size) c.args.page (omega (arith, c.pages_in.ensures, c.if-page-pages_in.false)))
 
 pub returns-clause-inside : goal.returns-clause-inside
 returns-clause-inside c = (lookup-sound c.args.ram.now c.args.self.now.root.0 c.args.page c.in-Some.frame.0 c.in-Some.leaf.0 c.requires.tree (sym c.in-Some.ensures)).0

@@ -1,12 +1,11 @@
-use Rattle.std.proofs.Common.{◌≡◌, ℕ, ◌+◌, ◌-◌, ◌≤◌, List, [], ◌∷◌, ◌++◌, length, replicate, refl, sym, ap, ◌∙◌, arith, append-nil, append_assoc}
+use Rattle.std.proofs.Common.{◌≡◌, ◌+◌, ◌-◌, ◌≤◌, [], ◌∷◌, ◌++◌, replicate, refl, sym, ap, ◌∙◌, true, arith, append-nil, append_assoc}
 use Rattle.std.proofs.lemmas.List.{replicate_more}
 use Rattle.frames.proofs.HolderLemmas.{Trades-none, Trades-twice, held-count}
-use Rattle.vm.specs.Dense.{IsHeld, frames_for, held, page_with, pages_below}
+use Rattle.vm.specs.Dense.{frames_for, held, page_with, pages_below}
 use Rattle.vm.proofs.DenseLemmas.{length-held}
 use Rattle.unixmodel.specs.Memory.{zero_page}
-use Rattle.pagetable.specs.Marks.{IsLeafMarks-leaf_marks}
-use Rattle.vm.specs.Leaf.{marks_from}
-use Rattle.vm.proofs.LeafLemmas.{leaf-user, page-zero}
+use Rattle.vm.specs.Leaf.{entry_marks, marks_from, right_marks}
+use Rattle.vm.proofs.LeafLemmas.{leaf-user, leaf-valid, page-zero}
 use Rattle.vm.proofs.PageLemmas.{take-mapping}
 use Rattle.vm.specs.Space.{pages_in}
 use Rattle.vm.proofs.Space.grow.Goals as goal
@@ -19,7 +18,7 @@ loop-page-init c =
     record {
       space = rw same c.requires;
       pages = rw none (sym (append-nil (pages_below c.args.ram.now c.args.self.now.root.0 n)));
-      mapping = refl;
+      mapping = λ read. refl;
       trap = refl;
       trades = Trades-none c.args.ram.now c.args.frames.now (held c.args.ram.now c.args.self.now.root.0 c.args.self.now.trap.0 n);
       room = omega (arith, c.frames_for.ensures, c.frames_for-2.ensures, c.if-frames_for-from.false, c.free.ensures c.args.ram.now);
@@ -27,10 +26,10 @@ loop-page-init c =
     }
 
 pub add_page-requires-clause-marks : goal.add_page-requires-clause-marks
-add_page-requires-clause-marks c = rw c.leaf-leaf.ensures (IsLeafMarks-leaf_marks (marks_from c.args.perm))
+add_page-requires-clause-marks c = rw c.leaf-leaf.ensures (leaf-valid (marks_from c.args.perm) true)
 
 pub add_page-requires-clause-user : goal.add_page-requires-clause-user
-add_page-requires-clause-user c = rw c.leaf-leaf.ensures (leaf-user (marks_from c.args.perm))
+add_page-requires-clause-user c = rw c.leaf-leaf.ensures (leaf-user (marks_from c.args.perm) true)
 
 pub loop-page-preserved : goal.loop-page-preserved
 loop-page-preserved c =
@@ -44,7 +43,7 @@ loop-page-preserved c =
       space = c.add_page.ensures.held;
       pages = c.add_page.ensures.pages ∙ ap (λ x. pages_below c.loop-page.ram c.args.self.now.root.0 p ++ (x ∷ [])) made ∙ ap (λ l. l ++ (zero ∷ [])) i.pages ∙ append_assoc (pages_below c.args.ram.now c.args.self.now.root.0 from) (replicate (p - from) zero) (zero ∷ [])
           ∙ ap (λ l. pages_below c.args.ram.now c.args.self.now.root.0 from ++ l) (rw count (replicate_more (p - from) zero));
-      mapping = c.add_page.ensures.mapping from (omega arith) ∙ i.mapping;
+      mapping = λ read. c.add_page.ensures.mapping read from (omega arith) ∙ i.mapping read;
       trap = c.add_page.ensures.trap ∙ i.trap;
       trades = Trades-twice c.args.ram.now c.loop-page.ram c.add_page.new.ram c.args.frames.now c.loop-page.frames c.add_page.new.frames _ _ _ i.trades c.add_page.ensures.trades;
       room = omega (arith, i.room, c.add_page.ensures.room);
@@ -56,5 +55,13 @@ returns-clause-mapping c =
     let r = c.args.self.now.root.0 in
     let n = pages_in c.args.self.now.size in
     let more : n ≤ pages_in (c.args.self.now.size + c.args.bytes) = omega arith in
-    take-mapping c.loop-page.ram r (pages_in (c.args.self.now.size + c.args.bytes)) n more
-    ∙ (rw c.pages_in-from.ensures at c.loop-page.invariant.mapping)
+    take-mapping right_marks c.loop-page.ram r (pages_in (c.args.self.now.size + c.args.bytes)) n more
+    ∙ (rw c.pages_in-from.ensures at c.loop-page.invariant.mapping right_marks)
+
+pub returns-clause-entries : goal.returns-clause-entries
+returns-clause-entries c =
+    let r = c.args.self.now.root.0 in
+    let n = pages_in c.args.self.now.size in
+    let more : n ≤ pages_in (c.args.self.now.size + c.args.bytes) = omega arith in
+    take-mapping entry_marks c.loop-page.ram r (pages_in (c.args.self.now.size + c.args.bytes)) n more
+    ∙ (rw c.pages_in-from.ensures at c.loop-page.invariant.mapping entry_marks)

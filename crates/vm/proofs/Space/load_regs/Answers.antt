@@ -1,4 +1,4 @@
-use Rattle.std.proofs.Common.{◌≡◌, ℕ, ◌<◌, sym, ap, ◌∙◌, arith}
+use Rattle.std.proofs.Common.{sym, ap, ◌∙◌, arith}
 use Rattle.ram.specs.Memory.{word_of}
 use Rattle.vm.proofs.TrapLemmas.{trap-inside, saved-is, loads-start, loads-next}
 use Rattle.vm.proofs.Space.load_regs.Goals as goal

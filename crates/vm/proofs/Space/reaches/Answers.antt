@@ -1,7 +1,5 @@
-use Rattle.std.proofs.Common.{◌≡◌, ℕ, ◌+◌, ◌-◌, ◌*◌, ◌/◌, ◌%◌, ◌<◌, ◌≤◌, length, min, refl, sym, ap, ◌∙◌, arith}
-use Rattle.unixmodel.specs.Memory.{reach}
-use Rattle.vm.specs.Reach.{run_of}
-use Rattle.vm.proofs.ReachLemmas.{length-reach, run-le, test-long, test-reach}
+use Rattle.std.proofs.Common.{arith}
+use Rattle.vm.proofs.ReachLemmas.{test-long, test-reach}
 use Rattle.vm.proofs.SizedLemmas.{pages-sized}
 use Rattle.vm.proofs.PageLemmas.{length-pages}
 use Rattle.vm.specs.Space.{pages_in, pages_of}

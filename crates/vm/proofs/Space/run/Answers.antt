@@ -1,7 +1,5 @@
-use Rattle.std.proofs.Common.{◌≡◌, ℕ, ◌+◌, ◌<◌, ◌≤◌, Some, None, min, refl, sym, ap, ◌∙◌, arith}
-use Rattle.unixmodel.specs.Memory.{permits}
+use Rattle.std.proofs.Common.{◌+◌, sym, arith}
 use Rattle.vm.specs.Leaf.{mapped_as}
-use Rattle.vm.specs.Reach.{run_of}
 use Rattle.vm.proofs.ReachLemmas.{run-more, run-stop, run-end}
 use Rattle.vm.specs.Space.{mapping_of, pages_of}
 use Rattle.vm.proofs.WalkLaw.{mapped-page, unmapped-page}

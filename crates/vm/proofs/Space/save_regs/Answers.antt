@@ -1,4 +1,4 @@
-use Rattle.std.proofs.Common.{◌≡◌, ℕ, ◌+◌, ◌*◌, ◌<◌, length, get_or, refl, sym, ap, ◌∙◌, arith}
+use Rattle.std.proofs.Common.{◌≡◌, get_or, refl, ap, ◌∙◌, arith}
 use Rattle.ram.specs.Memory.{put, word_bytes}
 use Rattle.vm.proofs.TrapLemmas.{trap-inside, saved-is, saves-start, saves-next}
 use Rattle.vm.proofs.Space.save_regs.Goals as goal

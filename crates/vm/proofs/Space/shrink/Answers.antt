@@ -1,5 +1,6 @@
-use Rattle.std.proofs.Common.{◌≡◌, ◌-◌, ◌≤◌, ap, ◌∙◌, sym, take, arith}
-use Rattle.vm.specs.Dense.{mapping_below, pages_below}
+use Rattle.std.proofs.Common.{◌-◌, ◌≤◌, ap, ◌∙◌, sym, arith}
+use Rattle.vm.specs.Dense.{entries_below, mapping_below, pages_below}
+use Rattle.vm.specs.Leaf.{entry_marks, right_marks}
 use Rattle.vm.specs.Space.{pages_in}
 use Rattle.vm.proofs.PageLemmas.{take-pages, take-mapping}
 use Rattle.vm.proofs.Space.shrink.Goals as goal
@@ -13,5 +14,11 @@ returns-clause-pages c =
 pub returns-clause-mapping : goal.returns-clause-mapping
 returns-clause-mapping c =
     let less : pages_in (c.args.self.now.size - c.args.bytes) ≤ pages_in c.args.self.now.size = omega arith in
-    ap (mapping_below c.drop_pages.new.ram c.args.self.now.root.0) (sym c.pages_in-2.ensures) ∙ c.drop_pages.ensures.mapping ∙ ap (mapping_below c.args.ram.now c.args.self.now.root.0) c.pages_in-2.ensures
-    ∙ sym (take-mapping c.args.ram.now c.args.self.now.root.0 (pages_in c.args.self.now.size) (pages_in (c.args.self.now.size - c.args.bytes)) less)
+    ap (mapping_below c.drop_pages.new.ram c.args.self.now.root.0) (sym c.pages_in-2.ensures) ∙ c.drop_pages.ensures.mapping right_marks ∙ ap (mapping_below c.args.ram.now c.args.self.now.root.0) c.pages_in-2.ensures
+    ∙ sym (take-mapping right_marks c.args.ram.now c.args.self.now.root.0 (pages_in c.args.self.now.size) (pages_in (c.args.self.now.size - c.args.bytes)) less)
+
+pub returns-clause-entries : goal.returns-clause-entries
+returns-clause-entries c =
+    let less : pages_in (c.args.self.now.size - c.args.bytes) ≤ pages_in c.args.self.now.size = omega arith in
+    ap (entries_below c.drop_pages.new.ram c.args.self.now.root.0) (sym c.pages_in-2.ensures) ∙ c.drop_pages.ensures.mapping entry_marks ∙ ap (entries_below c.args.ram.now c.args.self.now.root.0) c.pages_in-2.ensures
+    ∙ sym (take-mapping entry_marks c.args.ram.now c.args.self.now.root.0 (pages_in c.args.self.now.size) (pages_in (c.args.self.now.size - c.args.bytes)) less)

@@ -1,13 +1,14 @@
-use Rattle.std.proofs.Common.{◌≡◌, ℕ, ◌<◌, length, refl, sym, ap, ◌∙◌}
+use Rattle.std.proofs.Common.{sym, ap, ◌∙◌}
 use Rattle.sv39.specs.Mapping.{Mapped}
 use Rattle.pagetable.specs.TreeLemmas.{tree-root}
 use Rattle.vm.specs.Space.{pages_in}
 use Rattle.vm.proofs.StoreLemmas.{page-inside, pages-same}
-use Rattle.vm.proofs.WalkLaw.{walks-mapping, mapping-within, mapping-is}
+use Rattle.vm.proofs.WalkLaw.{walks-entries, mapping-within, mapping-is}
+use Rattle.vm.specs.Leaf.{entry_marks, right_marks}
 use Rattle.vm.proofs.Space.walks.Goals as goal
 
-pub returns-clause-walks : goal.returns-clause-walks
-returns-clause-walks c = walks-mapping c.args.ram.now c.args.self.now.root.0 c.args.self.now.trap.0 (pages_in c.args.self.now.size) c.frames_are_whole.ensures.small c.requires
+pub returns-clause-entries : goal.returns-clause-entries
+returns-clause-entries c = walks-entries c.args.ram.now c.args.self.now.root.0 c.args.self.now.trap.0 (pages_in c.args.self.now.size) c.frames_are_whole.ensures.small c.requires
 
 pub returns-clause-root : goal.returns-clause-root
 returns-clause-root c = tree-root c.args.ram.now c.args.self.now.root.0 c.requires.tree
@@ -15,13 +16,13 @@ returns-clause-root c = tree-root c.args.ram.now c.args.self.now.root.0 c.requir
 pub returns-clause-inside : goal.returns-clause-inside
 returns-clause-inside c = λ page e at.
     let n = pages_in c.args.self.now.size in
-    rw (← ap (λ (x : Mapped). x.frame) (mapping-is c.args.ram.now c.args.self.now.root.0 n page e at))
-    (page-inside c.args.ram.now c.args.self.now.root.0 c.args.self.now.trap.0 n page c.requires (mapping-within c.args.ram.now c.args.self.now.root.0 n page e at))
+    rw (← ap (λ (x : Mapped). x.frame) (mapping-is entry_marks c.args.ram.now c.args.self.now.root.0 n page e at))
+    (page-inside c.args.ram.now c.args.self.now.root.0 c.args.self.now.trap.0 n page c.requires (mapping-within entry_marks c.args.ram.now c.args.self.now.root.0 n page e at))
 
 pub returns-clause-apart : goal.returns-clause-apart
 returns-clause-apart c = λ once p q e d at to same.
     let m = c.args.ram.now in
     let r = c.args.self.now.root.0 in
     let n = pages_in c.args.self.now.size in
-    pages-same m r c.args.self.now.trap.0 n p q once (mapping-within m r n p e at) (mapping-within m r n q d to)
-    (ap (λ (x : Mapped). x.frame) (mapping-is m r n p e at) ∙ same ∙ sym (ap (λ (x : Mapped). x.frame) (mapping-is m r n q d to)))
+    pages-same m r c.args.self.now.trap.0 n p q once (mapping-within right_marks m r n p e at) (mapping-within right_marks m r n q d to)
+    (ap (λ (x : Mapped). x.frame) (mapping-is right_marks m r n p e at) ∙ same ∙ sym (ap (λ (x : Mapped). x.frame) (mapping-is right_marks m r n q d to)))

@@ -1,5 +1,4 @@
-use Rattle.std.proofs.Common.{◌≡◌, ℕ, ◌+◌, ◌-◌, ◌≤◌, length, refl, sym, ap, ◌∙◌, arith, slice_set}
-use Rattle.ram.specs.Memory.{frame_of, put}
+use Rattle.std.proofs.Common.{arith}
 use Rattle.vm.proofs.PartLemmas.{part-put}
 use Rattle.vm.proofs.access.write_part.Goals as goal
 

@@ -1,0 +1,7 @@
+use Rattle.std.proofs.Common.{sym, ◌∙◌}
+use Rattle.frames.specs.FreeLemmas.{count-read}
+use Rattle.frames.proofs.HolderLemmas.{holders-counted}
+use Rattle.frames.proofs.Frames.holders.Goals as goal
+
+pub returns : goal.returns
+returns c = c.from.ensures ∙ count-read c.args.ram.now c.args.self.now c.args.frame.0 c.index.result.now c.requires.valid c.requires.inside c.index.ensures ∙ sym (holders-counted c.args.ram.now c.args.self.now c.args.frame.0 c.requires.valid c.requires.inside)

@@ -1,0 +1,121 @@
+-- What the walk lets through of a space, beside what its program may do by right.
+use Rattle.hart.proofs.Retries.{Alike, Narrows}
+use Rattle.hart.specs.Changes.{changed, put_in}
+use Rattle.std.proofs.Common.{◌≡◌, ◌⊎◌, ◌&&◌, inl, inr, ℕ, ◌%◌, ◌/◌, ◌^◌, ◌<◌, ◌≤◌, Bool, true, false, cond, List, Option, Some, None, refl, sym, ap, ◌∙◌}
+use Rattle.std.specs.Prelude.{option_and_then, option_map, slice_get}
+use Rattle.std.proofs.lemmas.Bool.{cases_lt}
+use Rattle.sv39.specs.Mapping.{Mapped, memory_of, page_in}
+use Rattle.unixmodel.specs.declared.trap.Access.{Access}
+use Rattle.unixmodel.specs.declared.trap.Access.TheVariants.{Fetch, Load, Store}
+use Rattle.unixmodel.specs.Meaning.{Change}
+use Rattle.unixmodel.specs.Meaning.Change.{Bytes, Nothing}
+use Rattle.unixmodel.specs.Shown.{ShowsByte, ShowsMemory, byte_at, page_byte}
+use Rattle.unixmodel.specs.Translation.{walk}
+use Rattle.unixmodel.specs.Memory.{Marks, Memory, Page, page_for, permits, permitted}
+use Rattle.vm.specs.Dense.{frame_at, marks_at, read_at, read_below, entries_below, pages_below, mapping_below}
+use Rattle.vm.specs.Leaf.{IsUserLeaf, entry_marks, is_open, right_marks, user_leaf}
+use Rattle.vm.proofs.LeafLemmas.{leaf-open, open-right, right-leaf}
+use Rattle.vm.proofs.WalkLaw.{get-mapping, mapped-page, mapping-past, unmapped-page}
+
+-- ---- a page
+
+page-here : (read : ℕ → Marks) (m : List (List ℕ)) (r n p : ℕ) → p < n → slice_get (memory_of m (read_below read m r n)) p ≡ Some (page_in m (read_at read m r p))
+page-here read m r n p low = mapped-page m (read_below read m r n) p (read_at read m r p) (sym (get-mapping read m r n p low))
+
+page-past : (read : ℕ → Marks) (m : List (List ℕ)) (r n p : ℕ) → n ≤ p → slice_get (memory_of m (read_below read m r n)) p ≡ None
+page-past read m r n p high = unmapped-page m (read_below read m r n) p (sym (mapping-past read m r n p high))
+
+cond-alike : (b c : Bool) (p q : Page) → b ≡ c → p.bytes ≡ q.bytes → Alike (cond b (Some p) None) (cond c (Some q) None)
+cond-alike true true p q e same = inr (p, q, refl, refl, same)
+cond-alike true false p q e same = absurd cc
+cond-alike false true p q e same = absurd cc
+cond-alike false false p q e same = inl (refl, refl)
+
+alike-by : (a : Access) (o w : Option Page) (p q : Page) → o ≡ Some p → w ≡ Some q → permits a p.marks ≡ permits a q.marks → p.bytes ≡ q.bytes → Alike (permitted a o) (permitted a w)
+alike-by a o w p q here there same bytes = rw (here, there) (cond-alike (permits a p.marks) (permits a q.marks) p q same bytes)
+
+none-alike : (a : Access) (o w : Option Page) → o ≡ None → w ≡ None → Alike (permitted a o) (permitted a w)
+none-alike a o w here there = inl (ap (permitted a) here, ap (permitted a) there)
+
+-- an access that both marks of a page permit, or neither
+alike-at : (a : Access) (m : List (List ℕ)) (r n p : ℕ) → (p < n → permits a (entry_marks (marks_at m r p)) ≡ permits a (right_marks (marks_at m r p)))
+    → Alike (permitted a (slice_get (memory_of m (entries_below m r n)) p)) (permitted a (slice_get (pages_below m r n) p))
+alike-at a m r n p same = elim (cases_lt p n) [
+  | inl low ↦
+      alike-by a (slice_get (memory_of m (entries_below m r n)) p) (slice_get (pages_below m r n) p) (page_in m (read_at entry_marks m r p)) (page_in m (read_at right_marks m r p))
+      (page-here entry_marks m r n p low) (page-here right_marks m r n p low) (same low) refl
+  | inr high ↦ none-alike a (slice_get (memory_of m (entries_below m r n)) p) (slice_get (pages_below m r n) p) (page-past entry_marks m r n p high) (page-past right_marks m r n p high)
+]
+
+-- ---- all of them
+
+closed-none : (b u : Bool) (p : Page) → b ≡ false → cond (b && u) (Some p) None ≡ None
+closed-none true u p e = absurd cc
+closed-none false u p e = refl
+
+bool-cases : (b : Bool) → (b ≡ true) ⊎ (b ≡ false)
+bool-cases true = inl refl
+bool-cases false = inr refl
+
+store-at : (m : List (List ℕ)) (r n p : ℕ) → ((q : ℕ) → q < n → IsUserLeaf (marks_at m r q))
+    → (permitted Store (slice_get (memory_of m (entries_below m r n)) p) ≡ None) ⊎ Alike (permitted Store (slice_get (memory_of m (entries_below m r n)) p)) (permitted Store (slice_get (pages_below m r n) p))
+store-at m r n p leaves = elim (cases_lt p n) [
+  | inl low ↦ elim (bool-cases (is_open (marks_at m r p))) [
+    | inl wide ↦ inr (alike-at Store m r n p (λ h. ap (λ (b : Bool). b && (right_marks (marks_at m r p)).user) (wide ∙ sym (open-right (marks_at m r p) (leaves p low) wide))))
+    | inr shut ↦ inl (ap (permitted Store) (page-here entry_marks m r n p low) ∙ closed-none (is_open (marks_at m r p)) (right_marks (marks_at m r p)).user (page_in m (read_at entry_marks m r p)) shut)
+  ]
+  | inr high ↦ inl (ap (permitted Store) (page-past entry_marks m r n p high))
+]
+
+-- what the walk lets through narrows what a program may do by right
+pub narrows-right : (m : List (List ℕ)) (r n : ℕ) → ((q : ℕ) → q < n → IsUserLeaf (marks_at m r q)) → Narrows (memory_of m (entries_below m r n)) (pages_below m r n)
+narrows-right m r n leaves = record {
+  fetch = λ address. alike-at Fetch m r n (address / 4096) (λ h. refl);
+  load = λ address. alike-at Load m r n (address / 4096) (λ h. refl);
+  store = λ address. store-at m r n (address / 4096) leaves;
+}
+
+-- a page that was opened lets a store through where the program may write it by right
+pub opened-alike : (m : List (List ℕ)) (r n address : ℕ) (g : Marks) → marks_at m r (address / 4096) ≡ user_leaf g true → Alike (page_for Store (memory_of m (entries_below m r n)) address) (page_for Store (pages_below m r n) address)
+opened-alike m r n address g made =
+    let leaf = marks_at m r (address / 4096) in
+    let wide : is_open leaf ≡ g.writable = ap is_open made ∙ leaf-open g in
+    let right : (right_marks leaf).writable ≡ g.writable = ap (λ (l : ℕ). (right_marks l).writable) made ∙ ap (λ (a : Marks). a.writable) (right-leaf g true) in
+    alike-at Store m r n (address / 4096) (λ h. ap (λ (b : Bool). b && (right_marks leaf).user) (wide ∙ sym right))
+
+-- ---- stores go by frames alone
+
+put-frame : (m : List (List ℕ)) (o w : Option Mapped) (e d : Mapped) (at : ℕ) (bytes : List ℕ) → o ≡ Some e → w ≡ Some d → e.frame ≡ d.frame → put_in m o at bytes ≡ put_in m w at bytes
+put-frame m o w e d at bytes here there same =
+    ap (λ (x : Option Mapped). put_in m x at bytes) here
+    ∙ ap (λ (f : ℕ). put_in m (Some (record { frame = f; marks = d.marks })) at bytes) same
+    ∙ sym (ap (λ (x : Option Mapped). put_in m x at bytes) there)
+
+pub changed-right : (m : List (List ℕ)) (r n : ℕ) (c : Change) → changed m (entries_below m r n) c ≡ changed m (mapping_below m r n) c
+changed-right m r n Nothing = refl
+changed-right m r n (Bytes address bytes) =
+    let p = address / 4096 in
+    elim (cases_lt p n) [
+      | inl low ↦ put-frame m (slice_get (entries_below m r n) p) (slice_get (mapping_below m r n) p) (read_at entry_marks m r p) (read_at right_marks m r p) (address % 4096) bytes (get-mapping entry_marks m r n p low) (get-mapping right_marks m r n p low) refl
+      | inr high ↦ ap (λ (o : Option Mapped). put_in m o (address % 4096) bytes) (mapping-past entry_marks m r n p high ∙ sym (mapping-past right_marks m r n p high))
+    ]
+
+-- ---- what walks reach
+
+byte-alike : (va : ℕ) (p q : Option Page) → Alike p q → option_and_then (λ (x : Page). slice_get x.bytes (va % 4096)) p ≡ option_and_then (λ (x : Page). slice_get x.bytes (va % 4096)) q
+byte-alike va p q (inl (a, b)) = ap (option_and_then (λ (x : Page). slice_get x.bytes (va % 4096))) a ∙ sym (ap (option_and_then (λ (x : Page). slice_get x.bytes (va % 4096))) b)
+byte-alike va p q (inr (a, b, is_a, is_b, same)) =
+    ap (option_and_then (λ (x : Page). slice_get x.bytes (va % 4096))) is_a
+    ∙ ap (λ (bytes : List ℕ). slice_get bytes (va % 4096)) same
+    ∙ sym (ap (option_and_then (λ (x : Page). slice_get x.bytes (va % 4096))) is_b)
+
+shows-byte : (access : Access) (va : ℕ) (low high : Memory) (found : Option ℕ) → Narrows low high → found ≡ page_byte low va access → ShowsByte access found (page_byte high va access)
+shows-byte Fetch va low high found down e = e ∙ byte-alike va (page_for Fetch low va) (page_for Fetch high va) (down.fetch va)
+shows-byte Load va low high found down e = e ∙ byte-alike va (page_for Load low va) (page_for Load high va) (down.load va)
+shows-byte Store va low high found down e = elim (down.store va) [
+  | inl none ↦ inl (e ∙ ap (option_and_then (λ (x : Page). slice_get x.bytes (va % 4096))) none)
+  | inr alike ↦ inr (e ∙ byte-alike va (page_for Store low va) (page_for Store high va) alike)
+]
+
+pub shows-right : (ram : List (List ℕ)) (root : ℕ) (low high : Memory) → Narrows low high → ((va : ℕ) (access : Access) → va < 2 ^ 64 → option_and_then (byte_at ram) (walk ram root va access) ≡ page_byte low va access) → ShowsMemory ram root high
+shows-right ram root low high down reached va access small = shows-byte access va low high (option_and_then (byte_at ram) (walk ram root va access)) down (reached va access small)

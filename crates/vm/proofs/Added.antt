@@ -1,0 +1,187 @@
+-- A page comes to a space: its frame is one that the space is counted to hold already, a new one or a shared one.
+use Rattle.std.proofs.Common.{◌≡◌, ◌≢◌, ℕ, suc, ◌+◌, ◌-◌, ◌<◌, ◌≤◌, inl, inr, false, true, List, [], ◌∷◌, ◌++◌, length, refl, sym, ap, ◌∙◌, arith, add-one, ltb, nat_eq}
+use Rattle.std.proofs.lemmas.Bool.{cases_eq}
+use Rattle.ram.specs.Memory.{frame_of}
+use Rattle.frames.specs.declared.Frames.{Frames}
+use Rattle.frames.specs.Free.{among, free_of, free_count, further_at, IsFreeList}
+use Rattle.frames.specs.FreeLemmas.{further-free}
+use Rattle.frames.specs.Holders.{one_if, count_of, holders_of, Trades}
+use Rattle.frames.proofs.HolderLemmas.{one_if-le, count_of-append, count_of-first, count_of-other, held-inside, not-free-held, holders-free, holders-table, free-holders, none-among}
+use Rattle.pagetable.specs.Tree.{lookup_of, missing}
+use Rattle.pagetable.specs.TreeLemmas.{further-same}
+use Rattle.vm.specs.Dense.{trap_page, frame_at, marks_at, page_at, page_with, pages_below, frames_below, tables_for, tables_below, held, frames_for, IsDense, IsHeld}
+use Rattle.vm.proofs.DenseLemmas.{count-held, page-held, pages_below-more, table-held}
+use Rattle.vm.proofs.GrowLemmas.{lookup-parts, frame_at-is, marks_at-is, frame_at-same, marks_at-same, held-same, made-tables, missing-next}
+use Rattle.vm.specs.Leaf.{is_open}
+use Rattle.vm.proofs.StepLemmas.{IsNext, pages_below-same}
+
+-- the space before, beside whoever else holds the page's frame
+pub record IsBefore (z : List (List ℕ)) (r t n f marks : ℕ) (q : Frames) : Type 0 where
+  pub space : IsHeld z r t n q
+  pub small : n < 32768
+  pub room : (v : ℕ) → count_of v (held z r t n) + count_of v (f ∷ []) ≤ holders_of z q v
+  pub absent : count_of f (held z r t n) ≡ 0
+  pub sole : is_open marks ≡ true → further_at q f ≡ 0
+
+next-dense : (z k : List (List ℕ)) (r t n f marks : ℕ) (q w : Frames) → IsBefore z r t n f marks q → IsNext z k r n f marks q w → IsDense k r t (suc n)
+next-dense z k r t n f marks q w b e =
+    let is = b.space.dense in
+    let small = b.small in
+    record {
+      tree = e.paged.tree;
+      tidy = e.tidy;
+      small = omega (arith, small);
+      pages = λ p h. elim (cases_eq p n) [
+        | inl same ↦ lookup-parts k r p (f, marks) (ap (lookup_of k r) same ∙ e.inserts.changed)
+        | inr ne ↦ lookup-parts k r p (frame_at z r p, marks_at z r p) (e.inserts.others p (omega (arith, h, small)) ne ∙ is.pages p (omega (arith, h, ne)))
+      ];
+      leaves = λ p h. elim (cases_eq p n) [
+        | inl same ↦ rw (same, marks_at-is k r n f marks e.inserts.changed) e.leaf
+        | inr ne ↦ rw (marks_at-same z k r p (e.inserts.others p (omega (arith, h, small)) ne)) (is.leaves p (omega (arith, h, ne)))
+      ];
+      trap = e.inserts.others trap_page (omega arith) (omega (arith, small)) ∙ is.trap;
+      rest = λ p high low ne. e.inserts.others p low (omega (arith, high)) ∙ is.rest p (omega (arith, high)) low ne;
+    }
+
+next-same : (z k : List (List ℕ)) (r t n f marks : ℕ) (q w : Frames) → IsBefore z r t n f marks q → IsNext z k r n f marks q w
+    → (tables_below k r n ≡ tables_below z r n) × (frames_below k r n ≡ frames_below z r n)
+next-same z k r t n f marks q w b e =
+    let small = b.small in
+    held-same z k r t n b.space.dense (λ p h. e.inserts.others p (omega (arith, small, h)) (omega (arith, small, h))) (λ x u nx h. e.adds.stand x u nx h)
+
+-- what is held then: the page's frame, and the tables that came
+pub next-count : (z k : List (List ℕ)) (r t n f marks : ℕ) (q w : Frames) → IsBefore z r t n f marks q → IsNext z k r n f marks q w
+    → (v : ℕ) → (count_of v (held k r t (suc n)) ≡ count_of v (tables_for k r n) + count_of v (held z r t n) + count_of v (f ∷ [])) × (count_of v (free_of z q) ≡ count_of v (tables_for k r n) + count_of v (free_of k w)) × (count_of v (tables_below k r (suc n)) ≡ count_of v (tables_for k r n) + count_of v (tables_below z r n))
+unfolding tables_below frames_below
+next-count z k r t n f marks q w b e v =
+    let both = next-same z k r t n f marks q w b e in
+    let here : frame_at k r n ≡ f = frame_at-is k r n f marks e.inserts.changed in
+    let taken : count_of v (free_of z q) ≡ count_of v (tables_for k r n) + count_of v (free_of k w) =
+    ap (count_of v) (e.adds.taken ∙ ap (λ l. l ++ free_of k w) (made-tables z k r t n b.space.dense b.small)) ∙ count_of-append v (tables_for k r n) (free_of k w) in
+    let frames : count_of v (frames_below k r (suc n)) ≡ one_if (nat_eq v f) + count_of v (frames_below z r n) = ap (λ x. one_if (nat_eq v x) + count_of v (frames_below k r n)) here ∙ ap (λ l. one_if (nat_eq v f) + count_of v l) (both.1) in
+    let tables : count_of v (tables_below k r (suc n)) ≡ count_of v (tables_for k r n) + count_of v (tables_below z r n) = count_of-append v (tables_for k r n) (tables_below k r n) ∙ ap (λ l. count_of v (tables_for k r n) + count_of v l) (both.0) in
+    (omega (arith, count-held z r t n v, count-held k r t (suc n) v, frames, tables), taken, tables)
+
+free-once : (m : List (List ℕ)) (s : Frames) (v : ℕ) → IsFreeList m s → count_of v (free_of m s) ≤ 1
+free-once m s v is = elim (among v (free_of m s)) as (λ b. among v (free_of m s) ≡ b → count_of v (free_of m s) ≤ 1) [
+  | true ↦ λ at. omega (arith, holders-free m s is v, free-holders m s v is at, further-free m s v is at, one_if-le (ltb v (length m)))
+  | false ↦ λ out. omega (arith, none-among v (free_of m s) out)
+] refl
+
+-- a frame of the list has no holder and no further one
+free-none : (m : List (List ℕ)) (s : Frames) (v : ℕ) → IsFreeList m s → 0 < count_of v (free_of m s) → (holders_of m s v ≡ 0) × (further_at s v ≡ 0)
+free-none m s v is some = elim (among v (free_of m s)) as (λ b. among v (free_of m s) ≡ b → (holders_of m s v ≡ 0) × (further_at s v ≡ 0)) [
+  | true ↦ λ at. (free-holders m s v is at, further-free m s v is at)
+  | false ↦ λ out. absurd (omega (arith, some, none-among v (free_of m s) out))
+] refl
+
+-- one with a holder is not in it
+held-none : (m : List (List ℕ)) (s : Frames) (v : ℕ) → IsFreeList m s → 0 < holders_of m s v → count_of v (free_of m s) ≡ 0
+held-none m s v is some = none-among v (free_of m s) (held-inside m s v is some).1
+
+next-holders : (z k : List (List ℕ)) (r n f marks : ℕ) (q w : Frames) → IsFreeList z q → IsNext z k r n f marks q w → (v : ℕ) → holders_of k w v + count_of v (free_of k w) ≡ holders_of z q v + count_of v (free_of z q)
+next-holders z k r n f marks q w is e v = holders-table z k q w is e.paged.free e.keeps.count e.extra v
+
+pub next-held : (z k : List (List ℕ)) (r t n f marks : ℕ) (q w : Frames) → IsBefore z r t n f marks q → IsNext z k r n f marks q w → IsHeld k r t (suc n) w
+next-held z k r t n f marks q w b e =
+    let is = b.space in
+    let counts = next-count z k r t n f marks q w b e in
+    let holders = next-holders z k r n f marks q w is.free e in
+    let further : (v : ℕ) → further_at w v ≡ further_at q v = λ (v : ℕ). further-same q w v e.extra in
+    record {
+      dense = next-dense z k r t n f marks q w b e;
+      once = λ v. elim (cases_eq (count_of v (free_of z q)) 0) [
+        | inl none ↦ elim (cases_eq v f) [
+          | inl same ↦ omega (arith, counts v, none, count_of-first v f [] same, ap (λ x. count_of x (held z r t n)) same, b.absent)
+          | inr other ↦ omega (arith, counts v, none, count_of-other v f [] other, is.once v)
+        ]
+        | inr some ↦ omega (arith, counts v, free-once z q v is.free, b.room v, (free-none z q v is.free (omega (arith, some))).0)
+      ];
+      free = e.paged.free;
+      held = λ v. omega (arith, counts v, holders v, b.room v);
+      own = λ v some. elim (cases_eq (count_of v (tables_for k r n)) 0) [
+        | inl none ↦ omega (arith, further v, is.own v (omega (arith, some, none, counts v)))
+        | inr new ↦ omega (arith, further v, (free-none z q v is.free (omega (arith, new, counts v))).1)
+      ];
+      alone = λ p h wide. elim (cases_eq p n) [
+        | inl same ↦
+            let marks_is = ap (marks_at k r) same ∙ marks_at-is k r n f marks e.inserts.changed in
+            let frame_is = ap (frame_at k r) same ∙ frame_at-is k r n f marks e.inserts.changed in
+            ap (further_at w) frame_is ∙ further f ∙ b.sole (ap is_open (sym marks_is) ∙ wide)
+        | inr ne ↦
+            let small = b.small in
+            let looks = e.inserts.others p (omega (arith, h, small)) ne in
+            ap (further_at w) (frame_at-same z k r p looks) ∙ further (frame_at z r p) ∙ is.alone p (omega (arith, h, ne)) (ap is_open (sym (marks_at-same z k r p looks)) ∙ wide)
+      ];
+    }
+
+-- a frame that has a holder and is no table of the space keeps its bytes
+next-bytes : (z k : List (List ℕ)) (r t n f marks : ℕ) (q w : Frames) → IsBefore z r t n f marks q → IsNext z k r n f marks q w → (v : ℕ) → 0 < holders_of z q v → count_of v (tables_below z r n) ≡ 0 → frame_of k v ≡ frame_of z v
+next-bytes z k r t n f marks q w b e v some none = e.keeps.others v (λ h. omega (arith, none, table-held z r t n v b.space.dense h)) (held-inside z q v b.space.free some).1
+
+-- the space trades for the tables that came
+pub next-trades : (z k : List (List ℕ)) (r t n f marks : ℕ) (q w : Frames) → IsBefore z r t n f marks q → IsNext z k r n f marks q w → Trades z k q w (held z r t n) (tables_for k r n ++ held z r t n)
+next-trades z k r t n f marks q w b e =
+    let is = b.space in
+    let counts = next-count z k r t n f marks q w b e in
+    record {
+      count = e.keeps.count;
+      moved = λ v. omega (arith, counts v, next-holders z k r n f marks q w is.free e v, count_of-append v (tables_for k r n) (held z r t n));
+      others = λ v more.
+          let some : 0 < holders_of z q v = omega (arith, more) in
+          let at = held-inside z q v is.free some in
+          let none : count_of v (tables_below z r n) ≡ 0 = elim (cases_eq (count_of v (tables_below z r n)) 0) [
+            | inl gone ↦ gone
+            | inr table ↦ absurd (omega (arith, more, table, count-held z r t n v, not-free-held z q v is.free at.0 at.1, is.own v (omega (arith, table))))
+          ] in
+          next-bytes z k r t n f marks q w b e v some none;
+      fresh = λ v none some. (free-none z q v is.free (omega (arith, none, some, counts v, count_of-append v (tables_for k r n) (held z r t n)))).0;
+    }
+
+pub next-pages : (z k : List (List ℕ)) (r t n f marks : ℕ) (q w : Frames) → IsBefore z r t n f marks q → IsNext z k r n f marks q w → pages_below k r (suc n) ≡ pages_below z r n ++ (page_with (frame_of z f) marks ∷ [])
+next-pages z k r t n f marks q w b e =
+    let is = b.space in
+    let small = b.small in
+    let old : pages_below k r n ≡ pages_below z r n = pages_below-same z k r n
+    (λ p h. e.inserts.others p (omega (arith, h, small)) (omega (arith, h)))
+    (λ p h. let g = frame_at z r p in let at = page-held z r n p h in next-bytes z k r t n f marks q w b e g
+    (omega (arith, is.held g, count-held z r t n g, at))
+    (omega (arith, is.once g, count-held z r t n g, at))) in
+    let here : frame_at k r n ≡ f = frame_at-is k r n f marks e.inserts.changed in
+    let bytes : frame_of k f ≡ frame_of z f = next-bytes z k r t n f marks q w b e f (omega (arith, b.room f, count_of-first f f [] refl)) (omega (arith, b.absent, count-held z r t n f)) in
+    let page : page_at k r n ≡ page_with (frame_of z f) marks = ap (λ x. page_with x (marks_at k r n)) (ap (frame_of k) here ∙ bytes) ∙ ap (page_with (frame_of z f)) (marks_at-is k r n f marks e.inserts.changed) in
+    pages_below-more k r n ∙ ap (λ x. pages_below k r n ++ (x ∷ [])) page ∙ ap (λ l. l ++ (page_with (frame_of z f) marks ∷ [])) old
+
+pub next-trap : (z k : List (List ℕ)) (r t n f marks : ℕ) (q w : Frames) → IsBefore z r t n f marks q → IsNext z k r n f marks q w → frame_of k t ≡ frame_of z t
+next-trap z k r t n f marks q w b e =
+    let is = b.space in
+    let one = count_of-first t t [] refl in
+    next-bytes z k r t n f marks q w b e t (omega (arith, is.held t, count-held z r t n t, one)) (omega (arith, is.once t, count-held z r t n t, one))
+
+-- its tables fit where the count of the next page does
+pub next-fits : (z : List (List ℕ)) (r t n : ℕ) (q : Frames) → IsHeld z r t n q → n < 32768 → frames_for (n + 1) ≤ 1 + frames_for n + free_count z q → missing z r n ≤ free_count z q
+next-fits z r t n q is small room =
+    let more : frames_for (n + 1) ≡ frames_for (suc n) = ap frames_for (add-one n) in
+    omega (arith, room, more, missing-next z r t n is.dense small)
+
+-- ---- a frame gets another holder
+
+-- a space stands where a frame that it holds at a closed page alone, or doesn't hold, gets another holder
+pub share-stands : (m : List (List ℕ)) (r t n f : ℕ) (s q : Frames) → IsHeld m r t n s → IsFreeList m q → ((v : ℕ) → holders_of m q v ≡ holders_of m s v + count_of v (f ∷ [])) → free_of m q ≡ free_of m s
+    → count_of f (tables_below m r n) + count_of f (t ∷ []) ≡ 0 → ((p : ℕ) → p < n → frame_at m r p ≡ f → is_open (marks_at m r p) ≡ false) → IsHeld m r t n q
+share-stands m r t n f s q is after more list no_table closed =
+    let further : (v : ℕ) → v ≢ f → further_at q v ≡ further_at s v = λ (v : ℕ) (ne : v ≢ f). omega (arith, more v, count_of-other v f [] ne, holders-free m s is.free v, holders-free m q after v, ap (count_of v) list) in
+    record {
+      dense = is.dense;
+      once = is.once;
+      free = after;
+      held = λ v. omega (arith, is.held v, more v);
+      own = λ v some. elim (cases_eq v f) [
+        | inl same ↦ absurd (omega (arith, some, no_table, ap (λ x. count_of x (tables_below m r n)) same, ap (λ x. count_of x (t ∷ [])) same))
+        | inr ne ↦ further v ne ∙ is.own v some
+      ];
+      alone = λ p h wide. elim (cases_eq (frame_at m r p) f) [
+        | inl same ↦ absurd (let shut = closed p h same in cc)
+        | inr ne ↦ further (frame_at m r p) ne ∙ is.alone p h wide
+      ];
+    }

@@ -1,0 +1,340 @@
+-- A page of a space is shared with a space that is made.
+use Rattle.std.proofs.Common.{◌≡◌, ◌≢◌, ℕ, zero, suc, ◌+◌, ◌-◌, ◌<◌, ◌≤◌, inl, inr, false, List, [], ◌∷◌, ◌++◌, refl, sym, ap, ◌∙◌, arith, add-one, length-append, get_or}
+use Rattle.std.proofs.lemmas.Bool.{cases_eq, cases_lt}
+use Rattle.ram.specs.Memory.{frame_of}
+use Rattle.frames.specs.declared.Frames.{Frames}
+use Rattle.frames.specs.Free.{free_of, free_count, IsFreeList}
+use Rattle.frames.specs.Holders.{count_of, holders_of, Trades}
+use Rattle.frames.proofs.HolderLemmas.{count_of-append, count_of-other, held-inside, not-free-held, Trades-none, Trades-twice, Trades-lengths}
+use Rattle.unixmodel.specs.Memory.{Page, Marks}
+use Rattle.vm.proofs.GrowLemmas.{frame_at-is, frame_at-same, missing-next}
+use Rattle.vm.proofs.PageLemmas.{get_or-pages}
+use Rattle.vm.specs.declared.Space.{Space}
+use Rattle.vm.specs.Dense.{frame_at, marks_at, page_at, pages_below, frames_below, tables_for, tables_below, held, frames_for, IsHeld}
+use Rattle.vm.proofs.DenseLemmas.{count-held, frames_for-more, page-held, pages-apart, pages_below-more, pages_below-zero, length-held}
+use Rattle.vm.proofs.Added.{IsBefore, next-count, next-held, next-pages, next-trades, next-trap, share-stands}
+use Rattle.vm.specs.Leaf.{is_open, right_marks}
+use Rattle.vm.proofs.Beside.{Trades-held}
+use Rattle.vm.specs.Fork.{IsMore, IsPart, IsSoFar}
+use Rattle.vm.proofs.StepLemmas.{IsNext}
+use Rattle.vm.specs.Space.{IsRearranged, IsSpace, pages_of, registers_of, holds, pages_in}
+
+-- ---- trades of more than one holder
+
+Trades-as : (m k : List (List ℕ)) (s n : Frames) (old new before after : List ℕ) → Trades m k s n old new → ((v : ℕ) → count_of v before ≡ count_of v old) → ((v : ℕ) → count_of v after ≡ count_of v new) → Trades m k s n before after
+Trades-as m k s n old new before after t a b = record {
+  count = t.count;
+  moved = λ v. omega (arith, t.moved v, a v, b v);
+  others = λ v more. t.others v (omega (arith, more, a v));
+  fresh = λ v none some. t.fresh v (omega (arith, none, a v)) (omega (arith, some, b v));
+}
+
+Trades-frame : (m k : List (List ℕ)) (s n : Frames) (old new rest : List ℕ) → Trades m k s n old new → Trades m k s n (rest ++ old) (rest ++ new)
+Trades-frame m k s n old new rest t = record {
+  count = t.count;
+  moved = λ v. omega (arith, t.moved v, count_of-append v rest old, count_of-append v rest new);
+  others = λ v more. t.others v (omega (arith, more, count_of-append v rest old));
+  fresh = λ v none some. t.fresh v (omega (arith, none, count_of-append v rest old)) (omega (arith, none, some, count_of-append v rest old, count_of-append v rest new));
+}
+
+Trades-more : (m : List (List ℕ)) (s n : Frames) (f : ℕ) (all : List ℕ) → ((v : ℕ) → holders_of m n v ≡ holders_of m s v + count_of v (f ∷ [])) → 0 < count_of f all → Trades m m s n all (f ∷ all)
+Trades-more m s n f all more there = record {
+  count = refl;
+  moved = λ v. omega (arith, more v);
+  others = λ v h. refl;
+  fresh = λ v none some. elim (cases_eq v f) [
+    | inl same ↦ absurd (omega (arith, none, there, ap (λ x. count_of x all) same))
+    | inr other ↦ absurd (omega (arith, none, some, count_of-other v f all other))
+  ];
+}
+
+-- ---- the frame of the page
+
+-- a frame of a page stands there once, and is no table and no trap frame
+page-once : (m : List (List ℕ)) (r t n p f : ℕ) (s : Frames) → IsHeld m r t n s → p < n → frame_at m r p ≡ f → (count_of f (tables_below m r n) + count_of f (t ∷ []) ≡ 0) × (count_of f (frames_below m r n) ≡ 1) × (count_of f (held m r t n) ≡ 1)
+page-once m r t n p f s is low was =
+    let at : 0 < count_of f (frames_below m r n) = omega (arith, page-held m r n p low, ap (λ x. count_of x (frames_below m r n)) was) in
+    (omega (arith, is.once f, count-held m r t n f, at), omega (arith, is.once f, count-held m r t n f, at), omega (arith, is.once f, count-held m r t n f, at))
+
+-- pages with one frame are one page
+page-same : (m : List (List ℕ)) (r t n p j : ℕ) (s : Frames) → IsHeld m r t n s → p < n → j < n → frame_at m r j ≡ frame_at m r p → j ≡ p
+page-same m r t n p j s is low high same =
+    let single : (v : ℕ) → count_of v (frames_below m r n) ≤ 1 = λ (v : ℕ). omega (arith, is.once v, count-held m r t n v) in
+    elim (cases_eq j p) [
+      | inl e ↦ e
+      | inr ne ↦ elim (cases_lt j p) [
+        | inl less ↦ absurd (pages-apart m r n j p single less low same)
+        | inr more ↦ absurd (pages-apart m r n p j single (omega (arith, more, ne)) high (sym same))
+      ]
+    ]
+
+-- a frame that no page of a list of pages has
+frames-absent : (m : List (List ℕ)) (r n f : ℕ) → ((p : ℕ) → p < n → frame_at m r p ≢ f) → count_of f (frames_below m r n) ≡ 0
+unfolding frames_below
+frames-absent m r zero f other = refl
+frames-absent m r (suc n) f other = omega (arith, count_of-other f (frame_at m r n) (frames_below m r n) (λ e. other n (omega arith) (sym e)), frames-absent m r n f (λ p h. other p (omega (arith, h))))
+
+-- the space that is made doesn't hold the frame of the next page yet
+pub part-absent : (m : List (List ℕ)) (x c : Space) (n f : ℕ) (s : Frames) → IsPart m x c n s → n < pages_in x.size → frame_at m x.root.0 n ≡ f → count_of f (held m c.root.0 c.trap.0 n) ≡ 0
+part-absent m x c n f s is low was =
+    let one = page-once m x.root.0 x.trap.0 (pages_in x.size) n f s is.parent low was in
+    let pages : count_of f (frames_below m c.root.0 n) ≡ 0 = frames-absent m c.root.0 n f (λ p h e.
+    omega (arith, h, page-same m x.root.0 x.trap.0 (pages_in x.size) n p s is.parent low (omega (arith, h, low)) (sym (is.shared p h) ∙ e ∙ sym was))) in
+    let room = is.room f in
+    let at = held-inside m s f is.parent.free (omega (arith, room, one.2)) in
+    elim (cases_eq (count_of f (tables_below m c.root.0 n) + count_of f (c.trap.0 ∷ [])) 0) [
+      | inl none ↦ omega (arith, none, pages, count-held m c.root.0 c.trap.0 n f)
+      | inr some ↦ absurd (omega (arith, some, room, one.2, count-held m c.root.0 c.trap.0 n f, is.child.own f (omega (arith, some)), not-free-held m s f is.parent.free at.0 at.1))
+    ]
+
+-- ---- the steps: the page is closed, its frame gets a holder, the other tables get the page
+
+-- the page was closed, and the space is rearranged
+pub record IsClosed (m k : List (List ℕ)) (x : Space) (n f leaf : ℕ) (s : Frames) : Type 0 where
+  pub same : IsRearranged m k x s s
+  pub held : (v : ℕ) → count_of v (holds k x) ≡ count_of v (holds m x)
+  pub frames : (p : ℕ) → p < pages_in x.size → frame_at k x.root.0 p ≡ frame_at m x.root.0 p
+  pub frame : frame_at k x.root.0 n ≡ f
+  pub marks : marks_at k x.root.0 n ≡ leaf
+  pub right : right_marks leaf ≡ right_marks (marks_at m x.root.0 n)
+  pub closed : is_open leaf ≡ false
+
+-- no frame is free then that wasn't
+pub closed-free : (m k : List (List ℕ)) (x : Space) (n f leaf : ℕ) (s : Frames) → IsSpace m x s → IsClosed m k x n f leaf s → free_count k s ≡ free_count m s
+closed-free m k x n f leaf s is e =
+    omega (arith, Trades-lengths m k s s (holds m x) (holds k x) is.free e.same.frames.space.free is.held e.same.frames.trades, length-held m x.root.0 x.trap.0 (pages_in x.size), length-held k x.root.0 x.trap.0 (pages_in x.size))
+
+-- the part stands where the page is closed
+pub part-closed : (m k : List (List ℕ)) (x c : Space) (n f leaf : ℕ) (s : Frames) → IsPart m x c n s → n < pages_in x.size → IsClosed m k x n f leaf s
+    → IsPart k x c n s × ((v : ℕ) → count_of v (held k c.root.0 c.trap.0 n) ≡ count_of v (held m c.root.0 c.trap.0 n)) × (pages_below k c.root.0 n ≡ pages_below m c.root.0 n) × (frame_of k c.trap.0 ≡ frame_of m c.trap.0)
+part-closed m k x c n f leaf s is low e =
+    let beside = Trades-held m k s s (holds m x) (holds k x) c.root.0 c.trap.0 n is.child is.room e.same.frames.trades e.same.frames.space.free in
+    let stays = beside.stays in (
+      record {
+        parent = e.same.frames.space;
+        child = beside.space;
+        room = λ v. omega (arith, is.room v, ap (count_of v) beside.same, e.held v, e.same.frames.trades.moved v);
+        shared = λ p h. frame_at-same m k c.root.0 p (stays.looks p) ∙ is.shared p h ∙ sym (e.frames p (omega (arith, h, low)));
+      },
+      λ v. ap (count_of v) beside.same,
+      stays.pages,
+      stays.trap,
+    )
+
+-- and where its frame gets a holder: the space that is made can take it
+pub part-before : (k : List (List ℕ)) (x c : Space) (n f leaf : ℕ) (s q : Frames) → IsPart k x c n s → n < pages_in x.size → frame_at k x.root.0 n ≡ f → marks_at k x.root.0 n ≡ leaf → is_open leaf ≡ false
+    → IsFreeList k q → ((v : ℕ) → holders_of k q v ≡ holders_of k s v + count_of v (f ∷ [])) → free_of k q ≡ free_of k s
+    → IsSpace k x q × IsBefore k c.root.0 c.trap.0 n f leaf q
+part-before k x c n f leaf s q is low was marks closed after more list =
+    let one = page-once k x.root.0 x.trap.0 (pages_in x.size) n f s is.parent low was in
+    let absent = part-absent k x c n f s is low was in
+    let small = is.parent.dense.small in (
+      share-stands k x.root.0 x.trap.0 (pages_in x.size) f s q is.parent after more list one.0
+          (λ p h e. let same : p ≡ n = page-same k x.root.0 x.trap.0 (pages_in x.size) n p s is.parent low h (e ∙ sym was) in ap is_open (ap (marks_at k x.root.0) same ∙ marks) ∙ closed),
+      record {
+        space = share-stands k c.root.0 c.trap.0 n f s q is.child after more list
+            (omega (arith, absent, count-held k c.root.0 c.trap.0 n f))
+            (λ p h e. absurd (omega (arith, absent, count-held k c.root.0 c.trap.0 n f, page-held k c.root.0 n p h, ap (λ v. count_of v (frames_below k c.root.0 n)) e)));
+        small = omega (arith, low, small);
+        room = λ v. omega (arith, is.room v, more v);
+        absent = absent;
+        sole = λ wide. absurd (cc (wide, closed));
+      },
+    )
+
+abbrev page_as : List ℕ → Marks → Page
+page_as bs g = record { bytes = bs; marks = g }
+
+-- the page's bytes are what the program saw there
+bytes : (m k : List (List ℕ)) (x : Space) (n f leaf : ℕ) (s : Frames) → n < pages_in x.size → frame_at m x.root.0 n ≡ f → IsClosed m k x n f leaf s → frame_of k f ≡ frame_of m (frame_at m x.root.0 n)
+bytes m k x n f leaf s low was e =
+    let d = page_at m x.root.0 n in
+    let same : page_at k x.root.0 n ≡ page_at m x.root.0 n = sym (get_or-pages k x.root.0 (pages_in x.size) n d low) ∙ ap (λ (l : List Page). get_or l n d) e.same.pages ∙ get_or-pages m x.root.0 (pages_in x.size) n d low in
+    ap (frame_of k) (sym e.frame) ∙ ap (λ (y : Page). y.bytes) same
+
+pub part-more : (m k l : List (List ℕ)) (x c : Space) (n f leaf : ℕ) (s q w : Frames) → IsPart m x c n s → n < pages_in x.size → frame_at m x.root.0 n ≡ f → IsClosed m k x n f leaf s
+    → IsFreeList k q → ((v : ℕ) → holders_of k q v ≡ holders_of k s v + count_of v (f ∷ [])) → free_of k q ≡ free_of k s → IsNext k l c.root.0 n f leaf q w → IsMore m l x c n s w
+part-more m k l x c n f leaf s q w is low was e after more list next =
+    let r = c.root.0 in
+    let t = c.trap.0 in
+    let part = part-closed m k x c n f leaf s is low e in
+    let before = part-before k x c n f leaf s q part.0 low e.frame e.marks e.closed after more list in
+    let b = before.1 in
+    let trades = next-trades k l r t n f leaf q w b next in
+    let room : (v : ℕ) → count_of v (held k r t n) + count_of v (holds k x) ≤ holders_of k q v = λ (v : ℕ). omega (arith, part.0.room v, more v) in
+    let parent = Trades-held k l q w (held k r t n) (tables_for l r n ++ held k r t n) x.root.0 x.trap.0 (pages_in x.size) before.0 room trades next.paged.free in
+    let stays = parent.stays in
+    let child = next-held k l r t n f leaf q w b next in
+    let counts = next-count k l r t n f leaf q w b next in
+    let here = page-once k x.root.0 x.trap.0 (pages_in x.size) n f s part.0.parent low e.frame in
+    let first : Trades m k s s (holds m x ++ held m r t n) (held k r t n ++ holds k x) =
+    Trades-as m k s s (held m r t n ++ holds m x) (held m r t n ++ holds k x) (holds m x ++ held m r t n) (held k r t n ++ holds k x)
+    (Trades-frame m k s s (holds m x) (holds k x) (held m r t n) e.same.frames.trades)
+    (λ v. omega (arith, count_of-append v (holds m x) (held m r t n), count_of-append v (held m r t n) (holds m x)))
+    (λ v. omega (arith, count_of-append v (held k r t n) (holds k x), count_of-append v (held m r t n) (holds k x), part.1 v)) in
+    let second : Trades k k s q (held k r t n ++ holds k x) (f ∷ (held k r t n ++ holds k x)) =
+    Trades-more k s q f (held k r t n ++ holds k x) more (omega (arith, here.2, count_of-append f (held k r t n) (holds k x))) in
+    let third : Trades k l q w (f ∷ (held k r t n ++ holds k x)) (holds l x ++ held l r t (suc n)) =
+    Trades-as k l q w ((f ∷ holds k x) ++ held k r t n) ((f ∷ holds k x) ++ (tables_for l r n ++ held k r t n)) (f ∷ (held k r t n ++ holds k x)) (holds l x ++ held l r t (suc n))
+    (Trades-frame k l q w (held k r t n) (tables_for l r n ++ held k r t n) (f ∷ holds k x) trades)
+    (λ v. omega (arith, count_of-append v (held k r t n) (holds k x), count_of-append v (f ∷ holds k x) (held k r t n)))
+    (λ v. omega (arith, count_of-append v (holds l x) (held l r t (suc n)), count_of-append v (f ∷ holds k x) (tables_for l r n ++ held k r t n), count_of-append v (tables_for l r n) (held k r t n), counts v, ap (count_of v) parent.same)) in
+    let all = Trades-twice m k l s s w (holds m x ++ held m r t n) (held k r t n ++ holds k x) (holds l x ++ held l r t (suc n)) first
+    (Trades-twice k k l s q w (held k r t n ++ holds k x) (f ∷ (held k r t n ++ holds k x)) (holds l x ++ held l r t (suc n)) second third) in
+    let lengths = Trades-lengths m l s w (holds m x ++ held m r t n) (holds l x ++ held l r t (suc n)) is.parent.free child.free (λ v. omega (arith, is.room v, count_of-append v (holds m x) (held m r t n))) all in
+    record {
+      part = record {
+        parent = parent.space;
+        child = child;
+        room = λ v. omega (arith, all.moved v, is.room v, count_of-append v (holds m x) (held m r t n), count_of-append v (holds l x) (held l r t (suc n)));
+        shared = λ p h. elim (cases_eq p n) [
+          | inl same ↦ ap (frame_at l r) same ∙ frame_at-is l r n f leaf next.inserts.changed ∙ sym (ap (frame_at l x.root.0) same ∙ frame_at-same k l x.root.0 n (stays.looks n) ∙ e.frame)
+          | inr ne ↦
+              let small = b.small in
+              frame_at-same k l r p (next.inserts.others p (omega (arith, h, small)) ne) ∙ part.0.shared p (omega (arith, h, ne)) ∙ sym (frame_at-same k l x.root.0 p (stays.looks p))
+        ];
+      };
+      pages = stays.pages ∙ e.same.pages;
+      registers = stays.trap ∙ e.same.frames.registers;
+      frames = λ p h. frame_at-same k l x.root.0 p (stays.looks p) ∙ e.frames p h;
+      child = next-pages k l r t n f leaf q w b next
+          ∙ ap (λ (y : Page). pages_below k r n ++ (y ∷ [])) (ap (λ (g : Marks). page_as (frame_of k f) g) e.right ∙ ap (λ (bs : List ℕ). page_as bs (right_marks (marks_at m x.root.0 n))) (bytes m k x n f leaf s low was e))
+          ∙ ap (λ (l : List Page). l ++ (page_at m x.root.0 n ∷ [])) (part.2);
+      trap = next-trap k l r t n f leaf q w b next ∙ part.3;
+      trades = all;
+      free = omega (arith, lengths, length-append (holds m x) (held m r t n), length-append (holds l x) (held l r t (suc n)), length-held m x.root.0 x.trap.0 (pages_in x.size), length-held l x.root.0 x.trap.0 (pages_in x.size), length-held m r t n, length-held l r t (suc n));
+    }
+
+-- ---- what the steps ask for
+
+pub more-some : (m : List (List ℕ)) (x c : Space) (n : ℕ) (s : Frames) → IsPart m x c n s → n < pages_in x.size → frames_for (n + 1) ≤ frames_for n + free_count m s → 0 < free_count m s
+more-some m x c n s is low room =
+    let small = is.parent.dense.small in
+    let more : frames_for (n + 1) ≡ frames_for (suc n) = ap frames_for (add-one n) in
+    omega (arith, room, more, missing-next m c.root.0 c.trap.0 n is.child.dense (omega (arith, low, small)))
+
+pub part-holder : (k : List (List ℕ)) (x c : Space) (n f : ℕ) (s : Frames) → IsPart k x c n s → n < pages_in x.size → frame_at k x.root.0 n ≡ f → 0 < holders_of k s f
+part-holder k x c n f s is low was = omega (arith, is.parent.held f, (page-once k x.root.0 x.trap.0 (pages_in x.size) n f s is.parent low was).2)
+
+-- ---- all pages
+
+pub so-far-start : (m : List (List ℕ)) (x c : Space) (s : Frames) → IsPart m x c 0 s → IsSoFar m m x c 0 s s
+so-far-start m x c s is = record {
+  part = is;
+  pages = refl;
+  registers = refl;
+  frames = λ p h. refl;
+  child = pages_below-zero m c.root.0 ∙ sym (pages_below-zero m x.root.0);
+  trap = refl;
+  trades = Trades-none m s (holds m x ++ held m c.root.0 c.trap.0 0);
+  free = refl;
+}
+
+pub so-far-more : (m k l : List (List ℕ)) (x c : Space) (n : ℕ) (s q w : Frames) → n < pages_in x.size → IsSoFar m k x c n s q → IsMore k l x c n q w → IsSoFar m l x c (n + 1) s w
+so-far-more m k l x c n s q w low so more =
+    let d = page_at m x.root.0 n in
+    let page : page_at k x.root.0 n ≡ page_at m x.root.0 n = sym (get_or-pages k x.root.0 (pages_in x.size) n d low) ∙ ap (λ (l : List Page). get_or l n d) so.pages ∙ get_or-pages m x.root.0 (pages_in x.size) n d low in
+    rw add-one record {
+      part = more.part;
+      pages = more.pages ∙ so.pages;
+      registers = more.registers ∙ so.registers;
+      frames = λ p h. more.frames p h ∙ so.frames p h;
+      child = more.child ∙ ap (λ (y : Page). pages_below k c.root.0 n ++ (y ∷ [])) page ∙ ap (λ (l : List Page). l ++ (page_at m x.root.0 n ∷ [])) so.child ∙ sym (pages_below-more m x.root.0 n);
+      trap = more.trap ∙ so.trap;
+      trades = Trades-twice m k l s q w (holds m x ++ held m c.root.0 c.trap.0 0) (holds k x ++ held k c.root.0 c.trap.0 n) (holds l x ++ held l c.root.0 c.trap.0 (suc n)) so.trades more.trades;
+      free = omega (arith, more.free, so.free);
+    }
+
+-- a space with so many pages needs no fewer frames than one with fewer
+pub frames_for-grows : (n d : ℕ) → frames_for n + d ≤ frames_for (d + n)
+frames_for-grows n zero = let e : 0 + n ≡ n = omega arith in rw e (omega arith)
+frames_for-grows n (suc d) = let e : suc d + n ≡ suc (d + n) = omega arith in rw e (omega (arith, frames_for-grows n d, frames_for-more (d + n)))
+
+pub room-for : (m k : List (List ℕ)) (x c : Space) (n : ℕ) (s w : Frames) → n < pages_in x.size → frames_for (pages_in x.size) ≤ frames_for 0 + free_count m s → IsSoFar m k x c n s w → frames_for (n + 1) ≤ frames_for n + free_count k w
+room-for m k x c n s w low room so =
+    let d = pages_in x.size - (n + 1) in
+    let e : d + (n + 1) ≡ pages_in x.size = omega (arith, low) in
+    omega (arith, room, so.free, frames_for-grows (n + 1) d, ap frames_for e)
+
+-- a page that both have has one holder more
+no-frames : (m : List (List ℕ)) (r f : ℕ) → count_of f (frames_below m r 0) ≡ 0
+unfolding frames_below
+no-frames m r f = refl
+
+pub shared-holders : (m k : List (List ℕ)) (x c : Space) (n p : ℕ) (s w : Frames) → IsPart m x c 0 s → IsSoFar m k x c n s w → p < n → n ≤ pages_in x.size → holders_of k w (frame_at k x.root.0 p) ≡ holders_of m s (frame_at k x.root.0 p) + 1
+shared-holders m k x c n p s w is so low most =
+    let same = so.frames p (omega (arith, low, most)) in
+    let f = frame_at k x.root.0 p in
+    let before = page-once m x.root.0 x.trap.0 (pages_in x.size) p f s is.parent (omega (arith, low, most)) (sym same) in
+    let now = page-once k x.root.0 x.trap.0 (pages_in x.size) p f w so.part.parent (omega (arith, low, most)) refl in
+    let in_child = page-once k c.root.0 c.trap.0 n p f w so.part.child low (so.part.shared p low) in
+    let none : count_of f (held m c.root.0 c.trap.0 0) ≡ 0 = elim (cases_eq (count_of f (held m c.root.0 c.trap.0 0)) 0) [
+      | inl gone ↦ gone
+      | inr some ↦
+          let at = held-inside m s f is.parent.free (omega (arith, is.room f, before.2)) in
+          let own = is.child.own f (omega (arith, some, count-held m c.root.0 c.trap.0 0 f, no-frames m c.root.0 f)) in
+          absurd (omega (arith, is.room f, before.2, some, own, not-free-held m s f is.parent.free at.0 at.1))
+    ] in
+    omega (arith, so.trades.moved f, before.2, now.2, in_child.2, none, count_of-append f (holds m x) (held m c.root.0 c.trap.0 0), count_of-append f (holds k x) (held k c.root.0 c.trap.0 n))
+
+-- the frames of the pages are the same, and have one holder more
+pub shared-frames : (m k : List (List ℕ)) (x c : Space) (p : ℕ) (s w : Frames) → IsPart m x c 0 s → IsSoFar m k x c (pages_in x.size) s w → p < pages_in x.size
+    → (frame_at k c.root.0 p ≡ frame_at m x.root.0 p) × (holders_of k w (frame_at m x.root.0 p) ≡ holders_of m s (frame_at m x.root.0 p) + 1)
+shared-frames m k x c p s w is so low =
+    let same = so.frames p low in
+    (so.part.shared p low ∙ same, ap (holders_of k w) (sym same) ∙ shared-holders m k x c (pages_in x.size) p s w is so low (omega arith) ∙ ap (λ v. holders_of m s v + 1) same)
+
+-- ---- a space that is made, and all pages
+
+-- an empty space beside the one that it will share with
+pub part-start : (m k : List (List ℕ)) (x c : Space) (s q : Frames) → IsSpace m x s → IsHeld k c.root.0 c.trap.0 0 q → Trades m k s q [] (held k c.root.0 c.trap.0 0) → IsPart k x c 0 q
+part-start m k x c s q is new t =
+    let beside = Trades-held m k s q [] (held k c.root.0 c.trap.0 0) x.root.0 x.trap.0 (pages_in x.size) is (λ v. omega (arith, is.held v)) t new.free in
+    record { parent = beside.space; child = new; room = λ v. omega (arith, t.moved v, is.held v, ap (count_of v) beside.same); shared = λ p h. absurd (omega (arith, h)) }
+
+-- the pages fit, where the count of the whole space does
+pub part-room : (m k : List (List ℕ)) (x c : Space) (s q : Frames) → IsSpace m x s → IsHeld k c.root.0 c.trap.0 0 q → Trades m k s q [] (held k c.root.0 c.trap.0 0) → frames_for (pages_in x.size) ≤ free_count m s → frames_for (pages_in x.size) ≤ frames_for 0 + free_count k q
+part-room m k x c s q is new t room = omega (arith, room, length-held k c.root.0 c.trap.0 0, Trades-lengths m k s q [] (held k c.root.0 c.trap.0 0) is.free new.free (λ v. omega arith) t)
+
+-- a frame of a page gets no holder by a new space
+same-holders : (m k : List (List ℕ)) (x c : Space) (p : ℕ) (s q : Frames) → IsSpace m x s → Trades m k s q [] (held k c.root.0 c.trap.0 0) → p < pages_in x.size → holders_of k q (frame_at m x.root.0 p) ≡ holders_of m s (frame_at m x.root.0 p)
+same-holders m k x c p s q is t low =
+    let f = frame_at m x.root.0 p in
+    let one = page-once m x.root.0 x.trap.0 (pages_in x.size) p f s is low refl in
+    elim (cases_eq (count_of f (held k c.root.0 c.trap.0 0)) 0) [
+      | inl none ↦ omega (arith, t.moved f, none)
+      | inr some ↦ absurd (omega (arith, t.fresh f refl (omega (arith, some)), is.held f, one.2))
+    ]
+
+-- the space is forked: k has the new space, and then its pages
+pub record IsForked (m l : List (List ℕ)) (x c : Space) (s w : Frames) : Type 0 where
+  pub child : IsHeld l c.root.0 c.trap.0 (pages_in x.size) w
+  pub parent : IsSpace l x w
+  pub pages : pages_below l c.root.0 (pages_in x.size) ≡ pages_of m x
+  pub kept : pages_of l x ≡ pages_of m x
+  pub registers : registers_of l x ≡ registers_of m x
+  pub shared : (p : ℕ) → p < pages_in x.size → frame_at l c.root.0 p ≡ frame_at m x.root.0 p
+  pub holders : (p : ℕ) → p < pages_in x.size → holders_of l w (frame_at m x.root.0 p) ≡ holders_of m s (frame_at m x.root.0 p) + 1
+  pub trades : Trades m l s w (holds m x) (holds l x ++ held l c.root.0 c.trap.0 (pages_in x.size))
+
+pub forked : (m k l : List (List ℕ)) (x c : Space) (s q w : Frames) → IsSpace m x s → IsHeld k c.root.0 c.trap.0 0 q → Trades m k s q [] (held k c.root.0 c.trap.0 0) → IsSoFar k l x c (pages_in x.size) q w → IsForked m l x c s w
+forked m k l x c s q w is new t so =
+    let beside = Trades-held m k s q [] (held k c.root.0 c.trap.0 0) x.root.0 x.trap.0 (pages_in x.size) is (λ v. omega (arith, is.held v)) t new.free in
+    let part = part-start m k x c s q is new t in
+    let same : (p : ℕ) → frame_at k x.root.0 p ≡ frame_at m x.root.0 p = λ (p : ℕ). frame_at-same m k x.root.0 p (beside.stays.looks p) in
+    let first : Trades m k s q (holds m x) (holds k x ++ held k c.root.0 c.trap.0 0) =
+    Trades-as m k s q (holds m x ++ []) (holds m x ++ held k c.root.0 c.trap.0 0) (holds m x) (holds k x ++ held k c.root.0 c.trap.0 0)
+    (Trades-frame m k s q [] (held k c.root.0 c.trap.0 0) (holds m x) t)
+    (λ v. omega (arith, count_of-append v (holds m x) []))
+    (λ v. omega (arith, count_of-append v (holds k x) (held k c.root.0 c.trap.0 0), count_of-append v (holds m x) (held k c.root.0 c.trap.0 0), ap (count_of v) beside.same)) in
+    let both : (p : ℕ) → p < pages_in x.size → (frame_at l c.root.0 p ≡ frame_at k x.root.0 p) × (holders_of l w (frame_at k x.root.0 p) ≡ holders_of k q (frame_at k x.root.0 p) + 1) = λ (p : ℕ) (h : p < pages_in x.size). shared-frames k l x c p q w part so h in
+    record {
+      child = so.part.child;
+      parent = so.part.parent;
+      pages = so.child ∙ beside.stays.pages;
+      kept = so.pages ∙ beside.stays.pages;
+      registers = so.registers ∙ beside.stays.trap;
+      shared = λ p h. (both p h).0 ∙ same p;
+      holders = λ p h. ap (holders_of l w) (sym (same p)) ∙ (both p h).1 ∙ ap (λ f. holders_of k q f + 1) (same p) ∙ ap (λ n. n + 1) (same-holders m k x c p s q is t h);
+      trades = Trades-twice m k l s q w (holds m x) (holds k x ++ held k c.root.0 c.trap.0 0) (holds l x ++ held l c.root.0 c.trap.0 (pages_in x.size)) first so.trades;
+    }

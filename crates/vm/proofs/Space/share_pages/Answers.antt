@@ -1,0 +1,30 @@
+use Rattle.std.proofs.Common.{◌≡◌, ◌<◌, ℕ, arith, ap, subst}
+use Rattle.vm.specs.Fork.{IsSoFar}
+use Rattle.vm.proofs.Forked.{shared-frames, so-far-more, so-far-start, room-for}
+use Rattle.vm.specs.Space.{pages_in}
+use Rattle.vm.proofs.Space.share_pages.Goals as goal
+
+pub loop-page-init : goal.loop-page-init
+loop-page-init c = so-far-start c.args.ram.now c.args.self.now c.args.child.now c.args.frames.now c.requires.part
+
+pub share_page-requires-clause-room : goal.share_page-requires-clause-room
+share_page-requires-clause-room c =
+    room-for c.args.ram.now c.loop-page.ram c.args.self.now c.args.child.now c.loop-page.page c.args.frames.now c.loop-page.frames (omega (arith, c.pages_in-page-end.ensures, c.loop-page-test.true)) c.requires.room c.loop-page.invariant
+
+pub loop-page-preserved : goal.loop-page-preserved
+loop-page-preserved c =
+    so-far-more c.args.ram.now c.loop-page.ram c.share_page.new.ram c.args.self.now c.args.child.now c.loop-page.page c.args.frames.now c.loop-page.frames c.share_page.new.frames (omega (arith, c.pages_in-page-end.ensures, c.loop-page-test.true)) c.loop-page.invariant c.share_page.ensures
+
+all : goal.returns-clause-all
+all c =
+    let end : c.loop-page.page ≡ pages_in c.args.self.now.size = omega (arith, c.pages_in-page-end.ensures, c.loop-page-test.false) in
+    subst (λ n. IsSoFar c.args.ram.now c.loop-page.ram c.args.self.now c.args.child.now n c.args.frames.now c.loop-page.frames) end c.loop-page.invariant
+
+pub returns-clause-all : goal.returns-clause-all
+returns-clause-all c = all c
+
+pub returns-clause-shared : goal.returns-clause-shared
+returns-clause-shared c = λ p h. (shared-frames c.args.ram.now c.loop-page.ram c.args.self.now c.args.child.now p c.args.frames.now c.loop-page.frames c.requires.part (all c) h).0
+
+pub returns-clause-holders : goal.returns-clause-holders
+returns-clause-holders c = λ p h. (shared-frames c.args.ram.now c.loop-page.ram c.args.self.now c.args.child.now p c.args.frames.now c.loop-page.frames c.requires.part (all c) h).1

@@ -1,0 +1,134 @@
+//! Pages whose frames have several holders.
+//!
+//! A page that is writable by right is open or closed: at an open page a store goes through, at a closed one it faults. An
+//! open page's frame has one holder. Before a page is written whose frame others hold too, it gets a frame of its own with
+//! the same bytes: what the others see stays, and there always is a free frame for it.
+
+ghost use Rattle.std.specs.Prelude.{◌≡◌, ◌≤◌, ◌<◌, ◌+◌, ℕ, true};
+ghost use Rattle.frames.specs.Free.{free_count, further_at};
+ghost use Rattle.frames.specs.Holders.{count_of, holders_of};
+ghost use Rattle.pagetable.specs.Tree.{IsLeafMarks};
+ghost use Rattle.vm.specs.Dense.{frame_at, frames_for, marks_at};
+ghost use Rattle.vm.specs.Fork.{IsMore, IsPart, IsSoFar};
+ghost use Rattle.vm.specs.Leaf.{IsUserLeaf, is_open, right_marks, user_leaf};
+ghost use Rattle.vm.specs.Space.{IsRearranged, IsSpace, holds, pages_in};
+
+use crate::Space;
+use crate::access::perm_of;
+use frames::Frames;
+use pagetable::PageTable;
+use ram::{FrameNo, Ram};
+use sv39::Marks;
+
+impl Space {
+    // Gives a page whose frame has other holders too a frame of its own, with the same bytes, and tells it.
+    fn split_page(
+        &self,
+        ram: &mut Ram,
+        frames: &mut Frames,
+        page: u64,
+        frame: FrameNo,
+        leaf: Marks,
+    ) -> FrameNo
+        requires space { IsSpace ram.old self.now frames.old }
+        requires page { page < pages_in self.now.size }
+        requires frame { frame_at ram.old self.now.root.0 page ≡ frame.0 }
+        requires shared { 2 ≤ holders_of ram.old frames.old frame.0 }
+        requires marks { IsLeafMarks leaf.0 }
+        requires leaf { IsUserLeaf leaf.0 }
+        requires right { right_marks leaf.0 ≡ right_marks (marks_at ram.old self.now.root.0 page) }
+        ensures same { IsRearranged ram.old ram.new self.now frames.old frames.new }
+        ensures sole { further_at frames.new result.0 ≡ 0 }
+        ensures frame { frame_at ram.new self.now.root.0 page ≡ result.0 }
+        ensures marks { marks_at ram.new self.now.root.0 page ≡ leaf.0 }
+    {
+        ram.frames_are_whole();
+        let own = frames.split(ram, frame);
+        ram.copy(frame, own);
+        let table = PageTable { root: self.root };
+        table.remap(ram, frames, page, own, leaf);
+        own
+    }
+
+    // Gives a page other marks with the same rights; it is opened only where its frame has one holder.
+    fn set_page(&self, ram: &mut Ram, frames: &Frames, page: u64, frame: FrameNo, leaf: Marks)
+        requires space { IsSpace ram.old self.now frames.now }
+        requires page { page < pages_in self.now.size }
+        requires frame { frame_at ram.old self.now.root.0 page ≡ frame.0 }
+        requires marks { IsLeafMarks leaf.0 }
+        requires leaf { IsUserLeaf leaf.0 }
+        requires right { right_marks leaf.0 ≡ right_marks (marks_at ram.old self.now.root.0 page) }
+        requires sole { is_open leaf.0 ≡ true → further_at frames.now frame.0 ≡ 0 }
+        ensures same { IsRearranged ram.old ram.new self.now frames.now frames.now }
+        ensures frame { frame_at ram.new self.now.root.0 page ≡ frame.0 }
+        ensures marks { marks_at ram.new self.now.root.0 page ≡ leaf.0 }
+        ensures frames { (p : ℕ) → p < pages_in self.now.size → frame_at ram.new self.now.root.0 p ≡ frame_at ram.old self.now.root.0 p }
+        ensures held { (f : ℕ) → count_of f (holds ram.new self.now) ≡ count_of f (holds ram.old self.now) }
+    {
+        let table = PageTable { root: self.root };
+        table.remap(ram, frames, page, frame, leaf);
+    }
+
+    /// Makes the frame of a page one that this space alone holds, and opens the page where a program may write it by
+    /// right: the next store goes through. Tells the frame, which is the page's old one where nobody else holds that.
+    pub fn open_page(&self, ram: &mut Ram, frames: &mut Frames, page: u64) -> FrameNo
+        requires space { IsSpace ram.old self.now frames.old }
+        requires page { page < pages_in self.now.size }
+        ensures same { IsRearranged ram.old ram.new self.now frames.old frames.new }
+        ensures sole { further_at frames.new result.0 ≡ 0 }
+        ensures frame { frame_at ram.new self.now.root.0 page ≡ result.0 }
+        ensures marks { marks_at ram.new self.now.root.0 page ≡ user_leaf (right_marks (marks_at ram.old self.now.root.0 page)) true }
+        ensures kept { further_at frames.old (frame_at ram.old self.now.root.0 page) ≡ 0 → result.0 ≡ frame_at ram.old self.now.root.0 page }
+    {
+        ram.frames_are_whole();
+        let table = PageTable { root: self.root };
+        let Some((frame, leaf)) = table.find(ram, page) else {
+            unreachable!()
+        };
+        let open = perm_of(leaf).leaf();
+        if frames.holders(ram, frame) > 1 {
+            self.split_page(ram, frames, page, frame, open)
+        } else {
+            self.set_page(ram, frames, page, frame, open);
+            frame
+        }
+    }
+
+    // Shares a page with a space that is made: the page is closed in both, and its frame gets a holder.
+    fn share_page(&self, child: &Space, ram: &mut Ram, frames: &mut Frames, page: u64)
+        requires part { IsPart ram.old self.now child.now page frames.old }
+        requires page { page < pages_in self.now.size }
+        requires room { frames_for (page + 1) ≤ frames_for page + free_count ram.old frames.old }
+        ensures { IsMore ram.old ram.new self.now child.now page frames.old frames.new }
+    {
+        ram.frames_are_whole();
+        let table = PageTable { root: self.root };
+        let Some((frame, leaf)) = table.find(ram, page) else {
+            unreachable!()
+        };
+        let closed = perm_of(leaf).closed_leaf();
+        self.set_page(ram, frames, page, frame, closed);
+        if !frames.share(ram, frame) {
+            unreachable!()
+        }
+        let table = PageTable { root: child.root };
+        match table.map(ram, frames, page, frame, closed) {
+            Ok(()) => {}
+            Err(_) => unreachable!(),
+        }
+    }
+
+    // Shares all pages with a space that is made and has none yet. The frames suffice: each page is counted in full.
+    pub(crate) fn share_pages(&self, child: &Space, ram: &mut Ram, frames: &mut Frames)
+        requires part { IsPart ram.old self.now child.now 0 frames.old }
+        requires room { frames_for (pages_in self.now.size) ≤ frames_for 0 + free_count ram.old frames.old }
+        ensures all { IsSoFar ram.old ram.new self.now child.now (pages_in self.now.size) frames.old frames.new }
+        ensures shared { (p : ℕ) → p < pages_in self.now.size → frame_at ram.new child.now.root.0 p ≡ frame_at ram.old self.now.root.0 p }
+        ensures holders { (p : ℕ) → p < pages_in self.now.size → holders_of ram.new frames.new (frame_at ram.old self.now.root.0 p) ≡ holders_of ram.old frames.old (frame_at ram.old self.now.root.0 p) + 1 }
+    {
+        ram.frames_are_whole();
+        for page in 0..crate::pages_in(self.size) {
+            self.share_page(child, ram, frames, page);
+        }
+    }
+}
