@@ -1,15 +1,13 @@
 -- How many places are free, and that two are taken one after the other.
-use Rattle.std.specs.Prelude.{List, None, Option, Some, [], cond, count_by, is_none, length, not, ℕ, ◌+◌, ◌<◌, ◌≡◌, ◌≤◌, ◌∷◌, true}
+use Rattle.std.specs.Prelude.{List, None, Option, Some, [], cond, count_by, is_none, length, not, ℕ, ◌+◌, ◌<◌, ◌≡◌, ◌∷◌, true}
 use Rattle.std.specs.List.{prefix_len}
-use Rattle.std.proofs.Common.{arith, inl, inr, refl}
-use Rattle.std.proofs.lemmas.Bool.{cases_lt}
+use Rattle.std.proofs.Common.{arith, refl}
 use Rattle.std.proofs.lemmas.List.Quantifiers.{position-Some}
 use Rattle.std.proofs.lemmas.List.Sums.{sum_by-cons, sum_by-set}
 use Rattle.files.specs.Counts.{lt-no, lt-yes}
+use Rattle.files.specs.Meant.{file_of}
 use Rattle.files.specs.Places.{Counted, free_count, opens_of}
 use Rattle.unixmodel.specs.Files.{free_slot, put, slot}
-use Rattle.unixmodel.specs.Outcome.{Outcome, given}
-use Rattle.unixmodel.specs.Outcome.Outcome.{Refused}
 
 abbrev one_free : {X : Type 0} → Option X → ℕ
 one_free o = cond (is_none o) 1 0
@@ -57,4 +55,4 @@ free-put xs i x h free =
 pub free-opens : (t : List (Option Counted)) → count_by is_none (opens_of t) ≡ free_count t
 free-opens [] = refl
 free-opens (None ∷ t) = rw (free-cons None (opens_of t), free-cons None t, free-opens t) refl
-free-opens (Some c ∷ t) = rw (free-cons (Some c.file) (opens_of t), free-cons (Some c) t, free-opens t) refl
+free-opens (Some c ∷ t) = rw (free-cons (Some (file_of c.file)) (opens_of t), free-cons (Some c) t, free-opens t) refl

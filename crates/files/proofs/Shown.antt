@@ -4,8 +4,8 @@ use Rattle.std.specs.List.{list_any, refill}
 use Rattle.arrayvec.proofs.ArrayVecLemmas.{items-with_items}
 use Rattle.files.specs.declared.table.Slot.{Slot}
 use Rattle.files.specs.Mapped.{any-told, free_slot-told, length-told, set-told, slot-told}
-use Rattle.files.specs.Meant.{counted_of, file_of, is_slot_end, is_slot_pipe}
-use Rattle.files.specs.Places.{Counted, IsTable, has_end, has_pipe, opens_of}
+use Rattle.files.specs.Meant.{file_of, is_slot_end, is_slot_pipe}
+use Rattle.files.specs.Places.{Counted, IsTable, counted_of, has_end, has_pipe, opens_of}
 use Rattle.unixmodel.specs.Files.{free_slot, slot}
 use Rattle.unixmodel.specs.OpenFiles.{End, OpenFile, is_end, is_pipe}
 use Rattle.unixmodel.specs.State.{holds}
@@ -70,7 +70,3 @@ has_end-shown xs q e = ap (λ os. has_end os q e) (opens-shown xs) ∙ any-told 
 
 pub has_pipe-shown : (xs : List (Option Slot)) (q : ℕ) → has_pipe (opens_of (shown xs)) q ≡ list_any (holds (is_slot_pipe q)) xs
 has_pipe-shown xs q = ap (λ os. has_pipe os q) (opens-shown xs) ∙ any-told (λ (s : Slot). file_of s.file) (λ (f : OpenFile). is_pipe q f.target) xs
-
-pub file-at : (t : List (Option Counted)) (i : ℕ) (o : Option Slot) → option_map counted_of o ≡ slot t i → option_map (λ (s : Slot). file_of s.file) o ≡ slot (opens_of t) i
-file-at t i None at = rw (slot-told (λ (c : Counted). c.file) t i, ← at) refl
-file-at t i (Some s) at = rw (slot-told (λ (c : Counted). c.file) t i, ← at) refl

@@ -1,15 +1,15 @@
 -- How many descriptors name an open file, and that the table counts them.
-use Rattle.std.specs.Prelude.{Bool, List, None, Option, Some, [], cond, count_by, false, length, map, nat_lt, option_and_then, option_map, suc, sum_by, true, zero, ℕ, ◌*◌, ◌+◌, ◌<◌, ◌≡◌, ◌≢◌, ◌≤◌, ◌==◌, ◌||◌, ◌∷◌}
+use Rattle.std.specs.Prelude.{Bool, List, None, Option, Some, [], cond, count_by, false, length, map, nat_lt, option_and_then, option_map, slice_set, suc, sum_by, true, zero, ℕ, ◌+◌, ◌<◌, ◌≡◌, ◌≢◌, ◌≤◌, ◌==◌, ◌||◌, ◌∷◌}
 use Rattle.std.specs.List.{list_any}
 use Rattle.std.proofs.Common.{ap, arith, get_or-set_other, get_or-set_same, inl, inr, refl, ◌∙◌}
 use Rattle.std.proofs.lemmas.Bool.{cases_eq, cases_lt}
 use Rattle.std.proofs.lemmas.Bool.Decides.{nat_tests}
 use Rattle.std.proofs.lemmas.List.Folds.{sum_by-replicate}
-use Rattle.std.proofs.lemmas.List.Sums.{count_by-le-length, sum_by-cons, sum_by-set}
-use Rattle.files.specs.Places.{Counted, closed, count_at, count_in, fewer, more, opened, shared}
+use Rattle.std.proofs.lemmas.List.Sums.{sum_by-cons, sum_by-set}
+use Rattle.files.specs.declared.file.OpenFile.{OpenFile}
+use Rattle.files.specs.Places.{Counted, closed, count_at, count_in, fewer, more, moved, moved_in, opened, shared}
 use Rattle.unixmodel.specs.Files.{clear, free_slots, put, slot, taken}
 use Rattle.unixmodel.specs.Outcome.{no_descriptors}
-use Rattle.unixmodel.specs.OpenFiles.{OpenFile}
 use Rattle.unixmodel.specs.Process.{Process}
 use Rattle.unixmodel.specs.Reap.{is_described, is_same}
 use Rattle.unixmodel.specs.State.{State}
@@ -126,6 +126,21 @@ count-closed t i h k = elim (cases_eq k i) [
       rw (same, set, one_at-self i) (count-fewer (slot t i) h)
   | inr other ↦ rw (get_or-set_other t i k (option_and_then fewer (slot t i)) None other, one_at-other k i other) (omega arith)
 ]
+
+count-in_moved : (offset : ℕ) (o : Option Counted) → count_in (option_map (moved_in offset) o) ≡ count_in o
+count-in_moved offset None = refl
+count-in_moved offset (Some c) = refl
+
+set-same : (t : List (Option Counted)) (i : ℕ) (o : Option Counted) (k : ℕ) → count_in o ≡ count_at t i → count_at (slice_set t i o) k ≡ count_at t k
+set-same [] i o k same = refl
+set-same (x ∷ t) zero o zero same = same
+set-same (x ∷ t) zero o (suc k) same = refl
+set-same (x ∷ t) (suc i) o zero same = refl
+set-same (x ∷ t) (suc i) o (suc k) same = set-same t i o k same
+
+-- where it goes on from another offset, as many do
+pub count-moved : (t : List (Option Counted)) (i offset k : ℕ) → count_at (moved t i offset) k ≡ count_at t k
+count-moved t i offset k = set-same t i (option_map (moved_in offset) (slot t i)) k (count-in_moved offset (slot t i))
 
 -- ---- some descriptor names it exactly where the count isn't 0
 

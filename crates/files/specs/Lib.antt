@@ -1,5 +1,5 @@
-pub mod Places
 pub mod Meant
+pub mod Places
 pub mod Sound
 pub mod Mapped
 pub mod Counts

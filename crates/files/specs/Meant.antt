@@ -6,7 +6,6 @@ use Rattle.files.specs.declared.file.OpenFile.{OpenFile}
 use Rattle.files.specs.declared.file.Target.{Target}
 use Rattle.files.specs.declared.file.Target.TheVariants as target
 use Rattle.files.specs.declared.table.Slot.{Slot}
-use Rattle.files.specs.Places.{Counted}
 use Rattle.unixmodel.specs.OpenFiles as unix
 
 abbrev pub end_of : End → unix.End
@@ -14,14 +13,13 @@ end_of end.Read = unix.End.ReadEnd
 end_of end.Write = unix.End.WriteEnd
 
 abbrev pub target_of : Target → unix.Target
-target_of (target.Node number offset) = unix.Target.OnNode number offset
+target_of (target.File number offset) = unix.Target.OnNode number offset
+target_of (target.Console number) = unix.Target.OnNode number 0
+target_of (target.Device number) = unix.Target.OnNode number 0
 target_of (target.Pipe pipe e) = unix.Target.OnPipe pipe (end_of e)
 
 abbrev pub file_of : OpenFile → unix.OpenFile
 file_of f = record { target = target_of f.target; readable = f.readable; writable = f.writable }
-
-abbrev pub counted_of : Slot → Counted
-counted_of s = record { file = file_of s.file; count = s.references }
 
 -- whether an open file is this end of a pipe, or some end of it
 abbrev pub is_slot_end : ℕ → unix.End → Slot → Bool

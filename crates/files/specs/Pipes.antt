@@ -4,11 +4,11 @@ use Rattle.std.specs.List.{list_any}
 use Rattle.std.proofs.Common.{ap, arith, get_or-set_other, get_or-set_same, inl, inr, length-set, refl, sym, ◌∙◌}
 use Rattle.std.proofs.lemmas.Bool.{cases_eq}
 use Rattle.std.proofs.lemmas.Bool.Decides.{nat_tests}
-use Rattle.files.specs.Places.{has_end, has_pipe}
+use Rattle.files.specs.Places.{has_pipe}
 use Rattle.files.specs.Whole.{kept-each, kept_in}
 use Rattle.unixmodel.specs.FileCalls.{pipe_end}
 use Rattle.unixmodel.specs.Files.{clear, put, slot, taken}
-use Rattle.unixmodel.specs.OpenFiles.{End, OpenFile, is_end, is_pipe}
+use Rattle.unixmodel.specs.OpenFiles.{End, OpenFile, is_pipe}
 use Rattle.unixmodel.specs.OpenFiles.End.{ReadEnd, WriteEnd}
 use Rattle.unixmodel.specs.OpenFiles.Target.{OnNode, OnPipe}
 use Rattle.unixmodel.specs.Reap.{is_piped, kept, without_pipes}

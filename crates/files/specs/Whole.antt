@@ -6,14 +6,17 @@ use Rattle.std.proofs.lemmas.List.{set-get_or}
 use Rattle.std.proofs.lemmas.Bool.{cases_eq, cases_lt}
 use Rattle.files.specs.Counts.{Counts, count_of, described-no, described-yes, lt-no, lt-yes}
 use Rattle.files.specs.Mapped.{free_slot-told, length-told, set-told, slot-told}
-use Rattle.files.specs.Places.{Counted, IsTable, closed, count_at, count_in, fewer, more, opened, opens_of, shared}
+use Rattle.files.specs.declared.file.OpenFile.{OpenFile}
+use Rattle.files.specs.declared.file.Target.TheVariants as target
+use Rattle.files.specs.Meant.{file_of, target_of}
+use Rattle.files.specs.Places.{Counted, IsTable, closed, count_at, count_in, fewer, file_at, more, moved, moved_in, moved_to, opened, opens_of, shared}
 use Rattle.unixmodel.specs.Files.{clear, free_slot, put, slot}
-use Rattle.unixmodel.specs.OpenFiles.{OpenFile}
+use Rattle.unixmodel.specs.OpenFiles as unix
 use Rattle.unixmodel.specs.Reap.{is_described, kept, without_opens}
 use Rattle.unixmodel.specs.State.{State}
 
-abbrev file_in : Counted → OpenFile
-file_in c = c.file
+abbrev file_in : Counted → unix.OpenFile
+file_in c = file_of c.file
 
 -- ---- the open files of a table
 
@@ -23,11 +26,18 @@ length-opens t = length-told file_in t
 pub slot-opens : (t : List (Option Counted)) (i : ℕ) → slot (opens_of t) i ≡ option_map file_in (slot t i)
 slot-opens t i = slot-told file_in t i
 
+file_in-file : (o : Option Counted) → option_map file_in o ≡ option_map file_of (option_map (λ (c : Counted). c.file) o)
+file_in-file None = refl
+file_in-file (Some c) = refl
+
+pub file-opens : (t : List (Option Counted)) (i : ℕ) → slot (opens_of t) i ≡ option_map file_of (file_at t i)
+file-opens t i = slot-opens t i ∙ file_in-file (slot t i)
+
 pub free_slot-opens : (t : List (Option Counted)) → free_slot (opens_of t) ≡ free_slot t
 free_slot-opens t = free_slot-told file_in t
 
 -- an open file takes a place
-pub opens-opened : (t : List (Option Counted)) (i : ℕ) (f : OpenFile) → opens_of (opened t i f) ≡ put (opens_of t) i f
+pub opens-opened : (t : List (Option Counted)) (i : ℕ) (f : OpenFile) → opens_of (opened t i f) ≡ put (opens_of t) i (file_of f)
 opens-opened t i f = set-told file_in t i (Some (record { file = f; count = 1 }))
 
 file_in-more : (o : Option Counted) → option_map file_in (option_map more o) ≡ option_map file_in o
@@ -60,6 +70,20 @@ gone-fewer (Some c) h = rw (lt-no 1 c.count h) refl
 pub opens-closed_last : (t : List (Option Counted)) (i : ℕ) → count_at t i ≤ 1 → opens_of (closed t i) ≡ clear (opens_of t) i
 opens-closed_last t i h = ap (λ o. opens_of (slice_set t i o)) (gone-fewer (slot t i) h) ∙ set-told file_in t i None
 
+-- it is read and written from another offset on
+file_in-moved : (offset number old : ℕ) (o : Option Counted) (f : OpenFile) → option_map (λ (c : Counted). c.file) o ≡ Some f → f.target ≡ target.File number old
+    → option_map file_in (option_map (moved_in offset) o) ≡ Some (record (file_of f) { target = unix.OnNode number offset })
+file_in-moved offset number old None f at on = absurd (let bad : None ≡ Some f = at in cc)
+file_in-moved offset number old (Some c) f at on =
+    let same : c.file ≡ f = cc in
+    ap (λ (g : OpenFile). Some (record (file_of g) { target = target_of (moved_to offset g.target) })) same
+    ∙ ap (λ x. Some (record (file_of f) { target = target_of (moved_to offset x) })) on
+
+pub opens-moved : (t : List (Option Counted)) (i offset number old : ℕ) (f : OpenFile) → file_at t i ≡ Some f → f.target ≡ target.File number old
+    → opens_of (moved t i offset) ≡ put (opens_of t) i (record (file_of f) { target = unix.OnNode number offset })
+opens-moved t i offset number old f at on =
+    set-told file_in t i (option_map (moved_in offset) (slot t i)) ∙ ap (λ o. slice_set (opens_of t) i o) (file_in-moved offset number old (slot t i) f at on)
+
 -- ---- a table stays one
 
 pub set_outside : {X : Type 0} (xs : List X) (i : ℕ) (x : X) → length xs ≤ i → slice_set xs i x ≡ xs
@@ -89,6 +113,13 @@ more-named (Some d) c at = let one : d.count + 1 ≡ c.count = ap count_in at in
 pub table-shared : (t : List (Option Counted)) (i : ℕ) → IsTable t → IsTable (shared t i)
 table-shared t i is = table-set t i (option_map more (slot t i)) is (more-named (slot t i))
 
+moved-named : (offset : ℕ) (o : Option Counted) (c : Counted) → ((d : Counted) → o ≡ Some d → 0 < d.count) → option_map (moved_in offset) o ≡ Some c → 0 < c.count
+moved-named offset None c each at = absurd (let bad : None ≡ Some c = at in cc)
+moved-named offset (Some d) c each at = let same : d.count ≡ c.count = ap count_in at in omega (arith, each d refl, same)
+
+pub table-moved : (t : List (Option Counted)) (i offset : ℕ) → IsTable t → IsTable (moved t i offset)
+table-moved t i offset is = table-set t i (option_map (moved_in offset) (slot t i)) is (λ c at. moved-named offset (slot t i) c (is.named i) at)
+
 fewer-named : (o : Option Counted) (c : Counted) → option_and_then fewer o ≡ Some c → 0 < c.count
 fewer-named None c at = absurd (let bad : None ≡ Some c = at in cc)
 fewer-named (Some d) c at = elim (cases_lt 1 d.count) [
@@ -104,7 +135,7 @@ table-closed t i is = table-set t i (option_and_then fewer (slot t i)) is (fewer
 -- the table holds no open file that the old one did not hold there
 pub record IsLeft (old new : List (Option Counted)) : Type 0 where
   pub all : length new ≡ length old
-  pub each : (i : ℕ) (c : Counted) → slot new i ≡ Some c → slot (opens_of old) i ≡ Some c.file
+  pub each : (i : ℕ) (c : Counted) → slot new i ≡ Some c → slot (opens_of old) i ≡ Some (file_of c.file)
 
 pub left-same : (t : List (Option Counted)) → IsLeft t t
 left-same t = record { all = refl; each = λ i c at. slot-opens t i ∙ ap (option_map file_in) at }
@@ -116,11 +147,11 @@ fewer-from (Some d) c at = elim (cases_lt 1 d.count) [
   | inr last ↦ absurd (let bad : None ≡ Some c = rw (lt-no 1 d.count last) at at in cc)
 ]
 
-left-here : (old new : List (Option Counted)) (i : ℕ) → IsLeft old new → (k : ℕ) (c : Counted) → k ≡ i → slot (closed new i) k ≡ Some c → slot (opens_of old) k ≡ Some c.file
+left-here : (old new : List (Option Counted)) (i : ℕ) → IsLeft old new → (k : ℕ) (c : Counted) → k ≡ i → slot (closed new i) k ≡ Some c → slot (opens_of old) k ≡ Some (file_of c.file)
 left-here old new i left k c same at = elim (cases_lt i (length new)) [
   | inl inside ↦
       let from = fewer-from (slot new i) c (sym (get_or-set_same new i (option_and_then fewer (slot new i)) None inside) ∙ ap (slot (closed new i)) (sym same) ∙ at) in
-      left.each k from.0 (ap (slot new) same ∙ from.1.0) ∙ ap Some from.1.1
+      left.each k from.0 (ap (slot new) same ∙ from.1.0) ∙ ap (λ f. Some (file_of f)) from.1.1
   | inr outside ↦ left.each k c (ap (λ l. slot l k) (sym (set_outside new i (option_and_then fewer (slot new i)) outside)) ∙ at)
 ]
 
@@ -150,15 +181,15 @@ kept-each test (None ∷ xs) (y ∷ ys) k all each =
 kept-each test (Some x ∷ xs) (y ∷ ys) k all each =
     ap₂ ◌∷◌ (each 0 k (omega arith)) (kept-each test xs ys (k + 1) (omega (arith, all)) (λ i j e. each (suc i) j (omega (arith, e))))
 
-kept-none : (test : ℕ → OpenFile → Bool) (k : ℕ) (o : Option OpenFile) → ((f : OpenFile) → test k f ≡ false) → kept_in test k o ≡ None
+kept-none : (test : ℕ → unix.OpenFile → Bool) (k : ℕ) (o : Option unix.OpenFile) → ((f : unix.OpenFile) → test k f ≡ false) → kept_in test k o ≡ None
 kept-none test k None fails = refl
 kept-none test k (Some f) fails = rw (fails f) refl
 
-abbrev described : State → ℕ → OpenFile → Bool
+abbrev described : State → ℕ → unix.OpenFile → Bool
 described s k f = is_described s k
 
 -- of a place whose count is that of its descriptors the state keeps what the table kept
-kept-place : (s : State) (k : ℕ) (old : Option OpenFile) (new : Option Counted) → count_in new ≡ count_of s.places k → ((c : Counted) → new ≡ Some c → (old ≡ Some c.file) × (0 < c.count))
+kept-place : (s : State) (k : ℕ) (old : Option unix.OpenFile) (new : Option Counted) → count_in new ≡ count_of s.places k → ((c : Counted) → new ≡ Some c → (old ≡ Some (file_of c.file)) × (0 < c.count))
     → kept_in (described s) k old ≡ option_map file_in new
 kept-place s k old None count held = kept-none (described s) k old (λ f. described-no s k (sym count))
 kept-place s k old (Some c) count held =

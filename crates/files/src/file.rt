@@ -1,6 +1,8 @@
 //! An open file, and what it is open on.
 ghost use Rattle.std.specs.Prelude.{◌≡◌};
 ghost use Rattle.files.specs.Meant.{end_of, target_of};
+ghost use Rattle.files.specs.Places.{moved_to};
+ghost use Rattle.unixmodel.specs.FileCalls.{node_number};
 ghost use Rattle.unixmodel.specs.OpenFiles.{is_end, is_pipe};
 
 /// An end of a pipe.
@@ -13,8 +15,12 @@ pub enum End {
 /// What an open file is open on.
 #[derive(Clone, Copy, Debug, PartialEq, Eq)]
 pub enum Target {
-    /// A node, from an offset on.
-    Node { number: u32, offset: u32 },
+    /// A file or a directory, from an offset on.
+    File { number: u32, offset: u32 },
+    /// The console, which is the device of major 1.
+    Console { number: u32 },
+    /// Any other device.
+    Device { number: u32 },
     /// An end of a pipe.
     Pipe { pipe: usize, end: End },
 }
@@ -28,13 +34,34 @@ pub struct OpenFile {
 }
 
 impl Target {
+    /// The number of the node that it is open on.
+    pub fn node(&self) -> Option<u32>
+        ensures { result ≡ node_number (target_of self.now) }
+    {
+        match *self {
+            Target::File { number, .. } | Target::Console { number } | Target::Device { number } =>
+                Some(number),
+            Target::Pipe { .. } => None,
+        }
+    }
+
+    // The same, where it is a file or a directory from another offset on.
+    pub(crate) fn moved(self, offset: u32) -> Target
+        ensures { result ≡ moved_to offset self }
+    {
+        match self {
+            Target::File { number, .. } => Target::File { number, offset },
+            other => other,
+        }
+    }
+
     /// Whether it is an end of this pipe.
     pub fn is_pipe(&self, pipe: usize) -> bool
         ensures { result ≡ is_pipe pipe (target_of self.now) }
     {
         match self {
-            Target::Node { .. } => false,
             Target::Pipe { pipe: of, .. } => *of == pipe,
+            Target::File { .. } | Target::Console { .. } | Target::Device { .. } => false,
         }
     }
 
@@ -43,11 +70,11 @@ impl Target {
         ensures { result ≡ is_end pipe (end_of end) (target_of self.now) }
     {
         match self {
-            Target::Node { .. } => false,
             Target::Pipe {
                 pipe: of,
                 end: open,
             } => *of == pipe && *open == end,
+            Target::File { .. } | Target::Console { .. } | Target::Device { .. } => false,
         }
     }
 }

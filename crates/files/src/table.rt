@@ -1,9 +1,8 @@
 //! The table of open files.
-ghost use Rattle.std.specs.Prelude.{◌≡◌, ◌<◌, ℕ, count_by, is_none, length, option_map, IfSome, IfOk, OnErr, slice_set};
+ghost use Rattle.std.specs.Prelude.{◌≡◌, ◌<◌, count_by, is_none, length, option_map, IfSome, IfOk, OnErr, slice_set};
 ghost use Rattle.std.specs.List.{list_any};
-ghost use Rattle.std.specs.Result.{result_map_both};
-ghost use Rattle.files.specs.Meant.{counted_of, end_of, file_of, is_slot_end, is_slot_pipe, target_of};
-ghost use Rattle.files.specs.Places.{IsTable, closed, count_at, free_count, has_end, has_pipe, last_target, opened, opens_of, place_for, readable_at, shared, writable_at};
+ghost use Rattle.files.specs.Meant.{end_of, is_slot_end, is_slot_pipe};
+ghost use Rattle.files.specs.Places.{IsTable, closed, count_at, counted_of, file_at, free_count, has_end, has_pipe, last_target, moved, node_at, opened, opens_of, place_for, readable_at, shared, usable, writable_at};
 ghost use Rattle.unixmodel.specs.Files.{free_slot, free_slots, slot};
 ghost use Rattle.unixmodel.specs.State.{holds};
 
@@ -24,6 +23,10 @@ pub enum FileFault {
     NotReadable,
     #[error("it is not open for writing")]
     NotWritable,
+    #[error("it is a device that is not the console")]
+    BadDevice,
+    #[error("it has no record")]
+    NoFile,
 }
 
 // An open file, and how many descriptors name it.
@@ -45,7 +48,7 @@ impl Model for Files {
 
     ghost Value = { List (Option Counted) };
 
-    ghost use Rattle.files.specs.Meant.{counted_of};
+    ghost use Rattle.files.specs.Places.{counted_of};
 
     ghost view = { λ t. map (option_map counted_of) t.slots.items };
 
@@ -89,6 +92,16 @@ fn any_pipe(slots: &[Option<Slot>], pipe: usize) -> bool
     })
 }
 
+// What is read and written there: of the devices the console alone.
+fn usable(target: Target) -> Result<Target, FileFault>
+    ensures { result ≡ usable target }
+{
+    match target {
+        Target::Device { .. } => Err(FileFault::BadDevice),
+        other => Ok(other),
+    }
+}
+
 impl Files {
     /// Free places.
     pub fn new() -> Files
@@ -130,7 +143,7 @@ impl Files {
     /// Puts an open file that one descriptor names in the lowest free place.
     pub fn open(&mut self, file: OpenFile) -> Result<usize, FileFault>
         ensures place { result ≡ place_for (opens_of self.old) }
-        ensures ok { IfOk result (λ i. self.new ≡ opened self.old i (file_of file)) }
+        ensures ok { IfOk result (λ i. self.new ≡ opened self.old i file) }
         ensures err { OnErr result (self.new ≡ self.old) }
         ensures within { IfOk result (λ i. i < 100) }
     {
@@ -169,7 +182,7 @@ impl Files {
     /// told. Nothing changes where the place is free.
     pub fn close(&mut self, id: usize) -> Option<Target>
         ensures table { self.new ≡ closed self.old id }
-        ensures last { option_map target_of result ≡ last_target self.old id }
+        ensures last { result ≡ last_target self.old id }
     {
         let slot = self.slot(id)?;
         if slot.references > 1 {
@@ -189,28 +202,56 @@ impl Files {
 
     /// An open file.
     pub fn file(&self, id: usize) -> Option<OpenFile>
-        ensures { option_map file_of result ≡ slot (opens_of self.now) id }
+        ensures { result ≡ file_at self.now id }
     {
         self.slot(id).map(|slot| slot.file)
     }
 
-    /// What an open file is open on, where it is open for reading.
+    /// What an open file is open on, where it is open for reading and can be read.
     pub fn read(&self, id: usize) -> Result<Target, FileFault>
-        ensures { result_map_both target_of (λ fault. fault) result ≡ readable_at (slot (opens_of self.now) id) }
+        ensures { result ≡ readable_at (file_at self.now id) }
     {
         match self.file(id) {
-            Some(file) if file.readable => Ok(file.target),
+            Some(file) if file.readable => usable(file.target),
             _ => Err(FileFault::NotReadable),
         }
     }
 
-    /// What an open file is open on, where it is open for writing.
+    /// What an open file is open on, where it is open for writing and can be written.
     pub fn write(&self, id: usize) -> Result<Target, FileFault>
-        ensures { result_map_both target_of (λ fault. fault) result ≡ writable_at (slot (opens_of self.now) id) }
+        ensures { result ≡ writable_at (file_at self.now id) }
     {
         match self.file(id) {
-            Some(file) if file.writable => Ok(file.target),
+            Some(file) if file.writable => usable(file.target),
             _ => Err(FileFault::NotWritable),
+        }
+    }
+
+    /// The number of the node that a file is open on: a pipe has none.
+    pub fn stat(&self, id: usize) -> Result<u32, FileFault>
+        ensures { result ≡ node_at (file_at self.now id) }
+    {
+        self.file(id)
+            .and_then(|file| file.target.node())
+            .ok_or(FileFault::NoFile)
+    }
+
+    /// What is open on a file or a directory goes on from this offset, in bytes. Nothing else changes.
+    pub fn set_offset(&mut self, id: usize, offset: u32)
+        ensures { self.new ≡ moved self.old id offset }
+    {
+        if let Some(slot) = self.slot(id) {
+            let target = slot.file.target.moved(offset);
+            self.set(
+                id,
+                Some(Slot {
+                    file: OpenFile {
+                        target,
+                        ..slot.file
+                    },
+                    ..slot
+                }),
+            );
         }
     }
 

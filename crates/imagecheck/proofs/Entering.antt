@@ -1,5 +1,5 @@
 -- The places of a directory, one after the other.
-use Rattle.std.proofs.Common.{◌≡◌, ◌≢◌, ℕ, ◌+◌, ◌-◌, ◌*◌, ◌/◌, ◌<◌, ◌≤◌, List, [], ◌∷◌, ◌++◌, None, Option, Some, length, get_or, take, drop, ap, sym, refl, ◌∙◌, arith, subst, true, false, All, IsSome, is_some, ◌==◌, option_to_list}
+use Rattle.std.proofs.Common.{◌≡◌, ◌≢◌, ℕ, ◌+◌, ◌*◌, ◌/◌, ◌<◌, ◌≤◌, List, [], ◌∷◌, ◌++◌, None, Option, Some, length, get_or, take, drop, ap, sym, refl, ◌∙◌, arith, subst, true, false, All, IsSome, is_some, ◌==◌, option_to_list}
 use Rattle.std.specs.List.{list_all}
 use Rattle.std.proofs.lemmas.Bool.{cond-false, cond-true, false≢true}
 use Rattle.std.proofs.lemmas.List.{drop-append-le, drop_all, length-take, length-take-le, take-append-drop, take_all, take_more}
@@ -8,34 +8,10 @@ use Rattle.unixmodel.specs.Files.{Entry, slot, taken}
 use Rattle.unixmodel.specs.Image.{inodes_in, kind_in}
 use Rattle.unixmodel.specs.Numbers.{number_at}
 use Rattle.imagecheck.specs.Entries.{Holds, entries_in, entries_to}
-use Rattle.imagerules.specs.Places.{before_zeros, files_in, place_of_bytes, places_in, without_zeros}
+use Rattle.imagerules.specs.Places.{files_in, place_of_bytes, places_in, without_zeros}
 use Rattle.imagerules.proofs.Lists.{All-left, All-right}
 use Rattle.imagerules.proofs.Nodes.{file_in-free, file_in-used, file_in-zero, slot-files_in, slot-past}
-use Rattle.imagerules.proofs.Spelling.{before_zeros-plain, length-places_in, slot-places_in}
-
--- ---- the zeros at the end of a name
-
-pub without_zeros-zero : (xs : List ℕ) → without_zeros (xs ++ 0 ∷ []) ≡ without_zeros xs
-without_zeros-zero [] = refl
-without_zeros-zero (b ∷ bs) = ap (before_zeros b) (without_zeros-zero bs)
-
-before_zeros-some : (x b : ℕ) (xs : List ℕ) → before_zeros x (xs ++ b ∷ []) ≡ x ∷ (xs ++ b ∷ [])
-before_zeros-some x b [] = refl
-before_zeros-some x b (y ∷ ys) = refl
-
-pub without_zeros-last : (xs : List ℕ) (b : ℕ) → b ≢ 0 → without_zeros (xs ++ b ∷ []) ≡ xs ++ b ∷ []
-without_zeros-last [] b h = before_zeros-plain b [] h
-without_zeros-last (x ∷ xs) b h = ap (before_zeros x) (without_zeros-last xs b h) ∙ before_zeros-some x b xs
-
-module _ (xs : List ℕ) (n : ℕ) (low : 1 ≤ n) (high : n ≤ length xs) where
-  front-is : take n xs ≡ take (n - 1) xs ++ get_or xs (n - 1) 0 ∷ []
-  front-is = let e : n ≡ n - 1 + 1 = omega arith in ap (λ m. take m xs) e ∙ take_more xs (n - 1) 0 (omega arith)
-
-  pub trimmed_more : get_or xs (n - 1) 0 ≡ 0 → without_zeros (take (n - 1) xs) ≡ without_zeros (take n xs)
-  trimmed_more z = sym (ap without_zeros (front-is ∙ ap (λ b. take (n - 1) xs ++ b ∷ []) z) ∙ without_zeros-zero (take (n - 1) xs))
-
-  pub trimmed_all : get_or xs (n - 1) 0 ≢ 0 → take n xs ≡ without_zeros (take n xs)
-  trimmed_all z = front-is ∙ sym (without_zeros-last (take (n - 1) xs) (get_or xs (n - 1) 0) z) ∙ ap without_zeros (sym front-is)
+use Rattle.imagerules.proofs.Spelling.{length-places_in, slot-places_in}
 
 -- ---- numbers in use
 

@@ -1,10 +1,9 @@
 //! The blocks that inodes name.
 
-ghost use Rattle.std.specs.Prelude.{◌≡◌, ◌≢◌, ℕ, ◌+◌, ◌-◌, ◌*◌, ◌/◌, ◌%◌, ◌<◌, ◌≤◌, ◌⊎◌, ◌++◌, nat_le, nat_lt, ◌&&◌, ◌==◌, length, take, All, IsTrue};
+ghost use Rattle.std.specs.Prelude.{◌≡◌, ◌≢◌, ◌+◌, ◌-◌, ◌*◌, ◌/◌, ◌<◌, ◌≤◌, ◌++◌, ◌&&◌, ◌==◌, length, take, IsTrue};
 ghost use Rattle.std.specs.Bool.{OnTrue, OnFalse};
 ghost use Rattle.std.specs.List.{list_all};
-ghost use Rattle.unixmodel.specs.Numbers.{ceil_div};
-ghost use Rattle.unixmodel.specs.Image.{numbers_at, data_start, count_in, kind_in, length_in, named_by, needs_indirect, indirect_in, is_data_block, direct_in, index_in};
+ghost use Rattle.unixmodel.specs.Image.{numbers_at, data_start, count_in, kind_in, named_by, needs_indirect, indirect_in, direct_in, index_in};
 ghost use Rattle.imagerules.specs.Fields.{HasGeometry, HasInode, is_data_in};
 ghost use Rattle.imagerules.specs.Pieces.{HasSizes, HasAddresses, FitsAddresses, fits_indirect};
 

@@ -1,6 +1,6 @@
 //! Numbers in the bytes of an image, and the fields of its inodes.
 
-ghost use Rattle.std.specs.Prelude.{◌≡◌, ℕ, ◌+◌, ◌*◌, ◌/◌, ◌%◌, ◌<◌, ◌≤◌, length};
+ghost use Rattle.std.specs.Prelude.{◌≡◌, ◌+◌, ◌*◌, ◌/◌, ◌%◌, ◌<◌, ◌≤◌, length};
 ghost use Rattle.unixmodel.specs.Numbers.{number_at};
 ghost use Rattle.unixmodel.specs.Image.{inode_at, kind_in, links_in, length_in, indirect_in};
 ghost use Rattle.imagerules.specs.Fields.{HasPlace};

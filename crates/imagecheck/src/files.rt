@@ -1,6 +1,6 @@
 //! The files of an image whose inodes and blocks are sound: their entries, their links and that each is reached.
 
-ghost use Rattle.std.specs.Prelude.{◌≡◌, ◌≤◌, List, length, IfErr, OnOk};
+ghost use Rattle.std.specs.Prelude.{◌≡◌, length, IfErr, OnOk};
 ghost use Rattle.imagecheck.specs.Entries.{NamesDirectories};
 ghost use Rattle.imagecheck.specs.Faults.{Finds, IsOfImage};
 ghost use Rattle.imagerules.specs.Rules.{BlockRules, HasFiles};

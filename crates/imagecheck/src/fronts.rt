@@ -1,6 +1,6 @@
 //! The first two places of directories, "." and "..", and how many places name a directory.
 
-ghost use Rattle.std.specs.Prelude.{◌≡◌, ℕ, ◌<◌, ◌≤◌, ◌==◌, if◌then◌else◌, List, Some, length};
+ghost use Rattle.std.specs.Prelude.{◌≡◌, ◌≤◌, ◌==◌, if◌then◌else◌, Some, length};
 ghost use Rattle.std.specs.Bool.{OnTrue, OnFalse};
 ghost use Rattle.unixmodel.specs.Image.{contents_in};
 ghost use Rattle.imagecheck.specs.Entries.{AreNamed, FitsFront, HasFronts};
@@ -8,7 +8,7 @@ ghost use Rattle.imagerules.specs.Rules.{BlockRules};
 ghost use Rattle.imagerules.specs.Fields.{HasGeometry};
 ghost use Rattle.imagecheck.specs.Namings.{HasParents, TellsNames};
 ghost use Rattle.imagecheck.specs.Reach.{IsDirectoryIn};
-ghost use Rattle.imagerules.specs.Places.{files_in, place_of_bytes};
+ghost use Rattle.imagerules.specs.Places.{place_of_bytes};
 
 use crate::contents::front_place;
 use crate::entries::{before_zeros, is_zero, place};

@@ -1,6 +1,6 @@
 //! The counts of links.
 
-ghost use Rattle.std.specs.Prelude.{◌≡◌, ℕ, ◌<◌, ◌≤◌, length};
+ghost use Rattle.std.specs.Prelude.{◌≡◌, ◌<◌, length};
 ghost use Rattle.std.specs.Bool.{OnTrue, OnFalse};
 ghost use Rattle.imagerules.specs.Rules.{BlockRules};
 ghost use Rattle.imagerules.specs.Fields.{HasGeometry};

@@ -1,9 +1,9 @@
 //! Marks of the blocks that inodes name: none is named twice, and the bitmap agrees with them.
 
-ghost use Rattle.std.specs.Prelude.{◌≡◌, ◌≢◌, ℕ, ◌+◌, ◌*◌, ◌/◌, ◌%◌, ◌<◌, ◌≤◌, ◌++◌, [], List, not, length, slice_index, slice_index_or, slice_set, false, true, All, AllPairs};
+ghost use Rattle.std.specs.Prelude.{◌≡◌, ℕ, ◌+◌, ◌*◌, ◌/◌, ◌%◌, ◌<◌, ◌≤◌, ◌++◌, [], List, not, length, slice_index, slice_index_or, slice_set, false, true, All};
 ghost use Rattle.std.specs.Bool.{OnTrue, OnFalse};
 ghost use Rattle.unixmodel.specs.Numbers.{has_bit};
-ghost use Rattle.unixmodel.specs.Image.{named_blocks, bitmap_start, is_in_use};
+ghost use Rattle.unixmodel.specs.Image.{named_blocks, bitmap_start};
 ghost use Rattle.imagerules.specs.Fields.{HasGeometry};
 ghost use Rattle.imagerules.specs.Marks.{HasMarks, IsOnce, blocks_of};
 ghost use Rattle.imagerules.specs.Pieces.{HasSizes, HasAddresses, NamesOnce, HasBitmap};

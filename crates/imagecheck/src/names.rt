@@ -1,6 +1,6 @@
 //! The names of a directory as numbers, by which they are told apart.
 
-ghost use Rattle.std.specs.Prelude.{◌≡◌, ◌≢◌, ℕ, ◌+◌, ◌*◌, ◌≤◌, ◌++◌, AllPairs, length, OnOk};
+ghost use Rattle.std.specs.Prelude.{◌≡◌, ◌≢◌, ◌+◌, ◌≤◌, ◌++◌, AllPairs, length, OnOk};
 ghost use Rattle.std.specs.Bool.{OnTrue, OnFalse};
 ghost use Rattle.std.specs.Option.{option_to_list};
 ghost use Rattle.imagecheck.specs.Entries.{entries_in, name_numbers};

@@ -1,6 +1,6 @@
 //! The entries of all directories, each as the directory that it stands in and the number that it names.
 
-ghost use Rattle.std.specs.Prelude.{◌≡◌, ℕ, ◌+◌, ◌*◌, ◌≤◌, ◌++◌, length, OnOk};
+ghost use Rattle.std.specs.Prelude.{◌≡◌, ◌+◌, ◌≤◌, ◌++◌, length, OnOk};
 ghost use Rattle.std.specs.Option.{option_to_list};
 ghost use Rattle.imagecheck.specs.Entries.{entries_in};
 ghost use Rattle.imagecheck.specs.Namings.{namings_of};

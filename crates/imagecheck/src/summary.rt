@@ -1,7 +1,7 @@
 //! What an image uses.
 
-ghost use Rattle.std.specs.Prelude.{◌≡◌, ◌≢◌, ℕ, ◌+◌, ◌*◌, ◌<◌, ◌≤◌, length};
-ghost use Rattle.unixmodel.specs.Image.{inodes_in, kind_in, named_blocks, numbers_in_use};
+ghost use Rattle.std.specs.Prelude.{◌≡◌, ◌+◌, ◌<◌, ◌≤◌, length};
+ghost use Rattle.unixmodel.specs.Image.{named_blocks, numbers_in_use};
 ghost use Rattle.imagerules.specs.Fields.{HasGeometry};
 ghost use Rattle.imagerules.specs.Marks.{blocks_of};
 ghost use Rattle.imagerules.specs.Pieces.{HasSizes};

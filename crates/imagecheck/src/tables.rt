@@ -1,6 +1,6 @@
 //! What the entries of all directories tell of each number, in tables.
 
-ghost use Rattle.std.specs.Prelude.{◌≡◌, ℕ, ◌<◌, ◌≤◌, All, length};
+ghost use Rattle.std.specs.Prelude.{◌≡◌, ◌<◌, ◌≤◌, All, length};
 ghost use Rattle.imagerules.specs.Fields.{HasGeometry};
 ghost use Rattle.imagecheck.specs.Namings.{CountsNames, CountsSubdirectories, HasFirsts, HasParentsAmong, IsNaming};
 ghost use Rattle.imagecheck.specs.declared.namings.Naming.{Naming};

@@ -1,9 +1,8 @@
 //! The entries of a manifest are put on a disk, one after the other.
 
-ghost use Rattle.std.specs.Prelude.{◌≡◌, ◌≤◌, ◌+◌, ◌<◌, ℕ, [], drop, length, IfOk, IfErr, OnOk};
+ghost use Rattle.std.specs.Prelude.{◌≡◌, ◌≤◌, ◌+◌, ◌<◌, [], drop, length, IfOk, IfErr, OnOk};
 ghost use Rattle.unixmodel.specs.Files.{Files};
 ghost use Rattle.unixmodel.specs.Manifest.{bare_files, data_blocks_of, with_entries, with_manifest_entry};
-ghost use Rattle.imagemake.specs.Begun.{IsListed};
 ghost use Rattle.imagemake.specs.Begins.{AddsEntry, BlamesDevice, IsMade, IsSpot, MakesEntries, RefusesPath};
 ghost use Rattle.imagemake.specs.Made.{HasRoom};
 ghost use Rattle.imagemake.specs.Making.{Refuses, entry_of, meaning};

@@ -1,16 +1,14 @@
 //! The making of an image from a manifest.
 #![tactic(auto)]
 
-ghost use Rattle.std.specs.Prelude.{◌≡◌, ◌<◌, ◌≤◌, ◌+◌, ◌*◌, Err, ℕ, List, [], length, IfOk, IfErr, OnOk};
+ghost use Rattle.std.specs.Prelude.{◌≡◌, ◌<◌, ◌≤◌, ◌*◌, Err, [], length, IfOk, IfErr, OnOk};
 ghost use Rattle.blockdev.specs.Blocks.{AreBlocks};
 ghost use Rattle.layout.specs.Sound.{HasParts};
-ghost use Rattle.unixmodel.specs.Files.{free_slots};
 ghost use Rattle.unixmodel.specs.Manifest.{bare_files, data_blocks_of, files_made, has_numbers, with_entries};
 ghost use Rattle.imagemake.specs.Begins.{BlamesDevice, MakesEntries};
 ghost use Rattle.imagerules.specs.Content.{image_of};
 ghost use Rattle.imagemake.specs.Made.{HasRoom};
 ghost use Rattle.imagemake.specs.Making.{MakesImage, Refuses, meaning};
-ghost use Rattle.imagemake.specs.Stored.{Stores};
 
 mod entry;
 mod made;

@@ -1,6 +1,6 @@
 //! Nodes and their names are put on a disk.
 
-ghost use Rattle.std.specs.Prelude.{◌≡◌, ◌<◌, ◌≤◌, ◌+◌, ℕ, IsTrue, Some, length, OnOk, IfErr};
+ghost use Rattle.std.specs.Prelude.{◌≡◌, ◌<◌, ◌≤◌, ◌+◌, IsTrue, Some, length, OnOk, IfErr};
 ghost use Rattle.unixmodel.specs.Failures.{HasCause};
 ghost use Rattle.unixmodel.specs.Files.{Files, Node, free_slots, is_directory, kind_of, links_of, node_bytes, place_bytes, put, slot, with_links};
 ghost use Rattle.unixmodel.specs.Manifest.{appended, bare_directory, bare_files, linked, node_for};

@@ -10,10 +10,9 @@ use Rattle.unixmodel.specs.Files.Node.{Device, Directory, File}
 use Rattle.unixmodel.specs.Image.{Denotes, IsNode, KeepsNode, KeepsSize, Stands, all_entries, contents_in, count_in, data_blocks, direct_in, entries_of, index_in, inodes_in, is_data_block, is_name, kind_in, length_in, names_number, parent_of}
 use Rattle.imagerules.specs.Rules.{HasBlocks}
 use Rattle.imagerules.specs.Pieces.{FitsAddresses, FitsKind, HasKinds, HasSizes}
-use Rattle.imagerules.specs.Places.{EntriesAt, HasEntries, HasLinks, IsReached, LinksAt, file_in, files_in, node_in}
+use Rattle.imagerules.specs.Places.{EntriesAt, HasEntries, HasLinks, IsPlain, IsReached, LinksAt, PlaceFits, file_in, files_in, node_in}
 use Rattle.imagerules.proofs.Lists.{All-flat_map}
 use Rattle.imagerules.proofs.Nodes.{IsNode-from, IsNode-same, PlacesFit, contents-fit, file_in-free, file_in-used, file_in-zero, length-contents, length-files_in, node_in-directory, slot-files_in, slot-past}
-use Rattle.imagerules.proofs.Spelling.{IsPlain, PlaceFits}
 use Rattle.imagerules.proofs.Summing.{length-data_blocks}
 use Rattle.imagerules.proofs.Uses.{All-data_blocks, FitsAddresses-at, is_data_block-below}
 use Rattle.std.proofs.lemmas.Option.{none-some}

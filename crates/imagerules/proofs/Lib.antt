@@ -9,4 +9,5 @@ pub mod Paths
 pub mod Spelling
 pub mod Summing
 pub mod Super
+pub mod Trimmed
 pub mod Uses

@@ -9,8 +9,8 @@ use Rattle.unixmodel.specs.Files.{Node, slot}
 use Rattle.unixmodel.specs.Files.Node.{Device, Directory, File}
 use Rattle.unixmodel.specs.Image.{IsNode, block_at, contents_in, count_in, data_blocks, inodes_in, kind_in, length_in, links_in, major_in, minor_in}
 use Rattle.imagerules.specs.Pieces.{FitsKind}
-use Rattle.imagerules.specs.Places.{file_in, files_in, kind_node, node_in, places_in}
-use Rattle.imagerules.proofs.Spelling.{PlaceFits, length-places_in, places_in-back, places_in-spelled}
+use Rattle.imagerules.specs.Places.{PlaceFits, file_in, files_in, kind_node, node_in, places_in}
+use Rattle.imagerules.proofs.Spelling.{length-places_in, places_in-back, places_in-spelled}
 
 -- ---- the list of files
 

@@ -1,6 +1,5 @@
 -- A directory's bytes and the places that they spell.
 use Rattle.std.proofs.Common.{◌≡◌, ◌≢◌, ℕ, ◌+◌, ◌-◌, ◌*◌, ◌/◌, ◌%◌, ◌<◌, ◌≤◌, Bool, List, [], ◌∷◌, ◌++◌, None, Option, Some, length, get_or, take, drop, inl, inr, ap, sym, refl, ◌∙◌, arith, cond, true, false, zero, suc, All, flat_map, nat_eq, ◌==◌, ◌&&◌}
-use Rattle.std.specs.Prelude.{⊤}
 use Rattle.std.specs.List.{list_all, range_with_len}
 use Rattle.std.proofs.lemmas.Bool.{and_parts, cases_lt, cond-false, false≢true, eqb-true, ne_eqb}
 use Rattle.std.proofs.lemmas.List.{append-nil, drop-drop, drop-take, drop_at, ext_get_or, get_or-drop, get_or-take, get_or_past, length-append, length-drop, length-replicate, length-take, length-take-le, take-append-drop, take-take, take_all, take_at}
@@ -11,7 +10,7 @@ use Rattle.std.proofs.lemmas.List.Elements.{All-head, All-tail}
 use Rattle.unixmodel.specs.Files.{Entry, name_bytes, place_bytes}
 use Rattle.unixmodel.specs.Memory.{zeros}
 use Rattle.unixmodel.specs.Numbers.{le, number}
-use Rattle.imagerules.specs.Places.{before_zeros, place_of_bytes, places_in, without_zeros}
+use Rattle.imagerules.specs.Places.{PlaceFits, before_zeros, place_of_bytes, places_in, without_zeros}
 use Rattle.imagerules.proofs.Marking.{range-split}
 
 -- ---- names
@@ -88,13 +87,6 @@ place_of_bytes-spelled (a ∷ b ∷ rest) long fits =
     (ap (λ r. r ++ name_bytes (without_zeros rest)) (le_pair a b (fits 0) (fits 1))
     ∙ ap (λ m. a ∷ b ∷ (without_zeros rest ++ zeros (m - length (without_zeros rest)))) e ∙ ap (λ r. a ∷ b ∷ r) (without_zeros-spelled rest))
 
--- what its spelling gives back
-pub record IsPlain (e : Entry) : Type 0 where
-  pub number : e.number < 65536
-  pub some : 1 ≤ length e.name
-  pub most : length e.name ≤ 14
-  pub plain : All (λ b. b ≢ 0) e.name
-
 not_zeros : (x y : Bool) (b : ℕ) (r : Bool) → b ≢ 0 → (x && (y && (nat_eq b 0 && r))) ≡ false
 not_zeros x y b r h = go x y (nat_eq b 0) (ne_eqb b 0 h) where
   go : (x y z : Bool) → z ≡ false → (x && (y && (z && r))) ≡ false
@@ -163,16 +155,12 @@ slot-places_in bytes k h = get_or-map-range_with_len (λ j. place_of_bytes (take
 
 -- ---- places that their spelling gives back
 
-abbrev pub PlaceFits : Option Entry → Type 0
-PlaceFits None = ⊤
-PlaceFits (Some e) = IsPlain e
-
 pub place_of_bytes-back : (o : Option Entry) → PlaceFits o → place_of_bytes (place_bytes o) ≡ o
 unfolding zeros
 place_of_bytes-back None h = refl
 place_of_bytes-back (Some e) h = place_of_bytes-plain e.number e.name h.number h.some h.plain
 
-length-place_bytes : (o : Option Entry) → PlaceFits o → length (place_bytes o) ≡ 16
+pub length-place_bytes : (o : Option Entry) → PlaceFits o → length (place_bytes o) ≡ 16
 unfolding zeros
 length-place_bytes None h = refl
 length-place_bytes (Some e) h =

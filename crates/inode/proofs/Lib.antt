@@ -6,4 +6,5 @@ mod Filling
 mod Growing
 mod Pieces
 mod Reading
+mod Looking
 mod Steps

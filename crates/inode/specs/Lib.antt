@@ -3,3 +3,4 @@ pub mod Reading
 pub mod Writing
 pub mod Wrote
 pub mod Freeing
+pub mod Looking

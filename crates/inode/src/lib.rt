@@ -8,7 +8,7 @@ mod write;
 
 use blockdev::DeviceFault;
 pub use empty::truncate;
-pub use read::{read_at, stat};
+pub use read::{look, read_at, stat};
 use thiserror::Error;
 pub use write::{set_links, write_at};
 
@@ -48,6 +48,8 @@ impl From<DeviceFault> for InodeFault {
 pub struct InodeStat {
     /// 1 directory, 2 file, 3 device.
     pub kind: u16,
+    /// The major number of a device.
+    pub major: u16,
     /// How many names it has.
     pub links: u16,
     /// Its length in bytes.

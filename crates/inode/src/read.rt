@@ -6,6 +6,7 @@ ghost use Rattle.unixmodel.specs.Failures.{HasCause};
 ghost use Rattle.blockdev.specs.Splice.{part};
 ghost use Rattle.layout.specs.Image.{IsInode, bytes_of, inode_at, slot_in};
 ghost use Rattle.layout.specs.Sound.{IsSound};
+ghost use Rattle.inode.specs.Looking.{Tells, told};
 ghost use Rattle.inode.specs.Reading.{HasRead};
 
 use crate::InodeStat;
@@ -14,7 +15,41 @@ use blockdev::{BlockDev, DeviceFault};
 use cache::Cache;
 use layout::{DiskInode, Geometry, read_number};
 
-/// Type, number of links and size of an inode in use.
+// What an inode's record tells.
+fn told(inode: &DiskInode) -> InodeStat
+    ensures { result ≡ told inode.now }
+{
+    InodeStat {
+        kind: inode.kind,
+        major: inode.major,
+        links: inode.links,
+        size: inode.size,
+    }
+}
+
+/// Type, major number, number of links and size of an inode; `None` where no inode in use has this number.
+pub fn look<D: BlockDev>(
+    disk: &mut Cache<D>,
+    geometry: Geometry,
+    number: usize,
+) -> Result<Option<InodeStat>, DeviceFault>
+    requires { IsSound geometry disk.old.blocks }
+    ensures told { IfOk result (Tells disk.old.blocks geometry.inodes number) }
+    ensures same { OnOk result (disk.new.blocks ≡ disk.old.blocks) }
+    ensures count { length disk.new.blocks ≡ length disk.old.blocks }
+    ensures cause { HasCause disk.old.failures disk.new.failures result }
+{
+    if number == 0 || number >= geometry.inodes {
+        return Ok(None);
+    }
+    let inode = read_inode(disk, geometry, number)?;
+    if inode.kind == 0 {
+        return Ok(None);
+    }
+    Ok(Some(told(&inode)))
+}
+
+/// Type, major number, number of links and size of an inode in use.
 pub fn stat<D: BlockDev>(
     disk: &mut Cache<D>,
     geometry: Geometry,
@@ -23,6 +58,7 @@ pub fn stat<D: BlockDev>(
     requires sound { IsSound geometry disk.old.blocks }
     requires inode { IsInode disk.old.blocks geometry.inodes number }
     ensures kind { IfOk result (λ s. s.kind ≡ (inode_at disk.old.blocks number).kind) }
+    ensures major { IfOk result (λ s. s.major ≡ (inode_at disk.old.blocks number).major) }
     ensures links { IfOk result (λ s. s.links ≡ (inode_at disk.old.blocks number).links) }
     ensures size { IfOk result (λ s. s.size ≡ length (bytes_of disk.old.blocks number)) }
     ensures same { OnOk result (disk.new.blocks ≡ disk.old.blocks) }
@@ -30,11 +66,7 @@ pub fn stat<D: BlockDev>(
     ensures cause { HasCause disk.old.failures disk.new.failures result }
 {
     let inode = read_inode(disk, geometry, number)?;
-    Ok(InodeStat {
-        kind: inode.kind,
-        links: inode.links,
-        size: inode.size,
-    })
+    Ok(told(&inode))
 }
 
 /// Reads bytes of a file from the place `at` on into `out`, as many as there are, and tells how many.

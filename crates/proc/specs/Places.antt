@@ -39,6 +39,9 @@ with_mode mode p = record p { mode = mode }
 abbrev pub with_size : ℕ → Process → Process
 with_size size p = record p { size = size }
 
+abbrev pub with_directory : ℕ → Process → Process
+with_directory directory p = record p { directory = directory }
+
 -- a descriptor names another open file, or none
 abbrev pub with_descriptor : ℕ → Option ℕ → Process → Process
 with_descriptor fd o p = record p { descriptors = slice_set p.descriptors fd o }

@@ -124,7 +124,7 @@ fn status(mode: Mode) -> i32
 }
 
 impl Table {
-    ghost use Rattle.proc.specs.Places.{Places, changed, exited, has_pid, is_child_of, is_running, left, reaped_at, seat_of, seated, with_descriptor, with_mark, with_mode, with_running, with_size, without, zombie_place};
+    ghost use Rattle.proc.specs.Places.{Places, changed, exited, has_pid, is_child_of, is_running, left, reaped_at, seat_of, seated, with_descriptor, with_directory, with_mark, with_mode, with_running, with_size, without, zombie_place};
     ghost use Rattle.proc.specs.Lending.{LendsProcess};
     ghost use Rattle.proc.specs.Pick.{Answers, Picks};
 
@@ -185,6 +185,15 @@ impl Table {
     {
         if let Some(process) = self.process_mut(at) {
             process.size = size;
+        }
+    }
+
+    /// The process in a place works in another directory. Nothing changes where the place is free.
+    pub fn set_directory(&mut self, at: usize, directory: u32)
+        ensures { self.new ≡ changed self.old at (with_directory directory) }
+    {
+        if let Some(process) = self.process_mut(at) {
+            process.directory = directory;
         }
     }
 

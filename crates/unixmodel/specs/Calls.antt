@@ -5,12 +5,13 @@ use Rattle.unixmodel.specs.declared.call.Call.{Call}
 use Rattle.unixmodel.specs.declared.call.Call.TheVariants.{Chdir, Close, Dup, Exec, Exit, Fork, Fstat, Getpid, Kill, Link, Mkdir, Mknod, Open, Pipe, Read, Sbrk, Sleep, Unlink, Uptime, Wait, Write}
 use Rattle.unixmodel.specs.declared.process.Mode.TheVariants.{Running, Waiting}
 use Rattle.unixmodel.specs.declared.process.Pending.{Pending}
-use Rattle.unixmodel.specs.FileCalls.{close_row, dup_row, pipe_row, read_on, read_row, write_on, write_row}
+use Rattle.unixmodel.specs.FileCalls.{close_row, dup_row, fstat_row, pipe_row, read_on, read_row, write_on, write_row}
+use Rattle.unixmodel.specs.NameCalls.{chdir_row, link_row, mkdir_row, mknod_row, open_row, unlink_row}
 use Rattle.unixmodel.specs.Numbers.{low, number, plus}
 use Rattle.unixmodel.specs.Outcome.{Outcome, end_process, limited, minus_one}
 use Rattle.unixmodel.specs.Outcome.Outcome.{Done, Ends, Refused, Waits}
 use Rattle.unixmodel.specs.Process.{Process, arg, with_answer, with_mode}
-use Rattle.unixmodel.specs.ProcessCalls.{exit_row, fork_row, getpid_row, kill_row, sbrk_row, sleep_on, sleep_row, uptime_row, wait_on, wait_row}
+use Rattle.unixmodel.specs.ProcessCalls.{exec_row, exit_row, fork_row, getpid_row, kill_row, sbrk_row, sleep_on, sleep_row, uptime_row, wait_on, wait_row}
 use Rattle.unixmodel.specs.Reap.{reap}
 use Rattle.unixmodel.specs.State.{State, change_process, process_at, put_process}
 
@@ -24,7 +25,7 @@ abbrev pub call_of : ℕ → Option Call
 call_of zero = None
 call_of (suc n) = slice_get calls n
 
--- the calls that are built so far; each other one is refused
+-- each call has its row
 abbrev pub row : State → ℕ → Process → Call → Outcome
 row s i p Fork = fork_row s i p
 row s i p Exit = exit_row s i p
@@ -32,14 +33,21 @@ row s i p Wait = wait_row s i p
 row s i p Pipe = pipe_row s i p
 row s i p Read = read_row s i p
 row s i p Kill = kill_row s i p
+row s i p Exec = exec_row s i p
+row s i p Fstat = fstat_row s i p
+row s i p Chdir = chdir_row s i p
 row s i p Dup = dup_row s i p
 row s i p Getpid = getpid_row s i p
 row s i p Sbrk = sbrk_row s i p
 row s i p Sleep = sleep_row s i p
 row s i p Uptime = uptime_row s i p
+row s i p Open = open_row s i p
 row s i p Write = write_row s i p
 row s i p Close = close_row s i p
-row s i p _ = Refused
+row s i p Mknod = mknod_row s i p
+row s i p Unlink = unlink_row s i p
+row s i p Link = link_row s i p
+row s i p Mkdir = mkdir_row s i p
 
 -- the row that a waiting call goes on by: of the calls so far these can wait
 abbrev pub goes_on : State → ℕ → Process → Pending → Call → Outcome

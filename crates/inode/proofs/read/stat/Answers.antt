@@ -1,9 +1,6 @@
-use Rattle.std.proofs.Common.{ap, sym}
 use Rattle.std.proofs.lemmas.Result.{err_from_is_err_and}
-use Rattle.layout.specs.declared.DiskInode.{DiskInode}
 use Rattle.inode.proofs.Causes.{HasCause-first, HasCause-good}
-use Rattle.inode.proofs.Growing.{own_length}
-use Rattle.inode.proofs.Reading.{HasInode-read}
+use Rattle.inode.proofs.Looking.{told-inode}
 use Rattle.inode.proofs.read.stat.Goals as goal
 
 pub read_inode-requires : goal.read_inode-requires
@@ -14,6 +11,7 @@ returns-in_err-inode g c =
     let told = (err_from_is_err_and c.from_residual.result c.from_residual.ensures.1).1 in
     record {
       kind = rw told tt;
+      major = rw told tt;
       links = rw told tt;
       size = rw told tt;
       same = rw told tt;
@@ -22,11 +20,14 @@ returns-in_err-inode g c =
     }
 
 pub returns : goal.returns
-returns g c = record {
-  kind = ap (λ (i : DiskInode). i.kind) c.in_ok-inode.ensures.inode;
-  links = ap (λ (i : DiskInode). i.links) c.in_ok-inode.ensures.inode;
-  size = sym (own_length (HasInode-read c.requires.sound c.requires.inode c.in_ok-inode.ensures.inode));
-  same = c.in_ok-inode.ensures.same;
-  count = c.read_inode.ensures.count;
-  cause = HasCause-good c.read_inode.ensures.cause.later;
-}
+returns g c =
+    let is = told-inode c.requires.sound c.requires.inode c.in_ok-inode.ensures.inode c.told.ensures in
+    record {
+      kind = is.kind;
+      major = is.major;
+      links = is.links;
+      size = is.size;
+      same = c.in_ok-inode.ensures.same;
+      count = c.read_inode.ensures.count;
+      cause = HasCause-good c.read_inode.ensures.cause.later;
+    }

@@ -1,5 +1,5 @@
 use Rattle.std.proofs.Common.{ap, option_map, slice_set, ◌∙◌}
-use Rattle.files.specs.Meant.{counted_of}
+use Rattle.files.specs.Places.{counted_of}
 use Rattle.files.proofs.Shown.{shown-refilled}
 use Rattle.files.proofs.table.Files.set.Goals as goal
 
