@@ -13,7 +13,7 @@ use Rattle.layout.specs.Sound.{HasParts}
 use Rattle.layout.specs.Super.{bitmap_start_of, data_start_of}
 use Rattle.layout.specs.declared.Geometry.{Geometry}
 use Rattle.unixmodel.specs.Counts.{blocks_of}
-use Rattle.unixmodel.specs.Files.{Entry, Files, Node, blocks_for, kind_of, size_of, slot, taken}
+use Rattle.unixmodel.specs.Files.{Files, Node, blocks_for, kind_of, size_of, slot, taken}
 use Rattle.unixmodel.specs.Files.Node.{Device, Directory, File}
 use Rattle.unixmodel.specs.Image.{HasMajor, IsNode, KeepsNode, Stands, data_start, inodes_in, is_named, named_blocks, size_in}
 use Rattle.unixmodel.specs.Manifest.{data_blocks_of}
@@ -25,19 +25,14 @@ use Rattle.imagerules.proofs.Marking.{blocks_of-free, named_before-all}
 use Rattle.imagerules.proofs.Nodes.{PlacesFit}
 use Rattle.imagemake.proofs.Slotted.{contents-are, length-listed}
 use Rattle.imagemake.proofs.Legible.{bit-held}
-use Rattle.imagerules.proofs.Spelling as spelled
-use Rattle.tree.specs.Held.{Agrees, FitsPlaces, HasDevice, Holds, HoldsFiles, PlaceFits}
+use Rattle.tree.specs.Held.{Agrees, FitsPlaces, HasDevice, Holds, HoldsFiles}
 use Rattle.mount.proofs.Ranges.{count-map, count-named, count-same}
 use Rattle.mount.proofs.Sounding.{IsDenoted, IsSound-denoted, data-named, legible, readable}
 
 -- ---- places
 
-place-fits : (o : Option Entry) → spelled.PlaceFits o → PlaceFits o
-place-fits None h = tt
-place-fits (Some e) h = record { number = h.number; some = h.some; most = h.most; plain = h.plain }
-
 node-places : (node : Node) → PlacesFit node → FitsPlaces (Some node)
-node-places (Directory links places) h = All-weaker spelled.PlaceFits PlaceFits (λ o fit. place-fits o fit) places h
+node-places (Directory links places) h = h
 node-places node h = tt
 
 option-places : (files : Files) (n : ℕ) (o : Option Node) → 1 < length files → length files ≤ 8192 → n < length files → KeepsNode files n o → FitsPlaces o

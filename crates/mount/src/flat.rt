@@ -22,8 +22,8 @@ fn console(alloc: Global) -> Result<Manifest, AllocError>
     Ok(Manifest { entries })
 }
 
-// An image of a root and the console.
-fn flat_image(alloc: Global) -> Result<Vec<u8>, AllocError>
+/// An image of a root and the console.
+pub fn flat_image(alloc: Global) -> Result<Vec<u8>, AllocError>
     ensures { IfOk result (λ image. IsFlatImage image.items) }
 {
     let manifest = console(alloc)?;

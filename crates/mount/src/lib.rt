@@ -5,4 +5,4 @@ mod device;
 mod flat;
 
 pub use device::{mount, unmount};
-pub use flat::mount_flat;
+pub use flat::{flat_image, mount_flat};

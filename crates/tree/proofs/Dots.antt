@@ -5,7 +5,8 @@ use Rattle.std.proofs.lemmas.List.Elements.{All-cons, All-nil}
 use Rattle.std.proofs.lemmas.Option.{same_Some}
 use Rattle.layout.specs.declared.Geometry.{Geometry}
 use Rattle.tree.specs.Entering.{HasRoom, entered, growth, room_in}
-use Rattle.tree.specs.Held.{Holds, IsPlain, files_of}
+use Rattle.tree.specs.Held.{Holds, files_of}
+use Rattle.imagerules.specs.Places.{IsPlain}
 use Rattle.unixmodel.specs.Files.{Entry, Files, dot, dot_dot, put, slot}
 use Rattle.unixmodel.specs.Files.Node.{Directory}
 use Rattle.unixmodel.specs.NameCalls.{new_directory}

@@ -12,7 +12,8 @@ use Rattle.tree.specs.declared.TreeFault.TheVariants.{Blocks, DeadDir, DotName, 
 use Rattle.tree.specs.declared.TreeFault.TheVariants as fault
 use Rattle.tree.specs.Answers.{Overflows}
 use Rattle.tree.specs.Entering.{HasGap, HasRoom, LacksBlocks, entered, folder_in, fresh, growth, placed, room_in}
-use Rattle.tree.specs.Held.{Holds, IsHeld, IsPlain, files_of}
+use Rattle.tree.specs.Held.{Holds, IsHeld, files_of}
+use Rattle.imagerules.specs.Places.{IsPlain}
 use Rattle.tree.specs.Lacking.{LacksFolder, LacksGap}
 use Rattle.unixmodel.specs.Counts.{blocks_of}
 use Rattle.unixmodel.specs.Files.{Entry, Files, Node, Spot, blocks_for, change_node, enter, free_number, links_of, live_places, lookup, most_links, put, slot, spot_of, with_links}

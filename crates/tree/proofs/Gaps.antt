@@ -12,7 +12,7 @@ use Rattle.tree.specs.Answers.{Answers, Overflows}
 use Rattle.tree.specs.Entering.{HasGap, HasRoom, IsFullAt, LacksBlocks, entered, growth, made_files, made_in, room_in}
 use Rattle.tree.specs.Held.{Holds}
 use Rattle.tree.specs.Paths.{IsDead, IsNoDirectory, above}
-use Rattle.tree.specs.Places.{places_in}
+use Rattle.imagerules.specs.Places.{places_in}
 use Rattle.unixmodel.specs.Counts.{blocks_of}
 use Rattle.unixmodel.specs.Files.{Entry, Files, Node, Spot, enter, free_number, is_directory, live_places, live_spot, lookup, places_at, put, size_of, slot, spot_of}
 use Rattle.unixmodel.specs.Files.Node.{Device, Directory, File}

@@ -15,7 +15,8 @@ use Rattle.tree.specs.declared.TreeFault.TheVariants.{Blocks, DeadDir, DotName, 
 use Rattle.tree.specs.declared.TreeFault.TheVariants as fault
 use Rattle.tree.specs.Answers.{Overflows}
 use Rattle.tree.specs.Entering.{HasGap, HasRoom, entered, growth, made_files, made_in}
-use Rattle.tree.specs.Held.{Holds, IsHeld, IsPlain, files_of}
+use Rattle.tree.specs.Held.{Holds, IsHeld, files_of}
+use Rattle.imagerules.specs.Places.{IsPlain}
 use Rattle.tree.specs.Lacking.{LacksGap, LacksMaking}
 use Rattle.tree.specs.Leaves.{leaf_node}
 use Rattle.unixmodel.specs.Files.{Entry, Files, Node, Spot, free_number, put, size_of, slot}

@@ -1,6 +1,3 @@
-pub mod Ranges
-pub mod Trimmed
-pub mod Spelling
 pub mod Storing
 pub mod Reading
 pub mod Erasing
@@ -22,6 +19,8 @@ pub mod Dots
 pub mod Serving
 pub mod Releasing
 pub mod Letting
+pub mod Swept
 pub mod Fitting
 pub mod Unnaming
 pub mod Keeping
+pub mod Whole

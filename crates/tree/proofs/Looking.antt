@@ -7,7 +7,7 @@ use Rattle.layout.specs.Image.{bytes_of, inode_at}
 use Rattle.tree.specs.declared.place.Found.{Found}
 use Rattle.tree.specs.Held.{Holds}
 use Rattle.tree.specs.Names.{found_at, found_in}
-use Rattle.tree.specs.Places.{places_in}
+use Rattle.imagerules.specs.Places.{places_in}
 use Rattle.unixmodel.specs.Files.{Entry, Files, Node, entry_number, has_name, kind_of, links_of, live_places, lookup, slot}
 use Rattle.unixmodel.specs.Files.Node.{Device, Directory, File}
 use Rattle.tree.proofs.Storing.{held-raw}

@@ -13,7 +13,8 @@ use Rattle.layout.specs.declared.Geometry.{Geometry}
 use Rattle.layout.specs.Image.{IsInode, bytes_of, free_blocks, inode_at, node_with, taken_for}
 use Rattle.inode.specs.Writing.{IsFull, Wrote}
 use Rattle.tree.specs.Entering.{HasRoom, entered, growth, placed, room_in}
-use Rattle.tree.specs.Held.{FitsPlaces, Holds, IsPlain, PlaceFits}
+use Rattle.tree.specs.Held.{FitsPlaces, Holds}
+use Rattle.imagerules.specs.Places.{IsPlain, PlaceFits}
 use Rattle.tree.specs.Steps.{Reads}
 use Rattle.unixmodel.specs.Failures.{HasCause}
 use Rattle.unixmodel.specs.Files.{Entry, Files, Node, blocks_for, place_bytes, put, size_of, slot}
@@ -21,7 +22,7 @@ use Rattle.unixmodel.specs.Files.Node.{Directory}
 use Rattle.tree.proofs.Erasing.{spelling-set, taken-grows}
 use Rattle.tree.proofs.Reading.{HasCause-after, short-bytes}
 use Rattle.tree.proofs.Rooms.{entered-is, growth-behind, room-cases}
-use Rattle.tree.proofs.Spelling.{length-place_bytes, length-spelling}
+use Rattle.imagerules.proofs.Spelling.{length-place_bytes, length-spelling}
 use Rattle.tree.proofs.Storing.{Holds-put, held-fits, held-inode, held-raw, held-size, slot-within, used_by, whole-node}
 
 -- ---- the blocks that an entry takes

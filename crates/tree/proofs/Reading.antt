@@ -16,12 +16,12 @@ use Rattle.layout.specs.Image.{IsInode, bytes_of}
 use Rattle.layout.specs.Sound.{IsSound}
 use Rattle.tree.specs.declared.place.Found.{Found}
 use Rattle.tree.specs.Names.{found_at, found_in, is_bare}
-use Rattle.tree.specs.Places.{place_of_bytes, places_in, without_zeros}
+use Rattle.imagerules.specs.Places.{place_of_bytes, places_in, without_zeros}
 use Rattle.tree.specs.Steps.{Reads}
 use Rattle.unixmodel.specs.Failures.{HasCause, Rises}
 use Rattle.unixmodel.specs.Files.{Entry, has_name, slot, taken}
 use Rattle.unixmodel.specs.Numbers.{number_at}
-use Rattle.tree.proofs.Spelling.{slot-places_in}
+use Rattle.imagerules.proofs.Spelling.{slot-places_in}
 
 -- a file is never longer than an int
 pub short-bytes : {g : Geometry} {blocks : List (List ℕ)} {n : ℕ} → IsSound g blocks → IsInode blocks g.inodes n → length (bytes_of blocks n) ≤ 274432

@@ -1,27 +1,32 @@
 -- What the calls of a file system in use come to.
 use Rattle.std.proofs.Common.{◌≡◌, ◌≢◌, ℕ, ◌-◌, ◌<◌, ◌++◌, Bool, List, None, Option, Some, Result, length, drop, false, ap, sym, refl, ◌∙◌, arith, subst}
-use Rattle.std.specs.Prelude.{Err, IfErr, IfOk, Ok, OnOk, min}
+use Rattle.std.specs.Prelude.{Err, IfErr, IfOk, Ok, OnOk, is_none, is_some, min, not}
 use Rattle.std.specs.Result.{is_err}
 use Rattle.blockdev.specs.Splice.{part}
 use Rattle.blockdev.specs.declared.DeviceFault.{DeviceFault}
 use Rattle.cache.specs.Disk.{Disk}
 use Rattle.layout.specs.declared.Geometry.{Geometry}
 use Rattle.inode.specs.declared.InodeStat.{InodeStat}
-use Rattle.layout.specs.Image.{bytes_of, inode_at}
-use Rattle.tree.specs.Held.{Holds, IsHeld, files_of}
+use Rattle.inode.specs.Looking as inode
+use Rattle.inode.specs.Looking.{IsTold}
+use Rattle.layout.specs.Image.{RawNode, bytes_of, inode_at, node_with}
+use Rattle.tree.specs.Held.{Holds, IsHeld, IsRaw, files_of}
 use Rattle.tree.specs.Holding.{let_go, without_hold}
 use Rattle.std.proofs.lemmas.Bool.{false≢true}
 use Rattle.tree.specs.declared.TreeFault.{TreeFault}
 use Rattle.tree.specs.declared.TreeFault.TheVariants.{Device}
 use Rattle.tree.specs.Answers.{Answers, IsRefused}
 use Rattle.tree.specs.Steps.{Reads, Turns}
+use Rattle.tree.specs.Telling.{Tells, TellsAny, TellsMajor}
 use Rattle.tree.specs.Tree.{Acts, FileTree, IsRefusal, Serves, has_failed, is_device}
 use Rattle.tree.specs.Written.{count_of, files_after, written}
 use Rattle.unixmodel.specs.Failures.{HasCause}
-use Rattle.unixmodel.specs.Files.{Files, Node, find, kind_of, links_of, node_bytes, size_of, slot}
+use Rattle.unixmodel.specs.Files.{Files, Node, find, node_bytes, slot}
+use Rattle.unixmodel.specs.Files.Node.{Device, Directory, File}
+use Rattle.tree.proofs.Taking.{used-slot}
 use Rattle.unixmodel.specs.Manifest.{data_blocks_of}
 use Rattle.tree.proofs.Linking.{some-node}
-use Rattle.tree.proofs.Storing.{files-are, held-again, held-raw, held-size, length-held, slot-within}
+use Rattle.tree.proofs.Storing.{files-are, held-again, held-inode, held-raw, held-size, length-held, slot-within}
 
 abbrev pub tree : Geometry → Disk → List ℕ → Bool → FileTree
 tree g d hs f = record { files = files_of g d.blocks; block_limit = data_blocks_of g.size g.inodes; holds = hs; failed = f; failures = d.failures }
@@ -52,27 +57,70 @@ read-serves g d d' hs n at out out' f b up held (Ok k) count read same cause e =
   cause = cause;
 }
 
+-- ---- what is told of a node
+
+major-told : (raw : RawNode) (node : Node) (major : ℕ) → IsRaw raw node → major ≡ raw.major → TellsMajor major node
+major-told raw (File links bytes) major is told = tt
+major-told raw (Device links of minor) major is told = told ∙ is.device.0
+major-told raw (Directory links places) major is told = tt
+
+tells : (g : Geometry) (blocks : List (List ℕ)) (held : IsHeld g blocks) (n : ℕ) (node : Node) → slot (files_of g blocks) n ≡ Some node → (s : InodeStat) → IsTold blocks n s → Tells s node
+tells g blocks held n node here s told =
+    let is = held-raw g blocks (files_of g blocks) held n node here in
+    (told.kind ∙ is.kind, told.links ∙ is.links, told.size ∙ held-size g blocks (files_of g blocks) held n node here, major-told (node_with (inode_at blocks n) (bytes_of blocks n)) node s.major is told.major)
+
+pub tells-any : (g : Geometry) (blocks : List (List ℕ)) (held : IsHeld g blocks) (n : ℕ) (o : Option Node) → slot (files_of g blocks) n ≡ o → (told : Option InodeStat) → inode.Tells blocks g.inodes n told → TellsAny told o
+tells-any g blocks held n None here None told = tt
+tells-any g blocks held n (Some node) here None told = absurd (told (held-inode g blocks (files_of g blocks) held n node here))
+tells-any g blocks held n None here (Some s) told =
+    let used = told.0 in
+    let taken = used-slot g blocks (files_of g blocks) held n used.low (let l = length-held g blocks (files_of g blocks) held in let high = used.high in omega arith) used.kind in
+    absurd (false≢true (sym taken ∙ ap is_none here))
+tells-any g blocks held n (Some node) here (Some s) told = tells g blocks held n node here s told.1
+
 -- what a look at a node tells
 abbrev pub HasSeen : FileTree → FileTree → ℕ → InodeStat → Type 0
-HasSeen old new n s =
-    (new ≡ record old { failures = new.failures })
-    × ((node : Node) → slot old.files n ≡ Some node → (s.kind ≡ kind_of node) × (s.links ≡ links_of node) × (s.size ≡ size_of node))
+HasSeen old new n s = (new ≡ record old { failures = new.failures }) × ((node : Node) → slot old.files n ≡ Some node → Tells s node)
 
 pub stat-serves : (g : Geometry) (d d' : Disk) (hs : List ℕ) (n : ℕ) (f b : Bool) → f ≡ false → IsHeld g d.blocks → (r : Result InodeStat DeviceFault)
-    → IfOk r (λ s. s.kind ≡ (inode_at d.blocks n).kind) → IfOk r (λ s. s.links ≡ (inode_at d.blocks n).links) → IfOk r (λ s. s.size ≡ length (bytes_of d.blocks n)) → OnOk r (d'.blocks ≡ d.blocks) → HasCause d.failures d'.failures r → b ≡ is_err r
+    → IfOk r (IsTold d.blocks n) → OnOk r (d'.blocks ≡ d.blocks) → HasCause d.failures d'.failures r → b ≡ is_err r
     → Serves (tree g d hs f) (tree g d' hs b) r (HasSeen (tree g d hs f) (tree g d' hs b) n)
-stat-serves g d d' hs n f b up held (Err fault) kind links size same cause e = record { told = tt; up = tt; down = e; cause = cause }
-stat-serves g d d' hs n f b up held (Ok s) kind links size same cause e = record {
-  told = (
-    same-tree (data_blocks_of g.size g.inodes) hs d'.failures (ap (files_of g) same) (e ∙ sym up),
-    λ node here.
-        let is = held-raw g d.blocks (files_of g d.blocks) held n node here in
-        (kind ∙ is.kind, links ∙ is.links, size ∙ held-size g d.blocks (files_of g d.blocks) held n node here),
-  );
+stat-serves g d d' hs n f b up held (Err fault) told same cause e = record { told = tt; up = tt; down = e; cause = cause }
+stat-serves g d d' hs n f b up held (Ok s) told same cause e = record {
+  told = (same-tree (data_blocks_of g.size g.inodes) hs d'.failures (ap (files_of g) same) (e ∙ sym up), λ node here. tells g d.blocks held n node here s told);
   up = e;
   down = tt;
   cause = cause;
 }
+
+-- the clauses of a look at an inode as one
+pub told-all : (blocks : List (List ℕ)) (n : ℕ) (r : Result InodeStat DeviceFault) → IfOk r (λ s. s.kind ≡ (inode_at blocks n).kind) → IfOk r (λ s. s.major ≡ (inode_at blocks n).major) → IfOk r (λ s. s.links ≡ (inode_at blocks n).links) → IfOk r (λ s. s.size ≡ length (bytes_of blocks n))
+    → IfOk r (IsTold blocks n)
+told-all blocks n (Err fault) kind major links size = tt
+told-all blocks n (Ok s) kind major links size = record { kind = kind; major = major; links = links; size = size }
+
+-- what a look at any number tells
+abbrev pub HasLooked : FileTree → FileTree → ℕ → Option InodeStat → Type 0
+HasLooked old new n told = (new ≡ record old { failures = new.failures }) × TellsAny told (slot old.files n)
+
+pub look-serves : (g : Geometry) (d d' : Disk) (hs : List ℕ) (n : ℕ) (f b : Bool) → f ≡ false → IsHeld g d.blocks → (r : Result (Option InodeStat) DeviceFault)
+    → IfOk r (inode.Tells d.blocks g.inodes n) → OnOk r (d'.blocks ≡ d.blocks) → HasCause d.failures d'.failures r → b ≡ is_err r
+    → Serves (tree g d hs f) (tree g d' hs b) r (HasLooked (tree g d hs f) (tree g d' hs b) n)
+look-serves g d d' hs n f b up held (Err fault) told same cause e = record { told = tt; up = tt; down = e; cause = cause }
+look-serves g d d' hs n f b up held (Ok o) told same cause e = record {
+  told = (same-tree (data_blocks_of g.size g.inodes) hs d'.failures (ap (files_of g) same) (e ∙ sym up), tells-any g d.blocks held n (slot (files_of g d.blocks) n) refl o told);
+  up = e;
+  down = tt;
+  cause = cause;
+}
+
+-- a node was seen, and it stays
+pub seen-node : (old new : FileTree) (n : ℕ) (told : Option InodeStat) (none : Bool) → HasLooked old new n told → is_some told ≡ not none → none ≡ false → (node : Node) × (slot new.files n ≡ Some node)
+seen-node old new n None none looked is some = absurd (false≢true (is ∙ ap not some))
+seen-node old new n (Some s) none looked is some = go (slot old.files n) refl looked.1 where
+  go : (o : Option Node) → slot old.files n ≡ o → TellsAny (Some s) o → (node : Node) × (slot new.files n ≡ Some node)
+  go None here none = absurd none
+  go (Some node) here tells = (node, ap (λ (t : FileTree). slot t.files n) looked.0 ∙ here)
 
 -- a node's number is one of those that can be held
 pub held-within : {g : Geometry} {blocks : List (List ℕ)} → IsHeld g blocks → (n : ℕ) → slot (files_of g blocks) n ≢ None → (holds : List ℕ) → length holds ≡ g.inodes → n < length holds

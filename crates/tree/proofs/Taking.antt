@@ -29,7 +29,7 @@ module _ (g : Geometry) (blocks : List (List ℕ)) (files : Files) (holds : Hold
     go None here = refl
     go (Some node) here = absurd ((held-inode g blocks files holds n node here).kind e)
 
-  used-slot : (n : ℕ) → 1 ≤ n → n < length files → (inode_at blocks n).kind ≢ 0 → is_none (slot files n) ≡ false
+  pub used-slot : (n : ℕ) → 1 ≤ n → n < length files → (inode_at blocks n).kind ≢ 0 → is_none (slot files n) ≡ false
   unfolding node_at
   used-slot n low high used = go (slot files n) refl where
     raw : get_or (nodes_of blocks g.inodes) n None ≡ Some (node_with (inode_at blocks n) (bytes_of blocks n))

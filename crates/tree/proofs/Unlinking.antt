@@ -10,12 +10,12 @@ use Rattle.tree.specs.declared.place.Found.{Found}
 use Rattle.tree.specs.Held.{Holds}
 use Rattle.tree.specs.Names.{dropped, found_at, found_in, is_bare, removal}
 use Rattle.unixmodel.specs.NameCalls.{fewer_links, may_remove, removed_node, unlinked, without_name}
-use Rattle.tree.specs.Places.{places_in}
+use Rattle.imagerules.specs.Places.{places_in}
 use Rattle.tree.specs.Steps.{HasPlace}
 use Rattle.tree.specs.Unlinks.{IsNaming}
 use Rattle.unixmodel.specs.Files.{Entry, Files, Node, Spot, change_node, entry_number, erase, has_name, is_directory, is_dot_name, live_places, lookup, place_of, put, slot, without_place}
 use Rattle.unixmodel.specs.Files.Node.{Device, Directory, File}
-use Rattle.tree.proofs.Spelling.{places_in-back}
+use Rattle.imagerules.proofs.Spelling.{places_in-back}
 use Rattle.tree.proofs.Storing.{held-fits, held-inode, held-raw, slot-within}
 
 -- ---- a name among places

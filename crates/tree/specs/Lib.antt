@@ -1,4 +1,3 @@
-pub mod Places
 pub mod Held
 pub mod Names
 pub mod Steps
@@ -10,4 +9,6 @@ pub mod Entering
 pub mod Lacking
 pub mod Leaves
 pub mod Written
+pub mod Telling
 pub mod Tree
+pub mod Whole

@@ -1,11 +1,12 @@
 //! New entries of directories.
 
 ghost use Rattle.std.specs.Prelude.{◌≡◌, ◌≢◌, ◌+◌, ◌-◌, ◌*◌, ◌/◌, ◌<◌, ◌≤◌, if◌then◌else◌, All, IsSome, None, Some, [], length, nat_le, nat_lt, ℕ};
+ghost use Rattle.imagerules.specs.Places.{IsPlain};
 ghost use Rattle.layout.specs.Image.{free_blocks, taken_for};
 ghost use Rattle.names.specs.Rules.{KeepsTree};
 ghost use Rattle.tree.specs.Answers.{Answers};
 ghost use Rattle.tree.specs.Entering.{HasGap, HasRoom, entered, fresh, growth, room_in};
-ghost use Rattle.tree.specs.Held.{Holds, IsHeld, IsPlain, files_of};
+ghost use Rattle.tree.specs.Held.{Holds, IsHeld, files_of};
 ghost use Rattle.tree.specs.Lacking.{LacksGap};
 ghost use Rattle.tree.specs.Steps.{Reads, Turns};
 ghost use Rattle.unixmodel.specs.Files.{free_number, place_bytes, put, slot};

@@ -7,6 +7,7 @@ mod path;
 mod place;
 mod removing;
 mod step;
+mod sweeping;
 mod tree;
 mod writing;
 

@@ -8,7 +8,7 @@ ghost use Rattle.layout.specs.Sound.{IsSound};
 ghost use Rattle.tree.specs.Held.{IsHeld, files_of};
 ghost use Rattle.tree.specs.Entering.{room_behind, room_in};
 ghost use Rattle.tree.specs.Names.{found_in, is_bare};
-ghost use Rattle.tree.specs.Places.{place_of_bytes, places_in, without_zeros};
+ghost use Rattle.imagerules.specs.Places.{place_of_bytes, places_in, without_zeros};
 ghost use Rattle.tree.specs.Steps.{Reads};
 ghost use Rattle.unixmodel.specs.Files.{has_name, lookup, slot};
 ghost use Rattle.unixmodel.specs.Numbers.{number_at};

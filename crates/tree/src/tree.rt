@@ -1,30 +1,34 @@
 //! A file system in use.
 
-ghost use Rattle.std.specs.Prelude.{◌≡◌, ◌≢◌, All, ℕ, ◌+◌, ◌-◌, ◌<◌, ◌≤◌, ◌++◌, Some, None, IfOk, IsSome, OnOk, drop, false, length, min};
+ghost use Rattle.std.specs.Prelude.{◌≡◌, ◌≢◌, All, ℕ, ◌+◌, ◌-◌, ◌<◌, ◌≤◌, ◌++◌, Some, None, IfOk, IsSome, OnOk, drop, false, length, min, replicate};
 ghost use Rattle.blockdev.specs.Splice.{part};
 ghost use Rattle.names.specs.Rules.{KeepsTree};
 ghost use Rattle.tree.specs.Answers.{Overflows};
 ghost use Rattle.tree.specs.Entering.{folder_in, linked_in, made_files, made_in};
 ghost use Rattle.tree.specs.Held.{IsHeld, IsStored};
-ghost use Rattle.tree.specs.Holding.{holders, let_go, with_hold, without_hold};
+ghost use Rattle.tree.specs.Holding.{holders, let_go, unheld, with_hold, without_hold};
 ghost use Rattle.tree.specs.Lacking.{LacksFolder, LacksLinking, LacksMaking, LacksUnlinking};
 ghost use Rattle.tree.specs.Leaves.{leaf_node};
+ghost use Rattle.tree.specs.Telling.{Tells, TellsAny};
 ghost use Rattle.tree.specs.Tree.{Acts, Serves, has_failed, tree_over};
 ghost use Rattle.tree.specs.Unlinks.{unlinked_in};
+ghost use Rattle.tree.specs.Whole.{IsWhole};
 ghost use Rattle.tree.specs.Written.{IsFile, count_of, files_after, written};
 ghost use Rattle.unixmodel.specs.Failures.{HasCause};
 ghost use Rattle.unixmodel.specs.NameCalls.{emptied};
-ghost use Rattle.unixmodel.specs.Files.{Node, change_node, find, kind_of, links_of, node_bytes, size_of, slot};
+ghost use Rattle.unixmodel.specs.Files.{Node, change_node, find, node_bytes, slot};
+ghost use Rattle.unixmodel.specs.Shown.{bytes_or_none};
 
 use crate::TreeFault;
 use crate::making::{Leaf, create, create_directory, link};
 use crate::path::find;
 use crate::removing::unlink;
 use crate::step::{empty_file, let_go};
+use crate::sweeping::release_all;
 use crate::writing::write;
 use blockdev::{BlockDev, DeviceFault};
 use cache::Cache;
-use inode::{InodeStat, read_at, stat};
+use inode::{InodeStat, look, read_at, stat};
 use layout::Geometry;
 use std::alloc::{AllocError, Global};
 use std::marker::Model;
@@ -73,6 +77,15 @@ impl<D: BlockDev> Tree<D> {
         self.disk.device()
     }
 
+    /// A law: what the files of every disk keep, while no access of the device has failed. It runs no code.
+    #[inline]
+    pub fn is_whole(&self)
+        requires { self.now.failed ≡ false }
+        ensures { IsWhole self.now }
+    {
+        let _failed = self.failed;
+    }
+
     /// Gives up the files for their device, which gets what it lacks first. Where an access fails it isn't told what the device
     /// has.
     pub fn into_device(self) -> (D, Result<(), DeviceFault>)
@@ -96,6 +109,23 @@ impl<D: BlockDev> Tree<D> {
         result
     }
 
+    /// Reads bytes of what any number names from the place `at` on, as many as there are, and tells how many: none of a
+    /// device, and none where it names nothing.
+    pub fn read_any(
+        &mut self,
+        number: usize,
+        at: usize,
+        out: &mut [u8],
+    ) -> Result<usize, DeviceFault>
+        requires up { self.old.failed ≡ false }
+        ensures { Serves self.old self.new result (λ k. (self.new ≡ record self.old { failures = self.new.failures }) × (k ≡ min (length out.old) (length (bytes_or_none (slot self.old.files number)) - at)) × (out.new ≡ part at k (bytes_or_none (slot self.old.files number)) ++ drop k out.old)) }
+    {
+        if self.look(number)?.is_none() {
+            return Ok(0);
+        }
+        self.read(number, at, out)
+    }
+
     /// Writes bytes into a file from the place `at` on, as many as there are blocks for, and tells how many. `None` comes
     /// where the place lies past the file's end or the file would be longer than 274432 bytes; nothing is written then.
     pub fn write(
@@ -113,11 +143,21 @@ impl<D: BlockDev> Tree<D> {
         result
     }
 
-    /// Type, number of links and size of a node.
+    /// Type, major number, number of links and size of what any number names; `None` where it names nothing.
+    pub fn look(&mut self, number: usize) -> Result<Option<InodeStat>, DeviceFault>
+        requires up { self.old.failed ≡ false }
+        ensures { Serves self.old self.new result (λ told. (self.new ≡ record self.old { failures = self.new.failures }) × TellsAny told (slot self.old.files number)) }
+    {
+        let result = look(&mut self.disk, self.geometry, number);
+        self.failed = result.is_err();
+        result
+    }
+
+    /// Type, major number, number of links and size of a node.
     pub fn stat(&mut self, number: usize) -> Result<InodeStat, DeviceFault>
         requires up { self.old.failed ≡ false }
         requires node { (node : Node) × (slot self.old.files number ≡ Some node) }
-        ensures { Serves self.old self.new result (λ s. (self.new ≡ record self.old { failures = self.new.failures }) × ((node : Node) → slot self.old.files number ≡ Some node → (s.kind ≡ kind_of node) × (s.links ≡ links_of node) × (s.size ≡ size_of node))) }
+        ensures { Serves self.old self.new result (λ s. (self.new ≡ record self.old { failures = self.new.failures }) × ((node : Node) → slot self.old.files number ≡ Some node → Tells s node)) }
     {
         let result = stat(&mut self.disk, self.geometry, number);
         self.failed = result.is_err();
@@ -214,6 +254,17 @@ impl<D: BlockDev> Tree<D> {
     {
         self.holds[number] -= 1;
         let result = let_go(&mut self.disk, self.geometry, &self.holds, number);
+        self.failed = result.is_err();
+        result
+    }
+
+    /// All that held nodes let go: each node goes with its blocks that has no links.
+    pub fn release_all(&mut self) -> Result<(), DeviceFault>
+        requires up { self.old.failed ≡ false }
+        ensures { Serves self.old self.new result (λ done. self.new ≡ record self.old { files = unheld self.old.files; holds = replicate (length self.old.holds) 0; failures = self.new.failures }) }
+    {
+        self.holds.fill(0);
+        let result = release_all(&mut self.disk, self.geometry);
         self.failed = result.is_err();
         result
     }

@@ -3,7 +3,7 @@ use Rattle.std.specs.Prelude.{IsSome, nat_le}
 use Rattle.layout.specs.Image.{IsInode, bytes_of, free_blocks}
 use Rattle.tree.specs.Entering.{HasRoom, growth, room_in}
 use Rattle.tree.specs.Held.{files_of}
-use Rattle.tree.specs.Places.{places_in}
+use Rattle.imagerules.specs.Places.{places_in}
 use Rattle.unixmodel.specs.Files.{lookup, slot}
 use Rattle.tree.proofs.Answering.{Answers-fails, Answers-no, Answers-yes}
 use Rattle.tree.proofs.Gaps.{done-of, gap-full, gap-has, gap-inode, gap-lacks, gap-room, gap-used}

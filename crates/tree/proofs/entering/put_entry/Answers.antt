@@ -2,7 +2,7 @@ use Rattle.std.proofs.Common.{Err, Some, ap, arith, length, subst, ◌*◌, ◌�
 use Rattle.blockdev.specs.Splice.{splice}
 use Rattle.inode.specs.Writing.{IsFull, Wrote}
 use Rattle.layout.specs.Image.{bytes_of}
-use Rattle.tree.proofs.Spelling.{length-place_bytes}
+use Rattle.imagerules.proofs.Spelling.{length-place_bytes}
 use Rattle.tree.specs.Held.{files_of}
 use Rattle.tree.proofs.Placing.{Holds-entered, never-lacks, place-high, place-low, room-inode}
 use Rattle.tree.proofs.entering.put_entry.Goals as goal

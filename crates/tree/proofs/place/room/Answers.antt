@@ -4,11 +4,11 @@ use Rattle.std.proofs.lemmas.Bool.{cases_lt}
 use Rattle.std.proofs.lemmas.Result.{err_from_is_err_and}
 use Rattle.blockdev.specs.Splice.{part}
 use Rattle.layout.specs.Image.{bytes_of}
-use Rattle.tree.specs.Places.{places_in}
+use Rattle.imagerules.specs.Places.{places_in}
 use Rattle.unixmodel.specs.Files.{slot}
 use Rattle.tree.proofs.Reading.{Reads-fails, Reads-good, place-free, place-is, place-taken, read-later, read-same, read-told}
 use Rattle.tree.proofs.Rooms.{room-end, room-free}
-use Rattle.tree.proofs.Spelling.{length-places_in}
+use Rattle.imagerules.proofs.Spelling.{length-places_in}
 use Rattle.tree.proofs.place.room.Goals as goal
 
 pub returns-in_err-bytes : goal.returns-in_err-bytes

@@ -1,7 +1,7 @@
 use Rattle.std.proofs.Common.{◌≡◌, ◌-◌, ◌<◌, ◌≤◌, ℕ, true}
 use Rattle.std.specs.Prelude.{is_some}
 use Rattle.layout.specs.Image.{bytes_of}
-use Rattle.tree.specs.Places.{places_in}
+use Rattle.imagerules.specs.Places.{places_in}
 use Rattle.unixmodel.specs.Files.{slot}
 use Rattle.tree.proofs.place.room.Given as goal
 

@@ -1,0 +1,14 @@
+-- What the files of every disk keep.
+use Rattle.std.specs.Prelude.{None, length, ℕ, ◌<◌, ◌≡◌, ◌≢◌, ◌≤◌}
+use Rattle.tree.specs.Held.{FitsPlaces}
+use Rattle.tree.specs.Tree.{FileTree}
+use Rattle.unixmodel.specs.Counts.{blocks_of}
+use Rattle.unixmodel.specs.Files.{slot}
+
+-- number 0 is none of them, there are blocks for them, the places of a directory have 16 bytes each, and each can be held
+pub record IsWhole (t : FileTree) : Type 0 where
+  pub zero : slot t.files 0 ≡ None
+  pub within : blocks_of t.files ≤ t.block_limit
+  pub places : (n : ℕ) → FitsPlaces (slot t.files n)
+  -- the number of each is one of those that can be held
+  pub numbers : (n : ℕ) → slot t.files n ≢ None → (n < length t.holds) × (n < 8192)
