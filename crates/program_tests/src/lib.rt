@@ -1,0 +1,5 @@
+//! Programs and their arguments on worked rows, through the public calls.
+#![tactic(auto)]
+
+#[cfg(test)]
+mod arguments;

@@ -1,0 +1,171 @@
+-- A program in the place of another.
+use Rattle.std.proofs.Common.{ap, arith, length, length-append, refl, subst, sym, ℕ, ◌*◌, ◌++◌, ◌+◌, ◌-◌, ◌<◌, ◌≤◌, ◌∙◌, ◌≡◌, ◌∷◌, [], Bool, true, false, List, None, Ok, Option, Some}
+use Rattle.std.specs.List.{flat_map}
+use Rattle.std.specs.Prelude.{if◌then◌else◌, nat_le, option_and_then, option_map}
+use Rattle.std.proofs.lemmas.Option.{none-some, same_Some}
+use Rattle.programs.specs.declared.arguments.Arguments.{Arguments}
+use Rattle.programs.specs.declared.executing.Started.{Started}
+use Rattle.programs.specs.declared.headers.Program.{Program}
+use Rattle.programs.specs.Executed.{IsExecuted, frames_beside, plan_at}
+use Rattle.programs.specs.Headed.{file_at, program_in}
+use Rattle.programs.specs.Passed.{Passes, plan_with, stacked}
+use Rattle.programs.specs.Placed.{paged}
+use Rattle.programs.proofs.Headings.{TellsProgram}
+use Rattle.programs.proofs.Loads.{IsProgram, is-program}
+use Rattle.programs.proofs.Places.{has-same, length-write, space-within}
+use Rattle.unixmodel.specs.Shown.{bytes_or_none}
+use Rattle.spaces.specs.Spaces.{Held, Spaces, has_space, held_at, taken_frames, with_held}
+use Rattle.spaces.proofs.SpacesLemmas.{held-same}
+use Rattle.tree.specs.Tree.{FileTree, Serves}
+use Rattle.tree.specs.Written.{IsFile}
+use Rattle.unixmodel.specs.Counts.{page_frames}
+use Rattle.unixmodel.specs.Files.{Files, Node, slot}
+use Rattle.unixmodel.specs.Files.Node.{Device, Directory, File}
+use Rattle.unixmodel.specs.Memory.{Memory, zero_page}
+use Rattle.unixmodel.specs.Numbers.{le, number_at, round_down}
+use Rattle.unixmodel.specs.Plan.{Loaded, Plan, Stack, loaded_of, plan, push, push_pointers, push_strings, stack_marks, with_args, with_stack}
+use Rattle.unixmodel.specs.ProcessCalls.{args_at, file_bytes}
+
+-- ---- how many pages a plan has
+
+push-long : (s : Stack) (bytes : List ℕ) → length (push s bytes).memory ≡ length s.memory
+unfolding push
+push-long s bytes = length-write s.memory (round_down (s.sp - length bytes) 16) bytes
+
+strings-long : (s : Stack) (args : List (List ℕ)) → length (push_strings s args).memory ≡ length s.memory
+unfolding push_strings
+strings-long s [] = refl
+strings-long s (x ∷ xs) = strings-long (push s (x ++ 0 ∷ [])) xs ∙ push-long s (x ++ 0 ∷ [])
+
+pointers-long : (s : Stack) → length (push_pointers s).memory ≡ length s.memory
+unfolding push_pointers
+pointers-long s = push-long s (flat_map (le 8) s.pointers ++ le 8 0)
+
+if-finished : (b : Bool) (p new : Plan) → (if b then Some p else None) ≡ Some new → length new.memory ≡ length p.memory
+if-finished true p new is = ap (λ (x : Plan). length x.memory) (sym (same_Some p new is))
+if-finished false p new is = absurd (none-some new is)
+
+args-long : (pages : Memory) (pc : ℕ) (args : List (List ℕ)) (new : Plan) → with_args pages pc args ≡ Some new → length new.memory ≡ length pages + 2
+unfolding with_args with_stack
+args-long pages pc args new is =
+    let size = 4096 * (length pages + 2) in
+    let stack : Stack = record { memory = pages ++ zero_page (stack_marks false) ∷ zero_page (stack_marks true) ∷ []; sp = size; pointers = [] } in
+    let last = push_pointers (push_strings stack args) in
+    if-finished (nat_le (size - 4096) last.sp) (record { memory = last.memory; size = size; pc = pc; argc = length args; sp = last.sp }) new is
+    ∙ pointers-long (push_strings stack args)
+    ∙ strings-long stack args
+    ∙ length-append pages (zero_page (stack_marks false) ∷ zero_page (stack_marks true) ∷ [])
+
+-- ---- the plan of a program
+
+module _ (file : List ℕ) where
+  no-plan : program_in file ≡ None → (o : Option (List (List ℕ))) → option_and_then (plan file) o ≡ None
+  unfolding plan
+  no-plan none None = refl
+  no-plan none (Some args) = ap (option_and_then (λ (l : Loaded). with_args l.pages (round_down (number_at 8 24 file) 4) args)) (not-loaded (loaded_of file) none) where
+    not-loaded : (o : Option Loaded) → option_map (λ (l : Loaded). let p : Program = record { header = record { entry = round_down (number_at 8 24 file) 4; program_headers = number_at 8 32 file; count = number_at 2 56 file }; pages = length l.pages } in p) o ≡ None → o ≡ None
+    not-loaded None e = refl
+    not-loaded (Some l) e = absurd (none-some _ (sym e))
+
+  module _ (program : Program) (is : IsProgram file program) where
+    plan-is : (o : Option (List (List ℕ))) → option_and_then (plan file) o ≡ option_and_then (with_args is.loaded.pages program.header.entry) o
+    unfolding plan
+    plan-is None = refl
+    plan-is (Some args) =
+        ap (option_and_then (λ (l : Loaded). with_args l.pages (round_down (number_at 8 24 file) 4) args)) is.is
+        ∙ ap (λ pc. with_args is.loaded.pages pc args) (sym (ap (λ h. h.entry) is.read))
+
+    plan-passed : (mem : Memory) (argv : ℕ) (told : Option Arguments) → Passes mem argv program.pages told → option_and_then (plan file) (args_at mem argv) ≡ option_map (plan_with is.loaded.pages program.header.entry) told
+    plan-passed mem argv told passes = plan-is (args_at mem argv) ∙ passes is.loaded.pages program.header.entry is.pages
+
+    plan-long : (o : Option (List (List ℕ))) (new : Plan) → option_and_then (plan file) o ≡ Some new → length new.memory ≡ program.pages + 2
+    plan-long o new some = go o (sym (plan-is o) ∙ some) where
+      go : (o : Option (List (List ℕ))) → option_and_then (with_args is.loaded.pages program.header.entry) o ≡ Some new → length new.memory ≡ program.pages + 2
+      go None e = absurd (none-some new e)
+      go (Some args) e = args-long is.loaded.pages program.header.entry args new e ∙ ap (λ n. n + 2) is.pages
+
+-- ---- the file
+
+-- a number is that of a file with these bytes
+pub record Has (files : Files) (n : ℕ) (file : List ℕ) : Type 0 where
+  pub links : ℕ
+  pub here : slot files n ≡ Some (File links file)
+
+has-file : (files : Files) (n : ℕ) (file : List ℕ) → file_bytes (slot files n) ≡ Some file → Has files n file
+has-file files n file some = go (slot files n) refl some where
+  go : (o : Option Node) → slot files n ≡ o → file_bytes o ≡ Some file → Has files n file
+  go None e is = absurd (none-some file is)
+  go (Some (File links bytes)) e is = record { links = links; here = e ∙ ap (λ b. Some (File links b)) (same_Some bytes file is) }
+  go (Some (Device links major minor)) e is = absurd (none-some file is)
+  go (Some (Directory links places)) e is = absurd (none-some file is)
+
+-- what a program was told of
+pub record IsOf (files : Files) (n : ℕ) (program : Program) : Type 0 where
+  pub file : List ℕ
+  pub bytes : file_bytes (slot files n) ≡ Some file
+  pub has : Has files n file
+  pub is : IsProgram file program
+
+module _ {old mid : FileTree} (number : ℕ) {told : Option Program} (serves : Serves old mid (Ok told) (TellsProgram old mid (option_and_then program_in (file_bytes (slot old.files number))))) where
+  pub program-none : told ≡ None → (mem : Memory) (argv : ℕ) → plan_at old.files number mem argv ≡ None
+  program-none none mem argv = go (file_bytes (slot old.files number)) (sym serves.told.0.value ∙ none) where
+    go : (o : Option (List ℕ)) → option_and_then program_in o ≡ None → option_and_then (λ file. option_and_then (plan file) (args_at mem argv)) o ≡ None
+    go None e = refl
+    go (Some file) e = no-plan file e (args_at mem argv)
+
+  pub program-of : {program : Program} → told ≡ Some program → IsOf old.files number program
+  program-of {program} some = go (file_bytes (slot old.files number)) refl (sym serves.told.0.value ∙ some) where
+    go : (o : Option (List ℕ)) → file_bytes (slot old.files number) ≡ o → option_and_then program_in o ≡ Some program → IsOf old.files number program
+    go None e is = absurd (none-some program is)
+    go (Some file) e is = record { file = file; bytes = e; has = has-file old.files number file e; is = is-program file program is }
+
+  module _ {program : Program} (of : IsOf old.files number program) where
+    pub file-there : IsFile mid.files number
+    file-there = record { links = of.has.links; bytes = of.file; here = ap (λ (t : FileTree). slot t.files number) serves.told.0.same ∙ of.has.here }
+
+    pub loaded-there : loaded_of (file_at mid.files number) ≡ Some of.is.loaded
+    loaded-there =
+        ap (λ (t : FileTree). loaded_of (file_at t.files number)) serves.told.0.same
+        ∙ ap (λ o. loaded_of (bytes_or_none o)) of.has.here
+        ∙ of.is.is
+
+planned : {files : Files} {n : ℕ} {program : Program} (of : IsOf files n program) (mem : Memory) (argv : ℕ) → plan_at files n mem argv ≡ option_and_then (plan of.file) (args_at mem argv)
+planned of mem argv = ap (option_and_then (λ file. option_and_then (plan file) (args_at mem argv))) of.bytes
+
+module _ {files : Files} {n : ℕ} {program : Program} (of : IsOf files n program) (s : Spaces) (at argv : ℕ) where
+  abbrev mem : Memory
+  mem = (held_at s at).memory
+
+  -- the frames don't suffice
+  pub over-frames : (frames free : ℕ) → frames ≡ 3 + page_frames (program.pages + 2) → free + taken_frames s ≡ s.frames → free < frames → (p : Plan) → plan_at files n mem argv ≡ Some p → s.frames < frames_beside s p
+  over-frames frames free are left over p is =
+      let long : length p.memory ≡ program.pages + 2 = plan-long of.file program of.is (args_at mem argv) p (sym (planned of mem argv) ∙ is) in
+      subst (λ k. s.frames < taken_frames s + 3 + page_frames k) (sym long) (omega (arith, are, left, over))
+
+  -- the arguments can't be given
+  pub not-passed : Passes mem argv program.pages None → (p : Plan) → plan_at files n mem argv ≡ Some p → s.frames < frames_beside s p
+  not-passed passes p is = absurd (none-some p (sym (planned of mem argv ∙ plan-passed of.file program of.is mem argv None passes) ∙ is))
+
+  long-stack : (page : List ℕ) → length (stacked of.is.loaded.pages page) ≡ length of.is.loaded.pages + 2
+  long-stack page = length-append of.is.loaded.pages (zero_page (stack_marks false) ∷ record { bytes = page; marks = stack_marks true } ∷ [])
+
+  -- it is executed
+  pub is-executed : (new : Spaces) (a : Arguments) (size frames free : ℕ) → has_space s at ≡ true → Passes mem argv program.pages (Some a) → frames ≡ 3 + page_frames (program.pages + 2) → free + taken_frames s ≡ s.frames → frames ≤ free
+      → new ≡ with_held s at (paged (stacked of.is.loaded.pages a.page)) → size ≡ (held_at new at).size
+      → IsExecuted (plan_at files n mem argv) s new at (record { pc = program.header.entry; count = a.count; sp = a.sp; size = size })
+  is-executed new a size frames free has passes are left enough put told =
+      let pages = of.is.loaded.pages in
+      let long : length (stacked pages a.page) ≡ program.pages + 2 = long-stack a.page ∙ ap (λ k. k + 2) of.is.pages in
+      let whole : 4096 * length (stacked pages a.page) ≡ 4096 * (length pages + 2) = ap (λ k. 4096 * k) (long-stack a.page) in
+      let shown : size ≡ 4096 * (length pages + 2) =
+      told ∙ ap (λ (k : Spaces). (held_at k at).size) put ∙ ap (λ (h : Held). h.size) (held-same s at (paged (stacked pages a.page)) (space-within s at has)) ∙ whole in
+      record {
+        plan = plan_with pages program.header.entry a;
+        is = planned of mem argv ∙ plan-passed of.file program of.is mem argv (Some a) passes;
+        fits = subst (λ k. taken_frames s + 3 + page_frames k ≤ s.frames) (sym long) (omega (arith, are, left, enough));
+        held = put ∙ ap (λ k. with_held s at (let h : Held = record { memory = stacked pages a.page; size = k } in h)) whole;
+        started = ap (λ k. let t : Started = record { pc = program.header.entry; count = a.count; sp = a.sp; size = k } in t) shown;
+      }
+
+  pub has-new : (new : Spaces) (h : Held) → has_space s at ≡ true → new ≡ with_held s at h → has_space new at ≡ true
+  has-new new h has put = ap (λ (k : Spaces). has_space k at) put ∙ has-same s at h has

@@ -1,0 +1,6 @@
+pub mod Executions
+pub mod Headings
+pub mod Loads
+pub mod Places
+pub mod Stacks
+pub mod Singles

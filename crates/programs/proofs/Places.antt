@@ -1,0 +1,282 @@
+-- The pages of a place, as a program comes into them.
+use Rattle.std.proofs.Common.{ap, append-nil, append_assoc, arith, drop, get_or-set_same, None, Ok, Option, Some, List, slice_set, length, length-append, refl, replicate, subst, sym, take, ℕ, zero, suc, ◌%◌, ◌*◌, ◌++◌, ◌+◌, ◌-◌, ◌/◌, ◌<◌, ◌∙◌, ◌≡◌, ◌≤◌, ◌∷◌, [], Bool, true, false}
+use Rattle.std.specs.Prelude.{Err, OnErr, OnOk, Result, unwrap_or, if◌then◌else◌, is_some}
+use Rattle.std.proofs.lemmas.Bool.{lt-ltb}
+use Rattle.std.proofs.lemmas.Bool.Decides.{nat_tests}
+use Rattle.std.proofs.Math.Nat.{zero-add}
+use Rattle.std.proofs.lemmas.List.{drop-replicate, drop_all, drop_at, replicate-append-replicate, set-get_or, take_at, drop-drop, length-drop, length-replicate, length-take, length-take-le, set-set}
+use Rattle.std.proofs.Math.Seq.{take-add}
+use Rattle.blockdev.specs.Splice.{part}
+use Rattle.elf.specs.declared.LoadSegment.{LoadSegment}
+use Rattle.elf.specs.Headers.{is_within, segment_shown}
+use Rattle.blockdev.specs.declared.DeviceFault.{DeviceFault}
+use Rattle.programs.specs.Passed.{stacked}
+use Rattle.programs.proofs.Stacks.{write-stack}
+use Rattle.programs.specs.Headed.{file_at}
+use Rattle.programs.specs.Placed.{Follows, HasRoom, Leaves, paged}
+use Rattle.spaces.specs.Spaces.{Held, Spaces, has_space, held_at, no_pages, taken_frames, with_held, written}
+use Rattle.spaces.proofs.SpacesLemmas.{held-same, within}
+use Rattle.transfers.specs.Moved.{with_bytes}
+use Rattle.transfers.proofs.Pieces.{none-written, with-more}
+use Rattle.tree.specs.Tree.{FileTree, Serves}
+use Rattle.unixmodel.specs.Counts.{page_frames}
+use Rattle.unixmodel.specs.Files.{slot}
+use Rattle.unixmodel.specs.Memory.{Marks, Memory, Page, overwrite, pages_of, write_bytes, write_from, zero_page, zeros}
+use Rattle.unixmodel.specs.Numbers.{ceil_div}
+use Rattle.unixmodel.specs.Plan.{Segment, segment_marks, segment_pages, stack_marks}
+use Rattle.vm.specs.Reach.{IsSized}
+
+-- ---- frames
+
+suc-frames : (n : ℕ) → page_frames (suc n) ≡ suc n + ceil_div (suc n) 512 + 1
+suc-frames n = ap (λ (b : Bool). suc n + ceil_div (suc n) 512 + (if b then 1 else 0)) (lt-ltb 0 (suc n) (omega arith))
+
+pub page_frames-more : (a b : ℕ) → a ≤ b → page_frames a ≤ page_frames b
+page_frames-more zero b less = omega arith
+page_frames-more (suc a) zero less = absurd (omega arith)
+page_frames-more (suc a) (suc b) less = rw (suc-frames a, suc-frames b) (omega (arith, less))
+
+-- what has room for more has room for less
+pub room-less : (s : Spaces) (at a b : ℕ) → a ≤ b → HasRoom s at b → HasRoom s at a
+room-less s at a b less room = omega (arith, room, page_frames-more a b less)
+
+-- what the place holds doesn't count
+pub room-with : (s : Spaces) (at n : ℕ) (h : Held) → HasRoom s at n → HasRoom (with_held s at h) at n
+room-with s at n h room =
+    subst (λ (ps : List (Option Held)). taken_frames (record s { places = ps }) + 4 + page_frames n ≤ s.frames) (sym (set-set s.places at (Some h) None)) room
+
+stands-within : (s : Spaces) (at : ℕ) (o : Option Held) → slot s.places at ≡ o → is_some o ≡ true → at < length s.places
+stands-within s at None e some = absurd (cc)
+stands-within s at (Some h) e some = within s.places at h e
+
+pub space-within : (s : Spaces) (at : ℕ) → has_space s at ≡ true → at < length s.places
+space-within s at has = stands-within s at (slot s.places at) refl has
+
+-- ---- bytes of a file
+
+length-write_from : (ps : List Page) (at : ℕ) (bytes : List ℕ) → length (write_from ps at bytes) ≡ length ps
+length-write_from [] at bytes = refl
+length-write_from (p ∷ ps) at [] = refl
+length-write_from (p ∷ ps) at (b ∷ bs) = ap suc (length-write_from ps 0 (drop (4096 - at) (b ∷ bs)))
+
+pub length-write : (mem : Memory) (at : ℕ) (bytes : List ℕ) → length (write_bytes mem at bytes) ≡ length mem
+unfolding write_bytes
+length-write mem at bytes =
+    length-append (take (at / 4096) mem) (write_from (drop (at / 4096) mem) (at % 4096) bytes)
+    ∙ omega (arith, length-write_from (drop (at / 4096) mem) (at % 4096) bytes, length-take (at / 4096) mem, length-drop (at / 4096) mem)
+
+-- the bytes of the file so far are in the pages
+pub record HasFilled (old now : FileTree) (before after : Spaces) (at number offset address count done : ℕ) : Type 0 where
+  pub same : now ≡ record old { failures = now.failures }
+  pub up : now.failed ≡ false
+  pub later : old.failures ≤ now.failures
+  pub within : done ≤ count
+  pub bytes : after ≡ with_bytes before at address (part offset done (file_at old.files number))
+
+pub none-filled : (tree : FileTree) (s : Spaces) (at number offset address count : ℕ) → tree.failed ≡ false → has_space s at ≡ true → HasFilled tree tree s s at number offset address count 0
+none-filled tree s at number offset address count up has = record { same = refl; up = up; later = omega arith; within = omega arith; bytes = none-written s at address has }
+
+pub part-more : (bytes : List ℕ) (offset done size : ℕ) → part offset done bytes ++ part (offset + done) size bytes ≡ part offset (done + size) bytes
+part-more bytes offset done size =
+    ap (λ l. take done (drop offset bytes) ++ take size l) (sym (drop-drop done offset bytes)) ∙ sym (take-add done size (drop offset bytes))
+
+-- the pieces are in the file
+pub piece-within : (offset count len done size : ℕ) → is_within offset count len ≡ true → done < count → done + size ≤ count → offset + done + size ≤ len
+piece-within offset count len done size within more fits = grind (arith, nat_tests, within, more, fits)
+
+-- as many as were asked for
+length-part : (bytes : List ℕ) (offset count done : ℕ) → is_within offset count (length bytes) ≡ true → done ≤ count → length (part offset done bytes) ≡ done
+length-part bytes offset count done fits low = length-take-le done (drop offset bytes) (rest-long done low) where
+  rest-long : (done : ℕ) → done ≤ count → done ≤ length (drop offset bytes)
+  rest-long zero low = omega arith
+  rest-long (suc d) low = let all : offset + d + 1 ≤ length bytes = piece-within offset count (length bytes) d 1 fits (omega (arith, low)) (omega (arith, low)) in omega (arith, all, length-drop offset bytes)
+
+module _ {old now : FileTree} {before after : Spaces} {at number offset address count done : ℕ} (has : HasFilled old now before after at number offset address count done) (space : has_space before at ≡ true) where
+  pages-stay : length (held_at after at).memory ≡ length (held_at before at).memory
+  pages-stay =
+      let bytes = part offset done (file_at old.files number) in
+      ap (λ (s : Spaces). length (held_at s at).memory) has.bytes
+      ∙ ap (λ (h : Held). length h.memory) (held-same before at (written (held_at before at) address bytes) (space-within before at space))
+      ∙ length-write (held_at before at).memory address bytes
+
+  pub filled-inside : (l : ℕ) → address + count ≤ 4096 * length (held_at before at).memory → done + l ≤ count → address + done + l ≤ 4096 * length (held_at after at).memory
+  filled-inside l inside fits = omega (arith, inside, fits, pages-stay)
+
+  pub filled-more : {next : FileTree} {more : Spaces} (l size : ℕ) → l ≡ size → done + l ≤ count → IsSized (held_at before at).memory → is_within offset count (length (file_at old.files number)) ≡ true
+      → Serves {T = Unit {0}} now next (Ok tt) (Leaves now next) → more ≡ with_bytes after at (address + done) (part (offset + done) l (file_at now.files number))
+      → HasFilled old next before more at number offset address count (done + size)
+  filled-more {next} {more} l size is fits sized within serves put =
+      let whole = file_at old.files number in
+      let bytes = part offset done whole in
+      let was = has.later in
+      let later = serves.cause.later in
+      let long : length bytes ≡ done = length-part whole offset count done within has.within in
+      record {
+        same = serves.told ∙ ap (λ (t : FileTree). record t { failures = next.failures }) has.same;
+        up = serves.up;
+        later = omega (arith, was, later);
+        within = omega (arith, is, fits);
+        bytes = put
+            ∙ ap (λ (t : FileTree). with_bytes after at (address + done) (part (offset + done) l (file_at t.files number))) has.same
+            ∙ ap (λ (s : Spaces). with_bytes s at (address + done) (part (offset + done) l whole)) has.bytes
+            ∙ ap (λ n. with_bytes (with_bytes before at address bytes) at (address + n) (part (offset + done) l whole)) (sym long)
+            ∙ with-more before at address space bytes (part (offset + done) l whole) sized
+            ∙ ap (with_bytes before at address) (part-more whole offset done l)
+            ∙ ap (λ n. with_bytes before at address (part offset (done + n) whole)) is;
+      }
+
+-- ---- a segment
+
+write-behind : (xs ys : Memory) (bytes : List ℕ) → write_bytes (xs ++ ys) (4096 * length xs) bytes ≡ xs ++ write_bytes ys 0 bytes
+unfolding write_bytes
+write-behind xs ys bytes =
+    let page : 4096 * length xs / 4096 ≡ length xs = omega arith in
+    let from : 4096 * length xs % 4096 ≡ 0 = omega arith in
+    let front : take (length xs) (xs ++ ys) ≡ xs = take_at xs ys (length xs) refl in
+    let back : drop (length xs) (xs ++ ys) ≡ ys = drop_at xs ys (length xs) refl in
+    rw (page, from, front, back) refl
+
+first-page : (bytes : List ℕ) → overwrite (zeros 4096) 0 (take 4096 bytes) ≡ take 4096 bytes ++ zeros (4096 - length bytes)
+unfolding zeros
+first-page bytes =
+    let short : 4096 - length (take 4096 bytes) ≡ 4096 - length bytes = omega (arith, length-take 4096 bytes) in
+    ap (λ n. take 4096 bytes ++ drop n (zeros 4096)) (zero-add (length (take 4096 bytes)))
+    ∙ ap (λ rest. take 4096 bytes ++ rest) (drop-replicate (length (take 4096 bytes)) 4096 0 ∙ ap zeros short)
+
+empty-pages : (marks : Marks) (n : ℕ) → replicate n (zero_page marks) ≡ pages_of marks n []
+unfolding pages_of
+empty-pages marks zero = refl
+empty-pages marks (suc n) = ap (λ ps. zero_page marks ∷ ps) (empty-pages marks n)
+
+-- bytes written over pages of zeros
+filled-from : (marks : Marks) (n : ℕ) (bytes : List ℕ) → write_from (replicate n (zero_page marks)) 0 bytes ≡ pages_of marks n bytes
+unfolding pages_of
+filled-from marks zero bytes = refl
+filled-from marks (suc n) [] = empty-pages marks (suc n)
+filled-from marks (suc n) (b ∷ bs) =
+    let page : Page = record { bytes = take 4096 (b ∷ bs) ++ zeros (4096 - length (b ∷ bs)); marks = marks } in
+    ap (λ front. let p : Page = record { bytes = front; marks = marks } in p ∷ write_from (replicate n (zero_page marks)) 0 (drop 4096 (b ∷ bs))) (first-page (b ∷ bs))
+    ∙ ap (λ ps. page ∷ ps) (filled-from marks n (drop 4096 (b ∷ bs)))
+
+filled : (marks : Marks) (n : ℕ) (bytes : List ℕ) → write_bytes (replicate n (zero_page marks)) 0 bytes ≡ pages_of marks n bytes
+unfolding write_bytes
+filled marks n bytes = filled-from marks n bytes
+
+segment-filled : (file : List ℕ) (mem : Memory) (g : Segment) → g.address % 4096 ≡ 0 → 4096 * length mem ≤ g.address
+    → write_bytes (mem ++ replicate (ceil_div (g.address + g.size) 4096 - length mem) (zero_page (segment_marks g))) g.address (part g.offset g.file_size file) ≡ mem ++ segment_pages file (length mem) g
+unfolding segment_pages
+segment-filled file mem g aligned after =
+    let z = zero_page (segment_marks g) in
+    let gap = g.address / 4096 - length mem in
+    let count = ceil_div g.size 4096 in
+    let bytes = part g.offset g.file_size file in
+    let all : ceil_div (g.address + g.size) 4096 - length mem ≡ gap + count = omega (arith, aligned, after) in
+    let front : length (mem ++ replicate gap z) ≡ g.address / 4096 = omega (arith, length-append mem (replicate gap z), length-replicate gap z, aligned, after) in
+    let place : g.address ≡ 4096 * length (mem ++ replicate gap z) = omega (arith, front, aligned) in
+    let taken : g.file_size ≡ g.offset + g.file_size - g.offset = omega arith in
+    ap (λ n. write_bytes (mem ++ replicate n z) g.address bytes) all
+    ∙ ap (λ ps. write_bytes (mem ++ ps) g.address bytes) (sym (replicate-append-replicate gap count z))
+    ∙ ap (λ ps. write_bytes ps g.address bytes) (sym (append_assoc mem (replicate gap z) (replicate count z)))
+    ∙ ap (λ a. write_bytes ((mem ++ replicate gap z) ++ replicate count z) a bytes) place
+    ∙ write-behind (mem ++ replicate gap z) (replicate count z) bytes
+    ∙ ap (λ ps. (mem ++ replicate gap z) ++ ps) (filled (segment_marks g) count bytes)
+    ∙ append_assoc mem (replicate gap z) (pages_of (segment_marks g) count bytes)
+    ∙ ap (λ n. mem ++ (replicate gap z ++ pages_of (segment_marks g) count (take n (drop g.offset file)))) taken
+
+-- ---- a place
+
+pub has-same : (s : Spaces) (at : ℕ) (h : Held) → has_space s at ≡ true → has_space (with_held s at h) at ≡ true
+has-same s at h has = ap is_some (get_or-set_same s.places at (Some h) None (space-within s at has))
+
+-- what comes last stays
+pub held-twice : (s : Spaces) (at : ℕ) (a b : Held) → with_held (with_held s at a) at b ≡ with_held s at b
+held-twice s at a b = ap (λ (ps : List (Option Held)). record s { places = ps }) (set-set s.places at (Some a) (Some b))
+
+some-held : (o : Option Held) → is_some o ≡ true → o ≡ Some (unwrap_or o no_pages)
+some-held None some = absurd (cc)
+some-held (Some h) some = refl
+
+-- a place that has what it had
+pub self-held : (s : Spaces) (at : ℕ) → has_space s at ≡ true → s ≡ with_held s at (held_at s at)
+self-held s at has =
+    ap (λ (ps : List (Option Held)). record s { places = ps })
+    (sym (ap (λ (o : Option Held). slice_set s.places at o) (sym (some-held (slot s.places at) has)) ∙ set-get_or s.places at None))
+
+-- bytes that are written into pages
+pub with-written : (s : Spaces) (at : ℕ) (m : Memory) (address : ℕ) (bytes : List ℕ) → has_space s at ≡ true → with_bytes (with_held s at (paged m)) at address bytes ≡ with_held s at (paged (write_bytes m address bytes))
+with-written s at m address bytes has =
+    ap (λ (h : Held). with_held (with_held s at (paged m)) at (written h address bytes)) (held-same s at (paged m) (space-within s at has))
+    ∙ held-twice s at (paged m) (written (paged m) address bytes)
+    ∙ ap (λ n. with_held s at (let h : Held = record { memory = write_bytes m address bytes; size = 4096 * n } in h)) (sym (length-write m address bytes))
+
+-- a failure leaves some space
+pub still-held : {A : Type 0} (s s1 s2 : Spaces) (at : ℕ) (h : Held) (r : Result A DeviceFault) → s1 ≡ with_held s at h → OnErr r ((x : Held) × (s2 ≡ with_held s1 at x)) → OnErr r ((x : Held) × (s2 ≡ with_held s at x))
+still-held s s1 s2 at h (Ok done) before failed = tt
+still-held s s1 s2 at h (Err fault) before failed = (failed.0, failed.1 ∙ ap (λ (k : Spaces). with_held k at failed.0) before ∙ held-twice s at h failed.0)
+
+-- in two steps
+pub failed-held : {A : Type 0} (s s1 s2 : Spaces) (at : ℕ) (h : Held) (r : Result A DeviceFault) → s1 ≡ with_held s at h → (x : Held) × (s2 ≡ with_held s1 at x) → OnErr r ((x : Held) × (s2 ≡ with_held s at x))
+failed-held s s1 s2 at h (Ok done) before failed = tt
+failed-held s s1 s2 at h (Err fault) before failed = (failed.0, failed.1 ∙ ap (λ (k : Spaces). with_held k at failed.0) before ∙ held-twice s at h failed.0)
+
+pub held-still : {A : Type 0} (s : Spaces) (at : ℕ) (r : Result A DeviceFault) → has_space s at ≡ true → OnErr r ((x : Held) × (s ≡ with_held s at x))
+held-still s at (Ok done) has = tt
+held-still s at (Err fault) has = (held_at s at, self-held s at has)
+
+-- ---- a segment in a place
+
+segment-in : (s s1 s2 : Spaces) (at : ℕ) (file : List ℕ) (mem : Memory) (count : ℕ) (g : Segment) → has_space s at ≡ true → g.address % 4096 ≡ 0 → 4096 * length mem ≤ g.address → count ≡ ceil_div (g.address + g.size) 4096 - length mem
+    → s1 ≡ with_held s at (paged (mem ++ replicate count (zero_page (segment_marks g)))) → s2 ≡ with_bytes s1 at g.address (part g.offset g.file_size file) → s2 ≡ with_held s at (paged (mem ++ segment_pages file (length mem) g))
+segment-in s s1 s2 at file mem count g has aligned after is added put =
+    put
+    ∙ ap (λ (k : Spaces). with_bytes k at g.address (part g.offset g.file_size file)) (added ∙ ap (λ n. with_held s at (paged (mem ++ replicate n (zero_page (segment_marks g))))) is)
+    ∙ with-written s at (mem ++ replicate (ceil_div (g.address + g.size) 4096 - length mem) (zero_page (segment_marks g))) g.address (part g.offset g.file_size file) has
+    ∙ ap (λ (m : Memory). with_held s at (paged m)) (segment-filled file mem g aligned after)
+
+abbrev marks_of : LoadSegment → Marks
+marks_of g = record { writable = g.writable; executable = g.executable; user = true }
+
+pub segment-loaded : (s s1 s2 : Spaces) (at : ℕ) (file : List ℕ) (mem : Memory) (count : ℕ) (shown : LoadSegment) → has_space s at ≡ true → Follows (length file) (length mem) shown → count ≡ ceil_div (shown.address + shown.size) 4096 - length mem
+    → s1 ≡ with_held s at (paged (mem ++ replicate count (zero_page (marks_of shown)))) → (r : Result (Unit {0}) DeviceFault) → OnOk r (s2 ≡ with_bytes s1 at shown.address (part shown.offset shown.file_size file))
+    → OnOk r ((g : Segment) → shown ≡ segment_shown g → s2 ≡ with_held s at (paged (mem ++ segment_pages file (length mem) g)))
+segment-loaded s s1 s2 at file mem count shown has follows is added (Err fault) put = tt
+segment-loaded s s1 s2 at file mem count shown has follows is added (Ok done) put = λ g same.
+    let aligned : g.address % 4096 ≡ 0 = ap (λ (x : LoadSegment). x.address % 4096) (sym same) ∙ follows.aligned in
+    let after : 4096 * length mem ≤ g.address = subst (λ (x : LoadSegment). 4096 * length mem ≤ x.address) same follows.after in
+    segment-in s s1 s2 at file mem count g has aligned after
+    (is ∙ ap (λ (x : LoadSegment). ceil_div (x.address + x.size) 4096 - length mem) same)
+    (added ∙ ap (λ (x : LoadSegment). with_held s at (paged (mem ++ replicate count (zero_page (marks_of x))))) same)
+    (put ∙ ap (λ (x : LoadSegment). with_bytes s1 at x.address (part x.offset x.file_size file)) same)
+
+-- ---- the stack
+
+-- a whole page is written over
+page-over : (page : List ℕ) → length page ≡ 4096 → overwrite (zeros 4096) 0 page ≡ page
+unfolding zeros
+page-over page whole =
+    let all : 0 + length page ≡ 4096 = omega (arith, whole) in
+    ap (λ n. page ++ drop n (zeros 4096)) all ∙ ap (λ l. page ++ l) (drop_all 4096 (zeros 4096) (omega (arith, length-replicate {A = ℕ} 4096 0))) ∙ append-nil page
+
+pub stack-added : (s s1 s2 s3 : Spaces) (at : ℕ) (page : List ℕ) (address : ℕ) → has_space s at ≡ true → address ≡ (length (held_at s at).memory + 1) * 4096 → length page ≡ 4096
+    → s1 ≡ with_held s at (paged ((held_at s at).memory ++ replicate 1 (zero_page (stack_marks false))))
+    → s2 ≡ with_held s1 at (paged ((held_at s1 at).memory ++ replicate 1 (zero_page (stack_marks true))))
+    → s3 ≡ with_held s2 at (written (held_at s2 at) address page)
+    → s3 ≡ with_held s at (paged (stacked (held_at s at).memory page))
+stack-added s s1 s2 s3 at page address has is whole guard stack put =
+    let mem = (held_at s at).memory in
+    let g = zero_page (stack_marks false) in
+    let z = zero_page (stack_marks true) in
+    let second : s2 ≡ with_held s at (paged (mem ++ g ∷ z ∷ [])) =
+    stack
+    ∙ ap (λ (k : Spaces). with_held k at (paged ((held_at k at).memory ++ z ∷ []))) guard
+    ∙ ap (λ (h : Held). with_held (with_held s at (paged (mem ++ g ∷ []))) at (paged (h.memory ++ z ∷ []))) (held-same s at (paged (mem ++ g ∷ [])) (space-within s at has))
+    ∙ held-twice s at (paged (mem ++ g ∷ [])) (paged ((mem ++ g ∷ []) ++ z ∷ []))
+    ∙ ap (λ (m : Memory). with_held s at (paged m)) (append_assoc mem (g ∷ []) (z ∷ [])) in
+    let place : address ≡ 4096 * (length mem + 1) + 0 = omega (arith, is) in
+    let all : overwrite (zeros 4096) 0 page ≡ page = page-over page whole in
+    put
+    ∙ ap (λ (k : Spaces). with_held k at (written (held_at k at) address page)) second
+    ∙ with-written s at (mem ++ g ∷ z ∷ []) address page has
+    ∙ ap (λ a. with_held s at (paged (write_bytes (mem ++ g ∷ z ∷ []) a page))) place
+    ∙ ap (λ (m : Memory). with_held s at (paged m)) (write-stack mem (zeros 4096) 0 page (omega (arith, whole)) (omega (arith, whole)))
+    ∙ ap (λ (l : List ℕ). with_held s at (paged (stacked mem l))) all

@@ -1,0 +1,328 @@
+-- The stack of a program as its arguments are pushed.
+use Rattle.std.proofs.Common.{ap, append-nil, append_assoc, arith, drop, length, length-append, refl, subst, sym, take, ℕ, zero, suc, ◌%◌, ◌*◌, ◌++◌, ◌+◌, ◌-◌, ◌/◌, ◌<◌, ◌∙◌, ◌≡◌, ◌≢◌, ◌≤◌, ◌∷◌, [], Bool, true, false, List, None, Option, Some}
+use Rattle.std.specs.List.{flat_map}
+use Rattle.std.specs.Prelude.{if◌then◌else◌, nat_le, nat_lt, option_and_then, option_map, ◌==◌}
+use Rattle.std.proofs.lemmas.Bool.{le-leb, lt-leb}
+use Rattle.std.proofs.lemmas.Bool.Decides.{nat_tests}
+use Rattle.std.proofs.lemmas.List.{drop-drop, drop-replicate, length-drop, length-take, take-replicate, take_all, take_at}
+use Rattle.std.proofs.lemmas.List.Concat.{flat_map-cons}
+use Rattle.std.proofs.lemmas.Option.{none-some, same_Some}
+use Rattle.std.proofs.Math.Seq.{take-append-add}
+use lib.Seq.{drop-append-add}
+use Rattle.programs.specs.declared.arguments.Arguments.{Arguments}
+use Rattle.programs.specs.Passed.{Finishes, HasPushed, Passes, PushesString, plan_with, stacked, word_in}
+use Rattle.unixmodel.specs.declared.trap.Access.TheVariants.{Load}
+use Rattle.unixmodel.specs.Memory.{Memory, Page, overwrite, reach, string_at, write_bytes, write_from, zero_page, zeros}
+use Rattle.unixmodel.specs.Numbers.{le, number_at, round_down}
+use Rattle.unixmodel.specs.Plan.{Plan, Stack, finished, push, push_pointers, push_strings, stack_marks, with_args, with_stack}
+use Rattle.unixmodel.specs.ProcessCalls.{and_then_strings, args_at, strings_at, words_before_zero}
+use Rattle.vm.specs.Reach.{IsSized}
+use Rattle.vm.proofs.ReachLemmas.{reach-drop}
+
+-- ---- bytes in the page of a stack
+
+guard : Page
+guard = zero_page (stack_marks false)
+
+abbrev bottom : List ℕ → Page
+bottom page = record { bytes = page; marks = stack_marks true }
+
+write-one : (page : List ℕ) (at : ℕ) (bytes : List ℕ) → 0 < length bytes → at + length bytes ≤ 4096 → write_from (bottom page ∷ []) at bytes ≡ bottom (overwrite page at bytes) ∷ []
+write-one page at [] some fits = absurd (omega (arith, some))
+write-one page at (b ∷ bs) some fits =
+    let all : take (4096 - at) (b ∷ bs) ≡ b ∷ bs = take_all (4096 - at) (b ∷ bs) (omega (arith, fits)) in
+    ap (λ l. bottom (overwrite page at l) ∷ []) all
+
+pub write-stack : (pages : Memory) (page : List ℕ) (at : ℕ) (bytes : List ℕ) → 0 < length bytes → at + length bytes ≤ 4096
+    → write_bytes (stacked pages page) (4096 * (length pages + 1) + at) bytes ≡ stacked pages (overwrite page at bytes)
+unfolding write_bytes
+write-stack pages page at bytes some fits =
+    let in_page : (4096 * (length pages + 1) + at) / 4096 ≡ length pages + 1 = omega (arith, some, fits) in
+    let from : (4096 * (length pages + 1) + at) % 4096 ≡ at = omega (arith, some, fits) in
+    let g = zero_page (stack_marks false) in
+    let front : take (length pages + 1) (pages ++ g ∷ bottom page ∷ []) ≡ pages ++ g ∷ [] = take-append-add pages (g ∷ bottom page ∷ []) 1 in
+    let back : drop (length pages + 1) (pages ++ g ∷ bottom page ∷ []) ≡ bottom page ∷ [] = drop-append-add pages (g ∷ bottom page ∷ []) 1 in
+    rw (in_page, from, front, back, write-one page at bytes some fits) (append_assoc pages (g ∷ []) (bottom (overwrite page at bytes) ∷ []))
+
+-- ---- pushing
+
+-- a stack whose page has these bytes from a place on
+abbrev pub stack_with : Memory → List ℕ → ℕ → List ℕ → Stack
+stack_with pages page top pointers = record { memory = stacked pages page; sp = 4096 * (length pages + 1) + top; pointers = pointers }
+
+same-stack : {m m' : Memory} {a a' : ℕ} {ps ps' : List ℕ} → m ≡ m' → a ≡ a' → ps ≡ ps' → ◌≡◌ {A = Stack} (record { memory = m; sp = a; pointers = ps }) (record { memory = m'; sp = a'; pointers = ps' })
+same-stack p q r = λ i. record { memory = p i; sp = q i; pointers = r i }
+
+pub pushed : (pages : Memory) (old new : List ℕ) (top : ℕ) (pointers bytes : List ℕ) (place : ℕ) → top ≤ 4096 → 0 < length bytes → HasPushed old new top bytes place
+    → push (stack_with pages old top pointers) bytes ≡ stack_with pages new place (pointers ++ (4096 * (length pages + 1) + place) ∷ [])
+unfolding push
+pushed pages old new top pointers bytes place inside some has =
+    let room = has.fits in
+    let stands = has.stands in
+    let sp : round_down (4096 * (length pages + 1) + top - length bytes) 16 ≡ 4096 * (length pages + 1) + place = omega (arith, room, stands) in
+    same-stack
+    (ap (λ a. write_bytes (stacked pages old) a bytes) sp ∙ write-stack pages old place bytes some (omega (arith, room, stands, inside)) ∙ ap (stacked pages) (sym has.page))
+    sp
+    (ap (λ a. pointers ++ a ∷ []) sp)
+
+-- what is pushed comes lower
+push-low : (s : Stack) (bytes : List ℕ) → (push s bytes).sp ≤ s.sp
+unfolding push
+push-low s bytes = omega arith
+
+strings-low : (s : Stack) (args : List (List ℕ)) → (push_strings s args).sp ≤ s.sp
+unfolding push_strings
+strings-low s [] = omega arith
+strings-low s (x ∷ xs) = omega (arith, push-low s (x ++ 0 ∷ []), strings-low (push s (x ++ 0 ∷ [])) xs)
+
+pub pointers-low : (s : Stack) → (push_pointers s).sp ≤ s.sp
+unfolding push_pointers
+pointers-low s = push-low s (flat_map (le 8) s.pointers ++ le 8 0)
+
+-- without room it comes below the page
+pub push-under : (pages : Memory) (page : List ℕ) (top : ℕ) (pointers bytes : List ℕ) → top < length bytes → (push (stack_with pages page top pointers) bytes).sp < 4096 * (length pages + 1)
+unfolding push
+push-under pages page top pointers bytes over = omega (arith, over)
+
+-- and what comes below is refused
+pub refused-under : (pages : Memory) (pc argc : ℕ) (s : Stack) → s.sp < 4096 * (length pages + 1) → finished (4096 * (length pages + 2)) pc argc s ≡ None
+refused-under pages pc argc s under =
+    let no : nat_le (4096 * (length pages + 2) - 4096) s.sp ≡ false = lt-leb _ _ (omega (arith, under)) in
+    rw no refl
+
+-- ---- the words and the strings that are left
+
+-- what is made of the rest of the arguments
+abbrev pub ends : Memory → ℕ → ℕ → Stack → List (List ℕ) → Option Plan
+ends pages pc i s args = finished (4096 * (length pages + 2)) pc (i + length args) (push_pointers (push_strings s args))
+
+abbrev pub args_from : Memory → ℕ → List ℕ → Option (List (List ℕ))
+args_from mem n bytes = option_and_then (strings_at mem) (words_before_zero n bytes)
+
+none-under : (pages : Memory) (pc i : ℕ) (s : Stack) → s.sp < 4096 * (length pages + 1) → (o : Option (List (List ℕ))) → option_and_then (ends pages pc i s) o ≡ None
+none-under pages pc i s under None = refl
+none-under pages pc i s under (Some args) =
+    refused-under pages pc (i + length args) (push_pointers (push_strings s args)) (omega (arith, under, strings-low s args, pointers-low (push_strings s args)))
+
+one-more : (pages : Memory) (pc i : ℕ) (s : Stack) (string : List ℕ) (args : List (List ℕ)) → ends pages pc i s (string ∷ args) ≡ ends pages pc (i + 1) (push s (string ++ 0 ∷ [])) args
+unfolding push_strings
+one-more pages pc i s string args =
+    let n : i + length (string ∷ args) ≡ i + 1 + length args = omega arith in
+    ap (λ k. finished (4096 * (length pages + 2)) pc k (push_pointers (push_strings (push s (string ++ 0 ∷ [])) args))) n
+
+string-more : (pages : Memory) (pc i : ℕ) (s : Stack) (string : List ℕ) (rest : Option (List (List ℕ))) → option_and_then (ends pages pc i s) (and_then_strings (Some string) rest) ≡ option_and_then (ends pages pc (i + 1) (push s (string ++ 0 ∷ []))) rest
+string-more pages pc i s string None = refl
+string-more pages pc i s string (Some args) = one-more pages pc i s string args
+
+strings-none : (o : Option (List ℕ)) → and_then_strings o None ≡ None
+strings-none None = refl
+strings-none (Some s) = refl
+
+words-more : (mem : Memory) (w : ℕ) (o : Option (List ℕ)) → option_and_then (strings_at mem) (option_map (λ ws. w ∷ ws) o) ≡ and_then_strings (string_at mem w) (option_and_then (strings_at mem) o)
+words-more mem w None = sym (strings-none (string_at mem w))
+words-more mem w (Some ws) = refl
+
+word-missing : (mem : Memory) (n : ℕ) (bytes : List ℕ) → word_in bytes ≡ None → args_from mem (suc n) bytes ≡ None
+unfolding words_before_zero
+word-missing mem n bytes none = go (nat_lt (length (take 8 bytes)) 8) refl where
+  go : (b : Bool) → nat_lt (length (take 8 bytes)) 8 ≡ b → args_from mem (suc n) bytes ≡ None
+  go true e = rw e refl
+  go false e = absurd (none-some (number_at 8 0 bytes) (sym (rw e at none)))
+
+-- a word that is there
+pub record IsWord (bytes : List ℕ) (w : ℕ) : Type 0 where
+  pub long : nat_lt (length (take 8 bytes)) 8 ≡ false
+  pub word : number_at 8 0 bytes ≡ w
+
+is-word : (bytes : List ℕ) (w : ℕ) → word_in bytes ≡ Some w → IsWord bytes w
+is-word bytes w some = go (nat_lt (length (take 8 bytes)) 8) (number_at 8 0 bytes) refl refl some where
+  go : (b : Bool) (n : ℕ) → nat_lt (length (take 8 bytes)) 8 ≡ b → number_at 8 0 bytes ≡ n → (if b then None else Some n) ≡ Some w → IsWord bytes w
+  go true n e f is = absurd (none-some w is)
+  go false n e f is = record { long = e; word = f ∙ same_Some n w is }
+
+word-zero : (mem : Memory) (n : ℕ) (bytes : List ℕ) → IsWord bytes 0 → args_from mem (suc n) bytes ≡ Some []
+unfolding words_before_zero
+word-zero mem n bytes is = rw (is.long, is.word) refl
+
+word-more : (mem : Memory) (n : ℕ) (bytes : List ℕ) (w : ℕ) → IsWord bytes w → w ≢ 0 → args_from mem (suc n) bytes ≡ and_then_strings (string_at mem w) (args_from mem n (drop 8 bytes))
+unfolding words_before_zero
+word-more mem n bytes w is some =
+    let other : (w == 0) ≡ false = grind (arith, nat_tests, some) in
+    rw (is.long, is.word, other) (words-more mem w (words_before_zero n (drop 8 bytes)))
+
+-- ---- the arguments so far
+
+pub record IsPushing (mem : Memory) (argv count i top : ℕ) (page spelled : List ℕ) : Type 0 where
+  pub inside : top ≤ 4096
+  pub reached : 8 * i ≤ length (reach Load mem argv)
+  pub pointers : List ℕ
+  pub few : length pointers ≡ i
+  pub spells : spelled ≡ flat_map (le 8) pointers ++ zeros (256 - 8 * i)
+  pub rest : (pages : Memory) (pc : ℕ) → length pages ≡ count
+      → option_and_then (with_args pages pc) (args_at mem argv) ≡ option_and_then (ends pages pc i (stack_with pages page top pointers)) (args_from mem (32 - i) (drop (8 * i) (reach Load mem argv)))
+
+begins-some : (pages : Memory) (pc : ℕ) (args : List (List ℕ)) → with_args pages pc args ≡ ends pages pc 0 (stack_with pages (zeros 4096) 4096 []) args
+unfolding with_args with_stack
+begins-some pages pc args =
+    let n : length args ≡ 0 + length args = omega arith in
+    let sp : 4096 * (length pages + 2) ≡ 4096 * (length pages + 1) + 4096 = omega arith in
+    ap (λ k. finished (4096 * (length pages + 2)) pc k (push_pointers (push_strings (record { memory = with_stack pages; sp = 4096 * (length pages + 2); pointers = [] }) args))) n
+    ∙ ap (λ a. finished (4096 * (length pages + 2)) pc (0 + length args) (push_pointers (push_strings (record { memory = with_stack pages; sp = a; pointers = [] }) args))) sp
+
+begins : (pages : Memory) (pc : ℕ) (o : Option (List (List ℕ))) → option_and_then (with_args pages pc) o ≡ option_and_then (ends pages pc 0 (stack_with pages (zeros 4096) 4096 [])) o
+begins pages pc None = refl
+begins pages pc (Some args) = begins-some pages pc args
+
+pub none-pushed : (mem : Memory) (argv count top : ℕ) (page spelled : List ℕ) → top ≡ 4096 → page ≡ zeros 4096 → spelled ≡ zeros 256 → IsPushing mem argv count 0 top page spelled
+unfolding args_at
+none-pushed mem argv count top page spelled whole clear none = record {
+  inside = omega (arith, whole);
+  reached = omega arith;
+  pointers = [];
+  few = refl;
+  spells = none;
+  rest = λ pages pc e. rw (whole, clear) (begins pages pc (args_at mem argv));
+}
+
+-- ---- the pointers
+
+length-le : (k x : ℕ) → length (le k x) ≡ k
+length-le zero x = refl
+length-le (suc k) x = ap suc (length-le k (x / 256))
+
+pub length-pointers : (ps : List ℕ) → length (flat_map (le 8) ps) ≡ 8 * length ps
+length-pointers [] = refl
+length-pointers (p ∷ ps) = ap length (flat_map-cons (le 8) p ps) ∙ length-append (le 8 p) (flat_map (le 8) ps) ∙ omega (arith, length-le 8 p, length-pointers ps)
+
+flat-more : (ps : List ℕ) (p : ℕ) → flat_map (le 8) (ps ++ p ∷ []) ≡ flat_map (le 8) ps ++ le 8 p
+flat-more [] p = flat_map-cons (le 8) p [] ∙ append-nil (le 8 p)
+flat-more (q ∷ ps) p =
+    flat_map-cons (le 8) q (ps ++ p ∷ [])
+    ∙ ap (λ l. le 8 q ++ l) (flat-more ps p)
+    ∙ sym (append_assoc (le 8 q) (flat_map (le 8) ps) (le 8 p))
+    ∙ ap (λ l. l ++ le 8 p) (sym (flat_map-cons (le 8) q ps))
+
+-- a pointer more
+pub spelled-more : (ps : List ℕ) (i p : ℕ) → length ps ≡ i → i < 32 → overwrite (flat_map (le 8) ps ++ zeros (256 - 8 * i)) (8 * i) (le 8 p) ≡ flat_map (le 8) (ps ++ p ∷ []) ++ zeros (256 - 8 * (i + 1))
+unfolding zeros
+spelled-more ps i p count more =
+    let long : length (flat_map (le 8) ps) ≡ 8 * i = omega (arith, length-pointers ps, count) in
+    let behind : 8 * i + length (le 8 p) ≡ length (flat_map (le 8) ps) + 8 = omega (arith, long) in
+    let left : 256 - 8 * i - 8 ≡ 256 - 8 * (i + 1) = omega arith in
+    ap (λ l. (l ++ le 8 p) ++ drop (8 * i + length (le 8 p)) (flat_map (le 8) ps ++ zeros (256 - 8 * i))) (take_at (flat_map (le 8) ps) (zeros (256 - 8 * i)) (8 * i) long)
+    ∙ ap (λ n. (flat_map (le 8) ps ++ le 8 p) ++ drop n (flat_map (le 8) ps ++ zeros (256 - 8 * i))) behind
+    ∙ ap (λ l. (flat_map (le 8) ps ++ le 8 p) ++ l) (drop-append-add (flat_map (le 8) ps) (zeros (256 - 8 * i)) 8 ∙ drop-replicate 8 (256 - 8 * i) 0 ∙ ap zeros left)
+    ∙ ap (λ l. l ++ zeros (256 - 8 * (i + 1))) (sym (flat-more ps p))
+
+-- the pointers and the 0 word
+pub spelled-all : (ps : List ℕ) (i : ℕ) → length ps ≡ i → i < 32 → take (8 * i + 8) (flat_map (le 8) ps ++ zeros (256 - 8 * i)) ≡ flat_map (le 8) ps ++ le 8 0
+unfolding zeros
+spelled-all ps i count more =
+    let long : 8 * i + 8 ≡ length (flat_map (le 8) ps) + 8 = omega (arith, length-pointers ps, count) in
+    ap (λ n. take n (flat_map (le 8) ps ++ zeros (256 - 8 * i))) long
+    ∙ take-append-add (flat_map (le 8) ps) (zeros (256 - 8 * i)) 8
+    ∙ ap (λ l. flat_map (le 8) ps ++ l) (take-replicate 8 (256 - 8 * i) 0 (omega (arith, more)))
+
+-- ---- a step
+
+module _ {mem : Memory} {argv count i top : ℕ} {page spelled : List ℕ} (sized : IsSized mem) (has : IsPushing mem argv count i top page spelled) (more : i < 32) {told : Option ℕ} (word : told ≡ word_in (reach Load mem (argv + 8 * i))) where
+  abbrev rest : List ℕ
+  rest = drop (8 * i) (reach Load mem argv)
+
+  word-is : told ≡ word_in rest
+  word-is = word ∙ ap word_in (reach-drop Load mem argv (8 * i) sized has.reached)
+
+  left : 32 - i ≡ suc (32 - (i + 1))
+  left = omega (arith, more)
+
+  -- what is told of the rest
+  rest-is : (pages : Memory) (pc : ℕ) → length pages ≡ count → {o : Option (List (List ℕ))} → args_from mem (suc (32 - (i + 1))) rest ≡ o
+      → option_and_then (with_args pages pc) (args_at mem argv) ≡ option_and_then (ends pages pc i (stack_with pages page top has.pointers)) o
+  rest-is pages pc e is = has.rest pages pc e ∙ ap (λ n. option_and_then (ends pages pc i (stack_with pages page top has.pointers)) (args_from mem n rest)) left ∙ ap (option_and_then (ends pages pc i (stack_with pages page top has.pointers))) is
+
+  -- a word that can't be read
+  pub word-refused : told ≡ None → Passes mem argv count None
+  word-refused none pages pc e = rest-is pages pc e (word-missing mem (32 - (i + 1)) rest (sym word-is ∙ none))
+
+  -- the 0 word
+  pub ended : {w : ℕ} → told ≡ Some w → w ≡ 0 → (base : ℕ) → base ≡ 4096 * (count + 1) → (r : Option Arguments) → Finishes page top (take (8 * i + 8) spelled) i base r → Passes mem argv count r
+  unfolding push_strings push_pointers
+  ended some null base is r finishes pages pc e = go r finishes where
+    done : option_and_then (with_args pages pc) (args_at mem argv) ≡ finished (4096 * (length pages + 2)) pc (i + 0) (push (stack_with pages page top has.pointers) (flat_map (le 8) has.pointers ++ le 8 0))
+    done = rest-is pages pc e (word-zero mem (32 - (i + 1)) rest (is-word rest 0 (sym word-is ∙ some ∙ ap Some null)))
+
+    bytes : take (8 * i + 8) spelled ≡ flat_map (le 8) has.pointers ++ le 8 0
+    bytes = ap (take (8 * i + 8)) has.spells ∙ spelled-all has.pointers i has.few more
+
+    long : 0 < length (flat_map (le 8) has.pointers ++ le 8 0)
+    long = omega (arith, length-append (flat_map (le 8) has.pointers) (le 8 0))
+
+    go : (r : Option Arguments) → Finishes page top (take (8 * i + 8) spelled) i base r → option_and_then (with_args pages pc) (args_at mem argv) ≡ option_map (plan_with pages pc) r
+    go None over =
+        done ∙ refused-under pages pc (i + 0) (push (stack_with pages page top has.pointers) (flat_map (le 8) has.pointers ++ le 8 0))
+        (push-under pages page top has.pointers (flat_map (le 8) has.pointers ++ le 8 0) (omega (arith, over, ap length bytes)))
+    go (Some a) made =
+        let put : HasPushed page a.page top (flat_map (le 8) has.pointers ++ le 8 0) made.0 = subst (λ l. HasPushed page a.page top l made.0) bytes made.1 in
+        let yes : nat_le (4096 * (length pages + 2) - 4096) (4096 * (length pages + 1) + made.0) ≡ true = le-leb _ _ (omega arith) in
+        let sp : 4096 * (length pages + 1) + made.0 ≡ a.sp = omega (arith, made.2, is, e) in
+        let n : i + 0 ≡ a.count = omega (arith, made.3) in
+        done
+        ∙ ap (finished (4096 * (length pages + 2)) pc (i + 0)) (pushed pages page a.page top has.pointers (flat_map (le 8) has.pointers ++ le 8 0) made.0 has.inside long put)
+        ∙ ap (λ b. if b then Some (record { memory = stacked pages a.page; size = 4096 * (length pages + 2); pc = pc; argc = i + 0; sp = 4096 * (length pages + 1) + made.0 }) else None) yes
+        ∙ ap (λ k. Some (let p : Plan = record { memory = stacked pages a.page; size = 4096 * (length pages + 2); pc = pc; argc = k; sp = 4096 * (length pages + 1) + made.0 } in p)) n
+        ∙ ap (λ k. Some (let p : Plan = record { memory = stacked pages a.page; size = 4096 * (length pages + 2); pc = pc; argc = a.count; sp = k } in p)) sp
+
+  module _ {w : ℕ} (some : told ≡ Some w) (other : w ≢ 0) where
+    here : IsWord rest w
+    here = is-word rest w (sym word-is ∙ some)
+
+    string-is : (pages : Memory) (pc : ℕ) → length pages ≡ count → {o : Option (List ℕ)} → string_at mem w ≡ o
+        → option_and_then (with_args pages pc) (args_at mem argv) ≡ option_and_then (ends pages pc i (stack_with pages page top has.pointers)) (and_then_strings o (args_from mem (32 - (i + 1)) (drop 8 rest)))
+    string-is pages pc e is = rest-is pages pc e (word-more mem (32 - (i + 1)) rest w here other) ∙ ap (λ o. option_and_then (ends pages pc i (stack_with pages page top has.pointers)) (and_then_strings o (args_from mem (32 - (i + 1)) (drop 8 rest)))) is
+
+    -- a string that can't be read, or isn't room for
+    pub string-refused : (new : List ℕ) → PushesString mem w page new top None → Passes mem argv count None
+    string-refused new over pages pc e = go (string_at mem w) refl where
+      go : (o : Option (List ℕ)) → string_at mem w ≡ o → option_and_then (with_args pages pc) (args_at mem argv) ≡ None
+      go None is = string-is pages pc e is
+      go (Some string) is =
+          string-is pages pc e is
+          ∙ string-more pages pc i (stack_with pages page top has.pointers) string (args_from mem (32 - (i + 1)) (drop 8 rest))
+          ∙ none-under pages pc (i + 1) (push (stack_with pages page top has.pointers) (string ++ 0 ∷ []))
+          (push-under pages page top has.pointers (string ++ 0 ∷ []) (omega (arith, over string is, length-append string (0 ∷ []))))
+          (args_from mem (32 - (i + 1)) (drop 8 rest))
+
+    reached-more : 8 * (i + 1) ≤ length (reach Load mem argv)
+    reached-more =
+        let eight : 8 ≤ length (take 8 rest) = grind (arith, nat_tests, here.long) in
+        omega (arith, eight, length-take 8 rest, length-drop (8 * i) (reach Load mem argv))
+
+    -- a string more
+    pub string-pushed : {new spelled' : List ℕ} {place base : ℕ} → PushesString mem w page new top (Some place) → base ≡ 4096 * (count + 1) → spelled' ≡ overwrite spelled (8 * i) (le 8 (base + place)) → IsPushing mem argv count (i + 1) place new spelled'
+    string-pushed {new} {spelled'} {place} {base} made is put =
+        let has_room = made.2.fits in
+        let stands = made.2.stands in
+        let was = has.inside in
+        let long : 0 < length (made.0 ++ 0 ∷ []) = omega (arith, length-append made.0 (0 ∷ [])) in
+        let next : drop 8 rest ≡ drop (8 * (i + 1)) (reach Load mem argv) = drop-drop 8 (8 * i) (reach Load mem argv) ∙ ap (λ n. drop n (reach Load mem argv)) (omega arith) in
+        record {
+          inside = omega (arith, was, stands);
+          reached = reached-more;
+          pointers = has.pointers ++ (base + place) ∷ [];
+          few = length-append has.pointers ((base + place) ∷ []) ∙ ap (λ n. n + 1) has.few;
+          spells = put ∙ ap (λ l. overwrite l (8 * i) (le 8 (base + place))) has.spells ∙ spelled-more has.pointers i (base + place) has.few more;
+          rest = λ pages pc e.
+              let same : 4096 * (length pages + 1) + place ≡ base + place = omega (arith, e, is) in
+              string-is pages pc e made.1
+              ∙ string-more pages pc i (stack_with pages page top has.pointers) made.0 (args_from mem (32 - (i + 1)) (drop 8 rest))
+              ∙ ap (λ s. option_and_then (ends pages pc (i + 1) s) (args_from mem (32 - (i + 1)) (drop 8 rest))) (pushed pages page new top has.pointers (made.0 ++ 0 ∷ []) place was long made.2)
+              ∙ ap (λ p. option_and_then (ends pages pc (i + 1) (stack_with pages new place (has.pointers ++ p ∷ []))) (args_from mem (32 - (i + 1)) (drop 8 rest))) same
+              ∙ ap (λ l. option_and_then (ends pages pc (i + 1) (stack_with pages new place (has.pointers ++ (base + place) ∷ []))) (args_from mem (32 - (i + 1)) l)) next;
+        }
+
+-- there are too many
+pub all-pushed : {mem : Memory} {argv count i top : ℕ} {page spelled : List ℕ} → IsPushing mem argv count i top page spelled → 32 ≤ i → Passes mem argv count None
+unfolding words_before_zero
+all-pushed {mem} {argv} {count} {i} {top} {page} {spelled} has all pages pc e =
+    let none : 32 - i ≡ 0 = omega (arith, all) in
+    has.rest pages pc e ∙ ap (λ n. option_and_then (ends pages pc i (stack_with pages page top has.pointers)) (args_from mem n (drop (8 * i) (reach Load mem argv)))) none

@@ -1,0 +1,11 @@
+use Rattle.std.proofs.Common.{refl}
+use Rattle.programs.proofs.Singles.{one-passed, one-refused}
+use Rattle.unixmodel.specs.Memory.{zeros}
+use Rattle.programs.proofs.arguments.one_argument.Goals as goal
+
+pub returns-in_default : goal.returns-in_default
+returns-in_default c = one-refused c.args.bytes.now c.args.pages c.in_default.ensures
+
+pub returns : goal.returns
+unfolding zeros
+returns c = one-passed c.args.bytes.now _ _ _ _ _ c.args.pages _ _ refl refl c.in-Some.ensures c.put_pointer.ensures refl c.finish.ensures

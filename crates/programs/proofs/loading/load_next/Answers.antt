@@ -1,0 +1,33 @@
+use Rattle.programs.proofs.Loads.{few-next, follows-next, loaded-next, never-refused, room-next, skipped-next}
+use Rattle.programs.proofs.Places.{held-still}
+use Rattle.programs.proofs.loading.load_next.Goals as goal
+
+pub returns-in_err-segment-clause-failed : goal.returns-in_err-segment-clause-failed
+returns-in_err-segment-clause-failed g c = held-still c.args.spaces.now c.args.at c.from_residual.result c.requires.space
+
+pub load_segment-requires-clause-follows : goal.load_segment-requires-clause-follows
+load_segment-requires-clause-follows g c =
+    follows-next c.args.spaces.now c.args.at c.args.number c.args.place c.args.end c.requires.whole c.in_ok-segment.ensures c.requires.next.0 c.requires.next.1 c.in-Ok-Some.is c.in-Ok-Some.field-0-is
+
+pub load_segment-requires-clause-few : goal.load_segment-requires-clause-few
+load_segment-requires-clause-few g c =
+    few-next c.args.spaces.now c.args.at c.args.number c.args.place c.args.end c.requires.whole c.in_ok-segment.ensures c.requires.next.0 c.requires.next.1 c.in-Ok-Some.is c.in-Ok-Some.field-0-is
+    c.requires.next.2
+
+pub load_segment-requires-clause-room : goal.load_segment-requires-clause-room
+load_segment-requires-clause-room g c =
+    room-next c.args.spaces.now c.args.at c.args.number c.args.place c.args.end c.requires.whole c.in_ok-segment.ensures c.requires.next.0 c.requires.next.1 c.in-Ok-Some.is c.in-Ok-Some.field-0-is
+    c.requires.next.3
+
+pub unreachable-requires : goal.unreachable-requires
+unreachable-requires g c =
+    never-refused c.args.spaces.now c.args.at c.args.number c.args.place c.args.end c.requires.whole c.in_ok-segment.ensures c.requires.next.0 c.requires.next.1 c.in-Err.field-0 c.in-Err.is
+
+pub returns-in_ok-load_segment-in-Ok-Some-clause-loaded : goal.returns-in_ok-load_segment-in-Ok-Some-clause-loaded
+returns-in_ok-load_segment-in-Ok-Some-clause-loaded g c = λ next some.
+    loaded-next c.args.spaces.now c.args.at c.args.number c.args.place c.args.end c.requires.whole c.in_ok-segment.ensures next some c.in-Ok-Some.is c.in-Ok-Some.field-0-is
+    c.in_ok-load_segment-in-Ok-Some.ensures.loaded
+
+pub returns-in-Ok-None-clause-loaded : goal.returns-in-Ok-None-clause-loaded
+returns-in-Ok-None-clause-loaded g c = λ next some.
+    skipped-next c.args.spaces.now c.args.at c.args.number c.args.place c.args.end c.requires.whole c.in_ok-segment.ensures next some c.in-Ok-None.is c.in-Ok-None.field-0-is c.requires.space c.requires.paged

@@ -1,0 +1,47 @@
+-- What exec takes from the headers of a program file.
+use Rattle.std.specs.Prelude.{Err, List, None, Ok, Option, Result, Some, drop, length, option_map, take, ℕ, ◌+◌, ◌≡◌}
+use Rattle.elf.specs.declared.ElfFault.{ElfFault}
+use Rattle.elf.specs.declared.FileHeader.{FileHeader}
+use Rattle.elf.specs.declared.LoadSegment.{LoadSegment}
+use Rattle.elf.specs.Headers.{header_in, header_of, segment_of}
+use Rattle.programs.specs.declared.headers.Program.{Program}
+use Rattle.tree.specs.Tree.{FileTree}
+use Rattle.unixmodel.specs.Files.{Files, slot}
+use Rattle.unixmodel.specs.Plan.{Loaded, loaded_of}
+use Rattle.unixmodel.specs.Shown.{bytes_or_none}
+
+-- a read leaves the files as they were, and this is told
+pub record IsRead {T : Type 0} (old new : FileTree) (told is : T) : Type 0 where
+  pub same : new ≡ record old { failures = new.failures }
+  pub value : told ≡ is
+
+-- the bytes that a number names
+abbrev pub file_at : Files → ℕ → List ℕ
+file_at files n = bytes_or_none (slot files n)
+
+-- the program of a file, where its segments can be loaded
+abbrev pub program_in : List ℕ → Option Program
+program_in file = option_map (λ (l : Loaded). record { header = header_in file; pages = length l.pages }) (loaded_of file)
+
+-- ---- the steps to it
+
+abbrev pub unless_refused : {T : Type 0} → Result T ElfFault → Option T
+unless_refused (Ok x) = Some x
+unless_refused (Err fault) = None
+
+-- the header of a file
+abbrev pub headed : List ℕ → Option FileHeader
+headed file = unless_refused (header_of (take 64 file) (length file))
+
+-- where what is loaded ends behind a program header
+abbrev pub end_by : ℕ → Result (Option LoadSegment) ElfFault → Option ℕ
+end_by end (Err fault) = None
+end_by end (Ok None) = Some end
+end_by end (Ok (Some g)) = Some (g.address + g.size)
+
+-- what a program header asks for
+abbrev pub segment_behind : List ℕ → ℕ → ℕ → Result (Option LoadSegment) ElfFault
+segment_behind file at end = segment_of (take 56 (drop at file)) end (length file)
+
+abbrev pub end_behind : List ℕ → ℕ → ℕ → Option ℕ
+end_behind file at end = end_by end (segment_behind file at end)

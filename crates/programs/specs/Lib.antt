@@ -1,0 +1,4 @@
+pub mod Executed
+pub mod Headed
+pub mod Passed
+pub mod Placed

@@ -1,0 +1,258 @@
+//! How a program comes into the memory of a place.
+
+ghost use Rattle.std.specs.Prelude.{◌≡◌, ◌*◌, ◌++◌, ◌+◌, ◌<◌, ◌≤◌, ◌^◌, IfOk, OnErr, OnOk, Some, length, replicate, false, true};
+ghost use Rattle.blockdev.specs.Splice.{part};
+ghost use Rattle.elf.specs.Headers.{is_within};
+ghost use Rattle.elf.specs.Headers.{segment_shown};
+ghost use Rattle.programs.specs.Headed.{file_at, program_in};
+ghost use Rattle.programs.specs.Passed.{stacked};
+ghost use Rattle.programs.specs.Placed.{Follows, HasRoom, IsPaged, Leaves, next_in, paged};
+ghost use Rattle.spaces.specs.Spaces.{Held, has_space, held_at, no_pages, with_held};
+ghost use Rattle.transfers.specs.Moved.{with_bytes};
+ghost use Rattle.tree.specs.Tree.{Serves};
+ghost use Rattle.tree.specs.Written.{IsFile};
+ghost use Rattle.unixmodel.specs.Memory.{zero_page};
+ghost use Rattle.unixmodel.specs.Numbers.{ceil_div};
+ghost use Rattle.unixmodel.specs.Plan.{Loaded, Segment, load_segments, loaded_of, nothing_loaded, segment_pages};
+ghost use Rattle.vm.specs.Leaf.{marks_from};
+
+use crate::arguments::Arguments;
+use crate::headers::{Program, read_part, read_segment};
+use blockdev::{BLOCK_SIZE, BlockDev, DeviceFault};
+use elf::{FileHeader, LoadSegment, PROGRAM_HEADER_SIZE};
+use ram::FRAME_SIZE;
+use spaces::Spaces;
+use sv39::Translate;
+use tree::Tree;
+use vm::Perm;
+
+// The marks of the guard page below a stack: no program may use it.
+const GUARD: Perm = Perm {
+    w: true,
+    x: false,
+    u: false,
+};
+
+// The marks of a stack's page.
+const STACK: Perm = Perm {
+    w: true,
+    x: false,
+    u: true,
+};
+
+/// All pages of a place go.
+pub fn clear<T: Translate + Drop>(spaces: &mut Spaces<T>, at: usize)
+    requires { has_space spaces.old at ≡ true }
+    ensures { spaces.new ≡ with_held spaces.old at no_pages }
+{
+    let size = spaces.size(at);
+    spaces.shrink(at, size);
+}
+
+// Adds so many pages of zeros, for which there are frames.
+fn add_pages<T: Translate + Drop>(spaces: &mut Spaces<T>, at: usize, count: u64, perm: Perm)
+    requires space { has_space spaces.old at ≡ true }
+    requires paged { IsPaged (held_at spaces.old at) }
+    requires few { count < 2 ^ 32 }
+    requires room { HasRoom spaces.old at (length (held_at spaces.old at).memory + count) }
+    ensures { spaces.new ≡ with_held spaces.old at (paged ((held_at spaces.old at).memory ++ replicate count (zero_page (marks_from perm)))) }
+{
+    if !spaces.grow(at, count * FRAME_SIZE as u64, perm) {
+        unreachable!()
+    }
+}
+
+// Reads as many bytes of a file as fit in a buffer, all of which it has, and puts them into the pages of a place.
+fn fill_piece<D: BlockDev, T: Translate + Drop>(
+    tree: &mut Tree<D>,
+    spaces: &mut Spaces<T>,
+    at: usize,
+    number: usize,
+    offset: usize,
+    address: u64,
+    buffer: &mut [u8],
+) -> Result<(), DeviceFault>
+    requires up { tree.old.failed ≡ false }
+    requires file { IsFile tree.old.files number }
+    requires within { offset + length buffer.old ≤ length (file_at tree.old.files number) }
+    requires space { has_space spaces.old at ≡ true }
+    requires inside { address + length buffer.old ≤ 4096 * length (held_at spaces.old at).memory }
+    ensures serves { Serves tree.old tree.new result (Leaves tree.old tree.new) }
+    ensures filled { OnOk result (spaces.new ≡ with_bytes spaces.old at address (part offset (length buffer.old) (file_at tree.old.files number))) }
+    ensures failed { OnErr result (spaces.new ≡ spaces.old) }
+{
+    read_part(tree, number, offset, buffer)?;
+    spaces.fill(at, address, buffer);
+    Ok(())
+}
+
+// Puts bytes of a file, which it has, into the pages of a place from an address on, whatever their marks.
+fn fill_node<D: BlockDev, T: Translate + Drop>(
+    tree: &mut Tree<D>,
+    spaces: &mut Spaces<T>,
+    at: usize,
+    number: usize,
+    offset: u64,
+    address: u64,
+    count: u64,
+) -> Result<(), DeviceFault>
+    requires up { tree.old.failed ≡ false }
+    requires file { IsFile tree.old.files number }
+    requires within { is_within offset count (length (file_at tree.old.files number)) ≡ true }
+    requires long { length (file_at tree.old.files number) < 2 ^ 32 }
+    requires space { has_space spaces.old at ≡ true }
+    requires inside { address + count ≤ 4096 * length (held_at spaces.old at).memory }
+    ensures serves { Serves tree.old tree.new result (Leaves tree.old tree.new) }
+    ensures filled { OnOk result (spaces.new ≡ with_bytes spaces.old at address (part offset count (file_at tree.old.files number))) }
+    ensures failed { OnErr result ((held : Held) × (spaces.new ≡ with_held spaces.old at held)) }
+{
+    let _pages = spaces.pages(at);
+    let mut buffer = [0; BLOCK_SIZE];
+    let mut done = 0;
+    while done < count {
+        let size = (count - done).min(BLOCK_SIZE as u64) as usize;
+        let from = offset as usize + done as usize;
+        let piece = &mut buffer[..size];
+        fill_piece(tree, spaces, at, number, from, address + done, piece)?;
+        done += size as u64;
+    }
+    Ok(())
+}
+
+// Brings a segment of a file behind the pages of a place: those of the gap before it come too.
+fn load_segment<D: BlockDev, T: Translate + Drop>(
+    tree: &mut Tree<D>,
+    spaces: &mut Spaces<T>,
+    at: usize,
+    number: usize,
+    segment: LoadSegment,
+) -> Result<(), DeviceFault>
+    requires up { tree.old.failed ≡ false }
+    requires file { IsFile tree.old.files number }
+    requires space { has_space spaces.old at ≡ true }
+    requires paged { IsPaged (held_at spaces.old at) }
+    requires long { length (file_at tree.old.files number) < 2 ^ 32 }
+    requires follows { Follows (length (file_at tree.old.files number)) (length (held_at spaces.old at).memory) segment }
+    requires few { ceil_div (segment.address + segment.size) 4096 < 2 ^ 32 }
+    requires room { HasRoom spaces.old at (ceil_div (segment.address + segment.size) 4096) }
+    ensures serves { Serves tree.old tree.new result (Leaves tree.old tree.new) }
+    ensures loaded { OnOk result ((g : Segment) → segment ≡ segment_shown g → spaces.new ≡ with_held spaces.old at (paged ((held_at spaces.old at).memory ++ segment_pages (file_at tree.old.files number) (length (held_at spaces.old at).memory) g))) }
+    ensures failed { OnErr result ((held : Held) × (spaces.new ≡ with_held spaces.old at held)) }
+{
+    let LoadSegment {
+        offset,
+        address,
+        file_size,
+        size,
+        ..
+    } = segment;
+    let perm = Perm {
+        w: segment.writable,
+        x: segment.executable,
+        u: true,
+    };
+    let end = (address + size).div_ceil(FRAME_SIZE as u64);
+    let pages = end - spaces.pages(at);
+    add_pages(spaces, at, pages, perm);
+    fill_node(tree, spaces, at, number, offset, address, file_size)
+}
+
+// Loads what the program header at a place asks for, which isn't refused, and tells where it ends.
+fn load_next<D: BlockDev, T: Translate + Drop>(
+    tree: &mut Tree<D>,
+    spaces: &mut Spaces<T>,
+    at: usize,
+    number: usize,
+    place: usize,
+    end: u64,
+    len: u32,
+) -> Result<u64, DeviceFault>
+    requires up { tree.old.failed ≡ false }
+    requires file { IsFile tree.old.files number }
+    requires long { len ≡ length (file_at tree.old.files number) }
+    requires within { place + 56 ≤ len }
+    requires space { has_space spaces.old at ≡ true }
+    requires paged { IsPaged (held_at spaces.old at) }
+    requires whole { length (held_at spaces.old at).memory ≡ ceil_div end 4096 }
+    requires next { (next : Loaded) × (next_in (file_at tree.old.files number) place (held_at spaces.old at) end ≡ Some next) × (length next.pages < 2 ^ 32) × HasRoom spaces.old at (length next.pages) }
+    ensures serves { Serves tree.old tree.new result (Leaves tree.old tree.new) }
+    ensures loaded { IfOk result (λ told. (next : Loaded) → next_in (file_at tree.old.files number) place (held_at spaces.old at) end ≡ Some next → (told ≡ next.end) × (spaces.new ≡ with_held spaces.old at (paged next.pages))) }
+    ensures failed { OnErr result ((held : Held) × (spaces.new ≡ with_held spaces.old at held)) }
+{
+    match read_segment(tree, number, place, end, len)? {
+        Ok(Some(segment)) => {
+            load_segment(tree, spaces, at, number, segment)?;
+            Ok(segment.address + segment.size)
+        }
+        Ok(None) => Ok(end),
+        Err(_) => unreachable!(),
+    }
+}
+
+// Loads the segments of a file, none of which is refused, into a place without pages.
+fn load_segments<D: BlockDev, T: Translate + Drop>(
+    tree: &mut Tree<D>,
+    spaces: &mut Spaces<T>,
+    at: usize,
+    number: usize,
+    header: FileHeader,
+    len: u32,
+) -> Result<(), DeviceFault>
+    requires up { tree.old.failed ≡ false }
+    requires file { IsFile tree.old.files number }
+    requires long { len ≡ length (file_at tree.old.files number) }
+    requires within { is_within header.program_headers (56 * header.count) len ≡ true }
+    requires space { has_space spaces.old at ≡ true }
+    requires empty { held_at spaces.old at ≡ no_pages }
+    requires last { (last : Loaded) × (load_segments (file_at tree.old.files number) header.count header.program_headers nothing_loaded ≡ Some last) × (length last.pages < 2 ^ 32) × HasRoom spaces.old at (length last.pages) }
+    ensures serves { Serves tree.old tree.new result (Leaves tree.old tree.new) }
+    ensures loaded { OnOk result ((last : Loaded) → load_segments (file_at tree.old.files number) header.count header.program_headers nothing_loaded ≡ Some last → spaces.new ≡ with_held spaces.old at (paged last.pages)) }
+    ensures failed { OnErr result ((held : Held) × (spaces.new ≡ with_held spaces.old at held)) }
+{
+    let mut end = 0;
+    for i in 0..header.count {
+        let place = header.program_headers as usize + PROGRAM_HEADER_SIZE * usize::from(i);
+        end = load_next(tree, spaces, at, number, place, end, len)?;
+    }
+    Ok(())
+}
+
+/// A guard page and a page for the stack, which has these bytes, come behind the pages of a place.
+pub fn add_stack<T: Translate + Drop>(spaces: &mut Spaces<T>, at: usize, page: &[u8; FRAME_SIZE])
+    requires space { has_space spaces.old at ≡ true }
+    requires paged { IsPaged (held_at spaces.old at) }
+    requires room { HasRoom spaces.old at (length (held_at spaces.old at).memory + 2) }
+    ensures { spaces.new ≡ with_held spaces.old at (paged (stacked (held_at spaces.old at).memory page.now)) }
+{
+    let pages = spaces.pages(at);
+    add_pages(spaces, at, 1, GUARD);
+    add_pages(spaces, at, 1, STACK);
+    spaces.fill(at, (pages + 1) * FRAME_SIZE as u64, page);
+}
+
+/// Puts a program with its arguments in the place of what a place holds. Where the device fails no more is promised of that place
+/// than that it has a space.
+pub fn load<D: BlockDev, T: Translate + Drop>(
+    tree: &mut Tree<D>,
+    spaces: &mut Spaces<T>,
+    at: usize,
+    number: usize,
+    program: &Program,
+    arguments: &Arguments,
+) -> Result<(), DeviceFault>
+    requires up { tree.old.failed ≡ false }
+    requires file { IsFile tree.old.files number }
+    requires program { program_in (file_at tree.old.files number) ≡ Some program.now }
+    requires few { program.now.pages < 2 ^ 32 }
+    requires space { has_space spaces.old at ≡ true }
+    requires room { HasRoom spaces.old at (program.now.pages + 2) }
+    ensures serves { Serves tree.old tree.new result (Leaves tree.old tree.new) }
+    ensures loaded { OnOk result ((l : Loaded) → loaded_of (file_at tree.old.files number) ≡ Some l → spaces.new ≡ with_held spaces.old at (paged (stacked l.pages arguments.now.page))) }
+    ensures failed { OnErr result ((held : Held) × (spaces.new ≡ with_held spaces.old at held)) }
+{
+    clear(spaces, at);
+    let len = tree.stat(number)?.size;
+    load_segments(tree, spaces, at, number, program.header, len)?;
+    add_stack(spaces, at, &arguments.page);
+    Ok(())
+}

@@ -1,0 +1,27 @@
+-- The bytes that go between a node and the memory of a place.
+use Rattle.std.specs.Prelude.{List, None, Option, Some, [], drop, length, take, unwrap_or, ℕ, ◌≡◌}
+use Rattle.spaces.specs.Spaces.{Spaces, held_at, with_held, written}
+use Rattle.tree.specs.Tree.{FileTree}
+use Rattle.unixmodel.specs.Files.{Files, Node, node_bytes, slot}
+use Rattle.unixmodel.specs.Memory.{read_bytes}
+
+abbrev pub bytes_of : Option Node → List ℕ
+bytes_of None = []
+bytes_of (Some node) = node_bytes node
+
+-- the bytes of a node from a place on, so many at the most
+abbrev pub bytes_read : Files → ℕ → ℕ → ℕ → List ℕ
+bytes_read files number offset count = take count (drop offset (bytes_of (slot files number)))
+
+-- a read leaves the files as they were, and tells how many bytes came
+pub record IsRead (old new : FileTree) (number offset most told : ℕ) : Type 0 where
+  pub same : new ≡ record old { failures = new.failures }
+  pub count : told ≡ length (bytes_read old.files number offset most)
+
+-- the memory of a place has these bytes from an address on
+abbrev pub with_bytes : Spaces → ℕ → ℕ → List ℕ → Spaces
+with_bytes s at address bytes = with_held s at (written (held_at s at) address bytes)
+
+-- so many bytes of a place, which its program may read
+abbrev pub bytes_given : Spaces → ℕ → ℕ → ℕ → List ℕ
+bytes_given s at address count = unwrap_or (read_bytes (held_at s at).memory address count) []

@@ -1,0 +1,69 @@
+//! From the memory of a process to a file.
+
+ghost use Rattle.std.specs.Prelude.{◌≡◌, false, is_some, take, true};
+ghost use Rattle.spaces.specs.Spaces.{has_space, held_at};
+ghost use Rattle.transfers.specs.Moved.{bytes_given};
+ghost use Rattle.tree.specs.Tree.{Serves};
+ghost use Rattle.tree.specs.Written.{IsFile, count_of, files_after, written};
+ghost use Rattle.unixmodel.specs.declared.trap.Access.TheVariants.{Load};
+ghost use Rattle.unixmodel.specs.Memory.{read_bytes};
+ghost use Rattle.vm.specs.Reach.{piece_at};
+
+use blockdev::{BlockDev, DeviceFault};
+use spaces::Spaces;
+use sv39::Translate;
+use tree::Tree;
+
+// The longest file in bytes.
+const LONGEST: u64 = 274_432;
+
+// The bytes of a place from an address on, up to the end of its page, and so many at the most.
+fn piece<T: Translate + Drop>(spaces: &Spaces<T>, at: usize, address: u64, most: u64) -> &[u8]
+    requires { has_space spaces.now at ≡ true }
+    ensures { result.now ≡ take most (piece_at Load (held_at spaces.now at).memory address) }
+{
+    let piece = spaces.readable(at, address);
+    if piece.len() as u64 > most {
+        &piece[..most as usize]
+    } else {
+        piece
+    }
+}
+
+/// Writes `count` bytes of the memory of a place from `address` on into a file from the place `offset` on, as many as there
+/// are blocks for, and tells how many. `None` comes where `offset` lies past the file's end or the file would be longer than
+/// 274432 bytes; nothing is written then.
+pub fn write_node<D: BlockDev, T: Translate + Drop>(
+    tree: &mut Tree<D>,
+    spaces: &Spaces<T>,
+    at: usize,
+    number: usize,
+    offset: u32,
+    address: u64,
+    count: u64,
+) -> Result<Option<u64>, DeviceFault>
+    requires up { tree.old.failed ≡ false }
+    requires file { IsFile tree.old.files number }
+    requires space { has_space spaces.now at ≡ true }
+    requires readable { is_some (read_bytes (held_at spaces.now at).memory address count) ≡ true }
+    ensures { Serves tree.old tree.new result (λ went. let w = written tree.old.block_limit tree.old.files number offset (bytes_given spaces.now at address count) in (tree.new ≡ record tree.old { files = files_after tree.old.files w; failures = tree.new.failures }) × (went ≡ count_of w)) }
+{
+    let _pages = spaces.pages(at);
+    let size = tree.stat(number)?.size;
+    if offset > size || u64::from(offset) + count > LONGEST {
+        return Ok(None);
+    }
+    let mut done = 0;
+    while done < count {
+        let piece = piece(spaces, at, address + done, count - done);
+        let from = offset as usize + done as usize;
+        let Some(went) = tree.write(number, from, piece)? else {
+            unreachable!()
+        };
+        done += went as u64;
+        if went < piece.len() {
+            return Ok(Some(done));
+        }
+    }
+    Ok(Some(done))
+}
