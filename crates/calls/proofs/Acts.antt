@@ -1,25 +1,28 @@
 -- Calls of the running process that are answered at once.
+use Rattle.blockdev.specs.declared.DeviceFault.{DeviceFault}
 use Rattle.std.proofs.Common.{◌≡◌, Err, ℕ, ◌<◌, ◌≤◌, List, [], length, Option, Some, None, refl, ap, subst, sym, ◌∙◌, Bool, true, false, ◌%◌, ℤ}
-use Rattle.std.specs.Prelude.{IfSome, slice_index, slice_set, unwrap_or}
+use Rattle.std.specs.Prelude.{IfOk, IfSome, Ok, OnOk, Result, slice_index, slice_set, unwrap_or}
 use Rattle.std.proofs.lemmas.List.{length-set}
 use Rattle.std.specs.Io.KnownBytes.{Appends}
-use Rattle.calls.specs.Acts.{Acts, CanCome, Comes, GoesOn, IsBegun, Runs, Tries, going_at, going_by, outcome_at, outcome_by, settled_by, called, pending_for}
+use Rattle.kernel.specs.Holding.{IsInUse, home_in}
+use Rattle.kernel.proofs.Holding.{used-put}
+use Rattle.calls.specs.Acts.{Acts, CanCome, Comes, MayPrint, GoesOn, IsBegun, Runs, Tries, going_at, going_by, outcome_at, outcome_by, settled_by, called, pending_for}
 use Rattle.calls.specs.declared.halt.Halt.{Halt}
 use Rattle.calls.specs.declared.halt.Halt.TheVariants.{Console, Device, Halted, InitEnded}
 use Rattle.calls.specs.declared.outcome.Came.{Came}
-use Rattle.calls.specs.declared.outcome.Came.TheVariants.{Answers, Blocks, Exits, Refuses}
+use Rattle.calls.specs.declared.outcome.Came.TheVariants.{Answers, Blocks, Exits, KillsItself, Refuses}
 use Rattle.kernel.specs.Descriptors.{descriptors_in}
 use Rattle.calls.specs.Does.{Dispatches, IsLost, IsMade, IsServed, LeavesTree}
 use Rattle.calls.proofs.Prints.{Appends-none}
 use Rattle.calls.proofs.Served.{same-served}
 use Rattle.kernel.proofs.Opens.{waits-other}
-use Rattle.kernel.specs.Kernel.{Kernel, answered, entered, on_hart, state_of, argument, blocked, ended}
+use Rattle.kernel.specs.Kernel.{Kernel, answered, argument, blocked, counting, ended, entered, on_hart, state_of}
 use Rattle.kernel.specs.Ready.{has_slept}
 use Rattle.kernel.specs.Sound.{IsKernel, IsOpened, IsPlaced}
 use Rattle.kernel.proofs.Reaped.{match-active, match-place, over-state, within-state}
 use Rattle.calls.proofs.Rows.{aligned-next, int-bits, enters-kernel, enters-run, numbered}
 use Rattle.kernel.proofs.Leaving.{ends-at, waits-run}
-use Rattle.kernel.proofs.Runs.{IsRun, eq-self, moved-state, process-run, run-of, runs-set, self, slot-put, stands-set, with_process, within-run, within-space}
+use Rattle.kernel.proofs.Runs.{IsRun, eq-self, home-running, moved-state, process-run, run-of, runs-set, self, slot-put, stands-set, with_process, within-run, within-space}
 use Rattle.calls.proofs.Settles.{after, settle-limited, settle-done}
 use Rattle.kernel.proofs.Running.{answer-run, live, not-killed, runs-mode}
 use Rattle.files.specs.Places.{Counted, opens_of}
@@ -85,28 +88,39 @@ module _ (k last : Kernel) (i : ℕ) (is : IsKernel k) (active : k.spaces.active
     pub settles-blocks : (w : Pending) → CanCome k i (Blocks w) → last ≡ blocked k i w → state_of last ≡ settled_by (state_of k) i (Blocks w)
     settles-blocks w can made = let x = at-work in rw made (sym (waits-run k i x.process x.held x.run x.sound z a w (rw (ap (λ (o : Option Held). unwrap_or o no_pages) x.run.space, ap descriptors_in x.run.process) at can.0) (rw (ap descriptors_in x.run.process) at can.1)))
 
-    pub settles-exits : (status : ℤ) → last ≡ ended k i status → state_of last ≡ settled_by (state_of k) i (Exits status)
-    settles-exits status made = let x = at-work in rw made (sym (ends-at k i x.process x.held x.run x.sound z a status))
+  -- it ended, or an access failed
+  module _ (z : slice_index k.spaces.registers 0 ≡ 0) (a : k.spaces.pc % 4 ≡ 0) where
+    pub settles-exits-if : (status meant : ℤ) → meant ≡ status → (r : Result (Unit {0}) DeviceFault) → IfOk r (λ done. last ≡ counting (ended k i meant) last.tree.failures) → OnOk r (state_of last ≡ settled_by (state_of k) i (Exits status))
+    settles-exits-if status meant same (Err fault) made = tt
+    settles-exits-if status meant same (Ok done) made = let x = at-work in ap state_of made ∙ ap (λ n. state_of (ended k i n)) same ∙ sym (ends-at k i x.process x.held x.run x.sound z a status)
 
 -- where the device and the console's writer may fail
 module _ {k e : Kernel} {i : ℕ} {call : Option Call} (begun : IsBegun k e i) (number : call_of (low (slice_index k.spaces.registers 17)) ≡ call) (new : Kernel) (before after : Option (List ℕ)) where
   pub makes-of : {bytes : List ℕ} {came : Came} → Comes e new i (outcome_at (state_of e) i call) bytes came → Appends before after bytes → (last : Kernel) → state_of last ≡ settled_by (state_of new) i came → IsMade last (called (state_of k) i) before after
   makes-of comes printed last done = rw (answers begun number comes _ done) (record { state = refl; printed = printed })
 
-  pub fails-of : (rising : Type 0) (halt : Halt) → Tries e new i (outcome_at (state_of e) i call) before after rising ⊥ (Err halt) → Dispatches {X = Unit {0}} new (called (state_of k) i) before after rising (Err halt)
+  pub fails-of : (rising : Type 0) (halt : Halt) → Tries e new i (outcome_at (state_of e) i call) before after rising (Err halt) → Dispatches {X = Unit {0}} new (called (state_of k) i) before after rising (Err halt)
   fails-of rising (InitEnded status) tried = absurd tried
   fails-of rising Console tried = (tried.0, rw (begun.row call number) tried.1)
-  fails-of rising Device tried = absurd tried.0
+  fails-of rising Device tried = tried.1
   fails-of rising Halted tried = absurd tried
 
   -- what that leaves of the files of the disk
-  pub fails-leave : (rising device : Type 0) (halt : Halt) → Tries e new i (outcome_at (state_of e) i call) before after rising device (Err halt) → LeavesTree {X = Unit {0}} k.tree new.tree (Err halt)
-  fails-leave rising device (InitEnded status) tried = absurd tried
-  fails-leave rising device Console tried = tried.2 ∙ begun.tree
-  fails-leave rising device Device tried = subst (λ (t : FileTree). IsLost t new.tree) begun.tree tried.1
-  fails-leave rising device Halted tried = absurd tried
+  pub fails-leave : (rising : Type 0) (halt : Halt) → Tries e new i (outcome_at (state_of e) i call) before after rising (Err halt) → LeavesTree {X = Unit {0}} k.tree new.tree (Err halt)
+  fails-leave rising (InitEnded status) tried = absurd tried
+  fails-leave rising Console tried = tried.2 ∙ begun.tree
+  fails-leave rising Device tried = subst (λ (t : FileTree). IsLost t new.tree) begun.tree tried.0
+  fails-leave rising Halted tried = absurd tried
 
 -- ---- what the row comes to
+
+-- a call that puts out nothing may come to anything
+quietly : (c : Came) → MayPrint c []
+quietly (Answers value) = tt
+quietly Refuses = refl
+quietly (Blocks w) = refl
+quietly (Exits status) = refl
+quietly KillsItself = refl
 
 module _ (k : Kernel) (i : ℕ) (x : Here k i) where
   abbrev pub me : unix.Process
@@ -116,7 +130,7 @@ module _ (k : Kernel) (i : ℕ) (x : Here k i) where
   outcome-here call = ap (outcome_by (state_of k) i call) (process-run k i x.process x.held x.run)
 
   pub came : (call : Option Call) (c : Came) → CanCome k i c → settle (state_of k) i (outcome_of (state_of k) i me call) ≡ quiet (settled_by (state_of k) i c) → Acts k k i call c
-  came call c can is = record { makes = ap (settle (state_of k) i) (outcome-here call) ∙ is; active = x.run.active; sound = x.sound; can = can; served = same-served refl x.run.up }
+  came call c can is = record { makes = ap (settle (state_of k) i) (outcome-here call) ∙ is; active = x.run.active; sound = x.sound; can = can; printed = quietly c; served = same-served refl x.run.up }
 
   pub refused : (call : Option Call) → outcome_of (state_of k) i me call ≡ Refused → Acts k k i call Refuses
   refused call is = came call Refuses tt (ap (settle (state_of k) i) is)
@@ -129,6 +143,7 @@ module _ (k : Kernel) (i : ℕ) (x : Here k i) where
     active = y.run.active;
     sound = y.sound;
     can = tt;
+    printed = tt;
     served = served;
   }
 
@@ -152,21 +167,25 @@ module _ (k : Kernel) (i : ℕ) (x : Here k i) where
     going-here = ap (going_by (state_of k) i w) (process-run k i x.process x.held x.run)
 
     -- it is done, or waits with v
-    pub goes-done : (new : Kernel) (answer : ℕ) → Here new i → new.tree ≡ k.tree → going ≡ Done (state_of new) answer [] → GoesOn k new i w (Answers answer)
-    goes-done new answer y same is = record {
+    pub goes-serves : (new : Kernel) (answer : ℕ) → Here new i → IsServed k.tree new.tree → going ≡ Done (state_of new) answer [] → GoesOn k new i w (Answers answer)
+    goes-serves new answer y served is = record {
       comes = record {
         makes = ap (settle (state_of k) i) (going-here ∙ is) ∙ settle-done new i y.process y.held y.run y.sound (state_of k) answer [] ∙ ap quiet (sym (answer-run new i y.process y.held y.run y.sound answer));
         active = y.run.active;
         sound = y.sound;
         can = tt;
-        served = same-served same x.run.up;
+        printed = tt;
+        served = served;
       };
       within = rw (going-here ∙ is) (ap (λ (b : Bool). provided b (Done (state_of new) answer [])) (within-state new y.sound y.run.up));
     }
 
+    pub goes-done : (new : Kernel) (answer : ℕ) → Here new i → new.tree ≡ k.tree → going ≡ Done (state_of new) answer [] → GoesOn k new i w (Answers answer)
+    goes-done new answer y same is = goes-serves new answer y (same-served same x.run.up) is
+
     pub goes-waits : (new : Kernel) (v : Pending) → Here new i → new.tree ≡ k.tree → CanCome new i (Blocks v) → going ≡ Waits (state_of new) v → GoesOn k new i w (Blocks v)
     goes-waits new v y same can is = record {
-      comes = record { makes = ap (settle (state_of k) i) (going-here ∙ is); active = y.run.active; sound = y.sound; can = can; served = same-served same x.run.up };
+      comes = record { makes = ap (settle (state_of k) i) (going-here ∙ is); active = y.run.active; sound = y.sound; can = can; printed = refl; served = same-served same x.run.up };
       within = rw (going-here ∙ is) refl;
     }
 
@@ -177,10 +196,11 @@ module _ (k : Kernel) (i : ℕ) (x : Here k i) where
       active = goes.comes.active;
       sound = goes.comes.sound;
       can = goes.comes.can;
+      printed = goes.comes.printed;
       served = goes.comes.served;
     }
 
--- a call of no number, or one that isn't built yet
+-- a call of no number
 pub unbuilt : {k : Kernel} {i : ℕ} {call : Option Call} → (other : Option Call) → Runs k i → call ≡ other → ((p : unix.Process) → outcome_of (state_of k) i p other ≡ Refused) → (at : Option (List ℕ))
     → (bytes : List ℕ) × Comes k k i (outcome_at (state_of k) i call) bytes Refuses × Appends at at bytes
 unbuilt {k = k} {i = i} other runs is none at = let x = here-of k i runs.sound runs.active in rw is ([], refused k i x other (none (me k i x)), Appends-none at)
@@ -219,14 +239,14 @@ module _ (k : Kernel) (i : ℕ) (runs : Runs k i) where
   pub sleeps : {c : Came} → GoesOn k k i (pending_for k Sleep) c → Acts k k i (Some Sleep) c
   sleeps goes = begins-on k i now (pending_for k Sleep) Sleep refl goes
 
--- ---- the running process is q now, its space shows h, and open files and pipes are others
+-- ---- the running process is q now, its space shows h, and files, open files and pipes are others
 
-module _ (k : Kernel) (i : ℕ) (x : Here k i) (q : Process) (h : Held) (files : List (Option Counted)) (pipes : List (Option (List ℕ))) (placed : IsPlaced q h) (runs : q.mode ≡ Running) where
+module _ (k : Kernel) (i : ℕ) (x : Here k i) (tree : FileTree) (q : Process) (h : Held) (files : List (Option Counted)) (pipes : List (Option (List ℕ))) (placed : IsPlaced q h) (runs : q.mode ≡ Running) where
   abbrev pub turned : Kernel
-  turned = record k { table = with_process k.table i q; spaces = record k.spaces { places = slice_set k.spaces.places i (Some h); pipes = pipes }; files = files }
+  turned = record k { tree = tree; table = with_process k.table i q; spaces = record k.spaces { places = slice_set k.spaces.places i (Some h); pipes = pipes }; files = files }
 
-  pub turned-here : IsOpened files pipes (put k.table.places i q) → taken_frames turned.spaces ≤ k.spaces.frames → Here turned i
-  turned-here opened fits =
+  pub turned-here : tree.failed ≡ false → IsInUse tree files (put k.table.places i q) → IsOpened files pipes (put k.table.places i q) → taken_frames turned.spaces ≤ k.spaces.frames → Here turned i
+  turned-here up used opened fits =
       let r = x.run in
       let is = x.sound in
       let short = within-run k i x.process x.held r in
@@ -234,20 +254,20 @@ module _ (k : Kernel) (i : ℕ) (x : Here k i) (q : Process) (h : Held) (files :
       record {
         process = q;
         held = h;
-        run = record { active = r.active; process = slot-put k.table.places i (Some q) short; space = slot-put k.spaces.places i (Some h) low; placed = placed; runs = runs; up = r.up };
+        run = record { active = r.active; process = slot-put k.table.places i (Some q) short; space = slot-put k.spaces.places i (Some h) low; placed = placed; runs = runs; up = up };
         sound = record {
           all = length-set k.table.places i (Some q) ∙ is.all;
           spaces = length-set k.spaces.places i (Some h) ∙ is.spaces;
           stands = stands-set k.table.places k.spaces.places i (Some q) (Some h) short low placed is.stands;
           runs = runs-set k.table.places i (Some q) k.spaces.active k.spaces.active short (rw (runs, r.active) (sym (eq-self i))) (λ j other. refl) is.runs;
-          filed = is.filed;
+          filed = record { up = λ j e. up; used = λ good. used };
           fits = fits;
           opened = opened;
         };
       }
 
-  pub turned-state : state_of turned ≡ record (put_process (state_of k) i (with_memory h.memory (on_hart k.spaces q))) { opens = opens_of files; pipes = pipes }
-  turned-state = ap (λ (s : State). record s { opens = opens_of files; pipes = pipes }) (moved-state k i x.process x.held x.run x.sound q h k.spaces.registers k.spaces.pc placed runs)
+  pub turned-state : state_of turned ≡ record (put_process (state_of k) i (with_memory h.memory (on_hart k.spaces q))) { files = tree.files; block_limit = tree.block_limit; opens = opens_of files; pipes = pipes }
+  turned-state = ap (λ (s : State). record s { files = tree.files; block_limit = tree.block_limit; opens = opens_of files; pipes = pipes }) (moved-state k i x.process x.held x.run x.sound q h k.spaces.registers k.spaces.pc placed runs)
 
   -- the frames don't suffice for that
   pub turned-full : k.spaces.frames < taken_frames turned.spaces → is_within (state_of turned) ≡ false
@@ -264,5 +284,12 @@ named-placed k i x ds same = let l = live k i x.process x.held x.run x.sound in 
   size = placed.size;
   zero = placed.zero;
   aligned = placed.aligned;
-  mode = runs-mode (record x.process { descriptors = ds }) x.held.memory x.process.mode x.run.runs (record { descriptors = same ∙ l.descriptors; directory = l.directory }) (not-killed k i x.process x.held x.run x.sound);
+  mode = runs-mode (record x.process { descriptors = ds }) x.held.memory x.process.mode x.run.runs (record { descriptors = same ∙ l.descriptors }) (not-killed k i x.process x.held x.run x.sound);
 }
+
+-- the files are in use, also where the running process is another one that works where it did
+pub used-here : (k : Kernel) (i : ℕ) (x : Here k i) → IsInUse k.tree k.files k.table.places
+used-here k i x = x.sound.filed.used x.run.up
+
+pub used-turned : (k : Kernel) (i : ℕ) (x : Here k i) (q : Process) → q.mode ≡ Running → q.directory ≡ x.process.directory → IsInUse k.tree k.files (put k.table.places i q)
+used-turned k i x q runs same = used-put (used-here k i x) i (Some q) (home-running q runs ∙ ap Some same ∙ sym (home-running x.process x.run.runs) ∙ sym (ap home_in x.run.process))

@@ -1,7 +1,9 @@
 -- wait: the first zombie child of the running process goes, and its status is written.
+use Rattle.kernel.specs.Holding.{home_in}
+use Rattle.kernel.proofs.Holding.{filed-put}
 use Rattle.std.proofs.Common.{◌≡◌, ◌≢◌, ℕ, zero, suc, ◌+◌, ◌-◌, ◌/◌, ◌%◌, ◌<◌, ◌≤◌, Bool, true, false, ◌&&◌, nat_eq, List, [], ◌∷◌, length, take, drop, IfSome, Option, Some, None, ℤ, refl, ap, sym, subst, ◌∙◌, arith}
 use Rattle.std.specs.List.{prefix_len}
-use Rattle.std.specs.Prelude.{cond, is_some, not, option_map, slice_index_or, slice_set}
+use Rattle.std.specs.Prelude.{cond, if◌then◌else◌, is_some, not, option_map, slice_index_or, slice_set}
 use Rattle.std.specs.Int.{cast_unsigned, w32}
 use Rattle.std.proofs.lemmas.Bool.{ne_eqb}
 use Rattle.std.proofs.lemmas.List.{length-append, length-set, map-set, take-append-drop}
@@ -126,7 +128,7 @@ module _ (k : Kernel) (i : ℕ) (x : Here k i) (j : ℕ) (child : Process) (z : 
     spaces = length-set k.spaces.places j None ∙ is.spaces;
     stands = stands-set k.table.places k.spaces.places j None None in-table in-spaces tt is.stands;
     runs = runs-set k.table.places j None k.spaces.active k.spaces.active in-table (sym (ap (is_at j) x.run.active ∙ other-at i j z.apart)) (λ n other. refl) is.runs;
-    filed = is.filed;
+    filed = filed-put is.filed j None (sym (ap home_in z.at ∙ ap (λ b. if b then None else Some child.directory) z.ended));
     fits = fewer;
     opened = opened-names k.files k.spaces.pipes k.table.places j None (λ n. sym (ap (names_in n) z.at ∙ ap (names n) no-names ∙ names-none n)) tt is.opened;
   }
@@ -210,7 +212,7 @@ module _ (k : Kernel) (i : ℕ) (x : Here k i) (j : ℕ) (child : Process) (z : 
         process = x.process;
         held = h;
         run = moved-run rest i x.process x.held run is x.process h k.spaces.registers k.spaces.pc placed x.run.runs;
-        sound = moved-kernel rest i x.process x.held run is x.process h k.spaces.registers k.spaces.pc placed x.run.runs refl no-more;
+        sound = moved-kernel rest i x.process x.held run is x.process h k.spaces.registers k.spaces.pc placed x.run.runs refl refl no-more;
       }
 
   collected-state : state_of collected_to ≡ record (state_of k) { places = clear (put (state_of k).places i (rows.with_status (me k i x) a status)) j }

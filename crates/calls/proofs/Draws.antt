@@ -1,13 +1,13 @@
 -- A read from a pipe goes on.
 use Rattle.std.proofs.Common.{◌≡◌, ℕ, ◌+◌, ◌<◌, ◌≤◌, Bool, true, false, List, [], ◌∷◌, length, min, take, drop, Option, Some, None, refl, ap, subst, sym, ◌∙◌, arith}
-use Rattle.std.specs.Prelude.{IfSome, if◌then◌else◌, not, ◌==◌}
+use Rattle.std.specs.Prelude.{if◌then◌else◌, IfSome, not, ◌==◌}
 use Rattle.std.proofs.lemmas.Bool.Decides.{nat_tests}
 use Rattle.calls.specs.Acts.{GoesOn}
 use Rattle.calls.specs.declared.outcome.Came.TheVariants.{Answers, Blocks}
 use Rattle.kernel.specs.Kernel.{Kernel, descriptors_at, state_of}
-use Rattle.kernel.specs.Sound.{IsOpened, IsPending, file_named, is_on_pipe}
+use Rattle.kernel.specs.Sound.{IsForBytes, IsOpened, IsPending, file_named, is_on_pipe}
 use Rattle.calls.specs.Transfers.{OnThePipe, Transfers}
-use Rattle.calls.proofs.Acts.{Here, goes-done, goes-waits, going, me, turned, turned-here, turned-state}
+use Rattle.calls.proofs.Acts.{Here, goes-done, goes-waits, going, me, turned, turned-here, turned-state, used-turned}
 use Rattle.calls.proofs.Collects.{length-write_bytes}
 use Rattle.kernel.proofs.Opens.{waits-reading}
 use Rattle.kernel.proofs.Runs.{set-slot, slot-within}
@@ -15,6 +15,8 @@ use Rattle.calls.proofs.Sends.{piped-kernel}
 use Rattle.kernel.proofs.Steps.{placed-with}
 use Rattle.calls.proofs.Transfers.{file, file-named, going-is, held-here, here, transfer-stands}
 use Rattle.files.specs.declared.file.End.TheVariants as end
+use Rattle.files.specs.declared.file.OpenFile.{OpenFile}
+use Rattle.files.specs.declared.file.Target.TheVariants as target
 use Rattle.files.specs.Places.{has_end, opens_of}
 use Rattle.spaces.specs.Spaces.{Held, Spaces, bytes_in, frames_in, has_pipe, held_at, taken_frames, taken_to, with_held, with_pipe, written}
 use Rattle.spaces.proofs.SpacesLemmas.{some-pipe, taken-placed}
@@ -24,9 +26,7 @@ use Rattle.unixmodel.specs.FileCalls.{read_on, read_pipe}
 use Rattle.unixmodel.specs.Files.{put, slot}
 use Rattle.unixmodel.specs.Memory.{write_bytes}
 use Rattle.unixmodel.specs.Numbers.{low}
-use Rattle.unixmodel.specs.OpenFiles.{OpenFile}
 use Rattle.unixmodel.specs.OpenFiles.End.{WriteEnd}
-use Rattle.unixmodel.specs.OpenFiles.Target.{OnPipe}
 use Rattle.unixmodel.specs.Outcome.{answers, pending_arg}
 use Rattle.unixmodel.specs.Outcome.Outcome.{Done, Waits}
 use Rattle.unixmodel.specs.State.{State, put_process}
@@ -50,7 +50,7 @@ fresh-is None f P is on fresh = absurd (cc)
 fresh-is (Some g) f P is on fresh = let same : g ≡ f = cc in fresh (ap (λ (x : OpenFile). is_on_pipe x.target) same ∙ on)
 
 module _ (k : Kernel) (i : ℕ) (w : Pending) (q : ℕ) (on : OnThePipe k i end.Read q w) where
-  abbrev g : Transfers k i end.Read (OnPipe q on.0) w
+  abbrev g : Transfers k i end.Read (target.Pipe q on.0) w
   g = on.1
 
   abbrev x : Here k i
@@ -76,7 +76,7 @@ module _ (k : Kernel) (i : ℕ) (w : Pending) (q : ℕ) (on : OnThePipe k i end.
 
   -- it has taken nothing yet
   start : w.done ≡ 0
-  start = let f = file g in fresh-is (file_named (opens_of k.files) (descriptors_at k i) (low (pending_arg w 0))) f.file (w.done ≡ 0) (rw (f.named, f.opened) refl) (rw f.on refl) (g.fresh g.number)
+  start = let f = file g in fresh-is (file_named k.files (descriptors_at k i) (low (pending_arg w 0))) f.file (w.done ≡ 0) (rw (f.named, f.opened) refl) (rw f.on refl) (g.fresh g.number)
 
   row : going k i x w ≡ read_pipe (state_of k) i (me k i x) w q bytes
   unfolding read_on
@@ -94,7 +94,7 @@ module _ (k : Kernel) (i : ℕ) (w : Pending) (q : ℕ) (on : OnThePipe k i end.
   h' = written x.held address (take count bytes)
 
   abbrev to : Kernel
-  to = turned k i x x.process h' k.files pipes (placed-with k i x.process x.held x.run x.sound (write_bytes x.held.memory address (take count bytes))) x.run.runs
+  to = turned k i x k.tree x.process h' k.files pipes (placed-with k i x.process x.held x.run x.sound (write_bytes x.held.memory address (take count bytes))) x.run.runs
 
   drawn-is : drawn ≡ to
   drawn-is = rw (held-here g, set-slot k.table.places i (Some x.process) x.run.process) refl
@@ -103,7 +103,7 @@ module _ (k : Kernel) (i : ℕ) (w : Pending) (q : ℕ) (on : OnThePipe k i end.
   to-here =
       let rest = piped-kernel k x.sound q bytes (drop count bytes) at-pipe in
       let opened = subst (IsOpened k.files pipes) (sym (set-slot k.table.places i (Some x.process) x.run.process)) rest.opened in
-      turned-here k i x x.process h' k.files pipes (placed-with k i x.process x.held x.run x.sound (write_bytes x.held.memory address (take count bytes))) x.run.runs opened
+      turned-here k i x k.tree x.process h' k.files pipes (placed-with k i x.process x.held x.run x.sound (write_bytes x.held.memory address (take count bytes))) x.run.runs x.run.up (used-turned k i x x.process x.run.runs refl) opened
       (rewritten-fits (with_pipe k.spaces q (Some (drop count bytes))) i k.spaces.frames x.held address (take count bytes) x.run.space rest.fits)
 
   row-taken : (all : List ℕ) → bytes ≡ all → 0 < length all → read_pipe (state_of k) i (me k i x) w q all ≡ Done (state_of to) (min count (length all)) []
@@ -111,7 +111,7 @@ module _ (k : Kernel) (i : ℕ) (w : Pending) (q : ℕ) (on : OnThePipe k i end.
   row-taken (b ∷ bs) same some =
       ap (λ (n : ℕ). answers (put_process (record (state_of k) { pipes = put k.spaces.pipes q (drop count (b ∷ bs)) }) i (record (me k i x) { memory = write_bytes x.held.memory n (take count (b ∷ bs)) })) (min count (length (b ∷ bs)))) (let s = start in omega (arith, s))
       ∙ ap (λ (all : List ℕ). answers (put_process (record (state_of k) { pipes = put k.spaces.pipes q (drop count all) }) i (record (me k i x) { memory = write_bytes x.held.memory address (take count all) })) (min count (length (b ∷ bs)))) (sym same)
-      ∙ ap (λ (s : State). Done s (min count (length (b ∷ bs))) []) (sym (turned-state k i x x.process h' k.files pipes (placed-with k i x.process x.held x.run x.sound (write_bytes x.held.memory address (take count bytes))) x.run.runs))
+      ∙ ap (λ (s : State). Done s (min count (length (b ∷ bs))) []) (sym (turned-state k i x k.tree x.process h' k.files pipes (placed-with k i x.process x.held x.run x.sound (write_bytes x.held.memory address (take count bytes))) x.run.runs))
 
   drawn-acts : 0 < length bytes → GoesOn k drawn i w (Answers (min count (length bytes)))
   drawn-acts some = rw drawn-is (goes-done k i x w to (min count (length bytes)) to-here refl (row ∙ row-taken bytes refl some))
@@ -134,5 +134,8 @@ module _ (k : Kernel) (i : ℕ) (w : Pending) (q : ℕ) (on : OnThePipe k i end.
     pub reads-ended : e ≡ false → GoesOn k k i w (Answers 0)
     reads-ended is = goes-done k i x w k 0 x refl (empty false is)
 
+    for : IsForBytes k.files (descriptors_at k i) w
+    for = let f = file g in λ read. rw (f.named, f.opened, f.on) refl
+
     pub reads-waiting : e ≡ true → GoesOn k k i w (Blocks w)
-    reads-waiting is = goes-waits k i x w k w x refl (subst (IsPending (descriptors_at k i) (held_at k.spaces i).memory w) (sym g.number) g.can, waits-reading (opens_of k.files) (descriptors_at k i) w g.number g.fresh) (empty true is)
+    reads-waiting is = goes-waits k i x w k w x refl (subst (IsPending (descriptors_at k i) (held_at k.spaces i).memory w) (sym g.number) g.can, waits-reading k.files (descriptors_at k i) w g.number for g.fresh) (empty true is)

@@ -1,20 +1,25 @@
 -- kill: a process is marked; one that marks itself is answered, and ends.
-use Rattle.std.proofs.Common.{◌≡◌, ◌≢◌, ℕ, zero, suc, ◌<◌, ◌%◌, inl, inr, true, false, nat_le, List, [], length, map, Option, Some, None, negsuc, refl, ap, sym, subst, ◌∙◌, arith}
-use Rattle.std.specs.Prelude.{option_map, slice_index, slice_index_or, slice_set}
+use Rattle.unixmodel.specs.declared.process.Mode.{Mode}
+use Rattle.std.proofs.lemmas.Option.{none-some}
+use Rattle.files.specs.Counts.{one_in}
+use Rattle.kernel.specs.Holding.{files_on, home_in, homes_at}
+use Rattle.kernel.proofs.Holding.{AreOldHomes, fewer-leaves, fewer-nodes, named_in, same-set}
+use Rattle.std.proofs.Common.{List, None, Option, Some, [], ap, arith, false, inl, inr, length, map, nat_le, negsuc, refl, subst, suc, sym, true, zero, ℕ, ◌%◌, ◌+◌, ◌<◌, ◌∙◌, ◌≡◌, ◌≢◌}
+use Rattle.std.specs.Prelude.{not, option_map, slice_index, slice_index_or, slice_set}
 use Rattle.std.proofs.lemmas.Bool.{le-leb}
 use Rattle.std.proofs.lemmas.List.{get_or-set_other, length-map, map-set, set-get_or}
 use Rattle.calls.specs.Acts.{Acts, Runs, marked_by, settled_by}
 use Rattle.calls.specs.declared.outcome.Came.TheVariants.{Answers, KillsItself, Refuses}
-use Rattle.kernel.specs.Kernel.{Kernel, answered, argument, base, ended, halted_by, loaded, marked, memories, memory_in, on_hart, rest_of, state_of}
+use Rattle.kernel.specs.Kernel.{Kernel, answered, argument, base, ended, halted_by, lives, loaded, marked, memories, memory_in, on_hart, rest_of, state_of}
 use Rattle.calls.specs.Processes.{named}
 use Rattle.kernel.specs.Sound.{IsKernel, is_at}
 use Rattle.calls.proofs.Acts.{Here, came, does, here-of, me, refused}
-use Rattle.kernel.proofs.Changes.{ended-is, ended-kernel, ended_to, other-at}
+use Rattle.kernel.proofs.Changes.{ended-is, ended-kernel, ended_to, nodes, nodes-counted, old-homes, other-at}
 use Rattle.calls.proofs.Collects.{where-put}
 use Rattle.calls.proofs.Forks.{set-swap}
 use Rattle.kernel.proofs.Marks.{marked-is, marked-kernel, marked_to}
-use Rattle.kernel.proofs.Named.{counts-joined, reap-closed}
-use Rattle.kernel.proofs.Reaped.{IsMatch, match-loaded, within-state_with}
+use Rattle.kernel.proofs.Named.{counts-joined, old-all_closed, reap-closed}
+use Rattle.kernel.proofs.Reaped.{IsMatch, are-away, match-loaded, used-loaded, within-state_with}
 use Rattle.kernel.proofs.Runs.{IsRun, loaded-run, memory-at, process-run, process-with, put-with, same_or_not, self, set-twice, slot-other, slot-put, slot-within, state-run, with_process, within-run}
 use Rattle.kernel.proofs.Running.{change-put, change-run, regs-kernel, regs-run}
 use Rattle.files.specs.Places.{opens_of}
@@ -31,7 +36,7 @@ use Rattle.unixmodel.specs.Memory.{Memory}
 use Rattle.unixmodel.specs.Numbers.{int_of, natural}
 use Rattle.unixmodel.specs.Outcome.{Outcome, answers, end_process, given, limited, provided}
 use Rattle.unixmodel.specs.Outcome.Outcome.{Done}
-use Rattle.unixmodel.specs.Process.{with_answer}
+use Rattle.unixmodel.specs.Process.{is_zombie_mode, with_answer}
 use Rattle.unixmodel.specs.ProcessCalls as rows
 use Rattle.unixmodel.specs.ProcessCalls.{kill_row}
 use Rattle.unixmodel.specs.Reap.{reap}
@@ -120,7 +125,7 @@ module _ (k : Kernel) (i : ℕ) (x : Here k i) where
   self-within : is_within (change_process (state_of k) i rows.marked) ≡ true
   self-within =
       ap is_within self-marked
-      ∙ within-state_with k t (is.filed.flat r.up) (is.filed.limit r.up) is.opened.table match-self
+      ∙ within-state_with k t (is.filed.used r.up).within is.opened.table match-self
       ∙ le-leb _ _ is.fits
 
   -- ---- it has its answer
@@ -170,8 +175,11 @@ module _ (k : Kernel) (i : ℕ) (x : Here k i) where
     alone : (j : ℕ) → j ≢ i → is_at j k'.spaces.active ≡ false
     alone j other = ap (is_at j) r.active ∙ other-at i j other
 
+    living : lives q ≡ true
+    living = ap (λ (m : Mode). not (is_zombie_mode m)) r.runs
+
     abbrev gone : Kernel
-    gone = ended_to k' kernel' zero' a i q h there r.space pids alone (negsuc 0)
+    gone = ended_to k' kernel' zero' a i q h there r.space pids alone living (negsuc 0)
 
     abbrev zombie : Process
     zombie = zombie_of q (negsuc 0)
@@ -183,7 +191,7 @@ module _ (k : Kernel) (i : ℕ) (x : Here k i) where
     gone-at = slot-put (map (option_map (orphaned q.pid)) (loaded k').places) i (Some zombie) (short-orphans (loaded k').places (slot-within (loaded k').places i q there))
 
     gone-kernel : IsKernel (marked_to gone i zombie)
-    gone-kernel = marked-kernel gone i zombie (ended-kernel k' kernel' zero' a i q h there r.space pids alone (negsuc 0)) gone-at refl
+    gone-kernel = marked-kernel gone i zombie (ended-kernel k' kernel' zero' a i q h there r.space pids alone living (negsuc 0)) gone-at refl
 
     -- the places of the process that was marked and ended
     orphans-put : (x : Process) (y : Process) → put (map (option_map (orphaned q.pid)) (put k.table.places i x)) i y ≡ put (map (option_map (orphaned q.pid)) k.table.places) i y
@@ -198,17 +206,42 @@ module _ (k : Kernel) (i : ℕ) (x : Here k i) where
         ap (λ (places : List (Option Process)). record k.table { places = places }) (orphans-put (with_mark q) (with_mark zombie) ∙ sym (orphans-put q (with_mark zombie)) ∙ sym (set-twice (map f (put k.table.places i q)) i (Some zombie) (Some (with_mark zombie))))
         ∙ sym (ap (λ (t : Places). record t { places = put (put (map f t.places) i zombie) i (with_mark zombie) }) (loaded-run k' i p h run'))
 
+    -- the nodes that it let go
+    abbrev ns : List ℕ
+    ns = nodes k' kernel' zero' a i q h there r.space pids alone living (negsuc 0)
+
+    abbrev after : List (Option Process)
+    after = (marked_to gone i zombie).table.places
+
+    after-homes : (m : ℕ) → homes_at after m ≡ homes_at gone.table.places m
+    after-homes m = same-set (λ o. one_in m (home_in o)) gone.table.places i (Some (with_mark zombie)) (ap (λ o. one_in m (home_in o)) (sym gone-at))
+
+    after-counted : (m : ℕ) → files_on gone.files m + homes_at after m + named_in ns m ≡ files_on k.files m + homes_at (loaded k').places m
+    after-counted m = omega (arith, after-homes m, nodes-counted k' kernel' zero' a i q h there r.space pids alone living (negsuc 0) m)
+
+    after-old : AreOldHomes (loaded k').places after
+    after-old j d at = elim (same_or_not j i) [
+      | inl same ↦ absurd (none-some d (ap home_in (sym (slot-put gone.table.places i (Some (with_mark zombie)) (slot-within gone.table.places i zombie gone-at))) ∙ ap (λ n. home_in (slot after n)) (sym same) ∙ at))
+      | inr other ↦ old-homes k' kernel' zero' a i q h there r.space pids alone living (negsuc 0) j d (ap home_in (sym (slot-other gone.table.places i j (Some (with_mark zombie)) other)) ∙ at)
+    ]
+
     gone-ends : end_process (with_table rest answered_table (memories k.spaces)) i (with_memory (slice_index_or (memories k.spaces) i []) (with_mark q)) (negsuc 0) ≡ state_of (marked_to gone i zombie)
     unfolding end_process
     gone-ends =
+        let last = marked_to gone i zombie in
+        let middle = record last { tree = k.tree } in
+        let old = record (state_of middle) { opens = opens_of k.files; pipes = k.spaces.pipes } in
+        let used = used-loaded k' kernel' r.up in
+        let files = old-all_closed k.files q.descriptors in
+        let gives = fewer-nodes used gone.files after ns after-counted files after-old (state_of middle) (memories k.spaces) (are-away after k.spaces.places gone-kernel.stands) refl refl refl in
         ap reap (with_zombie-with_table rest answered_table (memories k.spaces) i (with_mark q) (negsuc 0))
-        ∙ ap (λ (t : Places). reap (record (with_table (base (rest_of gone)) t (memories k.spaces)) { opens = opens_of k.files; pipes = k.spaces.pipes })) gone-table
-        ∙ reap-closed (state_of (marked_to gone i zombie)) k.files k.spaces.pipes q.descriptors (is.filed.flat r.up) is.opened.table is.opened.piped
-        (counts-joined gone.files (marked_to gone i zombie).table.places (memories k.spaces) gone-kernel.opened.counted)
+        ∙ ap (λ (t : Places). reap (record (with_table (base (rest_of (record gone { tree = k.tree }))) t (memories k.spaces)) { opens = opens_of k.files; pipes = k.spaces.pipes })) gone-table
+        ∙ reap-closed old k.files k.spaces.pipes q.descriptors gone.tree.files is.opened.table is.opened.piped (counts-joined gone.files after (memories k.spaces) gone-kernel.opened.counted) gives
+        ∙ ap (λ b. record (state_of middle) { files = gone.tree.files; block_limit = b }) (sym (fewer-leaves used gone.files after ns after-counted files after-old).limit)
 
     pub self-ends : state_of (marked (ended k' i (negsuc 0)) i) ≡ settled_by (state_of k) i KillsItself
     self-ends =
-        let same : marked (ended k' i (negsuc 0)) i ≡ marked_to gone i zombie = ap (λ (x : Kernel). marked x i) (ended-is k' kernel' zero' a i q h there r.space pids alone (negsuc 0)) ∙ marked-is gone i zombie gone-at in
+        let same : marked (ended k' i (negsuc 0)) i ≡ marked_to gone i zombie = ap (λ (x : Kernel). marked x i) (ended-is k' kernel' zero' a i q h there r.space pids alone living (negsuc 0)) ∙ marked-is gone i zombie gone-at in
         sym (ap (end_at (marked_by (state_of k) i) i (negsuc 0)) self-there
         ∙ ap (λ (s : State). end_process s i (with_memory (slice_index_or (memories k.spaces) i []) (with_mark q)) (negsuc 0)) self-answered
         ∙ gone-ends

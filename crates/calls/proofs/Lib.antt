@@ -18,4 +18,15 @@ pub mod Closes
 pub mod Pipes
 pub mod Sends
 pub mod Draws
+pub mod Shapes
+pub mod Names
+pub mod Links
+pub mod Unlinks
 pub mod Puts
+pub mod Moving
+pub mod Fetches
+pub mod Stores
+pub mod Stats
+pub mod Homes
+pub mod Opens
+pub mod Execs

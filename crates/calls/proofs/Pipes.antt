@@ -8,11 +8,13 @@ use Rattle.calls.specs.Acts.{Acts, Runs}
 use Rattle.calls.specs.declared.outcome.Came.TheVariants.{Answers, Refuses}
 use Rattle.kernel.specs.Descriptors.{IsCounted, descriptors_in, named_by, names_in}
 use Rattle.kernel.specs.Kernel.{Kernel, argument, descriptors_at, state_of}
-use Rattle.calls.specs.Renamed.{OpensAs, free_descriptors}
+use Rattle.calls.specs.Renamed.{OpensAs, free_descriptors, pipe_file}
 use Rattle.kernel.specs.Sound.{IsKernel, IsOpenFile, IsOpened, IsPlaced}
-use Rattle.calls.proofs.Acts.{Here, does, here-of, me, refused, turned, turned-full, turned-here, turned-state}
+use Rattle.calls.proofs.Acts.{Here, does, here-of, me, refused, turned, turned-full, turned-here, turned-state, used-turned}
 use Rattle.calls.proofs.Collects.{length-write_bytes}
-use Rattle.kernel.proofs.Opens.{place-counts, waits-kept, waits-running, waits-set}
+use Rattle.kernel.specs.Holding.{IsInUse}
+use Rattle.kernel.proofs.Holding.{used-opened}
+use Rattle.kernel.proofs.Opens.{alike-same, file-opened, place-counts, waits-kept, waits-running, waits-set}
 use Rattle.kernel.proofs.Runs.{same_or_not, set-twice, slot-other, slot-put, slot-within, with_process, within-run}
 use Rattle.kernel.proofs.Running.{live, not-killed, runs-mode}
 use Rattle.kernel.proofs.Steps.{held-run}
@@ -20,7 +22,10 @@ use Rattle.files.specs.Counts.{count-opened, names, names-put}
 use Rattle.files.proofs.Free.{free-None, free-Some, free-opens, free-place, free-put}
 use Rattle.files.specs.Pipes.{IsPiped, piped-both}
 use Rattle.files.specs.declared.table.FileFault.{FileFault}
-use Rattle.files.specs.Places.{Counted, count_at, count_in, free_count, opened, opens_of, place_for, place_from}
+use Rattle.files.specs.declared.file.End.TheVariants as end
+use Rattle.files.specs.declared.file.OpenFile as file
+use Rattle.files.specs.Meant.{file_of}
+use Rattle.files.specs.Places.{Counted, count_at, count_in, file_at, free_count, opened, opens_of, place_for, place_from}
 use Rattle.files.specs.Whole.{free_slot-opens, opens-opened, table-opened}
 use Rattle.proc.specs.declared.process.Process.{Process}
 use Rattle.proc.specs.Places.{Places, changed, with_descriptor}
@@ -101,7 +106,7 @@ abbrev piped : Kernel → ℕ → ℕ → Ends → Kernel
 piped k i address e = record k {
   table = changed (changed k.table i (with_descriptor e.read_fd (Some e.reader))) i (with_descriptor e.write_fd (Some e.writer));
   spaces = with_held (with_pipe k.spaces e.pipe (Some [])) i (written (held_at k.spaces i) address (le 4 e.read_fd ++ le 4 e.write_fd));
-  files = opened (opened k.files e.reader (pipe_end e.pipe ReadEnd)) e.writer (pipe_end e.pipe WriteEnd);
+  files = opened (opened k.files e.reader (pipe_file e.pipe end.Read)) e.writer (pipe_file e.pipe end.Write);
 }
 
 -- ---- the kernel with the pipe
@@ -120,10 +125,10 @@ module _ (k : Kernel) (i : ℕ) (y : Here k i) (a : ℕ) (x : Ends) (free : AreF
   h = written y.held a (le 4 x.read_fd ++ le 4 x.write_fd)
 
   abbrev first : List (Option Counted)
-  first = opened k.files x.reader (pipe_end x.pipe ReadEnd)
+  first = opened k.files x.reader (pipe_file x.pipe end.Read)
 
   abbrev both : List (Option Counted)
-  both = opened first x.writer (pipe_end x.pipe WriteEnd)
+  both = opened first x.writer (pipe_file x.pipe end.Write)
 
   abbrev pipes : List (Option (List ℕ))
   pipes = put k.spaces.pipes x.pipe []
@@ -138,10 +143,10 @@ module _ (k : Kernel) (i : ℕ) (y : Here k i) (a : ℕ) (x : Ends) (free : AreF
   write-free = free-place (put p.descriptors x.read_fd x.reader) x.write_fd (ap (λ (os : List (Option ℕ)). free_slot (put os x.read_fd x.reader)) (sym ds) ∙ free.write_fd)
 
   opens-first : opens_of first ≡ put (opens_of k.files) x.reader (pipe_end x.pipe ReadEnd)
-  opens-first = opens-opened k.files x.reader (pipe_end x.pipe ReadEnd)
+  opens-first = opens-opened k.files x.reader (pipe_file x.pipe end.Read)
 
   opens-both : opens_of both ≡ put (put (opens_of k.files) x.reader (pipe_end x.pipe ReadEnd)) x.writer (pipe_end x.pipe WriteEnd)
-  opens-both = opens-opened first x.writer (pipe_end x.pipe WriteEnd) ∙ ap (λ (os : List (Option OpenFile)). put os x.writer (pipe_end x.pipe WriteEnd)) opens-first
+  opens-both = opens-opened first x.writer (pipe_file x.pipe end.Write) ∙ ap (λ (os : List (Option OpenFile)). put os x.writer (pipe_end x.pipe WriteEnd)) opens-first
 
   reader-free : (x.reader < length k.files) × (slot k.files x.reader ≡ None)
   reader-free = free-place k.files x.reader (sym (free_slot-opens k.files) ∙ free.reader)
@@ -155,14 +160,14 @@ module _ (k : Kernel) (i : ℕ) (y : Here k i) (a : ℕ) (x : Ends) (free : AreF
     zero = y.run.placed.zero;
     aligned = y.run.placed.aligned;
     mode = runs-mode q h.memory q.mode y.run.runs
-        (record { descriptors = length-set (put p.descriptors x.read_fd x.reader) x.write_fd (Some x.writer) ∙ length-set p.descriptors x.read_fd (Some x.reader) ∙ l.descriptors; directory = l.directory })
+        (record { descriptors = length-set (put p.descriptors x.read_fd x.reader) x.write_fd (Some x.writer) ∙ length-set p.descriptors x.read_fd (Some x.reader) ∙ l.descriptors })
         (not-killed k i p y.held y.run is);
   }
 
   counted : IsCounted both (put k.table.places i q)
   counted m =
-      let one = count-opened k.files x.reader (pipe_end x.pipe ReadEnd) reader-free.0 reader-free.1 m in
-      let two = count-opened first x.writer (pipe_end x.pipe WriteEnd) writer-free.0 writer-free.1 m in
+      let one = count-opened k.files x.reader (pipe_file x.pipe end.Read) reader-free.0 reader-free.1 m in
+      let two = count-opened first x.writer (pipe_file x.pipe end.Write) writer-free.0 writer-free.1 m in
       let sums : named_by (put k.table.places i q) m + names_in m (slot k.table.places i) ≡ named_by k.table.places m + names m q.descriptors = sum_by-set (names_in m) k.table.places i (Some q) None (within-run k i p y.held y.run) in
       let was : names_in m (slot k.table.places i) ≡ names m p.descriptors = ap (names_in m) y.run.process in
       let put_one = names-put m p.descriptors x.read_fd x.reader read-free.0 read-free.1 in
@@ -193,17 +198,12 @@ module _ (k : Kernel) (i : ℕ) (y : Here k i) (a : ℕ) (x : Ends) (free : AreF
   ends-open n f at = elim (ends-come n f at) [ inl old ↦ is.opened.each n f old | inr new ↦ subst IsOpenFile (sym new.1) (end-open x.pipe new.0) ]
 
   -- what descriptors named was there
-  ends-old : (n : ℕ) (f : OpenFile) → 0 < count_at k.files n → slot (opens_of both) n ≡ Some f → slot (opens_of k.files) n ≡ Some f
+  ends-old : (n : ℕ) (f : file.OpenFile) → 0 < count_at k.files n → file_at both n ≡ Some f → file_at k.files n ≡ Some f
   ends-old n f some at =
-      let opens = opens_of k.files in
-      let one = put opens x.reader (pipe_end x.pipe ReadEnd) in
-      let more = count-opened k.files x.reader (pipe_end x.pipe ReadEnd) reader-free.0 reader-free.1 n in
+      let more = count-opened k.files x.reader (pipe_file x.pipe end.Read) reader-free.0 reader-free.1 n in
       let apart : n ≢ x.reader = λ same. (let none : count_at k.files n ≡ 0 = ap (count_at k.files) same ∙ ap count_in reader-free.1 in omega (arith, some, none)) in
       let other : n ≢ x.writer = λ same. (let none : count_at first n ≡ 0 = ap (count_at first) same ∙ ap count_in writer-free.1 in omega (arith, some, none, more)) in
-      sym (slot-other opens x.reader n (Some (pipe_end x.pipe ReadEnd)) apart)
-      ∙ sym (slot-other one x.writer n (Some (pipe_end x.pipe WriteEnd)) other)
-      ∙ ap (λ (os : List (Option OpenFile)). slot os n) (sym opens-both)
-      ∙ at
+      sym (file-opened k.files x.reader (pipe_file x.pipe end.Read) n apart) ∙ sym (file-opened first x.writer (pipe_file x.pipe end.Write) n other) ∙ at
 
   both-piped : IsPiped pipes (opens_of both)
   both-piped =
@@ -215,17 +215,21 @@ module _ (k : Kernel) (i : ℕ) (y : Here k i) (a : ℕ) (x : Ends) (free : AreF
 
   both-opened : IsOpened both pipes (put k.table.places i q)
   both-opened = record {
-    table = table-opened first x.writer (pipe_end x.pipe WriteEnd) (table-opened k.files x.reader (pipe_end x.pipe ReadEnd) is.opened.table);
+    table = table-opened first x.writer (pipe_file x.pipe end.Write) (table-opened k.files x.reader (pipe_file x.pipe end.Read) is.opened.table);
     counted = counted;
     each = ends-open;
     all = length-set k.spaces.pipes x.pipe (Some []) ∙ is.opened.all;
     piped = both-piped;
-    waits = waits-set (opens_of both) k.table.places i (Some q) (waits-running (opens_of both) q y.run.runs)
-        (λ j. waits-kept (opens_of k.files) (opens_of both) (slot k.table.places j) (λ d n f named at. ends-old n f (place-counts k.files k.table.places is.opened.counted j (slot k.table.places j) refl d n named) at) (is.opened.waits j));
+    waits = waits-set both k.table.places i (Some q) (waits-running both q y.run.runs)
+        (λ j. waits-kept k.files both (slot k.table.places j) (λ d n f named at. (f, (ends-old n f (place-counts k.files k.table.places is.opened.counted j (slot k.table.places j) refl d n named) at, alike-same f))) (is.opened.waits j));
   }
 
+  -- the ends are on no node
+  both-used : IsInUse k.tree both (put k.table.places i q)
+  both-used = used-opened (used-opened (used-turned k i y q y.run.runs refl) x.reader (pipe_file x.pipe end.Read) reader-free.0 reader-free.1 refl tt) x.writer (pipe_file x.pipe end.Write) writer-free.0 writer-free.1 refl tt
+
   abbrev to : Kernel
-  to = turned k i y q h both pipes placed y.run.runs
+  to = turned k i y k.tree q h both pipes placed y.run.runs
 
   piped-is : piped k i a x ≡ to
   piped-is = rw (changed-twice k.table i p (with_descriptor x.read_fd (Some x.reader)) (with_descriptor x.write_fd (Some x.writer)) y.run.process, held-run k i p y.held y.run is) refl
@@ -245,15 +249,15 @@ module _ (k : Kernel) (i : ℕ) (y : Here k i) (a : ℕ) (x : Ends) (free : AreF
     pipes = pipes;
   }
   to-state =
-      turned-state k i y q h both pipes placed y.run.runs
+      turned-state k i y k.tree q h both pipes placed y.run.runs
       ∙ ap (λ (os : List (Option OpenFile)). record (state_of k) { places = put (state_of k).places i (with_both (me k i y) a x.read_fd x.reader x.write_fd x.writer); opens = os; pipes = pipes }) opens-both
 
   to-full : k.spaces.frames < taken_frames (with_pipe k.spaces x.pipe (Some [])) → is_within (state_of to) ≡ false
-  to-full over = turned-full k i y q h both pipes placed y.run.runs (let same = to-frames in omega (arith, same, over))
+  to-full over = turned-full k i y k.tree q h both pipes placed y.run.runs (let same = to-frames in omega (arith, same, over))
 
 -- ---- the row
 
-given-refused : {X : Type 0} (o : Option X) (rest : X → Outcome) → ((x : X) → o ≡ Some x → limited (rest x) ≡ Refused) → limited (given o rest) ≡ Refused
+pub given-refused : {X : Type 0} (o : Option X) (rest : X → Outcome) → ((x : X) → o ≡ Some x → limited (rest x) ≡ Refused) → limited (given o rest) ≡ Refused
 given-refused None rest each = refl
 given-refused (Some x) rest each = each x refl
 
@@ -281,7 +285,7 @@ module _ {k : Kernel} {i : ℕ} (runs : Runs k i) where
         let new = to k i here a x free in
         let one : free_slot here.process.descriptors ≡ Some x.read_fd = rw (← names-here) free.read_fd in
         let two : free_slot (put here.process.descriptors x.read_fd x.reader) ≡ Some x.write_fd = rw (← names-here) free.write_fd in
-        let there = turned-here k i here (q k i here a x free) (h k i here a x free) (both k i here a x free) (pipes k i here a x free) (placed k i here a x free) here.run.runs (both-opened k i here a x free) (let same = to-frames k i here a x free in omega (arith, same, fits)) in
+        let there = turned-here k i here k.tree (q k i here a x free) (h k i here a x free) (both k i here a x free) (pipes k i here a x free) (placed k i here a x free) here.run.runs here.run.up (both-used k i here a x free) (both-opened k i here a x free) (let same = to-frames k i here a x free in omega (arith, same, fits)) in
         does k i here new Pipe 0 there refl (rw (can-here true can, free.pipe, free.reader, free.writer, one, two) (ap (λ (s : State). Done s 0 []) (sym (to-state k i here a x free))))
 
     -- some of the places isn't there, or the frames don't suffice
@@ -294,21 +298,21 @@ module _ {k : Kernel} {i : ℕ} (runs : Runs k i) where
         ap (λ (s : State). limited (Done s 0 [])) (sym (to-state k i here a x free)) ∙ rw (to-full k i here a x free (over x free)) refl)))))))
 
 -- one end is open
-module _ {t t1 : Places} {files files1 : List (Option Counted)} {i : ℕ} {f : OpenFile} {fd : ℕ} {p : Process} (at : slot t.places i ≡ Some p) (one : OpensAs t t1 files files1 i f fd) where
+module _ {t t1 : Places} {files files1 : List (Option Counted)} {i : ℕ} {f : file.OpenFile} {fd : ℕ} {p : Process} (at : slot t.places i ≡ Some p) (one : OpensAs t t1 files files1 i f fd) where
   names-one : descriptors_in (slot t1.places i) ≡ put p.descriptors fd one.number
   names-one =
       ap (λ (u : Places). descriptors_in (slot u.places i)) one.names
       ∙ ap descriptors_in (changed-at t i p (with_descriptor fd (Some one.number)) at)
 
-  opens-one : opens_of files1 ≡ put (opens_of files) one.number f
+  opens-one : opens_of files1 ≡ put (opens_of files) one.number (file_of f)
   opens-one = ap opens_of one.opens ∙ opens-opened files one.number f
 
   -- and a place and a descriptor are left
   pub place-left : 2 ≤ free_count files → 0 < free_count files1
   place-left two =
       let there = free-place (opens_of files) one.number one.place in
-      let left = free-put (opens_of files) one.number f there.0 there.1 in
-      let now : count_by is_none (opens_of files1) ≡ count_by is_none (put (opens_of files) one.number f) = ap (count_by is_none) opens-one in
+      let left = free-put (opens_of files) one.number (file_of f) there.0 there.1 in
+      let now : count_by is_none (opens_of files1) ≡ count_by is_none (put (opens_of files) one.number (file_of f)) = ap (count_by is_none) opens-one in
       omega (arith, left, now, two, free-opens files, free-opens files1)
 
   pub descriptor-left : 2 ≤ count_by is_none p.descriptors → 0 < free_descriptors t1 i
@@ -343,7 +347,7 @@ module _ {k : Kernel} {i : ℕ} (runs : Runs k i) (can : can_write (held_at k.sp
 
 -- both ends are open, and the descriptors are written
 module _ {k : Kernel} {i : ℕ} (runs : Runs k i) {at : Kernel} (same : at ≡ k) {b r w : ℕ} (place : free_slot at.spaces.pipes ≡ Some b) {t1 t2 : Places} {files1 files2 : List (Option Counted)}
-    (one : OpensAs at.table t1 at.files files1 i (pipe_end b ReadEnd) r) (two : OpensAs t1 t2 files1 files2 i (pipe_end b WriteEnd) w) where
+    (one : OpensAs at.table t1 at.files files1 i (pipe_file b end.Read) r) (two : OpensAs t1 t2 files1 files2 i (pipe_file b end.Write) w) where
   abbrev x : Here k i
   x = here-of k i runs.sound runs.active
 
@@ -370,6 +374,6 @@ module _ {k : Kernel} {i : ℕ} (runs : Runs k i) {at : Kernel} (same : at ≡ k
       let wrote_so : new ≡ with_held s1 i (written (held_at s1 i) a bytes) = rw yes at done in
       let spaces : new ≡ (piped at i (argument k 0) ends).spaces = wrote_so ∙ rw (pipe, is-a, numbers) refl in
       let table : t2 ≡ (piped at i (argument k 0) ends).table = two.names ∙ ap (λ (t : Places). changed t i (with_descriptor w (Some two.number))) one.names in
-      let files : files2 ≡ (piped at i (argument k 0) ends).files = two.opens ∙ ap (λ (fs : List (Option Counted)). opened fs two.number (pipe_end b WriteEnd)) one.opens in
+      let files : files2 ≡ (piped at i (argument k 0) ends).files = two.opens ∙ ap (λ (fs : List (Option Counted)). opened fs two.number (pipe_file b end.Write)) one.opens in
       let acts : Acts k (piped k i (argument k 0) ends) i (Some Pipe) (Answers 0) = rw (piped-is k i x (argument k 0) ends ends-free) (pipe-acts runs can ends ends-free (rw same at fits)) in
       rw (spaces, table, files) (subst (λ (y : Kernel). Acts k (piped y i (argument k 0) ends) i (Some Pipe) (Answers 0)) (sym same) acts)

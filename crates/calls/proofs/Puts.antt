@@ -6,38 +6,42 @@ use Rattle.calls.specs.Acts.{Comes, GoesOn, going_at}
 use Rattle.calls.specs.declared.outcome.Came.{Came}
 use Rattle.calls.specs.declared.outcome.Came.TheVariants.{Answers}
 use Rattle.kernel.specs.Kernel.{Kernel, answered, state_of}
-use Rattle.calls.specs.Transfers.{OnSomeNode, Transfers}
+use Rattle.calls.specs.Transfers.{OnConsole, Transfers}
 use Rattle.calls.proofs.Acts.{Here, going, going-here, me}
-use Rattle.kernel.proofs.Opens.{IsConsole}
+use Rattle.kernel.proofs.Opens.{IsNamed}
 use Rattle.calls.proofs.Prints.{Appends-none}
 use Rattle.calls.proofs.Settles.{after, settle-limited}
 use Rattle.kernel.proofs.Running.{answer-run}
-use Rattle.calls.proofs.Transfers.{console-named, going-is, held-here, here}
+use Rattle.calls.proofs.Transfers.{console-here, file, file-named, going-is, held-here, here}
 use Rattle.calls.proofs.Writes.{length-read}
 use Rattle.console.specs.Output.{AppendsBeginning}
 use Rattle.files.specs.declared.file.End.TheVariants as end
+use Rattle.files.specs.declared.file.Target.TheVariants as target
+use Rattle.files.specs.Meant.{file_of, target_of}
 use Rattle.spaces.specs.Spaces.{Held, held_at}
 use Rattle.spaces.proofs.SpacesLemmas.{some-pipe}
 use Rattle.unixmodel.specs.Calls.{settle}
 use Rattle.unixmodel.specs.declared.process.Pending.{Pending}
 use Rattle.unixmodel.specs.FileCalls.{write_on}
-use Rattle.unixmodel.specs.Files.{free_slots}
+use Rattle.unixmodel.specs.Files.{slot}
+use Rattle.unixmodel.specs.Files.Node.{Device}
 use Rattle.unixmodel.specs.Memory.{read_bytes}
 use Rattle.unixmodel.specs.Numbers.{low}
 use Rattle.unixmodel.specs.OpenFiles.Target.{OnNode}
 use Rattle.unixmodel.specs.Outcome.{Outcome, limited, pending_arg}
 use Rattle.unixmodel.specs.Outcome.Outcome.{Done}
 use Rattle.unixmodel.specs.Process as unix
-use Rattle.unixmodel.specs.Start.{flat_files}
+use Rattle.unixmodel.specs.OpenFiles.{OpenFile}
 use Rattle.unixmodel.specs.State.{State}
 
-write-bytes : (s : State) (i : ℕ) (p : unix.Process) → s.files ≡ flat_files → (w : Pending) → IsConsole s p (low (pending_arg w 0)) → (bytes : List ℕ) → read_bytes p.memory (pending_arg w 1) (low (pending_arg w 2)) ≡ Some bytes → write_on s i p w ≡ Done s (length bytes) bytes
-unfolding write_on flat_files free_slots
-write-bytes s i p files w console bytes read = rw (console.named, console.opened, files, read) refl
+write-bytes : (s : State) (i : ℕ) (p : unix.Process) (w : Pending) (f : OpenFile) → IsNamed s p (low (pending_arg w 0)) f → (n : ℕ) → f.target ≡ OnNode n 0 → (links major minor : ℕ) → slot s.files n ≡ Some (Device links major minor)
+    → (bytes : List ℕ) → read_bytes p.memory (pending_arg w 1) (low (pending_arg w 2)) ≡ Some bytes → write_on s i p w ≡ Done s (length bytes) bytes
+unfolding write_on
+write-bytes s i p w f is n on links major minor device bytes read = rw (is.named, is.opened, read, on, device) refl
 
-module _ (k : Kernel) (i : ℕ) (w : Pending) (on : OnSomeNode k i end.Write w) where
-  abbrev g : Transfers k i end.Write (OnNode on.0 on.1.0) w
-  g = on.1.1
+module _ (k : Kernel) (i : ℕ) (w : Pending) (on : OnConsole k i end.Write w) where
+  abbrev g : Transfers k i end.Write (target.Console on.0) w
+  g = on.1
 
   abbrev x : Here k i
   x = here g
@@ -51,8 +55,9 @@ module _ (k : Kernel) (i : ℕ) (w : Pending) (on : OnSomeNode k i end.Write w) 
   row : going k i x w ≡ Done (state_of k) count bytes
   row =
       let read : read_bytes (held_at k.spaces i).memory (pending_arg w 1) count ≡ Some bytes = some-pipe (read_bytes (held_at k.spaces i).memory (pending_arg w 1) count) g.can.readable in
+      let device = console-here g in
       going-is g
-      ∙ write-bytes (state_of k) i (me k i x) (x.sound.filed.flat x.run.up) w (console-named g) bytes (ap (λ (h : Held). read_bytes h.memory (pending_arg w 1) count) (sym (held-here g)) ∙ read)
+      ∙ write-bytes (state_of k) i (me k i x) w (file_of (file g).file) (file-named g) on.0 (ap target_of (file g).on) device.links device.major device.minor device.here bytes (ap (λ (h : Held). read_bytes h.memory (pending_arg w 1) count) (sym (held-here g)) ∙ read)
       ∙ ap (λ (n : ℕ). Done (state_of k) n bytes) (length-read (held_at k.spaces i).memory (pending_arg w 1) count bytes read)
 
   settles : settle (state_of k) i (limited (going_at (state_of k) i w)) ≡ after (state_of (answered k count)) bytes
@@ -67,6 +72,7 @@ module _ (k : Kernel) (i : ℕ) (w : Pending) (on : OnSomeNode k i end.Write w) 
         active = x.run.active;
         sound = x.sound;
         can = tt;
+        printed = tt;
         served = same-served refl x.run.up;
       },
       rw all at printed,

@@ -2,23 +2,23 @@
 use Rattle.std.proofs.Common.{◌≡◌, ℕ, zero, suc, ◌+◌, ◌-◌, ◌*◌, ◌/◌, ◌%◌, ◌<◌, ◌≤◌, ◌^◌, Bool, true, false, nat_eq, nat_le, nat_lt, List, [], ◌∷◌, ◌++◌, length, take, drop, map, Option, Some, refl, ap, subst, sym, ◌∙◌, arith}
 use Rattle.std.specs.List.{prefix_len}
 use Rattle.std.specs.Bool.{OnTrue}
-use Rattle.std.specs.Prelude.{cond, if◌then◌else◌, is_some}
-use Rattle.std.proofs.lemmas.Bool.{le-leb, leb-true}
+use Rattle.std.specs.Prelude.{if◌then◌else◌, cond, is_some}
+use Rattle.std.proofs.lemmas.Bool.{false≢true, le-leb, leb-true}
 use Rattle.std.proofs.lemmas.List.{length-drop, length-take-le, take-append-drop}
 use Rattle.calls.specs.Acts.{GoesOn}
 use Rattle.calls.specs.declared.outcome.Came.TheVariants.{Answers, Blocks}
 use Rattle.kernel.specs.Kernel.{Kernel, descriptors_at, state_of, typed}
-use Rattle.kernel.specs.Sound.{IsKernel, IsOpened, IsPending, IsPlaced, IsReading, console_file}
-use Rattle.calls.specs.Transfers.{OnSomeNode, Transfers}
-use Rattle.calls.proofs.Acts.{Here, goes-done, goes-waits, going, me, turned, turned-here, turned-state}
+use Rattle.kernel.specs.Sound.{IsKernel, IsOpened, IsPending, IsPlaced, IsForBytes, IsFresh, IsReading, is_on_pipe}
+use Rattle.calls.specs.Transfers.{OnConsole, Transfers}
+use Rattle.calls.proofs.Acts.{Here, goes-done, goes-waits, going, me, turned, turned-here, turned-state, used-turned}
 use Rattle.calls.proofs.Draws.{rewritten-fits}
-use Rattle.kernel.proofs.Opens.{IsConsole, console-fresh, waits-reading}
+use Rattle.kernel.proofs.Opens.{IsNamed, waits-reading}
 use Rattle.kernel.proofs.Runs.{set-slot, slot-put, slot-within}
 use Rattle.kernel.proofs.Steps.{placed-with}
-use Rattle.calls.proofs.Transfers.{console-named, going-is, held-here, here}
-use Rattle.calls.proofs.Writes.{console-only}
+use Rattle.calls.proofs.Transfers.{console-here, file, file-named, going-is, held-here, here}
 use Rattle.files.specs.declared.file.End.TheVariants as end
-use Rattle.files.specs.Places.{opens_of}
+use Rattle.files.specs.declared.file.Target.TheVariants as target
+use Rattle.files.specs.Meant.{file_of, target_of}
 use Rattle.proc.specs.declared.process.Process.{Process}
 use Rattle.spaces.specs.Spaces.{Held, Spaces, has_space, held_at, with_held, written}
 use Rattle.spaces.proofs.SpacesLemmas.{held-same}
@@ -27,7 +27,8 @@ use Rattle.unixmodel.specs.declared.process.Pending.{Pending}
 use Rattle.unixmodel.specs.declared.trap.Access.{Access}
 use Rattle.unixmodel.specs.declared.trap.Access.TheVariants.{Store}
 use Rattle.unixmodel.specs.FileCalls as rows
-use Rattle.unixmodel.specs.Files.{free_slots, slot}
+use Rattle.unixmodel.specs.Files.{slot}
+use Rattle.unixmodel.specs.Files.Node.{Device}
 use Rattle.unixmodel.specs.FileCalls.{read_console, read_on, read_taken}
 use Rattle.unixmodel.specs.Memory.{Memory, Page, Marks, can_write, permits, reach, write_bytes, write_from}
 use Rattle.unixmodel.specs.Numbers.{low}
@@ -35,7 +36,7 @@ use Rattle.unixmodel.specs.OpenFiles.Target.{OnNode}
 use Rattle.unixmodel.specs.Outcome.{pending_arg}
 use Rattle.unixmodel.specs.Outcome.Outcome.{Done, Waits}
 use Rattle.unixmodel.specs.Process as unix
-use Rattle.unixmodel.specs.Start.{flat_files}
+use Rattle.unixmodel.specs.OpenFiles.{OpenFile}
 use Rattle.unixmodel.specs.State.{State, put_process}
 use Rattle.vm.specs.Reach.{IsSized, run_of}
 use Rattle.vm.proofs.ReachLemmas.{length-reach, reach-drop, reach-page}
@@ -122,10 +123,9 @@ rest-writes mem at d l c sized can fits =
 
 -- ---- the row of a read that goes on
 
-module _ (s : State) (i : ℕ) (p : unix.Process) (files : s.files ≡ flat_files) where
-  reads-console : (w : Pending) → IsConsole s p (low (pending_arg w 0)) → read_on s i p w ≡ read_console s i p w
-  unfolding read_on flat_files free_slots
-  reads-console w console = rw (console.named, console.opened, files) refl
+reads-console : (s : State) (i : ℕ) (p : unix.Process) (w : Pending) (f : OpenFile) → IsNamed s p (low (pending_arg w 0)) f → (n : ℕ) → f.target ≡ OnNode n 0 → (links major minor : ℕ) → slot s.files n ≡ Some (Device links major minor) → read_on s i p w ≡ read_console s i p w
+unfolding read_on
+reads-console s i p w f is n on links major minor device = rw (is.named, is.opened, on, device) refl
 
 abbrev left_with : State → ℕ → unix.Process → Pending → Taken → State
 left_with s i p w t = put_process (record s { console = record s.console { committed = t.rest } }) i (rows.received p w t.bytes)
@@ -159,9 +159,9 @@ pub record Receives (k new : Kernel) (i : ℕ) (w : Pending) (n : ℕ) (over : B
 
 -- ---- a read goes on
 
-module _ (k : Kernel) (i : ℕ) (w : Pending) (on : OnSomeNode k i end.Read w) where
-  abbrev g : Transfers k i end.Read (OnNode on.0 on.1.0) w
-  g = on.1.1
+module _ (k : Kernel) (i : ℕ) (w : Pending) (on : OnConsole k i end.Read w) where
+  abbrev g : Transfers k i end.Read (target.Console on.0) w
+  g = on.1
 
   abbrev x : Here k i
   x = here g
@@ -169,8 +169,12 @@ module _ (k : Kernel) (i : ℕ) (w : Pending) (on : OnSomeNode k i end.Read w) w
   can : IsReading (descriptors_at k i) (held_at k.spaces i).memory w
   can = g.can
 
-  only : (m : ℕ) → slot (descriptors_at k i) (low (pending_arg w 0)) ≡ Some m → slot (opens_of k.files) m ≡ Some console_file
-  only = console-only k x.sound i (low (pending_arg w 0)) on.0 on.1.0 g.target
+  for : IsForBytes k.files (descriptors_at k i) w
+  for = let f = file g in λ read. rw (f.named, f.opened, f.on) refl
+
+  -- a read of the console may have taken some
+  fresh : (further : Pending) → pending_arg further 0 ≡ pending_arg w 0 → IsFresh k.files (descriptors_at k i) further
+  fresh further same = let f = file g in λ read. rw (same, f.named, f.opened) (λ on. absurd (false≢true (ap is_on_pipe (sym f.on) ∙ on)))
 
   -- the bytes go to addresses of the memory
   pub reads-fit : (at : Kernel) → at ≡ k → IsSized (held_at at.spaces i).memory → length (held_at at.spaces i).memory ≤ 32768 → pending_arg w 1 + w.done < 2 ^ 64
@@ -183,7 +187,9 @@ module _ (k : Kernel) (i : ℕ) (w : Pending) (on : OnSomeNode k i end.Read w) w
       omega (arith, page, few')
 
   row : going k i x w ≡ read_taken (state_of k) i (me k i x) w (line_for k w)
-  row = going-is g ∙ reads-console (state_of k) i (me k i x) (x.sound.filed.flat x.run.up) w (console-named g)
+  row =
+      let device = console-here g in
+      going-is g ∙ reads-console (state_of k) i (me k i x) w (file_of (file g).file) (file-named g) on.0 (ap target_of (file g).on) device.links device.major device.minor device.here
 
   module _ (n : ℕ) (buffer : List ℕ) (over wrote : Bool) (new : Spaces) (console : Console) (f : Took k i w n buffer over wrote new console) where
     abbrev address : ℕ
@@ -230,11 +236,11 @@ module _ (k : Kernel) (i : ℕ) (w : Pending) (on : OnSomeNode k i end.Read w) w
     placed = placed-with k i x.process x.held x.run x.sound (write_bytes x.held.memory address bytes)
 
     abbrev to : Kernel
-    to = turned rest i rest-here x.process (written x.held address bytes) k.files k.spaces.pipes placed x.run.runs
+    to = turned rest i rest-here k.tree x.process (written x.held address bytes) k.files k.spaces.pipes placed x.run.runs
 
     to-here : Here to i
     to-here =
-        turned-here rest i rest-here x.process (written x.held address bytes) k.files k.spaces.pipes placed x.run.runs (subst (IsOpened k.files k.spaces.pipes) (sym (set-slot k.table.places i (Some x.process) x.run.process)) x.sound.opened)
+        turned-here rest i rest-here k.tree x.process (written x.held address bytes) k.files k.spaces.pipes placed x.run.runs x.run.up (used-turned k i x x.process x.run.runs refl) (subst (IsOpened k.files k.spaces.pipes) (sym (set-slot k.table.places i (Some x.process) x.run.process)) x.sound.opened)
         (rewritten-fits k.spaces i k.spaces.frames x.held address bytes x.run.space x.sound.fits)
 
     made-is : made ≡ to
@@ -244,7 +250,7 @@ module _ (k : Kernel) (i : ℕ) (w : Pending) (on : OnSomeNode k i end.Read w) w
         ∙ ap (λ (places : List (Option Process)). record to { table = record k.table { places = places } }) (sym (set-slot k.table.places i (Some x.process) x.run.process))
 
     left-is : left_with (state_of k) i (me k i x) w t ≡ state_of to
-    left-is = sym (turned-state rest i rest-here x.process (written x.held address bytes) k.files k.spaces.pipes placed x.run.runs)
+    left-is = sym (turned-state rest i rest-here k.tree x.process (written x.held address bytes) k.files k.spaces.pipes placed x.run.runs)
 
     goes-over : over ≡ true → GoesOn k made i w (Answers (w.done + n))
     goes-over passed =
@@ -277,7 +283,7 @@ module _ (k : Kernel) (i : ℕ) (w : Pending) (on : OnSomeNode k i end.Read w) w
         let further = record w { done = w.done + n } in
         let made-here : Here made i = subst (λ (y : Kernel). Here y i) (sym made-is) to-here in
         let pending : IsPending (descriptors_at k i) (held_at new i).memory further w.number = subst (IsPending (descriptors_at k i) (held_at new i).memory further) (sym g.number) (reads-on kept more) in
-        goes-waits k i x w made further made-here refl (pending, waits-reading (opens_of k.files) (descriptors_at k i) further g.number (console-fresh (opens_of k.files) (descriptors_at k i) further only))
+        goes-waits k i x w made further made-here refl (pending, waits-reading k.files (descriptors_at k i) further g.number for (fresh further refl))
         (row ∙ ap (read_taken (state_of k) i (me k i x) w) f.took ∙ taken-waits (state_of k) i (me k i x) w t more
         ∙ ap (λ (s : State). Waits s (record w { done = w.done + length bytes })) (left-is ∙ sym (ap state_of made-is))
         ∙ ap (λ (m : ℕ). Waits (state_of made) (record w { done = w.done + m })) count)

@@ -8,8 +8,9 @@ use Rattle.kernel.specs.Descriptors.{IsCounted, descriptors_in, named_by, names_
 use Rattle.kernel.specs.Kernel.{Kernel, argument, descriptors_at, state_of}
 use Rattle.calls.specs.Renamed.{duplicated}
 use Rattle.kernel.specs.Sound.{IsKernel, IsOpened}
-use Rattle.calls.proofs.Acts.{Here, does, here-of, me, named-placed, refused, turned, turned-here, turned-state}
-use Rattle.kernel.proofs.Opens.{place-counts, waits-running, waits-set}
+use Rattle.calls.proofs.Acts.{Here, does, here-of, me, named-placed, refused, turned, turned-here, turned-state, used-turned}
+use Rattle.kernel.proofs.Holding.{used-shared}
+use Rattle.kernel.proofs.Opens.{file-shared, place-counts, waits-fewer, waits-running, waits-set}
 use Rattle.kernel.proofs.Runs.{IsRun, set-slot, within-run}
 use Rattle.files.specs.Counts.{count-shared, names, names-put}
 use Rattle.files.proofs.Free.{free-place}
@@ -51,7 +52,7 @@ module _ (k : Kernel) (i : ℕ) (x : Here k i) (n fd : ℕ) (named : slot x.proc
     each = λ m f at. was.each m f (ap (λ (os : List (Option OpenFile)). slot os m) (sym (opens-shared k.files n)) ∙ at);
     all = was.all;
     piped = subst (IsPiped k.spaces.pipes) (sym (opens-shared k.files n)) was.piped;
-    waits = rw (opens-shared k.files n) (waits-set (opens_of k.files) k.table.places i (Some q) (waits-running (opens_of k.files) q x.run.runs) was.waits);
+    waits = waits-set (shared k.files n) k.table.places i (Some q) (waits-running (shared k.files n) q x.run.runs) (λ j. waits-fewer k.files (shared k.files n) (λ m f at. sym (file-shared k.files n m) ∙ at) (slot k.table.places j) (was.waits j));
   }
 
   dup-acts : Acts k (duplicated k i fd n) i (Some Dup) (Answers fd)
@@ -59,10 +60,10 @@ module _ (k : Kernel) (i : ℕ) (x : Here k i) (n fd : ℕ) (named : slot x.proc
   dup-acts =
       let placed = named-placed k i x q.descriptors (length-set x.process.descriptors fd (Some n)) in
       let same = set-slot k.spaces.places i (Some x.held) x.run.space in
-      let to = turned k i x q x.held (shared k.files n) k.spaces.pipes placed x.run.runs in
+      let to = turned k i x k.tree q x.held (shared k.files n) k.spaces.pipes placed x.run.runs in
       let state : state_of to ≡ put_process (state_of k) i (with_descriptor (me k i x) fd n) =
-      turned-state k i x q x.held (shared k.files n) k.spaces.pipes placed x.run.runs ∙ ap (λ (os : List (Option OpenFile)). record (put_process (state_of k) i (with_descriptor (me k i x) fd n)) { opens = os }) (opens-shared k.files n) in
-      let acts = does k i x to Dup fd (turned-here k i x q x.held (shared k.files n) k.spaces.pipes placed x.run.runs opened (rw same x.sound.fits)) refl (rw (named, free) (ap (λ (s : State). Done s fd []) (sym state))) in
+      turned-state k i x k.tree q x.held (shared k.files n) k.spaces.pipes placed x.run.runs ∙ ap (λ (os : List (Option OpenFile)). record (put_process (state_of k) i (with_descriptor (me k i x) fd n)) { opens = os }) (opens-shared k.files n) in
+      let acts = does k i x to Dup fd (turned-here k i x k.tree q x.held (shared k.files n) k.spaces.pipes placed x.run.runs x.run.up (used-shared (used-turned k i x q x.run.runs refl) n) opened (rw same x.sound.fits)) refl (rw (named, free) (ap (λ (s : State). Done s fd []) (sym state))) in
       subst (λ (y : Kernel). Acts k y i (Some Dup) (Answers fd)) (rw (x.run.process, same) refl) acts
 
 module _ (k : Kernel) (i : ℕ) (runs : Runs k i) where

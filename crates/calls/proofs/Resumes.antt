@@ -1,6 +1,7 @@
 -- A process that waits runs again, and its call goes on.
+use Rattle.blockdev.specs.declared.DeviceFault.{DeviceFault}
 use Rattle.std.proofs.Common.{◌≡◌, ℕ, Option, None, false, refl, ap, subst, sym, ◌∙◌, true, Some}
-use Rattle.std.specs.Prelude.{unwrap_or}
+use Rattle.std.specs.Prelude.{Err, Ok, OnOk, Result, unwrap_or}
 use Rattle.calls.specs.Acts.{CanWait, GoesOn, Runs, going_at, going_by, settled_by}
 use Rattle.calls.specs.declared.outcome.Came.{Came}
 use Rattle.kernel.specs.Descriptors.{descriptors_in}
@@ -10,7 +11,6 @@ use Rattle.calls.specs.Told.{WaitsIn, resumed, resumed_by, resumed_in}
 use Rattle.kernel.proofs.Finishes.{IsThere, process-idle, there-of}
 use Rattle.kernel.proofs.Runs.{process-run}
 use Rattle.kernel.proofs.Starts.{started-is, started-kernel, started-run, started-state, started_to}
-use Rattle.files.specs.Places.{opens_of}
 use Rattle.proc.specs.declared.process.Process.{Process}
 use Rattle.proc.specs.Whole.{with_memory}
 use Rattle.spaces.specs.Spaces.{Held, no_pages}
@@ -59,8 +59,8 @@ module _ (k : Kernel) (i : ℕ) (p : Process) (h : Held) (w : Pending) (is : IsK
   abbrev q : Process
   q = record p { mode = Running }
 
-  awaits : IsAwaiting (opens_of k.files) p.descriptors w
-  awaits = subst (WaitsAs (opens_of k.files) p.descriptors) f.waits (subst (WaitsWell (opens_of k.files)) f.there.process (is.opened.waits i))
+  awaits : IsAwaiting k.files p.descriptors w
+  awaits = subst (WaitsAs k.files p.descriptors) f.waits (subst (WaitsWell k.files) f.there.process (is.opened.waits i))
 
   goes : resumed (state_of k) i ≡ settle (state_of to) i (going_at (state_of to) i w)
   unfolding resume
@@ -92,5 +92,9 @@ module _ {k : Kernel} (i : ℕ) (w : Pending) (is : IsKernel k) (none : k.spaces
       rw (same, started-is k i r.0 r.1.0 is none f.there.process f.there.space f.alive) (resting k i r.0 r.1.0 w is none up f)
 
 -- it is resumed once its call is settled
-pub resumes-settled : {k s new : Kernel} {i : ℕ} {w : Pending} {came : Came} → Resumes k s i w → GoesOn s new i w came → (last : State) → last ≡ settled_by (state_of new) i came → resumed (state_of k) i ≡ quiet last
+resumes-settled : {k s new : Kernel} {i : ℕ} {w : Pending} {came : Came} → Resumes k s i w → GoesOn s new i w came → (last : State) → last ≡ settled_by (state_of new) i came → resumed (state_of k) i ≡ quiet last
 resumes-settled x goes last done = x.row ∙ goes.comes.makes ∙ ap quiet (sym done)
+
+pub resumes-if : {k s new : Kernel} {i : ℕ} {w : Pending} {came : Came} → Resumes k s i w → GoesOn s new i w came → (last : State) → (r : Result (Unit {0}) DeviceFault) → OnOk r (last ≡ settled_by (state_of new) i came) → OnOk r (resumed (state_of k) i ≡ quiet last)
+resumes-if x on last (Ok done) settled = resumes-settled x on last settled
+resumes-if x on last (Err fault) settled = tt

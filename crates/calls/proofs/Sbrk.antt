@@ -7,12 +7,11 @@ use Rattle.kernel.specs.Descriptors.{descriptors_in}
 use Rattle.kernel.specs.Kernel.{Kernel, argument, state_of}
 use Rattle.calls.specs.Processes.{asked, resized, sized}
 use Rattle.kernel.specs.Sound.{IsOpened, IsPlaced}
-use Rattle.calls.proofs.Acts.{Here, does, here-of, me, refused, turned, turned-here, turned-over, turned-state}
+use Rattle.calls.proofs.Acts.{Here, does, here-of, me, refused, turned, turned-here, turned-over, turned-state, used-turned}
 use Rattle.kernel.proofs.Opens.{opened-put, waits-running}
 use Rattle.kernel.proofs.Runs.{slot-within}
 use Rattle.kernel.proofs.Running.{live, not-killed, runs-mode}
 use Rattle.kernel.proofs.Steps.{held-run}
-use Rattle.files.specs.Places.{opens_of}
 use Rattle.proc.specs.declared.process.Process.{Process}
 use Rattle.proc.specs.Places.{Places, changed, with_size}
 use Rattle.spaces.specs.Spaces.{Held, Spaces, grown, held_at, shrunk, taken_frames, with_held}
@@ -48,14 +47,14 @@ module _ (k : Kernel) (i : ℕ) (x : Here k i) (size : ℕ) (can : asked k i (in
     size = refl;
     zero = x.run.placed.zero;
     aligned = x.run.placed.aligned;
-    mode = runs-mode q h.memory x.process.mode x.run.runs (let l = live k i x.process x.held x.run x.sound in record { descriptors = l.descriptors; directory = l.directory }) (not-killed k i x.process x.held x.run x.sound);
+    mode = runs-mode q h.memory x.process.mode x.run.runs (let l = live k i x.process x.held x.run x.sound in record { descriptors = l.descriptors }) (not-killed k i x.process x.held x.run x.sound);
   }
 
   abbrev to : Kernel
-  to = turned k i x q h k.files k.spaces.pipes placed x.run.runs
+  to = turned k i x k.tree q h k.files k.spaces.pipes placed x.run.runs
 
   opened : IsOpened k.files k.spaces.pipes (put k.table.places i q)
-  opened = opened-put k.files k.spaces.pipes k.table.places i (Some q) (sym (ap descriptors_in x.run.process)) (waits-running (opens_of k.files) q x.run.runs) x.sound.opened
+  opened = opened-put k.files k.spaces.pipes k.table.places i (Some q) (sym (ap descriptors_in x.run.process)) (waits-running k.files q x.run.runs) x.sound.opened
 
   held : held_at k.spaces i ≡ x.held
   held = held-run k i x.process x.held x.run x.sound
@@ -67,14 +66,14 @@ module _ (k : Kernel) (i : ℕ) (x : Here k i) (size : ℕ) (can : asked k i (in
   unfolding sbrk_row
   made =
       let can' : natural (pos x.held.size +ℤ int_of (argument k 0)) ≡ Some size = rw held at can in
-      rw (x.run.placed.size, can') (ap (λ (s : State). Done s x.held.size []) (sym (turned-state k i x q h k.files k.spaces.pipes placed x.run.runs)))
+      rw (x.run.placed.size, can') (ap (λ (s : State). Done s x.held.size []) (sym (turned-state k i x k.tree q h k.files k.spaces.pipes placed x.run.runs)))
 
   sbrk-acts : taken_frames (resized k i size).spaces ≤ k.spaces.frames → Acts k (resized k i size) i (Some Sbrk) (Answers (held_at k.spaces i).size)
   sbrk-acts fits = subst (λ (y : Kernel). Acts k y i (Some Sbrk) (Answers (held_at k.spaces i).size)) (sym resized-is)
-      (rw held (does k i x to Sbrk x.held.size (turned-here k i x q h k.files k.spaces.pipes placed x.run.runs opened (subst (λ (y : Kernel). taken_frames y.spaces ≤ k.spaces.frames) resized-is fits)) refl made))
+      (rw held (does k i x to Sbrk x.held.size (turned-here k i x k.tree q h k.files k.spaces.pipes placed x.run.runs x.run.up (used-turned k i x q x.run.runs refl) opened (subst (λ (y : Kernel). taken_frames y.spaces ≤ k.spaces.frames) resized-is fits)) refl made))
 
   sbrk-over : k.spaces.frames < taken_frames (resized k i size).spaces → Acts k k i (Some Sbrk) Refuses
-  sbrk-over over = turned-over k i x q h k.files k.spaces.pipes placed x.run.runs Sbrk x.held.size made (subst (λ (y : Kernel). k.spaces.frames < taken_frames y.spaces) resized-is over)
+  sbrk-over over = turned-over k i x k.tree q h k.files k.spaces.pipes placed x.run.runs Sbrk x.held.size made (subst (λ (y : Kernel). k.spaces.frames < taken_frames y.spaces) resized-is over)
 
 -- ---- over the fields: at is what they show
 

@@ -12,6 +12,7 @@ use Rattle.kernel.proofs.Opens.{waits-writing}
 use Rattle.calls.proofs.Transfers.{file, file-named, going-is, held-here, here, transfer-stands}
 use Rattle.calls.proofs.Writes.{length-read, readable-count}
 use Rattle.files.specs.declared.file.End.TheVariants as end
+use Rattle.files.specs.declared.file.Target.TheVariants as target
 use Rattle.files.specs.Places.{has_end, opens_of}
 use Rattle.spaces.specs.Spaces.{Held, Spaces, bytes_in, filled, fitting, has_pipe, held_at, read_at, with_pipe}
 use Rattle.spaces.proofs.SpacesLemmas.{some-pipe}
@@ -23,7 +24,6 @@ use Rattle.unixmodel.specs.Memory.{Memory, reach, read_bytes}
 use Rattle.unixmodel.specs.Numbers.{low}
 use Rattle.unixmodel.specs.OpenFiles.{pipe_room}
 use Rattle.unixmodel.specs.OpenFiles.End.{ReadEnd}
-use Rattle.unixmodel.specs.OpenFiles.Target.{OnPipe}
 use Rattle.unixmodel.specs.Outcome.{minus_one, pending_arg}
 use Rattle.vm.specs.Reach.{IsSized}
 use Rattle.vm.proofs.ReachLemmas.{reach-drop, reach-page}
@@ -93,7 +93,7 @@ fitting-less held new = let l = length-take (pipe_room - length held) new in ome
 -- ---- a write goes on
 
 module _ (k : Kernel) (i : ℕ) (w : Pending) (q : ℕ) (on : OnThePipe k i end.Write q w) where
-  abbrev g : Transfers k i end.Write (OnPipe q on.0) w
+  abbrev g : Transfers k i end.Write (target.Pipe q on.0) w
   g = on.1
 
   abbrev x : Here k i
@@ -170,8 +170,8 @@ module _ (k : Kernel) (i : ℕ) (w : Pending) (q : ℕ) (on : OnThePipe k i end.
         let further = record w { done = w.done + n } in
         let f = file g in
         let writing : IsWriting (descriptors_at k i) memory further = record { named = can.named; readable = can.readable; left = omega (arith, rests, within) } in
-        let for : IsForPipe (opens_of k.files) (descriptors_at k i) further = λ write. rw (f.named, f.opened, f.on) refl in
-        goes-waits k i x w sent further sent-here refl (subst (IsPending (descriptors_at k i) memory further) (sym g.number) writing, waits-writing (opens_of k.files) (descriptors_at k i) further g.number for) (row ∙ rw (some, test) refl)
+        let for : IsForPipe k.files (descriptors_at k i) further = λ write. rw (f.named, f.opened, f.on) refl in
+        goes-waits k i x w sent further sent-here refl (subst (IsPending (descriptors_at k i) memory further) (sym g.number) writing, waits-writing k.files (descriptors_at k i) further g.number for) (row ∙ rw (some, test) refl)
 
   -- at is what the kernel's fields show, and m what is left to put
   module _ (at : Kernel) (same : at ≡ k) (sized : IsSized (held_at at.spaces i).memory) (m : ℕ) (wide : m ≡ low (pending_arg w 2) - w.done) where

@@ -1,9 +1,13 @@
 -- What becomes of the files of the disk.
-use Rattle.std.proofs.Common.{◌≡◌, ℕ, arith, false, Option, Some, None, ℤ, refl}
-use Rattle.calls.specs.Does.{IsServed, LeavesTree, halt_of}
-use Rattle.kernel.specs.Kernel.{Kernel, started, started_as, stopped_at, ticked}
+use Rattle.unixmodel.specs.State.{State}
+use Rattle.std.proofs.Common.{None, Option, Result, Some, ap, arith, false, le_trans, refl, subst, sym, true, ℕ, ℤ, ◌∙◌, ◌≡◌}
+use Rattle.std.specs.Prelude.{Err, IfOk, Ok, OnErr, OnOk}
+use Rattle.blockdev.specs.declared.DeviceFault.{DeviceFault}
+use Rattle.unixmodel.specs.Failures.{HasCause}
+use Rattle.calls.specs.Does.{Ends, IsLost, IsServed, LeavesDisk, LeavesTree, halt_of}
+use Rattle.kernel.specs.Kernel.{Kernel, started, started_as, state_of, stopped_at, ticked}
 use Rattle.proc.specs.declared.process.Process.{Process}
-use Rattle.tree.specs.Tree.{FileTree}
+use Rattle.tree.specs.Tree.{FileTree, Serves}
 use Rattle.unixmodel.specs.Files.{slot}
 
 -- they are as before
@@ -13,6 +17,59 @@ same-served same up = rw same (record { up = up; later = omega arith })
 -- a part serves them, and what comes before and after it leaves them as they are
 pub served-between : {old from to new : FileTree} → from ≡ old → IsServed from to → new ≡ to → IsServed old new
 served-between began served ended = rw (ended, ← began) served
+
+-- a step that may fail
+pub serves-disk : {T : Type 0} {old new : FileTree} {r : Result T DeviceFault} {Told : T → Type 0} → Serves old new r Told → LeavesDisk old new r
+serves-disk {T} {old} {new} {r} {Told} serves = go r serves.up serves.down serves.cause where
+  go : (r : Result T DeviceFault) → OnOk r (new.failed ≡ false) → OnErr r (new.failed ≡ true) → HasCause old.failures new.failures r → LeavesDisk old new r
+  go (Ok x) up down cause = record { up = up; later = cause.later }
+  go (Err fault) up down cause = record { down = down; later = cause.later; rises = cause.failed refl }
+
+-- what is lost behind a part that served
+pub lost-after : {a b c : FileTree} → IsServed a b → IsLost b c → IsLost a c
+lost-after first lost = record { down = lost.down; later = le_trans first.later lost.later; rises = let rises = lost.rises in let later = first.later in omega (arith, rises, later) }
+
+pub served-after : {a b c : FileTree} → IsServed a b → IsServed b c → IsServed a c
+served-after first second = record { up = second.up; later = le_trans first.later second.later }
+
+pub disk-after : (a b c : FileTree) (r : Result (Unit {0}) DeviceFault) → IsServed a b → LeavesDisk b c r → LeavesDisk a c r
+disk-after a b c (Ok x) first then = served-after first then
+disk-after a b c (Err fault) first then = lost-after first then
+
+-- an answer is handed on
+pub disk-lost : {T : Type 0} {old new : FileTree} (r : Result T DeviceFault) (fault : DeviceFault) → r ≡ Err fault → LeavesDisk old new r → IsLost old new
+disk-lost (Ok x) fault e leaves = absurd (cc)
+disk-lost (Err f) fault e leaves = leaves
+
+pub disk-served : {T : Type 0} {old new : FileTree} (r : Result T DeviceFault) (x : T) → r ≡ Ok x → LeavesDisk old new r → IsServed old new
+disk-served (Ok y) x e leaves = leaves
+disk-served (Err f) x e leaves = absurd (cc)
+
+pub on-ok : {T : Type 0} {P : Type 0} (r : Result T DeviceFault) (x : T) → r ≡ Ok x → OnOk r P → P
+on-ok (Ok y) x e p = p
+on-ok (Err f) x e p = absurd (cc)
+
+pub ok-told : {T : Type 0} (Told : T → Type 0) (r : Result T DeviceFault) (x : T) → r ≡ Ok x → IfOk r Told → Told x
+ok-told Told (Ok y) x e told = let same : y ≡ x = cc in subst Told same told
+ok-told Told (Err f) x e told = absurd (cc)
+
+-- what is made is made of another state
+pub on-after : {A T : Type 0} (x y z : A) (r : Result T DeviceFault) → x ≡ y → OnOk r (y ≡ z) → OnOk r (x ≡ z)
+on-after x y z (Ok t) same made = same ∙ made
+on-after x y z (Err fault) same made = tt
+
+pub on-err : {T : Type 0} {P : Type 0} (r : Result T DeviceFault) (fault : DeviceFault) → r ≡ Err fault → OnErr r P → P
+on-err (Ok y) fault e p = absurd (cc)
+on-err (Err f) fault e p = p
+
+pub where-err : {T : Type 0} {P : Type 0} (r : Result T DeviceFault) → P → OnErr r P
+where-err (Ok x) p = tt
+where-err (Err f) p = p
+
+-- a process ended, and the machine halts or not
+pub ends-goes : (new : Kernel) (s : State) (o : Option ℤ) → new.halted ≡ o → state_of new ≡ s → Ends new s (halt_of o)
+ends-goes new s None halts made = (made, ap (λ (x : State). x.halted) (sym made) ∙ halts)
+ends-goes new s (Some status) halts made = (made, ap (λ (x : State). x.halted) (sym made) ∙ halts)
 
 -- whether the machine halts or not
 pub served-halts : {old new : FileTree} (o : Option ℤ) → IsServed old new → LeavesTree old new (halt_of o)

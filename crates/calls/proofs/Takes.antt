@@ -1,10 +1,11 @@
 -- A step: the running process does an instruction, or a turn where none runs.
+use Rattle.blockdev.specs.declared.DeviceFault.{DeviceFault}
 use Rattle.std.proofs.Common.{◌≡◌, ℕ, ◌%◌, Bool, true, false, List, Option, Some, None, Ok, Err, ℤ, negsuc, refl, ap, subst, sym, ◌∙◌}
-use Rattle.std.specs.Prelude.{if◌then◌else◌, slice_index}
+use Rattle.std.specs.Prelude.{IfOk, OnOk, Result, if◌then◌else◌, slice_index}
 use Rattle.calls.specs.declared.halt.Halt.{Halt}
 use Rattle.calls.specs.declared.halt.Halt.TheVariants.{Console, Device, Halted, InitEnded}
 use Rattle.calls.specs.Does.{Dispatches, Does, IsMade, halt_of}
-use Rattle.kernel.specs.Kernel.{Kernel, computed, ended, lives, picked, started, state_of}
+use Rattle.kernel.specs.Kernel.{Kernel, computed, counting, ended, lives, picked, started, state_of}
 use Rattle.calls.specs.Acts.{called}
 use Rattle.kernel.specs.Sound.{IsKernel, IsLive, IsMode, IsAlive}
 use Rattle.calls.specs.Told.{resumed, resumed_by, resumed_in, taken, taken_by}
@@ -40,6 +41,11 @@ use Rattle.unixmodel.specs.Turn.{round_from}
 pub made-quiet : (new : Kernel) (a : After) (at : Option (List ℕ)) → a ≡ quiet (state_of new) → IsMade new a at at
 made-quiet new a at made = rw made (record { state = refl; printed = Appends-none at })
 
+-- a process ended, unless an access failed
+pub ends-if : (new e : Kernel) (a : After) (r : Result (Unit {0}) DeviceFault) → IfOk r (λ done. new ≡ counting e new.tree.failures) → a ≡ quiet (state_of e) → OnOk r (a ≡ quiet (state_of new))
+ends-if new e a (Ok done) made is = is ∙ ap (λ (x : Kernel). quiet (state_of x)) (sym made)
+ends-if new e a (Err fault) made is = tt
+
 -- what is made tells how the machine halts
 pub does-made : (new : Kernel) (a : After) (before after : Option (List ℕ)) (rising : Type 0) (o : Option ℤ) → new.halted ≡ o → IsMade new a before after → Does new a before after rising (halt_of o)
 does-made new a before after rising None halts made = record { state = made.state; halts = ap (λ (s : State). s.halted) (sym made.state) ∙ halts; printed = made.printed }
@@ -47,7 +53,7 @@ does-made new a before after rising (Some status) halts made = record { state = 
 
 fails-err : (new : Kernel) (a : After) (before after : Option (List ℕ)) (rising : Type 0) (e : Halt) → Dispatches {X = Unit {0}} new a before after rising (Err e) → Does new a before after rising (Err e)
 fails-err new a before after rising (InitEnded status) made = absurd made
-fails-err new a before after rising Device made = absurd made
+fails-err new a before after rising Device made = made
 fails-err new a before after rising Console made = made
 fails-err new a before after rising Halted made = absurd made
 
@@ -72,13 +78,11 @@ module _ (k : Kernel) (i : ℕ) (is : IsKernel k) (active : k.spaces.active ≡ 
       executes-call k i run.0 run.1.0 r is z a t (rw (held-run k i run.0 run.1.0 r is) at effect) ecall
 
   pub step-faults : slice_index k.spaces.registers 0 ≡ 0 → k.spaces.pc % 4 ≡ 0 → (t : Trap) → cycle k.spaces.registers k.spaces.pc (held_at k.spaces i).memory ≡ Err t → is_ecall t.cause ≡ false
-      → (same new : Kernel) → same ≡ k → new ≡ ended same i (negsuc 0) → (bytes : Option (List ℕ)) → IsMade new (execute_at (state_of k) i (process_at (state_of k) i)) bytes bytes
-  step-faults z a t effect fault same new kept made bytes =
+      → (same : Kernel) → same ≡ k → execute_at (state_of k) i (process_at (state_of k) i) ≡ quiet (state_of (ended same i (negsuc 0)))
+  step-faults z a t effect fault same kept =
       let run = run-of k i is active in
       let r = run.1.1 in
-      let e = executes-fault k i run.0 run.1.0 r is z a t (rw (held-run k i run.0 run.1.0 r is) at effect) fault in
-      let to : new ≡ ended k i (negsuc 0) = made ∙ ap (λ (x : Kernel). ended x i (negsuc 0)) kept in
-      made-quiet new (execute_at (state_of k) i (process_at (state_of k) i)) bytes (e ∙ ap (λ (x : Kernel). quiet (state_of x)) (sym to))
+      executes-fault k i run.0 run.1.0 r is z a t (rw (held-run k i run.0 run.1.0 r is) at effect) fault ∙ ap (λ (x : Kernel). quiet (state_of (ended x i (negsuc 0)))) (sym kept)
 
 -- ---- a picked process
 

@@ -1,23 +1,26 @@
 -- Bytes that are read, and nodes that are open.
-use Rattle.std.proofs.Common.{◌≡◌, ℕ, ◌<◌, ◌≤◌, ◌^◌, Bool, true, false, nat_le, List, [], length, take, Some, None, is_some, unwrap_or, ℤ, pos, negsuc, refl, ap, sym, ◌∙◌, arith}
-use Rattle.std.specs.Prelude.{if◌then◌else◌}
+use Rattle.std.proofs.Common.{◌≡◌, ℕ, ◌<◌, ◌≤◌, ◌^◌, Bool, true, false, nat_le, List, [], length, take, Option, Some, None, is_some, unwrap_or, ℤ, pos, negsuc, refl, ap, subst, sym, ◌∙◌, arith}
 use Rattle.std.specs.Int.{cast_signed, cast_unsigned, w32}
 use Rattle.std.proofs.lemmas.Bool.{leb-true}
 use Rattle.std.proofs.lemmas.Int.{of_z-to_z}
 use Rattle.std.proofs.lemmas.List.{length-take-le}
-use Rattle.kernel.specs.Kernel.{Kernel, descriptors_at}
-use Rattle.kernel.specs.Sound.{IsKernel, IsOpenOn, console_file}
-use Rattle.calls.specs.Transfers.{target_named}
-use Rattle.kernel.proofs.Opens.{file-at}
-use Rattle.files.specs.Places.{opens_of}
+use Rattle.std.proofs.lemmas.Option.{none-some, same_Some}
+use Rattle.std.specs.Result.{result_ok}
+use Rattle.std.specs.Prelude.{if◌then◌else◌, option_map}
+use Rattle.files.specs.declared.file.OpenFile.{OpenFile}
+use Rattle.files.specs.declared.file.Target.{Target}
+use Rattle.files.specs.declared.file.Target.TheVariants as target
+use Rattle.files.specs.Meant.{target_of}
+use Rattle.files.specs.Places.{Counted, file_at, usable}
+use Rattle.kernel.specs.Holding.{FitsNode, IsInUse, node_of, node_on}
+use Rattle.proc.specs.declared.process.Process.{Process}
+use Rattle.tree.specs.Tree.{FileTree}
 use Rattle.unixmodel.specs.declared.trap.Access.TheVariants.{Load}
-use Rattle.unixmodel.specs.FileCalls.{is_usable}
-use Rattle.unixmodel.specs.Files.{free_slots, slot}
+use Rattle.unixmodel.specs.FileCalls.{is_usable, is_usable_node}
+use Rattle.unixmodel.specs.Files.{Files, Node, slot}
+use Rattle.unixmodel.specs.Files.Node.{Device, Directory, File}
 use Rattle.unixmodel.specs.Memory.{Memory, reach, read_bytes}
 use Rattle.unixmodel.specs.Numbers.{int_of, low, natural}
-use Rattle.unixmodel.specs.OpenFiles.{OpenFile, Target}
-use Rattle.unixmodel.specs.OpenFiles.Target.{OnNode, OnPipe}
-use Rattle.unixmodel.specs.Start.{flat_files}
 
 -- ---- bytes that are read
 
@@ -52,24 +55,49 @@ int-low x c is = natural-cast (low x) c (omega arith) is
 
 -- ---- what is open
 
-console-usable : is_usable flat_files (OnNode 2 0) ≡ true
-unfolding flat_files free_slots
-console-usable = refl
+usable-file : (f : OpenFile) (n offset : ℕ) (o : Option Node) → FitsNode f (target.File n offset) o → is_usable_node o ≡ true
+usable-file f n offset None fits = absurd fits
+usable-file f n offset (Some (File links bytes)) fits = refl
+usable-file f n offset (Some (Device links major minor)) fits = absurd fits
+usable-file f n offset (Some (Directory links places)) fits = refl
 
--- what is open may be read and written
-pub usable-open : (f : OpenFile) (t : Target) → f.target ≡ t → IsOpenOn f t → is_usable flat_files t ≡ true
-usable-open f (OnNode n offset) on is = ap (is_usable flat_files) (sym on ∙ ap (λ (x : OpenFile). x.target) is) ∙ console-usable
-usable-open f (OnPipe q end) on is = refl
+usable-console : (f : OpenFile) (n : ℕ) (o : Option Node) → FitsNode f (target.Console n) o → is_usable_node o ≡ true
+usable-console f n None fits = absurd fits
+usable-console f n (Some (File links bytes)) fits = absurd fits
+usable-console f n (Some (Device links major minor)) fits = rw fits refl
+usable-console f n (Some (Directory links places)) fits = absurd fits
 
-pub console-open : (f : OpenFile) (t : Target) (n offset : ℕ) → t ≡ OnNode n offset → IsOpenOn f t → f ≡ console_file
-console-open f (OnNode m at) n offset on is = is
-console-open f (OnPipe q end) n offset on is = absurd (cc)
+usable-device : (f : OpenFile) (n : ℕ) (o : Option Node) → FitsNode f (target.Device n) o → is_usable_node o ≡ false
+usable-device f n None fits = absurd fits
+usable-device f n (Some (File links bytes)) fits = absurd fits
+usable-device f n (Some (Device links major minor)) fits = fits
+usable-device f n (Some (Directory links places)) fits = absurd fits
 
-module _ (k : Kernel) (is : IsKernel k) (i d : ℕ) where
-  -- a descriptor of a node names the console
-  pub console-only : (n offset : ℕ) → target_named k i d ≡ Some (OnNode n offset) → (m : ℕ) → slot (descriptors_at k i) d ≡ Some m → slot (opens_of k.files) m ≡ Some console_file
-  console-only n offset at m named =
-      let file = file-at (opens_of k.files) (descriptors_at k i) d (OnNode n offset) at in
-      let both : Some file.number ≡ Some m = sym file.named ∙ named in
-      let same : file.number ≡ m = cc in
-      ap (slot (opens_of k.files)) (sym same) ∙ file.opened ∙ ap Some (console-open file.file file.file.target n offset file.on (is.opened.each file.number file.file file.opened))
+-- what is open may be read and written, but for a device that isn't the console
+pub usable-open : (files : Files) (f : OpenFile) (t : Target) → FitsNode f t (node_of files (node_on t)) → is_usable files (target_of t) ≡ is_some (result_ok (usable t))
+usable-open files f (target.File n offset) fits = usable-file f n offset (slot files n) fits
+usable-open files f (target.Console n) fits = usable-console f n (slot files n) fits
+usable-open files f (target.Device n) fits = usable-device f n (slot files n) fits
+usable-open files f (target.Pipe q end) fits = refl
+
+-- a node is that of a device
+pub record IsDevice (o : Option Node) : Type 0 where
+  pub links : ℕ
+  pub major : ℕ
+  pub minor : ℕ
+  pub here : o ≡ Some (Device links major minor)
+
+-- the console is one
+pub console-device : (f : OpenFile) (n : ℕ) (o : Option Node) → FitsNode f (target.Console n) o → IsDevice o
+console-device f n None fits = absurd fits
+console-device f n (Some (File links bytes)) fits = absurd fits
+console-device f n (Some (Device links major minor)) fits = record { links = links; major = major; minor = minor; here = refl }
+console-device f n (Some (Directory links places)) fits = absurd fits
+
+-- what an open file is on fits it
+module _ {t : FileTree} {opens : List (Option Counted)} {places : List (Option Process)} (is : IsInUse t opens places) (n : ℕ) where
+  pub fits-at : (f : OpenFile) → file_at opens n ≡ Some f → FitsNode f f.target (node_of t.files (node_on f.target))
+  fits-at f at = go (slot opens n) refl at where
+    go : (o : Option Counted) → slot opens n ≡ o → option_map (λ (c : Counted). c.file) o ≡ Some f → FitsNode f f.target (node_of t.files (node_on f.target))
+    go None here at = absurd (none-some f at)
+    go (Some c) here at = subst (λ (g : OpenFile). FitsNode g g.target (node_of t.files (node_on g.target))) (same_Some c.file f at) (is.fits n c here)

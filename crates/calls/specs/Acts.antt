@@ -2,6 +2,7 @@
 use Rattle.std.specs.Io.KnownBytes.{Appends}
 use Rattle.std.specs.Prelude.{Err, List, None, Ok, Option, Result, Some, [], negsuc, slice_index, ℕ, ◌%◌, ◌∷◌, ◌≡◌}
 use Rattle.std.specs.Int.{cast_signed, cast_unsigned, w32}
+use Rattle.blockdev.specs.declared.DeviceFault.{DeviceFault}
 use Rattle.calls.specs.declared.halt.Halt.{Halt}
 use Rattle.calls.specs.declared.halt.Halt.TheVariants.{Console, Device, Halted, InitEnded}
 use Rattle.calls.specs.declared.outcome.Came.{Came}
@@ -10,11 +11,9 @@ use Rattle.calls.specs.Does.{IsLost, IsServed}
 use Rattle.kernel.specs.Kernel.{Kernel, argument, descriptors_at, state_of}
 use Rattle.kernel.specs.Sound.{IsAwaiting, IsKernel, IsPending}
 use Rattle.console.specs.Output.{AppendsBeginning}
-use Rattle.files.specs.Places.{opens_of}
 use Rattle.spaces.specs.Spaces.{held_at}
 use Rattle.unixmodel.specs.Calls.{After, call, call_of, end_at, goes_on, outcome_of, quiet, settle}
 use Rattle.unixmodel.specs.declared.call.Call.{Call}
-use Rattle.unixmodel.specs.declared.call.Call.TheVariants.{Close, Dup, Exit, Fork, Getpid, Kill, Pipe, Read, Sbrk, Sleep, Uptime, Wait, Write}
 use Rattle.unixmodel.specs.declared.process.Mode.TheVariants.{Waiting}
 use Rattle.unixmodel.specs.declared.process.Pending.{Pending}
 use Rattle.unixmodel.specs.Numbers.{low}
@@ -35,24 +34,6 @@ called_by s i (Some p) = call s i p
 
 abbrev pub called : State → ℕ → After
 called s i = called_by s i (process_at s i)
-
--- a number of no call, or of a call that isn't built yet
-abbrev pub IsUnbuilt : Option Call → Type 0
-IsUnbuilt None = Unit {0}
-IsUnbuilt (Some Fork) = ⊥
-IsUnbuilt (Some Exit) = ⊥
-IsUnbuilt (Some Wait) = ⊥
-IsUnbuilt (Some Pipe) = ⊥
-IsUnbuilt (Some Read) = ⊥
-IsUnbuilt (Some Kill) = ⊥
-IsUnbuilt (Some Dup) = ⊥
-IsUnbuilt (Some Getpid) = ⊥
-IsUnbuilt (Some Sbrk) = ⊥
-IsUnbuilt (Some Sleep) = ⊥
-IsUnbuilt (Some Uptime) = ⊥
-IsUnbuilt (Some Write) = ⊥
-IsUnbuilt (Some Close) = ⊥
-IsUnbuilt (Some _) = Unit {0}
 
 -- ---- the call of the running process
 
@@ -103,7 +84,7 @@ pending_for k number = record { number = number; args = argument k 0 ∷ argumen
 
 -- a call may wait so
 abbrev pub CanWait : Kernel → ℕ → Pending → Type 0
-CanWait k i w = IsPending (descriptors_at k i) (held_at k.spaces i).memory w w.number × IsAwaiting (opens_of k.files) (descriptors_at k i) w
+CanWait k i w = IsPending (descriptors_at k i) (held_at k.spaces i).memory w w.number × IsAwaiting k.files (descriptors_at k i) w
 
 -- a call may come to that: a status is an int
 abbrev pub CanCome : Kernel → ℕ → Came → Type 0
@@ -113,12 +94,24 @@ CanCome k i (Blocks w) = CanWait k i w
 CanCome k i (Exits status) = cast_signed w32 (cast_unsigned w32 status) ≡ status
 CanCome k i KillsItself = Unit {0}
 
+-- only a call that is answered puts out bytes
+abbrev pub MayPrint : Came → List ℕ → Type 0
+MayPrint (Answers value) bytes = Unit {0}
+MayPrint _ bytes = bytes ≡ []
+
+-- the process ends
+abbrev pub IsEnd : Came → Type 0
+IsEnd (Exits status) = Unit {0}
+IsEnd KillsItself = Unit {0}
+IsEnd _ = ⊥
+
 -- the call that has that outcome is done, but for what it came to; bytes: what it puts out on the console
 pub record Comes (old new : Kernel) (i : ℕ) (o : Outcome) (bytes : List ℕ) (came : Came) : Type 0 where
   pub makes : settle (state_of old) i o ≡ record { state = settled_by (state_of new) i came; bytes = bytes }
   pub active : new.spaces.active ≡ Some i
   pub sound : IsKernel new
   pub can : CanCome new i came
+  pub printed : MayPrint came bytes
   pub served : IsServed old.tree new.tree
 
 -- a call that puts out nothing
@@ -132,17 +125,21 @@ pub record GoesOn (old new : Kernel) (i : ℕ) (w : Pending) (came : Came) : Typ
 
 -- ---- where the device or the console's writer may fail
 
--- the state but for its files
-abbrev pub but_files : State → State
-but_files s = record s { files = [] }
+-- a call that may touch the disk, and puts out nothing
+abbrev pub ActsOnDisk : Kernel → Kernel → ℕ → Option Call → Result Came DeviceFault → Type 0
+ActsOnDisk old new i call (Ok came) = Acts old new i call came
+ActsOnDisk old new i call (Err fault) = IsLost old.tree new.tree
 
--- a call that has that outcome; before and after: what the writer took; console, device: the writer's count of failures rose,
--- the device's did
-abbrev pub Tries : Kernel → Kernel → ℕ → Outcome → Option (List ℕ) → Option (List ℕ) → Type 0 → Type 0 → Result Came Halt → Type 0
-Tries old new i o before after console device (Ok came) = (bytes : List ℕ) × Comes old new i o bytes came × Appends before after bytes
+abbrev pub GoesOnDisk : Kernel → Kernel → ℕ → Pending → Result Came DeviceFault → Type 0
+GoesOnDisk old new i w (Ok came) = GoesOn old new i w came
+GoesOnDisk old new i w (Err fault) = IsLost old.tree new.tree
+
+-- a call that has that outcome; before and after: what the writer took; console: the writer's count of failures rose
+abbrev pub Tries : Kernel → Kernel → ℕ → Outcome → Option (List ℕ) → Option (List ℕ) → Type 0 → Result Came Halt → Type 0
+Tries old new i o before after console (Ok came) = (bytes : List ℕ) × Comes old new i o bytes came × Appends before after bytes
 -- a beginning of what it puts out is on the console, and the files are as they were
-Tries old new i o before after console device (Err Console) = console × AppendsBeginning before after (settle (state_of old) i o).bytes × (new.tree ≡ old.tree)
--- nothing is, and all but the files is as it was
-Tries old new i o before after console device (Err Device) = device × IsLost old.tree new.tree × Appends before after [] × (but_files (state_of new) ≡ but_files (state_of old))
-Tries old new i o before after console device (Err (InitEnded status)) = ⊥
-Tries old new i o before after console device (Err Halted) = ⊥
+Tries old new i o before after console (Err Console) = console × AppendsBeginning before after (settle (state_of old) i o).bytes × (new.tree ≡ old.tree)
+-- nothing is
+Tries old new i o before after console (Err Device) = IsLost old.tree new.tree × Appends before after []
+Tries old new i o before after console (Err (InitEnded status)) = ⊥
+Tries old new i o before after console (Err Halted) = ⊥

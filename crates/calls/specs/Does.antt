@@ -1,13 +1,15 @@
 -- What a step of the kernel comes to.
 use Rattle.console.specs.Output.{AppendsBeginning}
+use Rattle.blockdev.specs.declared.DeviceFault.{DeviceFault}
 use Rattle.calls.specs.declared.halt.Halt.{Halt}
 use Rattle.calls.specs.declared.halt.Halt.TheVariants.{Console, Device, Halted, InitEnded}
 use Rattle.kernel.specs.Kernel.{Kernel, state_of}
 use Rattle.std.specs.Io.KnownBytes.{Appends}
-use Rattle.std.specs.Prelude.{Err, List, None, Ok, Option, Result, Some, false, true, ℕ, ℤ, ◌≡◌, ◌≤◌}
+use Rattle.std.specs.Prelude.{Err, List, None, Ok, Option, Result, Some, [], false, true, ℕ, ℤ, ◌≡◌, ◌≤◌}
 use Rattle.tree.specs.Tree.{FileTree}
 use Rattle.unixmodel.specs.Failures.{Rises}
 use Rattle.unixmodel.specs.Calls.{After}
+use Rattle.unixmodel.specs.State.{State}
 
 -- the kernel's state is the one that is made, it halts so, and its bytes were printed
 pub record Makes (new : Kernel) (a : After) (before after : Option (List ℕ)) (halted : Option ℤ) : Type 0 where
@@ -25,7 +27,8 @@ abbrev pub Dispatches : {X : Type 0} → Kernel → After → Option (List ℕ) 
 Dispatches new a before after rising (Ok x) = IsMade new a before after
 Dispatches new a before after rising (Err (InitEnded status)) = ⊥
 Dispatches new a before after rising (Err Console) = rising × AppendsBeginning before after a.bytes
-Dispatches new a before after rising (Err Device) = ⊥
+-- an access of the device has failed, and nothing is on the console
+Dispatches new a before after rising (Err Device) = Appends before after []
 Dispatches new a before after rising (Err Halted) = ⊥
 
 -- the answer where the state halts so
@@ -38,8 +41,16 @@ abbrev pub Does : Kernel → After → Option (List ℕ) → Option (List ℕ) �
 Does new a before after rising (Ok u) = Makes new a before after None
 Does new a before after rising (Err (InitEnded status)) = Makes new a before after (Some status)
 Does new a before after rising (Err Console) = rising × AppendsBeginning before after a.bytes
-Does new a before after rising (Err Device) = ⊥
+Does new a before after rising (Err Device) = Appends before after []
 Does new a before after rising (Err Halted) = ⊥
+
+-- what the end of a process, which leaves that state, is answered with
+abbrev pub Ends : Kernel → State → Result (Unit {0}) Halt → Type 0
+Ends new s (Ok u) = (state_of new ≡ s) × (s.halted ≡ None)
+Ends new s (Err (InitEnded status)) = (state_of new ≡ s) × (s.halted ≡ Some status)
+Ends new s (Err Device) = Unit {0}
+Ends new s (Err Console) = ⊥
+Ends new s (Err Halted) = ⊥
 
 -- ---- the files of the disk
 
@@ -61,3 +72,8 @@ LeavesTree old new (Err (InitEnded status)) = IsServed old new
 LeavesTree old new (Err Device) = IsLost old new
 LeavesTree old new (Err Console) = new ≡ old
 LeavesTree old new (Err Halted) = new ≡ old
+
+-- and what a part of one does
+abbrev pub LeavesDisk : {X : Type 0} → FileTree → FileTree → Result X DeviceFault → Type 0
+LeavesDisk old new (Ok x) = IsServed old new
+LeavesDisk old new (Err fault) = IsLost old new

@@ -4,3 +4,6 @@ pub mod Does
 pub mod Told
 pub mod Transfers
 pub mod Renamed
+pub mod Reads
+pub mod Opened
+pub mod Replaced

@@ -1,22 +1,22 @@
 -- How read and write begin, and go on with what a descriptor names. Which of them it is goes by the end of a pipe that it
 -- would use.
-use Rattle.std.specs.Prelude.{Bool, List, Option, Some, is_some, length, option_map, take, ℕ, ◌≡◌, ◌≤◌}
+use Rattle.std.specs.Prelude.{Bool, IfSome, List, Ok, Option, Some, is_some, length, option_map, take, true, ℕ, ◌≡◌, ◌≤◌}
 use Rattle.std.specs.Result.{result_ok}
 use Rattle.calls.specs.Acts.{Runs, going_at, outcome_at}
 use Rattle.kernel.specs.Kernel.{Kernel, descriptors_at, state_of}
 use Rattle.kernel.specs.Sound.{IsFresh, IsPending, file_named}
 use Rattle.files.specs.declared.file.End.{End}
 use Rattle.files.specs.declared.file.End.TheVariants as end
-use Rattle.files.specs.Places.{opens_of, readable_at, writable_at}
+use Rattle.files.specs.declared.file.OpenFile.{OpenFile}
+use Rattle.files.specs.declared.file.Target.{Target}
+use Rattle.files.specs.declared.file.Target.TheVariants as target
+use Rattle.files.specs.Places.{readable_at, usable, writable_at}
 use Rattle.spaces.specs.Spaces.{held_at}
 use Rattle.unixmodel.specs.declared.call.Call.{Call}
 use Rattle.unixmodel.specs.declared.call.Call.TheVariants.{Read, Write}
 use Rattle.unixmodel.specs.declared.process.Pending.{Pending}
 use Rattle.unixmodel.specs.Memory.{Memory, can_write, read_bytes}
 use Rattle.unixmodel.specs.Numbers.{low}
-use Rattle.unixmodel.specs.OpenFiles as unix
-use Rattle.unixmodel.specs.OpenFiles.{OpenFile, Target}
-use Rattle.unixmodel.specs.OpenFiles.Target.{OnNode, OnPipe}
 use Rattle.unixmodel.specs.Outcome.{limited, pending_arg}
 
 abbrev pub call_on : End → Call
@@ -25,7 +25,7 @@ call_on end.Write = Write
 
 -- what the open file that a descriptor names is open on
 abbrev pub target_named : Kernel → ℕ → ℕ → Option Target
-target_named k i d = option_map (λ (f : OpenFile). f.target) (file_named (opens_of k.files) (descriptors_at k i) d)
+target_named k i d = option_map (λ (f : OpenFile). f.target) (file_named k.files (descriptors_at k i) d)
 
 -- what an open file is open on, if such a call may be made on it
 abbrev pub target_for : End → Option OpenFile → Option Target
@@ -42,19 +42,31 @@ pub record Transfers (k : Kernel) (i : ℕ) (end : End) (t : Target) (w : Pendin
   pub runs : Runs k i
   pub number : w.number ≡ call_on end
   pub can : IsPending (descriptors_at k i) (held_at k.spaces i).memory w (call_on end)
-  pub fresh : IsFresh (opens_of k.files) (descriptors_at k i) w
+  pub fresh : IsFresh k.files (descriptors_at k i) w
   pub target : target_named k i (low (pending_arg w 0)) ≡ Some t
 
--- what is open there is a node, or some end of pipe q
-abbrev pub OnSomeNode : Kernel → ℕ → End → Pending → Type 0
-OnSomeNode k i end w = (n : ℕ) × ((offset : ℕ) × Transfers k i end (OnNode n offset) w)
+-- it may be read, or written
+abbrev pub MayUse : End → Option OpenFile → Type 0
+MayUse end.Read o = IfSome o (λ f. f.readable ≡ true)
+MayUse end.Write o = IfSome o (λ f. f.writable ≡ true)
+
+-- it begins to; of devices the console alone can be read and written
+pub record Uses (k : Kernel) (i : ℕ) (e : End) (t : Target) (w : Pending) : Type 0 where
+  pub goes : Transfers k i e t w
+  pub start : w.done ≡ 0
+  pub usable : usable t ≡ Ok t
+  pub mode : MayUse e (file_named k.files (descriptors_at k i) (low (pending_arg w 0)))
+
+-- what is open there is the console, or some end of pipe q
+abbrev pub OnConsole : Kernel → ℕ → End → Pending → Type 0
+OnConsole k i end w = (n : ℕ) × Transfers k i end (target.Console n) w
 
 abbrev pub OnThePipe : Kernel → ℕ → End → ℕ → Pending → Type 0
-OnThePipe k i end q w = (e : unix.End) × Transfers k i end (OnPipe q e) w
+OnThePipe k i end q w = (e : End) × Transfers k i end (target.Pipe q e) w
 
 -- its row is what the pending call comes to, within the limits
 pub record Begins (k : Kernel) (i : ℕ) (end : End) (t : Target) (w : Pending) : Type 0 where
-  pub goes : Transfers k i end t w
+  pub uses : Uses k i end t w
   pub row : outcome_at (state_of k) i (Some (call_on end)) ≡ limited (going_at (state_of k) i w)
 
 -- ---- write

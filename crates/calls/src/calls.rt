@@ -7,7 +7,11 @@ ghost use Rattle.unixmodel.specs.Calls.{call_of};
 ghost use Rattle.unixmodel.specs.Failures.{Rises};
 
 use crate::descriptor_calls::{close, dup, pipe};
+use crate::exec_call::exec;
+use crate::file_calls::fstat;
 use crate::halt::Halt;
+use crate::name_calls::{link, mkdir, mknod, unlink};
+use crate::open_calls::{chdir, open};
 use crate::outcome::{Came, settle};
 use crate::process_calls::{exit, fork, getpid, kill, sbrk, sleep, uptime, wait};
 use crate::transfer_calls::{read, write};
@@ -57,7 +61,8 @@ pub(crate) fn begin<D: BlockDev, T: Translate + Drop>(kernel: &mut Kernel<D, T>,
     kernel.enter();
 }
 
-// A call that has begun, but for what it comes to; one that isn't built yet is refused. `Console`: the console failed.
+// A call that has begun, but for what it comes to; a number of no call is refused. `Device`, `Console`: the device failed, the
+// console did.
 fn act<D: BlockDev, T: Translate + Drop, W: Out>(
     kernel: &mut Kernel<D, T>,
     at: usize,
@@ -65,12 +70,12 @@ fn act<D: BlockDev, T: Translate + Drop, W: Out>(
     console: &mut W,
 ) -> Result<Came, Halt>
     requires { Runs kernel.old at }
-    ensures tries { Tries kernel.old kernel.new at (outcome_at (state_of kernel.old) at call) (W.contents console.old) (W.contents console.new) (Rises (W.failures console.old) (W.failures console.new)) ⊥ result }
+    ensures tries { Tries kernel.old kernel.new at (outcome_at (state_of kernel.old) at call) (W.contents console.old) (W.contents console.new) (Rises (W.failures console.old) (W.failures console.new)) result }
     ensures later { W.failures console.old ≤ W.failures console.new }
 {
     match call {
         Some(Call::Fork) => Ok(fork(kernel, at)),
-        Some(Call::Read) => Ok(read(kernel, at)),
+        Some(Call::Read) => Ok(read(kernel, at)?),
         Some(Call::Write) => write(kernel, at, console),
         Some(Call::Exit) => Ok(exit(kernel, at)),
         Some(Call::Wait) => Ok(wait(kernel, at)),
@@ -81,15 +86,15 @@ fn act<D: BlockDev, T: Translate + Drop, W: Out>(
         Some(Call::Uptime) => Ok(uptime(kernel, at)),
         Some(Call::Sbrk) => Ok(sbrk(kernel, at)),
         Some(Call::Dup) => Ok(dup(kernel, at)),
-        Some(Call::Close) => Ok(close(kernel, at)),
-        Some(Call::Exec) => Ok(Came::Refuses),
-        Some(Call::Fstat) => Ok(Came::Refuses),
-        Some(Call::Chdir) => Ok(Came::Refuses),
-        Some(Call::Open) => Ok(Came::Refuses),
-        Some(Call::Mknod) => Ok(Came::Refuses),
-        Some(Call::Unlink) => Ok(Came::Refuses),
-        Some(Call::Link) => Ok(Came::Refuses),
-        Some(Call::Mkdir) => Ok(Came::Refuses),
+        Some(Call::Close) => Ok(close(kernel, at)?),
+        Some(Call::Fstat) => Ok(fstat(kernel, at)?),
+        Some(Call::Exec) => Ok(exec(kernel, at)?),
+        Some(Call::Chdir) => Ok(chdir(kernel, at)?),
+        Some(Call::Open) => Ok(open(kernel, at)?),
+        Some(Call::Mknod) => Ok(mknod(kernel, at)?),
+        Some(Call::Unlink) => Ok(unlink(kernel, at)?),
+        Some(Call::Link) => Ok(link(kernel, at)?),
+        Some(Call::Mkdir) => Ok(mkdir(kernel, at)?),
         None => Ok(Came::Refuses),
     }
 }
@@ -109,6 +114,5 @@ pub fn call<D: BlockDev, T: Translate + Drop, W: Out>(
     let call = call_of(low(kernel.argument(7)));
     begin(kernel, at);
     let came = act(kernel, at, call, console)?;
-    settle(kernel, at, came);
-    Ok(())
+    Ok(settle(kernel, at, came)?)
 }

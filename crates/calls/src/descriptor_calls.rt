@@ -3,6 +3,8 @@ ghost use Rattle.std.specs.Prelude.{◌≡◌, ◌<◌, ◌++◌, IfSome, None, 
 ghost use Rattle.calls.specs.Acts.{Acts, Runs};
 ghost use Rattle.kernel.specs.Kernel.{descriptors_at};
 ghost use Rattle.calls.specs.Renamed.{OpensAs, free_descriptors};
+ghost use Rattle.calls.specs.Acts.{ActsOnDisk};
+ghost use Rattle.calls.specs.Renamed.{pipe_file};
 ghost use Rattle.files.specs.Meant.{end_of, file_of};
 ghost use Rattle.files.specs.Places.{free_count};
 ghost use Rattle.unixmodel.specs.FileCalls.{pipe_end};
@@ -11,16 +13,16 @@ ghost use Rattle.unixmodel.specs.declared.call.Call.TheVariants as Call;
 ghost use Rattle.unixmodel.specs.Numbers.{le};
 
 use crate::outcome::Came;
-use blockdev::BlockDev;
+use blockdev::{BlockDev, DeviceFault};
 use files::{End, Files, OpenFile, Target};
 use kernel::numbers::low;
-use kernel::{Kernel, descriptors};
+use kernel::{Kernel, descriptors, stop};
 use proc::Table;
 use sv39::Translate;
 
 // An end of a pipe, as an open file.
 fn pipe_end(pipe: usize, end: End) -> OpenFile
-    ensures { file_of result ≡ pipe_end pipe (end_of end) }
+    ensures { result ≡ pipe_file pipe end }
 {
     OpenFile {
         target: Target::Pipe { pipe, end },
@@ -29,11 +31,11 @@ fn pipe_end(pipe: usize, end: End) -> OpenFile
     }
 }
 
-// The lowest free descriptor of the process in a place names an end of a pipe, and is the answer.
-fn open_end(table: &mut Table, files: &mut Files, at: usize, pipe: usize, end: End) -> usize
+/// The lowest free descriptor of the process in a place names a new open file, and is the answer.
+pub(crate) fn open_as(table: &mut Table, files: &mut Files, at: usize, file: OpenFile) -> usize
     requires place { 0 < free_count files.old }
     requires free { 0 < free_descriptors table.old at }
-    ensures opens { OpensAs table.old table.new files.old files.new at (pipe_end pipe (end_of end)) result }
+    ensures opens { OpensAs table.old table.new files.old files.new at file result }
     ensures within { result < 16 }
 {
     let Some(process) = table.process(at) else {
@@ -42,11 +44,21 @@ fn open_end(table: &mut Table, files: &mut Files, at: usize, pipe: usize, end: E
     let Some(free) = descriptors::free_descriptor(&process.descriptors) else {
         unreachable!()
     };
-    let Ok(id) = files.open(pipe_end(pipe, end)) else {
+    let Ok(id) = files.open(file) else {
         unreachable!()
     };
     table.set_descriptor(at, free, Some(id as u8));
     free
+}
+
+// The lowest free descriptor of the process in a place names an end of a pipe, and is the answer.
+fn open_end(table: &mut Table, files: &mut Files, at: usize, pipe: usize, end: End) -> usize
+    requires place { 0 < free_count files.old }
+    requires free { 0 < free_descriptors table.old at }
+    ensures opens { OpensAs table.old table.new files.old files.new at (pipe_file pipe end) result }
+    ensures within { result < 16 }
+{
+    open_as(table, files, at, pipe_end(pipe, end))
 }
 
 // Two descriptors as ints.
@@ -85,18 +97,28 @@ pub(crate) fn dup<D: BlockDev, T: Translate + Drop>(kernel: &mut Kernel<D, T>, a
     Came::Answers(free as u64)
 }
 
-/// close(descriptor): the descriptor is free, and a pipe that has no end any more goes.
-pub(crate) fn close<D: BlockDev, T: Translate + Drop>(kernel: &mut Kernel<D, T>, at: usize) -> Came
+/// close(descriptor): the descriptor is free; a pipe that has no end any more goes, and so does a node without links that nobody holds
+/// any more.
+pub(crate) fn close<D: BlockDev, T: Translate + Drop>(
+    kernel: &mut Kernel<D, T>,
+    at: usize,
+) -> Result<Came, DeviceFault>
     requires { Runs kernel.old at }
-    ensures { Acts kernel.old kernel.new at (Some Call.Close) result }
+    ensures { ActsOnDisk kernel.old kernel.new at (Some Call.Close) result }
 {
     let descriptor = low(kernel.argument(0));
     let Some(id) = kernel.open_id(at, descriptor) else {
-        return Came::Refuses;
+        return Ok(Came::Refuses);
     };
     kernel.table.set_descriptor(at, descriptor as usize, None);
-    descriptors::close(&mut kernel.files, &mut kernel.spaces, usize::from(id));
-    Came::Answers(0)
+    let gone = descriptors::close(&mut kernel.files, &mut kernel.spaces, usize::from(id));
+    if let Some(node) = gone {
+        if let Err(fault) = kernel.tree.drop_hold(node as usize) {
+            stop(&mut kernel.table, &mut kernel.spaces, at);
+            return Err(fault);
+        }
+    }
+    Ok(Came::Answers(0))
 }
 
 /// pipe(address): a new pipe, whose ends the two lowest free descriptors name; they are written at the address.

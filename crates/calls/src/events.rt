@@ -2,9 +2,10 @@
 //!
 //! What seldom happens is kept out of line (`inline(never)`), so that the code of a step that only does an
 //! instruction stays small.
-ghost use Rattle.std.specs.Prelude.{false, ◌≡◌, ◌≤◌, Ok, Some, None, true, IfOk, OnErr};
+ghost use Rattle.std.specs.Prelude.{false, ◌≡◌, ◌≤◌, Ok, Some, None, true, IfErr, IfOk, OnErr, OnOk};
 ghost use Rattle.calls.specs.Acts.{CanWait, GoesOn, Runs, called};
-ghost use Rattle.calls.specs.Does.{Dispatches, Does, IsServed, LeavesTree, halt_of};
+ghost use Rattle.calls.specs.declared.halt.Halt.TheVariants.{Console, Device};
+ghost use Rattle.calls.specs.Does.{Dispatches, Does, Ends, LeavesDisk, LeavesTree, halt_of};
 ghost use Rattle.kernel.specs.Kernel.{state_of};
 ghost use Rattle.kernel.specs.Sound.{CanEnd, IsAlive};
 ghost use Rattle.calls.specs.Told.{CanResume, WaitsIn, became, resumed, taken};
@@ -22,7 +23,7 @@ use crate::halt::Halt;
 use crate::outcome::{Came, KILLED, Outcome, settle};
 use crate::process_calls::{sleep_on, wait_on};
 use crate::transfer_calls::{read_on, write_on};
-use blockdev::BlockDev;
+use blockdev::{BlockDev, DeviceFault};
 use console::{Out, OutFault};
 use kernel::Kernel;
 use sv39::Translate;
@@ -67,6 +68,7 @@ pub fn key<D: BlockDev, T: Translate + Drop, W: Out>(
 ) -> Result<(), Halt>
     ensures gives { Dispatches kernel.new (next (state_of kernel.old) (Key byte)) (W.contents console.old) (W.contents console.new) (Rises (W.failures console.old) (W.failures console.new)) result }
     ensures lost { OnErr result (kernel.new ≡ kernel.old) }
+    ensures fault { IfErr result (λ halt. halt ≡ Console) }
     ensures tree { kernel.new.tree ≡ kernel.old.tree }
     ensures later { W.failures console.old ≤ W.failures console.new }
 {
@@ -76,7 +78,7 @@ pub fn key<D: BlockDev, T: Translate + Drop, W: Out>(
     }
 }
 
-/// The call of the running process. `Console`: the console failed.
+/// The call of the running process. `Device`, `Console`: the device failed, the console did.
 pub fn dispatch<D: BlockDev, T: Translate + Drop, W: Out>(
     kernel: &mut Kernel<D, T>,
     at: usize,
@@ -92,7 +94,7 @@ pub fn dispatch<D: BlockDev, T: Translate + Drop, W: Out>(
     Ok(outcome(kernel, at))
 }
 
-/// A picked process that waits, where none runs, goes on with its pending call.
+/// A picked process that waits, where none runs, goes on with its pending call. `Device`: the device failed.
 pub fn resume<D: BlockDev, T: Translate + Drop>(
     kernel: &mut Kernel<D, T>,
     at: usize,
@@ -100,32 +102,32 @@ pub fn resume<D: BlockDev, T: Translate + Drop>(
     requires idle { kernel.old.spaces.active ≡ None }
     requires up { kernel.old.tree.failed ≡ false }
     requires waits { CanResume (slot kernel.old.table.places at) }
-    ensures gives { resumed (state_of kernel.old) at ≡ quiet (state_of kernel.new) }
-    ensures told { result ≡ Ok (became kernel.new at) }
-    ensures tree { IsServed kernel.old.tree kernel.new.tree }
+    ensures gives { OnOk result (resumed (state_of kernel.old) at ≡ quiet (state_of kernel.new)) }
+    ensures told { IfOk result (λ o. o ≡ became kernel.new at) }
+    ensures fault { IfErr result (λ halt. halt ≡ Device) }
+    ensures tree { LeavesTree kernel.old.tree kernel.new.tree result }
 {
     if let Some(process) = kernel.process(at).copied() {
         if let Mode::Waiting(pending) = process.mode {
-            go_on(kernel, at, pending);
+            go_on(kernel, at, pending)?;
         }
     }
     Ok(outcome(kernel, at))
 }
 
-/// Ends the running process with a status, or a process where none runs. `InitEnded`: it was process 1.
+/// Ends the running process with a status, or a process where none runs. `InitEnded`: it was process 1; `Device`: the device failed.
 pub fn end<D: BlockDev, T: Translate + Drop>(
     kernel: &mut Kernel<D, T>,
     at: usize,
     status: i32,
 ) -> Result<(), Halt>
-    requires up { kernel.old.halted ≡ None }
+    requires goes { kernel.old.halted ≡ None }
     requires can { CanEnd kernel.old at }
-    ensures gives { state_of kernel.new ≡ end_at (state_of kernel.old) at status (process_at (state_of kernel.old) at) }
-    ensures halts { result ≡ halt_of kernel.new.halted }
-    ensures tree { kernel.new.tree ≡ kernel.old.tree }
+    ensures gives { Ends kernel.new (end_at (state_of kernel.old) at status (process_at (state_of kernel.old) at)) result }
+    ensures tree { LeavesTree kernel.old.tree kernel.new.tree result }
 {
     kernel.is_sound();
-    kernel.finish(at, status);
+    kernel.finish(at, status)?;
     goes(kernel)
 }
 
@@ -144,7 +146,7 @@ pub fn step<D: BlockDev, T: Translate + Drop, W: Out>(
     kernel.is_sound();
     match kernel.active() {
         Some(at) => instruct(kernel, at, console)?,
-        None => take_turn(kernel),
+        None => take_turn(kernel)?,
     }
     goes(kernel)
 }
@@ -192,61 +194,70 @@ fn instruct<D: BlockDev, T: Translate + Drop, W: Out>(
             if is_call(trap.cause) {
                 return calls::call(kernel, at, console);
             }
-            kernel.finish(at, KILLED);
-            Ok(())
+            Ok(kernel.finish(at, KILLED)?)
         }
     }
 }
 
 // A turn, where none runs.
 #[inline(never)]
-fn take_turn<D: BlockDev, T: Translate + Drop>(kernel: &mut Kernel<D, T>)
+fn take_turn<D: BlockDev, T: Translate + Drop>(kernel: &mut Kernel<D, T>) -> Result<(), DeviceFault>
     requires idle { kernel.old.spaces.active ≡ None }
     requires up { kernel.old.tree.failed ≡ false }
-    ensures gives { take_turn (state_of kernel.old) (turn (state_of kernel.old)) ≡ quiet (state_of kernel.new) }
-    ensures tree { IsServed kernel.old.tree kernel.new.tree }
+    ensures gives { OnOk result (take_turn (state_of kernel.old) (turn (state_of kernel.old)) ≡ quiet (state_of kernel.new)) }
+    ensures tree { LeavesDisk kernel.old.tree kernel.new.tree result }
 {
     kernel.is_sound();
-    if let Some(at) = kernel.turn() {
-        take(kernel, at);
+    match kernel.turn() {
+        Some(at) => take(kernel, at),
+        None => Ok(()),
     }
 }
 
 // The process in a place, which was picked, ends if it is killed; else it runs, or goes on with its call.
-fn take<D: BlockDev, T: Translate + Drop>(kernel: &mut Kernel<D, T>, at: usize)
+fn take<D: BlockDev, T: Translate + Drop>(
+    kernel: &mut Kernel<D, T>,
+    at: usize,
+) -> Result<(), DeviceFault>
     requires idle { kernel.old.spaces.active ≡ None }
     requires up { kernel.old.tree.failed ≡ false }
     requires alive { IsAlive (slot kernel.old.table.places at) }
-    ensures gives { taken (state_of kernel.old) at ≡ quiet (state_of kernel.new) }
-    ensures tree { IsServed kernel.old.tree kernel.new.tree }
+    ensures gives { OnOk result (taken (state_of kernel.old) at ≡ quiet (state_of kernel.new)) }
+    ensures tree { LeavesDisk kernel.old.tree kernel.new.tree result }
 {
     kernel.is_sound();
     let Some(process) = kernel.process(at).copied() else {
-        return;
+        return Ok(());
     };
     if process.killed {
-        kernel.finish(at, KILLED);
-        return;
+        return kernel.finish(at, KILLED);
     }
     match process.mode {
-        Mode::Ready => kernel.start(at),
+        Mode::Ready => {
+            kernel.start(at);
+            Ok(())
+        }
         Mode::Waiting(pending) => go_on(kernel, at, pending),
-        Mode::Running | Mode::Zombie(_) => {}
+        Mode::Running | Mode::Zombie(_) => Ok(()),
     }
 }
 
 // The process in a place, where none runs, goes on with its pending call.
-fn go_on<D: BlockDev, T: Translate + Drop>(kernel: &mut Kernel<D, T>, at: usize, pending: Pending)
+fn go_on<D: BlockDev, T: Translate + Drop>(
+    kernel: &mut Kernel<D, T>,
+    at: usize,
+    pending: Pending,
+) -> Result<(), DeviceFault>
     requires idle { kernel.old.spaces.active ≡ None }
     requires up { kernel.old.tree.failed ≡ false }
     requires waits { WaitsIn (slot kernel.old.table.places at) pending }
-    ensures gives { resumed (state_of kernel.old) at ≡ quiet (state_of kernel.new) }
-    ensures tree { IsServed kernel.old.tree kernel.new.tree }
+    ensures gives { OnOk result (resumed (state_of kernel.old) at ≡ quiet (state_of kernel.new)) }
+    ensures tree { LeavesDisk kernel.old.tree kernel.new.tree result }
 {
     kernel.is_sound();
     kernel.start(at);
     let came = act_on(kernel, at, pending);
-    settle(kernel, at, came);
+    settle(kernel, at, came)
 }
 
 // What a pending call of the running process comes to.

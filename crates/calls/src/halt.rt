@@ -1,5 +1,6 @@
 //! Why a machine stops, and why it doesn't boot.
 
+use blockdev::DeviceFault;
 use thiserror::Error;
 
 /// Why a machine stopped.
@@ -17,4 +18,15 @@ pub enum Halt {
     /// The machine had stopped before.
     #[error("the machine has halted")]
     Halted,
+}
+
+impl From<DeviceFault> for Halt {
+    ghost use Rattle.std.specs.Prelude.{◌≡◌};
+    ghost use Rattle.calls.specs.declared.halt.Halt.TheVariants.{Device};
+
+    ghost from_gives = { λ _ halt. halt ≡ Device };
+
+    fn from(_fault: DeviceFault) -> Halt {
+        Halt::Device
+    }
 }

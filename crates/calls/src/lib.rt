@@ -4,7 +4,11 @@
 mod calls;
 mod descriptor_calls;
 mod events;
+mod exec_call;
+mod file_calls;
 mod halt;
+mod name_calls;
+mod open_calls;
 mod outcome;
 mod process_calls;
 mod transfer_calls;

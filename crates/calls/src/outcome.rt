@@ -1,9 +1,10 @@
 //! What a call came to, and how that is settled.
-ghost use Rattle.std.specs.Prelude.{◌≡◌, Some};
-ghost use Rattle.calls.specs.Acts.{CanCome, pending_for, settled_by};
+ghost use Rattle.std.specs.Prelude.{◌≡◌, OnErr, OnOk, Some};
+ghost use Rattle.calls.specs.Acts.{CanCome, IsEnd, pending_for, settled_by};
+ghost use Rattle.calls.specs.Does.{LeavesDisk};
 ghost use Rattle.kernel.specs.Kernel.{state_of};
 
-use blockdev::BlockDev;
+use blockdev::{BlockDev, DeviceFault};
 use kernel::Kernel;
 use sv39::Translate;
 use unixmodel::call::Call;
@@ -56,27 +57,38 @@ pub(crate) fn pending<D: BlockDev, T: Translate + Drop>(
     }
 }
 
-/// A call of the running process is done.
+/// A call of the running process is done. Where an access of the device fails, a process ended, and none runs.
 pub(crate) fn settle<D: BlockDev, T: Translate + Drop>(
     kernel: &mut Kernel<D, T>,
     at: usize,
     came: Came,
-)
+) -> Result<(), DeviceFault>
     requires running { kernel.old.spaces.active ≡ Some at }
     requires can { CanCome kernel.old at came }
-    ensures gives { state_of kernel.new ≡ settled_by (state_of kernel.old) at came }
-    ensures tree { kernel.new.tree ≡ kernel.old.tree }
+    ensures gives { OnOk result (state_of kernel.new ≡ settled_by (state_of kernel.old) at came) }
+    ensures fails { OnErr result (IsEnd came) }
+    ensures tree { LeavesDisk kernel.old.tree kernel.new.tree result }
 {
     kernel.is_sound();
     match came {
-        Came::Answers(value) => kernel.answer(value),
-        Came::Refuses => kernel.answer(REFUSED),
-        Came::Blocks(pending) => kernel.block(at, pending),
+        Came::Answers(value) => {
+            kernel.answer(value);
+            Ok(())
+        }
+        Came::Refuses => {
+            kernel.answer(REFUSED);
+            Ok(())
+        }
+        Came::Blocks(pending) => {
+            kernel.block(at, pending);
+            Ok(())
+        }
         Came::Exits(status) => kernel.finish(at, status),
         Came::KillsItself => {
             kernel.answer(0);
-            kernel.finish(at, KILLED);
+            kernel.finish(at, KILLED)?;
             kernel.mark(at);
+            Ok(())
         }
     }
 }

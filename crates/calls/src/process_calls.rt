@@ -66,6 +66,7 @@ pub(crate) fn fork<D: BlockDev, T: Translate + Drop>(kernel: &mut Kernel<D, T>, 
         return Came::Refuses;
     }
     share_all(&mut kernel.files, &process.descriptors);
+    kernel.tree.hold(process.directory as usize);
     let mut registers = process.registers;
     registers[10] = 0;
     let _seat = kernel.table.alloc(Process {

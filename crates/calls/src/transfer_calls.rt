@@ -1,10 +1,12 @@
 //! The calls read and write, and how they go on. Which of them it is goes by the end of a pipe that it would use.
 ghost use Rattle.std.specs.Prelude.{[], ◌<◌, ◌≡◌, ◌≤◌, IfErr, IfOk, OnErr, OnOk, Some, is_some, length, option_map, true, unwrap_or};
+ghost use Rattle.std.specs.Prelude.{if◌then◌else◌, ◌==◌};
 ghost use Rattle.std.specs.Io.KnownBytes.{Appends};
-ghost use Rattle.calls.specs.Acts.{Acts, CanWait, GoesOn, Runs, Tries, going_at, outcome_at};
+ghost use Rattle.calls.specs.Acts.{Acts, ActsOnDisk, CanWait, GoesOn, GoesOnDisk, Runs, Tries, going_at, outcome_at};
+ghost use Rattle.files.specs.declared.file.Target.TheVariants as target;
 ghost use Rattle.kernel.specs.Kernel.{descriptors_at, state_of};
 ghost use Rattle.kernel.specs.Sound.{file_named};
-ghost use Rattle.calls.specs.Transfers.{Begins, OnSomeNode, OnThePipe, Transfers, IsFront, call_on, can_transfer, target_for, target_named};
+ghost use Rattle.calls.specs.Transfers.{Begins, OnConsole, OnThePipe, Uses, IsFront, call_on, can_transfer, target_for, target_named};
 ghost use Rattle.files.specs.declared.file.End.TheVariants as End;
 ghost use Rattle.console.specs.Output.{AppendsBeginning};
 ghost use Rattle.files.specs.Meant.{end_of, target_of};
@@ -13,18 +15,19 @@ ghost use Rattle.spaces.specs.Spaces.{held_at};
 ghost use Rattle.unixmodel.specs.declared.call.Call.TheVariants as Call;
 ghost use Rattle.unixmodel.specs.Failures.{Rises};
 ghost use Rattle.unixmodel.specs.Memory.{reach, read_bytes};
-ghost use Rattle.unixmodel.specs.Outcome.{limited};
+ghost use Rattle.unixmodel.specs.Outcome.{limited, minus_one};
 ghost use Rattle.unixmodel.specs.declared.trap.Access.TheVariants.{Load};
 ghost use Rattle.vm.specs.Reach.{piece_at};
 
 use crate::halt::Halt;
 use crate::outcome::{Came, REFUSED, pending};
-use blockdev::BlockDev;
+use blockdev::{BlockDev, DeviceFault};
 use console::{Out, OutFault, ROOM};
 use files::{End, Target};
-use kernel::Kernel;
 use kernel::numbers::{low, natural};
+use kernel::{Kernel, stop};
 use sv39::Translate;
+use transfers::{read_node, write_node};
 use unixmodel::call::Call;
 use unixmodel::process::Pending;
 
@@ -44,7 +47,7 @@ fn open_target<D: BlockDev, T: Translate + Drop>(
     at: usize,
     descriptor: u32,
 ) -> Option<Target>
-    ensures { option_map target_of result ≡ target_named kernel.now at descriptor }
+    ensures { result ≡ target_named kernel.now at descriptor }
 {
     let Some(id) = kernel.open_id(at, descriptor) else {
         return None;
@@ -69,7 +72,7 @@ fn target_for<D: BlockDev, T: Translate + Drop>(
     at: usize,
     descriptor: u32,
 ) -> Option<Target>
-    ensures { option_map target_of result ≡ target_for end (file_named (opens_of kernel.now.files) (descriptors_at kernel.now at) descriptor) }
+    ensures { result ≡ target_for end (file_named kernel.now.files (descriptors_at kernel.now at) descriptor) }
 {
     let Some(id) = kernel.open_id(at, descriptor) else {
         return None;
@@ -106,7 +109,7 @@ fn begin_transfer<D: BlockDev, T: Translate + Drop>(
 ) -> Result<(Target, Pending), Came>
     requires { Runs kernel.now at }
     ensures answered { IfErr result (λ came. Acts kernel.now kernel.now at (Some (call_on end)) came) }
-    ensures begins { IfOk result (λ r. Begins kernel.now at end (target_of r.0) r.1) }
+    ensures begins { IfOk result (λ r. Begins kernel.now at end r.0 r.1) }
 {
     let pending = pending(kernel, call_on(end));
     let Some(target) = target_for(kernel, end, at, low(pending.args[0])) else {
@@ -126,19 +129,22 @@ fn begin_transfer<D: BlockDev, T: Translate + Drop>(
 
 // ---- read
 
-/// read(descriptor, address, count) from the console or from a pipe. Its bytes go to an address that may be written
-/// for all of the count, which is tested first.
-pub(crate) fn read<D: BlockDev, T: Translate + Drop>(kernel: &mut Kernel<D, T>, at: usize) -> Came
+/// read(descriptor, address, count) from a file or a directory, the console or a pipe. Its bytes go to an address that may be
+/// written for all of the count, which is tested first.
+pub(crate) fn read<D: BlockDev, T: Translate + Drop>(
+    kernel: &mut Kernel<D, T>,
+    at: usize,
+) -> Result<Came, DeviceFault>
     requires { Runs kernel.old at }
-    ensures { Acts kernel.old kernel.new at (Some Call.Read) result }
+    ensures { ActsOnDisk kernel.old kernel.new at (Some Call.Read) result }
 {
     match begin_transfer(kernel, at, End::Read) {
         Ok((target, pending)) => read_from(kernel, at, target, pending),
-        Err(came) => came,
+        Err(came) => Ok(came),
     }
 }
 
-/// The process goes on with its pending read.
+/// The process goes on with its pending read, which is one of the console or of a pipe.
 pub(crate) fn read_on<D: BlockDev, T: Translate + Drop>(
     kernel: &mut Kernel<D, T>,
     at: usize,
@@ -152,7 +158,11 @@ pub(crate) fn read_on<D: BlockDev, T: Translate + Drop>(
     let Some(target) = open_target(kernel, at, low(pending.args[0])) else {
         unreachable!()
     };
-    read_from(kernel, at, target, pending)
+    match target {
+        Target::Console { .. } => read_console(kernel, at, pending),
+        Target::Pipe { pipe, .. } => read_pipe(kernel, at, pipe, pending),
+        Target::File { .. } | Target::Device { .. } => unreachable!(),
+    }
 }
 
 // A read goes on, of what is open there.
@@ -161,13 +171,52 @@ fn read_from<D: BlockDev, T: Translate + Drop>(
     at: usize,
     target: Target,
     pending: Pending,
-) -> Came
-    requires { Transfers kernel.old at End.Read (target_of target) pending }
-    ensures { GoesOn kernel.old kernel.new at pending result }
+) -> Result<Came, DeviceFault>
+    requires { Uses kernel.old at End.Read target pending }
+    ensures { GoesOnDisk kernel.old kernel.new at pending result }
 {
     match target {
-        Target::Node { .. } => read_console(kernel, at, pending),
-        Target::Pipe { pipe, .. } => read_pipe(kernel, at, pipe, pending),
+        Target::File { number, offset } => read_file(kernel, at, number, offset, pending),
+        Target::Console { .. } => Ok(read_console(kernel, at, pending)),
+        Target::Pipe { pipe, .. } => Ok(read_pipe(kernel, at, pipe, pending)),
+        Target::Device { .. } => unreachable!(),
+    }
+}
+
+// From a file or a directory: the process takes what there is from the offset on, which goes on behind it.
+fn read_file<D: BlockDev, T: Translate + Drop>(
+    kernel: &mut Kernel<D, T>,
+    at: usize,
+    number: u32,
+    offset: u32,
+    pending: Pending,
+) -> Result<Came, DeviceFault>
+    requires { Uses kernel.old at End.Read (target.File number offset) pending }
+    ensures { GoesOnDisk kernel.old kernel.new at pending result }
+{
+    let Some(id) = kernel.open_id(at, low(pending.args[0])) else {
+        unreachable!()
+    };
+    kernel.tree.is_whole();
+    let count = u64::from(low(pending.args[2]));
+    let read = read_node(
+        &mut kernel.tree,
+        &mut kernel.spaces,
+        at,
+        number as usize,
+        offset,
+        pending.args[1],
+        count,
+    );
+    match read {
+        Ok(read) => {
+            kernel.files.set_offset(usize::from(id), offset + low(read));
+            Ok(Came::Answers(read))
+        }
+        Err(fault) => {
+            stop(&mut kernel.table, &mut kernel.spaces, at);
+            Err(fault)
+        }
     }
 }
 
@@ -177,7 +226,7 @@ fn read_console<D: BlockDev, T: Translate + Drop>(
     at: usize,
     pending: Pending,
 ) -> Came
-    requires { OnSomeNode kernel.old at End.Read pending }
+    requires { OnConsole kernel.old at End.Read pending }
     ensures { GoesOn kernel.old kernel.new at pending result }
 {
     let _pages = kernel.spaces.pages(at);
@@ -269,15 +318,15 @@ fn print<D: BlockDev, T: Translate + Drop, W: Out>(
     Ok(())
 }
 
-/// write(descriptor, address, count) to the console or a pipe. Its bytes are all readable, which is tested first.
-/// `Console`: the console failed.
+/// write(descriptor, address, count) to a file, the console or a pipe. Its bytes are all readable, which is tested first.
+/// `Device`, `Console`: the device failed, the console did.
 pub(crate) fn write<D: BlockDev, T: Translate + Drop, W: Out>(
     kernel: &mut Kernel<D, T>,
     at: usize,
     console: &mut W,
 ) -> Result<Came, Halt>
     requires { Runs kernel.old at }
-    ensures tries { Tries kernel.old kernel.new at (outcome_at (state_of kernel.old) at (Some Call.Write)) (W.contents console.old) (W.contents console.new) (Rises (W.failures console.old) (W.failures console.new)) ⊥ result }
+    ensures tries { Tries kernel.old kernel.new at (outcome_at (state_of kernel.old) at (Some Call.Write)) (W.contents console.old) (W.contents console.new) (Rises (W.failures console.old) (W.failures console.new)) result }
     ensures later { W.failures console.old ≤ W.failures console.new }
 {
     match begin_transfer(kernel, at, End::Write) {
@@ -294,12 +343,13 @@ fn write_to<D: BlockDev, T: Translate + Drop, W: Out>(
     pending: Pending,
     console: &mut W,
 ) -> Result<Came, Halt>
-    requires { Transfers kernel.old at End.Write (target_of target) pending }
-    ensures tries { Tries kernel.old kernel.new at (limited (going_at (state_of kernel.old) at pending)) (W.contents console.old) (W.contents console.new) (Rises (W.failures console.old) (W.failures console.new)) ⊥ result }
+    requires { Uses kernel.old at End.Write target pending }
+    ensures tries { Tries kernel.old kernel.new at (limited (going_at (state_of kernel.old) at pending)) (W.contents console.old) (W.contents console.new) (Rises (W.failures console.old) (W.failures console.new)) result }
     ensures later { W.failures console.old ≤ W.failures console.new }
 {
     match target {
-        Target::Node { .. } => {
+        Target::File { number, offset } => Ok(write_file(kernel, at, number, offset, pending)?),
+        Target::Console { .. } => {
             let count = u64::from(low(pending.args[2]));
             match print(kernel, at, pending.args[1], count, console) {
                 Ok(()) => Ok(Came::Answers(count)),
@@ -307,6 +357,56 @@ fn write_to<D: BlockDev, T: Translate + Drop, W: Out>(
             }
         }
         Target::Pipe { pipe, .. } => Ok(write_pipe(kernel, at, pipe, pending)),
+        Target::Device { .. } => unreachable!(),
+    }
+}
+
+// The answer of a write to a file: -1 where some of its bytes are left.
+fn write_answer(wrote: u64, count: u64) -> u64
+    ensures { result ≡ (if wrote == count then wrote else minus_one) }
+{
+    if wrote == count { wrote } else { REFUSED }
+}
+
+// To a file: as many of its bytes go as there are blocks for, and the offset goes on behind them; it answers -1 where some are left.
+fn write_file<D: BlockDev, T: Translate + Drop>(
+    kernel: &mut Kernel<D, T>,
+    at: usize,
+    number: u32,
+    offset: u32,
+    pending: Pending,
+) -> Result<Came, DeviceFault>
+    requires { Uses kernel.old at End.Write (target.File number offset) pending }
+    ensures { GoesOnDisk kernel.old kernel.new at pending result }
+{
+    let Some(id) = kernel.open_id(at, low(pending.args[0])) else {
+        unreachable!()
+    };
+    let count = u64::from(low(pending.args[2]));
+    let wrote = write_node(
+        &mut kernel.tree,
+        &kernel.spaces,
+        at,
+        number as usize,
+        offset,
+        pending.args[1],
+        count,
+    );
+    match wrote {
+        Ok(wrote) => {
+            kernel.tree.is_whole();
+            let Some(wrote) = wrote else {
+                return Ok(Came::Refuses);
+            };
+            kernel
+                .files
+                .set_offset(usize::from(id), offset + low(wrote));
+            Ok(Came::Answers(write_answer(wrote, count)))
+        }
+        Err(fault) => {
+            stop(&mut kernel.table, &mut kernel.spaces, at);
+            Err(fault)
+        }
     }
 }
 
@@ -325,8 +425,8 @@ pub(crate) fn write_on<D: BlockDev, T: Translate + Drop>(
         unreachable!()
     };
     match target {
-        Target::Node { .. } => unreachable!(),
         Target::Pipe { pipe, .. } => write_pipe(kernel, at, pipe, pending),
+        Target::File { .. } | Target::Console { .. } | Target::Device { .. } => unreachable!(),
     }
 }
 

@@ -1,19 +1,23 @@
 -- Which process runs, and the end of a process.
-use Rattle.std.proofs.Common.{◌≡◌, ◌≢◌, ℕ, zero, suc, ◌<◌, ◌≤◌, ◌%◌, inl, inr, true, false, nat_eq, List, [], ◌∷◌, length, map, Option, Some, None, ℤ, refl, ap, sym, ◌∙◌, arith}
-use Rattle.std.specs.Prelude.{if◌then◌else◌, option_map, slice_index, slice_index_or, slice_set}
+use Rattle.std.proofs.Common.{◌≡◌, ◌≢◌, ℕ, zero, suc, ◌+◌, ◌<◌, ◌≤◌, ◌%◌, inl, inr, Bool, true, false, nat_eq, List, [], ◌∷◌, ◌++◌, length, map, Option, Some, None, ℤ, refl, ap, sym, ◌∙◌, arith}
+use Rattle.std.specs.Prelude.{if◌then◌else◌, not, option_map, slice_index, slice_index_or, slice_set}
 use Rattle.std.proofs.lemmas.Bool.{ne_eqb}
 use Rattle.std.proofs.lemmas.Bool.Decides.{nat_tests}
 use Rattle.std.proofs.lemmas.List.{get_or-set_other, length-map, length-set, set-get_or}
 use Rattle.std.specs.Option.{option_eq}
 use Rattle.std.proofs.Math.ListN as listn
 use Rattle.kernel.specs.Descriptors.{all_closed, descriptors_in, standing}
-use Rattle.kernel.specs.Kernel.{Kernel, base, descriptors_at, ended, halted_by, idle, left_as, left_files, loaded, memories, memory_in, on_hart, rest_of, state_of}
-use Rattle.kernel.specs.Sound.{idle-filed, IsKernel, IsMode, IsPlace, IsPlaced, WaitsWell, is_at}
-use Rattle.kernel.proofs.Named.{Leaves, counted-ended, counts-joined, fewer-pipes, leaves-standing, opens-all_closed, reap-closed, table-all_closed}
+use Rattle.kernel.specs.Holding.{AreHeld, IsInUse, all_dropped, files_on, gone_nodes, home_in, homes_at}
+use Rattle.kernel.proofs.Holding.{AreOldHomes, all-failed, fewer-held, fewer-leaves, fewer-nodes, fewer-used, filed-put, idle-filed, named_in, same-map}
+use Rattle.kernel.specs.Kernel.{Kernel, base, descriptors_at, ended, halted_by, idle, left_as, left_files, left_home, left_nodes, lives, loaded, memories, memory_in, on_hart, rest_of, state_of}
+use Rattle.kernel.specs.Sound.{IsKernel, IsMode, IsPlace, IsPlaced, WaitsWell, is_at}
+use Rattle.kernel.proofs.Named.{Leaves, counted-ended, counts-joined, fewer-pipes, files-all_closed, files_on-all_closed, leaves-standing, named_in-append, old-all_closed, opens-all_closed, reap-closed, table-all_closed}
 use Rattle.kernel.proofs.Opens.{opened-put, waits-fewer, waits-set}
-use Rattle.kernel.proofs.Reaped.{opened-loaded}
+use Rattle.kernel.proofs.Reaped.{are-away, opened-loaded, used-loaded}
 use Rattle.kernel.proofs.Runs.{IsRun, memory-at, put-with, runs-set, same_or_not, set-twice, slot-other, slot-put, slot-within, state-run, with_process, within-run}
-use Rattle.files.specs.Counts.{Counts}
+use Rattle.files.specs.Counts.{Counts, one_at, one_in}
+use Rattle.std.proofs.lemmas.List.Sums.{sum_by-cons, sum_by-set}
+use Rattle.std.proofs.lemmas.Option.{none-some}
 use Rattle.files.specs.Places.{Counted, opens_of}
 use Rattle.proc.specs.declared.process.Process.{Process}
 use Rattle.proc.specs.Places as table
@@ -24,10 +28,9 @@ use Rattle.unixmodel.specs.declared.process.Mode.{Mode}
 use Rattle.unixmodel.specs.declared.process.Mode.TheVariants.{Ready, Running, Waiting, Zombie}
 use Rattle.unixmodel.specs.Files.{put, slot}
 use Rattle.unixmodel.specs.Memory.{Memory}
-use Rattle.unixmodel.specs.OpenFiles.{OpenFile}
 use Rattle.unixmodel.specs.Outcome as ends
 use Rattle.unixmodel.specs.Outcome.{end_process}
-use Rattle.unixmodel.specs.Process.{is_running_mode}
+use Rattle.unixmodel.specs.Process.{is_running_mode, is_zombie_mode}
 use Rattle.unixmodel.specs.Reap.{reap}
 use Rattle.unixmodel.specs.State.{State, holds, put_process}
 
@@ -42,9 +45,9 @@ stands-put os hs i o short is stands j = elim (same_or_not j i) [
 ]
 
 mode-kept : (s : Spaces) (p : Process) (m : Memory) (mode : Mode) → IsMode p m mode → IsMode (on_hart s p) m mode
-mode-kept s p m Running is = (record { descriptors = is.0.descriptors; directory = is.0.directory }, is.1)
-mode-kept s p m Ready is = record { descriptors = is.descriptors; directory = is.directory }
-mode-kept s p m (Waiting w) is = (record { descriptors = is.0.descriptors; directory = is.0.directory }, is.1)
+mode-kept s p m Running is = (record { descriptors = is.0.descriptors }, is.1)
+mode-kept s p m Ready is = record { descriptors = is.descriptors }
+mode-kept s p m (Waiting w) is = (record { descriptors = is.0.descriptors }, is.1)
 mode-kept s p m (Zombie status) is = record { descriptors = is.descriptors; directory = is.directory }
 
 -- the hart's process stands as well as its table's
@@ -87,6 +90,18 @@ pub length-active : (k : Kernel) (o : Option ℕ) → length (changed_at k.table
 length-active k None = refl
 length-active k (Some i) = length-set k.table.places i (option_map (on_hart k.spaces) (slot k.table.places i))
 
+-- the process that runs has what the hart holds
+pub slot-active : (k : Kernel) (at : ℕ) → k.spaces.active ≡ Some at → option_map (on_hart k.spaces) (slot k.table.places at) ≡ slot (loaded k).places at
+slot-active k at active = sym (ap (λ (o : Option ℕ). slot (changed_at k.table (on_hart k.spaces) o).places at) active ∙ go k.table.places at) where
+  go : (os : List (Option Process)) (i : ℕ) → slot (slice_set os i (option_map (on_hart k.spaces) (slot os i))) i ≡ option_map (on_hart k.spaces) (slot os i)
+  go [] i = refl
+  go (o ∷ os) zero = refl
+  go (o ∷ os) (suc i) = go os i
+
+pub is-active : (o : Option ℕ) (at : ℕ) → option_eq nat_eq o (Some at) ≡ true → o ≡ Some at
+is-active None at h = absurd (let bad : false ≡ true = h in cc)
+is-active (Some i) at h = let same : i ≡ at = grind (arith, nat_tests, h) in ap (λ j. Some j) same
+
 -- a process that doesn't run is that of the table
 pub slot-idle : (k : Kernel) (at : ℕ) (o : Option ℕ) → option_eq nat_eq o (Some at) ≡ false → slot (changed_at k.table (on_hart k.spaces) o).places at ≡ slot k.table.places at
 slot-idle k at None other = refl
@@ -108,6 +123,22 @@ descriptors-active k (Some i) j = descriptors-changed k.spaces k.table.places i 
 pub descriptors-loaded : (k : Kernel) (j : ℕ) (q : Process) → slot (loaded k).places j ≡ Some q → descriptors_at k j ≡ q.descriptors
 descriptors-loaded k j q at = sym (descriptors-active k k.spaces.active j) ∙ ap descriptors_in at
 
+left-changed : (s : Spaces) (os : List (Option Process)) (i j : ℕ) → left_home (slot (slice_set os i (option_map (on_hart s) (slot os i))) j) ≡ left_home (slot os j)
+left-changed s [] i j = refl
+left-changed s (None ∷ os) zero zero = refl
+left-changed s (Some p ∷ os) zero zero = refl
+left-changed s (o ∷ os) zero (suc j) = refl
+left-changed s (o ∷ os) (suc i) zero = refl
+left-changed s (o ∷ os) (suc i) (suc j) = left-changed s os i j
+
+left-active : (k : Kernel) (o : Option ℕ) (j : ℕ) → left_home (slot (changed_at k.table (on_hart k.spaces) o).places j) ≡ left_home (slot k.table.places j)
+left-active k None j = refl
+left-active k (Some i) j = left-changed k.spaces k.table.places i j
+
+-- and so is the directory
+home-loaded : (k : Kernel) (j : ℕ) (q : Process) → slot (loaded k).places j ≡ Some q → left_home (slot k.table.places j) ≡ q.directory ∷ []
+home-loaded k j q at = sym (left-active k k.spaces.active j) ∙ ap left_home at
+
 -- ---- the process that ran runs no more
 
 abbrev pub left_to : Kernel → ℕ → Process → Kernel
@@ -121,13 +152,13 @@ module _ (k : Kernel) (i : ℕ) (p : Process) (h : Held) (r : IsRun k i p h) (is
   left-as mode = rw r.process refl
 
   module _ (q : Process) (placed : IsPlaced q h) (rests : is_running_mode q.mode ≡ false) where
-    pub left-kernel : q.descriptors ≡ p.descriptors → WaitsWell (opens_of k.files) (Some q) → IsKernel (left_to k i q)
-    left-kernel same well = record {
+    pub left-kernel : q.descriptors ≡ p.descriptors → home_in (Some q) ≡ home_in (Some p) → WaitsWell k.files (Some q) → IsKernel (left_to k i q)
+    left-kernel same home well = record {
       all = length-set k.table.places i (Some q) ∙ is.all;
       spaces = is.spaces;
       stands = stands-put k.table.places k.spaces.places i (Some q) (within-run k i p h r) (rw r.space placed) is.stands;
       runs = runs-set k.table.places i (Some q) k.spaces.active None (within-run k i p h r) rests (λ j other. rw (r.active, other-at i j other) refl) is.runs;
-      filed = idle-filed is.filed;
+      filed = idle-filed (filed-put is.filed i (Some q) (home ∙ sym (ap home_in r.process)));
       fits = is.fits;
       opened = opened-put k.files k.spaces.pipes k.table.places i (Some q) (same ∙ sym (ap descriptors_in r.process)) well is.opened;
     }
@@ -148,9 +179,9 @@ module _ (k : Kernel) (i : ℕ) (p : Process) (h : Held) (r : IsRun k i p h) (is
 -- ---- the end of a process
 
 parent-kept : (p : Process) (m : Memory) (mode : Mode) → IsMode p m mode → IsMode (record p { parent = 1 }) m mode
-parent-kept p m Running is = (record { descriptors = is.0.descriptors; directory = is.0.directory }, is.1)
-parent-kept p m Ready is = record { descriptors = is.descriptors; directory = is.directory }
-parent-kept p m (Waiting w) is = (record { descriptors = is.0.descriptors; directory = is.0.directory }, is.1)
+parent-kept p m Running is = (record { descriptors = is.0.descriptors }, is.1)
+parent-kept p m Ready is = record { descriptors = is.descriptors }
+parent-kept p m (Waiting w) is = (record { descriptors = is.0.descriptors }, is.1)
 parent-kept p m (Zombie status) is = record { descriptors = is.descriptors; directory = is.directory }
 
 orphan-placed : (pid : ℕ) (o : Option Process) (q : Option Held) → IsPlace o q → IsPlace (option_map (orphaned pid) o) q
@@ -166,16 +197,43 @@ orphan-runs : (pid : ℕ) (o : Option Process) → holds table.is_running (optio
 orphan-runs pid None = refl
 orphan-runs pid (Some p) = elim (nat_eq p.parent pid) as (λ b. table.is_running (if b then record p { parent = 1 } else p) ≡ table.is_running p) [ true ↦ refl | false ↦ refl ]
 
-orphan-waits : (opens : List (Option OpenFile)) (pid : ℕ) (o : Option Process) → WaitsWell opens o → WaitsWell opens (option_map (orphaned pid) o)
+orphan-waits : (opens : List (Option Counted)) (pid : ℕ) (o : Option Process) → WaitsWell opens o → WaitsWell opens (option_map (orphaned pid) o)
 orphan-waits opens pid None is = tt
 orphan-waits opens pid (Some p) is = elim (nat_eq p.parent pid) as (λ b. WaitsWell opens (Some (if b then record p { parent = 1 } else p))) [ true ↦ is | false ↦ is ]
+
+orphan-home : (pid : ℕ) (o : Option Process) → home_in (option_map (orphaned pid) o) ≡ home_in o
+orphan-home pid None = refl
+orphan-home pid (Some p) = elim (nat_eq p.parent pid) as (λ b. home_in (Some (if b then record p { parent = 1 } else p)) ≡ home_in (Some p)) [ true ↦ refl | false ↦ refl ]
 
 slot-map : (f : Process → Process) (os : List (Option Process)) (j : ℕ) → slot (map (option_map f) os) j ≡ option_map f (slot os j)
 slot-map f os j = listn.get_or-map (option_map f) os j None
 
+-- the end of process q, which the loaded table has in place i
+pub ended-made : (k : Kernel) (i : ℕ) (q : Process) (status : ℤ) → slot (loaded k).places i ≡ Some q → halted_by (slot k.table.places i) ≡ halted_by (Some q)
+    → record k {
+      tree = all_dropped k.tree (gone_nodes k.files q.descriptors ++ q.directory ∷ []);
+      table = exited (loaded k) i status;
+      spaces = record (idle k.spaces) { pipes = standing k.spaces.pipes (opens_of (all_closed k.files q.descriptors)) };
+      files = all_closed k.files q.descriptors;
+      halted = halted_by (Some q) status k.halted;
+    } ≡ ended k i status
+ended-made k i q status there pids =
+    ap (λ ds. made (q.directory ∷ []) ds (halted_by (Some q))) (sym (descriptors-loaded k i q there))
+    ∙ ap (λ home. made home (descriptors_at k i) (halted_by (Some q))) (sym (home-loaded k i q there))
+    ∙ ap (made (left_home (slot k.table.places i)) (descriptors_at k i)) (sym pids)
+  where
+    made : List ℕ → List (Option ℕ) → (ℤ → Option ℤ → Option ℤ) → Kernel
+    made home ds halts = record k {
+      tree = all_dropped k.tree (gone_nodes k.files ds ++ home);
+      table = exited (loaded k) i status;
+      spaces = record (idle k.spaces) { pipes = standing k.spaces.pipes (opens_of (all_closed k.files ds)) };
+      files = all_closed k.files ds;
+      halted = halts status k.halted;
+    }
+
 -- k: the loaded table has process q in place i, which lives, and no other place runs
 module _ (k : Kernel) (is : IsKernel k) (z : slice_index k.spaces.registers 0 ≡ 0) (a : k.spaces.pc % 4 ≡ 0) (i : ℕ) (q : Process) (h : Held)
-    (there : slot (loaded k).places i ≡ Some q) (space : slot k.spaces.places i ≡ Some h) (pids : halted_by (slot k.table.places i) ≡ halted_by (Some q)) (alone : (j : ℕ) → j ≢ i → is_at j k.spaces.active ≡ false) (status : ℤ) where
+    (there : slot (loaded k).places i ≡ Some q) (space : slot k.spaces.places i ≡ Some h) (pids : halted_by (slot k.table.places i) ≡ halted_by (Some q)) (alone : (j : ℕ) → j ≢ i → is_at j k.spaces.active ≡ false) (alive : lives q ≡ true) (status : ℤ) where
   abbrev orphans : List (Option Process)
   orphans = map (option_map (orphaned q.pid)) (loaded k).places
 
@@ -185,8 +243,13 @@ module _ (k : Kernel) (is : IsKernel k) (z : slice_index k.spaces.registers 0 �
   abbrev pub left : List (Option Counted)
   left = all_closed k.files q.descriptors
 
+  -- the nodes that it lets go
+  abbrev pub nodes : List ℕ
+  nodes = gone_nodes k.files q.descriptors ++ q.directory ∷ []
+
   abbrev pub ended_to : Kernel
   ended_to = record k {
+    tree = all_dropped k.tree nodes;
     table = record (loaded k) { places = put orphans i gone };
     spaces = record (idle k.spaces) { pipes = standing k.spaces.pipes (opens_of left) };
     files = left;
@@ -195,14 +258,8 @@ module _ (k : Kernel) (is : IsKernel k) (z : slice_index k.spaces.registers 0 �
 
   pub ended-is : ended k i status ≡ ended_to
   ended-is =
-      ap (λ (o : Option Process). record k { table = table.ended (loaded k) i status o; spaces = record (idle k.spaces) { pipes = standing k.spaces.pipes (opens_of (left_files k i)) }; files = left_files k i; halted = halted_by (slot k.table.places i) status k.halted }) there
-      ∙ ap (λ (ds : List (Option ℕ)). record k {
-        table = record (loaded k) { places = put orphans i gone };
-        spaces = record (idle k.spaces) { pipes = standing k.spaces.pipes (opens_of (all_closed k.files ds)) };
-        files = all_closed k.files ds;
-        halted = halted_by (slot k.table.places i) status k.halted;
-      }) (descriptors-loaded k i q there)
-      ∙ ap (λ (f : ℤ → Option ℤ → Option ℤ). record k { table = record (loaded k) { places = put orphans i gone }; spaces = record (idle k.spaces) { pipes = standing k.spaces.pipes (opens_of left) }; files = left; halted = f status k.halted }) pids
+      sym (ended-made k i q status there pids)
+      ∙ ap (λ (o : Option Process). record ended_to { table = table.ended (loaded k) i status o }) there
 
   short : i < length orphans
   short = rw (length-map (loaded k).places (option_map (orphaned q.pid))) (slot-within (loaded k).places i q there)
@@ -219,8 +276,8 @@ module _ (k : Kernel) (is : IsKernel k) (z : slice_index k.spaces.registers 0 �
   orphans-run : (j : ℕ) → holds table.is_running (slot orphans j) ≡ is_at j k.spaces.active
   orphans-run j = rw (slot-map (orphaned q.pid) (loaded k).places j) (orphan-runs q.pid (slot (loaded k).places j) ∙ running-active k k.spaces.active j ∙ is.runs j)
 
-  orphans-wait : (j : ℕ) → WaitsWell (opens_of k.files) (slot orphans j)
-  orphans-wait j = rw (slot-map (orphaned q.pid) (loaded k).places j) (orphan-waits (opens_of k.files) q.pid (slot (loaded k).places j) ((opened-loaded k is).waits j))
+  orphans-wait : (j : ℕ) → WaitsWell k.files (slot orphans j)
+  orphans-wait j = rw (slot-map (orphaned q.pid) (loaded k).places j) (orphan-waits k.files q.pid (slot (loaded k).places j) ((opened-loaded k is).waits j))
 
   leaves : Leaves left k.spaces.pipes (standing k.spaces.pipes (opens_of left))
   leaves = leaves-standing k.files k.spaces.pipes q.descriptors is.opened.piped
@@ -228,13 +285,46 @@ module _ (k : Kernel) (is : IsKernel k) (z : slice_index k.spaces.registers 0 �
   fewer : taken_frames ended_to.spaces ≤ k.spaces.frames
   fewer = omega (arith, is.fits, fewer-pipes k.spaces.pipes (standing k.spaces.pipes (opens_of left)) leaves.1.all leaves.1.each)
 
+  home-here : home_in (Some q) ≡ Some q.directory
+  home-here = go (is_zombie_mode q.mode) refl where
+    go : (b : Bool) → is_zombie_mode q.mode ≡ b → (if b then None else Some q.directory) ≡ Some q.directory
+    go true e = absurd (let bad : false ≡ true = sym (ap not e) ∙ alive in cc)
+    go false e = refl
+
+  orphan-homes : (m : ℕ) → homes_at orphans m ≡ homes_at (loaded k).places m
+  orphan-homes m = same-map (λ o. one_in m (home_in o)) (orphaned q.pid) (λ o. ap (one_in m) (orphan-home q.pid o)) (loaded k).places
+
+  pub nodes-counted : (m : ℕ) → files_on left m + homes_at (put orphans i gone) m + named_in nodes m ≡ files_on k.files m + homes_at (loaded k).places m
+  nodes-counted m =
+      let sums = sum_by-set (λ o. one_in m (home_in o)) orphans i (Some gone) None short in
+      let was : one_in m (home_in (slot orphans i)) ≡ one_in m (Some q.directory) = ap (one_in m) (ap home_in (slot-map (orphaned q.pid) (loaded k).places i) ∙ orphan-home q.pid (slot (loaded k).places i) ∙ ap home_in there ∙ home-here) in
+      let last : named_in (q.directory ∷ []) m ≡ one_in m (Some q.directory) = sum_by-cons (one_at m) q.directory [] ∙ omega arith in
+      omega (arith, files_on-all_closed k.files q.descriptors m, named_in-append (gone_nodes k.files q.descriptors) (q.directory ∷ []) m, sums, was, last, orphan-homes m)
+
+  pub old-homes : AreOldHomes (loaded k).places (put orphans i gone)
+  old-homes j d at = elim (same_or_not j i) [
+    | inl same ↦ absurd (none-some d (ap home_in (sym (slot-put orphans i (Some gone) short)) ∙ ap (λ n. home_in (slot (put orphans i gone) n)) (sym same) ∙ at))
+    | inr other ↦
+        sym (orphan-home q.pid (slot (loaded k).places j))
+        ∙ ap home_in (sym (slot-map (orphaned q.pid) (loaded k).places j))
+        ∙ ap home_in (sym (slot-other orphans i j (Some gone) other))
+        ∙ at
+  ]
+
+  used-ended : (up : k.tree.failed ≡ false) → IsInUse ended_to.tree left (put orphans i gone)
+  used-ended up = fewer-used (used-loaded k is up) left (put orphans i gone) nodes nodes-counted (old-all_closed k.files q.descriptors) old-homes
+
+  -- those that let go held the nodes
+  pub ended-held : k.tree.failed ≡ false → AreHeld k.tree nodes
+  ended-held up = fewer-held (used-loaded k is up) left (put orphans i gone) nodes nodes-counted (old-all_closed k.files q.descriptors) old-homes
+
   pub ended-kernel : IsKernel ended_to
   ended-kernel = record {
     all = length-set orphans i (Some gone) ∙ length-map (loaded k).places (option_map (orphaned q.pid)) ∙ length-active k k.spaces.active ∙ is.all;
     spaces = is.spaces;
     stands = stands-put orphans k.spaces.places i (Some gone) short (rw space gone-placed) orphans-placed;
     runs = runs-set orphans i (Some gone) k.spaces.active None short refl (λ j other. sym (alone j other)) orphans-run;
-    filed = idle-filed is.filed;
+    filed = record { up = λ j e. absurd (none-some j e); used = λ up. used-ended (sym (all-failed k.tree nodes) ∙ up) };
     fits = fewer;
     opened = record {
       table = table-all_closed k.files q.descriptors is.opened.table;
@@ -242,7 +332,7 @@ module _ (k : Kernel) (is : IsKernel k) (z : slice_index k.spaces.registers 0 �
       each = λ n f at. is.opened.each n f (opens-all_closed k.files q.descriptors n f at);
       all = leaves.1.all ∙ is.opened.all;
       piped = leaves.0;
-      waits = waits-set (opens_of left) orphans i (Some gone) tt (λ j. waits-fewer (opens_of k.files) (opens_of left) (opens-all_closed k.files q.descriptors) (slot orphans j) (orphans-wait j));
+      waits = waits-set left orphans i (Some gone) tt (λ j. waits-fewer k.files left (files-all_closed k.files q.descriptors) (slot orphans j) (orphans-wait j));
     };
   }
 
@@ -251,8 +341,13 @@ module _ (k : Kernel) (is : IsKernel k) (z : slice_index k.spaces.registers 0 �
   ended-state up =
       let at : h.memory ≡ slice_index_or (memories k.spaces) i [] = sym (memory-at k.spaces i ∙ ap memory_in space) in
       let rest = base (rest_of k) in
-      let old = record (state_of ended_to) { opens = opens_of k.files; pipes = k.spaces.pipes } in
+      let middle = record ended_to { tree = k.tree } in
+      let old = record (state_of middle) { opens = opens_of k.files; pipes = k.spaces.pipes } in
       let counts : Counts left old.places = counts-joined left ended_to.table.places (memories k.spaces) ended-kernel.opened.counted in
+      let used = used-loaded k is up in
+      let old-files = old-all_closed k.files q.descriptors in
+      let gives = fewer-nodes used left (put orphans i gone) nodes nodes-counted old-files old-homes (state_of middle) (memories k.spaces) (are-away (put orphans i gone) k.spaces.places ended-kernel.stands) refl refl refl in
       ap (λ (m : Memory). reap (ends.with_zombie (with_table rest (loaded k) (memories k.spaces)) i (with_memory m q) status)) at
       ∙ ap reap (with_zombie-with_table rest (loaded k) (memories k.spaces) i q status)
-      ∙ reap-closed old k.files k.spaces.pipes q.descriptors (is.filed.flat up) is.opened.table is.opened.piped counts
+      ∙ reap-closed old k.files k.spaces.pipes q.descriptors ended_to.tree.files is.opened.table is.opened.piped counts gives
+      ∙ ap (λ b. record (state_of middle) { files = ended_to.tree.files; block_limit = b }) (sym (fewer-leaves used left (put orphans i gone) nodes nodes-counted old-files old-homes).limit)

@@ -1,14 +1,25 @@
 -- The end of a process that runs, or where none runs.
-use Rattle.std.proofs.Common.{◌≡◌, ◌≢◌, ℕ, ◌%◌, true, false, List, [], Option, Some, None, ℤ, refl, ap, subst, sym, ◌∙◌}
-use Rattle.std.specs.Prelude.{slice_index, slice_index_or}
+use Rattle.std.proofs.Common.{◌≡◌, ◌≢◌, ℕ, ◌%◌, true, false, List, [], ◌∷◌, ◌++◌, Option, Some, None, ℤ, pos, refl, ap, subst, sym, ◌∙◌}
+use Rattle.std.specs.Prelude.{Err, IfOk, Ok, OnErr, Result, not, slice_index, slice_index_or}
 use Rattle.kernel.specs.Descriptors.{all_closed, standing}
-use Rattle.kernel.specs.Kernel.{Kernel, base, ended, halted_by, idle, lives, loaded, memories, memory_in, on_hart, rest_of, state_of}
+use Rattle.kernel.specs.Holding.{AreHeld, all_dropped, gone_nodes}
+use Rattle.std.proofs.lemmas.Option.{same_Some}
+use Rattle.unixmodel.specs.declared.process.Mode.{Mode}
+use Rattle.unixmodel.specs.Process.{is_zombie_mode}
+use Rattle.kernel.specs.Kernel.{Kernel, base, counting, ended, halted_by, idle, lives, loaded, memories, memory_in, on_hart, rest_of, state_of}
 use Rattle.kernel.specs.Sound.{IsKernel, IsPlace, IsPlaced, is_at, CanEnd, CanEndIn, IsAlive}
-use Rattle.kernel.proofs.Changes.{descriptors-loaded, ended-is, ended-kernel, loaded-placed, other-at}
+use Rattle.kernel.proofs.Changes.{ended-held, ended-is, ended-kernel, ended-made, loaded-placed, other-at}
+use Rattle.kernel.proofs.Holding.{failed-filed}
+use Rattle.kernel.proofs.Dropping.{counted}
+use Rattle.kernel.proofs.Steps.{with-tree}
+use Rattle.kernel.specs.Holding.{IsInUse}
+use Rattle.blockdev.specs.declared.DeviceFault.{DeviceFault}
+use Rattle.tree.specs.Tree.{FileTree, Serves}
+use Rattle.unixmodel.specs.Failures.{HasCause}
 use Rattle.kernel.proofs.Leaving.{ends-at}
 use Rattle.kernel.proofs.Runs.{loaded-run, memory-at, process-with, run-of, set-slot, slot-put, with_process, within-run}
 use Rattle.kernel.proofs.Starts.{killed-ends, state-idle}
-use Rattle.files.specs.Places.{opens_of}
+use Rattle.files.specs.Places.{Counted, opens_of}
 use Rattle.proc.specs.declared.process.Process.{Process}
 use Rattle.proc.specs.Places.{Places, exited}
 use Rattle.proc.specs.Whole.{with_memory}
@@ -71,6 +82,12 @@ pub record IsWhole (k : Kernel) (i : ℕ) (q : Process) : Type 0 where
   pub put : loaded k ≡ with_process k.table i q
   pub pids : halted_by (slot k.table.places i) ≡ halted_by (Some q)
   pub alone : (j : ℕ) → j ≢ i → is_at j k.spaces.active ≡ false
+  pub living : lives q ≡ true
+  pub up : k.tree.failed ≡ false
+
+alive-in : (o : Option Process) (q : Process) → o ≡ Some q → IsAlive o → lives q ≡ true
+alive-in None q at alive = absurd alive
+alive-in (Some x) q at alive = ap lives (sym (same_Some x q at)) ∙ alive
 
 whole-go : (k : Kernel) (i : ℕ) (q : Process) (o : Option ℕ) → IsKernel k → k.spaces.active ≡ o → CanEndIn k i o → slot (loaded k).places i ≡ Some q → IsWhole k i q
 whole-go k i q (Some j) is active can at =
@@ -83,6 +100,8 @@ whole-go k i q (Some j) is active can at =
       put = load ∙ ap (with_process k.table i) e;
       pids = ap halted_by run.1.1.process ∙ ap (λ (x : Process). halted_by (Some x)) e;
       alone = λ n other. ap (is_at n) here ∙ other-at i n other;
+      living = ap lives (sym e) ∙ ap (λ (m : Mode). not (is_zombie_mode m)) run.1.1.runs;
+      up = run.1.1.up;
     }
 whole-go k i q None is active can at =
     let same : loaded k ≡ k.table = rw active refl in
@@ -91,6 +110,8 @@ whole-go k i q None is active can at =
       put = same ∙ ap (λ (places : List (Option Process)). record k.table { places = places }) (sym (set-slot k.table.places i (Some q) there));
       pids = ap halted_by there;
       alone = λ n other. ap (is_at n) active;
+      living = alive-in (slot k.table.places i) q there can.0;
+      up = can.1;
     }
 
 pub whole-of : (k : Kernel) (i : ℕ) (q : Process) → IsKernel k → CanEnd k i → slot (loaded k).places i ≡ Some q → IsWhole k i q
@@ -99,6 +120,7 @@ whole-of k i q is can at = whole-go k i q k.spaces.active is refl can at
 -- it is put back, its descriptors are closed, and it ends
 abbrev pub finished : Kernel → ℕ → Process → ℤ → Kernel
 finished k i q status = record k {
+  tree = all_dropped k.tree (gone_nodes k.files q.descriptors ++ q.directory ∷ []);
   table = exited (with_process k.table i q) i status;
   spaces = record (idle k.spaces) { pipes = standing k.spaces.pipes (opens_of (all_closed k.files q.descriptors)) };
   files = all_closed k.files q.descriptors;
@@ -108,31 +130,68 @@ finished k i q status = record k {
 pub finish-is : (k : Kernel) (i : ℕ) (q : Process) (status : ℤ) → IsKernel k → CanEnd k i → slot (loaded k).places i ≡ Some q → finished k i q status ≡ ended k i status
 finish-is k i q status is can at =
     let w = whole-of k i q is can at in
-    let left = λ (ds : List (Option ℕ)). standing k.spaces.pipes (opens_of (all_closed k.files ds)) in
     ap (λ (t : Places). record (finished k i q status) { table = exited t i status }) (sym w.put)
-    ∙ ap (λ (ds : List (Option ℕ)). record (finished k i q status) { table = exited (loaded k) i status; spaces = record (idle k.spaces) { pipes = left ds }; files = all_closed k.files ds }) (sym (descriptors-loaded k i q at))
-    ∙ ap (λ (f : ℤ → Option ℤ → Option ℤ). record (ended k i status) { halted = f status k.halted }) (sym w.pids)
+    ∙ ended-made k i q status at w.pids
 
 space-go : (o : Option Process) (q : Option Held) (p : Process) → IsPlace o q → o ≡ Some p → (h : Held) × (q ≡ Some h)
 space-go None q p is at = absurd (cc)
 space-go (Some x) None p is at = absurd is
 space-go (Some x) (Some h) p is at = (h, refl)
 
+-- it held the nodes that it lets go
+held-whole : (k : Kernel) (i : ℕ) (q : Process) → IsKernel k → CanEnd k i → slice_index k.spaces.registers 0 ≡ 0 → k.spaces.pc % 4 ≡ 0 → slot (loaded k).places i ≡ Some q → AreHeld k.tree (gone_nodes k.files q.descriptors ++ q.directory ∷ [])
+held-whole k i q is can z a at =
+    let w = whole-of k i q is can at in
+    let s = space-go (slot (loaded k).places i) (slot k.spaces.places i) q (loaded-placed k is z a i) at in
+    ended-held k is z a i q s.0 at s.1 w.pids w.alone w.living (pos 0) w.up
+
 finish-keeps : (k : Kernel) (i : ℕ) (q : Process) (status : ℤ) → IsKernel k → CanEnd k i → slice_index k.spaces.registers 0 ≡ 0 → k.spaces.pc % 4 ≡ 0 → slot (loaded k).places i ≡ Some q → IsKernel (ended k i status)
 finish-keeps k i q status is can z a at =
     let w = whole-of k i q is can at in
     let s = space-go (slot (loaded k).places i) (slot k.spaces.places i) q (loaded-placed k is z a i) at in
-    rw (ended-is k is z a i q s.0 at s.1 w.pids w.alone status) (ended-kernel k is z a i q s.0 at s.1 w.pids w.alone status)
+    rw (ended-is k is z a i q s.0 at s.1 w.pids w.alone w.living status) (ended-kernel k is z a i q s.0 at s.1 w.pids w.alone w.living status)
+
+-- the count of the device's failures says nothing of the rest
+pub counting-used : {t : FileTree} {opens : List (Option Counted)} {places : List (Option Process)} (failures : ℕ) → IsInUse t opens places → IsInUse (record t { failures = failures }) opens places
+counting-used failures is = record { rules = is.rules; zero = is.zero; within = is.within; holds = is.holds; held = is.held; fits = is.fits; homes = is.homes }
+
+pub counting-kernel : (k : Kernel) (failures : ℕ) → IsKernel k → IsKernel (counting k failures)
+counting-kernel k failures is = with-tree k (record k.tree { failures = failures }) is (record { up = is.filed.up; used = λ up. counting-used failures (is.filed.used up) })
 
 -- over the fields: k is what they show, and now is the kernel's value
-pub finish-closes : (k now : Kernel) (i : ℕ) (q : Process) (status : ℤ) → k ≡ now → IsKernel now → CanEnd now i → slice_index now.spaces.registers 0 ≡ 0 → now.spaces.pc % 4 ≡ 0 → slot (loaded now).places i ≡ Some q
-    → IsKernel (finished k i q status)
-finish-closes k now i q status same is can z a at =
-    let keeps : IsKernel (finished now i q status) = rw (finish-is now i q status is can at) (finish-keeps now i q status is can z a at) in
-    rw same keeps
+module _ (k now : Kernel) (i : ℕ) (q : Process) (status : ℤ) (same : k ≡ now) (is : IsKernel now) (can : CanEnd now i) (at : slot (loaded now).places i ≡ Some q) where
+  module _ (z : slice_index now.spaces.registers 0 ≡ 0) (a : now.spaces.pc % 4 ≡ 0) where
+    closes : IsKernel (finished k i q status)
+    closes =
+        let keeps : IsKernel (finished now i q status) = rw (finish-is now i q status is can at) (finish-keeps now i q status is can z a at) in
+        rw same keeps
 
-pub finish-made : (k now : Kernel) (i : ℕ) (q : Process) (status : ℤ) → k ≡ now → IsKernel now → CanEnd now i → slot (loaded now).places i ≡ Some q → finished k i q status ≡ ended now i status
-finish-made k now i q status same is can at = ap (λ (x : Kernel). finished x i q status) same ∙ finish-is now i q status is can at
+    -- it let go all, or an access failed on the way
+    pub finish-closes : (t : FileTree) (r : Result (Unit {0}) DeviceFault) → IfOk r (λ done. t ≡ counted (finished k i q status).tree t.failures) → OnErr r (t.failed ≡ true) → IsKernel (record (finished k i q status) { tree = t })
+    finish-closes t (Ok done) told down = subst (λ (x : FileTree). IsKernel (record (finished k i q status) { tree = x })) (sym told) (counting-kernel (finished k i q status) t.failures closes)
+    finish-closes t (Err fault) told down = with-tree (finished k i q status) t closes (failed-filed (finished k i q status).files (finished k i q status).table.places down)
+
+    pub finish-held : AreHeld k.tree (gone_nodes k.files q.descriptors ++ q.directory ∷ [])
+    finish-held = rw same (held-whole now i q is can z a at)
+
+  finish-made : (t : FileTree) (r : Result (Unit {0}) DeviceFault) → IfOk r (λ done. t ≡ counted (finished k i q status).tree t.failures) → (meant : ℤ) → status ≡ meant → IfOk r (λ done. record (finished k i q status) { tree = t } ≡ counting (ended now i meant) t.failures)
+  finish-made t (Err fault) told meant e = tt
+  finish-made t (Ok done) told meant e =
+      ap (λ x. record (finished k i q status) { tree = x }) told
+      ∙ ap (λ x. counting x t.failures) (ap (λ (x : Kernel). finished x i q status) same ∙ finish-is now i q status is can at)
+      ∙ ap (λ n. counting (ended now i n) t.failures) e
+
+  pub finish-serves : (t : FileTree) (r : Result (Unit {0}) DeviceFault) → Serves k.tree t r (λ done. t ≡ counted (finished k i q status).tree t.failures) → (meant : ℤ) → status ≡ meant
+      → Serves now.tree t r (λ done. record (finished k i q status) { tree = t } ≡ counting (ended now i meant) t.failures)
+  finish-serves t r serves meant e = record {
+    told = finish-made t r serves.told meant e;
+    up = serves.up;
+    down = serves.down;
+    cause = subst (λ (x : Kernel). HasCause x.tree.failures t.failures r) same serves.cause;
+  }
+
+  pub finish-up : k.tree.failed ≡ false
+  finish-up = rw same (whole-of now i q is can at).up
 
 -- there is a process that may end
 finish-some-go : (k : Kernel) (i : ℕ) (o : Option ℕ) → IsKernel k → k.spaces.active ≡ o → CanEndIn k i o → slot (loaded k).places i ≡ None → ⊥

@@ -1,16 +1,17 @@
 -- The running process runs no more: it ends, waits, or is ready again.
-use Rattle.std.proofs.Common.{◌≡◌, ◌≢◌, ℕ, ◌%◌, false, Some, ℤ, refl, ap, sym, ◌∙◌}
-use Rattle.std.specs.Prelude.{slice_index}
-use Rattle.kernel.specs.Kernel.{Kernel, blocked, ended, halted_by, left_as, loaded, on_hart, state_of}
+use Rattle.std.proofs.Common.{◌≡◌, ◌≢◌, ℕ, ◌%◌, false, true, Some, ℤ, refl, ap, sym, ◌∙◌}
+use Rattle.std.specs.Prelude.{not, slice_index}
+use Rattle.kernel.specs.Kernel.{Kernel, blocked, ended, halted_by, left_as, lives, loaded, on_hart, state_of}
 use Rattle.kernel.specs.Sound.{IsAwaiting, IsKernel, IsPending, IsPlaced, is_at}
 use Rattle.kernel.proofs.Changes.{ended-is, ended-state, left-as, left-kernel, left-state, left_to, other-at}
 use Rattle.kernel.proofs.Reaped.{reap-state}
-use Rattle.kernel.proofs.Runs.{IsRun, loaded-run, process-run, self, slot-put, within-run}
+use Rattle.kernel.proofs.Runs.{IsRun, home-running, loaded-run, process-run, self, slot-put, within-run}
 use Rattle.kernel.proofs.Running.{change-run, live}
-use Rattle.files.specs.Places.{opens_of}
 use Rattle.proc.specs.declared.process.Process.{Process}
 use Rattle.spaces.specs.Spaces.{Held}
 use Rattle.unixmodel.specs.Calls.{end_at}
+use Rattle.unixmodel.specs.declared.process.Mode.{Mode}
+use Rattle.unixmodel.specs.Process.{is_zombie_mode}
 use Rattle.unixmodel.specs.declared.process.Mode.TheVariants.{Ready, Waiting}
 use Rattle.unixmodel.specs.declared.process.Pending.{Pending}
 use Rattle.unixmodel.specs.Files.{slot}
@@ -30,10 +31,13 @@ module _ (k : Kernel) (i : ℕ) (p : Process) (h : Held) (r : IsRun k i p h) (is
     alone : (j : ℕ) → j ≢ i → is_at j k.spaces.active ≡ false
     alone j other = ap (is_at j) r.active ∙ other-at i j other
 
+    living : lives (on_hart k.spaces p) ≡ true
+    living = ap (λ (m : Mode). not (is_zombie_mode m)) r.runs
+
     pub ends-run : (status : ℤ) → end_process (state_of k) i (self k p h) status ≡ state_of (ended k i status)
     ends-run status =
-        ended-state k is z a i (on_hart k.spaces p) h there r.space pids alone status r.up
-        ∙ sym (ap state_of (ended-is k is z a i (on_hart k.spaces p) h there r.space pids alone status))
+        ended-state k is z a i (on_hart k.spaces p) h there r.space pids alone living status r.up
+        ∙ sym (ap state_of (ended-is k is z a i (on_hart k.spaces p) h there r.space pids alone living status))
 
     pub ends-at : (status : ℤ) → end_at (state_of k) i status (process_at (state_of k) i) ≡ state_of (ended k i status)
     ends-at status = ap (end_at (state_of k) i status) (process-run k i p h r) ∙ ends-run status
@@ -45,16 +49,16 @@ module _ (k : Kernel) (i : ℕ) (p : Process) (h : Held) (r : IsRun k i p h) (is
       size = r.placed.size;
       zero = z;
       aligned = a;
-      mode = (record { descriptors = l.descriptors; directory = l.directory }, pending);
+      mode = (record { descriptors = l.descriptors }, pending);
     }
 
-    pub waits-kernel : (w : Pending) → IsPending p.descriptors h.memory w w.number → IsAwaiting (opens_of k.files) p.descriptors w → IsKernel (blocked k i w)
-    waits-kernel w pending for = rw (left-as k i p h r is (Waiting w)) (left-kernel k i p h r is (record p { registers = k.spaces.registers; pc = k.spaces.pc; mode = Waiting w }) (waits-placed w pending) refl refl for)
+    pub waits-kernel : (w : Pending) → IsPending p.descriptors h.memory w w.number → IsAwaiting k.files p.descriptors w → IsKernel (blocked k i w)
+    waits-kernel w pending for = rw (left-as k i p h r is (Waiting w)) (left-kernel k i p h r is (record p { registers = k.spaces.registers; pc = k.spaces.pc; mode = Waiting w }) (waits-placed w pending) refl refl (sym (home-running p r.runs)) for)
 
-    pub waits-run : (w : Pending) → IsPending p.descriptors h.memory w w.number → IsAwaiting (opens_of k.files) p.descriptors w → reap (change_process (state_of k) i (unix.with_mode (Waiting w))) ≡ state_of (blocked k i w)
+    pub waits-run : (w : Pending) → IsPending p.descriptors h.memory w w.number → IsAwaiting k.files p.descriptors w → reap (change_process (state_of k) i (unix.with_mode (Waiting w))) ≡ state_of (blocked k i w)
     waits-run w pending for =
         let q = record p { registers = k.spaces.registers; pc = k.spaces.pc; mode = Waiting w } in
-        let is' = left-kernel k i p h r is q (waits-placed w pending) refl refl for in
+        let is' = left-kernel k i p h r is q (waits-placed w pending) refl refl (sym (home-running p r.runs)) for in
         ap reap (change-run k i p h r is (unix.with_mode (Waiting w)) ∙ sym (left-state k i p h r is q (waits-placed w pending) refl))
         ∙ reap-state (left_to k i q) is' r.up
         ∙ sym (ap state_of (left-as k i p h r is (Waiting w)))
@@ -65,11 +69,11 @@ module _ (k : Kernel) (i : ℕ) (p : Process) (h : Held) (r : IsRun k i p h) (is
       size = r.placed.size;
       zero = z;
       aligned = a;
-      mode = record { descriptors = l.descriptors; directory = l.directory };
+      mode = record { descriptors = l.descriptors };
     }
 
     pub stops-kernel : IsKernel (left_as k i Ready)
-    stops-kernel = rw (left-as k i p h r is Ready) (left-kernel k i p h r is (record p { registers = k.spaces.registers; pc = k.spaces.pc; mode = Ready }) stops-placed refl refl tt)
+    stops-kernel = rw (left-as k i p h r is Ready) (left-kernel k i p h r is (record p { registers = k.spaces.registers; pc = k.spaces.pc; mode = Ready }) stops-placed refl refl (sym (home-running p r.runs)) tt)
 
     pub stops-run : change_process (state_of k) i (unix.with_mode Ready) ≡ state_of (left_as k i Ready)
     stops-run =

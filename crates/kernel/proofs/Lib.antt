@@ -1,4 +1,5 @@
 pub mod Opens
+pub mod Holding
 pub mod Named
 pub mod Reaped
 pub mod Runs
@@ -7,6 +8,7 @@ pub mod Changes
 pub mod Leaving
 pub mod Steps
 pub mod Starts
+pub mod Dropping
 pub mod Finishes
 pub mod Marks
 pub mod Readies

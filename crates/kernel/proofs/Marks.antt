@@ -5,9 +5,10 @@ use Rattle.kernel.specs.Descriptors.{descriptors_in}
 use Rattle.kernel.specs.Kernel.{Kernel, marked}
 use Rattle.kernel.specs.Sound.{IsKernel, IsMode, IsPlace, WaitsWell, is_at}
 use Rattle.kernel.proofs.Changes.{other-at, stands-put}
+use Rattle.kernel.specs.Holding.{home_in}
+use Rattle.kernel.proofs.Holding.{filed-put}
 use Rattle.kernel.proofs.Opens.{opened-put}
 use Rattle.kernel.proofs.Runs.{runs-set, set-slot, slot-within, with_process}
-use Rattle.files.specs.Places.{opens_of}
 use Rattle.proc.specs.declared.process.Process.{Process}
 use Rattle.proc.specs.Places as table
 use Rattle.proc.specs.Places.{with_mark}
@@ -21,8 +22,8 @@ use Rattle.unixmodel.specs.State.{holds}
 
 mark-mode : (p : Process) (m : Memory) (mode : Mode) → is_running_mode mode ≡ false → IsMode p m mode → IsMode (with_mark p) m mode
 mark-mode p m Running rests is = absurd (cc)
-mark-mode p m Ready rests is = record { descriptors = is.descriptors; directory = is.directory }
-mark-mode p m (Waiting w) rests is = (record { descriptors = is.0.descriptors; directory = is.0.directory }, is.1)
+mark-mode p m Ready rests is = record { descriptors = is.descriptors }
+mark-mode p m (Waiting w) rests is = (record { descriptors = is.0.descriptors }, is.1)
 mark-mode p m (Zombie status) rests is = record { descriptors = is.descriptors; directory = is.directory }
 
 mark-placed : (q : Process) (o : Option Held) → is_running_mode q.mode ≡ false → IsPlace (Some q) o → IsPlace (Some (with_mark q)) o
@@ -45,9 +46,9 @@ marked-kernel k j q is at rests =
       spaces = is.spaces;
       stands = stands-put k.table.places k.spaces.places j (Some (with_mark q)) short (mark-placed q (slot k.spaces.places j) stays there) is.stands;
       runs = runs-set k.table.places j (Some (with_mark q)) k.spaces.active k.spaces.active short (stays ∙ sym rests) (λ n other. refl) is.runs;
-      filed = is.filed;
+      filed = filed-put is.filed j (Some (with_mark q)) (sym (ap home_in at));
       fits = is.fits;
-      opened = opened-put k.files k.spaces.pipes k.table.places j (Some (with_mark q)) (sym (ap descriptors_in at)) (subst (WaitsWell (opens_of k.files)) at (is.opened.waits j)) is.opened;
+      opened = opened-put k.files k.spaces.pipes k.table.places j (Some (with_mark q)) (sym (ap descriptors_in at)) (subst (WaitsWell k.files) at (is.opened.waits j)) is.opened;
     }
 
 rests-at : (o : Option ℕ) (j : ℕ) → o ≢ Some j → is_at j o ≡ false

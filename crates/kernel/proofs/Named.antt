@@ -1,29 +1,37 @@
 -- The open files and the pipes keep what holds of them where descriptors come and go, and what is left of them is what
 -- the abstract Unix leaves.
-use Rattle.std.proofs.Common.{Bool, List, None, Option, Some, [], ap, arith, cond, false, inl, inr, length, refl, subst, suc, sym, true, zero, ℕ, ℤ, ◌+◌, ◌<◌, ◌≡◌, ◌≤◌, ◌∙◌, ◌∷◌}
+use Rattle.tree.specs.Tree.{FileTree}
+use Rattle.std.proofs.Common.{append_assoc, Bool, List, None, Option, Some, [], ap, arith, cond, false, inl, inr, length, refl, subst, suc, sym, true, zero, ℕ, ℤ, ◌+◌, ◌-◌, ◌++◌, ◌<◌, ◌≡◌, ◌≤◌, ◌∙◌, ◌∷◌}
 use Rattle.std.specs.Prelude.{drop, is_some, map, option_and_then, option_map, slice_index_or, slice_set, ◌==◌}
-use Rattle.std.proofs.lemmas.Bool.{cases_lt}
+use Rattle.std.proofs.lemmas.Bool.{cases_eq, cases_lt}
+use Rattle.std.proofs.lemmas.Option.{none-some, same_Some}
 use Rattle.std.proofs.lemmas.Bool.Decides.{nat_tests}
-use Rattle.std.proofs.lemmas.List.{length-map, set-get_or}
+use Rattle.std.proofs.lemmas.List.{get_or-set_other, get_or-set_same, length-append, length-map, set-get_or}
 use Rattle.std.proofs.lemmas.List.Sums.{sum_by-cons, sum_by-set}
 use Rattle.std.proofs.Math.ListN as listn
 use Rattle.kernel.specs.Descriptors.{IsCounted, after_close, all_closed, all_shared, closed_in, named_by, names_in, shared_in, standing}
-use Rattle.kernel.proofs.Opens.{count-joined}
-use Rattle.kernel.proofs.Reaped.{nodes-stay}
+use Rattle.kernel.proofs.Opens.{count-joined, file-shared}
+use Rattle.kernel.proofs.Holding.{AreOld, named_in, used-shared}
+use Rattle.kernel.specs.Holding.{IsInUse, files_on, gone_nodes, last_node, listed, node_in, node_on}
 use Rattle.files.specs.Counts.{Counts, count-closed, count-shared, lt-no, lt-yes, names, names-none, one_at, one_in}
 use Rattle.files.specs.Pipes.{IsLeftOf, IsPiped, has_pipe-clear, pipes-clear, pipes-left, pipes-same, piped-end, piped-last, piped-node, without_pipes-left}
-use Rattle.files.specs.Places.{Counted, IsTable, closed, count_at, fewer, has_pipe, last_in, last_target, opens_of}
-use Rattle.files.specs.Whole.{IsLeft, left-closed, left-same, opens-closed, opens-closed_last, opens-shared, slot-opens, table-closed, table-shared, without_opens-left}
+use Rattle.files.specs.declared.file.End as files_end
+use Rattle.files.specs.declared.file.OpenFile.{OpenFile}
+use Rattle.files.specs.declared.file.Target.{Target}
+use Rattle.files.specs.declared.file.Target.TheVariants as target
+use Rattle.files.specs.Meant.{end_of, file_of, target_of}
+use Rattle.files.specs.Places.{Counted, IsTable, closed, count_at, fewer, file_at, has_pipe, last_in, last_target, opens_of, shared}
+use Rattle.files.specs.Whole.{IsLeft, left-closed, left-same, opens-closed, opens-closed_last, opens-shared, set_outside, slot-opens, table-closed, table-shared, without_opens-left}
 use Rattle.proc.specs.declared.process.Process.{Process}
 use Rattle.proc.specs.Places.{orphaned, zombie_of}
 use Rattle.proc.specs.Whole.{joined}
 use Rattle.spaces.specs.Spaces.{Spaces}
-use Rattle.unixmodel.specs.Files.{clear, put, slot, taken}
+use Rattle.unixmodel.specs.Files.{Files, clear, put, slot, taken}
 use Rattle.unixmodel.specs.Memory.{Memory}
-use Rattle.unixmodel.specs.OpenFiles.{End, OpenFile, Target}
-use Rattle.unixmodel.specs.OpenFiles.Target.{OnNode, OnPipe}
+use Rattle.unixmodel.specs.OpenFiles as unix
+use Rattle.unixmodel.specs.OpenFiles.{End}
+use Rattle.unixmodel.specs.OpenFiles.Target.{OnPipe}
 use Rattle.unixmodel.specs.Reap.{reap, without_nodes, without_pipes}
-use Rattle.unixmodel.specs.Start.{flat_files}
 use Rattle.unixmodel.specs.State.{State}
 
 slot-within : {X : Type 0} (xs : List (Option X)) (i : ℕ) (x : X) → slot xs i ≡ Some x → i < length xs
@@ -80,6 +88,20 @@ opens-share : (t : List (Option Counted)) (d : Option ℕ) → opens_of (shared_
 opens-share t None = refl
 opens-share t (Some n) = opens-shared t n
 
+file-share : (t : List (Option Counted)) (d : Option ℕ) (n : ℕ) → file_at (shared_in t d) n ≡ file_at t n
+file-share t None n = refl
+file-share t (Some i) n = file-shared t i n
+
+pub file-all_shared : (t : List (Option Counted)) (ds : List (Option ℕ)) (n : ℕ) → file_at (all_shared t ds) n ≡ file_at t n
+file-all_shared t [] n = refl
+file-all_shared t (d ∷ ds) n = file-all_shared (shared_in t d) ds n ∙ file-share t d n
+
+-- they are in use as before
+pub used-all_shared : {t : FileTree} (opens : List (Option Counted)) {os : List (Option Process)} (ds : List (Option ℕ)) → IsInUse t opens os → IsInUse t (all_shared opens ds) os
+used-all_shared opens [] is = is
+used-all_shared opens (None ∷ ds) is = used-all_shared opens ds is
+used-all_shared opens (Some n ∷ ds) is = used-all_shared (shared opens n) ds (used-shared is n)
+
 -- the open files are the same
 pub opens-all_shared : (t : List (Option Counted)) (ds : List (Option ℕ)) → opens_of (all_shared t ds) ≡ opens_of t
 opens-all_shared t [] = refl
@@ -129,13 +151,43 @@ left-all old new (d ∷ ds) left = left-all old (closed_in new d) ds (left-close
 pub left-all_closed : (t : List (Option Counted)) (ds : List (Option ℕ)) → IsLeft t (all_closed t ds)
 left-all_closed t ds = left-all t t ds (left-same t)
 
-opens-left : (old new : List (Option Counted)) (n : ℕ) (f : OpenFile) → IsLeft old new → (o : Option Counted) → slot new n ≡ o → slot (opens_of new) n ≡ Some f → slot (opens_of old) n ≡ Some f
-opens-left old new n f left None is at = absurd (let bad : None ≡ Some f = ap (option_map (λ (c : Counted). c.file)) (sym is) ∙ sym (slot-opens new n) ∙ at in cc)
-opens-left old new n f left (Some c) is at = left.each n c is ∙ (ap (option_map (λ (c : Counted). c.file)) (sym is) ∙ sym (slot-opens new n) ∙ at)
+opens-left : (old new : List (Option Counted)) (n : ℕ) (f : unix.OpenFile) → IsLeft old new → (o : Option Counted) → slot new n ≡ o → slot (opens_of new) n ≡ Some f → slot (opens_of old) n ≡ Some f
+opens-left old new n f left None is at = absurd (let bad : None ≡ Some f = ap (option_map (λ (c : Counted). file_of c.file)) (sym is) ∙ sym (slot-opens new n) ∙ at in cc)
+opens-left old new n f left (Some c) is at = left.each n c is ∙ (ap (option_map (λ (c : Counted). file_of c.file)) (sym is) ∙ sym (slot-opens new n) ∙ at)
 
 -- the open files that are left were there
-pub opens-all_closed : (t : List (Option Counted)) (ds : List (Option ℕ)) (n : ℕ) (f : OpenFile) → slot (opens_of (all_closed t ds)) n ≡ Some f → slot (opens_of t) n ≡ Some f
+pub opens-all_closed : (t : List (Option Counted)) (ds : List (Option ℕ)) (n : ℕ) (f : unix.OpenFile) → slot (opens_of (all_closed t ds)) n ≡ Some f → slot (opens_of t) n ≡ Some f
 opens-all_closed t ds n f at = opens-left t (all_closed t ds) n f (left-all_closed t ds) (slot (all_closed t ds) n) refl at
+
+old-closed : (t : List (Option Counted)) (n : ℕ) → AreOld t (closed t n)
+old-closed t n k c at = elim (cases_eq k n) [
+  | inl same ↦ elim (cases_lt n (length t)) [
+    | inl inside ↦ (let was = fewer-is (slot t n) c (sym (get_or-set_same t n (option_and_then fewer (slot t n)) None inside) ∙ ap (slot (closed t n)) (sym same) ∙ at) in (was.0, (ap (slot t) same ∙ was.1.0, was.1.1)))
+    | inr outside ↦ (c, (ap (λ l. slot l k) (sym (set_outside t n (option_and_then fewer (slot t n)) outside)) ∙ at, refl))
+  ]
+  | inr other ↦ (c, (sym (get_or-set_other t n k (option_and_then fewer (slot t n)) None other) ∙ at, refl))
+]
+  where
+    fewer-is : (o : Option Counted) (c : Counted) → option_and_then fewer o ≡ Some c → (d : Counted) × ((o ≡ Some d) × (d.file ≡ c.file))
+    fewer-is None c at = absurd (none-some c at)
+    fewer-is (Some d) c at = elim (cases_lt 1 d.count) [
+      | inl more ↦ (let is : record d { count = d.count - 1 } ≡ c = same_Some (record d { count = d.count - 1 }) c (rw (lt-yes 1 d.count more) at at) in (d, (refl, ap (λ e. e.file) is)))
+      | inr last ↦ absurd (none-some c (rw (lt-no 1 d.count last) at at))
+    ]
+
+old-after : (a b c : List (Option Counted)) → AreOld a b → AreOld b c → AreOld a c
+old-after a b c first then k x at = let mid = then k x at in let old = first k mid.0 mid.1.0 in (old.0, (old.1.0, old.1.1 ∙ mid.1.1))
+
+pub old-all_closed : (t : List (Option Counted)) (ds : List (Option ℕ)) → AreOld t (all_closed t ds)
+old-all_closed t [] k c at = (c, (at, refl))
+old-all_closed t (None ∷ ds) k c at = old-all_closed t ds k c at
+old-all_closed t (Some n ∷ ds) k c at = old-after t (closed t n) (all_closed (closed t n) ds) (old-closed t n) (old-all_closed (closed t n) ds) k c at
+
+pub files-all_closed : (t : List (Option Counted)) (ds : List (Option ℕ)) (n : ℕ) (f : OpenFile) → file_at (all_closed t ds) n ≡ Some f → file_at t n ≡ Some f
+files-all_closed t ds n f at = go (slot (all_closed t ds) n) refl at where
+  go : (o : Option Counted) → slot (all_closed t ds) n ≡ o → option_map (λ (c : Counted). c.file) o ≡ Some f → file_at t n ≡ Some f
+  go None is h = absurd (none-some f h)
+  go (Some c) is h = let was = old-all_closed t ds n c is in ap (option_map (λ (d : Counted). d.file)) was.1.0 ∙ ap Some was.1.1 ∙ h
 
 -- ---- the counts of an ended process's table
 
@@ -175,14 +227,16 @@ module _ (pipes : List (Option (List ℕ))) (t : List (Option Counted)) (n : ℕ
   stays : opens_of (closed t n) ≡ opens_of t → IsPiped pipes (opens_of (closed t n))
   stays same = rw same is
 
-  goes-end : (f : OpenFile) (q : ℕ) (e : End) (b : Bool) → slot (opens_of t) n ≡ Some f → f.target ≡ OnPipe q e → has_pipe (clear (opens_of t) n) q ≡ b
+  goes-end : (f : unix.OpenFile) (q : ℕ) (e : End) (b : Bool) → slot (opens_of t) n ≡ Some f → f.target ≡ OnPipe q e → has_pipe (clear (opens_of t) n) q ≡ b
       → IsPiped (cond b pipes (clear pipes q)) (clear (opens_of t) n)
   goes-end f q e true at on stands = piped-end pipes (opens_of t) n q f e is at on stands
   goes-end f q e false at on stands = piped-last pipes (opens_of t) n q f e is at on stands
 
-  goes : (f : OpenFile) (on : Target) → slot (opens_of t) n ≡ Some f → f.target ≡ on → IsPiped (after_close pipes (clear (opens_of t) n) (Some on)) (clear (opens_of t) n)
-  goes f (OnNode number offset) at on = piped-node pipes (opens_of t) n number offset f is at on
-  goes f (OnPipe q e) at on = goes-end f q e (has_pipe (clear (opens_of t) n) q) at on refl
+  goes : (f : OpenFile) (on : Target) → slot (opens_of t) n ≡ Some (file_of f) → f.target ≡ on → IsPiped (after_close pipes (clear (opens_of t) n) (Some on)) (clear (opens_of t) n)
+  goes f (target.File number offset) at on = piped-node pipes (opens_of t) n number offset (file_of f) is at (ap target_of on)
+  goes f (target.Console number) at on = piped-node pipes (opens_of t) n number 0 (file_of f) is at (ap target_of on)
+  goes f (target.Device number) at on = piped-node pipes (opens_of t) n number 0 (file_of f) is at (ap target_of on)
+  goes f (target.Pipe q e) at on = goes-end (file_of f) q (end_of e) (has_pipe (clear (opens_of t) n) q) at (ap target_of on) refl
 
   follows : (o : Option Counted) → slot t n ≡ o → Follows pipes t n o
   follows None at = stays (ap (λ o. opens_of (slice_set t n (option_and_then fewer o))) at ∙ ap opens_of (rw (← at) (set-get_or t n None)))
@@ -190,16 +244,18 @@ module _ (pipes : List (Option (List ℕ))) (t : List (Option Counted)) (n : ℕ
     | inl more ↦ (let many : 1 < count_at t n = rw at more in rw (lt-yes 1 c.count more) (stays (opens-closed t n many)))
     | inr last ↦
         let one : count_at t n ≤ 1 = rw at last in
-        rw (lt-no 1 c.count last) (subst (λ (os : List (Option OpenFile)). IsPiped (after_close pipes os (Some c.file.target)) os) (sym (opens-closed_last t n one)) (goes c.file c.file.target (slot-opens t n ∙ ap (option_map (λ (d : Counted). d.file)) at) refl))
+        rw (lt-no 1 c.count last) (subst (λ (os : List (Option unix.OpenFile)). IsPiped (after_close pipes os (Some c.file.target)) os) (sym (opens-closed_last t n one)) (goes c.file c.file.target (slot-opens t n ∙ ap (option_map (λ (d : Counted). file_of d.file)) at) refl))
   ]
 
   pub piped-close : IsPiped (after_close pipes (opens_of (closed t n)) (last_target t n)) (opens_of (closed t n))
   piped-close = follows (slot t n) refl
 
-pub left-close_pipe : (old pipes : List (Option (List ℕ))) (opens : List (Option OpenFile)) (o : Option Target) → IsLeftOf old pipes → IsLeftOf old (after_close pipes opens o)
+pub left-close_pipe : (old pipes : List (Option (List ℕ))) (opens : List (Option unix.OpenFile)) (o : Option Target) → IsLeftOf old pipes → IsLeftOf old (after_close pipes opens o)
 left-close_pipe old pipes opens None left = left
-left-close_pipe old pipes opens (Some (OnNode number offset)) left = left
-left-close_pipe old pipes opens (Some (OnPipe q e)) left = elim (has_pipe opens q) as (λ b. IsLeftOf old (cond b pipes (clear pipes q))) [ true ↦ left | false ↦ pipes-clear old pipes q left ]
+left-close_pipe old pipes opens (Some (target.File number offset)) left = left
+left-close_pipe old pipes opens (Some (target.Console number)) left = left
+left-close_pipe old pipes opens (Some (target.Device number)) left = left
+left-close_pipe old pipes opens (Some (target.Pipe q e)) left = elim (has_pipe opens q) as (λ b. IsLeftOf old (cond b pipes (clear pipes q))) [ true ↦ left | false ↦ pipes-clear old pipes q left ]
 
 last-is : (o : Option Counted) (on : Target) → option_and_then last_in o ≡ Some on → (c : Counted) × ((o ≡ Some c) × (c.file.target ≡ on))
 last-is None on last = absurd (let bad : None ≡ Some on = last in cc)
@@ -212,14 +268,14 @@ eq-self : (n : ℕ) → (n == n) ≡ true
 eq-self n = grind (arith, nat_tests)
 
 -- the pipe of a last end stood until then
-pub stands-last : (t : List (Option Counted)) (pipes : List (Option (List ℕ))) (n q : ℕ) (e : End) → IsPiped pipes (opens_of t) → last_target t n ≡ Some (OnPipe q e) → is_some (slot pipes q) ≡ true
+pub stands-last : (t : List (Option Counted)) (pipes : List (Option (List ℕ))) (n q : ℕ) (e : files_end.End) → IsPiped pipes (opens_of t) → last_target t n ≡ Some (target.Pipe q e) → is_some (slot pipes q) ≡ true
 stands-last t pipes n q e is last =
-    let c = last-is (slot t n) (OnPipe q e) last in
-    let at : slot (opens_of t) n ≡ Some c.0.file = slot-opens t n ∙ ap (option_map (λ (d : Counted). d.file)) c.1.0 in
-    is q ∙ has_pipe-clear (opens_of t) n c.0.file q at ∙ rw (c.1.1, eq-self q) refl
+    let c = last-is (slot t n) (target.Pipe q e) last in
+    let at : slot (opens_of t) n ≡ Some (file_of c.0.file) = slot-opens t n ∙ ap (option_map (λ (d : Counted). file_of d.file)) c.1.0 in
+    is q ∙ has_pipe-clear (opens_of t) n (file_of c.0.file) q at ∙ rw (c.1.1, eq-self q) refl
 
 -- a state with these open files alone
-abbrev with_opens : List (Option OpenFile) → State
+abbrev with_opens : List (Option unix.OpenFile) → State
 with_opens opens = record {
   places = [];
   files = [];
@@ -235,7 +291,7 @@ with_opens opens = record {
 }
 
 -- the pipes that are left where they follow the open files
-pub standing-is : (opens : List (Option OpenFile)) (old new : List (Option (List ℕ))) → IsPiped new opens → IsLeftOf old new → standing old opens ≡ new
+pub standing-is : (opens : List (Option unix.OpenFile)) (old new : List (Option (List ℕ))) → IsPiped new opens → IsLeftOf old new → standing old opens ≡ new
 standing-is opens old new is left = pipes-left (with_opens opens) old new is left
 
 -- ---- what is left as a whole
@@ -273,19 +329,55 @@ fewer-pipes (Some b ∷ old) (Some c ∷ new) all each = let rest = fewer-pipes 
 pub counts-joined : (t : List (Option Counted)) (os : List (Option Process)) (ms : List Memory) → IsCounted t os → Counts t (joined os ms)
 counts-joined t os ms counted n = counted n ∙ sym (count-joined os ms n)
 
-pub reap-left : (s : State) (old new : List (Option Counted)) (before pipes : List (Option (List ℕ))) → s.files ≡ flat_files → IsTable new → IsLeft old new → Counts new s.places → Leaves new before pipes
-    → reap (record s { opens = opens_of old; pipes = before }) ≡ record s { opens = opens_of new; pipes = pipes }
+pub reap-left : (s : State) (old new : List (Option Counted)) (before pipes : List (Option (List ℕ))) (files : Files) → IsTable new → IsLeft old new → Counts new s.places → Leaves new before pipes
+    → without_nodes (record s { opens = opens_of new; pipes = pipes }) ≡ record s { files = files; opens = opens_of new; pipes = pipes }
+    → reap (record s { opens = opens_of old; pipes = before }) ≡ record s { files = files; opens = opens_of new; pipes = pipes }
 unfolding reap
-reap-left s old new before pipes flat is left counts leaves =
+reap-left s old new before pipes files is left counts leaves nodes =
     ap (λ (x : State). without_nodes (without_pipes x)) (without_opens-left (record s { pipes = before }) old new is left counts)
     ∙ ap without_nodes (without_pipes-left (record s { opens = opens_of new }) before pipes leaves.0 leaves.1)
-    ∙ nodes-stay (record s { opens = opens_of new; pipes = pipes }) flat
+    ∙ nodes
 
--- where descriptors were closed, what is left of the table and the pipes is what the state is left with
-pub reap-closed : (s : State) (t : List (Option Counted)) (pipes : List (Option (List ℕ))) (ds : List (Option ℕ)) → s.files ≡ flat_files → IsTable t → IsPiped pipes (opens_of t) → Counts (all_closed t ds) s.places
-    → reap (record s { opens = opens_of t; pipes = pipes }) ≡ record s { opens = opens_of (all_closed t ds); pipes = standing pipes (opens_of (all_closed t ds)) }
-reap-closed s t pipes ds flat is piped counts =
-    reap-left s t (all_closed t ds) pipes (standing pipes (opens_of (all_closed t ds))) flat (table-all_closed t ds is) (left-all_closed t ds) counts (leaves-standing t pipes ds piped)
+-- where descriptors were closed, what is left of the table, the pipes and the nodes is what the state is left with
+pub reap-closed : (s : State) (t : List (Option Counted)) (pipes : List (Option (List ℕ))) (ds : List (Option ℕ)) (files : Files) → IsTable t → IsPiped pipes (opens_of t) → Counts (all_closed t ds) s.places
+    → without_nodes (record s { opens = opens_of (all_closed t ds); pipes = standing pipes (opens_of (all_closed t ds)) }) ≡ record s { files = files; opens = opens_of (all_closed t ds); pipes = standing pipes (opens_of (all_closed t ds)) }
+    → reap (record s { opens = opens_of t; pipes = pipes }) ≡ record s { files = files; opens = opens_of (all_closed t ds); pipes = standing pipes (opens_of (all_closed t ds)) }
+reap-closed s t pipes ds files is piped counts nodes =
+    reap-left s t (all_closed t ds) pipes (standing pipes (opens_of (all_closed t ds))) files (table-all_closed t ds is) (left-all_closed t ds) counts (leaves-standing t pipes ds piped) nodes
+
+-- ---- the nodes of open files that go
+
+-- the holds of an open file that goes are those of its node
+pub files_on-closed : (t : List (Option Counted)) (n m : ℕ) → files_on (closed t n) m + named_in (listed (last_node t n)) m ≡ files_on t m
+files_on-closed t n m = elim (cases_lt n (length t)) [
+  | inl inside ↦ (let sums = sum_by-set (λ o. one_in m (node_in o)) t n (option_and_then fewer (slot t n)) None inside in omega (arith, sums, goes (slot t n)))
+  | inr outside ↦ rw (set_outside t n (option_and_then fewer (slot t n)) outside, outside_none t n outside) (omega arith)
+]
+  where
+    one : (h : Option ℕ) → named_in (listed h) m ≡ one_in m h
+    one None = refl
+    one (Some k) = sum_by-cons (one_at m) k [] ∙ omega arith
+
+    goes : (o : Option Counted) → one_in m (node_in (option_and_then fewer o)) + named_in (listed (option_and_then node_on (option_and_then last_in o))) m ≡ one_in m (node_in o)
+    goes None = refl
+    goes (Some c) = elim (cases_lt 1 c.count) [
+      | inl more ↦ rw (lt-yes 1 c.count more) (omega arith)
+      | inr last ↦ rw (lt-no 1 c.count last) (omega (arith, one (node_on c.file.target)))
+    ]
+
+    outside_none : {X : Type 0} (xs : List (Option X)) (i : ℕ) → length xs ≤ i → slot xs i ≡ None
+    outside_none [] i h = refl
+    outside_none (x ∷ xs) zero h = absurd (omega (arith, h))
+    outside_none (x ∷ xs) (suc i) h = outside_none xs i (omega (arith, h))
+
+pub named_in-append : (xs ys : List ℕ) (m : ℕ) → named_in (xs ++ ys) m ≡ named_in xs m + named_in ys m
+named_in-append [] ys m = omega arith
+named_in-append (x ∷ xs) ys m = omega (arith, sum_by-cons (one_at m) x (xs ++ ys), sum_by-cons (one_at m) x xs, named_in-append xs ys m)
+
+pub files_on-all_closed : (t : List (Option Counted)) (ds : List (Option ℕ)) (m : ℕ) → files_on (all_closed t ds) m + named_in (gone_nodes t ds) m ≡ files_on t m
+files_on-all_closed t [] m = omega arith
+files_on-all_closed t (None ∷ ds) m = files_on-all_closed t ds m
+files_on-all_closed t (Some n ∷ ds) m = omega (arith, files_on-all_closed (closed t n) ds m, files_on-closed t n m, named_in-append (listed (last_node t n)) (gone_nodes (closed t n) ds) m)
 
 -- ---- one descriptor after the other
 
@@ -317,3 +409,47 @@ module _ (old : List (Option Counted)) (before : Spaces) (ds : List (Option ℕ)
 -- all were
 pub closing-all : (old : List (Option Counted)) (before : Spaces) (ds : List (Option ℕ)) (t : List (Option Counted)) (s : Spaces) (i : ℕ) → Closing old before ds t s i → s ≡ record before { pipes = standing before.pipes (opens_of t) }
 closing-all old before ds t s i is = is.1.1 ∙ ap (λ (ps : List (Option (List ℕ))). record before { pipes = ps }) (sym (standing-is (opens_of t) before.pipes s.pipes is.1.0.0 is.1.0.1))
+
+-- ---- the nodes that go, one descriptor after the other
+
+abbrev gone_in : List (Option Counted) → Option ℕ → List ℕ
+gone_in t None = []
+gone_in t (Some n) = listed (last_node t n)
+
+next-gone : (t : List (Option Counted)) (ds : List (Option ℕ)) (i : ℕ) (o : Option ℕ) → i < length ds → slot ds i ≡ o → gone_nodes t (drop i ds) ≡ gone_in t o ++ gone_nodes (closed_in t o) (drop (i + 1) ds)
+next-gone t ds i o h at =
+    let next : suc i ≡ i + 1 = omega arith in
+    ap (gone_nodes t) (drop-cons ds i None h ∙ ap (λ d. d ∷ drop (suc i) ds) at) ∙ first o ∙ ap (λ j. gone_in t o ++ gone_nodes (closed_in t o) (drop j ds)) next
+  where
+    first : (o : Option ℕ) → gone_nodes t (o ∷ drop (suc i) ds) ≡ gone_in t o ++ gone_nodes (closed_in t o) (drop (suc i) ds)
+    first None = refl
+    first (Some n) = refl
+
+length-listed : (o : Option ℕ) → length (listed o) ≤ 1
+length-listed None = omega arith
+length-listed (Some n) = omega arith
+
+-- the first i descriptors were closed, and these nodes went
+pub record IsClosing (old : List (Option Counted)) (before : Spaces) (ds : List (Option ℕ)) (t : List (Option Counted)) (s : Spaces) (gone : List ℕ) (i : ℕ) : Type 0 where
+  pub closing : Closing old before ds t s i
+  pub nodes : gone ++ gone_nodes t (drop i ds) ≡ gone_nodes old ds
+  pub few : length gone ≤ i
+
+module _ (old : List (Option Counted)) (before : Spaces) (ds : List (Option ℕ)) (t : List (Option Counted)) (s : Spaces) (gone : List ℕ) (i : ℕ) (h : i < length ds) (is : IsClosing old before ds t s gone i) where
+  pub closes-none : slot ds i ≡ None → IsClosing old before ds t s gone (i + 1)
+  closes-none at = record {
+    closing = closing-none old before ds t s i h is.closing at;
+    nodes = ap (λ ns. gone ++ ns) (sym (next-gone t ds i None h at)) ∙ is.nodes;
+    few = omega (arith, is.few);
+  }
+
+  pub closes-some : (n : ℕ) → slot ds i ≡ Some n → (next : List ℕ) → next ≡ gone ++ listed (last_node t n) → IsClosing old before ds (closed t n) (record s { pipes = after_close s.pipes (opens_of (closed t n)) (last_target t n) }) next (i + 1)
+  closes-some n at next e = record {
+    closing = closing-some old before ds t s i h is.closing n at;
+    nodes =
+        ap (λ ns. ns ++ gone_nodes (closed t n) (drop (i + 1) ds)) e
+        ∙ append_assoc gone (listed (last_node t n)) (gone_nodes (closed t n) (drop (i + 1) ds))
+        ∙ ap (λ ns. gone ++ ns) (sym (next-gone t ds i (Some n) h at))
+        ∙ is.nodes;
+    few = omega (arith, is.few, ap length e, length-append gone (listed (last_node t n)), length-listed (last_node t n));
+  }

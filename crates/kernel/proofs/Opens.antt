@@ -1,14 +1,18 @@
 -- The open files of a kernel where the descriptors of its processes stay, and what a descriptor names.
-use Rattle.std.proofs.Common.{◌≡◌, ◌≢◌, ℕ, zero, suc, ◌+◌, ◌<◌, ◌≤◌, true, List, [], ◌∷◌, length, Option, Some, None, refl, ap, sym, ◌∙◌, arith}
+use Rattle.std.proofs.Common.{◌≡◌, ◌≢◌, ℕ, zero, suc, ◌+◌, ◌<◌, ◌≤◌, true, List, [], ◌∷◌, length, Option, Some, None, refl, ap, subst, sym, ◌∙◌, arith}
 use Rattle.std.specs.Prelude.{IfSome, option_and_then, option_map, slice_set}
 use Rattle.std.proofs.lemmas.Bool.Decides.{nat_tests}
 use Rattle.std.proofs.lemmas.List.Sums.{sum_by-cons}
 use Rattle.kernel.specs.Descriptors.{IsCounted, descriptors_in, named_by, names_in}
 use Rattle.kernel.specs.Kernel.{Kernel, on_hart}
-use Rattle.kernel.specs.Sound.{IsAwaiting, IsForPipe, IsFresh, IsOpenFile, IsOpened, WaitsAs, WaitsWell, console_file, file_named, is_on_pipe}
+use Rattle.kernel.specs.Sound.{IsAwaiting, IsForBytes, IsForPipe, IsFresh, IsOpenFile, IsOpened, WaitsAs, WaitsWell, file_named, is_awaited, is_on_pipe}
 use Rattle.files.specs.Counts as counts
 use Rattle.files.specs.Counts.{count_of, names, names-clear, one_at}
-use Rattle.files.specs.Places.{Counted, count_at, count_in, opens_of}
+use Rattle.files.specs.declared.file.OpenFile.{OpenFile}
+use Rattle.files.specs.declared.file.Target.{Target}
+use Rattle.files.specs.Meant.{file_of}
+use Rattle.files.specs.Places.{Counted, count_at, count_in, file_at, opened, opens_of, shared}
+use Rattle.std.proofs.lemmas.List.{get_or-set_other}
 use Rattle.files.specs.Whole.{slot-opens}
 use Rattle.proc.specs.declared.process.Process.{Process}
 use Rattle.proc.specs.Places.{changed_at}
@@ -22,7 +26,7 @@ use Rattle.unixmodel.specs.declared.process.Pending.{Pending}
 use Rattle.unixmodel.specs.Files.{slot, taken}
 use Rattle.unixmodel.specs.Memory.{Memory}
 use Rattle.unixmodel.specs.Numbers.{low}
-use Rattle.unixmodel.specs.OpenFiles.{OpenFile, Target}
+use Rattle.unixmodel.specs.OpenFiles as unix_files
 use Rattle.unixmodel.specs.Outcome.{pending_arg}
 use Rattle.unixmodel.specs.Process as unix
 use Rattle.unixmodel.specs.State.{State}
@@ -38,7 +42,7 @@ named-set n (x ∷ os) (suc i) o same = sum_by-cons (names_in n) x (slice_set os
 -- ---- who waits in a read or a write
 
 -- a place has another process
-pub waits-set : (opens : List (Option OpenFile)) (os : List (Option Process)) (i : ℕ) (o : Option Process) → WaitsWell opens o → ((j : ℕ) → WaitsWell opens (slot os j)) → (j : ℕ) → WaitsWell opens (slot (slice_set os i o) j)
+pub waits-set : (opens : List (Option Counted)) (os : List (Option Process)) (i : ℕ) (o : Option Process) → WaitsWell opens o → ((j : ℕ) → WaitsWell opens (slot os j)) → (j : ℕ) → WaitsWell opens (slot (slice_set os i o) j)
 waits-set opens [] i o here is j = is j
 waits-set opens (x ∷ os) zero o here is zero = here
 waits-set opens (x ∷ os) zero o here is (suc j) = is (suc j)
@@ -46,84 +50,95 @@ waits-set opens (x ∷ os) (suc i) o here is zero = is 0
 waits-set opens (x ∷ os) (suc i) o here is (suc j) = waits-set opens os i o here (λ b. is (suc b)) j
 
 -- a process that runs doesn't wait
-pub waits-running : (opens : List (Option OpenFile)) (p : Process) → p.mode ≡ Running → WaitsWell opens (Some p)
+pub waits-running : (opens : List (Option Counted)) (p : Process) → p.mode ≡ Running → WaitsWell opens (Some p)
 waits-running opens p runs = rw runs tt
 
 -- a call that is neither a read nor a write
-pub waits-other : (opens : List (Option OpenFile)) (ds : List (Option ℕ)) (w : Pending) (call : Call) → call ≢ Read → call ≢ Write → w.number ≡ call → IsAwaiting opens ds w
-waits-other opens ds w call reads writes number = record { write = λ write. absurd (writes (sym number ∙ write)); read = λ read. absurd (reads (sym number ∙ read)) }
+pub waits-other : (opens : List (Option Counted)) (ds : List (Option ℕ)) (w : Pending) (call : Call) → call ≢ Read → call ≢ Write → w.number ≡ call → IsAwaiting opens ds w
+waits-other opens ds w call reads writes number = record {
+  write = λ write. absurd (writes (sym number ∙ write));
+  read = λ read. absurd (reads (sym number ∙ read));
+  fresh = λ read. absurd (reads (sym number ∙ read));
+}
 
 -- a read
-pub waits-reading : (opens : List (Option OpenFile)) (ds : List (Option ℕ)) (w : Pending) → w.number ≡ Read → IsFresh opens ds w → IsAwaiting opens ds w
-waits-reading opens ds w number fresh = record { write = λ write. absurd (let bad : Read ≡ Write = sym number ∙ write in cc); read = fresh }
+pub waits-reading : (opens : List (Option Counted)) (ds : List (Option ℕ)) (w : Pending) → w.number ≡ Read → IsForBytes opens ds w → IsFresh opens ds w → IsAwaiting opens ds w
+waits-reading opens ds w number for fresh = record { write = λ write. absurd (let bad : Read ≡ Write = sym number ∙ write in cc); read = for; fresh = fresh }
 
 -- a write
-pub waits-writing : (opens : List (Option OpenFile)) (ds : List (Option ℕ)) (w : Pending) → w.number ≡ Write → IsForPipe opens ds w → IsAwaiting opens ds w
-waits-writing opens ds w number for = record { write = for; read = λ read. absurd (let bad : Write ≡ Read = sym number ∙ read in cc) }
+pub waits-writing : (opens : List (Option Counted)) (ds : List (Option ℕ)) (w : Pending) → w.number ≡ Write → IsForPipe opens ds w → IsAwaiting opens ds w
+waits-writing opens ds w number for = record { write = for; read = λ read. absurd (let bad : Write ≡ Read = sym number ∙ read in cc); fresh = λ read. absurd (let bad : Write ≡ Read = sym number ∙ read in cc) }
 
--- a read of the console
-fresh-go : (opens : List (Option OpenFile)) (o : Option ℕ) (P : Type 0) → ((n : ℕ) → o ≡ Some n → slot opens n ≡ Some console_file) → IfSome (option_and_then (slot opens) o) (λ f. is_on_pipe f.target ≡ true → P)
-fresh-go opens None P only = tt
-fresh-go opens (Some n) P only = rw (only n refl) (λ on. absurd (cc))
+-- an open file is awaited as another one is
+pub record IsAlike (f g : OpenFile) : Type 0 where
+  pub pipe : is_on_pipe g.target ≡ is_on_pipe f.target
+  pub awaited : is_awaited g.target ≡ is_awaited f.target
 
-pub console-fresh : (opens : List (Option OpenFile)) (ds : List (Option ℕ)) (w : Pending) → ((n : ℕ) → slot ds (low (pending_arg w 0)) ≡ Some n → slot opens n ≡ Some console_file) → IsFresh opens ds w
-console-fresh opens ds w only = λ read. fresh-go opens (slot ds (low (pending_arg w 0))) (w.done ≡ 0) only
+pub alike-same : (f : OpenFile) → IsAlike f f
+alike-same f = record { pipe = refl; awaited = refl }
 
-module _ (opens new : List (Option OpenFile)) (ds : List (Option ℕ)) (each : (d n : ℕ) (f : OpenFile) → slot ds d ≡ Some n → slot new n ≡ Some f → slot opens n ≡ Some f) where
-  kept-file : (P : OpenFile → Type 0) (d n : ℕ) → slot ds d ≡ Some n → (o : Option OpenFile) → slot new n ≡ o → IfSome (slot opens n) P → IfSome o P
-  kept-file P d n named None at is = tt
-  kept-file P d n named (Some f) at is = rw (each d n f named at) at is
+-- what is named was there, or was awaited alike
+abbrev pub WasAlike : List (Option Counted) → ℕ → OpenFile → Type 0
+WasAlike opens n f = (g : OpenFile) × ((file_at opens n ≡ Some g) × IsAlike g f)
 
-  kept-named : (P : OpenFile → Type 0) (d : ℕ) (o : Option ℕ) → slot ds d ≡ o → IfSome (option_and_then (slot opens) o) P → IfSome (option_and_then (slot new) o) P
-  kept-named P d None named is = tt
-  kept-named P d (Some n) named is = kept-file P d n named (slot new n) refl is
+module _ (opens new : List (Option Counted)) (ds : List (Option ℕ)) (each : (d n : ℕ) (f : OpenFile) → slot ds d ≡ Some n → file_at new n ≡ Some f → WasAlike opens n f) where
+  kept-file : (P : OpenFile → Type 0) → ((f g : OpenFile) → IsAlike f g → P f → P g) → (d n : ℕ) → slot ds d ≡ Some n → (o : Option OpenFile) → file_at new n ≡ o → IfSome (file_at opens n) P → IfSome o P
+  kept-file P alike d n named None at is = tt
+  kept-file P alike d n named (Some f) at is = let was = each d n f named at in alike was.0 f was.1.1 (subst (λ o. IfSome o P) was.1.0 is)
+
+  kept-named : (P : OpenFile → Type 0) → ((f g : OpenFile) → IsAlike f g → P f → P g) → (d : ℕ) (o : Option ℕ) → slot ds d ≡ o → IfSome (option_and_then (file_at opens) o) P → IfSome (option_and_then (file_at new) o) P
+  kept-named P alike d None named is = tt
+  kept-named P alike d (Some n) named is = kept-file P alike d n named (file_at new n) refl is
 
   kept-mode : (mode : Mode) → WaitsAs opens ds mode → WaitsAs new ds mode
   kept-mode Running is = tt
   kept-mode Ready is = tt
-  kept-mode (Waiting w) is = record {
-    write = λ write. kept-named (λ f. is_on_pipe f.target ≡ true) (low (pending_arg w 0)) (slot ds (low (pending_arg w 0))) refl (is.write write);
-    read = λ read. kept-named (λ f. is_on_pipe f.target ≡ true → w.done ≡ 0) (low (pending_arg w 0)) (slot ds (low (pending_arg w 0))) refl (is.read read);
-  }
+  kept-mode (Waiting w) is =
+      let d = low (pending_arg w 0) in
+      record {
+        write = λ write. kept-named (λ f. is_on_pipe f.target ≡ true) (λ f g same on. same.pipe ∙ on) d (slot ds d) refl (is.write write);
+        read = λ read. kept-named (λ f. is_awaited f.target ≡ true) (λ f g same on. same.awaited ∙ on) d (slot ds d) refl (is.read read);
+        fresh = λ read. kept-named (λ f. is_on_pipe f.target ≡ true → w.done ≡ 0) (λ f g same fresh on. fresh (sym same.pipe ∙ on)) d (slot ds d) refl (is.fresh read);
+      }
   kept-mode (Zombie status) is = tt
 
 -- where no open file comes that its descriptors name
-pub waits-kept : (opens new : List (Option OpenFile)) (o : Option Process) → ((d n : ℕ) (f : OpenFile) → slot (descriptors_in o) d ≡ Some n → slot new n ≡ Some f → slot opens n ≡ Some f) → WaitsWell opens o → WaitsWell new o
+pub waits-kept : (opens new : List (Option Counted)) (o : Option Process) → ((d n : ℕ) (f : OpenFile) → slot (descriptors_in o) d ≡ Some n → file_at new n ≡ Some f → WasAlike opens n f) → WaitsWell opens o → WaitsWell new o
 waits-kept opens new None each is = tt
 waits-kept opens new (Some p) each is = kept-mode opens new p.descriptors each p.mode is
 
 -- where no open file comes
-pub waits-fewer : (opens new : List (Option OpenFile)) → ((n : ℕ) (f : OpenFile) → slot new n ≡ Some f → slot opens n ≡ Some f) → (o : Option Process) → WaitsWell opens o → WaitsWell new o
-waits-fewer opens new each o is = waits-kept opens new o (λ d n f named at. each n f at) is
+pub waits-fewer : (opens new : List (Option Counted)) → ((n : ℕ) (f : OpenFile) → file_at new n ≡ Some f → file_at opens n ≡ Some f) → (o : Option Process) → WaitsWell opens o → WaitsWell new o
+waits-fewer opens new each o is = waits-kept opens new o (λ d n f named at. (f, (each n f at, alike-same f))) is
 
 -- ---- open files that stay
 
 module _ (files : List (Option Counted)) (pipes : List (Option (List ℕ))) (os : List (Option Process)) where
-  pub opened-names : (i : ℕ) (o : Option Process) → ((n : ℕ) → names_in n o ≡ names_in n (slot os i)) → WaitsWell (opens_of files) o → IsOpened files pipes os → IsOpened files pipes (slice_set os i o)
+  pub opened-names : (i : ℕ) (o : Option Process) → ((n : ℕ) → names_in n o ≡ names_in n (slot os i)) → WaitsWell files o → IsOpened files pipes os → IsOpened files pipes (slice_set os i o)
   opened-names i o same well is = record {
     table = is.table;
     counted = λ n. is.counted n ∙ sym (named-set n os i o (same n));
     each = is.each;
     all = is.all;
     piped = is.piped;
-    waits = waits-set (opens_of files) os i o well is.waits;
+    waits = waits-set files os i o well is.waits;
   }
 
   -- a process with the same descriptors
-  pub opened-put : (i : ℕ) (o : Option Process) → descriptors_in o ≡ descriptors_in (slot os i) → WaitsWell (opens_of files) o → IsOpened files pipes os → IsOpened files pipes (slice_set os i o)
+  pub opened-put : (i : ℕ) (o : Option Process) → descriptors_in o ≡ descriptors_in (slot os i) → WaitsWell files o → IsOpened files pipes os → IsOpened files pipes (slice_set os i o)
   opened-put i o same well is = opened-names i o (λ n. ap (names n) same) well is
 
 hart-descriptors : (s : Spaces) (o : Option Process) → descriptors_in (option_map (on_hart s) o) ≡ descriptors_in o
 hart-descriptors s None = refl
 hart-descriptors s (Some p) = refl
 
-hart-waits : (opens : List (Option OpenFile)) (s : Spaces) (o : Option Process) → WaitsWell opens o → WaitsWell opens (option_map (on_hart s) o)
+hart-waits : (opens : List (Option Counted)) (s : Spaces) (o : Option Process) → WaitsWell opens o → WaitsWell opens (option_map (on_hart s) o)
 hart-waits opens s None is = tt
 hart-waits opens s (Some p) is = is
 
 pub opened-active : (k : Kernel) (files : List (Option Counted)) (pipes : List (Option (List ℕ))) (o : Option ℕ) → IsOpened files pipes k.table.places → IsOpened files pipes (changed_at k.table (on_hart k.spaces) o).places
 opened-active k files pipes None is = is
-opened-active k files pipes (Some i) is = opened-put files pipes k.table.places i (option_map (on_hart k.spaces) (slot k.table.places i)) (hart-descriptors k.spaces (slot k.table.places i)) (hart-waits (opens_of files) k.spaces (slot k.table.places i) (is.waits i)) is
+opened-active k files pipes (Some i) is = opened-put files pipes k.table.places i (option_map (on_hart k.spaces) (slot k.table.places i)) (hart-descriptors k.spaces (slot k.table.places i)) (hart-waits files k.spaces (slot k.table.places i) (is.waits i)) is
 
 -- the processes with their memories name the same
 pub count-joined : (os : List (Option Process)) (ms : List Memory) (n : ℕ) → count_of (joined os ms) n ≡ named_by os n
@@ -143,13 +158,10 @@ few-taken (Some x ∷ xs) = omega (arith, few-taken xs)
 -- ---- what a descriptor names
 
 -- a descriptor of a process of the abstract Unix names an open file
-pub record IsNamed (s : State) (p : unix.Process) (d : ℕ) (f : OpenFile) : Type 0 where
+pub record IsNamed (s : State) (p : unix.Process) (d : ℕ) (f : unix_files.OpenFile) : Type 0 where
   pub number : ℕ
   pub named : slot p.descriptors d ≡ Some number
   pub opened : slot s.opens number ≡ Some f
-
-abbrev pub IsConsole : State → unix.Process → ℕ → Type 0
-IsConsole s p d = IsNamed s p d console_file
 
 named-least : (n : ℕ) (os : List (Option Process)) (i : ℕ) (p : Process) → slot os i ≡ Some p → names n p.descriptors ≤ named_by os n
 named-least n [] i p at = absurd (cc)
@@ -173,34 +185,54 @@ place-counts files os counted i None at d n named = absurd (cc)
 place-counts files os counted i (Some p) at d n named = omega (arith, counted n, named-least n os i p at, names-some n p.descriptors d named)
 
 module _ (files : List (Option Counted)) (pipes : List (Option (List ℕ))) (os : List (Option Process)) (is : IsOpened files pipes os) where
-  open-go : (n : ℕ) (o : Option Counted) → slot files n ≡ o → 0 < count_in o → (f : OpenFile) × ((slot (opens_of files) n ≡ Some f) × IsOpenFile f)
+  open-go : (n : ℕ) (o : Option Counted) → slot files n ≡ o → 0 < count_in o → (f : unix_files.OpenFile) × ((slot (opens_of files) n ≡ Some f) × IsOpenFile f)
   open-go n None at some = absurd (omega (arith, some))
   open-go n (Some c) at some =
-      let there : slot (opens_of files) n ≡ Some c.file = slot-opens files n ∙ ap (option_map (λ (x : Counted). x.file)) at in
-      (c.file, (there, is.each n c.file there))
+      let there : slot (opens_of files) n ≡ Some (file_of c.file) = slot-opens files n ∙ ap (option_map (λ (x : Counted). file_of x.file)) at in
+      (file_of c.file, (there, is.each n (file_of c.file) there))
 
   -- what a descriptor of a process names is open
-  pub open-named : (i : ℕ) (p : Process) (d n : ℕ) → slot os i ≡ Some p → slot p.descriptors d ≡ Some n → (f : OpenFile) × ((slot (opens_of files) n ≡ Some f) × IsOpenFile f)
+  pub open-named : (i : ℕ) (p : Process) (d n : ℕ) → slot os i ≡ Some p → slot p.descriptors d ≡ Some n → (f : unix_files.OpenFile) × ((slot (opens_of files) n ≡ Some f) × IsOpenFile f)
   open-named i p d n at named =
       open-go n (slot files n) refl (place-counts files os is.counted i (Some p) at d n named)
 
 -- ---- what a descriptor names
 
 -- descriptor d names an open file on t
-pub record IsFileAt (opens : List (Option OpenFile)) (ds : List (Option ℕ)) (d : ℕ) (t : Target) : Type 0 where
+pub record IsFileAt (opens : List (Option Counted)) (ds : List (Option ℕ)) (d : ℕ) (t : Target) : Type 0 where
   pub number : ℕ
   pub file : OpenFile
   pub named : slot ds d ≡ Some number
-  pub opened : slot opens number ≡ Some file
+  pub opened : file_at opens number ≡ Some file
   pub on : file.target ≡ t
 
-file-in : (opens : List (Option OpenFile)) (ds : List (Option ℕ)) (d : ℕ) (t : Target) (n : ℕ) (o : Option OpenFile) → slot ds d ≡ Some n → slot opens n ≡ o → option_map (λ (f : OpenFile). f.target) o ≡ Some t → IsFileAt opens ds d t
+file-in : (opens : List (Option Counted)) (ds : List (Option ℕ)) (d : ℕ) (t : Target) (n : ℕ) (o : Option OpenFile) → slot ds d ≡ Some n → file_at opens n ≡ o → option_map (λ (f : OpenFile). f.target) o ≡ Some t → IsFileAt opens ds d t
 file-in opens ds d t n None named at is = absurd (cc)
 file-in opens ds d t n (Some f) named at is = record { number = n; file = f; named = named; opened = at; on = cc }
 
-file-go : (opens : List (Option OpenFile)) (ds : List (Option ℕ)) (d : ℕ) (t : Target) (o : Option ℕ) → slot ds d ≡ o → option_map (λ (f : OpenFile). f.target) (option_and_then (slot opens) o) ≡ Some t → IsFileAt opens ds d t
+file-go : (opens : List (Option Counted)) (ds : List (Option ℕ)) (d : ℕ) (t : Target) (o : Option ℕ) → slot ds d ≡ o → option_map (λ (f : OpenFile). f.target) (option_and_then (file_at opens) o) ≡ Some t → IsFileAt opens ds d t
 file-go opens ds d t None named is = absurd (cc)
-file-go opens ds d t (Some n) named is = file-in opens ds d t n (slot opens n) named refl is
+file-go opens ds d t (Some n) named is = file-in opens ds d t n (file_at opens n) named refl is
 
-pub file-at : (opens : List (Option OpenFile)) (ds : List (Option ℕ)) (d : ℕ) (t : Target) → option_map (λ (f : OpenFile). f.target) (file_named opens ds d) ≡ Some t → IsFileAt opens ds d t
+pub file-at : (opens : List (Option Counted)) (ds : List (Option ℕ)) (d : ℕ) (t : Target) → option_map (λ (f : OpenFile). f.target) (file_named opens ds d) ≡ Some t → IsFileAt opens ds d t
 file-at opens ds d t is = file-go opens ds d t (slot ds d) refl is
+
+-- an open file, as a state has it
+pub slot-file : (opens : List (Option Counted)) (n : ℕ) → slot (opens_of opens) n ≡ option_map file_of (file_at opens n)
+slot-file opens n = slot-opens opens n ∙ go (slot opens n) where
+  go : (o : Option Counted) → option_map (λ (c : Counted). file_of c.file) o ≡ option_map file_of (option_map (λ (c : Counted). c.file) o)
+  go None = refl
+  go (Some c) = refl
+
+-- one descriptor more names it, and it is as it was
+pub file-shared : (opens : List (Option Counted)) (i n : ℕ) → file_at (shared opens i) n ≡ file_at opens n
+file-shared [] i n = refl
+file-shared (None ∷ opens) zero zero = refl
+file-shared (Some c ∷ opens) zero zero = refl
+file-shared (o ∷ opens) zero (suc n) = refl
+file-shared (o ∷ opens) (suc i) zero = refl
+file-shared (o ∷ opens) (suc i) (suc n) = file-shared opens i n
+
+-- another place stays as it is
+pub file-opened : (opens : List (Option Counted)) (i : ℕ) (f : OpenFile) (n : ℕ) → n ≢ i → file_at (opened opens i f) n ≡ file_at opens n
+file-opened opens i f n other = ap (option_map (λ (c : Counted). c.file)) (get_or-set_other opens i n (Some (record { file = f; count = 1 })) None other)

@@ -4,7 +4,7 @@ use Rattle.std.specs.Prelude.{option_map, slice_set, sum_by}
 use Rattle.std.proofs.lemmas.Bool.{le-leb, lt-leb}
 use Rattle.std.proofs.lemmas.List.Sums.{sum_by-cons}
 use Rattle.kernel.specs.Kernel.{Kernel, loaded, memories, memory_in, on_hart, rest_of, state_of, state_with}
-use Rattle.kernel.specs.Sound.{IsKernel, IsOpened, IsPlace}
+use Rattle.kernel.specs.Sound.{IsKernel, IsMode, IsOpened, IsPlace}
 use Rattle.kernel.proofs.Opens.{count-joined, few-taken, opened-active}
 use Rattle.files.specs.Counts.{Counts}
 use Rattle.files.specs.Pipes.{without_pipes-same}
@@ -15,10 +15,15 @@ use Rattle.proc.specs.Places.{Places, changed_at}
 use Rattle.proc.specs.Whole.{joined, with_memory}
 use Rattle.spaces.specs.Spaces.{Held, Spaces, frames_in, taken_frames}
 use Rattle.unixmodel.specs.Counts.{blocks_of, frames_of, is_within, process_frames}
-use Rattle.unixmodel.specs.Files.{free_slots, slot, taken}
+use Rattle.unixmodel.specs.Files.{slot, taken}
 use Rattle.unixmodel.specs.Memory.{Memory}
 use Rattle.unixmodel.specs.Reap.{reap, without_nodes, without_opens, without_pipes}
-use Rattle.unixmodel.specs.Start.{flat_files}
+use Rattle.unixmodel.specs.declared.process.Mode.{Mode}
+use Rattle.unixmodel.specs.declared.process.Mode.TheVariants.{Ready, Running, Waiting, Zombie}
+use Rattle.unixmodel.specs.Process.{is_zombie_mode}
+use Rattle.std.proofs.lemmas.Option.{none-some, same_Some}
+use Rattle.kernel.specs.Holding.{IsInUse, home_in}
+use Rattle.kernel.proofs.Holding.{AreAway, nodes-stay, used-put}
 use Rattle.unixmodel.specs.State.{State}
 
 -- ---- processes and spaces
@@ -63,19 +68,28 @@ opened-loaded k is = opened-active k k.files k.spaces.pipes k.spaces.active is.o
 
 -- ---- nothing is given up
 
--- each node has a link
-pub nodes-stay : (s : State) → s.files ≡ flat_files → without_nodes s ≡ s
-unfolding without_nodes flat_files free_slots
-nodes-stay s is = rw is refl
+-- a zombie works nowhere
+away-in : (o : Option Process) (q : Option Held) → IsPlace o q → (p : Process) → o ≡ Some p → is_zombie_mode p.mode ≡ true → p.directory ≡ 0
+away-in None q is p at zombie = absurd (none-some p at)
+away-in (Some x) None is p at zombie = absurd is
+away-in (Some x) (Some h) is p at zombie = let same : x ≡ p = same_Some x p at in go x h.memory x.mode is.mode (ap (λ (y : Process). is_zombie_mode y.mode) same ∙ zombie) (ap (λ (y : Process). y.directory) same) where
+  go : (x : Process) (m : Memory) (mode : Mode) → IsMode x m mode → is_zombie_mode mode ≡ true → x.directory ≡ p.directory → p.directory ≡ 0
+  go x m Running is zombie same = absurd (let bad : false ≡ true = zombie in cc)
+  go x m Ready is zombie same = absurd (let bad : false ≡ true = zombie in cc)
+  go x m (Waiting w) is zombie same = absurd (let bad : false ≡ true = zombie in cc)
+  go x m (Zombie status) is zombie same = sym same ∙ is.directory
 
-pub reap-with : (k : Kernel) (t : Places) (ms : List Memory) → IsOpened k.files k.spaces.pipes t.places → k.tree.files ≡ flat_files → reap (state_with t ms (rest_of k)) ≡ state_with t ms (rest_of k)
+pub are-away : (os : List (Option Process)) (hs : List (Option Held)) → ((j : ℕ) → IsPlace (slot os j) (slot hs j)) → AreAway os
+are-away os hs stands j p at zombie = away-in (slot os j) (slot hs j) (stands j) p at zombie
+
+pub reap-with : (k : Kernel) (t : Places) (ms : List Memory) → IsOpened k.files k.spaces.pipes t.places → IsInUse k.tree k.files t.places → AreAway t.places → reap (state_with t ms (rest_of k)) ≡ state_with t ms (rest_of k)
 unfolding reap
-reap-with k t ms is flat =
+reap-with k t ms is used away =
     let s = state_with t ms (rest_of k) in
     let counts : Counts k.files s.places = λ n. is.counted n ∙ sym (count-joined t.places ms n) in
     let opens : without_opens s ≡ s = without_opens-same s k.files is.table counts in
     let pipes : without_pipes s ≡ s = without_pipes-same s is.piped in
-    ap (λ (x : State). without_nodes (without_pipes x)) opens ∙ ap without_nodes pipes ∙ nodes-stay s flat
+    ap (λ (x : State). without_nodes (without_pipes x)) opens ∙ ap without_nodes pipes ∙ nodes-stay used s ms away refl refl refl
 
 -- ---- frames
 
@@ -102,21 +116,47 @@ and-trues true = refl
 and-trues false = refl
 
 -- the limits are kept where the frames suffice
-pub within-state_with : (k : Kernel) (t : Places) → k.tree.files ≡ flat_files → k.tree.block_limit ≡ 27 → IsTable k.files → ((i : ℕ) → IsMatch (slot t.places i) (slot k.spaces.places i))
+pub within-state_with : (k : Kernel) (t : Places) → blocks_of k.tree.files ≤ k.tree.block_limit → IsTable k.files → ((i : ℕ) → IsMatch (slot t.places i) (slot k.spaces.places i))
     → is_within (state_with t (memories k.spaces) (rest_of k)) ≡ nat_le (taken_frames k.spaces) k.spaces.frames
-unfolding blocks_of flat_files free_slots
-within-state_with k t flat limit is stands =
+within-state_with k t fits is stands =
     let few : length (taken (opens_of k.files)) ≤ 100 = omega (arith, few-taken (opens_of k.files), length-opens k.files, is.all) in
     let opens : nat_le (length (taken (opens_of k.files))) 100 ≡ true = le-leb _ _ few in
-    rw (frames-with k t stands, opens, flat, limit) (and-trues (nat_le (taken_frames k.spaces) k.spaces.frames))
+    let blocks : nat_le (blocks_of k.tree.files) k.tree.block_limit ≡ true = le-leb _ _ fits in
+    rw (frames-with k t stands, opens, blocks) (and-trues (nat_le (taken_frames k.spaces) k.spaces.frames))
 
 -- ---- a kernel's state
 
+home-on : (s : Spaces) (o : Option Process) → home_in (option_map (on_hart s) o) ≡ home_in o
+home-on s None = refl
+home-on s (Some p) = refl
+
+pub used-active : (k : Kernel) (o : Option ℕ) → IsInUse k.tree k.files k.table.places → IsInUse k.tree k.files (changed_at k.table (on_hart k.spaces) o).places
+used-active k None is = is
+used-active k (Some i) is = used-put is i (option_map (on_hart k.spaces) (slot k.table.places i)) (home-on k.spaces (slot k.table.places i))
+
+pub used-loaded : (k : Kernel) → IsKernel k → k.tree.failed ≡ false → IsInUse k.tree k.files (loaded k).places
+used-loaded k is up = used-active k k.spaces.active (is.filed.used up)
+
+away-on : (s : Spaces) (os : List (Option Process)) (i : ℕ) → AreAway os → AreAway (slice_set os i (option_map (on_hart s) (slot os i)))
+away-on s [] i away j p at zombie = absurd (none-some p at)
+away-on s (None ∷ os) zero away zero p at zombie = absurd (none-some p at)
+away-on s (Some x ∷ os) zero away zero p at zombie = let same : on_hart s x ≡ p = same_Some (on_hart s x) p at in sym (ap (λ (y : Process). y.directory) same) ∙ away 0 x refl (ap (λ (y : Process). is_zombie_mode y.mode) same ∙ zombie)
+away-on s (o ∷ os) zero away (suc j) p at zombie = away (suc j) p at zombie
+away-on s (o ∷ os) (suc i) away zero p at zombie = away 0 p at zombie
+away-on s (o ∷ os) (suc i) away (suc j) p at zombie = away-on s os i (λ n. away (suc n)) j p at zombie
+
+pub away-active : (k : Kernel) (o : Option ℕ) → AreAway k.table.places → AreAway (changed_at k.table (on_hart k.spaces) o).places
+away-active k None away = away
+away-active k (Some i) away = away-on k.spaces k.table.places i away
+
+pub away-loaded : (k : Kernel) → IsKernel k → AreAway (loaded k).places
+away-loaded k is = away-active k k.spaces.active (are-away k.table.places k.spaces.places is.stands)
+
 pub reap-state : (k : Kernel) → IsKernel k → k.tree.failed ≡ false → reap (state_of k) ≡ state_of k
-reap-state k is up = reap-with k (loaded k) (memories k.spaces) (opened-loaded k is) (is.filed.flat up)
+reap-state k is up = reap-with k (loaded k) (memories k.spaces) (opened-loaded k is) (used-loaded k is up) (away-loaded k is)
 
 pub within-state : (k : Kernel) → IsKernel k → k.tree.failed ≡ false → is_within (state_of k) ≡ true
-within-state k is up = within-state_with k (loaded k) (is.filed.flat up) (is.filed.limit up) is.opened.table (match-loaded k is) ∙ le-leb _ _ is.fits
+within-state k is up = within-state_with k (loaded k) (is.filed.used up).within is.opened.table (match-loaded k is) ∙ le-leb _ _ is.fits
 
 pub over-state : (k : Kernel) → ((i : ℕ) → IsMatch (slot (loaded k).places i) (slot k.spaces.places i)) → k.spaces.frames < taken_frames k.spaces → is_within (state_of k) ≡ false
 over-state k is over = let full : nat_le (taken_frames k.spaces) k.spaces.frames ≡ false = lt-leb _ _ over in rw (frames-with k (loaded k) is, full) refl

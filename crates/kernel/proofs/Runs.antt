@@ -1,14 +1,15 @@
 -- The running process, and what becomes of the state where it alone changes.
 use Rattle.std.proofs.Common.{false, ◌≡◌, ◌≢◌, ℕ, zero, suc, ◌<◌, ◌≤◌, ◌⊎◌, inl, inr, true, nat_eq, List, [], ◌∷◌, length, Option, Some, None, refl, ap, sym, ◌∙◌, arith}
-use Rattle.std.specs.Prelude.{is_some, option_map, slice_set, slice_index_or}
+use Rattle.std.specs.Prelude.{if◌then◌else◌, is_some, option_map, slice_set, slice_index_or}
 use Rattle.std.proofs.lemmas.Bool.Decides.{nat_tests}
 use Rattle.std.proofs.lemmas.List.{get_or-set_other, get_or-set_same, length-map, length-set, map-set, set-get_or}
 use Rattle.std.proofs.Math.ListN as listn
 use Rattle.kernel.specs.Descriptors.{descriptors_in}
 use Rattle.kernel.specs.Kernel.{Kernel, base, loaded, memories, memory_in, on_hart, rest_of, state_of}
 use Rattle.kernel.specs.Sound.{IsKernel, IsPlace, IsPlaced, is_at}
+use Rattle.kernel.specs.Holding.{home_in}
+use Rattle.kernel.proofs.Holding.{filed-put}
 use Rattle.kernel.proofs.Opens.{opened-put, waits-running}
-use Rattle.files.specs.Places.{opens_of}
 use Rattle.proc.specs.declared.process.Process.{Process}
 use Rattle.proc.specs.Places as table
 use Rattle.proc.specs.Places.{Places, changed}
@@ -19,7 +20,7 @@ use Rattle.unixmodel.specs.declared.process.Mode.TheVariants.{Ready, Running, Wa
 use Rattle.unixmodel.specs.Files.{put, slot}
 use Rattle.unixmodel.specs.Memory.{Memory}
 use Rattle.unixmodel.specs.Process as unix
-use Rattle.unixmodel.specs.Process.{is_running_mode}
+use Rattle.unixmodel.specs.Process.{is_running_mode, is_zombie_mode}
 use Rattle.unixmodel.specs.State.{State, holds, process_at, put_process}
 
 -- ---- places
@@ -140,6 +141,10 @@ module _ (k : Kernel) (i : ℕ) (p : Process) (h : Held) (r : IsRun k i p h) whe
       ∙ process-with (base (rest_of k)) table (memories k.spaces) i (on_hart k.spaces p) (slot-put k.table.places i (Some (on_hart k.spaces p)) within-run)
       ∙ ap (λ (m : Memory). Some (with_memory m (on_hart k.spaces p))) memory
 
+-- it works in its directory
+pub home-running : (p : Process) → p.mode ≡ Running → home_in (Some p) ≡ Some p.directory
+home-running p runs = ap (λ (m : Mode). if is_zombie_mode m then None else Some p.directory) runs
+
 -- ---- the running process alone changes
 
 -- it is p now, but for its registers and its pc, and its space shows h
@@ -181,15 +186,15 @@ module _ (k : Kernel) (i : ℕ) (p : Process) (h : Held) (r : IsRun k i p h) (is
       runs = runs;
     }
 
-    pub moved-kernel : p'.descriptors ≡ p.descriptors → taken_frames (moved k i p' h' registers pc).spaces ≤ k.spaces.frames → IsKernel (moved k i p' h' registers pc)
-    moved-kernel same fits = record {
+    pub moved-kernel : p'.descriptors ≡ p.descriptors → p'.directory ≡ p.directory → taken_frames (moved k i p' h' registers pc).spaces ≤ k.spaces.frames → IsKernel (moved k i p' h' registers pc)
+    moved-kernel same home fits = record {
       all = length-set k.table.places i (Some p') ∙ is.all;
       spaces = length-set k.spaces.places i (Some h') ∙ is.spaces;
       stands = stands-set k.table.places k.spaces.places i (Some p') (Some h') (within-run k i p h r) within-space placed is.stands;
       runs = runs-set k.table.places i (Some p') k.spaces.active k.spaces.active (within-run k i p h r) (rw (runs, r.active) (sym (eq-self i))) (λ j other. refl) is.runs;
-      filed = is.filed;
+      filed = filed-put is.filed i (Some p') (home-running p' runs ∙ ap Some home ∙ sym (home-running p r.runs) ∙ sym (ap home_in r.process));
       fits = fits;
-      opened = opened-put k.files k.spaces.pipes k.table.places i (Some p') (same ∙ sym (ap descriptors_in r.process)) (waits-running (opens_of k.files) p' runs) is.opened;
+      opened = opened-put k.files k.spaces.pipes k.table.places i (Some p') (same ∙ sym (ap descriptors_in r.process)) (waits-running k.files p' runs) is.opened;
     }
 
     -- that is what the abstract Unix puts in its place

@@ -4,9 +4,11 @@ use Rattle.std.specs.Prelude.{if◌then◌else◌, is_some, not, slice_index, sl
 use Rattle.std.proofs.lemmas.List.{length-map, length-set, set-get_or}
 use Rattle.kernel.specs.Descriptors.{descriptors_in}
 use Rattle.kernel.specs.Kernel.{Kernel, base, ended, halted_by, lives, loaded, memories, memory_in, picked, rest_of, started, started_as, state_of}
-use Rattle.kernel.specs.Sound.{started-filed, CanRun, IsKernel, IsLive, IsPlace, IsPlaced, is_at}
+use Rattle.kernel.specs.Sound.{CanRun, IsKernel, IsLive, IsPlace, IsPlaced, is_at}
 use Rattle.kernel.proofs.Changes.{ended-is, ended-state, other-at, stands-put}
 use Rattle.kernel.proofs.Opens.{opened-put}
+use Rattle.kernel.specs.Holding.{home_in}
+use Rattle.kernel.proofs.Holding.{filed-as, filed-put}
 use Rattle.kernel.proofs.Runs.{IsRun, eq-self, memory-at, put-with, runs-set, set-twice, slot-put, slot-within, state-run, with_process}
 use Rattle.proc.specs.declared.process.Process.{Process}
 use Rattle.proc.specs.Places.{changed, with_mode}
@@ -19,6 +21,7 @@ use Rattle.unixmodel.specs.Files.{slot}
 use Rattle.unixmodel.specs.Memory.{Memory}
 use Rattle.unixmodel.specs.Next as next
 use Rattle.unixmodel.specs.Outcome.{end_process}
+use Rattle.unixmodel.specs.Process.{is_zombie_mode}
 use Rattle.unixmodel.specs.State.{State, put_process}
 
 -- none runs: the state has the table as it is
@@ -51,7 +54,7 @@ module _ (k : Kernel) (i : ℕ) (p : Process) (h : Held) (is : IsKernel k) (idle
       let there : slot (loaded k).places i ≡ Some p = ap (λ t. slot t.places i) table-idle ∙ process in
       let pids : halted_by (slot k.table.places i) ≡ halted_by (Some p) = ap halted_by process in
       let alone : (j : ℕ) → j ≢ i → is_at j k.spaces.active ≡ false = λ j other. ap (is_at j) idle in
-      ended-state k is z a i p h there space pids alone status up ∙ sym (ap state_of (ended-is k is z a i p h there space pids alone status))
+      ended-state k is z a i p h there space pids alone alive status up ∙ sym (ap state_of (ended-is k is z a i p h there space pids alone alive status))
 
   -- ---- it runs
 
@@ -66,7 +69,13 @@ module _ (k : Kernel) (i : ℕ) (p : Process) (h : Held) (is : IsKernel k) (idle
 
   module _ (l : IsLive p) (n : p.killed ≡ false) (up : k.tree.failed ≡ false) where
     q-placed : IsPlaced q h
-    q-placed = record { size = placed.size; zero = placed.zero; aligned = placed.aligned; mode = (record { descriptors = l.descriptors; directory = l.directory }, n) }
+    q-placed = record { size = placed.size; zero = placed.zero; aligned = placed.aligned; mode = (record { descriptors = l.descriptors }, n) }
+
+    home-alive : home_in (Some q) ≡ home_in (Some p)
+    home-alive = go (is_zombie_mode p.mode) refl where
+      go : (b : Bool) → is_zombie_mode p.mode ≡ b → Some p.directory ≡ (if b then None else Some p.directory)
+      go true e = absurd (let bad : false ≡ true = sym (ap not e) ∙ alive in cc)
+      go false e = refl
 
     pub started-run : IsRun started_to i q h
     started-run = record { active = refl; process = slot-put k.table.places i (Some q) short; space = space; placed = q-placed; runs = refl; up = up }
@@ -77,7 +86,7 @@ module _ (k : Kernel) (i : ℕ) (p : Process) (h : Held) (is : IsKernel k) (idle
       spaces = is.spaces;
       stands = stands-put k.table.places k.spaces.places i (Some q) short (rw space q-placed) is.stands;
       runs = runs-set k.table.places i (Some q) k.spaces.active (Some i) short (sym (eq-self i)) (λ j other. other-at i j other ∙ sym (ap (is_at j) idle)) is.runs;
-      filed = started-filed up is.filed;
+      filed = filed-as (filed-put is.filed i (Some q) (home-alive ∙ sym (ap home_in process))) (Some i) (λ j e. up);
       fits = is.fits;
       opened = opened-put k.files k.spaces.pipes k.table.places i (Some q) (sym (ap descriptors_in process)) tt is.opened;
     }

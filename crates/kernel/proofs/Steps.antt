@@ -4,11 +4,11 @@ use Rattle.std.specs.Prelude.{IfNone, IfSome, slice_index, unwrap_or}
 use Rattle.kernel.specs.Descriptors.{descriptors_in}
 use Rattle.kernel.specs.Kernel.{Kernel, blocked, computed, descriptors_at, left_as}
 use Rattle.tree.specs.Tree.{FileTree}
-use Rattle.kernel.specs.Sound.{IsAwaiting, IsFiled, IsKernel, failed-filed, IsPending, IsPlaced}
+use Rattle.kernel.specs.Sound.{IsAwaiting, IsFiled, IsKernel, IsPending, IsPlaced}
+use Rattle.kernel.proofs.Holding.{failed-filed}
 use Rattle.kernel.proofs.Leaving.{stops-kernel, waits-kernel}
 use Rattle.kernel.proofs.Runs.{IsRun, moved, moved-kernel, run-of, set-slot}
 use Rattle.kernel.proofs.Running.{live, not-killed, runs-mode}
-use Rattle.files.specs.Places.{opens_of}
 use Rattle.proc.specs.declared.process.Process.{Process}
 use Rattle.spaces.specs.Spaces as spaces
 use Rattle.spaces.specs.Spaces.{Held, Spaces, held_at, no_pages, taken_frames}
@@ -24,19 +24,19 @@ pub stop-keeps : (k : Kernel) (i : ℕ) → IsKernel k → k.spaces.active ≡ S
 stop-keeps k i is active z a = let run = run-of k i is active in stops-kernel k i run.0 run.1.0 run.1.1 is z a
 
 pub block-keeps : (k : Kernel) (i : ℕ) (w : Pending) → IsKernel k → k.spaces.active ≡ Some i → slice_index k.spaces.registers 0 ≡ 0 → k.spaces.pc % 4 ≡ 0
-    → IsPending (descriptors_at k i) (held_at k.spaces i).memory w w.number → IsAwaiting (opens_of k.files) (descriptors_at k i) w → IsKernel (blocked k i w)
+    → IsPending (descriptors_at k i) (held_at k.spaces i).memory w w.number → IsAwaiting k.files (descriptors_at k i) w → IsKernel (blocked k i w)
 block-keeps k i w is active z a pending for =
     let run = run-of k i is active in
     let held : held_at k.spaces i ≡ run.1.0 = ap (λ o. unwrap_or o no_pages) run.1.1.space in
     waits-kernel k i run.0 run.1.0 run.1.1 is z a w (rw (held, ap descriptors_in run.1.1.process) at pending) (rw (ap descriptors_in run.1.1.process) at for)
 
 -- where the device fails none runs any more
-pub with-tree : (k : Kernel) (t : FileTree) → IsKernel k → IsFiled t k.spaces.active → IsKernel (record k { tree = t })
+pub with-tree : (k : Kernel) (t : FileTree) → IsKernel k → IsFiled t k.files k.table.places k.spaces.active → IsKernel (record k { tree = t })
 with-tree k t is filed = record { all = is.all; spaces = is.spaces; stands = is.stands; runs = is.runs; fits = is.fits; opened = is.opened; filed = filed }
 
 pub fail-keeps : (k now : Kernel) (i : ℕ) (t : FileTree) → k ≡ now → IsKernel now → now.spaces.active ≡ Some i → slice_index now.spaces.registers 0 ≡ 0 → now.spaces.pc % 4 ≡ 0 → t.failed ≡ true → IsKernel (record (left_as k i Ready) { tree = t })
 fail-keeps k now i t same is active z a down =
-    with-tree (left_as k i Ready) t (subst (λ (x : Kernel). IsKernel (left_as x i Ready)) (sym same) (stop-keeps now i is active z a)) (failed-filed down)
+    with-tree (left_as k i Ready) t (subst (λ (x : Kernel). IsKernel (left_as x i Ready)) (sym same) (stop-keeps now i is active z a)) (failed-filed k.files (left_as k i Ready).table.places down)
 
 -- ---- an instruction
 
@@ -59,7 +59,7 @@ module _ (k : Kernel) (i : ℕ) (p : Process) (h : Held) (r : IsRun k i p h) (is
 
     pub computed-kernel : taken_frames (computed k i d).spaces ≤ k.spaces.frames → IsKernel (computed k i d)
     computed-kernel fits =
-        rw computed-is (moved-kernel k i p h r is p (record h { memory = memory_after h.memory d.change }) d.regs d.pc (placed-with (memory_after h.memory d.change)) r.runs refl (subst (λ (x : Kernel). taken_frames x.spaces ≤ k.spaces.frames) computed-is fits))
+        rw computed-is (moved-kernel k i p h r is p (record h { memory = memory_after h.memory d.change }) d.regs d.pc (placed-with (memory_after h.memory d.change)) r.runs refl refl (subst (λ (x : Kernel). taken_frames x.spaces ≤ k.spaces.frames) computed-is fits))
 
 execute-ends : (k : Kernel) (i : ℕ) (new : Spaces) (result : Option Trap) → IsKernel k → k.spaces.active ≡ Some i → taken_frames new ≤ new.frames
     → IfNone result (IfSome (Some i) (λ at. (d : Computed) × (cycle k.spaces.registers k.spaces.pc (held_at k.spaces at).memory ≡ Ok d) × (new ≡ spaces.computed k.spaces at d)))

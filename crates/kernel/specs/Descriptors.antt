@@ -1,11 +1,12 @@
 -- What the descriptors of processes name, and how open files gain and lose them.
 use Rattle.std.specs.Prelude.{List, None, Option, Some, [], if◌then◌else◌, sum_by, ℕ, ◌∷◌, ◌≡◌}
 use Rattle.files.specs.Counts.{names}
+use Rattle.files.specs.declared.file.Target.{Target}
+use Rattle.files.specs.declared.file.Target.TheVariants as target
 use Rattle.files.specs.Places.{Counted, closed, count_at, has_pipe, shared}
 use Rattle.proc.specs.declared.process.Process.{Process}
 use Rattle.unixmodel.specs.Files.{clear}
-use Rattle.unixmodel.specs.OpenFiles.{OpenFile, Target}
-use Rattle.unixmodel.specs.OpenFiles.Target.{OnNode, OnPipe}
+use Rattle.unixmodel.specs.OpenFiles.{OpenFile}
 use Rattle.unixmodel.specs.Reap.{kept}
 
 abbrev pub descriptors_in : Option Process → List (Option ℕ)
@@ -55,5 +56,7 @@ standing pipes opens = kept (λ q pipe. has_pipe opens q) 0 pipes
 -- the pipes where an end was closed for the last time: with the last end of all the pipe goes
 abbrev pub after_close : List (Option (List ℕ)) → List (Option OpenFile) → Option Target → List (Option (List ℕ))
 after_close pipes opens None = pipes
-after_close pipes opens (Some (OnNode number offset)) = pipes
-after_close pipes opens (Some (OnPipe q end)) = if has_pipe opens q then pipes else clear pipes q
+after_close pipes opens (Some (target.File number offset)) = pipes
+after_close pipes opens (Some (target.Console number)) = pipes
+after_close pipes opens (Some (target.Device number)) = pipes
+after_close pipes opens (Some (target.Pipe q end)) = if has_pipe opens q then pipes else clear pipes q

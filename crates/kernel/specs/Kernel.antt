@@ -1,6 +1,7 @@
 -- A kernel of many processes, as plain values, and the state of the abstract Unix that it stands for.
-use Rattle.std.specs.Prelude.{Bool, List, None, Option, Some, [], if◌then◌else◌, map, not, slice_index, slice_set, ℕ, ℤ, ◌%◌, ◌+◌, ◌==◌, ◌^◌}
+use Rattle.std.specs.Prelude.{Bool, List, None, Option, Some, [], if◌then◌else◌, map, not, slice_index, slice_set, ℕ, ℤ, ◌%◌, ◌+◌, ◌++◌, ◌==◌, ◌^◌, ◌∷◌}
 use Rattle.kernel.specs.Descriptors.{all_closed, descriptors_in, standing}
+use Rattle.kernel.specs.Holding.{all_dropped, gone_nodes}
 use Rattle.files.specs.Places.{Counted, opens_of}
 use Rattle.proc.specs.declared.process.Process.{Process}
 use Rattle.proc.specs.Places.{Places, changed, changed_at, exited, with_mark, with_mode}
@@ -32,6 +33,10 @@ pub record Kernel : Type 0 where
   pub ticks : ℕ
   -- the status of process 1, once it has ended
   pub halted : Option ℤ
+
+-- the count of the device's failures is another
+abbrev pub counting : Kernel → ℕ → Kernel
+counting k failures = record k { tree = record k.tree { failures = failures } }
 
 -- a kernel over processes, their spaces and their open files, as it begins
 abbrev pub begun : FileTree → Places → Spaces → List (Option Counted) → Kernel
@@ -174,9 +179,20 @@ halted_by (Some p) status halted = if p.pid == 1 then Some status else halted
 abbrev pub left_files : Kernel → ℕ → List (Option Counted)
 left_files k i = all_closed k.files (descriptors_at k i)
 
--- process i, which ran, or where none runs, has ended: its descriptors are closed, and a pipe that has no end any more goes
+-- the directory that process i leaves
+abbrev pub left_home : Option Process → List ℕ
+left_home None = []
+left_home (Some p) = p.directory ∷ []
+
+-- the nodes that process i lets go
+abbrev pub left_nodes : Kernel → ℕ → List ℕ
+left_nodes k i = gone_nodes k.files (descriptors_at k i) ++ left_home (slot k.table.places i)
+
+-- process i, which ran, or where none runs, has ended: its descriptors are closed, a pipe that has no end any more goes, and so does
+-- a node without links that nobody holds any more
 abbrev pub ended : Kernel → ℕ → ℤ → Kernel
 ended k i status = record k {
+  tree = all_dropped k.tree (left_nodes k i);
   table = exited (loaded k) i status;
   spaces = record (idle k.spaces) { pipes = standing k.spaces.pipes (opens_of (left_files k i)) };
   files = left_files k i;

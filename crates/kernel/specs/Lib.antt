@@ -1,4 +1,5 @@
 pub mod Descriptors
+pub mod Holding
 pub mod Kernel
 pub mod Sound
 pub mod View

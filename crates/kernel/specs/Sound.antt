@@ -3,7 +3,11 @@ use Rattle.std.specs.Prelude.{Bool, IfSome, List, None, Option, Some, false, is_
 use Rattle.kernel.specs.Descriptors.{IsCounted}
 use Rattle.kernel.specs.Kernel.{Kernel, lives}
 use Rattle.files.specs.Pipes.{IsPiped}
-use Rattle.files.specs.Places.{Counted, IsTable, opens_of}
+use Rattle.files.specs.declared.file.OpenFile.{OpenFile}
+use Rattle.files.specs.declared.file.Target.{Target}
+use Rattle.files.specs.declared.file.Target.TheVariants as target
+use Rattle.files.specs.Places.{Counted, IsTable, file_at, opens_of}
+use Rattle.kernel.specs.Holding.{IsInUse}
 use Rattle.proc.specs.declared.process.Process.{Process}
 use Rattle.proc.specs.Places.{is_running}
 use Rattle.spaces.specs.Spaces.{Held, taken_frames}
@@ -16,12 +20,11 @@ use Rattle.unixmodel.specs.FileCalls.{pipe_end}
 use Rattle.unixmodel.specs.Files.{slot}
 use Rattle.unixmodel.specs.Memory.{Memory, can_write, read_bytes}
 use Rattle.unixmodel.specs.Numbers.{low}
-use Rattle.unixmodel.specs.OpenFiles.{OpenFile, Target}
+use Rattle.unixmodel.specs.OpenFiles as unix
 use Rattle.unixmodel.specs.OpenFiles.Target.{OnNode, OnPipe}
 use Rattle.unixmodel.specs.Outcome.{no_descriptors, pending_arg}
 use Rattle.unixmodel.specs.Process.{is_zombie_mode}
 use Rattle.tree.specs.Tree.{FileTree}
-use Rattle.unixmodel.specs.Start.{flat_files}
 use Rattle.unixmodel.specs.State.{holds}
 
 -- a status can be written there: at no address, or in 4 bytes that may be written
@@ -50,7 +53,6 @@ IsPending descriptors memory w _ = ⊥
 
 pub record IsLive (p : Process) : Type 0 where
   pub descriptors : length p.descriptors ≡ 16
-  pub directory : p.directory ≡ 1
 
 pub record IsEnded (p : Process) : Type 0 where
   pub descriptors : p.descriptors ≡ no_descriptors
@@ -83,50 +85,61 @@ is_at i (Some j) = j == i
 
 -- ---- open files
 
--- the console, as a node of the files
-abbrev pub console_file : OpenFile
-console_file = record { target = OnNode 2 0; readable = true; writable = true }
-
--- what open files there are: the console, and ends of pipes
-abbrev pub IsOpenOn : OpenFile → Target → Type 0
-IsOpenOn f (OnNode n offset) = f ≡ console_file
+-- what holds of an open file beside the node that it is on: an end of a pipe is open for its side alone
+abbrev pub IsOpenOn : unix.OpenFile → unix.Target → Type 0
+IsOpenOn f (OnNode n offset) = Unit {0}
 IsOpenOn f (OnPipe q end) = f ≡ pipe_end q end
 
-abbrev pub IsOpenFile : OpenFile → Type 0
+abbrev pub IsOpenFile : unix.OpenFile → Type 0
 IsOpenFile f = IsOpenOn f f.target
 
 -- ---- who waits in a read or a write
 
 abbrev pub is_on_pipe : Target → Bool
-is_on_pipe (OnNode n offset) = false
-is_on_pipe (OnPipe q end) = true
+is_on_pipe (target.File number offset) = false
+is_on_pipe (target.Console number) = false
+is_on_pipe (target.Device number) = false
+is_on_pipe (target.Pipe pipe end) = true
+
+-- a call may wait for the console and for a pipe
+abbrev pub is_awaited : Target → Bool
+is_awaited (target.File number offset) = false
+is_awaited (target.Console number) = true
+is_awaited (target.Device number) = false
+is_awaited (target.Pipe pipe end) = true
 
 -- the open file that a descriptor names
-abbrev pub file_named : List (Option OpenFile) → List (Option ℕ) → ℕ → Option OpenFile
-file_named opens descriptors d = option_and_then (slot opens) (slot descriptors d)
+abbrev pub file_named : List (Option Counted) → List (Option ℕ) → ℕ → Option OpenFile
+file_named opens descriptors d = option_and_then (file_at opens) (slot descriptors d)
 
--- a write waits for a pipe alone, and never for the console
-abbrev pub IsForPipe : List (Option OpenFile) → List (Option ℕ) → Pending → Type 0
+-- a write waits for a pipe alone
+abbrev pub IsForPipe : List (Option Counted) → List (Option ℕ) → Pending → Type 0
 IsForPipe opens descriptors w =
     w.number ≡ Write → IfSome (file_named opens descriptors (low (pending_arg w 0))) (λ f. is_on_pipe f.target ≡ true)
 
+-- a read waits for the console or a pipe
+abbrev pub IsForBytes : List (Option Counted) → List (Option ℕ) → Pending → Type 0
+IsForBytes opens descriptors w =
+    w.number ≡ Read → IfSome (file_named opens descriptors (low (pending_arg w 0))) (λ f. is_awaited f.target ≡ true)
+
 -- a read of a pipe waits only while it has taken nothing
-abbrev pub IsFresh : List (Option OpenFile) → List (Option ℕ) → Pending → Type 0
+abbrev pub IsFresh : List (Option Counted) → List (Option ℕ) → Pending → Type 0
 IsFresh opens descriptors w =
     w.number ≡ Read → IfSome (file_named opens descriptors (low (pending_arg w 0))) (λ f. is_on_pipe f.target ≡ true → w.done ≡ 0)
 
-pub record IsAwaiting (opens : List (Option OpenFile)) (descriptors : List (Option ℕ)) (w : Pending) : Type 0 where
+pub record IsAwaiting (opens : List (Option Counted)) (descriptors : List (Option ℕ)) (w : Pending) : Type 0 where
   pub write : IsForPipe opens descriptors w
-  pub read : IsFresh opens descriptors w
+  pub read : IsForBytes opens descriptors w
+  pub fresh : IsFresh opens descriptors w
 
-abbrev pub WaitsAs : List (Option OpenFile) → List (Option ℕ) → Mode → Type 0
+abbrev pub WaitsAs : List (Option Counted) → List (Option ℕ) → Mode → Type 0
 WaitsAs opens descriptors Running = Unit {0}
 WaitsAs opens descriptors Ready = Unit {0}
 WaitsAs opens descriptors (Waiting w) = IsAwaiting opens descriptors w
 WaitsAs opens descriptors (Zombie status) = Unit {0}
 
 -- the process of a place, if it waits, waits as a read or a write may
-abbrev pub WaitsWell : List (Option OpenFile) → Option Process → Type 0
+abbrev pub WaitsWell : List (Option Counted) → Option Process → Type 0
 WaitsWell opens None = Unit {0}
 WaitsWell opens (Some p) = WaitsAs opens p.descriptors p.mode
 
@@ -135,29 +148,17 @@ WaitsWell opens (Some p) = WaitsAs opens p.descriptors p.mode
 pub record IsOpened (files : List (Option Counted)) (pipes : List (Option (List ℕ))) (places : List (Option Process)) : Type 0 where
   pub table : IsTable files
   pub counted : IsCounted files places
-  pub each : (n : ℕ) (f : OpenFile) → slot (opens_of files) n ≡ Some f → IsOpenFile f
+  pub each : (n : ℕ) (f : unix.OpenFile) → slot (opens_of files) n ≡ Some f → IsOpenFile f
   pub all : length pipes ≡ 100
   pub piped : IsPiped pipes (opens_of files)
-  pub waits : (i : ℕ) → WaitsWell (opens_of files) (slot places i)
+  pub waits : (i : ℕ) → WaitsWell files (slot places i)
 
 -- ---- files
 
--- a process runs only while no access of the device has failed; until then the files are those of a disk with a console alone
-pub record IsFiled (t : FileTree) (active : Option ℕ) : Type 0 where
+-- a process runs only while no access of the device has failed; until then the files are in use
+pub record IsFiled (t : FileTree) (opens : List (Option Counted)) (places : List (Option Process)) (active : Option ℕ) : Type 0 where
   pub up : (i : ℕ) → active ≡ Some i → t.failed ≡ false
-  pub flat : t.failed ≡ false → t.files ≡ flat_files
-  pub limit : t.failed ≡ false → t.block_limit ≡ 27
-
--- where none runs, and where one does while no access has failed
-pub idle-filed : {t : FileTree} {active : Option ℕ} → IsFiled t active → IsFiled t None
-idle-filed is = record { up = λ i e. absurd (cc); flat = is.flat; limit = is.limit }
-
-pub started-filed : {t : FileTree} {active : Option ℕ} {i : ℕ} → t.failed ≡ false → IsFiled t active → IsFiled t (Some i)
-started-filed up is = record { up = λ j e. up; flat = is.flat; limit = is.limit }
-
--- an access has failed, and none runs
-pub failed-filed : {t : FileTree} → t.failed ≡ true → IsFiled t None
-failed-filed down = record { up = λ i e. absurd (cc); flat = λ up. absurd (cc); limit = λ up. absurd (cc) }
+  pub used : t.failed ≡ false → IsInUse t opens places
 
 -- ---- the kernel
 
@@ -169,7 +170,7 @@ pub record IsKernel (k : Kernel) : Type 0 where
   pub runs : (i : ℕ) → holds is_running (slot k.table.places i) ≡ is_at i k.spaces.active
   pub fits : taken_frames k.spaces ≤ k.spaces.frames
   pub opened : IsOpened k.files k.spaces.pipes k.table.places
-  pub filed : IsFiled k.tree k.spaces.active
+  pub filed : IsFiled k.tree k.files k.table.places k.spaces.active
 
 -- a process that may run: it has not ended, and is not killed
 abbrev pub CanRun : Option Process → Type 0

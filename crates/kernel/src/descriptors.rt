@@ -1,13 +1,18 @@
 //! The open files that the descriptors of a process name.
-ghost use Rattle.std.specs.Prelude.{◌≡◌, ◌<◌, ◌≤◌, ℕ, IfSome, count_by, is_none};
+ghost use Rattle.std.specs.Prelude.{◌≡◌, ◌<◌, ◌≤◌, ℕ, IfSome, count_by, false, is_none, length};
 ghost use Rattle.kernel.specs.Descriptors.{after_close, all_closed, all_shared, standing};
+ghost use Rattle.kernel.specs.Holding.{AreHeld, all_dropped, gone_nodes, last_node};
 ghost use Rattle.files.specs.Pipes.{IsPiped};
 ghost use Rattle.files.specs.Places.{closed, count_at, last_target, opens_of};
+ghost use Rattle.tree.specs.Tree.{Serves};
 ghost use Rattle.unixmodel.specs.Files.{free_slot, slot};
 
+use arrayvec::ArrayVec;
+use blockdev::{BlockDev, DeviceFault};
 use files::{Files, Target};
 use spaces::Spaces;
 use sv39::Translate;
+use tree::Tree;
 
 /// The open file that a descriptor names.
 pub fn named(descriptors: &[Option<u8>; 16], descriptor: u32) -> Option<u8>
@@ -49,32 +54,62 @@ pub fn share_all(files: &mut Files, descriptors: &[Option<u8>; 16])
     }
 }
 
-/// One descriptor of an open file is closed, and a pipe that has no end any more goes.
-pub fn close<T: Translate + Drop>(files: &mut Files, spaces: &mut Spaces<T>, id: usize)
+/// One descriptor of an open file is closed, and a pipe that has no end any more goes. Where it was the last one of an open file
+/// on a node, that is told.
+pub fn close<T: Translate + Drop>(
+    files: &mut Files,
+    spaces: &mut Spaces<T>,
+    id: usize,
+) -> Option<u32>
     requires { IsPiped spaces.old.pipes (opens_of files.old) }
+    ensures node { result ≡ last_node files.old id }
     ensures files { files.new ≡ closed files.old id }
     ensures pipes { spaces.new ≡ record spaces.old { pipes = after_close spaces.old.pipes (opens_of (closed files.old id)) (last_target files.old id) } }
 {
-    if let Some(Target::Pipe { pipe, .. }) = files.close(id) {
-        if !files.has_pipe(pipe) {
-            spaces.destroy_pipe(pipe);
+    match files.close(id)? {
+        Target::Pipe { pipe, .. } => {
+            if !files.has_pipe(pipe) {
+                spaces.destroy_pipe(pipe);
+            }
+            None
+        }
+        Target::File { number, .. } | Target::Console { number } | Target::Device { number } => {
+            Some(number)
         }
     }
 }
 
-/// The descriptors are closed, and a pipe that has no end any more goes.
+/// The descriptors are closed, and a pipe that has no end any more goes. The nodes of the open files that go are told.
 pub fn close_all<T: Translate + Drop>(
     files: &mut Files,
     spaces: &mut Spaces<T>,
     descriptors: &[Option<u8>; 16],
-)
+) -> ArrayVec<u32, 17>
     requires { IsPiped spaces.old.pipes (opens_of files.old) }
+    ensures nodes { result.items ≡ gone_nodes files.old descriptors.now }
+    ensures few { length result.items ≤ 16 }
     ensures files { files.new ≡ all_closed files.old descriptors.now }
     ensures pipes { spaces.new ≡ record spaces.old { pipes = standing spaces.old.pipes (opens_of files.new) } }
 {
+    let mut gone = ArrayVec::new();
     for descriptor in descriptors {
         if let Some(id) = descriptor {
-            close(files, spaces, usize::from(*id));
+            if let Some(node) = close(files, spaces, usize::from(*id)) {
+                gone.push(node);
+            }
         }
     }
+    gone
+}
+
+/// Those that held these nodes let go, one after the other.
+pub fn let_go<D: BlockDev>(tree: &mut Tree<D>, nodes: &[u32]) -> Result<(), DeviceFault>
+    requires up { tree.old.failed ≡ false }
+    requires held { AreHeld tree.old nodes.now }
+    ensures { Serves tree.old tree.new result (λ done. tree.new ≡ record (all_dropped tree.old nodes.now) { failures = tree.new.failures }) }
+{
+    for node in nodes {
+        tree.drop_hold(*node as usize)?;
+    }
+    Ok(())
 }

@@ -3,14 +3,15 @@ ghost use Rattle.std.specs.Prelude.{false, ◌≡◌, ◌≢◌, ◌+◌, ◌<�
 ghost use Rattle.std.specs.Prelude.{if◌then◌else◌, ◌==◌, option_map, OnOk, OnErr, Ok, Err};
 ghost use Rattle.std.specs.Io.KnownBytes.{Appends};
 ghost use Rattle.std.specs.Option.{option_copied};
-ghost use Rattle.kernel.specs.Kernel.{answered, argument, begun, blocked, computed, descriptors_at, ended, entered, left_as, loaded, marked, on_hart, picked, started, state_of, ticked, typed};
+ghost use Rattle.kernel.specs.Kernel.{answered, argument, begun, blocked, computed, counting, descriptors_at, ended, entered, idle, left_as, loaded, marked, on_hart, picked, started, state_of, ticked, typed};
 ghost use Rattle.kernel.specs.Sound.{CanRun, IsAwaiting, IsKernel, IsPending, can_answer};
 ghost use Rattle.kernel.specs.Sound.{CanEnd};
 ghost use Rattle.console.specs.Output.{AppendsBeginning};
 ghost use Rattle.files.specs.Meant.{end_of, target_of};
 ghost use Rattle.files.specs.Places.{has_end, opens_of};
-ghost use Rattle.proc.specs.Places.{has_pid, place_where};
+ghost use Rattle.proc.specs.Places.{changed, has_pid, place_where, with_mode};
 ghost use Rattle.spaces.specs.Spaces.{held_at};
+ghost use Rattle.tree.specs.Tree.{Serves};
 ghost use Rattle.unixmodel.specs.Console.{key};
 ghost use Rattle.unixmodel.specs.Cycle.{cycle};
 ghost use Rattle.unixmodel.specs.Failures.{Rises};
@@ -24,9 +25,9 @@ ghost use Rattle.unixmodel.specs.declared.process.Mode.TheVariants.{Ready};
 
 mod show;
 
-use crate::descriptors::{close_all, named};
+use crate::descriptors::{close_all, let_go, named};
 use crate::ready::Awaited;
-use blockdev::BlockDev;
+use blockdev::{BlockDev, DeviceFault};
 use console::{Console, Out, OutFault};
 use files::{End, Files, Target};
 use proc::{Process, Table};
@@ -75,6 +76,23 @@ fn halted_after(pid: u32, status: i32, halted: Option<i32>) -> Option<i32>
     ensures { result ≡ (if pid == 1 then Some status else halted) }
 {
     if pid == 1 { Some(status) } else { halted }
+}
+
+// The process that ran, in a place, runs no more.
+fn leave<T: Translate + Drop>(table: &mut Table, spaces: &mut Spaces<T>, at: usize, mode: Mode)
+    ensures table { table.new ≡ changed table.old at (λ p. with_mode mode (on_hart spaces.old p)) }
+    ensures spaces { spaces.new ≡ idle spaces.old }
+{
+    table.leave(at, spaces.registers(), spaces.pc(), mode);
+    spaces.deactivate();
+}
+
+/// The process that ran, in a place, runs no more, and is ready: for a call that a failed access of the device broke off.
+pub fn stop<T: Translate + Drop>(table: &mut Table, spaces: &mut Spaces<T>, at: usize)
+    ensures table { table.new ≡ changed table.old at (λ p. with_mode Ready (on_hart spaces.old p)) }
+    ensures spaces { spaces.new ≡ idle spaces.old }
+{
+    leave(table, spaces, at, Mode::Ready);
 }
 
 impl<D: BlockDev, T: Translate + Drop> Kernel<D, T> {
@@ -217,16 +235,14 @@ impl<D: BlockDev, T: Translate + Drop> Kernel<D, T> {
         requires { IsKernel (left_as self.old at mode) }
         ensures { self.new ≡ left_as self.old at mode }
     {
-        self.table
-            .leave(at, self.spaces.registers(), self.spaces.pc(), mode);
-        self.spaces.deactivate();
+        leave(&mut self.table, &mut self.spaces, at, mode);
     }
 
     /// The running process waits.
     pub fn block(&mut self, at: usize, pending: Pending)
         requires running { self.old.spaces.active ≡ Some at }
         requires pending { IsPending (descriptors_at self.old at) (held_at self.old.spaces at).memory pending pending.number }
-        requires awaits { IsAwaiting (opens_of self.old.files) (descriptors_at self.old at) pending }
+        requires awaits { IsAwaiting self.old.files (descriptors_at self.old at) pending }
         ensures { self.new ≡ blocked self.old at pending }
     {
         self.is_sound();
@@ -245,21 +261,24 @@ impl<D: BlockDev, T: Translate + Drop> Kernel<D, T> {
         }
     }
 
-    /// The running process ends with this status, or a process where none runs.
+    /// The running process ends with this status, or a process where none runs. Where an access of the device fails, none runs.
     #[inline(never)]
-    pub fn finish(&mut self, at: usize, status: i32)
+    pub fn finish(&mut self, at: usize, status: i32) -> Result<(), DeviceFault>
         requires { CanEnd self.old at }
-        ensures { self.new ≡ ended self.old at status }
+        ensures { Serves self.old.tree self.new.tree result (λ done. self.new ≡ counting (ended self.old at status) self.new.tree.failures) }
     {
         self.is_sound();
-        if let Some(process) = self.whole(at) {
-            let halted = halted_after(process.pid, status, self.halted);
-            close_all(&mut self.files, &mut self.spaces, &process.descriptors);
-            self.table.put(at, process);
-            self.table.exit(at, status);
-            self.spaces.deactivate();
-            self.halted = halted;
-        }
+        let Some(process) = self.whole(at) else {
+            unreachable!()
+        };
+        let halted = halted_after(process.pid, status, self.halted);
+        let mut nodes = close_all(&mut self.files, &mut self.spaces, &process.descriptors);
+        nodes.push(process.directory);
+        self.table.put(at, process);
+        self.table.exit(at, status);
+        self.spaces.deactivate();
+        self.halted = halted;
+        let_go(&mut self.tree, nodes.as_slice())
     }
 
     /// Picks the process whose turn it is; `None`: none is ready.

@@ -6,5 +6,5 @@ mod kernel;
 pub mod numbers;
 mod ready;
 
-pub use kernel::Kernel;
+pub use kernel::{Kernel, stop};
 pub use ready::has_slept;

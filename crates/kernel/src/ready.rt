@@ -57,7 +57,9 @@ impl<T: Translate + Drop> Awaited<'_, T> {
         ensures { result ≡ can_read_from (awaited self.now) (target_of target) }
     {
         match target {
-            Target::Node { .. } => self.console.can_take(),
+            Target::File { .. } | Target::Console { .. } | Target::Device { .. } => {
+                self.console.can_take()
+            }
             Target::Pipe { pipe, .. } => {
                 self.spaces.has_bytes(pipe) || !self.files.has_end(pipe, End::Write)
             }
@@ -70,7 +72,7 @@ impl<T: Translate + Drop> Awaited<'_, T> {
         ensures { result ≡ can_write_to (awaited self.now) (target_of target) }
     {
         match target {
-            Target::Node { .. } => true,
+            Target::File { .. } | Target::Console { .. } | Target::Device { .. } => true,
             Target::Pipe { pipe, .. } => {
                 self.spaces.has_room(pipe) || !self.files.has_end(pipe, End::Read)
             }

@@ -2,13 +2,18 @@
 use files::{End, FileFault, Files, OpenFile, PLACES, Target};
 use std::process::Abort;
 
-// A node that is open for reading and writing.
-fn node(number: u32) -> OpenFile {
+// What is open for reading and writing.
+fn both(target: Target) -> OpenFile {
     OpenFile {
-        target: Target::Node { number, offset: 0 },
+        target,
         readable: true,
         writable: true,
     }
+}
+
+// A file that is open for reading and writing.
+fn node(number: u32) -> OpenFile {
+    both(Target::File { number, offset: 0 })
 }
 
 // An end of a pipe.
@@ -28,6 +33,8 @@ enum Row {
     File(usize, Option<OpenFile>),
     Read(usize, Result<Target, FileFault>),
     Write(usize, Result<Target, FileFault>),
+    Stat(usize, Result<u32, FileFault>),
+    Move(usize, u32),
     HasEnd(usize, End, bool),
     HasPipe(usize, bool),
 }
@@ -39,6 +46,11 @@ fn holds(files: &mut Files, row: Row) -> bool {
         Row::File(id, answer) => files.file(id) == answer,
         Row::Read(id, answer) => files.read(id) == answer,
         Row::Write(id, answer) => files.write(id) == answer,
+        Row::Stat(id, answer) => files.stat(id) == answer,
+        Row::Move(id, offset) => {
+            files.set_offset(id, offset);
+            true
+        }
         Row::HasEnd(pipe, end, answer) => files.has_end(pipe, end) == answer,
         Row::HasPipe(pipe, answer) => files.has_pipe(pipe) == answer,
     }
@@ -119,6 +131,62 @@ fn is_read_and_written_as_it_was_opened(rt: HostRuntime) {
             Row::Write(1, Ok(to.target)),
             Row::Read(2, Err(FileFault::NotReadable)),
             Row::Write(100, Err(FileFault::NotWritable)),
+        ],
+    );
+}
+
+#[test]
+fn is_served_as_what_its_node_is(rt: HostRuntime) {
+    let mut files = Files::new();
+    let (file, pipe) = (node(9), end(3, End::Read));
+    let (console, device) = (Target::Console { number: 2 }, Target::Device { number: 5 });
+    expect(
+        &rt,
+        &mut files,
+        &[
+            Row::Open(file, Ok(0)),
+            Row::Open(both(console), Ok(1)),
+            Row::Open(both(device), Ok(2)),
+            Row::Open(pipe, Ok(3)),
+            Row::Stat(0, Ok(9)),
+            Row::Stat(1, Ok(2)),
+            Row::Stat(2, Ok(5)),
+            Row::Stat(3, Err(FileFault::NoFile)),
+            Row::Stat(4, Err(FileFault::NoFile)),
+            Row::Write(1, Ok(console)),
+            Row::Read(2, Err(FileFault::BadDevice)),
+            Row::Write(2, Err(FileFault::BadDevice)),
+        ],
+    );
+}
+
+#[test]
+fn goes_on_from_an_offset(rt: HostRuntime) {
+    let mut files = Files::new();
+    let (moved, pipe) = (
+        Target::File {
+            number: 9,
+            offset: 25601,
+        },
+        end(3, End::Read),
+    );
+    let console = both(Target::Console { number: 2 });
+    expect(
+        &rt,
+        &mut files,
+        &[
+            Row::Open(node(9), Ok(0)),
+            Row::Open(console, Ok(1)),
+            Row::Open(pipe, Ok(2)),
+            Row::Move(0, 25601),
+            Row::Move(1, 7),
+            Row::Move(2, 7),
+            Row::Move(3, 7),
+            Row::Read(0, Ok(moved)),
+            Row::File(1, Some(console)),
+            Row::File(2, Some(pipe)),
+            Row::File(3, None),
+            Row::Close(0, Some(moved)),
         ],
     );
 }

@@ -1,6 +1,9 @@
 //! Memories for rows, and what accesses to them need.
 ghost use Rattle.std.specs.Prelude.{◌≡◌, ◌≤◌, length};
+ghost use Rattle.std.specs.List.{range_with_len};
+ghost use Rattle.frames.specs.Free.{free_of, IsFreeList};
 
+use frames::Frames;
 use ram::{FrameNo, Ram};
 use std::process::Abort;
 
@@ -20,6 +23,15 @@ pub fn memory(rt: &(impl Abort + AllocGlobal), count: u32) -> Ram
     let ram = Ram::new(rt.alloc(), count).expect(rt, "memory");
     has_frames(rt, &ram, count);
     ram
+}
+
+/// The frames of a memory, all free.
+pub fn all_free(rt: &(impl Abort + AllocGlobal), ram: &mut Ram) -> Frames
+    ensures all { free_of ram.new result ≡ range_with_len 0 (length ram.old) }
+    ensures valid { IsFreeList ram.new result }
+    ensures count { length ram.new ≡ length ram.old }
+{
+    Frames::new(rt.alloc(), ram).expect(rt, "counts")
 }
 
 /// Puts numbers of 8 bytes into frames, each at its place.

@@ -1,6 +1,5 @@
 //! Pages that are mapped, walked to and taken out.
-use crate::expected::memory;
-use frames::Frames;
+use crate::expected::{all_free, memory};
 use pagetable::{Full, PageTable, leaf_marks};
 use sv39::{Marks, walk_page};
 use unixmodel::trap::Access;
@@ -8,7 +7,7 @@ use unixmodel::trap::Access;
 #[test]
 fn maps_a_page_and_takes_it_out_again(rt: HostRuntime) {
     let mut ram = memory(&rt, 8);
-    let mut frames = Frames::new(&mut ram);
+    let mut frames = all_free(&rt, &mut ram);
     let Some(frame) = frames.take(&ram) else {
         panic!(rt; "no frame is free")
     };
@@ -34,7 +33,7 @@ fn maps_a_page_and_takes_it_out_again(rt: HostRuntime) {
 #[test]
 fn a_new_table_goes_back(rt: HostRuntime) {
     let mut ram = memory(&rt, 2);
-    let mut frames = Frames::new(&mut ram);
+    let mut frames = all_free(&rt, &mut ram);
     let Some(table) = PageTable::new(&mut ram, &mut frames) else {
         panic!(rt; "no frame is free")
     };
@@ -46,7 +45,7 @@ fn a_new_table_goes_back(rt: HostRuntime) {
 #[test]
 fn shows_a_page_to_the_walk(rt: HostRuntime) {
     let mut ram = memory(&rt, 8);
-    let mut frames = Frames::new(&mut ram);
+    let mut frames = all_free(&rt, &mut ram);
     let Some(frame) = frames.take(&ram) else {
         panic!(rt; "no frame is free")
     };
@@ -84,7 +83,7 @@ fn shows_a_page_to_the_walk(rt: HostRuntime) {
 #[test]
 fn is_full_where_a_table_lacks_a_frame(rt: HostRuntime) {
     let mut ram = memory(&rt, 2);
-    let mut frames = Frames::new(&mut ram);
+    let mut frames = all_free(&rt, &mut ram);
     let Some(frame) = frames.take(&ram) else {
         panic!(rt; "no frame is free")
     };

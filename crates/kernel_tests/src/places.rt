@@ -112,6 +112,30 @@ fn byte(rt: &impl Abort, spaces: &Flat, at: usize, address: u64) -> Option<u8> {
     spaces.readable(at, address).first().copied()
 }
 
+// How long the path at an address is.
+fn path(
+    rt: &impl Abort,
+    spaces: &Flat,
+    at: usize,
+    address: u64,
+    buffer: &mut [u8; 127],
+) -> Option<usize> {
+    expect_space(rt, spaces, at);
+    spaces.copy_path(at, address, buffer)
+}
+
+// And a string, which is to fit in a buffer.
+fn string(
+    rt: &impl Abort,
+    spaces: &Flat,
+    at: usize,
+    address: u64,
+    buffer: &mut [u8],
+) -> Option<usize> {
+    expect_space(rt, spaces, at);
+    spaces.copy_string(at, address, buffer)
+}
+
 // What is done to a place.
 #[derive(Clone, Copy)]
 enum Act {
@@ -145,7 +169,7 @@ fn does(rt: &impl Abort, spaces: &mut Flat, act: Act) -> bool {
 // Spaces in so many frames after these acts; beside each: whether it is done, and how many frames are free then.
 fn after(rt: &(impl Abort + AllocGlobal), frames: u32, acts: &[(Act, bool, u32)]) -> Flat {
     assert!(rt; frames <= 32768);
-    let mut spaces = Spaces::new(memory(rt, frames), Plain::new());
+    let mut spaces = Spaces::new(rt.alloc(), memory(rt, frames), Plain::new()).expect(rt, "counts");
     for (act, done, free) in acts {
         assert!(rt; does(rt, &mut spaces, *act) == *done && spaces.free() == *free);
     }
@@ -212,6 +236,28 @@ fn places_have_pages_of_their_own(rt: HostRuntime) {
     }
 }
 
+#[test]
+fn copies_strings(rt: HostRuntime) {
+    let acts = [(Act::Create(0), true, 60), (Act::Grow(0, 8192), true, 56)];
+    let mut spaces = after(&rt, 64, &acts);
+    let (mut buffer, mut short) = ([0; 127], [0; 126]);
+    // 127 slashes that lie in two pages, and then one more
+    assert!(rt; write(&rt, &mut spaces, 0, 4000, &[b'/'; 127]));
+    for (address, count) in [
+        (4001, Some(126)),
+        (4127, Some(0)),
+        (8192, None),
+        (4000, Some(127)),
+    ] {
+        assert!(rt; path(&rt, &spaces, 0, address, &mut buffer) == count);
+    }
+    assert!(rt; buffer == [b'/'; 127]);
+    assert!(rt; string(&rt, &spaces, 0, 4000, &mut short).is_none());
+    assert!(rt; string(&rt, &spaces, 0, 4001, &mut short) == Some(126));
+    assert!(rt; write(&rt, &mut spaces, 0, 3999, b"/"));
+    assert!(rt; path(&rt, &spaces, 0, 3999, &mut buffer).is_none());
+}
+
 // A page with the program in this place.
 fn load(rt: &impl Abort, spaces: &mut Flat, at: usize) {
     assert!(rt; create(rt, spaces, at));
@@ -226,7 +272,7 @@ fn load(rt: &impl Abort, spaces: &mut Flat, at: usize) {
 
 // The program in places 3 and 4, of which the latter is active.
 fn loaded(rt: &(impl Abort + AllocGlobal)) -> Flat {
-    let mut spaces = Spaces::new(memory(rt, 64), Plain::new());
+    let mut spaces = Spaces::new(rt.alloc(), memory(rt, 64), Plain::new()).expect(rt, "counts");
     load(rt, &mut spaces, 3);
     load(rt, &mut spaces, 4);
     activate(rt, &mut spaces, 4);
@@ -298,7 +344,9 @@ impl Translate for Counting<'_> {
 
 // Spaces of one page in places 0 and 1.
 fn counted<'a>(rt: &(impl Abort + AllocGlobal), fences: &'a Cell<u32>) -> Spaces<Counting<'a>> {
-    let mut spaces = Spaces::new(memory(rt, 64), Counting { fences });
+    let mut spaces = Spaces::new(rt.alloc(), memory(rt, 64), Counting { fences }).expect(
+        rt, "counts",
+    );
     for at in 0..2 {
         assert!(rt; create(rt, &mut spaces, at) && grow(rt, &mut spaces, at, 4096));
     }

@@ -1,7 +1,8 @@
 //! Address spaces that grow, are copied, read and written, and go.
 ghost use Rattle.std.specs.Prelude.{◌≡◌, ◌≤◌, slice_index};
+ghost use Rattle.vm.specs.Space.{IsSpace};
 
-use crate::expected::memory;
+use crate::expected::{all_free, memory};
 use frames::Frames;
 use ram::{FrameNo, Ram};
 use std::marker::Model;
@@ -46,7 +47,7 @@ impl Alone {
         requires { count ≤ 32768 }
     {
         let mut ram = memory(rt, count);
-        let mut frames = Frames::new(&mut ram);
+        let mut frames = all_free(rt, &mut ram);
         let Ok(space) = Space::new(&mut ram, &mut frames) else {
             panic!(rt; "too few frames")
         };
@@ -82,7 +83,8 @@ impl Alone {
     }
 
     fn write(&mut self, address: u64, bytes: &[u8]) -> Result<(), VmFault> {
-        self.space.copy_out(&mut self.ram, address, bytes)
+        self.space
+            .copy_out(&mut self.ram, &mut self.frames, address, bytes)
     }
 
     // Puts four bytes there, whatever the marks of their page.
@@ -91,7 +93,8 @@ impl Alone {
     {
         let size = self.space.size();
         assert!(rt; 4096 <= size);
-        self.space.fill(&mut self.ram, address, bytes);
+        self.space
+            .fill(&mut self.ram, &mut self.frames, address, bytes);
     }
 
     // Saves registers, and gives some of the numbers that the trap frame has then.
@@ -175,7 +178,7 @@ fn gives_back_each_frame(rt: HostRuntime) {
 }
 
 #[test]
-fn copies_into_frames_of_its_own(rt: HostRuntime) {
+fn copies_count_in_full(rt: HostRuntime) {
     let mut alone = Alone::grown(&rt, 16, 4096, DATA);
     alone.fill(&rt, 0, b"old!");
     let Alone {
@@ -194,6 +197,32 @@ fn copies_into_frames_of_its_own(rt: HostRuntime) {
     child.destroy(&mut ram, &mut frames);
     assert!(rt; back == *b"old!");
     assert_eq!(rt; [free, frames.free()], [2, 9]);
+}
+
+// Whether a page has the same frame in both spaces, and that has two holders.
+fn is_shared(ram: &Ram, frames: &Frames, one: &Space, other: &Space, page: u64) -> bool
+    requires one { IsSpace ram.now one.now frames.now }
+    requires other { IsSpace ram.now other.now frames.now }
+{
+    match (one.find_page(ram, page), other.find_page(ram, page)) {
+        (Some((frame, _)), Some((same, _))) => frame == same && frames.holders(ram, frame) == 2,
+        _ => false,
+    }
+}
+
+#[test]
+fn copies_share_each_frame(rt: HostRuntime) {
+    let Alone {
+        mut ram,
+        mut frames,
+        space,
+    } = Alone::grown(&rt, 256, 50 * 4096, DATA);
+    let Ok(child) = space.copy(&mut ram, &mut frames) else {
+        panic!(rt; "too few frames")
+    };
+    for page in 0..50 {
+        assert!(rt; is_shared(&ram, &frames, &space, &child, page));
+    }
 }
 
 #[test]

@@ -1,5 +1,5 @@
-use Rattle.calls.proofs.Resumes.{resumes-as, resumes-settled, waiting-can}
-use Rattle.calls.proofs.Served.{served-between, started-tree}
+use Rattle.calls.proofs.Resumes.{resumes-as, resumes-if, waiting-can}
+use Rattle.calls.proofs.Served.{disk-after, same-served, served-after, started-tree}
 use Rattle.std.proofs.Common.{ap, ◌∙◌}
 use Rattle.kernel.specs.Kernel.{Kernel}
 use Rattle.calls.proofs.events.go_on.Goals as goal
@@ -14,7 +14,8 @@ pub settle-requires : goal.settle-requires
 settle-requires g c = record { running = c.act_on-came.ensures.comes.active; can = c.act_on-came.ensures.comes.can }
 
 pub returns-clause-gives : goal.returns-clause-gives
-returns-clause-gives g c = resumes-settled (resumes-as c.args.at c.args.pending c.is_sound.ensures.sound c.requires.idle c.requires.up c.requires.waits c.start.ensures) c.act_on-came.ensures _ c.settle.ensures.gives
+returns-clause-gives g c = resumes-if (resumes-as c.args.at c.args.pending c.is_sound.ensures.sound c.requires.idle c.requires.up c.requires.waits c.start.ensures) c.act_on-came.ensures _ c.settle.result c.settle.ensures.gives
 
 pub returns-clause-tree : goal.returns-clause-tree
-returns-clause-tree g c = served-between (ap (λ (k : Kernel). k.tree) c.start.ensures ∙ started-tree c.args.kernel.now c.args.at) c.act_on-came.ensures.comes.served c.settle.ensures.tree
+returns-clause-tree g c =
+    disk-after _ _ _ c.settle.result (served-after (same-served (ap (λ (k : Kernel). k.tree) c.start.ensures ∙ started-tree c.args.kernel.now c.args.at) c.requires.up) c.act_on-came.ensures.comes.served) c.settle.ensures.tree

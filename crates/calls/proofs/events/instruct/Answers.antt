@@ -1,6 +1,7 @@
-use Rattle.calls.proofs.Served.{same-served}
-use Rattle.kernel.specs.Kernel.{Kernel, ended}
-use Rattle.calls.proofs.Takes.{step-calls, step-computes, step-faults}
+use Rattle.calls.proofs.Served.{ok-told, same-served}
+use Rattle.kernel.specs.Kernel.{Kernel, state_of}
+use Rattle.unixmodel.specs.Calls.{quiet}
+use Rattle.calls.proofs.Takes.{made-quiet, step-calls, step-computes, step-faults}
 use Rattle.std.proofs.Common.{ap, negsuc, sym, ◌∙◌}
 use Rattle.calls.proofs.events.instruct.Goals as goal
 
@@ -16,18 +17,16 @@ returns-then-is_call-clause-gives g c =
     let e = step-calls c.args.kernel.now c.args.at s.sound c.requires s.zero s.aligned c.in-Some.trap t.0 (sym c.is_call.ensures ∙ c.if-is_call.true) in
     rw (e, ← t.1) c.call.ensures.gives
 
-pub returns-else-is_call-clause-gives : goal.returns-else-is_call-clause-gives
-returns-else-is_call-clause-gives g c =
-    let t = c.in-Some.ensures.trap in
-    let s = c.is_sound.ensures in
-    step-faults c.args.kernel.now c.args.at s.sound c.requires s.zero s.aligned c.in-Some.trap t.0 (sym c.is_call.ensures ∙ c.if-is_call.false)
-    c.execute.new.self c.finish.new.self t.1 c.finish.ensures (g.W.Out.contents c.args.console.now)
-
 pub returns-in-None-clause-tree : goal.returns-in-None-clause-tree
 returns-in-None-clause-tree g c = same-served (ap (λ (k : Kernel). k.tree) c.in-None.ensures.done.2) (c.is_sound.ensures.sound.filed.up c.args.at c.requires)
 
 pub returns-then-is_call-clause-tree : goal.returns-then-is_call-clause-tree
 returns-then-is_call-clause-tree g c = rw (← c.in-Some.ensures.trap.1) c.call.ensures.tree
 
-pub returns-else-is_call-clause-tree : goal.returns-else-is_call-clause-tree
-returns-else-is_call-clause-tree g c = same-served (ap (λ (k : Kernel). k.tree) (c.finish.ensures ∙ ap (λ (k : Kernel). ended k c.args.at (negsuc 0)) c.in-Some.ensures.trap.1)) (c.is_sound.ensures.sound.filed.up c.args.at c.requires)
+pub returns-in_ok-finish-in-Some-clause-gives : goal.returns-in_ok-finish-in-Some-clause-gives
+returns-in_ok-finish-in-Some-clause-gives g c =
+    let t = c.in-Some.ensures.trap in
+    let s = c.is_sound.ensures in
+    let told = ok-told _ c.finish.result _ c.in_ok-finish-in-Some.was c.finish.ensures.told in
+    let e = step-faults c.args.kernel.now c.args.at s.sound c.requires s.zero s.aligned c.in-Some.trap t.0 (sym c.is_call.ensures ∙ c.if-is_call.false) c.execute.new.self t.1 in
+    made-quiet c.finish.new.self _ (g.W.Out.contents c.args.console.now) (e ∙ ap (λ (x : Kernel). quiet (state_of x)) (sym told))

@@ -1,9 +1,9 @@
-use Rattle.calls.proofs.Served.{served-halts}
+use Rattle.calls.proofs.Served.{on-ok}
 use Rattle.calls.proofs.Takes.{does-err, does-made, made-quiet}
 use Rattle.calls.proofs.Turned.{next-executes, next-turns}
 use Rattle.std.proofs.Common.{refl, sym, ◌∙◌}
 use Rattle.std.proofs.lemmas.Result.{err_from_is_err_and}
-use Rattle.calls.proofs.events.step.Goals.{in-None, in-Some+in_ok-instruct-in-Some}
+use Rattle.calls.proofs.events.step.Goals.{in-None+in_ok-take_turn-in-None, in-Some+in_ok-instruct-in-Some}
 use Rattle.calls.proofs.events.step.Goals as goal
 
 pub returns-in_err-instruct-in-Some-clause-does : goal.returns-in_err-instruct-in-Some-clause-does
@@ -13,24 +13,17 @@ returns-in_err-instruct-in-Some-clause-does g c =
     let same = next-executes c.args.kernel.now c.in-Some.at c.is_sound.ensures.sound active in
     rw (e.1, e.2) (does-err _ _ _ _ _ _ _ same c.in_err-instruct-in-Some.ensures.gives)
 
+pub returns-in_err-instruct-in-Some-clause-tree : goal.returns-in_err-instruct-in-Some-clause-tree
+returns-in_err-instruct-in-Some-clause-tree g c =
+    let e = err_from_is_err_and c.from_residual.result c.from_residual.ensures.1 in
+    rw (e.1, e.2) c.in_err-instruct-in-Some.ensures.tree
+
 pub returns-clause-does : goal.returns-clause-does
 returns-clause-does g c =
     let s = c.is_sound.ensures in
     rw c.goes.ensures (does-made _ _ _ _ _ _ refl (elim c.match-active.branch [
       | in-Some+in_ok-instruct-in-Some w ↦
           rw (w.kernel-is, w.console-is, next-executes c.args.kernel.now w.in-Some.at s.sound (sym c.active.ensures ∙ w.in-Some.is)) w.in_ok-instruct-in-Some.ensures.gives
-      | in-None w ↦
-          rw (w.kernel-is, w.console-is, next-turns c.args.kernel.now s.sound (sym c.active.ensures ∙ w.in-None.is)) (made-quiet _ _ _ w.take_turn.ensures.gives)
-    ]))
-
-pub returns-in_err-instruct-in-Some-clause-tree : goal.returns-in_err-instruct-in-Some-clause-tree
-returns-in_err-instruct-in-Some-clause-tree g c =
-    let e = err_from_is_err_and c.from_residual.result c.from_residual.ensures.1 in
-    rw (e.1, e.2) c.in_err-instruct-in-Some.ensures.tree
-
-pub returns-clause-tree : goal.returns-clause-tree
-returns-clause-tree g c =
-    rw c.goes.ensures (served-halts _ (elim c.match-active.branch [
-      | in-Some+in_ok-instruct-in-Some w ↦ rw w.kernel-is w.in_ok-instruct-in-Some.ensures.tree
-      | in-None w ↦ rw w.kernel-is w.take_turn.ensures.tree
+      | in-None+in_ok-take_turn-in-None w ↦
+          rw (w.kernel-is, w.console-is, next-turns c.args.kernel.now s.sound (sym c.active.ensures ∙ w.in-None.is)) (made-quiet _ _ _ (on-ok w.take_turn.result _ w.in_ok-take_turn-in-None.was w.take_turn.ensures.gives))
     ]))

@@ -1,14 +1,14 @@
-use Rattle.calls.proofs.Served.{same-served, started-tree}
-use Rattle.kernel.specs.Kernel.{Kernel}
-use Rattle.calls.proofs.Takes.{takes-killed, takes-ready, takes-waiting}
-use Rattle.std.proofs.Common.{ap, sym, ◌∙◌}
+use Rattle.calls.proofs.Served.{on-after, same-served, serves-disk, started-tree}
+use Rattle.kernel.specs.Kernel.{Kernel, ended}
+use Rattle.calls.proofs.Takes.{ends-if, takes-killed, takes-ready, takes-waiting}
+use Rattle.std.proofs.Common.{ap, negsuc, sym, ◌∙◌}
 use Rattle.calls.proofs.events.take.Goals as goal
 
 pub returns-then-process-clause-gives : goal.returns-then-process-clause-gives
 returns-then-process-clause-gives g c =
     let s = c.is_sound.ensures in
     let there = sym c.process.ensures ∙ sym c.copied.ensures ∙ c.in-Some.is in
-    rw c.finish.ensures (takes-killed c.args.kernel.now c.args.at c.in-Some.process s.sound c.requires.idle there c.requires.up s.zero s.aligned c.requires.alive c.if-process.true)
+    ends-if c.finish.new.self (ended c.args.kernel.now c.args.at (negsuc 0)) _ c.finish.result c.finish.ensures.told (takes-killed c.args.kernel.now c.args.at c.in-Some.process s.sound c.requires.idle there c.requires.up s.zero s.aligned c.requires.alive c.if-process.true)
 
 pub returns-in-Ready-clause-gives : goal.returns-in-Ready-clause-gives
 returns-in-Ready-clause-gives g c =
@@ -18,10 +18,10 @@ returns-in-Ready-clause-gives g c =
 pub returns-in-Waiting-clause-gives : goal.returns-in-Waiting-clause-gives
 returns-in-Waiting-clause-gives g c =
     let there = sym c.process.ensures ∙ sym c.copied.ensures ∙ c.in-Some.is in
-    takes-waiting c.args.kernel.now c.args.at c.in-Some.process c.is_sound.ensures.sound c.requires.idle there c.requires.up c.in-Waiting.pending c.if-process.false c.in-Waiting.is ∙ c.go_on.ensures.gives
+    on-after _ _ _ c.go_on.result (takes-waiting c.args.kernel.now c.args.at c.in-Some.process c.is_sound.ensures.sound c.requires.idle there c.requires.up c.in-Waiting.pending c.if-process.false c.in-Waiting.is) c.go_on.ensures.gives
 
 pub returns-then-process-clause-tree : goal.returns-then-process-clause-tree
-returns-then-process-clause-tree g c = same-served (ap (λ (k : Kernel). k.tree) c.finish.ensures) c.requires.up
+returns-then-process-clause-tree g c = serves-disk c.finish.ensures
 
 pub returns-in-Ready-clause-tree : goal.returns-in-Ready-clause-tree
 returns-in-Ready-clause-tree g c = same-served (ap (λ (k : Kernel). k.tree) c.start.ensures ∙ started-tree c.args.kernel.now c.args.at) c.requires.up

@@ -1,4 +1,5 @@
 use Rattle.kernel.proofs.Readies.{turn-alive}
+use Rattle.calls.proofs.Served.{on-after}
 use Rattle.calls.proofs.Takes.{turn-takes}
 use Rattle.std.proofs.Common.{sym, ◌∙◌}
 use Rattle.calls.proofs.events.take_turn.Goals as goal
@@ -11,7 +12,7 @@ take-requires-clause-alive g c =
 pub returns-in-Some-clause-gives : goal.returns-in-Some-clause-gives
 returns-in-Some-clause-gives g c =
     let found = sym c.turn.ensures.turn ∙ c.in-Some.is in
-    turn-takes c.args.kernel.now c.in-Some.at c.is_sound.ensures.sound c.requires.idle found ∙ (rw c.in-Some.ensures.picked at c.take.ensures.gives)
+    on-after _ _ _ c.take.result (turn-takes c.args.kernel.now c.in-Some.at c.is_sound.ensures.sound c.requires.idle found) (rw c.in-Some.ensures.picked at c.take.ensures.gives)
 
 pub returns-in-Some-clause-tree : goal.returns-in-Some-clause-tree
 returns-in-Some-clause-tree g c = rw c.in-Some.ensures.picked at c.take.ensures.tree

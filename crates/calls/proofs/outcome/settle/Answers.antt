@@ -1,8 +1,9 @@
-use Rattle.std.proofs.Common.{ap, subst, ◌∙◌}
-use Rattle.calls.specs.Acts.{CanCome}
-use Rattle.kernel.specs.Kernel.{Kernel, ended}
-use Rattle.calls.proofs.Acts.{settles-answer, settles-blocks, settles-exits}
+use Rattle.std.proofs.Common.{ap, negsuc, refl, subst, sym, ◌∙◌}
+use Rattle.calls.specs.Acts.{CanCome, IsEnd, Runs}
+use Rattle.kernel.specs.Kernel.{Kernel, answered, counting, ended, marked, state_of}
+use Rattle.calls.proofs.Acts.{settles-answer, settles-blocks, settles-exits-if}
 use Rattle.calls.proofs.Kills.{settles-killed}
+use Rattle.calls.proofs.Served.{ok-told, same-served, serves-disk, where-err}
 use Rattle.calls.proofs.outcome.settle.Goals as goal
 
 pub returns-in-Answers-clause-gives : goal.returns-in-Answers-clause-gives
@@ -21,24 +22,28 @@ pub returns-in-Exits-clause-gives : goal.returns-in-Exits-clause-gives
 returns-in-Exits-clause-gives g c =
     let s = c.is_sound.ensures in
     let can = subst (CanCome c.args.kernel.now c.args.at) c.in-Exits.is c.requires.can in
-    rw c.in-Exits.is (settles-exits c.args.kernel.now c.finish.new.self c.args.at s.sound c.requires.running s.zero s.aligned c.in-Exits.status (c.finish.ensures ∙ ap (ended c.args.kernel.now c.args.at) can))
+    rw c.in-Exits.is (settles-exits-if c.args.kernel.now c.finish.new.self c.args.at s.sound c.requires.running s.zero s.aligned c.in-Exits.status _ can c.finish.result c.finish.ensures.told)
 
-pub returns-in-KillsItself-clause-gives : goal.returns-in-KillsItself-clause-gives
-returns-in-KillsItself-clause-gives g c =
-    let s = c.is_sound.ensures in
-    rw c.in-KillsItself.is (settles-killed (record { active = c.requires.running; sound = s.sound; zero = s.zero; aligned = s.aligned }) c.mark.new.self (rw (c.finish-in-KillsItself.ensures, c.answer-in-KillsItself.ensures) at c.mark.ensures))
+pub returns-in-Exits-clause-fails : goal.returns-in-Exits-clause-fails
+returns-in-Exits-clause-fails g c = where-err c.finish.result (subst IsEnd (sym c.in-Exits.is) tt)
 
 pub returns-in-Answers-clause-tree : goal.returns-in-Answers-clause-tree
-returns-in-Answers-clause-tree g c = ap (λ (k : Kernel). k.tree) c.answer.ensures
+returns-in-Answers-clause-tree g c = same-served (ap (λ (k : Kernel). k.tree) c.answer.ensures) (c.is_sound.ensures.sound.filed.up c.args.at c.requires.running)
 
 pub returns-in-Refuses-clause-tree : goal.returns-in-Refuses-clause-tree
-returns-in-Refuses-clause-tree g c = ap (λ (k : Kernel). k.tree) c.answer-in-Refuses.ensures
+returns-in-Refuses-clause-tree g c = same-served (ap (λ (k : Kernel). k.tree) c.answer-in-Refuses.ensures) (c.is_sound.ensures.sound.filed.up c.args.at c.requires.running)
 
 pub returns-in-Blocks-clause-tree : goal.returns-in-Blocks-clause-tree
-returns-in-Blocks-clause-tree g c = ap (λ (k : Kernel). k.tree) c.block.ensures
+returns-in-Blocks-clause-tree g c = same-served (ap (λ (k : Kernel). k.tree) c.block.ensures) (c.is_sound.ensures.sound.filed.up c.args.at c.requires.running)
 
 pub returns-in-Exits-clause-tree : goal.returns-in-Exits-clause-tree
-returns-in-Exits-clause-tree g c = ap (λ (k : Kernel). k.tree) c.finish.ensures
+returns-in-Exits-clause-tree g c = serves-disk c.finish.ensures
 
-pub returns-in-KillsItself-clause-tree : goal.returns-in-KillsItself-clause-tree
-returns-in-KillsItself-clause-tree g c = ap (λ (k : Kernel). k.tree) (rw (c.finish-in-KillsItself.ensures, c.answer-in-KillsItself.ensures) at c.mark.ensures)
+pub returns-in_ok-finish-in-KillsItself-clause-gives : goal.returns-in_ok-finish-in-KillsItself-clause-gives
+returns-in_ok-finish-in-KillsItself-clause-gives g c =
+    let s = c.is_sound.ensures in
+    let k = c.args.kernel.now in
+    let runs : Runs k c.args.at = record { active = c.requires.running; sound = s.sound; zero = s.zero; aligned = s.aligned } in
+    let told = ok-told _ c.finish-in-KillsItself.result _ c.in_ok-finish-in-KillsItself.was c.finish-in-KillsItself.ensures.told in
+    let made = c.mark.ensures ∙ ap (λ (x : Kernel). marked x c.args.at) (told ∙ ap (λ (x : Kernel). counting (ended x c.args.at (negsuc 0)) c.finish-in-KillsItself.new.self.tree.failures) c.answer-in-KillsItself.ensures) in
+    rw c.in-KillsItself.is (ap state_of made ∙ settles-killed runs (marked (ended (answered k 0) c.args.at (negsuc 0)) c.args.at) refl)

@@ -1,7 +1,7 @@
 use Rattle.std.proofs.Common.{◌≡◌, Ok, ap, sym, ◌∙◌}
 use Rattle.calls.specs.Processes.{child_of}
 use Rattle.kernel.specs.View.{kernel_of}
-use Rattle.calls.proofs.Forks.{counts-few, fork-unfit, fork-unseated, forks, seat-free}
+use Rattle.calls.proofs.Forks.{counts-few, fork-unfit, fork-unseated, forks, hold-few, hold-there, hold-up, seat-free}
 use Rattle.kernel.proofs.Runs.{active-space}
 use Rattle.proc.specs.Places.{seat_of, seated}
 use Rattle.spaces.specs.Spaces.{Spaces}
@@ -31,7 +31,7 @@ invariant_of-kernel-2 g c =
     let seats : seat_of k.table ≡ Ok c.in-Ok.seat = sym c.next_seat.ensures.seat ∙ c.in-Ok.is in
     let table : c.alloc-seat.new.self ≡ seated k.table (child_of c.in-Some.process) c.in-Ok.seat = rw (c.alloc-seat.ensures.seat, seats) at c.alloc-seat.ensures.ok in
     let made = forks c.args.kernel.now c.args.at c.requires k c.kernel.view_is c.in-Ok.seat seats c.in-Some.process (sym c.on_hart.ensures.process ∙ c.in-Some.is) c.if-not-copy.ensures.done.0 in
-    rw (table, c.if-not-copy.ensures.done.1, c.share_all.ensures) made.sound
+    rw (table, c.if-not-copy.ensures.done.1, c.share_all.ensures, c.hold.ensures) made.sound
 
 pub returns : goal.returns
 returns g c =
@@ -39,4 +39,13 @@ returns g c =
     let seats : seat_of k.table ≡ Ok c.in-Ok.seat = sym c.next_seat.ensures.seat ∙ c.in-Ok.is in
     let table : c.alloc-seat.new.self ≡ seated k.table (child_of c.in-Some.process) c.in-Ok.seat = rw (c.alloc-seat.ensures.seat, seats) at c.alloc-seat.ensures.ok in
     let made = forks c.args.kernel.now c.args.at c.requires k c.kernel.view_is c.in-Ok.seat seats c.in-Some.process (sym c.on_hart.ensures.process ∙ c.in-Some.is) c.if-not-copy.ensures.done.0 in
-    rw (table, c.if-not-copy.ensures.done.1, c.share_all.ensures, c.from.ensures) made
+    rw (table, c.if-not-copy.ensures.done.1, c.share_all.ensures, c.hold.ensures, c.from.ensures) made
+
+pub hold-requires-clause-up : goal.hold-requires-clause-up
+hold-requires-clause-up g c = hold-up c.args.kernel.now c.args.at c.requires (kernel_of c.kernel.inside) c.kernel.view_is c.in-Some.process (sym c.on_hart.ensures.process ∙ c.in-Some.is)
+
+pub hold-requires-clause-node : goal.hold-requires-clause-node
+hold-requires-clause-node g c = hold-there c.args.kernel.now c.args.at c.requires (kernel_of c.kernel.inside) c.kernel.view_is c.in-Some.process (sym c.on_hart.ensures.process ∙ c.in-Some.is)
+
+pub hold-requires-clause-few : goal.hold-requires-clause-few
+hold-requires-clause-few g c = hold-few c.args.kernel.now c.args.at c.requires (kernel_of c.kernel.inside) c.kernel.view_is c.in-Some.process (sym c.on_hart.ensures.process ∙ c.in-Some.is)

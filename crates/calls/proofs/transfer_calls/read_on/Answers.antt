@@ -1,9 +1,7 @@
-use Rattle.calls.proofs.Transfers.{goes-transfers, target-some}
+use Rattle.std.proofs.Common.{refl}
+use Rattle.calls.proofs.Transfers.{goes-transfers, not-awaited, target-some}
 use Rattle.files.specs.declared.file.End.TheVariants.{Read}
 use Rattle.calls.proofs.transfer_calls.read_on.Goals as goal
 
 pub unreachable-requires : goal.unreachable-requires
 unreachable-requires g c = target-some Read c.requires.runs c.requires.can c.requires.number c.low.ensures _ c.open_target.ensures c.in_default.is
-
-pub read_from-requires : goal.read_from-requires
-read_from-requires g c = goes-transfers Read c.requires.runs c.requires.can c.requires.number c.low.ensures _ c.open_target.ensures c.in-Some.is

@@ -1,12 +1,10 @@
-use Rattle.calls.proofs.Transfers.{goes-transfers, pipe-only, target-some}
+use Rattle.std.proofs.Common.{refl}
+use Rattle.calls.proofs.Transfers.{goes-transfers, not-piped, target-some}
 use Rattle.files.specs.declared.file.End.TheVariants.{Write}
 use Rattle.calls.proofs.transfer_calls.write_on.Goals as goal
 
 pub unreachable-requires : goal.unreachable-requires
 unreachable-requires g c = target-some Write c.requires.runs c.requires.can c.requires.number c.low.ensures _ c.open_target.ensures c.in_default.is
-
-pub unreachable-requires-in-Node : goal.unreachable-requires-in-Node
-unreachable-requires-in-Node g c = let x = goes-transfers Write c.requires.runs c.requires.can c.requires.number c.low.ensures _ c.open_target.ensures c.in-Some.is in pipe-only _ _ (rw c.in-Node.is at x) c.requires.can.1.write
 
 pub write_pipe-requires : goal.write_pipe-requires
 write_pipe-requires g c = let x = goes-transfers Write c.requires.runs c.requires.can c.requires.number c.low.ensures _ c.open_target.ensures c.in-Some.is in (_, rw c.in-Pipe.is at x)

@@ -1,25 +1,34 @@
-use Rattle.std.proofs.Common.{ap, sym, ◌∙◌}
+use Rattle.std.proofs.Common.{ap, arith, subst, sym, ◌∙◌, ◌++◌, ◌∷◌, [], ◌≡◌}
 use Rattle.std.proofs.lemmas.Int.{to_z-of_z}
 use Rattle.std.specs.Int.{w32}
-use Rattle.kernel.specs.Kernel.{ended}
+use Rattle.std.specs.Prelude.{IfOk}
+use Rattle.kernel.specs.Holding.{AreHeld, all_dropped, gone_nodes}
 use Rattle.kernel.specs.View.{kernel_of}
-use Rattle.kernel.proofs.Finishes.{finish-closes, finish-made, finish-some}
+use Rattle.kernel.proofs.Dropping.{counted}
+use Rattle.kernel.proofs.Finishes.{finish-closes, finish-held, finish-serves}
+use Rattle.tree.specs.Tree.{Serves}
 use Rattle.kernel.proofs.kernel.Kernel.finish.Goals as goal
 
-pub close_all-requires : goal.close_all-requires
-close_all-requires g c = c.self.invariant.opened.piped
+pub let_go-requires-clause-held : goal.let_go-requires-clause-held
+let_go-requires-clause-held g c =
+    let s = c.is_sound.ensures in
+    rw (c.as_slice.ensures.value, c.push.ensures.items, c.close_all-nodes.ensures.nodes)
+    (finish-held (kernel_of c.self.inside) c.args.self.now c.args.at c.in-Some.process c.args.status c.self.view_is s.sound c.requires (sym c.whole.ensures.process ∙ c.in-Some.is) s.zero s.aligned)
 
 pub invariant_of-self : goal.invariant_of-self
 invariant_of-self g c =
     let s = c.is_sound.ensures in
-    rw (c.halted_after-halted.ensures, c.exit.ensures, c.put.ensures, c.deactivate.ensures, c.close_all.ensures.pipes, c.close_all.ensures.files)
-    (finish-closes (kernel_of c.self.inside) c.args.self.now c.args.at c.in-Some.process _ c.self.view_is s.sound c.requires s.zero s.aligned (sym c.whole.ensures.process ∙ c.in-Some.is))
+    let k = kernel_of c.self.inside in
+    let all : c.as_slice.result.now ≡ gone_nodes k.files c.in-Some.process.descriptors ++ c.in-Some.process.directory ∷ [] = c.as_slice.ensures.value ∙ c.push.ensures.items ∙ ap (λ ns. ns ++ c.in-Some.process.directory ∷ []) c.close_all-nodes.ensures.nodes in
+    rw (c.halted_after-halted.ensures, c.exit.ensures, c.put.ensures, c.deactivate.ensures, c.close_all-nodes.ensures.pipes, c.close_all-nodes.ensures.files)
+    (finish-closes k c.args.self.now c.args.at c.in-Some.process _ c.self.view_is s.sound c.requires (sym c.whole.ensures.process ∙ c.in-Some.is) s.zero s.aligned c.let_go.new.tree c.let_go.result
+    (subst (λ ns. IfOk c.let_go.result (λ done. c.let_go.new.tree ≡ counted (all_dropped k.tree ns) c.let_go.new.tree.failures)) all c.let_go.ensures.told) c.let_go.ensures.down)
 
-pub returns-in-Some : goal.returns-in-Some
-returns-in-Some g c =
-    rw (c.halted_after-halted.ensures, c.exit.ensures, c.put.ensures, c.deactivate.ensures, c.close_all.ensures.pipes, c.close_all.ensures.files)
-    (finish-made (kernel_of c.self.inside) c.args.self.now c.args.at c.in-Some.process _ c.self.view_is c.is_sound.ensures.sound c.requires (sym c.whole.ensures.process ∙ c.in-Some.is)
-    ∙ ap (ended c.args.self.now c.args.at) (to_z-of_z w32 c.args.status c.ranges.status))
-
-pub returns-in_default : goal.returns-in_default
-returns-in_default g c = absurd (finish-some c.args.self.now c.args.at c.is_sound.ensures.sound c.requires (sym c.whole.ensures.process ∙ c.in_default.is))
+pub returns : goal.returns
+returns g c =
+    let s = c.is_sound.ensures in
+    let k = kernel_of c.self.inside in
+    let all : c.as_slice.result.now ≡ gone_nodes k.files c.in-Some.process.descriptors ++ c.in-Some.process.directory ∷ [] = c.as_slice.ensures.value ∙ c.push.ensures.items ∙ ap (λ ns. ns ++ c.in-Some.process.directory ∷ []) c.close_all-nodes.ensures.nodes in
+    rw (c.halted_after-halted.ensures, c.exit.ensures, c.put.ensures, c.deactivate.ensures, c.close_all-nodes.ensures.pipes, c.close_all-nodes.ensures.files)
+    (finish-serves k c.args.self.now c.args.at c.in-Some.process _ c.self.view_is s.sound c.requires (sym c.whole.ensures.process ∙ c.in-Some.is) c.let_go.new.tree c.let_go.result
+    (subst (λ ns. Serves k.tree c.let_go.new.tree c.let_go.result (λ done. c.let_go.new.tree ≡ counted (all_dropped k.tree ns) c.let_go.new.tree.failures)) all c.let_go.ensures) c.args.status (to_z-of_z w32 c.args.status c.ranges.status))

@@ -5,10 +5,10 @@ use Rattle.kernel.proofs.kernel.Kernel.leave.Goals as goal
 
 pub invariant_of-self : goal.invariant_of-self
 invariant_of-self g c =
-    rw (c.leave.ensures, c.deactivate.ensures, c.registers.ensures.registers, c.pc.ensures.pc)
+    rw (c.leave.ensures.table, c.leave.ensures.spaces)
     (subst (λ (k : Kernel). IsKernel (left_as k c.args.at c.args.mode)) (sym c.self.view_is) c.requires)
 
 pub returns : goal.returns
 returns g c =
-    rw (c.leave.ensures, c.deactivate.ensures, c.registers.ensures.registers, c.pc.ensures.pc)
+    rw (c.leave.ensures.table, c.leave.ensures.spaces)
     (ap (λ (k : Kernel). left_as k c.args.at c.args.mode) c.self.view_is)

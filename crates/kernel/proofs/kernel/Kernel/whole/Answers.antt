@@ -2,7 +2,7 @@ use Rattle.std.proofs.Common.{Some, ap, nat_eq, sym, ◌∙◌}
 use Rattle.std.specs.Option.{option_eq}
 use Rattle.kernel.specs.Kernel.{Kernel, loaded}
 use Rattle.kernel.specs.View.{kernel_of}
-use Rattle.kernel.proofs.Changes.{slot-idle}
+use Rattle.kernel.proofs.Changes.{is-active, slot-active, slot-idle}
 use Rattle.unixmodel.specs.Files.{slot}
 use Rattle.kernel.proofs.kernel.Kernel.whole.Goals as goal
 
@@ -12,3 +12,8 @@ returns-else-eq-clause-process g c =
     ∙ c.process.ensures.process
     ∙ sym (slot-idle (kernel_of c.self.inside) c.args.at c.self.inside.spaces.active (ap (λ o. option_eq nat_eq o (Some c.args.at)) (sym c.active.ensures.active) ∙ sym c.eq.ensures ∙ c.if-eq.false))
     ∙ ap (λ (k : Kernel). slot (loaded k).places c.args.at) c.self.view_is
+
+pub returns-then-eq-clause-process : goal.returns-then-eq-clause-process
+returns-then-eq-clause-process g c =
+    c.on_hart.ensures.process
+    ∙ slot-active c.args.self.now c.args.at (ap (λ (k : Kernel). k.spaces.active) (sym c.self.view_is) ∙ is-active c.self.inside.spaces.active c.args.at (ap (λ o. option_eq nat_eq o (Some c.args.at)) (sym c.active.ensures.active) ∙ sym c.eq.ensures ∙ c.if-eq.true))

@@ -3,7 +3,7 @@ use Rattle.std.specs.Prelude.{count_by, is_none}
 use Rattle.std.specs.Option.{option_copied}
 use Rattle.kernel.specs.Descriptors.{descriptors_in}
 use Rattle.calls.proofs.Pipes.{no-free, no-place}
-use Rattle.calls.proofs.descriptor_calls.open_end.Goals as goal
+use Rattle.calls.proofs.descriptor_calls.open_as.Goals as goal
 
 pub unreachable-requires-in_default-free_descriptor : goal.unreachable-requires-in_default-free_descriptor
 unreachable-requires-in_default-free_descriptor c =

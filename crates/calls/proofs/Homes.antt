@@ -1,0 +1,360 @@
+-- chdir: the running process works in another directory, and the one that it leaves may go.
+use Rattle.std.proofs.Common.{Bool, List, None, Option, Some, [], ap, arith, false, negsuc, refl, subst, sym, true, zero, suc, ℕ, ◌+◌, ◌<◌, ◌++◌, ◌∙◌, ◌∷◌, ◌≡◌, ◌≢◌, ◌≤◌, length}
+use Rattle.std.specs.Prelude.{IfSome, IsSome, if◌then◌else◌, slice_set}
+use Rattle.std.proofs.lemmas.Bool.{eq-eqb, le-leb, ne_eqb}
+use Rattle.std.proofs.lemmas.List.Sums.{sum_by-cons, sum_by-set}
+use Rattle.std.proofs.lemmas.Option.{none-some, same_Some}
+use Rattle.calls.specs.Acts.{Acts, Runs}
+use Rattle.calls.specs.Reads.{HasRead}
+use Rattle.calls.specs.declared.outcome.Came.TheVariants.{Answers, Refuses}
+use Rattle.calls.proofs.Acts.{Here, here-of, me, outcome-here, refused, settles, turned, turned-here, used-here}
+use Rattle.calls.proofs.Names.{home-is, names-rules, path-is}
+use Rattle.calls.proofs.Settles.{after}
+use Rattle.calls.proofs.Shapes.{folder-there}
+use Rattle.files.specs.Counts.{Counts, one_at, one_in}
+use Rattle.files.specs.Pipes.{without_pipes-same}
+use Rattle.files.specs.Places.{Counted, opens_of}
+use Rattle.files.specs.Whole.{without_opens-same}
+use Rattle.inode.specs.declared.InodeStat.{InodeStat}
+use Rattle.kernel.proofs.Dropping.{counted}
+use Rattle.kernel.proofs.Finishes.{counting-kernel, counting-used}
+use Rattle.kernel.proofs.Holding.{AreAway, AreOldHomes, fewer-held, fewer-nodes, fewer-used, hold-more, holders-few, home-folder, homes-set, named_in}
+use Rattle.kernel.proofs.Named.{counts-joined}
+use Rattle.kernel.proofs.Opens.{opened-put, waits-running}
+use Rattle.kernel.proofs.Reaped.{away-loaded, match-active, match-place, opened-loaded, within-state_with}
+use Rattle.kernel.proofs.Running.{change-put, live, not-killed, regs-kernel, regs-run, runs-mode}
+use Rattle.kernel.proofs.Runs.{IsRun, home-running, loaded-run, moved, moved-run, moved-state, process-run, self, set-slot, set-twice, slot-within}
+use Rattle.kernel.proofs.Steps.{fail-keeps}
+use Rattle.kernel.specs.Descriptors.{descriptors_in}
+use Rattle.kernel.specs.Holding.{AreHeld, IsFolder, IsInUse, dropped, files_on, home_in, homes_at}
+use Rattle.kernel.specs.Kernel.{Kernel, answered, argument, counting, left_as, loaded, memories, on_hart, state_of}
+use Rattle.kernel.specs.Sound.{IsKernel, IsOpened, IsPlaced}
+use Rattle.names.proofs.Naming.{find-used}
+use Rattle.proc.specs.declared.process.Process.{Process}
+use Rattle.proc.specs.Places.{changed, with_directory}
+use Rattle.proc.specs.Whole.{joined}
+use Rattle.spaces.specs.Spaces.{held_at, taken_frames}
+use Rattle.tree.specs.Holding.{holders, let_go, with_hold, without_hold}
+use Rattle.tree.specs.Telling.{Tells}
+use Rattle.tree.specs.Tree.{FileTree}
+use Rattle.tree.specs.Whole.{IsWhole}
+use Rattle.unixmodel.specs.Calls.{end_if_killed, outcome_of, quiet, row, settle}
+use Rattle.unixmodel.specs.Counts.{is_within}
+use Rattle.unixmodel.specs.declared.call.Call.{Call}
+use Rattle.unixmodel.specs.declared.call.Call.TheVariants.{Chdir}
+use Rattle.unixmodel.specs.declared.process.Mode.TheVariants.{Ready}
+use Rattle.unixmodel.specs.Files.{Node, find, is_directory, kind_of, put, slot}
+use Rattle.unixmodel.specs.Files.Node.{Device, Directory, File}
+use Rattle.unixmodel.specs.Memory.{Memory, path_at}
+use Rattle.unixmodel.specs.NameCalls.{chdir_row, path_arg}
+use Rattle.unixmodel.specs.Outcome.{Outcome, answers, end_process, given, limited, provided}
+use Rattle.unixmodel.specs.Outcome.Outcome.{Done, Refused}
+use Rattle.unixmodel.specs.Process as unix
+use Rattle.unixmodel.specs.Process.{with_answer}
+use Rattle.unixmodel.specs.Reap.{reap, without_nodes, without_pipes}
+use Rattle.unixmodel.specs.State.{State, change_process, process_at, put_process}
+
+-- ---- who holds what
+
+-- a place more behind the others
+homes-more : (os : List (Option Process)) (o : Option Process) (n : ℕ) → homes_at (os ++ o ∷ []) n ≡ homes_at os n + one_in n (home_in o)
+homes-more [] o n = omega (arith, sum_by-cons (λ x. one_in n (home_in x)) o [])
+homes-more (x ∷ os) o n = omega (arith, sum_by-cons (λ y. one_in n (home_in y)) x (os ++ o ∷ []), sum_by-cons (λ y. one_in n (home_in y)) x os, homes-more os o n)
+
+module _ (P : ℕ → Type 0) where
+  homes-append : (os : List (Option Process)) (o : Option Process) → IfSome (home_in o) P → ((j : ℕ) → IfSome (home_in (slot os j)) P) → (j : ℕ) → IfSome (home_in (slot (os ++ o ∷ []) j)) P
+  homes-append [] o here is zero = here
+  homes-append [] o here is (suc j) = tt
+  homes-append (x ∷ os) o here is zero = is 0
+  homes-append (x ∷ os) o here is (suc j) = homes-append os o here (λ m. is (suc m)) j
+
+homes-front : (os : List (Option Process)) (o : Option Process) → AreOldHomes (os ++ o ∷ []) os
+homes-front [] o j d at = absurd (none-some d at)
+homes-front (x ∷ os) o zero d at = at
+homes-front (x ∷ os) o (suc j) d at = homes-front os o j d at
+
+-- process p, in place i, works in directory new now, and is q
+module _ {t : FileTree} {opens : List (Option Counted)} {os : List (Option Process)} (is : IsInUse t opens os) (i : ℕ) (p q : Process) (old new : ℕ)
+    (at : slot os i ≡ Some p) (home : home_in (Some p) ≡ Some old) (goes : home_in (Some q) ≡ Some new) (short : new < length t.holds) (folder : IsFolder (slot t.files new)) where
+  abbrev pub held : FileTree
+  held = record t { holds = with_hold t.holds new }
+
+  abbrev pub moves : List (Option Process)
+  moves = slice_set os i (Some q)
+
+  -- the directory that it leaves is held as yet, as by one process more
+  between : IsInUse held opens (moves ++ Some p ∷ [])
+  between = record {
+    rules = is.rules;
+    zero = is.zero;
+    within = is.within;
+    holds = λ n.
+        let sums = sum_by-set (λ o. one_in n (home_in o)) os i (Some q) None (slot-within os i p at) in
+        let was : one_in n (home_in (slot os i)) ≡ one_in n (Some old) = ap (λ o. one_in n (home_in o)) at ∙ ap (one_in n) home in
+        let now : one_in n (home_in (Some q)) ≡ one_in n (Some new) = ap (one_in n) goes in
+        let last : one_in n (home_in (Some p)) ≡ one_in n (Some old) = ap (one_in n) home in
+        omega (arith, hold-more t.holds new short n, is.holds n, sums, was, now, last, homes-more moves (Some p) n);
+    held = λ n node here bare. omega (arith, hold-more t.holds new short n, is.held n node here bare);
+    fits = is.fits;
+    homes = homes-append (λ d. IsFolder (slot t.files d)) moves (Some p) (subst (λ h. IfSome h (λ d. IsFolder (slot t.files d))) (ap home_in at) (is.homes i))
+        (homes-set (λ d. IsFolder (slot t.files d)) os i (Some q) (subst (λ h. IfSome h (λ d. IsFolder (slot t.files d))) (sym goes) folder) is.homes);
+  }
+
+  counts : (m : ℕ) → files_on opens m + homes_at moves m + named_in (old ∷ []) m ≡ files_on opens m + homes_at (moves ++ Some p ∷ []) m
+  counts m =
+      let last : one_in m (home_in (Some p)) ≡ one_in m (Some old) = ap (one_in m) home in
+      let named : named_in (old ∷ []) m ≡ one_in m (Some old) = omega (arith, sum_by-cons (one_at m) old []) in
+      omega (arith, last, named, homes-more moves (Some p) m)
+
+  -- what it leaves may go then
+  pub leaves-held : AreHeld held (old ∷ [])
+  leaves-held = fewer-held between opens moves (old ∷ []) counts (λ k c there. (c, (there, refl))) (homes-front moves (Some p))
+
+  pub leaves-used : IsInUse (dropped held old) opens moves
+  leaves-used = fewer-used between opens moves (old ∷ []) counts (λ k c there. (c, (there, refl))) (homes-front moves (Some p))
+
+  -- the abstract Unix gives up the same node
+  pub leaves-nodes : (s : State) (ms : List Memory) → AreAway moves → s.files ≡ t.files → s.opens ≡ opens_of opens → s.places ≡ joined moves ms → without_nodes s ≡ record s { files = (dropped held old).files }
+  leaves-nodes s ms away same opened placed = fewer-nodes between opens moves (old ∷ []) counts (λ k c there. (c, (there, refl))) (homes-front moves (Some p)) s ms away same opened placed
+
+-- ---- after the disk was read
+
+has-more : (k e f : Kernel) → HasRead k e → HasRead e f → HasRead k f
+has-more k e f one two = record { same = two.same ∙ ap (λ (y : Kernel). counting y f.tree.failures) one.same; later = let a = one.later in let b = two.later in omega arith }
+
+pub read-runs : (k e : Kernel) (i : ℕ) → HasRead k e → Runs k i → Runs e i
+read-runs k e i has runs = subst (λ (y : Kernel). Runs y i) (sym has.same) (record { active = runs.active; sound = counting-kernel k e.tree.failures runs.sound; zero = runs.zero; aligned = runs.aligned })
+
+-- a call that is refused then
+pub refused-read : (k e : Kernel) (i : ℕ) (x : Here k i) (call : Call) → HasRead k e → outcome_of (state_of k) i (me k i x) (Some call) ≡ Refused → Acts k e i (Some call) Refuses
+refused-read k e i x call has is = subst (λ (y : Kernel). Acts k y i (Some call) Refuses) (sym has.same) (record {
+  makes = ap (settle (state_of k) i) (outcome-here k i x (Some call) ∙ is);
+  active = x.run.active;
+  sound = counting-kernel k e.tree.failures x.sound;
+  can = tt;
+  printed = refl;
+  served = record { up = x.run.up; later = has.later };
+})
+
+-- ---- the running process works in directory n now
+
+module _ (k : Kernel) (i : ℕ) (x : Here k i) (n : ℕ) (short : n < length k.tree.holds) (folder : IsFolder (slot k.tree.files n)) where
+  abbrev q : Process
+  q = record x.process { directory = n }
+
+  abbrev pub holding : FileTree
+  holding = record k.tree { holds = with_hold k.tree.holds n }
+
+  pub left-held : AreHeld holding (x.process.directory ∷ [])
+  left-held = leaves-held (used-here k i x) i x.process q x.process.directory n x.run.process (home-running x.process x.run.runs) (home-running q x.run.runs) short folder
+
+  pub placed : IsPlaced q x.held
+  placed = let l = live k i x.process x.held x.run x.sound in let was = x.run.placed in record {
+    size = was.size;
+    zero = was.zero;
+    aligned = was.aligned;
+    mode = runs-mode q x.held.memory x.process.mode x.run.runs (record { descriptors = l.descriptors }) (not-killed k i x.process x.held x.run x.sound);
+  }
+
+  -- failures: how many the device counts then
+  module _ (failures : ℕ) (later : k.tree.failures ≤ failures) where
+    abbrev tree : FileTree
+    tree = counted (dropped holding x.process.directory) failures
+
+    used : IsInUse tree k.files (put k.table.places i q)
+    used = counting-used failures (leaves-used (used-here k i x) i x.process q x.process.directory n x.run.process (home-running x.process x.run.runs) (home-running q x.run.runs) short folder)
+
+    opened : IsOpened k.files k.spaces.pipes (put k.table.places i q)
+    opened = opened-put k.files k.spaces.pipes k.table.places i (Some q) (sym (ap descriptors_in x.run.process)) (waits-running k.files q x.run.runs) x.sound.opened
+
+    abbrev to : Kernel
+    to = turned k i x tree q x.held k.files k.spaces.pipes placed x.run.runs
+
+    abbrev mid : List ℕ → Kernel
+    mid registers = moved k i q x.held registers k.spaces.pc
+
+    mid-fits : taken_frames (mid k.spaces.registers).spaces ≤ k.spaces.frames
+    mid-fits = rw (set-slot k.spaces.places i (Some x.held) x.run.space) x.sound.fits
+
+    there : Here to i
+    there = turned-here k i x tree q x.held k.files k.spaces.pipes placed x.run.runs x.run.up used opened mid-fits
+
+    to-run : IsRun to i q x.held
+    to-run = let r = moved-run k i x.process x.held x.run x.sound q x.held k.spaces.registers k.spaces.pc placed x.run.runs in record { active = r.active; process = r.process; space = r.space; placed = placed; runs = x.run.runs; up = x.run.up }
+
+    abbrev new : State
+    new = put_process (state_of k) i (record (me k i x) { directory = n })
+
+    new-within : is_within new ≡ true
+    new-within =
+        let m = mid k.spaces.registers in
+        ap is_within (sym (moved-state k i x.process x.held x.run x.sound q x.held k.spaces.registers k.spaces.pc placed x.run.runs))
+        ∙ within-state_with m (loaded m) (used-here k i x).within x.sound.opened.table (match-active m m.spaces.active (λ j. match-place (slot m.table.places j) (slot m.spaces.places j) (there.sound.stands j)))
+        ∙ le-leb _ _ mid-fits
+
+    abbrev regs : List ℕ
+    regs = slice_set k.spaces.registers 10 0
+
+    new-answered : change_process new i (with_answer 0) ≡ state_of (mid regs)
+    new-answered =
+        change-put i (state_of k) (record (me k i x) { directory = n }) (with_answer 0) (slot-within (state_of k).places i (me k i x) (process-run k i x.process x.held x.run))
+        ∙ sym (moved-state k i x.process x.held x.run x.sound q x.held regs k.spaces.pc placed x.run.runs)
+
+    -- what it leaves, and nothing holds any more, goes
+    reaped : reap (state_of (mid regs)) ≡ state_of (answered to 0)
+    unfolding reap
+    reaped =
+        let last = answered to 0 in
+        let middle = record last { tree = k.tree } in
+        let s = state_of middle in
+        let is' : IsKernel last = regs-kernel to there.sound regs k.spaces.pc in
+        let was = opened-loaded last is' in
+        let counts' : Counts k.files s.places = counts-joined k.files (loaded last).places (memories last.spaces) was.counted in
+        let q' = on_hart last.spaces q in
+        let shown : (loaded last).places ≡ put k.table.places i q' = ap (λ t. t.places) (loaded-run last i q x.held (regs-run to i q x.held to-run there.sound regs k.spaces.pc)) ∙ set-twice k.table.places i (Some q) (Some q') in
+        let nodes = leaves-nodes (used-here k i x) i x.process q' x.process.directory n x.run.process (home-running x.process x.run.runs) (home-running q' x.run.runs) short folder s (memories last.spaces) (subst AreAway shown (away-loaded last is')) refl refl (ap (λ os. joined os (memories last.spaces)) shown) in
+        ap (λ (y : State). without_nodes (without_pipes y)) (without_opens-same s k.files was.table counts') ∙ ap without_nodes (without_pipes-same s was.piped) ∙ nodes
+
+    chdir-settles : settle (state_of k) i (limited (Done new 0 [])) ≡ quiet (state_of (answered to 0))
+    chdir-settles =
+        let m = mid regs in
+        ap (λ (b : Bool). settle (state_of k) i (provided b (Done new 0 []))) new-within
+        ∙ ap (λ (s : State). after (end_if_killed s i (process_at s i)) []) new-answered
+        ∙ ap (λ (o : Option unix.Process). after (end_if_killed (state_of m) i o) []) (process-run m i q x.held (moved-run k i x.process x.held x.run x.sound q x.held regs k.spaces.pc placed x.run.runs))
+        ∙ ap (λ (b : Bool). after (if b then end_process (state_of m) i (self m q x.held) (negsuc 0) else reap (state_of m)) []) (not-killed k i x.process x.held x.run x.sound)
+        ∙ ap (λ (s : State). after s []) reaped
+
+    pub chdir-acts : row (state_of k) i (me k i x) Chdir ≡ Done new 0 [] → Acts k to i (Some Chdir) (Answers 0)
+    chdir-acts made = settles k i x to Chdir 0 [] there (record { up = x.run.up; later = later }) (ap (λ (o : Outcome). settle (state_of k) i (limited o)) made ∙ chdir-settles)
+
+-- ---- chdir, step by step
+
+some-there : (o : Option Node) → IsSome o → (node : Node) × (o ≡ Some node)
+some-there None is = absurd (cc)
+some-there (Some node) is = (node, refl)
+
+folder-kind : (o : Option Node) (node : Node) → o ≡ Some node → kind_of node ≡ 1 → IsFolder o
+folder-kind None node at kind = absurd (none-some node at)
+folder-kind (Some (File links bytes)) node at kind = absurd (let bad : 2 ≡ kind_of node = ap kind_of (same_Some (File links bytes) node at) in omega (arith, bad, kind))
+folder-kind (Some (Device links major minor)) node at kind = absurd (let bad : 3 ≡ kind_of node = ap kind_of (same_Some (Device links major minor) node at) in omega (arith, bad, kind))
+folder-kind (Some (Directory links places)) node at kind = tt
+
+module _ (k : Kernel) (i : ℕ) (runs : Runs k i) where
+  abbrev x : Here k i
+  x = here-of k i runs.sound runs.active
+
+  abbrev home : ℕ
+  home = x.process.directory
+
+  -- what a path reaches from there
+  pub found-here : (path : List ℕ) (o : Option ℕ) → IfSome (slot k.table.places i) (λ p. o ≡ find k.tree.files p.directory path) → find k.tree.files home path ≡ o
+  found-here path o is = go (slot k.table.places i) x.run.process is where
+    go : (q : Option Process) → q ≡ Some x.process → IfSome q (λ p. o ≡ find k.tree.files p.directory path) → find k.tree.files home path ≡ o
+    go None at is = absurd (none-some x.process at)
+    go (Some p) at is = sym (is ∙ ap (λ (q : Process). find k.tree.files q.directory path) (same_Some p x.process at))
+
+  -- that is a node
+  pub node-here : (path : List ℕ) (n : ℕ) → find k.tree.files home path ≡ Some n → (node : Node) × (slot k.tree.files n ≡ Some node)
+  node-here path n at =
+      let there = folder-there (slot k.tree.files home) (home-folder (used-here k i x) i home (ap home_in x.run.process ∙ home-running x.process x.run.runs)) in
+      some-there (slot k.tree.files n) (find-used (names-rules k i runs) home path n there at)
+
+  -- no more hold a node than there are open files and processes
+  pub few-hold : (n : ℕ) → holders k.tree.holds n < 65535
+  few-hold n = let few = holders-few (used-here k i x) n in let opens = x.sound.opened.table.all in let places = x.sound.all in omega arith
+
+  pub chdir-pathless : None ≡ path_at (held_at k.spaces i).memory (argument k 0) → Acts k k i (Some Chdir) Refuses
+  unfolding chdir_row
+  chdir-pathless none = let at = path-is k i runs 0 None none in refused k i x (Some Chdir) (rw at refl)
+
+  abbrev works : ℕ → State
+  works n = put_process (state_of k) i (record (me k i x) { directory = n })
+
+  abbrev with_node : ℕ → Option Node → Outcome
+  with_node n o = given o (λ node. provided (is_directory node) (answers (works n) 0))
+
+  chdir-row : (path : List ℕ) → path_arg (me k i x) 0 ≡ Some path → row (state_of k) i (me k i x) Chdir ≡ given (find k.tree.files home path) (λ n. with_node n (slot k.tree.files n))
+  unfolding chdir_row
+  chdir-row path at = rw at refl
+
+  module _ (path : List ℕ) (is : Some path ≡ path_at (held_at k.spaces i).memory (argument k 0)) (k1 : Kernel) (o : Option ℕ) (reads : HasRead k k1 × IfSome (slot k.table.places i) (λ p. o ≡ find k.tree.files p.directory path)) where
+    chdir-found : row (state_of k) i (me k i x) Chdir ≡ given o (λ n. with_node n (slot k.tree.files n))
+    chdir-found = chdir-row path (path-is k i runs 0 (Some path) is) ∙ ap (λ f. given f (λ n. with_node n (slot k.tree.files n))) (found-here path o reads.1)
+
+    pub chdir-lost : o ≡ None → Acts k k1 i (Some Chdir) Refuses
+    chdir-lost none = refused-read k k1 i x Chdir reads.0 (ap limited (chdir-found ∙ ap (λ f. given f (λ n. with_node n (slot k.tree.files n))) none))
+
+    module _ (n : ℕ) (some : o ≡ Some n) where
+      here : (node : Node) × (slot k.tree.files n ≡ Some node)
+      here = node-here path n (found-here path o reads.1 ∙ some)
+
+      pub chdir-there : (node : Node) × (slot k1.tree.files n ≡ Some node)
+      chdir-there = subst (λ (y : Kernel). (node : Node) × (slot y.tree.files n ≡ Some node)) (sym reads.0.same) here
+
+      module _ (k2 : Kernel) (told : InodeStat) (more : HasRead k1 k2 × ((node : Node) → slot k1.tree.files n ≡ Some node → Tells told node)) where
+        has : HasRead k k2
+        has = has-more k k1 k2 reads.0 more.0
+
+        tells : Tells told here.0
+        tells = more.1 here.0 (ap (λ (y : Kernel). slot y.tree.files n) reads.0.same ∙ here.1)
+
+        chdir-made : (b : Bool) → is_directory here.0 ≡ b → row (state_of k) i (me k i x) Chdir ≡ provided b (answers (works n) 0)
+        chdir-made b is' =
+            chdir-found
+            ∙ ap (λ f. given f (λ m. with_node m (slot k.tree.files m))) some
+            ∙ ap (with_node n) here.1
+            ∙ ap (λ (c : Bool). provided c (answers (works n) 0)) is'
+
+        pub chdir-other : told.kind ≢ 1 → Acts k k2 i (Some Chdir) Refuses
+        chdir-other other = refused-read k k2 i x Chdir has (ap limited (chdir-made false (rw (← tells.0) (ne_eqb told.kind 1 other))))
+
+        -- at is what the fields show then
+        module _ (at : Kernel) (same : at ≡ k2) (kind : told.kind ≡ 1) (whole : IsWhole at.tree) where
+          shows : at ≡ counting k k2.tree.failures
+          shows = same ∙ has.same
+
+          pub chdir-hold : slot at.tree.files n ≢ None
+          chdir-hold none = none-some here.0 (sym none ∙ ap (λ (y : Kernel). slot y.tree.files n) shows ∙ here.1)
+
+          number : (n < length k.tree.holds) × (n < 8192)
+          number = subst (λ (y : Kernel). (n < length y.tree.holds) × (n < 8192)) shows (whole.numbers n chdir-hold)
+
+          folder : IsFolder (slot k.tree.files n)
+          folder = folder-kind (slot k.tree.files n) here.0 here.1 (sym tells.0 ∙ kind)
+
+          pub chdir-few : holders at.tree.holds n < 65535
+          chdir-few = subst (λ (y : Kernel). holders y.tree.holds n < 65535) (sym shows) (few-hold n)
+
+          pub chdir-fits : n < 8192
+          chdir-fits = number.1
+
+          module _ (left : ℕ) (leaves : IfSome (slot k2.table.places i) (λ p. left ≡ p.directory)) (held : FileTree) (holds : held ≡ record at.tree { holds = with_hold at.tree.holds n }) where
+            left-is : left ≡ home
+            left-is = home-is k i runs left (subst (λ (y : Kernel). IfSome (slot y.table.places i) (λ p. left ≡ p.directory)) has.same leaves)
+
+            held-is : held ≡ record (holding k i x n number.0 folder) { failures = k2.tree.failures }
+            held-is = holds ∙ ap (λ (y : Kernel). let u : FileTree = record y.tree { holds = with_hold y.tree.holds n } in u) shows
+
+            pub chdir-held : 1 ≤ holders held.holds left
+            chdir-held = rw (left-is, held-is) (left-held k i x n number.0 folder).1.0
+
+            abbrev pub drops : ℕ → FileTree
+            drops failures = record held { files = let_go (without_hold held.holds left) held.files left; holds = without_hold held.holds left; failures = failures }
+
+            drops-is : (failures : ℕ) → drops failures ≡ counted (dropped (holding k i x n number.0 folder) home) failures
+            drops-is failures = rw (left-is, held-is) refl
+
+            pub chdirs : (t : FileTree) → t ≡ drops t.failures → held.failures ≤ t.failures → (m : ℕ) → m ≡ n → Acts k (record at { tree = t; table = changed at.table i (with_directory m) }) i (Some Chdir) (Answers 0)
+            chdirs t drop later m is-m =
+                let since : held.failures ≡ k2.tree.failures = ap (λ (u : FileTree). u.failures) held-is in
+                let after' = has.later in
+                let acts = chdir-acts k i x n number.0 folder t.failures (omega (arith, since, after', later)) (chdir-made true (rw (← tells.0) (eq-eqb told.kind 1 kind))) in
+                rw (is-m, shows, drop, drops-is t.failures) (subst (λ (y : Kernel). Acts k y i (Some Chdir) (Answers 0)) (rw (x.run.process, set-slot k.spaces.places i (Some x.held) x.run.space) refl) acts)
+
+            -- an access failed
+            pub chdir-fails : (t : FileTree) → t.failed ≡ true → (m : ℕ) → m ≡ n → IsKernel (record (left_as (record at { tree = held; table = changed at.table i (with_directory m) }) i Ready) { tree = t })
+            chdir-fails t down m is-m =
+                let u = drops held.failures in
+                let made = chdirs u refl (omega arith) m is-m in
+                let to' = record at { tree = u; table = changed at.table i (with_directory m) } in
+                fail-keeps to' to' i t refl made.sound made.active (rw shows runs.zero) (rw shows runs.aligned) down

@@ -1,0 +1,76 @@
+-- link: a name more for a file or a device.
+use Rattle.blockdev.specs.declared.DeviceFault.{DeviceFault}
+use Rattle.std.proofs.Common.{◌≡◌, ◌≢◌, ℕ, ◌∙◌, List, None, Option, Some, ap, refl, subst, sym, true, false}
+use Rattle.std.specs.Prelude.{All, Err, IfOk, IfSome, Ok, OnErr, Result, option_and_then}
+use Rattle.calls.specs.Acts.{Acts, ActsOnDisk, Runs}
+use Rattle.calls.specs.declared.outcome.Came.{Came}
+use Rattle.calls.specs.declared.outcome.Came.TheVariants.{Answers, Refuses}
+use Rattle.calls.proofs.Acts.{refused}
+use Rattle.calls.proofs.Names.{faulted, given-then, here, home-is, made-over, mine, name-made, name-refused, name-sound, names-rules, ok-done, path-is, with_made}
+use Rattle.kernel.specs.Kernel.{Kernel, argument, state_of}
+use Rattle.kernel.specs.Sound.{IsKernel}
+use Rattle.spaces.specs.Spaces.{held_at}
+use Rattle.tree.specs.Answers.{Overflows}
+use Rattle.tree.specs.declared.TreeFault.{TreeFault}
+use Rattle.tree.specs.Entering.{linked_in}
+use Rattle.tree.specs.Lacking.{LacksLinking}
+use Rattle.tree.specs.Tree as tree
+use Rattle.tree.specs.Tree.{FileTree, is_device}
+use Rattle.tree.specs.Whole.{IsWhole}
+use Rattle.tree.proofs.Keeping.{linked-changed}
+use Rattle.unixmodel.specs.Calls.{outcome_of, row}
+use Rattle.unixmodel.specs.declared.call.Call.TheVariants.{Link}
+use Rattle.unixmodel.specs.Files.{find, slot, spot_of}
+use Rattle.unixmodel.specs.Memory.{path_at}
+use Rattle.unixmodel.specs.NameCalls.{link_row, linked, path_arg, with_files}
+use Rattle.unixmodel.specs.Outcome.{answers, given, limited}
+use Rattle.unixmodel.specs.Outcome.Outcome.{Refused}
+use Rattle.unixmodel.specs.Process as unix
+use Rattle.unixmodel.specs.State.{State}
+
+link-row : (s : State) (i : ℕ) (p : unix.Process) (old new : List ℕ) → path_arg p 0 ≡ Some old → path_arg p 1 ≡ Some new → link_row s i p ≡ with_made s (linked_in s.files p.directory old new)
+unfolding link_row linked_in
+link-row s i p old new from to = rw (from, to) (go (find s.files p.directory old)) where
+  go : (o : Option ℕ) → given o (λ n. given (spot_of s.files p.directory new) (λ at. with_made s (linked s.files at n))) ≡ with_made s (option_and_then (λ n. option_and_then (λ at. linked s.files at n) (spot_of s.files p.directory new)) o)
+  go None = refl
+  go (Some n) = given-then (spot_of s.files p.directory new) (λ at. linked s.files at n) (λ files. answers (with_files s files) 0)
+
+-- what the tree promises
+abbrev pub MakesLink : FileTree → FileTree → ℕ → List ℕ → List ℕ → Result (Unit {0}) TreeFault → Type 0
+MakesLink old new d from to r =
+    tree.Acts old new r (λ done. linked_in old.files d from to ≡ Some new.files) (Overflows old.block_limit (linked_in old.files d from to)) (LacksLinking old.block_limit old.files d from to)
+
+module _ (k : Kernel) (i : ℕ) (runs : Runs k i) where
+  -- ---- no path
+
+  pub link-oldless : None ≡ path_at (held_at k.spaces i).memory (argument k 0) → Acts k k i (Some Link) Refuses
+  unfolding link_row
+  link-oldless none = let at = path-is k i runs 0 None none in refused k i (here k i runs) (Some Link) (rw at refl)
+
+  pub link-newless : {old : List ℕ} → Some old ≡ path_at (held_at k.spaces i).memory (argument k 0) → None ≡ path_at (held_at k.spaces i).memory (argument k 1) → Acts k k i (Some Link) Refuses
+  unfolding link_row
+  link-newless {old} some none = let from = path-is k i runs 0 (Some old) some in let to = path-is k i runs 1 None none in refused k i (here k i runs) (Some Link) (rw (from, to) refl)
+
+  -- ---- the row
+
+  module _ (d : ℕ) (home : IfSome (slot k.table.places i) (λ p. d ≡ p.directory)) (from to : List ℕ) (first : Some from ≡ path_at (held_at k.spaces i).memory (argument k 0))
+      (second : Some to ≡ path_at (held_at k.spaces i).memory (argument k 1)) (t : FileTree) (r : Result (Unit {0}) TreeFault) where
+    link-makes : row (state_of k) i (mine k i runs) Link ≡ with_made (state_of k) (linked_in k.tree.files d from to)
+    link-makes = rw (home-is k i runs d home) (link-row (state_of k) i (mine k i runs) from to (path-is k i runs 0 (Some from) first) (path-is k i runs 1 (Some to) second))
+
+    link-over : Overflows k.tree.block_limit (linked_in k.tree.files d from to) → outcome_of (state_of k) i (mine k i runs) (Some Link) ≡ Refused
+    link-over over = ap limited link-makes ∙ made-over (state_of k) (linked_in k.tree.files d from to) over
+
+    -- at is what the kernel's fields show
+    module _ (at : Kernel) (same : at ≡ k) where
+      pub link-done : All (λ b. b ≢ 0) to → MakesLink at.tree t d from to r → (v : Unit {0}) → r ≡ Ok v → IsWhole t → Acts k (record at { tree = t }) i (Some Link) (Answers 0)
+      link-done plain = subst (λ (y : Kernel). MakesLink y.tree t d from to r → (v : Unit {0}) → r ≡ Ok v → IsWhole t → Acts k (record y { tree = t }) i (Some Link) (Answers 0)) (sym same) (λ acts v e whole.
+          let made : linked_in k.tree.files d from to ≡ Some t.files = ok-done _ r v e acts.done in
+          name-made k i (here k i runs) t r acts Link (linked_in k.tree.files d from to) link-makes v e made (linked-changed (names-rules k i runs) d to plain from t.files made) whole)
+
+      pub link-sound : MakesLink at.tree t d from to r → (fault : TreeFault) → r ≡ Err fault → IsKernel (faulted at i t (is_device fault))
+      link-sound = subst (λ (y : Kernel). MakesLink y.tree t d from to r → (fault : TreeFault) → r ≡ Err fault → IsKernel (faulted y i t (is_device fault))) (sym same) (λ acts fault e. name-sound k i (here k i runs) t r acts Link runs link-over fault e)
+
+      pub link-fails : MakesLink at.tree t d from to r → (fault : TreeFault) → r ≡ Err fault → (came : Result Came DeviceFault) → IfOk came (λ c. (c ≡ Refuses) × (is_device fault ≡ false)) → OnErr came (is_device fault ≡ true) → ActsOnDisk k (faulted at i t (is_device fault)) i (Some Link) came
+      link-fails = subst (λ (y : Kernel). MakesLink y.tree t d from to r → (fault : TreeFault) → r ≡ Err fault → (came : Result Came DeviceFault) → IfOk came (λ c. (c ≡ Refuses) × (is_device fault ≡ false)) → OnErr came (is_device fault ≡ true) → ActsOnDisk k (faulted y i t (is_device fault)) i (Some Link) came) (sym same)
+          (λ acts fault e. name-refused k i (here k i runs) t r acts Link runs link-over fault e)

@@ -1,0 +1,567 @@
+-- open: the running process has a new open file on a node.
+use Rattle.std.proofs.Common.{Bool, Err, List, None, Ok, Option, Some, [], ap, arith, false, inl, inr, le_trans, length, refl, subst, suc, sym, true, ℕ, ◌+◌, ◌<◌, ◌∙◌, ◌≡◌, ◌≢◌, ◌≤◌}
+use Rattle.std.specs.Prelude.{All, IfOk, IfSome, OnErr, Result, count_by, if◌then◌else◌, is_none, nat_lt, not, option_and_then, option_map, slice_set, ◌==◌, ◌||◌}
+use Rattle.std.proofs.lemmas.Bool.{and_parts, cases_eq, eqb-true, false≢true, lt-ltb, ltb-true}
+use Rattle.std.proofs.lemmas.List.{get_or-set_other, get_or-set_same, length-set}
+use Rattle.std.proofs.lemmas.List.Sums.{sum_by-set}
+use Rattle.std.proofs.lemmas.Option.{none-some, option_and_then_some, same_Some}
+use Rattle.blockdev.specs.declared.DeviceFault.{DeviceFault}
+use Rattle.calls.specs.Acts.{Acts, ActsOnDisk, Runs, outcome_at, settled_by}
+use Rattle.calls.specs.declared.outcome.Came.{Came}
+use Rattle.calls.specs.declared.outcome.Came.TheVariants.{Answers, Refuses}
+use Rattle.calls.specs.Does.{IsServed}
+use Rattle.calls.specs.Opened.{Asks, Cuts, IsCut, IsOpenable, Opens, cut_tree, file_by, has_seat, may_open_by, target_by, with_open}
+use Rattle.calls.specs.Reads.{HasRead}
+use Rattle.calls.specs.Renamed.{OpensAs, free_descriptors}
+use Rattle.calls.proofs.Acts.{Here, here-of, me, named-placed, prints, refused, turned, turned-here, turned-state, used-here, used-turned}
+use Rattle.calls.proofs.Homes.{few-hold, found-here, node-here, refused-read}
+use Rattle.calls.proofs.Names.{MakesNode, faulted, home-is, name-refused, name-sound, names-rules, ok-done, over-blocks, path-is}
+use Rattle.calls.proofs.Pipes.{given-refused}
+use Rattle.calls.proofs.Served.{lost-after, served-after}
+use Rattle.calls.proofs.Shapes.{used-changed}
+use Rattle.files.specs.Counts.{count-opened, names, names-put, one_in}
+use Rattle.files.specs.declared.file.OpenFile.{OpenFile}
+use Rattle.files.specs.declared.file.Target.TheVariants as target
+use Rattle.files.specs.Meant.{file_of, target_of}
+use Rattle.files.specs.Pipes.{IsPiped, has_pipe-put}
+use Rattle.files.specs.Places as places
+use Rattle.files.specs.Places.{Counted, count_at, count_in, file_at, free_count, opens_of}
+use Rattle.files.specs.Whole.{free_slot-opens, opens-opened, table-opened}
+use Rattle.files.proofs.Free.{free-None, free-opens, free-place}
+use Rattle.inode.specs.declared.InodeStat.{InodeStat}
+use Rattle.kernel.proofs.Holding.{hold-more}
+use Rattle.kernel.proofs.Opens.{alike-same, file-opened, place-counts, waits-kept, waits-running, waits-set}
+use Rattle.kernel.proofs.Runs.{process-run, same_or_not, set-slot, slot-other, slot-put, slot-within, within-run}
+use Rattle.kernel.proofs.Steps.{with-tree}
+use Rattle.kernel.specs.Descriptors.{IsCounted, descriptors_in, named_by, names_in}
+use Rattle.kernel.specs.Holding.{FitsNode, IsInUse, files_on, node_in, node_of, node_on}
+use Rattle.kernel.specs.Kernel.{Kernel, argument, state_of}
+use Rattle.kernel.specs.Sound.{IsKernel, IsOpenFile, IsOpened, IsPlaced}
+use Rattle.names.proofs.Finding.{enter-parts, make-parts}
+use Rattle.names.proofs.Quiet as quiet
+use Rattle.names.proofs.Spots.{spot-absent}
+use Rattle.names.specs.Changes.{Changed}
+use Rattle.proc.specs.declared.process.Process.{Process}
+use Rattle.proc.specs.Places.{Places, changed, with_descriptor}
+use Rattle.spaces.specs.Spaces.{held_at}
+use Rattle.tree.proofs.Keeping.{created-changed}
+use Rattle.tree.specs.Answers.{Overflows}
+use Rattle.tree.specs.declared.making.Leaf.TheVariants as leaf
+use Rattle.tree.specs.declared.TreeFault.{TreeFault}
+use Rattle.tree.specs.Entering.{made_files, made_in}
+use Rattle.tree.specs.Holding.{holders, with_hold}
+use Rattle.tree.specs.Leaves.{leaf_node}
+use Rattle.tree.specs.Telling.{Tells, TellsMajor}
+use Rattle.tree.specs.Tree.{FileTree, has_failed, is_device}
+use Rattle.tree.specs.Whole.{IsWhole}
+use Rattle.unixmodel.specs.Calls.{outcome_of, row, settle}
+use Rattle.unixmodel.specs.Counts.{blocks_of}
+use Rattle.unixmodel.specs.declared.call.Call.{Call}
+use Rattle.unixmodel.specs.declared.call.Call.TheVariants.{Open}
+use Rattle.unixmodel.specs.Files.{Files, Node, Spot, change_node, find, free_slot, kind_of, put, slot, spot_of}
+use Rattle.unixmodel.specs.Files.Node.{Device, Directory, File}
+use Rattle.unixmodel.specs.Memory.{path_at}
+use Rattle.unixmodel.specs.NameCalls.{Made, creates, emptied, found_or_made, make_at, made_at, may_open, new_file, open_row, opened, truncated, truncates}
+use Rattle.unixmodel.specs.Numbers.{has_bit, low}
+use Rattle.unixmodel.specs.OpenFiles as unix_files
+use Rattle.unixmodel.specs.OpenFiles.Target.{OnNode}
+use Rattle.unixmodel.specs.Outcome.{Outcome, answers, given, limited, provided}
+use Rattle.unixmodel.specs.Outcome.Outcome.{Done, Refused}
+use Rattle.unixmodel.specs.Process as unix
+use Rattle.unixmodel.specs.State.{State}
+
+-- ---- flags and types
+
+target-node : (n kind major : ℕ) → target_of (target_by n kind major) ≡ OnNode n 0
+target-node n kind major = go (kind == 3) (major == 1) where
+  go : (a b : Bool) → target_of (if a then (if b then target.Console n else target.Device n) else target.File n 0) ≡ OnNode n 0
+  go true true = refl
+  go true false = refl
+  go false b = refl
+
+target-on : (n kind major : ℕ) → node_on (target_by n kind major) ≡ Some n
+target-on n kind major = go (kind == 3) (major == 1) where
+  go : (a b : Bool) → node_on (if a then (if b then target.Console n else target.Device n) else target.File n 0) ≡ Some n
+  go true true = refl
+  go true false = refl
+  go false b = refl
+
+-- that is the open file of the row
+file-by : (f n kind major : ℕ) → file_of (file_by f (target_by n kind major)) ≡ opened f n
+file-by f n kind major = ap (λ (t : unix_files.Target). let g : unix_files.OpenFile = record { target = t; readable = not (has_bit f 0); writable = has_bit f 0 || has_bit f 1 } in g) (target-node n kind major)
+
+may-by : (f : ℕ) (node : Node) (kind major : ℕ) → kind ≡ kind_of node → TellsMajor major node → may_open_by f kind major ≡ may_open f node
+may-by f (File links bytes) kind major e m = rw e refl
+may-by f (Device links a b) kind major e m = rw (e, m) refl
+may-by f (Directory links places) kind major e m = rw e refl
+
+device-fits : (f : OpenFile) (n links a b : ℕ) (c : Bool) → (a == 1) ≡ c → FitsNode f (if c then target.Console n else target.Device n) (Some (Device links a b))
+device-fits f n links a b true e = eqb-true a 1 e
+device-fits f n links a b false e = e
+
+fits-by : (f n : ℕ) (node : Node) (kind major : ℕ) → kind ≡ kind_of node → TellsMajor major node → may_open f node ≡ true → FitsNode (file_by f (target_by n kind major)) (target_by n kind major) (Some node)
+fits-by f n (File links bytes) kind major e m may = rw e (omega arith)
+fits-by f n (Device links a b) kind major e m may = rw (e, m) (device-fits (file_by f (target_by n 3 a)) n links a b (a == 1) refl)
+fits-by f n (Directory links places) kind major e m may = let zero' : f ≡ 0 = eqb-true f 0 may in rw (e, zero') (omega arith, refl)
+
+pub openable-told : (files : Files) (n f : ℕ) (told : InodeStat) → (node : Node) × (slot files n ≡ Some node) → ((node : Node) → slot files n ≡ Some node → Tells told node) → may_open_by f told.kind told.major ≡ true → IsOpenable files n f told
+openable-told files n f told here tells may =
+    let t = tells here.0 here.1 in
+    record { node = here.0; here = here.1; kind = t.0; major = t.3; may = sym (may-by f here.0 told.kind told.major t.0 t.3) ∙ may }
+
+-- a file that is emptied stays of its type
+kind-emptied : (node : Node) → kind_of (emptied node) ≡ kind_of node
+kind-emptied (File links bytes) = refl
+kind-emptied (Device links major minor) = refl
+kind-emptied (Directory links places) = refl
+
+major-emptied : (m : ℕ) (node : Node) → TellsMajor m node → TellsMajor m (emptied node)
+major-emptied m (File links bytes) is = is
+major-emptied m (Device links major minor) is = is
+major-emptied m (Directory links places) is = is
+
+may-emptied : (f : ℕ) (node : Node) → may_open f (emptied node) ≡ may_open f node
+may-emptied f (File links bytes) = refl
+may-emptied f (Device links major minor) = refl
+may-emptied f (Directory links places) = refl
+
+openable-cut : (files : Files) (n f g : ℕ) (told : InodeStat) → IsOpenable files n f told → IsOpenable (truncated g (record { files = files; number = n })) n f told
+openable-cut files n f g told is = go (truncates g) where
+  go : (b : Bool) → IsOpenable (if b then change_node files n emptied else files) n f told
+  go true = record {
+    node = emptied is.node;
+    here = get_or-set_same files n (option_map emptied (slot files n)) None (slot-within files n is.node is.here) ∙ ap (option_map emptied) is.here;
+    kind = is.kind ∙ sym (kind-emptied is.node);
+    major = major-emptied told.major is.node is.major;
+    may = may-emptied f is.node ∙ is.may;
+  }
+  go false = is
+
+-- ---- a descriptor and a place
+
+pub seat-parts : (k : Kernel) (i : ℕ) → has_seat k i ≡ true → (0 < free_descriptors k.table i) × (0 < free_count k.files)
+seat-parts k i is =
+    let parts = and_parts (nat_lt 0 (free_descriptors k.table i)) (nat_lt 0 (free_count k.files)) is in
+    (ltb-true 0 (free_descriptors k.table i) parts.0, ltb-true 0 (free_count k.files) parts.1)
+
+some-place : {X : Type 0} (xs : List (Option X)) (n : ℕ) → free_slot xs ≡ Some n → nat_lt 0 (count_by is_none xs) ≡ true
+some-place xs n at = elim (cases_eq (count_by is_none xs) 0) [
+  | inl none ↦ absurd (none-some n (sym (free-None xs none) ∙ at))
+  | inr some ↦ lt-ltb 0 (count_by is_none xs) (omega (arith, some))
+]
+
+-- ---- the kernel with one open file more
+
+module _ (k : Kernel) (i : ℕ) (x : Here k i) (n : ℕ) (f : OpenFile) (place fd : ℕ) (first : free_slot (opens_of k.files) ≡ Some place) (free : free_slot x.process.descriptors ≡ Some fd)
+    (short : n < length k.tree.holds) (on : node_on f.target ≡ Some n) (fits : FitsNode f f.target (slot k.tree.files n)) (means : target_of f.target ≡ OnNode n 0) where
+  abbrev q : Process
+  q = record x.process { descriptors = put x.process.descriptors fd place }
+
+  abbrev tree : FileTree
+  tree = record k.tree { holds = with_hold k.tree.holds n }
+
+  abbrev files : List (Option Counted)
+  files = places.opened k.files place f
+
+  abbrev one : Counted
+  one = record { file = f; count = 1 }
+
+  place-free : (place < length k.files) × (slot k.files place ≡ None)
+  place-free = free-place k.files place (sym (free_slot-opens k.files) ∙ first)
+
+  fd-free : (fd < length x.process.descriptors) × (slot x.process.descriptors fd ≡ None)
+  fd-free = free-place x.process.descriptors fd free
+
+  pub placed : IsPlaced q x.held
+  placed = named-placed k i x q.descriptors (length-set x.process.descriptors fd (Some place))
+
+  opens-is : opens_of files ≡ put (opens_of k.files) place (file_of f)
+  opens-is = opens-opened k.files place f
+
+  counted : IsCounted files (put k.table.places i q)
+  counted m =
+      let more = count-opened k.files place f place-free.0 place-free.1 m in
+      let sums : named_by (put k.table.places i q) m + names_in m (slot k.table.places i) ≡ named_by k.table.places m + names m q.descriptors = sum_by-set (names_in m) k.table.places i (Some q) None (within-run k i x.process x.held x.run) in
+      let was : names_in m (slot k.table.places i) ≡ names m x.process.descriptors = ap (names_in m) x.run.process in
+      let put_one = names-put m x.process.descriptors fd place fd-free.0 fd-free.1 in
+      omega (arith, more, sums, was, put_one, x.sound.opened.counted m)
+
+  -- each open file but the new one was there
+  each : (m : ℕ) (g : unix_files.OpenFile) → slot (opens_of files) m ≡ Some g → IsOpenFile g
+  each m g at =
+      let opens = opens_of k.files in
+      let there : slot (put opens place (file_of f)) m ≡ Some g = ap (λ (os : List (Option unix_files.OpenFile)). slot os m) (sym opens-is) ∙ at in
+      elim (same_or_not m place) [
+        | inl same ↦
+            let e : file_of f ≡ g = same_Some (file_of f) g (sym (slot-put opens place (Some (file_of f)) (free-place opens place first).0) ∙ ap (slot (put opens place (file_of f))) (sym same) ∙ there) in
+            subst IsOpenFile e (rw means tt)
+        | inr other ↦ x.sound.opened.each m g (sym (slot-other opens place m (Some (file_of f)) other) ∙ there)
+      ]
+
+  was-there : (m : ℕ) (g : OpenFile) → 0 < count_at k.files m → file_at files m ≡ Some g → file_at k.files m ≡ Some g
+  was-there m g some at =
+      let apart : m ≢ place = λ same. (let none : count_at k.files m ≡ 0 = ap (count_at k.files) same ∙ ap count_in place-free.1 in omega (arith, some, none)) in
+      sym (file-opened k.files place f m apart) ∙ at
+
+  piped : IsPiped k.spaces.pipes (opens_of files)
+  piped = let at = free-place (opens_of k.files) place first in subst (IsPiped k.spaces.pipes) (sym opens-is) (λ r. x.sound.opened.piped r ∙ sym (has_pipe-put (opens_of k.files) place (file_of f) r at.0 at.1 ∙ rw means refl))
+
+  has-opened : IsOpened files k.spaces.pipes (put k.table.places i q)
+  has-opened = let was = x.sound.opened in record {
+    table = table-opened k.files place f was.table;
+    counted = counted;
+    each = each;
+    all = was.all;
+    piped = piped;
+    waits = waits-set files k.table.places i (Some q) (waits-running files q x.run.runs)
+        (λ j. waits-kept k.files files (slot k.table.places j) (λ d m g named at. (g, (was-there m g (place-counts k.files k.table.places was.counted j (slot k.table.places j) refl d m named) at, alike-same g))) (was.waits j));
+  }
+
+  before : IsInUse k.tree k.files (put k.table.places i q)
+  before = used-turned k i x q x.run.runs refl
+
+  files-more : (m : ℕ) → files_on files m ≡ files_on k.files m + one_in m (Some n)
+  files-more m =
+      let sums : files_on files m + one_in m (node_in (slot k.files place)) ≡ files_on k.files m + one_in m (node_in (Some one)) = sum_by-set (λ o. one_in m (node_in o)) k.files place (Some one) None place-free.0 in
+      let none : one_in m (node_in (slot k.files place)) ≡ 0 = ap (λ (o : Option Counted). one_in m (node_in o)) place-free.1 in
+      let new : one_in m (node_in (Some one)) ≡ one_in m (Some n) = ap (one_in m) on in
+      omega (arith, sums, none, new)
+
+  used : IsInUse tree files (put k.table.places i q)
+  used = record {
+    rules = before.rules;
+    zero = before.zero;
+    within = before.within;
+    holds = λ m. omega (arith, hold-more k.tree.holds n short m, before.holds m, files-more m);
+    held = λ m node here bare. omega (arith, hold-more k.tree.holds n short m, before.held m node here bare);
+    fits = λ j c at. elim (same_or_not j place) [
+      | inl same ↦
+          let e : one ≡ c = same_Some one c (sym (slot-put k.files place (Some one) place-free.0) ∙ ap (slot files) (sym same) ∙ at) in
+          subst (λ (d : Counted). FitsNode d.file d.file.target (node_of k.tree.files (node_on d.file.target))) e (subst (λ o. FitsNode f f.target (node_of k.tree.files o)) (sym on) fits)
+      | inr other ↦ before.fits j c (sym (slot-other k.files place j (Some one) other) ∙ at)
+    ];
+    homes = before.homes;
+  }
+
+  abbrev to : Kernel
+  to = turned k i x tree q x.held files k.spaces.pipes placed x.run.runs
+
+  pub opens-here : Here to i
+  opens-here = turned-here k i x tree q x.held files k.spaces.pipes placed x.run.runs x.run.up used has-opened (rw (set-slot k.spaces.places i (Some x.held) x.run.space) x.sound.fits)
+
+  opens-state : state_of to ≡ with_open (state_of k) i (me k i x) fd place (file_of f)
+  opens-state = turned-state k i x tree q x.held files k.spaces.pipes placed x.run.runs ∙ ap (λ (os : List (Option unix_files.OpenFile)). record (with_open (state_of k) i (me k i x) fd place (file_of f)) { opens = os }) opens-is
+
+  pub opens-is-to : record k { tree = tree; table = changed k.table i (with_descriptor fd (Some place)); files = files } ≡ to
+  opens-is-to = rw (x.run.process, set-slot k.spaces.places i (Some x.held) x.run.space) refl
+
+  pub opens-so : (runs : Runs k i) (g : unix_files.OpenFile) → file_of f ≡ g → Opens k to i g fd
+  opens-so runs g means' = record {
+    place = place;
+    first = first;
+    free = ap (λ (o : Option Process). free_slot (descriptors_in o)) x.run.process ∙ free;
+    state = λ p at. opens-state ∙ ap (λ (y : unix.Process). with_open (state_of k) i y fd place (file_of f)) (same_Some (me k i x) p (sym (process-run k i x.process x.held x.run) ∙ at)) ∙ ap (with_open (state_of k) i p fd place) means';
+    runs = record { active = opens-here.run.active; sound = opens-here.sound; zero = runs.zero; aligned = runs.aligned };
+    served = record { up = x.run.up; later = omega arith };
+  }
+
+-- over the fields: at is what they show
+module _ {k : Kernel} {i : ℕ} (runs : Runs k i) {n f : ℕ} {told : InodeStat} (is : IsOpenable k.tree.files n f told) {at : Kernel} (same : at ≡ k) (whole : IsWhole at.tree) where
+  abbrev x : Here k i
+  x = here-of k i runs.sound runs.active
+
+  pub open-there : slot at.tree.files n ≢ None
+  open-there none = none-some is.node (sym none ∙ ap (λ (y : Kernel). slot y.tree.files n) same ∙ is.here)
+
+  pub open-few : holders at.tree.holds n < 65535
+  open-few = subst (λ (y : Kernel). holders y.tree.holds n < 65535) (sym same) (few-hold k i runs n)
+
+  pub open-number : n < 8192
+  open-number = (whole.numbers n open-there).1
+
+  open-short : n < length k.tree.holds
+  open-short = subst (λ (y : Kernel). n < length y.tree.holds) same (whole.numbers n open-there).0
+
+  module _ {g : OpenFile} (asks : g ≡ file_by f (target_by n told.kind told.major)) {held : FileTree} (holds : held ≡ record at.tree { holds = with_hold at.tree.holds n }) {t : Places} {files : List (Option Counted)} {fd : ℕ} (one : OpensAs at.table t at.files files i g fd) where
+    abbrev g' : OpenFile
+    g' = file_by f (target_by n told.kind told.major)
+
+    one' : OpensAs k.table t k.files files i g' fd
+    one' = subst (λ (y : Kernel). OpensAs y.table t y.files files i g' fd) same (subst (λ (h : OpenFile). OpensAs at.table t at.files files i h fd) asks one)
+
+    fits : FitsNode g' g'.target (slot k.tree.files n)
+    fits = rw is.here (fits-by f n is.node told.kind told.major is.kind is.major is.may)
+
+    free-here : free_slot x.process.descriptors ≡ Some fd
+    free-here = ap (λ (o : Option Process). free_slot (descriptors_in o)) (sym x.run.process) ∙ one'.free
+
+    abbrev with_parts : Kernel → FileTree → Places → List (Option Counted) → Kernel
+    with_parts y u places opens = record y { tree = u; table = places; files = opens }
+
+    made-so : record at { tree = held; table = t; files = files } ≡ to k i x n g' one'.number fd one'.place free-here open-short (target-on n told.kind told.major) fits (target-node n told.kind told.major)
+    made-so =
+        let u : FileTree = record k.tree { holds = with_hold k.tree.holds n } in
+        ap (λ (v : FileTree). with_parts at v t files) holds
+        ∙ ap (λ (y : Kernel). with_parts y (record y.tree { holds = with_hold y.tree.holds n }) t files) same
+        ∙ ap (λ (places : Places). with_parts k u places files) one'.names
+        ∙ ap (λ (opens : List (Option Counted)). with_parts k u (changed k.table i (with_descriptor fd (Some one'.number))) opens) one'.opens
+        ∙ opens-is-to k i x n g' one'.number fd one'.place free-here open-short (target-on n told.kind told.major) fits (target-node n told.kind told.major)
+
+    pub opens-on : Opens k (record at { tree = held; table = t; files = files }) i (opened f n) fd
+    opens-on =
+        subst (λ (y : Kernel). Opens k y i (opened f n) fd) (sym made-so)
+        (opens-so k i x n g' one'.number fd one'.place free-here open-short (target-on n told.kind told.major) fits (target-node n told.kind told.major) runs (opened f n) (file-by f n told.kind told.major))
+
+-- ---- a file that is emptied
+
+module _ {k : Kernel} {i : ℕ} (runs : Runs k i) (f n : ℕ) where
+  pub cut-not : truncates f ≡ false → IsCut k k i f n
+  cut-not no' = record { same = ap (λ (fs : Files). record k { tree = record k.tree { files = fs } }) (rw no' refl); later = omega arith; runs = runs }
+
+  -- another tree, whose files the running process may use
+  retreed : (t : FileTree) → t.failed ≡ false → Changed k.tree.files t.files → t.holds ≡ k.tree.holds → IsWhole t → Runs (record k { tree = t }) i
+  retreed t up changes same whole =
+      let x = here-of k i runs.sound runs.active in
+      let used = used-changed (used-here k i x) t changes same whole.zero whole.within in
+      record { active = runs.active; sound = with-tree k t runs.sound (record { up = λ j e. up; used = λ good. used }); zero = runs.zero; aligned = runs.aligned }
+
+  pub cut-done : {at : Kernel} → at ≡ k → truncates f ≡ true → (t : FileTree) → t ≡ record at.tree { files = change_node at.tree.files n emptied; failures = t.failures } → at.tree.failures ≤ t.failures → IsWhole t → IsCut k (record at { tree = t }) i f n
+  cut-done {at} same yes' t told later whole =
+      let told' : t ≡ record k.tree { files = change_node k.tree.files n emptied; failures = t.failures } = told ∙ ap (λ (y : Kernel). let u : FileTree = record y.tree { files = change_node y.tree.files n emptied; failures = t.failures } in u) same in
+      let x = here-of k i runs.sound runs.active in
+      let changes : Changed k.tree.files t.files = subst (λ (u : FileTree). Changed k.tree.files u.files) (sym told') (quiet.truncates (names-rules k i runs) n) in
+      rw same (record {
+        same = ap (λ (u : FileTree). record k { tree = u }) (told' ∙ rw yes' refl);
+        later = subst (λ (y : Kernel). y.tree.failures ≤ t.failures) same later;
+        runs = retreed t (ap (λ (u : FileTree). u.failed) told' ∙ x.run.up) changes (ap (λ (u : FileTree). u.holds) told') whole;
+      })
+
+pub cut-ok : {old new : Kernel} {i f n : ℕ} (r : Result (Unit {0}) DeviceFault) (u : Unit {0}) → r ≡ Ok u → Cuts old new i f n r → IsCut old new i f n
+cut-ok (Ok done) u e cuts = cuts
+cut-ok (Err fault) u e cuts = absurd (cc)
+
+-- ---- a new file
+
+made-new : (files : Files) (at : Spot) (made : Made) → make_at files at new_file ≡ Some made → slot made.files made.number ≡ Some (File 1 [])
+made-new files at made h =
+    let n = made.number in
+    let is = make-parts files at new_file made h in
+    let e = enter-parts (put files n (File 1 [])) at n made.files is.entered in
+    let self : slot (put files n (File 1 [])) n ≡ Some (File 1 []) = get_or-set_same files n (Some (File 1 [])) None is.free.within in
+    elim (cases_eq n at.directory) [
+      | inl same ↦ absurd (let bad : 2 ≡ 1 = ap kind_of (same_Some (File 1 []) (Directory (suc e.links) e.places) (sym self ∙ ap (slot (put files n (File 1 []))) same ∙ e.here)) in omega (arith, bad))
+      | inr other ↦ ap (λ fs. slot fs n) e.is ∙ get_or-set_other (put files n (File 1 [])) at.directory n (Some (Directory (suc e.links) e.next)) None other ∙ self
+    ]
+
+-- it is empty already
+truncated-new : (f : ℕ) (got : Made) → slot got.files got.number ≡ Some (File 1 []) → truncated f got ≡ got.files
+truncated-new f got here = go (truncates f) where
+  go : (b : Bool) → (if b then change_node got.files got.number emptied else got.files) ≡ got.files
+  go true = ap (λ (o : Option Node). slice_set got.files got.number (option_map emptied o)) here ∙ set-slot got.files got.number (Some (File 1 [])) here
+  go false = refl
+
+-- ---- the row
+
+-- what open comes to where it may open the node that it got
+abbrev opens_seat : State → ℕ → unix.Process → ℕ → Made → Outcome
+opens_seat s i p f got =
+    given (free_slot p.descriptors) λ fd.
+    given (free_slot s.opens) λ place.
+    answers (record (with_open s i p fd place (opened f got.number)) { files = truncated f got }) fd
+
+-- and where it got one
+abbrev opens_got : State → ℕ → unix.Process → ℕ → Made → Outcome
+opens_got s i p f got = given (slot got.files got.number) λ node. provided (may_open f node) (opens_seat s i p f got)
+
+provided-refused : (b : Bool) (rest : Outcome) → limited rest ≡ Refused → limited (provided b rest) ≡ Refused
+provided-refused true rest is = is
+provided-refused false rest is = refl
+
+provided-not : (b : Bool) (rest : Outcome) → b ≡ false → limited (provided b rest) ≡ Refused
+provided-not b rest no' = rw no' refl
+
+module _ (k : Kernel) (i : ℕ) (runs : Runs k i) where
+  abbrev now : Here k i
+  now = here-of k i runs.sound runs.active
+
+  abbrev home : ℕ
+  home = now.process.directory
+
+  abbrev mine : unix.Process
+  mine = me k i now
+
+  pub open-pathless : None ≡ path_at (held_at k.spaces i).memory (argument k 0) → Acts k k i (Some Open) Refuses
+  unfolding open_row
+  open-pathless none = let at = path-is k i runs 0 None none in refused k i now (Some Open) (rw at refl)
+
+  open-row : (path : List ℕ) (f : ℕ) (o : Option ℕ) → Asks k i path f o → row (state_of k) i mine Open ≡ given (found_or_made k.tree.files home path f o) (opens_got (state_of k) i mine f)
+  unfolding open_row
+  open-row path f o asks = let at = path-is k i runs 0 (Some path) asks.named in let found = found-here k i runs path o asks.found in rw (asks.flags, at, found) refl
+
+  -- no descriptor or no place is free
+  full : has_seat k i ≡ false → (f : ℕ) (made : Option Made) → limited (given made (opens_got (state_of k) i mine f)) ≡ Refused
+  full none f made =
+      given-refused made _ (λ got e1. given-refused (slot got.files got.number) _ (λ node e2. provided-refused (may_open f node) _ (
+      given-refused (free_slot now.process.descriptors) _ (λ fd e3. given-refused (free_slot (opens_of k.files)) _ (λ place e4.
+      let one : nat_lt 0 (free_descriptors k.table i) ≡ true = some-place (descriptors_in (slot k.table.places i)) fd (ap (λ (o : Option Process). free_slot (descriptors_in o)) now.run.process ∙ e3) in
+      let two : nat_lt 0 (free_count k.files) ≡ true = ap (nat_lt 0) (sym (free-opens k.files)) ∙ some-place (opens_of k.files) place e4 in
+      absurd (false≢true (sym none ∙ rw (one, two) refl)))))))
+
+  -- e is kernel k with that tree, in which it got the node; then it was opened
+  opens-acts : (tree : FileTree) → tree.block_limit ≡ k.tree.block_limit → k.tree.failures ≤ tree.failures → (e : Kernel) → e ≡ record k { tree = tree } → (f : ℕ) (got : Made) → tree.files ≡ truncated f got
+      → row (state_of k) i mine Open ≡ opens_got (state_of k) i mine f got → (node : Node) → slot got.files got.number ≡ Some node → may_open f node ≡ true
+      → (new : Kernel) (fd : ℕ) → Opens e new i (opened f got.number) fd → Acts k new i (Some Open) (Answers fd)
+  opens-acts tree limit later e is f got cut made node here may new fd opens =
+      let one : Opens (record k { tree = tree }) new i (opened f got.number) fd = subst (λ (y : Kernel). Opens y new i (opened f got.number) fd) is opens in
+      let free : free_slot now.process.descriptors ≡ Some fd = ap (λ (o : Option Process). free_slot (descriptors_in o)) (sym now.run.process) ∙ one.free in
+      let last = with_open (state_of k) i mine fd one.place (opened f got.number) in
+      let state : state_of new ≡ record last { files = truncated f got } =
+      one.state mine (process-run k i now.process now.held now.run)
+      ∙ ap (λ (fs : Files). record last { files = fs; block_limit = tree.block_limit }) cut
+      ∙ ap (λ (b : ℕ). record last { files = truncated f got; block_limit = b }) limit in
+      prints k i now new Open fd [] (here-of new i one.runs.sound one.runs.active) (record { up = one.served.up; later = le_trans later one.served.later })
+      (made
+      ∙ ap (λ (o : Option Node). given o (λ m. provided (may_open f m) (opens_seat (state_of k) i mine f got))) here
+      ∙ ap (λ (b : Bool). provided b (opens_seat (state_of k) i mine f got)) may
+      ∙ rw (free, one.first) (ap (λ (s : State). Done s fd []) (sym state)))
+
+  -- ---- the path reaches number n
+
+  module _ (n f : ℕ) (asks : (path : List ℕ) × Asks k i path f (Some n)) where
+    abbrev got : Made
+    got = record { files = k.tree.files; number = n }
+
+    pub open-node : (node : Node) × (slot k.tree.files n ≡ Some node)
+    open-node = node-here k i runs asks.0 n (found-here k i runs asks.0 (Some n) asks.1.found)
+
+    open-got : row (state_of k) i mine Open ≡ opens_got (state_of k) i mine f got
+    open-got = open-row asks.0 f (Some n) asks.1
+
+    module _ (k1 : Kernel) (told : InodeStat) (reads : HasRead k k1 × ((node : Node) → slot k.tree.files n ≡ Some node → Tells told node)) where
+      pub open-closed : may_open_by f told.kind told.major ≡ false → Acts k k1 i (Some Open) Refuses
+      open-closed no' =
+          refused-read k k1 i now Open reads.0 (
+          ap limited open-got
+          ∙ given-refused (slot k.tree.files n) _ (λ node here. let t = reads.1 node here in provided-not (may_open f node) _ (sym (may-by f node told.kind told.major t.0 t.3) ∙ no')))
+
+      pub open-full : has_seat k1 i ≡ false → Acts k k1 i (Some Open) Refuses
+      open-full none = refused-read k k1 i now Open reads.0 (ap limited open-got ∙ full (subst (λ (y : Kernel). has_seat y i ≡ false) reads.0.same none) f (Some got))
+
+      pub node-then : slot k1.tree.files n ≢ None
+      node-then none = none-some open-node.0 (sym none ∙ ap (λ (y : Kernel). slot y.tree.files n) reads.0.same ∙ open-node.1)
+
+      module _ (may : may_open_by f told.kind told.major ≡ true) (k2 : Kernel) (cut : IsCut k1 k2 i f n) where
+        may-open : IsOpenable k.tree.files n f told
+        may-open = openable-told k.tree.files n f told open-node reads.1 may
+
+        pub may-open-cut : IsOpenable k2.tree.files n f told
+        may-open-cut = subst (λ (y : Kernel). IsOpenable y.tree.files n f told) (sym cut.same) (openable-cut k1.tree.files n f f told (subst (λ (y : Kernel). IsOpenable y.tree.files n f told) (sym reads.0.same) may-open))
+
+        pub seat-cut : has_seat k1 i ≡ true → has_seat k2 i ≡ true
+        seat-cut is = subst (λ (y : Kernel). has_seat y i ≡ true) (sym cut.same) is
+
+        after-cut : k2 ≡ record k { tree = cut_tree k.tree f n k2.tree.failures }
+        after-cut = cut.same ∙ ap (λ (y : Kernel). record y { tree = cut_tree y.tree f n k2.tree.failures }) reads.0.same
+
+        pub open-found : (new : Kernel) (fd : ℕ) → Opens k2 new i (opened f n) fd → Acts k new i (Some Open) (Answers fd)
+        open-found new fd opens = opens-acts (cut_tree k.tree f n k2.tree.failures) refl (le_trans reads.0.later cut.later) k2 after-cut f got refl open-got may-open.node may-open.here may-open.may new fd opens
+
+  -- ---- it reaches nothing
+
+  module _ (path : List ℕ) (f : ℕ) (asks : Asks k i path f None) where
+    pub open-absent : creates f ≡ false → Acts k k i (Some Open) Refuses
+    open-absent no' = refused k i now (Some Open) (ap limited (open-row path f None asks) ∙ rw no' refl)
+
+    module _ (asked : creates f ≡ true) where
+      abbrev made_here : Option Made
+      made_here = option_and_then (λ at. make_at k.tree.files at new_file) (spot_of k.tree.files home path)
+
+      new-row : row (state_of k) i mine Open ≡ given made_here (opens_got (state_of k) i mine f)
+      new-row = open-row path f None asks ∙ ap (λ (b : Bool). given (if b then made_here else None) (opens_got (state_of k) i mine f)) asked
+
+      pub open-new-full : has_seat k i ≡ false → Acts k k i (Some Open) Refuses
+      open-new-full none = refused k i now (Some Open) (ap limited new-row ∙ full none f made_here)
+
+      made-is : made_in k.tree.files home path (File 1 []) ≡ made_here
+      unfolding made_in made_at
+      made-is = go (spot_of k.tree.files home path) refl where
+        go : (o : Option Spot) → spot_of k.tree.files home path ≡ o → option_and_then (λ at. made_at k.tree.files at (λ n. File 1 [])) o ≡ option_and_then (λ at. make_at k.tree.files at new_file) o
+        go None e = refl
+        go (Some at) e = ap (λ (o : Option ℕ). if is_none o then make_at k.tree.files at new_file else None) (spot-absent k.tree.files home path at e (found-here k i runs path None asks.found))
+
+      -- the new node is an empty file
+      made-there : (made : Made) → made_here ≡ Some made → slot made.files made.number ≡ Some (File 1 [])
+      made-there made e = option_and_then_some (λ at. make_at k.tree.files at new_file) (spot_of k.tree.files home path) made e (λ at spot is. made-new k.tree.files at made is)
+
+      module _ (d : ℕ) (at-home : IfSome (slot k.table.places i) (λ p. d ≡ p.directory)) where
+        made-from : made_in k.tree.files d path (leaf_node leaf.File) ≡ made_here
+        made-from = ap (λ (m : ℕ). made_in k.tree.files m path (File 1 [])) (home-is k i runs d at-home) ∙ made-is
+
+        new-over : Overflows k.tree.block_limit (made_files (made_in k.tree.files d path (leaf_node leaf.File))) → outcome_of (state_of k) i mine (Some Open) ≡ Refused
+        new-over over =
+            ap limited new-row
+            ∙ given-refused made_here _ (λ made e1.
+            let empty = truncated-new f made (made-there made e1) in
+            given-refused (slot made.files made.number) _ (λ node e2. provided-refused (may_open f node) _ (given-refused (free_slot now.process.descriptors) _ (λ fd e3. given-refused (free_slot (opens_of k.files)) _ (λ place e4.
+            let last : State = record (with_open (state_of k) i mine fd place (opened f made.number)) { files = truncated f made } in
+            ap (λ (b : Bool). provided b (Done last fd [])) (over-blocks last (subst (λ (fs : Files). k.tree.block_limit < blocks_of fs) (sym empty) (over made.files (ap made_files (made-from ∙ e1))))))))))
+
+        module _ (t : FileTree) (r : Result ℕ TreeFault) (at : Kernel) (same : at ≡ k) where
+          pub create-sound : MakesNode at.tree t d path leaf.File r → (fault : TreeFault) → r ≡ Err fault → IsKernel (faulted at i t (is_device fault))
+          create-sound = subst (λ (y : Kernel). MakesNode y.tree t d path leaf.File r → (fault : TreeFault) → r ≡ Err fault → IsKernel (faulted y i t (is_device fault))) (sym same) (λ acts fault e. name-sound k i now t r acts Open runs new-over fault e)
+
+          pub create-fails : MakesNode at.tree t d path leaf.File r → (fault : TreeFault) → r ≡ Err fault → (came : Result Came DeviceFault) → IfOk came (λ c. (c ≡ Refuses) × (is_device fault ≡ false)) → OnErr came (is_device fault ≡ true) → ActsOnDisk k (faulted at i t (is_device fault)) i (Some Open) came
+          create-fails = subst (λ (y : Kernel). MakesNode y.tree t d path leaf.File r → (fault : TreeFault) → r ≡ Err fault → (came : Result Came DeviceFault) → IfOk came (λ c. (c ≡ Refuses) × (is_device fault ≡ false)) → OnErr came (is_device fault ≡ true) → ActsOnDisk k (faulted y i t (is_device fault)) i (Some Open) came) (sym same)
+              (λ acts fault e. name-refused k i now t r acts Open runs new-over fault e)
+
+          module _ (acts : MakesNode at.tree t d path leaf.File r) (plain : All (λ b. b ≢ 0) path) (v : ℕ) (done : r ≡ Ok v) (whole : IsWhole t) where
+            created : MakesNode k.tree t d path leaf.File r
+            created = subst (λ (y : Kernel). MakesNode y.tree t d path leaf.File r) same acts
+
+            abbrev new_node : Made
+            new_node = record { files = t.files; number = v }
+
+            made : made_in k.tree.files d path (leaf_node leaf.File) ≡ Some new_node
+            made = ok-done _ r v done created.done
+
+            new-there : slot t.files v ≡ Some (File 1 [])
+            new-there = made-there new_node (sym made-from ∙ made)
+
+            pub created-runs : Runs (record at { tree = t }) i
+            created-runs = rw same (retreed runs f v t (created.failed ∙ ap has_failed done) (created-changed (names-rules k i runs) d path plain leaf.File new_node made) created.holds whole)
+
+            pub created-openable : (told : InodeStat) → told.kind ≡ 2 → IsOpenable t.files v f told
+            created-openable told kind = record { node = File 1 []; here = new-there; kind = kind; major = tt; may = refl }
+
+            pub created-seat : has_seat k i ≡ true → has_seat (record at { tree = t }) i ≡ true
+            created-seat is = rw same is
+
+            pub open-created : (new : Kernel) (fd : ℕ) → Opens (record at { tree = t }) new i (opened f v) fd → Acts k new i (Some Open) (Answers fd)
+            open-created new fd opens =
+                let made-here = sym made-from ∙ made in
+                opens-acts t created.limit created.later (record at { tree = t }) (rw same refl) f new_node (sym (truncated-new f new_node new-there))
+                (new-row ∙ ap (λ o. given o (opens_got (state_of k) i mine f)) made-here) (File 1 []) new-there refl new fd opens
+
+-- ---- once the path was looked up
+
+-- that is asked for then
+pub asked : {k k1 : Kernel} (i : ℕ) (path : List ℕ) (f : ℕ) (o : Option ℕ) → HasRead k k1 × IfSome (slot k.table.places i) (λ p. o ≡ find k.tree.files p.directory path) → Some path ≡ path_at (held_at k.spaces i).memory (argument k 0) → f ≡ low (argument k 1)
+    → (q : Option ℕ) → o ≡ q → Asks k1 i path f q
+asked {k} {k1} i path f o reads named flags q is =
+    subst (λ (y : Kernel). Asks y i path f q) (sym reads.0.same)
+    (record { named = named; flags = flags; found = subst (λ (r : Option ℕ). IfSome (slot k.table.places i) (λ p. r ≡ find k.tree.files p.directory path)) is reads.1 })
+
+module _ (k k1 new : Kernel) (i : ℕ) (has : HasRead k k1) where
+  looked : k.tree.failed ≡ false → IsServed k.tree k1.tree
+  looked up = record { up = ap (λ (y : Kernel). y.tree.failed) has.same ∙ up; later = has.later }
+
+  pub after-look : k.tree.failed ≡ false → (call : Call) (r : Result Came DeviceFault) → ActsOnDisk k1 new i (Some call) r → ActsOnDisk k new i (Some call) r
+  after-look up call (Err fault) lost = lost-after (looked up) lost
+  after-look up call (Ok came) acts = record {
+    makes = subst (λ (y : Kernel). settle (state_of y) i (outcome_at (state_of y) i (Some call)) ≡ record { state = settled_by (state_of new) i came; bytes = [] }) has.same acts.makes;
+    active = acts.active;
+    sound = acts.sound;
+    can = acts.can;
+    printed = acts.printed;
+    served = served-after (looked up) acts.served;
+  }

@@ -1,0 +1,106 @@
+-- What holds of who holds nodes, where files change and the nodes that somebody holds stay of their type.
+use Rattle.std.proofs.Common.{◌≡◌, ℕ, ◌≤◌, ◌∙◌, List, None, Option, Some, ap, arith, refl, subst, sym}
+use Rattle.std.specs.Prelude.{IfSome, IsSome, option_map, sum_by}
+use Rattle.std.proofs.lemmas.Bool.Decides.{nat_tests}
+use Rattle.std.proofs.lemmas.Option.{none-some}
+use Rattle.files.specs.Counts.{one_in}
+use Rattle.files.specs.declared.file.OpenFile.{OpenFile}
+use Rattle.files.specs.declared.file.Target.{Target}
+use Rattle.files.specs.declared.file.Target.TheVariants as target
+use Rattle.files.specs.Places.{Counted}
+use Rattle.kernel.specs.Holding.{FitsNode, IsFolder, IsInUse, files_on, home_in, node_in, node_of, node_on}
+use Rattle.kernel.proofs.Holding.{held-there, home-held, least}
+use Rattle.names.specs.Changes.{Changed, shape}
+use Rattle.names.specs.Rules.{KeepsTree}
+use Rattle.proc.specs.declared.process.Process.{Process}
+use Rattle.tree.specs.Holding.{holders}
+use Rattle.tree.specs.Tree.{FileTree}
+use Rattle.unixmodel.specs.Counts.{blocks_of}
+use Rattle.unixmodel.specs.Files.{Files, Node, links_of, slot}
+use Rattle.unixmodel.specs.Files.Node.{Device, Directory, File}
+
+-- a node fits by its shape
+to-shape : (f : OpenFile) (t : Target) (o : Option Node) → FitsNode f t o → FitsNode f t (option_map shape o)
+to-shape f (target.Pipe pipe e) o is = tt
+to-shape f (target.File number offset) None is = absurd is
+to-shape f (target.File number offset) (Some (File links bytes)) is = is
+to-shape f (target.File number offset) (Some (Device links major minor)) is = absurd is
+to-shape f (target.File number offset) (Some (Directory links places)) is = is
+to-shape f (target.Console number) None is = absurd is
+to-shape f (target.Console number) (Some (File links bytes)) is = absurd is
+to-shape f (target.Console number) (Some (Device links major minor)) is = is
+to-shape f (target.Console number) (Some (Directory links places)) is = absurd is
+to-shape f (target.Device number) None is = absurd is
+to-shape f (target.Device number) (Some (File links bytes)) is = absurd is
+to-shape f (target.Device number) (Some (Device links major minor)) is = is
+to-shape f (target.Device number) (Some (Directory links places)) is = absurd is
+
+of-shape : (f : OpenFile) (t : Target) (o : Option Node) → FitsNode f t (option_map shape o) → FitsNode f t o
+of-shape f (target.Pipe pipe e) o is = tt
+of-shape f (target.File number offset) None is = absurd is
+of-shape f (target.File number offset) (Some (File links bytes)) is = is
+of-shape f (target.File number offset) (Some (Device links major minor)) is = absurd is
+of-shape f (target.File number offset) (Some (Directory links places)) is = is
+of-shape f (target.Console number) None is = absurd is
+of-shape f (target.Console number) (Some (File links bytes)) is = absurd is
+of-shape f (target.Console number) (Some (Device links major minor)) is = is
+of-shape f (target.Console number) (Some (Directory links places)) is = absurd is
+of-shape f (target.Device number) None is = absurd is
+of-shape f (target.Device number) (Some (File links bytes)) is = absurd is
+of-shape f (target.Device number) (Some (Device links major minor)) is = is
+of-shape f (target.Device number) (Some (Directory links places)) is = absurd is
+
+to-folder : (o : Option Node) → IsFolder o → IsFolder (option_map shape o)
+to-folder None is = absurd is
+to-folder (Some (File links bytes)) is = absurd is
+to-folder (Some (Device links major minor)) is = absurd is
+to-folder (Some (Directory links places)) is = tt
+
+of-folder : (o : Option Node) → IsFolder (option_map shape o) → IsFolder o
+of-folder None is = absurd is
+of-folder (Some (File links bytes)) is = absurd is
+of-folder (Some (Device links major minor)) is = absurd is
+of-folder (Some (Directory links places)) is = tt
+
+pub folder-there : (o : Option Node) → IsFolder o → IsSome o
+folder-there None is = absurd is
+folder-there (Some node) is = refl
+
+pub there : (o : Option Node) → (o ≡ None → ⊥) → IsSome o
+there None is = absurd (is refl)
+there (Some node) is = refl
+
+module _ {t : FileTree} {opens : List (Option Counted)} {os : List (Option Process)} (is : IsInUse t opens os) where
+  -- the node of an open file is held
+  file-held : (k : ℕ) (c : Counted) (n : ℕ) → slot opens k ≡ Some c → node_on c.file.target ≡ Some n → 1 ≤ holders t.holds n
+  file-held k c n at on =
+      let self : one_in n (Some n) ≡ 1 = grind (arith, nat_tests) in
+      let same : one_in n (node_on c.file.target) ≡ one_in n (Some n) = ap (one_in n) on in
+      omega (arith, least (λ o. one_in n (node_in o)) opens k c at, same, self, is.holds n)
+
+  module _ (now : FileTree) (stays : (n : ℕ) → 1 ≤ holders t.holds n → option_map shape (slot now.files n) ≡ option_map shape (slot t.files n)) where
+    fits-stays : (f : OpenFile) (on : Target) (o : Option ℕ) → ((n : ℕ) → o ≡ Some n → 1 ≤ holders t.holds n) → FitsNode f on (node_of t.files o) → FitsNode f on (node_of now.files o)
+    fits-stays f on None held fits = fits
+    fits-stays f on (Some n) held fits = of-shape f on (slot now.files n) (subst (FitsNode f on) (sym (stays n (held n refl))) (to-shape f on (slot t.files n) fits))
+
+    home-stays : (o : Option ℕ) → ((d : ℕ) → o ≡ Some d → 1 ≤ holders t.holds d) → IfSome o (λ d. IsFolder (slot t.files d)) → IfSome o (λ d. IsFolder (slot now.files d))
+    home-stays None held folder = tt
+    home-stays (Some d) held folder = of-folder (slot now.files d) (subst IsFolder (sym (stays d (held d refl))) (to-folder (slot t.files d) folder))
+
+    -- who holds which node stays
+    pub used-shaped : KeepsTree now.files → now.holds ≡ t.holds → slot now.files 0 ≡ None → blocks_of now.files ≤ now.block_limit
+        → ((n : ℕ) (node : Node) → slot now.files n ≡ Some node → links_of node ≡ 0 → 1 ≤ holders t.holds n) → IsInUse now opens os
+    used-shaped rules same none few held = record {
+      rules = rules;
+      zero = none;
+      within = few;
+      holds = λ n. rw same (is.holds n);
+      held = λ n node at bare. rw same (held n node at bare);
+      fits = λ k c at. fits-stays c.file c.file.target (node_on c.file.target) (λ n on. file-held k c n at on) (is.fits k c at);
+      homes = λ j. home-stays (home_in (slot os j)) (λ d at. home-held is j d at) (is.homes j);
+    }
+
+  -- no node loses its last link
+  pub used-changed : (now : FileTree) → Changed t.files now.files → now.holds ≡ t.holds → slot now.files 0 ≡ None → blocks_of now.files ≤ now.block_limit → IsInUse now opens os
+  used-changed now changed same none few = used-shaped now (λ n some. changed.stays n (there (slot t.files n) (held-there is n some)))
+      changed.tree same none few (λ n node at bare. let was = changed.idle n node at bare in is.held n was.was was.here was.none)

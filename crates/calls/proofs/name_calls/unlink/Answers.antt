@@ -1,0 +1,18 @@
+use Rattle.kernel.specs.View.{kernel_of}
+use Rattle.calls.proofs.Unlinks.{unlink-done, unlink-fails, unlink-pathless, unlink-sound}
+use Rattle.calls.proofs.name_calls.unlink.Goals as goal
+
+pub returns-in_default : goal.returns-in_default
+returns-in_default g c = unlink-pathless c.args.kernel.now c.args.at c.requires c.in_default.ensures.path
+
+pub invariant_of-kernel : goal.invariant_of-kernel
+invariant_of-kernel g c = (unlink-done c.args.kernel.now c.args.at c.requires c.home-directory.result c.home-directory.ensures _ c.in-Some.ensures.path c.unlink.new.self c.unlink.result (kernel_of c.kernel.inside) c.kernel.view_is c.unlink.ensures _ c.in-Ok.is c.is_whole.ensures).sound
+
+pub invariant_of-kernel-in-Err : goal.invariant_of-kernel-in-Err
+invariant_of-kernel-in-Err g c = rw (c.refuse.ensures.table, c.refuse.ensures.spaces) (unlink-sound c.args.kernel.now c.args.at c.requires c.home-directory.result c.home-directory.ensures _ c.in-Some.ensures.path c.unlink.new.self c.unlink.result (kernel_of c.kernel.inside) c.kernel.view_is c.unlink.ensures c.in-Err.fault c.in-Err.is)
+
+pub returns-in-Ok : goal.returns-in-Ok
+returns-in-Ok g c = unlink-done c.args.kernel.now c.args.at c.requires c.home-directory.result c.home-directory.ensures _ c.in-Some.ensures.path c.unlink.new.self c.unlink.result (kernel_of c.kernel.inside) c.kernel.view_is c.unlink.ensures _ c.in-Ok.is c.is_whole.ensures
+
+pub returns-in-Err : goal.returns-in-Err
+returns-in-Err g c = rw (c.refuse.ensures.table, c.refuse.ensures.spaces) (unlink-fails c.args.kernel.now c.args.at c.requires c.home-directory.result c.home-directory.ensures _ c.in-Some.ensures.path c.unlink.new.self c.unlink.result (kernel_of c.kernel.inside) c.kernel.view_is c.unlink.ensures c.in-Err.fault c.in-Err.is c.refuse.result c.refuse.ensures.came c.refuse.ensures.failed)

@@ -1,0 +1,28 @@
+use Rattle.std.proofs.Common.{arith, ◌∙◌}
+use Rattle.kernel.specs.View.{kernel_of}
+use Rattle.calls.proofs.Fetches.{reads-done, reads-lost, reads-near, reads-node, reads-number}
+use Rattle.calls.proofs.transfer_calls.read_file.Goals as goal
+
+pub read_node-read-requires-clause-node : goal.read_node-read-requires-clause-node
+read_node-read-requires-clause-node g c = reads-node c.args.kernel.now c.args.at c.args.pending c.args.number c.args.offset c.requires (kernel_of c.kernel.inside) c.kernel.view_is
+
+pub overflow_add-offset : goal.overflow_add-offset
+overflow_add-offset g c =
+    let near = reads-near c.args.kernel.now c.args.at c.args.pending c.args.number c.args.offset c.requires (kernel_of c.kernel.inside) c.kernel.view_is c.is_whole.ensures _ (c.from-count.ensures ∙ c.low-2.ensures) _ _ c.in-Ok.ensures.serves in
+    let low = c.low-in-Ok.ensures in
+    omega (arith, near, low)
+
+pub invariant_of-kernel : goal.invariant_of-kernel
+invariant_of-kernel g c =
+    let at = reads-number c.args.kernel.now c.args.at c.args.pending c.args.number c.args.offset c.requires c.low.ensures _ c.open_id.ensures.named _ c.in-Some.is in
+    let goes = reads-done c.args.kernel.now c.args.at c.args.pending c.args.number c.args.offset c.requires (kernel_of c.kernel.inside) c.kernel.view_is c.is_whole.ensures _ (c.from-count.ensures ∙ c.low-2.ensures) _ _ c.in-Ok.ensures.serves _ c.in-Ok.ensures.written _ (c.from.ensures ∙ at) _ c.low-in-Ok.ensures _ c.set_offset.ensures in
+    goes.comes.sound
+
+pub invariant_of-kernel-in-Err : goal.invariant_of-kernel-in-Err
+invariant_of-kernel-in-Err g c = reads-lost c.args.kernel.now c.args.at c.args.pending c.args.number c.args.offset c.requires (kernel_of c.kernel.inside) c.kernel.view_is _ c.in-Err.fault _ c.in-Err.ensures.serves _ (c.in-Err.ensures.failed.0, c.in-Err.ensures.failed.2) _ c.stop.ensures.table _ c.stop.ensures.spaces
+
+pub returns-in-Ok : goal.returns-in-Ok
+returns-in-Ok g c =
+    let at = reads-number c.args.kernel.now c.args.at c.args.pending c.args.number c.args.offset c.requires c.low.ensures _ c.open_id.ensures.named _ c.in-Some.is in
+    let goes = reads-done c.args.kernel.now c.args.at c.args.pending c.args.number c.args.offset c.requires (kernel_of c.kernel.inside) c.kernel.view_is c.is_whole.ensures _ (c.from-count.ensures ∙ c.low-2.ensures) _ _ c.in-Ok.ensures.serves _ c.in-Ok.ensures.written _ (c.from.ensures ∙ at) _ c.low-in-Ok.ensures _ c.set_offset.ensures in
+    goes

@@ -1,0 +1,86 @@
+-- What open makes of a kernel, step by step.
+use Rattle.std.specs.Prelude.{Bool, Err, IfSome, List, Ok, Option, Result, Some, if◌then◌else◌, nat_le, nat_lt, not, true, ℕ, ◌&&◌, ◌==◌, ◌||◌, ◌≡◌, ◌≤◌}
+use Rattle.blockdev.specs.declared.DeviceFault.{DeviceFault}
+use Rattle.calls.specs.Acts.{Runs}
+use Rattle.calls.specs.Does.{IsLost, IsServed}
+use Rattle.calls.specs.Renamed.{free_descriptors}
+use Rattle.files.specs.declared.file.OpenFile.{OpenFile}
+use Rattle.files.specs.declared.file.Target.{Target}
+use Rattle.files.specs.declared.file.Target.TheVariants as target
+use Rattle.files.specs.Places.{free_count, opens_of}
+use Rattle.inode.specs.declared.InodeStat.{InodeStat}
+use Rattle.kernel.specs.Kernel.{Kernel, argument, descriptors_at, state_of}
+use Rattle.spaces.specs.Spaces.{held_at}
+use Rattle.tree.specs.Telling.{TellsMajor}
+use Rattle.tree.specs.Tree.{FileTree}
+use Rattle.unixmodel.specs.FileCalls.{with_descriptor}
+use Rattle.unixmodel.specs.Files.{Files, Node, find, free_slot, kind_of, put, slot}
+use Rattle.unixmodel.specs.Memory.{path_at}
+use Rattle.unixmodel.specs.NameCalls.{may_open, truncated}
+use Rattle.unixmodel.specs.Numbers.{has_bit, low}
+use Rattle.unixmodel.specs.OpenFiles as unix
+use Rattle.unixmodel.specs.Process.{Process}
+use Rattle.unixmodel.specs.State.{State, process_at}
+
+-- ---- what is asked for
+
+-- argument 0 is that path, argument 1 the flags, and o is the number that the path reaches
+pub record Asks (k : Kernel) (i : ℕ) (path : List ℕ) (f : ℕ) (o : Option ℕ) : Type 0 where
+  pub named : Some path ≡ path_at (held_at k.spaces i).memory (argument k 0)
+  pub flags : f ≡ low (argument k 1)
+  pub found : IfSome (slot k.table.places i) (λ p. o ≡ find k.tree.files p.directory path)
+
+-- ---- an open file
+
+-- what is open on number n, whose inode tells that type and major
+abbrev pub target_by : ℕ → ℕ → ℕ → Target
+target_by n kind major = if kind == 3 then (if major == 1 then target.Console n else target.Device n) else target.File n 0
+
+-- the open file that flags f ask for
+abbrev pub file_by : ℕ → Target → OpenFile
+file_by f on = record { target = on; readable = not (has_bit f 0); writable = has_bit f 0 || has_bit f 1 }
+
+-- whether flags f may open what tells that type and major
+abbrev pub may_open_by : ℕ → ℕ → ℕ → Bool
+may_open_by f kind major = if kind == 1 then f == 0 else if kind == 3 then nat_le major 9 else true
+
+-- flags f may open number n, of which that is told
+pub record IsOpenable (files : Files) (n f : ℕ) (told : InodeStat) : Type 0 where
+  pub node : Node
+  pub here : slot files n ≡ Some node
+  pub kind : told.kind ≡ kind_of node
+  pub major : TellsMajor told.major node
+  pub may : may_open f node ≡ true
+
+-- ---- a descriptor and a place for it
+
+abbrev pub has_seat : Kernel → ℕ → Bool
+has_seat k i = nat_lt 0 (free_descriptors k.table i) && nat_lt 0 (free_count k.files)
+
+-- descriptor fd of process p, in place i, names f, which takes a place
+abbrev pub with_open : State → ℕ → Process → ℕ → ℕ → unix.OpenFile → State
+with_open s i p fd place f = record s { places = put s.places i (with_descriptor p fd place); opens = put s.opens place f }
+
+-- the lowest free descriptor of process i, fd, names f, which takes the lowest free place
+pub record Opens (old new : Kernel) (i : ℕ) (f : unix.OpenFile) (fd : ℕ) : Type 0 where
+  pub place : ℕ
+  pub first : free_slot (opens_of old.files) ≡ Some place
+  pub free : free_slot (descriptors_at old i) ≡ Some fd
+  pub state : (p : Process) → process_at (state_of old) i ≡ Some p → state_of new ≡ with_open (state_of old) i p fd place f
+  pub runs : Runs new i
+  pub served : IsServed old.tree new.tree
+
+-- ---- a file that is emptied
+
+-- the tree in which number n is emptied, if flags f ask for it
+abbrev pub cut_tree : FileTree → ℕ → ℕ → ℕ → FileTree
+cut_tree t f n failures = record t { files = truncated f (record { files = t.files; number = n }); failures = failures }
+
+pub record IsCut (old new : Kernel) (i f n : ℕ) : Type 0 where
+  pub same : new ≡ record old { tree = cut_tree old.tree f n new.tree.failures }
+  pub later : old.tree.failures ≤ new.tree.failures
+  pub runs : Runs new i
+
+abbrev pub Cuts : Kernel → Kernel → ℕ → ℕ → ℕ → Result (Unit {0}) DeviceFault → Type 0
+Cuts old new i f n (Ok done) = IsCut old new i f n
+Cuts old new i f n (Err fault) = IsLost old.tree new.tree

@@ -1,0 +1,74 @@
+//! exec: another program in the place of the one that runs.
+ghost use Rattle.std.specs.Prelude.{◌≡◌, ◌%◌, Some};
+ghost use Rattle.calls.specs.Acts.{ActsOnDisk, Runs};
+ghost use Rattle.calls.specs.Replaced.{Reaches, begun};
+ghost use Rattle.unixmodel.specs.declared.call.Call.TheVariants as Call;
+
+use crate::name_calls::copy_path;
+use crate::open_calls::find;
+use crate::outcome::Came;
+use blockdev::{BlockDev, DeviceFault};
+use kernel::{Kernel, stop};
+use programs::{Started, execute};
+use spaces::Spaces;
+use sv39::Translate;
+use unixmodel::call::Call;
+
+// The hart begins a program.
+fn begin<T: Translate + Drop>(spaces: &mut Spaces<T>, started: &Started)
+    requires { started.now.pc % 4 ≡ 0 }
+    ensures { spaces.new ≡ begun spaces.old started.now }
+{
+    spaces.set_register(2, started.sp);
+    spaces.set_register(10, started.count);
+    spaces.set_register(11, started.sp);
+    spaces.set_pc(started.pc);
+}
+
+// exec of the file that its path reaches.
+fn exec_found<D: BlockDev, T: Translate + Drop>(
+    kernel: &mut Kernel<D, T>,
+    at: usize,
+    number: usize,
+) -> Result<Came, DeviceFault>
+    requires runs { Runs kernel.old at }
+    requires reaches { Reaches kernel.old at number }
+    ensures { ActsOnDisk kernel.old kernel.new at (Some Call.Exec) result }
+{
+    let argv = kernel.argument(1);
+    match execute(&mut kernel.tree, &mut kernel.spaces, at, number, argv) {
+        Ok(Some(started)) => {
+            let _free = kernel.spaces.free();
+            begin(&mut kernel.spaces, &started);
+            kernel.table.set_size(at, started.size);
+            Ok(Came::Answers(started.count))
+        }
+        Ok(None) => Ok(Came::Refuses),
+        Err(fault) => {
+            let _free = kernel.spaces.free();
+            let size = kernel.spaces.size(at);
+            kernel.table.set_size(at, size);
+            stop(&mut kernel.table, &mut kernel.spaces, at);
+            Err(fault)
+        }
+    }
+}
+
+/// exec(path, argv): the program of the file that the path reaches comes in the place of the one that runs, with the arguments
+/// that argv points at.
+pub(crate) fn exec<D: BlockDev, T: Translate + Drop>(
+    kernel: &mut Kernel<D, T>,
+    at: usize,
+) -> Result<Came, DeviceFault>
+    requires { Runs kernel.old at }
+    ensures { ActsOnDisk kernel.old kernel.new at (Some Call.Exec) result }
+{
+    let mut buffer = [0; 127];
+    let Some(count) = copy_path(kernel, at, 0, &mut buffer) else {
+        return Ok(Came::Refuses);
+    };
+    let Some(number) = find(kernel, at, &buffer[..count])? else {
+        return Ok(Came::Refuses);
+    };
+    exec_found(kernel, at, number)
+}

@@ -1,0 +1,70 @@
+//! The calls on what a descriptor is open on: fstat.
+ghost use Rattle.std.specs.Prelude.{◌≡◌, Some};
+ghost use Rattle.calls.specs.Acts.{ActsOnDisk, Runs};
+ghost use Rattle.calls.specs.Reads.{ReadsDisk, stat_told};
+ghost use Rattle.tree.specs.Telling.{Tells};
+ghost use Rattle.unixmodel.specs.declared.call.Call.TheVariants as Call;
+ghost use Rattle.unixmodel.specs.Files.{Node, slot};
+
+use crate::outcome::Came;
+use blockdev::{BlockDev, DeviceFault};
+use inode::InodeStat;
+use kernel::numbers::low;
+use kernel::{Kernel, stop};
+use sv39::Translate;
+use unixmodel::call::Call;
+
+// What a node tells of itself.
+pub(crate) fn stat<D: BlockDev, T: Translate + Drop>(
+    kernel: &mut Kernel<D, T>,
+    at: usize,
+    number: usize,
+) -> Result<InodeStat, DeviceFault>
+    requires runs { Runs kernel.old at }
+    requires node { (node : Node) × (slot kernel.old.tree.files number ≡ Some node) }
+    ensures { ReadsDisk kernel.old kernel.new (λ told. (node : Node) → slot kernel.old.tree.files number ≡ Some node → Tells told node) result }
+{
+    match kernel.tree.stat(number) {
+        Ok(told) => Ok(told),
+        Err(fault) => {
+            stop(&mut kernel.table, &mut kernel.spaces, at);
+            Err(fault)
+        }
+    }
+}
+
+// What fstat writes of a node: device 1, its number, type, links and length.
+fn stat_bytes(number: u32, told: InodeStat) -> [u8; 24]
+    ensures { result ≡ stat_told number told }
+{
+    let mut bytes = [0; 24];
+    bytes[0] = 1;
+    bytes[4..8].copy_from_slice(&number.to_le_bytes());
+    bytes[8..10].copy_from_slice(&told.kind.to_le_bytes());
+    bytes[10..12].copy_from_slice(&told.links.to_le_bytes());
+    bytes[16..].copy_from_slice(&u64::from(told.size).to_le_bytes());
+    bytes
+}
+
+/// fstat(descriptor, address): what the node tells of itself that the descriptor is open on is written at the address.
+pub(crate) fn fstat<D: BlockDev, T: Translate + Drop>(
+    kernel: &mut Kernel<D, T>,
+    at: usize,
+) -> Result<Came, DeviceFault>
+    requires { Runs kernel.old at }
+    ensures { ActsOnDisk kernel.old kernel.new at (Some Call.Fstat) result }
+{
+    let Some(id) = kernel.open_id(at, low(kernel.argument(0))) else {
+        return Ok(Came::Refuses);
+    };
+    let Ok(number) = kernel.files.stat(usize::from(id)) else {
+        return Ok(Came::Refuses);
+    };
+    let address = kernel.argument(1);
+    if !kernel.can_write(at, address, 24) {
+        return Ok(Came::Refuses);
+    }
+    let told = stat(kernel, at, number as usize)?;
+    let _written = kernel.spaces.write(at, address, &stat_bytes(number, told));
+    Ok(Came::Answers(0))
+}

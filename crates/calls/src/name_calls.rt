@@ -1,0 +1,165 @@
+//! The calls on names: mknod, mkdir, link, unlink.
+ghost use Rattle.std.specs.Prelude.{◌≡◌, ◌≢◌, ◌≤◌, ◌<◌, All, IfOk, IfSome, OnErr, Some, false, if◌then◌else◌, option_map, take, true};
+ghost use Rattle.calls.specs.Acts.{ActsOnDisk, Runs};
+ghost use Rattle.calls.specs.declared.outcome.Came.TheVariants.{Refuses};
+ghost use Rattle.kernel.specs.Kernel.{argument, idle, on_hart};
+ghost use Rattle.proc.specs.Places.{changed, with_mode};
+ghost use Rattle.spaces.specs.Spaces.{held_at};
+ghost use Rattle.tree.specs.Tree.{is_device};
+ghost use Rattle.unixmodel.specs.declared.call.Call.TheVariants as Call;
+ghost use Rattle.unixmodel.specs.declared.process.Mode.TheVariants.{Ready};
+ghost use Rattle.unixmodel.specs.Files.{slot};
+ghost use Rattle.unixmodel.specs.Memory.{path_at};
+
+use crate::outcome::Came;
+use blockdev::{BlockDev, DeviceFault};
+use kernel::{Kernel, stop};
+use proc::Table;
+use spaces::Spaces;
+use sv39::Translate;
+use tree::{Leaf, TreeFault};
+use unixmodel::call::Call;
+
+// The directory that the running process works in.
+pub(crate) fn home<D: BlockDev, T: Translate + Drop>(kernel: &Kernel<D, T>, at: usize) -> usize
+    ensures { IfSome (slot kernel.now.table.places at) (λ p. result ≡ p.directory) }
+{
+    match kernel.table.process(at) {
+        Some(process) => process.directory as usize,
+        None => 0,
+    }
+}
+
+// Copies the path in an argument of the call into a buffer, and tells its length.
+pub(crate) fn copy_path<D: BlockDev, T: Translate + Drop>(
+    kernel: &Kernel<D, T>,
+    at: usize,
+    place: usize,
+    buffer: &mut [u8; 127],
+) -> Option<usize>
+    requires active { kernel.now.spaces.active ≡ Some at }
+    requires place { place < 8 }
+    ensures path { option_map (λ n. take n buffer.new) result ≡ path_at (held_at kernel.now.spaces at).memory (argument kernel.now place) }
+    ensures within { IfSome result (λ n. n ≤ 127) }
+    ensures bytes { IfSome result (λ n. All (λ b. b ≢ 0) (take n buffer.new)) }
+{
+    kernel.spaces.copy_path(at, kernel.argument(place), buffer)
+}
+
+// What a call on names comes to that made nothing. Where an access of the device failed the process runs no more.
+pub(crate) fn refuse<T: Translate + Drop>(
+    table: &mut Table,
+    spaces: &mut Spaces<T>,
+    at: usize,
+    fault: TreeFault,
+) -> Result<Came, DeviceFault>
+    ensures came { IfOk result (λ came. (came ≡ Refuses) × (is_device fault ≡ false)) }
+    ensures failed { OnErr result (is_device fault ≡ true) }
+    ensures table { table.new ≡ (if is_device fault then changed table.old at (λ p. with_mode Ready (on_hart spaces.old p)) else table.old) }
+    ensures spaces { spaces.new ≡ (if is_device fault then idle spaces.old else spaces.old) }
+{
+    if fault == TreeFault::Device {
+        stop(table, spaces, at);
+        return Err(DeviceFault);
+    }
+    Ok(Came::Refuses)
+}
+
+/// mknod(path, major, minor): a device with the lowest free number, and a name for it; major and minor are cut to 16 bits.
+pub(crate) fn mknod<D: BlockDev, T: Translate + Drop>(
+    kernel: &mut Kernel<D, T>,
+    at: usize,
+) -> Result<Came, DeviceFault>
+    requires { Runs kernel.old at }
+    ensures { ActsOnDisk kernel.old kernel.new at (Some Call.Mknod) result }
+{
+    let mut buffer = [0; 127];
+    let Some(count) = copy_path(kernel, at, 0, &mut buffer) else {
+        return Ok(Came::Refuses);
+    };
+    let directory = home(kernel, at);
+    let leaf = Leaf::Device {
+        major: (kernel.argument(1) % 0x1_0000) as u16,
+        minor: (kernel.argument(2) % 0x1_0000) as u16,
+    };
+    match kernel.tree.create(directory, &buffer[..count], leaf) {
+        Ok(_) => {
+            kernel.tree.is_whole();
+            Ok(Came::Answers(0))
+        }
+        Err(fault) => refuse(&mut kernel.table, &mut kernel.spaces, at, fault),
+    }
+}
+
+/// mkdir(path): a directory with the lowest free number, and a name for it.
+pub(crate) fn mkdir<D: BlockDev, T: Translate + Drop>(
+    kernel: &mut Kernel<D, T>,
+    at: usize,
+) -> Result<Came, DeviceFault>
+    requires { Runs kernel.old at }
+    ensures { ActsOnDisk kernel.old kernel.new at (Some Call.Mkdir) result }
+{
+    let mut buffer = [0; 127];
+    let Some(count) = copy_path(kernel, at, 0, &mut buffer) else {
+        return Ok(Came::Refuses);
+    };
+    let directory = home(kernel, at);
+    match kernel.tree.create_directory(directory, &buffer[..count]) {
+        Ok(()) => {
+            kernel.tree.is_whole();
+            Ok(Came::Answers(0))
+        }
+        Err(fault) => refuse(&mut kernel.table, &mut kernel.spaces, at, fault),
+    }
+}
+
+/// link(old, new): another name for a file or a device.
+pub(crate) fn link<D: BlockDev, T: Translate + Drop>(
+    kernel: &mut Kernel<D, T>,
+    at: usize,
+) -> Result<Came, DeviceFault>
+    requires { Runs kernel.old at }
+    ensures { ActsOnDisk kernel.old kernel.new at (Some Call.Link) result }
+{
+    let mut old = [0; 127];
+    let Some(old_count) = copy_path(kernel, at, 0, &mut old) else {
+        return Ok(Came::Refuses);
+    };
+    let mut new = [0; 127];
+    let Some(new_count) = copy_path(kernel, at, 1, &mut new) else {
+        return Ok(Came::Refuses);
+    };
+    let directory = home(kernel, at);
+    match kernel
+        .tree
+        .link(directory, &old[..old_count], &new[..new_count])
+    {
+        Ok(()) => {
+            kernel.tree.is_whole();
+            Ok(Came::Answers(0))
+        }
+        Err(fault) => refuse(&mut kernel.table, &mut kernel.spaces, at, fault),
+    }
+}
+
+/// unlink(path): a name is taken away, and its node too where that has no links any more and nobody holds it.
+pub(crate) fn unlink<D: BlockDev, T: Translate + Drop>(
+    kernel: &mut Kernel<D, T>,
+    at: usize,
+) -> Result<Came, DeviceFault>
+    requires { Runs kernel.old at }
+    ensures { ActsOnDisk kernel.old kernel.new at (Some Call.Unlink) result }
+{
+    let mut buffer = [0; 127];
+    let Some(count) = copy_path(kernel, at, 0, &mut buffer) else {
+        return Ok(Came::Refuses);
+    };
+    let directory = home(kernel, at);
+    match kernel.tree.unlink(directory, &buffer[..count]) {
+        Ok(()) => {
+            kernel.tree.is_whole();
+            Ok(Came::Answers(0))
+        }
+        Err(fault) => refuse(&mut kernel.table, &mut kernel.spaces, at, fault),
+    }
+}

@@ -1,0 +1,263 @@
+//! The calls that look for what a path names: open, chdir.
+ghost use Rattle.std.specs.Prelude.{◌≡◌, ◌≢◌, All, IfSome, List, None, Some, true, ℕ};
+ghost use Rattle.calls.specs.Acts.{ActsOnDisk, Runs};
+ghost use Rattle.calls.specs.Opened.{Asks, Cuts, IsOpenable, Opens, file_by, has_seat, may_open_by, target_by};
+ghost use Rattle.calls.specs.Reads.{ReadsDisk};
+ghost use Rattle.unixmodel.specs.declared.call.Call.TheVariants as Call;
+ghost use Rattle.unixmodel.specs.Files.{find, slot};
+ghost use Rattle.unixmodel.specs.NameCalls.{creates, opened, truncates};
+
+use crate::descriptor_calls::open_as;
+use crate::file_calls::stat;
+use crate::name_calls::{copy_path, home, refuse};
+use crate::outcome::Came;
+use blockdev::{BlockDev, DeviceFault};
+use files::{OpenFile, Target};
+use inode::InodeStat;
+use kernel::numbers::low;
+use kernel::{Kernel, descriptors, stop};
+use sv39::Translate;
+use tree::Leaf;
+use unixmodel::call::Call;
+
+// The types of nodes, as an inode tells them.
+const DIRECTORY: u16 = 1;
+
+const DEVICE: u16 = 3;
+
+// The major of the console.
+const CONSOLE: u16 = 1;
+
+// What a new file tells.
+const NEW_FILE: InodeStat = InodeStat {
+    kind: 2,
+    major: 0,
+    links: 1,
+    size: 0,
+};
+
+// The number that a path reaches from the directory that the running process works in.
+pub(crate) fn find<D: BlockDev, T: Translate + Drop>(
+    kernel: &mut Kernel<D, T>,
+    at: usize,
+    path: &[u8],
+) -> Result<Option<usize>, DeviceFault>
+    requires { Runs kernel.old at }
+    ensures { ReadsDisk kernel.old kernel.new (λ number. IfSome (slot kernel.old.table.places at) (λ p. number ≡ find kernel.old.tree.files p.directory path.now)) result }
+{
+    let directory = home(kernel, at);
+    match kernel.tree.resolve(directory, path) {
+        Ok(number) => Ok(number),
+        Err(fault) => {
+            stop(&mut kernel.table, &mut kernel.spaces, at);
+            Err(fault)
+        }
+    }
+}
+
+// Whether a file is made where a path reaches nothing.
+fn creates(flags: u32) -> bool
+    ensures { result ≡ creates flags }
+{
+    flags / 0x200 % 2 == 1
+}
+
+// Whether a file is emptied.
+fn truncates(flags: u32) -> bool
+    ensures { result ≡ truncates flags }
+{
+    flags / 0x400 % 2 == 1
+}
+
+// Whether a node may be opened: a directory is opened with flags 0 alone, and the major of a device is 0 to 9.
+fn may_open(flags: u32, told: InodeStat) -> bool
+    ensures { result ≡ may_open_by flags told.kind told.major }
+{
+    match told.kind {
+        DIRECTORY => flags == 0,
+        DEVICE => told.major <= 9,
+        _ => true,
+    }
+}
+
+// What is open on a node.
+fn target(number: u32, told: InodeStat) -> Target
+    ensures { result ≡ target_by number told.kind told.major }
+{
+    if told.kind != DEVICE {
+        Target::File { number, offset: 0 }
+    } else if told.major == CONSOLE {
+        Target::Console { number }
+    } else {
+        Target::Device { number }
+    }
+}
+
+// The open file that flags ask for: readable unless bit 0 is set, and writable with bit 0 or bit 1.
+fn opened(flags: u32, target: Target) -> OpenFile
+    ensures { result ≡ file_by flags target }
+{
+    OpenFile {
+        target,
+        readable: flags % 2 != 1,
+        writable: flags % 2 == 1 || flags / 2 % 2 == 1,
+    }
+}
+
+// Whether a descriptor of the process in a place and a place for an open file are free.
+fn has_seat<D: BlockDev, T: Translate + Drop>(kernel: &Kernel<D, T>, at: usize) -> bool
+    ensures { result ≡ has_seat kernel.now at }
+{
+    match kernel.table.process(at) {
+        Some(process) => descriptors::free_count(&process.descriptors) > 0
+            && kernel.files.free_places() > 0,
+        None => false,
+    }
+}
+
+// A new open file is on a node, and the lowest free descriptor names it.
+fn open_on<D: BlockDev, T: Translate + Drop>(
+    kernel: &mut Kernel<D, T>,
+    at: usize,
+    node: usize,
+    flags: u32,
+    told: InodeStat,
+) -> usize
+    requires runs { Runs kernel.old at }
+    requires seat { has_seat kernel.old at ≡ true }
+    requires may { IsOpenable kernel.old.tree.files node flags told }
+    ensures { Opens kernel.old kernel.new at (opened flags node) result }
+{
+    kernel.tree.is_whole();
+    kernel.tree.hold(node);
+    let file = opened(flags, target(node as u32, told));
+    open_as(&mut kernel.table, &mut kernel.files, at, file)
+}
+
+// A file is emptied, if the flags ask for it.
+fn cut<D: BlockDev, T: Translate + Drop>(
+    kernel: &mut Kernel<D, T>,
+    at: usize,
+    number: usize,
+    flags: u32,
+) -> Result<(), DeviceFault>
+    requires runs { Runs kernel.old at }
+    requires node { slot kernel.old.tree.files number ≢ None }
+    ensures { Cuts kernel.old kernel.new at flags number result }
+{
+    if !truncates(flags) {
+        return Ok(());
+    }
+    match kernel.tree.truncate(number) {
+        Ok(()) => {
+            kernel.tree.is_whole();
+            Ok(())
+        }
+        Err(fault) => {
+            stop(&mut kernel.table, &mut kernel.spaces, at);
+            Err(fault)
+        }
+    }
+}
+
+// open of what its path reaches.
+fn open_found<D: BlockDev, T: Translate + Drop>(
+    kernel: &mut Kernel<D, T>,
+    at: usize,
+    number: usize,
+    flags: u32,
+) -> Result<Came, DeviceFault>
+    requires runs { Runs kernel.old at }
+    requires asks { (path : List ℕ) × Asks kernel.old at path flags (Some number) }
+    ensures { ActsOnDisk kernel.old kernel.new at (Some Call.Open) result }
+{
+    let told = stat(kernel, at, number)?;
+    if !may_open(flags, told) {
+        return Ok(Came::Refuses);
+    }
+    if !has_seat(kernel, at) {
+        return Ok(Came::Refuses);
+    }
+    cut(kernel, at, number, flags)?;
+    let descriptor = open_on(kernel, at, number, flags, told);
+    Ok(Came::Answers(descriptor as u64))
+}
+
+// open of a path that reaches nothing: a new file, if the flags ask for one.
+fn open_new<D: BlockDev, T: Translate + Drop>(
+    kernel: &mut Kernel<D, T>,
+    at: usize,
+    path: &[u8],
+    flags: u32,
+) -> Result<Came, DeviceFault>
+    requires runs { Runs kernel.old at }
+    requires asks { Asks kernel.old at path.now flags None }
+    requires path { All (λ b. b ≢ 0) path.now }
+    ensures { ActsOnDisk kernel.old kernel.new at (Some Call.Open) result }
+{
+    if !creates(flags) {
+        return Ok(Came::Refuses);
+    }
+    if !has_seat(kernel, at) {
+        return Ok(Came::Refuses);
+    }
+    let directory = home(kernel, at);
+    match kernel.tree.create(directory, path, Leaf::File) {
+        Ok(number) => {
+            kernel.tree.is_whole();
+            let descriptor = open_on(kernel, at, number, flags, NEW_FILE);
+            Ok(Came::Answers(descriptor as u64))
+        }
+        Err(fault) => refuse(&mut kernel.table, &mut kernel.spaces, at, fault),
+    }
+}
+
+/// open(path, flags): the lowest free descriptor names a new open file on what the path reaches, and is the answer. Bit 9 of the flags
+/// makes a file where the path reaches nothing, and bit 10 empties a file.
+pub(crate) fn open<D: BlockDev, T: Translate + Drop>(
+    kernel: &mut Kernel<D, T>,
+    at: usize,
+) -> Result<Came, DeviceFault>
+    requires { Runs kernel.old at }
+    ensures { ActsOnDisk kernel.old kernel.new at (Some Call.Open) result }
+{
+    let mut buffer = [0; 127];
+    let Some(count) = copy_path(kernel, at, 0, &mut buffer) else {
+        return Ok(Came::Refuses);
+    };
+    let flags = low(kernel.argument(1));
+    match find(kernel, at, &buffer[..count])? {
+        Some(number) => open_found(kernel, at, number, flags),
+        None => open_new(kernel, at, &buffer[..count], flags),
+    }
+}
+
+/// chdir(path): the process works in another directory; the one that it leaves goes where it has no links and nobody holds it any
+/// more.
+pub(crate) fn chdir<D: BlockDev, T: Translate + Drop>(
+    kernel: &mut Kernel<D, T>,
+    at: usize,
+) -> Result<Came, DeviceFault>
+    requires { Runs kernel.old at }
+    ensures { ActsOnDisk kernel.old kernel.new at (Some Call.Chdir) result }
+{
+    let mut buffer = [0; 127];
+    let Some(count) = copy_path(kernel, at, 0, &mut buffer) else {
+        return Ok(Came::Refuses);
+    };
+    let Some(number) = find(kernel, at, &buffer[..count])? else {
+        return Ok(Came::Refuses);
+    };
+    if stat(kernel, at, number)?.kind != DIRECTORY {
+        return Ok(Came::Refuses);
+    }
+    let left = home(kernel, at);
+    kernel.tree.is_whole();
+    kernel.tree.hold(number);
+    kernel.table.set_directory(at, number as u32);
+    if let Err(fault) = kernel.tree.drop_hold(left) {
+        stop(&mut kernel.table, &mut kernel.spaces, at);
+        return Err(fault);
+    }
+    Ok(Came::Answers(0))
+}

@@ -1,0 +1,90 @@
+-- Nodes are let go one after the other, and the device counts its failures on the way.
+use Rattle.std.proofs.Common.{◌≡◌, ◌≢◌, ℕ, suc, zero, ◌+◌, ◌<◌, ◌≤◌, false, true, le_trans, List, [], ◌∷◌, drop, length, Option, Some, None, refl, ap, sym, subst, ◌∙◌, arith}
+use Rattle.std.specs.Prelude.{Err, IfOk, IsErr, Ok, OnErr, OnOk, Result, slice_index}
+use Rattle.blockdev.specs.declared.DeviceFault.{DeviceFault}
+use Rattle.kernel.specs.Holding.{AreHeld, all_dropped, dropped}
+use Rattle.tree.specs.Holding.{holders}
+use Rattle.unixmodel.specs.Files.{slot}
+use Rattle.tree.specs.Tree.{FileTree, Serves}
+use Rattle.unixmodel.specs.Failures.{HasCause}
+
+-- the tree with another count
+abbrev pub counted : FileTree → ℕ → FileTree
+counted t failures = record t { failures = failures }
+
+pub all-counted : (t : FileTree) (ns : List ℕ) (failures : ℕ) → all_dropped (counted t failures) ns ≡ counted (all_dropped t ns) failures
+all-counted t [] failures = refl
+all-counted t (n ∷ ns) failures = all-counted (dropped t n) ns failures
+
+held-counted : (t : FileTree) (ns : List ℕ) (failures : ℕ) → AreHeld t ns → AreHeld (counted t failures) ns
+held-counted t [] failures held = tt
+held-counted t (n ∷ ns) failures held = (held.0, (held.1.0, held-counted (dropped t n) ns failures held.1.1))
+
+-- the first i were let go
+pub record IsLetting (old : FileTree) (nodes : List ℕ) (now : FileTree) (i : ℕ) : Type 0 where
+  pub up : now.failed ≡ false
+  pub held : AreHeld now (drop i nodes)
+  pub goes : (failures : ℕ) → counted (all_dropped now (drop i nodes)) failures ≡ counted (all_dropped old nodes) failures
+  pub later : old.failures ≤ now.failures
+
+drop-suc : (ns : List ℕ) (i : ℕ) → i < length ns → drop i ns ≡ slice_index ns i ∷ drop (suc i) ns
+drop-suc [] i h = absurd (omega (arith, h))
+drop-suc (n ∷ ns) zero h = refl
+drop-suc (n ∷ ns) (suc i) h = drop-suc ns i (omega (arith, h))
+
+drop-next : (ns : List ℕ) (i : ℕ) → i < length ns → drop i ns ≡ slice_index ns i ∷ drop (i + 1) ns
+drop-next ns i h = let next : suc i ≡ i + 1 = omega arith in drop-suc ns i h ∙ ap (λ j. slice_index ns i ∷ drop j ns) next
+
+module _ {old now : FileTree} {nodes : List ℕ} {i : ℕ} (is : IsLetting old nodes now i) (h : i < length nodes) where
+  abbrev n : ℕ
+  n = slice_index nodes i
+
+  held-next : AreHeld now (n ∷ drop (i + 1) nodes)
+  held-next = subst (AreHeld now) (drop-next nodes i h) is.held
+
+  pub next-node : slot now.files n ≢ None
+  next-node = held-next.0
+
+  pub next-some : 1 ≤ holders now.holds n
+  next-some = held-next.1.0
+
+  -- one more was let go
+  pub lets-next : (t : FileTree) → t ≡ counted (dropped now n) t.failures → t.failed ≡ false → now.failures ≤ t.failures → IsLetting old nodes t (i + 1)
+  lets-next t told up later = record {
+    up = up;
+    held = subst (λ x. AreHeld x (drop (i + 1) nodes)) (sym told) (held-counted (dropped now n) (drop (i + 1) nodes) t.failures held-next.1.1);
+    goes = λ failures.
+        ap (λ x. counted (all_dropped x (drop (i + 1) nodes)) failures) told
+        ∙ ap (λ x. counted x failures) (all-counted (dropped now n) (drop (i + 1) nodes) t.failures)
+        ∙ ap (λ ns. counted (all_dropped now ns) failures) (sym (drop-next nodes i h))
+        ∙ is.goes failures;
+    later = omega (arith, later, is.later);
+  }
+
+-- a node was let go
+pub lets-more : {old now : FileTree} {nodes : List ℕ} {i : ℕ} (is : IsLetting old nodes now i) (h : i < length nodes) (t : FileTree) (r : Result (Unit {0}) DeviceFault)
+    → Serves now t r (λ done. t ≡ counted (dropped now (slice_index nodes i)) t.failures) → (done : Unit {0}) → r ≡ Ok done → IsLetting old nodes t (i + 1)
+lets-more is h t (Ok done) serves x e = lets-next is h t serves.told serves.up serves.cause.later
+lets-more is h t (Err fault) serves x e = absurd (let bad : Err fault ≡ Ok x = e in cc)
+
+pub lets-begin : (t : FileTree) (nodes : List ℕ) → t.failed ≡ false → AreHeld t nodes → IsLetting t nodes t 0
+lets-begin t nodes up held = record { up = up; held = held; goes = λ failures. refl; later = omega arith }
+
+drop-all : (ns : List ℕ) → drop (length ns) ns ≡ []
+drop-all [] = refl
+drop-all (n ∷ ns) = drop-all ns
+
+-- all were
+pub lets-all : (old now : FileTree) (nodes : List ℕ) (i : ℕ) → i ≡ length nodes → IsLetting old nodes now i → now ≡ counted (all_dropped old nodes) now.failures
+lets-all old now nodes i all is = sym (ap (λ ns. counted (all_dropped now ns) now.failures) (ap (λ j. drop j nodes) all ∙ drop-all nodes)) ∙ is.goes now.failures
+
+-- an access failed on the way
+pub lets-fails : {old now : FileTree} {nodes : List ℕ} {i : ℕ} {P Q : Unit {0} → Type 0} → IsLetting old nodes now i → (t : FileTree) (r s : Result (Unit {0}) DeviceFault) → Serves now t r P → (fault : DeviceFault) → r ≡ Err fault → IsErr s → Serves old t s Q
+lets-fails {old} {now} {nodes} {i} {P} {Q} is t (Err _) (Err _) serves fault bad worse = record {
+  told = tt;
+  up = tt;
+  down = serves.down;
+  cause = record { later = le_trans is.later serves.cause.later; failed = λ e. let rises = serves.cause.failed refl in omega (arith, rises, is.later) };
+}
+lets-fails is t (Ok done) s serves fault bad worse = absurd (cc)
+lets-fails is t (Err _) (Ok done) serves fault bad worse = absurd (let none : false ≡ true = worse in cc)

@@ -1,0 +1,590 @@
+-- Who holds the nodes of the disk: what comes of processes, open files and nodes that change.
+use Rattle.std.proofs.Common.{◌≡◌, ◌≢◌, ℕ, zero, suc, ◌+◌, ◌-◌, ◌<◌, ◌≤◌, Bool, true, false, cond, List, [], ◌∷◌, ◌++◌, length, map, Option, Some, None, inl, inr, refl, ap, ap₂, sym, subst, ◌∙◌, arith}
+use Rattle.std.specs.Prelude.{IfSome, nat_lt, option_and_then, option_map, slice_set, sum_by, ◌||◌, ◌==◌}
+use Rattle.std.specs.List.{list_any}
+use Rattle.std.proofs.lemmas.Bool.{cases_Bool, cases_eq, cases_lt, cond-false, cond-true, leb-false, lt-ltb, ltb-true, or_left, or_right}
+use Rattle.std.proofs.lemmas.Bool.Decides.{nat_tests}
+use Rattle.std.proofs.lemmas.List.{get_or-set_other, get_or-set_same, length-set}
+use Rattle.std.proofs.lemmas.List.Sums.{sum_by-cons, sum_by-set}
+use Rattle.std.proofs.lemmas.Option.{none-some, same_Some}
+use Rattle.files.specs.Counts.{lt-no, lt-yes, one_at, one_in}
+use Rattle.files.specs.declared.file.OpenFile.{OpenFile}
+use Rattle.files.specs.declared.file.Target.{Target}
+use Rattle.files.specs.declared.file.Target.TheVariants as target
+use Rattle.files.specs.Meant.{file_of, target_of}
+use Rattle.files.specs.Places.{Counted, more, opened, opens_of, shared}
+use Rattle.files.specs.Whole.{set_outside}
+use Rattle.kernel.specs.Holding.{AreHeld, FitsNode, IsFolder, IsInUse, all_dropped, dropped, files_on, home_in, homes_at, node_in, node_of, node_on}
+use Rattle.kernel.specs.Sound.{IsFiled}
+use Rattle.names.proofs.Finding.{slot-within}
+use Rattle.names.specs.Rules.{KeepsTree}
+use Rattle.names.proofs.Reaped.{is_held, kept-same}
+use Rattle.proc.specs.declared.process.Process.{Process}
+use Rattle.proc.specs.Whole.{joined, with_memory}
+use Rattle.tree.proofs.Keeping.{let-go-keeps}
+use Rattle.tree.proofs.Letting.{let-go-clear, let-go-held, let-go-linked, let-go-reaps}
+use Rattle.tree.proofs.Storing.{blocks_of-set}
+use Rattle.tree.specs.Holding.{holders, let_go, with_hold, without_hold}
+use Rattle.tree.specs.Tree.{FileTree}
+use Rattle.unixmodel.specs.Counts.{blocks_of}
+use Rattle.unixmodel.specs.Files.{Files, Node, clear, links_of, slot, taken}
+use Rattle.unixmodel.specs.Memory.{Memory}
+use Rattle.unixmodel.specs.OpenFiles.{is_node}
+use Rattle.unixmodel.specs.OpenFiles as unix_files
+use Rattle.unixmodel.specs.Process as unix
+use Rattle.unixmodel.specs.Process.{is_zombie_mode}
+use Rattle.unixmodel.specs.Reap.{is_used, kept, without_nodes}
+use Rattle.unixmodel.specs.State.{State}
+
+-- ---- sums over places
+
+module _ {X : Type 0} (f : Option X → ℕ) where
+  -- a place counts as much as before
+  pub same-set : (xs : List (Option X)) (i : ℕ) (o : Option X) → f o ≡ f (slot xs i) → sum_by f (slice_set xs i o) ≡ sum_by f xs
+  same-set [] i o same = refl
+  same-set (x ∷ xs) zero o same = sum_by-cons f o xs ∙ ap (λ (m : ℕ). m + sum_by f xs) same ∙ sym (sum_by-cons f x xs)
+  same-set (x ∷ xs) (suc i) o same = sum_by-cons f x (slice_set xs i o) ∙ ap (λ (m : ℕ). f x + m) (same-set xs i o same) ∙ sym (sum_by-cons f x xs)
+
+  -- all places count as much as before
+  pub same-map : (g : X → X) → ((o : Option X) → f (option_map g o) ≡ f o) → (xs : List (Option X)) → sum_by f (map (option_map g) xs) ≡ sum_by f xs
+  same-map g same [] = refl
+  same-map g same (o ∷ os) = rw (sum_by-cons f (option_map g o) (map (option_map g) os), sum_by-cons f o os, same o, same-map g same os) refl
+
+  -- a place is one of those that are counted
+  pub least : (xs : List (Option X)) (i : ℕ) (x : X) → slot xs i ≡ Some x → f (Some x) ≤ sum_by f xs
+  least [] i x at = absurd (none-some x at)
+  least (o ∷ os) zero x at = let same : f o ≡ f (Some x) = ap f at in omega (arith, sum_by-cons f o os, same)
+  least (o ∷ os) (suc i) x at = omega (arith, sum_by-cons f o os, least os i x at)
+
+-- ---- homes
+
+module _ (P : ℕ → Type 0) where
+  pub homes-set : (os : List (Option Process)) (i : ℕ) (o : Option Process) → IfSome (home_in o) P → ((j : ℕ) → IfSome (home_in (slot os j)) P) → (j : ℕ) → IfSome (home_in (slot (slice_set os i o) j)) P
+  homes-set [] i o here is j = is j
+  homes-set (x ∷ os) zero o here is zero = here
+  homes-set (x ∷ os) zero o here is (suc j) = is (suc j)
+  homes-set (x ∷ os) (suc i) o here is zero = is 0
+  homes-set (x ∷ os) (suc i) o here is (suc j) = homes-set os i o here (λ b. is (suc b)) j
+
+  homes-map : (g : Process → Process) → ((o : Option Process) → home_in (option_map g o) ≡ home_in o) → (os : List (Option Process)) → ((j : ℕ) → IfSome (home_in (slot os j)) P) → (j : ℕ) → IfSome (home_in (slot (map (option_map g) os) j)) P
+  homes-map g same [] is j = is j
+  homes-map g same (o ∷ os) is zero = subst (λ h. IfSome h P) (sym (same o)) (is 0)
+  homes-map g same (o ∷ os) is (suc j) = homes-map g same os (λ b. is (suc b)) j
+
+module _ {t : FileTree} {opens : List (Option Counted)} {os : List (Option Process)} (is : IsInUse t opens os) where
+  -- a process works where it did
+  pub used-put : (i : ℕ) (o : Option Process) → home_in o ≡ home_in (slot os i) → IsInUse t opens (slice_set os i o)
+  used-put i o same = record {
+    rules = is.rules;
+    zero = is.zero;
+    within = is.within;
+    holds = λ n. is.holds n ∙ ap (λ m. files_on opens n + m) (sym (same-set (λ x. one_in n (home_in x)) os i o (ap (one_in n) same)));
+    held = is.held;
+    fits = is.fits;
+    homes = homes-set (λ d. IsFolder (slot t.files d)) os i o (subst (λ h. IfSome h (λ d. IsFolder (slot t.files d))) (sym same) (is.homes i)) is.homes;
+  }
+
+  -- all do
+  pub used-map : (g : Process → Process) → ((o : Option Process) → home_in (option_map g o) ≡ home_in o) → IsInUse t opens (map (option_map g) os)
+  used-map g same = record {
+    rules = is.rules;
+    zero = is.zero;
+    within = is.within;
+    holds = λ n. is.holds n ∙ ap (λ m. files_on opens n + m) (sym (same-map (λ x. one_in n (home_in x)) g (λ o. ap (one_in n) (same o)) os));
+    held = is.held;
+    fits = is.fits;
+    homes = homes-map (λ d. IsFolder (slot t.files d)) g same os is.homes;
+  }
+
+  -- the nodes that are held are there
+  none-on : (n : ℕ) → slot t.files n ≡ None → files_on opens n ≡ 0
+  none-on n gone = go opens is.fits where
+    off : (f : OpenFile) (on : Target) → FitsNode f on (node_of t.files (node_on on)) → one_in n (node_on on) ≡ 0
+    off f (target.Pipe pipe e) fits = refl
+    off f (target.File number offset) fits = elim (cases_eq n number) [
+      | inl same ↦ absurd (subst (FitsNode f (target.File number offset)) (ap (slot t.files) (sym same) ∙ gone) fits)
+      | inr other ↦ grind (arith, nat_tests)
+    ]
+    off f (target.Console number) fits = elim (cases_eq n number) [
+      | inl same ↦ absurd (subst (FitsNode f (target.Console number)) (ap (slot t.files) (sym same) ∙ gone) fits)
+      | inr other ↦ grind (arith, nat_tests)
+    ]
+    off f (target.Device number) fits = elim (cases_eq n number) [
+      | inl same ↦ absurd (subst (FitsNode f (target.Device number)) (ap (slot t.files) (sym same) ∙ gone) fits)
+      | inr other ↦ grind (arith, nat_tests)
+    ]
+
+    go : (xs : List (Option Counted)) → ((k : ℕ) (c : Counted) → slot xs k ≡ Some c → FitsNode c.file c.file.target (node_of t.files (node_on c.file.target))) → files_on xs n ≡ 0
+    go [] fits = refl
+    go (None ∷ xs) fits = omega (arith, sum_by-cons (λ o. one_in n (node_in o)) None xs, go xs (λ k c at. fits (suc k) c at))
+    go (Some c ∷ xs) fits = omega (arith, sum_by-cons (λ o. one_in n (node_in o)) (Some c) xs, off c.file c.file.target (fits 0 c refl), go xs (λ k d at. fits (suc k) d at))
+
+  none-at : (n : ℕ) → slot t.files n ≡ None → homes_at os n ≡ 0
+  none-at n gone = go os is.homes where
+    off : (h : Option ℕ) → IfSome h (λ d. IsFolder (slot t.files d)) → one_in n h ≡ 0
+    off None at = refl
+    off (Some d) at = elim (cases_eq n d) [
+      | inl same ↦ absurd (subst IsFolder (ap (slot t.files) (sym same) ∙ gone) at)
+      | inr other ↦ grind (arith, nat_tests)
+    ]
+
+    go : (xs : List (Option Process)) → ((j : ℕ) → IfSome (home_in (slot xs j)) (λ d. IsFolder (slot t.files d))) → homes_at xs n ≡ 0
+    go [] homes = refl
+    go (o ∷ xs) homes = omega (arith, sum_by-cons (λ x. one_in n (home_in x)) o xs, off (home_in o) (homes 0), go xs (λ j. homes (suc j)))
+
+  pub held-there : (n : ℕ) → 1 ≤ holders t.holds n → slot t.files n ≢ None
+  held-there n some gone = absurd (omega (arith, is.holds n, none-on n gone, none-at n gone, some))
+
+-- ---- open files that come, and whose nodes stay
+
+module _ {t : FileTree} {opens : List (Option Counted)} {os : List (Option Process)} (is : IsInUse t opens os) where
+  -- as many are on each node
+  pub used-files : (new : List (Option Counted)) → ((n : ℕ) → files_on new n ≡ files_on opens n) → ((k : ℕ) (c : Counted) → slot new k ≡ Some c → FitsNode c.file c.file.target (node_of t.files (node_on c.file.target))) → IsInUse t new os
+  used-files new same fits = record {
+    rules = is.rules;
+    zero = is.zero;
+    within = is.within;
+    holds = λ n. is.holds n ∙ ap (λ m. m + homes_at os n) (sym (same n));
+    held = is.held;
+    fits = fits;
+    homes = is.homes;
+  }
+
+  -- one descriptor more names an open file
+  pub used-shared : (i : ℕ) → IsInUse t (shared opens i) os
+  used-shared i = used-files (shared opens i) (λ n. same-set (λ o. one_in n (node_in o)) opens i (option_map more (slot opens i)) (ap (one_in n) (node-more (slot opens i)))) fits where
+    node-more : (o : Option Counted) → node_in (option_map more o) ≡ node_in o
+    node-more None = refl
+    node-more (Some c) = refl
+
+    was : (o : Option Counted) (c : Counted) → option_map more o ≡ Some c → (d : Counted) × ((o ≡ Some d) × (d.file ≡ c.file))
+    was None c at = absurd (none-some c at)
+    was (Some d) c at = (d, (refl, ap (λ (x : Counted). x.file) (same_Some (more d) c at)))
+
+    fits : (k : ℕ) (c : Counted) → slot (shared opens i) k ≡ Some c → FitsNode c.file c.file.target (node_of t.files (node_on c.file.target))
+    fits k c at = elim (cases_eq k i) [
+      | inl same ↦ elim (cases_lt i (length opens)) [
+        | inl inside ↦
+            let old = was (slot opens i) c (sym (get_or-set_same opens i (option_map more (slot opens i)) None inside) ∙ ap (slot (shared opens i)) (sym same) ∙ at) in
+            subst (λ f. FitsNode f f.target (node_of t.files (node_on f.target))) old.1.1 (is.fits i old.0 old.1.0)
+        | inr outside ↦ is.fits k c (ap (λ l. slot l k) (sym (set_outside opens i (option_map more (slot opens i)) outside)) ∙ at)
+      ]
+      | inr other ↦ is.fits k c (sym (get_or-set_other opens i k (option_map more (slot opens i)) None other) ∙ at)
+    ]
+
+  -- an open file takes a free place; it is on no node
+  pub used-opened : (i : ℕ) (f : OpenFile) → i < length opens → slot opens i ≡ None → node_on f.target ≡ None → FitsNode f f.target None → IsInUse t (opened opens i f) os
+  used-opened i f inside free none fitting =
+      used-files (opened opens i f)
+      (λ n. same-set (λ o. one_in n (node_in o)) opens i (Some (record { file = f; count = 1 })) (ap (one_in n) (none ∙ sym (ap node_in free))))
+      (λ k c at. elim (cases_eq k i) [
+        | inl same ↦
+            let is' : record { file = f; count = 1 } ≡ c = same_Some (record { file = f; count = 1 }) c (sym (get_or-set_same opens i (Some (record { file = f; count = 1 })) None inside) ∙ ap (slot (opened opens i f)) (sym same) ∙ at) in
+            subst (λ (d : Counted). FitsNode d.file d.file.target (node_of t.files (node_on d.file.target))) is' (subst (λ o. FitsNode f f.target (node_of t.files o)) (sym none) fitting)
+        | inr other ↦ is.fits k c (sym (get_or-set_other opens i k (Some (record { file = f; count = 1 })) None other) ∙ at)
+      ])
+
+-- ---- a process runs, or none
+
+module _ {t : FileTree} {opens : List (Option Counted)} {os : List (Option Process)} {active : Option ℕ} (is : IsFiled t opens os active) where
+  pub filed-as : (after : Option ℕ) → ((j : ℕ) → after ≡ Some j → t.failed ≡ false) → IsFiled t opens os after
+  filed-as after up = record { up = up; used = is.used }
+
+  -- where none runs any more
+  pub idle-filed : IsFiled t opens os None
+  idle-filed = filed-as None (λ j e. absurd (none-some j e))
+
+  pub filed-put : (i : ℕ) (o : Option Process) → home_in o ≡ home_in (slot os i) → IsFiled t opens (slice_set os i o) active
+  filed-put i o same = record { up = is.up; used = λ up. used-put (is.used up) i o same }
+
+-- an access has failed, and none runs
+pub failed-filed : {t : FileTree} (opens : List (Option Counted)) (os : List (Option Process)) → t.failed ≡ true → IsFiled t opens os None
+failed-filed opens os down = record { up = λ i e. absurd (none-some i e); used = λ up. absurd (let bad : true ≡ false = sym down ∙ up in cc) }
+
+-- ---- what the abstract Unix says is used
+
+or-lt : (m n : ℕ) → (nat_lt 0 m || nat_lt 0 n) ≡ nat_lt 0 (m + n)
+or-lt m n = elim (cases_lt 0 m) [
+  | inl some ↦ rw (lt-yes 0 m some, lt-yes 0 (m + n) (omega (arith, some))) refl
+  | inr none ↦ (let gone : m + n ≡ n = omega (arith, none) in rw (lt-no 0 m none, gone) refl)
+]
+
+lt-one : (b : Bool) → nat_lt 0 (cond b 1 0) ≡ b
+lt-one true = refl
+lt-one false = refl
+
+node-same : (n : ℕ) (on : Target) → is_node n (target_of on) ≡ nat_lt 0 (one_in n (node_on on))
+node-same n (target.File number offset) = sym (lt-one (number == n))
+node-same n (target.Console number) = sym (lt-one (number == n))
+node-same n (target.Device number) = sym (lt-one (number == n))
+node-same n (target.Pipe pipe e) = refl
+
+any-files : (n : ℕ) (opens : List (Option Counted)) → list_any (λ (f : unix_files.OpenFile). is_node n f.target) (taken (opens_of opens)) ≡ nat_lt 0 (files_on opens n)
+any-files n [] = refl
+any-files n (None ∷ os) = let same : files_on os n ≡ files_on (None ∷ os) n = omega (arith, sum_by-cons (λ o. one_in n (node_in o)) None os) in any-files n os ∙ ap (nat_lt 0) same
+any-files n (Some c ∷ os) =
+    ap₂ ◌||◌ (node-same n c.file.target) (any-files n os)
+    ∙ or-lt (one_in n (node_on c.file.target)) (files_on os n)
+    ∙ ap (nat_lt 0) (sym (sum_by-cons (λ o. one_in n (node_in o)) (Some c) os))
+
+-- a zombie works nowhere
+abbrev pub AreAway : List (Option Process) → Type 0
+AreAway os = (j : ℕ) (p : Process) → slot os j ≡ Some p → is_zombie_mode p.mode ≡ true → p.directory ≡ 0
+
+home-same : (n : ℕ) → n ≢ 0 → (p : Process) → (is_zombie_mode p.mode ≡ true → p.directory ≡ 0) → (p.directory == n) ≡ nat_lt 0 (one_in n (home_in (Some p)))
+home-same n some p away = go (is_zombie_mode p.mode) refl where
+  go : (b : Bool) → is_zombie_mode p.mode ≡ b → (p.directory == n) ≡ nat_lt 0 (one_in n (cond b None (Some p.directory)))
+  go true e = let nowhere = away e in grind (arith, nat_tests)
+  go false e = sym (lt-one (p.directory == n))
+
+any-homes : (n : ℕ) → n ≢ 0 → (os : List (Option Process)) (ms : List Memory) → AreAway os → list_any (λ (p : unix.Process). p.directory == n) (taken (joined os ms)) ≡ nat_lt 0 (homes_at os n)
+unfolding joined
+any-homes n some [] ms away = refl
+any-homes n some (None ∷ os) [] away = let same : homes_at os n ≡ homes_at (None ∷ os) n = omega (arith, sum_by-cons (λ o. one_in n (home_in o)) None os) in any-homes n some os [] (λ j. away (suc j)) ∙ ap (nat_lt 0) same
+any-homes n some (None ∷ os) (m ∷ ms) away = let same : homes_at os n ≡ homes_at (None ∷ os) n = omega (arith, sum_by-cons (λ o. one_in n (home_in o)) None os) in any-homes n some os ms (λ j. away (suc j)) ∙ ap (nat_lt 0) same
+any-homes n some (Some p ∷ os) [] away =
+    ap₂ ◌||◌ (home-same n some p (away 0 p refl)) (any-homes n some os [] (λ j. away (suc j)))
+    ∙ or-lt (one_in n (home_in (Some p))) (homes_at os n)
+    ∙ ap (nat_lt 0) (sym (sum_by-cons (λ o. one_in n (home_in o)) (Some p) os))
+any-homes n some (Some p ∷ os) (m ∷ ms) away =
+    ap₂ ◌||◌ (home-same n some p (away 0 p refl)) (any-homes n some os ms (λ j. away (suc j)))
+    ∙ or-lt (one_in n (home_in (Some p))) (homes_at os n)
+    ∙ ap (nat_lt 0) (sym (sum_by-cons (λ o. one_in n (home_in o)) (Some p) os))
+
+pub used-is : (opens : List (Option Counted)) (os : List (Option Process)) (ms : List Memory) → AreAway os → (s : State) → s.opens ≡ opens_of opens → s.places ≡ joined os ms
+    → (n : ℕ) → n ≢ 0 → is_used s n ≡ nat_lt 0 (files_on opens n + homes_at os n)
+used-is opens os ms away s files places n some =
+    ap₂ (λ fs ps. list_any (λ (f : unix_files.OpenFile). is_node n f.target) (taken fs) || list_any (λ (p : unix.Process). p.directory == n) (taken ps)) files places
+    ∙ ap₂ ◌||◌ (any-files n opens) (any-homes n some os ms away)
+    ∙ or-lt (files_on opens n) (homes_at os n)
+
+-- ---- what is kept of places
+
+module _ {X : Type 0} (test other : ℕ → X → Bool) where
+  pub kept-cong : (k : ℕ) (xs : List (Option X)) → ((i j : ℕ) (x : X) → j ≡ k + i → slot xs i ≡ Some x → test j x ≡ other j x) → kept test k xs ≡ kept other k xs
+  kept-cong k [] same = refl
+  kept-cong k (None ∷ xs) same = ap (λ ys. None ∷ ys) (kept-cong (k + 1) xs (λ i j x e at. same (suc i) j x (omega (arith, e)) at))
+  kept-cong k (Some x ∷ xs) same =
+      ap₂ (λ b ys. cond b (Some x) None ∷ ys) (same 0 k x (omega arith) refl) (kept-cong (k + 1) xs (λ i j y e at. same (suc i) j y (omega (arith, e)) at))
+
+  twice : (k : ℕ) (x : X) (xs : List (Option X)) → (other k x ≡ true → test k x ≡ true) → kept other (k + 1) (kept test (k + 1) xs) ≡ kept other (k + 1) xs → (b : Bool) → test k x ≡ b → (c : Bool) → other k x ≡ c
+      → kept other k (cond b (Some x) None ∷ kept test (k + 1) xs) ≡ cond c (Some x) None ∷ kept other (k + 1) xs
+  twice k x xs narrow rest true e true f = ap₂ (λ d ys. cond d (Some x) None ∷ ys) f rest
+  twice k x xs narrow rest true e false f = ap₂ (λ d ys. cond d (Some x) None ∷ ys) f rest
+  twice k x xs narrow rest false e true f = absurd (let bad : true ≡ false = sym (narrow f) ∙ e in cc)
+  twice k x xs narrow rest false e false f = ap (λ ys. None ∷ ys) rest
+
+  -- what is kept twice is kept by the narrower test
+  kept-twice : (k : ℕ) (xs : List (Option X)) → ((n : ℕ) (x : X) → other n x ≡ true → test n x ≡ true) → kept other k (kept test k xs) ≡ kept other k xs
+  kept-twice k [] narrow = refl
+  kept-twice k (None ∷ xs) narrow = ap (λ ys. None ∷ ys) (kept-twice (k + 1) xs narrow)
+  kept-twice k (Some x ∷ xs) narrow = twice k x xs (narrow k x) (kept-twice (k + 1) xs narrow) (test k x) refl (other k x) refl
+
+-- ---- one that held a node lets go
+
+-- nodes are held, as holders are counted
+abbrev pub is_by : List ℕ → ℕ → Node → Bool
+is_by holds = is_held (λ k. nat_lt 0 (holders holds k))
+
+by-holders : (holds : List ℕ) (n : ℕ) (node : Node) → 1 ≤ holders holds n → is_by holds n node ≡ true
+by-holders holds n node some = or_right (nat_lt 0 (links_of node)) (nat_lt 0 (holders holds n)) (lt-ltb 0 (holders holds n) some)
+
+by-links : (holds : List ℕ) (n : ℕ) (node : Node) → 1 ≤ links_of node → is_by holds n node ≡ true
+by-links holds n node some = or_left (nat_lt 0 (links_of node)) (nat_lt 0 (holders holds n)) (lt-ltb 0 (links_of node) some)
+
+-- each node has a link or is held
+abbrev pub IsHeldAt : List ℕ → Files → Type 0
+IsHeldAt holds files = (n : ℕ) (node : Node) → slot files n ≡ Some node → links_of node ≡ 0 → 1 ≤ holders holds n
+
+pub settled-by : (holds : List ℕ) (files : Files) → IsHeldAt holds files → (n : ℕ) (node : Node) → slot files n ≡ Some node → is_by holds n node ≡ true
+settled-by holds files held n node at = elim (cases_eq (links_of node) 0) [
+  | inl none ↦ by-holders holds n node (held n node at none)
+  | inr some ↦ by-links holds n node (omega (arith, some))
+]
+
+-- what is held is there
+abbrev pub AreThere : List ℕ → Files → Type 0
+AreThere holds files = (n : ℕ) → 1 ≤ holders holds n → slot files n ≢ None
+
+within-holds : (holds : List ℕ) (n : ℕ) → 1 ≤ holders holds n → n < length holds
+within-holds [] n some = absurd (omega (arith, some))
+within-holds (h ∷ hs) zero some = omega arith
+within-holds (h ∷ hs) (suc n) some = omega (arith, within-holds hs n some)
+
+module _ (t : FileTree) (n : ℕ) (some : 1 ≤ holders t.holds n) where
+  here-after : holders (without_hold t.holds n) n + 1 ≡ holders t.holds n
+  here-after = omega (arith, some, get_or-set_same t.holds n (holders t.holds n - 1) 0 (within-holds t.holds n some))
+
+  other-after : (m : ℕ) → m ≢ n → holders (without_hold t.holds n) m ≡ holders t.holds m
+  other-after m other = get_or-set_other t.holds n m (holders t.holds n - 1) 0 other
+
+  -- how many hold node m then
+  count-after : (m : ℕ) → holders (without_hold t.holds n) m + one_at m n ≡ holders t.holds m
+  count-after m = elim (cases_eq m n) [
+    | inl same ↦ (let one : one_at m n ≡ 1 = grind (arith, nat_tests) in rw same (let self : one_at n n ≡ 1 = grind (arith, nat_tests) in omega (arith, here-after, self)))
+    | inr other ↦ (let none : one_at m n ≡ 0 = grind (arith, nat_tests) in omega (arith, other-after m other, none))
+  ]
+
+  module _ (node : Node) (at : slot t.files n ≡ Some node) where
+    -- it stays, as somebody holds it or it has a link, or it goes
+    drop-cases : (P : Files → Type 0) → ((links_of node ≡ 0 → 1 ≤ holders (without_hold t.holds n) n) → P t.files) → (holders (without_hold t.holds n) n ≡ 0 → links_of node ≡ 0 → P (clear t.files n)) → P (dropped t n).files
+    drop-cases P stays goes = elim (cases_eq (holders (without_hold t.holds n) n) 0) [
+      | inl none ↦ elim (cases_eq (links_of node) 0) [
+        | inl bare ↦ subst P (sym (let-go-clear (without_hold t.holds n) t.files n node at none bare)) (goes none bare)
+        | inr linked ↦ subst P (sym (let-go-linked (without_hold t.holds n) t.files n node at (omega (arith, linked)))) (stays (λ bare. absurd (linked bare)))
+      ]
+      | inr more ↦ subst P (sym (let-go-held (without_hold t.holds n) t.files n (omega (arith, more)))) (stays (λ bare. omega (arith, more)))
+    ]
+
+    -- another node stays, and so does this one while somebody holds it
+    drop-stays : (m : ℕ) → 1 ≤ holders (without_hold t.holds n) m → slot (dropped t n).files m ≡ slot t.files m
+    drop-stays m more = drop-cases (λ files. slot files m ≡ slot t.files m) (λ why. refl) (λ none bare. elim (cases_eq m n) [
+      | inl same ↦ absurd (let bad : holders (without_hold t.holds n) m ≡ 0 = ap (holders (without_hold t.holds n)) same ∙ none in omega (arith, bad, more))
+      | inr other ↦ get_or-set_other t.files n m None None other
+    ])
+
+    drop-there : AreThere t.holds t.files → AreThere (dropped t n).holds (dropped t n).files
+    drop-there there m more gone = there m (omega (arith, count-after m, more)) (sym (drop-stays m more) ∙ gone)
+
+    drop-zero : slot t.files 0 ≡ None → slot (dropped t n).files 0 ≡ None
+    drop-zero zero' = drop-cases (λ files. slot files 0 ≡ None) (λ why. zero') (λ none bare. get_or-set_other t.files n 0 None None (λ same. none-some node (sym zero' ∙ ap (slot t.files) same ∙ at)) ∙ zero')
+
+    drop-blocks : blocks_of (dropped t n).files ≤ blocks_of t.files
+    drop-blocks = drop-cases (λ files. blocks_of files ≤ blocks_of t.files) (λ why. omega arith) (λ none bare. omega (arith, blocks_of-set t.files n None (slot-within t.files n node at)))
+
+    drop-reaps : IsHeldAt t.holds t.files → (dropped t n).files ≡ kept (is_by (dropped t n).holds) 0 t.files
+    drop-reaps held = let-go-reaps (without_hold t.holds n) t.files n node at (λ m x other here.
+        let same : nat_lt 0 (holders (without_hold t.holds n) m) ≡ nat_lt 0 (holders t.holds m) = ap (nat_lt 0) (other-after m other) in
+        ap (λ b. nat_lt 0 (links_of x) || b) same ∙ settled-by t.holds t.files held m x here)
+
+    drop-held : IsHeldAt t.holds t.files → IsHeldAt (dropped t n).holds (dropped t n).files
+    drop-held held m x = drop-cases (λ files. slot files m ≡ Some x → links_of x ≡ 0 → 1 ≤ holders (without_hold t.holds n) m)
+        (λ why here bare. elim (cases_eq m n) [
+          | inl same ↦
+              let is : node ≡ x = same_Some node x (sym at ∙ ap (slot t.files) (sym same) ∙ here) in
+              subst (λ k. 1 ≤ holders (without_hold t.holds n) k) (sym same) (why (ap links_of is ∙ bare))
+          | inr other ↦ omega (arith, other-after m other, held m x here bare)
+        ])
+        (λ none gone here bare. elim (cases_eq m n) [
+          | inl same ↦ absurd (none-some x (sym (get_or-set_same t.files n None None (slot-within t.files n node at)) ∙ ap (slot (clear t.files n)) (sym same) ∙ here))
+          | inr other ↦ omega (arith, other-after m other, held m x (sym (get_or-set_other t.files n m None None other) ∙ here) bare)
+        ])
+
+-- ---- all of some let go
+
+-- how often node m is named
+abbrev pub named_in : List ℕ → ℕ → ℕ
+named_in ns m = sum_by (one_at m) ns
+
+-- no node is named oftener than it is held
+abbrev pub AreFew : List ℕ → List ℕ → Type 0
+AreFew holds ns = (m : ℕ) → named_in ns m ≤ holders holds m
+
+first-few : (holds : List ℕ) (n : ℕ) (ns : List ℕ) → AreFew holds (n ∷ ns) → 1 ≤ holders holds n
+first-few holds n ns few = let self : one_at n n ≡ 1 = grind (arith, nat_tests) in omega (arith, few n, sum_by-cons (one_at n) n ns, self)
+
+some-node : (o : Option Node) → o ≢ None → (node : Node) × (o ≡ Some node)
+some-node None there = absurd (there refl)
+some-node (Some node) there = (node, refl)
+
+pub are-held : (t : FileTree) (ns : List ℕ) → AreThere t.holds t.files → AreFew t.holds ns → AreHeld t ns
+are-held t [] there few = tt
+are-held t (n ∷ ns) there few =
+    let some = first-few t.holds n ns few in
+    let node = some-node (slot t.files n) (there n some) in (
+      there n some,
+      (
+        some,
+        are-held (dropped t n) ns (drop-there t n some node.0 node.1 there) (λ m. omega (arith, few m, sum_by-cons (one_at m) n ns, count-after t n some m)),
+      ),
+    )
+
+pub all-failed : (t : FileTree) (ns : List ℕ) → (all_dropped t ns).failed ≡ t.failed
+all-failed t [] = refl
+all-failed t (n ∷ ns) = all-failed (dropped t n) ns
+
+pub all-failures : (t : FileTree) (ns : List ℕ) → (all_dropped t ns).failures ≡ t.failures
+all-failures t [] = refl
+all-failures t (n ∷ ns) = all-failures (dropped t n) ns
+
+-- what all of them leave
+pub record Leaves (t : FileTree) (ns : List ℕ) : Type 0 where
+  pub counts : (m : ℕ) → holders (all_dropped t ns).holds m + named_in ns m ≡ holders t.holds m
+  pub reaps : (all_dropped t ns).files ≡ kept (is_by (all_dropped t ns).holds) 0 t.files
+  pub stays : (m : ℕ) → 1 ≤ holders (all_dropped t ns).holds m → slot (all_dropped t ns).files m ≡ slot t.files m
+  pub held : IsHeldAt (all_dropped t ns).holds (all_dropped t ns).files
+  pub zero : slot (all_dropped t ns).files 0 ≡ None
+  pub blocks : blocks_of (all_dropped t ns).files ≤ blocks_of t.files
+  pub rules : KeepsTree (all_dropped t ns).files
+  pub limit : (all_dropped t ns).block_limit ≡ t.block_limit
+
+is_by-fewer : (less more : List ℕ) → ((m : ℕ) → holders less m ≤ holders more m) → (n : ℕ) (x : Node) → is_by less n x ≡ true → is_by more n x ≡ true
+is_by-fewer less more fewer n x by = elim (cases_lt 0 (links_of x)) [
+  | inl some ↦ by-links more n x (omega (arith, some))
+  | inr none ↦
+      let bare : nat_lt 0 (links_of x) ≡ false = lt-no 0 (links_of x) (omega (arith, none)) in
+      let held : nat_lt 0 (holders less n) ≡ true = rw bare at by in
+      by-holders more n x (omega (arith, fewer n, ltb-true 0 (holders less n) held))
+]
+
+pub leaves-all : (t : FileTree) (ns : List ℕ) → KeepsTree t.files → AreThere t.holds t.files → AreFew t.holds ns → IsHeldAt t.holds t.files → slot t.files 0 ≡ None → Leaves t ns
+leaves-all t [] rules there few held zero' = record {
+  counts = λ m. omega arith;
+  reaps = sym (kept-same (is_by t.holds) t.files (settled-by t.holds t.files held));
+  stays = λ m more. refl;
+  held = held;
+  zero = zero';
+  blocks = omega arith;
+  rules = rules;
+  limit = refl;
+}
+leaves-all t (n ∷ ns) rules there few held zero' =
+    let some = first-few t.holds n ns few in
+    let node = some-node (slot t.files n) (there n some) in
+    let rest = leaves-all (dropped t n) ns (let-go-keeps rules (without_hold t.holds n) n) (drop-there t n some node.0 node.1 there)
+    (λ m. omega (arith, few m, sum_by-cons (one_at m) n ns, count-after t n some m)) (drop-held t n some node.0 node.1 held) (drop-zero t n some node.0 node.1 zero') in
+    record {
+      counts = λ m. omega (arith, rest.counts m, sum_by-cons (one_at m) n ns, count-after t n some m);
+      reaps =
+          rest.reaps
+          ∙ ap (kept (is_by (all_dropped t (n ∷ ns)).holds) 0) (drop-reaps t n some node.0 node.1 held)
+          ∙ kept-twice (is_by (dropped t n).holds) (is_by (all_dropped t (n ∷ ns)).holds) 0 t.files (is_by-fewer (all_dropped t (n ∷ ns)).holds (dropped t n).holds (λ m. omega (arith, rest.counts m)));
+      stays = λ m more. rest.stays m more ∙ drop-stays t n some node.0 node.1 m (omega (arith, more, rest.counts m));
+      held = rest.held;
+      zero = rest.zero;
+      blocks = omega (arith, rest.blocks, drop-blocks t n some node.0 node.1);
+      rules = rest.rules;
+      limit = rest.limit;
+    }
+
+-- ---- open files and processes that go, and their nodes with them
+
+-- those that are left were there
+abbrev pub AreOld : List (Option Counted) → List (Option Counted) → Type 0
+AreOld old new = (k : ℕ) (c : Counted) → slot new k ≡ Some c → (d : Counted) × ((slot old k ≡ Some d) × (d.file ≡ c.file))
+
+abbrev pub AreOldHomes : List (Option Process) → List (Option Process) → Type 0
+AreOldHomes old new = (j d : ℕ) → home_in (slot new j) ≡ Some d → home_in (slot old j) ≡ Some d
+
+home-counts : (os : List (Option Process)) (j d : ℕ) → home_in (slot os j) ≡ Some d → 1 ≤ homes_at os d
+home-counts [] j d at = absurd (none-some d at)
+home-counts (o ∷ os) zero d at = let self : one_in d (Some d) ≡ 1 = grind (arith, nat_tests) in let same : one_in d (home_in o) ≡ one_in d (Some d) = ap (one_in d) at in omega (arith, sum_by-cons (λ x. one_in d (home_in x)) o os, same, self)
+home-counts (o ∷ os) (suc j) d at = omega (arith, sum_by-cons (λ x. one_in d (home_in x)) o os, home-counts os j d at)
+
+node-counts : (opens : List (Option Counted)) (k : ℕ) (c : Counted) (n : ℕ) → slot opens k ≡ Some c → node_on c.file.target ≡ Some n → 1 ≤ files_on opens n
+node-counts opens k c n at on =
+    let self : one_in n (Some n) ≡ 1 = grind (arith, nat_tests) in
+    let same : one_in n (node_on c.file.target) ≡ one_in n (Some n) = ap (one_in n) on in
+    omega (arith, least (λ o. one_in n (node_in o)) opens k c at, same, self)
+
+module _ {t : FileTree} {opens : List (Option Counted)} {os : List (Option Process)} (is : IsInUse t opens os) (left : List (Option Counted)) (after : List (Option Process)) (ns : List ℕ)
+    (counts : (m : ℕ) → files_on left m + homes_at after m + named_in ns m ≡ files_on opens m + homes_at os m)
+    (files : AreOld opens left) (homes : AreOldHomes os after) where
+  few : AreFew t.holds ns
+  few m = omega (arith, counts m, is.holds m)
+
+  pub fewer-held : AreHeld t ns
+  fewer-held = are-held t ns (held-there is) few
+
+  pub fewer-leaves : Leaves t ns
+  fewer-leaves = leaves-all t ns is.rules (held-there is) few is.held is.zero
+
+  abbrev now : FileTree
+  now = all_dropped t ns
+
+  node-stays : (f : OpenFile) (on : Target) → ((n : ℕ) → node_on on ≡ Some n → slot now.files n ≡ slot t.files n) → FitsNode f on (node_of t.files (node_on on)) → FitsNode f on (node_of now.files (node_on on))
+  node-stays f (target.Pipe pipe e) same fits = tt
+  node-stays f (target.File number offset) same fits = subst (FitsNode f (target.File number offset)) (sym (same number refl)) fits
+  node-stays f (target.Console number) same fits = subst (FitsNode f (target.Console number)) (sym (same number refl)) fits
+  node-stays f (target.Device number) same fits = subst (FitsNode f (target.Device number)) (sym (same number refl)) fits
+
+  home-stays : (j : ℕ) (h : Option ℕ) → home_in (slot after j) ≡ h → IfSome h (λ d. IsFolder (slot now.files d))
+  home-stays j None at = tt
+  home-stays j (Some d) at =
+      let was : IfSome (Some d) (λ d. IsFolder (slot t.files d)) = subst (λ h. IfSome h (λ d. IsFolder (slot t.files d))) (homes j d at) (is.homes j) in
+      subst IsFolder (sym (fewer-leaves.stays d (omega (arith, home-counts after j d at, fewer-leaves.counts d, counts d, is.holds d)))) was
+
+  pub fewer-used : IsInUse now left after
+  fewer-used = record {
+    rules = fewer-leaves.rules;
+    zero = fewer-leaves.zero;
+    within = omega (arith, fewer-leaves.blocks, fewer-leaves.limit, is.within);
+    holds = λ m. omega (arith, fewer-leaves.counts m, counts m, is.holds m);
+    held = fewer-leaves.held;
+    fits = λ k c at.
+        let old = files k c at in
+        let was : FitsNode c.file c.file.target (node_of t.files (node_on c.file.target)) = subst (λ f. FitsNode f f.target (node_of t.files (node_on f.target))) old.1.1 (is.fits k old.0 old.1.0) in
+        node-stays c.file c.file.target (λ n on. fewer-leaves.stays n (omega (arith, node-counts left k c n at on, fewer-leaves.counts n, counts n, is.holds n))) was;
+    homes = λ j. home-stays j (home_in (slot after j)) refl;
+  }
+
+  -- the abstract Unix gives up the same nodes
+  pub fewer-nodes : (s : State) (ms : List Memory) → AreAway after → s.files ≡ t.files → s.opens ≡ opens_of left → s.places ≡ joined after ms → without_nodes s ≡ record s { files = now.files }
+  unfolding without_nodes
+  fewer-nodes s ms away same opened placed =
+      ap (λ fs. record s { files = fs })
+      (ap (kept (λ n node. nat_lt 0 (links_of node) || is_used s n) 0) same
+      ∙ kept-cong (λ n node. nat_lt 0 (links_of node) || is_used s n) (is_by now.holds) 0 t.files (λ i j x e at.
+      let same_at : j ≡ i = omega (arith, e) in
+      let some : j ≢ 0 = λ z. none-some x (sym is.zero ∙ ap (slot t.files) (sym z ∙ same_at) ∙ at) in
+      ap (λ b. nat_lt 0 (links_of x) || b) (used-is left after ms away s opened placed j some ∙ ap (nat_lt 0) (omega (arith, fewer-leaves.counts j, counts j, is.holds j))))
+      ∙ sym fewer-leaves.reaps)
+
+-- nothing goes
+module _ {t : FileTree} {opens : List (Option Counted)} {os : List (Option Process)} (is : IsInUse t opens os) where
+  pub nodes-stay : (s : State) (ms : List Memory) → AreAway os → s.files ≡ t.files → s.opens ≡ opens_of opens → s.places ≡ joined os ms → without_nodes s ≡ s
+  nodes-stay s ms away same opened placed =
+      fewer-nodes is opens os [] (λ m. omega arith) (λ k c at. (c, (at, refl))) (λ j d at. at) s ms away same opened placed
+      ∙ ap (λ fs. record s { files = fs }) (sym same)
+
+-- ---- a process more works in a directory
+
+-- a hold more counts
+pub hold-more : (holds : List ℕ) (d : ℕ) → d < length holds → (n : ℕ) → holders (with_hold holds d) n ≡ holders holds n + one_in n (Some d)
+hold-more holds d short n = elim (cases_eq n d) [
+  | inl same ↦ rw same (let self : one_in d (Some d) ≡ 1 = grind (arith, nat_tests) in omega (arith, get_or-set_same holds d (holders holds d + 1) 0 short, self))
+  | inr other ↦ (let none : one_in n (Some d) ≡ 0 = grind (arith, nat_tests) in omega (arith, get_or-set_other holds d n (holders holds d + 1) 0 other, none))
+]
+
+hold-count : (holds : List ℕ) (d : ℕ) → 1 ≤ holders holds d → (n : ℕ) → holders (with_hold holds d) n ≡ holders holds n + one_in n (Some d)
+hold-count holds d some n = hold-more holds d (within-holds holds d some) n
+
+module _ {t : FileTree} {opens : List (Option Counted)} {os : List (Option Process)} (is : IsInUse t opens os) where
+  -- a process works in a directory
+  pub home-held : (i d : ℕ) → home_in (slot os i) ≡ Some d → 1 ≤ holders t.holds d
+  home-held i d at = omega (arith, is.holds d, home-counts os i d at)
+
+  pub home-folder : (i d : ℕ) → home_in (slot os i) ≡ Some d → IsFolder (slot t.files d)
+  home-folder i d at = subst (λ h. IfSome h (λ d. IsFolder (slot t.files d))) at (is.homes i)
+
+  -- a child works where its parent does
+  pub used-child : (i d j : ℕ) (child : Process) → home_in (slot os i) ≡ Some d → home_in (Some child) ≡ Some d → j < length os → slot os j ≡ None → IsInUse (record t { holds = with_hold t.holds d }) opens (slice_set os j (Some child))
+  used-child i d j child parent home short free =
+      let some = home-held i d parent in
+      record {
+        rules = is.rules;
+        zero = is.zero;
+        within = is.within;
+        holds = λ n.
+            let sums = sum_by-set (λ o. one_in n (home_in o)) os j (Some child) None short in
+            let none : one_in n (home_in (slot os j)) ≡ 0 = ap (λ o. one_in n (home_in o)) free in
+            let one : one_in n (home_in (Some child)) ≡ one_in n (Some d) = ap (one_in n) home in
+            omega (arith, hold-count t.holds d some n, is.holds n, sums, none, one);
+        held = λ n node at bare. omega (arith, hold-count t.holds d some n, is.held n node at bare);
+        fits = is.fits;
+        homes = homes-set (λ d. IsFolder (slot t.files d)) os j (Some child) (subst (λ h. IfSome h (λ d. IsFolder (slot t.files d))) (sym home) (home-folder i d parent)) is.homes;
+      }
+
+  few-in : {X : Type 0} (f : Option X → Option ℕ) (n : ℕ) (xs : List (Option X)) → sum_by (λ o. one_in n (f o)) xs ≤ length xs
+  few-in f n [] = omega arith
+  few-in f n (x ∷ xs) = omega (arith, sum_by-cons (λ o. one_in n (f o)) x xs, few-in f n xs, one-few (f x)) where
+    one-few : (o : Option ℕ) → one_in n o ≤ 1
+    one-few None = omega arith
+    one-few (Some k) = elim (cases_eq n k) [
+      | inl same ↦ (let one : one_in n (Some k) ≡ 1 = grind (arith, nat_tests) in omega (arith, one))
+      | inr other ↦ (let none : one_in n (Some k) ≡ 0 = grind (arith, nat_tests) in omega (arith, none))
+    ]
+
+  -- no more hold a node than there are open files and processes
+  pub holders-few : (n : ℕ) → holders t.holds n ≤ length opens + length os
+  holders-few n = omega (arith, is.holds n, few-in node_in n opens, few-in home_in n os)
