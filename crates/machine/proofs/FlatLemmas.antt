@@ -1,19 +1,24 @@
 -- A flat program in memory, and the state and the kernel that begin with it.
+use Rattle.std.proofs.lemmas.Option.{none-some, same_Some}
+use Rattle.tree.specs.Holding.{holders, with_hold}
+use Rattle.files.specs.Meant.{file_of}
+use Rattle.kernel.specs.Holding.{FitsNode, IsFolder, IsInUse, files_on, home_in, homes_at, node_in, node_of, node_on}
 use lib.Seq.{drop-append-add}
 use Rattle.kernel.specs.Descriptors.{IsCounted, named_by, names_in}
 use Rattle.kernel.specs.Kernel.{memory_in, state_of}
-use Rattle.kernel.specs.Sound.{IsFiled, IsKernel, IsLive, IsOpenFile, IsOpened, IsPlace, IsPlaced, WaitsWell, console_file}
+use Rattle.kernel.specs.Sound.{IsFiled, IsKernel, IsLive, IsOpenFile, IsOpened, IsPlace, IsPlaced, WaitsWell}
 use Rattle.files.specs.Counts.{names, names-free, one_in}
+use Rattle.files.specs.declared.file.OpenFile.{OpenFile}
 use Rattle.files.specs.declared.table.FileFault.{FileFault}
 use Rattle.files.specs.Places.{Counted, count_at, count_in, opened, opens_of, place_for}
 use Rattle.files.specs.Whole.{slot-opens}
-use Rattle.machine.specs.Flat.{alone, bare_plan, first, first_files, first_kernel, first_table, flat_memory, flat_space}
+use Rattle.machine.specs.Flat.{alone, bare_plan, console_file, first, first_files, first_kernel, first_table, first_tree, flat_memory, flat_space}
 use Rattle.mount.specs.Mounted.{IsFlat}
 use Rattle.proc.specs.declared.process.Process.{Process}
 use Rattle.proc.specs.Places.{is_running, seated}
 use Rattle.proc.specs.Whole.{joined, joined-free_slots}
 use Rattle.spaces.specs.Spaces.{Held, Spaces, frames_in, grown, held_at, no_pages, taken_frames, with_held, written}
-use Rattle.std.proofs.Common.{◌≡◌, ℕ, zero, suc, ◌+◌, ◌-◌, ◌*◌, ◌/◌, ◌%◌, ◌<◌, ◌≤◌, Bool, true, false, List, [], ◌∷◌, ◌++◌, length, map, take, drop, replicate, Option, Some, None, Ok, Result, is_some, nat_le, refl, sym, subst, ap, ◌∙◌, arith, append_assoc, length-append}
+use Rattle.std.proofs.Common.{Bool, List, None, Ok, Option, Result, Some, [], ap, append_assoc, ap₂, arith, drop, false, get_or, is_some, length, length-append, map, nat_le, refl, replicate, subst, suc, sym, take, true, zero, ℕ, ◌%◌, ◌*◌, ◌++◌, ◌+◌, ◌-◌, ◌/◌, ◌<◌, ◌∙◌, ◌∷◌, ◌≡◌, ◌≢◌, ◌≤◌}
 use Rattle.std.proofs.lemmas.Bool.{le-leb, lt-leb, lt-ltb}
 use Rattle.std.proofs.lemmas.Bool.Decides.{nat_tests}
 use Rattle.std.proofs.lemmas.List.{drop-replicate, length-replicate, length-take}
@@ -21,13 +26,13 @@ use Rattle.std.proofs.lemmas.List.Folds.{sum_by-replicate}
 use Rattle.std.proofs.lemmas.List.Sums.{sum_by-cons}
 use Rattle.std.proofs.Math.Nat.{zero-add}
 use Rattle.std.proofs.Math.Seq.{take-append-add}
-use Rattle.std.specs.Prelude.{IfOk, if◌then◌else◌, option_map, slice_index, sum_by, ◌==◌}
+use Rattle.std.specs.Prelude.{IfOk, IfSome, if◌then◌else◌, option_map, slice_index, sum_by, ◌==◌}
 use Rattle.tree.specs.Tree.{FileTree}
-use Rattle.unixmodel.specs.Counts.{frames_of, page_frames}
+use Rattle.unixmodel.specs.Counts.{blocks_of, frames_of, page_frames}
 use Rattle.unixmodel.specs.Files.{Files, free_slots, slot}
 use Rattle.unixmodel.specs.Memory.{Marks, Memory, Page, overwrite, pages_of, write_bytes, write_from, zero_page, zeros}
 use Rattle.unixmodel.specs.Numbers.{ceil_div, le, round_down}
-use Rattle.unixmodel.specs.OpenFiles.{OpenFile}
+use Rattle.unixmodel.specs.OpenFiles as unix_files
 use Rattle.unixmodel.specs.Plan.{plan_flat, push, push_pointers, push_strings, stack_marks, with_args, with_stack}
 use Rattle.unixmodel.specs.Process as unix
 use Rattle.unixmodel.specs.Start.{first_process, first_state, flat_descriptors, flat_files, flat_opens, if_fits, start_flat}
@@ -126,16 +131,16 @@ page_frames-more (suc a) (suc b) less = rw (suc-frames a, suc-frames b) (omega (
 
 -- ---- the first state
 
-slot-free : (X : Type 0) (n i : ℕ) → let free : List (Option X) = replicate n None in slot free i ≡ None
+pub slot-free : (X : Type 0) (n i : ℕ) → let free : List (Option X) = replicate n None in slot free i ≡ None
 slot-free X zero i = refl
 slot-free X (suc n) zero = refl
 slot-free X (suc n) (suc i) = slot-free X n i
 
-length-free : (X : Type 0) (n : ℕ) → let free : List (Option X) = replicate n None in length free ≡ n
+pub length-free : (X : Type 0) (n : ℕ) → let free : List (Option X) = replicate n None in length free ≡ n
 length-free X zero = refl
 length-free X (suc n) = ap suc (length-free X n)
 
-no-frames : (n : ℕ) → sum_by frames_in (replicate n None) ≡ 0
+pub no-frames : (n : ℕ) → sum_by frames_in (replicate n None) ≡ 0
 no-frames zero = refl
 no-frames (suc n) = omega (arith, sum_by-cons frames_in None (replicate n None), no-frames n)
 
@@ -176,7 +181,7 @@ start-over bytes frames over =
 
 first-live : (size : ℕ) → IsLive (first size)
 unfolding flat_descriptors free_slots
-first-live size = record { descriptors = refl; directory = refl }
+first-live size = record { descriptors = refl }
 
 first-zero : (size : ℕ) → slice_index (first size).registers 0 ≡ 0
 unfolding zeros
@@ -229,12 +234,12 @@ first-named : (i : ℕ) (c : Counted) → slot first_files i ≡ Some c → 0 < 
 first-named zero c at = let three : 3 ≡ c.count = ap count_in at in omega (arith, three)
 first-named (suc i) c at = absurd (let bad : None ≡ Some c = sym (slot-free Counted 99 i) ∙ at in cc)
 
-first-each : (n : ℕ) (f : OpenFile) → slot (opens_of first_files) n ≡ Some f → IsOpenFile f
-first-each zero f at = let e : console_file ≡ f = cc in subst IsOpenFile e refl
+first-each : (n : ℕ) (f : unix_files.OpenFile) → slot (opens_of first_files) n ≡ Some f → IsOpenFile f
+first-each zero f at = let e : file_of console_file ≡ f = cc in subst IsOpenFile e tt
 first-each (suc n) f at =
-    absurd (let bad : None ≡ Some f = sym (slot-opens first_files (suc n) ∙ ap (option_map (λ (c : Counted). c.file)) (slot-free Counted 99 n)) ∙ at in cc)
+    absurd (let bad : None ≡ Some f = sym (slot-opens first_files (suc n) ∙ ap (option_map (λ (c : Counted). file_of c.file)) (slot-free Counted 99 n)) ∙ at in cc)
 
-first-waits : (size i : ℕ) → WaitsWell (opens_of first_files) (slot (first_table size).places i)
+first-waits : (size i : ℕ) → WaitsWell first_files (slot (first_table size).places i)
 unfolding free_slots
 first-waits size zero = tt
 first-waits size (suc i) = rw (slot-free Process 63 i) tt
@@ -249,8 +254,80 @@ first-opened size = record {
   waits = first-waits size;
 }
 
-first-filed : (tree : FileTree) → IsFlat tree → IsFiled tree None
-first-filed tree flat = record { up = λ i e. absurd (cc); flat = λ up. flat.files; limit = λ up. flat.limit }
+-- ---- who holds the root and the console
+
+pub none-free : (X : Type 0) (f : Option X → ℕ) → f None ≡ 0 → (n : ℕ) → sum_by f (replicate n None) ≡ 0
+none-free X f none zero = refl
+none-free X f none (suc n) = omega (arith, sum_by-cons f None (replicate n None), none, none-free X f none n)
+
+console-on : (n : ℕ) → files_on first_files n ≡ one_in n (Some 2)
+console-on n = let rest = none-free Counted (λ o. one_in n (node_in o)) refl 99 in omega (arith, sum_by-cons (λ o. one_in n (node_in o)) (Some (record { file = console_file; count = 3 })) (replicate 99 None), rest)
+
+root-at : (size n : ℕ) → homes_at (first_table size).places n ≡ one_in n (Some 1)
+unfolding free_slots
+root-at size n = let rest = none-free Process (λ o. one_in n (home_in o)) refl 63 in omega (arith, sum_by-cons (λ o. one_in n (home_in o)) (Some (first size)) (replicate 63 None), rest)
+
+pub zeros-past : (m n : ℕ) → ◌≡◌ {A = ℕ} (get_or (replicate m 0) n 0) 0
+zeros-past zero zero = refl
+zeros-past zero (suc n) = refl
+zeros-past (suc m) zero = refl
+zeros-past (suc m) (suc n) = zeros-past m n
+
+first-holders : (n : ℕ) → holders (with_hold (with_hold (replicate 16 0) 1) 2) n ≡ one_in n (Some 2) + one_in n (Some 1)
+first-holders zero = refl
+first-holders (suc zero) = refl
+first-holders (suc (suc zero)) = refl
+first-holders (suc (suc (suc n))) =
+    let console : (2 == suc (suc (suc n))) ≡ false = grind (arith, nat_tests) in
+    let root : (1 == suc (suc (suc n))) ≡ false = grind (arith, nat_tests) in
+    rw (console, root) (zeros-past 13 n)
+
+first-fits : (tree : FileTree) → IsFlat tree → (k : ℕ) (c : Counted) → slot first_files k ≡ Some c → FitsNode c.file c.file.target (node_of tree.files (node_on c.file.target))
+unfolding flat_files free_slots
+first-fits tree flat zero c at = let e : record { file = console_file; count = 3 } ≡ c = same_Some (record { file = console_file; count = 3 }) c at in subst (λ (d : Counted). FitsNode d.file d.file.target (node_of tree.files (node_on d.file.target))) e (rw flat.files refl)
+first-fits tree flat (suc k) c at = absurd (none-some c (sym (slot-free Counted 99 k) ∙ at))
+
+first-homes : (tree : FileTree) → IsFlat tree → (size i : ℕ) → IfSome (home_in (slot (first_table size).places i)) (λ d. IsFolder (slot tree.files d))
+unfolding flat_files free_slots
+first-homes tree flat size zero = rw flat.files tt
+first-homes tree flat size (suc i) = rw (slot-free Process 63 i) tt
+
+flat-zero : slot flat_files 0 ≡ None
+unfolding flat_files free_slots
+flat-zero = refl
+
+flat-blocks : blocks_of flat_files ≡ 1
+unfolding blocks_of flat_files free_slots
+flat-blocks = refl
+
+first-used : (tree : FileTree) → IsFlat tree → (size : ℕ) → IsInUse (first_tree tree) first_files (first_table size).places
+first-used tree flat size = record {
+  rules = flat.rules;
+  zero = ap (λ (files : Files). slot files 0) flat.files ∙ flat-zero;
+  within = rw (flat.files, flat.limit, flat-blocks) (omega arith);
+  holds = λ n. ap (λ h. holders (with_hold (with_hold h 1) 2) n) flat.holds ∙ first-holders n ∙ sym (ap₂ ◌+◌ (console-on n) (root-at size n));
+  held = λ n node at bare. absurd (let some = flat.linked n node at in omega (arith, some, bare));
+  fits = first-fits tree flat;
+  homes = first-homes tree flat size;
+}
+
+first-filed : (tree : FileTree) → IsFlat tree → (size : ℕ) → IsFiled (first_tree tree) first_files (first_table size).places None
+first-filed tree flat size = record { up = λ i e. absurd (cc); used = λ up. first-used tree flat size }
+
+-- what the holds ask for
+pub hold-root : (tree : FileTree) → IsFlat tree → slot tree.files 1 ≢ None
+unfolding flat_files free_slots
+hold-root tree flat none = absurd (let bad : slot flat_files 1 ≡ None = ap (λ (files : Files). slot files 1) (sym flat.files) ∙ none in cc)
+
+pub hold-console : (tree : FileTree) → IsFlat tree → slot tree.files 2 ≢ None
+unfolding flat_files free_slots
+hold-console tree flat none = absurd (let bad : slot flat_files 2 ≡ None = ap (λ (files : Files). slot files 2) (sym flat.files) ∙ none in cc)
+
+pub few-root : (tree : FileTree) → IsFlat tree → holders tree.holds 1 < 65535
+few-root tree flat = rw flat.holds (omega arith)
+
+pub few-console : (tree : FileTree) → IsFlat tree → holders (with_hold tree.holds 1) 2 < 65535
+few-console tree flat = rw flat.holds (omega arith)
 
 pub first-sound : (tree : FileTree) → IsFlat tree → (frames : ℕ) (h : Held) → 4 + page_frames (length h.memory) ≤ frames → IsKernel (first_kernel tree frames h)
 first-sound tree flat frames h fits = record {
@@ -260,7 +337,7 @@ first-sound tree flat frames h fits = record {
   runs = first-rests h.size;
   fits = rw (taken-alone frames h) fits;
   opened = first-opened h.size;
-  filed = first-filed tree flat;
+  filed = first-filed tree flat h.size;
 }
 
 pub table-first : (size : ℕ) → seated (record { places = free_slots 64; last = 63; next_pid = 1 }) (first size) (record { place = 0; pid = 1 }) ≡ first_table size

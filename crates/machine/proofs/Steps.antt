@@ -1,4 +1,5 @@
 -- What an event comes to, from what the kernel makes of it.
+use Rattle.std.specs.Prelude.{IfErr}
 use Rattle.calls.specs.Does.{Dispatches, Does, LeavesTree, Makes}
 use Rattle.calls.specs.declared.halt.Halt.{Halt}
 use Rattle.calls.specs.declared.halt.Halt.TheVariants.{Console, Device, Halted, InitEnded}
@@ -12,7 +13,7 @@ use Rattle.unixmodel.specs.Calls.{After, quiet}
 use Rattle.unixmodel.specs.declared.event.Event.TheVariants.{Key, Tick}
 use Rattle.unixmodel.specs.Next.{next, stopped}
 use Rattle.unixmodel.specs.State.{State, running}
-use Rattle.std.proofs.Common.{◌≡◌, ◌≤◌, ℕ, ℤ, Bool, true, false, List, Option, Some, None, Result, Ok, Err, arith, refl, ap, sym, ◌∙◌}
+use Rattle.std.proofs.Common.{◌≡◌, ◌≤◌, ℕ, ℤ, Bool, true, false, List, Option, Some, None, Result, Ok, Err, arith, refl, ap}
 
 abbrev pub told : Kernel → Bool → Told
 told k failed = record { state = state_of k; failures = k.tree.failures; failed = failed }
@@ -48,19 +49,19 @@ pub does-gives : (old new : Kernel) (failed : Bool) (a : After) (before after : 
 does-gives old new failed a before after rising (Ok u) goes flag made leaves = rw flag (up old goes, done-gives old new a before after None made leaves.later)
 does-gives old new failed a before after rising (Err (InitEnded status)) goes flag made leaves = rw flag (up old goes, done-gives old new a before after (Some status) made leaves.later)
 does-gives old new failed a before after rising (Err Console) goes flag made leaves = rw flag (up old goes, console-gives old new before after rising a.bytes made.0 made.1 leaves)
-does-gives old new failed a before after rising (Err Device) goes flag made leaves = absurd made
+does-gives old new failed a before after rising (Err Device) goes flag made leaves = rw flag (up old goes, record { rises = leaves.rises; later = leaves.later; failed = refl; printed = made })
 does-gives old new failed a before after rising (Err Halted) goes flag made leaves = absurd made
 
 -- an event that halts nothing and leaves the disk as it is: it is done, or the console failed
 pub goes-gives : (old new : Kernel) (failed : Bool) (a : After) (before after : Option (List ℕ)) (rising : Type 0) (result : Result (Unit {0}) Halt)
-    → old.halted ≡ None → a.state.halted ≡ None → failed ≡ fails result → Dispatches new a before after rising result → new.tree ≡ old.tree
+    → old.halted ≡ None → a.state.halted ≡ None → failed ≡ fails result → Dispatches new a before after rising result → IfErr result (λ halt. halt ≡ Console) → new.tree ≡ old.tree
     → StepGives (told old false) (told new failed) a before after rising result
-goes-gives old new failed a before after rising (Ok u) goes on flag made same =
+goes-gives old new failed a before after rising (Ok u) goes on flag made only same =
     rw flag (up old goes, done-gives old new a before after None (record { state = made.state; halts = on; printed = made.printed }) (rw same (omega arith)))
-goes-gives old new failed a before after rising (Err (InitEnded status)) goes on flag made same = absurd made
-goes-gives old new failed a before after rising (Err Console) goes on flag made same = rw flag (up old goes, console-gives old new before after rising a.bytes made.0 made.1 same)
-goes-gives old new failed a before after rising (Err Device) goes on flag made same = absurd made
-goes-gives old new failed a before after rising (Err Halted) goes on flag made same = absurd made
+goes-gives old new failed a before after rising (Err (InitEnded status)) goes on flag made only same = absurd made
+goes-gives old new failed a before after rising (Err Console) goes on flag made only same = rw flag (up old goes, console-gives old new before after rising a.bytes made.0 made.1 same)
+goes-gives old new failed a before after rising (Err Device) goes on flag made only same = absurd (let bad : Device ≡ Console = only in cc)
+goes-gives old new failed a before after rising (Err Halted) goes on flag made only same = absurd made
 
 -- an event that halts nothing, prints nothing, and leaves the disk as it is
 pub quiet-gives : (old new : Kernel) (a : After) (at : Option (List ℕ))

@@ -1,7 +1,9 @@
 -- A flat program in memory, and the process and the spaces that begin with it.
+use Rattle.tree.specs.Holding.{with_hold}
+use Rattle.files.specs.declared.file.Target.TheVariants.{Console}
+use Rattle.files.specs.declared.file.OpenFile.{OpenFile}
 use Rattle.std.specs.Prelude.{List, None, Option, Some, [], false, length, replicate, true, ℕ, ◌*◌, ◌-◌, ◌∷◌}
 use Rattle.kernel.specs.Kernel.{Kernel, begun}
-use Rattle.kernel.specs.Sound.{console_file}
 use Rattle.files.specs.Places.{Counted}
 use Rattle.proc.specs.declared.process.Process.{Process}
 use Rattle.proc.specs.Places.{Places}
@@ -57,10 +59,18 @@ first size = record {
 abbrev pub first_table : ℕ → Places
 first_table size = record { places = Some (first size) ∷ free_slots 63; last = 63; next_pid = 2 }
 
+-- the console, open for reading and writing
+abbrev pub console_file : OpenFile
+console_file = record { target = Console 2; readable = true; writable = true }
+
 -- the console alone is open, and three descriptors name it
 abbrev pub first_files : List (Option Counted)
 first_files = Some (record { file = console_file; count = 3 }) ∷ replicate 99 None
 
+-- the files of a disk, of which process 1 holds the root and its open file the console
+abbrev pub first_tree : FileTree → FileTree
+first_tree tree = record tree { holds = with_hold (with_hold tree.holds 1) 2 }
+
 -- the kernel of a machine that begins with a space, over the files of a disk
 abbrev pub first_kernel : FileTree → ℕ → Held → Kernel
-first_kernel tree frames space = begun tree (first_table space.size) (alone frames space) first_files
+first_kernel tree frames space = begun (first_tree tree) (first_table space.size) (alone frames space) first_files

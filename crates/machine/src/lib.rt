@@ -1,14 +1,18 @@
 //! The machine: a pure function from events to the console's bytes, the state of every process and the disk.
 #![tactic(auto)]
 
-mod boot;
 mod fault;
+mod flat_boot;
+mod image_boot;
+mod inodes;
 mod machine;
 mod seen;
 
-pub use boot::{boot_flat, boot_flat_with};
 pub use calls::Halt;
 pub use fault::BootFault;
+pub use flat_boot::{boot_flat, boot_flat_on, boot_flat_with};
+pub use image_boot::boot;
+pub use inodes::Stat;
 pub use machine::Machine;
 pub use seen::{ProcessState, Seen};
 pub use vm::Perm;

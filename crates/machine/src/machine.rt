@@ -1,17 +1,23 @@
 //! The machine: events in, the console's bytes and the state of the process out.
-ghost use Rattle.std.specs.Prelude.{◌≡◌, ◌≤◌, ◌+◌, ℕ, None, Some, false, OnOk, OnErr, IfSome, IfOk, is_some, option_map, slice_index};
+ghost use Rattle.std.specs.Prelude.{◌≡◌, ◌≤◌, ◌+◌, ℕ, None, Some, false, OnOk, OnErr, IfSome, IfOk, IsErrOf, is_some, length, option_map, slice_index};
 ghost use Rattle.std.specs.Io.KnownBytes.{Appends};
 ghost use Rattle.unixmodel.specs.Failures.{Rises};
 ghost use Rattle.unixmodel.specs.Next.{next};
 ghost use Rattle.kernel.specs.Kernel.{state_of};
 ghost use Rattle.machine.specs.Gives.{fails};
+ghost use Rattle.calls.specs.declared.halt.Halt.TheVariants.{Halted};
+ghost use Rattle.machine.specs.Looks.{IsRead, LookGives, stat_seen};
 ghost use Rattle.machine.specs.Seen.{seen_of};
 ghost use Rattle.machine.specs.Told.{told};
 ghost use Rattle.unixmodel.specs.Counts.{frames_of};
 ghost use Rattle.unixmodel.specs.Memory.{Page};
-ghost use Rattle.unixmodel.specs.Shown.{ShowsMemory, shown_page, shown_process};
+ghost use Rattle.unixmodel.specs.Shown.{ShowsMemory, shown_bytes, shown_page, shown_process, shown_stat};
 ghost use Rattle.vm.specs.Leaf.{marks_from};
 
+mod save;
+
+use crate::inodes;
+use crate::inodes::Stat;
 use crate::seen::{Seen, told};
 use blockdev::BlockDev;
 use calls::{Halt, Kernel};
@@ -110,6 +116,34 @@ impl<D: BlockDev, T: Translate + Drop> Machine<D, T> {
             self.step(*event, console)?;
         }
         Ok(())
+    }
+
+    /// What is told of the node of the disk with this number; `None` where there is none. `Device`: an access of the device
+    /// failed, as at a step.
+    pub fn stat_inode(&mut self, number: usize) -> Result<Option<Stat>, Halt>
+        ensures { LookGives self.old self.new (λ stat. stat ≡ option_map stat_seen (shown_stat self.old.state number)) result }
+    {
+        if self.failed {
+            return Err(Halt::Halted);
+        }
+        let told = inodes::look(&mut self.kernel, number);
+        self.failed = told.is_err();
+        Ok(told?)
+    }
+
+    /// Reads bytes of the node of the disk with this number into `out`, from the place `at` on and as many as there are, and
+    /// tells how many: none past its end, none of a device, and none where there is no such node. `Device`: an access of the
+    /// device failed, as at a step; nothing is said of `out` then.
+    pub fn read_inode(&mut self, number: usize, at: usize, out: &mut [u8]) -> Result<usize, Halt>
+        ensures gives { LookGives self.old self.new (IsRead (shown_bytes self.old.state number at (length out.old)) out.old out.new) result }
+        ensures kept { IsErrOf result Halted → out.new ≡ out.old }
+    {
+        if self.failed {
+            return Err(Halt::Halted);
+        }
+        let count = inodes::read(&mut self.kernel, number, at, out);
+        self.failed = count.is_err();
+        Ok(count?)
     }
 
     /// The device of the disk, which counts its failures: where it can't fail, no call answers `Device`.

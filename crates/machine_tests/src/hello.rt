@@ -5,10 +5,11 @@ use crate::play::Act::{
 };
 use crate::play::{Act, Program, READY, ROOM, RUNNING, holds_at, prints, run};
 use console::Writer;
-use machine::{Halt, Perm, ProcessState, boot_flat_with};
+use machine::{Halt, Perm, ProcessState, boot_flat, boot_flat_with};
 use ram::{FrameNo, Ram};
+use std::alloc::Global;
 use std::cell::Cell;
-use sv39::{Fault, Translate, walk};
+use sv39::{Fault, Tlb, Translate, walk};
 use unixmodel::event::Event;
 use unixmodel::trap::Access;
 
@@ -26,8 +27,8 @@ const HELLO: [u32; 8] = [
 
 const HI: Program<'static> = Program::Words(&HELLO, b"hi\n");
 
-// The bytes of that program.
-const BYTES: [u8; 35] = [
+/// The bytes of that program.
+pub(crate) const BYTES: [u8; 35] = [
     0x13, 0x05, 0x10, 0x00, 0x93, 0x05, 0x00, 0x02, 0x13, 0x06, 0x30, 0x00, 0x93, 0x08, 0x00, 0x01,
     0x73, 0x00, 0x00, 0x00, 0x13, 0x05, 0x00, 0x00, 0x93, 0x08, 0x20, 0x00, 0x73, 0x00, 0x00, 0x00,
     0x68, 0x69, 0x0a,
@@ -160,10 +161,11 @@ fn halts_where_the_console_fails(rt: HostRuntime) {
     prints(&rt, HI, (64, 1), &ACTS, b"h");
 }
 
-// Walks, and counts the fetches.
+// Walks, and counts the fetches and the fences.
 #[derive(Drop)]
 struct Counting<'a> {
     fetches: &'a Cell<u32>,
+    fences: &'a Cell<u32>,
 }
 
 impl Translate for Counting<'_> {
@@ -182,17 +184,84 @@ impl Translate for Counting<'_> {
         walk(ram, root, va, access)
     }
 
-    fn fence(&mut self) {}
+    fn fence(&mut self) {
+        self.fences.set(self.fences.get().wrapping_add(1));
+    }
 }
 
-// The first of nine steps is a turn, and each of the others is an instruction.
+// The first of nine steps is a turn, and each of the others is an instruction: boot and the turn may fence, and the end of the
+// process, but no instruction between them.
 #[test]
-fn each_fetch_is_translated(rt: HostRuntime) {
-    let fetches = Cell::new(0);
-    let counting = Counting { fetches: &fetches };
+fn each_fetch_is_translated_and_no_step_fences(rt: HostRuntime) {
+    let (fetches, fences) = (Cell::new(0), Cell::new(0));
+    let counting = Counting {
+        fetches: &fetches,
+        fences: &fences,
+    };
     let mut machine = boot_flat_with(rt.alloc(), &BYTES, counting, 64).expect(&rt, "a machine");
     let mut out = Writer::new(Vec::new(rt.alloc()));
+    let begun = machine.run(&[Event::Step; 1], &mut out);
+    let before = fences.get();
+    let on = machine.run(&[Event::Step; 7], &mut out);
+    holds_at(&rt, 0, begun.is_ok() && on.is_ok());
+    holds_at(&rt, 1, before > 0 && fences.get() == before);
+    let done = machine.run(&[Event::Step; 1], &mut out);
+    holds_at(&rt, 2, done == Err(Halt::InitEnded(0)));
+    holds_at(&rt, 3, fetches.get() == 8);
+}
+
+// A leaf for all pages from page 0 on, in frame 0 and those after it: it may be read, written and executed.
+const WIDE_LEAF: u64 = 0x2000_00df;
+
+/// A cache that has translated a fetch of page 0 under a root, in a memory in which that root has such a leaf.
+pub(crate) fn stale(ram: &mut Ram, root: FrameNo) -> Tlb<64> {
+    let mut cache = Tlb::<64>::new();
+    if root.0 < ram.frame_count() {
+        ram.store_u64(root, 0, WIDE_LEAF);
+        let _ = cache.translate(ram, root, 0, Access::Fetch);
+    }
+    cache
+}
+
+// What a machine prints whose translator comes from another memory, and whether it ended well.
+fn greets(alloc: Global, translator: Tlb<64>) -> Option<bool> {
+    let mut machine = boot_flat_with(alloc, &BYTES, translator, 256).ok()?;
+    let mut out = Writer::new(Vec::new(alloc));
     let done = machine.run(&[Event::Step; 9], &mut out);
-    holds_at(&rt, 0, done == Err(Halt::InitEnded(0)));
-    holds_at(&rt, 1, fetches.get() == 8);
+    Some(done == Err(Halt::InitEnded(0)) && out.into_inner().as_slice() == b"hi\n".as_slice())
+}
+
+#[test]
+fn boot_forgets_what_the_translator_held(rt: HostRuntime) {
+    let alloc = rt.alloc();
+    let mut other = Ram::new(alloc, 256).expect(&rt, "a memory");
+    for root in 0..256u32 {
+        let cache = stale(&mut other, FrameNo(root));
+        holds_at(&rt, root as usize, cache.reads() == 1);
+        holds_at(&rt, root as usize, greets(alloc, cache) == Some(true));
+    }
+}
+
+// How many entries a cache has read after each of four accesses to the pages of a table.
+fn reads_after(ram: &Ram, root: FrameNo) -> [u64; 4] {
+    const ACCESSES: [(u64, Access); 4] = [
+        (0, Access::Fetch),
+        (0, Access::Fetch),
+        (0x2000, Access::Load),
+        (0, Access::Fetch),
+    ];
+    let mut cache = Tlb::<64>::new();
+    let mut reads = [0; 4];
+    for (place, (va, access)) in ACCESSES.iter().enumerate() {
+        let _ = cache.translate(ram, root, *va, *access);
+        reads[place] = cache.reads();
+    }
+    reads
+}
+
+#[test]
+fn what_is_held_is_not_read_again(rt: HostRuntime) {
+    let machine = boot_flat(rt.alloc(), &BYTES, 64).expect(&rt, "a machine");
+    let (ram, root) = machine.tables(1).expect(&rt, "tables");
+    holds_at(&rt, 0, reads_after(ram, root) == [3, 3, 6, 6]);
 }

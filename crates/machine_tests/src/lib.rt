@@ -4,12 +4,29 @@
 #[cfg(test)]
 mod answers;
 #[cfg(test)]
+mod booting;
+#[cfg(test)]
+mod execs;
+#[cfg(test)]
+mod failing;
+#[cfg(test)]
 mod hello;
+#[cfg(test)]
+mod inodes;
+#[cfg(test)]
+mod links;
+#[cfg(test)]
+mod naming;
+#[cfg(test)]
+mod paths;
 #[cfg(test)]
 mod pipes;
 #[cfg(test)]
 mod play;
 #[cfg(test)]
 mod processes;
+#[cfg(test)]
+mod saving;
+pub mod translators;
 #[cfg(test)]
 mod typing;

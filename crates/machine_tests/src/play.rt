@@ -1,13 +1,14 @@
 //! Programs, and runs of them: a list of acts, each of which does something to the machine or looks at it.
+use crate::translators::Noting;
 use blockdev::MemDisk;
 use console::Writer;
-use machine::{Halt, Machine, Perm, ProcessState, Seen, boot_flat};
+use machine::{Halt, Machine, Perm, ProcessState, Seen, Stat, boot_flat_with};
 use ram::{FRAME_SIZE, FrameNo, Ram};
 use std::alloc::{AllocError, Global};
 use std::io;
 use std::io::Write;
 use std::process::Abort;
-use sv39::{Plain, walk};
+use sv39::{Plain, Tlb, Translate, walk};
 use unixmodel::event::Event;
 use unixmodel::trap::Access;
 
@@ -26,6 +27,12 @@ pub(crate) const READ: u64 = 5;
 
 pub(crate) const KILL: u64 = 6;
 
+pub(crate) const EXEC: u64 = 7;
+
+pub(crate) const FSTAT: u64 = 8;
+
+pub(crate) const CHDIR: u64 = 9;
+
 pub(crate) const DUP: u64 = 10;
 
 pub(crate) const GETPID: u64 = 11;
@@ -36,7 +43,17 @@ pub(crate) const SLEEP: u64 = 13;
 
 pub(crate) const UPTIME: u64 = 14;
 
+pub(crate) const OPEN: u64 = 15;
+
 pub(crate) const WRITE: u64 = 16;
+
+pub(crate) const MKNOD: u64 = 17;
+
+pub(crate) const UNLINK: u64 = 18;
+
+pub(crate) const LINK: u64 = 19;
+
+pub(crate) const MKDIR: u64 = 20;
 
 pub(crate) const CLOSE: u64 = 21;
 
@@ -97,6 +114,15 @@ pub(crate) const NEXT_ANSWER: usize = 8;
 /// As many bytes as no program prints.
 pub(crate) const ROOM: usize = 4096;
 
+/// What stands in a buffer before it is read into.
+pub(crate) const UNTOLD: u8 = 0xaa;
+
+/// How much is read at once.
+pub(crate) const MOST_READ: usize = 64;
+
+/// How many pages a translator notes that notes all pages of a program: no program here has more.
+const AHEAD: u64 = 16;
+
 /// A call: a0, a1, a2 and its number, and the row that is next where its answer is 0.
 #[derive(Clone, Copy)]
 pub(crate) struct Row(pub(crate) [u64; 4], pub(crate) u64);
@@ -155,6 +181,12 @@ pub(crate) enum Act<'a> {
     Reaches(u64, Access, u8),
     /// The tables of process 1 don't allow this access.
     Faults(u64, Access),
+    /// What is told of a node of the disk, by its number.
+    Node(usize, Option<Stat>),
+    /// The bytes of a node from a place on, into so much room.
+    Reads(usize, usize, usize, &'a [u8]),
+    /// Nothing is told of the disk any more.
+    Mute,
 }
 
 fn flat(alloc: Global, words: &[u32], rest: &[u8]) -> Result<Vec<u8>, AllocError> {
@@ -191,7 +223,8 @@ fn family(alloc: Global, rows: &[Row]) -> Result<Vec<u8>, AllocError> {
 }
 
 impl Program<'_> {
-    fn bytes(self, alloc: Global) -> Result<Vec<u8>, AllocError> {
+    /// Its bytes.
+    pub(crate) fn bytes(self, alloc: Global) -> Result<Vec<u8>, AllocError> {
         match self {
             Program::Words(words, rest) => flat(alloc, words, rest),
             Program::Calls(calls) => caller(alloc, calls),
@@ -253,6 +286,11 @@ fn is_zero(page: &[u8; FRAME_SIZE], place: usize) -> bool {
     }
 }
 
+// Whether these bytes stand at the front of a buffer that was read into, and no others do.
+pub(crate) fn is_front(out: &[u8; MOST_READ], bytes: &[u8]) -> bool {
+    out.starts_with(bytes) && out.iter().skip(bytes.len()).all(|byte| *byte == UNTOLD)
+}
+
 // The byte at a physical address.
 fn byte_at(ram: &Ram, pa: u64) -> Option<u8> {
     let frame = FrameNo((pa / 4096 % 0x8_0000) as u32);
@@ -288,16 +326,21 @@ impl Write for Narrow {
 
 // A machine, and what it prints.
 #[derive(Drop)]
-struct Play {
-    machine: Machine<MemDisk, Plain>,
+struct Play<T: Translate + Drop> {
+    machine: Machine<MemDisk, T>,
     out: Writer<Narrow>,
 }
 
-impl Play {
-    // Boots a program in so many frames, with a console that takes so many bytes.
-    fn boot(alloc: Global, program: Program<'_>, frames: u32, room: usize) -> Option<Play> {
+impl<T: Translate + Drop> Play<T> {
+    // Boots a program over a translator in so many frames, with a console that takes so many bytes.
+    fn boot(
+        alloc: Global,
+        program: Program<'_>,
+        translator: T,
+        (frames, room): (u32, usize),
+    ) -> Option<Play<T>> {
         let bytes = program.bytes(alloc).ok()?;
-        let machine = boot_flat(alloc, bytes.as_slice(), frames).ok()?;
+        let machine = boot_flat_with(alloc, bytes.as_slice(), translator, frames).ok()?;
         let taken = Vec::new(alloc);
         let out = Writer::new(Narrow { taken, room });
         Some(Play { machine, out })
@@ -381,6 +424,25 @@ impl Play {
         }
     }
 
+    // Whether these are the bytes of a node from a place on, into so much room, and no others are written.
+    fn reads(&mut self, number: usize, at: usize, room: usize, bytes: &[u8]) -> bool {
+        let mut out = [UNTOLD; MOST_READ];
+        let Some(part) = out.get_mut(..room) else {
+            return false;
+        };
+        match self.machine.read_inode(number, at, part) {
+            Ok(count) => count == bytes.len() && is_front(&out, bytes),
+            Err(_) => false,
+        }
+    }
+
+    fn is_mute(&mut self) -> bool {
+        let mut out = [UNTOLD; MOST_READ];
+        self.machine.stat_inode(1) == Err(Halt::Halted)
+            && self.machine.read_inode(1, 0, &mut out) == Err(Halt::Halted)
+            && is_front(&out, &[])
+    }
+
     // Whether the act goes as it says.
     fn does(&mut self, act: Act<'_>) -> bool {
         match act {
@@ -389,6 +451,9 @@ impl Play {
             Act::Keys(keys) => self.keys(keys),
             Act::Halts(why) => stops(self.event(Event::Step), Some(why)),
             Act::Runs(events, why) => stops(self.runs(events), why),
+            Act::Node(number, stat) => self.machine.stat_inode(number) == Ok(stat),
+            Act::Reads(number, at, room, bytes) => self.reads(number, at, room, bytes),
+            Act::Mute => self.is_mute(),
             _ => self.shows(act),
         }
     }
@@ -414,6 +479,12 @@ impl Play {
         None
     }
 
+    // The disk that it leaves, or why there is none.
+    fn saved(self) -> Result<MemDisk, Halt> {
+        let Play { machine, out: _ } = self;
+        machine.save()
+    }
+
     // Whether it printed this text.
     fn printed(self, text: &[u8]) -> bool {
         let Play { machine: _, out } = self;
@@ -432,34 +503,95 @@ fn none_wrong(rt: &impl Abort, wrong: Option<usize>) {
     }
 }
 
-/// Boots a program in 64 frames, and does these acts.
-pub(crate) fn run(rt: &(impl Abort + AllocGlobal), program: Program<'_>, acts: &[Act<'_>]) {
-    let mut play = Play::boot(rt.alloc(), program, 64, ROOM).expect(rt, "a machine");
+// Boots a program over a translator in so many frames, with a console that takes so many bytes, and does these acts. After
+// them it has printed the text, where one is given.
+fn run_over<T: Translate + Drop>(
+    rt: &(impl Abort + AllocGlobal),
+    program: Program<'_>,
+    translator: T,
+    size: (u32, usize),
+    acts: &[Act<'_>],
+    text: Option<&[u8]>,
+) {
+    let mut play = Play::boot(rt.alloc(), program, translator, size).expect(rt, "a machine");
     none_wrong(rt, play.first_wrong(acts));
+    if let Some(text) = text {
+        holds_at(rt, acts.len(), play.printed(text));
+    }
 }
 
-/// Boots a program in so many frames, with a console that takes so many bytes, and does these acts. After them it has
-/// printed a text.
+/// Boots a program over a translator in 64 frames, with a console that takes so many bytes, does these acts, and gives the
+/// machine up: the disk that it leaves, or why there is none.
+pub(crate) fn saved<T: Translate + Drop>(
+    rt: &(impl Abort + AllocGlobal),
+    program: Program<'_>,
+    translator: T,
+    room: usize,
+    acts: &[Act<'_>],
+) -> Result<MemDisk, Halt> {
+    let mut play = Play::boot(rt.alloc(), program, translator, (64, room)).expect(rt, "a machine");
+    none_wrong(rt, play.first_wrong(acts));
+    play.saved()
+}
+
+// The same over each translator.
+fn run_over_each(
+    rt: &(impl Abort + AllocGlobal),
+    program: Program<'_>,
+    size: (u32, usize),
+    acts: &[Act<'_>],
+    text: Option<&[u8]>,
+) {
+    let alloc = rt.alloc();
+    run_over(rt, program, Plain::new(), size, acts, text);
+    run_over(rt, program, Tlb::<64>::new(), size, acts, text);
+    run_over(rt, program, Noting::new(alloc, 0), size, acts, text);
+    run_over(rt, program, Noting::new(alloc, AHEAD), size, acts, text);
+}
+
+/// Boots a program in 64 frames, over each translator, and does these acts.
+pub(crate) fn run(rt: &(impl Abort + AllocGlobal), program: Program<'_>, acts: &[Act<'_>]) {
+    run_over_each(rt, program, (64, ROOM), acts, None);
+}
+
+/// Boots a program in so many frames, over each translator, with a console that takes so many bytes, and does these acts.
+/// After them it has printed a text.
 pub(crate) fn prints(
     rt: &(impl Abort + AllocGlobal),
     program: Program<'_>,
-    (frames, room): (u32, usize),
+    size: (u32, usize),
     acts: &[Act<'_>],
     text: &[u8],
 ) {
-    let mut play = Play::boot(rt.alloc(), program, frames, room).expect(rt, "a machine");
-    none_wrong(rt, play.first_wrong(acts));
-    holds_at(rt, acts.len(), play.printed(text));
+    run_over_each(rt, program, size, acts, Some(text));
 }
 
-/// After each of these calls: what it answers, and how many frames are free.
+// After each of these calls, over a translator: what it answers, and how many frames are free.
+fn expect_answers_over<T: Translate + Drop>(
+    rt: &(impl Abort + AllocGlobal),
+    frames: u32,
+    translator: T,
+    calls: &[[u64; 4]],
+    answers: &[(u64, u32)],
+) {
+    let program = Program::Calls(calls);
+    let mut play = Play::boot(rt.alloc(), program, translator, (frames, ROOM)).expect(
+        rt,
+        "a machine",
+    );
+    none_wrong(rt, play.first_answer_wrong(answers));
+}
+
+/// After each of these calls, over each translator: what it answers, and how many frames are free.
 pub(crate) fn expect_answers(
     rt: &(impl Abort + AllocGlobal),
     frames: u32,
     calls: &[[u64; 4]],
     answers: &[(u64, u32)],
 ) {
-    let program = Program::Calls(calls);
-    let mut play = Play::boot(rt.alloc(), program, frames, ROOM).expect(rt, "a machine");
-    none_wrong(rt, play.first_answer_wrong(answers));
+    let alloc = rt.alloc();
+    expect_answers_over(rt, frames, Plain::new(), calls, answers);
+    expect_answers_over(rt, frames, Tlb::<64>::new(), calls, answers);
+    expect_answers_over(rt, frames, Noting::new(alloc, 0), calls, answers);
+    expect_answers_over(rt, frames, Noting::new(alloc, AHEAD), calls, answers);
 }

@@ -3,8 +3,8 @@ use crate::play::Act::{
     Answer, Bytes, Free, Gone, Halts, Is, Killed, NoPage, NoTables, Parent, Pc, Size, Steps, Turn,
 };
 use crate::play::{
-    Act, EXIT, FIRST_ANSWER, FORK, GETPID, KILL, MINUS_ONE, NEXT_ANSWER, Program, READY, RUNNING,
-    Row, SLEEP, SLEEPING, WAIT, WAITING, run,
+    Act, EXIT, FIRST_ANSWER, FORK, GETPID, KILL, MINUS_ONE, NEXT_ANSWER, Program, READY, ROOM,
+    RUNNING, Row, SLEEP, SLEEPING, WAIT, WAITING, prints, run,
 };
 use machine::{Halt, ProcessState};
 
@@ -112,6 +112,39 @@ fn a_wrong_instruction_ends_a_child(rt: HostRuntime) {
     for words in [ZEROS, ONES] {
         run(&rt, Program::Words(&words, &[]), &ACTS);
     }
+}
+
+// Stores 1 at 0x2000 and forks; the child stores 5 there, and its parent 7.
+const STORES: [u32; 8] = [
+    0x0000_22b7, // lui  t0, 2
+    0x0010_0313, // addi t1, zero, 1
+    0x0062_8023, // sb   t1, 0(t0)
+    0x0010_0893, // addi a7, zero, 1
+    0x0000_0073, // ecall
+    0x0055_0313, // addi t1, a0, 5
+    0x0062_8023, // sb   t1, 0(t0)
+    0x0000_006f, // jal  zero, 0
+];
+
+#[test]
+fn parent_and_child_store_to_pages_of_their_own(rt: HostRuntime) {
+    const ACTS: [Act; 13] = [
+        Steps(1 + 5),
+        Bytes(1, 0x2000, &[1]),
+        Bytes(2, 0x2000, &[1]),
+        // a store is done in its step, also where the page was shared
+        Steps(2),
+        Bytes(1, 0x2000, &[7]),
+        Bytes(2, 0x2000, &[1]),
+        Free(46),
+        Turn,
+        Steps(2),
+        Bytes(1, 0x2000, &[7]),
+        Bytes(2, 0x2000, &[5]),
+        Pc(2, 28),
+        Free(46),
+    ];
+    run(&rt, Program::Words(&STORES, &[]), &ACTS);
 }
 
 #[test]
@@ -284,4 +317,39 @@ fn sleeps_by_ticks(rt: HostRuntime) {
         Answer(1, 0),
     ];
     run(&rt, Program::Family(&ROWS), &ACTS);
+}
+
+// 64 forks, of which the last finds no place, and then 64 processes that count for ever.
+const CROWD: [u32; 8] = [
+    0x0400_0293, // addi t0, zero, 64
+    0x0010_0893, // addi a7, zero, 1
+    0x0000_0073, // ecall
+    0x0005_0663, // beq  a0, zero, 12
+    0xfff2_8293, // addi t0, t0, -1
+    0xfe02_98e3, // bne  t0, zero, -16
+    0x0013_0313, // addi t1, t1, 1
+    0xfe00_0ee3, // beq  zero, zero, -4
+];
+
+#[test]
+fn each_of_64_processes_has_its_turn(rt: HostRuntime) {
+    let mut acts = Vec::new(rt.alloc());
+    // the turn, and each fork with the four instructions round it, up to the last answer
+    acts.push(Steps(2 + 63 * 5 + 2)).expect(&rt, "memory");
+    acts.push(Answer(1, MINUS_ONE)).expect(&rt, "memory");
+    acts.push(Is(64, READY)).expect(&rt, "memory");
+    acts.push(Gone(65)).expect(&rt, "memory");
+    for pid in 2..=64 {
+        acts.push(Turn).expect(&rt, "memory");
+        acts.push(Is(pid, RUNNING)).expect(&rt, "memory");
+    }
+    acts.push(Turn).expect(&rt, "memory");
+    acts.push(Is(1, RUNNING)).expect(&rt, "memory");
+    prints(
+        &rt,
+        Program::Words(&CROWD, b""),
+        (1024, ROOM),
+        acts.as_slice(),
+        b"",
+    );
 }

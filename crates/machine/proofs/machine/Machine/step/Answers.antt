@@ -30,4 +30,4 @@ returns-in-Key-clause-gives g c =
     let b = c.in-Key.byte in
     let up = rw (← c.self.view_is) at (c.is_stopped.ensures.up c.if-is_stopped.false) in
     rw (← c.self.view_is, up.sound, c.in-Key.is)
-    (goes-gives k c.key-done.new.kernel _ (next (state_of k) (Key b)) _ _ _ c.key-done.result up.goes (key-halts (state_of k) b ∙ up.goes) c.is_failure-self-inside-in-Key.ensures c.key-done.ensures.gives c.key-done.ensures.tree)
+    (goes-gives k c.key-done.new.kernel _ (next (state_of k) (Key b)) _ _ _ c.key-done.result up.goes (key-halts (state_of k) b ∙ up.goes) c.is_failure-self-inside-in-Key.ensures c.key-done.ensures.gives c.key-done.ensures.fault c.key-done.ensures.tree)

@@ -1,4 +1,4 @@
-use Rattle.machine.proofs.boot.first_table.Goals as goal
+use Rattle.machine.proofs.flat_boot.first_table.Goals as goal
 use Rattle.machine.proofs.FlatLemmas.{table-first}
 use Rattle.proc.specs.Places.{seat_of}
 use Rattle.proc.specs.Whole.{seat_of-first}

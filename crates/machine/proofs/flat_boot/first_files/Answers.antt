@@ -1,6 +1,6 @@
 use Rattle.machine.proofs.FlatLemmas.{open-first}
 use Rattle.std.proofs.Common.{arith, refl}
-use Rattle.machine.proofs.boot.first_files.Goals as goal
+use Rattle.machine.proofs.flat_boot.first_files.Goals as goal
 
 pub dup-requires : goal.dup-requires
 dup-requires c =

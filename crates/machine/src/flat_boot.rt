@@ -2,12 +2,14 @@
 ghost use Rattle.std.specs.Prelude.{◌≡◌, ◌*◌, ◌+◌, ◌<◌, ◌≤◌, ◌⊎◌, ◌↔◌, Some, None, IfOk, IfSome, IfNone, IsErrOf, OnErr, length};
 ghost use Rattle.machine.specs.Flat.{alone, first, first_files, first_table, flat_memory, flat_space};
 ghost use Rattle.machine.specs.Told.{IsUp};
+ghost use Rattle.mount.specs.Mounted.{IsFlat};
+ghost use Rattle.spaces.specs.Spaces.{no_spaces};
 ghost use Rattle.unixmodel.specs.Counts.{page_frames};
 ghost use Rattle.unixmodel.specs.Start.{start_flat};
 
 use crate::fault::BootFault;
 use crate::machine::Machine;
-use blockdev::MemDisk;
+use blockdev::{BlockDev, MemDisk};
 use calls::Kernel;
 use files::{Files, OpenFile, Target};
 use mount::mount_flat;
@@ -16,6 +18,7 @@ use ram::{FRAME_SIZE, Ram};
 use spaces::Spaces;
 use std::alloc::Global;
 use sv39::{Plain, Translate};
+use tree::Tree;
 use unixmodel::process::Mode;
 use vm::{Perm, pages_in};
 
@@ -30,6 +33,12 @@ const FIRST: usize = 0;
 
 /// The number of the open file that the descriptors of process 1 name.
 const CONSOLE: usize = 0;
+
+/// The number of the root, in which process 1 works.
+const ROOT: usize = 1;
+
+/// The number of the console among the files of a machine without a disk.
+const CONSOLE_NODE: usize = 2;
 
 /// The marks of the pages of a flat program.
 const SEGMENT: Perm = Perm {
@@ -52,16 +61,17 @@ const STACK: Perm = Perm {
     u: true,
 };
 
-// The address spaces of a machine, of which the first has a flat program: its bytes from address 0 on, a guard page, and
-// a page for the stack. `None`: the frames don't suffice.
-fn load<T: Translate + Drop>(ram: Ram, translator: T, bytes: &[u8]) -> Option<Spaces<T>>
-    ensures some { IfSome result (λ s. s ≡ alone (length ram) (flat_space bytes.now)) }
-    ensures fits { IfSome result (λ s. 4 + page_frames (length (flat_memory bytes.now)) ≤ length ram) }
-    ensures none { IfNone result (length ram < 4 + page_frames (length (flat_memory bytes.now))) }
+// Puts a flat program into the first of the address spaces of a machine that has none: its bytes from address 0 on, a
+// guard page, and a page for the stack. `None`: the frames don't suffice.
+fn load<T: Translate + Drop>(spaces: Spaces<T>, bytes: &[u8]) -> Option<Spaces<T>>
+    requires { spaces ≡ no_spaces spaces.frames }
+    ensures some { IfSome result (λ s. s ≡ alone spaces.frames (flat_space bytes.now)) }
+    ensures fits { IfSome result (λ s. 4 + page_frames (length (flat_memory bytes.now)) ≤ spaces.frames) }
+    ensures none { IfNone result (spaces.frames < 4 + page_frames (length (flat_memory bytes.now))) }
 {
     let page = FRAME_SIZE as u64;
     let pages = pages_in(bytes.len() as u64);
-    let mut spaces = Spaces::new(ram, translator);
+    let mut spaces = spaces;
     if !spaces.create(FIRST) {
         return None;
     }
@@ -122,10 +132,7 @@ fn first_files() -> Files
 {
     let mut files = Files::new();
     let _console = files.open(OpenFile {
-        target: Target::Node {
-            number: 2,
-            offset: 0,
-        },
+        target: Target::Console { number: 2 },
         readable: true,
         writable: true,
     });
@@ -169,13 +176,36 @@ pub fn boot_flat_with<T: Translate + Drop>(
     if frames < FEWEST || frames > MOST {
         return Err(BootFault::FrameCount);
     }
-    let Ok(ram) = Ram::new(alloc, frames) else {
-        return Err(BootFault::NoMemory);
-    };
     let Ok(tree) = mount_flat(alloc) else {
         return Err(BootFault::NoMemory);
     };
-    let Some(spaces) = load(ram, translator, bytes) else {
+    boot_flat_on(alloc, bytes, tree, translator, frames)
+}
+
+/// `boot_flat_with` over files in use that are a root and the console, on any device.
+pub fn boot_flat_on<D: BlockDev, T: Translate + Drop>(
+    alloc: Global,
+    bytes: &[u8],
+    mut tree: Tree<D>,
+    translator: T,
+    frames: u32,
+) -> Result<Machine<D, T>, BootFault>
+    requires flat { IsFlat tree }
+    requires count { (64 ≤ frames) × (frames ≤ 32768) }
+    ensures booted { IfOk result (λ m. start_flat bytes.now frames ≡ Some m.state) }
+    ensures up { IfOk result IsUp }
+    ensures no_init { IsErrOf result BootFault.NoInit → start_flat bytes.now frames ≡ None }
+    ensures only { OnErr result (IsErrOf result BootFault.NoInit ⊎ IsErrOf result BootFault.NoMemory) }
+{
+    let Ok(ram) = Ram::new(alloc, frames) else {
+        return Err(BootFault::NoMemory);
+    };
+    tree.hold(ROOT);
+    tree.hold(CONSOLE_NODE);
+    let Ok(spaces) = Spaces::new(alloc, ram, translator) else {
+        return Err(BootFault::NoMemory);
+    };
+    let Some(spaces) = load(spaces, bytes) else {
         return Err(BootFault::NoInit);
     };
     let table = first_table(spaces.size(FIRST));

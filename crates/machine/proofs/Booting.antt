@@ -1,0 +1,247 @@
+-- The kernel and the state that begin with the plan of /init.
+use Rattle.files.specs.Counts.{names-none, one_in}
+use Rattle.files.specs.Places.{Counted, count_at, count_in, opens_of}
+use Rattle.files.specs.Meant.{file_of}
+use Rattle.files.specs.Whole.{slot-opens}
+use Rattle.kernel.specs.Descriptors.{IsCounted, names_in}
+use Rattle.kernel.specs.Holding.{FitsNode, IsFolder, IsInUse, files_on, home_in, homes_at, node_in, node_of, node_on}
+use Rattle.kernel.specs.Kernel.{Kernel, begun, memory_in, state_of}
+use Rattle.kernel.specs.Sound.{IsKernel, IsLive, IsOpenFile, IsOpened, IsPlace, IsPlaced, WaitsWell}
+use Rattle.machine.proofs.FlatLemmas.{length-free, none-free, slot-free, taken-alone, zeros-past}
+use Rattle.machine.specs.declared.image_boot.Init.{Init}
+use Rattle.machine.specs.Booted.{IsBegun, IsInPlace, IsUnheld, LacksInit, PutsInit, bare_of, first_of, first_places, held_by, init_kernel}
+use Rattle.machine.specs.Flat.{alone}
+use Rattle.machine.specs.Told.{Told, told}
+use Rattle.names.specs.Rules.{KeepsTree}
+use Rattle.proc.specs.declared.process.Process.{Process}
+use Rattle.proc.specs.Places.{Places, is_running, seated}
+use Rattle.proc.specs.Whole.{joined, joined-free_slots}
+use Rattle.spaces.specs.Spaces.{Held, Spaces, no_spaces}
+use Rattle.std.proofs.Common.{List, None, Option, Some, ap, arith, false, is_some, length, map, nat_le, refl, replicate, subst, suc, sym, true, zero, ℕ, ◌%◌, ◌+◌, ◌<◌, ◌∙◌, ◌∷◌, ◌≡◌, ◌≢◌, ◌≤◌}
+use Rattle.std.proofs.lemmas.Bool.{le-leb, lt-leb}
+use Rattle.std.proofs.lemmas.Bool.Decides.{nat_tests}
+use Rattle.std.proofs.lemmas.List.{length-replicate}
+use Rattle.std.proofs.lemmas.List.Folds.{sum_by-replicate}
+use Rattle.std.proofs.lemmas.List.Sums.{sum_by-cons}
+use Rattle.std.proofs.lemmas.Option.{none-some}
+use Rattle.std.specs.Prelude.{IfSome, option_map, slice_index, ◌==◌}
+use Rattle.tree.specs.Holding.{holders, with_hold}
+use Rattle.tree.specs.Tree.{FileTree}
+use Rattle.tree.specs.Whole.{IsWhole}
+use Rattle.unixmodel.specs.Counts.{frames_of, page_frames}
+use Rattle.unixmodel.specs.Files.{Files, free_slots, slot}
+use Rattle.unixmodel.specs.Memory.{zeros}
+use Rattle.unixmodel.specs.OpenFiles as unix_files
+use Rattle.unixmodel.specs.Outcome.{no_descriptors}
+use Rattle.unixmodel.specs.Plan.{Plan}
+use Rattle.unixmodel.specs.Process as unix
+use Rattle.unixmodel.specs.Start.{first_process, first_state, if_fits, init_plan, start}
+use Rattle.unixmodel.specs.State.{State, holds, open_limit}
+
+-- ---- the state
+
+-- the state that process 1 begins with
+abbrev pub begun_with : Files → ℕ → ℕ → Plan → State
+begun_with files limit frames new = first_state files limit frames (free_slots open_limit) (first_process new no_descriptors)
+
+pub state-init : (tree : FileTree) (frames : ℕ) (new : Plan) → state_of (init_kernel tree frames new) ≡ begun_with tree.files tree.block_limit frames new
+unfolding joined free_slots
+state-init tree frames new =
+    ap (λ (places : List (Option unix.Process)). record (begun_with tree.files tree.block_limit frames new) { places = Some (first_process new no_descriptors) ∷ places })
+    (joined-free_slots 63 (map memory_in (replicate 63 None)))
+
+frames-init : (files : Files) (limit frames : ℕ) (new : Plan) → frames_of (begun_with files limit frames new) ≡ 4 + page_frames (length new.memory)
+unfolding frames_of free_slots
+frames-init files limit frames new = omega arith
+
+starts-with : (files : Files) (limit frames : ℕ) (new : Plan) → init_plan files ≡ Some new → start files limit frames ≡ if_fits (begun_with files limit frames new)
+unfolding start
+starts-with files limit frames new is = rw is refl
+
+pub start-init : (tree : FileTree) (frames : ℕ) (new : Plan) → init_plan tree.files ≡ Some new → 4 + page_frames (length new.memory) ≤ frames → start tree.files tree.block_limit frames ≡ Some (state_of (init_kernel tree frames new))
+start-init tree frames new is fits =
+    let within : nat_le (frames_of (begun_with tree.files tree.block_limit frames new)) frames ≡ true = rw (frames-init tree.files tree.block_limit frames new) (le-leb _ _ fits) in
+    starts-with tree.files tree.block_limit frames new is ∙ rw within (ap Some (sym (state-init tree frames new)))
+
+start-planless : (files : Files) (limit frames : ℕ) → init_plan files ≡ None → start files limit frames ≡ None
+unfolding start
+start-planless files limit frames none = rw none refl
+
+-- there is no plan, or the frames don't suffice
+pub start-none : (files : Files) (limit frames : ℕ) → ((p : Plan) → init_plan files ≡ Some p → frames < 4 + page_frames (length p.memory)) → start files limit frames ≡ None
+start-none files limit frames over = go (init_plan files) refl where
+  go : (o : Option Plan) → init_plan files ≡ o → start files limit frames ≡ None
+  go None is = start-planless files limit frames is
+  go (Some new) is =
+      let without : nat_le (frames_of (begun_with files limit frames new)) frames ≡ false = rw (frames-init files limit frames new) (lt-leb _ _ (over new is)) in
+      starts-with files limit frames new is ∙ rw without refl
+
+-- ---- the kernel
+
+init-live : (new : Plan) → IsLive (first_of new)
+unfolding no_descriptors free_slots
+init-live new = record { descriptors = refl }
+
+init-zero : (new : Plan) → slice_index (first_of new).registers 0 ≡ 0
+unfolding zeros
+init-zero new = refl
+
+init-placed : (new : Plan) → new.pc % 4 ≡ 0 → IsPlaced (first_of new) (held_by new)
+init-placed new aligned = record { size = refl; zero = init-zero new; aligned = aligned; mode = init-live new }
+
+init-stands : (new : Plan) → new.pc % 4 ≡ 0 → (i : ℕ) → IsPlace (slot (Some (first_of new) ∷ free_slots 63) i) (slot (Some (held_by new) ∷ replicate 63 None) i)
+unfolding free_slots
+init-stands new aligned zero = init-placed new aligned
+init-stands new aligned (suc i) = rw (slot-free Process 63 i, slot-free Held 63 i) tt
+
+init-rests : (new : Plan) (i : ℕ) → holds is_running (slot (Some (first_of new) ∷ free_slots 63) i) ≡ false
+unfolding free_slots
+init-rests new zero = refl
+init-rests new (suc i) = rw (slot-free Process 63 i) refl
+
+init-all : (new : Plan) → length (first_places new).places ≡ 64
+unfolding free_slots
+init-all new = ap suc (length-free Process 63)
+
+-- ---- no file is open
+
+abbrev no_files : List (Option Counted)
+no_files = replicate 100 None
+
+init-counted : (new : Plan) → IsCounted no_files (first_places new).places
+unfolding free_slots
+init-counted new n =
+    let none : count_at no_files n ≡ 0 = ap count_in (slot-free Counted 100 n) in
+    omega (arith, none, sum_by-cons (names_in n) (Some (first_of new)) (replicate 63 None), sum_by-replicate (names_in n) 63 None, names-none n)
+
+init-each : (n : ℕ) (f : unix_files.OpenFile) → slot (opens_of no_files) n ≡ Some f → IsOpenFile f
+init-each n f at =
+    absurd (none-some f (sym (slot-opens no_files n ∙ ap (option_map (λ (c : Counted). file_of c.file)) (slot-free Counted 100 n)) ∙ at))
+
+init-waits : (new : Plan) (i : ℕ) → WaitsWell no_files (slot (first_places new).places i)
+unfolding free_slots
+init-waits new zero = tt
+init-waits new (suc i) = rw (slot-free Process 63 i) tt
+
+init-opened : (new : Plan) → IsOpened no_files (replicate 100 None) (first_places new).places
+init-opened new = record {
+  table = record { all = length-free Counted 100; named = λ i c at. absurd (none-some c (sym (slot-free Counted 100 i) ∙ at)) };
+  counted = init-counted new;
+  each = init-each;
+  all = length-free (List ℕ) 100;
+  piped = λ q. ap is_some (slot-free (List ℕ) 100 q);
+  waits = init-waits new;
+}
+
+-- ---- process 1 holds the root
+
+init-root : (new : Plan) (n : ℕ) → homes_at (first_places new).places n ≡ one_in n (Some 1)
+unfolding free_slots
+init-root new n = let rest = none-free Process (λ o. one_in n (home_in o)) refl 63 in omega (arith, sum_by-cons (λ o. one_in n (home_in o)) (Some (first_of new)) (replicate 63 None), rest)
+
+init-files : (n : ℕ) → files_on no_files n ≡ 0
+init-files n = none-free Counted (λ o. one_in n (node_in o)) refl 100
+
+root-only : (new : Plan) (n : ℕ) → one_in n (Some 1) ≡ files_on no_files n + homes_at (first_places new).places n
+root-only new n = omega (arith, init-files n, init-root new n)
+
+root-held : (count : ℕ) → 1 < count → (n : ℕ) → holders (with_hold (replicate count 0) 1) n ≡ one_in n (Some 1)
+root-held zero more n = absurd (omega (arith, more))
+root-held (suc zero) more n = absurd (omega (arith, more))
+root-held (suc (suc m)) more zero = refl
+root-held (suc (suc m)) more (suc zero) = refl
+root-held (suc (suc m)) more (suc (suc n)) =
+    let other : (1 == suc (suc n)) ≡ false = grind (arith, nat_tests) in
+    rw other (zeros-past m n)
+
+-- a tree that was read since
+module _ (old tree : FileTree) (unheld : IsUnheld old) (same : tree ≡ record old { failures = tree.failures }) (whole : IsWhole tree) where
+  files_same : tree.files ≡ old.files
+  files_same = ap (λ (t : FileTree). t.files) same
+
+  rules-same : KeepsTree tree.files
+  rules-same = subst KeepsTree (sym files_same) unheld.rules
+
+  holds-same : tree.holds ≡ replicate unheld.count 0
+  holds-same = ap (λ (t : FileTree). t.holds) same ∙ unheld.holds
+
+  root-there : slot tree.files 1 ≢ None
+  root-there none = none-some _ (sym none ∙ rules-same.root.here)
+
+  root-within : 1 < unheld.count
+  root-within = let low = (whole.numbers 1 root-there).0 in omega (arith, low, ap length holds-same, length-replicate {A = ℕ} unheld.count 0)
+
+  init-homes : (new : Plan) (i : ℕ) → IfSome (home_in (slot (first_places new).places i)) (λ d. IsFolder (slot tree.files d))
+  unfolding free_slots
+  init-homes new zero = rw rules-same.root.here tt
+  init-homes new (suc i) = rw (slot-free Process 63 i) tt
+
+  init-fits : (k : ℕ) (c : Counted) → slot no_files k ≡ Some c → FitsNode c.file c.file.target (node_of tree.files (node_on c.file.target))
+  init-fits k c at = absurd (none-some c (sym (slot-free Counted 100 k) ∙ at))
+
+  init-used : (new : Plan) → IsInUse (record tree { holds = with_hold tree.holds 1 }) no_files (first_places new).places
+  init-used new = record {
+    rules = rules-same;
+    zero = whole.zero;
+    within = whole.within;
+    holds = λ n. ap (λ h. holders (with_hold h 1) n) holds-same ∙ root-held unheld.count root-within n ∙ root-only new n;
+    held = λ n node at bare. absurd (let some = unheld.linked n node (ap (λ (files : Files). slot files n) (sym files_same) ∙ at) in omega (arith, some, bare));
+    fits = init-fits;
+    homes = init-homes new;
+  }
+
+  pub init-sound : (frames : ℕ) (new : Plan) → 4 + page_frames (length new.memory) ≤ frames → new.pc % 4 ≡ 0 → IsKernel (init_kernel tree frames new)
+  unfolding free_slots
+  init-sound frames new fits aligned = record {
+    all = init-all new;
+    spaces = ap suc (length-free Held 63);
+    stands = init-stands new aligned;
+    runs = init-rests new;
+    fits = rw (taken-alone frames (held_by new)) fits;
+    opened = init-opened new;
+    filed = record { up = λ i e. absurd (cc); used = λ up. init-used new };
+  }
+
+pub table-init : (new : Plan) → seated (record { places = free_slots 64; last = 63; next_pid = 1 }) (first_of new) (record { place = 0; pid = 1 }) ≡ first_places new
+unfolding free_slots
+table-init new = refl
+
+-- ---- the kernel as it is made
+
+pub frames-same : {frames : ℕ} {s : Spaces} {ram : List (List ℕ)} → s ≡ no_spaces (length ram) → ram ≡ replicate frames (replicate 4096 0) → s.frames ≡ frames
+frames-same {frames} is all = ap (λ (x : Spaces). x.frames) is ∙ ap length all ∙ length-replicate frames (replicate 4096 0)
+
+-- the frames don't suffice, or there is no plan
+pub not-begun : (tree : FileTree) (frames : ℕ) (s put : Spaces) → s.frames ≡ frames → (told : Option Init) → told ≡ None → PutsInit tree.files s.frames put told → start tree.files tree.block_limit frames ≡ None
+not-begun tree frames s put count told none puts =
+    let lacks : LacksInit tree.files s.frames = subst (PutsInit tree.files s.frames put) none puts in
+    start-none tree.files tree.block_limit frames (λ p is. let more = lacks p is in omega (arith, more, count))
+
+module _ (old mid : FileTree) (unheld : IsUnheld old) (same : mid ≡ record old { failures = mid.failures }) (whole : IsWhole mid) (frames : ℕ) (s : Spaces) (count : s.frames ≡ frames) (put : Spaces) (init : Init) (told_init : Option Init) (is_init : told_init ≡ Some init) (puts : PutsInit old.files s.frames put told_init) (held : FileTree) (holds_root : held ≡ record mid { holds = with_hold mid.holds 1 }) (table : Places) (first : table ≡ first_places (bare_of init)) (opens : List (Option Counted)) (none : opens ≡ free_slots 100) where
+  placed : IsInPlace old.files s.frames put init
+  placed = subst (PutsInit old.files s.frames put) is_init puts
+
+  spaces-are : put ≡ alone frames (held_by placed.plan)
+  spaces-are = placed.spaces ∙ ap (λ (n : ℕ). alone n (held_by placed.plan)) count
+
+  table-is : table ≡ first_places placed.plan
+  table-is = first ∙ ap (λ (p : Process). let t : Places = record { places = Some p ∷ free_slots 63; last = 63; next_pid = 2 } in t) placed.bare
+
+  kernel-is : begun held table put opens ≡ init_kernel mid frames placed.plan
+  kernel-is = λ i. begun (holds_root i) (table-is i) (spaces-are i) (none i)
+
+  pub kernel-sound : IsKernel (begun held table put opens)
+  kernel-sound = subst IsKernel (sym kernel-is) (init-sound old mid unheld same whole frames placed.plan (let fits = placed.fits in omega (arith, fits, count)) placed.aligned)
+
+  pub begun-init : (kernel : Kernel) → kernel ≡ begun held table put opens → (m : Told) → m ≡ told (state_of kernel) kernel.tree.failures → old.failures ≤ mid.failures → IsBegun old frames m
+  begun-init kernel made m machine later =
+      let is : kernel ≡ init_kernel mid frames placed.plan = made ∙ kernel-is in
+      let state : m.state ≡ state_of (init_kernel mid frames placed.plan) = ap (λ (x : Told). x.state) machine ∙ ap state_of is in
+      let planned : init_plan mid.files ≡ Some placed.plan = ap (λ (t : FileTree). init_plan t.files) same ∙ placed.is in
+      let starts : start mid.files mid.block_limit frames ≡ Some (state_of (init_kernel mid frames placed.plan)) = start-init mid frames placed.plan planned (let fits = placed.fits in omega (arith, fits, count)) in
+      let failures : m.failures ≡ mid.failures = ap (λ (x : Told). x.failures) machine ∙ ap (λ (k : Kernel). k.tree.failures) is in
+      record {
+        starts = sym (ap (λ (t : FileTree). start t.files t.block_limit frames) same) ∙ starts ∙ ap Some (sym state);
+        up = record { sound = ap (λ (x : Told). x.failed) machine; goes = ap (λ (x : State). x.halted) state };
+        later = omega (arith, later, failures);
+      }

@@ -1,0 +1,54 @@
+-- What is told of the files of the disk is what the abstract Unix shows, and a kernel whose device fails keeps what it keeps.
+use Rattle.std.proofs.Common.{None, Option, Some, ap, length, min, refl, subst, sym, true, ℕ, ◌%◌, ◌++◌, ◌-◌, ◌∙◌, ◌≡◌}
+use Rattle.std.proofs.lemmas.List.{length-drop, length-take, take_min}
+use Rattle.std.specs.Prelude.{List, drop, option_map, slice_index, take}
+use Rattle.blockdev.specs.Splice.{part}
+use Rattle.inode.specs.declared.InodeStat.{InodeStat}
+use Rattle.kernel.proofs.Holding.{failed-filed}
+use Rattle.kernel.proofs.Steps.{fail-keeps, with-tree}
+use Rattle.kernel.specs.Kernel.{Kernel, idle}
+use Rattle.kernel.specs.Sound.{IsFiled, IsKernel}
+use Rattle.machine.specs.Looks.{IsRead, stat_from, stat_seen, stopped_in}
+use Rattle.spaces.specs.Spaces.{Spaces}
+use Rattle.tree.specs.Telling.{Tells, TellsAny}
+use Rattle.tree.specs.Tree.{FileTree}
+use Rattle.unixmodel.specs.Files.{Node}
+use Rattle.unixmodel.specs.Shown.{stat_of}
+
+-- ---- what is told
+
+stat-same : (s : InodeStat) (node : Node) → Tells s node → stat_from s ≡ stat_seen (stat_of node)
+stat-same s node (kind, links, size, major) = rw (kind, links, size) refl
+
+-- what is told of any number is what is shown of it
+pub told-shown : (told : Option InodeStat) (o : Option Node) → TellsAny told o → option_map stat_from told ≡ option_map stat_seen (option_map stat_of o)
+told-shown None None tells = refl
+told-shown None (Some node) tells = absurd tells
+told-shown (Some s) None tells = absurd tells
+told-shown (Some s) (Some node) tells = ap (λ x. Some x) (stat-same s node tells)
+
+-- as many bytes as there are from a place on
+pub read-shown : (bytes old new : List ℕ) (at k : ℕ) → k ≡ min (length old) (length bytes - at) → new ≡ part at k bytes ++ drop k old → IsRead (take (length old) (drop at bytes)) old new k
+read-shown bytes old new at k count front =
+    let k_is : k ≡ min (length old) (length (drop at bytes)) = count ∙ ap (min (length old)) (sym (length-drop at bytes)) in
+    record {
+      count = k_is ∙ sym (length-take (length old) (drop at bytes));
+      front = front ∙ ap (λ xs. xs ++ drop k old) (ap (λ n. take n (drop at bytes)) k_is ∙ take_min (length old) (drop at bytes));
+    }
+
+-- ---- where the device fails
+
+idle-is : (s : Spaces) → s.active ≡ None → s ≡ idle s
+idle-is s e = ap (λ a. record s { active = a }) e
+
+-- at is what the fields show, and now the kernel's value
+module _ (at now : Kernel) (same : at ≡ now) (is : IsKernel now) (z : slice_index now.spaces.registers 0 ≡ 0) (a : now.spaces.pc % 4 ≡ 0) (t : FileTree) (down : t.failed ≡ true) where
+  lost-any : (o : Option ℕ) → at.spaces.active ≡ o → IsKernel (record at { tree = t; table = stopped_in at.table at.spaces o; spaces = idle at.spaces })
+  lost-any (Some i) e = fail-keeps at now i t same is (ap (λ (k : Kernel). k.spaces.active) (sym same) ∙ e) z a down
+  lost-any None e =
+      let filed : IsFiled t at.files at.table.places at.spaces.active = rw e (failed-filed at.files at.table.places down) in
+      subst (λ (s : Spaces). IsKernel (record at { tree = t; spaces = s })) (idle-is at.spaces e) (with-tree at t (subst IsKernel (sym same) is) filed)
+
+  -- the running process, if there is one, runs no more
+  pub lost-keeps : IsKernel (record at { tree = t; table = stopped_in at.table at.spaces at.spaces.active; spaces = idle at.spaces })
+  lost-keeps = lost-any at.spaces.active refl

@@ -1,0 +1,59 @@
+-- From the files of an image to the machine that boots from it.
+use Rattle.std.proofs.Common.{Err, List, Ok, Result, ap, arith, inl, inr, le_trans, refl, subst, sym, ℕ, ◌<◌, ◌∙◌, ◌≤◌, ◌⊎◌, ◌↔◌}
+use Rattle.std.specs.Prelude.{IfErr, IfOk, IsErrOf}
+use Rattle.imagecheck.specs.declared.ImageFault.{ImageFault}
+use Rattle.imagecheck.specs.declared.ImageFault.TheVariants as fault
+use Rattle.machine.specs.declared.fault.BootFault.{BootFault}
+use Rattle.machine.specs.declared.fault.BootFault.TheVariants.{Device, FrameCount, Image, NoInit, NoMemory}
+use Rattle.machine.specs.Booted.{IsAccepted, IsBegun, IsBooted, IsNotBegun, IsUnbooted, IsUnheld, boot_fault}
+use Rattle.machine.specs.Told.{Told}
+use Rattle.mount.specs.Mounted.{IsMounted, IsUnmounted}
+use Rattle.tree.specs.Tree.{FileTree}
+use Rattle.unixmodel.specs.Image.{inodes_in}
+use Rattle.unixmodel.specs.Start.{start}
+
+pub unheld-mounted : {image : List ℕ} {failures : ℕ} {tree : FileTree} → IsMounted image failures tree → IsUnheld tree
+unheld-mounted {image} mounted = record { rules = mounted.rules; linked = mounted.linked; count = inodes_in image; holds = mounted.holds; up = mounted.up }
+
+module _ {image : List ℕ} {failures : ℕ} {tree : FileTree} (mounted : IsMounted image failures tree) (frames : ℕ) where
+  accepted : IsAccepted image tree.files
+  accepted = record { denotes = mounted.denotes; only = mounted.only }
+
+  pub booted-from : (r : Result Told BootFault) → IfOk r (IsBegun tree frames) → IfOk r (IsBooted image failures frames)
+  booted-from (Ok m) begun = record {
+    files = tree.files;
+    accepted = accepted;
+    starts = ap (λ limit. start tree.files limit frames) (sym mounted.limit) ∙ begun.starts;
+    up = begun.up;
+    later = le_trans mounted.later begun.later;
+  }
+  booted-from (Err f) begun = tt
+
+module _ {D : Type 0} (count : D → ℕ) {image : List ℕ} {failures : ℕ} {tree : FileTree} (mounted : IsMounted image failures tree) (frames : ℕ) where
+  unbooted : (f : BootFault) → IsNotBegun count tree frames f → IsUnbooted count image failures frames f
+  unbooted (Image f) why = absurd why
+  unbooted FrameCount why = absurd why
+  unbooted Device why = (why.0, let rises = why.1 in let later = mounted.later in omega (arith, rises, later))
+  unbooted NoMemory why = tt
+  unbooted NoInit why = record {
+    files = tree.files;
+    accepted = record { denotes = mounted.denotes; only = mounted.only };
+    none = ap (λ limit. start tree.files limit frames) (sym mounted.limit) ∙ why;
+  }
+
+  pub refused-from : (r : Result Told BootFault) → IfErr r (IsNotBegun count tree frames) → IfErr r (IsUnbooted count image failures frames)
+  refused-from (Ok m) why = tt
+  refused-from (Err f) why = unbooted f why
+
+-- where the count is in range the fault isn't that
+pub counted-from : {D : Type 0} (count : D → ℕ) (tree : FileTree) (frames : ℕ) → 64 ≤ frames → frames ≤ 32768 → (r : Result Told BootFault) → IfErr r (IsNotBegun count tree frames) → IsErrOf r FrameCount ↔ ((frames < 64) ⊎ (32768 < frames))
+counted-from count tree frames least most r why = (λ e. absurd (subst (λ x. IfErr x (IsNotBegun count tree frames)) e why), λ out. absurd (outside out)) where
+  outside : ((frames < 64) ⊎ (32768 < frames)) → ⊥
+  outside (inl low) = omega (arith, low, least)
+  outside (inr high) = omega (arith, high, most)
+
+-- why there are no files
+pub unmounted-why : {D : Type 0} (count : D → ℕ) (image : List ℕ) (failures frames : ℕ) (f : ImageFault) → IsUnmounted count image failures f → IsUnbooted count image failures frames (boot_fault f)
+unmounted-why count image failures frames fault.Device u = u.failed refl
+unmounted-why count image failures frames fault.NoMemory u = tt
+unmounted-why count image failures frames f u = (tt, u.tells, u.none tt)

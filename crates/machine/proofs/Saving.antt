@@ -1,0 +1,44 @@
+-- What is left of a machine: nothing names a node but links.
+use Rattle.std.proofs.Common.{◌≡◌, ℕ, ◌+◌, Bool, true, false, List, [], ◌∷◌, None, Option, Some, ap, refl, subst, sym, ◌∙◌}
+use Rattle.std.specs.Prelude.{nat_lt, ◌||◌}
+use Rattle.std.specs.List.{list_any}
+use Rattle.imagerules.specs.Content.{image_of}
+use Rattle.kernel.specs.Kernel.{Kernel, state_of}
+use Rattle.machine.proofs.Steps.{told}
+use Rattle.machine.specs.Saved.{IsSaved}
+use Rattle.tree.specs.Holding.{unheld}
+use Rattle.unixmodel.specs.Files.{Files, Node, free_slots, links_of, taken}
+use Rattle.unixmodel.specs.Image.{Denotes}
+use Rattle.unixmodel.specs.OpenFiles.{OpenFile, is_node}
+use Rattle.unixmodel.specs.Reap.{is_used, kept, reap, without_nodes, without_opens, without_pipes}
+use Rattle.unixmodel.specs.Shown.{left}
+use Rattle.unixmodel.specs.State.{State, place_limit}
+
+none-kept : (opens : List (Option OpenFile)) (k : ℕ) → taken (kept (λ j f. false) k opens) ≡ []
+none-kept [] k = refl
+none-kept (None ∷ opens) k = none-kept opens (k + 1)
+none-kept (Some f ∷ opens) k = none-kept opens (k + 1)
+
+or-false : (b : Bool) → (b || false) ≡ b
+or-false true = refl
+or-false false = refl
+
+-- without processes no descriptor names an open file, and no open file or directory a node
+module _ (s : State) where
+  unused : (n : ℕ) → is_used (without_pipes (without_opens (record s { places = free_slots place_limit }))) n ≡ false
+  unfolding without_pipes without_opens free_slots
+  unused n = ap (λ fs. list_any (λ (f : OpenFile). is_node n f.target) fs || false) (none-kept s.opens 0)
+
+  still : (n : ℕ) (node : Node) → (nat_lt 0 (links_of node) || is_used (without_pipes (without_opens (record s { places = free_slots place_limit }))) n) ≡ nat_lt 0 (links_of node)
+  still n node = ap (λ b. nat_lt 0 (links_of node) || b) (unused n) ∙ or-false (nat_lt 0 (links_of node))
+
+  pub files-left : left s ≡ unheld s.files
+  unfolding reap without_nodes without_pipes without_opens
+  files-left = λ i. kept (λ n node. still n node i) 0 s.files
+
+-- the disk has the files of the kernel that nobody held any more
+pub saved : {D : Type 0} (content : D → List (List ℕ)) (k : Kernel) (files : Files) (failed : Bool) (disk : D) → files ≡ k.tree.files → failed ≡ false → Denotes (image_of (content disk)) (unheld files) → IsSaved content (told k failed) disk
+saved content k files failed disk same sound denotes = record {
+  sound = sound;
+  denotes = subst (Denotes (image_of (content disk))) (ap unheld same ∙ sym (files-left (state_of k))) denotes;
+}

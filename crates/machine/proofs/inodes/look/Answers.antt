@@ -1,0 +1,17 @@
+use Rattle.calls.proofs.Served.{ok-told, on-err}
+use Rattle.calls.proofs.Stats.{has-read}
+use Rattle.kernel.specs.View.{kernel_of}
+use Rattle.machine.proofs.Looking.{lost-keeps, told-shown}
+use Rattle.std.proofs.Common.{refl, ◌∙◌}
+use Rattle.machine.proofs.inodes.look.Goals as goal
+
+pub invariant_of-kernel-in-Err : goal.invariant_of-kernel-in-Err
+invariant_of-kernel-in-Err g c =
+    rw (c.stop_running.ensures.table, c.stop_running.ensures.spaces)
+    (lost-keeps (kernel_of c.kernel.inside) c.args.kernel.now c.kernel.view_is c.is_sound.ensures.sound c.is_sound.ensures.zero c.is_sound.ensures.aligned c.look.new.self (on-err c.look.result _ c.in-Err.is c.look.ensures.down))
+
+pub returns-in-Ok : goal.returns-in-Ok
+returns-in-Ok g c =
+    let k = kernel_of c.kernel.inside in
+    let t = ok-told _ c.look.result _ c.in-Ok.is c.look.ensures.told in
+    rw (← c.kernel.view_is) (has-read k k refl c.look.new.self t.0 c.look.ensures.cause.later, c.told.ensures ∙ told-shown _ _ t.1)

@@ -1,0 +1,153 @@
+-- What a machine begins with that boots from a disk, or why it doesn't boot.
+use Rattle.std.specs.Prelude.{List, None, Option, Some, [], length, replicate, false, ℕ, ◌%◌, ◌*◌, ◌+◌, ◌<◌, ◌∷◌, ◌≡◌, ◌≤◌, ◌⊎◌}
+use Rattle.imagecheck.specs.Faults.{IsOfImage, Tells}
+use Rattle.imagecheck.specs.declared.ImageFault.{ImageFault}
+use Rattle.imagecheck.specs.declared.ImageFault.TheVariants as fault
+use Rattle.kernel.specs.Kernel.{Kernel, begun}
+use Rattle.machine.specs.declared.image_boot.Init.{Init}
+use Rattle.machine.specs.declared.fault.BootFault.{BootFault}
+use Rattle.machine.specs.declared.fault.BootFault.TheVariants.{Device, FrameCount, Image, NoInit, NoMemory}
+use Rattle.machine.specs.Flat.{alone}
+use Rattle.machine.specs.Told.{IsUp, Told}
+use Rattle.mount.specs.Mounted.{AreLinked}
+use Rattle.names.specs.Rules.{KeepsTree}
+use Rattle.proc.specs.declared.process.Process.{Process}
+use Rattle.proc.specs.Places.{Places}
+use Rattle.programs.specs.Headed.{file_at, program_in}
+use Rattle.programs.specs.Passed.{plan_with}
+use Rattle.spaces.specs.Spaces.{Held, Spaces}
+use Rattle.tree.specs.Holding.{with_hold}
+use Rattle.tree.specs.Tree.{FileTree}
+use Rattle.tree.specs.Written.{IsFile}
+use Rattle.unixmodel.specs.declared.process.Mode.TheVariants.{Ready}
+use Rattle.unixmodel.specs.Counts.{page_frames}
+use Rattle.unixmodel.specs.Failures.{Rises}
+use Rattle.unixmodel.specs.Files.{Files, free_slots}
+use Rattle.unixmodel.specs.Image.{Denotes, inodes_in, size_in}
+use Rattle.unixmodel.specs.Manifest.{data_blocks_of}
+use Rattle.unixmodel.specs.Memory.{zeros}
+use Rattle.unixmodel.specs.Outcome.{no_descriptors}
+use Rattle.unixmodel.specs.Plan.{Loaded, Plan, loaded_of}
+use Rattle.unixmodel.specs.ProcessCalls.{exec_registers}
+use Rattle.unixmodel.specs.Start.{init_plan, start}
+use Rattle.unixmodel.specs.State.{State}
+
+-- the files that an image denotes: there are no others
+pub record IsAccepted (image : List ℕ) (files : Files) : Type 0 where
+  pub denotes : Denotes image files
+  pub only : (others : Files) → Denotes image others → others ≡ files
+
+-- the state at boot from these files of an image
+abbrev pub start_from : List ℕ → Files → ℕ → Option State
+start_from image files frames = start files (data_blocks_of (size_in image) (inodes_in image)) frames
+
+-- the machine that boots from an image: its state is that with which the abstract Unix starts
+pub record IsBooted (image : List ℕ) (failures frames : ℕ) (m : Told) : Type 0 where
+  pub files : Files
+  pub accepted : IsAccepted image files
+  pub starts : start_from image files frames ≡ Some m.state
+  pub up : IsUp m
+  pub later : failures ≤ m.failures
+
+-- the image denotes files, but the abstract Unix doesn't start with them
+pub record IsWithoutInit (image : List ℕ) (frames : ℕ) : Type 0 where
+  pub files : Files
+  pub accepted : IsAccepted image files
+  pub none : start_from image files frames ≡ None
+
+-- why a machine doesn't boot from an image
+abbrev pub IsUnbooted : {D : Type 0} → (D → ℕ) → List ℕ → ℕ → ℕ → BootFault → Type 0
+IsUnbooted count image failures frames (Image fault) = IsOfImage fault × Tells image fault × ((files : Files) → Denotes image files → ⊥)
+IsUnbooted count image failures frames FrameCount = (frames < 64) ⊎ (32768 < frames)
+IsUnbooted {D} count image failures frames Device = (left : D) × Rises failures (count left)
+IsUnbooted count image failures frames NoMemory = Unit {0}
+IsUnbooted count image failures frames NoInit = IsWithoutInit image frames
+
+-- what it is where the disk has no files in use
+abbrev pub boot_fault : ImageFault → BootFault
+boot_fault fault.Device = Device
+boot_fault fault.NoMemory = NoMemory
+boot_fault f = Image f
+
+-- ---- files in use, before a process holds any
+
+pub record IsUnheld (t : FileTree) : Type 0 where
+  pub rules : KeepsTree t.files
+  pub linked : AreLinked t.files
+  pub count : ℕ
+  pub holds : t.holds ≡ replicate count 0
+  pub up : t.failed ≡ false
+
+pub record IsBegun (t : FileTree) (frames : ℕ) (m : Told) : Type 0 where
+  pub starts : start t.files t.block_limit frames ≡ Some m.state
+  pub up : IsUp m
+  pub later : t.failures ≤ m.failures
+
+abbrev pub IsNotBegun : {D : Type 0} → (D → ℕ) → FileTree → ℕ → BootFault → Type 0
+IsNotBegun {D} count t frames Device = (left : D) × Rises t.failures (count left)
+IsNotBegun count t frames NoMemory = Unit {0}
+IsNotBegun count t frames NoInit = start t.files t.block_limit frames ≡ None
+IsNotBegun count t frames _ = ⊥
+
+-- ---- the program of process 1
+
+-- the file /init has this program, for which there are frames, and its plan these arguments
+pub record IsInit (files : Files) (frames : ℕ) (init : Init) : Type 0 where
+  pub file : IsFile files init.number
+  pub program : program_in (file_at files init.number) ≡ Some init.program
+  pub fits : 4 + page_frames (init.program.pages + 2) ≤ frames
+  pub plan : (l : Loaded) → loaded_of (file_at files init.number) ≡ Some l → init_plan files ≡ Some (plan_with l.pages init.program.header.entry init.arguments)
+
+-- there is no plan, or the frames don't suffice
+abbrev pub LacksInit : Files → ℕ → Type 0
+LacksInit files frames = (p : Plan) → init_plan files ≡ Some p → frames < 4 + page_frames (length p.memory)
+
+abbrev pub FindsInit : Files → ℕ → Option Init → Type 0
+FindsInit files frames None = LacksInit files frames
+FindsInit files frames (Some init) = IsInit files frames init
+
+-- the space that shows a plan
+abbrev pub held_by : Plan → Held
+held_by new = record { memory = new.memory; size = new.size }
+
+-- the plan but for its pages
+abbrev pub bare_of : Init → Plan
+bare_of init = record { memory = []; size = 4096 * (init.program.pages + 2); pc = init.program.header.entry; argc = init.arguments.count; sp = init.arguments.sp }
+
+-- process 1 with a plan, but for its pages
+abbrev pub first_of : Plan → Process
+first_of new = record {
+  pid = 1;
+  parent = 0;
+  registers = exec_registers (zeros 32) new;
+  pc = new.pc;
+  size = new.size;
+  descriptors = no_descriptors;
+  directory = 1;
+  killed = false;
+  mode = Ready;
+}
+
+-- the program stands in the first place
+pub record IsInPlace (files : Files) (frames : ℕ) (new : Spaces) (init : Init) : Type 0 where
+  pub plan : Plan
+  pub is : init_plan files ≡ Some plan
+  pub fits : 4 + page_frames (length plan.memory) ≤ frames
+  pub few : init.program.pages ≤ frames
+  pub spaces : new ≡ alone frames (held_by plan)
+  pub bare : first_of (bare_of init) ≡ first_of plan
+  pub aligned : plan.pc % 4 ≡ 0
+
+abbrev pub PutsInit : Files → ℕ → Spaces → Option Init → Type 0
+PutsInit files frames new None = LacksInit files frames
+PutsInit files frames new (Some init) = IsInPlace files frames new init
+
+-- ---- the kernel
+
+-- the table with process 1 alone
+abbrev pub first_places : Plan → Places
+first_places new = record { places = Some (first_of new) ∷ free_slots 63; last = 63; next_pid = 2 }
+
+-- the kernel of a machine that begins with a plan, over the files of a disk
+abbrev pub init_kernel : FileTree → ℕ → Plan → Kernel
+init_kernel tree frames new = begun (record tree { holds = with_hold tree.holds 1 }) (first_places new) (alone frames (held_by new)) (free_slots 100)

@@ -1,0 +1,62 @@
+-- What a machine answers that is asked for the files of its disk.
+use Rattle.calls.specs.declared.halt.Halt.{Halt}
+use Rattle.calls.specs.declared.halt.Halt.TheVariants.{Console, Device, Halted, InitEnded}
+use Rattle.inode.specs.declared.InodeStat.{InodeStat}
+use Rattle.kernel.specs.Kernel.{on_hart}
+use Rattle.machine.specs.declared.inodes.Stat.{Stat}
+use Rattle.machine.specs.Told.{Told}
+use Rattle.proc.specs.Places.{Places, changed, with_mode}
+use Rattle.spaces.specs.Spaces.{Spaces}
+use Rattle.std.specs.Prelude.{Err, List, None, Ok, Option, Result, Some, drop, false, length, true, ℕ, ◌++◌, ◌≡◌, ◌≤◌}
+use Rattle.unixmodel.specs.declared.process.Mode.TheVariants.{Ready}
+use Rattle.unixmodel.specs.Failures.{Rises}
+use Rattle.unixmodel.specs.Shown as shown
+
+-- a node of the abstract Unix, as a machine tells it
+abbrev pub stat_seen : shown.Stat → Stat
+stat_seen s = record { kind = s.kind; links = s.links; size = s.size }
+
+-- the same, from what its inode tells
+abbrev pub stat_from : InodeStat → Stat
+stat_from s = record { kind = s.kind; links = s.links; size = s.size }
+
+-- these bytes, as many as are told, stand at the front of a buffer, and behind them it is as it was
+pub record IsRead (bytes old new : List ℕ) (told : ℕ) : Type 0 where
+  pub count : told ≡ length bytes
+  pub front : new ≡ bytes ++ drop told old
+
+-- ---- what the machine is then
+
+-- all is as it was: the processes, the console, the files
+pub record IsSame (old new : Told) : Type 0 where
+  pub sound : old.failed ≡ false
+  pub state : new.state ≡ old.state
+  pub still : new.failed ≡ false
+  pub later : old.failures ≤ new.failures
+
+-- an access of the device failed, and its count of failures rose: the machine has failed
+pub record IsLost (old new : Told) : Type 0 where
+  pub sound : old.failed ≡ false
+  pub failed : new.failed ≡ true
+  pub later : old.failures ≤ new.failures
+  pub rises : Rises old.failures new.failures
+
+-- it had failed before, and nothing changed
+pub record HasStopped (old new : Told) : Type 0 where
+  pub failed : old.failed ≡ true
+  pub same : new ≡ old
+
+-- what a look at the files is answered with
+abbrev pub LookGives : {X : Type 0} → Told → Told → (X → Type 0) → Result X Halt → Type 0
+LookGives old new Tells (Ok x) = IsSame old new × Tells x
+LookGives old new Tells (Err Device) = IsLost old new
+LookGives old new Tells (Err Halted) = HasStopped old new
+LookGives old new Tells (Err (InitEnded status)) = ⊥
+LookGives old new Tells (Err Console) = ⊥
+
+-- ---- the running process
+
+-- the table of a kernel whose process in this place, if there is one, runs no more
+abbrev pub stopped_in : Places → Spaces → Option ℕ → Places
+stopped_in t s None = t
+stopped_in t s (Some i) = changed t i (λ p. with_mode Ready (on_hart s p))

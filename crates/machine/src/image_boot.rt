@@ -1,0 +1,206 @@
+//! How a machine begins with the program `/init` of its disk.
+
+ghost use Rattle.std.specs.Prelude.{◌≡◌, ◌<◌, ◌≤◌, ◌^◌, ◌⊎◌, ◌↔◌, IfErr, IfOk, IsErrOf, false};
+ghost use Rattle.imagerules.specs.Content.{image_of};
+ghost use Rattle.machine.specs.Booted.{FindsInit, IsBegun, IsBooted, IsNotBegun, IsUnbooted, IsUnheld, PutsInit, bare_of, boot_fault, first_of, first_places};
+ghost use Rattle.names.specs.Rules.{KeepsTree};
+ghost use Rattle.programs.specs.Placed.{Leaves};
+ghost use Rattle.spaces.specs.Spaces.{no_spaces};
+ghost use Rattle.tree.specs.Tree.{Serves};
+
+use crate::fault::BootFault;
+use crate::machine::Machine;
+use blockdev::{BlockDev, DeviceFault};
+use calls::Kernel;
+use files::Files;
+use image::ImageFault;
+use mount::mount;
+use proc::{Process, Table};
+use programs::{Arguments, Program, load, one_argument, read_program};
+use ram::{FRAME_SIZE, Ram};
+use spaces::Spaces;
+use std::alloc::Global;
+use sv39::Translate;
+use tree::Tree;
+use unixmodel::process::Mode;
+
+/// The fewest frames that a machine has.
+const FEWEST: u32 = 64;
+
+/// The most frames that a machine has.
+const MOST: u32 = 32768;
+
+/// The place of process 1.
+const FIRST: usize = 0;
+
+/// The number of the root, in which process 1 works.
+const ROOT: usize = 1;
+
+/// What process 1 executes.
+#[derive(Clone, Copy)]
+pub(crate) struct Init {
+    /// The number of its file.
+    pub(crate) number: usize,
+    /// What the headers of the file say.
+    pub(crate) program: Program,
+    /// Its arguments: its path alone.
+    pub(crate) arguments: Arguments,
+}
+
+// What `/init` has process 1 execute. `None`: it can't be executed, or so many frames don't suffice.
+fn read_init<D: BlockDev>(tree: &mut Tree<D>, frames: u32) -> Result<Option<Init>, DeviceFault>
+    requires up { tree.old.failed ≡ false }
+    requires rules { KeepsTree tree.old.files }
+    ensures { Serves tree.old tree.new result (λ told. Leaves tree.old tree.new told × FindsInit tree.old.files frames told) }
+{
+    let Some(number) = tree.resolve(ROOT, b"/init")? else {
+        return Ok(None);
+    };
+    let Some(program) = read_program(tree, number)? else {
+        return Ok(None);
+    };
+    // The frame of its registers comes to those of a program that takes the place of another.
+    if program.frames() >= u64::from(frames) {
+        return Ok(None);
+    }
+    let Some(arguments) = one_argument(b"/init\0", program.pages) else {
+        return Ok(None);
+    };
+    Ok(Some(Init {
+        number,
+        program,
+        arguments,
+    }))
+}
+
+// Puts `/init` in the first place, where there is no process yet. `None`: it can't be executed, or the frames don't suffice.
+fn put_init<D: BlockDev, T: Translate + Drop>(
+    tree: &mut Tree<D>,
+    spaces: &mut Spaces<T>,
+) -> Result<Option<Init>, DeviceFault>
+    requires up { tree.old.failed ≡ false }
+    requires rules { KeepsTree tree.old.files }
+    requires none { spaces.old ≡ no_spaces spaces.old.frames }
+    requires few { spaces.old.frames ≤ 32768 }
+    ensures serves { Serves tree.old tree.new result (Leaves tree.old tree.new) }
+    ensures put { IfOk result (PutsInit tree.old.files spaces.old.frames spaces.new) }
+{
+    let Some(init) = read_init(tree, spaces.free())? else {
+        return Ok(None);
+    };
+    if !spaces.create(FIRST) {
+        return Ok(None);
+    }
+    load(
+        tree,
+        spaces,
+        FIRST,
+        init.number,
+        &init.program,
+        &init.arguments,
+    )?;
+    Ok(Some(init))
+}
+
+// Process 1, about to execute its first instruction with its arguments.
+#[tactic(auto, unfolding(unixmodel::specs::Memory::zeros, unixmodel::specs::Outcome::no_descriptors, unixmodel::specs::Files::free_slots))]
+fn first(init: &Init) -> Process
+    requires { init.now.program.pages ≤ 32768 }
+    ensures { result ≡ first_of (bare_of init.now) }
+{
+    let mut registers = [0; 32];
+    registers[2] = init.arguments.sp;
+    registers[10] = init.arguments.count;
+    registers[11] = init.arguments.sp;
+    Process {
+        pid: 1,
+        parent: 0,
+        registers,
+        pc: init.program.header.entry,
+        size: FRAME_SIZE as u64 * (init.program.pages + 2),
+        descriptors: [None; 16],
+        directory: 1,
+        killed: false,
+        mode: Mode::Ready,
+    }
+}
+
+// The table with process 1 alone.
+fn first_table(init: &Init) -> Table
+    requires { init.now.program.pages ≤ 32768 }
+    ensures { result ≡ first_places (bare_of init.now) }
+{
+    let mut table = Table::starting_at(1);
+    let _seat = table.alloc(first(init));
+    table
+}
+
+// A machine over files in use that nobody holds, whose process 1 executes `/init`.
+fn boot_on<D: BlockDev, T: Translate + Drop>(
+    alloc: Global,
+    mut tree: Tree<D>,
+    translator: T,
+    frames: u32,
+) -> Result<Machine<D, T>, BootFault>
+    requires unheld { IsUnheld tree }
+    requires few { frames ≤ 32768 }
+    ensures begun { IfOk result (IsBegun tree frames) }
+    ensures refused { IfErr result (IsNotBegun D.failures tree frames) }
+{
+    let Ok(ram) = Ram::new(alloc, frames) else {
+        return Err(BootFault::NoMemory);
+    };
+    let Ok(mut spaces) = Spaces::new(alloc, ram, translator) else {
+        return Err(BootFault::NoMemory);
+    };
+    match put_init(&mut tree, &mut spaces) {
+        Ok(Some(init)) => {
+            tree.is_whole();
+            tree.hold(ROOT);
+            let kernel = Kernel::new(tree, first_table(&init), spaces, Files::new());
+            Ok(Machine::new(kernel))
+        }
+        Ok(None) => Err(BootFault::NoInit),
+        Err(_) => {
+            // Its count tells of the failure.
+            let _device = tree.device();
+            Err(BootFault::Device)
+        }
+    }
+}
+
+// Why a machine doesn't boot where its disk has no files.
+fn unmounted(fault: ImageFault) -> BootFault
+    ensures { result ≡ boot_fault fault }
+{
+    match fault {
+        ImageFault::Device => BootFault::Device,
+        ImageFault::NoMemory => BootFault::NoMemory,
+        _ => BootFault::Image(fault),
+    }
+}
+
+/// A machine over a disk whose image denotes files, and a translator, which is fenced first: it may hold anything. Process 1
+/// executes the file `/init` with the one argument `/init`; it has no descriptors, and works in the root.
+///
+/// `FrameCount` where `frames` is below 64 or above 32768, `Image` where the check refuses the image, `Device` where an access
+/// of the device failed, `NoMemory` where the host has no memory, and else `NoInit` where `/init` can't be executed: there is no
+/// such file, it is no program, or the frames don't suffice.
+pub fn boot<D: BlockDev, T: Translate + Drop>(
+    alloc: Global,
+    disk: D,
+    translator: T,
+    frames: u32,
+) -> Result<Machine<D, T>, BootFault>
+    ensures booted { IfOk result (IsBooted (image_of (D.content disk)) (D.failures disk) frames) }
+    ensures refused { IfErr result (IsUnbooted D.failures (image_of (D.content disk)) (D.failures disk) frames) }
+    ensures count { IsErrOf result BootFault.FrameCount ↔ ((frames < 64) ⊎ (32768 < frames)) }
+{
+    if frames < FEWEST || frames > MOST {
+        return Err(BootFault::FrameCount);
+    }
+    match mount(alloc, disk) {
+        Ok(tree) => boot_on(alloc, tree, translator, frames),
+        Err(fault) => Err(unmounted(fault)),
+    }
+}

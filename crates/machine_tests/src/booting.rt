@@ -1,0 +1,148 @@
+//! Machines that boot from a disk.
+use crate::hello::{BYTES, stale};
+use crate::play::holds_at;
+use crate::translators::Noting;
+use asm::write_elf;
+use blockdev::{FlakyDisk, MemDisk};
+use console::Writer;
+use image::{Entry, ImageFault, Manifest, Thing, make};
+use machine::{BootFault, Halt, boot};
+use ram::{FrameNo, Ram};
+use std::alloc::Global;
+use sv39::{Plain, Tlb, Translate};
+use unixmodel::event::Event;
+
+const INIT: &[u8; 5] = b"/init";
+
+// How often the disk is asked for as its image is mounted: its super block, 32 blocks, and the super block again.
+const MOUNTING: u64 = 34;
+
+// The image of a root with one name.
+fn image_with(alloc: Global, path: &[u8], thing: Thing) -> Option<Vec<u8>> {
+    let path = Vec::from_slice(alloc, path).ok()?;
+    let mut entries = Vec::new(alloc);
+    entries.push(Entry { path, thing }).ok()?;
+    make(alloc, &Manifest { entries }, 32, 16).ok()
+}
+
+// The image of a root with the file of the program that says `hi`.
+fn image_of(alloc: Global, path: &[u8]) -> Option<Vec<u8>> {
+    let file = write_elf(alloc, &BYTES).ok()?;
+    image_with(alloc, path, Thing::File(file))
+}
+
+fn disk_of(alloc: Global, image: &[u8]) -> Option<MemDisk> {
+    let bytes = Vec::from_slice(alloc, image).ok()?;
+    MemDisk::new(bytes).ok()
+}
+
+#[test]
+fn its_path_is_its_argument(rt: HostRuntime) {
+    let alloc = rt.alloc();
+    let image = image_of(alloc, INIT).expect(&rt, "an image");
+    let disk = disk_of(alloc, image.as_slice()).expect(&rt, "a disk");
+    let machine = boot(alloc, disk, Plain::new(), 256).expect(&rt, "a machine");
+    let seen = machine.inspect(1).expect(&rt, "process 1");
+    holds_at(&rt, 0, seen.pc == 0 && seen.size == 12288);
+    holds_at(&rt, 1, seen.registers[2] == 12256);
+    holds_at(&rt, 2, seen.registers[10] == 1);
+    holds_at(&rt, 3, seen.registers[11] == 12256);
+    let (page, _) = machine.peek(1, 2).expect(&rt, "its stack");
+    holds_at(
+        &rt,
+        4,
+        page[4064..].starts_with(&[0xf0, 0x2f, 0, 0, 0, 0, 0, 0]),
+    );
+    holds_at(&rt, 5, page[4080..].starts_with(b"/init\0"));
+    holds_at(&rt, 6, machine.free_frames() == 247);
+}
+
+// Whether it prints nothing, since it has no descriptors, and ends at the ninth step.
+fn ends<T: Translate + Drop>(alloc: Global, image: &[u8], translator: T) -> Option<bool> {
+    let disk = disk_of(alloc, image)?;
+    let mut machine = boot(alloc, disk, translator, 64).ok()?;
+    let mut out = Writer::new(Vec::new(alloc));
+    let begun = machine.run(&[Event::Step; 8], &mut out);
+    let done = machine.run(&[Event::Step; 1], &mut out);
+    let ended = begun.is_ok() && done == Err(Halt::InitEnded(0));
+    Some(ended && out.into_inner().as_slice().is_empty())
+}
+
+#[test]
+fn init_has_no_descriptors(rt: HostRuntime) {
+    let alloc = rt.alloc();
+    let image = image_of(alloc, INIT).expect(&rt, "an image");
+    let image = image.as_slice();
+    holds_at(&rt, 0, ends(alloc, image, Plain::new()) == Some(true));
+    holds_at(&rt, 1, ends(alloc, image, Tlb::<64>::new()) == Some(true));
+    holds_at(
+        &rt,
+        2,
+        ends(alloc, image, Noting::new(alloc, 16)) == Some(true),
+    );
+}
+
+#[test]
+fn what_the_translator_held_is_forgotten(rt: HostRuntime) {
+    let alloc = rt.alloc();
+    let image = image_of(alloc, INIT).expect(&rt, "an image");
+    let mut other = Ram::new(alloc, 64).expect(&rt, "a memory");
+    for root in 0..64u32 {
+        let cache = stale(&mut other, FrameNo(root));
+        holds_at(
+            &rt,
+            root as usize,
+            ends(alloc, image.as_slice(), cache) == Some(true),
+        );
+    }
+}
+
+// Why a machine in so many frames doesn't boot from an image.
+fn fault_of(alloc: Global, image: &[u8], frames: u32) -> Option<BootFault> {
+    let disk = disk_of(alloc, image)?;
+    boot(alloc, disk, Plain::new(), frames).err()
+}
+
+#[test]
+fn tells_why_it_does_not_boot(rt: HostRuntime) {
+    let alloc = rt.alloc();
+    let sound = image_of(alloc, INIT).expect(&rt, "an image");
+    let cut = sound.as_slice().get(..31 * 1024).expect(&rt, "blocks");
+    let other = image_of(alloc, b"/other").expect(&rt, "an image");
+    let folder = image_with(alloc, INIT, Thing::Directory).expect(&rt, "an image");
+    let empty = image_with(alloc, INIT, Thing::File(Vec::new(alloc))).expect(&rt, "an image");
+    let rows = [
+        (sound.as_slice(), 64, None),
+        (sound.as_slice(), 63, Some(BootFault::FrameCount)),
+        (sound.as_slice(), 32769, Some(BootFault::FrameCount)),
+        (cut, 63, Some(BootFault::FrameCount)),
+        (cut, 64, Some(BootFault::Image(ImageFault::Length))),
+        (other.as_slice(), 64, Some(BootFault::NoInit)),
+        (folder.as_slice(), 64, Some(BootFault::NoInit)),
+        (empty.as_slice(), 64, Some(BootFault::NoInit)),
+    ];
+    for (row, (image, frames, fault)) in rows.iter().enumerate() {
+        holds_at(&rt, row, fault_of(alloc, image, *frames) == *fault);
+    }
+}
+
+// Why it doesn't boot from a disk whose accesses fail after so many good ones.
+fn failing(alloc: Global, image: &[u8], good: u64) -> Option<BootFault> {
+    let disk = FlakyDisk::new(disk_of(alloc, image)?, good);
+    boot(alloc, disk, Plain::new(), 64).err()
+}
+
+#[test]
+fn an_access_that_fails_is_told(rt: HostRuntime) {
+    let alloc = rt.alloc();
+    let image = image_of(alloc, INIT).expect(&rt, "an image");
+    let image = image.as_slice();
+    for good in 0..MOUNTING + 4 {
+        holds_at(
+            &rt,
+            good as usize,
+            failing(alloc, image, good) == Some(BootFault::Device),
+        );
+    }
+    holds_at(&rt, 100, failing(alloc, image, 1000).is_none());
+}

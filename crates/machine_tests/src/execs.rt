@@ -1,0 +1,86 @@
+//! exec: a program in the place of the one that runs, out of a file that the one that runs has written.
+use crate::play::Act::{Answer, Bytes, Free, Halts, NoPage, Page, Pc, Size, Steps};
+use crate::play::{
+    Act, EXEC, MINUS_ONE, NEXT_CALL, OPEN, Program, SBRK, WRITE, expect_answers, run,
+};
+use machine::{Halt, Perm};
+
+// A new file, open for writing alone.
+const NEW: u64 = 0x201;
+
+// What stands behind nine calls: a name, another one, argv with the name twice, the bytes of an ELF file.
+const NAME: u64 = 32 + 32 * 9;
+
+const NOWHERE: u64 = NAME + 8;
+
+const ARGV: u64 = NAME + 16;
+
+const FILE: u64 = NAME + 64;
+
+// Nine calls, of which the last one executes a program of one page. Beside the one that runs it takes eight frames.
+const CALLS: [[u64; 4]; 15] = [
+    [NAME, NEW, 0, OPEN],
+    [3, FILE, 128, WRITE],
+    [NOWHERE, ARGV, 0, EXEC],
+    [NAME, 0x1000, 0, EXEC],
+    [0x1000, ARGV, 0, EXEC],
+    [196608, 0, 0, SBRK],
+    [NAME, ARGV, 0, EXEC],
+    [u64::MAX - 4095, 0, 0, SBRK],
+    [NAME, ARGV, 0, EXEC],
+    // p, q, argv
+    [0x70, 0x71, NAME, NAME],
+    [0, 0, 0, 0],
+    // the header: entry 0, program headers at 64
+    [0x10102464c457f, 0, 0x100f30002, 0],
+    // one of them: load, R and X
+    [64, 0, 0x38004000000000, 1],
+    // 8 bytes from place 120 on go to address 0
+    [0x500000001, 120, 0, 0],
+    // addi a7, zero, 11; ecall
+    [8, 8, 0x1000, 0x7300b00893],
+];
+
+const CODE: Perm = Perm {
+    w: false,
+    x: true,
+    u: true,
+};
+
+// The strings of the two arguments stand below the end of the stack's page, and their pointers below them.
+#[test]
+fn executes_a_file(rt: HostRuntime) {
+    const ACTS: [Act; 14] = [
+        Steps(9 * NEXT_CALL),
+        Answer(1, 2),
+        Pc(1, 0),
+        Size(1, 0x3000),
+        Free(55),
+        Page(1, 0, CODE, &[0x93, 0x08, 0xb0, 0, 0x73, 0, 0, 0]),
+        NoPage(1, 3),
+        Bytes(1, 0x2ff0, &[0x70, 0]),
+        Bytes(1, 0x2fe0, &[0x70, 0]),
+        Bytes(1, 0x2fc0, &[0xf0, 0x2f, 0, 0, 0, 0, 0, 0]),
+        Bytes(1, 0x2fc8, &[0xe0, 0x2f, 0, 0, 0, 0, 0, 0]),
+        Steps(2),
+        Answer(1, 1),
+        Halts(Halt::InitEnded(-1)),
+    ];
+    run(&rt, Program::Calls(&CALLS), &ACTS);
+}
+
+#[test]
+fn refuses_what_does_not_fit_beside(rt: HostRuntime) {
+    const ANSWERS: [(u64, u32); 9] = [
+        (3, 55),
+        (128, 55),
+        (MINUS_ONE, 55),
+        (MINUS_ONE, 55),
+        (MINUS_ONE, 55),
+        (12288, 7),
+        (MINUS_ONE, 7),
+        (208896, 8),
+        (2, 55),
+    ];
+    expect_answers(&rt, 64, &CALLS, &ANSWERS);
+}

@@ -1,0 +1,201 @@
+//! Paths: what open and chdir find, make and refuse.
+use crate::play::{CHDIR, CLOSE, MINUS_ONE, MKDIR, MKNOD, OPEN, READ, WRITE, expect_answers};
+
+const CREATE: u64 = 0x200;
+
+// A new file, open for writing alone.
+const NEW: u64 = 0x201;
+
+const TRUNCATE: u64 = 0x400;
+
+const REFUSED: (u64, u32) = (MINUS_ONE, 55);
+
+const DONE: (u64, u32) = (0, 55);
+
+// The third descriptor: the first three are the console's.
+const THIRD: (u64, u32) = (3, 55);
+
+const CLOSE_THIRD: [u64; 4] = [3, 0, 0, CLOSE];
+
+// Thirteen numbers of the disk are free, 3 to 15. Behind the calls stand the names: one letter each.
+#[test]
+fn makes_a_file_for_each_free_number(rt: HostRuntime) {
+    const CALLS: [[u64; 4]; 31] = [
+        [896, NEW, 0, OPEN],
+        CLOSE_THIRD,
+        [904, NEW, 0, OPEN],
+        CLOSE_THIRD,
+        [912, NEW, 0, OPEN],
+        CLOSE_THIRD,
+        [920, NEW, 0, OPEN],
+        CLOSE_THIRD,
+        [928, NEW, 0, OPEN],
+        CLOSE_THIRD,
+        [936, NEW, 0, OPEN],
+        CLOSE_THIRD,
+        [944, NEW, 0, OPEN],
+        CLOSE_THIRD,
+        [952, NEW, 0, OPEN],
+        CLOSE_THIRD,
+        [960, NEW, 0, OPEN],
+        CLOSE_THIRD,
+        [968, NEW, 0, OPEN],
+        CLOSE_THIRD,
+        [976, NEW, 0, OPEN],
+        CLOSE_THIRD,
+        [984, NEW, 0, OPEN],
+        CLOSE_THIRD,
+        [992, NEW, 0, OPEN],
+        CLOSE_THIRD,
+        [1000, NEW, 0, OPEN],
+        [0x61, 0x62, 0x63, 0x64],
+        [0x65, 0x66, 0x67, 0x68],
+        [0x69, 0x6a, 0x6b, 0x6c],
+        [0x6d, 0x6e, 0, 0],
+    ];
+    const ANSWERS: [(u64, u32); 27] = [
+        THIRD, DONE, THIRD, DONE, THIRD, DONE, THIRD, DONE, THIRD, DONE, THIRD, DONE, THIRD, DONE,
+        THIRD, DONE, THIRD, DONE, THIRD, DONE, THIRD, DONE, THIRD, DONE, THIRD, DONE, REFUSED,
+    ];
+    expect_answers(&rt, 64, &CALLS, &ANSWERS);
+}
+
+// A name is cut to 14 bytes, and a path has 127 at most. Behind the calls stand `abcdefghijklmno`, `abcdefghijklmn`, `q`, `z`, and 128
+// slashes.
+#[test]
+fn opens_what_a_path_names(rt: HostRuntime) {
+    const SLASHES: u64 = 0x2f2f_2f2f_2f2f_2f2f;
+    const LONG: u64 = 480;
+    const CUT: u64 = 496;
+    const DEVICE: u64 = 512;
+    const NOTHING: u64 = 520;
+    const EMPTY: u64 = 528;
+    const ROOT: u64 = 545;
+    const CALLS: [[u64; 4]; 21] = [
+        [LONG, NEW, 0, OPEN],
+        [CUT, 0, 0, OPEN],
+        [LONG, 0, 0, OPEN],
+        [544, 0, 0, OPEN],
+        [ROOT, 0, 0, OPEN],
+        [ROOT, 1, 0, OPEN],
+        [ROOT, CREATE, 0, OPEN],
+        [EMPTY, 0, 0, OPEN],
+        [NOTHING, 0, 0, OPEN],
+        [DEVICE, 10, 0, MKNOD],
+        [DEVICE, 0, 0, OPEN],
+        [2, 0, 0, CLOSE],
+        [CUT, 0x1_0000_0000 + CREATE, 0, OPEN],
+        [0x3000, 0, 0, OPEN],
+        [
+            0x6867_6665_6463_6261,
+            0x006f_6e6d_6c6b_6a69,
+            0x6867_6665_6463_6261,
+            0x6e6d_6c6b_6a69,
+        ],
+        [0x71, 0x7a, 0, 0],
+        [SLASHES, SLASHES, SLASHES, SLASHES],
+        [SLASHES, SLASHES, SLASHES, SLASHES],
+        [SLASHES, SLASHES, SLASHES, SLASHES],
+        [SLASHES, SLASHES, SLASHES, SLASHES],
+        [0, 0, 0, 0],
+    ];
+    const ANSWERS: [(u64, u32); 14] = [
+        THIRD,
+        (4, 55),
+        (5, 55),
+        REFUSED,
+        (6, 55),
+        REFUSED,
+        REFUSED,
+        (7, 55),
+        REFUSED,
+        DONE,
+        REFUSED,
+        DONE,
+        (2, 55),
+        REFUSED,
+    ];
+    expect_answers(&rt, 64, &CALLS, &ANSWERS);
+}
+
+// What is open for reading can't be written, and the other way round; 0x400 empties a file. Behind the calls stands `f`.
+#[test]
+fn opens_as_the_flags_ask(rt: HostRuntime) {
+    const NAME: u64 = 480;
+    const BUFFER: u64 = 0x2800;
+    const CALLS: [[u64; 4]; 15] = [
+        [NAME, NEW, 0, OPEN],
+        [3, 0, 2, WRITE],
+        [3, BUFFER, 2, READ],
+        [NAME, 0, 0, OPEN],
+        [4, BUFFER, 4, READ],
+        [4, 0, 2, WRITE],
+        [NAME, 2, 0, OPEN],
+        [5, BUFFER, 1, READ],
+        [5, 0, 2, WRITE],
+        [4, BUFFER, 4, READ],
+        [NAME, TRUNCATE, 0, OPEN],
+        [6, BUFFER, 4, READ],
+        [NAME, 3, 0, OPEN],
+        [7, BUFFER, 4, READ],
+        [0x66, 0, 0, 0],
+    ];
+    const ANSWERS: [(u64, u32); 14] = [
+        THIRD,
+        (2, 55),
+        REFUSED,
+        (4, 55),
+        (2, 55),
+        REFUSED,
+        (5, 55),
+        (1, 55),
+        (2, 55),
+        (1, 55),
+        (6, 55),
+        DONE,
+        (7, 55),
+        REFUSED,
+    ];
+    expect_answers(&rt, 64, &CALLS, &ANSWERS);
+}
+
+// A path that begins with no slash is looked up where the process works. Behind the calls stand `d`, `f`, `..` and `d/f`.
+#[test]
+fn works_in_another_directory(rt: HostRuntime) {
+    const FOLDER: u64 = 448;
+    const FILE: u64 = 456;
+    const ABOVE: u64 = 464;
+    const WITHIN: u64 = 472;
+    const CALLS: [[u64; 4]; 14] = [
+        [FOLDER, 0, 0, CHDIR],
+        [FOLDER, 0, 0, MKDIR],
+        [FOLDER, 0, 0, CHDIR],
+        [FOLDER, 0, 0, CHDIR],
+        [FILE, NEW, 0, OPEN],
+        [FILE, 0, 0, CHDIR],
+        [FILE, 0, 0, OPEN],
+        [ABOVE, 0, 0, CHDIR],
+        [FILE, 0, 0, OPEN],
+        [WITHIN, 0, 0, OPEN],
+        [ABOVE, 0, 0, CHDIR],
+        [FOLDER, 0, 0, OPEN],
+        [0x3000, 0, 0, CHDIR],
+        [0x64, 0x66, 0x2e2e, 0x66_2f64],
+    ];
+    const ANSWERS: [(u64, u32); 13] = [
+        REFUSED,
+        DONE,
+        DONE,
+        REFUSED,
+        THIRD,
+        REFUSED,
+        (4, 55),
+        DONE,
+        REFUSED,
+        (5, 55),
+        DONE,
+        (6, 55),
+        REFUSED,
+    ];
+    expect_answers(&rt, 64, &CALLS, &ANSWERS);
+}
