@@ -2,4 +2,5 @@ mod AssembleLemmas
 mod DistanceLemmas
 mod EmitLemmas
 mod FileLemmas
+mod LabelLemmas
 mod LayoutLemmas

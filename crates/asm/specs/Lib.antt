@@ -1,3 +1,4 @@
 pub mod Distance
 pub mod Emitted
+pub mod Labels
 pub mod Placed

@@ -5,9 +5,11 @@ ghost use Rattle.unixmodel.specs.Numbers.{away};
 ghost use Rattle.asmtext.specs.Numbers.{field_within};
 ghost use Rattle.asmtext.specs.Statements.{target_of};
 ghost use Rattle.asm.specs.Distance.{distance_seen};
+ghost use Rattle.asm.specs.Labels.{Finds};
 ghost use Rattle.asm.specs.Placed.{placed_seen};
 
-use crate::layout::{Placed, definition};
+use crate::labels::{Labels, definition};
+use crate::layout::Placed;
 use asmtext::{Number, Target};
 use unixmodel::assembly::AsmKind;
 
@@ -68,13 +70,19 @@ impl<'a> Distance<'a> {
 }
 
 /// How far a target is, seen from a base: the number that it is, or the way to its label.
-pub fn distance_to<'a>(placed: &[Placed], base: u128, target: &'a Target) -> Option<Distance<'a>>
+pub fn distance_to<'a>(
+    placed: &[Placed],
+    labels: &Labels,
+    base: u128,
+    target: &'a Target,
+) -> Option<Distance<'a>>
+    requires { Finds labels.now (map placed_seen placed.now) }
     ensures { option_map distance_seen result ≡ the.distance (map placed_seen placed.now) base (target_of target.now) }
 {
     match target {
         Target::Number(number) => Some(Distance::Number(number)),
         Target::Label(name) => {
-            let first = definition(placed, name)?;
+            let first = definition(placed, labels, name)?;
             Some(Distance::Between(base, first.address))
         }
     }

@@ -1,5 +1,5 @@
 //! The second pass: the bytes of each line where it stands, or what is wrong with it.
-ghost use Rattle.std.specs.Prelude.{◌≡◌, ◌≤◌, ◌^◌, ◌*◌, ◌-◌, ◌++◌, ◌∷◌, [], Some, if◌then◌else◌, IfErr, IfOk, OnOk, map, option_map};
+ghost use Rattle.std.specs.Prelude.{◌≡◌, ◌^◌, ◌*◌, ◌-◌, ◌++◌, ◌∷◌, [], Some, if◌then◌else◌, IfErr, IfOk, OnOk, map};
 ghost use Rattle.unixmodel.specs.Assembly as the;
 ghost use Rattle.unixmodel.specs.Numbers.{field, le, lies_in};
 ghost use Rattle.asmtext.specs.Forms.{size_of};
@@ -8,11 +8,13 @@ ghost use Rattle.asmtext.specs.Operations.{above_of, below_of, bits_of, partial_
 ghost use Rattle.asmtext.specs.Statements.{leap_bits, leap_instr, statement_of};
 ghost use Rattle.asm.specs.Distance.{distance_seen};
 ghost use Rattle.asm.specs.Emitted.{Tells, bytes_of, coded_seen};
+ghost use Rattle.asm.specs.Labels.{Finds};
 ghost use Rattle.asm.specs.Placed.{placed_seen};
 
 use crate::distance::{Distance, distance_to};
 use crate::fault::AsmFault;
-use crate::layout::{LIMIT, Placed, definition, padding, size_of_line, zeros};
+use crate::labels::{Labels, definition, labels};
+use crate::layout::{LIMIT, Placed, padding, size_of_line, zeros};
 use asmtext::{Leap, Number, Partial, Statement, Width};
 use isa::encode;
 use std::alloc::{AllocError, Global};
@@ -145,20 +147,22 @@ fn zeros_or_range<'a>(count: Option<u32>) -> Result<Output<'a>, AsmKind>
 #[tactic(auto, unfolding(unixmodel::specs::Assembly::statement_code))]
 fn statement_code<'a>(
     placed: &[Placed],
+    labels: &Labels,
     address: u128,
     statement: &'a Statement,
 ) -> Result<Output<'a>, AsmKind>
+    requires { Finds labels.now (map placed_seen placed.now) }
     ensures { coded_seen result ≡ the.statement_code (map placed_seen placed.now) address (statement_of statement.now) }
 {
     match statement {
         Statement::Empty => Ok(Output::Nothing),
         Statement::Whole(instr) => code(address, *instr),
         Statement::Numbered(partial, number) => numbered_code(address, *partial, number),
-        Statement::Jump(leap, target) => match distance_to(placed, address, target) {
+        Statement::Jump(leap, target) => match distance_to(placed, labels, address, target) {
             Some(distance) => leap_code(address, *leap, &distance),
             None => Err(AsmKind::Label),
         },
-        Statement::Load(rd, target) => match distance_to(placed, 0, target) {
+        Statement::Load(rd, target) => match distance_to(placed, labels, 0, target) {
             Some(number) => load_code(address, *rd, &number),
             None => Err(AsmKind::Label),
         },
@@ -209,13 +213,14 @@ fn unless<'a>(
 }
 
 // Whether an earlier line has the label.
-fn is_twice(placed: &[Placed], line: &Placed) -> bool
+fn is_twice(placed: &[Placed], labels: &Labels, line: &Placed) -> bool
+    requires { Finds labels.now (map placed_seen placed.now) }
     ensures { result ≡ the.is_twice (map placed_seen placed.now) (placed_seen line.now) }
 {
     let Some(label) = line.line.label else {
         return false;
     };
-    match definition(placed, label) {
+    match definition(placed, labels, label) {
         Some(first) => first.number != line.number,
         None => false,
     }
@@ -228,15 +233,20 @@ fn is_past_limit(line: &Placed) -> bool
 }
 
 #[tactic(auto, unfolding(unixmodel::specs::Assembly::line_code))]
-fn line_code<'a>(placed: &[Placed], line: &Placed<'a>) -> Result<Output<'a>, AsmKind>
+fn line_code<'a>(
+    placed: &[Placed],
+    labels: &Labels,
+    line: &Placed<'a>,
+) -> Result<Output<'a>, AsmKind>
+    requires { Finds labels.now (map placed_seen placed.now) }
     ensures { coded_seen result ≡ the.line_code (map placed_seen placed.now) (placed_seen line.now) }
 {
     let said = match &line.line.says {
-        Ok(statement) => statement_code(placed, line.address, statement),
+        Ok(statement) => statement_code(placed, labels, line.address, statement),
         Err(kind) => Err(*kind),
     };
     let within = unless(is_past_limit(line), AsmKind::Range, said);
-    unless(is_twice(placed, line), AsmKind::Twice, within)
+    unless(is_twice(placed, labels, line), AsmKind::Twice, within)
 }
 
 fn put(out: &mut Vec<u8>, output: Output) -> Result<(), AllocError>
@@ -262,9 +272,10 @@ pub fn codes(alloc: Global, placed: &[Placed]) -> Result<Vec<u8>, AsmFault>
     ensures ok { IfOk result (λ out. the.codes_from (map placed_seen placed.now) (map placed_seen placed.now) ≡ Ok out.items) }
     ensures err { IfErr result (Tells (the.codes_from (map placed_seen placed.now) (map placed_seen placed.now))) }
 {
+    let labels = labels(alloc, placed)?;
     let mut out = Vec::new(alloc);
     for line in placed {
-        match line_code(placed, line) {
+        match line_code(placed, &labels, line) {
             Ok(output) => put(&mut out, output)?,
             Err(kind) => {
                 return Err(AsmFault {

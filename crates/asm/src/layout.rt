@@ -1,9 +1,9 @@
-//! Where each line stands, and what labels name.
-ghost use Rattle.std.specs.Prelude.{◌≡◌, ◌≤◌, ◌*◌, ◌^◌, ◌<◌, IfOk, IfSome, bytes_eq, length, map, option_map};
+//! Where each line stands.
+ghost use Rattle.std.specs.Prelude.{◌≡◌, ◌≤◌, ◌^◌, ◌<◌, IfOk, IfSome, map};
 ghost use Rattle.unixmodel.specs.Assembly as the;
 ghost use Rattle.unixmodel.specs.Statements as statements;
 ghost use Rattle.asmtext.specs.Numbers.{number_of};
-ghost use Rattle.asmtext.specs.Statements.{label_seen, line_seen, said_seen, statement_of};
+ghost use Rattle.asmtext.specs.Statements.{line_seen, said_seen, statement_of};
 ghost use Rattle.asm.specs.Placed.{placed_seen, step_of};
 
 use asmtext::{Line, Number, Statement};
@@ -107,26 +107,4 @@ pub fn place<'a>(alloc: Global, lines: &'a [Line<'a>]) -> Result<Vec<Placed<'a>>
         address += size_of_line(address, &line.says);
     }
     Ok(placed)
-}
-
-fn is_labelled(label: Option<&[u8]>, name: &[u8]) -> bool
-    ensures { result ≡ the.is_labelled name.now (label_seen label.entry) }
-{
-    match label {
-        Some(label) => label == name,
-        None => false,
-    }
-}
-
-/// The first line with the label.
-#[tactic(auto, unfolding(unixmodel::specs::Assembly::definition))]
-pub fn definition<'p, 'a>(placed: &'p [Placed<'a>], name: &[u8]) -> Option<&'p Placed<'a>>
-    ensures { option_map (λ first. placed_seen first.now) result ≡ the.definition (map placed_seen placed.now) name.now }
-{
-    for first in placed {
-        if is_labelled(first.line.label, name) {
-            return Some(first);
-        }
-    }
-    None
 }

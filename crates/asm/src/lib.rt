@@ -8,6 +8,7 @@ mod distance;
 mod emit;
 mod fault;
 mod file;
+mod labels;
 mod layout;
 
 pub use assembler::assemble;

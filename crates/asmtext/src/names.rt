@@ -1,8 +1,9 @@
 //! The words of statements and the names of registers.
-ghost use Rattle.std.specs.Prelude.{◌≡◌, ◌<◌, IfSome, bytes_eq, find, length, slice_index_or, []};
+ghost use Rattle.std.specs.Prelude.{◌≡◌, ◌<◌, IfSome, bytes_eq, find, slice_index_or, []};
 ghost use Rattle.unixmodel.specs.Names as the;
 ghost use Rattle.unixmodel.specs.Operands.{place_among, register_called};
 
+use isa::register_name;
 use unixmodel::instr::{BranchOp, ImmOp, LoadOp, Reg, RegOp, RegOpW, ShiftOp, StoreOp};
 
 // Whether the name is that.
@@ -128,54 +129,12 @@ pub fn branch_called(name: &[u8]) -> Option<BranchOp>
     }
 }
 
-/// The name of a register.
-#[tactic(auto, unfolding(unixmodel::specs::Names::register_names))]
-pub fn register_name(r: u8) -> &'static [u8]
-    requires { r < 32 }
-    ensures { result.now ≡ slice_index_or the.register_names r [] }
-{
-    match r {
-        0 => b"zero",
-        1 => b"ra",
-        2 => b"sp",
-        3 => b"gp",
-        4 => b"tp",
-        5 => b"t0",
-        6 => b"t1",
-        7 => b"t2",
-        8 => b"s0",
-        9 => b"s1",
-        10 => b"a0",
-        11 => b"a1",
-        12 => b"a2",
-        13 => b"a3",
-        14 => b"a4",
-        15 => b"a5",
-        16 => b"a6",
-        17 => b"a7",
-        18 => b"s2",
-        19 => b"s3",
-        20 => b"s4",
-        21 => b"s5",
-        22 => b"s6",
-        23 => b"s7",
-        24 => b"s8",
-        25 => b"s9",
-        26 => b"s10",
-        27 => b"s11",
-        28 => b"t3",
-        29 => b"t4",
-        30 => b"t5",
-        _ => b"t6",
-    }
-}
-
 fn register_named(name: &[u8]) -> Option<u8>
     ensures is { result ≡ place_among the.register_names name.now }
     ensures within { IfSome result (λ r. r < 32) }
 {
     for r in 0..32u8 {
-        if is(register_name(r), name) {
+        if is(register_name(Reg::new(r)).as_bytes(), name) {
             return Some(r);
         }
     }

@@ -1,5 +1,5 @@
 //! Numbers as they are written, of any length.
-ghost use Rattle.std.specs.Prelude.{◌≡◌, ◌≤◌, ◌<◌, ◌^◌, ◌&&◌, ℕ, IfOk, IfSome, Some, None, if◌then◌else◌, nat_le, neg_ℤ, option_map, length, pos};
+ghost use Rattle.std.specs.Prelude.{◌≡◌, ◌≤◌, ◌<◌, ◌^◌, ◌&&◌, IfOk, Some, None, if◌then◌else◌, nat_le, neg_ℤ, option_map, pos};
 ghost use Rattle.std.specs.Char.{digit_value};
 ghost use Rattle.std.specs.List.{list_all};
 ghost use Rattle.std.specs.Str.Parse.{digits_value};

@@ -1,5 +1,5 @@
 //! What follows the word of a statement, read one character after the other.
-ghost use Rattle.std.specs.Prelude.{◌≡◌, ◌++◌, [], ◌∷◌, List, ℕ, IfOk, OnOk, MatchOption, map, option_map};
+ghost use Rattle.std.specs.Prelude.{◌≡◌, [], List, ℕ, IfOk, OnOk, MatchOption, map, option_map};
 ghost use Rattle.unixmodel.specs.Tokens as the;
 ghost use Rattle.asmtext.specs.Symbols.{reader_of, symbol_of, Escapes};
 
