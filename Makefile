@@ -4,7 +4,11 @@
 PROGRAM := crates/xv6/out/xv6
 SOURCES := $(shell find crates -name out -prune -o \( -name '*.rt' -o -name '*.antt' \) -print)
 
-.PHONY: demo build test check bench fmt
+# The user programs: a text of user/ each, and user/manifest puts them on an image.
+USER := $(patsubst user/%.s,user/out/%,$(wildcard user/*.s))
+IMAGE := user/out/xv6.img
+
+.PHONY: demo build image user test check bench fmt
 
 # Runs a program that says `hi` on the machine. It takes the proved build where there is one that is
 # not older than the sources, and else `rt try`, which compiles the program and proves nothing.
@@ -24,6 +28,19 @@ build: $(PROGRAM)
 $(PROGRAM): $(SOURCES) crates.txt
 	cd crates/xv6 && rt run -- flat data/hello.bin data/hello.txt
 	@touch $@
+
+# Assembles the user programs.
+user: $(USER)
+
+user/out/%: user/%.s $(PROGRAM)
+	@mkdir -p $(@D)
+	$(PROGRAM) asm $< $@
+
+# Makes a disk image with the user programs, as $(IMAGE).
+image: $(IMAGE)
+
+$(IMAGE): user/manifest $(USER)
+	cd user && ../$(PROGRAM) mkfs manifest ../$@
 
 # The merge gate: every proof from nothing, the edits that must fail, all tests and stored runs.
 test:

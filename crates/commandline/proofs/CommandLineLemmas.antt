@@ -1,19 +1,13 @@
 -- What a command declares, and what was found of its words.
-use Rattle.std.proofs.Common.{◌≡◌, ◌∙◌, ap₂, ℕ, List, Option, Some, None, Result, IfSome, false, option_map, refl, sym}
-use Rattle.std.specs.Str.Parse.{ParsesUnsigned}
-use Rattle.std.specs.Box.{box_value}
-use Rattle.std.specs.Prelude.{Box}
+use Rattle.std.proofs.Common.{◌≡◌, ◌∙◌, ◌↔◌, ap, ap₂, Bool, Option, Some, None, IfSome, IsTrue, false, option_map, refl, sym}
+use Rattle.std.proofs.lemmas.Slice.Eq.{bytes_eq-Decides}
+use Rattle.std.specs.Str.{bytes_eq}
 use Rattle.clap.specs.Built.{AddsArg}
-use Rattle.clap.specs.Matches.{ReadsOne, one_text}
-use Rattle.clap.specs.Simple.{App, subcommand_rows, with_rule}
-use Rattle.clap.specs.Walk.{Row, Rule, Text, rows_of, rule_of}
+use Rattle.clap.specs.Simple.{App, with_rule}
+use Rattle.clap.specs.Walk.{Rule, Text, rule_of}
 use Rattle.clap.specs.declared.builder.arg.Arg.{Arg}
 use Rattle.clap.specs.declared.builder.command.Command.{Command}
-use Rattle.clap.specs.declared.parser.matches.ArgMatches.TheViews.{out-SubCommand}
-use Rattle.clap.specs.declared.parser.matches.Found.{Found}
-use Rattle.clap.specs.declared.parser.matches.SubCommand.{SubCommand}
-use Rattle.clap.proofs.WalkLemmas.{one_text-rows}
-use Rattle.commandline.specs.Declarations.{DeclaresOwn, IsWritten, Writes}
+use Rattle.commandline.specs.Declarations.{DeclaresOwn}
 
 -- an argument that is the command's own is one rule more
 pub adds-rule : (old new : Command) (a : Arg) (rule : Rule) → AddsArg old a new → a.global ≡ false → rule_of a ≡ rule → (app : App) → DeclaresOwn app old
@@ -27,3 +21,12 @@ adds-rule old new a rule h local is app own = record {
 pub word-found : {W : Type 0} (text_of : W → Text) (r : Option W) (first : Option Text) → option_map text_of r ≡ first → IfSome r (λ word. first ≡ Some (text_of word))
 word-found text_of None first is = tt
 word-found text_of (Some word) first is = sym is
+
+-- the first word of a name is a flag's where it is `true`
+pub flag-given : (value word : Text) (first : Option Text) (given : Bool) → Some word ≡ first → given ≡ bytes_eq word value → IsTrue given ↔ (first ≡ Some value)
+flag-given value word first given is same =
+    let decides = bytes_eq-Decides word value in
+    (λ h. sym is ∙ ap Some (decides.0 (sym same ∙ h)), λ h. same ∙ decides.1 (let e : Some word ≡ Some value = is ∙ h in cc))
+
+pub flag-missing : (value : Text) (first : Option Text) → None ≡ first → IsTrue false ↔ (first ≡ Some value)
+flag-missing value first is = (λ h. absurd (cc), λ h. absurd (let e : None ≡ Some value = is ∙ h in cc))

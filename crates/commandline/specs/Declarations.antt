@@ -1,14 +1,18 @@
 -- The command line that the program declares, and what a job says of it.
-use Rattle.std.specs.Prelude.{◌≡◌, ℕ, pos, List, [], ◌∷◌, Option, Some, Result, IfOk, true, false, codes}
+use Rattle.std.specs.Prelude.{◌≡◌, ◌↔◌, IsTrue, ℕ, pos, List, [], ◌∷◌, Option, Some, Result, IfOk, true, false, codes}
 use Rattle.std.specs.Str.Parse.{IsNumeral, digits_value}
 use Rattle.clap.specs.Words.{App, Row, Rule, Text, app_of, first_of, new_app, new_rule, with_rule, with_subcommand}
+use Rattle.clap.specs.declared.builder.action.ArgAction.TheVariants.{SetTrue}
 use Rattle.clap.specs.declared.builder.command.Command.{Command}
 use Rattle.clap.specs.declared.builder.command.Command.TheViews.{out-Command}
 use Rattle.clap.specs.declared.builder.value_parser.ValueParser.TheVariants.{Signed}
+use Rattle.commandline.specs.declared.jobs.Asm.{Asm}
 use Rattle.commandline.specs.declared.jobs.Check.{Check}
+use Rattle.commandline.specs.declared.jobs.Dump.{Dump}
 use Rattle.commandline.specs.declared.jobs.Flat.{Flat}
 use Rattle.commandline.specs.declared.jobs.Job.{Job}
 use Rattle.commandline.specs.declared.jobs.Job.TheVariants as job
+use Rattle.commandline.specs.declared.jobs.Ls.{Ls}
 use Rattle.commandline.specs.declared.jobs.Mkfs.{Mkfs}
 
 -- a word that has to be there
@@ -24,10 +28,16 @@ number_rule name default = record (new_rule name) {
   defaults = default ∷ [];
 }
 
--- flat [--frames N] FILE SCRIPT
+-- --name, a flag
+abbrev pub flag_rule : Text → Rule
+flag_rule name = record (new_rule name) { long = Some name; action = Some SetTrue }
+
+-- flat [--frames N] [--tlb] FILE SCRIPT
 abbrev pub declared_flat : App
 declared_flat =
-    with_rule (with_rule (with_rule (new_app (codes "flat")) (number_rule (codes "frames") (codes "256"))) (word_rule (codes "FILE"))) (word_rule (codes "SCRIPT"))
+    with_rule (with_rule (with_rule (with_rule (new_app (codes "flat"))
+    (number_rule (codes "frames") (codes "256"))) (flag_rule (codes "tlb")))
+    (word_rule (codes "FILE"))) (word_rule (codes "SCRIPT"))
 
 -- mkfs [--size N] [--inodes N] MANIFEST IMAGE
 abbrev pub declared_mkfs : App
@@ -40,14 +50,34 @@ declared_mkfs =
 abbrev pub declared_check : App
 declared_check = with_rule (new_app (codes "check")) (word_rule (codes "IMAGE"))
 
+-- ls IMAGE PATH
+abbrev pub declared_ls : App
+declared_ls = with_rule (with_rule (new_app (codes "ls")) (word_rule (codes "IMAGE"))) (word_rule (codes "PATH"))
+
+-- asm TEXT ELF
+abbrev pub declared_asm : App
+declared_asm = with_rule (with_rule (new_app (codes "asm")) (word_rule (codes "TEXT"))) (word_rule (codes "ELF"))
+
+-- dump ELF
+abbrev pub declared_dump : App
+declared_dump = with_rule (new_app (codes "dump")) (word_rule (codes "ELF"))
+
 -- a command has to be there
 abbrev pub declared_top : App
 declared_top = record (new_app (codes "xv6")) {
   top = record (new_app (codes "xv6")).top { subcommand_required = true; arg_required_else_help = true };
 }
 
+-- what works on disk images
+abbrev pub with_images : App → App
+with_images app = with_subcommand (with_subcommand (with_subcommand app declared_mkfs.top) declared_check.top) declared_ls.top
+
+-- what works on the texts and the files of programs
+abbrev pub with_programs : App → App
+with_programs app = with_subcommand (with_subcommand app declared_asm.top) declared_dump.top
+
 abbrev pub declared : App
-declared = with_subcommand (with_subcommand (with_subcommand declared_top declared_flat.top) declared_mkfs.top) declared_check.top
+declared = with_programs (with_images (with_subcommand declared_top declared_flat.top))
 
 -- the command declares no more than this, for itself alone
 pub record DeclaresOwn (app : App) (command : Command) : Type 0 where
@@ -72,6 +102,8 @@ pub record IsFlat (found : List Row) (flat : Flat) : Type 0 where
   pub text : Text
   pub given : first_of (codes "frames") found ≡ Some text
   pub frames : Writes text flat.frames
+  -- a flag that is given has this value
+  pub tlb : IsTrue flat.tlb ↔ (first_of (codes "tlb") found ≡ Some (codes "true"))
   pub file : first_of (codes "FILE") found ≡ Some flat.file.now
   pub script : first_of (codes "SCRIPT") found ≡ Some flat.script.now
 
@@ -88,8 +120,22 @@ pub record IsMkfs (found : List Row) (mkfs : Mkfs) : Type 0 where
 pub record IsCheck (found : List Row) (check : Check) : Type 0 where
   pub image : first_of (codes "IMAGE") found ≡ Some check.image.now
 
+pub record IsLs (found : List Row) (ls : Ls) : Type 0 where
+  pub image : first_of (codes "IMAGE") found ≡ Some ls.image.now
+  pub path : first_of (codes "PATH") found ≡ Some ls.path.now
+
+pub record IsAsm (found : List Row) (asm : Asm) : Type 0 where
+  pub text : first_of (codes "TEXT") found ≡ Some asm.text.now
+  pub elf : first_of (codes "ELF") found ≡ Some asm.elf.now
+
+pub record IsDump (found : List Row) (dump : Dump) : Type 0 where
+  pub elf : first_of (codes "ELF") found ≡ Some dump.elf.now
+
 -- the job is the command found, with its words
 abbrev pub IsJob : Option (Text × List Row) → Job → Type 0
 IsJob found (job.Flat flat) = (rows : List Row) × (found ≡ Some (codes "flat", rows)) × IsFlat rows flat
 IsJob found (job.Mkfs mkfs) = (rows : List Row) × (found ≡ Some (codes "mkfs", rows)) × IsMkfs rows mkfs
 IsJob found (job.Check check) = (rows : List Row) × (found ≡ Some (codes "check", rows)) × IsCheck rows check
+IsJob found (job.Ls ls) = (rows : List Row) × (found ≡ Some (codes "ls", rows)) × IsLs rows ls
+IsJob found (job.Asm asm) = (rows : List Row) × (found ≡ Some (codes "asm", rows)) × IsAsm rows asm
+IsJob found (job.Dump dump) = (rows : List Row) × (found ≡ Some (codes "dump", rows)) × IsDump rows dump

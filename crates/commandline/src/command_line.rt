@@ -1,11 +1,11 @@
 //! What the words of a command line ask for.
-ghost use Rattle.std.specs.Prelude.{◌≡◌, IfOk, IfSome, Some, codes, false, map};
+ghost use Rattle.std.specs.Prelude.{◌≡◌, ◌↔◌, IfOk, IfSome, IsTrue, Some, codes, false, map};
 ghost use Rattle.clap.specs.Words.{App, app_of, first_of, found_of, new_app, rows_of, rule_of, subcommand_of, subcommand_rows_of, with_subcommand};
-ghost use Rattle.commandline.specs.Declarations.{AddsRule, DeclaresOwn, IsJob, IsWritten, Writes, declared, declared_check, declared_flat, declared_mkfs, declared_top, number_rule, word_rule};
+ghost use Rattle.commandline.specs.Declarations.{AddsRule, DeclaresOwn, IsJob, IsWritten, Writes, declared, declared_asm, declared_check, declared_dump, declared_flat, declared_ls, declared_mkfs, declared_top, flag_rule, number_rule, with_images, with_programs, word_rule};
 
-use crate::jobs::{Check, Flat, Job, Mkfs};
+use crate::jobs::{Asm, Check, Dump, Flat, Job, Ls, Mkfs};
 use clap::error::ErrorKind;
-use clap::{Arg, ArgMatches, Command, Error, value_parser};
+use clap::{Arg, ArgAction, ArgMatches, Command, Error, value_parser};
 use std::alloc::{AllocError, Global};
 
 const EXAMPLE: &str = "\
@@ -30,8 +30,21 @@ A disk image is made of what a manifest lists, one entry a line, a directory bef
 
 xv6 mkfs --size 64 --inodes 16 manifest.txt disk.img
 xv6 check disk.img
+xv6 ls disk.img /bin
 
-The second prints `ok 4 inodes 3 blocks`: what is in use.";
+The second prints `ok 4 inodes 3 blocks`: what is in use. The third prints a line for each entry:
+its name, its type (1 a directory, 2 a file, 3 a device), its inode and its size.
+
+Programs are written as assembly texts:
+
+    start:  li a7, 11       # getpid
+            ecall
+            j start
+
+xv6 asm start.s start
+xv6 dump start
+
+The second prints a line for each word, the first `00000000: 000008b7 lui a7, 0x0`.";
 
 // An option with a number.
 fn number<'a>(alloc: Global, name: &'a str, default: &'a str, help: &'a str) -> Arg<'a>
@@ -57,6 +70,29 @@ fn with_number<'a>(
     ensures { AddsRule (number_rule name.now default.now) command.entry result }
 {
     command?.arg(number(alloc, name, default, help))
+}
+
+// A flag, which is left out or given once.
+fn flag<'a>(alloc: Global, name: &'a str, help: &'a str) -> Arg<'a>
+    ensures rule { rule_of result ≡ flag_rule name.now }
+    ensures local { result.global ≡ false }
+{
+    Arg::new(alloc, name)
+        .long(name)
+        .help(help)
+        .action(ArgAction::SetTrue)
+}
+
+// The command with a flag.
+fn with_flag<'a>(
+    alloc: Global,
+    command: Result<Command<'a>, AllocError>,
+    name: &'a str,
+    help: &'a str,
+) -> Result<Command<'a>, AllocError>
+    ensures { AddsRule (flag_rule name.now) command.entry result }
+{
+    command?.arg(flag(alloc, name, help))
 }
 
 // The command with a word that has to be there.
@@ -85,13 +121,15 @@ fn flat_command<'a>(alloc: Global) -> Result<Command<'a>, AllocError>
     let file = "The program: instructions and bytes, from address 0 on";
     let script = "What happens: lines `step N`, `tick N`, `keys HEX` and `type TEXT`";
     let frames = "Frames of 4096 bytes, 64 to 32768";
+    let tlb = "Remembers translations, so that most accesses walk no page table";
     let bare = named(
         alloc,
         "flat",
         "Boots a flat program and runs a script of events",
     );
     let numbered = with_number(alloc, bare, "frames", "256", frames);
-    let filed = with_word(alloc, numbered, "FILE", file);
+    let flagged = with_flag(alloc, numbered, "tlb", tlb);
+    let filed = with_word(alloc, flagged, "FILE", file);
     with_word(alloc, filed, "SCRIPT", script)
 }
 
@@ -115,6 +153,32 @@ fn check_command<'a>(alloc: Global) -> Result<Command<'a>, AllocError>
 {
     let bare = named(alloc, "check", "Checks that a disk image denotes files");
     with_word(alloc, bare, "IMAGE", "The image")
+}
+
+// The command `ls`.
+fn ls_command<'a>(alloc: Global) -> Result<Command<'a>, AllocError>
+    ensures { IfOk result (DeclaresOwn declared_ls) }
+{
+    let bare = named(alloc, "ls", "Lists a directory of a disk image");
+    let imaged = with_word(alloc, bare, "IMAGE", "The image");
+    with_word(alloc, imaged, "PATH", "The directory's path, from the root")
+}
+
+// The command `asm`.
+fn asm_command<'a>(alloc: Global) -> Result<Command<'a>, AllocError>
+    ensures { IfOk result (DeclaresOwn declared_asm) }
+{
+    let bare = named(alloc, "asm", "Makes a program file of an assembly text");
+    let read = with_word(alloc, bare, "TEXT", "The text");
+    with_word(alloc, read, "ELF", "The program's file, which is written")
+}
+
+// The command `dump`.
+fn dump_command<'a>(alloc: Global) -> Result<Command<'a>, AllocError>
+    ensures { IfOk result (DeclaresOwn declared_dump) }
+{
+    let bare = named(alloc, "dump", "Shows the instructions of a program file");
+    with_word(alloc, bare, "ELF", "The program's file")
 }
 
 // The command line without its commands, of which one has to be there.
@@ -142,13 +206,30 @@ fn with_command<'a>(
     }
 }
 
+// The command with those that work on disk images.
+fn with_images<'a>(alloc: Global, command: Command<'a>) -> Result<Command<'a>, AllocError>
+    ensures { IfOk result (λ new. app_of new ≡ with_images (app_of command.entry)) }
+{
+    let one = with_command(command, mkfs_command(alloc))?;
+    let two = with_command(one, check_command(alloc))?;
+    with_command(two, ls_command(alloc))
+}
+
+// The command with those that work on the texts and the files of programs.
+fn with_programs<'a>(alloc: Global, command: Command<'a>) -> Result<Command<'a>, AllocError>
+    ensures { IfOk result (λ new. app_of new ≡ with_programs (app_of command.entry)) }
+{
+    let one = with_command(command, asm_command(alloc))?;
+    with_command(one, dump_command(alloc))
+}
+
 // The whole command line.
 fn command<'a>(alloc: Global) -> Result<Command<'a>, AllocError>
     ensures { IfOk result (λ command. app_of command ≡ declared) }
 {
     let flat = with_command(bare_command(alloc), flat_command(alloc))?;
-    let both = with_command(flat, mkfs_command(alloc))?;
-    with_command(both, check_command(alloc))
+    let imaged = with_images(alloc, flat)?;
+    with_programs(alloc, imaged)
 }
 
 // The word that was found of this name.
@@ -175,15 +256,27 @@ fn number_found<'a>(found: &ArgMatches<'a>, name: &str) -> Option<u32>
     number_of(word_found(found, name)?)
 }
 
+// Whether the flag of this name was found.
+fn flag_found<'a>(found: &ArgMatches<'a>, name: &str) -> bool
+    ensures { IsTrue result ↔ (first_of name.now (rows_of (found_of found.now)) ≡ Some (codes "true")) }
+{
+    match found.get_str(name) {
+        Some(word) => word == "true",
+        None => false,
+    }
+}
+
 // What the words after `flat` ask for.
 fn flat<'a>(found: &ArgMatches<'a>) -> Option<Job<'a>>
     ensures { IfSome result (IsJob (Some (codes "flat", rows_of (found_of found.now)))) }
 {
     let frames = number_found(found, "frames")?;
+    let tlb = flag_found(found, "tlb");
     let file = word_found(found, "FILE")?;
     let script = word_found(found, "SCRIPT")?;
     Some(Job::Flat(Flat {
         frames,
+        tlb,
         file,
         script,
     }))
@@ -213,6 +306,32 @@ fn check<'a>(found: &ArgMatches<'a>) -> Option<Job<'a>>
     Some(Job::Check(Check { image }))
 }
 
+// What the words after `ls` ask for.
+fn ls<'a>(found: &ArgMatches<'a>) -> Option<Job<'a>>
+    ensures { IfSome result (IsJob (Some (codes "ls", rows_of (found_of found.now)))) }
+{
+    let image = word_found(found, "IMAGE")?;
+    let path = word_found(found, "PATH")?;
+    Some(Job::Ls(Ls { image, path }))
+}
+
+// What the words after `asm` ask for.
+fn asm<'a>(found: &ArgMatches<'a>) -> Option<Job<'a>>
+    ensures { IfSome result (IsJob (Some (codes "asm", rows_of (found_of found.now)))) }
+{
+    let text = word_found(found, "TEXT")?;
+    let elf = word_found(found, "ELF")?;
+    Some(Job::Asm(Asm { text, elf }))
+}
+
+// What the word after `dump` asks for.
+fn dump<'a>(found: &ArgMatches<'a>) -> Option<Job<'a>>
+    ensures { IfSome result (IsJob (Some (codes "dump", rows_of (found_of found.now)))) }
+{
+    let elf = word_found(found, "ELF")?;
+    Some(Job::Dump(Dump { elf }))
+}
+
 // The job that was found.
 fn job_found<'a>(matches: &ArgMatches<'a>) -> Option<Job<'a>>
     ensures { IfSome result (IsJob (subcommand_rows_of matches.now)) }
@@ -223,7 +342,16 @@ fn job_found<'a>(matches: &ArgMatches<'a>) -> Option<Job<'a>>
     if let Some(found) = matches.subcommand_matches("mkfs") {
         return mkfs(found);
     }
-    check(matches.subcommand_matches("check")?)
+    if let Some(found) = matches.subcommand_matches("check") {
+        return check(found);
+    }
+    if let Some(found) = matches.subcommand_matches("ls") {
+        return ls(found);
+    }
+    if let Some(found) = matches.subcommand_matches("asm") {
+        return asm(found);
+    }
+    dump(matches.subcommand_matches("dump")?)
 }
 
 // Why the words are no job, where the command line let them pass: a number has a sign.

@@ -9,6 +9,12 @@ pub enum Job<'a> {
     Mkfs(Mkfs<'a>),
     /// Checks a disk image.
     Check(Check<'a>),
+    /// Lists a directory of a disk image.
+    Ls(Ls<'a>),
+    /// Assembles a text.
+    Asm(Asm<'a>),
+    /// Shows the instructions of a program file.
+    Dump(Dump<'a>),
 }
 
 /// The words of the command `flat`.
@@ -16,6 +22,8 @@ pub enum Job<'a> {
 pub struct Flat<'a> {
     /// How many frames the memory has.
     pub frames: u32,
+    /// Whether the translator remembers translations.
+    pub tlb: bool,
     /// The name of the program's file.
     pub file: &'a str,
     /// The name of the script's file.
@@ -40,4 +48,29 @@ pub struct Mkfs<'a> {
 pub struct Check<'a> {
     /// The name of the image's file.
     pub image: &'a str,
+}
+
+/// The words of the command `ls`.
+#[derive(Clone, Copy, PartialEq, Eq)]
+pub struct Ls<'a> {
+    /// The name of the image's file.
+    pub image: &'a str,
+    /// The path of the directory, from the root.
+    pub path: &'a str,
+}
+
+/// The words of the command `asm`.
+#[derive(Clone, Copy, PartialEq, Eq)]
+pub struct Asm<'a> {
+    /// The name of the text's file.
+    pub text: &'a str,
+    /// The name of the program's file, which is written.
+    pub elf: &'a str,
+}
+
+/// The word of the command `dump`.
+#[derive(Clone, Copy, PartialEq, Eq)]
+pub struct Dump<'a> {
+    /// The name of the program's file.
+    pub elf: &'a str,
 }

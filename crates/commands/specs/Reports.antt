@@ -4,12 +4,18 @@ use Rattle.calls.specs.declared.halt.Halt.{Halt}
 use Rattle.calls.specs.declared.halt.Halt.TheVariants as halt
 use Rattle.commands.specs.declared.report.End.{End}
 use Rattle.commands.specs.declared.report.End.TheVariants.{Halted, Running}
+use Rattle.elf.specs.declared.ElfFault.{ElfFault}
+use Rattle.elf.specs.declared.ElfFault.TheVariants as program
 use Rattle.imagecheck.specs.declared.ImageFault.{ImageFault}
 use Rattle.imagecheck.specs.declared.ImageFault.TheVariants as image
 use Rattle.imagemake.specs.declared.manifest.MakeFault.{MakeFault}
 use Rattle.imagemake.specs.declared.manifest.MakeFault.TheVariants as make
 use Rattle.machine.specs.declared.fault.BootFault.{BootFault}
 use Rattle.machine.specs.declared.fault.BootFault.TheVariants as boot
+use Rattle.tree.specs.declared.TreeFault.{TreeFault}
+use Rattle.tree.specs.declared.TreeFault.TheVariants as tree
+use Rattle.unixmodel.specs.declared.assembly.AsmKind.{AsmKind}
+use Rattle.unixmodel.specs.declared.assembly.AsmKind.TheVariants as assembly
 
 -- 0 where the script came to its end, or process 1 has ended
 abbrev pub status_of : End → ℕ
@@ -87,3 +93,65 @@ boot_name boot.FrameCount = codes "FrameCount"
 boot_name boot.Device = codes "Device"
 boot_name boot.NoMemory = codes "NoMemory"
 boot_name boot.NoInit = codes "NoInit"
+
+abbrev pub tree_number : TreeFault → ℕ
+tree_number tree.NotFound = 1
+tree_number tree.NotDir = 2
+tree_number tree.Exists = 3
+tree_number tree.IsDir = 4
+tree_number tree.NotEmpty = 5
+tree_number tree.DotName = 6
+tree_number tree.DeadDir = 7
+tree_number tree.Links = 8
+tree_number tree.Blocks = 9
+tree_number tree.Inodes = 10
+tree_number tree.Full = 11
+tree_number tree.Device = 12
+
+abbrev pub tree_name : TreeFault → List ℕ
+tree_name tree.NotFound = codes "NotFound"
+tree_name tree.NotDir = codes "NotDir"
+tree_name tree.Exists = codes "Exists"
+tree_name tree.IsDir = codes "IsDir"
+tree_name tree.NotEmpty = codes "NotEmpty"
+tree_name tree.DotName = codes "DotName"
+tree_name tree.DeadDir = codes "DeadDir"
+tree_name tree.Links = codes "Links"
+tree_name tree.Blocks = codes "Blocks"
+tree_name tree.Inodes = codes "Inodes"
+tree_name tree.Full = codes "Full"
+tree_name tree.Device = codes "Device"
+
+abbrev pub assembly_number : AsmKind → ℕ
+assembly_number assembly.Syntax = 1
+assembly_number assembly.Mnemonic = 2
+assembly_number assembly.Operand = 3
+assembly_number assembly.Range = 4
+assembly_number assembly.Label = 5
+assembly_number assembly.Twice = 6
+assembly_number assembly.Align = 7
+assembly_number assembly.NoMemory = 8
+
+abbrev pub assembly_name : AsmKind → List ℕ
+assembly_name assembly.Syntax = codes "Syntax"
+assembly_name assembly.Mnemonic = codes "Mnemonic"
+assembly_name assembly.Operand = codes "Operand"
+assembly_name assembly.Range = codes "Range"
+assembly_name assembly.Label = codes "Label"
+assembly_name assembly.Twice = codes "Twice"
+assembly_name assembly.Align = codes "Align"
+assembly_name assembly.NoMemory = codes "NoMemory"
+
+abbrev pub program_number : ElfFault → ℕ
+program_number program.Magic = 1
+program_number program.Sizes = 2
+program_number program.Align = 3
+program_number program.Overlap = 4
+program_number program.Short = 5
+
+abbrev pub program_name : ElfFault → List ℕ
+program_name program.Magic = codes "Magic"
+program_name program.Sizes = codes "Sizes"
+program_name program.Align = codes "Align"
+program_name program.Overlap = codes "Overlap"
+program_name program.Short = codes "Short"

@@ -6,6 +6,6 @@ pub mod perform;
 mod play;
 mod report;
 
-pub use commandline::{Check, Flat, Job, Mkfs, job};
+pub use commandline::{Asm, Check, Dump, Flat, Job, Ls, Mkfs, job};
 pub use host::{Host, HostFault};
 pub use report::refuse;

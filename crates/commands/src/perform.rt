@@ -3,17 +3,19 @@ ghost use Rattle.std.specs.Prelude.{◌≡◌};
 ghost use Rattle.commands.specs.Reports.{end_of};
 
 mod images;
+mod program_files;
 
 use crate::host::Host;
 use crate::play::play;
 use crate::report::{End, Failure, print, tell};
-use commandline::{Check, Flat, Job, Mkfs};
+use commandline::{Asm, Check, Dump, Flat, Job, Ls, Mkfs};
 use console::Writer;
 use image::Summary;
-use machine::{Halt, boot_flat};
+use machine::{Halt, boot_flat_with};
 use std::alloc::Global;
 use std::fmt;
 use std::io::Write;
+use sv39::{Plain, Tlb, Translate};
 use texts::{Command, TextFault, parse};
 
 // A file's bytes.
@@ -61,15 +63,16 @@ fn end_of(ended: Result<(), Halt>, is_written: bool) -> End
     }
 }
 
-// Boots a flat program and gives it the events of a script.
-fn run_flat<'a, W: Write>(
+// Boots a flat program over a translator and gives it the events of a script.
+fn run_flat<'a, T: Translate + Drop, W: Write>(
     alloc: Global,
     program: &[u8],
+    translator: T,
     frames: u32,
     script: &[Command<'_>],
     stdout: &mut W,
 ) -> Result<End, Failure<'a>> {
-    let mut machine = match boot_flat(alloc, program, frames) {
+    let mut machine = match boot_flat_with(alloc, program, translator, frames) {
         Ok(machine) => machine,
         Err(fault) => return Err(Failure::Boot(fault)),
     };
@@ -89,13 +92,13 @@ fn flat<'a, H: Host, W: Write>(
     let program = read(host, words.file)?;
     let bytes = read(host, words.script)?;
     let script = script_of(alloc, words.script, bytes.as_slice())?;
-    run_flat(
-        alloc,
-        program.as_slice(),
-        words.frames,
-        script.as_slice(),
-        stdout,
-    )
+    let (program, script) = (program.as_slice(), script.as_slice());
+    if words.tlb {
+        let cache = Tlb::<64>::new();
+        run_flat(alloc, program, cache, words.frames, script, stdout)
+    } else {
+        run_flat(alloc, program, Plain::new(), words.frames, script, stdout)
+    }
 }
 
 // Boots a flat program, runs a script, and tells how that ended.
@@ -122,12 +125,8 @@ fn perform_mkfs<H: Host, E: Write>(
     host: &mut H,
     stderr: &mut E,
 ) -> u8 {
-    let text = match read(host, words.manifest) {
-        Ok(text) => text,
-        Err(failure) => return tell(&failure, stderr),
-    };
-    match images::mkfs(alloc, words, text.as_slice(), host) {
-        Ok(()) => 0,
+    match read(host, words.manifest) {
+        Ok(text) => perform_quietly(images::mkfs(alloc, words, text.as_slice(), host), stderr),
         Err(failure) => tell(&failure, stderr),
     }
 }
@@ -146,8 +145,16 @@ fn perform_check<H: Host, W: Write, E: Write>(
     }
 }
 
+// Tells what was wrong, if anything was.
+fn perform_quietly<E: Write>(done: Result<(), Failure<'_>>, stderr: &mut E) -> u8 {
+    match done {
+        Ok(()) => 0,
+        Err(failure) => tell(&failure, stderr),
+    }
+}
+
 /// Does the job, with the host's files, and answers the status to exit with: 0 where it was done.
-/// The console's bytes and what a check finds go to `stdout`, and all else that is told to `stderr`.
+/// The console's bytes and what is found or listed go to `stdout`, and all else that is told to `stderr`.
 pub fn perform<H: Host, W: Write, E: Write>(
     alloc: Global,
     job: &Job<'_>,
@@ -159,5 +166,11 @@ pub fn perform<H: Host, W: Write, E: Write>(
         Job::Flat(words) => perform_flat(alloc, words, host, stdout, stderr),
         Job::Mkfs(words) => perform_mkfs(alloc, words, host, stderr),
         Job::Check(words) => perform_check(alloc, words, host, stdout, stderr),
+        Job::Ls(words) => perform_quietly(images::ls(alloc, words, host, stdout), stderr),
+        Job::Asm(words) => perform_quietly(program_files::asm(alloc, words, host), stderr),
+        Job::Dump(words) => perform_quietly(
+            program_files::dump(alloc, words, host, stdout),
+            stderr,
+        ),
     }
 }

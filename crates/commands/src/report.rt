@@ -1,13 +1,16 @@
 //! What the program tells of how a job ended.
 ghost use Rattle.std.specs.Prelude.{◌≡◌};
-ghost use Rattle.commands.specs.Reports.{boot_name, boot_number, image_name, image_number, make_name, make_number, status_of};
+ghost use Rattle.commands.specs.Reports.{assembly_name, assembly_number, boot_name, boot_number, image_name, image_number, make_name, make_number, program_name, program_number, status_of, tree_name, tree_number};
 
+use asm::{AsmFault, AsmKind};
 use clap::Error;
 use clap::error::ErrorKind;
+use elf::ElfFault;
 use image::{ImageFault, MakeFault};
 use machine::{BootFault, Halt};
 use std::fmt;
 use std::io::Write;
+use tree::TreeFault;
 
 /// How a run ended.
 #[derive(Clone, Copy)]
@@ -59,6 +62,12 @@ pub enum Failure<'a> {
     Make(MakeFault),
     /// The image does not denote files.
     Image(ImageFault),
+    /// The path is no directory of the image.
+    Tree(TreeFault),
+    /// The text is not assembled.
+    Assembly(AsmFault),
+    /// The file is no program.
+    Program(ElfFault),
     /// Standard output took not all that was written to it.
     Output,
     /// The program itself found no memory.
@@ -75,6 +84,13 @@ impl fmt::Display for Failure<'_> {
             Failure::Boot(fault) => write_fault(f, boot_fault(*fault)),
             Failure::Make(fault) => write_fault(f, make_fault(*fault)),
             Failure::Image(fault) => write_fault(f, image_fault(*fault)),
+            Failure::Tree(fault) => write_fault(f, tree_fault(*fault)),
+            Failure::Assembly(fault) => {
+                let line = fault.line;
+                let Fault { number, name } = assembly_fault(fault.kind);
+                write!(f, "line {line}: {number} {name}")
+            }
+            Failure::Program(fault) => write_fault(f, program_fault(*fault)),
             Failure::Output => write!(f, "cannot write standard output"),
             Failure::NoMemory => write!(f, "no memory"),
         }
@@ -152,6 +168,58 @@ fn image_fault(fault: ImageFault) -> Fault
         ImageFault::Unreached => Fault::new(11, "Unreached"),
         ImageFault::Device => Fault::new(12, "Device"),
         ImageFault::NoMemory => Fault::new(13, "NoMemory"),
+    }
+}
+
+// Why a path is no directory.
+fn tree_fault(fault: TreeFault) -> Fault
+    ensures number { result.number ≡ tree_number fault }
+    ensures name { result.name.now ≡ tree_name fault }
+{
+    match fault {
+        TreeFault::NotFound => Fault::new(1, "NotFound"),
+        TreeFault::NotDir => Fault::new(2, "NotDir"),
+        TreeFault::Exists => Fault::new(3, "Exists"),
+        TreeFault::IsDir => Fault::new(4, "IsDir"),
+        TreeFault::NotEmpty => Fault::new(5, "NotEmpty"),
+        TreeFault::DotName => Fault::new(6, "DotName"),
+        TreeFault::DeadDir => Fault::new(7, "DeadDir"),
+        TreeFault::Links => Fault::new(8, "Links"),
+        TreeFault::Blocks => Fault::new(9, "Blocks"),
+        TreeFault::Inodes => Fault::new(10, "Inodes"),
+        TreeFault::Full => Fault::new(11, "Full"),
+        TreeFault::Device => Fault::new(12, "Device"),
+    }
+}
+
+// What is wrong with a line of an assembly text.
+fn assembly_fault(kind: AsmKind) -> Fault
+    ensures number { result.number ≡ assembly_number kind }
+    ensures name { result.name.now ≡ assembly_name kind }
+{
+    match kind {
+        AsmKind::Syntax => Fault::new(1, "Syntax"),
+        AsmKind::Mnemonic => Fault::new(2, "Mnemonic"),
+        AsmKind::Operand => Fault::new(3, "Operand"),
+        AsmKind::Range => Fault::new(4, "Range"),
+        AsmKind::Label => Fault::new(5, "Label"),
+        AsmKind::Twice => Fault::new(6, "Twice"),
+        AsmKind::Align => Fault::new(7, "Align"),
+        AsmKind::NoMemory => Fault::new(8, "NoMemory"),
+    }
+}
+
+// Why a file is no program.
+fn program_fault(fault: ElfFault) -> Fault
+    ensures number { result.number ≡ program_number fault }
+    ensures name { result.name.now ≡ program_name fault }
+{
+    match fault {
+        ElfFault::Magic => Fault::new(1, "Magic"),
+        ElfFault::Sizes => Fault::new(2, "Sizes"),
+        ElfFault::Align => Fault::new(3, "Align"),
+        ElfFault::Overlap => Fault::new(4, "Overlap"),
+        ElfFault::Short => Fault::new(5, "Short"),
     }
 }
 

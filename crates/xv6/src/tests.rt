@@ -1,5 +1,6 @@
 //! Stored runs: jobs done with files in memory, and what they have to write.
 mod images;
+mod program_files;
 mod words;
 
 use commands::perform::perform;
@@ -91,12 +92,27 @@ fn expect(
     expect_told(rt, told, stdout, stderr, status);
 }
 
-fn flat(frames: u32) -> Job<'static> {
+fn flat(frames: u32, tlb: bool) -> Job<'static> {
     Job::Flat(Flat {
         frames,
+        tlb,
         file: "program",
         script: "script",
     })
+}
+
+// Runs a flat program with each translator: either has to write these texts, and to exit with this status.
+fn expect_flat(
+    rt: &(impl Abort + AllocGlobal),
+    files: &mut Files,
+    frames: u32,
+    stdout: &str,
+    stderr: &str,
+    status: u8,
+) {
+    for tlb in [false, true] {
+        expect(rt, files, &flat(frames, tlb), stdout, stderr, status);
+    }
 }
 
 // The bytes of a program's words.
@@ -122,7 +138,7 @@ fn expect_runs(rt: &(impl Abort + AllocGlobal), runs: &[Run]) {
     for (frames, words, script, stdout, stderr, status) in runs {
         let program = program_of(rt.alloc(), words).expect(rt, "memory");
         let mut files = files_of(rt.alloc(), program, script.as_bytes()).expect(rt, "memory");
-        expect(rt, &mut files, &flat(*frames), stdout, stderr, *status);
+        expect_flat(rt, &mut files, *frames, stdout, stderr, *status);
     }
 }
 
@@ -157,7 +173,7 @@ fn says_hi_and_ends(rt: HostRuntime) {
     for (script, stdout, stderr) in &GREETINGS {
         let program = hello(rt.alloc()).expect(&rt, "memory");
         let mut files = files_of(rt.alloc(), program, script.as_bytes()).expect(&rt, "memory");
-        expect(&rt, &mut files, &flat(256), stdout, stderr, 0);
+        expect_flat(&rt, &mut files, 256, stdout, stderr, 0);
     }
 }
 
@@ -177,7 +193,7 @@ fn boots_what_fits(rt: HostRuntime) {
     for (frames, length, script, line, status) in &BOOTS {
         let program = vec![in alloc; 0u8; *length].expect(&rt, "memory");
         let mut files = files_of(alloc, program, script.as_bytes()).expect(&rt, "memory");
-        expect(&rt, &mut files, &flat(*frames), "", line, *status);
+        expect_flat(&rt, &mut files, *frames, "", line, *status);
     }
 }
 
@@ -441,7 +457,7 @@ fn tells_bad_scripts(rt: HostRuntime) {
     for (script, line) in &BAD_SCRIPTS {
         let program = hello(rt.alloc()).expect(&rt, "memory");
         let mut files = files_of(rt.alloc(), program, script.as_bytes()).expect(&rt, "memory");
-        expect(&rt, &mut files, &flat(256), "", line, 1);
+        expect_flat(&rt, &mut files, 256, "", line, 1);
     }
 }
 
@@ -461,6 +477,7 @@ fn reads_files_in_order(rt: HostRuntime) {
         let mut files = files_of(rt.alloc(), program, text).expect(&rt, "memory");
         let job = Job::Flat(Flat {
             frames: 1,
+            tlb: false,
             file,
             script,
         });
@@ -532,6 +549,6 @@ fn halts_where_the_console_fails(rt: HostRuntime) {
     let program = hello(rt.alloc()).expect(&rt, "memory");
     let mut files = files_of(rt.alloc(), program, b"step 9").expect(&rt, "memory");
     for row in &CONSOLES {
-        expect_narrow(&rt, &mut files, &flat(256), *row);
+        expect_narrow(&rt, &mut files, &flat(256, false), *row);
     }
 }

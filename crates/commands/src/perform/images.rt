@@ -1,4 +1,4 @@
-//! Makes and checks disk images.
+//! Makes, checks and lists disk images.
 ghost use Rattle.std.specs.Prelude.{◌≡◌, IfOk};
 ghost use Rattle.commands.specs.Entries.{IsEntryOf};
 
@@ -6,9 +6,11 @@ use crate::host::Host;
 use crate::perform::read;
 use crate::report::Failure;
 use blockdev::MemDisk;
-use commandline::{Check, Mkfs};
+use commandline::{Check, Ls, Mkfs};
 use image::{Entry, ImageFault, MakeFault, Manifest, Summary, Thing};
+use listings::{ListingFault, write_directory};
 use std::alloc::{AllocError, Global};
+use std::io::Write;
 use texts::{Line, TextFault, parse};
 
 // What the lines of a manifest say; the text has to be one.
@@ -96,18 +98,43 @@ pub fn mkfs<'a, H: Host>(
     }
 }
 
+// The disk of this image.
+fn disk_of<'a>(bytes: Vec<u8>) -> Result<MemDisk, Failure<'a>> {
+    match MemDisk::new(bytes) {
+        Ok(disk) => Ok(disk),
+        Err(_) => Err(Failure::Image(ImageFault::Length)),
+    }
+}
+
 /// The command `check`.
 pub fn check<'a, H: Host>(
     alloc: Global,
     words: Check<'a>,
     host: &mut H,
 ) -> Result<Summary, Failure<'a>> {
-    let bytes = read(host, words.image)?;
-    let Ok(mut disk) = MemDisk::new(bytes) else {
-        return Err(Failure::Image(ImageFault::Length));
-    };
+    let mut disk = disk_of(read(host, words.image)?)?;
     match image::check(alloc, &mut disk) {
         Ok(summary) => Ok(summary),
         Err(fault) => Err(Failure::Image(fault)),
+    }
+}
+
+/// The command `ls`. The image is checked before anything is listed.
+pub fn ls<'a, H: Host, W: Write>(
+    alloc: Global,
+    words: Ls<'a>,
+    host: &mut H,
+    stdout: &mut W,
+) -> Result<(), Failure<'a>> {
+    let disk = disk_of(read(host, words.image)?)?;
+    match write_directory(alloc, disk, words.path.as_bytes(), stdout) {
+        Ok(()) => {}
+        Err(ListingFault::Image(fault)) => return Err(Failure::Image(fault)),
+        Err(ListingFault::Tree(fault)) => return Err(Failure::Tree(fault)),
+        Err(ListingFault::Output) => return Err(Failure::Output),
+    }
+    match stdout.flush() {
+        Ok(()) => Ok(()),
+        Err(_) => Err(Failure::Output),
     }
 }

@@ -1,6 +1,6 @@
 //! Stored runs of the commands on disk images.
 use crate::tests::{Files, expect, expect_narrow, files_of};
-use commands::{Check, Job, Mkfs};
+use commands::{Check, Job, Ls, Mkfs};
 use std::process::Abort;
 
 const CHECK: Job<'static> = Job::Check(Check { image: "image" });
@@ -287,4 +287,94 @@ static CYCLE: [(usize, u8); 8] = [
 #[test]
 fn tells_directories_that_are_not_reached(rt: HostRuntime) {
     expect_refused(&rt, "dir /a\ndir /a/b", &CYCLE, "fault 11 Unreached\n");
+}
+
+fn ls(path: &str) -> Job<'_> {
+    Job::Ls(Ls {
+        image: "image",
+        path,
+    })
+}
+
+// A root with a console, a file of 1000 bytes and a directory that has another and a name of 14 bytes.
+const LISTED: &str =
+    "dev /console 1 0\nfile /a host\ndir /b\ndir /b/c\ndev /b/fourteen_bytes 9 9\n";
+
+const ROOT_LIST: &str =
+    ".              1     1     80\n..             1     1     80\nconsole        3     2      0\n\
+    a              2     3   1000\nb              1     4     64\n";
+
+// Paths, standard output, standard error and status.
+static LISTS: [(&str, &str, &str, u8); 11] = [
+    ("/", ROOT_LIST, "", 0),
+    ("", ROOT_LIST, "", 0),
+    ("b/..", ROOT_LIST, "", 0),
+    (
+        "/b",
+        ".              1     4     64\n..             1     1     80\nc              1     5     32\nfourteen_bytes 3     6      0\n",
+        "",
+        0,
+    ),
+    (
+        "//b/c/",
+        ".              1     5     32\n..             1     4     64\n",
+        "",
+        0,
+    ),
+    ("/d", "", "fault 1 NotFound\n", 1),
+    ("/a/d", "", "fault 1 NotFound\n", 1),
+    ("/b/c/d", "", "fault 1 NotFound\n", 1),
+    ("/a", "", "fault 2 NotDir\n", 1),
+    ("console", "", "fault 2 NotDir\n", 1),
+    ("/b/fourteen_bytes_and_more", "", "fault 2 NotDir\n", 1),
+];
+
+#[test]
+fn lists_directories(rt: HostRuntime) {
+    let mut files = with_files(&rt, LISTED, 1000);
+    expect(&rt, &mut files, &mkfs(32, 16), "", "", 0);
+    for (path, stdout, stderr, status) in &LISTS {
+        expect(&rt, &mut files, &ls(path), stdout, stderr, *status);
+    }
+}
+
+#[test]
+fn lists_the_image_of_a_machine_without_a_disk(rt: HostRuntime) {
+    let list =
+        ".              1     1     48\n..             1     1     48\nconsole        3     2      0\n";
+    let mut files = with_files(&rt, "dev /console 1 0", 0);
+    expect(&rt, &mut files, &mkfs(32, 16), "", "", 0);
+    expect(&rt, &mut files, &ls("/"), list, "", 0);
+    expect_narrow(
+        &rt,
+        &mut files,
+        &ls("/"),
+        (
+            14,
+            true,
+            ".             ",
+            "cannot write standard output\n",
+            1,
+        ),
+    );
+    expect_narrow(
+        &rt,
+        &mut files,
+        &ls("/"),
+        (1000, false, list, "cannot write standard output\n", 1),
+    );
+    files.image.truncate(1024);
+    expect(&rt, &mut files, &ls("/"), "", "fault 1 Length\n", 1);
+    files.image.truncate(1023);
+    expect(&rt, &mut files, &ls("/"), "", "fault 1 Length\n", 1);
+}
+
+#[test]
+fn lists_no_image_that_is_missing(rt: HostRuntime) {
+    let mut files = with_files(&rt, "", 0);
+    let job = Job::Ls(Ls {
+        image: "nosuch",
+        path: "/",
+    });
+    expect(&rt, &mut files, &job, "", "cannot read nosuch\n", 1);
 }

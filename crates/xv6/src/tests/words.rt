@@ -1,13 +1,14 @@
 //! Stored words, and the jobs that they name.
 use crate::tests::output_of;
 use clap::error::ErrorKind;
-use commands::{Check, Flat, Job, Mkfs, job, refuse};
+use commands::{Asm, Check, Dump, Flat, Job, Ls, Mkfs, job, refuse};
 
-static JOBS: [(&[&str], Job<'static>); 5] = [
+static JOBS: [(&[&str], Job<'static>); 9] = [
     (
         &["xv6", "flat", "a", "b"],
         Job::Flat(Flat {
             frames: 256,
+            tlb: false,
             file: "a",
             script: "b",
         }),
@@ -16,8 +17,18 @@ static JOBS: [(&[&str], Job<'static>); 5] = [
         &["xv6", "flat", "--frames", "4294967295", "--", "a", "-b"],
         Job::Flat(Flat {
             frames: 4294967295,
+            tlb: false,
             file: "a",
             script: "-b",
+        }),
+    ),
+    (
+        &["xv6", "flat", "--tlb", "--frames=64", "a", "b"],
+        Job::Flat(Flat {
+            frames: 64,
+            tlb: true,
+            file: "a",
+            script: "b",
         }),
     ),
     (
@@ -39,6 +50,21 @@ static JOBS: [(&[&str], Job<'static>); 5] = [
         }),
     ),
     (&["xv6", "check", "b"], Job::Check(Check { image: "b" })),
+    (
+        &["xv6", "ls", "a", ""],
+        Job::Ls(Ls {
+            image: "a",
+            path: "",
+        }),
+    ),
+    (
+        &["xv6", "asm", "a", "b"],
+        Job::Asm(Asm {
+            text: "a",
+            elf: "b",
+        }),
+    ),
+    (&["xv6", "dump", "b"], Job::Dump(Dump { elf: "b" })),
 ];
 
 #[test]
@@ -49,7 +75,7 @@ fn knows_its_words(rt: HostRuntime) {
     }
 }
 
-static REFUSALS: [(&[&str], ErrorKind); 8] = [
+static REFUSALS: [(&[&str], ErrorKind); 11] = [
     (&["xv6", "--help", "", ""], ErrorKind::DisplayHelp),
     (&["xv6", "flat", "a", "--help"], ErrorKind::DisplayHelp),
     (&["xv6", "sharp", "a", "b"], ErrorKind::InvalidSubcommand),
@@ -57,6 +83,9 @@ static REFUSALS: [(&[&str], ErrorKind); 8] = [
         &["xv6", "flat", "--frames=1", "a"],
         ErrorKind::MissingRequiredArgument,
     ),
+    (&["xv6", "ls", "a"], ErrorKind::MissingRequiredArgument),
+    (&["xv6", "asm", "a"], ErrorKind::MissingRequiredArgument),
+    (&["xv6", "dump"], ErrorKind::MissingRequiredArgument),
     (
         &["xv6", "flat", "--frames=x", "a"],
         ErrorKind::ValueValidation,

@@ -12,6 +12,7 @@ returns c =
         text = frames.0;
         given = frames.1;
         frames = frames.2;
+        tlb = c.flag_found-tlb.ensures;
         file = c.in_ok-file.ensures;
         script = c.in_ok-script.ensures;
       },

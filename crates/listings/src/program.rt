@@ -1,0 +1,114 @@
+//! The instructions of a program file.
+
+use elf::{ElfFault, HEADER_SIZE, LoadSegment, PROGRAM_HEADER_SIZE, header, segment};
+use isa::Word;
+use std::alloc::Global;
+use std::io::Write;
+use std::{fmt, io};
+
+/// Why the instructions of a program file can't be told.
+#[derive(Clone, Copy)]
+pub enum ProgramFault {
+    /// The file is refused.
+    Refused(ElfFault),
+    /// The host has no memory.
+    NoMemory,
+}
+
+impl From<ElfFault> for ProgramFault {
+    ghost use Rattle.std.specs.Prelude.{◌≡◌};
+    ghost use Rattle.listings.specs.declared.program.ProgramFault.TheVariants.{Refused};
+
+    ghost from_gives = { λ fault told. told ≡ Refused fault };
+
+    fn from(fault: ElfFault) -> ProgramFault {
+        ProgramFault::Refused(fault)
+    }
+}
+
+// The first bytes of a file, with zeros behind a shorter one.
+fn front(file: &[u8]) -> [u8; HEADER_SIZE] {
+    let mut front = [0; HEADER_SIZE];
+    let known = file.len().min(HEADER_SIZE);
+    front[..known].copy_from_slice(&file[..known]);
+    front
+}
+
+// What stands in a file from a place on; nothing behind its end.
+fn behind(file: &[u8], at: u64) -> &[u8] {
+    file.get(at.min(file.len() as u64) as usize..)
+        .unwrap_or(&[])
+}
+
+/// The segments of a program file, in their order, if exec would take it.
+pub fn segments(alloc: Global, file: &[u8]) -> Result<Vec<LoadSegment>, ProgramFault> {
+    let len = file.len() as u64;
+    let header = header(&front(file), len)?;
+    let headers = behind(file, header.program_headers).chunks_exact(PROGRAM_HEADER_SIZE);
+    let mut segments = Vec::new(alloc);
+    let mut end = 0;
+    for told in headers.take(usize::from(header.count)) {
+        let mut bytes = [0; PROGRAM_HEADER_SIZE];
+        bytes.copy_from_slice(told);
+        if let Some(segment) = segment(&bytes, end, len)? {
+            end = segment.address.saturating_add(segment.size);
+            if segments.push(segment).is_err() {
+                return Err(ProgramFault::NoMemory);
+            }
+        }
+    }
+    Ok(segments)
+}
+
+// A word that stands at an address, of which the low 32 bits are shown.
+#[derive(Clone, Copy)]
+struct Line {
+    address: u32,
+    word: u32,
+}
+
+impl fmt::Display for Line {
+    fn fmt<W: fmt::Write>(&self, f: &mut fmt::Formatter<W>) -> fmt::Result {
+        let (address, word, text) = (self.address, self.word, Word(self.word));
+        write!(f, "{address:08x}: {word:08x} {text}")
+    }
+}
+
+// The number of 32 bits that four bytes spell, the lowest first.
+fn word_of(bytes: &[u8]) -> u32 {
+    let mut word = [0; 4];
+    let known = bytes.len().min(4);
+    word[..known].copy_from_slice(&bytes[..known]);
+    u32::from_le_bytes(word)
+}
+
+// Writes a line for each whole word that a segment has in its file.
+fn write_segment<W: Write>(file: &[u8], segment: &LoadSegment, out: &mut W) -> io::Result<()> {
+    let bytes = behind(file, segment.offset);
+    let size = segment.file_size.min(bytes.len() as u64) as usize;
+    let mut address = (segment.address % 0x1_0000_0000) as u32;
+    for word in bytes[..size].chunks_exact(4) {
+        let line = Line {
+            address,
+            word: word_of(word),
+        };
+        writeln!(out, "{line}")?;
+        address = address.wrapping_add(4);
+    }
+    Ok(())
+}
+
+/// Writes a line for each whole word of the segments that may be executed: its address, itself, and the instruction that it
+/// is.
+pub fn write_program<W: Write>(
+    file: &[u8],
+    segments: &[LoadSegment],
+    out: &mut W,
+) -> io::Result<()> {
+    for segment in segments {
+        if segment.executable {
+            write_segment(file, segment, out)?;
+        }
+    }
+    Ok(())
+}

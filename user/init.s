@@ -1,0 +1,87 @@
+# init: the first process. It opens the console, keeps a shell running, and never ends by itself.
+#
+# A program starts with the number of its arguments in a0, and in a1 the place where their addresses stand, with a 0 behind
+# the last. Functions and calls take arguments in a0, a1, .. and answer in a0, -1 for a refusal. Functions keep sp and s0 to
+# s11, calls all other registers but a7.
+
+start:      la a0, console          # descriptor 0 is the console, to read and to write
+            li a1, 2
+            jal ra, open
+            bge a0, zero, opened
+            la a0, console          # there is none yet: make it, the device 1, 0
+            li a1, 1
+            li a2, 0
+            jal ra, mknod
+            la a0, console
+            li a1, 2
+            jal ra, open
+opened:     li a0, 0                # descriptors 1 and 2 are the same open file
+            jal ra, dup
+            li a0, 0
+            jal ra, dup
+
+again:      li a0, 1
+            la a1, starting
+            jal ra, print
+            jal ra, fork
+            beq a0, zero, child
+            blt a0, zero, give_up   # no room for a shell
+            mv s0, a0
+
+waiting:    li a0, 0                # wait until the shell has ended; other children end here too, whose parents are gone
+            jal ra, wait
+            beq a0, s0, again
+            bge a0, zero, waiting
+            j again
+
+child:      la a0, shell            # the child becomes the shell, with its name as the only argument
+            la a1, arguments
+            sd a0, 0(a1)
+            jal ra, exec
+give_up:    li a0, 1
+            jal ra, exit
+
+# ---- functions
+
+# print(descriptor, text): writes a text that ends with a 0
+print:      mv a2, zero             # a2: its length
+measure:    add t0, a1, a2
+            lbu t0, 0(t0)
+            beq t0, zero, write
+            addi a2, a2, 1
+            j measure
+
+# ---- calls: the number goes into a7
+
+fork:       li a7, 1
+            ecall
+            ret
+exit:       li a7, 2
+            ecall
+wait:       li a7, 3
+            ecall
+            ret
+exec:       li a7, 7
+            ecall
+            ret
+dup:        li a7, 10
+            ecall
+            ret
+open:       li a7, 15
+            ecall
+            ret
+write:      li a7, 16
+            ecall
+            ret
+mknod:      li a7, 17
+            ecall
+            ret
+
+# ---- data
+
+console:    .ascii "console\0"
+starting:   .ascii "init: starting sh\n\0"
+shell:      .ascii "sh\0"
+            .pad 8
+arguments:  .dword 0                # the shell's name
+            .dword 0                # no more
