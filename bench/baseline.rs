@@ -1,11 +1,12 @@
 //! A plain Rust interpreter of the machine's design, to measure `xv6 flat` against: the memory is
-//! one block of frames, each access walks three levels of Sv39 tables in it, and each step decodes
-//! its instruction from the word. It knows RV64I, the calls fork, exit, wait, pipe, read, sbrk, write
-//! and close, 64 places of processes that take turns, pipes whose bytes lie in a frame, and a console
-//! with keys. A script's lines `step N`, `tick N` and `type TEXT` say what happens.
+//! one block of frames, each access walks three levels of Sv39 tables in it, or with `--tlb` looks
+//! first at what is remembered of 64 pages for each kind of access, and each step decodes its
+//! instruction from the word. It knows RV64I, the calls fork, exit, wait, pipe, read, sbrk, write and
+//! close, 64 places of processes that take turns, pipes whose bytes lie in a frame, and a console with
+//! keys. A script's lines `step N`, `tick N` and `type TEXT` say what happens.
 //!
 //!     rustc -O -o baseline baseline.rs
-//!     ./baseline FRAMES FILE SCRIPT
+//!     ./baseline [--tlb] FRAMES FILE SCRIPT
 
 use std::collections::VecDeque;
 use std::io::Write;
@@ -29,6 +30,20 @@ enum Access {
     Load,
     Store,
 }
+
+/// How many pages are remembered for each access.
+const KEPT: usize = 64;
+
+/// A page has a frame under a root.
+#[derive(Clone, Copy)]
+struct Kept {
+    page: u64,
+    root: u32,
+    frame: u32,
+}
+
+/// No address is on this page.
+const NOTHING: Kept = Kept { page: u64::MAX, root: 0, frame: 0 };
 
 enum Trap {
     Fault,
@@ -90,6 +105,7 @@ struct Process {
 }
 
 struct Machine {
+    kept: Option<[[Kept; KEPT]; 3]>,
     memory: Vec<u8>,
     free: Vec<u32>,
     places: [Option<Process>; 64],
@@ -108,8 +124,9 @@ struct Machine {
 }
 
 impl Machine {
-    fn new(frames: u32, program: &[u8]) -> Option<Machine> {
+    fn new(frames: u32, program: &[u8], keeps: bool) -> Option<Machine> {
         let mut machine = Machine {
+            kept: keeps.then_some([[NOTHING; KEPT]; 3]),
             memory: vec![0; frames as usize * FRAME],
             free: (0..frames).rev().collect(),
             places: [None; 64],
@@ -193,8 +210,16 @@ impl Machine {
         Some(frame)
     }
 
+    // Forgets every translation.
+    fn fence(&mut self) {
+        if let Some(kept) = &mut self.kept {
+            *kept = [[NOTHING; KEPT]; 3];
+        }
+    }
+
     // One page less at the end.
     fn unmap(&mut self) -> Option<()> {
+        self.fence();
         self.size -= FRAME as u64;
         let table = self.table(self.size)?;
         let index = (self.size >> 12) & 511;
@@ -236,11 +261,29 @@ impl Machine {
         None
     }
 
-    fn load(&self, address: u64, size: u64, access: Access) -> Result<u64, Trap> {
+    // Where an address stands, by what is remembered where there is room for that.
+    #[inline(always)]
+    fn locate(&mut self, address: u64, access: Access) -> Option<usize> {
+        let page = address >> 12;
+        if let Some(kept) = &self.kept {
+            let kept = kept[access as usize][page as usize % KEPT];
+            if kept.page == page && kept.root == self.root {
+                return Some(kept.frame as usize * FRAME + address as usize % FRAME);
+            }
+        }
+        let at = self.translate(address, access)?;
+        if let Some(kept) = &mut self.kept {
+            let frame = (at / FRAME) as u32;
+            kept[access as usize][page as usize % KEPT] = Kept { page, root: self.root, frame };
+        }
+        Some(at)
+    }
+
+    fn load(&mut self, address: u64, size: u64, access: Access) -> Result<u64, Trap> {
         if address % size != 0 {
             return Err(Trap::Fault);
         }
-        let at = self.translate(address, access).ok_or(Trap::Fault)?;
+        let at = self.locate(address, access).ok_or(Trap::Fault)?;
         let bytes = &self.memory[at..at + size as usize];
         Ok(match size {
             1 => bytes[0] as u64,
@@ -254,7 +297,7 @@ impl Machine {
         if address % size != 0 {
             return Err(Trap::Fault);
         }
-        let at = self.translate(address, Access::Store).ok_or(Trap::Fault)?;
+        let at = self.locate(address, Access::Store).ok_or(Trap::Fault)?;
         self.memory[at..at + size as usize].copy_from_slice(&value.to_le_bytes()[..size as usize]);
         Ok(())
     }
@@ -403,6 +446,7 @@ impl Machine {
     }
 
     fn enter(&mut self, at: usize) {
+        self.fence();
         let process = self.places[at].as_mut().expect("a process");
         process.mode = Mode::Running;
         self.registers = process.registers;
@@ -794,11 +838,15 @@ impl Machine {
 }
 
 fn main() {
-    let words: Vec<String> = std::env::args().collect();
+    let mut words: Vec<String> = std::env::args().collect();
+    let keeps = words[1] == "--tlb";
+    if keeps {
+        words.remove(1);
+    }
     let frames = words[1].parse().expect("a number of frames");
     let program = std::fs::read(&words[2]).expect("a program");
     let script = std::fs::read_to_string(&words[3]).expect("a script");
-    let mut machine = Machine::new(frames, &program).expect("frames for the program");
+    let mut machine = Machine::new(frames, &program, keeps).expect("frames for the program");
     let mut done = 0u64;
     for line in script.lines() {
         let (word, rest) = line.split_once(' ').expect("a command");

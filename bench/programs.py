@@ -180,6 +180,27 @@ def share():
     )
 
 
+def wait_for_keys():
+    """63 forks of processes that wait for a typed byte, and then one process that counts for ever."""
+    return flat(
+        [
+            addi(T0, ZERO, 63),  #      addi t0, zero, 63
+            addi(A7, ZERO, FORK),  # more: addi a7, zero, 1
+            ECALL,  #                   ecall
+            beq(A0, ZERO, 20),  #       beq  a0, zero, child
+            addi(T0, T0, -1),  #        addi t0, t0, -1
+            bne(T0, ZERO, -16),  #      bne  t0, zero, more
+            addi(T1, T1, 1),  # count:  addi t1, t1, 1
+            beq(ZERO, ZERO, -4),  #     beq  zero, zero, count
+            addi(A0, ZERO, 0),  # child: addi a0, zero, 0
+            lui(A1, 0x2),  #            lui  a1, 0x2            # the stack's page
+            addi(A2, ZERO, 1),  #       addi a2, zero, 1
+            addi(A7, ZERO, READ),  #    addi a7, zero, 5
+            ECALL,  #                   ecall
+        ]
+    )
+
+
 def pipe_bytes(times):
     """A child that writes 512 bytes so many times into a pipe, from which process 1 reads them all;
     `times` is a multiple of 1000. The pipe's descriptors are 3 and 4."""

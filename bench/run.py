@@ -1,19 +1,20 @@
 #!/usr/bin/env python3
-"""Times `xv6 flat` on flat programs, beside a plain Rust interpreter of the same design, and `xv6 mkfs`
-and `xv6 check` on full images.
+"""Times `xv6 flat` on flat programs, beside a plain Rust interpreter of the same design, `xv6 mkfs` and
+`xv6 check` on full images, and `xv6 asm` on long texts.
 
 Each flat program runs in both, turn by turn, and the least processor times, their ratio and the peak
 memory of `xv6` are printed. Two programs take more than 100 million steps. Three ask for memory and
 give it back, so many pages at a time; the last two of these take as long as each other where a page
-costs the same however large the space is. Two have many processes: children that are waited for, and
-64 that share the hart by a timer. The last two move bytes: through a pipe from one process to another,
-and from the keys to the console. `rustc` has to be in the PATH.
+costs the same however large the space is. Three have many processes: children that are waited for, 64
+that share the hart by a timer, and 64 of which 63 wait. The last two move bytes: through a pipe from one
+process to another, and from the keys to the console. The first two are run once more with a translation
+cache in both. `rustc` has to be in the PATH.
 
 The images have as many inodes and blocks as they can hold, all in use: one of 16384 blocks and 8192
 inodes, and one of half of both, beside which the other may take twice as long. Further images have many
 inodes, blocks, names in a directory and large directories, each beside one of half as many. Then come
 manifests of as many names as an image can have, and of half as many: all in the root, and each in the one
-before.
+before. The last is a text of many lines and labels that is assembled, beside one of half as many.
 """
 
 import argparse
@@ -44,6 +45,9 @@ TIMED = f"step {TICK}\ntick 1\n" * TICKS
 LINES = 10_000
 TYPED = "type the quick brown fox jumps over the lazy dog\nstep 30\n" * LINES + "keys 04\nstep 30\n"
 
+# The programs that are run with a translation cache too.
+CACHED = ["tight loop", "memory"]
+
 # The name of a program, its frames, its bytes, and its script.
 CASES = [
     ("tight loop", 256, programs.tight_loop(), TO_THE_END),
@@ -53,6 +57,7 @@ CASES = [
     ("the same above 4096 pages", 8192, programs.grow_and_shrink(4096, 64, 64000), TO_THE_END),
     ("fork and wait, 100000 times", 256, programs.fork_and_wait(100_000), TO_THE_END),
     (f"64 processes, a tick every {TICK} steps", 1024, programs.share(), TIMED),
+    (f"64 processes of which 63 wait, a tick every {TICK} steps", 1024, programs.wait_for_keys(), TIMED),
     ("512 bytes through a pipe, 200000 times", 256, programs.pipe_bytes(200_000), TO_THE_END),
     (f"{LINES} typed lines, read and echoed", 256, programs.echo_lines(), TYPED),
 ]
@@ -81,6 +86,19 @@ def run(words, wanted, folder=None):
     if child.returncode or not line.startswith(wanted):
         sys.exit(f"{' '.join(map(str, words))}: status {child.returncode}: {line}")
     return used.ru_utime + used.ru_stime, peak, line
+
+
+def time_both(name, flat, plain, told):
+    """Runs both turn by turn, prints the least times beside each other, and answers that of `xv6`."""
+    ours, theirs = [], []
+    for _ in range(TURNS):
+        ours.append(run(flat, told[0]))
+        theirs.append(run(plain, told[1]))
+    steps = int(theirs[0][2].split()[-2])
+    took, other = min(ours)[0], min(theirs)[0]
+    print(f"{name}: {steps} steps: xv6 {took:.2f} s, plain Rust {other:.2f} s, "
+          f"ratio {took / other:.2f}, peak {max(ran[1] for ran in ours)} KiB", flush=True)
+    return took
 
 
 def full_image(size, inodes):
@@ -166,6 +184,22 @@ def time_manifests(program, room):
               f"ratio for each byte of the manifest {full * short / (half * long):.2f}", flush=True)
 
 
+def labelled_text(count):
+    """A text of so many lines, each with a label and a jump to the label of a line far away."""
+    return "".join(f"l{at:05}: j l{at * 7919 % count:05}\n" for at in range(count))
+
+
+def time_texts(program, room):
+    """Assembles a text of 50000 lines and labels, and prints the time beside that of half as many."""
+    took = []
+    for count in [25000, 50000]:
+        (room / "text").write_text(labelled_text(count))
+        took.append(min(run([program, "asm", "text", "elf"], "", room) for _ in range(TURNS)))
+    half, full = took[0][0], took[1][0]
+    print(f"asm of 50000 lines and labels: {full:.3f} s, of half as many {half:.3f} s, "
+          f"ratio {full / half:.2f}, peak {took[1][1]} KiB", flush=True)
+
+
 def program_of_words():
     """The program that the command line names."""
     how = argparse.RawDescriptionHelpFormatter
@@ -187,21 +221,20 @@ def main():
         for name, frames, code, events in CASES:
             image.write_bytes(code)
             script.write_text(events)
-            flat = [program, "flat", "--frames", str(frames), image, script]
-            plain = [baseline, str(frames), image, script]
             timed = events is TIMED
             told = ("running", "running after ") if timed else ("halt 1 InitEnded 0", "exit 0 after ")
-            ours, theirs = [], []
-            for _ in range(TURNS):
-                ours.append(run(flat, told[0]))
-                theirs.append(run(plain, told[1]))
-            steps = int(theirs[0][2].split()[-2])
-            took, other = min(ours)[0], min(theirs)[0]
-            print(f"{name}: {steps} steps: xv6 {took:.2f} s, plain Rust {other:.2f} s, "
-                  f"ratio {took / other:.2f}, peak {max(ran[1] for ran in ours)} KiB", flush=True)
+            flat = [program, "flat", "--frames", str(frames), image, script]
+            plain = [baseline, str(frames), image, script]
+            took = time_both(name, flat, plain, told)
+            if name in CACHED:
+                flat = [program, "flat", "--tlb", "--frames", str(frames), image, script]
+                plain = [baseline, "--tlb", str(frames), image, script]
+                cached = time_both(f"{name}, with a translation cache", flat, plain, told)
+                print(f"{name}: {cached / took:.2f} of the time without it", flush=True)
         time_images(program, room)
         time_checks(program, room)
         time_manifests(program, room)
+        time_texts(program, room)
 
 
 if __name__ == "__main__":
