@@ -4,7 +4,7 @@ use Rattle.std.proofs.lemmas.Bool.{cases_lt, cases_eq}
 use Rattle.std.proofs.lemmas.List.{get_or-set_same, get_or-set_other, length-set}
 use Rattle.std.specs.Int.{bit_at}
 use Rattle.blockdev.specs.Blocks.{block_at}
-use Rattle.blockdev.specs.Splice.{splice, length-splice, get_or-splice_before, get_or-splice_inside, get_or-splice_after}
+use Rattle.blockdev.specs.Splice.{get_or-part, part, splice, length-splice, get_or-splice_before, get_or-splice_inside, get_or-splice_after}
 use Rattle.layout.specs.Super.{bitmap_start_of}
 use Rattle.layout.specs.declared.Geometry.{Geometry}
 use Rattle.layout.specs.Image.{bit_in}
@@ -71,10 +71,12 @@ SetsBit-put g old new at b v bit parts spot high here others e =
       after = λ k h. elsewhere k (omega arith);
     }
 
-pub SetsBit-code : (g : Geometry) (old read new : List (List ℕ)) (start b : ℕ) (block : List ℕ) (v bit : ℕ) → HasParts g old → start ≡ bitmap_start_of g.inodes → b < g.size → read ≡ old → block ≡ block_at old (start + b / 8192)
-    → bit_at v (b % 8) ≡ bit → ((k : ℕ) → k < 8 → k ≢ b % 8 → bit_at v k ≡ bit_at (get_or block (b % 8192 / 8) 0) k)
+pub SetsBit-byte : (g : Geometry) (old read new : List (List ℕ)) (start b : ℕ) (bits : List ℕ) (v bit : ℕ) → HasParts g old → start ≡ bitmap_start_of g.inodes → b < g.size → read ≡ old → bits ≡ part (b % 8192 / 8) 1 (block_at old (start + b / 8192))
+    → bit_at v (b % 8) ≡ bit → ((k : ℕ) → k < 8 → k ≢ b % 8 → bit_at v k ≡ bit_at (get_or bits 0 0) k)
     → new ≡ set read (start + b / 8192) (splice (b % 8192 / 8) (v ∷ []) (block_at read (start + b / 8192))) → SetsBit g old new b bit
-SetsBit-code g old read new start b block v bit parts spot high same block_is here others e =
+SetsBit-byte g old read new start b bits v bit parts spot high same bits_are here others e =
+    let place = b % 8192 / 8 in
+    let byte : get_or bits 0 0 ≡ get_or (block_at old (start + b / 8192)) place 0 = ap (λ l. get_or l 0 0) bits_are ∙ get_or-part place 1 (block_at old (start + b / 8192)) 0 0 (omega arith) ∙ ap (λ j. get_or (block_at old (start + b / 8192)) j 0) (omega arith) in
     SetsBit-put g old new (start + b / 8192) b v bit parts (ap (λ s. s + b / 8192) spot) high here
-    (λ k l apart. others k l apart ∙ ap (λ x. bit_at (get_or x (b % 8192 / 8) 0) k) block_is)
+    (λ k l apart. others k l apart ∙ ap (λ x. bit_at x k) byte)
     (e ∙ ap (λ x. set x (start + b / 8192) (splice (b % 8192 / 8) (v ∷ []) (block_at x (start + b / 8192)))) same)

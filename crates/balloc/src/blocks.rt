@@ -75,9 +75,10 @@ pub fn give_block<D: BlockDev>(
     ensures cause { HasCause disk.old.failures disk.new.failures result }
 {
     let at = geometry.bitmap_start() + b / 8192;
-    let block = disk.read(at)?;
     let place = b % 8192 / 8;
-    let byte = without_bit(block[place], b % 8);
+    let mut bits = [0];
+    disk.read_part(at, place, &mut bits)?;
+    let byte = without_bit(bits[0], b % 8);
     disk.write(at, place, &[byte])
 }
 
@@ -94,9 +95,10 @@ pub fn mark<D: BlockDev>(
     ensures cause { HasCause disk.old.failures disk.new.failures result }
 {
     let at = geometry.bitmap_start() + b / 8192;
-    let block = disk.read(at)?;
     let place = b % 8192 / 8;
-    let byte = with_bit(block[place], b % 8);
+    let mut bits = [0];
+    disk.read_part(at, place, &mut bits)?;
+    let byte = with_bit(bits[0], b % 8);
     disk.write(at, place, &[byte])
 }
 

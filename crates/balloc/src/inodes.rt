@@ -30,8 +30,9 @@ pub fn read_inode<D: BlockDev>(
     ensures count { length disk.new.blocks ≡ length disk.old.blocks }
     ensures cause { HasCause disk.old.failures disk.new.failures result }
 {
-    let block = disk.read(2 + number / 16)?;
-    Ok(inode_in(&block, number % 16))
+    let mut record = [0; 64];
+    disk.read_part(2 + number / 16, 64 * (number % 16), &mut record)?;
+    Ok(DiskInode::from_front(&record))
 }
 
 /// Writes the record of an inode.

@@ -1,11 +1,11 @@
 -- A cache between the look-up of a block and the end of the call.
-use Rattle.std.proofs.Common.{◌≡◌, ℕ, ◌+◌, ◌<◌, ◌≤◌, Bool, true, Bor, MutBor, List, length, set, Result, Ok, Err, OnOk, OnErr, Option, Some, None, nat_eq, sym, ap, subst, ◌∙◌, arith}
+use Rattle.std.proofs.Common.{◌≡◌, ℕ, ◌+◌, ◌-◌, drop, take, ◌<◌, ◌≤◌, Bool, true, Bor, MutBor, List, length, set, Result, Ok, Err, OnOk, OnErr, Option, Some, None, nat_eq, sym, ap, subst, ◌∙◌, arith}
 use Rattle.std.specs.Option.{option_copied, option_copied_mut}
 use Rattle.std.specs.Map.{lookup, set_value}
 use borrow.Rule.Slice.PartMut.{put_mid}
 use Rattle.lru.specs.LruCache.{LruCache, lru_cache, promoted, put_entries}
 use Rattle.blockdev.specs.Blocks.{AreBlocks, block_at}
-use Rattle.blockdev.specs.Splice.{length-splice, put_mid-splice, splice}
+use Rattle.blockdev.specs.Splice.{length-splice, part, put_mid-splice, splice}
 use Rattle.cache.specs.Disk.{Disk}
 use Rattle.cache.specs.declared.held.Slot.{Slot}
 use Rattle.cache.specs.Overlay.{AreHeld, IsLastSafe, overlay}
@@ -74,6 +74,12 @@ hit-is es r x n told is = sym told ∙ ap option_copied is
 
 pub hit-mut : (es : List (ℕ × Slot)) (r : Option (MutBor Slot)) (x : MutBor Slot) (n : ℕ) → option_copied_mut r ≡ lookup (nat_eq n) es → r ≡ Some x → lookup (nat_eq n) es ≡ Some x.now
 hit-mut es r x n told is = sym told ∙ ap option_copied_mut is
+
+-- bytes that are copied out of a block
+pub parted : (at k : ℕ) (out block same : List ℕ) → out ≡ take (at + k - at) (drop at block) → block ≡ same → out ≡ part at k same
+parted at k out block same copied is =
+    let long : at + k - at ≡ k = omega arith in
+    copied ∙ ap (λ j. take j (drop at block)) long ∙ ap (part at k) is
 
 -- bytes are written into a held block
 module _ (old : LruCache ℕ Slot) (c : List (List ℕ)) (b : Bool) (blocks : List (List ℕ)) (n : ℕ) (s : Slot) (at k : ℕ) (bytes new : List ℕ) where

@@ -8,7 +8,7 @@
 ghost use Rattle.std.specs.Prelude.{◌≡◌, ℕ, ◌+◌, ◌<◌, ◌≤◌, List, length, OnOk, OnErr, IfOk, IfErr, slice_set};
 ghost use Rattle.blockdev.specs.Blocks.{AreBlocks, block_at};
 ghost use Rattle.unixmodel.specs.Failures.{HasCause};
-ghost use Rattle.blockdev.specs.Splice.{splice};
+ghost use Rattle.blockdev.specs.Splice.{part, splice};
 
 mod held;
 
@@ -111,6 +111,26 @@ impl<D: BlockDev, A: Allocator + Clone> Cache<D, A> {
         // Without memory for it the block isn't held.
         let _ = self.held.put(n, slot);
         Ok(bytes)
+    }
+
+    /// Reads bytes of block `n` from the place `at` on, as many as `out` has. Of a held block nothing else is copied.
+    pub fn read_part(&mut self, n: usize, at: usize, out: &mut [u8]) -> Result<(), DeviceFault>
+        requires block { n < length self.old.blocks }
+        requires fits { at + length out.old ≤ 1024 }
+        ensures bytes { OnOk result (out.new ≡ part at (length out.old) (block_at self.old.blocks n)) }
+        ensures same { OnOk result (self.new.blocks ≡ self.old.blocks) }
+        ensures count { length self.new.blocks ≡ length self.old.blocks }
+        ensures stored { length self.new.stored ≡ length self.old.stored }
+        ensures cause { HasCause self.old.failures self.new.failures result }
+    {
+        let count = out.len();
+        if let Some(held) = self.held.get(&n) {
+            out.copy_from_slice(&held.bytes[at..at + count]);
+            return Ok(());
+        }
+        let block = self.read(n)?;
+        out.copy_from_slice(&block[at..at + count]);
+        Ok(())
     }
 
     /// Writes bytes into block `n` from the place `at` on.

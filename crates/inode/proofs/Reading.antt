@@ -1,5 +1,5 @@
 -- A step of a read, and its end.
-use Rattle.std.proofs.Common.{◌≡◌, ℕ, ◌+◌, ◌-◌, ◌/◌, ◌%◌, ◌<◌, ◌≤◌, List, ◌++◌, length, take, drop, get_or, min, ap, sym, ◌∙◌, arith, inl, inr, refl, subst}
+use Rattle.std.proofs.Common.{◌≡◌, ℕ, ◌+◌, ◌-◌, ◌*◌, ◌/◌, ◌%◌, ◌<◌, ◌≤◌, List, ◌++◌, length, take, drop, get_or, min, ap, sym, ◌∙◌, arith, inl, inr, refl, subst}
 use borrow.Rule.Slice.PartMut.{put_mid}
 use Rattle.std.proofs.lemmas.Bool.{cases_lt}
 use Rattle.std.proofs.lemmas.List.{ext_get_or, length-append, length-drop, length-take-le, get_or_append_left, get_or-append_right, get_or-drop}
@@ -9,6 +9,8 @@ use Rattle.layout.specs.declared.DiskInode.{DiskInode}
 use Rattle.layout.specs.Image.{IsInode, IsUsed, blocks_for, slot_in, slot_of, byte_of, bytes_of, inode_at}
 use Rattle.layout.specs.declared.Geometry.{Geometry}
 use Rattle.layout.specs.Sound.{IsSound}
+use Rattle.layout.specs.Numbers.{number_at}
+use Rattle.layout.specs.NumberLemmas.{number_at-take}
 use Rattle.layout.specs.Slots.{slot_of-last, used_last}
 use Rattle.layout.specs.Frame.{length-bytes_of, get_or-bytes_of}
 use Rattle.inode.specs.Held.{HasInode, IsInHand, IsInHand-of}
@@ -56,6 +58,10 @@ HasRead-all blocks n at k old out has room within =
       | inr above ↦ has.rest i above ∙ ap (λ j. get_or old j 0) (omega arith) ∙ sym (get_or-drop k old (i - k) 0)
           ∙ sym (get_or-append_right (part at k (bytes_of blocks n)) (drop k old) k i 0 p above)
     ])
+
+-- a number of a block, from its four bytes alone
+pub number-part : (k : ℕ) (block : List ℕ) → number_at (part (4 * k) 4 block) 0 ≡ number_at block k
+number-part k block = number_at-take 4 0 (drop (4 * k) block) (omega arith)
 
 -- ---- what code that has the record in hand reads
 
@@ -118,14 +124,15 @@ module _ {g : Geometry} {old : List (List ℕ)} {n : ℕ} {inode : DiskInode} (h
     pub chunk_within : done + len ≤ count
     chunk_within = omega arith
 
-    -- the code's copy of a part of the block over a part of the buffer
+    -- a part of the block comes over a part of the buffer
     pub HasRead-chunk : (buffer out block piece : List ℕ) → length buffer ≡ long → HasRead old n at done buffer out → block ≡ block_at old (slot_of old n ((at + done) / 1024))
-        → piece ≡ take ((at + done) % 1024 + len - (at + done) % 1024) (drop ((at + done) % 1024) block) → HasRead old n at (done + len) buffer (put_mid done (done + len - done) out piece)
+        → piece ≡ part ((at + done) % 1024) (length (part done (done + len - done) out)) block → HasRead old n at (done + len) buffer (put_mid done (done + len - done) out piece)
     HasRead-chunk buffer out block piece long_is has e piece_is =
-        let k : (at + done) % 1024 + len - (at + done) % 1024 ≡ len = omega arith in
         let w : done + len ≤ count = chunk_within in
         let same : length out ≡ length buffer = has.length_same in
+        let long_part : length (part done (done + len - done) out) ≡ done + len - done = length-part done (done + len - done) out (omega arith) in
+        let k : length (part done (done + len - done) out) ≡ len = omega (arith, long_part) in
         let size : length block ≡ 1024 = ap length e ∙ slot_whole held refl ((at + done) / 1024) chunk_below in
         let copied : put_mid done (done + len - done) out piece ≡ splice done (part ((at + done) % 1024) len block) out =
-        put_mid-splice done (done + len - done) out piece (part ((at + done) % 1024) len block) (piece_is ∙ ap (λ n. take n (drop ((at + done) % 1024) block)) k) (omega (arith, length-part ((at + done) % 1024) len block)) in
+        put_mid-splice done (done + len - done) out piece (part ((at + done) % 1024) len block) (piece_is ∙ ap (λ n. part ((at + done) % 1024) n block) k) (omega (arith, length-part ((at + done) % 1024) len block)) in
         subst (HasRead old n at (done + len) buffer) (sym copied) (HasRead-step old n at done len buffer out block has e size (omega arith) (omega arith))

@@ -94,8 +94,7 @@ pub fn read_at<D: BlockDev>(
         let from = place % 1024;
         let len = (1024 - from).min(count - done);
         let source = block_number(disk, &inode, place / 1024)?;
-        let block = disk.read(source)?;
-        out[done..done + len].copy_from_slice(&block[from..from + len]);
+        disk.read_part(source, from, &mut out[done..done + len])?;
         done += len;
     }
     Ok(count)
@@ -118,6 +117,8 @@ pub fn block_number<D: BlockDev>(
     if index < 12 {
         return Ok(inode.addresses[index] as usize);
     }
-    let block = disk.read(inode.addresses[12] as usize)?;
-    Ok(read_number(&block, index - 12) as usize)
+    let mut number = [0; 4];
+    let at = 4 * (index - 12);
+    disk.read_part(inode.addresses[12] as usize, at, &mut number)?;
+    Ok(read_number(&number, 0) as usize)
 }

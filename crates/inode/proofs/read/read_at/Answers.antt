@@ -50,34 +50,34 @@ returns-in_err-source g c =
       cause = HasCause-told c.chunk.invariant.failures c.block_number.ensures.cause c.in_err-source.was;
     }
 
-pub read-requires : goal.read-requires
-read-requires g c =
+pub read_part-requires : goal.read_part-requires
+read_part-requires g c =
     let held = HasInode-read c.requires.sound c.requires.inode c.in_ok-inode.ensures.inode in
     let below = chunk_below held c.args.at (length c.args.out.now) c.min-count.ensures c.saturating_sub.ensures c.chunk-test.true c.min-len.ensures in
     omega (arith, slot_in_disk held c.chunk.invariant.disk ((c.args.at + c.chunk.done) / 1024) below, c.in_ok-source.ensures.value, c.block_number.ensures.count)
 
-pub returns-in_err-block : goal.returns-in_err-block
-returns-in_err-block g c =
-    let told = (err_from_is_err_and c.from_residual-in_err-block.result c.from_residual-in_err-block.ensures.1).1 in
+pub returns-in_err-read_part : goal.returns-in_err-read_part
+returns-in_err-read_part g c =
+    let told = (err_from_is_err_and c.from_residual-in_err-read_part.result c.from_residual-in_err-read_part.ensures.1).1 in
     record {
       count = rw told tt;
       read = rw told tt;
       same = rw told tt;
-      blocks = c.read.ensures.count ∙ c.block_number.ensures.count ∙ ap length c.chunk.invariant.disk;
-      cause = HasCause-told (omega (arith, c.chunk.invariant.failures, c.block_number.ensures.cause.later)) c.read.ensures.cause c.in_err-block.was;
+      blocks = c.read_part.ensures.count ∙ c.block_number.ensures.count ∙ ap length c.chunk.invariant.disk;
+      cause = HasCause-told (omega (arith, c.chunk.invariant.failures, c.block_number.ensures.cause.later)) c.read_part.ensures.cause c.in_err-read_part.was;
     }
 
 pub chunk-preserved : goal.chunk-preserved
 chunk-preserved g c =
     let held = HasInode-read c.requires.sound c.requires.inode c.in_ok-inode.ensures.inode in
     let below = chunk_below held c.args.at (length c.args.out.now) c.min-count.ensures c.saturating_sub.ensures c.chunk-test.true c.min-len.ensures in
-    let block = slot_block held c.chunk.invariant.disk ((c.args.at + c.chunk.done) / 1024) below c.in_ok-source.ensures.value (c.in_ok-block.ensures.bytes ∙ ap (λ b. block_at b c.in_ok-source.source) c.in_ok-source.ensures.same) in
+    let block = slot_block held c.chunk.invariant.disk ((c.args.at + c.chunk.done) / 1024) below c.in_ok-source.ensures.value (ap (λ b. block_at b c.in_ok-source.source) c.in_ok-source.ensures.same) in
     record {
-      disk = c.in_ok-block.ensures.same ∙ c.in_ok-source.ensures.same ∙ c.chunk.invariant.disk;
-      failures = omega (arith, c.read.ensures.cause.later, c.block_number.ensures.cause.later, c.chunk.invariant.failures);
+      disk = c.in_ok-read_part.ensures.same ∙ c.in_ok-source.ensures.same ∙ c.chunk.invariant.disk;
+      failures = omega (arith, c.read_part.ensures.cause.later, c.block_number.ensures.cause.later, c.chunk.invariant.failures);
       within = chunk_within held c.args.at (length c.args.out.now) c.min-count.ensures c.saturating_sub.ensures c.chunk-test.true c.min-len.ensures;
       has_read = HasRead-chunk held c.args.at (length c.args.out.now) c.min-count.ensures c.saturating_sub.ensures c.chunk-test.true c.min-len.ensures
-          c.args.out.now c.chunk.out c.in_ok-block.block c.copy_from_slice.new.self refl c.chunk.invariant.has_read block c.copy_from_slice.ensures.after;
+          c.args.out.now c.chunk.out _ c.read_part.new.out refl c.chunk.invariant.has_read block c.in_ok-read_part.ensures.bytes;
     }
 
 -- ---- the end
