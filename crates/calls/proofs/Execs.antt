@@ -227,12 +227,11 @@ module _ (k : Kernel) (i : ℕ) (runs : Runs k i) (at : Kernel) (same : at ≡ k
         pub exec-aligned : started.pc % 4 ≡ 0
         exec-aligned = ap (λ (b : Started). b.pc % 4) told.started ∙ plan-aligned at.tree.files n (held_at at.spaces i).memory argv told.plan told.is
 
-        module _ (free : ℕ) (left : free + taken_frames s ≡ s.frames) where
+        module _ (suffice : taken_frames s ≤ s.frames) where
           few : taken_frames (with_held k.spaces i (held_by told.plan)) ≤ k.spaces.frames
           few =
               let is : s ≡ with_held k.spaces i (held_by told.plan) = told.held ∙ ap (λ (y : Kernel). with_held y.spaces i (held_by told.plan)) same in
-              let left' : free + taken_frames (with_held k.spaces i (held_by told.plan)) ≡ k.spaces.frames = subst (λ (z : Spaces). free + taken_frames z ≡ z.frames) is left in
-              omega (arith, left')
+              subst (λ (z : Spaces). taken_frames z ≤ z.frames) is suffice
 
           pub execs : Acts k (record at { tree = t; table = changed at.table i (with_size started.size); spaces = begun s started }) i (Some Exec) (Answers started.count)
           execs =
@@ -250,12 +249,11 @@ module _ (k : Kernel) (i : ℕ) (runs : Runs k i) (at : Kernel) (same : at ≡ k
               (subst (λ (y : Kernel). Acts k y i (Some Exec) (Answers p.argc)) (sym shows) (exec-done k i runs n r p is fits few t.failures later'))
 
   -- the device failed
-  pub exec-fails : (t : FileTree) → t.failed ≡ true → (s : Spaces) (h : Held) → s ≡ with_held at.spaces i h → (free : ℕ) → free + taken_frames s ≡ s.frames → (size : ℕ) → size ≡ (held_at s i).size
+  pub exec-fails : (t : FileTree) → t.failed ≡ true → (s : Spaces) (h : Held) → s ≡ with_held at.spaces i h → taken_frames s ≤ s.frames → (size : ℕ) → size ≡ (held_at s i).size
       → IsKernel (record at { tree = t; table = changed (changed at.table i (with_size size)) i (λ p. with_mode Ready (on_hart s p)); spaces = idle s })
-  exec-fails t down s h is free left size sized' =
+  exec-fails t down s h is suffice size sized' =
       let x' = here-of k i runs.sound runs.active in
       let size' : size ≡ h.size = sized' ∙ ap (λ (z : Spaces). (held_at z i).size) is ∙ ap (λ (g : Held). g.size) (held-same at.spaces i h exec-within) in
       let is' : s ≡ with_held k.spaces i h = is ∙ ap (λ (y : Kernel). with_held y.spaces i h) same in
-      let left' : free + taken_frames (with_held k.spaces i h) ≡ k.spaces.frames = subst (λ (z : Spaces). free + taken_frames z ≡ z.frames) is' left in
-      let few : taken_frames (with_held k.spaces i h) ≤ k.spaces.frames = omega (arith, left') in
+      let few : taken_frames (with_held k.spaces i h) ≤ k.spaces.frames = subst (λ (z : Spaces). taken_frames z ≤ z.frames) is' suffice in
       rw (size', is', same, x'.run.process) (half-fails k i runs h few t down)

@@ -108,9 +108,8 @@ module _ (k : Kernel) (i : ℕ) (runs : Runs k i) where
           let few : taken_frames (resized k i ((held_at k.spaces i).size + bytes)).spaces ≤ k.spaces.frames = subst (λ (z : Kernel). taken_frames (resized z i ((held_at z.spaces i).size + bytes)).spaces ≤ z.spaces.frames) same (rw (← g) fits) in
           rw (resized-made at i ((held_at at.spaces i).size + bytes) n new t y (spaces ∙ ap (with_held at.spaces i) g) size table, same) (sbrk-acts k i x ((held_at k.spaces i).size + bytes) asks few)
 
-      pub shrink-acts : asked k i (int_of (argument k 0)) ≡ Some ((held_at k.spaces i).size - bytes) → (free : ℕ) → free + taken_frames new ≡ new.frames → new ≡ with_held at.spaces i (shrunk (held_at at.spaces i) bytes)
+      pub shrink-acts : asked k i (int_of (argument k 0)) ≡ Some ((held_at k.spaces i).size - bytes) → taken_frames new ≤ new.frames → new ≡ with_held at.spaces i (shrunk (held_at at.spaces i) bytes)
           → Acts k (record at { table = t; spaces = new }) i (Some Sbrk) (Answers (held_at k.spaces i).size)
-      shrink-acts asks free left spaces =
+      shrink-acts asks few spaces =
           let made = resized-made at i ((held_at at.spaces i).size - bytes) n new t y (spaces ∙ ap (with_held at.spaces i) (shrunk-sized (held_at at.spaces i) bytes whole)) size table ∙ ap (λ (z : Kernel). resized z i ((held_at z.spaces i).size - bytes)) same in
-          let few : taken_frames new ≤ new.frames = omega (arith, left) in
           rw made (sbrk-acts k i x ((held_at k.spaces i).size - bytes) asks (subst (λ (z : Kernel). taken_frames z.spaces ≤ z.spaces.frames) made few))

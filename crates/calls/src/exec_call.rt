@@ -38,14 +38,14 @@ fn exec_found<D: BlockDev, T: Translate + Drop>(
     let argv = kernel.argument(1);
     match execute(&mut kernel.tree, &mut kernel.spaces, at, number, argv) {
         Ok(Some(started)) => {
-            let _free = kernel.spaces.free();
+            kernel.spaces.frames_suffice();
             begin(&mut kernel.spaces, &started);
             kernel.table.set_size(at, started.size);
             Ok(Came::Answers(started.count))
         }
         Ok(None) => Ok(Came::Refuses),
         Err(fault) => {
-            let _free = kernel.spaces.free();
+            kernel.spaces.frames_suffice();
             let size = kernel.spaces.size(at);
             kernel.table.set_size(at, size);
             stop(&mut kernel.table, &mut kernel.spaces, at);

@@ -159,7 +159,7 @@ fn grow<D: BlockDev, T: Translate + Drop>(kernel: &mut Kernel<D, T>, at: usize, 
     ensures { Acts kernel.old kernel.new at (Some Call.Sbrk) result }
 {
     let old = kernel.size(at);
-    let _pages = kernel.spaces.pages(at);
+    kernel.spaces.pages_are_whole(at);
     if !kernel.spaces.grow(at, bytes, HEAP) {
         return Came::Refuses;
     }
@@ -180,10 +180,10 @@ fn shrink<D: BlockDev, T: Translate + Drop>(
     ensures { Acts kernel.old kernel.new at (Some Call.Sbrk) result }
 {
     let old = kernel.size(at);
-    let _pages = kernel.spaces.pages(at);
+    kernel.spaces.pages_are_whole(at);
     kernel.spaces.shrink(at, bytes);
     let size = kernel.spaces.size(at);
-    let _free = kernel.spaces.free();
+    kernel.spaces.frames_suffice();
     kernel.table.set_size(at, size);
     Came::Answers(old)
 }

@@ -229,7 +229,7 @@ fn read_console<D: BlockDev, T: Translate + Drop>(
     requires { OnConsole kernel.old at End.Read pending }
     ensures { GoesOn kernel.old kernel.new at pending result }
 {
-    let _pages = kernel.spaces.pages(at);
+    kernel.spaces.pages_are_whole(at);
     let left = u64::from(low(pending.args[2])) - pending.done;
     let mut buffer = [0; ROOM];
     let taken = kernel
@@ -237,7 +237,7 @@ fn read_console<D: BlockDev, T: Translate + Drop>(
         .take(left as usize, pending.done > 0, &mut buffer);
     let address = pending.args[1] + pending.done;
     let _written = kernel.spaces.write(at, address, &buffer[..taken.count]);
-    let _kept = kernel.spaces.pages(at);
+    kernel.spaces.pages_are_whole(at);
     let done = pending.done + taken.count as u64;
     if taken.over {
         return Came::Answers(done);
@@ -284,7 +284,7 @@ fn piece<D: BlockDev, T: Translate + Drop>(
     ensures most { length result.now ≤ most }
     ensures piece { IsFront result.now (piece_at Load (held_at kernel.now.spaces at).memory address) }
 {
-    let _pages = kernel.spaces.pages(at);
+    kernel.spaces.pages_are_whole(at);
     let piece = kernel.spaces.readable(at, address);
     if piece.len() as u64 > most {
         &piece[..most as usize]
@@ -308,7 +308,7 @@ fn print<D: BlockDev, T: Translate + Drop, W: Out>(
     ensures later { W.failures out.old ≤ W.failures out.new }
     ensures cause { OnErr result (Rises (W.failures out.old) (W.failures out.new)) }
 {
-    let _pages = kernel.spaces.pages(at);
+    kernel.spaces.pages_are_whole(at);
     let mut done = 0;
     while done < count {
         let piece = piece(kernel, at, address + done, count - done);
@@ -444,7 +444,7 @@ fn write_pipe<D: BlockDev, T: Translate + Drop>(
     if !has_end(kernel, pipe, End::Read) {
         return Came::Answers(REFUSED);
     }
-    let _pages = kernel.spaces.pages(at);
+    kernel.spaces.pages_are_whole(at);
     let left = u64::from(low(pending.args[2])) - pending.done;
     let address = pending.args[1] + pending.done;
     let sent = kernel.spaces.write_pipe(pipe, at, address, left as usize);

@@ -209,7 +209,7 @@ impl<D: BlockDev, T: Translate + Drop> Kernel<D, T> {
         ensures trap { IfSome result (λ t. (cycle self.old.spaces.registers self.old.spaces.pc (held_at self.old.spaces at).memory ≡ Err t) × (self.new ≡ self.old)) }
     {
         let trap = self.spaces.execute();
-        let _free = self.spaces.free();
+        self.spaces.frames_suffice();
         trap
     }
 

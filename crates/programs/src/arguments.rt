@@ -120,7 +120,7 @@ pub fn read_arguments<T: Translate + Drop>(
     requires fits { 4096 * (pages + 2) < 2 ^ 64 }
     ensures { Passes (held_at spaces.now at).memory argv pages result }
 {
-    let _pages = spaces.pages(at);
+    spaces.pages_are_whole(at);
     let base = 4096 * (pages + 1);
     let mut page = [0; FRAME_SIZE];
     let mut top = FRAME_SIZE;

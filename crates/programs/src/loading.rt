@@ -106,7 +106,7 @@ fn fill_node<D: BlockDev, T: Translate + Drop>(
     ensures filled { OnOk result (spaces.new ≡ with_bytes spaces.old at address (part offset count (file_at tree.old.files number))) }
     ensures failed { OnErr result ((held : Held) × (spaces.new ≡ with_held spaces.old at held)) }
 {
-    let _pages = spaces.pages(at);
+    spaces.pages_are_whole(at);
     let mut buffer = [0; BLOCK_SIZE];
     let mut done = 0;
     while done < count {

@@ -1,5 +1,6 @@
 mod Pipes
 mod Places
+mod Whole
 mod Closed
 mod Traded
 mod Piped

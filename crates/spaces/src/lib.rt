@@ -218,6 +218,14 @@ impl<T: Translate + Drop> Spaces<T> {
         self.frames.free()
     }
 
+    /// A law: what is taken of the frames is no more than there are. It runs no code.
+    #[inline]
+    pub fn frames_suffice(&self)
+        ensures { taken_frames self.now ≤ self.now.frames }
+    {
+        let _frames = &self.frames;
+    }
+
     /// The active place, which has a space.
     pub fn active(&self) -> Option<usize>
         ensures active { result ≡ self.now.active }
@@ -243,17 +251,26 @@ impl<T: Translate + Drop> Spaces<T> {
         space.size()
     }
 
-    /// How many pages a place's space has. They are no more than frames, and each has 4096 bytes.
+    /// How many pages a place's space has.
     pub fn pages(&self, at: usize) -> u64
         requires { has_space self.now at ≡ true }
         ensures count { result ≡ length (held_at self.now at).memory }
+        ensures few { length (held_at self.now at).memory ≤ 32768 }
+    {
+        let space = space_at(&self.places, at);
+        vm::pages_in(space.size())
+    }
+
+    /// A law: the pages of a place's space are no more than there can be frames, as many as its size asks for, and of 4096 bytes
+    /// each. It runs no code.
+    #[inline]
+    pub fn pages_are_whole(&self, at: usize)
+        requires { has_space self.now at ≡ true }
         ensures few { length (held_at self.now at).memory ≤ 32768 }
         ensures whole { length (held_at self.now at).memory ≡ ceil_div (held_at self.now at).size 4096 }
         ensures sized { IsSized (held_at self.now at).memory }
     {
         self.ram.frames_are_whole();
-        let space = space_at(&self.places, at);
-        vm::pages_in(space.size())
     }
 
     /// Whether the program of a place may read so many bytes.

@@ -54,7 +54,7 @@ pub fn read_node<D: BlockDev, T: Translate + Drop>(
     ensures written { OnOk result (spaces.new ≡ with_bytes spaces.old at address (bytes_read tree.old.files number offset count)) }
     ensures failed { OnErr result ((done : ℕ) × (done ≤ count) × (spaces.new ≡ with_bytes spaces.old at address (bytes_read tree.old.files number offset done))) }
 {
-    let _pages = spaces.pages(at);
+    spaces.pages_are_whole(at);
     let mut buffer = [0; BLOCK_SIZE];
     let mut done = 0;
     while done < count {

@@ -48,7 +48,7 @@ pub fn write_node<D: BlockDev, T: Translate + Drop>(
     requires readable { is_some (read_bytes (held_at spaces.now at).memory address count) ≡ true }
     ensures { Serves tree.old tree.new result (λ went. let w = written tree.old.block_limit tree.old.files number offset (bytes_given spaces.now at address count) in (tree.new ≡ record tree.old { files = files_after tree.old.files w; failures = tree.new.failures }) × (went ≡ count_of w)) }
 {
-    let _pages = spaces.pages(at);
+    spaces.pages_are_whole(at);
     let size = tree.stat(number)?.size;
     if offset > size || u64::from(offset) + count > LONGEST {
         return Ok(None);

@@ -13,7 +13,7 @@ begin-requires g c =
 pub invariant_of-kernel : goal.invariant_of-kernel
 invariant_of-kernel g c =
     let e = c.in-Ok-Some.ensures in
-    rw (c.set_size.ensures, c.begin.ensures) (execs c.args.kernel.now c.args.at c.requires.runs (kernel_of c.kernel.inside) c.kernel.view_is c.args.number c.requires.reaches c.execute.new.tree e.serves.told e.serves.cause.later _ c.argument-argv.ensures c.execute.new.spaces _ e.executed _ c.in-Ok-Some.field-0-is _ c.free-free.ensures).sound
+    rw (c.set_size.ensures, c.begin.ensures) (execs c.args.kernel.now c.args.at c.requires.runs (kernel_of c.kernel.inside) c.kernel.view_is c.args.number c.requires.reaches c.execute.new.tree e.serves.told e.serves.cause.later _ c.argument-argv.ensures c.execute.new.spaces _ e.executed _ c.in-Ok-Some.field-0-is c.frames_suffice.ensures).sound
 
 pub size-size-requires : goal.size-size-requires
 size-size-requires g c = let e = c.in-Err.ensures.failed in held-has c.args.kernel.now c.args.at c.requires.runs (kernel_of c.kernel.inside) c.kernel.view_is c.execute.new.spaces e.0 e.1
@@ -22,12 +22,12 @@ pub invariant_of-kernel-in-Err : goal.invariant_of-kernel-in-Err
 invariant_of-kernel-in-Err g c =
     let e = c.in-Err.ensures in
     rw (c.stop.ensures.table, c.stop.ensures.spaces, c.set_size-in-Err.ensures)
-    (exec-fails c.args.kernel.now c.args.at c.requires.runs (kernel_of c.kernel.inside) c.kernel.view_is c.execute.new.tree e.serves.down c.execute.new.spaces e.failed.0 e.failed.1 _ c.free-free-in-Err.ensures _ c.size-size.ensures)
+    (exec-fails c.args.kernel.now c.args.at c.requires.runs (kernel_of c.kernel.inside) c.kernel.view_is c.execute.new.tree e.serves.down c.execute.new.spaces e.failed.0 e.failed.1 c.frames_suffice-in-Err.ensures _ c.size-size.ensures)
 
 pub returns-in-Ok-Some : goal.returns-in-Ok-Some
 returns-in-Ok-Some g c =
     let e = c.in-Ok-Some.ensures in
-    rw (c.set_size.ensures, c.begin.ensures) (execs c.args.kernel.now c.args.at c.requires.runs (kernel_of c.kernel.inside) c.kernel.view_is c.args.number c.requires.reaches c.execute.new.tree e.serves.told e.serves.cause.later _ c.argument-argv.ensures c.execute.new.spaces _ e.executed _ c.in-Ok-Some.field-0-is _ c.free-free.ensures)
+    rw (c.set_size.ensures, c.begin.ensures) (execs c.args.kernel.now c.args.at c.requires.runs (kernel_of c.kernel.inside) c.kernel.view_is c.args.number c.requires.reaches c.execute.new.tree e.serves.told e.serves.cause.later _ c.argument-argv.ensures c.execute.new.spaces _ e.executed _ c.in-Ok-Some.field-0-is c.frames_suffice.ensures)
 
 pub returns-in-Ok-None : goal.returns-in-Ok-None
 returns-in-Ok-None g c =

@@ -9,16 +9,16 @@ pub returns-then-not-grow : goal.returns-then-not-grow
 returns-then-not-grow g c =
     let d = c.if-not-grow.ensures.refused in
     let same = ap (λ (s : Spaces). record (kernel_of c.kernel.inside) { spaces = s }) d.1 ∙ c.kernel.view_is in
-    rw same (grow-over c.args.kernel.now c.args.at c.requires.runs (kernel_of c.kernel.inside) c.kernel.view_is c.args.bytes c.grow.new.self c.pages-pages.ensures.whole c.requires.asked d.0)
+    rw same (grow-over c.args.kernel.now c.args.at c.requires.runs (kernel_of c.kernel.inside) c.kernel.view_is c.args.bytes c.grow.new.self c.pages_are_whole.ensures.whole c.requires.asked d.0)
 
 pub invariant_of-kernel-2 : goal.invariant_of-kernel-2
 invariant_of-kernel-2 g c =
     let x = here-now c.kernel.view_is c.kernel.invariant c.requires.runs in
     let d = c.if-not-grow.ensures.done in
-    (grow-acts c.args.kernel.now c.args.at c.requires.runs (kernel_of c.kernel.inside) c.kernel.view_is c.args.bytes c.grow.new.self c.pages-pages.ensures.whole c.set_size.new.self c.size-size.result c.size-size.ensures c.set_size.ensures x c.requires.asked d.0 d.1).sound
+    (grow-acts c.args.kernel.now c.args.at c.requires.runs (kernel_of c.kernel.inside) c.kernel.view_is c.args.bytes c.grow.new.self c.pages_are_whole.ensures.whole c.set_size.new.self c.size-size.result c.size-size.ensures c.set_size.ensures x c.requires.asked d.0 d.1).sound
 
 pub returns : goal.returns
 returns g c =
     let x = here-now c.kernel.view_is c.kernel.invariant c.requires.runs in
     let d = c.if-not-grow.ensures.done in
-    rw c.size-old.ensures (grow-acts c.args.kernel.now c.args.at c.requires.runs (kernel_of c.kernel.inside) c.kernel.view_is c.args.bytes c.grow.new.self c.pages-pages.ensures.whole c.set_size.new.self c.size-size.result c.size-size.ensures c.set_size.ensures x c.requires.asked d.0 d.1)
+    rw c.size-old.ensures (grow-acts c.args.kernel.now c.args.at c.requires.runs (kernel_of c.kernel.inside) c.kernel.view_is c.args.bytes c.grow.new.self c.pages_are_whole.ensures.whole c.set_size.new.self c.size-size.result c.size-size.ensures c.set_size.ensures x c.requires.asked d.0 d.1)

@@ -6,9 +6,9 @@ use Rattle.calls.proofs.process_calls.shrink.Goals as goal
 pub invariant_of-kernel : goal.invariant_of-kernel
 invariant_of-kernel g c =
     let x = here-now c.kernel.view_is c.kernel.invariant c.requires.runs in
-    (shrink-acts c.args.kernel.now c.args.at c.requires.runs (kernel_of c.kernel.inside) c.kernel.view_is c.args.bytes c.shrink.new.self c.pages-pages.ensures.whole c.set_size.new.self c.size-size.result c.size-size.ensures c.set_size.ensures x c.requires.asked c.free-free.result c.free-free.ensures c.shrink.ensures).sound
+    (shrink-acts c.args.kernel.now c.args.at c.requires.runs (kernel_of c.kernel.inside) c.kernel.view_is c.args.bytes c.shrink.new.self c.pages_are_whole.ensures.whole c.set_size.new.self c.size-size.result c.size-size.ensures c.set_size.ensures x c.requires.asked c.frames_suffice.ensures c.shrink.ensures).sound
 
 pub returns : goal.returns
 returns g c =
     let x = here-now c.kernel.view_is c.kernel.invariant c.requires.runs in
-    rw c.size-old.ensures (shrink-acts c.args.kernel.now c.args.at c.requires.runs (kernel_of c.kernel.inside) c.kernel.view_is c.args.bytes c.shrink.new.self c.pages-pages.ensures.whole c.set_size.new.self c.size-size.result c.size-size.ensures c.set_size.ensures x c.requires.asked c.free-free.result c.free-free.ensures c.shrink.ensures)
+    rw c.size-old.ensures (shrink-acts c.args.kernel.now c.args.at c.requires.runs (kernel_of c.kernel.inside) c.kernel.view_is c.args.bytes c.shrink.new.self c.pages_are_whole.ensures.whole c.set_size.new.self c.size-size.result c.size-size.ensures c.set_size.ensures x c.requires.asked c.frames_suffice.ensures c.shrink.ensures)

@@ -10,5 +10,5 @@ pub returns-else-piece-most-clause-some : goal.returns-else-piece-most-clause-so
 returns-else-piece-most-clause-some g c =
     let k = kernel_of c.kernel.inside in
     let some : 0 < length (piece_at Load (held_at k.spaces c.args.at).memory c.args.address) =
-    piece-some Load (held_at k.spaces c.args.at).memory c.args.address c.pages-pages.ensures.sized (rw (← c.kernel.view_is) at c.requires.readable) in
+    piece-some Load (held_at k.spaces c.args.at).memory c.args.address c.pages_are_whole.ensures.sized (rw (← c.kernel.view_is) at c.requires.readable) in
     rw c.readable-piece.ensures some

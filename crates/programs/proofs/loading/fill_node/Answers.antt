@@ -16,4 +16,4 @@ loop-done-preserved g c =
     filled-more c.loop-done.invariant c.requires.space (length (take c.min-size.result c.loop-done.buffer)) c.min-size.result
     (size-whole c.loop-done.buffer c.min-size.result _ c.min-size.array_long c.min-size.ensures)
     (size-fits c.loop-done.buffer c.min-size.result c.loop-done.done c.args.count c.loop-done-test.true c.min-size.ensures)
-    c.pages-pages.ensures.sized c.requires.within c.in_ok-fill_piece.ensures.serves c.in_ok-fill_piece.ensures.filled
+    c.pages_are_whole.ensures.sized c.requires.within c.in_ok-fill_piece.ensures.serves c.in_ok-fill_piece.ensures.filled

@@ -1,7 +1,6 @@
 use Rattle.spaces.proofs.Spaces.pages.Goals as goal
 use Rattle.spaces.proofs.Places.{held-is, length-pages_of, stands-there}
 use Rattle.std.proofs.Common.{◌≤◌, ◌∙◌, ap, arith, sym}
-use Rattle.vm.proofs.SizedLemmas.{pages-sized}
 use Rattle.vm.specs.Space.{pages_in}
 
 pub space_at-space-requires : goal.space_at-space-requires
@@ -25,16 +24,3 @@ returns-clause-few g c =
     let e = c.space_at-space.ensures in
     let small : pages_in c.space_at-space.result.now.size ≤ 32768 = (c.self.invariant.machine.each c.args.at c.space_at-space.result.now e).dense.small in
     rw (← c.self.view_is, held-is i c.args.at c.space_at-space.result.now e, length-pages_of i.ram c.space_at-space.result.now) small
-
-pub returns-clause-whole : goal.returns-clause-whole
-returns-clause-whole g c =
-    let i = c.self.inside in
-    let e = c.space_at-space.ensures in
-    rw (← c.self.view_is, held-is i c.args.at c.space_at-space.result.now e) (length-pages_of i.ram c.space_at-space.result.now)
-
-pub returns-clause-sized : goal.returns-clause-sized
-returns-clause-sized g c =
-    let i = c.self.inside in
-    let x = c.space_at-space.result.now in
-    let e = c.space_at-space.ensures in
-    rw (← c.self.view_is, held-is i c.args.at x e) (pages-sized i.ram x.root.0 x.trap.0 (pages_in x.size) c.frames_are_whole.ensures.memory (c.self.invariant.machine.each c.args.at x e).dense)

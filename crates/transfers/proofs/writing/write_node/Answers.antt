@@ -7,7 +7,7 @@ use Rattle.transfers.proofs.writing.write_node.Goals as goal
 
 pub overflow_add-from : goal.overflow_add-from
 overflow_add-from g c =
-    let low = count-low _ c.args.address c.args.count c.requires.readable c.pages-pages.ensures.sized c.pages-pages.ensures.few in
+    let low = count-low _ c.args.address c.args.count c.requires.readable c.pages_are_whole.ensures.sized c.pages_are_whole.ensures.few in
     omega (arith, low, c.from.ensures, c.ranges.offset.fits)
 
 pub returns-then-offset-size : goal.returns-then-offset-size
@@ -35,7 +35,7 @@ loop-done-init g c =
 
 pub overflow_add-address : goal.overflow_add-address
 overflow_add-address g c =
-    let low = given-low _ c.args.address c.args.count c.requires.readable c.loop-done.done c.loop-done-test.true c.pages-pages.ensures.sized c.pages-pages.ensures.few in
+    let low = given-low _ c.args.address c.args.count c.requires.readable c.loop-done.done c.loop-done-test.true c.pages_are_whole.ensures.sized c.pages_are_whole.ensures.few in
     omega (arith, low)
 
 pub write-requires-clause-file : goal.write-requires-clause-file
@@ -43,14 +43,14 @@ write-requires-clause-file g c = file-now c.loop-done.invariant
 
 pub unreachable-requires : goal.unreachable-requires
 unreachable-requires g c =
-    let within = piece-within _ c.args.address c.args.count c.requires.readable c.loop-done.done c.loop-done-test.true c.pages-pages.ensures.sized c.piece-piece.result.now c.piece-piece.ensures in
-    let part = piece-part _ c.args.address c.args.count c.requires.readable c.loop-done.done c.loop-done-test.true c.pages-pages.ensures.sized c.piece-piece.result.now c.piece-piece.ensures in
+    let within = piece-within _ c.args.address c.args.count c.requires.readable c.loop-done.done c.loop-done-test.true c.pages_are_whole.ensures.sized c.piece-piece.result.now c.piece-piece.ensures in
+    let part = piece-part _ c.args.address c.args.count c.requires.readable c.loop-done.done c.loop-done-test.true c.pages_are_whole.ensures.sized c.piece-piece.result.now c.piece-piece.ensures in
     never-refused c.loop-done.invariant c.piece-piece.result.now within part c.in_ok-went.ensures.told c.in_default.is
 
 pub overflow_add-done : goal.overflow_add-done
 overflow_add-done g c =
-    let within = piece-within _ c.args.address c.args.count c.requires.readable c.loop-done.done c.loop-done-test.true c.pages-pages.ensures.sized c.piece-piece.result.now c.piece-piece.ensures in
-    let part = piece-part _ c.args.address c.args.count c.requires.readable c.loop-done.done c.loop-done-test.true c.pages-pages.ensures.sized c.piece-piece.result.now c.piece-piece.ensures in
+    let within = piece-within _ c.args.address c.args.count c.requires.readable c.loop-done.done c.loop-done-test.true c.pages_are_whole.ensures.sized c.piece-piece.result.now c.piece-piece.ensures in
+    let part = piece-part _ c.args.address c.args.count c.requires.readable c.loop-done.done c.loop-done-test.true c.pages_are_whole.ensures.sized c.piece-piece.result.now c.piece-piece.ensures in
     let low = went-low c.loop-done.invariant c.piece-piece.result.now within part c.in_ok-went.ensures.told c.in-Some.went c.in-Some.is in
     let whole = given-length _ c.args.address c.args.count c.requires.readable in
     omega (arith, low, within, whole, c.ranges.count.fits)
@@ -58,23 +58,23 @@ overflow_add-done g c =
 pub returns-then-went-piece : goal.returns-then-went-piece
 returns-then-went-piece g c =
     let given = bytes_given c.args.spaces.now c.args.at c.args.address c.args.count in
-    let within = piece-within _ c.args.address c.args.count c.requires.readable c.loop-done.done c.loop-done-test.true c.pages-pages.ensures.sized c.piece-piece.result.now c.piece-piece.ensures in
-    let part = piece-part _ c.args.address c.args.count c.requires.readable c.loop-done.done c.loop-done-test.true c.pages-pages.ensures.sized c.piece-piece.result.now c.piece-piece.ensures in
+    let within = piece-within _ c.args.address c.args.count c.requires.readable c.loop-done.done c.loop-done-test.true c.pages_are_whole.ensures.sized c.piece-piece.result.now c.piece-piece.ensures in
+    let part = piece-part _ c.args.address c.args.count c.requires.readable c.loop-done.done c.loop-done-test.true c.pages_are_whole.ensures.sized c.piece-piece.result.now c.piece-piece.ensures in
     let was = c.loop-done.invariant.later in
     let later = c.write.ensures.cause.later in
     serves-told c.args.number c.args.offset given (write-part {new = given} c.loop-done.invariant c.piece-piece.result.now within part c.in_ok-went.ensures.told c.in-Some.went c.in-Some.is c.if-went-piece.true) c.in_ok-went.ensures.up (omega (arith, was, later))
 
 pub loop-done-smaller : goal.loop-done-smaller
 loop-done-smaller g c =
-    let some = piece-some _ c.args.address c.args.count c.requires.readable c.loop-done.done c.loop-done-test.true c.pages-pages.ensures.sized c.piece-piece.result.now c.piece-piece.ensures in
+    let some = piece-some _ c.args.address c.args.count c.requires.readable c.loop-done.done c.loop-done-test.true c.pages_are_whole.ensures.sized c.piece-piece.result.now c.piece-piece.ensures in
     let less = c.loop-done-test.true in
     let went = c.if-went-piece.false in
     omega (arith, some, less, went)
 
 pub loop-done-preserved : goal.loop-done-preserved
 loop-done-preserved g c =
-    let within = piece-within _ c.args.address c.args.count c.requires.readable c.loop-done.done c.loop-done-test.true c.pages-pages.ensures.sized c.piece-piece.result.now c.piece-piece.ensures in
-    let part = piece-part _ c.args.address c.args.count c.requires.readable c.loop-done.done c.loop-done-test.true c.pages-pages.ensures.sized c.piece-piece.result.now c.piece-piece.ensures in
+    let within = piece-within _ c.args.address c.args.count c.requires.readable c.loop-done.done c.loop-done-test.true c.pages_are_whole.ensures.sized c.piece-piece.result.now c.piece-piece.ensures in
+    let part = piece-part _ c.args.address c.args.count c.requires.readable c.loop-done.done c.loop-done-test.true c.pages_are_whole.ensures.sized c.piece-piece.result.now c.piece-piece.ensures in
     write-more c.loop-done.invariant c.piece-piece.result.now within part c.in_ok-went.ensures.told c.in-Some.went c.in-Some.is c.write.ensures.cause.later
 
 pub returns : goal.returns
