@@ -4,7 +4,8 @@ use Rattle.std.proofs.lemmas.Bool.{cases_lt, cases_eq}
 use Rattle.std.proofs.lemmas.List.{get_or-set_same, get_or-set_other, length-set}
 use Rattle.std.specs.Int.{bit_at}
 use Rattle.blockdev.specs.Blocks.{block_at}
-use Rattle.blockdev.specs.Splice.{get_or-part, part, splice, length-splice, get_or-splice_before, get_or-splice_inside, get_or-splice_after}
+use Rattle.blockdev.specs.Splice.{part, splice}
+use Rattle.blockdev.proofs.SpliceLemmas.{get_or-part, length-splice, get_or-splice_before, get_or-splice_inside, get_or-splice_after}
 use Rattle.layout.specs.Super.{bitmap_start_of}
 use Rattle.layout.specs.declared.Geometry.{Geometry}
 use Rattle.layout.specs.Image.{bit_in}

@@ -7,7 +7,7 @@ use Rattle.layout.specs.Super.{bitmap_start_of, data_start_of}
 use Rattle.layout.specs.declared.Geometry.{Geometry}
 use Rattle.layout.specs.Image.{bit_of, data_bits, free_blocks}
 use Rattle.balloc.specs.Bitmap.{IsFirstFree, IsFullFrom}
-use Rattle.balloc.specs.Counting.{get_or-data_bits, length-data_bits}
+use Rattle.balloc.proofs.Counting.{get_or-data_bits, length-data_bits}
 
 abbrev zeros_in : List ℕ → ℕ
 zeros_in bits = count_by (λ x. x == 0) bits

@@ -8,16 +8,17 @@ use Rattle.std.specs.Prelude.{count_by, ◌==◌}
 use Rattle.std.proofs.Common.{cond}
 use Rattle.std.proofs.lemmas.List.Sums.{sum_by-cons}
 use Rattle.blockdev.specs.Blocks.{block_at}
-use Rattle.blockdev.specs.Splice.{part, splice, get_or-part, length-splice}
+use Rattle.blockdev.specs.Splice.{part, splice}
+use Rattle.blockdev.proofs.SpliceLemmas.{get_or-part, length-splice}
 use Rattle.layout.specs.Super.{HasNumbers, SuperFits, bitmap_start_of, data_start_of, super_bytes, super_of}
-use Rattle.layout.specs.ReadsBack.{super_of-super_bytes}
+use Rattle.layout.proofs.ReadsBack.{super_of-super_bytes}
 use Rattle.layout.specs.declared.Geometry.{Geometry}
 use Rattle.layout.specs.declared.SuperBlock.{SuperBlock}
 use Rattle.layout.specs.Image.{IsInode, bit_in, bit_of, free_blocks, data_bits, inode_at, nodes_of}
 use Rattle.layout.specs.Sound.{HasParts, IsSound, TellsGeometry}
-use Rattle.layout.specs.Frame.{get_or-nodes_of, length-nodes_of, node_at-none}
+use Rattle.layout.proofs.Frame.{get_or-nodes_of, length-nodes_of, node_at-none}
 use Rattle.balloc.specs.Bitmap.{SetsBit}
-use Rattle.balloc.specs.Counting.{get_or-data_bits, length-data_bits}
+use Rattle.balloc.proofs.Counting.{get_or-data_bits, length-data_bits}
 use Rattle.balloc.specs.Format.{Cleared, HasFront, new_super}
 use Rattle.balloc.proofs.Records.{zero_at}
 

@@ -8,3 +8,4 @@ mod Scanning
 mod Searching
 mod Taking
 pub mod BitRules
+pub mod Counting

@@ -9,10 +9,11 @@ use Rattle.layout.specs.declared.DiskInode.{DiskInode}
 use Rattle.layout.specs.declared.Geometry.{Geometry}
 use Rattle.layout.specs.Image.{IsInode, IsUsed, RawNode, bit_in, free_blocks, inode_at, node_at, node_with, nodes_of}
 use Rattle.layout.specs.Sound.{IsSound}
-use Rattle.layout.specs.Frame.{IsSound-replace, KeepsOthers, node_at-none, nodes_of-changed}
-use Rattle.layout.specs.Grow.{Grows, Grows-keeps, Grows-node, Grows-sound, WritesInode}
-use Rattle.layout.specs.Plain.{Grows-empty, HoldsBytes-empty, asks_none}
-use Rattle.balloc.specs.Counting.{free_blocks-same}
+use Rattle.layout.proofs.Frame.{IsSound-replace, KeepsOthers, node_at-none, nodes_of-changed}
+use Rattle.layout.specs.Grow.{Grows, WritesInode}
+use Rattle.layout.proofs.GrowLemmas.{Grows-keeps, Grows-node, Grows-sound}
+use Rattle.layout.proofs.Plain.{Grows-empty, HoldsBytes-empty, asks_none}
+use Rattle.balloc.proofs.Counting.{free_blocks-same}
 use Rattle.balloc.specs.Inodes.{IsLowestUnused, IsUnused, fresh_inode, fresh_node}
 
 length-spelled : (xs : List ℕ) → length (spelled xs) ≡ 4 * length xs

@@ -5,7 +5,7 @@ use Rattle.layout.specs.Super.{data_start_of}
 use Rattle.layout.specs.declared.Geometry.{Geometry}
 use Rattle.layout.specs.Image.{IsFree, free_blocks}
 use Rattle.balloc.specs.Bitmap.{IsFirstFree, IsFullFrom, SetsBit, TakesLowest, TakesTwo}
-use Rattle.balloc.specs.Counting.{free_blocks-none, free_blocks-one, free_blocks-take}
+use Rattle.balloc.proofs.Counting.{free_blocks-none, free_blocks-one, free_blocks-take}
 
 pub TakesLowest-free : {g : Geometry} {old new : List (List ℕ)} {b : ℕ} → TakesLowest g old new b → free_blocks g new + 1 ≡ free_blocks g old
 TakesLowest-free {g} {old} {new} {b} t = free_blocks-take g old new b t.lowest.free t.takes

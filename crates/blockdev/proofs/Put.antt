@@ -4,7 +4,8 @@ use Rattle.std.proofs.lemmas.List.{length-set, get_or-set_same, get_or-set_other
 use Rattle.std.proofs.lemmas.Bool.{cases_eq, cases_lt}
 use Rattle.blockdev.specs.Blocks.{block_of, blocks_of}
 use Rattle.blockdev.specs.Sizes.{length-blocks_of, block_at-blocks_of}
-use Rattle.blockdev.specs.Splice.{splice, length-splice, part-splice_apart, part-splice_same}
+use Rattle.blockdev.specs.Splice.{splice}
+use Rattle.blockdev.proofs.SpliceLemmas.{length-splice, part-splice_apart, part-splice_same}
 
 pub blocks_of-splice : (n : ℕ) (xs ys : List ℕ) → length ys ≡ 1024 → n < length xs / 1024 → blocks_of (splice (1024 * n) ys xs) ≡ set (blocks_of xs) n ys
 blocks_of-splice n xs ys e h =

@@ -5,7 +5,8 @@ use Rattle.std.specs.Map.{lookup, set_value}
 use borrow.Rule.Slice.PartMut.{put_mid}
 use Rattle.lru.specs.LruCache.{LruCache, lru_cache, promoted, put_entries}
 use Rattle.blockdev.specs.Blocks.{AreBlocks, block_at}
-use Rattle.blockdev.specs.Splice.{length-splice, part, put_mid-splice, splice}
+use Rattle.blockdev.specs.Splice.{part, splice}
+use Rattle.blockdev.proofs.SpliceLemmas.{length-splice, put_mid-splice}
 use Rattle.cache.specs.Disk.{Disk}
 use Rattle.cache.specs.declared.held.Slot.{Slot}
 use Rattle.cache.specs.Overlay.{AreHeld, IsLastSafe, overlay}

@@ -20,7 +20,8 @@ use Rattle.calls.proofs.Forks.{set-swap}
 use Rattle.kernel.proofs.Opens.{opened-names, waits-other}
 use Rattle.kernel.proofs.Runs.{IsRun, moved, moved-kernel, moved-run, moved-state, place-space, process-with, runs-set, self, set-slot, slot-other, slot-within, stands-set, state-run, with_process}
 use Rattle.kernel.proofs.Steps.{held-run, placed-with}
-use Rattle.files.specs.Counts.{names, names-none}
+use Rattle.files.specs.Counts.{names}
+use Rattle.files.proofs.CountsLemmas.{names-none}
 use Rattle.proc.specs.declared.process.Process.{Process}
 use Rattle.proc.specs.declared.table.Reaped.{Reaped}
 use Rattle.proc.specs.Places.{Places, is_child_of, is_zombie_child_of, place_where, reaped_at, reaped_from, without, zombie_place}

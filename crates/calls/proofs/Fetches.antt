@@ -16,7 +16,7 @@ use Rattle.files.specs.declared.file.OpenFile.{OpenFile}
 use Rattle.files.specs.declared.file.Target.TheVariants as target
 use Rattle.files.specs.Meant.{file_of, target_of}
 use Rattle.files.specs.Places.{Counted, moved, opens_of}
-use Rattle.files.specs.Whole.{opens-moved}
+use Rattle.files.proofs.Whole.{opens-moved}
 use Rattle.kernel.specs.Holding.{FitsNode, IsInUse}
 use Rattle.kernel.specs.Kernel.{Kernel, descriptors_at, idle, left_as, on_hart, state_of}
 use Rattle.kernel.specs.Sound.{IsKernel, IsOpened, IsPlaced, IsReading}

@@ -11,10 +11,11 @@ use Rattle.calls.proofs.Acts.{Here, here-of, me, outcome-here, refused, settles,
 use Rattle.calls.proofs.Names.{home-is, names-rules, path-is}
 use Rattle.calls.proofs.Settles.{after}
 use Rattle.calls.proofs.Shapes.{folder-there}
-use Rattle.files.specs.Counts.{Counts, one_at, one_in}
-use Rattle.files.specs.Pipes.{without_pipes-same}
+use Rattle.files.specs.Counts.{one_in}
+use Rattle.files.proofs.CountsLemmas.{Counts, one_at}
+use Rattle.files.proofs.PipesLemmas.{without_pipes-same}
 use Rattle.files.specs.Places.{Counted, opens_of}
-use Rattle.files.specs.Whole.{without_opens-same}
+use Rattle.files.proofs.Whole.{without_opens-same}
 use Rattle.inode.specs.declared.InodeStat.{InodeStat}
 use Rattle.kernel.proofs.Dropping.{counted}
 use Rattle.kernel.proofs.Finishes.{counting-kernel, counting-used}

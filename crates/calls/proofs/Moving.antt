@@ -3,13 +3,14 @@
 use Rattle.std.proofs.Common.{◌≡◌, ℕ, zero, suc, ◌≤◌, ◌⊎◌, inl, inr, List, [], ◌∷◌, Option, Some, None, refl, ap, subst, sym, ◌∙◌}
 use Rattle.std.specs.Prelude.{IfSome, IsSome, option_map, ◌||◌}
 use Rattle.std.proofs.lemmas.Option.{none-some, same_Some}
-use Rattle.files.specs.Counts.{count-moved, one_in}
+use Rattle.files.specs.Counts.{one_in}
+use Rattle.files.proofs.CountsLemmas.{count-moved}
 use Rattle.files.specs.declared.file.OpenFile.{OpenFile}
 use Rattle.files.specs.declared.file.Target.{Target}
 use Rattle.files.specs.declared.file.Target.TheVariants as target
 use Rattle.files.specs.Meant.{file_of, target_of}
 use Rattle.files.specs.Places.{Counted, file_at, has_pipe, moved, moved_in, moved_to, opens_of}
-use Rattle.files.specs.Whole.{table-moved}
+use Rattle.files.proofs.Whole.{table-moved}
 use Rattle.kernel.specs.Holding.{FitsNode, IsFolder, IsInUse, home_in, node_in, node_of, node_on}
 use Rattle.kernel.specs.Sound.{IsOpenFile, IsOpened, is_awaited, is_on_pipe}
 use Rattle.kernel.proofs.Holding.{same-set, used-files}

@@ -19,14 +19,16 @@ use Rattle.calls.proofs.Names.{MakesNode, faulted, home-is, name-refused, name-s
 use Rattle.calls.proofs.Pipes.{given-refused}
 use Rattle.calls.proofs.Served.{lost-after, served-after}
 use Rattle.calls.proofs.Shapes.{used-changed}
-use Rattle.files.specs.Counts.{count-opened, names, names-put, one_in}
+use Rattle.files.specs.Counts.{names, one_in}
+use Rattle.files.proofs.CountsLemmas.{count-opened, names-put}
 use Rattle.files.specs.declared.file.OpenFile.{OpenFile}
 use Rattle.files.specs.declared.file.Target.TheVariants as target
 use Rattle.files.specs.Meant.{file_of, target_of}
-use Rattle.files.specs.Pipes.{IsPiped, has_pipe-put}
+use Rattle.files.specs.Pipes.{IsPiped}
+use Rattle.files.proofs.PipesLemmas.{has_pipe-put}
 use Rattle.files.specs.Places as places
 use Rattle.files.specs.Places.{Counted, count_at, count_in, file_at, free_count, opens_of}
-use Rattle.files.specs.Whole.{free_slot-opens, opens-opened, table-opened}
+use Rattle.files.proofs.Whole.{free_slot-opens, opens-opened, table-opened}
 use Rattle.files.proofs.Free.{free-None, free-opens, free-place}
 use Rattle.inode.specs.declared.InodeStat.{InodeStat}
 use Rattle.kernel.proofs.Holding.{hold-more}

@@ -18,15 +18,17 @@ use Rattle.kernel.proofs.Opens.{alike-same, file-opened, place-counts, waits-kep
 use Rattle.kernel.proofs.Runs.{same_or_not, set-twice, slot-other, slot-put, slot-within, with_process, within-run}
 use Rattle.kernel.proofs.Running.{live, not-killed, runs-mode}
 use Rattle.kernel.proofs.Steps.{held-run}
-use Rattle.files.specs.Counts.{count-opened, names, names-put}
+use Rattle.files.specs.Counts.{names}
+use Rattle.files.proofs.CountsLemmas.{count-opened, names-put}
 use Rattle.files.proofs.Free.{free-None, free-Some, free-opens, free-place, free-put}
-use Rattle.files.specs.Pipes.{IsPiped, piped-both}
+use Rattle.files.specs.Pipes.{IsPiped}
+use Rattle.files.proofs.PipesLemmas.{piped-both}
 use Rattle.files.specs.declared.table.FileFault.{FileFault}
 use Rattle.files.specs.declared.file.End.TheVariants as end
 use Rattle.files.specs.declared.file.OpenFile as file
 use Rattle.files.specs.Meant.{file_of}
 use Rattle.files.specs.Places.{Counted, count_at, count_in, file_at, free_count, opened, opens_of, place_for, place_from}
-use Rattle.files.specs.Whole.{free_slot-opens, opens-opened, table-opened}
+use Rattle.files.proofs.Whole.{free_slot-opens, opens-opened, table-opened}
 use Rattle.proc.specs.declared.process.Process.{Process}
 use Rattle.proc.specs.Places.{Places, changed, with_descriptor}
 use Rattle.spaces.specs.Spaces.{Held, Spaces, frames_in, held_at, taken_frames, with_held, with_pipe, written}

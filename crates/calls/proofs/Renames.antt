@@ -12,11 +12,12 @@ use Rattle.calls.proofs.Acts.{Here, does, here-of, me, named-placed, refused, tu
 use Rattle.kernel.proofs.Holding.{used-shared}
 use Rattle.kernel.proofs.Opens.{file-shared, place-counts, waits-fewer, waits-running, waits-set}
 use Rattle.kernel.proofs.Runs.{IsRun, set-slot, within-run}
-use Rattle.files.specs.Counts.{count-shared, names, names-put}
+use Rattle.files.specs.Counts.{names}
+use Rattle.files.proofs.CountsLemmas.{count-shared, names-put}
 use Rattle.files.proofs.Free.{free-place}
 use Rattle.files.specs.Pipes.{IsPiped}
 use Rattle.files.specs.Places.{count_at, opens_of, shared}
-use Rattle.files.specs.Whole.{opens-shared, table-shared}
+use Rattle.files.proofs.Whole.{opens-shared, table-shared}
 use Rattle.proc.specs.declared.process.Process.{Process}
 use Rattle.spaces.specs.Spaces.{Held}
 use Rattle.unixmodel.specs.declared.call.Call.TheVariants.{Dup}

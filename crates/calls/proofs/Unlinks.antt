@@ -12,9 +12,9 @@ use Rattle.calls.proofs.Acts.{Here, me, refused, settles, used-here}
 use Rattle.calls.proofs.Names.{faulted, given-then, here, home-is, mine, name-refused, name-sound, ok-done, over, over-here, over-state, path-is, with_made}
 use Rattle.calls.proofs.Settles.{after}
 use Rattle.calls.proofs.Shapes.{there, used-shaped}
-use Rattle.files.specs.Counts.{Counts}
-use Rattle.files.specs.Pipes.{without_pipes-same}
-use Rattle.files.specs.Whole.{set_outside, without_opens-same}
+use Rattle.files.proofs.CountsLemmas.{Counts}
+use Rattle.files.proofs.PipesLemmas.{without_pipes-same}
+use Rattle.files.proofs.Whole.{set_outside, without_opens-same}
 use Rattle.kernel.specs.Holding.{IsInUse}
 use Rattle.kernel.specs.Kernel.{Kernel, answered, argument, loaded, memories, state_of}
 use Rattle.kernel.specs.Sound.{IsKernel}

@@ -4,7 +4,7 @@ use Rattle.std.specs.List.{prefix_len}
 use Rattle.std.proofs.Common.{arith, refl}
 use Rattle.std.proofs.lemmas.List.Quantifiers.{position-Some}
 use Rattle.std.proofs.lemmas.List.Sums.{sum_by-cons, sum_by-set}
-use Rattle.files.specs.Counts.{lt-no, lt-yes}
+use Rattle.files.proofs.CountsLemmas.{lt-no, lt-yes}
 use Rattle.files.specs.Meant.{file_of}
 use Rattle.files.specs.Places.{Counted, free_count, opens_of}
 use Rattle.unixmodel.specs.Files.{free_slot, put, slot}

@@ -3,7 +3,7 @@ use Rattle.std.proofs.Common.{IfSome, List, None, Option, Some, [], ap, arith, l
 use Rattle.std.specs.List.{list_any, refill}
 use Rattle.arrayvec.proofs.ArrayVecLemmas.{items-with_items}
 use Rattle.files.specs.declared.table.Slot.{Slot}
-use Rattle.files.specs.Mapped.{any-told, free_slot-told, length-told, set-told, slot-told}
+use Rattle.files.proofs.Mapped.{any-told, free_slot-told, length-told, set-told, slot-told}
 use Rattle.files.specs.Meant.{file_of, is_slot_end, is_slot_pipe}
 use Rattle.files.specs.Places.{Counted, IsTable, counted_of, has_end, has_pipe, opens_of}
 use Rattle.unixmodel.specs.Files.{free_slot, slot}

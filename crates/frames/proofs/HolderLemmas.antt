@@ -6,7 +6,7 @@ use Rattle.std.specs.List.{IsDistinct, AllByRecursion, range_with_len, sum_by}
 use Rattle.ram.specs.Memory.{frame_of}
 use Rattle.frames.specs.declared.Frames.{Frames}
 use Rattle.frames.specs.Free.{among, counted, free_count, free_of, further_at, less_one, extra_of, IsFreeList, SameBut}
-use Rattle.frames.specs.FreeLemmas.{further-is, further-free, further-past, further-count, shared-is, not_free}
+use Rattle.frames.proofs.FreeLemmas.{further-is, further-free, further-past, further-count, shared-is, not_free}
 use Rattle.frames.specs.Holders.{one_if, count_of, holders_of, IsShared, Trades}
 
 pub one_if-le : (b : Bool) → one_if b ≤ 1

@@ -2,7 +2,7 @@
 use Rattle.std.proofs.Common.{◌≡◌, ℕ, ◌-◌, ◌<◌, ◌≤◌, List, None, Option, Some, length, ap, sym, refl, ◌∙◌, arith, subst, inl, inr, All, IsTrue, nat_lt, ◌||◌, Decides, get_or, min}
 use Rattle.std.proofs.lemmas.Bool.{and_from, cases_eq, le-leb, lt-ltb}
 use Rattle.std.proofs.lemmas.Bool.Decides.{Decides-eqb, Decides-like, same_from_decides}
-use Rattle.layout.specs.Frame.{length-bytes_of}
+use Rattle.layout.proofs.Frame.{length-bytes_of}
 use Rattle.layout.specs.Image.{IsInode, IsUsed, RawNode, slot_of}
 use Rattle.layout.specs.Image as disk
 use Rattle.layout.specs.Sound.{IsSound}

@@ -16,7 +16,8 @@ use Rattle.unixmodel.specs.Image.{Denotes}
 use Rattle.unixmodel.specs.Manifest.{ManifestEntry, bare_files, data_blocks_of, files_made, has_numbers, with_entries}
 use Rattle.unixmodel.specs.Manifest.Wrong.{Numbers}
 use Rattle.imagemake.specs.Begins.{MakesEntries}
-use Rattle.imagerules.specs.Content.{image_of, length-image_of}
+use Rattle.imagerules.specs.Content.{image_of}
+use Rattle.imagerules.proofs.ContentLemmas.{length-image_of}
 use Rattle.imagemake.specs.Making.{MakesImage, Refuses}
 use Rattle.imagemake.specs.Stored.{IsWhole, Stores, raw_slot}
 use Rattle.imagemake.specs.declared.manifest.MakeFault.{MakeFault}

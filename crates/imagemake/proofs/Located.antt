@@ -8,13 +8,14 @@ use Rattle.blockdev.specs.Splice.{part}
 use Rattle.layout.specs.Image.{blocks_for, slot_of}
 use Rattle.layout.specs.Image as disk
 use Rattle.layout.specs.Numbers.{number_at as number_in}
-use Rattle.layout.specs.NumberLemmas.{get_or-numbers_in}
-use Rattle.layout.specs.Slots.{slot_in-direct, slot_in-indirect, slot_of-last}
+use Rattle.layout.proofs.NumberLemmas.{get_or-numbers_in}
+use Rattle.layout.proofs.Slots.{slot_in-direct, slot_in-indirect, slot_of-last}
 use Rattle.layout.specs.Sound.{HasParts}
 use Rattle.layout.specs.declared.Geometry.{Geometry}
 use Rattle.unixmodel.specs.Image.{count_in, direct_in, index_in, indirect_in, inode_at, kind_in, length_in, links_in, major_in, minor_in}
 use Rattle.unixmodel.specs.Numbers.{number_at}
-use Rattle.imagerules.specs.Content.{image_of, length-image_of, part-image_of}
+use Rattle.imagerules.specs.Content.{image_of}
+use Rattle.imagerules.proofs.ContentLemmas.{length-image_of, part-image_of}
 use Rattle.imagerules.proofs.Named.{index_in-some}
 use Rattle.imagerules.proofs.Numbers.{get_or-numbers_at, number_at-drop}
 

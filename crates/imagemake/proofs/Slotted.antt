@@ -7,14 +7,15 @@ use Rattle.std.proofs.lemmas.List.{ext_get_or, get_or-append_right, get_or-drop,
 use Rattle.std.proofs.lemmas.List.Concat.{get_or-flat_map}
 use Rattle.std.proofs.lemmas.List.Elements.{All-append, All-cons, All-nil, All-take}
 use Rattle.std.proofs.lemmas.List.Folds.{list_any_at}
-use Rattle.layout.specs.Frame.{get_or-bytes_of, length-bytes_of}
+use Rattle.layout.proofs.Frame.{get_or-bytes_of, length-bytes_of}
 use Rattle.layout.specs.Image.{Asks, IsInode, IsSpare, byte_of, bytes_of, slot_of}
 use Rattle.layout.specs.Image as disk
 use Rattle.layout.specs.Sound.{HasParts}
 use Rattle.layout.specs.declared.Geometry.{Geometry}
 use Rattle.blockdev.specs.Blocks as device
 use Rattle.unixmodel.specs.Image.{block_at, contents_in, count_in, data_blocks, direct_in, index_in, indirect_in, kind_in, length_in, needs_indirect, unused_numbers}
-use Rattle.imagerules.specs.Content.{image_of, length-image_of, part-image_of}
+use Rattle.imagerules.specs.Content.{image_of}
+use Rattle.imagerules.proofs.ContentLemmas.{length-image_of, part-image_of}
 use Rattle.imagerules.specs.Marks.{blocks_of}
 use Rattle.imagemake.proofs.Located.{count-located, direct-located, index-located, indirect-located, kind-located, size-located}
 use Rattle.imagerules.proofs.Lists.{All-left, All-right}

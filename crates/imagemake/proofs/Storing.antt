@@ -7,7 +7,7 @@ use Rattle.std.proofs.lemmas.Option.{none-some, same_Some}
 use Rattle.unixmodel.specs.Counts.{blocks_of}
 use Rattle.unixmodel.specs.Files.{Files, Node, blocks_for, node_bytes, put, size_of, slot, taken}
 use Rattle.layout.specs.declared.Geometry.{Geometry}
-use Rattle.layout.specs.Frame.{get_or-nodes_of, length-nodes_of}
+use Rattle.layout.proofs.Frame.{get_or-nodes_of, length-nodes_of}
 use Rattle.layout.specs.Image.{IsInode, RawNode, bytes_of, free_blocks, inode_at, node_at, node_with, nodes_of}
 use Rattle.layout.specs.Sound.{IsSound}
 use Rattle.imagemake.specs.Stored.{IsWhole, Stores, raw_of, raw_slot}

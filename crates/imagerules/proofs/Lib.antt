@@ -11,3 +11,4 @@ pub mod Summing
 pub mod Super
 pub mod Trimmed
 pub mod Uses
+pub mod ContentLemmas

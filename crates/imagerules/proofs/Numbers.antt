@@ -4,7 +4,7 @@ use Rattle.std.proofs.lemmas.List.FromFn.{length-map-range_with_len, get_or-map-
 use Rattle.byteorder.specs.Endian.{little_number}
 use Rattle.byteorder.specs.Numbers.{little_from-cons}
 use Rattle.layout.specs.Numbers.{numbers_in}
-use Rattle.layout.specs.NumberLemmas.{get_or-numbers_in, length-numbers_in, number_at-take}
+use Rattle.layout.proofs.NumberLemmas.{get_or-numbers_in, length-numbers_in, number_at-take}
 use Rattle.unixmodel.specs.Image.{numbers_at}
 use Rattle.unixmodel.specs.Numbers.{number, number_at}
 use borrow.Rule.Slice.PartMut.{put_mid}

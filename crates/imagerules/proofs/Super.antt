@@ -7,7 +7,8 @@ use Rattle.layout.specs.declared.Geometry.{Geometry}
 use Rattle.layout.specs.declared.SuperBlock.{SuperBlock}
 use Rattle.unixmodel.specs.Image.{HasSuper, bitmap_start, data_start, inodes_in, size_in, super_number}
 use Rattle.unixmodel.specs.Numbers.{number_at}
-use Rattle.imagerules.specs.Content.{image_of, length-image_of, part-image_of}
+use Rattle.imagerules.specs.Content.{image_of}
+use Rattle.imagerules.proofs.ContentLemmas.{length-image_of, part-image_of}
 use Rattle.imagerules.specs.Fields.{HasGeometry, HasSuper-of}
 use Rattle.imagerules.specs.Pieces.{HasLength}
 use Rattle.imagerules.proofs.Numbers.{number_at-drop, number_at-part}

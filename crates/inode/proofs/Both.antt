@@ -3,18 +3,19 @@ use Rattle.std.proofs.Common.{◌≡◌, ◌≢◌, ℕ, ◌+◌, ◌-◌, ◌*�
 use Rattle.std.proofs.lemmas.Bool.{cases_eq, cases_lt}
 use Rattle.std.proofs.lemmas.List.{get_or-set_other, get_or-set_same, length-set}
 use Rattle.blockdev.specs.Blocks.{block_at}
-use Rattle.blockdev.specs.Splice.{splice, part-splice_same}
+use Rattle.blockdev.specs.Splice.{splice}
+use Rattle.blockdev.proofs.SpliceLemmas.{part-splice_same}
 use Rattle.layout.specs.Inode.{Fits}
 use Rattle.layout.specs.Numbers.{number_at}
-use Rattle.layout.specs.NumberLemmas.{number_at-take}
+use Rattle.layout.proofs.NumberLemmas.{number_at-take}
 use Rattle.layout.specs.Super.{bitmap_start_of}
 use Rattle.layout.specs.declared.DiskInode.{DiskInode}
 use Rattle.layout.specs.declared.Geometry.{Geometry}
 use Rattle.layout.specs.Image.{Asks, IsFree, IsSpare, IsUsed, bit_of, blocks_for, bytes_of, free_blocks, inode_at, slot_in, slot_of, taken_for}
-use Rattle.layout.specs.Slots.{slot_in-direct, slot_in-indirect, slot_in-last}
+use Rattle.layout.proofs.Slots.{slot_in-direct, slot_in-indirect, slot_in-last}
 use Rattle.layout.specs.Grow.{Grows, IsFresh}
 use Rattle.balloc.specs.Bitmap.{TakesTwo}
-use Rattle.balloc.specs.Counting.{free_blocks-take}
+use Rattle.balloc.proofs.Counting.{free_blocks-take}
 use Rattle.inode.specs.Held.{HasInode}
 use Rattle.inode.specs.Writing.{Prepares}
 use Rattle.inode.proofs.Growing.{Grows-step, HoldsBytes-append, Leaves, Leaves-put, PutsBlock, PutsBlock-write, own_asks, own_node, own_slot, own_used, taken_large, taken_small, used_apart}

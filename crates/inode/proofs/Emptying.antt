@@ -8,10 +8,11 @@ use Rattle.layout.specs.declared.DiskInode.{DiskInode}
 use Rattle.layout.specs.declared.Geometry.{Geometry}
 use Rattle.layout.specs.Grow.{WritesInode}
 use Rattle.layout.specs.Image.{IsUsed, bit_of, blocks_for, slot_in, slot_of, taken_for}
-use Rattle.layout.specs.Slots.{slot_of-last, used_last}
+use Rattle.layout.proofs.Slots.{slot_of-last, used_last}
 use Rattle.balloc.specs.Bitmap.{SetsBit}
 use Rattle.inode.specs.Held.{HasInode}
-use Rattle.inode.specs.Freeing.{Freed, Freed-as, Freed-more, Freed-taken, IsOwn, Wrote-freed, slot_in_freed}
+use Rattle.inode.specs.Freeing.{Freed, IsOwn}
+use Rattle.inode.proofs.FreeingLemmas.{Freed-as, Freed-more, Freed-taken, Wrote-freed, slot_in_freed}
 use Rattle.inode.specs.Writing.{Wrote}
 use Rattle.inode.proofs.Growing.{own_fits, own_node, own_used, taken_large, taken_small}
 

@@ -6,15 +6,16 @@ use Rattle.layout.specs.Inode.{Fits}
 use Rattle.layout.specs.Super.{bitmap_start_of}
 use Rattle.layout.specs.declared.DiskInode.{DiskInode}
 use Rattle.layout.specs.declared.Geometry.{Geometry}
-use Rattle.layout.specs.Frame.{IsSound-replace, KeepsOthers, nodes_of-changed}
-use Rattle.layout.specs.Grow.{Grows, Grows-keeps, Grows-node, Grows-sound, WritesInode}
+use Rattle.layout.proofs.Frame.{IsSound-replace, KeepsOthers, nodes_of-changed}
+use Rattle.layout.specs.Grow.{Grows, WritesInode}
+use Rattle.layout.proofs.GrowLemmas.{Grows-keeps, Grows-node, Grows-sound}
 use Rattle.layout.specs.Image.{bit_in, blocks_for, bytes_of, free_blocks, inode_at, nodes_of, slot_in, slot_of, taken_for}
-use Rattle.layout.specs.Plain.{Grows-same, HoldsBytes-same}
+use Rattle.layout.proofs.Plain.{Grows-same, HoldsBytes-same}
 use Rattle.layout.specs.Sound.{HasParts, IsSound}
-use Rattle.balloc.specs.Counting.{free_blocks-same}
+use Rattle.balloc.proofs.Counting.{free_blocks-same}
 use Rattle.inode.specs.Held.{HasInode}
 use Rattle.inode.specs.Writing.{BeginsBlock, LacksBlocks, LiesInBlock, Prepares, Wrote, node_linked}
-use Rattle.inode.specs.Wrote.{Wrote-record, WritesInode-same}
+use Rattle.inode.proofs.Wrote.{Wrote-record, WritesInode-same}
 use Rattle.inode.proofs.Growing.{own_length, taken_large, taken_small}
 use Rattle.inode.proofs.Reading.{slot_in_hand}
 use Rattle.inode.proofs.Steps.{Prepares-inside, put_written}

@@ -4,13 +4,14 @@ use Rattle.std.proofs.lemmas.Bool.{cases_eq, cases_lt}
 use Rattle.std.proofs.lemmas.Bool.Decides.{nat_tests}
 use Rattle.std.proofs.lemmas.List.{get_or-set_other, get_or-set_same, length-set, get_or_append_left, get_or-append_right, get_or-drop, get_or-take, length-append, length-drop, length-take-le}
 use Rattle.blockdev.specs.Blocks.{AreBlocks, block_at}
-use Rattle.blockdev.specs.Splice.{splice, length-splice}
+use Rattle.blockdev.specs.Splice.{splice}
+use Rattle.blockdev.proofs.SpliceLemmas.{length-splice}
 use Rattle.layout.specs.Super.{bitmap_start_of, data_start_of}
 use Rattle.layout.specs.declared.DiskInode.{DiskInode}
 use Rattle.layout.specs.declared.Geometry.{Geometry}
 use Rattle.layout.specs.Image.{Asks, IsFree, IsSpare, IsUsed, bit_in, bit_of, blocks_for, byte_of, bytes_of, inode_at, slot_in, slot_of, taken_for}
-use Rattle.layout.specs.Slots.{asks_at}
-use Rattle.layout.specs.Frame.{get_or-bytes_of, length-bytes_of}
+use Rattle.layout.proofs.Slots.{asks_at}
+use Rattle.layout.proofs.Frame.{get_or-bytes_of, length-bytes_of}
 use Rattle.layout.specs.Grow.{Grows, HoldsBytes, IsFresh}
 use Rattle.inode.specs.Held.{HasInode}
 use Rattle.inode.specs.Writing.{IsSameNode}

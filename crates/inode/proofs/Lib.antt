@@ -8,3 +8,5 @@ mod Pieces
 mod Reading
 mod Looking
 mod Steps
+pub mod Wrote
+pub mod FreeingLemmas

@@ -2,14 +2,15 @@
 use Rattle.std.proofs.Common.{◌≡◌, ℕ, ◌+◌, ◌-◌, ◌%◌, ◌<◌, ◌≤◌, List, Result, Err, ◌++◌, length, get_or, min, take, drop, ap, sym, ◌∙◌, arith, inl, inr, subst}
 use Rattle.std.proofs.lemmas.Bool.{cases_lt}
 use Rattle.std.proofs.lemmas.List.{ext_get_or, get_or-take, length-take-le, take-append-drop, take_all}
-use Rattle.blockdev.specs.Splice.{part, splice, length-part, get_or-part}
+use Rattle.blockdev.specs.Splice.{part, splice}
+use Rattle.blockdev.proofs.SpliceLemmas.{length-part, get_or-part}
 use Rattle.layout.specs.declared.Geometry.{Geometry}
 use Rattle.layout.specs.Image.{IsInode, bytes_of, taken_for}
 use Rattle.layout.specs.Sound.{IsSound}
 use Rattle.inode.specs.declared.InodeFault.{InodeFault}
 use Rattle.inode.specs.declared.InodeFault.TheVariants.{Blocks}
 use Rattle.inode.specs.Writing.{IsFull, LacksBlocks, Wrote}
-use Rattle.inode.specs.Wrote.{Wrote-nothing, Wrote-trans}
+use Rattle.inode.proofs.Wrote.{Wrote-nothing, Wrote-trans}
 use Rattle.inode.proofs.Causes.{told_written}
 use Rattle.inode.proofs.Growing.{get_or-extend_after, get_or-extend_before, get_or-extend_inside, length-extend}
 

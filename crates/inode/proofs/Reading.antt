@@ -4,15 +4,16 @@ use borrow.Rule.Slice.PartMut.{put_mid}
 use Rattle.std.proofs.lemmas.Bool.{cases_lt}
 use Rattle.std.proofs.lemmas.List.{ext_get_or, length-append, length-drop, length-take-le, get_or_append_left, get_or-append_right, get_or-drop}
 use Rattle.blockdev.specs.Blocks.{block_at}
-use Rattle.blockdev.specs.Splice.{part, splice, put_mid-splice, length-part, get_or-part, length-splice, get_or-splice_before, get_or-splice_inside, get_or-splice_after}
+use Rattle.blockdev.specs.Splice.{part, splice}
+use Rattle.blockdev.proofs.SpliceLemmas.{put_mid-splice, length-part, get_or-part, length-splice, get_or-splice_before, get_or-splice_inside, get_or-splice_after}
 use Rattle.layout.specs.declared.DiskInode.{DiskInode}
 use Rattle.layout.specs.Image.{IsInode, IsUsed, blocks_for, slot_in, slot_of, byte_of, bytes_of, inode_at}
 use Rattle.layout.specs.declared.Geometry.{Geometry}
 use Rattle.layout.specs.Sound.{IsSound}
 use Rattle.layout.specs.Numbers.{number_at}
-use Rattle.layout.specs.NumberLemmas.{number_at-take}
-use Rattle.layout.specs.Slots.{slot_of-last, used_last}
-use Rattle.layout.specs.Frame.{length-bytes_of, get_or-bytes_of}
+use Rattle.layout.proofs.NumberLemmas.{number_at-take}
+use Rattle.layout.proofs.Slots.{slot_of-last, used_last}
+use Rattle.layout.proofs.Frame.{length-bytes_of, get_or-bytes_of}
 use Rattle.inode.specs.Held.{HasInode, IsInHand, IsInHand-of}
 use Rattle.inode.specs.Reading.{HasRead}
 use Rattle.inode.proofs.Growing.{own_fits, own_length, own_used}

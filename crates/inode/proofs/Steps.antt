@@ -6,7 +6,8 @@ use Rattle.std.proofs.lemmas.List.{get_or-set_other, get_or-set_same, length-set
 use Rattle.byteorder.specs.Endian.{little_bytes, little_number}
 use Rattle.byteorder.specs.Numbers.{little_from-take, little_number-reads_back}
 use Rattle.blockdev.specs.Blocks.{block_at}
-use Rattle.blockdev.specs.Splice.{part, splice, part-splice_apart, part-splice_same}
+use Rattle.blockdev.specs.Splice.{part, splice}
+use Rattle.blockdev.proofs.SpliceLemmas.{part-splice_apart, part-splice_same}
 use Rattle.layout.specs.Inode.{Fits}
 use Rattle.layout.specs.Numbers.{number_at}
 use Rattle.layout.specs.Super.{bitmap_start_of, data_start_of}
@@ -14,11 +15,11 @@ use Rattle.layout.specs.declared.DiskInode.{DiskInode}
 use Rattle.layout.specs.declared.Geometry.{Geometry}
 use Rattle.layout.specs.Image.{Asks, IsFree, IsSpare, IsUsed, bit_in, bit_of, blocks_for, byte_of, bytes_of, free_blocks, inode_at, slot_in, slot_of, taken_for}
 use Rattle.layout.specs.Sound.{HasParts}
-use Rattle.layout.specs.Slots.{asks_at, asks_last, slot_in-direct, slot_in-indirect, slot_in-last, slot_in-same, used_within}
-use Rattle.layout.specs.Frame.{get_or-bytes_of, length-bytes_of}
+use Rattle.layout.proofs.Slots.{asks_at, asks_last, slot_in-direct, slot_in-indirect, slot_in-last, slot_in-same, used_within}
+use Rattle.layout.proofs.Frame.{get_or-bytes_of, length-bytes_of}
 use Rattle.layout.specs.Grow.{Grows, HoldsBytes, IsFresh}
 use Rattle.balloc.specs.Bitmap.{SetsBit, TakesLowest}
-use Rattle.balloc.specs.Counting.{free_blocks-same, free_blocks-take}
+use Rattle.balloc.proofs.Counting.{free_blocks-same, free_blocks-take}
 use Rattle.inode.specs.Held.{HasInode}
 use Rattle.inode.specs.Writing.{Prepares}
 use Rattle.inode.proofs.Growing.{Grows-step, HoldsBytes-append, Leaves, Leaves-put, PutsBlock, PutsBlock-write, get_or-extend_after, get_or-extend_before, get_or-extend_inside, length-extend, own_asks, own_fits, own_length, own_node, own_slot, own_spare, own_used, taken_large, taken_small, used_apart}

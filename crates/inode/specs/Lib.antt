@@ -1,6 +1,5 @@
 pub mod Held
 pub mod Reading
 pub mod Writing
-pub mod Wrote
 pub mod Freeing
 pub mod Looking

@@ -15,7 +15,8 @@ use Rattle.kernel.proofs.Named.{Leaves, counted-ended, counts-joined, fewer-pipe
 use Rattle.kernel.proofs.Opens.{opened-put, waits-fewer, waits-set}
 use Rattle.kernel.proofs.Reaped.{are-away, opened-loaded, used-loaded}
 use Rattle.kernel.proofs.Runs.{IsRun, memory-at, put-with, runs-set, same_or_not, set-twice, slot-other, slot-put, slot-within, state-run, with_process, within-run}
-use Rattle.files.specs.Counts.{Counts, one_at, one_in}
+use Rattle.files.specs.Counts.{one_in}
+use Rattle.files.proofs.CountsLemmas.{Counts, one_at}
 use Rattle.std.proofs.lemmas.List.Sums.{sum_by-cons, sum_by-set}
 use Rattle.std.proofs.lemmas.Option.{none-some}
 use Rattle.files.specs.Places.{Counted, opens_of}

@@ -7,13 +7,14 @@ use Rattle.std.proofs.lemmas.Bool.Decides.{nat_tests}
 use Rattle.std.proofs.lemmas.List.{get_or-set_other, get_or-set_same, length-set}
 use Rattle.std.proofs.lemmas.List.Sums.{sum_by-cons, sum_by-set}
 use Rattle.std.proofs.lemmas.Option.{none-some, same_Some}
-use Rattle.files.specs.Counts.{lt-no, lt-yes, one_at, one_in}
+use Rattle.files.specs.Counts.{one_in}
+use Rattle.files.proofs.CountsLemmas.{lt-no, lt-yes, one_at}
 use Rattle.files.specs.declared.file.OpenFile.{OpenFile}
 use Rattle.files.specs.declared.file.Target.{Target}
 use Rattle.files.specs.declared.file.Target.TheVariants as target
 use Rattle.files.specs.Meant.{file_of, target_of}
 use Rattle.files.specs.Places.{Counted, more, opened, opens_of, shared}
-use Rattle.files.specs.Whole.{set_outside}
+use Rattle.files.proofs.Whole.{set_outside}
 use Rattle.kernel.specs.Holding.{AreHeld, FitsNode, IsFolder, IsInUse, all_dropped, dropped, files_on, home_in, homes_at, node_in, node_of, node_on}
 use Rattle.kernel.specs.Sound.{IsFiled}
 use Rattle.names.proofs.Finding.{slot-within}

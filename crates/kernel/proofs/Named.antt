@@ -13,15 +13,17 @@ use Rattle.kernel.specs.Descriptors.{IsCounted, after_close, all_closed, all_sha
 use Rattle.kernel.proofs.Opens.{count-joined, file-shared}
 use Rattle.kernel.proofs.Holding.{AreOld, named_in, used-shared}
 use Rattle.kernel.specs.Holding.{IsInUse, files_on, gone_nodes, last_node, listed, node_in, node_on}
-use Rattle.files.specs.Counts.{Counts, count-closed, count-shared, lt-no, lt-yes, names, names-none, one_at, one_in}
-use Rattle.files.specs.Pipes.{IsLeftOf, IsPiped, has_pipe-clear, pipes-clear, pipes-left, pipes-same, piped-end, piped-last, piped-node, without_pipes-left}
+use Rattle.files.specs.Counts.{names, one_in}
+use Rattle.files.proofs.CountsLemmas.{Counts, count-closed, count-shared, lt-no, lt-yes, names-none, one_at}
+use Rattle.files.specs.Pipes.{IsPiped}
+use Rattle.files.proofs.PipesLemmas.{IsLeftOf, has_pipe-clear, pipes-clear, pipes-left, pipes-same, piped-end, piped-last, piped-node, without_pipes-left}
 use Rattle.files.specs.declared.file.End as files_end
 use Rattle.files.specs.declared.file.OpenFile.{OpenFile}
 use Rattle.files.specs.declared.file.Target.{Target}
 use Rattle.files.specs.declared.file.Target.TheVariants as target
 use Rattle.files.specs.Meant.{end_of, file_of, target_of}
 use Rattle.files.specs.Places.{Counted, IsTable, closed, count_at, fewer, file_at, has_pipe, last_in, last_target, opens_of, shared}
-use Rattle.files.specs.Whole.{IsLeft, left-closed, left-same, opens-closed, opens-closed_last, opens-shared, set_outside, slot-opens, table-closed, table-shared, without_opens-left}
+use Rattle.files.proofs.Whole.{IsLeft, left-closed, left-same, opens-closed, opens-closed_last, opens-shared, set_outside, slot-opens, table-closed, table-shared, without_opens-left}
 use Rattle.proc.specs.declared.process.Process.{Process}
 use Rattle.proc.specs.Places.{orphaned, zombie_of}
 use Rattle.proc.specs.Whole.{joined}

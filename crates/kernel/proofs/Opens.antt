@@ -6,14 +6,15 @@ use Rattle.std.proofs.lemmas.List.Sums.{sum_by-cons}
 use Rattle.kernel.specs.Descriptors.{IsCounted, descriptors_in, named_by, names_in}
 use Rattle.kernel.specs.Kernel.{Kernel, on_hart}
 use Rattle.kernel.specs.Sound.{IsAwaiting, IsForBytes, IsForPipe, IsFresh, IsOpenFile, IsOpened, WaitsAs, WaitsWell, file_named, is_awaited, is_on_pipe}
-use Rattle.files.specs.Counts as counts
-use Rattle.files.specs.Counts.{count_of, names, names-clear, one_at}
+use Rattle.files.proofs.CountsLemmas as counts
+use Rattle.files.specs.Counts.{names}
+use Rattle.files.proofs.CountsLemmas.{count_of, names-clear, one_at}
 use Rattle.files.specs.declared.file.OpenFile.{OpenFile}
 use Rattle.files.specs.declared.file.Target.{Target}
 use Rattle.files.specs.Meant.{file_of}
 use Rattle.files.specs.Places.{Counted, count_at, count_in, file_at, opened, opens_of, shared}
 use Rattle.std.proofs.lemmas.List.{get_or-set_other}
-use Rattle.files.specs.Whole.{slot-opens}
+use Rattle.files.proofs.Whole.{slot-opens}
 use Rattle.proc.specs.declared.process.Process.{Process}
 use Rattle.proc.specs.Places.{changed_at}
 use Rattle.proc.specs.Whole.{joined, with_memory}

@@ -5,7 +5,8 @@ use Rattle.std.proofs.lemmas.Bool.Decides.{nat_tests}
 use Rattle.kernel.specs.Kernel.{Kernel, Rest, base, lives, memories, rest_of, state_of}
 use Rattle.kernel.specs.Ready.{Stands, awaited_in, seen}
 use Rattle.kernel.specs.Sound.{IsAlive}
-use Rattle.files.specs.Pipes.{IsPiped, has_pipe-clear}
+use Rattle.files.specs.Pipes.{IsPiped}
+use Rattle.files.proofs.PipesLemmas.{has_pipe-clear}
 use Rattle.files.specs.Places.{has_pipe}
 use Rattle.proc.specs.declared.process.Process.{Process}
 use Rattle.proc.specs.Places.{Places, is_zombie_child_of, place_where}

@@ -6,10 +6,10 @@ use Rattle.std.proofs.lemmas.List.Sums.{sum_by-cons}
 use Rattle.kernel.specs.Kernel.{Kernel, loaded, memories, memory_in, on_hart, rest_of, state_of, state_with}
 use Rattle.kernel.specs.Sound.{IsKernel, IsMode, IsOpened, IsPlace}
 use Rattle.kernel.proofs.Opens.{count-joined, few-taken, opened-active}
-use Rattle.files.specs.Counts.{Counts}
-use Rattle.files.specs.Pipes.{without_pipes-same}
+use Rattle.files.proofs.CountsLemmas.{Counts}
+use Rattle.files.proofs.PipesLemmas.{without_pipes-same}
 use Rattle.files.specs.Places.{IsTable, opens_of}
-use Rattle.files.specs.Whole.{length-opens, without_opens-same}
+use Rattle.files.proofs.Whole.{length-opens, without_opens-same}
 use Rattle.proc.specs.declared.process.Process.{Process}
 use Rattle.proc.specs.Places.{Places, changed_at}
 use Rattle.proc.specs.Whole.{joined, with_memory}

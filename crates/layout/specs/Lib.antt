@@ -2,11 +2,6 @@ pub mod Numbers
 pub mod Inode
 pub mod Super
 pub mod Entries
-pub mod NumberLemmas
-pub mod ReadsBack
 pub mod Image
 pub mod Sound
-pub mod Slots
-pub mod Frame
 pub mod Grow
-pub mod Plain

@@ -1,8 +1,9 @@
 -- The kernel and the state that begin with the plan of /init.
-use Rattle.files.specs.Counts.{names-none, one_in}
+use Rattle.files.specs.Counts.{one_in}
+use Rattle.files.proofs.CountsLemmas.{names-none}
 use Rattle.files.specs.Places.{Counted, count_at, count_in, opens_of}
 use Rattle.files.specs.Meant.{file_of}
-use Rattle.files.specs.Whole.{slot-opens}
+use Rattle.files.proofs.Whole.{slot-opens}
 use Rattle.kernel.specs.Descriptors.{IsCounted, names_in}
 use Rattle.kernel.specs.Holding.{FitsNode, IsFolder, IsInUse, files_on, home_in, homes_at, node_in, node_of, node_on}
 use Rattle.kernel.specs.Kernel.{Kernel, begun, memory_in, state_of}

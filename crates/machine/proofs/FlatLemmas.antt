@@ -7,11 +7,12 @@ use lib.Seq.{drop-append-add}
 use Rattle.kernel.specs.Descriptors.{IsCounted, named_by, names_in}
 use Rattle.kernel.specs.Kernel.{memory_in, state_of}
 use Rattle.kernel.specs.Sound.{IsFiled, IsKernel, IsLive, IsOpenFile, IsOpened, IsPlace, IsPlaced, WaitsWell}
-use Rattle.files.specs.Counts.{names, names-free, one_in}
+use Rattle.files.specs.Counts.{names, one_in}
+use Rattle.files.proofs.CountsLemmas.{names-free}
 use Rattle.files.specs.declared.file.OpenFile.{OpenFile}
 use Rattle.files.specs.declared.table.FileFault.{FileFault}
 use Rattle.files.specs.Places.{Counted, count_at, count_in, opened, opens_of, place_for}
-use Rattle.files.specs.Whole.{slot-opens}
+use Rattle.files.proofs.Whole.{slot-opens}
 use Rattle.machine.specs.Flat.{alone, bare_plan, console_file, first, first_files, first_kernel, first_table, first_tree, flat_memory, flat_space}
 use Rattle.mount.specs.Mounted.{IsFlat}
 use Rattle.proc.specs.declared.process.Process.{Process}

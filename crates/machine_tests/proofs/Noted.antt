@@ -1,7 +1,7 @@
 -- What a translator holds after several calls.
 use Rattle.std.proofs.Common.{ℕ, List, inl, inr}
 use Rattle.unixmodel.specs.Translation.{Held, HoldsInside, IsKept}
-use Rattle.sv39.specs.WalkLemmas.{walk_page-inside}
+use Rattle.sv39.proofs.WalkLemmas.{walk_page-inside}
 
 -- what is kept over two calls for a root is kept over both
 pub kept-then : (a b c : Held) (ram : List (List ℕ)) (root : ℕ) → IsKept a b ram root → IsKept b c ram root → IsKept a c ram root

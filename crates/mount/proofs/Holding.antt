@@ -6,7 +6,7 @@ use Rattle.std.proofs.lemmas.List.{get_or_past}
 use Rattle.std.proofs.lemmas.List.Concat.{length-flat_map}
 use Rattle.std.proofs.lemmas.List.Elements.{All-weaker}
 use Rattle.std.proofs.lemmas.List.Sums.{sum_by-cons}
-use Rattle.layout.specs.Frame.{get_or-nodes_of, length-nodes_of, node_at-none, node_at-some}
+use Rattle.layout.proofs.Frame.{get_or-nodes_of, length-nodes_of, node_at-none, node_at-some}
 use Rattle.layout.specs.Image as disk
 use Rattle.layout.specs.Image.{IsInode, bit_in, bytes_of, data_bits, free_blocks, node_at, node_with, nodes_of}
 use Rattle.layout.specs.Sound.{HasParts}

@@ -8,7 +8,8 @@ use Rattle.settled.proofs.FromRules.{KeepsTree-rules, linked-rules}
 use Rattle.unixmodel.specs.Files.{Files, slot}
 use Rattle.unixmodel.specs.Image.{Denotes, size_in}
 use Rattle.unixmodel.specs.Manifest.{data_blocks_of}
-use Rattle.imagerules.specs.Content.{image_of, length-image_of}
+use Rattle.imagerules.specs.Content.{image_of}
+use Rattle.imagerules.proofs.ContentLemmas.{length-image_of}
 use Rattle.imagerules.proofs.Denoting.{Denotes-files}
 use Rattle.tree.specs.Held.{IsHeld, files_of}
 use Rattle.tree.specs.Tree.{tree_over}

@@ -8,7 +8,7 @@ use Rattle.imagemake.proofs.Located.{kind-located, links-located, major-located,
 use Rattle.imagemake.proofs.Slotted.{contents-are}
 use Rattle.imagerules.specs.Content.{image_of}
 use Rattle.layout.specs.declared.Geometry.{Geometry}
-use Rattle.layout.specs.Frame.{get_or-nodes_of, length-bytes_of, node_at-none, node_at-some}
+use Rattle.layout.proofs.Frame.{get_or-nodes_of, length-bytes_of, node_at-none, node_at-some}
 use Rattle.layout.specs.Image.{IsInode, bytes_of, inode_at, node_at, node_with}
 use Rattle.layout.specs.Sound.{HasParts}
 use Rattle.mount.specs.Mounted.{AreLinked}

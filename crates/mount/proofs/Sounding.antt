@@ -12,7 +12,8 @@ use Rattle.layout.specs.Super.{bitmap_start_of, data_start_of, super_of}
 use Rattle.layout.specs.declared.Geometry.{Geometry}
 use Rattle.unixmodel.specs.Files.{Files}
 use Rattle.unixmodel.specs.Image.{Denotes, bit_of, count_in, data_start, indirect_in, inodes_in, is_data_block, kind_in, length_in, named_blocks, size_in}
-use Rattle.imagerules.specs.Content.{image_of, length-image_of}
+use Rattle.imagerules.specs.Content.{image_of}
+use Rattle.imagerules.proofs.ContentLemmas.{length-image_of}
 use Rattle.imagerules.specs.Marks.{IsOnce, blocks_of}
 use Rattle.imagerules.specs.Pieces.{FitsAddresses}
 use Rattle.imagerules.proofs.Denoting.{HasKinds-denotes, HasSizes-denotes}

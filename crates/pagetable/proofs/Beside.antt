@@ -3,7 +3,7 @@ use Rattle.std.proofs.Common.{◌≡◌, ℕ, ◌%◌, List, length, Some, refl,
 use Rattle.ram.specs.Memory.{frame_of}
 use Rattle.sv39.specs.Walk.{entry_of}
 use Rattle.pagetable.specs.Tree.{child_of, Node, Root, Mid, Low, IsNode, table_at, child_at, leaf_at, low_node, lookup_of, IsTree, Holds}
-use Rattle.pagetable.specs.TreeLemmas.{entry_of-frame, child_at-same, leaf_at-same, low_is_node}
+use Rattle.pagetable.proofs.TreeLemmas.{entry_of-frame, child_at-same, leaf_at-same, low_is_node}
 
 held_at : (m : List (List ℕ)) (r : ℕ) (x : Node) (v : ℕ) → IsNode x → table_at m r x ≡ Some v → Holds m r v
 held_at m r x v nx at = record { place = x; is_node = nx; at_place = at }

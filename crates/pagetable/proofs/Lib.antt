@@ -5,3 +5,6 @@ pub mod ShapeLemmas
 pub mod Shown
 pub mod Unlink
 pub mod UnmapLemmas
+pub mod MarksLemmas
+pub mod TreeLemmas
+pub mod AgreeLemmas

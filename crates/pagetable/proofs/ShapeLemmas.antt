@@ -4,7 +4,7 @@ use Rattle.std.proofs.lemmas.Bool.{cases_eq}
 use Rattle.frames.specs.declared.Frames.{Frames}
 use Rattle.frames.specs.Free.{free_of}
 use Rattle.pagetable.specs.Tree.{Node, IsNode, IsUpper, next_node, table_at, low_node, mid_node, lookup_of, Links, IsPaged, Inserts, missing, missing_by}
-use Rattle.pagetable.specs.TreeLemmas.{low_is_node, mid_is_node, cases_node, table_at-link_other, held_absent, no_low}
+use Rattle.pagetable.proofs.TreeLemmas.{low_is_node, mid_is_node, cases_node, table_at-link_other, held_absent, no_low}
 use Rattle.pagetable.specs.Shape.{table_of, IsUsed, IsTidy, made, made_by, Adds}
 
 -- ---- a page that comes

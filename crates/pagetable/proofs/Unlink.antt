@@ -3,12 +3,12 @@ use Rattle.std.proofs.Common.{◌≡◌, ◌≢◌, ℕ, ◌/◌, ◌%◌, ◌<�
 use Rattle.std.proofs.lemmas.Bool.{cases_eq, ne_eqb}
 use Rattle.frames.specs.declared.Frames.{Frames}
 use Rattle.frames.specs.Free.{among, free_of, extra_of, IsFreeList, SameBut}
-use Rattle.frames.specs.FreeLemmas.{free_of-same, IsFreeList-same}
+use Rattle.frames.proofs.FreeLemmas.{free_of-same, IsFreeList-same}
 use Rattle.pagetable.proofs.Beside.{IsTree-same, table_at-same, lookup_of-same}
 use Rattle.ram.specs.Memory.{frame_of}
 use Rattle.sv39.specs.Walk.{entry_of}
 use Rattle.pagetable.specs.Tree.{child_of, leaf_of, Node, Root, Mid, Low, IsNode, IsUpper, next_node, table_at, child_at, leaf_at, low_node, lookup_of, IsTree, Holds, Writes, IsEntry, no_table, IsPaged, Keeps}
-use Rattle.pagetable.specs.TreeLemmas.{further-same, child_at-same, leaf_at-same, low_is_node, root_at, tables_apart, entry-write, child_of-zero, leaf_of-zero, cases_node, low_not_upper, write-stays}
+use Rattle.pagetable.proofs.TreeLemmas.{further-same, child_at-same, leaf_at-same, low_is_node, root_at, tables_apart, entry-write, child_of-zero, leaf_of-zero, cases_node, low_not_upper, write-stays}
 
 root-unlink : (m k : List (List ℕ)) (r d t c : ℕ) → IsTree m r → d < 512 → table_at m r (Mid d) ≡ Some t → Writes m k t c 0 → (a : ℕ) → a < 512 → entry_of k r a ≡ entry_of m r a
 root-unlink m k r d t c is nd at w a small = entry-write m k t c 0 r a w small (inl (tables_apart m r is Root (Mid d) r t tt nd (root_at m r) at (λ g. cc)))

@@ -3,11 +3,11 @@ use Rattle.std.proofs.Common.{◌≡◌, ◌≢◌, ℕ, ◌+◌, ◌*◌, ◌/�
 use Rattle.std.proofs.lemmas.Bool.{cases_eq}
 use Rattle.frames.specs.declared.Frames.{Frames}
 use Rattle.frames.specs.Free.{SameBut}
-use Rattle.frames.specs.FreeLemmas.{IsFreeList-same}
+use Rattle.frames.proofs.FreeLemmas.{IsFreeList-same}
 use Rattle.ram.specs.Memory.{frame_of}
 use Rattle.sv39.specs.Walk.{entry_of}
 use Rattle.pagetable.specs.Tree.{leaf_of, Node, Mid, Low, IsNode, IsUpper, next_node, table_at, child_at, leaf_at, low_node, mid_node, lookup_of, IsTree, Holds, Writes, no_leaf, IsPaged}
-use Rattle.pagetable.specs.TreeLemmas.{low_is_node, table_at-write, IsTree-write, free_of-write, write-stays, lookup_of-write_other, leaf_of-zero, leaf_of-some, child_of-some, cases_node}
+use Rattle.pagetable.proofs.TreeLemmas.{low_is_node, table_at-write, IsTree-write, free_of-write, write-stays, lookup_of-write_other, leaf_of-zero, leaf_of-some, child_of-some, cases_node}
 use Rattle.pagetable.proofs.Beside.{table_at-same}
 use Rattle.pagetable.proofs.Unlink.{unlink_cases, among_not, table_at-unlink_other, table_at-unlink_same}
 use Rattle.pagetable.specs.Shape.{IsUsed, IsTidy, Removes}

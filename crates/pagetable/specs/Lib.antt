@@ -1,5 +1,4 @@
 pub mod Tree
-pub mod TreeLemmas
 pub mod Marks
 pub mod Agree
 pub mod Shape

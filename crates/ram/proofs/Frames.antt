@@ -3,7 +3,7 @@ use Rattle.std.proofs.Common.{◌≡◌, ℕ, ◌%◌, ◌+◌, ◌-◌, ◌<◌
 use Rattle.std.proofs.lemmas.List.{take_at, length-take-le, length-replicate, map-set, get_or-map, length-map, get_or_default, drop_all, take_all, length-drop, append-nil, drop-drop, set-append_left}
 use borrow.Rule.Slice.PartMut.{post_of}
 use Rattle.std.specs.Prelude.{slice_range}
-use Rattle.ram.specs.MemoryLemmas.{length-put_bytes}
+use Rattle.ram.proofs.MemoryLemmas.{length-put_bytes}
 use Rattle.ram.specs.Memory.{sized, frame_of, IsMemory, put, put_bytes, word_bytes}
 
 pub length-sized : (xs : List ℕ) → length (sized xs) ≡ 4096

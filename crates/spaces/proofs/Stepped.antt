@@ -17,7 +17,7 @@ use Rattle.spaces.proofs.Pipes.{pipes-beside}
 use Rattle.std.proofs.Common.{◌≡◌, ◌&&◌, Bool, false, inl, inr, ℕ, ◌/◌, ◌<◌, ◌≤◌, List, length, map, slice_set, subst, true, Option, Some, None, Ok, Err, refl, sym, ap, ◌∙◌, arith}
 use Rattle.std.specs.Prelude.{IfNone, IfSome, is_some, slice_get}
 use Rattle.sv39.specs.Mapping.{IsCoherent, Mapped, Shows, WalksTo, coherent-kept, memory_of, shows-coherent}
-use Rattle.sv39.specs.WalkLemmas.{walk_page-inside}
+use Rattle.sv39.proofs.WalkLemmas.{walk_page-inside}
 use Rattle.unixmodel.specs.Cycle.{cycle}
 use Rattle.unixmodel.specs.declared.trap.Trap.{Trap}
 use Rattle.unixmodel.specs.Meaning.{Computed, Effect, trap}

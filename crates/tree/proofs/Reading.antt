@@ -11,7 +11,7 @@ use Rattle.blockdev.specs.Splice.{part}
 use Rattle.blockdev.specs.declared.DeviceFault.{DeviceFault}
 use Rattle.cache.specs.Disk.{Disk}
 use Rattle.layout.specs.declared.Geometry.{Geometry}
-use Rattle.layout.specs.Frame.{length-bytes_of}
+use Rattle.layout.proofs.Frame.{length-bytes_of}
 use Rattle.layout.specs.Image.{IsInode, bytes_of}
 use Rattle.layout.specs.Sound.{IsSound}
 use Rattle.tree.specs.declared.place.Found.{Found}

@@ -5,7 +5,7 @@ use Rattle.std.proofs.lemmas.Bool.{cases_eq}
 use Rattle.std.proofs.lemmas.List.{get_or-set_other, get_or-set_same, length-set}
 use Rattle.blockdev.specs.declared.DeviceFault.{DeviceFault}
 use Rattle.layout.specs.declared.Geometry.{Geometry}
-use Rattle.layout.specs.Frame.{length-bytes_of}
+use Rattle.layout.proofs.Frame.{length-bytes_of}
 use Rattle.layout.specs.Image.{RawNode, bytes_of, free_blocks, inode_at, node_with, nodes_of, taken_for}
 use Rattle.layout.specs.Sound.{IsSound}
 use Rattle.inode.specs.Writing.{Wrote}

@@ -7,7 +7,7 @@ use Rattle.std.proofs.lemmas.List.Quantifiers.{position-Some}
 use Rattle.std.proofs.lemmas.Option.{none-some, same_Some}
 use Rattle.balloc.specs.Inodes.{IsLowestUnused, fresh_node}
 use Rattle.layout.specs.declared.Geometry.{Geometry}
-use Rattle.layout.specs.Frame.{get_or-nodes_of}
+use Rattle.layout.proofs.Frame.{get_or-nodes_of}
 use Rattle.layout.specs.Image.{bytes_of, free_blocks, inode_at, node_at, node_with, nodes_of}
 use Rattle.layout.specs.Sound.{IsSound}
 use Rattle.tree.specs.Entering.{fresh}

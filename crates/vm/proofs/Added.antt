@@ -4,11 +4,11 @@ use Rattle.std.proofs.lemmas.Bool.{cases_eq}
 use Rattle.ram.specs.Memory.{frame_of}
 use Rattle.frames.specs.declared.Frames.{Frames}
 use Rattle.frames.specs.Free.{among, free_of, free_count, further_at, IsFreeList}
-use Rattle.frames.specs.FreeLemmas.{further-free}
+use Rattle.frames.proofs.FreeLemmas.{further-free}
 use Rattle.frames.specs.Holders.{one_if, count_of, holders_of, Trades}
 use Rattle.frames.proofs.HolderLemmas.{one_if-le, count_of-append, count_of-first, count_of-other, held-inside, not-free-held, holders-free, holders-table, free-holders, none-among}
 use Rattle.pagetable.specs.Tree.{lookup_of, missing}
-use Rattle.pagetable.specs.TreeLemmas.{further-same}
+use Rattle.pagetable.proofs.TreeLemmas.{further-same}
 use Rattle.vm.specs.Dense.{trap_page, frame_at, marks_at, page_at, page_with, pages_below, frames_below, tables_for, tables_below, held, frames_for, IsDense, IsHeld}
 use Rattle.vm.proofs.DenseLemmas.{count-held, page-held, pages_below-more, table-held}
 use Rattle.vm.proofs.GrowLemmas.{lookup-parts, frame_at-is, marks_at-is, frame_at-same, marks_at-same, held-same, made-tables, missing-next}

@@ -5,7 +5,7 @@ use Rattle.std.proofs.lemmas.Bool.{cases_eq, cases_lt, ne_eqb, lt-ltb, le-ltb}
 use Rattle.frames.specs.Holders.{one_if, count_of}
 use Rattle.frames.proofs.HolderLemmas.{count_of-append, count_of-first}
 use Rattle.pagetable.specs.Tree.{Node, Root, Mid, Low, mid_node, low_node, table_at, lookup_of, Holds}
-use Rattle.pagetable.specs.TreeLemmas.{root_at}
+use Rattle.pagetable.proofs.TreeLemmas.{root_at}
 use Rattle.pagetable.specs.Shape.{table_of, IsUsed}
 use Rattle.pagetable.proofs.ShapeLemmas.{table_of-some}
 use Rattle.std.proofs.lemmas.List.{map-append}

@@ -14,7 +14,7 @@ use Rattle.vm.specs.Dense.{trap_page, frame_at, marks_at, read_below, pages_belo
 use Rattle.vm.proofs.Beside.{Besides, Trades-held}
 use Rattle.vm.proofs.DenseLemmas.{count-held, page-held, table-held}
 use Rattle.vm.proofs.GrowLemmas.{frame_at-same, lookup-parts, marks_at-same, held-same, made-tables}
-use Rattle.pagetable.specs.TreeLemmas.{further-same}
+use Rattle.pagetable.proofs.TreeLemmas.{further-same}
 use Rattle.vm.proofs.StepLemmas.{held-not_free, beyond-held, read_below-same, pages_below-same}
 use Rattle.unixmodel.specs.Memory.{Marks}
 use Rattle.vm.specs.Leaf.{is_open}

@@ -7,7 +7,7 @@ use Rattle.frames.specs.Free.{among, free_of, extra_of}
 use Rattle.frames.specs.Holders.{one_if, count_of, Trades}
 use Rattle.frames.proofs.HolderLemmas.{count_of-first, count_of-other, among-none, none-among, holders-table}
 use Rattle.pagetable.specs.Tree.{Node, Root, Mid, Low, IsNode, mid_node, low_node, table_at, lookup_of, IsPaged, Holds}
-use Rattle.pagetable.specs.TreeLemmas.{further-same, mid_is_node, root_at}
+use Rattle.pagetable.proofs.TreeLemmas.{further-same, mid_is_node, root_at}
 use Rattle.pagetable.proofs.Beside.{IsTree-same, table_at-same}
 use Rattle.pagetable.specs.Shape.{table_of, IsEmpty}
 use Rattle.pagetable.proofs.EmptyLemmas.{IsEmpty-tables}

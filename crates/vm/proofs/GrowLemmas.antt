@@ -3,7 +3,7 @@ use Rattle.std.proofs.Common.{◌≡◌, ◌≢◌, ℕ, zero, suc, ◌+◌, ◌
 use Rattle.std.proofs.lemmas.Bool.{cases_eq, ne_eqb}
 use Rattle.ram.specs.Memory.{frame_of}
 use Rattle.pagetable.specs.Tree.{Node, Mid, Low, IsNode, leaf_at, mid_node, low_node, table_at, lookup_of, Holds, missing}
-use Rattle.pagetable.specs.TreeLemmas.{low_is_node, mid_is_node, no_low}
+use Rattle.pagetable.proofs.TreeLemmas.{low_is_node, mid_is_node, no_low}
 use Rattle.pagetable.proofs.Beside.{IsTree-same, table_at-same, lookup_of-same}
 use Rattle.pagetable.specs.Shape.{table_of, IsTidy, made}
 use Rattle.pagetable.proofs.ShapeLemmas.{table_of-some, length-made}

@@ -3,11 +3,11 @@ use Rattle.std.proofs.Common.{◌≡◌, ◌≢◌, ℕ, ◌+◌, false, true, L
 use Rattle.ram.specs.Memory.{frame_of}
 use Rattle.frames.specs.declared.Frames.{Frames}
 use Rattle.frames.specs.Free.{among, free_of, free_count, extra_of, IsFreeList}
-use Rattle.frames.specs.FreeLemmas.{among_first_not}
+use Rattle.frames.proofs.FreeLemmas.{among_first_not}
 use Rattle.frames.specs.Holders.{count_of, Trades}
 use Rattle.frames.proofs.HolderLemmas.{count_of-first, among-none, none-among, holders-table, held-inside, distinct-count}
 use Rattle.pagetable.specs.Tree.{Root, mid_node, low_node, table_at, IsPaged, Holds, missing}
-use Rattle.pagetable.specs.TreeLemmas.{free-first, free_count-taken, further-same, mid_is_node, root_at, missing_two}
+use Rattle.pagetable.proofs.TreeLemmas.{free-first, free_count-taken, further-same, mid_is_node, root_at, missing_two}
 use Rattle.pagetable.proofs.Beside.{IsTree-same, table_at-same, lookup_of-same}
 use Rattle.pagetable.specs.Shape.{table_of, IsEmpty}
 use Rattle.pagetable.proofs.ShapeLemmas.{made-two}
@@ -15,7 +15,7 @@ use Rattle.pagetable.proofs.EmptyLemmas.{only-root}
 use Rattle.vm.specs.Dense.{trap_page, trap_marks, frames_below, tables_below, held, IsDense, IsHeld}
 use Rattle.vm.proofs.DenseLemmas.{count-held}
 use Rattle.vm.proofs.StepLemmas.{IsTaken, IsNext, alone-next, fresh-next, free-after}
-use Rattle.frames.specs.FreeLemmas.{among_first}
+use Rattle.frames.proofs.FreeLemmas.{among_first}
 
 -- an empty page table whose frame was free, and then a frame that is taken
 pub record IsStart (m j z : List (List ℕ)) (s a q : Frames) (r t : ℕ) : Type 0 where

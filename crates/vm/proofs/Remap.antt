@@ -5,11 +5,11 @@ use Rattle.unixmodel.specs.Memory.{Marks, Page}
 use Rattle.ram.specs.Memory.{frame_of}
 use Rattle.frames.specs.declared.Frames.{Frames}
 use Rattle.frames.specs.Free.{among, free_of, further_at, IsFreeList}
-use Rattle.frames.specs.FreeLemmas.{among_first, among_first_not, free_of-same, further-free, IsFreeList-same}
+use Rattle.frames.proofs.FreeLemmas.{among_first, among_first_not, free_of-same, further-free, IsFreeList-same}
 use Rattle.frames.specs.Holders.{one_if, count_of, holders_of, Trades}
 use Rattle.frames.proofs.HolderLemmas.{one_if-le, count_of-first, count_of-other, held-inside, not-free-held, holders-free, holders-table, free-holders, Trades-none, Trades-twice}
 use Rattle.pagetable.specs.Tree.{IsLeafMarks, Node, IsNode, mid_node, low_node, table_at, lookup_of, IsPaged, Holds, Keeps, Inserts}
-use Rattle.pagetable.specs.TreeLemmas.{low_is_node, mid_is_node, free-first}
+use Rattle.pagetable.proofs.TreeLemmas.{low_is_node, mid_is_node, free-first}
 use Rattle.pagetable.proofs.LookupLemmas.{lookup-sound}
 use Rattle.pagetable.proofs.Beside.{IsTree-same, table_at-same, lookup_of-same}
 use Rattle.pagetable.specs.Shape.{IsTidy}

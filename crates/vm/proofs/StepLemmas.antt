@@ -4,11 +4,11 @@ use Rattle.std.proofs.lemmas.Bool.{cases_eq}
 use Rattle.ram.specs.Memory.{frame_of}
 use Rattle.frames.specs.declared.Frames.{Frames}
 use Rattle.frames.specs.Free.{among, free_of, free_count, extra_of, further_at, IsFreeList}
-use Rattle.frames.specs.FreeLemmas.{among_first, free_of-same, IsFreeList-same, further-free}
+use Rattle.frames.proofs.FreeLemmas.{among_first, free_of-same, IsFreeList-same, further-free}
 use Rattle.frames.specs.Holders.{one_if, count_of, holders_of, Trades}
 use Rattle.frames.proofs.HolderLemmas.{count_of-append, count_of-first, among-none, none-among, holders-table, free-holders, held-inside, one-holder, distinct-count, count-cases}
 use Rattle.pagetable.specs.Tree.{table_at, lookup_of, IsPaged, Holds, Keeps, Inserts, missing}
-use Rattle.pagetable.specs.TreeLemmas.{free-first, further-same, free_count-taken}
+use Rattle.pagetable.proofs.TreeLemmas.{free-first, further-same, free_count-taken}
 use Rattle.pagetable.proofs.Beside.{IsTree-same, table_at-same, lookup_of-same}
 use Rattle.pagetable.specs.Shape.{IsTidy, made, Adds}
 use Rattle.pagetable.proofs.ShapeLemmas.{length-made}

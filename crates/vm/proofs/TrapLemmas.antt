@@ -7,7 +7,7 @@ use Rattle.ram.specs.Memory.{frame_of, put, put_bytes, word_of, word_bytes, IsMe
 use Rattle.frames.proofs.HolderLemmas.{count_of-first}
 use Rattle.pagetable.proofs.LookupLemmas.{lookup-sound}
 use Rattle.vm.specs.Dense.{trap_page, trap_marks}
-use Rattle.ram.specs.MemoryLemmas.{get_or-put_bytes_below, get_or-put_bytes_above, frame_of-put_same, length-word_bytes, word_of-put_same, word_of-put_beside}
+use Rattle.ram.proofs.MemoryLemmas.{get_or-put_bytes_below, get_or-put_bytes_above, frame_of-put_same, length-word_bytes, word_of-put_same, word_of-put_beside}
 use Rattle.vm.specs.declared.Space.{Space}
 use Rattle.vm.specs.Space.{pages_in, IsMapped, IsOnce, pages_of, registers_of, Stands}
 use Rattle.vm.proofs.StoreLemmas.{private-set, stands, Writes-trap, pages-kept, Stands-twice}

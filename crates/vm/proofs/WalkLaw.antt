@@ -8,7 +8,8 @@ use Rattle.unixmodel.specs.declared.trap.Access.TheVariants.{Fetch, Load, Store}
 use Rattle.unixmodel.specs.Memory.{Marks, permits}
 use Rattle.unixmodel.specs.Translation.{leaf_allows, is_canonical, Held}
 use Rattle.sv39.specs.Mapping.{Mapped, memory_of, page_in, allowed, frame_for, WalksTo, IsCoherent}
-use Rattle.pagetable.specs.Agree.{translation, given_frame, walk_page-tree}
+use Rattle.pagetable.specs.Agree.{translation, given_frame}
+use Rattle.pagetable.proofs.AgreeLemmas.{walk_page-tree}
 use Rattle.pagetable.specs.Tree.{lookup_of}
 use Rattle.vm.specs.Dense.{trap_page, trap_marks, frame_at, marks_at, read_at, read_below, entries_below, IsDense}
 use Rattle.vm.specs.Leaf.{entry_marks}

@@ -1,6 +1,6 @@
 use Rattle.std.proofs.Common.{◌∙◌, arith}
 use Rattle.std.proofs.lemmas.Result.{on_ok_weaker}
-use Rattle.balloc.specs.Counting.{free_blocks-give}
+use Rattle.balloc.proofs.Counting.{free_blocks-give}
 use Rattle.balloc.proofs.Bits.{SetsBit-byte}
 use Rattle.balloc.proofs.Exits.{HasCause-after, HasCause-failed, told_err}
 use Rattle.balloc.proofs.blocks.give_block.Goals as goal

@@ -1,6 +1,6 @@
 use Rattle.std.proofs.Common.{◌≡◌, ◌∙◌, ap, length}
 use Rattle.std.proofs.lemmas.Result.{on_ok_weaker}
-use Rattle.layout.specs.Grow.{WritesInode-write}
+use Rattle.layout.proofs.GrowLemmas.{WritesInode-write}
 use Rattle.balloc.proofs.Records.{length-inode_bytes}
 use Rattle.balloc.proofs.inodes.write_inode.Goals as goal
 

@@ -1,6 +1,6 @@
 use Rattle.std.proofs.Common.{◌≡◌, refl, arith, length, sym, ap, ◌∙◌, ◌-◌, ◌+◌, ◌∷◌, ℕ, List, get_or}
 use Rattle.std.specs.List.{range_with_len}
-use Rattle.frames.specs.FreeLemmas.{free_of-none, IsFreeList-none, further-none, among-range_below, range-before}
+use Rattle.frames.proofs.FreeLemmas.{free_of-none, IsFreeList-none, further-none, among-range_below, range-before}
 use Rattle.frames.proofs.HolderLemmas.{IsShared-new}
 use Rattle.frames.proofs.Frames.free_all.Goals as goal
 

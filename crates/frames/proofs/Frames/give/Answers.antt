@@ -1,5 +1,5 @@
 use Rattle.std.proofs.Common.{arith}
-use Rattle.frames.specs.FreeLemmas.{count-read, further-is, free_count-list}
+use Rattle.frames.proofs.FreeLemmas.{count-read, further-is, free_count-list}
 use Rattle.frames.proofs.HolderLemmas.{holders-list}
 use Rattle.frames.proofs.Frames.give.Goals as goal
 

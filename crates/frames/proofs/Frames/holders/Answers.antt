@@ -1,5 +1,5 @@
 use Rattle.std.proofs.Common.{sym, ◌∙◌}
-use Rattle.frames.specs.FreeLemmas.{count-read}
+use Rattle.frames.proofs.FreeLemmas.{count-read}
 use Rattle.frames.proofs.HolderLemmas.{holders-counted}
 use Rattle.frames.proofs.Frames.holders.Goals as goal
 

@@ -1,7 +1,7 @@
 use Rattle.std.proofs.Common.{arith, refl}
 use Rattle.ram.specs.Memory.{word_bytes}
-use Rattle.ram.specs.MemoryLemmas.{length-put}
-use Rattle.frames.specs.FreeLemmas.{count-le, free_of-give, IsFreeList-give, SameBut-put}
+use Rattle.ram.proofs.MemoryLemmas.{length-put}
+use Rattle.frames.proofs.FreeLemmas.{count-le, free_of-give, IsFreeList-give, SameBut-put}
 use Rattle.frames.proofs.Frames.push.Goals as goal
 
 given : goal.returns-clause-free

@@ -1,6 +1,6 @@
 use Rattle.std.proofs.Common.{◌+◌, arith, refl, sym, ◌∙◌}
 use Rattle.frames.specs.Free.{free_of}
-use Rattle.frames.specs.FreeLemmas.{count-le, count-read, length-free_of, further-le, none-free, free_count-fewer, IsFreeList-count}
+use Rattle.frames.proofs.FreeLemmas.{count-le, count-read, length-free_of, further-le, none-free, free_count-fewer, IsFreeList-count}
 use Rattle.frames.proofs.HolderLemmas.{held-inside, holders-counted, holders-more}
 use Rattle.frames.proofs.Frames.share.Goals as goal
 

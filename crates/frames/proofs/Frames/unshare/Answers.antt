@@ -1,6 +1,6 @@
 use Rattle.std.proofs.Common.{◌-◌, arith, refl}
 use Rattle.frames.specs.Free.{free_of}
-use Rattle.frames.specs.FreeLemmas.{count-read, further-held, further-is, shared-some, free_count-more, IsFreeList-count}
+use Rattle.frames.proofs.FreeLemmas.{count-read, further-held, further-is, shared-some, free_count-more, IsFreeList-count}
 use Rattle.frames.proofs.HolderLemmas.{holders-fewer}
 use Rattle.frames.proofs.Frames.unshare.Goals as goal
 

@@ -2,7 +2,7 @@ use Rattle.std.proofs.Common.{◌≡◌, ◌<◌, ◌∙◌, arith, refl}
 use Rattle.std.proofs.lemmas.Result.{err_from_is_err_and, on_ok_weaker}
 use Rattle.layout.specs.Image.{blocks_for}
 use Rattle.inode.specs.Held.{HasInode-of}
-use Rattle.inode.specs.Freeing.{Freed-none}
+use Rattle.inode.proofs.FreeingLemmas.{Freed-none}
 use Rattle.inode.proofs.Causes.{HasCause-after, HasCause-good, HasCause-told}
 use Rattle.inode.proofs.Emptying.{freed_all, freed_few, here_end, here_first, here_freed, here_low, here_numbers, here_taken, last_end, last_first, last_taken}
 use Rattle.inode.proofs.empty.give_blocks.Goals as goal

@@ -1,7 +1,7 @@
 use Rattle.std.proofs.Common.{◌-◌, ap, ◌∙◌, le_refl, refl, sym}
 use Rattle.std.proofs.lemmas.Result.{err_from_is_err_and}
 use Rattle.layout.specs.Numbers.{number_at}
-use Rattle.layout.specs.Slots.{slot_in-direct, slot_in-indirect}
+use Rattle.layout.proofs.Slots.{slot_in-direct, slot_in-indirect}
 use Rattle.inode.proofs.Causes.{HasCause-first, HasCause-good}
 use Rattle.inode.proofs.Reading.{number-part}
 use Rattle.inode.proofs.read.block_number.Goals as goal

@@ -1,7 +1,7 @@
 use Rattle.std.proofs.Common.{Ok, Err, ap, ◌∙◌, arith, refl}
 use Rattle.std.specs.Result.{is_err}
 use Rattle.inode.specs.declared.InodeFault.TheVariants.{Blocks, Device, PastEnd, TooLong}
-use Rattle.inode.specs.Wrote.{IsInode-same}
+use Rattle.inode.proofs.Wrote.{IsInode-same}
 use Rattle.inode.proofs.Causes.{Rises-before, device_alone, done_alone, full_alone, past_end_alone, told_device, too_long_alone}
 use Rattle.inode.proofs.Growing.{own_fits, own_past, own_short, own_within}
 use Rattle.inode.proofs.Pieces.{IsFull-piece, IsFull-told, Wrote-all, Wrote-begin, Wrote-piece, piece_less, piece_room, piece_short, piece_some, piece_within, place_within}

@@ -2,7 +2,7 @@ use Rattle.std.proofs.Common.{◌≡◌, ℕ, ◌<◌, ◌^◌, List, length, ta
 use Rattle.std.proofs.lemmas.Slice.{between_to_end}
 use Rattle.byteorder.specs.Endian.{little_number}
 use Rattle.layout.specs.Numbers.{number_at, numbers_in}
-use Rattle.layout.specs.NumberLemmas.{numbers_in-take, length-numbers_in, get_or-numbers_in, number_at-fits, same_inode}
+use Rattle.layout.proofs.NumberLemmas.{numbers_in-take, length-numbers_in, get_or-numbers_in, number_at-fits, same_inode}
 use Rattle.layout.proofs.DiskInode.from_front.Goals as goal
 
 -- what lies behind `&bytes[i..]`

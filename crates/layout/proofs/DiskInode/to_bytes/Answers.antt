@@ -1,4 +1,4 @@
-use Rattle.layout.specs.ReadsBack.{inode_of-inode_bytes}
+use Rattle.layout.proofs.ReadsBack.{inode_of-inode_bytes}
 use Rattle.layout.proofs.DiskInode.to_bytes.Goals as goal
 
 pub returns-clause-reads_back : goal.returns-clause-reads_back

@@ -1,4 +1,4 @@
-use Rattle.layout.specs.ReadsBack.{entry_of-entry_bytes}
+use Rattle.layout.proofs.ReadsBack.{entry_of-entry_bytes}
 use Rattle.layout.proofs.Entry.to_bytes.Goals as goal
 
 pub returns-clause-reads_back : goal.returns-clause-reads_back

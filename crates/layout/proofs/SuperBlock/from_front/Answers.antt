@@ -1,6 +1,6 @@
 use Rattle.std.proofs.Common.{◌≡◌, ℕ, ◌<◌, List, get_or, take, ap, ◌∙◌, arith}
 use Rattle.layout.specs.Numbers.{number_at, numbers_in}
-use Rattle.layout.specs.NumberLemmas.{get_or-numbers_in, number_at-take, same_super}
+use Rattle.layout.proofs.NumberLemmas.{get_or-numbers_in, number_at-take, same_super}
 use Rattle.layout.proofs.SuperBlock.from_front.Goals as goal
 
 field : (bytes read : List ℕ) (k : ℕ) → k < 8 → read ≡ numbers_in 8 (take 32 bytes) → get_or read k 0 ≡ number_at bytes k

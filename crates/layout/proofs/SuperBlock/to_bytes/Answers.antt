@@ -1,4 +1,4 @@
-use Rattle.layout.specs.ReadsBack.{super_of-super_bytes}
+use Rattle.layout.proofs.ReadsBack.{super_of-super_bytes}
 use Rattle.layout.proofs.SuperBlock.to_bytes.Goals as goal
 
 pub returns-clause-reads_back : goal.returns-clause-reads_back

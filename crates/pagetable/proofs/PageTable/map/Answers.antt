@@ -1,5 +1,5 @@
 use Rattle.std.proofs.Common.{refl, arith, length, ap, ◌∙◌, sym}
-use Rattle.pagetable.specs.TreeLemmas.{free_count-taken, missing_zero, missing_one, missing_two}
+use Rattle.pagetable.proofs.TreeLemmas.{free_count-taken, missing_zero, missing_one, missing_two}
 use Rattle.pagetable.proofs.ShapeLemmas.{Adds-zero, Adds-one, Adds-two, IsTidy-insert, Inserts-after}
 use Rattle.pagetable.proofs.PageTable.map.Goals as goal
 

@@ -1,4 +1,4 @@
-use Rattle.pagetable.specs.TreeLemmas.{free-first}
+use Rattle.pagetable.proofs.TreeLemmas.{free-first}
 use Rattle.pagetable.proofs.EmptyLemmas.{IsPaged-new, IsTidy-empty}
 use Rattle.pagetable.proofs.PageTable.new.Goals as goal
 

@@ -1,5 +1,5 @@
 use Rattle.std.proofs.Common.{None}
-use Rattle.pagetable.specs.TreeLemmas.{lookup_of-low}
+use Rattle.pagetable.proofs.TreeLemmas.{lookup_of-low}
 use Rattle.pagetable.proofs.ShapeLemmas.{IsTidy-set}
 use Rattle.pagetable.proofs.PageTable.remap.Goals as goal
 

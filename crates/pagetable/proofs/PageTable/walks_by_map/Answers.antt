@@ -1,4 +1,4 @@
-use Rattle.pagetable.specs.Agree.{walk_page-tree}
+use Rattle.pagetable.proofs.AgreeLemmas.{walk_page-tree}
 use Rattle.pagetable.proofs.PageTable.walks_by_map.Goals as goal
 
 pub returns : goal.returns

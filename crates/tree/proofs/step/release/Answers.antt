@@ -1,5 +1,5 @@
 use Rattle.std.proofs.Common.{◌∙◌}
-use Rattle.inode.specs.Wrote.{IsInode-same}
+use Rattle.inode.proofs.Wrote.{IsInode-same}
 use Rattle.tree.specs.Held.{files_of}
 use Rattle.tree.proofs.Linking.{some-node}
 use Rattle.tree.proofs.Reading.{HasCause-after}

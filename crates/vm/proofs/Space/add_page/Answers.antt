@@ -1,7 +1,7 @@
 use Rattle.std.proofs.Common.{◌≡◌, ◌<◌, arith, length, ap, ◌∙◌, replicate, add-one}
 use Rattle.ram.specs.Memory.{frame_of}
 use Rattle.vm.proofs.GrowLemmas.{IsTidy-same}
-use Rattle.pagetable.specs.TreeLemmas.{free-first}
+use Rattle.pagetable.proofs.TreeLemmas.{free-first}
 use Rattle.std.proofs.Common.{get_or-set_same}
 use Rattle.vm.proofs.StepLemmas.{IsTaken, IsTaken-set, IsPaged-taken, tables-same, missing-taken, IsHeld-next, Trades-next, pages-next, room-next, trap-next, mapping-next}
 use Rattle.vm.proofs.Space.add_page.Goals as goal

@@ -1,6 +1,6 @@
 use Rattle.std.proofs.Common.{◌<◌, arith, length, ap, ◌∙◌, replicate, length-set, get_or-set_same}
 use Rattle.ram.specs.Memory.{frame_of}
-use Rattle.pagetable.specs.TreeLemmas.{free-first}
+use Rattle.pagetable.proofs.TreeLemmas.{free-first}
 use Rattle.pagetable.proofs.EmptyLemmas.{IsTidy-empty}
 use Rattle.vm.proofs.StepLemmas.{IsTaken, IsTaken-set}
 use Rattle.vm.proofs.LeafLemmas.{leaf-trap}

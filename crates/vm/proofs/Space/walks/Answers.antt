@@ -1,6 +1,6 @@
 use Rattle.std.proofs.Common.{sym, ap, ◌∙◌}
 use Rattle.sv39.specs.Mapping.{Mapped}
-use Rattle.pagetable.specs.TreeLemmas.{tree-root}
+use Rattle.pagetable.proofs.TreeLemmas.{tree-root}
 use Rattle.vm.specs.Space.{pages_in}
 use Rattle.vm.proofs.StoreLemmas.{page-inside, pages-same}
 use Rattle.vm.proofs.WalkLaw.{walks-entries, mapping-within, mapping-is}

@@ -11,7 +11,7 @@ use Rattle.layout.specs.declared.DiskInode.{DiskInode}
 use Rattle.layout.specs.declared.Geometry.{Geometry}
 use Rattle.layout.specs.Image.{IsInode, IsSpare, IsUsed, RawNode, bit_of, byte_of, bytes_of, inode_at, node_at, node_with, nodes_of, slot_in, slot_of}
 use Rattle.layout.specs.Sound.{IsNamed, IsSound, TellsGeometry}
-use Rattle.layout.specs.Slots.{IsInode-same, IsSpare-same, IsUsed-same, slot_in-same, slot_of-last, used_at, used_last, used_within}
+use Rattle.layout.proofs.Slots.{IsInode-same, IsSpare-same, IsUsed-same, slot_in-same, slot_of-last, used_at, used_last, used_within}
 
 -- ---- lists made by place
 

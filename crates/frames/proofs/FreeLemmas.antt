@@ -9,7 +9,7 @@ use Rattle.std.proofs.lemmas.List.{get_or_past, get_or-replicate, length-replica
 use Rattle.std.proofs.lemmas.List.Sums.{sum_by-cons, sum_by-set, get_or-le-sum_by}
 use Rattle.std.specs.List.{IsDistinct, AllByRecursion, range_with_len, sum_by}
 use Rattle.ram.specs.Memory.{frame_of, word_of, IsMemory, put, word_bytes}
-use Rattle.ram.specs.MemoryLemmas.{word_of-frame, word_of-put_same, frame_of-put_other, length-put}
+use Rattle.ram.proofs.MemoryLemmas.{word_of-frame, word_of-put_same, frame_of-put_other, length-put}
 use Rattle.frames.specs.declared.Frames.{Frames}
 use Rattle.frames.specs.Free.{among, chain, free_of, counted, less_one, extra_of, further_at, free_count, IsFreeList, SameBut}
 

@@ -4,8 +4,8 @@ use Rattle.std.specs.Prelude.{Bool, List, None, Option, Some, [], cond, false, l
 use Rattle.std.proofs.Common.{ap, ap₂, arith, get_or-set_other, get_or-set_same, inl, inr, length-set, refl, sym, ◌∙◌}
 use Rattle.std.proofs.lemmas.List.{set-get_or}
 use Rattle.std.proofs.lemmas.Bool.{cases_eq, cases_lt}
-use Rattle.files.specs.Counts.{Counts, count_of, described-no, described-yes, lt-no, lt-yes}
-use Rattle.files.specs.Mapped.{free_slot-told, length-told, set-told, slot-told}
+use Rattle.files.proofs.CountsLemmas.{Counts, count_of, described-no, described-yes, lt-no, lt-yes}
+use Rattle.files.proofs.Mapped.{free_slot-told, length-told, set-told, slot-told}
 use Rattle.files.specs.declared.file.OpenFile.{OpenFile}
 use Rattle.files.specs.declared.file.Target.TheVariants as target
 use Rattle.files.specs.Meant.{file_of, target_of}

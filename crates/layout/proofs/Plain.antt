@@ -8,8 +8,8 @@ use Rattle.layout.specs.declared.Geometry.{Geometry}
 use Rattle.layout.specs.Image.{Asks, IsInode, IsSpare, IsUsed, byte_of, bytes_of, inode_at, slot_in, slot_of}
 use Rattle.layout.specs.Sound.{IsSound}
 use Rattle.layout.specs.Numbers.{number_at}
-use Rattle.layout.specs.Slots.{asks_at, slot_in-direct, slot_in-indirect, slot_in-last, used_within}
-use Rattle.layout.specs.Frame.{get_or-bytes_of, length-bytes_of}
+use Rattle.layout.proofs.Slots.{asks_at, slot_in-direct, slot_in-indirect, slot_in-last, used_within}
+use Rattle.layout.proofs.Frame.{get_or-bytes_of, length-bytes_of}
 use Rattle.layout.specs.Grow.{Grows, HoldsBytes}
 
 -- a size of 0 asks for nothing

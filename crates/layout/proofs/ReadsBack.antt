@@ -11,7 +11,7 @@ use Rattle.layout.specs.Entries.{entry_of, entry_bytes, EntryFits}
 use Rattle.layout.specs.Super.{super_of, super_bytes, super_numbers, SuperFits}
 use Rattle.layout.specs.declared.Entry.{Entry}
 use Rattle.layout.specs.declared.SuperBlock.{SuperBlock}
-use Rattle.layout.specs.NumberLemmas.{get_or-numbers_in, length-numbers_in, same_inode, same_super}
+use Rattle.layout.proofs.NumberLemmas.{get_or-numbers_in, length-numbers_in, same_inode, same_super}
 
 pub number_at-spelled : (xs rest : List ℕ) (k : ℕ) → k < length xs → ((i : ℕ) → i < length xs → get_or xs i 0 < 2 ^ 32) → number_at (spelled xs ++ rest) k ≡ get_or xs k 0
 number_at-spelled [] rest k h fits = absurd (omega arith)

@@ -8,10 +8,11 @@ use Rattle.layout.specs.declared.DiskInode.{DiskInode}
 use Rattle.layout.specs.declared.Geometry.{Geometry}
 use Rattle.layout.specs.Image.{IsInode, RawNode, bit_in, bytes_of, free_blocks, inode_at, node_with, nodes_of, taken_for}
 use Rattle.layout.specs.Sound.{IsSound}
-use Rattle.layout.specs.Frame.{IsSound-replace, get_or-nodes_of, length-bytes_of, node_at-some, nodes_of-changed}
+use Rattle.layout.proofs.Frame.{IsSound-replace, get_or-nodes_of, length-bytes_of, node_at-some, nodes_of-changed}
 use Rattle.layout.specs.Inode.{inode_of}
-use Rattle.layout.specs.Grow.{Grows, Grows-bytes, Grows-keeps, Grows-node, Grows-sound, WritesInode}
-use Rattle.balloc.specs.Counting.{free_blocks-same}
+use Rattle.layout.specs.Grow.{Grows, WritesInode}
+use Rattle.layout.proofs.GrowLemmas.{Grows-bytes, Grows-keeps, Grows-node, Grows-sound}
+use Rattle.balloc.proofs.Counting.{free_blocks-same}
 use Rattle.inode.specs.Writing.{IsSameNode, Prepares, Wrote}
 
 set-set : (xs : List (Option RawNode)) (i : ℕ) (a b : Option RawNode) → set (set xs i a) i b ≡ set xs i b

@@ -1,0 +1,133 @@
+-- Lemmas on what `specs/Pipes` defines.
+use Rattle.std.specs.Prelude.{Bool, List, None, Option, Some, [], false, is_some, length, suc, true, zero, ℕ, ◌<◌, ◌≡◌, ◌≢◌, ◌||◌, ◌==◌, ◌∷◌}
+use Rattle.std.specs.List.{list_any}
+use Rattle.std.proofs.Common.{ap, arith, get_or-set_other, get_or-set_same, inl, inr, length-set, refl, sym, ◌∙◌}
+use Rattle.std.proofs.lemmas.Bool.{cases_eq}
+use Rattle.std.proofs.lemmas.Bool.Decides.{nat_tests}
+use Rattle.files.specs.Places.{has_pipe}
+use Rattle.files.proofs.Whole.{kept-each, kept_in}
+use Rattle.unixmodel.specs.FileCalls.{pipe_end}
+use Rattle.unixmodel.specs.Files.{clear, put, slot, taken}
+use Rattle.unixmodel.specs.OpenFiles.{End, OpenFile, is_pipe}
+use Rattle.unixmodel.specs.OpenFiles.End.{ReadEnd, WriteEnd}
+use Rattle.unixmodel.specs.OpenFiles.Target.{OnNode, OnPipe}
+use Rattle.unixmodel.specs.Reap.{is_piped, kept, without_pipes}
+use Rattle.unixmodel.specs.State.{State}
+use Rattle.files.specs.Pipes.{IsPiped}
+
+-- ---- open files that come and go
+
+or-swap : (a b c : Bool) → (a || (b || c)) ≡ (b || (a || c))
+or-swap true true c = refl
+or-swap true false c = refl
+or-swap false b c = refl
+
+module _ {X : Type 0} (test : X → Bool) where
+  -- x takes a free place
+  pub any-put : (xs : List (Option X)) (i : ℕ) (x : X) → i < length xs → slot xs i ≡ None → list_any test (taken (put xs i x)) ≡ (test x || list_any test (taken xs))
+  any-put [] i x h free = absurd (omega (arith, h))
+  any-put (o ∷ xs) zero x h free = rw free refl
+  any-put (None ∷ xs) (suc i) x h free = any-put xs i x (omega (arith, h)) free
+  any-put (Some y ∷ xs) (suc i) x h free = rw (any-put xs i x (omega (arith, h)) free) (or-swap (test y) (test x) (list_any test (taken xs)))
+
+  -- x loses its place
+  pub any-clear : (xs : List (Option X)) (i : ℕ) (x : X) → slot xs i ≡ Some x → list_any test (taken xs) ≡ (test x || list_any test (taken (clear xs i)))
+  any-clear [] i x at = absurd (let bad : None ≡ Some x = at in cc)
+  any-clear (o ∷ xs) zero x at = rw at refl
+  any-clear (None ∷ xs) (suc i) x at = any-clear xs i x at
+  any-clear (Some y ∷ xs) (suc i) x at = rw (any-clear xs i x at) (or-swap (test y) (test x) (list_any test (taken (clear xs i))))
+
+pub has_pipe-put : (opens : List (Option OpenFile)) (k : ℕ) (f : OpenFile) (q : ℕ) → k < length opens → slot opens k ≡ None → has_pipe (put opens k f) q ≡ (is_pipe q f.target || has_pipe opens q)
+has_pipe-put opens k f q h free = any-put (λ (g : OpenFile). is_pipe q g.target) opens k f h free
+
+pub has_pipe-clear : (opens : List (Option OpenFile)) (k : ℕ) (f : OpenFile) (q : ℕ) → slot opens k ≡ Some f → has_pipe opens q ≡ (is_pipe q f.target || has_pipe (clear opens k) q)
+has_pipe-clear opens k f q at = any-clear (λ (g : OpenFile). is_pipe q g.target) opens k f at
+
+eq-self : (n : ℕ) → (n == n) ≡ true
+eq-self n = grind (arith, nat_tests)
+
+eq-other : (m n : ℕ) → m ≢ n → (n == m) ≡ false
+eq-other m n h = grind (arith, nat_tests)
+
+-- an end of another pipe goes
+pub other-pipe : (opens : List (Option OpenFile)) (k q r : ℕ) (f : OpenFile) (e : End) → slot opens k ≡ Some f → f.target ≡ OnPipe q e → r ≢ q → has_pipe (clear opens k) r ≡ has_pipe opens r
+other-pipe opens k q r f e at on other = sym (has_pipe-clear opens k f r at ∙ rw (on, eq-other r q other) refl)
+
+-- a node goes
+pub piped-node : (pipes : List (Option (List ℕ))) (opens : List (Option OpenFile)) (k n offset : ℕ) (f : OpenFile) → IsPiped pipes opens → slot opens k ≡ Some f → f.target ≡ OnNode n offset → IsPiped pipes (clear opens k)
+piped-node pipes opens k n offset f is at on q = is q ∙ has_pipe-clear opens k f q at ∙ rw on refl
+
+-- an end goes, and another one of the pipe stays
+pub piped-end : (pipes : List (Option (List ℕ))) (opens : List (Option OpenFile)) (k q : ℕ) (f : OpenFile) (e : End) → IsPiped pipes opens → slot opens k ≡ Some f → f.target ≡ OnPipe q e → has_pipe (clear opens k) q ≡ true → IsPiped pipes (clear opens k)
+piped-end pipes opens k q f e is at on stays r = elim (cases_eq r q) [
+  | inl same ↦ rw (same, is q, has_pipe-clear opens k f q at, stays, on, eq-self q) refl
+  | inr other ↦ is r ∙ sym (other-pipe opens k q r f e at on other)
+]
+
+slot-clear : {X : Type 0} (xs : List (Option X)) (i : ℕ) → slot (clear xs i) i ≡ None
+slot-clear [] i = refl
+slot-clear (x ∷ xs) zero = refl
+slot-clear (x ∷ xs) (suc i) = slot-clear xs i
+
+-- the last end of a pipe goes, and the pipe with it
+pub piped-last : (pipes : List (Option (List ℕ))) (opens : List (Option OpenFile)) (k q : ℕ) (f : OpenFile) (e : End) → IsPiped pipes opens → slot opens k ≡ Some f → f.target ≡ OnPipe q e → has_pipe (clear opens k) q ≡ false → IsPiped (clear pipes q) (clear opens k)
+piped-last pipes opens k q f e is at on gone r = elim (cases_eq r q) [
+  | inl same ↦ rw (same, slot-clear pipes q, gone) refl
+  | inr other ↦ rw (get_or-set_other pipes q r None None other) (is r ∙ sym (other-pipe opens k q r f e at on other))
+]
+
+-- a pipe comes with both its ends
+pub piped-both : (pipes : List (Option (List ℕ))) (opens : List (Option OpenFile)) (q k m : ℕ) → IsPiped pipes opens → q < length pipes → k < length opens → m < length opens → slot opens k ≡ None → slot (put opens k (pipe_end q ReadEnd)) m ≡ None
+    → IsPiped (put pipes q []) (put (put opens k (pipe_end q ReadEnd)) m (pipe_end q WriteEnd))
+piped-both pipes opens q k m is hq hk hm free_k free_m r =
+    let second = has_pipe-put (put opens k (pipe_end q ReadEnd)) m (pipe_end q WriteEnd) r (omega (arith, hm, length-set opens k (Some (pipe_end q ReadEnd)))) free_m in
+    let first = has_pipe-put opens k (pipe_end q ReadEnd) r hk free_k in
+    elim (cases_eq r q) [
+      | inl same ↦ rw (second, same, eq-self q, get_or-set_same pipes q (Some []) None hq) refl
+      | inr other ↦ rw (second, first, eq-other r q other, get_or-set_other pipes q r (Some []) None other) (is r)
+    ]
+
+-- ---- what reaping leaves
+
+-- pipes that stand are as they were
+pub record IsLeftOf (old new : List (Option (List ℕ))) : Type 0 where
+  pub all : length new ≡ length old
+  pub each : (q : ℕ) (bytes : List ℕ) → slot new q ≡ Some bytes → slot old q ≡ Some bytes
+
+pub pipes-same : (pipes : List (Option (List ℕ))) → IsLeftOf pipes pipes
+pipes-same pipes = record { all = refl; each = λ q bytes at. at }
+
+pub pipes-clear : (old new : List (Option (List ℕ))) (q : ℕ) → IsLeftOf old new → IsLeftOf old (clear new q)
+pipes-clear old new q left = record {
+  all = length-set new q None ∙ left.all;
+  each = λ r bytes at. elim (cases_eq r q) [
+    | inl same ↦ absurd (let bad : None ≡ Some bytes = sym (slot-clear new q) ∙ ap (slot (clear new q)) (sym same) ∙ at in cc)
+    | inr other ↦ left.each r bytes (sym (get_or-set_other new q r None None other) ∙ at)
+  ];
+}
+
+abbrev piped : State → ℕ → List ℕ → Bool
+piped s q pipe = is_piped s q
+
+pipe-none : (s : State) (q : ℕ) (old : Option (List ℕ)) → is_piped s q ≡ false → kept_in (piped s) q old ≡ None
+pipe-none s q None fails = refl
+pipe-none s q (Some bytes) fails = rw fails refl
+
+kept-pipe : (s : State) (q : ℕ) (old new : Option (List ℕ)) → is_some new ≡ is_piped s q → ((bytes : List ℕ) → new ≡ Some bytes → old ≡ Some bytes) → kept_in (piped s) q old ≡ new
+kept-pipe s q old None is same = pipe-none s q old (sym is)
+kept-pipe s q old (Some bytes) is same = rw (same bytes refl, ← is) refl
+
+-- of the pipes of a state those are kept that stand
+pub pipes-left : (s : State) (old new : List (Option (List ℕ))) → IsPiped new s.opens → IsLeftOf old new → kept (λ q pipe. is_piped s q) 0 old ≡ new
+pipes-left s old new is left =
+    kept-each (piped s) old new 0 left.all
+    (λ i j e.
+    let same : j ≡ i = omega (arith, e) in
+    rw same (kept-pipe s i (slot old i) (slot new i) (is i) (left.each i)))
+
+pub without_pipes-left : (s : State) (old new : List (Option (List ℕ))) → IsPiped new s.opens → IsLeftOf old new → without_pipes (record s { pipes = old }) ≡ record s { pipes = new }
+unfolding without_pipes
+without_pipes-left s old new is left = ap (λ pipes. record s { pipes = pipes }) (pipes-left s old new is left)
+
+pub without_pipes-same : (s : State) → IsPiped s.pipes s.opens → without_pipes s ≡ s
+without_pipes-same s is = without_pipes-left s s.pipes s.pipes is (pipes-same s.pipes)

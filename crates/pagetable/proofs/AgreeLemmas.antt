@@ -1,0 +1,121 @@
+-- Lemmas on what `specs/Agree` defines.
+use Rattle.std.proofs.Common.{◌≡◌, ℕ, ◌+◌, ◌-◌, ◌*◌, ◌/◌, ◌%◌, ◌^◌, ◌<◌, ◌≤◌, Bool, true, false, ◌||◌, List, length, Option, Some, None, refl, sym, ap, ◌∙◌, arith, bit_and, eq-eqb, ltb, leb}
+use Rattle.std.specs.Prelude.{if◌then◌else◌}
+use Rattle.std.proofs.lemmas.Bool.{eqb-true, lt-ltb, le-leb}
+use Rattle.std.proofs.lemmas.Nat.{div-mul-add, mod-mul-add, and_assoc}
+use Rattle.unixmodel.specs.declared.trap.Access.{Access}
+use Rattle.sv39.specs.Entry.{has, allows, marks_of, number_of, is_sound, is_table, turn_by, turn_of}
+use Rattle.sv39.proofs.WalkLemmas.{walk_of-is, canonical-is}
+use Rattle.unixmodel.specs.Translation.{walk_page, is_canonical as is_canonical_page}
+use Rattle.pagetable.proofs.MarksLemmas.{allows-marks}
+use Rattle.sv39.specs.Walk.{base, frame_at, entry_of, follow, then_at, is_canonical, walk_low, walk_mid, walk_high, walk_of}
+use Rattle.pagetable.specs.Tree.{table_entry, leaf_entry, child_of, leaf_of, table_at, child_at, leaf_at, lookup_of, low_node, mid_node, IsTree, IsTableEntry, no_table, a_table, IsLeafEntry, no_leaf, a_leaf, IsLeafMarks}
+use Rattle.pagetable.proofs.TreeLemmas.{child_of-zero, child_of-table, leaf_of-zero, leaf_of-leaf, tree-mid_sound, tree-low_sound, tree-leaf_sound, table_at-mid, table_at-low, lookup_of-low, tree-root}
+use Rattle.pagetable.specs.Agree.{given_frame, translation}
+
+turn_of-zero : (span : ℕ) (a : Access) → turn_of 0 span a ≡ turn_by false true true true 0
+unfolding is_sound marks_of
+turn_of-zero span a = refl
+
+marks_of-entry : (n marks : ℕ) → marks < 1024 → marks_of (n * 1024 + marks) ≡ marks
+unfolding marks_of
+marks_of-entry n marks h = mod-mul-add n 1024 marks h
+
+number_of-entry : (n marks : ℕ) → marks < 1024 → n < 2 ^ 44 → number_of (n * 1024 + marks) ≡ n
+unfolding number_of
+number_of-entry n marks h small =
+    let top : (n * 1024 + marks) / 1024 ≡ n = div-mul-add n 1024 marks h in
+    rw top (omega (arith, small))
+
+high-entry : (n marks : ℕ) → marks < 1024 → n < 2 ^ 44 → (n * 1024 + marks) / 2 ^ 54 ≡ 0
+high-entry n marks h small = omega (arith, small, h)
+
+or_true : (b : Bool) → (b || true) ≡ true
+or_true true = refl
+or_true false = refl
+
+turn_of-table : (t n span : ℕ) (a : Access) → t < n → n ≤ 32768 → turn_of (table_entry t) span a ≡ turn_by true true true true (base + t)
+unfolding is_sound is_table
+turn_of-table t n span a h small =
+    rw (number_of-entry (base + t) 1 (omega arith) (omega arith), marks_of-entry (base + t) 1 (omega arith), high-entry (base + t) 1 (omega arith) (omega arith)) refl
+
+part_of : (marks bits : ℕ) → has marks 3 ≡ true → bit_and 3 bits ≡ bits → has marks bits ≡ true
+part_of marks bits h low =
+    let whole : bit_and marks 3 ≡ 3 = eqb-true (bit_and marks 3) 3 h in
+    eq-eqb (bit_and marks bits) bits (ap (bit_and marks) (sym low) ∙ sym (and_assoc bits marks 3) ∙ ap (λ x. bit_and x bits) whole ∙ low)
+
+turn_of-leaf : (f n marks : ℕ) (a : Access) → f < n → n ≤ 32768 → IsLeafMarks marks → turn_of (leaf_entry f marks) 1 a ≡ turn_by true false (allows marks a) true (base + f)
+unfolding is_sound is_table
+turn_of-leaf f n marks a h small good =
+    let valid : has marks 1 ≡ true = part_of marks 1 good.1 refl in
+    let readable : has marks 2 ≡ true = part_of marks 2 good.1 refl in
+    let whole : (base + f) % 1 ≡ 0 = omega arith in
+    rw (number_of-entry (base + f) marks good.0 (omega arith), marks_of-entry (base + f) marks good.0, high-entry (base + f) marks good.0 (omega arith), valid, readable, whole, or_true) refl
+
+frame_at-base : (n t : ℕ) → t < n → frame_at n (base + t) ≡ Some t
+frame_at-base n t h =
+    let low : leb base (base + t) ≡ true = le-leb base (base + t) (omega arith) in
+    let high : ltb (base + t) (base + n) ≡ true = lt-ltb (base + t) (base + n) (omega (arith, h)) in
+    let rest : base + t - base ≡ t = omega arith in
+    rw (low, high, rest) refl
+
+leaf_turn : (m : List (List ℕ)) (page f : ℕ) (b : Bool) → f < length m → follow m 1 page (λ _. None) (turn_by true false b true (base + f)) ≡ (if b then Some f else None)
+leaf_turn m page f true h =
+    let same : base + f + page % 1 ≡ base + f = omega arith in
+    rw same (frame_at-base (length m) f h)
+leaf_turn m page f false h = refl
+
+-- the last step
+agree-leaf : (m : List (List ℕ)) (page e : ℕ) (a : Access) → length m ≤ 32768 → IsLeafEntry (length m) e → follow m 1 page (λ _. None) (turn_of e 1 a) ≡ translation a (leaf_of e)
+agree-leaf m page e a small (no_leaf z) = rw (z, turn_of-zero 1 a, leaf_of-zero) refl
+agree-leaf m page e a small (a_leaf f marks h good is) =
+    rw (is, turn_of-leaf f (length m) marks a h small good, leaf_of-leaf f marks good.0) (leaf_turn m page f (allows marks a) h ∙ ap (λ b. if b then Some f else None) (allows-marks marks a good.0))
+
+-- a step before it
+agree-table : (m : List (List ℕ)) (span page e : ℕ) (a : Access) (next : ℕ → Option ℕ) → length m ≤ 32768 → IsTableEntry (length m) e → follow m span page next (turn_of e span a) ≡ then_at (child_of e) next
+agree-table m span page e a next small (no_table z) = rw (z, turn_of-zero span a, child_of-zero) refl
+agree-table m span page e a next small (a_table t h is) =
+    rw (is, turn_of-table t (length m) span a h small, child_of-table t) (ap (λ o. then_at o next) (frame_at-base (length m) t h))
+
+agree-low : (m : List (List ℕ)) (r page t : ℕ) (a : Access) → length m ≤ 32768 → IsTree m r → Some t ≡ table_at m r (low_node page) → walk_low m page a t ≡ translation a (leaf_of (entry_of m t (page % 512)))
+unfolding walk_low
+agree-low m r page t a small is at =
+    let whole : page / 1 ≡ page = omega arith in
+    rw whole (agree-leaf m page (entry_of m t (page % 512)) a small (tree-leaf_sound m r page t is at))
+
+below_mid : (m : List (List ℕ)) (r page : ℕ) (a : Access) (o : Option ℕ) → length m ≤ 32768 → IsTree m r → o ≡ table_at m r (low_node page) → then_at o (walk_low m page a) ≡ translation a (leaf_at m o (page % 512))
+below_mid m r page a None small is at = refl
+below_mid m r page a (Some t) small is at = agree-low m r page t a small is at
+
+below_root : (m : List (List ℕ)) (r page : ℕ) (a : Access) (o : Option ℕ) → length m ≤ 32768 → IsTree m r → o ≡ table_at m r (mid_node page)
+    → then_at o (walk_mid m page a) ≡ translation a (leaf_at m (child_at m o (page / 512 % 512)) (page % 512))
+unfolding walk_mid
+below_root m r page a None small is at = refl
+below_root m r page a (Some t) small is at =
+    agree-table m 512 page (entry_of m t (page / 512 % 512)) a (walk_low m page a) small (tree-low_sound m r page t is at)
+    ∙ below_mid m r page a (child_of (entry_of m t (page / 512 % 512))) small is (sym (table_at-low m r page (Some t) at))
+
+-- the walk goes by the map at a canonical page
+walk_of-tree : (m : List (List ℕ)) (r page : ℕ) (a : Access) → length m ≤ 32768 → IsTree m r → is_canonical page ≡ true → walk_of m r page a ≡ translation a (lookup_of m r page)
+unfolding walk_of walk_high
+walk_of-tree m r page a small is canonical =
+    let inside : ltb r (length m) ≡ true = lt-ltb r (length m) (tree-root m r is) in
+    let mid = table_at-mid m r page in
+    rw (canonical, inside)
+    (agree-table m 262144 page (entry_of m r (page / 262144 % 512)) a (walk_mid m page a) small (tree-mid_sound m r page is)
+    ∙ below_root m r page a (child_of (entry_of m r (page / 262144 % 512))) small is (sym mid)
+    ∙ ap (translation a) (sym (lookup_of-low m r page (child_at m (child_of (entry_of m r (page / 262144 % 512))) (page / 512 % 512)) (sym (table_at-low m r page (child_of (entry_of m r (page / 262144 % 512))) (sym mid))))))
+
+-- and gives nothing at another
+walk_of-beyond : (m : List (List ℕ)) (r page : ℕ) (a : Access) → is_canonical page ≡ false → walk_of m r page a ≡ None
+unfolding walk_of
+walk_of-beyond m r page a e = rw e refl
+
+walk_of-either : (m : List (List ℕ)) (r page : ℕ) (a : Access) (b : Bool) → length m ≤ 32768 → IsTree m r → is_canonical page ≡ b → walk_of m r page a ≡ (if b then translation a (lookup_of m r page) else None)
+walk_of-either m r page a true small is e = walk_of-tree m r page a small is e
+walk_of-either m r page a false small is e = walk_of-beyond m r page a e
+
+-- the walk gives a page's frame where the map has it and its marks allow the access, and nothing elsewhere
+pub walk_page-tree : (m : List (List ℕ)) (r page : ℕ) (a : Access) → length m ≤ 32768 → IsTree m r → (walk_page m r page a).frame ≡ given_frame m r page a
+walk_page-tree m r page a small is =
+    sym (walk_of-is m r page a) ∙ walk_of-either m r page a (is_canonical_page page) small is (canonical-is page)
