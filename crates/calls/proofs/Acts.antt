@@ -16,12 +16,13 @@ use Rattle.calls.specs.Does.{Dispatches, IsLost, IsMade, IsServed, LeavesTree}
 use Rattle.calls.proofs.Prints.{Appends-none}
 use Rattle.calls.proofs.Served.{same-served}
 use Rattle.kernel.proofs.Opens.{waits-other}
-use Rattle.kernel.specs.Kernel.{Kernel, answered, argument, blocked, counting, ended, entered, on_hart, state_of}
+use Rattle.kernel.specs.Kernel.{Kernel, answered, argument, blocked, counting, ended, entered, on_hart, state_of, waking}
 use Rattle.kernel.specs.Ready.{has_slept}
 use Rattle.kernel.specs.Sound.{IsKernel, IsOpened, IsPlaced}
 use Rattle.kernel.proofs.Reaped.{match-active, match-place, over-state, within-state}
 use Rattle.calls.proofs.Rows.{aligned-next, int-bits, enters-kernel, enters-run, numbered}
 use Rattle.kernel.proofs.Leaving.{ends-at, waits-run}
+use Rattle.kernel.proofs.Wakes.{state-but}
 use Rattle.kernel.proofs.Runs.{IsRun, eq-self, home-running, moved-state, process-run, run-of, runs-set, self, slot-put, stands-set, with_process, within-run, within-space}
 use Rattle.calls.proofs.Settles.{after, settle-limited, settle-done}
 use Rattle.kernel.proofs.Running.{answer-run, live, not-killed, runs-mode}
@@ -90,9 +91,9 @@ module _ (k last : Kernel) (i : ℕ) (is : IsKernel k) (active : k.spaces.active
 
   -- it ended, or an access failed
   module _ (z : slice_index k.spaces.registers 0 ≡ 0) (a : k.spaces.pc % 4 ≡ 0) where
-    pub settles-exits-if : (status meant : ℤ) → meant ≡ status → (r : Result (Unit {0}) DeviceFault) → IfOk r (λ done. last ≡ counting (ended k i meant) last.tree.failures) → OnOk r (state_of last ≡ settled_by (state_of k) i (Exits status))
+    pub settles-exits-if : (status meant : ℤ) → meant ≡ status → (r : Result (Unit {0}) DeviceFault) → IfOk r (λ done. last ≡ waking (counting (ended k i meant) last.tree.failures) last.table.awake) → OnOk r (state_of last ≡ settled_by (state_of k) i (Exits status))
     settles-exits-if status meant same (Err fault) made = tt
-    settles-exits-if status meant same (Ok done) made = let x = at-work in ap state_of made ∙ ap (λ n. state_of (ended k i n)) same ∙ sym (ends-at k i x.process x.held x.run x.sound z a status)
+    settles-exits-if status meant same (Ok done) made = let x = at-work in state-but (counting (ended k i meant) last.tree.failures) made ∙ ap (λ n. state_of (ended k i n)) same ∙ sym (ends-at k i x.process x.held x.run x.sound z a status)
 
 -- where the device and the console's writer may fail
 module _ {k e : Kernel} {i : ℕ} {call : Option Call} (begun : IsBegun k e i) (number : call_of (low (slice_index k.spaces.registers 17)) ≡ call) (new : Kernel) (before after : Option (List ℕ)) where

@@ -30,3 +30,4 @@ pub mod Stats
 pub mod Homes
 pub mod Opens
 pub mod Execs
+pub mod Woken

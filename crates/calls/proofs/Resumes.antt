@@ -5,7 +5,9 @@ use Rattle.std.specs.Prelude.{Err, Ok, OnOk, Result, unwrap_or}
 use Rattle.calls.specs.Acts.{CanWait, GoesOn, Runs, going_at, going_by, settled_by}
 use Rattle.calls.specs.declared.outcome.Came.{Came}
 use Rattle.kernel.specs.Descriptors.{descriptors_in}
-use Rattle.kernel.specs.Kernel.{Kernel, started, state_of, lives}
+use Rattle.calls.proofs.Woken.{runs-waking}
+use Rattle.kernel.proofs.Wakes.{state-waking}
+use Rattle.kernel.specs.Kernel.{Kernel, started, state_of, lives, waking}
 use Rattle.kernel.specs.Sound.{CanRun, IsAwaiting, IsKernel, WaitsAs, WaitsWell, IsLive, IsMode, IsPending}
 use Rattle.calls.specs.Told.{WaitsIn, resumed, resumed_by, resumed_in}
 use Rattle.kernel.proofs.Finishes.{IsThere, process-idle, there-of}
@@ -85,11 +87,19 @@ module _ {k : Kernel} (i : ℕ) (w : Pending) (is : IsKernel k) (none : k.spaces
   pub waiting-can : CanRun (slot k.table.places i)
   waiting-can = let r = resting-of k i w is waits in let f = r.1.1 in rw f.there.process (f.live, rw f.waits refl, f.free)
 
-  pub resumes-as : {s : Kernel} → s ≡ started k i → Resumes k s i w
-  resumes-as same =
+  resumes-started : Resumes k (started k i) i w
+  resumes-started =
       let r = resting-of k i w is waits in
       let f = r.1.1 in
-      rw (same, started-is k i r.0 r.1.0 is none f.there.process f.there.space f.alive) (resting k i r.0 r.1.0 w is none up f)
+      rw (started-is k i r.0 r.1.0 is none f.there.process f.there.space f.alive) (resting k i r.0 r.1.0 w is none up f)
+
+  pub resumes-as : {s : Kernel} → s ≡ waking (started k i) s.table.awake → Resumes k s i w
+  resumes-as {s} same = subst (λ (y : Kernel). Resumes k y i w) (sym same) (record {
+    runs = runs-waking resumes-started.runs s.table.awake;
+    can = resumes-started.can;
+    tree = resumes-started.tree;
+    row = resumes-started.row ∙ ap (λ (x : State). settle x i (going_at x i w)) (sym (state-waking (started k i) s.table.awake));
+  })
 
 -- it is resumed once its call is settled
 resumes-settled : {k s new : Kernel} {i : ℕ} {w : Pending} {came : Came} → Resumes k s i w → GoesOn s new i w came → (last : State) → last ≡ settled_by (state_of new) i came → resumed (state_of k) i ≡ quiet last

@@ -5,7 +5,7 @@ use Rattle.std.specs.Prelude.{IfOk, OnOk, Result, if◌then◌else◌, slice_ind
 use Rattle.calls.specs.declared.halt.Halt.{Halt}
 use Rattle.calls.specs.declared.halt.Halt.TheVariants.{Console, Device, Halted, InitEnded}
 use Rattle.calls.specs.Does.{Dispatches, Does, IsMade, halt_of}
-use Rattle.kernel.specs.Kernel.{Kernel, computed, counting, ended, lives, picked, started, state_of}
+use Rattle.kernel.specs.Kernel.{Kernel, computed, counting, ended, lives, picked, started, state_of, waking}
 use Rattle.calls.specs.Acts.{called}
 use Rattle.kernel.specs.Sound.{IsKernel, IsLive, IsMode, IsAlive}
 use Rattle.calls.specs.Told.{resumed, resumed_by, resumed_in, taken, taken_by}
@@ -16,6 +16,7 @@ use Rattle.calls.proofs.Rows.{executes-call, executes-fault, computed-state}
 use Rattle.kernel.proofs.Runs.{run-of}
 use Rattle.kernel.proofs.Starts.{picked-state, picks-killed, picks-ready}
 use Rattle.kernel.proofs.Steps.{held-run}
+use Rattle.kernel.proofs.Wakes.{state-but}
 use Rattle.proc.specs.declared.process.Process.{Process}
 use Rattle.proc.specs.Whole.{with_memory}
 use Rattle.spaces.specs.Spaces.{Held, held_at}
@@ -42,9 +43,13 @@ pub made-quiet : (new : Kernel) (a : After) (at : Option (List ℕ)) → a ≡ q
 made-quiet new a at made = rw made (record { state = refl; printed = Appends-none at })
 
 -- a process ended, unless an access failed
-pub ends-if : (new e : Kernel) (a : After) (r : Result (Unit {0}) DeviceFault) → IfOk r (λ done. new ≡ counting e new.tree.failures) → a ≡ quiet (state_of e) → OnOk r (a ≡ quiet (state_of new))
-ends-if new e a (Ok done) made is = is ∙ ap (λ (x : Kernel). quiet (state_of x)) (sym made)
+pub ends-if : (new e : Kernel) (a : After) (r : Result (Unit {0}) DeviceFault) → IfOk r (λ done. new ≡ waking (counting e new.tree.failures) new.table.awake) → a ≡ quiet (state_of e) → OnOk r (a ≡ quiet (state_of new))
+ends-if new e a (Ok done) made is = is ∙ ap quiet (sym (state-but (counting e new.tree.failures) made))
 ends-if new e a (Err fault) made is = tt
+
+-- a process ended, with a status that is the same number
+pub ended-told : (k new : Kernel) (i : ℕ) (status meant : ℤ) → meant ≡ status → new ≡ waking (counting (ended k i meant) new.tree.failures) new.table.awake → state_of new ≡ state_of (ended k i status)
+ended-told k new i status meant same told = state-but (counting (ended k i meant) new.tree.failures) told ∙ ap (λ n. state_of (ended k i n)) same
 
 -- what is made tells how the machine halts
 pub does-made : (new : Kernel) (a : After) (before after : Option (List ℕ)) (rising : Type 0) (o : Option ℤ) → new.halted ≡ o → IsMade new a before after → Does new a before after rising (halt_of o)

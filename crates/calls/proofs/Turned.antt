@@ -6,10 +6,11 @@ use Rattle.std.specs.List.{position_or_len}
 use Rattle.std.proofs.lemmas.Bool.{le-ltb, lt-ltb}
 use Rattle.std.proofs.lemmas.List.Sums.{position_or_len_is}
 use Rattle.calls.specs.Does.{IsMade}
-use Rattle.kernel.specs.Kernel.{Kernel, base, loaded, memories, rest_of, state_of, stopped_at, ticked, typed}
+use Rattle.kernel.specs.Kernel.{Kernel, base, loaded, memories, rest_of, state_of, stopped_at, ticked, typed, waking}
 use Rattle.kernel.specs.Sound.{IsKernel, is_at}
 use Rattle.kernel.proofs.Changes.{length-active, other-at, running-active}
 use Rattle.kernel.proofs.Leaving.{stops-run}
+use Rattle.kernel.proofs.Wakes.{state-but}
 use Rattle.kernel.proofs.Runs.{eq-self, run-of, slot-within}
 use Rattle.proc.specs.declared.process.Process.{Process}
 use Rattle.proc.specs.Places as table
@@ -67,5 +68,5 @@ pub next-keys : (k : Kernel) (b : ℕ) → next.next (state_of k) (Key b) ≡ re
 unfolding next.next
 next-keys k b = refl
 
-pub keys-made : (k new : Kernel) (b : ℕ) (before after : Option (List ℕ)) → new ≡ typed k (key k.console b).console → Appends before after (key k.console b).echo → IsMade new (next.next (state_of k) (Key b)) before after
-keys-made k new b before after made printed = rw (next-keys k b) (record { state = ap state_of made; printed = printed })
+pub keys-made : (k new : Kernel) (b : ℕ) (before after : Option (List ℕ)) → new ≡ waking (typed k (key k.console b).console) new.table.awake → Appends before after (key k.console b).echo → IsMade new (next.next (state_of k) (Key b)) before after
+keys-made k new b before after made printed = rw (next-keys k b) (record { state = state-but (typed k (key k.console b).console) made; printed = printed })

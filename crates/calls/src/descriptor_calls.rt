@@ -16,7 +16,7 @@ use crate::outcome::Came;
 use blockdev::{BlockDev, DeviceFault};
 use files::{End, Files, OpenFile, Target};
 use kernel::numbers::low;
-use kernel::{Kernel, descriptors, stop};
+use kernel::{Channel, Kernel, descriptors, stop, wakeup};
 use proc::Table;
 use sv39::Translate;
 
@@ -112,6 +112,7 @@ pub(crate) fn close<D: BlockDev, T: Translate + Drop>(
     };
     kernel.table.set_descriptor(at, descriptor as usize, None);
     let gone = descriptors::close(&mut kernel.files, &mut kernel.spaces, usize::from(id));
+    wakeup(&mut kernel.table, Channel::Bytes); // a pipe may have lost an end
     if let Some(node) = gone {
         if let Err(fault) = kernel.tree.drop_hold(node as usize) {
             stop(&mut kernel.table, &mut kernel.spaces, at);
@@ -144,6 +145,7 @@ pub(crate) fn pipe<D: BlockDev, T: Translate + Drop>(kernel: &mut Kernel<D, T>, 
     }
     let reader = open_end(&mut kernel.table, &mut kernel.files, at, pipe, End::Read);
     let writer = open_end(&mut kernel.table, &mut kernel.files, at, pipe, End::Write);
+    wakeup(&mut kernel.table, Channel::Bytes);
     let _written = kernel.spaces.write(at, address, &ints(reader, writer));
     Came::Answers(0)
 }

@@ -15,7 +15,7 @@ use blockdev::{BlockDev, DeviceFault};
 use files::{OpenFile, Target};
 use inode::InodeStat;
 use kernel::numbers::low;
-use kernel::{Kernel, descriptors, stop};
+use kernel::{Channel, Kernel, descriptors, stop, wakeup};
 use sv39::Translate;
 use tree::Leaf;
 use unixmodel::call::Call;
@@ -131,7 +131,9 @@ fn open_on<D: BlockDev, T: Translate + Drop>(
     kernel.tree.is_whole();
     kernel.tree.hold(node);
     let file = opened(flags, target(node as u32, told));
-    open_as(&mut kernel.table, &mut kernel.files, at, file)
+    let descriptor = open_as(&mut kernel.table, &mut kernel.files, at, file);
+    wakeup(&mut kernel.table, Channel::Bytes);
+    descriptor
 }
 
 // A file is emptied, if the flags ask for it.

@@ -76,6 +76,7 @@ pub(crate) fn fork<D: BlockDev, T: Translate + Drop>(kernel: &mut Kernel<D, T>, 
         mode: Mode::Ready,
         ..process
     });
+    kernel.table.wake(seat.place);
     Came::Answers(u64::from(seat.pid))
 }
 

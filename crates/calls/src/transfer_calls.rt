@@ -25,7 +25,7 @@ use blockdev::{BlockDev, DeviceFault};
 use console::{Out, OutFault, ROOM};
 use files::{End, Target};
 use kernel::numbers::{low, natural};
-use kernel::{Kernel, stop};
+use kernel::{Channel, Kernel, stop, wakeup};
 use sv39::Translate;
 use transfers::{read_node, write_node};
 use unixmodel::call::Call;
@@ -259,6 +259,7 @@ fn read_pipe<D: BlockDev, T: Translate + Drop>(
     if kernel.spaces.has_bytes(pipe) {
         let count = low(pending.args[2]) as usize;
         let taken = kernel.spaces.read_pipe(pipe, at, pending.args[1], count);
+        wakeup(&mut kernel.table, Channel::Bytes); // who writes to the pipe
         return Came::Answers(taken as u64);
     }
     if has_end(kernel, pipe, End::Write) {
@@ -448,6 +449,7 @@ fn write_pipe<D: BlockDev, T: Translate + Drop>(
     let left = u64::from(low(pending.args[2])) - pending.done;
     let address = pending.args[1] + pending.done;
     let sent = kernel.spaces.write_pipe(pipe, at, address, left as usize);
+    wakeup(&mut kernel.table, Channel::Bytes); // who reads the pipe
     let done = pending.done + sent as u64;
     if done == u64::from(low(pending.args[2])) {
         return Came::Answers(done);

@@ -206,7 +206,7 @@ orphan-home : (pid : ℕ) (o : Option Process) → home_in (option_map (orphaned
 orphan-home pid None = refl
 orphan-home pid (Some p) = elim (nat_eq p.parent pid) as (λ b. home_in (Some (if b then record p { parent = 1 } else p)) ≡ home_in (Some p)) [ true ↦ refl | false ↦ refl ]
 
-slot-map : (f : Process → Process) (os : List (Option Process)) (j : ℕ) → slot (map (option_map f) os) j ≡ option_map f (slot os j)
+pub slot-map : (f : Process → Process) (os : List (Option Process)) (j : ℕ) → slot (map (option_map f) os) j ≡ option_map f (slot os j)
 slot-map f os j = listn.get_or-map (option_map f) os j None
 
 -- the end of process q, which the loaded table has in place i

@@ -1,12 +1,12 @@
 -- The end of a process that runs, or where none runs.
-use Rattle.std.proofs.Common.{◌≡◌, ◌≢◌, ℕ, ◌%◌, true, false, List, [], ◌∷◌, ◌++◌, Option, Some, None, ℤ, pos, refl, ap, subst, sym, ◌∙◌}
+use Rattle.std.proofs.Common.{Bool, ◌≡◌, ◌≢◌, ℕ, ◌%◌, true, false, List, [], ◌∷◌, ◌++◌, Option, Some, None, ℤ, pos, refl, ap, subst, sym, ◌∙◌}
 use Rattle.std.specs.Prelude.{Err, IfOk, Ok, OnErr, Result, not, slice_index, slice_index_or}
 use Rattle.kernel.specs.Descriptors.{all_closed, standing}
 use Rattle.kernel.specs.Holding.{AreHeld, all_dropped, gone_nodes}
 use Rattle.std.proofs.lemmas.Option.{same_Some}
 use Rattle.unixmodel.specs.declared.process.Mode.{Mode}
 use Rattle.unixmodel.specs.Process.{is_zombie_mode}
-use Rattle.kernel.specs.Kernel.{Kernel, base, counting, ended, halted_by, idle, lives, loaded, memories, memory_in, on_hart, rest_of, state_of}
+use Rattle.kernel.specs.Kernel.{Kernel, base, counting, ended, halted_by, idle, lives, loaded, memories, memory_in, on_hart, rest_of, state_of, waking}
 use Rattle.kernel.specs.Sound.{IsKernel, IsPlace, IsPlaced, is_at, CanEnd, CanEndIn, IsAlive}
 use Rattle.kernel.proofs.Changes.{ended-held, ended-is, ended-kernel, ended-made, loaded-placed, other-at}
 use Rattle.kernel.proofs.Holding.{failed-filed}
@@ -192,6 +192,14 @@ module _ (k now : Kernel) (i : ℕ) (q : Process) (status : ℤ) (same : k ≡ n
 
   pub finish-up : k.tree.failed ≡ false
   finish-up = rw same (whole-of now i q is can at).up
+
+-- the same with another mask
+told-waking : (a b : Kernel) (awake : List Bool) (r : Result (Unit {0}) DeviceFault) → IfOk r (λ done. a ≡ b) → IfOk r (λ done. waking a awake ≡ waking b awake)
+told-waking a b awake (Ok done) told = ap (λ x. waking x awake) told
+told-waking a b awake (Err fault) told = tt
+
+pub serves-waking : {old t : FileTree} {r : Result (Unit {0}) DeviceFault} (a b : Kernel) (awake : List Bool) → Serves old t r (λ done. a ≡ b) → Serves old t r (λ done. waking a awake ≡ waking b awake)
+serves-waking {r = r} a b awake serves = record { told = told-waking a b awake r serves.told; up = serves.up; down = serves.down; cause = serves.cause }
 
 -- there is a process that may end
 finish-some-go : (k : Kernel) (i : ℕ) (o : Option ℕ) → IsKernel k → k.spaces.active ≡ o → CanEndIn k i o → slot (loaded k).places i ≡ None → ⊥

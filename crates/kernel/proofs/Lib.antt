@@ -13,3 +13,6 @@ pub mod Finishes
 pub mod Marks
 pub mod Readies
 pub mod Shown
+pub mod Masks
+pub mod Watching
+pub mod Wakes

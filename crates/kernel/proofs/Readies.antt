@@ -41,7 +41,7 @@ stands-open s opens k f (OnPipe q end) is at on =
 -- ---- what readiness depends on
 
 -- tests that agree
-held-same : (f g : Target → Bool) → ((t : Target) → f t ≡ g t) → (o : Option OpenFile) → turn.holds_of f o ≡ turn.holds_of g o
+pub held-same : (f g : Target → Bool) → ((t : Target) → f t ≡ g t) → (o : Option OpenFile) → turn.holds_of f o ≡ turn.holds_of g o
 held-same f g same None = refl
 held-same f g same (Some file) = same file.target
 
@@ -64,7 +64,7 @@ module _ (rest : Rest) (t : Places) (ms : List Memory) where
   goes-same p m w Wait =
       ap is_some
       (zombie_child-with_table (base rest) t ms p.pid
-      ∙ sym (zombie_child-with_table (awaited_in rest.opens rest.pipes rest.console rest.ticks) (record { places = t.places; last = 0; next_pid = 0 }) [] p.pid))
+      ∙ sym (zombie_child-with_table (awaited_in rest.opens rest.pipes rest.console rest.ticks) (record { places = t.places; last = 0; next_pid = 0; awake = [] }) [] p.pid))
   goes-same p m w Read = held-same (turn.can_read_from s) (turn.can_read_from a) reads-same (turn.pending_file s (with_memory m p) w)
   goes-same p m w Write = held-same (turn.can_write_to s) (turn.can_write_to a) writes-same (turn.pending_file s (with_memory m p) w)
   goes-same p m w Sleep = refl
@@ -107,7 +107,7 @@ module _ (rest : Rest) (t : Places) (ms : List Memory) where
 
 module _ (s : State) (places : List (Option Process)) where
   pub children-seen : (p : Process) (w : Pending) → turn.can_go_on (seen s places) (with_memory [] p) w Wait ≡ is_some (place_where places (is_zombie_child_of p.pid))
-  children-seen p w = ap is_some (zombie_child-with_table s (record { places = places; last = 0; next_pid = 0 }) [] p.pid)
+  children-seen p w = ap is_some (zombie_child-with_table s (record { places = places; last = 0; next_pid = 0; awake = [] }) [] p.pid)
 
   pub ready-seen : (i : ℕ) (o : Option Process) → slot places i ≡ o → turn.ready (seen s places) i ≡ holds (turn.is_ready (seen s places)) (option_map (with_memory []) o)
   ready-seen i o at = ap (holds (turn.is_ready (seen s places))) (slot-joined places [] i ∙ ap (option_map (with_memory [])) at)

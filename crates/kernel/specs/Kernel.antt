@@ -38,6 +38,10 @@ pub record Kernel : Type 0 where
 abbrev pub counting : Kernel → ℕ → Kernel
 counting k failures = record k { tree = record k.tree { failures = failures } }
 
+-- other places are awake
+abbrev pub waking : Kernel → List Bool → Kernel
+waking k awake = record k { table = record k.table { awake = awake } }
+
 -- a kernel over processes, their spaces and their open files, as it begins
 abbrev pub begun : FileTree → Places → Spaces → List (Option Counted) → Kernel
 begun tree t s files = record { tree = tree; table = t; spaces = s; files = files; console = record { committed = []; edited = [] }; ticks = 0; halted = None }

@@ -4,4 +4,5 @@ pub mod Kernel
 pub mod Sound
 pub mod View
 pub mod Ready
+pub mod Watch
 pub mod Shows

@@ -30,7 +30,7 @@ awaited a = awaited_in (opens_of a.files.now) a.spaces.now.pipes a.console.now a
 
 -- with these processes, whose memories don't count
 abbrev pub seen : State → List (Option Process) → State
-seen s places = with_table s (record { places = places; last = 0; next_pid = 0 }) []
+seen s places = with_table s (record { places = places; last = 0; next_pid = 0; awake = [] }) []
 
 -- the pipe that it is an end of is there
 abbrev pub Stands : Spaces → Target → Type 0

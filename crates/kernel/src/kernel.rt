@@ -3,9 +3,12 @@ ghost use Rattle.std.specs.Prelude.{false, ◌≡◌, ◌≢◌, ◌+◌, ◌<�
 ghost use Rattle.std.specs.Prelude.{if◌then◌else◌, ◌==◌, option_map, OnOk, OnErr, Ok, Err};
 ghost use Rattle.std.specs.Io.KnownBytes.{Appends};
 ghost use Rattle.std.specs.Option.{option_copied};
-ghost use Rattle.kernel.specs.Kernel.{answered, argument, begun, blocked, computed, counting, descriptors_at, ended, entered, idle, left_as, loaded, marked, on_hart, picked, started, state_of, ticked, typed};
+ghost use Rattle.kernel.specs.Kernel.{answered, argument, begun, blocked, computed, counting, descriptors_at, ended, entered, idle, left_as, loaded, marked, on_hart, picked, started, state_of, ticked, typed, waking};
 ghost use Rattle.kernel.specs.Sound.{CanRun, IsAwaiting, IsKernel, IsPending, can_answer};
 ghost use Rattle.kernel.specs.Sound.{CanEnd};
+ghost use Rattle.kernel.specs.Ready.{awaited, seen};
+ghost use Rattle.kernel.specs.Watch.{Watches};
+ghost use Rattle.files.specs.Pipes.{IsPiped};
 ghost use Rattle.console.specs.Output.{AppendsBeginning};
 ghost use Rattle.files.specs.Meant.{end_of, target_of};
 ghost use Rattle.files.specs.Places.{has_end, opens_of};
@@ -20,11 +23,12 @@ ghost use Rattle.unixmodel.specs.Meaning.{Computed};
 ghost use Rattle.unixmodel.specs.Memory.{can_write, reach, read_bytes};
 ghost use Rattle.unixmodel.specs.declared.trap.Access.TheVariants.{Load};
 ghost use Rattle.vm.specs.Reach.{piece_at};
-ghost use Rattle.unixmodel.specs.Turn.{turn};
+ghost use Rattle.unixmodel.specs.Turn.{ready, turn};
 ghost use Rattle.unixmodel.specs.declared.process.Mode.TheVariants.{Ready};
 
 mod show;
 
+use crate::channels::{Channel, wakeup};
 use crate::descriptors::{close_all, let_go, named};
 use crate::ready::Awaited;
 use blockdev::{BlockDev, DeviceFault};
@@ -98,7 +102,8 @@ pub fn stop<T: Translate + Drop>(table: &mut Table, spaces: &mut Spaces<T>, at: 
 impl<D: BlockDev, T: Translate + Drop> Kernel<D, T> {
     /// A kernel over processes, their spaces and their open files.
     pub fn new(tree: Tree<D>, table: Table, spaces: Spaces<T>, files: Files) -> Kernel<D, T>
-        requires { IsKernel (begun tree table spaces files) }
+        requires sound { IsKernel (begun tree table spaces files) }
+        requires watched { Watches (begun tree table spaces files) }
         ensures { result ≡ begun tree table spaces files }
     {
         Kernel {
@@ -130,6 +135,7 @@ impl<D: BlockDev, T: Translate + Drop> Kernel<D, T> {
     #[inline]
     pub fn is_sound(&self)
         ensures sound { IsKernel self.now }
+        ensures watched { Watches self.now }
         ensures zero { slice_index self.now.spaces.registers 0 ≡ 0 }
         ensures aligned { self.now.spaces.pc % 4 ≡ 0 }
     {
@@ -232,7 +238,8 @@ impl<D: BlockDev, T: Translate + Drop> Kernel<D, T> {
 
     // The process that ran, in a place, runs no more.
     fn leave(&mut self, at: usize, mode: Mode)
-        requires { IsKernel (left_as self.old at mode) }
+        requires sound { IsKernel (left_as self.old at mode) }
+        requires watched { Watches (left_as self.old at mode) }
         ensures { self.new ≡ left_as self.old at mode }
     {
         leave(&mut self.table, &mut self.spaces, at, mode);
@@ -265,7 +272,7 @@ impl<D: BlockDev, T: Translate + Drop> Kernel<D, T> {
     #[inline(never)]
     pub fn finish(&mut self, at: usize, status: i32) -> Result<(), DeviceFault>
         requires { CanEnd self.old at }
-        ensures { Serves self.old.tree self.new.tree result (λ done. self.new ≡ counting (ended self.old at status) self.new.tree.failures) }
+        ensures { Serves self.old.tree self.new.tree result (λ done. self.new ≡ waking (counting (ended self.old at status) self.new.tree.failures) self.new.table.awake) }
     {
         self.is_sound();
         let Some(process) = self.whole(at) else {
@@ -276,6 +283,8 @@ impl<D: BlockDev, T: Translate + Drop> Kernel<D, T> {
         nodes.push(process.directory);
         self.table.put(at, process);
         self.table.exit(at, status);
+        wakeup(&mut self.table, Channel::Children);
+        wakeup(&mut self.table, Channel::Bytes);
         self.spaces.deactivate();
         self.halted = halted;
         let_go(&mut self.tree, nodes.as_slice())
@@ -285,17 +294,22 @@ impl<D: BlockDev, T: Translate + Drop> Kernel<D, T> {
     pub fn turn(&mut self) -> Option<usize>
         requires { self.old.spaces.active ≡ None }
         ensures turn { result ≡ turn (state_of self.old) }
-        ensures picked { IfSome result (λ i. self.new ≡ picked self.old i) }
-        ensures none { IfNone result (self.new ≡ self.old) }
+        ensures picked { IfSome result (λ i. self.new ≡ waking (picked self.old i) self.new.table.awake) }
+        ensures none { IfNone result (self.new ≡ waking self.old self.new.table.awake) }
     {
         self.is_sound();
-        let awaited = Awaited {
+        let now = Awaited {
             ticks: self.ticks,
             console: &self.console,
             files: &self.files,
             spaces: &self.spaces,
         };
-        self.table.pick(|places, at| awaited.is_ready(places, at))
+        self.table.pick(
+            |places, at|
+                requires { IsPiped now.spaces.now.pipes (opens_of now.files.now) }
+                ensures { result ≡ ready (seen (awaited now.entry) places.now) at }
+            { now.is_ready(places, at) },
+        )
     }
 
     /// A process runs, where none did.
@@ -303,11 +317,12 @@ impl<D: BlockDev, T: Translate + Drop> Kernel<D, T> {
         requires idle { self.old.spaces.active ≡ None }
         requires up { self.old.tree.failed ≡ false }
         requires can { CanRun (slot self.old.table.places at) }
-        ensures { self.new ≡ started self.old at }
+        ensures { self.new ≡ waking (started self.old at) self.new.table.awake }
     {
         if let Some(process) = self.table.process(at) {
             self.spaces.activate(at, &process.registers, process.pc);
             self.table.run(at);
+            self.table.wake(at);
         }
     }
 
@@ -338,31 +353,39 @@ impl<D: BlockDev, T: Translate + Drop> Kernel<D, T> {
     /// Marks the process in a place, which doesn't run.
     pub fn mark(&mut self, at: usize)
         requires { self.old.spaces.active ≢ Some at }
-        ensures { self.new ≡ marked self.old at }
+        ensures { self.new ≡ waking (marked self.old at) self.new.table.awake }
     {
         self.table.mark(at);
+        self.table.wake(at); // it may end at its turn
     }
 
     /// A key was typed. Where `out` fails nothing changes, and a beginning of what shows the key was put out.
     pub fn type_key<W: Out>(&mut self, byte: u8, out: &mut W) -> Result<(), OutFault>
-        ensures ok { OnOk result (self.new ≡ typed self.old (key self.old.console byte).console) }
+        ensures ok { OnOk result (self.new ≡ waking (typed self.old (key self.old.console byte).console) self.new.table.awake) }
         ensures echo { OnOk result (Appends (W.contents out.old) (W.contents out.new) (key self.old.console byte).echo) }
         ensures err { OnErr result (self.new ≡ self.old) }
         ensures beginning { OnErr result (AppendsBeginning (W.contents out.old) (W.contents out.new) (key self.old.console byte).echo) }
         ensures later { W.failures out.old ≤ W.failures out.new }
         ensures cause { OnErr result (Rises (W.failures out.old) (W.failures out.new)) }
     {
-        self.console.key(byte, out)
+        match self.console.key(byte, out) {
+            Ok(()) => {
+                wakeup(&mut self.table, Channel::Bytes); // who reads the console
+                Ok(())
+            }
+            Err(fault) => Err(fault),
+        }
     }
 
     /// A timer interrupt: the running process becomes ready.
     pub fn interrupt(&mut self)
-        ensures { self.new ≡ ticked self.old }
+        ensures { self.new ≡ waking (ticked self.old) self.new.table.awake }
     {
         self.is_sound();
         if let Some(at) = self.active() {
             self.leave(at, Mode::Ready);
         }
         self.ticks = self.ticks.wrapping_add(1);
+        wakeup(&mut self.table, Channel::Ticks(self.ticks));
     }
 }

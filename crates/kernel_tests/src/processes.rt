@@ -1,5 +1,5 @@
 //! Worked cases of the table.
-use proc::{PLACES, Place, ProcFault, Process, Reaped, Seat, Table, zombie_child};
+use proc::{Mask, PLACES, Place, ProcFault, Process, Reaped, Seat, Table, zombie_child};
 use unixmodel::call::Call;
 use unixmodel::process::{Mode, Pending};
 
@@ -39,20 +39,54 @@ fn is_in_user_state(places: &[Place], at: usize) -> bool {
 #[test]
 fn picks_in_turn(rt: HostRuntime) {
     let mut table = Table::starting_at(1);
-    for _process in 0..3 {
-        let _ = table.alloc(child_of(1));
-    }
+    table.put(0, child_of(0));
+    table.put(1, child_of(1));
+    table.put(2, child_of(1));
     assert!(rt; table.pick(is_in_user_state) == Some(0));
-    table.run(0);
-    for want in [1, 2, 0, 1] {
-        table.stop();
-        let picked = table.pick(is_in_user_state);
-        assert!(rt; picked == Some(want));
-        table.run(want);
-        assert!(rt; table.running() == Some(want));
-    }
+    assert!(rt; table.pick(is_in_user_state) == Some(1));
+    assert!(rt; table.pick(is_in_user_state) == Some(2));
+    assert!(rt; table.pick(is_in_user_state) == Some(0));
+}
+
+// Who is found not ready is looked at again once it is woken.
+#[test]
+fn looks_at_who_is_awake(rt: HostRuntime) {
+    let mut table = Table::starting_at(1);
     assert!(rt; table.pick(|_, _| false).is_none());
+    table.wake(1);
     assert!(rt; table.pick(|_, at| at == 1) == Some(1));
+}
+
+#[test]
+fn finds_the_next_place_of_a_mask(rt: HostRuntime) {
+    let mut mask = Mask::all();
+    assert!(rt; mask.next(9, 3) == Some(3));
+    for at in 0..PLACES {
+        mask.clear(at);
+    }
+    assert!(rt; mask.next(9, 1).is_none());
+    for at in [5, 63, 64] {
+        mask.set(at);
+    }
+    assert!(rt; mask.has(5) && mask.has(63) && !mask.has(0));
+    // the last picked place, the first turn to look at, and the turn of the place that is found
+    for (last, turn, found) in [(63, 1, 6), (63, 7, 64), (5, 1, 58), (5, 59, 64)] {
+        assert!(rt;
+            mask.next(last, turn) == Some(found),
+            "after {last} from {turn} on"
+        );
+    }
+}
+
+#[test]
+fn runs_and_stops(rt: HostRuntime) {
+    let mut table = family(2);
+    for place in [1, 2, 0] {
+        table.stop();
+        assert!(rt; table.running().is_none());
+        table.run(place);
+        assert!(rt; table.running() == Some(place));
+    }
 }
 
 #[test]
@@ -132,7 +166,8 @@ fn the_running_process_waits(rt: HostRuntime) {
     let mode = table.process(0).map(|process| process.mode);
     assert!(rt; mode == Some(Mode::Waiting(pending)));
     table.block(pending);
-    assert!(rt; table.pick(is_in_user_state) == Some(1));
+    let mode = table.process(1).map(|process| process.mode);
+    assert!(rt; mode == Some(Mode::Ready));
     table.put(1, child_of(4));
     assert!(rt; table.process(1).map(|process| process.parent) == Some(4));
 }

@@ -15,6 +15,7 @@ use Rattle.machine.specs.Flat.{alone}
 use Rattle.machine.specs.Told.{Told, told}
 use Rattle.names.specs.Rules.{KeepsTree}
 use Rattle.proc.specs.declared.process.Process.{Process}
+use Rattle.proc.specs.Mask.{all_in}
 use Rattle.proc.specs.Places.{Places, is_running, seated}
 use Rattle.proc.specs.Whole.{joined, joined-free_slots}
 use Rattle.spaces.specs.Spaces.{Held, Spaces, no_spaces}
@@ -203,7 +204,7 @@ module _ (old tree : FileTree) (unheld : IsUnheld old) (same : tree ≡ record o
     filed = record { up = λ i e. absurd (cc); used = λ up. init-used new };
   }
 
-pub table-init : (new : Plan) → seated (record { places = free_slots 64; last = 63; next_pid = 1 }) (first_of new) (record { place = 0; pid = 1 }) ≡ first_places new
+pub table-init : (new : Plan) → seated (record { places = free_slots 64; last = 63; next_pid = 1; awake = all_in 64 }) (first_of new) (record { place = 0; pid = 1 }) ≡ first_places new
 unfolding free_slots
 table-init new = refl
 
@@ -226,7 +227,7 @@ module _ (old mid : FileTree) (unheld : IsUnheld old) (same : mid ≡ record old
   spaces-are = placed.spaces ∙ ap (λ (n : ℕ). alone n (held_by placed.plan)) count
 
   table-is : table ≡ first_places placed.plan
-  table-is = first ∙ ap (λ (p : Process). let t : Places = record { places = Some p ∷ free_slots 63; last = 63; next_pid = 2 } in t) placed.bare
+  table-is = first ∙ ap (λ (p : Process). let t : Places = record { places = Some p ∷ free_slots 63; last = 63; next_pid = 2; awake = all_in 64 } in t) placed.bare
 
   kernel-is : begun held table put opens ≡ init_kernel mid frames placed.plan
   kernel-is = λ i. begun (holds_root i) (table-is i) (spaces-are i) (none i)

@@ -16,6 +16,7 @@ use Rattle.files.proofs.Whole.{slot-opens}
 use Rattle.machine.specs.Flat.{alone, bare_plan, console_file, first, first_files, first_kernel, first_table, first_tree, flat_memory, flat_space}
 use Rattle.mount.specs.Mounted.{IsFlat}
 use Rattle.proc.specs.declared.process.Process.{Process}
+use Rattle.proc.specs.Mask.{all_in}
 use Rattle.proc.specs.Places.{is_running, seated}
 use Rattle.proc.specs.Whole.{joined, joined-free_slots}
 use Rattle.spaces.specs.Spaces.{Held, Spaces, frames_in, grown, held_at, no_pages, taken_frames, with_held, written}
@@ -341,7 +342,7 @@ first-sound tree flat frames h fits = record {
   filed = first-filed tree flat h.size;
 }
 
-pub table-first : (size : ℕ) → seated (record { places = free_slots 64; last = 63; next_pid = 1 }) (first size) (record { place = 0; pid = 1 }) ≡ first_table size
+pub table-first : (size : ℕ) → seated (record { places = free_slots 64; last = 63; next_pid = 1; awake = all_in 64 }) (first size) (record { place = 0; pid = 1 }) ≡ first_table size
 unfolding free_slots
 table-first size = refl
 

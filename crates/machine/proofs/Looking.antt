@@ -6,8 +6,12 @@ use Rattle.blockdev.specs.Splice.{part}
 use Rattle.inode.specs.declared.InodeStat.{InodeStat}
 use Rattle.kernel.proofs.Holding.{failed-filed}
 use Rattle.kernel.proofs.Steps.{fail-keeps, with-tree}
+use Rattle.kernel.proofs.Wakes.{running-at}
+use Rattle.calls.proofs.Woken.{watched-stop}
 use Rattle.kernel.specs.Kernel.{Kernel, idle}
 use Rattle.kernel.specs.Sound.{IsFiled, IsKernel}
+use Rattle.kernel.specs.View.{Keeps}
+use Rattle.kernel.specs.Watch.{Watches}
 use Rattle.machine.specs.Looks.{IsRead, stat_from, stat_seen, stopped_in}
 use Rattle.spaces.specs.Spaces.{Spaces}
 use Rattle.tree.specs.Telling.{Tells, TellsAny}
@@ -42,13 +46,22 @@ idle-is : (s : Spaces) → s.active ≡ None → s ≡ idle s
 idle-is s e = ap (λ a. record s { active = a }) e
 
 -- at is what the fields show, and now the kernel's value
-module _ (at now : Kernel) (same : at ≡ now) (is : IsKernel now) (z : slice_index now.spaces.registers 0 ≡ 0) (a : now.spaces.pc % 4 ≡ 0) (t : FileTree) (down : t.failed ≡ true) where
-  lost-any : (o : Option ℕ) → at.spaces.active ≡ o → IsKernel (record at { tree = t; table = stopped_in at.table at.spaces o; spaces = idle at.spaces })
-  lost-any (Some i) e = fail-keeps at now i t same is (ap (λ (k : Kernel). k.spaces.active) (sym same) ∙ e) z a down
+module _ (at now : Kernel) (same : at ≡ now) (is : IsKernel now) (watched : Watches now) (z : slice_index now.spaces.registers 0 ≡ 0) (a : now.spaces.pc % 4 ≡ 0) (t : FileTree) (down : t.failed ≡ true) where
+  kept : Watches at
+  kept = subst Watches (sym same) watched
+
+  lost-any : (o : Option ℕ) → at.spaces.active ≡ o → Keeps (record at { tree = t; table = stopped_in at.table at.spaces o; spaces = idle at.spaces })
+  lost-any (Some i) e = record {
+    sound = fail-keeps at now i t same is (ap (λ (k : Kernel). k.spaces.active) (sym same) ∙ e) z a down;
+    watched = watched-stop kept at.spaces i (running-at (subst IsKernel (sym same) is) i e);
+  }
   lost-any None e =
       let filed : IsFiled t at.files at.table.places at.spaces.active = rw e (failed-filed at.files at.table.places down) in
-      subst (λ (s : Spaces). IsKernel (record at { tree = t; spaces = s })) (idle-is at.spaces e) (with-tree at t (subst IsKernel (sym same) is) filed)
+      record {
+        sound = subst (λ (s : Spaces). IsKernel (record at { tree = t; spaces = s })) (idle-is at.spaces e) (with-tree at t (subst IsKernel (sym same) is) filed);
+        watched = kept;
+      }
 
   -- the running process, if there is one, runs no more
-  pub lost-keeps : IsKernel (record at { tree = t; table = stopped_in at.table at.spaces at.spaces.active; spaces = idle at.spaces })
+  pub lost-keeps : Keeps (record at { tree = t; table = stopped_in at.table at.spaces at.spaces.active; spaces = idle at.spaces })
   lost-keeps = lost-any at.spaces.active refl

@@ -12,6 +12,7 @@ use Rattle.machine.specs.Told.{IsUp, Told}
 use Rattle.mount.specs.Mounted.{AreLinked}
 use Rattle.names.specs.Rules.{KeepsTree}
 use Rattle.proc.specs.declared.process.Process.{Process}
+use Rattle.proc.specs.Mask.{all_in}
 use Rattle.proc.specs.Places.{Places}
 use Rattle.programs.specs.Headed.{file_at, program_in}
 use Rattle.programs.specs.Passed.{plan_with}
@@ -146,7 +147,7 @@ PutsInit files frames new (Some init) = IsInPlace files frames new init
 
 -- the table with process 1 alone
 abbrev pub first_places : Plan → Places
-first_places new = record { places = Some (first_of new) ∷ free_slots 63; last = 63; next_pid = 2 }
+first_places new = record { places = Some (first_of new) ∷ free_slots 63; last = 63; next_pid = 2; awake = all_in 64 }
 
 -- the kernel of a machine that begins with a plan, over the files of a disk
 abbrev pub init_kernel : FileTree → ℕ → Plan → Kernel

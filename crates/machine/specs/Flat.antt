@@ -6,6 +6,7 @@ use Rattle.std.specs.Prelude.{List, None, Option, Some, [], false, length, repli
 use Rattle.kernel.specs.Kernel.{Kernel, begun}
 use Rattle.files.specs.Places.{Counted}
 use Rattle.proc.specs.declared.process.Process.{Process}
+use Rattle.proc.specs.Mask.{all_in}
 use Rattle.proc.specs.Places.{Places}
 use Rattle.spaces.specs.Spaces.{Held, Spaces}
 use Rattle.tree.specs.Tree.{FileTree}
@@ -57,7 +58,7 @@ first size = record {
 
 -- the table with this process alone
 abbrev pub first_table : ℕ → Places
-first_table size = record { places = Some (first size) ∷ free_slots 63; last = 63; next_pid = 2 }
+first_table size = record { places = Some (first size) ∷ free_slots 63; last = 63; next_pid = 2; awake = all_in 64 }
 
 -- the console, open for reading and writing
 abbrev pub console_file : OpenFile

@@ -1,2 +1,4 @@
 pub mod Mapped
+pub mod Bits
+pub mod Looking
 pub mod Turns

@@ -1,5 +1,6 @@
-pub mod Places
 pub mod Pick
+pub mod Mask
+pub mod Places
 pub mod Sound
 pub mod Whole
 pub mod Lending

@@ -5,6 +5,7 @@ use Rattle.proc.specs.declared.table.ProcFault.{ProcFault}
 use Rattle.proc.specs.declared.table.ProcFault.TheVariants.{Pids, Slots}
 use Rattle.proc.specs.declared.table.Reaped.{Reaped}
 use Rattle.proc.specs.declared.table.Seat.{Seat}
+use Rattle.proc.specs.Mask.{is_in}
 use Rattle.unixmodel.specs.declared.process.Mode.{Mode}
 use Rattle.unixmodel.specs.declared.process.Mode.TheVariants.{Zombie}
 use Rattle.unixmodel.specs.Files.{clear, free_slot, put, slot}
@@ -13,11 +14,22 @@ use Rattle.unixmodel.specs.Process.{is_running_mode, is_zombie_mode, last_pid}
 use Rattle.unixmodel.specs.ProcessCalls.{status_of}
 use Rattle.unixmodel.specs.State.{holds}
 
--- 64 places, the one that was picked last, and the pid that the next process gets
+-- 64 places, the one that was picked last, the pid that the next process gets, and which places a turn looks at
 pub record Places : Type 0 where
   pub places : List (Option Process)
   pub last : ℕ
   pub next_pid : ℕ
+  pub awake : List Bool
+
+-- ---- who is awake
+
+-- whether a turn looks at place i
+abbrev pub is_awake : Places → ℕ → Bool
+is_awake t i = is_in t.awake i
+
+-- a turn looks at place i again
+abbrev pub woken : Places → ℕ → Places
+woken t i = record t { awake = slice_set t.awake i true }
 
 -- ---- processes
 

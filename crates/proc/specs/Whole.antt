@@ -17,7 +17,7 @@ use Rattle.unixmodel.specs.Next.{stopped}
 use Rattle.unixmodel.specs.Outcome as ends
 use Rattle.unixmodel.specs.Process as unix
 use Rattle.unixmodel.specs.ProcessCalls.{has_child, zombie_child}
-use Rattle.unixmodel.specs.State.{State, change_process, holds, place_of_pid, put_process, running}
+use Rattle.unixmodel.specs.State.{State, change_process, holds, place_of_pid, running}
 
 -- a process with its memory
 abbrev pub with_memory : Memory → Process → unix.Process
@@ -92,9 +92,9 @@ joined-free_slots zero ms = refl
 joined-free_slots (suc n) [] = ap (λ qs. None ∷ qs) (joined-free_slots n [])
 joined-free_slots (suc n) (m ∷ ms) = ap (λ qs. None ∷ qs) (joined-free_slots n ms)
 
-pub seat_of-first : (last pid : ℕ) → pid ≤ 2147483647 → table.seat_of (record { places = free_slots 64; last = last; next_pid = pid }) ≡ Ok (record { place = 0; pid = pid })
+pub seat_of-first : (last pid : ℕ) (awake : List Bool) → pid ≤ 2147483647 → table.seat_of (record { places = free_slots 64; last = last; next_pid = pid; awake = awake }) ≡ Ok (record { place = 0; pid = pid })
 unfolding free_slots
-seat_of-first last pid h = let fits : nat_le pid 2147483647 ≡ true = grind (arith, nat_tests) in rw fits refl
+seat_of-first last pid awake h = let fits : nat_le pid 2147483647 ≡ true = grind (arith, nat_tests) in rw fits refl
 
 -- ---- a change that leaves the memory as it is
 

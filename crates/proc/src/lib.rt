@@ -1,8 +1,10 @@
 //! The places of processes, and the turn.
 #![tactic(auto)]
 
+mod mask;
 mod process;
 mod table;
 
+pub use mask::Mask;
 pub use process::{Place, Process};
 pub use table::{PLACES, ProcFault, Reaped, Seat, Table, zombie_child};

@@ -3,11 +3,13 @@ ghost use Rattle.std.specs.Prelude.{◌≡◌, ◌+◌, ◌<◌, ◌≤◌, ◌%
 ghost use Rattle.std.specs.Borrow.{sem};
 ghost use Rattle.std.specs.Option.{option_copied, option_copied_mut};
 ghost use Rattle.unixmodel.specs.Files.{free_slot, free_slots, put, slot};
+ghost use Rattle.proc.specs.Mask.{all_in};
 ghost use Rattle.unixmodel.specs.ProcessCalls.{status_of};
 ghost use Rattle.proc.specs.Places.{is_zombie_child_of, orphaned, place_where, zombie_of};
 ghost use Rattle.unixmodel.specs.State.{holds, place_limit};
 ghost use Rattle.unixmodel.specs.declared.process.Mode.TheVariants.{Ready, Running, Waiting};
 
+use crate::mask::Mask;
 use crate::process::{Place, Process};
 use arrayvec::ArrayVec;
 use std::marker::Model;
@@ -49,12 +51,13 @@ pub struct Reaped {
     pub status: i32,
 }
 
-/// The places, the one that was picked last, and the pid that the next process gets.
+/// The places, the one that was picked last, the pid that the next process gets, and the places that a turn looks at.
 #[derive(Drop)]
 pub struct Table {
     places: ArrayVec<Place, 64>,
     last: usize,
     next_pid: u32,
+    awake: Mask,
 }
 
 impl Model for Table {
@@ -62,7 +65,7 @@ impl Model for Table {
 
     ghost Value = { Places };
 
-    ghost view = { λ t. record { places = t.places.items; last = t.last; next_pid = t.next_pid } };
+    ghost view = { λ t. record { places = t.places.items; last = t.last; next_pid = t.next_pid; awake = t.awake } };
 
     ghost use Rattle.proc.specs.Sound.{IsSound};
 
@@ -124,21 +127,23 @@ fn status(mode: Mode) -> i32
 }
 
 impl Table {
-    ghost use Rattle.proc.specs.Places.{Places, changed, exited, has_pid, is_child_of, is_running, left, reaped_at, seat_of, seated, with_descriptor, with_directory, with_mark, with_mode, with_running, with_size, without, zombie_place};
+    ghost use Rattle.proc.specs.Places.{Places, changed, exited, has_pid, is_awake, is_child_of, is_running, left, reaped_at, seat_of, seated, with_descriptor, with_directory, with_mark, with_mode, with_running, with_size, without, woken, zombie_place};
     ghost use Rattle.proc.specs.Lending.{LendsProcess};
     ghost use Rattle.proc.specs.Pick.{Answers, Picks};
+    ghost use Rattle.proc.specs.Mask.{Passes};
 
-    /// Free places. The first process gets this pid.
+    /// Free places. The first process gets this pid, and a turn looks at each place once at least.
     #[tactic(auto, unfolding(unixmodel::specs::Files::free_slots))]
     pub fn starting_at(pid: u32) -> Table
         requires first { 1 ≤ pid }
         requires last { pid ≤ 2147483647 }
-        ensures { result ≡ record { places = free_slots 64; last = 63; next_pid = pid } }
+        ensures { result ≡ record { places = free_slots 64; last = 63; next_pid = pid; awake = all_in 64 } }
     {
         Table {
             places: ArrayVec::from_array_in((), [None; 64]),
             last: PLACES - 1,
             next_pid: pid,
+            awake: Mask::all(),
         }
     }
 
@@ -266,20 +271,34 @@ impl Table {
         self.first_child(pid).is_some()
     }
 
-    /// Picks the first ready place in the order from the one after the last picked, ending at that one.
-    pub fn pick<F: Fn(&[Place], usize) -> bool>(&mut self, ready: F) -> Option<usize>
-        requires { F.IsAlwaysCallable ready }
-        ensures first { Picks (Answers F.Fn ready self.old.places) self.old.last result }
-        ensures picked { IfSome result (λ i. self.new ≡ record self.old { last = i }) }
-        ensures within { IfSome result (λ i. i < 64) }
-        ensures none { IfNone result (self.new ≡ self.old) }
+    /// A turn looks at a place again: for whoever may have become ready. Nothing changes where there is no such place.
+    pub fn wake(&mut self, at: usize)
+        ensures { self.new ≡ woken self.old at }
     {
-        for turn in 1..65 {
-            let at = (self.last + turn) % 64;
+        self.awake.set(at);
+    }
+
+    /// Picks the first ready place in the order from the one after the last picked, ending at that one. It looks at those that are
+    /// awake, and at no place twice: one that isn't ready is awake again once it is woken.
+    pub fn pick<F: Fn(&[Place], usize) -> bool>(&mut self, ready: F) -> Option<usize>
+        requires callable { F.IsAlwaysCallable ready }
+        requires awake { (i : ℕ) → is_awake self.old i ≡ false → Answers F.Fn ready self.old.places i false }
+        ensures first { Picks (Answers F.Fn ready self.old.places) self.old.last result }
+        ensures picked { IfSome result (λ i. self.new ≡ record self.old { last = i; awake = self.new.awake }) }
+        ensures within { IfSome result (λ i. i < 64) }
+        ensures none { IfNone result (self.new ≡ record self.old { awake = self.new.awake }) }
+        ensures awake { (i : ℕ) → is_awake self.new i ≡ false → Answers F.Fn ready self.old.places i false }
+        ensures passed { Passes self.new.awake self.old.last result }
+    {
+        let mut turn = 1;
+        'round: while let Some(next) = self.awake.next(self.last, turn) {
+            let at = (self.last + next) % 64;
             if ready(self.places.as_slice(), at) {
                 self.last = at;
                 return Some(at);
             }
+            self.awake.clear(at);
+            turn = next + 1;
         }
         None
     }

@@ -1,5 +1,8 @@
-use Rattle.std.proofs.Common.{ap, arith, sym, ◌∙◌}
+use Rattle.std.proofs.Common.{ap, arith, sym, ◌∙◌, Some}
 use Rattle.kernel.specs.View.{kernel_of}
+use Rattle.kernel.proofs.Watching.{watched-running}
+use Rattle.proc.specs.Places.{with_descriptor}
+use Rattle.calls.proofs.Woken.{running-now, watched-shared}
 use Rattle.calls.proofs.Forks.{counts-few}
 use Rattle.calls.proofs.Renames.{dup-full, dup-unnamed, dups}
 use Rattle.unixmodel.specs.Numbers.{low}
@@ -12,12 +15,15 @@ pub returns-in_default-free_descriptor : goal.returns-in_default-free_descriptor
 returns-in_default-free_descriptor g c = dup-full c.args.kernel.now c.args.at c.requires (sym c.free_descriptor.ensures.place ∙ c.in_default-free_descriptor.is)
 
 pub dup-requires : goal.dup-requires
-dup-requires g c = let few = counts-few (kernel_of c.kernel.inside) c.kernel.invariant c.from.result in omega (arith, few)
+dup-requires g c = let few = counts-few (kernel_of c.kernel.inside) c.kernel.invariant.sound c.from.result in omega (arith, few)
 
 pub invariant_of-kernel : goal.invariant_of-kernel
 invariant_of-kernel g c =
     let made = dups c.args.kernel.now c.args.at c.requires (kernel_of c.kernel.inside) c.kernel.view_is c.low.result c.in-Some.id c.in-Some-free_descriptor.free (c.low.ensures ∙ ap low c.argument.ensures) (sym c.open_id.ensures.named ∙ c.in-Some.is) (sym c.free_descriptor.ensures.place ∙ c.in-Some-free_descriptor.is) in
-    rw (c.dup.ensures, c.set_descriptor.ensures, c.from.ensures) made.sound
+    rw (c.dup.ensures, c.set_descriptor.ensures, c.from.ensures) (record {
+      sound = made.sound;
+      watched = watched-shared (kernel_of c.kernel.inside) (watched-running c.kernel.invariant.watched c.args.at (with_descriptor c.in-Some-free_descriptor.free (Some c.in-Some.id)) (running-now c.args.at c.kernel.view_is c.requires) (λ p pid is. is)) c.in-Some.id;
+    })
 
 pub returns : goal.returns
 returns g c =

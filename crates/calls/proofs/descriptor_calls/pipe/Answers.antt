@@ -1,7 +1,10 @@
-use Rattle.std.proofs.Common.{ap, arith, sym, ◌∙◌}
+use Rattle.std.proofs.Common.{ap, arith, sym, ◌∙◌, refl}
 use Rattle.std.specs.Prelude.{is_some}
 use Rattle.std.specs.Option.{option_copied}
 use Rattle.kernel.specs.View.{kernel_of}
+use Rattle.kernel.proofs.Watching.{watched-bytes}
+use Rattle.kernel.proofs.Wakes.{kernel-waking}
+use Rattle.calls.proofs.Woken.{comes-waking, running-now, watched-opened}
 use Rattle.calls.proofs.Pipes.{descriptor-left, lacks-descriptors, lacks-frames, lacks-places, lacks-room, pipe-unwritable, pipes-open, place-left}
 use Rattle.files.proofs.Free.{free-place}
 use Rattle.spaces.specs.Spaces.{Spaces}
@@ -43,11 +46,13 @@ invariant_of-kernel-2 g c =
     let can = rw c.argument-address.ensures at (sym c.can_write.ensures ∙ c.if-not-can_write.false) in
     let d = c.if-not-create_pipe.ensures.done in
     let w = c.write-written.ensures in
-    (pipes-open c.requires c.kernel.view_is (sym c.free_pipe.ensures.place ∙ c.in-Some-free_pipe.is) c.open_end-reader.ensures.opens c.open_end-writer.ensures.opens can d.0 _ _ d.1 _ c.argument-address.ensures _ c.ints.ensures _ w.can w.done).sound
+    let one = watched-opened c.kernel.invariant.watched (running-now c.args.at c.kernel.view_is c.requires) c.open_end-reader.ensures.opens in
+    let two = watched-opened one.0 one.1 c.open_end-writer.ensures.opens in
+    rw c.wakeup.ensures (record { sound = kernel-waking (pipes-open c.requires c.kernel.view_is (sym c.free_pipe.ensures.place ∙ c.in-Some-free_pipe.is) c.open_end-reader.ensures.opens c.open_end-writer.ensures.opens can d.0 _ _ d.1 _ c.argument-address.ensures _ c.ints.ensures _ w.can w.done).sound _; watched = watched-bytes two.0 _ refl })
 
 pub returns : goal.returns
 returns g c =
     let can = rw c.argument-address.ensures at (sym c.can_write.ensures ∙ c.if-not-can_write.false) in
     let d = c.if-not-create_pipe.ensures.done in
     let w = c.write-written.ensures in
-    pipes-open c.requires c.kernel.view_is (sym c.free_pipe.ensures.place ∙ c.in-Some-free_pipe.is) c.open_end-reader.ensures.opens c.open_end-writer.ensures.opens can d.0 _ _ d.1 _ c.argument-address.ensures _ c.ints.ensures _ w.can w.done
+    rw c.wakeup.ensures (comes-waking (pipes-open c.requires c.kernel.view_is (sym c.free_pipe.ensures.place ∙ c.in-Some-free_pipe.is) c.open_end-reader.ensures.opens c.open_end-writer.ensures.opens can d.0 _ _ d.1 _ c.argument-address.ensures _ c.ints.ensures _ w.can w.done) _)

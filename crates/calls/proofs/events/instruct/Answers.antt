@@ -1,8 +1,8 @@
 use Rattle.calls.proofs.Served.{ok-told, same-served}
-use Rattle.kernel.specs.Kernel.{Kernel, state_of}
+use Rattle.kernel.specs.Kernel.{Kernel}
 use Rattle.unixmodel.specs.Calls.{quiet}
-use Rattle.calls.proofs.Takes.{made-quiet, step-calls, step-computes, step-faults}
-use Rattle.std.proofs.Common.{ap, negsuc, sym, ◌∙◌}
+use Rattle.calls.proofs.Takes.{ended-told, made-quiet, step-calls, step-computes, step-faults}
+use Rattle.std.proofs.Common.{ap, negsuc, refl, sym, ◌∙◌}
 use Rattle.calls.proofs.events.instruct.Goals as goal
 
 pub returns-in-None-clause-gives : goal.returns-in-None-clause-gives
@@ -29,4 +29,4 @@ returns-in_ok-finish-in-Some-clause-gives g c =
     let s = c.is_sound.ensures in
     let told = ok-told _ c.finish.result _ c.in_ok-finish-in-Some.was c.finish.ensures.told in
     let e = step-faults c.args.kernel.now c.args.at s.sound c.requires s.zero s.aligned c.in-Some.trap t.0 (sym c.is_call.ensures ∙ c.if-is_call.false) c.execute.new.self t.1 in
-    made-quiet c.finish.new.self _ (g.W.Out.contents c.args.console.now) (e ∙ ap (λ (x : Kernel). quiet (state_of x)) (sym told))
+    made-quiet c.finish.new.self _ (g.W.Out.contents c.args.console.now) (e ∙ ap quiet (sym (ended-told c.execute.new.self c.finish.new.self c.args.at (negsuc 0) (negsuc 0) refl told)))

@@ -1,5 +1,7 @@
+use Rattle.kernel.proofs.Wakes.{state-but}
+use Rattle.unixmodel.specs.Calls.{quiet}
 use Rattle.calls.proofs.Served.{on-after, same-served, serves-disk, started-tree}
-use Rattle.kernel.specs.Kernel.{Kernel, ended}
+use Rattle.kernel.specs.Kernel.{Kernel, ended, started}
 use Rattle.calls.proofs.Takes.{ends-if, takes-killed, takes-ready, takes-waiting}
 use Rattle.std.proofs.Common.{ap, negsuc, sym, ◌∙◌}
 use Rattle.calls.proofs.events.take.Goals as goal
@@ -13,7 +15,7 @@ returns-then-process-clause-gives g c =
 pub returns-in-Ready-clause-gives : goal.returns-in-Ready-clause-gives
 returns-in-Ready-clause-gives g c =
     let there = sym c.process.ensures ∙ sym c.copied.ensures ∙ c.in-Some.is in
-    rw c.start.ensures (takes-ready c.args.kernel.now c.args.at c.in-Some.process c.is_sound.ensures.sound c.requires.idle there c.requires.up c.if-process.false c.in-Ready.is)
+    takes-ready c.args.kernel.now c.args.at c.in-Some.process c.is_sound.ensures.sound c.requires.idle there c.requires.up c.if-process.false c.in-Ready.is ∙ ap quiet (sym (state-but (started c.args.kernel.now c.args.at) c.start.ensures))
 
 pub returns-in-Waiting-clause-gives : goal.returns-in-Waiting-clause-gives
 returns-in-Waiting-clause-gives g c =

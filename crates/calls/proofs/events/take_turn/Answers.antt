@@ -1,7 +1,11 @@
 use Rattle.kernel.proofs.Readies.{turn-alive}
+use Rattle.kernel.proofs.Wakes.{state-but}
+use Rattle.kernel.specs.Kernel.{Kernel, picked}
 use Rattle.calls.proofs.Served.{on-after}
 use Rattle.calls.proofs.Takes.{turn-takes}
-use Rattle.std.proofs.Common.{sym, ◌∙◌}
+use Rattle.calls.specs.Told.{taken}
+use Rattle.std.proofs.Common.{ap, sym, ◌∙◌}
+use Rattle.unixmodel.specs.State.{State}
 use Rattle.calls.proofs.events.take_turn.Goals as goal
 
 pub take-requires-clause-alive : goal.take-requires-clause-alive
@@ -12,7 +16,8 @@ take-requires-clause-alive g c =
 pub returns-in-Some-clause-gives : goal.returns-in-Some-clause-gives
 returns-in-Some-clause-gives g c =
     let found = sym c.turn.ensures.turn ∙ c.in-Some.is in
-    on-after _ _ _ c.take.result (turn-takes c.args.kernel.now c.in-Some.at c.is_sound.ensures.sound c.requires.idle found) (rw c.in-Some.ensures.picked at c.take.ensures.gives)
+    let same = state-but (picked c.args.kernel.now c.in-Some.at) c.in-Some.ensures.picked in
+    on-after _ _ _ c.take.result (turn-takes c.args.kernel.now c.in-Some.at c.is_sound.ensures.sound c.requires.idle found ∙ ap (λ (s : State). taken s c.in-Some.at) (sym same)) c.take.ensures.gives
 
 pub returns-in-Some-clause-tree : goal.returns-in-Some-clause-tree
 returns-in-Some-clause-tree g c = rw c.in-Some.ensures.picked at c.take.ensures.tree

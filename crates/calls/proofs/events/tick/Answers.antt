@@ -1,9 +1,16 @@
 use Rattle.calls.proofs.Served.{ticked-tree}
 use Rattle.calls.proofs.Turned.{next-ticks}
+use Rattle.kernel.proofs.Wakes.{state-but}
+use Rattle.kernel.specs.Kernel.{Kernel, ticked}
+use Rattle.std.proofs.Common.{ap, sym, ◌∙◌}
+use Rattle.unixmodel.specs.Calls.{quiet}
 use Rattle.calls.proofs.events.tick.Goals as goal
 
 pub returns-clause-gives : goal.returns-clause-gives
-returns-clause-gives g c = let s = c.is_sound.ensures in rw c.interrupt.ensures (next-ticks c.args.kernel.now s.sound s.zero s.aligned)
+returns-clause-gives g c =
+    let k = c.args.kernel.now in
+    let s = c.is_sound.ensures in
+    next-ticks k s.sound s.zero s.aligned ∙ ap quiet (sym (state-but (ticked k) c.interrupt.ensures))
 
 pub returns-clause-tree : goal.returns-clause-tree
-returns-clause-tree g c = rw c.interrupt.ensures (ticked-tree c.args.kernel.now)
+returns-clause-tree g c = ap (λ (k : Kernel). k.tree) c.interrupt.ensures ∙ ticked-tree c.args.kernel.now

@@ -1,4 +1,9 @@
 use Rattle.kernel.specs.View.{kernel_of}
+use Rattle.kernel.proofs.Watching.{watched-running}
+use Rattle.proc.specs.Places.{with_size}
+use Rattle.spaces.specs.Spaces.{Spaces}
+use Rattle.std.proofs.Common.{ap, refl}
+use Rattle.calls.proofs.Woken.{executes-piped, running-now, still-runs, watched-piped, watched-stop}
 use Rattle.calls.proofs.Execs.{exec-aligned, exec-fails, exec-none, exec-there, execs, held-has}
 use Rattle.calls.proofs.exec_call.exec_found.Goals as goal
 
@@ -13,7 +18,11 @@ begin-requires g c =
 pub invariant_of-kernel : goal.invariant_of-kernel
 invariant_of-kernel g c =
     let e = c.in-Ok-Some.ensures in
-    rw (c.set_size.ensures, c.begin.ensures) (execs c.args.kernel.now c.args.at c.requires.runs (kernel_of c.kernel.inside) c.kernel.view_is c.args.number c.requires.reaches c.execute.new.tree e.serves.told e.serves.cause.later _ c.argument-argv.ensures c.execute.new.spaces _ e.executed _ c.in-Ok-Some.field-0-is c.frames_suffice.ensures).sound
+    let runs = running-now c.args.at c.kernel.view_is c.requires.runs in
+    rw (c.set_size.ensures, c.begin.ensures) (record {
+      sound = (execs c.args.kernel.now c.args.at c.requires.runs (kernel_of c.kernel.inside) c.kernel.view_is c.args.number c.requires.reaches c.execute.new.tree e.serves.told e.serves.cause.later _ c.argument-argv.ensures c.execute.new.spaces _ e.executed _ c.in-Ok-Some.field-0-is c.frames_suffice.ensures).sound;
+      watched = watched-piped (kernel_of c.kernel.inside) (watched-running c.kernel.invariant.watched c.args.at (with_size c.in-Ok-Some.started.size) runs (λ p pid is. is)) c.execute.new.spaces (executes-piped c.kernel.inside.tree.files c.kernel.inside.spaces c.execute.new.spaces c.args.at c.args.number c.argument-argv.result _ e.executed);
+    })
 
 pub size-size-requires : goal.size-size-requires
 size-size-requires g c = let e = c.in-Err.ensures.failed in held-has c.args.kernel.now c.args.at c.requires.runs (kernel_of c.kernel.inside) c.kernel.view_is c.execute.new.spaces e.0 e.1
@@ -21,8 +30,14 @@ size-size-requires g c = let e = c.in-Err.ensures.failed in held-has c.args.kern
 pub invariant_of-kernel-in-Err : goal.invariant_of-kernel-in-Err
 invariant_of-kernel-in-Err g c =
     let e = c.in-Err.ensures in
+    let runs = running-now c.args.at c.kernel.view_is c.requires.runs in
+    let sized = with_size c.size-size.result in
     rw (c.stop.ensures.table, c.stop.ensures.spaces, c.set_size-in-Err.ensures)
-    (exec-fails c.args.kernel.now c.args.at c.requires.runs (kernel_of c.kernel.inside) c.kernel.view_is c.execute.new.tree e.serves.down c.execute.new.spaces e.failed.0 e.failed.1 c.frames_suffice-in-Err.ensures _ c.size-size.ensures)
+    (record {
+      sound = exec-fails c.args.kernel.now c.args.at c.requires.runs (kernel_of c.kernel.inside) c.kernel.view_is c.execute.new.tree e.serves.down c.execute.new.spaces e.failed.0 e.failed.1 c.frames_suffice-in-Err.ensures _ c.size-size.ensures;
+      watched = watched-stop (watched-piped (kernel_of c.kernel.inside) (watched-running c.kernel.invariant.watched c.args.at sized runs (λ p pid is. is)) c.execute.new.spaces (ap (λ (s : Spaces). s.pipes) e.failed.1)) c.execute.new.spaces c.args.at
+          (still-runs sized (λ p. refl) c.kernel.inside.table.places c.args.at runs);
+    })
 
 pub returns-in-Ok-Some : goal.returns-in-Ok-Some
 returns-in-Ok-Some g c =

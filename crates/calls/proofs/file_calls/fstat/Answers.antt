@@ -1,5 +1,6 @@
 use Rattle.std.proofs.Common.{ap, sym, ◌∙◌}
 use Rattle.kernel.specs.View.{kernel_of}
+use Rattle.calls.proofs.Woken.{watched-piped, writes-piped}
 use Rattle.calls.proofs.Stats.{fstat-acts, fstat-nodeless, fstat-there, fstat-unnamed, fstat-unwritable, node-told, reads-ok}
 use Rattle.unixmodel.specs.Numbers.{low}
 use Rattle.calls.proofs.file_calls.fstat.Goals as goal
@@ -28,8 +29,11 @@ invariant_of-kernel g c =
     let on = node-told (kernel_of c.kernel.inside) _ c.kernel.view_is c.from.result c.in-Some.id c.from.ensures c.stat.result _ c.stat.ensures c.in-Ok.is in
     let can = rw c.argument-address.ensures at (sym c.can_write.ensures ∙ c.if-not-can_write.false) in
     let told = reads-ok _ c.stat-2.result _ c.in_ok-told.was c.stat-2.ensures in
-    (fstat-acts c.args.kernel.now c.args.at c.requires c.low.result c.in-Some.id (c.low.ensures ∙ ap low c.argument.ensures) (sym c.open_id.ensures.named ∙ c.in-Some.is) c.in-Ok.number on can (kernel_of c.kernel-2.inside) _ c.kernel-2.view_is told.0 _ told.1
-    _ _ c.argument-address.ensures _ c.stat_bytes.ensures _ c.write-written.ensures.can c.write-written.ensures.done).sound
+    let w = c.write-written.ensures in
+    record {
+      sound = (fstat-acts c.args.kernel.now c.args.at c.requires c.low.result c.in-Some.id (c.low.ensures ∙ ap low c.argument.ensures) (sym c.open_id.ensures.named ∙ c.in-Some.is) c.in-Ok.number on can (kernel_of c.kernel-2.inside) _ c.kernel-2.view_is told.0 _ told.1 _ _ c.argument-address.ensures _ c.stat_bytes.ensures _ c.write-written.ensures.can c.write-written.ensures.done).sound;
+      watched = watched-piped (kernel_of c.kernel-2.inside) c.kernel-2.invariant.watched c.write-written.new.self (writes-piped c.kernel-2.inside.spaces c.write-written.new.self _ _ c.write-written.result w.done w.refused);
+    }
 
 pub returns : goal.returns
 returns g c =

@@ -1,4 +1,6 @@
 use Rattle.kernel.specs.View.{kernel_of}
+use Rattle.tree.specs.Tree.{is_device}
+use Rattle.calls.proofs.Woken.{running-now, watched-refuse}
 use Rattle.calls.proofs.Names.{mkdir-done, mkdir-fails, mkdir-pathless, mkdir-sound}
 use Rattle.calls.proofs.name_calls.mkdir.Goals as goal
 
@@ -6,10 +8,13 @@ pub returns-in_default : goal.returns-in_default
 returns-in_default g c = mkdir-pathless c.args.kernel.now c.args.at c.requires c.in_default.ensures.path
 
 pub invariant_of-kernel : goal.invariant_of-kernel
-invariant_of-kernel g c = (mkdir-done c.args.kernel.now c.args.at c.requires c.home-directory.result c.home-directory.ensures _ c.in-Some.ensures.path c.create_directory.new.self c.create_directory.result (kernel_of c.kernel.inside) c.kernel.view_is c.in-Some.ensures.bytes c.create_directory.ensures _ c.in-Ok.is c.is_whole.ensures).sound
+invariant_of-kernel g c = record { sound = (mkdir-done c.args.kernel.now c.args.at c.requires c.home-directory.result c.home-directory.ensures _ c.in-Some.ensures.path c.create_directory.new.self c.create_directory.result (kernel_of c.kernel.inside) c.kernel.view_is c.in-Some.ensures.bytes c.create_directory.ensures _ c.in-Ok.is c.is_whole.ensures).sound; watched = c.kernel.invariant.watched }
 
 pub invariant_of-kernel-in-Err : goal.invariant_of-kernel-in-Err
-invariant_of-kernel-in-Err g c = rw (c.refuse.ensures.table, c.refuse.ensures.spaces) (mkdir-sound c.args.kernel.now c.args.at c.requires c.home-directory.result c.home-directory.ensures _ c.in-Some.ensures.path c.create_directory.new.self c.create_directory.result (kernel_of c.kernel.inside) c.kernel.view_is c.create_directory.ensures c.in-Err.fault c.in-Err.is)
+invariant_of-kernel-in-Err g c = rw (c.refuse.ensures.table, c.refuse.ensures.spaces) (record {
+  sound = mkdir-sound c.args.kernel.now c.args.at c.requires c.home-directory.result c.home-directory.ensures _ c.in-Some.ensures.path c.create_directory.new.self c.create_directory.result (kernel_of c.kernel.inside) c.kernel.view_is c.create_directory.ensures c.in-Err.fault c.in-Err.is;
+  watched = watched-refuse (kernel_of c.kernel.inside) c.kernel.invariant.watched c.args.at (running-now c.args.at c.kernel.view_is c.requires) (is_device c.in-Err.fault);
+})
 
 pub returns-in-Ok : goal.returns-in-Ok
 returns-in-Ok g c = mkdir-done c.args.kernel.now c.args.at c.requires c.home-directory.result c.home-directory.ensures _ c.in-Some.ensures.path c.create_directory.new.self c.create_directory.result (kernel_of c.kernel.inside) c.kernel.view_is c.in-Some.ensures.bytes c.create_directory.ensures _ c.in-Ok.is c.is_whole.ensures

@@ -1,17 +1,21 @@
 use Rattle.std.proofs.Common.{sym, ◌∙◌}
 use Rattle.kernel.specs.View.{kernel_of}
+use Rattle.calls.proofs.Woken.{running-now, watched-stop}
 use Rattle.calls.proofs.Opens.{cut-done}
 use Rattle.calls.proofs.Served.{ok-told, on-err}
 use Rattle.calls.proofs.Stats.{read-fails}
 use Rattle.calls.proofs.open_calls.cut.Goals as goal
 
 pub invariant_of-kernel : goal.invariant_of-kernel
-invariant_of-kernel g c = (cut-done c.requires.runs c.args.flags c.args.number c.kernel.view_is (sym c.truncates.ensures ∙ c.if-not-truncates.false) c.truncate.new.self (ok-told _ c.truncate.result _ c.in-Ok.is c.truncate.ensures.told) c.truncate.ensures.cause.later c.is_whole.ensures).runs.sound
+invariant_of-kernel g c = record { sound = (cut-done c.requires.runs c.args.flags c.args.number c.kernel.view_is (sym c.truncates.ensures ∙ c.if-not-truncates.false) c.truncate.new.self (ok-told _ c.truncate.result _ c.in-Ok.is c.truncate.ensures.told) c.truncate.ensures.cause.later c.is_whole.ensures).runs.sound; watched = c.kernel.invariant.watched }
 
 pub invariant_of-kernel-in-Err : goal.invariant_of-kernel-in-Err
 invariant_of-kernel-in-Err g c =
     rw (c.stop.ensures.table, c.stop.ensures.spaces)
-    (read-fails (kernel_of c.kernel.inside) c.args.kernel.now c.kernel.view_is c.truncate.new.self c.args.at c.requires.runs (on-err c.truncate.result _ c.in-Err.is c.truncate.ensures.down))
+    (record {
+      sound = read-fails (kernel_of c.kernel.inside) c.args.kernel.now c.kernel.view_is c.truncate.new.self c.args.at c.requires.runs (on-err c.truncate.result _ c.in-Err.is c.truncate.ensures.down);
+      watched = watched-stop c.kernel.invariant.watched c.kernel.inside.spaces c.args.at (running-now c.args.at c.kernel.view_is c.requires.runs);
+    })
 
 pub returns-in-Ok : goal.returns-in-Ok
 returns-in-Ok g c = cut-done c.requires.runs c.args.flags c.args.number c.kernel.view_is (sym c.truncates.ensures ∙ c.if-not-truncates.false) c.truncate.new.self (ok-told _ c.truncate.result _ c.in-Ok.is c.truncate.ensures.told) c.truncate.ensures.cause.later c.is_whole.ensures

@@ -1,4 +1,5 @@
 use Rattle.kernel.specs.View.{kernel_of}
+use Rattle.calls.proofs.Woken.{running-now, watched-stop}
 use Rattle.calls.proofs.Served.{on-err}
 use Rattle.calls.proofs.Stats.{read-fails}
 use Rattle.calls.proofs.open_calls.find.Goals as goal
@@ -6,4 +7,7 @@ use Rattle.calls.proofs.open_calls.find.Goals as goal
 pub invariant_of-kernel-in-Err : goal.invariant_of-kernel-in-Err
 invariant_of-kernel-in-Err g c =
     rw (c.stop.ensures.table, c.stop.ensures.spaces)
-    (read-fails (kernel_of c.kernel.inside) c.args.kernel.now c.kernel.view_is c.resolve.new.self c.args.at c.requires (on-err c.resolve.result _ c.in-Err.is c.resolve.ensures.down))
+    (record {
+      sound = read-fails (kernel_of c.kernel.inside) c.args.kernel.now c.kernel.view_is c.resolve.new.self c.args.at c.requires (on-err c.resolve.result _ c.in-Err.is c.resolve.ensures.down);
+      watched = watched-stop c.kernel.invariant.watched c.kernel.inside.spaces c.args.at (running-now c.args.at c.kernel.view_is c.requires);
+    })

@@ -1,6 +1,7 @@
 use Rattle.std.proofs.Common.{ap, negsuc, refl, subst, sym, ◌∙◌}
 use Rattle.calls.specs.Acts.{CanCome, IsEnd, Runs}
-use Rattle.kernel.specs.Kernel.{Kernel, answered, counting, ended, marked, state_of}
+use Rattle.kernel.specs.Kernel.{Kernel, answered, counting, ended, marked, state_of, waking}
+use Rattle.kernel.proofs.Wakes.{state-but, state-waking}
 use Rattle.calls.proofs.Acts.{settles-answer, settles-blocks, settles-exits-if}
 use Rattle.calls.proofs.Kills.{settles-killed}
 use Rattle.calls.proofs.Served.{ok-told, same-served, serves-disk, where-err}
@@ -45,5 +46,10 @@ returns-in_ok-finish-in-KillsItself-clause-gives g c =
     let k = c.args.kernel.now in
     let runs : Runs k c.args.at = record { active = c.requires.running; sound = s.sound; zero = s.zero; aligned = s.aligned } in
     let told = ok-told _ c.finish-in-KillsItself.result _ c.in_ok-finish-in-KillsItself.was c.finish-in-KillsItself.ensures.told in
-    let made = c.mark.ensures ∙ ap (λ (x : Kernel). marked x c.args.at) (told ∙ ap (λ (x : Kernel). counting (ended x c.args.at (negsuc 0)) c.finish-in-KillsItself.new.self.tree.failures) c.answer-in-KillsItself.ensures) in
-    rw c.in-KillsItself.is (ap state_of made ∙ settles-killed runs (marked (ended (answered k 0) c.args.at (negsuc 0)) c.args.at) refl)
+    let last = c.finish-in-KillsItself.new.self in
+    let made = told ∙ ap (λ (x : Kernel). waking (counting (ended x c.args.at (negsuc 0)) last.tree.failures) last.table.awake) c.answer-in-KillsItself.ensures in
+    rw c.in-KillsItself.is (
+    state-but (marked last c.args.at) c.mark.ensures
+    ∙ ap (λ (x : Kernel). state_of (marked x c.args.at)) made
+    ∙ state-waking (marked (counting (ended (answered k 0) c.args.at (negsuc 0)) last.tree.failures) c.args.at) last.table.awake
+    ∙ settles-killed runs (marked (ended (answered k 0) c.args.at (negsuc 0)) c.args.at) refl)

@@ -1,6 +1,8 @@
-use Rattle.std.proofs.Common.{◌≡◌, Ok, ap, sym, ◌∙◌}
+use Rattle.std.proofs.Common.{◌≡◌, Ok, ap, sym, ◌∙◌, refl}
 use Rattle.calls.specs.Processes.{child_of}
 use Rattle.kernel.specs.View.{kernel_of}
+use Rattle.kernel.proofs.Wakes.{kernel-waking}
+use Rattle.calls.proofs.Woken.{comes-waking, watched-forked}
 use Rattle.calls.proofs.Forks.{counts-few, fork-unfit, fork-unseated, forks, hold-few, hold-there, hold-up, seat-free}
 use Rattle.kernel.proofs.Runs.{active-space}
 use Rattle.proc.specs.Places.{seat_of, seated}
@@ -11,10 +13,10 @@ pub returns-in_default-next_seat : goal.returns-in_default-next_seat
 returns-in_default-next_seat g c = fork-unseated c.args.kernel.now c.args.at c.requires (kernel_of c.kernel.inside) c.kernel.view_is c.in_default-next_seat.field-0 (sym c.next_seat.ensures.seat ∙ c.in_default-next_seat.is)
 
 pub copy-requires-clause-from : goal.copy-requires-clause-from
-copy-requires-clause-from g c = active-space (kernel_of c.kernel.inside) c.args.kernel.now c.args.at c.kernel.view_is c.kernel.invariant c.requires.active
+copy-requires-clause-from g c = active-space (kernel_of c.kernel.inside) c.args.kernel.now c.args.at c.kernel.view_is c.kernel.invariant.sound c.requires.active
 
 pub copy-requires-clause-free : goal.copy-requires-clause-free
-copy-requires-clause-free g c = seat-free (kernel_of c.kernel.inside) c.kernel.invariant c.in-Ok.seat (sym c.next_seat.ensures.seat ∙ c.in-Ok.is)
+copy-requires-clause-free g c = seat-free (kernel_of c.kernel.inside) c.kernel.invariant.sound c.in-Ok.seat (sym c.next_seat.ensures.seat ∙ c.in-Ok.is)
 
 pub returns-then-not-copy : goal.returns-then-not-copy
 returns-then-not-copy g c =
@@ -23,7 +25,7 @@ returns-then-not-copy g c =
     rw same (fork-unfit c.args.kernel.now c.args.at c.requires (kernel_of c.kernel.inside) c.kernel.view_is c.in-Ok.seat (sym c.next_seat.ensures.seat ∙ c.in-Ok.is) d.0)
 
 pub share_all-requires : goal.share_all-requires
-share_all-requires g c = record { few = counts-few (kernel_of c.kernel.inside) c.kernel.invariant }
+share_all-requires g c = record { few = counts-few (kernel_of c.kernel.inside) c.kernel.invariant.sound }
 
 pub invariant_of-kernel-2 : goal.invariant_of-kernel-2
 invariant_of-kernel-2 g c =
@@ -31,7 +33,10 @@ invariant_of-kernel-2 g c =
     let seats : seat_of k.table ≡ Ok c.in-Ok.seat = sym c.next_seat.ensures.seat ∙ c.in-Ok.is in
     let table : c.alloc-seat.new.self ≡ seated k.table (child_of c.in-Some.process) c.in-Ok.seat = rw (c.alloc-seat.ensures.seat, seats) at c.alloc-seat.ensures.ok in
     let made = forks c.args.kernel.now c.args.at c.requires k c.kernel.view_is c.in-Ok.seat seats c.in-Some.process (sym c.on_hart.ensures.process ∙ c.in-Some.is) c.if-not-copy.ensures.done.0 in
-    rw (table, c.if-not-copy.ensures.done.1, c.share_all.ensures, c.hold.ensures) made.sound
+    rw (c.wake.ensures, table, c.if-not-copy.ensures.done.1, c.share_all.ensures, c.hold.ensures) (record {
+      sound = kernel-waking made.sound _;
+      watched = watched-forked (kernel_of c.kernel.inside) c.kernel.invariant.watched c.in-Ok.seat.place (record (child_of c.in-Some.process) { pid = c.in-Ok.seat.pid }) refl c.in-Some.process.descriptors;
+    })
 
 pub returns : goal.returns
 returns g c =
@@ -39,7 +44,7 @@ returns g c =
     let seats : seat_of k.table ≡ Ok c.in-Ok.seat = sym c.next_seat.ensures.seat ∙ c.in-Ok.is in
     let table : c.alloc-seat.new.self ≡ seated k.table (child_of c.in-Some.process) c.in-Ok.seat = rw (c.alloc-seat.ensures.seat, seats) at c.alloc-seat.ensures.ok in
     let made = forks c.args.kernel.now c.args.at c.requires k c.kernel.view_is c.in-Ok.seat seats c.in-Some.process (sym c.on_hart.ensures.process ∙ c.in-Some.is) c.if-not-copy.ensures.done.0 in
-    rw (table, c.if-not-copy.ensures.done.1, c.share_all.ensures, c.hold.ensures, c.from.ensures) made
+    rw (c.wake.ensures, table, c.if-not-copy.ensures.done.1, c.share_all.ensures, c.hold.ensures, c.from.ensures) (comes-waking made _)
 
 pub hold-requires-clause-up : goal.hold-requires-clause-up
 hold-requires-clause-up g c = hold-up c.args.kernel.now c.args.at c.requires (kernel_of c.kernel.inside) c.kernel.view_is c.in-Some.process (sym c.on_hart.ensures.process ∙ c.in-Some.is)

@@ -1,5 +1,8 @@
 use Rattle.std.proofs.Common.{ap, ◌∙◌}
 use Rattle.kernel.specs.View.{kernel_of}
+use Rattle.kernel.proofs.Watching.{watched-running}
+use Rattle.proc.specs.Places.{with_size}
+use Rattle.calls.proofs.Woken.{running-now}
 use Rattle.calls.proofs.Acts.{here-now}
 use Rattle.calls.proofs.Sbrk.{grow-acts, grow-over}
 use Rattle.spaces.specs.Spaces.{Spaces}
@@ -13,12 +16,15 @@ returns-then-not-grow g c =
 
 pub invariant_of-kernel-2 : goal.invariant_of-kernel-2
 invariant_of-kernel-2 g c =
-    let x = here-now c.kernel.view_is c.kernel.invariant c.requires.runs in
+    let x = here-now c.kernel.view_is c.kernel.invariant.sound c.requires.runs in
     let d = c.if-not-grow.ensures.done in
-    (grow-acts c.args.kernel.now c.args.at c.requires.runs (kernel_of c.kernel.inside) c.kernel.view_is c.args.bytes c.grow.new.self c.pages_are_whole.ensures.whole c.set_size.new.self c.size-size.result c.size-size.ensures c.set_size.ensures x c.requires.asked d.0 d.1).sound
+    record {
+      sound = (grow-acts c.args.kernel.now c.args.at c.requires.runs (kernel_of c.kernel.inside) c.kernel.view_is c.args.bytes c.grow.new.self c.pages_are_whole.ensures.whole c.set_size.new.self c.size-size.result c.size-size.ensures c.set_size.ensures x c.requires.asked d.0 d.1).sound;
+      watched = rw (c.set_size.ensures, d.1) (watched-running c.kernel.invariant.watched c.args.at (with_size c.size-size.result) (running-now c.args.at c.kernel.view_is c.requires.runs) (λ p pid is. is));
+    }
 
 pub returns : goal.returns
 returns g c =
-    let x = here-now c.kernel.view_is c.kernel.invariant c.requires.runs in
+    let x = here-now c.kernel.view_is c.kernel.invariant.sound c.requires.runs in
     let d = c.if-not-grow.ensures.done in
     rw c.size-old.ensures (grow-acts c.args.kernel.now c.args.at c.requires.runs (kernel_of c.kernel.inside) c.kernel.view_is c.args.bytes c.grow.new.self c.pages_are_whole.ensures.whole c.set_size.new.self c.size-size.result c.size-size.ensures c.set_size.ensures x c.requires.asked d.0 d.1)

@@ -3,6 +3,8 @@ use Rattle.std.proofs.lemmas.Int.{to_z-of_z}
 use Rattle.kernel.specs.Kernel.{Kernel}
 use Rattle.kernel.specs.Sound.{can_answer}
 use Rattle.kernel.specs.View.{kernel_of}
+use Rattle.proc.specs.Places.{zombie_place}
+use Rattle.calls.proofs.Woken.{watched-without}
 use Rattle.calls.proofs.Collects.{collects, wait-blocks}
 use Rattle.kernel.proofs.Runs.{active-space}
 use Rattle.spaces.specs.Spaces.{held_at}
@@ -13,7 +15,7 @@ use Rattle.calls.proofs.process_calls.wait_on.Goals as goal
 pub invariant_of-kernel : goal.invariant_of-kernel
 invariant_of-kernel g c =
     let blocks = wait-blocks c.requires.runs c.pid-parent.result c.pid-parent.ensures c.args.pending c.requires.number c.kernel.view_is c.requires.can (sym c.reap.ensures.reaped ∙ c.in_default.is) in
-    rw c.reap.ensures.places blocks.comes.sound
+    rw c.reap.ensures.places (record { sound = blocks.comes.sound; watched = watched-without c.kernel.inside.table c.kernel.invariant.watched (zombie_place c.kernel.inside.table c.pid-parent.result) })
 
 pub returns-in_default : goal.returns-in_default
 returns-in_default g c =
@@ -21,7 +23,7 @@ returns-in_default g c =
     rw c.reap.ensures.places blocks
 
 pub write_status-requires-clause-space : goal.write_status-requires-clause-space
-write_status-requires-clause-space g c = active-space (kernel_of c.kernel.inside) c.args.kernel.now c.args.at c.kernel.view_is c.kernel.invariant c.requires.runs.active
+write_status-requires-clause-space g c = active-space (kernel_of c.kernel.inside) c.args.kernel.now c.args.at c.kernel.view_is c.kernel.invariant.sound c.requires.runs.active
 
 pub write_status-requires-clause-can : goal.write_status-requires-clause-can
 write_status-requires-clause-can g c = ap (λ (k : Kernel). can_answer (held_at k.spaces c.args.at).memory (pending_arg c.args.pending 0)) c.kernel.view_is ∙ c.requires.can
@@ -41,7 +43,7 @@ pub invariant_of-kernel-2 : goal.invariant_of-kernel-2
 invariant_of-kernel-2 g c =
     let x = collects c.requires.runs c.pid-parent.result c.pid-parent.ensures c.args.pending c.requires.number c.kernel.view_is (sym c.reap.ensures.reaped ∙ c.in-Some.is) in
     let fits : SFits w32 c.in-Some.reaped.status = search rules in
-    rw (c.destroy.ensures, c.write_status.ensures, c.reap.ensures.places, to_z-of_z w32 c.in-Some.reaped.status fits) x.goes.comes.sound
+    rw (c.destroy.ensures, c.write_status.ensures, c.reap.ensures.places, to_z-of_z w32 c.in-Some.reaped.status fits) (record { sound = x.goes.comes.sound; watched = watched-without c.kernel.inside.table c.kernel.invariant.watched (zombie_place c.kernel.inside.table c.pid-parent.result) })
 
 pub returns : goal.returns
 returns g c =

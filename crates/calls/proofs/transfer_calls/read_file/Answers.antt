@@ -1,5 +1,8 @@
-use Rattle.std.proofs.Common.{arith, ◌∙◌}
+use Rattle.std.proofs.Common.{arith, ◌∙◌, ap, ◌+◌}
 use Rattle.kernel.specs.View.{kernel_of}
+use Rattle.kernel.proofs.Watching.{watched-moved}
+use Rattle.spaces.specs.Spaces.{Spaces}
+use Rattle.calls.proofs.Woken.{running-now, watched-piped, watched-stop}
 use Rattle.calls.proofs.Fetches.{reads-done, reads-lost, reads-near, reads-node, reads-number}
 use Rattle.calls.proofs.transfer_calls.read_file.Goals as goal
 
@@ -16,10 +19,20 @@ pub invariant_of-kernel : goal.invariant_of-kernel
 invariant_of-kernel g c =
     let at = reads-number c.args.kernel.now c.args.at c.args.pending c.args.number c.args.offset c.requires c.low.ensures _ c.open_id.ensures.named _ c.in-Some.is in
     let goes = reads-done c.args.kernel.now c.args.at c.args.pending c.args.number c.args.offset c.requires (kernel_of c.kernel.inside) c.kernel.view_is c.is_whole.ensures _ (c.from-count.ensures ∙ c.low-2.ensures) _ _ c.in-Ok.ensures.serves _ c.in-Ok.ensures.written _ (c.from.ensures ∙ at) _ c.low-in-Ok.ensures _ c.set_offset.ensures in
-    goes.comes.sound
+    record {
+      sound = goes.comes.sound;
+      watched = rw (c.set_offset.ensures, c.in-Ok.ensures.written) (watched-moved _ _ _ _ _ c.from.result (c.args.offset + c.low-in-Ok.result) c.kernel.invariant.watched);
+    }
 
 pub invariant_of-kernel-in-Err : goal.invariant_of-kernel-in-Err
-invariant_of-kernel-in-Err g c = reads-lost c.args.kernel.now c.args.at c.args.pending c.args.number c.args.offset c.requires (kernel_of c.kernel.inside) c.kernel.view_is _ c.in-Err.fault _ c.in-Err.ensures.serves _ (c.in-Err.ensures.failed.0, c.in-Err.ensures.failed.2) _ c.stop.ensures.table _ c.stop.ensures.spaces
+invariant_of-kernel-in-Err g c =
+    let k = kernel_of c.kernel.inside in
+    let piped = watched-piped (kernel_of c.kernel.inside) c.kernel.invariant.watched c.read_node-read.new.spaces (ap (λ (s : Spaces). s.pipes) c.in-Err.ensures.failed.2) in
+    let stopped = watched-stop piped c.read_node-read.new.spaces c.args.at (running-now c.args.at c.kernel.view_is c.requires.goes.runs) in
+    record {
+      sound = reads-lost c.args.kernel.now c.args.at c.args.pending c.args.number c.args.offset c.requires (kernel_of c.kernel.inside) c.kernel.view_is _ c.in-Err.fault _ c.in-Err.ensures.serves _ (c.in-Err.ensures.failed.0, c.in-Err.ensures.failed.2) _ c.stop.ensures.table _ c.stop.ensures.spaces;
+      watched = rw (c.stop.ensures.table, c.stop.ensures.spaces) stopped;
+    }
 
 pub returns-in-Ok : goal.returns-in-Ok
 returns-in-Ok g c =

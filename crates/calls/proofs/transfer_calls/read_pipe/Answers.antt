@@ -1,4 +1,8 @@
 use Rattle.kernel.specs.View.{kernel_of}
+use Rattle.kernel.proofs.Watching.{watched-bytes}
+use Rattle.kernel.proofs.Wakes.{kernel-waking}
+use Rattle.std.proofs.Common.{refl}
+use Rattle.calls.proofs.Woken.{goes-waking}
 use Rattle.calls.proofs.Draws.{reads-ended, reads-stands, reads-taken, reads-waiting}
 use Rattle.calls.proofs.transfer_calls.read_pipe.Goals as goal
 
@@ -7,11 +11,11 @@ has_bytes-requires g c = reads-stands c.args.kernel.now c.args.at c.args.pending
 
 pub invariant_of-kernel : goal.invariant_of-kernel
 invariant_of-kernel g c =
-    (reads-taken c.args.kernel.now c.args.at c.args.pending c.args.pipe c.requires (kernel_of c.kernel.inside) c.kernel.view_is _ c.has_bytes.ensures c.if-has_bytes.true _ c.low-count.ensures _ _ c.read_pipe-taken.ensures.bytes c.read_pipe-taken.ensures.count).comes.sound
+    rw c.wakeup.ensures (record { sound = kernel-waking (reads-taken c.args.kernel.now c.args.at c.args.pending c.args.pipe c.requires (kernel_of c.kernel.inside) c.kernel.view_is _ c.has_bytes.ensures c.if-has_bytes.true _ c.low-count.ensures _ _ c.read_pipe-taken.ensures.bytes c.read_pipe-taken.ensures.count).comes.sound _; watched = watched-bytes c.kernel.invariant.watched _ refl })
 
 pub returns-then-has_bytes : goal.returns-then-has_bytes
 returns-then-has_bytes g c =
-    reads-taken c.args.kernel.now c.args.at c.args.pending c.args.pipe c.requires (kernel_of c.kernel.inside) c.kernel.view_is _ c.has_bytes.ensures c.if-has_bytes.true _ c.low-count.ensures _ _ c.read_pipe-taken.ensures.bytes c.read_pipe-taken.ensures.count
+    rw c.wakeup.ensures (goes-waking (reads-taken c.args.kernel.now c.args.at c.args.pending c.args.pipe c.requires (kernel_of c.kernel.inside) c.kernel.view_is _ c.has_bytes.ensures c.if-has_bytes.true _ c.low-count.ensures _ _ c.read_pipe-taken.ensures.bytes c.read_pipe-taken.ensures.count) _)
 
 pub returns-then-has_end : goal.returns-then-has_end
 returns-then-has_end g c = reads-waiting c.args.kernel.now c.args.at c.args.pending c.args.pipe c.requires (kernel_of c.kernel.inside) c.kernel.view_is _ c.has_bytes.ensures c.if-has_bytes.false _ c.has_end.ensures c.if-has_end.true

@@ -1,5 +1,7 @@
-use Rattle.std.proofs.Common.{arith, ◌∙◌}
+use Rattle.std.proofs.Common.{arith, ◌∙◌, ◌+◌}
 use Rattle.kernel.specs.View.{kernel_of}
+use Rattle.kernel.proofs.Watching.{watched-moved}
+use Rattle.calls.proofs.Woken.{running-now, watched-stop}
 use Rattle.calls.proofs.Stores.{writes-done, writes-is_file, writes-lost, writes-near, writes-number, writes-refused}
 use Rattle.calls.proofs.transfer_calls.write_file.Goals as goal
 
@@ -7,7 +9,7 @@ pub write_node-wrote-requires-clause-file : goal.write_node-wrote-requires-claus
 write_node-wrote-requires-clause-file g c = writes-is_file c.args.kernel.now c.args.at c.args.pending c.args.number c.args.offset c.requires (kernel_of c.kernel.inside) c.kernel.view_is
 
 pub invariant_of-kernel : goal.invariant_of-kernel
-invariant_of-kernel g c = (writes-refused c.args.kernel.now c.args.at c.args.pending c.args.number c.args.offset c.requires (kernel_of c.kernel.inside) c.kernel.view_is _ (c.from-count.ensures ∙ c.low-2.ensures) _ c.is_whole.ensures _ c.in-Ok.ensures c.in_default-wrote.is).comes.sound
+invariant_of-kernel g c = record { sound = (writes-refused c.args.kernel.now c.args.at c.args.pending c.args.number c.args.offset c.requires (kernel_of c.kernel.inside) c.kernel.view_is _ (c.from-count.ensures ∙ c.low-2.ensures) _ c.is_whole.ensures _ c.in-Ok.ensures c.in_default-wrote.is).comes.sound; watched = c.kernel.invariant.watched }
 
 pub returns-in_default-wrote : goal.returns-in_default-wrote
 returns-in_default-wrote g c = writes-refused c.args.kernel.now c.args.at c.args.pending c.args.number c.args.offset c.requires (kernel_of c.kernel.inside) c.kernel.view_is _ (c.from-count.ensures ∙ c.low-2.ensures) _ c.is_whole.ensures _ c.in-Ok.ensures c.in_default-wrote.is
@@ -21,10 +23,18 @@ overflow_add-offset g c =
 pub invariant_of-kernel-in-Ok : goal.invariant_of-kernel-in-Ok
 invariant_of-kernel-in-Ok g c =
     let at = writes-number c.args.kernel.now c.args.at c.args.pending c.args.number c.args.offset c.requires c.low.ensures _ c.open_id.ensures.named _ c.in-Some.is in
-    (writes-done c.args.kernel.now c.args.at c.args.pending c.args.number c.args.offset c.requires (kernel_of c.kernel.inside) c.kernel.view_is _ (c.from-count.ensures ∙ c.low-2.ensures) _ c.is_whole.ensures _ c.in-Ok.ensures _ c.in-Some-wrote.is _ (c.from.ensures ∙ at) _ c.low-in-Ok.ensures _ c.set_offset.ensures _ c.write_answer.ensures).comes.sound
+    let sound = (writes-done c.args.kernel.now c.args.at c.args.pending c.args.number c.args.offset c.requires (kernel_of c.kernel.inside) c.kernel.view_is _ (c.from-count.ensures ∙ c.low-2.ensures) _ c.is_whole.ensures _ c.in-Ok.ensures _ c.in-Some-wrote.is _ (c.from.ensures ∙ at) _ c.low-in-Ok.ensures _ c.set_offset.ensures _ c.write_answer.ensures).comes.sound in
+    record {
+      sound = sound;
+      watched = rw c.set_offset.ensures (watched-moved _ _ _ _ _ c.from.result (c.args.offset + c.low-in-Ok.result) c.kernel.invariant.watched);
+    }
 
 pub invariant_of-kernel-in-Err : goal.invariant_of-kernel-in-Err
-invariant_of-kernel-in-Err g c = writes-lost c.args.kernel.now c.args.at c.args.pending c.args.number c.args.offset c.requires (kernel_of c.kernel.inside) c.kernel.view_is _ c.in-Err.ensures.down _ c.stop.ensures.table _ c.stop.ensures.spaces
+invariant_of-kernel-in-Err g c =
+    record {
+      sound = writes-lost c.args.kernel.now c.args.at c.args.pending c.args.number c.args.offset c.requires (kernel_of c.kernel.inside) c.kernel.view_is _ c.in-Err.ensures.down _ c.stop.ensures.table _ c.stop.ensures.spaces;
+      watched = rw (c.stop.ensures.table, c.stop.ensures.spaces) (watched-stop c.kernel.invariant.watched c.kernel.inside.spaces c.args.at (running-now c.args.at c.kernel.view_is c.requires.goes.runs));
+    }
 
 pub returns-in-Some-wrote : goal.returns-in-Some-wrote
 returns-in-Some-wrote g c =

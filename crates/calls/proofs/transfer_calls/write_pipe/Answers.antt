@@ -1,5 +1,8 @@
-use Rattle.std.proofs.Common.{◌≡◌, ℕ, ◌-◌, ap, arith, sym, ◌∙◌}
+use Rattle.std.proofs.Common.{◌≡◌, ℕ, ◌-◌, ap, arith, sym, ◌∙◌, refl}
 use Rattle.kernel.specs.View.{kernel_of}
+use Rattle.kernel.proofs.Watching.{watched-bytes}
+use Rattle.kernel.proofs.Wakes.{kernel-waking}
+use Rattle.calls.proofs.Woken.{goes-waking}
 use Rattle.calls.proofs.Sends.{sends-closed, sends-fits, sends-keeps, sends-on, sends-over, sends-readable, sends-stands, sends-within}
 use Rattle.calls.proofs.transfer_calls.write_pipe.Goals as goal
 
@@ -22,15 +25,15 @@ pub overflow_add-done : goal.overflow_add-done
 overflow_add-done g c = let within = sends-within c.args.kernel.now c.args.at c.args.pending c.args.pipe c.requires (kernel_of c.kernel.inside) c.kernel.view_is c.pages_are_whole.ensures.sized (c.from.result - c.args.pending.done) (left c.args.pending.done c.from.ensures c.low.ensures) _ c.write_pipe-sent.ensures.count in omega (arith, within)
 
 pub invariant_of-kernel : goal.invariant_of-kernel
-invariant_of-kernel g c = sends-keeps c.args.kernel.now c.args.at c.args.pending c.args.pipe c.requires (kernel_of c.kernel.inside) c.kernel.view_is c.pages_are_whole.ensures.sized (c.from.result - c.args.pending.done) (left c.args.pending.done c.from.ensures c.low.ensures) _ c.write_pipe-sent.ensures.bytes
+invariant_of-kernel g c = rw c.wakeup.ensures (record { sound = kernel-waking (sends-keeps c.args.kernel.now c.args.at c.args.pending c.args.pipe c.requires (kernel_of c.kernel.inside) c.kernel.view_is c.pages_are_whole.ensures.sized (c.from.result - c.args.pending.done) (left c.args.pending.done c.from.ensures c.low.ensures) _ c.write_pipe-sent.ensures.bytes) _; watched = watched-bytes c.kernel.invariant.watched _ refl })
 
 pub invariant_of-kernel-2 : goal.invariant_of-kernel-2
-invariant_of-kernel-2 g c = sends-keeps c.args.kernel.now c.args.at c.args.pending c.args.pipe c.requires (kernel_of c.kernel.inside) c.kernel.view_is c.pages_are_whole.ensures.sized (c.from.result - c.args.pending.done) (left c.args.pending.done c.from.ensures c.low.ensures) _ c.write_pipe-sent.ensures.bytes
+invariant_of-kernel-2 g c = rw c.wakeup.ensures (record { sound = kernel-waking (sends-keeps c.args.kernel.now c.args.at c.args.pending c.args.pipe c.requires (kernel_of c.kernel.inside) c.kernel.view_is c.pages_are_whole.ensures.sized (c.from.result - c.args.pending.done) (left c.args.pending.done c.from.ensures c.low.ensures) _ c.write_pipe-sent.ensures.bytes) _; watched = watched-bytes c.kernel.invariant.watched _ refl })
 
 pub returns-then-done-from : goal.returns-then-done-from
 returns-then-done-from g c =
-    sends-over c.args.kernel.now c.args.at c.args.pending c.args.pipe c.requires (kernel_of c.kernel.inside) c.kernel.view_is c.pages_are_whole.ensures.sized (c.from.result - c.args.pending.done) (left c.args.pending.done c.from.ensures c.low.ensures) _ c.write_pipe-sent.ensures.count _ c.has_end.ensures c.if-not-has_end.false _ c.write_pipe-sent.ensures.bytes (c.if-done-from.true ∙ c.from-2.ensures ∙ c.low-2.ensures)
+    rw c.wakeup.ensures (goes-waking (sends-over c.args.kernel.now c.args.at c.args.pending c.args.pipe c.requires (kernel_of c.kernel.inside) c.kernel.view_is c.pages_are_whole.ensures.sized (c.from.result - c.args.pending.done) (left c.args.pending.done c.from.ensures c.low.ensures) _ c.write_pipe-sent.ensures.count _ c.has_end.ensures c.if-not-has_end.false _ c.write_pipe-sent.ensures.bytes (c.if-done-from.true ∙ c.from-2.ensures ∙ c.low-2.ensures)) _)
 
 pub returns : goal.returns
 returns g c =
-    sends-on c.args.kernel.now c.args.at c.args.pending c.args.pipe c.requires (kernel_of c.kernel.inside) c.kernel.view_is c.pages_are_whole.ensures.sized (c.from.result - c.args.pending.done) (left c.args.pending.done c.from.ensures c.low.ensures) _ c.write_pipe-sent.ensures.count _ c.has_end.ensures c.if-not-has_end.false _ c.write_pipe-sent.ensures.bytes (λ same. c.if-done-from.false (same ∙ sym (c.from-2.ensures ∙ c.low-2.ensures)))
+    rw c.wakeup.ensures (goes-waking (sends-on c.args.kernel.now c.args.at c.args.pending c.args.pipe c.requires (kernel_of c.kernel.inside) c.kernel.view_is c.pages_are_whole.ensures.sized (c.from.result - c.args.pending.done) (left c.args.pending.done c.from.ensures c.low.ensures) _ c.write_pipe-sent.ensures.count _ c.has_end.ensures c.if-not-has_end.false _ c.write_pipe-sent.ensures.bytes (λ same. c.if-done-from.false (same ∙ sym (c.from-2.ensures ∙ c.low-2.ensures)))) _)

@@ -1,4 +1,5 @@
 use Rattle.kernel.specs.Kernel.{Kernel, state_of}
+use Rattle.kernel.proofs.Watching.{watched-all}
 use Rattle.machine.proofs.flat_boot.boot_flat_on.Goals as goal
 use Rattle.machine.proofs.FlatLemmas.{few-console, few-root, first-sound, hold-console, hold-root, length-flat, start-fits, start-over}
 use Rattle.machine.specs.Flat.{first_kernel, flat_memory, flat_space}
@@ -19,7 +20,8 @@ first_table-table-requires g c =
 pub new-kernel-requires : goal.new-kernel-requires
 new-kernel-requires g c =
     let size : c.size.result ≡ 4096 * length (flat_memory c.args.bytes.now) = c.size.ensures ∙ ap (λ (s : Spaces). (held_at s 0).size) c.in-Some.ensures.some in
-    rw (c.first_table-table.ensures, c.first_files.ensures, c.hold-2.ensures, c.hold.ensures, size, c.in-Some.ensures.some) (first-sound c.args.tree c.requires.flat _ (flat_space c.args.bytes.now) c.in-Some.ensures.fits)
+    rw (c.first_table-table.ensures, c.first_files.ensures, c.hold-2.ensures, c.hold.ensures, size, c.in-Some.ensures.some)
+    (record { sound = first-sound c.args.tree c.requires.flat _ (flat_space c.args.bytes.now) c.in-Some.ensures.fits; watched = watched-all 64 })
 
 pub returns-clause-booted : goal.returns-clause-booted
 returns-clause-booted g c =

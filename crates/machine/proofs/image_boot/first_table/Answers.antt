@@ -1,11 +1,12 @@
 use Rattle.machine.proofs.image_boot.first_table.Goals as goal
 use Rattle.machine.proofs.Booting.{table-init}
 use Rattle.machine.specs.Booted.{bare_of}
+use Rattle.proc.specs.Mask.{all_in}
 use Rattle.proc.specs.Places.{seat_of}
 use Rattle.proc.specs.Whole.{seat_of-first}
 use Rattle.std.proofs.Common.{ap, arith, ◌∙◌}
 
 pub returns : goal.returns
 returns c =
-    let seat = ap seat_of c.starting_at-table.ensures ∙ seat_of-first 63 1 (omega arith) in
+    let seat = ap seat_of c.starting_at-table.ensures ∙ seat_of-first 63 1 (all_in 64) (omega arith) in
     rw (c.alloc-seat.ensures.seat, seat, c.first.ensures, c.starting_at-table.ensures) at c.alloc-seat.ensures.ok ∙ table-init (bare_of c.args.init.now)

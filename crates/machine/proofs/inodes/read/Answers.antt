@@ -8,7 +8,7 @@ use Rattle.machine.proofs.inodes.read.Goals as goal
 pub invariant_of-kernel-in-Err : goal.invariant_of-kernel-in-Err
 invariant_of-kernel-in-Err g c =
     rw (c.stop_running.ensures.table, c.stop_running.ensures.spaces)
-    (lost-keeps (kernel_of c.kernel.inside) c.args.kernel.now c.kernel.view_is c.is_sound.ensures.sound c.is_sound.ensures.zero c.is_sound.ensures.aligned c.read_any.new.self (on-err c.read_any.result _ c.in-Err.is c.read_any.ensures.down))
+    (lost-keeps (kernel_of c.kernel.inside) c.args.kernel.now c.kernel.view_is c.is_sound.ensures.sound c.is_sound.ensures.watched c.is_sound.ensures.zero c.is_sound.ensures.aligned c.read_any.new.self (on-err c.read_any.result _ c.in-Err.is c.read_any.ensures.down))
 
 pub returns-in-Ok : goal.returns-in-Ok
 returns-in-Ok g c =

@@ -1,8 +1,20 @@
+use Rattle.std.proofs.Common.{List, Option, ap, subst, sym, ℕ, ◌∙◌}
+use Rattle.kernel.specs.Kernel.{Kernel}
+use Rattle.kernel.specs.Ready.{awaited_in}
 use Rattle.kernel.specs.View.{kernel_of}
+use Rattle.kernel.specs.Watch.{IsWatched}
 use Rattle.kernel.proofs.Steps.{execute-closes}
+use Rattle.kernel.proofs.Wakes.{executes-pipes}
+use Rattle.files.specs.Places.{opens_of}
 use Rattle.kernel.proofs.kernel.Kernel.execute.Goals as goal
 
 pub invariant_of-self : goal.invariant_of-self
 invariant_of-self g c =
-    execute-closes (kernel_of c.self.inside) c.args.self.now c.args.at c.execute-trap.new.self c.execute-trap.result c.self.view_is c.self.invariant c.requires c.frames_suffice.ensures
-    c.execute-trap.ensures.done c.execute-trap.ensures.trap
+    let k = kernel_of c.self.inside in
+    let active = ap (λ (x : Kernel). x.spaces.active) c.self.view_is ∙ c.requires in
+    let pipes = executes-pipes k.spaces c.execute-trap.new.self k.spaces.active c.args.at c.execute-trap.result active c.execute-trap.ensures.done c.execute-trap.ensures.trap in
+    record {
+      sound = execute-closes k c.args.self.now c.args.at c.execute-trap.new.self c.execute-trap.result c.self.view_is c.self.invariant.sound c.requires c.frames_suffice.ensures
+          c.execute-trap.ensures.done c.execute-trap.ensures.trap;
+      watched = subst (λ (ps : List (Option (List ℕ))). IsWatched (awaited_in (opens_of k.files) ps k.console k.ticks) k.table.places k.table.awake) (sym pipes) c.self.invariant.watched;
+    }

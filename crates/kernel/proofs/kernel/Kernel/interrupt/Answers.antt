@@ -1,8 +1,17 @@
 use Rattle.kernel.proofs.Steps.{stop-keeps}
-use Rattle.std.proofs.Common.{sym, ◌∙◌}
+use Rattle.kernel.proofs.Wakes.{left-watched, ticked-keeps}
+use Rattle.std.proofs.Common.{refl, sym, ◌%◌, ◌+◌, ◌∙◌, ◌^◌}
+use Rattle.unixmodel.specs.declared.process.Mode.TheVariants.{Ready}
 use Rattle.kernel.proofs.kernel.Kernel.interrupt.Goals as goal
 
 pub leave-requires : goal.leave-requires
 leave-requires g c =
     let s = c.is_sound.ensures in
-    stop-keeps c.args.self.now c.in-Some.at s.sound (sym c.active.ensures ∙ c.in-Some.is) s.zero s.aligned
+    let active = sym c.active.ensures ∙ c.in-Some.is in
+    record {
+      sound = stop-keeps c.args.self.now c.in-Some.at s.sound active s.zero s.aligned;
+      watched = left-watched s.sound s.watched c.in-Some.at Ready active refl;
+    }
+
+pub invariant_of-self : goal.invariant_of-self
+invariant_of-self g c = rw c.wakeup.ensures (ticked-keeps c.self-2.invariant ((c.self-2.inside.ticks + 1) % 2 ^ 32))

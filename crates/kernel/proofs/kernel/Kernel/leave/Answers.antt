@@ -1,12 +1,12 @@
 use Rattle.kernel.specs.Kernel.{Kernel, left_as}
-use Rattle.kernel.specs.Sound.{IsKernel}
+use Rattle.kernel.specs.View.{Keeps}
 use Rattle.std.proofs.Common.{ap, subst, sym}
 use Rattle.kernel.proofs.kernel.Kernel.leave.Goals as goal
 
 pub invariant_of-self : goal.invariant_of-self
 invariant_of-self g c =
     rw (c.leave.ensures.table, c.leave.ensures.spaces)
-    (subst (λ (k : Kernel). IsKernel (left_as k c.args.at c.args.mode)) (sym c.self.view_is) c.requires)
+    (subst (λ (k : Kernel). Keeps (left_as k c.args.at c.args.mode)) (sym c.self.view_is) (record { sound = c.requires.sound; watched = c.requires.watched }))
 
 pub returns : goal.returns
 returns g c =

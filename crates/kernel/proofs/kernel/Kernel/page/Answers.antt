@@ -9,7 +9,7 @@ returns-in_err-at g c =
     rw (← c.self.view_is, none, c.from_residual.ensures) refl
 
 pub page-requires : goal.page-requires
-page-requires g c = found-space (kernel_of c.self.inside) c.args.pid c.in_ok-at.at (sym c.find.ensures.place ∙ c.in_ok-at.was) c.self.invariant
+page-requires g c = found-space (kernel_of c.self.inside) c.args.pid c.in_ok-at.at (sym c.find.ensures.place ∙ c.in_ok-at.was) c.self.invariant.sound
 
 pub returns : goal.returns
 returns g c = rw (← c.self.view_is) (c.page.ensures ∙ sym (page-shown (kernel_of c.self.inside) c.args.pid c.in_ok-at.at (sym c.find.ensures.place ∙ c.in_ok-at.was) c.args.n))

@@ -1,7 +1,8 @@
-use Rattle.std.proofs.Common.{ap, subst, sym, ◌∙◌}
+use Rattle.std.proofs.Common.{ap, slice_set, subst, sym, true, ◌∙◌}
 use Rattle.std.specs.Option.{option_copied}
 use Rattle.kernel.proofs.Starts.{takes}
-use Rattle.kernel.specs.Kernel.{Kernel, started}
+use Rattle.kernel.proofs.Wakes.{kernel-waking, watched-started}
+use Rattle.kernel.specs.Kernel.{Kernel, started, waking}
 use Rattle.kernel.specs.Sound.{CanRun}
 use Rattle.kernel.specs.View.{kernel_of}
 use Rattle.unixmodel.specs.Files.{slot}
@@ -13,7 +14,11 @@ invariant_of-self g c =
     let idle = ap (λ (x : Kernel). x.spaces.active) c.self.view_is ∙ c.requires.idle in
     let can = subst (λ (x : Kernel). CanRun (slot x.table.places c.args.at)) (sym c.self.view_is) c.requires.can in
     let there = sym c.process.ensures.process ∙ ap option_copied c.in-Some.is in
-    rw (c.run.ensures, c.activate.ensures) (takes k c.args.at c.in-Some.process.now c.self.invariant idle (ap (λ (x : Kernel). x.tree.failed) c.self.view_is ∙ c.requires.up) can there).keeps
+    rw (c.wake.ensures, c.run.ensures, c.activate.ensures)
+    (record {
+      sound = kernel-waking (takes k c.args.at c.in-Some.process.now c.self.invariant.sound idle (ap (λ (x : Kernel). x.tree.failed) c.self.view_is ∙ c.requires.up) can there).keeps _;
+      watched = watched-started c.self.invariant.watched c.args.at;
+    })
 
 pub returns-in-Some : goal.returns-in-Some
 returns-in-Some g c =
@@ -21,4 +26,5 @@ returns-in-Some g c =
     let idle = ap (λ (x : Kernel). x.spaces.active) c.self.view_is ∙ c.requires.idle in
     let can = subst (λ (x : Kernel). CanRun (slot x.table.places c.args.at)) (sym c.self.view_is) c.requires.can in
     let there = sym c.process.ensures.process ∙ ap option_copied c.in-Some.is in
-    rw (c.run.ensures, c.activate.ensures) (sym (takes k c.args.at c.in-Some.process.now c.self.invariant idle (ap (λ (x : Kernel). x.tree.failed) c.self.view_is ∙ c.requires.up) can there).starts ∙ ap (λ (x : Kernel). started x c.args.at) c.self.view_is)
+    rw (c.wake.ensures, c.run.ensures, c.activate.ensures)
+    (ap (λ (x : Kernel). waking x (slice_set k.table.awake c.args.at true)) (sym (takes k c.args.at c.in-Some.process.now c.self.invariant.sound idle (ap (λ (x : Kernel). x.tree.failed) c.self.view_is ∙ c.requires.up) can there).starts ∙ ap (λ (x : Kernel). started x c.args.at) c.self.view_is))

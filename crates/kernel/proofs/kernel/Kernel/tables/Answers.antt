@@ -9,7 +9,7 @@ returns-in_err-at-clause-some g c =
     rw (← c.self.view_is, none, c.from_residual.ensures) refl
 
 pub tables-requires : goal.tables-requires
-tables-requires g c = found-space (kernel_of c.self.inside) c.args.pid c.in_ok-at.at (sym c.find.ensures.place ∙ c.in_ok-at.was) c.self.invariant
+tables-requires g c = found-space (kernel_of c.self.inside) c.args.pid c.in_ok-at.at (sym c.find.ensures.place ∙ c.in_ok-at.was) c.self.invariant.sound
 
 pub returns-clause-some : goal.returns-clause-some
 returns-clause-some g c = rw (← c.self.view_is) (sym (some-shown (kernel_of c.self.inside) c.args.pid c.in_ok-at.at (sym c.find.ensures.place ∙ c.in_ok-at.was)))

@@ -1,11 +1,30 @@
-use Rattle.std.proofs.Common.{rules, ap, sym, ◌∙◌}
+use Rattle.std.proofs.Common.{Bool, List, Option, false, refl, rules, ap, sym, ℕ, ◌∙◌, ◌≡◌}
+use Rattle.std.specs.Borrow.{Bor}
+use Rattle.std.specs.Fn.{FnReturns}
 use Rattle.kernel.specs.Kernel.{Kernel, base, memories, rest_of}
+use Rattle.kernel.specs.Ready.{seen}
 use Rattle.kernel.specs.View.{kernel_of}
+use Rattle.kernel.specs.Watch.{awaited_of}
 use Rattle.kernel.proofs.Readies.{ready-same, turn-idle}
+use Rattle.kernel.proofs.Wakes.{picked-places, watched-picked}
+use Rattle.kernel.proofs.Watching.{asleep-unready}
 use Rattle.proc.proofs.Turns.{turn-from_pick}
+use Rattle.proc.specs.declared.process.Process.{Process}
 use Rattle.proc.specs.Whole.{with_table}
-use Rattle.unixmodel.specs.Turn.{turn}
+use Rattle.unixmodel.specs.Turn.{ready, turn}
 use Rattle.kernel.proofs.kernel.Kernel.turn.Goals as goal
+
+pub pick-requires-clause-awake : goal.pick-requires-clause-awake
+pick-requires-clause-awake g c i out =
+    let k = kernel_of c.self.inside in
+    let unready : false ≡ ready (seen (awaited_of k) k.table.places) i = sym (asleep-unready (awaited_of k) k.table.places i (c.self.invariant.watched.asleep i out)) in
+    record { shown = record { ref_ptr = (0, 0); now = k.table.places }; shows = refl; says = record { met = unready } }
+
+pub invariant_of-self : goal.invariant_of-self
+invariant_of-self g c =
+    let k = kernel_of c.self.inside in
+    let idle = ap (λ (x : Kernel). x.spaces.active) c.self.view_is ∙ c.requires in
+    watched-picked _ _ c.self.invariant.sound idle (λ shown i b r. (search rules)) c.pick.new.self (picked-places k.table c.pick.new.self c.pick.result c.pick.ensures.picked c.pick.ensures.none) c.pick.ensures.awake
 
 pub returns-clause-turn : goal.returns-clause-turn
 returns-clause-turn g c =

@@ -1,9 +1,13 @@
-use Rattle.std.proofs.Common.{false, ℕ, ◌<◌, ◌≡◌, ◌≤◌}
-use Rattle.proc.specs.Pick.{Answers, place_in_round}
+use Rattle.std.proofs.Common.{◌-◌, ◌≡◌}
+use Rattle.proc.specs.Pick.{Answers}
+use Rattle.proc.proofs.Looking.{IsLooking}
 use Rattle.proc.proofs.table.Table.pick.Given as goal
 
--- the places looked at so far aren't ready
-abbrev pub invariant-loop-turn : goal.invariant-loop-turn
-invariant-loop-turn g l =
-    (l.self-inside ≡ l.initial.self-inside)
-    × ((k : ℕ) → 1 ≤ k → k < l.turn → Answers g.F.Fn l.ready l.self-inside.places.items (place_in_round l.self-inside.last k) false)
+-- the table is as it was but for who is awake, and no place of the turns so far is
+abbrev pub invariant-round : goal.invariant-round
+invariant-round g l =
+    (l.self-inside ≡ record l.initial.self-inside { awake = l.self-inside.awake })
+    × IsLooking (Answers g.F.Fn l.ready l.self-inside.places.items) l.self-inside.last l.self-inside.awake l.turn
+
+abbrev pub decreases-round : goal.decreases-round
+decreases-round g l = 65 - l.turn

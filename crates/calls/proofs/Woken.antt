@@ -1,0 +1,163 @@
+-- What calls leave of who is awake.
+use Rattle.std.proofs.Common.{Bool, List, None, Option, Some, [], ap, arith, false, inl, inr, length, map, option_map, refl, subst, suc, sym, true, zero, ℕ, ◌∙◌, ◌∷◌, ◌≡◌, ◌||◌}
+use Rattle.std.specs.Bool.{OnFalse, OnTrue}
+use Rattle.std.specs.Prelude.{if◌then◌else◌, option_and_then, slice_set}
+use Rattle.std.specs.List.{list_any}
+use Rattle.std.proofs.lemmas.Bool.{and_parts, cases_lt, eqb-true, true≢false}
+use Rattle.calls.specs.Acts.{CanCome, Comes, GoesOn, Runs, settled_by}
+use Rattle.calls.specs.Opened.{Opens}
+use Rattle.calls.specs.Reads.{HasRead}
+use Rattle.calls.specs.Renamed.{OpensAs}
+use Rattle.calls.specs.declared.outcome.Came.{Came}
+use Rattle.calls.specs.declared.outcome.Came.TheVariants.{Answers, Blocks, Exits, KillsItself, Refuses}
+use Rattle.files.specs.declared.file.OpenFile.{OpenFile}
+use Rattle.files.specs.declared.file.Target.{Target}
+use Rattle.files.specs.declared.file.Target.TheVariants as target
+use Rattle.files.specs.Meant.{target_of}
+use Rattle.files.specs.Places.{Counted, moved, moved_to, opens_of, shared}
+use Rattle.files.proofs.Whole.{opens-shared}
+use Rattle.kernel.proofs.Masks.{set-past}
+use Rattle.kernel.proofs.Named.{opens-all_shared}
+use Rattle.kernel.proofs.Wakes.{kernel-waking, running-at, state-waking, watched-roused}
+use Rattle.kernel.proofs.Watching.{no-zombie, watched-put, watched-running}
+use Rattle.kernel.specs.Descriptors.{all_shared}
+use Rattle.kernel.specs.Kernel.{Kernel, idle, on_hart, state_of, waking}
+use Rattle.kernel.specs.Ready.{awaited_in}
+use Rattle.kernel.specs.Watch.{IsWatched, Watches, awaited_of}
+use Rattle.proc.specs.declared.process.Process.{Process}
+use Rattle.proc.specs.Places as table
+use Rattle.proc.specs.Places.{Places, changed, with_descriptor, with_mode, without}
+use Rattle.programs.specs.declared.executing.Started.{Started}
+use Rattle.programs.specs.Executed.{Executes}
+use Rattle.spaces.specs.Spaces.{Held, Spaces, with_held}
+use Rattle.unixmodel.specs.Calls.{After}
+use Rattle.unixmodel.specs.Console.{Console, Taken, take_line}
+use Rattle.unixmodel.specs.declared.process.Mode.TheVariants.{Ready}
+use Rattle.unixmodel.specs.declared.process.Pending.{Pending}
+use Rattle.unixmodel.specs.Files.{Files, put, slot, taken}
+use Rattle.unixmodel.specs.Outcome.{Outcome}
+use Rattle.unixmodel.specs.OpenFiles as unix
+use Rattle.unixmodel.specs.Process.{is_zombie_mode}
+use Rattle.unixmodel.specs.State.{State, holds}
+use Rattle.unixmodel.specs.Turn as turn
+
+-- ---- other places are awake
+
+can-waking : (k : Kernel) (i : ℕ) (awake : List Bool) (came : Came) → CanCome k i came → CanCome (waking k awake) i came
+can-waking k i awake (Answers value) can = can
+can-waking k i awake Refuses can = can
+can-waking k i awake (Blocks w) can = can
+can-waking k i awake (Exits status) can = can
+can-waking k i awake KillsItself can = can
+
+pub comes-waking : {old new : Kernel} {i : ℕ} {o : Outcome} {bytes : List ℕ} {came : Came} → Comes old new i o bytes came → (awake : List Bool) → Comes old (waking new awake) i o bytes came
+comes-waking {new = new} {i = i} {bytes = bytes} {came = came} comes awake = record {
+  makes = comes.makes ∙ ap (λ (s : State). let a : After = record { state = settled_by s i came; bytes = bytes } in a) (sym (state-waking new awake));
+  active = comes.active;
+  sound = kernel-waking comes.sound awake;
+  can = can-waking new i awake came comes.can;
+  printed = comes.printed;
+  served = comes.served;
+}
+
+pub goes-waking : {old new : Kernel} {i : ℕ} {w : Pending} {came : Came} → GoesOn old new i w came → (awake : List Bool) → GoesOn old (waking new awake) i w came
+goes-waking goes awake = record { comes = comes-waking goes.comes awake; within = goes.within }
+
+pub runs-waking : {k : Kernel} {i : ℕ} → Runs k i → (awake : List Bool) → Runs (waking k awake) i
+runs-waking runs awake = record { active = runs.active; sound = kernel-waking runs.sound awake; zero = runs.zero; aligned = runs.aligned }
+
+pub opens-waking : {old new : Kernel} {i : ℕ} {f : unix.OpenFile} {fd : ℕ} → Opens old new i f fd → (awake : List Bool) → Opens old (waking new awake) i f fd
+opens-waking {new = new} opens awake = record {
+  place = opens.place;
+  first = opens.first;
+  free = opens.free;
+  state = λ p at. state-waking new awake ∙ opens.state p at;
+  runs = runs-waking opens.runs awake;
+  served = opens.served;
+}
+
+-- ---- the running process
+
+-- at is what the fields show, and k the kernel's value
+pub running-now : {at k : Kernel} (i : ℕ) → at ≡ k → Runs k i → holds table.is_running (slot at.table.places i) ≡ true
+running-now i same runs = subst (λ (y : Kernel). holds table.is_running (slot y.table.places i) ≡ true) (sym same) (running-at runs.sound i runs.active)
+
+-- behind two steps that read the disk
+pub running-read : {k a b at : Kernel} (i : ℕ) → HasRead k a → HasRead a b → at ≡ b → Runs k i → holds table.is_running (slot at.table.places i) ≡ true
+running-read {k} {a} {b} {at} i first second same runs =
+    let places : at.table ≡ k.table = ap (λ (y : Kernel). y.table) (same ∙ second.same) ∙ ap (λ (y : Kernel). y.table) first.same in
+    ap (λ (t : Places). holds table.is_running (slot t.places i)) places ∙ running-at runs.sound i runs.active
+
+-- it runs still, with what doesn't say whether it runs
+pub still-runs : (f : Process → Process) → ((p : Process) → table.is_running (f p) ≡ table.is_running p) → (os : List (Option Process)) (i : ℕ) → holds table.is_running (slot os i) ≡ true
+    → holds table.is_running (slot (slice_set os i (option_map f (slot os i))) i) ≡ true
+still-runs f same [] i runs = runs
+still-runs f same (None ∷ os) zero runs = runs
+still-runs f same (Some p ∷ os) zero runs = same p ∙ runs
+still-runs f same (o ∷ os) (suc i) runs = still-runs f same os i runs
+
+module _ {a : State} {os : List (Option Process)} {awake : List Bool} (watched : IsWatched a os awake) (s : Spaces) (i : ℕ) (runs : holds table.is_running (slot os i) ≡ true) where
+  -- it runs no more, and is ready
+  pub watched-stop : IsWatched a (slice_set os i (option_map (λ p. with_mode Ready (on_hart s p)) (slot os i))) awake
+  watched-stop = watched-running watched i (λ p. with_mode Ready (on_hart s p)) runs (no-zombie Ready refl)
+
+-- where a call on names is refused: it is stopped, or all is as it was
+pub watched-refuse : (k : Kernel) → Watches k → (i : ℕ) → holds table.is_running (slot k.table.places i) ≡ true → (b : Bool)
+    → IsWatched (awaited_in (opens_of k.files) (if b then idle k.spaces else k.spaces).pipes k.console k.ticks) (if b then changed k.table i (λ p. with_mode Ready (on_hart k.spaces p)) else k.table).places
+    (if b then changed k.table i (λ p. with_mode Ready (on_hart k.spaces p)) else k.table).awake
+watched-refuse k watched i runs true = watched-stop watched k.spaces i runs
+watched-refuse k watched i runs false = watched
+
+-- ---- processes that come and go
+
+pub watched-forked : (k : Kernel) → Watches k → (j : ℕ) (child : Process) → is_zombie_mode child.mode ≡ false → (ds : List (Option ℕ))
+    → IsWatched (awaited_in (opens_of (all_shared k.files ds)) k.spaces.pipes k.console k.ticks) (put k.table.places j child) (slice_set k.table.awake j true)
+watched-forked k watched j child lives ds =
+    subst (λ os. IsWatched (awaited_in os k.spaces.pipes k.console k.ticks) (put k.table.places j child) (slice_set k.table.awake j true)) (sym (opens-all_shared k.files ds))
+    (watched-roused watched j (Some child) (λ pid is. absurd (true≢false (sym (and_parts (table.is_child_of pid child) (is_zombie_mode child.mode) is).1 ∙ lives))))
+
+-- a place that becomes free, where there is one
+pub watched-without : {a : State} (t : Places) → IsWatched a t.places t.awake → (o : Option ℕ) → IsWatched a (without t o).places (without t o).awake
+watched-without t watched None = watched
+watched-without {a} t watched (Some j) = elim (cases_lt j (length t.places)) [
+  | inl low ↦ watched-put watched j None low (λ pid is. absurd (true≢false (sym is))) (λ out. tt)
+  | inr past ↦ subst (λ xs. IsWatched a xs t.awake) (sym (set-past t.places j None past)) watched
+]
+
+-- ---- open files
+
+-- one descriptor more names an open file
+pub watched-shared : (k : Kernel) {os : List (Option Process)} {awake : List Bool} → IsWatched (awaited_of k) os awake → (n : ℕ) → IsWatched (awaited_in (opens_of (shared k.files n)) k.spaces.pipes k.console k.ticks) os awake
+watched-shared k {os} {awake} watched n = subst (λ xs. IsWatched (awaited_in xs k.spaces.pipes k.console k.ticks) os awake) (sym (opens-shared k.files n)) watched
+
+-- the pipes are the same
+pub watched-piped : (k : Kernel) {os : List (Option Process)} {awake : List Bool} → IsWatched (awaited_of k) os awake → (s : Spaces) → s.pipes ≡ k.spaces.pipes → IsWatched (awaited_in (opens_of k.files) s.pipes k.console k.ticks) os awake
+watched-piped k {os} {awake} watched s same = subst (λ ps. IsWatched (awaited_in (opens_of k.files) ps k.console k.ticks) os awake) (sym same) watched
+
+pub executes-piped : (files : Files) (old new : Spaces) (at number argv : ℕ) (o : Option Started) → Executes files old new at number argv o → new.pipes ≡ old.pipes
+executes-piped files old new at number argv None is = ap (λ (s : Spaces). s.pipes) is.0
+executes-piped files old new at number argv (Some started) is = ap (λ (s : Spaces). s.pipes) is.held
+
+pub writes-piped : (old new : Spaces) (at : ℕ) (held : Held) (b : Bool) → OnTrue b (new ≡ with_held old at held) → OnFalse b (new ≡ old) → new.pipes ≡ old.pipes
+writes-piped old new at held true done refused = ap (λ (s : Spaces). s.pipes) done
+writes-piped old new at held false done refused = ap (λ (s : Spaces). s.pipes) refused
+
+-- a descriptor of the running process names an open file that was opened
+pub watched-opened : {a : State} {t new : Places} {files files' : List (Option Counted)} {i fd : ℕ} {f : OpenFile} → IsWatched a t.places t.awake → holds table.is_running (slot t.places i) ≡ true → OpensAs t new files files' i f fd
+    → IsWatched a new.places new.awake × (holds table.is_running (slot new.places i) ≡ true)
+watched-opened {a} {t} {new} {i = i} {fd = fd} watched runs opens =
+    let name = with_descriptor fd (Some opens.number) in
+    subst (λ (x : Places). IsWatched a x.places x.awake × (holds table.is_running (slot x.places i) ≡ true)) (sym opens.names)
+    (watched-running watched i name runs (λ p pid is. is), still-runs name (λ p. refl) t.places i runs)
+
+-- ---- the console
+
+-- of no bytes a read takes none, and leaves none
+pub taken-empty : (has : Bool) (n : ℕ) (bytes : List ℕ) → turn.is_empty bytes ≡ true → turn.is_empty (take_line has n bytes).rest ≡ true
+unfolding take_line
+taken-empty has zero bytes empty = empty
+taken-empty has (suc n) [] empty = refl
+taken-empty has (suc n) (b ∷ bs) empty = absurd (let none : length (b ∷ bs) ≡ 0 = eqb-true (length (b ∷ bs)) 0 empty in omega arith)
+
+pub read-empty : (has : Bool) (n : ℕ) (console new : Console) {bytes : List ℕ} {over : Bool} → take_line has n console.committed ≡ record { bytes = bytes; rest = new.committed; over = over } → turn.is_empty console.committed ≡ true → turn.is_empty new.committed ≡ true
+read-empty has n console new took empty = ap (λ (t : Taken). turn.is_empty t.rest) (sym took) ∙ taken-empty has n console.committed empty

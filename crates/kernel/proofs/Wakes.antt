@@ -1,0 +1,138 @@
+-- The kernel's steps, and who is awake after them.
+use Rattle.std.proofs.Common.{Bool, Err, List, None, Ok, Option, Some, [], ap, false, inl, inr, length, map, option_map, refl, subst, sym, true, ℕ, ℤ, ◌<◌, ◌∙◌, ◌≡◌, ◌≢◌}
+use Rattle.std.specs.Prelude.{IfNone, IfSome, slice_set}
+use Rattle.std.proofs.lemmas.Bool.{cases_lt, true≢false}
+use Rattle.kernel.specs.Kernel.{Kernel, left_as, loaded, memories, on_hart, rest_of, state_of, state_with, waking}
+use Rattle.kernel.specs.Sound.{IsKernel, is_at}
+use Rattle.kernel.specs.View.{Keeps}
+use Rattle.kernel.specs.Watch.{IsAsleep, IsWatched, Watches, awaited_of, roused, waits_on, woken_by}
+use Rattle.kernel.specs.declared.channels.Channel.TheVariants.{Bytes, Children, Ticks}
+use Rattle.kernel.specs.Ready.{seen}
+use Rattle.kernel.proofs.Masks.{set-in, set-past}
+use Rattle.kernel.proofs.Runs.{eq-self, slot-within}
+use Rattle.kernel.proofs.Watching.{asleep-unready, exited-is, no-zombie, unready-asleep, watched-bytes, watched-ended, watched-put, watched-running, watched-ticks, watched-woken}
+use Rattle.proc.specs.declared.process.Process.{Process}
+use Rattle.proc.specs.Mask.{is_in}
+use Rattle.proc.specs.Pick.{Answers}
+use Rattle.proc.specs.Places as table
+use Rattle.proc.specs.Places.{Places, changed_at, exited, is_zombie_child_of, orphaned, with_mode, zombie_of}
+use Rattle.spaces.specs.Spaces as spaces
+use Rattle.spaces.specs.Spaces.{Spaces, held_at}
+use Rattle.std.specs.Borrow.{Bor}
+use Rattle.std.specs.Fn.{FnReturns, Shared}
+use Rattle.unixmodel.specs.Console.{Console}
+use Rattle.unixmodel.specs.Cycle.{cycle}
+use Rattle.unixmodel.specs.declared.process.Mode.{Mode}
+use Rattle.unixmodel.specs.declared.process.Mode.TheVariants.{Running}
+use Rattle.unixmodel.specs.declared.trap.Trap.{Trap}
+use Rattle.unixmodel.specs.Files.{put, slot}
+use Rattle.unixmodel.specs.Meaning.{Computed}
+use Rattle.unixmodel.specs.Process.{is_zombie_mode}
+use Rattle.unixmodel.specs.State.{State, holds}
+use Rattle.unixmodel.specs.Turn.{ready}
+
+-- ---- the mask says nothing of the rest
+
+pub state-waking : (k : Kernel) (awake : List Bool) → state_of (waking k awake) ≡ state_of k
+state-waking k awake = go k.spaces.active where
+  go : (o : Option ℕ) → state_with (changed_at (record k.table { awake = awake }) (on_hart k.spaces) o) (memories k.spaces) (rest_of k) ≡ state_with (changed_at k.table (on_hart k.spaces) o) (memories k.spaces) (rest_of k)
+  go None = refl
+  go (Some i) = refl
+
+pub kernel-waking : {k : Kernel} → IsKernel k → (awake : List Bool) → IsKernel (waking k awake)
+kernel-waking is awake = record { all = is.all; spaces = is.spaces; stands = is.stands; runs = is.runs; fits = is.fits; opened = is.opened; filed = is.filed }
+
+-- a kernel that is one but for its mask
+pub state-but : {new : Kernel} (k : Kernel) → new ≡ waking k new.table.awake → state_of new ≡ state_of k
+state-but {new} k same = ap state_of same ∙ state-waking k new.table.awake
+
+-- ---- the console and the ticks
+
+pub typed-keeps : {k : Kernel} → Keeps k → (console : Console) → Keeps (record k { console = console; table = woken_by Bytes k.table })
+typed-keeps keeps console =
+    let is = keeps.sound in
+    record {
+      sound = record { all = is.all; spaces = is.spaces; stands = is.stands; runs = is.runs; fits = is.fits; opened = is.opened; filed = is.filed };
+      watched = watched-bytes keeps.watched _ refl;
+    }
+
+pub ticked-keeps : {k : Kernel} → Keeps k → (now : ℕ) → Keeps (record k { ticks = now; table = woken_by (Ticks now) k.table })
+ticked-keeps keeps now =
+    let is = keeps.sound in
+    record {
+      sound = record { all = is.all; spaces = is.spaces; stands = is.stands; runs = is.runs; fits = is.fits; opened = is.opened; filed = is.filed };
+      watched = watched-ticks keeps.watched now;
+    }
+
+-- ---- the running process
+
+pub running-at : {k : Kernel} → IsKernel k → (i : ℕ) → k.spaces.active ≡ Some i → holds table.is_running (slot k.table.places i) ≡ true
+running-at is i active = is.runs i ∙ ap (is_at i) active ∙ eq-self i
+
+pub left-watched : {k : Kernel} → IsKernel k → Watches k → (i : ℕ) (mode : Mode) → k.spaces.active ≡ Some i → is_zombie_mode mode ≡ false → Watches (left_as k i mode)
+left-watched {k} is watched i mode active lives = watched-running watched i (λ p. with_mode mode (on_hart k.spaces p)) (running-at is i active) (no-zombie mode lives)
+
+-- ---- a process that is woken as it changes
+
+module _ {a : State} {os : List (Option Process)} {awake : List Bool} (watched : IsWatched a os awake) where
+  pub watched-roused : (i : ℕ) (o : Option Process) → ((pid : ℕ) → holds (is_zombie_child_of pid) o ≡ true → holds (is_zombie_child_of pid) (slot os i) ≡ true) → IsWatched a (slice_set os i o) (slice_set awake i true)
+  watched-roused i o zombies = elim (cases_lt i (length os)) [
+    | inl low ↦ watched-put (watched-woken watched i) i o low zombies (λ out. absurd (true≢false (sym (set-in awake i) ∙ out)))
+    | inr past ↦ subst (λ xs. IsWatched a xs (slice_set awake i true)) (sym (set-past os i o past)) (watched-woken watched i)
+  ]
+
+  pub watched-changed : (i : ℕ) (f : Process → Process) → ((p : Process) (pid : ℕ) → is_zombie_child_of pid (f p) ≡ true → is_zombie_child_of pid p ≡ true) → IsWatched a (slice_set os i (option_map f (slot os i))) (slice_set awake i true)
+  watched-changed i f zombies = watched-roused i (option_map f (slot os i)) (λ pid. go pid (slot os i)) where
+    go : (pid : ℕ) (o : Option Process) → holds (is_zombie_child_of pid) (option_map f o) ≡ true → holds (is_zombie_child_of pid) o ≡ true
+    go pid None is = is
+    go pid (Some p) is = zombies p pid is
+
+  pub watched-started : (i : ℕ) → IsWatched a (slice_set os i (option_map (with_mode Running) (slot os i))) (slice_set awake i true)
+  watched-started i = watched-changed i (with_mode Running) (no-zombie Running refl)
+
+-- ---- an instruction
+
+pub executes-pipes : (s new : Spaces) (o : Option ℕ) (i : ℕ) (result : Option Trap) → o ≡ Some i
+    → IfNone result (IfSome o (λ at. (d : Computed) × (cycle s.registers s.pc (held_at s at).memory ≡ Ok d) × (new ≡ spaces.computed s at d)))
+    → IfSome result (λ t. IfSome o (λ at. (cycle s.registers s.pc (held_at s at).memory ≡ Err t) × (new ≡ s))) → new.pipes ≡ s.pipes
+executes-pipes s new None i result active done trap = absurd (cc)
+executes-pipes s new (Some at) i None active done trap = ap (λ (x : Spaces). x.pipes) done.2
+executes-pipes s new (Some at) i (Some t) active done trap = ap (λ (x : Spaces). x.pipes) trap.1
+
+-- ---- a turn
+
+-- a table with these processes
+pub table-kernel : {k : Kernel} → IsKernel k → (t : Places) → t.places ≡ k.table.places → IsKernel (record k { table = t })
+table-kernel {k} is t same =
+    let s = subst (λ (os : List (Option Process)). IsKernel (record k { table = record k.table { places = os } })) (sym same) is in
+    record { all = s.all; spaces = s.spaces; stands = s.stands; runs = s.runs; fits = s.fits; opened = s.opened; filed = s.filed }
+
+pub picked-places : (old new : Places) (result : Option ℕ) → IfSome result (λ i. new ≡ record old { last = i; awake = new.awake }) → IfNone result (new ≡ record old { awake = new.awake }) → new.places ≡ old.places
+picked-places old new None picked none = ap (λ (t : Places). t.places) none
+picked-places old new (Some i) picked none = ap (λ (t : Places). t.places) picked
+
+idle-rests : (k : Kernel) → IsKernel k → k.spaces.active ≡ None → (j : ℕ) → holds table.is_running (slot k.table.places j) ≡ false
+idle-rests k is idle j = is.runs j ∙ ap (is_at j) idle
+
+module _ {F : Type 0} (g : Shared F (Bor (List (Option Process)) × (ℕ × Unit {0})) Bool) (f : F) {k : Kernel} (is : IsKernel k) (idle : k.spaces.active ≡ None)
+    (tells : (shown : Bor (List (Option Process))) (i : ℕ) (b : Bool) → FnReturns g f (shown, (i, tt)) b → b ≡ ready (seen (awaited_of k) shown.now) i) where
+  -- a pick leaves those awake who are ready
+  pub watched-picked : (t : Places) → t.places ≡ k.table.places → ((i : ℕ) → is_in t.awake i ≡ false → Answers g f k.table.places i false) → Keeps (record k { table = t })
+  watched-picked t same no' = record {
+    sound = table-kernel is t same;
+    watched = record {
+      asleep = λ j out.
+          let answer = no' j out in
+          let unready : ready (seen (awaited_of k) k.table.places) j ≡ false = sym (tells answer.shown j false answer.says ∙ ap (λ os. ready (seen (awaited_of k) os) j) answer.shows) in
+          subst (λ os. IsAsleep (awaited_of k) os (slot os j)) (sym same) (unready-asleep (awaited_of k) k.table.places j (idle-rests k is idle j) unready);
+    };
+  }
+
+-- ---- the end of a process
+
+-- the place of process q, which is put in place i, wakes its parent; what it closes wakes who reads and writes
+pub finish-watched : {a : State} (t : Places) → IsWatched a t.places t.awake → (i : ℕ) (q : Process) (status : ℤ) → i < length t.places → (a' : State) → a'.ticks ≡ a.ticks
+    → (new : Places) → new ≡ exited (record t { places = put t.places i q }) i status → IsWatched a' new.places (roused (waits_on Bytes) new.places (roused (waits_on Children) new.places new.awake))
+finish-watched {a} t watched i q status low a' ticks new is =
+    subst (λ (x : Places). IsWatched a' x.places (roused (waits_on Bytes) x.places (roused (waits_on Children) x.places x.awake))) (sym (is ∙ exited-is t i q status low))
+    (watched-bytes (watched-ended watched i q status low) a' ticks)

@@ -1,0 +1,7 @@
+use Rattle.std.proofs.Common.{refl}
+use Rattle.proc.specs.Mask.{all_in, bits_of}
+use Rattle.proc.proofs.mask.Mask.all.Goals as goal
+
+pub returns : goal.returns
+unfolding all_in bits_of
+returns c = refl
