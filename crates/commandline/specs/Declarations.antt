@@ -1,5 +1,5 @@
 -- The command line that the program declares, and what a job says of it.
-use Rattle.std.specs.Prelude.{◌≡◌, ◌↔◌, IsTrue, ℕ, pos, List, [], ◌∷◌, Option, Some, Result, IfOk, true, false, codes}
+use Rattle.std.specs.Prelude.{◌≡◌, ◌↔◌, IsTrue, ℕ, pos, List, [], ◌∷◌, Option, Some, Result, IfOk, true, false, codes, option_map}
 use Rattle.std.specs.Str.Parse.{IsNumeral, digits_value}
 use Rattle.clap.specs.Words.{App, Row, Rule, Text, app_of, first_of, new_app, new_rule, with_rule, with_subcommand}
 use Rattle.clap.specs.declared.builder.action.ArgAction.TheVariants.{SetTrue}
@@ -14,6 +14,7 @@ use Rattle.commandline.specs.declared.jobs.Job.{Job}
 use Rattle.commandline.specs.declared.jobs.Job.TheVariants as job
 use Rattle.commandline.specs.declared.jobs.Ls.{Ls}
 use Rattle.commandline.specs.declared.jobs.Mkfs.{Mkfs}
+use Rattle.commandline.specs.declared.jobs.Run.{Run}
 
 -- a word that has to be there
 abbrev pub word_rule : Text → Rule
@@ -28,16 +29,27 @@ number_rule name default = record (new_rule name) {
   defaults = default ∷ [];
 }
 
+-- --name WORD, which may be left out
+abbrev pub option_rule : Text → Rule
+option_rule name = record (new_rule name) { long = Some name; value_names = 1 }
+
 -- --name, a flag
 abbrev pub flag_rule : Text → Rule
 flag_rule name = record (new_rule name) { long = Some name; action = Some SetTrue }
 
+-- [--frames N] [--tlb]
+abbrev pub boot_options : App → App
+boot_options app = with_rule (with_rule app (number_rule (codes "frames") (codes "256"))) (flag_rule (codes "tlb"))
+
 -- flat [--frames N] [--tlb] FILE SCRIPT
 abbrev pub declared_flat : App
-declared_flat =
-    with_rule (with_rule (with_rule (with_rule (new_app (codes "flat"))
-    (number_rule (codes "frames") (codes "256"))) (flag_rule (codes "tlb")))
-    (word_rule (codes "FILE"))) (word_rule (codes "SCRIPT"))
+declared_flat = with_rule (with_rule (boot_options (new_app (codes "flat"))) (word_rule (codes "FILE"))) (word_rule (codes "SCRIPT"))
+
+-- run [--frames N] [--tlb] [--save OUT] IMAGE SCRIPT
+abbrev pub declared_run : App
+declared_run =
+    with_rule (with_rule (with_rule (boot_options (new_app (codes "run"))) (option_rule (codes "save")))
+    (word_rule (codes "IMAGE"))) (word_rule (codes "SCRIPT"))
 
 -- mkfs [--size N] [--inodes N] MANIFEST IMAGE
 abbrev pub declared_mkfs : App
@@ -68,6 +80,10 @@ declared_top = record (new_app (codes "xv6")) {
   top = record (new_app (codes "xv6")).top { subcommand_required = true; arg_required_else_help = true };
 }
 
+-- what boots a machine
+abbrev pub with_machines : App → App
+with_machines app = with_subcommand (with_subcommand app declared_flat.top) declared_run.top
+
 -- what works on disk images
 abbrev pub with_images : App → App
 with_images app = with_subcommand (with_subcommand (with_subcommand app declared_mkfs.top) declared_check.top) declared_ls.top
@@ -77,7 +93,7 @@ abbrev pub with_programs : App → App
 with_programs app = with_subcommand (with_subcommand app declared_asm.top) declared_dump.top
 
 abbrev pub declared : App
-declared = with_programs (with_images (with_subcommand declared_top declared_flat.top))
+declared = with_programs (with_images (with_machines declared_top))
 
 -- the command declares no more than this, for itself alone
 pub record DeclaresOwn (app : App) (command : Command) : Type 0 where
@@ -107,6 +123,16 @@ pub record IsFlat (found : List Row) (flat : Flat) : Type 0 where
   pub file : first_of (codes "FILE") found ≡ Some flat.file.now
   pub script : first_of (codes "SCRIPT") found ≡ Some flat.script.now
 
+pub record IsRun (found : List Row) (run : Run) : Type 0 where
+  pub text : Text
+  pub given : first_of (codes "frames") found ≡ Some text
+  pub frames : Writes text run.frames
+  pub tlb : IsTrue run.tlb ↔ (first_of (codes "tlb") found ≡ Some (codes "true"))
+  -- none where the option is left out
+  pub save : option_map (λ word. word.now) run.save ≡ first_of (codes "save") found
+  pub image : first_of (codes "IMAGE") found ≡ Some run.image.now
+  pub script : first_of (codes "SCRIPT") found ≡ Some run.script.now
+
 pub record IsMkfs (found : List Row) (mkfs : Mkfs) : Type 0 where
   pub size_text : Text
   pub size_given : first_of (codes "size") found ≡ Some size_text
@@ -134,6 +160,7 @@ pub record IsDump (found : List Row) (dump : Dump) : Type 0 where
 -- the job is the command found, with its words
 abbrev pub IsJob : Option (Text × List Row) → Job → Type 0
 IsJob found (job.Flat flat) = (rows : List Row) × (found ≡ Some (codes "flat", rows)) × IsFlat rows flat
+IsJob found (job.Run run) = (rows : List Row) × (found ≡ Some (codes "run", rows)) × IsRun rows run
 IsJob found (job.Mkfs mkfs) = (rows : List Row) × (found ≡ Some (codes "mkfs", rows)) × IsMkfs rows mkfs
 IsJob found (job.Check check) = (rows : List Row) × (found ≡ Some (codes "check", rows)) × IsCheck rows check
 IsJob found (job.Ls ls) = (rows : List Row) × (found ≡ Some (codes "ls", rows)) × IsLs rows ls

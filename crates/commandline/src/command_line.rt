@@ -1,9 +1,9 @@
 //! What the words of a command line ask for.
-ghost use Rattle.std.specs.Prelude.{◌≡◌, ◌↔◌, IfOk, IfSome, IsTrue, Some, codes, false, map};
+ghost use Rattle.std.specs.Prelude.{◌≡◌, ◌↔◌, IfOk, IfSome, IsTrue, Some, codes, false, map, option_map};
 ghost use Rattle.clap.specs.Words.{App, app_of, first_of, found_of, new_app, rows_of, rule_of, subcommand_of, subcommand_rows_of, with_subcommand};
-ghost use Rattle.commandline.specs.Declarations.{AddsRule, DeclaresOwn, IsJob, IsWritten, Writes, declared, declared_asm, declared_check, declared_dump, declared_flat, declared_ls, declared_mkfs, declared_top, flag_rule, number_rule, with_images, with_programs, word_rule};
+ghost use Rattle.commandline.specs.Declarations.{AddsRule, DeclaresOwn, IsJob, IsWritten, Writes, boot_options, declared, declared_asm, declared_check, declared_dump, declared_flat, declared_ls, declared_mkfs, declared_run, declared_top, flag_rule, number_rule, option_rule, with_images, with_machines, with_programs, word_rule};
 
-use crate::jobs::{Asm, Check, Dump, Flat, Job, Ls, Mkfs};
+use crate::jobs::{Asm, Check, Dump, Flat, Job, Ls, Mkfs, Run};
 use clap::error::ErrorKind;
 use clap::{Arg, ArgAction, ArgMatches, Command, Error, value_parser};
 use std::alloc::{AllocError, Global};
@@ -35,6 +35,10 @@ xv6 ls disk.img /bin
 The second prints `ok 4 inodes 3 blocks`: what is in use. The third prints a line for each entry:
 its name, its type (1 a directory, 2 a file, 3 a device), its inode and its size.
 
+A machine boots from an image that has a program /init, and leaves another:
+
+xv6 run --save after.img disk.img script.txt
+
 Programs are written as assembly texts:
 
     start:  li a7, 11       # getpid
@@ -45,6 +49,9 @@ xv6 asm start.s start
 xv6 dump start
 
 The second prints a line for each word, the first `00000000: 000008b7 lui a7, 0x0`.";
+
+// What a script is.
+const SCRIPT: &str = "What happens: lines `step N`, `tick N`, `keys HEX` and `type TEXT`";
 
 // An option with a number.
 fn number<'a>(alloc: Global, name: &'a str, default: &'a str, help: &'a str) -> Arg<'a>
@@ -95,6 +102,24 @@ fn with_flag<'a>(
     command?.arg(flag(alloc, name, help))
 }
 
+// The command with an option that takes a word and may be left out.
+fn with_option<'a>(
+    alloc: Global,
+    command: Result<Command<'a>, AllocError>,
+    name: &'a str,
+    value: &'a str,
+    help: &'a str,
+) -> Result<Command<'a>, AllocError>
+    ensures { AddsRule (option_rule name.now) command.entry result }
+{
+    command?.arg(
+        Arg::new(alloc, name)
+            .long(name)
+            .value_name(value)
+            .help(help),
+    )
+}
+
 // The command with a word that has to be there.
 fn with_word<'a>(
     alloc: Global,
@@ -114,23 +139,41 @@ fn named<'a>(alloc: Global, name: &'a str, about: &'a str) -> Result<Command<'a>
     Ok(Command::new(alloc, name).about(about))
 }
 
+// The command with the options of those that boot a machine.
+fn with_boot_options<'a>(
+    alloc: Global,
+    command: Result<Command<'a>, AllocError>,
+) -> Result<Command<'a>, AllocError>
+    ensures { (app : App) → IfOk command.entry (DeclaresOwn app) → IfOk result (DeclaresOwn (boot_options app)) }
+{
+    let frames = "Frames of 4096 bytes, 64 to 32768";
+    let tlb = "Remembers translations, so that most accesses walk no page table";
+    let numbered = with_number(alloc, command, "frames", "256", frames);
+    with_flag(alloc, numbered, "tlb", tlb)
+}
+
 // The command `flat`.
 fn flat_command<'a>(alloc: Global) -> Result<Command<'a>, AllocError>
     ensures { IfOk result (DeclaresOwn declared_flat) }
 {
+    let about = "Boots a flat program and runs a script of events";
     let file = "The program: instructions and bytes, from address 0 on";
-    let script = "What happens: lines `step N`, `tick N`, `keys HEX` and `type TEXT`";
-    let frames = "Frames of 4096 bytes, 64 to 32768";
-    let tlb = "Remembers translations, so that most accesses walk no page table";
-    let bare = named(
-        alloc,
-        "flat",
-        "Boots a flat program and runs a script of events",
-    );
-    let numbered = with_number(alloc, bare, "frames", "256", frames);
-    let flagged = with_flag(alloc, numbered, "tlb", tlb);
-    let filed = with_word(alloc, flagged, "FILE", file);
-    with_word(alloc, filed, "SCRIPT", script)
+    let optioned = with_boot_options(alloc, named(alloc, "flat", about));
+    let filed = with_word(alloc, optioned, "FILE", file);
+    with_word(alloc, filed, "SCRIPT", SCRIPT)
+}
+
+// The command `run`.
+fn run_command<'a>(alloc: Global) -> Result<Command<'a>, AllocError>
+    ensures { IfOk result (DeclaresOwn declared_run) }
+{
+    let about = "Boots a machine from a disk image and runs a script of events";
+    let save = "Where the image is written that the machine leaves, without its processes";
+    let image = "The image, which has a program /init";
+    let optioned = with_boot_options(alloc, named(alloc, "run", about));
+    let saved = with_option(alloc, optioned, "save", "OUT", save);
+    let imaged = with_word(alloc, saved, "IMAGE", image);
+    with_word(alloc, imaged, "SCRIPT", SCRIPT)
 }
 
 // The command `mkfs`.
@@ -206,6 +249,14 @@ fn with_command<'a>(
     }
 }
 
+// The command with those that boot a machine.
+fn with_machines<'a>(alloc: Global, command: Command<'a>) -> Result<Command<'a>, AllocError>
+    ensures { IfOk result (λ new. app_of new ≡ with_machines (app_of command.entry)) }
+{
+    let one = with_command(command, flat_command(alloc))?;
+    with_command(one, run_command(alloc))
+}
+
 // The command with those that work on disk images.
 fn with_images<'a>(alloc: Global, command: Command<'a>) -> Result<Command<'a>, AllocError>
     ensures { IfOk result (λ new. app_of new ≡ with_images (app_of command.entry)) }
@@ -227,16 +278,23 @@ fn with_programs<'a>(alloc: Global, command: Command<'a>) -> Result<Command<'a>,
 fn command<'a>(alloc: Global) -> Result<Command<'a>, AllocError>
     ensures { IfOk result (λ command. app_of command ≡ declared) }
 {
-    let flat = with_command(bare_command(alloc), flat_command(alloc))?;
-    let imaged = with_images(alloc, flat)?;
+    let booting = with_machines(alloc, bare_command(alloc))?;
+    let imaged = with_images(alloc, booting)?;
     with_programs(alloc, imaged)
+}
+
+// The first word that was found of this name, if any was.
+fn option_found<'a>(found: &ArgMatches<'a>, name: &str) -> Option<&'a str>
+    ensures { option_map (λ word. word.now) result ≡ first_of name.now (rows_of (found_of found.now)) }
+{
+    found.get_str(name)
 }
 
 // The word that was found of this name.
 fn word_found<'a>(found: &ArgMatches<'a>, name: &str) -> Option<&'a str>
     ensures { IfSome result (λ word. first_of name.now (rows_of (found_of found.now)) ≡ Some word.now) }
 {
-    found.get_str(name)
+    option_found(found, name)
 }
 
 // The number that digits alone write.
@@ -278,6 +336,24 @@ fn flat<'a>(found: &ArgMatches<'a>) -> Option<Job<'a>>
         frames,
         tlb,
         file,
+        script,
+    }))
+}
+
+// What the words after `run` ask for.
+fn run<'a>(found: &ArgMatches<'a>) -> Option<Job<'a>>
+    ensures { IfSome result (IsJob (Some (codes "run", rows_of (found_of found.now)))) }
+{
+    let frames = number_found(found, "frames")?;
+    let tlb = flag_found(found, "tlb");
+    let save = option_found(found, "save");
+    let image = word_found(found, "IMAGE")?;
+    let script = word_found(found, "SCRIPT")?;
+    Some(Job::Run(Run {
+        frames,
+        tlb,
+        save,
+        image,
         script,
     }))
 }
@@ -338,6 +414,9 @@ fn job_found<'a>(matches: &ArgMatches<'a>) -> Option<Job<'a>>
 {
     if let Some(found) = matches.subcommand_matches("flat") {
         return flat(found);
+    }
+    if let Some(found) = matches.subcommand_matches("run") {
+        return run(found);
     }
     if let Some(found) = matches.subcommand_matches("mkfs") {
         return mkfs(found);

@@ -5,6 +5,8 @@
 pub enum Job<'a> {
     /// Boots a flat program and gives it the events of a script.
     Flat(Flat<'a>),
+    /// Boots a machine from a disk image and gives it the events of a script.
+    Run(Run<'a>),
     /// Makes a disk image.
     Mkfs(Mkfs<'a>),
     /// Checks a disk image.
@@ -26,6 +28,21 @@ pub struct Flat<'a> {
     pub tlb: bool,
     /// The name of the program's file.
     pub file: &'a str,
+    /// The name of the script's file.
+    pub script: &'a str,
+}
+
+/// The words of the command `run`.
+#[derive(Clone, Copy, PartialEq, Eq)]
+pub struct Run<'a> {
+    /// How many frames the memory has.
+    pub frames: u32,
+    /// Whether the translator remembers translations.
+    pub tlb: bool,
+    /// The name of the file to which the saved image is written, where it is to be saved.
+    pub save: Option<&'a str>,
+    /// The name of the image's file.
+    pub image: &'a str,
     /// The name of the script's file.
     pub script: &'a str,
 }

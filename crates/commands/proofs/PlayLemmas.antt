@@ -86,7 +86,7 @@ module _ (first now new : Told) (xs ys : List Event) (before mid after : Option 
   stops_in step_rises rises Halted h r k = absurd (k.stopped (up_now first now xs before mid h))
 
 -- what the first events print is a beginning of what all print
-begins_both : (xs ys : List Event) (s : State) → s.halted ≡ None → (rest : List ℕ) × ((run s xs).bytes ++ rest ≡ (run s (xs ++ ys)).bytes)
+pub begins_both : (xs ys : List Event) (s : State) → s.halted ≡ None → (rest : List ℕ) × ((run s xs).bytes ++ rest ≡ (run s (xs ++ ys)).bytes)
 begins_both xs ys s up = rw (run-append xs ys s up) (begins (run s xs) (run s xs).state.halted)
   where
     begins : (a : After) (r : Option ℤ) → (rest : List ℕ) × (a.bytes ++ rest ≡ (then_runs ys a r).bytes)

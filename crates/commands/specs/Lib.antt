@@ -1,3 +1,4 @@
 pub mod Entries
 pub mod Plays
 pub mod Reports
+pub mod Runs

@@ -3,9 +3,9 @@
 
 mod host;
 pub mod perform;
-mod play;
+pub mod play;
 mod report;
 
-pub use commandline::{Asm, Check, Dump, Flat, Job, Ls, Mkfs, job};
+pub use commandline::{Asm, Check, Dump, Flat, Job, Ls, Mkfs, Run, job};
 pub use host::{Host, HostFault};
 pub use report::refuse;

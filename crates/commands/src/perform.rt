@@ -1,21 +1,16 @@
 //! Does a job.
-ghost use Rattle.std.specs.Prelude.{◌≡◌};
-ghost use Rattle.commands.specs.Reports.{end_of};
 
 mod images;
 mod program_files;
+mod runs;
 
 use crate::host::Host;
-use crate::play::play;
-use crate::report::{End, Failure, print, tell};
-use commandline::{Asm, Check, Dump, Flat, Job, Ls, Mkfs};
-use console::Writer;
+use crate::report::{Failure, print, tell};
+use commandline::{Check, Flat, Job, Mkfs, Run};
 use image::Summary;
-use machine::{Halt, boot_flat_with};
 use std::alloc::Global;
 use std::fmt;
 use std::io::Write;
-use sv39::{Plain, Tlb, Translate};
 use texts::{Command, TextFault, parse};
 
 // A file's bytes.
@@ -50,57 +45,6 @@ impl fmt::Display for Accepted {
     }
 }
 
-// How a run ended. Bytes that the writer had kept back and cannot write are lost: then the console failed.
-fn end_of(ended: Result<(), Halt>, is_written: bool) -> End
-    ensures { result ≡ end_of ended is_written }
-{
-    if !is_written {
-        return End::Halted(Halt::Console);
-    }
-    match ended {
-        Ok(()) => End::Running,
-        Err(halt) => End::Halted(halt),
-    }
-}
-
-// Boots a flat program over a translator and gives it the events of a script.
-fn run_flat<'a, T: Translate + Drop, W: Write>(
-    alloc: Global,
-    program: &[u8],
-    translator: T,
-    frames: u32,
-    script: &[Command<'_>],
-    stdout: &mut W,
-) -> Result<End, Failure<'a>> {
-    let mut machine = match boot_flat_with(alloc, program, translator, frames) {
-        Ok(machine) => machine,
-        Err(fault) => return Err(Failure::Boot(fault)),
-    };
-    let mut out = Writer::new(stdout);
-    let ended = play(&mut machine, script, &mut out);
-    Ok(end_of(ended, out.into_inner().flush().is_ok()))
-}
-
-// The command `flat`. Its files are read in the order of the command line, and the script is
-// parsed, before anything is booted.
-fn flat<'a, H: Host, W: Write>(
-    alloc: Global,
-    words: Flat<'a>,
-    host: &mut H,
-    stdout: &mut W,
-) -> Result<End, Failure<'a>> {
-    let program = read(host, words.file)?;
-    let bytes = read(host, words.script)?;
-    let script = script_of(alloc, words.script, bytes.as_slice())?;
-    let (program, script) = (program.as_slice(), script.as_slice());
-    if words.tlb {
-        let cache = Tlb::<64>::new();
-        run_flat(alloc, program, cache, words.frames, script, stdout)
-    } else {
-        run_flat(alloc, program, Plain::new(), words.frames, script, stdout)
-    }
-}
-
 // Boots a flat program, runs a script, and tells how that ended.
 fn perform_flat<H: Host, W: Write, E: Write>(
     alloc: Global,
@@ -109,11 +53,30 @@ fn perform_flat<H: Host, W: Write, E: Write>(
     stdout: &mut W,
     stderr: &mut E,
 ) -> u8 {
-    match flat(alloc, words, host, stdout) {
+    match runs::flat(alloc, words, host, stdout) {
         Ok(end) => {
             let _ = writeln!(stderr, "{end}");
             end.status()
         }
+        Err(failure) => tell(&failure, stderr),
+    }
+}
+
+// Boots a machine from an image, runs a script, and tells how that ended. The image that is left is written before.
+fn perform_run<H: Host, W: Write, E: Write>(
+    alloc: Global,
+    words: Run<'_>,
+    host: &mut H,
+    stdout: &mut W,
+    stderr: &mut E,
+) -> u8 {
+    let (end, written) = match runs::run(alloc, words, host, stdout) {
+        Ok((end, disk)) => (end, runs::keep(words.save, disk, host)),
+        Err(failure) => return tell(&failure, stderr),
+    };
+    let _ = writeln!(stderr, "{end}");
+    match written {
+        Ok(()) => end.status(),
         Err(failure) => tell(&failure, stderr),
     }
 }
@@ -164,6 +127,7 @@ pub fn perform<H: Host, W: Write, E: Write>(
 ) -> u8 {
     match *job {
         Job::Flat(words) => perform_flat(alloc, words, host, stdout, stderr),
+        Job::Run(words) => perform_run(alloc, words, host, stdout, stderr),
         Job::Mkfs(words) => perform_mkfs(alloc, words, host, stderr),
         Job::Check(words) => perform_check(alloc, words, host, stdout, stderr),
         Job::Ls(words) => perform_quietly(images::ls(alloc, words, host, stdout), stderr),

@@ -1,6 +1,7 @@
 //! Stored runs: jobs done with files in memory, and what they have to write.
 mod images;
 mod program_files;
+mod runs;
 mod words;
 
 use commands::perform::perform;

@@ -98,8 +98,8 @@ pub fn mkfs<'a, H: Host>(
     }
 }
 
-// The disk of this image.
-fn disk_of<'a>(bytes: Vec<u8>) -> Result<MemDisk, Failure<'a>> {
+/// The disk of this image.
+pub fn disk_of<'a>(bytes: Vec<u8>) -> Result<MemDisk, Failure<'a>> {
     match MemDisk::new(bytes) {
         Ok(disk) => Ok(disk),
         Err(_) => Err(Failure::Image(ImageFault::Length)),

@@ -3,7 +3,7 @@ use crate::tests::{Files, expect, expect_narrow, files_of};
 use commands::{Check, Job, Ls, Mkfs};
 use std::process::Abort;
 
-const CHECK: Job<'static> = Job::Check(Check { image: "image" });
+pub const CHECK: Job<'static> = Job::Check(Check { image: "image" });
 
 // Files with this manifest, and so many bytes of a file of the host.
 fn with_files(rt: &(impl Abort + AllocGlobal), manifest: &str, length: usize) -> Files {
@@ -11,7 +11,7 @@ fn with_files(rt: &(impl Abort + AllocGlobal), manifest: &str, length: usize) ->
     files_of(rt.alloc(), bytes, manifest.as_bytes()).expect(rt, "memory")
 }
 
-fn mkfs(size: u32, inodes: u32) -> Job<'static> {
+pub fn mkfs(size: u32, inodes: u32) -> Job<'static> {
     Job::Mkfs(Mkfs {
         size,
         inodes,

@@ -4,7 +4,7 @@ use commands::{Asm, Dump, Job};
 use std::process::Abort;
 
 // The text lies where scripts do, and the program's file where images do.
-const ASM: Job<'static> = Job::Asm(Asm {
+pub const ASM: Job<'static> = Job::Asm(Asm {
     text: "script",
     elf: "image",
 });

@@ -1,9 +1,9 @@
 //! Stored words, and the jobs that they name.
 use crate::tests::output_of;
 use clap::error::ErrorKind;
-use commands::{Asm, Check, Dump, Flat, Job, Ls, Mkfs, job, refuse};
+use commands::{Asm, Check, Dump, Flat, Job, Ls, Mkfs, Run, job, refuse};
 
-static JOBS: [(&[&str], Job<'static>); 9] = [
+static JOBS: [(&[&str], Job<'static>); 11] = [
     (
         &["xv6", "flat", "a", "b"],
         Job::Flat(Flat {
@@ -28,6 +28,35 @@ static JOBS: [(&[&str], Job<'static>); 9] = [
             frames: 64,
             tlb: true,
             file: "a",
+            script: "b",
+        }),
+    ),
+    (
+        &["xv6", "run", "a", "b"],
+        Job::Run(Run {
+            frames: 256,
+            tlb: false,
+            save: None,
+            image: "a",
+            script: "b",
+        }),
+    ),
+    (
+        &[
+            "xv6",
+            "run",
+            "--save",
+            "c",
+            "--tlb",
+            "a",
+            "--frames=64",
+            "b",
+        ],
+        Job::Run(Run {
+            frames: 64,
+            tlb: true,
+            save: Some("c"),
+            image: "a",
             script: "b",
         }),
     ),
@@ -75,13 +104,21 @@ fn knows_its_words(rt: HostRuntime) {
     }
 }
 
-static REFUSALS: [(&[&str], ErrorKind); 11] = [
+static REFUSALS: [(&[&str], ErrorKind); 13] = [
     (&["xv6", "--help", "", ""], ErrorKind::DisplayHelp),
     (&["xv6", "flat", "a", "--help"], ErrorKind::DisplayHelp),
     (&["xv6", "sharp", "a", "b"], ErrorKind::InvalidSubcommand),
     (
         &["xv6", "flat", "--frames=1", "a"],
         ErrorKind::MissingRequiredArgument,
+    ),
+    (
+        &["xv6", "run", "--save", "a", "b"],
+        ErrorKind::MissingRequiredArgument,
+    ),
+    (
+        &["xv6", "run", "--frames=", "a", "b"],
+        ErrorKind::ValueValidation,
     ),
     (&["xv6", "ls", "a"], ErrorKind::MissingRequiredArgument),
     (&["xv6", "asm", "a"], ErrorKind::MissingRequiredArgument),
@@ -142,6 +179,38 @@ fn tells_why_words_are_refused(rt: HostRuntime) {
                     "{error}"
                 );
             }
+        }
+    }
+}
+
+// The help of words, and what it has to name.
+static HELP: [(&[&str], &[&str]); 2] = [
+    (
+        &["xv6", "--help"],
+        &[
+            "flat", "run", "mkfs", "check", "ls", "asm", "dump", "--save",
+        ],
+    ),
+    (
+        &["xv6", "run", "--help"],
+        &[
+            "IMAGE", "SCRIPT", "--frames", "256", "--tlb", "--save", "OUT", "/init", "keys HEX",
+        ],
+    ),
+];
+
+#[test]
+fn teaches_its_words(rt: HostRuntime) {
+    for (words, named) in &HELP {
+        let mut out = output_of(rt.alloc(), 100_000, true);
+        let mut err = Vec::new(rt.alloc());
+        match job(rt.alloc(), words) {
+            Ok(_) => assert!(rt; false, "a job"),
+            Err(error) => assert_eq!(rt; refuse(&error, &mut out, &mut err), 0),
+        }
+        let text = str::from_utf8(out.taken.as_slice()).expect(&rt, "a text");
+        for word in *named {
+            assert!(rt; text.contains(*word), "{word}: {text}");
         }
     }
 }

@@ -1,8 +1,5 @@
-use Rattle.std.proofs.Common.{◌∙◌}
-use Rattle.clap.specs.Matches.{found_of}
-use Rattle.clap.proofs.WalkLemmas.{first_value-rows}
 use Rattle.commandline.proofs.CommandLineLemmas.{word-found}
 use Rattle.commandline.proofs.command_line.word_found.Goals as goal
 
 pub returns : goal.returns
-returns c = word-found (λ s. s.now) c.get_str.result _ (c.get_str.ensures ∙ first_value-rows (found_of c.args.found.now) c.args.name.now)
+returns c = word-found (λ s. s.now) c.option_found.result _ c.option_found.ensures

@@ -1,0 +1,148 @@
+-- How a run ends whose bytes are written out, and what it leaves.
+use Rattle.std.proofs.Common.{◌≡◌, ◌≢◌, ◌∙◌, ℕ, ℤ, Bool, List, [], ◌++◌, take, drop, Option, Some, None, Result, Ok, Err, IsTrue, true, false, ap, subst, sym, append-nil, ◌⊎◌, inl, inr, refl}
+use Rattle.std.proofs.KnownBytes.{Appends-kept}
+use Rattle.std.proofs.lemmas.List.{take-append-drop}
+use Rattle.std.specs.Io.KnownBytes.{Keeps}
+use Rattle.calls.specs.declared.halt.Halt.{Halt}
+use Rattle.calls.specs.declared.halt.Halt.TheVariants as halt
+use Rattle.commands.proofs.PlayLemmas.{begins_both}
+use Rattle.commands.specs.Reports.{end_of, status_of}
+use Rattle.commands.specs.Runs.{IsPlayed, Leaves, PlaysOut, Saves}
+use Rattle.commands.specs.declared.report.End.{End}
+use Rattle.commands.specs.declared.report.End.TheVariants.{Halted, Running}
+use Rattle.console.specs.Output.{AppendsBeginning}
+use Rattle.machine.specs.Gives.{DeviceFailsIn, IsDone, RunGives}
+use Rattle.machine.specs.Saved.{SaveGives}
+use Rattle.machine.specs.Told.{IsUp, Told}
+use Rattle.unixmodel.specs.Calls.{After}
+use Rattle.unixmodel.specs.declared.event.Event.{Event}
+use Rattle.unixmodel.specs.Run.{run}
+use Rattle.unixmodel.specs.State.{State}
+
+-- ---- what is written out
+
+module _ (old new : Told) (before mid after : Option (List ℕ)) (keeps : Keeps mid after) where
+  -- all bytes
+  done-written : (a : After) (halted : Option ℤ) → IsDone old new a before mid halted → IsDone old new a before after halted
+  done-written a halted k = record {
+    state = k.state;
+    halts = k.halts;
+    sound = k.sound;
+    printed = Appends-kept _ _ _ _ k.printed keeps;
+    later = k.later;
+  }
+
+  -- all bytes are a beginning of them
+  all-begins : (a : After) (halted : Option ℤ) → IsDone old new a before mid halted → AppendsBeginning before after a.bytes
+  all-begins a halted k = record {
+    front = a.bytes;
+    rest = [];
+    parts = append-nil a.bytes;
+    took = Appends-kept _ _ _ _ k.printed keeps;
+  }
+
+  device-written : (events : List Event) → DeviceFailsIn old new events before mid → DeviceFailsIn old new events before after
+  device-written events k = record {
+    done = k.done;
+    more = k.more;
+    goes = k.goes;
+    fails = record {
+      rises = k.fails.rises;
+      later = k.fails.later;
+      failed = k.fails.failed;
+      printed = Appends-kept _ _ _ _ k.fails.printed keeps;
+    };
+  }
+
+  -- what is printed before the device fails is a beginning of what all events print
+  device-begins : (events : List Event) → IsUp old → DeviceFailsIn old new events before mid → AppendsBeginning before after (run old.state events).bytes
+  device-begins events up k =
+      let both = begins_both (take k.done events) (drop k.done events) old.state up.goes in
+      record {
+        front = (run old.state (take k.done events)).bytes;
+        rest = both.0;
+        parts = both.1 ∙ ap (λ es. (run old.state es).bytes) (take-append-drop k.done events);
+        took = Appends-kept _ _ _ _ k.fails.printed keeps;
+      }
+
+  begins-written : (bytes : List ℕ) → AppendsBeginning before mid bytes → AppendsBeginning before after bytes
+  begins-written bytes k = record {
+    front = k.front;
+    rest = k.rest;
+    parts = k.parts;
+    took = Appends-kept _ _ _ _ k.took keeps;
+  }
+
+  -- a run that is written out ends as the run ended; where the bytes can't be written, a beginning of them was
+  plays-out : (events : List Event) (rising : Type 0) (ended : Result (Unit {0}) Halt) (written : Bool) → IsUp old
+      → RunGives old new events before mid rising ended → PlaysOut old new events before after (end_of ended written)
+  plays-out events rising (Ok u) true up k = done-written (run old.state events) None k.1
+  plays-out events rising (Ok u) false up k = all-begins (run old.state events) None k.1
+  plays-out events rising (Err (halt.InitEnded status)) true up k = done-written (run old.state events) (Some status) k.1
+  plays-out events rising (Err (halt.InitEnded status)) false up k = all-begins (run old.state events) (Some status) k.1
+  plays-out events rising (Err halt.Device) true up k = device-written events k.1
+  plays-out events rising (Err halt.Device) false up k = device-begins events up k.1
+  plays-out events rising (Err halt.Console) true up k = begins-written (run old.state events).bytes k.1.printed
+  plays-out events rising (Err halt.Console) false up k = begins-written (run old.state events).bytes k.1.printed
+  plays-out events rising (Err halt.Halted) true up k = absurd (k.stopped up)
+  plays-out events rising (Err halt.Halted) false up k = absurd (k.stopped up)
+
+-- the same, where what is written by the run is known by other names
+pub plays-through : (old new : Told) (from before to mid after : Option (List ℕ)) → from ≡ before → to ≡ mid → Keeps mid after
+    → (events : List Event) (rising : Type 0) (ended : Result (Unit {0}) Halt) (written : Bool) → IsUp old
+    → RunGives old new events from to rising ended → PlaysOut old new events before after (end_of ended written)
+plays-through old new from before to mid after e f keeps events rising ended written up k =
+    plays-out old new before mid after keeps events rising ended written up
+    (subst (λ b. RunGives old new events b mid rising ended) e (subst (λ t. RunGives old new events from t rising ended) f k))
+
+-- ---- what is left
+
+module _ {D : Type 0} (content : D → List (List ℕ)) (count : D → ℕ) (first last : Told) (events : List Event) (before after : Option (List ℕ)) (saves : Bool) where
+  played : (halted : Option ℤ) (disk : Option D) → IsDone first last (run first.state events) before after halted → Saves content last saves disk
+      → IsPlayed content first events before after saves halted disk
+  played halted disk done saved = record { last = last; done = done; saved = saved }
+
+  -- it isn't to be saved
+  pub leaves-none : (end : End) → saves ≡ false → PlaysOut first last events before after end → Leaves content count first events before after saves end None
+  leaves-none Running is k = played None None k (rw is tt)
+  leaves-none (Halted (halt.InitEnded status)) is k = played (Some status) None k (rw is tt)
+  leaves-none (Halted halt.Device) is k = (refl, (last, inl k))
+  leaves-none (Halted halt.Console) is k = (refl, k)
+  leaves-none (Halted halt.Halted) is k = absurd k
+
+  -- the device or the console failed
+  pub leaves-failed : (end : End) → status_of end ≢ 0 → PlaysOut first last events before after end → Leaves content count first events before after saves end None
+  leaves-failed Running ne k = absurd (ne refl)
+  leaves-failed (Halted (halt.InitEnded status)) ne k = absurd (ne refl)
+  leaves-failed (Halted halt.Device) ne k = (refl, (last, inl k))
+  leaves-failed (Halted halt.Console) ne k = (refl, k)
+  leaves-failed (Halted halt.Halted) ne k = absurd k
+
+  -- it is saved
+  pub leaves-saved : (end : End) (disk : D) → saves ≡ true → status_of end ≡ 0 → PlaysOut first last events before after end
+      → SaveGives content count last (Ok disk) → Leaves content count first events before after saves end (Some disk)
+  leaves-saved Running disk is zero k s = played None (Some disk) k (rw is s)
+  leaves-saved (Halted (halt.InitEnded status)) disk is zero k s = played (Some status) (Some disk) k (rw is s)
+  leaves-saved (Halted halt.Device) disk is zero k s = absurd (cc)
+  leaves-saved (Halted halt.Console) disk is zero k s = absurd (cc)
+  leaves-saved (Halted halt.Halted) disk is zero k s = absurd k
+
+  -- all events are done
+  all-done : (end : End) → status_of end ≡ 0 → PlaysOut first last events before after end → (halted : Option ℤ) × IsDone first last (run first.state events) before after halted
+  all-done Running zero k = (None, k)
+  all-done (Halted (halt.InitEnded status)) zero k = (Some status, k)
+  all-done (Halted halt.Device) zero k = absurd (cc)
+  all-done (Halted halt.Console) zero k = absurd (cc)
+  all-done (Halted halt.Halted) zero k = absurd k
+
+  -- it can't be saved
+  pub leaves-unsaved : (end : End) (why : Halt) → saves ≡ true → status_of end ≡ 0 → PlaysOut first last events before after end
+      → SaveGives content count last (Err why) → Leaves content count first events before after saves (Halted why) None
+  leaves-unsaved end (halt.InitEnded status) is zero k s = absurd s
+  leaves-unsaved end halt.Device is zero k s =
+      let done = all-done end zero k in
+      (refl, (last, inr (record { wanted = is; halted = done.0; done = done.1; lost = s })))
+  leaves-unsaved end halt.Console is zero k s = absurd s
+  leaves-unsaved end halt.Halted is zero k s =
+      let sound = (all-done end zero k).1.sound in
+      let bad : true ≡ false = sym s ∙ sound in absurd (cc)

@@ -1,0 +1,183 @@
+//! Boots machines and gives them the events of a script.
+ghost use Rattle.std.specs.Prelude.{◌≡◌, IfErr, IfOk, is_some};
+ghost use Rattle.commands.specs.Plays.{script_events};
+ghost use Rattle.commands.specs.Reports.{end_of};
+ghost use Rattle.commands.specs.Runs.{IsFlatRun, IsImageRun, Leaves, PlaysOut};
+ghost use Rattle.imagerules.specs.Content.{image_of};
+ghost use Rattle.machine.specs.Booted.{IsUnbooted};
+ghost use Rattle.machine.specs.Told.{IsUp};
+
+use crate::host::Host;
+use crate::perform::images::disk_of;
+use crate::perform::{read, script_of};
+use crate::play::play;
+use crate::report::{End, Failure};
+use blockdev::{BlockDev, MemDisk};
+use commandline::{Flat, Run};
+use console::Writer;
+use machine::{BootFault, Halt, Machine, boot, boot_flat_with};
+use std::alloc::Global;
+use std::io::Write;
+use sv39::{Plain, Tlb, Translate};
+use texts::Command;
+
+/// How a run ended, the disk that is left where it was to be saved, and the output that has the console's bytes.
+#[derive(Drop)]
+pub struct Ran<D, W> {
+    pub end: End,
+    pub disk: Option<D>,
+    pub stdout: W,
+}
+
+// How a run ended. Bytes that the writer had kept back and cannot write are lost: then the console failed.
+fn end_of(ended: Result<(), Halt>, is_written: bool) -> End
+    ensures { result ≡ end_of ended is_written }
+{
+    if !is_written {
+        return End::Halted(Halt::Console);
+    }
+    match ended {
+        Ok(()) => End::Running,
+        Err(halt) => End::Halted(halt),
+    }
+}
+
+// The events of a script, whose bytes for the console are written out.
+fn play_out<D: BlockDev, T: Translate + Drop, W: Write>(
+    machine: &mut Machine<D, T>,
+    script: &[Command<'_>],
+    stdout: W,
+) -> (End, W)
+    requires { IsUp machine.old }
+    ensures { PlaysOut machine.old machine.new (script_events script.now) (W.contents stdout) (W.contents result.1) result.0 }
+{
+    let mut out = Writer::new(stdout);
+    let ended = play(machine, script, &mut out);
+    let mut stdout = out.into_inner();
+    let is_written = stdout.flush().is_ok();
+    (end_of(ended, is_written), stdout)
+}
+
+// The events of a script; then the machine is saved, if it is to be and neither its device nor the console has failed.
+fn run_machine<D: BlockDev, T: Translate + Drop, W: Write>(
+    mut machine: Machine<D, T>,
+    script: &[Command<'_>],
+    saves: bool,
+    stdout: W,
+) -> Ran<D, W>
+    requires { IsUp machine }
+    ensures { Leaves D.content D.failures machine (script_events script.now) (W.contents stdout) (W.contents result.stdout) saves result.end result.disk }
+{
+    let (end, stdout) = play_out(&mut machine, script, stdout);
+    if !saves || end.status() != 0 {
+        return Ran {
+            end,
+            disk: None,
+            stdout,
+        };
+    }
+    match machine.save() {
+        Ok(disk) => Ran {
+            end,
+            disk: Some(disk),
+            stdout,
+        },
+        Err(halt) => Ran {
+            end: End::Halted(halt),
+            disk: None,
+            stdout,
+        },
+    }
+}
+
+// Boots a flat program over a translator and gives it the events of a script.
+fn run_flat<T: Translate + Drop, W: Write + Drop>(
+    alloc: Global,
+    program: &[u8],
+    translator: T,
+    frames: u32,
+    script: &[Command<'_>],
+    stdout: W,
+) -> Result<(End, W), BootFault>
+    ensures { IfOk result (λ ran. IsFlatRun program.now frames (script_events script.now) (W.contents stdout) (W.contents ran.1) ran.0) }
+{
+    let mut machine = boot_flat_with(alloc, program, translator, frames)?;
+    Ok(play_out(&mut machine, script, stdout))
+}
+
+// Boots a machine from a disk over a translator and gives it the events of a script.
+fn run_disk<D: BlockDev, T: Translate + Drop, W: Write + Drop>(
+    alloc: Global,
+    disk: D,
+    translator: T,
+    words: &Run<'_>,
+    script: &[Command<'_>],
+    stdout: W,
+) -> Result<Ran<D, W>, BootFault>
+    ensures ran { IfOk result (λ ran. IsImageRun D.content D.failures disk words.now.frames (script_events script.now) (W.contents stdout) (W.contents ran.stdout) (is_some words.now.save) ran.end ran.disk) }
+    ensures refused { IfErr result (IsUnbooted D.failures (image_of (D.content disk)) (D.failures disk) words.now.frames) }
+{
+    let machine = boot(alloc, disk, translator, words.frames)?;
+    Ok(run_machine(machine, script, words.save.is_some(), stdout))
+}
+
+/// The command `flat`. Its files are read in the order of the command line, and the script is
+/// parsed, before anything is booted.
+pub fn flat<'a, H: Host, W: Write>(
+    alloc: Global,
+    words: Flat<'a>,
+    host: &mut H,
+    stdout: &mut W,
+) -> Result<End, Failure<'a>> {
+    let program = read(host, words.file)?;
+    let bytes = read(host, words.script)?;
+    let script = script_of(alloc, words.script, bytes.as_slice())?;
+    let (program, script) = (program.as_slice(), script.as_slice());
+    let ended = if words.tlb {
+        let cache = Tlb::<64>::new();
+        run_flat(alloc, program, cache, words.frames, script, stdout)
+    } else {
+        run_flat(alloc, program, Plain::new(), words.frames, script, stdout)
+    };
+    match ended {
+        Ok((end, _)) => Ok(end),
+        Err(fault) => Err(Failure::Boot(fault)),
+    }
+}
+
+/// The command `run`: how it ended, and the disk that is left where it was to be saved. Its files are read in the order of
+/// the command line, and the script is parsed, before there is a disk.
+pub fn run<'a, H: Host, W: Write>(
+    alloc: Global,
+    words: Run<'a>,
+    host: &mut H,
+    stdout: &mut W,
+) -> Result<(End, Option<MemDisk>), Failure<'a>> {
+    let image = read(host, words.image)?;
+    let bytes = read(host, words.script)?;
+    let script = script_of(alloc, words.script, bytes.as_slice())?;
+    let (disk, script) = (disk_of(image)?, script.as_slice());
+    let ran = if words.tlb {
+        let cache = Tlb::<64>::new();
+        run_disk(alloc, disk, cache, &words, script, stdout)
+    } else {
+        run_disk(alloc, disk, Plain::new(), &words, script, stdout)
+    };
+    match ran {
+        Ok(ran) => Ok((ran.end, ran.disk)),
+        Err(fault) => Err(Failure::Boot(fault)),
+    }
+}
+
+/// Writes the image of the disk that is left, if there is one, to the file of this name.
+pub fn keep<'a, H: Host>(
+    name: Option<&'a str>,
+    disk: Option<MemDisk>,
+    host: &mut H,
+) -> Result<(), Failure<'a>> {
+    let (Some(name), Some(disk)) = (name, disk) else {
+        return Ok(());
+    };
+    host.write(name, disk.bytes())
+        .map_err(|_| Failure::Write(name))
+}
