@@ -4,22 +4,24 @@
 PROGRAM := crates/xv6/out/xv6
 SOURCES := $(shell find crates -name out -prune -o \( -name '*.rt' -o -name '*.antt' \) -print)
 
-# The user programs: a text of user/ each, and user/manifest puts them on an image.
-USER := $(patsubst user/%.s,user/out/%,$(wildcard user/*.s))
-IMAGE := user/out/xv6.img
+# The user programs: a text each. user/manifest puts them on an image, and user/demo is what is typed at it.
+TEXTS := $(wildcard user/*.s)
+USER := $(TEXTS:user/%.s=out/user/%)
+IMAGE := out/xv6.img
 
 .PHONY: demo build image user test check bench fmt
 
-# Runs a program that says `hi` on the machine. It takes the proved build where there is one that is
-# not older than the sources, and else `rt try`, which compiles the program and proves nothing.
+# Boots a machine from an image with the user programs, types at its shell, and shows its console. It takes the
+# proved build where there is one that is not older than the sources. Else `rt try` compiles, and proves nothing of, the
+# program of crates/userland, which does the same in one run.
 demo:
 	@if [ -x $(PROGRAM) ] && $(MAKE) -sq $(PROGRAM); then \
 		echo 'demo: the proved build, $(PROGRAM)'; \
-		cd crates/xv6/data && ../out/xv6 flat hello.bin hello.txt; \
+		$(MAKE) -s image && $(PROGRAM) run $(IMAGE) user/demo; \
 	else \
 		echo 'demo: compiled by rt try, unproved (make build proves and builds the program)'; \
-		cd crates/xv6 && rt try --data hello.bin=data/hello.bin --data hello.txt=data/hello.txt \
-			-- flat hello.bin hello.txt; \
+		{ echo '# user/demo'; echo 'boot xv6.img 256'; cat user/demo; } | (cd crates/userland && \
+			rt try $$(for file in $$(ls data); do echo --data $$file=data/$$file; done)); \
 	fi
 
 # Proves every crate that the program stands on, builds it as $(PROGRAM), and runs it once.
@@ -32,7 +34,7 @@ $(PROGRAM): $(SOURCES) crates.txt
 # Assembles the user programs.
 user: $(USER)
 
-user/out/%: user/%.s $(PROGRAM)
+out/user/%: user/%.s $(PROGRAM)
 	@mkdir -p $(@D)
 	$(PROGRAM) asm $< $@
 
@@ -40,7 +42,7 @@ user/out/%: user/%.s $(PROGRAM)
 image: $(IMAGE)
 
 $(IMAGE): user/manifest $(USER)
-	cd user && ../$(PROGRAM) mkfs manifest ../$@
+	cd out/user && ../../$(PROGRAM) mkfs ../../$< ../../$@
 
 # The merge gate: every proof from nothing, the edits that must fail, all tests and stored runs.
 test:

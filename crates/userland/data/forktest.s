@@ -1,21 +1,21 @@
 # forktest: makes children until a fork is refused, waits for all of them, and tells how many there were. Each child ends
 # at once.
 #
-# A program starts with the number of its arguments in a0, and in a1 the place where their addresses stand, with a 0 behind
-# the last. Functions and calls take arguments in a0, a1, .. and answer in a0, -1 for a refusal. Functions keep sp and s0 to
-# s11, calls all other registers but a7.
+# At the start a0 is the number of arguments, the program's name among them, and at a1 their addresses stand, one behind the
+# other, with a 0 behind the last. `jal ra, NAME` goes to a function or a call of the kernel, which takes a0, a1, .. and answers
+# in a0, -1 for a refusal; `ret` comes back. A function keeps sp and s0 to s11, a call all registers but a0 and a7.
 
 start:      mv s0, zero             # s0: how many children there are
 
 again:      jal ra, fork
-            beq a0, zero, finish    # a child
-            blt a0, zero, waiting   # no more
+            beq a0, zero, finish    # this is a child
+            blt a0, zero, waiting   # refused: no more
             addi s0, s0, 1
             j again
 
-waiting:    li a0, 0                # until there is no child left
+waiting:    li a0, 0                # 0: the child's status isn't wanted
             jal ra, wait
-            bge a0, zero, waiting
+            bge a0, zero, waiting   # refused: there is no child left
 
             la a0, digits           # the count goes behind the word
             mv a1, s0
@@ -23,7 +23,7 @@ waiting:    li a0, 0                # until there is no child left
             li t0, 10               # and a line end behind it
             sb t0, 0(a0)
             addi a0, a0, 1
-            la a1, line
+            la a1, line             # the line from its beginning up to there
             sub a2, a0, a1
             li a0, 1
             jal ra, write
@@ -36,20 +36,20 @@ finish:     li a0, 0
 # decimal(place, number): writes a number below 100 in decimal digits, and answers the place behind them
 decimal:    li t0, 10
             mv t1, zero             # t1: the tens
-tens:       blt a1, t0, units
+tens:       blt a1, t0, units       # take ten away as often as that goes
             addi a1, a1, -10
             addi t1, t1, 1
             j tens
 units:      beq t1, zero, last      # no leading zero
-            addi t1, t1, 48
+            addi t1, t1, 48         # 48 is the digit 0
             sb t1, 0(a0)
             addi a0, a0, 1
-last:       addi a1, a1, 48
+last:       addi a1, a1, 48         # what is left
             sb a1, 0(a0)
             addi a0, a0, 1
             ret
 
-# ---- calls: the number goes into a7
+# ---- calls of the kernel: the number goes into a7
 
 fork:       li a7, 1
             ecall

@@ -5,11 +5,11 @@
 #
 # Words are separated by blanks; <, > and | are words of their own. A line has at most 100 bytes and 10 words.
 #
-# A program starts with the number of its arguments in a0, and in a1 the place where their addresses stand, with a 0 behind
-# the last. Functions and calls take arguments in a0, a1, .. and answer in a0, -1 for a refusal. Functions keep sp and s0 to
-# s11, calls all other registers but a7.
+# At the start a0 is the number of arguments, the program's name among them, and at a1 their addresses stand, one behind the
+# other, with a 0 behind the last. `jal ra, NAME` goes to a function or a call of the kernel, which takes a0, a1, .. and answers
+# in a0, -1 for a refusal; `ret` comes back. A function keeps sp and s0 to s11, a call all registers but a0 and a7.
 
-start:      li a0, 2
+start:      li a0, 2                # the prompt goes to descriptor 2
             la a1, prompt
             jal ra, print
             jal ra, read_line
@@ -17,11 +17,11 @@ start:      li a0, 2
             jal ra, split
             la t0, words
             ld a0, 0(t0)
-            beq a0, zero, start     # an empty line
-            la a1, cd
+            beq a0, zero, start     # a line without words
+            la a1, cd               # is its first word cd?
             jal ra, is_same
             bne a0, zero, change
-            jal ra, run
+            jal ra, run             # else it names programs
             j start
 
 quit:       li a0, 0
@@ -29,11 +29,11 @@ quit:       li a0, 0
 
 # cd DIR is done here, since a child could change only its own directory
 change:     la s0, words
-            ld a0, 8(s0)
+            ld a0, 8(s0)            # the directory, the second word
             beq a0, zero, start
             jal ra, chdir
             bge a0, zero, start
-            la a0, cannot_cd
+            la a0, cannot_cd        # refused
             ld a1, 8(s0)
             la a2, line_end
             jal ra, complain
@@ -42,26 +42,26 @@ change:     la s0, words
 # ---- a line and its words
 
 # read_line(): reads a line into `line`, byte by byte, with a 0 behind it; answers 0 where nothing came
-read_line:  addi sp, sp, -32
+read_line:  addi sp, sp, -32        # what is kept for the caller goes on the stack
             sd ra, 0(sp)
             sd s0, 8(sp)
             sd s1, 16(sp)
             la s0, line             # s0: where the next byte goes
             addi s1, s0, 100        # s1: the end of the room for it
-read_byte:  beq s0, s1, line_read
-            li a0, 0
+read_byte:  beq s0, s1, line_read   # it is full
+            li a0, 0                # read one byte of descriptor 0
             mv a1, s0
             li a2, 1
             jal ra, read
             bge zero, a0, line_read # the end of what is read
             lbu t0, 0(s0)
             addi s0, s0, 1
-            li t1, 10
+            li t1, 10               # a line end is the last byte of a line
             bne t0, t1, read_byte
 line_read:  sb zero, 0(s0)
             la t0, line
             sub a0, s0, t0          # how many bytes came
-            ld ra, 0(sp)
+            ld ra, 0(sp)            # as the caller had them
             ld s0, 8(sp)
             ld s1, 16(sp)
             addi sp, sp, 32
@@ -75,12 +75,12 @@ split:      la t0, line             # t0: what is read
             addi t3, t2, 80         # t3: the end of the room for them
 skip:       lbu t4, 0(t0)           # t4: the byte that is read
             addi t0, t0, 1
-            li t5, 32
+            li t5, 32               # blanks are passed over
             beq t4, t5, skip
-            beq t4, zero, split_end
+            beq t4, zero, split_end # the line's end
             li t5, 10
             beq t4, t5, split_end
-            beq t2, t3, split_end
+            beq t2, t3, split_end   # ten words
             sd t1, 0(t2)            # a word begins
             addi t2, t2, 8
             sb t4, 0(t1)
@@ -103,20 +103,20 @@ letter:     lbu t4, 0(t0)           # others go on up to a blank, one of these, 
             beq t4, t5, word_end
             li t5, 124
             beq t4, t5, word_end
-            sb t4, 0(t1)
+            sb t4, 0(t1)            # a byte of the word
             addi t1, t1, 1
             addi t0, t0, 1
             j letter
 word_end:   sb zero, 0(t1)
             addi t1, t1, 1
             j skip
-split_end:  sd zero, 0(t2)
+split_end:  sd zero, 0(t2)          # no more words
             ret
 
 # ---- running a line
 
 # run(): starts a child for each part of the line, and waits for all of them
-run:        addi sp, sp, -64
+run:        addi sp, sp, -64        # what is kept for the caller, and eight bytes at 48(sp)
             sd ra, 0(sp)
             sd s0, 8(sp)
             sd s1, 16(sp)
@@ -130,39 +130,39 @@ run:        addi sp, sp, -64
 part:       mv s3, s0               # s3: where the part ends
 find_end:   ld t0, 0(s3)
             mv s4, zero             # s4: whether a part follows
-            beq t0, zero, end_found
+            beq t0, zero, end_found # the line's last word is behind
             lbu t0, 0(t0)
-            li t1, 124
+            li t1, 124              # only the word | begins with one
             beq t0, t1, bar_found
-            addi s3, s3, 8
+            addi s3, s3, 8          # the next word
             j find_end
 bar_found:  li s4, 1
             sd zero, 0(s3)          # the part's words end here
-            la a0, ends
+            la a0, ends             # a pipe from this part to the next
             jal ra, pipe
             blt a0, zero, no_ends
 end_found:  jal ra, fork
-            beq a0, zero, child
+            beq a0, zero, child     # this is the child
             blt a0, zero, no_child
             addi s2, s2, 1
 
             beq s1, zero, kept      # what the child took over isn't the shell's any more
             mv a0, s1
             jal ra, close
-kept:       beq s4, zero, wait_all
+kept:       beq s4, zero, wait_all  # it was the last part
             la t0, ends
             lw s1, 0(t0)            # the next part reads from this pipe
-            lw a0, 4(t0)
+            lw a0, 4(t0)            # nobody but the child writes to it
             jal ra, close
-            addi s0, s3, 8
+            addi s0, s3, 8          # its words stand behind the bar
             j part
 
-wait_all:   beq s2, zero, run_end
+wait_all:   beq s2, zero, run_end   # for each child once
             li a0, 0
             jal ra, wait
             addi s2, s2, -1
             j wait_all
-run_end:    ld ra, 0(sp)
+run_end:    ld ra, 0(sp)            # as the caller had them
             ld s0, 8(sp)
             ld s1, 16(sp)
             ld s2, 24(sp)
@@ -172,8 +172,8 @@ run_end:    ld ra, 0(sp)
             ret
 
 no_child:   la a0, no_fork          # no room for a child: the ends of the pipe behind the part are given back
-            beq s4, zero, stop
-            sd a0, 48(sp)
+            beq s4, zero, stop      # there is no pipe behind the last part
+            sd a0, 48(sp)           # closing takes a0
             la t0, ends
             lw a0, 0(t0)
             jal ra, close
@@ -191,13 +191,14 @@ stop:       la a1, nothing          # a0: what is told
             jal ra, close
             j wait_all
 
-# The child: it takes its descriptors over, and becomes the program.
+# The child: it takes its descriptors over, and becomes the program. dup gives the lowest descriptor that is free, which is the
+# one that was just closed.
 child:      beq s1, zero, reads
             li a0, 0                # descriptor 0 is the pipe before it
             jal ra, close
             mv a0, s1
             jal ra, dup
-            mv a0, s1
+            mv a0, s1               # under one number is enough
             jal ra, close
 reads:      beq s4, zero, writes
             li a0, 1                # descriptor 1 is the pipe behind it
@@ -205,7 +206,7 @@ reads:      beq s4, zero, writes
             la t0, ends
             lw a0, 4(t0)
             jal ra, dup
-            la t0, ends
+            la t0, ends             # the next part reads from it, and not this one
             lw a0, 0(t0)
             jal ra, close
             la t0, ends
@@ -218,11 +219,11 @@ word:       ld s1, 0(s0)            # s1: the word
             beq s1, zero, words_read
             addi s0, s0, 8
             lbu t0, 0(s1)
-            li t1, 60
+            li t1, 60               # <
             beq t0, t1, input
-            li t1, 62
+            li t1, 62               # >
             beq t0, t1, output
-            sd s1, 0(s2)
+            sd s1, 0(s2)            # any other is an argument
             addi s2, s2, 8
             j word
 
@@ -236,8 +237,8 @@ output:     li a0, 1                # > FILE: descriptor 1 is the file: to write
 redirect:   ld a0, 0(s0)            # the name
             addi s0, s0, 8
             beq a0, zero, no_name
-            mv s1, a0
-            jal ra, open            # the lowest descriptor that is free: the one that was closed
+            mv s1, a0               # s1: the name, which is told where it can't be opened
+            jal ra, open            # this too gives the lowest descriptor that is free
             bge a0, zero, word
             la a0, open_word
             j give_up
@@ -247,13 +248,13 @@ no_name:    la a0, missing
             jal ra, complain
             j fail
 
-words_read: sd zero, 0(s2)
-            ld s1, 0(s3)            # the program's name
+words_read: sd zero, 0(s2)          # no more arguments
+            ld s1, 0(s3)            # s1: the program's name
             beq s1, zero, fail      # none
             mv a0, s1
             mv a1, s3
             jal ra, exec
-            la a0, exec_word        # there is no such program
+            la a0, exec_word        # back here only if there is no such program
 give_up:    mv a1, s1
             la a2, failed
             jal ra, complain
@@ -263,11 +264,11 @@ fail:       li a0, 1
 # ---- functions
 
 # complain(a, b, c): prints three texts to descriptor 2
-complain:   addi sp, sp, -32
+complain:   addi sp, sp, -32        # print changes a1 and a2
             sd ra, 0(sp)
             sd a1, 8(sp)
             sd a2, 16(sp)
-            mv a1, a0
+            mv a1, a0               # the first
             li a0, 2
             jal ra, print
             li a0, 2
@@ -284,8 +285,8 @@ complain:   addi sp, sp, -32
 is_same:    lbu t0, 0(a0)
             lbu t1, 0(a1)
             bne t0, t1, differ
-            beq t0, zero, same
-            addi a0, a0, 1
+            beq t0, zero, same      # both end here
+            addi a0, a0, 1          # the next bytes
             addi a1, a1, 1
             j is_same
 same:       li a0, 1
@@ -294,14 +295,14 @@ differ:     li a0, 0
             ret
 
 # print(descriptor, text): writes a text that ends with a 0
-print:      mv a2, zero             # a2: its length
+print:      mv a2, zero             # a2: its length, counted up to the 0
 measure:    add t0, a1, a2
             lbu t0, 0(t0)
-            beq t0, zero, write
+            beq t0, zero, write     # the call takes it from here, and comes back for this function
             addi a2, a2, 1
             j measure
 
-# ---- calls: the number goes into a7
+# ---- calls of the kernel: the number goes into a7
 
 fork:       li a7, 1
             ecall

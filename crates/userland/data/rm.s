@@ -1,22 +1,22 @@
 # rm NAME..: takes names away, up to the first that is refused.
 #
-# A program starts with the number of its arguments in a0, and in a1 the place where their addresses stand, with a 0 behind
-# the last. Functions and calls take arguments in a0, a1, .. and answer in a0, -1 for a refusal. Functions keep sp and s0 to
-# s11, calls all other registers but a7.
+# At the start a0 is the number of arguments, the program's name among them, and at a1 their addresses stand, one behind the
+# other, with a 0 behind the last. `jal ra, NAME` goes to a function or a call of the kernel, which takes a0, a1, .. and answers
+# in a0, -1 for a refusal; `ret` comes back. A function keeps sp and s0 to s11, a call all registers but a0 and a7.
 
 start:      addi s0, a1, 8          # s0: where the next argument's address stands, behind that of the program's name
             ld a0, 0(s0)
             beq a0, zero, refused   # one at least has to be there
 
-next:       jal ra, unlink
+next:       jal ra, unlink          # a0: the argument
             blt a0, zero, refused
-            addi s0, s0, 8
+            addi s0, s0, 8          # the next argument
             ld a0, 0(s0)
             bne a0, zero, next
-            li a0, 0
+            li a0, 0                # all went well
             jal ra, exit
 
-refused:    li a0, 2
+refused:    li a0, 2                # tell it, and end with status 1
             la a1, message
             jal ra, print
             li a0, 1
@@ -25,14 +25,14 @@ refused:    li a0, 2
 # ---- functions
 
 # print(descriptor, text): writes a text that ends with a 0
-print:      mv a2, zero             # a2: its length
+print:      mv a2, zero             # a2: its length, counted up to the 0
 measure:    add t0, a1, a2
             lbu t0, 0(t0)
-            beq t0, zero, write
+            beq t0, zero, write     # the call takes it from here, and comes back for this function
             addi a2, a2, 1
             j measure
 
-# ---- calls: the number goes into a7
+# ---- calls of the kernel: the number goes into a7
 
 exit:       li a7, 2
             ecall

@@ -1,8 +1,8 @@
 # init: the first process. It opens the console, keeps a shell running, and never ends by itself.
 #
-# A program starts with the number of its arguments in a0, and in a1 the place where their addresses stand, with a 0 behind
-# the last. Functions and calls take arguments in a0, a1, .. and answer in a0, -1 for a refusal. Functions keep sp and s0 to
-# s11, calls all other registers but a7.
+# At the start a0 is the number of arguments, the program's name among them, and at a1 their addresses stand, one behind the
+# other, with a 0 behind the last. `jal ra, NAME` goes to a function or a call of the kernel, which takes a0, a1, .. and answers
+# in a0, -1 for a refusal; `ret` comes back. A function keeps sp and s0 to s11, a call all registers but a0 and a7.
 
 start:      la a0, console          # descriptor 0 is the console, to read and to write
             li a1, 2
@@ -12,7 +12,7 @@ start:      la a0, console          # descriptor 0 is the console, to read and t
             li a1, 1
             li a2, 0
             jal ra, mknod
-            la a0, console
+            la a0, console          # and open it
             li a1, 2
             jal ra, open
 opened:     li a0, 0                # descriptors 1 and 2 are the same open file
@@ -20,38 +20,38 @@ opened:     li a0, 0                # descriptors 1 and 2 are the same open file
             li a0, 0
             jal ra, dup
 
-again:      li a0, 1
+again:      li a0, 1                # tell that a shell is started
             la a1, starting
             jal ra, print
             jal ra, fork
             beq a0, zero, child
-            blt a0, zero, give_up   # no room for a shell
-            mv s0, a0
+            blt a0, zero, give_up   # no room for it
+            mv s0, a0               # s0: its pid
 
-waiting:    li a0, 0                # wait until the shell has ended; other children end here too, whose parents are gone
+waiting:    li a0, 0                # wait for a child; those whose parents are gone are children of this process too
             jal ra, wait
-            beq a0, s0, again
+            beq a0, s0, again       # the shell has ended
             bge a0, zero, waiting
-            j again
+            j again                 # no child at all
 
 child:      la a0, shell            # the child becomes the shell, with its name as the only argument
             la a1, arguments
             sd a0, 0(a1)
             jal ra, exec
-give_up:    li a0, 1
+give_up:    li a0, 1                # back here only if there is no such program
             jal ra, exit
 
 # ---- functions
 
 # print(descriptor, text): writes a text that ends with a 0
-print:      mv a2, zero             # a2: its length
+print:      mv a2, zero             # a2: its length, counted up to the 0
 measure:    add t0, a1, a2
             lbu t0, 0(t0)
-            beq t0, zero, write
+            beq t0, zero, write     # the call takes it from here, and comes back for this function
             addi a2, a2, 1
             j measure
 
-# ---- calls: the number goes into a7
+# ---- calls of the kernel: the number goes into a7
 
 fork:       li a7, 1
             ecall

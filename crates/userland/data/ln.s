@@ -1,0 +1,45 @@
+# ln OLD NEW: gives what OLD names the further name NEW.
+#
+# At the start a0 is the number of arguments, the program's name among them, and at a1 their addresses stand, one behind the
+# other, with a 0 behind the last. `jal ra, NAME` goes to a function or a call of the kernel, which takes a0, a1, .. and answers
+# in a0, -1 for a refusal; `ret` comes back. A function keeps sp and s0 to s11, a call all registers but a0 and a7.
+
+start:      li t0, 3                # the program's name and two more
+            bne a0, t0, refused
+            ld a0, 8(a1)            # the name that there is
+            ld a1, 16(a1)           # the new one
+            jal ra, link
+            blt a0, zero, refused
+            li a0, 0                # all went well
+            jal ra, exit
+
+refused:    li a0, 2                # tell it, and end with status 1
+            la a1, message
+            jal ra, print
+            li a0, 1
+            jal ra, exit
+
+# ---- functions
+
+# print(descriptor, text): writes a text that ends with a 0
+print:      mv a2, zero             # a2: its length, counted up to the 0
+measure:    add t0, a1, a2
+            lbu t0, 0(t0)
+            beq t0, zero, write     # the call takes it from here, and comes back for this function
+            addi a2, a2, 1
+            j measure
+
+# ---- calls of the kernel: the number goes into a7
+
+exit:       li a7, 2
+            ecall
+write:      li a7, 16
+            ecall
+            ret
+link:       li a7, 19
+            ecall
+            ret
+
+# ---- data
+
+message:    .ascii "ln: failed\n\0"

@@ -1,0 +1,132 @@
+//! Sessions at a shell: the programs of `data/` are assembled and put on images, machines boot from these, and what is typed
+//! at their consoles shows what each program does.
+//!
+//! Standard input has sessions, with an empty line between two. The first line of one is its title, the second `boot IMAGE
+//! FRAMES`, and the others are a script as `xv6 flat` takes it. Images are `xv6.img` and `small.img`, and `left.img`, which
+//! the session before left. Of each session the title is printed, the console's bytes with a line end behind them, and a line
+//! that says how it ended, how many frames were free then, and what the image that it leaves uses.
+#![tactic(auto)]
+
+mod desk;
+mod session;
+mod starved;
+
+use anyhow::{Context, ensure};
+use blockdev::MemDisk;
+use desk::Desk;
+use linked_list_allocator::LocalHeap;
+use session::{Session, Shown, play_on};
+use starved::{Starved, TOO_LITTLE};
+use std::alloc::Global;
+use std::io;
+use std::io::{BufWriter, Write};
+use std::rt::Files;
+use sv39::{Plain, Tlb, Translate};
+
+/// The programs: each is assembled from the text of this name with `.s` behind it.
+const PROGRAMS: [&str; 10] = [
+    "init", "sh", "cat", "echo", "ls", "ln", "rm", "mkdir", "kill", "forktest",
+];
+
+/// What the last session left.
+const LEFT: &str = "left.img";
+
+// Assembles the programs, and makes the images: one as `make image` does, and one with little room.
+fn prepare<R: Files + AllocGlobal>(alloc: Global, desk: &mut Desk<'_, R>) -> anyhow::Result<()> {
+    for name in PROGRAMS {
+        let text = format!(in alloc; "{name}.s")?;
+        desk.assemble(text.as_str(), name)?;
+    }
+    desk.make("manifest", (2000, 200), "xv6.img")?;
+    desk.make("small", (64, 16), "small.img")
+}
+
+// Plays a session on a disk in memory: what is shown, and the image that is left.
+fn play_plainly<T: Translate + Drop>(
+    alloc: Global,
+    session: &Session<'_>,
+    image: &[u8],
+    translator: T,
+) -> anyhow::Result<(Shown, Vec<u8>)> {
+    let disk = MemDisk::new(Vec::from_slice(alloc, image)?)?;
+    let (shown, disk) = play_on(alloc, session, disk, translator)?;
+    Ok((shown, disk.into_bytes()))
+}
+
+// Plays it on a disk behind a cache without memory.
+fn play_starved(
+    alloc: Global,
+    session: &Session<'_>,
+    image: &[u8],
+) -> anyhow::Result<(Shown, Vec<u8>)> {
+    let heap = LocalHeap::new(alloc, TOO_LITTLE)?;
+    let disk = Starved::new(alloc, &heap, image)?;
+    let (shown, disk) = play_on(alloc, session, disk, Plain::new())?;
+    Ok((shown, disk.into_bytes()?))
+}
+
+// Plays a session on each kind of machine: all have to show the same, and to leave the same image.
+fn play(alloc: Global, session: &Session<'_>, image: &[u8]) -> anyhow::Result<(Shown, Vec<u8>)> {
+    let played = play_plainly(alloc, session, image, Plain::new())?;
+    let remembered = play_plainly(alloc, session, image, Tlb::<64>::new())?;
+    ensure!(
+        remembered == played,
+        "it differs where translations are remembered"
+    );
+    let starved = play_starved(alloc, session, image)?;
+    ensure!(
+        starved == played,
+        "it differs where the block cache has no memory"
+    );
+    Ok(played)
+}
+
+// Prints what a session shows, and what the image that it leaves uses.
+fn print<W: Write>(
+    alloc: Global,
+    session: &Session<'_>,
+    shown: &Shown,
+    left: &[u8],
+    out: &mut W,
+) -> anyhow::Result<()> {
+    let used = image::check(alloc, &mut MemDisk::new(Vec::from_slice(alloc, left)?)?)?;
+    writeln!(out, "{}", session.title)?;
+    out.write_all(shown.console.as_slice())?;
+    match shown.ended {
+        None => write!(out, "\n[running, ")?,
+        Some(status) => write!(out, "\n[process 1 ended with {status}, ")?,
+    }
+    let (free, inodes, blocks) = (shown.free, used.inodes, used.blocks);
+    writeln!(
+        out,
+        "{free} frames free, {inodes} inodes and {blocks} blocks in use]\n"
+    )?;
+    Ok(())
+}
+
+// Does what a paragraph of standard input asks for.
+fn show<R: Files + AllocGlobal, W: Write>(
+    alloc: Global,
+    desk: &mut Desk<'_, R>,
+    paragraph: &str,
+    out: &mut W,
+) -> anyhow::Result<()> {
+    let session = Session::read(paragraph).context("a session has a title, an image and a script")?;
+    let image = desk.file(session.image)?;
+    let (shown, left) = play(alloc, &session, image.as_slice()).context(session.title)?;
+    print(alloc, &session, &shown, left.as_slice(), out)?;
+    desk.keep(LEFT, left)
+}
+
+fn main(rt: HostRuntime) -> anyhow::Result<()> {
+    let alloc = rt.alloc();
+    let mut desk = Desk::new(&rt);
+    prepare(alloc, &mut desk)?;
+    let text = io::read_to_string(alloc, rt.reader())?;
+    let mut out = BufWriter::new(alloc, io::writer(&rt))?;
+    for paragraph in text.as_str().split("\n\n") {
+        show(alloc, &mut desk, paragraph, &mut out)?;
+    }
+    out.flush()?;
+    Ok(())
+}
