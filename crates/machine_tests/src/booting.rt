@@ -5,7 +5,7 @@ use crate::translators::Noting;
 use asm::write_elf;
 use blockdev::{FlakyDisk, MemDisk};
 use console::Writer;
-use image::{Entry, ImageFault, Manifest, Thing, make};
+use image::{Entry, ImageFault, Manifest, Summary, Thing, check, make};
 use machine::{BootFault, Halt, boot};
 use ram::{FrameNo, Ram};
 use std::alloc::Global;
@@ -68,11 +68,22 @@ fn ends<T: Translate + Drop>(alloc: Global, image: &[u8], translator: T) -> Opti
     Some(ended && out.into_inner().as_slice().is_empty())
 }
 
+// What is in use of an image.
+fn used(alloc: Global, image: &[u8]) -> Option<Summary> {
+    let mut disk = disk_of(alloc, image)?;
+    check(alloc, &mut disk).ok()
+}
+
 #[test]
 fn init_has_no_descriptors(rt: HostRuntime) {
+    const USED: Summary = Summary {
+        inodes: 2,
+        blocks: 6,
+    };
     let alloc = rt.alloc();
     let image = image_of(alloc, INIT).expect(&rt, "an image");
     let image = image.as_slice();
+    holds_at(&rt, 3, used(alloc, image) == Some(USED));
     holds_at(&rt, 0, ends(alloc, image, Plain::new()) == Some(true));
     holds_at(&rt, 1, ends(alloc, image, Tlb::<64>::new()) == Some(true));
     holds_at(

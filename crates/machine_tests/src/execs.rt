@@ -47,6 +47,38 @@ const CODE: Perm = Perm {
     u: true,
 };
 
+// A file whose program stores to its stack, which it may, and to its own page, which it may not.
+const STORING: [[u64; 4]; 9] = [
+    [NAME_OF_3, NEW, 0, OPEN],
+    [3, NAME_OF_3 + 16, 128, WRITE],
+    [NAME_OF_3, NAME_OF_3 + 8, 0, EXEC],
+    // p, no arguments, and the file's header
+    [0x70, 0, 0x10102464c457f, 0],
+    [0x100f30002, 0, 64, 0],
+    // load, R and X
+    [0x38004000000000, 1, 0x500000001, 120],
+    // sb zero, 0(sp); sb zero, 0(zero)
+    [0, 0, 8, 8],
+    [0x1000, 0x0000_0023_0001_0023, 0, 0],
+    [0, 0, 0, 0],
+];
+
+const NAME_OF_3: u64 = 32 + 32 * 3;
+
+#[test]
+fn a_page_without_w_is_not_written(rt: HostRuntime) {
+    const ACTS: [Act; 7] = [
+        Steps(3 * NEXT_CALL),
+        Answer(1, 0),
+        Steps(1),
+        Pc(1, 4),
+        Halts(Halt::InitEnded(-1)),
+        Pc(1, 4),
+        Page(1, 0, CODE, &[0x23, 0, 1, 0, 0x23, 0, 0, 0]),
+    ];
+    run(&rt, Program::Calls(&STORING), &ACTS);
+}
+
 // The strings of the two arguments stand below the end of the stack's page, and their pointers below them.
 #[test]
 fn executes_a_file(rt: HostRuntime) {

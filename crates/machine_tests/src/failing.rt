@@ -184,13 +184,13 @@ fn fails_in_turn(rt: &(impl Abort + AllocGlobal), asked: Asked) {
         if good < MOUNTING {
             holds_at(rt, row, course == Course::Stays);
         } else if course == Course::Stops {
-            holds_at(rt, row, stops == good.wrapping_sub(MOUNTING));
             stops = stops.wrapping_add(1);
         } else {
-            holds_at(rt, row, course == Course::Ends);
+            holds_at(rt, row, course == Course::Ends && stops > 0);
+            return;
         }
     }
-    holds_at(rt, 0, stops > 0);
+    holds_at(rt, ACCESSES as usize, false);
 }
 
 #[test]

@@ -4,12 +4,13 @@ use crate::play::Act::{
     Size, Steps,
 };
 use crate::play::{Act, Program, READY, ROOM, RUNNING, holds_at, prints, run};
+use crate::translators::Counting;
 use console::Writer;
 use machine::{Halt, Perm, ProcessState, boot_flat, boot_flat_with};
 use ram::{FrameNo, Ram};
 use std::alloc::Global;
 use std::cell::Cell;
-use sv39::{Fault, Tlb, Translate, walk};
+use sv39::{Tlb, Translate};
 use unixmodel::event::Event;
 use unixmodel::trap::Access;
 
@@ -161,43 +162,12 @@ fn halts_where_the_console_fails(rt: HostRuntime) {
     prints(&rt, HI, (64, 1), &ACTS, b"h");
 }
 
-// Walks, and counts the fetches and the fences.
-#[derive(Drop)]
-struct Counting<'a> {
-    fetches: &'a Cell<u32>,
-    fences: &'a Cell<u32>,
-}
-
-impl Translate for Counting<'_> {
-    ghost held = { λ _ _. ⊥ };
-
-    fn translate(
-        &mut self,
-        ram: &Ram,
-        root: FrameNo,
-        va: u64,
-        access: Access,
-    ) -> Result<u64, Fault> {
-        if access == Access::Fetch {
-            self.fetches.set(self.fetches.get().wrapping_add(1));
-        }
-        walk(ram, root, va, access)
-    }
-
-    fn fence(&mut self) {
-        self.fences.set(self.fences.get().wrapping_add(1));
-    }
-}
-
 // The first of nine steps is a turn, and each of the others is an instruction: boot and the turn may fence, and the end of the
 // process, but no instruction between them.
 #[test]
 fn each_fetch_is_translated_and_no_step_fences(rt: HostRuntime) {
     let (fetches, fences) = (Cell::new(0), Cell::new(0));
-    let counting = Counting {
-        fetches: &fetches,
-        fences: &fences,
-    };
+    let counting = Counting::new(&fetches, &fences);
     let mut machine = boot_flat_with(rt.alloc(), &BYTES, counting, 64).expect(&rt, "a machine");
     let mut out = Writer::new(Vec::new(rt.alloc()));
     let begun = machine.run(&[Event::Step; 1], &mut out);

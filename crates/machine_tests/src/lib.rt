@@ -18,6 +18,8 @@ mod links;
 #[cfg(test)]
 mod naming;
 #[cfg(test)]
+mod nodes;
+#[cfg(test)]
 mod paths;
 #[cfg(test)]
 mod pipes;

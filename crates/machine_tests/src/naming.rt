@@ -1,8 +1,6 @@
 //! Calls on names, and on what descriptors are open on.
-use crate::play::Act::{Answer, Bytes, Steps};
-use crate::play::{
-    Act, FSTAT, MINUS_ONE, MKDIR, MKNOD, NEXT_CALL, PIPE, Program, expect_answers, run,
-};
+use crate::play::Act::{Answers, Bytes};
+use crate::play::{Act, FSTAT, MINUS_ONE, MKDIR, MKNOD, OPEN, PIPE, Program, expect_answers, run};
 
 const DONE: (u64, u32) = (0, 55);
 
@@ -72,19 +70,25 @@ fn makes_thirteen_devices(rt: HostRuntime) {
     expect_answers(&rt, 64, &CALLS, &ANSWERS);
 }
 
-// The console is device 1's node 2, of type 3 and with one link.
+// The console is device 1's node 2, of type 3 and with one link; the root its node 1, of type 1, with 48 bytes. A slash stands behind
+// the calls.
 #[test]
 fn tells_what_a_descriptor_is_open_on(rt: HostRuntime) {
     const BUFFER: u64 = 0x2000;
-    const CALLS: [[u64; 4]; 1] = [[0, BUFFER, 0, FSTAT]];
-    const ACTS: [Act; 3] = [
-        Steps(NEXT_CALL),
-        Answer(1, 0),
+    const CALLS: [[u64; 4]; 4] = [
+        [0, BUFFER, 0, FSTAT],
+        [128, 0, 0, OPEN],
+        [3, BUFFER + 24, 0, FSTAT],
+        [0x2f, 0, 0, 0],
+    ];
+    const ACTS: [Act; 2] = [
+        Answers(&[0, 3, 0]),
         Bytes(
             1,
             BUFFER,
             &[
-                1, 0, 0, 0, 2, 0, 0, 0, 3, 0, 1, 0, 0, 0, 0, 0, 0, 0, 0, 0, 0, 0, 0, 0,
+                1, 0, 0, 0, 2, 0, 0, 0, 3, 0, 1, 0, 0, 0, 0, 0, 0, 0, 0, 0, 0, 0, 0, 0, 1, 0, 0, 0,
+                1, 0, 0, 0, 1, 0, 1, 0, 0, 0, 0, 0, 0x30, 0, 0, 0, 0, 0, 0, 0,
             ],
         ),
     ];

@@ -1,5 +1,10 @@
 //! Paths: what open and chdir find, make and refuse.
-use crate::play::{CHDIR, CLOSE, MINUS_ONE, MKDIR, MKNOD, OPEN, READ, WRITE, expect_answers};
+use crate::play::Act::{Answers, Node, Steps};
+use crate::play::{
+    Act, CHDIR, CLOSE, MINUS_ONE, MKDIR, MKNOD, NEXT_CALL, OPEN, Program, READ, UNLINK, WRITE,
+    expect_answers, run,
+};
+use machine::Stat;
 
 const CREATE: u64 = 0x200;
 
@@ -17,47 +22,74 @@ const THIRD: (u64, u32) = (3, 55);
 
 const CLOSE_THIRD: [u64; 4] = [3, 0, 0, CLOSE];
 
-// Thirteen numbers of the disk are free, 3 to 15. Behind the calls stand the names: one letter each.
+// Thirteen numbers of the disk are free, 3 to 15: a file for each, and no more; then the third goes, which has number 5, and
+// the last is made in its place. Behind the calls stand the names: one letter each.
+const FOURTEEN: [[u64; 4]; 33] = [
+    [960, NEW, 0, OPEN],
+    CLOSE_THIRD,
+    [968, NEW, 0, OPEN],
+    CLOSE_THIRD,
+    [976, NEW, 0, OPEN],
+    CLOSE_THIRD,
+    [984, NEW, 0, OPEN],
+    CLOSE_THIRD,
+    [992, NEW, 0, OPEN],
+    CLOSE_THIRD,
+    [1000, NEW, 0, OPEN],
+    CLOSE_THIRD,
+    [1008, NEW, 0, OPEN],
+    CLOSE_THIRD,
+    [1016, NEW, 0, OPEN],
+    CLOSE_THIRD,
+    [1024, NEW, 0, OPEN],
+    CLOSE_THIRD,
+    [1032, NEW, 0, OPEN],
+    CLOSE_THIRD,
+    [1040, NEW, 0, OPEN],
+    CLOSE_THIRD,
+    [1048, NEW, 0, OPEN],
+    CLOSE_THIRD,
+    [1056, NEW, 0, OPEN],
+    CLOSE_THIRD,
+    [1064, NEW, 0, OPEN],
+    [976, 0, 0, UNLINK],
+    [1064, NEW, 0, OPEN],
+    [0x61, 0x62, 0x63, 0x64],
+    [0x65, 0x66, 0x67, 0x68],
+    [0x69, 0x6a, 0x6b, 0x6c],
+    [0x6d, 0x6e, 0, 0],
+];
+
 #[test]
 fn makes_a_file_for_each_free_number(rt: HostRuntime) {
-    const CALLS: [[u64; 4]; 31] = [
-        [896, NEW, 0, OPEN],
-        CLOSE_THIRD,
-        [904, NEW, 0, OPEN],
-        CLOSE_THIRD,
-        [912, NEW, 0, OPEN],
-        CLOSE_THIRD,
-        [920, NEW, 0, OPEN],
-        CLOSE_THIRD,
-        [928, NEW, 0, OPEN],
-        CLOSE_THIRD,
-        [936, NEW, 0, OPEN],
-        CLOSE_THIRD,
-        [944, NEW, 0, OPEN],
-        CLOSE_THIRD,
-        [952, NEW, 0, OPEN],
-        CLOSE_THIRD,
-        [960, NEW, 0, OPEN],
-        CLOSE_THIRD,
-        [968, NEW, 0, OPEN],
-        CLOSE_THIRD,
-        [976, NEW, 0, OPEN],
-        CLOSE_THIRD,
-        [984, NEW, 0, OPEN],
-        CLOSE_THIRD,
-        [992, NEW, 0, OPEN],
-        CLOSE_THIRD,
-        [1000, NEW, 0, OPEN],
-        [0x61, 0x62, 0x63, 0x64],
-        [0x65, 0x66, 0x67, 0x68],
-        [0x69, 0x6a, 0x6b, 0x6c],
-        [0x6d, 0x6e, 0, 0],
-    ];
-    const ANSWERS: [(u64, u32); 27] = [
+    const ANSWERS: [(u64, u32); 29] = [
         THIRD, DONE, THIRD, DONE, THIRD, DONE, THIRD, DONE, THIRD, DONE, THIRD, DONE, THIRD, DONE,
         THIRD, DONE, THIRD, DONE, THIRD, DONE, THIRD, DONE, THIRD, DONE, THIRD, DONE, REFUSED,
+        DONE, THIRD,
     ];
-    expect_answers(&rt, 64, &CALLS, &ANSWERS);
+    expect_answers(&rt, 64, &FOURTEEN, &ANSWERS);
+}
+
+#[test]
+fn gives_the_lowest_free_number(rt: HostRuntime) {
+    const FILE: Stat = Stat {
+        kind: 2,
+        links: 1,
+        size: 0,
+    };
+    const ACTS: [Act; 10] = [
+        Steps(24 * NEXT_CALL),
+        Node(3, Some(FILE)),
+        Node(14, Some(FILE)),
+        Node(15, None),
+        Steps(3 * NEXT_CALL),
+        Node(15, Some(FILE)),
+        Answers(&[0]),
+        Node(5, None),
+        Answers(&[3]),
+        Node(5, Some(FILE)),
+    ];
+    run(&rt, Program::Calls(&FOURTEEN), &ACTS);
 }
 
 // A name is cut to 14 bytes, and a path has 127 at most. Behind the calls stand `abcdefghijklmno`, `abcdefghijklmn`, `q`, `z`, and 128

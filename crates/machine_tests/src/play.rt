@@ -1,10 +1,11 @@
 //! Programs, and runs of them: a list of acts, each of which does something to the machine or looks at it.
-use crate::translators::Noting;
+use crate::translators::{Counting, Noting};
 use blockdev::MemDisk;
 use console::Writer;
 use machine::{Halt, Machine, Perm, ProcessState, Seen, Stat, boot_flat_with};
 use ram::{FRAME_SIZE, FrameNo, Ram};
 use std::alloc::{AllocError, Global};
+use std::cell::Cell;
 use std::io;
 use std::io::Write;
 use std::process::Abort;
@@ -151,6 +152,8 @@ pub(crate) enum Act<'a> {
     Halts(Halt),
     /// A list of events, and why the machine stops at one of them, if it does.
     Runs(&'a [Event], Option<Halt>),
+    /// What the next calls of a list answer.
+    Answers(&'a [u64]),
     /// How many frames are free.
     Free(u32),
     /// What stands in a0 of the process with this pid.
@@ -436,6 +439,16 @@ impl<T: Translate + Drop> Play<T> {
         }
     }
 
+    // Whether the next calls of a list answer so.
+    fn answers(&mut self, answers: &[u64]) -> bool {
+        for a0 in answers {
+            if !self.steps(NEXT_CALL) || !self.tells(Act::Answer(1, *a0)) {
+                return false;
+            }
+        }
+        true
+    }
+
     fn is_mute(&mut self) -> bool {
         let mut out = [UNTOLD; MOST_READ];
         self.machine.stat_inode(1) == Err(Halt::Halted)
@@ -451,6 +464,7 @@ impl<T: Translate + Drop> Play<T> {
             Act::Keys(keys) => self.keys(keys),
             Act::Halts(why) => stops(self.event(Event::Step), Some(why)),
             Act::Runs(events, why) => stops(self.runs(events), why),
+            Act::Answers(answers) => self.answers(answers),
             Act::Node(number, stat) => self.machine.stat_inode(number) == Ok(stat),
             Act::Reads(number, at, room, bytes) => self.reads(number, at, room, bytes),
             Act::Mute => self.is_mute(),
@@ -547,6 +561,10 @@ fn run_over_each(
     run_over(rt, program, Tlb::<64>::new(), size, acts, text);
     run_over(rt, program, Noting::new(alloc, 0), size, acts, text);
     run_over(rt, program, Noting::new(alloc, AHEAD), size, acts, text);
+    let (fetches, fences) = (Cell::new(0), Cell::new(0));
+    let counting = Counting::new(&fetches, &fences);
+    run_over(rt, program, counting, size, acts, text);
+    holds_at(rt, 0, fences.get() > 0);
 }
 
 /// Boots a program in 64 frames, over each translator, and does these acts.
@@ -594,4 +612,8 @@ pub(crate) fn expect_answers(
     expect_answers_over(rt, frames, Tlb::<64>::new(), calls, answers);
     expect_answers_over(rt, frames, Noting::new(alloc, 0), calls, answers);
     expect_answers_over(rt, frames, Noting::new(alloc, AHEAD), calls, answers);
+    let (fetches, fences) = (Cell::new(0), Cell::new(0));
+    let counting = Counting::new(&fetches, &fences);
+    expect_answers_over(rt, frames, counting, calls, answers);
+    holds_at(rt, 0, fetches.get() > 0 && fences.get() > 0);
 }

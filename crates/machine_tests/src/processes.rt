@@ -147,6 +147,72 @@ fn parent_and_child_store_to_pages_of_their_own(rt: HostRuntime) {
     run(&rt, Program::Words(&STORES, &[]), &ACTS);
 }
 
+// Six forks, a pipe and a seventh fork; each child stores its pid at 0x700 and at 0x2100, and then turns round.
+const SIX: [u32; 18] = [
+    0x0060_0293, // addi t0, zero, 6
+    0x0010_0893, // addi a7, zero, 1
+    0x0000_0073, // ecall
+    0x0205_0263, // beq  a0, zero, 36
+    0xfff2_8293, // addi t0, t0, -1
+    0xfe02_9ae3, // bne  t0, zero, -12
+    0x0000_2537, // lui  a0, 2
+    0x0040_0893, // addi a7, zero, 4
+    0x0000_0073, // ecall
+    0x0010_0893, // addi a7, zero, 1
+    0x0000_0073, // ecall
+    0x0000_006f, // jal  zero, 0
+    0x00b0_0893, // addi a7, zero, 11
+    0x0000_0073, // ecall
+    0x0000_22b7, // lui  t0, 2
+    0x70a0_0023, // sb   a0, 0x700(zero)
+    0x10a2_8023, // sb   a0, 0x100(t0)
+    0x0000_006f, // jal  zero, 0
+];
+
+// With no frame left each store finds one, and its byte is in that process alone.
+#[test]
+fn six_children_store_to_pages_of_their_own(rt: HostRuntime) {
+    const ACTS: [Act; 36] = [
+        Steps(1 + 2 + 6 * 4 + 5),
+        Answer(1, MINUS_ONE),
+        Free(0),
+        Turn,
+        Steps(6),
+        Is(2, RUNNING),
+        Turn,
+        Steps(6),
+        Is(3, RUNNING),
+        Turn,
+        Steps(6),
+        Is(4, RUNNING),
+        Turn,
+        Steps(6),
+        Is(5, RUNNING),
+        Turn,
+        Steps(6),
+        Is(6, RUNNING),
+        Turn,
+        Steps(6),
+        Is(7, RUNNING),
+        Free(0),
+        Bytes(1, 0x700, &[0]),
+        Bytes(1, 0x2100, &[0]),
+        Bytes(2, 0x700, &[2, 0]),
+        Bytes(2, 0x2100, &[2, 0]),
+        Bytes(3, 0x700, &[3, 0]),
+        Bytes(3, 0x2100, &[3, 0]),
+        Bytes(4, 0x700, &[4, 0]),
+        Bytes(4, 0x2100, &[4, 0]),
+        Bytes(5, 0x700, &[5, 0]),
+        Bytes(5, 0x2100, &[5, 0]),
+        Bytes(6, 0x700, &[6, 0]),
+        Bytes(6, 0x2100, &[6, 0]),
+        Bytes(7, 0x700, &[7, 0]),
+        Bytes(7, 0x2100, &[7, 0]),
+    ];
+    run(&rt, Program::Words(&SIX, &[]), &ACTS);
+}
+
 #[test]
 fn a_wait_that_cannot_tell_leaves_the_child(rt: HostRuntime) {
     const ROWS: [Row; 4] = [

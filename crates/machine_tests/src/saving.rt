@@ -3,6 +3,7 @@ use crate::play::Act::{Answer, Halts, Steps};
 use crate::play::{
     Act, EXIT, GETPID, MKDIR, MKNOD, NEXT_CALL, Program, ROOM, WRITE, holds_at, saved,
 };
+use crate::translators::Noting;
 use image::{Entry, Manifest, Summary, Thing, check, make};
 use machine::Halt;
 use std::alloc::{AllocError, Global};
@@ -49,6 +50,8 @@ fn leaves(
     holds_at(rt, 1, check(alloc, &mut disk) == Ok(used));
     let disk = saved(rt, program, Tlb::<64>::new(), ROOM, acts).expect(rt, "a disk");
     holds_at(rt, 2, disk.bytes() == image.as_slice());
+    let disk = saved(rt, program, Noting::new(alloc, 16), ROOM, acts).expect(rt, "a disk");
+    holds_at(rt, 3, disk.bytes() == image.as_slice());
 }
 
 #[test]

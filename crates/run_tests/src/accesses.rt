@@ -1,0 +1,47 @@
+//! How often a machine asks for its disk.
+use crate::disks::{Run, disk_of, holds_at, image_of};
+use crate::sources::READER;
+use blockdev::MemDisk;
+use std::alloc::Global;
+use sv39::Plain;
+use unixmodel::event::Event;
+
+// More steps than the program takes to read the file once more.
+const STEPS: usize = 200;
+
+// Steps until the file was read so often: how often the disk was read until then. `None`: it was written, or not read so often.
+fn reads_until(run: &mut Run<MemDisk, Plain>, rounds: u64) -> Option<u64> {
+    for _ in 0..STEPS {
+        run.event(Event::Step).ok()?;
+        if run.machine.inspect(1)?.registers[20] == rounds {
+            let disk = run.machine.device();
+            return if disk.writes() == 0 {
+                Some(disk.reads())
+            } else {
+                None
+            };
+        }
+    }
+    None
+}
+
+// How often the disk is read as a file of so many bytes is read for the second time, and for the third.
+fn reads_again(alloc: Global, bytes: usize) -> Option<(u64, u64)> {
+    let image = image_of(alloc, READER, bytes, 64)?;
+    let disk = disk_of(alloc, image.as_slice())?;
+    let mut run = Run::boot(alloc, disk, Plain::new(), 64)?;
+    let first = reads_until(&mut run, 1)?;
+    let second = reads_until(&mut run, 2)?;
+    let third = reads_until(&mut run, 3)?;
+    Some((second.wrapping_sub(first), third.wrapping_sub(second)))
+}
+
+// Thirty blocks are held: those of a file of 20 blocks, of its numbers, its inode and its directory are, and those of a file of 32
+// blocks aren't.
+#[test]
+fn what_is_held_is_not_read_again(rt: HostRuntime) {
+    let alloc = rt.alloc();
+    holds_at(&rt, 0, reads_again(alloc, 20 * 1024) == Some((0, 0)));
+    let (second, third) = reads_again(alloc, 32 * 1024).expect(&rt, "reads");
+    holds_at(&rt, 1, second == third && second >= 32);
+}

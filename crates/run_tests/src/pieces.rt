@@ -1,0 +1,193 @@
+//! Generated lists of events, in one piece and in pieces.
+use crate::disks::{Run, disk_of, holds_at, image_of};
+use crate::sources::SERVANT;
+use blockdev::MemDisk;
+use machine::Halt;
+use std::alloc::{AllocError, Global};
+use sv39::{Plain, Tlb, Translate};
+use unixmodel::event::Event;
+
+// How many lists there are, and how many draws each has.
+const LISTS: u64 = 8;
+
+const EVENTS: usize = 400;
+
+// More pids, pages and inodes than a list meets.
+const PIDS: u32 = 40;
+
+const PAGES: u64 = 4;
+
+const NODES: usize = 17;
+
+/// Numbers that look like thrown ones, and are always the same.
+#[derive(Clone, Copy)]
+pub(crate) struct Dice(pub(crate) u64);
+
+impl Dice {
+    /// The next number.
+    pub(crate) fn roll(&mut self) -> usize {
+        self.0 = self
+            .0
+            .wrapping_mul(6_364_136_223_846_793_005)
+            .wrapping_add(1_442_695_040_888_963_407);
+        (self.0 >> 33) as usize
+    }
+}
+
+// What is typed: something to do, keys that edit, and now and then the end.
+const KEYS: [u8; 16] = *b"abcdefgh\n\nach\x7f\x04\x15";
+
+// What happens next: a tick, a key, or some steps.
+fn put_next(events: &mut Vec<Event>, dice: &mut Dice) -> Result<(), AllocError> {
+    let roll = dice.roll();
+    match roll % 16 {
+        0 => events.push(Event::Tick)?,
+        1..=3 => events.push(Event::Key(KEYS[roll / 16 % 16]))?,
+        4 if roll / 16 % 64 == 0 => events.push(Event::Key(b'x'))?,
+        _ => {
+            for _ in 0..roll / 16 % 32 {
+                events.push(Event::Step)?;
+            }
+        }
+    }
+    Ok(())
+}
+
+fn generated(alloc: Global, dice: &mut Dice) -> Result<Vec<Event>, AllocError> {
+    let mut events = Vec::new(alloc);
+    for _ in 0..EVENTS {
+        put_next(&mut events, dice)?;
+    }
+    Ok(events)
+}
+
+// The events in pieces, of which none is longer than the mask, up to the one at which the machine stops.
+fn run_pieces<T: Translate + Drop>(
+    run: &mut Run<MemDisk, T>,
+    events: &[Event],
+    dice: &mut Dice,
+    mask: usize,
+) -> Result<(), Halt> {
+    let mut rest = events;
+    for _ in 0..events.len() {
+        let (front, behind) = rest.split_at(rest.len().min(dice.roll() & mask));
+        run.run(front)?;
+        rest = behind;
+    }
+    run.run(rest)
+}
+
+// Whether a page of a process is the same in both.
+fn is_same_page<T: Translate + Drop, U: Translate + Drop>(
+    one: &Run<MemDisk, T>,
+    other: &Run<MemDisk, U>,
+    pid: u32,
+    page: u64,
+) -> bool {
+    match (one.machine.peek(pid, page), other.machine.peek(pid, page)) {
+        (Some((bytes, marks)), Some((others, same))) => bytes == others && marks == same,
+        (None, None) => true,
+        _ => false,
+    }
+}
+
+// Whether processes, their pages and the count of free frames are the same in both.
+fn is_like<T: Translate + Drop, U: Translate + Drop>(
+    one: &Run<MemDisk, T>,
+    other: &Run<MemDisk, U>,
+) -> bool {
+    for pid in 0..PIDS {
+        if one.machine.inspect(pid) != other.machine.inspect(pid) {
+            return false;
+        }
+        for page in 0..PAGES {
+            if !is_same_page(one, other, pid, page) {
+                return false;
+            }
+        }
+    }
+    one.machine.free_frames() == other.machine.free_frames()
+}
+
+// Whether a node has the same type, links, size and first bytes in both.
+fn is_same_node<T: Translate + Drop, U: Translate + Drop>(
+    one: &mut Run<MemDisk, T>,
+    other: &mut Run<MemDisk, U>,
+    number: usize,
+) -> bool {
+    let (mut bytes, mut others) = ([0; 4096], [0; 4096]);
+    one.machine.stat_inode(number) == other.machine.stat_inode(number)
+        && one.machine.read_inode(number, 0, &mut bytes)
+            == other.machine.read_inode(number, 0, &mut others)
+        && bytes == others
+}
+
+/// Whether all files are the same in both.
+pub(crate) fn has_same_files<T: Translate + Drop, U: Translate + Drop>(
+    one: &mut Run<MemDisk, T>,
+    other: &mut Run<MemDisk, U>,
+) -> bool {
+    for number in 0..NODES {
+        if !is_same_node(one, other, number) {
+            return false;
+        }
+    }
+    true
+}
+
+// Whether both printed the same, and leave the same disk.
+fn leaves_same<T: Translate + Drop, U: Translate + Drop>(
+    one: Run<MemDisk, T>,
+    other: Run<MemDisk, U>,
+) -> bool {
+    let Run { machine, out } = one;
+    let Run {
+        machine: beside,
+        out: printed,
+    } = other;
+    match (machine.save(), beside.save()) {
+        (Ok(disk), Ok(same)) => {
+            disk.bytes() == same.bytes()
+                && out.into_inner().as_slice() == printed.into_inner().as_slice()
+        }
+        _ => false,
+    }
+}
+
+// Whether two runs that ended so are alike in all that can be seen.
+fn is_even<T: Translate + Drop, U: Translate + Drop>(
+    mut one: Run<MemDisk, T>,
+    mut other: Run<MemDisk, U>,
+) -> bool {
+    is_like(&one, &other) && has_same_files(&mut one, &mut other) && leaves_same(one, other)
+}
+
+// Whether a generated list of events gives the same in one piece and in pieces that are no longer than a mask; and whether it
+// stopped the machine.
+fn in_pieces(alloc: Global, image: &[u8], seed: u64, mask: usize) -> Option<(bool, bool)> {
+    let mut dice = Dice(seed);
+    let events = generated(alloc, &mut dice).ok()?;
+    let mut whole = Run::boot(alloc, disk_of(alloc, image)?, Plain::new(), 64)?;
+    let mut parted = Run::boot(alloc, disk_of(alloc, image)?, Tlb::<64>::new(), 64)?;
+    let end = whole.run(&events);
+    let same = run_pieces(&mut parted, &events, &mut dice, mask);
+    Some((end == same && is_even(whole, parted), end.is_err()))
+}
+
+// In pieces of up to 63 events, and of one.
+#[test]
+fn pieces_give_what_the_whole_gives(rt: HostRuntime) {
+    let alloc = rt.alloc();
+    let image = image_of(alloc, SERVANT, 17_000, 32).expect(&rt, "an image");
+    let mut stops = 0u64;
+    for seed in 0..LISTS {
+        let mask = if seed % 2 == 0 { 63 } else { 1 };
+        let (same, halts) = in_pieces(alloc, image.as_slice(), seed, mask).expect(&rt, "runs");
+        holds_at(&rt, seed as usize, same);
+        if halts {
+            stops = stops.wrapping_add(1);
+        }
+    }
+    // some lists end the program, and others don't
+    holds_at(&rt, LISTS as usize, 0 < stops && stops < LISTS);
+}

@@ -1,0 +1,66 @@
+//! What is told of files that a machine holds or fills, and what is saved of them.
+use crate::disks::{Run, disk_of, holds_at, image_of};
+use crate::sources::{FILLER, HOLDER};
+use blockdev::MemDisk;
+use image::{Summary, check};
+use machine::{ProcessState, Stat};
+use std::alloc::Global;
+use sv39::Plain;
+
+// Enough steps for these programs.
+const STEPS: usize = 60;
+
+// The number that the held file gets: 1 is the root's, 2 and 3 are those of `/init` and `/big`.
+const HELD: usize = 4;
+
+// A machine that holds a file of one byte without a name, and is given up. `None`: it is otherwise.
+fn held(alloc: Global, disk: MemDisk) -> Option<MemDisk> {
+    let mut run = Run::boot(alloc, disk, Plain::new(), 64)?;
+    let stat = Stat {
+        kind: 2,
+        links: 0,
+        size: 1,
+    };
+    if !run.steps(STEPS) || run.machine.stat_inode(HELD) != Ok(Some(stat)) {
+        return None;
+    }
+    let Run { machine, out: _ } = run;
+    machine.save().ok()
+}
+
+// The disk is that of the image, of which `check` tells what is in use: the held file's inode and block aren't.
+#[test]
+fn what_is_held_without_a_name_is_not_saved(rt: HostRuntime) {
+    const USED: Summary = Summary {
+        inodes: 3,
+        blocks: 7,
+    };
+    let alloc = rt.alloc();
+    let image = image_of(alloc, HOLDER, 1, 32).expect(&rt, "an image");
+    let mut disk = disk_of(alloc, image.as_slice()).expect(&rt, "a disk");
+    for row in 0..3 {
+        holds_at(&rt, row, check(alloc, &mut disk) == Ok(USED));
+        disk = held(alloc, disk).expect(&rt, "a saved disk");
+    }
+    holds_at(&rt, 3, check(alloc, &mut disk) == Ok(USED));
+}
+
+#[test]
+fn a_file_has_at_most_274432_bytes(rt: HostRuntime) {
+    let alloc = rt.alloc();
+    let image = image_of(alloc, FILLER, 274_431, 400).expect(&rt, "an image");
+    let disk = disk_of(alloc, image.as_slice()).expect(&rt, "a disk");
+    let mut run = Run::boot(alloc, disk, Plain::new(), 128).expect(&rt, "a machine");
+    holds_at(&rt, 0, run.steps(STEPS));
+    let seen = run.machine.inspect(1).expect(&rt, "process 1");
+    holds_at(&rt, 1, seen.state == ProcessState::Running);
+    holds_at(&rt, 2, seen.registers[18] == 274_431);
+    holds_at(&rt, 3, seen.registers[19] == 1);
+    holds_at(&rt, 4, seen.registers[20] == u64::MAX);
+    let stat = Stat {
+        kind: 2,
+        links: 1,
+        size: 274_432,
+    };
+    holds_at(&rt, 5, run.machine.stat_inode(3) == Ok(Some(stat)));
+}
