@@ -1,4 +1,4 @@
-"""Disk images of many inodes, blocks and names, written without `xv6 mkfs`."""
+"""Disk images of many inodes, blocks and names, written without `xv6 mkfs`, each with what `xv6 check` says of it."""
 
 import struct
 
@@ -64,13 +64,15 @@ class Image:
         struct.pack_into("<4H14I", self.bytes, place, *fields)
 
     def finish(self, contents):
-        """The whole image, once each inode is written: a directory's places, or the bytes of a file."""
+        """The whole image, once each inode is written: a directory's places, or the bytes of a file. And what `xv6 check`
+        says of it."""
         for number, kind in self.kinds.items():
             places = b"".join(struct.pack("<H14s", to, name) for name, to in self.entries.get(number, []))
             self.put(number, places if kind == DIRECTORY else contents.get(number, b""))
         for block in range(self.next_block):
             self.bytes[BLOCK * self.bitmap + block // 8] |= 1 << block % 8
-        return bytes(self.bytes)
+        told = f"ok {self.next_inode - 1} inodes {self.next_block - self.data} blocks\n"
+        return bytes(self.bytes), told.encode()
 
 
 def many_inodes(inodes):
@@ -83,10 +85,12 @@ def many_inodes(inodes):
     return image.finish({})
 
 
-def many_blocks(size):
-    """An image whose blocks are all in use, by files that are as long as they can be."""
+def many_blocks(size, init=b""):
+    """An image whose blocks are all in use, by files that are as long as they can be, and by the program `init`."""
     image = Image(size, 128)
-    contents, room = {}, image.room() - 1
+    contents = {image.file(1, b"init"): init}
+    blocks = -(-len(init) // BLOCK)
+    room = image.room() - 1 - blocks - (blocks > DIRECT)
     while room > 1:
         blocks = min(MOST_BLOCKS, room - 1)
         contents[image.file(1, b"f%d" % image.next_inode)] = b"x" * BLOCK * blocks

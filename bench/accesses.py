@@ -1,0 +1,83 @@
+"""Tells how often the disk is read and written, with the cache as it is and with one that passes every access through.
+
+No command of `xv6` tells that. So the program `accesses/main.txt` is put into a copy of the crates, and once into another copy
+whose cache holds no block; `rt try` compiles both, and proves nothing.
+"""
+
+import dataclasses
+import pathlib
+import shutil
+import subprocess
+
+from measure import Failed
+
+HERE = pathlib.Path(__file__).resolve().parent
+
+# What the program stands on, as a line of crates.txt says it.
+LISTED = "accesses: blockdev console image machine sv39 texts unixmodel\n"
+
+# What makes of the cache one that passes everything through: it does with each block what it does where there is no memory.
+HOLDING = "self.held.put(n, slot)"
+PASSING = "hold_nothing(slot)"
+HOLD_NOTHING = "\nfn hold_nothing(slot: Slot) -> Result<Slot, Slot> {\n    Err(slot)\n}\n"
+
+# How long the compiled program may run.
+SECONDS = 600
+
+
+@dataclasses.dataclass(frozen=True)
+class Took:
+    """What a job took of its disk, and of time by the clock."""
+
+    reads: int
+    writes: int
+    seconds: float
+
+    def __str__(self):
+        return f"{self.reads} reads, {self.writes} writes, {self.seconds:.3f} s by the clock"
+
+
+def count_both(folder, pairs):
+    """What images and scripts take, in threes: the check of the image, then boot, run and save with the cache, and without."""
+    told = []
+    for name, passes in [("holding", False), ("passing", True)]:
+        (folder / name).mkdir()
+        copy_crates(folder / name, passes)
+        told.append(count(folder / name, pairs))
+    held, passed = told
+    return zip(held[::2], held[1::2], passed[1::2])
+
+
+def copy_crates(folder, passes):
+    """Copies the crates and the program into a folder, with a cache that passes everything through where that is asked for."""
+    top = HERE.parent
+    shutil.copytree(top / "crates", folder / "crates", ignore=shutil.ignore_patterns("out", "must-fail"))
+    (folder / "crates.txt").write_text((top / "crates.txt").read_text() + LISTED)
+    source = folder / "crates" / "accesses" / "src"
+    source.mkdir(parents=True)
+    shutil.copyfile(HERE / "accesses" / "main.txt", source / "main.rt")
+    if passes:
+        pass_through(folder / "crates" / "cache" / "src" / "lib.rt")
+
+
+def pass_through(source):
+    """Makes the cache of a source file one that holds no block."""
+    text = source.read_text()
+    if text.count(HOLDING) != 2:
+        raise Failed(f"{source.name} of the cache holds blocks at other places than two: {HOLDING}")
+    source.write_text(text.replace(HOLDING, PASSING) + HOLD_NOTHING)
+
+
+def count(folder, pairs):
+    """What the checks and the runs of images with their scripts take, by the program in a copy of the crates: two for each."""
+    names, words = [], ["rt", "try", "--seconds", str(SECONDS)]
+    for at, (image, script) in enumerate(pairs):
+        for name, content in [(f"image{at}", image), (f"script{at}", script.encode())]:
+            (folder / name).write_bytes(content)
+            words += ["--data", f"{name}={folder / name}"]
+            names.append(name)
+    ran = subprocess.run([*words, "--", *names], cwd=folder / "crates" / "accesses", capture_output=True, text=True)
+    numbers = [line.split() for line in ran.stdout.splitlines()]
+    if ran.returncode or len(numbers) != 2 * len(pairs):
+        raise Failed(f"rt try: status {ran.returncode}: {ran.stderr.strip()}")
+    return [Took(int(reads), int(writes), int(micros) / 1e6) for reads, writes, micros in numbers]

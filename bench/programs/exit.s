@@ -1,0 +1,5 @@
+# exit: ends at once.
+
+            li a0, 0
+            li a7, 2                # exit
+            ecall

@@ -1,0 +1,253 @@
+"""The table of the benchmark: what is run, and what its time is compared with."""
+
+import dataclasses
+import functools
+import typing
+
+import images
+import texts
+from jobs import HERE, RUNNING, Assembled, Booted, Check, Flat, Mkfs, Program, image_of
+
+USER = HERE.parent / "user"
+
+
+@dataclasses.dataclass(frozen=True)
+class Beside:
+    """A job whose time is told beside that of a row: what it is, at most how often the row's may have its time, and how many
+    units it does, where the cost of one is to be compared."""
+
+    what: str
+    job: typing.Any
+    most: "float | None" = None
+    count: "int | None" = None
+
+
+@dataclasses.dataclass(frozen=True)
+class Row:
+    """A row: its name, its job, how many units of what it does, by which its cost is told, and what stands beside it."""
+
+    name: str
+    job: typing.Any
+    count: int
+    unit: str
+    beside: tuple
+
+
+def beside_plain(name, job, *more, count, unit):
+    """A row of a flat program beside the plain interpreter, and more."""
+    plain = dataclasses.replace(job, plain=True)
+    return Row(name, job, count, unit, (Beside("plain Rust", plain), *more))
+
+
+def copying(job, what="plain Rust whose fork copies"):
+    """The plain interpreter whose forks copy."""
+    return Beside(what, dataclasses.replace(job, plain=True, flags=("--copying",)))
+
+
+# ---- the hart
+
+# How many instructions the two loops take.
+STEPS = 6 * 0x1000000 + 4
+WORD_STEPS = 0x2000 * (8 * 2048 + 4) + 7
+
+
+def hart_rows():
+    for name, program, steps in [
+        ("tight loop", Program("tight", ROUNDS=0x1000000), STEPS),
+        ("memory loop", Program("memory", ROUNDS=0x2000), WORD_STEPS),
+    ]:
+        without = Flat(program)
+        cached = Flat(program, flags=("--tlb",))
+        yield beside_plain(name, without, count=steps, unit="step")
+        yield beside_plain(f"{name} with --tlb", cached, Beside("without --tlb", without, 0.5), count=steps, unit="step")
+        booted = Booted(image_of({"init": program}))
+        yield Row(f"{name} from an image", booted, steps, "step", (Beside("the same by `flat`", without),))
+
+
+# ---- memory and processes
+
+PAGE = 4096
+
+
+def sbrk(before, pages, rounds):
+    return Flat(Program("sbrk", BEFORE=before * PAGE, BYTES=pages * PAGE, ROUNDS=rounds), frames=8192)
+
+
+def fork(pages, touched, rounds):
+    return Flat(Program("fork", BYTES=pages * PAGE, TOUCHED=touched, ROUNDS=rounds), frames=1024)
+
+
+def executing(pages, length):
+    """An image whose process 1 grows by so many pages and forks 1000 children that execute a program of `length` pages."""
+    init = Program("exec", BYTES=pages * PAGE, ROUNDS=1000)
+    program = Program("p", pages=length, LAST=length * PAGE - 1)
+    return Booted(image_of({"init": init, "p": program}), frames=2048)
+
+
+def page_rows():
+    for name, job in [
+        ("clearing frames: sbrk by 4096 pages, 1000 times", sbrk(0, 4096, 1000)),
+        ("sbrk by 64 pages, 64000 times", sbrk(0, 64, 64000)),
+        ("sbrk by 64 pages above 4096 pages, 64000 times", sbrk(4096, 64, 64000)),
+    ]:
+        yield beside_plain(name, job, count=4096000, unit="page")
+    touched = fork(200, 200, 10000)
+    name = "copying frames: fork of 200 pages that the child writes, 10000 times"
+    yield beside_plain(name, touched, copying(touched), count=2000000, unit="page")
+
+
+def process_rows():
+    yield beside_plain("fork and wait, 100000 times", fork(0, 0, 100000), count=100000, unit="child")
+    half = Beside("of 100 pages", fork(100, 0, 10000))
+    shared = fork(200, 0, 10000)
+    yield beside_plain("fork of 200 pages, 10000 times", shared, copying(shared), half, count=10000, unit="child")
+    copied = copying(fork(200, 0, 1000), "plain Rust whose fork copies, and whose child ends at once")
+    smaller = [Beside(f"of {pages} pages", executing(pages, 1)) for pages in [100, 0]]
+    yield Row("fork of 200 pages that execs at once, 1000 times", executing(200, 1), 1000, "child", (copied, *smaller))
+    half = Beside("of 100 pages", executing(0, 100), 2.2)
+    yield Row("exec of a program of 200 pages, 1000 times", executing(0, 200), 1000, "program", (half,))
+
+
+# ---- turns
+
+# How often there is a timer interrupt.
+TICKS = 100_000
+
+
+def ticking(program, steps, before=""):
+    """A program of up to 64 processes with a timer interrupt after each so many steps."""
+    return Flat(program, before + f"step {steps}\ntick 1\n" * TICKS, 1024, end=RUNNING)
+
+
+def turn_rows():
+    counting = "64 processes, 100000 turns of 100 steps"
+    yield beside_plain(counting, ticking(Program("share"), 100), count=TICKS, unit="turn")
+    waiting, alone = [Program("waiting", WAITING=waiting) for waiting in [63, 0]]
+    name = "64 processes of which 63 wait, 100000 turns of 100 steps"
+    yield beside_plain(name, ticking(waiting, 100), count=TICKS, unit="turn")
+    # The first steps are the forks; then each turn picks the one that counts.
+    forks = "step 2000\n"
+    other = Beside("of 1 process", ticking(alone, 2, forks))
+    name = "64 processes of which 63 wait, 100000 turns of 2 steps"
+    yield beside_plain(name, ticking(waiting, 2, forks), other, count=TICKS, unit="turn")
+
+
+# ---- bytes
+
+LINE = "the quick brown fox jumps over the lazy dog\n"
+LINES = 10_000
+ECHO = "echo hi | cat\n"
+COMMANDS = 300
+
+
+def byte_rows():
+    rounds = 200_000
+    piped = Flat(Program("pipe", ROUNDS=rounds, TOTAL=512 * rounds))
+    yield beside_plain("512 bytes through a pipe, 200000 times", piped, count=512 * rounds, unit="byte")
+    script = f"type {LINE}step 30\n" * LINES + "keys 04\nstep 30\n"
+    typed = Flat(Program("echo"), script, stdout=(2 * LINE * LINES).encode() + b"\x04")
+    yield beside_plain("10000 typed lines, read and echoed", typed, count=LINES, unit="line")
+    half = Beside("of half as many", session(COMMANDS // 2), count=COMMANDS // 2)
+    yield Row("300 lines `echo hi | cat` at a shell", session(COMMANDS), COMMANDS, "line", (half,))
+
+
+def session(lines):
+    """An image of the user programs, and a script that types so many lines at the shell."""
+    programs = {text.stem: Program(text.stem, folder=USER) for text in sorted(USER.glob("*.s"))}
+    script = "step 20000\n" + f"type {ECHO}step 20000\n" * lines
+    shown = "init: starting sh\n$ " + f"{ECHO}hi\n$ " * lines
+    return Booted(image_of(programs), script, stdout=shown.encode(), end=RUNNING)
+
+
+# ---- files
+
+
+def rewriting(length, piece, rounds):
+    return Program("rewrite", LENGTH=length, PIECE=piece, ROUNDS=rounds)
+
+
+def naming(files, size, rounds=1):
+    program = Program("names", FILES=files, BYTES=size, ROUNDS=rounds)
+    return Booted(image_of({"init": program}, inodes=1100))
+
+
+def rewriting_rows():
+    """Files that are written and read back, so each byte counts twice."""
+    for piece in [16, 512, 4096]:
+        whole, half = [Flat(rewriting(length, piece, 1000)) for length in [25000, 12500]]
+        name = f"a file of 25000 bytes written and read back in pieces of {piece}, 1000 times"
+        yield Row(name, whole, 50_000_000, "byte", (Beside("of 12500 bytes", half, count=25_000_000),))
+    for piece in [16, 512, 4096]:
+        whole, half = [Booted(image_of({"init": rewriting(length, piece, 100)})) for length in [270000, 135000]]
+        name = f"a file of 270000 bytes written and read back in pieces of {piece}, 100 times"
+        yield Row(name, whole, 54_000_000, "byte", (Beside("of 135000 bytes", half, count=27_000_000),))
+
+
+def name_rows():
+    whole, half = [Flat(Program("remake", ROUNDS=rounds)) for rounds in [100_000, 50_000]]
+    often = Beside("half as often", half, count=50_000)
+    yield Row("a file made and unlinked, 100000 times", whole, 100_000, "file", (often,))
+    ten, five = [Flat(Program("lookup", PARTS=parts, ROUNDS=100_000)) for parts in [10, 5]]
+    yield Row("a path of ten parts, 100000 times", ten, 100_000, "path", (Beside("of five", five, 2.2),))
+    for what, size in [("of no bytes", 0), ("of 100 bytes", 100)]:
+        half = Beside("of 500 files", naming(500, size), count=500)
+        name = f"1000 files {what} made, opened and unlinked in one directory"
+        yield Row(name, naming(1000, size), 1000, "file", (half,))
+
+
+# ---- images and texts
+
+
+def full_with_init(size):
+    return lambda place: images.many_blocks(size, Program("exit").elf(place))
+
+
+def made_full(size, inodes):
+    manifest, told = texts.full_manifest(size, inodes)
+    return Mkfs(manifest, told, {"one": b"1" * 1024, "two": b"2" * 2048}, size, inodes)
+
+
+def making_rows():
+    whole, half = [Booted(full_with_init(size), saves=True) for size in [16384, 8192]]
+    yield Row("boot and save of 16384 blocks", whole, 16384, "block", (Beside("of 8192", half, 2.2),))
+    whole, half = made_full(16384, 8192), made_full(8192, 4096)
+    yield Row("mkfs of 16384 blocks and 8192 inodes", whole, 16384, "block", (Beside("of half of both", half, 2.2),))
+    for name, make in [("devices", texts.flat_manifest), ("directories in one another", texts.chain_manifest)]:
+        whole, half = make(8190), make(4095)
+        other = Beside("of half as many", Mkfs(*half), count=len(half[0]))
+        yield Row(f"mkfs of 8190 {name}", Mkfs(*whole), len(whole[0]), "byte of the manifest", (other,))
+
+
+def checking_rows():
+    for name, make, count, unit in [
+        ("8192 inodes", images.many_inodes, 8192, "inode"),
+        ("16384 blocks", images.many_blocks, 16384, "block"),
+        ("17000 names in a directory", images.many_names, 17000, "name"),
+        ("60 directories of 17000 names", lambda names: images.many_names(names, 60), 17000, "name in each"),
+    ]:
+        whole, half = [Check(functools.partial(make, size)) for size in [count, count // 2]]
+        yield Row(f"check of {name}", whole, count, unit, (Beside("of half as many", half, 2.2),))
+
+
+def text_rows():
+    whole, half = [Assembled(*texts.labelled(count)) for count in [50_000, 25_000]]
+    yield Row("asm of 50000 lines and labels", whole, 50_000, "line", (Beside("of half as many", half, 2.2),))
+
+
+# ---- accesses of the disk
+
+
+def counted_jobs():
+    """The jobs of which it is told how often they ask the disk, by their names."""
+    return {
+        "accesses: 1000 files of 100 bytes made, opened and unlinked, 100 at a time": naming(100, 100, 10),
+        "accesses: 10 lines `echo hi | cat` at a shell": session(10),
+        "accesses: boot and save of 16384 blocks": Booted(full_with_init(16384)),
+    }
+
+
+def all_rows():
+    """Every row, in the order in which they are run."""
+    machines = [hart_rows, page_rows, process_rows, turn_rows, byte_rows]
+    for group in [*machines, rewriting_rows, name_rows, making_rows, checking_rows, text_rows]:
+        yield from group()
