@@ -7,7 +7,8 @@ use ram::{FrameNo, Ram};
 use spaces::Spaces;
 use std::cell::Cell;
 use std::process::Abort;
-use sv39::{Fault, Plain, Translate, walk};
+use sv39::{Plain, Translate};
+use translators::Counting;
 use unixmodel::trap::{Access, Cause, Trap};
 use vm::Perm;
 
@@ -318,35 +319,9 @@ fn takes_registers_and_loses_pages(rt: HostRuntime) {
     assert!(rt; spaces.active().is_none() && spaces.free() == 57);
 }
 
-// Walks, and counts the fences.
-#[derive(Drop)]
-struct Counting<'a> {
-    fences: &'a Cell<u32>,
-}
-
-impl Translate for Counting<'_> {
-    ghost held = { λ _ _. ⊥ };
-
-    fn translate(
-        &mut self,
-        ram: &Ram,
-        root: FrameNo,
-        va: u64,
-        access: Access,
-    ) -> Result<u64, Fault> {
-        walk(ram, root, va, access)
-    }
-
-    fn fence(&mut self) {
-        self.fences.set(self.fences.get().wrapping_add(1));
-    }
-}
-
 // Spaces of one page in places 0 and 1.
-fn counted<'a>(rt: &(impl Abort + AllocGlobal), fences: &'a Cell<u32>) -> Spaces<Counting<'a>> {
-    let mut spaces = Spaces::new(rt.alloc(), memory(rt, 64), Counting { fences }).expect(
-        rt, "counts",
-    );
+fn counted<'a>(rt: &(impl Abort + AllocGlobal), translator: Counting<'a>) -> Spaces<Counting<'a>> {
+    let mut spaces = Spaces::new(rt.alloc(), memory(rt, 64), translator).expect(rt, "counts");
     for at in 0..2 {
         assert!(rt; create(rt, &mut spaces, at) && grow(rt, &mut spaces, at, 4096));
     }
@@ -355,8 +330,8 @@ fn counted<'a>(rt: &(impl Abort + AllocGlobal), fences: &'a Cell<u32>) -> Spaces
 
 #[test]
 fn fences_where_a_translation_goes(rt: HostRuntime) {
-    let fences = Cell::new(0);
-    let mut spaces = counted(&rt, &fences);
+    let (fetches, fences) = (Cell::new(0), Cell::new(0));
+    let mut spaces = counted(&rt, Counting::new(&fetches, &fences));
     assert!(rt; fences.get() == 1);
     activate(&rt, &mut spaces, 1);
     assert!(rt; fences.get() == 2);

@@ -1,7 +1,6 @@
 //! Machines that boot from a disk.
 use crate::hello::{BYTES, stale};
 use crate::play::holds_at;
-use crate::translators::Noting;
 use asm::write_elf;
 use blockdev::{FlakyDisk, MemDisk};
 use console::Writer;
@@ -10,6 +9,7 @@ use machine::{BootFault, Halt, boot};
 use ram::{FrameNo, Ram};
 use std::alloc::Global;
 use sv39::{Plain, Tlb, Translate};
+use translators::Noting;
 use unixmodel::event::Event;
 
 const INIT: &[u8; 5] = b"/init";

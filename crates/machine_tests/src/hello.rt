@@ -4,13 +4,13 @@ use crate::play::Act::{
     Size, Steps,
 };
 use crate::play::{Act, Program, READY, ROOM, RUNNING, holds_at, prints, run};
-use crate::translators::Counting;
 use console::Writer;
 use machine::{Halt, Perm, ProcessState, boot_flat, boot_flat_with};
 use ram::{FrameNo, Ram};
 use std::alloc::Global;
 use std::cell::Cell;
 use sv39::{Tlb, Translate};
+use translators::Counting;
 use unixmodel::event::Event;
 use unixmodel::trap::Access;
 

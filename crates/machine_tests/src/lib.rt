@@ -29,6 +29,5 @@ mod play;
 mod processes;
 #[cfg(test)]
 mod saving;
-pub mod translators;
 #[cfg(test)]
 mod typing;

@@ -1,5 +1,4 @@
 //! Programs, and runs of them: a list of acts, each of which does something to the machine or looks at it.
-use crate::translators::{Counting, Noting};
 use blockdev::MemDisk;
 use console::Writer;
 use machine::{Halt, Machine, Perm, ProcessState, Seen, Stat, boot_flat_with};
@@ -10,6 +9,7 @@ use std::io;
 use std::io::Write;
 use std::process::Abort;
 use sv39::{Plain, Tlb, Translate, walk};
+use translators::{Counting, Noting};
 use unixmodel::event::Event;
 use unixmodel::trap::Access;
 

@@ -3,12 +3,12 @@ use crate::play::Act::{Answer, Halts, Steps};
 use crate::play::{
     Act, EXIT, GETPID, MKDIR, MKNOD, NEXT_CALL, Program, ROOM, WRITE, holds_at, saved,
 };
-use crate::translators::Noting;
 use image::{Entry, Manifest, Summary, Thing, check, make};
 use machine::Halt;
 use std::alloc::{AllocError, Global};
 use std::process::Abort;
 use sv39::{Plain, Tlb};
+use translators::Noting;
 
 // A path, and the numbers of the device that it names; a directory has none.
 type Name<'a> = (&'a [u8], Option<(u16, u16)>);

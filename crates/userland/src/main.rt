@@ -5,6 +5,9 @@
 //! FRAMES`, and the others are a script as `xv6 flat` takes it. Images are `xv6.img` and `small.img`, and `left.img`, which
 //! the session before left. Of each session the title is printed, the console's bytes with a line end behind them, and a line
 //! that says how it ended, how many frames were free then, and what the image that it leaves uses.
+//!
+//! Each is played on six machines, which have to show and to leave the same: over each of five translators, and on a disk beside
+//! a cache without memory.
 #![tactic(auto)]
 
 mod desk;
@@ -18,15 +21,20 @@ use linked_list_allocator::LocalHeap;
 use session::{Session, Shown, play_on};
 use starved::{Starved, TOO_LITTLE};
 use std::alloc::Global;
+use std::cell::Cell;
 use std::io;
 use std::io::{BufWriter, Write};
 use std::rt::Files;
 use sv39::{Plain, Tlb, Translate};
+use translators::{Counting, Noting};
 
 /// The programs: each is assembled from the text of this name with `.s` behind it.
 const PROGRAMS: [&str; 10] = [
     "init", "sh", "cat", "echo", "ls", "ln", "rm", "mkdir", "kill", "forktest",
 ];
+
+/// How many pages a program has at most, with its stack and what it asks for.
+const PAGES: u64 = 8;
 
 /// What the last session left.
 const LEFT: &str = "left.img";
@@ -65,14 +73,34 @@ fn play_starved(
     Ok((shown, disk.into_bytes()?))
 }
 
+// Plays a session over another translator: it has to show the same, and to leave the same image.
+fn play_over<T: Translate + Drop>(
+    alloc: Global,
+    session: &Session<'_>,
+    image: &[u8],
+    translator: T,
+    played: &(Shown, Vec<u8>),
+) -> anyhow::Result<()> {
+    let other = play_plainly(alloc, session, image, translator)?;
+    ensure!(other == *played, "it shows or leaves something else");
+    Ok(())
+}
+
 // Plays a session on each kind of machine: all have to show the same, and to leave the same image.
 fn play(alloc: Global, session: &Session<'_>, image: &[u8]) -> anyhow::Result<(Shown, Vec<u8>)> {
     let played = play_plainly(alloc, session, image, Plain::new())?;
-    let remembered = play_plainly(alloc, session, image, Tlb::<64>::new())?;
-    ensure!(
-        remembered == played,
-        "it differs where translations are remembered"
-    );
+    play_over(alloc, session, image, Tlb::<64>::new(), &played).context(
+        "where translations are remembered",
+    )?;
+    play_over(alloc, session, image, Noting::new(alloc, 0), &played).context(
+        "where the oldest translation is answered",
+    )?;
+    play_over(alloc, session, image, Noting::new(alloc, PAGES), &played).context(
+        "where all pages are noted ahead",
+    )?;
+    let (fetches, fences) = (Cell::new(0), Cell::new(0));
+    let counting = Counting::new(&fetches, &fences);
+    play_over(alloc, session, image, counting, &played).context("where accesses are counted")?;
     let starved = play_starved(alloc, session, image)?;
     ensure!(
         starved == played,

@@ -1,4 +1,4 @@
-use Rattle.machine_tests.proofs.Noted.{inside-kept}
+use Rattle.translators.proofs.Noted.{inside-kept}
 use Rattle.machine_tests.proofs.hello.reads_after.Goals as goal
 
 pub loop-place-init : goal.loop-place-init

@@ -1,6 +1,6 @@
 use Rattle.std.proofs.Common.{◌≡◌, ◌/◌, ◌<◌, length, arith}
 use Rattle.unixmodel.specs.Translation.{Translation}
-use Rattle.machine_tests.proofs.translators.NotingTranslate.translate.Goals as goal
+use Rattle.translators.proofs.noting.NotingTranslate.translate.Goals as goal
 
 pub returns-in-Some-clause-inside : goal.returns-in-Some-clause-inside
 returns-in-Some-clause-inside c =

@@ -2,7 +2,7 @@
 use Rattle.std.specs.Prelude.{List}
 use Rattle.std.specs.List.{Contains}
 use Rattle.unixmodel.specs.Translation.{Held, Translation}
-use Rattle.machine_tests.specs.declared.translators.Note.{Note}
+use Rattle.translators.specs.declared.noting.Note.{Note}
 
 abbrev pub note_of : Translation → Note
 note_of t = record { root = record { 0 = t.root }; page = t.page; access = t.access; frame = record { 0 = t.frame } }

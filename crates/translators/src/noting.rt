@@ -1,12 +1,11 @@
-//! Translators that hold whatever their law allows, and one that counts what it is asked for.
+//! A translator that notes translations, and answers what it noted for as long as nothing fences it.
 ghost use Rattle.std.specs.Prelude.{◌≡◌, ◌+◌, ◌-◌, ◌*◌, ◌/◌, ◌%◌, ◌^◌, ◌<◌, ◌≤◌, [], IfOk, IfSome, length};
 ghost use Rattle.std.specs.Result.{result_ok};
 ghost use Rattle.unixmodel.specs.Translation.{HoldsInside, HoldsNothing, IsAnswer, IsKept};
-ghost use Rattle.machine_tests.specs.Notes.{IsNoted, note_of};
+ghost use Rattle.translators.specs.Notes.{IsNoted, note_of};
 
 use ram::{FrameNo, Ram};
 use std::alloc::Global;
-use std::cell::Cell;
 use sv39::{Access, BASE, Fault, Pa, Translate, walk, walk_page};
 
 /// A translation that was noted.
@@ -101,40 +100,5 @@ impl Translate for Noting {
 
     fn fence(&mut self) {
         self.notes.clear();
-    }
-}
-
-/// Walks, and counts the fetches and the fences.
-#[derive(Drop)]
-pub struct Counting<'a> {
-    fetches: &'a Cell<u32>,
-    fences: &'a Cell<u32>,
-}
-
-impl<'a> Counting<'a> {
-    /// A translator that counts in these two cells.
-    pub fn new(fetches: &'a Cell<u32>, fences: &'a Cell<u32>) -> Counting<'a> {
-        Counting { fetches, fences }
-    }
-}
-
-impl Translate for Counting<'_> {
-    ghost held = { λ _ _. ⊥ };
-
-    fn translate(
-        &mut self,
-        ram: &Ram,
-        root: FrameNo,
-        va: u64,
-        access: Access,
-    ) -> Result<Pa, Fault> {
-        if access == Access::Fetch {
-            self.fetches.set(self.fetches.get().wrapping_add(1));
-        }
-        walk(ram, root, va, access)
-    }
-
-    fn fence(&mut self) {
-        self.fences.set(self.fences.get().wrapping_add(1));
     }
 }

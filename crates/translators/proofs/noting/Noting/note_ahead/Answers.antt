@@ -1,5 +1,5 @@
-use Rattle.machine_tests.proofs.Noted.{kept-then}
-use Rattle.machine_tests.proofs.translators.Noting.note_ahead.Goals as goal
+use Rattle.translators.proofs.Noted.{kept-then}
+use Rattle.translators.proofs.noting.Noting.note_ahead.Goals as goal
 
 pub loop-page-preserved : goal.loop-page-preserved
 loop-page-preserved c =
