@@ -25,7 +25,8 @@ use Rattle.files.proofs.CountsLemmas.{names-none}
 use Rattle.proc.specs.declared.process.Process.{Process}
 use Rattle.proc.specs.declared.table.Reaped.{Reaped}
 use Rattle.proc.specs.Places.{Places, is_child_of, is_zombie_child_of, place_where, reaped_at, reaped_from, without, zombie_place}
-use Rattle.proc.specs.Whole.{cleared-with_table, has_child-with_table, joined, place_where-Some, with_memory, with_table, zombie_child-with_table}
+use Rattle.proc.proofs.Joined.{cleared-with_table, has_child-with_table, place_where-Some, zombie_child-with_table}
+use Rattle.proc.specs.Whole.{joined, with_memory, with_table}
 use Rattle.spaces.specs.Spaces.{Held, frames_in, has_space, held_at, taken_frames, with_held, with_place, written}
 use Rattle.spaces.proofs.SpacesLemmas.{taken-placed}
 use Rattle.unixmodel.specs.Calls.{goes_on}

@@ -26,7 +26,8 @@ use Rattle.files.specs.Places.{opens_of}
 use Rattle.proc.specs.declared.process.Process.{Process}
 use Rattle.proc.specs.Places as table
 use Rattle.proc.specs.Places.{Places, has_pid, orphaned, place_where, with_mark, zombie_of}
-use Rattle.proc.specs.Whole.{change_process-with_table, place_of_pid-with_table, place_where-Some, with_memory, with_table, with_zombie-with_table}
+use Rattle.proc.proofs.Joined.{change_process-with_table, place_of_pid-with_table, place_where-Some, with_zombie-with_table}
+use Rattle.proc.specs.Whole.{with_memory, with_table}
 use Rattle.spaces.specs.Spaces.{Held}
 use Rattle.unixmodel.specs.Calls.{end_at, quiet, settle}
 use Rattle.unixmodel.specs.Counts.{is_within}

@@ -15,7 +15,7 @@ use Rattle.kernel.proofs.Runs.{eq-self, run-of, slot-within}
 use Rattle.proc.specs.declared.process.Process.{Process}
 use Rattle.proc.specs.Places as table
 use Rattle.proc.specs.Places.{place_where}
-use Rattle.proc.specs.Whole.{running-with_table}
+use Rattle.proc.proofs.Joined.{running-with_table}
 use Rattle.unixmodel.specs.Calls.{quiet}
 use Rattle.unixmodel.specs.Console.{key}
 use Rattle.unixmodel.specs.declared.event.Event.TheVariants.{Key, Step, Tick}

@@ -9,6 +9,7 @@ use unixmodel::instr::{Amount, AmountW, BranchOffset, Imm12, Imm20, Instr, JumpO
 
 /// The instruction that a word is: the one of RV64I that the RISC-V unprivileged manual spells by it, and `None`
 /// where it spells none.
+#[inline(always)]
 pub fn decode(word: u32) -> Option<Instr>
     ensures is { result ≡ instruction_of word }
 
@@ -19,6 +20,7 @@ pub fn decode(word: u32) -> Option<Instr>
 }
 
 /// The same, by the word's opcode.
+#[inline(always)]
 fn spelled_by(word: u32) -> Option<Instr>
     ensures found { IfSome result (λ instr. Fits instr × (spell instr ≡ word)) }
     ensures only { (instr : TheInstr) → Fits instr → spell instr ≡ word → result ≡ Some instr }
@@ -146,30 +148,35 @@ fn spelled_by(word: u32) -> Option<Instr>
 
 // The fields of a word.
 
+#[inline(always)]
 fn rd(word: u32) -> Reg
     ensures { result ≡ word / 2 ^ 7 % 32 }
 {
     Reg::new(((word >> 7) % 32) as u8)
 }
 
+#[inline(always)]
 fn rs1(word: u32) -> Reg
     ensures { result ≡ word / 2 ^ 15 % 32 }
 {
     Reg::new(((word >> 15) % 32) as u8)
 }
 
+#[inline(always)]
 fn rs2(word: u32) -> Reg
     ensures { result ≡ word / 2 ^ 20 % 32 }
 {
     Reg::new(((word >> 20) % 32) as u8)
 }
 
+#[inline(always)]
 fn imm(word: u32) -> Imm12
     ensures { result ≡ word / 2 ^ 20 }
 {
     Imm12::new((word >> 20) as u16)
 }
 
+#[inline(always)]
 fn branch_offset(word: u32) -> BranchOffset
     ensures { result ≡ the_branch_offset word }
 {
@@ -181,6 +188,7 @@ fn branch_offset(word: u32) -> BranchOffset
     )
 }
 
+#[inline(always)]
 fn jump_offset(word: u32) -> JumpOffset
     ensures { result ≡ the_jump_offset word }
 {

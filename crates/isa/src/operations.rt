@@ -13,6 +13,7 @@ ghost use Rattle.unixmodel.specs.declared.instr.RegOpW.{RegOpW};
 use unixmodel::instr::{BranchOp, ImmOp, LoadOp, RegOp, RegOpW, ShiftOp, StoreOp};
 
 /// The branch with this funct3, if there is one.
+#[inline(always)]
 pub fn branch_op(funct3: u32) -> Option<BranchOp>
     ensures found { IfSome result (λ op. branch_funct3 op ≡ funct3) }
     ensures only { (op : BranchOp) → branch_funct3 op ≡ funct3 → result ≡ Some op }
@@ -44,6 +45,7 @@ pub fn funct3_of_branch(op: BranchOp) -> u32
 }
 
 /// The load with this funct3, if there is one.
+#[inline(always)]
 pub fn load_op(funct3: u32) -> Option<LoadOp>
     ensures found { IfSome result (λ op. load_funct3 op ≡ funct3) }
     ensures only { (op : LoadOp) → load_funct3 op ≡ funct3 → result ≡ Some op }
@@ -77,6 +79,7 @@ pub fn funct3_of_load(op: LoadOp) -> u32
 }
 
 /// The store with this funct3, if there is one.
+#[inline(always)]
 pub fn store_op(funct3: u32) -> Option<StoreOp>
     ensures found { IfSome result (λ op. store_funct3 op ≡ funct3) }
     ensures only { (op : StoreOp) → store_funct3 op ≡ funct3 → result ≡ Some op }
@@ -104,6 +107,7 @@ pub fn funct3_of_store(op: StoreOp) -> u32
 }
 
 /// The operation on an immediate with this funct3, if there is one; the shifts are apart.
+#[inline(always)]
 pub fn imm_op(funct3: u32) -> Option<ImmOp>
     ensures found { IfSome result (λ op. imm_funct3 op ≡ funct3) }
     ensures only { (op : ImmOp) → imm_funct3 op ≡ funct3 → result ≡ Some op }
@@ -135,6 +139,7 @@ pub fn funct3_of_imm(op: ImmOp) -> u32
 }
 
 /// The shift by an amount with these funct7 and funct3, if there is one.
+#[inline(always)]
 pub fn shift_op(funct7: u32, funct3: u32) -> Option<ShiftOp>
     ensures found { IfSome result (λ op. (shift_funct7 op ≡ funct7) × (shift_funct3 op ≡ funct3)) }
     ensures only { (op : ShiftOp) → shift_funct7 op ≡ funct7 → shift_funct3 op ≡ funct3 → result ≡ Some op }
@@ -160,6 +165,7 @@ pub fn functs_of_shift(op: ShiftOp) -> (u32, u32)
 }
 
 /// The operation on two registers with these funct7 and funct3, if there is one.
+#[inline(always)]
 pub fn reg_op(funct7: u32, funct3: u32) -> Option<RegOp>
     ensures found { IfSome result (λ op. (reg_funct7 op ≡ funct7) × (reg_funct3 op ≡ funct3)) }
     ensures only { (op : RegOp) → reg_funct7 op ≡ funct7 → reg_funct3 op ≡ funct3 → result ≡ Some op }
@@ -199,6 +205,7 @@ pub fn functs_of_reg(op: RegOp) -> (u32, u32)
 }
 
 /// The operation on the low words of two registers with these funct7 and funct3, if there is one.
+#[inline(always)]
 pub fn reg_w_op(funct7: u32, funct3: u32) -> Option<RegOpW>
     ensures found { IfSome result (λ op. (reg_w_funct7 op ≡ funct7) × (reg_w_funct3 op ≡ funct3)) }
     ensures only { (op : RegOpW) → reg_w_funct7 op ≡ funct7 → reg_w_funct3 op ≡ funct3 → result ≡ Some op }

@@ -23,7 +23,8 @@ use Rattle.files.specs.Places.{Counted, opens_of}
 use Rattle.proc.specs.declared.process.Process.{Process}
 use Rattle.proc.specs.Places as table
 use Rattle.proc.specs.Places.{Places, changed_at, exited, orphaned, zombie_of}
-use Rattle.proc.specs.Whole.{with_memory, with_table, with_zombie-with_table}
+use Rattle.proc.proofs.Joined.{with_zombie-with_table}
+use Rattle.proc.specs.Whole.{with_memory, with_table}
 use Rattle.spaces.specs.Spaces.{Held, Spaces, taken_frames}
 use Rattle.unixmodel.specs.declared.process.Mode.{Mode}
 use Rattle.unixmodel.specs.declared.process.Mode.TheVariants.{Ready, Running, Waiting, Zombie}

@@ -10,7 +10,8 @@ use Rattle.files.proofs.PipesLemmas.{has_pipe-clear}
 use Rattle.files.specs.Places.{has_pipe}
 use Rattle.proc.specs.declared.process.Process.{Process}
 use Rattle.proc.specs.Places.{Places, is_zombie_child_of, place_where}
-use Rattle.proc.specs.Whole.{slot-joined, with_memory, with_table, zombie_child-with_table}
+use Rattle.proc.proofs.Joined.{slot-joined, zombie_child-with_table}
+use Rattle.proc.specs.Whole.{with_memory, with_table}
 use Rattle.spaces.specs.Spaces.{Spaces}
 use Rattle.unixmodel.specs.declared.call.Call.{Call}
 use Rattle.unixmodel.specs.declared.call.Call.TheVariants.{Chdir, Close, Dup, Exec, Exit, Fork, Fstat, Getpid, Kill, Link, Mkdir, Mknod, Open, Pipe, Read, Sbrk, Sleep, Unlink, Uptime, Wait, Write}

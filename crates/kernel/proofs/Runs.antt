@@ -13,7 +13,8 @@ use Rattle.kernel.proofs.Opens.{opened-put, waits-running}
 use Rattle.proc.specs.declared.process.Process.{Process}
 use Rattle.proc.specs.Places as table
 use Rattle.proc.specs.Places.{Places, changed}
-use Rattle.proc.specs.Whole.{put-joined, slot-joined, with_memory, with_table}
+use Rattle.proc.proofs.Joined.{put-joined, slot-joined}
+use Rattle.proc.specs.Whole.{with_memory, with_table}
 use Rattle.spaces.specs.Spaces.{Held, Spaces, has_space, taken_frames}
 use Rattle.unixmodel.specs.declared.process.Mode.{Mode}
 use Rattle.unixmodel.specs.declared.process.Mode.TheVariants.{Ready, Running, Waiting, Zombie}

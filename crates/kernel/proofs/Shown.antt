@@ -10,7 +10,8 @@ use Rattle.kernel.specs.Shows.{bare}
 use Rattle.kernel.specs.Sound.{IsKernel}
 use Rattle.proc.specs.declared.process.Process.{Process}
 use Rattle.proc.specs.Places.{Places, changed_at, has_pid, place_where}
-use Rattle.proc.specs.Whole.{place_of_pid-with_table, place_where-Some, slot-joined, with_memory}
+use Rattle.proc.proofs.Joined.{place_of_pid-with_table, place_where-Some, slot-joined}
+use Rattle.proc.specs.Whole.{with_memory}
 use Rattle.spaces.specs.Spaces.{Held, Spaces, has_space, held_at, no_pages, taken_frames}
 use Rattle.unixmodel.specs.Counts.{frames_of}
 use Rattle.unixmodel.specs.Files.{slot}

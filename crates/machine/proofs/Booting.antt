@@ -17,7 +17,8 @@ use Rattle.names.specs.Rules.{KeepsTree}
 use Rattle.proc.specs.declared.process.Process.{Process}
 use Rattle.proc.specs.Mask.{all_in}
 use Rattle.proc.specs.Places.{Places, is_running, seated}
-use Rattle.proc.specs.Whole.{joined, joined-free_slots}
+use Rattle.proc.proofs.Joined.{joined-free_slots}
+use Rattle.proc.specs.Whole.{joined}
 use Rattle.spaces.specs.Spaces.{Held, Spaces, no_spaces}
 use Rattle.std.proofs.Common.{List, None, Option, Some, ap, arith, false, is_some, length, map, nat_le, refl, replicate, subst, suc, sym, true, zero, ℕ, ◌%◌, ◌+◌, ◌<◌, ◌∙◌, ◌∷◌, ◌≡◌, ◌≢◌, ◌≤◌}
 use Rattle.std.proofs.lemmas.Bool.{le-leb, lt-leb}

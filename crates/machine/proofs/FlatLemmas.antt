@@ -18,7 +18,8 @@ use Rattle.mount.specs.Mounted.{IsFlat}
 use Rattle.proc.specs.declared.process.Process.{Process}
 use Rattle.proc.specs.Mask.{all_in}
 use Rattle.proc.specs.Places.{is_running, seated}
-use Rattle.proc.specs.Whole.{joined, joined-free_slots}
+use Rattle.proc.proofs.Joined.{joined-free_slots}
+use Rattle.proc.specs.Whole.{joined}
 use Rattle.spaces.specs.Spaces.{Held, Spaces, frames_in, grown, held_at, no_pages, taken_frames, with_held, written}
 use Rattle.std.proofs.Common.{Bool, List, None, Ok, Option, Result, Some, [], ap, append_assoc, ap₂, arith, drop, false, get_or, is_some, length, length-append, map, nat_le, refl, replicate, subst, suc, sym, take, true, zero, ℕ, ◌%◌, ◌*◌, ◌++◌, ◌+◌, ◌-◌, ◌/◌, ◌<◌, ◌∙◌, ◌∷◌, ◌≡◌, ◌≢◌, ◌≤◌}
 use Rattle.std.proofs.lemmas.Bool.{le-leb, lt-leb, lt-ltb}

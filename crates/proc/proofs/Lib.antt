@@ -2,3 +2,4 @@ pub mod Mapped
 pub mod Bits
 pub mod Looking
 pub mod Turns
+pub mod Joined

@@ -2,7 +2,7 @@ use Rattle.machine.proofs.flat_boot.first_table.Goals as goal
 use Rattle.machine.proofs.FlatLemmas.{table-first}
 use Rattle.proc.specs.Mask.{all_in}
 use Rattle.proc.specs.Places.{seat_of}
-use Rattle.proc.specs.Whole.{seat_of-first}
+use Rattle.proc.proofs.Joined.{seat_of-first}
 use Rattle.std.proofs.Common.{ap, arith, ◌∙◌}
 
 pub returns : goal.returns

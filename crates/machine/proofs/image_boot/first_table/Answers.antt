@@ -3,7 +3,7 @@ use Rattle.machine.proofs.Booting.{table-init}
 use Rattle.machine.specs.Booted.{bare_of}
 use Rattle.proc.specs.Mask.{all_in}
 use Rattle.proc.specs.Places.{seat_of}
-use Rattle.proc.specs.Whole.{seat_of-first}
+use Rattle.proc.proofs.Joined.{seat_of-first}
 use Rattle.std.proofs.Common.{ap, arith, ◌∙◌}
 
 pub returns : goal.returns
