@@ -101,6 +101,7 @@ fn play(alloc: Global, session: &Session<'_>, image: &[u8]) -> anyhow::Result<(S
     let (fetches, fences) = (Cell::new(0), Cell::new(0));
     let counting = Counting::new(&fetches, &fences);
     play_over(alloc, session, image, counting, &played).context("where accesses are counted")?;
+    ensure!(fetches.get() > 0 && fences.get() > 0, "nothing was counted");
     let starved = play_starved(alloc, session, image)?;
     ensure!(
         starved == played,
