@@ -162,7 +162,7 @@ impl Hart {
     }
 
     /// Does an instruction. Registers are read before rd is written.
-    #[inline]
+    #[inline(always)]
     #[tactic(auto, using(crate::proofs::Steps::step_acts), unfolding(unixmodel::specs::Meaning::act, crate::specs::Answered::act_by))]
     fn execute<T: Translate>(&mut self, i: Instr, ram: &mut Ram, trans: &mut T) -> Option<Trap>
         requires { HoldsInside (T.held trans.old) ram.old }
@@ -263,6 +263,7 @@ impl Hart {
     /// `answered` holds whatever the tables are, and for every translator; `trap` is a part of it. `step` is what follows
     /// where all answers that the translator may give are those of a mapping: then the registers, the pc and the frames
     /// are the instruction's on the memory which that mapping shows.
+    #[inline(always)]
     pub fn step<T: Translate>(&mut self, ram: &mut Ram, trans: &mut T) -> Option<Trap>
         requires { HoldsInside (T.held trans.old) ram.old }
         ensures answered { IsStep (T.held trans.old) (cycle_by self.old.registers self.old.pc) result self.old self.new ram.old ram.new }

@@ -14,7 +14,7 @@
 //! spaces that aren't active doesn't count.
 #![tactic(auto)]
 
-ghost use Rattle.std.specs.Prelude.{◌≡◌, ◌≢◌, ◌+◌, ◌-◌, ◌++◌, ◌<◌, ◌≤◌, ◌/◌, ◌%◌, ◌^◌, ℕ, [], All, Some, None, true, false, drop, length, is_some, min, nat_le, nat_lt, not, option_and_then, option_map, replicate, slice_get, slice_index, slice_set, take, IfOk, IfSome, IfNone, Ok, Err};
+ghost use Rattle.std.specs.Prelude.{◌≡◌, ◌≢◌, List, ◌+◌, ◌-◌, ◌++◌, ◌<◌, ◌≤◌, ◌/◌, ◌%◌, ◌^◌, ℕ, [], All, Some, None, true, false, drop, length, is_some, min, nat_le, nat_lt, not, option_and_then, option_map, replicate, slice_get, slice_index, slice_set, take, IfOk, IfSome, IfNone, Ok, Err};
 ghost use Rattle.std.specs.Bool.{OnTrue, OnFalse};
 ghost use Rattle.spaces.specs.Spaces.{bytes_in, computed, filled, fitting, grown, has_pipe, has_space, held_at, no_pages, no_spaces, read_at, shrunk, taken_frames, taken_to, with_held, with_pipe, with_place, written};
 ghost use Rattle.spaces.specs.Ends.{IsOpen};
@@ -31,8 +31,9 @@ ghost use Rattle.unixmodel.specs.Numbers.{ceil_div};
 ghost use Rattle.unixmodel.specs.OpenFiles.{pipe_room};
 ghost use Rattle.unixmodel.specs.Shown.{ShowsMemory, byte_at, page_byte};
 ghost use Rattle.unixmodel.specs.Turn.{is_empty};
-ghost use Rattle.unixmodel.specs.Translation.{HoldsNothing, Translation, walk};
-ghost use Rattle.sv39.specs.Mapping.{memory_of};
+ghost use Rattle.unixmodel.specs.Translation.{HoldsInside, HoldsNothing, IsKept, Translation, walk};
+ghost use Rattle.hart.specs.Follows.{Follows};
+ghost use Rattle.sv39.specs.Mapping.{Mapped, Shows, memory_of};
 ghost use Rattle.vm.specs.Leaf.{marks_from};
 ghost use Rattle.vm.specs.Reach.{IsSized, piece_at, short_string};
 ghost use Rattle.vm.specs.Space.{IsMapped, entries_of, pages_in, pages_of};
@@ -100,7 +101,20 @@ fn root_of(space: &Space, ram: &Ram) -> FrameNo
     space.root()
 }
 
+// A step of the hart, out of line: what seldom happens stays out of the loop over steps.
+#[inline(never)]
+fn step_again<T: Translate>(hart: &mut Hart, ram: &mut Ram, translator: &mut T) -> Option<Trap>
+    requires { HoldsInside (T.held translator.old) ram.old }
+    ensures step { (mapping : List Mapped) → Shows (T.held translator.old) ram.old hart.old.root.0 mapping →
+        Follows (cycle hart.old.registers hart.old.pc (memory_of ram.old mapping)) mapping result hart.old hart.new ram.old ram.new }
+    ensures kept { IsKept (T.held translator.old) (T.held translator.new) ram.old hart.old.root.0 }
+    ensures count { length ram.new ≡ length ram.old }
+{
+    hart.step(ram, translator)
+}
+
 // The page of a store that faulted, where the program of the space may write it by right.
+#[inline(never)]
 fn closed_page(space: &Space, ram: &Ram, trap: Trap) -> Option<u64>
     requires { IsMapped ram.now space.now }
     ensures some { IfSome result (λ page. (trap.cause ≡ StorePageFault) × (page ≡ trap.address / 4096) × (page < pages_in space.now.size)) }
@@ -546,7 +560,7 @@ impl<T: Translate + Drop> Spaces<T> {
         self.ram.frames_are_whole();
         let translator = &mut self.translator;
         translator.fence();
-        self.hart.step(&mut self.ram, translator)
+        step_again(&mut self.hart, &mut self.ram, translator)
     }
 
     /// The lowest free place for pipes.
