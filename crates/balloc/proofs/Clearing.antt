@@ -5,9 +5,9 @@ use Rattle.std.specs.Prelude.{◌==◌, find}
 use Rattle.std.specs.Int.{bit_at}
 use Rattle.std.specs.List.{prefix_len, range_with_len}
 use Rattle.std.specs.Simd.Lanes.{chunk, mask_l, top, zip2}
-use Rattle.std.proofs.lemmas.Bool.{cases_eq, cond-false, cond-true, eq-eqb, eqb-false, eqb-true, ne_eqb, not-false}
+use Rattle.std.proofs.lemmas.Bool.{cases_eq, cond-false, cond-true, eq-eqb, eqb-false, eqb-true, ne_eqb, not-false, not-true}
 use Rattle.std.proofs.lemmas.Option.{none-some, same_Some}
-use Rattle.std.proofs.lemmas.Simd.{bitmask_splat, length-chunk, none_from_empty_mask, run_in_chunk_fails, trailing_mask_l}
+use Rattle.std.proofs.lemmas.Simd.{bitmask_splat, length-chunk, none_from_empty_mask, run_in_chunk_fails, run_in_chunk_stops, trailing_mask_l}
 use Rattle.std.proofs.lemmas.Nat.Bits.{bit_at-lt, bit_at_ones}
 use Rattle.layout.specs.Image.{bit_in}
 use Rattle.balloc.specs.Bitmap.{lowest_clear}
@@ -111,14 +111,22 @@ module _ (bytes : List ℕ) (room : 64 ≤ length bytes) where
   full_of_other : (k : ℕ) → is_other (get_or bytes k 0) ≡ false → get_or bytes k 0 ≡ 255
   full_of_other k h = eqb-true (get_or bytes k 0) 255 (not-false (eqb (get_or bytes k 0) 255) h)
 
+  not_full_of_other : (k : ℕ) → is_other (get_or bytes k 0) ≡ true → get_or bytes k 0 ≢ 255
+  not_full_of_other k h = eqb-false (get_or bytes k 0) 255 (not-true (eqb (get_or bytes k 0) 255) h)
+
   pub all_full : mask ≡ 0 → (k : ℕ) → k < 64 → get_or bytes k 0 ≡ 255
   all_full none k h = full_of_other k (none_from_empty_mask is_other bytes 0 64 0 room (sym mask-is ∙ none) k (omega arith) h)
 
+  counted : 0 < mask → count_trailing_zeros 64 mask ≡ prefix_len (λ b. not (is_other b)) (chunk 0 64 bytes)
+  counted some = ap (count_trailing_zeros 64) mask-is ∙ trailing_mask_l is_other 64 (chunk 0 64 bytes) (omega (arith, length-chunk 0 64 bytes room)) (omega (arith, mask-is, some))
+
   pub full_before : 0 < mask → (k : ℕ) → k < count_trailing_zeros 64 mask → get_or bytes k 0 ≡ 255
-  full_before some k h =
-      let counted : count_trailing_zeros 64 mask ≡ prefix_len (λ b. not (is_other b)) (chunk 0 64 bytes) =
-      ap (count_trailing_zeros 64) mask-is ∙ trailing_mask_l is_other 64 (chunk 0 64 bytes) (omega (arith, length-chunk 0 64 bytes room)) (omega (arith, mask-is)) in
-      full_of_other k (run_in_chunk_fails is_other bytes 0 64 (count_trailing_zeros 64 mask) 0 room counted k (omega arith) (omega (arith, h)))
+  full_before some k h = full_of_other k (run_in_chunk_fails is_other bytes 0 64 (count_trailing_zeros 64 mask) 0 room (counted some) k (omega arith) (omega (arith, h)))
+
+  pub not_full_at : 0 < mask → count_trailing_zeros 64 mask < 64 → get_or bytes (count_trailing_zeros 64 mask) 0 ≢ 255
+  not_full_at some h =
+      let first : 0 + count_trailing_zeros 64 mask ≡ count_trailing_zeros 64 mask = omega arith in
+      not_full_of_other (count_trailing_zeros 64 mask) (ap (λ k. is_other (get_or bytes k 0)) (sym first) ∙ run_in_chunk_stops is_other bytes 0 64 (count_trailing_zeros 64 mask) 0 room (counted some) h)
 
 -- so many full bytes stand from byte i / 8 on
 pub full_set : (block : List ℕ) (i n : ℕ) → i % 8 ≡ 0 → ((k : ℕ) → k < n → get_or block (i / 8 + k) 0 ≡ 255) → (k : ℕ) → i ≤ k → k < i + 8 * n → bit_in block k ≡ 1

@@ -1,6 +1,6 @@
 //! The bits of one block of a bitmap.
 
-ghost use Rattle.std.specs.Prelude.{◌≡◌, ℕ, ◌+◌, ◌*◌, ◌/◌, ◌%◌, ◌<◌, ◌≤◌, length, get_or};
+ghost use Rattle.std.specs.Prelude.{◌≡◌, ◌≢◌, ℕ, ◌+◌, ◌*◌, ◌/◌, ◌%◌, ◌<◌, ◌≤◌, length, get_or};
 ghost use Rattle.std.specs.Bool.{OnTrue, OnFalse};
 ghost use Rattle.layout.specs.Image.{bit_in};
 ghost use Rattle.balloc.specs.Bitmap.{lowest_clear};
@@ -49,6 +49,7 @@ fn full_bytes(bytes: &[u8]) -> usize
     requires { 64 ≤ length bytes.now }
     ensures within { result ≤ 64 }
     ensures full { (k : ℕ) → k < result → get_or bytes.now k 0 ≡ 255 }
+    ensures next { result < 64 → get_or bytes.now result 0 ≢ 255 }
 {
     let lanes = u8x64::from_slice(bytes);
     let others = lanes.simd_ne(u8x64::splat(0xff)).to_bitmask();

@@ -1,11 +1,12 @@
 //! Boots machines and gives them the events of a script.
-ghost use Rattle.std.specs.Prelude.{◌≡◌, IfErr, IfOk, is_some};
+ghost use Rattle.std.specs.Prelude.{◌≡◌, ◌<◌, ◌⊎◌, ◌↔◌, IfErr, IfOk, IsErrOf, None, OnErr, is_some};
 ghost use Rattle.commands.specs.Plays.{script_events};
 ghost use Rattle.commands.specs.Reports.{end_of};
 ghost use Rattle.commands.specs.Runs.{IsFlatRun, IsImageRun, Leaves, PlaysOut};
 ghost use Rattle.imagerules.specs.Content.{image_of};
 ghost use Rattle.machine.specs.Booted.{IsUnbooted};
 ghost use Rattle.machine.specs.Told.{IsUp};
+ghost use Rattle.unixmodel.specs.Start.{start_flat};
 
 use crate::host::Host;
 use crate::perform::images::disk_of;
@@ -99,7 +100,10 @@ fn run_flat<T: Translate + Drop, W: Write + Drop>(
     script: &[Command<'_>],
     stdout: W,
 ) -> Result<(End, W), BootFault>
-    ensures { IfOk result (λ ran. IsFlatRun program.now frames (script_events script.now) (W.contents stdout) (W.contents ran.1) ran.0) }
+    ensures ran { IfOk result (λ ran. IsFlatRun program.now frames (script_events script.now) (W.contents stdout) (W.contents ran.1) ran.0) }
+    ensures count { IsErrOf result BootFault.FrameCount ↔ ((frames < 64) ⊎ (32768 < frames)) }
+    ensures no_init { IsErrOf result BootFault.NoInit → start_flat program.now frames ≡ None }
+    ensures only { OnErr result (IsErrOf result BootFault.FrameCount ⊎ (IsErrOf result BootFault.NoInit ⊎ IsErrOf result BootFault.NoMemory)) }
 {
     let mut machine = boot_flat_with(alloc, program, translator, frames)?;
     Ok(play_out(&mut machine, script, stdout))
