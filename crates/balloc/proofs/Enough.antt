@@ -1,11 +1,11 @@
 -- Free blocks are counted from a place on.
-use Rattle.std.proofs.Common.{◌≡◌, ℕ, ◌+◌, ◌-◌, ◌<◌, ◌≤◌, ◌==◌, List, [], ◌∷◌, Bool, true, false, cond, length, get_or, drop, zero, suc, ap, sym, refl, ◌∙◌, arith}
+use Rattle.std.proofs.Common.{◌≡◌, ℕ, ◌+◌, ◌-◌, ◌<◌, ◌≤◌, ◌==◌, List, [], ◌∷◌, false, cond, length, get_or, drop, zero, suc, ap, sym, refl, ◌∙◌, arith}
 use Rattle.std.specs.Prelude.{count_by, nat_le}
-use Rattle.std.proofs.lemmas.Bool.{le-leb, lt-leb}
+use Rattle.std.proofs.lemmas.Bool.{lt-leb}
 use Rattle.std.proofs.lemmas.List.Sums.{sum_by-cons}
 use Rattle.layout.specs.Super.{bitmap_start_of, data_start_of}
 use Rattle.layout.specs.declared.Geometry.{Geometry}
-use Rattle.layout.specs.Image.{bit_of, data_bits, free_blocks}
+use Rattle.layout.specs.Image.{bit_of, data_bits}
 use Rattle.balloc.specs.Bitmap.{IsFirstFree, IsFullFrom}
 use Rattle.balloc.proofs.Counting.{get_or-data_bits, length-data_bits}
 

@@ -17,7 +17,6 @@ use Rattle.layout.specs.declared.SuperBlock.{SuperBlock}
 use Rattle.layout.specs.Image.{IsInode, bit_in, bit_of, free_blocks, data_bits, inode_at, nodes_of}
 use Rattle.layout.specs.Sound.{HasParts, IsSound, TellsGeometry}
 use Rattle.layout.proofs.Frame.{get_or-nodes_of, length-nodes_of, node_at-none}
-use Rattle.balloc.specs.Bitmap.{SetsBit}
 use Rattle.balloc.proofs.Counting.{get_or-data_bits, length-data_bits}
 use Rattle.balloc.specs.Format.{Cleared, HasFront, new_super}
 use Rattle.balloc.proofs.Records.{zero_at}

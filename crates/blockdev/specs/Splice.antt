@@ -1,5 +1,5 @@
 -- A part of a list, and a list with a part written over.
-use Rattle.std.specs.Prelude.{ℕ, ◌+◌, ◌-◌, List, ◌++◌, length, take, drop}
+use Rattle.std.specs.Prelude.{ℕ, ◌+◌, List, ◌++◌, length, take, drop}
 
 -- m places from place p
 abbrev pub part : {X : Type 0} → ℕ → ℕ → List X → List X

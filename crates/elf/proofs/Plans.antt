@@ -1,5 +1,5 @@
 -- The program that is loaded, by what the headers say.
-use Rattle.std.proofs.Common.{ap, ap₂, refl, sym, ◌∙◌, ◌≡◌, ℕ, zero, suc, ◌+◌, ◌-◌, ◌*◌, ◌/◌, ◌%◌, ◌^◌, ◌<◌, ◌≤◌, ◌&&◌, Bool, true, false, List, length, take, drop, None, Option, Some, Ok, Err, Result, nat_eq, nat_le, nat_lt, arith}
+use Rattle.std.proofs.Common.{ap, ap₂, refl, ◌∙◌, ◌≡◌, ℕ, zero, suc, ◌+◌, ◌-◌, ◌*◌, ◌/◌, ◌%◌, ◌^◌, ◌<◌, ◌≤◌, ◌&&◌, Bool, true, false, List, length, take, drop, None, Option, Some, Ok, Err, Result, nat_eq, nat_le, nat_lt, arith}
 use Rattle.std.specs.Prelude.{if◌then◌else◌, not, option_and_then}
 use Rattle.std.proofs.lemmas.Bool.Decides.{nat_tests}
 use Rattle.std.proofs.lemmas.List.{drop-drop, drop-take, take-take}

@@ -11,7 +11,7 @@ use Rattle.unixmodel.specs.Meaning.Change.{Bytes, Nothing}
 use Rattle.unixmodel.specs.Memory.{Memory, Page, overwrite, permits, permitted, write_bytes, write_from}
 use Rattle.unixmodel.specs.Next.{memory_after}
 use Rattle.ram.specs.Memory.{IsMemory, frame_of, put, put_bytes}
-use Rattle.ram.proofs.MemoryLemmas.{IsMemory-set, length-put_bytes}
+use Rattle.ram.proofs.MemoryLemmas.{length-put_bytes}
 use Rattle.sv39.specs.Mapping.{Mapped, memory_of, page_in}
 use Rattle.hart.specs.Changes.{IsAlone, IsSound, IsStore, Stores, WritesOnly, WritesPage, changed, put_in}
 use Rattle.hart.proofs.CycleLemmas.{cycle-stores}

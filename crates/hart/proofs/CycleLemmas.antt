@@ -10,7 +10,7 @@ use Rattle.unixmodel.specs.declared.trap.Access.TheVariants.{Fetch, Load, Store}
 use Rattle.unixmodel.specs.declared.trap.Cause.{Cause}
 use Rattle.unixmodel.specs.declared.trap.Cause.TheVariants.{IllegalInstruction, InstructionPageFault}
 use Rattle.unixmodel.specs.Cycle.{act_word, cycle, fetched}
-use Rattle.unixmodel.specs.Meaning.{Computed, Effect, act, branch, is_taken, jump, load_from, load_size, store_size, store_to, trap, write}
+use Rattle.unixmodel.specs.Meaning.{Computed, Effect, act, is_taken, load_from, load_size, store_size, store_to, trap, write}
 use Rattle.unixmodel.specs.Memory.{Memory, Page, bytes_at, page_for}
 use Rattle.unixmodel.specs.Numbers.{extend, le, number, plus}
 use Rattle.unixmodel.specs.Words.{instruction_of}

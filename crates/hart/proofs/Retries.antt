@@ -4,12 +4,10 @@ use Rattle.std.specs.Prelude.{◌==◌, slice_index}
 use Rattle.unixmodel.specs.declared.instr.Instr.{Instr}
 use Rattle.unixmodel.specs.declared.instr.Instr.TheVariants as instr
 use Rattle.unixmodel.specs.declared.instr.LoadOp.{LoadOp}
-use Rattle.unixmodel.specs.declared.instr.StoreOp.{StoreOp}
-use Rattle.unixmodel.specs.declared.trap.Access.{Access}
 use Rattle.unixmodel.specs.declared.trap.Access.TheVariants.{Fetch, Load, Store}
-use Rattle.unixmodel.specs.declared.trap.Cause.TheVariants.{InstructionPageFault, LoadMisaligned, StoreMisaligned, StorePageFault}
+use Rattle.unixmodel.specs.declared.trap.Cause.TheVariants.{InstructionPageFault, StoreMisaligned, StorePageFault}
 use Rattle.unixmodel.specs.Cycle.{act_word, cycle, fetched}
-use Rattle.unixmodel.specs.Meaning.{Effect, act, load, load_from, load_size, store, store_size, store_to, trap}
+use Rattle.unixmodel.specs.Meaning.{Effect, act, load_from, load_size, store_size, store_to, trap}
 use Rattle.unixmodel.specs.Memory.{Memory, Page, bytes_at, page_for}
 use Rattle.unixmodel.specs.Numbers.{extend, le, number, plus}
 use Rattle.unixmodel.specs.Words.{instruction_of}

@@ -1,12 +1,11 @@
 -- Nodes are let go one after the other, and the device counts its failures on the way.
-use Rattle.std.proofs.Common.{◌≡◌, ◌≢◌, ℕ, suc, zero, ◌+◌, ◌<◌, ◌≤◌, false, true, le_trans, List, [], ◌∷◌, drop, length, Option, Some, None, refl, ap, sym, subst, ◌∙◌, arith}
-use Rattle.std.specs.Prelude.{Err, IfOk, IsErr, Ok, OnErr, OnOk, Result, slice_index}
+use Rattle.std.proofs.Common.{◌≡◌, ◌≢◌, ℕ, suc, zero, ◌+◌, ◌<◌, ◌≤◌, false, true, le_trans, List, [], ◌∷◌, drop, length, None, refl, ap, sym, subst, ◌∙◌, arith}
+use Rattle.std.specs.Prelude.{Err, IsErr, Ok, Result, slice_index}
 use Rattle.blockdev.specs.declared.DeviceFault.{DeviceFault}
 use Rattle.kernel.specs.Holding.{AreHeld, all_dropped, dropped}
 use Rattle.tree.specs.Holding.{holders}
 use Rattle.unixmodel.specs.Files.{slot}
 use Rattle.tree.specs.Tree.{FileTree, Serves}
-use Rattle.unixmodel.specs.Failures.{HasCause}
 
 -- the tree with another count
 abbrev pub counted : FileTree → ℕ → FileTree

@@ -1,16 +1,16 @@
 -- The kernel's steps, and who is awake after them.
-use Rattle.std.proofs.Common.{Bool, Err, List, None, Ok, Option, Some, [], ap, false, inl, inr, length, map, option_map, refl, subst, sym, true, ℕ, ℤ, ◌<◌, ◌∙◌, ◌≡◌, ◌≢◌}
+use Rattle.std.proofs.Common.{Bool, Err, List, None, Ok, Option, Some, ap, false, inl, inr, length, option_map, refl, subst, sym, true, ℕ, ℤ, ◌<◌, ◌∙◌, ◌≡◌}
 use Rattle.std.specs.Prelude.{IfNone, IfSome, slice_set}
 use Rattle.std.proofs.lemmas.Bool.{cases_lt, true≢false}
-use Rattle.kernel.specs.Kernel.{Kernel, left_as, loaded, memories, on_hart, rest_of, state_of, state_with, waking}
+use Rattle.kernel.specs.Kernel.{Kernel, left_as, memories, on_hart, rest_of, state_of, state_with, waking}
 use Rattle.kernel.specs.Sound.{IsKernel, is_at}
 use Rattle.kernel.specs.View.{Keeps}
 use Rattle.kernel.specs.Watch.{IsAsleep, IsWatched, Watches, awaited_of, roused, waits_on, woken_by}
 use Rattle.kernel.specs.declared.channels.Channel.TheVariants.{Bytes, Children, Ticks}
 use Rattle.kernel.specs.Ready.{seen}
 use Rattle.kernel.proofs.Masks.{set-in, set-past}
-use Rattle.kernel.proofs.Runs.{eq-self, slot-within}
-use Rattle.kernel.proofs.Watching.{asleep-unready, exited-is, no-zombie, unready-asleep, watched-bytes, watched-ended, watched-put, watched-running, watched-ticks, watched-woken}
+use Rattle.kernel.proofs.Runs.{eq-self}
+use Rattle.kernel.proofs.Watching.{exited-is, no-zombie, unready-asleep, watched-bytes, watched-ended, watched-put, watched-running, watched-ticks, watched-woken}
 use Rattle.proc.specs.declared.process.Process.{Process}
 use Rattle.proc.specs.Mask.{is_in}
 use Rattle.proc.specs.Pick.{Answers}

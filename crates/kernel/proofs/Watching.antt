@@ -10,7 +10,6 @@ use Rattle.files.specs.Meant.{target_of}
 use Rattle.files.specs.Places.{Counted, moved, moved_to, opens_of}
 use Rattle.kernel.specs.Ready.{awaited_in, has_slept, seen}
 use Rattle.kernel.specs.Watch.{IsAsleep, IsAsleepAs, IsWatched, roused, waits_as, waits_in, waits_on}
-use Rattle.kernel.specs.declared.channels.Channel.{Channel}
 use Rattle.kernel.specs.declared.channels.Channel.TheVariants.{Bytes, Children, Ticks}
 use Rattle.kernel.proofs.Changes.{slot-map}
 use Rattle.kernel.proofs.Masks.{fewer-put, holds-within, roused-out, set-other}

@@ -1,5 +1,5 @@
 -- Who a turn need not look at, and who is woken.
-use Rattle.std.specs.Prelude.{Bool, List, None, Option, Some, [], false, slice_index_or, true, ℕ, ◌||◌, ◌∷◌, ◌≡◌}
+use Rattle.std.specs.Prelude.{Bool, List, None, Option, Some, [], false, true, ℕ, ◌||◌, ◌∷◌, ◌≡◌}
 use Rattle.kernel.specs.Kernel.{Kernel}
 use Rattle.kernel.specs.Ready.{awaited_in, has_slept, seen}
 use Rattle.kernel.specs.declared.channels.Channel.{Channel}

@@ -1,5 +1,5 @@
 -- The walk goes by the map.
-use Rattle.std.proofs.Common.{ℕ, ◌-◌, List, Option, Some, None}
+use Rattle.std.proofs.Common.{ℕ, List, Option, Some, None}
 use Rattle.std.specs.Prelude.{if◌then◌else◌}
 use Rattle.unixmodel.specs.declared.trap.Access.{Access}
 use Rattle.unixmodel.specs.Translation.{leaf_allows, is_canonical as is_canonical_page}

@@ -1,5 +1,5 @@
 -- One string as the only argument.
-use Rattle.std.proofs.Common.{ap, arith, length, length-append, refl, subst, sym, take, ℕ, ◌*◌, ◌++◌, ◌+◌, ◌-◌, ◌<◌, ◌∙◌, ◌≡◌, ◌≤◌, ◌∷◌, [], true, List, None, Option, Some}
+use Rattle.std.proofs.Common.{ap, arith, length, length-append, refl, subst, take, ℕ, ◌*◌, ◌++◌, ◌+◌, ◌-◌, ◌<◌, ◌∙◌, ◌≡◌, ◌≤◌, ◌∷◌, [], true, List, None, Option, Some}
 use Rattle.std.specs.List.{flat_map}
 use Rattle.std.specs.Prelude.{if◌then◌else◌, nat_le, option_map}
 use Rattle.std.proofs.lemmas.Bool.{le-leb}

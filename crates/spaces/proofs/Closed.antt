@@ -2,7 +2,7 @@
 use Rattle.hart.proofs.Retries.{Alike, Narrows}
 use Rattle.hart.specs.Changes.{changed, put_in}
 use Rattle.std.proofs.Common.{◌≡◌, ◌⊎◌, ◌&&◌, inl, inr, ℕ, ◌%◌, ◌/◌, ◌^◌, ◌<◌, ◌≤◌, Bool, true, false, cond, List, Option, Some, None, refl, sym, ap, ◌∙◌}
-use Rattle.std.specs.Prelude.{option_and_then, option_map, slice_get}
+use Rattle.std.specs.Prelude.{option_and_then, slice_get}
 use Rattle.std.proofs.lemmas.Bool.{cases_lt}
 use Rattle.sv39.specs.Mapping.{Mapped, memory_of, page_in}
 use Rattle.unixmodel.specs.declared.trap.Access.{Access}
@@ -12,7 +12,7 @@ use Rattle.unixmodel.specs.Meaning.Change.{Bytes, Nothing}
 use Rattle.unixmodel.specs.Shown.{ShowsByte, ShowsMemory, byte_at, page_byte}
 use Rattle.unixmodel.specs.Translation.{walk}
 use Rattle.unixmodel.specs.Memory.{Marks, Memory, Page, page_for, permits, permitted}
-use Rattle.vm.specs.Dense.{frame_at, marks_at, read_at, read_below, entries_below, pages_below, mapping_below}
+use Rattle.vm.specs.Dense.{marks_at, read_at, read_below, entries_below, pages_below, mapping_below}
 use Rattle.vm.specs.Leaf.{IsUserLeaf, entry_marks, is_open, right_marks, user_leaf}
 use Rattle.vm.proofs.LeafLemmas.{leaf-open, open-right, right-leaf}
 use Rattle.vm.proofs.WalkLaw.{get-mapping, mapped-page, mapping-past, unmapped-page}

@@ -1,5 +1,5 @@
 -- The last page goes.
-use Rattle.std.proofs.Common.{◌≡◌, ◌≢◌, ℕ, suc, ◌+◌, ◌<◌, ◌≤◌, inl, inr, false, true, List, [], ◌∷◌, ◌++◌, length, Option, Some, unwrap_or, refl, sym, ap, ◌∙◌, arith, eqb}
+use Rattle.std.proofs.Common.{◌≡◌, ℕ, suc, ◌+◌, ◌<◌, ◌≤◌, inl, inr, false, List, [], ◌∷◌, ◌++◌, length, Option, Some, unwrap_or, refl, sym, ap, ◌∙◌, arith, eqb}
 use Rattle.std.specs.Option.{option_map}
 use Rattle.std.proofs.lemmas.Bool.{cases_eq}
 use Rattle.ram.specs.Memory.{frame_of}
@@ -7,7 +7,7 @@ use Rattle.frames.specs.declared.Frames.{Frames}
 use Rattle.frames.specs.Free.{among, free_of, extra_of, further_at, IsFreeList, SameBut}
 use Rattle.frames.specs.Holders.{one_if, count_of, holders_of, Trades}
 use Rattle.frames.proofs.HolderLemmas.{count_of-append, count_of-first, among-none, held-inside, holders-table, Trades-give}
-use Rattle.pagetable.specs.Tree.{lookup_of, IsPaged, Holds, Keeps}
+use Rattle.pagetable.specs.Tree.{lookup_of, IsPaged, Keeps}
 use Rattle.pagetable.specs.Shape.{IsTidy, Adds, Removes}
 use Rattle.pagetable.proofs.LookupLemmas.{lookup-sound}
 use Rattle.vm.specs.Dense.{trap_page, frame_at, marks_at, read_below, pages_below, frames_below, tables_for, tables_below, held, IsDense, IsHeld}

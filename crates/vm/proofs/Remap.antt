@@ -1,5 +1,5 @@
 -- A page gets another frame with the same bytes, or other marks with the same rights.
-use Rattle.std.proofs.Common.{◌≡◌, ◌≢◌, ℕ, zero, suc, ◌+◌, ◌-◌, ◌^◌, ◌<◌, ◌≤◌, ◌⊎◌, inl, inr, Bool, false, true, List, [], ◌∷◌, ◌++◌, length, slice_set, length-set, get_or-set_other, get_or-set_same, Some, None, unwrap_or, nat_eq, ltb, subst, refl, sym, ap, ◌∙◌, arith}
+use Rattle.std.proofs.Common.{◌≡◌, ◌≢◌, ℕ, zero, suc, ◌+◌, ◌^◌, ◌<◌, ◌≤◌, ◌⊎◌, inl, inr, Bool, false, true, List, [], ◌∷◌, ◌++◌, length, slice_set, length-set, get_or-set_other, get_or-set_same, Some, None, unwrap_or, nat_eq, ltb, subst, refl, sym, ap, ◌∙◌, arith}
 use Rattle.std.proofs.lemmas.Bool.{cases_eq}
 use Rattle.unixmodel.specs.Memory.{Marks, Page}
 use Rattle.ram.specs.Memory.{frame_of}
@@ -18,7 +18,6 @@ use Rattle.vm.proofs.DenseLemmas.{count-held, page-held, pages_below-zero, pages
 use Rattle.vm.proofs.GrowLemmas.{IsTidy-same, lookup-parts, frame_at-is, marks_at-is, frame_at-same, marks_at-same, frames_below-same, tables_below-same}
 use Rattle.vm.specs.Leaf.{IsUserLeaf, right_marks, is_open, user_leaf}
 use Rattle.vm.proofs.LeafLemmas.{leaf-user, leaf-valid, right-leaf}
-use Rattle.sv39.specs.Entry.{has}
 use Rattle.vm.specs.declared.Space.{Space}
 use Rattle.vm.specs.Space.{pages_in, IsRearranged, IsSpace, Reframes, holds}
 

@@ -1,4 +1,4 @@
-use Rattle.std.proofs.Common.{◌≡◌, ◌∙◌, Err, ap, arith, subst}
+use Rattle.std.proofs.Common.{◌∙◌, Err, ap, arith, subst}
 use Rattle.layout.specs.Image.{free_blocks}
 use Rattle.balloc.specs.Bitmap.{IsFirstFree, IsFullFrom}
 use Rattle.balloc.proofs.Enough.{enough-no, free_from, free_from-first, free_from-none}

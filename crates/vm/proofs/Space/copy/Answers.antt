@@ -1,6 +1,5 @@
-use Rattle.std.proofs.Common.{ap, arith, ◌∙◌}
+use Rattle.std.proofs.Common.{ap, arith}
 use Rattle.vm.specs.Dense.{frames_for}
-use Rattle.vm.specs.Space.{pages_in}
 use Rattle.vm.proofs.Forked.{forked, part-room, part-start}
 use Rattle.vm.proofs.Space.copy.Goals as goal
 

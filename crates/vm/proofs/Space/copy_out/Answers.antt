@@ -3,7 +3,6 @@ use Rattle.std.proofs.lemmas.Bool.{leb-true}
 use Rattle.unixmodel.specs.declared.trap.Access.TheVariants.{Store}
 use Rattle.unixmodel.specs.Memory.{reach}
 use Rattle.vm.proofs.PageLemmas.{length-pages}
-use Rattle.vm.proofs.Remap.{reframes-none}
 use Rattle.vm.proofs.ReachLemmas.{reach-page}
 use Rattle.vm.proofs.SizedLemmas.{pages-sized}
 use Rattle.vm.specs.Space.{pages_in, pages_of}

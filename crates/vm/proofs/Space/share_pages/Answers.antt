@@ -1,4 +1,4 @@
-use Rattle.std.proofs.Common.{◌≡◌, ◌<◌, ℕ, arith, ap, subst}
+use Rattle.std.proofs.Common.{◌≡◌, arith, subst}
 use Rattle.vm.specs.Fork.{IsSoFar}
 use Rattle.vm.proofs.Forked.{shared-frames, so-far-more, so-far-start, room-for}
 use Rattle.vm.specs.Space.{pages_in}

@@ -1,4 +1,4 @@
-use Rattle.std.proofs.Common.{◌≡◌, ◌+◌, ◌/◌, ◌%◌, List, ℕ, take, drop, sym, ap, ◌∙◌}
+use Rattle.std.proofs.Common.{◌+◌, ◌/◌, ◌%◌, ℕ, take, drop, sym, ap, ◌∙◌}
 use Rattle.frames.specs.Free.{further_at}
 use Rattle.ram.specs.Memory.{put}
 use Rattle.unixmodel.specs.Memory.{Memory, write_bytes}

@@ -2,7 +2,7 @@ use Rattle.std.proofs.Common.{ap, arith, refl, subst, sym, length, ◌<◌, ◌�
 use Rattle.std.proofs.lemmas.Int.{to_z-of_z}
 use Rattle.std.specs.Int.{w32}
 use Rattle.std.specs.Prelude.{IfOk}
-use Rattle.kernel.specs.Holding.{AreHeld, all_dropped, gone_nodes}
+use Rattle.kernel.specs.Holding.{all_dropped, gone_nodes}
 use Rattle.kernel.specs.View.{kernel_of}
 use Rattle.kernel.proofs.Dropping.{counted}
 use Rattle.kernel.proofs.Finishes.{finish-closes, finish-held, finish-serves, serves-waking}

@@ -1,6 +1,4 @@
-use Rattle.std.proofs.Common.{Bool, List, Option, false, refl, rules, ap, sym, ℕ, ◌∙◌, ◌≡◌}
-use Rattle.std.specs.Borrow.{Bor}
-use Rattle.std.specs.Fn.{FnReturns}
+use Rattle.std.proofs.Common.{false, refl, rules, ap, sym, ◌∙◌, ◌≡◌}
 use Rattle.kernel.specs.Kernel.{Kernel, base, memories, rest_of}
 use Rattle.kernel.specs.Ready.{seen}
 use Rattle.kernel.specs.View.{kernel_of}
@@ -9,7 +7,6 @@ use Rattle.kernel.proofs.Readies.{ready-same, turn-idle}
 use Rattle.kernel.proofs.Wakes.{picked-places, watched-picked}
 use Rattle.kernel.proofs.Watching.{asleep-unready}
 use Rattle.proc.proofs.Turns.{turn-from_pick}
-use Rattle.proc.specs.declared.process.Process.{Process}
 use Rattle.proc.specs.Whole.{with_table}
 use Rattle.unixmodel.specs.Turn.{ready, turn}
 use Rattle.kernel.proofs.kernel.Kernel.turn.Goals as goal
