@@ -9,7 +9,7 @@ TEXTS := $(wildcard user/*.s)
 USER := $(TEXTS:user/%.s=out/user/%)
 IMAGE := out/xv6.img
 
-.PHONY: demo build image user test check bench fmt
+.PHONY: demo build image user test edits check bench fmt
 
 # Boots a machine from an image with the user programs, types at its shell, and shows its console. It takes the
 # proved build where there is one that is not older than the sources. Else `rt try` compiles, and proves nothing of, the
@@ -47,6 +47,10 @@ $(IMAGE): user/manifest $(USER)
 # The merge gate: every proof from nothing, the edits that must fail, all tests and stored runs.
 test:
 	rt ci
+
+# The wrong bodies that the gate leaves out: those of the functions inside. It takes more than an hour of a processor.
+edits:
+	edits/try.py
 
 # Every proof, over what earlier checks kept.
 check:
