@@ -1,5 +1,5 @@
 -- The exits of calls on names.
-use Rattle.std.proofs.Common.{◌≡◌, ◌≢◌, ℕ, ◌≤◌, Result, Ok, Err, length, ap, sym, refl, ◌∙◌, arith, subst}
+use Rattle.std.proofs.Common.{◌≡◌, ◌≢◌, ℕ, ◌≤◌, Result, Ok, Err, length, ap, sym, refl, ◌∙◌, arith, subst, false}
 use Rattle.std.specs.Prelude.{IfErr}
 use Rattle.std.specs.Result.{IsErrAnd, is_err}
 use Rattle.std.proofs.lemmas.Result.{err_from_is_err_and}
@@ -8,7 +8,9 @@ use Rattle.cache.specs.Disk.{Disk}
 use Rattle.tree.specs.Answers.{Answers, IsRefused}
 use Rattle.tree.specs.declared.TreeFault.{TreeFault}
 use Rattle.tree.specs.declared.TreeFault.TheVariants.{Device}
-use Rattle.unixmodel.specs.Failures.{HasCause}
+use Rattle.unixmodel.specs.Failures.{HasCause, Rises}
+use Rattle.tree.specs.Tree.{is_device}
+use Rattle.std.proofs.lemmas.Bool.{false≢true}
 use Rattle.tree.proofs.Reading.{Rises-before}
 
 pub told-err : {T E : Type 0} {fault : E} (r : Result T E) → IsErrAnd r (λ f. f ≡ fault) → r ≡ Err fault
@@ -27,14 +29,18 @@ module _ {T : Type 0} {old new : Disk} {Done : T → Type 0} {Refused : Type 0} 
   Answers-yes x done count later = record { done = done; refused = tt; count = count; later = later; failed = λ e. cc }
 
   -- it is refused
-  pub Answers-no : (fault : TreeFault) → fault ≢ Device → new.blocks ≡ old.blocks → old.failures ≤ new.failures → Refused → Why fault → Answers old new (Err fault) Done Refused Why
+  pub Answers-no : (fault : TreeFault) → is_device fault ≡ false → new.blocks ≡ old.blocks → old.failures ≤ new.failures → Refused → Why fault → Answers old new (Err fault) Done Refused Why
   Answers-no fault known same later none why = record {
     done = tt;
     refused = λ _. record { refused = none; why = why; same = same };
     count = ap length same;
     later = later;
-    failed = λ e. absurd (known (err-is fault Device e));
+    failed = λ e. absurd (false≢true (sym known ∙ ap is_device (err-is fault Device e)));
   }
+
+  -- the one access failed
+  pub Answers-lost : length new.blocks ≡ length old.blocks → old.failures ≤ new.failures → Rises old.failures new.failures → Answers old new (Err Device) Done Refused Why
+  Answers-lost count later rises = record { done = tt; refused = λ known. absurd (known refl); count = count; later = later; failed = λ _. rises }
 
   -- an access failed
   pub Answers-fails : {U : Type 0} {r : Result U DeviceFault} {e : DeviceFault} {before : ℕ} {result : Result T TreeFault} → IsErrAnd result (λ f. f ≡ Device) → length new.blocks ≡ length old.blocks → old.failures ≤ before

@@ -32,6 +32,9 @@ pub leaf-empty : (l : Leaf) → size_of (leaf_node l) ≡ 0
 leaf-empty leaf.File = refl
 leaf-empty (leaf.Device major minor) = refl
 
+pub some-kind : {kind : ℕ} → 2 ≤ kind → 1 ≤ kind
+some-kind {kind} h = omega arith
+
 -- a name that has no room makes nothing
 pub weaker-gap : (limit : ℕ) (files : Files) (d : ℕ) (path : List ℕ) (node : Node) → size_of node ≡ 0 → (told : TreeFault) → told ≢ fault.Device → LacksGap limit files d path 0 told
     → Overflows limit (made_files (made_in files d path node)) × LacksMaking limit files d path 0 told

@@ -7,6 +7,7 @@ pub mod Looking
 pub mod Parts
 pub mod Rooms
 pub mod Answering
+pub mod Exits
 pub mod Spots
 pub mod Placing
 pub mod Taking

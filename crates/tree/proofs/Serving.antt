@@ -215,3 +215,8 @@ write-serves g d d' hs n at bytes f b (Ok k) up turns told e = record {
   down = tt;
   cause = turns.cause;
 }
+
+-- where the blocks are as they were
+pub same-held : {T : Type 0} {g : Geometry} {b : Bool} (old new : List (List ℕ)) (r : Result T DeviceFault) → OnOk r (new ≡ old) → b ≡ is_err r → IsHeld g old → b ≡ false → IsHeld g new
+same-held {g = g} old new (Ok x) same e held up = subst (λ b. IsHeld g b) (sym same) held
+same-held old new (Err fault) same e held up = absurd (false≢true (sym up ∙ e))

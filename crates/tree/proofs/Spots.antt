@@ -5,7 +5,11 @@ use Rattle.names.specs.Rules.{KeepsTree}
 use Rattle.layout.specs.declared.Geometry.{Geometry}
 use Rattle.layout.specs.Image.{IsInode, inode_at}
 use Rattle.tree.specs.Held.{Holds}
-use Rattle.tree.specs.Paths.{IsDead, IsNoDirectory, above}
+use Rattle.tree.specs.Lacking.{LacksGap}
+use Rattle.tree.specs.Paths.{IsDead, IsNoDirectory, LacksSpot, above}
+use Rattle.tree.specs.declared.TreeFault.{TreeFault}
+use Rattle.tree.specs.declared.TreeFault.TheVariants.{Blocks, DeadDir, DotName, Exists, Full, Inodes, IsDir, Links, NotDir, NotEmpty, NotFound}
+use Rattle.tree.specs.declared.TreeFault.TheVariants as fault
 use Rattle.unixmodel.specs.Files.{Files, Node, Spot, live_places, live_spot, slot, spot_of}
 use Rattle.unixmodel.specs.Files.Node.{Device, Directory, File}
 use Rattle.tree.proofs.Looking.{node-of}
@@ -51,3 +55,18 @@ module _ {g : Geometry} {blocks : List (List ℕ)} {files : Files} (holds : Hold
       go (Device l major minor) here = let e = (held-raw g blocks files holds k (Device l major minor) here).kind in absurd (omega arith)
       go (Directory zero places) here = absurd (some (links-are ∙ (held-raw g blocks files holds k (Directory zero places) here).links))
       go (Directory (suc l) places) here = spot-at ∙ ap (λ o. cond (is_some (live_places o)) (Some (let s : Spot = record { directory = k; name = name } in s)) None) here
+
+-- a path without a spot has no room for a name
+pub spot-lacks : (limit : ℕ) (files : Files) (d : ℕ) (path : List ℕ) (more : ℕ) (told : TreeFault) → LacksSpot files d path told → LacksGap limit files d path more told
+spot-lacks limit files d path more NotFound why = why
+spot-lacks limit files d path more NotDir why = why
+spot-lacks limit files d path more Exists why = absurd why
+spot-lacks limit files d path more IsDir why = absurd why
+spot-lacks limit files d path more NotEmpty why = absurd why
+spot-lacks limit files d path more DotName why = absurd why
+spot-lacks limit files d path more DeadDir why = why
+spot-lacks limit files d path more Links why = absurd why
+spot-lacks limit files d path more Blocks why = absurd why
+spot-lacks limit files d path more Inodes why = absurd why
+spot-lacks limit files d path more Full why = absurd why
+spot-lacks limit files d path more fault.Device why = tt

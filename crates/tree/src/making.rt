@@ -28,7 +28,7 @@ use layout::Geometry;
 const MOST_LINKS: u16 = 32767;
 
 /// What a new node is that is no directory.
-#[derive(Clone, Copy, Debug, PartialEq, Eq)]
+#[derive(Clone, Copy)]
 pub enum Leaf {
     /// A file without bytes.
     File,

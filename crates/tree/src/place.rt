@@ -26,7 +26,7 @@ pub const DIRECTORY: u16 = 1;
 const MOST_PLACES: usize = 17152;
 
 /// Where a name stands, and the number that it names.
-#[derive(Clone, Copy, Debug, PartialEq, Eq)]
+#[derive(Clone, Copy)]
 pub struct Found {
     /// The place in the directory.
     pub place: usize,

@@ -1,10 +1,11 @@
-use Rattle.std.proofs.Common.{Err, Some, ap, arith, length, subst, ◌*◌, ◌∙◌}
+use Rattle.std.proofs.Common.{Err, Some, ap, arith, length, subst, ◌*◌, ◌∙◌, le_refl}
 use Rattle.blockdev.specs.Splice.{splice}
 use Rattle.inode.specs.Writing.{IsFull, Wrote}
 use Rattle.layout.specs.Image.{bytes_of}
 use Rattle.imagerules.proofs.Spelling.{length-place_bytes}
 use Rattle.tree.specs.Held.{files_of}
 use Rattle.tree.proofs.Placing.{Holds-entered, never-lacks, place-high, place-low, room-inode}
+use Rattle.tree.proofs.Exits.{Turns-good, Turns-lost}
 use Rattle.tree.proofs.entering.put_entry.Goals as goal
 
 pub overflow_mul-gap : goal.overflow_mul-gap
@@ -12,8 +13,12 @@ overflow_mul-gap g c =
     let high = place-high c.args.geometry c.args.disk.now.blocks c.args.disk.now.blocks (files_of c.args.geometry c.args.disk.now.blocks) c.requires.held c.args.gap.now.directory c.args.gap.now.place c.requires.room _ c.requires.plain in
     omega arith
 
-pub write_at-requires-clause-inode : goal.write_at-requires-clause-inode
-write_at-requires-clause-inode g c = room-inode c.requires.held c.args.gap.now.directory c.args.gap.now.place c.requires.room
+pub write_at-requires : goal.write_at-requires
+write_at-requires g c =
+    record {
+      sound = c.requires.held.sound;
+      inode = room-inode c.requires.held c.args.gap.now.directory c.args.gap.now.place c.requires.room;
+    }
 
 pub unreachable-requires : goal.unreachable-requires
 unreachable-requires g c =
@@ -40,8 +45,9 @@ pub returns-in-Ok : goal.returns-in-Ok
 returns-in-Ok g c =
     let blocks = c.args.disk.now.blocks in
     let wrote = subst (λ bytes. Wrote c.args.geometry blocks c.write_at.new.disk.blocks c.args.gap.now.directory (splice (16 * c.args.gap.now.place) bytes (bytes_of blocks c.args.gap.now.directory))) c.place_bytes-entry.ensures c.in-Ok.ensures.wrote in
-    record {
-      holds = Holds-entered c.args.geometry blocks c.write_at.new.disk.blocks (files_of c.args.geometry blocks) c.requires.held c.args.gap.now.directory c.args.gap.now.place c.requires.room _ c.requires.plain wrote;
-      count = c.write_at.ensures.count;
-      cause = record { later = c.write_at.ensures.later; failed = λ e. cc };
-    }
+    Turns-good c.write_at.ensures.count
+    (Holds-entered c.args.geometry blocks c.write_at.new.disk.blocks (files_of c.args.geometry blocks) c.requires.held c.args.gap.now.directory c.args.gap.now.place c.requires.room _ c.requires.plain wrote)
+    c.write_at.ensures.later
+
+pub returns-in-Err-Device : goal.returns-in-Err-Device
+returns-in-Err-Device g c = Turns-lost c.write_at.ensures.count c.write_at.ensures.later (c.write_at.ensures.failed (c.in-Err-Device.is ∙ ap Err c.in-Err-Device.field-0-is))

@@ -1,10 +1,11 @@
-use Rattle.std.proofs.Common.{◌≡◌, Some, ap, arith, refl, sym, ◌∙◌}
+use Rattle.std.proofs.Common.{◌≡◌, Some, ap, arith, refl, sym, ◌∙◌, le_refl, le_trans, None}
 use Rattle.std.proofs.lemmas.Result.{err_from_is_err_and}
 use Rattle.names.proofs.Naming.{lookup-used}
 use Rattle.tree.specs.Held.{files_of}
-use Rattle.unixmodel.specs.Files.{lookup, parts}
-use Rattle.tree.proofs.Parts.{find-start, follow-next, start-held}
-use Rattle.tree.proofs.Reading.{Reads-fails, read-later, read-same, read-told}
+use Rattle.unixmodel.specs.Files.{lookup, parts, follow}
+use Rattle.tree.proofs.Parts.{find-start, follow-next, start-held, follow-none}
+use Rattle.tree.proofs.Reading.{Reads-fails, read-later, read-same, read-told, Reads-good}
+use Rattle.tree.proofs.Exits.{held-same, used-same}
 use Rattle.tree.proofs.path.find.Goals as goal
 
 pub name-init : goal.name-init
@@ -35,3 +36,26 @@ name-preserved g c =
       used = lookup-used c.requires.rules c.name.number name c.in-Some-2.next found;
       rest = sym (follow-next files c.name.number c.in-Some-2.next (parts c.name.rest.now) name (parts c.in-Some.after.now) c.in-Some.ensures.some found) ∙ i.rest;
     }
+
+pub lookup-requires : goal.lookup-requires
+lookup-requires g c =
+    let i = c.name.invariant in
+    record { held = held-same i.same c.requires.held; node = used-same i.same c.args.geometry c.name.number i.used }
+
+pub returns-in_default-2 : goal.returns-in_default-2
+returns-in_default-2 g c =
+    let files = files_of c.args.geometry c.args.disk.now.blocks in
+    let i = c.name.invariant in
+    let name = c.in-Some.name.now in
+    let none : lookup files c.name.number name ≡ None =
+    sym (sym c.in_default-2.is ∙ read-told c.lookup.ensures c.in_ok-next.field-0 c.in_ok-next.was ∙ ap (λ b. lookup (files_of c.args.geometry b) c.name.number name) i.same) in
+    Reads-good _ (read-same c.lookup.ensures c.in_ok-next.field-0 c.in_ok-next.was ∙ i.same) (le_trans i.failures (read-later c.lookup.ensures))
+    (sym (follow-none files c.name.number (parts c.name.rest.now) name (parts c.in-Some.after.now) c.in-Some.ensures.some none) ∙ i.rest)
+
+pub name-smaller : goal.name-smaller
+name-smaller g c = c.in-Some.ensures.shorter
+
+pub returns : goal.returns
+returns g c =
+    let i = c.name.invariant in
+    Reads-good _ i.same i.failures (sym (ap (follow (files_of c.args.geometry c.args.disk.now.blocks) c.name.number) c.in_default.ensures.none) ∙ i.rest)

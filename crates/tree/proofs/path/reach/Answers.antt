@@ -1,10 +1,12 @@
-use Rattle.std.proofs.Common.{◌≡◌, Some, ap, arith, refl, sym, ◌∙◌}
+use Rattle.std.proofs.Common.{◌≡◌, Some, ap, arith, refl, sym, ◌∙◌, le_refl, le_trans, None, ◌∷◌}
 use Rattle.std.proofs.lemmas.Result.{err_from_is_err_and}
 use Rattle.names.proofs.Naming.{lookup-used}
 use Rattle.tree.specs.Held.{files_of}
 use Rattle.unixmodel.specs.Files.{lookup, parts}
-use Rattle.tree.proofs.Parts.{above-nothing, above-start, reach-next, start-held}
+use Rattle.tree.proofs.Parts.{above-nothing, above-start, reach-next, start-held, reach-none}
 use Rattle.tree.proofs.Reading.{Reads-fails, Reads-good, read-later, read-same, read-told}
+use Rattle.tree.proofs.Exits.{held-same, used-same}
+use Rattle.tree.specs.Paths.{reach}
 use Rattle.tree.proofs.path.reach.Goals as goal
 
 pub returns-in_default : goal.returns-in_default
@@ -38,3 +40,26 @@ name-preserved g c =
       used = lookup-used c.requires.rules c.name.number name c.in-Some-2.next found;
       rest = sym (reach-next files c.name.number name (parts c.name.rest.now) c.in-Some-first_name.last.now (parts c.in-Some-first_name.after.now) c.in-Some-first_name.ensures.some c.in-Some-2.next found) ∙ i.rest;
     }
+
+pub lookup-requires : goal.lookup-requires
+lookup-requires g c =
+    let i = c.name.invariant in
+    record { held = held-same i.same c.requires.held; node = used-same i.same c.args.geometry c.name.number i.used }
+
+pub returns-in_default-2 : goal.returns-in_default-2
+returns-in_default-2 g c =
+    let files = files_of c.args.geometry c.args.disk.now.blocks in
+    let i = c.name.invariant in
+    let name = c.name.name.now in
+    let none : lookup files c.name.number name ≡ None =
+    sym (sym c.in_default-2.is ∙ read-told c.lookup.ensures c.in_ok-next.field-0 c.in_ok-next.was ∙ ap (λ b. lookup (files_of c.args.geometry b) c.name.number name) i.same) in
+    Reads-good _ (read-same c.lookup.ensures c.in_ok-next.field-0 c.in_ok-next.was ∙ i.same) (le_trans i.failures (read-later c.lookup.ensures))
+    (sym (reach-none files c.name.number name (parts c.name.rest.now) c.in-Some-first_name.last.now (parts c.in-Some-first_name.after.now) c.in-Some-first_name.ensures.some none) ∙ i.rest)
+
+pub name-smaller : goal.name-smaller
+name-smaller g c = c.in-Some-first_name.ensures.shorter
+
+pub returns : goal.returns
+returns g c =
+    let i = c.name.invariant in
+    Reads-good _ i.same i.failures (sym (ap (λ names. reach (files_of c.args.geometry c.args.disk.now.blocks) c.name.number (c.name.name.now ∷ names)) c.in_default-first_name.ensures.none) ∙ i.rest)

@@ -1,4 +1,4 @@
-use Rattle.std.proofs.Common.{◌≡◌, ◌<◌, ◌*◌, ◌/◌, length, ap, sym, ◌∙◌, arith, inl, inr}
+use Rattle.std.proofs.Common.{◌≡◌, ◌<◌, ◌*◌, ◌/◌, length, ap, sym, ◌∙◌, arith, inl, inr, le_refl, le_trans}
 use Rattle.std.specs.Prelude.{is_some}
 use Rattle.std.proofs.lemmas.Bool.{cases_lt}
 use Rattle.std.proofs.lemmas.Result.{err_from_is_err_and}
@@ -9,6 +9,7 @@ use Rattle.unixmodel.specs.Files.{slot}
 use Rattle.tree.proofs.Reading.{Reads-fails, Reads-good, place-free, place-is, place-taken, read-later, read-same, read-told}
 use Rattle.tree.proofs.Rooms.{room-end, room-free}
 use Rattle.imagerules.proofs.Spelling.{length-places_in}
+use Rattle.tree.proofs.Exits.{Reads-broken, inode-same, place-within, sound-same, nearer, none-before}
 use Rattle.tree.proofs.place.room.Goals as goal
 
 pub returns-in_err-bytes : goal.returns-in_err-bytes
@@ -48,3 +49,20 @@ returns g c =
     let bytes = bytes_of c.args.disk.now.blocks c.args.directory in
     Reads-good _ i.same i.failures
     (c.end_place.ensures ∙ sym (room-end (places_in bytes) c.place.k _ (let s = c.in_ok-stat.ensures.size in omega (arith, length-places_in bytes)) (omega arith) i.before))
+
+pub stat-requires : goal.stat-requires
+stat-requires g c = record { sound = c.requires.sound; inode = c.requires.inode }
+
+pub returns-in_err-stat : goal.returns-in_err-stat
+returns-in_err-stat g c = Reads-broken c.stat.ensures.count (le_refl _) c.stat.ensures.cause c.in_err-stat.was (err_from_is_err_and c.from_residual.result c.from_residual.ensures.1).1
+
+pub place-init : goal.place-init
+place-init g c = record { same = c.in_ok-stat.ensures.same; failures = c.stat.ensures.cause.later; before = λ j l. none-before j l }
+
+pub read_place-requires : goal.read_place-requires
+read_place-requires g c =
+    let same = c.place.invariant.same in
+    record { sound = sound-same same c.requires.sound; inode = inode-same same c.requires.inode; within = place-within same c.args.directory c.in_ok-stat.stat.size c.place.k c.in_ok-stat.ensures.size c.place-test.true }
+
+pub place-smaller : goal.place-smaller
+place-smaller g c = nearer (c.in_ok-stat.stat.size / 16) c.place.k c.place-test.true

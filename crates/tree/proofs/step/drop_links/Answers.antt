@@ -1,22 +1,23 @@
-use Rattle.std.proofs.Common.{ap, sym, ◌∙◌}
-use Rattle.tree.specs.Held.{files_of}
+use Rattle.std.proofs.Common.{ap, sym, ◌∙◌, le_refl, subst}
+use Rattle.tree.specs.Held.{files_of, Holds}
 use Rattle.tree.specs.Names.{dropped}
 use Rattle.unixmodel.specs.NameCalls.{fewer_links}
 use Rattle.tree.proofs.Linking.{Turns-after, turned}
 use Rattle.tree.proofs.Storing.{files-are, held-again}
 use Rattle.tree.proofs.Unlinking.{stays-node}
 use Rattle.unixmodel.specs.Files.{Files, change_node, slot}
+use Rattle.tree.proofs.Exits.{Turns-broken, Turns-good}
+use Rattle.std.proofs.lemmas.Result.{err_from_is_err_and}
 use Rattle.tree.proofs.step.drop_links.Goals as goal
 
-pub drop_link-requires-then-is_directory-clause-held : goal.drop_link-requires-then-is_directory-clause-held
-drop_link-requires-then-is_directory-clause-held g c =
-    held-again c.args.geometry c.drop_link.new.disk.blocks (change_node (files_of c.args.geometry c.args.disk.now.blocks) c.args.number fewer_links) (turned c.drop_link.ensures c.in_ok-drop_link.field-0 c.in_ok-drop_link.was)
-
-pub drop_link-requires-then-is_directory-clause-node : goal.drop_link-requires-then-is_directory-clause-node
-drop_link-requires-then-is_directory-clause-node g c =
+pub drop_link-requires-then-is_directory : goal.drop_link-requires-then-is_directory
+drop_link-requires-then-is_directory g c =
     let files = files_of c.args.geometry c.args.disk.now.blocks in
-    λ e. stays-node files c.args.number fewer_links c.args.directory c.requires.directory
-    (ap (λ (fs : Files). slot fs c.args.directory) (sym (files-are c.args.geometry c.drop_link.new.disk.blocks (change_node files c.args.number fewer_links) (turned c.drop_link.ensures c.in_ok-drop_link.field-0 c.in_ok-drop_link.was))) ∙ e)
+    record {
+      held = held-again c.args.geometry c.drop_link.new.disk.blocks (change_node (files_of c.args.geometry c.args.disk.now.blocks) c.args.number fewer_links) (turned c.drop_link.ensures c.in_ok-drop_link.field-0 c.in_ok-drop_link.was);
+      node = λ e. stays-node files c.args.number fewer_links c.args.directory c.requires.directory
+          (ap (λ (fs : Files). slot fs c.args.directory) (sym (files-are c.args.geometry c.drop_link.new.disk.blocks (change_node files c.args.number fewer_links) (turned c.drop_link.ensures c.in_ok-drop_link.field-0 c.in_ok-drop_link.was))) ∙ e);
+    }
 
 pub returns-then-is_directory : goal.returns-then-is_directory
 returns-then-is_directory g c =
@@ -26,3 +27,16 @@ returns-then-is_directory g c =
     (ap (λ (fs : Files). change_node fs c.args.directory fewer_links) (files-are c.args.geometry c.drop_link.new.disk.blocks less (turned c.drop_link.ensures c.in_ok-drop_link.field-0 c.in_ok-drop_link.was))
     ∙ sym (ap (dropped files c.args.number c.args.directory) c.if-is_directory.true))
     c.drop_link-then-is_directory.ensures
+
+pub drop_link-requires : goal.drop_link-requires
+drop_link-requires g c = record { held = c.requires.held; node = c.requires.node }
+
+pub returns-in_err-drop_link : goal.returns-in_err-drop_link
+returns-in_err-drop_link g c = Turns-broken c.drop_link.ensures.count (le_refl _) c.drop_link.ensures.cause c.in_err-drop_link.was (err_from_is_err_and c.from_residual.result c.from_residual.ensures.1).1
+
+pub returns : goal.returns
+returns g c =
+    Turns-good c.drop_link.ensures.count
+    (subst (λ goes. Holds c.args.geometry c.drop_link.new.disk.blocks (dropped (files_of c.args.geometry c.args.disk.now.blocks) c.args.number c.args.directory goes)) (sym c.if-is_directory.false)
+    (turned c.drop_link.ensures c.in_ok-drop_link.field-0 c.in_ok-drop_link.was))
+    c.drop_link.ensures.cause.later

@@ -1,4 +1,4 @@
-use Rattle.std.proofs.Common.{◌∙◌}
+use Rattle.std.proofs.Common.{◌∙◌, le_refl}
 use Rattle.inode.proofs.Wrote.{IsInode-same}
 use Rattle.tree.specs.Held.{files_of}
 use Rattle.tree.proofs.Linking.{some-node}
@@ -6,13 +6,18 @@ use Rattle.tree.proofs.Reading.{HasCause-after}
 use Rattle.tree.proofs.Releasing.{emptied-size, released}
 use Rattle.tree.proofs.Storing.{held-inode}
 use Rattle.unixmodel.specs.Files.{slot}
+use Rattle.tree.proofs.Exits.{Turns-broken}
+use Rattle.std.proofs.lemmas.Result.{err_from_is_err_and}
 use Rattle.tree.proofs.step.release.Goals as goal
 
-pub truncate-requires-clause-inode : goal.truncate-requires-clause-inode
-truncate-requires-clause-inode g c =
+pub truncate-requires : goal.truncate-requires
+truncate-requires g c =
     let files = files_of c.args.geometry c.args.disk.now.blocks in
     let at = some-node (slot files c.args.number) c.requires.node in
-    held-inode c.args.geometry c.args.disk.now.blocks files c.requires.held c.args.number at.0 at.1
+    record {
+      sound = c.requires.held.sound;
+      inode = held-inode c.args.geometry c.args.disk.now.blocks files c.requires.held c.args.number at.0 at.1;
+    }
 
 pub give_inode-requires : goal.give_inode-requires
 give_inode-requires g c =
@@ -32,3 +37,6 @@ returns g c = record {
   count = c.give_inode.ensures.count ∙ c.truncate.ensures.count;
   cause = HasCause-after c.truncate.ensures.cause.later c.give_inode.ensures.cause;
 }
+
+pub returns-in_err-truncate : goal.returns-in_err-truncate
+returns-in_err-truncate g c = Turns-broken c.truncate.ensures.count (le_refl _) c.truncate.ensures.cause c.in_err-truncate.was (err_from_is_err_and c.from_residual.result c.from_residual.ensures.1).1

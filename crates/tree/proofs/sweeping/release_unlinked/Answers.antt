@@ -1,4 +1,4 @@
-use Rattle.std.proofs.Common.{[], ◌≡◌, ap, arith, refl, sym, ◌∙◌}
+use Rattle.std.proofs.Common.{[], ◌≡◌, ap, arith, refl, sym, ◌∙◌, le_refl}
 use Rattle.std.proofs.lemmas.Option.{none-some}
 use Rattle.tree.specs.Held.{files_of}
 use Rattle.tree.specs.Holding.{let_go}
@@ -6,6 +6,8 @@ use Rattle.tree.proofs.Letting.{let-go-clear, let-go-linked}
 use Rattle.tree.proofs.Linking.{Turns-after}
 use Rattle.tree.proofs.Swept.{let-go-free, told-free, told-node, turns-same}
 use Rattle.unixmodel.specs.Files.{clear, slot}
+use Rattle.tree.proofs.Exits.{Turns-broken, held-same}
+use Rattle.std.proofs.lemmas.Result.{err_from_is_err_and}
 use Rattle.tree.proofs.sweeping.release_unlinked.Goals as goal
 
 pub look-requires : goal.look-requires
@@ -34,3 +36,9 @@ returns g c =
     let at = told-node c.requires c.args.number c.in_ok-node.field-0 c.in-Some.node c.in-Some.is c.in_ok-node.ensures.told in
     let goes : clear files c.args.number ≡ let_go [] files c.args.number = sym (let-go-clear [] files c.args.number at.0 at.1 refl (omega (arith, at.2, c.if-node-gt0.false))) in
     Turns-after c.look.ensures.count c.look.ensures.cause.later (ap (λ b. clear (files_of c.args.geometry b) c.args.number) c.in_ok-node.ensures.same ∙ goes) c.release.ensures
+
+pub returns-in_err-node : goal.returns-in_err-node
+returns-in_err-node g c = Turns-broken c.look.ensures.count (le_refl _) c.look.ensures.cause c.in_err-node.was (err_from_is_err_and c.from_residual.result c.from_residual.ensures.1).1
+
+pub release-requires-clause-held : goal.release-requires-clause-held
+release-requires-clause-held g c = held-same c.in_ok-node.ensures.same c.requires

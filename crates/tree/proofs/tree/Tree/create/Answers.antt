@@ -17,3 +17,9 @@ returns g c = rw (← c.self.view_is) (acts c.self.inside.geometry c.self.inside
 
 pub invariant_of-self : goal.invariant_of-self
 invariant_of-self g c = record { count = c.self.invariant.count; held = answers-held c.create-result.ensures c.has_failed-self-inside.ensures (c.self.invariant.held (ap (λ (t : FileTree). t.failed) c.self.view_is ∙ c.requires.up)) }
+
+pub create-result-requires-clause-held : goal.create-result-requires-clause-held
+create-result-requires-clause-held g c = c.self.invariant.held (ap (λ (t : FileTree). t.failed) c.self.view_is ∙ c.requires.up)
+
+pub create-result-requires-clause-path : goal.create-result-requires-clause-path
+create-result-requires-clause-path g c = c.requires.path

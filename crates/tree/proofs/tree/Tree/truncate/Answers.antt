@@ -17,3 +17,6 @@ returns g c =
 
 pub invariant_of-self : goal.invariant_of-self
 invariant_of-self g c = record { count = c.self.invariant.count; held = turns-held c.empty_file-result.ensures c.is_err-self-inside.ensures.value }
+
+pub empty_file-result-requires-clause-held : goal.empty_file-result-requires-clause-held
+empty_file-result-requires-clause-held g c = c.self.invariant.held (ap (λ (t : FileTree). t.failed) c.self.view_is ∙ c.requires.up)

@@ -15,3 +15,6 @@ returns g c =
 
 pub invariant_of-self : goal.invariant_of-self
 invariant_of-self g c = record { count = c.self.invariant.count; held = turns-held c.write-result.ensures.turns c.is_err-self-inside.ensures.value }
+
+pub write-result-requires-clause-held : goal.write-result-requires-clause-held
+write-result-requires-clause-held g c = c.self.invariant.held (ap (λ (t : FileTree). t.failed) c.self.view_is ∙ c.requires.up)
