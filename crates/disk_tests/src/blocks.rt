@@ -1,7 +1,7 @@
 //! Free blocks and inodes: the lowest is taken first.
 
-ghost use Rattle.std.specs.Prelude.{◌≤◌};
-ghost use Rattle.layout.specs.Sound.{HasParts};
+ghost use Rattle.std.specs.Prelude.{◌≤◌, OnOk};
+ghost use Rattle.layout.specs.Sound.{HasParts, IsSound};
 
 use crate::volume::{SMALL, disk_of};
 use balloc::{
@@ -10,74 +10,110 @@ use balloc::{
 use blockdev::FlakyDisk;
 use cache::Cache;
 use layout::Geometry;
-use std::test::Fail;
+use std::process::Abort;
 
-// One call of each, on a new file system: the number of an inode, and blocks, of which the second is given back before
-// the last two are taken.
-fn use_all(
-    disk: &mut Cache<FlakyDisk>,
-    geometry: Geometry,
-) -> Result<(usize, usize, usize, (usize, usize)), BallocFault>
-    requires parts { HasParts geometry disk.old.blocks }
-    requires size { 32 ≤ geometry.size }
+// What is taken: the number of an inode, and blocks, of which the second is given back before the last two are taken.
+type Taken = (usize, (usize, usize, (usize, usize)));
+
+// An inode is taken and given back.
+fn use_inode(disk: &mut Cache<FlakyDisk>, geometry: Geometry) -> Result<usize, BallocFault>
+    requires sound { IsSound geometry disk.old.blocks }
+    ensures sound { OnOk result (IsSound geometry disk.new.blocks) }
 {
-    format(disk, geometry)?;
     let number = take_inode(disk, geometry, 2, 0, 0, 1)?;
     give_inode(disk, geometry, number)?;
+    Ok(number)
+}
+
+// Blocks are taken, and the second is given back.
+fn use_blocks(
+    disk: &mut Cache<FlakyDisk>,
+    geometry: Geometry,
+) -> Result<(usize, usize, (usize, usize)), BallocFault>
+    requires parts { HasParts geometry disk.old.blocks }
+{
     let first = take_block(disk, geometry)?;
     let second = take_block(disk, geometry)?;
     give_block(disk, geometry, second)?;
     let two = take_two(disk, geometry)?;
+    Ok((first, second, two))
+}
+
+// One call of each, on a new file system.
+fn use_all(disk: &mut Cache<FlakyDisk>, geometry: Geometry) -> Result<Taken, BallocFault>
+    requires parts { HasParts geometry disk.old.blocks }
+    requires size { 32 ≤ geometry.size }
+{
+    format(disk, geometry)?;
+    let number = use_inode(disk, geometry)?;
+    let blocks = use_blocks(disk, geometry)?;
     disk.flush()?;
-    Ok((number, first, second, two))
+    Ok((number, blocks))
+}
+
+// What one call of each gives on a small disk of such bytes, and whether an access failed, after so many good ones.
+fn use_small(
+    rt: &(impl Abort + AllocGlobal),
+    byte: u8,
+    good: u64,
+) -> (Result<Taken, BallocFault>, bool) {
+    let mut disk = disk_of(rt.alloc(), SMALL, byte, good).expect(rt, "a disk");
+    let told = use_all(&mut disk, SMALL);
+    (told, disk.into_device().has_failed())
+}
+
+// What is taken where nothing fails.
+const TAKEN: Taken = (1, (5, 6, (6, 7)));
+
+#[test]
+fn finds_the_lowest_clear_bit(rt: HostRuntime) {
+    for (byte, from, to, bit) in [
+        (0xff, 0, 8192, Some(8191)),
+        (0xff, 0, 8191, None),
+        (0xff, 8191, 8191, None),
+        (0xef, 0, 8192, Some(804)),
+        (0xef, 805, 8192, Some(8191)),
+    ] {
+        let mut block = [0xff; 1024];
+        block[1023] = 0x7f;
+        block[100] = byte;
+        assert!(rt; first_clear(&block, from, to) == bit, "from {from} to {to}");
+    }
 }
 
 #[test]
-fn finds_the_lowest_clear_bit(rt: HostRuntime) -> Result<(), Fail> {
-    let mut block = [0xff; 1024];
-    block[1023] = 0x7f;
-    assert_eq!(rt; first_clear(&block, 0, 8192), Some(8191));
-    assert_eq!(rt; first_clear(&block, 0, 8191), None);
-    assert_eq!(rt; first_clear(&block, 8191, 8191), None);
-    block[100] = 0xef;
-    assert_eq!(rt; first_clear(&block, 0, 8192), Some(804));
-    assert_eq!(rt; first_clear(&block, 805, 8192), Some(8191));
-    Ok(())
+fn takes_the_lowest(rt: HostRuntime) {
+    assert!(rt; use_small(&rt, 7, u64::MAX) == (Ok(TAKEN), false));
+}
+
+// A new file system of these numbers.
+fn formatted(rt: &(impl Abort + AllocGlobal), geometry: Geometry) -> Cache<FlakyDisk>
+    ensures { HasParts geometry result.blocks }
+{
+    let mut disk = disk_of(rt.alloc(), geometry, 0, u64::MAX).expect(rt, "a disk");
+    assert!(rt; format(&mut disk, geometry).is_ok());
+    disk
 }
 
 #[test]
-fn takes_the_lowest(rt: HostRuntime) -> Result<(), Fail> {
-    let mut disk = disk_of(rt.alloc(), SMALL, 7, u64::MAX)?;
-    assert_eq!(rt; use_all(&mut disk, SMALL)?, (1, 5, 6, (6, 7)));
-    Ok(())
-}
-
-#[test]
-fn tells_that_no_block_is_free(rt: HostRuntime) -> Result<(), Fail> {
+fn tells_that_no_block_is_free(rt: HostRuntime) {
     let geometry = Geometry {
         size: 32,
         inodes: 447,
     };
-    let mut disk = disk_of(rt.alloc(), geometry, 0, u64::MAX)?;
-    format(&mut disk, geometry)?;
-    assert_eq!(rt; take_block(&mut disk, geometry)?, 31);
-    assert_eq!(rt; take_block(&mut disk, geometry), Err(BallocFault::Blocks));
-    Ok(())
+    let mut disk = formatted(&rt, geometry);
+    assert!(rt; take_block(&mut disk, geometry) == Ok(31));
+    assert!(rt; take_block(&mut disk, geometry) == Err(BallocFault::Blocks));
 }
 
 #[test]
-fn tells_each_failure(rt: HostRuntime) -> Result<(), Fail> {
+fn tells_each_failure(rt: HostRuntime) {
     for good in 0..14 {
-        let mut disk = disk_of(rt.alloc(), SMALL, 0, good)?;
-        let result = use_all(&mut disk, SMALL);
-        let failed = disk.into_device().has_failed();
-        assert_eq!(rt; failed, good < 10, "after {good}");
-        let want = if failed {
-            Err(BallocFault::Device)
+        let want = if good < 10 {
+            (Err(BallocFault::Device), true)
         } else {
-            Ok((1, 5, 6, (6, 7)))
+            (Ok(TAKEN), false)
         };
-        assert_eq!(rt; result, want, "after {good}");
+        assert!(rt; use_small(&rt, 0, good) == want, "after {good}");
     }
-    Ok(())
 }

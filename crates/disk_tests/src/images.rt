@@ -1,8 +1,9 @@
 //! A small image, and each fault put into it.
 
+use crate::devices::zeros;
 use blockdev::{FlakyDisk, MemDisk};
 use image::{ImageFault, Summary, check};
-use std::test::Fail;
+use std::process::Abort;
 
 // A byte of an image and what it is set to.
 type Change = (usize, u8);
@@ -42,6 +43,15 @@ const FILE: [Change; 5] = [
     (5154, b'a'),
     (ROOT + 64, 2),
     (ROOT + 70, 1),
+];
+
+// That file with two blocks of bytes.
+const TWO_BLOCKS: [Change; 5] = [
+    (ROOT + 72, 1),
+    (ROOT + 73, 4),
+    (ROOT + 76, 6),
+    (ROOT + 80, 7),
+    (4096, 0xff),
 ];
 
 // A directory, inode 2, that the root names, with its two first places in block 6.
@@ -97,64 +107,46 @@ fn put(bytes: &mut [u8], changes: &[Change]) {
     }
 }
 
-// Checks the small image with these changes, one list after the other.
-fn check_after(
-    rt: &HostRuntime,
+// What is told of the small image with these changes, one list after the other.
+fn told_of(
+    rt: &(impl Abort + AllocGlobal),
     first: &[Change],
     second: &[Change],
-) -> Result<Result<Summary, ImageFault>, Fail> {
-    let mut bytes = vec![in rt.alloc(); 0; 32 * 1024]?;
+) -> Result<Summary, ImageFault> {
+    let mut bytes = vec![in rt.alloc(); 0; 32 * 1024].expect(rt, "memory");
     put(bytes.as_mut_slice(), &SMALL);
     put(bytes.as_mut_slice(), first);
     put(bytes.as_mut_slice(), second);
-    let mut disk = MemDisk::new(bytes)?;
-    Ok(check(rt.alloc(), &mut disk))
+    let mut disk = MemDisk::new(bytes).expect(rt, "whole blocks");
+    check(rt.alloc(), &mut disk)
 }
 
-// Checks the small image with these changes.
-fn check_with(rt: &HostRuntime, changes: &[Change]) -> Result<Result<Summary, ImageFault>, Fail> {
-    check_after(rt, &[], changes)
-}
-
-#[test]
-fn tells_what_is_in_use(rt: HostRuntime) -> Result<(), Fail> {
-    let root = check_with(&rt, &[])?;
-    assert_eq!(rt;
-        root,
-        Ok(Summary {
-            inodes: 1,
-            blocks: 1
-        })
-    );
-    let bytes = [
-        (ROOT + 72, 1),
-        (ROOT + 73, 4),
-        (ROOT + 76, 6),
-        (ROOT + 80, 7),
-        (4096, 0xff),
-    ];
-    let file = check_after(&rt, &FILE, &bytes)?;
-    assert_eq!(rt;
-        file,
-        Ok(Summary {
-            inodes: 2,
-            blocks: 3
-        })
-    );
-    let directory = check_with(&rt, &DIRECTORY)?;
-    assert_eq!(rt;
-        directory,
-        Ok(Summary {
-            inodes: 2,
-            blocks: 2
-        })
-    );
-    Ok(())
+// Each of these changes, behind the first ones, makes this fault.
+fn expect_fault(
+    rt: &(impl Abort + AllocGlobal),
+    fault: ImageFault,
+    first: &[Change],
+    rows: &[&[Change]],
+) {
+    for (row, second) in rows.iter().enumerate() {
+        assert!(rt; told_of(rt, first, second) == Err(fault), "row {row}");
+    }
 }
 
 #[test]
-fn tells_each_fault(rt: HostRuntime) -> Result<(), Fail> {
-    let faults = [
+fn tells_what_is_in_use(rt: HostRuntime) {
+    for (first, second, inodes, blocks) in [
+        ([].as_slice(), [].as_slice(), 1, 1),
+        (FILE.as_slice(), TWO_BLOCKS.as_slice(), 2, 3),
+        (DIRECTORY.as_slice(), [].as_slice(), 2, 2),
+    ] {
+        assert!(rt; told_of(&rt, first, second) == Ok(Summary { inodes, blocks }));
+    }
+}
+
+#[test]
+fn tells_each_fault(rt: HostRuntime) {
+    for (fault, change) in [
         (ImageFault::Length, (1028, 33)),
         (ImageFault::Magic, (1024, 0x41)),
         (ImageFault::Numbers, (1044, 3)),
@@ -168,66 +160,57 @@ fn tells_each_fault(rt: HostRuntime) -> Result<(), Fail> {
         (ImageFault::Address, (ROOT + 60, 6)),
         (ImageFault::Bitmap, (4096, 0x1f)),
         (ImageFault::Bitmap, (4099, 0x80)),
-    ];
-    for (fault, change) in faults {
-        let told = check_with(&rt, &[change])?;
-        assert_eq!(rt; told, Err(fault));
+    ] {
+        assert!(rt; told_of(&rt, &[], &[change]) == Err(fault));
     }
+}
+
+#[test]
+fn tells_a_shared_block(rt: HostRuntime) {
     let shared = [(ROOT + 64, 2), (ROOT + 72, 1), (ROOT + 76, 5)];
-    let told = check_with(&rt, &shared)?;
-    assert_eq!(rt; told, Err(ImageFault::SharedBlock));
-    Ok(())
+    expect_fault(&rt, ImageFault::SharedBlock, &shared, &[&[]]);
 }
 
 #[test]
-fn tells_wrong_entries(rt: HostRuntime) -> Result<(), Fail> {
-    // "." and ".." of the root and of a directory, and a name for the root.
-    let places = [(5120, 2), (5136, 2), (6144, 1), (6160, 2), (5152, 1)];
-    for change in places {
-        let told = check_after(&rt, &DIRECTORY, &[change])?;
-        assert_eq!(rt; told, Err(ImageFault::Entry));
-    }
-    let twice = [(ROOT + 8, 64), (5168, 2), (5170, b'b')];
-    let told = check_after(&rt, &DIRECTORY, &twice)?;
-    assert_eq!(rt; told, Err(ImageFault::Entry));
-    Ok(())
+fn tells_wrong_entries(rt: HostRuntime) {
+    // "." and ".." of the root and of a directory, a name for the root, and a name that stands twice.
+    expect_fault(
+        &rt,
+        ImageFault::Entry,
+        &DIRECTORY,
+        &[
+            &[(5120, 2)],
+            &[(5136, 2)],
+            &[(6144, 1)],
+            &[(6160, 2)],
+            &[(5152, 1)],
+            &[(ROOT + 8, 64), (5168, 2), (5170, b'b')],
+        ],
+    );
 }
 
 #[test]
-fn tells_wrong_links(rt: HostRuntime) -> Result<(), Fail> {
-    // A file's count, and those of the root and of a directory.
-    let raised = check_after(&rt, &FILE, &[(ROOT + 70, 2)])?;
-    assert_eq!(rt; raised, Err(ImageFault::Links));
-    let unnamed = check_after(&rt, &FILE, &[(ROOT + 8, 32), (ROOT + 70, 0)])?;
-    assert_eq!(rt; unnamed, Err(ImageFault::Links));
-    let root = check_after(&rt, &DIRECTORY, &[(ROOT + 6, 1)])?;
-    assert_eq!(rt; root, Err(ImageFault::Links));
-    let directory = check_after(&rt, &DIRECTORY, &[(ROOT + 70, 2)])?;
-    assert_eq!(rt; directory, Err(ImageFault::Links));
-    Ok(())
+fn tells_wrong_links(rt: HostRuntime) {
+    // A file's count, that of one without a name, and those of the root and of a directory.
+    let file: [&[Change]; 2] = [&[(ROOT + 70, 2)], &[(ROOT + 8, 32), (ROOT + 70, 0)]];
+    expect_fault(&rt, ImageFault::Links, &FILE, &file);
+    let directory: [&[Change]; 2] = [&[(ROOT + 6, 1)], &[(ROOT + 70, 2)]];
+    expect_fault(&rt, ImageFault::Links, &DIRECTORY, &directory);
 }
 
 #[test]
-fn tells_what_is_not_reached(rt: HostRuntime) -> Result<(), Fail> {
-    let told = check_with(&rt, &ROUND)?;
-    assert_eq!(rt; told, Err(ImageFault::Unreached));
-    Ok(())
+fn tells_what_is_not_reached(rt: HostRuntime) {
+    expect_fault(&rt, ImageFault::Unreached, &ROUND, &[&[]]);
 }
 
 #[test]
-fn tells_a_short_device(rt: HostRuntime) -> Result<(), Fail> {
-    let mut disk = MemDisk::new(vec![in rt.alloc(); 0; 1024]?)?;
-    let told = check(rt.alloc(), &mut disk);
-    assert_eq!(rt; told, Err(ImageFault::Length));
-    Ok(())
+fn tells_a_short_device(rt: HostRuntime) {
+    let mut disk = zeros(&rt, 1024);
+    assert!(rt; check(rt.alloc(), &mut disk) == Err(ImageFault::Length));
 }
 
 #[test]
-fn tells_a_failed_access(rt: HostRuntime) -> Result<(), Fail> {
-    let disk = MemDisk::new(vec![in rt.alloc(); 0; 2048]?)?;
-    let mut flaky = FlakyDisk::new(disk, 0);
-    let told = check(rt.alloc(), &mut flaky);
-    assert_eq!(rt; told, Err(ImageFault::Device));
-    assert!(rt; flaky.has_failed());
-    Ok(())
+fn tells_a_failed_access(rt: HostRuntime) {
+    let mut flaky = FlakyDisk::new(zeros(&rt, 2048), 0);
+    assert!(rt; check(rt.alloc(), &mut flaky) == Err(ImageFault::Device) && flaky.has_failed());
 }

@@ -6,6 +6,8 @@
 #[cfg(test)]
 mod blocks;
 #[cfg(test)]
+mod devices;
+#[cfg(test)]
 mod images;
 #[cfg(test)]
 mod inodes;

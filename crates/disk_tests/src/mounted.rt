@@ -5,27 +5,20 @@ use blockdev::{FlakyDisk, MemDisk};
 use image::ImageFault;
 use inode::InodeStat;
 use mount::{mount, mount_flat};
-use std::test::Fail;
+use std::process::Abort;
 use tree::TreeFault;
 
-#[test]
-fn mounts_a_small_image(rt: HostRuntime) -> Result<(), Fail> {
-    // the super block, 32 blocks, and the super block again
-    for (left, want) in [(33, Some(ImageFault::Device)), (34, None)] {
-        let disk = MemDisk::new(small(rt.alloc())?)?;
-        let fault = mount(rt.alloc(), FlakyDisk::new(disk, left)).err();
-        assert_eq!(rt; fault, want, "after {left} accesses");
-    }
-    Ok(())
+// What is wrong with the small image where an access fails after so many good ones.
+fn fault_after(rt: &(impl Abort + AllocGlobal), good: u64) -> Option<ImageFault> {
+    let disk = MemDisk::new(small(rt)).expect(rt, "whole blocks");
+    mount(rt.alloc(), FlakyDisk::new(disk, good)).err()
 }
 
 #[test]
-fn mounts_the_console(rt: HostRuntime) -> Result<(), Fail> {
-    let mut tree = mount_flat(rt.alloc())?;
-    let console = tree.stat(2)?;
-    let told = (console.kind, console.major, console.links, console.size);
-    assert_eq!(rt; told, (3, 1, 1, 0));
-    Ok(())
+fn mounts_a_small_image(rt: HostRuntime) {
+    // the super block, 32 blocks, and the super block again
+    assert!(rt; fault_after(&rt, 33) == Some(ImageFault::Device));
+    assert!(rt; fault_after(&rt, 34).is_none());
 }
 
 // What is told of a directory with ".", ".." and "console".
@@ -45,7 +38,19 @@ const CONSOLE: InodeStat = InodeStat {
 };
 
 #[test]
-fn looks_at_any_number(rt: HostRuntime) -> Result<(), Fail> {
+fn mounts_the_console(rt: HostRuntime) {
+    let mut tree = mount_flat(rt.alloc()).expect(&rt, "memory");
+    assert!(rt; tree.stat(2) == Ok(CONSOLE));
+}
+
+// What is told of a number.
+fn told_of(rt: &(impl Abort + AllocGlobal), number: usize) -> Option<InodeStat> {
+    let mut tree = mount_flat(rt.alloc()).expect(rt, "memory");
+    tree.look(number).expect(rt, "an access")
+}
+
+#[test]
+fn looks_at_any_number(rt: HostRuntime) {
     for (number, want) in [
         (0, None),
         (1, Some(ROOT)),
@@ -55,44 +60,53 @@ fn looks_at_any_number(rt: HostRuntime) -> Result<(), Fail> {
         (16, None),
         (usize::MAX, None),
     ] {
-        let mut tree = mount_flat(rt.alloc())?;
-        let told = tree.look(number)?;
-        assert_eq!(rt; told, want, "of {number}");
+        assert!(rt; told_of(&rt, number) == want, "of {number}");
     }
-    Ok(())
 }
 
-#[test]
-fn reads_any_number(rt: HostRuntime) -> Result<(), Fail> {
-    for (number, at, want) in [
-        (1, 34, b"console".as_slice()),
-        (1, 47, b"\0".as_slice()),
-        (1, 48, b"".as_slice()),
-        (2, 0, b"".as_slice()),
-        (3, 0, b"".as_slice()),
-        (usize::MAX, usize::MAX, b"".as_slice()),
-    ] {
-        let mut tree = mount_flat(rt.alloc())?;
-        let mut out = [0; 7];
-        let count = tree.read_any(number, at, &mut out)?;
-        assert_eq!(rt; out.get(..count), Some(want), "of {number} from {at}");
-    }
-    Ok(())
+// Whether these bytes are read from a place of a node on, where seven are asked for.
+fn reads(rt: &(impl Abort + AllocGlobal), number: usize, at: usize, bytes: &[u8]) -> bool {
+    let mut tree = mount_flat(rt.alloc()).expect(rt, "memory");
+    let mut out = [0; 7];
+    let count = tree.read_any(number, at, &mut out).expect(rt, "an access");
+    out.get(..count) == Some(bytes)
 }
 
+// A number, a place, and what is read.
+const READS: [(usize, usize, &[u8]); 6] = [
+    (1, 34, b"console"),
+    (1, 47, b"\0"),
+    (1, 48, b""),
+    (2, 0, b""),
+    (3, 0, b""),
+    (usize::MAX, usize::MAX, b""),
+];
+
 #[test]
-fn takes_names_away(rt: HostRuntime) -> Result<(), Fail> {
-    for (path, want) in [
-        (b"/console".as_slice(), Ok(())),
-        (b".//console/".as_slice(), Ok(())),
-        (b"/..".as_slice(), Err(TreeFault::DotName)),
-        (b"/none".as_slice(), Err(TreeFault::NotFound)),
-        (b"/console/none".as_slice(), Err(TreeFault::NotDir)),
-        (b"//".as_slice(), Err(TreeFault::NotFound)),
-    ] {
-        let mut tree = mount_flat(rt.alloc())?;
-        let told = tree.unlink(1, path);
-        assert_eq!(rt; told, want);
+fn reads_any_number(rt: HostRuntime) {
+    for (number, at, bytes) in READS {
+        assert!(rt; reads(&rt, number, at, bytes), "of {number} from {at}");
     }
-    Ok(())
+}
+
+// What comes of taking a name away.
+fn unlinked(rt: &(impl Abort + AllocGlobal), path: &[u8]) -> Result<(), TreeFault> {
+    let mut tree = mount_flat(rt.alloc()).expect(rt, "memory");
+    tree.unlink(1, path)
+}
+
+const UNLINKED: [(&[u8], Result<(), TreeFault>); 6] = [
+    (b"/console", Ok(())),
+    (b".//console/", Ok(())),
+    (b"/..", Err(TreeFault::DotName)),
+    (b"/none", Err(TreeFault::NotFound)),
+    (b"/console/none", Err(TreeFault::NotDir)),
+    (b"//", Err(TreeFault::NotFound)),
+];
+
+#[test]
+fn takes_names_away(rt: HostRuntime) {
+    for (path, want) in UNLINKED {
+        assert!(rt; unlinked(&rt, path) == want);
+    }
 }

@@ -7,9 +7,8 @@ ghost use Rattle.tree.specs.Tree.{has_failed};
 use crate::maker::small;
 use blockdev::{FlakyDisk, MemDisk};
 use mount::mount;
-use std::alloc::Global;
 use std::marker::Model;
-use std::test::Fail;
+use std::process::Abort;
 use tree::{Leaf, Tree, TreeFault};
 
 // A path of 127 slashes.
@@ -68,19 +67,30 @@ fn is_lost<T>(told: &Result<T, TreeFault>) -> bool
 
 impl Used {
     // The files of the small image. One access fails, after so many good ones.
-    fn new(alloc: Global, good: u64) -> Result<Used, Fail> {
-        let disk = MemDisk::new(small(alloc)?)?;
-        let tree = mount(alloc, FlakyDisk::new(disk, good))?;
-        Ok(Used { tree })
+    fn new(rt: &(impl Abort + AllocGlobal), good: u64) -> Used {
+        let disk = MemDisk::new(small(rt)).expect(rt, "whole blocks");
+        let tree = mount(rt.alloc(), FlakyDisk::new(disk, good)).expect(rt, "files");
+        Used { tree }
     }
 
-    fn find(self, path: &[u8]) -> Result<(Used, Option<usize>), TreeFault> {
+    // Takes a step, and tells whether it gives what its row says.
+    fn walk(self, step: Step) -> Result<(Used, bool), TreeFault> {
+        match step {
+            Step::Find(path, number) => self.find(path, number),
+            Step::File(path, want) => self.file(path, want),
+            Step::Directory(path, want) => self.directory(path, want),
+            Step::Link(old, new, want) => self.link(old, new, want),
+            Step::Unlink(path, want) => self.unlink(path, want),
+        }
+    }
+
+    fn find(self, path: &[u8], want: Option<usize>) -> Result<(Used, bool), TreeFault> {
         let Used { mut tree } = self;
         let number = tree.resolve(1, path)?;
-        Ok((Used { tree }, number))
+        Ok((Used { tree }, number == want))
     }
 
-    fn file(self, path: &[u8]) -> Result<(Used, Result<usize, TreeFault>), TreeFault> {
+    fn file(self, path: &[u8], want: Result<usize, TreeFault>) -> Result<(Used, bool), TreeFault> {
         let Used { mut tree } = self;
         if !is_plain(path) {
             return Err(TreeFault::Device);
@@ -89,10 +99,14 @@ impl Used {
         if is_lost(&told) {
             return Err(TreeFault::Device);
         }
-        Ok((Used { tree }, told))
+        Ok((Used { tree }, told == want))
     }
 
-    fn directory(self, path: &[u8]) -> Result<(Used, Result<(), TreeFault>), TreeFault> {
+    fn directory(
+        self,
+        path: &[u8],
+        want: Result<(), TreeFault>,
+    ) -> Result<(Used, bool), TreeFault> {
         let Used { mut tree } = self;
         if !is_plain(path) {
             return Err(TreeFault::Device);
@@ -101,10 +115,15 @@ impl Used {
         if is_lost(&told) {
             return Err(TreeFault::Device);
         }
-        Ok((Used { tree }, told))
+        Ok((Used { tree }, told == want))
     }
 
-    fn link(self, old: &[u8], new: &[u8]) -> Result<(Used, Result<(), TreeFault>), TreeFault> {
+    fn link(
+        self,
+        old: &[u8],
+        new: &[u8],
+        want: Result<(), TreeFault>,
+    ) -> Result<(Used, bool), TreeFault> {
         let Used { mut tree } = self;
         if !is_plain(new) {
             return Err(TreeFault::Device);
@@ -113,42 +132,16 @@ impl Used {
         if is_lost(&told) {
             return Err(TreeFault::Device);
         }
-        Ok((Used { tree }, told))
+        Ok((Used { tree }, told == want))
     }
 
-    fn unlink(self, path: &[u8]) -> Result<(Used, Result<(), TreeFault>), TreeFault> {
+    fn unlink(self, path: &[u8], want: Result<(), TreeFault>) -> Result<(Used, bool), TreeFault> {
         let Used { mut tree } = self;
         let told = tree.unlink(1, path);
         if is_lost(&told) {
             return Err(TreeFault::Device);
         }
-        Ok((Used { tree }, told))
-    }
-
-    // Takes a step, and tells whether it gives what its row says.
-    fn walk(self, step: Step) -> Result<(Used, bool), TreeFault> {
-        match step {
-            Step::Find(path, number) => {
-                let (used, told) = self.find(path)?;
-                Ok((used, told == number))
-            }
-            Step::File(path, want) => {
-                let (used, told) = self.file(path)?;
-                Ok((used, told == want))
-            }
-            Step::Directory(path, want) => {
-                let (used, told) = self.directory(path)?;
-                Ok((used, told == want))
-            }
-            Step::Link(old, new, want) => {
-                let (used, told) = self.link(old, new)?;
-                Ok((used, told == want))
-            }
-            Step::Unlink(path, want) => {
-                let (used, told) = self.unlink(path)?;
-                Ok((used, told == want))
-            }
-        }
+        Ok((Used { tree }, told == want))
     }
 }
 
@@ -166,26 +159,25 @@ fn first_wrong(used: Used, steps: &[Step]) -> Result<Option<usize>, TreeFault> {
 }
 
 // The small image has /bin, 2, with the file sh, 3, and the device /console, 4.
+const PATHS: [Step<'static>; 12] = [
+    Step::Find(b"/bin/sh", Some(3)),
+    Step::Find(b"//bin/.//../bin/sh/", Some(3)),
+    Step::Find(b"/console/sh", None),
+    Step::Find(b"", Some(1)),
+    Step::Find(&SLASHES, Some(1)),
+    Step::File(&SLASHES, Err(TreeFault::NotFound)),
+    Step::File(b"/none/a", Err(TreeFault::NotFound)),
+    Step::File(b"/console/a", Err(TreeFault::NotDir)),
+    Step::File(b"/bin", Err(TreeFault::Exists)),
+    // names are cut to 14 bytes
+    Step::File(b"/abcdefghijklmnop", Ok(5)),
+    Step::Find(b"/abcdefghijklmn", Some(5)),
+    Step::File(b"/abcdefghijklmnz", Err(TreeFault::Exists)),
+];
+
 #[test]
-fn walks_paths(rt: HostRuntime) -> Result<(), Fail> {
-    let steps = [
-        Step::Find(b"/bin/sh", Some(3)),
-        Step::Find(b"//bin/.//../bin/sh/", Some(3)),
-        Step::Find(b"/console/sh", None),
-        Step::Find(b"", Some(1)),
-        Step::Find(&SLASHES, Some(1)),
-        Step::File(&SLASHES, Err(TreeFault::NotFound)),
-        Step::File(b"/none/a", Err(TreeFault::NotFound)),
-        Step::File(b"/console/a", Err(TreeFault::NotDir)),
-        Step::File(b"/bin", Err(TreeFault::Exists)),
-        // names are cut to 14 bytes
-        Step::File(b"/abcdefghijklmnop", Ok(5)),
-        Step::Find(b"/abcdefghijklmn", Some(5)),
-        Step::File(b"/abcdefghijklmnz", Err(TreeFault::Exists)),
-    ];
-    let used = Used::new(rt.alloc(), 100_000)?;
-    assert_eq!(rt; first_wrong(used, &steps), Ok(None));
-    Ok(())
+fn walks_paths(rt: HostRuntime) {
+    assert!(rt; first_wrong(Used::new(&rt, 100_000), &PATHS) == Ok(None));
 }
 
 const MOVES: [Step<'static>; 18] = [
@@ -211,10 +203,8 @@ const MOVES: [Step<'static>; 18] = [
 ];
 
 #[test]
-fn names_come_and_go(rt: HostRuntime) -> Result<(), Fail> {
-    let used = Used::new(rt.alloc(), 100_000)?;
-    assert_eq!(rt; first_wrong(used, &MOVES), Ok(None));
-    Ok(())
+fn names_come_and_go(rt: HostRuntime) {
+    assert!(rt; first_wrong(Used::new(&rt, 100_000), &MOVES) == Ok(None));
 }
 
 // A name of each kind comes and goes.
@@ -226,16 +216,17 @@ const FEW: [Step<'static>; 4] = [
 ];
 
 #[test]
-fn each_access_fails_in_turn(rt: HostRuntime) -> Result<(), Fail> {
+fn each_access_fails_in_turn(rt: HostRuntime) {
     // the mount takes 34 accesses, and the steps read four blocks, which the cache keeps then
     for good in 34..40 {
-        let told = first_wrong(Used::new(rt.alloc(), good)?, &FEW);
         let want = if good < 38 {
             Err(TreeFault::Device)
         } else {
             Ok(None)
         };
-        assert_eq!(rt; told, want, "after {good} accesses");
+        assert!(rt;
+            first_wrong(Used::new(&rt, good), &FEW) == want,
+            "after {good}"
+        );
     }
-    Ok(())
 }

@@ -1,7 +1,6 @@
 //! The records of an image and their bytes.
 
 use layout::{DiskInode, Entry, LayoutFault, MAGIC, SuperBlock};
-use std::test::Fail;
 
 // The numbers of an image of 32 blocks and 16 inodes.
 const SMALLEST: [u8; 32] = [
@@ -9,23 +8,34 @@ const SMALLEST: [u8; 32] = [
     0, 0, 0, 4, 0, 0, 0,
 ];
 
+// What these bytes spell.
+const NUMBERS: SuperBlock = SuperBlock {
+    magic: MAGIC,
+    size: 32,
+    blocks: 27,
+    inodes: 16,
+    log: 0,
+    log_start: 2,
+    inode_start: 2,
+    bitmap_start: 4,
+};
+
 #[test]
-fn reads_the_smallest_super_block(rt: HostRuntime) -> Result<(), Fail> {
-    let numbers = SuperBlock::from_bytes(&SMALLEST)?;
-    assert_eq!(rt;
-        (numbers.size, numbers.blocks, numbers.inodes),
-        (32, 27, 16)
-    );
-    assert_eq!(rt; numbers.to_bytes(), SMALLEST);
-    let told = SuperBlock::from_bytes(&SMALLEST[1..]);
-    assert_eq!(rt; told, Err(LayoutFault::Short));
+fn spells_the_smallest_super_block(rt: HostRuntime) {
+    assert!(rt; SuperBlock::from_bytes(&SMALLEST) == Ok(NUMBERS));
+    assert!(rt; NUMBERS.to_bytes() == SMALLEST);
+}
+
+#[test]
+fn refuses_wrong_super_blocks(rt: HostRuntime) {
+    let short = SuperBlock::from_bytes(&SMALLEST[1..]);
+    assert!(rt; short == Err(LayoutFault::Short));
     let mut wrong = SMALLEST;
     wrong[0] = 0x41;
-    assert_eq!(rt; SuperBlock::from_bytes(&wrong), Err(LayoutFault::Magic));
+    assert!(rt; SuperBlock::from_bytes(&wrong) == Err(LayoutFault::Magic));
     wrong = SMALLEST;
     wrong[8] = 0x1c;
-    assert_eq!(rt; SuperBlock::from_bytes(&wrong), Err(LayoutFault::Numbers));
-    Ok(())
+    assert!(rt; SuperBlock::from_bytes(&wrong) == Err(LayoutFault::Numbers));
 }
 
 #[test]
@@ -36,33 +46,33 @@ fn wants_numbers_that_fit(rt: HostRuntime) {
         (32, 448, 31, 0, Err(LayoutFault::Numbers)),
     ] {
         let numbers = SuperBlock {
-            magic: MAGIC,
             size,
             blocks,
             inodes,
-            log: 0,
-            log_start: 2,
-            inode_start: 2,
             bitmap_start,
+            ..NUMBERS
         };
-        assert_eq!(rt; numbers.test(), want, "{size} blocks, {inodes} inodes");
+        assert!(rt; numbers.test() == want, "{size} blocks, {inodes} inodes");
     }
 }
 
 #[test]
-fn spells_entries_and_inodes(rt: HostRuntime) -> Result<(), Fail> {
-    let entry = Entry::new(b"init", 0x102);
-    let bytes = entry.to_bytes();
-    assert_eq!(rt; &bytes[..7], b"\x02\x01init\0".as_slice());
-    assert_eq!(rt; Entry::from_bytes(&bytes)?.name(), b"init".as_slice());
-    let mut record = [0; 64];
-    record[0] = 2;
-    record[6] = 1;
-    record[8] = 5;
-    record[12] = 9;
-    let inode = DiskInode::from_bytes(&record)?;
-    assert_eq!(rt; (inode.kind, inode.links, inode.size), (2, 1, 5));
-    assert_eq!(rt; inode.addresses[0], 9);
-    assert_eq!(rt; inode.to_bytes(), record);
-    Ok(())
+fn spells_entries(rt: HostRuntime) {
+    let bytes = Entry::new(b"init", 0x102).to_bytes();
+    assert!(rt; bytes.starts_with(b"\x02\x01init\0"));
+    let entry = Entry::from_bytes(&bytes).expect(&rt, "16 bytes");
+    assert!(rt; entry.name() == b"init".as_slice());
+}
+
+// A file of five bytes, with one name and a block.
+const INODE: [u8; 64] = [
+    2, 0, 0, 0, 0, 0, 1, 0, 5, 0, 0, 0, 9, 0, 0, 0, 0, 0, 0, 0, 0, 0, 0, 0, 0, 0, 0, 0, 0, 0, 0, 0,
+    0, 0, 0, 0, 0, 0, 0, 0, 0, 0, 0, 0, 0, 0, 0, 0, 0, 0, 0, 0, 0, 0, 0, 0, 0, 0, 0, 0, 0, 0, 0, 0,
+];
+
+#[test]
+fn spells_inodes(rt: HostRuntime) {
+    let inode = DiskInode::from_bytes(&INODE).expect(&rt, "64 bytes");
+    assert!(rt; (inode.kind, inode.links, inode.size, inode.addresses[0]) == (2, 1, 5, 9));
+    assert!(rt; inode.to_bytes() == INODE);
 }

@@ -3,8 +3,7 @@
 use crate::maker::{self, small};
 use blockdev::{BLOCK_SIZE, BlockDev, MemDisk};
 use image::{ImageFault, Summary, check};
-use std::alloc::Global;
-use std::test::Fail;
+use std::process::Abort;
 
 // The blocks whose bits are turned: the one before the super block, that, two of inodes, the bitmap, and the root's places.
 const BLOCKS: usize = 6;
@@ -12,47 +11,48 @@ const BLOCKS: usize = 6;
 // What is told of the image as it is.
 const WHOLE: Result<Summary, ImageFault> = Ok(maker::WHOLE);
 
-#[test]
-fn tells_of_each_prefix(rt: HostRuntime) -> Result<(), Fail> {
-    let image = small(rt.alloc())?;
-    for length in 0..image.len() {
-        let Some(prefix) = image.get(..length) else {
-            return Ok(());
-        };
-        match MemDisk::new(Vec::from_slice(rt.alloc(), prefix)?) {
-            Ok(mut disk) => {
-                assert_eq!(rt; check(rt.alloc(), &mut disk), Err(ImageFault::Length));
-            }
-            Err(_) => assert!(rt; length % BLOCK_SIZE != 0),
-        }
+// What is told of these bytes, if they make whole blocks.
+fn told_of(rt: &(impl Abort + AllocGlobal), bytes: &[u8]) -> Option<Result<Summary, ImageFault>> {
+    let bytes = Vec::from_slice(rt.alloc(), bytes).expect(rt, "memory");
+    match MemDisk::new(bytes) {
+        Ok(mut disk) => Some(check(rt.alloc(), &mut disk)),
+        Err(_) => None,
     }
-    let mut disk = MemDisk::new(image)?;
-    assert_eq!(rt; check(rt.alloc(), &mut disk), WHOLE);
-    Ok(())
+}
+
+#[test]
+fn tells_of_each_prefix(rt: HostRuntime) {
+    let image = small(&rt);
+    for length in 0..image.len() {
+        let want = if length % BLOCK_SIZE == 0 {
+            Some(Err(ImageFault::Length))
+        } else {
+            None
+        };
+        assert!(rt; told_of(&rt, &image[..length]) == want);
+    }
+    assert!(rt; told_of(&rt, &image) == Some(WHOLE));
 }
 
 // What is told where a byte of a block has other bits.
-fn check_turned(
-    alloc: Global,
+fn told_of_turned(
+    rt: &(impl Abort + AllocGlobal),
     disk: &mut MemDisk,
     block: usize,
     byte: usize,
     mask: u8,
-) -> Result<Result<Summary, ImageFault>, Fail> {
-    if block >= disk.blocks() {
-        return Ok(WHOLE);
-    }
-    let whole = disk.read(block)?;
+) -> Result<Summary, ImageFault> {
+    assert!(rt; block < disk.blocks());
+    let whole = disk.read(block).expect(rt, "a block");
     let mut turned = whole;
     if let Some(place) = turned.get_mut(byte) {
         *place ^= mask;
     }
-    disk.write(block, &turned)?;
-    let told = check(alloc, disk);
-    if block < disk.blocks() {
-        disk.write(block, &whole)?;
-    }
-    Ok(told)
+    disk.write(block, &turned).expect(rt, "a block");
+    let told = check(rt.alloc(), disk);
+    assert!(rt; block < disk.blocks());
+    disk.write(block, &whole).expect(rt, "a block");
+    told
 }
 
 // Whether what is told can be where this byte has another bit: the numbers of the super block are judged first (one more
@@ -82,18 +82,17 @@ fn is_fitting(block: usize, byte: usize, told: Result<Summary, ImageFault>) -> b
 }
 
 #[test]
-fn tells_of_each_turned_bit(rt: HostRuntime) -> Result<(), Fail> {
-    let mut disk = MemDisk::new(small(rt.alloc())?)?;
+fn tells_of_each_turned_bit(rt: HostRuntime) {
+    let mut disk = MemDisk::new(small(&rt)).expect(&rt, "whole blocks");
     for place in 0..BLOCKS * BLOCK_SIZE {
         let (block, byte) = (place / BLOCK_SIZE, place % BLOCK_SIZE);
         for mask in [1, 2, 4, 8, 16, 32, 64, 128] {
-            let told = check_turned(rt.alloc(), &mut disk, block, byte, mask)?;
+            let told = told_of_turned(&rt, &mut disk, block, byte, mask);
             assert!(rt;
                 is_fitting(block, byte, told),
                 "block {block}, byte {byte}, {mask}"
             );
         }
     }
-    assert_eq!(rt; check(rt.alloc(), &mut disk), WHOLE);
-    Ok(())
+    assert!(rt; check(rt.alloc(), &mut disk) == WHOLE);
 }

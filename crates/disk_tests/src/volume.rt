@@ -1,7 +1,8 @@
 //! A disk with files, on which a list of steps is walked. What each step gives is compared with what its row says.
 
-ghost use Rattle.std.specs.Prelude.{◌≡◌, ◌<◌, ◌≤◌, IfOk, OnOk};
+ghost use Rattle.std.specs.Prelude.{◌≡◌, ◌<◌, ◌≤◌, IfOk, IsErrOf, OnOk, false};
 ghost use Rattle.std.specs.Bool.{OnTrue};
+ghost use Rattle.inode.specs.declared.InodeFault.{InodeFault};
 ghost use Rattle.layout.specs.Image.{IsInode};
 ghost use Rattle.layout.specs.Sound.{HasParts, IsSound};
 ghost use Rattle.layout.specs.Super.{data_start_of};
@@ -61,44 +62,21 @@ fn is_possible(geometry: Geometry) -> bool
         && geometry.data_start() < geometry.size
 }
 
-/// A step, and what it is to give.
-#[derive(Drop)]
+/// A step, and what it is to give. Files go by their numbers.
+#[derive(Clone, Copy)]
 pub enum Step {
     /// A new file gets this number; none is free where there is no number here.
-    Create {
-        number: Option<usize>,
-    },
-    /// So many bytes, all alike, are written from a place on.
-    Fill {
-        number: usize,
-        at: usize,
-        count: usize,
-        byte: u8,
-        done: Result<(), InodeFault>,
-    },
-    /// These bytes are written from a place on.
-    Write {
-        number: usize,
-        at: usize,
-        bytes: [u8; 5],
-    },
-    /// So many bytes are read from a place on, into nine bytes of which each was 1.
-    Read {
-        number: usize,
-        at: usize,
-        count: usize,
-        bytes: [u8; 9],
-    },
+    Create(Option<usize>),
+    /// From a place on so many bytes are written, which are all alike: this comes of it.
+    Fill(usize, usize, usize, u8, Result<(), InodeFault>),
+    /// From a place on these bytes are written.
+    Write(usize, usize, [u8; 5]),
+    /// From a place on so many bytes are read, into nine bytes of which each was 1.
+    Read(usize, usize, usize, [u8; 9]),
     /// The file loses all its bytes.
-    Empty {
-        number: usize,
-    },
+    Empty(usize),
     /// The file gets another number of names. It had this type, number of names and size.
-    Link {
-        number: usize,
-        links: u16,
-        before: (u16, u16, u32),
-    },
+    Link(usize, u16, (u16, u16, u32)),
 }
 
 /// Takes the steps on a new disk with files, and tells the first that gives anything else than its row says. One access
@@ -112,7 +90,7 @@ pub fn first_wrong(
     let disk = disk_of(alloc, geometry, 0, good)?;
     let mut volume = Volume::new(disk, geometry)?;
     for (row, step) in steps.iter().enumerate() {
-        let (next, fits) = volume.walk(alloc, step)?;
+        let (next, fits) = volume.walk(alloc, *step)?;
         if !fits {
             return Ok(Some(row));
         }
@@ -136,6 +114,16 @@ fn look_up(disk: &mut Cache<FlakyDisk>, geometry: Geometry, number: usize) -> Re
         return Err(InodeFault::Device);
     }
     Ok(())
+}
+
+// Whether an access failed.
+fn is_lost(told: &Result<(), InodeFault>) -> bool
+    ensures { result ≡ false → IsErrOf told.now InodeFault.Device → ⊥ }
+{
+    match told {
+        Ok(()) => false,
+        Err(fault) => *fault == InodeFault::Device,
+    }
 }
 
 // A disk with files. After a failed access it is of no more use, so each call takes it and gives it back. A number is
@@ -169,48 +157,16 @@ impl Volume {
     }
 
     // Takes a step, and tells whether it gives what its row says.
-    fn walk(self, alloc: Global, step: &Step) -> Result<(Volume, bool), InodeFault> {
+    fn walk(self, alloc: Global, step: Step) -> Result<(Volume, bool), InodeFault> {
         match step {
-            Step::Create { number } => {
-                let (volume, created) = self.create()?;
-                Ok((volume, created == *number))
+            Step::Create(number) => self.create(number),
+            Step::Fill(number, at, count, byte, want) => {
+                self.fill(alloc, number, at, count, byte, want)
             }
-            Step::Fill {
-                number,
-                at,
-                count,
-                byte,
-                done,
-            } => {
-                let Ok(bytes) = vec![in alloc; *byte; *count] else {
-                    return Err(InodeFault::Device);
-                };
-                let (volume, told) = self.write(*number, *at, &bytes)?;
-                Ok((volume, told == *done))
-            }
-            Step::Write { number, at, bytes } => {
-                let (volume, told) = self.write(*number, *at, bytes)?;
-                Ok((volume, told.is_ok()))
-            }
-            Step::Read {
-                number,
-                at,
-                count,
-                bytes,
-            } => {
-                let mut out = [1; 9];
-                let (volume, read) = self.read(*number, *at, &mut out)?;
-                Ok((volume, read == *count && out == *bytes))
-            }
-            Step::Empty { number } => Ok((self.empty(*number)?, true)),
-            Step::Link {
-                number,
-                links,
-                before,
-            } => {
-                let (volume, told) = self.link(*number, *links)?;
-                Ok((volume, told == *before))
-            }
+            Step::Write(number, at, bytes) => self.write(number, at, &bytes, Ok(())),
+            Step::Read(number, at, count, bytes) => self.read(number, at, count, bytes),
+            Step::Empty(number) => self.empty(number),
+            Step::Link(number, links, before) => self.link(number, links, before),
         }
     }
 
@@ -221,62 +177,84 @@ impl Volume {
         Ok(())
     }
 
-    // A new file, and its number; none where no inode is free.
-    fn create(self) -> Result<(Volume, Option<usize>), InodeFault> {
+    // A new file gets this number, or none is free.
+    fn create(self, want: Option<usize>) -> Result<(Volume, bool), InodeFault> {
         let Volume { mut disk, geometry } = self;
         match take_inode(&mut disk, geometry, 2, 0, 0, 1) {
-            Ok(number) => Ok((Volume { disk, geometry }, Some(number))),
-            Err(BallocFault::Inodes) => Ok((Volume { disk, geometry }, None)),
+            Ok(number) => Ok((Volume { disk, geometry }, want == Some(number))),
+            Err(BallocFault::Inodes) => Ok((Volume { disk, geometry }, want.is_none())),
             Err(_) => Err(InodeFault::Device),
         }
     }
 
-    // The bytes are written, or it tells why they aren't.
+    // So many bytes are written, which are all alike.
+    fn fill(
+        self,
+        alloc: Global,
+        number: usize,
+        at: usize,
+        count: usize,
+        byte: u8,
+        want: Result<(), InodeFault>,
+    ) -> Result<(Volume, bool), InodeFault> {
+        match vec![in alloc; byte; count] {
+            Ok(bytes) => self.write(number, at, &bytes, want),
+            Err(_) => Err(InodeFault::Device),
+        }
+    }
+
+    // The bytes are written, or this tells why they aren't.
     fn write(
         self,
         number: usize,
         at: usize,
         bytes: &[u8],
-    ) -> Result<(Volume, Result<(), InodeFault>), InodeFault> {
+        want: Result<(), InodeFault>,
+    ) -> Result<(Volume, bool), InodeFault> {
         let Volume { mut disk, geometry } = self;
         look_up(&mut disk, geometry, number)?;
-        match write_at(&mut disk, geometry, number, at, bytes) {
-            Ok(()) => Ok((Volume { disk, geometry }, Ok(()))),
-            Err(InodeFault::Device) => Err(InodeFault::Device),
-            Err(InodeFault::Blocks { written }) => {
-                let full = InodeFault::Blocks { written };
-                Ok((Volume { disk, geometry }, Err(full)))
-            }
-            Err(InodeFault::PastEnd) => Ok((Volume { disk, geometry }, Err(InodeFault::PastEnd))),
-            Err(InodeFault::TooLong) => Ok((Volume { disk, geometry }, Err(InodeFault::TooLong))),
+        let told = write_at(&mut disk, geometry, number, at, bytes);
+        if is_lost(&told) {
+            return Err(InodeFault::Device);
         }
+        Ok((Volume { disk, geometry }, told == want))
     }
 
-    // Reads into `out`, and tells how many bytes there are.
-    fn read(self, number: usize, at: usize, out: &mut [u8]) -> Result<(Volume, usize), InodeFault> {
+    // So many bytes are read into nine that were 1, which are these then.
+    fn read(
+        self,
+        number: usize,
+        at: usize,
+        count: usize,
+        bytes: [u8; 9],
+    ) -> Result<(Volume, bool), InodeFault> {
         let Volume { mut disk, geometry } = self;
         look_up(&mut disk, geometry, number)?;
-        let count = read_at(&mut disk, geometry, number, at, out)?;
-        Ok((Volume { disk, geometry }, count))
+        let mut out = [1; 9];
+        let read = read_at(&mut disk, geometry, number, at, &mut out)?;
+        Ok((Volume { disk, geometry }, read == count && out == bytes))
     }
 
     // The file loses all its bytes.
-    fn empty(self, number: usize) -> Result<Volume, InodeFault> {
+    fn empty(self, number: usize) -> Result<(Volume, bool), InodeFault> {
         let Volume { mut disk, geometry } = self;
         look_up(&mut disk, geometry, number)?;
         truncate(&mut disk, geometry, number)?;
-        Ok(Volume { disk, geometry })
+        Ok((Volume { disk, geometry }, true))
     }
 
-    // Sets the number of names, and tells type, number of names and size as they were.
-    fn link(self, number: usize, links: u16) -> Result<(Volume, (u16, u16, u32)), InodeFault> {
+    // Sets the number of names of a file that had this type, number of names and size.
+    fn link(
+        self,
+        number: usize,
+        links: u16,
+        before: (u16, u16, u32),
+    ) -> Result<(Volume, bool), InodeFault> {
         let Volume { mut disk, geometry } = self;
         look_up(&mut disk, geometry, number)?;
         let told = stat(&mut disk, geometry, number)?;
         set_links(&mut disk, geometry, number, links)?;
-        Ok((
-            Volume { disk, geometry },
-            (told.kind, told.links, told.size),
-        ))
+        let fits = (told.kind, told.links, told.size) == before;
+        Ok((Volume { disk, geometry }, fits))
     }
 }

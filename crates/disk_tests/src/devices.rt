@@ -1,0 +1,52 @@
+//! A disk in memory, and one of which an access fails.
+
+use blockdev::{BlockDev, FlakyDisk, MemDisk};
+use std::process::Abort;
+
+/// A disk of so many zeros.
+pub fn zeros(rt: &(impl Abort + AllocGlobal), count: usize) -> MemDisk {
+    let bytes = vec![in rt.alloc(); 0; count].expect(rt, "memory");
+    MemDisk::new(bytes).expect(rt, "whole blocks")
+}
+
+// A disk of three blocks, of which one was written.
+fn written(rt: &(impl Abort + AllocGlobal)) -> MemDisk {
+    let mut disk = zeros(rt, 3 * 1024);
+    assert!(rt; disk.blocks() == 3);
+    assert!(rt; disk.write(1, &[7; 1024]).is_ok());
+    disk
+}
+
+#[test]
+fn reads_what_was_written(rt: HostRuntime) {
+    let mut disk = written(&rt);
+    assert!(rt; disk.blocks() == 3);
+    assert!(rt; disk.read(1) == Ok([7; 1024]));
+}
+
+#[test]
+fn gives_its_bytes(rt: HostRuntime) {
+    let disk = written(&rt);
+    let bytes = disk.bytes();
+    assert!(rt; bytes.len() == 3072);
+    assert!(rt; bytes[1023..1025] == [0, 7] && bytes[2047..2049] == [7, 0]);
+    assert!(rt; disk.into_bytes().len() == 3072);
+}
+
+#[test]
+fn refuses_parts_of_blocks(rt: HostRuntime) {
+    for (length, whole) in [(0, true), (1023, false), (1024, true), (1025, false)] {
+        let bytes = vec![in rt.alloc(); 0; length].expect(&rt, "memory");
+        assert!(rt; MemDisk::new(bytes).is_ok() == whole, "at {length}");
+    }
+}
+
+#[test]
+fn fails_once(rt: HostRuntime) {
+    let mut flaky = FlakyDisk::new(zeros(&rt, 1024), 1);
+    assert!(rt; flaky.blocks() == 1);
+    assert!(rt; flaky.write(0, &[1; 1024]).is_ok() && !flaky.has_failed());
+    assert!(rt; flaky.read(0).is_err() && flaky.has_failed());
+    assert!(rt; flaky.read(0).is_ok());
+    assert!(rt; flaky.into_disk().bytes().starts_with(&[1]));
+}
