@@ -5,8 +5,8 @@ use asm::write_elf;
 use blockdev::{FlakyDisk, MemDisk};
 use console::Writer;
 use image::{Entry, ImageFault, Manifest, Summary, Thing, check, make};
-use machine::{BootFault, Halt, boot};
-use ram::{FrameNo, Ram};
+use machine::{BootFault, Halt, Machine, Seen, boot};
+use ram::{FRAME_SIZE, FrameNo, Ram};
 use std::alloc::Global;
 use sv39::{Plain, Tlb, Translate};
 use translators::Noting;
@@ -36,36 +36,57 @@ fn disk_of(alloc: Global, image: &[u8]) -> Option<MemDisk> {
     MemDisk::new(bytes).ok()
 }
 
+// A machine over this translator in so many frames.
+fn booted<T: Translate + Drop>(
+    alloc: Global,
+    image: &[u8],
+    translator: T,
+    frames: u32,
+) -> Option<Machine<MemDisk, T>> {
+    let disk = disk_of(alloc, image)?;
+    boot(alloc, disk, translator, frames).ok()
+}
+
+// Whether it begins at 0, with one argument.
+fn is_begun(seen: &Seen) -> bool {
+    seen.pc == 0
+        && seen.size == 12288
+        && seen.registers[2] == 12256
+        && seen.registers[10] == 1
+        && seen.registers[11] == 12256
+}
+
+// Whether the argument and its pointer stand at the end of the stack's page.
+fn has_path(page: &[u8; FRAME_SIZE]) -> bool {
+    page[4064..].starts_with(&[0xf0, 0x2f, 0, 0, 0, 0, 0, 0])
+        && page[4080..].starts_with(b"/init\0")
+}
+
 #[test]
 fn its_path_is_its_argument(rt: HostRuntime) {
     let alloc = rt.alloc();
     let image = image_of(alloc, INIT).expect(&rt, "an image");
-    let disk = disk_of(alloc, image.as_slice()).expect(&rt, "a disk");
-    let machine = boot(alloc, disk, Plain::new(), 256).expect(&rt, "a machine");
+    let machine = booted(alloc, image.as_slice(), Plain::new(), 256).expect(&rt, "a machine");
     let seen = machine.inspect(1).expect(&rt, "process 1");
-    holds_at(&rt, 0, seen.pc == 0 && seen.size == 12288);
-    holds_at(&rt, 1, seen.registers[2] == 12256);
-    holds_at(&rt, 2, seen.registers[10] == 1);
-    holds_at(&rt, 3, seen.registers[11] == 12256);
+    holds_at(&rt, 0, is_begun(&seen));
     let (page, _) = machine.peek(1, 2).expect(&rt, "its stack");
-    holds_at(
-        &rt,
-        4,
-        page[4064..].starts_with(&[0xf0, 0x2f, 0, 0, 0, 0, 0, 0]),
-    );
-    holds_at(&rt, 5, page[4080..].starts_with(b"/init\0"));
-    holds_at(&rt, 6, machine.free_frames() == 247);
+    holds_at(&rt, 1, has_path(page));
+    holds_at(&rt, 2, machine.free_frames() == 247);
 }
 
 // Whether it prints nothing, since it has no descriptors, and ends at the ninth step.
-fn ends<T: Translate + Drop>(alloc: Global, image: &[u8], translator: T) -> Option<bool> {
-    let disk = disk_of(alloc, image)?;
-    let mut machine = boot(alloc, disk, translator, 64).ok()?;
+fn is_silent<T: Translate + Drop>(alloc: Global, machine: &mut Machine<MemDisk, T>) -> bool {
     let mut out = Writer::new(Vec::new(alloc));
     let begun = machine.run(&[Event::Step; 8], &mut out);
     let done = machine.run(&[Event::Step; 1], &mut out);
     let ended = begun.is_ok() && done == Err(Halt::InitEnded(0));
-    Some(ended && out.into_inner().as_slice().is_empty())
+    out.into_inner().as_slice().is_empty() && ended
+}
+
+// The same of one that boots from an image.
+fn ends<T: Translate + Drop>(alloc: Global, image: &[u8], translator: T) -> Option<bool> {
+    let mut machine = booted(alloc, image, translator, 64)?;
+    Some(is_silent(alloc, &mut machine))
 }
 
 // What is in use of an image.
@@ -114,26 +135,48 @@ fn fault_of(alloc: Global, image: &[u8], frames: u32) -> Option<BootFault> {
     boot(alloc, disk, Plain::new(), frames).err()
 }
 
+// What an image has: `/init`, which is a program, without its last block, or with another name, a directory or an empty file.
+#[derive(Clone, Copy)]
+enum Has {
+    Init,
+    Cut,
+    Other,
+    Folder,
+    Empty,
+}
+
+impl Has {
+    fn image(self, alloc: Global) -> Option<Vec<u8>> {
+        match self {
+            Has::Init => image_of(alloc, INIT),
+            Has::Cut => {
+                let mut image = image_of(alloc, INIT)?;
+                image.truncate(31 * 1024);
+                Some(image)
+            }
+            Has::Other => image_of(alloc, b"/other"),
+            Has::Folder => image_with(alloc, INIT, Thing::Directory),
+            Has::Empty => image_with(alloc, INIT, Thing::File(Vec::new(alloc))),
+        }
+    }
+}
+
 #[test]
 fn tells_why_it_does_not_boot(rt: HostRuntime) {
-    let alloc = rt.alloc();
-    let sound = image_of(alloc, INIT).expect(&rt, "an image");
-    let cut = sound.as_slice().get(..31 * 1024).expect(&rt, "blocks");
-    let other = image_of(alloc, b"/other").expect(&rt, "an image");
-    let folder = image_with(alloc, INIT, Thing::Directory).expect(&rt, "an image");
-    let empty = image_with(alloc, INIT, Thing::File(Vec::new(alloc))).expect(&rt, "an image");
-    let rows = [
-        (sound.as_slice(), 64, None),
-        (sound.as_slice(), 63, Some(BootFault::FrameCount)),
-        (sound.as_slice(), 32769, Some(BootFault::FrameCount)),
-        (cut, 63, Some(BootFault::FrameCount)),
-        (cut, 64, Some(BootFault::Image(ImageFault::Length))),
-        (other.as_slice(), 64, Some(BootFault::NoInit)),
-        (folder.as_slice(), 64, Some(BootFault::NoInit)),
-        (empty.as_slice(), 64, Some(BootFault::NoInit)),
+    const ROWS: [(Has, u32, Option<BootFault>); 8] = [
+        (Has::Init, 64, None),
+        (Has::Init, 63, Some(BootFault::FrameCount)),
+        (Has::Init, 32769, Some(BootFault::FrameCount)),
+        (Has::Cut, 63, Some(BootFault::FrameCount)),
+        (Has::Cut, 64, Some(BootFault::Image(ImageFault::Length))),
+        (Has::Other, 64, Some(BootFault::NoInit)),
+        (Has::Folder, 64, Some(BootFault::NoInit)),
+        (Has::Empty, 64, Some(BootFault::NoInit)),
     ];
-    for (row, (image, frames, fault)) in rows.iter().enumerate() {
-        holds_at(&rt, row, fault_of(alloc, image, *frames) == *fault);
+    for (row, (has, frames, fault)) in ROWS.iter().enumerate() {
+        let image = has.image(rt.alloc()).expect(&rt, "an image");
+        let found = fault_of(rt.alloc(), image.as_slice(), *frames);
+        holds_at(&rt, row, found == *fault);
     }
 }
 

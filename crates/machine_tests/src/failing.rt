@@ -119,17 +119,30 @@ impl Run {
         None
     }
 
-    // Whether it answers that it has halted, whatever it is asked for, and its process can be looked at still.
-    fn is_stopped(&mut self) -> bool {
-        let mut bytes = [UNTOLD; MOST_READ];
+    // Whether events are answered by that it has halted.
+    fn is_still(&mut self) -> bool {
         self.machine.step(Event::Step, &mut self.out) == Err(Halt::Halted)
             && self.machine.step(Event::Key(0x61), &mut self.out) == Err(Halt::Halted)
             && self.machine.run(&[Event::Tick], &mut self.out) == Err(Halt::Halted)
-            && self.machine.stat_inode(1) == Err(Halt::Halted)
+    }
+
+    // Whether it tells nothing of its disk, and its process can be looked at still.
+    fn is_mute(&mut self) -> bool {
+        let mut bytes = [UNTOLD; MOST_READ];
+        self.machine.stat_inode(1) == Err(Halt::Halted)
             && self.machine.read_inode(1, 0, &mut bytes) == Err(Halt::Halted)
             && is_front(&bytes, &[])
             && self.machine.inspect(1).is_some()
             && self.machine.peek(1, 0).is_some()
+    }
+
+    // How it goes, whatever it prints.
+    fn go(&mut self, asked: Asked) -> Course {
+        match self.play(EVENTS, asked) {
+            Some(Halt::Device) if self.is_still() && self.is_mute() => Course::Stops,
+            Some(Halt::InitEnded(0)) => Course::Ends,
+            _ => Course::Strays,
+        }
     }
 
     fn printed(self) -> Vec<u8> {
@@ -146,7 +159,7 @@ fn printed_by(alloc: Global, events: usize) -> Option<Vec<u8>> {
 }
 
 // How a machine goes whose disk fails after so many good accesses.
-#[derive(Clone, Copy, PartialEq, Eq, Debug)]
+#[derive(Clone, Copy, PartialEq)]
 enum Course {
     // It doesn't boot.
     Stays,
@@ -158,20 +171,30 @@ enum Course {
     Strays,
 }
 
-fn follow(alloc: Global, good: u64, asked: Asked) -> Course {
-    let Some(mut run) = Run::boot(alloc, good) else {
-        return Course::Stays;
-    };
-    match run.play(EVENTS, asked) {
-        Some(Halt::Device) if run.is_stopped() => {
-            let wanted = printed_by(alloc, run.done);
-            match wanted {
-                Some(wanted) if wanted.as_slice() == run.printed().as_slice() => Course::Stops,
-                _ => Course::Strays,
-            }
-        }
-        Some(Halt::InitEnded(0)) if run.printed().as_slice() == b"abcd".as_slice() => Course::Ends,
+// Whether so many events print this where no access fails.
+fn is_printed_by(alloc: Global, events: usize, printed: &[u8]) -> bool {
+    match printed_by(alloc, events) {
+        Some(wanted) => wanted.as_slice() == printed,
+        None => false,
+    }
+}
+
+// How a machine goes that booted.
+fn course_of(alloc: Global, mut run: Run, asked: Asked) -> Course {
+    let course = run.go(asked);
+    let done = run.done;
+    let printed = run.printed();
+    match course {
+        Course::Stops if is_printed_by(alloc, done, printed.as_slice()) => Course::Stops,
+        Course::Ends if printed.as_slice() == b"abcd".as_slice() => Course::Ends,
         _ => Course::Strays,
+    }
+}
+
+fn follow(alloc: Global, good: u64, asked: Asked) -> Course {
+    match Run::boot(alloc, good) {
+        Some(run) => course_of(alloc, run, asked),
+        None => Course::Stays,
     }
 }
 

@@ -7,7 +7,7 @@ use image::{Entry, Manifest, Summary, Thing, check, make};
 use machine::Halt;
 use std::alloc::{AllocError, Global};
 use std::process::Abort;
-use sv39::{Plain, Tlb};
+use sv39::{Plain, Tlb, Translate};
 use translators::Noting;
 
 // A path, and the numbers of the device that it names; a directory has none.
@@ -34,6 +34,24 @@ fn manifest(alloc: Global, names: &[Name<'_>]) -> Result<Manifest, AllocError> {
     Ok(Manifest { entries })
 }
 
+fn image_of(alloc: Global, names: &[Name<'_>]) -> Option<Vec<u8>> {
+    let manifest = manifest(alloc, names).ok()?;
+    make(alloc, &manifest, 32, 16).ok()
+}
+
+// After these acts the machine over this translator leaves this image, in which so much is in use.
+fn leaves_over<T: Translate + Drop>(
+    rt: &(impl Abort + AllocGlobal),
+    program: Program<'_>,
+    translator: T,
+    acts: &[Act<'_>],
+    (image, used): (&[u8], Summary),
+) {
+    let mut disk = saved(rt, program, translator, ROOM, acts).expect(rt, "a disk");
+    holds_at(rt, 0, disk.bytes() == image);
+    holds_at(rt, 1, check(rt.alloc(), &mut disk) == Ok(used));
+}
+
 // After these acts the machine leaves the image that is made of these names, in which so much is in use.
 fn leaves(
     rt: &(impl Abort + AllocGlobal),
@@ -42,16 +60,11 @@ fn leaves(
     names: &[Name<'_>],
     used: Summary,
 ) {
-    let alloc = rt.alloc();
-    let manifest = manifest(alloc, names).expect(rt, "a manifest");
-    let image = make(alloc, &manifest, 32, 16).expect(rt, "an image");
-    let mut disk = saved(rt, program, Plain::new(), ROOM, acts).expect(rt, "a disk");
-    holds_at(rt, 0, disk.bytes() == image.as_slice());
-    holds_at(rt, 1, check(alloc, &mut disk) == Ok(used));
-    let disk = saved(rt, program, Tlb::<64>::new(), ROOM, acts).expect(rt, "a disk");
-    holds_at(rt, 2, disk.bytes() == image.as_slice());
-    let disk = saved(rt, program, Noting::new(alloc, 16), ROOM, acts).expect(rt, "a disk");
-    holds_at(rt, 3, disk.bytes() == image.as_slice());
+    let image = image_of(rt.alloc(), names).expect(rt, "an image");
+    let left = (image.as_slice(), used);
+    leaves_over(rt, program, Plain::new(), acts, left);
+    leaves_over(rt, program, Tlb::<64>::new(), acts, left);
+    leaves_over(rt, program, Noting::new(rt.alloc(), 16), acts, left);
 }
 
 #[test]

@@ -1,7 +1,6 @@
 //! How often a machine asks for its disk.
-use crate::disks::{Run, disk_of, holds_at, image_of};
+use crate::disks::{Room, Run, holds_at, run_of};
 use crate::sources::READER;
-use blockdev::MemDisk;
 use std::alloc::Global;
 use sv39::Plain;
 use unixmodel::event::Event;
@@ -10,7 +9,7 @@ use unixmodel::event::Event;
 const STEPS: usize = 200;
 
 // Steps until the file was read so often: how often the disk was read until then. `None`: it was written, or not read so often.
-fn reads_until(run: &mut Run<MemDisk, Plain>, rounds: u64) -> Option<u64> {
+fn reads_until(run: &mut Run<Plain>, rounds: u64) -> Option<u64> {
     for _ in 0..STEPS {
         run.event(Event::Step).ok()?;
         if run.machine.inspect(1)?.registers[20] == rounds {
@@ -25,15 +24,22 @@ fn reads_until(run: &mut Run<MemDisk, Plain>, rounds: u64) -> Option<u64> {
     None
 }
 
-// How often the disk is read as a file of so many bytes is read for the second time, and for the third.
-fn reads_again(alloc: Global, bytes: usize) -> Option<(u64, u64)> {
-    let image = image_of(alloc, READER, bytes, 64)?;
-    let disk = disk_of(alloc, image.as_slice())?;
-    let mut run = Run::boot(alloc, disk, Plain::new(), 64)?;
-    let first = reads_until(&mut run, 1)?;
-    let second = reads_until(&mut run, 2)?;
-    let third = reads_until(&mut run, 3)?;
+// How often the disk is read as the file is read for the second time, and for the third.
+fn rereads(run: &mut Run<Plain>) -> Option<(u64, u64)> {
+    let first = reads_until(run, 1)?;
+    let second = reads_until(run, 2)?;
+    let third = reads_until(run, 3)?;
     Some((second.wrapping_sub(first), third.wrapping_sub(second)))
+}
+
+// The same of a file of so many bytes.
+fn reads_again(alloc: Global, bytes: usize) -> Option<(u64, u64)> {
+    let room = Room {
+        frames: 64,
+        blocks: 64,
+    };
+    let mut run = run_of(alloc, READER, bytes, room)?;
+    rereads(&mut run)
 }
 
 // Thirty blocks are held: those of a file of 20 blocks, of its numbers, its inode and its directory are, and those of a file of 32

@@ -62,16 +62,31 @@ fn go(
     Ok(None)
 }
 
-// Whether it answers that it has halted, whatever it is asked for, and its process can be looked at still.
-fn is_stopped(alloc: Global, mut machine: Failing) -> bool {
+// Whether events are answered by that it has halted.
+fn is_still(alloc: Global, machine: &mut Failing) -> bool {
     let mut out = Writer::new(Vec::new(alloc));
     machine.step(Event::Step, &mut out) == Err(Halt::Halted)
         && machine.run(&[Event::Tick], &mut out) == Err(Halt::Halted)
-        && machine.stat_inode(1) == Err(Halt::Halted)
+}
+
+// Whether it tells nothing of its disk, and its process can be looked at still.
+fn is_mute(machine: &mut Failing) -> bool {
+    machine.stat_inode(1) == Err(Halt::Halted)
         && machine.read_inode(1, 0, &mut [0; 16]) == Err(Halt::Halted)
         && machine.inspect(1).is_some()
         && machine.peek(1, 0).is_some()
+}
+
+// How it goes where it stopped: it answers that it has halted, whatever it is asked for.
+fn stopped(alloc: Global, mut machine: Failing) -> Course {
+    if is_still(alloc, &mut machine)
+        && is_mute(&mut machine)
         && machine.save().err() == Some(Halt::Halted)
+    {
+        Course::Stops
+    } else {
+        Course::Strays
+    }
 }
 
 // How it goes on where it went to its end.
@@ -83,17 +98,28 @@ fn left(machine: Failing) -> Course {
     }
 }
 
-fn follow(alloc: Global, image: &[u8], good: u64) -> Course {
-    let Some(mut machine) = booted(alloc, image, good) else {
-        return Course::Stays;
-    };
+// How far it goes, and whether its text is right.
+fn gone(alloc: Global, machine: &mut Failing) -> Course {
     let mut text = Vec::new(alloc);
-    match go(alloc, &mut machine, &mut text) {
-        Ok(Some(Halt::InitEnded(0))) if text.as_slice() == TEXT.as_slice() => left(machine),
-        Ok(Some(Halt::Device)) if TEXT.starts_with(&text) && is_stopped(alloc, machine) => {
-            Course::Stops
-        }
+    match go(alloc, machine, &mut text) {
+        Ok(Some(Halt::InitEnded(0))) if text.as_slice() == TEXT.as_slice() => Course::Ends,
+        Ok(Some(Halt::Device)) if TEXT.starts_with(&text) => Course::Stops,
         _ => Course::Strays,
+    }
+}
+
+fn course_of(alloc: Global, mut machine: Failing) -> Course {
+    match gone(alloc, &mut machine) {
+        Course::Ends => left(machine),
+        Course::Stops => stopped(alloc, machine),
+        other => other,
+    }
+}
+
+fn follow(alloc: Global, image: &[u8], good: u64) -> Course {
+    match booted(alloc, image, good) {
+        Some(machine) => course_of(alloc, machine),
+        None => Course::Stays,
     }
 }
 

@@ -1,5 +1,5 @@
 //! Generated lists of events, in one piece and in pieces.
-use crate::disks::{Run, disk_of, holds_at, image_of};
+use crate::disks::{Parted, Run, Whole, disk_of, holds_at, image_of};
 use crate::sources::SERVANT;
 use blockdev::MemDisk;
 use machine::Halt;
@@ -62,8 +62,8 @@ fn generated(alloc: Global, dice: &mut Dice) -> Result<Vec<Event>, AllocError> {
 }
 
 // The events in pieces, of which none is longer than the mask, up to the one at which the machine stops.
-fn run_pieces<T: Translate + Drop>(
-    run: &mut Run<MemDisk, T>,
+fn run_pieces(
+    run: &mut Parted,
     events: &[Event],
     dice: &mut Dice,
     mask: usize,
@@ -78,13 +78,11 @@ fn run_pieces<T: Translate + Drop>(
 }
 
 // Whether a page of a process is the same in both.
-fn is_same_page<T: Translate + Drop, U: Translate + Drop>(
-    one: &Run<MemDisk, T>,
-    other: &Run<MemDisk, U>,
-    pid: u32,
-    page: u64,
-) -> bool {
-    match (one.machine.peek(pid, page), other.machine.peek(pid, page)) {
+fn is_same_page(whole: &Whole, parted: &Parted, pid: u32, page: u64) -> bool {
+    match (
+        whole.machine.peek(pid, page),
+        parted.machine.peek(pid, page),
+    ) {
         (Some((bytes, marks)), Some((others, same))) => bytes == others && marks == same,
         (None, None) => true,
         _ => false,
@@ -92,86 +90,89 @@ fn is_same_page<T: Translate + Drop, U: Translate + Drop>(
 }
 
 // Whether processes, their pages and the count of free frames are the same in both.
-fn is_like<T: Translate + Drop, U: Translate + Drop>(
-    one: &Run<MemDisk, T>,
-    other: &Run<MemDisk, U>,
-) -> bool {
+fn is_like(whole: &Whole, parted: &Parted) -> bool {
     for pid in 0..PIDS {
-        if one.machine.inspect(pid) != other.machine.inspect(pid) {
+        if whole.machine.inspect(pid) != parted.machine.inspect(pid) {
             return false;
         }
         for page in 0..PAGES {
-            if !is_same_page(one, other, pid, page) {
+            if !is_same_page(whole, parted, pid, page) {
                 return false;
             }
         }
     }
-    one.machine.free_frames() == other.machine.free_frames()
+    whole.machine.free_frames() == parted.machine.free_frames()
 }
 
 // Whether a node has the same type, links, size and first bytes in both.
-fn is_same_node<T: Translate + Drop, U: Translate + Drop>(
-    one: &mut Run<MemDisk, T>,
-    other: &mut Run<MemDisk, U>,
-    number: usize,
-) -> bool {
+fn is_same_node(whole: &mut Whole, parted: &mut Parted, number: usize) -> bool {
     let (mut bytes, mut others) = ([0; 4096], [0; 4096]);
-    one.machine.stat_inode(number) == other.machine.stat_inode(number)
-        && one.machine.read_inode(number, 0, &mut bytes)
-            == other.machine.read_inode(number, 0, &mut others)
+    whole.machine.stat_inode(number) == parted.machine.stat_inode(number)
+        && whole.machine.read_inode(number, 0, &mut bytes)
+            == parted.machine.read_inode(number, 0, &mut others)
         && bytes == others
 }
 
 /// Whether all files are the same in both.
-pub(crate) fn has_same_files<T: Translate + Drop, U: Translate + Drop>(
-    one: &mut Run<MemDisk, T>,
-    other: &mut Run<MemDisk, U>,
-) -> bool {
+pub(crate) fn has_same_files(whole: &mut Whole, parted: &mut Parted) -> bool {
     for number in 0..NODES {
-        if !is_same_node(one, other, number) {
+        if !is_same_node(whole, parted, number) {
             return false;
         }
     }
     true
 }
 
-// Whether both printed the same, and leave the same disk.
-fn leaves_same<T: Translate + Drop, U: Translate + Drop>(
-    one: Run<MemDisk, T>,
-    other: Run<MemDisk, U>,
-) -> bool {
-    let Run { machine, out } = one;
-    let Run {
-        machine: beside,
-        out: printed,
-    } = other;
-    match (machine.save(), beside.save()) {
-        (Ok(disk), Ok(same)) => {
-            disk.bytes() == same.bytes()
-                && out.into_inner().as_slice() == printed.into_inner().as_slice()
+// The disk that a machine left, and what it printed.
+type Left = Option<(MemDisk, Vec<u8>)>;
+
+// Whether both left a disk, and these and their texts are the same.
+fn is_same_left(left: &Left, other: &Left) -> bool {
+    match (left, other) {
+        (Some((disk, text)), Some((beside, printed))) => {
+            disk.bytes() == beside.bytes() && text.as_slice() == printed.as_slice()
         }
         _ => false,
     }
 }
 
-// Whether two runs that ended so are alike in all that can be seen.
-fn is_even<T: Translate + Drop, U: Translate + Drop>(
-    mut one: Run<MemDisk, T>,
-    mut other: Run<MemDisk, U>,
-) -> bool {
-    is_like(&one, &other) && has_same_files(&mut one, &mut other) && leaves_same(one, other)
+// Whether two runs that ended so are alike in all that can be seen, and in what they leave.
+fn is_even(mut whole: Whole, mut parted: Parted) -> bool {
+    let alike = is_like(&whole, &parted) && has_same_files(&mut whole, &mut parted);
+    let (left, other) = (whole.left(), parted.left());
+    alike && is_same_left(&left, &other)
 }
 
-// Whether a generated list of events gives the same in one piece and in pieces that are no longer than a mask; and whether it
-// stopped the machine.
-fn in_pieces(alloc: Global, image: &[u8], seed: u64, mask: usize) -> Option<(bool, bool)> {
+// A machine that boots from an image.
+fn booted<T: Translate + Drop>(alloc: Global, image: &[u8], translator: T) -> Option<Run<T>> {
+    let disk = disk_of(alloc, image)?;
+    Run::boot(alloc, disk, translator, 64)
+}
+
+// Whether a generated list of events ends so in one piece and in pieces that are no longer than a mask; and whether it stopped the
+// machine.
+fn run_both(
+    alloc: Global,
+    whole: &mut Whole,
+    parted: &mut Parted,
+    (seed, mask): (u64, usize),
+) -> (bool, bool) {
     let mut dice = Dice(seed);
-    let events = generated(alloc, &mut dice).ok()?;
-    let mut whole = Run::boot(alloc, disk_of(alloc, image)?, Plain::new(), 64)?;
-    let mut parted = Run::boot(alloc, disk_of(alloc, image)?, Tlb::<64>::new(), 64)?;
+    let Ok(events) = generated(alloc, &mut dice) else {
+        return (false, false);
+    };
     let end = whole.run(&events);
-    let same = run_pieces(&mut parted, &events, &mut dice, mask);
-    Some((end == same && is_even(whole, parted), end.is_err()))
+    let same = run_pieces(parted, &events, &mut dice, mask);
+    (end == same, end.is_err())
+}
+
+// Whether the list gives the same in both ways; and whether it stopped the machine.
+fn in_pieces(alloc: Global, image: &[u8], seed: u64, mask: usize) -> Option<(bool, bool)> {
+    let mut whole = booted(alloc, image, Plain::new())?;
+    let mut parted = booted(alloc, image, Tlb::<64>::new())?;
+    let (same, halts) = run_both(alloc, &mut whole, &mut parted, (seed, mask));
+    let even = is_even(whole, parted);
+    Some((same && even, halts))
 }
 
 // In pieces of up to 63 events, and of one.

@@ -1,5 +1,5 @@
 //! Rounds of events, between which a machine goes on, or is saved and booted again.
-use crate::disks::{Run, disk_of, holds_at, image_of};
+use crate::disks::{Parted, Run, Whole, disk_of, holds_at, image_of};
 use crate::pieces::{Dice, has_same_files};
 use crate::sources::SERVANT;
 use blockdev::MemDisk;
@@ -38,10 +38,8 @@ fn round(alloc: Global, dice: &mut Dice) -> Result<Vec<Event>, AllocError> {
     Ok(events)
 }
 
-type Parted = Run<MemDisk, Tlb<64>>;
-
 // Whether process 1 waits for a key, and is alone.
-fn is_waiting<T: Translate + Drop>(run: &Run<MemDisk, T>) -> bool {
+fn is_waiting<T: Translate + Drop>(run: &Run<T>) -> bool {
     match run.machine.inspect(1) {
         Some(seen) => seen.state == ProcessState::Waiting(5) && run.machine.free_frames() == 55,
         None => false,
@@ -49,7 +47,7 @@ fn is_waiting<T: Translate + Drop>(run: &Run<MemDisk, T>) -> bool {
 }
 
 // Steps until process 1 waits and goes on waiting, and tells how many.
-fn settle<T: Translate + Drop>(run: &mut Run<MemDisk, T>) -> Option<usize> {
+fn settle<T: Translate + Drop>(run: &mut Run<T>) -> Option<usize> {
     let mut rests = 0u32;
     for count in 0..STEPS {
         run.event(Event::Step).ok()?;
@@ -65,38 +63,100 @@ fn settle<T: Translate + Drop>(run: &mut Run<MemDisk, T>) -> Option<usize> {
     None
 }
 
-// Saves a machine, of which no process matters, and boots what it leaves, which the check accepts; its text goes behind what was
-// printed before.
-fn again(alloc: Global, run: Parted, text: &mut Vec<u8>) -> Option<Parted> {
-    let Run { machine, out } = run;
-    text.extend_from_slice(out.into_inner().as_slice()).ok()?;
-    let mut disk = machine.save().ok()?;
+// A machine that boots from a disk and waits for a key.
+fn waiting<T: Translate + Drop>(alloc: Global, disk: MemDisk, translator: T) -> Option<Run<T>> {
+    let mut run = Run::boot(alloc, disk, translator, 64)?;
+    if settle(&mut run).is_some() {
+        Some(run)
+    } else {
+        None
+    }
+}
+
+// Saves a machine, of which no process matters: what it leaves, which the check accepts. Its text goes behind what was printed
+// before.
+fn put_away(alloc: Global, run: Parted, text: &mut Vec<u8>) -> Option<MemDisk> {
+    let (mut disk, printed) = run.left()?;
+    text.extend_from_slice(printed.as_slice()).ok()?;
     check(alloc, &mut disk).ok()?;
-    let mut run = Run::boot(alloc, disk, Tlb::<64>::new(), 64)?;
-    settle(&mut run)?;
-    Some(run)
+    Some(disk)
+}
+
+// Saves a machine and boots what it leaves.
+fn again(alloc: Global, run: Parted, text: &mut Vec<u8>) -> Option<Parted> {
+    let disk = put_away(alloc, run, text)?;
+    waiting(alloc, disk, Tlb::<64>::new())
+}
+
+// Whether both go through these events, and take as many steps until they wait.
+fn go_alike(whole: &mut Whole, parted: &mut Parted, events: &[Event]) -> bool {
+    if whole.run(events).is_err() || parted.run(events).is_err() {
+        return false;
+    }
+    match (settle(whole), settle(parted)) {
+        (Some(steps), Some(others)) => steps == others,
+        _ => false,
+    }
+}
+
+// The same with the events of a round.
+fn go_round(alloc: Global, whole: &mut Whole, parted: &mut Parted, dice: &mut Dice) -> bool {
+    match round(alloc, dice) {
+        Ok(events) => go_alike(whole, parted, &events),
+        Err(_) => false,
+    }
+}
+
+// All rounds, with a save and a boot behind each: the machine that was booted at last. What is printed goes into the text. `None`:
+// the two differ.
+fn go_on(
+    alloc: Global,
+    whole: &mut Whole,
+    mut parted: Parted,
+    text: &mut Vec<u8>,
+    dice: &mut Dice,
+) -> Option<Parted> {
+    for _ in 0..ROUNDS {
+        if !go_round(alloc, whole, &mut parted, dice) {
+            return None;
+        }
+        parted = again(alloc, parted, text)?;
+    }
+    Some(parted)
+}
+
+// Whether the machine that is saved and booted again ends with the files of the other. What it prints goes into the text.
+fn ends_alike(
+    alloc: Global,
+    whole: &mut Whole,
+    parted: Parted,
+    seed: u64,
+    text: &mut Vec<u8>,
+) -> bool {
+    match go_on(alloc, whole, parted, text, &mut Dice(seed)) {
+        Some(mut parted) => has_same_files(whole, &mut parted),
+        None => false,
+    }
 }
 
 // Whether rounds give the same files and the same text with and without saves between them.
-fn is_same(alloc: Global, image: &[u8], seed: u64) -> Option<bool> {
-    let mut dice = Dice(seed);
+fn is_same(alloc: Global, mut whole: Whole, parted: Parted, seed: u64) -> bool {
     let mut text = Vec::new(alloc);
-    let mut whole = Run::boot(alloc, disk_of(alloc, image)?, Plain::new(), 64)?;
-    let mut parted = Run::boot(alloc, disk_of(alloc, image)?, Tlb::<64>::new(), 64)?;
-    settle(&mut whole)?;
-    settle(&mut parted)?;
-    for _ in 0..ROUNDS {
-        let events = round(alloc, &mut dice).ok()?;
-        whole.run(&events).ok()?;
-        parted.run(&events).ok()?;
-        if settle(&mut whole)? != settle(&mut parted)? {
-            return None;
-        }
-        parted = again(alloc, parted, &mut text)?;
-    }
-    let same = has_same_files(&mut whole, &mut parted);
-    let Run { machine: _, out } = whole;
-    Some(same && out.into_inner().as_slice() == text.as_slice())
+    let same = ends_alike(alloc, &mut whole, parted, seed, &mut text);
+    whole.printed().as_slice() == text.as_slice() && same
+}
+
+// A machine that boots from an image and waits for a key.
+fn begun<T: Translate + Drop>(alloc: Global, image: &[u8], translator: T) -> Option<Run<T>> {
+    let disk = disk_of(alloc, image)?;
+    waiting(alloc, disk, translator)
+}
+
+// The same of machines that boot from an image.
+fn is_kept(alloc: Global, image: &[u8], seed: u64) -> Option<bool> {
+    let whole = begun(alloc, image, Plain::new())?;
+    let parted = begun(alloc, image, Tlb::<64>::new())?;
+    Some(is_same(alloc, whole, parted, seed))
 }
 
 #[test]
@@ -104,7 +164,7 @@ fn a_save_and_a_boot_change_no_files(rt: HostRuntime) {
     let alloc = rt.alloc();
     let image = image_of(alloc, SERVANT, 17_000, 32).expect(&rt, "an image");
     for seed in 0..LISTS {
-        let same = is_same(alloc, image.as_slice(), seed);
+        let same = is_kept(alloc, image.as_slice(), seed);
         holds_at(&rt, seed as usize, same == Some(true));
     }
 }

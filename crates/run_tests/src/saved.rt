@@ -1,9 +1,9 @@
 //! What is told of files that a machine holds or fills, and what is saved of them.
-use crate::disks::{Run, disk_of, holds_at, image_of};
+use crate::disks::{Room, Run, disk_of, holds_at, image_of, run_of};
 use crate::sources::{FILLER, HOLDER};
 use blockdev::MemDisk;
 use image::{Summary, check};
-use machine::{ProcessState, Stat};
+use machine::{ProcessState, Seen, Stat};
 use std::alloc::Global;
 use sv39::Plain;
 
@@ -21,11 +21,12 @@ fn held(alloc: Global, disk: MemDisk) -> Option<MemDisk> {
         links: 0,
         size: 1,
     };
-    if !run.steps(STEPS) || run.machine.stat_inode(HELD) != Ok(Some(stat)) {
-        return None;
+    if run.steps(STEPS) && run.machine.stat_inode(HELD) == Ok(Some(stat)) {
+        let (disk, _) = run.left()?;
+        Some(disk)
+    } else {
+        None
     }
-    let Run { machine, out: _ } = run;
-    machine.save().ok()
 }
 
 // The disk is that of the image, of which `check` tells what is in use: the held file's inode and block aren't.
@@ -45,22 +46,28 @@ fn what_is_held_without_a_name_is_not_saved(rt: HostRuntime) {
     holds_at(&rt, 3, check(alloc, &mut disk) == Ok(USED));
 }
 
+// Whether it read the file, wrote one byte more, and was refused another.
+fn has_filled(seen: &Seen) -> bool {
+    seen.state == ProcessState::Running
+        && seen.registers[18] == 274_431
+        && seen.registers[19] == 1
+        && seen.registers[20] == u64::MAX
+}
+
 #[test]
 fn a_file_has_at_most_274432_bytes(rt: HostRuntime) {
-    let alloc = rt.alloc();
-    let image = image_of(alloc, FILLER, 274_431, 400).expect(&rt, "an image");
-    let disk = disk_of(alloc, image.as_slice()).expect(&rt, "a disk");
-    let mut run = Run::boot(alloc, disk, Plain::new(), 128).expect(&rt, "a machine");
-    holds_at(&rt, 0, run.steps(STEPS));
-    let seen = run.machine.inspect(1).expect(&rt, "process 1");
-    holds_at(&rt, 1, seen.state == ProcessState::Running);
-    holds_at(&rt, 2, seen.registers[18] == 274_431);
-    holds_at(&rt, 3, seen.registers[19] == 1);
-    holds_at(&rt, 4, seen.registers[20] == u64::MAX);
-    let stat = Stat {
+    const FULL: Stat = Stat {
         kind: 2,
         links: 1,
         size: 274_432,
     };
-    holds_at(&rt, 5, run.machine.stat_inode(3) == Ok(Some(stat)));
+    let room = Room {
+        frames: 128,
+        blocks: 400,
+    };
+    let mut run = run_of(rt.alloc(), FILLER, 274_431, room).expect(&rt, "a machine");
+    holds_at(&rt, 0, run.steps(STEPS));
+    let seen = run.machine.inspect(1).expect(&rt, "process 1");
+    holds_at(&rt, 1, has_filled(&seen));
+    holds_at(&rt, 2, run.machine.stat_inode(3) == Ok(Some(FULL)));
 }

@@ -13,6 +13,11 @@ pub struct Desk<'a, R> {
     made: BTreeMap<String, Vec<u8>>,
 }
 
+// A job was refused, with this text.
+fn refuse(told: &[u8]) -> anyhow::Result<()> {
+    bail!("{}", str::from_utf8(told)?)
+}
+
 impl<'a, R: Files + AllocGlobal> Desk<'a, R> {
     /// Nothing was made yet.
     pub fn new(rt: &'a R) -> Desk<'a, R> {
@@ -42,10 +47,11 @@ impl<'a, R: Files + AllocGlobal> Desk<'a, R> {
         let alloc = self.rt.alloc();
         let mut printed = Vec::new(alloc);
         let mut told = Vec::new(alloc);
-        if perform(alloc, job, self, &mut printed, &mut told) != 0 {
-            bail!("{}", str::from_utf8(told.as_slice())?);
+        if perform(alloc, job, self, &mut printed, &mut told) == 0 {
+            Ok(())
+        } else {
+            refuse(told.as_slice())
         }
-        Ok(())
     }
 
     /// Assembles a text.

@@ -15,10 +15,10 @@ mod session;
 mod starved;
 
 use anyhow::{Context, ensure};
-use blockdev::MemDisk;
 use desk::Desk;
+use image::{Summary, check};
 use linked_list_allocator::LocalHeap;
-use session::{Session, Shown, play_on};
+use session::{Session, Shown, disk_of, play_on};
 use starved::{Starved, TOO_LITTLE};
 use std::alloc::Global;
 use std::cell::Cell;
@@ -39,11 +39,20 @@ const PAGES: u64 = 8;
 /// What the last session left.
 const LEFT: &str = "left.img";
 
+// Assembles a program.
+fn assemble<R: Files + AllocGlobal>(
+    alloc: Global,
+    desk: &mut Desk<'_, R>,
+    name: &str,
+) -> anyhow::Result<()> {
+    let text = format!(in alloc; "{name}.s")?;
+    desk.assemble(text.as_str(), name)
+}
+
 // Assembles the programs, and makes the images: one as `make image` does, and one with little room.
 fn prepare<R: Files + AllocGlobal>(alloc: Global, desk: &mut Desk<'_, R>) -> anyhow::Result<()> {
-    for name in PROGRAMS {
-        let text = format!(in alloc; "{name}.s")?;
-        desk.assemble(text.as_str(), name)?;
+    for name in &PROGRAMS {
+        assemble(alloc, desk, name)?;
     }
     desk.make("manifest", (2000, 200), "xv6.img")?;
     desk.make("small", (64, 16), "small.img")
@@ -56,9 +65,21 @@ fn play_plainly<T: Translate + Drop>(
     image: &[u8],
     translator: T,
 ) -> anyhow::Result<(Shown, Vec<u8>)> {
-    let disk = MemDisk::new(Vec::from_slice(alloc, image)?)?;
+    let disk = disk_of(alloc, image)?;
     let (shown, disk) = play_on(alloc, session, disk, translator)?;
     Ok((shown, disk.into_bytes()))
+}
+
+// Plays it on a disk behind a cache that takes its memory from this heap.
+fn play_behind(
+    alloc: Global,
+    session: &Session<'_>,
+    heap: &LocalHeap,
+    image: &[u8],
+) -> anyhow::Result<(Shown, Vec<u8>)> {
+    let disk = Starved::new(alloc, heap, image)?;
+    let (shown, disk) = play_on(alloc, session, disk, Plain::new())?;
+    Ok((shown, disk.into_bytes()?))
 }
 
 // Plays it on a disk behind a cache without memory.
@@ -68,9 +89,7 @@ fn play_starved(
     image: &[u8],
 ) -> anyhow::Result<(Shown, Vec<u8>)> {
     let heap = LocalHeap::new(alloc, TOO_LITTLE)?;
-    let disk = Starved::new(alloc, &heap, image)?;
-    let (shown, disk) = play_on(alloc, session, disk, Plain::new())?;
-    Ok((shown, disk.into_bytes()?))
+    play_behind(alloc, session, &heap, image)
 }
 
 // Plays a session over another translator: it has to show the same, and to leave the same image.
@@ -86,51 +105,104 @@ fn play_over<T: Translate + Drop>(
     Ok(())
 }
 
-// Plays a session on each kind of machine: all have to show the same, and to leave the same image.
-fn play(alloc: Global, session: &Session<'_>, image: &[u8]) -> anyhow::Result<(Shown, Vec<u8>)> {
-    let played = play_plainly(alloc, session, image, Plain::new())?;
-    play_over(alloc, session, image, Tlb::<64>::new(), &played).context(
+// The same over translators that remember.
+fn play_remembering(
+    alloc: Global,
+    session: &Session<'_>,
+    image: &[u8],
+    played: &(Shown, Vec<u8>),
+) -> anyhow::Result<()> {
+    play_over(alloc, session, image, Tlb::<64>::new(), played).context(
         "where translations are remembered",
     )?;
-    play_over(alloc, session, image, Noting::new(alloc, 0), &played).context(
+    play_over(alloc, session, image, Noting::new(alloc, 0), played).context(
         "where the oldest translation is answered",
     )?;
-    play_over(alloc, session, image, Noting::new(alloc, PAGES), &played).context(
+    play_over(alloc, session, image, Noting::new(alloc, PAGES), played).context(
         "where all pages are noted ahead",
-    )?;
+    )
+}
+
+// The same over one that counts.
+fn play_counting(
+    alloc: Global,
+    session: &Session<'_>,
+    image: &[u8],
+    played: &(Shown, Vec<u8>),
+) -> anyhow::Result<()> {
     let (fetches, fences) = (Cell::new(0), Cell::new(0));
     let counting = Counting::new(&fetches, &fences);
-    play_over(alloc, session, image, counting, &played).context("where accesses are counted")?;
+    play_over(alloc, session, image, counting, played).context("where accesses are counted")?;
     ensure!(fetches.get() > 0 && fences.get() > 0, "nothing was counted");
+    Ok(())
+}
+
+// Plays a session on each other kind of machine: all have to show the same, and to leave the same image.
+fn play_again(
+    alloc: Global,
+    session: &Session<'_>,
+    image: &[u8],
+    played: &(Shown, Vec<u8>),
+) -> anyhow::Result<()> {
+    play_remembering(alloc, session, image, played)?;
+    play_counting(alloc, session, image, played)?;
     let starved = play_starved(alloc, session, image)?;
     ensure!(
-        starved == played,
+        starved == *played,
         "it differs where the block cache has no memory"
     );
+    Ok(())
+}
+
+// Plays a session on each kind of machine.
+fn play(alloc: Global, session: &Session<'_>, image: &[u8]) -> anyhow::Result<(Shown, Vec<u8>)> {
+    let played = play_plainly(alloc, session, image, Plain::new())?;
+    play_again(alloc, session, image, &played)?;
     Ok(played)
+}
+
+// What is in use of an image.
+fn used(alloc: Global, image: &[u8]) -> anyhow::Result<Summary> {
+    let mut disk = disk_of(alloc, image)?;
+    Ok(check(alloc, &mut disk)?)
+}
+
+// Prints how a session ended.
+fn print_end<W: Write>(ended: Option<i32>, out: &mut W) -> io::Result<()> {
+    match ended {
+        None => write!(out, "\n[running, "),
+        Some(status) => write!(out, "\n[process 1 ended with {status}, "),
+    }
 }
 
 // Prints what a session shows, and what the image that it leaves uses.
 fn print<W: Write>(
-    alloc: Global,
     session: &Session<'_>,
     shown: &Shown,
-    left: &[u8],
+    used: Summary,
     out: &mut W,
-) -> anyhow::Result<()> {
-    let used = image::check(alloc, &mut MemDisk::new(Vec::from_slice(alloc, left)?)?)?;
+) -> io::Result<()> {
     writeln!(out, "{}", session.title)?;
     out.write_all(shown.console.as_slice())?;
-    match shown.ended {
-        None => write!(out, "\n[running, ")?,
-        Some(status) => write!(out, "\n[process 1 ended with {status}, ")?,
-    }
+    print_end(shown.ended, out)?;
     let (free, inodes, blocks) = (shown.free, used.inodes, used.blocks);
     writeln!(
         out,
         "{free} frames free, {inodes} inodes and {blocks} blocks in use]\n"
-    )?;
-    Ok(())
+    )
+}
+
+// Plays a session and prints it: the image that it leaves.
+fn play_out<W: Write>(
+    alloc: Global,
+    session: &Session<'_>,
+    image: &[u8],
+    out: &mut W,
+) -> anyhow::Result<Vec<u8>> {
+    let (shown, left) = play(alloc, session, image).context(session.title)?;
+    let used = used(alloc, left.as_slice())?;
+    print(session, &shown, used, out)?;
+    Ok(left)
 }
 
 // Does what a paragraph of standard input asks for.
@@ -142,9 +214,22 @@ fn show<R: Files + AllocGlobal, W: Write>(
 ) -> anyhow::Result<()> {
     let session = Session::read(paragraph).context("a session has a title, an image and a script")?;
     let image = desk.file(session.image)?;
-    let (shown, left) = play(alloc, &session, image.as_slice()).context(session.title)?;
-    print(alloc, &session, &shown, left.as_slice(), out)?;
+    let left = play_out(alloc, &session, image.as_slice(), out)?;
     desk.keep(LEFT, left)
+}
+
+// Does what standard input asks for.
+fn show_all<R: Files + AllocGlobal, W: Write>(
+    alloc: Global,
+    desk: &mut Desk<'_, R>,
+    text: &str,
+    out: &mut W,
+) -> anyhow::Result<()> {
+    for paragraph in text.split("\n\n") {
+        show(alloc, desk, paragraph, out)?;
+    }
+    out.flush()?;
+    Ok(())
 }
 
 fn main(rt: HostRuntime) -> anyhow::Result<()> {
@@ -153,9 +238,5 @@ fn main(rt: HostRuntime) -> anyhow::Result<()> {
     prepare(alloc, &mut desk)?;
     let text = io::read_to_string(alloc, rt.reader())?;
     let mut out = BufWriter::new(alloc, io::writer(&rt))?;
-    for paragraph in text.as_str().split("\n\n") {
-        show(alloc, &mut desk, paragraph, &mut out)?;
-    }
-    out.flush()?;
-    Ok(())
+    show_all(alloc, &mut desk, text.as_str(), &mut out)
 }

@@ -1,9 +1,11 @@
 //! A session, and what a machine shows in it.
+ghost use Rattle.machine.specs.Told.{IsUp};
+
 use anyhow::{Context, bail};
-use blockdev::BlockDev;
+use blockdev::{BlockDev, MemDisk};
 use commands::play::play;
 use console::Writer;
-use machine::{Halt, boot};
+use machine::{Halt, Machine, boot};
 use std::alloc::Global;
 use sv39::Translate;
 use texts::{Command, TextFault, parse};
@@ -56,6 +58,46 @@ fn commands_of<'a>(alloc: Global, script: &'a str) -> anyhow::Result<Vec<Command
     }
 }
 
+/// A disk of these bytes.
+pub fn disk_of(alloc: Global, bytes: &[u8]) -> anyhow::Result<MemDisk> {
+    Ok(MemDisk::new(Vec::from_slice(alloc, bytes)?)?)
+}
+
+// Does what the commands say: how it ended, and what stands on the console.
+fn run<D: BlockDev, T: Translate + Drop>(
+    alloc: Global,
+    machine: &mut Machine<D, T>,
+    commands: &[Command<'_>],
+) -> anyhow::Result<(Option<i32>, Vec<u8>)>
+    requires { IsUp machine.old }
+{
+    let mut out = Writer::new(Vec::new(alloc));
+    let ended = match play(machine, commands, &mut out) {
+        Ok(()) => None,
+        Err(Halt::InitEnded(status)) => Some(status),
+        Err(_) => bail!("the machine failed"),
+    };
+    Ok((ended, out.into_inner()))
+}
+
+// Does what the commands say, and saves the machine.
+fn play_booted<D: BlockDev, T: Translate + Drop>(
+    alloc: Global,
+    mut machine: Machine<D, T>,
+    commands: &[Command<'_>],
+) -> anyhow::Result<(Shown, D)>
+    requires { IsUp machine }
+{
+    let (ended, console) = run(alloc, &mut machine, commands)?;
+    let shown = Shown {
+        console,
+        ended,
+        free: machine.free_frames(),
+    };
+    let disk = machine.save().ok().context("no disk is left")?;
+    Ok((shown, disk))
+}
+
 /// Boots a machine from a disk, does what the script says, and saves the machine: what it shows, and the disk that it leaves.
 pub fn play_on<D: BlockDev, T: Translate + Drop>(
     alloc: Global,
@@ -64,20 +106,6 @@ pub fn play_on<D: BlockDev, T: Translate + Drop>(
     translator: T,
 ) -> anyhow::Result<(Shown, D)> {
     let commands = commands_of(alloc, session.script)?;
-    let mut machine = boot(alloc, disk, translator, session.frames)?;
-    let mut out = Writer::new(Vec::new(alloc));
-    let ended = match play(&mut machine, commands.as_slice(), &mut out) {
-        Ok(()) => None,
-        Err(Halt::InitEnded(status)) => Some(status),
-        Err(_) => bail!("the machine failed"),
-    };
-    let free = machine.free_frames();
-    let disk = machine.save().ok().context("no disk is left")?;
-    let console = out.into_inner();
-    let shown = Shown {
-        console,
-        ended,
-        free,
-    };
-    Ok((shown, disk))
+    let machine = boot(alloc, disk, translator, session.frames)?;
+    play_booted(alloc, machine, commands.as_slice())
 }

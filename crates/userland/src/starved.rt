@@ -2,6 +2,7 @@
 ghost use Rattle.blockdev.specs.Blocks.{blocks_of};
 ghost use Rattle.blockdev.specs.Sizes.{AreBlocks-blocks_of};
 
+use crate::session::disk_of;
 use anyhow::ensure;
 use blockdev::{Block, BlockDev, DeviceFault, MemDisk};
 use cache::Cache;
@@ -23,11 +24,11 @@ pub struct Starved<'a> {
 impl<'a> Starved<'a> {
     /// The disk of these bytes, and a cache that takes its memory from the heap.
     pub fn new(alloc: Global, heap: &'a LocalHeap, bytes: &[u8]) -> anyhow::Result<Starved<'a>> {
-        let disk = MemDisk::new(Vec::from_slice(alloc, bytes)?)?;
-        let behind = MemDisk::new(Vec::from_slice(alloc, bytes)?)?;
+        let disk = disk_of(alloc, bytes)?;
+        let cache = Cache::new(heap, disk_of(alloc, bytes)?)?;
         Ok(Starved {
             disk,
-            cache: Cache::new(heap, behind)?,
+            cache,
             agrees: true,
         })
     }
@@ -39,18 +40,23 @@ impl<'a> Starved<'a> {
             mut cache,
             agrees,
         } = self;
-        let accesses = disk.reads().wrapping_add(disk.writes());
         let flushed = cache.flush().is_ok();
         let behind = cache.into_device();
-        ensure!(agrees && flushed, "another block without memory");
-        ensure!(
-            behind.reads() == accesses,
-            "a block was held without memory"
-        );
-        let bytes = disk.into_bytes();
-        ensure!(behind.into_bytes() == bytes, "other bytes without memory");
-        Ok(bytes)
+        compare(&disk, &behind, agrees && flushed)?;
+        Ok(disk.into_bytes())
     }
+}
+
+// Compares a disk with the one behind the cache, which agreed or not.
+fn compare(disk: &MemDisk, behind: &MemDisk, agreed: bool) -> anyhow::Result<()> {
+    let accesses = disk.reads().wrapping_add(disk.writes());
+    ensure!(agreed, "another block without memory");
+    ensure!(
+        behind.reads() == accesses,
+        "a block was held without memory"
+    );
+    ensure!(behind.bytes() == disk.bytes(), "other bytes without memory");
+    Ok(())
 }
 
 // Whether the cache has this block.
