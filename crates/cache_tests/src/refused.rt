@@ -1,54 +1,58 @@
 //! The cache where host memory is refused.
 
-use crate::rows::{put, read};
+use crate::rows::{byte, disk_of, put, took};
 use blockdev::MemDisk;
 use cache::Cache;
 use linked_list_allocator::LocalHeap;
-use std::alloc::Global;
-use std::test::Fail;
+use std::alloc::Allocator;
+use std::process::Abort;
 
-// The bytes that some writes and reads leave, and the accesses that they took, where the cache has a heap of this size.
-fn run(alloc: Global, size: usize) -> Result<Option<(Vec<u8>, u64, u64)>, Fail> {
-    let heap = LocalHeap::new(alloc, size)?;
-    let disk = MemDisk::new(vec![in alloc; 0; 33 * 1024]?)?;
-    let Ok(mut cache) = Cache::new(&heap, disk) else {
-        return Ok(None);
-    };
+// Writes into each of 33 blocks, reads it, and writes again.
+fn change_all<A: Allocator + Clone>(rt: &impl Abort, cache: &mut Cache<MemDisk, A>) {
     for n in 0..33 {
-        put(&mut cache, n, n, 1)?;
-        let byte = read(&mut cache, n)?[n];
-        put(&mut cache, n, 1023 - n, byte)?;
+        assert!(rt; put(cache, n, n, 1));
+        let byte = byte(cache, n, n).expect(rt, "a byte");
+        assert!(rt; put(cache, n, 1023 - n, byte));
     }
-    cache.flush()?;
-    let disk = cache.into_device();
-    let (reads, writes) = (disk.reads(), disk.writes());
-    Ok(Some((disk.into_bytes(), reads, writes)))
+    assert!(rt; cache.flush().is_ok());
+}
+
+// The disk after some writes and reads, where the cache has a heap of this size; none where there is no cache.
+fn run(rt: &(impl Abort + AllocGlobal), size: usize) -> Option<MemDisk> {
+    let heap = LocalHeap::new(rt.alloc(), size).expect(rt, "memory");
+    let Ok(mut cache) = Cache::new(&heap, disk_of(rt, 33)) else {
+        return None;
+    };
+    change_all(rt, &mut cache);
+    Some(cache.into_device())
+}
+
+// How many reads it takes with a heap of this size to make the same disk; none where there is no cache.
+fn reads_of(rt: &(impl Abort + AllocGlobal), size: usize, same: &MemDisk) -> Option<u64> {
+    let Some(disk) = run(rt, size) else {
+        return None;
+    };
+    let reads = disk.reads();
+    assert!(rt; disk.bytes() == same.bytes() && disk.writes() <= reads);
+    Some(reads)
 }
 
 #[test]
-fn does_the_same_without_memory(rt: HostRuntime) -> Result<(), Fail> {
-    let with_all = run(rt.alloc(), 100_000)?;
-    assert!(rt; with_all.is_some());
-    let Some((all, reads, writes)) = with_all else {
-        return Ok(());
-    };
-    assert_eq!(rt; (reads, writes), (33, 33));
+fn does_the_same_without_memory(rt: HostRuntime) {
+    let all = run(&rt, 100_000).expect(&rt, "memory");
+    assert!(rt; took(&all, 33, 33));
     let mut refused = false;
     let mut fewest = u64::MAX;
     let mut most = 0;
     for step in 0..40 {
-        match run(rt.alloc(), 1000 * step)? {
+        match reads_of(&rt, 1000 * step, &all) {
             None => refused = true,
-            Some((bytes, reads, writes)) => {
-                assert_eq!(rt; bytes, all, "of {step}");
-                assert!(rt; writes <= reads);
+            Some(reads) => {
                 fewest = reads.min(fewest);
                 most = reads.max(most);
             }
         }
     }
-    assert!(rt; refused);
     // With no memory each read and each write reads the block.
-    assert_eq!(rt; (fewest, most), (33, 99));
-    Ok(())
+    assert!(rt; refused && fewest == 33 && most == 99);
 }

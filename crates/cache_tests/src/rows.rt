@@ -1,152 +1,229 @@
-//! How often the device is read and written.
+//! How often the device is read and written, and what it has then.
 
-use blockdev::{Block, BlockDev, DeviceFault, FlakyDisk, MemDisk};
+use blockdev::{BlockDev, FlakyDisk, MemDisk};
 use cache::Cache;
-use std::alloc::{Allocator, Global};
-use std::test::Fail;
+use std::alloc::Allocator;
+use std::process::Abort;
 
-/// A cache over an empty disk of so many blocks.
-fn cache_of(alloc: Global, blocks: usize) -> Result<Cache<MemDisk>, Fail> {
-    let disk = MemDisk::new(vec![in alloc; 0; blocks.saturating_mul(1024)]?)?;
-    Ok(Cache::new(alloc, disk)?)
+/// An empty disk of so many blocks.
+pub fn disk_of(rt: &(impl Abort + AllocGlobal), blocks: usize) -> MemDisk {
+    let bytes = vec![in rt.alloc(); 0; blocks.saturating_mul(1024)].expect(rt, "memory");
+    MemDisk::new(bytes).expect(rt, "whole blocks")
 }
 
-/// Reads a block that there is.
-pub fn read<D: BlockDev, A: Allocator + Clone>(
+/// Byte `at` of a block that there is.
+pub fn byte<D: BlockDev, A: Allocator + Clone>(
     cache: &mut Cache<D, A>,
     n: usize,
-) -> Result<Block, DeviceFault> {
-    if n >= cache.blocks() {
-        return Err(DeviceFault);
+    at: usize,
+) -> Option<u8> {
+    if n >= cache.blocks() || at >= 1024 {
+        return None;
     }
-    cache.read(n)
+    let Ok(block) = cache.read(n) else {
+        return None;
+    };
+    Some(block[at])
 }
 
-/// Writes one byte into a block that there is.
+/// Writes one byte into a block that there is, and tells whether that went well.
 pub fn put<D: BlockDev, A: Allocator + Clone>(
     cache: &mut Cache<D, A>,
     n: usize,
     at: usize,
     byte: u8,
-) -> Result<(), DeviceFault> {
-    if n >= cache.blocks() || at >= 1024 {
-        return Err(DeviceFault);
-    }
-    cache.write(n, at, &[byte])
+) -> bool {
+    n < cache.blocks() && at < 1024 && cache.write(n, at, &[byte]).is_ok()
 }
 
-// The accesses after so many blocks were read in turn, twice.
-fn accesses_of(alloc: Global, blocks: usize) -> Result<(u64, u64), Fail> {
-    let mut cache = cache_of(alloc, blocks)?;
-    for n in 0..blocks {
-        read(&mut cache, n)?;
-    }
-    for n in 0..blocks {
-        read(&mut cache, n)?;
-    }
-    let disk = cache.into_device();
-    Ok((disk.reads(), disk.writes()))
+// What is done to a cache.
+#[derive(Clone, Copy)]
+enum Act {
+    /// Writes the first byte of a block, and goes well or not.
+    Put(usize, u8, bool),
+    /// Writes this byte at so many places of a block, from the first on.
+    Fill(usize, usize, u8),
+    /// Reads a block, which has this first byte.
+    Read(usize, Option<u8>),
+    /// Reads the blocks from one to before another in turn.
+    ReadAll(usize, usize),
+    /// Writes what the device lacks, and goes well or not.
+    Flush(bool),
+    /// Does so again and again, and each time it goes well.
+    Flushes(usize),
+    /// An access of the device has failed, or none has.
+    HasFailed(bool),
 }
 
-#[test]
-fn holds_thirty_blocks(rt: HostRuntime) -> Result<(), Fail> {
-    assert_eq!(rt; accesses_of(rt.alloc(), 30)?, (30, 0));
-    assert_eq!(rt; accesses_of(rt.alloc(), 31)?, (62, 0));
-    Ok(())
-}
+// All accesses are good.
+const NEVER: u64 = u64::MAX;
 
-#[test]
-fn writes_a_changed_block_once(rt: HostRuntime) -> Result<(), Fail> {
-    for flushes in 1..4 {
-        let mut cache = cache_of(rt.alloc(), 2)?;
-        for at in 0..100 {
-            put(&mut cache, 1, at, 7)?;
+fn fills(cache: &mut Cache<FlakyDisk>, n: usize, count: usize, value: u8) -> bool {
+    for at in 0..count {
+        if !put(cache, n, at, value) {
+            return false;
         }
-        for _ in 0..flushes {
-            cache.flush()?;
-        }
-        let disk = cache.into_device();
-        assert_eq!(rt; (disk.reads(), disk.writes()), (1, 1), "after {flushes}");
-        let bytes = disk.into_bytes();
-        assert_eq!(rt; bytes.len(), 2048);
-        assert_eq!(rt;
-            (bytes[1023], bytes[1024], bytes[1123], bytes[1124]),
-            (0, 7, 7, 0)
-        );
     }
-    Ok(())
+    true
+}
+
+fn reads_all(cache: &mut Cache<FlakyDisk>, from: usize, to: usize) -> bool {
+    for n in from..to {
+        if byte(cache, n, 0).is_none() {
+            return false;
+        }
+    }
+    true
+}
+
+fn flushes(cache: &mut Cache<FlakyDisk>, count: usize) -> bool {
+    for _ in 0..count {
+        if cache.flush().is_err() {
+            return false;
+        }
+    }
+    true
+}
+
+// Does it, and tells whether that gives what is expected.
+fn does(cache: &mut Cache<FlakyDisk>, act: Act) -> bool {
+    match act {
+        Act::Put(n, value, is_good) => put(cache, n, 0, value) == is_good,
+        Act::Fill(n, count, value) => fills(cache, n, count, value),
+        Act::Read(n, first) => byte(cache, n, 0) == first,
+        Act::ReadAll(from, to) => reads_all(cache, from, to),
+        Act::Flushes(count) => flushes(cache, count),
+        Act::Flush(is_good) => cache.flush().is_ok() == is_good,
+        Act::HasFailed(has_failed) => cache.device().has_failed() == has_failed,
+    }
+}
+
+// An empty disk of so many blocks after these acts. One access fails, after so many good ones.
+fn after(rt: &(impl Abort + AllocGlobal), blocks: usize, good: u64, acts: &[Act]) -> MemDisk {
+    let device = FlakyDisk::new(disk_of(rt, blocks), good);
+    let mut cache = Cache::new(rt.alloc(), device).expect(rt, "memory");
+    for act in acts {
+        assert!(rt; does(&mut cache, *act));
+    }
+    let disk = cache.into_device().into_disk();
+    assert!(rt; disk.bytes().len() == blocks.saturating_mul(1024));
+    disk
+}
+
+/// Whether a disk was read and written so often.
+pub fn took(disk: &MemDisk, reads: u64, writes: u64) -> bool {
+    disk.reads() == reads && disk.writes() == writes
+}
+
+// Whether a disk has these bytes at these places.
+fn has(disk: &MemDisk, rows: &[(usize, u8)]) -> bool {
+    let bytes = disk.bytes();
+    for (at, byte) in rows {
+        if bytes.get(*at) != Some(byte) {
+            return false;
+        }
+    }
+    true
 }
 
 #[test]
-fn the_block_used_longest_ago_leaves(rt: HostRuntime) -> Result<(), Fail> {
-    let mut cache = cache_of(rt.alloc(), 32)?;
-    put(&mut cache, 0, 0, 1)?;
-    put(&mut cache, 1, 0, 2)?;
-    for n in 2..30 {
-        read(&mut cache, n)?;
-    }
+fn holds_thirty_blocks(rt: HostRuntime) {
+    let held = after(&rt, 30, NEVER, &[Act::ReadAll(0, 30), Act::ReadAll(0, 30)]);
+    assert!(rt; took(&held, 30, 0));
+    let more = after(&rt, 31, NEVER, &[Act::ReadAll(0, 31), Act::ReadAll(0, 31)]);
+    assert!(rt; took(&more, 62, 0));
+}
+
+// Whether a block that is changed, and then flushed so often, was written once.
+fn is_written_once(rt: &(impl Abort + AllocGlobal), flushes: usize) -> bool {
+    let acts = [Act::Fill(1, 100, 7), Act::Flushes(flushes)];
+    let disk = after(rt, 2, NEVER, &acts);
+    took(&disk, 1, 1) && has(&disk, &[(1023, 0), (1024, 7), (1123, 7), (1124, 0)])
+}
+
+#[test]
+fn writes_a_changed_block_once(rt: HostRuntime) {
+    assert!(rt; is_written_once(&rt, 1) && is_written_once(&rt, 2) && is_written_once(&rt, 3));
+}
+
+#[test]
+fn the_block_used_longest_ago_leaves(rt: HostRuntime) {
     // Block 0 is used again, so block 1 leaves for block 30, and block 2, which is clean, for block 31.
-    read(&mut cache, 0)?;
-    read(&mut cache, 30)?;
-    read(&mut cache, 31)?;
-    assert_eq!(rt; read(&mut cache, 0)?[0], 1);
-    let disk = cache.into_device();
-    assert_eq!(rt; (disk.reads(), disk.writes()), (32, 1));
-    let bytes = disk.into_bytes();
-    assert_eq!(rt; bytes.len(), 32 * 1024);
-    assert_eq!(rt; (bytes[0], bytes[1024]), (0, 2));
-    Ok(())
-}
-
-// A cache of 31 blocks over a disk of which one access fails.
-fn flaky(alloc: Global, good: u64) -> Result<Cache<FlakyDisk>, Fail> {
-    let disk = MemDisk::new(vec![in alloc; 0; 31 * 1024]?)?;
-    Ok(Cache::new(alloc, FlakyDisk::new(disk, good))?)
-}
-
-#[test]
-fn tells_each_failure(rt: HostRuntime) -> Result<(), Fail> {
-    for good in 0..3 {
-        let mut cache = flaky(rt.alloc(), good)?;
-        let write = put(&mut cache, 0, 0, b'x').is_ok();
-        let read = read(&mut cache, 0).is_ok();
-        let flush = cache.flush().is_ok();
-        assert_eq!(rt;
-            (write, read, flush),
-            (good > 0, true, good != 1),
-            "after {good}"
-        );
-    }
-    Ok(())
+    let disk = after(
+        &rt,
+        32,
+        NEVER,
+        &[
+            Act::Put(0, 1, true),
+            Act::Put(1, 2, true),
+            Act::ReadAll(2, 30),
+            Act::Read(0, Some(1)),
+            Act::Read(30, Some(0)),
+            Act::Read(31, Some(0)),
+            Act::Read(0, Some(1)),
+        ],
+    );
+    assert!(rt; took(&disk, 32, 1) && has(&disk, &[(0, 0), (1024, 2)]));
 }
 
 #[test]
-fn a_failed_flush_can_be_tried_again(rt: HostRuntime) -> Result<(), Fail> {
-    let mut cache = flaky(rt.alloc(), 2)?;
-    put(&mut cache, 0, 0, b'x')?;
-    put(&mut cache, 1, 0, b'y')?;
-    assert!(rt; cache.flush().is_err());
-    cache.flush()?;
-    let bytes = cache.into_device().into_disk().into_bytes();
-    assert_eq!(rt; bytes.len(), 31 * 1024);
-    assert_eq!(rt; (bytes[0], bytes[1024]), (b'x', b'y'));
-    Ok(())
+fn tells_a_failed_write(rt: HostRuntime) {
+    let acts = [
+        Act::Put(0, b'x', false),
+        Act::HasFailed(true),
+        Act::Read(0, Some(0)),
+        Act::Flush(true),
+    ];
+    let disk = after(&rt, 31, 0, &acts);
+    assert!(rt; took(&disk, 1, 0) && has(&disk, &[(0, 0)]));
 }
 
 #[test]
-fn a_read_fails_where_no_block_can_leave(rt: HostRuntime) -> Result<(), Fail> {
+fn tells_a_failed_flush(rt: HostRuntime) {
+    let acts = [
+        Act::Put(0, b'x', true),
+        Act::Read(0, Some(b'x')),
+        Act::Flush(false),
+        Act::HasFailed(true),
+    ];
+    assert!(rt; took(&after(&rt, 31, 1, &acts), 1, 0));
+}
+
+#[test]
+fn tells_no_failure_where_there_is_none(rt: HostRuntime) {
+    let acts = [
+        Act::Put(0, b'x', true),
+        Act::Read(0, Some(b'x')),
+        Act::Flush(true),
+        Act::HasFailed(false),
+    ];
+    let disk = after(&rt, 31, 2, &acts);
+    assert!(rt; took(&disk, 1, 1) && has(&disk, &[(0, b'x')]));
+}
+
+#[test]
+fn a_failed_flush_can_be_tried_again(rt: HostRuntime) {
+    let acts = [
+        Act::Put(0, b'x', true),
+        Act::Put(1, b'y', true),
+        Act::Flush(false),
+        Act::Flush(true),
+    ];
+    let disk = after(&rt, 31, 2, &acts);
+    assert!(rt; took(&disk, 2, 2) && has(&disk, &[(0, b'x'), (1024, b'y')]));
+}
+
+#[test]
+fn a_read_fails_where_no_block_can_leave(rt: HostRuntime) {
     // 31 reads are good, and the write of the block that must leave is the access that fails.
-    let mut cache = flaky(rt.alloc(), 31)?;
-    put(&mut cache, 0, 0, b'x')?;
-    for n in 1..30 {
-        read(&mut cache, n)?;
-    }
-    assert!(rt; read(&mut cache, 30).is_err());
-    read(&mut cache, 30)?;
-    let device = cache.into_device();
-    assert!(rt; device.has_failed());
-    let bytes = device.into_disk().into_bytes();
-    assert_eq!(rt; bytes.len(), 31 * 1024);
-    assert_eq!(rt; bytes[0], b'x');
-    Ok(())
+    let acts = [
+        Act::Put(0, b'x', true),
+        Act::ReadAll(1, 30),
+        Act::HasFailed(false),
+        Act::Read(30, None),
+        Act::HasFailed(true),
+        Act::Read(30, Some(0)),
+    ];
+    let disk = after(&rt, 31, 31, &acts);
+    assert!(rt; took(&disk, 32, 1) && has(&disk, &[(0, b'x')]));
 }

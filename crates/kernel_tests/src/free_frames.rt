@@ -26,6 +26,23 @@ impl Model for Counted {
     ghost invariant = { λ c. IsFreeList c.ram c.frames };
 }
 
+// What is done, where the first frame is the one that is shared, split and given.
+#[derive(Clone, Copy)]
+enum Act {
+    /// Takes a frame.
+    Take(Option<FrameNo>),
+    /// Adds a holder, where a frame is free for it.
+    Share(bool),
+    /// A holder gets a frame of its own.
+    Split(FrameNo),
+    /// Takes a holder away.
+    Give,
+}
+
+const FIRST: FrameNo = FrameNo(0);
+
+const SECOND: FrameNo = FrameNo(1);
+
 impl Counted {
     fn new(rt: &(impl Abort + AllocGlobal), count: u32) -> Counted
         requires { count ≤ 32768 }
@@ -35,109 +52,129 @@ impl Counted {
         Counted { ram, frames }
     }
 
-    fn take(&mut self) -> Option<FrameNo> {
-        self.frames.take(&self.ram)
+    // Whether so many hold the first two frames, and so many frames could be taken still.
+    fn counts(&self, rt: &impl Abort, first: u32, second: u32, free: u32) -> bool {
+        let count = self.ram.frame_count();
+        assert!(rt; 1 < count);
+        self.frames.holders(&self.ram, FIRST) == first
+            && self.frames.holders(&self.ram, SECOND) == second
+            && self.frames.free() == free
     }
 
-    // How many hold a frame, and how many frames could be taken still.
-    fn counts(&self, rt: &impl Abort, frame: FrameNo) -> (u32, u32) {
+    fn share(&mut self, rt: &impl Abort) -> bool {
         let count = self.ram.frame_count();
-        assert!(rt; frame.0 < count);
-        (self.frames.holders(&self.ram, frame), self.frames.free())
-    }
-
-    fn share(&mut self, rt: &impl Abort, frame: FrameNo) -> bool {
-        let count = self.ram.frame_count();
-        assert!(rt; frame.0 < count);
-        let held = self.frames.holders(&self.ram, frame);
+        assert!(rt; 0 < count);
+        let held = self.frames.holders(&self.ram, FIRST);
         assert!(rt; held > 0);
-        self.frames.share(&self.ram, frame)
+        self.frames.share(&self.ram, FIRST)
     }
 
-    fn split(&mut self, rt: &impl Abort, frame: FrameNo) -> FrameNo {
+    fn split(&mut self, rt: &impl Abort) -> FrameNo {
         let count = self.ram.frame_count();
-        assert!(rt; frame.0 < count);
-        let held = self.frames.holders(&self.ram, frame);
+        assert!(rt; 0 < count);
+        let held = self.frames.holders(&self.ram, FIRST);
         assert!(rt; held > 1);
-        self.frames.split(&self.ram, frame)
+        self.frames.split(&self.ram, FIRST)
     }
 
-    fn give(&mut self, rt: &impl Abort, frame: FrameNo) {
+    fn give(&mut self, rt: &impl Abort) {
         let count = self.ram.frame_count();
-        assert!(rt; frame.0 < count);
-        let held = self.frames.holders(&self.ram, frame);
+        assert!(rt; 0 < count);
+        let held = self.frames.holders(&self.ram, FIRST);
         assert!(rt; held > 0);
-        self.frames.give(&mut self.ram, frame);
+        self.frames.give(&mut self.ram, FIRST);
+    }
+
+    // Does it, and tells whether that gives what is expected.
+    fn does(&mut self, rt: &impl Abort, act: Act) -> bool {
+        match act {
+            Act::Take(frame) => self.frames.take(&self.ram) == frame,
+            Act::Share(is_shared) => self.share(rt) == is_shared,
+            Act::Split(own) => self.split(rt) == own,
+            Act::Give => {
+                self.give(rt);
+                true
+            }
+        }
+    }
+}
+
+// Acts in a memory of so many frames; beside each: how many hold the first two frames, and how many are free then.
+fn expect(rt: &(impl Abort + AllocGlobal), count: u32, rows: &[(Act, u32, u32, u32)]) {
+    assert!(rt; count <= 32768);
+    let mut counted = Counted::new(rt, count);
+    assert!(rt; counted.counts(rt, 0, 0, count));
+    for (act, first, second, free) in rows {
+        assert!(rt; counted.does(rt, *act) && counted.counts(rt, *first, *second, *free));
     }
 }
 
 #[test]
 fn takes_each_frame_once(rt: HostRuntime) {
-    let mut ram = memory(&rt, 3);
-    let mut frames = all_free(&rt, &mut ram);
-    assert!(rt; frames.free() == 3);
-    let taken = [
-        frames.take(&ram),
-        frames.take(&ram),
-        frames.take(&ram),
-        frames.take(&ram),
-    ];
-    assert_eq!(rt;
-        taken,
-        [Some(FrameNo(0)), Some(FrameNo(1)), Some(FrameNo(2)), None]
+    expect(
+        &rt,
+        3,
+        &[
+            (Act::Take(Some(FIRST)), 1, 0, 2),
+            (Act::Take(Some(SECOND)), 1, 1, 1),
+            (Act::Take(Some(FrameNo(2))), 1, 1, 0),
+            (Act::Take(None), 1, 1, 0),
+        ],
     );
 }
 
 #[test]
 fn takes_what_was_given_last(rt: HostRuntime) {
-    let mut ram = memory(&rt, 3);
-    let mut frames = all_free(&rt, &mut ram);
-    let Some(taken) = frames.take(&ram) else {
-        panic!(rt; "no frame is free")
-    };
-    let before = frames.free();
-    frames.give(&mut ram, taken);
-    let after = frames.free();
-    assert_eq!(rt; (before, after, frames.take(&ram)), (2, 3, Some(taken)));
+    expect(
+        &rt,
+        3,
+        &[
+            (Act::Take(Some(FIRST)), 1, 0, 2),
+            (Act::Give, 0, 0, 3),
+            (Act::Take(Some(FIRST)), 1, 0, 2),
+        ],
+    );
 }
 
 #[test]
 fn counts_each_holder(rt: HostRuntime) {
-    let mut counted = Counted::new(&rt, 4);
-    let frame = counted.take().expect(&rt, "a frame");
-    let alone = counted.counts(&rt, frame);
-    let shared = [counted.share(&rt, frame), counted.share(&rt, frame)];
-    let three = counted.counts(&rt, frame);
-    counted.give(&rt, frame);
-    let two = counted.counts(&rt, frame);
-    assert_eq!(rt; shared, [true, true]);
-    assert_eq!(rt; [alone, three, two], [(1, 3), (3, 1), (2, 2)]);
+    expect(
+        &rt,
+        4,
+        &[
+            (Act::Take(Some(FIRST)), 1, 0, 3),
+            (Act::Share(true), 2, 0, 2),
+            (Act::Share(true), 3, 0, 1),
+            (Act::Give, 2, 0, 2),
+        ],
+    );
 }
 
 #[test]
 fn shares_no_more_than_the_frames_there_are(rt: HostRuntime) {
-    let mut counted = Counted::new(&rt, 2);
-    let frame = counted.take().expect(&rt, "a frame");
-    let shared = [counted.share(&rt, frame), counted.share(&rt, frame)];
-    let taken = counted.take();
-    assert_eq!(rt; (shared, taken), ([true, false], None));
-    assert_eq!(rt; counted.counts(&rt, frame), (2, 0));
+    expect(
+        &rt,
+        2,
+        &[
+            (Act::Take(Some(FIRST)), 1, 0, 1),
+            (Act::Share(true), 2, 0, 0),
+            (Act::Share(false), 2, 0, 0),
+            (Act::Take(None), 2, 0, 0),
+        ],
+    );
 }
 
 #[test]
 fn splits_where_no_frame_could_be_taken(rt: HostRuntime) {
-    let mut counted = Counted::new(&rt, 2);
-    let frame = counted.take().expect(&rt, "a frame");
-    let shared = counted.share(&rt, frame);
-    let own = counted.split(&rt, frame);
-    assert_eq!(rt; (shared, own), (true, FrameNo(1)));
-    assert_eq!(rt;
-        [counted.counts(&rt, frame), counted.counts(&rt, own)],
-        [(1, 0), (1, 0)]
-    );
-    counted.give(&rt, frame);
-    assert_eq!(rt;
-        (counted.counts(&rt, frame), counted.take()),
-        ((0, 1), Some(frame))
+    expect(
+        &rt,
+        2,
+        &[
+            (Act::Take(Some(FIRST)), 1, 0, 1),
+            (Act::Share(true), 2, 0, 0),
+            (Act::Split(SECOND), 1, 1, 0),
+            (Act::Give, 0, 1, 1),
+            (Act::Take(Some(FIRST)), 1, 1, 0),
+        ],
     );
 }

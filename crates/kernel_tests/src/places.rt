@@ -113,6 +113,11 @@ fn byte(rt: &impl Abort, spaces: &Flat, at: usize, address: u64) -> Option<u8> {
     spaces.readable(at, address).first().copied()
 }
 
+// Whether a program may read this byte there.
+fn is_byte(rt: &impl Abort, spaces: &Flat, at: usize, address: u64, value: u8) -> bool {
+    byte(rt, spaces, at, address) == Some(value)
+}
+
 // How long the path at an address is.
 fn path(
     rt: &impl Abort,
@@ -212,10 +217,8 @@ fn refuses_what_does_not_fit(rt: HostRuntime) {
             (Act::Write(7, 4095, [1, 2]), false, 0),
         ],
     );
-    assert!(rt; size(&rt, &spaces, 7) == 4096);
-    for (address, value) in [(4095, Some(0)), (4096, None)] {
-        assert!(rt; byte(&rt, &spaces, 7, address) == value);
-    }
+    assert!(rt; size(&rt, &spaces, 7) == 4096 && is_byte(&rt, &spaces, 7, 4095, 0));
+    assert!(rt; byte(&rt, &spaces, 7, 4096).is_none());
     assert!(rt; !spaces.has_space(9) && !spaces.has_space(64));
 }
 
@@ -233,17 +236,22 @@ fn places_have_pages_of_their_own(rt: HostRuntime) {
         ],
     );
     for (at, address, value) in [(0, 4095, 1), (0, 4096, 3), (63, 4095, 1), (63, 4096, 2)] {
-        assert!(rt; byte(&rt, &spaces, at, address) == Some(value));
+        assert!(rt; is_byte(&rt, &spaces, at, address, value));
     }
 }
 
-#[test]
-fn copies_strings(rt: HostRuntime) {
+// 127 slashes that lie in the two pages of place 0.
+fn with_slashes(rt: &(impl Abort + AllocGlobal)) -> Flat {
     let acts = [(Act::Create(0), true, 60), (Act::Grow(0, 8192), true, 56)];
-    let mut spaces = after(&rt, 64, &acts);
-    let (mut buffer, mut short) = ([0; 127], [0; 126]);
-    // 127 slashes that lie in two pages, and then one more
-    assert!(rt; write(&rt, &mut spaces, 0, 4000, &[b'/'; 127]));
+    let mut spaces = after(rt, 64, &acts);
+    assert!(rt; write(rt, &mut spaces, 0, 4000, &[b'/'; 127]));
+    spaces
+}
+
+#[test]
+fn copies_paths(rt: HostRuntime) {
+    let spaces = with_slashes(&rt);
+    let mut buffer = [0; 127];
     for (address, count) in [
         (4001, Some(126)),
         (4127, Some(0)),
@@ -253,10 +261,21 @@ fn copies_strings(rt: HostRuntime) {
         assert!(rt; path(&rt, &spaces, 0, address, &mut buffer) == count);
     }
     assert!(rt; buffer == [b'/'; 127]);
+}
+
+#[test]
+fn refuses_a_path_of_128_bytes(rt: HostRuntime) {
+    let mut spaces = with_slashes(&rt);
+    assert!(rt; write(&rt, &mut spaces, 0, 3999, b"/"));
+    assert!(rt; path(&rt, &spaces, 0, 3999, &mut [0; 127]).is_none());
+}
+
+#[test]
+fn copies_strings(rt: HostRuntime) {
+    let spaces = with_slashes(&rt);
+    let mut short = [0; 126];
     assert!(rt; string(&rt, &spaces, 0, 4000, &mut short).is_none());
     assert!(rt; string(&rt, &spaces, 0, 4001, &mut short) == Some(126));
-    assert!(rt; write(&rt, &mut spaces, 0, 3999, b"/"));
-    assert!(rt; path(&rt, &spaces, 0, 3999, &mut buffer).is_none());
 }
 
 // A page with the program in this place.
@@ -287,33 +306,39 @@ fn expect_traps(rt: &impl Abort, spaces: &mut Flat, traps: &[Option<Trap>]) {
     }
 }
 
+const CALL: Trap = Trap {
+    cause: Cause::EnvironmentCall,
+    address: 8,
+};
+
+const FAULT: Trap = Trap {
+    cause: Cause::InstructionPageFault,
+    address: 8,
+};
+
 #[test]
 fn runs_the_active_place(rt: HostRuntime) {
     let mut spaces = loaded(&rt);
-    let call = Trap {
-        cause: Cause::EnvironmentCall,
-        address: 8,
-    };
-    expect_traps(&rt, &mut spaces, &[None, None, Some(call), Some(call)]);
+    expect_traps(&rt, &mut spaces, &[None, None, Some(CALL), Some(CALL)]);
     assert!(rt; spaces.registers()[10] == 5 && spaces.pc() == 8);
-    for (at, value) in [(4, 5), (3, 0)] {
-        assert!(rt; byte(&rt, &spaces, at, 32) == Some(value));
-    }
+    assert!(rt; is_byte(&rt, &spaces, 4, 32, 5) && is_byte(&rt, &spaces, 3, 32, 0));
 }
 
 #[test]
-fn takes_registers_and_loses_pages(rt: HostRuntime) {
+fn takes_registers(rt: HostRuntime) {
     let mut spaces = loaded(&rt);
     spaces.set_register(10, 7);
     spaces.set_pc(4);
     expect_traps(&rt, &mut spaces, &[None]);
-    assert!(rt; byte(&rt, &spaces, 4, 32) == Some(7));
+    assert!(rt; is_byte(&rt, &spaces, 4, 32, 7));
+}
+
+#[test]
+fn loses_pages(rt: HostRuntime) {
+    let mut spaces = loaded(&rt);
+    expect_traps(&rt, &mut spaces, &[None, None]);
     shrink(&rt, &mut spaces, 4, 4096);
-    let fault = Trap {
-        cause: Cause::InstructionPageFault,
-        address: 8,
-    };
-    expect_traps(&rt, &mut spaces, &[Some(fault)]);
+    expect_traps(&rt, &mut spaces, &[Some(FAULT)]);
     spaces.deactivate();
     destroy(&rt, &mut spaces, 4);
     assert!(rt; spaces.active().is_none() && spaces.free() == 57);

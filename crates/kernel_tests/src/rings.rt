@@ -4,84 +4,146 @@ use pipe::{End, Pipe};
 use ram::{FrameNo, Ram};
 use std::process::Abort;
 
-// Writes bytes into a pipe, and adds those that fit to a list.
-fn write(
-    rt: &impl Abort,
-    pipe: &mut Pipe,
-    ram: &mut Ram,
-    bytes: &[u8],
-    sent: &mut Vec<u8>,
-) -> Option<usize> {
-    let frames = ram.frame_count();
-    assert!(rt; pipe.frame().0 < frames);
-    let count = pipe.write_some(ram, bytes)?;
-    sent.extend_from_slice(&bytes[..count]).expect(rt, "memory");
-    Some(count)
+// A pipe in a memory, what went into it, and what came out.
+#[derive(Drop)]
+struct Watched {
+    ram: Ram,
+    pipe: Pipe,
+    sent: Vec<u8>,
+    received: Vec<u8>,
 }
 
-// Reads so many bytes, and adds those that there are to a list.
-fn read(
-    rt: &impl Abort,
-    pipe: &mut Pipe,
-    ram: &Ram,
-    len: usize,
-    received: &mut Vec<u8>,
-) -> Option<usize> {
-    let mut buffer = [0; 600];
-    let frames = ram.frame_count();
-    assert!(rt; len <= 600 && pipe.frame().0 < frames);
-    let count = pipe.read_some(ram, &mut buffer[..len])?;
-    received
-        .extend_from_slice(&buffer[..count])
-        .expect(rt, "memory");
-    Some(count)
+// What is done with a pipe, or asked, and the answer.
+#[derive(Clone, Copy)]
+enum Act {
+    /// Writes so many bytes.
+    Write(usize, Option<usize>),
+    /// Reads so many bytes.
+    Read(usize, Option<usize>),
+    Close(End, bool),
+    IsOpen(End, bool),
+    CanRead(bool),
+    CanWrite(bool),
 }
 
-#[test]
-fn what_fits_is_written_and_read_in_order(rt: HostRuntime) {
+// 513 bytes that differ from their neighbours.
+fn bytes() -> [u8; 513] {
     let mut bytes = [0; 513];
     for (i, byte) in bytes.iter_mut().enumerate() {
         *byte = (i % 251) as u8;
     }
-    let mut ram = memory(&rt, 3);
-    let mut pipe = Pipe::new(FrameNo(1));
-    let mut sent = Vec::new(rt.alloc());
-    let mut received = Vec::new(rt.alloc());
-    for (offered, fitting, asked, given) in [
-        (513, 512, 0, 0),
-        (1, 0, 10, 10),
-        (513, 10, 600, 512),
-        (500, 500, 600, 500),
-    ] {
-        let bytes = bytes.get(..offered).unwrap_or(&[]);
-        let written = write(&rt, &mut pipe, &mut ram, bytes, &mut sent);
-        let taken = read(&rt, &mut pipe, &ram, asked, &mut received);
-        assert!(rt; written == Some(fitting) && taken == Some(given));
+    bytes
+}
+
+impl Watched {
+    fn new(rt: &(impl Abort + AllocGlobal)) -> Watched {
+        Watched {
+            ram: memory(rt, 3),
+            pipe: Pipe::new(FrameNo(1)),
+            sent: Vec::new(rt.alloc()),
+            received: Vec::new(rt.alloc()),
+        }
     }
-    assert!(rt; received.as_slice() == sent.as_slice());
+
+    // Writes bytes, and notes those that fit.
+    fn write(&mut self, rt: &impl Abort, bytes: &[u8]) -> Option<usize> {
+        let frames = self.ram.frame_count();
+        assert!(rt; self.pipe.frame().0 < frames);
+        let Some(count) = self.pipe.write_some(&mut self.ram, bytes) else {
+            return None;
+        };
+        self.sent
+            .extend_from_slice(&bytes[..count])
+            .expect(rt, "memory");
+        Some(count)
+    }
+
+    // Reads so many bytes, and notes those that there are.
+    fn read(&mut self, rt: &impl Abort, len: usize) -> Option<usize> {
+        let mut buffer = [0; 600];
+        let frames = self.ram.frame_count();
+        assert!(rt; len <= 600 && self.pipe.frame().0 < frames);
+        let Some(count) = self.pipe.read_some(&self.ram, &mut buffer[..len]) else {
+            return None;
+        };
+        self.received
+            .extend_from_slice(&buffer[..count])
+            .expect(rt, "memory");
+        Some(count)
+    }
+
+    // Does it, and tells whether that gives what is expected.
+    fn does(&mut self, rt: &impl Abort, act: Act) -> bool {
+        match act {
+            Act::Write(offered, count) => {
+                self.write(rt, bytes().get(..offered).unwrap_or(&[])) == count
+            }
+            Act::Read(asked, count) => self.read(rt, asked) == count,
+            Act::Close(end, was_last) => self.pipe.close_end(end) == was_last,
+            Act::IsOpen(end, is_open) => self.pipe.is_open(end) == is_open,
+            Act::CanRead(can) => self.pipe.can_read() == can,
+            Act::CanWrite(can) => self.pipe.can_write() == can,
+        }
+    }
+}
+
+// Does these acts with a new pipe, from which all that was sent is read at the end.
+fn expect(rt: &(impl Abort + AllocGlobal), acts: &[Act]) {
+    let mut watched = Watched::new(rt);
+    for act in acts {
+        assert!(rt; watched.does(rt, *act));
+    }
+    assert!(rt; watched.received.as_slice() == watched.sent.as_slice());
 }
 
 #[test]
-fn an_end_that_is_closed_ends_the_other(rt: HostRuntime) {
-    let mut ram = memory(&rt, 1);
-    let mut list = Vec::new(rt.alloc());
-    for (end, before, written, after, last) in [
-        (End::Write, None, Some(2), Some(2), Some(0)),
-        (End::Read, None, None, None, None),
-    ] {
-        let mut pipe = Pipe::new(FrameNo(0));
-        let first = read(&rt, &mut pipe, &ram, 10, &mut list);
-        // the write end is closed behind the write, and the read end before it
-        let early = end == End::Read && pipe.close_end(end);
-        let put = write(&rt, &mut pipe, &mut ram, b"ab", &mut list);
-        let late = end == End::Write && pipe.close_end(end);
-        let second = read(&rt, &mut pipe, &ram, 10, &mut list);
-        let third = read(&rt, &mut pipe, &ram, 10, &mut list);
-        assert!(rt; !early && !late);
-        assert!(rt; [first, put, second, third] == [before, written, after, last]);
-        assert!(rt; pipe.can_read() == (end == End::Write) && pipe.can_write());
-    }
-    let mut pipe = Pipe::new(FrameNo(0));
-    assert!(rt; !pipe.can_read() && pipe.is_open(End::Read));
-    assert!(rt; !pipe.close_end(End::Write) && pipe.close_end(End::Read));
+fn what_fits_is_written_and_read_in_order(rt: HostRuntime) {
+    expect(
+        &rt,
+        &[
+            Act::Write(513, Some(512)),
+            Act::Read(0, Some(0)),
+            Act::Write(1, Some(0)),
+            Act::Read(10, Some(10)),
+            Act::Write(513, Some(10)),
+            Act::Read(600, Some(512)),
+            Act::Write(500, Some(500)),
+            Act::Read(600, Some(500)),
+        ],
+    );
+}
+
+#[test]
+fn a_write_end_that_is_closed_ends_the_reads(rt: HostRuntime) {
+    expect(
+        &rt,
+        &[
+            Act::CanRead(false),
+            Act::Read(10, None),
+            Act::Write(2, Some(2)),
+            Act::Close(End::Write, false),
+            Act::Read(10, Some(2)),
+            Act::Read(10, Some(0)),
+            Act::CanRead(true),
+            Act::CanWrite(true),
+            Act::IsOpen(End::Read, true),
+            Act::Close(End::Read, true),
+        ],
+    );
+}
+
+#[test]
+fn a_read_end_that_is_closed_ends_the_writes(rt: HostRuntime) {
+    expect(
+        &rt,
+        &[
+            Act::Read(10, None),
+            Act::Close(End::Read, false),
+            Act::Write(2, None),
+            Act::Read(10, None),
+            Act::Read(10, None),
+            Act::CanRead(false),
+            Act::CanWrite(true),
+        ],
+    );
 }

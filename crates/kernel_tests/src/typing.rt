@@ -105,18 +105,32 @@ fn a_full_ring_is_committed_again_and_again(rt: HostRuntime) {
     }
 }
 
+// These keys are answered so, over a writer that takes three bytes.
+fn type_over_narrow(
+    rt: &(impl Abort + AllocGlobal),
+    console: &mut Console,
+    rows: &[(u8, Result<(), OutFault>)],
+) -> Writer<Narrow> {
+    let mut out = over_narrow(rt, 3);
+    for (key, result) in rows {
+        assert!(rt; console.key(*key, &mut out) == *result);
+    }
+    out
+}
+
 #[test]
 fn a_key_is_lost_where_the_writer_fails(rt: HostRuntime) {
     let mut console = Console::new();
-    let mut out = over_narrow(&rt, 3);
-    for (key, result) in [
-        (b'a', Ok(())),
-        (b'b', Ok(())),
-        (0x15, Err(OutFault::Writer)),
-        (b'\n', Err(OutFault::Writer)),
-    ] {
-        assert!(rt; console.key(key, &mut out) == result);
-    }
+    let out = type_over_narrow(
+        &rt,
+        &mut console,
+        &[
+            (b'a', Ok(())),
+            (b'b', Ok(())),
+            (0x15, Err(OutFault::Writer)),
+            (b'\n', Err(OutFault::Writer)),
+        ],
+    );
     assert!(rt; out.failures() == 2);
     assert!(rt; out.into_inner().taken.as_slice() == b"ab\x08".as_slice());
     expect_echo(&rt, &mut console, b"\n", b"\n");

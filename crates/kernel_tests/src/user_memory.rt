@@ -97,25 +97,37 @@ impl Alone {
             .fill(&mut self.ram, &mut self.frames, address, bytes);
     }
 
-    // Saves registers, and gives some of the numbers that the trap frame has then.
-    fn saved(&mut self, rt: &impl Abort, registers: &[u64; 32], pc: u64) -> [u64; 4]
+    fn save(&mut self, registers: &[u64; 32], pc: u64)
         requires { slice_index registers.now 0 ≡ 0 }
     {
         self.space.save_regs(&mut self.ram, registers, pc);
+    }
+
+    // A number of the trap frame, which is the second frame that a space takes.
+    fn saved(&self, rt: &impl Abort, at: usize) -> u64 {
         let count = self.ram.frame_count();
-        assert!(rt; 1 < count);
-        // the trap frame is the second frame that a space takes
-        let trap = FrameNo(1);
-        [
-            self.ram.load_u64(trap, 24),
-            self.ram.load_u64(trap, 40),
-            self.ram.load_u64(trap, 176),
-            self.ram.load_u64(trap, 280),
-        ]
+        assert!(rt; 1 < count && at <= 4088);
+        self.ram.load_u64(FrameNo(1), at)
     }
 
     fn load(&self, registers: &mut [u64; 32]) -> u64 {
         self.space.load_regs(&self.ram, registers)
+    }
+
+    // The copy in the place of the space, which keeps its frames.
+    fn copied(self, rt: &impl Abort) -> Alone {
+        let Alone {
+            mut ram,
+            mut frames,
+            space,
+        } = self;
+        let space = space.copy(&mut ram, &mut frames).expect(rt, "frames");
+        Alone { ram, frames, space }
+    }
+
+    // Why there can't be a copy.
+    fn copy_fault(&mut self) -> Option<VmFault> {
+        self.space.copy(&mut self.ram, &mut self.frames).err()
     }
 
     // Gives back all frames of the space, and tells how many are free then.
@@ -181,22 +193,9 @@ fn gives_back_each_frame(rt: HostRuntime) {
 fn copies_count_in_full(rt: HostRuntime) {
     let mut alone = Alone::grown(&rt, 16, 4096, DATA);
     alone.fill(&rt, 0, b"old!");
-    let Alone {
-        mut ram,
-        mut frames,
-        space,
-    } = alone;
-    let Ok(child) = space.copy(&mut ram, &mut frames) else {
-        panic!(rt; "too few frames")
-    };
-    let free = frames.free();
-    let mut back = [0; 4];
-    let read = child.copy_in(&ram, 0, &mut back);
-    let again = child.copy(&mut ram, &mut frames).err();
-    assert!(rt; read == Ok(()) && again == Some(VmFault::Frames));
-    child.destroy(&mut ram, &mut frames);
-    assert!(rt; back == *b"old!");
-    assert_eq!(rt; [free, frames.free()], [2, 9]);
+    let mut child = alone.copied(&rt);
+    assert!(rt; child.free() == 2 && child.read(0) == Ok(*b"old!"));
+    assert!(rt; child.copy_fault() == Some(VmFault::Frames) && child.end() == 9);
 }
 
 // Whether a page has the same frame in both spaces, and that has two holders.
@@ -238,23 +237,32 @@ fn refuses_what_does_not_fit(rt: HostRuntime) {
     }
 }
 
+// One of two pages with a string that lies in both.
+fn with_string(rt: &(impl Abort + AllocGlobal)) -> Alone {
+    let mut alone = Alone::grown(rt, 32, 8192, DATA);
+    assert!(rt; alone.write(4094, b"read\0").is_ok());
+    alone
+}
+
 #[test]
 fn carries_bytes_over_pages(rt: HostRuntime) {
-    let mut alone = Alone::grown(&rt, 32, 8192, DATA);
-    for (address, bytes, written) in [
-        (4094, "read\0", Ok(())),
-        (8191, "ab", Err(VmFault::BadAddress)),
-    ] {
-        assert!(rt; alone.write(address, bytes.as_bytes()) == written);
-    }
+    let mut alone = with_string(&rt);
+    assert!(rt; alone.write(8191, b"ab") == Err(VmFault::BadAddress));
     assert!(rt; alone.read(4094) == Ok(*b"read"));
     assert!(rt; alone.read(8191) == Err(VmFault::BadAddress));
+}
+
+#[test]
+fn finds_a_string_over_pages(rt: HostRuntime) {
+    let alone = with_string(&rt);
     assert!(rt; alone.string(4094, 4) == Some(4) && alone.string(4094, 3).is_none());
-    assert!(rt; alone.readable(4094) == b"re".as_slice());
-    for (count, can) in [(4098, true), (4099, false)] {
-        assert!(rt; alone.can_read(4094, count) == can);
-    }
-    assert!(rt; !alone.can_write(u64::MAX, 2));
+}
+
+#[test]
+fn tells_what_may_be_read_and_written(rt: HostRuntime) {
+    let alone = with_string(&rt);
+    assert!(rt; alone.readable(4094) == b"re".as_slice() && !alone.can_write(u64::MAX, 2));
+    assert!(rt; alone.can_read(4094, 4098) && !alone.can_read(4094, 4099));
 }
 
 #[test]
@@ -265,15 +273,31 @@ fn keeps_text_from_being_written(rt: HostRuntime) {
     assert!(rt; alone.perm(0) == Some(TEXT) && alone.perm(1).is_none());
 }
 
-#[test]
-fn saves_registers_where_xv6_does(rt: HostRuntime) {
-    let mut alone = Alone::new(&rt, 8);
+// ra, s2 and t6 are set.
+fn registers() -> [u64; 32]
+    ensures { slice_index result 0 ≡ 0 }
+{
     let mut registers = [0; 32];
     registers[1] = 11;
     registers[18] = 12;
     registers[31] = u64::MAX;
+    registers
+}
+
+#[test]
+fn saves_registers_where_xv6_does(rt: HostRuntime) {
+    let mut alone = Alone::new(&rt, 8);
+    alone.save(&registers(), 4096);
     // epc, ra, s2 and t6
-    assert!(rt; alone.saved(&rt, &registers, 4096) == [4096, 11, 12, u64::MAX]);
+    for (at, number) in [(24, 4096), (40, 11), (176, 12), (280, u64::MAX)] {
+        assert!(rt; alone.saved(&rt, at) == number);
+    }
+}
+
+#[test]
+fn loads_what_was_saved(rt: HostRuntime) {
+    let mut alone = Alone::new(&rt, 8);
+    alone.save(&registers(), 4096);
     let mut back = [7; 32];
-    assert!(rt; alone.load(&mut back) == 4096 && back == registers);
+    assert!(rt; alone.load(&mut back) == 4096 && back == registers());
 }

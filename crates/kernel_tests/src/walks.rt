@@ -1,15 +1,29 @@
 //! Walks of page tables that are written by hand.
 use crate::expected::{memory, store_all};
 use bitflags::Flags;
-use ram::FrameNo;
+use ram::{FrameNo, Ram};
+use std::process::Abort;
 use sv39::{Access, BASE, Marks, Plain, Pte, Tlb, Translate, Turn, walk, walk_counted, walk_page};
 
-#[test]
-fn addresses_are_translated(rt: HostRuntime) {
-    let mut ram = memory(&rt, 4);
-    // tables in frames 0, 1 and 2: page 3 is a leaf that is read, and pages 512 to 1023 are one leaf
+// Addresses, accesses, and the places that these have in memory.
+const ADDRESSES: [(u64, Access, Option<u64>); 10] = [
+    (0x3abc, Access::Load, Some(0x8000_3abc)),
+    (0x3abc, Access::Store, None),
+    (0x3abc, Access::Fetch, None),
+    (0x4000, Access::Load, None),
+    (0x20_2005, Access::Store, Some(0x8000_2005)),
+    (0x20_3ffc, Access::Fetch, Some(0x8000_3ffc)),
+    (0x20_4000, Access::Load, None),
+    (0x40_0000_0000, Access::Load, None),
+    (0x40_0000_3abc, Access::Load, None),
+    (0xffff_ffff_ffff_f000, Access::Load, None),
+];
+
+// Tables in frames 0, 1 and 2: page 3 is a leaf that is read, and pages 512 to 1023 are one leaf.
+fn by_hand(rt: &(impl Abort + AllocGlobal)) -> Ram {
+    let mut ram = memory(rt, 4);
     store_all(
-        &rt,
+        rt,
         &mut ram,
         &[
             (0, 0, 0x2000_0401),
@@ -18,33 +32,32 @@ fn addresses_are_translated(rt: HostRuntime) {
             (2, 24, 0x2000_0c53),
         ],
     );
+    ram
+}
+
+// Whether a walk and both translators answer so.
+fn is_answer(ram: &Ram, plain: &mut Plain, va: u64, access: Access, want: Option<u64>) -> bool {
+    plain.fence();
+    let walked = walk(ram, FrameNo(0), va, access).ok();
+    let translated = plain.translate(ram, FrameNo(0), va, access).ok();
+    let looked_up = Tlb::<64>::new().translate(ram, FrameNo(0), va, access).ok();
+    walked == want && translated == want && looked_up == want
+}
+
+#[test]
+fn addresses_are_translated(rt: HostRuntime) {
+    let ram = by_hand(&rt);
     let mut plain = Plain::new();
-    for (va, access, want) in [
-        (0x3abc, Access::Load, Some(0x8000_3abc)),
-        (0x3abc, Access::Store, None),
-        (0x3abc, Access::Fetch, None),
-        (0x4000, Access::Load, None),
-        (0x20_2005, Access::Store, Some(0x8000_2005)),
-        (0x20_3ffc, Access::Fetch, Some(0x8000_3ffc)),
-        (0x20_4000, Access::Load, None),
-        (0x40_0000_0000, Access::Load, None),
-        (0x40_0000_3abc, Access::Load, None),
-        (0xffff_ffff_ffff_f000, Access::Load, None),
-    ] {
-        let walked = walk(&ram, FrameNo(0), va, access).ok();
-        let translated = plain.translate(&ram, FrameNo(0), va, access).ok();
-        plain.fence();
-        let looked_up = Tlb::<64>::new()
-            .translate(&ram, FrameNo(0), va, access)
-            .ok();
-        assert!(rt;
-            walked == want && translated == want && looked_up == want,
-            "at {va}"
-        );
+    for (va, access, want) in ADDRESSES {
+        assert!(rt; is_answer(&ram, &mut plain, va, access, want), "at {va}");
     }
-    for (root, want) in [(0, Some(FrameNo(3))), (4, None)] {
-        assert!(rt; walk_page(&ram, FrameNo(root), 3, Access::Load) == want);
-    }
+}
+
+#[test]
+fn pages_are_looked_up(rt: HostRuntime) {
+    let ram = by_hand(&rt);
+    assert!(rt; walk_page(&ram, FrameNo(0), 3, Access::Load) == Some(FrameNo(3)));
+    assert!(rt; walk_page(&ram, FrameNo(4), 3, Access::Load).is_none());
 }
 
 #[test]

@@ -1,11 +1,29 @@
-use Rattle.std.proofs.Common.{Bool, List, refl, sym, ◌∙◌, ◌≡◌}
+use Rattle.std.proofs.Common.{Bool, List, [], arith, false, refl, rules, suc, sym, true, zero, ℕ, ◌==◌, ◌∙◌, ◌∷◌, ◌≡◌}
+use Rattle.std.specs.Prelude.{slice_set}
 use Rattle.std.proofs.lemmas.Bool.{true≢false}
+use Rattle.std.proofs.lemmas.Bool.Decides.{nat_tests}
 use Rattle.proc.proofs.Looking.{all-in}
 use Rattle.proc.specs.Mask.{all_in, is_in}
 use Rattle.kernel_tests.proofs.processes.looks_at_who_is_awake.Goals as goal
+
+is-woken : (awake : List Bool) → is_in (slice_set awake 1 true) 1 ≡ true
+is-woken [] = refl
+is-woken (a ∷ []) = refl
+is-woken (a ∷ b ∷ rest) = refl
+
+-- who isn't awake isn't the one that was woken
+asleep-other : (awake : List Bool) (i : ℕ) → is_in (slice_set awake 1 true) i ≡ false → false ≡ (i == 1)
+asleep-other awake zero out = refl
+asleep-other awake (suc zero) out = absurd (true≢false (sym (is-woken awake) ∙ out))
+asleep-other awake (suc (suc i)) out = grind (arith, nat_tests)
 
 -- each place is awake at first
 pub pick-requires-clause-awake : goal.pick-requires-clause-awake
 pick-requires-clause-awake g c i out =
     let all : c.starting_at-table.result.awake ≡ all_in 64 = rw c.starting_at-table.ensures refl in
     absurd (true≢false (sym (rw all (all-in 64 i)) ∙ out))
+
+pub pick-requires-2-clause-awake : goal.pick-requires-2-clause-awake
+pick-requires-2-clause-awake g c i out =
+    let other = asleep-other c.pick.new.self.awake i (rw c.wake.ensures at out) in
+    record { shown = record { ref_ptr = (0, 0); now = c.wake.new.self.places }; shows = refl; says = (search (rules, other)) }

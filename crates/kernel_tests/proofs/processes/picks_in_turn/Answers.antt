@@ -1,7 +1,7 @@
-use Rattle.std.proofs.Common.{Bool, List, refl, sym, ◌∙◌, ◌≡◌}
+use Rattle.std.proofs.Common.{refl, sym, ◌∙◌, ◌≡◌}
 use Rattle.std.proofs.lemmas.Bool.{true≢false}
 use Rattle.proc.proofs.Looking.{all-in}
-use Rattle.proc.specs.Mask.{all_in, is_in}
+use Rattle.proc.specs.Mask.{all_in}
 use Rattle.kernel_tests.proofs.processes.picks_in_turn.Goals as goal
 
 -- each place is awake at first
