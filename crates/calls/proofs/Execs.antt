@@ -19,7 +19,7 @@ use Rattle.kernel.proofs.Steps.{fail-keeps, held-run}
 use Rattle.kernel.specs.Kernel.{Kernel, argument, counting, idle, left_as, on_hart, state_of}
 use Rattle.kernel.specs.Sound.{IsKernel, IsPlaced}
 use Rattle.proc.specs.declared.process.Process.{Process}
-use Rattle.proc.specs.Places.{Places, changed, with_mode, with_size}
+use Rattle.proc.specs.Places.{changed, with_mode, with_size}
 use Rattle.programs.specs.declared.executing.Started.{Started}
 use Rattle.programs.specs.Executed.{Executes, IsExecuted, frames_beside, held_by, plan_at, started_by}
 use Rattle.spaces.proofs.SpacesLemmas.{held-same}
@@ -33,8 +33,8 @@ use Rattle.unixmodel.specs.Files.{Files, Node, find, slot}
 use Rattle.unixmodel.specs.Memory.{Memory, path_at}
 use Rattle.unixmodel.specs.Numbers.{number_at, round_down}
 use Rattle.unixmodel.specs.Outcome.{Outcome, answers, given, limited, provided}
-use Rattle.unixmodel.specs.Outcome.Outcome.{Done, Refused}
-use Rattle.unixmodel.specs.Plan.{Loaded, Plan, Stack, finished, loaded_of, plan, push_pointers, push_strings, with_args, with_stack}
+use Rattle.unixmodel.specs.Outcome.Outcome.{Done}
+use Rattle.unixmodel.specs.Plan.{Loaded, Plan, Stack, loaded_of, plan, push_pointers, push_strings, with_args, with_stack}
 use Rattle.unixmodel.specs.Process as unix
 use Rattle.unixmodel.specs.ProcessCalls.{args_at, exec_registers, exec_row, file_bytes, fits_beside, replaced}
 use Rattle.unixmodel.specs.State.{State, put_process}

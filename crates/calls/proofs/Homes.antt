@@ -1,14 +1,18 @@
 -- chdir: the running process works in another directory, and the one that it leaves may go.
 use Rattle.std.proofs.Common.{Bool, List, None, Option, Some, [], ap, arith, false, negsuc, refl, subst, sym, true, zero, suc, ℕ, ◌+◌, ◌<◌, ◌++◌, ◌∙◌, ◌∷◌, ◌≡◌, ◌≢◌, ◌≤◌, length}
-use Rattle.std.specs.Prelude.{IfSome, IsSome, if◌then◌else◌, slice_set}
-use Rattle.std.proofs.lemmas.Bool.{eq-eqb, le-leb, ne_eqb}
+use Rattle.std.specs.Prelude.{Err, IfSome, IsSome, Ok, Result, if◌then◌else◌, slice_set}
+use Rattle.std.proofs.lemmas.Bool.{le-leb, ne_eqb}
 use Rattle.std.proofs.lemmas.List.Sums.{sum_by-cons, sum_by-set}
 use Rattle.std.proofs.lemmas.Option.{none-some, same_Some}
+use Rattle.blockdev.specs.declared.DeviceFault.{DeviceFault}
 use Rattle.calls.specs.Acts.{Acts, Runs}
+use Rattle.calls.specs.Does.{IsLost}
 use Rattle.calls.specs.Reads.{HasRead}
+use Rattle.calls.specs.Replaced.{Reaches}
 use Rattle.calls.specs.declared.outcome.Came.TheVariants.{Answers, Refuses}
 use Rattle.calls.proofs.Acts.{Here, here-of, me, outcome-here, refused, settles, turned, turned-here, used-here}
 use Rattle.calls.proofs.Names.{home-is, names-rules, path-is}
+use Rattle.calls.proofs.Served.{ok-told, on-err, serves-lost}
 use Rattle.calls.proofs.Settles.{after}
 use Rattle.calls.proofs.Shapes.{folder-there}
 use Rattle.files.specs.Counts.{one_in}
@@ -28,7 +32,7 @@ use Rattle.kernel.proofs.Runs.{IsRun, home-running, loaded-run, moved, moved-run
 use Rattle.kernel.proofs.Steps.{fail-keeps}
 use Rattle.kernel.specs.Descriptors.{descriptors_in}
 use Rattle.kernel.specs.Holding.{AreHeld, IsFolder, IsInUse, dropped, files_on, home_in, homes_at}
-use Rattle.kernel.specs.Kernel.{Kernel, answered, argument, counting, left_as, loaded, memories, on_hart, state_of}
+use Rattle.kernel.specs.Kernel.{Kernel, answered, argument, left_as, loaded, memories, on_hart, state_of}
 use Rattle.kernel.specs.Sound.{IsKernel, IsOpened, IsPlaced}
 use Rattle.names.proofs.Naming.{find-used}
 use Rattle.proc.specs.declared.process.Process.{Process}
@@ -37,7 +41,7 @@ use Rattle.proc.specs.Whole.{joined}
 use Rattle.spaces.specs.Spaces.{held_at, taken_frames}
 use Rattle.tree.specs.Holding.{holders, let_go, with_hold, without_hold}
 use Rattle.tree.specs.Telling.{Tells}
-use Rattle.tree.specs.Tree.{FileTree}
+use Rattle.tree.specs.Tree.{FileTree, Serves}
 use Rattle.tree.specs.Whole.{IsWhole}
 use Rattle.unixmodel.specs.Calls.{end_if_killed, outcome_of, quiet, row, settle}
 use Rattle.unixmodel.specs.Counts.{is_within}
@@ -119,9 +123,6 @@ module _ {t : FileTree} {opens : List (Option Counted)} {os : List (Option Proce
   leaves-nodes s ms away same opened placed = fewer-nodes between opens moves (old ∷ []) counts (λ k c there. (c, (there, refl))) (homes-front moves (Some p)) s ms away same opened placed
 
 -- ---- after the disk was read
-
-has-more : (k e f : Kernel) → HasRead k e → HasRead e f → HasRead k f
-has-more k e f one two = record { same = two.same ∙ ap (λ (y : Kernel). counting y f.tree.failures) one.same; later = let a = one.later in let b = two.later in omega arith }
 
 pub read-runs : (k e : Kernel) (i : ℕ) → HasRead k e → Runs k i → Runs e i
 read-runs k e i has runs = subst (λ (y : Kernel). Runs y i) (sym has.same) (record { active = runs.active; sound = counting-kernel k e.tree.failures runs.sound; zero = runs.zero; aligned = runs.aligned })
@@ -240,6 +241,11 @@ folder-kind (Some (File links bytes)) node at kind = absurd (let bad : 2 ≡ kin
 folder-kind (Some (Device links major minor)) node at kind = absurd (let bad : 3 ≡ kind_of node = ap kind_of (same_Some (Device links major minor) node at) in omega (arith, bad, kind))
 folder-kind (Some (Directory links places)) node at kind = tt
 
+folder-is : (o : Option Node) (node : Node) → o ≡ Some node → IsFolder o → is_directory node ≡ true
+folder-is o (File links bytes) at is = absurd (subst IsFolder at is)
+folder-is o (Device links major minor) at is = absurd (subst IsFolder at is)
+folder-is o (Directory links places) at is = refl
+
 module _ (k : Kernel) (i : ℕ) (runs : Runs k i) where
   abbrev x : Here k i
   x = here-of k i runs.sound runs.active
@@ -278,84 +284,85 @@ module _ (k : Kernel) (i : ℕ) (runs : Runs k i) where
   unfolding chdir_row
   chdir-row path at = rw at refl
 
-  module _ (path : List ℕ) (is : Some path ≡ path_at (held_at k.spaces i).memory (argument k 0)) (k1 : Kernel) (o : Option ℕ) (reads : HasRead k k1 × IfSome (slot k.table.places i) (λ p. o ≡ find k.tree.files p.directory path)) where
-    chdir-found : row (state_of k) i (me k i x) Chdir ≡ given o (λ n. with_node n (slot k.tree.files n))
-    chdir-found = chdir-row path (path-is k i runs 0 (Some path) is) ∙ ap (λ f. given f (λ n. with_node n (slot k.tree.files n))) (found-here path o reads.1)
+  pub chdir-lost : (k1 : Kernel) (o : Option ℕ) (path : List ℕ) → Some path ≡ path_at (held_at k.spaces i).memory (argument k 0) → HasRead k k1 × IfSome (slot k.table.places i) (λ p. o ≡ find k.tree.files p.directory path)
+      → o ≡ None → Acts k k1 i (Some Chdir) Refuses
+  chdir-lost k1 o path is reads none =
+      refused-read k k1 i x Chdir reads.0 (ap limited (chdir-row path (path-is k i runs 0 (Some path) is) ∙ ap (λ f. given f (λ n. with_node n (slot k.tree.files n))) (found-here path o reads.1 ∙ none)))
 
-    pub chdir-lost : o ≡ None → Acts k k1 i (Some Chdir) Refuses
-    chdir-lost none = refused-read k k1 i x Chdir reads.0 (ap limited (chdir-found ∙ ap (λ f. given f (λ n. with_node n (slot k.tree.files n))) none))
+  -- its path reaches number n
+  module _ (n : ℕ) (r : Reaches k i n) where
+    found : find k.tree.files home r.path ≡ Some n
+    found = found-here r.path (Some n) r.found
 
-    module _ (n : ℕ) (some : o ≡ Some n) where
-      here : (node : Node) × (slot k.tree.files n ≡ Some node)
-      here = node-here path n (found-here path o reads.1 ∙ some)
+    pub chdir-there : (node : Node) × (slot k.tree.files n ≡ Some node)
+    chdir-there = node-here r.path n found
 
-      pub chdir-there : (node : Node) × (slot k1.tree.files n ≡ Some node)
-      chdir-there = subst (λ (y : Kernel). (node : Node) × (slot y.tree.files n ≡ Some node)) (sym reads.0.same) here
+    chdir-made : (b : Bool) → is_directory chdir-there.0 ≡ b → row (state_of k) i (me k i x) Chdir ≡ provided b (answers (works n) 0)
+    chdir-made b is =
+        chdir-row r.path (path-is k i runs 0 (Some r.path) r.named)
+        ∙ ap (λ f. given f (λ m. with_node m (slot k.tree.files m))) found
+        ∙ ap (with_node n) chdir-there.1
+        ∙ ap (λ (c : Bool). provided c (answers (works n) 0)) is
 
-      module _ (k2 : Kernel) (told : InodeStat) (more : HasRead k1 k2 × ((node : Node) → slot k1.tree.files n ≡ Some node → Tells told node)) where
-        has : HasRead k k2
-        has = has-more k k1 k2 reads.0 more.0
+    -- told of it
+    module _ (k1 : Kernel) (told : InodeStat) (reads : HasRead k k1 × ((node : Node) → slot k.tree.files n ≡ Some node → Tells told node)) where
+      tells : Tells told chdir-there.0
+      tells = reads.1 chdir-there.0 chdir-there.1
 
-        tells : Tells told here.0
-        tells = more.1 here.0 (ap (λ (y : Kernel). slot y.tree.files n) reads.0.same ∙ here.1)
+      pub chdir-other : told.kind ≢ 1 → Acts k k1 i (Some Chdir) Refuses
+      chdir-other other = refused-read k k1 i x Chdir reads.0 (ap limited (chdir-made false (rw (← tells.0) (ne_eqb told.kind 1 other))))
 
-        chdir-made : (b : Bool) → is_directory here.0 ≡ b → row (state_of k) i (me k i x) Chdir ≡ provided b (answers (works n) 0)
-        chdir-made b is' =
-            chdir-found
-            ∙ ap (λ f. given f (λ m. with_node m (slot k.tree.files m))) some
-            ∙ ap (with_node n) here.1
-            ∙ ap (λ (c : Bool). provided c (answers (works n) 0)) is'
+      pub chdir-goes : told.kind ≡ 1 → Reaches k1 i n × IsFolder (slot k1.tree.files n)
+      chdir-goes kind = subst (λ (y : Kernel). Reaches y i n × IsFolder (slot y.tree.files n)) (sym reads.0.same) (record { path = r.path; named = r.named; found = r.found }, folder-kind (slot k.tree.files n) chdir-there.0 chdir-there.1 (sym tells.0 ∙ kind))
 
-        pub chdir-other : told.kind ≢ 1 → Acts k k2 i (Some Chdir) Refuses
-        chdir-other other = refused-read k k2 i x Chdir has (ap limited (chdir-made false (rw (← tells.0) (ne_eqb told.kind 1 other))))
+    -- it is a directory; at is what the fields show
+    module _ (folder : IsFolder (slot k.tree.files n)) (at : Kernel) (same : at ≡ k) (whole : IsWhole at.tree) where
+      pub chdir-hold : slot at.tree.files n ≢ None
+      chdir-hold none = none-some chdir-there.0 (sym none ∙ ap (λ (y : Kernel). slot y.tree.files n) same ∙ chdir-there.1)
 
-        -- at is what the fields show then
-        module _ (at : Kernel) (same : at ≡ k2) (kind : told.kind ≡ 1) (whole : IsWhole at.tree) where
-          shows : at ≡ counting k k2.tree.failures
-          shows = same ∙ has.same
+      number : (n < length k.tree.holds) × (n < 8192)
+      number = subst (λ (y : Kernel). (n < length y.tree.holds) × (n < 8192)) same (whole.numbers n chdir-hold)
 
-          pub chdir-hold : slot at.tree.files n ≢ None
-          chdir-hold none = none-some here.0 (sym none ∙ ap (λ (y : Kernel). slot y.tree.files n) shows ∙ here.1)
+      pub chdir-few : holders at.tree.holds n < 65535
+      chdir-few = subst (λ (y : Kernel). holders y.tree.holds n < 65535) (sym same) (few-hold n)
 
-          number : (n < length k.tree.holds) × (n < 8192)
-          number = subst (λ (y : Kernel). (n < length y.tree.holds) × (n < 8192)) shows (whole.numbers n chdir-hold)
+      pub chdir-fits : n < 8192
+      chdir-fits = number.1
 
-          folder : IsFolder (slot k.tree.files n)
-          folder = folder-kind (slot k.tree.files n) here.0 here.1 (sym tells.0 ∙ kind)
+      module _ (left : ℕ) (leaves : IfSome (slot k.table.places i) (λ p. left ≡ p.directory)) (held : FileTree) (holds : held ≡ record at.tree { holds = with_hold at.tree.holds n }) where
+        left-is : left ≡ home
+        left-is = home-is k i runs left leaves
 
-          pub chdir-few : holders at.tree.holds n < 65535
-          chdir-few = subst (λ (y : Kernel). holders y.tree.holds n < 65535) (sym shows) (few-hold n)
+        held-is : held ≡ holding k i x n number.0 folder
+        held-is = holds ∙ ap (λ (y : Kernel). let u : FileTree = record y.tree { holds = with_hold y.tree.holds n } in u) same
 
-          pub chdir-fits : n < 8192
-          chdir-fits = number.1
+        pub chdir-held : 1 ≤ holders held.holds left
+        chdir-held = rw (left-is, held-is) (left-held k i x n number.0 folder).1.0
 
-          module _ (left : ℕ) (leaves : IfSome (slot k2.table.places i) (λ p. left ≡ p.directory)) (held : FileTree) (holds : held ≡ record at.tree { holds = with_hold at.tree.holds n }) where
-            left-is : left ≡ home
-            left-is = home-is k i runs left (subst (λ (y : Kernel). IfSome (slot y.table.places i) (λ p. left ≡ p.directory)) has.same leaves)
+        abbrev pub drops : ℕ → FileTree
+        drops failures = record held { files = let_go (without_hold held.holds left) held.files left; holds = without_hold held.holds left; failures = failures }
 
-            held-is : held ≡ record (holding k i x n number.0 folder) { failures = k2.tree.failures }
-            held-is = holds ∙ ap (λ (y : Kernel). let u : FileTree = record y.tree { holds = with_hold y.tree.holds n } in u) shows
+        drops-is : (failures : ℕ) → drops failures ≡ counted (dropped (holding k i x n number.0 folder) home) failures
+        drops-is failures = rw (left-is, held-is) refl
 
-            pub chdir-held : 1 ≤ holders held.holds left
-            chdir-held = rw (left-is, held-is) (left-held k i x n number.0 folder).1.0
+        dropped-acts : (t : FileTree) → t ≡ drops t.failures → held.failures ≤ t.failures → Acts k (record at { tree = t; table = changed at.table i (with_directory n) }) i (Some Chdir) (Answers 0)
+        dropped-acts t drop later =
+            let since : held.failures ≡ k.tree.failures = ap (λ (u : FileTree). u.failures) held-is in
+            let acts = chdir-acts k i x n number.0 folder t.failures (omega (arith, since, later)) (chdir-made true (folder-is (slot k.tree.files n) chdir-there.0 chdir-there.1 folder)) in
+            rw (same, drop, drops-is t.failures) (subst (λ (y : Kernel). Acts k y i (Some Chdir) (Answers 0)) (rw (x.run.process, set-slot k.spaces.places i (Some x.held) x.run.space) refl) acts)
 
-            abbrev pub drops : ℕ → FileTree
-            drops failures = record held { files = let_go (without_hold held.holds left) held.files left; holds = without_hold held.holds left; failures = failures }
+        -- it is let go
+        module _ (t : FileTree) (r' : Result (Unit {0}) DeviceFault) (serves : Serves held t r' (λ done. t ≡ drops t.failures)) where
+          pub chdirs : (done : Unit {0}) → r' ≡ Ok done → Acts k (record at { tree = t; table = changed at.table i (with_directory n) }) i (Some Chdir) (Answers 0)
+          chdirs done e = dropped-acts t (ok-told (λ done. t ≡ drops t.failures) r' done e serves.told) serves.cause.later
 
-            drops-is : (failures : ℕ) → drops failures ≡ counted (dropped (holding k i x n number.0 folder) home) failures
-            drops-is failures = rw (left-is, held-is) refl
+          -- an access failed
+          pub chdir-fails : (fault : DeviceFault) → r' ≡ Err fault → IsKernel (record (left_as (record at { tree = held; table = changed at.table i (with_directory n) }) i Ready) { tree = t })
+          chdir-fails fault e =
+              let u = drops held.failures in
+              let made = dropped-acts u refl (omega arith) in
+              let to' = record at { tree = u; table = changed at.table i (with_directory n) } in
+              fail-keeps to' to' i t refl made.sound made.active (rw same runs.zero) (rw same runs.aligned) (on-err r' fault e serves.down)
 
-            pub chdirs : (t : FileTree) → t ≡ drops t.failures → held.failures ≤ t.failures → (m : ℕ) → m ≡ n → Acts k (record at { tree = t; table = changed at.table i (with_directory m) }) i (Some Chdir) (Answers 0)
-            chdirs t drop later m is-m =
-                let since : held.failures ≡ k2.tree.failures = ap (λ (u : FileTree). u.failures) held-is in
-                let after' = has.later in
-                let acts = chdir-acts k i x n number.0 folder t.failures (omega (arith, since, after', later)) (chdir-made true (rw (← tells.0) (eq-eqb told.kind 1 kind))) in
-                rw (is-m, shows, drop, drops-is t.failures) (subst (λ (y : Kernel). Acts k y i (Some Chdir) (Answers 0)) (rw (x.run.process, set-slot k.spaces.places i (Some x.held) x.run.space) refl) acts)
-
-            -- an access failed
-            pub chdir-fails : (t : FileTree) → t.failed ≡ true → (m : ℕ) → m ≡ n → IsKernel (record (left_as (record at { tree = held; table = changed at.table i (with_directory m) }) i Ready) { tree = t })
-            chdir-fails t down m is-m =
-                let u = drops held.failures in
-                let made = chdirs u refl (omega arith) m is-m in
-                let to' = record at { tree = u; table = changed at.table i (with_directory m) } in
-                fail-keeps to' to' i t refl made.sound made.active (rw shows runs.zero) (rw shows runs.aligned) down
+          pub chdir-gone : (fault : DeviceFault) → r' ≡ Err fault → IsLost k.tree t
+          chdir-gone fault e = let lost = serves-lost r' fault e serves in subst (λ (u : FileTree). IsLost (record k.tree { failures = u.failures }) t) held-is (record { down = lost.down; later = lost.later; rises = lost.rises })

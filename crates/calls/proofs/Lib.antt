@@ -1,4 +1,5 @@
 pub mod Settles
+mod Apart
 pub mod Rows
 pub mod Served
 pub mod Acts

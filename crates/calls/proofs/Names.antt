@@ -1,16 +1,16 @@
 -- Calls on names: the running process stays as it is, and the files alone change.
 use Rattle.blockdev.specs.declared.DeviceFault.{DeviceFault}
-use Rattle.std.proofs.Common.{◌≡◌, ◌≢◌, ℕ, ◌+◌, ◌<◌, ◌≤◌, ◌∙◌, Bool, List, [], None, Option, Some, ap, arith, false, refl, subst, sym, true}
-use Rattle.std.specs.Prelude.{All, Err, IfErr, IfOk, IfSome, IsErrOf, IsSome, Ok, OnErr, Result, if◌then◌else◌, nat_le, option_and_then, option_map, slice_index, unwrap_or, ◌%◌, ◌&&◌, ◌^◌}
+use Rattle.std.proofs.Common.{◌≡◌, ◌≢◌, ℕ, ◌<◌, ◌∙◌, Bool, List, [], None, Option, Some, ap, arith, false, refl, subst, sym, true}
+use Rattle.std.specs.Prelude.{All, Err, IfErr, IfOk, IfSome, IsSome, Ok, OnErr, Result, if◌then◌else◌, nat_le, option_and_then, option_map, ◌%◌, ◌&&◌, ◌^◌}
 use Rattle.std.proofs.lemmas.Bool.{false≢true, lt-leb}
 use Rattle.std.proofs.lemmas.Option.{none-some, same_Some}
 use Rattle.calls.specs.Acts.{Acts, ActsOnDisk, Runs}
 use Rattle.calls.specs.declared.outcome.Came.{Came}
 use Rattle.calls.specs.declared.outcome.Came.TheVariants.{Answers, Refuses}
-use Rattle.calls.proofs.Acts.{Here, getpid-is, here-of, me, outcome-here, prints, refused, used-here}
+use Rattle.calls.proofs.Acts.{Here, here-of, me, outcome-here, prints, refused, used-here}
 use Rattle.calls.proofs.Shapes.{folder-there, used-changed, used-shaped}
 use Rattle.kernel.specs.Holding.{IsInUse, home_in}
-use Rattle.kernel.specs.Kernel.{Kernel, argument, idle, left_as, on_hart, state_of}
+use Rattle.kernel.specs.Kernel.{Kernel, argument, idle, on_hart, state_of}
 use Rattle.kernel.specs.Sound.{IsKernel}
 use Rattle.kernel.proofs.Holding.{home-folder}
 use Rattle.kernel.proofs.Runs.{home-running}
@@ -18,8 +18,8 @@ use Rattle.kernel.proofs.Steps.{fail-keeps, held-run, with-tree}
 use Rattle.names.specs.Changes.{Changed, shape}
 use Rattle.names.specs.Rules.{KeepsTree}
 use Rattle.proc.specs.declared.process.Process.{Process}
-use Rattle.proc.specs.Places.{Places, changed, with_mode}
-use Rattle.spaces.specs.Spaces.{Held, Spaces, held_at, no_pages}
+use Rattle.proc.specs.Places.{changed, with_mode}
+use Rattle.spaces.specs.Spaces.{Held, held_at}
 use Rattle.tree.specs.Answers.{Overflows}
 use Rattle.tree.specs.declared.TreeFault.{TreeFault}
 use Rattle.tree.specs.declared.TreeFault.TheVariants.{Device}
@@ -38,7 +38,7 @@ use Rattle.unixmodel.specs.Counts.{blocks_of, frames_of, is_within, opens_of}
 use Rattle.unixmodel.specs.declared.call.Call.{Call}
 use Rattle.unixmodel.specs.declared.call.Call.TheVariants.{Mkdir, Mknod}
 use Rattle.unixmodel.specs.declared.process.Mode.TheVariants.{Ready}
-use Rattle.unixmodel.specs.Files.{Files, Node, links_of, slot, spot_of}
+use Rattle.unixmodel.specs.Files.{Files, Node, slot, spot_of}
 use Rattle.unixmodel.specs.Memory.{path_at}
 use Rattle.unixmodel.specs.NameCalls.{Made, made_at, made_directory, mkdir_row, mknod_row, path_arg, with_files}
 use Rattle.unixmodel.specs.Outcome.{Outcome, answers, given, limited, minus_one, provided}
@@ -214,6 +214,10 @@ module _ (k : Kernel) (i : ℕ) (runs : Runs k i) where
   names-home d is =
       let d' = here.process.directory in
       rw (home-is d is) (folder-there (slot k.tree.files d') (home-folder (used-here k i here) i d' (ap home_in here.run.process ∙ home-running here.process here.run.runs)))
+
+  -- what a call of the tree asks for; at is what the fields show
+  pub names-may : (at : Kernel) → at ≡ k → (d : ℕ) → IfSome (slot k.table.places i) (λ p. d ≡ p.directory) → (at.tree.failed ≡ false) × KeepsTree at.tree.files × IsSome (slot at.tree.files d)
+  names-may at same d home = subst (λ (y : Kernel). (y.tree.failed ≡ false) × KeepsTree y.tree.files × IsSome (slot y.tree.files d)) (sym same) (names-up, names-rules, names-home d home)
 
   -- ---- no path
 

@@ -338,6 +338,9 @@ module _ {k : Kernel} {i : ℕ} (runs : Runs k i) (f n : ℕ) where
         runs = retreed t (ap (λ (u : FileTree). u.failed) told' ∙ x.run.up) changes (ap (λ (u : FileTree). u.holds) told') whole;
       })
 
+  pub uncut : truncates f ≡ false → IsCut k k i f n
+  uncut none = record { same = rw none refl; later = omega arith; runs = runs }
+
 pub cut-ok : {old new : Kernel} {i f n : ℕ} (r : Result (Unit {0}) DeviceFault) (u : Unit {0}) → r ≡ Ok u → Cuts old new i f n r → IsCut old new i f n
 cut-ok (Ok done) u e cuts = cuts
 cut-ok (Err fault) u e cuts = absurd (cc)

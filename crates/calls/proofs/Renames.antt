@@ -16,7 +16,7 @@ use Rattle.files.specs.Counts.{names}
 use Rattle.files.proofs.CountsLemmas.{count-shared, names-put}
 use Rattle.files.proofs.Free.{free-place}
 use Rattle.files.specs.Pipes.{IsPiped}
-use Rattle.files.specs.Places.{count_at, opens_of, shared}
+use Rattle.files.specs.Places.{count_at, shared}
 use Rattle.files.proofs.Whole.{opens-shared, table-shared}
 use Rattle.proc.specs.declared.process.Process.{Process}
 use Rattle.spaces.specs.Spaces.{Held}

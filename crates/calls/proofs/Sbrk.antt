@@ -1,5 +1,5 @@
 -- sbrk: the running process has another size.
-use Rattle.std.proofs.Common.{◌≡◌, ℕ, ◌+◌, ◌-◌, ◌<◌, ◌≤◌, true, [], length, Some, None, pos, refl, ap, subst, sym, ◌∙◌, arith}
+use Rattle.std.proofs.Common.{◌≡◌, ℕ, ◌+◌, ◌-◌, ◌<◌, ◌≤◌, true, [], length, Some, None, pos, refl, ap, subst, sym, ◌∙◌}
 use Rattle.std.specs.Prelude.{◌+ℤ◌}
 use Rattle.calls.specs.Acts.{Acts, Runs}
 use Rattle.calls.specs.declared.outcome.Came.TheVariants.{Answers, Refuses}

@@ -2,12 +2,16 @@
 use Rattle.unixmodel.specs.State.{State}
 use Rattle.std.proofs.Common.{None, Option, Result, Some, ap, arith, false, le_trans, refl, subst, sym, true, ℕ, ℤ, ◌∙◌, ◌≡◌}
 use Rattle.std.specs.Prelude.{Err, IfOk, Ok, OnErr, OnOk}
+use Rattle.std.specs.Result.{IsErr}
 use Rattle.blockdev.specs.declared.DeviceFault.{DeviceFault}
 use Rattle.unixmodel.specs.Failures.{HasCause}
+use Rattle.calls.specs.Acts.{ActsOnDisk}
+use Rattle.calls.specs.declared.outcome.Came.{Came}
 use Rattle.calls.specs.Does.{Ends, IsLost, IsServed, LeavesDisk, LeavesTree, halt_of}
 use Rattle.kernel.specs.Kernel.{Kernel, started, started_as, state_of, stopped_at, ticked}
 use Rattle.proc.specs.declared.process.Process.{Process}
 use Rattle.tree.specs.Tree.{FileTree, Serves}
+use Rattle.unixmodel.specs.declared.call.Call.{Call}
 use Rattle.unixmodel.specs.Files.{slot}
 
 -- they are as before
@@ -40,6 +44,19 @@ disk-after a b c (Err fault) first then = lost-after first then
 pub disk-lost : {T : Type 0} {old new : FileTree} (r : Result T DeviceFault) (fault : DeviceFault) → r ≡ Err fault → LeavesDisk old new r → IsLost old new
 disk-lost (Ok x) fault e leaves = absurd (cc)
 disk-lost (Err f) fault e leaves = leaves
+
+-- it failed
+pub serves-lost : {T : Type 0} {old new : FileTree} {Told : T → Type 0} (r : Result T DeviceFault) (fault : DeviceFault) → r ≡ Err fault → Serves old new r Told → IsLost old new
+serves-lost r fault e serves = disk-lost r fault e (serves-disk serves)
+
+-- at is what the fields show, and k the kernel's value
+pub tree-lost : {at k : Kernel} → at ≡ k → {T : Type 0} {new : FileTree} {Told : T → Type 0} (r : Result T DeviceFault) (fault : DeviceFault) → r ≡ Err fault → Serves at.tree new r Told → IsLost k.tree new
+tree-lost same {new = new} r fault e serves = subst (λ (y : Kernel). IsLost y.tree new) same (serves-lost r fault e serves)
+
+module _ (k new : Kernel) (i : ℕ) (call : Call) where
+  pub err-lost : (r : Result Came DeviceFault) → IsErr r → IsLost k.tree new.tree → ActsOnDisk k new i (Some call) r
+  err-lost (Ok came) e lost = absurd (cc)
+  err-lost (Err fault) e lost = lost
 
 pub disk-served : {T : Type 0} {old new : FileTree} (r : Result T DeviceFault) (x : T) → r ≡ Ok x → LeavesDisk old new r → IsServed old new
 disk-served (Ok y) x e leaves = leaves

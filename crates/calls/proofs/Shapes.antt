@@ -1,14 +1,13 @@
 -- What holds of who holds nodes, where files change and the nodes that somebody holds stay of their type.
-use Rattle.std.proofs.Common.{◌≡◌, ℕ, ◌≤◌, ◌∙◌, List, None, Option, Some, ap, arith, refl, subst, sym}
-use Rattle.std.specs.Prelude.{IfSome, IsSome, option_map, sum_by}
+use Rattle.std.proofs.Common.{◌≡◌, ℕ, ◌≤◌, List, None, Option, Some, ap, arith, refl, subst, sym}
+use Rattle.std.specs.Prelude.{IfSome, IsSome, option_map}
 use Rattle.std.proofs.lemmas.Bool.Decides.{nat_tests}
-use Rattle.std.proofs.lemmas.Option.{none-some}
 use Rattle.files.specs.Counts.{one_in}
 use Rattle.files.specs.declared.file.OpenFile.{OpenFile}
 use Rattle.files.specs.declared.file.Target.{Target}
 use Rattle.files.specs.declared.file.Target.TheVariants as target
 use Rattle.files.specs.Places.{Counted}
-use Rattle.kernel.specs.Holding.{FitsNode, IsFolder, IsInUse, files_on, home_in, node_in, node_of, node_on}
+use Rattle.kernel.specs.Holding.{FitsNode, IsFolder, IsInUse, home_in, node_in, node_of, node_on}
 use Rattle.kernel.proofs.Holding.{held-there, home-held, least}
 use Rattle.names.specs.Changes.{Changed, shape}
 use Rattle.names.specs.Rules.{KeepsTree}
@@ -16,7 +15,7 @@ use Rattle.proc.specs.declared.process.Process.{Process}
 use Rattle.tree.specs.Holding.{holders}
 use Rattle.tree.specs.Tree.{FileTree}
 use Rattle.unixmodel.specs.Counts.{blocks_of}
-use Rattle.unixmodel.specs.Files.{Files, Node, links_of, slot}
+use Rattle.unixmodel.specs.Files.{Node, links_of, slot}
 use Rattle.unixmodel.specs.Files.Node.{Device, Directory, File}
 
 -- a node fits by its shape

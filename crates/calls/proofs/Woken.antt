@@ -1,27 +1,22 @@
 -- What calls leave of who is awake.
-use Rattle.std.proofs.Common.{Bool, List, None, Option, Some, [], ap, arith, false, inl, inr, length, map, option_map, refl, subst, suc, sym, true, zero, ℕ, ◌∙◌, ◌∷◌, ◌≡◌, ◌||◌}
+use Rattle.std.proofs.Common.{Bool, List, None, Option, Some, [], ap, arith, false, inl, inr, length, option_map, refl, subst, suc, sym, true, zero, ℕ, ◌∙◌, ◌∷◌, ◌≡◌}
 use Rattle.std.specs.Bool.{OnFalse, OnTrue}
-use Rattle.std.specs.Prelude.{if◌then◌else◌, option_and_then, slice_set}
-use Rattle.std.specs.List.{list_any}
+use Rattle.std.specs.Prelude.{if◌then◌else◌, slice_set}
 use Rattle.std.proofs.lemmas.Bool.{and_parts, cases_lt, eqb-true, true≢false}
 use Rattle.calls.specs.Acts.{CanCome, Comes, GoesOn, Runs, settled_by}
 use Rattle.calls.specs.Opened.{Opens}
-use Rattle.calls.specs.Reads.{HasRead}
 use Rattle.calls.specs.Renamed.{OpensAs}
 use Rattle.calls.specs.declared.outcome.Came.{Came}
 use Rattle.calls.specs.declared.outcome.Came.TheVariants.{Answers, Blocks, Exits, KillsItself, Refuses}
 use Rattle.files.specs.declared.file.OpenFile.{OpenFile}
-use Rattle.files.specs.declared.file.Target.{Target}
-use Rattle.files.specs.declared.file.Target.TheVariants as target
-use Rattle.files.specs.Meant.{target_of}
-use Rattle.files.specs.Places.{Counted, moved, moved_to, opens_of, shared}
+use Rattle.files.specs.Places.{Counted, opens_of, shared}
 use Rattle.files.proofs.Whole.{opens-shared}
 use Rattle.kernel.proofs.Masks.{set-past}
 use Rattle.kernel.proofs.Named.{opens-all_shared}
 use Rattle.kernel.proofs.Wakes.{kernel-waking, running-at, state-waking, watched-roused}
 use Rattle.kernel.proofs.Watching.{no-zombie, watched-put, watched-running}
 use Rattle.kernel.specs.Descriptors.{all_shared}
-use Rattle.kernel.specs.Kernel.{Kernel, idle, on_hart, state_of, waking}
+use Rattle.kernel.specs.Kernel.{Kernel, idle, on_hart, waking}
 use Rattle.kernel.specs.Ready.{awaited_in}
 use Rattle.kernel.specs.Watch.{IsWatched, Watches, awaited_of}
 use Rattle.proc.specs.declared.process.Process.{Process}
@@ -34,7 +29,7 @@ use Rattle.unixmodel.specs.Calls.{After}
 use Rattle.unixmodel.specs.Console.{Console, Taken, take_line}
 use Rattle.unixmodel.specs.declared.process.Mode.TheVariants.{Ready}
 use Rattle.unixmodel.specs.declared.process.Pending.{Pending}
-use Rattle.unixmodel.specs.Files.{Files, put, slot, taken}
+use Rattle.unixmodel.specs.Files.{Files, put, slot}
 use Rattle.unixmodel.specs.Outcome.{Outcome}
 use Rattle.unixmodel.specs.OpenFiles as unix
 use Rattle.unixmodel.specs.Process.{is_zombie_mode}
@@ -81,12 +76,6 @@ opens-waking {new = new} opens awake = record {
 -- at is what the fields show, and k the kernel's value
 pub running-now : {at k : Kernel} (i : ℕ) → at ≡ k → Runs k i → holds table.is_running (slot at.table.places i) ≡ true
 running-now i same runs = subst (λ (y : Kernel). holds table.is_running (slot y.table.places i) ≡ true) (sym same) (running-at runs.sound i runs.active)
-
--- behind two steps that read the disk
-pub running-read : {k a b at : Kernel} (i : ℕ) → HasRead k a → HasRead a b → at ≡ b → Runs k i → holds table.is_running (slot at.table.places i) ≡ true
-running-read {k} {a} {b} {at} i first second same runs =
-    let places : at.table ≡ k.table = ap (λ (y : Kernel). y.table) (same ∙ second.same) ∙ ap (λ (y : Kernel). y.table) first.same in
-    ap (λ (t : Places). holds table.is_running (slot t.places i)) places ∙ running-at runs.sound i runs.active
 
 -- it runs still, with what doesn't say whether it runs
 pub still-runs : (f : Process → Process) → ((p : Process) → table.is_running (f p) ≡ table.is_running p) → (os : List (Option Process)) (i : ℕ) → holds table.is_running (slot os i) ≡ true

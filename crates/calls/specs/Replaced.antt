@@ -1,4 +1,4 @@
--- What exec finds, and what a program begins with.
+-- What exec and chdir find, and what a program begins with.
 use Rattle.std.specs.Prelude.{IfSome, List, Some, slice_set, ℕ, ◌≡◌}
 use Rattle.kernel.specs.Kernel.{Kernel, argument}
 use Rattle.programs.specs.declared.executing.Started.{Started}

@@ -1,9 +1,10 @@
 //! The calls: each row of the table of calls is a function.
-ghost use Rattle.std.specs.Prelude.{◌≡◌, ◌≤◌, Some};
-ghost use Rattle.calls.specs.Acts.{IsBegun, Runs, Tries, called, outcome_at};
+ghost use Rattle.std.specs.Prelude.{◌≡◌, ◌≢◌, ◌≤◌, Some, true};
+ghost use Rattle.calls.specs.Acts.{Acts, ActsOnDisk, IsBegun, Runs, Tries, called, is_apart, outcome_at};
 ghost use Rattle.calls.specs.Does.{Dispatches, LeavesTree};
 ghost use Rattle.kernel.specs.Kernel.{state_of};
 ghost use Rattle.unixmodel.specs.Calls.{call_of};
+ghost use Rattle.unixmodel.specs.declared.call.Call.TheVariants as Call;
 ghost use Rattle.unixmodel.specs.Failures.{Rises};
 
 use crate::descriptor_calls::{close, dup, pipe};
@@ -15,7 +16,7 @@ use crate::open_calls::{chdir, open};
 use crate::outcome::{Came, settle};
 use crate::process_calls::{exit, fork, getpid, kill, sbrk, sleep, uptime, wait};
 use crate::transfer_calls::{read, write};
-use blockdev::BlockDev;
+use blockdev::{BlockDev, DeviceFault};
 use console::Out;
 use kernel::Kernel;
 use kernel::numbers::low;
@@ -61,6 +62,56 @@ pub(crate) fn begin<D: BlockDev, T: Translate + Drop>(kernel: &mut Kernel<D, T>,
     kernel.enter();
 }
 
+// A call that touches neither the disk nor the console.
+fn act_apart<D: BlockDev, T: Translate + Drop>(
+    kernel: &mut Kernel<D, T>,
+    at: usize,
+    call: Call,
+) -> Came
+    requires runs { Runs kernel.old at }
+    requires apart { is_apart call ≡ true }
+    ensures { Acts kernel.old kernel.new at (Some call) result }
+{
+    match call {
+        Call::Fork => fork(kernel, at),
+        Call::Exit => exit(kernel, at),
+        Call::Wait => wait(kernel, at),
+        Call::Kill => kill(kernel, at),
+        Call::Pipe => pipe(kernel, at),
+        Call::Getpid => getpid(kernel, at),
+        Call::Sleep => sleep(kernel, at),
+        Call::Uptime => uptime(kernel, at),
+        Call::Sbrk => sbrk(kernel, at),
+        Call::Dup => dup(kernel, at),
+        _ => unreachable!(),
+    }
+}
+
+// A call that doesn't touch the console.
+fn act_silently<D: BlockDev, T: Translate + Drop>(
+    kernel: &mut Kernel<D, T>,
+    at: usize,
+    call: Call,
+) -> Result<Came, DeviceFault>
+    requires runs { Runs kernel.old at }
+    requires silent { call ≢ Call.Write }
+    ensures { ActsOnDisk kernel.old kernel.new at (Some call) result }
+{
+    match call {
+        Call::Read => read(kernel, at),
+        Call::Close => close(kernel, at),
+        Call::Fstat => fstat(kernel, at),
+        Call::Exec => exec(kernel, at),
+        Call::Chdir => chdir(kernel, at),
+        Call::Open => open(kernel, at),
+        Call::Mknod => mknod(kernel, at),
+        Call::Unlink => unlink(kernel, at),
+        Call::Link => link(kernel, at),
+        Call::Mkdir => mkdir(kernel, at),
+        _ => Ok(act_apart(kernel, at, call)),
+    }
+}
+
 // A call that has begun, but for what it comes to; a number of no call is refused. `Device`, `Console`: the device failed, the
 // console did.
 fn act<D: BlockDev, T: Translate + Drop, W: Out>(
@@ -73,29 +124,12 @@ fn act<D: BlockDev, T: Translate + Drop, W: Out>(
     ensures tries { Tries kernel.old kernel.new at (outcome_at (state_of kernel.old) at call) (W.contents console.old) (W.contents console.new) (Rises (W.failures console.old) (W.failures console.new)) result }
     ensures later { W.failures console.old ≤ W.failures console.new }
 {
+    let Some(call) = call else {
+        return Ok(Came::Refuses);
+    };
     match call {
-        Some(Call::Fork) => Ok(fork(kernel, at)),
-        Some(Call::Read) => Ok(read(kernel, at)?),
-        Some(Call::Write) => write(kernel, at, console),
-        Some(Call::Exit) => Ok(exit(kernel, at)),
-        Some(Call::Wait) => Ok(wait(kernel, at)),
-        Some(Call::Kill) => Ok(kill(kernel, at)),
-        Some(Call::Pipe) => Ok(pipe(kernel, at)),
-        Some(Call::Getpid) => Ok(getpid(kernel, at)),
-        Some(Call::Sleep) => Ok(sleep(kernel, at)),
-        Some(Call::Uptime) => Ok(uptime(kernel, at)),
-        Some(Call::Sbrk) => Ok(sbrk(kernel, at)),
-        Some(Call::Dup) => Ok(dup(kernel, at)),
-        Some(Call::Close) => Ok(close(kernel, at)?),
-        Some(Call::Fstat) => Ok(fstat(kernel, at)?),
-        Some(Call::Exec) => Ok(exec(kernel, at)?),
-        Some(Call::Chdir) => Ok(chdir(kernel, at)?),
-        Some(Call::Open) => Ok(open(kernel, at)?),
-        Some(Call::Mknod) => Ok(mknod(kernel, at)?),
-        Some(Call::Unlink) => Ok(unlink(kernel, at)?),
-        Some(Call::Link) => Ok(link(kernel, at)?),
-        Some(Call::Mkdir) => Ok(mkdir(kernel, at)?),
-        None => Ok(Came::Refuses),
+        Call::Write => write(kernel, at, console),
+        _ => Ok(act_silently(kernel, at, call)?),
     }
 }
 

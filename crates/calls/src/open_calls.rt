@@ -3,6 +3,8 @@ ghost use Rattle.std.specs.Prelude.{◌≡◌, ◌≢◌, All, IfSome, List, Non
 ghost use Rattle.calls.specs.Acts.{ActsOnDisk, Runs};
 ghost use Rattle.calls.specs.Opened.{Asks, Cuts, IsOpenable, Opens, file_by, has_seat, may_open_by, target_by};
 ghost use Rattle.calls.specs.Reads.{ReadsDisk};
+ghost use Rattle.calls.specs.Replaced.{Reaches};
+ghost use Rattle.kernel.specs.Holding.{IsFolder};
 ghost use Rattle.unixmodel.specs.declared.call.Call.TheVariants as Call;
 ghost use Rattle.unixmodel.specs.Files.{find, slot};
 ghost use Rattle.unixmodel.specs.NameCalls.{creates, opened, truncates};
@@ -234,6 +236,44 @@ pub(crate) fn open<D: BlockDev, T: Translate + Drop>(
     }
 }
 
+// The process works in the directory that its path reaches; the one that it leaves goes where it has no links and nobody holds it any more.
+fn work_in<D: BlockDev, T: Translate + Drop>(
+    kernel: &mut Kernel<D, T>,
+    at: usize,
+    number: usize,
+) -> Result<Came, DeviceFault>
+    requires runs { Runs kernel.old at }
+    requires reaches { Reaches kernel.old at number }
+    requires directory { IsFolder (slot kernel.old.tree.files number) }
+    ensures { ActsOnDisk kernel.old kernel.new at (Some Call.Chdir) result }
+{
+    let left = home(kernel, at);
+    kernel.tree.is_whole();
+    kernel.tree.hold(number);
+    kernel.table.set_directory(at, number as u32);
+    if let Err(fault) = kernel.tree.drop_hold(left) {
+        stop(&mut kernel.table, &mut kernel.spaces, at);
+        return Err(fault);
+    }
+    Ok(Came::Answers(0))
+}
+
+// chdir to what its path reaches.
+fn chdir_found<D: BlockDev, T: Translate + Drop>(
+    kernel: &mut Kernel<D, T>,
+    at: usize,
+    number: usize,
+) -> Result<Came, DeviceFault>
+    requires runs { Runs kernel.old at }
+    requires reaches { Reaches kernel.old at number }
+    ensures { ActsOnDisk kernel.old kernel.new at (Some Call.Chdir) result }
+{
+    if stat(kernel, at, number)?.kind != DIRECTORY {
+        return Ok(Came::Refuses);
+    }
+    work_in(kernel, at, number)
+}
+
 /// chdir(path): the process works in another directory; the one that it leaves goes where it has no links and nobody holds it any
 /// more.
 pub(crate) fn chdir<D: BlockDev, T: Translate + Drop>(
@@ -250,16 +290,5 @@ pub(crate) fn chdir<D: BlockDev, T: Translate + Drop>(
     let Some(number) = find(kernel, at, &buffer[..count])? else {
         return Ok(Came::Refuses);
     };
-    if stat(kernel, at, number)?.kind != DIRECTORY {
-        return Ok(Came::Refuses);
-    }
-    let left = home(kernel, at);
-    kernel.tree.is_whole();
-    kernel.tree.hold(number);
-    kernel.table.set_directory(at, number as u32);
-    if let Err(fault) = kernel.tree.drop_hold(left) {
-        stop(&mut kernel.table, &mut kernel.spaces, at);
-        return Err(fault);
-    }
-    Ok(Came::Answers(0))
+    chdir_found(kernel, at, number)
 }

@@ -159,7 +159,10 @@ pub counting-kernel : (k : Kernel) (failures : ℕ) → IsKernel k → IsKernel 
 counting-kernel k failures is = with-tree k (record k.tree { failures = failures }) is (record { up = is.filed.up; used = λ up. counting-used failures (is.filed.used up) })
 
 -- over the fields: k is what they show, and now is the kernel's value
-module _ (k now : Kernel) (i : ℕ) (q : Process) (status : ℤ) (same : k ≡ now) (is : IsKernel now) (can : CanEnd now i) (at : slot (loaded now).places i ≡ Some q) where
+module _ (k now : Kernel) (i : ℕ) (q : Process) (status : ℤ) (same : k ≡ now) (is : IsKernel now) (can : CanEnd now i) (said : Some q ≡ slot (loaded now).places i) where
+  at : slot (loaded now).places i ≡ Some q
+  at = sym said
+
   module _ (z : slice_index now.spaces.registers 0 ≡ 0) (a : now.spaces.pc % 4 ≡ 0) where
     closes : IsKernel (finished k i q status)
     closes =

@@ -1,5 +1,5 @@
 //! The kernel's own steps: each touches the table, the spaces and the ticks, and keeps them together.
-ghost use Rattle.std.specs.Prelude.{false, ◌≡◌, ◌≢◌, ◌+◌, ◌<◌, ◌≤◌, ◌%◌, ◌^◌, length, Some, None, true, is_some, IfSome, IfNone, slice_index, unwrap_or, []};
+ghost use Rattle.std.specs.Prelude.{false, ◌≡◌, ◌≢◌, ◌+◌, ◌++◌, ◌∷◌, ◌<◌, ◌≤◌, ◌%◌, ◌^◌, length, Some, None, true, is_some, IfSome, IfNone, slice_index, unwrap_or, []};
 ghost use Rattle.std.specs.Prelude.{if◌then◌else◌, ◌==◌, option_map, OnOk, OnErr, Ok, Err};
 ghost use Rattle.std.specs.Io.KnownBytes.{Appends};
 ghost use Rattle.std.specs.Option.{option_copied};
@@ -7,18 +7,21 @@ ghost use Rattle.kernel.specs.Kernel.{answered, argument, begun, blocked, comput
 ghost use Rattle.kernel.specs.Sound.{CanRun, IsAwaiting, IsKernel, IsPending, can_answer};
 ghost use Rattle.kernel.specs.Sound.{CanEnd};
 ghost use Rattle.kernel.specs.Ready.{awaited, seen};
-ghost use Rattle.kernel.specs.Watch.{Watches};
+ghost use Rattle.kernel.specs.Descriptors.{all_closed, standing};
+ghost use Rattle.kernel.specs.Holding.{gone_nodes};
+ghost use Rattle.kernel.specs.Watch.{Watches, woken_by};
+ghost use Rattle.kernel.specs.declared.channels.Channel.TheVariants as channel;
 ghost use Rattle.files.specs.Pipes.{IsPiped};
 ghost use Rattle.console.specs.Output.{AppendsBeginning};
 ghost use Rattle.files.specs.Meant.{end_of, target_of};
 ghost use Rattle.files.specs.Places.{has_end, opens_of};
-ghost use Rattle.proc.specs.Places.{changed, has_pid, place_where, with_mode};
+ghost use Rattle.proc.specs.Places.{changed, exited, has_pid, place_where, with_mode};
 ghost use Rattle.spaces.specs.Spaces.{held_at};
 ghost use Rattle.tree.specs.Tree.{Serves};
 ghost use Rattle.unixmodel.specs.Console.{key};
 ghost use Rattle.unixmodel.specs.Cycle.{cycle};
 ghost use Rattle.unixmodel.specs.Failures.{Rises};
-ghost use Rattle.unixmodel.specs.Files.{slot};
+ghost use Rattle.unixmodel.specs.Files.{put, slot};
 ghost use Rattle.unixmodel.specs.Meaning.{Computed};
 ghost use Rattle.unixmodel.specs.Memory.{can_write, reach, read_bytes};
 ghost use Rattle.unixmodel.specs.declared.trap.Access.TheVariants.{Load};
@@ -31,6 +34,7 @@ mod show;
 use crate::channels::{Channel, wakeup};
 use crate::descriptors::{close_all, let_go, named};
 use crate::ready::Awaited;
+use arrayvec::ArrayVec;
 use blockdev::{BlockDev, DeviceFault};
 use console::{Console, Out, OutFault};
 use files::{End, Files, Target};
@@ -97,6 +101,33 @@ pub fn stop<T: Translate + Drop>(table: &mut Table, spaces: &mut Spaces<T>, at: 
     ensures spaces { spaces.new ≡ idle spaces.old }
 {
     leave(table, spaces, at, Mode::Ready);
+}
+
+// The process of a place ends: its descriptors are closed, who may wait for that is woken, and none runs. The nodes that it held are
+// told.
+fn end<T: Translate + Drop>(
+    table: &mut Table,
+    files: &mut Files,
+    spaces: &mut Spaces<T>,
+    at: usize,
+    process: Process,
+    status: i32,
+) -> ArrayVec<u32, 17>
+    requires within { at < 64 }
+    requires piped { IsPiped spaces.old.pipes (opens_of files.old) }
+    ensures nodes { result.items ≡ gone_nodes files.old process.descriptors ++ process.directory ∷ [] }
+    ensures table { table.new ≡ woken_by channel.Bytes (woken_by channel.Children (exited (record table.old { places = put table.old.places at process }) at status)) }
+    ensures files { files.new ≡ all_closed files.old process.descriptors }
+    ensures spaces { spaces.new ≡ record (idle spaces.old) { pipes = standing spaces.old.pipes (opens_of files.new) } }
+{
+    let mut nodes = close_all(files, spaces, &process.descriptors);
+    nodes.push(process.directory);
+    table.put(at, process);
+    table.exit(at, status);
+    wakeup(table, Channel::Children);
+    wakeup(table, Channel::Bytes);
+    spaces.deactivate();
+    nodes
 }
 
 impl<D: BlockDev, T: Translate + Drop> Kernel<D, T> {
@@ -279,13 +310,14 @@ impl<D: BlockDev, T: Translate + Drop> Kernel<D, T> {
             unreachable!()
         };
         let halted = halted_after(process.pid, status, self.halted);
-        let mut nodes = close_all(&mut self.files, &mut self.spaces, &process.descriptors);
-        nodes.push(process.directory);
-        self.table.put(at, process);
-        self.table.exit(at, status);
-        wakeup(&mut self.table, Channel::Children);
-        wakeup(&mut self.table, Channel::Bytes);
-        self.spaces.deactivate();
+        let nodes = end(
+            &mut self.table,
+            &mut self.files,
+            &mut self.spaces,
+            at,
+            process,
+            status,
+        );
         self.halted = halted;
         let_go(&mut self.tree, nodes.as_slice())
     }

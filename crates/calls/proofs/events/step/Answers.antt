@@ -9,7 +9,7 @@ use Rattle.calls.proofs.events.step.Goals as goal
 pub returns-in_err-instruct-in-Some-clause-does : goal.returns-in_err-instruct-in-Some-clause-does
 returns-in_err-instruct-in-Some-clause-does g c =
     let e = err_from_is_err_and c.from_residual.result c.from_residual.ensures.1 in
-    let active = sym c.active.ensures ∙ c.in-Some.is in
+    let active = sym c.in-Some.ensures in
     let same = next-executes c.args.kernel.now c.in-Some.at c.is_sound.ensures.sound active in
     rw (e.1, e.2) (does-err _ _ _ _ _ _ _ same c.in_err-instruct-in-Some.ensures.gives)
 

@@ -1,6 +1,9 @@
+use Rattle.std.proofs.Common.{arith}
 use Rattle.calls.proofs.Execs.{exec-lost, exec-pathless, reaches}
+use Rattle.calls.proofs.Homes.{read-runs}
 use Rattle.calls.proofs.Names.{names-up}
 use Rattle.calls.proofs.Opens.{after-look}
+use Rattle.calls.proofs.Served.{err-lost}
 use Rattle.calls.proofs.Stats.{reads-ok}
 use Rattle.unixmodel.specs.declared.call.Call.TheVariants.{Exec}
 use Rattle.calls.proofs.exec_call.exec.Goals as goal
@@ -11,8 +14,19 @@ returns-in_default g c = exec-pathless c.args.kernel.now c.args.at c.requires c.
 pub returns-in_default-2 : goal.returns-in_default-2
 returns-in_default-2 g c = exec-lost c.args.kernel.now c.args.at c.requires _ _ _ c.in-Some.ensures.path (reads-ok _ c.find.result _ c.in_ok-number.was c.find.ensures) c.in_default-2.is
 
-pub exec_found-requires-clause-reaches : goal.exec_found-requires-clause-reaches
-exec_found-requires-clause-reaches g c = reaches c.args.kernel.now c.args.at c.requires _ _ _ c.in-Some.ensures.path (reads-ok _ c.find.result _ c.in_ok-number.was c.find.ensures) _ c.in-Some-2.is
+pub exec_found-requires : goal.exec_found-requires
+exec_found-requires g c =
+    let reads = reads-ok _ c.find.result _ c.in_ok-number.was c.find.ensures in
+    record { runs = read-runs c.args.kernel.now _ c.args.at reads.0 c.requires; reaches = reaches c.args.kernel.now c.args.at c.requires _ _ _ c.in-Some.ensures.path reads _ c.in-Some-2.is }
+
+pub find-requires : goal.find-requires
+find-requires g c = c.requires
+
+pub copy_path-requires : goal.copy_path-requires
+copy_path-requires g c = record { active = c.requires.active; place = omega arith }
+
+pub returns-in_err-number : goal.returns-in_err-number
+returns-in_err-number g c = err-lost c.args.kernel.now _ c.args.at Exec c.from_residual.result c.from_residual.ensures.0 c.in_err-number.ensures
 
 pub returns : goal.returns
 returns g c = after-look c.args.kernel.now _ _ c.args.at (reads-ok _ c.find.result _ c.in_ok-number.was c.find.ensures).0 (names-up c.args.kernel.now c.args.at c.requires) Exec _ c.exec_found.ensures

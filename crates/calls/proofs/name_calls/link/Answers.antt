@@ -1,7 +1,9 @@
+use Rattle.std.proofs.Common.{arith}
 use Rattle.kernel.specs.View.{kernel_of}
 use Rattle.tree.specs.Tree.{is_device}
 use Rattle.calls.proofs.Woken.{running-now, watched-refuse}
 use Rattle.calls.proofs.Links.{link-done, link-fails, link-newless, link-oldless, link-sound}
+use Rattle.calls.proofs.Names.{names-may}
 use Rattle.calls.proofs.name_calls.link.Goals as goal
 
 pub returns-in_default : goal.returns-in_default
@@ -24,3 +26,12 @@ returns-in-Ok g c = link-done c.args.kernel.now c.args.at c.requires c.home-dire
 
 pub returns-in-Err : goal.returns-in-Err
 returns-in-Err g c = rw (c.refuse.ensures.table, c.refuse.ensures.spaces) (link-fails c.args.kernel.now c.args.at c.requires c.home-directory.result c.home-directory.ensures _ _ c.in-Some.ensures.path c.in-Some-copy_path.ensures.path c.link.new.self c.link.result (kernel_of c.kernel.inside) c.kernel.view_is c.link.ensures c.in-Err.fault c.in-Err.is c.refuse.result c.refuse.ensures.came c.refuse.ensures.failed)
+
+pub link-requires : goal.link-requires
+link-requires g c = let may = names-may c.args.kernel.now c.args.at c.requires (kernel_of c.kernel.inside) c.kernel.view_is c.home-directory.result c.home-directory.ensures in record { up = may.0; rules = may.1; directory = may.2; path = c.in-Some-copy_path.ensures.bytes }
+
+pub copy_path-requires : goal.copy_path-requires
+copy_path-requires g c = record { active = c.requires.active; place = omega arith }
+
+pub copy_path-requires-2 : goal.copy_path-requires-2
+copy_path-requires-2 g c = record { active = c.requires.active; place = omega arith }

@@ -1,7 +1,9 @@
+use Rattle.std.proofs.Common.{arith}
 use Rattle.kernel.specs.View.{kernel_of}
 use Rattle.tree.specs.Tree.{is_device}
 use Rattle.calls.proofs.Woken.{running-now, watched-refuse}
 use Rattle.calls.proofs.Unlinks.{unlink-done, unlink-fails, unlink-pathless, unlink-sound}
+use Rattle.calls.proofs.Names.{names-may}
 use Rattle.calls.proofs.name_calls.unlink.Goals as goal
 
 pub returns-in_default : goal.returns-in_default
@@ -21,3 +23,9 @@ returns-in-Ok g c = unlink-done c.args.kernel.now c.args.at c.requires c.home-di
 
 pub returns-in-Err : goal.returns-in-Err
 returns-in-Err g c = rw (c.refuse.ensures.table, c.refuse.ensures.spaces) (unlink-fails c.args.kernel.now c.args.at c.requires c.home-directory.result c.home-directory.ensures _ c.in-Some.ensures.path c.unlink.new.self c.unlink.result (kernel_of c.kernel.inside) c.kernel.view_is c.unlink.ensures c.in-Err.fault c.in-Err.is c.refuse.result c.refuse.ensures.came c.refuse.ensures.failed)
+
+pub unlink-requires : goal.unlink-requires
+unlink-requires g c = let may = names-may c.args.kernel.now c.args.at c.requires (kernel_of c.kernel.inside) c.kernel.view_is c.home-directory.result c.home-directory.ensures in record { up = may.0; rules = may.1; directory = may.2 }
+
+pub copy_path-requires : goal.copy_path-requires
+copy_path-requires g c = record { active = c.requires.active; place = omega arith }

@@ -1,13 +1,13 @@
-use Rattle.std.proofs.Common.{sym, ◌∙◌}
+use Rattle.std.proofs.Common.{sym}
 use Rattle.kernel.specs.View.{kernel_of}
 use Rattle.calls.proofs.Woken.{running-now, watched-stop}
-use Rattle.calls.proofs.Opens.{cut-done}
-use Rattle.calls.proofs.Served.{ok-told, on-err}
+use Rattle.calls.proofs.Opens.{cut-done, uncut}
+use Rattle.calls.proofs.Served.{ok-told, on-err, tree-lost}
 use Rattle.calls.proofs.Stats.{read-fails}
 use Rattle.calls.proofs.open_calls.cut.Goals as goal
 
 pub invariant_of-kernel : goal.invariant_of-kernel
-invariant_of-kernel g c = record { sound = (cut-done c.requires.runs c.args.flags c.args.number c.kernel.view_is (sym c.truncates.ensures ∙ c.if-not-truncates.false) c.truncate.new.self (ok-told _ c.truncate.result _ c.in-Ok.is c.truncate.ensures.told) c.truncate.ensures.cause.later c.is_whole.ensures).runs.sound; watched = c.kernel.invariant.watched }
+invariant_of-kernel g c = record { sound = (cut-done c.requires.runs c.args.flags c.args.number c.kernel.view_is (sym c.if-not-truncates.ensures) c.truncate.new.self (ok-told _ c.truncate.result _ c.in-Ok.is c.truncate.ensures.told) c.truncate.ensures.cause.later c.is_whole.ensures).runs.sound; watched = c.kernel.invariant.watched }
 
 pub invariant_of-kernel-in-Err : goal.invariant_of-kernel-in-Err
 invariant_of-kernel-in-Err g c =
@@ -18,4 +18,10 @@ invariant_of-kernel-in-Err g c =
     })
 
 pub returns-in-Ok : goal.returns-in-Ok
-returns-in-Ok g c = cut-done c.requires.runs c.args.flags c.args.number c.kernel.view_is (sym c.truncates.ensures ∙ c.if-not-truncates.false) c.truncate.new.self (ok-told _ c.truncate.result _ c.in-Ok.is c.truncate.ensures.told) c.truncate.ensures.cause.later c.is_whole.ensures
+returns-in-Ok g c = cut-done c.requires.runs c.args.flags c.args.number c.kernel.view_is (sym c.if-not-truncates.ensures) c.truncate.new.self (ok-told _ c.truncate.result _ c.in-Ok.is c.truncate.ensures.told) c.truncate.ensures.cause.later c.is_whole.ensures
+
+pub returns-then-not-truncates : goal.returns-then-not-truncates
+returns-then-not-truncates g c = uncut c.requires.runs c.args.flags c.args.number (sym c.if-not-truncates.ensures)
+
+pub returns-in-Err : goal.returns-in-Err
+returns-in-Err g c = tree-lost c.kernel.view_is c.truncate.result c.in-Err.fault c.in-Err.is c.truncate.ensures

@@ -1,28 +1,44 @@
-use Rattle.std.proofs.Common.{sym, ◌∙◌}
-use Rattle.calls.proofs.Opens.{cut-ok, may-open-cut, open-closed, open-found, open-full, open-node, node-then, seat-cut}
+use Rattle.std.proofs.Common.{sym}
+use Rattle.calls.proofs.Homes.{read-runs}
+use Rattle.calls.proofs.Names.{names-up}
+use Rattle.calls.proofs.Opens.{after-look, cut-ok, may-open-cut, open-closed, open-found, open-full, open-node, node-then, seat-cut}
+use Rattle.calls.proofs.Served.{err-lost}
 use Rattle.calls.proofs.Stats.{reads-ok}
+use Rattle.unixmodel.specs.declared.call.Call.TheVariants.{Open}
 use Rattle.calls.proofs.open_calls.open_found.Goals as goal
 
 pub stat-requires-clause-node : goal.stat-requires-clause-node
 stat-requires-clause-node g c = open-node c.args.kernel.now c.args.at c.requires.runs c.args.number c.args.flags c.requires.asks
 
 pub returns-then-not-may_open : goal.returns-then-not-may_open
-returns-then-not-may_open g c = open-closed c.args.kernel.now c.args.at c.requires.runs c.args.number c.args.flags c.requires.asks c.stat.new.kernel c.in_ok-told.told (reads-ok _ c.stat.result _ c.in_ok-told.was c.stat.ensures) (sym c.may_open.ensures ∙ c.if-not-may_open.true)
+returns-then-not-may_open g c = open-closed c.args.kernel.now c.args.at c.requires.runs c.args.number c.args.flags c.requires.asks c.stat.new.kernel c.in_ok-told.told (reads-ok _ c.stat.result _ c.in_ok-told.was c.stat.ensures) (sym c.if-not-may_open.ensures)
 
 pub returns-then-not-has_seat : goal.returns-then-not-has_seat
-returns-then-not-has_seat g c = open-full c.args.kernel.now c.args.at c.requires.runs c.args.number c.args.flags c.requires.asks c.stat.new.kernel c.in_ok-told.told (reads-ok _ c.stat.result _ c.in_ok-told.was c.stat.ensures) (sym c.has_seat.ensures ∙ c.if-not-has_seat.true)
+returns-then-not-has_seat g c = open-full c.args.kernel.now c.args.at c.requires.runs c.args.number c.args.flags c.requires.asks c.stat.new.kernel c.in_ok-told.told (reads-ok _ c.stat.result _ c.in_ok-told.was c.stat.ensures) (sym c.if-not-has_seat.ensures)
 
 pub cut-requires-clause-node : goal.cut-requires-clause-node
 cut-requires-clause-node g c = node-then c.args.kernel.now c.args.at c.requires.runs c.args.number c.args.flags c.requires.asks c.stat.new.kernel c.in_ok-told.told (reads-ok _ c.stat.result _ c.in_ok-told.was c.stat.ensures)
 
 pub open_on-descriptor-requires-clause-may : goal.open_on-descriptor-requires-clause-may
-open_on-descriptor-requires-clause-may g c = may-open-cut c.args.kernel.now c.args.at c.requires.runs c.args.number c.args.flags c.requires.asks c.stat.new.kernel c.in_ok-told.told (reads-ok _ c.stat.result _ c.in_ok-told.was c.stat.ensures) (sym c.may_open.ensures ∙ c.if-not-may_open.false) c.cut.new.kernel (cut-ok c.cut.result _ c.in_ok-cut.was c.cut.ensures)
+open_on-descriptor-requires-clause-may g c = may-open-cut c.args.kernel.now c.args.at c.requires.runs c.args.number c.args.flags c.requires.asks c.stat.new.kernel c.in_ok-told.told (reads-ok _ c.stat.result _ c.in_ok-told.was c.stat.ensures) (sym c.if-not-may_open.ensures) c.cut.new.kernel (cut-ok c.cut.result _ c.in_ok-cut.was c.cut.ensures)
 
 pub open_on-descriptor-requires-clause-seat : goal.open_on-descriptor-requires-clause-seat
-open_on-descriptor-requires-clause-seat g c = seat-cut c.args.kernel.now c.args.at c.requires.runs c.args.number c.args.flags c.requires.asks c.stat.new.kernel c.in_ok-told.told (reads-ok _ c.stat.result _ c.in_ok-told.was c.stat.ensures) (sym c.may_open.ensures ∙ c.if-not-may_open.false) c.cut.new.kernel (cut-ok c.cut.result _ c.in_ok-cut.was c.cut.ensures) (sym c.has_seat.ensures ∙ c.if-not-has_seat.false)
+open_on-descriptor-requires-clause-seat g c = seat-cut c.args.kernel.now c.args.at c.requires.runs c.args.number c.args.flags c.requires.asks c.stat.new.kernel c.in_ok-told.told (reads-ok _ c.stat.result _ c.in_ok-told.was c.stat.ensures) (sym c.if-not-may_open.ensures) c.cut.new.kernel (cut-ok c.cut.result _ c.in_ok-cut.was c.cut.ensures) (sym c.if-not-has_seat.ensures)
 
 pub open_on-descriptor-requires-clause-runs : goal.open_on-descriptor-requires-clause-runs
 open_on-descriptor-requires-clause-runs g c = (cut-ok c.cut.result _ c.in_ok-cut.was c.cut.ensures).runs
 
 pub returns : goal.returns
-returns g c = open-found c.args.kernel.now c.args.at c.requires.runs c.args.number c.args.flags c.requires.asks c.stat.new.kernel c.in_ok-told.told (reads-ok _ c.stat.result _ c.in_ok-told.was c.stat.ensures) (sym c.may_open.ensures ∙ c.if-not-may_open.false) c.cut.new.kernel (cut-ok c.cut.result _ c.in_ok-cut.was c.cut.ensures) c.open_on-descriptor.new.kernel c.open_on-descriptor.result c.open_on-descriptor.ensures
+returns g c = open-found c.args.kernel.now c.args.at c.requires.runs c.args.number c.args.flags c.requires.asks c.stat.new.kernel c.in_ok-told.told (reads-ok _ c.stat.result _ c.in_ok-told.was c.stat.ensures) (sym c.if-not-may_open.ensures) c.cut.new.kernel (cut-ok c.cut.result _ c.in_ok-cut.was c.cut.ensures) c.open_on-descriptor.new.kernel c.open_on-descriptor.result c.open_on-descriptor.ensures
+
+pub stat-requires-clause-runs : goal.stat-requires-clause-runs
+stat-requires-clause-runs g c = c.requires.runs
+
+pub returns-in_err-told : goal.returns-in_err-told
+returns-in_err-told g c = err-lost c.args.kernel.now _ c.args.at Open c.from_residual.result c.from_residual.ensures.0 c.in_err-told.ensures
+
+pub cut-requires-clause-runs : goal.cut-requires-clause-runs
+cut-requires-clause-runs g c = read-runs c.args.kernel.now _ c.args.at (reads-ok _ c.stat.result _ c.in_ok-told.was c.stat.ensures).0 c.requires.runs
+
+pub returns-in_err-cut : goal.returns-in_err-cut
+returns-in_err-cut g c = after-look c.args.kernel.now _ _ c.args.at (reads-ok _ c.stat.result _ c.in_ok-told.was c.stat.ensures).0 (names-up c.args.kernel.now c.args.at c.requires.runs) Open _ (err-lost c.stat.new.kernel c.cut.new.kernel c.args.at Open c.from_residual-in_err-cut.result c.from_residual-in_err-cut.ensures.0 c.in_err-cut.ensures)

@@ -4,10 +4,10 @@ use Rattle.calls.proofs.Kills.{kills-none, kills-other, kills-self}
 use Rattle.calls.proofs.process_calls.kill.Goals as goal
 
 pub returns-in_default : goal.returns-in_default
-returns-in_default g c = kills-none c.requires (rw c.argument.ensures at (sym c.named.ensures ∙ c.in_default.is))
+returns-in_default g c = kills-none c.requires (rw c.argument.ensures at (sym c.in_default.ensures))
 
 pub returns-then-place-at : goal.returns-then-place-at
-returns-then-place-at g c = kills-self c.requires (rw c.argument.ensures at (sym c.named.ensures ∙ c.in-Some.is ∙ ap Some c.if-place-at.true))
+returns-then-place-at g c = kills-self c.requires (rw c.argument.ensures at (sym c.in-Some.ensures ∙ ap Some c.if-place-at.true))
 
 pub returns : goal.returns
-returns g c = rw c.mark.ensures (comes-waking (kills-other c.requires c.in-Some.place (rw c.argument.ensures at (sym c.named.ensures ∙ c.in-Some.is)) c.if-place-at.false) c.mark.new.self.table.awake)
+returns g c = rw c.mark.ensures (comes-waking (kills-other c.requires c.in-Some.place (rw c.argument.ensures at (sym c.in-Some.ensures)) c.if-place-at.false) c.mark.new.self.table.awake)

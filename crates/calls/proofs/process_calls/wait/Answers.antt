@@ -11,4 +11,4 @@ returns-then-not-has_child g c = elim c.then-not-has_child.branch [
 
 pub returns : goal.returns
 returns g c =
-    wait-begins c.requires c.pid-parent.result c.pid-parent.ensures c.kernel.view_is (sym c.has_child.ensures ∙ c.if-not-has_child.false) (rw c.argument.ensures at (sym c.can_answer.ensures ∙ c.if-not-can_answer.false)) (rw c.pending-pending.ensures at c.wait_on.ensures)
+    wait-begins c.requires c.pid-parent.result c.pid-parent.ensures c.kernel.view_is (sym c.if-not-has_child.ensures) (rw c.argument.ensures at (sym c.if-not-can_answer.ensures)) (rw c.pending-pending.ensures at c.wait_on.ensures)

@@ -14,12 +14,12 @@ use Rattle.calls.proofs.process_calls.wait_on.Goals as goal
 
 pub invariant_of-kernel : goal.invariant_of-kernel
 invariant_of-kernel g c =
-    let blocks = wait-blocks c.requires.runs c.pid-parent.result c.pid-parent.ensures c.args.pending c.requires.number c.kernel.view_is c.requires.can (sym c.reap.ensures.reaped ∙ c.in_default.is) in
+    let blocks = wait-blocks c.requires.runs c.pid-parent.result c.pid-parent.ensures c.args.pending c.requires.number c.kernel.view_is c.requires.can (sym c.in_default.ensures.reaped) in
     rw c.reap.ensures.places (record { sound = blocks.comes.sound; watched = watched-without c.kernel.inside.table c.kernel.invariant.watched (zombie_place c.kernel.inside.table c.pid-parent.result) })
 
 pub returns-in_default : goal.returns-in_default
 returns-in_default g c =
-    let blocks = wait-blocks c.requires.runs c.pid-parent.result c.pid-parent.ensures c.args.pending c.requires.number c.kernel.view_is c.requires.can (sym c.reap.ensures.reaped ∙ c.in_default.is) in
+    let blocks = wait-blocks c.requires.runs c.pid-parent.result c.pid-parent.ensures c.args.pending c.requires.number c.kernel.view_is c.requires.can (sym c.in_default.ensures.reaped) in
     rw c.reap.ensures.places blocks
 
 pub write_status-requires-clause-space : goal.write_status-requires-clause-space
@@ -30,23 +30,23 @@ write_status-requires-clause-can g c = ap (λ (k : Kernel). can_answer (held_at 
 
 pub destroy-requires-clause-space : goal.destroy-requires-clause-space
 destroy-requires-clause-space g c =
-    let x = collects c.requires.runs c.pid-parent.result c.pid-parent.ensures c.args.pending c.requires.number c.kernel.view_is (sym c.reap.ensures.reaped ∙ c.in-Some.is) in
+    let x = collects c.requires.runs c.pid-parent.result c.pid-parent.ensures c.args.pending c.requires.number c.kernel.view_is (sym c.in-Some.ensures.reaped) in
     let fits : SFits w32 c.in-Some.reaped.status = search rules in
     rw (c.write_status.ensures, to_z-of_z w32 c.in-Some.reaped.status fits) x.stands
 
 pub destroy-requires-clause-idle : goal.destroy-requires-clause-idle
 destroy-requires-clause-idle g c =
-    let x = collects c.requires.runs c.pid-parent.result c.pid-parent.ensures c.args.pending c.requires.number c.kernel.view_is (sym c.reap.ensures.reaped ∙ c.in-Some.is) in
+    let x = collects c.requires.runs c.pid-parent.result c.pid-parent.ensures c.args.pending c.requires.number c.kernel.view_is (sym c.in-Some.ensures.reaped) in
     rw c.write_status.ensures x.apart
 
 pub invariant_of-kernel-2 : goal.invariant_of-kernel-2
 invariant_of-kernel-2 g c =
-    let x = collects c.requires.runs c.pid-parent.result c.pid-parent.ensures c.args.pending c.requires.number c.kernel.view_is (sym c.reap.ensures.reaped ∙ c.in-Some.is) in
+    let x = collects c.requires.runs c.pid-parent.result c.pid-parent.ensures c.args.pending c.requires.number c.kernel.view_is (sym c.in-Some.ensures.reaped) in
     let fits : SFits w32 c.in-Some.reaped.status = search rules in
     rw (c.destroy.ensures, c.write_status.ensures, c.reap.ensures.places, to_z-of_z w32 c.in-Some.reaped.status fits) (record { sound = x.goes.comes.sound; watched = watched-without c.kernel.inside.table c.kernel.invariant.watched (zombie_place c.kernel.inside.table c.pid-parent.result) })
 
 pub returns : goal.returns
 returns g c =
-    let x = collects c.requires.runs c.pid-parent.result c.pid-parent.ensures c.args.pending c.requires.number c.kernel.view_is (sym c.reap.ensures.reaped ∙ c.in-Some.is) in
+    let x = collects c.requires.runs c.pid-parent.result c.pid-parent.ensures c.args.pending c.requires.number c.kernel.view_is (sym c.in-Some.ensures.reaped) in
     let fits : SFits w32 c.in-Some.reaped.status = search rules in
     rw (c.destroy.ensures, c.write_status.ensures, c.reap.ensures.places, to_z-of_z w32 c.in-Some.reaped.status fits, c.from.ensures) x.goes

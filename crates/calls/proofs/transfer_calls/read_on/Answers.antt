@@ -1,5 +1,4 @@
-use Rattle.std.proofs.Common.{refl}
-use Rattle.calls.proofs.Transfers.{goes-transfers, not-awaited, target-some}
+use Rattle.calls.proofs.Transfers.{target-some}
 use Rattle.files.specs.declared.file.End.TheVariants.{Read}
 use Rattle.calls.proofs.transfer_calls.read_on.Goals as goal
 

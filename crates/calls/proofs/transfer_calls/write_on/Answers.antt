@@ -1,5 +1,4 @@
-use Rattle.std.proofs.Common.{refl}
-use Rattle.calls.proofs.Transfers.{goes-transfers, not-piped, target-some}
+use Rattle.calls.proofs.Transfers.{goes-transfers, target-some}
 use Rattle.files.specs.declared.file.End.TheVariants.{Write}
 use Rattle.calls.proofs.transfer_calls.write_on.Goals as goal
 

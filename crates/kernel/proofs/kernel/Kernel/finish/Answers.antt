@@ -1,4 +1,4 @@
-use Rattle.std.proofs.Common.{ap, arith, refl, subst, sym, length, ◌<◌, ◌∙◌, ◌++◌, ◌∷◌, [], ◌≡◌}
+use Rattle.std.proofs.Common.{arith, refl, subst, length, ◌<◌, ◌∙◌, ◌++◌, ◌∷◌, [], ◌≡◌}
 use Rattle.std.proofs.lemmas.Int.{to_z-of_z}
 use Rattle.std.specs.Int.{w32}
 use Rattle.std.specs.Prelude.{IfOk}
@@ -13,18 +13,18 @@ use Rattle.kernel.proofs.kernel.Kernel.finish.Goals as goal
 pub let_go-requires-clause-held : goal.let_go-requires-clause-held
 let_go-requires-clause-held g c =
     let s = c.is_sound.ensures in
-    rw (c.as_slice.ensures.value, c.push.ensures.items, c.close_all-nodes.ensures.nodes)
-    (finish-held (kernel_of c.self.inside) c.args.self.now c.args.at c.in-Some.process c.args.status c.self.view_is s.sound c.requires (sym c.whole.ensures.process ∙ c.in-Some.is) s.zero s.aligned)
+    rw (c.as_slice.ensures.value, c.end-nodes.ensures.nodes)
+    (finish-held (kernel_of c.self.inside) c.args.self.now c.args.at c.in-Some.process c.args.status c.self.view_is s.sound c.requires c.in-Some.ensures.process s.zero s.aligned)
 
 pub invariant_of-self : goal.invariant_of-self
 invariant_of-self g c =
     let s = c.is_sound.ensures in
     let k = kernel_of c.self.inside in
-    let all : c.as_slice.result.now ≡ gone_nodes k.files c.in-Some.process.descriptors ++ c.in-Some.process.directory ∷ [] = c.as_slice.ensures.value ∙ c.push.ensures.items ∙ ap (λ ns. ns ++ c.in-Some.process.directory ∷ []) c.close_all-nodes.ensures.nodes in
+    let all : c.as_slice.result.now ≡ gone_nodes k.files c.in-Some.process.descriptors ++ c.in-Some.process.directory ∷ [] = c.as_slice.ensures.value ∙ c.end-nodes.ensures.nodes in
     let low : c.args.at < length k.table.places = omega (arith, c.self.invariant.sound.all, c.in-Some.ensures.within) in
-    rw (c.wakeup-2.ensures, c.wakeup.ensures, c.halted_after-halted.ensures, c.exit.ensures, c.put.ensures, c.deactivate.ensures, c.close_all-nodes.ensures.pipes, c.close_all-nodes.ensures.files)
+    rw (c.halted_after-halted.ensures, c.end-nodes.ensures.table, c.end-nodes.ensures.spaces, c.end-nodes.ensures.files)
     (record {
-      sound = kernel-waking (finish-closes k c.args.self.now c.args.at c.in-Some.process _ c.self.view_is s.sound c.requires (sym c.whole.ensures.process ∙ c.in-Some.is) s.zero s.aligned c.let_go.new.tree c.let_go.result
+      sound = kernel-waking (finish-closes k c.args.self.now c.args.at c.in-Some.process _ c.self.view_is s.sound c.requires c.in-Some.ensures.process s.zero s.aligned c.let_go.new.tree c.let_go.result
           (subst (λ ns. IfOk c.let_go.result (λ done. c.let_go.new.tree ≡ counted (all_dropped k.tree ns) c.let_go.new.tree.failures)) all c.let_go.ensures.told) c.let_go.ensures.down) _;
       watched = finish-watched k.table c.self.invariant.watched c.args.at c.in-Some.process _ low _ refl _ refl;
     })
@@ -33,7 +33,10 @@ pub returns : goal.returns
 returns g c =
     let s = c.is_sound.ensures in
     let k = kernel_of c.self.inside in
-    let all : c.as_slice.result.now ≡ gone_nodes k.files c.in-Some.process.descriptors ++ c.in-Some.process.directory ∷ [] = c.as_slice.ensures.value ∙ c.push.ensures.items ∙ ap (λ ns. ns ++ c.in-Some.process.directory ∷ []) c.close_all-nodes.ensures.nodes in
-    rw (c.wakeup-2.ensures, c.wakeup.ensures, c.halted_after-halted.ensures, c.exit.ensures, c.put.ensures, c.deactivate.ensures, c.close_all-nodes.ensures.pipes, c.close_all-nodes.ensures.files)
-    (serves-waking _ _ _ (finish-serves k c.args.self.now c.args.at c.in-Some.process _ c.self.view_is s.sound c.requires (sym c.whole.ensures.process ∙ c.in-Some.is) c.let_go.new.tree c.let_go.result
+    let all : c.as_slice.result.now ≡ gone_nodes k.files c.in-Some.process.descriptors ++ c.in-Some.process.directory ∷ [] = c.as_slice.ensures.value ∙ c.end-nodes.ensures.nodes in
+    rw (c.halted_after-halted.ensures, c.end-nodes.ensures.table, c.end-nodes.ensures.spaces, c.end-nodes.ensures.files)
+    (serves-waking _ _ _ (finish-serves k c.args.self.now c.args.at c.in-Some.process _ c.self.view_is s.sound c.requires c.in-Some.ensures.process c.let_go.new.tree c.let_go.result
     (subst (λ ns. Serves k.tree c.let_go.new.tree c.let_go.result (λ done. c.let_go.new.tree ≡ counted (all_dropped k.tree ns) c.let_go.new.tree.failures)) all c.let_go.ensures) c.args.status (to_z-of_z w32 c.args.status c.ranges.status)))
+
+pub end-nodes-requires : goal.end-nodes-requires
+end-nodes-requires g c = record { within = c.in-Some.ensures.within; piped = c.self.invariant.sound.opened.piped }

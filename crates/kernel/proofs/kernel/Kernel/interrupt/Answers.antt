@@ -1,13 +1,13 @@
 use Rattle.kernel.proofs.Steps.{stop-keeps}
 use Rattle.kernel.proofs.Wakes.{left-watched, ticked-keeps}
-use Rattle.std.proofs.Common.{refl, sym, ◌%◌, ◌+◌, ◌∙◌, ◌^◌}
+use Rattle.std.proofs.Common.{refl, sym, ◌%◌, ◌+◌, ◌^◌}
 use Rattle.unixmodel.specs.declared.process.Mode.TheVariants.{Ready}
 use Rattle.kernel.proofs.kernel.Kernel.interrupt.Goals as goal
 
 pub leave-requires : goal.leave-requires
 leave-requires g c =
     let s = c.is_sound.ensures in
-    let active = sym c.active.ensures ∙ c.in-Some.is in
+    let active = sym c.in-Some.ensures in
     record {
       sound = stop-keeps c.args.self.now c.in-Some.at s.sound active s.zero s.aligned;
       watched = left-watched s.sound s.watched c.in-Some.at Ready active refl;

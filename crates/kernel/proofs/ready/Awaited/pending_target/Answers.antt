@@ -8,4 +8,4 @@ use Rattle.kernel.proofs.ready.Awaited.pending_target.Goals as goal
 
 pub returns-in-Some-file-clause-stands : goal.returns-in-Some-file-clause-stands
 returns-in-Some-file-clause-stands g c =
-    stands-open c.args.self.now.spaces.now (opens_of c.args.self.now.files.now) _ (file_of c.in-Some-file.file) (target_of c.in-Some-file.file.target) c.requires (slot-file c.args.self.now.files.now _ ∙ ap (option_map file_of) (sym c.file.ensures ∙ c.in-Some-file.is)) refl
+    stands-open c.args.self.now.spaces.now (opens_of c.args.self.now.files.now) _ (file_of c.in-Some-file.file) (target_of c.in-Some-file.file.target) c.requires (slot-file c.args.self.now.files.now _ ∙ ap (option_map file_of) (sym c.in-Some-file.ensures)) refl
