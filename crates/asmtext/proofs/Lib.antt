@@ -1,5 +1,5 @@
 mod LineLemmas
+mod LoopLemmas
 mod NameLemmas
 pub mod NumberLemmas
 mod PartLemmas
-mod WordLemmas

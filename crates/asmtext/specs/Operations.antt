@@ -2,6 +2,8 @@
 use Rattle.std.specs.Prelude.{ℕ}
 use Rattle.unixmodel.specs.declared.instr.Instr.{Instr}
 use Rattle.unixmodel.specs.declared.instr.Instr.TheVariants as instr
+use Rattle.asmtext.specs.declared.operations.BareOp.{BareOp}
+use Rattle.asmtext.specs.declared.operations.BareOp.TheVariants as bare
 use Rattle.asmtext.specs.declared.operations.BaseOp.{BaseOp}
 use Rattle.asmtext.specs.declared.operations.BaseOp.TheVariants as base
 use Rattle.asmtext.specs.declared.operations.NumberOp.{NumberOp}
@@ -32,6 +34,12 @@ based_instr base.Jalr = instr.Jalr
 abbrev pub upper_instr : UpperOp → ℕ → ℕ → Instr
 upper_instr upper.Lui = instr.Lui
 upper_instr upper.Auipc = instr.Auipc
+
+abbrev pub bare_instr : BareOp → Instr
+bare_instr bare.Fence = instr.Fence 0 0 0x0ff
+bare_instr bare.Ecall = instr.Ecall
+bare_instr bare.Ebreak = instr.Ebreak
+bare_instr bare.Return = instr.Jalr 0 1 0
 
 abbrev pub partial_instr : Partial → ℕ → Instr
 partial_instr (partial.Numbered op rd rs1) = numbered_instr op rd rs1

@@ -3,24 +3,24 @@ ghost use Rattle.std.specs.Prelude.{◌≡◌, IfOk, option_map};
 ghost use Rattle.unixmodel.specs.Statements as the;
 ghost use Rattle.unixmodel.specs.declared.instr.Instr.TheVariants as instr;
 ghost use Rattle.asmtext.specs.Forms.{form_of, size_of};
-ghost use Rattle.asmtext.specs.Operations.{based_instr, number_above, number_below, number_bits, numbered_instr, register_instr, upper_instr};
+ghost use Rattle.asmtext.specs.Operations.{bare_instr, based_instr, number_above, number_below, number_bits, numbered_instr, register_instr, upper_instr};
 ghost use Rattle.asmtext.specs.Statements.{statement_of};
 ghost use Rattle.asmtext.specs.Symbols.{parts_seen};
 
 use crate::mnemonics::{Width, Word};
 use crate::operands::{label, memory, number, register, string, target};
-use crate::operations::{BaseOp, NumberOp, Partial, RegisterOp, UpperOp};
+use crate::operations::{BareOp, BaseOp, NumberOp, Partial, RegisterOp, UpperOp};
 use crate::statement::{Leap, Statement, Target};
 use crate::tokens::Symbol;
 use std::alloc::{AllocError, Global};
 use unixmodel::instr::{BranchOp, Imm12, ImmOp, Instr, Reg};
 
 // op
-fn bare(instr: Instr, parts: &[&[Symbol]]) -> Option<Statement>
-    ensures { option_map statement_of result ≡ the.bare (the.Statement.Whole instr) (parts_seen parts.now) }
+fn bare(op: BareOp, parts: &[&[Symbol]]) -> Option<Statement>
+    ensures { option_map statement_of result ≡ the.bare (the.Statement.Whole (bare_instr op)) (parts_seen parts.now) }
 {
     match parts {
-        [] => Some(Statement::Whole(instr)),
+        [] => Some(Statement::Whole(op.instr())),
         _ => None,
     }
 }
@@ -274,7 +274,7 @@ pub fn statement_with(
         Word::Base(op) => based(alloc, op, parts),
         Word::Upper(op) => upper(alloc, op, parts),
         Word::Branch(op) => branch(alloc, op, parts),
-        Word::Bare(instr) => Ok(bare(instr, parts)),
+        Word::Bare(op) => Ok(bare(op, parts)),
         Word::JumpAndLink => jump_and_link(alloc, parts),
         Word::Jump => jump(alloc, parts),
         Word::LoadNumber => load_number(alloc, parts),

@@ -3,17 +3,36 @@ ghost use Rattle.std.specs.Prelude.{◌≡◌, ◌==◌, IfOk, map};
 ghost use Rattle.std.specs.Char.{is_ascii};
 ghost use Rattle.std.specs.List.{list_all};
 ghost use Rattle.unixmodel.specs.Statements as the;
-ghost use Rattle.unixmodel.specs.Tokens.{lines_of};
+ghost use Rattle.unixmodel.specs.Tokens.{lines_of, parts_of};
 ghost use Rattle.asmtext.specs.Statements.{line_seen, said_seen};
+ghost use Rattle.asmtext.specs.Symbols.{symbol_of};
 
 use crate::forms::statement_with;
 use crate::mnemonics::word_called;
 use crate::parts::parts;
 use crate::statement::{Line, Statement};
-use crate::tokens::symbols_in;
+use crate::tokens::{Symbol, symbols_in};
 use crate::words::{is_word, label_in, without_blanks, word_in};
 use std::alloc::{AllocError, Global};
 use unixmodel::assembly::AsmKind;
+
+// The statement of a word and the symbols that follow it.
+fn with_symbols(
+    alloc: Global,
+    word: &[u8],
+    symbols: &[Symbol],
+) -> Result<Result<Statement, AsmKind>, AllocError>
+    ensures { IfOk result (λ says. said_seen says ≡ the.with_form (parts_of (map symbol_of symbols.now)) (the.form_called word.now)) }
+{
+    let Some(word) = word_called(word) else {
+        return Ok(Err(AsmKind::Mnemonic));
+    };
+    let parts = parts(alloc, symbols)?;
+    match statement_with(alloc, word, &parts)? {
+        Some(statement) => Ok(Ok(statement)),
+        None => Ok(Err(AsmKind::Operand)),
+    }
+}
 
 // The statement of a word and what follows it.
 fn with_word(
@@ -29,14 +48,7 @@ fn with_word(
     let Some(symbols) = symbols_in(alloc, behind)? else {
         return Ok(Err(AsmKind::Syntax));
     };
-    let Some(word) = word_called(word) else {
-        return Ok(Err(AsmKind::Mnemonic));
-    };
-    let parts = parts(alloc, &symbols)?;
-    match statement_with(alloc, word, &parts)? {
-        Some(statement) => Ok(Ok(statement)),
-        None => Ok(Err(AsmKind::Operand)),
-    }
+    with_symbols(alloc, word, &symbols)
 }
 
 #[tactic(auto, unfolding(unixmodel::specs::Statements::statement_in))]

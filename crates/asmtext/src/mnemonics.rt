@@ -1,15 +1,10 @@
 //! The words of statements.
-ghost use Rattle.std.specs.Prelude.{◌≡◌, ◌≤◌, bytes_eq, find, option_map};
+ghost use Rattle.std.specs.Prelude.{◌≡◌, ◌≤◌, map, option_map};
 ghost use Rattle.unixmodel.specs.Statements as the;
-ghost use Rattle.unixmodel.specs.declared.instr.Instr.TheVariants as instr;
-ghost use Rattle.asmtext.specs.Forms.{directive_form, directive_name, directives, form_of, pseudo_form, pseudo_name, pseudos, size_of, special_form, special_name, specials};
+ghost use Rattle.asmtext.specs.Forms.{form_of, named_form, size_of};
 
-use crate::names::{
-    branch_called, imm_called, load_called, reg_called, reg_w_called, shift_called, shift_w_called,
-    store_called,
-};
-use crate::operations::{BaseOp, NumberOp, RegisterOp, UpperOp};
-use unixmodel::instr::{BranchOp, Imm12, Instr, Reg};
+use crate::operations::{BareOp, BaseOp, NumberOp, RegisterOp, UpperOp};
+use unixmodel::instr::{BranchOp, ImmOp, LoadOp, RegOp, RegOpW, ShiftOp, StoreOp};
 
 /// How many bytes a number takes.
 #[derive(Clone, Copy)]
@@ -28,7 +23,7 @@ pub enum Word {
     Upper(UpperOp),
     Branch(BranchOp),
     /// A whole instruction.
-    Bare(Instr),
+    Bare(BareOp),
     /// jal.
     JumpAndLink,
     /// j.
@@ -45,188 +40,90 @@ pub enum Word {
     Padding,
 }
 
-// The fence of all accesses before it and behind it.
-fn whole_fence() -> Instr
-    ensures { result ≡ instr.Fence 0 0 0x0ff }
+// The words, each with what it asks for.
+const WORDS: [(&[u8], Word); 63] = [
+    (b"add", Word::Register(RegisterOp::Reg(RegOp::Add))),
+    (b"sub", Word::Register(RegisterOp::Reg(RegOp::Sub))),
+    (b"sll", Word::Register(RegisterOp::Reg(RegOp::Sll))),
+    (b"slt", Word::Register(RegisterOp::Reg(RegOp::Slt))),
+    (b"sltu", Word::Register(RegisterOp::Reg(RegOp::Sltu))),
+    (b"xor", Word::Register(RegisterOp::Reg(RegOp::Xor))),
+    (b"srl", Word::Register(RegisterOp::Reg(RegOp::Srl))),
+    (b"sra", Word::Register(RegisterOp::Reg(RegOp::Sra))),
+    (b"or", Word::Register(RegisterOp::Reg(RegOp::Or))),
+    (b"and", Word::Register(RegisterOp::Reg(RegOp::And))),
+    (b"addw", Word::Register(RegisterOp::RegW(RegOpW::Addw))),
+    (b"subw", Word::Register(RegisterOp::RegW(RegOpW::Subw))),
+    (b"sllw", Word::Register(RegisterOp::RegW(RegOpW::Sllw))),
+    (b"srlw", Word::Register(RegisterOp::RegW(RegOpW::Srlw))),
+    (b"sraw", Word::Register(RegisterOp::RegW(RegOpW::Sraw))),
+    (b"addi", Word::Number(NumberOp::Imm(ImmOp::Addi))),
+    (b"slti", Word::Number(NumberOp::Imm(ImmOp::Slti))),
+    (b"sltiu", Word::Number(NumberOp::Imm(ImmOp::Sltiu))),
+    (b"xori", Word::Number(NumberOp::Imm(ImmOp::Xori))),
+    (b"ori", Word::Number(NumberOp::Imm(ImmOp::Ori))),
+    (b"andi", Word::Number(NumberOp::Imm(ImmOp::Andi))),
+    (b"slli", Word::Number(NumberOp::Shift(ShiftOp::Sll))),
+    (b"srli", Word::Number(NumberOp::Shift(ShiftOp::Srl))),
+    (b"srai", Word::Number(NumberOp::Shift(ShiftOp::Sra))),
+    (b"slliw", Word::Number(NumberOp::ShiftW(ShiftOp::Sll))),
+    (b"srliw", Word::Number(NumberOp::ShiftW(ShiftOp::Srl))),
+    (b"sraiw", Word::Number(NumberOp::ShiftW(ShiftOp::Sra))),
+    (b"lb", Word::Base(BaseOp::Load(LoadOp::Lb))),
+    (b"lh", Word::Base(BaseOp::Load(LoadOp::Lh))),
+    (b"lw", Word::Base(BaseOp::Load(LoadOp::Lw))),
+    (b"ld", Word::Base(BaseOp::Load(LoadOp::Ld))),
+    (b"lbu", Word::Base(BaseOp::Load(LoadOp::Lbu))),
+    (b"lhu", Word::Base(BaseOp::Load(LoadOp::Lhu))),
+    (b"lwu", Word::Base(BaseOp::Load(LoadOp::Lwu))),
+    (b"sb", Word::Base(BaseOp::Store(StoreOp::Sb))),
+    (b"sh", Word::Base(BaseOp::Store(StoreOp::Sh))),
+    (b"sw", Word::Base(BaseOp::Store(StoreOp::Sw))),
+    (b"sd", Word::Base(BaseOp::Store(StoreOp::Sd))),
+    (b"beq", Word::Branch(BranchOp::Beq)),
+    (b"bne", Word::Branch(BranchOp::Bne)),
+    (b"blt", Word::Branch(BranchOp::Blt)),
+    (b"bge", Word::Branch(BranchOp::Bge)),
+    (b"bltu", Word::Branch(BranchOp::Bltu)),
+    (b"bgeu", Word::Branch(BranchOp::Bgeu)),
+    (b"addiw", Word::Number(NumberOp::Addiw)),
+    (b"jalr", Word::Base(BaseOp::Jalr)),
+    (b"jal", Word::JumpAndLink),
+    (b"lui", Word::Upper(UpperOp::Lui)),
+    (b"auipc", Word::Upper(UpperOp::Auipc)),
+    (b"fence", Word::Bare(BareOp::Fence)),
+    (b"ecall", Word::Bare(BareOp::Ecall)),
+    (b"ebreak", Word::Bare(BareOp::Ebreak)),
+    (b"li", Word::LoadNumber),
+    (b"la", Word::LoadAddress),
+    (b"mv", Word::Move),
+    (b"j", Word::Jump),
+    (b"ret", Word::Bare(BareOp::Return)),
+    (b".byte", Word::Data(Width::Byte)),
+    (b".word", Word::Data(Width::Word)),
+    (b".dword", Word::Data(Width::DoubleWord)),
+    (b".ascii", Word::Ascii),
+    (b".zero", Word::Zeros),
+    (b".pad", Word::Padding),
+];
+
+// What the first of these words that is the name asks for.
+fn among(words: &[(&[u8], Word)], name: &[u8]) -> Option<Word>
+    ensures { option_map form_of result ≡ the.form_among (map named_form words.now) name.now }
 {
-    Instr::Fence {
-        rd: Reg::new(0),
-        rs1: Reg::new(0),
-        imm: Imm12::new(0x0ff),
-    }
-}
-
-// A jump to where ra says.
-fn return_instr() -> Instr
-    ensures { result ≡ instr.Jalr 0 1 0 }
-{
-    Instr::Jalr {
-        rd: Reg::new(0),
-        rs1: Reg::new(1),
-        imm: Imm12::new(0),
-    }
-}
-
-/// An instruction that is alone in its form, or nearly so.
-#[derive(Clone, Copy)]
-enum Special {
-    Addiw,
-    Jalr,
-    Jal,
-    Lui,
-    Auipc,
-    Fence,
-    Ecall,
-    Ebreak,
-}
-
-/// A word that stands for instructions of other names.
-#[derive(Clone, Copy)]
-enum Pseudo {
-    Li,
-    La,
-    Mv,
-    J,
-    Ret,
-}
-
-/// A word of data.
-#[derive(Clone, Copy)]
-enum Directive {
-    Byte,
-    Word,
-    Dword,
-    Ascii,
-    Zero,
-    Pad,
-}
-
-fn special_called(name: &[u8]) -> Option<Special>
-    ensures { result ≡ find (λ word. bytes_eq (special_name word) name.now) specials }
-{
-    match name {
-        b"addiw" => Some(Special::Addiw),
-        b"jalr" => Some(Special::Jalr),
-        b"jal" => Some(Special::Jal),
-        b"lui" => Some(Special::Lui),
-        b"auipc" => Some(Special::Auipc),
-        b"fence" => Some(Special::Fence),
-        b"ecall" => Some(Special::Ecall),
-        b"ebreak" => Some(Special::Ebreak),
-        _ => None,
-    }
-}
-
-fn pseudo_called(name: &[u8]) -> Option<Pseudo>
-    ensures { result ≡ find (λ word. bytes_eq (pseudo_name word) name.now) pseudos }
-{
-    match name {
-        b"li" => Some(Pseudo::Li),
-        b"la" => Some(Pseudo::La),
-        b"mv" => Some(Pseudo::Mv),
-        b"j" => Some(Pseudo::J),
-        b"ret" => Some(Pseudo::Ret),
-        _ => None,
-    }
-}
-
-fn directive_called(name: &[u8]) -> Option<Directive>
-    ensures { result ≡ find (λ word. bytes_eq (directive_name word) name.now) directives }
-{
-    match name {
-        b".byte" => Some(Directive::Byte),
-        b".word" => Some(Directive::Word),
-        b".dword" => Some(Directive::Dword),
-        b".ascii" => Some(Directive::Ascii),
-        b".zero" => Some(Directive::Zero),
-        b".pad" => Some(Directive::Pad),
-        _ => None,
-    }
-}
-
-impl Special {
-    fn word(self) -> Word
-        ensures { form_of result ≡ special_form self }
-    {
-        match self {
-            Special::Addiw => Word::Number(NumberOp::Addiw),
-            Special::Jalr => Word::Base(BaseOp::Jalr),
-            Special::Jal => Word::JumpAndLink,
-            Special::Lui => Word::Upper(UpperOp::Lui),
-            Special::Auipc => Word::Upper(UpperOp::Auipc),
-            Special::Fence => Word::Bare(whole_fence()),
-            Special::Ecall => Word::Bare(Instr::Ecall),
-            Special::Ebreak => Word::Bare(Instr::Ebreak),
+    for (word, asks) in words {
+        if *word == name {
+            return Some(*asks);
         }
     }
-}
-
-impl Pseudo {
-    fn word(self) -> Word
-        ensures { form_of result ≡ pseudo_form self }
-    {
-        match self {
-            Pseudo::Li => Word::LoadNumber,
-            Pseudo::La => Word::LoadAddress,
-            Pseudo::Mv => Word::Move,
-            Pseudo::J => Word::Jump,
-            Pseudo::Ret => Word::Bare(return_instr()),
-        }
-    }
-}
-
-impl Directive {
-    fn word(self) -> Word
-        ensures { form_of result ≡ directive_form self }
-    {
-        match self {
-            Directive::Byte => Word::Data(Width::Byte),
-            Directive::Word => Word::Data(Width::Word),
-            Directive::Dword => Word::Data(Width::DoubleWord),
-            Directive::Ascii => Word::Ascii,
-            Directive::Zero => Word::Zeros,
-            Directive::Pad => Word::Padding,
-        }
-    }
+    None
 }
 
 /// What a statement's word asks for, if it has a form.
-#[tactic(auto, using(crate::proofs::WordLemmas::in_turn))]
 pub fn word_called(name: &[u8]) -> Option<Word>
     ensures { option_map form_of result ≡ the.form_called name.now }
 {
-    if let Some(op) = reg_called(name) {
-        return Some(Word::Register(RegisterOp::Reg(op)));
-    }
-    if let Some(op) = reg_w_called(name) {
-        return Some(Word::Register(RegisterOp::RegW(op)));
-    }
-    if let Some(op) = imm_called(name) {
-        return Some(Word::Number(NumberOp::Imm(op)));
-    }
-    if let Some(op) = shift_called(name) {
-        return Some(Word::Number(NumberOp::Shift(op)));
-    }
-    if let Some(op) = shift_w_called(name) {
-        return Some(Word::Number(NumberOp::ShiftW(op)));
-    }
-    if let Some(op) = load_called(name) {
-        return Some(Word::Base(BaseOp::Load(op)));
-    }
-    if let Some(op) = store_called(name) {
-        return Some(Word::Base(BaseOp::Store(op)));
-    }
-    if let Some(op) = branch_called(name) {
-        return Some(Word::Branch(op));
-    }
-    if let Some(special) = special_called(name) {
-        return Some(special.word());
-    }
-    if let Some(pseudo) = pseudo_called(name) {
-        return Some(pseudo.word());
-    }
-    let directive = directive_called(name)?;
-    Some(directive.word())
+    among(&WORDS, name)
 }
 
 impl Width {

@@ -1,6 +1,6 @@
 //! Operations, by the form in which their instructions are written.
 ghost use Rattle.std.specs.Prelude.{◌≡◌, option_map};
-ghost use Rattle.asmtext.specs.Operations.{above_of, based_instr, below_of, bits_of, number_above, number_below, number_bits, numbered_instr, partial_instr, register_instr, upper_instr};
+ghost use Rattle.asmtext.specs.Operations.{above_of, bare_instr, based_instr, below_of, bits_of, number_above, number_below, number_bits, numbered_instr, partial_instr, register_instr, upper_instr};
 ghost use Rattle.asmtext.specs.Numbers.{field_within, number_of};
 
 use crate::number::Number;
@@ -37,6 +37,39 @@ pub enum BaseOp {
 pub enum UpperOp {
     Lui,
     Auipc,
+}
+
+/// An operation on nothing.
+#[derive(Clone, Copy)]
+pub enum BareOp {
+    /// The fence of all accesses before it and behind it.
+    Fence,
+    Ecall,
+    Ebreak,
+    /// A jump to where ra says.
+    Return,
+}
+
+impl BareOp {
+    /// The whole instruction.
+    pub fn instr(self) -> Instr
+        ensures { result ≡ bare_instr self }
+    {
+        match self {
+            BareOp::Fence => Instr::Fence {
+                rd: Reg::new(0),
+                rs1: Reg::new(0),
+                imm: Imm12::new(0x0ff),
+            },
+            BareOp::Ecall => Instr::Ecall,
+            BareOp::Ebreak => Instr::Ebreak,
+            BareOp::Return => Instr::Jalr {
+                rd: Reg::new(0),
+                rs1: Reg::new(1),
+                imm: Imm12::new(0),
+            },
+        }
+    }
 }
 
 impl RegisterOp {

@@ -1,11 +1,15 @@
 -- The command line that the program declares, and what a job says of it.
-use Rattle.std.specs.Prelude.{◌≡◌, ◌↔◌, IsTrue, ℕ, pos, List, [], ◌∷◌, Option, Some, Result, IfOk, true, false, codes, option_map}
+use Rattle.std.specs.Prelude.{◌≡◌, ◌↔◌, IsTrue, ℕ, pos, List, [], ◌∷◌, Option, Some, true, false, codes, fold, option_map}
 use Rattle.std.specs.Str.Parse.{IsNumeral, digits_value}
 use Rattle.clap.specs.Words.{App, Row, Rule, Text, app_of, first_of, new_app, new_rule, with_rule, with_subcommand}
 use Rattle.clap.specs.declared.builder.action.ArgAction.TheVariants.{SetTrue}
 use Rattle.clap.specs.declared.builder.command.Command.{Command}
 use Rattle.clap.specs.declared.builder.command.Command.TheViews.{out-Command}
 use Rattle.clap.specs.declared.builder.value_parser.ValueParser.TheVariants.{Signed}
+use Rattle.commandline.specs.declared.command_line.Declared.{Declared}
+use Rattle.commandline.specs.declared.command_line.Given.{Given}
+use Rattle.commandline.specs.declared.command_line.Given.TheVariants as given
+use Rattle.commandline.specs.declared.command_line.Word.{Word}
 use Rattle.commandline.specs.declared.jobs.Asm.{Asm}
 use Rattle.commandline.specs.declared.jobs.Check.{Check}
 use Rattle.commandline.specs.declared.jobs.Dump.{Dump}
@@ -100,9 +104,22 @@ pub record DeclaresOwn (app : App) (command : Command) : Type 0 where
   pub shape : app_of command ≡ app
   pub local : (out-Command command).has_globals ≡ false
 
--- the new command declares one rule more than the old one, if there are both
-abbrev pub AddsRule : {E : Type 0} → Rule → Result Command E → Result Command E → Type 0
-AddsRule rule old new = (app : App) → IfOk old (DeclaresOwn app) → IfOk new (DeclaresOwn (with_rule app rule))
+-- ---- the rows in which it is declared
+
+abbrev pub rule_given : Text → Given → Rule
+rule_given name given.Bare = word_rule name
+rule_given name (given.Number default) = number_rule name default.now
+rule_given name (given.Option value) = option_rule name
+rule_given name given.Flag = flag_rule name
+
+abbrev pub with_word : App → Word → App
+with_word app word = with_rule app (rule_given word.name.now word.given)
+
+abbrev pub declared_by : Declared → App
+declared_by row = fold with_word (new_app row.name.now) row.words.now
+
+abbrev pub with_declared : App → Declared → App
+with_declared app row = with_subcommand app (declared_by row).top
 
 -- the text is n in decimal digits alone
 pub record Writes (text : Text) (n : ℕ) : Type 0 where

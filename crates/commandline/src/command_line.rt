@@ -1,7 +1,7 @@
 //! What the words of a command line ask for.
-ghost use Rattle.std.specs.Prelude.{◌≡◌, ◌↔◌, IfOk, IfSome, IsTrue, Some, codes, false, map, option_map};
-ghost use Rattle.clap.specs.Words.{App, app_of, first_of, found_of, new_app, rows_of, rule_of, subcommand_of, subcommand_rows_of, with_subcommand};
-ghost use Rattle.commandline.specs.Declarations.{AddsRule, DeclaresOwn, IsJob, IsWritten, Writes, boot_options, declared, declared_asm, declared_check, declared_dump, declared_flat, declared_ls, declared_mkfs, declared_run, declared_top, flag_rule, number_rule, option_rule, with_images, with_machines, with_programs, word_rule};
+ghost use Rattle.std.specs.Prelude.{◌≡◌, ◌↔◌, IfOk, IfSome, IsTrue, Some, codes, false, fold, map, option_map};
+ghost use Rattle.clap.specs.Words.{app_of, first_of, found_of, rows_of, rule_of, subcommand_of, subcommand_rows_of};
+ghost use Rattle.commandline.specs.Declarations.{DeclaresOwn, IsJob, IsWritten, Writes, declared, declared_by, declared_top, number_rule, rule_given, with_declared};
 
 use crate::jobs::{Asm, Check, Dump, Flat, Job, Ls, Mkfs, Run};
 use clap::error::ErrorKind;
@@ -50,8 +50,178 @@ xv6 dump start
 
 The second prints a line for each word, the first `00000000: 000008b7 lui a7, 0x0`.";
 
-// What a script is.
-const SCRIPT: &str = "What happens: lines `step N`, `tick N`, `keys HEX` and `type TEXT`";
+// How a word of a command is given.
+#[derive(Clone, Copy)]
+enum Given<'a> {
+    // It has to be there.
+    Bare,
+    // As an option with a number, of this default.
+    Number(&'a str),
+    // As an option that may be left out; help calls its value so.
+    Option(&'a str),
+    // As a flag, which is left out or given once.
+    Flag,
+}
+
+// A word of a command.
+#[derive(Clone, Copy)]
+struct Word<'a> {
+    name: &'a str,
+    given: Given<'a>,
+    help: &'a str,
+}
+
+// A command, and the words that it takes.
+#[derive(Clone, Copy)]
+struct Declared<'a> {
+    name: &'a str,
+    about: &'a str,
+    words: &'a [Word<'a>],
+}
+
+const FRAMES: Word<'static> = Word {
+    name: "frames",
+    given: Given::Number("256"),
+    help: "Frames of 4096 bytes, 64 to 32768",
+};
+
+const TLB: Word<'static> = Word {
+    name: "tlb",
+    given: Given::Flag,
+    help: "Remembers translations, so that most accesses walk no page table",
+};
+
+const SCRIPT: Word<'static> = Word {
+    name: "SCRIPT",
+    given: Given::Bare,
+    help: "What happens: lines `step N`, `tick N`, `keys HEX` and `type TEXT`",
+};
+
+const FLAT: [Word<'static>; 4] = [
+    FRAMES,
+    TLB,
+    Word {
+        name: "FILE",
+        given: Given::Bare,
+        help: "The program: instructions and bytes, from address 0 on",
+    },
+    SCRIPT,
+];
+
+const RUN: [Word<'static>; 5] = [
+    FRAMES,
+    TLB,
+    Word {
+        name: "save",
+        given: Given::Option("OUT"),
+        help: "Where the image is written that the machine leaves, without its processes",
+    },
+    Word {
+        name: "IMAGE",
+        given: Given::Bare,
+        help: "The image, which has a program /init",
+    },
+    SCRIPT,
+];
+
+const MKFS: [Word<'static>; 4] = [
+    Word {
+        name: "size",
+        given: Given::Number("2000"),
+        help: "Blocks of 1024 bytes, 32 to 16384",
+    },
+    Word {
+        name: "inodes",
+        given: Given::Number("200"),
+        help: "Inodes, 16 to 8192",
+    },
+    Word {
+        name: "MANIFEST",
+        given: Given::Bare,
+        help: "What is made: lines `dir PATH`, `file PATH HOSTFILE` and `dev PATH MAJOR MINOR`",
+    },
+    Word {
+        name: "IMAGE",
+        given: Given::Bare,
+        help: "The image, which is written",
+    },
+];
+
+const CHECK: [Word<'static>; 1] = [Word {
+    name: "IMAGE",
+    given: Given::Bare,
+    help: "The image",
+}];
+
+const LS: [Word<'static>; 2] = [
+    Word {
+        name: "IMAGE",
+        given: Given::Bare,
+        help: "The image",
+    },
+    Word {
+        name: "PATH",
+        given: Given::Bare,
+        help: "The directory's path, from the root",
+    },
+];
+
+const ASM: [Word<'static>; 2] = [
+    Word {
+        name: "TEXT",
+        given: Given::Bare,
+        help: "The text",
+    },
+    Word {
+        name: "ELF",
+        given: Given::Bare,
+        help: "The program's file, which is written",
+    },
+];
+
+const DUMP: [Word<'static>; 1] = [Word {
+    name: "ELF",
+    given: Given::Bare,
+    help: "The program's file",
+}];
+
+const COMMANDS: [Declared<'static>; 7] = [
+    Declared {
+        name: "flat",
+        about: "Boots a flat program and runs a script of events",
+        words: &FLAT,
+    },
+    Declared {
+        name: "run",
+        about: "Boots a machine from a disk image and runs a script of events",
+        words: &RUN,
+    },
+    Declared {
+        name: "mkfs",
+        about: "Makes a disk image of what a manifest lists",
+        words: &MKFS,
+    },
+    Declared {
+        name: "check",
+        about: "Checks that a disk image denotes files",
+        words: &CHECK,
+    },
+    Declared {
+        name: "ls",
+        about: "Lists a directory of a disk image",
+        words: &LS,
+    },
+    Declared {
+        name: "asm",
+        about: "Makes a program file of an assembly text",
+        words: &ASM,
+    },
+    Declared {
+        name: "dump",
+        about: "Shows the instructions of a program file",
+        words: &DUMP,
+    },
+];
 
 // An option with a number.
 fn number<'a>(alloc: Global, name: &'a str, default: &'a str, help: &'a str) -> Arg<'a>
@@ -66,162 +236,35 @@ fn number<'a>(alloc: Global, name: &'a str, default: &'a str, help: &'a str) -> 
         .default_value(default)
 }
 
-// The command with an option that takes a number.
-fn with_number<'a>(
-    alloc: Global,
-    command: Result<Command<'a>, AllocError>,
-    name: &'a str,
-    default: &'a str,
-    help: &'a str,
-) -> Result<Command<'a>, AllocError>
-    ensures { AddsRule (number_rule name.now default.now) command.entry result }
-{
-    command?.arg(number(alloc, name, default, help))
-}
-
-// A flag, which is left out or given once.
-fn flag<'a>(alloc: Global, name: &'a str, help: &'a str) -> Arg<'a>
-    ensures rule { rule_of result ≡ flag_rule name.now }
+// What the command line takes for a word.
+fn arg<'a>(alloc: Global, word: Word<'a>) -> Arg<'a>
+    ensures rule { rule_of result ≡ rule_given word.entry.name.now word.entry.given }
     ensures local { result.global ≡ false }
 {
-    Arg::new(alloc, name)
-        .long(name)
-        .help(help)
-        .action(ArgAction::SetTrue)
-}
-
-// The command with a flag.
-fn with_flag<'a>(
-    alloc: Global,
-    command: Result<Command<'a>, AllocError>,
-    name: &'a str,
-    help: &'a str,
-) -> Result<Command<'a>, AllocError>
-    ensures { AddsRule (flag_rule name.now) command.entry result }
-{
-    command?.arg(flag(alloc, name, help))
-}
-
-// The command with an option that takes a word and may be left out.
-fn with_option<'a>(
-    alloc: Global,
-    command: Result<Command<'a>, AllocError>,
-    name: &'a str,
-    value: &'a str,
-    help: &'a str,
-) -> Result<Command<'a>, AllocError>
-    ensures { AddsRule (option_rule name.now) command.entry result }
-{
-    command?.arg(
-        Arg::new(alloc, name)
+    let name = word.name;
+    match word.given {
+        Given::Bare => Arg::new(alloc, name).help(word.help).required(true),
+        Given::Number(default) => number(alloc, name, default, word.help),
+        Given::Option(value) => Arg::new(alloc, name)
             .long(name)
             .value_name(value)
-            .help(help),
-    )
+            .help(word.help),
+        Given::Flag => Arg::new(alloc, name)
+            .long(name)
+            .help(word.help)
+            .action(ArgAction::SetTrue),
+    }
 }
 
-// The command with a word that has to be there.
-fn with_word<'a>(
-    alloc: Global,
-    command: Result<Command<'a>, AllocError>,
-    name: &'a str,
-    help: &'a str,
-) -> Result<Command<'a>, AllocError>
-    ensures { AddsRule (word_rule name.now) command.entry result }
+// The command of a row.
+fn command_of<'a>(alloc: Global, row: &Declared<'a>) -> Result<Command<'a>, AllocError>
+    ensures { IfOk result (DeclaresOwn (declared_by row.now)) }
 {
-    command?.arg(Arg::new(alloc, name).help(help).required(true))
-}
-
-// A command of this name, with no words yet.
-fn named<'a>(alloc: Global, name: &'a str, about: &'a str) -> Result<Command<'a>, AllocError>
-    ensures { IfOk result (DeclaresOwn (new_app name.now)) }
-{
-    Ok(Command::new(alloc, name).about(about))
-}
-
-// The command with the options of those that boot a machine.
-fn with_boot_options<'a>(
-    alloc: Global,
-    command: Result<Command<'a>, AllocError>,
-) -> Result<Command<'a>, AllocError>
-    ensures { (app : App) → IfOk command.entry (DeclaresOwn app) → IfOk result (DeclaresOwn (boot_options app)) }
-{
-    let frames = "Frames of 4096 bytes, 64 to 32768";
-    let tlb = "Remembers translations, so that most accesses walk no page table";
-    let numbered = with_number(alloc, command, "frames", "256", frames);
-    with_flag(alloc, numbered, "tlb", tlb)
-}
-
-// The command `flat`.
-fn flat_command<'a>(alloc: Global) -> Result<Command<'a>, AllocError>
-    ensures { IfOk result (DeclaresOwn declared_flat) }
-{
-    let about = "Boots a flat program and runs a script of events";
-    let file = "The program: instructions and bytes, from address 0 on";
-    let optioned = with_boot_options(alloc, named(alloc, "flat", about));
-    let filed = with_word(alloc, optioned, "FILE", file);
-    with_word(alloc, filed, "SCRIPT", SCRIPT)
-}
-
-// The command `run`.
-fn run_command<'a>(alloc: Global) -> Result<Command<'a>, AllocError>
-    ensures { IfOk result (DeclaresOwn declared_run) }
-{
-    let about = "Boots a machine from a disk image and runs a script of events";
-    let save = "Where the image is written that the machine leaves, without its processes";
-    let image = "The image, which has a program /init";
-    let optioned = with_boot_options(alloc, named(alloc, "run", about));
-    let saved = with_option(alloc, optioned, "save", "OUT", save);
-    let imaged = with_word(alloc, saved, "IMAGE", image);
-    with_word(alloc, imaged, "SCRIPT", SCRIPT)
-}
-
-// The command `mkfs`.
-fn mkfs_command<'a>(alloc: Global) -> Result<Command<'a>, AllocError>
-    ensures { IfOk result (DeclaresOwn declared_mkfs) }
-{
-    let size = "Blocks of 1024 bytes, 32 to 16384";
-    let manifest =
-        "What is made: lines `dir PATH`, `file PATH HOSTFILE` and `dev PATH MAJOR MINOR`";
-    let bare = named(alloc, "mkfs", "Makes a disk image of what a manifest lists");
-    let sized = with_number(alloc, bare, "size", "2000", size);
-    let numbered = with_number(alloc, sized, "inodes", "200", "Inodes, 16 to 8192");
-    let listed = with_word(alloc, numbered, "MANIFEST", manifest);
-    with_word(alloc, listed, "IMAGE", "The image, which is written")
-}
-
-// The command `check`.
-fn check_command<'a>(alloc: Global) -> Result<Command<'a>, AllocError>
-    ensures { IfOk result (DeclaresOwn declared_check) }
-{
-    let bare = named(alloc, "check", "Checks that a disk image denotes files");
-    with_word(alloc, bare, "IMAGE", "The image")
-}
-
-// The command `ls`.
-fn ls_command<'a>(alloc: Global) -> Result<Command<'a>, AllocError>
-    ensures { IfOk result (DeclaresOwn declared_ls) }
-{
-    let bare = named(alloc, "ls", "Lists a directory of a disk image");
-    let imaged = with_word(alloc, bare, "IMAGE", "The image");
-    with_word(alloc, imaged, "PATH", "The directory's path, from the root")
-}
-
-// The command `asm`.
-fn asm_command<'a>(alloc: Global) -> Result<Command<'a>, AllocError>
-    ensures { IfOk result (DeclaresOwn declared_asm) }
-{
-    let bare = named(alloc, "asm", "Makes a program file of an assembly text");
-    let read = with_word(alloc, bare, "TEXT", "The text");
-    with_word(alloc, read, "ELF", "The program's file, which is written")
-}
-
-// The command `dump`.
-fn dump_command<'a>(alloc: Global) -> Result<Command<'a>, AllocError>
-    ensures { IfOk result (DeclaresOwn declared_dump) }
-{
-    let bare = named(alloc, "dump", "Shows the instructions of a program file");
-    with_word(alloc, bare, "ELF", "The program's file")
+    let mut command = Command::new(alloc, row.name).about(row.about);
+    for word in row.words {
+        command = command.arg(arg(alloc, *word))?;
+    }
+    Ok(command)
 }
 
 // The command line without its commands, of which one has to be there.
@@ -236,51 +279,22 @@ fn bare_command<'a>(alloc: Global) -> Command<'a>
         .arg_required_else_help(true)
 }
 
-// The command with another below it.
-fn with_command<'a>(
-    command: Command<'a>,
-    below: Result<Command<'a>, AllocError>,
-) -> Result<Command<'a>, AllocError>
-    ensures { IfOk result (λ new. (app : App) → IfOk below.entry (DeclaresOwn app) → app_of new ≡ with_subcommand (app_of command.entry) app.top) }
+// The command line with the commands of these rows.
+fn with_commands<'a>(alloc: Global, rows: &[Declared<'a>]) -> Result<Command<'a>, AllocError>
+    ensures { IfOk result (λ new. app_of new ≡ fold with_declared declared_top rows.now) }
 {
-    match below {
-        Ok(below) => command.subcommand(below),
-        Err(error) => Err(error),
+    let mut command = bare_command(alloc);
+    for row in rows {
+        command = command.subcommand(command_of(alloc, row)?)?;
     }
-}
-
-// The command with those that boot a machine.
-fn with_machines<'a>(alloc: Global, command: Command<'a>) -> Result<Command<'a>, AllocError>
-    ensures { IfOk result (λ new. app_of new ≡ with_machines (app_of command.entry)) }
-{
-    let one = with_command(command, flat_command(alloc))?;
-    with_command(one, run_command(alloc))
-}
-
-// The command with those that work on disk images.
-fn with_images<'a>(alloc: Global, command: Command<'a>) -> Result<Command<'a>, AllocError>
-    ensures { IfOk result (λ new. app_of new ≡ with_images (app_of command.entry)) }
-{
-    let one = with_command(command, mkfs_command(alloc))?;
-    let two = with_command(one, check_command(alloc))?;
-    with_command(two, ls_command(alloc))
-}
-
-// The command with those that work on the texts and the files of programs.
-fn with_programs<'a>(alloc: Global, command: Command<'a>) -> Result<Command<'a>, AllocError>
-    ensures { IfOk result (λ new. app_of new ≡ with_programs (app_of command.entry)) }
-{
-    let one = with_command(command, asm_command(alloc))?;
-    with_command(one, dump_command(alloc))
+    Ok(command)
 }
 
 // The whole command line.
 fn command<'a>(alloc: Global) -> Result<Command<'a>, AllocError>
     ensures { IfOk result (λ command. app_of command ≡ declared) }
 {
-    let booting = with_machines(alloc, bare_command(alloc))?;
-    let imaged = with_images(alloc, booting)?;
-    with_programs(alloc, imaged)
+    with_commands(alloc, &COMMANDS)
 }
 
 // The first word that was found of this name, if any was.

@@ -15,7 +15,18 @@ use texts::{Command, TextFault, parse};
 
 // A file's bytes.
 fn read<'a, H: Host>(host: &mut H, name: &'a str) -> Result<Vec<u8>, Failure<'a>> {
-    host.read(name).map_err(|_| Failure::Read(name))
+    match host.read(name) {
+        Ok(bytes) => Ok(bytes),
+        Err(_) => Err(Failure::Read(name)),
+    }
+}
+
+// Makes a file of the bytes.
+fn write<'a, H: Host>(host: &mut H, name: &'a str, bytes: &[u8]) -> Result<(), Failure<'a>> {
+    match host.write(name, bytes) {
+        Ok(()) => Ok(()),
+        Err(_) => Err(Failure::Write(name)),
+    }
 }
 
 // The commands of the script of this name, which has to be text.

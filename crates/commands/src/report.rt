@@ -87,7 +87,7 @@ impl fmt::Display for Failure<'_> {
             Failure::Tree(fault) => write_fault(f, tree_fault(*fault)),
             Failure::Assembly(fault) => {
                 let line = fault.line;
-                let Fault { number, name } = assembly_fault(fault.kind);
+                let (number, name) = assembly_fault(fault.kind);
                 write!(f, "line {line}: {number} {name}")
             }
             Failure::Program(fault) => write_fault(f, program_fault(*fault)),
@@ -97,129 +97,113 @@ impl fmt::Display for Failure<'_> {
     }
 }
 
-// A fault as it is told: by its number and its name.
-#[derive(Clone, Copy)]
-struct Fault {
-    number: u8,
-    name: &'static str,
-}
-
-impl Fault {
-    fn new(number: u8, name: &'static str) -> Fault
-        ensures number { result.number ≡ number }
-        ensures name { result.name.now ≡ name.now }
-    {
-        Fault { number, name }
-    }
-}
-
-// A fault's line.
-fn write_fault<W: fmt::Write>(f: &mut fmt::Formatter<W>, fault: Fault) -> fmt::Result {
-    let (number, name) = (fault.number, fault.name);
+// The line of a fault: its number and its name.
+fn write_fault<W: fmt::Write>(f: &mut fmt::Formatter<W>, fault: (u8, &'static str)) -> fmt::Result {
+    let (number, name) = fault;
     write!(f, "fault {number} {name}")
 }
 
 // A boot's fault; of an image that is refused the image's own.
-fn boot_fault(fault: BootFault) -> Fault
-    ensures number { result.number ≡ boot_number fault }
-    ensures name { result.name.now ≡ boot_name fault }
+fn boot_fault(fault: BootFault) -> (u8, &'static str)
+    ensures number { result.0 ≡ boot_number fault }
+    ensures name { result.1.now ≡ boot_name fault }
 {
     match fault {
         BootFault::Image(fault) => image_fault(fault),
-        BootFault::FrameCount => Fault::new(2, "FrameCount"),
-        BootFault::Device => Fault::new(3, "Device"),
-        BootFault::NoMemory => Fault::new(4, "NoMemory"),
-        BootFault::NoInit => Fault::new(5, "NoInit"),
+        BootFault::FrameCount => (2, "FrameCount"),
+        BootFault::Device => (3, "Device"),
+        BootFault::NoMemory => (4, "NoMemory"),
+        BootFault::NoInit => (5, "NoInit"),
     }
 }
 
 // What is wrong with a manifest.
-fn make_fault(fault: MakeFault) -> Fault
-    ensures number { result.number ≡ make_number fault }
-    ensures name { result.name.now ≡ make_name fault }
+fn make_fault(fault: MakeFault) -> (u8, &'static str)
+    ensures number { result.0 ≡ make_number fault }
+    ensures name { result.1.now ≡ make_name fault }
 {
     match fault {
-        MakeFault::Name => Fault::new(1, "Name"),
-        MakeFault::Twice => Fault::new(2, "Twice"),
-        MakeFault::Blocks => Fault::new(3, "Blocks"),
-        MakeFault::Inodes => Fault::new(4, "Inodes"),
-        MakeFault::Parent => Fault::new(5, "Parent"),
-        MakeFault::Numbers => Fault::new(6, "Numbers"),
-        MakeFault::NoMemory => Fault::new(7, "NoMemory"),
+        MakeFault::Name => (1, "Name"),
+        MakeFault::Twice => (2, "Twice"),
+        MakeFault::Blocks => (3, "Blocks"),
+        MakeFault::Inodes => (4, "Inodes"),
+        MakeFault::Parent => (5, "Parent"),
+        MakeFault::Numbers => (6, "Numbers"),
+        MakeFault::NoMemory => (7, "NoMemory"),
     }
 }
 
 // What is wrong with an image.
-fn image_fault(fault: ImageFault) -> Fault
-    ensures number { result.number ≡ image_number fault }
-    ensures name { result.name.now ≡ image_name fault }
+fn image_fault(fault: ImageFault) -> (u8, &'static str)
+    ensures number { result.0 ≡ image_number fault }
+    ensures name { result.1.now ≡ image_name fault }
 {
     match fault {
-        ImageFault::Length => Fault::new(1, "Length"),
-        ImageFault::Magic => Fault::new(2, "Magic"),
-        ImageFault::Numbers => Fault::new(3, "Numbers"),
-        ImageFault::NodeType => Fault::new(4, "NodeType"),
-        ImageFault::Address => Fault::new(5, "Address"),
-        ImageFault::SharedBlock => Fault::new(6, "SharedBlock"),
-        ImageFault::Bitmap => Fault::new(7, "Bitmap"),
-        ImageFault::Size => Fault::new(8, "Size"),
-        ImageFault::Entry => Fault::new(9, "Entry"),
-        ImageFault::Links => Fault::new(10, "Links"),
-        ImageFault::Unreached => Fault::new(11, "Unreached"),
-        ImageFault::Device => Fault::new(12, "Device"),
-        ImageFault::NoMemory => Fault::new(13, "NoMemory"),
+        ImageFault::Length => (1, "Length"),
+        ImageFault::Magic => (2, "Magic"),
+        ImageFault::Numbers => (3, "Numbers"),
+        ImageFault::NodeType => (4, "NodeType"),
+        ImageFault::Address => (5, "Address"),
+        ImageFault::SharedBlock => (6, "SharedBlock"),
+        ImageFault::Bitmap => (7, "Bitmap"),
+        ImageFault::Size => (8, "Size"),
+        ImageFault::Entry => (9, "Entry"),
+        ImageFault::Links => (10, "Links"),
+        ImageFault::Unreached => (11, "Unreached"),
+        ImageFault::Device => (12, "Device"),
+        ImageFault::NoMemory => (13, "NoMemory"),
     }
 }
 
 // Why a path is no directory.
-fn tree_fault(fault: TreeFault) -> Fault
-    ensures number { result.number ≡ tree_number fault }
-    ensures name { result.name.now ≡ tree_name fault }
+fn tree_fault(fault: TreeFault) -> (u8, &'static str)
+    ensures number { result.0 ≡ tree_number fault }
+    ensures name { result.1.now ≡ tree_name fault }
 {
     match fault {
-        TreeFault::NotFound => Fault::new(1, "NotFound"),
-        TreeFault::NotDir => Fault::new(2, "NotDir"),
-        TreeFault::Exists => Fault::new(3, "Exists"),
-        TreeFault::IsDir => Fault::new(4, "IsDir"),
-        TreeFault::NotEmpty => Fault::new(5, "NotEmpty"),
-        TreeFault::DotName => Fault::new(6, "DotName"),
-        TreeFault::DeadDir => Fault::new(7, "DeadDir"),
-        TreeFault::Links => Fault::new(8, "Links"),
-        TreeFault::Blocks => Fault::new(9, "Blocks"),
-        TreeFault::Inodes => Fault::new(10, "Inodes"),
-        TreeFault::Full => Fault::new(11, "Full"),
-        TreeFault::Device => Fault::new(12, "Device"),
+        TreeFault::NotFound => (1, "NotFound"),
+        TreeFault::NotDir => (2, "NotDir"),
+        TreeFault::Exists => (3, "Exists"),
+        TreeFault::IsDir => (4, "IsDir"),
+        TreeFault::NotEmpty => (5, "NotEmpty"),
+        TreeFault::DotName => (6, "DotName"),
+        TreeFault::DeadDir => (7, "DeadDir"),
+        TreeFault::Links => (8, "Links"),
+        TreeFault::Blocks => (9, "Blocks"),
+        TreeFault::Inodes => (10, "Inodes"),
+        TreeFault::Full => (11, "Full"),
+        TreeFault::Device => (12, "Device"),
     }
 }
 
 // What is wrong with a line of an assembly text.
-fn assembly_fault(kind: AsmKind) -> Fault
-    ensures number { result.number ≡ assembly_number kind }
-    ensures name { result.name.now ≡ assembly_name kind }
+fn assembly_fault(kind: AsmKind) -> (u8, &'static str)
+    ensures number { result.0 ≡ assembly_number kind }
+    ensures name { result.1.now ≡ assembly_name kind }
 {
     match kind {
-        AsmKind::Syntax => Fault::new(1, "Syntax"),
-        AsmKind::Mnemonic => Fault::new(2, "Mnemonic"),
-        AsmKind::Operand => Fault::new(3, "Operand"),
-        AsmKind::Range => Fault::new(4, "Range"),
-        AsmKind::Label => Fault::new(5, "Label"),
-        AsmKind::Twice => Fault::new(6, "Twice"),
-        AsmKind::Align => Fault::new(7, "Align"),
-        AsmKind::NoMemory => Fault::new(8, "NoMemory"),
+        AsmKind::Syntax => (1, "Syntax"),
+        AsmKind::Mnemonic => (2, "Mnemonic"),
+        AsmKind::Operand => (3, "Operand"),
+        AsmKind::Range => (4, "Range"),
+        AsmKind::Label => (5, "Label"),
+        AsmKind::Twice => (6, "Twice"),
+        AsmKind::Align => (7, "Align"),
+        AsmKind::NoMemory => (8, "NoMemory"),
     }
 }
 
 // Why a file is no program.
-fn program_fault(fault: ElfFault) -> Fault
-    ensures number { result.number ≡ program_number fault }
-    ensures name { result.name.now ≡ program_name fault }
+fn program_fault(fault: ElfFault) -> (u8, &'static str)
+    ensures number { result.0 ≡ program_number fault }
+    ensures name { result.1.now ≡ program_name fault }
 {
     match fault {
-        ElfFault::Magic => Fault::new(1, "Magic"),
-        ElfFault::Sizes => Fault::new(2, "Sizes"),
-        ElfFault::Align => Fault::new(3, "Align"),
-        ElfFault::Overlap => Fault::new(4, "Overlap"),
-        ElfFault::Short => Fault::new(5, "Short"),
+        ElfFault::Magic => (1, "Magic"),
+        ElfFault::Sizes => (2, "Sizes"),
+        ElfFault::Align => (3, "Align"),
+        ElfFault::Overlap => (4, "Overlap"),
+        ElfFault::Short => (5, "Short"),
     }
 }
 

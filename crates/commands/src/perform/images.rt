@@ -3,7 +3,7 @@ ghost use Rattle.std.specs.Prelude.{◌≡◌, IfOk};
 ghost use Rattle.commands.specs.Entries.{IsEntryOf};
 
 use crate::host::Host;
-use crate::perform::read;
+use crate::perform::{read, write};
 use crate::report::Failure;
 use blockdev::MemDisk;
 use commandline::{Check, Ls, Mkfs};
@@ -92,10 +92,7 @@ pub fn mkfs<'a, H: Host>(
         Ok(image) => image,
         Err(fault) => return Err(Failure::Make(fault)),
     };
-    match host.write(words.image, image.as_slice()) {
-        Ok(()) => Ok(()),
-        Err(_) => Err(Failure::Write(words.image)),
-    }
+    write(host, words.image, image.as_slice())
 }
 
 /// The disk of this image.

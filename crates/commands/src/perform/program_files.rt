@@ -1,7 +1,7 @@
 //! Assembles texts, and shows program files.
 
 use crate::host::Host;
-use crate::perform::read;
+use crate::perform::{read, write};
 use crate::report::Failure;
 use asm::assemble;
 use commandline::{Asm, Dump};
@@ -19,10 +19,7 @@ pub fn asm<'a, H: Host>(alloc: Global, words: Asm<'a>, host: &mut H) -> Result<(
         Ok(file) => file,
         Err(fault) => return Err(Failure::Assembly(fault)),
     };
-    match host.write(words.elf, file.as_slice()) {
-        Ok(()) => Ok(()),
-        Err(_) => Err(Failure::Write(words.elf)),
-    }
+    write(host, words.elf, file.as_slice())
 }
 
 /// The command `dump`. All headers are read before anything is shown.

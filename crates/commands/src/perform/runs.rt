@@ -10,7 +10,7 @@ ghost use Rattle.unixmodel.specs.Start.{start_flat};
 
 use crate::host::Host;
 use crate::perform::images::disk_of;
-use crate::perform::{read, script_of};
+use crate::perform::{read, script_of, write};
 use crate::play::play;
 use crate::report::{End, Failure};
 use blockdev::{BlockDev, MemDisk};
@@ -125,18 +125,25 @@ fn run_disk<D: BlockDev, T: Translate + Drop, W: Write + Drop>(
     Ok(run_machine(machine, script, words.save.is_some(), stdout))
 }
 
-/// The command `flat`. Its files are read in the order of the command line, and the script is
-/// parsed, before anything is booted.
-pub fn flat<'a, H: Host, W: Write>(
+// Two files, in this order.
+fn read_both<'a, H: Host>(
+    host: &mut H,
+    one: &'a str,
+    other: &'a str,
+) -> Result<(Vec<u8>, Vec<u8>), Failure<'a>> {
+    let one = read(host, one)?;
+    let other = read(host, other)?;
+    Ok((one, other))
+}
+
+// A flat program over the translator that the words ask for.
+fn flat_over<'a, W: Write>(
     alloc: Global,
     words: Flat<'a>,
-    host: &mut H,
+    program: &[u8],
+    script: &[Command<'_>],
     stdout: &mut W,
 ) -> Result<End, Failure<'a>> {
-    let program = read(host, words.file)?;
-    let bytes = read(host, words.script)?;
-    let script = script_of(alloc, words.script, bytes.as_slice())?;
-    let (program, script) = (program.as_slice(), script.as_slice());
     let ended = if words.tlb {
         let cache = Tlb::<64>::new();
         run_flat(alloc, program, cache, words.frames, script, stdout)
@@ -149,18 +156,27 @@ pub fn flat<'a, H: Host, W: Write>(
     }
 }
 
-/// The command `run`: how it ended, and the disk that is left where it was to be saved. Its files are read in the order of
-/// the command line, and the script is parsed, before there is a disk.
-pub fn run<'a, H: Host, W: Write>(
+/// The command `flat`. Its files are read in the order of the command line, and the script is
+/// parsed, before anything is booted.
+pub fn flat<'a, H: Host, W: Write>(
     alloc: Global,
-    words: Run<'a>,
+    words: Flat<'a>,
     host: &mut H,
     stdout: &mut W,
-) -> Result<(End, Option<MemDisk>), Failure<'a>> {
-    let image = read(host, words.image)?;
-    let bytes = read(host, words.script)?;
+) -> Result<End, Failure<'a>> {
+    let (program, bytes) = read_both(host, words.file, words.script)?;
     let script = script_of(alloc, words.script, bytes.as_slice())?;
-    let (disk, script) = (disk_of(image)?, script.as_slice());
+    flat_over(alloc, words, program.as_slice(), script.as_slice(), stdout)
+}
+
+// A machine over the translator that the words ask for.
+fn run_over<'a, W: Write>(
+    alloc: Global,
+    words: Run<'a>,
+    disk: MemDisk,
+    script: &[Command<'_>],
+    stdout: &mut W,
+) -> Result<(End, Option<MemDisk>), Failure<'a>> {
     let ran = if words.tlb {
         let cache = Tlb::<64>::new();
         run_disk(alloc, disk, cache, &words, script, stdout)
@@ -173,6 +189,20 @@ pub fn run<'a, H: Host, W: Write>(
     }
 }
 
+/// The command `run`: how it ended, and the disk that is left where it was to be saved. Its files are read in the order of
+/// the command line, and the script is parsed, before there is a disk.
+pub fn run<'a, H: Host, W: Write>(
+    alloc: Global,
+    words: Run<'a>,
+    host: &mut H,
+    stdout: &mut W,
+) -> Result<(End, Option<MemDisk>), Failure<'a>> {
+    let (image, bytes) = read_both(host, words.image, words.script)?;
+    let script = script_of(alloc, words.script, bytes.as_slice())?;
+    let disk = disk_of(image)?;
+    run_over(alloc, words, disk, script.as_slice(), stdout)
+}
+
 /// Writes the image of the disk that is left, if there is one, to the file of this name.
 pub fn keep<'a, H: Host>(
     name: Option<&'a str>,
@@ -182,6 +212,5 @@ pub fn keep<'a, H: Host>(
     let (Some(name), Some(disk)) = (name, disk) else {
         return Ok(());
     };
-    host.write(name, disk.bytes())
-        .map_err(|_| Failure::Write(name))
+    write(host, name, disk.bytes())
 }

@@ -1,4 +1,0 @@
-use Rattle.commandline.proofs.command_line.run_command.Goals as goal
-
-pub returns : goal.returns
-returns c = c.with_word.ensures _ (c.with_word-imaged.ensures _ (c.with_option-saved.ensures _ (c.with_boot_options-optioned.ensures _ c.named.ensures)))
