@@ -1,5 +1,5 @@
 -- What a result of a pass tells, from what the pass before it tells.
-use Rattle.std.proofs.Common.{Err, List, Ok, Result, length, ℕ, ◌≡◌, ◌≤◌, ap, arith, subst, sym, ◌∙◌, IfErr, IfOk, IsErrOf, OnOk}
+use Rattle.std.proofs.Common.{Err, List, Ok, Result, length, ℕ, ◌≡◌, ◌≢◌, ◌≤◌, ap, arith, subst, sym, ◌∙◌, IfErr, IfOk, IsErrOf, OnOk}
 use Rattle.unixmodel.specs.Failures.{Rises}
 use Rattle.unixmodel.specs.Files.{Files}
 use Rattle.unixmodel.specs.Image.{Denotes, named_blocks, numbers_in_use}
@@ -32,6 +32,13 @@ pub OnOk-from : {T E P Q : Type 0} (r : Result T E) → OnOk r P → (P → Q) �
 OnOk-from (Ok x) h f = f h
 OnOk-from (Err e) h f = tt
 
+pub OnOk-given : {T E P : Type 0} (r : Result T E) → P → OnOk r P
+OnOk-given (Ok x) p = p
+OnOk-given (Err e) p = tt
+
+same-error : {T : Type 0} {x y : ImageFault} → ◌≡◌ {A = Result T ImageFault} (Err x) (Err y) → x ≡ y
+same-error e = cc
+
 -- a fault of the image that is told rules out that it denotes files
 pub refused-from : {T : Type 0} (image : List ℕ) (r : Result T ImageFault) → IfErr r (λ fault. Tells image fault) → IfErr r (λ fault. IsOfImage fault → (files : Files) → Denotes image files → ⊥)
 refused-from image (Ok x) h = tt
@@ -47,6 +54,26 @@ Finds-not_device image r h told = subst (λ x. IfErr x (Finds image)) told h
 
 pub NoMemory-found : {T : Type 0} (image : List ℕ) (r : Result T ImageFault) (fault : ImageFault) → r ≡ Err fault → fault ≡ NoMemory → IfErr r (Finds image)
 NoMemory-found image r fault e memory = subst (λ x. IfErr x (Finds image)) (sym (e ∙ ap Err memory)) tt
+
+-- a fault that is handed on is no success, and is what was found
+pub fault-sound : {T : Type 0} (P : Type 0) (r : Result T ImageFault) (fault : ImageFault) → r ≡ Err fault → OnOk r P
+fault-sound P r fault e = subst (λ x. OnOk x P) (sym e) tt
+
+pub fault-found : {T : Type 0} (image : List ℕ) (r : Result T ImageFault) (fault given : ImageFault) → r ≡ Err fault → fault ≡ given → Finds image given → IfErr r (Finds image)
+fault-found image r fault given e same finds = subst (λ x. IfErr x (Finds image)) (sym (e ∙ ap Err same)) finds
+
+-- what a result tells that blames no image
+pub record IsOther {T : Type 0} (image : List ℕ) (r : Result T ImageFault) (P : T → Type 0) (other : ImageFault) : Type 0 where
+  pub told : IfOk r P
+  pub only : IfErr r (λ fault. Tells image fault)
+  pub no : (fault : ImageFault) → other ≢ fault → IsErrOf r fault → ⊥
+
+-- memory ran out, or the device failed
+pub no-memory : {T : Type 0} (image : List ℕ) (P : T → Type 0) (r : Result T ImageFault) (fault : ImageFault) → r ≡ Err fault → fault ≡ NoMemory → IsOther image r P NoMemory
+no-memory image P r fault e memory = rw (e ∙ ap Err memory) (record { told = tt; only = tt; no = λ fault other is. absurd (other (same-error is)) })
+
+pub no-device : {T : Type 0} (image : List ℕ) (P : T → Type 0) (r : Result T ImageFault) (fault : ImageFault) → r ≡ Err fault → fault ≡ Device → IsOther image r P Device
+no-device image P r fault e device = rw (e ∙ ap Err device) (record { told = tt; only = tt; no = λ fault other is. absurd (other (same-error is)) })
 
 -- the parts of a summary
 pub record IsTold (image : List ℕ) (r : Result Summary ImageFault) : Type 0 where

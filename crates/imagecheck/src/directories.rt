@@ -16,7 +16,7 @@ use crate::fields::kind;
 use crate::names::{are_distinct, read_names};
 use crate::namings::{Naming, add_entries};
 use layout::Geometry;
-use std::alloc::Allocator;
+use std::alloc::{AllocError, Allocator};
 
 // Whether the names in a directory's bytes are good, one by one and all together. Their numbers are sorted.
 fn has_names(image: &[u8], geometry: Geometry, bytes: &[u8], names: &mut [u128]) -> bool
@@ -57,6 +57,26 @@ fn test_names(
     Ok(())
 }
 
+// Puts the bytes of a directory, and the numbers of its names, in place of others.
+fn read_directory<A: Allocator>(
+    image: &[u8],
+    geometry: Geometry,
+    n: usize,
+    bytes: &mut Vec<u8, A>,
+    names: &mut Vec<u128, A>,
+) -> Result<(), AllocError>
+    requires geometry { HasGeometry image.now geometry }
+    requires blocks { BlockRules image.now }
+    requires low { 1 ≤ n }
+    requires high { n < geometry.inodes }
+    requires directory { kind_in image.now n ≡ 1 }
+    ensures bytes { OnOk result (bytes.new.items ≡ contents_in image.now n) }
+    ensures names { OnOk result (names.new.items ≡ name_numbers (entries_in (contents_in image.now n))) }
+{
+    read_contents(image, geometry, n, bytes)?;
+    read_names(bytes, names)
+}
+
 // Tests the names of a directory, and appends its entries. Bytes and names are room to work in.
 fn test_directory<A: Allocator, B: Allocator>(
     image: &[u8],
@@ -75,8 +95,7 @@ fn test_directory<A: Allocator, B: Allocator>(
     ensures namings { OnOk result (namings.new.items ≡ namings.old.items ++ namings_of n (entries_in (contents_in image.now n))) }
     ensures fault { IfErr result (Finds image.now) }
 {
-    read_contents(image, geometry, n, bytes)?;
-    read_names(bytes, names)?;
+    read_directory(image, geometry, n, bytes, names)?;
     test_names(image, geometry, n, bytes, names)?;
     add_entries(bytes, n as u16, namings)?;
     Ok(())

@@ -70,6 +70,45 @@ fn test_links(
     Ok(())
 }
 
+// Tests the first two places of the directories, from a table of the parents.
+fn test_fronts<A: Allocator>(
+    alloc: A,
+    image: &[u8],
+    geometry: Geometry,
+    namings: &[Naming],
+    counts: &[usize],
+) -> Result<(), ImageFault>
+    requires listed { IsListed image.now geometry namings.now }
+    requires long { length counts.now ≡ geometry.inodes }
+    requires counts { TellsNames image.now counts.now }
+    ensures sound { OnOk result (HasEntries (files_in image.now)) }
+    ensures fault { IfErr result (Finds image.now) }
+{
+    let mut parents = vec![in alloc; 0; geometry.inodes]?;
+    find_parents(namings, &mut parents);
+    test_entries(image, geometry, counts, &parents)
+}
+
+// Tests the counts of links, from a table of the subdirectories.
+fn test_subdirectories<A: Allocator>(
+    alloc: A,
+    image: &[u8],
+    geometry: Geometry,
+    namings: &[Naming],
+    counts: &[usize],
+) -> Result<(), ImageFault>
+    requires listed { IsListed image.now geometry namings.now }
+    requires entries { HasEntries (files_in image.now) }
+    requires long { length counts.now ≡ geometry.inodes }
+    requires counts { TellsNames image.now counts.now }
+    ensures sound { OnOk result (HasLinks (files_in image.now)) }
+    ensures fault { IfErr result (Finds image.now) }
+{
+    let mut subdirectories = vec![in alloc; 0; geometry.inodes]?;
+    count_subdirectories(image, geometry, namings, &mut subdirectories);
+    test_links(image, geometry, counts, &subdirectories)
+}
+
 // Tests what the entries of all directories tell: the first two places, how many name each number, and the links.
 fn test_namings<A: Allocator>(
     alloc: A,
@@ -84,12 +123,8 @@ fn test_namings<A: Allocator>(
 {
     let mut counts = vec![in &alloc; 0; geometry.inodes]?;
     count_names(namings, &mut counts);
-    let mut parents = vec![in &alloc; 0; geometry.inodes]?;
-    find_parents(namings, &mut parents);
-    test_entries(image, geometry, &counts, &parents)?;
-    let mut subdirectories = vec![in &alloc; 0; geometry.inodes]?;
-    count_subdirectories(image, geometry, namings, &mut subdirectories);
-    test_links(image, geometry, &counts, &subdirectories)
+    test_fronts(&alloc, image, geometry, namings, &counts)?;
+    test_subdirectories(&alloc, image, geometry, namings, &counts)
 }
 
 // Tests the files: the rules from the entries to the reach.

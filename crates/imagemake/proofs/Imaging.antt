@@ -1,6 +1,8 @@
 -- From a disk that stores files to the bytes of an image that denotes them.
-use Rattle.std.proofs.Common.{◌≡◌, ℕ, ◌+◌, ◌*◌, ◌/◌, ◌%◌, ◌≤◌, true, false, cond, List, ◌∷◌, ◌++◌, None, Ok, Err, length, take, map, zero, suc, ap, sym, refl, ◌∙◌, arith, subst, flat_map, replicate}
+use Rattle.std.proofs.Common.{◌≡◌, ℕ, ◌+◌, ◌*◌, ◌/◌, ◌%◌, ◌<◌, ◌≤◌, ◌&&◌, Bool, true, false, cond, List, ◌∷◌, ◌++◌, None, Ok, Err, Result, length, nat_le, nat_lt, take, map, zero, suc, ap, sym, refl, ◌∙◌, arith, subst, flat_map, replicate}
 use Rattle.std.specs.List.{range_with_len}
+use Rattle.std.specs.Prelude.{IfErr, IfOk}
+use Rattle.std.proofs.lemmas.Bool.Decides.{nat_tests}
 use Rattle.std.proofs.lemmas.List.{append-nil, take_all}
 use Rattle.std.proofs.lemmas.List.Concat.{flat_map-append}
 use Rattle.std.proofs.lemmas.List.Folds.{flat_map-map}
@@ -12,8 +14,9 @@ use Rattle.layout.specs.Sound.{IsSound}
 use Rattle.layout.specs.Super.{data_start_of}
 use Rattle.unixmodel.specs.Counts.{blocks_of}
 use Rattle.unixmodel.specs.Files.{free_slots}
-use Rattle.unixmodel.specs.Image.{Denotes}
+use Rattle.unixmodel.specs.Image.{Denotes, data_start}
 use Rattle.unixmodel.specs.Manifest.{ManifestEntry, bare_files, data_blocks_of, files_made, has_numbers, with_entries}
+use Rattle.unixmodel.specs.Manifest.{Wrong}
 use Rattle.unixmodel.specs.Manifest.Wrong.{Numbers}
 use Rattle.imagemake.specs.Begins.{MakesEntries}
 use Rattle.imagerules.specs.Content.{image_of}
@@ -21,6 +24,7 @@ use Rattle.imagerules.proofs.ContentLemmas.{length-image_of}
 use Rattle.imagemake.specs.Making.{MakesImage, Refuses}
 use Rattle.imagemake.specs.Stored.{IsWhole, Stores, raw_slot}
 use Rattle.imagemake.specs.declared.manifest.MakeFault.{MakeFault}
+use Rattle.imagemake.specs.declared.manifest.MakeFault.TheVariants.{NoMemory}
 use Rattle.imagemake.proofs.Denoted.{Denotes-stored}
 use Rattle.imagerules.proofs.Marking.{range-split}
 use Rattle.imagerules.proofs.Spelling.{take_next}
@@ -63,6 +67,46 @@ Stores-none g blocks sound nodes free =
       free = omega arith;
       whole = λ n. subst IsWhole (sym (slot-free g.inodes n)) tt;
     }
+
+-- ---- numbers that an image can have
+
+pub record IsPossible (size inodes : ℕ) : Type 0 where
+  pub size_low : 32 ≤ size
+  pub size_high : size ≤ 16384
+  pub inodes_low : 16 ≤ inodes
+  pub inodes_high : inodes ≤ 8192
+  pub room : data_start_of size inodes < size
+
+all-true : (a b c d e : Bool) → (a && b && c && d && e) ≡ true → (a ≡ true) × (b ≡ true) × (c ≡ true) × (d ≡ true) × (e ≡ true)
+all-true false b c d e h = absurd (cc)
+all-true true false c d e h = absurd (cc)
+all-true true true false d e h = absurd (cc)
+all-true true true true false e h = absurd (cc)
+all-true true true true true false h = absurd (cc)
+all-true true true true true true h = (refl, refl, refl, refl, refl)
+
+pub possible : (size inodes : ℕ) → has_numbers size inodes ≡ true → IsPossible size inodes
+possible size inodes h =
+    let p = all-true (nat_le 32 size) (nat_le size 16384) (nat_le 16 inodes) (nat_le inodes 8192) (nat_lt (data_start size inodes) size) h in
+    record {
+      size_low = grind (arith, nat_tests, p.0);
+      size_high = grind (arith, nat_tests, p.1);
+      inodes_low = grind (arith, nat_tests, p.2);
+      inodes_high = grind (arith, nat_tests, p.3);
+      room = grind (arith, nat_tests, p.4);
+    }
+
+-- ---- what the lack of memory tells
+
+pub none-refused : {T X : Type 0} (what : Result X Wrong) (r : Result T MakeFault) (fault : MakeFault) → r ≡ Err fault → fault ≡ NoMemory → IfErr r (λ f. Refuses what f)
+none-refused what r fault e memory = rw (e ∙ ap Err memory) tt
+
+pub none-told : {T : Type 0} (P : T → Type 0) (r : Result T MakeFault) (fault : MakeFault) → r ≡ Err fault → IfOk r P
+none-told P r fault e = rw e tt
+
+pub only-memory : {T X : Type 0} (what : Result X Wrong) (r : Result T MakeFault) → IfErr r (λ fault. fault ≡ NoMemory) → IfErr r (λ f. Refuses what f)
+only-memory what (Ok x) only = tt
+only-memory what (Err fault) only = subst (Refuses what) (sym only) tt
 
 -- ---- what a manifest makes
 

@@ -18,6 +18,17 @@ OnOk-three (Err e) f p q r = tt
 pub told : {T E : Type 0} {fault : E} (r : Result T E) → IsErrAnd r (λ f. f ≡ fault) → r ≡ Err fault
 told r h = let p = err_from_is_err_and r h in p.1 ∙ ap Err p.2
 
+-- an error is no good answer
+pub none-done : {T E : Type 0} (P : Type 0) {r : Result T E} {fault : E} → r ≡ Err fault → OnOk r P
+none-done {T} {E} P e = subst (λ (x : Result T E). OnOk x P) (sym e) tt
+
+-- the cause of an access that failed, and of one after it
+pub cause-failed : {T U E : Type 0} {a b : ℕ} {access : Result T E} {e : E} {r : Result U E} → HasCause a b access → access ≡ Err e → HasCause a b r
+cause-failed cause was = record { later = cause.later; failed = λ _. cause.failed (ap is_err was) }
+
+pub cause-after : {T E : Type 0} {a b c : ℕ} {r : Result T E} → a ≤ b → HasCause b c r → HasCause a c r
+cause-after h cause = record { later = let l = cause.later in omega (arith, h, l); failed = λ e. let rises = cause.failed e in omega (arith, h, rises) }
+
 -- a failed access says nothing of the files
 pub IsPut-failed : (g : Geometry) (blocks : List (List ℕ)) (files : Files) (n : ℕ) (node : Node) {r : Result (Unit {0}) StoreFault} → r ≡ Err Device → IsPut g blocks files n node r
 IsPut-failed g blocks files n node e = subst (IsPut g blocks files n node) (sym e) tt

@@ -19,8 +19,8 @@ use Rattle.proc.specs.Mask.{all_in}
 use Rattle.proc.specs.Places.{Places, is_running, seated}
 use Rattle.proc.proofs.Joined.{joined-free_slots}
 use Rattle.proc.specs.Whole.{joined}
-use Rattle.spaces.specs.Spaces.{Held, Spaces, no_spaces}
-use Rattle.std.proofs.Common.{List, None, Option, Some, ap, arith, false, is_some, length, map, nat_le, refl, replicate, subst, suc, sym, true, zero, ℕ, ◌%◌, ◌+◌, ◌<◌, ◌∙◌, ◌∷◌, ◌≡◌, ◌≢◌, ◌≤◌}
+use Rattle.spaces.specs.Spaces.{Held, Spaces}
+use Rattle.std.proofs.Common.{List, None, Option, Some, ap, arith, false, is_some, le_trans, length, map, nat_le, refl, replicate, subst, suc, sym, true, zero, ℕ, ◌%◌, ◌+◌, ◌<◌, ◌∙◌, ◌∷◌, ◌≡◌, ◌≢◌, ◌≤◌}
 use Rattle.std.proofs.lemmas.Bool.{le-leb, lt-leb}
 use Rattle.std.proofs.lemmas.Bool.Decides.{nat_tests}
 use Rattle.std.proofs.lemmas.List.{length-replicate}
@@ -168,11 +168,14 @@ module _ (old tree : FileTree) (unheld : IsUnheld old) (same : tree ≡ record o
   holds-same : tree.holds ≡ replicate unheld.count 0
   holds-same = ap (λ (t : FileTree). t.holds) same ∙ unheld.holds
 
-  root-there : slot tree.files 1 ≢ None
+  pub root-there : slot tree.files 1 ≢ None
   root-there none = none-some _ (sym none ∙ rules-same.root.here)
 
   root-within : 1 < unheld.count
   root-within = let low = (whole.numbers 1 root-there).0 in omega (arith, low, ap length holds-same, length-replicate {A = ℕ} unheld.count 0)
+
+  pub root-few : holders tree.holds 1 < 65535
+  root-few = let none : holders tree.holds 1 ≡ 0 = ap (λ h. holders h 1) holds-same ∙ zeros-past unheld.count 1 in omega (arith, none)
 
   init-homes : (new : Plan) (i : ℕ) → IfSome (home_in (slot (first_places new).places i)) (λ d. IsFolder (slot tree.files d))
   unfolding free_slots
@@ -211,8 +214,9 @@ table-init new = refl
 
 -- ---- the kernel as it is made
 
-pub frames-same : {frames : ℕ} {s : Spaces} {ram : List (List ℕ)} → s ≡ no_spaces (length ram) → ram ≡ replicate frames (replicate 4096 0) → s.frames ≡ frames
-frames-same {frames} is all = ap (λ (x : Spaces). x.frames) is ∙ ap length all ∙ length-replicate frames (replicate 4096 0)
+-- so few pages
+pub few-init : (files : Files) (frames : ℕ) (put : Spaces) (o : Option Init) (init : Init) → o ≡ Some init → PutsInit files frames put o → frames ≤ 32768 → init.program.pages ≤ 32768
+few-init files frames put o init is puts few = le_trans (subst (PutsInit files frames put) is puts).few few
 
 -- the frames don't suffice, or there is no plan
 pub not-begun : (tree : FileTree) (frames : ℕ) (s put : Spaces) → s.frames ≡ frames → (told : Option Init) → told ≡ None → PutsInit tree.files s.frames put told → start tree.files tree.block_limit frames ≡ None

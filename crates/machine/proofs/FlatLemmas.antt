@@ -13,15 +13,18 @@ use Rattle.files.specs.declared.file.OpenFile.{OpenFile}
 use Rattle.files.specs.declared.table.FileFault.{FileFault}
 use Rattle.files.specs.Places.{Counted, count_at, count_in, opened, opens_of, place_for}
 use Rattle.files.proofs.Whole.{slot-opens}
-use Rattle.machine.specs.Flat.{alone, bare_plan, console_file, first, first_files, first_kernel, first_table, first_tree, flat_memory, flat_space}
+use Rattle.machine.specs.declared.fault.BootFault.{BootFault}
+use Rattle.machine.specs.declared.fault.BootFault.TheVariants.{FrameCount, NoInit, NoMemory}
+use Rattle.machine.specs.Flat.{LoadsFlat, alone, bare_plan, console_file, first, first_files, first_kernel, first_table, first_tree, flat_memory, flat_space}
 use Rattle.mount.specs.Mounted.{IsFlat}
 use Rattle.proc.specs.declared.process.Process.{Process}
 use Rattle.proc.specs.Mask.{all_in}
 use Rattle.proc.specs.Places.{is_running, seated}
 use Rattle.proc.proofs.Joined.{joined-free_slots}
 use Rattle.proc.specs.Whole.{joined}
-use Rattle.spaces.specs.Spaces.{Held, Spaces, frames_in, grown, held_at, no_pages, taken_frames, with_held, written}
-use Rattle.std.proofs.Common.{Bool, List, None, Ok, Option, Result, Some, [], ap, append_assoc, ap₂, arith, drop, false, get_or, is_some, length, length-append, map, nat_le, refl, replicate, subst, suc, sym, take, true, zero, ℕ, ◌%◌, ◌*◌, ◌++◌, ◌+◌, ◌-◌, ◌/◌, ◌<◌, ◌∙◌, ◌∷◌, ◌≡◌, ◌≢◌, ◌≤◌}
+use Rattle.spaces.specs.Spaces.{Held, Spaces, frames_in, grown, has_space, held_at, no_pages, no_spaces, taken_frames, with_held, written}
+use Rattle.std.proofs.Common.{Bool, Err, List, None, Ok, Option, Result, Some, [], ap, append_assoc, ap₂, arith, drop, false, get_or, inl, inr, is_some, length, length-append, map, nat_le, refl, replicate, subst, suc, sym, take, true, zero, ℕ, ◌%◌, ◌*◌, ◌++◌, ◌+◌, ◌-◌, ◌/◌, ◌<◌, ◌∙◌, ◌∷◌, ◌≡◌, ◌≢◌, ◌≤◌, ◌⊎◌, ◌↔◌}
+use Rattle.std.specs.Bool.{OnFalse, OnTrue}
 use Rattle.std.proofs.lemmas.Bool.{le-leb, lt-leb, lt-ltb}
 use Rattle.std.proofs.lemmas.Bool.Decides.{nat_tests}
 use Rattle.std.proofs.lemmas.List.{drop-replicate, length-replicate, length-take}
@@ -29,7 +32,7 @@ use Rattle.std.proofs.lemmas.List.Folds.{sum_by-replicate}
 use Rattle.std.proofs.lemmas.List.Sums.{sum_by-cons}
 use Rattle.std.proofs.Math.Nat.{zero-add}
 use Rattle.std.proofs.Math.Seq.{take-append-add}
-use Rattle.std.specs.Prelude.{IfOk, IfSome, if◌then◌else◌, option_map, slice_index, sum_by, ◌==◌}
+use Rattle.std.specs.Prelude.{IfOk, IfSome, IsErrOf, OnErr, if◌then◌else◌, option_map, slice_index, sum_by, ◌==◌}
 use Rattle.tree.specs.Tree.{FileTree}
 use Rattle.unixmodel.specs.Counts.{blocks_of, frames_of, page_frames}
 use Rattle.unixmodel.specs.Files.{Files, free_slots, slot}
@@ -407,6 +410,20 @@ within bytes frames s h new change is to fits =
     let here : taken_frames (alone frames new) ≤ frames = rw (is, to) at fits in
     omega (arith, here, taken-alone frames new)
 
+-- the first place of no spaces is free, and it has the space that stands alone
+pub first-free : {frames : ℕ} {s : Spaces} → s ≡ no_spaces frames → has_space s 0 ≡ false
+first-free is = ap (λ (s : Spaces). has_space s 0) is
+
+pub alone-space : {frames : ℕ} {h : Held} {s : Spaces} → s ≡ alone frames h → has_space s 0 ≡ true
+alone-space is = ap (λ (s : Spaces). has_space s 0) is
+
+-- no spaces over so many frames
+pub frames-of : {frames : ℕ} {s : Spaces} → s ≡ no_spaces frames → s.frames ≡ frames
+frames-of is = ap (λ (x : Spaces). x.frames) is
+
+pub none-of : {frames : ℕ} {s : Spaces} → s ≡ no_spaces frames → s ≡ no_spaces s.frames
+none-of is = is ∙ ap no_spaces (sym (frames-of is))
+
 pub created : (frames : ℕ) (s t : Spaces) → s ≡ record { places = replicate 64 None; active = None; registers = replicate 32 0; pc = 0; frames = frames; pipes = replicate 100 None } → t ≡ with_held s 0 no_pages → t ≡ alone frames no_pages
 created frames s t is done = rw (done, is) refl
 
@@ -438,3 +455,29 @@ module _ (bytes : List ℕ) (frames : ℕ) (s t : Spaces) where
 
   pub stack-fits : s ≡ alone frames (guarded bytes) → taken_frames (with_held s 0 (grown (held_at s 0) 4096 (stack_marks true))) ≤ s.frames → 4 + page_frames (length (flat_memory bytes)) ≤ frames
   stack-fits is fits = within bytes frames s (guarded bytes) (flat_space bytes) (λ h. grown h 4096 (stack_marks true)) is (stacked-is bytes) fits
+
+  -- the bytes are within the pages
+  pub fill-inside : s ≡ alone frames (segment bytes) → (i : ℕ) → i < length bytes → (0 + i) / 4096 < length (held_at s 0).memory
+  fill-inside is i less = rw (is, length-replicate (program_pages bytes) (zero_page all_marks)) (omega (arith, less))
+
+-- whether the page of the stack comes behind the guard page
+pub flat-loaded : (bytes : List ℕ) (old s t : Spaces) → s ≡ alone old.frames (guarded bytes) → (r : Bool)
+    → OnTrue r ((taken_frames (with_held s 0 (grown (held_at s 0) 4096 (stack_marks true))) ≤ s.frames) × (t ≡ with_held s 0 (grown (held_at s 0) 4096 (stack_marks true))))
+    → OnFalse r ((s.frames < taken_frames (with_held s 0 (grown (held_at s 0) 4096 (stack_marks true)))) × (t ≡ s)) → LoadsFlat bytes old t r
+flat-loaded bytes old s t is true done full = (stack-made bytes old.frames s t is done.1, stack-fits bytes old.frames s t is done.0)
+flat-loaded bytes old s t is false done full = stack-over bytes old.frames s t is full.0
+
+-- where the count is in range the fault isn't that
+pub counted-flat : {M : Type 0} (frames : ℕ) → 64 ≤ frames → frames ≤ 32768 → (r : Result M BootFault) → OnErr r (IsErrOf r NoInit ⊎ IsErrOf r NoMemory) → IsErrOf r FrameCount ↔ ((frames < 64) ⊎ (32768 < frames))
+counted-flat {M} frames least most r only = (λ e. absurd (other e (subst (λ (x : Result M BootFault). OnErr x (IsErrOf r NoInit ⊎ IsErrOf r NoMemory)) e only)), λ out. absurd (outside out)) where
+  other : IsErrOf r FrameCount → (IsErrOf r NoInit ⊎ IsErrOf r NoMemory) → ⊥
+  other e (inl i) = cc
+  other e (inr i) = cc
+
+  outside : ((frames < 64) ⊎ (32768 < frames)) → ⊥
+  outside (inl low) = omega (arith, low, least)
+  outside (inr high) = omega (arith, high, most)
+
+pub only-flat : {M : Type 0} (r : Result M BootFault) → OnErr r (IsErrOf r NoInit ⊎ IsErrOf r NoMemory) → OnErr r (IsErrOf r FrameCount ⊎ (IsErrOf r NoInit ⊎ IsErrOf r NoMemory))
+only-flat (Ok m) only = tt
+only-flat (Err f) only = inr only

@@ -4,7 +4,7 @@ use Rattle.std.proofs.lemmas.Bool.{false≢true}
 use Rattle.std.proofs.lemmas.Option.{none-some, same_Some}
 use Rattle.std.specs.List.{flat_map}
 use Rattle.std.specs.Prelude.{IfSome, IsSome, if◌then◌else◌, is_some, nat_le, option_and_then, option_map}
-use Rattle.machine.proofs.FlatLemmas.{no-frames}
+use Rattle.machine.proofs.FlatLemmas.{alone-space, no-frames}
 use Rattle.machine.specs.declared.image_boot.Init.{Init}
 use Rattle.machine.specs.Booted.{FindsInit, IsInPlace, IsInit, LacksInit, first_of}
 use Rattle.machine.specs.Flat.{alone}
@@ -16,8 +16,8 @@ use Rattle.programs.specs.declared.arguments.Arguments.{Arguments}
 use Rattle.programs.specs.declared.headers.Program.{Program}
 use Rattle.programs.specs.Headed.{IsRead, file_at, program_in}
 use Rattle.programs.specs.Passed.{PassesOne, plan_with, stacked}
-use Rattle.programs.specs.Placed.{Leaves, paged}
-use Rattle.spaces.specs.Spaces.{Held, Spaces, no_pages, no_spaces, taken_frames, with_held}
+use Rattle.programs.specs.Placed.{HasRoom, Leaves, paged}
+use Rattle.spaces.specs.Spaces.{Held, Spaces, has_space, no_pages, no_spaces, taken_frames, with_held, with_place}
 use Rattle.tree.specs.Tree.{FileTree, Serves}
 use Rattle.tree.specs.Written.{IsFile}
 use Rattle.unixmodel.specs.Counts.{page_frames}
@@ -255,6 +255,32 @@ taken-none frames = omega (arith, no-frames 64)
 -- the place of a space without pages
 pub made-alone : (s t : Spaces) → s ≡ no_spaces s.frames → t ≡ with_held s 0 no_pages → t ≡ alone s.frames no_pages
 made-alone s t is done = done ∙ ap (λ (x : Spaces). with_held x 0 no_pages) is
+
+-- what its loading asks for
+pub record IsReady (tree : FileTree) (made : Spaces) (init : Init) : Type 0 where
+  pub file : IsFile tree.files init.number
+  pub program_is : program_in (file_at tree.files init.number) ≡ Some init.program
+  pub few : init.program.pages < 2 ^ 32
+  pub space : has_space made 0 ≡ true
+  pub room : HasRoom made 0 (init.program.pages + 2)
+
+pub ready : {old mid : FileTree} {told : Option Init} {frames : ℕ} → Serves old mid (Ok told) (λ told. Leaves old mid told × FindsInit old.files frames told) → (init : Init) → told ≡ Some init → (s made : Spaces) → s ≡ no_spaces s.frames → made ≡ with_held s 0 no_pages
+    → frames + taken_frames s ≡ s.frames → s.frames ≤ 32768 → IsReady mid made init
+ready {old} {mid} {told} {frames} serves init some s made none done all small =
+    let taken : taken_frames s ≡ 0 = ap taken_frames none ∙ taken-none s.frames in
+    let finds : IsInit old.files frames init = subst (FindsInit old.files frames) some serves.told.1 in
+    let fits = finds.fits in
+    let same : mid.files ≡ old.files = ap (λ (t : FileTree). t.files) serves.told.0 in
+    let is : made ≡ alone s.frames no_pages = made-alone s made none done in
+    let none_there : taken_frames (with_place made 0 None) ≡ 0 = ap (λ (x : Spaces). taken_frames (with_place x 0 None)) is ∙ taken-none s.frames in
+    let count : made.frames ≡ s.frames = ap (λ (x : Spaces). x.frames) is in
+    record {
+      file = subst (λ (files : Files). IsFile files init.number) (sym same) finds.file;
+      program_is = ap (λ (files : Files). program_in (file_at files init.number)) same ∙ finds.program;
+      few = omega (arith, fits, all, small);
+      space = alone-space is;
+      room = omega (arith, none_there, count, fits, all, taken);
+    }
 
 -- /init is in its place
 pub in-place : {old mid : FileTree} {told : Option Init} {frames : ℕ} → Serves old mid (Ok told) (λ told. Leaves old mid told × FindsInit old.files frames told) → (init : Init) → told ≡ Some init → (s made new : Spaces) → s ≡ no_spaces s.frames → made ≡ with_held s 0 no_pages

@@ -1,8 +1,11 @@
 -- What is told of the files of the disk is what the abstract Unix shows, and a kernel whose device fails keeps what it keeps.
-use Rattle.std.proofs.Common.{None, Option, Some, ap, length, min, refl, subst, sym, true, ℕ, ◌%◌, ◌++◌, ◌-◌, ◌∙◌, ◌≡◌}
+use Rattle.std.proofs.Common.{Err, None, Option, Result, Some, ap, length, min, refl, subst, sym, true, ℕ, ◌%◌, ◌++◌, ◌-◌, ◌∙◌, ◌≡◌}
 use Rattle.std.proofs.lemmas.List.{length-drop, length-take, take_min}
 use Rattle.std.specs.Prelude.{List, drop, option_map, slice_index, take}
+use Rattle.blockdev.specs.declared.DeviceFault.{DeviceFault}
 use Rattle.blockdev.specs.Splice.{part}
+use Rattle.calls.proofs.Served.{disk-lost, serves-disk}
+use Rattle.calls.specs.Does.{IsLost}
 use Rattle.inode.specs.declared.InodeStat.{InodeStat}
 use Rattle.kernel.proofs.Holding.{failed-filed}
 use Rattle.kernel.proofs.Steps.{fail-keeps, with-tree}
@@ -15,7 +18,7 @@ use Rattle.kernel.specs.Watch.{Watches}
 use Rattle.machine.specs.Looks.{IsRead, stat_from, stat_seen, stopped_in}
 use Rattle.spaces.specs.Spaces.{Spaces}
 use Rattle.tree.specs.Telling.{Tells, TellsAny}
-use Rattle.tree.specs.Tree.{FileTree}
+use Rattle.tree.specs.Tree.{FileTree, Serves}
 use Rattle.unixmodel.specs.Files.{Node}
 use Rattle.unixmodel.specs.Shown.{stat_of}
 
@@ -44,6 +47,9 @@ read-shown bytes old new at k count front =
 
 idle-is : (s : Spaces) → s.active ≡ None → s ≡ idle s
 idle-is s e = ap (λ a. record s { active = a }) e
+
+pub lost-read : {T : Type 0} {Told : T → Type 0} {at now : Kernel} {t : FileTree} {r : Result T DeviceFault} → at ≡ now → (fault : DeviceFault) → r ≡ Err fault → Serves at.tree t r Told → IsLost now.tree t
+lost-read {t = t} {r = r} same fault is serves = subst (λ (k : Kernel). IsLost k.tree t) same (disk-lost r fault is (serves-disk serves))
 
 -- at is what the fields show, and now the kernel's value
 module _ (at now : Kernel) (same : at ≡ now) (is : IsKernel now) (watched : Watches now) (z : slice_index now.spaces.registers 0 ≡ 0) (a : now.spaces.pc % 4 ≡ 0) (t : FileTree) (down : t.failed ≡ true) where

@@ -2,7 +2,7 @@
 use Rattle.tree.specs.Holding.{with_hold}
 use Rattle.files.specs.declared.file.Target.TheVariants.{Console}
 use Rattle.files.specs.declared.file.OpenFile.{OpenFile}
-use Rattle.std.specs.Prelude.{List, None, Option, Some, [], false, length, replicate, true, ℕ, ◌*◌, ◌-◌, ◌∷◌}
+use Rattle.std.specs.Prelude.{Bool, List, None, Option, Some, [], false, length, replicate, true, ℕ, ◌*◌, ◌+◌, ◌-◌, ◌<◌, ◌∷◌, ◌≡◌, ◌≤◌}
 use Rattle.kernel.specs.Kernel.{Kernel, begun}
 use Rattle.files.specs.Places.{Counted}
 use Rattle.proc.specs.declared.process.Process.{Process}
@@ -11,6 +11,7 @@ use Rattle.proc.specs.Places.{Places}
 use Rattle.spaces.specs.Spaces.{Held, Spaces}
 use Rattle.tree.specs.Tree.{FileTree}
 use Rattle.unixmodel.specs.declared.process.Mode.TheVariants.{Ready}
+use Rattle.unixmodel.specs.Counts.{page_frames}
 use Rattle.unixmodel.specs.Files.{free_slots}
 use Rattle.unixmodel.specs.Memory.{Memory, pages_of, zeros}
 use Rattle.unixmodel.specs.Numbers.{ceil_div}
@@ -37,6 +38,11 @@ alone frames space = record {
   frames = frames;
   pipes = replicate 100 None;
 }
+
+-- a flat program is loaded into the first place, or the frames don't suffice
+abbrev pub LoadsFlat : List ℕ → Spaces → Spaces → Bool → Type 0
+LoadsFlat bytes old new true = (new ≡ alone old.frames (flat_space bytes)) × (4 + page_frames (length (flat_memory bytes)) ≤ old.frames)
+LoadsFlat bytes old new false = old.frames < 4 + page_frames (length (flat_memory bytes))
 
 -- what a process without arguments begins with: its stack holds the 0 word that ends their list
 abbrev pub bare_plan : Memory → ℕ → Plan

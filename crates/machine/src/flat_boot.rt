@@ -1,20 +1,20 @@
 //! How a machine begins.
-ghost use Rattle.std.specs.Prelude.{◌≡◌, ◌*◌, ◌+◌, ◌<◌, ◌≤◌, ◌⊎◌, ◌↔◌, Some, None, IfOk, IfSome, IfNone, IsErrOf, OnErr, length};
-ghost use Rattle.machine.specs.Flat.{alone, first, first_files, first_table, flat_memory, flat_space};
+ghost use Rattle.std.specs.Prelude.{◌≡◌, ◌<◌, ◌≤◌, ◌⊎◌, ◌↔◌, Some, None, IfOk, IsErrOf, OnErr};
+ghost use Rattle.machine.specs.Flat.{LoadsFlat, first, first_files, first_table};
 ghost use Rattle.machine.specs.Told.{IsUp};
 ghost use Rattle.mount.specs.Mounted.{IsFlat};
 ghost use Rattle.spaces.specs.Spaces.{no_spaces};
-ghost use Rattle.unixmodel.specs.Counts.{page_frames};
 ghost use Rattle.unixmodel.specs.Start.{start_flat};
 
 use crate::fault::BootFault;
 use crate::machine::Machine;
+use crate::memory::empty;
 use blockdev::{BlockDev, MemDisk};
 use calls::Kernel;
 use files::{Files, OpenFile, Target};
 use mount::mount_flat;
 use proc::{Process, Table};
-use ram::{FRAME_SIZE, Ram};
+use ram::FRAME_SIZE;
 use spaces::Spaces;
 use std::alloc::Global;
 use sv39::{Plain, Translate};
@@ -62,30 +62,24 @@ const STACK: Perm = Perm {
 };
 
 // Puts a flat program into the first of the address spaces of a machine that has none: its bytes from address 0 on, a
-// guard page, and a page for the stack. `None`: the frames don't suffice.
-fn load<T: Translate + Drop>(spaces: Spaces<T>, bytes: &[u8]) -> Option<Spaces<T>>
-    requires { spaces ≡ no_spaces spaces.frames }
-    ensures some { IfSome result (λ s. s ≡ alone spaces.frames (flat_space bytes.now)) }
-    ensures fits { IfSome result (λ s. 4 + page_frames (length (flat_memory bytes.now)) ≤ spaces.frames) }
-    ensures none { IfNone result (spaces.frames < 4 + page_frames (length (flat_memory bytes.now))) }
+// guard page, and a page for the stack. It tells whether the frames suffice.
+fn load<T: Translate + Drop>(spaces: &mut Spaces<T>, bytes: &[u8]) -> bool
+    requires { spaces.old ≡ no_spaces spaces.old.frames }
+    ensures { LoadsFlat bytes.now spaces.old spaces.new result }
 {
     let page = FRAME_SIZE as u64;
     let pages = pages_in(bytes.len() as u64);
-    let mut spaces = spaces;
     if !spaces.create(FIRST) {
-        return None;
+        return false;
     }
     if !spaces.grow(FIRST, pages * page, SEGMENT) {
-        return None;
+        return false;
     }
     spaces.fill(FIRST, 0, bytes);
     if !spaces.grow(FIRST, page, GUARD) {
-        return None;
+        return false;
     }
-    if !spaces.grow(FIRST, page, STACK) {
-        return None;
-    }
-    Some(spaces)
+    spaces.grow(FIRST, page, STACK)
 }
 
 // Process 1 over so many bytes, about to execute its first instruction with no arguments: sp and a1 hold the address of
@@ -197,18 +191,16 @@ pub fn boot_flat_on<D: BlockDev, T: Translate + Drop>(
     ensures no_init { IsErrOf result BootFault.NoInit → start_flat bytes.now frames ≡ None }
     ensures only { OnErr result (IsErrOf result BootFault.NoInit ⊎ IsErrOf result BootFault.NoMemory) }
 {
-    let Ok(ram) = Ram::new(alloc, frames) else {
+    let Ok(mut spaces) = empty(alloc, translator, frames) else {
         return Err(BootFault::NoMemory);
     };
+    if !load(&mut spaces, bytes) {
+        return Err(BootFault::NoInit);
+    }
     tree.hold(ROOT);
     tree.hold(CONSOLE_NODE);
-    let Ok(spaces) = Spaces::new(alloc, ram, translator) else {
-        return Err(BootFault::NoMemory);
-    };
-    let Some(spaces) = load(spaces, bytes) else {
-        return Err(BootFault::NoInit);
-    };
     let table = first_table(spaces.size(FIRST));
     let kernel = Kernel::new(tree, table, spaces, first_files());
-    Ok(Machine::new(kernel))
+    let machine = Machine::new(kernel);
+    Ok(machine)
 }

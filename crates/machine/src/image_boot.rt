@@ -10,6 +10,7 @@ ghost use Rattle.tree.specs.Tree.{Serves};
 
 use crate::fault::BootFault;
 use crate::machine::Machine;
+use crate::memory::empty;
 use blockdev::{BlockDev, DeviceFault};
 use calls::Kernel;
 use files::Files;
@@ -17,7 +18,7 @@ use image::ImageFault;
 use mount::mount;
 use proc::{Process, Table};
 use programs::{Arguments, Program, load, one_argument, read_program};
-use ram::{FRAME_SIZE, Ram};
+use ram::FRAME_SIZE;
 use spaces::Spaces;
 use std::alloc::Global;
 use sv39::Translate;
@@ -147,18 +148,18 @@ fn boot_on<D: BlockDev, T: Translate + Drop>(
     ensures begun { IfOk result (IsBegun tree frames) }
     ensures refused { IfErr result (IsNotBegun D.failures tree frames) }
 {
-    let Ok(ram) = Ram::new(alloc, frames) else {
-        return Err(BootFault::NoMemory);
-    };
-    let Ok(mut spaces) = Spaces::new(alloc, ram, translator) else {
+    let Ok(mut spaces) = empty(alloc, translator, frames) else {
         return Err(BootFault::NoMemory);
     };
     match put_init(&mut tree, &mut spaces) {
         Ok(Some(init)) => {
             tree.is_whole();
             tree.hold(ROOT);
-            let kernel = Kernel::new(tree, first_table(&init), spaces, Files::new());
-            Ok(Machine::new(kernel))
+            let table = first_table(&init);
+            let files = Files::new();
+            let kernel = Kernel::new(tree, table, spaces, files);
+            let machine = Machine::new(kernel);
+            Ok(machine)
         }
         Ok(None) => Err(BootFault::NoInit),
         Err(_) => {

@@ -6,6 +6,7 @@ mod flat_boot;
 mod image_boot;
 mod inodes;
 mod machine;
+mod memory;
 mod seen;
 
 pub use calls::Halt;

@@ -1,7 +1,7 @@
 -- A program in the place of another.
-use Rattle.std.proofs.Common.{ap, arith, length, length-append, refl, subst, sym, ℕ, ◌*◌, ◌++◌, ◌+◌, ◌-◌, ◌<◌, ◌≤◌, ◌∙◌, ◌≡◌, ◌∷◌, [], Bool, true, false, List, None, Ok, Option, Some}
+use Rattle.std.proofs.Common.{ap, arith, length, length-append, refl, subst, sym, ℕ, ◌*◌, ◌++◌, ◌+◌, ◌-◌, ◌<◌, ◌≤◌, ◌^◌, ◌∙◌, ◌≡◌, ◌∷◌, [], Bool, true, false, List, None, Ok, Option, Some}
 use Rattle.std.specs.List.{flat_map}
-use Rattle.std.specs.Prelude.{if◌then◌else◌, nat_le, option_and_then, option_map}
+use Rattle.std.specs.Prelude.{IfSome, if◌then◌else◌, nat_le, option_and_then, option_map}
 use Rattle.std.proofs.lemmas.Option.{none-some, same_Some}
 use Rattle.programs.specs.declared.arguments.Arguments.{Arguments}
 use Rattle.programs.specs.declared.executing.Started.{Started}
@@ -123,11 +123,23 @@ module _ {old mid : FileTree} (number : ℕ) {told : Option Program} (serves : S
     pub file-there : IsFile mid.files number
     file-there = record { links = of.has.links; bytes = of.file; here = ap (λ (t : FileTree). slot t.files number) serves.told.0.same ∙ of.has.here }
 
+    pub program-there : told ≡ Some program → program_in (file_at mid.files number) ≡ Some program
+    program-there some =
+        ap (λ (t : FileTree). program_in (file_at t.files number)) serves.told.0.same
+        ∙ ap (λ o. program_in (bytes_or_none o)) of.has.here
+        ∙ sym (ap (option_and_then program_in) of.bytes)
+        ∙ sym serves.told.0.value
+        ∙ some
+
     pub loaded-there : loaded_of (file_at mid.files number) ≡ Some of.is.loaded
     loaded-there =
         ap (λ (t : FileTree). loaded_of (file_at t.files number)) serves.told.0.same
         ∙ ap (λ o. loaded_of (bytes_or_none o)) of.has.here
         ∙ of.is.is
+
+-- it has few pages
+pub few-told : (o : Option Program) (program : Program) → o ≡ Some program → IfSome o (λ p. p.pages ≤ 2 ^ 52) → program.pages ≤ 2 ^ 52
+few-told o program some few = subst (λ (x : Option Program). IfSome x (λ p. p.pages ≤ 2 ^ 52)) some few
 
 planned : {files : Files} {n : ℕ} {program : Program} (of : IsOf files n program) (mem : Memory) (argv : ℕ) → plan_at files n mem argv ≡ option_and_then (plan of.file) (args_at mem argv)
 planned of mem argv = ap (option_and_then (λ file. option_and_then (plan file) (args_at mem argv))) of.bytes

@@ -10,11 +10,12 @@ use Rattle.blockdev.specs.Splice.{part}
 use Rattle.elf.specs.declared.ElfFault.{ElfFault}
 use Rattle.elf.specs.declared.ElfFault.TheVariants.{Magic, Short}
 use Rattle.elf.specs.declared.FileHeader.{FileHeader}
+use Rattle.elf.specs.declared.LoadSegment.{LoadSegment}
 use Rattle.elf.specs.Headers.{header_in, header_of, is_within, segment_if, segment_shown, wrong}
 use Rattle.elf.proofs.Plans.{header_in-part, headers_by, loaded_by, loads-header, loads-segment, segment_at-part}
 use Rattle.inode.specs.declared.InodeStat.{InodeStat}
 use Rattle.programs.specs.declared.headers.Program.{Program}
-use Rattle.programs.specs.Headed.{IsRead, end_behind, end_by, file_at, headed, program_in, unless_refused}
+use Rattle.programs.specs.Headed.{IsRead, end_behind, end_by, file_at, headed, program_in, segment_behind, unless_refused}
 use Rattle.tree.specs.Telling.{Tells}
 use Rattle.tree.specs.Tree.{FileTree, Serves}
 use Rattle.tree.specs.Written.{IsFile}
@@ -54,6 +55,10 @@ whole-read old new number at out out' k file within serves =
 -- what was read is told
 pub read-serves : {T : Type 0} {old new : FileTree} {told is : T} → new ≡ record old { failures = new.failures } → new.failed ≡ false → old.failures ≤ new.failures → told ≡ is → Serves old new (Ok told) (λ t. IsRead old new t is)
 read-serves same up later value = record { told = record { same = same; value = value }; up = up; down = tt; cause = record { later = later; failed = λ e. absurd (false≢true e) } }
+
+-- where what is loaded ends, by what a program header asks for
+pub end-told : {old new : FileTree} {told : Result (Option LoadSegment) ElfFault} (file : List ℕ) (at end : ℕ) (o : Option ℕ) → Serves old new (Ok told) (λ t. IsRead old new t (segment_behind file at end)) → o ≡ end_by end told → Serves old new (Ok o) (λ t. IsRead old new t (end_behind file at end))
+end-told file at end o serves is = read-serves serves.told.same serves.up serves.cause.later (is ∙ ap (end_by end) serves.told.value)
 
 -- ---- the header
 
@@ -292,6 +297,12 @@ module _ {old new : FileTree} (number : ℕ) where
     down = tt;
     cause = record { later = serves.cause.later; failed = λ e. absurd (false≢true e) };
   }
+
+-- its program headers are in the file
+pub header-fits : {old mid : FileTree} (number : ℕ) {head : Option FileHeader} {header : FileHeader} → Serves old mid (Ok head) (λ t. IsRead old mid t (headed (file_at old.files number))) → head ≡ Some header
+    → (len : ℕ) → len ≡ length (file_at old.files number) → is_within header.program_headers (56 * header.count) len ≡ true
+header-fits {old} number {head} {header} first some len long =
+    ap (is_within header.program_headers (56 * header.count)) long ∙ (is-headed (file_at old.files number) header (sym first.told.value ∙ some)).within
 
 abbrev ends_of : List ℕ → FileHeader → Option ℕ
 ends_of file header = option_map (λ (l : Loaded). l.end) (load_segments file header.count header.program_headers nothing_loaded)

@@ -13,9 +13,9 @@ use Rattle.blockdev.specs.declared.DeviceFault.{DeviceFault}
 use Rattle.programs.specs.Passed.{stacked}
 use Rattle.programs.proofs.Stacks.{write-stack}
 use Rattle.programs.specs.Headed.{file_at}
-use Rattle.programs.specs.Placed.{Follows, HasRoom, Leaves, paged}
-use Rattle.spaces.specs.Spaces.{Held, Spaces, has_space, held_at, no_pages, taken_frames, with_held, written}
-use Rattle.spaces.proofs.SpacesLemmas.{held-same, within}
+use Rattle.programs.specs.Placed.{Follows, HasRoom, IsPaged, Leaves, paged}
+use Rattle.spaces.specs.Spaces.{Held, Spaces, frames_in, has_space, held_at, no_pages, taken_frames, with_held, written}
+use Rattle.spaces.proofs.SpacesLemmas.{held-same, taken-placed, within}
 use Rattle.transfers.specs.Moved.{with_bytes}
 use Rattle.transfers.proofs.Pieces.{none-written, with-more}
 use Rattle.tree.specs.Tree.{FileTree, Serves}
@@ -188,6 +188,12 @@ segment-filled file mem g aligned after =
 pub has-same : (s : Spaces) (at : ℕ) (h : Held) → has_space s at ≡ true → has_space (with_held s at h) at ≡ true
 has-same s at h has = ap is_some (get_or-set_same s.places at (Some h) None (space-within s at has))
 
+pub has-held : {new : Spaces} (s : Spaces) (at : ℕ) (h : Held) → new ≡ with_held s at h → has_space s at ≡ true → has_space new at ≡ true
+has-held s at h put has = ap (λ (k : Spaces). has_space k at) put ∙ has-same s at h has
+
+pub is-held : {new : Spaces} (s : Spaces) (at : ℕ) (h : Held) → new ≡ with_held s at h → has_space s at ≡ true → held_at new at ≡ h
+is-held s at h put has = ap (λ (k : Spaces). held_at k at) put ∙ held-same s at h (space-within s at has)
+
 -- what comes last stays
 pub held-twice : (s : Spaces) (at : ℕ) (a b : Held) → with_held (with_held s at a) at b ≡ with_held s at b
 held-twice s at a b = ap (λ (ps : List (Option Held)). record s { places = ps }) (set-set s.places at (Some a) (Some b))
@@ -195,6 +201,13 @@ held-twice s at a b = ap (λ (ps : List (Option Held)). record s { places = ps }
 some-held : (o : Option Held) → is_some o ≡ true → o ≡ Some (unwrap_or o no_pages)
 some-held None some = absurd (cc)
 some-held (Some h) some = refl
+
+-- beside what the place holds, which goes then
+pub room-beside : (s : Spaces) (at n : ℕ) → has_space s at ≡ true → taken_frames s + 3 + page_frames n ≤ s.frames → HasRoom s at n
+room-beside s at n has enough =
+    let placed = taken-placed s at None (space-within s at has) in
+    let four : frames_in (slot s.places at) ≡ 4 + page_frames (length (held_at s at).memory) = ap frames_in (some-held (slot s.places at) has) in
+    omega (arith, enough, placed, four)
 
 -- a place that has what it had
 pub self-held : (s : Spaces) (at : ℕ) → has_space s at ≡ true → s ≡ with_held s at (held_at s at)
@@ -256,6 +269,23 @@ unfolding zeros
 page-over page whole =
     let all : 0 + length page ≡ 4096 = omega (arith, whole) in
     ap (λ n. page ++ drop n (zeros 4096)) all ∙ ap (λ l. page ++ l) (drop_all 4096 (zeros 4096) (omega (arith, length-replicate {A = ℕ} 4096 0))) ∙ append-nil page
+
+-- the guard page is there, and then the page of the stack
+module _ (s s1 : Spaces) (at : ℕ) (z : Page) (has : has_space s at ≡ true) (put : s1 ≡ with_held s at (paged ((held_at s at).memory ++ replicate 1 z))) where
+  pub one-paged : IsPaged (held_at s1 at)
+  one-paged = subst IsPaged (sym (is-held s at (paged ((held_at s at).memory ++ replicate 1 z)) put has)) refl
+
+  pub one-longer : length (held_at s1 at).memory ≡ length (held_at s at).memory + 1
+  one-longer = ap (λ (h : Held). length h.memory) (is-held s at (paged ((held_at s at).memory ++ replicate 1 z)) put has) ∙ length-append (held_at s at).memory (replicate 1 z)
+
+  pub one-room : HasRoom s at (length (held_at s at).memory + 2) → HasRoom s1 at (length (held_at s1 at).memory + 1)
+  one-room room =
+      let n : length (held_at s at).memory + 2 ≡ length (held_at s1 at).memory + 1 = omega (arith, one-longer) in
+      subst (λ (k : Spaces). HasRoom k at (length (held_at s1 at).memory + 1)) (sym put)
+      (room-with s at (length (held_at s1 at).memory + 1) (paged ((held_at s at).memory ++ replicate 1 z)) (subst (HasRoom s at) n room))
+
+pub stack-inside : (before after pages : ℕ) (page : List ℕ) → length page ≡ 4096 → pages ≡ before → after ≡ before + 2 → (i : ℕ) → i < length page → ((pages + 1) * 4096 + i) / 4096 < after
+stack-inside before after pages page whole count long i less = omega (arith, whole, count, long, less)
 
 pub stack-added : (s s1 s2 s3 : Spaces) (at : ℕ) (page : List ℕ) (address : ℕ) → has_space s at ≡ true → address ≡ (length (held_at s at).memory + 1) * 4096 → length page ≡ 4096
     → s1 ≡ with_held s at (paged ((held_at s at).memory ++ replicate 1 (zero_page (stack_marks false))))

@@ -16,7 +16,7 @@ use sv39::Translate;
 use tree::Tree;
 
 /// What a program begins with.
-#[derive(Clone, Copy, Debug, PartialEq, Eq)]
+#[derive(Clone, Copy)]
 pub struct Started {
     /// The address of its first instruction.
     pub pc: u64,

@@ -19,7 +19,7 @@ use tree::Tree;
 const FILE: u16 = 2;
 
 /// A program, by what the headers of its file say.
-#[derive(Clone, Copy, Debug, PartialEq, Eq)]
+#[derive(Clone, Copy)]
 pub struct Program {
     /// Where it begins, and where its program headers stand.
     pub header: FileHeader,

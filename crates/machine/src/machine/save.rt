@@ -31,6 +31,14 @@ fn give_up<D: BlockDev>(tree: Tree<D>) -> Result<D, DeviceFault>
     Ok(disk)
 }
 
+// The files of a kernel, whose processes go.
+fn tree_of<D: BlockDev, T: Translate + Drop>(kernel: Kernel<D, T>) -> Tree<D>
+    ensures { result ≡ kernel.tree }
+{
+    let Kernel { tree, .. } = kernel;
+    tree
+}
+
 impl<D: BlockDev, T: Translate + Drop> Machine<D, T> {
     ghost use Rattle.machine.specs.Saved.{SaveGives};
 
@@ -46,7 +54,6 @@ impl<D: BlockDev, T: Translate + Drop> Machine<D, T> {
         }
         self.kernel.is_sound();
         let Machine { kernel, .. } = self;
-        let Kernel { tree, .. } = kernel;
-        Ok(give_up(tree)?)
+        Ok(give_up(tree_of(kernel))?)
     }
 }

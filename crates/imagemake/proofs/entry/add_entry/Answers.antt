@@ -6,7 +6,7 @@ use Rattle.imagemake.specs.Begins.{AddsEntry, make_fault}
 use Rattle.imagemake.specs.Made.{found}
 use Rattle.imagemake.specs.Making.{Refuses, thing_of}
 use Rattle.imagemake.proofs.Entered.{AddsEntry-stored, CanAdd-named, IsStored-spot, made-few, refused-stored}
-use Rattle.imagemake.proofs.Owned.{Owns-done, Owns-other, Blames-stored, told}
+use Rattle.imagemake.proofs.Owned.{Owns-done, Owns-other, Blames-stored, none-done, told}
 use Rattle.imagemake.proofs.Things.{folder-thing}
 use Rattle.imagemake.proofs.Spotting.{spot-inodes}
 use Rattle.imagemake.proofs.entry.add_entry.Goals as goal
@@ -116,3 +116,21 @@ returns-clause-room g c =
 
 pub returns-clause-cause : goal.returns-clause-cause
 returns-clause-cause g c = Owns-done c.in_ok-store_entry.ensures.cause.later
+
+pub returns-in_err-directory-clause-added : goal.returns-in_err-directory-clause-added
+returns-in_err-directory-clause-added g c = none-done _ (told c.from_residual.result c.from_residual.ensures.1)
+
+pub returns-in_err-directory-clause-room : goal.returns-in_err-directory-clause-room
+returns-in_err-directory-clause-room g c = none-done _ (told c.from_residual.result c.from_residual.ensures.1)
+
+pub returns-in_err-store_entry-clause-added : goal.returns-in_err-store_entry-clause-added
+returns-in_err-store_entry-clause-added g c = none-done _ (told c.from_residual-in_err-store_entry.result c.from_residual-in_err-store_entry.ensures.1)
+
+pub returns-in_err-store_entry-clause-room : goal.returns-in_err-store_entry-clause-room
+returns-in_err-store_entry-clause-room g c = none-done _ (told c.from_residual-in_err-store_entry.result c.from_residual-in_err-store_entry.ensures.1)
+
+pub returns-in_err-store_entry-clause-count : goal.returns-in_err-store_entry-clause-count
+returns-in_err-store_entry-clause-count g c = c.store_entry.ensures.count
+
+pub returns-clause-count : goal.returns-clause-count
+returns-clause-count g c = c.store_entry.ensures.count

@@ -59,3 +59,26 @@ returns-in-Err-TooLong-clause-put g c = λ files old new stores here wide.
     let size = c.in_ok-before.ensures.size in
     let long = (c.write_at.ensures.too_long (c.in-Err-TooLong.is ∙ ap Err c.in-Err-TooLong.field-0-is)).1 in
     lacks-long c.args.geometry c.args.disk.now.blocks c.write_at.new.disk.blocks c.args.number c.args.bytes.now files old new stores here wide (omega arith)
+
+pub returns-in_err-before-clause-count : goal.returns-in_err-before-clause-count
+returns-in_err-before-clause-count g c = c.stat.ensures.count
+
+pub returns-in-Ok-clause-count : goal.returns-in-Ok-clause-count
+returns-in-Ok-clause-count g c = c.write_at.ensures.count ∙ c.stat.ensures.count
+
+pub returns-in-Err-Device-clause-count : goal.returns-in-Err-Device-clause-count
+returns-in-Err-Device-clause-count g c = c.write_at.ensures.count ∙ c.stat.ensures.count
+
+pub returns-in-Err-Blocks-clause-count : goal.returns-in-Err-Blocks-clause-count
+returns-in-Err-Blocks-clause-count g c = c.write_at.ensures.count ∙ c.stat.ensures.count
+
+pub returns-in-Err-TooLong-clause-count : goal.returns-in-Err-TooLong-clause-count
+returns-in-Err-TooLong-clause-count g c = c.write_at.ensures.count ∙ c.stat.ensures.count
+
+pub returns-in-Err-Device-clause-put : goal.returns-in-Err-Device-clause-put
+returns-in-Err-Device-clause-put g c = λ files old new stores here wide. IsPut-failed c.args.geometry c.write_at.new.disk.blocks files c.args.number new refl
+
+pub unreachable-requires : goal.unreachable-requires
+unreachable-requires g c =
+    let past = c.write_at.ensures.past_end (c.in-Err-PastEnd.is ∙ ap Err c.in-Err-PastEnd.field-0-is) in
+    omega (arith, past.0, c.in_ok-before.ensures.size, ap (λ b. length (bytes_of b c.args.number)) c.in_ok-before.ensures.same)

@@ -1,4 +1,4 @@
-use Rattle.std.proofs.Common.{arith, refl}
+use Rattle.std.proofs.Common.{arith, refl, ◌∙◌}
 use Rattle.std.proofs.lemmas.Result.{err_from_is_err_and}
 use Rattle.unixmodel.specs.Files.Node.{Directory}
 use Rattle.imagemake.specs.Making.{thing_of}
@@ -43,3 +43,12 @@ returns-clause-stored g c = λ files stores can.
     let put = c.in_ok-store_node.ensures.put files stores in
     IsStored-named files c.args.directory c.args.name.now c.args.number (thing_of c.args.thing.now) can c.args.geometry c.store_name.new.disk.blocks c.store_name.result put.1
     (c.store_name.ensures.put _ (Directory can.links can.places) put.0 (still-there files c.args.directory c.args.name.now c.args.number (thing_of c.args.thing.now) can) refl)
+
+pub store_node-requires-clause-able : goal.store_node-requires-clause-able
+store_node-requires-clause-able g c = (c.requires.able.0, c.requires.able.1)
+
+pub returns-in_err-store_node-clause-count : goal.returns-in_err-store_node-clause-count
+returns-in_err-store_node-clause-count g c = c.store_node.ensures.count
+
+pub returns-clause-count : goal.returns-clause-count
+returns-clause-count g c = c.store_name.ensures.count ∙ c.store_node.ensures.count

@@ -53,3 +53,15 @@ returns-clause-put g c = λ files node stores here directory.
     (wide-held c.args.geometry c.args.disk.now.blocks c.args.directory (record { name = c.args.name.now; number = c.args.number }) c.place.result c.place.ensures c.requires.name files node stores here directory) in
     IsPut-linked c.args.geometry c.append.new.disk.blocks c.add_link.new.disk.blocks files c.args.directory (thing_of c.args.thing.now) named
     (thing-folder c.args.thing.now (sym c.is_directory.ensures ∙ c.if-not-is_directory.false)) (slot-within files c.args.directory node here) put.0 put.1 c.in_ok-add_link.ensures.put
+
+pub returns-in_err-append-clause-count : goal.returns-in_err-append-clause-count
+returns-in_err-append-clause-count g c = c.append.ensures.count
+
+pub returns-then-not-is_directory-clause-count : goal.returns-then-not-is_directory-clause-count
+returns-then-not-is_directory-clause-count g c = c.append.ensures.count
+
+pub returns-in_err-add_link-clause-count : goal.returns-in_err-add_link-clause-count
+returns-in_err-add_link-clause-count g c = c.add_link.ensures.count ∙ c.append.ensures.count
+
+pub returns-clause-count : goal.returns-clause-count
+returns-clause-count g c = c.add_link.ensures.count ∙ c.append.ensures.count

@@ -53,3 +53,15 @@ returns-in-File-clause-put g c = λ files stores.
 pub returns-in-Device-clause-put : goal.returns-in-Device-clause-put
 returns-in-Device-clause-put g c = λ files stores.
     IsPut-special c.args.geometry c.take.new.disk.blocks files c.args.number c.args.directory _ _ (thing_of c.args.thing.now) (ap thing_of c.in-Device.is) (c.in_ok-take.ensures.put files stores)
+
+pub returns-in_err-take-clause-count : goal.returns-in_err-take-clause-count
+returns-in_err-take-clause-count g c = c.take.ensures.count
+
+pub returns-in-Directory-clause-count : goal.returns-in-Directory-clause-count
+returns-in-Directory-clause-count g c = c.append.ensures.count ∙ c.take.ensures.count
+
+pub returns-in-File-clause-count : goal.returns-in-File-clause-count
+returns-in-File-clause-count g c = c.append-in-File.ensures.count ∙ c.take.ensures.count
+
+pub returns-in-Device-clause-count : goal.returns-in-Device-clause-count
+returns-in-Device-clause-count g c = c.take.ensures.count

@@ -1,17 +1,49 @@
 use Rattle.machine.proofs.image_boot.boot_on.Goals as goal
 use Rattle.kernel.proofs.Watching.{watched-all}
-use Rattle.machine.proofs.Booting.{begun-init, frames-same, kernel-sound, not-begun}
+use Rattle.kernel.specs.Kernel.{Kernel}
+use Rattle.machine.proofs.Booting.{begun-init, few-init, kernel-sound, not-begun, root-few, root-there}
+use Rattle.machine.proofs.FlatLemmas.{frames-of, none-of}
+use Rattle.std.proofs.Common.{ap, arith, refl, subst, sym, ◌∙◌}
+use Rattle.tree.specs.Tree.{FileTree}
+use Rattle.unixmodel.specs.Failures.{Rises}
 
 pub new-kernel-requires : goal.new-kernel-requires
 new-kernel-requires g c = record {
-  sound = kernel-sound c.args.tree c.put_init.new.tree c.requires.unheld c.in-Ok-Some.ensures.serves.told c.is_whole.ensures c.args.frames c.in-Ok-new.spaces (frames-same c.in-Ok-new.ensures c.in-Ok.ensures) c.put_init.new.spaces c.in-Ok-Some.init c.in-Ok-Some.field-0 c.in-Ok-Some.field-0-is c.in-Ok-Some.ensures.put c.hold.new.self c.hold.ensures c.first_table.result c.first_table.ensures _ c.new-in-Ok-Some.ensures;
-  watched = rw c.first_table.ensures (watched-all 64);
+  sound = kernel-sound c.args.tree c.put_init.new.tree c.requires.unheld c.in-Ok-Some.ensures.serves.told c.is_whole.ensures c.args.frames c.in-Ok.spaces (frames-of c.in-Ok.ensures) c.put_init.new.spaces c.in-Ok-Some.init c.in-Ok-Some.field-0 c.in-Ok-Some.field-0-is c.in-Ok-Some.ensures.put c.hold.new.self c.hold.ensures c.first_table-table.result c.first_table-table.ensures _ c.new-files.ensures;
+  watched = rw c.first_table-table.ensures (watched-all 64);
 }
 
 pub returns-in-Ok-Some-clause-begun : goal.returns-in-Ok-Some-clause-begun
 returns-in-Ok-Some-clause-begun g c =
-    begun-init c.args.tree c.put_init.new.tree c.requires.unheld c.in-Ok-Some.ensures.serves.told c.is_whole.ensures c.args.frames c.in-Ok-new.spaces (frames-same c.in-Ok-new.ensures c.in-Ok.ensures) c.put_init.new.spaces c.in-Ok-Some.init c.in-Ok-Some.field-0 c.in-Ok-Some.field-0-is c.in-Ok-Some.ensures.put c.hold.new.self c.hold.ensures c.first_table.result c.first_table.ensures _ c.new-in-Ok-Some.ensures
-    c.new-kernel.result c.new-kernel.ensures c.new-in-Ok-Some-2.result c.new-in-Ok-Some-2.ensures c.in-Ok-Some.ensures.serves.cause.later
+    begun-init c.args.tree c.put_init.new.tree c.requires.unheld c.in-Ok-Some.ensures.serves.told c.is_whole.ensures c.args.frames c.in-Ok.spaces (frames-of c.in-Ok.ensures) c.put_init.new.spaces c.in-Ok-Some.init c.in-Ok-Some.field-0 c.in-Ok-Some.field-0-is c.in-Ok-Some.ensures.put c.hold.new.self c.hold.ensures c.first_table-table.result c.first_table-table.ensures _ c.new-files.ensures
+    c.new-kernel.result c.new-kernel.ensures c.new-machine.result c.new-machine.ensures c.in-Ok-Some.ensures.serves.cause.later
 
 pub returns-in-Ok-None-clause-refused : goal.returns-in-Ok-None-clause-refused
-returns-in-Ok-None-clause-refused g c = not-begun c.args.tree c.args.frames c.in-Ok-new.spaces c.put_init.new.spaces (frames-same c.in-Ok-new.ensures c.in-Ok.ensures) c.in-Ok-None.field-0 c.in-Ok-None.field-0-is c.in-Ok-None.ensures.put
+returns-in-Ok-None-clause-refused g c = not-begun c.args.tree c.args.frames c.in-Ok.spaces c.put_init.new.spaces (frames-of c.in-Ok.ensures) c.in-Ok-None.field-0 c.in-Ok-None.field-0-is c.in-Ok-None.ensures.put
+
+pub put_init-requires-clause-none : goal.put_init-requires-clause-none
+put_init-requires-clause-none g c = none-of c.in-Ok.ensures
+
+pub put_init-requires-clause-few : goal.put_init-requires-clause-few
+put_init-requires-clause-few g c = omega (arith, frames-of c.in-Ok.ensures, c.requires.few)
+
+pub is_whole-requires : goal.is_whole-requires
+is_whole-requires g c = c.in-Ok-Some.ensures.serves.up
+
+pub hold-requires-clause-up : goal.hold-requires-clause-up
+hold-requires-clause-up g c = c.in-Ok-Some.ensures.serves.up
+
+pub hold-requires-clause-node : goal.hold-requires-clause-node
+hold-requires-clause-node g c = root-there c.args.tree c.put_init.new.tree c.requires.unheld c.in-Ok-Some.ensures.serves.told c.is_whole.ensures
+
+pub hold-requires-clause-few : goal.hold-requires-clause-few
+hold-requires-clause-few g c = root-few c.args.tree c.put_init.new.tree c.requires.unheld c.in-Ok-Some.ensures.serves.told c.is_whole.ensures
+
+pub first_table-table-requires : goal.first_table-table-requires
+first_table-table-requires g c = few-init c.args.tree.files c.in-Ok.spaces.frames c.put_init.new.spaces c.in-Ok-Some.field-0 c.in-Ok-Some.init c.in-Ok-Some.field-0-is c.in-Ok-Some.ensures.put (omega (arith, frames-of c.in-Ok.ensures, c.requires.few))
+
+pub new-machine-requires : goal.new-machine-requires
+new-machine-requires g c = ap (λ (k : Kernel). k.tree.failed) c.new-kernel.ensures ∙ ap (λ (t : FileTree). t.failed) c.hold.ensures ∙ c.in-Ok-Some.ensures.serves.up
+
+pub returns-in-Err-clause-refused : goal.returns-in-Err-clause-refused
+returns-in-Err-clause-refused g c = (c.device-device.result.now, subst (Rises c.args.tree.failures) (sym c.device-device.ensures) (c.in-Err.ensures.serves.cause.failed refl))

@@ -1,7 +1,7 @@
 use Rattle.calls.proofs.Served.{ok-told, on-err}
 use Rattle.calls.proofs.Stats.{has-read}
 use Rattle.kernel.specs.View.{kernel_of}
-use Rattle.machine.proofs.Looking.{lost-keeps, told-shown}
+use Rattle.machine.proofs.Looking.{lost-keeps, lost-read, told-shown}
 use Rattle.std.proofs.Common.{refl, ◌∙◌}
 use Rattle.machine.proofs.inodes.look.Goals as goal
 
@@ -15,3 +15,6 @@ returns-in-Ok g c =
     let k = kernel_of c.kernel.inside in
     let t = ok-told _ c.look.result _ c.in-Ok.is c.look.ensures.told in
     rw (← c.kernel.view_is) (has-read k k refl c.look.new.self t.0 c.look.ensures.cause.later, c.told.ensures ∙ told-shown _ _ t.1)
+
+pub returns-in-Err : goal.returns-in-Err
+returns-in-Err g c = lost-read c.kernel.view_is _ c.in-Err.is c.look.ensures

@@ -1,7 +1,7 @@
 use Rattle.calls.proofs.Served.{ok-told, on-err}
 use Rattle.calls.proofs.Stats.{has-read}
 use Rattle.kernel.specs.View.{kernel_of}
-use Rattle.machine.proofs.Looking.{lost-keeps, read-shown}
+use Rattle.machine.proofs.Looking.{lost-keeps, lost-read, read-shown}
 use Rattle.std.proofs.Common.{refl}
 use Rattle.machine.proofs.inodes.read.Goals as goal
 
@@ -15,3 +15,6 @@ returns-in-Ok g c =
     let k = kernel_of c.kernel.inside in
     let t = ok-told _ c.read_any.result _ c.in-Ok.is c.read_any.ensures.told in
     rw (← c.kernel.view_is) (has-read k k refl c.read_any.new.self t.0 c.read_any.ensures.cause.later, read-shown _ _ _ _ _ t.1 t.2)
+
+pub returns-in-Err : goal.returns-in-Err
+returns-in-Err g c = lost-read c.kernel.view_is _ c.in-Err.is c.read_any.ensures

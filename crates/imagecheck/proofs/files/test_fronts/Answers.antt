@@ -1,0 +1,31 @@
+use Rattle.std.proofs.Common.{◌≡◌, length, sym, subst, ◌∙◌, arith, take_at}
+use Rattle.std.proofs.lemmas.Result.{err_from_is_err_and}
+use Rattle.imagecheck.specs.Namings.{HasParents}
+use Rattle.imagerules.proofs.Bounds.{inodes-least}
+use Rattle.imagecheck.proofs.Collecting.{HasParents-from, namings-fitting, numbers-within, zeros}
+use Rattle.imagecheck.proofs.Sounding.{NoMemory-found, fault-sound}
+use Rattle.imagecheck.proofs.files.test_fronts.Goals as goal
+
+pub returns-in_err-parents-clause-sound : goal.returns-in_err-parents-clause-sound
+returns-in_err-parents-clause-sound g c = let p = err_from_is_err_and c.from_residual.result c.from_residual.ensures.1 in fault-sound _ c.from_residual.result p.0 p.1
+
+pub returns-in_err-parents-clause-fault : goal.returns-in_err-parents-clause-fault
+returns-in_err-parents-clause-fault g c = let p = err_from_is_err_and c.from_residual.result c.from_residual.ensures.1 in NoMemory-found c.args.image.now c.from_residual.result p.0 p.1 p.2
+
+pub find_parents-requires : goal.find_parents-requires
+find_parents-requires g c =
+    let long : length c.deref_mut.result.now ≡ c.args.geometry.inodes = c.deref_mut.ensures.len ∙ c.in_ok-parents.ensures.len in
+    let least = inodes-least c.requires.listed.geometry in
+    record {
+      root = omega arith;
+      within = numbers-within c.requires.listed (length c.deref_mut.result.now) long;
+      some = λ k d l. (namings-fitting c.requires.listed k d l).low;
+      fresh = zeros c.deref_mut.result.now c.in_ok-parents.parents.items c.args.geometry.inodes c.deref_mut.ensures.value (c.in_ok-parents.ensures.items_if_clones_equal (λ y e. cc));
+    }
+
+pub test_entries-requires-clause-parents : goal.test_entries-requires-clause-parents
+test_entries-requires-clause-parents g c =
+    let image = c.args.image.now in
+    let parents = c.find_parents.new.parents in
+    let e : c.deref.result.now ≡ parents = c.deref.ensures.value ∙ take_at parents _ c.in_ok-parents.parents.len (c.find_parents.ensures.long ∙ c.deref_mut.ensures.len) in
+    subst (HasParents image) (sym e) (HasParents-from image parents c.args.namings.now c.requires.listed.all c.find_parents.ensures.found)

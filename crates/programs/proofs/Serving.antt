@@ -1,0 +1,49 @@
+-- The exits of functions that read a file in steps.
+use Rattle.std.proofs.Common.{Err, Ok, Result, ap, arith, false, le_trans, subst, sym, ℕ, ◌∙◌, ◌≡◌, ◌≤◌}
+use Rattle.std.specs.Prelude.{IfOk, OnErr, OnOk}
+use Rattle.std.proofs.lemmas.Bool.{false≢true}
+use Rattle.blockdev.specs.declared.DeviceFault.{DeviceFault}
+use Rattle.programs.specs.Placed.{Leaves}
+use Rattle.tree.specs.Tree.{FileTree, Serves}
+use Rattle.tree.specs.Written.{IsFile}
+use Rattle.unixmodel.specs.Files.{Files}
+
+-- ---- a result that is an error
+
+module _ {B : Type 0} (r : Result B DeviceFault) (fault : DeviceFault) (is : r ≡ Err fault) where
+  pub err-told : (P : B → Type 0) → IfOk r P
+  err-told P = subst (λ (x : Result B DeviceFault). IfOk x P) (sym is) tt
+
+  pub err-done : (P : Type 0) → OnOk r P
+  err-done P = subst (λ (x : Result B DeviceFault). OnOk x P) (sym is) tt
+
+  pub err-left : (P : Type 0) → P → OnErr r P
+  err-left P p = subst (λ (x : Result B DeviceFault). OnErr x P) (sym is) p
+
+  -- the first step failed, or a later one
+  pub lost-first : {A : Type 0} {old new : FileTree} {given : DeviceFault} {Told : A → Type 0} (P : B → Type 0) → Serves old new (Err given) Told → Serves old new r P
+  lost-first {old = old} {new = new} P serves =
+      subst (λ (x : Result B DeviceFault). Serves old new x P) (sym is)
+      (record { told = tt; up = tt; down = serves.down; cause = record { later = serves.cause.later; failed = λ e. serves.cause.failed e } })
+
+  pub lost-later : {A : Type 0} {old mid new : FileTree} {given : DeviceFault} {Told : A → Type 0} (P : B → Type 0) → old.failures ≤ mid.failures → Serves mid new (Err given) Told → Serves old new r P
+  lost-later {old = old} {mid = mid} {new = new} P first serves =
+      let after = serves.cause.later in
+      subst (λ (x : Result B DeviceFault). Serves old new x P) (sym is)
+      (record { told = tt; up = tt; down = serves.down; cause = record { later = le_trans first after; failed = λ e. let rises = serves.cause.failed e in omega (arith, rises, first) } })
+
+-- ---- a value that is told
+
+pub kept-on : {B : Type 0} {old new : FileTree} (y : B) → new ≡ record old { failures = new.failures } → new.failed ≡ false → old.failures ≤ new.failures → Serves old new (Ok y) (Leaves old new)
+kept-on y same up later = record { told = same; up = up; down = tt; cause = record { later = later; failed = λ e. absurd (false≢true e) } }
+
+pub kept-first : {A B : Type 0} {old new : FileTree} {x : A} {Told : A → Type 0} (y : B) → new ≡ record old { failures = new.failures } → Serves old new (Ok x) Told → Serves old new (Ok y) (Leaves old new)
+kept-first y same serves = kept-on y same serves.up serves.cause.later
+
+pub kept-then : {A B : Type 0} {old mid new : FileTree} {x : A} (y : B) → mid ≡ record old { failures = mid.failures } → old.failures ≤ mid.failures → Serves mid new (Ok x) (Leaves mid new) → Serves old new (Ok y) (Leaves old new)
+kept-then {new = new} y same first serves = kept-on y (serves.told ∙ ap (λ (t : FileTree). record t { failures = new.failures }) same) serves.up (le_trans first serves.cause.later)
+
+-- ---- the file
+
+pub file-kept-on : {new : FileTree} (old : FileTree) (number : ℕ) → new ≡ record old { failures = new.failures } → IsFile old.files number → IsFile new.files number
+file-kept-on old number same file = subst (λ (files : Files). IsFile files number) (sym (ap (λ (t : FileTree). t.files) same)) file
