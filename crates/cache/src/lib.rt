@@ -13,7 +13,7 @@ ghost use Rattle.blockdev.specs.Splice.{part, splice};
 mod held;
 
 use blockdev::{Block, BlockDev, DeviceFault};
-use held::{Held, Slot, make_room, next_to_write, write_now, write_out};
+use held::{Slot, Slots, make_room, next_to_write, write_now, write_out};
 use lru::LruCache;
 use std::alloc::{AllocError, Allocator, Global};
 use std::marker::Model;
@@ -26,7 +26,7 @@ const HELD: usize = 30;
 #[derive(Drop)]
 pub struct Cache<D: BlockDev, A: Allocator + Clone = Global> {
     device: D,
-    held: Held<A>,
+    held: Slots<A>,
     // Whether a write failed since the last good flush: then no held block is known to be the device's.
     in_doubt: bool,
 }

@@ -12,7 +12,7 @@ use Rattle.calls.specs.declared.halt.Halt.TheVariants.{Console, Device, Halted, 
 use Rattle.calls.specs.declared.outcome.Came.{Came}
 use Rattle.calls.specs.declared.outcome.Came.TheVariants.{Answers, Blocks, Exits, KillsItself, Refuses}
 use Rattle.kernel.specs.Descriptors.{descriptors_in}
-use Rattle.calls.specs.Does.{Dispatches, IsLost, IsMade, IsServed, LeavesTree}
+use Rattle.calls.specs.Gives.{Dispatches, IsLost, IsMade, IsServed, LeavesTree}
 use Rattle.calls.proofs.Prints.{Appends-none}
 use Rattle.calls.proofs.Served.{same-served}
 use Rattle.kernel.proofs.Opens.{waits-other}
@@ -29,7 +29,7 @@ use Rattle.kernel.proofs.Running.{answer-run, live, not-killed, runs-mode}
 use Rattle.files.specs.Places.{Counted, opens_of}
 use Rattle.proc.specs.declared.process.Process.{Process}
 use Rattle.proc.specs.Whole.{with_memory}
-use Rattle.spaces.specs.Spaces.{Held, no_pages, taken_frames}
+use Rattle.spaces.specs.Spaces.{SpaceView, no_pages, taken_frames}
 use Rattle.tree.specs.Tree.{FileTree}
 use Rattle.unixmodel.specs.Calls.{call_of, end_at, outcome_of, quiet, row, settle, goes_on}
 use Rattle.unixmodel.specs.declared.call.Call.{Call}
@@ -49,7 +49,7 @@ use Rattle.unixmodel.specs.State.{State, put_process}
 -- the running process and its space, in a kernel that is sound
 pub record Here (k : Kernel) (i : ℕ) : Type 0 where
   pub process : Process
-  pub held : Held
+  pub held : SpaceView
   pub run : IsRun k i process held
   pub sound : IsKernel k
 
@@ -87,7 +87,7 @@ module _ (k last : Kernel) (i : ℕ) (is : IsKernel k) (active : k.spaces.active
 
   module _ (z : slice_index k.spaces.registers 0 ≡ 0) (a : k.spaces.pc % 4 ≡ 0) where
     pub settles-blocks : (w : Pending) → CanCome k i (Blocks w) → last ≡ blocked k i w → state_of last ≡ settled_by (state_of k) i (Blocks w)
-    settles-blocks w can made = let x = at-work in rw made (sym (waits-run k i x.process x.held x.run x.sound z a w (rw (ap (λ (o : Option Held). unwrap_or o no_pages) x.run.space, ap descriptors_in x.run.process) at can.0) (rw (ap descriptors_in x.run.process) at can.1)))
+    settles-blocks w can made = let x = at-work in rw made (sym (waits-run k i x.process x.held x.run x.sound z a w (rw (ap (λ (o : Option SpaceView). unwrap_or o no_pages) x.run.space, ap descriptors_in x.run.process) at can.0) (rw (ap descriptors_in x.run.process) at can.1)))
 
   -- it ended, or an access failed
   module _ (z : slice_index k.spaces.registers 0 ≡ 0) (a : k.spaces.pc % 4 ≡ 0) where
@@ -242,7 +242,7 @@ module _ (k : Kernel) (i : ℕ) (runs : Runs k i) where
 
 -- ---- the running process is q now, its space shows h, and files, open files and pipes are others
 
-module _ (k : Kernel) (i : ℕ) (x : Here k i) (tree : FileTree) (q : Process) (h : Held) (files : List (Option Counted)) (pipes : List (Option (List ℕ))) (placed : IsPlaced q h) (runs : q.mode ≡ Running) where
+module _ (k : Kernel) (i : ℕ) (x : Here k i) (tree : FileTree) (q : Process) (h : SpaceView) (files : List (Option Counted)) (pipes : List (Option (List ℕ))) (placed : IsPlaced q h) (runs : q.mode ≡ Running) where
   abbrev pub turned : Kernel
   turned = record k { tree = tree; table = with_process k.table i q; spaces = record k.spaces { places = slice_set k.spaces.places i (Some h); pipes = pipes }; files = files }
 

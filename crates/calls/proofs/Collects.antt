@@ -27,7 +27,7 @@ use Rattle.proc.specs.declared.table.Reaped.{Reaped}
 use Rattle.proc.specs.Places.{Places, is_child_of, is_zombie_child_of, place_where, reaped_at, reaped_from, without, zombie_place}
 use Rattle.proc.proofs.Joined.{cleared-with_table, has_child-with_table, place_where-Some, zombie_child-with_table}
 use Rattle.proc.specs.Whole.{joined, with_memory, with_table}
-use Rattle.spaces.specs.Spaces.{Held, frames_in, has_space, held_at, taken_frames, with_held, with_place, written}
+use Rattle.spaces.specs.Spaces.{SpaceView, frames_in, has_space, view_at, taken_frames, with_view, with_place, written}
 use Rattle.spaces.proofs.SpacesLemmas.{taken-placed}
 use Rattle.unixmodel.specs.Calls.{goes_on}
 use Rattle.unixmodel.specs.Counts.{page_frames}
@@ -81,7 +81,7 @@ ended-mode p memory Ready zombie is = absurd (cc)
 ended-mode p memory (Waiting w) zombie is = absurd (cc)
 ended-mode p memory (Zombie status) zombie is = is
 
-ended-place : (p : Process) (q : Option Held) → is_zombie_mode p.mode ≡ true → IsPlace (Some p) q → p.descriptors ≡ no_descriptors
+ended-place : (p : Process) (q : Option SpaceView) → is_zombie_mode p.mode ≡ true → IsPlace (Some p) q → p.descriptors ≡ no_descriptors
 ended-place p None zombie is = absurd is
 ended-place p (Some h) zombie is = (ended-mode p h.memory p.mode zombie is.mode).descriptors
 
@@ -165,14 +165,14 @@ length-write_bytes mem at new =
     ∙ sym (length-append (take (at / 4096) mem) (drop (at / 4096) mem))
     ∙ ap length (take-append-drop (at / 4096) mem)
 
-status-written : (h : Held) (a : ℕ) (status : ℤ) → with_status h (suc a) status ≡ written h (suc a) (le 4 (cast_unsigned w32 status))
+status-written : (h : SpaceView) (a : ℕ) (status : ℤ) → with_status h (suc a) status ≡ written h (suc a) (le 4 (cast_unsigned w32 status))
 status-written h a status = let e : nat_eq (suc a) 0 ≡ false = ne_eqb (suc a) 0 (λ same. absurd (omega (arith, same))) in rw e refl
 
-status-pages : (h : Held) (a : ℕ) (status : ℤ) → length (with_status h a status).memory ≡ length h.memory
+status-pages : (h : SpaceView) (a : ℕ) (status : ℤ) → length (with_status h a status).memory ≡ length h.memory
 status-pages h zero status = refl
-status-pages h (suc a) status = ap (λ (x : Held). length x.memory) (status-written h a status) ∙ length-write_bytes h.memory (suc a) (le 4 (cast_unsigned w32 status))
+status-pages h (suc a) status = ap (λ (x : SpaceView). length x.memory) (status-written h a status) ∙ length-write_bytes h.memory (suc a) (le 4 (cast_unsigned w32 status))
 
-status-self : (k : Kernel) (p : Process) (h : Held) (a : ℕ) (status : ℤ) → rows.with_status (self k p h) a status ≡ self k p (with_status h a status)
+status-self : (k : Kernel) (p : Process) (h : SpaceView) (a : ℕ) (status : ℤ) → rows.with_status (self k p h) a status ≡ self k p (with_status h a status)
 status-self k p h zero status = refl
 status-self k p h (suc a) status = ap (self k p) (sym (status-written h a status))
 
@@ -183,7 +183,7 @@ status-placed k i x (suc a) status = rw (status-written x.held a status) (placed
 -- ---- a child is waited for
 
 module _ (k : Kernel) (i : ℕ) (x : Here k i) (j : ℕ) (child : Process) (z : IsZombie k i j child) (a : ℕ) (status : ℤ) where
-  abbrev h : Held
+  abbrev h : SpaceView
   h = with_status x.held a status
 
   abbrev rest : Kernel
@@ -308,13 +308,13 @@ unreaped-go t pid (Some j) found is =
 abbrev pub reaped_to : Kernel → ℕ → ℕ → ℕ → Reaped → Kernel
 reaped_to k i a parent r = record k {
   table = without k.table (zombie_place k.table parent);
-  spaces = with_place (with_held k.spaces i (with_status (held_at k.spaces i) a r.status)) r.place None;
+  spaces = with_place (with_view k.spaces i (with_status (view_at k.spaces i) a r.status)) r.place None;
 }
 
 -- what is left to do once a zombie child is found
 pub record Collects (k at : Kernel) (i : ℕ) (w : Pending) (parent : ℕ) (r : Reaped) : Type 0 where
   pub apart : at.spaces.active ≢ Some r.place
-  pub stands : has_space (with_held at.spaces i (with_status (held_at at.spaces i) (pending_arg w 0) r.status)) r.place ≡ true
+  pub stands : has_space (with_view at.spaces i (with_status (view_at at.spaces i) (pending_arg w 0) r.status)) r.place ≡ true
   pub goes : GoesOn k (reaped_to at i (pending_arg w 0) parent r) i w (Answers r.pid)
 
 module _ {k : Kernel} {i : ℕ} (runs : Runs k i) (parent : ℕ) (named : IfSome (slot k.table.places i) (λ p. parent ≡ p.pid)) where
@@ -334,20 +334,20 @@ module _ {k : Kernel} {i : ℕ} (runs : Runs k i) (parent : ℕ) (named : IfSome
         let z = zombie-of k i x r.place f.0 (ap (zombie_place k.table) (sym parent-is) ∙ f.1.0) f.1.1 in
         record {
           apart = λ wrong. let t : Some i ≡ Some r.place = sym runs.active ∙ wrong in z.apart (let e : i ≡ r.place = cc in sym e);
-          stands = ap is_some (slot-other k.spaces.places i r.place (Some (with_status (held_at k.spaces i) (pending_arg w 0) r.status)) z.apart) ∙ place-space (slot k.table.places r.place) (slot k.spaces.places r.place) f.0 f.1.1 (runs.sound.stands r.place);
+          stands = ap is_some (slot-other k.spaces.places i r.place (Some (with_status (view_at k.spaces i) (pending_arg w 0) r.status)) z.apart) ∙ place-space (slot k.table.places r.place) (slot k.spaces.places r.place) f.0 f.1.1 (runs.sound.stands r.place);
           goes = collects-as r f.0 f.1.0 z f.1.2 f.1.3;
         }
 
     pub collects : {at : Kernel} {r : Reaped} → at ≡ k → reaped_at at.table (zombie_place at.table parent) ≡ Some r → Collects k at i w parent r
     collects {r = r} same is = rw same (collects-here r (rw same at is))
 
-    pub wait-blocks : {at : Kernel} → at ≡ k → can_answer (held_at k.spaces i).memory (pending_arg w 0) ≡ true → reaped_at at.table (zombie_place at.table parent) ≡ None
+    pub wait-blocks : {at : Kernel} → at ≡ k → can_answer (view_at k.spaces i).memory (pending_arg w 0) ≡ true → reaped_at at.table (zombie_place at.table parent) ≡ None
         → GoesOn k (record at { table = without at.table (zombie_place at.table parent) }) i w (Blocks w)
     wait-blocks same can is =
         let none = unreaped-go k.table parent (zombie_place k.table parent) refl (rw same at is) in
         let none' : zombie_place k.table x.process.pid ≡ None = ap (zombie_place k.table) (sym parent-is) ∙ none in
         rw (same, none)
-        (goes-waits k i x w k w x refl (subst (IsPending (descriptors_at k i) (held_at k.spaces i).memory w) (sym number) can, waits-other _ _ w Wait (λ same. absurd (cc)) (λ same. absurd (cc)) number)
+        (goes-waits k i x w k w x refl (subst (IsPending (descriptors_at k i) (view_at k.spaces i).memory w) (sym number) can, waits-other _ _ w Wait (λ same. absurd (cc)) (λ same. absurd (cc)) number)
         (ap (goes_on (state_of k) i (me k i x) w) number ∙ wait-none k i x w none'))
 
   -- ---- the call begins
@@ -355,8 +355,8 @@ module _ {k : Kernel} {i : ℕ} (runs : Runs k i) (parent : ℕ) (named : IfSome
   child-is : has_child (state_of k) x.process.pid ≡ is_some (place_where k.table.places (is_child_of parent))
   child-is = child-run k i x ∙ ap (λ (n : ℕ). is_some (place_where k.table.places (is_child_of n))) (sym parent-is)
 
-  can-is : can_answer (held_at k.spaces i).memory (argument k 0) ≡ can_answer x.held.memory (argument k 0)
-  can-is = ap (λ (y : Held). can_answer y.memory (argument k 0)) (held-run k i x.process x.held x.run x.sound)
+  can-is : can_answer (view_at k.spaces i).memory (argument k 0) ≡ can_answer x.held.memory (argument k 0)
+  can-is = ap (λ (y : SpaceView). can_answer y.memory (argument k 0)) (held-run k i x.process x.held x.run x.sound)
 
   pub wait-childless : {at : Kernel} → at ≡ k → is_some (place_where at.table.places (is_child_of parent)) ≡ false → Acts k k i (Some Wait) Refuses
   unfolding wait_row
@@ -366,12 +366,12 @@ module _ {k : Kernel} {i : ℕ} (runs : Runs k i) (parent : ℕ) (named : IfSome
   unwritable-go true rest cannot = rw cannot refl
   unwritable-go false rest cannot = refl
 
-  pub wait-unwritable : can_answer (held_at k.spaces i).memory (argument k 0) ≡ false → Acts k k i (Some Wait) Refuses
+  pub wait-unwritable : can_answer (view_at k.spaces i).memory (argument k 0) ≡ false → Acts k k i (Some Wait) Refuses
   unfolding wait_row
   wait-unwritable cannot = refused k i x (Some Wait) (unwritable-go (has_child (state_of k) x.process.pid) _ (sym can-is ∙ cannot))
 
   -- the call goes on as it would later
-  pub wait-begins : {at : Kernel} → at ≡ k → is_some (place_where at.table.places (is_child_of parent)) ≡ true → can_answer (held_at k.spaces i).memory (argument k 0) ≡ true
+  pub wait-begins : {at : Kernel} → at ≡ k → is_some (place_where at.table.places (is_child_of parent)) ≡ true → can_answer (view_at k.spaces i).memory (argument k 0) ≡ true
       → {new : Kernel} {c : Came} → GoesOn k new i (pending_for k Wait) c → Acts k new i (Some Wait) c
   unfolding wait_row
   wait-begins same some can goes = begins-on k i x (pending_for k Wait) Wait (rw (child-is, rw same at some, sym can-is ∙ can) refl) goes

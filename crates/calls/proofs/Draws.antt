@@ -18,7 +18,7 @@ use Rattle.files.specs.declared.file.End.TheVariants as end
 use Rattle.files.specs.declared.file.OpenFile.{OpenFile}
 use Rattle.files.specs.declared.file.Target.TheVariants as target
 use Rattle.files.specs.Places.{has_end, opens_of}
-use Rattle.spaces.specs.Spaces.{Held, Spaces, bytes_in, frames_in, has_pipe, held_at, taken_frames, taken_to, with_held, with_pipe, written}
+use Rattle.spaces.specs.Spaces.{SpaceView, Spaces, bytes_in, frames_in, has_pipe, view_at, taken_frames, taken_to, with_view, with_pipe, written}
 use Rattle.spaces.proofs.SpacesLemmas.{some-pipe, taken-placed}
 use Rattle.unixmodel.specs.Counts.{page_frames}
 use Rattle.unixmodel.specs.declared.process.Pending.{Pending}
@@ -39,9 +39,9 @@ no-bytes : (n : ℕ) → not (n == 0) ≡ false → n ≡ 0
 no-bytes n none = grind (arith, nat_tests)
 
 -- a space with other bytes has as many frames
-pub rewritten-fits : (s : Spaces) (i n : ℕ) (h : Held) (at : ℕ) (bytes : List ℕ) → slot s.places i ≡ Some h → taken_frames s ≤ n → taken_frames (with_held s i (written h at bytes)) ≤ n
+pub rewritten-fits : (s : Spaces) (i n : ℕ) (h : SpaceView) (at : ℕ) (bytes : List ℕ) → slot s.places i ≡ Some h → taken_frames s ≤ n → taken_frames (with_view s i (written h at bytes)) ≤ n
 rewritten-fits s i n h at bytes space few =
-    let e : taken_frames (with_held s i (written h at bytes)) + frames_in (slot s.places i) ≡ taken_frames s + frames_in (Some (written h at bytes)) = taken-placed s i (Some (written h at bytes)) (slot-within s.places i h space) in
+    let e : taken_frames (with_view s i (written h at bytes)) + frames_in (slot s.places i) ≡ taken_frames s + frames_in (Some (written h at bytes)) = taken-placed s i (Some (written h at bytes)) (slot-within s.places i h space) in
     let f : frames_in (slot s.places i) ≡ frames_in (Some (written h at bytes)) = ap frames_in space ∙ sym (ap (λ (n : ℕ). 4 + page_frames n) (length-write_bytes h.memory at bytes)) in
     omega (arith, e, f, few)
 
@@ -90,7 +90,7 @@ module _ (k : Kernel) (i : ℕ) (w : Pending) (q : ℕ) (on : OnThePipe k i end.
   abbrev pipes : List (Option (List ℕ))
   pipes = put k.spaces.pipes q (drop count bytes)
 
-  abbrev h' : Held
+  abbrev h' : SpaceView
   h' = written x.held address (take count bytes)
 
   abbrev to : Kernel
@@ -138,4 +138,4 @@ module _ (k : Kernel) (i : ℕ) (w : Pending) (q : ℕ) (on : OnThePipe k i end.
     for = let f = file g in λ read. rw (f.named, f.opened, f.on) refl
 
     pub reads-waiting : e ≡ true → GoesOn k k i w (Blocks w)
-    reads-waiting is = goes-waits k i x w k w x refl (subst (IsPending (descriptors_at k i) (held_at k.spaces i).memory w) (sym g.number) g.can, waits-reading k.files (descriptors_at k i) w g.number for g.fresh) (empty true is)
+    reads-waiting is = goes-waits k i x w k w x refl (subst (IsPending (descriptors_at k i) (view_at k.spaces i).memory w) (sym g.number) g.can, waits-reading k.files (descriptors_at k i) w g.number for g.fresh) (empty true is)

@@ -21,9 +21,9 @@ use Rattle.kernel.specs.Sound.{IsKernel, IsPlaced}
 use Rattle.proc.specs.declared.process.Process.{Process}
 use Rattle.proc.specs.Places.{changed, with_mode, with_size}
 use Rattle.programs.specs.declared.executing.Started.{Started}
-use Rattle.programs.specs.Executed.{Executes, IsExecuted, frames_beside, held_by, plan_at, started_by}
+use Rattle.programs.specs.Executed.{Executes, IsExecuted, frames_beside, view_by, plan_at, started_by}
 use Rattle.spaces.proofs.SpacesLemmas.{held-same}
-use Rattle.spaces.specs.Spaces.{Held, Spaces, has_space, held_at, taken_frames, with_held}
+use Rattle.spaces.specs.Spaces.{SpaceView, Spaces, has_space, view_at, taken_frames, with_view}
 use Rattle.tree.specs.Tree.{FileTree}
 use Rattle.unixmodel.specs.Calls.{row}
 use Rattle.unixmodel.specs.Counts.{page_frames}
@@ -84,12 +84,12 @@ module _ (k : Kernel) (i : ℕ) (runs : Runs k i) where
   abbrev mine : unix.Process
   mine = me k i x
 
-  pub exec-pathless : None ≡ path_at (held_at k.spaces i).memory (argument k 0) → Acts k k i (Some Exec) Refuses
+  pub exec-pathless : None ≡ path_at (view_at k.spaces i).memory (argument k 0) → Acts k k i (Some Exec) Refuses
   unfolding exec_row
   exec-pathless none = let at = path-is k i runs 0 None none in refused k i x (Some Exec) (rw at refl)
 
   -- what its path reaches
-  module _ (k1 : Kernel) (o : Option ℕ) (path : List ℕ) (is : Some path ≡ path_at (held_at k.spaces i).memory (argument k 0)) (reads : HasRead k k1 × IfSome (slot k.table.places i) (λ p. o ≡ find k.tree.files p.directory path)) where
+  module _ (k1 : Kernel) (o : Option ℕ) (path : List ℕ) (is : Some path ≡ path_at (view_at k.spaces i).memory (argument k 0)) (reads : HasRead k k1 × IfSome (slot k.table.places i) (λ p. o ≡ find k.tree.files p.directory path)) where
     pub exec-lost : o ≡ None → Acts k k1 i (Some Exec) Refuses
     unfolding exec_row
     exec-lost none =
@@ -109,7 +109,7 @@ module _ (k : Kernel) (i : ℕ) (runs : Runs k i) where
     exec-node = node-here k i runs r.path n found
 
     abbrev planned : Option Plan
-    planned = plan_at k.tree.files n (held_at k.spaces i).memory (argument k 1)
+    planned = plan_at k.tree.files n (view_at k.spaces i).memory (argument k 1)
 
     exec-row : row (state_of k) i mine Exec ≡ given planned (replaces (state_of k) i mine)
     unfolding exec_row
@@ -132,11 +132,11 @@ module _ (k : Kernel) (i : ℕ) (runs : Runs k i) where
 
     -- ---- it is executed
 
-    module _ (p : Plan) (is : planned ≡ Some p) (fits : frames_beside k.spaces p ≤ k.spaces.frames) (few : taken_frames (with_held k.spaces i (held_by p)) ≤ k.spaces.frames) (failures : ℕ) (later : k.tree.failures ≤ failures) where
+    module _ (p : Plan) (is : planned ≡ Some p) (fits : frames_beside k.spaces p ≤ k.spaces.frames) (few : taken_frames (with_view k.spaces i (view_by p)) ≤ k.spaces.frames) (failures : ℕ) (later : k.tree.failures ≤ failures) where
       abbrev q : Process
       q = with_size p.size x.process
 
-      placed : IsPlaced q (held_by p)
+      placed : IsPlaced q (view_by p)
       placed = let l = live k i x.process x.held x.run x.sound in record {
         size = refl;
         zero = x.run.placed.zero;
@@ -145,21 +145,21 @@ module _ (k : Kernel) (i : ℕ) (runs : Runs k i) where
       }
 
       abbrev over : Kernel
-      over = moved k i q (held_by p) (exec_registers k.spaces.registers p) p.pc
+      over = moved k i q (view_by p) (exec_registers k.spaces.registers p) p.pc
 
       abbrev to : Kernel
       to = counting over failures
 
       there : Here to i
-      there = let r' = moved-run k i x.process x.held x.run x.sound q (held_by p) (exec_registers k.spaces.registers p) p.pc placed x.run.runs in record {
+      there = let r' = moved-run k i x.process x.held x.run x.sound q (view_by p) (exec_registers k.spaces.registers p) p.pc placed x.run.runs in record {
         process = q;
-        held = held_by p;
+        held = view_by p;
         run = record { active = r'.active; process = r'.process; space = r'.space; placed = placed; runs = x.run.runs; up = x.run.up };
-        sound = counting-kernel over failures (moved-kernel k i x.process x.held x.run x.sound q (held_by p) (exec_registers k.spaces.registers p) p.pc placed x.run.runs refl refl few);
+        sound = counting-kernel over failures (moved-kernel k i x.process x.held x.run x.sound q (view_by p) (exec_registers k.spaces.registers p) p.pc placed x.run.runs refl refl few);
       }
 
       state : state_of to ≡ put_process (state_of k) i (replaced mine p)
-      state = moved-state k i x.process x.held x.run x.sound q (held_by p) (exec_registers k.spaces.registers p) p.pc placed x.run.runs
+      state = moved-state k i x.process x.held x.run x.sound q (view_by p) (exec_registers k.spaces.registers p) p.pc placed x.run.runs
 
       exec-done : Acts k to i (Some Exec) (Answers p.argc)
       exec-done = prints k i x to Exec p.argc [] there (record { up = x.run.up; later = later }) (
@@ -170,7 +170,7 @@ module _ (k : Kernel) (i : ℕ) (runs : Runs k i) where
 
   -- ---- the device failed on the way: the place has some space
 
-  module _ (h : Held) (few : taken_frames (with_held k.spaces i h) ≤ k.spaces.frames) where
+  module _ (h : SpaceView) (few : taken_frames (with_view k.spaces i h) ≤ k.spaces.frames) where
     abbrev sized : Process
     sized = with_size h.size x.process
 
@@ -204,7 +204,7 @@ module _ (k : Kernel) (i : ℕ) (runs : Runs k i) (at : Kernel) (same : at ≡ k
   exec-within = let x' = here-of k i runs.sound runs.active in subst (λ (y : Kernel). i < length y.spaces.places) (sym same) (slot-within k.spaces.places i x'.held x'.run.space)
 
   -- it has a space still
-  pub held-has : (s : Spaces) (h : Held) → s ≡ with_held at.spaces i h → has_space s i ≡ true
+  pub held-has : (s : Spaces) (h : SpaceView) → s ≡ with_view at.spaces i h → has_space s i ≡ true
   held-has s h is = ap (λ (z : Spaces). has_space z i) is ∙ ap is_some (slot-put at.spaces.places i (Some h) exec-within)
 
   module _ (n : ℕ) (r : Reaches k i n) where
@@ -216,44 +216,44 @@ module _ (k : Kernel) (i : ℕ) (runs : Runs k i) (at : Kernel) (same : at ≡ k
       exec-none none =
           let told : Executes at.tree.files at.spaces s i n argv None = subst (Executes at.tree.files at.spaces s i n argv) none does in
           let shows : record at { tree = t; spaces = s } ≡ counting k t.failures = rw (told.0) (ap (λ (u : FileTree). record at { tree = u }) leaves ∙ ap (λ (y : Kernel). counting y t.failures) same) in
-          let over : (p : Plan) → plan_at k.tree.files n (held_at k.spaces i).memory (argument k 1) ≡ Some p → k.spaces.frames < frames_beside k.spaces p =
-          subst (λ (y : Kernel). (p : Plan) → plan_at y.tree.files n (held_at y.spaces i).memory (argument k 1) ≡ Some p → y.spaces.frames < frames_beside y.spaces p) same (subst (λ a. (p : Plan) → plan_at at.tree.files n (held_at at.spaces i).memory a ≡ Some p → at.spaces.frames < frames_beside at.spaces p) asks told.1) in
+          let over : (p : Plan) → plan_at k.tree.files n (view_at k.spaces i).memory (argument k 1) ≡ Some p → k.spaces.frames < frames_beside k.spaces p =
+          subst (λ (y : Kernel). (p : Plan) → plan_at y.tree.files n (view_at y.spaces i).memory (argument k 1) ≡ Some p → y.spaces.frames < frames_beside y.spaces p) same (subst (λ a. (p : Plan) → plan_at at.tree.files n (view_at at.spaces i).memory a ≡ Some p → at.spaces.frames < frames_beside at.spaces p) asks told.1) in
           exec-refused k i runs n r (record at { tree = t; spaces = s }) (record { same = shows; later = subst (λ (y : Kernel). y.tree.failures ≤ t.failures) same later }) over
 
       module _ (started : Started) (some : o ≡ Some started) where
-        told : IsExecuted (plan_at at.tree.files n (held_at at.spaces i).memory argv) at.spaces s i started
+        told : IsExecuted (plan_at at.tree.files n (view_at at.spaces i).memory argv) at.spaces s i started
         told = subst (Executes at.tree.files at.spaces s i n argv) some does
 
         pub exec-aligned : started.pc % 4 ≡ 0
-        exec-aligned = ap (λ (b : Started). b.pc % 4) told.started ∙ plan-aligned at.tree.files n (held_at at.spaces i).memory argv told.plan told.is
+        exec-aligned = ap (λ (b : Started). b.pc % 4) told.started ∙ plan-aligned at.tree.files n (view_at at.spaces i).memory argv told.plan told.is
 
         module _ (suffice : taken_frames s ≤ s.frames) where
-          few : taken_frames (with_held k.spaces i (held_by told.plan)) ≤ k.spaces.frames
+          few : taken_frames (with_view k.spaces i (view_by told.plan)) ≤ k.spaces.frames
           few =
-              let is : s ≡ with_held k.spaces i (held_by told.plan) = told.held ∙ ap (λ (y : Kernel). with_held y.spaces i (held_by told.plan)) same in
+              let is : s ≡ with_view k.spaces i (view_by told.plan) = told.held ∙ ap (λ (y : Kernel). with_view y.spaces i (view_by told.plan)) same in
               subst (λ (z : Spaces). taken_frames z ≤ z.frames) is suffice
 
           pub execs : Acts k (record at { tree = t; table = changed at.table i (with_size started.size); spaces = begun s started }) i (Some Exec) (Answers started.count)
           execs =
               let p = told.plan in
-              let is : plan_at k.tree.files n (held_at k.spaces i).memory (argument k 1) ≡ Some p = subst (λ (y : Kernel). plan_at y.tree.files n (held_at y.spaces i).memory (argument k 1) ≡ Some p) same (subst (λ a. plan_at at.tree.files n (held_at at.spaces i).memory a ≡ Some p) asks told.is) in
+              let is : plan_at k.tree.files n (view_at k.spaces i).memory (argument k 1) ≡ Some p = subst (λ (y : Kernel). plan_at y.tree.files n (view_at y.spaces i).memory (argument k 1) ≡ Some p) same (subst (λ a. plan_at at.tree.files n (view_at at.spaces i).memory a ≡ Some p) asks told.is) in
               let fits : frames_beside k.spaces p ≤ k.spaces.frames = subst (λ (y : Kernel). frames_beside y.spaces p ≤ y.spaces.frames) same told.fits in
               let later' : k.tree.failures ≤ t.failures = subst (λ (y : Kernel). y.tree.failures ≤ t.failures) same later in
               let x' = here-of k i runs.sound runs.active in
               let shows : record at { tree = t; table = changed at.table i (with_size p.size); spaces = begun s (started_by p) } ≡ to k i runs n r p is fits few t.failures later' =
               ap (λ (z : Spaces). record at { tree = t; table = changed at.table i (with_size p.size); spaces = begun z (started_by p) }) told.held
-              ∙ ap (λ (u : FileTree). record at { tree = u; table = changed at.table i (with_size p.size); spaces = begun (with_held at.spaces i (held_by p)) (started_by p) }) leaves
-              ∙ ap (λ (y : Kernel). record (counting y t.failures) { table = changed y.table i (with_size p.size); spaces = begun (with_held y.spaces i (held_by p)) (started_by p) }) same
+              ∙ ap (λ (u : FileTree). record at { tree = u; table = changed at.table i (with_size p.size); spaces = begun (with_view at.spaces i (view_by p)) (started_by p) }) leaves
+              ∙ ap (λ (y : Kernel). record (counting y t.failures) { table = changed y.table i (with_size p.size); spaces = begun (with_view y.spaces i (view_by p)) (started_by p) }) same
               ∙ rw x'.run.process refl in
               subst (λ (b : Started). Acts k (record at { tree = t; table = changed at.table i (with_size b.size); spaces = begun s b }) i (Some Exec) (Answers b.count)) (sym told.started)
               (subst (λ (y : Kernel). Acts k y i (Some Exec) (Answers p.argc)) (sym shows) (exec-done k i runs n r p is fits few t.failures later'))
 
   -- the device failed
-  pub exec-fails : (t : FileTree) → t.failed ≡ true → (s : Spaces) (h : Held) → s ≡ with_held at.spaces i h → taken_frames s ≤ s.frames → (size : ℕ) → size ≡ (held_at s i).size
+  pub exec-fails : (t : FileTree) → t.failed ≡ true → (s : Spaces) (h : SpaceView) → s ≡ with_view at.spaces i h → taken_frames s ≤ s.frames → (size : ℕ) → size ≡ (view_at s i).size
       → IsKernel (record at { tree = t; table = changed (changed at.table i (with_size size)) i (λ p. with_mode Ready (on_hart s p)); spaces = idle s })
   exec-fails t down s h is suffice size sized' =
       let x' = here-of k i runs.sound runs.active in
-      let size' : size ≡ h.size = sized' ∙ ap (λ (z : Spaces). (held_at z i).size) is ∙ ap (λ (g : Held). g.size) (held-same at.spaces i h exec-within) in
-      let is' : s ≡ with_held k.spaces i h = is ∙ ap (λ (y : Kernel). with_held y.spaces i h) same in
-      let few : taken_frames (with_held k.spaces i h) ≤ k.spaces.frames = subst (λ (z : Spaces). taken_frames z ≤ z.frames) is' suffice in
+      let size' : size ≡ h.size = sized' ∙ ap (λ (z : Spaces). (view_at z i).size) is ∙ ap (λ (g : SpaceView). g.size) (held-same at.spaces i h exec-within) in
+      let is' : s ≡ with_view k.spaces i h = is ∙ ap (λ (y : Kernel). with_view y.spaces i h) same in
+      let few : taken_frames (with_view k.spaces i h) ≤ k.spaces.frames = subst (λ (z : Spaces). taken_frames z ≤ z.frames) is' suffice in
       rw (size', is', same, x'.run.process) (half-fails k i runs h few t down)

@@ -26,7 +26,7 @@ use Rattle.kernel.proofs.Steps.{fail-keeps, placed-with}
 use Rattle.names.proofs.Quiet.{changed-same}
 use Rattle.names.specs.Changes.{Changed}
 use Rattle.proc.specs.Places.{Places, changed, with_mode}
-use Rattle.spaces.specs.Spaces.{Spaces, held_at, written}
+use Rattle.spaces.specs.Spaces.{Spaces, view_at, written}
 use Rattle.transfers.specs.Moved.{IsRead, bytes_of, bytes_read, with_bytes}
 use Rattle.tree.proofs.Storing.{whole-node}
 use Rattle.tree.specs.Held.{FitsPlaces}
@@ -84,7 +84,7 @@ module _ (k : Kernel) (i : ℕ) (w : Pending) (number offset : ℕ) (u : Uses k 
   abbrev address : ℕ
   address = pending_arg w 1
 
-  can : IsReading (descriptors_at k i) (held_at k.spaces i).memory w
+  can : IsReading (descriptors_at k i) (view_at k.spaces i).memory w
   can = g.can
 
   content : HasBytes (slot k.tree.files number) offset

@@ -6,7 +6,7 @@ use Rattle.std.proofs.lemmas.List.Sums.{sum_by-cons, sum_by-set}
 use Rattle.std.proofs.lemmas.Option.{none-some, same_Some}
 use Rattle.blockdev.specs.declared.DeviceFault.{DeviceFault}
 use Rattle.calls.specs.Acts.{Acts, Runs}
-use Rattle.calls.specs.Does.{IsLost}
+use Rattle.calls.specs.Gives.{IsLost}
 use Rattle.calls.specs.Reads.{HasRead}
 use Rattle.calls.specs.Replaced.{Reaches}
 use Rattle.calls.specs.declared.outcome.Came.TheVariants.{Answers, Refuses}
@@ -38,7 +38,7 @@ use Rattle.names.proofs.Naming.{find-used}
 use Rattle.proc.specs.declared.process.Process.{Process}
 use Rattle.proc.specs.Places.{changed, with_directory}
 use Rattle.proc.specs.Whole.{joined}
-use Rattle.spaces.specs.Spaces.{held_at, taken_frames}
+use Rattle.spaces.specs.Spaces.{view_at, taken_frames}
 use Rattle.tree.specs.Holding.{holders, let_go, with_hold, without_hold}
 use Rattle.tree.specs.Telling.{Tells}
 use Rattle.tree.specs.Tree.{FileTree, Serves}
@@ -270,7 +270,7 @@ module _ (k : Kernel) (i : ℕ) (runs : Runs k i) where
   pub few-hold : (n : ℕ) → holders k.tree.holds n < 65535
   few-hold n = let few = holders-few (used-here k i x) n in let opens = x.sound.opened.table.all in let places = x.sound.all in omega arith
 
-  pub chdir-pathless : None ≡ path_at (held_at k.spaces i).memory (argument k 0) → Acts k k i (Some Chdir) Refuses
+  pub chdir-pathless : None ≡ path_at (view_at k.spaces i).memory (argument k 0) → Acts k k i (Some Chdir) Refuses
   unfolding chdir_row
   chdir-pathless none = let at = path-is k i runs 0 None none in refused k i x (Some Chdir) (rw at refl)
 
@@ -284,7 +284,7 @@ module _ (k : Kernel) (i : ℕ) (runs : Runs k i) where
   unfolding chdir_row
   chdir-row path at = rw at refl
 
-  pub chdir-lost : (k1 : Kernel) (o : Option ℕ) (path : List ℕ) → Some path ≡ path_at (held_at k.spaces i).memory (argument k 0) → HasRead k k1 × IfSome (slot k.table.places i) (λ p. o ≡ find k.tree.files p.directory path)
+  pub chdir-lost : (k1 : Kernel) (o : Option ℕ) (path : List ℕ) → Some path ≡ path_at (view_at k.spaces i).memory (argument k 0) → HasRead k k1 × IfSome (slot k.table.places i) (λ p. o ≡ find k.tree.files p.directory path)
       → o ≡ None → Acts k k1 i (Some Chdir) Refuses
   chdir-lost k1 o path is reads none =
       refused-read k k1 i x Chdir reads.0 (ap limited (chdir-row path (path-is k i runs 0 (Some path) is) ∙ ap (λ f. given f (λ n. with_node n (slot k.tree.files n))) (found-here path o reads.1 ∙ none)))

@@ -11,7 +11,7 @@ use Rattle.std.proofs.lemmas.List.{get_or-set_other, length-map, map-set, set-ge
 use Rattle.calls.specs.Acts.{Acts, Runs, marked_by, settled_by}
 use Rattle.calls.specs.declared.outcome.Came.TheVariants.{Answers, KillsItself, Refuses}
 use Rattle.kernel.specs.Kernel.{Kernel, answered, argument, base, ended, halted_by, lives, loaded, marked, memories, memory_in, on_hart, rest_of, state_of}
-use Rattle.calls.specs.Processes.{named}
+use Rattle.calls.specs.Processes.{place_called}
 use Rattle.kernel.specs.Sound.{IsKernel, is_at}
 use Rattle.calls.proofs.Acts.{Here, came, does, here-of, me, refused}
 use Rattle.kernel.proofs.Changes.{ended-is, ended-kernel, ended_to, nodes, nodes-counted, old-homes, other-at}
@@ -28,7 +28,7 @@ use Rattle.proc.specs.Places as table
 use Rattle.proc.specs.Places.{Places, has_pid, orphaned, place_where, with_mark, zombie_of}
 use Rattle.proc.proofs.Joined.{change_process-with_table, place_of_pid-with_table, place_where-Some, with_zombie-with_table}
 use Rattle.proc.specs.Whole.{with_memory, with_table}
-use Rattle.spaces.specs.Spaces.{Held}
+use Rattle.spaces.specs.Spaces.{SpaceView}
 use Rattle.unixmodel.specs.Calls.{end_at, quiet, settle}
 use Rattle.unixmodel.specs.Counts.{is_within}
 use Rattle.unixmodel.specs.declared.call.Call.TheVariants.{Kill}
@@ -47,7 +47,7 @@ module _ (k : Kernel) (i : ℕ) (x : Here k i) where
   abbrev p : Process
   p = x.process
 
-  abbrev h : Held
+  abbrev h : SpaceView
   h = x.held
 
   abbrev r : IsRun k i p h
@@ -105,7 +105,7 @@ module _ (k : Kernel) (i : ℕ) (x : Here k i) where
   abbrev t : Places
   t = with_process k.table i (with_mark (on_hart k.spaces p))
 
-  match-mark : (q : Process) (o : Option Held) → IsMatch (Some q) o → IsMatch (Some (with_mark q)) o
+  match-mark : (q : Process) (o : Option SpaceView) → IsMatch (Some q) o → IsMatch (Some (with_mark q)) o
   match-mark q None is = is
   match-mark q (Some y) is = is
 
@@ -250,13 +250,13 @@ module _ (k : Kernel) (i : ℕ) (x : Here k i) where
 
 -- ---- the row
 
-named-some : (os : List (Option Process)) (o : Option ℕ) (j : ℕ) → named os o ≡ Some j → (q : Process) × (slot os j ≡ Some q)
+named-some : (os : List (Option Process)) (o : Option ℕ) (j : ℕ) → place_called os o ≡ Some j → (q : Process) × (slot os j ≡ Some q)
 named-some os None j found = absurd (cc)
 named-some os (Some zero) j found = absurd (cc)
 named-some os (Some (suc n)) j found = let f = place_where-Some (has_pid (suc n)) os j found in (f.0, f.1.0)
 
 -- a pid that is not 0 is looked for
-pub named-is : (os : List (Option Process)) (n : ℕ) → n ≢ 0 → named os (Some n) ≡ place_where os (has_pid n)
+pub named-is : (os : List (Option Process)) (n : ℕ) → n ≢ 0 → place_called os (Some n) ≡ place_where os (has_pid n)
 named-is os zero some = absurd (some refl)
 named-is os (suc n) some = refl
 
@@ -274,7 +274,7 @@ module _ {k : Kernel} {i : ℕ} (runs : Runs k i) where
   abbrev kills : Option ℕ → Outcome
   kills o = given o (λ j. answers (change_process (state_of k) j rows.marked) 0)
 
-  kill-named : (o : Option ℕ) → given o (λ pid. provided (nat_le 1 pid) (kills (place_of_pid (state_of k) pid))) ≡ kills (named k.table.places o)
+  kill-named : (o : Option ℕ) → given o (λ pid. provided (nat_le 1 pid) (kills (place_of_pid (state_of k) pid))) ≡ kills (place_called k.table.places o)
   kill-named None = refl
   kill-named (Some zero) = refl
   kill-named (Some (suc n)) =
@@ -284,19 +284,19 @@ module _ {k : Kernel} {i : ℕ} (runs : Runs k i) where
   abbrev number : Option ℕ
   number = natural (int_of (argument k 0))
 
-  kill-is : (o : Option ℕ) → named k.table.places number ≡ o → kill_row (state_of k) i (me k i here) ≡ kills o
+  kill-is : (o : Option ℕ) → place_called k.table.places number ≡ o → kill_row (state_of k) i (me k i here) ≡ kills o
   unfolding kill_row
   kill-is o found = kill-named number ∙ ap kills found
 
-  pub kills-none : named k.table.places number ≡ None → Acts k k i (Some Kill) Refuses
+  pub kills-none : place_called k.table.places number ≡ None → Acts k k i (Some Kill) Refuses
   kills-none none = refused k i here (Some Kill) (ap limited (kill-is None none))
 
-  pub kills-other : (j : ℕ) → named k.table.places number ≡ Some j → j ≢ i → Acts k (marked k j) i (Some Kill) (Answers 0)
+  pub kills-other : (j : ℕ) → place_called k.table.places number ≡ Some j → j ≢ i → Acts k (marked k j) i (Some Kill) (Answers 0)
   kills-other j found apart =
       let f = named-some k.table.places number j found in
       rw (marked-is k j f.0 f.1) (does k i here (marked_to k j f.0) Kill 0 (mark-here k i here j f.0 f.1 apart) refl (kill-is (Some j) found ∙ ap (λ (s : State). Done s 0 []) (mark-state k i here j f.0 f.1 apart)))
 
-  pub kills-self : named k.table.places number ≡ Some i → Acts k k i (Some Kill) KillsItself
+  pub kills-self : place_called k.table.places number ≡ Some i → Acts k k i (Some Kill) KillsItself
   kills-self found = came k i here (Some Kill) KillsItself tt (ap (λ (o : Outcome). settle (state_of k) i (limited o)) (kill-is (Some i) found) ∙ self-settles k i here)
 
   -- it is answered, ends, and is marked

@@ -9,7 +9,7 @@ use Rattle.calls.proofs.Acts.{refused}
 use Rattle.calls.proofs.Names.{faulted, given-then, here, home-is, made-over, mine, name-made, name-refused, name-sound, names-rules, ok-done, path-is, with_made}
 use Rattle.kernel.specs.Kernel.{Kernel, argument, state_of}
 use Rattle.kernel.specs.Sound.{IsKernel}
-use Rattle.spaces.specs.Spaces.{held_at}
+use Rattle.spaces.specs.Spaces.{view_at}
 use Rattle.tree.specs.Answers.{Overflows}
 use Rattle.tree.specs.declared.TreeFault.{TreeFault}
 use Rattle.tree.specs.Entering.{linked_in}
@@ -43,18 +43,18 @@ MakesLink old new d from to r =
 module _ (k : Kernel) (i : ℕ) (runs : Runs k i) where
   -- ---- no path
 
-  pub link-oldless : None ≡ path_at (held_at k.spaces i).memory (argument k 0) → Acts k k i (Some Link) Refuses
+  pub link-oldless : None ≡ path_at (view_at k.spaces i).memory (argument k 0) → Acts k k i (Some Link) Refuses
   unfolding link_row
   link-oldless none = let at = path-is k i runs 0 None none in refused k i (here k i runs) (Some Link) (rw at refl)
 
-  pub link-newless : {old : List ℕ} → Some old ≡ path_at (held_at k.spaces i).memory (argument k 0) → None ≡ path_at (held_at k.spaces i).memory (argument k 1) → Acts k k i (Some Link) Refuses
+  pub link-newless : {old : List ℕ} → Some old ≡ path_at (view_at k.spaces i).memory (argument k 0) → None ≡ path_at (view_at k.spaces i).memory (argument k 1) → Acts k k i (Some Link) Refuses
   unfolding link_row
   link-newless {old} some none = let from = path-is k i runs 0 (Some old) some in let to = path-is k i runs 1 None none in refused k i (here k i runs) (Some Link) (rw (from, to) refl)
 
   -- ---- the row
 
-  module _ (d : ℕ) (home : IfSome (slot k.table.places i) (λ p. d ≡ p.directory)) (from to : List ℕ) (first : Some from ≡ path_at (held_at k.spaces i).memory (argument k 0))
-      (second : Some to ≡ path_at (held_at k.spaces i).memory (argument k 1)) (t : FileTree) (r : Result (Unit {0}) TreeFault) where
+  module _ (d : ℕ) (home : IfSome (slot k.table.places i) (λ p. d ≡ p.directory)) (from to : List ℕ) (first : Some from ≡ path_at (view_at k.spaces i).memory (argument k 0))
+      (second : Some to ≡ path_at (view_at k.spaces i).memory (argument k 1)) (t : FileTree) (r : Result (Unit {0}) TreeFault) where
     link-makes : row (state_of k) i (mine k i runs) Link ≡ with_made (state_of k) (linked_in k.tree.files d from to)
     link-makes = rw (home-is k i runs d home) (link-row (state_of k) i (mine k i runs) from to (path-is k i runs 0 (Some from) first) (path-is k i runs 1 (Some to) second))
 

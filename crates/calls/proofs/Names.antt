@@ -19,7 +19,7 @@ use Rattle.names.specs.Changes.{Changed, shape}
 use Rattle.names.specs.Rules.{KeepsTree}
 use Rattle.proc.specs.declared.process.Process.{Process}
 use Rattle.proc.specs.Places.{changed, with_mode}
-use Rattle.spaces.specs.Spaces.{Held, held_at}
+use Rattle.spaces.specs.Spaces.{SpaceView, view_at}
 use Rattle.tree.specs.Answers.{Overflows}
 use Rattle.tree.specs.declared.TreeFault.{TreeFault}
 use Rattle.tree.specs.declared.TreeFault.TheVariants.{Device}
@@ -201,8 +201,8 @@ module _ (k : Kernel) (i : ℕ) (runs : Runs k i) where
     go None at is = absurd (none-some here.process at)
     go (Some p) at is = is ∙ ap (λ (q : Process). q.directory) (same_Some p here.process at)
 
-  pub path-is : (n : ℕ) (o : Option (List ℕ)) → o ≡ path_at (held_at k.spaces i).memory (argument k n) → path_arg mine n ≡ o
-  path-is n o is = sym (is ∙ ap (λ (h : Held). path_at h.memory (argument k n)) (held-run k i here.process here.held here.run here.sound))
+  pub path-is : (n : ℕ) (o : Option (List ℕ)) → o ≡ path_at (view_at k.spaces i).memory (argument k n) → path_arg mine n ≡ o
+  path-is n o is = sym (is ∙ ap (λ (h : SpaceView). path_at h.memory (argument k n)) (held-run k i here.process here.held here.run here.sound))
 
   pub names-up : k.tree.failed ≡ false
   names-up = here.run.up
@@ -221,17 +221,17 @@ module _ (k : Kernel) (i : ℕ) (runs : Runs k i) where
 
   -- ---- no path
 
-  pub mknod-pathless : None ≡ path_at (held_at k.spaces i).memory (argument k 0) → Acts k k i (Some Mknod) Refuses
+  pub mknod-pathless : None ≡ path_at (view_at k.spaces i).memory (argument k 0) → Acts k k i (Some Mknod) Refuses
   unfolding mknod_row
   mknod-pathless none = let at = path-is 0 None none in refused k i here (Some Mknod) (rw at refl)
 
-  pub mkdir-pathless : None ≡ path_at (held_at k.spaces i).memory (argument k 0) → Acts k k i (Some Mkdir) Refuses
+  pub mkdir-pathless : None ≡ path_at (view_at k.spaces i).memory (argument k 0) → Acts k k i (Some Mkdir) Refuses
   unfolding mkdir_row
   mkdir-pathless none = let at = path-is 0 None none in refused k i here (Some Mkdir) (rw at refl)
 
   -- ---- the rows
 
-  module _ (d : ℕ) (home : IfSome (slot k.table.places i) (λ p. d ≡ p.directory)) (path : List ℕ) (is : Some path ≡ path_at (held_at k.spaces i).memory (argument k 0)) where
+  module _ (d : ℕ) (home : IfSome (slot k.table.places i) (λ p. d ≡ p.directory)) (path : List ℕ) (is : Some path ≡ path_at (view_at k.spaces i).memory (argument k 0)) where
     module _ (a b : ℕ) (first : a ≡ argument k 1) (second : b ≡ argument k 2) (t : FileTree) (r : Result ℕ TreeFault) where
       abbrev it : Leaf
       it = leaf.Device (a % 65536) (b % 65536)

@@ -9,7 +9,7 @@ use Rattle.blockdev.specs.declared.DeviceFault.{DeviceFault}
 use Rattle.calls.specs.Acts.{Acts, ActsOnDisk, Runs, outcome_at, settled_by}
 use Rattle.calls.specs.declared.outcome.Came.{Came}
 use Rattle.calls.specs.declared.outcome.Came.TheVariants.{Answers, Refuses}
-use Rattle.calls.specs.Does.{IsServed}
+use Rattle.calls.specs.Gives.{IsServed}
 use Rattle.calls.specs.Opened.{Asks, Cuts, IsCut, IsOpenable, Opens, cut_tree, file_by, has_seat, may_open_by, target_by, with_open}
 use Rattle.calls.specs.Reads.{HasRead}
 use Rattle.calls.specs.Renamed.{OpensAs, free_descriptors}
@@ -45,7 +45,7 @@ use Rattle.names.proofs.Spots.{spot-absent}
 use Rattle.names.specs.Changes.{Changed}
 use Rattle.proc.specs.declared.process.Process.{Process}
 use Rattle.proc.specs.Places.{Places, changed, with_descriptor}
-use Rattle.spaces.specs.Spaces.{held_at}
+use Rattle.spaces.specs.Spaces.{view_at}
 use Rattle.tree.proofs.Keeping.{created-changed}
 use Rattle.tree.specs.Answers.{Overflows}
 use Rattle.tree.specs.declared.making.Leaf.TheVariants as leaf
@@ -395,7 +395,7 @@ module _ (k : Kernel) (i : ℕ) (runs : Runs k i) where
   abbrev mine : unix.Process
   mine = me k i now
 
-  pub open-pathless : None ≡ path_at (held_at k.spaces i).memory (argument k 0) → Acts k k i (Some Open) Refuses
+  pub open-pathless : None ≡ path_at (view_at k.spaces i).memory (argument k 0) → Acts k k i (Some Open) Refuses
   unfolding open_row
   open-pathless none = let at = path-is k i runs 0 None none in refused k i now (Some Open) (rw at refl)
 
@@ -550,7 +550,7 @@ module _ (k : Kernel) (i : ℕ) (runs : Runs k i) where
 -- ---- once the path was looked up
 
 -- that is asked for then
-pub asked : {k k1 : Kernel} (i : ℕ) (path : List ℕ) (f : ℕ) (o : Option ℕ) → HasRead k k1 × IfSome (slot k.table.places i) (λ p. o ≡ find k.tree.files p.directory path) → Some path ≡ path_at (held_at k.spaces i).memory (argument k 0) → f ≡ low (argument k 1)
+pub asked : {k k1 : Kernel} (i : ℕ) (path : List ℕ) (f : ℕ) (o : Option ℕ) → HasRead k k1 × IfSome (slot k.table.places i) (λ p. o ≡ find k.tree.files p.directory path) → Some path ≡ path_at (view_at k.spaces i).memory (argument k 0) → f ≡ low (argument k 1)
     → (q : Option ℕ) → o ≡ q → Asks k1 i path f q
 asked {k} {k1} i path f o reads named flags q is =
     subst (λ (y : Kernel). Asks y i path f q) (sym reads.0.same)

@@ -31,7 +31,7 @@ use Rattle.files.specs.Places.{Counted, count_at, count_in, file_at, free_count,
 use Rattle.files.proofs.Whole.{free_slot-opens, opens-opened, table-opened}
 use Rattle.proc.specs.declared.process.Process.{Process}
 use Rattle.proc.specs.Places.{Places, changed, with_descriptor}
-use Rattle.spaces.specs.Spaces.{Held, Spaces, frames_in, held_at, taken_frames, with_held, with_pipe, written}
+use Rattle.spaces.specs.Spaces.{SpaceView, Spaces, frames_in, view_at, taken_frames, with_view, with_pipe, written}
 use Rattle.spaces.proofs.SpacesLemmas.{taken-placed}
 use Rattle.unixmodel.specs.Counts.{is_within, page_frames}
 use Rattle.unixmodel.specs.declared.call.Call.TheVariants.{Pipe}
@@ -107,7 +107,7 @@ pub record AreFree (k : Kernel) (i : ℕ) (e : Ends) : Type 0 where
 abbrev piped : Kernel → ℕ → ℕ → Ends → Kernel
 piped k i address e = record k {
   table = changed (changed k.table i (with_descriptor e.read_fd (Some e.reader))) i (with_descriptor e.write_fd (Some e.writer));
-  spaces = with_held (with_pipe k.spaces e.pipe (Some [])) i (written (held_at k.spaces i) address (le 4 e.read_fd ++ le 4 e.write_fd));
+  spaces = with_view (with_pipe k.spaces e.pipe (Some [])) i (written (view_at k.spaces i) address (le 4 e.read_fd ++ le 4 e.write_fd));
   files = opened (opened k.files e.reader (pipe_file e.pipe end.Read)) e.writer (pipe_file e.pipe end.Write);
 }
 
@@ -123,7 +123,7 @@ module _ (k : Kernel) (i : ℕ) (y : Here k i) (a : ℕ) (x : Ends) (free : AreF
   abbrev q : Process
   q = record p { descriptors = put (put p.descriptors x.read_fd x.reader) x.write_fd x.writer }
 
-  abbrev h : Held
+  abbrev h : SpaceView
   h = written y.held a (le 4 x.read_fd ++ le 4 x.write_fd)
 
   abbrev first : List (Option Counted)
@@ -273,14 +273,14 @@ module _ {k : Kernel} {i : ℕ} (runs : Runs k i) where
   abbrev a : ℕ
   a = argument k 0
 
-  can-here : (b : Bool) → can_write (held_at k.spaces i).memory a 8 ≡ b → can_write here.held.memory a 8 ≡ b
-  can-here b can = ap (λ (y : Held). can_write y.memory a 8) (sym (held-run k i here.process here.held here.run here.sound)) ∙ can
+  can-here : (b : Bool) → can_write (view_at k.spaces i).memory a 8 ≡ b → can_write here.held.memory a 8 ≡ b
+  can-here b can = ap (λ (y : SpaceView). can_write y.memory a 8) (sym (held-run k i here.process here.held here.run here.sound)) ∙ can
 
-  pub pipe-unwritable : can_write (held_at k.spaces i).memory a 8 ≡ false → Acts k k i (Some Pipe) Refuses
+  pub pipe-unwritable : can_write (view_at k.spaces i).memory a 8 ≡ false → Acts k k i (Some Pipe) Refuses
   unfolding pipe_row
   pipe-unwritable cannot = refused k i here (Some Pipe) (rw (can-here false cannot) refl)
 
-  module _ (can : can_write (held_at k.spaces i).memory a 8 ≡ true) where
+  module _ (can : can_write (view_at k.spaces i).memory a 8 ≡ true) where
     pipe-acts : (x : Ends) (free : AreFree k i x) → taken_frames (with_pipe k.spaces x.pipe (Some [])) ≤ k.spaces.frames → Acts k (to k i here a x free) i (Some Pipe) (Answers 0)
     unfolding pipe_row
     pipe-acts x free fits =
@@ -326,7 +326,7 @@ module _ {t t1 : Places} {files files1 : List (Option Counted)} {i : ℕ} {f : f
 
 -- ---- over the fields: at is what they show
 
-module _ {k : Kernel} {i : ℕ} (runs : Runs k i) (can : can_write (held_at k.spaces i).memory (argument k 0) 8 ≡ true) {at : Kernel} (same : at ≡ k) where
+module _ {k : Kernel} {i : ℕ} (runs : Runs k i) (can : can_write (view_at k.spaces i).memory (argument k 0) 8 ≡ true) {at : Kernel} (same : at ≡ k) where
   lacks : ((x : Ends) → AreFree at i x → at.spaces.frames < taken_frames (with_pipe at.spaces x.pipe (Some []))) → Acts k k i (Some Pipe) Refuses
   lacks over = pipe-lacks runs can (rw same at over)
 
@@ -368,12 +368,12 @@ module _ {k : Kernel} {i : ℕ} (runs : Runs k i) {at : Kernel} (same : at ≡ k
       } in
       subst (λ (y : Kernel). AreFree y i ends) same free
 
-  pub pipes-open : can_write (held_at k.spaces i).memory (argument k 0) 8 ≡ true → taken_frames (with_pipe at.spaces b (Some [])) ≤ at.spaces.frames → (s1 new : Spaces) → s1 ≡ with_pipe at.spaces b (Some [])
-      → (a : ℕ) → a ≡ argument k 0 → (bytes : List ℕ) → bytes ≡ le 4 r ++ le 4 w → (wrote : Bool) → wrote ≡ can_write (held_at s1 i).memory a (length bytes) → OnTrue wrote (new ≡ with_held s1 i (written (held_at s1 i) a bytes))
+  pub pipes-open : can_write (view_at k.spaces i).memory (argument k 0) 8 ≡ true → taken_frames (with_pipe at.spaces b (Some [])) ≤ at.spaces.frames → (s1 new : Spaces) → s1 ≡ with_pipe at.spaces b (Some [])
+      → (a : ℕ) → a ≡ argument k 0 → (bytes : List ℕ) → bytes ≡ le 4 r ++ le 4 w → (wrote : Bool) → wrote ≡ can_write (view_at s1 i).memory a (length bytes) → OnTrue wrote (new ≡ with_view s1 i (written (view_at s1 i) a bytes))
       → Acts k (record at { table = t2; spaces = new; files = files2 }) i (Some Pipe) (Answers 0)
   pipes-open can fits s1 new pipe a is-a bytes numbers wrote writes done =
       let yes : wrote ≡ true = writes ∙ rw (pipe, is-a, numbers, same) can in
-      let wrote_so : new ≡ with_held s1 i (written (held_at s1 i) a bytes) = rw yes at done in
+      let wrote_so : new ≡ with_view s1 i (written (view_at s1 i) a bytes) = rw yes at done in
       let spaces : new ≡ (piped at i (argument k 0) ends).spaces = wrote_so ∙ rw (pipe, is-a, numbers) refl in
       let table : t2 ≡ (piped at i (argument k 0) ends).table = two.names ∙ ap (λ (t : Places). changed t i (with_descriptor w (Some two.number))) one.names in
       let files : files2 ≡ (piped at i (argument k 0) ends).files = two.opens ∙ ap (λ (fs : List (Option Counted)). opened fs two.number (pipe_file b end.Write)) one.opens in

@@ -6,7 +6,7 @@ use Rattle.console.specs.Output.{AppendsBeginning}
 use Rattle.kernel.specs.Kernel.{Kernel}
 use Rattle.calls.specs.Transfers.{IsFront}
 use Rattle.calls.proofs.Writes.{readable-count}
-use Rattle.spaces.specs.Spaces.{held_at}
+use Rattle.spaces.specs.Spaces.{view_at}
 use Rattle.unixmodel.specs.declared.trap.Access.TheVariants.{Load}
 use Rattle.unixmodel.specs.Memory.{Memory, reach, read_bytes}
 use Rattle.vm.specs.Reach.{IsSized, piece_at}
@@ -37,21 +37,21 @@ begins_more before mid after xs ys zs all h k e = record {
 
 -- ---- the bytes of a process: k is what the fields show, and now is the kernel's value
 
-module _ (k now : Kernel) (i address count done : ℕ) (same : k ≡ now) (kept : IsSized (held_at k.spaces i).memory) (readable : is_some (read_bytes (held_at now.spaces i).memory address count) ≡ true) (less : done < count) where
+module _ (k now : Kernel) (i address count done : ℕ) (same : k ≡ now) (kept : IsSized (view_at k.spaces i).memory) (readable : is_some (read_bytes (view_at now.spaces i).memory address count) ≡ true) (less : done < count) where
   abbrev mem : Memory
-  mem = (held_at now.spaces i).memory
+  mem = (view_at now.spaces i).memory
 
   sized : IsSized mem
-  sized = subst (λ (x : Kernel). IsSized (held_at x.spaces i).memory) same kept
+  sized = subst (λ (x : Kernel). IsSized (view_at x.spaces i).memory) same kept
 
   near : done < length (reach Load mem address)
   near = let all = (readable-count mem address count readable).0 in omega (arith, all, less)
 
   -- the next byte has an address, and can be read
-  pub next-fits : length (held_at k.spaces i).memory ≤ 32768 → address + done < 2 ^ 64
+  pub next-fits : length (view_at k.spaces i).memory ≤ 32768 → address + done < 2 ^ 64
   next-fits few =
       let page = (reach-page Load mem address done sized near).0 in
-      let few' : length mem ≤ 32768 = subst (λ (x : Kernel). length (held_at x.spaces i).memory ≤ 32768) same few in
+      let few' : length mem ≤ 32768 = subst (λ (x : Kernel). length (view_at x.spaces i).memory ≤ 32768) same few in
       omega (arith, page, few')
 
   pub next-readable : 0 < length (reach Load mem (address + done))

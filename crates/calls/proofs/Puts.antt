@@ -18,7 +18,7 @@ use Rattle.console.specs.Output.{AppendsBeginning}
 use Rattle.files.specs.declared.file.End.TheVariants as end
 use Rattle.files.specs.declared.file.Target.TheVariants as target
 use Rattle.files.specs.Meant.{file_of, target_of}
-use Rattle.spaces.specs.Spaces.{Held, held_at}
+use Rattle.spaces.specs.Spaces.{SpaceView, view_at}
 use Rattle.spaces.proofs.SpacesLemmas.{some-pipe}
 use Rattle.unixmodel.specs.Calls.{settle}
 use Rattle.unixmodel.specs.declared.process.Pending.{Pending}
@@ -50,21 +50,21 @@ module _ (k : Kernel) (i : ℕ) (w : Pending) (on : OnConsole k i end.Write w) w
   count = low (pending_arg w 2)
 
   abbrev bytes : List ℕ
-  bytes = unwrap_or (read_bytes (held_at k.spaces i).memory (pending_arg w 1) count) []
+  bytes = unwrap_or (read_bytes (view_at k.spaces i).memory (pending_arg w 1) count) []
 
   row : going k i x w ≡ Done (state_of k) count bytes
   row =
-      let read : read_bytes (held_at k.spaces i).memory (pending_arg w 1) count ≡ Some bytes = some-pipe (read_bytes (held_at k.spaces i).memory (pending_arg w 1) count) g.can.readable in
+      let read : read_bytes (view_at k.spaces i).memory (pending_arg w 1) count ≡ Some bytes = some-pipe (read_bytes (view_at k.spaces i).memory (pending_arg w 1) count) g.can.readable in
       let device = console-here g in
       going-is g
-      ∙ write-bytes (state_of k) i (me k i x) w (file_of (file g).file) (file-named g) on.0 (ap target_of (file g).on) device.links device.major device.minor device.here bytes (ap (λ (h : Held). read_bytes h.memory (pending_arg w 1) count) (sym (held-here g)) ∙ read)
-      ∙ ap (λ (n : ℕ). Done (state_of k) n bytes) (length-read (held_at k.spaces i).memory (pending_arg w 1) count bytes read)
+      ∙ write-bytes (state_of k) i (me k i x) w (file_of (file g).file) (file-named g) on.0 (ap target_of (file g).on) device.links device.major device.minor device.here bytes (ap (λ (h : SpaceView). read_bytes h.memory (pending_arg w 1) count) (sym (held-here g)) ∙ read)
+      ∙ ap (λ (n : ℕ). Done (state_of k) n bytes) (length-read (view_at k.spaces i).memory (pending_arg w 1) count bytes read)
 
   settles : settle (state_of k) i (limited (going_at (state_of k) i w)) ≡ after (state_of (answered k count)) bytes
   settles = ap (λ (o : Outcome). settle (state_of k) i (limited o)) (going-here k i x w ∙ row) ∙ settle-limited k i x.process x.held x.run x.sound (state_of k) count bytes
 
   module _ (n : ℕ) (all : n ≡ count) (before now : Option (List ℕ)) where
-    pub puts-all : Appends before now (unwrap_or (read_bytes (held_at k.spaces i).memory (pending_arg w 1) n) []) → (bs : List ℕ) × Comes k k i (limited (going_at (state_of k) i w)) bs (Answers n) × Appends before now bs
+    pub puts-all : Appends before now (unwrap_or (read_bytes (view_at k.spaces i).memory (pending_arg w 1) n) []) → (bs : List ℕ) × Comes k k i (limited (going_at (state_of k) i w)) bs (Answers n) × Appends before now bs
     puts-all printed = rw all (
       bytes,
       record {
@@ -79,7 +79,7 @@ module _ (k : Kernel) (i : ℕ) (w : Pending) (on : OnConsole k i end.Write w) w
     )
 
     -- the console failed
-    pub puts-beginning : AppendsBeginning before now (unwrap_or (read_bytes (held_at k.spaces i).memory (pending_arg w 1) n) []) → AppendsBeginning before now (settle (state_of k) i (limited (going_at (state_of k) i w))).bytes
+    pub puts-beginning : AppendsBeginning before now (unwrap_or (read_bytes (view_at k.spaces i).memory (pending_arg w 1) n) []) → AppendsBeginning before now (settle (state_of k) i (limited (going_at (state_of k) i w))).bytes
     puts-beginning printed = rw settles (rw all at printed)
 
 -- nothing is put out

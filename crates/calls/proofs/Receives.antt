@@ -20,7 +20,7 @@ use Rattle.files.specs.declared.file.End.TheVariants as end
 use Rattle.files.specs.declared.file.Target.TheVariants as target
 use Rattle.files.specs.Meant.{file_of, target_of}
 use Rattle.proc.specs.declared.process.Process.{Process}
-use Rattle.spaces.specs.Spaces.{Held, Spaces, has_space, held_at, with_held, written}
+use Rattle.spaces.specs.Spaces.{SpaceView, Spaces, has_space, view_at, with_view, written}
 use Rattle.spaces.proofs.SpacesLemmas.{held-same}
 use Rattle.unixmodel.specs.Console.{Console, Taken, take_line}
 use Rattle.unixmodel.specs.declared.process.Pending.{Pending}
@@ -143,19 +143,19 @@ abbrev line_for : Kernel → Pending → Taken
 line_for k w = take_line (nat_lt 0 w.done) (low (pending_arg w 2) - w.done) k.console.committed
 
 pub record Took (k : Kernel) (i : ℕ) (w : Pending) (n : ℕ) (buffer : List ℕ) (over : Bool) (wrote : Bool) (new : Spaces) (console : Console) : Type 0 where
-  pub sized : IsSized (held_at k.spaces i).memory
+  pub sized : IsSized (view_at k.spaces i).memory
   pub long : n ≤ length buffer
   pub took : line_for k w ≡ record { bytes = take n buffer; rest = console.committed; over = over }
   pub edited : console.edited ≡ k.console.edited
-  pub can : wrote ≡ can_write (held_at k.spaces i).memory (pending_arg w 1 + w.done) (length (take n buffer))
-  pub done : OnTrue wrote (new ≡ with_held k.spaces i (written (held_at k.spaces i) (pending_arg w 1 + w.done) (take n buffer)))
+  pub can : wrote ≡ can_write (view_at k.spaces i).memory (pending_arg w 1 + w.done) (length (take n buffer))
+  pub done : OnTrue wrote (new ≡ with_view k.spaces i (written (view_at k.spaces i) (pending_arg w 1 + w.done) (take n buffer)))
 
 -- what the call comes to then
 pub record Receives (k new : Kernel) (i : ℕ) (w : Pending) (n : ℕ) (over : Bool) : Type 0 where
   pub sound : IsKernel new
   pub space : has_space new.spaces i ≡ true
   pub ends : over ≡ true → GoesOn k new i w (Answers (w.done + n))
-  pub waits : IsSized (held_at new.spaces i).memory → over ≡ false → GoesOn k new i w (Blocks (record w { done = w.done + n }))
+  pub waits : IsSized (view_at new.spaces i).memory → over ≡ false → GoesOn k new i w (Blocks (record w { done = w.done + n }))
 
 -- ---- a read goes on
 
@@ -166,7 +166,7 @@ module _ (k : Kernel) (i : ℕ) (w : Pending) (on : OnConsole k i end.Read w) wh
   abbrev x : Here k i
   x = here g
 
-  can : IsReading (descriptors_at k i) (held_at k.spaces i).memory w
+  can : IsReading (descriptors_at k i) (view_at k.spaces i).memory w
   can = g.can
 
   for : IsForBytes k.files (descriptors_at k i) w
@@ -177,9 +177,9 @@ module _ (k : Kernel) (i : ℕ) (w : Pending) (on : OnConsole k i end.Read w) wh
   fresh further same = let f = file g in λ read. rw (same, f.named, f.opened) (λ on. absurd (false≢true (ap is_on_pipe (sym f.on) ∙ on)))
 
   -- the bytes go to addresses of the memory
-  pub reads-fit : (at : Kernel) → at ≡ k → IsSized (held_at at.spaces i).memory → length (held_at at.spaces i).memory ≤ 32768 → pending_arg w 1 + w.done < 2 ^ 64
+  pub reads-fit : (at : Kernel) → at ≡ k → IsSized (view_at at.spaces i).memory → length (view_at at.spaces i).memory ≤ 32768 → pending_arg w 1 + w.done < 2 ^ 64
   reads-fit at same sized few =
-      let mem = (held_at k.spaces i).memory in
+      let mem = (view_at k.spaces i).memory in
       let whole : low (pending_arg w 2) ≤ length (reach Store mem (pending_arg w 1)) = leb-true (low (pending_arg w 2)) (length (reach Store mem (pending_arg w 1))) can.buffer in
       let left = can.left in
       let page = (reach-page Store mem (pending_arg w 1) w.done (rw same at sized) (omega (arith, whole, left))).0 in
@@ -212,10 +212,10 @@ module _ (k : Kernel) (i : ℕ) (w : Pending) (on : OnConsole k i end.Read w) wh
         let most : length (line_for k w).bytes ≤ low (pending_arg w 2) - w.done = line-most (nat_lt 0 w.done) (low (pending_arg w 2) - w.done) k.console.committed in
         let same : length (line_for k w).bytes ≡ length bytes = ap (λ (t : Taken). length t.bytes) f.took in
         let left = can.left in
-        f.can ∙ rest-writes (held_at k.spaces i).memory (pending_arg w 1) w.done (length bytes) (low (pending_arg w 2)) f.sized can.buffer (omega (arith, most, same, left))
+        f.can ∙ rest-writes (view_at k.spaces i).memory (pending_arg w 1) w.done (length bytes) (low (pending_arg w 2)) f.sized can.buffer (omega (arith, most, same, left))
 
-    spaces-are : new ≡ with_held k.spaces i (written (held_at k.spaces i) address bytes)
-    spaces-are = subst (λ (b : Bool). OnTrue b (new ≡ with_held k.spaces i (written (held_at k.spaces i) address bytes))) wrote-all f.done
+    spaces-are : new ≡ with_view k.spaces i (written (view_at k.spaces i) address bytes)
+    spaces-are = subst (λ (b : Bool). OnTrue b (new ≡ with_view k.spaces i (written (view_at k.spaces i) address bytes))) wrote-all f.done
 
     console-is : console ≡ record k.console { committed = console.committed }
     console-is = ap (λ (line : List ℕ). let c : Console = record { committed = console.committed; edited = line } in c) f.edited
@@ -246,7 +246,7 @@ module _ (k : Kernel) (i : ℕ) (w : Pending) (on : OnConsole k i end.Read w) wh
     made-is : made ≡ to
     made-is =
         ap (λ (c : Console). record k { console = c; spaces = new }) console-is
-        ∙ ap (λ (s : Spaces). record rest { spaces = s }) (spaces-are ∙ ap (λ (h : Held). with_held k.spaces i (written h address bytes)) (held-here g))
+        ∙ ap (λ (s : Spaces). record rest { spaces = s }) (spaces-are ∙ ap (λ (h : SpaceView). with_view k.spaces i (written h address bytes)) (held-here g))
         ∙ ap (λ (places : List (Option Process)). record to { table = record k.table { places = places } }) (sym (set-slot k.table.places i (Some x.process) x.run.process))
 
     left-is : left_with (state_of k) i (me k i x) w t ≡ state_of to
@@ -260,29 +260,29 @@ module _ (k : Kernel) (i : ℕ) (w : Pending) (on : OnConsole k i end.Read w) wh
     low-place : i < length k.spaces.places
     low-place = slot-within k.spaces.places i x.held x.run.space
 
-    held-made : held_at new i ≡ written (held_at k.spaces i) address bytes
-    held-made = ap (λ (s : Spaces). held_at s i) spaces-are ∙ held-same k.spaces i (written (held_at k.spaces i) address bytes) low-place
+    held-made : view_at new i ≡ written (view_at k.spaces i) address bytes
+    held-made = ap (λ (s : Spaces). view_at s i) spaces-are ∙ held-same k.spaces i (written (view_at k.spaces i) address bytes) low-place
 
     -- a read that is not over goes on in its buffer
-    reads-on : IsSized (held_at new i).memory → over ≡ false → IsReading (descriptors_at k i) (held_at new i).memory (record w { done = w.done + n })
+    reads-on : IsSized (view_at new i).memory → over ≡ false → IsReading (descriptors_at k i) (view_at new i).memory (record w { done = w.done + n })
     reads-on kept more =
-        let mem = (held_at k.spaces i).memory in
+        let mem = (view_at k.spaces i).memory in
         let less : length (line_for k w).bytes < low (pending_arg w 2) - w.done = line-less (nat_lt 0 w.done) (low (pending_arg w 2) - w.done) k.console.committed (ap (λ (t : Taken). t.over) f.took ∙ more) in
         let same : length (line_for k w).bytes ≡ length bytes = ap (λ (t : Taken). length t.bytes) f.took in
         let all = count in
-        let kept' : IsSized (write_bytes mem address bytes) = subst (λ (h : Held). IsSized h.memory) held-made kept in
+        let kept' : IsSized (write_bytes mem address bytes) = subst (λ (h : SpaceView). IsSized h.memory) held-made kept in
         let on : IsReading (descriptors_at k i) (write_bytes mem address bytes) (record w { done = w.done + n }) = record {
           named = can.named;
           buffer = ap (nat_le (low (pending_arg w 2))) (reach-written Store mem (pending_arg w 1) address bytes f.sized kept') ∙ can.buffer;
           left = omega (arith, less, same, all);
         } in
-        subst (λ (h : Held). IsReading (descriptors_at k i) h.memory (record w { done = w.done + n })) (sym held-made) on
+        subst (λ (h : SpaceView). IsReading (descriptors_at k i) h.memory (record w { done = w.done + n })) (sym held-made) on
 
-    goes-on : IsSized (held_at new i).memory → over ≡ false → GoesOn k made i w (Blocks (record w { done = w.done + n }))
+    goes-on : IsSized (view_at new i).memory → over ≡ false → GoesOn k made i w (Blocks (record w { done = w.done + n }))
     goes-on kept more =
         let further = record w { done = w.done + n } in
         let made-here : Here made i = subst (λ (y : Kernel). Here y i) (sym made-is) to-here in
-        let pending : IsPending (descriptors_at k i) (held_at new i).memory further w.number = subst (IsPending (descriptors_at k i) (held_at new i).memory further) (sym g.number) (reads-on kept more) in
+        let pending : IsPending (descriptors_at k i) (view_at new i).memory further w.number = subst (IsPending (descriptors_at k i) (view_at new i).memory further) (sym g.number) (reads-on kept more) in
         goes-waits k i x w made further made-here refl (pending, waits-reading k.files (descriptors_at k i) further g.number for (fresh further refl))
         (row ∙ ap (read_taken (state_of k) i (me k i x) w) f.took ∙ taken-waits (state_of k) i (me k i x) w t more
         ∙ ap (λ (s : State). Waits s (record w { done = w.done + length bytes })) (left-is ∙ sym (ap state_of made-is))
@@ -291,16 +291,16 @@ module _ (k : Kernel) (i : ℕ) (w : Pending) (on : OnConsole k i end.Read w) wh
     receives : Receives k made i w n over
     receives = record {
       sound = subst IsKernel (sym made-is) to-here.sound;
-      space = ap (λ (s : Spaces). has_space s i) spaces-are ∙ ap is_some (slot-put k.spaces.places i (Some (written (held_at k.spaces i) address bytes)) low-place);
+      space = ap (λ (s : Spaces). has_space s i) spaces-are ∙ ap is_some (slot-put k.spaces.places i (Some (written (view_at k.spaces i) address bytes)) low-place);
       ends = goes-over;
       waits = goes-on;
     }
 
   -- at is what the kernel's fields show
-  pub reads-receive : (at : Kernel) → at ≡ k → (wide : ℕ) → wide ≡ low (pending_arg w 2) → (n : ℕ) (buffer : List ℕ) (over wrote : Bool) (new : Spaces) (console : Console) → IsSized (held_at at.spaces i).memory → n ≤ 128 → length buffer ≡ 128
+  pub reads-receive : (at : Kernel) → at ≡ k → (wide : ℕ) → wide ≡ low (pending_arg w 2) → (n : ℕ) (buffer : List ℕ) (over wrote : Bool) (new : Spaces) (console : Console) → IsSized (view_at at.spaces i).memory → n ≤ 128 → length buffer ≡ 128
       → take_line (nat_lt 0 w.done) (wide - w.done) at.console.committed ≡ record { bytes = take n buffer; rest = console.committed; over = over } → console.edited ≡ at.console.edited
-      → wrote ≡ can_write (held_at at.spaces i).memory (pending_arg w 1 + w.done) (length (take n buffer))
-      → OnTrue wrote (new ≡ with_held at.spaces i (written (held_at at.spaces i) (pending_arg w 1 + w.done) (take n buffer))) → Receives k (record at { console = console; spaces = new }) i w n over
+      → wrote ≡ can_write (view_at at.spaces i).memory (pending_arg w 1 + w.done) (length (take n buffer))
+      → OnTrue wrote (new ≡ with_view at.spaces i (written (view_at at.spaces i) (pending_arg w 1 + w.done) (take n buffer))) → Receives k (record at { console = console; spaces = new }) i w n over
   reads-receive at same wide all n buffer over wrote new console sized few long took edited can-write done =
       let took' : line_for at w ≡ record { bytes = take n buffer; rest = console.committed; over = over } = ap (λ (m : ℕ). take_line (nat_lt 0 w.done) (m - w.done) at.console.committed) (sym all) ∙ took in
       let f : Took at i w n buffer over wrote new console = record { sized = sized; long = omega (arith, few, long); took = took'; edited = edited; can = can-write; done = done } in

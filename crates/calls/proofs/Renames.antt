@@ -19,7 +19,7 @@ use Rattle.files.specs.Pipes.{IsPiped}
 use Rattle.files.specs.Places.{count_at, shared}
 use Rattle.files.proofs.Whole.{opens-shared, table-shared}
 use Rattle.proc.specs.declared.process.Process.{Process}
-use Rattle.spaces.specs.Spaces.{Held}
+use Rattle.spaces.specs.Spaces.{SpaceView}
 use Rattle.unixmodel.specs.declared.call.Call.TheVariants.{Dup}
 use Rattle.unixmodel.specs.FileCalls.{dup_row, with_descriptor}
 use Rattle.unixmodel.specs.Files.{free_slot, put, slot}
@@ -30,7 +30,7 @@ use Rattle.unixmodel.specs.Outcome.Outcome.{Done, Refused}
 use Rattle.unixmodel.specs.State.{State, put_process}
 
 -- what a descriptor names is counted
-pub named-counts : (k : Kernel) (i : ℕ) (p : Process) (h : Held) → IsRun k i p h → IsKernel k → (d n : ℕ) → slot p.descriptors d ≡ Some n → 0 < count_at k.files n
+pub named-counts : (k : Kernel) (i : ℕ) (p : Process) (h : SpaceView) → IsRun k i p h → IsKernel k → (d n : ℕ) → slot p.descriptors d ≡ Some n → 0 < count_at k.files n
 named-counts k i p h r is d n at = place-counts k.files k.table.places is.opened.counted i (Some p) r.process d n at
 
 module _ (k : Kernel) (i : ℕ) (x : Here k i) (n fd : ℕ) (named : slot x.process.descriptors (low (argument k 0)) ≡ Some n) (free : free_slot x.process.descriptors ≡ Some fd) where

@@ -9,13 +9,13 @@ use Rattle.calls.proofs.Woken.{runs-waking}
 use Rattle.kernel.proofs.Wakes.{state-waking}
 use Rattle.kernel.specs.Kernel.{Kernel, started, state_of, lives, waking}
 use Rattle.kernel.specs.Sound.{CanRun, IsAwaiting, IsKernel, WaitsAs, WaitsWell, IsLive, IsMode, IsPending}
-use Rattle.calls.specs.Told.{WaitsIn, resumed, resumed_by, resumed_in}
+use Rattle.calls.specs.Resuming.{WaitsIn, resumed, resumed_by, resumed_in}
 use Rattle.kernel.proofs.Finishes.{IsThere, process-idle, there-of}
 use Rattle.kernel.proofs.Runs.{process-run}
 use Rattle.kernel.proofs.Starts.{started-is, started-kernel, started-run, started-state, started_to}
 use Rattle.proc.specs.declared.process.Process.{Process}
 use Rattle.proc.specs.Whole.{with_memory}
-use Rattle.spaces.specs.Spaces.{Held, no_pages}
+use Rattle.spaces.specs.Spaces.{SpaceView, no_pages}
 use Rattle.unixmodel.specs.Calls.{goes_on, quiet, resume, settle}
 use Rattle.unixmodel.specs.declared.process.Mode.TheVariants.{Running, Waiting}
 use Rattle.unixmodel.specs.declared.process.Pending.{Pending}
@@ -26,7 +26,7 @@ use Rattle.unixmodel.specs.declared.process.Mode.{Mode}
 use Rattle.unixmodel.specs.Memory.{Memory}
 
 -- a process that waits and may go on
-pub record IsResting (k : Kernel) (i : ℕ) (p : Process) (h : Held) (w : Pending) : Type 0 where
+pub record IsResting (k : Kernel) (i : ℕ) (p : Process) (h : SpaceView) (w : Pending) : Type 0 where
   pub there : IsThere k i p h
   pub alive : lives p ≡ true
   pub live : IsLive p
@@ -37,14 +37,14 @@ pub record IsResting (k : Kernel) (i : ℕ) (p : Process) (h : Held) (w : Pendin
 resting-mode : (p : Process) (m : Memory) (w : Pending) (mode : Mode) → mode ≡ Waiting w → IsMode p m mode → IsLive p × IsPending p.descriptors m w w.number
 resting-mode p m w mode e is = rw e at is
 
-resting-go : (k : Kernel) (i : ℕ) (w : Pending) (o : Option Process) → IsKernel k → slot k.table.places i ≡ o → WaitsIn o w → (p : Process) × ((h : Held) × IsResting k i p h w)
+resting-go : (k : Kernel) (i : ℕ) (w : Pending) (o : Option Process) → IsKernel k → slot k.table.places i ≡ o → WaitsIn o w → (p : Process) × ((h : SpaceView) × IsResting k i p h w)
 resting-go k i w None is at waits = absurd waits
 resting-go k i w (Some p) is at waits =
     let t = there-of k i p is at in
     let m = resting-mode p t.0.memory w p.mode waits.0 t.1.placed.mode in
     (p, (t.0, record { there = t.1; alive = rw waits.0 refl; live = m.0; free = waits.1; waits = waits.0; pending = m.1 }))
 
-pub resting-of : (k : Kernel) (i : ℕ) (w : Pending) → IsKernel k → WaitsIn (slot k.table.places i) w → (p : Process) × ((h : Held) × IsResting k i p h w)
+pub resting-of : (k : Kernel) (i : ℕ) (w : Pending) → IsKernel k → WaitsIn (slot k.table.places i) w → (p : Process) × ((h : SpaceView) × IsResting k i p h w)
 resting-of k i w is waits = resting-go k i w (slot k.table.places i) is refl waits
 
 -- the process in place i, which waited with w in kernel k, runs again in kernel s
@@ -54,7 +54,7 @@ pub record Resumes (k s : Kernel) (i : ℕ) (w : Pending) : Type 0 where
   pub tree : s.tree ≡ k.tree
   pub row : resumed (state_of k) i ≡ settle (state_of s) i (going_at (state_of s) i w)
 
-module _ (k : Kernel) (i : ℕ) (p : Process) (h : Held) (w : Pending) (is : IsKernel k) (none : k.spaces.active ≡ None) (up : k.tree.failed ≡ false) (f : IsResting k i p h w) where
+module _ (k : Kernel) (i : ℕ) (p : Process) (h : SpaceView) (w : Pending) (is : IsKernel k) (none : k.spaces.active ≡ None) (up : k.tree.failed ≡ false) (f : IsResting k i p h w) where
   abbrev to : Kernel
   to = started_to k i p h is none f.there.process f.there.space f.alive
 
@@ -78,7 +78,7 @@ module _ (k : Kernel) (i : ℕ) (p : Process) (h : Held) (w : Pending) (is : IsK
       let run = started-run k i p h is none f.there.process f.there.space f.alive f.live f.free up in
       record {
         runs = record { active = refl; sound = started-kernel k i p h is none f.there.process f.there.space f.alive f.live f.free up; zero = f.there.placed.zero; aligned = f.there.placed.aligned };
-        can = (rw (ap descriptors_in run.process, ap (λ (o : Option Held). unwrap_or o no_pages) run.space) f.pending, rw (ap descriptors_in run.process) awaits);
+        can = (rw (ap descriptors_in run.process, ap (λ (o : Option SpaceView). unwrap_or o no_pages) run.space) f.pending, rw (ap descriptors_in run.process) awaits);
         tree = refl;
         row = goes;
       }

@@ -12,7 +12,7 @@ use Rattle.kernel.proofs.Leaving.{ends-run}
 use Rattle.kernel.proofs.Steps.{computed-is, placed-with}
 use Rattle.kernel.proofs.Running.{regs-kernel, regs-run}
 use Rattle.proc.specs.declared.process.Process.{Process}
-use Rattle.spaces.specs.Spaces.{Held}
+use Rattle.spaces.specs.Spaces.{SpaceView}
 use Rattle.unixmodel.specs.Calls.{call, call_of, outcome_of, quiet, settle}
 use Rattle.unixmodel.specs.Cycle.{cycle}
 use Rattle.unixmodel.specs.declared.call.Call.{Call}
@@ -22,7 +22,7 @@ use Rattle.unixmodel.specs.Meaning.{Computed}
 use Rattle.unixmodel.specs.Numbers.{int_of, low, plus}
 use Rattle.unixmodel.specs.State.{process_at}
 
-module _ (k : Kernel) (i : ℕ) (p : Process) (h : Held) (r : IsRun k i p h) (is : IsKernel k) where
+module _ (k : Kernel) (i : ℕ) (p : Process) (h : SpaceView) (r : IsRun k i p h) (is : IsKernel k) where
   -- the running process in the place that the call or the instruction is looked up in
   pub called-run : called (state_of k) i ≡ call (state_of k) i (self k p h)
   called-run = ap (called_by (state_of k) i) (process-run k i p h r)
@@ -51,7 +51,7 @@ module _ (k : Kernel) (i : ℕ) (p : Process) (h : Held) (r : IsRun k i p h) (is
 pub aligned-next : (pc : ℕ) → pc % 4 ≡ 0 → plus pc 4 % 4 ≡ 0
 aligned-next pc h = omega arith
 
-module _ (k : Kernel) (i : ℕ) (p : Process) (h : Held) (r : IsRun k i p h) (is : IsKernel k) (z : slice_index k.spaces.registers 0 ≡ 0) (a : k.spaces.pc % 4 ≡ 0) where
+module _ (k : Kernel) (i : ℕ) (p : Process) (h : SpaceView) (r : IsRun k i p h) (is : IsKernel k) (z : slice_index k.spaces.registers 0 ≡ 0) (a : k.spaces.pc % 4 ≡ 0) where
   -- ---- an instruction
 
   pub executes-call : (t : Trap) → cycle k.spaces.registers k.spaces.pc h.memory ≡ Err t → is_ecall t.cause ≡ true → execute_at (state_of k) i (process_at (state_of k) i) ≡ called (state_of k) i

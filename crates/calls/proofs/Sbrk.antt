@@ -14,7 +14,7 @@ use Rattle.kernel.proofs.Running.{live, not-killed, runs-mode}
 use Rattle.kernel.proofs.Steps.{held-run}
 use Rattle.proc.specs.declared.process.Process.{Process}
 use Rattle.proc.specs.Places.{Places, changed, with_size}
-use Rattle.spaces.specs.Spaces.{Held, Spaces, grown, held_at, shrunk, taken_frames, with_held}
+use Rattle.spaces.specs.Spaces.{SpaceView, Spaces, grown, view_at, shrunk, taken_frames, with_view}
 use Rattle.spaces.proofs.SpacesLemmas.{grown-with_pages, held-same, shrunk-with_pages}
 use Rattle.unixmodel.specs.declared.call.Call.TheVariants.{Sbrk}
 use Rattle.unixmodel.specs.Files.{put}
@@ -27,11 +27,11 @@ use Rattle.unixmodel.specs.State.{State}
 
 -- ---- one space
 
-pub grown-sized : (h : Held) (bytes : ℕ) → length h.memory ≡ ceil_div h.size 4096 → grown h bytes (stack_marks true) ≡ sized h (h.size + bytes)
-grown-sized h bytes whole = ap (λ (m : Memory). let g : Held = record { memory = m; size = h.size + bytes } in g) (grown-with_pages h bytes whole)
+pub grown-sized : (h : SpaceView) (bytes : ℕ) → length h.memory ≡ ceil_div h.size 4096 → grown h bytes (stack_marks true) ≡ sized h (h.size + bytes)
+grown-sized h bytes whole = ap (λ (m : Memory). let g : SpaceView = record { memory = m; size = h.size + bytes } in g) (grown-with_pages h bytes whole)
 
-pub shrunk-sized : (h : Held) (bytes : ℕ) → length h.memory ≡ ceil_div h.size 4096 → shrunk h bytes ≡ sized h (h.size - bytes)
-shrunk-sized h bytes whole = ap (λ (m : Memory). let g : Held = record { memory = m; size = h.size - bytes } in g) (shrunk-with_pages h bytes whole)
+pub shrunk-sized : (h : SpaceView) (bytes : ℕ) → length h.memory ≡ ceil_div h.size 4096 → shrunk h bytes ≡ sized h (h.size - bytes)
+shrunk-sized h bytes whole = ap (λ (m : Memory). let g : SpaceView = record { memory = m; size = h.size - bytes } in g) (shrunk-with_pages h bytes whole)
 
 -- ---- the running process
 
@@ -39,7 +39,7 @@ module _ (k : Kernel) (i : ℕ) (x : Here k i) (size : ℕ) (can : asked k i (in
   abbrev q : Process
   q = with_size size x.process
 
-  abbrev h : Held
+  abbrev h : SpaceView
   h = sized x.held size
 
   pub placed : IsPlaced q h
@@ -56,7 +56,7 @@ module _ (k : Kernel) (i : ℕ) (x : Here k i) (size : ℕ) (can : asked k i (in
   opened : IsOpened k.files k.spaces.pipes (put k.table.places i q)
   opened = opened-put k.files k.spaces.pipes k.table.places i (Some q) (sym (ap descriptors_in x.run.process)) (waits-running k.files q x.run.runs) x.sound.opened
 
-  held : held_at k.spaces i ≡ x.held
+  held : view_at k.spaces i ≡ x.held
   held = held-run k i x.process x.held x.run x.sound
 
   resized-is : resized k i size ≡ to
@@ -68,8 +68,8 @@ module _ (k : Kernel) (i : ℕ) (x : Here k i) (size : ℕ) (can : asked k i (in
       let can' : natural (pos x.held.size +ℤ int_of (argument k 0)) ≡ Some size = rw held at can in
       rw (x.run.placed.size, can') (ap (λ (s : State). Done s x.held.size []) (sym (turned-state k i x k.tree q h k.files k.spaces.pipes placed x.run.runs)))
 
-  sbrk-acts : taken_frames (resized k i size).spaces ≤ k.spaces.frames → Acts k (resized k i size) i (Some Sbrk) (Answers (held_at k.spaces i).size)
-  sbrk-acts fits = subst (λ (y : Kernel). Acts k y i (Some Sbrk) (Answers (held_at k.spaces i).size)) (sym resized-is)
+  sbrk-acts : taken_frames (resized k i size).spaces ≤ k.spaces.frames → Acts k (resized k i size) i (Some Sbrk) (Answers (view_at k.spaces i).size)
+  sbrk-acts fits = subst (λ (y : Kernel). Acts k y i (Some Sbrk) (Answers (view_at k.spaces i).size)) (sym resized-is)
       (rw held (does k i x to Sbrk x.held.size (turned-here k i x k.tree q h k.files k.spaces.pipes placed x.run.runs x.run.up (used-turned k i x q x.run.runs refl) opened (subst (λ (y : Kernel). taken_frames y.spaces ≤ k.spaces.frames) resized-is fits)) refl made))
 
   sbrk-over : k.spaces.frames < taken_frames (resized k i size).spaces → Acts k k i (Some Sbrk) Refuses
@@ -78,10 +78,10 @@ module _ (k : Kernel) (i : ℕ) (x : Here k i) (size : ℕ) (can : asked k i (in
 -- ---- over the fields: at is what they show
 
 -- that is what stands where the table follows the space
-resized-made : (k : Kernel) (i size n : ℕ) (new : Spaces) (t : Places) → Here k i → new ≡ with_held k.spaces i (sized (held_at k.spaces i) size)
-    → n ≡ (held_at new i).size → t ≡ changed k.table i (with_size n) → record k { table = t; spaces = new } ≡ resized k i size
+resized-made : (k : Kernel) (i size n : ℕ) (new : Spaces) (t : Places) → Here k i → new ≡ with_view k.spaces i (sized (view_at k.spaces i) size)
+    → n ≡ (view_at new i).size → t ≡ changed k.table i (with_size n) → record k { table = t; spaces = new } ≡ resized k i size
 resized-made k i size n new t x spaces asks table =
-    let same : n ≡ size = asks ∙ ap (λ (s : Spaces). (held_at s i).size) spaces ∙ ap (λ (h : Held). h.size) (held-same k.spaces i (sized (held_at k.spaces i) size) (slot-within k.spaces.places i x.held x.run.space)) in
+    let same : n ≡ size = asks ∙ ap (λ (s : Spaces). (view_at s i).size) spaces ∙ ap (λ (h : SpaceView). h.size) (held-same k.spaces i (sized (view_at k.spaces i) size) (slot-within k.spaces.places i x.held x.run.space)) in
     rw (table, same, spaces) refl
 
 module _ (k : Kernel) (i : ℕ) (runs : Runs k i) where
@@ -94,22 +94,22 @@ module _ (k : Kernel) (i : ℕ) (runs : Runs k i) where
       let none : natural (pos x.held.size +ℤ int_of (argument k 0)) ≡ None = rw (held-run k i x.process x.held x.run x.sound) at below in
       refused k i x (Some Sbrk) (rw (x.run.placed.size, none) refl)
 
-  module _ (at : Kernel) (same : at ≡ k) (bytes : ℕ) (new : Spaces) (whole : length (held_at at.spaces i).memory ≡ ceil_div (held_at at.spaces i).size 4096) where
-    pub grow-over : asked k i (int_of (argument k 0)) ≡ Some ((held_at k.spaces i).size + bytes) → at.spaces.frames < taken_frames (with_held at.spaces i (grown (held_at at.spaces i) bytes (stack_marks true))) → Acts k k i (Some Sbrk) Refuses
+  module _ (at : Kernel) (same : at ≡ k) (bytes : ℕ) (new : Spaces) (whole : length (view_at at.spaces i).memory ≡ ceil_div (view_at at.spaces i).size 4096) where
+    pub grow-over : asked k i (int_of (argument k 0)) ≡ Some ((view_at k.spaces i).size + bytes) → at.spaces.frames < taken_frames (with_view at.spaces i (grown (view_at at.spaces i) bytes (stack_marks true))) → Acts k k i (Some Sbrk) Refuses
     grow-over asks over =
-        let full : k.spaces.frames < taken_frames (resized k i ((held_at k.spaces i).size + bytes)).spaces = subst (λ (y : Kernel). y.spaces.frames < taken_frames (resized y i ((held_at y.spaces i).size + bytes)).spaces) same (rw (← grown-sized (held_at at.spaces i) bytes whole) over) in
-        sbrk-over k i x ((held_at k.spaces i).size + bytes) asks full
+        let full : k.spaces.frames < taken_frames (resized k i ((view_at k.spaces i).size + bytes)).spaces = subst (λ (y : Kernel). y.spaces.frames < taken_frames (resized y i ((view_at y.spaces i).size + bytes)).spaces) same (rw (← grown-sized (view_at at.spaces i) bytes whole) over) in
+        sbrk-over k i x ((view_at k.spaces i).size + bytes) asks full
 
-    module _ (t : Places) (n : ℕ) (size : n ≡ (held_at new i).size) (table : t ≡ changed at.table i (with_size n)) (y : Here at i) where
-      pub grow-acts : asked k i (int_of (argument k 0)) ≡ Some ((held_at k.spaces i).size + bytes) → taken_frames (with_held at.spaces i (grown (held_at at.spaces i) bytes (stack_marks true))) ≤ at.spaces.frames → new ≡ with_held at.spaces i (grown (held_at at.spaces i) bytes (stack_marks true))
-          → Acts k (record at { table = t; spaces = new }) i (Some Sbrk) (Answers (held_at k.spaces i).size)
+    module _ (t : Places) (n : ℕ) (size : n ≡ (view_at new i).size) (table : t ≡ changed at.table i (with_size n)) (y : Here at i) where
+      pub grow-acts : asked k i (int_of (argument k 0)) ≡ Some ((view_at k.spaces i).size + bytes) → taken_frames (with_view at.spaces i (grown (view_at at.spaces i) bytes (stack_marks true))) ≤ at.spaces.frames → new ≡ with_view at.spaces i (grown (view_at at.spaces i) bytes (stack_marks true))
+          → Acts k (record at { table = t; spaces = new }) i (Some Sbrk) (Answers (view_at k.spaces i).size)
       grow-acts asks fits spaces =
-          let g = grown-sized (held_at at.spaces i) bytes whole in
-          let few : taken_frames (resized k i ((held_at k.spaces i).size + bytes)).spaces ≤ k.spaces.frames = subst (λ (z : Kernel). taken_frames (resized z i ((held_at z.spaces i).size + bytes)).spaces ≤ z.spaces.frames) same (rw (← g) fits) in
-          rw (resized-made at i ((held_at at.spaces i).size + bytes) n new t y (spaces ∙ ap (with_held at.spaces i) g) size table, same) (sbrk-acts k i x ((held_at k.spaces i).size + bytes) asks few)
+          let g = grown-sized (view_at at.spaces i) bytes whole in
+          let few : taken_frames (resized k i ((view_at k.spaces i).size + bytes)).spaces ≤ k.spaces.frames = subst (λ (z : Kernel). taken_frames (resized z i ((view_at z.spaces i).size + bytes)).spaces ≤ z.spaces.frames) same (rw (← g) fits) in
+          rw (resized-made at i ((view_at at.spaces i).size + bytes) n new t y (spaces ∙ ap (with_view at.spaces i) g) size table, same) (sbrk-acts k i x ((view_at k.spaces i).size + bytes) asks few)
 
-      pub shrink-acts : asked k i (int_of (argument k 0)) ≡ Some ((held_at k.spaces i).size - bytes) → taken_frames new ≤ new.frames → new ≡ with_held at.spaces i (shrunk (held_at at.spaces i) bytes)
-          → Acts k (record at { table = t; spaces = new }) i (Some Sbrk) (Answers (held_at k.spaces i).size)
+      pub shrink-acts : asked k i (int_of (argument k 0)) ≡ Some ((view_at k.spaces i).size - bytes) → taken_frames new ≤ new.frames → new ≡ with_view at.spaces i (shrunk (view_at at.spaces i) bytes)
+          → Acts k (record at { table = t; spaces = new }) i (Some Sbrk) (Answers (view_at k.spaces i).size)
       shrink-acts asks few spaces =
-          let made = resized-made at i ((held_at at.spaces i).size - bytes) n new t y (spaces ∙ ap (with_held at.spaces i) (shrunk-sized (held_at at.spaces i) bytes whole)) size table ∙ ap (λ (z : Kernel). resized z i ((held_at z.spaces i).size - bytes)) same in
-          rw made (sbrk-acts k i x ((held_at k.spaces i).size - bytes) asks (subst (λ (z : Kernel). taken_frames z.spaces ≤ z.spaces.frames) made few))
+          let made = resized-made at i ((view_at at.spaces i).size - bytes) n new t y (spaces ∙ ap (with_view at.spaces i) (shrunk-sized (view_at at.spaces i) bytes whole)) size table ∙ ap (λ (z : Kernel). resized z i ((view_at z.spaces i).size - bytes)) same in
+          rw made (sbrk-acts k i x ((view_at k.spaces i).size - bytes) asks (subst (λ (z : Kernel). taken_frames z.spaces ≤ z.spaces.frames) made few))

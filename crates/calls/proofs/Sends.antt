@@ -14,7 +14,7 @@ use Rattle.calls.proofs.Writes.{length-read, readable-count}
 use Rattle.files.specs.declared.file.End.TheVariants as end
 use Rattle.files.specs.declared.file.Target.TheVariants as target
 use Rattle.files.specs.Places.{has_end, opens_of}
-use Rattle.spaces.specs.Spaces.{Held, Spaces, bytes_in, filled, fitting, has_pipe, held_at, read_at, with_pipe}
+use Rattle.spaces.specs.Spaces.{SpaceView, Spaces, bytes_in, filled, fitting, has_pipe, view_at, read_at, with_pipe}
 use Rattle.spaces.proofs.SpacesLemmas.{some-pipe}
 use Rattle.unixmodel.specs.declared.process.Pending.{Pending}
 use Rattle.unixmodel.specs.declared.trap.Access.TheVariants.{Load}
@@ -103,7 +103,7 @@ module _ (k : Kernel) (i : ℕ) (w : Pending) (q : ℕ) (on : OnThePipe k i end.
   held = bytes_in k.spaces q
 
   abbrev memory : Memory
-  memory = (held_at k.spaces i).memory
+  memory = (view_at k.spaces i).memory
 
   abbrev new : List ℕ
   new = unwrap_or (read_bytes memory (pending_arg w 1) (low (pending_arg w 2))) []
@@ -147,7 +147,7 @@ module _ (k : Kernel) (i : ℕ) (w : Pending) (q : ℕ) (on : OnThePipe k i end.
   unfolding write_on
   row =
       let f = file-named g in
-      let read = ap (λ (h : Held). read_bytes h.memory (pending_arg w 1) (low (pending_arg w 2))) (sym (held-here g)) ∙ read-new in
+      let read = ap (λ (h : SpaceView). read_bytes h.memory (pending_arg w 1) (low (pending_arg w 2))) (sym (held-here g)) ∙ read-new in
       going-is g ∙ rw (f.named, f.opened, read, (file g).on, at-pipe) refl
 
   -- nobody can read it
@@ -174,20 +174,20 @@ module _ (k : Kernel) (i : ℕ) (w : Pending) (q : ℕ) (on : OnThePipe k i end.
         goes-waits k i x w sent further sent-here refl (subst (IsPending (descriptors_at k i) memory further) (sym g.number) writing, waits-writing k.files (descriptors_at k i) further g.number for) (row ∙ rw (some, test) refl)
 
   -- at is what the kernel's fields show, and m what is left to put
-  module _ (at : Kernel) (same : at ≡ k) (sized : IsSized (held_at at.spaces i).memory) (m : ℕ) (wide : m ≡ low (pending_arg w 2) - w.done) where
+  module _ (at : Kernel) (same : at ≡ k) (sized : IsSized (view_at at.spaces i).memory) (m : ℕ) (wide : m ≡ low (pending_arg w 2) - w.done) where
     sized' : IsSized memory
     sized' = rw same at sized
 
     abbrev bytes : List ℕ
-    bytes = read_at (held_at at.spaces i) (pending_arg w 1 + w.done) m
+    bytes = read_at (view_at at.spaces i) (pending_arg w 1 + w.done) m
 
     bytes-are : bytes ≡ left
     bytes-are = rw (wide, same) (rest-is memory (pending_arg w 1) (low (pending_arg w 2)) w.done sized' can.readable can.left)
 
-    pub sends-fits : length (held_at at.spaces i).memory ≤ 32768 → pending_arg w 1 + w.done < 2 ^ 64
+    pub sends-fits : length (view_at at.spaces i).memory ≤ 32768 → pending_arg w 1 + w.done < 2 ^ 64
     sends-fits few = rest-fits memory (pending_arg w 1) (low (pending_arg w 2)) w.done sized' can.readable can.left (rw same at few)
 
-    pub sends-readable : m ≤ length (reach Load (held_at at.spaces i).memory (pending_arg w 1 + w.done))
+    pub sends-readable : m ≤ length (reach Load (view_at at.spaces i).memory (pending_arg w 1 + w.done))
     sends-readable = rw (wide, same) (rest-readable memory (pending_arg w 1) (low (pending_arg w 2)) w.done sized' can.readable can.left)
 
     makes : (to : Spaces) → to ≡ with_pipe at.spaces q (Some (filled (bytes_in at.spaces q) bytes)) → record at { spaces = to } ≡ sent

@@ -7,7 +7,7 @@ use Rattle.blockdev.specs.declared.DeviceFault.{DeviceFault}
 use Rattle.unixmodel.specs.Failures.{HasCause}
 use Rattle.calls.specs.Acts.{ActsOnDisk}
 use Rattle.calls.specs.declared.outcome.Came.{Came}
-use Rattle.calls.specs.Does.{Ends, IsLost, IsServed, LeavesDisk, LeavesTree, halt_of}
+use Rattle.calls.specs.Gives.{Ends, IsLost, IsServed, LeavesDisk, LeavesTree, halt_of}
 use Rattle.kernel.specs.Kernel.{Kernel, started, started_as, state_of, stopped_at, ticked}
 use Rattle.proc.specs.declared.process.Process.{Process}
 use Rattle.tree.specs.Tree.{FileTree, Serves}

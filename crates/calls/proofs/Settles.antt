@@ -7,7 +7,7 @@ use Rattle.kernel.proofs.Reaped.{reap-state, within-state}
 use Rattle.kernel.proofs.Running.{answer-run, not-killed, regs-kernel, regs-run, regs-state}
 use Rattle.kernel.proofs.Runs.{IsRun, process-run, self}
 use Rattle.proc.specs.declared.process.Process.{Process}
-use Rattle.spaces.specs.Spaces.{Held}
+use Rattle.spaces.specs.Spaces.{SpaceView}
 use Rattle.unixmodel.specs.Calls.{After, call, call_of, end_if_killed, outcome_of, quiet, settle}
 use Rattle.unixmodel.specs.declared.call.Call.{Call}
 use Rattle.unixmodel.specs.Reap.{reap}
@@ -20,7 +20,7 @@ use Rattle.unixmodel.specs.State.{State, process_at}
 abbrev pub after : State → List ℕ → After
 after state bytes = record { state = state; bytes = bytes }
 
-module _ (k : Kernel) (i : ℕ) (p : Process) (h : Held) (r : IsRun k i p h) (is : IsKernel k) where
+module _ (k : Kernel) (i : ℕ) (p : Process) (h : SpaceView) (r : IsRun k i p h) (is : IsKernel k) where
   pub settle-refused : settle (state_of k) i Refused ≡ quiet (state_of (answered k minus_one))
   settle-refused = ap quiet (answer-run k i p h r is minus_one)
 

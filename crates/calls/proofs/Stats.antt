@@ -24,7 +24,7 @@ use Rattle.kernel.specs.Descriptors.{descriptors_in}
 use Rattle.kernel.specs.Holding.{FitsNode, IsInUse, node_of, node_on}
 use Rattle.kernel.specs.Kernel.{Kernel, argument, counting, descriptors_at, left_as, state_of}
 use Rattle.kernel.specs.Sound.{IsKernel, IsOpened}
-use Rattle.spaces.specs.Spaces.{Held, Spaces, held_at, with_held, written}
+use Rattle.spaces.specs.Spaces.{SpaceView, Spaces, view_at, with_view, written}
 use Rattle.std.proofs.lemmas.Option.{none-some, same_Some}
 use Rattle.tree.specs.Telling.{Tells}
 use Rattle.tree.specs.Tree.{FileTree}
@@ -164,20 +164,20 @@ module _ (k : Kernel) (i : ℕ) (runs : Runs k i) where
       abbrev address : ℕ
       address = argument k 1
 
-      abbrev made : Held
+      abbrev made : SpaceView
       made = written x.held address (stat_bytes n node)
 
       row-is : row (state_of k) i (me k i x) Fstat ≡ provided (can_write x.held.memory address 24) (answers (put_process (state_of k) i (record (me k i x) { memory = made.memory })) 0)
       unfolding fstat_row
       row-is = rw (here, slot-file k.files id, opened, number, fstat-there.1) refl
 
-      can-here : (b : Bool) → can_write (held_at k.spaces i).memory address 24 ≡ b → can_write x.held.memory address 24 ≡ b
-      can-here b can = ap (λ (y : Held). can_write y.memory address 24) (sym (held-run k i x.process x.held x.run x.sound)) ∙ can
+      can-here : (b : Bool) → can_write (view_at k.spaces i).memory address 24 ≡ b → can_write x.held.memory address 24 ≡ b
+      can-here b can = ap (λ (y : SpaceView). can_write y.memory address 24) (sym (held-run k i x.process x.held x.run x.sound)) ∙ can
 
-      pub fstat-unwritable : can_write (held_at k.spaces i).memory address 24 ≡ false → Acts k k i (Some Fstat) Refuses
+      pub fstat-unwritable : can_write (view_at k.spaces i).memory address 24 ≡ false → Acts k k i (Some Fstat) Refuses
       fstat-unwritable cannot = refused k i x (Some Fstat) (ap limited (row-is ∙ ap (λ (b : Bool). provided b (answers (put_process (state_of k) i (record (me k i x) { memory = made.memory })) 0)) (can-here false cannot)))
 
-      module _ (can : can_write (held_at k.spaces i).memory address 24 ≡ true) (failures : ℕ) (later : k.tree.failures ≤ failures) where
+      module _ (can : can_write (view_at k.spaces i).memory address 24 ≡ true) (failures : ℕ) (later : k.tree.failures ≤ failures) where
         abbrev tree : FileTree
         tree = record k.tree { failures = failures }
 
@@ -201,15 +201,15 @@ module _ (k : Kernel) (i : ℕ) (runs : Runs k i) where
             ∙ ap (λ (s : State). Done s 0 []) (sym (turned-state k i x tree x.process made k.files k.spaces.pipes (placed-with k i x.process x.held x.run x.sound made.memory) x.run.runs)))
 
       -- at is what the fields show, once the disk has been read; new is what the write makes of the spaces
-      module _ (can : can_write (held_at k.spaces i).memory address 24 ≡ true) (at read : Kernel) (shows : at ≡ read) (has : HasRead k read) (told : InodeStat) (tells : (node : Node) → slot k.tree.files n ≡ Some node → Tells told node) where
-        pub fstat-acts : (new : Spaces) (a : ℕ) → a ≡ argument k 1 → (bytes : List ℕ) → bytes ≡ stat_told n told → (wrote : Bool) → wrote ≡ can_write (held_at at.spaces i).memory a (length bytes) → OnTrue wrote (new ≡ with_held at.spaces i (written (held_at at.spaces i) a bytes))
+      module _ (can : can_write (view_at k.spaces i).memory address 24 ≡ true) (at read : Kernel) (shows : at ≡ read) (has : HasRead k read) (told : InodeStat) (tells : (node : Node) → slot k.tree.files n ≡ Some node → Tells told node) where
+        pub fstat-acts : (new : Spaces) (a : ℕ) → a ≡ argument k 1 → (bytes : List ℕ) → bytes ≡ stat_told n told → (wrote : Bool) → wrote ≡ can_write (view_at at.spaces i).memory a (length bytes) → OnTrue wrote (new ≡ with_view at.spaces i (written (view_at at.spaces i) a bytes))
             → Acts k (record at { spaces = new }) i (Some Fstat) (Answers 0)
         fstat-acts new a is-a bytes numbers wrote writes done =
             let same : at ≡ counting k read.tree.failures = shows ∙ has.same in
             let filled : bytes ≡ stat_bytes n node = numbers ∙ told-is n told node (tells node fstat-there.1) in
             let long : length bytes ≡ 24 = ap length numbers ∙ length-told n told in
             let yes' : wrote ≡ true = writes ∙ rw (same, is-a, long) can in
-            let wrote_so : new ≡ with_held at.spaces i (written (held_at at.spaces i) a bytes) = rw yes' at done in
+            let wrote_so : new ≡ with_view at.spaces i (written (view_at at.spaces i) a bytes) = rw yes' at done in
             let spaces : new ≡ (to can read.tree.failures has.later).spaces = wrote_so ∙ rw (same, is-a, filled, held-run k i x.process x.held x.run x.sound) refl in
             let made_so : record (counting k read.tree.failures) { spaces = new } ≡ to can read.tree.failures has.later = rw (spaces, same-places can read.tree.failures has.later) refl in
             subst (λ (y : Kernel). Acts k (record y { spaces = new }) i (Some Fstat) (Answers 0)) (sym same)

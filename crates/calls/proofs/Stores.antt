@@ -26,7 +26,7 @@ use Rattle.kernel.proofs.Steps.{fail-keeps}
 use Rattle.names.specs.Changes.{Changed}
 use Rattle.proc.specs.Places.{Places, changed, with_mode}
 use Rattle.spaces.proofs.SpacesLemmas.{some-pipe}
-use Rattle.spaces.specs.Spaces.{Held, Spaces, held_at}
+use Rattle.spaces.specs.Spaces.{SpaceView, Spaces, view_at}
 use Rattle.transfers.specs.Moved.{bytes_given}
 use Rattle.tree.proofs.Keeping.{written-changed}
 use Rattle.tree.specs.Tree.{FileTree, Serves}
@@ -139,7 +139,7 @@ module _ (k : Kernel) (i : ℕ) (w : Pending) (number offset : ℕ) (u : Uses k 
   address = pending_arg w 1
 
   abbrev memory : Memory
-  memory = (held_at k.spaces i).memory
+  memory = (view_at k.spaces i).memory
 
   abbrev new : List ℕ
   new = bytes_given k.spaces i address count
@@ -161,7 +161,7 @@ module _ (k : Kernel) (i : ℕ) (w : Pending) (number offset : ℕ) (u : Uses k 
 
   row : going k i x w ≡ write_node (state_of k) (file g).number (file_of (file g).file) number offset is-file.links is-file.bytes new
   row =
-      let read = ap (λ (h : Held). read_bytes h.memory address count) (sym (held-here g)) ∙ read-new in
+      let read = ap (λ (h : SpaceView). read_bytes h.memory address count) (sym (held-here g)) ∙ read-new in
       going-is g
       ∙ writes-file (state_of k) i (me k i x) w (file_of (file g).file) (file-named g) number offset (ap target_of (file g).on) is-file.links is-file.bytes is-file.here new read
 

@@ -4,11 +4,11 @@ use Rattle.std.proofs.Common.{◌≡◌, ℕ, ◌%◌, Bool, true, false, List, 
 use Rattle.std.specs.Prelude.{IfOk, OnOk, Result, if◌then◌else◌, slice_index}
 use Rattle.calls.specs.declared.halt.Halt.{Halt}
 use Rattle.calls.specs.declared.halt.Halt.TheVariants.{Console, Device, Halted, InitEnded}
-use Rattle.calls.specs.Does.{Dispatches, Does, IsMade, halt_of}
+use Rattle.calls.specs.Gives.{Dispatches, EventGives, IsMade, halt_of}
 use Rattle.kernel.specs.Kernel.{Kernel, computed, counting, ended, lives, picked, started, state_of, waking}
 use Rattle.calls.specs.Acts.{called}
 use Rattle.kernel.specs.Sound.{IsKernel, IsLive, IsMode, IsAlive}
-use Rattle.calls.specs.Told.{resumed, resumed_by, resumed_in, taken, taken_by}
+use Rattle.calls.specs.Resuming.{resumed, resumed_by, resumed_in, taken, taken_by}
 use Rattle.kernel.proofs.Finishes.{IsThere, process-idle, there-of}
 use Rattle.calls.proofs.Prints.{Appends-none}
 use Rattle.kernel.proofs.Readies.{turn-alive}
@@ -19,7 +19,7 @@ use Rattle.kernel.proofs.Steps.{held-run}
 use Rattle.kernel.proofs.Wakes.{state-but}
 use Rattle.proc.specs.declared.process.Process.{Process}
 use Rattle.proc.specs.Whole.{with_memory}
-use Rattle.spaces.specs.Spaces.{Held, held_at}
+use Rattle.spaces.specs.Spaces.{SpaceView, view_at}
 use Rattle.unixmodel.specs.Calls.{After, quiet}
 use Rattle.unixmodel.specs.Cycle.{cycle}
 use Rattle.unixmodel.specs.declared.process.Mode.{Mode}
@@ -52,37 +52,37 @@ pub ended-told : (k new : Kernel) (i : ℕ) (status meant : ℤ) → meant ≡ s
 ended-told k new i status meant same told = state-but (counting (ended k i meant) new.tree.failures) told ∙ ap (λ n. state_of (ended k i n)) same
 
 -- what is made tells how the machine halts
-pub does-made : (new : Kernel) (a : After) (before after : Option (List ℕ)) (rising : Type 0) (o : Option ℤ) → new.halted ≡ o → IsMade new a before after → Does new a before after rising (halt_of o)
+pub does-made : (new : Kernel) (a : After) (before after : Option (List ℕ)) (rising : Type 0) (o : Option ℤ) → new.halted ≡ o → IsMade new a before after → EventGives new a before after rising (halt_of o)
 does-made new a before after rising None halts made = record { state = made.state; halts = ap (λ (s : State). s.halted) (sym made.state) ∙ halts; printed = made.printed }
 does-made new a before after rising (Some status) halts made = record { state = made.state; halts = ap (λ (s : State). s.halted) (sym made.state) ∙ halts; printed = made.printed }
 
-fails-err : (new : Kernel) (a : After) (before after : Option (List ℕ)) (rising : Type 0) (e : Halt) → Dispatches {X = Unit {0}} new a before after rising (Err e) → Does new a before after rising (Err e)
+fails-err : (new : Kernel) (a : After) (before after : Option (List ℕ)) (rising : Type 0) (e : Halt) → Dispatches {X = Unit {0}} new a before after rising (Err e) → EventGives new a before after rising (Err e)
 fails-err new a before after rising (InitEnded status) made = absurd made
 fails-err new a before after rising Device made = made
 fails-err new a before after rising Console made = made
 fails-err new a before after rising Halted made = absurd made
 
 -- the console failed
-pub does-err : (new : Kernel) (a b : After) (before after : Option (List ℕ)) (rising : Type 0) (e : Halt) → a ≡ b → Dispatches {X = Unit {0}} new b before after rising (Err e) → Does new a before after rising (Err e)
-does-err new a b before after rising e same made = subst (λ (x : After). Does new x before after rising (Err e)) (sym same) (fails-err new b before after rising e made)
+pub does-err : (new : Kernel) (a b : After) (before after : Option (List ℕ)) (rising : Type 0) (e : Halt) → a ≡ b → Dispatches {X = Unit {0}} new b before after rising (Err e) → EventGives new a before after rising (Err e)
+does-err new a b before after rising e same made = subst (λ (x : After). EventGives new x before after rising (Err e)) (sym same) (fails-err new b before after rising e made)
 
 -- ---- the running process
 
 module _ (k : Kernel) (i : ℕ) (is : IsKernel k) (active : k.spaces.active ≡ Some i) where
-  pub step-computes : (d : Computed) → cycle k.spaces.registers k.spaces.pc (held_at k.spaces i).memory ≡ Ok d → (new : Kernel) → new ≡ computed k i d → (bytes : Option (List ℕ)) → IsMade new (execute_at (state_of k) i (process_at (state_of k) i)) bytes bytes
+  pub step-computes : (d : Computed) → cycle k.spaces.registers k.spaces.pc (view_at k.spaces i).memory ≡ Ok d → (new : Kernel) → new ≡ computed k i d → (bytes : Option (List ℕ)) → IsMade new (execute_at (state_of k) i (process_at (state_of k) i)) bytes bytes
   step-computes d effect new made bytes =
       let run = run-of k i is active in
       let r = run.1.1 in
       let e = computed-state k i run.0 run.1.0 r is d (rw (held-run k i run.0 run.1.0 r is) at effect) in
       made-quiet new (execute_at (state_of k) i (process_at (state_of k) i)) bytes (e ∙ ap (λ (x : Kernel). quiet (state_of x)) (sym made))
 
-  pub step-calls : slice_index k.spaces.registers 0 ≡ 0 → k.spaces.pc % 4 ≡ 0 → (t : Trap) → cycle k.spaces.registers k.spaces.pc (held_at k.spaces i).memory ≡ Err t → is_ecall t.cause ≡ true → execute_at (state_of k) i (process_at (state_of k) i) ≡ called (state_of k) i
+  pub step-calls : slice_index k.spaces.registers 0 ≡ 0 → k.spaces.pc % 4 ≡ 0 → (t : Trap) → cycle k.spaces.registers k.spaces.pc (view_at k.spaces i).memory ≡ Err t → is_ecall t.cause ≡ true → execute_at (state_of k) i (process_at (state_of k) i) ≡ called (state_of k) i
   step-calls z a t effect ecall =
       let run = run-of k i is active in
       let r = run.1.1 in
       executes-call k i run.0 run.1.0 r is z a t (rw (held-run k i run.0 run.1.0 r is) at effect) ecall
 
-  pub step-faults : slice_index k.spaces.registers 0 ≡ 0 → k.spaces.pc % 4 ≡ 0 → (t : Trap) → cycle k.spaces.registers k.spaces.pc (held_at k.spaces i).memory ≡ Err t → is_ecall t.cause ≡ false
+  pub step-faults : slice_index k.spaces.registers 0 ≡ 0 → k.spaces.pc % 4 ≡ 0 → (t : Trap) → cycle k.spaces.registers k.spaces.pc (view_at k.spaces i).memory ≡ Err t → is_ecall t.cause ≡ false
       → (same : Kernel) → same ≡ k → execute_at (state_of k) i (process_at (state_of k) i) ≡ quiet (state_of (ended same i (negsuc 0)))
   step-faults z a t effect fault same kept =
       let run = run-of k i is active in
@@ -99,7 +99,7 @@ live-mode : (p : Process) (m : Memory) (mode : Mode) → mode ≡ Ready → IsMo
 live-mode p m mode e is = rw e at is
 
 module _ (k : Kernel) (i : ℕ) (p : Process) (is : IsKernel k) (none : k.spaces.active ≡ None) (at : slot k.table.places i ≡ Some p) (up : k.tree.failed ≡ false) where
-  taken-is : (alive : lives p ≡ true) → (h : Held) × (IsThere k i p h × (taken (state_of k) i ≡ next.picked (state_of k) i (with_memory h.memory p)))
+  taken-is : (alive : lives p ≡ true) → (h : SpaceView) × (IsThere k i p h × (taken (state_of k) i ≡ next.picked (state_of k) i (with_memory h.memory p)))
   taken-is alive =
       let t = there-of k i p is at in
       (t.0, (t.1, ap (taken_by (state_of k) i) (process-idle k i p t.0 is none t.1 alive)))

@@ -27,7 +27,7 @@ use Rattle.files.specs.declared.file.Target.TheVariants as target
 use Rattle.files.specs.Meant.{file_of, target_of}
 use Rattle.files.specs.Places.{Counted, file_at, opens_of, usable}
 use Rattle.proc.specs.declared.process.Process.{Process}
-use Rattle.spaces.specs.Spaces.{Held, held_at}
+use Rattle.spaces.specs.Spaces.{SpaceView, view_at}
 use Rattle.unixmodel.specs.Calls.{goes_on, row}
 use Rattle.unixmodel.specs.declared.call.Call.{Call}
 use Rattle.unixmodel.specs.declared.call.Call.TheVariants as call
@@ -198,12 +198,12 @@ module _ (k : Kernel) (i : ℕ) (runs : Runs k i) (e : End) where
     nothing : natural (int_of (argument k 2)) ≡ Some 0 → Acts k k i (Some (call_on e)) (Answers 0)
     nothing none = does k i x k (call_on e) 0 x refl (row-counted ∙ rw none refl)
 
-    module _ (n : ℕ) (count : natural (int_of (argument k 2)) ≡ Some n) (some : 0 < n) (b : Bool) (can : can_transfer e (held_at k.spaces i).memory (argument k 1) n ≡ b) where
+    module _ (n : ℕ) (count : natural (int_of (argument k 2)) ≡ Some n) (some : 0 < n) (b : Bool) (can : can_transfer e (view_at k.spaces i).memory (argument k 1) n ≡ b) where
       row-tested : row (state_of k) i (me k i x) (call_on e) ≡ provided b (going k i x w)
       row-tested =
           row-counted
           ∙ rw count (unless-some (state_of k) n (provided (can_transfer e x.held.memory (argument k 1) n) (going k i x w)) some)
-          ∙ ap (λ (b : Bool). provided b (going k i x w)) (ap (λ (h : Held). can_transfer e h.memory (argument k 1) n) (sym (held-run k i x.process x.held x.run x.sound)) ∙ can)
+          ∙ ap (λ (b : Bool). provided b (going k i x w)) (ap (λ (h : SpaceView). can_transfer e h.memory (argument k 1) n) (sym (held-run k i x.process x.held x.run x.sound)) ∙ can)
 
       unusable : b ≡ false → Acts k k i (Some (call_on e)) Refuses
       unusable failed = refuses (row-tested ∙ ap (λ (b : Bool). provided b (going k i x w)) failed)
@@ -214,7 +214,7 @@ module _ (k : Kernel) (i : ℕ) (runs : Runs k i) (e : End) where
           goes = record {
             runs = runs;
             number = refl;
-            can = pending-can e k (descriptors_at k i) (held_at k.spaces i).memory n (ap is_some f.named) count some (can ∙ passed);
+            can = pending-can e k (descriptors_at k i) (view_at k.spaces i).memory n (ap is_some f.named) count some (can ∙ passed);
             fresh = start-fresh k.files (descriptors_at k i) w refl;
             target = on;
           };
@@ -248,9 +248,9 @@ module _ {k : Kernel} {i : ℕ} (runs : Runs k i) (e : End) {call : Call} (same 
       pub begins-nothing : n ≡ 0 → Acts k k i (Some (call_on e)) (Answers 0)
       begins-nothing none = nothing k i runs e t (source (Some t) is) (third o told ∙ count ∙ ap Some none)
 
-      module _ (some : n ≢ 0) {m : ℕ} (wide : m ≡ n) {b : Bool} (can : b ≡ can_transfer e (held_at k.spaces i).memory (pending_arg w 1) m) where
-        passes : can_transfer e (held_at k.spaces i).memory (argument k 1) n ≡ b
-        passes = ap (λ (v : Pending). can_transfer e (held_at k.spaces i).memory (pending_arg v 1) n) (sym begun) ∙ ap (can_transfer e (held_at k.spaces i).memory (pending_arg w 1)) (sym wide) ∙ sym can
+      module _ (some : n ≢ 0) {m : ℕ} (wide : m ≡ n) {b : Bool} (can : b ≡ can_transfer e (view_at k.spaces i).memory (pending_arg w 1) m) where
+        passes : can_transfer e (view_at k.spaces i).memory (argument k 1) n ≡ b
+        passes = ap (λ (v : Pending). can_transfer e (view_at k.spaces i).memory (pending_arg v 1) n) (sym begun) ∙ ap (can_transfer e (view_at k.spaces i).memory (pending_arg w 1)) (sym wide) ∙ sym can
 
         pub begins-unusable : b ≡ false → Acts k k i (Some (call_on e)) Refuses
         begins-unusable failed = unusable k i runs e t (source (Some t) is) n (third o told ∙ count) (omega arith) b passes failed
@@ -291,7 +291,7 @@ module _ {k : Kernel} {i : ℕ} {e : End} {t : Target} {w : Pending} (g : Transf
   pub going-is : going k i here w ≡ goes_on (state_of k) i (me k i here) w (call_on e)
   going-is = ap (goes_on (state_of k) i (me k i here) w) g.number
 
-  pub held-here : held_at k.spaces i ≡ here.held
+  pub held-here : view_at k.spaces i ≡ here.held
   held-here = held-run k i here.process here.held here.run here.sound
 
   -- what holds of the open file that is named
@@ -318,8 +318,8 @@ some-file (Some f) some none = none-some f.target (sym none)
 
 -- r is what its descriptor d is open on
 module _ {k : Kernel} {i : ℕ} {w : Pending} (e : End) (runs : Runs k i) (can : CanWait k i w) (number : w.number ≡ call_on e) {d : ℕ} (place : d ≡ low (pending_arg w 0)) (r : Option Target) (told : r ≡ target_named k i d) where
-  pending : IsPending (descriptors_at k i) (held_at k.spaces i).memory w (call_on e)
-  pending = subst (IsPending (descriptors_at k i) (held_at k.spaces i).memory w) number can.0
+  pending : IsPending (descriptors_at k i) (view_at k.spaces i).memory w (call_on e)
+  pending = subst (IsPending (descriptors_at k i) (view_at k.spaces i).memory w) number can.0
 
   open-on : (s : Option Target) → r ≡ s → target_named k i (low (pending_arg w 0)) ≡ s
   open-on s is = ap (target_named k i) (sym place) ∙ sym told ∙ is
@@ -328,7 +328,7 @@ module _ {k : Kernel} {i : ℕ} {w : Pending} (e : End) (runs : Runs k i) (can :
   pub target-some : r ≡ None → ⊥
   target-some none =
       let x = here-of k i runs.sound runs.active in
-      let n = some-named (slot (descriptors_at k i) (low (pending_arg w 0))) (pending-named e (descriptors_at k i) (held_at k.spaces i).memory w pending) in
+      let n = some-named (slot (descriptors_at k i) (low (pending_arg w 0))) (pending-named e (descriptors_at k i) (view_at k.spaces i).memory w pending) in
       let there = open-named k.files k.spaces.pipes k.table.places x.sound.opened i x.process (low (pending_arg w 0)) n.0 x.run.process (ap (λ (o : Option Process). slot (descriptors_in o) (low (pending_arg w 0))) (sym x.run.process) ∙ n.1) in
       let named : file_named k.files (descriptors_at k i) (low (pending_arg w 0)) ≡ file_at k.files n.0 = ap (option_and_then (file_at k.files)) n.1 in
       some-file (file_at k.files n.0) (ap is_some (sym (slot-file k.files n.0) ∙ there.1.0)) (sym (ap (option_map (λ (f : OpenFile). f.target)) named) ∙ open-on None none)

@@ -5,7 +5,7 @@ use Rattle.std.specs.Io.KnownBytes.{Appends}
 use Rattle.std.specs.List.{position_or_len}
 use Rattle.std.proofs.lemmas.Bool.{le-ltb, lt-ltb}
 use Rattle.std.proofs.lemmas.List.Sums.{position_or_len_is}
-use Rattle.calls.specs.Does.{IsMade}
+use Rattle.calls.specs.Gives.{IsMade}
 use Rattle.kernel.specs.Kernel.{Kernel, base, loaded, memories, rest_of, state_of, stopped_at, ticked, typed, waking}
 use Rattle.kernel.specs.Sound.{IsKernel, is_at}
 use Rattle.kernel.proofs.Changes.{length-active, other-at, running-active}

@@ -27,7 +27,7 @@ use Rattle.names.specs.Changes.{Loses, shape}
 use Rattle.names.proofs.Finding.{unlink-parts}
 use Rattle.names.proofs.Quiet.{kept-gone, kept-here, kept-none}
 use Rattle.names.proofs.Unlinking.{keeps-unlinked}
-use Rattle.spaces.specs.Spaces.{held_at}
+use Rattle.spaces.specs.Spaces.{view_at}
 use Rattle.tree.specs.declared.TreeFault.{TreeFault}
 use Rattle.tree.specs.Holding.{holders, let_go}
 use Rattle.tree.specs.Lacking.{LacksUnlinking}
@@ -253,11 +253,11 @@ abbrev pub TakesName : FileTree → FileTree → ℕ → List ℕ → Result (Un
 TakesName old new d path r = tree.Acts old new r (λ done. unlinked_in old.holds old.files d path ≡ Some new.files) (unlinked_in old.holds old.files d path ≡ None) (LacksUnlinking old.files d path)
 
 module _ (k : Kernel) (i : ℕ) (runs : Runs k i) where
-  pub unlink-pathless : None ≡ path_at (held_at k.spaces i).memory (argument k 0) → Acts k k i (Some Unlink) Refuses
+  pub unlink-pathless : None ≡ path_at (view_at k.spaces i).memory (argument k 0) → Acts k k i (Some Unlink) Refuses
   unfolding unlink_row
   unlink-pathless none = let at = path-is k i runs 0 None none in refused k i (here k i runs) (Some Unlink) (rw at refl)
 
-  module _ (d : ℕ) (home : IfSome (slot k.table.places i) (λ p. d ≡ p.directory)) (path : List ℕ) (is : Some path ≡ path_at (held_at k.spaces i).memory (argument k 0)) (t : FileTree) (r : Result (Unit {0}) TreeFault) where
+  module _ (d : ℕ) (home : IfSome (slot k.table.places i) (λ p. d ≡ p.directory)) (path : List ℕ) (is : Some path ≡ path_at (view_at k.spaces i).memory (argument k 0)) (t : FileTree) (r : Result (Unit {0}) TreeFault) where
     unlink-makes : row (state_of k) i (mine k i runs) Unlink ≡ with_made (state_of k) (nameless k.tree.files d path)
     unlink-makes = rw (home-is k i runs d home) (unlink-row (state_of k) i (mine k i runs) path (path-is k i runs 0 (Some path) is))
 

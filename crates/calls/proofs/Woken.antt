@@ -24,7 +24,7 @@ use Rattle.proc.specs.Places as table
 use Rattle.proc.specs.Places.{Places, changed, with_descriptor, with_mode, without}
 use Rattle.programs.specs.declared.executing.Started.{Started}
 use Rattle.programs.specs.Executed.{Executes}
-use Rattle.spaces.specs.Spaces.{Held, Spaces, with_held}
+use Rattle.spaces.specs.Spaces.{SpaceView, Spaces, with_view}
 use Rattle.unixmodel.specs.Calls.{After}
 use Rattle.unixmodel.specs.Console.{Console, Taken, take_line}
 use Rattle.unixmodel.specs.declared.process.Mode.TheVariants.{Ready}
@@ -127,7 +127,7 @@ pub executes-piped : (files : Files) (old new : Spaces) (at number argv : ℕ) (
 executes-piped files old new at number argv None is = ap (λ (s : Spaces). s.pipes) is.0
 executes-piped files old new at number argv (Some started) is = ap (λ (s : Spaces). s.pipes) is.held
 
-pub writes-piped : (old new : Spaces) (at : ℕ) (held : Held) (b : Bool) → OnTrue b (new ≡ with_held old at held) → OnFalse b (new ≡ old) → new.pipes ≡ old.pipes
+pub writes-piped : (old new : Spaces) (at : ℕ) (held : SpaceView) (b : Bool) → OnTrue b (new ≡ with_view old at held) → OnFalse b (new ≡ old) → new.pipes ≡ old.pipes
 writes-piped old new at held true done refused = ap (λ (s : Spaces). s.pipes) done
 writes-piped old new at held false done refused = ap (λ (s : Spaces). s.pipes) refused
 

@@ -7,11 +7,11 @@ use Rattle.calls.specs.declared.halt.Halt.{Halt}
 use Rattle.calls.specs.declared.halt.Halt.TheVariants.{Console, Device, Halted, InitEnded}
 use Rattle.calls.specs.declared.outcome.Came.{Came}
 use Rattle.calls.specs.declared.outcome.Came.TheVariants.{Answers, Blocks, Exits, KillsItself, Refuses}
-use Rattle.calls.specs.Does.{IsLost, IsServed}
+use Rattle.calls.specs.Gives.{IsLost, IsServed}
 use Rattle.kernel.specs.Kernel.{Kernel, argument, descriptors_at, state_of}
 use Rattle.kernel.specs.Sound.{IsAwaiting, IsKernel, IsPending}
 use Rattle.console.specs.Output.{AppendsBeginning}
-use Rattle.spaces.specs.Spaces.{held_at}
+use Rattle.spaces.specs.Spaces.{view_at}
 use Rattle.unixmodel.specs.Calls.{After, call, call_of, end_at, goes_on, outcome_of, quiet, settle}
 use Rattle.unixmodel.specs.declared.call.Call.{Call}
 use Rattle.unixmodel.specs.declared.call.Call.TheVariants.{Dup, Exit, Fork, Getpid, Kill, Pipe, Sbrk, Sleep, Uptime, Wait}
@@ -85,7 +85,7 @@ pending_for k number = record { number = number; args = argument k 0 ∷ argumen
 
 -- a call may wait so
 abbrev pub CanWait : Kernel → ℕ → Pending → Type 0
-CanWait k i w = IsPending (descriptors_at k i) (held_at k.spaces i).memory w w.number × IsAwaiting k.files (descriptors_at k i) w
+CanWait k i w = IsPending (descriptors_at k i) (view_at k.spaces i).memory w w.number × IsAwaiting k.files (descriptors_at k i) w
 
 -- a call may come to that: a status is an int
 abbrev pub CanCome : Kernel → ℕ → Came → Type 0

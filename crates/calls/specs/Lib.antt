@@ -1,7 +1,7 @@
 pub mod Processes
 pub mod Acts
-pub mod Does
-pub mod Told
+pub mod Gives
+pub mod Resuming
 pub mod Transfers
 pub mod Renamed
 pub mod Reads

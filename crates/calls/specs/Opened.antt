@@ -2,7 +2,7 @@
 use Rattle.std.specs.Prelude.{Bool, Err, IfSome, List, Ok, Option, Result, Some, if◌then◌else◌, nat_le, nat_lt, not, true, ℕ, ◌&&◌, ◌==◌, ◌||◌, ◌≡◌, ◌≤◌}
 use Rattle.blockdev.specs.declared.DeviceFault.{DeviceFault}
 use Rattle.calls.specs.Acts.{Runs}
-use Rattle.calls.specs.Does.{IsLost, IsServed}
+use Rattle.calls.specs.Gives.{IsLost, IsServed}
 use Rattle.calls.specs.Renamed.{free_descriptors}
 use Rattle.files.specs.declared.file.OpenFile.{OpenFile}
 use Rattle.files.specs.declared.file.Target.{Target}
@@ -10,7 +10,7 @@ use Rattle.files.specs.declared.file.Target.TheVariants as target
 use Rattle.files.specs.Places.{free_count, opens_of}
 use Rattle.inode.specs.declared.InodeStat.{InodeStat}
 use Rattle.kernel.specs.Kernel.{Kernel, argument, descriptors_at, state_of}
-use Rattle.spaces.specs.Spaces.{held_at}
+use Rattle.spaces.specs.Spaces.{view_at}
 use Rattle.tree.specs.Telling.{TellsMajor}
 use Rattle.tree.specs.Tree.{FileTree}
 use Rattle.unixmodel.specs.FileCalls.{with_descriptor}
@@ -26,7 +26,7 @@ use Rattle.unixmodel.specs.State.{State, process_at}
 
 -- argument 0 is that path, argument 1 the flags, and o is the number that the path reaches
 pub record Asks (k : Kernel) (i : ℕ) (path : List ℕ) (f : ℕ) (o : Option ℕ) : Type 0 where
-  pub named : Some path ≡ path_at (held_at k.spaces i).memory (argument k 0)
+  pub named : Some path ≡ path_at (view_at k.spaces i).memory (argument k 0)
   pub flags : f ≡ low (argument k 1)
   pub found : IfSome (slot k.table.places i) (λ p. o ≡ find k.tree.files p.directory path)
 

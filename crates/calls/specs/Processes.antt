@@ -4,7 +4,7 @@ use Rattle.std.specs.Int.{cast_unsigned, w32}
 use Rattle.proc.specs.declared.process.Process.{Process}
 use Rattle.proc.specs.Places.{changed, with_size, without, has_pid, place_where}
 use Rattle.spaces.specs.Spaces as spaces
-use Rattle.spaces.specs.Spaces.{Held, held_at, with_held, with_place}
+use Rattle.spaces.specs.Spaces.{SpaceView, view_at, with_view, with_place}
 use Rattle.unixmodel.specs.declared.process.Mode.TheVariants.{Ready}
 use Rattle.unixmodel.specs.Numbers.{ceil_div, le, natural}
 use Rattle.unixmodel.specs.ProcessCalls.{with_pages}
@@ -13,19 +13,19 @@ use Rattle.kernel.specs.Kernel.{Kernel}
 -- ---- sbrk
 
 -- a space with another size
-abbrev pub sized : Held → ℕ → Held
+abbrev pub sized : SpaceView → ℕ → SpaceView
 sized h size = record { memory = with_pages h.memory (ceil_div size 4096); size = size }
 
 -- process i with another size
 abbrev pub resized : Kernel → ℕ → ℕ → Kernel
 resized k i size = record k {
   table = changed k.table i (with_size size);
-  spaces = with_held k.spaces i (sized (held_at k.spaces i) size);
+  spaces = with_view k.spaces i (sized (view_at k.spaces i) size);
 }
 
 -- the size that is asked for, if it is not below 0
 abbrev pub asked : Kernel → ℕ → ℤ → Option ℕ
-asked k i delta = natural (pos (held_at k.spaces i).size +ℤ delta)
+asked k i delta = natural (pos (view_at k.spaces i).size +ℤ delta)
 
 -- ---- fork
 
@@ -34,7 +34,7 @@ child_of p = record p { parent = p.pid; registers = slice_set p.registers 10 0; 
 
 -- ---- wait
 
-abbrev pub with_status : Held → ℕ → ℤ → Held
+abbrev pub with_status : SpaceView → ℕ → ℤ → SpaceView
 with_status h address status =
     if address == 0 then h else spaces.written h address (le 4 (cast_unsigned w32 status))
 
@@ -42,13 +42,13 @@ with_status h address status =
 abbrev pub collected : Kernel → ℕ → ℕ → ℕ → ℤ → Kernel
 collected k i address j status = record k {
   table = without k.table (Some j);
-  spaces = with_place (with_held k.spaces i (with_status (held_at k.spaces i) address status)) j None;
+  spaces = with_place (with_view k.spaces i (with_status (view_at k.spaces i) address status)) j None;
 }
 
 -- ---- kill
 
 -- the place of the process with a pid that is not below 1
-abbrev pub named : List (Option Process) → Option ℕ → Option ℕ
-named places None = None
-named places (Some zero) = None
-named places (Some (suc n)) = place_where places (has_pid (suc n))
+abbrev pub place_called : List (Option Process) → Option ℕ → Option ℕ
+place_called places None = None
+place_called places (Some zero) = None
+place_called places (Some (suc n)) = place_where places (has_pid (suc n))

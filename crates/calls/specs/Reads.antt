@@ -1,7 +1,7 @@
 -- Steps of a call that read the disk and change nothing else.
 use Rattle.std.specs.Prelude.{Err, List, Ok, Result, ℕ, ◌++◌, ◌≡◌, ◌≤◌}
 use Rattle.blockdev.specs.declared.DeviceFault.{DeviceFault}
-use Rattle.calls.specs.Does.{IsLost}
+use Rattle.calls.specs.Gives.{IsLost}
 use Rattle.inode.specs.declared.InodeStat.{InodeStat}
 use Rattle.kernel.specs.Kernel.{Kernel, counting}
 use Rattle.unixmodel.specs.Memory.{zeros}

@@ -11,7 +11,7 @@ use Rattle.files.specs.declared.file.OpenFile.{OpenFile}
 use Rattle.files.specs.declared.file.Target.{Target}
 use Rattle.files.specs.declared.file.Target.TheVariants as target
 use Rattle.files.specs.Places.{readable_at, usable, writable_at}
-use Rattle.spaces.specs.Spaces.{held_at}
+use Rattle.spaces.specs.Spaces.{view_at}
 use Rattle.unixmodel.specs.declared.call.Call.{Call}
 use Rattle.unixmodel.specs.declared.call.Call.TheVariants.{Read, Write}
 use Rattle.unixmodel.specs.declared.process.Pending.{Pending}
@@ -41,7 +41,7 @@ can_transfer end.Write memory address count = is_some (read_bytes memory address
 pub record Transfers (k : Kernel) (i : ℕ) (end : End) (t : Target) (w : Pending) : Type 0 where
   pub runs : Runs k i
   pub number : w.number ≡ call_on end
-  pub can : IsPending (descriptors_at k i) (held_at k.spaces i).memory w (call_on end)
+  pub can : IsPending (descriptors_at k i) (view_at k.spaces i).memory w (call_on end)
   pub fresh : IsFresh k.files (descriptors_at k i) w
   pub target : target_named k i (low (pending_arg w 0)) ≡ Some t
 

@@ -1,7 +1,7 @@
 //! The calls: each row of the table of calls is a function.
 ghost use Rattle.std.specs.Prelude.{◌≡◌, ◌≢◌, ◌≤◌, Some, true};
 ghost use Rattle.calls.specs.Acts.{Acts, ActsOnDisk, IsBegun, Runs, Tries, called, is_apart, outcome_at};
-ghost use Rattle.calls.specs.Does.{Dispatches, LeavesTree};
+ghost use Rattle.calls.specs.Gives.{Dispatches, LeavesTree};
 ghost use Rattle.kernel.specs.Kernel.{state_of};
 ghost use Rattle.unixmodel.specs.Calls.{call_of};
 ghost use Rattle.unixmodel.specs.declared.call.Call.TheVariants as Call;

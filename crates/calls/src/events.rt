@@ -5,10 +5,10 @@
 ghost use Rattle.std.specs.Prelude.{false, ◌≡◌, ◌≤◌, Ok, Some, None, true, IfErr, IfOk, OnErr, OnOk};
 ghost use Rattle.calls.specs.Acts.{CanWait, GoesOn, Runs, called};
 ghost use Rattle.calls.specs.declared.halt.Halt.TheVariants.{Console, Device};
-ghost use Rattle.calls.specs.Does.{Dispatches, Does, Ends, LeavesDisk, LeavesTree, halt_of};
+ghost use Rattle.calls.specs.Gives.{Dispatches, EventGives, Ends, LeavesDisk, LeavesTree, halt_of};
 ghost use Rattle.kernel.specs.Kernel.{state_of};
 ghost use Rattle.kernel.specs.Sound.{CanEnd, IsAlive};
-ghost use Rattle.calls.specs.Told.{CanResume, WaitsIn, became, resumed, taken};
+ghost use Rattle.calls.specs.Resuming.{CanResume, WaitsIn, became, resumed, taken};
 ghost use Rattle.unixmodel.specs.Calls.{end_at, quiet};
 ghost use Rattle.unixmodel.specs.declared.call.Call.TheVariants as Call;
 ghost use Rattle.unixmodel.specs.declared.event.Event.TheVariants.{Key, Step, Tick};
@@ -139,7 +139,7 @@ pub fn step<D: BlockDev, T: Translate + Drop, W: Out>(
 ) -> Result<(), Halt>
     requires goes { kernel.old.halted ≡ None }
     requires up { kernel.old.tree.failed ≡ false }
-    ensures does { Does kernel.new (next (state_of kernel.old) Step) (W.contents console.old) (W.contents console.new) (Rises (W.failures console.old) (W.failures console.new)) result }
+    ensures does { EventGives kernel.new (next (state_of kernel.old) Step) (W.contents console.old) (W.contents console.new) (Rises (W.failures console.old) (W.failures console.new)) result }
     ensures tree { LeavesTree kernel.old.tree kernel.new.tree result }
     ensures later { W.failures console.old ≤ W.failures console.new }
 {

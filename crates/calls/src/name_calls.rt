@@ -4,7 +4,7 @@ ghost use Rattle.calls.specs.Acts.{ActsOnDisk, Runs};
 ghost use Rattle.calls.specs.declared.outcome.Came.TheVariants.{Refuses};
 ghost use Rattle.kernel.specs.Kernel.{argument, idle, on_hart};
 ghost use Rattle.proc.specs.Places.{changed, with_mode};
-ghost use Rattle.spaces.specs.Spaces.{held_at};
+ghost use Rattle.spaces.specs.Spaces.{view_at};
 ghost use Rattle.tree.specs.Tree.{is_device};
 ghost use Rattle.unixmodel.specs.declared.call.Call.TheVariants as Call;
 ghost use Rattle.unixmodel.specs.declared.process.Mode.TheVariants.{Ready};
@@ -39,7 +39,7 @@ pub(crate) fn copy_path<D: BlockDev, T: Translate + Drop>(
 ) -> Option<usize>
     requires active { kernel.now.spaces.active ≡ Some at }
     requires place { place < 8 }
-    ensures path { option_map (λ n. take n buffer.new) result ≡ path_at (held_at kernel.now.spaces at).memory (argument kernel.now place) }
+    ensures path { option_map (λ n. take n buffer.new) result ≡ path_at (view_at kernel.now.spaces at).memory (argument kernel.now place) }
     ensures within { IfSome result (λ n. n ≤ 127) }
     ensures bytes { IfSome result (λ n. All (λ b. b ≢ 0) (take n buffer.new)) }
 {

@@ -2,9 +2,9 @@
 ghost use Rattle.std.specs.Prelude.{◌≡◌, ◌+◌, ◌-◌, ◌≤◌, Some, true};
 ghost use Rattle.calls.specs.Acts.{Acts, GoesOn, Runs};
 ghost use Rattle.kernel.specs.Kernel.{argument};
-ghost use Rattle.calls.specs.Processes.{asked, named, with_status};
+ghost use Rattle.calls.specs.Processes.{asked, place_called, with_status};
 ghost use Rattle.kernel.specs.Sound.{can_answer};
-ghost use Rattle.spaces.specs.Spaces.{has_space, held_at, with_held};
+ghost use Rattle.spaces.specs.Spaces.{has_space, view_at, with_view};
 ghost use Rattle.unixmodel.specs.declared.call.Call.TheVariants as Call;
 ghost use Rattle.unixmodel.specs.Numbers.{int_of, natural};
 ghost use Rattle.unixmodel.specs.Outcome.{pending_arg};
@@ -35,7 +35,7 @@ fn can_answer<D: BlockDev, T: Translate + Drop>(
     address: u64,
 ) -> bool
     requires { kernel.now.spaces.active ≡ Some at }
-    ensures { result ≡ can_answer (held_at kernel.now.spaces at).memory address }
+    ensures { result ≡ can_answer (view_at kernel.now.spaces at).memory address }
 {
     address == 0 || kernel.can_write(at, address, 4)
 }
@@ -43,8 +43,8 @@ fn can_answer<D: BlockDev, T: Translate + Drop>(
 // Writes the status of a child at an address of a place, unless that is 0.
 fn write_status<T: Translate + Drop>(spaces: &mut Spaces<T>, at: usize, address: u64, status: i32)
     requires space { has_space spaces.old at ≡ true }
-    requires can { can_answer (held_at spaces.old at).memory address ≡ true }
-    ensures { spaces.new ≡ with_held spaces.old at (with_status (held_at spaces.old at) address status) }
+    requires can { can_answer (view_at spaces.old at).memory address ≡ true }
+    ensures { spaces.new ≡ with_view spaces.old at (with_status (view_at spaces.old at) address status) }
 {
     if address != 0 {
         let _written = spaces.write(at, address, &status.to_le_bytes());
@@ -110,7 +110,7 @@ pub(crate) fn wait_on<D: BlockDev, T: Translate + Drop>(
 ) -> Came
     requires runs { Runs kernel.old at }
     requires number { pending.number ≡ Call.Wait }
-    requires can { can_answer (held_at kernel.old.spaces at).memory (pending_arg pending 0) ≡ true }
+    requires can { can_answer (view_at kernel.old.spaces at).memory (pending_arg pending 0) ≡ true }
     ensures { GoesOn kernel.old kernel.new at pending result }
 {
     let parent = kernel.pid(at);
@@ -123,8 +123,11 @@ pub(crate) fn wait_on<D: BlockDev, T: Translate + Drop>(
 }
 
 // The place of the process that an argument names by its pid.
-fn named<D: BlockDev, T: Translate + Drop>(kernel: &Kernel<D, T>, argument: u64) -> Option<usize>
-    ensures { result ≡ named kernel.now.table.places (natural (int_of argument)) }
+fn place_called<D: BlockDev, T: Translate + Drop>(
+    kernel: &Kernel<D, T>,
+    argument: u64,
+) -> Option<usize>
+    ensures { result ≡ place_called kernel.now.table.places (natural (int_of argument)) }
 {
     let pid = natural(argument)?;
     if pid == 0 { None } else { kernel.find(pid) }
@@ -135,7 +138,7 @@ pub(crate) fn kill<D: BlockDev, T: Translate + Drop>(kernel: &mut Kernel<D, T>, 
     requires { Runs kernel.old at }
     ensures { Acts kernel.old kernel.new at (Some Call.Kill) result }
 {
-    let Some(place) = named(kernel, kernel.argument(0)) else {
+    let Some(place) = place_called(kernel, kernel.argument(0)) else {
         return Came::Refuses;
     };
     if place == at {
@@ -156,7 +159,7 @@ pub(crate) fn getpid<D: BlockDev, T: Translate + Drop>(kernel: &Kernel<D, T>, at
 // sbrk of more: pages of zeros that the process reads and writes.
 fn grow<D: BlockDev, T: Translate + Drop>(kernel: &mut Kernel<D, T>, at: usize, bytes: u64) -> Came
     requires runs { Runs kernel.old at }
-    requires asked { asked kernel.old at (int_of (argument kernel.old 0)) ≡ Some ((held_at kernel.old.spaces at).size + bytes) }
+    requires asked { asked kernel.old at (int_of (argument kernel.old 0)) ≡ Some ((view_at kernel.old.spaces at).size + bytes) }
     ensures { Acts kernel.old kernel.new at (Some Call.Sbrk) result }
 {
     let old = kernel.size(at);
@@ -176,8 +179,8 @@ fn shrink<D: BlockDev, T: Translate + Drop>(
     bytes: u64,
 ) -> Came
     requires runs { Runs kernel.old at }
-    requires less { bytes ≤ (held_at kernel.old.spaces at).size }
-    requires asked { asked kernel.old at (int_of (argument kernel.old 0)) ≡ Some ((held_at kernel.old.spaces at).size - bytes) }
+    requires less { bytes ≤ (view_at kernel.old.spaces at).size }
+    requires asked { asked kernel.old at (int_of (argument kernel.old 0)) ≡ Some ((view_at kernel.old.spaces at).size - bytes) }
     ensures { Acts kernel.old kernel.new at (Some Call.Sbrk) result }
 {
     let old = kernel.size(at);

@@ -11,7 +11,7 @@ ghost use Rattle.files.specs.declared.file.End.TheVariants as End;
 ghost use Rattle.console.specs.Output.{AppendsBeginning};
 ghost use Rattle.files.specs.Meant.{end_of, target_of};
 ghost use Rattle.files.specs.Places.{has_end, opens_of};
-ghost use Rattle.spaces.specs.Spaces.{held_at};
+ghost use Rattle.spaces.specs.Spaces.{view_at};
 ghost use Rattle.unixmodel.specs.declared.call.Call.TheVariants as Call;
 ghost use Rattle.unixmodel.specs.Failures.{Rises};
 ghost use Rattle.unixmodel.specs.Memory.{reach, read_bytes};
@@ -93,7 +93,7 @@ fn can_transfer<D: BlockDev, T: Translate + Drop>(
     count: u64,
 ) -> bool
     requires { kernel.now.spaces.active ≡ Some at }
-    ensures { result ≡ can_transfer end (held_at kernel.now.spaces at).memory address count }
+    ensures { result ≡ can_transfer end (view_at kernel.now.spaces at).memory address count }
 {
     match end {
         End::Read => kernel.spaces.can_write(at, address, count),
@@ -279,11 +279,11 @@ fn piece<D: BlockDev, T: Translate + Drop>(
     most: u64,
 ) -> &[u8]
     requires running { kernel.now.spaces.active ≡ Some at }
-    requires readable { 0 < length (reach Load (held_at kernel.now.spaces at).memory address) }
+    requires readable { 0 < length (reach Load (view_at kernel.now.spaces at).memory address) }
     requires most { 0 < most }
     ensures some { 0 < length result.now }
     ensures most { length result.now ≤ most }
-    ensures piece { IsFront result.now (piece_at Load (held_at kernel.now.spaces at).memory address) }
+    ensures piece { IsFront result.now (piece_at Load (view_at kernel.now.spaces at).memory address) }
 {
     kernel.spaces.pages_are_whole(at);
     let piece = kernel.spaces.readable(at, address);
@@ -303,9 +303,9 @@ fn print<D: BlockDev, T: Translate + Drop, W: Out>(
     out: &mut W,
 ) -> Result<(), OutFault>
     requires running { kernel.now.spaces.active ≡ Some at }
-    requires readable { is_some (read_bytes (held_at kernel.now.spaces at).memory address count) ≡ true }
-    ensures ok { OnOk result (Appends (W.contents out.old) (W.contents out.new) (unwrap_or (read_bytes (held_at kernel.now.spaces at).memory address count) [])) }
-    ensures err { OnErr result (AppendsBeginning (W.contents out.old) (W.contents out.new) (unwrap_or (read_bytes (held_at kernel.now.spaces at).memory address count) [])) }
+    requires readable { is_some (read_bytes (view_at kernel.now.spaces at).memory address count) ≡ true }
+    ensures ok { OnOk result (Appends (W.contents out.old) (W.contents out.new) (unwrap_or (read_bytes (view_at kernel.now.spaces at).memory address count) [])) }
+    ensures err { OnErr result (AppendsBeginning (W.contents out.old) (W.contents out.new) (unwrap_or (read_bytes (view_at kernel.now.spaces at).memory address count) [])) }
     ensures later { W.failures out.old ≤ W.failures out.new }
     ensures cause { OnErr result (Rises (W.failures out.old) (W.failures out.new)) }
 {

@@ -13,7 +13,7 @@ use Rattle.commands.specs.declared.report.End.TheVariants.{Halted, Running}
 use Rattle.console.specs.Output.{AppendsBeginning}
 use Rattle.machine.specs.Gives.{DeviceFailsIn, IsDone, RunGives}
 use Rattle.machine.specs.Saved.{SaveGives}
-use Rattle.machine.specs.Told.{IsUp, Told}
+use Rattle.machine.specs.View.{IsUp, View}
 use Rattle.unixmodel.specs.Calls.{After}
 use Rattle.unixmodel.specs.declared.event.Event.{Event}
 use Rattle.unixmodel.specs.Run.{run}
@@ -21,7 +21,7 @@ use Rattle.unixmodel.specs.State.{State}
 
 -- ---- what is written out
 
-module _ (old new : Told) (before mid after : Option (List ℕ)) (keeps : Keeps mid after) where
+module _ (old new : View) (before mid after : Option (List ℕ)) (keeps : Keeps mid after) where
   -- all bytes
   done-written : (a : After) (halted : Option ℤ) → IsDone old new a before mid halted → IsDone old new a before after halted
   done-written a halted k = record {
@@ -88,7 +88,7 @@ module _ (old new : Told) (before mid after : Option (List ℕ)) (keeps : Keeps 
   plays-out events rising (Err halt.Halted) false up k = absurd (k.stopped up)
 
 -- the same, where what is written by the run is known by other names
-pub plays-through : (old new : Told) (from before to mid after : Option (List ℕ)) → from ≡ before → to ≡ mid → Keeps mid after
+pub plays-through : (old new : View) (from before to mid after : Option (List ℕ)) → from ≡ before → to ≡ mid → Keeps mid after
     → (events : List Event) (rising : Type 0) (ended : Result (Unit {0}) Halt) (written : Bool) → IsUp old
     → RunGives old new events from to rising ended → PlaysOut old new events before after (end_of ended written)
 plays-through old new from before to mid after e f keeps events rising ended written up k =
@@ -97,7 +97,7 @@ plays-through old new from before to mid after e f keeps events rising ended wri
 
 -- ---- what is left
 
-module _ {D : Type 0} (content : D → List (List ℕ)) (count : D → ℕ) (first last : Told) (events : List Event) (before after : Option (List ℕ)) (saves : Bool) where
+module _ {D : Type 0} (content : D → List (List ℕ)) (count : D → ℕ) (first last : View) (events : List Event) (before after : Option (List ℕ)) (saves : Bool) where
   played : (halted : Option ℤ) (disk : Option D) → IsDone first last (run first.state events) before after halted → Saves content last saves disk
       → IsPlayed content first events before after saves halted disk
   played halted disk done saved = record { last = last; done = done; saved = saved }

@@ -7,14 +7,14 @@ use Rattle.machine.proofs.RunLemmas.{Appends-trans, Rises-later, SoFar, up_now}
 use Rattle.calls.specs.declared.halt.Halt.{Halt}
 use Rattle.calls.specs.declared.halt.Halt.TheVariants.{Console, Device, Halted, InitEnded}
 use Rattle.machine.specs.Gives.{IsDone, RunGives}
-use Rattle.machine.specs.Told.{Told}
+use Rattle.machine.specs.View.{View}
 use Rattle.unixmodel.specs.Calls.{After}
 use Rattle.unixmodel.specs.declared.event.Event.{Event}
 use Rattle.unixmodel.specs.Run.{after_bytes, run}
 use Rattle.unixmodel.specs.State.{State}
 
 -- the model's run over both lists
-both : (first now : Told) (xs ys : List Event) (before mid : Option (List ℕ))
+both : (first now : View) (xs ys : List Event) (before mid : Option (List ℕ))
     → SoFar first now xs before mid
     → run first.state (xs ++ ys) ≡ after_bytes (run first.state xs).bytes (run now.state ys)
 unfolding run
@@ -22,7 +22,7 @@ both first now xs ys before mid h =
     let goes : then_runs ys (run first.state xs) (run first.state xs).state.halted ≡ after_bytes (run first.state xs).bytes (run (run first.state xs).state ys) = rw h.done.halts refl in
     run-append xs ys first.state h.began.goes ∙ goes ∙ ap (λ s. after_bytes (run first.state xs).bytes (run s ys)) (sym h.done.state)
 
-module _ (first now new : Told) (xs ys : List Event) (before mid after : Option (List ℕ)) where
+module _ (first now new : View) (xs ys : List Event) (before mid after : Option (List ℕ)) where
   done_both : (r : Option ℤ) → SoFar first now xs before mid → IsDone now new (run now.state ys) mid after r
       → IsDone first new (run first.state (xs ++ ys)) before after r
   done_both r h k = rw (both first now xs ys before mid h) (record {
@@ -94,7 +94,7 @@ begins_both xs ys s up = rw (run-append xs ys s up) (begins (run s xs) (run s xs
     begins a None = ((run a.state ys).bytes, refl)
 
 -- a run that stopped is answered in the same way whatever events follow
-pub stops_before : (old new : Told) (ys zs : List Event) (before after : Option (List ℕ)) (rises : Type 0) (halt : Halt)
+pub stops_before : (old new : View) (ys zs : List Event) (before after : Option (List ℕ)) (rises : Type 0) (halt : Halt)
     → RunGives old new ys before after rises (Err halt) → RunGives old new (ys ++ zs) before after rises (Err halt)
 stops_before old new ys zs before after rises (InitEnded status) k =
     let whole : run old.state (ys ++ zs) ≡ run old.state ys = run-append ys zs old.state k.0.goes ∙ rw k.1.halts refl in
@@ -134,14 +134,14 @@ stops_before old new ys zs before after rises Console k =
 stops_before old new ys zs before after rises Halted k = k
 
 -- a result that is handed on
-pub ends_with : (old new : Told) (all ys zs : List Event) (before after : Option (List ℕ)) (rises : Type 0)
+pub ends_with : (old new : View) (all ys zs : List Event) (before after : Option (List ℕ)) (rises : Type 0)
     (r : Result (Unit {0}) Halt) (given halt : Halt) → all ≡ ys ++ zs → r ≡ Err given → given ≡ halt
     → RunGives old new ys before after rises (Err halt) → RunGives old new all before after rises r
 ends_with old new all ys zs before after rises r given halt whole is same k =
     rw (whole, is, same) (stops_before old new ys zs before after rises halt k)
 
 -- a run that is followed by a second is answered as the second
-pub runs_on : (first now new : Told) (xs ys : List Event) (before mid after : Option (List ℕ)) (step_rises rises : Type 0)
+pub runs_on : (first now new : View) (xs ys : List Event) (before mid after : Option (List ℕ)) (step_rises rises : Type 0)
     (r : Result (Unit {0}) Halt) → SoFar first now xs before mid → (step_rises → rises)
     → RunGives now new ys mid after step_rises r → RunGives first new (xs ++ ys) before after rises r
 runs_on first now new xs ys before mid after step_rises rises (Ok u) h r k =

@@ -8,13 +8,13 @@ use Rattle.imagerules.specs.Content.{image_of}
 use Rattle.machine.specs.Booted.{IsBooted}
 use Rattle.machine.specs.Gives.{DeviceFailsIn, IsDone}
 use Rattle.machine.specs.Saved.{IsLost, IsSaved}
-use Rattle.machine.specs.Told.{Told}
+use Rattle.machine.specs.View.{View}
 use Rattle.unixmodel.specs.Run.{run}
 use Rattle.unixmodel.specs.Start.{start_flat}
 use Rattle.unixmodel.specs.declared.event.Event.{Event}
 
 -- how the events of a script end, with what is written out; where the console fails that is a beginning of what all print
-abbrev pub PlaysOut : Told → Told → List Event → Option (List ℕ) → Option (List ℕ) → End → Type 0
+abbrev pub PlaysOut : View → View → List Event → Option (List ℕ) → Option (List ℕ) → End → Type 0
 PlaysOut old new events before after Running = IsDone old new (run old.state events) before after None
 PlaysOut old new events before after (Halted (halt.InitEnded status)) = IsDone old new (run old.state events) before after (Some status)
 PlaysOut old new events before after (Halted halt.Device) = DeviceFailsIn old new events before after
@@ -22,41 +22,41 @@ PlaysOut old new events before after (Halted halt.Console) = AppendsBeginning be
 PlaysOut old new events before after (Halted halt.Halted) = ⊥
 
 -- there is a disk exactly where it was to be saved, and its bytes denote the files that the machine leaves
-abbrev pub Saves : {D : Type 0} → (D → List (List ℕ)) → Told → Bool → Option D → Type 0
+abbrev pub Saves : {D : Type 0} → (D → List (List ℕ)) → View → Bool → Option D → Type 0
 Saves content m true (Some disk) = IsSaved content m disk
 Saves content m false None = Unit {0}
 Saves content m _ _ = ⊥
 
 -- all events are done as the abstract Unix says, and then the disk is saved
-pub record IsPlayed {D : Type 0} (content : D → List (List ℕ)) (first : Told) (events : List Event) (before after : Option (List ℕ)) (saves : Bool) (halted : Option ℤ) (disk : Option D) : Type 0 where
-  pub last : Told
+pub record IsPlayed {D : Type 0} (content : D → List (List ℕ)) (first : View) (events : List Event) (before after : Option (List ℕ)) (saves : Bool) (halted : Option ℤ) (disk : Option D) : Type 0 where
+  pub last : View
   pub done : IsDone first last (run first.state events) before after halted
   pub saved : Saves content last saves disk
 
 -- an access of the device failed as the machine was saved
-pub record FailsToSave {D : Type 0} (count : D → ℕ) (first last : Told) (events : List Event) (before after : Option (List ℕ)) (saves : Bool) : Type 0 where
+pub record FailsToSave {D : Type 0} (count : D → ℕ) (first last : View) (events : List Event) (before after : Option (List ℕ)) (saves : Bool) : Type 0 where
   pub wanted : IsTrue saves
   pub halted : Option ℤ
   pub done : IsDone first last (run first.state events) before after halted
   pub lost : IsLost count last
 
 -- what the events of a script leave of a machine, which has not failed yet: where the device or the console fails, no disk
-abbrev pub Leaves : {D : Type 0} → (D → List (List ℕ)) → (D → ℕ) → Told → List Event → Option (List ℕ) → Option (List ℕ) → Bool → End → Option D → Type 0
+abbrev pub Leaves : {D : Type 0} → (D → List (List ℕ)) → (D → ℕ) → View → List Event → Option (List ℕ) → Option (List ℕ) → Bool → End → Option D → Type 0
 Leaves content count first events before after saves Running disk = IsPlayed content first events before after saves None disk
 Leaves content count first events before after saves (Halted (halt.InitEnded status)) disk = IsPlayed content first events before after saves (Some status) disk
-Leaves content count first events before after saves (Halted halt.Device) disk = (disk ≡ None) × ((last : Told) × (DeviceFailsIn first last events before after ⊎ FailsToSave count first last events before after saves))
+Leaves content count first events before after saves (Halted halt.Device) disk = (disk ≡ None) × ((last : View) × (DeviceFailsIn first last events before after ⊎ FailsToSave count first last events before after saves))
 Leaves content count first events before after saves (Halted halt.Console) disk = (disk ≡ None) × AppendsBeginning before after (run first.state events).bytes
 Leaves content count first events before after saves (Halted halt.Halted) disk = ⊥
 
 -- a machine boots from the disk, and the events leave this
 pub record IsImageRun {D : Type 0} (content : D → List (List ℕ)) (count : D → ℕ) (disk : D) (frames : ℕ) (events : List Event) (before after : Option (List ℕ)) (saves : Bool) (end : End) (left : Option D) : Type 0 where
-  pub first : Told
+  pub first : View
   pub booted : IsBooted (image_of (content disk)) (count disk) frames first
   pub leaves : Leaves content count first events before after saves end left
 
 -- a machine boots a flat program, and the events end so
 pub record IsFlatRun (program : List ℕ) (frames : ℕ) (events : List Event) (before after : Option (List ℕ)) (end : End) : Type 0 where
-  pub first : Told
-  pub last : Told
+  pub first : View
+  pub last : View
   pub booted : start_flat program frames ≡ Some first.state
   pub ended : PlaysOut first last events before after end

@@ -1,7 +1,7 @@
 //! Gives a machine the events of a script.
 ghost use Rattle.std.specs.Prelude.{◌≤◌, map, replicate};
 ghost use Rattle.machine.specs.Gives.{RunGives};
-ghost use Rattle.machine.specs.Told.{IsUp};
+ghost use Rattle.machine.specs.View.{IsUp};
 ghost use Rattle.unixmodel.specs.Failures.{Rises};
 ghost use Rattle.unixmodel.specs.declared.event.Event.TheVariants.{Key};
 ghost use Rattle.commands.specs.Plays.{events_of, script_events};

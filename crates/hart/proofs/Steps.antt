@@ -17,7 +17,7 @@ use Rattle.unixmodel.specs.Numbers.{extend, le, number, plus}
 use Rattle.unixmodel.specs.Translation.{Held, IsAnswer, IsKept, place_in, walk_page}
 use Rattle.unixmodel.specs.Words.{instruction_of}
 use Rattle.sv39.specs.Mapping.{Mapped, Shows, allowed, frame_for, memory_of, page_in}
-use Rattle.hart.specs.Answered.{Answers, AreAllowed, Does, IsStep, Sight, act_by, cycle_by, fetched_by, given, load_by, put_at, seen, store_by, stored, word_by}
+use Rattle.hart.specs.Answered.{Answers, AreAllowed, HasEffect, IsStep, Sight, act_by, cycle_by, fetched_by, given, load_by, put_at, seen, store_by, stored, word_by}
 use Rattle.hart.proofs.ChangeLemmas.{stored-entry}
 use Rattle.hart.specs.Changes.{Stores, changed, put_in}
 use Rattle.hart.proofs.CycleLemmas.{cycle-stores}
@@ -112,7 +112,7 @@ with_answer-allowed held ram root access address o answers allowed is a b =
 
 -- ---- steps without an access
 
-pub does_computes : (effect : Effect) (answers : Answers) (result : Option Trap) (old new : Hart) (ram : List (List ℕ)) → Computes effect result old new → Does effect answers result old new ram ram
+pub does_computes : (effect : Effect) (answers : Answers) (result : Option Trap) (old new : Hart) (ram : List (List ℕ)) → Computes effect result old new → HasEffect effect answers result old new ram ram
 does_computes (Ok d) answers result old new ram h = (h.0, h.1, h.2, h.3, ap (stored ram answers) (sym h.4))
 does_computes (Err t) answers result old new ram h = (h.0, h.1, refl)
 
@@ -145,7 +145,7 @@ pub step_acts : (held : Held) (i : Instr) (result : Option Trap) (old new : Hart
     → IsStep held (act_by i old.registers old.pc) result old new ram ram
 step_acts held i result old new ram none h =
     let answers : Answers = walked ram old.root.0 in
-    let P : Effect → Type 0 = λ e. Does e answers result old new ram ram in
+    let P : Effect → Type 0 = λ e. HasEffect e answers result old new ram ram in
     record {
       answers = answers;
       allowed = λ access address. inl refl;
@@ -157,7 +157,7 @@ step_acts held i result old new ram none h =
 -- the meaning looks at one access alone, and was answered so
 pub step_answered : (held : Held) (meaning : Sight → Effect) (result : Option Trap) (old new : Hart) (ram ram' : List (List ℕ)) (access : Access) (address : ℕ) (o : Option ℕ)
     → IsAnswer held ram old.root.0 address access (option_map (place_in address) o)
-    → ((answers : Answers) → answers access address ≡ o → Does (meaning (seen ram answers)) answers result old new ram ram')
+    → ((answers : Answers) → answers access address ≡ o → HasEffect (meaning (seen ram answers)) answers result old new ram ram')
     → IsStep held meaning result old new ram ram'
 step_answered held meaning result old new ram ram' access address o is does =
     let answers : Answers = with_answer access address o (walked ram old.root.0) in
@@ -169,7 +169,7 @@ step_answered held meaning result old new ram ram' access address o is does =
 
 -- ---- traps
 
-pub trap-still : (effect : Effect) (answers : Answers) (result : Option Trap) (old new : Hart) (ram ram' : List (List ℕ)) → Does effect answers result old new ram ram'
+pub trap-still : (effect : Effect) (answers : Answers) (result : Option Trap) (old new : Hart) (ram ram' : List (List ℕ)) → HasEffect effect answers result old new ram ram'
     → IfSome result (λ t. (new ≡ old) × (ram' ≡ ram))
 trap-still (Ok d) answers result old new ram ram' h = rw h.0 tt
 trap-still (Err t) answers result old new ram ram' h = rw h.0 (h.1, h.2)
@@ -244,8 +244,8 @@ stored-fetch : (ram : List (List ℕ)) (at : ℕ) (o : Option ℕ) (answers : An
 stored-fetch ram at o answers Nothing = refl
 stored-fetch ram at o answers (Bytes address bytes) = refl
 
-does-fetch : (effect : Effect) (at : ℕ) (o : Option ℕ) (answers : Answers) (result : Option Trap) (old new : Hart) (ram ram' : List (List ℕ)) → Does effect answers result old new ram ram'
-    → Does effect (with_answer Fetch at o answers) result old new ram ram'
+does-fetch : (effect : Effect) (at : ℕ) (o : Option ℕ) (answers : Answers) (result : Option Trap) (old new : Hart) (ram ram' : List (List ℕ)) → HasEffect effect answers result old new ram ram'
+    → HasEffect effect (with_answer Fetch at o answers) result old new ram ram'
 does-fetch (Ok d) at o answers result old new ram ram' h = (h.0, h.1, h.2, h.3, h.4 ∙ sym (stored-fetch ram at o answers d.change))
 does-fetch (Err t) at o answers result old new ram ram' h = h
 
@@ -285,7 +285,7 @@ step-executed held mid ram ram' old new result f word i is kept read found step 
       answers = answers;
       allowed = with_answer-allowed held ram old.root.0 Fetch old.pc (Some f) step.answers before is;
       does =
-          let P : Effect → Type 0 = λ e. Does e answers result old new ram ram' in
+          let P : Effect → Type 0 = λ e. HasEffect e answers result old new ram ram' in
           subst P (sym is_act) (does-fetch (act_by i old.registers old.pc (seen ram step.answers)) old.pc (Some f) step.answers result old new ram ram' step.does);
     }
 
@@ -397,7 +397,7 @@ stored-changed ram mapping answers (Bytes address bytes) shown stores =
 does-follows : (effect : Effect) (mapping : List Mapped) (answers : Answers) (result : Option Trap) (old new : Hart) (ram ram' : List (List ℕ))
     → ((access : Access) (address : ℕ) → answers access address ≡ frame_for mapping (address / 4096) access)
     → ((d : Computed) → effect ≡ Ok d → Stores (memory_of ram mapping) d.change)
-    → Does effect answers result old new ram ram' → Follows effect mapping result old new ram ram'
+    → HasEffect effect answers result old new ram ram' → Follows effect mapping result old new ram ram'
 does-follows (Ok d) mapping answers result old new ram ram' shown stores h =
     (h.0, h.1, h.2, h.3, h.4 ∙ stored-changed ram mapping answers d.change shown (stores d refl))
 does-follows (Err t) mapping answers result old new ram ram' shown stores h = h
@@ -409,7 +409,7 @@ step-follows held mapping result old new ram ram' shows step =
     let mem : Memory = memory_of ram mapping in
     let is : cycle_by old.registers old.pc (seen ram step.answers) ≡ cycle old.registers old.pc mem =
     cycle_by-alike old.registers old.pc (seen ram step.answers) mem (seen-alike held ram old.root.0 mapping step.answers shows step.allowed) in
-    let P : Effect → Type 0 = λ e. Does e step.answers result old new ram ram' in
+    let P : Effect → Type 0 = λ e. HasEffect e step.answers result old new ram ram' in
     does-follows (cycle old.registers old.pc mem) mapping step.answers result old new ram ram'
     (shown-answer held ram old.root.0 mapping step.answers shows step.allowed)
     (cycle-stores old.registers old.pc mem)

@@ -78,8 +78,8 @@ stored ram answers Nothing = ram
 stored ram answers (Bytes address bytes) = put_at ram (answers Store address) (address % 4096) bytes
 
 -- The registers, the pc and the frames are the effect's. A trap changes nothing.
-abbrev pub Does : Effect → Answers → Option Trap → Hart → Hart → List (List ℕ) → List (List ℕ) → Type 0
-Does effect answers result old new ram ram' = MatchResult effect
+abbrev pub HasEffect : Effect → Answers → Option Trap → Hart → Hart → List (List ℕ) → List (List ℕ) → Type 0
+HasEffect effect answers result old new ram ram' = MatchResult effect
     (λ d. (result ≡ None) × (new.registers ≡ d.regs) × (new.pc ≡ d.pc) × (new.root ≡ old.root) × (ram' ≡ stored ram answers d.change))
     (λ t. (result ≡ Some t) × (new ≡ old) × (ram' ≡ ram))
 
@@ -88,4 +88,4 @@ Does effect answers result old new ram ram' = MatchResult effect
 pub record IsStep (held : Held) (meaning : Sight → Effect) (result : Option Trap) (old new : Hart) (ram ram' : List (List ℕ)) : Type 0 where
   pub answers : Answers
   pub allowed : AreAllowed held ram old.root.0 answers
-  pub does : Does (meaning (seen ram answers)) answers result old new ram ram'
+  pub does : HasEffect (meaning (seen ram answers)) answers result old new ram ram'

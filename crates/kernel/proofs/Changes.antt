@@ -25,7 +25,7 @@ use Rattle.proc.specs.Places as table
 use Rattle.proc.specs.Places.{Places, changed_at, exited, orphaned, zombie_of}
 use Rattle.proc.proofs.Joined.{with_zombie-with_table}
 use Rattle.proc.specs.Whole.{with_memory, with_table}
-use Rattle.spaces.specs.Spaces.{Held, Spaces, taken_frames}
+use Rattle.spaces.specs.Spaces.{SpaceView, Spaces, taken_frames}
 use Rattle.unixmodel.specs.declared.process.Mode.{Mode}
 use Rattle.unixmodel.specs.declared.process.Mode.TheVariants.{Ready, Running, Waiting, Zombie}
 use Rattle.unixmodel.specs.Files.{put, slot}
@@ -39,7 +39,7 @@ use Rattle.unixmodel.specs.State.{State, holds, put_process}
 -- ---- places
 
 -- where the process of a place is another one
-pub stands-put : (os : List (Option Process)) (hs : List (Option Held)) (i : ℕ) (o : Option Process) → i < length os → IsPlace o (slot hs i)
+pub stands-put : (os : List (Option Process)) (hs : List (Option SpaceView)) (i : ℕ) (o : Option Process) → i < length os → IsPlace o (slot hs i)
     → ((j : ℕ) → IsPlace (slot os j) (slot hs j)) → (j : ℕ) → IsPlace (slot (slice_set os i o) j) (slot hs j)
 stands-put os hs i o short is stands j = elim (same_or_not j i) [
   | inl same ↦ rw (same, slot-put os i o short) is
@@ -53,13 +53,13 @@ mode-kept s p m (Waiting w) is = (record { descriptors = is.0.descriptors }, is.
 mode-kept s p m (Zombie status) is = record { descriptors = is.descriptors; directory = is.directory }
 
 -- the hart's process stands as well as its table's
-hart-placed : (s : Spaces) → slice_index s.registers 0 ≡ 0 → s.pc % 4 ≡ 0 → (o : Option Process) (q : Option Held) → IsPlace o q → IsPlace (option_map (on_hart s) o) q
+hart-placed : (s : Spaces) → slice_index s.registers 0 ≡ 0 → s.pc % 4 ≡ 0 → (o : Option Process) (q : Option SpaceView) → IsPlace o q → IsPlace (option_map (on_hart s) o) q
 hart-placed s zero' aligned None None is = is
 hart-placed s zero' aligned None (Some h) is = is
 hart-placed s zero' aligned (Some p) None is = is
 hart-placed s zero' aligned (Some p) (Some h) is = record { size = is.size; zero = zero'; aligned = aligned; mode = mode-kept s p h.memory p.mode is.mode }
 
-changed-placed : (s : Spaces) → slice_index s.registers 0 ≡ 0 → s.pc % 4 ≡ 0 → (os : List (Option Process)) (hs : List (Option Held)) (i : ℕ) → ((j : ℕ) → IsPlace (slot os j) (slot hs j))
+changed-placed : (s : Spaces) → slice_index s.registers 0 ≡ 0 → s.pc % 4 ≡ 0 → (os : List (Option Process)) (hs : List (Option SpaceView)) (i : ℕ) → ((j : ℕ) → IsPlace (slot os j) (slot hs j))
     → (j : ℕ) → IsPlace (slot (slice_set os i (option_map (on_hart s) (slot os i))) j) (slot hs j)
 changed-placed s z a [] hs i is j = is j
 changed-placed s z a (o ∷ os) hs zero is zero = hart-placed s z a o (slot hs 0) (is 0)
@@ -149,7 +149,7 @@ left_to k i q = record k { table = with_process k.table i q; spaces = idle k.spa
 pub other-at : (i j : ℕ) → j ≢ i → nat_eq i j ≡ false
 other-at i j other = ne_eqb i j (λ e. other (sym e))
 
-module _ (k : Kernel) (i : ℕ) (p : Process) (h : Held) (r : IsRun k i p h) (is : IsKernel k) where
+module _ (k : Kernel) (i : ℕ) (p : Process) (h : SpaceView) (r : IsRun k i p h) (is : IsKernel k) where
   pub left-as : (mode : Mode) → left_as k i mode ≡ left_to k i (record p { registers = k.spaces.registers; pc = k.spaces.pc; mode = mode })
   left-as mode = rw r.process refl
 
@@ -186,7 +186,7 @@ parent-kept p m Ready is = record { descriptors = is.descriptors }
 parent-kept p m (Waiting w) is = (record { descriptors = is.0.descriptors }, is.1)
 parent-kept p m (Zombie status) is = record { descriptors = is.descriptors; directory = is.directory }
 
-orphan-placed : (pid : ℕ) (o : Option Process) (q : Option Held) → IsPlace o q → IsPlace (option_map (orphaned pid) o) q
+orphan-placed : (pid : ℕ) (o : Option Process) (q : Option SpaceView) → IsPlace o q → IsPlace (option_map (orphaned pid) o) q
 orphan-placed pid None None is = is
 orphan-placed pid None (Some h) is = is
 orphan-placed pid (Some p) None is = is
@@ -234,7 +234,7 @@ ended-made k i q status there pids =
     }
 
 -- k: the loaded table has process q in place i, which lives, and no other place runs
-module _ (k : Kernel) (is : IsKernel k) (z : slice_index k.spaces.registers 0 ≡ 0) (a : k.spaces.pc % 4 ≡ 0) (i : ℕ) (q : Process) (h : Held)
+module _ (k : Kernel) (is : IsKernel k) (z : slice_index k.spaces.registers 0 ≡ 0) (a : k.spaces.pc % 4 ≡ 0) (i : ℕ) (q : Process) (h : SpaceView)
     (there : slot (loaded k).places i ≡ Some q) (space : slot k.spaces.places i ≡ Some h) (pids : halted_by (slot k.table.places i) ≡ halted_by (Some q)) (alone : (j : ℕ) → j ≢ i → is_at j k.spaces.active ≡ false) (alive : lives q ≡ true) (status : ℤ) where
   abbrev orphans : List (Option Process)
   orphans = map (option_map (orphaned q.pid)) (loaded k).places

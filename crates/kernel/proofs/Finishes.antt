@@ -23,7 +23,7 @@ use Rattle.files.specs.Places.{Counted, opens_of}
 use Rattle.proc.specs.declared.process.Process.{Process}
 use Rattle.proc.specs.Places.{Places, exited}
 use Rattle.proc.specs.Whole.{with_memory}
-use Rattle.spaces.specs.Spaces.{Held}
+use Rattle.spaces.specs.Spaces.{SpaceView}
 use Rattle.unixmodel.specs.Calls.{end_at}
 use Rattle.unixmodel.specs.Files.{slot}
 use Rattle.unixmodel.specs.Memory.{Memory}
@@ -32,22 +32,22 @@ use Rattle.unixmodel.specs.State.{State, process_at}
 -- ---- where none runs
 
 -- process p, which lives, stands in place i with its space
-pub record IsThere (k : Kernel) (i : ℕ) (p : Process) (h : Held) : Type 0 where
+pub record IsThere (k : Kernel) (i : ℕ) (p : Process) (h : SpaceView) : Type 0 where
   pub process : slot k.table.places i ≡ Some p
   pub space : slot k.spaces.places i ≡ Some h
   pub placed : IsPlaced p h
 
-there-go : (k : Kernel) (i : ℕ) (p : Process) (o : Option Process) (q : Option Held) → slot k.table.places i ≡ o → slot k.spaces.places i ≡ q → IsPlace o q → o ≡ Some p → (h : Held) × IsThere k i p h
+there-go : (k : Kernel) (i : ℕ) (p : Process) (o : Option Process) (q : Option SpaceView) → slot k.table.places i ≡ o → slot k.spaces.places i ≡ q → IsPlace o q → o ≡ Some p → (h : SpaceView) × IsThere k i p h
 there-go k i p None q process space is at = absurd (cc)
 there-go k i p (Some x) None process space is at = absurd is
 there-go k i p (Some x) (Some h) process space is at =
     let e : x ≡ p = cc in
     (h, record { process = process ∙ at; space = space; placed = subst (λ (y : Process). IsPlaced y h) e is })
 
-pub there-of : (k : Kernel) (i : ℕ) (p : Process) → IsKernel k → slot k.table.places i ≡ Some p → (h : Held) × IsThere k i p h
+pub there-of : (k : Kernel) (i : ℕ) (p : Process) → IsKernel k → slot k.table.places i ≡ Some p → (h : SpaceView) × IsThere k i p h
 there-of k i p is at = there-go k i p (slot k.table.places i) (slot k.spaces.places i) refl refl (is.stands i) at
 
-module _ (k : Kernel) (i : ℕ) (p : Process) (h : Held) (is : IsKernel k) (none : k.spaces.active ≡ None) (t : IsThere k i p h) (alive : lives p ≡ true) where
+module _ (k : Kernel) (i : ℕ) (p : Process) (h : SpaceView) (is : IsKernel k) (none : k.spaces.active ≡ None) (t : IsThere k i p h) (alive : lives p ≡ true) where
   pub process-idle : process_at (state_of k) i ≡ Some (with_memory h.memory p)
   process-idle =
       let memory : slice_index_or (memories k.spaces) i [] ≡ h.memory = memory-at k.spaces i ∙ ap memory_in t.space in
@@ -133,7 +133,7 @@ finish-is k i q status is can at =
     ap (λ (t : Places). record (finished k i q status) { table = exited t i status }) (sym w.put)
     ∙ ended-made k i q status at w.pids
 
-space-go : (o : Option Process) (q : Option Held) (p : Process) → IsPlace o q → o ≡ Some p → (h : Held) × (q ≡ Some h)
+space-go : (o : Option Process) (q : Option SpaceView) (p : Process) → IsPlace o q → o ≡ Some p → (h : SpaceView) × (q ≡ Some h)
 space-go None q p is at = absurd (cc)
 space-go (Some x) None p is at = absurd is
 space-go (Some x) (Some h) p is at = (h, refl)

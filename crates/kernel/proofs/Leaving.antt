@@ -8,7 +8,7 @@ use Rattle.kernel.proofs.Reaped.{reap-state}
 use Rattle.kernel.proofs.Runs.{IsRun, home-running, loaded-run, process-run, self, slot-put, within-run}
 use Rattle.kernel.proofs.Running.{change-run, live}
 use Rattle.proc.specs.declared.process.Process.{Process}
-use Rattle.spaces.specs.Spaces.{Held}
+use Rattle.spaces.specs.Spaces.{SpaceView}
 use Rattle.unixmodel.specs.Calls.{end_at}
 use Rattle.unixmodel.specs.declared.process.Mode.{Mode}
 use Rattle.unixmodel.specs.Process.{is_zombie_mode}
@@ -20,7 +20,7 @@ use Rattle.unixmodel.specs.Process as unix
 use Rattle.unixmodel.specs.Reap.{reap}
 use Rattle.unixmodel.specs.State.{change_process, process_at}
 
-module _ (k : Kernel) (i : ℕ) (p : Process) (h : Held) (r : IsRun k i p h) (is : IsKernel k) where
+module _ (k : Kernel) (i : ℕ) (p : Process) (h : SpaceView) (r : IsRun k i p h) (is : IsKernel k) where
   module _ (z : slice_index k.spaces.registers 0 ≡ 0) (a : k.spaces.pc % 4 ≡ 0) where
     there : slot (loaded k).places i ≡ Some (on_hart k.spaces p)
     there = ap (λ t. slot t.places i) (loaded-run k i p h r) ∙ slot-put k.table.places i (Some (on_hart k.spaces p)) (within-run k i p h r)

@@ -12,7 +12,7 @@ use Rattle.kernel.proofs.Runs.{runs-set, set-slot, slot-within, with_process}
 use Rattle.proc.specs.declared.process.Process.{Process}
 use Rattle.proc.specs.Places as table
 use Rattle.proc.specs.Places.{with_mark}
-use Rattle.spaces.specs.Spaces.{Held}
+use Rattle.spaces.specs.Spaces.{SpaceView}
 use Rattle.unixmodel.specs.declared.process.Mode.{Mode}
 use Rattle.unixmodel.specs.declared.process.Mode.TheVariants.{Ready, Running, Waiting, Zombie}
 use Rattle.unixmodel.specs.Files.{slot}
@@ -26,7 +26,7 @@ mark-mode p m Ready rests is = record { descriptors = is.descriptors }
 mark-mode p m (Waiting w) rests is = (record { descriptors = is.0.descriptors }, is.1)
 mark-mode p m (Zombie status) rests is = record { descriptors = is.descriptors; directory = is.directory }
 
-mark-placed : (q : Process) (o : Option Held) → is_running_mode q.mode ≡ false → IsPlace (Some q) o → IsPlace (Some (with_mark q)) o
+mark-placed : (q : Process) (o : Option SpaceView) → is_running_mode q.mode ≡ false → IsPlace (Some q) o → IsPlace (Some (with_mark q)) o
 mark-placed q None rests is = is
 mark-placed q (Some h) rests is = record { size = is.size; zero = is.zero; aligned = is.aligned; mode = mark-mode q h.memory q.mode rests is.mode }
 

@@ -13,7 +13,7 @@ use Rattle.files.proofs.Whole.{length-opens, without_opens-same}
 use Rattle.proc.specs.declared.process.Process.{Process}
 use Rattle.proc.specs.Places.{Places, changed_at}
 use Rattle.proc.specs.Whole.{joined, with_memory}
-use Rattle.spaces.specs.Spaces.{Held, Spaces, frames_in, taken_frames}
+use Rattle.spaces.specs.Spaces.{SpaceView, Spaces, frames_in, taken_frames}
 use Rattle.unixmodel.specs.Counts.{blocks_of, frames_of, is_within, process_frames}
 use Rattle.unixmodel.specs.Files.{slot, taken}
 use Rattle.unixmodel.specs.Memory.{Memory}
@@ -29,24 +29,24 @@ use Rattle.unixmodel.specs.State.{State}
 -- ---- processes and spaces
 
 -- a place has a process exactly where it has a space
-abbrev pub IsMatch : Option Process → Option Held → Type 0
+abbrev pub IsMatch : Option Process → Option SpaceView → Type 0
 IsMatch None None = Unit {0}
 IsMatch None (Some h) = ⊥
 IsMatch (Some p) None = ⊥
 IsMatch (Some p) (Some h) = Unit {0}
 
-pub match-place : (o : Option Process) (q : Option Held) → IsPlace o q → IsMatch o q
+pub match-place : (o : Option Process) (q : Option SpaceView) → IsPlace o q → IsMatch o q
 match-place None None is = tt
 match-place None (Some h) is = absurd is
 match-place (Some p) None is = absurd is
 match-place (Some p) (Some h) is = tt
 
-match-on : (s : Spaces) (o : Option Process) (q : Option Held) → IsMatch o q → IsMatch (option_map (on_hart s) o) q
+match-on : (s : Spaces) (o : Option Process) (q : Option SpaceView) → IsMatch o q → IsMatch (option_map (on_hart s) o) q
 match-on s None q is = is
 match-on s (Some p) None is = is
 match-on s (Some p) (Some h) is = tt
 
-match-changed : (s : Spaces) (os : List (Option Process)) (hs : List (Option Held)) (i : ℕ) → ((j : ℕ) → IsMatch (slot os j) (slot hs j))
+match-changed : (s : Spaces) (os : List (Option Process)) (hs : List (Option SpaceView)) (i : ℕ) → ((j : ℕ) → IsMatch (slot os j) (slot hs j))
     → (j : ℕ) → IsMatch (slot (slice_set os i (option_map (on_hart s) (slot os i))) j) (slot hs j)
 match-changed s [] hs i is j = is j
 match-changed s (o ∷ os) hs zero is zero = match-on s o (slot hs 0) (is 0)
@@ -69,7 +69,7 @@ opened-loaded k is = opened-active k k.files k.spaces.pipes k.spaces.active is.o
 -- ---- nothing is given up
 
 -- a zombie works nowhere
-away-in : (o : Option Process) (q : Option Held) → IsPlace o q → (p : Process) → o ≡ Some p → is_zombie_mode p.mode ≡ true → p.directory ≡ 0
+away-in : (o : Option Process) (q : Option SpaceView) → IsPlace o q → (p : Process) → o ≡ Some p → is_zombie_mode p.mode ≡ true → p.directory ≡ 0
 away-in None q is p at zombie = absurd (none-some p at)
 away-in (Some x) None is p at zombie = absurd is
 away-in (Some x) (Some h) is p at zombie = let same : x ≡ p = same_Some x p at in go x h.memory x.mode is.mode (ap (λ (y : Process). is_zombie_mode y.mode) same ∙ zombie) (ap (λ (y : Process). y.directory) same) where
@@ -79,7 +79,7 @@ away-in (Some x) (Some h) is p at zombie = let same : x ≡ p = same_Some x p at
   go x m (Waiting w) is zombie same = absurd (let bad : false ≡ true = zombie in cc)
   go x m (Zombie status) is zombie same = sym same ∙ is.directory
 
-pub are-away : (os : List (Option Process)) (hs : List (Option Held)) → ((j : ℕ) → IsPlace (slot os j) (slot hs j)) → AreAway os
+pub are-away : (os : List (Option Process)) (hs : List (Option SpaceView)) → ((j : ℕ) → IsPlace (slot os j) (slot hs j)) → AreAway os
 are-away os hs stands j p at zombie = away-in (slot os j) (slot hs j) (stands j) p at zombie
 
 pub reap-with : (k : Kernel) (t : Places) (ms : List Memory) → IsOpened k.files k.spaces.pipes t.places → IsInUse k.tree k.files t.places → AreAway t.places → reap (state_with t ms (rest_of k)) ≡ state_with t ms (rest_of k)
@@ -93,7 +93,7 @@ reap-with k t ms is used away =
 
 -- ---- frames
 
-sum-joined : (os : List (Option Process)) (hs : List (Option Held)) → ((i : ℕ) → IsMatch (slot os i) (slot hs i)) → sum_by process_frames (taken (joined os (map memory_in hs))) ≡ sum_by frames_in hs
+sum-joined : (os : List (Option Process)) (hs : List (Option SpaceView)) → ((i : ℕ) → IsMatch (slot os i) (slot hs i)) → sum_by process_frames (taken (joined os (map memory_in hs))) ≡ sum_by frames_in hs
 unfolding joined
 sum-joined [] [] stands = refl
 sum-joined [] (None ∷ hs) stands = omega (arith, sum_by-cons frames_in None hs, sum-joined [] hs (λ i. stands (suc i)))

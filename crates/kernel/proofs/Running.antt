@@ -6,7 +6,7 @@ use Rattle.kernel.specs.Sound.{IsKernel, IsLive, IsMode}
 use Rattle.kernel.proofs.Runs.{IsRun, moved, moved-state, process-run, self, set-slot, set-twice, slot-put}
 use Rattle.proc.specs.declared.process.Process.{Process}
 use Rattle.proc.specs.Whole.{with_memory}
-use Rattle.spaces.specs.Spaces.{Held}
+use Rattle.spaces.specs.Spaces.{SpaceView}
 use Rattle.unixmodel.specs.declared.process.Mode.{Mode}
 use Rattle.unixmodel.specs.declared.process.Mode.TheVariants.{Ready, Running, Waiting, Zombie}
 use Rattle.unixmodel.specs.Files.{put}
@@ -41,7 +41,7 @@ run-mode p memory Ready e is = absurd (cc)
 run-mode p memory (Waiting w) e is = absurd (cc)
 run-mode p memory (Zombie status) e is = absurd (cc)
 
-module _ (k : Kernel) (i : ℕ) (p : Process) (h : Held) (r : IsRun k i p h) (is : IsKernel k) where
+module _ (k : Kernel) (i : ℕ) (p : Process) (h : SpaceView) (r : IsRun k i p h) (is : IsKernel k) where
   pub regs-run : (registers : List ℕ) (pc : ℕ) → IsRun (on_regs k registers pc) i p h
   regs-run registers pc = record { active = r.active; process = r.process; space = r.space; placed = r.placed; runs = r.runs; up = r.up }
 

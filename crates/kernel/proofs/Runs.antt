@@ -15,7 +15,7 @@ use Rattle.proc.specs.Places as table
 use Rattle.proc.specs.Places.{Places, changed}
 use Rattle.proc.proofs.Joined.{put-joined, slot-joined}
 use Rattle.proc.specs.Whole.{with_memory, with_table}
-use Rattle.spaces.specs.Spaces.{Held, Spaces, has_space, taken_frames}
+use Rattle.spaces.specs.Spaces.{SpaceView, Spaces, has_space, taken_frames}
 use Rattle.unixmodel.specs.declared.process.Mode.{Mode}
 use Rattle.unixmodel.specs.declared.process.Mode.TheVariants.{Ready, Running, Waiting, Zombie}
 use Rattle.unixmodel.specs.Files.{put, slot}
@@ -65,7 +65,7 @@ module _ (s : State) (t : Places) (ms : List Memory) (i : ℕ) where
 
 -- ---- the running process
 
-pub record IsRun (k : Kernel) (i : ℕ) (p : Process) (h : Held) : Type 0 where
+pub record IsRun (k : Kernel) (i : ℕ) (p : Process) (h : SpaceView) : Type 0 where
   pub active : k.spaces.active ≡ Some i
   pub process : slot k.table.places i ≡ Some p
   pub space : slot k.spaces.places i ≡ Some h
@@ -82,8 +82,8 @@ running-mode Ready h = absurd (cc)
 running-mode (Waiting w) h = absurd (cc)
 running-mode (Zombie status) h = absurd (cc)
 
-run-go : (k : Kernel) (i : ℕ) (o : Option Process) (q : Option Held) → k.tree.failed ≡ false → k.spaces.active ≡ Some i → slot k.table.places i ≡ o → slot k.spaces.places i ≡ q → IsPlace o q → holds table.is_running o ≡ true
-    → (p : Process) × ((h : Held) × IsRun k i p h)
+run-go : (k : Kernel) (i : ℕ) (o : Option Process) (q : Option SpaceView) → k.tree.failed ≡ false → k.spaces.active ≡ Some i → slot k.table.places i ≡ o → slot k.spaces.places i ≡ q → IsPlace o q → holds table.is_running o ≡ true
+    → (p : Process) × ((h : SpaceView) × IsRun k i p h)
 run-go k i None q up active process space stands runs = absurd (cc)
 run-go k i (Some p) None up active process space stands runs = absurd stands
 run-go k i (Some p) (Some h) up active process space stands runs = (
@@ -102,29 +102,29 @@ run-go k i (Some p) (Some h) up active process space stands runs = (
 )
 
 -- the active place has the running process
-pub run-of : (k : Kernel) (i : ℕ) → IsKernel k → k.spaces.active ≡ Some i → (p : Process) × ((h : Held) × IsRun k i p h)
+pub run-of : (k : Kernel) (i : ℕ) → IsKernel k → k.spaces.active ≡ Some i → (p : Process) × ((h : SpaceView) × IsRun k i p h)
 run-of k i is active =
     let here : is_at i k.spaces.active ≡ true = rw active (eq-self i) in
     run-go k i (slot k.table.places i) (slot k.spaces.places i) (is.filed.up i active) active refl refl (is.stands i) (is.runs i ∙ here)
 
-pub place-space : (o : Option Process) (q : Option Held) (p : Process) → o ≡ Some p → IsPlace o q → is_some q ≡ true
+pub place-space : (o : Option Process) (q : Option SpaceView) (p : Process) → o ≡ Some p → IsPlace o q → is_some q ≡ true
 place-space None q p e is = absurd (cc)
 place-space (Some r) None p e is = absurd is
 place-space (Some r) (Some h) p e is = refl
 
 -- over the fields: k is what they show, and now is the kernel's value
 module _ (k now : Kernel) (i : ℕ) (same : k ≡ now) (is : IsKernel k) (active : now.spaces.active ≡ Some i) where
-  abbrev pub run-now : (p : Process) × ((h : Held) × IsRun k i p h)
+  abbrev pub run-now : (p : Process) × ((h : SpaceView) × IsRun k i p h)
   run-now = run-of k i is (ap (λ (x : Kernel). x.spaces.active) same ∙ active)
 
   pub active-space : has_space k.spaces i ≡ true
   active-space = ap is_some run-now.1.1.space
 
 -- as the abstract Unix sees it
-abbrev pub self : Kernel → Process → Held → unix.Process
+abbrev pub self : Kernel → Process → SpaceView → unix.Process
 self k p h = with_memory h.memory (on_hart k.spaces p)
 
-module _ (k : Kernel) (i : ℕ) (p : Process) (h : Held) (r : IsRun k i p h) where
+module _ (k : Kernel) (i : ℕ) (p : Process) (h : SpaceView) (r : IsRun k i p h) where
   pub loaded-run : loaded k ≡ with_process k.table i (on_hart k.spaces p)
   loaded-run = rw (r.active, r.process) refl
 
@@ -149,14 +149,14 @@ home-running p runs = ap (λ (m : Mode). if is_zombie_mode m then None else Some
 -- ---- the running process alone changes
 
 -- it is p now, but for its registers and its pc, and its space shows h
-abbrev pub moved : Kernel → ℕ → Process → Held → List ℕ → ℕ → Kernel
+abbrev pub moved : Kernel → ℕ → Process → SpaceView → List ℕ → ℕ → Kernel
 moved k i p h registers pc = record k {
   table = with_process k.table i p;
   spaces = record k.spaces { places = slice_set k.spaces.places i (Some h); registers = registers; pc = pc };
 }
 
 -- where a place has another process and another space
-pub stands-set : (os : List (Option Process)) (hs : List (Option Held)) (i : ℕ) (o : Option Process) (q : Option Held) → i < length os → i < length hs → IsPlace o q
+pub stands-set : (os : List (Option Process)) (hs : List (Option SpaceView)) (i : ℕ) (o : Option Process) (q : Option SpaceView) → i < length os → i < length hs → IsPlace o q
     → ((j : ℕ) → IsPlace (slot os j) (slot hs j)) → (j : ℕ) → IsPlace (slot (slice_set os i o) j) (slot (slice_set hs i q) j)
 stands-set os hs i o q short low is stands j = elim (same_or_not j i) [
   | inl same ↦ rw (same, slot-put os i o short, slot-put hs i q low) is
@@ -172,11 +172,11 @@ runs-set os i o before after short here others runs j = elim (same_or_not j i) [
   | inr other ↦ rw (slot-other os i j o other, others j other) (runs j)
 ]
 
-module _ (k : Kernel) (i : ℕ) (p : Process) (h : Held) (r : IsRun k i p h) (is : IsKernel k) where
+module _ (k : Kernel) (i : ℕ) (p : Process) (h : SpaceView) (r : IsRun k i p h) (is : IsKernel k) where
   pub within-space : i < length k.spaces.places
   within-space = slot-within k.spaces.places i h r.space
 
-  module _ (p' : Process) (h' : Held) (registers : List ℕ) (pc : ℕ) (placed : IsPlaced p' h') (runs : p'.mode ≡ Running) where
+  module _ (p' : Process) (h' : SpaceView) (registers : List ℕ) (pc : ℕ) (placed : IsPlaced p' h') (runs : p'.mode ≡ Running) where
     pub moved-run : IsRun (moved k i p' h' registers pc) i p' h'
     moved-run = record {
       active = r.active;

@@ -12,7 +12,7 @@ use Rattle.proc.specs.declared.process.Process.{Process}
 use Rattle.proc.specs.Places.{Places, changed_at, has_pid, place_where}
 use Rattle.proc.proofs.Joined.{place_of_pid-with_table, place_where-Some, slot-joined}
 use Rattle.proc.specs.Whole.{with_memory}
-use Rattle.spaces.specs.Spaces.{Held, Spaces, has_space, held_at, no_pages, taken_frames}
+use Rattle.spaces.specs.Spaces.{SpaceView, Spaces, has_space, view_at, no_pages, taken_frames}
 use Rattle.unixmodel.specs.Counts.{frames_of}
 use Rattle.unixmodel.specs.Files.{slot}
 use Rattle.unixmodel.specs.Memory.{Memory}
@@ -83,7 +83,7 @@ loaded-some k i p (Some j) is = elim (same_or_not i j) [
   | inr other ↦ (p, slot-other k.table.places j i (option_map (on_hart k.spaces) (slot k.table.places j)) other ∙ is)
 ]
 
-memory-held : (o : Option Held) → memory_in o ≡ (unwrap_or o no_pages).memory
+memory-held : (o : Option SpaceView) → memory_in o ≡ (unwrap_or o no_pages).memory
 memory-held None = refl
 memory-held (Some h) = refl
 
@@ -94,7 +94,7 @@ module _ (k : Kernel) (pid i : ℕ) (found : place_where k.table.places (has_pid
       let p = place_where-Some (has_pid pid) k.table.places i found in
       place-space (slot k.table.places i) (slot k.spaces.places i) p.0 p.1.0 (is.stands i)
 
-  pub shown-some : (q : Process) × (shown_process (state_of k) pid ≡ Some (with_memory (held_at k.spaces i).memory q))
+  pub shown-some : (q : Process) × (shown_process (state_of k) pid ≡ Some (with_memory (view_at k.spaces i).memory q))
   shown-some =
       let p = place_where-Some (has_pid pid) k.table.places i found in
       let q = loaded-some k i p.0 k.spaces.active p.1.0 in (
@@ -103,10 +103,10 @@ module _ (k : Kernel) (pid i : ℕ) (found : place_where k.table.places (has_pid
             ∙ ap (λ (m : Memory). Some (with_memory m q.0)) (memory-held (slot k.spaces.places i)),
       )
 
-  pub page-shown : (n : ℕ) → shown_page (state_of k) pid n ≡ slice_get (held_at k.spaces i).memory n
+  pub page-shown : (n : ℕ) → shown_page (state_of k) pid n ≡ slice_get (view_at k.spaces i).memory n
   page-shown n = ap (option_and_then (λ (p : unix.Process). slice_get p.memory n)) shown-some.1
 
-  pub tables-shown : (ram : List (List ℕ)) (root : ℕ) → ShowsMemory ram root (held_at k.spaces i).memory → IfSome (shown_process (state_of k) pid) (λ p. ShowsMemory ram root p.memory)
+  pub tables-shown : (ram : List (List ℕ)) (root : ℕ) → ShowsMemory ram root (view_at k.spaces i).memory → IfSome (shown_process (state_of k) pid) (λ p. ShowsMemory ram root p.memory)
   tables-shown ram root shows = rw shown-some.1 shows
 
   pub some-shown : is_some (shown_process (state_of k) pid) ≡ true

@@ -13,7 +13,7 @@ use Rattle.kernel.proofs.Runs.{IsRun, eq-self, memory-at, put-with, runs-set, se
 use Rattle.proc.specs.declared.process.Process.{Process}
 use Rattle.proc.specs.Places.{changed, with_mode}
 use Rattle.proc.specs.Whole.{with_memory, with_table}
-use Rattle.spaces.specs.Spaces.{Held, has_space}
+use Rattle.spaces.specs.Spaces.{SpaceView, has_space}
 use Rattle.unixmodel.specs.Calls.{quiet}
 use Rattle.unixmodel.specs.declared.process.Mode.{Mode}
 use Rattle.unixmodel.specs.declared.process.Mode.TheVariants.{Ready, Running}
@@ -28,13 +28,13 @@ use Rattle.unixmodel.specs.State.{State, put_process}
 pub picked-state : (k : Kernel) (i : ℕ) → k.spaces.active ≡ None → state_of (picked k i) ≡ record (state_of k) { last = i }
 picked-state k i idle = rw idle refl
 
-placed-is : (o : Option Process) (q : Option Held) (p : Process) (h : Held) → o ≡ Some p → q ≡ Some h → IsPlace o q → IsPlaced p h
+placed-is : (o : Option Process) (q : Option SpaceView) (p : Process) (h : SpaceView) → o ≡ Some p → q ≡ Some h → IsPlace o q → IsPlaced p h
 placed-is None q p h at space is = absurd (cc)
 placed-is (Some x) None p h at space is = absurd (cc)
-placed-is (Some x) (Some y) p h at space is = let e : x ≡ p = cc in let f : y ≡ h = cc in subst (λ (z : Process). IsPlaced z h) e (subst (λ (z : Held). IsPlaced x z) f is)
+placed-is (Some x) (Some y) p h at space is = let e : x ≡ p = cc in let f : y ≡ h = cc in subst (λ (z : Process). IsPlaced z h) e (subst (λ (z : SpaceView). IsPlaced x z) f is)
 
 -- process p, which lives, stands in place i, and none runs
-module _ (k : Kernel) (i : ℕ) (p : Process) (h : Held) (is : IsKernel k) (idle : k.spaces.active ≡ None) (process : slot k.table.places i ≡ Some p) (space : slot k.spaces.places i ≡ Some h) (alive : lives p ≡ true) where
+module _ (k : Kernel) (i : ℕ) (p : Process) (h : SpaceView) (is : IsKernel k) (idle : k.spaces.active ≡ None) (process : slot k.table.places i ≡ Some p) (space : slot k.spaces.places i ≡ Some h) (alive : lives p ≡ true) where
   table-idle : loaded k ≡ k.table
   table-idle = rw idle refl
 
@@ -131,19 +131,19 @@ module _ (k : Kernel) (i : ℕ) (p : Process) (h : Held) (is : IsKernel k) (idle
 -- ---- over the fields
 
 -- a process that may run, with its space
-pub record IsIdle (k : Kernel) (i : ℕ) (p : Process) (h : Held) : Type 0 where
+pub record IsIdle (k : Kernel) (i : ℕ) (p : Process) (h : SpaceView) : Type 0 where
   pub process : slot k.table.places i ≡ Some p
   pub space : slot k.spaces.places i ≡ Some h
   pub alive : lives p ≡ true
   pub live : IsLive p
   pub free : p.killed ≡ false
 
-idle-go : (k : Kernel) (i : ℕ) (o : Option Process) (q : Option Held) → slot k.table.places i ≡ o → slot k.spaces.places i ≡ q → IsPlace o q → CanRun o → (p : Process) × ((h : Held) × IsIdle k i p h)
+idle-go : (k : Kernel) (i : ℕ) (o : Option Process) (q : Option SpaceView) → slot k.table.places i ≡ o → slot k.spaces.places i ≡ q → IsPlace o q → CanRun o → (p : Process) × ((h : SpaceView) × IsIdle k i p h)
 idle-go k i None q process space is can = absurd can
 idle-go k i (Some p) None process space is can = absurd is
 idle-go k i (Some p) (Some h) process space is can = (p, (h, record { process = process; space = space; alive = ap not can.1; live = can.0; free = can.2 }))
 
-pub idle-of : (k : Kernel) (i : ℕ) → IsKernel k → CanRun (slot k.table.places i) → (p : Process) × ((h : Held) × IsIdle k i p h)
+pub idle-of : (k : Kernel) (i : ℕ) → IsKernel k → CanRun (slot k.table.places i) → (p : Process) × ((h : SpaceView) × IsIdle k i p h)
 idle-of k i is can = idle-go k i (slot k.table.places i) (slot k.spaces.places i) refl refl (is.stands i) can
 
 -- what the hart takes over

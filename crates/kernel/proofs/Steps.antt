@@ -11,7 +11,7 @@ use Rattle.kernel.proofs.Runs.{IsRun, moved, moved-kernel, run-of, set-slot}
 use Rattle.kernel.proofs.Running.{live, not-killed, runs-mode}
 use Rattle.proc.specs.declared.process.Process.{Process}
 use Rattle.spaces.specs.Spaces as spaces
-use Rattle.spaces.specs.Spaces.{Held, Spaces, held_at, no_pages, taken_frames}
+use Rattle.spaces.specs.Spaces.{SpaceView, Spaces, view_at, no_pages, taken_frames}
 use Rattle.unixmodel.specs.Cycle.{cycle}
 use Rattle.unixmodel.specs.declared.process.Mode.TheVariants.{Ready}
 use Rattle.unixmodel.specs.declared.process.Pending.{Pending}
@@ -24,10 +24,10 @@ pub stop-keeps : (k : Kernel) (i : ℕ) → IsKernel k → k.spaces.active ≡ S
 stop-keeps k i is active z a = let run = run-of k i is active in stops-kernel k i run.0 run.1.0 run.1.1 is z a
 
 pub block-keeps : (k : Kernel) (i : ℕ) (w : Pending) → IsKernel k → k.spaces.active ≡ Some i → slice_index k.spaces.registers 0 ≡ 0 → k.spaces.pc % 4 ≡ 0
-    → IsPending (descriptors_at k i) (held_at k.spaces i).memory w w.number → IsAwaiting k.files (descriptors_at k i) w → IsKernel (blocked k i w)
+    → IsPending (descriptors_at k i) (view_at k.spaces i).memory w w.number → IsAwaiting k.files (descriptors_at k i) w → IsKernel (blocked k i w)
 block-keeps k i w is active z a pending for =
     let run = run-of k i is active in
-    let held : held_at k.spaces i ≡ run.1.0 = ap (λ o. unwrap_or o no_pages) run.1.1.space in
+    let held : view_at k.spaces i ≡ run.1.0 = ap (λ o. unwrap_or o no_pages) run.1.1.space in
     waits-kernel k i run.0 run.1.0 run.1.1 is z a w (rw (held, ap descriptors_in run.1.1.process) at pending) (rw (ap descriptors_in run.1.1.process) at for)
 
 -- where the device fails none runs any more
@@ -40,7 +40,7 @@ fail-keeps k now i t same is active z a down =
 
 -- ---- an instruction
 
-module _ (k : Kernel) (i : ℕ) (p : Process) (h : Held) (r : IsRun k i p h) (is : IsKernel k) where
+module _ (k : Kernel) (i : ℕ) (p : Process) (h : SpaceView) (r : IsRun k i p h) (is : IsKernel k) where
   -- the running process may have any memory
   pub placed-with : (memory : Memory) → IsPlaced p (record h { memory = memory })
   placed-with memory = record {
@@ -50,7 +50,7 @@ module _ (k : Kernel) (i : ℕ) (p : Process) (h : Held) (r : IsRun k i p h) (is
     mode = runs-mode p memory p.mode r.runs (live k i p h r is) (not-killed k i p h r is);
   }
 
-  pub held-run : held_at k.spaces i ≡ h
+  pub held-run : view_at k.spaces i ≡ h
   held-run = ap (λ o. unwrap_or o no_pages) r.space
 
   module _ (d : Computed) where
@@ -62,8 +62,8 @@ module _ (k : Kernel) (i : ℕ) (p : Process) (h : Held) (r : IsRun k i p h) (is
         rw computed-is (moved-kernel k i p h r is p (record h { memory = memory_after h.memory d.change }) d.regs d.pc (placed-with (memory_after h.memory d.change)) r.runs refl refl (subst (λ (x : Kernel). taken_frames x.spaces ≤ k.spaces.frames) computed-is fits))
 
 execute-ends : (k : Kernel) (i : ℕ) (new : Spaces) (result : Option Trap) → IsKernel k → k.spaces.active ≡ Some i → taken_frames new ≤ new.frames
-    → IfNone result (IfSome (Some i) (λ at. (d : Computed) × (cycle k.spaces.registers k.spaces.pc (held_at k.spaces at).memory ≡ Ok d) × (new ≡ spaces.computed k.spaces at d)))
-    → IfSome result (λ t. IfSome (Some i) (λ at. (cycle k.spaces.registers k.spaces.pc (held_at k.spaces at).memory ≡ Err t) × (new ≡ k.spaces)))
+    → IfNone result (IfSome (Some i) (λ at. (d : Computed) × (cycle k.spaces.registers k.spaces.pc (view_at k.spaces at).memory ≡ Ok d) × (new ≡ spaces.computed k.spaces at d)))
+    → IfSome result (λ t. IfSome (Some i) (λ at. (cycle k.spaces.registers k.spaces.pc (view_at k.spaces at).memory ≡ Err t) × (new ≡ k.spaces)))
     → IsKernel (record k { spaces = new })
 execute-ends k i new None is active fits done trap =
     let run = run-of k i is active in
@@ -73,11 +73,11 @@ execute-ends k i new None is active fits done trap =
 execute-ends k i new (Some t) is active fits done trap = rw trap.1 is
 
 pub execute-closes : (k now : Kernel) (i : ℕ) (new : Spaces) (result : Option Trap) → k ≡ now → IsKernel k → now.spaces.active ≡ Some i → taken_frames new ≤ new.frames
-    → IfNone result (IfSome k.spaces.active (λ at. (d : Computed) × (cycle k.spaces.registers k.spaces.pc (held_at k.spaces at).memory ≡ Ok d) × (new ≡ spaces.computed k.spaces at d)))
-    → IfSome result (λ t. IfSome k.spaces.active (λ at. (cycle k.spaces.registers k.spaces.pc (held_at k.spaces at).memory ≡ Err t) × (new ≡ k.spaces)))
+    → IfNone result (IfSome k.spaces.active (λ at. (d : Computed) × (cycle k.spaces.registers k.spaces.pc (view_at k.spaces at).memory ≡ Ok d) × (new ≡ spaces.computed k.spaces at d)))
+    → IfSome result (λ t. IfSome k.spaces.active (λ at. (cycle k.spaces.registers k.spaces.pc (view_at k.spaces at).memory ≡ Err t) × (new ≡ k.spaces)))
     → IsKernel (record k { spaces = new })
 execute-closes k now i new result same is at fits done trap =
     let active : k.spaces.active ≡ Some i = ap (λ (x : Kernel). x.spaces.active) same ∙ at in
     execute-ends k i new result is active fits
-    (subst (λ (o : Option ℕ). IfNone result (IfSome o (λ at. (d : Computed) × (cycle k.spaces.registers k.spaces.pc (held_at k.spaces at).memory ≡ Ok d) × (new ≡ spaces.computed k.spaces at d)))) active done)
-    (subst (λ (o : Option ℕ). IfSome result (λ t. IfSome o (λ at. (cycle k.spaces.registers k.spaces.pc (held_at k.spaces at).memory ≡ Err t) × (new ≡ k.spaces)))) active trap)
+    (subst (λ (o : Option ℕ). IfNone result (IfSome o (λ at. (d : Computed) × (cycle k.spaces.registers k.spaces.pc (view_at k.spaces at).memory ≡ Ok d) × (new ≡ spaces.computed k.spaces at d)))) active done)
+    (subst (λ (o : Option ℕ). IfSome result (λ t. IfSome o (λ at. (cycle k.spaces.registers k.spaces.pc (view_at k.spaces at).memory ≡ Err t) × (new ≡ k.spaces)))) active trap)

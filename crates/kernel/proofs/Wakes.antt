@@ -17,7 +17,7 @@ use Rattle.proc.specs.Pick.{Answers}
 use Rattle.proc.specs.Places as table
 use Rattle.proc.specs.Places.{Places, changed_at, exited, is_zombie_child_of, orphaned, with_mode, zombie_of}
 use Rattle.spaces.specs.Spaces as spaces
-use Rattle.spaces.specs.Spaces.{Spaces, held_at}
+use Rattle.spaces.specs.Spaces.{Spaces, view_at}
 use Rattle.std.specs.Borrow.{Bor}
 use Rattle.std.specs.Fn.{FnReturns, Shared}
 use Rattle.unixmodel.specs.Console.{Console}
@@ -93,8 +93,8 @@ module _ {a : State} {os : List (Option Process)} {awake : List Bool} (watched :
 -- ---- an instruction
 
 pub executes-pipes : (s new : Spaces) (o : Option ℕ) (i : ℕ) (result : Option Trap) → o ≡ Some i
-    → IfNone result (IfSome o (λ at. (d : Computed) × (cycle s.registers s.pc (held_at s at).memory ≡ Ok d) × (new ≡ spaces.computed s at d)))
-    → IfSome result (λ t. IfSome o (λ at. (cycle s.registers s.pc (held_at s at).memory ≡ Err t) × (new ≡ s))) → new.pipes ≡ s.pipes
+    → IfNone result (IfSome o (λ at. (d : Computed) × (cycle s.registers s.pc (view_at s at).memory ≡ Ok d) × (new ≡ spaces.computed s at d)))
+    → IfSome result (λ t. IfSome o (λ at. (cycle s.registers s.pc (view_at s at).memory ≡ Err t) × (new ≡ s))) → new.pipes ≡ s.pipes
 executes-pipes s new None i result active done trap = absurd (cc)
 executes-pipes s new (Some at) i None active done trap = ap (λ (x : Spaces). x.pipes) done.2
 executes-pipes s new (Some at) i (Some t) active done trap = ap (λ (x : Spaces). x.pipes) trap.1

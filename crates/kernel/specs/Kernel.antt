@@ -7,7 +7,7 @@ use Rattle.proc.specs.declared.process.Process.{Process}
 use Rattle.proc.specs.Places.{Places, changed, changed_at, exited, with_mark, with_mode}
 use Rattle.proc.specs.Whole.{with_table}
 use Rattle.spaces.specs.Spaces as spaces
-use Rattle.spaces.specs.Spaces.{Held, Spaces}
+use Rattle.spaces.specs.Spaces.{SpaceView, Spaces}
 use Rattle.unixmodel.specs.declared.process.Mode.{Mode}
 use Rattle.unixmodel.specs.declared.process.Mode.TheVariants.{Ready, Running, Waiting}
 use Rattle.unixmodel.specs.declared.process.Pending.{Pending}
@@ -56,7 +56,7 @@ on_hart s p = record p { registers = s.registers; pc = s.pc }
 abbrev pub loaded : Kernel → Places
 loaded k = changed_at k.table (on_hart k.spaces) k.spaces.active
 
-abbrev pub memory_in : Option Held → Memory
+abbrev pub memory_in : Option SpaceView → Memory
 memory_in None = []
 memory_in (Some h) = h.memory
 

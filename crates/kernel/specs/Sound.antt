@@ -10,7 +10,7 @@ use Rattle.files.specs.Places.{Counted, IsTable, file_at, opens_of}
 use Rattle.kernel.specs.Holding.{IsInUse}
 use Rattle.proc.specs.declared.process.Process.{Process}
 use Rattle.proc.specs.Places.{is_running}
-use Rattle.spaces.specs.Spaces.{Held, taken_frames}
+use Rattle.spaces.specs.Spaces.{SpaceView, taken_frames}
 use Rattle.unixmodel.specs.declared.call.Call.{Call}
 use Rattle.unixmodel.specs.declared.call.Call.TheVariants.{Read, Sleep, Wait, Write}
 use Rattle.unixmodel.specs.declared.process.Mode.{Mode}
@@ -66,14 +66,14 @@ IsMode p memory (Waiting w) = IsLive p × IsPending p.descriptors memory w w.num
 IsMode p memory (Zombie status) = IsEnded p
 
 -- a process with its space
-pub record IsPlaced (p : Process) (h : Held) : Type 0 where
+pub record IsPlaced (p : Process) (h : SpaceView) : Type 0 where
   pub size : p.size ≡ h.size
   pub zero : slice_index p.registers 0 ≡ 0
   pub aligned : p.pc % 4 ≡ 0
   pub mode : IsMode p h.memory p.mode
 
 -- a place has a process exactly where it has a space
-abbrev pub IsPlace : Option Process → Option Held → Type 0
+abbrev pub IsPlace : Option Process → Option SpaceView → Type 0
 IsPlace None None = Unit {0}
 IsPlace None (Some h) = ⊥
 IsPlace (Some p) None = ⊥

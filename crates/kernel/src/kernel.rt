@@ -16,7 +16,7 @@ ghost use Rattle.console.specs.Output.{AppendsBeginning};
 ghost use Rattle.files.specs.Meant.{end_of, target_of};
 ghost use Rattle.files.specs.Places.{has_end, opens_of};
 ghost use Rattle.proc.specs.Places.{changed, exited, has_pid, place_where, with_mode};
-ghost use Rattle.spaces.specs.Spaces.{held_at};
+ghost use Rattle.spaces.specs.Spaces.{view_at};
 ghost use Rattle.tree.specs.Tree.{Serves};
 ghost use Rattle.unixmodel.specs.Console.{key};
 ghost use Rattle.unixmodel.specs.Cycle.{cycle};
@@ -242,8 +242,8 @@ impl<D: BlockDev, T: Translate + Drop> Kernel<D, T> {
     /// Does the instruction at the pc of the running process, or says why it isn't done.
     pub fn execute(&mut self, at: usize) -> Option<Trap>
         requires { self.old.spaces.active ≡ Some at }
-        ensures done { IfNone result ((d : Computed) × (cycle self.old.spaces.registers self.old.spaces.pc (held_at self.old.spaces at).memory ≡ Ok d) × (self.new ≡ computed self.old at d)) }
-        ensures trap { IfSome result (λ t. (cycle self.old.spaces.registers self.old.spaces.pc (held_at self.old.spaces at).memory ≡ Err t) × (self.new ≡ self.old)) }
+        ensures done { IfNone result ((d : Computed) × (cycle self.old.spaces.registers self.old.spaces.pc (view_at self.old.spaces at).memory ≡ Ok d) × (self.new ≡ computed self.old at d)) }
+        ensures trap { IfSome result (λ t. (cycle self.old.spaces.registers self.old.spaces.pc (view_at self.old.spaces at).memory ≡ Err t) × (self.new ≡ self.old)) }
     {
         let trap = self.spaces.execute();
         self.spaces.frames_suffice();
@@ -279,7 +279,7 @@ impl<D: BlockDev, T: Translate + Drop> Kernel<D, T> {
     /// The running process waits.
     pub fn block(&mut self, at: usize, pending: Pending)
         requires running { self.old.spaces.active ≡ Some at }
-        requires pending { IsPending (descriptors_at self.old at) (held_at self.old.spaces at).memory pending pending.number }
+        requires pending { IsPending (descriptors_at self.old at) (view_at self.old.spaces at).memory pending pending.number }
         requires awaits { IsAwaiting self.old.files (descriptors_at self.old at) pending }
         ensures { self.new ≡ blocked self.old at pending }
     {
@@ -369,7 +369,7 @@ impl<D: BlockDev, T: Translate + Drop> Kernel<D, T> {
     /// Whether the running process may write so many bytes.
     pub fn can_write(&self, at: usize, address: u64, count: u64) -> bool
         requires { self.now.spaces.active ≡ Some at }
-        ensures { result ≡ can_write (held_at self.now.spaces at).memory address count }
+        ensures { result ≡ can_write (view_at self.now.spaces at).memory address count }
     {
         self.spaces.can_write(at, address, count)
     }
@@ -377,7 +377,7 @@ impl<D: BlockDev, T: Translate + Drop> Kernel<D, T> {
     /// The size of the running process in bytes.
     pub fn size(&self, at: usize) -> u64
         requires { self.now.spaces.active ≡ Some at }
-        ensures { result ≡ (held_at self.now.spaces at).size }
+        ensures { result ≡ (view_at self.now.spaces at).size }
     {
         self.spaces.size(at)
     }

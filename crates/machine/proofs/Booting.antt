@@ -10,16 +10,16 @@ use Rattle.kernel.specs.Kernel.{Kernel, begun, memory_in, state_of}
 use Rattle.kernel.specs.Sound.{IsKernel, IsLive, IsOpenFile, IsOpened, IsPlace, IsPlaced, WaitsWell}
 use Rattle.machine.proofs.FlatLemmas.{length-free, none-free, slot-free, taken-alone, zeros-past}
 use Rattle.machine.specs.declared.image_boot.Init.{Init}
-use Rattle.machine.specs.Booted.{IsBegun, IsInPlace, IsUnheld, LacksInit, PutsInit, bare_of, first_of, first_places, held_by, init_kernel}
+use Rattle.machine.specs.Booted.{IsBegun, IsInPlace, IsUnheld, LacksInit, PutsInit, bare_of, first_of, first_places, view_by, init_kernel}
 use Rattle.machine.specs.Flat.{alone}
-use Rattle.machine.specs.Told.{Told, told}
+use Rattle.machine.specs.View.{View, sound_view}
 use Rattle.names.specs.Rules.{KeepsTree}
 use Rattle.proc.specs.declared.process.Process.{Process}
 use Rattle.proc.specs.Mask.{all_in}
 use Rattle.proc.specs.Places.{Places, is_running, seated}
 use Rattle.proc.proofs.Joined.{joined-free_slots}
 use Rattle.proc.specs.Whole.{joined}
-use Rattle.spaces.specs.Spaces.{Held, Spaces}
+use Rattle.spaces.specs.Spaces.{SpaceView, Spaces}
 use Rattle.std.proofs.Common.{List, None, Option, Some, ap, arith, false, is_some, le_trans, length, map, nat_le, refl, replicate, subst, suc, sym, true, zero, ℕ, ◌%◌, ◌+◌, ◌<◌, ◌∙◌, ◌∷◌, ◌≡◌, ◌≢◌, ◌≤◌}
 use Rattle.std.proofs.lemmas.Bool.{le-leb, lt-leb}
 use Rattle.std.proofs.lemmas.Bool.Decides.{nat_tests}
@@ -89,13 +89,13 @@ init-zero : (new : Plan) → slice_index (first_of new).registers 0 ≡ 0
 unfolding zeros
 init-zero new = refl
 
-init-placed : (new : Plan) → new.pc % 4 ≡ 0 → IsPlaced (first_of new) (held_by new)
+init-placed : (new : Plan) → new.pc % 4 ≡ 0 → IsPlaced (first_of new) (view_by new)
 init-placed new aligned = record { size = refl; zero = init-zero new; aligned = aligned; mode = init-live new }
 
-init-stands : (new : Plan) → new.pc % 4 ≡ 0 → (i : ℕ) → IsPlace (slot (Some (first_of new) ∷ free_slots 63) i) (slot (Some (held_by new) ∷ replicate 63 None) i)
+init-stands : (new : Plan) → new.pc % 4 ≡ 0 → (i : ℕ) → IsPlace (slot (Some (first_of new) ∷ free_slots 63) i) (slot (Some (view_by new) ∷ replicate 63 None) i)
 unfolding free_slots
 init-stands new aligned zero = init-placed new aligned
-init-stands new aligned (suc i) = rw (slot-free Process 63 i, slot-free Held 63 i) tt
+init-stands new aligned (suc i) = rw (slot-free Process 63 i, slot-free SpaceView 63 i) tt
 
 init-rests : (new : Plan) (i : ℕ) → holds is_running (slot (Some (first_of new) ∷ free_slots 63) i) ≡ false
 unfolding free_slots
@@ -200,10 +200,10 @@ module _ (old tree : FileTree) (unheld : IsUnheld old) (same : tree ≡ record o
   unfolding free_slots
   init-sound frames new fits aligned = record {
     all = init-all new;
-    spaces = ap suc (length-free Held 63);
+    spaces = ap suc (length-free SpaceView 63);
     stands = init-stands new aligned;
     runs = init-rests new;
-    fits = rw (taken-alone frames (held_by new)) fits;
+    fits = rw (taken-alone frames (view_by new)) fits;
     opened = init-opened new;
     filed = record { up = λ i e. absurd (cc); used = λ up. init-used new };
   }
@@ -228,8 +228,8 @@ module _ (old mid : FileTree) (unheld : IsUnheld old) (same : mid ≡ record old
   placed : IsInPlace old.files s.frames put init
   placed = subst (PutsInit old.files s.frames put) is_init puts
 
-  spaces-are : put ≡ alone frames (held_by placed.plan)
-  spaces-are = placed.spaces ∙ ap (λ (n : ℕ). alone n (held_by placed.plan)) count
+  spaces-are : put ≡ alone frames (view_by placed.plan)
+  spaces-are = placed.spaces ∙ ap (λ (n : ℕ). alone n (view_by placed.plan)) count
 
   table-is : table ≡ first_places placed.plan
   table-is = first ∙ ap (λ (p : Process). let t : Places = record { places = Some p ∷ free_slots 63; last = 63; next_pid = 2; awake = all_in 64 } in t) placed.bare
@@ -240,15 +240,15 @@ module _ (old mid : FileTree) (unheld : IsUnheld old) (same : mid ≡ record old
   pub kernel-sound : IsKernel (begun held table put opens)
   kernel-sound = subst IsKernel (sym kernel-is) (init-sound old mid unheld same whole frames placed.plan (let fits = placed.fits in omega (arith, fits, count)) placed.aligned)
 
-  pub begun-init : (kernel : Kernel) → kernel ≡ begun held table put opens → (m : Told) → m ≡ told (state_of kernel) kernel.tree.failures → old.failures ≤ mid.failures → IsBegun old frames m
+  pub begun-init : (kernel : Kernel) → kernel ≡ begun held table put opens → (m : View) → m ≡ sound_view (state_of kernel) kernel.tree.failures → old.failures ≤ mid.failures → IsBegun old frames m
   begun-init kernel made m machine later =
       let is : kernel ≡ init_kernel mid frames placed.plan = made ∙ kernel-is in
-      let state : m.state ≡ state_of (init_kernel mid frames placed.plan) = ap (λ (x : Told). x.state) machine ∙ ap state_of is in
+      let state : m.state ≡ state_of (init_kernel mid frames placed.plan) = ap (λ (x : View). x.state) machine ∙ ap state_of is in
       let planned : init_plan mid.files ≡ Some placed.plan = ap (λ (t : FileTree). init_plan t.files) same ∙ placed.is in
       let starts : start mid.files mid.block_limit frames ≡ Some (state_of (init_kernel mid frames placed.plan)) = start-init mid frames placed.plan planned (let fits = placed.fits in omega (arith, fits, count)) in
-      let failures : m.failures ≡ mid.failures = ap (λ (x : Told). x.failures) machine ∙ ap (λ (k : Kernel). k.tree.failures) is in
+      let failures : m.failures ≡ mid.failures = ap (λ (x : View). x.failures) machine ∙ ap (λ (k : Kernel). k.tree.failures) is in
       record {
         starts = sym (ap (λ (t : FileTree). start t.files t.block_limit frames) same) ∙ starts ∙ ap Some (sym state);
-        up = record { sound = ap (λ (x : Told). x.failed) machine; goes = ap (λ (x : State). x.halted) state };
+        up = record { sound = ap (λ (x : View). x.failed) machine; goes = ap (λ (x : State). x.halted) state };
         later = omega (arith, later, failures);
       }

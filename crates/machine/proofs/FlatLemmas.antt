@@ -22,7 +22,7 @@ use Rattle.proc.specs.Mask.{all_in}
 use Rattle.proc.specs.Places.{is_running, seated}
 use Rattle.proc.proofs.Joined.{joined-free_slots}
 use Rattle.proc.specs.Whole.{joined}
-use Rattle.spaces.specs.Spaces.{Held, Spaces, frames_in, grown, has_space, held_at, no_pages, no_spaces, taken_frames, with_held, written}
+use Rattle.spaces.specs.Spaces.{SpaceView, Spaces, frames_in, grown, has_space, view_at, no_pages, no_spaces, taken_frames, with_view, written}
 use Rattle.std.proofs.Common.{Bool, Err, List, None, Ok, Option, Result, Some, [], ap, append_assoc, ap₂, arith, drop, false, get_or, inl, inr, is_some, length, length-append, map, nat_le, refl, replicate, subst, suc, sym, take, true, zero, ℕ, ◌%◌, ◌*◌, ◌++◌, ◌+◌, ◌-◌, ◌/◌, ◌<◌, ◌∙◌, ◌∷◌, ◌≡◌, ◌≢◌, ◌≤◌, ◌⊎◌, ◌↔◌}
 use Rattle.std.specs.Bool.{OnFalse, OnTrue}
 use Rattle.std.proofs.lemmas.Bool.{le-leb, lt-leb, lt-ltb}
@@ -150,14 +150,14 @@ pub no-frames : (n : ℕ) → sum_by frames_in (replicate n None) ≡ 0
 no-frames zero = refl
 no-frames (suc n) = omega (arith, sum_by-cons frames_in None (replicate n None), no-frames n)
 
-pub taken-alone : (frames : ℕ) (h : Held) → taken_frames (alone frames h) ≡ 4 + page_frames (length h.memory)
+pub taken-alone : (frames : ℕ) (h : SpaceView) → taken_frames (alone frames h) ≡ 4 + page_frames (length h.memory)
 taken-alone frames h = omega (arith, sum_by-cons frames_in (Some h) (replicate 63 None), no-frames 63)
 
 -- the state that process 1 begins with over a space
-abbrev begun : ℕ → Held → State
+abbrev begun : ℕ → SpaceView → State
 begun frames h = first_state flat_files 27 frames flat_opens (first_process (bare_plan h.memory h.size) flat_descriptors)
 
-state-first : (tree : FileTree) → IsFlat tree → (frames : ℕ) (h : Held) → state_of (first_kernel tree frames h) ≡ begun frames h
+state-first : (tree : FileTree) → IsFlat tree → (frames : ℕ) (h : SpaceView) → state_of (first_kernel tree frames h) ≡ begun frames h
 unfolding joined flat_opens free_slots
 state-first tree flat frames h =
     ap (λ (files : Files). record (state_of (first_kernel tree frames h)) { files = files }) flat.files
@@ -165,7 +165,7 @@ state-first tree flat frames h =
     ∙ ap (λ (places : List (Option unix.Process)). record (begun frames h) { places = Some (first_process (bare_plan h.memory h.size) flat_descriptors) ∷ places })
     (joined-free_slots 63 (map memory_in (replicate 63 None)))
 
-frames-begun : (frames : ℕ) (h : Held) → frames_of (begun frames h) ≡ 4 + page_frames (length h.memory)
+frames-begun : (frames : ℕ) (h : SpaceView) → frames_of (begun frames h) ≡ 4 + page_frames (length h.memory)
 unfolding frames_of free_slots
 frames-begun frames h = omega arith
 
@@ -193,13 +193,13 @@ first-zero : (size : ℕ) → slice_index (first size).registers 0 ≡ 0
 unfolding zeros
 first-zero size = refl
 
-first-placed : (h : Held) → IsPlaced (first h.size) h
+first-placed : (h : SpaceView) → IsPlaced (first h.size) h
 first-placed h = record { size = refl; zero = first-zero h.size; aligned = refl; mode = first-live h.size }
 
-first-stands : (h : Held) (i : ℕ) → IsPlace (slot (Some (first h.size) ∷ free_slots 63) i) (slot (Some h ∷ replicate 63 None) i)
+first-stands : (h : SpaceView) (i : ℕ) → IsPlace (slot (Some (first h.size) ∷ free_slots 63) i) (slot (Some h ∷ replicate 63 None) i)
 unfolding free_slots
 first-stands h zero = first-placed h
-first-stands h (suc i) = rw (slot-free Process 63 i, slot-free Held 63 i) tt
+first-stands h (suc i) = rw (slot-free Process 63 i, slot-free SpaceView 63 i) tt
 
 first-rests : (size i : ℕ) → holds is_running (slot (Some (first size) ∷ free_slots 63) i) ≡ false
 unfolding free_slots
@@ -335,10 +335,10 @@ few-root tree flat = rw flat.holds (omega arith)
 pub few-console : (tree : FileTree) → IsFlat tree → holders (with_hold tree.holds 1) 2 < 65535
 few-console tree flat = rw flat.holds (omega arith)
 
-pub first-sound : (tree : FileTree) → IsFlat tree → (frames : ℕ) (h : Held) → 4 + page_frames (length h.memory) ≤ frames → IsKernel (first_kernel tree frames h)
+pub first-sound : (tree : FileTree) → IsFlat tree → (frames : ℕ) (h : SpaceView) → 4 + page_frames (length h.memory) ≤ frames → IsKernel (first_kernel tree frames h)
 first-sound tree flat frames h fits = record {
   all = first-all h.size;
-  spaces = ap suc (length-free Held 63);
+  spaces = ap suc (length-free SpaceView 63);
   stands = first-stands h;
   runs = first-rests h.size;
   fits = rw (taken-alone frames h) fits;
@@ -358,13 +358,13 @@ all_marks = record { writable = true; executable = true; user = true }
 abbrev program_pages : List ℕ → ℕ
 program_pages bytes = ceil_div (length bytes) 4096
 
-abbrev pub segment : List ℕ → Held
+abbrev pub segment : List ℕ → SpaceView
 segment bytes = record { memory = replicate (program_pages bytes) (zero_page all_marks); size = program_pages bytes * 4096 }
 
-abbrev pub filled_segment : List ℕ → Held
+abbrev pub filled_segment : List ℕ → SpaceView
 filled_segment bytes = record { memory = pages_of all_marks (program_pages bytes) bytes; size = program_pages bytes * 4096 }
 
-abbrev pub guarded : List ℕ → Held
+abbrev pub guarded : List ℕ → SpaceView
 guarded bytes = record {
   memory = pages_of all_marks (program_pages bytes) bytes ++ zero_page (stack_marks false) ∷ [];
   size = program_pages bytes * 4096 + 4096;
@@ -374,11 +374,11 @@ segment-is : (bytes : List ℕ) (b : ℕ) → b ≡ program_pages bytes * 4096 �
 segment-is bytes b is =
     let n : ceil_div (0 + b) 4096 - ceil_div 0 4096 ≡ program_pages bytes = omega (arith, is) in
     let size : 0 + b ≡ program_pages bytes * 4096 = omega (arith, is) in
-    ap (λ (k : ℕ). let h : Held = record { memory = replicate k (zero_page all_marks); size = 0 + b } in h) n
-    ∙ ap (λ (k : ℕ). let h : Held = record { memory = replicate (program_pages bytes) (zero_page all_marks); size = k } in h) size
+    ap (λ (k : ℕ). let h : SpaceView = record { memory = replicate k (zero_page all_marks); size = 0 + b } in h) n
+    ∙ ap (λ (k : ℕ). let h : SpaceView = record { memory = replicate (program_pages bytes) (zero_page all_marks); size = k } in h) size
 
 filled-is : (bytes : List ℕ) → written (segment bytes) 0 bytes ≡ filled_segment bytes
-filled-is bytes = ap (λ (memory : Memory). let h : Held = record { memory = memory; size = program_pages bytes * 4096 } in h) (filled all_marks (program_pages bytes) bytes)
+filled-is bytes = ap (λ (memory : Memory). let h : SpaceView = record { memory = memory; size = program_pages bytes * 4096 } in h) (filled all_marks (program_pages bytes) bytes)
 
 guarded-is : (bytes : List ℕ) → grown (filled_segment bytes) 4096 (stack_marks false) ≡ guarded bytes
 guarded-is bytes =
@@ -391,21 +391,21 @@ stacked-is bytes =
     let one : ceil_div (program_pages bytes * 4096 + 4096 + 4096) 4096 - ceil_div (program_pages bytes * 4096 + 4096) 4096 ≡ 1 = omega arith in
     let size : program_pages bytes * 4096 + 4096 + 4096 ≡ 4096 * length (flat_memory bytes) = omega (arith, length-flat bytes) in
     let memory = append_assoc (pages_of all_marks (program_pages bytes) bytes) (zero_page (stack_marks false) ∷ []) (zero_page (stack_marks true) ∷ []) in
-    rw (one, size) (ap (λ (memory : Memory). let h : Held = record { memory = memory; size = 4096 * length (flat_memory bytes) } in h) memory)
+    rw (one, size) (ap (λ (memory : Memory). let h : SpaceView = record { memory = memory; size = 4096 * length (flat_memory bytes) } in h) memory)
 
 -- a space that is put in place 0, and one that would not fit
-placed : (frames : ℕ) (s t : Spaces) (h new : Held) (change : Held → Held) → s ≡ alone frames h → change h ≡ new → t ≡ with_held s 0 (change (held_at s 0)) → t ≡ alone frames new
+placed : (frames : ℕ) (s t : Spaces) (h new : SpaceView) (change : SpaceView → SpaceView) → s ≡ alone frames h → change h ≡ new → t ≡ with_view s 0 (change (view_at s 0)) → t ≡ alone frames new
 placed frames s t h new change is to done = rw (done, is, to) refl
 
-over : (bytes : List ℕ) (frames : ℕ) (s : Spaces) (h new : Held) (change : Held → Held) → s ≡ alone frames h → change h ≡ new → length new.memory ≤ length (flat_memory bytes)
-    → s.frames < taken_frames (with_held s 0 (change (held_at s 0))) → frames < 4 + page_frames (length (flat_memory bytes))
+over : (bytes : List ℕ) (frames : ℕ) (s : Spaces) (h new : SpaceView) (change : SpaceView → SpaceView) → s ≡ alone frames h → change h ≡ new → length new.memory ≤ length (flat_memory bytes)
+    → s.frames < taken_frames (with_view s 0 (change (view_at s 0))) → frames < 4 + page_frames (length (flat_memory bytes))
 over bytes frames s h new change is to less full =
     let here : frames < taken_frames (alone frames new) = rw (is, to) at full in
     let more = page_frames-more (length new.memory) (length (flat_memory bytes)) less in
     omega (arith, here, taken-alone frames new, more)
 
-within : (bytes : List ℕ) (frames : ℕ) (s : Spaces) (h new : Held) (change : Held → Held) → s ≡ alone frames h → change h ≡ new
-    → taken_frames (with_held s 0 (change (held_at s 0))) ≤ s.frames → 4 + page_frames (length new.memory) ≤ frames
+within : (bytes : List ℕ) (frames : ℕ) (s : Spaces) (h new : SpaceView) (change : SpaceView → SpaceView) → s ≡ alone frames h → change h ≡ new
+    → taken_frames (with_view s 0 (change (view_at s 0))) ≤ s.frames → 4 + page_frames (length new.memory) ≤ frames
 within bytes frames s h new change is to fits =
     let here : taken_frames (alone frames new) ≤ frames = rw (is, to) at fits in
     omega (arith, here, taken-alone frames new)
@@ -414,7 +414,7 @@ within bytes frames s h new change is to fits =
 pub first-free : {frames : ℕ} {s : Spaces} → s ≡ no_spaces frames → has_space s 0 ≡ false
 first-free is = ap (λ (s : Spaces). has_space s 0) is
 
-pub alone-space : {frames : ℕ} {h : Held} {s : Spaces} → s ≡ alone frames h → has_space s 0 ≡ true
+pub alone-space : {frames : ℕ} {h : SpaceView} {s : Spaces} → s ≡ alone frames h → has_space s 0 ≡ true
 alone-space is = ap (λ (s : Spaces). has_space s 0) is
 
 -- no spaces over so many frames
@@ -424,46 +424,46 @@ frames-of is = ap (λ (x : Spaces). x.frames) is
 pub none-of : {frames : ℕ} {s : Spaces} → s ≡ no_spaces frames → s ≡ no_spaces s.frames
 none-of is = is ∙ ap no_spaces (sym (frames-of is))
 
-pub created : (frames : ℕ) (s t : Spaces) → s ≡ record { places = replicate 64 None; active = None; registers = replicate 32 0; pc = 0; frames = frames; pipes = replicate 100 None } → t ≡ with_held s 0 no_pages → t ≡ alone frames no_pages
+pub created : (frames : ℕ) (s t : Spaces) → s ≡ record { places = replicate 64 None; active = None; registers = replicate 32 0; pc = 0; frames = frames; pipes = replicate 100 None } → t ≡ with_view s 0 no_pages → t ≡ alone frames no_pages
 created frames s t is done = rw (done, is) refl
 
 module _ (bytes : List ℕ) (frames : ℕ) (s t : Spaces) where
-  pub segment-made : (b : ℕ) → b ≡ program_pages bytes * 4096 → s ≡ alone frames no_pages → t ≡ with_held s 0 (grown (held_at s 0) b all_marks) → t ≡ alone frames (segment bytes)
+  pub segment-made : (b : ℕ) → b ≡ program_pages bytes * 4096 → s ≡ alone frames no_pages → t ≡ with_view s 0 (grown (view_at s 0) b all_marks) → t ≡ alone frames (segment bytes)
   segment-made b size is done = placed frames s t no_pages (segment bytes) (λ h. grown h b all_marks) is (segment-is bytes b size) done
 
-  pub segment-over : (b : ℕ) → b ≡ program_pages bytes * 4096 → s ≡ alone frames no_pages → s.frames < taken_frames (with_held s 0 (grown (held_at s 0) b all_marks)) → frames < 4 + page_frames (length (flat_memory bytes))
+  pub segment-over : (b : ℕ) → b ≡ program_pages bytes * 4096 → s ≡ alone frames no_pages → s.frames < taken_frames (with_view s 0 (grown (view_at s 0) b all_marks)) → frames < 4 + page_frames (length (flat_memory bytes))
   segment-over b size is full =
       over bytes frames s no_pages (segment bytes) (λ h. grown h b all_marks) is (segment-is bytes b size)
       (rw (length-flat bytes, length-replicate (program_pages bytes) (zero_page all_marks)) (omega arith)) full
 
-  pub filled-made : s ≡ alone frames (segment bytes) → t ≡ with_held s 0 (written (held_at s 0) 0 bytes) → t ≡ alone frames (filled_segment bytes)
+  pub filled-made : s ≡ alone frames (segment bytes) → t ≡ with_view s 0 (written (view_at s 0) 0 bytes) → t ≡ alone frames (filled_segment bytes)
   filled-made is done = placed frames s t (segment bytes) (filled_segment bytes) (λ h. written h 0 bytes) is (filled-is bytes) done
 
-  pub guard-made : s ≡ alone frames (filled_segment bytes) → t ≡ with_held s 0 (grown (held_at s 0) 4096 (stack_marks false)) → t ≡ alone frames (guarded bytes)
+  pub guard-made : s ≡ alone frames (filled_segment bytes) → t ≡ with_view s 0 (grown (view_at s 0) 4096 (stack_marks false)) → t ≡ alone frames (guarded bytes)
   guard-made is done = placed frames s t (filled_segment bytes) (guarded bytes) (λ h. grown h 4096 (stack_marks false)) is (guarded-is bytes) done
 
-  pub guard-over : s ≡ alone frames (filled_segment bytes) → s.frames < taken_frames (with_held s 0 (grown (held_at s 0) 4096 (stack_marks false))) → frames < 4 + page_frames (length (flat_memory bytes))
+  pub guard-over : s ≡ alone frames (filled_segment bytes) → s.frames < taken_frames (with_view s 0 (grown (view_at s 0) 4096 (stack_marks false))) → frames < 4 + page_frames (length (flat_memory bytes))
   guard-over is full =
       over bytes frames s (filled_segment bytes) (guarded bytes) (λ h. grown h 4096 (stack_marks false)) is (guarded-is bytes)
       (rw (length-flat bytes, length-append (pages_of all_marks (program_pages bytes) bytes) (zero_page (stack_marks false) ∷ []), length-pages all_marks (program_pages bytes) bytes) (omega arith)) full
 
-  pub stack-made : s ≡ alone frames (guarded bytes) → t ≡ with_held s 0 (grown (held_at s 0) 4096 (stack_marks true)) → t ≡ alone frames (flat_space bytes)
+  pub stack-made : s ≡ alone frames (guarded bytes) → t ≡ with_view s 0 (grown (view_at s 0) 4096 (stack_marks true)) → t ≡ alone frames (flat_space bytes)
   stack-made is done = placed frames s t (guarded bytes) (flat_space bytes) (λ h. grown h 4096 (stack_marks true)) is (stacked-is bytes) done
 
-  pub stack-over : s ≡ alone frames (guarded bytes) → s.frames < taken_frames (with_held s 0 (grown (held_at s 0) 4096 (stack_marks true))) → frames < 4 + page_frames (length (flat_memory bytes))
+  pub stack-over : s ≡ alone frames (guarded bytes) → s.frames < taken_frames (with_view s 0 (grown (view_at s 0) 4096 (stack_marks true))) → frames < 4 + page_frames (length (flat_memory bytes))
   stack-over is full = over bytes frames s (guarded bytes) (flat_space bytes) (λ h. grown h 4096 (stack_marks true)) is (stacked-is bytes) (omega arith) full
 
-  pub stack-fits : s ≡ alone frames (guarded bytes) → taken_frames (with_held s 0 (grown (held_at s 0) 4096 (stack_marks true))) ≤ s.frames → 4 + page_frames (length (flat_memory bytes)) ≤ frames
+  pub stack-fits : s ≡ alone frames (guarded bytes) → taken_frames (with_view s 0 (grown (view_at s 0) 4096 (stack_marks true))) ≤ s.frames → 4 + page_frames (length (flat_memory bytes)) ≤ frames
   stack-fits is fits = within bytes frames s (guarded bytes) (flat_space bytes) (λ h. grown h 4096 (stack_marks true)) is (stacked-is bytes) fits
 
   -- the bytes are within the pages
-  pub fill-inside : s ≡ alone frames (segment bytes) → (i : ℕ) → i < length bytes → (0 + i) / 4096 < length (held_at s 0).memory
+  pub fill-inside : s ≡ alone frames (segment bytes) → (i : ℕ) → i < length bytes → (0 + i) / 4096 < length (view_at s 0).memory
   fill-inside is i less = rw (is, length-replicate (program_pages bytes) (zero_page all_marks)) (omega (arith, less))
 
 -- whether the page of the stack comes behind the guard page
 pub flat-loaded : (bytes : List ℕ) (old s t : Spaces) → s ≡ alone old.frames (guarded bytes) → (r : Bool)
-    → OnTrue r ((taken_frames (with_held s 0 (grown (held_at s 0) 4096 (stack_marks true))) ≤ s.frames) × (t ≡ with_held s 0 (grown (held_at s 0) 4096 (stack_marks true))))
-    → OnFalse r ((s.frames < taken_frames (with_held s 0 (grown (held_at s 0) 4096 (stack_marks true)))) × (t ≡ s)) → LoadsFlat bytes old t r
+    → OnTrue r ((taken_frames (with_view s 0 (grown (view_at s 0) 4096 (stack_marks true))) ≤ s.frames) × (t ≡ with_view s 0 (grown (view_at s 0) 4096 (stack_marks true))))
+    → OnFalse r ((s.frames < taken_frames (with_view s 0 (grown (view_at s 0) 4096 (stack_marks true)))) × (t ≡ s)) → LoadsFlat bytes old t r
 flat-loaded bytes old s t is true done full = (stack-made bytes old.frames s t is done.1, stack-fits bytes old.frames s t is done.0)
 flat-loaded bytes old s t is false done full = stack-over bytes old.frames s t is full.0
 

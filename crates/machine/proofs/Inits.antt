@@ -17,7 +17,7 @@ use Rattle.programs.specs.declared.headers.Program.{Program}
 use Rattle.programs.specs.Headed.{IsRead, file_at, program_in}
 use Rattle.programs.specs.Passed.{PassesOne, plan_with, stacked}
 use Rattle.programs.specs.Placed.{HasRoom, Leaves, paged}
-use Rattle.spaces.specs.Spaces.{Held, Spaces, has_space, no_pages, no_spaces, taken_frames, with_held, with_place}
+use Rattle.spaces.specs.Spaces.{SpaceView, Spaces, has_space, no_pages, no_spaces, taken_frames, with_view, with_place}
 use Rattle.tree.specs.Tree.{FileTree, Serves}
 use Rattle.tree.specs.Written.{IsFile}
 use Rattle.unixmodel.specs.Counts.{page_frames}
@@ -143,7 +143,7 @@ module _ (files : Files) (n : ℕ) (program : Program) (found : find files 1 ini
 
 -- ---- reading it
 
-serves-told : {T : Type 0} {old new : FileTree} {Told : T → Type 0} (x : T) → Told x → new.failed ≡ false → old.failures ≤ new.failures → Serves old new (Ok x) Told
+serves-told : {T : Type 0} {old new : FileTree} {View : T → Type 0} (x : T) → View x → new.failed ≡ false → old.failures ≤ new.failures → Serves old new (Ok x) View
 serves-told x told up later = record { told = told; up = up; down = tt; cause = record { later = later; failed = λ e. absurd (false≢true e) } }
 
 some-there : (o : Option Node) → IsSome o → (node : Node) × (o ≡ Some node)
@@ -232,7 +232,7 @@ module _ (files : Files) (frames : ℕ) (init : Init) (is : IsInit files frames 
   aligned = let entry : init.program.header.entry ≡ number_at 8 24 (file_at files init.number) / 4 * 4 = ap (λ h. h.entry) program-of.read in omega (arith, entry)
 
   pub init-put : (made new : Spaces) → made ≡ alone frames no_pages
-      → ((l : Loaded) → loaded_of (file_at files init.number) ≡ Some l → new ≡ with_held made 0 (paged (stacked l.pages init.arguments.page))) → IsInPlace files frames new init
+      → ((l : Loaded) → loaded_of (file_at files init.number) ≡ Some l → new ≡ with_view made 0 (paged (stacked l.pages init.arguments.page))) → IsInPlace files frames new init
   init-put made new is-made done =
       let pages = program-of.pages in
       let fits = is.fits in
@@ -243,7 +243,7 @@ module _ (files : Files) (frames : ℕ) (init : Init) (is : IsInit files frames 
         is = plan-of;
         fits = rw long fits;
         few = omega (arith, fits);
-        spaces = done program-of.loaded program-of.is ∙ ap (λ (s : Spaces). with_held s 0 (paged (the_plan).memory)) is-made ∙ ap (λ (k : ℕ). alone frames (let h : Held = record { memory = (the_plan).memory; size = k } in h)) size;
+        spaces = done program-of.loaded program-of.is ∙ ap (λ (s : Spaces). with_view s 0 (paged (the_plan).memory)) is-made ∙ ap (λ (k : ℕ). alone frames (let h : SpaceView = record { memory = (the_plan).memory; size = k } in h)) size;
         bare = ap (λ (k : ℕ). first_of (let p : Plan = record { memory = []; size = k; pc = init.program.header.entry; argc = init.arguments.count; sp = init.arguments.sp } in p)) bare;
         aligned = aligned;
       }
@@ -253,8 +253,8 @@ pub taken-none : (frames : ℕ) → taken_frames (no_spaces frames) ≡ 0
 taken-none frames = omega (arith, no-frames 64)
 
 -- the place of a space without pages
-pub made-alone : (s t : Spaces) → s ≡ no_spaces s.frames → t ≡ with_held s 0 no_pages → t ≡ alone s.frames no_pages
-made-alone s t is done = done ∙ ap (λ (x : Spaces). with_held x 0 no_pages) is
+pub made-alone : (s t : Spaces) → s ≡ no_spaces s.frames → t ≡ with_view s 0 no_pages → t ≡ alone s.frames no_pages
+made-alone s t is done = done ∙ ap (λ (x : Spaces). with_view x 0 no_pages) is
 
 -- what its loading asks for
 pub record IsReady (tree : FileTree) (made : Spaces) (init : Init) : Type 0 where
@@ -264,7 +264,7 @@ pub record IsReady (tree : FileTree) (made : Spaces) (init : Init) : Type 0 wher
   pub space : has_space made 0 ≡ true
   pub room : HasRoom made 0 (init.program.pages + 2)
 
-pub ready : {old mid : FileTree} {told : Option Init} {frames : ℕ} → Serves old mid (Ok told) (λ told. Leaves old mid told × FindsInit old.files frames told) → (init : Init) → told ≡ Some init → (s made : Spaces) → s ≡ no_spaces s.frames → made ≡ with_held s 0 no_pages
+pub ready : {old mid : FileTree} {told : Option Init} {frames : ℕ} → Serves old mid (Ok told) (λ told. Leaves old mid told × FindsInit old.files frames told) → (init : Init) → told ≡ Some init → (s made : Spaces) → s ≡ no_spaces s.frames → made ≡ with_view s 0 no_pages
     → frames + taken_frames s ≡ s.frames → s.frames ≤ 32768 → IsReady mid made init
 ready {old} {mid} {told} {frames} serves init some s made none done all small =
     let taken : taken_frames s ≡ 0 = ap taken_frames none ∙ taken-none s.frames in
@@ -283,9 +283,9 @@ ready {old} {mid} {told} {frames} serves init some s made none done all small =
     }
 
 -- /init is in its place
-pub in-place : {old mid : FileTree} {told : Option Init} {frames : ℕ} → Serves old mid (Ok told) (λ told. Leaves old mid told × FindsInit old.files frames told) → (init : Init) → told ≡ Some init → (s made new : Spaces) → s ≡ no_spaces s.frames → made ≡ with_held s 0 no_pages
+pub in-place : {old mid : FileTree} {told : Option Init} {frames : ℕ} → Serves old mid (Ok told) (λ told. Leaves old mid told × FindsInit old.files frames told) → (init : Init) → told ≡ Some init → (s made new : Spaces) → s ≡ no_spaces s.frames → made ≡ with_view s 0 no_pages
     → frames + taken_frames s ≡ s.frames
-    → ((l : Loaded) → loaded_of (file_at mid.files init.number) ≡ Some l → new ≡ with_held made 0 (paged (stacked l.pages init.arguments.page))) → IsInPlace old.files s.frames new init
+    → ((l : Loaded) → loaded_of (file_at mid.files init.number) ≡ Some l → new ≡ with_view made 0 (paged (stacked l.pages init.arguments.page))) → IsInPlace old.files s.frames new init
 in-place {old} {mid} {told} {frames} serves init some s made new none done all loads =
     let taken : taken_frames s ≡ 0 = ap taken_frames none ∙ taken-none s.frames in
     let every : frames ≡ s.frames = omega (arith, all, taken) in

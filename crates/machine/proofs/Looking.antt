@@ -5,7 +5,7 @@ use Rattle.std.specs.Prelude.{List, drop, option_map, slice_index, take}
 use Rattle.blockdev.specs.declared.DeviceFault.{DeviceFault}
 use Rattle.blockdev.specs.Splice.{part}
 use Rattle.calls.proofs.Served.{disk-lost, serves-disk}
-use Rattle.calls.specs.Does.{IsLost}
+use Rattle.calls.specs.Gives.{IsLost}
 use Rattle.inode.specs.declared.InodeStat.{InodeStat}
 use Rattle.kernel.proofs.Holding.{failed-filed}
 use Rattle.kernel.proofs.Steps.{fail-keeps, with-tree}
@@ -48,7 +48,7 @@ read-shown bytes old new at k count front =
 idle-is : (s : Spaces) → s.active ≡ None → s ≡ idle s
 idle-is s e = ap (λ a. record s { active = a }) e
 
-pub lost-read : {T : Type 0} {Told : T → Type 0} {at now : Kernel} {t : FileTree} {r : Result T DeviceFault} → at ≡ now → (fault : DeviceFault) → r ≡ Err fault → Serves at.tree t r Told → IsLost now.tree t
+pub lost-read : {T : Type 0} {View : T → Type 0} {at now : Kernel} {t : FileTree} {r : Result T DeviceFault} → at ≡ now → (fault : DeviceFault) → r ≡ Err fault → Serves at.tree t r View → IsLost now.tree t
 lost-read {t = t} {r = r} same fault is serves = subst (λ (k : Kernel). IsLost k.tree t) same (disk-lost r fault is (serves-disk serves))
 
 -- at is what the fields show, and now the kernel's value

@@ -6,7 +6,7 @@ use Rattle.imagecheck.specs.declared.ImageFault.TheVariants as fault
 use Rattle.machine.specs.declared.fault.BootFault.{BootFault}
 use Rattle.machine.specs.declared.fault.BootFault.TheVariants.{Device, FrameCount, Image, NoInit, NoMemory}
 use Rattle.machine.specs.Booted.{IsAccepted, IsBegun, IsBooted, IsNotBegun, IsUnbooted, IsUnheld, boot_fault}
-use Rattle.machine.specs.Told.{Told}
+use Rattle.machine.specs.View.{View}
 use Rattle.mount.specs.Mounted.{IsMounted, IsUnmounted}
 use Rattle.tree.specs.Tree.{FileTree}
 use Rattle.unixmodel.specs.Image.{inodes_in}
@@ -19,7 +19,7 @@ module _ {image : List ℕ} {failures : ℕ} {tree : FileTree} (mounted : IsMoun
   accepted : IsAccepted image tree.files
   accepted = record { denotes = mounted.denotes; only = mounted.only }
 
-  pub booted-from : (r : Result Told BootFault) → IfOk r (IsBegun tree frames) → IfOk r (IsBooted image failures frames)
+  pub booted-from : (r : Result View BootFault) → IfOk r (IsBegun tree frames) → IfOk r (IsBooted image failures frames)
   booted-from (Ok m) begun = record {
     files = tree.files;
     accepted = accepted;
@@ -41,12 +41,12 @@ module _ {D : Type 0} (count : D → ℕ) {image : List ℕ} {failures : ℕ} {t
     none = ap (λ limit. start tree.files limit frames) (sym mounted.limit) ∙ why;
   }
 
-  pub refused-from : (r : Result Told BootFault) → IfErr r (IsNotBegun count tree frames) → IfErr r (IsUnbooted count image failures frames)
+  pub refused-from : (r : Result View BootFault) → IfErr r (IsNotBegun count tree frames) → IfErr r (IsUnbooted count image failures frames)
   refused-from (Ok m) why = tt
   refused-from (Err f) why = unbooted f why
 
 -- where the count is in range the fault isn't that
-pub counted-from : {D : Type 0} (count : D → ℕ) (tree : FileTree) (frames : ℕ) → 64 ≤ frames → frames ≤ 32768 → (r : Result Told BootFault) → IfErr r (IsNotBegun count tree frames) → IsErrOf r FrameCount ↔ ((frames < 64) ⊎ (32768 < frames))
+pub counted-from : {D : Type 0} (count : D → ℕ) (tree : FileTree) (frames : ℕ) → 64 ≤ frames → frames ≤ 32768 → (r : Result View BootFault) → IfErr r (IsNotBegun count tree frames) → IsErrOf r FrameCount ↔ ((frames < 64) ⊎ (32768 < frames))
 counted-from count tree frames least most r why = (λ e. absurd (subst (λ x. IfErr x (IsNotBegun count tree frames)) e why), λ out. absurd (outside out)) where
   outside : ((frames < 64) ⊎ (32768 < frames)) → ⊥
   outside (inl low) = omega (arith, low, least)

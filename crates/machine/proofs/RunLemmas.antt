@@ -7,7 +7,7 @@ use Rattle.machine.proofs.Runs.{run-append, run-more, then_runs}
 use Rattle.calls.specs.declared.halt.Halt.{Halt}
 use Rattle.calls.specs.declared.halt.Halt.TheVariants.{Console, Device, Halted, InitEnded}
 use Rattle.machine.specs.Gives.{IsDone, RunGives, StepGives}
-use Rattle.machine.specs.Told.{IsUp, Told}
+use Rattle.machine.specs.View.{IsUp, View}
 use Rattle.unixmodel.specs.Calls.{After}
 use Rattle.unixmodel.specs.declared.event.Event.{Event}
 use Rattle.unixmodel.specs.Failures.{Rises}
@@ -27,15 +27,15 @@ pub Rises-later : (a b c : ℕ) → a ≤ b → Rises b c → b ≤ c → Rises 
 Rises-later a b c ab bc l = omega arith
 
 -- all events so far are done as the model says, and the machine takes more
-pub record SoFar (first now : Told) (events : List Event) (before after : Option (List ℕ)) : Type 0 where
+pub record SoFar (first now : View) (events : List Event) (before after : Option (List ℕ)) : Type 0 where
   pub began : IsUp first
   pub done : IsDone first now (run first.state events) before after None
 
-pub up_now : (first now : Told) (events : List Event) (before after : Option (List ℕ)) → SoFar first now events before after → IsUp now
+pub up_now : (first now : View) (events : List Event) (before after : Option (List ℕ)) → SoFar first now events before after → IsUp now
 up_now first now events before after h = record { sound = h.done.sound; goes = rw h.done.state h.done.halts }
 
 -- a step that is done
-pub done_more : (first now new : Told) (xs : List Event) (e : Event) (before mid after : Option (List ℕ)) (r : Option ℤ)
+pub done_more : (first now new : View) (xs : List Event) (e : Event) (before mid after : Option (List ℕ)) (r : Option ℤ)
     → SoFar first now xs before mid → IsDone now new (next now.state e) mid after r
     → IsDone first new (run first.state (xs ++ e ∷ [])) before after r
 done_more first now new xs e before mid after r h k =
@@ -75,7 +75,7 @@ begins_more before mid after xs ys zs all h k e = record {
 }
 
 -- a step that stops a run
-pub stops : (first now new : Told) (i : ℕ) (es : List Event) (e : Event) (before mid after : Option (List ℕ)) (step_rises rises : Type 0) (halt : Halt)
+pub stops : (first now new : View) (i : ℕ) (es : List Event) (e : Event) (before mid after : Option (List ℕ)) (step_rises rises : Type 0) (halt : Halt)
     → i < length es → take (i + 1) es ≡ take i es ++ e ∷ []
     → SoFar first now (take i es) before mid
     → (step_rises → rises)
@@ -123,7 +123,7 @@ Appends-none None = tt
 Appends-none (Some xs) = sym (append-nil xs)
 
 -- before the first event
-pub so_far_at_first : (first : Told) (at : Option (List ℕ)) → IsUp first → SoFar first first [] at at
+pub so_far_at_first : (first : View) (at : Option (List ℕ)) → IsUp first → SoFar first first [] at at
 unfolding run
 so_far_at_first first at up = record {
   began = up;
@@ -137,7 +137,7 @@ so_far_at_first first at up = record {
 }
 
 -- a step that goes on
-pub goes_on : (first now new : Told) (i : ℕ) (es : List Event) (e : Event) (before mid after : Option (List ℕ))
+pub goes_on : (first now new : View) (i : ℕ) (es : List Event) (e : Event) (before mid after : Option (List ℕ))
     → i < length es → take (i + 1) es ≡ take i es ++ e ∷ []
     → SoFar first now (take i es) before mid → IsDone now new (next now.state e) mid after None
     → SoFar first new (take (i + 1) es) before after

@@ -1,12 +1,12 @@
 -- What an event comes to, from what the kernel makes of it.
 use Rattle.std.specs.Prelude.{IfErr}
-use Rattle.calls.specs.Does.{Dispatches, Does, LeavesTree, Makes}
+use Rattle.calls.specs.Gives.{Dispatches, EventGives, LeavesTree, Makes}
 use Rattle.calls.specs.declared.halt.Halt.{Halt}
 use Rattle.calls.specs.declared.halt.Halt.TheVariants.{Console, Device, Halted, InitEnded}
 use Rattle.kernel.specs.Kernel.{Kernel, state_of}
 use Rattle.machine.specs.Gives.{ConsoleFails, IsDone, StepGives, fails}
 use Rattle.machine.proofs.RunLemmas.{Appends-none}
-use Rattle.machine.specs.Told.{IsUp, Told}
+use Rattle.machine.specs.View.{IsUp, View}
 use Rattle.console.specs.Output.{AppendsBeginning}
 use Rattle.tree.specs.Tree.{FileTree}
 use Rattle.unixmodel.specs.Calls.{After, quiet}
@@ -15,7 +15,7 @@ use Rattle.unixmodel.specs.Next.{next, stopped}
 use Rattle.unixmodel.specs.State.{State, running}
 use Rattle.std.proofs.Common.{◌≡◌, ◌≤◌, ℕ, ℤ, Bool, true, false, List, Option, Some, None, Result, Ok, Err, arith, refl, ap}
 
-abbrev pub told : Kernel → Bool → Told
+abbrev pub told : Kernel → Bool → View
 told k failed = record { state = state_of k; failures = k.tree.failures; failed = failed }
 
 up : (k : Kernel) → k.halted ≡ None → IsUp (told k false)
@@ -44,7 +44,7 @@ console-gives old new before after rising bytes rises printed same = record {
 
 -- what the kernel does is what the machine gives
 pub does-gives : (old new : Kernel) (failed : Bool) (a : After) (before after : Option (List ℕ)) (rising : Type 0) (result : Result (Unit {0}) Halt)
-    → old.halted ≡ None → failed ≡ fails result → Does new a before after rising result → LeavesTree old.tree new.tree result
+    → old.halted ≡ None → failed ≡ fails result → EventGives new a before after rising result → LeavesTree old.tree new.tree result
     → StepGives (told old false) (told new failed) a before after rising result
 does-gives old new failed a before after rising (Ok u) goes flag made leaves = rw flag (up old goes, done-gives old new a before after None made leaves.later)
 does-gives old new failed a before after rising (Err (InitEnded status)) goes flag made leaves = rw flag (up old goes, done-gives old new a before after (Some status) made leaves.later)

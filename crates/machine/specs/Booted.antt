@@ -8,7 +8,7 @@ use Rattle.machine.specs.declared.image_boot.Init.{Init}
 use Rattle.machine.specs.declared.fault.BootFault.{BootFault}
 use Rattle.machine.specs.declared.fault.BootFault.TheVariants.{Device, FrameCount, Image, NoInit, NoMemory}
 use Rattle.machine.specs.Flat.{alone}
-use Rattle.machine.specs.Told.{IsUp, Told}
+use Rattle.machine.specs.View.{IsUp, View}
 use Rattle.mount.specs.Mounted.{AreLinked}
 use Rattle.names.specs.Rules.{KeepsTree}
 use Rattle.proc.specs.declared.process.Process.{Process}
@@ -16,7 +16,7 @@ use Rattle.proc.specs.Mask.{all_in}
 use Rattle.proc.specs.Places.{Places}
 use Rattle.programs.specs.Headed.{file_at, program_in}
 use Rattle.programs.specs.Passed.{plan_with}
-use Rattle.spaces.specs.Spaces.{Held, Spaces}
+use Rattle.spaces.specs.Spaces.{SpaceView, Spaces}
 use Rattle.tree.specs.Holding.{with_hold}
 use Rattle.tree.specs.Tree.{FileTree}
 use Rattle.tree.specs.Written.{IsFile}
@@ -43,7 +43,7 @@ abbrev pub start_from : List ℕ → Files → ℕ → Option State
 start_from image files frames = start files (data_blocks_of (size_in image) (inodes_in image)) frames
 
 -- the machine that boots from an image: its state is that with which the abstract Unix starts
-pub record IsBooted (image : List ℕ) (failures frames : ℕ) (m : Told) : Type 0 where
+pub record IsBooted (image : List ℕ) (failures frames : ℕ) (m : View) : Type 0 where
   pub files : Files
   pub accepted : IsAccepted image files
   pub starts : start_from image files frames ≡ Some m.state
@@ -79,7 +79,7 @@ pub record IsUnheld (t : FileTree) : Type 0 where
   pub holds : t.holds ≡ replicate count 0
   pub up : t.failed ≡ false
 
-pub record IsBegun (t : FileTree) (frames : ℕ) (m : Told) : Type 0 where
+pub record IsBegun (t : FileTree) (frames : ℕ) (m : View) : Type 0 where
   pub starts : start t.files t.block_limit frames ≡ Some m.state
   pub up : IsUp m
   pub later : t.failures ≤ m.failures
@@ -108,8 +108,8 @@ FindsInit files frames None = LacksInit files frames
 FindsInit files frames (Some init) = IsInit files frames init
 
 -- the space that shows a plan
-abbrev pub held_by : Plan → Held
-held_by new = record { memory = new.memory; size = new.size }
+abbrev pub view_by : Plan → SpaceView
+view_by new = record { memory = new.memory; size = new.size }
 
 -- the plan but for its pages
 abbrev pub bare_of : Init → Plan
@@ -135,7 +135,7 @@ pub record IsInPlace (files : Files) (frames : ℕ) (new : Spaces) (init : Init)
   pub is : init_plan files ≡ Some plan
   pub fits : 4 + page_frames (length plan.memory) ≤ frames
   pub few : init.program.pages ≤ frames
-  pub spaces : new ≡ alone frames (held_by plan)
+  pub spaces : new ≡ alone frames (view_by plan)
   pub bare : first_of (bare_of init) ≡ first_of plan
   pub aligned : plan.pc % 4 ≡ 0
 
@@ -151,4 +151,4 @@ first_places new = record { places = Some (first_of new) ∷ free_slots 63; last
 
 -- the kernel of a machine that begins with a plan, over the files of a disk
 abbrev pub init_kernel : FileTree → ℕ → Plan → Kernel
-init_kernel tree frames new = begun (record tree { holds = with_hold tree.holds 1 }) (first_places new) (alone frames (held_by new)) (free_slots 100)
+init_kernel tree frames new = begun (record tree { holds = with_hold tree.holds 1 }) (first_places new) (alone frames (view_by new)) (free_slots 100)

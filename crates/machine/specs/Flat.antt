@@ -8,7 +8,7 @@ use Rattle.files.specs.Places.{Counted}
 use Rattle.proc.specs.declared.process.Process.{Process}
 use Rattle.proc.specs.Mask.{all_in}
 use Rattle.proc.specs.Places.{Places}
-use Rattle.spaces.specs.Spaces.{Held, Spaces}
+use Rattle.spaces.specs.Spaces.{SpaceView, Spaces}
 use Rattle.tree.specs.Tree.{FileTree}
 use Rattle.unixmodel.specs.declared.process.Mode.TheVariants.{Ready}
 use Rattle.unixmodel.specs.Counts.{page_frames}
@@ -25,11 +25,11 @@ flat_memory bytes =
     with_stack (pages_of (record { writable = true; executable = true; user = true }) (ceil_div (length bytes) 4096) bytes)
 
 -- the space that shows them
-abbrev pub flat_space : List ℕ → Held
+abbrev pub flat_space : List ℕ → SpaceView
 flat_space bytes = record { memory = flat_memory bytes; size = 4096 * length (flat_memory bytes) }
 
 -- the spaces of so many frames, of which place 0 has this one
-abbrev pub alone : ℕ → Held → Spaces
+abbrev pub alone : ℕ → SpaceView → Spaces
 alone frames space = record {
   places = Some space ∷ replicate 63 None;
   active = None;
@@ -79,5 +79,5 @@ abbrev pub first_tree : FileTree → FileTree
 first_tree tree = record tree { holds = with_hold (with_hold tree.holds 1) 2 }
 
 -- the kernel of a machine that begins with a space, over the files of a disk
-abbrev pub first_kernel : FileTree → ℕ → Held → Kernel
+abbrev pub first_kernel : FileTree → ℕ → SpaceView → Kernel
 first_kernel tree frames space = begun (first_tree tree) (first_table space.size) (alone frames space) first_files

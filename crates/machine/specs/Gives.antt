@@ -5,13 +5,13 @@ use Rattle.unixmodel.specs.Failures.{Rises}
 use Rattle.console.specs.Output.{AppendsBeginning}
 use Rattle.calls.specs.declared.halt.Halt.{Halt}
 use Rattle.calls.specs.declared.halt.Halt.TheVariants.{Console, Device, Halted, InitEnded}
-use Rattle.machine.specs.Told.{IsUp, Told}
+use Rattle.machine.specs.View.{IsUp, View}
 use Rattle.unixmodel.specs.Calls.{After}
 use Rattle.unixmodel.specs.declared.event.Event.{Event}
 use Rattle.unixmodel.specs.Run.{run}
 
 -- all is as the abstract Unix says: the state with its files, how it halts, and the bytes on the console
-pub record IsDone (old new : Told) (a : After) (before after : Option (List ℕ)) (halted : Option ℤ) : Type 0 where
+pub record IsDone (old new : View) (a : After) (before after : Option (List ℕ)) (halted : Option ℤ) : Type 0 where
   pub state : new.state ≡ a.state
   pub halts : a.state.halted ≡ halted
   pub sound : new.failed ≡ false
@@ -19,7 +19,7 @@ pub record IsDone (old new : Told) (a : After) (before after : Option (List ℕ)
   pub later : old.failures ≤ new.failures
 
 -- the device's count of failures rose, and these bytes alone were printed
-pub record DeviceFails (old new : Told) (before after : Option (List ℕ)) (bytes : List ℕ) : Type 0 where
+pub record DeviceFails (old new : View) (before after : Option (List ℕ)) (bytes : List ℕ) : Type 0 where
   pub rises : Rises old.failures new.failures
   pub later : old.failures ≤ new.failures
   pub failed : new.failed ≡ true
@@ -27,7 +27,7 @@ pub record DeviceFails (old new : Told) (before after : Option (List ℕ)) (byte
 
 -- the console's count of failures rose, and a beginning of these bytes was printed; the files are as they were, and the device
 -- didn't fail
-pub record ConsoleFails (old new : Told) (before after : Option (List ℕ)) (rising : Type 0) (bytes : List ℕ) : Type 0 where
+pub record ConsoleFails (old new : View) (before after : Option (List ℕ)) (rising : Type 0) (bytes : List ℕ) : Type 0 where
   pub rises : rising
   pub failed : new.failed ≡ true
   pub printed : AppendsBeginning before after bytes
@@ -35,13 +35,13 @@ pub record ConsoleFails (old new : Told) (before after : Option (List ℕ)) (ris
   pub same : new.failures ≡ old.failures
 
 -- it takes no events, and nothing changed
-pub record IsRefused (old new : Told) (before after : Option (List ℕ)) : Type 0 where
+pub record IsRefused (old new : View) (before after : Option (List ℕ)) : Type 0 where
   pub stopped : ¬ IsUp old
   pub same : new ≡ old
   pub printed : Appends before after []
 
 -- what an event that makes `a` is answered with; rising: the console's count of failures rose
-abbrev pub StepGives : Told → Told → After → Option (List ℕ) → Option (List ℕ) → Type 0 → Result (Unit {0}) Halt → Type 0
+abbrev pub StepGives : View → View → After → Option (List ℕ) → Option (List ℕ) → Type 0 → Result (Unit {0}) Halt → Type 0
 StepGives old new a before after rising (Ok u) = IsUp old × IsDone old new a before after None
 StepGives old new a before after rising (Err (InitEnded status)) = IsUp old × IsDone old new a before after (Some status)
 StepGives old new a before after rising (Err Device) = IsUp old × DeviceFails old new before after []
@@ -49,7 +49,7 @@ StepGives old new a before after rising (Err Console) = IsUp old × ConsoleFails
 StepGives old new a before after rising (Err Halted) = IsRefused old new before after
 
 -- the events before the one at which the device failed are done as the abstract Unix says
-pub record DeviceFailsIn (old new : Told) (events : List Event) (before after : Option (List ℕ)) : Type 0 where
+pub record DeviceFailsIn (old new : View) (events : List Event) (before after : Option (List ℕ)) : Type 0 where
   pub done : ℕ
   pub more : done < length events
   pub goes : (run old.state (take done events)).state.halted ≡ None
@@ -57,7 +57,7 @@ pub record DeviceFailsIn (old new : Told) (events : List Event) (before after : 
 
 -- the console's count of failures rose at the event after so many, a beginning of what all print was printed, and the files are
 -- those that the events before it leave
-pub record ConsoleFailsIn (old new : Told) (events : List Event) (before after : Option (List ℕ)) (rising : Type 0) : Type 0 where
+pub record ConsoleFailsIn (old new : View) (events : List Event) (before after : Option (List ℕ)) (rising : Type 0) : Type 0 where
   pub rises : rising
   pub failed : new.failed ≡ true
   pub printed : AppendsBeginning before after (run old.state events).bytes
@@ -68,7 +68,7 @@ pub record ConsoleFailsIn (old new : Told) (events : List Event) (before after :
   pub later : old.failures ≤ new.failures
 
 -- what a list of events is answered with
-abbrev pub RunGives : Told → Told → List Event → Option (List ℕ) → Option (List ℕ) → Type 0 → Result (Unit {0}) Halt → Type 0
+abbrev pub RunGives : View → View → List Event → Option (List ℕ) → Option (List ℕ) → Type 0 → Result (Unit {0}) Halt → Type 0
 RunGives old new events before after rising (Ok u) = IsUp old × IsDone old new (run old.state events) before after None
 RunGives old new events before after rising (Err (InitEnded status)) = IsUp old × IsDone old new (run old.state events) before after (Some status)
 RunGives old new events before after rising (Err Device) = IsUp old × DeviceFailsIn old new events before after

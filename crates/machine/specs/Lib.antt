@@ -1,4 +1,4 @@
-pub mod Told
+pub mod View
 pub mod Show
 pub mod Gives
 pub mod Seen

@@ -4,7 +4,7 @@ use Rattle.calls.specs.declared.halt.Halt.TheVariants.{Console, Device, Halted, 
 use Rattle.inode.specs.declared.InodeStat.{InodeStat}
 use Rattle.kernel.specs.Kernel.{on_hart}
 use Rattle.machine.specs.declared.inodes.Stat.{Stat}
-use Rattle.machine.specs.Told.{Told}
+use Rattle.machine.specs.View.{View}
 use Rattle.proc.specs.Places.{Places, changed, with_mode}
 use Rattle.spaces.specs.Spaces.{Spaces}
 use Rattle.std.specs.Prelude.{Err, List, None, Ok, Option, Result, Some, drop, false, length, true, ℕ, ◌++◌, ◌≡◌, ◌≤◌}
@@ -28,26 +28,26 @@ pub record IsRead (bytes old new : List ℕ) (told : ℕ) : Type 0 where
 -- ---- what the machine is then
 
 -- all is as it was: the processes, the console, the files
-pub record IsSame (old new : Told) : Type 0 where
+pub record IsSame (old new : View) : Type 0 where
   pub sound : old.failed ≡ false
   pub state : new.state ≡ old.state
   pub still : new.failed ≡ false
   pub later : old.failures ≤ new.failures
 
 -- an access of the device failed, and its count of failures rose: the machine has failed
-pub record IsLost (old new : Told) : Type 0 where
+pub record IsLost (old new : View) : Type 0 where
   pub sound : old.failed ≡ false
   pub failed : new.failed ≡ true
   pub later : old.failures ≤ new.failures
   pub rises : Rises old.failures new.failures
 
 -- it had failed before, and nothing changed
-pub record HasStopped (old new : Told) : Type 0 where
+pub record HasStopped (old new : View) : Type 0 where
   pub failed : old.failed ≡ true
   pub same : new ≡ old
 
 -- what a look at the files is answered with
-abbrev pub LookGives : {X : Type 0} → Told → Told → (X → Type 0) → Result X Halt → Type 0
+abbrev pub LookGives : {X : Type 0} → View → View → (X → Type 0) → Result X Halt → Type 0
 LookGives old new Tells (Ok x) = IsSame old new × Tells x
 LookGives old new Tells (Err Device) = IsLost old new
 LookGives old new Tells (Err Halted) = HasStopped old new

@@ -2,9 +2,9 @@
 use Rattle.std.specs.Prelude.{false, ◌≡◌}
 use Rattle.kernel.specs.Kernel.{state_of}
 use Rattle.machine.specs.declared.machine.Machine.TheInside.{Inside}
-use Rattle.machine.specs.Told.{Told}
+use Rattle.machine.specs.View.{View}
 
-abbrev pub told_of : {D T : Type 0} → Inside D T → Told
+abbrev pub told_of : {D T : Type 0} → Inside D T → View
 told_of m = record { state = state_of m.kernel; failures = m.kernel.tree.failures; failed = m.failed }
 
 -- until the machine has failed no access of the device has

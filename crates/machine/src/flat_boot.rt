@@ -1,7 +1,7 @@
 //! How a machine begins.
 ghost use Rattle.std.specs.Prelude.{◌≡◌, ◌<◌, ◌≤◌, ◌⊎◌, ◌↔◌, Some, None, IfOk, IsErrOf, OnErr};
 ghost use Rattle.machine.specs.Flat.{LoadsFlat, first, first_files, first_table};
-ghost use Rattle.machine.specs.Told.{IsUp};
+ghost use Rattle.machine.specs.View.{IsUp};
 ghost use Rattle.mount.specs.Mounted.{IsFlat};
 ghost use Rattle.spaces.specs.Spaces.{no_spaces};
 ghost use Rattle.unixmodel.specs.Start.{start_flat};

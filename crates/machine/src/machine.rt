@@ -8,7 +8,7 @@ ghost use Rattle.machine.specs.Gives.{fails};
 ghost use Rattle.calls.specs.declared.halt.Halt.TheVariants.{Halted};
 ghost use Rattle.machine.specs.Looks.{IsRead, LookGives, stat_seen};
 ghost use Rattle.machine.specs.Seen.{seen_of};
-ghost use Rattle.machine.specs.Told.{told};
+ghost use Rattle.machine.specs.View.{sound_view};
 ghost use Rattle.unixmodel.specs.Counts.{frames_of};
 ghost use Rattle.unixmodel.specs.Memory.{Page};
 ghost use Rattle.unixmodel.specs.Shown.{ShowsMemory, shown_bytes, shown_page, shown_process, shown_stat};
@@ -36,9 +36,9 @@ pub struct Machine<D: BlockDev, T: Translate + Drop> {
 }
 
 impl<D: BlockDev, T: Translate + Drop> Model for Machine<D, T> {
-    ghost use Rattle.machine.specs.Told.{Told};
+    ghost use Rattle.machine.specs.View.{View};
 
-    ghost Value = { Told };
+    ghost Value = { View };
 
     ghost use Rattle.machine.specs.Show.{IsSound, told_of};
 
@@ -55,13 +55,13 @@ fn is_failure(done: &Result<(), Halt>) -> bool
 }
 
 impl<D: BlockDev, T: Translate + Drop> Machine<D, T> {
-    ghost use Rattle.machine.specs.Told.{IsUp, Told};
+    ghost use Rattle.machine.specs.View.{IsUp, View};
     ghost use Rattle.machine.specs.Gives.{ConsoleFails, RunGives, StepGives, halt_of};
 
     /// The machine of a kernel whose device has not failed.
     pub(crate) fn new(kernel: Kernel<D, T>) -> Machine<D, T>
         requires { kernel.tree.failed ≡ false }
-        ensures { result ≡ told (state_of kernel) kernel.tree.failures }
+        ensures { result ≡ sound_view (state_of kernel) kernel.tree.failures }
     {
         Machine {
             kernel,

@@ -14,7 +14,7 @@ use Rattle.programs.proofs.Headings.{TellsProgram}
 use Rattle.programs.proofs.Loads.{IsProgram, is-program}
 use Rattle.programs.proofs.Places.{has-same, length-write, space-within}
 use Rattle.unixmodel.specs.Shown.{bytes_or_none}
-use Rattle.spaces.specs.Spaces.{Held, Spaces, has_space, held_at, taken_frames, with_held}
+use Rattle.spaces.specs.Spaces.{SpaceView, Spaces, has_space, view_at, taken_frames, with_view}
 use Rattle.spaces.proofs.SpacesLemmas.{held-same}
 use Rattle.tree.specs.Tree.{FileTree, Serves}
 use Rattle.tree.specs.Written.{IsFile}
@@ -146,7 +146,7 @@ planned of mem argv = ap (option_and_then (λ file. option_and_then (plan file) 
 
 module _ {files : Files} {n : ℕ} {program : Program} (of : IsOf files n program) (s : Spaces) (at argv : ℕ) where
   abbrev mem : Memory
-  mem = (held_at s at).memory
+  mem = (view_at s at).memory
 
   -- the frames don't suffice
   pub over-frames : (frames free : ℕ) → frames ≡ 3 + page_frames (program.pages + 2) → free + taken_frames s ≡ s.frames → free < frames → (p : Plan) → plan_at files n mem argv ≡ Some p → s.frames < frames_beside s p
@@ -163,21 +163,21 @@ module _ {files : Files} {n : ℕ} {program : Program} (of : IsOf files n progra
 
   -- it is executed
   pub is-executed : (new : Spaces) (a : Arguments) (size frames free : ℕ) → has_space s at ≡ true → Passes mem argv program.pages (Some a) → frames ≡ 3 + page_frames (program.pages + 2) → free + taken_frames s ≡ s.frames → frames ≤ free
-      → new ≡ with_held s at (paged (stacked of.is.loaded.pages a.page)) → size ≡ (held_at new at).size
+      → new ≡ with_view s at (paged (stacked of.is.loaded.pages a.page)) → size ≡ (view_at new at).size
       → IsExecuted (plan_at files n mem argv) s new at (record { pc = program.header.entry; count = a.count; sp = a.sp; size = size })
   is-executed new a size frames free has passes are left enough put told =
       let pages = of.is.loaded.pages in
       let long : length (stacked pages a.page) ≡ program.pages + 2 = long-stack a.page ∙ ap (λ k. k + 2) of.is.pages in
       let whole : 4096 * length (stacked pages a.page) ≡ 4096 * (length pages + 2) = ap (λ k. 4096 * k) (long-stack a.page) in
       let shown : size ≡ 4096 * (length pages + 2) =
-      told ∙ ap (λ (k : Spaces). (held_at k at).size) put ∙ ap (λ (h : Held). h.size) (held-same s at (paged (stacked pages a.page)) (space-within s at has)) ∙ whole in
+      told ∙ ap (λ (k : Spaces). (view_at k at).size) put ∙ ap (λ (h : SpaceView). h.size) (held-same s at (paged (stacked pages a.page)) (space-within s at has)) ∙ whole in
       record {
         plan = plan_with pages program.header.entry a;
         is = planned of mem argv ∙ plan-passed of.file program of.is mem argv (Some a) passes;
         fits = subst (λ k. taken_frames s + 3 + page_frames k ≤ s.frames) (sym long) (omega (arith, are, left, enough));
-        held = put ∙ ap (λ k. with_held s at (let h : Held = record { memory = stacked pages a.page; size = k } in h)) whole;
+        held = put ∙ ap (λ k. with_view s at (let h : SpaceView = record { memory = stacked pages a.page; size = k } in h)) whole;
         started = ap (λ k. let t : Started = record { pc = program.header.entry; count = a.count; sp = a.sp; size = k } in t) shown;
       }
 
-  pub has-new : (new : Spaces) (h : Held) → has_space s at ≡ true → new ≡ with_held s at h → has_space new at ≡ true
+  pub has-new : (new : Spaces) (h : SpaceView) → has_space s at ≡ true → new ≡ with_view s at h → has_space new at ≡ true
   has-new new h has put = ap (λ (k : Spaces). has_space k at) put ∙ has-same s at h has

@@ -16,7 +16,7 @@ use Rattle.programs.proofs.Headings.{HasLoaded, Stats, header-within, is-headed,
 use Rattle.programs.proofs.Places.{has-same, held-twice, room-less, room-with, self-held, space-within}
 use Rattle.spaces.proofs.SpacesLemmas.{held-same}
 use Rattle.tree.specs.Written.{IsFile}
-use Rattle.spaces.specs.Spaces.{Held, Spaces, has_space, held_at, no_pages, with_held}
+use Rattle.spaces.specs.Spaces.{SpaceView, Spaces, has_space, view_at, no_pages, with_view}
 use Rattle.tree.specs.Tree.{FileTree, Serves}
 use Rattle.unixmodel.specs.Files.{slot}
 use Rattle.unixmodel.specs.Files.Node.{File}
@@ -59,13 +59,13 @@ taken-of true shown g o is = taken-if shown g o is
 taken-of false shown g o is = absurd (cc)
 
 -- what comes next, by a segment that isn't refused
-pub record IsNext (file : List ℕ) (place : ℕ) (h : Held) (end : ℕ) (g : LoadSegment) (next : Loaded) : Type 0 where
+pub record IsNext (file : List ℕ) (place : ℕ) (h : SpaceView) (end : ℕ) (g : LoadSegment) (next : Loaded) : Type 0 where
   pub shown : g ≡ segment_shown (segment_at file place)
   pub is : next ≡ with_segment file (record { pages = h.memory; end = end }) (segment_at file place)
   pub follows : Follows (length file) (length h.memory) g
   pub count : length next.pages ≡ ceil_div (g.address + g.size) 4096
 
-module _ (file : List ℕ) (place : ℕ) (h : Held) (end : ℕ) (next : Loaded) (some : next_in file place h end ≡ Some next) where
+module _ (file : List ℕ) (place : ℕ) (h : SpaceView) (end : ℕ) (next : Loaded) (some : next_in file place h end ≡ Some next) where
   abbrev here : Loaded
   here = record { pages = h.memory; end = end }
 
@@ -98,40 +98,40 @@ module _ (file : List ℕ) (place : ℕ) (h : Held) (end : ℕ) (next : Loaded) 
       }
 
 -- the segment is loaded
-pub next-loaded : (file : List ℕ) (place end : ℕ) (s s' : Spaces) (at : ℕ) (g : LoadSegment) (next : Loaded) → IsNext file place (held_at s at) end g next
-    → ((seg : Segment) → g ≡ segment_shown seg → s' ≡ with_held s at (paged ((held_at s at).memory ++ segment_pages file (length (held_at s at).memory) seg)))
-    → (g.address + g.size ≡ next.end) × (s' ≡ with_held s at (paged next.pages))
+pub next-loaded : (file : List ℕ) (place end : ℕ) (s s' : Spaces) (at : ℕ) (g : LoadSegment) (next : Loaded) → IsNext file place (view_at s at) end g next
+    → ((seg : Segment) → g ≡ segment_shown seg → s' ≡ with_view s at (paged ((view_at s at).memory ++ segment_pages file (length (view_at s at).memory) seg)))
+    → (g.address + g.size ≡ next.end) × (s' ≡ with_view s at (paged next.pages))
 next-loaded file place end s s' at g next is put = (
   ap (λ (x : LoadSegment). x.address + x.size) is.shown ∙ ap (λ (l : Loaded). l.end) (sym is.is),
-  put (segment_at file place) is.shown ∙ ap (λ (l : Loaded). with_held s at (paged l.pages)) (sym is.is),
+  put (segment_at file place) is.shown ∙ ap (λ (l : Loaded). with_view s at (paged l.pages)) (sym is.is),
 )
 
 -- it is skipped
-pub next-skipped : (end : ℕ) (s : Spaces) (at : ℕ) (next : Loaded) → has_space s at ≡ true → IsPaged (held_at s at) → record { pages = (held_at s at).memory; end = end } ≡ next → (end ≡ next.end) × (s ≡ with_held s at (paged next.pages))
+pub next-skipped : (end : ℕ) (s : Spaces) (at : ℕ) (next : Loaded) → has_space s at ≡ true → IsPaged (view_at s at) → record { pages = (view_at s at).memory; end = end } ≡ next → (end ≡ next.end) × (s ≡ with_view s at (paged next.pages))
 next-skipped end s at next has whole is = (
   ap (λ (l : Loaded). l.end) is,
   self-held s at has
-      ∙ ap (λ n. with_held s at (let h : Held = record { memory = (held_at s at).memory; size = n } in h)) whole
-      ∙ ap (λ (l : Loaded). with_held s at (paged l.pages)) is,
+      ∙ ap (λ n. with_view s at (let h : SpaceView = record { memory = (view_at s at).memory; size = n } in h)) whole
+      ∙ ap (λ (l : Loaded). with_view s at (paged l.pages)) is,
 )
 
 -- ---- what `load_next` reads
 
-module _ {old mid : FileTree} (s : Spaces) (at number place end : ℕ) {told : Result (Option LoadSegment) ElfFault} (whole : length (held_at s at).memory ≡ ceil_div end 4096)
-    (serves : Serves old mid (Ok told) (λ t. IsRead old mid t (segment_behind (file_at old.files number) place end))) (next : Loaded) (some : next_in (file_at old.files number) place (held_at s at) end ≡ Some next) where
+module _ {old mid : FileTree} (s : Spaces) (at number place end : ℕ) {told : Result (Option LoadSegment) ElfFault} (whole : length (view_at s at).memory ≡ ceil_div end 4096)
+    (serves : Serves old mid (Ok told) (λ t. IsRead old mid t (segment_behind (file_at old.files number) place end))) (next : Loaded) (some : next_in (file_at old.files number) place (view_at s at) end ≡ Some next) where
   pub never-refused : (fault : ElfFault) → told ≡ Err fault → ⊥
-  never-refused fault is = not-refused (file_at old.files number) place (held_at s at) end next some fault (sym serves.told.value ∙ is)
+  never-refused fault is = not-refused (file_at old.files number) place (view_at s at) end next some fault (sym serves.told.value ∙ is)
 
-  pub skipped-next : {o : Option LoadSegment} → told ≡ Ok o → o ≡ None → has_space s at ≡ true → IsPaged (held_at s at) → (end ≡ next.end) × (s ≡ with_held s at (paged next.pages))
+  pub skipped-next : {o : Option LoadSegment} → told ≡ Ok o → o ≡ None → has_space s at ≡ true → IsPaged (view_at s at) → (end ≡ next.end) × (s ≡ with_view s at (paged next.pages))
   skipped-next ok none has paged =
-      next-skipped end s at next has paged (is-skipped (file_at old.files number) place (held_at s at) end next some (sym serves.told.value ∙ ok ∙ ap Ok none))
+      next-skipped end s at next has paged (is-skipped (file_at old.files number) place (view_at s at) end next some (sym serves.told.value ∙ ok ∙ ap Ok none))
 
   module _ {o : Option LoadSegment} {g : LoadSegment} (ok : told ≡ Ok o) (there : o ≡ Some g) where
-    pub taken-next : IsNext (file_at old.files number) place (held_at s at) end g next
-    taken-next = is-next (file_at old.files number) place (held_at s at) end next some g (sym serves.told.value ∙ ok ∙ ap Ok there) whole
+    pub taken-next : IsNext (file_at old.files number) place (view_at s at) end g next
+    taken-next = is-next (file_at old.files number) place (view_at s at) end next some g (sym serves.told.value ∙ ok ∙ ap Ok there) whole
 
-    pub follows-next : Follows (length (file_at mid.files number)) (length (held_at s at).memory) g
-    follows-next = subst (λ (t : FileTree). Follows (length (file_at t.files number)) (length (held_at s at).memory) g) (sym serves.told.same) taken-next.follows
+    pub follows-next : Follows (length (file_at mid.files number)) (length (view_at s at).memory) g
+    follows-next = subst (λ (t : FileTree). Follows (length (file_at t.files number)) (length (view_at s at).memory) g) (sym serves.told.same) taken-next.follows
 
     pub few-next : length next.pages < 2 ^ 32 → ceil_div (g.address + g.size) 4096 < 2 ^ 32
     few-next few = subst (λ n. n < 2 ^ 32) taken-next.count few
@@ -139,11 +139,11 @@ module _ {old mid : FileTree} (s : Spaces) (at number place end : ℕ) {told : R
     pub room-next : HasRoom s at (length next.pages) → HasRoom s at (ceil_div (g.address + g.size) 4096)
     room-next room = subst (HasRoom s at) taken-next.count room
 
-    pub loaded-next : {new : Spaces} → ((seg : Segment) → g ≡ segment_shown seg → new ≡ with_held s at (paged ((held_at s at).memory ++ segment_pages (file_at mid.files number) (length (held_at s at).memory) seg)))
-        → (g.address + g.size ≡ next.end) × (new ≡ with_held s at (paged next.pages))
+    pub loaded-next : {new : Spaces} → ((seg : Segment) → g ≡ segment_shown seg → new ≡ with_view s at (paged ((view_at s at).memory ++ segment_pages (file_at mid.files number) (length (view_at s at).memory) seg)))
+        → (g.address + g.size ≡ next.end) × (new ≡ with_view s at (paged next.pages))
     loaded-next {new} put =
         next-loaded (file_at old.files number) place end s new at g next taken-next
-        (λ seg shown. put seg shown ∙ ap (λ (t : FileTree). with_held s at (paged ((held_at s at).memory ++ segment_pages (file_at t.files number) (length (held_at s at).memory) seg))) serves.told.same)
+        (λ seg shown. put seg shown ∙ ap (λ (t : FileTree). with_view s at (paged ((view_at s at).memory ++ segment_pages (file_at t.files number) (length (view_at s at).memory) seg))) serves.told.same)
 
 -- ---- all of them
 
@@ -194,13 +194,13 @@ has-next file n at l last within all = go (load_segment file l (segment_at file 
 -- the program headers so far are loaded
 pub record IsLoading (old now : FileTree) (before after : Spaces) (at number count place i end : ℕ) : Type 0 where
   pub loads : HasLoaded old now (file_at old.files number) count place i end
-  pub pages : after ≡ with_held before at (paged loads.loaded.pages)
+  pub pages : after ≡ with_view before at (paged loads.loaded.pages)
   pub whole : length loads.loaded.pages ≡ ceil_div end 4096
 
-pub none-loading : (tree : FileTree) (s : Spaces) (at number count place : ℕ) → tree.failed ≡ false → has_space s at ≡ true → held_at s at ≡ no_pages → IsLoading tree tree s s at number count place 0 0
+pub none-loading : (tree : FileTree) (s : Spaces) (at number count place : ℕ) → tree.failed ≡ false → has_space s at ≡ true → view_at s at ≡ no_pages → IsLoading tree tree s s at number count place 0 0
 none-loading tree s at number count place up has empty = record {
   loads = record { same = refl; up = up; later = omega arith; loaded = nothing_loaded; ends = refl; rest = none-read (file_at tree.files number) count place };
-  pages = self-held s at has ∙ ap (λ (h : Held). with_held s at h) empty;
+  pages = self-held s at has ∙ ap (λ (h : SpaceView). with_view s at h) empty;
   whole = refl;
 }
 
@@ -215,8 +215,8 @@ module _ {old now : FileTree} {before after : Spaces} {at number count place i e
   abbrev file : List ℕ
   file = file_at old.files number
 
-  held-now : held_at after at ≡ paged has.loads.loaded.pages
-  held-now = ap (λ (s : Spaces). held_at s at) has.pages ∙ held-same before at (paged has.loads.loaded.pages) (space-within before at space)
+  held-now : view_at after at ≡ paged has.loads.loaded.pages
+  held-now = ap (λ (s : Spaces). view_at s at) has.pages ∙ held-same before at (paged has.loads.loaded.pages) (space-within before at space)
 
   pub file-same : file_at now.files number ≡ file
   file-same = ap (λ (t : FileTree). file_at t.files number) has.loads.same
@@ -230,18 +230,18 @@ module _ {old now : FileTree} {before after : Spaces} {at number count place i e
   pub has-now : has_space after at ≡ true
   has-now = ap (λ (s : Spaces). has_space s at) has.pages ∙ has-same before at (paged has.loads.loaded.pages) space
 
-  pub paged-now : IsPaged (held_at after at)
+  pub paged-now : IsPaged (view_at after at)
   paged-now = subst IsPaged (sym held-now) refl
 
-  pub whole-now : length (held_at after at).memory ≡ ceil_div end 4096
-  whole-now = ap (λ (h : Held). length h.memory) held-now ∙ has.whole
+  pub whole-now : length (view_at after at).memory ≡ ceil_div end 4096
+  whole-now = ap (λ (h : SpaceView). length h.memory) held-now ∙ has.whole
 
-  pub loading-all : count ≤ i → (last : Loaded) → load_segments file count place nothing_loaded ≡ Some last → after ≡ with_held before at (paged last.pages)
+  pub loading-all : count ≤ i → (last : Loaded) → load_segments file count place nothing_loaded ≡ Some last → after ≡ with_view before at (paged last.pages)
   unfolding load_segments
   loading-all all last is =
       let none : count - i ≡ 0 = omega (arith, all) in
       let same : has.loads.loaded ≡ last = same_Some has.loads.loaded last (sym (has.loads.rest ∙ ap (λ n. load_segments file n (place + 56 * i) has.loads.loaded) none) ∙ is) in
-      has.pages ∙ ap (λ (l : Loaded). with_held before at (paged l.pages)) same
+      has.pages ∙ ap (λ (l : Loaded). with_view before at (paged l.pages)) same
 
   module _ (more : i < count) (fits : is_within place (56 * count) (length file) ≡ true) (last : Last before at file count place) where
     left : count - i ≡ suc (count - (i + 1))
@@ -252,17 +252,17 @@ module _ {old now : FileTree} {before after : Spaces} {at number count place i e
         has-next file (count - (i + 1)) (place + 56 * i) has.loads.loaded last.0 (header-within place count i (length file) fits more)
         (sym (has.loads.rest ∙ ap (λ n. load_segments file n (place + 56 * i) has.loads.loaded) left) ∙ last.1)
 
-    here-now : ◌≡◌ {A = Loaded} (record { pages = (held_at after at).memory; end = end }) has.loads.loaded
-    here-now = same-loaded (ap (λ (h : Held). h.memory) held-now) (sym has.loads.ends)
+    here-now : ◌≡◌ {A = Loaded} (record { pages = (view_at after at).memory; end = end }) has.loads.loaded
+    here-now = same-loaded (ap (λ (h : SpaceView). h.memory) held-now) (sym has.loads.ends)
 
-    next-is : {p : ℕ} → p ≡ place + 56 * i → next_in (file_at now.files number) p (held_at after at) end ≡ Some then-next.next
+    next-is : {p : ℕ} → p ≡ place + 56 * i → next_in (file_at now.files number) p (view_at after at) end ≡ Some then-next.next
     next-is {p} is =
-        ap (λ f. next_in f p (held_at after at) end) file-same
-        ∙ ap (λ q. next_in file q (held_at after at) end) is
+        ap (λ f. next_in f p (view_at after at) end) file-same
+        ∙ ap (λ q. next_in file q (view_at after at) end) is
         ∙ ap (λ l. load_segment file l (segment_at file (place + 56 * i))) here-now
         ∙ then-next.loads
 
-    pub next-now : {p : ℕ} → p ≡ place + 56 * i → (next : Loaded) × (next_in (file_at now.files number) p (held_at after at) end ≡ Some next) × (length next.pages < 2 ^ 32) × HasRoom after at (length next.pages)
+    pub next-now : {p : ℕ} → p ≡ place + 56 * i → (next : Loaded) × (next_in (file_at now.files number) p (view_at after at) end ≡ Some next) × (length next.pages < 2 ^ 32) × HasRoom after at (length next.pages)
     next-now is =
         let low = then-next.less in (
           then-next.next,
@@ -273,7 +273,7 @@ module _ {old now : FileTree} {before after : Spaces} {at number count place i e
         )
 
     pub loading-more : {next : FileTree} {put : Spaces} {told p : ℕ} → p ≡ place + 56 * i → Serves now next (Ok told) (Leaves now next)
-        → ((l : Loaded) → next_in (file_at now.files number) p (held_at after at) end ≡ Some l → (told ≡ l.end) × (put ≡ with_held after at (paged l.pages))) → IsLoading old next before put at number count place (i + 1) told
+        → ((l : Loaded) → next_in (file_at now.files number) p (view_at after at) end ≡ Some l → (told ≡ l.end) × (put ≡ with_view after at (paged l.pages))) → IsLoading old next before put at number count place (i + 1) told
     loading-more {next} {put} {told} is serves loaded =
         let done = loaded then-next.next (next-is is) in
         let was = has.loads.later in
@@ -292,7 +292,7 @@ module _ {old now : FileTree} {before after : Spaces} {at number count place i e
                 ∙ loads-next file (count - (i + 1)) (place + 56 * i) has.loads.loaded (Some then-next.next) (header-within place count i (length file) fits more) then-next.loads
                 ∙ ap (λ a. load_segments file (count - (i + 1)) a then-next.next) behind;
           };
-          pages = done.1 ∙ ap (λ (s : Spaces). with_held s at (paged then-next.next.pages)) has.pages ∙ held-twice before at (paged has.loads.loaded.pages) (paged then-next.next.pages);
+          pages = done.1 ∙ ap (λ (s : Spaces). with_view s at (paged then-next.next.pages)) has.pages ∙ held-twice before at (paged has.loads.loaded.pages) (paged then-next.next.pages);
           whole = segment ∙ ap (λ n. ceil_div n 4096) (sym done.0);
         }
       where
@@ -342,12 +342,12 @@ module _ {old mid : FileTree} {number : ℕ} {stat : InodeStat} (file : IsFile o
   pub loads-still : {program : Program} → (is : IsProgram (file_at old.files number) program) → load_segments (file_at mid.files number) program.header.count program.header.program_headers nothing_loaded ≡ Some is.loaded
   loads-still {program} is = ap (λ f. load_segments f program.header.count program.header.program_headers nothing_loaded) file-kept ∙ is.loads
 
-  module _ {program : Program} (is : IsProgram (file_at old.files number) program) (s s1 : Spaces) (at : ℕ) (has : has_space s at ≡ true) (cleared : s1 ≡ with_held s at no_pages) (few : program.pages < 2 ^ 32) (room : HasRoom s at (program.pages + 2)) where
+  module _ {program : Program} (is : IsProgram (file_at old.files number) program) (s s1 : Spaces) (at : ℕ) (has : has_space s at ≡ true) (cleared : s1 ≡ with_view s at no_pages) (few : program.pages < 2 ^ 32) (room : HasRoom s at (program.pages + 2)) where
     pub has-cleared : has_space s1 at ≡ true
     has-cleared = ap (λ (k : Spaces). has_space k at) cleared ∙ has-same s at no_pages has
 
-    pub empty-cleared : held_at s1 at ≡ no_pages
-    empty-cleared = ap (λ (k : Spaces). held_at k at) cleared ∙ held-same s at no_pages (space-within s at has)
+    pub empty-cleared : view_at s1 at ≡ no_pages
+    empty-cleared = ap (λ (k : Spaces). view_at k at) cleared ∙ held-same s at no_pages (space-within s at has)
 
     pub last-still : Last s1 at (file_at mid.files number) program.header.count program.header.program_headers
     last-still = (
@@ -357,30 +357,30 @@ module _ {old mid : FileTree} {number : ℕ} {stat : InodeStat} (file : IsFile o
       subst (λ (k : Spaces). HasRoom k at (length is.loaded.pages)) (sym cleared) (room-with s at (length is.loaded.pages) no_pages (room-less s at (length is.loaded.pages) (program.pages + 2) (omega (arith, is.pages)) room)),
     )
 
-    module _ (s2 : Spaces) (put : s2 ≡ with_held s1 at (paged is.loaded.pages)) where
-      all-put : s2 ≡ with_held s at (paged is.loaded.pages)
-      all-put = put ∙ ap (λ (k : Spaces). with_held k at (paged is.loaded.pages)) cleared ∙ held-twice s at no_pages (paged is.loaded.pages)
+    module _ (s2 : Spaces) (put : s2 ≡ with_view s1 at (paged is.loaded.pages)) where
+      all-put : s2 ≡ with_view s at (paged is.loaded.pages)
+      all-put = put ∙ ap (λ (k : Spaces). with_view k at (paged is.loaded.pages)) cleared ∙ held-twice s at no_pages (paged is.loaded.pages)
 
-      held-put : held_at s2 at ≡ paged is.loaded.pages
-      held-put = ap (λ (k : Spaces). held_at k at) all-put ∙ held-same s at (paged is.loaded.pages) (space-within s at has)
+      held-put : view_at s2 at ≡ paged is.loaded.pages
+      held-put = ap (λ (k : Spaces). view_at k at) all-put ∙ held-same s at (paged is.loaded.pages) (space-within s at has)
 
       pub has-put : has_space s2 at ≡ true
       has-put = ap (λ (k : Spaces). has_space k at) all-put ∙ has-same s at (paged is.loaded.pages) has
 
-      pub paged-put : IsPaged (held_at s2 at)
+      pub paged-put : IsPaged (view_at s2 at)
       paged-put = subst IsPaged (sym held-put) refl
 
-      pub room-put : HasRoom s2 at (length (held_at s2 at).memory + 2)
+      pub room-put : HasRoom s2 at (length (view_at s2 at).memory + 2)
       room-put =
-          subst (λ (h : Held). HasRoom s2 at (length h.memory + 2)) (sym held-put)
+          subst (λ (h : SpaceView). HasRoom s2 at (length h.memory + 2)) (sym held-put)
           (subst (λ (k : Spaces). HasRoom k at (length is.loaded.pages + 2)) (sym all-put)
           (room-with s at (length is.loaded.pages + 2) (paged is.loaded.pages) (subst (λ n. HasRoom s at (n + 2)) (sym is.pages) room)))
 
-      pub stack-put : (s3 : Spaces) (page : List ℕ) → s3 ≡ with_held s2 at (paged (stacked (held_at s2 at).memory page)) → (l : Loaded) → loaded_of (file_at old.files number) ≡ Some l → s3 ≡ with_held s at (paged (stacked l.pages page))
+      pub stack-put : (s3 : Spaces) (page : List ℕ) → s3 ≡ with_view s2 at (paged (stacked (view_at s2 at).memory page)) → (l : Loaded) → loaded_of (file_at old.files number) ≡ Some l → s3 ≡ with_view s at (paged (stacked l.pages page))
       stack-put s3 page stack l loaded =
           let same : is.loaded ≡ l = same_Some is.loaded l (sym is.is ∙ loaded) in
           stack
-          ∙ ap (λ (h : Held). with_held s2 at (paged (stacked h.memory page))) held-put
-          ∙ ap (λ (k : Spaces). with_held k at (paged (stacked is.loaded.pages page))) all-put
+          ∙ ap (λ (h : SpaceView). with_view s2 at (paged (stacked h.memory page))) held-put
+          ∙ ap (λ (k : Spaces). with_view k at (paged (stacked is.loaded.pages page))) all-put
           ∙ held-twice s at (paged is.loaded.pages) (paged (stacked is.loaded.pages page))
-          ∙ ap (λ (x : Loaded). with_held s at (paged (stacked x.pages page))) same
+          ∙ ap (λ (x : Loaded). with_view s at (paged (stacked x.pages page))) same

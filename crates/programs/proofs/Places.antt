@@ -14,7 +14,7 @@ use Rattle.programs.specs.Passed.{stacked}
 use Rattle.programs.proofs.Stacks.{write-stack}
 use Rattle.programs.specs.Headed.{file_at}
 use Rattle.programs.specs.Placed.{Follows, HasRoom, IsPaged, Leaves, paged}
-use Rattle.spaces.specs.Spaces.{Held, Spaces, frames_in, has_space, held_at, no_pages, taken_frames, with_held, written}
+use Rattle.spaces.specs.Spaces.{SpaceView, Spaces, frames_in, has_space, view_at, no_pages, taken_frames, with_view, written}
 use Rattle.spaces.proofs.SpacesLemmas.{held-same, taken-placed, within}
 use Rattle.transfers.specs.Moved.{with_bytes}
 use Rattle.transfers.proofs.Pieces.{none-written, with-more}
@@ -41,11 +41,11 @@ pub room-less : (s : Spaces) (at a b : ℕ) → a ≤ b → HasRoom s at b → H
 room-less s at a b less room = omega (arith, room, page_frames-more a b less)
 
 -- what the place holds doesn't count
-pub room-with : (s : Spaces) (at n : ℕ) (h : Held) → HasRoom s at n → HasRoom (with_held s at h) at n
+pub room-with : (s : Spaces) (at n : ℕ) (h : SpaceView) → HasRoom s at n → HasRoom (with_view s at h) at n
 room-with s at n h room =
-    subst (λ (ps : List (Option Held)). taken_frames (record s { places = ps }) + 4 + page_frames n ≤ s.frames) (sym (set-set s.places at (Some h) None)) room
+    subst (λ (ps : List (Option SpaceView)). taken_frames (record s { places = ps }) + 4 + page_frames n ≤ s.frames) (sym (set-set s.places at (Some h) None)) room
 
-stands-within : (s : Spaces) (at : ℕ) (o : Option Held) → slot s.places at ≡ o → is_some o ≡ true → at < length s.places
+stands-within : (s : Spaces) (at : ℕ) (o : Option SpaceView) → slot s.places at ≡ o → is_some o ≡ true → at < length s.places
 stands-within s at None e some = absurd (cc)
 stands-within s at (Some h) e some = within s.places at h e
 
@@ -92,17 +92,17 @@ length-part bytes offset count done fits low = length-take-le done (drop offset 
   rest-long (suc d) low = let all : offset + d + 1 ≤ length bytes = piece-within offset count (length bytes) d 1 fits (omega (arith, low)) (omega (arith, low)) in omega (arith, all, length-drop offset bytes)
 
 module _ {old now : FileTree} {before after : Spaces} {at number offset address count done : ℕ} (has : HasFilled old now before after at number offset address count done) (space : has_space before at ≡ true) where
-  pages-stay : length (held_at after at).memory ≡ length (held_at before at).memory
+  pages-stay : length (view_at after at).memory ≡ length (view_at before at).memory
   pages-stay =
       let bytes = part offset done (file_at old.files number) in
-      ap (λ (s : Spaces). length (held_at s at).memory) has.bytes
-      ∙ ap (λ (h : Held). length h.memory) (held-same before at (written (held_at before at) address bytes) (space-within before at space))
-      ∙ length-write (held_at before at).memory address bytes
+      ap (λ (s : Spaces). length (view_at s at).memory) has.bytes
+      ∙ ap (λ (h : SpaceView). length h.memory) (held-same before at (written (view_at before at) address bytes) (space-within before at space))
+      ∙ length-write (view_at before at).memory address bytes
 
-  pub filled-inside : (l : ℕ) → address + count ≤ 4096 * length (held_at before at).memory → done + l ≤ count → address + done + l ≤ 4096 * length (held_at after at).memory
+  pub filled-inside : (l : ℕ) → address + count ≤ 4096 * length (view_at before at).memory → done + l ≤ count → address + done + l ≤ 4096 * length (view_at after at).memory
   filled-inside l inside fits = omega (arith, inside, fits, pages-stay)
 
-  pub filled-more : {next : FileTree} {more : Spaces} (l size : ℕ) → l ≡ size → done + l ≤ count → IsSized (held_at before at).memory → is_within offset count (length (file_at old.files number)) ≡ true
+  pub filled-more : {next : FileTree} {more : Spaces} (l size : ℕ) → l ≡ size → done + l ≤ count → IsSized (view_at before at).memory → is_within offset count (length (file_at old.files number)) ≡ true
       → Serves {T = Unit {0}} now next (Ok tt) (Leaves now next) → more ≡ with_bytes after at (address + done) (part (offset + done) l (file_at now.files number))
       → HasFilled old next before more at number offset address count (done + size)
   filled-more {next} {more} l size is fits sized within serves put =
@@ -185,20 +185,20 @@ segment-filled file mem g aligned after =
 
 -- ---- a place
 
-pub has-same : (s : Spaces) (at : ℕ) (h : Held) → has_space s at ≡ true → has_space (with_held s at h) at ≡ true
+pub has-same : (s : Spaces) (at : ℕ) (h : SpaceView) → has_space s at ≡ true → has_space (with_view s at h) at ≡ true
 has-same s at h has = ap is_some (get_or-set_same s.places at (Some h) None (space-within s at has))
 
-pub has-held : {new : Spaces} (s : Spaces) (at : ℕ) (h : Held) → new ≡ with_held s at h → has_space s at ≡ true → has_space new at ≡ true
+pub has-held : {new : Spaces} (s : Spaces) (at : ℕ) (h : SpaceView) → new ≡ with_view s at h → has_space s at ≡ true → has_space new at ≡ true
 has-held s at h put has = ap (λ (k : Spaces). has_space k at) put ∙ has-same s at h has
 
-pub is-held : {new : Spaces} (s : Spaces) (at : ℕ) (h : Held) → new ≡ with_held s at h → has_space s at ≡ true → held_at new at ≡ h
-is-held s at h put has = ap (λ (k : Spaces). held_at k at) put ∙ held-same s at h (space-within s at has)
+pub is-held : {new : Spaces} (s : Spaces) (at : ℕ) (h : SpaceView) → new ≡ with_view s at h → has_space s at ≡ true → view_at new at ≡ h
+is-held s at h put has = ap (λ (k : Spaces). view_at k at) put ∙ held-same s at h (space-within s at has)
 
 -- what comes last stays
-pub held-twice : (s : Spaces) (at : ℕ) (a b : Held) → with_held (with_held s at a) at b ≡ with_held s at b
-held-twice s at a b = ap (λ (ps : List (Option Held)). record s { places = ps }) (set-set s.places at (Some a) (Some b))
+pub held-twice : (s : Spaces) (at : ℕ) (a b : SpaceView) → with_view (with_view s at a) at b ≡ with_view s at b
+held-twice s at a b = ap (λ (ps : List (Option SpaceView)). record s { places = ps }) (set-set s.places at (Some a) (Some b))
 
-some-held : (o : Option Held) → is_some o ≡ true → o ≡ Some (unwrap_or o no_pages)
+some-held : (o : Option SpaceView) → is_some o ≡ true → o ≡ Some (unwrap_or o no_pages)
 some-held None some = absurd (cc)
 some-held (Some h) some = refl
 
@@ -206,59 +206,59 @@ some-held (Some h) some = refl
 pub room-beside : (s : Spaces) (at n : ℕ) → has_space s at ≡ true → taken_frames s + 3 + page_frames n ≤ s.frames → HasRoom s at n
 room-beside s at n has enough =
     let placed = taken-placed s at None (space-within s at has) in
-    let four : frames_in (slot s.places at) ≡ 4 + page_frames (length (held_at s at).memory) = ap frames_in (some-held (slot s.places at) has) in
+    let four : frames_in (slot s.places at) ≡ 4 + page_frames (length (view_at s at).memory) = ap frames_in (some-held (slot s.places at) has) in
     omega (arith, enough, placed, four)
 
 -- a place that has what it had
-pub self-held : (s : Spaces) (at : ℕ) → has_space s at ≡ true → s ≡ with_held s at (held_at s at)
+pub self-held : (s : Spaces) (at : ℕ) → has_space s at ≡ true → s ≡ with_view s at (view_at s at)
 self-held s at has =
-    ap (λ (ps : List (Option Held)). record s { places = ps })
-    (sym (ap (λ (o : Option Held). slice_set s.places at o) (sym (some-held (slot s.places at) has)) ∙ set-get_or s.places at None))
+    ap (λ (ps : List (Option SpaceView)). record s { places = ps })
+    (sym (ap (λ (o : Option SpaceView). slice_set s.places at o) (sym (some-held (slot s.places at) has)) ∙ set-get_or s.places at None))
 
 -- bytes that are written into pages
-pub with-written : (s : Spaces) (at : ℕ) (m : Memory) (address : ℕ) (bytes : List ℕ) → has_space s at ≡ true → with_bytes (with_held s at (paged m)) at address bytes ≡ with_held s at (paged (write_bytes m address bytes))
+pub with-written : (s : Spaces) (at : ℕ) (m : Memory) (address : ℕ) (bytes : List ℕ) → has_space s at ≡ true → with_bytes (with_view s at (paged m)) at address bytes ≡ with_view s at (paged (write_bytes m address bytes))
 with-written s at m address bytes has =
-    ap (λ (h : Held). with_held (with_held s at (paged m)) at (written h address bytes)) (held-same s at (paged m) (space-within s at has))
+    ap (λ (h : SpaceView). with_view (with_view s at (paged m)) at (written h address bytes)) (held-same s at (paged m) (space-within s at has))
     ∙ held-twice s at (paged m) (written (paged m) address bytes)
-    ∙ ap (λ n. with_held s at (let h : Held = record { memory = write_bytes m address bytes; size = 4096 * n } in h)) (sym (length-write m address bytes))
+    ∙ ap (λ n. with_view s at (let h : SpaceView = record { memory = write_bytes m address bytes; size = 4096 * n } in h)) (sym (length-write m address bytes))
 
 -- a failure leaves some space
-pub still-held : {A : Type 0} (s s1 s2 : Spaces) (at : ℕ) (h : Held) (r : Result A DeviceFault) → s1 ≡ with_held s at h → OnErr r ((x : Held) × (s2 ≡ with_held s1 at x)) → OnErr r ((x : Held) × (s2 ≡ with_held s at x))
+pub still-held : {A : Type 0} (s s1 s2 : Spaces) (at : ℕ) (h : SpaceView) (r : Result A DeviceFault) → s1 ≡ with_view s at h → OnErr r ((x : SpaceView) × (s2 ≡ with_view s1 at x)) → OnErr r ((x : SpaceView) × (s2 ≡ with_view s at x))
 still-held s s1 s2 at h (Ok done) before failed = tt
-still-held s s1 s2 at h (Err fault) before failed = (failed.0, failed.1 ∙ ap (λ (k : Spaces). with_held k at failed.0) before ∙ held-twice s at h failed.0)
+still-held s s1 s2 at h (Err fault) before failed = (failed.0, failed.1 ∙ ap (λ (k : Spaces). with_view k at failed.0) before ∙ held-twice s at h failed.0)
 
 -- in two steps
-pub failed-held : {A : Type 0} (s s1 s2 : Spaces) (at : ℕ) (h : Held) (r : Result A DeviceFault) → s1 ≡ with_held s at h → (x : Held) × (s2 ≡ with_held s1 at x) → OnErr r ((x : Held) × (s2 ≡ with_held s at x))
+pub failed-held : {A : Type 0} (s s1 s2 : Spaces) (at : ℕ) (h : SpaceView) (r : Result A DeviceFault) → s1 ≡ with_view s at h → (x : SpaceView) × (s2 ≡ with_view s1 at x) → OnErr r ((x : SpaceView) × (s2 ≡ with_view s at x))
 failed-held s s1 s2 at h (Ok done) before failed = tt
-failed-held s s1 s2 at h (Err fault) before failed = (failed.0, failed.1 ∙ ap (λ (k : Spaces). with_held k at failed.0) before ∙ held-twice s at h failed.0)
+failed-held s s1 s2 at h (Err fault) before failed = (failed.0, failed.1 ∙ ap (λ (k : Spaces). with_view k at failed.0) before ∙ held-twice s at h failed.0)
 
-pub held-still : {A : Type 0} (s : Spaces) (at : ℕ) (r : Result A DeviceFault) → has_space s at ≡ true → OnErr r ((x : Held) × (s ≡ with_held s at x))
+pub held-still : {A : Type 0} (s : Spaces) (at : ℕ) (r : Result A DeviceFault) → has_space s at ≡ true → OnErr r ((x : SpaceView) × (s ≡ with_view s at x))
 held-still s at (Ok done) has = tt
-held-still s at (Err fault) has = (held_at s at, self-held s at has)
+held-still s at (Err fault) has = (view_at s at, self-held s at has)
 
 -- ---- a segment in a place
 
 segment-in : (s s1 s2 : Spaces) (at : ℕ) (file : List ℕ) (mem : Memory) (count : ℕ) (g : Segment) → has_space s at ≡ true → g.address % 4096 ≡ 0 → 4096 * length mem ≤ g.address → count ≡ ceil_div (g.address + g.size) 4096 - length mem
-    → s1 ≡ with_held s at (paged (mem ++ replicate count (zero_page (segment_marks g)))) → s2 ≡ with_bytes s1 at g.address (part g.offset g.file_size file) → s2 ≡ with_held s at (paged (mem ++ segment_pages file (length mem) g))
+    → s1 ≡ with_view s at (paged (mem ++ replicate count (zero_page (segment_marks g)))) → s2 ≡ with_bytes s1 at g.address (part g.offset g.file_size file) → s2 ≡ with_view s at (paged (mem ++ segment_pages file (length mem) g))
 segment-in s s1 s2 at file mem count g has aligned after is added put =
     put
-    ∙ ap (λ (k : Spaces). with_bytes k at g.address (part g.offset g.file_size file)) (added ∙ ap (λ n. with_held s at (paged (mem ++ replicate n (zero_page (segment_marks g))))) is)
+    ∙ ap (λ (k : Spaces). with_bytes k at g.address (part g.offset g.file_size file)) (added ∙ ap (λ n. with_view s at (paged (mem ++ replicate n (zero_page (segment_marks g))))) is)
     ∙ with-written s at (mem ++ replicate (ceil_div (g.address + g.size) 4096 - length mem) (zero_page (segment_marks g))) g.address (part g.offset g.file_size file) has
-    ∙ ap (λ (m : Memory). with_held s at (paged m)) (segment-filled file mem g aligned after)
+    ∙ ap (λ (m : Memory). with_view s at (paged m)) (segment-filled file mem g aligned after)
 
 abbrev marks_of : LoadSegment → Marks
 marks_of g = record { writable = g.writable; executable = g.executable; user = true }
 
 pub segment-loaded : (s s1 s2 : Spaces) (at : ℕ) (file : List ℕ) (mem : Memory) (count : ℕ) (shown : LoadSegment) → has_space s at ≡ true → Follows (length file) (length mem) shown → count ≡ ceil_div (shown.address + shown.size) 4096 - length mem
-    → s1 ≡ with_held s at (paged (mem ++ replicate count (zero_page (marks_of shown)))) → (r : Result (Unit {0}) DeviceFault) → OnOk r (s2 ≡ with_bytes s1 at shown.address (part shown.offset shown.file_size file))
-    → OnOk r ((g : Segment) → shown ≡ segment_shown g → s2 ≡ with_held s at (paged (mem ++ segment_pages file (length mem) g)))
+    → s1 ≡ with_view s at (paged (mem ++ replicate count (zero_page (marks_of shown)))) → (r : Result (Unit {0}) DeviceFault) → OnOk r (s2 ≡ with_bytes s1 at shown.address (part shown.offset shown.file_size file))
+    → OnOk r ((g : Segment) → shown ≡ segment_shown g → s2 ≡ with_view s at (paged (mem ++ segment_pages file (length mem) g)))
 segment-loaded s s1 s2 at file mem count shown has follows is added (Err fault) put = tt
 segment-loaded s s1 s2 at file mem count shown has follows is added (Ok done) put = λ g same.
     let aligned : g.address % 4096 ≡ 0 = ap (λ (x : LoadSegment). x.address % 4096) (sym same) ∙ follows.aligned in
     let after : 4096 * length mem ≤ g.address = subst (λ (x : LoadSegment). 4096 * length mem ≤ x.address) same follows.after in
     segment-in s s1 s2 at file mem count g has aligned after
     (is ∙ ap (λ (x : LoadSegment). ceil_div (x.address + x.size) 4096 - length mem) same)
-    (added ∙ ap (λ (x : LoadSegment). with_held s at (paged (mem ++ replicate count (zero_page (marks_of x))))) same)
+    (added ∙ ap (λ (x : LoadSegment). with_view s at (paged (mem ++ replicate count (zero_page (marks_of x))))) same)
     (put ∙ ap (λ (x : LoadSegment). with_bytes s1 at x.address (part x.offset x.file_size file)) same)
 
 -- ---- the stack
@@ -271,42 +271,42 @@ page-over page whole =
     ap (λ n. page ++ drop n (zeros 4096)) all ∙ ap (λ l. page ++ l) (drop_all 4096 (zeros 4096) (omega (arith, length-replicate {A = ℕ} 4096 0))) ∙ append-nil page
 
 -- the guard page is there, and then the page of the stack
-module _ (s s1 : Spaces) (at : ℕ) (z : Page) (has : has_space s at ≡ true) (put : s1 ≡ with_held s at (paged ((held_at s at).memory ++ replicate 1 z))) where
-  pub one-paged : IsPaged (held_at s1 at)
-  one-paged = subst IsPaged (sym (is-held s at (paged ((held_at s at).memory ++ replicate 1 z)) put has)) refl
+module _ (s s1 : Spaces) (at : ℕ) (z : Page) (has : has_space s at ≡ true) (put : s1 ≡ with_view s at (paged ((view_at s at).memory ++ replicate 1 z))) where
+  pub one-paged : IsPaged (view_at s1 at)
+  one-paged = subst IsPaged (sym (is-held s at (paged ((view_at s at).memory ++ replicate 1 z)) put has)) refl
 
-  pub one-longer : length (held_at s1 at).memory ≡ length (held_at s at).memory + 1
-  one-longer = ap (λ (h : Held). length h.memory) (is-held s at (paged ((held_at s at).memory ++ replicate 1 z)) put has) ∙ length-append (held_at s at).memory (replicate 1 z)
+  pub one-longer : length (view_at s1 at).memory ≡ length (view_at s at).memory + 1
+  one-longer = ap (λ (h : SpaceView). length h.memory) (is-held s at (paged ((view_at s at).memory ++ replicate 1 z)) put has) ∙ length-append (view_at s at).memory (replicate 1 z)
 
-  pub one-room : HasRoom s at (length (held_at s at).memory + 2) → HasRoom s1 at (length (held_at s1 at).memory + 1)
+  pub one-room : HasRoom s at (length (view_at s at).memory + 2) → HasRoom s1 at (length (view_at s1 at).memory + 1)
   one-room room =
-      let n : length (held_at s at).memory + 2 ≡ length (held_at s1 at).memory + 1 = omega (arith, one-longer) in
-      subst (λ (k : Spaces). HasRoom k at (length (held_at s1 at).memory + 1)) (sym put)
-      (room-with s at (length (held_at s1 at).memory + 1) (paged ((held_at s at).memory ++ replicate 1 z)) (subst (HasRoom s at) n room))
+      let n : length (view_at s at).memory + 2 ≡ length (view_at s1 at).memory + 1 = omega (arith, one-longer) in
+      subst (λ (k : Spaces). HasRoom k at (length (view_at s1 at).memory + 1)) (sym put)
+      (room-with s at (length (view_at s1 at).memory + 1) (paged ((view_at s at).memory ++ replicate 1 z)) (subst (HasRoom s at) n room))
 
 pub stack-inside : (before after pages : ℕ) (page : List ℕ) → length page ≡ 4096 → pages ≡ before → after ≡ before + 2 → (i : ℕ) → i < length page → ((pages + 1) * 4096 + i) / 4096 < after
 stack-inside before after pages page whole count long i less = omega (arith, whole, count, long, less)
 
-pub stack-added : (s s1 s2 s3 : Spaces) (at : ℕ) (page : List ℕ) (address : ℕ) → has_space s at ≡ true → address ≡ (length (held_at s at).memory + 1) * 4096 → length page ≡ 4096
-    → s1 ≡ with_held s at (paged ((held_at s at).memory ++ replicate 1 (zero_page (stack_marks false))))
-    → s2 ≡ with_held s1 at (paged ((held_at s1 at).memory ++ replicate 1 (zero_page (stack_marks true))))
-    → s3 ≡ with_held s2 at (written (held_at s2 at) address page)
-    → s3 ≡ with_held s at (paged (stacked (held_at s at).memory page))
+pub stack-added : (s s1 s2 s3 : Spaces) (at : ℕ) (page : List ℕ) (address : ℕ) → has_space s at ≡ true → address ≡ (length (view_at s at).memory + 1) * 4096 → length page ≡ 4096
+    → s1 ≡ with_view s at (paged ((view_at s at).memory ++ replicate 1 (zero_page (stack_marks false))))
+    → s2 ≡ with_view s1 at (paged ((view_at s1 at).memory ++ replicate 1 (zero_page (stack_marks true))))
+    → s3 ≡ with_view s2 at (written (view_at s2 at) address page)
+    → s3 ≡ with_view s at (paged (stacked (view_at s at).memory page))
 stack-added s s1 s2 s3 at page address has is whole guard stack put =
-    let mem = (held_at s at).memory in
+    let mem = (view_at s at).memory in
     let g = zero_page (stack_marks false) in
     let z = zero_page (stack_marks true) in
-    let second : s2 ≡ with_held s at (paged (mem ++ g ∷ z ∷ [])) =
+    let second : s2 ≡ with_view s at (paged (mem ++ g ∷ z ∷ [])) =
     stack
-    ∙ ap (λ (k : Spaces). with_held k at (paged ((held_at k at).memory ++ z ∷ []))) guard
-    ∙ ap (λ (h : Held). with_held (with_held s at (paged (mem ++ g ∷ []))) at (paged (h.memory ++ z ∷ []))) (held-same s at (paged (mem ++ g ∷ [])) (space-within s at has))
+    ∙ ap (λ (k : Spaces). with_view k at (paged ((view_at k at).memory ++ z ∷ []))) guard
+    ∙ ap (λ (h : SpaceView). with_view (with_view s at (paged (mem ++ g ∷ []))) at (paged (h.memory ++ z ∷ []))) (held-same s at (paged (mem ++ g ∷ [])) (space-within s at has))
     ∙ held-twice s at (paged (mem ++ g ∷ [])) (paged ((mem ++ g ∷ []) ++ z ∷ []))
-    ∙ ap (λ (m : Memory). with_held s at (paged m)) (append_assoc mem (g ∷ []) (z ∷ [])) in
+    ∙ ap (λ (m : Memory). with_view s at (paged m)) (append_assoc mem (g ∷ []) (z ∷ [])) in
     let place : address ≡ 4096 * (length mem + 1) + 0 = omega (arith, is) in
     let all : overwrite (zeros 4096) 0 page ≡ page = page-over page whole in
     put
-    ∙ ap (λ (k : Spaces). with_held k at (written (held_at k at) address page)) second
+    ∙ ap (λ (k : Spaces). with_view k at (written (view_at k at) address page)) second
     ∙ with-written s at (mem ++ g ∷ z ∷ []) address page has
-    ∙ ap (λ a. with_held s at (paged (write_bytes (mem ++ g ∷ z ∷ []) a page))) place
-    ∙ ap (λ (m : Memory). with_held s at (paged m)) (write-stack mem (zeros 4096) 0 page (omega (arith, whole)) (omega (arith, whole)))
-    ∙ ap (λ (l : List ℕ). with_held s at (paged (stacked mem l))) all
+    ∙ ap (λ a. with_view s at (paged (write_bytes (mem ++ g ∷ z ∷ []) a page))) place
+    ∙ ap (λ (m : Memory). with_view s at (paged m)) (write-stack mem (zeros 4096) 0 page (omega (arith, whole)) (omega (arith, whole)))
+    ∙ ap (λ (l : List ℕ). with_view s at (paged (stacked mem l))) all

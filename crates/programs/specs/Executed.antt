@@ -1,7 +1,7 @@
 -- A program in the place of another.
 use Rattle.std.specs.Prelude.{None, Option, Some, length, option_and_then, ℕ, ◌+◌, ◌<◌, ◌≡◌, ◌≤◌}
 use Rattle.programs.specs.declared.executing.Started.{Started}
-use Rattle.spaces.specs.Spaces.{Held, Spaces, held_at, taken_frames, with_held}
+use Rattle.spaces.specs.Spaces.{SpaceView, Spaces, view_at, taken_frames, with_view}
 use Rattle.unixmodel.specs.Counts.{page_frames}
 use Rattle.unixmodel.specs.Files.{Files, slot}
 use Rattle.unixmodel.specs.Memory.{Memory}
@@ -16,8 +16,8 @@ plan_at files number mem argv = option_and_then (λ file. option_and_then (plan 
 abbrev pub frames_beside : Spaces → Plan → ℕ
 frames_beside s new = taken_frames s + 3 + page_frames (length new.memory)
 
-abbrev pub held_by : Plan → Held
-held_by new = record { memory = new.memory; size = new.size }
+abbrev pub view_by : Plan → SpaceView
+view_by new = record { memory = new.memory; size = new.size }
 
 abbrev pub started_by : Plan → Started
 started_by new = record { pc = new.pc; count = new.argc; sp = new.sp; size = new.size }
@@ -27,10 +27,10 @@ pub record IsExecuted (planned : Option Plan) (old new : Spaces) (at : ℕ) (s :
   pub plan : Plan
   pub is : planned ≡ Some plan
   pub fits : frames_beside old plan ≤ old.frames
-  pub held : new ≡ with_held old at (held_by plan)
+  pub held : new ≡ with_view old at (view_by plan)
   pub started : s ≡ started_by plan
 
 -- it is, or it has no plan, or the frames don't suffice
 abbrev pub Executes : Files → Spaces → Spaces → ℕ → ℕ → ℕ → Option Started → Type 0
-Executes files old new at number argv None = (new ≡ old) × ((p : Plan) → plan_at files number (held_at old at).memory argv ≡ Some p → old.frames < frames_beside old p)
-Executes files old new at number argv (Some s) = IsExecuted (plan_at files number (held_at old at).memory argv) old new at s
+Executes files old new at number argv None = (new ≡ old) × ((p : Plan) → plan_at files number (view_at old at).memory argv ≡ Some p → old.frames < frames_beside old p)
+Executes files old new at number argv (Some s) = IsExecuted (plan_at files number (view_at old at).memory argv) old new at s

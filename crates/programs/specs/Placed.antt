@@ -2,17 +2,17 @@
 use Rattle.std.specs.Prelude.{List, None, Option, length, true, ℕ, ◌%◌, ◌*◌, ◌+◌, ◌<◌, ◌^◌, ◌≡◌, ◌≤◌}
 use Rattle.elf.specs.declared.LoadSegment.{LoadSegment}
 use Rattle.elf.specs.Headers.{is_within}
-use Rattle.spaces.specs.Spaces.{Held, Spaces, taken_frames, with_place}
+use Rattle.spaces.specs.Spaces.{SpaceView, Spaces, taken_frames, with_place}
 use Rattle.tree.specs.Tree.{FileTree}
 use Rattle.unixmodel.specs.Counts.{page_frames}
 use Rattle.unixmodel.specs.Memory.{Memory}
 use Rattle.unixmodel.specs.Plan.{Loaded, load_segment, segment_at}
 
 -- pages, all of them whole
-abbrev pub paged : Memory → Held
+abbrev pub paged : Memory → SpaceView
 paged memory = record { memory = memory; size = 4096 * length memory }
 
-abbrev pub IsPaged : Held → Type 0
+abbrev pub IsPaged : SpaceView → Type 0
 IsPaged h = h.size ≡ 4096 * length h.memory
 
 -- a place may have so many pages
@@ -34,5 +34,5 @@ pub record Follows (len count : ℕ) (g : LoadSegment) : Type 0 where
   pub within : is_within g.offset g.file_size len ≡ true
 
 -- what is loaded next, by the program header at a place of a file
-abbrev pub next_in : List ℕ → ℕ → Held → ℕ → Option Loaded
+abbrev pub next_in : List ℕ → ℕ → SpaceView → ℕ → Option Loaded
 next_in file place h end = load_segment file (record { pages = h.memory; end = end }) (segment_at file place)

@@ -2,7 +2,7 @@
 
 ghost use Rattle.std.specs.Prelude.{◌≡◌, ◌*◌, ◌+◌, ◌<◌, ◌≤◌, ◌^◌, length, take, true};
 ghost use Rattle.programs.specs.Passed.{Finishes, Passes, PassesOne, Pushes, PushesString, word_in};
-ghost use Rattle.spaces.specs.Spaces.{has_space, held_at};
+ghost use Rattle.spaces.specs.Spaces.{has_space, view_at};
 ghost use Rattle.unixmodel.specs.declared.trap.Access.TheVariants.{Load};
 ghost use Rattle.unixmodel.specs.Memory.{overwrite, reach};
 ghost use Rattle.unixmodel.specs.Numbers.{le};
@@ -29,7 +29,7 @@ pub struct Arguments {
 // The word of 8 bytes at an address of a place; `None` where its program may not read it.
 fn word_at<T: Translate + Drop>(spaces: &Spaces<T>, at: usize, address: u64) -> Option<u64>
     requires { has_space spaces.now at ≡ true }
-    ensures { result ≡ word_in (reach Load (held_at spaces.now at).memory address) }
+    ensures { result ≡ word_in (reach Load (view_at spaces.now at).memory address) }
 {
     let mut bytes = [0; 8];
     if !spaces.read(at, address, &mut bytes) {
@@ -63,7 +63,7 @@ fn push_string<T: Translate + Drop>(
 ) -> Option<usize>
     requires space { has_space spaces.now at ≡ true }
     requires inside { top ≤ 4096 }
-    ensures { PushesString (held_at spaces.now at).memory address page.old page.new top result }
+    ensures { PushesString (view_at spaces.now at).memory address page.old page.new top result }
 {
     let mut string = [0; FRAME_SIZE];
     let Some(len) = spaces.copy_string(at, address, &mut string) else {
@@ -118,7 +118,7 @@ pub fn read_arguments<T: Translate + Drop>(
 ) -> Option<Arguments>
     requires space { has_space spaces.now at ≡ true }
     requires fits { 4096 * (pages + 2) < 2 ^ 64 }
-    ensures { Passes (held_at spaces.now at).memory argv pages result }
+    ensures { Passes (view_at spaces.now at).memory argv pages result }
 {
     spaces.pages_are_whole(at);
     let base = 4096 * (pages + 1);

@@ -3,7 +3,7 @@
 ghost use Rattle.std.specs.Prelude.{◌≡◌, IfOk, OnErr, Some, false, true};
 ghost use Rattle.programs.specs.Executed.{Executes};
 ghost use Rattle.programs.specs.Placed.{Leaves};
-ghost use Rattle.spaces.specs.Spaces.{Held, has_space, with_held};
+ghost use Rattle.spaces.specs.Spaces.{SpaceView, has_space, with_view};
 ghost use Rattle.tree.specs.Tree.{Serves};
 ghost use Rattle.unixmodel.specs.Files.{Node, slot};
 
@@ -43,7 +43,7 @@ pub fn execute<D: BlockDev, T: Translate + Drop>(
     requires space { has_space spaces.old at ≡ true }
     ensures serves { Serves tree.old tree.new result (Leaves tree.old tree.new) }
     ensures executed { IfOk result (Executes tree.old.files spaces.old spaces.new at number argv) }
-    ensures failed { OnErr result ((held : Held) × (spaces.new ≡ with_held spaces.old at held)) }
+    ensures failed { OnErr result ((held : SpaceView) × (spaces.new ≡ with_view spaces.old at held)) }
 {
     let Some(program) = read_program(tree, number)? else {
         return Ok(None);

@@ -7,7 +7,7 @@ ghost use Rattle.elf.specs.Headers.{segment_shown};
 ghost use Rattle.programs.specs.Headed.{file_at, program_in};
 ghost use Rattle.programs.specs.Passed.{stacked};
 ghost use Rattle.programs.specs.Placed.{Follows, HasRoom, IsPaged, Leaves, next_in, paged};
-ghost use Rattle.spaces.specs.Spaces.{Held, has_space, held_at, no_pages, with_held};
+ghost use Rattle.spaces.specs.Spaces.{SpaceView, has_space, view_at, no_pages, with_view};
 ghost use Rattle.transfers.specs.Moved.{with_bytes};
 ghost use Rattle.tree.specs.Tree.{Serves};
 ghost use Rattle.tree.specs.Written.{IsFile};
@@ -43,7 +43,7 @@ const STACK: Perm = Perm {
 /// All pages of a place go.
 pub fn clear<T: Translate + Drop>(spaces: &mut Spaces<T>, at: usize)
     requires { has_space spaces.old at ≡ true }
-    ensures { spaces.new ≡ with_held spaces.old at no_pages }
+    ensures { spaces.new ≡ with_view spaces.old at no_pages }
 {
     let size = spaces.size(at);
     spaces.shrink(at, size);
@@ -52,10 +52,10 @@ pub fn clear<T: Translate + Drop>(spaces: &mut Spaces<T>, at: usize)
 // Adds so many pages of zeros, for which there are frames.
 fn add_pages<T: Translate + Drop>(spaces: &mut Spaces<T>, at: usize, count: u64, perm: Perm)
     requires space { has_space spaces.old at ≡ true }
-    requires paged { IsPaged (held_at spaces.old at) }
+    requires paged { IsPaged (view_at spaces.old at) }
     requires few { count < 2 ^ 32 }
-    requires room { HasRoom spaces.old at (length (held_at spaces.old at).memory + count) }
-    ensures { spaces.new ≡ with_held spaces.old at (paged ((held_at spaces.old at).memory ++ replicate count (zero_page (marks_from perm)))) }
+    requires room { HasRoom spaces.old at (length (view_at spaces.old at).memory + count) }
+    ensures { spaces.new ≡ with_view spaces.old at (paged ((view_at spaces.old at).memory ++ replicate count (zero_page (marks_from perm)))) }
 {
     if !spaces.grow(at, count * FRAME_SIZE as u64, perm) {
         unreachable!()
@@ -76,7 +76,7 @@ fn fill_piece<D: BlockDev, T: Translate + Drop>(
     requires file { IsFile tree.old.files number }
     requires within { offset + length buffer.old ≤ length (file_at tree.old.files number) }
     requires space { has_space spaces.old at ≡ true }
-    requires inside { address + length buffer.old ≤ 4096 * length (held_at spaces.old at).memory }
+    requires inside { address + length buffer.old ≤ 4096 * length (view_at spaces.old at).memory }
     ensures serves { Serves tree.old tree.new result (Leaves tree.old tree.new) }
     ensures filled { OnOk result (spaces.new ≡ with_bytes spaces.old at address (part offset (length buffer.old) (file_at tree.old.files number))) }
     ensures failed { OnErr result (spaces.new ≡ spaces.old) }
@@ -101,10 +101,10 @@ fn fill_node<D: BlockDev, T: Translate + Drop>(
     requires within { is_within offset count (length (file_at tree.old.files number)) ≡ true }
     requires long { length (file_at tree.old.files number) < 2 ^ 32 }
     requires space { has_space spaces.old at ≡ true }
-    requires inside { address + count ≤ 4096 * length (held_at spaces.old at).memory }
+    requires inside { address + count ≤ 4096 * length (view_at spaces.old at).memory }
     ensures serves { Serves tree.old tree.new result (Leaves tree.old tree.new) }
     ensures filled { OnOk result (spaces.new ≡ with_bytes spaces.old at address (part offset count (file_at tree.old.files number))) }
-    ensures failed { OnErr result ((held : Held) × (spaces.new ≡ with_held spaces.old at held)) }
+    ensures failed { OnErr result ((held : SpaceView) × (spaces.new ≡ with_view spaces.old at held)) }
 {
     spaces.pages_are_whole(at);
     let mut buffer = [0; BLOCK_SIZE];
@@ -130,14 +130,14 @@ fn load_segment<D: BlockDev, T: Translate + Drop>(
     requires up { tree.old.failed ≡ false }
     requires file { IsFile tree.old.files number }
     requires space { has_space spaces.old at ≡ true }
-    requires paged { IsPaged (held_at spaces.old at) }
+    requires paged { IsPaged (view_at spaces.old at) }
     requires long { length (file_at tree.old.files number) < 2 ^ 32 }
-    requires follows { Follows (length (file_at tree.old.files number)) (length (held_at spaces.old at).memory) segment }
+    requires follows { Follows (length (file_at tree.old.files number)) (length (view_at spaces.old at).memory) segment }
     requires few { ceil_div (segment.address + segment.size) 4096 < 2 ^ 32 }
     requires room { HasRoom spaces.old at (ceil_div (segment.address + segment.size) 4096) }
     ensures serves { Serves tree.old tree.new result (Leaves tree.old tree.new) }
-    ensures loaded { OnOk result ((g : Segment) → segment ≡ segment_shown g → spaces.new ≡ with_held spaces.old at (paged ((held_at spaces.old at).memory ++ segment_pages (file_at tree.old.files number) (length (held_at spaces.old at).memory) g))) }
-    ensures failed { OnErr result ((held : Held) × (spaces.new ≡ with_held spaces.old at held)) }
+    ensures loaded { OnOk result ((g : Segment) → segment ≡ segment_shown g → spaces.new ≡ with_view spaces.old at (paged ((view_at spaces.old at).memory ++ segment_pages (file_at tree.old.files number) (length (view_at spaces.old at).memory) g))) }
+    ensures failed { OnErr result ((held : SpaceView) × (spaces.new ≡ with_view spaces.old at held)) }
 {
     let LoadSegment {
         offset,
@@ -172,12 +172,12 @@ fn load_next<D: BlockDev, T: Translate + Drop>(
     requires long { len ≡ length (file_at tree.old.files number) }
     requires within { place + 56 ≤ len }
     requires space { has_space spaces.old at ≡ true }
-    requires paged { IsPaged (held_at spaces.old at) }
-    requires whole { length (held_at spaces.old at).memory ≡ ceil_div end 4096 }
-    requires next { (next : Loaded) × (next_in (file_at tree.old.files number) place (held_at spaces.old at) end ≡ Some next) × (length next.pages < 2 ^ 32) × HasRoom spaces.old at (length next.pages) }
+    requires paged { IsPaged (view_at spaces.old at) }
+    requires whole { length (view_at spaces.old at).memory ≡ ceil_div end 4096 }
+    requires next { (next : Loaded) × (next_in (file_at tree.old.files number) place (view_at spaces.old at) end ≡ Some next) × (length next.pages < 2 ^ 32) × HasRoom spaces.old at (length next.pages) }
     ensures serves { Serves tree.old tree.new result (Leaves tree.old tree.new) }
-    ensures loaded { IfOk result (λ told. (next : Loaded) → next_in (file_at tree.old.files number) place (held_at spaces.old at) end ≡ Some next → (told ≡ next.end) × (spaces.new ≡ with_held spaces.old at (paged next.pages))) }
-    ensures failed { OnErr result ((held : Held) × (spaces.new ≡ with_held spaces.old at held)) }
+    ensures loaded { IfOk result (λ told. (next : Loaded) → next_in (file_at tree.old.files number) place (view_at spaces.old at) end ≡ Some next → (told ≡ next.end) × (spaces.new ≡ with_view spaces.old at (paged next.pages))) }
+    ensures failed { OnErr result ((held : SpaceView) × (spaces.new ≡ with_view spaces.old at held)) }
 {
     match read_segment(tree, number, place, end, len)? {
         Ok(Some(segment)) => {
@@ -203,11 +203,11 @@ fn load_segments<D: BlockDev, T: Translate + Drop>(
     requires long { len ≡ length (file_at tree.old.files number) }
     requires within { is_within header.program_headers (56 * header.count) len ≡ true }
     requires space { has_space spaces.old at ≡ true }
-    requires empty { held_at spaces.old at ≡ no_pages }
+    requires empty { view_at spaces.old at ≡ no_pages }
     requires last { (last : Loaded) × (load_segments (file_at tree.old.files number) header.count header.program_headers nothing_loaded ≡ Some last) × (length last.pages < 2 ^ 32) × HasRoom spaces.old at (length last.pages) }
     ensures serves { Serves tree.old tree.new result (Leaves tree.old tree.new) }
-    ensures loaded { OnOk result ((last : Loaded) → load_segments (file_at tree.old.files number) header.count header.program_headers nothing_loaded ≡ Some last → spaces.new ≡ with_held spaces.old at (paged last.pages)) }
-    ensures failed { OnErr result ((held : Held) × (spaces.new ≡ with_held spaces.old at held)) }
+    ensures loaded { OnOk result ((last : Loaded) → load_segments (file_at tree.old.files number) header.count header.program_headers nothing_loaded ≡ Some last → spaces.new ≡ with_view spaces.old at (paged last.pages)) }
+    ensures failed { OnErr result ((held : SpaceView) × (spaces.new ≡ with_view spaces.old at held)) }
 {
     let mut end = 0;
     for i in 0..header.count {
@@ -220,9 +220,9 @@ fn load_segments<D: BlockDev, T: Translate + Drop>(
 /// A guard page and a page for the stack, which has these bytes, come behind the pages of a place.
 pub fn add_stack<T: Translate + Drop>(spaces: &mut Spaces<T>, at: usize, page: &[u8; FRAME_SIZE])
     requires space { has_space spaces.old at ≡ true }
-    requires paged { IsPaged (held_at spaces.old at) }
-    requires room { HasRoom spaces.old at (length (held_at spaces.old at).memory + 2) }
-    ensures { spaces.new ≡ with_held spaces.old at (paged (stacked (held_at spaces.old at).memory page.now)) }
+    requires paged { IsPaged (view_at spaces.old at) }
+    requires room { HasRoom spaces.old at (length (view_at spaces.old at).memory + 2) }
+    ensures { spaces.new ≡ with_view spaces.old at (paged (stacked (view_at spaces.old at).memory page.now)) }
 {
     let pages = spaces.pages(at);
     add_pages(spaces, at, 1, GUARD);
@@ -247,8 +247,8 @@ pub fn load<D: BlockDev, T: Translate + Drop>(
     requires space { has_space spaces.old at ≡ true }
     requires room { HasRoom spaces.old at (program.now.pages + 2) }
     ensures serves { Serves tree.old tree.new result (Leaves tree.old tree.new) }
-    ensures loaded { OnOk result ((l : Loaded) → loaded_of (file_at tree.old.files number) ≡ Some l → spaces.new ≡ with_held spaces.old at (paged (stacked l.pages arguments.now.page))) }
-    ensures failed { OnErr result ((held : Held) × (spaces.new ≡ with_held spaces.old at held)) }
+    ensures loaded { OnOk result ((l : Loaded) → loaded_of (file_at tree.old.files number) ≡ Some l → spaces.new ≡ with_view spaces.old at (paged (stacked l.pages arguments.now.page))) }
+    ensures failed { OnErr result ((held : SpaceView) × (spaces.new ≡ with_view spaces.old at held)) }
 {
     clear(spaces, at);
     let len = tree.stat(number)?.size;

@@ -2,8 +2,8 @@
 use Rattle.frames.specs.Free.{free_count}
 use Rattle.frames.specs.Holders.{one_if}
 use Rattle.spaces.specs.declared.Spaces.TheInside.{Inside}
-use Rattle.spaces.specs.Spaces.{frames_in, has_space, held_at, no_pages, taken_frames}
-use Rattle.spaces.specs.View.{IsSpaces, held_with, pipe_frames, shown, spaces_of}
+use Rattle.spaces.specs.Spaces.{frames_in, has_space, view_at, no_pages, taken_frames}
+use Rattle.spaces.specs.View.{IsSpaces, view_with, pipe_frames, shown, spaces_of}
 use Rattle.spaces.proofs.Pipes.{pipes-taken}
 use Rattle.std.proofs.Common.{◌≡◌, ℕ, zero, suc, ◌+◌, ◌≤◌, Bool, true, false, List, [], ◌∷◌, length, get_or, map, nat_lt, Option, Some, None, refl, sym, ap, ◌∙◌, arith}
 use Rattle.std.specs.Prelude.{if◌then◌else◌, is_some, sum_by, unwrap_or}
@@ -48,7 +48,7 @@ missing i at xs has same e =
     let bad : false ≡ true = ap is_some (sym e) ∙ ap (λ l. is_some (get_or l at None)) same ∙ stands-there i at has in
     cc
 
-pub held-is : {T : Type 0} (i : Inside T) (at : ℕ) (x : Space) → slot i.places.items at ≡ Some x → held_at (spaces_of i) at ≡ held_with (pages_of i.ram x) x.size
+pub held-is : {T : Type 0} (i : Inside T) (at : ℕ) (x : Space) → slot i.places.items at ≡ Some x → view_at (spaces_of i) at ≡ view_with (pages_of i.ram x) x.size
 held-is i at x e = ap (λ o. unwrap_or o no_pages) (slot-is i at (Some x) e)
 
 free-shown : (m : List (List ℕ)) (o : Option Space) → shown m o ≡ None → o ≡ None

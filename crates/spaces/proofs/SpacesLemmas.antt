@@ -3,7 +3,7 @@ use Rattle.std.proofs.Common.{◌≡◌, ◌≢◌, ℕ, zero, suc, ◌+◌, ◌
 use Rattle.std.specs.Prelude.{is_some, sum_by, unwrap_or}
 use Rattle.std.proofs.lemmas.List.{take_all}
 use Rattle.std.proofs.lemmas.List.Sums.{sum_by-cons}
-use Rattle.spaces.specs.Spaces.{Held, Spaces, frames_in, grown, has_space, held_at, no_pages, shrunk, taken_frames, with_held, with_pipe, with_place}
+use Rattle.spaces.specs.Spaces.{SpaceView, Spaces, frames_in, grown, has_space, view_at, no_pages, shrunk, taken_frames, with_view, with_pipe, with_place}
 use Rattle.unixmodel.specs.Files.{slot, taken}
 use Rattle.unixmodel.specs.Memory.{Memory, zero_page}
 use Rattle.unixmodel.specs.Numbers.{ceil_div}
@@ -15,29 +15,29 @@ within [] i x e = absurd (cc)
 within (y ∷ xs) zero x e = omega arith
 within (y ∷ xs) (suc i) x e = let h = within xs i x e in omega (arith, h)
 
-none-place : (o : Option Held) → is_some o ≡ false → o ≡ None
+none-place : (o : Option SpaceView) → is_some o ≡ false → o ≡ None
 none-place None e = refl
 none-place (Some h) e = absurd (cc)
 
 pub place-free : (s : Spaces) (at : ℕ) → has_space s at ≡ false → slot s.places at ≡ None
 place-free s at free = none-place (slot s.places at) free
 
-sum-placed : (xs : List (Option Held)) (i : ℕ) (y : Option Held) → i < length xs → sum_by frames_in (slice_set xs i y) + frames_in (get_or xs i None) ≡ sum_by frames_in xs + frames_in y
+sum-placed : (xs : List (Option SpaceView)) (i : ℕ) (y : Option SpaceView) → i < length xs → sum_by frames_in (slice_set xs i y) + frames_in (get_or xs i None) ≡ sum_by frames_in xs + frames_in y
 sum-placed [] i y h = absurd (omega (arith, h))
 sum-placed (x ∷ xs) zero y h = omega (arith, sum_by-cons frames_in y xs, sum_by-cons frames_in x xs)
 sum-placed (x ∷ xs) (suc i) y h =
     omega (arith, sum_by-cons frames_in x (slice_set xs i y), sum_by-cons frames_in x xs, sum-placed xs i y (omega (arith, h)))
 
 -- the places take more by what one of them takes more
-pub taken-placed : (s : Spaces) (at : ℕ) (y : Option Held) → at < length s.places → taken_frames (with_place s at y) + frames_in (slot s.places at) ≡ taken_frames s + frames_in y
+pub taken-placed : (s : Spaces) (at : ℕ) (y : Option SpaceView) → at < length s.places → taken_frames (with_place s at y) + frames_in (slot s.places at) ≡ taken_frames s + frames_in y
 taken-placed s at y h = omega (arith, sum-placed s.places at y h)
 
 -- ---- a place after a change of one
 
-pub held-same : (s : Spaces) (at : ℕ) (h : Held) → at < length s.places → held_at (with_held s at h) at ≡ h
+pub held-same : (s : Spaces) (at : ℕ) (h : SpaceView) → at < length s.places → view_at (with_view s at h) at ≡ h
 held-same s at h within = ap (λ o. unwrap_or o no_pages) (get_or-set_same s.places at (Some h) None within)
 
-pub held-other : (s : Spaces) (at other : ℕ) (y : Option Held) → other ≢ at → held_at (with_place s at y) other ≡ held_at s other
+pub held-other : (s : Spaces) (at other : ℕ) (y : Option SpaceView) → other ≢ at → view_at (with_place s at y) other ≡ view_at s other
 held-other s at other y ne = ap (λ o. unwrap_or o no_pages) (get_or-set_other s.places at other y None ne)
 
 -- ---- other sizes, as the abstract Unix has them
@@ -53,10 +53,10 @@ shrunk-pages mem fewer less =
     rw none (sym (append-nil (take fewer mem)))
 
 -- what `pages` says of a space, `whole`, is what both ask
-pub grown-with_pages : (h : Held) (bytes : ℕ) → length h.memory ≡ ceil_div h.size 4096 → (grown h bytes (stack_marks true)).memory ≡ with_pages h.memory (ceil_div (h.size + bytes) 4096)
+pub grown-with_pages : (h : SpaceView) (bytes : ℕ) → length h.memory ≡ ceil_div h.size 4096 → (grown h bytes (stack_marks true)).memory ≡ with_pages h.memory (ceil_div (h.size + bytes) 4096)
 grown-with_pages h bytes whole = grown-pages h.memory (ceil_div h.size 4096) (ceil_div (h.size + bytes) 4096) whole (omega arith)
 
-pub shrunk-with_pages : (h : Held) (bytes : ℕ) → length h.memory ≡ ceil_div h.size 4096 → (shrunk h bytes).memory ≡ with_pages h.memory (ceil_div (h.size - bytes) 4096)
+pub shrunk-with_pages : (h : SpaceView) (bytes : ℕ) → length h.memory ≡ ceil_div h.size 4096 → (shrunk h bytes).memory ≡ with_pages h.memory (ceil_div (h.size - bytes) 4096)
 shrunk-with_pages h bytes whole = shrunk-pages h.memory (ceil_div (h.size - bytes) 4096) (omega (arith, whole))
 
 -- ---- pipes

@@ -10,9 +10,9 @@ use Rattle.spaces.proofs.Places.{held-is, slot-is}
 use Rattle.spaces.proofs.Traded.{reframed-showing, same-place, shown-as, shown-placed}
 use Rattle.spaces.specs.declared.Spaces.TheInside.{Inside}
 use Rattle.spaces.proofs.Closed.{changed-right, narrows-right, opened-alike}
-use Rattle.spaces.specs.Spaces.{Held, Spaces, computed, held_at, with_place}
+use Rattle.spaces.specs.Spaces.{SpaceView, Spaces, computed, view_at, with_place}
 use Rattle.spaces.proofs.SpacesLemmas.{within}
-use Rattle.spaces.specs.View.{IsActive, IsSpaces, Runs, held_with, pipe_frames, shown, spaces_of}
+use Rattle.spaces.specs.View.{IsActive, IsSpaces, Runs, view_with, pipe_frames, shown, spaces_of}
 use Rattle.spaces.proofs.Pipes.{pipes-beside}
 use Rattle.std.proofs.Common.{◌≡◌, ◌&&◌, Bool, false, inl, inr, ℕ, ◌/◌, ◌<◌, ◌≤◌, List, length, map, slice_set, subst, true, Option, Some, None, Ok, Err, refl, sym, ap, ◌∙◌, arith}
 use Rattle.std.specs.Prelude.{IfNone, IfSome, is_some, slice_get}
@@ -165,10 +165,10 @@ sound-stepped held i t h k result is s some = sound-go held i t h k result i.act
 
 -- an instruction was done, or a trap raised, by these values of before and after
 abbrev pub WasDone : Spaces → ℕ → Option Trap → Spaces → Type 0
-WasDone old at result new = IfNone result ((d : Computed) × (cycle old.registers old.pc (held_at old at).memory ≡ Ok d) × (new ≡ computed old at d))
+WasDone old at result new = IfNone result ((d : Computed) × (cycle old.registers old.pc (view_at old at).memory ≡ Ok d) × (new ≡ computed old at d))
 
 abbrev pub WasTrapped : Spaces → ℕ → Option Trap → Spaces → Type 0
-WasTrapped old at result new = IfSome result (λ c. (cycle old.registers old.pc (held_at old at).memory ≡ Err c) × (new ≡ old))
+WasTrapped old at result new = IfSome result (λ c. (cycle old.registers old.pc (view_at old at).memory ≡ Err c) × (new ≡ old))
 
 -- by what the walk lets through an instruction does what it does by right
 abbrev Same : {T : Type 0} → Inside T → Space → Type 0
@@ -176,7 +176,7 @@ Same i x = cycle i.hart.registers i.hart.pc (let_through i.ram x) ≡ cycle i.ha
 
 done-at : {T : Type 0} (held : T → translation.Held) (i : Inside T) (t : T) (h : Hart) (k : List (List ℕ)) (at : ℕ)
     → IsSpaces held i → Steps held i t h k None → (run : Runs (held i.translator) i.ram i.hart.root.0 i.places.items at) → Same i run.space
-    → (d : Computed) × (cycle i.hart.registers i.hart.pc (held_at (spaces_of i) at).memory ≡ Ok d) × (spaces_of (record i { ram = k; translator = t; hart = h }) ≡ computed (spaces_of i) at d)
+    → (d : Computed) × (cycle i.hart.registers i.hart.pc (view_at (spaces_of i) at).memory ≡ Ok d) × (spaces_of (record i { ram = k; translator = t; hart = h }) ≡ computed (spaces_of i) at d)
 done-at held i t h k at is s run right =
     let x = run.space in
     let d = did held i t h k None at is s run in
@@ -189,7 +189,7 @@ done-at held i t h k at is s run right =
           ∙ memory_of-cycle i.ram (mapping_of i.ram x) i.hart.registers i.hart.pc done.done (sound right_marks i.ram x space.dense space.once) by_right in
           let others : OthersUntouched i.ram k i.places.items at = trade-others i.ram k i.frames i.frames i.places.items (pipe_frames i.pipes.items) (holds k x) at is.machine (rw run.stands (d.stands.trades i.frames space)) in
           let pipes = pipes-beside i.ram k i.frames i.frames i.places.items i.pipes.items (holds k x) at is.machine (rw run.stands (d.stands.trades i.frames space)) in
-          let places : map (shown k) i.places.items ≡ slice_set (map (shown i.ram) i.places.items) at (Some (held_with (memory_after (pages_of i.ram x) done.done.change) x.size)) =
+          let places : map (shown k) i.places.items ≡ slice_set (map (shown i.ram) i.places.items) at (Some (view_with (memory_after (pages_of i.ram x) done.done.change) x.size)) =
           ap (map (shown k)) (same-place i.places.items at x run.stands)
           ∙ shown-placed i.ram k i.places.items at (Some x) others
           ∙ ap (slice_set (map (shown i.ram) i.places.items) at) (shown-as k x (memory_after (pages_of i.ram x) done.done.change) x.size after refl) in
@@ -199,7 +199,7 @@ done-at held i t h k at is s run right =
 
 trap-at : {T : Type 0} (held : T → translation.Held) (i : Inside T) (t : T) (h : Hart) (k : List (List ℕ)) (c : Trap) (at : ℕ)
     → IsSpaces held i → Steps held i t h k (Some c) → (run : Runs (held i.translator) i.ram i.hart.root.0 i.places.items at) → Same i run.space
-    → (cycle i.hart.registers i.hart.pc (held_at (spaces_of i) at).memory ≡ Err c) × (spaces_of (record i { ram = k; translator = t; hart = h }) ≡ spaces_of i)
+    → (cycle i.hart.registers i.hart.pc (view_at (spaces_of i) at).memory ≡ Err c) × (spaces_of (record i { ram = k; translator = t; hart = h }) ≡ spaces_of i)
 trap-at held i t h k c at is s run right =
     let x = run.space in
     let d = did held i t h k (Some c) at is s run in
@@ -294,12 +294,12 @@ same-again held i j t h k c at g is s store run mapped hart pages made =
 -- ---- in the words of the contract
 
 pub done-for : {T : Type 0} (i : Inside T) (at : ℕ) (result : Option Trap) (new : Spaces) → i.active ≡ Some at → WasDone (spaces_of i) at result new
-    → IfNone result (IfSome i.active (λ at. (d : Computed) × (cycle i.hart.registers i.hart.pc (held_at (spaces_of i) at).memory ≡ Ok d) × (new ≡ computed (spaces_of i) at d)))
-done-for i at result new e was = subst (λ (a : Option ℕ). IfNone result (IfSome a (λ at. (d : Computed) × (cycle i.hart.registers i.hart.pc (held_at (spaces_of i) at).memory ≡ Ok d) × (new ≡ computed (spaces_of i) at d)))) (sym e) was
+    → IfNone result (IfSome i.active (λ at. (d : Computed) × (cycle i.hart.registers i.hart.pc (view_at (spaces_of i) at).memory ≡ Ok d) × (new ≡ computed (spaces_of i) at d)))
+done-for i at result new e was = subst (λ (a : Option ℕ). IfNone result (IfSome a (λ at. (d : Computed) × (cycle i.hart.registers i.hart.pc (view_at (spaces_of i) at).memory ≡ Ok d) × (new ≡ computed (spaces_of i) at d)))) (sym e) was
 
 pub trap-for : {T : Type 0} (i : Inside T) (at : ℕ) (result : Option Trap) (new : Spaces) → i.active ≡ Some at → WasTrapped (spaces_of i) at result new
-    → IfSome result (λ c. IfSome i.active (λ at. (cycle i.hart.registers i.hart.pc (held_at (spaces_of i) at).memory ≡ Err c) × (new ≡ spaces_of i)))
-trap-for i at result new e was = subst (λ (a : Option ℕ). IfSome result (λ c. IfSome a (λ at. (cycle i.hart.registers i.hart.pc (held_at (spaces_of i) at).memory ≡ Err c) × (new ≡ spaces_of i)))) (sym e) was
+    → IfSome result (λ c. IfSome i.active (λ at. (cycle i.hart.registers i.hart.pc (view_at (spaces_of i) at).memory ≡ Err c) × (new ≡ spaces_of i)))
+trap-for i at result new e was = subst (λ (a : Option ℕ). IfSome result (λ c. IfSome a (λ at. (cycle i.hart.registers i.hart.pc (view_at (spaces_of i) at).memory ≡ Err c) × (new ≡ spaces_of i)))) (sym e) was
 
 -- ---- the exits of a step
 
@@ -319,7 +319,7 @@ run-of held i at is e = rw e at is.active
 
 -- the instruction was done at once
 pub first-done : {T : Type 0} (held : T → translation.Held) (i : Inside T) (t : T) (h : Hart) (k : List (List ℕ)) (result : Option Trap) (at : ℕ) → IsSpaces held i → Steps held i t h k result → i.active ≡ Some at → result ≡ None
-    → IfSome i.active (λ at. (d : Computed) × (cycle i.hart.registers i.hart.pc (held_at (spaces_of i) at).memory ≡ Ok d) × (spaces_of (record i { ram = k; translator = t; hart = h }) ≡ computed (spaces_of i) at d))
+    → IfSome i.active (λ at. (d : Computed) × (cycle i.hart.registers i.hart.pc (view_at (spaces_of i) at).memory ≡ Ok d) × (spaces_of (record i { ram = k; translator = t; hart = h }) ≡ computed (spaces_of i) at d))
 first-done held i t h k None at is s e none =
     let run = run-of held i at is e in
     done-for i at None (spaces_of (record i { ram = k; translator = t; hart = h })) e (outcome held i t h k None at is s run (same-done held i t h k at is s run)).0
@@ -346,7 +346,7 @@ trap-space held i t h k (Some b) c at x is s e stands trapped =
 -- it raised a trap that stands
 pub first-trap : {T : Type 0} (held : T → translation.Held) (i : Inside T) (t : T) (h : Hart) (k : List (List ℕ)) (result : Option Trap) (c : Trap) (at : ℕ) (x : Space) → IsSpaces held i → Steps held i t h k result → i.active ≡ Some at → slot i.places.items at ≡ Some x
     → result ≡ Some c → (c.cause ≡ StorePageFault → page_for Store (pages_of k x) c.address ≡ None)
-    → IfSome i.active (λ at. (cycle i.hart.registers i.hart.pc (held_at (spaces_of i) at).memory ≡ Err c) × (spaces_of (record i { ram = k; translator = t; hart = h }) ≡ spaces_of i))
+    → IfSome i.active (λ at. (cycle i.hart.registers i.hart.pc (view_at (spaces_of i) at).memory ≡ Err c) × (spaces_of (record i { ram = k; translator = t; hart = h }) ≡ spaces_of i))
 first-trap held i t h k None c at x is s e stands trapped closed = absurd cc
 first-trap held i t h k (Some b) c at x is s e stands trapped closed =
     let is_c : b ≡ c = cc in
@@ -360,8 +360,8 @@ first-trap held i t h k (Some b) c at x is s e stands trapped closed =
 
 -- ---- a page was opened, and the translator fenced
 
-same-value : (v : Spaces) (at : ℕ) (y : Option Held) → slot v.places at ≡ y → with_place v at y ≡ v
-same-value v at y e = ap (λ (l : List (Option Held)). record v { places = l }) (ap (slice_set v.places at) (sym e) ∙ set-get_or v.places at None)
+same-value : (v : Spaces) (at : ℕ) (y : Option SpaceView) → slot v.places at ≡ y → with_place v at y ≡ v
+same-value v at y e = ap (λ (l : List (Option SpaceView)). record v { places = l }) (ap (slice_set v.places at) (sym e) ∙ set-get_or v.places at None)
 
 -- the fields then
 pub record Reopened {T : Type 0} (held : T → translation.Held) (i j : Inside T) (at : ℕ) (x : Space) : Type 0 where
@@ -380,7 +380,7 @@ reopened held i t u h k l n (Some b) c at x is s e stands trapped re fenced =
     let placed = reframed-showing held i at x l n u (pages_of i.ram x) is stands arranged.frames (λ v has. absurd (fenced v has)) (λ a. fenced) arranged.pages in
     rw both.0 (record {
       sound = placed.sound;
-      view = placed.view ∙ same-value (spaces_of i) at (Some (held_with (pages_of i.ram x) x.size)) (slot-is i at (Some x) stands);
+      view = placed.view ∙ same-value (spaces_of i) at (Some (view_with (pages_of i.ram x) x.size)) (slot-is i at (Some x) stands);
       hart = refl;
       pages = arranged.pages;
     })

@@ -4,9 +4,9 @@ use Rattle.frames.specs.Free.{IsFreeList, free_count}
 use Rattle.frames.specs.Holders.{Trades}
 use Rattle.ram.specs.declared.FrameNo.{FrameNo}
 use Rattle.spaces.specs.declared.Spaces.TheInside.{Inside}
-use Rattle.spaces.specs.Spaces.{Held, frames_in, grown, has_space, no_pages, taken_frames, with_place}
+use Rattle.spaces.specs.Spaces.{SpaceView, frames_in, grown, has_space, no_pages, taken_frames, with_place}
 use Rattle.spaces.proofs.SpacesLemmas.{place-free, taken-placed, within}
-use Rattle.spaces.specs.View.{IsActive, IsSpaces, Runs, held_with, pipe_frames, shown, spaces_of}
+use Rattle.spaces.specs.View.{IsActive, IsSpaces, Runs, view_with, pipe_frames, shown, spaces_of}
 use Rattle.spaces.proofs.Pipes.{pipes-beside}
 use Rattle.spaces.proofs.Places.{frames-shown, frames_for-pages, free-is, free-taken, length-pages_of, places-count, slot-is, taken-fits}
 use Rattle.arrayvec.proofs.ArrayVecLemmas.{items-with_items}
@@ -44,11 +44,11 @@ same-place xs at x e = sym (ap (slice_set xs at) (sym e) ∙ set-get_or xs at No
 
 -- ---- what the places show
 
-pub map-same : (g h : Option Space → Option Held) (xs : List (Option Space)) → ((j : ℕ) → h (get_or xs j None) ≡ g (get_or xs j None)) → map h xs ≡ map g xs
+pub map-same : (g h : Option Space → Option SpaceView) (xs : List (Option Space)) → ((j : ℕ) → h (get_or xs j None) ≡ g (get_or xs j None)) → map h xs ≡ map g xs
 map-same g h [] same = refl
 map-same g h (x ∷ xs) same = ap (λ o. o ∷ map h xs) (same 0) ∙ ap (λ l. g x ∷ l) (map-same g h xs (λ j. same (suc j)))
 
-map-placed : (g h : Option Space → Option Held) (xs : List (Option Space)) (i : ℕ) (y : Option Space) → ((j : ℕ) → j ≢ i → h (get_or xs j None) ≡ g (get_or xs j None)) → map h (slice_set xs i y) ≡ slice_set (map g xs) i (h y)
+map-placed : (g h : Option Space → Option SpaceView) (xs : List (Option Space)) (i : ℕ) (y : Option Space) → ((j : ℕ) → j ≢ i → h (get_or xs j None) ≡ g (get_or xs j None)) → map h (slice_set xs i y) ≡ slice_set (map g xs) i (h y)
 map-placed g h [] i y same = refl
 map-placed g h (x ∷ xs) zero y same = ap (λ l. h y ∷ l) (map-same g h xs (λ j. same (suc j) (omega arith)))
 map-placed g h (x ∷ xs) (suc i) y same =
@@ -57,7 +57,7 @@ map-placed g h (x ∷ xs) (suc i) y same =
 
 pub same-shown : (m k : List (List ℕ)) (o : Option Space) → ((x : Space) → o ≡ Some x → IsUntouched m k x) → shown k o ≡ shown m o
 same-shown m k None h = refl
-same-shown m k (Some x) h = ap (λ p. Some (held_with p x.size)) (h x refl).pages
+same-shown m k (Some x) h = ap (λ p. Some (view_with p x.size)) (h x refl).pages
 
 pub shown-placed : (m k : List (List ℕ)) (places : List (Option Space)) (at : ℕ) (y : Option Space) → OthersUntouched m k places at → map (shown k) (slice_set places at y) ≡ slice_set (map (shown m) places) at (shown k y)
 shown-placed m k places at y others = map-placed (shown m) (shown k) places at y (λ j ne. same-shown m k (slot places j) (λ x e. others j x ne e))
@@ -103,17 +103,17 @@ active-placed old new m k root places at y (Some j) others fewer here run = elim
 
 -- ---- all of it
 
-pub shown-as : (k : List (List ℕ)) (z : Space) (memory : Memory) (size : ℕ) → pages_of k z ≡ memory → z.size ≡ size → shown k (Some z) ≡ Some (held_with memory size)
-shown-as k z memory size p e = ap (λ (m : Memory). Some (held_with m z.size)) p ∙ ap (λ (n : ℕ). Some (held_with memory n)) e
+pub shown-as : (k : List (List ℕ)) (z : Space) (memory : Memory) (size : ℕ) → pages_of k z ≡ memory → z.size ≡ size → shown k (Some z) ≡ Some (view_with memory size)
+shown-as k z memory size p e = ap (λ (m : Memory). Some (view_with m z.size)) p ∙ ap (λ (n : ℕ). Some (view_with memory n)) e
 
 -- the fields after a change of one place, which shows this then
-pub record Placed {T : Type 0} (held : T → translation.Held) (i j : Inside T) (at : ℕ) (y : Option Held) : Type 0 where
+pub record Placed {T : Type 0} (held : T → translation.Held) (i j : Inside T) (at : ℕ) (y : Option SpaceView) : Type 0 where
   pub sound : IsSpaces held j
   pub view : spaces_of j ≡ with_place (spaces_of i) at y
   pub fits : taken_frames (with_place (spaces_of i) at y) ≤ length i.ram
 
-pub placed-as : {T : Type 0} (held : T → translation.Held) (i j : Inside T) (at : ℕ) (y z : Option Held) → Placed held i j at y → y ≡ z → Placed held i j at z
-placed-as held i j at y z p e = subst (λ (o : Option Held). Placed held i j at o) e p
+pub placed-as : {T : Type 0} (held : T → translation.Held) (i j : Inside T) (at : ℕ) (y z : Option SpaceView) → Placed held i j at y → y ≡ z → Placed held i j at z
+placed-as held i j at y z p e = subst (λ (o : Option SpaceView). Placed held i j at o) e p
 
 pub traded : {T : Type 0} (held : T → translation.Held) (i : Inside T) (at : ℕ) (y : Option Space) (k : List (List ℕ)) (n : Frames) (t : T) (q : List (Option Space))
     → IsSpaces held i → at < length i.places.items → q ≡ slice_set i.places.items at y → IsPlace k y n
@@ -150,7 +150,7 @@ free-place : {T : Type 0} (held : T → translation.Held) (i : Inside T) (at : �
 free-place held i at is low free = (let all = is.all in omega (arith, low, all), free-is i at (place-free (spaces_of i) at free))
 
 -- by a write of the place through the slice of all
-pub settled-there : {T : Type 0} (held : T → translation.Held) (i : Inside T) (at : ℕ) (z : Space) (k : List (List ℕ)) (n : Frames) (xs : List (Option Space)) (y : Option Held)
+pub settled-there : {T : Type 0} (held : T → translation.Held) (i : Inside T) (at : ℕ) (z : Space) (k : List (List ℕ)) (n : Frames) (xs : List (Option Space)) (y : Option SpaceView)
     → IsSpaces held i → at < 64 → has_space (spaces_of i) at ≡ false → xs ≡ i.places.items → IsSpace k z n → Trades i.ram k i.frames n [] (holds k z) → shown k (Some z) ≡ y
     → Placed held i (record i { ram = k; frames = n; places = record { items = refill (length i.places.items) i.places.items (slice_set xs at (Some z)) } }) at y
 settled-there held i at z k n xs y is low free same space trades shows =
@@ -182,7 +182,7 @@ active-forked old new m k root places from to y (Some j) none others fewer fence
           record { space = run.space; stands = stands; same = run.same; coherent = rw stays.entries (coherent-fewer old new run.space.root.0 (entries_of m run.space) fewer run.coherent) }
     ]
 
-pub shared-there : {T : Type 0} (held : T → translation.Held) (i : Inside T) (from to : ℕ) (x z : Space) (k : List (List ℕ)) (n : Frames) (t : T) (xs : List (Option Space)) (y : Option Held)
+pub shared-there : {T : Type 0} (held : T → translation.Held) (i : Inside T) (from to : ℕ) (x z : Space) (k : List (List ℕ)) (n : Frames) (t : T) (xs : List (Option Space)) (y : Option SpaceView)
     → IsSpaces held i → to < 64 → has_space (spaces_of i) to ≡ false → xs ≡ i.places.items → slot i.places.items from ≡ Some x → IsSpace k x n → IsSpace k z n → Trades i.ram k i.frames n (holds i.ram x) (holds k x ++ holds k z) → pages_of k x ≡ pages_of i.ram x
     → ((u : Translation) → held t u → held i.translator u) → (i.active ≡ Some from → HoldsNothing (held t)) → shown k (Some z) ≡ y
     → Placed held i (record i { ram = k; frames = n; translator = t; places = record { items = refill (length i.places.items) i.places.items (slice_set xs to (Some z)) } }) to y
@@ -236,9 +236,9 @@ reframed held i at x k n t is e r fewer fenced =
 
 -- and show this memory then
 pub reframed-showing : {T : Type 0} (held : T → translation.Held) (i : Inside T) (at : ℕ) (x : Space) (k : List (List ℕ)) (n : Frames) (t : T) (memory : Memory) → IsSpaces held i → slot i.places.items at ≡ Some x → Reframes i.ram k x i.frames n
-    → ((u : Translation) → held t u → held i.translator u) → (i.active ≡ Some at → HoldsNothing (held t)) → pages_of k x ≡ memory → Placed held i (record i { ram = k; frames = n; translator = t }) at (Some (held_with memory x.size))
+    → ((u : Translation) → held t u → held i.translator u) → (i.active ≡ Some at → HoldsNothing (held t)) → pages_of k x ≡ memory → Placed held i (record i { ram = k; frames = n; translator = t }) at (Some (view_with memory x.size))
 reframed-showing held i at x k n t memory is e r fewer fenced pages =
-    placed-as held i (record i { ram = k; frames = n; translator = t }) at (shown k (Some x)) (Some (held_with memory x.size)) (reframed held i at x k n t is e r fewer fenced) (shown-as k x memory x.size pages refl)
+    placed-as held i (record i { ram = k; frames = n; translator = t }) at (shown k (Some x)) (Some (view_with memory x.size)) (reframed held i at x k n t is e r fewer fenced) (shown-as k x memory x.size pages refl)
 
 -- nothing changed
 pub view-same : {T : Type 0} (i : Inside T) (at : ℕ) (x : Space) (k : List (List ℕ)) (n : Frames) (z : Space) (q : List (Option Space)) → (k ≡ i.ram) × (n ≡ i.frames) × (z ≡ x) → slot i.places.items at ≡ Some x
@@ -265,14 +265,14 @@ grown-front m k s n x z (Err f) front same = rw (same.0, same.2) (take_all (leng
 -- ---- refusals
 
 -- the frames don't suffice for what a place would have
-over : {T : Type 0} (held : T → translation.Held) (i : Inside T) (at : ℕ) (o : Option Space) (y : Option Held) → IsSpaces held i → at < length i.places.items → slot i.places.items at ≡ o
+over : {T : Type 0} (held : T → translation.Held) (i : Inside T) (at : ℕ) (o : Option Space) (y : Option SpaceView) → IsSpaces held i → at < length i.places.items → slot i.places.items at ≡ o
     → frames_in (shown i.ram o) + free_count i.ram i.frames < frames_in y → length i.ram < taken_frames (with_place (spaces_of i) at y)
 over held i at o y is hi e more =
     let within : at < length (spaces_of i).places = rw (places-count i) hi in
     omega (arith, free-taken held i is, taken-placed (spaces_of i) at y within, ap frames_in (slot-is i at o e), more)
 
 -- nor for one more space
-pub over-free : {T : Type 0} (held : T → translation.Held) (i : Inside T) (at : ℕ) (y : Option Held) → IsSpaces held i → at < 64 → has_space (spaces_of i) at ≡ false → free_count i.ram i.frames < frames_in y
+pub over-free : {T : Type 0} (held : T → translation.Held) (i : Inside T) (at : ℕ) (y : Option SpaceView) → IsSpaces held i → at < 64 → has_space (spaces_of i) at ≡ false → free_count i.ram i.frames < frames_in y
     → length i.ram < taken_frames (with_place (spaces_of i) at y)
 over-free held i at y is low free more =
     let place = free-place held i at is low free in
@@ -281,19 +281,19 @@ over-free held i at y is low free more =
 -- nor for a space of more bytes, which is refused where it would pass the greatest size or takes more frames than are free
 pub over-grown : {T : Type 0} (held : T → translation.Held) (i : Inside T) (at : ℕ) (x : Space) (bytes : ℕ) (marks : Marks) → IsSpaces held i → slot i.places.items at ≡ Some x → length i.ram ≤ 32768
     → (274877898752 < x.size + bytes) ⊎ (frames_for (pages_in x.size) + free_count i.ram i.frames < frames_for (pages_in (x.size + bytes)))
-    → length i.ram < taken_frames (with_place (spaces_of i) at (Some (grown (held_with (pages_of i.ram x) x.size) bytes marks)))
+    → length i.ram < taken_frames (with_place (spaces_of i) at (Some (grown (view_with (pages_of i.ram x) x.size) bytes marks)))
 over-grown held i at x bytes marks is e small why =
     let all = free-taken held i is in
     let now = frames-shown i.ram x in
     let more = frames_for-pages (pages_in (x.size + bytes)) in
     let old = length-pages_of i.ram x in
-    let new : length (grown (held_with (pages_of i.ram x) x.size) bytes marks).memory ≡ pages_in (x.size + bytes) =
+    let new : length (grown (view_with (pages_of i.ram x) x.size) bytes marks).memory ≡ pages_in (x.size + bytes) =
     length-append (pages_of i.ram x) (replicate (pages_in (x.size + bytes) - pages_in x.size) (zero_page marks)) ∙ omega (arith, old, length-replicate (pages_in (x.size + bytes) - pages_in x.size) (zero_page marks)) in
-    let takes : frames_in (Some (grown (held_with (pages_of i.ram x) x.size) bytes marks)) ≡ 4 + page_frames (pages_in (x.size + bytes)) = ap (λ n. 4 + page_frames n) new in
+    let takes : frames_in (Some (grown (view_with (pages_of i.ram x) x.size) bytes marks)) ≡ 4 + page_frames (pages_in (x.size + bytes)) = ap (λ n. 4 + page_frames n) new in
     let hi = within i.places.items at x e in
     let rest = taken-placed (spaces_of i) at None (rw (places-count i) hi) in
     let here = ap frames_in (slot-is i at (Some x) e) in
-    over held i at (Some x) (Some (grown (held_with (pages_of i.ram x) x.size) bytes marks)) is hi e (elim why [
+    over held i at (Some x) (Some (grown (view_with (pages_of i.ram x) x.size) bytes marks)) is hi e (elim why [
       | inl large ↦ omega (arith, all, small, rest, here, takes, large)
       | inr full ↦ omega (arith, now, takes, more, full)
     ])

@@ -1,7 +1,7 @@
 -- The pages of a place that has a space are no more than frames, as many as its size asks for, and of 4096 bytes each.
 use Rattle.ram.specs.Memory.{IsMemory}
 use Rattle.spaces.specs.declared.Spaces.TheInside.{Inside}
-use Rattle.spaces.specs.Spaces.{held_at}
+use Rattle.spaces.specs.Spaces.{view_at}
 use Rattle.spaces.specs.View.{IsSpaces, spaces_of}
 use Rattle.spaces.proofs.Places.{held-is, length-pages_of}
 use Rattle.std.proofs.Common.{◌≡◌, ◌≤◌, List, ℕ, length, Option, Some, None, true}
@@ -21,7 +21,7 @@ pub record IsWhole (memory : List Page) (size : ℕ) : Type 0 where
   pub sized : IsSized memory
 
 pub are-whole : {T : Type 0} (held : T → translation.Held) (i : Inside T) → IsSpaces held i → (at : ℕ) (o : Option Space) → slot i.places.items at ≡ o → is_some o ≡ true
-    → IsMemory i.ram → IsWhole (held_at (spaces_of i) at).memory (held_at (spaces_of i) at).size
+    → IsMemory i.ram → IsWhole (view_at (spaces_of i) at).memory (view_at (spaces_of i) at).size
 are-whole held i is at None there has framed = absurd (cc)
 are-whole held i is at (Some x) there has framed =
     let space = is.machine.each at x there in

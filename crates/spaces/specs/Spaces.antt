@@ -10,13 +10,13 @@ use Rattle.unixmodel.specs.OpenFiles.{pipe_room}
 use Rattle.unixmodel.specs.Numbers.{ceil_div}
 
 -- what a space shows: the memory of a program, and its size in bytes
-pub record Held : Type 0 where
+pub record SpaceView : Type 0 where
   pub memory : Memory
   pub size : ℕ
 
 pub record Spaces : Type 0 where
   -- 64 of them, each free or with a space
-  pub places : List (Option Held)
+  pub places : List (Option SpaceView)
   -- the place whose process the hart runs
   pub active : Option ℕ
   -- x0 to x31 of the hart
@@ -44,48 +44,48 @@ abbrev pub has_space : Spaces → ℕ → Bool
 has_space s at = is_some (slot s.places at)
 
 -- a space without pages
-abbrev pub no_pages : Held
+abbrev pub no_pages : SpaceView
 no_pages = record { memory = []; size = 0 }
 
 -- what the space of a place shows, and no pages where the place is free
-abbrev pub held_at : Spaces → ℕ → Held
-held_at s at = unwrap_or (slot s.places at) no_pages
+abbrev pub view_at : Spaces → ℕ → SpaceView
+view_at s at = unwrap_or (slot s.places at) no_pages
 
 -- a place has another space, or none
-abbrev pub with_place : Spaces → ℕ → Option Held → Spaces
+abbrev pub with_place : Spaces → ℕ → Option SpaceView → Spaces
 with_place s at place = record s { places = slice_set s.places at place }
 
-abbrev pub with_held : Spaces → ℕ → Held → Spaces
-with_held s at held = with_place s at (Some held)
+abbrev pub with_view : Spaces → ℕ → SpaceView → Spaces
+with_view s at held = with_place s at (Some held)
 
 -- ---- other memories
 
 -- so many bytes more: the pages that come are 0 and have these marks
-abbrev pub grown : Held → ℕ → Marks → Held
+abbrev pub grown : SpaceView → ℕ → Marks → SpaceView
 grown h bytes marks = record {
   memory = h.memory ++ replicate (ceil_div (h.size + bytes) 4096 - ceil_div h.size 4096) (zero_page marks);
   size = h.size + bytes;
 }
 
 -- so many bytes fewer
-abbrev pub shrunk : Held → ℕ → Held
+abbrev pub shrunk : SpaceView → ℕ → SpaceView
 shrunk h bytes = record { memory = take (ceil_div (h.size - bytes) 4096) h.memory; size = h.size - bytes }
 
 -- these bytes stand from an address on
-abbrev pub written : Held → ℕ → List ℕ → Held
+abbrev pub written : SpaceView → ℕ → List ℕ → SpaceView
 written h address bytes = record h { memory = write_bytes h.memory address bytes }
 
 -- the hart and the space of a place after an instruction
 abbrev pub computed : Spaces → ℕ → Computed → Spaces
-computed s at d = with_held
+computed s at d = with_view
     (record s { registers = d.regs; pc = d.pc })
     at
-    (record (held_at s at) { memory = memory_after (held_at s at).memory d.change })
+    (record (view_at s at) { memory = memory_after (view_at s at).memory d.change })
 
 -- ---- frames
 
 -- the frames that a place takes: those of the pages, the root, two tables for the trap frame, and that frame
-abbrev pub frames_in : Option Held → ℕ
+abbrev pub frames_in : Option SpaceView → ℕ
 frames_in None = 0
 frames_in (Some h) = 4 + page_frames (length h.memory)
 
@@ -114,12 +114,12 @@ abbrev pub filled : List ℕ → List ℕ → List ℕ
 filled held new = held ++ fitting held new
 
 -- the bytes from an address on that a program may read, so many at the most
-abbrev pub read_at : Held → ℕ → ℕ → List ℕ
+abbrev pub read_at : SpaceView → ℕ → ℕ → List ℕ
 read_at h address count = take count (reach Load h.memory address)
 
 -- bytes of a pipe are taken to an address of a place, so many at the most
 abbrev pub taken_to : Spaces → ℕ → ℕ → ℕ → ℕ → Spaces
 taken_to s q at address count = with_pipe
-    (with_held s at (written (held_at s at) address (take count (bytes_in s q))))
+    (with_view s at (written (view_at s at) address (take count (bytes_in s q))))
     q
     (Some (drop count (bytes_in s q)))

@@ -4,7 +4,7 @@ use Rattle.std.specs.List.{flat_map}
 use Rattle.pipe.specs.Pipe.{Pipe, bytes_of}
 use Rattle.spaces.specs.declared.Spaces.TheInside.{Inside}
 use Rattle.spaces.specs.Ends.{IsOpen}
-use Rattle.spaces.specs.Spaces.{Held, Spaces}
+use Rattle.spaces.specs.Spaces.{SpaceView, Spaces}
 use Rattle.sv39.specs.Mapping.{IsCoherent}
 use Rattle.unixmodel.specs.Files.{slot}
 use Rattle.unixmodel.specs.Memory.{Memory}
@@ -14,13 +14,13 @@ use Rattle.vm.specs.declared.Space.{Space}
 use Rattle.vm.specs.Shares.{IsMachine}
 use Rattle.vm.specs.Space.{entries_of, pages_of}
 
-abbrev pub held_with : Memory → ℕ → Held
-held_with memory size = record { memory = memory; size = size }
+abbrev pub view_with : Memory → ℕ → SpaceView
+view_with memory size = record { memory = memory; size = size }
 
 -- what a place shows over a memory
-abbrev pub shown : List (List ℕ) → Option Space → Option Held
+abbrev pub shown : List (List ℕ) → Option Space → Option SpaceView
 shown m None = None
-shown m (Some x) = Some (held_with (pages_of m x) x.size)
+shown m (Some x) = Some (view_with (pages_of m x) x.size)
 
 -- what a place for pipes shows
 abbrev pub pipe_shown : List (List ℕ) → Option Pipe → Option (List ℕ)

@@ -16,7 +16,7 @@
 
 ghost use Rattle.std.specs.Prelude.{◌≡◌, ◌≢◌, List, ◌+◌, ◌-◌, ◌++◌, ◌<◌, ◌≤◌, ◌/◌, ◌%◌, ◌^◌, ℕ, [], All, Some, None, true, false, drop, length, is_some, min, nat_le, nat_lt, not, option_and_then, option_map, replicate, slice_get, slice_index, slice_set, take, IfOk, IfSome, IfNone, Ok, Err};
 ghost use Rattle.std.specs.Bool.{OnTrue, OnFalse};
-ghost use Rattle.spaces.specs.Spaces.{bytes_in, computed, filled, fitting, grown, has_pipe, has_space, held_at, no_pages, no_spaces, read_at, shrunk, taken_frames, taken_to, with_held, with_pipe, with_place, written};
+ghost use Rattle.spaces.specs.Spaces.{bytes_in, computed, filled, fitting, grown, has_pipe, has_space, view_at, no_pages, no_spaces, read_at, shrunk, taken_frames, taken_to, with_view, with_pipe, with_place, written};
 ghost use Rattle.spaces.specs.Ends.{IsOpen};
 ghost use Rattle.pipe.specs.Pipe.{Stays, bytes_of};
 ghost use Rattle.ram.specs.Memory.{frame_of};
@@ -259,7 +259,7 @@ impl<T: Translate + Drop> Spaces<T> {
     /// The size of a place's space in bytes.
     pub fn size(&self, at: usize) -> u64
         requires { has_space self.now at ≡ true }
-        ensures { result ≡ (held_at self.now at).size }
+        ensures { result ≡ (view_at self.now at).size }
     {
         let space = space_at(&self.places, at);
         space.size()
@@ -268,8 +268,8 @@ impl<T: Translate + Drop> Spaces<T> {
     /// How many pages a place's space has.
     pub fn pages(&self, at: usize) -> u64
         requires { has_space self.now at ≡ true }
-        ensures count { result ≡ length (held_at self.now at).memory }
-        ensures few { length (held_at self.now at).memory ≤ 32768 }
+        ensures count { result ≡ length (view_at self.now at).memory }
+        ensures few { length (view_at self.now at).memory ≤ 32768 }
     {
         let space = space_at(&self.places, at);
         vm::pages_in(space.size())
@@ -280,9 +280,9 @@ impl<T: Translate + Drop> Spaces<T> {
     #[inline]
     pub fn pages_are_whole(&self, at: usize)
         requires { has_space self.now at ≡ true }
-        ensures few { length (held_at self.now at).memory ≤ 32768 }
-        ensures whole { length (held_at self.now at).memory ≡ ceil_div (held_at self.now at).size 4096 }
-        ensures sized { IsSized (held_at self.now at).memory }
+        ensures few { length (view_at self.now at).memory ≤ 32768 }
+        ensures whole { length (view_at self.now at).memory ≡ ceil_div (view_at self.now at).size 4096 }
+        ensures sized { IsSized (view_at self.now at).memory }
     {
         self.ram.frames_are_whole();
     }
@@ -290,8 +290,8 @@ impl<T: Translate + Drop> Spaces<T> {
     /// Whether the program of a place may read so many bytes.
     pub fn can_read(&self, at: usize, address: u64, count: u64) -> bool
         requires { has_space self.now at ≡ true }
-        ensures reach { result ≡ nat_le count (length (reach Load (held_at self.now at).memory address)) }
-        ensures read { result ≡ is_some (read_bytes (held_at self.now at).memory address count) }
+        ensures reach { result ≡ nat_le count (length (reach Load (view_at self.now at).memory address)) }
+        ensures read { result ≡ is_some (read_bytes (view_at self.now at).memory address count) }
     {
         let space = space_at(&self.places, at);
         space.can_read(&self.ram, address, count)
@@ -300,7 +300,7 @@ impl<T: Translate + Drop> Spaces<T> {
     /// Whether the program of a place may write so many bytes.
     pub fn can_write(&self, at: usize, address: u64, count: u64) -> bool
         requires { has_space self.now at ≡ true }
-        ensures { result ≡ can_write (held_at self.now at).memory address count }
+        ensures { result ≡ can_write (view_at self.now at).memory address count }
     {
         let space = space_at(&self.places, at);
         space.can_write(&self.ram, address, count)
@@ -309,7 +309,7 @@ impl<T: Translate + Drop> Spaces<T> {
     /// The bytes from an address of a place to the end of its page; none where its program may not read them.
     pub fn readable(&self, at: usize, address: u64) -> &[u8]
         requires { has_space self.now at ≡ true }
-        ensures { result.now ≡ piece_at Load (held_at self.now at).memory address }
+        ensures { result.now ≡ piece_at Load (view_at self.now at).memory address }
     {
         let space = space_at(&self.places, at);
         space.readable(&self.ram, address)
@@ -318,7 +318,7 @@ impl<T: Translate + Drop> Spaces<T> {
     /// The bytes and the marks of a page of a place; `None` past the last one.
     pub fn page(&self, at: usize, n: u64) -> Option<(&[u8; FRAME_SIZE], Perm)>
         requires { has_space self.now at ≡ true }
-        ensures { option_map (λ r. let p : Page = record { bytes = r.0.now; marks = marks_from r.1 } in p) result ≡ slice_get (held_at self.now at).memory n }
+        ensures { option_map (λ r. let p : Page = record { bytes = r.0.now; marks = marks_from r.1 } in p) result ≡ slice_get (view_at self.now at).memory n }
     {
         let space = space_at(&self.places, at);
         let (frame, perm) = space.find_page(&self.ram, n)?;
@@ -328,7 +328,7 @@ impl<T: Translate + Drop> Spaces<T> {
     /// The memory, and the frame of the root of a place's page table.
     pub fn tables(&self, at: usize) -> (&Ram, FrameNo)
         requires { has_space self.now at ≡ true }
-        ensures { ShowsMemory result.0.now result.1.0 (held_at self.now at).memory }
+        ensures { ShowsMemory result.0.now result.1.0 (view_at self.now at).memory }
     {
         let space = space_at(&self.places, at);
         (&self.ram, root_of(space, &self.ram))
@@ -338,8 +338,8 @@ impl<T: Translate + Drop> Spaces<T> {
     pub fn create(&mut self, at: usize) -> bool
         requires inside { at < 64 }
         requires free { has_space self.old at ≡ false }
-        ensures done { OnTrue result ((taken_frames (with_held self.old at no_pages) ≤ self.old.frames) × (self.new ≡ with_held self.old at no_pages)) }
-        ensures refused { OnFalse result ((self.old.frames < taken_frames (with_held self.old at no_pages)) × (self.new ≡ self.old)) }
+        ensures done { OnTrue result ((taken_frames (with_view self.old at no_pages) ≤ self.old.frames) × (self.new ≡ with_view self.old at no_pages)) }
+        ensures refused { OnFalse result ((self.old.frames < taken_frames (with_view self.old at no_pages)) × (self.new ≡ self.old)) }
     {
         match Space::new(&mut self.ram, &mut self.frames) {
             Ok(space) => {
@@ -359,8 +359,8 @@ impl<T: Translate + Drop> Spaces<T> {
         requires from { has_space self.old from ≡ true }
         requires inside { to < 64 }
         requires free { has_space self.old to ≡ false }
-        ensures done { OnTrue result ((taken_frames (with_held self.old to (held_at self.old from)) ≤ self.old.frames) × (self.new ≡ with_held self.old to (held_at self.old from))) }
-        ensures refused { OnFalse result ((self.old.frames < taken_frames (with_held self.old to (held_at self.old from))) × (self.new ≡ self.old)) }
+        ensures done { OnTrue result ((taken_frames (with_view self.old to (view_at self.old from)) ≤ self.old.frames) × (self.new ≡ with_view self.old to (view_at self.old from))) }
+        ensures refused { OnFalse result ((self.old.frames < taken_frames (with_view self.old to (view_at self.old from))) × (self.new ≡ self.old)) }
     {
         let space = space_at(&self.places, from);
         match space.copy(&mut self.ram, &mut self.frames) {
@@ -392,8 +392,8 @@ impl<T: Translate + Drop> Spaces<T> {
     /// that there are none.
     pub fn grow(&mut self, at: usize, bytes: u64, perm: Perm) -> bool
         requires { has_space self.old at ≡ true }
-        ensures done { OnTrue result ((taken_frames (with_held self.old at (grown (held_at self.old at) bytes (marks_from perm))) ≤ self.old.frames) × (self.new ≡ with_held self.old at (grown (held_at self.old at) bytes (marks_from perm)))) }
-        ensures refused { OnFalse result ((self.old.frames < taken_frames (with_held self.old at (grown (held_at self.old at) bytes (marks_from perm)))) × (self.new ≡ self.old)) }
+        ensures done { OnTrue result ((taken_frames (with_view self.old at (grown (view_at self.old at) bytes (marks_from perm))) ≤ self.old.frames) × (self.new ≡ with_view self.old at (grown (view_at self.old at) bytes (marks_from perm)))) }
+        ensures refused { OnFalse result ((self.old.frames < taken_frames (with_view self.old at (grown (view_at self.old at) bytes (marks_from perm)))) × (self.new ≡ self.old)) }
     {
         self.ram.frames_are_whole();
         match &mut self.places[at] {
@@ -407,8 +407,8 @@ impl<T: Translate + Drop> Spaces<T> {
     /// Takes so many bytes away from the end of a place's space, and the pages that no byte needs then.
     pub fn shrink(&mut self, at: usize, bytes: u64)
         requires space { has_space self.old at ≡ true }
-        requires less { bytes ≤ (held_at self.old at).size }
-        ensures { self.new ≡ with_held self.old at (shrunk (held_at self.old at) bytes) }
+        requires less { bytes ≤ (view_at self.old at).size }
+        ensures { self.new ≡ with_view self.old at (shrunk (view_at self.old at) bytes) }
     {
         match &mut self.places[at] {
             Some(space) => space.shrink(&mut self.ram, &mut self.frames, bytes),
@@ -420,8 +420,8 @@ impl<T: Translate + Drop> Spaces<T> {
     /// Puts bytes into the pages of a place from an address on, whatever their marks, as a loader does.
     pub fn fill(&mut self, at: usize, address: u64, bytes: &[u8])
         requires space { has_space self.old at ≡ true }
-        requires inside { (i : ℕ) → i < length bytes.now → (address + i) / 4096 < length (held_at self.old at).memory }
-        ensures { self.new ≡ with_held self.old at (written (held_at self.old at) address bytes.now) }
+        requires inside { (i : ℕ) → i < length bytes.now → (address + i) / 4096 < length (view_at self.old at).memory }
+        ensures { self.new ≡ with_view self.old at (written (view_at self.old at) address bytes.now) }
     {
         let space = space_at(&self.places, at);
         space.fill(&mut self.ram, &mut self.frames, address, bytes);
@@ -431,8 +431,8 @@ impl<T: Translate + Drop> Spaces<T> {
     /// Copies bytes to an address of a place. `false`: its program may not write them all; then nothing changed.
     pub fn write(&mut self, at: usize, address: u64, bytes: &[u8]) -> bool
         requires { has_space self.old at ≡ true }
-        ensures can { result ≡ can_write (held_at self.old at).memory address (length bytes.now) }
-        ensures done { OnTrue result (self.new ≡ with_held self.old at (written (held_at self.old at) address bytes.now)) }
+        ensures can { result ≡ can_write (view_at self.old at).memory address (length bytes.now) }
+        ensures done { OnTrue result (self.new ≡ with_view self.old at (written (view_at self.old at) address bytes.now)) }
         ensures refused { OnFalse result (self.new ≡ self.old) }
     {
         let space = space_at(&self.places, at);
@@ -446,8 +446,8 @@ impl<T: Translate + Drop> Spaces<T> {
     /// Copies bytes from an address of a place. `false`: its program may not read them all; then none is copied.
     pub fn read(&self, at: usize, address: u64, buffer: &mut [u8]) -> bool
         requires { has_space self.now at ≡ true }
-        ensures can { result ≡ is_some (read_bytes (held_at self.now at).memory address (length buffer.old)) }
-        ensures done { OnTrue result (read_bytes (held_at self.now at).memory address (length buffer.old) ≡ Some buffer.new) }
+        ensures can { result ≡ is_some (read_bytes (view_at self.now at).memory address (length buffer.old)) }
+        ensures done { OnTrue result (read_bytes (view_at self.now at).memory address (length buffer.old) ≡ Some buffer.new) }
         ensures refused { OnFalse result (buffer.new ≡ buffer.old) }
     {
         let space = space_at(&self.places, at);
@@ -458,7 +458,7 @@ impl<T: Translate + Drop> Spaces<T> {
     /// which is 0, without it. `None` where its program may not read them and the 0, or the buffer is too short.
     pub fn copy_string(&self, at: usize, address: u64, buffer: &mut [u8]) -> Option<usize>
         requires { has_space self.now at ≡ true }
-        ensures string { option_map (λ n. take n buffer.new) result ≡ short_string (length buffer.old) (string_at (held_at self.now at).memory address) }
+        ensures string { option_map (λ n. take n buffer.new) result ≡ short_string (length buffer.old) (string_at (view_at self.now at).memory address) }
         ensures within { IfSome result (λ n. n ≤ length buffer.old) }
         ensures bytes { IfSome result (λ n. All (λ b. b ≢ 0) (take n buffer.new)) }
     {
@@ -469,7 +469,7 @@ impl<T: Translate + Drop> Spaces<T> {
     /// Copies the path at an address of a place into a buffer, and tells its length: it is a string of 127 bytes at the most.
     pub fn copy_path(&self, at: usize, address: u64, buffer: &mut [u8; 127]) -> Option<usize>
         requires { has_space self.now at ≡ true }
-        ensures path { option_map (λ n. take n buffer.new) result ≡ path_at (held_at self.now at).memory address }
+        ensures path { option_map (λ n. take n buffer.new) result ≡ path_at (view_at self.now at).memory address }
         ensures within { IfSome result (λ n. n ≤ 127) }
         ensures bytes { IfSome result (λ n. All (λ b. b ≢ 0) (take n buffer.new)) }
     {
@@ -542,8 +542,8 @@ impl<T: Translate + Drop> Spaces<T> {
     /// and gets a frame of its own where others hold its frame too.
     pub fn execute(&mut self) -> Option<Trap>
         requires { is_some self.old.active ≡ true }
-        ensures done { IfNone result (IfSome self.old.active (λ at. (d : Computed) × (cycle self.old.registers self.old.pc (held_at self.old at).memory ≡ Ok d) × (self.new ≡ computed self.old at d))) }
-        ensures trap { IfSome result (λ t. IfSome self.old.active (λ at. (cycle self.old.registers self.old.pc (held_at self.old at).memory ≡ Err t) × (self.new ≡ self.old))) }
+        ensures done { IfNone result (IfSome self.old.active (λ at. (d : Computed) × (cycle self.old.registers self.old.pc (view_at self.old at).memory ≡ Ok d) × (self.new ≡ computed self.old at d))) }
+        ensures trap { IfSome result (λ t. IfSome self.old.active (λ at. (cycle self.old.registers self.old.pc (view_at self.old at).memory ≡ Err t) × (self.new ≡ self.old))) }
     {
         self.ram.frames_are_whole();
         let Some(at) = self.active else {
@@ -647,9 +647,9 @@ impl<T: Translate + Drop> Spaces<T> {
     fn write_through(&mut self, q: usize, at: usize, address: u64, buffer: &mut [u8]) -> usize
         requires pipe { has_pipe self.old q ≡ true }
         requires space { has_space self.old at ≡ true }
-        requires readable { length buffer.old ≤ length (reach Load (held_at self.old at).memory address) }
-        ensures bytes { self.new ≡ with_pipe self.old q (Some (filled (bytes_in self.old q) (read_at (held_at self.old at) address (length buffer.old)))) }
-        ensures count { result ≡ length (fitting (bytes_in self.old q) (read_at (held_at self.old at) address (length buffer.old))) }
+        requires readable { length buffer.old ≤ length (reach Load (view_at self.old at).memory address) }
+        ensures bytes { self.new ≡ with_pipe self.old q (Some (filled (bytes_in self.old q) (read_at (view_at self.old at) address (length buffer.old)))) }
+        ensures count { result ≡ length (fitting (bytes_in self.old q) (read_at (view_at self.old at) address (length buffer.old))) }
     {
         let _read = self.read(at, address, buffer);
         self.put_bytes(q, buffer)
@@ -659,7 +659,7 @@ impl<T: Translate + Drop> Spaces<T> {
     fn read_through(&mut self, q: usize, at: usize, address: u64, buffer: &mut [u8]) -> usize
         requires pipe { has_pipe self.old q ≡ true }
         requires space { has_space self.old at ≡ true }
-        requires writable { can_write (held_at self.old at).memory address (length buffer.old) ≡ true }
+        requires writable { can_write (view_at self.old at).memory address (length buffer.old) ≡ true }
         ensures bytes { self.new ≡ taken_to self.old q at address (length buffer.old) }
         ensures count { result ≡ min (length buffer.old) (length (bytes_in self.old q)) }
     {
@@ -672,9 +672,9 @@ impl<T: Translate + Drop> Spaces<T> {
     pub fn write_pipe(&mut self, q: usize, at: usize, address: u64, count: usize) -> usize
         requires pipe { has_pipe self.old q ≡ true }
         requires space { has_space self.old at ≡ true }
-        requires readable { count ≤ length (reach Load (held_at self.old at).memory address) }
-        ensures bytes { self.new ≡ with_pipe self.old q (Some (filled (bytes_in self.old q) (read_at (held_at self.old at) address count))) }
-        ensures count { result ≡ length (fitting (bytes_in self.old q) (read_at (held_at self.old at) address count)) }
+        requires readable { count ≤ length (reach Load (view_at self.old at).memory address) }
+        ensures bytes { self.new ≡ with_pipe self.old q (Some (filled (bytes_in self.old q) (read_at (view_at self.old at) address count))) }
+        ensures count { result ≡ length (fitting (bytes_in self.old q) (read_at (view_at self.old at) address count)) }
     {
         let mut buffer = [0; pipe::ROOM];
         let size = count.min(pipe::ROOM);
@@ -685,7 +685,7 @@ impl<T: Translate + Drop> Spaces<T> {
     pub fn read_pipe(&mut self, q: usize, at: usize, address: u64, count: usize) -> usize
         requires pipe { has_pipe self.old q ≡ true }
         requires space { has_space self.old at ≡ true }
-        requires writable { can_write (held_at self.old at).memory address count ≡ true }
+        requires writable { can_write (view_at self.old at).memory address count ≡ true }
         ensures bytes { self.new ≡ taken_to self.old q at address count }
         ensures count { result ≡ min count (length (bytes_in self.old q)) }
     {

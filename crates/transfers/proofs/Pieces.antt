@@ -5,7 +5,7 @@ use Rattle.std.proofs.Math.Seq.{take-add}
 use Rattle.std.proofs.lemmas.Bool.{le-leb, leb-true}
 use Rattle.std.proofs.lemmas.List.{drop-drop, length-append, length-drop, length-take, length-take-le, get_or-set_same, set-get_or, set-set, take_at, take_min}
 use Rattle.blockdev.specs.Splice.{part}
-use Rattle.spaces.specs.Spaces.{Held, Spaces, has_space, held_at, no_pages, with_held, written}
+use Rattle.spaces.specs.Spaces.{SpaceView, Spaces, has_space, view_at, no_pages, with_view, written}
 use Rattle.spaces.proofs.SpacesLemmas.{held-same, within}
 use Rattle.transfers.specs.Moved.{IsRead, bytes_of, bytes_read, with_bytes}
 use Rattle.transfers.proofs.Memory.{written-twice, writes-rest}
@@ -55,13 +55,13 @@ is-written false can P same is done = absurd (cc)
 
 space-within : (s : Spaces) (at : ℕ) → has_space s at ≡ true → at < length s.places
 space-within s at has = go (slot s.places at) refl has where
-  go : (o : Option Held) → slot s.places at ≡ o → is_some o ≡ true → at < length s.places
+  go : (o : Option SpaceView) → slot s.places at ≡ o → is_some o ≡ true → at < length s.places
   go None e some = absurd (cc)
   go (Some h) e some = within s.places at h e
 
-held-there : (s : Spaces) (at : ℕ) → has_space s at ≡ true → Some (held_at s at) ≡ slot s.places at
+held-there : (s : Spaces) (at : ℕ) → has_space s at ≡ true → Some (view_at s at) ≡ slot s.places at
 held-there s at has = go (slot s.places at) has where
-  go : (o : Option Held) → is_some o ≡ true → Some (unwrap_or o no_pages) ≡ o
+  go : (o : Option SpaceView) → is_some o ≡ true → Some (unwrap_or o no_pages) ≡ o
   go None some = absurd (cc)
   go (Some h) some = refl
 
@@ -69,32 +69,32 @@ module _ (s : Spaces) (at address : ℕ) (has : has_space s at ≡ true) where
   -- nothing is written
   pub none-written : s ≡ with_bytes s at address []
   none-written =
-      let same : written (held_at s at) address [] ≡ held_at s at = ap (λ (m : Memory). record { memory = m; size = (held_at s at).size }) (write-none (held_at s at).memory address) in
-      let put : slice_set s.places at (Some (written (held_at s at) address [])) ≡ s.places =
-      ap (λ (h : Held). slice_set s.places at (Some h)) same ∙ ap (λ (o : Option Held). slice_set s.places at o) (held-there s at has) ∙ set-get_or s.places at None in
-      ap (λ (ps : List (Option Held)). record s { places = ps }) (sym put)
+      let same : written (view_at s at) address [] ≡ view_at s at = ap (λ (m : Memory). record { memory = m; size = (view_at s at).size }) (write-none (view_at s at).memory address) in
+      let put : slice_set s.places at (Some (written (view_at s at) address [])) ≡ s.places =
+      ap (λ (h : SpaceView). slice_set s.places at (Some h)) same ∙ ap (λ (o : Option SpaceView). slice_set s.places at o) (held-there s at has) ∙ set-get_or s.places at None in
+      ap (λ (ps : List (Option SpaceView)). record s { places = ps }) (sym put)
 
   module _ (bytes : List ℕ) where
-    held-with : held_at (with_bytes s at address bytes) at ≡ written (held_at s at) address bytes
-    held-with = held-same s at (written (held_at s at) address bytes) (space-within s at has)
+    held-with : view_at (with_bytes s at address bytes) at ≡ written (view_at s at) address bytes
+    held-with = held-same s at (written (view_at s at) address bytes) (space-within s at has)
 
     pub has-with : has_space (with_bytes s at address bytes) at ≡ true
     has-with = go where
       go : has_space (with_bytes s at address bytes) at ≡ true
-      go = ap is_some (get_or-set_same s.places at (Some (written (held_at s at) address bytes)) None (space-within s at has))
+      go = ap is_some (get_or-set_same s.places at (Some (written (view_at s at) address bytes)) None (space-within s at has))
 
     -- the rest of the buffer may be written
-    pub writes-with : (d l c : ℕ) → IsSized (held_at s at).memory → can_write (held_at s at).memory address c ≡ true → d + l ≤ c → can_write (held_at (with_bytes s at address bytes) at).memory (address + d) l ≡ true
-    writes-with d l c sized can fits = rw held-with (writes-rest (held_at s at).memory address address d l c bytes sized can fits)
+    pub writes-with : (d l c : ℕ) → IsSized (view_at s at).memory → can_write (view_at s at).memory address c ≡ true → d + l ≤ c → can_write (view_at (with_bytes s at address bytes) at).memory (address + d) l ≡ true
+    writes-with d l c sized can fits = rw held-with (writes-rest (view_at s at).memory address address d l c bytes sized can fits)
 
     -- bytes that come behind
-    pub with-more : (more : List ℕ) → IsSized (held_at s at).memory → with_bytes (with_bytes s at address bytes) at (address + length bytes) more ≡ with_bytes s at address (bytes ++ more)
+    pub with-more : (more : List ℕ) → IsSized (view_at s at).memory → with_bytes (with_bytes s at address bytes) at (address + length bytes) more ≡ with_bytes s at address (bytes ++ more)
     with-more more sized =
-        let twice = written-twice (held_at s at).memory address bytes more sized in
-        let held : written (held_at (with_bytes s at address bytes) at) (address + length bytes) more ≡ written (held_at s at) address (bytes ++ more) =
-        ap (λ (h : Held). written h (address + length bytes) more) held-with ∙ ap (λ (m : Memory). record { memory = m; size = (held_at s at).size }) twice in
-        let put = set-set s.places at (Some (written (held_at s at) address bytes)) (Some (written (held_at s at) address (bytes ++ more))) in
-        ap (λ (h : Held). with_held (with_bytes s at address bytes) at h) held ∙ ap (λ (ps : List (Option Held)). record s { places = ps }) put
+        let twice = written-twice (view_at s at).memory address bytes more sized in
+        let held : written (view_at (with_bytes s at address bytes) at) (address + length bytes) more ≡ written (view_at s at) address (bytes ++ more) =
+        ap (λ (h : SpaceView). written h (address + length bytes) more) held-with ∙ ap (λ (m : Memory). record { memory = m; size = (view_at s at).size }) twice in
+        let put = set-set s.places at (Some (written (view_at s at) address bytes)) (Some (written (view_at s at) address (bytes ++ more))) in
+        ap (λ (h : SpaceView). with_view (with_bytes s at address bytes) at h) held ∙ ap (λ (ps : List (Option SpaceView)). record s { places = ps }) put
 
 -- ---- the pieces of a read
 
@@ -141,7 +141,7 @@ module _ {old now : FileTree} {before after : Spaces} {at number offset address 
     pub read-short : got < size → done + got ≡ length (bytes_read old.files number offset count)
     read-short short = let low = done-low in omega (arith, low, short, fits, got-is, length-take count rest)
 
-    pub read-more : {more : Spaces} → has_space before at ≡ true → IsSized (held_at before at).memory → now.failures ≤ next.failures → more ≡ with_bytes after at (address + done) (bytes_read now.files number (offset + done) size)
+    pub read-more : {more : Spaces} → has_space before at ≡ true → IsSized (view_at before at).memory → now.failures ≤ next.failures → more ≡ with_bytes after at (address + done) (bytes_read now.files number (offset + done) size)
         → HasRead old next before more at number offset address count (done + got)
     read-more space sized later put =
         let low = done-low in
@@ -183,7 +183,7 @@ size-fits buffer size done count less is = omega (arith, less, is, length-take s
 pub size-whole : (buffer : List ℕ) (size left : ℕ) → length buffer ≡ 1024 → size ≡ min left 1024 → length (take size buffer) ≡ size
 size-whole buffer size left long is = length-take-le size buffer (omega (arith, long, is))
 
-pub read-writes : {old now : FileTree} {before after : Spaces} {at number offset address count done : ℕ} → HasRead old now before after at number offset address count done → has_space before at ≡ true → IsSized (held_at before at).memory
-    → can_write (held_at before at).memory address count ≡ true → (l : ℕ) → done + l ≤ count → can_write (held_at after at).memory (address + done) l ≡ true
+pub read-writes : {old now : FileTree} {before after : Spaces} {at number offset address count done : ℕ} → HasRead old now before after at number offset address count done → has_space before at ≡ true → IsSized (view_at before at).memory
+    → can_write (view_at before at).memory address count ≡ true → (l : ℕ) → done + l ≤ count → can_write (view_at after at).memory (address + done) l ≡ true
 read-writes {old} {before = before} {at = at} {number = number} {offset = offset} {address = address} {count = count} {done = done} has space sized can l fits =
-    subst (λ (s : Spaces). can_write (held_at s at).memory (address + done) l ≡ true) (sym has.bytes) (writes-with before at address space (bytes_read old.files number offset done) done l count sized can fits)
+    subst (λ (s : Spaces). can_write (view_at s at).memory (address + done) l ≡ true) (sym has.bytes) (writes-with before at address space (bytes_read old.files number offset done) done l count sized can fits)

@@ -1,6 +1,6 @@
 -- The bytes that go between a node and the memory of a place.
 use Rattle.std.specs.Prelude.{List, None, Option, Some, [], drop, length, take, unwrap_or, ℕ, ◌≡◌}
-use Rattle.spaces.specs.Spaces.{Spaces, held_at, with_held, written}
+use Rattle.spaces.specs.Spaces.{Spaces, view_at, with_view, written}
 use Rattle.tree.specs.Tree.{FileTree}
 use Rattle.unixmodel.specs.Files.{Files, Node, node_bytes, slot}
 use Rattle.unixmodel.specs.Memory.{read_bytes}
@@ -20,8 +20,8 @@ pub record IsRead (old new : FileTree) (number offset most told : ℕ) : Type 0 
 
 -- the memory of a place has these bytes from an address on
 abbrev pub with_bytes : Spaces → ℕ → ℕ → List ℕ → Spaces
-with_bytes s at address bytes = with_held s at (written (held_at s at) address bytes)
+with_bytes s at address bytes = with_view s at (written (view_at s at) address bytes)
 
 -- so many bytes of a place, which its program may read
 abbrev pub bytes_given : Spaces → ℕ → ℕ → ℕ → List ℕ
-bytes_given s at address count = unwrap_or (read_bytes (held_at s at).memory address count) []
+bytes_given s at address count = unwrap_or (read_bytes (view_at s at).memory address count) []

@@ -1,7 +1,7 @@
 //! From a node to the memory of a process.
 
 ghost use Rattle.std.specs.Prelude.{◌≡◌, ◌≤◌, ℕ, OnErr, OnOk, Some, false, length, true};
-ghost use Rattle.spaces.specs.Spaces.{has_space, held_at};
+ghost use Rattle.spaces.specs.Spaces.{has_space, view_at};
 ghost use Rattle.transfers.specs.Moved.{IsRead, bytes_read, with_bytes};
 ghost use Rattle.tree.specs.Tree.{Serves};
 ghost use Rattle.unixmodel.specs.Files.{Node, slot};
@@ -25,7 +25,7 @@ fn read_piece<D: BlockDev, T: Translate + Drop>(
     requires up { tree.old.failed ≡ false }
     requires node { (node : Node) × (slot tree.old.files number ≡ Some node) }
     requires space { has_space spaces.old at ≡ true }
-    requires writable { can_write (held_at spaces.old at).memory address (length buffer.old) ≡ true }
+    requires writable { can_write (view_at spaces.old at).memory address (length buffer.old) ≡ true }
     ensures serves { Serves tree.old tree.new result (IsRead tree.old tree.new number offset (length buffer.old)) }
     ensures written { OnOk result (spaces.new ≡ with_bytes spaces.old at address (bytes_read tree.old.files number offset (length buffer.old))) }
     ensures failed { OnErr result (spaces.new ≡ spaces.old) }
@@ -49,7 +49,7 @@ pub fn read_node<D: BlockDev, T: Translate + Drop>(
     requires up { tree.old.failed ≡ false }
     requires node { (node : Node) × (slot tree.old.files number ≡ Some node) }
     requires space { has_space spaces.old at ≡ true }
-    requires writable { can_write (held_at spaces.old at).memory address count ≡ true }
+    requires writable { can_write (view_at spaces.old at).memory address count ≡ true }
     ensures serves { Serves tree.old tree.new result (IsRead tree.old tree.new number offset count) }
     ensures written { OnOk result (spaces.new ≡ with_bytes spaces.old at address (bytes_read tree.old.files number offset count)) }
     ensures failed { OnErr result ((done : ℕ) × (done ≤ count) × (spaces.new ≡ with_bytes spaces.old at address (bytes_read tree.old.files number offset done))) }

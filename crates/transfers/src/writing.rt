@@ -1,7 +1,7 @@
 //! From the memory of a process to a file.
 
 ghost use Rattle.std.specs.Prelude.{◌≡◌, false, is_some, take, true};
-ghost use Rattle.spaces.specs.Spaces.{has_space, held_at};
+ghost use Rattle.spaces.specs.Spaces.{has_space, view_at};
 ghost use Rattle.transfers.specs.Moved.{bytes_given};
 ghost use Rattle.tree.specs.Tree.{Serves};
 ghost use Rattle.tree.specs.Written.{IsFile, count_of, files_after, written};
@@ -20,7 +20,7 @@ const LONGEST: u64 = 274_432;
 // The bytes of a place from an address on, up to the end of its page, and so many at the most.
 fn piece<T: Translate + Drop>(spaces: &Spaces<T>, at: usize, address: u64, most: u64) -> &[u8]
     requires { has_space spaces.now at ≡ true }
-    ensures { result.now ≡ take most (piece_at Load (held_at spaces.now at).memory address) }
+    ensures { result.now ≡ take most (piece_at Load (view_at spaces.now at).memory address) }
 {
     let piece = spaces.readable(at, address);
     if piece.len() as u64 > most {
@@ -45,7 +45,7 @@ pub fn write_node<D: BlockDev, T: Translate + Drop>(
     requires up { tree.old.failed ≡ false }
     requires file { IsFile tree.old.files number }
     requires space { has_space spaces.now at ≡ true }
-    requires readable { is_some (read_bytes (held_at spaces.now at).memory address count) ≡ true }
+    requires readable { is_some (read_bytes (view_at spaces.now at).memory address count) ≡ true }
     ensures { Serves tree.old tree.new result (λ went. let w = written tree.old.block_limit tree.old.files number offset (bytes_given spaces.now at address count) in (tree.new ≡ record tree.old { files = files_after tree.old.files w; failures = tree.new.failures }) × (went ≡ count_of w)) }
 {
     spaces.pages_are_whole(at);

@@ -1,5 +1,5 @@
 //! A session, and what a machine shows in it.
-ghost use Rattle.machine.specs.Told.{IsUp};
+ghost use Rattle.machine.specs.View.{IsUp};
 
 use anyhow::{Context, bail};
 use blockdev::{BlockDev, MemDisk};

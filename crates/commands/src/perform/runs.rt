@@ -5,7 +5,7 @@ ghost use Rattle.commands.specs.Reports.{end_of};
 ghost use Rattle.commands.specs.Runs.{IsFlatRun, IsImageRun, Leaves, PlaysOut};
 ghost use Rattle.imagerules.specs.Content.{image_of};
 ghost use Rattle.machine.specs.Booted.{IsUnbooted};
-ghost use Rattle.machine.specs.Told.{IsUp};
+ghost use Rattle.machine.specs.View.{IsUp};
 ghost use Rattle.unixmodel.specs.Start.{start_flat};
 
 use crate::host::Host;

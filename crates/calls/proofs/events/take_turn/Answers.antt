@@ -3,7 +3,7 @@ use Rattle.kernel.proofs.Wakes.{state-but}
 use Rattle.kernel.specs.Kernel.{picked}
 use Rattle.calls.proofs.Served.{on-after}
 use Rattle.calls.proofs.Takes.{turn-takes}
-use Rattle.calls.specs.Told.{taken}
+use Rattle.calls.specs.Resuming.{taken}
 use Rattle.std.proofs.Common.{ap, sym, ◌∙◌}
 use Rattle.unixmodel.specs.State.{State}
 use Rattle.calls.proofs.events.take_turn.Goals as goal

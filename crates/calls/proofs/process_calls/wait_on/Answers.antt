@@ -7,7 +7,7 @@ use Rattle.proc.specs.Places.{zombie_place}
 use Rattle.calls.proofs.Woken.{watched-without}
 use Rattle.calls.proofs.Collects.{collects, wait-blocks}
 use Rattle.kernel.proofs.Runs.{active-space}
-use Rattle.spaces.specs.Spaces.{held_at}
+use Rattle.spaces.specs.Spaces.{view_at}
 use Rattle.unixmodel.specs.Outcome.{pending_arg}
 use mir.Val.{SFits}
 use Rattle.calls.proofs.process_calls.wait_on.Goals as goal
@@ -26,7 +26,7 @@ pub write_status-requires-clause-space : goal.write_status-requires-clause-space
 write_status-requires-clause-space g c = active-space (kernel_of c.kernel.inside) c.args.kernel.now c.args.at c.kernel.view_is c.kernel.invariant.sound c.requires.runs.active
 
 pub write_status-requires-clause-can : goal.write_status-requires-clause-can
-write_status-requires-clause-can g c = ap (λ (k : Kernel). can_answer (held_at k.spaces c.args.at).memory (pending_arg c.args.pending 0)) c.kernel.view_is ∙ c.requires.can
+write_status-requires-clause-can g c = ap (λ (k : Kernel). can_answer (view_at k.spaces c.args.at).memory (pending_arg c.args.pending 0)) c.kernel.view_is ∙ c.requires.can
 
 pub destroy-requires-clause-space : goal.destroy-requires-clause-space
 destroy-requires-clause-space g c =

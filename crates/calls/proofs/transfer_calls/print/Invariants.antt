@@ -1,6 +1,6 @@
 use Rattle.std.proofs.Common.{◌≤◌, ◌-◌, take}
 use Rattle.std.specs.Io.KnownBytes.{Appends}
-use Rattle.spaces.specs.Spaces.{held_at}
+use Rattle.spaces.specs.Spaces.{view_at}
 use Rattle.unixmodel.specs.declared.trap.Access.TheVariants.{Load}
 use Rattle.unixmodel.specs.Memory.{reach}
 use Rattle.calls.proofs.transfer_calls.print.Given as goal
@@ -9,7 +9,7 @@ use Rattle.calls.proofs.transfer_calls.print.Given as goal
 abbrev pub invariant-loop-done : goal.invariant-loop-done
 invariant-loop-done g l = record {
   within : l.done ≤ l.count;
-  printed : Appends (g.W.Out.contents l.fn.out) (g.W.Out.contents l.out) (take l.done (reach Load (held_at l.kernel.spaces l.at).memory l.address));
+  printed : Appends (g.W.Out.contents l.fn.out) (g.W.Out.contents l.out) (take l.done (reach Load (view_at l.kernel.spaces l.at).memory l.address));
   later : g.W.Out.failures l.fn.out ≤ g.W.Out.failures l.out;
 }
 

@@ -3,7 +3,7 @@ use Rattle.kernel.proofs.Watching.{watched-all}
 use Rattle.machine.proofs.flat_boot.boot_flat_on.Goals as goal
 use Rattle.machine.proofs.FlatLemmas.{few-console, few-root, first-sound, frames-of, hold-console, hold-root, length-flat, none-of, start-fits, start-over}
 use Rattle.machine.specs.Flat.{first_kernel, flat_memory, flat_space}
-use Rattle.spaces.specs.Spaces.{Spaces, held_at}
+use Rattle.spaces.specs.Spaces.{Spaces, view_at}
 use Rattle.std.proofs.Common.{◌≡◌, ◌*◌, Some, length, ap, arith, refl, sym, ◌∙◌}
 
 pub load-requires : goal.load-requires
@@ -14,12 +14,12 @@ returns-then-not-load-clause-no_init g c = λ is. start-over c.args.bytes.now c.
 
 pub first_table-table-requires : goal.first_table-table-requires
 first_table-table-requires g c =
-    let size : c.size.result ≡ 4096 * length (flat_memory c.args.bytes.now) = c.size.ensures ∙ ap (λ (s : Spaces). (held_at s 0).size) c.if-not-load.ensures.0 in
+    let size : c.size.result ≡ 4096 * length (flat_memory c.args.bytes.now) = c.size.ensures ∙ ap (λ (s : Spaces). (view_at s 0).size) c.if-not-load.ensures.0 in
     omega (arith, size, length-flat c.args.bytes.now)
 
 pub new-kernel-requires : goal.new-kernel-requires
 new-kernel-requires g c =
-    let size : c.size.result ≡ 4096 * length (flat_memory c.args.bytes.now) = c.size.ensures ∙ ap (λ (s : Spaces). (held_at s 0).size) c.if-not-load.ensures.0 in
+    let size : c.size.result ≡ 4096 * length (flat_memory c.args.bytes.now) = c.size.ensures ∙ ap (λ (s : Spaces). (view_at s 0).size) c.if-not-load.ensures.0 in
     rw (c.first_table-table.ensures, c.first_files.ensures, c.hold-2.ensures, c.hold.ensures, size, c.if-not-load.ensures.0)
     (record { sound = first-sound c.args.tree c.requires.flat _ (flat_space c.args.bytes.now) c.if-not-load.ensures.1; watched = watched-all 64 })
 
@@ -27,7 +27,7 @@ pub returns-clause-booted : goal.returns-clause-booted
 returns-clause-booted g c =
     let bytes = c.args.bytes.now in
     let frames = frames-of c.in-Ok.ensures in
-    let size : c.size.result ≡ 4096 * length (flat_memory bytes) = c.size.ensures ∙ ap (λ (s : Spaces). (held_at s 0).size) c.if-not-load.ensures.0 in
+    let size : c.size.result ≡ 4096 * length (flat_memory bytes) = c.size.ensures ∙ ap (λ (s : Spaces). (view_at s 0).size) c.if-not-load.ensures.0 in
     let kernel : c.new-kernel.result ≡ first_kernel c.args.tree c.args.frames (flat_space bytes) = c.new-kernel.ensures ∙ rw (c.first_table-table.ensures, c.first_files.ensures, c.hold-2.ensures, c.hold.ensures, size, c.if-not-load.ensures.0, frames) refl in
     rw c.new-machine.ensures (start-fits c.args.tree c.requires.flat bytes c.args.frames (rw frames at c.if-not-load.ensures.1) ∙ ap (λ (k : Kernel). Some (state_of k)) (sym kernel))
 

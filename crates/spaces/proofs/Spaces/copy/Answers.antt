@@ -1,7 +1,7 @@
 use Rattle.spaces.proofs.Spaces.copy.Goals as goal
 use Rattle.spaces.proofs.Places.{frames-shown, held-is, stands-there}
 use Rattle.spaces.proofs.Traded.{over-free, shared-there, shown-as}
-use Rattle.spaces.specs.View.{held_with, shown, spaces_of}
+use Rattle.spaces.specs.View.{view_with, shown, spaces_of}
 use Rattle.std.proofs.Common.{Some, ap}
 use Rattle.vm.specs.Space.{pages_of}
 
@@ -16,7 +16,7 @@ invariant_of-self g c =
     let i = c.self.inside in
     let x = c.space_at-space.result.now in
     let z = c.in-Ok.space in
-    (shared-there g.T.Translate.held i c.args.from c.args.to x z c.copy.new.ram c.copy.new.frames c.fence_active.new.translator c.deref_mut.result.now (Some (held_with (pages_of i.ram x) x.size)) c.self.invariant c.requires.inside (rw (← c.self.view_is) at c.requires.free)
+    (shared-there g.T.Translate.held i c.args.from c.args.to x z c.copy.new.ram c.copy.new.frames c.fence_active.new.translator c.deref_mut.result.now (Some (view_with (pages_of i.ram x) x.size)) c.self.invariant c.requires.inside (rw (← c.self.view_is) at c.requires.free)
     c.deref_mut.ensures.value c.space_at-space.ensures c.in-Ok.ensures.source c.in-Ok.ensures.space c.in-Ok.ensures.trades c.in-Ok.ensures.kept.0 c.fence_active.ensures.fewer c.fence_active.ensures.fenced (shown-as c.copy.new.ram z (pages_of i.ram x) x.size c.in-Ok.ensures.pages c.in-Ok.ensures.size)).sound
 
 pub returns-in-Ok-clause-done : goal.returns-in-Ok-clause-done
@@ -24,7 +24,7 @@ returns-in-Ok-clause-done g c =
     let i = c.self.inside in
     let x = c.space_at-space.result.now in
     let z = c.in-Ok.space in
-    let made = shared-there g.T.Translate.held i c.args.from c.args.to x z c.copy.new.ram c.copy.new.frames c.fence_active.new.translator c.deref_mut.result.now (Some (held_with (pages_of i.ram x) x.size)) c.self.invariant c.requires.inside (rw (← c.self.view_is) at c.requires.free)
+    let made = shared-there g.T.Translate.held i c.args.from c.args.to x z c.copy.new.ram c.copy.new.frames c.fence_active.new.translator c.deref_mut.result.now (Some (view_with (pages_of i.ram x) x.size)) c.self.invariant c.requires.inside (rw (← c.self.view_is) at c.requires.free)
     c.deref_mut.ensures.value c.space_at-space.ensures c.in-Ok.ensures.source c.in-Ok.ensures.space c.in-Ok.ensures.trades c.in-Ok.ensures.kept.0 c.fence_active.ensures.fewer c.fence_active.ensures.fenced (shown-as c.copy.new.ram z (pages_of i.ram x) x.size c.in-Ok.ensures.pages c.in-Ok.ensures.size) in
     rw (← c.self.view_is, held-is i c.args.from x c.space_at-space.ensures) (made.fits, made.view)
 

@@ -1,7 +1,7 @@
 use Rattle.std.proofs.Common.{arith, length, ◌∙◌}
 use Rattle.spaces.proofs.Strings.{path-is}
-use Rattle.spaces.specs.Spaces.{held_at}
+use Rattle.spaces.specs.Spaces.{view_at}
 use Rattle.spaces.proofs.Spaces.copy_path.Goals as goal
 
 pub returns-clause-path : goal.returns-clause-path
-returns-clause-path g c = c.copy_string.ensures.string ∙ path-is (length c.args.buffer.now) (held_at c.args.self.now c.args.at).memory c.args.address (omega arith)
+returns-clause-path g c = c.copy_string.ensures.string ∙ path-is (length c.args.buffer.now) (view_at c.args.self.now c.args.at).memory c.args.address (omega arith)

@@ -3,7 +3,7 @@ use Rattle.frames.specs.Free.{free_count}
 use Rattle.spaces.proofs.Places.{held-is, missing, there}
 use Rattle.spaces.proofs.Results.{err-false, ok-true}
 use Rattle.spaces.proofs.Traded.{changed, grown-front, over-grown, placed-as, refilled, shown-as, view-same}
-use Rattle.spaces.specs.View.{held_with, shown}
+use Rattle.spaces.specs.View.{view_with, shown}
 use Rattle.std.proofs.Common.{◌+◌, ◌++◌, ◌-◌, ◌<◌, ◌⊎◌, Some, inl, inr, refl, replicate}
 use Rattle.unixmodel.specs.Memory.{zero_page}
 use Rattle.vm.specs.Dense.{frames_for}
@@ -42,7 +42,7 @@ returns-clause-done g c =
     let memory = pages_of i.ram x ++ replicate (pages_in (x.size + c.args.bytes) - pages_in x.size) (zero_page (marks_from c.args.perm)) in
     let size = x.size + c.args.bytes in
     rw (← c.self.view_is, held-is i c.args.at x e) (ok-true c.grow.result c.is_ok.result _ _ _ c.is_ok.ensures.value c.grow.ensures.pages c.grow.ensures.size (λ pages grew.
-    let all = placed-as held i _ c.args.at (shown c.grow.new.ram (Some z)) (Some (held_with memory size)) more (shown-as c.grow.new.ram z memory size pages grew) in
+    let all = placed-as held i _ c.args.at (shown c.grow.new.ram (Some z)) (Some (view_with memory size)) more (shown-as c.grow.new.ram z memory size pages grew) in
     (all.fits, all.view)))
 
 pub returns-clause-refused : goal.returns-clause-refused

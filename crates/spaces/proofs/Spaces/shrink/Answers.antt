@@ -1,7 +1,7 @@
 use Rattle.spaces.proofs.Spaces.shrink.Goals as goal
 use Rattle.spaces.proofs.Places.{held-is, missing, there}
 use Rattle.spaces.proofs.Traded.{changed, placed-as, refilled, shown-as}
-use Rattle.spaces.specs.View.{held_with, shown}
+use Rattle.spaces.specs.View.{view_with, shown}
 use Rattle.std.proofs.Common.{◌≡◌, ◌-◌, Some, arith, refl, take}
 use Rattle.sv39.specs.Mapping.{coherent-nothing}
 use Rattle.vm.specs.Space.{entries_of, pages_in, pages_of}
@@ -37,7 +37,7 @@ returns g c =
     (λ a was. coherent-nothing (held c.fence_active.new.translator) x.root.0 (entries_of c.shrink.new.ram z) (c.fence_active.ensures.fenced a)) in
     let memory = take (pages_in (x.size - c.args.bytes)) (pages_of i.ram x) in
     let size : z.size ≡ x.size - c.args.bytes = let h = c.shrink.ensures.size in omega (arith, h) in
-    let all = placed-as held i _ c.args.at (shown c.shrink.new.ram (Some z)) (Some (held_with memory (x.size - c.args.bytes))) less (shown-as c.shrink.new.ram z memory (x.size - c.args.bytes) c.shrink.ensures.pages size) in
+    let all = placed-as held i _ c.args.at (shown c.shrink.new.ram (Some z)) (Some (view_with memory (x.size - c.args.bytes))) less (shown-as c.shrink.new.ram z memory (x.size - c.args.bytes) c.shrink.ensures.pages size) in
     rw (← c.self.view_is, held-is i c.args.at x e) all.view
 
 pub unreachable-requires : goal.unreachable-requires

@@ -37,12 +37,12 @@ halt_of None = Ok tt
 halt_of (Some status) = Err (InitEnded status)
 
 -- what a step that makes `a` is answered with; rising: the console's count of failures rose
-abbrev pub Does : Kernel → After → Option (List ℕ) → Option (List ℕ) → Type 0 → Result (Unit {0}) Halt → Type 0
-Does new a before after rising (Ok u) = Makes new a before after None
-Does new a before after rising (Err (InitEnded status)) = Makes new a before after (Some status)
-Does new a before after rising (Err Console) = rising × AppendsBeginning before after a.bytes
-Does new a before after rising (Err Device) = Appends before after []
-Does new a before after rising (Err Halted) = ⊥
+abbrev pub EventGives : Kernel → After → Option (List ℕ) → Option (List ℕ) → Type 0 → Result (Unit {0}) Halt → Type 0
+EventGives new a before after rising (Ok u) = Makes new a before after None
+EventGives new a before after rising (Err (InitEnded status)) = Makes new a before after (Some status)
+EventGives new a before after rising (Err Console) = rising × AppendsBeginning before after a.bytes
+EventGives new a before after rising (Err Device) = Appends before after []
+EventGives new a before after rising (Err Halted) = ⊥
 
 -- what the end of a process, which leaves that state, is answered with
 abbrev pub Ends : Kernel → State → Result (Unit {0}) Halt → Type 0
