@@ -8,7 +8,7 @@ use std::fmt;
 use thiserror::Error;
 
 /// A path, and what it names.
-#[derive(Drop)]
+#[derive(Debug, Drop)]
 pub struct Entry {
     /// A slash and names, with a slash between two.
     pub path: Vec<u8>,
@@ -17,7 +17,7 @@ pub struct Entry {
 }
 
 /// What an entry makes.
-#[derive(Drop)]
+#[derive(Debug, Drop)]
 pub enum Thing {
     /// A directory.
     Directory,
@@ -45,7 +45,7 @@ impl Thing {
 }
 
 /// What an image has besides its root, in the order of the numbers: a directory comes before what is in it.
-#[derive(Drop)]
+#[derive(Debug, Drop)]
 pub struct Manifest {
     /// The entries.
     pub entries: Vec<Entry>,

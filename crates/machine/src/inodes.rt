@@ -14,7 +14,7 @@ use spaces::Spaces;
 use sv39::Translate;
 
 /// A node of the disk, as its inode tells it.
-#[derive(Clone, Copy, PartialEq, Eq)]
+#[derive(Clone, Copy, PartialEq, Eq, Debug)]
 pub struct Stat {
     /// 1 directory, 2 file, 3 device.
     pub kind: u16,

@@ -9,7 +9,7 @@ use unixmodel::call::Call;
 use unixmodel::process::Mode;
 
 /// A process, as it stands between two events.
-#[derive(Clone, Copy, PartialEq, Eq)]
+#[derive(Clone, Copy, PartialEq, Eq, Debug)]
 pub struct Seen {
     pub pid: u32,
     /// The pid of its parent; 0 for process 1.
@@ -25,7 +25,7 @@ pub struct Seen {
 }
 
 /// What a process is doing.
-#[derive(Clone, Copy, PartialEq, Eq)]
+#[derive(Clone, Copy, PartialEq, Eq, Debug)]
 pub enum ProcessState {
     Running,
     /// In user state, and not running.
