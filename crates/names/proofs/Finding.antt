@@ -1,19 +1,20 @@
 -- What the definitions of calls on names tell where they answer.
-use Rattle.std.proofs.Common.{◌≡◌, ℕ, zero, suc, ◌+◌, ◌*◌, ◌<◌, ◌≤◌, Bool, true, false, cond, not, List, [], ◌∷◌, ◌++◌, None, Option, Some, inl, inr, length, drop, get_or, set, ap, sym, refl, ◌∙◌, arith, subst}
-use Rattle.std.specs.Prelude.{bytes_eq, count_by, is_none, nat_lt, option_and_then, option_map, position, ◌||◌}
-use Rattle.std.specs.List.{prefix_len}
-use Rattle.std.proofs.lemmas.Bool.{cases_lt, false≢true, false_from_ne_true, lt-ltb, ltb-true, not-true}
+use Rattle.std.proofs.Common.{◌≡◌, ℕ, suc, ◌+◌, ◌*◌, ◌<◌, ◌≤◌, Bool, true, false, cond, List, [], ◌∷◌, ◌++◌, None, Option, Some, inl, inr, length, drop, get_or, set, ap, sym, refl, ◌∙◌, arith, subst}
+use Rattle.std.specs.Prelude.{bytes_eq, count_by, is_none, nat_lt, option_and_then, option_map, position}
+use Rattle.std.specs.List.{position_or_len}
+use Rattle.std.proofs.lemmas.Bool.{cases_lt, cond-true, false≢true, false_from_ne_true, lt-ltb, ltb-true, or_from}
 use Rattle.std.proofs.lemmas.List.{get_or-drop, get_or_past, length-append, length-drop, length-set}
 use Rattle.std.proofs.lemmas.List.Quantifiers.{position-Some}
-use Rattle.std.proofs.lemmas.List.Sums.{prefix_len_passes, sum_by-le}
-use Rattle.std.proofs.lemmas.Option.{none-some, same_Some}
+use Rattle.std.proofs.lemmas.List.Sums.{fails_before_first, sum_by-le}
+use Rattle.std.proofs.lemmas.Option.{cond_some, none-some, option_and_then_some, same_Some}
 use Rattle.std.proofs.lemmas.Slice.Eq.{bytes_eq-Decides}
 use Rattle.unixmodel.specs.Files.{Entry, Files, Node, Spot, change_node, dot, dot_dot, enter, entry_number, free_number, free_slot, has_name, is_dot_name, live_places, longest, lookup, most_places, place_of, put, slot, with_entry, with_entry_at, with_places}
-use Rattle.unixmodel.specs.Files.Node.{Device, Directory, File}
+use Rattle.unixmodel.specs.Files.Node.{Directory}
 use Rattle.unixmodel.specs.Image.{is_name}
 use Rattle.unixmodel.specs.NameCalls.{Made, make_at, may_remove, removed_node, unlinked, without_name}
 use Rattle.names.specs.Rules.{IsLive, entries}
-use Rattle.names.proofs.Placed.{HasTwo, count-taken, two-places, weight}
+use Rattle.names.proofs.Counts.{counted-none}
+use Rattle.names.proofs.Placed.{HasTwo, count-taken, none-is, two-places, weight}
 
 -- ---- places of a list
 
@@ -25,10 +26,6 @@ slot-within xs k x h = elim (cases_lt k (length xs)) [
 
 pub change-is : (files : Files) (n : ℕ) (change : Node → Node) (node : Node) → slot files n ≡ Some node → change_node files n change ≡ put files n (change node)
 change-is files n change node h = ap (λ o. set files n (option_map change o)) h
-
-pub none-is : {X : Type 0} (o : Option X) → is_none o ≡ true → o ≡ None
-none-is None f = refl
-none-is (Some x) f = absurd (false≢true f)
 
 -- the number for a new node is free
 pub record IsFree (files : Files) (n : ℕ) : Type 0 where
@@ -85,11 +82,8 @@ enter-parts files at n more h = go (slot files at.directory) refl h where
   }
 
   go : (o : Option Node) → slot files at.directory ≡ o → option_map change (option_and_then (λ places. with_entry places (entry_at at n)) (live_places o)) ≡ Some more → IsEntered files at n more
-  go None f h = absurd (none-some more h)
-  go (Some (File links bytes)) f h = absurd (none-some more h)
-  go (Some (Device links major minor)) f h = absurd (none-some more h)
-  go (Some (Directory zero places)) f h = absurd (none-some more h)
   go (Some (Directory (suc links) places)) f h = found links places f (with_entry places (entry_at at n)) refl h
+  go _ f h = absurd (none-some more h)
 
 -- the places fit into a file
 pub entered-size : (places : List (Option Entry)) (e : Entry) (qs : List (Option Entry)) → with_entry places e ≡ Some qs → 16 * length places ≤ longest → 16 * length qs ≤ longest
@@ -112,7 +106,9 @@ pub record IsMade (files : Files) (at : Spot) (node : ℕ → Node) (made : Made
 
 pub make-parts : (files : Files) (at : Spot) (node : ℕ → Node) (made : Made) → make_at files at node ≡ Some made → IsMade files at node made
 unfolding make_at
-make-parts files at node made h = go (free_number files) refl h where
+make-parts files at node made h =
+    option_and_then_some (λ n. option_map (with_number n) (enter (put files n (node n)) at n)) (free_number files) made h (λ n f g. found n f (enter (put files n (node n)) at n) refl g)
+  where
   with_number : ℕ → Files → Made
   with_number n new = record { files = new; number = n }
 
@@ -121,35 +117,29 @@ make-parts files at node made h = go (free_number files) refl h where
   found n f (Some new) g h =
       subst (IsMade files at node) (same_Some (with_number n new) made h) (record { free = free-number files n f; entered = g })
 
-  go : (o : Option ℕ) → free_number files ≡ o → option_and_then (λ n. option_map (with_number n) (enter (put files n (node n)) at n)) o ≡ Some made → IsMade files at node made
-  go None f h = absurd (none-some made h)
-  go (Some n) f h = found n f (enter (put files n (node n)) at n) refl h
-
 -- ---- no name
 
-past-all : {X : Type 0} (p : X → Bool) (xs : List X) → position p xs ≡ None → length xs ≤ prefix_len (λ x. not (p x)) xs
-past-all p xs h = elim (cases_lt (prefix_len (λ x. not (p x)) xs) (length xs)) [
-  | inl l ↦ absurd (none-some _ (sym h ∙ ap (λ b. cond b (Some (prefix_len (λ x. not (p x)) xs)) None) (lt-ltb (prefix_len (λ x. not (p x)) xs) (length xs) l)))
-  | inr past ↦ past
-]
+-- where no item passes
+pub position-None : {X : Type 0} (p : X → Bool) (xs : List X) (d : X) → position p xs ≡ None → (k : ℕ) → k < length xs → p (get_or xs k d) ≡ false
+position-None p xs d none k h =
+    elim (cases_lt (position_or_len p xs) (length xs)) [
+      | inl l ↦ absurd (none-some (position_or_len p xs) (sym none ∙ cond-true _ (Some (position_or_len p xs)) None (lt-ltb (position_or_len p xs) (length xs) l)))
+      | inr m ↦ fails_before_first p xs k d (omega arith)
+    ]
 
 weightless : (name : List ℕ) (o : Option Entry) → has_name name o ≡ false → weight (λ x. bytes_eq x.name name) o ≤ 0
 unfolding weight
 weightless name None h = omega arith
-weightless name (Some e) h = omega (arith, nothing h)
-  where
-    nothing : {b : Bool} → b ≡ false → ◌≡◌ {A = ℕ} (cond b 1 0) 0
-    nothing h = ap (λ b. cond b 1 0) h
+weightless name (Some e) h = omega (arith, counted-none h)
 
 no-place : (name : List ℕ) (places : List (Option Entry)) (a b : Entry) → HasTwo places a b → position (has_name name) places ≡ None → count_by (λ (x : Entry). bytes_eq x.name name) (entries places) ≡ 0
 no-place name places a b two h =
-    subst (λ ps. length ps ≤ prefix_len (λ x. not (has_name name x)) ps → count_by (λ (x : Entry). bytes_eq x.name name) (entries ps) ≡ 0) (sym two.is)
-    (λ past.
+    subst (λ ps. position (has_name name) ps ≡ None → count_by (λ (x : Entry). bytes_eq x.name name) (entries ps) ≡ 0) (sym two.is)
+    (λ none.
     let f = weight (λ (x : Entry). bytes_eq x.name name) in
-    let all = sum_by-le f 0 two.rest (λ k o l.
-    weightless name (get_or two.rest k o) (not-true (has_name name (get_or two.rest k o)) (prefix_len_passes (λ x. not (has_name name x)) (Some a ∷ Some b ∷ two.rest) (suc (suc k)) o (omega arith)))) in
+    let all = sum_by-le f 0 two.rest (λ k o l. weightless name (get_or two.rest k o) (position-None (has_name name) (Some a ∷ Some b ∷ two.rest) o none (suc (suc k)) (omega arith))) in
     omega (arith, all, count-taken (λ (x : Entry). bytes_eq x.name name) two.rest))
-    (past-all (has_name name) places h)
+    h
 
 pub some_entry : (name : List ℕ) (o : Option Entry) → has_name name o ≡ true → (e : Entry) × (o ≡ Some e) × (bytes_eq e.name name ≡ true)
 some_entry name None h = absurd (false≢true h)
@@ -160,38 +150,35 @@ module _ (files : Files) (d links : ℕ) (places : List (Option Entry)) (name : 
   unfolding lookup
   lookup-is = ap (λ o. option_and_then (λ ps. entry_number (option_and_then (slot ps) (position (has_name name) ps))) (live_places o)) here
 
-  pub absent-none : (live : IsLive files d links places) → lookup files d name ≡ None → count_by (λ (x : Entry). bytes_eq x.name name) (entries places) ≡ 0
-  absent-none live absent = go (position (has_name name) places) refl where
-    go : (o : Option ℕ) → position (has_name name) places ≡ o → count_by (λ (x : Entry). bytes_eq x.name name) (entries places) ≡ 0
-    go None f = no-place name places (record { name = dot; number = d }) (record { name = dot_dot; number = live.up }) (two-places places (record { name = dot; number = d }) (record { name = dot_dot; number = live.up }) live.own live.parent) f
+  nowhere : lookup files d name ≡ None → position (has_name name) places ≡ None
+  nowhere absent = go (position (has_name name) places) refl where
+    go : (o : Option ℕ) → position (has_name name) places ≡ o → o ≡ None
+    go None f = refl
     go (Some k) f =
         let is = position-Some (has_name name) places k None f in
         let e = some_entry name (slot places k) is.1 in
         absurd (none-some e.0.number (sym absent ∙ lookup-is ∙ ap (λ o. entry_number (option_and_then (slot places) o)) f ∙ ap entry_number e.1))
 
+  pub absent-none : (live : IsLive files d links places) → lookup files d name ≡ None → count_by (λ (x : Entry). bytes_eq x.name name) (entries places) ≡ 0
+  absent-none live absent =
+      let own : Entry = record { name = dot; number = d } in
+      let parent : Entry = record { name = dot_dot; number = live.up } in
+      no-place name places own parent (two-places places own parent live.own live.parent) (nowhere absent)
+
   -- "." and ".." stand there
   not-place : (k : ℕ) (e : Entry) → lookup files d name ≡ None → slot places k ≡ Some e → k < length places → bytes_eq e.name name ≡ false
-  not-place k e absent at l = go (position (has_name name) places) refl where
-    go : (o : Option ℕ) → position (has_name name) places ≡ o → bytes_eq e.name name ≡ false
-    go None f = ap (has_name name) (sym at) ∙ not-true (has_name name (slot places k)) (prefix_len_passes (λ x. not (has_name name x)) places k None (omega (arith, past-all (has_name name) places f)))
-    go (Some j) f =
-        let is = position-Some (has_name name) places j None f in
-        let x = some_entry name (slot places j) is.1 in
-        absurd (none-some x.0.number (sym absent ∙ lookup-is ∙ ap (λ o. entry_number (option_and_then (slot places) o)) f ∙ ap entry_number x.1))
+  not-place k e absent at l = ap (has_name name) (sym at) ∙ position-None (has_name name) places None (nowhere absent) k l
 
   pub absent-plain : (live : IsLive files d links places) → lookup files d name ≡ None → is_dot_name name ≡ false
   absent-plain live absent =
       let own : Entry = record { name = dot; number = d } in
       let parent : Entry = record { name = dot_dot; number = live.up } in
-      or_from_false (bytes_eq name dot) (bytes_eq name dot_dot)
+      or_from (bytes_eq name dot) (bytes_eq name dot_dot)
       (other-way dot (not-place 0 own absent live.own (slot-within places 0 own live.own)))
       (other-way dot_dot (not-place 1 parent absent live.parent (slot-within places 1 parent live.parent)))
     where
       other-way : (w : List ℕ) → bytes_eq w name ≡ false → bytes_eq name w ≡ false
       other-way w h = false_from_ne_true (bytes_eq name w) (λ t. false≢true (sym h ∙ (bytes_eq-Decides w name).1 (sym ((bytes_eq-Decides name w).0 t))))
-
-      or_from_false : (x y : Bool) → x ≡ false → y ≡ false → (x || y) ≡ false
-      or_from_false x y h g = ap (λ b. b || y) h ∙ g
 
 -- ---- a name less
 
@@ -210,10 +197,6 @@ pub named-parts : (files : Files) (at : Spot) (k n : ℕ) → place_of files at.
 unfolding place_of
 named-parts files at k n h look = go (slot files at.directory) refl h where
   go : (o : Option Node) → slot files at.directory ≡ o → option_and_then (position (has_name at.name)) (live_places o) ≡ Some k → IsNamed files at k n
-  go None f h = absurd (none-some k h)
-  go (Some (File links bytes)) f h = absurd (none-some k h)
-  go (Some (Device links major minor)) f h = absurd (none-some k h)
-  go (Some (Directory zero places)) f h = absurd (none-some k h)
   go (Some (Directory (suc links) places)) f h =
       let is = position-Some (has_name at.name) places k None h in
       let e = some_entry at.name (slot places k) is.1 in
@@ -227,6 +210,7 @@ named-parts files at k n h look = go (slot files at.directory) refl h where
         number = same_Some e.0.number n (sym (lookup-is files at.directory links places at.name f ∙ ap (λ o. entry_number (option_and_then (slot places) o)) h ∙ ap entry_number e.1) ∙ look);
         within = is.0;
       }
+  go _ f h = absurd (none-some k h)
 
 pub record IsUnlinked (files : Files) (at : Spot) (more : Files) : Type 0 where
   pub plain : is_dot_name at.name ≡ false
@@ -242,27 +226,16 @@ pub record IsUnlinked (files : Files) (at : Spot) (more : Files) : Type 0 where
 pub unlink-parts : (files : Files) (at : Spot) (more : Files) → unlinked files at ≡ Some more → IsUnlinked files at more
 unfolding unlinked
 unlink-parts files at more h = plain (is_dot_name at.name) refl h where
-  may : (k n : ℕ) → IsNamed files at k n → lookup files at.directory at.name ≡ Some n → is_dot_name at.name ≡ false → (node : Node) → slot files n ≡ Some node → (b : Bool) → may_remove node ≡ b
-      → cond b (Some (without_name files at.directory k n node)) None ≡ Some more → IsUnlinked files at more
-  may k n named look p node f false g h = absurd (none-some more h)
-  may k n named look p node f true g h = record { plain = p; place = k; number = n; node = node; named = named; found = look; here = f; may = g; is = sym (same_Some (without_name files at.directory k n node) more h) }
-
   found : (k n : ℕ) → IsNamed files at k n → lookup files at.directory at.name ≡ Some n → is_dot_name at.name ≡ false → (o : Option Node) → slot files n ≡ o → removed_node files at.directory k n o ≡ Some more → IsUnlinked files at more
   found k n named look p None f h = absurd (none-some more h)
-  found k n named look p (Some node) f h = may k n named look p node f (may_remove node) refl h
-
-  looked : (k : ℕ) → place_of files at.directory at.name ≡ Some k → is_dot_name at.name ≡ false → (o : Option ℕ) → lookup files at.directory at.name ≡ o
-      → option_and_then (λ n. removed_node files at.directory k n (slot files n)) o ≡ Some more → IsUnlinked files at more
-  looked k f p None g h = absurd (none-some more h)
-  looked k f p (Some n) g h = found k n (named-parts files at k n f g) g p (slot files n) refl h
-
-  placed : is_dot_name at.name ≡ false → (o : Option ℕ) → place_of files at.directory at.name ≡ o
-      → option_and_then (λ k. option_and_then (λ n. removed_node files at.directory k n (slot files n)) (lookup files at.directory at.name)) o ≡ Some more → IsUnlinked files at more
-  placed p None f h = absurd (none-some more h)
-  placed p (Some k) f h = looked k f p (lookup files at.directory at.name) refl h
+  found k n named look p (Some node) f h =
+      let is = cond_some (may_remove node) (without_name files at.directory k n node) more h in
+      record { plain = p; place = k; number = n; node = node; named = named; found = look; here = f; may = is.0; is = sym is.1 }
 
   plain : (b : Bool) → is_dot_name at.name ≡ b
       → cond b None (option_and_then (λ k. option_and_then (λ n. removed_node files at.directory k n (slot files n)) (lookup files at.directory at.name)) (place_of files at.directory at.name)) ≡ Some more
       → IsUnlinked files at more
   plain true f h = absurd (none-some more h)
-  plain false f h = placed f (place_of files at.directory at.name) refl h
+  plain false p h =
+      option_and_then_some (λ k. option_and_then (λ n. removed_node files at.directory k n (slot files n)) (lookup files at.directory at.name)) (place_of files at.directory at.name) more h (λ k f rest.
+      option_and_then_some (λ n. removed_node files at.directory k n (slot files n)) (lookup files at.directory at.name) more rest (λ n look last. found k n (named-parts files at k n f look) look p (slot files n) refl last))

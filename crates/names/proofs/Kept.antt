@@ -7,7 +7,7 @@ use Rattle.unixmodel.specs.Files.{Files, Node, Spot, change_node, enter, is_dire
 use Rattle.names.specs.Changes.{Changed}
 use Rattle.unixmodel.specs.NameCalls.{Made, has_room_for_link, is_free_name, linked, linked_node, made_at, made_below, made_directory, make_at, more_links, new_directory}
 use Rattle.names.specs.Rules.{KeepsTree}
-use Rattle.names.proofs.Finding.{none-is}
+use Rattle.names.proofs.Placed.{none-is}
 use Rattle.names.proofs.Making.{IsNewFile, links-file, makes-directory, makes-file}
 use Rattle.names.proofs.Spots.{IsSpot, gap-from}
 

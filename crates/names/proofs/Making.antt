@@ -1,17 +1,17 @@
 -- A name more keeps the rules: of a new node, or of a file that has names.
-use Rattle.std.proofs.Common.{◌≡◌, ◌≢◌, ℕ, suc, ◌+◌, ◌<◌, ◌≤◌, Bool, true, false, cond, List, None, Option, Some, inl, inr, length, ap, sym, refl, ◌∙◌, arith, subst}
+use Rattle.std.proofs.Common.{◌≡◌, ◌≢◌, ℕ, suc, ◌+◌, ◌<◌, ◌≤◌, true, false, cond, List, None, Option, Some, inl, inr, length, ap, sym, refl, ◌∙◌, arith, subst}
 use Rattle.std.specs.Prelude.{IsSome, bytes_eq, count_by, is_some, option_map, unwrap_or, ◌==◌}
 use Rattle.std.proofs.lemmas.Bool.{cases_eq, cond-false, false≢true, ltb-true, ne_eqb}
 use Rattle.std.proofs.lemmas.List.{get_or-set_other, get_or-set_same, length-set, set-set}
 use Rattle.std.proofs.lemmas.Option.{none-some}
 use Rattle.unixmodel.specs.Files.{Entry, Files, Node, Spot, change_node, dot, dot_dot, enter, is_directory, links_of, most_links, put, slot, with_entry}
-use Rattle.unixmodel.specs.Files.Node.{Device, Directory, File}
+use Rattle.unixmodel.specs.Files.Node.{Directory}
 use Rattle.unixmodel.specs.Image.{KeepsSize, is_directory_at, is_name, names_of}
 use Rattle.names.specs.Changes.{Changed, IsIdle, shape}
 use Rattle.unixmodel.specs.NameCalls.{Made, has_room_for_link, make_at, more_links, new_directory}
 use Rattle.names.specs.Rules.{IsLive, KeepsLive, KeepsTree, entries, folders, names_by, names_for}
-use Rattle.names.proofs.Changing.{Alters, keeps-gained}
-use Rattle.names.proofs.Counts.{names_by-none}
+use Rattle.names.proofs.Changing.{Alters, directory-is, keeps-gained, relinked-kind, relinked-links, relinked-shape, relinked-size}
+use Rattle.names.proofs.Counts.{counted-none, names_by-none}
 use Rattle.names.proofs.Finding.{IsFree, IsGap, absent-none, change-is, enter-parts, entered-size, entry_at, make-parts, slot-within}
 use Rattle.names.proofs.Pairs.{both, both-first, both-idle, both-linked, both-other, both-second, both-stays, length-both}
 use Rattle.names.proofs.Placed.{HasMore, entered, named-here, two-places}
@@ -20,17 +20,10 @@ use Rattle.names.proofs.Placed.{HasMore, entered, named-here, two-places}
 abbrev IsSilent : Option Node → Type 0
 IsSilent o = (m : ℕ) → names_by o m ≡ 0
 
-silent-none : IsSilent None
-silent-none m = names_by-none m
-
 silent-other : (node : Node) → is_directory node ≡ false → IsSilent (Some node)
 unfolding names_by
-silent-other (File links bytes) h m = refl
-silent-other (Device links major minor) h m = refl
 silent-other (Directory links places) h m = absurd (false≢true (sym h))
-
-directory-is : (files : Files) (n : ℕ) (node : Node) → slot files n ≡ Some node → is_directory_at files n ≡ is_directory node
-directory-is files n node h = ap (λ o. unwrap_or (option_map is_directory o) false) h
+silent-other _ h m = refl
 
 -- ---- node n is another, and directory d has an entry of it more
 
@@ -156,14 +149,12 @@ pub record IsNewFile (node : Node) : Type 0 where
   pub size : KeepsSize (Some node)
 
 file-names : (n : ℕ) (node : Node) → is_directory node ≡ false → names_for n (Some node) ≡ links_of node
-file-names n (File links bytes) h = refl
-file-names n (Device links major minor) h = refl
 file-names n (Directory links places) h = absurd (false≢true (sym h))
+file-names n _ h = refl
 
 file-live : (files : Files) (n : ℕ) (node : Node) → is_directory node ≡ false → links_of node ≤ most_links → KeepsLive files n (Some node)
-file-live files n (File links bytes) h l = l
-file-live files n (Device links major minor) h l = l
 file-live files n (Directory links places) h l = absurd (false≢true (sym h))
+file-live files n _ h l = l
 
 pub makes-file : {files : Files} (keeps : KeepsTree files) (at : Spot) → IsGap files at → (node : ℕ → Node) → ((n : ℕ) → IsNewFile (node n)) → (made : Made) → make_at files at node ≡ Some made → Changed files made.files
 makes-file {files} keeps at spot node new made h =
@@ -173,12 +164,9 @@ makes-file {files} keeps at spot node new made h =
     let e = enter-parts (put files n (node n)) at n made.files is.entered in
     let apart = free-apart files n at.directory (Directory (suc spot.links) spot.places) is.free.free spot.here in
     let before : slot files at.directory ≡ Some (Directory (suc e.links) e.places) = sym (get_or-set_other files n at.directory (Some (node n)) None (λ s. apart (sym s))) ∙ e.here in
-    let links : e.links ≡ e.links + cond (is_directory (node n)) 1 0 = omega (arith, bare x.kind) in
+    let links : e.links ≡ e.links + cond (is_directory (node n)) 1 0 = omega (arith, counted-none x.kind) in
     let can = can-make keeps at spot n e.links e.places e.next is.free before e.placed (node n) e.links (silent-other (node n) x.kind) x.size (file-names n (node n) x.kind ∙ x.links) links (λ z. absurd (omega (arith, x.links, z))) in
     subst (Changed files) (sym e.is) (keeps-entered keeps at n e.links e.links (node n) e.places e.next can (file-live _ n (node n) x.kind (omega (arith, x.links))))
-  where
-    bare : {b : Bool} → b ≡ false → ◌≡◌ {A = ℕ} (cond b 1 0) 0
-    bare h = ap (λ b. cond b 1 0) h
 
 -- ---- a new directory, with a link more of the one above
 
@@ -225,31 +213,13 @@ makes-directory {files} keeps at spot made h =
 
 -- ---- a name more for a file or a device
 
-more-kind : (node : Node) → is_directory node ≡ false → is_directory (more_links node) ≡ false
-more-kind (File links bytes) h = refl
-more-kind (Device links major minor) h = refl
-more-kind (Directory links places) h = h
-
-more-links : (node : Node) → links_of (more_links node) ≡ links_of node + 1
-more-links (File links bytes) = refl
-more-links (Device links major minor) = refl
-more-links (Directory links places) = refl
-
-more-shape : (node : Node) → option_map shape (Some (more_links node)) ≡ option_map shape (Some node)
-more-shape (File links bytes) = refl
-more-shape (Device links major minor) = refl
-more-shape (Directory links places) = refl
-
-more-size : (node : Node) → KeepsSize (Some node) → KeepsSize (Some (more_links node))
-more-size (File links bytes) h = h
-more-size (Device links major minor) h = h
-more-size (Directory links places) h = h
-
 pub links-file : {files : Files} (keeps : KeepsTree files) (at : Spot) → IsGap files at → (n : ℕ) (node : Node) → slot files n ≡ Some node → is_directory node ≡ false → has_room_for_link node ≡ true
     → (more : Files) → enter (change_node files n more_links) at n ≡ Some more → Changed files more
 links-file {files} keeps at spot n node here kind room more h =
     let d = at.directory in
     let new = more_links node in
+    let other : is_directory new ≡ false = relinked-kind node (links_of node + 1) ∙ kind in
+    let many : links_of new ≡ links_of node + 1 = relinked-links node (links_of node + 1) in
     let e = enter-parts (change_node files n more_links) at n more h in
     let is = change-is files n more_links node here in
     let apart : n ≢ d = λ s. false≢true (sym kind ∙ ap (λ o. unwrap_or (option_map is_directory o) false) (sym here ∙ ap (slot files) s ∙ spot.here)) in
@@ -264,17 +234,14 @@ links-file {files} keeps at spot n node here kind room more h =
       good = spot.name;
       absent = absent-none files d e.links e.places at.name before (subst (KeepsLive files d) before (keeps.nodes d)) spot.absent;
       silent = λ m. ap (λ o. names_by o m) here ∙ silent-other node kind m;
-      silent_now = silent-other new (more-kind node kind);
-      size = more-size node (subst KeepsSize here (keeps.sizes n));
-      grows = file-names n new (more-kind node kind) ∙ more-links node ∙ ap (λ c. c + 1) (sym (ap (names_for n) here ∙ file-names n node kind));
-      kind = λ l. more-kind node kind ∙ sym (directory-is files n node here ∙ kind);
-      fresh = λ t. absurd (false≢true (sym (more-kind node kind) ∙ t));
-      links = omega (arith, bare (more-kind node kind));
-      linked = λ z. absurd (omega (arith, more-links node, z));
-      same = λ used. more-shape node ∙ ap (option_map shape) (sym here);
+      silent_now = silent-other new other;
+      size = relinked-size node (links_of node + 1) (subst KeepsSize here (keeps.sizes n));
+      grows = file-names n new other ∙ many ∙ ap (λ c. c + 1) (sym (ap (names_for n) here ∙ file-names n node kind));
+      kind = λ l. other ∙ sym (directory-is files n node here ∙ kind);
+      fresh = λ t. absurd (false≢true (sym other ∙ t));
+      links = omega (arith, counted-none other);
+      linked = λ z. absurd (omega (arith, many, z));
+      same = λ used. relinked-shape node (links_of node + 1) ∙ ap (option_map shape) (sym here);
     } in
     subst (Changed files) (sym (e.is ∙ ap (λ fs. put fs d (Directory (suc e.links) e.next)) is))
-    (keeps-entered keeps at n e.links e.links new e.places e.next can (file-live _ n new (more-kind node kind) (omega (arith, more-links node, fewer))))
-  where
-    bare : {b : Bool} → b ≡ false → ◌≡◌ {A = ℕ} (cond b 1 0) 0
-    bare h = ap (λ b. cond b 1 0) h
+    (keeps-entered keeps at n e.links e.links new e.places e.next can (file-live _ n new other (omega (arith, many, fewer))))

@@ -63,10 +63,9 @@ bare-none es m h = rw h refl
 -- it has no names and names nothing
 pub alike-gone : (files : Files) (n : ℕ) (node : Node) → KeepsLive files n (Some node) → links_of node ≡ 0 → IsAlike n (Some node) None
 unfolding names_by
-alike-gone files n (File links bytes) k h = record { names = λ m. refl; wanted = sym h; kind = λ l. absurd (omega arith); size = λ s. tt; live = inr (λ fs l. tt) }
-alike-gone files n (Device links major minor) k h = record { names = λ m. refl; wanted = sym h; kind = λ l. absurd (omega arith); size = λ s. tt; live = inr (λ fs l. tt) }
 alike-gone files n (Directory zero places) k h = record { names = λ m. sym (bare-none (entries places) m k); wanted = refl; kind = λ l. absurd (omega arith); size = λ s. tt; live = inr (λ fs l. tt) }
 alike-gone files n (Directory (suc links) places) k h = absurd (omega arith)
+alike-gone files n _ k h = record { names = λ m. refl; wanted = sym h; kind = λ l. absurd (omega arith); size = λ s. tt; live = inr (λ fs l. tt) }
 
 -- the root has links
 root-links : {files : Files} (keeps : KeepsTree files) (node : Node) → slot files 1 ≡ Some node → links_of node ≢ 0
@@ -148,7 +147,7 @@ module _ {files : Files} (keeps : KeepsTree files) where
       (length-over old (take k new) offset (subst KeepsSize here (keeps.sizes n)) (omega arith))
 
   -- a file is emptied, and any other node stays
-  emptied-is : (n : ℕ) (node : Node) → slot files n ≡ Some node → emptied node ≡ node → change_node files n emptied ≡ files
+  pub emptied-is : (n : ℕ) (node : Node) → slot files n ≡ Some node → emptied node ≡ node → change_node files n emptied ≡ files
   emptied-is n node here same = ap (λ o. set files n (option_map emptied o)) here ∙ ap (λ x. set files n (Some x)) same ∙ ap (set files n) (sym here) ∙ set-get_or files n None
 
   pub truncates : (n : ℕ) → Changed files (change_node files n emptied)

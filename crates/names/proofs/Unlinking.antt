@@ -1,18 +1,18 @@
 -- A name less keeps the rules.
 use Rattle.std.proofs.Common.{◌≡◌, ◌≢◌, ℕ, zero, suc, ◌+◌, ◌-◌, ◌*◌, ◌<◌, ◌≤◌, Bool, true, false, cond, List, [], ◌∷◌, None, Some, inl, inr, length, set, ap, sym, refl, ◌∙◌, arith, subst}
-use Rattle.std.specs.Prelude.{bytes_eq, option_map, unwrap_or, ◌==◌}
+use Rattle.std.specs.Prelude.{bytes_eq, option_map, ◌==◌}
 use Rattle.std.proofs.lemmas.Bool.{cases_eq, cond-false, eqb-true, false≢true, ne_eqb, or_parts}
 use Rattle.std.proofs.lemmas.List.{get_or-set_other, length-set, set-set, set_comm}
 use Rattle.std.proofs.lemmas.Option.{same_Some}
 use Rattle.std.proofs.lemmas.Slice.Eq.{bytes_eq-Decides}
-use Rattle.unixmodel.specs.Files.{Entry, Files, Node, Spot, change_node, clear, dot, dot_dot, erase, is_directory, is_dot_name, lookup, put, slot, without_place}
-use Rattle.unixmodel.specs.Files.Node.{Device, Directory, File}
+use Rattle.unixmodel.specs.Files.{Entry, Files, Node, Spot, change_node, clear, dot, dot_dot, erase, is_directory, is_dot_name, links_of, lookup, put, slot, without_place}
+use Rattle.unixmodel.specs.Files.Node.{Directory}
 use Rattle.unixmodel.specs.Image.{KeepsSize, is_directory_at}
 use Rattle.names.specs.Changes.{Loses, shape}
 use Rattle.unixmodel.specs.NameCalls.{fewer_links, may_remove, unlinked}
 use Rattle.names.specs.Rules.{IsLive, KeepsLive, KeepsTree, entries, folders, names_by, names_for}
-use Rattle.names.proofs.Changing.{Alters, keeps-lost}
-use Rattle.names.proofs.Counts.{names_by-le}
+use Rattle.names.proofs.Changing.{Alters, directory-is, keeps-lost, relinked-kind, relinked-names, relinked-shape, relinked-size}
+use Rattle.names.proofs.Counts.{counted-none, counted-one, names_by-le}
 use Rattle.names.proofs.Finding.{IsNamed, change-is, slot-within, unlink-parts}
 use Rattle.names.proofs.Pairs.{both, both-first, both-idle, both-other, both-second, both-stays, length-both}
 use Rattle.names.proofs.Placed.{HasMore, erased, folders-more, named-here, two-places}
@@ -28,14 +28,12 @@ none-long : {X : Type 0} (xs : List X) → length xs ≡ 0 → xs ≡ []
 none-long [] h = refl
 none-long (x ∷ xs) h = absurd (omega arith)
 
-pub folders-none : (files : Files) (es : List Entry) → es ≡ [] → folders files es ≡ 0
+folders-none : (files : Files) (es : List Entry) → es ≡ [] → folders files es ≡ 0
 unfolding folders
 folders-none files es h = rw h refl
 
 -- a node that has a name may go, a directory where it is bare
 can-drop : (files : Files) (n : ℕ) (node : Node) → n ≢ 1 → KeepsLive files n (Some node) → 1 ≤ names_for n (Some node) → may_remove node ≡ true → CanDrop n node
-can-drop files n (File links bytes) s live some may = record { shrinks = omega arith; live = λ fs. omega arith }
-can-drop files n (Device links major minor) s live some may = record { shrinks = omega arith; live = λ fs. omega arith }
 can-drop files n (Directory zero places) s live some may = absurd (omega arith)
 can-drop files n (Directory (suc links) places) s live some may =
     let bare = none-long (entries places) (eqb-true (length (entries places)) 0 may) in
@@ -44,30 +42,7 @@ can-drop files n (Directory (suc links) places) s live some may =
       shrinks = ap (λ c. names_for n (Some (Directory c places)) + 1) none ∙ sym (cond-false (n == 1) 0 1 (ne_eqb n 1 s));
       live = λ fs. subst (λ c. KeepsLive fs n (Some (Directory c places))) (sym none) bare;
     }
-
-fewer-names : (node : Node) (m : ℕ) → names_by (Some (fewer_links node)) m ≡ names_by (Some node) m
-unfolding names_by
-fewer-names (File links bytes) m = refl
-fewer-names (Device links major minor) m = refl
-fewer-names (Directory links places) m = refl
-
-fewer-kind : (node : Node) → is_directory (fewer_links node) ≡ is_directory node
-fewer-kind (File links bytes) = refl
-fewer-kind (Device links major minor) = refl
-fewer-kind (Directory links places) = refl
-
-fewer-shape : (node : Node) → option_map shape (Some (fewer_links node)) ≡ option_map shape (Some node)
-fewer-shape (File links bytes) = refl
-fewer-shape (Device links major minor) = refl
-fewer-shape (Directory links places) = refl
-
-fewer-size : (node : Node) → KeepsSize (Some node) → KeepsSize (Some (fewer_links node))
-fewer-size (File links bytes) h = h
-fewer-size (Device links major minor) h = h
-fewer-size (Directory links places) h = h
-
-directory-is : (files : Files) (n : ℕ) (node : Node) → slot files n ≡ Some node → is_directory_at files n ≡ is_directory node
-directory-is files n node h = ap (λ o. unwrap_or (option_map is_directory o) false) h
+can-drop files n _ s live some may = record { shrinks = omega arith; live = λ fs. omega arith }
 
 -- ---- the place
 
@@ -141,7 +116,7 @@ module _ {files : Files} (keeps : KeepsTree files) {at : Spot} {k n : ℕ} (name
       after-less = both-second files n (Some (fewer_links node)) d (Some (Directory (suc r) (clear named.places k))) within-above
 
       kind-less : is_directory_at less n ≡ is_directory_at files n
-      kind-less = directory-is less n (fewer_links node) here-less ∙ fewer-kind node ∙ sym (directory-is files n node here)
+      kind-less = directory-is less n (fewer_links node) here-less ∙ relinked-kind node (links_of node - 1) ∙ sym (directory-is files n node here)
 
       alters : Alters files less d n named.links r named.places (clear named.places k)
       alters = record {
@@ -152,9 +127,9 @@ module _ {files : Files} (keeps : KeepsTree files) {at : Spot} {k n : ℕ} (name
         before = named.here;
         after = after-less;
         others = both-other files n (Some (fewer_links node)) d (Some (Directory (suc r) (clear named.places k)));
-        quiet = λ m. ap (λ o. names_by o m) here-less ∙ fewer-names node m ∙ ap (λ o. names_by o m) (sym here);
+        quiet = λ m. ap (λ o. names_by o m) here-less ∙ relinked-names node (links_of node - 1) m ∙ ap (λ o. names_by o m) (sym here);
         kind = λ h. kind-less;
-        size = subst KeepsSize (sym here-less) (fewer-size node (subst KeepsSize here (keeps.sizes n)));
+        size = subst KeepsSize (sym here-less) (relinked-size node (links_of node - 1) (subst KeepsSize here (keeps.sizes n)));
         size_above = subst KeepsSize (sym after-less) (subst (λ c. 16 * c ≤ 274432) (sym (length-set named.places k None)) (subst KeepsSize named.here (keeps.sizes d)));
         live = subst (KeepsLive less n) (sym here-less) (drops.live less);
       }
@@ -171,7 +146,7 @@ module _ {files : Files} (keeps : KeepsTree files) {at : Spot} {k n : ℕ} (name
             number = n;
             named = found;
             tree = tree-less;
-            stays = both-stays files n (fewer_links node) d (suc named.links) r named.places (clear named.places k) inside apart within-above named.here (λ used. fewer-shape node ∙ ap (option_map shape) (sym here));
+            stays = both-stays files n (fewer_links node) d (suc named.links) r named.places (clear named.places k) inside apart within-above named.here (λ used. relinked-shape node (links_of node - 1) ∙ ap (option_map shape) (sym here));
             idle = both-idle files n (fewer_links node) d (suc named.links) r named.places (clear named.places k) inside apart within-above named.here;
           }
 
@@ -193,7 +168,7 @@ module _ {files : Files} (keeps : KeepsTree files) {at : Spot} {k n : ℕ} (name
     -- the directory above had a link for it
     some-links : is_directory node ≡ true → 1 ≤ named.links
     some-links h =
-        let one : ◌≡◌ {A = ℕ} (cond (is_directory_at files named.entry.number) 1 0) 1 = ap (λ b. cond b 1 0) (ap (is_directory_at files) named.number ∙ directory-is files n node here ∙ h) in
+        let one = counted-one (ap (is_directory_at files) named.number ∙ directory-is files n node here ∙ h) in
         let counted = live-before.counted in
         omega (arith, one, counted, folders-more loses files)
 
@@ -210,10 +185,10 @@ module _ {files : Files} (keeps : KeepsTree files) {at : Spot} {k n : ℕ} (name
         → Loses files (cond b (change_node (change_node (erase files d k) n fewer_links) d fewer_links) (change_node (erase files d k) n fewer_links)) at
     unlink-node found true h =
         let some = some-links h in
-        let bit : ◌≡◌ {A = ℕ} (cond (is_directory node) 1 0) 1 = ap (λ b. cond b 1 0) h in
+        let bit = counted-one h in
         subst (λ fs. Loses files fs at) (sym (ap (λ fs. change_node fs d fewer_links) dropped-is ∙ parent-is h)) (keeps-less (named.links - 1) (omega arith) found)
     unlink-node found false h =
-        let bit : ◌≡◌ {A = ℕ} (cond (is_directory node) 1 0) 0 = ap (λ b. cond b 1 0) h in
+        let bit = counted-none h in
         subst (λ fs. Loses files fs at) (sym dropped-is) (keeps-less named.links (omega arith) found)
 
 pub keeps-unlinked : {files : Files} → KeepsTree files → (at : Spot) (more : Files) → unlinked files at ≡ Some more → Loses files more at
