@@ -2,7 +2,7 @@
 use Rattle.std.proofs.Common.{◌≡◌, ◌≢◌, ℕ, ◌≤◌, Result, Ok, Err, length, ap, sym, refl, ◌∙◌, arith, subst, false}
 use Rattle.std.specs.Prelude.{IfErr}
 use Rattle.std.specs.Result.{IsErrAnd, is_err}
-use Rattle.std.proofs.lemmas.Result.{err_from_is_err_and}
+use Rattle.balloc.proofs.Exits.{told_err}
 use Rattle.blockdev.specs.declared.DeviceFault.{DeviceFault}
 use Rattle.cache.specs.Disk.{Disk}
 use Rattle.tree.specs.Answers.{Answers, IsRefused}
@@ -13,15 +13,8 @@ use Rattle.tree.specs.Tree.{is_device}
 use Rattle.std.proofs.lemmas.Bool.{false≢true}
 use Rattle.tree.proofs.Reading.{Rises-before}
 
-pub told-err : {T E : Type 0} {fault : E} (r : Result T E) → IsErrAnd r (λ f. f ≡ fault) → r ≡ Err fault
-told-err r h = let p = err_from_is_err_and r h in p.1 ∙ ap Err p.2
-
-abbrev fault-or : {T : Type 0} → Result T TreeFault → TreeFault → TreeFault
-fault-or (Ok x) other = other
-fault-or (Err fault) other = fault
-
 pub err-is : {T : Type 0} (e f : TreeFault) → ◌≡◌ {A = Result T TreeFault} (Err e) (Err f) → e ≡ f
-err-is e f h = ap (λ r. fault-or r e) h
+err-is e f h = cc
 
 module _ {T : Type 0} {old new : Disk} {Done : T → Type 0} {Refused : Type 0} {Why : TreeFault → Type 0} where
   -- it is done
@@ -47,7 +40,7 @@ module _ {T : Type 0} {old new : Disk} {Done : T → Type 0} {Refused : Type 0} 
       → HasCause before new.failures r → r ≡ Err e → Answers old new result Done Refused Why
   Answers-fails {result = result} told count h cause was =
       let rises = Rises-before h (cause.failed (ap is_err was)) in
-      subst (λ r. Answers old new r Done Refused Why) (sym (told-err result told)) (record {
+      subst (λ r. Answers old new r Done Refused Why) (sym (told_err result told)) (record {
         done = tt;
         refused = λ known. absurd (known refl);
         count = count;
@@ -59,7 +52,7 @@ module _ {T : Type 0} {old new : Disk} {Done : T → Type 0} {Refused : Type 0} 
   pub Answers-passed : {U : Type 0} {mid : Disk} {fault : TreeFault} {r : Result U TreeFault} {result : Result T TreeFault} {Part : U → Type 0} {Less : Type 0} {Cause : TreeFault → Type 0} → Answers mid new r Part Less Cause
       → mid.blocks ≡ old.blocks → old.failures ≤ mid.failures → r ≡ Err fault → IsErrAnd result (λ f. f ≡ fault) → (fault ≢ Device → Less → Cause fault → Refused × Why fault) → Answers old new result Done Refused Why
   Answers-passed {mid = mid} {fault} {r} {result} {Part} {Less} {Cause} part same later was told weaker =
-      subst (λ q. Answers old new q Done Refused Why) (sym (told-err result told)) (record {
+      subst (λ q. Answers old new q Done Refused Why) (sym (told_err result told)) (record {
         done = tt;
         refused = λ known.
             let no = subst (λ q. IfErr q (λ f. f ≢ Device → IsRefused mid new Less (Cause f))) was part.refused known in

@@ -1,6 +1,6 @@
 -- The first two entries of a new directory.
-use Rattle.std.proofs.Common.{◌≡◌, ◌≢◌, ℕ, ◌<◌, ◌≤◌, List, [], ◌∷◌, None, Option, Some, ap, sym, refl, ◌∙◌, arith, suc, zero}
-use Rattle.std.proofs.lemmas.List.{get_or-set_same}
+use Rattle.std.proofs.Common.{◌≡◌, ◌≢◌, ℕ, ◌<◌, ◌≤◌, List, [], ◌∷◌, None, Some, ap, sym, refl, ◌∙◌, arith}
+use Rattle.std.proofs.lemmas.List.{get_or-set_same, set-set}
 use Rattle.std.proofs.lemmas.List.Elements.{All-cons, All-nil}
 use Rattle.std.proofs.lemmas.Option.{same_Some}
 use Rattle.layout.specs.declared.Geometry.{Geometry}
@@ -13,11 +13,6 @@ use Rattle.unixmodel.specs.NameCalls.{new_directory}
 use Rattle.tree.proofs.Leaves.{places-of}
 use Rattle.tree.proofs.Rooms.{entered-is}
 use Rattle.tree.proofs.Storing.{files-are, slot-within}
-
-pub put-put : {X : Type 0} (xs : List (Option X)) (i : ℕ) (a b : X) → put (put xs i a) i b ≡ put xs i b
-put-put [] i a b = refl
-put-put (x ∷ xs) zero a b = refl
-put-put (x ∷ xs) (suc i) a b = ap (λ l. x ∷ l) (put-put xs i a b)
 
 -- ---- what they are
 
@@ -82,4 +77,4 @@ module _ (files : Files) (n : ℕ) (here : slot files n ≡ Some (Directory 1 []
     second-is parent =
         entered-is (files_of g mid) n 1 (Some (own n) ∷ []) first-here 1 (above parent)
         ∙ ap (λ (fs : Files). put fs n (new_directory parent n)) (files-are g mid (entered files n 0 (own n)) holds ∙ first-is)
-        ∙ put-put files n (Directory 1 (Some (own n) ∷ [])) (new_directory parent n)
+        ∙ set-set files n (Some (Directory 1 (Some (own n) ∷ []))) (Some (new_directory parent n))

@@ -16,7 +16,7 @@ use Rattle.unixmodel.specs.Files.Node.{File}
 use Rattle.unixmodel.specs.Manifest.{data_blocks_of}
 use Rattle.unixmodel.specs.Memory.{overwrite}
 use Rattle.tree.proofs.Erasing.{taken-grows}
-use Rattle.tree.proofs.Storing.{Holds-put, blocks_of-set, held-inode, held-raw, slot-within, used_by}
+use Rattle.tree.proofs.Storing.{Holds-wrote, blocks_of-set, held-inode, held-raw, slot-within, used_by}
 
 -- the greatest number that passes
 greatest-is : (test : ℕ → Bool) (n k : ℕ) → k ≤ n → test k ≡ true → ((j : ℕ) → k < j → j ≤ n → test j ≡ false) → greatest test n ≡ k
@@ -43,10 +43,7 @@ module _ {g : Geometry} {old : List (List ℕ)} {files : Files} (holds : Holds g
   file-put : (now : List (List ℕ)) (bytes : List ℕ) → Wrote g old now n bytes → Holds g now (put files n (File file.links bytes))
   file-put now bytes wrote =
       let was = held-raw g old files holds n (File file.links file.bytes) file.here in
-      let balance = wrote.balance in
-      let used : used_by (slot files n) ≡ taken_for (length (bytes_of old n)) = ap used_by file.here ∙ ap (λ b. taken_for (length b)) (sym file-bytes) in
-      Holds-put g old now files holds n (node_with (inode_at old n) bytes) (File file.links bytes) (slot-within files n (File file.links file.bytes) file.here) wrote.sound wrote.nodes
-      (record { kind = was.kind; links = was.links; bytes = refl; device = tt }) tt (omega arith)
+      Holds-wrote holds file.here wrote (File file.links bytes) (record { kind = was.kind; links = was.links; bytes = refl; device = tt }) tt
 
   long-enough : (k : ℕ) → at ≤ length file.bytes → k ≤ length new → at + k ≤ length (overwrite file.bytes at (take k new))
   long-enough k low high =

@@ -2,42 +2,30 @@
 use Rattle.std.proofs.Common.{◌≡◌, ◌≢◌, ℕ, ◌+◌, ◌<◌, ◌≤◌, Bool, List, [], None, Option, Some, ap, sym, refl, ◌∙◌, arith, subst, cond, true, false, suc}
 use Rattle.std.specs.Prelude.{All, IsSome, is_none, option_and_then, option_map, ◌&&◌}
 use Rattle.std.proofs.lemmas.Bool.{and_from, and_left, and_right, cond-false, cond-true, false≢true, le-ltb, lt-ltb}
-use Rattle.std.proofs.lemmas.List.{get_or-set_other, get_or-set_same}
+use Rattle.std.proofs.lemmas.List.{get_or-set_same, set-set}
 use Rattle.std.proofs.lemmas.Option.{none-some, same_Some}
 use Rattle.layout.specs.declared.Geometry.{Geometry}
 use Rattle.layout.specs.Image.{free_blocks, inode_at}
-use Rattle.names.proofs.Spots.{spot-parts}
 use Rattle.tree.specs.declared.TreeFault.{TreeFault}
 use Rattle.tree.specs.declared.TreeFault.TheVariants.{Blocks, DeadDir, DotName, Exists, Full, Inodes, IsDir, Links, NotDir, NotEmpty, NotFound}
 use Rattle.tree.specs.declared.TreeFault.TheVariants as fault
 use Rattle.tree.specs.Answers.{Overflows}
-use Rattle.tree.specs.Entering.{HasGap, HasRoom, LacksBlocks, entered, folder_in, fresh, growth, placed, room_in}
+use Rattle.tree.specs.Entering.{HasGap, LacksBlocks, entered, folder_in, growth, placed, room_in}
 use Rattle.tree.specs.Held.{Holds, IsHeld, files_of}
-use Rattle.imagerules.specs.Places.{IsPlain}
 use Rattle.tree.specs.Lacking.{LacksFolder, LacksGap}
 use Rattle.unixmodel.specs.Counts.{blocks_of}
-use Rattle.unixmodel.specs.Files.{Entry, Files, Node, Spot, blocks_for, change_node, enter, free_number, links_of, live_places, lookup, most_links, put, slot, spot_of, with_links}
+use Rattle.unixmodel.specs.Files.{Entry, Files, Node, Spot, change_node, enter, free_number, links_of, live_places, lookup, most_links, put, slot, spot_of}
 use Rattle.unixmodel.specs.Files.Node.{Directory}
 use Rattle.unixmodel.specs.NameCalls.{Made, has_room_for_link, is_free_name, made_below, made_directory, make_at, more_links, new_directory}
-use Rattle.tree.proofs.Dots.{put-put}
 use Rattle.tree.proofs.Gaps.{lacks-dead, lacks-other, spot-directory}
-use Rattle.tree.proofs.Leaves.{places-of, plain-name}
-use Rattle.tree.proofs.Linking.{links-size}
+use Rattle.names.proofs.Finding.{IsFree, free-number}
+use Rattle.tree.proofs.Leaves.{AsksEntry, entry-asked}
+use Rattle.tree.proofs.Linking.{more-blocks}
 use Rattle.tree.proofs.Looking.{IsLiveAt}
 use Rattle.tree.proofs.Rooms.{blocks_of-entered, enter-full, enter-room, entered-is}
 use Rattle.tree.proofs.Spots.{spot-none}
-use Rattle.tree.proofs.Storing.{blocks_of-set, change-is, files-are, held-again, held-raw, length-held, slot-within, used_by}
-use Rattle.tree.proofs.Taking.{IsFreeNumber, free-number, fresh-blocks}
-
--- a link more takes no block
-more-blocks : (files : Files) (n : ℕ) (node : Node) → slot files n ≡ Some node → blocks_of (change_node files n more_links) ≡ blocks_of files
-more-blocks files n node here =
-    let next = with_links node (links_of node + 1) in
-    let b = blocks_of-set files n (Some next) (slot-within files n node here) in
-    let was : used_by (slot files n) ≡ used_by (Some node) = ap used_by here in
-    let same : used_by (Some next) ≡ used_by (Some node) = ap blocks_for (links-size node (links_of node + 1)) in
-    let is = ap blocks_of (change-is files n more_links node here) in
-    omega arith
+use Rattle.tree.proofs.Storing.{blocks_of-set, files-are, held-again, held-links, held-made, held-step, length-held, slot-within, used_by}
+use Rattle.tree.proofs.Taking.{fresh-blocks, still-here}
 
 module _ (files : Files) (d : ℕ) (path : List ℕ) where
   pub folder-nowhere : spot_of files d path ≡ None → folder_in files d path ≡ None
@@ -82,11 +70,6 @@ module _ (files : Files) (d : ℕ) (path : List ℕ) where
     folder-unnumbered parent here none = unmade parent here (ap (option_and_then entered_one) none)
 
     module _ (links : ℕ) (places : List (Option Entry)) (here : slot files at.directory ≡ Some (Directory (suc links) places)) where
-      -- the directory above stays as it is while a node comes
-      still : (n : ℕ) → IsFreeNumber files n → (node : Node) → slot (put files n node) at.directory ≡ Some (Directory (suc links) places)
-      still n number node =
-          get_or-set_other files n at.directory (Some node) None (λ e. none-some (Directory (suc links) places) (sym number.free ∙ ap (slot files) (sym e) ∙ here)) ∙ here
-
       pub folder-full : room_in places ≡ None → folder_in files d path ≡ None
       unfolding make_at
       folder-full none = unmade (Directory (suc links) places) here (go (free_number files) refl) where
@@ -94,7 +77,7 @@ module _ (files : Files) (d : ℕ) (path : List ℕ) where
         go None e = refl
         go (Some n) e =
             ap (option_map (λ (new : Files). let made : Made = record { files = new; number = n } in made))
-            (enter-full (put files n (new_directory at.directory n)) at n links places (still n (free-number files n e) (new_directory at.directory n)) none)
+            (enter-full (put files n (new_directory at.directory n)) at n links places (still-here (free-number files n e) (new_directory at.directory n) at.directory here) none)
 
       module _ (k : ℕ) (room : room_in places ≡ Some k) (n : ℕ) (is : free_number files ≡ Some n) where
         abbrev e : Entry
@@ -106,11 +89,11 @@ module _ (files : Files) (d : ℕ) (path : List ℕ) where
         abbrev third : Files
         third = entered second at.directory k e
 
-        number : IsFreeNumber files n
+        number : IsFree files n
         number = free-number files n is
 
-        second-here : slot second at.directory ≡ Some (Directory (suc links) places)
-        second-here = still n number (new_directory at.directory n)
+        pub second-here : slot second at.directory ≡ Some (Directory (suc links) places)
+        second-here = still-here number (new_directory at.directory n) at.directory here
 
         pub third-here : slot third at.directory ≡ Some (Directory (suc links) (placed places k e))
         third-here =
@@ -119,7 +102,7 @@ module _ (files : Files) (d : ℕ) (path : List ℕ) where
 
         pub second-blocks : blocks_of second ≡ blocks_of files + 1
         second-blocks =
-            let b = blocks_of-set files n (Some (new_directory at.directory n)) number.high in
+            let b = blocks_of-set files n (Some (new_directory at.directory n)) number.within in
             let none : used_by (slot files n) ≡ 0 = ap used_by number.free in
             let one : used_by (Some (new_directory at.directory n)) ≡ 1 = refl in
             omega arith
@@ -174,37 +157,26 @@ module _ (files : Files) (d : ℕ) (path : List ℕ) where
     weaker-folder Exists known why =
         let live = spot-directory files d path why.at why.spot in
         (folder-none (folder-there why.at why.spot (Directory (suc live.links) live.places) live.here why.named), why)
-    weaker-folder IsDir known why = absurd why
-    weaker-folder NotEmpty known why = absurd why
-    weaker-folder DotName known why = absurd why
     weaker-folder DeadDir known why = (folder-none (folder-nowhere (lacks-dead files d path why)), why)
-    weaker-folder Links known why = absurd why
     weaker-folder Blocks known why = (over-folder limit why, why)
-    weaker-folder Inodes known why = absurd why
     weaker-folder Full known why =
         let live = spot-directory files d path why.at why.spot in
         let full : room_in live.places ≡ None = sym (ap (λ o. option_and_then room_in (live_places o)) live.here) ∙ why.none in
         (folder-none (folder-full why.at why.spot live.links live.places live.here full), why)
     weaker-folder fault.Device known why = absurd (known refl)
+    weaker-folder _ known why = absurd why
 
 -- ---- the disk
 
-module _ {g : Geometry} {old : List (List ℕ)} {files : Files} (holds : Holds g old files) (d : ℕ) (path : List ℕ) (at : Spot) (k : ℕ) (gap : HasGap g old files d path 1 at k) where
+module _ {g : Geometry} {old : List (List ℕ)} {files : Files} (holds : Holds g old files) {d : ℕ} {path : List ℕ} {at : Spot} {k : ℕ} (gap : HasGap g old files d path 1 at k) where
   abbrev parent : Node
   parent = Directory (suc gap.links) gap.places
 
-  pub parent-high : at.directory < 65536
-  parent-high =
-      let long = length-held g old files holds in
-      let most = holds.sound.parts.inodes_high in
-      let high = slot-within files at.directory parent gap.here in
-      omega arith
-
   -- what is told of the links of the directory above
   pub parent-links : {mid : List (List ℕ)} → mid ≡ old → {links : ℕ} → links ≡ (inode_at mid at.directory).links → links ≡ suc gap.links
-  parent-links same told = told ∙ ap (λ b. (inode_at b at.directory).links) same ∙ (held-raw g old files holds at.directory parent gap.here).links
+  parent-links same told = held-links g old files holds at.directory parent gap.here (told ∙ ap (λ b. (inode_at b at.directory).links) same)
 
-  module _ (n : ℕ) (is : free_number files ≡ Some n) where
+  module _ {n : ℕ} (is : free_number files ≡ Some n) where
     abbrev first : Files
     first = put files n (Directory 1 [])
 
@@ -217,69 +189,49 @@ module _ {g : Geometry} {old : List (List ℕ)} {files : Files} (holds : Holds g
     abbrev last : Files
     last = entered next at.directory k name
 
-    free-n : IsFreeNumber files n
+    free-n : IsFree files n
     free-n = free-number files n is
 
-    pub number-high : n < 65536
-    number-high =
+    -- what putting its own entries asks
+    pub dots-asked : {mid : List (List ℕ)} → Holds g mid first
+        → record { held : IsHeld g mid; bare : slot (files_of g mid) n ≡ Some (Directory 1 []); number : n < 65536; above : at.directory < 65536; block : 1 ≤ free_blocks g mid }
+    dots-asked {mid} now =
         let long = length-held g old files holds in
         let most = holds.sound.parts.inodes_high in
-        let high = free-n.high in
-        omega arith
+        let high = free-n.within in
+        let within = slot-within files at.directory parent gap.here in
+        let before = holds.free in
+        let after = now.free in
+        let blocks = fresh-blocks files n (Directory 1 []) free-n refl in
+        let fits = gap.fits in
+        record {
+          held = held-again g mid first now;
+          bare = ap (λ (fs : Files). slot fs n) (files-are g mid first now) ∙ get_or-set_same files n (Some (Directory 1 [])) None high;
+          number = omega arith;
+          above = omega arith;
+          block = omega arith;
+        }
 
-    pub name-plain : All (λ b. b ≢ 0) path → IsPlain name
-    name-plain plain = plain-name at.name n (spot-parts files d path at plain gap.spot).name number-high
+    pub first-next : {mid new : List (List ℕ)} → Holds g mid first → Holds g new (put (files_of g mid) n (new_directory at.directory n)) → Holds g new next
+    first-next {mid} {new} now h = subst (Holds g new) (set-set files n (Some (Directory 1 [])) (Some (new_directory at.directory n))) (held-step now (λ (fs : Files). put fs n (new_directory at.directory n)) h)
 
-    module _ {mid : List (List ℕ)} (now : Holds g mid first) where
-      pub first-here : slot (files_of g mid) n ≡ Some (Directory 1 [])
-      first-here = ap (λ (fs : Files). slot fs n) (files-are g mid first now) ∙ get_or-set_same files n (Some (Directory 1 [])) None free-n.high
+    pub name-asked : {mid : List (List ℕ)} → Holds g mid next → All (λ b. b ≢ 0) path → AsksEntry g mid at k n
+    name-asked now =
+        entry-asked holds now gap (second-blocks files d path at gap.spot gap.links gap.places gap.here k gap.room n is) (second-here files d path at gap.spot gap.links gap.places gap.here k gap.room n is) n free-n.within
 
-      pub first-block : 1 ≤ free_blocks g mid
-      first-block =
-          let before = holds.free in
-          let after = now.free in
-          let blocks = fresh-blocks files n (Directory 1 []) free-n refl in
-          let fits = gap.fits in
-          omega arith
-
-      pub first-next : {new : List (List ℕ)} → Holds g new (put (files_of g mid) n (new_directory at.directory n)) → Holds g new next
-      first-next {new} h = subst (Holds g new) (ap (λ (fs : Files). put fs n (new_directory at.directory n)) (files-are g mid first now) ∙ put-put files n (Directory 1 []) (new_directory at.directory n)) h
-
-    module _ {mid : List (List ℕ)} (now : Holds g mid next) where
-      here-now : slot (files_of g mid) at.directory ≡ Some parent
-      here-now = ap (λ (fs : Files). slot fs at.directory) (files-are g mid next now) ∙ second-here files d path at gap.spot gap.links gap.places gap.here k gap.room n is
-
-      pub next-room : HasRoom (files_of g mid) at.directory k
-      next-room = record { links = suc gap.links; places = gap.places; here = here-now; room = gap.room }
-
-      pub next-fits : (room : HasRoom (files_of g mid) at.directory k) → growth room.places k ≤ free_blocks g mid
-      next-fits room =
-          let same : room.places ≡ gap.places = ap places-of (same_Some (Directory room.links room.places) parent (sym room.here ∙ here-now)) in
-          let before = holds.free in
-          let after = now.free in
-          let fits = gap.fits in
-          let blocks = second-blocks files d path at gap.spot gap.links gap.places gap.here k gap.room n is in
-          let grown : growth room.places k ≡ growth gap.places k = ap (λ ps. growth ps k) same in
-          omega arith
-
-      pub next-last : {new : List (List ℕ)} → Holds g new (entered (files_of g mid) at.directory k name) → Holds g new last
-      next-last {new} h = subst (Holds g new) (ap (λ (fs : Files). entered fs at.directory k name) (files-are g mid next now)) h
+    pub next-last : {mid new : List (List ℕ)} → Holds g mid next → Holds g new (entered (files_of g mid) at.directory k name) → Holds g new last
+    next-last now = held-step now (λ (fs : Files). entered fs at.directory k name)
 
     module _ {mid : List (List ℕ)} (now : Holds g mid last) (few : suc gap.links < most_links) where
-      pub last-node : (node : Node) × (slot (files_of g mid) at.directory ≡ Some node) × (links_of node < 65535)
-      last-node = (
-        Directory (suc gap.links) (placed gap.places k name),
-        ap (λ (fs : Files). slot fs at.directory) (files-are g mid last now) ∙ third-here files d path at gap.spot gap.links gap.places gap.here k gap.room n is,
-        omega arith,
-      )
+      pub above-asked : record { held : IsHeld g mid; node : (node : Node) × (slot (files_of g mid) at.directory ≡ Some node) × (links_of node < 65535) }
+      above-asked = record {
+        held = held-again g mid last now;
+        node = (
+          Directory (suc gap.links) (placed gap.places k name),
+          ap (λ (fs : Files). slot fs at.directory) (files-are g mid last now) ∙ third-here files d path at gap.spot gap.links gap.places gap.here k gap.room n is,
+          omega arith,
+        );
+      }
 
       pub folder-held : {new : List (List ℕ)} → Holds g new (change_node (files_of g mid) at.directory more_links) → IsHeld g new × (folder_in files d path ≡ Some (files_of g new))
-      folder-held {new} h =
-          let same : files_of g new ≡ change_node last at.directory more_links =
-          files-are g new (change_node (files_of g mid) at.directory more_links) h ∙ ap (λ (fs : Files). change_node fs at.directory more_links) (files-are g mid last now) in
-          (held-again g new (change_node (files_of g mid) at.directory more_links) h, folder-done files d path at gap.spot gap.links gap.places gap.here k gap.room n is few gap.free ∙ ap Some (sym same))
-
--- the lowest free number is taken
-pub taken-first : {g : Geometry} {old mid new : List (List ℕ)} {n : ℕ} → mid ≡ old → (free_number (files_of g mid) ≡ Some n) × Holds g new (put (files_of g mid) n (fresh 1 0 0))
-    → (free_number (files_of g old) ≡ Some n) × Holds g new (put (files_of g old) n (Directory 1 []))
-taken-first {g} {old} {mid} {new} {n} same told = subst (λ b. (free_number (files_of g b) ≡ Some n) × Holds g new (put (files_of g b) n (Directory 1 []))) same told
+      folder-held h = held-made (held-step now (λ (fs : Files). change_node fs at.directory more_links) h) Some (folder-done files d path at gap.spot gap.links gap.places gap.here k gap.room n is few gap.free)

@@ -1,42 +1,39 @@
 -- A new name: where it is to stand, and what becomes of the files.
-use Rattle.std.proofs.Common.{◌≡◌, ℕ, ◌+◌, ◌<◌, Bool, List, None, Option, Some, ap, sym, refl, ◌∙◌, arith, subst, cond, true, false, zero, suc, inl, inr}
-use Rattle.std.specs.Prelude.{IfOk, IsSome, Ok, Result, is_none, is_some, nat_le, option_and_then, option_map}
-use Rattle.std.proofs.lemmas.Bool.{cases_lt, false≢true, le-leb, leb-true}
-use Rattle.std.proofs.lemmas.List.{get_or-set_other}
+use Rattle.std.proofs.Common.{◌≡◌, ℕ, ◌+◌, ◌<◌, Bool, List, None, Option, Some, ap, sym, refl, ◌∙◌, arith, subst, cond, true, false, suc}
+use Rattle.std.specs.Prelude.{IsSome, Ok, Result, is_none, is_some, nat_le, option_and_then, option_map}
+use Rattle.std.proofs.lemmas.Bool.{false≢true, leb-false, leb-true}
 use Rattle.std.proofs.lemmas.Option.{none-some, same_Some}
+use Rattle.std.proofs.lemmas.Result.{IfOk-at_ok}
 use Rattle.cache.specs.Disk.{Disk}
 use Rattle.layout.specs.declared.Geometry.{Geometry}
-use Rattle.layout.specs.Image.{IsInode, bytes_of, free_blocks}
+use Rattle.layout.specs.Image.{bytes_of, free_blocks}
 use Rattle.tree.specs.declared.TreeFault.{TreeFault}
 use Rattle.tree.specs.Answers.{Answers, Overflows}
 use Rattle.tree.specs.Entering.{HasGap, HasRoom, IsFullAt, LacksBlocks, entered, growth, made_files, made_in, room_in}
-use Rattle.tree.specs.Held.{Holds}
+use Rattle.tree.specs.Held.{IsHeld, files_of}
 use Rattle.tree.specs.Paths.{IsDead, IsNoDirectory, above}
 use Rattle.imagerules.specs.Places.{places_in}
 use Rattle.unixmodel.specs.Counts.{blocks_of}
 use Rattle.unixmodel.specs.Files.{Entry, Files, Node, Spot, enter, free_number, is_directory, live_places, live_spot, lookup, places_at, put, size_of, slot, spot_of}
-use Rattle.unixmodel.specs.Files.Node.{Device, Directory, File}
+use Rattle.unixmodel.specs.Files.Node.{Directory}
 use Rattle.unixmodel.specs.Manifest.{data_blocks_of}
 use Rattle.unixmodel.specs.NameCalls.{Made, make_at, made_at}
 use Rattle.tree.proofs.Looking.{IsLiveAt}
 use Rattle.tree.proofs.Parts.{spot-above}
 use Rattle.tree.proofs.Rooms.{blocks_of-entered, enter-full, enter-room}
-use Rattle.tree.proofs.Storing.{held-inode}
-use Rattle.tree.proofs.Taking.{IsFreeNumber, free-number, fresh-blocks}
+use Rattle.names.proofs.Finding.{free-number}
+use Rattle.tree.proofs.Taking.{fresh-blocks, still-here}
 use Rattle.tree.proofs.Unlinking.{directory-places}
 
-pub done-of : {T : Type 0} {old new : Disk} {r : Result T TreeFault} {Done : T → Type 0} {Refused : Type 0} {Why : TreeFault → Type 0} → Answers old new r Done Refused Why → (x : T) → r ≡ Ok x → Done x
-done-of {r = r} {Done} answers x e = subst (λ q. IfOk q Done) e answers.done
+pub done-of : {T : Type 0} {old new : Disk} {r : Result T TreeFault} {Done : T → Type 0} {Refused : Type 0} {Why : TreeFault → Type 0} → Answers old new r Done Refused Why → {x : T} → r ≡ Ok x → Done x
+done-of {Done = Done} answers e = IfOk-at_ok Done e answers.done
 
 -- ---- the directory of a spot
 
 at-node : (files : Files) (at : Spot) (name : List ℕ) (k : ℕ) (o : Option Node) → slot files k ≡ o → cond (is_some (live_places o)) (Some (let s : Spot = record { directory = k; name = name } in s)) None ≡ Some at → IsLiveAt files at.directory
-at-node files at name k None here h = absurd (none-some at h)
-at-node files at name k (Some (File links bytes)) here h = absurd (none-some at h)
-at-node files at name k (Some (Device links major minor)) here h = absurd (none-some at h)
-at-node files at name k (Some (Directory zero places)) here h = absurd (none-some at h)
 at-node files at name k (Some (Directory (suc links) places)) here h =
     subst (λ (s : Spot). IsLiveAt files s.directory) (same_Some (let s : Spot = record { directory = k; name = name } in s) at h) (record { links = links; places = places; here = here })
+at-node files at name k _ here h = absurd (none-some at h)
 
 pub spot-directory : (files : Files) (d : ℕ) (path : List ℕ) (at : Spot) → spot_of files d path ≡ Some at → IsLiveAt files at.directory
 spot-directory files d path at h = go (above files d path) (sym (spot-above files d path) ∙ h) where
@@ -44,49 +41,52 @@ spot-directory files d path at h = go (above files d path) (sym (spot-above file
   go None q = absurd (none-some at q)
   go (Some two) q = at-node files at two.1 two.0 (slot files two.0) refl q
 
-leb-lt : (a b : ℕ) → nat_le a b ≡ false → b < a
-leb-lt a b h = elim (cases_lt b a) [ inl l ↦ l | inr m ↦ absurd (false≢true (sym h ∙ le-leb a b m)) ]
-
 -- ---- a gap
 
-module _ {g : Geometry} {blocks : List (List ℕ)} {files : Files} (holds : Holds g blocks files) (d : ℕ) (path : List ℕ) (at : Spot) (spot : spot_of files d path ≡ Some at) where
-  live : IsLiveAt files at.directory
-  live = spot-directory files d path at spot
+-- what the looks at the directory of a spot told, each at a disk that is as it was
+module _ {g : Geometry} {blocks : List (List ℕ)} (held : IsHeld g blocks) (d : ℕ) (path : List ℕ) {at : Spot} (spot : spot_of (files_of g blocks) d path ≡ Some at) where
+  pub live : IsLiveAt (files_of g blocks) at.directory
+  live = spot-directory (files_of g blocks) d path at spot
 
-  pub gap-used : IsSome (slot files at.directory)
-  gap-used = ap is_some live.here
+  pub gap-here : slot (files_of g blocks) at.directory ≡ Some (Directory (suc live.links) live.places)
+  gap-here = live.here
 
-  pub gap-inode : IsInode blocks g.inodes at.directory
-  gap-inode = held-inode g blocks files holds at.directory (Directory (suc live.links) live.places) live.here
+  module _ {mid : List (List ℕ)} (same : mid ≡ blocks) {o : Option ℕ} where
+    pub gap-named : o ≡ lookup (files_of g mid) at.directory at.name → {x : Option ℕ} → o ≡ x → lookup (files_of g blocks) at.directory at.name ≡ x
+    gap-named told is = sym (told ∙ ap (λ b. lookup (files_of g b) at.directory at.name) same) ∙ is
 
-  gap-places : places_in (bytes_of blocks at.directory) ≡ live.places
-  gap-places = directory-places g blocks files holds at.directory (suc live.links) live.places live.here
+    pub gap-place : o ≡ room_in (places_in (bytes_of mid at.directory)) → {x : Option ℕ} → o ≡ x → room_in live.places ≡ x
+    gap-place told is =
+        sym (told ∙ ap (λ b. room_in (places_in (bytes_of b at.directory))) same ∙ ap room_in (directory-places g blocks (files_of g blocks) held at.directory (suc live.links) live.places live.here)) ∙ is
 
-  pub gap-full : None ≡ room_in (places_in (bytes_of blocks at.directory)) → IsFullAt files d path
-  gap-full none = record { at = at; spot = spot; none = ap (λ o. option_and_then room_in (live_places o)) live.here ∙ ap room_in (sym gap-places) ∙ sym none }
+  pub gap-full : room_in live.places ≡ None → IsFullAt (files_of g blocks) d path
+  gap-full none = record { at = at; spot = spot; none = ap (λ o. option_and_then room_in (live_places o)) live.here ∙ none }
 
-  pub gap-room : (k : ℕ) → Some k ≡ room_in (places_in (bytes_of blocks at.directory)) → HasRoom files at.directory k
-  gap-room k is = record { links = suc live.links; places = live.places; here = live.here; room = ap room_in (sym gap-places) ∙ sym is }
+  module _ {k : ℕ} (room : room_in live.places ≡ Some k) where
+    pub gap-room : HasRoom (files_of g blocks) at.directory k
+    gap-room = record { links = suc live.links; places = live.places; here = live.here; room = room }
 
-  module _ (k more : ℕ) (is : Some k ≡ room_in (places_in (bytes_of blocks at.directory))) (enough : Bool) (told : (room : HasRoom files at.directory k) → enough ≡ nat_le (growth room.places k + more) (free_blocks g blocks)) where
-    pub gap-lacks : enough ≡ false → LacksBlocks (data_blocks_of g.size g.inodes) files d path more
-    unfolding live gap-room
-    gap-lacks fewer =
-        let few = leb-lt (growth live.places k + more) (free_blocks g blocks) (sym (told (gap-room k is)) ∙ fewer) in
-        let balance = holds.free in
-        record { at = at; spot = spot; places = live.places; here = ap live_places live.here; place = k; room = (gap-room k is).room; few = omega arith }
+    module _ {mid : List (List ℕ)} (same : mid ≡ blocks) (more : ℕ) {enough : Bool} (told : (r : HasRoom (files_of g mid) at.directory k) → enough ≡ nat_le (growth r.places k + more) (free_blocks g mid)) where
+      told-here : enough ≡ nat_le (growth live.places k + more) (free_blocks g blocks)
+      unfolding gap-room
+      told-here = subst (λ b. (r : HasRoom (files_of g b) at.directory k) → enough ≡ nat_le (growth r.places k + more) (free_blocks g b)) same told gap-room
 
-    pub gap-has : enough ≡ true → None ≡ lookup files at.directory at.name → HasGap g blocks files d path more at k
-    unfolding live gap-room
-    gap-has plenty free = record {
-      spot = spot;
-      free = sym free;
-      links = live.links;
-      places = live.places;
-      here = live.here;
-      room = (gap-room k is).room;
-      fits = leb-true (growth live.places k + more) (free_blocks g blocks) (sym (told (gap-room k is)) ∙ plenty);
-    }
+      pub gap-lacks : enough ≡ false → LacksBlocks (data_blocks_of g.size g.inodes) (files_of g blocks) d path more
+      gap-lacks fewer =
+          let few = leb-false (growth live.places k + more) (free_blocks g blocks) (sym told-here ∙ fewer) in
+          let balance = held.free in
+          record { at = at; spot = spot; places = live.places; here = ap live_places live.here; place = k; room = room; few = omega arith }
+
+      pub gap-has : enough ≡ true → lookup (files_of g blocks) at.directory at.name ≡ None → HasGap g blocks (files_of g blocks) d path more at k
+      gap-has plenty free = record {
+        spot = spot;
+        free = free;
+        links = live.links;
+        places = live.places;
+        here = live.here;
+        room = room;
+        fits = leb-true (growth live.places k + more) (free_blocks g blocks) (sym told-here ∙ plenty);
+      }
 
 -- ---- no spot
 
@@ -96,9 +96,8 @@ no-spot files d path k name is dead =
     ∙ ap (λ o. cond (is_some o) (Some (let s : Spot = record { directory = k; name = name } in s)) None) dead
 
 other-dead : (node : Node) → is_directory node ≡ false → live_places (Some node) ≡ None
-other-dead (File links bytes) h = refl
-other-dead (Device links major minor) h = refl
 other-dead (Directory links places) h = absurd (false≢true (sym h))
+other-dead _ h = refl
 
 pub lacks-other : (files : Files) (d : ℕ) (path : List ℕ) → IsNoDirectory files d path → spot_of files d path ≡ None
 lacks-other files d path other = no-spot files d path other.number other.name other.above (ap live_places other.here ∙ other-dead other.node other.other)
@@ -131,11 +130,6 @@ module _ (limit : ℕ) (files : Files) (d : ℕ) (path : List ℕ) (node : Node)
       go None e h = absurd (false≢true h)
       go (Some n) e h = ap (λ o. cond (is_none o) (make_at files at (λ n. node)) None) e
 
-    -- the directory stays as it is while a node comes
-    pub still-here : (n : ℕ) → IsFreeNumber files n → (x : Node) → slot files at.directory ≡ Some x → slot (put files n node) at.directory ≡ Some x
-    still-here n number x here =
-        get_or-set_other files n at.directory (Some node) None (λ e. none-some x (sym number.free ∙ ap (slot files) (sym e) ∙ here)) ∙ here
-
     pub made-full : option_and_then room_in (places_at files at.directory) ≡ None → made_in files d path node ≡ None
     unfolding made_at make_at
     made-full none = made-is ∙ named (is_none (lookup files at.directory at.name)) where
@@ -149,7 +143,7 @@ module _ (limit : ℕ) (files : Files) (d : ℕ) (path : List ℕ) (node : Node)
       numbered None e = refl
       numbered (Some n) e =
           ap (option_map (λ (new : Files). let m : Made = record { files = new; number = n } in m))
-          (enter-full (put files n node) at n live-at.links live-at.places (still-here n (free-number files n e) (Directory (suc live-at.links) live-at.places) live-at.here) full)
+          (enter-full (put files n node) at n live-at.links live-at.places (still-here (free-number files n e) node at.directory live-at.here) full)
 
       named : (b : Bool) → cond b (make_at files at (λ n. node)) None ≡ None
       named true = numbered (free_number files) refl
@@ -167,7 +161,7 @@ module _ (limit : ℕ) (files : Files) (d : ℕ) (path : List ℕ) (node : Node)
       e = record { name = at.name; number = n }
 
       here-now : slot (put files n node) at.directory ≡ Some (Directory (suc links) places)
-      here-now = still-here n (free-number files n is) (Directory (suc links) places) here
+      here-now = still-here (free-number files n is) node at.directory here
 
       make-is : make_at files at (λ n. node) ≡ Some (record { files = entered (put files n node) at.directory k e; number = n })
       unfolding make_at

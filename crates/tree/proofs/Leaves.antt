@@ -1,5 +1,5 @@
 -- A new file or device: why it is refused, and what the disk holds.
-use Rattle.std.proofs.Common.{◌≡◌, ◌≢◌, ℕ, ◌+◌, ◌<◌, ◌≤◌, List, [], ◌∷◌, Option, Some, length, ap, sym, refl, ◌∙◌, arith, true, suc, not}
+use Rattle.std.proofs.Common.{subst, ◌≡◌, ◌≢◌, ℕ, ◌+◌, ◌<◌, ◌≤◌, List, [], ◌∷◌, Option, Some, length, ap, sym, refl, ◌∙◌, arith, true, suc, not}
 use Rattle.std.specs.Prelude.{All, nat_le, ◌&&◌, ◌==◌}
 use Rattle.std.specs.List.{list_all}
 use Rattle.std.proofs.lemmas.Bool.{and_parts, eq-eqb, false≢true, leb-true}
@@ -14,19 +14,21 @@ use Rattle.tree.specs.declared.TreeFault.{TreeFault}
 use Rattle.tree.specs.declared.TreeFault.TheVariants.{Blocks, DeadDir, DotName, Exists, Full, Inodes, IsDir, Links, NotDir, NotEmpty, NotFound}
 use Rattle.tree.specs.declared.TreeFault.TheVariants as fault
 use Rattle.tree.specs.Answers.{Overflows}
-use Rattle.tree.specs.Entering.{HasGap, HasRoom, entered, growth, made_files, made_in}
+use Rattle.tree.specs.Entering.{fresh, HasGap, HasRoom, entered, growth, made_files, made_in}
 use Rattle.tree.specs.Held.{Holds, IsHeld, files_of}
 use Rattle.imagerules.specs.Places.{IsPlain}
 use Rattle.tree.specs.Lacking.{LacksGap, LacksMaking}
 use Rattle.tree.specs.Leaves.{leaf_node}
+use Rattle.unixmodel.specs.Counts.{blocks_of}
 use Rattle.unixmodel.specs.Files.{Entry, Files, Node, Spot, free_number, put, size_of, slot}
-use Rattle.unixmodel.specs.Files.Node.{Device, Directory, File}
+use Rattle.unixmodel.specs.Files.Node.{Directory}
 use Rattle.unixmodel.specs.Manifest.{data_blocks_of}
 use Rattle.unixmodel.specs.NameCalls.{Made}
-use Rattle.tree.proofs.Gaps.{lacks-dead, lacks-other, made-done, made-full, made-nowhere, made-there, over-blocks, over-none, still-here}
+use Rattle.tree.proofs.Gaps.{lacks-dead, lacks-other, made-done, made-full, made-nowhere, made-there, over-blocks, over-none}
 use Rattle.tree.proofs.Spots.{spot-none}
-use Rattle.tree.proofs.Storing.{files-are, held-again, length-held}
-use Rattle.tree.proofs.Taking.{IsFreeNumber, free-number, fresh-blocks}
+use Rattle.tree.proofs.Storing.{files-are, held-again, held-made, held-step, length-held}
+use Rattle.names.proofs.Finding.{free-number}
+use Rattle.tree.proofs.Taking.{fresh-blocks, still-here}
 
 pub leaf-empty : (l : Leaf) → size_of (leaf_node l) ≡ 0
 leaf-empty leaf.File = refl
@@ -41,15 +43,11 @@ pub weaker-gap : (limit : ℕ) (files : Files) (d : ℕ) (path : List ℕ) (node
 weaker-gap limit files d path node empty NotFound known why = (over-none limit files d path node empty (made-nowhere limit files d path node empty (spot-none files d path why)), why)
 weaker-gap limit files d path node empty NotDir known why = (over-none limit files d path node empty (made-nowhere limit files d path node empty (lacks-other files d path why)), why)
 weaker-gap limit files d path node empty Exists known why = (over-none limit files d path node empty (made-there limit files d path node empty why.at why.spot why.named), why)
-weaker-gap limit files d path node empty IsDir known why = absurd why
-weaker-gap limit files d path node empty NotEmpty known why = absurd why
-weaker-gap limit files d path node empty DotName known why = absurd why
 weaker-gap limit files d path node empty DeadDir known why = (over-none limit files d path node empty (made-nowhere limit files d path node empty (lacks-dead files d path why)), why)
-weaker-gap limit files d path node empty Links known why = absurd why
 weaker-gap limit files d path node empty Blocks known why = (over-blocks limit files d path node empty why, why)
-weaker-gap limit files d path node empty Inodes known why = absurd why
 weaker-gap limit files d path node empty Full known why = (over-none limit files d path node empty (made-full limit files d path node empty why.at why.spot why.none), why)
 weaker-gap limit files d path node empty fault.Device known why = absurd (known refl)
+weaker-gap limit files d path node empty _ known why = absurd why
 
 -- ---- an entry for a node that has come
 
@@ -67,46 +65,54 @@ plain-name name n h high =
     record { number = high; some = leb-true 1 (length name) sizes.0; most = leb-true (length name) 14 sizes.1; plain = plain-bytes name both.1 }
 
 abbrev pub places-of : Node → List (Option Entry)
-places-of (File links bytes) = []
-places-of (Device links major minor) = []
 places-of (Directory links places) = places
+places-of _ = []
 
-module _ {g : Geometry} {old mid : List (List ℕ)} {files : Files} (holds : Holds g old files) (d : ℕ) (path : List ℕ) (node : Node) (empty : size_of node ≡ 0) (at : Spot) (k more : ℕ) (gap : HasGap g old files d path more at k) (n : ℕ) (is : free_number files ≡ Some n) (now : Holds g mid (put files n node)) where
-  number : IsFreeNumber files n
-  number = free-number files n is
+-- what putting the entry asks
+abbrev pub AsksEntry : Geometry → List (List ℕ) → Spot → ℕ → ℕ → Type 0
+AsksEntry g blocks at k n = record {
+  held : IsHeld g blocks;
+  plain : IsPlain (record { name = at.name; number = n });
+  room : HasRoom (files_of g blocks) at.directory k;
+  fits : (r : HasRoom (files_of g blocks) at.directory k) → growth r.places k ≤ free_blocks g blocks;
+}
 
-  here-now : slot (files_of g mid) at.directory ≡ Some (Directory (suc gap.links) gap.places)
-  here-now =
-      ap (λ (fs : Files). slot fs at.directory) (files-are g mid (put files n node) now)
-      ∙ still-here (data_blocks_of g.size g.inodes) files d path node empty at gap.spot n number (Directory (suc gap.links) gap.places) gap.here
+-- in files that changed elsewhere
+pub entry-asked : {g : Geometry} {old mid : List (List ℕ)} {files next : Files} (holds : Holds g old files) (now : Holds g mid next) {d : ℕ} {path : List ℕ} {at : Spot} {k more : ℕ} (gap : HasGap g old files d path more at k)
+    → blocks_of next ≡ blocks_of files + more → slot next at.directory ≡ Some (Directory (suc gap.links) gap.places) → (n : ℕ) → n < length files → All (λ b. b ≢ 0) path → AsksEntry g mid at k n
+entry-asked {g} {old} {mid} {files} {next} holds now {d} {path} {at} {k} gap blocks still n high plain =
+    let long = length-held g old files holds in
+    let most = holds.sound.parts.inodes_high in
+    let here : slot (files_of g mid) at.directory ≡ Some (Directory (suc gap.links) gap.places) = ap (λ (fs : Files). slot fs at.directory) (files-are g mid next now) ∙ still in
+    record {
+      held = held-again g mid next now;
+      plain = plain-name at.name n (spot-parts files d path at plain gap.spot).name (omega arith);
+      room = record { links = suc gap.links; places = gap.places; here = here; room = gap.room };
+      fits = λ r.
+          let same : r.places ≡ gap.places = ap places-of (same_Some (Directory r.links r.places) (Directory (suc gap.links) gap.places) (sym r.here ∙ here)) in
+          let grown : growth r.places k ≡ growth gap.places k = ap (λ ps. growth ps k) same in
+          let before = holds.free in
+          let after = now.free in
+          let fits = gap.fits in
+          omega arith;
+    }
 
-  pub entry-plain : All (λ b. b ≢ 0) path → IsPlain (record { name = at.name; number = n })
-  entry-plain plain =
-      let long = length-held g old files holds in
-      let most = holds.sound.parts.inodes_high in
-      let high = number.high in
-      plain-name at.name n (spot-parts files d path at plain gap.spot).name (omega arith)
-
-  pub entry-room : HasRoom (files_of g mid) at.directory k
-  entry-room = record { links = suc gap.links; places = gap.places; here = here-now; room = gap.room }
-
-  pub entry-fits : (room : HasRoom (files_of g mid) at.directory k) → growth room.places k + more ≤ free_blocks g mid
-  entry-fits room =
-      let same : room.places ≡ gap.places = ap places-of (same_Some (Directory room.links room.places) (Directory (suc gap.links) gap.places) (sym room.here ∙ here-now)) in
-      let before = holds.free in
-      let after = now.free in
+-- the entry of a file or device
+module _ {g : Geometry} {old mid : List (List ℕ)} {files : Files} (holds : Holds g old files) {d : ℕ} {path : List ℕ} (node : Node) (empty : size_of node ≡ 0) {at : Spot} {k : ℕ} (gap : HasGap g old files d path 0 at k) {n : ℕ} (is : free_number files ≡ Some n) (now : Holds g mid (put files n node)) where
+  pub made-asked : All (λ b. b ≢ 0) path → AsksEntry g mid at k n
+  made-asked =
+      let number = free-number files n is in
       let blocks = fresh-blocks files n node number empty in
-      let fits = gap.fits in
-      let grown : growth room.places k ≡ growth gap.places k = ap (λ ps. growth ps k) same in
-      omega arith
+      entry-asked holds now gap (omega arith) (still-here number node at.directory gap.here) n number.within
 
-  pub made-held : {new : List (List ℕ)} → Holds g new (entered (files_of g mid) at.directory k (record { name = at.name; number = n }))
-      → IsHeld g new × (made_in files d path node ≡ Some (record { files = files_of g new; number = n }))
-  made-held {new} holds' =
+  pub made-held : {new : List (List ℕ)} → Holds g new (entered (files_of g mid) at.directory k (record { name = at.name; number = n })) → IsHeld g new × (made_in files d path node ≡ Some (record { files = files_of g new; number = n }))
+  made-held holds' =
       let e : Entry = record { name = at.name; number = n } in
-      let same : files_of g new ≡ entered (put files n node) at.directory k e =
-      files-are g new (entered (files_of g mid) at.directory k e) holds' ∙ ap (λ (fs : Files). entered fs at.directory k e) (files-are g mid (put files n node) now) in (
-        held-again g new (entered (files_of g mid) at.directory k e) holds',
-        made-done (data_blocks_of g.size g.inodes) files d path node empty at gap.spot gap.links gap.places gap.here k gap.room n is gap.free
-            ∙ ap (λ (fs : Files). let made : Made = record { files = fs; number = n } in Some made) (sym same),
-      )
+      held-made (held-step now (λ (fs : Files). entered fs at.directory k e) holds') (λ (fs : Files). let made : Made = record { files = fs; number = n } in Some made)
+      (made-done (data_blocks_of g.size g.inodes) files d path node empty at gap.spot gap.links gap.places gap.here k gap.room n is gap.free)
+
+-- the lowest free number is taken for it
+pub leaf-taken : {g : Geometry} {old mid new : List (List ℕ)} {n : ℕ} {node : Node} (kind major minor : ℕ) → mid ≡ old → fresh kind major minor ≡ node → (free_number (files_of g mid) ≡ Some n) × Holds g new (put (files_of g mid) n (fresh kind major minor))
+    → (free_number (files_of g old) ≡ Some n) × Holds g new (put (files_of g old) n node)
+leaf-taken {g} {old} {mid} {new} {n} {node} kind major minor same is told = subst (λ x. (free_number (files_of g old) ≡ Some n) × Holds g new (put (files_of g old) n x)) is
+    (subst (λ b. (free_number (files_of g b) ≡ Some n) × Holds g new (put (files_of g b) n (fresh kind major minor))) same told)

@@ -1,33 +1,40 @@
 -- Another name: why it is refused, and what the disk holds.
-use Rattle.std.proofs.Common.{◌≡◌, ◌≢◌, ℕ, ◌+◌, ◌<◌, ◌≤◌, Bool, List, None, Option, Some, ap, sym, refl, ◌∙◌, arith, cond, true, false, suc, not, inr}
-use Rattle.std.specs.Prelude.{All, IsSome, is_none, is_some, option_and_then, ◌&&◌}
+use Rattle.std.proofs.Common.{◌≡◌, ◌≢◌, ℕ, ◌+◌, ◌<◌, ◌≤◌, Bool, List, None, Option, Some, ap, sym, refl, ◌∙◌, arith, cond, le_trans, subst, true, false, suc, not, inr}
+use Rattle.std.specs.Prelude.{All, IsSome, Ok, Result, is_none, is_some, option_and_then, ◌&&◌}
 use Rattle.std.proofs.lemmas.Bool.{eq-eqb, false≢true, le-ltb, lt-ltb, ne_eqb}
 use Rattle.std.proofs.lemmas.List.{get_or-set_other}
 use Rattle.std.proofs.lemmas.Option.{none-some, same_Some}
 use Rattle.layout.specs.declared.Geometry.{Geometry}
-use Rattle.layout.specs.Image.{free_blocks, inode_at}
+use Rattle.layout.specs.Image.{inode_at}
 use Rattle.names.specs.Rules.{KeepsTree}
 use Rattle.names.proofs.Naming.{find-used}
-use Rattle.names.proofs.Spots.{spot-parts}
 use Rattle.tree.specs.declared.TreeFault.{TreeFault}
 use Rattle.tree.specs.declared.TreeFault.TheVariants.{Blocks, DeadDir, DotName, Exists, Full, Inodes, IsDir, Links, NotDir, NotEmpty, NotFound}
 use Rattle.tree.specs.declared.TreeFault.TheVariants as fault
+use Rattle.blockdev.specs.declared.DeviceFault.{DeviceFault}
+use Rattle.cache.specs.Disk.{Disk}
 use Rattle.tree.specs.Answers.{Overflows}
-use Rattle.tree.specs.Entering.{HasGap, HasRoom, LacksBlocks, entered, growth, linked_in, room_in}
+use Rattle.tree.specs.Steps.{Reads}
+use Rattle.unixmodel.specs.Manifest.{data_blocks_of}
+use Rattle.tree.specs.Entering.{HasGap, LacksBlocks, Reaches, entered, growth, linked_in, room_in}
 use Rattle.tree.specs.Held.{Holds, IsHeld, files_of}
-use Rattle.imagerules.specs.Places.{IsPlain}
 use Rattle.tree.specs.Lacking.{LacksGap, LacksLinking}
 use Rattle.unixmodel.specs.Counts.{blocks_of}
-use Rattle.unixmodel.specs.Files.{Entry, Files, Node, Spot, blocks_for, change_node, enter, find, is_directory, kind_of, links_of, live_places, lookup, most_links, places_at, put, slot, spot_of, with_links}
+use Rattle.unixmodel.specs.Files.{Entry, Files, Node, Spot, change_node, enter, find, is_directory, kind_of, links_of, live_places, lookup, most_links, places_at, put, slot, spot_of, with_links}
 use Rattle.unixmodel.specs.Files.Node.{Directory}
 use Rattle.unixmodel.specs.NameCalls.{has_room_for_link, is_free_name, linked, linked_node, more_links}
 use Rattle.tree.proofs.Gaps.{lacks-dead, lacks-other, spot-directory}
-use Rattle.tree.proofs.Leaves.{places-of, plain-name}
-use Rattle.tree.proofs.Linking.{links-size}
+use Rattle.tree.proofs.Leaves.{AsksEntry, entry-asked}
+use Rattle.tree.proofs.Linking.{more-blocks}
+use Rattle.tree.proofs.Exits.{held-same}
+use Rattle.tree.proofs.Reading.{read-later, read-same, read-told}
 use Rattle.tree.proofs.Looking.{IsLiveAt, node-of}
 use Rattle.tree.proofs.Rooms.{blocks_of-entered, enter-full, enter-room}
 use Rattle.tree.proofs.Spots.{spot-none}
-use Rattle.tree.proofs.Storing.{blocks_of-set, change-is, files-are, held-again, held-raw, length-held, slot-within, used_by}
+use Rattle.tree.proofs.Storing.{change-is, held-made, held-raw, held-step, slot-within}
+
+pub overflow-none : (limit : ℕ) {made : Option Files} → made ≡ None → Overflows limit made
+overflow-none limit e files h = absurd (none-some files (sym e ∙ h))
 
 module _ (files : Files) (d : ℕ) (old new : List ℕ) where
   pub linked-nothing : find files d old ≡ None → linked_in files d old new ≡ None
@@ -65,15 +72,6 @@ module _ (files : Files) (d : ℕ) (old new : List ℕ) where
       more : change_node files n more_links ≡ put files n (with_links node (links_of node + 1))
       more = change-is files n more_links node here
 
-      pub more-blocks : blocks_of (change_node files n more_links) ≡ blocks_of files
-      more-blocks =
-          let next = with_links node (links_of node + 1) in
-          let b = blocks_of-set files n (Some next) (slot-within files n node here) in
-          let was : used_by (slot files n) ≡ used_by (Some node) = ap used_by here in
-          let same : used_by (Some next) ≡ used_by (Some node) = ap blocks_for (links-size node (links_of node + 1)) in
-          let is = ap blocks_of more in
-          omega arith
-
       -- the directory stays as it is
       pub still-there : (k links : ℕ) (places : List (Option Entry)) → slot files k ≡ Some (Directory links places) → slot (change_node files n more_links) k ≡ Some (Directory links places)
       still-there k links places at =
@@ -110,7 +108,7 @@ module _ (files : Files) (d : ℕ) (old new : List ℕ) where
               ∙ enter-room (change_node files n more_links) at n links places (still-there at.directory (suc links) places stands) k room
 
           pub linked-blocks : blocks_of (entered (change_node files n more_links) at.directory k e) ≡ blocks_of files + growth places k
-          linked-blocks = blocks_of-entered (change_node files n more_links) at.directory (suc links) places (still-there at.directory (suc links) places stands) k e ∙ ap (λ b. b + growth places k) more-blocks
+          linked-blocks = blocks_of-entered (change_node files n more_links) at.directory (suc links) places (still-there at.directory (suc links) places stands) k e ∙ ap (λ b. b + growth places k) (more-blocks files n node here)
 
       module _ (limit : ℕ) (few : has_room_for_link node ≡ true) where
         over-linked : LacksBlocks limit files d new 0 → Overflows limit (linked_in files d old new)
@@ -127,82 +125,96 @@ module _ (files : Files) (d : ℕ) (old new : List ℕ) where
               let count = ap blocks_of is in
               omega arith
 
-        pub over-no : linked_in files d old new ≡ None → Overflows limit (linked_in files d old new)
-        over-no none made h = absurd (none-some made (sym none ∙ h))
-
         pub weaker-link : (told : TreeFault) → told ≢ fault.Device → LacksGap limit files d new 0 told → Overflows limit (linked_in files d old new) × LacksLinking limit files d old new told
-        weaker-link NotFound known why = (over-no (linked-nowhere (spot-none files d new why)), inr why)
-        weaker-link NotDir known why = (over-no (linked-nowhere (lacks-other files d new why)), why)
-        weaker-link Exists known why = (over-no (linked-there few why.at why.spot why.named), why)
-        weaker-link IsDir known why = absurd why
-        weaker-link NotEmpty known why = absurd why
-        weaker-link DotName known why = absurd why
-        weaker-link DeadDir known why = (over-no (linked-nowhere (lacks-dead files d new why)), why)
-        weaker-link Links known why = absurd why
+        weaker-link NotFound known why = (overflow-none limit (linked-nowhere (spot-none files d new why)), inr why)
+        weaker-link NotDir known why = (overflow-none limit (linked-nowhere (lacks-other files d new why)), why)
+        weaker-link Exists known why = (overflow-none limit (linked-there few why.at why.spot why.named), why)
+        weaker-link DeadDir known why = (overflow-none limit (linked-nowhere (lacks-dead files d new why)), why)
         weaker-link Blocks known why = (over-linked why, why)
-        weaker-link Inodes known why = absurd why
-        weaker-link Full known why = (over-no (linked-full few why.at why.spot why.none), why)
+        weaker-link Full known why = (overflow-none limit (linked-full few why.at why.spot why.none), why)
         weaker-link fault.Device known why = absurd (known refl)
+        weaker-link _ known why = absurd why
 
--- ---- an entry in files that changed elsewhere
+-- ---- what is told of the node that the old path reaches, at a disk that is as it was
 
-module _ {g : Geometry} {old mid : List (List ℕ)} {files next : Files} (holds : Holds g old files) (now : Holds g mid next) (blocks : blocks_of next ≡ blocks_of files) (d : ℕ) (path : List ℕ) (at : Spot) (k : ℕ) (gap : HasGap g old files d path 0 at k)
-    (still : slot next at.directory ≡ Some (Directory (suc gap.links) gap.places)) where
-  here-now : slot (files_of g mid) at.directory ≡ Some (Directory (suc gap.links) gap.places)
-  here-now = ap (λ (fs : Files). slot fs at.directory) (files-are g mid next now) ∙ still
-
-  pub next-room : HasRoom (files_of g mid) at.directory k
-  next-room = record { links = suc gap.links; places = gap.places; here = here-now; room = gap.room }
-
-  pub next-fits : (room : HasRoom (files_of g mid) at.directory k) → growth room.places k ≤ free_blocks g mid
-  next-fits room =
-      let same : room.places ≡ gap.places = ap places-of (same_Some (Directory room.links room.places) (Directory (suc gap.links) gap.places) (sym room.here ∙ here-now)) in
-      let before = holds.free in
-      let after = now.free in
-      let fits = gap.fits in
-      let grown : growth room.places k ≡ growth gap.places k = ap (λ ps. growth ps k) same in
-      omega arith
-
-  pub next-plain : All (λ b. b ≢ 0) path → (n : ℕ) (node : Node) → slot files n ≡ Some node → IsPlain (record { name = at.name; number = n })
-  next-plain plain n node here =
-      let long = length-held g old files holds in
-      let most = holds.sound.parts.inodes_high in
-      let high = slot-within files n node here in
-      plain-name at.name n (spot-parts files d path at plain gap.spot).name (omega arith)
-
-pub overflow-none : (limit : ℕ) {made : Option Files} → made ≡ None → Overflows limit made
-overflow-none limit e files h = absurd (none-some files (sym e ∙ h))
-
--- ---- what is told of the node that the old path reaches
-
-pub record IsSeen (files : Files) (d : ℕ) (path : List ℕ) (n kind links : ℕ) : Type 0 where
+pub record IsSeen (g : Geometry) (old now : Disk) (d : ℕ) (path : List ℕ) (n kind links : ℕ) : Type 0 where
   pub node : Node
-  pub found : find files d path ≡ Some n
-  pub here : slot files n ≡ Some node
+  pub found : find (files_of g old.blocks) d path ≡ Some n
+  pub here : slot (files_of g old.blocks) n ≡ Some node
   pub kind-is : kind ≡ kind_of node
   pub links-are : links ≡ links_of node
+  pub same : now.blocks ≡ old.blocks
+  pub later : old.failures ≤ now.failures
 
-pub seen : {g : Geometry} {blocks mid : List (List ℕ)} {files : Files} → Holds g blocks files → KeepsTree files → (d : ℕ) (path : List ℕ) → IsSome (slot files d) → (n : ℕ) (o : Option ℕ) → o ≡ find files d path → o ≡ Some n → mid ≡ blocks
-    → {kind links : ℕ} → kind ≡ (inode_at mid n).kind → links ≡ (inode_at mid n).links → IsSeen files d path n kind links
-seen {g} {blocks} {mid} {files} holds keeps d path used n o told some same k l =
-    let found = sym told ∙ some in
-    let at = node-of (slot files n) (find-used keeps d path n used found) in
-    let raw = held-raw g blocks files holds n at.0 at.1 in
-    record { node = at.0; found = found; here = at.1; kind-is = k ∙ ap (λ b. (inode_at b n).kind) same ∙ raw.kind; links-are = l ∙ ap (λ b. (inode_at b n).links) same ∙ raw.links }
+pub found-node : (g : Geometry) {old mid : Disk} → KeepsTree (files_of g old.blocks) → (d : ℕ) (path : List ℕ) → IsSome (slot (files_of g old.blocks) d) → {r : Result (Option ℕ) DeviceFault} {o : Option ℕ} {n : ℕ}
+    → Reads old mid r (λ m. m ≡ find (files_of g old.blocks) d path) → r ≡ Ok o → o ≡ Some n → (node : Node) × (slot (files_of g old.blocks) n ≡ Some node)
+found-node g {old} keeps d path used {n = n} reads was some = node-of (slot (files_of g old.blocks) n) (find-used keeps d path n used (sym (read-told reads was) ∙ some))
 
-module _ {files : Files} {d : ℕ} {path : List ℕ} {n kind links : ℕ} (s : IsSeen files d path n kind links) where
-  pub seen-directory : kind ≡ 1 → is_directory s.node ≡ true
-  seen-directory e = eq-eqb (kind_of s.node) 1 (sym s.kind-is ∙ e)
+pub seen : {g : Geometry} {old mid : Disk} (now : Disk) (held : IsHeld g old.blocks) → KeepsTree (files_of g old.blocks) → (d : ℕ) (path : List ℕ) → IsSome (slot (files_of g old.blocks) d) → {r : Result (Option ℕ) DeviceFault} {o : Option ℕ} {n : ℕ}
+    → Reads old mid r (λ m. m ≡ find (files_of g old.blocks) d path) → r ≡ Ok o → o ≡ Some n → now.blocks ≡ mid.blocks → mid.failures ≤ now.failures
+    → {kind links : ℕ} → kind ≡ (inode_at mid.blocks n).kind → links ≡ (inode_at mid.blocks n).links → IsSeen g old now d path n kind links
+seen {g} {old} now held keeps d path used {n = n} reads was some kept later k l =
+    let at = found-node g keeps d path used reads was some in
+    let same = read-same reads was in
+    let raw = held-raw g old.blocks (files_of g old.blocks) held n at.0 at.1 in
+    record {
+      node = at.0;
+      found = sym (read-told reads was) ∙ some;
+      here = at.1;
+      kind-is = k ∙ ap (λ b. (inode_at b n).kind) same ∙ raw.kind;
+      links-are = l ∙ ap (λ b. (inode_at b n).links) same ∙ raw.links;
+      same = kept ∙ same;
+      later = le_trans (read-later reads) later;
+    }
 
-  pub seen-other : kind ≢ 1 → is_directory s.node ≡ false
-  seen-other h = ne_eqb (kind_of s.node) 1 (λ e. h (s.kind-is ∙ e))
+module _ {g : Geometry} {old now : Disk} {d : ℕ} {path : List ℕ} {n kind links : ℕ} (held : IsHeld g old.blocks) (s : IsSeen g old now d path n kind links) (new : List ℕ) where
+  abbrev files : Files
+  files = files_of g old.blocks
 
-  pub seen-room : links < 32767 → has_room_for_link s.node ≡ true
-  seen-room h = let e = s.links-are in lt-ltb (links_of s.node) most_links (omega arith)
+  abbrev limit : ℕ
+  limit = data_blocks_of g.size g.inodes
 
--- the disk holds the files with another name
-pub linked-held : {g : Geometry} {mid new : List (List ℕ)} {next : Files} → Holds g mid next → (d k : ℕ) (e : Entry) {made : Option Files} → made ≡ Some (entered next d k e) → Holds g new (entered (files_of g mid) d k e)
-    → IsHeld g new × (made ≡ Some (files_of g new))
-linked-held {g} {mid} {new} {next} now d k e made-is holds =
-    let same : files_of g new ≡ entered next d k e = files-are g new (entered (files_of g mid) d k e) holds ∙ ap (λ (fs : Files). entered fs d k e) (files-are g mid next now) in
-    (held-again g new (entered (files_of g mid) d k e) holds, made-is ∙ ap Some (sym same))
+  pub seen-directory : kind ≡ 1 → Overflows limit (linked_in files d path new) × Reaches files d path (λ node. is_directory node ≡ true)
+  seen-directory e =
+      let is = eq-eqb (kind_of s.node) 1 (sym s.kind-is ∙ e) in
+      (overflow-none limit (linked-directory files d path new n s.node s.found s.here is), record { number = n; node = s.node; found = s.found; here = s.here; is = is })
+
+  module _ (other : kind ≢ 1) where
+    file : is_directory s.node ≡ false
+    file = ne_eqb (kind_of s.node) 1 (λ e. other (s.kind-is ∙ e))
+
+    pub seen-many : 32767 ≤ links → Overflows limit (linked_in files d path new) × Reaches files d path (λ node. most_links ≤ links_of node)
+    seen-many many =
+        let is : most_links ≤ links_of s.node = let e = s.links-are in omega arith in
+        (overflow-none limit (linked-many files d path new n s.node s.found s.here file is), record { number = n; node = s.node; found = s.found; here = s.here; is = is })
+
+    module _ (few : links < 32767) where
+      room : has_room_for_link s.node ≡ true
+      room = let e = s.links-are in lt-ltb (links_of s.node) most_links (omega arith)
+
+      pub seen-weaker : (told : TreeFault) → told ≢ fault.Device → LacksGap limit (files_of g now.blocks) d new 0 told → Overflows limit (linked_in files d path new) × LacksLinking limit files d path new told
+      seen-weaker told known why = weaker-link files d path new n s.node s.found s.here file limit room told known (subst (λ b. LacksGap limit (files_of g b) d new 0 told) s.same why)
+
+      -- the new name has a place
+      module _ {last : List (List ℕ)} {at : Spot} {k : ℕ} (told : HasGap g now.blocks (files_of g now.blocks) d new 0 at k × (last ≡ now.blocks)) where
+        gap : HasGap g old.blocks files d new 0 at k
+        gap = subst (λ b. HasGap g b (files_of g b) d new 0 at k) s.same told.0
+
+        pub link-asked : record { held : IsHeld g last; node : (node : Node) × (slot (files_of g last) n ≡ Some node) × (links_of node < 65535) }
+        link-asked =
+            let same = told.1 ∙ s.same in
+            record { held = held-same same held; node = (s.node, ap (λ b. slot (files_of g b) n) same ∙ s.here, (let e = s.links-are in omega arith)) }
+
+        module _ {mid : List (List ℕ)} (turn : Holds g mid (change_node (files_of g last) n more_links)) where
+          linked-now : Holds g mid (change_node files n more_links)
+          linked-now = subst (λ b. Holds g mid (change_node (files_of g b) n more_links)) (told.1 ∙ s.same) turn
+
+          pub linked-asked : All (λ b. b ≢ 0) new → AsksEntry g mid at k n
+          linked-asked =
+              let blocks = more-blocks files n s.node s.here in
+              entry-asked held linked-now gap (omega arith) (still-there files d path new n s.node s.found s.here file at.directory (suc gap.links) gap.places gap.here) n (slot-within files n s.node s.here)
+
+          pub linked-held : {done : List (List ℕ)} → Holds g done (entered (files_of g mid) at.directory k (record { name = at.name; number = n })) → IsHeld g done × (linked_in files d path new ≡ Some (files_of g done))
+          linked-held h =
+              held-made (held-step linked-now (λ (fs : Files). entered fs at.directory k (record { name = at.name; number = n })) h) Some
+              (linked-done files d path new n s.node s.found s.here file room at gap.spot gap.links gap.places gap.here k gap.room gap.free)

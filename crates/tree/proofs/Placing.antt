@@ -10,20 +10,21 @@ use Rattle.blockdev.specs.Splice.{splice}
 use Rattle.blockdev.specs.declared.DeviceFault.{DeviceFault}
 use Rattle.cache.specs.Disk.{Disk}
 use Rattle.layout.specs.declared.Geometry.{Geometry}
-use Rattle.layout.specs.Image.{IsInode, bytes_of, free_blocks, inode_at, node_with, taken_for}
+use Rattle.layout.specs.Image.{IsInode, bytes_of, free_blocks, taken_for}
 use Rattle.inode.specs.Writing.{IsFull, Wrote}
 use Rattle.tree.specs.Entering.{HasRoom, entered, growth, placed, room_in}
 use Rattle.tree.specs.Held.{FitsPlaces, Holds}
 use Rattle.imagerules.specs.Places.{IsPlain, PlaceFits}
 use Rattle.tree.specs.Steps.{Reads}
 use Rattle.unixmodel.specs.Failures.{HasCause}
-use Rattle.unixmodel.specs.Files.{Entry, Files, Node, blocks_for, place_bytes, put, size_of, slot}
+use Rattle.unixmodel.specs.Files.{Entry, Files, Node, place_bytes, put}
 use Rattle.unixmodel.specs.Files.Node.{Directory}
 use Rattle.tree.proofs.Erasing.{spelling-set, taken-grows}
-use Rattle.tree.proofs.Reading.{HasCause-after, short-bytes}
+use Rattle.balloc.proofs.Exits.{HasCause-after}
+use Rattle.tree.proofs.Reading.{short-bytes}
 use Rattle.tree.proofs.Rooms.{entered-is, growth-behind, room-cases}
 use Rattle.imagerules.proofs.Spelling.{length-place_bytes, length-spelling}
-use Rattle.tree.proofs.Storing.{Holds-put, held-fits, held-inode, held-raw, held-size, slot-within, used_by, whole-node}
+use Rattle.tree.proofs.Storing.{Holds-wrote, held-fits, held-inode, held-raw, held-size}
 
 -- ---- the blocks that an entry takes
 
@@ -148,10 +149,5 @@ module _ (g : Geometry) (old new : List (List ℕ)) (files : Files) (holds : Hol
       let was = held-raw g old files holds d (Directory room.links room.places) room.here in
       let bytes : splice (16 * k) (place_bytes (Some e)) (bytes_of old d) ≡ flat_map place_bytes (placed room.places k e) =
       ap (splice (16 * k) (place_bytes (Some e))) was.bytes ∙ spelling-placed room.places k e (held-fits g old files holds d (Directory room.links room.places) room.here) plain room.room in
-      let long : taken_for (length (splice (16 * k) (place_bytes (Some e)) (bytes_of old d))) ≡ blocks_for (size_of next) = ap taken_for (ap length bytes ∙ whole-node next next-fits) in
-      let used : used_by (slot files d) ≡ taken_for (length (bytes_of old d)) = ap used_by room.here ∙ ap taken_for (sym (room-size holds d k room)) in
-      let balance = wrote.balance in
       subst (Holds g new) (sym (entered-is files d room.links room.places room.here k e))
-      (Holds-put g old new files holds d (node_with (inode_at old d) (splice (16 * k) (place_bytes (Some e)) (bytes_of old d))) next
-      (slot-within files d (Directory room.links room.places) room.here) wrote.sound wrote.nodes
-      (record { kind = was.kind; links = was.links; bytes = bytes; device = tt }) next-fits (omega arith))
+      (Holds-wrote holds room.here wrote next (record { kind = was.kind; links = was.links; bytes = bytes; device = tt }) next-fits)

@@ -1,7 +1,8 @@
 -- What is read of a directory's places.
-use Rattle.std.proofs.Common.{◌≡◌, ℕ, ◌+◌, ◌-◌, ◌*◌, ◌/◌, ◌<◌, ◌≤◌, Bool, List, [], ◌∷◌, None, Option, Some, length, get_or, ap, sym, refl, ◌∙◌, arith, subst, cond, true, false, zero, suc}
+use Rattle.std.proofs.Common.{◌≡◌, ℕ, ◌+◌, ◌-◌, ◌*◌, ◌/◌, ◌<◌, ◌≤◌, Bool, List, [], ◌∷◌, None, Option, Some, length, get_or, ap, sym, refl, ◌∙◌, arith, le_trans, subst, cond, true, false, zero, suc}
 use Rattle.std.specs.Prelude.{Err, IfOk, Ok, OnOk, Result, drop, nat_lt, option_and_then, position, ◌==◌}
-use Rattle.std.specs.Result.{is_err}
+use Rattle.std.specs.Result.{IsErrAnd}
+use Rattle.balloc.proofs.Exits.{HasCause-failed, told_err}
 use Rattle.std.specs.List.{list_all, position_or_len}
 use Rattle.std.proofs.lemmas.Bool.{cond-false, cond-true, false≢true, le-ltb, lt-ltb, ne_eqb}
 use Rattle.std.proofs.lemmas.List.{get_or-drop, length-drop}
@@ -18,7 +19,7 @@ use Rattle.tree.specs.declared.place.Found.{Found}
 use Rattle.tree.specs.Names.{found_at, found_in, is_bare}
 use Rattle.imagerules.specs.Places.{place_of_bytes, places_in, without_zeros}
 use Rattle.tree.specs.Steps.{Reads}
-use Rattle.unixmodel.specs.Failures.{HasCause, Rises}
+use Rattle.unixmodel.specs.Failures.{Rises}
 use Rattle.unixmodel.specs.Files.{Entry, has_name, slot, taken}
 use Rattle.unixmodel.specs.Numbers.{number_at}
 use Rattle.imagerules.proofs.Spelling.{slot-places_in}
@@ -48,12 +49,6 @@ pub found-none : (places : List (Option Entry)) (name : List ℕ) (n : ℕ) → 
 unfolding found_in
 found-none places name n past none = ap (option_and_then (λ k. found_at k (slot places k))) (position-none (has_name name) places n None past none)
 
--- ---- a place's bytes
-
-module _ (bytes place : List ℕ) (k : ℕ) (within : k < length bytes / 16) (is : place ≡ part (16 * k) 16 bytes) where
-  pub place-is : slot (places_in bytes) k ≡ place_of_bytes place
-  place-is = slot-places_in bytes k within ∙ ap place_of_bytes (sym is)
-
 -- ---- a directory without names
 
 none-taken : (os : List (Option Entry)) → ((k : ℕ) → k < length os → slot os k ≡ None) → taken os ≡ []
@@ -70,9 +65,9 @@ some-taken (None ∷ os) (suc k) e h = some-taken os k e h
 slot-drop : (os : List (Option Entry)) (k : ℕ) → slot (drop 2 os) k ≡ slot os (2 + k)
 slot-drop os k = get_or-drop 2 os k None
 
-pub bare-yes : (places : List (Option Entry)) (n : ℕ) → length places ≤ n → ((k : ℕ) → 2 ≤ k → k < n → slot places k ≡ None) → is_bare places ≡ true
+pub bare-yes : (places : List (Option Entry)) (n : ℕ) → length places ≤ n → ((k : ℕ) → k < n → 2 ≤ k → slot places k ≡ None) → is_bare places ≡ true
 bare-yes places n past none =
-    ap (λ (es : List Entry). length es == 0) (none-taken (drop 2 places) (λ k l. slot-drop places k ∙ none (2 + k) (omega arith) (omega (arith, length-drop 2 places))))
+    ap (λ (es : List Entry). length es == 0) (none-taken (drop 2 places) (λ k l. slot-drop places k ∙ none (2 + k) (omega (arith, length-drop 2 places)) (omega arith)))
 
 pub bare-no : (places : List (Option Entry)) (k : ℕ) (e : Entry) → 2 ≤ k → slot places k ≡ Some e → is_bare places ≡ false
 bare-no places k e low here =
@@ -101,28 +96,33 @@ named-place bytes name k n has is = go (list_all (λ b. b == 0) bytes) refl wher
 pub Rises-before : {a b c : ℕ} → a ≤ b → Rises b c → Rises a c
 Rises-before {a} {b} {c} h f = omega arith
 
-pub HasCause-after : {T E : Type 0} {a b c : ℕ} {r : Result T E} → a ≤ b → HasCause b c r → HasCause a c r
-HasCause-after {a = a} {b} {c} h cause = record { later = let l = cause.later in omega arith; failed = λ e. Rises-before h (cause.failed e) }
-
 module _ {T : Type 0} {Told : T → Type 0} {old new : Disk} {r : Result T DeviceFault} (read : Reads old new r Told) where
-  pub read-told : (x : T) → r ≡ Ok x → Told x
-  read-told x e = subst (λ (q : Result T DeviceFault). IfOk q Told) e read.told
+  pub read-told : {x : T} → r ≡ Ok x → Told x
+  read-told e = subst (λ (q : Result T DeviceFault). IfOk q Told) e read.told
 
-  pub read-same : (x : T) → r ≡ Ok x → new.blocks ≡ old.blocks
-  read-same x e = subst (λ (q : Result T DeviceFault). OnOk q (new.blocks ≡ old.blocks)) e read.same
+  pub read-same : {x : T} → r ≡ Ok x → new.blocks ≡ old.blocks
+  read-same e = subst (λ (q : Result T DeviceFault). OnOk q (new.blocks ≡ old.blocks)) e read.same
 
   pub read-later : old.failures ≤ new.failures
   read-later = read.cause.later
 
+-- what a place is, by the bytes that were read of it
+pub place-told : (blocks : List (List ℕ)) (d : ℕ) {mid new : Disk} {k size : ℕ} {r : Result (List ℕ) DeviceFault} {x : List ℕ} → Reads mid new r (λ place. place ≡ part (16 * k) 16 (bytes_of mid.blocks d)) → r ≡ Ok x → mid.blocks ≡ blocks
+    → size ≡ length (bytes_of blocks d) → k < size / 16 → slot (places_in (bytes_of blocks d)) k ≡ place_of_bytes x
+place-told blocks d {k = k} read is same size within =
+    slot-places_in (bytes_of blocks d) k (omega arith) ∙ ap place_of_bytes (sym (read-told read is ∙ ap (λ b. part (16 * k) 16 (bytes_of b d)) same))
+
 -- a read fails, where those before it left the disk as it was
 pub Reads-fails : {T U : Type 0} {Told : T → Type 0} {Also : U → Type 0} {old mid new : Disk} {r : Result T DeviceFault} {s : Result U DeviceFault} {e f : DeviceFault}
-    → Reads mid new r Told → mid.blocks ≡ old.blocks → old.failures ≤ mid.failures → r ≡ Err e → s ≡ Err f → Reads old new s Also
-Reads-fails {old = old} {mid} {new} {r} read same later is told = record {
-  told = rw told tt;
-  same = rw told tt;
-  count = read.count ∙ ap length same;
-  cause = record { later = let l = read.cause.later in omega arith; failed = λ _. Rises-before later (read.cause.failed (ap is_err is)) };
-}
+    → Reads mid new r Told → mid.blocks ≡ old.blocks → old.failures ≤ mid.failures → r ≡ Err e → IsErrAnd s (λ x. x ≡ f) → Reads old new s Also
+Reads-fails {s = s} read same later is told =
+    let err = told_err s told in
+    record { told = rw err tt; same = rw err tt; count = read.count ∙ ap length same; cause = HasCause-failed later read.cause is }
 
 pub Reads-good : {T : Type 0} {Told : T → Type 0} {old new : Disk} (x : T) → new.blocks ≡ old.blocks → old.failures ≤ new.failures → Told x → Reads old new (Ok x) Told
 Reads-good x same later told = record { told = told; same = same; count = ap length same; cause = record { later = later; failed = λ e. cc } }
+
+-- a value comes of a read, where those before it left the disk as it was
+pub Reads-then : {T U : Type 0} {Told : T → Type 0} {Also : U → Type 0} {old mid new : Disk} {r : Result T DeviceFault} {x : T}
+    → Reads mid new r Told → r ≡ Ok x → mid.blocks ≡ old.blocks → old.failures ≤ mid.failures → (y : U) → Also y → Reads old new (Ok y) Also
+Reads-then read is same later y also = Reads-good y (read-same read is ∙ same) (le_trans later (read-later read)) also

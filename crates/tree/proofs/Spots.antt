@@ -60,13 +60,6 @@ module _ {g : Geometry} {blocks : List (List ℕ)} {files : Files} (holds : Hold
 pub spot-lacks : (limit : ℕ) (files : Files) (d : ℕ) (path : List ℕ) (more : ℕ) (told : TreeFault) → LacksSpot files d path told → LacksGap limit files d path more told
 spot-lacks limit files d path more NotFound why = why
 spot-lacks limit files d path more NotDir why = why
-spot-lacks limit files d path more Exists why = absurd why
-spot-lacks limit files d path more IsDir why = absurd why
-spot-lacks limit files d path more NotEmpty why = absurd why
-spot-lacks limit files d path more DotName why = absurd why
 spot-lacks limit files d path more DeadDir why = why
-spot-lacks limit files d path more Links why = absurd why
-spot-lacks limit files d path more Blocks why = absurd why
-spot-lacks limit files d path more Inodes why = absurd why
-spot-lacks limit files d path more Full why = absurd why
 spot-lacks limit files d path more fault.Device why = tt
+spot-lacks limit files d path more _ why = absurd why

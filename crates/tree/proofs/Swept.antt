@@ -1,7 +1,7 @@
 -- All nodes without links go, one number after the other.
 use Rattle.std.proofs.Common.{◌≡◌, ◌≢◌, ℕ, ◌+◌, ◌<◌, ◌≤◌, Bool, List, [], None, Option, Some, Result, cond, false, length, replicate, ap, sym, subst, refl, ◌∙◌, arith, inl, inr}
 use Rattle.std.specs.Prelude.{Err, Ok, nat_lt}
-use Rattle.std.specs.Result.{is_err}
+use Rattle.std.specs.Result.{IsErrAnd, is_err}
 use Rattle.std.proofs.lemmas.Bool.{cases_eq, lt-ltb}
 use Rattle.std.proofs.lemmas.List.{ext_get_or, get_or-set_other, get_or-set_same}
 use Rattle.blockdev.specs.declared.DeviceFault.{DeviceFault}
@@ -12,7 +12,7 @@ use Rattle.layout.specs.declared.Geometry.{Geometry}
 use Rattle.names.proofs.Quiet.{kept-gone, kept-here, kept-none, length-kept}
 use Rattle.tree.proofs.Letting.{let-go-clear, let-go-linked}
 use Rattle.tree.proofs.Linking.{turned}
-use Rattle.tree.proofs.Reading.{Rises-before}
+use Rattle.tree.proofs.Exits.{Turns-broken, Turns-good}
 use Rattle.tree.proofs.Serving.{tells-any, tree, turns-serves}
 use Rattle.tree.proofs.Storing.{files-are, held-again, length-held, slot-within}
 use Rattle.tree.specs.Held.{Holds, IsHeld, files_of}
@@ -77,11 +77,7 @@ module _ {g : Geometry} {blocks : List (List ℕ)} (held : IsHeld g blocks) (n :
 
 -- the disk stays, with the files that it holds
 pub turns-same : {g : Geometry} {old new : Disk} {files : Files} → IsHeld g old.blocks → new.blocks ≡ old.blocks → length new.blocks ≡ length old.blocks → old.failures ≤ new.failures → files ≡ files_of g old.blocks → Turns {T = Unit {0}} g old new (Ok tt) files
-turns-same {g} {old} {new} {files} held same count later are = record {
-  holds = subst (λ b. Holds g b files) (sym same) (subst (Holds g old.blocks) (sym are) held);
-  count = count;
-  cause = record { later = later; failed = λ e. cc };
-}
+turns-same {g} {old} {files = files} held same count later are = Turns-good count (subst (λ b. Holds g b files) (sym same) (subst (Holds g old.blocks) (sym are) held)) later
 
 -- ---- all of them
 
@@ -98,10 +94,10 @@ swept-none g disk held = record { held = held; below = λ n l. absurd (omega (ar
 
 module _ {g : Geometry} {old now : Disk} {i : ℕ} (is : IsSwept g old now i) where
   -- one number more
-  pub swept-more : {T : Type 0} {new : Disk} {r : Result T DeviceFault} → Turns g now new r (let_go [] (files_of g now.blocks) i) → (x : T) → r ≡ Ok x → IsSwept g old new (i + 1)
-  swept-more {T} {new} {r} turns x e =
+  pub swept-more : {T : Type 0} {new : Disk} {r : Result T DeviceFault} → Turns g now new r (let_go [] (files_of g now.blocks) i) → {x : T} → r ≡ Ok x → IsSwept g old new (i + 1)
+  swept-more {T} {new} {r} turns e =
       let files = files_of g now.blocks in
-      let holds = turned turns x e in
+      let holds = turned turns e in
       let are : files_of g new.blocks ≡ let_go [] files i = files-are g new.blocks (let_go [] files i) holds in
       record {
         held = held-again g new.blocks (let_go [] files i) holds;
@@ -115,12 +111,8 @@ module _ {g : Geometry} {old now : Disk} {i : ℕ} (is : IsSwept g old now i) wh
       }
 
   -- an access failed
-  pub swept-fails : {T U : Type 0} {new : Disk} {r : Result T DeviceFault} {s : Result U DeviceFault} {e f : DeviceFault} {files goal : Files} → Turns g now new r files → r ≡ Err e → s ≡ Err f → Turns g old new s goal
-  swept-fails {s = s} turns failed told = record {
-    holds = rw told tt;
-    count = turns.count ∙ is.count;
-    cause = record { later = omega (arith, turns.cause.later, is.later); failed = λ _. Rises-before is.later (turns.cause.failed (ap is_err failed)) };
-  }
+  pub swept-fails : {T U : Type 0} {new : Disk} {r : Result T DeviceFault} {s : Result U DeviceFault} {e f : DeviceFault} {files goal : Files} → Turns g now new r files → r ≡ Err e → IsErrAnd s (λ x. x ≡ f) → Turns g old new s goal
+  swept-fails turns failed told = Turns-broken (turns.count ∙ is.count) is.later turns.cause failed told
 
   -- no number is left
   pub swept-all : IsHeld g old.blocks → g.inodes ≤ i → Turns {T = Unit {0}} g old now (Ok tt) (unheld (files_of g old.blocks))
@@ -129,11 +121,7 @@ module _ {g : Geometry} {old now : Disk} {i : ℕ} (is : IsSwept g old now i) wh
       let after = length-held g now.blocks (files_of g now.blocks) is.held in
       let same : files_of g now.blocks ≡ unheld (files_of g old.blocks) =
       ext_get_or None (files_of g now.blocks) (unheld (files_of g old.blocks)) (after ∙ sym before ∙ sym (length-kept is_linked 0 (files_of g old.blocks))) (λ n l. is.below n (omega (arith, l, after, all))) in
-      record {
-        holds = subst (Holds g now.blocks) same is.held;
-        count = is.count;
-        cause = record { later = is.later; failed = λ e. cc };
-      }
+      Turns-good is.count (subst (Holds g now.blocks) same is.held) is.later
 
 -- and nobody holds any of them
 pub swept-serves : (g : Geometry) (d d' : Disk) (before after : List ℕ) (f b : Bool) (r : Result (Unit {0}) DeviceFault) → f ≡ false → after ≡ replicate (length before) 0 → Turns g d d' r (unheld (files_of g d.blocks)) → b ≡ is_err r

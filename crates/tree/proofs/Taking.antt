@@ -1,21 +1,21 @@
 -- The lowest free number is taken for a node without bytes.
-use Rattle.std.proofs.Common.{◌≡◌, ◌≢◌, ℕ, ◌+◌, ◌-◌, ◌<◌, ◌≤◌, List, None, Option, Some, length, get_or, drop, set, ap, sym, refl, ◌∙◌, arith, subst, true, false, zero, suc}
-use Rattle.std.specs.Prelude.{is_none, option_map, position, ◌==◌, ◌||◌}
-use Rattle.std.proofs.lemmas.Bool.{cond-false, false≢true, ne_eqb, or_from}
-use Rattle.std.proofs.lemmas.List.{get_or-drop, length-drop}
-use Rattle.std.proofs.lemmas.List.Quantifiers.{position-Some}
-use Rattle.std.proofs.lemmas.Option.{none-some, same_Some}
+use Rattle.std.proofs.Common.{◌≡◌, ◌≢◌, ℕ, ◌+◌, ◌-◌, ◌<◌, ◌≤◌, List, None, Option, Some, length, get_or, drop, set, ap, sym, refl, ◌∙◌, arith, subst, false, zero, suc}
+use Rattle.std.specs.Prelude.{is_none, option_map, ◌==◌, ◌||◌}
+use Rattle.std.proofs.lemmas.Bool.{cond-false, ne_eqb, or_from}
+use Rattle.std.proofs.lemmas.List.{get_or-drop, get_or-set_other, length-drop}
+use Rattle.std.proofs.lemmas.Option.{none-some}
 use Rattle.balloc.specs.Inodes.{IsLowestUnused, fresh_node}
 use Rattle.layout.specs.declared.Geometry.{Geometry}
 use Rattle.layout.proofs.Frame.{get_or-nodes_of}
 use Rattle.layout.specs.Image.{bytes_of, free_blocks, inode_at, node_at, node_with, nodes_of}
 use Rattle.layout.specs.Sound.{IsSound}
+use Rattle.names.proofs.Finding.{IsFree, free-number}
 use Rattle.tree.specs.Entering.{fresh}
 use Rattle.tree.specs.Held.{Agrees, FitsPlaces, Holds, IsRaw}
 use Rattle.unixmodel.specs.Counts.{blocks_of}
 use Rattle.unixmodel.specs.Files.{Files, Node, blocks_for, free_number, put, size_of, slot}
 use Rattle.tree.proofs.Reading.{position-at, position-none}
-use Rattle.tree.proofs.Storing.{Holds-put, blocks_of-set, held-inode, length-held, used_by}
+use Rattle.tree.proofs.Storing.{Holds-set, blocks_of-set, held-inode, length-held, used_by}
 
 -- ---- the lowest free number
 
@@ -62,39 +62,17 @@ module _ (g : Geometry) (blocks : List (List ℕ)) (files : Files) (holds : Hold
       ap (option_map suc) (position-none is_none (drop 1 files) (length (drop 1 files)) None (omega arith)
       (λ k l. ap is_none (drop-slot files k) ∙ used-slot (1 + k) (omega arith) (omega (arith, length-drop 1 files)) (all (1 + k) (omega arith) (omega (arith, length-drop 1 files)))))
 
--- what a free number is
-pub record IsFreeNumber (files : Files) (n : ℕ) : Type 0 where
-  pub low : 1 ≤ n
-  pub high : n < length files
-  pub free : slot files n ≡ None
-
-pub free-number : (files : Files) (n : ℕ) → free_number files ≡ Some n → IsFreeNumber files n
-unfolding free_number
-free-number files n h = go (position is_none (drop 1 files)) refl h where
-  none-is : (o : Option Node) → is_none o ≡ true → o ≡ None
-  none-is None e = refl
-  none-is (Some node) e = absurd (false≢true e)
-
-  go : (o : Option ℕ) → position is_none (drop 1 files) ≡ o → option_map suc o ≡ Some n → IsFreeNumber files n
-  go None at q = absurd (none-some n q)
-  go (Some k) at q =
-      let s = position-Some is_none (drop 1 files) k None at in
-      let high = s.0 in
-      let is : suc k ≡ n = same_Some (suc k) n q in
-      let one : 1 + k ≡ n = omega arith in
-      record { low = omega arith; high = omega (arith, length-drop 1 files); free = ap (slot files) (sym one) ∙ sym (drop-slot files k) ∙ none-is (slot (drop 1 files) k) s.1 }
+-- a node stays as it is while another comes
+pub still-here : {files : Files} {n : ℕ} → IsFree files n → (node : Node) (k : ℕ) {x : Node} → slot files k ≡ Some x → slot (put files n node) k ≡ Some x
+still-here {files} {n} number node k {x} here = get_or-set_other files n k (Some node) None (λ e. none-some x (sym number.free ∙ ap (slot files) (sym e) ∙ here)) ∙ here
 
 -- ---- a node without bytes
 
 fresh-raw : (kind major minor : ℕ) → 1 ≤ kind → kind ≤ 3 → IsRaw (fresh_node kind major minor 1) (fresh kind major minor) × FitsPlaces (Some (fresh kind major minor)) × (size_of (fresh kind major minor) ≡ 0)
-fresh-raw zero major minor low high = absurd (omega arith)
 fresh-raw (suc zero) major minor low high = (record { kind = refl; links = refl; bytes = refl; device = tt }, λ k d l. absurd (omega arith), refl)
 fresh-raw (suc (suc zero)) major minor low high = (record { kind = refl; links = refl; bytes = refl; device = tt }, tt, refl)
 fresh-raw (suc (suc (suc zero))) major minor low high = (record { kind = refl; links = refl; bytes = refl; device = (refl, refl) }, tt, refl)
-fresh-raw (suc (suc (suc (suc k)))) major minor low high = absurd (omega arith)
-
-pub fresh-size : (kind major minor : ℕ) → 1 ≤ kind → kind ≤ 3 → size_of (fresh kind major minor) ≡ 0
-fresh-size kind major minor low high = (fresh-raw kind major minor low high).2
+fresh-raw _ major minor low high = absurd (omega arith)
 
 -- what take_inode ensures
 pub Holds-fresh : (g : Geometry) (old new : List (List ℕ)) (files : Files) → Holds g old files → (kind major minor n : ℕ) → 1 ≤ kind → kind ≤ 3 → free_number files ≡ Some n
@@ -104,12 +82,12 @@ Holds-fresh g old new files holds kind major minor n low high is sound nodes fre
     let raw = fresh-raw kind major minor low high in
     let none : used_by (slot files n) ≡ 0 = ap used_by number.free in
     let small : blocks_for (size_of (fresh kind major minor)) ≡ 0 = ap blocks_for raw.2 in
-    Holds-put g old new files holds n (fresh_node kind major minor 1) (fresh kind major minor) number.high sound nodes raw.0 raw.1 (omega arith)
+    Holds-set holds n (Some (fresh_node kind major minor 1)) (Some (fresh kind major minor)) number.within sound nodes raw.0 raw.1 (omega arith)
 
 -- the blocks that are free stay free
-pub fresh-blocks : (files : Files) (n : ℕ) (node : Node) → IsFreeNumber files n → size_of node ≡ 0 → blocks_of (put files n node) ≡ blocks_of files
+pub fresh-blocks : (files : Files) (n : ℕ) (node : Node) → IsFree files n → size_of node ≡ 0 → blocks_of (put files n node) ≡ blocks_of files
 fresh-blocks files n node number empty =
-    let b = blocks_of-set files n (Some node) number.high in
+    let b = blocks_of-set files n (Some node) number.within in
     let none : used_by (slot files n) ≡ 0 = ap used_by number.free in
     let small : used_by (Some node) ≡ 0 = ap blocks_for empty in
     omega arith

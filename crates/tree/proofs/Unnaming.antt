@@ -18,12 +18,13 @@ use Rattle.tree.specs.Unlinks.{IsNaming, IsUnlinked, Unlinks, unlinked_in}
 use Rattle.tree.specs.Unlinks as unlinks
 use Rattle.unixmodel.specs.Files.{Files, Spot, lookup, slot, spot_of}
 use Rattle.unixmodel.specs.NameCalls.{unlinked}
-use Rattle.tree.proofs.Answering.{err-is, told-err}
+use Rattle.balloc.proofs.Exits.{told_err}
+use Rattle.tree.proofs.Answering.{err-is}
 use Rattle.tree.proofs.Gaps.{lacks-dead, lacks-other, spot-directory}
 use Rattle.tree.proofs.Linking.{some-node}
 use Rattle.tree.proofs.Reading.{Rises-before}
 use Rattle.tree.proofs.Spots.{spot-none}
-use Rattle.tree.proofs.Storing.{files-are, held-again, length-held, slot-within}
+use Rattle.tree.proofs.Storing.{files-are, held-again, held-made, held-step, length-held, slot-within}
 
 -- the definitions make nothing, and this is why
 abbrev pub Refuses : List ℕ → Files → ℕ → List ℕ → TreeFault → Type 0
@@ -37,16 +38,9 @@ module _ (holds : List ℕ) (files : Files) (d : ℕ) (path : List ℕ) where
   pub without-spot : (told : TreeFault) → told ≢ fault.Device → LacksSpot files d path told → Refuses holds files d path told
   without-spot NotFound known why = (nowhere (spot-none files d path why), inl why)
   without-spot NotDir known why = (nowhere (lacks-other files d path why), why)
-  without-spot Exists known why = absurd why
-  without-spot IsDir known why = absurd why
-  without-spot NotEmpty known why = absurd why
-  without-spot DotName known why = absurd why
   without-spot DeadDir known why = (nowhere (lacks-dead files d path why), why)
-  without-spot Links known why = absurd why
-  without-spot Blocks known why = absurd why
-  without-spot Inodes known why = absurd why
-  without-spot Full known why = absurd why
   without-spot fault.Device known why = absurd (known refl)
+  without-spot _ known why = absurd why
 
   module _ (at : Spot) (spot : spot_of files d path ≡ Some at) where
     in-is : unlinked_in holds files d path ≡ option_and_then (λ n. option_map (λ less. let_go holds less n) (unlinked files at)) (lookup files at.directory at.name)
@@ -78,24 +72,17 @@ spot-refused g old new holds files are d path at spot = go where
 
   go : (told : TreeFault) → told ≢ fault.Device → Unlinks g old new at (Err told) → (new.blocks ≡ old.blocks) × Refuses holds files d path told
   go NotFound known h = (h.0.same, (none h.0.none, inr (record { at = at; spot = spot; is = ap (λ (fs : Files). lookup fs at.directory at.name) (sym are) ∙ h.1 })))
-  go NotDir known h = absurd h
-  go Exists known h = absurd h
-  go IsDir known h = absurd h
   go NotEmpty known h = (h.0.same, (none h.0.none, record { at = at; spot = spot; is = subst (λ (fs : Files). unlinks.IsBusy fs at) are h.1 }))
   go DotName known h = (h.0.same, (none h.0.none, record { at = at; spot = spot; is = h.1 }))
-  go DeadDir known h = absurd h
-  go Links known h = absurd h
-  go Blocks known h = absurd h
-  go Inodes known h = absurd h
-  go Full known h = absurd h
   go fault.Device known h = absurd (known refl)
+  go _ known h = absurd h
 
 -- no name goes, behind a look for the spot that left the disk as it was
 pub spot-answers : (g : Geometry) (old mid new : Disk) (holds : List ℕ) (d : ℕ) (path : List ℕ) (at : Spot) → spot_of (files_of g old.blocks) d path ≡ Some at → mid.blocks ≡ old.blocks → old.failures ≤ mid.failures
     → length new.blocks ≡ length mid.blocks → mid.failures ≤ new.failures → (told : TreeFault) → Unlinks g mid new at (Err told) → {T : Type 0} {Done : T → Type 0} {result : Result T TreeFault} → IsErrAnd result (λ f. f ≡ told)
     → Answers old new result Done (unlinked_in holds (files_of g old.blocks) d path ≡ None) (LacksUnlinking (files_of g old.blocks) d path)
 spot-answers g old mid new holds d path at spot same later count after told gives {T} {Done} {result} is =
-    subst (λ q. Answers old new q Done (unlinked_in holds (files_of g old.blocks) d path ≡ None) (LacksUnlinking (files_of g old.blocks) d path)) (sym (told-err result is)) (record {
+    subst (λ q. Answers old new q Done (unlinked_in holds (files_of g old.blocks) d path ≡ None) (LacksUnlinking (files_of g old.blocks) d path)) (sym (told_err result is)) (record {
       done = tt;
       refused = λ known.
           let no = spot-refused g mid new holds (files_of g old.blocks) (ap (files_of g) same) d path at spot told known gives in
@@ -124,7 +111,5 @@ module _ {g : Geometry} {old new : List (List ℕ)} {at : Spot} {n : ℕ} (u : I
   pub gone-done : {before last : List (List ℕ)} (holds : List ℕ) (d : ℕ) (path : List ℕ) → old ≡ before → spot_of (files_of g before) d path ≡ Some at → Holds g last (let_go holds (files_of g new) n)
       → IsHeld g last × (unlinked_in holds (files_of g before) d path ≡ Some (files_of g last))
   gone-done {before} {last} holds d path same spot now =
-      let are : files_of g last ≡ let_go holds u.files n = files-are g last (let_go holds (files_of g new) n) now ∙ ap (λ (fs : Files). let_go holds fs n) (files-are g new u.files u.holds) in (
-        held-again g last (let_go holds (files_of g new) n) now,
-        gone-name holds (files_of g before) d path at spot n u.files (ap (λ b. lookup (files_of g b) at.directory at.name) (sym same) ∙ u.named) (ap (λ b. unlinked (files_of g b) at) (sym same) ∙ u.made) ∙ ap Some (sym are),
-      )
+      held-made (held-step u.holds (λ fs. let_go holds fs n) now) Some
+      (gone-name holds (files_of g before) d path at spot n u.files (ap (λ b. lookup (files_of g b) at.directory at.name) (sym same) ∙ u.named) (ap (λ b. unlinked (files_of g b) at) (sym same) ∙ u.made))

@@ -1,8 +1,7 @@
-use Rattle.std.proofs.Common.{arith, refl, le_refl, le_trans}
+use Rattle.std.proofs.Common.{arith, refl, le_refl}
 use Rattle.tree.proofs.Placing.{enough-reads, room-inode}
 use Rattle.tree.proofs.Reading.{short-bytes}
 use Rattle.tree.proofs.Exits.{Reads-broken, sound-same}
-use Rattle.std.proofs.lemmas.Result.{err_from_is_err_and}
 use Rattle.tree.proofs.entering.has_room.Goals as goal
 
 pub stat-requires : goal.stat-requires
@@ -23,7 +22,7 @@ returns g c = enough-reads c.requires.held c.args.directory c.args.place c.args.
     c.has_blocks.result c.has_blocks.ensures.told c.has_blocks.ensures.same c.has_blocks.ensures.count c.has_blocks.ensures.cause
 
 pub returns-in_err-node : goal.returns-in_err-node
-returns-in_err-node g c = Reads-broken c.stat.ensures.count (le_refl _) c.stat.ensures.cause c.in_err-node.was (err_from_is_err_and c.from_residual.result c.from_residual.ensures.1).1
+returns-in_err-node g c = Reads-broken c.stat.ensures.count (le_refl _) c.stat.ensures.cause c.in_err-node.was c.from_residual.ensures.1
 
 pub has_blocks-requires : goal.has_blocks-requires
 has_blocks-requires g c = (sound-same c.in_ok-node.ensures.same c.requires.held.sound).parts

@@ -1,4 +1,4 @@
-use Rattle.std.proofs.Common.{Err, Some, ap, arith, length, subst, ◌*◌, ◌∙◌, le_refl}
+use Rattle.std.proofs.Common.{Err, Some, ap, arith, length, subst, ◌*◌, ◌∙◌}
 use Rattle.blockdev.specs.Splice.{splice}
 use Rattle.inode.specs.Writing.{IsFull, Wrote}
 use Rattle.layout.specs.Image.{bytes_of}

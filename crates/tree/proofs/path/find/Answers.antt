@@ -1,5 +1,4 @@
-use Rattle.std.proofs.Common.{◌≡◌, Some, ap, arith, refl, sym, ◌∙◌, le_refl, le_trans, None}
-use Rattle.std.proofs.lemmas.Result.{err_from_is_err_and}
+use Rattle.std.proofs.Common.{◌≡◌, Some, ap, arith, refl, sym, ◌∙◌, le_trans, None}
 use Rattle.names.proofs.Naming.{lookup-used}
 use Rattle.tree.specs.Held.{files_of}
 use Rattle.unixmodel.specs.Files.{lookup, parts, follow}
@@ -19,9 +18,7 @@ name-init g c =
     }
 
 pub returns-in_err-next : goal.returns-in_err-next
-returns-in_err-next g c =
-    Reads-fails c.lookup.ensures c.name.invariant.same c.name.invariant.failures c.in_err-next.was
-    (err_from_is_err_and c.from_residual.result c.from_residual.ensures.1).1
+returns-in_err-next g c = Reads-fails c.lookup.ensures c.name.invariant.same c.name.invariant.failures c.in_err-next.was c.from_residual.ensures.1
 
 pub name-preserved : goal.name-preserved
 name-preserved g c =
@@ -29,9 +26,9 @@ name-preserved g c =
     let i = c.name.invariant in
     let name = c.in-Some.name.now in
     let found : lookup files c.name.number name ≡ Some c.in-Some-2.next =
-    sym (sym c.in-Some-2.is ∙ read-told c.lookup.ensures c.in_ok-next.field-0 c.in_ok-next.was ∙ ap (λ b. lookup (files_of c.args.geometry b) c.name.number name) i.same) in
+    sym (sym c.in-Some-2.is ∙ read-told c.lookup.ensures c.in_ok-next.was ∙ ap (λ b. lookup (files_of c.args.geometry b) c.name.number name) i.same) in
     record {
-      same = read-same c.lookup.ensures c.in_ok-next.field-0 c.in_ok-next.was ∙ i.same;
+      same = read-same c.lookup.ensures c.in_ok-next.was ∙ i.same;
       failures = let f = read-later c.lookup.ensures in let h = i.failures in omega arith;
       used = lookup-used c.requires.rules c.name.number name c.in-Some-2.next found;
       rest = sym (follow-next files c.name.number c.in-Some-2.next (parts c.name.rest.now) name (parts c.in-Some.after.now) c.in-Some.ensures.some found) ∙ i.rest;
@@ -48,8 +45,8 @@ returns-in_default-2 g c =
     let i = c.name.invariant in
     let name = c.in-Some.name.now in
     let none : lookup files c.name.number name ≡ None =
-    sym (sym c.in_default-2.is ∙ read-told c.lookup.ensures c.in_ok-next.field-0 c.in_ok-next.was ∙ ap (λ b. lookup (files_of c.args.geometry b) c.name.number name) i.same) in
-    Reads-good _ (read-same c.lookup.ensures c.in_ok-next.field-0 c.in_ok-next.was ∙ i.same) (le_trans i.failures (read-later c.lookup.ensures))
+    sym (sym c.in_default-2.is ∙ read-told c.lookup.ensures c.in_ok-next.was ∙ ap (λ b. lookup (files_of c.args.geometry b) c.name.number name) i.same) in
+    Reads-good _ (read-same c.lookup.ensures c.in_ok-next.was ∙ i.same) (le_trans i.failures (read-later c.lookup.ensures))
     (sym (follow-none files c.name.number (parts c.name.rest.now) name (parts c.in-Some.after.now) c.in-Some.ensures.some none) ∙ i.rest)
 
 pub name-smaller : goal.name-smaller

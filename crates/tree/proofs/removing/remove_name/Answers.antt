@@ -25,8 +25,8 @@ returns-in_default-clause-gives g c =
     let files = files_of c.args.geometry c.args.disk.now.blocks in
     let missing : found_in c.requires.naming.places c.args.name.now ≡ None =
     ap (λ p. found_in p c.args.name.now) (sym (naming-places c.args.geometry c.args.disk.now.blocks files c.requires.held c.args.directory c.requires.naming))
-    ∙ sym (read-told c.find_name.ensures c.in_ok-found.field-0 c.in_ok-found.was) ∙ c.in_default.is in (
-      record { none = unlinked-missing files c.args.directory c.requires.naming c.args.name.now missing; same = read-same c.find_name.ensures c.in_ok-found.field-0 c.in_ok-found.was },
+    ∙ sym (read-told c.find_name.ensures c.in_ok-found.was) ∙ c.in_default.is in (
+      record { none = unlinked-missing files c.args.directory c.requires.naming c.args.name.now missing; same = read-same c.find_name.ensures c.in_ok-found.was },
       lookup-missing files c.args.directory c.requires.naming c.args.name.now missing,
     )
 
@@ -36,10 +36,10 @@ removal-requires g c =
     let found : IsFound c.requires.naming.places c.args.name.now c.in-Some.found =
     found-parts c.requires.naming.places c.args.name.now c.in-Some.found
     (ap (λ p. found_in p c.args.name.now) (sym (naming-places c.args.geometry c.args.disk.now.blocks files c.requires.held c.args.directory c.requires.naming))
-    ∙ sym (read-told c.find_name.ensures c.in_ok-found.field-0 c.in_ok-found.was) ∙ c.in-Some.is) in
+    ∙ sym (read-told c.find_name.ensures c.in_ok-found.was) ∙ c.in-Some.is) in
     record {
-      held = held-same (read-same c.find_name.ensures c.in_ok-found.field-0 c.in_ok-found.was) c.requires.held;
-      node = subst (λ b. (x : Node) × (slot (files_of c.args.geometry b) c.in-Some.found.number ≡ Some x)) (sym (read-same c.find_name.ensures c.in_ok-found.field-0 c.in_ok-found.was))
+      held = held-same (read-same c.find_name.ensures c.in_ok-found.was) c.requires.held;
+      node = subst (λ b. (x : Node) × (slot (files_of c.args.geometry b) c.in-Some.found.number ≡ Some x)) (sym (read-same c.find_name.ensures c.in_ok-found.was))
           (found-node files c.args.directory c.requires.naming c.args.name.now c.in-Some.found found);
     }
 
@@ -49,14 +49,14 @@ returns-in_default-2-clause-gives g c =
     let found : IsFound c.requires.naming.places c.args.name.now c.in-Some.found =
     found-parts c.requires.naming.places c.args.name.now c.in-Some.found
     (ap (λ p. found_in p c.args.name.now) (sym (naming-places c.args.geometry c.args.disk.now.blocks files c.requires.held c.args.directory c.requires.naming))
-    ∙ sym (read-told c.find_name.ensures c.in_ok-found.field-0 c.in_ok-found.was) ∙ c.in-Some.is) in
+    ∙ sym (read-told c.find_name.ensures c.in_ok-found.was) ∙ c.in-Some.is) in
     let node = found-node files c.args.directory c.requires.naming c.args.name.now c.in-Some.found found in
-    let same = read-same c.find_name.ensures c.in_ok-found.field-0 c.in_ok-found.was in
+    let same = read-same c.find_name.ensures c.in_ok-found.was in
     let none : removal node.0 ≡ None =
-    sym (read-told c.removal.ensures c.in_ok-is_directory.field-0 c.in_ok-is_directory.was node.0 (ap (λ b. slot (files_of c.args.geometry b) c.in-Some.found.number) same ∙ node.1)) ∙ c.in_default-2.is in (
+    sym (read-told c.removal.ensures c.in_ok-is_directory.was node.0 (ap (λ b. slot (files_of c.args.geometry b) c.in-Some.found.number) same ∙ node.1)) ∙ c.in_default-2.is in (
       record {
         none = unlinked-full files c.args.directory c.requires.naming c.args.name.now c.in-Some.found found node.0 node.1 none;
-        same = read-same c.removal.ensures c.in_ok-is_directory.field-0 c.in_ok-is_directory.was ∙ same;
+        same = read-same c.removal.ensures c.in_ok-is_directory.was ∙ same;
       },
       record { number = c.in-Some.found.number; node = node.0; named = lookup-found files c.args.directory c.requires.naming c.args.name.now c.in-Some.found found; here = node.1; busy = stays-busy node.0 none },
     )
@@ -67,11 +67,11 @@ free_place-requires g c =
     let found : IsFound c.requires.naming.places c.args.name.now c.in-Some.found =
     found-parts c.requires.naming.places c.args.name.now c.in-Some.found
     (ap (λ p. found_in p c.args.name.now) (sym (naming-places c.args.geometry c.args.disk.now.blocks files c.requires.held c.args.directory c.requires.naming))
-    ∙ sym (read-told c.find_name.ensures c.in_ok-found.field-0 c.in_ok-found.was) ∙ c.in-Some.is) in
+    ∙ sym (read-told c.find_name.ensures c.in_ok-found.was) ∙ c.in-Some.is) in
     record {
-      held = held-same (read-same c.removal.ensures c.in_ok-is_directory.field-0 c.in_ok-is_directory.was ∙ read-same c.find_name.ensures c.in_ok-found.field-0 c.in_ok-found.was) c.requires.held;
+      held = held-same (read-same c.removal.ensures c.in_ok-is_directory.was ∙ read-same c.find_name.ensures c.in_ok-found.was) c.requires.held;
       place = subst (λ b. HasPlace (files_of c.args.geometry b) c.args.directory c.in-Some.found.place)
-          (sym (read-same c.removal.ensures c.in_ok-is_directory.field-0 c.in_ok-is_directory.was ∙ read-same c.find_name.ensures c.in_ok-found.field-0 c.in_ok-found.was))
+          (sym (read-same c.removal.ensures c.in_ok-is_directory.was ∙ read-same c.find_name.ensures c.in_ok-found.was))
           (found-place files c.args.directory c.requires.naming c.args.name.now c.in-Some.found found);
     }
 
@@ -81,15 +81,15 @@ drop_links-requires g c =
     let found : IsFound c.requires.naming.places c.args.name.now c.in-Some.found =
     found-parts c.requires.naming.places c.args.name.now c.in-Some.found
     (ap (λ p. found_in p c.args.name.now) (sym (naming-places c.args.geometry c.args.disk.now.blocks files c.requires.held c.args.directory c.requires.naming))
-    ∙ sym (read-told c.find_name.ensures c.in_ok-found.field-0 c.in_ok-found.was) ∙ c.in-Some.is) in
+    ∙ sym (read-told c.find_name.ensures c.in_ok-found.was) ∙ c.in-Some.is) in
     let node = found-node files c.args.directory c.requires.naming c.args.name.now c.in-Some.found found in
-    let same = read-same c.removal.ensures c.in_ok-is_directory.field-0 c.in_ok-is_directory.was ∙ read-same c.find_name.ensures c.in_ok-found.field-0 c.in_ok-found.was in
+    let same = read-same c.removal.ensures c.in_ok-is_directory.was ∙ read-same c.find_name.ensures c.in_ok-found.was in
     let now : files_of c.args.geometry c.free_place.new.disk.blocks ≡ erase files c.args.directory c.in-Some.found.place =
-    files-are c.args.geometry c.free_place.new.disk.blocks _ (turned c.free_place.ensures c.in_ok-free_place.field-0 c.in_ok-free_place.was)
+    files-are c.args.geometry c.free_place.new.disk.blocks _ (turned c.free_place.ensures c.in_ok-free_place.was)
     ∙ ap (λ b. erase (files_of c.args.geometry b) c.args.directory c.in-Some.found.place) same in
     record {
       held = held-again c.args.geometry c.free_place.new.disk.blocks (erase (files_of c.args.geometry c.removal.new.disk.blocks) c.args.directory c.in-Some.found.place)
-          (turned c.free_place.ensures c.in_ok-free_place.field-0 c.in_ok-free_place.was);
+          (turned c.free_place.ensures c.in_ok-free_place.was);
       node = λ e. stays-erased files c.args.directory c.in-Some.found.place c.in-Some.found.number (some-not _ node.0 node.1) (ap (λ (fs : Files). slot fs c.in-Some.found.number) (sym now) ∙ e);
       directory = λ e. stays-erased files c.args.directory c.in-Some.found.place c.args.directory (some-not _ (Directory (suc c.requires.naming.links) c.requires.naming.places) c.requires.naming.here) (ap (λ (fs : Files). slot fs c.args.directory) (sym now) ∙ e);
     }
@@ -100,20 +100,20 @@ returns-clause-gives g c =
     let found : IsFound c.requires.naming.places c.args.name.now c.in-Some.found =
     found-parts c.requires.naming.places c.args.name.now c.in-Some.found
     (ap (λ p. found_in p c.args.name.now) (sym (naming-places c.args.geometry c.args.disk.now.blocks files c.requires.held c.args.directory c.requires.naming))
-    ∙ sym (read-told c.find_name.ensures c.in_ok-found.field-0 c.in_ok-found.was) ∙ c.in-Some.is) in
+    ∙ sym (read-told c.find_name.ensures c.in_ok-found.was) ∙ c.in-Some.is) in
     let node = found-node files c.args.directory c.requires.naming c.args.name.now c.in-Some.found found in
-    let first = read-same c.find_name.ensures c.in_ok-found.field-0 c.in_ok-found.was in
-    let same = read-same c.removal.ensures c.in_ok-is_directory.field-0 c.in_ok-is_directory.was ∙ first in
+    let first = read-same c.find_name.ensures c.in_ok-found.was in
+    let same = read-same c.removal.ensures c.in_ok-is_directory.was ∙ first in
     let goes : removal node.0 ≡ Some c.in-Some-2.is_directory =
-    sym (read-told c.removal.ensures c.in_ok-is_directory.field-0 c.in_ok-is_directory.was node.0 (ap (λ b. slot (files_of c.args.geometry b) c.in-Some.found.number) first ∙ node.1)) ∙ c.in-Some-2.is in
+    sym (read-told c.removal.ensures c.in_ok-is_directory.was node.0 (ap (λ b. slot (files_of c.args.geometry b) c.in-Some.found.number) first ∙ node.1)) ∙ c.in-Some-2.is in
     let now : files_of c.args.geometry c.free_place.new.disk.blocks ≡ erase files c.args.directory c.in-Some.found.place =
-    files-are c.args.geometry c.free_place.new.disk.blocks _ (turned c.free_place.ensures c.in_ok-free_place.field-0 c.in_ok-free_place.was)
+    files-are c.args.geometry c.free_place.new.disk.blocks _ (turned c.free_place.ensures c.in_ok-free_place.was)
     ∙ ap (λ b. erase (files_of c.args.geometry b) c.args.directory c.in-Some.found.place) same in
     record {
       files = dropped (erase files c.args.directory c.in-Some.found.place) c.in-Some.found.number c.args.directory c.in-Some-2.is_directory;
       made = unlinked-done files c.args.directory c.requires.naming c.args.name.now c.in-Some.found found node.0 node.1 c.in-Some-2.is_directory (sym c.is_dot_name.ensures ∙ c.if-is_dot_name.false) goes;
       holds = subst (λ (fs : Files). Holds c.args.geometry c.drop_links.new.disk.blocks (dropped fs c.in-Some.found.number c.args.directory c.in-Some-2.is_directory)) now
-          (turned c.drop_links.ensures c.in_ok-drop_links.field-0 c.in_ok-drop_links.was);
+          (turned c.drop_links.ensures c.in_ok-drop_links.was);
       named = lookup-found files c.args.directory c.requires.naming c.args.name.now c.in-Some.found found;
       stands = stays-dropped (erase files c.args.directory c.in-Some.found.place) c.in-Some.found.number c.args.directory c.in-Some-2.is_directory c.in-Some.found.number
           (stays-erased files c.args.directory c.in-Some.found.place c.in-Some.found.number (some-not _ node.0 node.1));

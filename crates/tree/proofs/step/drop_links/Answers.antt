@@ -7,16 +7,15 @@ use Rattle.tree.proofs.Storing.{files-are, held-again}
 use Rattle.tree.proofs.Unlinking.{stays-node}
 use Rattle.unixmodel.specs.Files.{Files, change_node, slot}
 use Rattle.tree.proofs.Exits.{Turns-broken, Turns-good}
-use Rattle.std.proofs.lemmas.Result.{err_from_is_err_and}
 use Rattle.tree.proofs.step.drop_links.Goals as goal
 
 pub drop_link-requires-then-is_directory : goal.drop_link-requires-then-is_directory
 drop_link-requires-then-is_directory g c =
     let files = files_of c.args.geometry c.args.disk.now.blocks in
     record {
-      held = held-again c.args.geometry c.drop_link.new.disk.blocks (change_node (files_of c.args.geometry c.args.disk.now.blocks) c.args.number fewer_links) (turned c.drop_link.ensures c.in_ok-drop_link.field-0 c.in_ok-drop_link.was);
+      held = held-again c.args.geometry c.drop_link.new.disk.blocks (change_node (files_of c.args.geometry c.args.disk.now.blocks) c.args.number fewer_links) (turned c.drop_link.ensures c.in_ok-drop_link.was);
       node = λ e. stays-node files c.args.number fewer_links c.args.directory c.requires.directory
-          (ap (λ (fs : Files). slot fs c.args.directory) (sym (files-are c.args.geometry c.drop_link.new.disk.blocks (change_node files c.args.number fewer_links) (turned c.drop_link.ensures c.in_ok-drop_link.field-0 c.in_ok-drop_link.was))) ∙ e);
+          (ap (λ (fs : Files). slot fs c.args.directory) (sym (files-are c.args.geometry c.drop_link.new.disk.blocks (change_node files c.args.number fewer_links) (turned c.drop_link.ensures c.in_ok-drop_link.was))) ∙ e);
     }
 
 pub returns-then-is_directory : goal.returns-then-is_directory
@@ -24,7 +23,7 @@ returns-then-is_directory g c =
     let files = files_of c.args.geometry c.args.disk.now.blocks in
     let less = change_node files c.args.number fewer_links in
     Turns-after c.drop_link.ensures.count c.drop_link.ensures.cause.later
-    (ap (λ (fs : Files). change_node fs c.args.directory fewer_links) (files-are c.args.geometry c.drop_link.new.disk.blocks less (turned c.drop_link.ensures c.in_ok-drop_link.field-0 c.in_ok-drop_link.was))
+    (ap (λ (fs : Files). change_node fs c.args.directory fewer_links) (files-are c.args.geometry c.drop_link.new.disk.blocks less (turned c.drop_link.ensures c.in_ok-drop_link.was))
     ∙ sym (ap (dropped files c.args.number c.args.directory) c.if-is_directory.true))
     c.drop_link-then-is_directory.ensures
 
@@ -32,11 +31,11 @@ pub drop_link-requires : goal.drop_link-requires
 drop_link-requires g c = record { held = c.requires.held; node = c.requires.node }
 
 pub returns-in_err-drop_link : goal.returns-in_err-drop_link
-returns-in_err-drop_link g c = Turns-broken c.drop_link.ensures.count (le_refl _) c.drop_link.ensures.cause c.in_err-drop_link.was (err_from_is_err_and c.from_residual.result c.from_residual.ensures.1).1
+returns-in_err-drop_link g c = Turns-broken c.drop_link.ensures.count (le_refl _) c.drop_link.ensures.cause c.in_err-drop_link.was c.from_residual.ensures.1
 
 pub returns : goal.returns
 returns g c =
     Turns-good c.drop_link.ensures.count
     (subst (λ goes. Holds c.args.geometry c.drop_link.new.disk.blocks (dropped (files_of c.args.geometry c.args.disk.now.blocks) c.args.number c.args.directory goes)) (sym c.if-is_directory.false)
-    (turned c.drop_link.ensures c.in_ok-drop_link.field-0 c.in_ok-drop_link.was))
+    (turned c.drop_link.ensures c.in_ok-drop_link.was))
     c.drop_link.ensures.cause.later

@@ -4,32 +4,24 @@ use Rattle.tree.specs.Holding.{let_go}
 use Rattle.unixmodel.specs.Files.{clear, slot}
 use Rattle.tree.proofs.Letting.{let-go-clear, let-go-held, let-go-linked}
 use Rattle.tree.proofs.Linking.{Turns-after, some-node}
-use Rattle.tree.proofs.Storing.{held-inode, held-raw}
-use Rattle.tree.proofs.Exits.{Turns-broken, held-same, node-same, Turns-good}
-use Rattle.std.proofs.lemmas.Result.{err_from_is_err_and}
+use Rattle.tree.proofs.Storing.{held-links}
+use Rattle.tree.proofs.Exits.{Turns-broken, held-same, node-same, Turns-good, used-asked}
 use Rattle.tree.proofs.step.let_go.Goals as goal
 
 pub returns-then-holds-number-gt0 : goal.returns-then-holds-number-gt0
 returns-then-holds-number-gt0 g c =
-    let files = files_of c.args.geometry c.args.disk.now.blocks in
     Turns-good refl
-    (subst (Holds c.args.geometry c.args.disk.now.blocks) (sym (let-go-held c.args.holds.now files c.args.number (let some = c.if-holds-number-gt0.true in omega arith))) c.requires.held)
+    (subst (Holds c.args.geometry c.args.disk.now.blocks) (sym (let-go-held c.args.holds.now (files_of c.args.geometry c.args.disk.now.blocks) c.args.number (let some = c.if-holds-number-gt0.true in omega arith))) c.requires.held)
     (le_refl _)
 
 pub stat-requires : goal.stat-requires
-stat-requires g c =
-    let files = files_of c.args.geometry c.args.disk.now.blocks in
-    let at = some-node (slot files c.args.number) c.requires.node in
-    record {
-      sound = c.requires.held.sound;
-      inode = held-inode c.args.geometry c.args.disk.now.blocks files c.requires.held c.args.number at.0 at.1;
-    }
+stat-requires g c = used-asked refl c.requires.held c.requires.node
 
 pub returns-then-node-gt0 : goal.returns-then-node-gt0
 returns-then-node-gt0 g c =
     let files = files_of c.args.geometry c.args.disk.now.blocks in
     let at = some-node (slot files c.args.number) c.requires.node in
-    let links = c.in_ok-node.ensures.links ∙ (held-raw c.args.geometry c.args.disk.now.blocks files c.requires.held c.args.number at.0 at.1).links in
+    let links = held-links c.args.geometry c.args.disk.now.blocks files c.requires.held c.args.number at.0 at.1 c.in_ok-node.ensures.links in
     let some = c.if-node-gt0.true in
     Turns-good c.stat.ensures.count
     (subst (λ b. Holds c.args.geometry b (let_go c.args.holds.now files c.args.number)) (sym c.in_ok-node.ensures.same)
@@ -40,14 +32,14 @@ pub returns : goal.returns
 returns g c =
     let files = files_of c.args.geometry c.args.disk.now.blocks in
     let at = some-node (slot files c.args.number) c.requires.node in
-    let links = c.in_ok-node.ensures.links ∙ (held-raw c.args.geometry c.args.disk.now.blocks files c.requires.held c.args.number at.0 at.1).links in
+    let links = held-links c.args.geometry c.args.disk.now.blocks files c.requires.held c.args.number at.0 at.1 c.in_ok-node.ensures.links in
     let free = c.if-holds-number-gt0.false in
     let bare = c.if-node-gt0.false in
     let goes : clear files c.args.number ≡ let_go c.args.holds.now files c.args.number = sym (let-go-clear c.args.holds.now files c.args.number at.0 at.1 (omega arith) (omega arith)) in
     Turns-after c.stat.ensures.count c.stat.ensures.cause.later (ap (λ b. clear (files_of c.args.geometry b) c.args.number) c.in_ok-node.ensures.same ∙ goes) c.release.ensures
 
 pub returns-in_err-node : goal.returns-in_err-node
-returns-in_err-node g c = Turns-broken c.stat.ensures.count (le_refl _) c.stat.ensures.cause c.in_err-node.was (err_from_is_err_and c.from_residual.result c.from_residual.ensures.1).1
+returns-in_err-node g c = Turns-broken c.stat.ensures.count (le_refl _) c.stat.ensures.cause c.in_err-node.was c.from_residual.ensures.1
 
 pub release-requires : goal.release-requires
 release-requires g c = record { held = held-same c.in_ok-node.ensures.same c.requires.held; node = node-same c.in_ok-node.ensures.same c.args.geometry c.args.number c.requires.node }

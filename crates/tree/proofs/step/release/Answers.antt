@@ -1,32 +1,20 @@
-use Rattle.std.proofs.Common.{◌∙◌, le_refl}
+use Rattle.std.proofs.Common.{refl, ◌∙◌, le_refl}
 use Rattle.inode.proofs.Wrote.{IsInode-same}
 use Rattle.tree.specs.Held.{files_of}
-use Rattle.tree.proofs.Linking.{some-node}
-use Rattle.tree.proofs.Reading.{HasCause-after}
+use Rattle.balloc.proofs.Exits.{HasCause-after}
 use Rattle.tree.proofs.Releasing.{emptied-size, released}
-use Rattle.tree.proofs.Storing.{held-inode}
-use Rattle.unixmodel.specs.Files.{slot}
-use Rattle.tree.proofs.Exits.{Turns-broken}
-use Rattle.std.proofs.lemmas.Result.{err_from_is_err_and}
+use Rattle.tree.proofs.Exits.{Turns-broken, used-asked}
 use Rattle.tree.proofs.step.release.Goals as goal
 
 pub truncate-requires : goal.truncate-requires
-truncate-requires g c =
-    let files = files_of c.args.geometry c.args.disk.now.blocks in
-    let at = some-node (slot files c.args.number) c.requires.node in
-    record {
-      sound = c.requires.held.sound;
-      inode = held-inode c.args.geometry c.args.disk.now.blocks files c.requires.held c.args.number at.0 at.1;
-    }
+truncate-requires g c = used-asked refl c.requires.held c.requires.node
 
 pub give_inode-requires : goal.give_inode-requires
 give_inode-requires g c =
-    let files = files_of c.args.geometry c.args.disk.now.blocks in
-    let at = some-node (slot files c.args.number) c.requires.node in
     let wrote = c.in_ok-truncate.ensures.wrote in
     record {
       sound = wrote.sound;
-      inode = IsInode-same (held-inode c.args.geometry c.args.disk.now.blocks files c.requires.held c.args.number at.0 at.1) wrote.same;
+      inode = IsInode-same (used-asked refl c.requires.held c.requires.node).inode wrote.same;
       empty = emptied-size c.args.geometry c.args.disk.now.blocks c.truncate.new.disk.blocks c.args.number wrote;
     }
 
@@ -39,4 +27,4 @@ returns g c = record {
 }
 
 pub returns-in_err-truncate : goal.returns-in_err-truncate
-returns-in_err-truncate g c = Turns-broken c.truncate.ensures.count (le_refl _) c.truncate.ensures.cause c.in_err-truncate.was (err_from_is_err_and c.from_residual.result c.from_residual.ensures.1).1
+returns-in_err-truncate g c = Turns-broken c.truncate.ensures.count (le_refl _) c.truncate.ensures.cause c.in_err-truncate.was c.from_residual.ensures.1

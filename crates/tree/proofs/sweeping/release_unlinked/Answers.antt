@@ -7,7 +7,6 @@ use Rattle.tree.proofs.Linking.{Turns-after}
 use Rattle.tree.proofs.Swept.{let-go-free, told-free, told-node, turns-same}
 use Rattle.unixmodel.specs.Files.{clear, slot}
 use Rattle.tree.proofs.Exits.{Turns-broken, held-same}
-use Rattle.std.proofs.lemmas.Result.{err_from_is_err_and}
 use Rattle.tree.proofs.sweeping.release_unlinked.Goals as goal
 
 pub look-requires : goal.look-requires
@@ -38,7 +37,7 @@ returns g c =
     Turns-after c.look.ensures.count c.look.ensures.cause.later (ap (λ b. clear (files_of c.args.geometry b) c.args.number) c.in_ok-node.ensures.same ∙ goes) c.release.ensures
 
 pub returns-in_err-node : goal.returns-in_err-node
-returns-in_err-node g c = Turns-broken c.look.ensures.count (le_refl _) c.look.ensures.cause c.in_err-node.was (err_from_is_err_and c.from_residual.result c.from_residual.ensures.1).1
+returns-in_err-node g c = Turns-broken c.look.ensures.count (le_refl _) c.look.ensures.cause c.in_err-node.was c.from_residual.ensures.1
 
 pub release-requires-clause-held : goal.release-requires-clause-held
 release-requires-clause-held g c = held-same c.in_ok-node.ensures.same c.requires

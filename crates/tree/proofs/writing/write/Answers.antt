@@ -1,4 +1,4 @@
-use Rattle.std.proofs.Common.{Err, ap, ◌∙◌, le_refl}
+use Rattle.std.proofs.Common.{Err, ap, ◌∙◌}
 use Rattle.tree.proofs.Fitting.{file-inode, write-long, write-part, write-past, write-whole}
 use Rattle.tree.proofs.Exits.{Turns-good, Turns-lost}
 use Rattle.tree.proofs.writing.write.Goals as goal
