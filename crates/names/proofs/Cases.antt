@@ -30,23 +30,15 @@ bare-keeps = record {
 }
   where
     named : (n : ℕ) → names_of bare n ≡ names_for n (slot bare n)
-    named zero = refl
-    named (suc zero) = refl
-    named (suc (suc zero)) = refl
-    named (suc (suc (suc zero))) = refl
-    named (suc (suc (suc (suc zero)))) = refl
     named (suc (suc (suc (suc (suc n))))) = refl
+    named _ = refl
 
     sizes : (n : ℕ) → KeepsSize (slot bare n)
-    sizes zero = tt
     sizes (suc zero) = omega arith
-    sizes (suc (suc zero)) = tt
-    sizes (suc (suc (suc zero))) = tt
-    sizes (suc (suc (suc (suc zero)))) = tt
     sizes (suc (suc (suc (suc (suc n))))) = tt
+    sizes _ = tt
 
     nodes : (n : ℕ) → KeepsLive bare n (slot bare n)
-    nodes zero = tt
     nodes (suc zero) = record {
       own = refl;
       up = 1;
@@ -56,18 +48,12 @@ bare-keeps = record {
       once = λ name. omega arith;
       counted = refl;
     }
-    nodes (suc (suc zero)) = tt
-    nodes (suc (suc (suc zero))) = tt
-    nodes (suc (suc (suc (suc zero)))) = tt
     nodes (suc (suc (suc (suc (suc n))))) = tt
+    nodes _ = tt
 
     none : (d n : ℕ) → 1 ≤ names_by (slot bare d) n → ⊥
-    none zero n h = omega arith
-    none (suc zero) n h = omega arith
-    none (suc (suc zero)) n h = omega arith
-    none (suc (suc (suc zero))) n h = omega arith
-    none (suc (suc (suc (suc zero)))) n h = omega arith
     none (suc (suc (suc (suc (suc d))))) n h = omega arith
+    none _ n h = omega arith
 
 -- ---- mkdir d, mknod d/f as a file, link d/f g, a write, unlink d/f, unlink d, unlink g
 

@@ -5,7 +5,7 @@ use Rattle.std.proofs.lemmas.Bool.{cases_eq, cond-false, cond-true, false≢true
 use Rattle.std.proofs.lemmas.List.{get_or-set_other, get_or-set_same, length-append, length-drop, length-set, length-take, set-get_or}
 use Rattle.std.proofs.lemmas.Option.{none-some, same_Some}
 use Rattle.unixmodel.specs.Files.{Entry, Files, Node, change_node, clear, is_directory, links_of, longest, put, slot}
-use Rattle.unixmodel.specs.Files.Node.{Device, Directory, File}
+use Rattle.unixmodel.specs.Files.Node.{Directory, File}
 use Rattle.unixmodel.specs.Image.{KeepsSize, is_directory_at, names_of}
 use Rattle.unixmodel.specs.Memory.{overwrite}
 use Rattle.unixmodel.specs.Reap.{is_used, kept, without_nodes}
@@ -90,6 +90,9 @@ alike-bytes : (n links : ℕ) (old new : List ℕ) → length new ≤ longest �
 unfolding names_by
 alike-bytes n links old new h = record { names = λ m. refl; wanted = refl; kind = λ l. refl; size = λ s. h; live = inr (λ fs l. l) }
 
+pub emptied-is : (files : Files) (n : ℕ) (node : Node) → slot files n ≡ Some node → emptied node ≡ node → change_node files n emptied ≡ files
+emptied-is files n node here same = ap (λ o. set files n (option_map emptied o)) here ∙ ap (λ x. set files n (Some x)) same ∙ ap (set files n) (sym here) ∙ set-get_or files n None
+
 module _ {files : Files} (keeps : KeepsTree files) where
   -- where nothing changes
   pub changed-same : Changed files files
@@ -147,16 +150,12 @@ module _ {files : Files} (keeps : KeepsTree files) where
       (length-over old (take k new) offset (subst KeepsSize here (keeps.sizes n)) (omega arith))
 
   -- a file is emptied, and any other node stays
-  pub emptied-is : (n : ℕ) (node : Node) → slot files n ≡ Some node → emptied node ≡ node → change_node files n emptied ≡ files
-  emptied-is n node here same = ap (λ o. set files n (option_map emptied o)) here ∙ ap (λ x. set files n (Some x)) same ∙ ap (set files n) (sym here) ∙ set-get_or files n None
-
   pub truncates : (n : ℕ) → Changed files (change_node files n emptied)
   truncates n = go (slot files n) refl where
     go : (o : Option Node) → slot files n ≡ o → Changed files (change_node files n emptied)
     go None here = subst (Changed files) (sym (ap (λ o. set files n (option_map emptied o)) here ∙ ap (set files n) (sym here) ∙ set-get_or files n None)) changed-same
     go (Some (File links bytes)) here = subst (Changed files) (sym (change-is files n emptied (File links bytes) here)) (writes-bytes n links bytes [] here (omega arith))
-    go (Some (Device links major minor)) here = subst (Changed files) (sym (emptied-is n (Device links major minor) here refl)) changed-same
-    go (Some (Directory links places)) here = subst (Changed files) (sym (emptied-is n (Directory links places) here refl)) changed-same
+    go (Some node) here = subst (Changed files) (sym (emptied-is files n node here refl)) changed-same
 
 -- ---- without nodes that have no links
 
