@@ -7,7 +7,7 @@ use Rattle.layout.specs.Image.{inode_at}
 use Rattle.inode.specs.Writing.{Wrote}
 use Rattle.tree.specs.Held.{Holds}
 use Rattle.unixmodel.specs.Files.{Files, Node, change_node, slot}
-use Rattle.unixmodel.specs.Files.Node.{Device, Directory, File}
+use Rattle.unixmodel.specs.Files.Node.{File}
 use Rattle.unixmodel.specs.NameCalls.{emptied}
 use Rattle.tree.proofs.Linking.{some-node}
 use Rattle.names.proofs.Quiet.{emptied-is}
@@ -18,8 +18,7 @@ module _ {g : Geometry} {old : List (List ℕ)} {files : Files} (holds : Holds g
   emptied-other other = let at = some-node (slot files n) some in go at.0 at.1 where
     go : (node : Node) → slot files n ≡ Some node → Holds g old (change_node files n emptied)
     go (File links bytes) here = absurd (other (is ∙ (held-raw g old files holds n (File links bytes) here).kind))
-    go (Device links major minor) here = subst (Holds g old) (sym (emptied-is files n (Device links major minor) here refl)) holds
-    go (Directory links places) here = subst (Holds g old) (sym (emptied-is files n (Directory links places) here refl)) holds
+    go node here = subst (Holds g old) (sym (emptied-is files n node here refl)) holds
 
   emptied-file : {new : List (List ℕ)} → kind ≡ 2 → Wrote g old new n [] → Holds g new (change_node files n emptied)
   emptied-file {new} two wrote = let at = some-node (slot files n) some in go at.0 at.1 where
@@ -28,8 +27,7 @@ module _ {g : Geometry} {old : List (List ℕ)} {files : Files} (holds : Holds g
         let was = held-raw g old files holds n (File links bytes) here in
         subst (Holds g new) (sym (change-is files n emptied (File links bytes) here))
         (Holds-wrote holds here wrote (File links []) (record { kind = was.kind; links = was.links; bytes = refl; device = tt }) tt)
-    go (Device links major minor) here = let e = (held-raw g old files holds n (Device links major minor) here).kind in absurd (omega arith)
-    go (Directory links places) here = let e = (held-raw g old files holds n (Directory links places) here).kind in absurd (omega arith)
+    go node here = let e = (held-raw g old files holds n node here).kind in absurd (omega arith)
 
   pub emptied-held : (mid new : List (List ℕ)) → mid ≡ old → kind ≡ 2 → (r : Result (Unit {0}) DeviceFault) → OnOk r (Wrote g mid new n []) → OnOk r (Holds g new (change_node files n emptied))
   emptied-held mid new same two (Err fault) wrote = tt

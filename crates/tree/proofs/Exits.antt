@@ -1,5 +1,5 @@
 -- How steps on a disk end, and what its blocks keep where they stay as they were.
-use Rattle.std.proofs.Common.{◌≡◌, ◌≢◌, ℕ, ◌+◌, ◌*◌, ◌/◌, ◌<◌, ◌≤◌, List, None, Some, Result, Ok, Err, length, ap, sym, arith, subst}
+use Rattle.std.proofs.Common.{◌≡◌, ◌≢◌, ℕ, ◌+◌, ◌*◌, ◌/◌, ◌<◌, ◌≤◌, List, None, Some, Result, Ok, Err, length, ap, sym, arith, le_trans, subst}
 use Rattle.std.specs.Prelude.{IsSome}
 use Rattle.std.specs.Result.{IsErrAnd, is_err}
 use Rattle.blockdev.specs.declared.DeviceFault.{DeviceFault}
@@ -12,7 +12,7 @@ use Rattle.tree.specs.declared.TreeFault.{TreeFault}
 use Rattle.tree.specs.declared.TreeFault.TheVariants.{Device}
 use Rattle.tree.specs.Entering.{HasRoom}
 use Rattle.tree.specs.Held.{Holds, IsHeld, files_of}
-use Rattle.tree.specs.Steps.{Reads, Turns}
+use Rattle.tree.specs.Steps.{HasPlace, Reads, Turns}
 use Rattle.tree.specs.Unlinks.{Unlinks}
 use Rattle.unixmodel.specs.Failures.{HasCause, Rises}
 use Rattle.unixmodel.specs.Files.{Files, Node, Spot, slot}
@@ -49,6 +49,12 @@ module _ {old new : List (List ℕ)} (same : new ≡ old) where
   pub room-same : (g : Geometry) (d k : ℕ) → HasRoom (files_of g old) d k → HasRoom (files_of g new) d k
   room-same g d k = subst (λ b. HasRoom (files_of g b) d k) (sym same)
 
+  pub some-same : (g : Geometry) (n : ℕ) → (node : Node) × (slot (files_of g old) n ≡ Some node) → (node : Node) × (slot (files_of g new) n ≡ Some node)
+  some-same g n = subst (λ b. (node : Node) × (slot (files_of g b) n ≡ Some node)) (sym same)
+
+  pub place-same : (g : Geometry) (d k : ℕ) → HasPlace (files_of g old) d k → HasPlace (files_of g new) d k
+  place-same g d k = subst (λ b. HasPlace (files_of g b) d k) (sym same)
+
   pub node-same : (g : Geometry) (n : ℕ) → slot (files_of g old) n ≢ None → slot (files_of g new) n ≢ None
   node-same g n = subst (λ b. slot (files_of g b) n ≢ None) (sym same)
 
@@ -75,6 +81,7 @@ module _ {old new : Disk} (count : length new.blocks ≡ length old.blocks) wher
   pub Turns-lost : {T : Type 0} {g : Geometry} {files : Files} {e : DeviceFault} → old.failures ≤ new.failures → Rises old.failures new.failures → Turns {T = T} g old new (Err e) files
   Turns-lost later rises = record { holds = tt; count = count; cause = record { later = later; failed = λ _. rises } }
 
-pub Unlinks-broken : (g : Geometry) (old new : Disk) (at : Spot) (s : Result ℕ TreeFault) {U : Type 0} {before : ℕ} {r : Result U DeviceFault} {e : DeviceFault} → IsErrAnd s (λ f. f ≡ Device)
-    → old.failures ≤ before → HasCause before new.failures r → r ≡ Err e → Unlinks g old new at s
-Unlinks-broken g old new at s told later cause was = subst (Unlinks g old new at) (sym (told_err s told)) (Rises-before later (cause.failed (ap is_err was)))
+pub Unlinks-broken : (g : Geometry) (old new : Disk) (at : Spot) (s : Result ℕ TreeFault) {U : Type 0} {before : ℕ} {r : Result U DeviceFault} {e : DeviceFault} → IsErrAnd s (λ f. f ≡ Device) → length new.blocks ≡ length old.blocks
+    → old.failures ≤ before → HasCause before new.failures r → r ≡ Err e → record { gives : Unlinks g old new at s; count : length new.blocks ≡ length old.blocks; later : old.failures ≤ new.failures }
+Unlinks-broken g old new at s told count later cause was =
+    record { gives = subst (Unlinks g old new at) (sym (told_err s told)) (Rises-before later (cause.failed (ap is_err was))); count = count; later = le_trans later cause.later }

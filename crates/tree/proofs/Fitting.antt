@@ -5,7 +5,7 @@ use Rattle.std.proofs.lemmas.Bool.{and_from, and_left, and_right, cases_eq, cond
 use Rattle.std.proofs.lemmas.List.{append_assoc, length-append, length-take-le, take_all}
 use Rattle.blockdev.specs.Splice.{splice}
 use Rattle.layout.specs.declared.Geometry.{Geometry}
-use Rattle.layout.specs.Image.{IsInode, bytes_of, free_blocks, inode_at, node_with, taken_for}
+use Rattle.layout.specs.Image.{bytes_of, free_blocks, taken_for}
 use Rattle.inode.specs.Writing.{IsFull, Wrote}
 use Rattle.tree.specs.Held.{Holds}
 use Rattle.tree.specs.Written.{IsFile, Written, count_of, files_after, fitting, with_bytes, write_to, written}
@@ -16,7 +16,7 @@ use Rattle.unixmodel.specs.Files.Node.{File}
 use Rattle.unixmodel.specs.Manifest.{data_blocks_of}
 use Rattle.unixmodel.specs.Memory.{overwrite}
 use Rattle.tree.proofs.Erasing.{taken-grows}
-use Rattle.tree.proofs.Storing.{Holds-wrote, blocks_of-set, held-inode, held-raw, slot-within, used_by}
+use Rattle.tree.proofs.Storing.{Holds-wrote, blocks_of-set, held-raw, slot-within, used_by}
 
 -- the greatest number that passes
 greatest-is : (test : ℕ → Bool) (n k : ℕ) → k ≤ n → test k ≡ true → ((j : ℕ) → k < j → j ≤ n → test j ≡ false) → greatest test n ≡ k
@@ -32,9 +32,6 @@ module _ {g : Geometry} {old : List (List ℕ)} {files : Files} (holds : Holds g
 
   abbrev more : ℕ → Files
   more k = with_file files n file.links (overwrite file.bytes at (take k new))
-
-  pub file-inode : IsInode old g.inodes n
-  file-inode = held-inode g old files holds n (File file.links file.bytes) file.here
 
   pub file-bytes : bytes_of old n ≡ file.bytes
   file-bytes = (held-raw g old files holds n (File file.links file.bytes) file.here).bytes

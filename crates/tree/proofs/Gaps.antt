@@ -52,9 +52,6 @@ module _ {g : Geometry} {blocks : List (List ℕ)} (held : IsHeld g blocks) (d :
   gap-here = live.here
 
   module _ {mid : List (List ℕ)} (same : mid ≡ blocks) {o : Option ℕ} where
-    pub gap-named : o ≡ lookup (files_of g mid) at.directory at.name → {x : Option ℕ} → o ≡ x → lookup (files_of g blocks) at.directory at.name ≡ x
-    gap-named told is = sym (told ∙ ap (λ b. lookup (files_of g b) at.directory at.name) same) ∙ is
-
     pub gap-place : o ≡ room_in (places_in (bytes_of mid at.directory)) → {x : Option ℕ} → o ≡ x → room_in live.places ≡ x
     gap-place told is =
         sym (told ∙ ap (λ b. room_in (places_in (bytes_of b at.directory))) same ∙ ap room_in (directory-places g blocks (files_of g blocks) held at.directory (suc live.links) live.places live.here)) ∙ is

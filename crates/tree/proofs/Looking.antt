@@ -1,5 +1,5 @@
 -- A name is looked up in a node.
-use Rattle.std.proofs.Common.{◌≡◌, ◌≢◌, ℕ, Bool, List, None, Option, Some, ap, sym, refl, ◌∙◌, arith, true, false, zero, suc}
+use Rattle.std.proofs.Common.{◌≡◌, ◌≢◌, ℕ, Bool, List, None, Option, Some, ap, sym, refl, ◌∙◌, arith, true, false, suc}
 use Rattle.std.specs.Prelude.{IfNone, IsSome, nat_lt, option_and_then, option_map, position, ◌&&◌, ◌==◌}
 use Rattle.std.proofs.lemmas.Bool.{false≢true, lt-ltb}
 use Rattle.layout.specs.declared.Geometry.{Geometry}
@@ -9,7 +9,7 @@ use Rattle.tree.specs.Held.{Holds}
 use Rattle.tree.specs.Names.{found_at, found_in}
 use Rattle.imagerules.specs.Places.{places_in}
 use Rattle.unixmodel.specs.Files.{Entry, Files, Node, entry_number, has_name, kind_of, links_of, live_places, lookup, slot}
-use Rattle.unixmodel.specs.Files.Node.{Device, Directory, File}
+use Rattle.unixmodel.specs.Files.Node.{Directory}
 use Rattle.tree.proofs.Storing.{held-raw}
 use Rattle.tree.proofs.Unlinking.{directory-places}
 
@@ -37,16 +37,12 @@ abbrev is_live : Node → Bool
 is_live node = (kind_of node == 1) && nat_lt 0 (links_of node)
 
 live-yes : (files : Files) (d : ℕ) (node : Node) → slot files d ≡ Some node → is_live node ≡ true → IsLiveAt files d
-live-yes files d (File links bytes) here h = absurd (false≢true h)
-live-yes files d (Device links major minor) here h = absurd (false≢true h)
-live-yes files d (Directory zero places) here h = absurd (false≢true h)
 live-yes files d (Directory (suc links) places) here h = record { links = links; places = places; here = here }
+live-yes files d _ here h = absurd (false≢true h)
 
 live-no : (node : Node) → is_live node ≡ false → live_places (Some node) ≡ None
-live-no (File links bytes) h = refl
-live-no (Device links major minor) h = refl
-live-no (Directory zero places) h = refl
 live-no (Directory (suc links) places) h = absurd (false≢true (sym h ∙ lt-ltb 0 (suc links) (omega arith)))
+live-no _ h = refl
 
 -- ---- a name in a directory
 

@@ -1,15 +1,14 @@
 -- The names of a path, one after the other, and what they reach.
 use Rattle.std.proofs.Common.{◌≡◌, ℕ, ◌+◌, ◌-◌, ◌<◌, ◌≤◌, Bool, List, [], ◌∷◌, None, Option, Some, length, get_or, take, drop, map, ap, sym, refl, ◌∙◌, arith, subst, true, false, not, zero, suc, inl, inr}
-use Rattle.std.specs.Prelude.{IsSome, filter, is_some, min, nat_lt, option_and_then, option_map, position, unwrap_or, ◌==◌}
-use Rattle.std.specs.List.{position_or_len}
-use Rattle.std.proofs.lemmas.Bool.{cases_lt, cond-false, cond-true, cond_both, false≢true, lt-ltb, not-true}
+use Rattle.std.specs.Prelude.{IsSome, filter, min, nat_lt, option_and_then, option_map, position, unwrap_or, ◌==◌}
+use Rattle.std.proofs.lemmas.Bool.{cases_lt, cond-false, cond-true, false≢true, lt-ltb, not-true}
 use Rattle.std.proofs.lemmas.List.{drop_all, get_or-drop, length-drop, length-take, length-take-le, take-take, take_all, take_rest}
 use Rattle.std.proofs.lemmas.List.Quantifiers.{position-Some}
-use Rattle.std.proofs.lemmas.List.Sums.{fails_before_first}
 use Rattle.std.proofs.lemmas.Option.{none-some, same_Some}
 use Rattle.unixmodel.specs.Files.{Files, find, follow, live_spot, lookup, onto_first, parts, pieces, slot, split_last, spot_of, start_of, with_last}
 use Rattle.names.specs.Rules.{KeepsTree}
-use Rattle.names.proofs.Naming.{follow-used}
+use Rattle.names.proofs.Finding.{position-None}
+use Rattle.names.proofs.Naming.{follow-used, start-used}
 use Rattle.tree.specs.Paths.{above, reach}
 
 abbrev is_slash : ℕ → Bool
@@ -24,14 +23,6 @@ take-min n xs = elim (cases_lt n 14) [
   | inl l ↦ let e : n ≡ min n 14 = omega arith in take_all 14 (take n xs) (omega (arith, length-take n xs)) ∙ ap (λ k. take k xs) e
   | inr m ↦ let e : 14 ≡ min n 14 = omega arith in take-take 14 n xs m ∙ ap (λ k. take k xs) e
 ]
-
--- where no item passes
-position-None : {X : Type 0} (p : X → Bool) (xs : List X) (d : X) → position p xs ≡ None → (k : ℕ) → k < length xs → p (get_or xs k d) ≡ false
-position-None p xs d none k h =
-    elim (cases_lt (position_or_len p xs) (length xs)) [
-      | inl l ↦ absurd (none-some (position_or_len p xs) (sym none ∙ cond-true _ (Some (position_or_len p xs)) None (lt-ltb (position_or_len p xs) (length xs) l)))
-      | inr m ↦ fails_before_first p xs k d (omega arith)
-    ]
 
 -- ---- slashes and names
 
@@ -150,17 +141,11 @@ module _ (files : Files) (k : ℕ) (name : List ℕ) (names : List (List ℕ)) w
       go None = refl
       go (Some m) = refl
 
-    pub reach-next : (m : ℕ) → lookup files k name ≡ Some m → reach files k (name ∷ names) ≡ reach files m (w ∷ ws)
-    reach-next m e = reach-more ∙ ap (option_and_then (λ m. reach files m (w ∷ ws))) e
+    pub reach-next : {o : Option ℕ} → lookup files k name ≡ o → reach files k (name ∷ names) ≡ option_and_then (λ m. reach files m (w ∷ ws)) o
+    reach-next e = reach-more ∙ ap (option_and_then (λ m. reach files m (w ∷ ws))) e
 
-    pub reach-none : lookup files k name ≡ None → reach files k (name ∷ names) ≡ None
-    reach-none e = reach-more ∙ ap (option_and_then (λ m. reach files m (w ∷ ws))) e
-
-pub follow-next : (files : Files) (k m : ℕ) (names : List (List ℕ)) (name : List ℕ) (ws : List (List ℕ)) → names ≡ name ∷ ws → lookup files k name ≡ Some m → follow files k names ≡ follow files m ws
-follow-next files k m names name ws e at = ap (follow files k) e ∙ ap (option_and_then (λ n. follow files n ws)) at
-
-pub follow-none : (files : Files) (k : ℕ) (names : List (List ℕ)) (name : List ℕ) (ws : List (List ℕ)) → names ≡ name ∷ ws → lookup files k name ≡ None → follow files k names ≡ None
-follow-none files k names name ws e at = ap (follow files k) e ∙ ap (option_and_then (λ n. follow files n ws)) at
+pub follow-next : (files : Files) (k : ℕ) (names : List (List ℕ)) (name : List ℕ) (ws : List (List ℕ)) → names ≡ name ∷ ws → {o : Option ℕ} → lookup files k name ≡ o → follow files k names ≡ option_and_then (λ n. follow files n ws) o
+follow-next files k names name ws e at = ap (follow files k) e ∙ ap (option_and_then (λ n. follow files n ws)) at
 
 -- the first name and what follows it, as a path is cut
 module _ (path rest : List ℕ) (i end cut : ℕ) (o : Option ℕ) (at : position (λ b. not (b == 0x2f)) path ≡ Some i) (from : rest ≡ drop i path) (slash : o ≡ position (λ b. b == 0x2f) rest) (is : end ≡ unwrap_or o (length rest)) (cuts : cut ≡ min end 14) where
@@ -195,10 +180,7 @@ unfolding above
 above-nothing files d path p = sym (ap (reach files (start_of d path)) p)
 
 pub start-held : {files : Files} → KeepsTree files → (d : ℕ) (path : List ℕ) → IsSome (slot files d) → (n : ℕ) → n ≡ start_of d path → IsSome (slot files n)
-start-held {files} keeps d path used n e = subst (λ k. IsSome (slot files k)) (sym e) (go path) where
-  go : (path : List ℕ) → IsSome (slot files (start_of d path))
-  go [] = used
-  go (b ∷ bs) = cond_both (b == 0x2f) 1 d (λ m. IsSome (slot files m)) (λ t. ap is_some keeps.root.here) (λ t. used)
+start-held {files} keeps d path used n e = subst (λ k. IsSome (slot files k)) (sym e) (start-used keeps d path used)
 
 -- ---- what stands above a last name
 

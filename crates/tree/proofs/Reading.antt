@@ -20,7 +20,8 @@ use Rattle.tree.specs.Names.{found_at, found_in, is_bare}
 use Rattle.imagerules.specs.Places.{place_of_bytes, places_in, without_zeros}
 use Rattle.tree.specs.Steps.{Reads}
 use Rattle.unixmodel.specs.Failures.{Rises}
-use Rattle.unixmodel.specs.Files.{Entry, has_name, slot, taken}
+use Rattle.tree.specs.Held.{files_of}
+use Rattle.unixmodel.specs.Files.{Entry, has_name, lookup, slot, taken}
 use Rattle.unixmodel.specs.Numbers.{number_at}
 use Rattle.imagerules.proofs.Spelling.{slot-places_in}
 
@@ -111,6 +112,11 @@ pub place-told : (blocks : List (List ℕ)) (d : ℕ) {mid new : Disk} {k size :
     → size ≡ length (bytes_of blocks d) → k < size / 16 → slot (places_in (bytes_of blocks d)) k ≡ place_of_bytes x
 place-told blocks d {k = k} read is same size within =
     slot-places_in (bytes_of blocks d) k (omega arith) ∙ ap place_of_bytes (sym (read-told read is ∙ ap (λ b. part (16 * k) 16 (bytes_of b d)) same))
+
+-- a name that was looked up
+pub looked : (g : Geometry) (blocks : List (List ℕ)) (d : ℕ) (name : List ℕ) {mid new : Disk} {r : Result (Option ℕ) DeviceFault} {o x : Option ℕ} → Reads mid new r (λ n. n ≡ lookup (files_of g mid.blocks) d name) → r ≡ Ok o → mid.blocks ≡ blocks → o ≡ x
+    → lookup (files_of g blocks) d name ≡ x
+looked g blocks d name reads was same is = sym (read-told reads was ∙ ap (λ b. lookup (files_of g b) d name) same) ∙ is
 
 -- a read fails, where those before it left the disk as it was
 pub Reads-fails : {T U : Type 0} {Told : T → Type 0} {Also : U → Type 0} {old mid new : Disk} {r : Result T DeviceFault} {s : Result U DeviceFault} {e f : DeviceFault}

@@ -18,13 +18,12 @@ use Rattle.names.specs.Rules.{KeepsTree}
 use Rattle.tree.specs.declared.TreeFault.{TreeFault}
 use Rattle.tree.specs.declared.TreeFault.TheVariants.{Device}
 use Rattle.tree.specs.Answers.{Answers, IsRefused}
-use Rattle.tree.specs.Steps.{Reads, Turns}
+use Rattle.tree.specs.Steps.{Turns}
 use Rattle.tree.specs.Telling.{Tells, TellsAny, TellsMajor}
 use Rattle.tree.specs.Tree.{Acts, FileTree, IsRefusal, Serves, has_failed, is_device}
-use Rattle.tree.specs.Written.{count_of, files_after, written}
 use Rattle.unixmodel.specs.Failures.{HasCause}
-use Rattle.unixmodel.specs.Files.{Files, Node, find, node_bytes, slot}
-use Rattle.unixmodel.specs.Files.Node.{Device, Directory, File}
+use Rattle.unixmodel.specs.Files.{Files, Node, node_bytes, slot}
+use Rattle.unixmodel.specs.Files.Node.{Device}
 use Rattle.tree.proofs.Taking.{used-slot}
 use Rattle.unixmodel.specs.Manifest.{data_blocks_of}
 use Rattle.tree.proofs.Linking.{some-node}

@@ -5,18 +5,18 @@ use Rattle.std.proofs.lemmas.Bool.{cases_eq, false≢true}
 use Rattle.std.proofs.lemmas.List.{get_or-set_other, get_or-set_same}
 use Rattle.std.proofs.lemmas.Option.{none-some, same_Some}
 use Rattle.layout.specs.declared.Geometry.{Geometry}
-use Rattle.layout.specs.Image.{IsInode, bytes_of, inode_at}
+use Rattle.layout.specs.Image.{bytes_of, inode_at}
 use Rattle.tree.specs.declared.place.Found.{Found}
-use Rattle.tree.specs.Held.{Holds}
+use Rattle.tree.specs.Held.{Holds, IsHeld, files_of}
 use Rattle.tree.specs.Names.{dropped, found_at, found_in, is_bare, removal}
 use Rattle.unixmodel.specs.NameCalls.{fewer_links, may_remove, removed_node, unlinked, without_name}
 use Rattle.imagerules.specs.Places.{places_in}
 use Rattle.tree.specs.Steps.{HasPlace}
 use Rattle.tree.specs.Unlinks.{IsNaming}
 use Rattle.unixmodel.specs.Files.{Entry, Files, Node, Spot, change_node, entry_number, erase, has_name, is_directory, is_dot_name, live_places, lookup, place_of, put, slot, without_place}
-use Rattle.unixmodel.specs.Files.Node.{Device, Directory, File}
+use Rattle.unixmodel.specs.Files.Node.{Directory}
 use Rattle.imagerules.proofs.Spelling.{places_in-back}
-use Rattle.tree.proofs.Storing.{held-fits, held-inode, held-raw, slot-within}
+use Rattle.tree.proofs.Storing.{held-fits, held-raw, slot-within}
 
 -- ---- a name among places
 
@@ -58,7 +58,7 @@ pub unlinked-dot : (files : Files) (at : Spot) → is_dot_name at.name ≡ true 
 unfolding unlinked
 unlinked-dot files at e = rw e refl
 
-module _ (files : Files) (d : ℕ) (naming : IsNaming files d) (name : List ℕ) where
+module _ {files : Files} {d : ℕ} (naming : IsNaming files d) (name : List ℕ) where
   abbrev spot : Spot
   spot = record { directory = d; name = name }
 
@@ -85,7 +85,7 @@ module _ (files : Files) (d : ℕ) (naming : IsNaming files d) (name : List ℕ)
   pub unlinked-missing : found_in naming.places name ≡ None → unlinked files spot ≡ None
   unlinked-missing e = unlinked-not (is_dot_name name) refl _ refl (ap (λ l. option_and_then (λ k. option_and_then (λ n. removed_node files d k n (slot files n)) l) (place_of files d name)) (lookup-missing e) ∙ no-number (place_of files d name))
 
-  module _ (f : Found) (found : IsFound naming.places name f) where
+  module _ {f : Found} (found : IsFound naming.places name f) where
     pub lookup-found : lookup files d name ≡ Some f.number
     lookup-found = lookup-is ∙ ap (λ o. entry_number (option_and_then (slot naming.places) o)) found.first ∙ ap entry_number found.here ∙ ap Some found.number
 
@@ -103,7 +103,7 @@ module _ (files : Files) (d : ℕ) (naming : IsNaming files d) (name : List ℕ)
         ap (λ l. option_and_then (λ k. option_and_then (λ n. removed_node files d k n (slot files n)) l) (place_of files d name)) lookup-found
         ∙ ap (λ o. option_and_then (λ k. removed_node files d k f.number (slot files f.number)) o) (place-of-is ∙ found.first)
 
-    module _ (node : Node) (here : slot files f.number ≡ Some node) where
+    module _ {node : Node} (here : slot files f.number ≡ Some node) where
       refused-node : (b : Bool) → may_remove node ≡ b → removal node ≡ None → removed_node files d f.place f.number (Some node) ≡ None
       refused-node true e h = absurd (none-some (is_directory node) (sym h ∙ ap (λ b. cond b (Some (is_directory node)) None) e))
       refused-node false e h = ap (λ b. cond b (Some (without_name files d f.place f.number node)) None) e
@@ -131,28 +131,24 @@ stays-busy node h = go (may_remove node) h where
 -- ---- the disk
 
 module _ (g : Geometry) (blocks : List (List ℕ)) (files : Files) (holds : Holds g blocks files) where
-  pub naming-inode : (d : ℕ) → IsNaming files d → IsInode blocks g.inodes d
-  naming-inode d naming = held-inode g blocks files holds d (Directory (suc naming.links) naming.places) naming.here
-
   pub directory-places : (n links : ℕ) (places : List (Option Entry)) → slot files n ≡ Some (Directory links places) → places_in (bytes_of blocks n) ≡ places
   directory-places n links places here =
       let is = held-raw g blocks files holds n (Directory links places) here in
       ap places_in is.bytes ∙ places_in-back places (held-fits g blocks files holds n (Directory links places) here)
 
-  pub naming-places : (d : ℕ) (naming : IsNaming files d) → places_in (bytes_of blocks d) ≡ naming.places
-  naming-places d naming = directory-places d (suc naming.links) naming.places naming.here
-
   -- what is told of a node by its type and its places
   pub removal-other : (n : ℕ) (node : Node) → slot files n ≡ Some node → (inode_at blocks n).kind ≢ 1 → removal node ≡ Some false
-  removal-other n (File links bytes) here k = refl
-  removal-other n (Device links major minor) here k = refl
   removal-other n (Directory links places) here k = absurd (k (held-raw g blocks files holds n (Directory links places) here).kind)
+  removal-other n _ here k = refl
 
   pub removal-directory : (n : ℕ) (node : Node) → slot files n ≡ Some node → (inode_at blocks n).kind ≡ 1 → (bare : Bool) → bare ≡ is_bare (places_in (bytes_of blocks n)) → removal node ≡ cond bare (Some true) None
-  removal-directory n (File links bytes) here k bare is = absurd (let z : 2 ≡ 1 = sym (held-raw g blocks files holds n (File links bytes) here).kind ∙ k in omega arith)
-  removal-directory n (Device links major minor) here k bare is = absurd (let z : 3 ≡ 1 = sym (held-raw g blocks files holds n (Device links major minor) here).kind ∙ k in omega arith)
   removal-directory n (Directory links places) here k bare is =
       ap (λ b. cond b (Some true) None) (sym (is ∙ ap is_bare (directory-places n links places here)))
+  removal-directory n node here k bare is = absurd (let e = (held-raw g blocks files holds n node here).kind in omega arith)
+
+-- what a look for a name told
+pub named-in : {g : Geometry} {blocks : List (List ℕ)} (held : IsHeld g blocks) {d : ℕ} (naming : IsNaming (files_of g blocks) d) (name : List ℕ) {o x : Option Found} → o ≡ found_in (places_in (bytes_of blocks d)) name → o ≡ x → found_in naming.places name ≡ x
+named-in {g} {blocks} held {d} naming name told is = ap (λ places. found_in places name) (sym (directory-places g blocks (files_of g blocks) held d (suc naming.links) naming.places naming.here)) ∙ sym told ∙ is
 
 -- ---- the nodes that are there stay
 
@@ -173,9 +169,6 @@ module _ (files : Files) (n : ℕ) (change : Node → Node) (m : ℕ) where
 pub stays-erased : (files : Files) (d k m : ℕ) → slot files m ≢ None → slot (erase files d k) m ≢ None
 unfolding erase
 stays-erased files d k m some = stays-node files d (without_place k) m some
-
-pub some-not : (o : Option Node) (node : Node) → o ≡ Some node → o ≢ None
-some-not o node e h = none-some node (sym h ∙ e)
 
 pub stays-dropped : (files : Files) (n d : ℕ) (goes : Bool) (m : ℕ) → slot files m ≢ None → slot (dropped files n d goes) m ≢ None
 stays-dropped files n d true m some = stays-node (change_node files n fewer_links) d fewer_links m (stays-node files n fewer_links m some)

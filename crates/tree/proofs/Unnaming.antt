@@ -24,7 +24,7 @@ use Rattle.tree.proofs.Gaps.{lacks-dead, lacks-other, spot-directory}
 use Rattle.tree.proofs.Linking.{some-node}
 use Rattle.tree.proofs.Reading.{Rises-before}
 use Rattle.tree.proofs.Spots.{spot-none}
-use Rattle.tree.proofs.Storing.{files-are, held-again, held-made, held-step, length-held, slot-within}
+use Rattle.tree.proofs.Storing.{held-again, held-made, held-step, held-used, length-held, slot-within}
 
 -- the definitions make nothing, and this is why
 abbrev pub Refuses : List ℕ → Files → ℕ → List ℕ → TreeFault → Type 0
@@ -95,18 +95,13 @@ spot-answers g old mid new holds d path at spot same later count after told give
 -- ---- the name is gone
 
 module _ {g : Geometry} {old new : List (List ℕ)} {at : Spot} {n : ℕ} (u : IsUnlinked g old new at n) where
-  pub gone-held : IsHeld g new
-  gone-held = held-again g new u.files u.holds
-
-  pub gone-node : slot (files_of g new) n ≢ None
-  gone-node e = u.stands (ap (λ (fs : Files). slot fs n) (sym (files-are g new u.files u.holds)) ∙ e)
-
-  pub gone-within : (holds : List ℕ) → length holds ≡ g.inodes → n < length holds
-  gone-within holds count =
+  -- what letting its node go asks
+  pub gone-asked : (holds : List ℕ) → length holds ≡ g.inodes → record { held : IsHeld g new; node : slot (files_of g new) n ≢ None; within : n < length holds }
+  gone-asked holds count =
       let node = some-node (slot u.files n) u.stands in
       let high = slot-within u.files n node.0 node.1 in
       let long = length-held g new u.files u.holds in
-      omega arith
+      record { held = held-again g new u.files u.holds; node = held-used u.holds n u.stands; within = omega arith }
 
   pub gone-done : {before last : List (List ℕ)} (holds : List ℕ) (d : ℕ) (path : List ℕ) → old ≡ before → spot_of (files_of g before) d path ≡ Some at → Holds g last (let_go holds (files_of g new) n)
       → IsHeld g last × (unlinked_in holds (files_of g before) d path ≡ Some (files_of g last))

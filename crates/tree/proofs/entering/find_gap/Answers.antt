@@ -2,8 +2,8 @@ use Rattle.std.proofs.Common.{ap, length, ◌∙◌, refl, le_refl, le_trans}
 use Rattle.std.specs.Prelude.{is_some}
 use Rattle.tree.specs.Held.{files_of}
 use Rattle.tree.proofs.Answering.{Answers-fails, Answers-no, Answers-yes, Answers-passed}
-use Rattle.tree.proofs.Gaps.{done-of, gap-full, gap-has, gap-here, gap-lacks, gap-named, gap-place, gap-room}
-use Rattle.tree.proofs.Reading.{read-later, read-same, read-told}
+use Rattle.tree.proofs.Gaps.{done-of, gap-full, gap-has, gap-here, gap-lacks, gap-place, gap-room}
+use Rattle.tree.proofs.Reading.{looked, read-later, read-same, read-told}
 use Rattle.tree.proofs.Exits.{held-same, node-asked, room-same, used-same}
 use Rattle.tree.proofs.Spots.{spot-lacks}
 use Rattle.unixmodel.specs.Manifest.{data_blocks_of}
@@ -60,7 +60,7 @@ returns g c =
     let same = read-same c.lookup.ensures c.in_ok-lookup.was ∙ first.1 in
     let now = read-same c.room.ensures c.in_ok-place.was ∙ same in
     let last = read-same c.has_room.ensures c.in_ok-has_room.was ∙ now in
-    let free = gap-named c.requires.held c.args.directory c.args.path.now first.0 first.1 (read-told c.lookup.ensures c.in_ok-lookup.was) c.in-None.is in
+    let free = looked c.args.geometry c.args.disk.now.blocks c.in_ok-number.number c.in_ok-number.name.now c.lookup.ensures c.in_ok-lookup.was first.1 c.in-None.is in
     let room = gap-place c.requires.held c.args.directory c.args.path.now first.0 same (read-told c.room.ensures c.in_ok-place.was) c.in-Some.is in
     Answers-yes _ (gap-has c.requires.held c.args.directory c.args.path.now first.0 room now c.args.more (read-told c.has_room.ensures c.in_ok-has_room.was) c.if-not-branch.false free, last)
     (ap length last) (le_trans c.spot.ensures.later (le_trans (read-later c.lookup.ensures) (le_trans (read-later c.room.ensures) (read-later c.has_room.ensures))))
@@ -76,5 +76,5 @@ returns-in_err-number g c =
 pub returns-in_default : goal.returns-in_default
 returns-in_default g c =
     let first = done-of c.spot.ensures c.in_ok-number.was in
-    let named = gap-named c.requires.held c.args.directory c.args.path.now first.0 first.1 (read-told c.lookup.ensures c.in_ok-lookup.was) c.in_default.is in
+    let named = looked c.args.geometry c.args.disk.now.blocks c.in_ok-number.number c.in_ok-number.name.now c.lookup.ensures c.in_ok-lookup.was first.1 c.in_default.is in
     Answers-no _ refl (read-same c.lookup.ensures c.in_ok-lookup.was ∙ first.1) (le_trans c.spot.ensures.later (read-later c.lookup.ensures)) tt (record { at = _; spot = first.0; named = ap is_some named })

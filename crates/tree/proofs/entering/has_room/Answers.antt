@@ -1,15 +1,11 @@
 use Rattle.std.proofs.Common.{arith, refl, le_refl}
 use Rattle.tree.proofs.Placing.{enough-reads, room-inode}
 use Rattle.tree.proofs.Reading.{short-bytes}
-use Rattle.tree.proofs.Exits.{Reads-broken, sound-same}
+use Rattle.tree.proofs.Exits.{Reads-broken, node-asked, sound-same}
 use Rattle.tree.proofs.entering.has_room.Goals as goal
 
 pub stat-requires : goal.stat-requires
-stat-requires g c =
-    record {
-      sound = c.requires.held.sound;
-      inode = room-inode c.requires.held c.args.directory c.args.place c.requires.room;
-    }
+stat-requires g c = node-asked refl c.requires.held c.requires.room.here
 
 pub growth-requires : goal.growth-requires
 growth-requires g c =

@@ -1,11 +1,11 @@
-use Rattle.std.proofs.Common.{Err, Some, ap, arith, length, subst, ◌*◌, ◌∙◌}
+use Rattle.std.proofs.Common.{Err, Some, ap, refl, arith, length, subst, ◌*◌, ◌∙◌}
 use Rattle.blockdev.specs.Splice.{splice}
 use Rattle.inode.specs.Writing.{IsFull, Wrote}
 use Rattle.layout.specs.Image.{bytes_of}
 use Rattle.imagerules.proofs.Spelling.{length-place_bytes}
 use Rattle.tree.specs.Held.{files_of}
-use Rattle.tree.proofs.Placing.{Holds-entered, never-lacks, place-high, place-low, room-inode}
-use Rattle.tree.proofs.Exits.{Turns-good, Turns-lost}
+use Rattle.tree.proofs.Placing.{Holds-entered, never-lacks, place-high, place-low}
+use Rattle.tree.proofs.Exits.{Turns-good, Turns-lost, node-asked}
 use Rattle.tree.proofs.entering.put_entry.Goals as goal
 
 pub overflow_mul-gap : goal.overflow_mul-gap
@@ -14,11 +14,7 @@ overflow_mul-gap g c =
     omega arith
 
 pub write_at-requires : goal.write_at-requires
-write_at-requires g c =
-    record {
-      sound = c.requires.held.sound;
-      inode = room-inode c.requires.held c.args.gap.now.directory c.args.gap.now.place c.requires.room;
-    }
+write_at-requires g c = node-asked refl c.requires.held c.requires.room.here
 
 pub unreachable-requires : goal.unreachable-requires
 unreachable-requires g c =

@@ -1,9 +1,9 @@
-use Rattle.std.proofs.Common.{◌≡◌, Some, ap, arith, refl, sym, ◌∙◌, le_trans, None}
+use Rattle.std.proofs.Common.{ap, arith, refl, sym, ◌∙◌, le_trans}
 use Rattle.names.proofs.Naming.{lookup-used}
 use Rattle.tree.specs.Held.{files_of}
-use Rattle.unixmodel.specs.Files.{lookup, parts, follow}
-use Rattle.tree.proofs.Parts.{find-start, follow-next, start-held, follow-none}
-use Rattle.tree.proofs.Reading.{Reads-fails, read-later, read-same, read-told, Reads-good}
+use Rattle.unixmodel.specs.Files.{parts, follow}
+use Rattle.tree.proofs.Parts.{find-start, follow-next, start-held}
+use Rattle.tree.proofs.Reading.{Reads-fails, Reads-then, looked, read-later, read-same, Reads-good}
 use Rattle.tree.proofs.Exits.{held-same, used-same}
 use Rattle.tree.proofs.path.find.Goals as goal
 
@@ -25,13 +25,12 @@ name-preserved g c =
     let files = files_of c.args.geometry c.args.disk.now.blocks in
     let i = c.name.invariant in
     let name = c.in-Some.name.now in
-    let found : lookup files c.name.number name ≡ Some c.in-Some-2.next =
-    sym (sym c.in-Some-2.is ∙ read-told c.lookup.ensures c.in_ok-next.was ∙ ap (λ b. lookup (files_of c.args.geometry b) c.name.number name) i.same) in
+    let found = looked c.args.geometry c.args.disk.now.blocks c.name.number name c.lookup.ensures c.in_ok-next.was i.same c.in-Some-2.is in
     record {
       same = read-same c.lookup.ensures c.in_ok-next.was ∙ i.same;
-      failures = let f = read-later c.lookup.ensures in let h = i.failures in omega arith;
+      failures = le_trans i.failures (read-later c.lookup.ensures);
       used = lookup-used c.requires.rules c.name.number name c.in-Some-2.next found;
-      rest = sym (follow-next files c.name.number c.in-Some-2.next (parts c.name.rest.now) name (parts c.in-Some.after.now) c.in-Some.ensures.some found) ∙ i.rest;
+      rest = sym (follow-next files c.name.number (parts c.name.rest.now) name (parts c.in-Some.after.now) c.in-Some.ensures.some found) ∙ i.rest;
     }
 
 pub lookup-requires : goal.lookup-requires
@@ -44,10 +43,9 @@ returns-in_default-2 g c =
     let files = files_of c.args.geometry c.args.disk.now.blocks in
     let i = c.name.invariant in
     let name = c.in-Some.name.now in
-    let none : lookup files c.name.number name ≡ None =
-    sym (sym c.in_default-2.is ∙ read-told c.lookup.ensures c.in_ok-next.was ∙ ap (λ b. lookup (files_of c.args.geometry b) c.name.number name) i.same) in
-    Reads-good _ (read-same c.lookup.ensures c.in_ok-next.was ∙ i.same) (le_trans i.failures (read-later c.lookup.ensures))
-    (sym (follow-none files c.name.number (parts c.name.rest.now) name (parts c.in-Some.after.now) c.in-Some.ensures.some none) ∙ i.rest)
+    let none = looked c.args.geometry c.args.disk.now.blocks c.name.number name c.lookup.ensures c.in_ok-next.was i.same c.in_default-2.is in
+    Reads-then c.lookup.ensures c.in_ok-next.was i.same i.failures _
+    (sym (follow-next files c.name.number (parts c.name.rest.now) name (parts c.in-Some.after.now) c.in-Some.ensures.some none) ∙ i.rest)
 
 pub name-smaller : goal.name-smaller
 name-smaller g c = c.in-Some.ensures.shorter

@@ -3,20 +3,17 @@ use Rattle.tree.specs.Held.{files_of, Holds}
 use Rattle.tree.specs.Names.{dropped}
 use Rattle.unixmodel.specs.NameCalls.{fewer_links}
 use Rattle.tree.proofs.Linking.{Turns-after, turned}
-use Rattle.tree.proofs.Storing.{files-are, held-again}
+use Rattle.tree.proofs.Storing.{files-are, held-again, held-used}
 use Rattle.tree.proofs.Unlinking.{stays-node}
-use Rattle.unixmodel.specs.Files.{Files, change_node, slot}
+use Rattle.unixmodel.specs.Files.{Files, change_node}
 use Rattle.tree.proofs.Exits.{Turns-broken, Turns-good}
 use Rattle.tree.proofs.step.drop_links.Goals as goal
 
 pub drop_link-requires-then-is_directory : goal.drop_link-requires-then-is_directory
 drop_link-requires-then-is_directory g c =
-    let files = files_of c.args.geometry c.args.disk.now.blocks in
-    record {
-      held = held-again c.args.geometry c.drop_link.new.disk.blocks (change_node (files_of c.args.geometry c.args.disk.now.blocks) c.args.number fewer_links) (turned c.drop_link.ensures c.in_ok-drop_link.was);
-      node = λ e. stays-node files c.args.number fewer_links c.args.directory c.requires.directory
-          (ap (λ (fs : Files). slot fs c.args.directory) (sym (files-are c.args.geometry c.drop_link.new.disk.blocks (change_node files c.args.number fewer_links) (turned c.drop_link.ensures c.in_ok-drop_link.was))) ∙ e);
-    }
+    let now = turned c.drop_link.ensures c.in_ok-drop_link.was in
+    let some = stays-node (files_of c.args.geometry c.args.disk.now.blocks) c.args.number fewer_links c.args.directory c.requires.directory in
+    record { held = held-again c.args.geometry c.drop_link.new.disk.blocks _ now; node = held-used now c.args.directory some }
 
 pub returns-then-is_directory : goal.returns-then-is_directory
 returns-then-is_directory g c =

@@ -5,7 +5,6 @@ use Rattle.unixmodel.specs.NameCalls.{emptied}
 use Rattle.tree.proofs.Emptying.{emptied-held, emptied-other}
 use Rattle.balloc.proofs.Exits.{HasCause-after}
 use Rattle.tree.proofs.Exits.{Turns-broken, Turns-good, used-asked}
-use Rattle.std.proofs.lemmas.Result.{err_from_is_err_and}
 use Rattle.tree.proofs.step.empty_file.Goals as goal
 
 pub stat-requires : goal.stat-requires
