@@ -1,9 +1,9 @@
 -- What the definitions of calls on names tell where they answer.
-use Rattle.std.proofs.Common.{◌≡◌, ℕ, suc, ◌+◌, ◌*◌, ◌<◌, ◌≤◌, Bool, true, false, cond, List, [], ◌∷◌, ◌++◌, None, Option, Some, inl, inr, length, drop, get_or, set, ap, sym, refl, ◌∙◌, arith, subst}
+use Rattle.std.proofs.Common.{◌≡◌, ◌≢◌, ℕ, suc, ◌+◌, ◌*◌, ◌<◌, ◌≤◌, Bool, true, false, cond, List, [], ◌∷◌, ◌++◌, None, Option, Some, inl, inr, length, drop, get_or, set, ap, sym, refl, ◌∙◌, arith, subst}
 use Rattle.std.specs.Prelude.{bytes_eq, count_by, is_none, nat_lt, option_and_then, option_map, position}
 use Rattle.std.specs.List.{position_or_len}
-use Rattle.std.proofs.lemmas.Bool.{cases_lt, cond-true, false≢true, false_from_ne_true, lt-ltb, ltb-true, or_from}
-use Rattle.std.proofs.lemmas.List.{get_or-drop, get_or_past, length-append, length-drop, length-set}
+use Rattle.std.proofs.lemmas.Bool.{cases_eq, cases_lt, cond-true, false≢true, false_from_ne_true, lt-ltb, ltb-true, or_from}
+use Rattle.std.proofs.lemmas.List.{get_or-drop, get_or-set_other, get_or-set_same, get_or_past, length-append, length-drop, length-set}
 use Rattle.std.proofs.lemmas.List.Quantifiers.{position-Some}
 use Rattle.std.proofs.lemmas.List.Sums.{fails_before_first, sum_by-le}
 use Rattle.std.proofs.lemmas.Option.{cond_some, none-some, option_and_then_some, same_Some}
@@ -22,6 +22,13 @@ pub slot-within : {X : Type 0} (xs : List (Option X)) (k : ℕ) (x : X) → slot
 slot-within xs k x h = elim (cases_lt k (length xs)) [
   | inl l ↦ l
   | inr past ↦ absurd (none-some x (sym (get_or_past xs k None past) ∙ h))
+]
+
+-- what holds of the item that is set, and of the others
+pub slot-set : {X : Type 0} (P : Option X → Type 0) (xs : List (Option X)) (n : ℕ) (o : Option X) → n < length xs → (m : ℕ) → (m ≡ n → P o) → (m ≢ n → P (slot xs m)) → P (slot (set xs n o) m)
+slot-set P xs n o l m here other = elim (cases_eq m n) [
+  | inl e ↦ subst P (sym (ap (slot (set xs n o)) e ∙ get_or-set_same xs n o None l)) (here e)
+  | inr s ↦ subst P (sym (get_or-set_other xs n m o None s)) (other s)
 ]
 
 pub change-is : (files : Files) (n : ℕ) (change : Node → Node) (node : Node) → slot files n ≡ Some node → change_node files n change ≡ put files n (change node)

@@ -1,20 +1,19 @@
 -- Changes that leave all names: a node without links goes, or a file has other bytes.
 use Rattle.std.proofs.Common.{◌≡◌, ◌≢◌, ℕ, zero, suc, ◌+◌, ◌≤◌, Bool, true, false, cond, List, [], ◌∷◌, ◌++◌, None, Option, Some, inl, inr, ◌⊎◌, drop, length, set, take, ap, sym, refl, ◌∙◌, arith, subst}
-use Rattle.std.specs.Prelude.{count_by, nat_lt, option_map, unwrap_or, ◌==◌, ◌||◌}
-use Rattle.std.proofs.lemmas.Bool.{cases_eq, cond-false, cond-true, false≢true, lt-ltb, ltb-true, or_left}
+use Rattle.std.specs.Prelude.{count_by, nat_lt, option_map, unwrap_or, ◌==◌}
+use Rattle.std.proofs.lemmas.Bool.{cases_eq, cond-false, cond-true, false≢true, lt-ltb, ltb-true}
 use Rattle.std.proofs.lemmas.List.{get_or-set_other, get_or-set_same, length-append, length-drop, length-set, length-take, set-get_or}
 use Rattle.std.proofs.lemmas.Option.{none-some, same_Some}
 use Rattle.unixmodel.specs.Files.{Entry, Files, Node, change_node, clear, is_directory, links_of, longest, put, slot}
 use Rattle.unixmodel.specs.Files.Node.{Directory, File}
 use Rattle.unixmodel.specs.Image.{KeepsSize, is_directory_at, names_of}
 use Rattle.unixmodel.specs.Memory.{overwrite}
-use Rattle.unixmodel.specs.Reap.{is_used, kept, without_nodes}
-use Rattle.unixmodel.specs.State.{State}
+use Rattle.unixmodel.specs.Reap.{kept}
 use Rattle.names.specs.Changes.{Changed, shape}
 use Rattle.unixmodel.specs.NameCalls.{emptied}
 use Rattle.names.specs.Rules.{HasRoot, KeepsLive, KeepsTree, entries, names_by, names_for}
 use Rattle.names.proofs.Counts.{names-same, names_by-le}
-use Rattle.names.proofs.Finding.{change-is, slot-within}
+use Rattle.names.proofs.Finding.{change-is, slot-set, slot-within}
 use Rattle.names.proofs.Steps.{IsStep, live-kept}
 
 -- a node is as it was, or no directory, with the same names, and what may be named stays a directory or none
@@ -76,12 +75,8 @@ root-links keeps node h z =
 pub releases : {files : Files} → KeepsTree files → (n : ℕ) (node : Node) → slot files n ≡ Some node → links_of node ≡ 0 → KeepsTree (clear files n)
 releases {files} keeps n node here none =
     let away : 1 ≢ n = λ e. root-links keeps node (ap (slot files) e ∙ here) none in
-    keeps-alike keeps (clear files n) (length-set files n None) (λ m. elim (cases_eq m n) [
-      | inl e ↦ subst (λ j. IsAlike j (slot files j) (slot (clear files n) j)) (sym e)
-          (subst (λ q. IsAlike n (slot files n) q) (sym (get_or-set_same files n None None (slot-within files n node here)))
-          (subst (λ o. IsAlike n o None) (sym here) (alike-gone files n node (subst (KeepsLive files n) here (keeps.nodes n)) none)))
-      | inr s ↦ subst (λ q. IsAlike m (slot files m) q) (sym (get_or-set_other files n m None None s)) (alike-same m (slot files m))
-    ])
+    keeps-alike keeps (clear files n) (length-set files n None) (λ m. slot-set (λ q. IsAlike m (slot files m) q) files n None (slot-within files n node here) m
+    (λ e. let at = ap (slot files) e ∙ here in subst (λ o. IsAlike m o None) (sym at) (alike-gone files m node (subst (KeepsLive files m) at (keeps.nodes m)) none)) (λ s. alike-same m (slot files m)))
     (record { links = keeps.root.links; places = keeps.root.places; here = get_or-set_other files n 1 None None away ∙ keeps.root.here })
 
 -- ---- other bytes
@@ -112,11 +107,8 @@ module _ {files : Files} (keeps : KeepsTree files) where
     away e = false≢true (ap (λ o. unwrap_or (option_map is_directory o) false) (sym here ∙ ap (slot files) (sym e) ∙ keeps.root.here))
 
     alike-written : (m : ℕ) → IsAlike m (slot files m) (slot written m)
-    alike-written m = elim (cases_eq m n) [
-      | inl e ↦ subst (λ j. IsAlike j (slot files j) (slot written j)) (sym e)
-          (subst (λ q. IsAlike n (slot files n) q) (sym at-file) (subst (λ o. IsAlike n o (Some (File links new))) (sym here) (alike-bytes n links old new size)))
-      | inr s ↦ subst (λ q. IsAlike m (slot files m) q) (sym (beside m s)) (alike-same m (slot files m))
-    ]
+    alike-written m = slot-set (λ q. IsAlike m (slot files m) q) files n (Some (File links new)) (slot-within files n (File links old) here) m
+        (λ e. subst (λ o. IsAlike m o (Some (File links new))) (sym (ap (slot files) e ∙ here)) (alike-bytes m links old new size)) (λ s. alike-same m (slot files m))
 
     pub writes-bytes : Changed files written
     writes-bytes = record {
@@ -241,8 +233,3 @@ one-linked (Some x) node h = go (nat_lt 0 (links_of x)) refl h where
 
 pub left-linked : (files : Files) → HasLinked (left files)
 left-linked files n node h = one-linked (slot files n) node (sym (slot-here (λ n node. nat_lt 0 (links_of node)) files n) ∙ h)
-
--- without those that nothing uses: what a close, an exit and a change of the directory leave
-pub keeps-used : (s : State) → KeepsTree s.files → KeepsTree (without_nodes s).files
-unfolding without_nodes
-keeps-used s keeps = keeps-kept (λ n node. nat_lt 0 (links_of node) || is_used s n) (λ n node h. or_left (nat_lt 0 (links_of node)) (is_used s n) (left-stays n node h)) keeps
