@@ -1,7 +1,7 @@
 -- A new directory: why it is refused, and what the disk holds.
 use Rattle.std.proofs.Common.{◌≡◌, ◌≢◌, ℕ, ◌+◌, ◌<◌, ◌≤◌, Bool, List, [], None, Option, Some, ap, sym, refl, ◌∙◌, arith, subst, cond, true, false, suc}
 use Rattle.std.specs.Prelude.{All, IsSome, is_none, option_and_then, option_map, ◌&&◌}
-use Rattle.std.proofs.lemmas.Bool.{and_from, and_left, and_right, cond-false, cond-true, false≢true, le-ltb, lt-ltb}
+use Rattle.std.proofs.lemmas.Bool.{and_from, and_left, and_right, cond-false, cond-true, le-ltb, lt-ltb}
 use Rattle.std.proofs.lemmas.List.{get_or-set_same, set-set}
 use Rattle.std.proofs.lemmas.Option.{none-some, same_Some}
 use Rattle.layout.specs.declared.Geometry.{Geometry}
@@ -14,18 +14,18 @@ use Rattle.tree.specs.Entering.{HasGap, LacksBlocks, entered, folder_in, growth,
 use Rattle.tree.specs.Held.{Holds, IsHeld, files_of}
 use Rattle.tree.specs.Lacking.{LacksFolder, LacksGap}
 use Rattle.unixmodel.specs.Counts.{blocks_of}
-use Rattle.unixmodel.specs.Files.{Entry, Files, Node, Spot, change_node, enter, free_number, links_of, live_places, lookup, most_links, put, slot, spot_of}
+use Rattle.unixmodel.specs.Files.{Entry, Files, Node, Spot, change_node, free_number, links_of, live_places, lookup, most_links, put, slot, spot_of}
 use Rattle.unixmodel.specs.Files.Node.{Directory}
 use Rattle.unixmodel.specs.NameCalls.{Made, has_room_for_link, is_free_name, made_below, made_directory, make_at, more_links, new_directory}
-use Rattle.tree.proofs.Gaps.{lacks-dead, lacks-other, spot-directory}
+use Rattle.tree.proofs.Gaps.{lacks-dead, lacks-other, over-lacks, overflow-none, spot-directory}
 use Rattle.names.proofs.Finding.{IsFree, free-number}
 use Rattle.tree.proofs.Leaves.{AsksEntry, entry-asked}
 use Rattle.tree.proofs.Linking.{more-blocks}
 use Rattle.tree.proofs.Looking.{IsLiveAt}
-use Rattle.tree.proofs.Rooms.{blocks_of-entered, enter-full, enter-room, entered-is}
+use Rattle.tree.proofs.Rooms.{blocks_of-entered, cond-none, entered-is, none-not}
 use Rattle.tree.proofs.Spots.{spot-none}
 use Rattle.tree.proofs.Storing.{blocks_of-set, files-are, held-again, held-links, held-made, held-step, length-held, slot-within, used_by}
-use Rattle.tree.proofs.Taking.{fresh-blocks, still-here}
+use Rattle.tree.proofs.Taking.{fresh-blocks, make-done, make-full, make-unnumbered, still-here}
 
 module _ (files : Files) (d : ℕ) (path : List ℕ) where
   pub folder-nowhere : spot_of files d path ≡ None → folder_in files d path ≡ None
@@ -44,11 +44,7 @@ module _ (files : Files) (d : ℕ) (path : List ℕ) where
     folder-there parent here some =
         folder-at parent here
         ∙ cond-false (is_free_name files at && has_room_for_link parent) (linked (make_at files at (new_directory at.directory))) None
-        (and_left (is_free_name files at) (has_room_for_link parent) (go (lookup files at.directory at.name) some))
-      where
-        go : (o : Option ℕ) → IsSome o → is_none o ≡ false
-        go None h = absurd (false≢true h)
-        go (Some m) h = refl
+        (and_left (is_free_name files at) (has_room_for_link parent) (none-not (lookup files at.directory at.name) some))
 
     pub folder-many : (parent : Node) → slot files at.directory ≡ Some parent → most_links ≤ links_of parent → folder_in files d path ≡ None
     folder-many parent here many =
@@ -57,27 +53,14 @@ module _ (files : Files) (d : ℕ) (path : List ℕ) where
         (and_right (is_free_name files at) (has_room_for_link parent) (le-ltb (links_of parent) most_links many))
 
     unmade : (parent : Node) → slot files at.directory ≡ Some parent → make_at files at (new_directory at.directory) ≡ None → folder_in files d path ≡ None
-    unmade parent here none = folder-at parent here ∙ ap (λ o. cond (is_free_name files at && has_room_for_link parent) (linked o) None) none ∙ go (is_free_name files at && has_room_for_link parent) where
-      go : (b : Bool) → cond b (let none : Option Files = None in none) None ≡ None
-      go true = refl
-      go false = refl
-
-    abbrev entered_one : ℕ → Option Made
-    entered_one n = option_map (λ (new : Files). let made : Made = record { files = new; number = n } in made) (enter (put files n (new_directory at.directory n)) at n)
+    unmade parent here none = folder-at parent here ∙ cond-none (is_free_name files at && has_room_for_link parent) (ap linked none)
 
     pub folder-unnumbered : (parent : Node) → slot files at.directory ≡ Some parent → free_number files ≡ None → folder_in files d path ≡ None
-    unfolding make_at
-    folder-unnumbered parent here none = unmade parent here (ap (option_and_then entered_one) none)
+    folder-unnumbered parent here none = unmade parent here (make-unnumbered files at (new_directory at.directory) none)
 
     module _ (links : ℕ) (places : List (Option Entry)) (here : slot files at.directory ≡ Some (Directory (suc links) places)) where
       pub folder-full : room_in places ≡ None → folder_in files d path ≡ None
-      unfolding make_at
-      folder-full none = unmade (Directory (suc links) places) here (go (free_number files) refl) where
-        go : (o : Option ℕ) → free_number files ≡ o → option_and_then entered_one o ≡ None
-        go None e = refl
-        go (Some n) e =
-            ap (option_map (λ (new : Files). let made : Made = record { files = new; number = n } in made))
-            (enter-full (put files n (new_directory at.directory n)) at n links places (still-here (free-number files n e) (new_directory at.directory n) at.directory here) none)
+      folder-full none = unmade (Directory (suc links) places) here (make-full files at (new_directory at.directory) here none)
 
       module _ (k : ℕ) (room : room_in places ≡ Some k) (n : ℕ) (is : free_number files ≡ Some n) where
         abbrev e : Entry
@@ -112,57 +95,44 @@ module _ (files : Files) (d : ℕ) (path : List ℕ) where
             more-blocks third at.directory (Directory (suc links) (placed places k e)) third-here
             ∙ blocks_of-entered second at.directory (suc links) places second-here k e ∙ ap (λ b. b + growth places k) second-blocks
 
-        make-is : make_at files at (new_directory at.directory) ≡ Some (record { files = third; number = n })
-        unfolding make_at
-        make-is =
-            ap (option_and_then entered_one) is
-            ∙ ap (option_map (λ (new : Files). let made : Made = record { files = new; number = n } in made)) (enter-room second at n links places second-here k room)
-
         pub folder-done : suc links < most_links → lookup files at.directory at.name ≡ None → folder_in files d path ≡ Some (change_node third at.directory more_links)
         folder-done few free =
             folder-at (Directory (suc links) places) here
             ∙ cond-true (is_free_name files at && has_room_for_link (Directory (suc links) places)) (linked (make_at files at (new_directory at.directory))) None
             (and_from (is_free_name files at) (has_room_for_link (Directory (suc links) places)) (ap is_none free) (lt-ltb (suc links) most_links few))
-            ∙ ap linked make-is
+            ∙ ap linked (make-done files at (new_directory at.directory) here room is)
 
         -- the files with it take a block beside the name
-        folder-over : (limit : ℕ) → limit < blocks_of files + growth places k + 1 → (made : Files) → folder_in files d path ≡ Some made → limit < blocks_of made
-        folder-over limit few made h = go (is_free_name files at && has_room_for_link (Directory (suc links) places)) (sym (folder-at (Directory (suc links) places) here) ∙ h) where
-          go : (b : Bool) → cond b (linked (make_at files at (new_directory at.directory))) None ≡ Some made → limit < blocks_of made
+        folder-made : (made : Files) → folder_in files d path ≡ Some made → blocks_of made ≡ blocks_of files + growth places k + 1
+        folder-made made h = go (is_free_name files at && has_room_for_link (Directory (suc links) places)) (sym (folder-at (Directory (suc links) places) here) ∙ h) where
+          go : (b : Bool) → cond b (linked (make_at files at (new_directory at.directory))) None ≡ Some made → blocks_of made ≡ blocks_of files + growth places k + 1
           go false q = absurd (none-some made q)
           go true q =
-              let same = ap blocks_of (same_Some (change_node third at.directory more_links) made (sym (ap linked make-is) ∙ q)) in
+              let same = ap blocks_of (same_Some (change_node third at.directory more_links) made (sym (ap linked (make-done files at (new_directory at.directory) here room is)) ∙ q)) in
               let blocks = folder-blocks in
               omega arith
 
   -- the disk has no room for it
   over-folder : (limit : ℕ) → LacksBlocks limit files d path 1 → Overflows limit (folder_in files d path)
-  over-folder limit lacks made h = go (spot-directory files d path lacks.at lacks.spot) (free_number files) refl where
-    go : IsLiveAt files lacks.at.directory → (o : Option ℕ) → free_number files ≡ o → limit < blocks_of made
-    go live None e = absurd (none-some made (sym (folder-unnumbered lacks.at lacks.spot (Directory (suc live.links) live.places) live.here e) ∙ h))
-    go live (Some n) e =
-        let same : live.places ≡ lacks.places = same_Some live.places lacks.places (sym (ap live_places live.here) ∙ lacks.here) in
-        let grown : growth live.places lacks.place ≡ growth lacks.places lacks.place = ap (λ ps. growth ps lacks.place) same in
-        let few = lacks.few in
-        folder-over lacks.at lacks.spot live.links live.places live.here lacks.place (ap room_in same ∙ lacks.room) n e limit (omega arith) made h
+  over-folder limit lacks = over-lacks lacks (λ live room made h. go live room made h (free_number files) refl) where
+    go : (live : IsLiveAt files lacks.at.directory) → room_in live.places ≡ Some lacks.place → (made : Files) → folder_in files d path ≡ Some made → (o : Option ℕ) → free_number files ≡ o → blocks_of made ≡ blocks_of files + growth live.places lacks.place + 1
+    go live room made h None e = absurd (none-some made (sym (folder-unnumbered lacks.at lacks.spot (Directory (suc live.links) live.places) live.here e) ∙ h))
+    go live room made h (Some n) e = folder-made lacks.at lacks.spot live.links live.places live.here lacks.place room n e made h
 
   module _ (limit : ℕ) where
-    pub folder-none : folder_in files d path ≡ None → Overflows limit (folder_in files d path)
-    folder-none e made h = absurd (none-some made (sym e ∙ h))
-
     -- a name that has no room makes no directory
     pub weaker-folder : (told : TreeFault) → told ≢ fault.Device → LacksGap limit files d path 1 told → Overflows limit (folder_in files d path) × LacksFolder limit files d path told
-    weaker-folder NotFound known why = (folder-none (folder-nowhere (spot-none files d path why)), why)
-    weaker-folder NotDir known why = (folder-none (folder-nowhere (lacks-other files d path why)), why)
+    weaker-folder NotFound known why = (overflow-none limit (folder-nowhere (spot-none files d path why)), why)
+    weaker-folder NotDir known why = (overflow-none limit (folder-nowhere (lacks-other files d path why)), why)
     weaker-folder Exists known why =
         let live = spot-directory files d path why.at why.spot in
-        (folder-none (folder-there why.at why.spot (Directory (suc live.links) live.places) live.here why.named), why)
-    weaker-folder DeadDir known why = (folder-none (folder-nowhere (lacks-dead files d path why)), why)
+        (overflow-none limit (folder-there why.at why.spot (Directory (suc live.links) live.places) live.here why.named), why)
+    weaker-folder DeadDir known why = (overflow-none limit (folder-nowhere (lacks-dead files d path why)), why)
     weaker-folder Blocks known why = (over-folder limit why, why)
     weaker-folder Full known why =
         let live = spot-directory files d path why.at why.spot in
         let full : room_in live.places ≡ None = sym (ap (λ o. option_and_then room_in (live_places o)) live.here) ∙ why.none in
-        (folder-none (folder-full why.at why.spot live.links live.places live.here full), why)
+        (overflow-none limit (folder-full why.at why.spot live.links live.places live.here full), why)
     weaker-folder fault.Device known why = absurd (known refl)
     weaker-folder _ known why = absurd why
 

@@ -1,6 +1,6 @@
 -- A new name: where it is to stand, and what becomes of the files.
-use Rattle.std.proofs.Common.{◌≡◌, ℕ, ◌+◌, ◌<◌, Bool, List, None, Option, Some, ap, sym, refl, ◌∙◌, arith, subst, cond, true, false, suc}
-use Rattle.std.specs.Prelude.{IsSome, Ok, Result, is_none, is_some, nat_le, option_and_then, option_map}
+use Rattle.std.proofs.Common.{◌≡◌, ℕ, ◌+◌, Bool, List, None, Option, Some, ap, sym, refl, ◌∙◌, arith, subst, cond, true, false, suc}
+use Rattle.std.specs.Prelude.{IsSome, Ok, Result, is_none, is_some, nat_le, option_and_then}
 use Rattle.std.proofs.lemmas.Bool.{false≢true, leb-false, leb-true}
 use Rattle.std.proofs.lemmas.Option.{none-some, same_Some}
 use Rattle.std.proofs.lemmas.Result.{IfOk-at_ok}
@@ -14,15 +14,15 @@ use Rattle.tree.specs.Held.{IsHeld, files_of}
 use Rattle.tree.specs.Paths.{IsDead, IsNoDirectory, above}
 use Rattle.imagerules.specs.Places.{places_in}
 use Rattle.unixmodel.specs.Counts.{blocks_of}
-use Rattle.unixmodel.specs.Files.{Entry, Files, Node, Spot, enter, free_number, is_directory, live_places, live_spot, lookup, places_at, put, size_of, slot, spot_of}
+use Rattle.unixmodel.specs.Files.{Entry, Files, Node, Spot, free_number, is_directory, live_places, live_spot, lookup, places_at, put, size_of, slot, spot_of}
 use Rattle.unixmodel.specs.Files.Node.{Directory}
 use Rattle.unixmodel.specs.Manifest.{data_blocks_of}
-use Rattle.unixmodel.specs.NameCalls.{Made, make_at, made_at}
+use Rattle.unixmodel.specs.NameCalls.{make_at, made_at}
 use Rattle.tree.proofs.Looking.{IsLiveAt}
 use Rattle.tree.proofs.Parts.{spot-above}
-use Rattle.tree.proofs.Rooms.{blocks_of-entered, enter-full, enter-room}
+use Rattle.tree.proofs.Rooms.{blocks_of-entered, cond-none, none-not}
 use Rattle.names.proofs.Finding.{free-number}
-use Rattle.tree.proofs.Taking.{fresh-blocks, still-here}
+use Rattle.tree.proofs.Taking.{fresh-blocks, make-done, make-full, make-unnumbered, still-here}
 use Rattle.tree.proofs.Unlinking.{directory-places}
 
 pub done-of : {T : Type 0} {old new : Disk} {r : Result T TreeFault} {Done : T → Type 0} {Refused : Type 0} {Why : TreeFault → Type 0} → Answers old new r Done Refused Why → {x : T} → r ≡ Ok x → Done x
@@ -102,15 +102,25 @@ lacks-other files d path other = no-spot files d path other.number other.name ot
 pub lacks-dead : (files : Files) (d : ℕ) (path : List ℕ) → IsDead files d path → spot_of files d path ≡ None
 lacks-dead files d path dead = no-spot files d path dead.number dead.name dead.above (ap live_places dead.here)
 
+-- ---- what would be made
+
+pub overflow-none : (limit : ℕ) {made : Option Files} → made ≡ None → Overflows limit made
+overflow-none limit e files h = absurd (none-some files (sym e ∙ h))
+
+-- it takes more blocks than there are
+pub over-lacks : {limit : ℕ} {files : Files} {d : ℕ} {path : List ℕ} {more : ℕ} (lacks : LacksBlocks limit files d path more) {made : Option Files}
+    → ((live : IsLiveAt files lacks.at.directory) → room_in live.places ≡ Some lacks.place → (fs : Files) → made ≡ Some fs → blocks_of fs ≡ blocks_of files + growth live.places lacks.place + more) → Overflows limit made
+over-lacks {files = files} {d} {path} lacks grows fs is =
+    let live = spot-directory files d path lacks.at lacks.spot in
+    let same : live.places ≡ lacks.places = same_Some live.places lacks.places (sym (ap live_places live.here) ∙ lacks.here) in
+    let grown : growth live.places lacks.place ≡ growth lacks.places lacks.place = ap (λ ps. growth ps lacks.place) same in
+    let few = lacks.few in
+    let blocks = grows live (ap room_in same ∙ lacks.room) fs is in
+    omega arith
+
 -- ---- a new file or device
 
 module _ (limit : ℕ) (files : Files) (d : ℕ) (path : List ℕ) (node : Node) (empty : size_of node ≡ 0) where
-  abbrev Over : Type 0
-  Over = Overflows limit (made_files (made_in files d path node))
-
-  pub over-none : made_in files d path node ≡ None → Over
-  over-none e more h = absurd (none-some more (sym (ap made_files e) ∙ h))
-
   pub made-nowhere : spot_of files d path ≡ None → made_in files d path node ≡ None
   unfolding made_in
   made-nowhere e = ap (option_and_then (λ at. made_at files at (λ n. node))) e
@@ -122,36 +132,19 @@ module _ (limit : ℕ) (files : Files) (d : ℕ) (path : List ℕ) (node : Node)
 
     pub made-there : IsSome (lookup files at.directory at.name) → made_in files d path node ≡ None
     unfolding made_at
-    made-there some = made-is ∙ go (lookup files at.directory at.name) refl some where
-      go : (o : Option ℕ) → lookup files at.directory at.name ≡ o → IsSome o → made_at files at (λ n. node) ≡ None
-      go None e h = absurd (false≢true h)
-      go (Some n) e h = ap (λ o. cond (is_none o) (make_at files at (λ n. node)) None) e
+    made-there some = made-is ∙ ap (λ b. cond b (make_at files at (λ n. node)) None) (none-not (lookup files at.directory at.name) some)
+
+    unmade : make_at files at (λ n. node) ≡ None → made_in files d path node ≡ None
+    unfolding made_at
+    unmade none = made-is ∙ cond-none (is_none (lookup files at.directory at.name)) none
 
     pub made-full : option_and_then room_in (places_at files at.directory) ≡ None → made_in files d path node ≡ None
-    unfolding made_at make_at
-    made-full none = made-is ∙ named (is_none (lookup files at.directory at.name)) where
-      live-at : IsLiveAt files at.directory
-      live-at = spot-directory files d path at spot
-
-      full : room_in live-at.places ≡ None
-      full = sym (ap (λ o. option_and_then room_in (live_places o)) live-at.here) ∙ none
-
-      numbered : (o : Option ℕ) → free_number files ≡ o → option_and_then (λ n. option_map (λ (new : Files). let m : Made = record { files = new; number = n } in m) (enter (put files n node) at n)) o ≡ None
-      numbered None e = refl
-      numbered (Some n) e =
-          ap (option_map (λ (new : Files). let m : Made = record { files = new; number = n } in m))
-          (enter-full (put files n node) at n live-at.links live-at.places (still-here (free-number files n e) node at.directory live-at.here) full)
-
-      named : (b : Bool) → cond b (make_at files at (λ n. node)) None ≡ None
-      named true = numbered (free_number files) refl
-      named false = refl
+    made-full none =
+        let live = spot-directory files d path at spot in
+        unmade (make-full files at (λ n. node) live.here (sym (ap (λ o. option_and_then room_in (live_places o)) live.here) ∙ none))
 
     pub made-unnumbered : free_number files ≡ None → made_in files d path node ≡ None
-    unfolding made_at make_at
-    made-unnumbered none = made-is ∙ named (is_none (lookup files at.directory at.name)) where
-      named : (b : Bool) → cond b (make_at files at (λ n. node)) None ≡ None
-      named true = ap (option_and_then (λ n. option_map (λ (new : Files). let m : Made = record { files = new; number = n } in m) (enter (put files n node) at n))) none
-      named false = refl
+    made-unnumbered none = unmade (make-unnumbered files at (λ n. node) none)
 
     module _ (links : ℕ) (places : List (Option Entry)) (here : slot files at.directory ≡ Some (Directory (suc links) places)) (k : ℕ) (room : room_in places ≡ Some k) (n : ℕ) (is : free_number files ≡ Some n) where
       abbrev e : Entry
@@ -160,34 +153,21 @@ module _ (limit : ℕ) (files : Files) (d : ℕ) (path : List ℕ) (node : Node)
       here-now : slot (put files n node) at.directory ≡ Some (Directory (suc links) places)
       here-now = still-here (free-number files n is) node at.directory here
 
-      make-is : make_at files at (λ n. node) ≡ Some (record { files = entered (put files n node) at.directory k e; number = n })
-      unfolding make_at
-      make-is =
-          ap (option_and_then (λ m. option_map (λ (new : Files). let made : Made = record { files = new; number = m } in made) (enter (put files m node) at m))) is
-          ∙ ap (option_map (λ (new : Files). let made : Made = record { files = new; number = n } in made)) (enter-room (put files n node) at n links places here-now k room)
-
       pub made-done : lookup files at.directory at.name ≡ None → made_in files d path node ≡ Some (record { files = entered (put files n node) at.directory k e; number = n })
       unfolding made_at
-      made-done free = made-is ∙ ap (λ o. cond (is_none o) (make_at files at (λ n. node)) None) free ∙ make-is
+      made-done free = made-is ∙ ap (λ o. cond (is_none o) (make_at files at (λ n. node)) None) free ∙ make-done files at (λ n. node) here room is
 
       pub made-blocks : blocks_of (entered (put files n node) at.directory k e) ≡ blocks_of files + growth places k
       made-blocks = blocks_of-entered (put files n node) at.directory (suc links) places here-now k e ∙ ap (λ b. b + growth places k) (fresh-blocks files n node (free-number files n is) empty)
 
   -- the disk has no room for the name
-  pub over-blocks : LacksBlocks limit files d path 0 → Over
-  over-blocks lacks more h = go (spot-directory files d path lacks.at lacks.spot) (free_number files) refl where
-    go : IsLiveAt files lacks.at.directory → (o : Option ℕ) → free_number files ≡ o → limit < blocks_of more
-    go live None e = absurd (none-some more (sym (ap made_files (made-unnumbered lacks.at lacks.spot e)) ∙ h))
-    go live (Some n) e = named live n e (lookup files lacks.at.directory lacks.at.name) refl where
-      named : (live : IsLiveAt files lacks.at.directory) (n : ℕ) → free_number files ≡ Some n → (o : Option ℕ) → lookup files lacks.at.directory lacks.at.name ≡ o → limit < blocks_of more
-      named live n e (Some m) f = absurd (none-some more (sym (ap made_files (made-there lacks.at lacks.spot (ap is_some f))) ∙ h))
-      named live n e None f =
-          let same : live.places ≡ lacks.places = same_Some live.places lacks.places (sym (ap live_places live.here) ∙ lacks.here) in
-          let room : room_in live.places ≡ Some lacks.place = ap room_in same ∙ lacks.room in
-          let made = made-done lacks.at lacks.spot live.links live.places live.here lacks.place room n e f in
-          let is = same_Some _ more (sym (ap made_files made) ∙ h) in
-          let blocks = made-blocks lacks.at lacks.spot live.links live.places live.here lacks.place room n e in
-          let grown : growth live.places lacks.place ≡ growth lacks.places lacks.place = ap (λ ps. growth ps lacks.place) same in
-          let few = lacks.few in
-          let count = ap blocks_of is in
-          omega arith
+  pub over-blocks : LacksBlocks limit files d path 0 → Overflows limit (made_files (made_in files d path node))
+  over-blocks lacks = over-lacks lacks (λ live room more h. go live room more h (free_number files) refl (lookup files lacks.at.directory lacks.at.name) refl) where
+    go : (live : IsLiveAt files lacks.at.directory) → room_in live.places ≡ Some lacks.place → (more : Files) → made_files (made_in files d path node) ≡ Some more → (o : Option ℕ) → free_number files ≡ o
+        → (q : Option ℕ) → lookup files lacks.at.directory lacks.at.name ≡ q → blocks_of more ≡ blocks_of files + growth live.places lacks.place + 0
+    go live room more h (Some n) e None f =
+        let count = ap blocks_of (same_Some _ more (sym (ap made_files (made-done lacks.at lacks.spot live.links live.places live.here lacks.place room n e f)) ∙ h)) in
+        let blocks = made-blocks lacks.at lacks.spot live.links live.places live.here lacks.place room n e in
+        omega arith
+    go live room more h (Some n) e (Some m) f = absurd (none-some more (sym (ap made_files (made-there lacks.at lacks.spot (ap is_some f))) ∙ h))
+    go live room more h None e q f = absurd (none-some more (sym (ap made_files (made-unnumbered lacks.at lacks.spot e)) ∙ h))

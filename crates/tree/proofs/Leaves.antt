@@ -24,7 +24,7 @@ use Rattle.unixmodel.specs.Files.{Entry, Files, Node, Spot, free_number, put, si
 use Rattle.unixmodel.specs.Files.Node.{Directory}
 use Rattle.unixmodel.specs.Manifest.{data_blocks_of}
 use Rattle.unixmodel.specs.NameCalls.{Made}
-use Rattle.tree.proofs.Gaps.{lacks-dead, lacks-other, made-done, made-full, made-nowhere, made-there, over-blocks, over-none}
+use Rattle.tree.proofs.Gaps.{lacks-dead, lacks-other, made-done, made-full, made-nowhere, made-there, over-blocks, overflow-none}
 use Rattle.tree.proofs.Spots.{spot-none}
 use Rattle.tree.proofs.Storing.{files-are, held-again, held-made, held-step, length-held}
 use Rattle.names.proofs.Finding.{free-number}
@@ -40,12 +40,12 @@ some-kind {kind} h = omega arith
 -- a name that has no room makes nothing
 pub weaker-gap : (limit : ℕ) (files : Files) (d : ℕ) (path : List ℕ) (node : Node) → size_of node ≡ 0 → (told : TreeFault) → told ≢ fault.Device → LacksGap limit files d path 0 told
     → Overflows limit (made_files (made_in files d path node)) × LacksMaking limit files d path 0 told
-weaker-gap limit files d path node empty NotFound known why = (over-none limit files d path node empty (made-nowhere limit files d path node empty (spot-none files d path why)), why)
-weaker-gap limit files d path node empty NotDir known why = (over-none limit files d path node empty (made-nowhere limit files d path node empty (lacks-other files d path why)), why)
-weaker-gap limit files d path node empty Exists known why = (over-none limit files d path node empty (made-there limit files d path node empty why.at why.spot why.named), why)
-weaker-gap limit files d path node empty DeadDir known why = (over-none limit files d path node empty (made-nowhere limit files d path node empty (lacks-dead files d path why)), why)
+weaker-gap limit files d path node empty NotFound known why = (overflow-none limit (ap made_files (made-nowhere limit files d path node empty (spot-none files d path why))), why)
+weaker-gap limit files d path node empty NotDir known why = (overflow-none limit (ap made_files (made-nowhere limit files d path node empty (lacks-other files d path why))), why)
+weaker-gap limit files d path node empty Exists known why = (overflow-none limit (ap made_files (made-there limit files d path node empty why.at why.spot why.named)), why)
+weaker-gap limit files d path node empty DeadDir known why = (overflow-none limit (ap made_files (made-nowhere limit files d path node empty (lacks-dead files d path why))), why)
 weaker-gap limit files d path node empty Blocks known why = (over-blocks limit files d path node empty why, why)
-weaker-gap limit files d path node empty Full known why = (over-none limit files d path node empty (made-full limit files d path node empty why.at why.spot why.none), why)
+weaker-gap limit files d path node empty Full known why = (overflow-none limit (ap made_files (made-full limit files d path node empty why.at why.spot why.none)), why)
 weaker-gap limit files d path node empty fault.Device known why = absurd (known refl)
 weaker-gap limit files d path node empty _ known why = absurd why
 

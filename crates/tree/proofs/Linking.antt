@@ -1,6 +1,7 @@
 -- The number of links of a node is written.
 use Rattle.std.proofs.Common.{◌+◌, ◌≡◌, ◌≢◌, ℕ, ◌≤◌, List, None, Option, Some, Result, length, set, ap, sym, refl, ◌∙◌, arith, subst}
-use Rattle.std.specs.Prelude.{Err, Ok, OnOk}
+use Rattle.std.specs.Prelude.{Err, IsSome, Ok, OnOk}
+use Rattle.std.proofs.lemmas.Bool.{false≢true}
 use Rattle.cache.specs.Disk.{Disk}
 use Rattle.blockdev.specs.declared.DeviceFault.{DeviceFault}
 use Rattle.layout.specs.declared.Geometry.{Geometry}
@@ -19,6 +20,10 @@ use Rattle.tree.proofs.Storing.{Holds-set, blocks_of-set, change-is, held-fits, 
 pub some-node : (o : Option Node) → o ≢ None → (node : Node) × (o ≡ Some node)
 some-node None h = absurd (h refl)
 some-node (Some node) h = (node, refl)
+
+pub node-of : (o : Option Node) → IsSome o → (node : Node) × (o ≡ Some node)
+node-of None h = absurd (false≢true h)
+node-of (Some node) h = (node, refl)
 
 -- with another number of links a node is as it was
 links-raw : (blocks : List (List ℕ)) (n k : ℕ) (node : Node) → IsRaw (node_with (inode_at blocks n) (bytes_of blocks n)) node → IsRaw (node_linked (inode_at blocks n) k (bytes_of blocks n)) (with_links node k)

@@ -23,18 +23,15 @@ use Rattle.unixmodel.specs.Counts.{blocks_of}
 use Rattle.unixmodel.specs.Files.{Entry, Files, Node, Spot, change_node, enter, find, is_directory, kind_of, links_of, live_places, lookup, most_links, places_at, put, slot, spot_of, with_links}
 use Rattle.unixmodel.specs.Files.Node.{Directory}
 use Rattle.unixmodel.specs.NameCalls.{has_room_for_link, is_free_name, linked, linked_node, more_links}
-use Rattle.tree.proofs.Gaps.{lacks-dead, lacks-other, spot-directory}
+use Rattle.tree.proofs.Gaps.{lacks-dead, lacks-other, over-lacks, overflow-none, spot-directory}
 use Rattle.tree.proofs.Leaves.{AsksEntry, entry-asked}
 use Rattle.tree.proofs.Linking.{more-blocks}
 use Rattle.tree.proofs.Exits.{held-same}
 use Rattle.tree.proofs.Reading.{read-later, read-same, read-told}
 use Rattle.tree.proofs.Looking.{IsLiveAt, node-of}
-use Rattle.tree.proofs.Rooms.{blocks_of-entered, enter-full, enter-room}
+use Rattle.tree.proofs.Rooms.{blocks_of-entered, cond-none, enter-full, enter-room, none-not}
 use Rattle.tree.proofs.Spots.{spot-none}
 use Rattle.tree.proofs.Storing.{change-is, held-made, held-raw, held-step, slot-within}
-
-pub overflow-none : (limit : ℕ) {made : Option Files} → made ≡ None → Overflows limit made
-overflow-none limit e files h = absurd (none-some files (sym e ∙ h))
 
 module _ (files : Files) (d : ℕ) (old new : List ℕ) where
   pub linked-nothing : find files d old ≡ None → linked_in files d old new ≡ None
@@ -83,20 +80,13 @@ module _ (files : Files) (d : ℕ) (old new : List ℕ) where
         linked-at = linked-is ∙ ap (option_and_then (λ at. linked_node files at n (Some node))) spot ∙ linked-tests at true few
 
         pub linked-there : IsSome (lookup files at.directory at.name) → linked_in files d old new ≡ None
-        linked-there some = linked-at ∙ go (lookup files at.directory at.name) some where
-          go : (o : Option ℕ) → IsSome o → cond (is_none o) (enter (change_node files n more_links) at n) None ≡ None
-          go None h = absurd (false≢true h)
-          go (Some m) h = refl
+        linked-there some = linked-at ∙ ap (λ b. cond b (enter (change_node files n more_links) at n) None) (none-not (lookup files at.directory at.name) some)
 
         pub linked-full : option_and_then room_in (places_at files at.directory) ≡ None → linked_in files d old new ≡ None
         linked-full none =
             let live = spot-directory files d new at spot in
             let full : room_in live.places ≡ None = sym (ap (λ o. option_and_then room_in (live_places o)) live.here) ∙ none in
-            linked-at ∙ go (is_free_name files at) (enter-full (change_node files n more_links) at n live.links live.places (still-there at.directory (suc live.links) live.places live.here) full)
-          where
-            go : (b : Bool) → enter (change_node files n more_links) at n ≡ None → cond b (enter (change_node files n more_links) at n) None ≡ None
-            go true e = e
-            go false e = refl
+            linked-at ∙ cond-none (is_free_name files at) (enter-full (change_node files n more_links) at n live.links live.places (still-there at.directory (suc live.links) live.places live.here) full)
 
         module _ (links : ℕ) (places : List (Option Entry)) (stands : slot files at.directory ≡ Some (Directory (suc links) places)) (k : ℕ) (room : room_in places ≡ Some k) where
           abbrev e : Entry
@@ -112,17 +102,13 @@ module _ (files : Files) (d : ℕ) (old new : List ℕ) where
 
       module _ (limit : ℕ) (few : has_room_for_link node ≡ true) where
         over-linked : LacksBlocks limit files d new 0 → Overflows limit (linked_in files d old new)
-        over-linked lacks made h = go (spot-directory files d new lacks.at lacks.spot) (lookup files lacks.at.directory lacks.at.name) refl where
-          go : IsLiveAt files lacks.at.directory → (o : Option ℕ) → lookup files lacks.at.directory lacks.at.name ≡ o → limit < blocks_of made
-          go live (Some m) f = absurd (none-some made (sym (linked-there few lacks.at lacks.spot (ap is_some f)) ∙ h))
-          go live None f =
-              let same : live.places ≡ lacks.places = same_Some live.places lacks.places (sym (ap live_places live.here) ∙ lacks.here) in
-              let room : room_in live.places ≡ Some lacks.place = ap room_in same ∙ lacks.room in
-              let is = same_Some _ made (sym (linked-done few lacks.at lacks.spot live.links live.places live.here lacks.place room f) ∙ h) in
+        over-linked lacks = over-lacks lacks (λ live room made h. go live room made h (lookup files lacks.at.directory lacks.at.name) refl) where
+          go : (live : IsLiveAt files lacks.at.directory) → room_in live.places ≡ Some lacks.place → (made : Files) → linked_in files d old new ≡ Some made → (o : Option ℕ) → lookup files lacks.at.directory lacks.at.name ≡ o
+              → blocks_of made ≡ blocks_of files + growth live.places lacks.place + 0
+          go live room made h (Some m) f = absurd (none-some made (sym (linked-there few lacks.at lacks.spot (ap is_some f)) ∙ h))
+          go live room made h None f =
+              let count = ap blocks_of (same_Some _ made (sym (linked-done few lacks.at lacks.spot live.links live.places live.here lacks.place room f) ∙ h)) in
               let blocks = linked-blocks few lacks.at lacks.spot live.links live.places live.here lacks.place room in
-              let grown : growth live.places lacks.place ≡ growth lacks.places lacks.place = ap (λ ps. growth ps lacks.place) same in
-              let less = lacks.few in
-              let count = ap blocks_of is in
               omega arith
 
         pub weaker-link : (told : TreeFault) → told ≢ fault.Device → LacksGap limit files d new 0 told → Overflows limit (linked_in files d old new) × LacksLinking limit files d old new told

@@ -10,16 +10,13 @@ use Rattle.tree.specs.Names.{found_at, found_in}
 use Rattle.imagerules.specs.Places.{places_in}
 use Rattle.unixmodel.specs.Files.{Entry, Files, Node, entry_number, has_name, kind_of, links_of, live_places, lookup, slot}
 use Rattle.unixmodel.specs.Files.Node.{Directory}
+pub use Rattle.tree.proofs.Linking.{node-of}
 use Rattle.tree.proofs.Storing.{held-raw}
 use Rattle.tree.proofs.Unlinking.{directory-places}
 
 pub IfNone-of : {X P : Type 0} (o : Option X) → P → IfNone o P
 IfNone-of None h = h
 IfNone-of (Some x) h = tt
-
-pub node-of : (o : Option Node) → IsSome o → (node : Node) × (o ≡ Some node)
-node-of None h = absurd (false≢true h)
-node-of (Some node) h = (node, refl)
 
 pub not-none : (o : Option Node) → IsSome o → o ≢ None
 not-none None h = λ e. absurd (false≢true h)

@@ -1,8 +1,7 @@
 -- An entry comes into a directory of a disk.
-use Rattle.std.proofs.Common.{◌≡◌, ℕ, ◌+◌, ◌-◌, ◌*◌, ◌/◌, ◌<◌, ◌≤◌, Bool, List, [], ◌∷◌, ◌++◌, Option, Some, length, drop, ap, sym, ◌∙◌, arith, subst, cond, true, false, inl, inr}
+use Rattle.std.proofs.Common.{◌≡◌, ℕ, ◌+◌, ◌-◌, ◌*◌, ◌/◌, ◌<◌, ◌≤◌, Bool, List, [], ◌∷◌, ◌++◌, Option, Some, length, drop, ap, sym, ◌∙◌, arith, subst, cond, inl, inr}
 use Rattle.std.specs.Prelude.{All, Err, IfOk, Ok, OnOk, Result, flat_map, nat_le, nat_lt}
 use Rattle.std.proofs.lemmas.Bool.{cases_lt, cond-false, cond-true, le-ltb, lt-ltb}
-use Rattle.std.proofs.lemmas.Bool.Decides.{nat_tests}
 use Rattle.std.proofs.lemmas.List.{drop_all, take_all}
 use Rattle.std.proofs.lemmas.List.Concat.{flat_map-append}
 use Rattle.std.proofs.lemmas.List.Elements.{All-append, All-cons, All-nil, All-set}
@@ -27,21 +26,6 @@ use Rattle.imagerules.proofs.Spelling.{length-place_bytes, length-spelling}
 use Rattle.tree.proofs.Storing.{Holds-wrote, held-fits, held-inode, held-raw, held-size}
 
 -- ---- the blocks that an entry takes
-
-taken-small : (n : ℕ) → n ≤ 274448 → taken_for n ≤ 300
-taken-small n h = go ((n + 1023) / 1024) (omega arith) where
-  go : (x : ℕ) → x ≤ 269 → x + cond (nat_lt 12 x) 1 0 ≤ 300
-  go x k = grind (arith, nat_tests)
-
-cond-small : (b : Bool) (n : ℕ) → n ≤ 300 → cond b 0 n ≤ 300
-cond-small true n h = omega arith
-cond-small false n h = h
-
-pub growth-small : (size place grown : ℕ) → size ≤ 274432 → grown ≡ cond (nat_lt place (size / 16)) 0 (taken_for (size + 16) - taken_for size) → grown ≤ 300
-growth-small size place grown h e =
-    let small = taken-small (size + 16) (omega arith) in
-    let most = cond-small (nat_lt place (size / 16)) (taken_for (size + 16) - taken_for size) (omega arith) in
-    omega arith
 
 growth-size : (places : List (Option Entry)) (place size grown : ℕ) → size ≡ 16 * length places → grown ≡ cond (nat_lt place (size / 16)) 0 (taken_for (size + 16) - taken_for size) → grown ≡ growth places place
 growth-size places place size grown e is =

@@ -16,7 +16,12 @@ use Rattle.tree.proofs.Storing.{blocks_of-set, change-is, slot-within, used_by}
 
 -- ---- the place
 
-none-not : {X : Type 0} (o : Option X) → is_some o ≡ true → is_none o ≡ false
+-- a test that makes no difference
+pub cond-none : {X : Type 0} (b : Bool) {o : Option X} → o ≡ None → cond b o None ≡ None
+cond-none true e = e
+cond-none false e = refl
+
+pub none-not : {X : Type 0} (o : Option X) → is_some o ≡ true → is_none o ≡ false
 none-not None h = absurd (false≢true h)
 none-not (Some x) h = refl
 

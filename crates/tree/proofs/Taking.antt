@@ -1,6 +1,6 @@
 -- The lowest free number is taken for a node without bytes.
 use Rattle.std.proofs.Common.{◌≡◌, ◌≢◌, ℕ, ◌+◌, ◌-◌, ◌<◌, ◌≤◌, List, None, Option, Some, length, get_or, drop, set, ap, sym, refl, ◌∙◌, arith, subst, false, zero, suc}
-use Rattle.std.specs.Prelude.{is_none, option_map, ◌==◌, ◌||◌}
+use Rattle.std.specs.Prelude.{is_none, option_and_then, option_map, ◌==◌, ◌||◌}
 use Rattle.std.proofs.lemmas.Bool.{cond-false, ne_eqb, or_from}
 use Rattle.std.proofs.lemmas.List.{get_or-drop, get_or-set_other, length-drop}
 use Rattle.std.proofs.lemmas.Option.{none-some}
@@ -10,10 +10,13 @@ use Rattle.layout.proofs.Frame.{get_or-nodes_of}
 use Rattle.layout.specs.Image.{bytes_of, free_blocks, inode_at, node_at, node_with, nodes_of}
 use Rattle.layout.specs.Sound.{IsSound}
 use Rattle.names.proofs.Finding.{IsFree, free-number}
-use Rattle.tree.specs.Entering.{fresh}
+use Rattle.tree.specs.Entering.{entered, fresh, room_in}
 use Rattle.tree.specs.Held.{Agrees, FitsPlaces, Holds, IsRaw}
 use Rattle.unixmodel.specs.Counts.{blocks_of}
-use Rattle.unixmodel.specs.Files.{Files, Node, blocks_for, free_number, put, size_of, slot}
+use Rattle.unixmodel.specs.Files.{Entry, Files, Node, Spot, blocks_for, enter, free_number, put, size_of, slot}
+use Rattle.unixmodel.specs.Files.Node.{Directory}
+use Rattle.unixmodel.specs.NameCalls.{Made, make_at}
+use Rattle.tree.proofs.Rooms.{enter-full, enter-room}
 use Rattle.tree.proofs.Reading.{position-at, position-none}
 use Rattle.tree.proofs.Storing.{Holds-set, blocks_of-set, held-inode, length-held, used_by}
 
@@ -65,6 +68,30 @@ module _ (g : Geometry) (blocks : List (List ℕ)) (files : Files) (holds : Hold
 -- a node stays as it is while another comes
 pub still-here : {files : Files} {n : ℕ} → IsFree files n → (node : Node) (k : ℕ) {x : Node} → slot files k ≡ Some x → slot (put files n node) k ≡ Some x
 still-here {files} {n} number node k {x} here = get_or-set_other files n k (Some node) None (λ e. none-some x (sym number.free ∙ ap (slot files) (sym e) ∙ here)) ∙ here
+
+-- ---- a node that is made
+
+module _ (files : Files) (at : Spot) (node : ℕ → Node) where
+  abbrev numbered : ℕ → Option Files → Option Made
+  numbered n o = option_map (λ (new : Files). let made : Made = record { files = new; number = n } in made) o
+
+  pub make-unnumbered : free_number files ≡ None → make_at files at node ≡ None
+  unfolding make_at
+  make-unnumbered none = ap (option_and_then (λ n. numbered n (enter (put files n (node n)) at n))) none
+
+  module _ {links : ℕ} {places : List (Option Entry)} (here : slot files at.directory ≡ Some (Directory (suc links) places)) where
+    pub make-full : room_in places ≡ None → make_at files at node ≡ None
+    unfolding make_at
+    make-full none = go (free_number files) refl where
+      go : (o : Option ℕ) → free_number files ≡ o → option_and_then (λ n. numbered n (enter (put files n (node n)) at n)) o ≡ None
+      go None e = refl
+      go (Some n) e = ap (numbered n) (enter-full (put files n (node n)) at n links places (still-here (free-number files n e) (node n) at.directory here) none)
+
+    pub make-done : {k n : ℕ} → room_in places ≡ Some k → free_number files ≡ Some n → make_at files at node ≡ Some (record { files = entered (put files n (node n)) at.directory k (record { name = at.name; number = n }); number = n })
+    unfolding make_at
+    make-done {k} {n} room is =
+        ap (option_and_then (λ m. numbered m (enter (put files m (node m)) at m))) is
+        ∙ ap (numbered n) (enter-room (put files n (node n)) at n links places (still-here (free-number files n is) (node n) at.directory here) k room)
 
 -- ---- a node without bytes
 

@@ -1,7 +1,7 @@
 -- A name goes: what the definitions make of the files, and what the steps on the disk do.
 use Rattle.std.proofs.Common.{◌≡◌, ◌≢◌, ℕ, Bool, List, None, Option, Some, ap, sym, refl, ◌∙◌, arith, subst, cond, true, false, inl, inr, set}
 use Rattle.std.specs.Prelude.{IsSome, option_and_then, option_map, position, suc}
-use Rattle.std.proofs.lemmas.Bool.{cases_eq, false≢true}
+use Rattle.std.proofs.lemmas.Bool.{cases_eq}
 use Rattle.std.proofs.lemmas.List.{get_or-set_other, get_or-set_same}
 use Rattle.std.proofs.lemmas.Option.{none-some, same_Some}
 use Rattle.layout.specs.declared.Geometry.{Geometry}
@@ -16,6 +16,7 @@ use Rattle.tree.specs.Unlinks.{IsNaming}
 use Rattle.unixmodel.specs.Files.{Entry, Files, Node, Spot, change_node, entry_number, erase, has_name, is_directory, is_dot_name, live_places, lookup, place_of, put, slot, without_place}
 use Rattle.unixmodel.specs.Files.Node.{Directory}
 use Rattle.imagerules.proofs.Spelling.{places_in-back}
+use Rattle.tree.proofs.Linking.{node-of}
 use Rattle.tree.proofs.Storing.{held-fits, held-raw, slot-within}
 
 -- ---- a name among places
@@ -93,10 +94,7 @@ module _ {files : Files} {d : ℕ} (naming : IsNaming files d) (name : List ℕ)
     found-place = record { links = suc naming.links; places = naming.places; here = naming.here; within = slot-within naming.places f.place found.entry found.here }
 
     pub found-node : (node : Node) × (slot files f.number ≡ Some node)
-    found-node = go (slot files f.number) refl (subst (λ n. IsSome (slot files n)) found.number (naming.numbers f.place found.entry found.here)) where
-      go : (o : Option Node) → slot files f.number ≡ o → IsSome o → (node : Node) × (slot files f.number ≡ Some node)
-      go None e h = absurd (false≢true h)
-      go (Some node) e h = (node, e)
+    found-node = node-of (slot files f.number) (subst (λ n. IsSome (slot files n)) found.number (naming.numbers f.place found.entry found.here))
 
     removed-is : option_and_then (λ k. option_and_then (λ n. removed_node files d k n (slot files n)) (lookup files d name)) (place_of files d name) ≡ removed_node files d f.place f.number (slot files f.number)
     removed-is =

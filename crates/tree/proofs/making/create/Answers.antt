@@ -1,11 +1,12 @@
 use Rattle.std.proofs.Common.{◌≡◌, None, ap, refl, subst, sym, ◌∙◌, le_refl, le_trans}
+use Rattle.tree.specs.Entering.{made_files}
 use Rattle.tree.specs.Held.{files_of}
 use Rattle.tree.specs.Lacking.{LacksMaking}
 use Rattle.tree.specs.Leaves.{leaf_node}
 use Rattle.unixmodel.specs.Files.{free_number}
 use Rattle.unixmodel.specs.Manifest.{data_blocks_of}
 use Rattle.tree.proofs.Answering.{Answers-fails, Answers-passed, Answers-yes}
-use Rattle.tree.proofs.Gaps.{done-of, made-unnumbered, over-none}
+use Rattle.tree.proofs.Gaps.{done-of, made-unnumbered, overflow-none}
 use Rattle.tree.proofs.Linking.{turned}
 use Rattle.tree.proofs.Leaves.{leaf-empty, leaf-taken, made-asked, made-held, weaker-gap, some-kind}
 use Rattle.tree.proofs.Exits.{held-same, none-more}
@@ -26,7 +27,7 @@ returns-in_err-number g c =
     Answers-passed c.take_node.ensures first.1 c.find_gap.ensures.later c.in_err-number.was c.from_residual-in_err-number.ensures.1
     (λ known less why.
     let none : free_number files ≡ None = ap (λ b. free_number (files_of c.args.geometry b)) (sym first.1) ∙ less in (
-      over-none limit files c.args.directory c.args.path.now node (leaf-empty c.args.leaf) (made-unnumbered limit files c.args.directory c.args.path.now node (leaf-empty c.args.leaf) _ first.0.spot none),
+      overflow-none limit (ap made_files (made-unnumbered limit files c.args.directory c.args.path.now node (leaf-empty c.args.leaf) _ first.0.spot none)),
       subst (LacksMaking limit files c.args.directory c.args.path.now 0) (sym why) none,
     ))
 

@@ -5,8 +5,8 @@ use Rattle.unixmodel.specs.Files.{free_number, most_links}
 use Rattle.unixmodel.specs.Files.Node.{Directory}
 use Rattle.unixmodel.specs.Manifest.{data_blocks_of}
 use Rattle.tree.proofs.Answering.{Answers-fails, Answers-no, Answers-passed, Answers-yes}
-use Rattle.tree.proofs.Folders.{above-asked, dots-asked, first-next, folder-held, folder-many, folder-none, folder-unnumbered, name-asked, next-last, parent-links, weaker-folder}
-use Rattle.tree.proofs.Gaps.{done-of}
+use Rattle.tree.proofs.Folders.{above-asked, dots-asked, first-next, folder-held, folder-many, folder-unnumbered, name-asked, next-last, parent-links, weaker-folder}
+use Rattle.tree.proofs.Gaps.{done-of, overflow-none}
 use Rattle.tree.proofs.Leaves.{leaf-taken}
 use Rattle.tree.proofs.Linking.{turned}
 use Rattle.tree.proofs.Exits.{held-same, node-asked}
@@ -33,7 +33,7 @@ returns-then-above-ge-MOST_LINKS g c =
     let many = c.if-above-ge-MOST_LINKS.true in
     let all : most_links ≤ suc first.0.links = omega arith in
     let parent = Directory (suc first.0.links) first.0.places in
-    Answers-no _ refl (c.in_ok-above.ensures.same ∙ first.1) (le_trans c.find_gap.ensures.later c.stat.ensures.cause.later) (folder-none files c.args.directory c.args.path.now limit (folder-many files c.args.directory c.args.path.now _ first.0.spot parent first.0.here all))
+    Answers-no _ refl (c.in_ok-above.ensures.same ∙ first.1) (le_trans c.find_gap.ensures.later c.stat.ensures.cause.later) (overflow-none limit (folder-many files c.args.directory c.args.path.now _ first.0.spot parent first.0.here all))
     (record { at = _; spot = first.0.spot; is = record { node = parent; here = first.0.here; many = all } })
 
 pub returns-in_err-number : goal.returns-in_err-number
@@ -45,7 +45,7 @@ returns-in_err-number g c =
     Answers-passed c.take_node.ensures same (le_trans c.find_gap.ensures.later c.stat.ensures.cause.later) c.in_err-number.was c.from_residual-in_err-number.ensures.1
     (λ known less why.
     let none : free_number files ≡ None = ap (λ b. free_number (files_of c.args.geometry b)) (sym same) ∙ less in (
-      folder-none files c.args.directory c.args.path.now limit (folder-unnumbered files c.args.directory c.args.path.now _ first.0.spot (Directory (suc first.0.links) first.0.places) first.0.here none),
+      overflow-none limit (folder-unnumbered files c.args.directory c.args.path.now _ first.0.spot (Directory (suc first.0.links) first.0.places) first.0.here none),
       subst (LacksFolder limit files c.args.directory c.args.path.now) (sym why) none,
     ))
 

@@ -2,9 +2,9 @@ use Rattle.std.proofs.Common.{inl, sym, ◌∙◌, refl, le_refl, le_trans}
 use Rattle.tree.specs.Held.{files_of}
 use Rattle.unixmodel.specs.Manifest.{data_blocks_of}
 use Rattle.tree.proofs.Answering.{Answers-fails, Answers-no, Answers-passed, Answers-yes}
-use Rattle.tree.proofs.Gaps.{done-of}
+use Rattle.tree.proofs.Gaps.{done-of, overflow-none}
 use Rattle.tree.proofs.Linking.{turned}
-use Rattle.tree.proofs.Links.{found-node, link-asked, linked-asked, linked-held, linked-nothing, overflow-none, seen, seen-directory, seen-many, seen-weaker}
+use Rattle.tree.proofs.Links.{found-node, link-asked, linked-asked, linked-held, linked-nothing, seen, seen-directory, seen-many, seen-weaker}
 use Rattle.tree.proofs.Reading.{read-later, read-same, read-told}
 use Rattle.tree.proofs.Exits.{held-same, node-asked, none-more, rules-same, used-same}
 use Rattle.tree.proofs.making.link.Goals as goal
