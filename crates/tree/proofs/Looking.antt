@@ -6,13 +6,13 @@ use Rattle.layout.specs.declared.Geometry.{Geometry}
 use Rattle.layout.specs.Image.{bytes_of, inode_at}
 use Rattle.tree.specs.declared.place.Found.{Found}
 use Rattle.tree.specs.Held.{Holds}
-use Rattle.tree.specs.Names.{found_at, found_in}
+use Rattle.tree.specs.Names.{found_in}
 use Rattle.imagerules.specs.Places.{places_in}
 use Rattle.unixmodel.specs.Files.{Entry, Files, Node, entry_number, has_name, kind_of, links_of, live_places, lookup, slot}
 use Rattle.unixmodel.specs.Files.Node.{Directory}
 pub use Rattle.tree.proofs.Linking.{node-of}
 use Rattle.tree.proofs.Storing.{held-raw}
-use Rattle.tree.proofs.Unlinking.{directory-places}
+use Rattle.tree.proofs.Unlinking.{directory-places, lookup-in}
 
 pub IfNone-of : {X P : Type 0} (o : Option X) → P → IfNone o P
 IfNone-of None h = h
@@ -42,18 +42,6 @@ live-no (Directory (suc links) places) h = absurd (false≢true (sym h ∙ lt-lt
 live-no _ h = refl
 
 -- ---- a name in a directory
-
-module _ (files : Files) (d links : ℕ) (places : List (Option Entry)) (here : slot files d ≡ Some (Directory (suc links) places)) (name : List ℕ) where
-  pub lookup-in : lookup files d name ≡ option_map (λ (f : Found). f.number) (found_in places name)
-  unfolding lookup found_in
-  lookup-in = ap (λ o. option_and_then (λ ps. entry_number (option_and_then (slot ps) (position (has_name name) ps))) (live_places o)) here ∙ go (position (has_name name) places) where
-    at : (k : ℕ) (o : Option Entry) → entry_number o ≡ option_map (λ (f : Found). f.number) (found_at k o)
-    at k None = refl
-    at k (Some e) = refl
-
-    go : (o : Option ℕ) → entry_number (option_and_then (slot places) o) ≡ option_map (λ (f : Found). f.number) (option_and_then (λ k. found_at k (slot places k)) o)
-    go None = refl
-    go (Some k) = at k (slot places k)
 
 lookup-dead : (files : Files) (d : ℕ) (name : List ℕ) → live_places (slot files d) ≡ None → lookup files d name ≡ None
 unfolding lookup

@@ -1,5 +1,5 @@
 -- What is read of a directory's places.
-use Rattle.std.proofs.Common.{◌≡◌, ℕ, ◌+◌, ◌-◌, ◌*◌, ◌/◌, ◌<◌, ◌≤◌, Bool, List, [], ◌∷◌, None, Option, Some, length, get_or, ap, sym, refl, ◌∙◌, arith, le_trans, subst, cond, true, false, zero, suc}
+use Rattle.std.proofs.Common.{◌≡◌, ℕ, ◌+◌, ◌-◌, ◌*◌, ◌/◌, ◌<◌, ◌≤◌, Bool, List, [], ◌∷◌, None, Option, Some, length, get_or, ap, sym, refl, ◌∙◌, arith, le_trans, subst, cond, true, false, suc}
 use Rattle.std.specs.Prelude.{Err, IfOk, Ok, OnOk, Result, drop, nat_lt, option_and_then, position, ◌==◌}
 use Rattle.std.specs.Result.{IsErrAnd}
 use Rattle.balloc.proofs.Exits.{HasCause-failed, told_err}
@@ -58,10 +58,9 @@ none-taken (None ∷ os) h = none-taken os (λ k l. h (suc k) (omega arith))
 none-taken (Some e ∷ os) h = absurd (none-some e (sym (h 0 (omega arith))))
 
 some-taken : (os : List (Option Entry)) (k : ℕ) (e : Entry) → slot os k ≡ Some e → 1 ≤ length (taken os)
-some-taken [] k e h = absurd (none-some e h)
 some-taken (Some d ∷ os) k e h = omega arith
-some-taken (None ∷ os) zero e h = absurd (none-some e h)
 some-taken (None ∷ os) (suc k) e h = some-taken os k e h
+some-taken _ _ e h = absurd (none-some e h)
 
 slot-drop : (os : List (Option Entry)) (k : ℕ) → slot (drop 2 os) k ≡ slot os (2 + k)
 slot-drop os k = get_or-drop 2 os k None

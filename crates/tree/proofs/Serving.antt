@@ -13,7 +13,7 @@ use Rattle.layout.specs.Image.{RawNode, bytes_of, inode_at, node_with}
 use Rattle.tree.specs.Held.{Holds, IsHeld, IsRaw, files_of}
 use Rattle.tree.specs.Holding.{let_go, without_hold}
 use Rattle.std.proofs.lemmas.Bool.{false≢true}
-use Rattle.std.proofs.lemmas.Result.{IfOk-at_ok}
+use Rattle.std.proofs.lemmas.Result.{IfErr-weaker, IfOk-at_ok, IfOk-weaker}
 use Rattle.names.specs.Rules.{KeepsTree}
 use Rattle.tree.specs.declared.TreeFault.{TreeFault}
 use Rattle.tree.specs.declared.TreeFault.TheVariants.{Device}
@@ -118,22 +118,15 @@ module _ {t seen : FileTree} (is : t ≡ seen) where
 module _ {T : Type 0} (g : Geometry) (d d' : Disk) (hs : List ℕ) {f b : Bool} {r : Result T TreeFault} {Done : T → Type 0} {Refused : Type 0} {Why : TreeFault → Type 0} (answers : Answers d d' r (λ x. IsHeld g d'.blocks × Done x) Refused Why) (e : b ≡ has_failed r) where
   pub acts : Acts (tree g d hs f) (tree g d' hs b) r Done Refused Why
   acts = record {
-    done = done r answers.done;
-    refused = refused r answers.refused;
+    done = IfOk-weaker r (λ x. IsHeld g d'.blocks × Done x) Done (λ x h. h.1) answers.done;
+    refused = IfErr-weaker r (λ fault. fault ≢ Device → IsRefused d d' Refused (Why fault)) (λ fault. fault ≢ Device → IsRefusal (tree g d hs f) (tree g d' hs b) Refused (Why fault))
+        (λ fault h known. let no = h known in record { refused = no.refused; why = no.why; same = ap (files_of g) no.same }) answers.refused;
     failed = e;
     limit = refl;
     holds = refl;
     later = answers.later;
     cause = answers.failed;
   }
-    where
-      done : (r : Result T TreeFault) → IfOk r (λ x. IsHeld g d'.blocks × Done x) → IfOk r Done
-      done (Ok x) h = h.1
-      done (Err fault) h = tt
-
-      refused : (r : Result T TreeFault) → IfErr r (λ fault. fault ≢ Device → IsRefused d d' Refused (Why fault)) → IfErr r (λ fault. fault ≢ Device → IsRefusal (tree g d hs f) (tree g d' hs b) Refused (Why fault))
-      refused (Ok x) h = tt
-      refused (Err fault) h = λ known. let no-change = h known in record { refused = no-change.refused; why = no-change.why; same = ap (files_of g) no-change.same }
 
 -- ---- steps
 

@@ -23,6 +23,7 @@ use Rattle.tree.proofs.Storing.{held-fits, held-raw, slot-within}
 
 -- where a name is found
 pub record IsFound (places : List (Option Entry)) (name : List ℕ) (f : Found) : Type 0 where
+  pub is : found_in places name ≡ Some f
   pub entry : Entry
   pub first : position (has_name name) places ≡ Some f.place
   pub here : slot places f.place ≡ Some entry
@@ -36,22 +37,23 @@ found-parts places name f e = go (position (has_name name) places) refl e where
   at k p (Some entry) q h =
       let same = same_Some (let m : Found = record { place = k; number = entry.number } in m) f h in
       let place : k ≡ f.place = ap (λ (x : Found). x.place) same in
-      record { entry = entry; first = p ∙ ap Some place; here = ap (slot places) (sym place) ∙ q; number = ap (λ (x : Found). x.number) same }
+      record { is = e; entry = entry; first = p ∙ ap Some place; here = ap (slot places) (sym place) ∙ q; number = ap (λ (x : Found). x.number) same }
 
   go : (o : Option ℕ) → position (has_name name) places ≡ o → option_and_then (λ k. found_at k (slot places k)) o ≡ Some f → IsFound places name f
   go None p h = absurd (none-some f h)
   go (Some k) p h = at k p (slot places k) refl h
 
-missing-number : (places : List (Option Entry)) (name : List ℕ) → found_in places name ≡ None → entry_number (option_and_then (slot places) (position (has_name name) places)) ≡ None
-unfolding found_in
-missing-number places name e = go (position (has_name name) places) e where
-  at : (k : ℕ) (o : Option Entry) → found_at k o ≡ None → entry_number o ≡ None
-  at k None h = refl
-  at k (Some entry) h = absurd (none-some _ (sym h))
+module _ (files : Files) (d links : ℕ) (places : List (Option Entry)) (here : slot files d ≡ Some (Directory (suc links) places)) (name : List ℕ) where
+  pub lookup-in : lookup files d name ≡ option_map (λ (f : Found). f.number) (found_in places name)
+  unfolding lookup found_in
+  lookup-in = ap (λ o. option_and_then (λ ps. entry_number (option_and_then (slot ps) (position (has_name name) ps))) (live_places o)) here ∙ go (position (has_name name) places) where
+    at : (k : ℕ) (o : Option Entry) → entry_number o ≡ option_map (λ (f : Found). f.number) (found_at k o)
+    at k None = refl
+    at k (Some e) = refl
 
-  go : (o : Option ℕ) → option_and_then (λ k. found_at k (slot places k)) o ≡ None → entry_number (option_and_then (slot places) o) ≡ None
-  go None h = refl
-  go (Some k) h = at k (slot places k) h
+    go : (o : Option ℕ) → entry_number (option_and_then (slot places) o) ≡ option_map (λ (f : Found). f.number) (option_and_then (λ k. found_at k (slot places k)) o)
+    go None = refl
+    go (Some k) = at k (slot places k)
 
 -- ---- the definitions
 
@@ -63,16 +65,12 @@ module _ {files : Files} {d : ℕ} (naming : IsNaming files d) (name : List ℕ)
   abbrev spot : Spot
   spot = record { directory = d; name = name }
 
-  pub lookup-is : lookup files d name ≡ entry_number (option_and_then (slot naming.places) (position (has_name name) naming.places))
-  unfolding lookup
-  lookup-is = ap (λ o. option_and_then (λ places. entry_number (option_and_then (slot places) (position (has_name name) places))) (live_places o)) naming.here
-
   place-of-is : place_of files d name ≡ position (has_name name) naming.places
   unfolding place_of
   place-of-is = ap (λ o. option_and_then (position (has_name name)) (live_places o)) naming.here
 
   pub lookup-missing : found_in naming.places name ≡ None → lookup files d name ≡ None
-  lookup-missing e = lookup-is ∙ missing-number naming.places name e
+  lookup-missing e = lookup-in files d naming.links naming.places naming.here name ∙ ap (option_map (λ (f : Found). f.number)) e
 
   no-number : (o : Option ℕ) → option_and_then (λ k. option_and_then (λ n. removed_node files d k n (slot files n)) None) o ≡ None
   no-number None = refl
@@ -88,7 +86,7 @@ module _ {files : Files} {d : ℕ} (naming : IsNaming files d) (name : List ℕ)
 
   module _ {f : Found} (found : IsFound naming.places name f) where
     pub lookup-found : lookup files d name ≡ Some f.number
-    lookup-found = lookup-is ∙ ap (λ o. entry_number (option_and_then (slot naming.places) o)) found.first ∙ ap entry_number found.here ∙ ap Some found.number
+    lookup-found = lookup-in files d naming.links naming.places naming.here name ∙ ap (option_map (λ (f : Found). f.number)) found.is
 
     pub found-place : HasPlace files d f.place
     found-place = record { links = suc naming.links; places = naming.places; here = naming.here; within = slot-within naming.places f.place found.entry found.here }

@@ -22,12 +22,11 @@ pub returns-in_err-number : goal.returns-in_err-number
 returns-in_err-number g c =
     let limit = data_blocks_of c.args.geometry.size c.args.geometry.inodes in
     let files = files_of c.args.geometry c.args.disk.now.blocks in
-    let node = leaf_node c.args.leaf in
     let first = done-of c.find_gap.ensures c.in_ok-gap.was in
     Answers-passed c.take_node.ensures first.1 c.find_gap.ensures.later c.in_err-number.was c.from_residual-in_err-number.ensures.1
     (λ known less why.
     let none : free_number files ≡ None = ap (λ b. free_number (files_of c.args.geometry b)) (sym first.1) ∙ less in (
-      overflow-none limit (ap made_files (made-unnumbered limit files c.args.directory c.args.path.now node (leaf-empty c.args.leaf) _ first.0.spot none)),
+      overflow-none limit (ap made_files (made-unnumbered limit files c.args.directory c.args.path.now (leaf_node c.args.leaf) (leaf-empty c.args.leaf) _ first.0.spot none)),
       subst (LacksMaking limit files c.args.directory c.args.path.now 0) (sym why) none,
     ))
 

@@ -9,12 +9,11 @@ use Rattle.tree.proofs.path.find.Goals as goal
 
 pub name-init : goal.name-init
 name-init g c =
-    let files = files_of c.args.geometry c.args.disk.now.blocks in
     record {
       same = refl;
       failures = omega arith;
       used = start-held c.requires.rules c.args.directory c.args.path.now c.requires.directory c.start-number.result c.start-number.ensures;
-      rest = find-start files c.args.directory c.args.path.now c.start-number.result c.start-number.ensures;
+      rest = find-start (files_of c.args.geometry c.args.disk.now.blocks) c.args.directory c.args.path.now c.start-number.result c.start-number.ensures;
     }
 
 pub returns-in_err-next : goal.returns-in_err-next
@@ -22,7 +21,6 @@ returns-in_err-next g c = Reads-fails c.lookup.ensures c.name.invariant.same c.n
 
 pub name-preserved : goal.name-preserved
 name-preserved g c =
-    let files = files_of c.args.geometry c.args.disk.now.blocks in
     let i = c.name.invariant in
     let name = c.in-Some.name.now in
     let found = looked c.args.geometry c.args.disk.now.blocks c.name.number name c.lookup.ensures c.in_ok-next.was i.same c.in-Some-2.is in
@@ -30,7 +28,7 @@ name-preserved g c =
       same = read-same c.lookup.ensures c.in_ok-next.was ∙ i.same;
       failures = le_trans i.failures (read-later c.lookup.ensures);
       used = lookup-used c.requires.rules c.name.number name c.in-Some-2.next found;
-      rest = sym (follow-next files c.name.number (parts c.name.rest.now) name (parts c.in-Some.after.now) c.in-Some.ensures.some found) ∙ i.rest;
+      rest = sym (follow-next (files_of c.args.geometry c.args.disk.now.blocks) c.name.number (parts c.name.rest.now) name (parts c.in-Some.after.now) c.in-Some.ensures.some found) ∙ i.rest;
     }
 
 pub lookup-requires : goal.lookup-requires
@@ -40,12 +38,11 @@ lookup-requires g c =
 
 pub returns-in_default-2 : goal.returns-in_default-2
 returns-in_default-2 g c =
-    let files = files_of c.args.geometry c.args.disk.now.blocks in
     let i = c.name.invariant in
     let name = c.in-Some.name.now in
     let none = looked c.args.geometry c.args.disk.now.blocks c.name.number name c.lookup.ensures c.in_ok-next.was i.same c.in_default-2.is in
     Reads-then c.lookup.ensures c.in_ok-next.was i.same i.failures _
-    (sym (follow-next files c.name.number (parts c.name.rest.now) name (parts c.in-Some.after.now) c.in-Some.ensures.some none) ∙ i.rest)
+    (sym (follow-next (files_of c.args.geometry c.args.disk.now.blocks) c.name.number (parts c.name.rest.now) name (parts c.in-Some.after.now) c.in-Some.ensures.some none) ∙ i.rest)
 
 pub name-smaller : goal.name-smaller
 name-smaller g c = c.in-Some.ensures.shorter

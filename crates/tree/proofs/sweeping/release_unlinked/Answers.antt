@@ -14,9 +14,8 @@ look-requires g c = c.requires.sound
 
 pub returns-in_default : goal.returns-in_default
 returns-in_default g c =
-    let files = files_of c.args.geometry c.args.disk.now.blocks in
     let free = told-free c.requires c.args.number c.in_ok-node.field-0 c.in_default.is c.in_ok-node.ensures.told in
-    turns-same c.requires c.in_ok-node.ensures.same c.look.ensures.count c.look.ensures.cause.later (let-go-free [] files c.args.number free)
+    turns-same c.requires c.in_ok-node.ensures.same c.look.ensures.count c.look.ensures.cause.later (let-go-free [] (files_of c.args.geometry c.args.disk.now.blocks) c.args.number free)
 
 pub returns-then-node-gt0 : goal.returns-then-node-gt0
 returns-then-node-gt0 g c =
