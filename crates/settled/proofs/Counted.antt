@@ -1,5 +1,5 @@
 -- What holds of all entries of a directory, as a count.
-use Rattle.std.proofs.Common.{◌≡◌, ◌≢◌, ℕ, zero, suc, ◌+◌, ◌<◌, ◌≤◌, Bool, true, false, cond, not, List, [], ◌∷◌, inl, inr, length, get_or, ap, sym, refl, ◌∙◌, arith}
+use Rattle.std.proofs.Common.{◌≡◌, ◌≢◌, ℕ, zero, suc, ◌+◌, ◌<◌, ◌≤◌, Bool, true, cond, not, List, [], ◌∷◌, inl, inr, length, get_or, ap, sym, refl, ◌∙◌, arith}
 use Rattle.std.specs.Prelude.{All, AllPairs, IsTrue, bytes_eq, count_by}
 use Rattle.std.proofs.lemmas.Bool.{cases_Bool, false_from_ne_true}
 use Rattle.std.proofs.lemmas.List.Sums.{sum_by-cons}
@@ -7,13 +7,7 @@ use Rattle.std.proofs.lemmas.Slice.Eq.{bytes_eq-Decides}
 use Rattle.unixmodel.specs.Files.{Entry}
 use Rattle.unixmodel.specs.Image.{is_name}
 use Rattle.imagemake.proofs.MadeLists.{count_by-none}
-use Rattle.names.proofs.Counts.{count_by-item}
-
-one : {b : Bool} → b ≡ true → ◌≡◌ {A = ℕ} (cond b 1 0) 1
-one h = ap (λ b. cond b 1 0) h
-
-nothing : {b : Bool} → b ≡ false → ◌≡◌ {A = ℕ} (cond b 1 0) 0
-nothing h = ap (λ b. cond b 1 0) h
+use Rattle.names.proofs.Counts.{count_by-item, counted-none, counted-one}
 
 count-cons : {X : Type 0} (p : X → Bool) (x : X) (xs : List X) → count_by p (x ∷ xs) ≡ cond (p x) 1 0 + count_by p xs
 count-cons p x xs = sum_by-cons (λ y. cond (p y) 1 0) x xs
@@ -28,7 +22,7 @@ pub counted-among : {X : Type 0} (p : X → Bool) (xs : List X) (d : X) → 1 �
 counted-among p [] d h = absurd (omega arith)
 counted-among p (x ∷ xs) d h = elim (cases_Bool (p x)) [
   | inl t ↦ record { place = 0; within = omega arith; passes = t }
-  | inr f ↦ let rest = counted-among p xs d (omega (arith, h, count-cons p x xs, nothing f)) in record { place = suc rest.place; within = let l = rest.within in omega arith; passes = rest.passes }
+  | inr f ↦ let rest = counted-among p xs d (omega (arith, h, count-cons p x xs, counted-none f)) in record { place = suc rest.place; within = let l = rest.within in omega arith; passes = rest.passes }
 ]
 
 -- ---- good names
@@ -39,16 +33,15 @@ good-count es h = count_by-none (λ (e : Entry). not (is_name e.name)) es (λ k 
 pub good-from : (es : List Entry) → count_by (λ (e : Entry). not (is_name e.name)) es ≡ 0 → All (λ (e : Entry). IsTrue (is_name e.name)) es
 good-from es none k d l = elim (cases_Bool (is_name (get_or es k d).name)) [
   | inl t ↦ t
-  | inr f ↦ absurd (omega (arith, none, count_by-item (λ (e : Entry). not (is_name e.name)) es k d l, one (ap not f)))
+  | inr f ↦ absurd (omega (arith, none, count_by-item (λ (e : Entry). not (is_name e.name)) es k d l, counted-one (ap not f)))
 ]
 
 -- ---- each name once
 
 twice : {X : Type 0} (p : X → Bool) (xs : List X) (i j : ℕ) (d : X) → i < j → j < length xs → p (get_or xs i d) ≡ true → p (get_or xs j d) ≡ true → 2 ≤ count_by p xs
-twice p [] i j d h l s t = absurd (omega arith)
-twice p (x ∷ xs) i zero d h l s t = absurd (omega arith)
-twice p (x ∷ xs) zero (suc j) d h l s t = omega (arith, count-cons p x xs, one s, one t, count_by-item p xs j d (omega arith))
+twice p (x ∷ xs) zero (suc j) d h l s t = omega (arith, count-cons p x xs, counted-one s, counted-one t, count_by-item p xs j d (omega arith))
 twice p (x ∷ xs) (suc i) (suc j) d h l s t = omega (arith, count-cons p x xs, twice p xs i j d (omega arith) (omega arith) s t)
+twice p _ i j d h l s t = absurd (omega arith)
 
 pub once-from : (es : List Entry) → ((name : List ℕ) → count_by (λ (e : Entry). bytes_eq e.name name) es ≤ 1) → AllPairs (λ (e f : Entry). e.name ≢ f.name) es
 once-from es once i j d h l same =
@@ -65,6 +58,6 @@ once-count (x ∷ es) h name =
       | inl t ↦
           let is = (bytes_eq-Decides x.name name).0 t in
           let none = count_by-none test es (λ k d l. false_from_ne_true (bytes_eq (get_or es k d).name name) (λ s. h 0 (suc k) d (omega arith) (omega arith) (is ∙ sym ((bytes_eq-Decides (get_or es k d).name name).0 s)))) in
-          omega (arith, count-cons test x es, none, one t)
-      | inr f ↦ omega (arith, count-cons test x es, nothing f, once-count es (λ i j d l m. h (suc i) (suc j) d (omega arith) (omega arith)) name)
+          omega (arith, count-cons test x es, none, counted-one t)
+      | inr f ↦ omega (arith, count-cons test x es, counted-none f, once-count es (λ i j d l m. h (suc i) (suc j) d (omega arith) (omega arith)) name)
     ]

@@ -3,7 +3,7 @@ use Rattle.std.proofs.Common.{◌≡◌, ◌≢◌, ℕ, zero, suc, ◌≤◌, B
 use Rattle.std.specs.Prelude.{count_by, is_some, option_map, unwrap_or, ◌==◌}
 use Rattle.std.proofs.lemmas.Bool.{cases_eq, cond-false, cond-true, eq-eqb, false≢true, ne_eqb}
 use Rattle.unixmodel.specs.Files.{Entry, Files, Node, is_directory, links_of, slot}
-use Rattle.unixmodel.specs.Files.Node.{Device, Directory, File}
+use Rattle.unixmodel.specs.Files.Node.{Directory}
 use Rattle.unixmodel.specs.Image.{KeepsNode, KeepsRules, all_entries, entries_of, is_directory_at, names_of, parent_of, subdirectories}
 use Rattle.imagerules.specs.Places.{EntriesAt}
 use Rattle.imagecheck.specs.Reach.{Climbs, ancestor}
@@ -42,10 +42,8 @@ level-same files (suc j) (suc k) n g h = elim (cases_eq n 1) [
 
 module _ {files : Files} (rules : KeepsRules files) where
   entries-rules : (n : ℕ) (o : Option Node) → KeepsNode files n o → EntriesAt files n o
-  entries-rules n None k = tt
-  entries-rules n (Some (File links bytes)) k = tt
-  entries-rules n (Some (Device links major minor)) k = tt
   entries-rules n (Some (Directory links places)) k = record { own = k.own; parent = k.parent; names = k.names; once = k.once; numbers = k.numbers; named = k.named }
+  entries-rules n _ k = tt
 
   climbs : (n : ℕ) → is_directory_at files n ≡ true → Climbs files n
   climbs = Climbs-reached files (λ n. entries-rules n (slot files n) (rules.nodes n)) rules.reached
@@ -62,10 +60,9 @@ module _ {files : Files} (rules : KeepsRules files) where
 
   named-as : (n : ℕ) (o : Option Node) → slot files n ≡ o → KeepsNode files n o → names_of files n ≡ names_for n o
   named-as n None here k = unused-names n here
-  named-as n (Some (File links bytes)) here k = sym k.counted
-  named-as n (Some (Device links major minor)) here k = sym k.counted
   named-as n (Some (Directory zero places)) here k = absurd (let c = k.counted in omega arith)
   named-as n (Some (Directory (suc links) places)) here k = k.named
+  named-as n _ here k = sym k.counted
 
   -- ---- directories
 
@@ -75,8 +72,6 @@ module _ {files : Files} (rules : KeepsRules files) where
 
   live-from : (n : ℕ) (o : Option Node) → slot files n ≡ o → KeepsNode files n o → KeepsLive files n o
   live-from n None here k = tt
-  live-from n (Some (File links bytes)) here k = k.most
-  live-from n (Some (Device links major minor)) here k = k.most
   live-from n (Some (Directory zero places)) here k = absurd (let c = k.counted in omega arith)
   live-from n (Some (Directory (suc links) places)) here k = record {
     own = k.own;
@@ -90,6 +85,7 @@ module _ {files : Files} (rules : KeepsRules files) where
     once = once-count (entries places) k.once;
     counted = let c = k.counted in omega (arith, folders-are n (suc links) places here);
   }
+  live-from n _ here k = k.most
 
   -- ---- ranks
 
@@ -111,10 +107,8 @@ module _ {files : Files} (rules : KeepsRules files) where
   rank-is n h k root = level-is n (is_directory_at files n) refl h k root
 
   directory-named : (n : ℕ) (o : Option Node) → KeepsNode files n o → unwrap_or (option_map is_directory o) false ≡ true → names_of files n ≡ cond (n == 1) 0 1
-  directory-named n None k h = absurd (false≢true h)
-  directory-named n (Some (File links bytes)) k h = absurd (false≢true h)
-  directory-named n (Some (Device links major minor)) k h = absurd (false≢true h)
   directory-named n (Some (Directory links places)) k h = k.named
+  directory-named n _ k h = absurd (false≢true h)
 
   ranks : IsRanked files rank
   ranks d n h directory =
@@ -131,11 +125,9 @@ module _ {files : Files} (rules : KeepsRules files) where
   -- ---- the root
 
   root-from : (o : Option Node) → slot files 1 ≡ o → KeepsNode files 1 o → unwrap_or (option_map is_directory o) false ≡ true → HasRoot files
-  root-from None here k h = absurd (false≢true h)
-  root-from (Some (File links bytes)) here k h = absurd (false≢true h)
-  root-from (Some (Device links major minor)) here k h = absurd (false≢true h)
   root-from (Some (Directory zero places)) here k h = absurd (let c = k.counted in omega arith)
   root-from (Some (Directory (suc links) places)) here k h = record { links = links; places = places; here = here }
+  root-from _ here k h = absurd (false≢true h)
 
   pub KeepsTree-rules : KeepsTree files
   KeepsTree-rules = record {
@@ -151,6 +143,5 @@ module _ {files : Files} (rules : KeepsRules files) where
   pub linked-rules : (n : ℕ) (node : Node) → slot files n ≡ Some node → 1 ≤ links_of node
   linked-rules n node here = go node (subst (KeepsNode files n) here (rules.nodes n)) where
     go : (node : Node) → KeepsNode files n (Some node) → 1 ≤ links_of node
-    go (File links bytes) k = k.least
-    go (Device links major minor) k = k.least
     go (Directory links places) k = let counted = k.counted in omega arith
+    go _ k = k.least

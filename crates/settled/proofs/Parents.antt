@@ -1,5 +1,5 @@
 -- The directory that names a directory.
-use Rattle.std.proofs.Common.{◌≡◌, ◌≢◌, ℕ, ◌<◌, ◌≤◌, true, cond, List, [], ◌∷◌, None, inl, inr, length, get_or, map, ap, sym, refl, ◌∙◌, arith, subst}
+use Rattle.std.proofs.Common.{◌≡◌, ◌≢◌, ℕ, ◌<◌, ◌≤◌, true, List, [], ◌∷◌, None, inl, inr, length, get_or, map, ap, sym, refl, ◌∙◌, arith, subst}
 use Rattle.std.specs.Prelude.{All, filter, option_map, slice_get, unwrap_or, ◌==◌}
 use Rattle.std.specs.List.{range_with_len}
 use Rattle.std.proofs.lemmas.Bool.{cases_lt, cond-false, eq-eqb, eqb-true, ne_eqb}
@@ -11,7 +11,7 @@ use Rattle.unixmodel.specs.Files.{Entry, Files, slot}
 use Rattle.unixmodel.specs.Image.{all_entries, entries_of, names_number, names_of, parent_of}
 use Rattle.imagerules.proofs.Lists.{All-flat_map, All-from_flat_map, All-from_map, All-from_passing}
 use Rattle.names.specs.Rules.{names_by}
-use Rattle.names.proofs.Counts.{count_by-item, names_by-none}
+use Rattle.names.proofs.Counts.{count_by-item, counted-one, names_by-none}
 use Rattle.settled.proofs.Counted.{counted-among}
 
 -- ---- entries, directory by directory
@@ -41,9 +41,8 @@ unfolding parent_of
 parent-first files n other = cond-false (n == 1) 1 (first_of_them (filter (names_number n) (all_entries files))) (ne_eqb n 1 other)
 
 all-alone : (xs : List (ℕ × Entry)) → length xs ≡ 1 → All (λ x. first_of_them xs ≡ x.0) xs
-all-alone [] h = absurd (omega arith)
 all-alone (x ∷ []) h = All-cons (λ (y : ℕ × Entry). x.0 ≡ y.0) x [] refl (All-nil (λ (y : ℕ × Entry). x.0 ≡ y.0))
-all-alone (x ∷ y ∷ ys) h = absurd (omega arith)
+all-alone _ h = absurd (omega arith)
 
 naming-within : (files : Files) (d n : ℕ) → 1 ≤ names_by (slot files d) n → d < length files
 naming-within files d n h = elim (cases_lt d (length files)) [
@@ -72,7 +71,7 @@ unfolding names_by
 each-names files =
     all-entries files (λ x. 1 ≤ names_by (slot files x.0) x.1.number) (λ d k e l.
     let n = (get_or (entries_of (slot files d)) k e).number in
-    let one : ◌≡◌ {A = ℕ} (cond (n == n) 1 0) 1 = ap (λ b. cond b 1 0) (eq-eqb n n refl) in
+    let one = counted-one (eq-eqb n n refl) in
     omega (arith, one, count_by-item (λ (x : Entry). x.number == n) (entries_of (slot files d)) k e l))
 
 -- what has a name has one in its parent

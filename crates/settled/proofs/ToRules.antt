@@ -3,7 +3,7 @@ use Rattle.std.proofs.Common.{◌≡◌, ◌≢◌, ℕ, zero, suc, ◌+◌, ◌
 use Rattle.std.specs.Prelude.{count_by, option_map, unwrap_or, ◌==◌}
 use Rattle.std.proofs.lemmas.Bool.{cases_eq, cond-false, false≢true, ne_eqb}
 use Rattle.unixmodel.specs.Files.{Entry, Files, Node, dot_dot, is_directory, slot}
-use Rattle.unixmodel.specs.Files.Node.{Device, Directory, File}
+use Rattle.unixmodel.specs.Files.Node.{Directory}
 use Rattle.unixmodel.specs.Image.{KeepsNode, KeepsRules, entries_of, is_directory_at, names_of, parent_of, subdirectories}
 use Rattle.imagerules.specs.Places.{EntriesAt, FitsEntries, HasEntries, HasLinks, LinksAt}
 use Rattle.imagecheck.specs.Reach.{Climbs}
@@ -17,10 +17,8 @@ use Rattle.settled.proofs.Parents.{parent-only}
 
 directory-from : (files : Files) (d : ℕ) (o : Option Node) → slot files d ≡ o → (n : ℕ) → 1 ≤ names_by o n → is_directory_at files d ≡ true
 unfolding names_by
-directory-from files d None at n h = absurd (omega arith)
-directory-from files d (Some (File links bytes)) at n h = absurd (omega arith)
-directory-from files d (Some (Device links major minor)) at n h = absurd (omega arith)
 directory-from files d (Some (Directory links places)) at n h = ap (λ o. unwrap_or (option_map is_directory o) false) at
+directory-from files d _ at n h = absurd (omega arith)
 
 -- what names is a directory
 pub naming-directory : (files : Files) (d n : ℕ) → 1 ≤ names_by (slot files d) n → is_directory_at files d ≡ true
@@ -58,18 +56,15 @@ module _ {files : Files} (keeps : KeepsTree files) (linked : HasLinked files) wh
     counted = omega (arith, live.counted, folders-are d (suc links) places here)
 
   entries-fit : (n : ℕ) (o : Option Node) → slot files n ≡ o → EntriesAt files n o
-  entries-fit n None here = tt
-  entries-fit n (Some (File links bytes)) here = tt
-  entries-fit n (Some (Device links major minor)) here = tt
   entries-fit n (Some (Directory zero places)) here = absurd (let some = linked n (Directory zero places) here in omega arith)
   entries-fit n (Some (Directory (suc links) places)) here = fits n links places here
+  entries-fit n _ here = tt
 
   links-fit : (n : ℕ) (o : Option Node) → slot files n ≡ o → LinksAt files n o
   links-fit n None here = tt
-  links-fit n (Some (File links bytes)) here = (sym (keeps.named n ∙ ap (names_for n) here), linked n (File links bytes) here, subst (KeepsLive files n) here (keeps.nodes n))
-  links-fit n (Some (Device links major minor)) here = (sym (keeps.named n ∙ ap (names_for n) here), linked n (Device links major minor) here, subst (KeepsLive files n) here (keeps.nodes n))
   links-fit n (Some (Directory zero places)) here = absurd (let some = linked n (Directory zero places) here in omega arith)
   links-fit n (Some (Directory (suc links) places)) here = counted n links places here
+  links-fit n (Some node) here = (sym (keeps.named n ∙ ap (names_for n) here), linked n node here, subst (KeepsLive files n) here (keeps.nodes n))
 
   pub HasEntries-live : HasEntries files
   HasEntries-live n = entries-fit n (slot files n) refl
@@ -80,14 +75,12 @@ module _ {files : Files} (keeps : KeepsTree files) (linked : HasLinked files) wh
   -- ---- a directory climbs to the root: by ranks
 
   climbs-above : (n : ℕ) (o : Option Node) → slot files n ≡ o → is_directory_at files n ≡ true → n ≢ 1 → ((up : ℕ) → is_directory_at files up ≡ true → keeps.depth up < keeps.depth n → Climbs files up) → Climbs files n
-  climbs-above n None here h s next = absurd (false≢true (sym (ap (λ o. unwrap_or (option_map is_directory o) false) here) ∙ h))
-  climbs-above n (Some (File links bytes)) here h s next = absurd (false≢true (sym (ap (λ o. unwrap_or (option_map is_directory o) false) here) ∙ h))
-  climbs-above n (Some (Device links major minor)) here h s next = absurd (false≢true (sym (ap (λ o. unwrap_or (option_map is_directory o) false) here) ∙ h))
   climbs-above n (Some (Directory zero places)) here h s next = absurd (let some = linked n (Directory zero places) here in omega arith)
   climbs-above n (Some (Directory (suc links) places)) here h s next =
       let up = (live n links places here).up in
       let names = (live n links places here).above.names s in
       Climbs-child files n (subst (Climbs files) (parent-is n links places here) (next up (naming-directory files up n names) (keeps.ranked up n names h)))
+  climbs-above n _ here h s next = absurd (false≢true (sym (ap (λ o. unwrap_or (option_map is_directory o) false) here) ∙ h))
 
   climbs-below : (k n : ℕ) → keeps.depth n < k → is_directory_at files n ≡ true → Climbs files n
   climbs-below zero n l h = absurd (omega arith)
@@ -103,9 +96,8 @@ module _ {files : Files} (keeps : KeepsTree files) (linked : HasLinked files) wh
 
   node-rules : (n : ℕ) (o : Option Node) → EntriesAt files n o → LinksAt files n o → KeepsNode files n o
   node-rules n None e l = tt
-  node-rules n (Some (File links bytes)) e l = record { counted = l.0; least = l.1; most = l.2 }
-  node-rules n (Some (Device links major minor)) e l = record { counted = l.0; least = l.1; most = l.2 }
   node-rules n (Some (Directory links places)) e l = record { own = e.own; parent = e.parent; names = e.names; once = e.once; numbers = e.numbers; named = e.named; counted = l }
+  node-rules n _ e l = record { counted = l.0; least = l.1; most = l.2 }
 
   pub KeepsRules-live : KeepsRules files
   KeepsRules-live = record {
