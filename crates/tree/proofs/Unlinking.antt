@@ -1,8 +1,7 @@
 -- A name goes: what the definitions make of the files, and what the steps on the disk do.
-use Rattle.std.proofs.Common.{◌≡◌, ◌≢◌, ℕ, Bool, List, None, Option, Some, ap, sym, refl, ◌∙◌, arith, subst, cond, true, false, inl, inr, set}
+use Rattle.std.proofs.Common.{◌≡◌, ◌≢◌, ℕ, Bool, List, None, Option, Some, ap, sym, refl, ◌∙◌, arith, subst, cond, true, false, set}
 use Rattle.std.specs.Prelude.{IsSome, option_and_then, option_map, position, suc}
-use Rattle.std.proofs.lemmas.Bool.{cases_eq}
-use Rattle.std.proofs.lemmas.List.{get_or-set_other, get_or-set_same}
+use Rattle.std.proofs.lemmas.List.{get_or-set_other}
 use Rattle.std.proofs.lemmas.Option.{none-some, same_Some}
 use Rattle.layout.specs.declared.Geometry.{Geometry}
 use Rattle.layout.specs.Image.{bytes_of, inode_at}
@@ -13,9 +12,10 @@ use Rattle.unixmodel.specs.NameCalls.{fewer_links, may_remove, removed_node, unl
 use Rattle.imagerules.specs.Places.{places_in}
 use Rattle.tree.specs.Steps.{HasPlace}
 use Rattle.tree.specs.Unlinks.{IsNaming}
-use Rattle.unixmodel.specs.Files.{Entry, Files, Node, Spot, change_node, entry_number, erase, has_name, is_directory, is_dot_name, live_places, lookup, place_of, put, slot, without_place}
+use Rattle.unixmodel.specs.Files.{Entry, Files, Node, Spot, change_node, entry_number, erase, has_name, is_directory, is_dot_name, live_places, lookup, place_of, slot, without_place}
 use Rattle.unixmodel.specs.Files.Node.{Directory}
 use Rattle.imagerules.proofs.Spelling.{places_in-back}
+use Rattle.names.proofs.Finding.{slot-set}
 use Rattle.tree.proofs.Linking.{node-of}
 use Rattle.tree.proofs.Storing.{held-fits, held-raw, slot-within}
 
@@ -149,18 +149,11 @@ named-in {g} {blocks} held {d} naming name told is = ap (λ places. found_in pla
 -- ---- the nodes that are there stay
 
 module _ (files : Files) (n : ℕ) (change : Node → Node) (m : ℕ) where
-  other-node : (o : Option Node) → m ≢ n → slot files m ≢ None → slot (set files n o) m ≢ None
-  other-node o away some h = some (sym (get_or-set_other files n m o None away) ∙ h)
-
-  same-node : (o : Option Node) → slot files n ≡ o → m ≡ n → slot files m ≢ None → slot (set files n (option_map change o)) m ≢ None
-  same-node None e same some h = some (ap (slot files) same ∙ e)
-  same-node (Some node) e same some h = none-some (change node) (sym h ∙ ap (slot (put files n (change node))) same ∙ get_or-set_same files n (Some (change node)) None (slot-within files n node e))
-
   pub stays-node : slot files m ≢ None → slot (change_node files n change) m ≢ None
-  stays-node some = elim (cases_eq m n) [
-    | inl same ↦ same-node (slot files n) refl same some
-    | inr away ↦ other-node (option_map change (slot files n)) away some
-  ]
+  stays-node some = go (slot files n) refl where
+    go : (o : Option Node) → slot files n ≡ o → slot (set files n (option_map change o)) m ≢ None
+    go None e = λ h. some (sym (get_or-set_other files n m None None (λ same. some (ap (slot files) same ∙ e))) ∙ h)
+    go (Some node) e = slot-set (λ q. q ≢ None) files n (Some (change node)) (slot-within files n node e) m (λ same h. none-some (change node) (sym h)) (λ away. some)
 
 pub stays-erased : (files : Files) (d k m : ℕ) → slot files m ≢ None → slot (erase files d k) m ≢ None
 unfolding erase
