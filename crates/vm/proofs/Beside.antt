@@ -5,7 +5,7 @@ use Rattle.ram.specs.Memory.{frame_of}
 use Rattle.frames.specs.declared.Frames.{Frames}
 use Rattle.frames.specs.Free.{further_at, IsFreeList}
 use Rattle.frames.specs.Holders.{count_of, holders_of, Trades}
-use Rattle.frames.proofs.HolderLemmas.{count_of-first, one-holder, single, Trades-beside}
+use Rattle.frames.proofs.HolderLemmas.{count_of-append, count_of-first, one-holder, single, Trades-beside}
 use Rattle.pagetable.specs.Tree.{Holds, lookup_of}
 use Rattle.pagetable.proofs.Beside.{table_at-same, lookup_of-same}
 use Rattle.vm.specs.declared.Space.{Space}
@@ -92,3 +92,21 @@ Trades-held m k s n old new r q c is room t free =
 
 pub Trades-space : (m k : List (List ℕ)) (s n : Frames) (old new : List ℕ) (b : Space) → IsSpace m b s → ((f : ℕ) → count_of f old + count_of f (holds m b) ≤ holders_of m s f) → Trades m k s n old new → IsFreeList k n → IsSpace k b n
 Trades-space m k s n old new b is room t free = (Trades-held m k s n old new b.root.0 b.trap.0 (pages_in b.size) is room t free).space
+
+-- ---- trades of more than one holder
+
+pub Trades-as : (m k : List (List ℕ)) (s n : Frames) (old new before after : List ℕ) → Trades m k s n old new → ((v : ℕ) → count_of v before ≡ count_of v old) → ((v : ℕ) → count_of v after ≡ count_of v new) → Trades m k s n before after
+Trades-as m k s n old new before after t a b = record {
+  count = t.count;
+  moved = λ v. omega (arith, t.moved v, a v, b v);
+  others = λ v more. t.others v (omega (arith, more, a v));
+  fresh = λ v none some. t.fresh v (omega (arith, none, a v)) (omega (arith, some, b v));
+}
+
+pub Trades-frame : (m k : List (List ℕ)) (s n : Frames) (old new rest : List ℕ) → Trades m k s n old new → Trades m k s n (rest ++ old) (rest ++ new)
+Trades-frame m k s n old new rest t = record {
+  count = t.count;
+  moved = λ v. omega (arith, t.moved v, count_of-append v rest old, count_of-append v rest new);
+  others = λ v more. t.others v (omega (arith, more, count_of-append v rest old));
+  fresh = λ v none some. t.fresh v (omega (arith, none, count_of-append v rest old)) (omega (arith, none, some, count_of-append v rest old, count_of-append v rest new));
+}

@@ -14,28 +14,12 @@ use Rattle.vm.specs.Dense.{frame_at, marks_at, page_at, pages_below, frames_belo
 use Rattle.vm.proofs.DenseLemmas.{count-held, frames_for-more, page-held, pages-apart, pages_below-more, pages_below-zero, length-held}
 use Rattle.vm.proofs.Added.{IsBefore, next-count, next-held, next-pages, next-trades, next-trap, share-stands}
 use Rattle.vm.specs.Leaf.{is_open, right_marks}
-use Rattle.vm.proofs.Beside.{Trades-held}
+use Rattle.vm.proofs.Beside.{Trades-as, Trades-frame, Trades-held}
 use Rattle.vm.specs.Fork.{IsMore, IsPart, IsSoFar}
 use Rattle.vm.proofs.StepLemmas.{IsNext}
 use Rattle.vm.specs.Space.{IsRearranged, IsSpace, pages_of, registers_of, holds, pages_in}
 
 -- ---- trades of more than one holder
-
-Trades-as : (m k : List (List ℕ)) (s n : Frames) (old new before after : List ℕ) → Trades m k s n old new → ((v : ℕ) → count_of v before ≡ count_of v old) → ((v : ℕ) → count_of v after ≡ count_of v new) → Trades m k s n before after
-Trades-as m k s n old new before after t a b = record {
-  count = t.count;
-  moved = λ v. omega (arith, t.moved v, a v, b v);
-  others = λ v more. t.others v (omega (arith, more, a v));
-  fresh = λ v none some. t.fresh v (omega (arith, none, a v)) (omega (arith, some, b v));
-}
-
-Trades-frame : (m k : List (List ℕ)) (s n : Frames) (old new rest : List ℕ) → Trades m k s n old new → Trades m k s n (rest ++ old) (rest ++ new)
-Trades-frame m k s n old new rest t = record {
-  count = t.count;
-  moved = λ v. omega (arith, t.moved v, count_of-append v rest old, count_of-append v rest new);
-  others = λ v more. t.others v (omega (arith, more, count_of-append v rest old));
-  fresh = λ v none some. t.fresh v (omega (arith, none, count_of-append v rest old)) (omega (arith, none, some, count_of-append v rest old, count_of-append v rest new));
-}
 
 Trades-more : (m : List (List ℕ)) (s n : Frames) (f : ℕ) (all : List ℕ) → ((v : ℕ) → holders_of m n v ≡ holders_of m s v + count_of v (f ∷ [])) → 0 < count_of f all → Trades m m s n all (f ∷ all)
 Trades-more m s n f all more there = record {

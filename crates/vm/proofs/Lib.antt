@@ -16,6 +16,7 @@ pub mod SizedLemmas
 pub mod StepLemmas
 pub mod StoreLemmas
 pub mod StringLemmas
+pub mod Taken
 pub mod TrapLemmas
 pub mod WalkLaw
 pub mod WriteLemmas

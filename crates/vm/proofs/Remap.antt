@@ -1,7 +1,7 @@
 -- A page gets another frame with the same bytes, or other marks with the same rights.
 use Rattle.std.proofs.Common.{◌≡◌, ◌≢◌, ℕ, zero, suc, ◌+◌, ◌^◌, ◌<◌, ◌≤◌, ◌⊎◌, inl, inr, Bool, false, true, List, [], ◌∷◌, ◌++◌, length, slice_set, length-set, get_or-set_other, get_or-set_same, Some, None, unwrap_or, nat_eq, ltb, subst, refl, sym, ap, ◌∙◌, arith}
 use Rattle.std.proofs.lemmas.Bool.{cases_eq}
-use Rattle.unixmodel.specs.Memory.{Marks, Page}
+use Rattle.unixmodel.specs.Memory.{Page}
 use Rattle.ram.specs.Memory.{frame_of}
 use Rattle.frames.specs.declared.Frames.{Frames}
 use Rattle.frames.specs.Free.{among, free_of, further_at, IsFreeList}
@@ -366,25 +366,6 @@ split-mapped m z r t n p s q f g is low e none =
     let same : lookup_of z r p ≡ lookup_of m r p = (split-paged m z r t n s q f g is e).2 p in
     cc (same, none, is.dense.pages p low)
 
--- the leaf that was found
-pub record IsFound (m : List (List ℕ)) (r p f a : ℕ) : Type 0 where
-  pub leaf : IsUserLeaf a
-  pub marks : IsLeafMarks a
-  pub right : right_marks a ≡ right_marks (marks_at m r p)
-  pub frame : frame_at m r p ≡ f
-  pub stands : marks_at m r p ≡ a
-
-pub found-leaf : (m : List (List ℕ)) (r t n p f a : ℕ) (s : Frames) → IsHeld m r t n s → p < n → Some (f, a) ≡ lookup_of m r p → IsFound m r p f a
-found-leaf m r t n p f a s is low e =
-    let same : marks_at m r p ≡ a = marks_at-is m r p f a (sym e) in
-    record {
-      leaf = subst IsUserLeaf same (is.dense.leaves p low);
-      marks = (lookup-sound m r p f a is.dense.tree (sym e)).1;
-      right = ap right_marks (sym same);
-      frame = frame_at-is m r p f a (sym e);
-      stands = same;
-    }
-
 pub page-single : (m : List (List ℕ)) (r t n p f : ℕ) (s : Frames) → IsHeld m r t n s → p < n → frame_at m r p ≡ f → holders_of m s f ≤ 1 → further_at s f ≡ 0
 page-single m r t n p f s is low was few =
     let at = held-inside m s f is.free (held-some m r t n s is f (page-is-held m r t n p f low was)) in
@@ -394,19 +375,22 @@ page-single m r t n p f s is low was few =
 pub page-shared : (m : List (List ℕ)) (s : Frames) (f : ℕ) → IsFreeList m s → 1 < holders_of m s f → further_at s f ≢ 0
 page-shared m s f is many none = omega (arith, many, holders-free m s is f, one_if-le (ltb f (length m)), none)
 
--- a leaf that is made of another one, with the same rights
-pub record IsMadeLeaf (a old : ℕ) (wide : Bool) : Type 0 where
+-- a leaf that is made of the one that was found, with the same rights
+pub record IsMadeLeaf (m : List (List ℕ)) (r p f a : ℕ) (wide : Bool) : Type 0 where
+  pub frame : frame_at m r p ≡ f
   pub leaf : IsUserLeaf a
   pub marks : IsLeafMarks a
-  pub right : right_marks a ≡ right_marks old
-  pub made : a ≡ user_leaf (right_marks old) wide
+  pub right : right_marks a ≡ right_marks (marks_at m r p)
+  pub made : a ≡ user_leaf (right_marks (marks_at m r p)) wide
 
-pub made-leaf : (a b old : ℕ) (wide : Bool) → b ≡ user_leaf (right_marks a) wide → right_marks a ≡ right_marks old → IsMadeLeaf b old wide
-made-leaf a b old wide is right =
-    let made : b ≡ user_leaf (right_marks old) wide = is ∙ ap (λ (g : Marks). user_leaf g wide) right in
+pub made-leaf : (m : List (List ℕ)) (r p f a b : ℕ) (wide : Bool) → Some (f, a) ≡ lookup_of m r p → b ≡ user_leaf (right_marks a) wide → IsMadeLeaf m r p f b wide
+made-leaf m r p f a b wide found is =
+    let rights = right_marks (marks_at m r p) in
+    let made : b ≡ user_leaf rights wide = is ∙ ap (λ (l : ℕ). user_leaf (right_marks l) wide) (sym (marks_at-is m r p f a (sym found))) in
     record {
-      leaf = subst IsUserLeaf (sym made) (leaf-user (right_marks old) wide);
-      marks = subst IsLeafMarks (sym made) (leaf-valid (right_marks old) wide);
-      right = ap right_marks made ∙ right-leaf (right_marks old) wide;
+      frame = frame_at-is m r p f a (sym found);
+      leaf = subst IsUserLeaf (sym made) (leaf-user rights wide);
+      marks = subst IsLeafMarks (sym made) (leaf-valid rights wide);
+      right = ap right_marks made ∙ right-leaf rights wide;
       made = made;
     }
