@@ -1,11 +1,11 @@
 -- What is done at a memory that lets fewer stores through.
 use Rattle.std.proofs.Common.{◌≡◌, ℕ, ◌%◌, ◌⊎◌, inl, inr, Bool, true, false, cond, List, Option, Some, None, Ok, Err, subst, refl, ap, sym, ◌∙◌}
-use Rattle.std.specs.Prelude.{◌==◌, slice_index}
+use Rattle.std.specs.Prelude.{◌==◌, option_map, slice_index}
 use Rattle.unixmodel.specs.declared.instr.Instr.{Instr}
 use Rattle.unixmodel.specs.declared.instr.Instr.TheVariants as instr
 use Rattle.unixmodel.specs.declared.instr.LoadOp.{LoadOp}
 use Rattle.unixmodel.specs.declared.trap.Access.TheVariants.{Fetch, Load, Store}
-use Rattle.unixmodel.specs.declared.trap.Cause.TheVariants.{InstructionPageFault, StoreMisaligned, StorePageFault}
+use Rattle.unixmodel.specs.declared.trap.Cause.TheVariants.{StoreMisaligned, StorePageFault}
 use Rattle.unixmodel.specs.Cycle.{act_word, cycle, fetched}
 use Rattle.unixmodel.specs.Meaning.{Effect, act, load_from, load_size, store_size, store_to, trap}
 use Rattle.unixmodel.specs.Memory.{Memory, Page, bytes_at, page_for}
@@ -14,7 +14,7 @@ use Rattle.unixmodel.specs.Words.{instruction_of}
 
 -- two pages with the same bytes, or none
 abbrev pub Alike : Option Page → Option Page → Type 0
-Alike p q = ((p ≡ None) × (q ≡ None)) ⊎ ((a b : Page) × (p ≡ Some a) × (q ≡ Some b) × (a.bytes ≡ b.bytes))
+Alike p q = option_map (λ (a : Page). a.bytes) p ≡ option_map (λ (a : Page). a.bytes) q
 
 -- one memory has the pages of another with the same bytes, and lets fewer stores through
 pub record Narrows (low high : Memory) : Type 0 where
@@ -28,16 +28,24 @@ abbrev pub Retries : (Memory → Effect) → Memory → Memory → Type 0
 Retries e low high = (e low ≡ e high) ⊎ ((address : ℕ) × (e low ≡ trap StorePageFault address) × (page_for Store low address ≡ None)
     × ((mid : Memory) → Narrows mid high → Alike (page_for Store mid address) (page_for Store high address) → e mid ≡ e high))
 
-load-same : (regs : List ℕ) (pc : ℕ) (op : LoadOp) (rd address : ℕ) (p q : Option Page) → Alike p q → load_from regs pc op rd address p ≡ load_from regs pc op rd address q
-load-same regs pc op rd address p q (inl (a, b)) = ap (load_from regs pc op rd address) a ∙ sym (ap (load_from regs pc op rd address) b)
-load-same regs pc op rd address p q (inr (a, b, is_a, is_b, same)) =
-    ap (load_from regs pc op rd address) is_a
-    ∙ ap (λ (bytes : List ℕ). load_from regs pc op rd address (Some (record { bytes = bytes; marks = b.marks }))) same
-    ∙ sym (ap (load_from regs pc op rd address) is_b)
+pub load-same : (regs : List ℕ) (pc : ℕ) (op : LoadOp) (rd address : ℕ) (p q : Option Page) → Alike p q → load_from regs pc op rd address p ≡ load_from regs pc op rd address q
+load-same regs pc op rd address None None h = refl
+load-same regs pc op rd address (Some p) (Some q) h =
+    let same : p.bytes ≡ q.bytes = cc in
+    ap (λ bytes. load_from regs pc op rd address (Some (record { bytes = bytes; marks = q.marks }))) same
+load-same regs pc op rd address p q h = absurd cc
 
-store-same : (regs : List ℕ) (pc address : ℕ) (bytes : List ℕ) (p q : Option Page) → Alike p q → store_to regs pc address bytes p ≡ store_to regs pc address bytes q
-store-same regs pc address bytes p q (inl (a, b)) = ap (store_to regs pc address bytes) a ∙ sym (ap (store_to regs pc address bytes) b)
-store-same regs pc address bytes p q (inr (a, b, is_a, is_b, same)) = ap (store_to regs pc address bytes) is_a ∙ sym (ap (store_to regs pc address bytes) is_b)
+pub store-same : (regs : List ℕ) (pc address : ℕ) (bytes : List ℕ) (p q : Option Page) → Alike p q → store_to regs pc address bytes p ≡ store_to regs pc address bytes q
+store-same regs pc address bytes None None h = refl
+store-same regs pc address bytes (Some p) (Some q) h = refl
+store-same regs pc address bytes p q h = absurd cc
+
+pub fetched-same : (p q : Option Page) (regs : List ℕ) (pc : ℕ) (mem : Memory) → Alike p q → fetched p regs pc mem ≡ fetched q regs pc mem
+fetched-same None None regs pc mem h = refl
+fetched-same (Some p) (Some q) regs pc mem h =
+    let same : p.bytes ≡ q.bytes = cc in
+    ap (λ bytes. act_word (instruction_of (number (bytes_at 4 pc (record { bytes = bytes; marks = q.marks })))) regs pc mem) same
+fetched-same p q regs pc mem h = absurd cc
 
 cond-same : (b : Bool) (d e f : Effect) → d ≡ e → cond b d f ≡ cond b e f
 cond-same true d e f h = h
@@ -61,40 +69,27 @@ act-retries (instr.Store op rs1 rs2 imm) regs pc low high h =
     store-at (address % store_size op == 0) regs pc address (le (store_size op) (slice_index regs rs2)) (trap StoreMisaligned address) low high h
 act-retries _ regs pc low high h = inl refl
 
-cycle-none : (regs : List ℕ) (pc : ℕ) (mem : Memory) → page_for Fetch mem pc ≡ None → cycle regs pc mem ≡ trap InstructionPageFault pc
+cycle-at : (regs : List ℕ) (pc : ℕ) (mem : Memory) (o : Option Page) → Alike (page_for Fetch mem pc) o → cycle regs pc mem ≡ fetched o regs pc mem
 unfolding cycle
-cycle-none regs pc mem e = ap (λ (o : Option Page). fetched o regs pc mem) e
-
-cycle-some : (regs : List ℕ) (pc : ℕ) (mem : Memory) (p : Page) → page_for Fetch mem pc ≡ Some p → cycle regs pc mem ≡ act_word (instruction_of (number (bytes_at 4 pc p))) regs pc mem
-unfolding cycle
-cycle-some regs pc mem p e = ap (λ (o : Option Page). fetched o regs pc mem) e
-
-word-same : (pc : ℕ) (a b : Page) → a.bytes ≡ b.bytes → instruction_of (number (bytes_at 4 pc a)) ≡ instruction_of (number (bytes_at 4 pc b))
-word-same pc a b same = ap (λ (bytes : List ℕ). instruction_of (number (bytes_at 4 pc (record { bytes = bytes; marks = b.marks })))) same
-
--- at any memory that fetches as `high` does, whose page is b
-cycle-word : (regs : List ℕ) (pc : ℕ) (mem high : Memory) (b : Page) → Alike (page_for Fetch mem pc) (page_for Fetch high pc) → page_for Fetch high pc ≡ Some b → cycle regs pc mem ≡ act_word (instruction_of (number (bytes_at 4 pc b))) regs pc mem
-cycle-word regs pc mem high b (inl (x, y)) is = absurd (cc (y, is))
-cycle-word regs pc mem high b (inr (x, y, is_x, is_y, same)) is =
-    let here : y ≡ b = cc (is_y, is) in
-    cycle-some regs pc mem x is_x ∙ ap (λ found. act_word found regs pc mem) (word-same pc x y same ∙ ap (λ (p : Page). instruction_of (number (bytes_at 4 pc p))) here)
+cycle-at regs pc mem o same = fetched-same (page_for Fetch mem pc) o regs pc mem same
 
 word-retries : (found : Option Instr) (regs : List ℕ) (pc : ℕ) (low high : Memory) → Narrows low high → Retries (act_word found regs pc) low high
 word-retries None regs pc low high h = inl refl
 word-retries (Some i) regs pc low high h = act-retries i regs pc low high h
 
+fetched-retries : (o : Option Page) (regs : List ℕ) (pc : ℕ) (low high : Memory) → Narrows low high → Retries (fetched o regs pc) low high
+fetched-retries None regs pc low high h = inl refl
+fetched-retries (Some p) regs pc low high h = word-retries (instruction_of (number (bytes_at 4 pc p))) regs pc low high h
+
 pub cycle-retries : (regs : List ℕ) (pc : ℕ) (low high : Memory) → Narrows low high → Retries (cycle regs pc) low high
-cycle-retries regs pc low high h = elim (h.fetch pc) [
-  | inl both ↦ inl (cycle-none regs pc low both.0 ∙ sym (cycle-none regs pc high both.1))
-  | inr (a, b, is_a, is_b, same) ↦
-      let found = instruction_of (number (bytes_at 4 pc b)) in
-      let here = cycle-word regs pc low high b (h.fetch pc) is_b in
-      let there = cycle-some regs pc high b is_b in
-      elim (word-retries found regs pc low high h) [
-        | inl same_effect ↦ inl (here ∙ same_effect ∙ sym there)
-        | inr (address, fault, none, again) ↦ inr (address, here ∙ fault, none, λ mid nm lets. cycle-word regs pc mid high b (nm.fetch pc) is_b ∙ again mid nm lets ∙ sym there)
-      ]
-]
+cycle-retries regs pc low high h =
+    let o = page_for Fetch high pc in
+    let here = cycle-at regs pc low o (h.fetch pc) in
+    let there = cycle-at regs pc high o refl in
+    elim (fetched-retries o regs pc low high h) [
+      | inl same ↦ inl (here ∙ same ∙ sym there)
+      | inr (address, fault, none, again) ↦ inr (address, here ∙ fault, none, λ mid nm lets. cycle-at regs pc mid o (nm.fetch pc) ∙ again mid nm lets ∙ sym there)
+    ]
 
 -- ---- once more, where the store is let through then
 
@@ -102,9 +97,10 @@ abbrev fault_at : Effect → ℕ
 fault_at (Ok d) = 0
 fault_at (Err t) = t.address
 
-abbrev is_fault : Effect → Bool
-is_fault (Ok d) = false
-is_fault (Err t) = true
+-- a store faults at its own address
+store-fault : (o : Option Page) (regs : List ℕ) (pc address a : ℕ) (bytes : List ℕ) → store_to regs pc address bytes o ≡ trap StorePageFault a → address ≡ a
+store-fault None regs pc address a bytes e = ap fault_at e
+store-fault (Some p) regs pc address a bytes e = absurd cc
 
 -- what an instruction does at a memory that treats the store which faulted as the second does
 store-again : (b : Bool) (regs : List ℕ) (pc address a : ℕ) (bytes : List ℕ) (f : Effect) (low mid high : Memory) → Narrows low high → Narrows mid high → Alike (page_for Store mid a) (page_for Store high a)
@@ -112,13 +108,7 @@ store-again : (b : Bool) (regs : List ℕ) (pc address a : ℕ) (bytes : List �
     → cond b (store_to regs pc address bytes (page_for Store mid address)) f ≡ cond b (store_to regs pc address bytes (page_for Store high address)) f
 store-again false regs pc address a bytes f low mid high down between lets fault = refl
 store-again true regs pc address a bytes f low mid high down between lets fault =
-    let faulted : page_for Store low address ≡ None → address ≡ a = λ (none : page_for Store low address ≡ None). ap fault_at (sym (ap (store_to regs pc address bytes) none) ∙ fault) in
-    let through : (p : Page) → page_for Store low address ≡ Some p → ⊥ = λ (p : Page) (some : page_for Store low address ≡ Some p).
-    let both : false ≡ true = ap is_fault (sym (ap (store_to regs pc address bytes) some) ∙ fault) in absurd cc in
-    let same : address ≡ a = elim (down.store address) [
-      | inl none ↦ faulted none
-      | inr alike ↦ elim alike [ inl both ↦ faulted both.0 | inr some ↦ absurd (through some.0 some.2) ]
-    ] in
+    let same : address ≡ a = store-fault (page_for Store low address) regs pc address a bytes fault in
     store-same regs pc address bytes (page_for Store mid address) (page_for Store high address) (subst (λ (x : ℕ). Alike (page_for Store mid x) (page_for Store high x)) (sym same) lets)
 
 act-again : (i : Instr) (regs : List ℕ) (pc a : ℕ) (low mid high : Memory) → Narrows low high → Narrows mid high → Alike (page_for Store mid a) (page_for Store high a) → act i regs pc low ≡ trap StorePageFault a → act i regs pc mid ≡ act i regs pc high
@@ -136,13 +126,13 @@ word-again : (found : Option Instr) (regs : List ℕ) (pc a : ℕ) (low mid high
 word-again None regs pc a low mid high down between lets fault = refl
 word-again (Some i) regs pc a low mid high down between lets fault = act-again i regs pc a low mid high down between lets fault
 
+fetched-again : (o : Option Page) (regs : List ℕ) (pc a : ℕ) (low mid high : Memory) → Narrows low high → Narrows mid high → Alike (page_for Store mid a) (page_for Store high a) → fetched o regs pc low ≡ trap StorePageFault a
+    → fetched o regs pc mid ≡ fetched o regs pc high
+fetched-again None regs pc a low mid high down between lets fault = refl
+fetched-again (Some p) regs pc a low mid high down between lets fault = word-again (instruction_of (number (bytes_at 4 pc p))) regs pc a low mid high down between lets fault
+
 -- An instruction that faulted at a store does, at a memory that treats this store as the second does, what it does there.
 pub cycle-again : (regs : List ℕ) (pc a : ℕ) (low mid high : Memory) → Narrows low high → Narrows mid high → Alike (page_for Store mid a) (page_for Store high a) → cycle regs pc low ≡ trap StorePageFault a → cycle regs pc mid ≡ cycle regs pc high
-cycle-again regs pc a low mid high down between lets fault = elim (between.fetch pc) [
-  | inl both ↦ cycle-none regs pc mid both.0 ∙ sym (cycle-none regs pc high both.1)
-  | inr (x, b, is_x, is_b, same) ↦
-      let found = instruction_of (number (bytes_at 4 pc b)) in
-      cycle-word regs pc mid high b (between.fetch pc) is_b
-      ∙ word-again found regs pc a low mid high down between lets (sym (cycle-word regs pc low high b (down.fetch pc) is_b) ∙ fault)
-      ∙ sym (cycle-some regs pc high b is_b)
-]
+cycle-again regs pc a low mid high down between lets fault =
+    let o = page_for Fetch high pc in
+    cycle-at regs pc mid o (between.fetch pc) ∙ fetched-again o regs pc a low mid high down between lets (sym (cycle-at regs pc low o (down.fetch pc)) ∙ fault) ∙ sym (cycle-at regs pc high o refl)

@@ -10,13 +10,14 @@ use Rattle.unixmodel.specs.declared.trap.Access.TheVariants.{Fetch, Load, Store}
 use Rattle.unixmodel.specs.declared.trap.Cause.TheVariants.{IllegalInstruction, InstructionPageFault, LoadMisaligned, StoreMisaligned, StorePageFault}
 use Rattle.unixmodel.specs.declared.trap.Trap.{Trap}
 use Rattle.unixmodel.specs.Cycle.{act_word, cycle, fetched}
-use Rattle.unixmodel.specs.Meaning.{Change, Computed, Effect, act, load_from, load_size, store_size, store_to, trap}
+use Rattle.unixmodel.specs.Meaning.{Change, Computed, Effect, act, load_from, load_size, store_size, trap}
 use Rattle.unixmodel.specs.Meaning.Change.{Bytes, Nothing}
 use Rattle.unixmodel.specs.Memory.{Memory, Page, bytes_at, overwrite, page_for}
 use Rattle.unixmodel.specs.Numbers.{extend, le, number, plus}
 use Rattle.unixmodel.specs.Translation.{Held, IsAnswer, IsKept, place_in, walk_page}
 use Rattle.unixmodel.specs.Words.{instruction_of}
 use Rattle.sv39.specs.Mapping.{Mapped, Shows, allowed, frame_for, memory_of, page_in}
+use Rattle.hart.proofs.Retries.{Alike, load-same, store-same}
 use Rattle.hart.specs.Answered.{Answers, AreAllowed, HasEffect, IsStep, Sight, act_by, cycle_by, fetched_by, given, load_by, put_at, seen, store_by, stored, word_by}
 use Rattle.hart.proofs.ChangeLemmas.{stored-entry}
 use Rattle.hart.specs.Changes.{Stores, changed, put_in}
@@ -61,25 +62,15 @@ walked ram root access address = (walk_page ram root (address / 4096) access).fr
 
 abbrev same : Access → Access → Bool
 same Fetch Fetch = true
-same Fetch Load = false
-same Fetch Store = false
-same Load Fetch = false
 same Load Load = true
-same Load Store = false
-same Store Fetch = false
-same Store Load = false
 same Store Store = true
+same _ _ = false
 
 same-is : (a b : Access) → same a b ≡ true → a ≡ b
 same-is Fetch Fetch h = refl
-same-is Fetch Load h = absurd (cc)
-same-is Fetch Store h = absurd (cc)
-same-is Load Fetch h = absurd (cc)
 same-is Load Load h = refl
-same-is Load Store h = absurd (cc)
-same-is Store Fetch h = absurd (cc)
-same-is Store Load h = absurd (cc)
 same-is Store Store h = refl
+same-is _ _ h = absurd cc
 
 same-self : (a : Access) → same a a ≡ true
 same-self Fetch = refl
@@ -116,6 +107,10 @@ pub does_computes : (effect : Effect) (answers : Answers) (result : Option Trap)
 does_computes (Ok d) answers result old new ram h = (h.0, h.1, h.2, h.3, ap (stored ram answers) (sym h.4))
 does_computes (Err t) answers result old new ram h = (h.0, h.1, refl)
 
+-- whatever is answered
+step_unanswered : (held : Held) (meaning : Sight → Effect) (result : Option Trap) (old new : Hart) (ram : List (List ℕ)) → ((answers : Answers) → HasEffect (meaning (seen ram answers)) answers result old new ram ram) → IsStep held meaning result old new ram ram
+step_unanswered held meaning result old new ram does = record { answers = walked ram old.root.0; allowed = λ access address. inl refl; does = does (walked ram old.root.0) }
+
 -- all instructions but loads and stores
 abbrev pub has_no_access : Instr → Bool
 has_no_access (instr.Load op rd rs1 imm) = false
@@ -124,33 +119,15 @@ has_no_access i = true
 
 act_by-without : (i : Instr) (regs : List ℕ) (pc : ℕ) (see : Sight) → has_no_access i ≡ true → act_by i regs pc see ≡ act i regs pc []
 unfolding act_by
-act_by-without (instr.Lui rd imm) regs pc see h = refl
-act_by-without (instr.Auipc rd imm) regs pc see h = refl
-act_by-without (instr.Jal rd offset) regs pc see h = refl
-act_by-without (instr.Jalr rd rs1 imm) regs pc see h = refl
-act_by-without (instr.Branch op rs1 rs2 offset) regs pc see h = refl
 act_by-without (instr.Load op rd rs1 imm) regs pc see h = absurd (cc)
 act_by-without (instr.Store op rs1 rs2 imm) regs pc see h = absurd (cc)
-act_by-without (instr.Imm op rd rs1 imm) regs pc see h = refl
-act_by-without (instr.Shift op rd rs1 amount) regs pc see h = refl
-act_by-without (instr.Reg op rd rs1 rs2) regs pc see h = refl
-act_by-without (instr.Addiw rd rs1 imm) regs pc see h = refl
-act_by-without (instr.ShiftW op rd rs1 amount) regs pc see h = refl
-act_by-without (instr.RegW op rd rs1 rs2) regs pc see h = refl
-act_by-without (instr.Fence rd rs1 imm) regs pc see h = refl
-act_by-without instr.Ecall regs pc see h = refl
-act_by-without instr.Ebreak regs pc see h = refl
+act_by-without _ regs pc see h = refl
 
 pub step_acts : (held : Held) (i : Instr) (result : Option Trap) (old new : Hart) (ram : List (List ℕ)) → has_no_access i ≡ true → Computes (act i old.registers old.pc []) result old new
     → IsStep held (act_by i old.registers old.pc) result old new ram ram
 step_acts held i result old new ram none h =
-    let answers : Answers = walked ram old.root.0 in
-    let P : Effect → Type 0 = λ e. HasEffect e answers result old new ram ram in
-    record {
-      answers = answers;
-      allowed = λ access address. inl refl;
-      does = subst P (sym (act_by-without i old.registers old.pc (seen ram answers) none)) (does_computes (act i old.registers old.pc []) answers result old new ram h);
-    }
+    step_unanswered held (act_by i old.registers old.pc) result old new ram (λ answers.
+    rw (act_by-without i old.registers old.pc (seen ram answers) none) (does_computes (act i old.registers old.pc []) answers result old new ram h))
 
 -- ---- a step with one access
 
@@ -179,11 +156,7 @@ trap-still (Err t) answers result old new ram ram' h = rw h.0 (h.1, h.2)
 pub load-misaligned : (held : Held) (ram : List (List ℕ)) (old new : Hart) (result : Option Trap) (op : LoadOp) (rd address : ℕ) → (address % load_size op == 0) ≡ false
     → Computes (trap LoadMisaligned address) result old new → IsStep held (load_by old.registers old.pc op rd address) result old new ram ram
 load-misaligned held ram old new result op rd address odd h =
-    record {
-      answers = walked ram old.root.0;
-      allowed = λ access address. inl refl;
-      does = rw odd (does_computes (trap LoadMisaligned address) (walked ram old.root.0) result old new ram h);
-    }
+    step_unanswered held (load_by old.registers old.pc op rd address) result old new ram (λ answers. rw odd (does_computes (trap LoadMisaligned address) answers result old new ram h))
 
 pub load-answered : (held : Held) (ram : List (List ℕ)) (old new : Hart) (result : Option Trap) (op : LoadOp) (rd address : ℕ) (o : Option ℕ) → (address % load_size op == 0) ≡ true
     → IsAnswer held ram old.root.0 address Load (option_map (place_in address) o)
@@ -195,11 +168,7 @@ load-answered held ram old new result op rd address o aligned is h =
 pub store-misaligned : (held : Held) (ram : List (List ℕ)) (old new : Hart) (result : Option Trap) (op : StoreOp) (address value : ℕ) → (address % store_size op == 0) ≡ false
     → Computes (trap StoreMisaligned address) result old new → IsStep held (store_by old.registers old.pc op address value) result old new ram ram
 store-misaligned held ram old new result op address value odd h =
-    record {
-      answers = walked ram old.root.0;
-      allowed = λ access address. inl refl;
-      does = rw odd (does_computes (trap StoreMisaligned address) (walked ram old.root.0) result old new ram h);
-    }
+    step_unanswered held (store_by old.registers old.pc op address value) result old new ram (λ answers. rw odd (does_computes (trap StoreMisaligned address) answers result old new ram h))
 
 pub store-fault : (held : Held) (ram : List (List ℕ)) (old new : Hart) (result : Option Trap) (op : StoreOp) (address value : ℕ) → (address % store_size op == 0) ≡ true
     → IsAnswer held ram old.root.0 address Store None
@@ -223,22 +192,8 @@ store-done held ram ram' old new result op address value f aligned is none regis
 act_by-fetch : (i : Instr) (regs : List ℕ) (pc at : ℕ) (ram : List (List ℕ)) (o : Option ℕ) (answers : Answers)
     → act_by i regs pc (seen ram (with_answer Fetch at o answers)) ≡ act_by i regs pc (seen ram answers)
 unfolding act_by
-act_by-fetch (instr.Lui rd imm) regs pc at ram o answers = refl
-act_by-fetch (instr.Auipc rd imm) regs pc at ram o answers = refl
-act_by-fetch (instr.Jal rd offset) regs pc at ram o answers = refl
-act_by-fetch (instr.Jalr rd rs1 imm) regs pc at ram o answers = refl
-act_by-fetch (instr.Branch op rs1 rs2 offset) regs pc at ram o answers = refl
 act_by-fetch (instr.Load op rd rs1 imm) regs pc at ram o answers = refl
-act_by-fetch (instr.Store op rs1 rs2 imm) regs pc at ram o answers = refl
-act_by-fetch (instr.Imm op rd rs1 imm) regs pc at ram o answers = refl
-act_by-fetch (instr.Shift op rd rs1 amount) regs pc at ram o answers = refl
-act_by-fetch (instr.Reg op rd rs1 rs2) regs pc at ram o answers = refl
-act_by-fetch (instr.Addiw rd rs1 imm) regs pc at ram o answers = refl
-act_by-fetch (instr.ShiftW op rd rs1 amount) regs pc at ram o answers = refl
-act_by-fetch (instr.RegW op rd rs1 rs2) regs pc at ram o answers = refl
-act_by-fetch (instr.Fence rd rs1 imm) regs pc at ram o answers = refl
-act_by-fetch instr.Ecall regs pc at ram o answers = refl
-act_by-fetch instr.Ebreak regs pc at ram o answers = refl
+act_by-fetch _ regs pc at ram o answers = refl
 
 stored-fetch : (ram : List (List ℕ)) (at : ℕ) (o : Option ℕ) (answers : Answers) (change : Change) → stored ram (with_answer Fetch at o answers) change ≡ stored ram answers change
 stored-fetch ram at o answers Nothing = refl
@@ -305,10 +260,6 @@ shown-answer : (held : Held) (ram : List (List ℕ)) (root : ℕ) (mapping : Lis
 shown-answer held ram root mapping answers shows allowed access address =
     place-frame address (answers access address) (frame_for mapping (address / 4096) access) (shows address access _ (allowed access address))
 
--- two pages, if there are any, have the same bytes
-abbrev Alike : Option Page → Option Page → Type 0
-Alike o p = option_map (λ (a : Page). a.bytes) o ≡ option_map (λ (a : Page). a.bytes) p
-
 given-alike : (ram : List (List ℕ)) (o : Option Mapped) → Alike (option_map (given ram) (option_map (λ (e : Mapped). e.frame) o)) (option_map (page_in ram) o)
 given-alike ram None = refl
 given-alike ram (Some e) = refl
@@ -321,45 +272,18 @@ seen-alike held ram root mapping answers shows allowed_all access address =
     ∙ given-alike ram o
     ∙ ap (option_map (λ (a : Page). a.bytes)) (sym (page_for-memory_of ram mapping access address))
 
-load_from-alike : (regs : List ℕ) (pc : ℕ) (op : LoadOp) (rd address : ℕ) (o p : Option Page) → Alike o p → load_from regs pc op rd address o ≡ load_from regs pc op rd address p
-load_from-alike regs pc op rd address None None h = refl
-load_from-alike regs pc op rd address None (Some p) h = absurd (cc)
-load_from-alike regs pc op rd address (Some o) None h = absurd (cc)
-load_from-alike regs pc op rd address (Some o) (Some p) h =
-    let same : o.bytes ≡ p.bytes = cc in
-    ap (λ bytes. load_from regs pc op rd address (Some (record { bytes = bytes; marks = p.marks }))) same
-
-store_to-alike : (regs : List ℕ) (pc address : ℕ) (bytes : List ℕ) (o p : Option Page) → Alike o p → store_to regs pc address bytes o ≡ store_to regs pc address bytes p
-store_to-alike regs pc address bytes None None h = refl
-store_to-alike regs pc address bytes None (Some p) h = absurd (cc)
-store_to-alike regs pc address bytes (Some o) None h = absurd (cc)
-store_to-alike regs pc address bytes (Some o) (Some p) h = refl
-
 act_by-alike : (i : Instr) (regs : List ℕ) (pc : ℕ) (see : Sight) (mem : Memory) → ((access : Access) (address : ℕ) → Alike (see access address) (page_for access mem address))
     → act_by i regs pc see ≡ act i regs pc mem
 unfolding act_by act
-act_by-alike (instr.Lui rd imm) regs pc see mem h = refl
-act_by-alike (instr.Auipc rd imm) regs pc see mem h = refl
-act_by-alike (instr.Jal rd offset) regs pc see mem h = refl
-act_by-alike (instr.Jalr rd rs1 imm) regs pc see mem h = refl
-act_by-alike (instr.Branch op rs1 rs2 offset) regs pc see mem h = refl
 act_by-alike (instr.Load op rd rs1 imm) regs pc see mem h =
     let address : ℕ = plus (slice_index regs rs1) (extend 12 imm) in
     ap (λ e. if address % load_size op == 0 then e else trap LoadMisaligned address)
-    (load_from-alike regs pc op rd address (see Load address) (page_for Load mem address) (h Load address))
+    (load-same regs pc op rd address (see Load address) (page_for Load mem address) (h Load address))
 act_by-alike (instr.Store op rs1 rs2 imm) regs pc see mem h =
     let address : ℕ = plus (slice_index regs rs1) (extend 12 imm) in
     ap (λ e. if address % store_size op == 0 then e else trap StoreMisaligned address)
-    (store_to-alike regs pc address (le (store_size op) (slice_index regs rs2)) (see Store address) (page_for Store mem address) (h Store address))
-act_by-alike (instr.Imm op rd rs1 imm) regs pc see mem h = refl
-act_by-alike (instr.Shift op rd rs1 amount) regs pc see mem h = refl
-act_by-alike (instr.Reg op rd rs1 rs2) regs pc see mem h = refl
-act_by-alike (instr.Addiw rd rs1 imm) regs pc see mem h = refl
-act_by-alike (instr.ShiftW op rd rs1 amount) regs pc see mem h = refl
-act_by-alike (instr.RegW op rd rs1 rs2) regs pc see mem h = refl
-act_by-alike (instr.Fence rd rs1 imm) regs pc see mem h = refl
-act_by-alike instr.Ecall regs pc see mem h = refl
-act_by-alike instr.Ebreak regs pc see mem h = refl
+    (store-same regs pc address (le (store_size op) (slice_index regs rs2)) (see Store address) (page_for Store mem address) (h Store address))
+act_by-alike _ regs pc see mem h = refl
 
 word_by-alike : (found : Option Instr) (regs : List ℕ) (pc : ℕ) (see : Sight) (mem : Memory) → ((access : Access) (address : ℕ) → Alike (see access address) (page_for access mem address))
     → word_by found regs pc see ≡ act_word found regs pc mem
@@ -369,12 +293,11 @@ word_by-alike (Some i) regs pc see mem h = act_by-alike i regs pc see mem h
 fetched_by-alike : (o p : Option Page) (regs : List ℕ) (pc : ℕ) (see : Sight) (mem : Memory) → Alike o p → ((access : Access) (address : ℕ) → Alike (see access address) (page_for access mem address))
     → fetched_by o regs pc see ≡ fetched p regs pc mem
 fetched_by-alike None None regs pc see mem same h = refl
-fetched_by-alike None (Some p) regs pc see mem same h = absurd (cc (same))
-fetched_by-alike (Some o) None regs pc see mem same h = absurd (cc (same))
 fetched_by-alike (Some o) (Some p) regs pc see mem same h =
     let bytes : o.bytes ≡ p.bytes = cc (same) in
     ap (λ bs. word_by (instruction_of (number (bytes_at 4 pc (record { bytes = bs; marks = p.marks })))) regs pc see) bytes
     ∙ word_by-alike (instruction_of (number (bytes_at 4 pc p))) regs pc see mem h
+fetched_by-alike _ _ regs pc see mem same h = absurd (cc (same))
 
 -- what is seen alike means alike
 pub cycle_by-alike : (regs : List ℕ) (pc : ℕ) (see : Sight) (mem : Memory) → ((access : Access) (address : ℕ) → Alike (see access address) (page_for access mem address))
