@@ -1,19 +1,20 @@
 -- A page comes to a space: its frame is one that the space is counted to hold already, a new one or a shared one.
-use Rattle.std.proofs.Common.{◌≡◌, ◌≢◌, ℕ, suc, ◌+◌, ◌<◌, ◌≤◌, inl, inr, false, true, List, [], ◌∷◌, ◌++◌, length, refl, sym, ap, ◌∙◌, arith, add-one, ltb, nat_eq}
+use Rattle.std.proofs.Common.{◌≡◌, ◌≢◌, ℕ, suc, ◌+◌, ◌<◌, ◌≤◌, inl, inr, false, true, List, [], ◌∷◌, ◌++◌, refl, sym, ap, ◌∙◌, arith, add-one, nat_eq}
 use Rattle.std.proofs.lemmas.Bool.{cases_eq}
 use Rattle.ram.specs.Memory.{frame_of}
 use Rattle.frames.specs.declared.Frames.{Frames}
-use Rattle.frames.specs.Free.{among, free_of, free_count, further_at, IsFreeList}
+use Rattle.frames.specs.Free.{free_of, free_count, further_at, IsFreeList}
 use Rattle.frames.proofs.FreeLemmas.{further-free}
 use Rattle.frames.specs.Holders.{one_if, count_of, holders_of, Trades}
-use Rattle.frames.proofs.HolderLemmas.{one_if-le, count_of-append, count_of-first, count_of-other, held-inside, not-free-held, holders-free, holders-table, free-holders, none-among}
+use Rattle.frames.proofs.HolderLemmas.{count_of-append, count_of-first, count_of-other, held-inside, holders-free, holders-table, free-holders, distinct-count, count-cases}
 use Rattle.pagetable.specs.Tree.{lookup_of, missing}
+use Rattle.pagetable.specs.Shape.{Adds}
 use Rattle.pagetable.proofs.TreeLemmas.{further-same}
 use Rattle.vm.specs.Dense.{trap_page, frame_at, marks_at, page_at, page_with, pages_below, frames_below, tables_for, tables_below, held, frames_for, IsDense, IsHeld}
 use Rattle.vm.proofs.DenseLemmas.{count-held, page-held, pages_below-more, table-held}
 use Rattle.vm.proofs.GrowLemmas.{lookup-parts, frame_at-is, marks_at-is, frame_at-same, marks_at-same, held-same, made-tables, missing-next}
 use Rattle.vm.specs.Leaf.{is_open}
-use Rattle.vm.proofs.StepLemmas.{IsNext, pages_below-same}
+use Rattle.vm.proofs.StepLemmas.{IsNext, beyond-held, pages_below-same}
 
 -- the space before, beside whoever else holds the page's frame
 pub record IsBefore (z : List (List ℕ)) (r t n f marks : ℕ) (q : Frames) : Type 0 where
@@ -43,41 +44,44 @@ next-dense z k r t n f marks q w b e =
       rest = λ p high low ne. e.inserts.others p low (omega (arith, high)) ∙ is.rest p (omega (arith, high)) low ne;
     }
 
-next-same : (z k : List (List ℕ)) (r t n f marks : ℕ) (q w : Frames) → IsBefore z r t n f marks q → IsNext z k r n f marks q w
-    → (tables_below k r n ≡ tables_below z r n) × (frames_below k r n ≡ frames_below z r n)
-next-same z k r t n f marks q w b e =
-    let small = b.small in
-    held-same z k r t n b.space.dense (λ p h. e.inserts.others p (omega (arith, small, h)) (omega (arith, small, h))) (λ x u nx h. e.adds.stand x u nx h)
+-- pages below n stay mapped, page n has frame f, and the tables that it needs come
+pub record IsAdded (z k : List (List ℕ)) (r t n f : ℕ) (q w : Frames) : Type 0 where
+  pub dense : IsDense z r t n
+  pub small : n < 32768
+  pub frame : frame_at k r n ≡ f
+  pub looks : (p : ℕ) → p < n → lookup_of k r p ≡ lookup_of z r p
+  pub adds : Adds z k r n q w
+
+pub added-same : (z k : List (List ℕ)) (r t n f : ℕ) (q w : Frames) → IsAdded z k r t n f q w → (tables_below k r n ≡ tables_below z r n) × (frames_below k r n ≡ frames_below z r n)
+added-same z k r t n f q w e = held-same z k r t n e.dense e.looks e.adds.stand
 
 -- what is held then: the page's frame, and the tables that came
-pub next-count : (z k : List (List ℕ)) (r t n f marks : ℕ) (q w : Frames) → IsBefore z r t n f marks q → IsNext z k r n f marks q w
+pub added-count : (z k : List (List ℕ)) (r t n f : ℕ) (q w : Frames) → IsAdded z k r t n f q w
     → (v : ℕ) → (count_of v (held k r t (suc n)) ≡ count_of v (tables_for k r n) + count_of v (held z r t n) + count_of v (f ∷ [])) × (count_of v (free_of z q) ≡ count_of v (tables_for k r n) + count_of v (free_of k w)) × (count_of v (tables_below k r (suc n)) ≡ count_of v (tables_for k r n) + count_of v (tables_below z r n))
 unfolding tables_below frames_below
-next-count z k r t n f marks q w b e v =
-    let both = next-same z k r t n f marks q w b e in
-    let here : frame_at k r n ≡ f = frame_at-is k r n f marks e.inserts.changed in
+added-count z k r t n f q w e v =
+    let both = added-same z k r t n f q w e in
     let taken : count_of v (free_of z q) ≡ count_of v (tables_for k r n) + count_of v (free_of k w) =
-    ap (count_of v) (e.adds.taken ∙ ap (λ l. l ++ free_of k w) (made-tables z k r t n b.space.dense b.small)) ∙ count_of-append v (tables_for k r n) (free_of k w) in
-    let frames : count_of v (frames_below k r (suc n)) ≡ one_if (nat_eq v f) + count_of v (frames_below z r n) = ap (λ x. one_if (nat_eq v x) + count_of v (frames_below k r n)) here ∙ ap (λ l. one_if (nat_eq v f) + count_of v l) (both.1) in
+    ap (count_of v) (e.adds.taken ∙ ap (λ l. l ++ free_of k w) (made-tables z k r t n e.dense e.small)) ∙ count_of-append v (tables_for k r n) (free_of k w) in
+    let frames : count_of v (frames_below k r (suc n)) ≡ one_if (nat_eq v f) + count_of v (frames_below z r n) = ap (λ x. one_if (nat_eq v x) + count_of v (frames_below k r n)) e.frame ∙ ap (λ l. one_if (nat_eq v f) + count_of v l) (both.1) in
     let tables : count_of v (tables_below k r (suc n)) ≡ count_of v (tables_for k r n) + count_of v (tables_below z r n) = count_of-append v (tables_for k r n) (tables_below k r n) ∙ ap (λ l. count_of v (tables_for k r n) + count_of v l) (both.0) in
     (omega (arith, count-held z r t n v, count-held k r t (suc n) v, frames, tables), taken, tables)
 
-free-once : (m : List (List ℕ)) (s : Frames) (v : ℕ) → IsFreeList m s → count_of v (free_of m s) ≤ 1
-free-once m s v is = elim (among v (free_of m s)) as (λ b. among v (free_of m s) ≡ b → count_of v (free_of m s) ≤ 1) [
-  | true ↦ λ at. omega (arith, holders-free m s is v, free-holders m s v is at, further-free m s v is at, one_if-le (ltb v (length m)))
-  | false ↦ λ out. omega (arith, none-among v (free_of m s) out)
-] refl
+next-added : (z k : List (List ℕ)) (r t n f marks : ℕ) (q w : Frames) → IsBefore z r t n f marks q → IsNext z k r n f marks q w → IsAdded z k r t n f q w
+next-added z k r t n f marks q w b e =
+    let small = b.small in
+    record { dense = b.space.dense; small = small; frame = frame_at-is k r n f marks e.inserts.changed; looks = λ p h. e.inserts.others p (omega (arith, small, h)) (omega (arith, small, h)); adds = e.adds }
+
+pub next-count : (z k : List (List ℕ)) (r t n f marks : ℕ) (q w : Frames) → IsBefore z r t n f marks q → IsNext z k r n f marks q w
+    → (v : ℕ) → (count_of v (held k r t (suc n)) ≡ count_of v (tables_for k r n) + count_of v (held z r t n) + count_of v (f ∷ [])) × (count_of v (free_of z q) ≡ count_of v (tables_for k r n) + count_of v (free_of k w)) × (count_of v (tables_below k r (suc n)) ≡ count_of v (tables_for k r n) + count_of v (tables_below z r n))
+next-count z k r t n f marks q w b e = added-count z k r t n f q w (next-added z k r t n f marks q w b e)
 
 -- a frame of the list has no holder and no further one
 free-none : (m : List (List ℕ)) (s : Frames) (v : ℕ) → IsFreeList m s → 0 < count_of v (free_of m s) → (holders_of m s v ≡ 0) × (further_at s v ≡ 0)
-free-none m s v is some = elim (among v (free_of m s)) as (λ b. among v (free_of m s) ≡ b → (holders_of m s v ≡ 0) × (further_at s v ≡ 0)) [
-  | true ↦ λ at. (free-holders m s v is at, further-free m s v is at)
-  | false ↦ λ out. absurd (omega (arith, some, none-among v (free_of m s) out))
-] refl
-
--- one with a holder is not in it
-held-none : (m : List (List ℕ)) (s : Frames) (v : ℕ) → IsFreeList m s → 0 < holders_of m s v → count_of v (free_of m s) ≡ 0
-held-none m s v is some = none-among v (free_of m s) (held-inside m s v is some).1
+free-none m s v is some = elim (count-cases v (free_of m s)) [
+  | inl at ↦ (free-holders m s v is at, further-free m s v is at)
+  | inr none ↦ absurd (omega (arith, some, none))
+]
 
 next-holders : (z k : List (List ℕ)) (r n f marks : ℕ) (q w : Frames) → IsFreeList z q → IsNext z k r n f marks q w → (v : ℕ) → holders_of k w v + count_of v (free_of k w) ≡ holders_of z q v + count_of v (free_of z q)
 next-holders z k r n f marks q w is e v = holders-table z k q w is e.paged.free e.keeps.count e.extra v
@@ -95,7 +99,7 @@ next-held z k r t n f marks q w b e =
           | inl same ↦ omega (arith, counts v, none, count_of-first v f [] same, ap (λ x. count_of x (held z r t n)) same, b.absent)
           | inr other ↦ omega (arith, counts v, none, count_of-other v f [] other, is.once v)
         ]
-        | inr some ↦ omega (arith, counts v, free-once z q v is.free, b.room v, (free-none z q v is.free (omega (arith, some))).0)
+        | inr some ↦ omega (arith, counts v, distinct-count v (free_of z q) is.free.distinct, b.room v, (free-none z q v is.free (omega (arith, some))).0)
       ];
       free = e.paged.free;
       held = λ v. omega (arith, counts v, holders v, b.room v);
@@ -128,13 +132,8 @@ next-trades z k r t n f marks q w b e =
       count = e.keeps.count;
       moved = λ v. omega (arith, counts v, next-holders z k r n f marks q w is.free e v, count_of-append v (tables_for k r n) (held z r t n));
       others = λ v more.
-          let some : 0 < holders_of z q v = omega (arith, more) in
-          let at = held-inside z q v is.free some in
-          let none : count_of v (tables_below z r n) ≡ 0 = elim (cases_eq (count_of v (tables_below z r n)) 0) [
-            | inl gone ↦ gone
-            | inr table ↦ absurd (omega (arith, more, table, count-held z r t n v, not-free-held z q v is.free at.0 at.1, is.own v (omega (arith, table))))
-          ] in
-          next-bytes z k r t n f marks q w b e v some none;
+          let none = (beyond-held z r t n q is v more).0 in
+          next-bytes z k r t n f marks q w b e v (omega (arith, more)) (omega (arith, none));
       fresh = λ v none some. (free-none z q v is.free (omega (arith, none, some, counts v, count_of-append v (tables_for k r n) (held z r t n)))).0;
     }
 

@@ -1,19 +1,20 @@
 -- The last page goes.
-use Rattle.std.proofs.Common.{◌≡◌, ℕ, suc, ◌+◌, ◌<◌, ◌≤◌, inl, inr, false, List, [], ◌∷◌, ◌++◌, length, Option, Some, unwrap_or, refl, sym, ap, ◌∙◌, arith, eqb}
+use Rattle.std.proofs.Common.{◌≡◌, ℕ, suc, ◌+◌, ◌<◌, ◌≤◌, inl, inr, false, List, [], ◌∷◌, length, Option, Some, unwrap_or, refl, sym, ap, ◌∙◌, arith}
 use Rattle.std.specs.Option.{option_map}
 use Rattle.std.proofs.lemmas.Bool.{cases_eq}
 use Rattle.ram.specs.Memory.{frame_of}
 use Rattle.frames.specs.declared.Frames.{Frames}
 use Rattle.frames.specs.Free.{among, free_of, extra_of, further_at, IsFreeList, SameBut}
-use Rattle.frames.specs.Holders.{one_if, count_of, holders_of, Trades}
-use Rattle.frames.proofs.HolderLemmas.{count_of-append, count_of-first, among-none, held-inside, holders-table, Trades-give}
+use Rattle.frames.specs.Holders.{count_of, holders_of, Trades}
+use Rattle.frames.proofs.HolderLemmas.{count_of-first, among-none, held-inside, holders-table, Trades-give}
 use Rattle.pagetable.specs.Tree.{lookup_of, IsPaged, Keeps}
 use Rattle.pagetable.specs.Shape.{IsTidy, Adds, Removes}
 use Rattle.pagetable.proofs.LookupLemmas.{lookup-sound}
 use Rattle.vm.specs.Dense.{trap_page, frame_at, marks_at, read_below, pages_below, frames_below, tables_for, tables_below, held, IsDense, IsHeld}
+use Rattle.vm.proofs.Added.{IsAdded, added-count, added-same}
 use Rattle.vm.proofs.Beside.{Besides, Trades-held}
 use Rattle.vm.proofs.DenseLemmas.{count-held, page-held, table-held}
-use Rattle.vm.proofs.GrowLemmas.{frame_at-same, lookup-parts, marks_at-same, held-same, made-tables}
+use Rattle.vm.proofs.GrowLemmas.{frame_at-same, lookup-parts, marks_at-same}
 use Rattle.pagetable.proofs.TreeLemmas.{further-same}
 use Rattle.vm.proofs.StepLemmas.{held-not_free, beyond-held, read_below-same, pages_below-same}
 use Rattle.unixmodel.specs.Memory.{Marks}
@@ -56,25 +57,20 @@ IsDense-unmapped m j r t n f s a is u = record {
   ];
 }
 
--- the lists of the space with one page less
-pub lists-unmapped : (m j : List (List ℕ)) (r t n f : ℕ) (s a : Frames) → IsHeld m r t (suc n) s → IsUnmapped m j r n f s a → (tables_below m r n ≡ tables_below j r n) × (frames_below m r n ≡ frames_below j r n)
-lists-unmapped m j r t n f s a is u =
-    held-same j m r t n (IsDense-unmapped m j r t n f s a is u) (λ p h. sym (u.removes.others p (omega (arith, is.dense.small)) (omega arith))) u.drops.stand
+-- the other way round the page comes
+added : (m j : List (List ℕ)) (r t n f : ℕ) (s a : Frames) → IsHeld m r t (suc n) s → IsUnmapped m j r n f s a → IsAdded j m r t n f a s
+added m j r t n f s a is u = record {
+  dense = IsDense-unmapped m j r t n f s a is u;
+  small = omega (arith, is.dense.small);
+  frame = u.was;
+  looks = λ p h. sym (u.removes.others p (omega (arith, is.dense.small)) (omega arith));
+  adds = u.drops;
+}
 
-pub count-last : (m j : List (List ℕ)) (r t n f : ℕ) (s a : Frames) → IsHeld m r t (suc n) s → IsUnmapped m j r n f s a → (g : ℕ)
-    → count_of g (held m r t (suc n)) ≡ one_if (eqb g f) + count_of g (tables_for m r n) + count_of g (held m r t n)
-unfolding tables_below frames_below
-count-last m j r t n f s a is u g =
-    let frames : count_of g (frames_below m r (suc n)) ≡ one_if (eqb g f) + count_of g (frames_below m r n) = ap (λ x. one_if (eqb g x) + count_of g (frames_below m r n)) u.was in
-    let tables : count_of g (tables_below m r (suc n)) ≡ count_of g (tables_for m r n) + count_of g (tables_below m r n) = count_of-append g (tables_for m r n) (tables_below m r n) in
-    omega (arith, count-held m r t n g, count-held m r t (suc n) g, frames, tables)
-
-pub free-unmapped : (m j : List (List ℕ)) (r t n f : ℕ) (s a : Frames) → IsHeld m r t (suc n) s → IsUnmapped m j r n f s a → (g : ℕ) → count_of g (free_of j a) ≡ count_of g (tables_for m r n) + count_of g (free_of m s)
-free-unmapped m j r t n f s a is u g =
-    ap (count_of g) (u.drops.taken ∙ ap (λ l. l ++ free_of m s) (made-tables j m r t n (IsDense-unmapped m j r t n f s a is u) (omega (arith, is.dense.small)))) ∙ count_of-append g (tables_for m r n) (free_of m s)
-
-pub last-first : (f : ℕ) → one_if (eqb f f) ≡ 1
-last-first f = omega (arith, count_of-first f f [] refl)
+-- what was held: the page's frame, the tables that went, and what is held now
+count-unmapped : (m j : List (List ℕ)) (r t n f : ℕ) (s a : Frames) → IsHeld m r t (suc n) s → IsUnmapped m j r n f s a
+    → (v : ℕ) → (count_of v (held m r t (suc n)) ≡ count_of v (tables_for m r n) + count_of v (held j r t n) + count_of v (f ∷ [])) × (count_of v (free_of j a) ≡ count_of v (tables_for m r n) + count_of v (free_of m s)) × (count_of v (tables_below m r (suc n)) ≡ count_of v (tables_for m r n) + count_of v (tables_below j r n))
+count-unmapped m j r t n f s a is u = added-count j m r t n f a s (added m j r t n f s a is u)
 
 -- the frame may be given back
 pub give-inside : (m j : List (List ℕ)) (r t n f : ℕ) (s a : Frames) → IsHeld m r t (suc n) s → IsUnmapped m j r n f s a → f < length j
@@ -83,32 +79,19 @@ give-inside m j r t n f s a is u =
     omega (arith, found.0, u.was, u.keeps.count)
 
 pub give-held : (m j : List (List ℕ)) (r t n f : ℕ) (s a : Frames) → IsHeld m r t (suc n) s → IsUnmapped m j r n f s a → among f (free_of j a) ≡ false
-give-held m j r t n f s a is u = among-none f (free_of j a) (omega (arith, free-unmapped m j r t n f s a is u f, count-last m j r t n f s a is u f, held-not_free m r t (suc n) s is f, last-first f))
+give-held m j r t n f s a is u = among-none f (free_of j a) (omega (arith, count-unmapped m j r t n f s a is u f, held-not_free m r t (suc n) s is f, count_of-first f f [] refl))
 
 -- ---- the space without the page, whose frame it still holds
 
-held-unmapped : (m j : List (List ℕ)) (r t n f : ℕ) (s a : Frames) → IsHeld m r t (suc n) s → IsUnmapped m j r n f s a → held j r t n ≡ held m r t n
-held-unmapped m j r t n f s a is u =
-    let two = lists-unmapped m j r t n f s a is u in
-    ap (λ l. l ++ (t ∷ frames_below j r n)) (sym two.0) ∙ ap (λ l. tables_below m r n ++ (t ∷ l)) (sym two.1)
-
 holders-unmapped : (m j : List (List ℕ)) (r t n f : ℕ) (s a : Frames) → IsHeld m r t (suc n) s → IsUnmapped m j r n f s a → (v : ℕ) → holders_of j a v + count_of v (tables_for m r n) ≡ holders_of m s v
-holders-unmapped m j r t n f s a is u v = omega (arith, holders-table m j s a is.free u.paged.free u.keeps.count u.extra v, free-unmapped m j r t n f s a is u v)
-
-tables-last : (m j : List (List ℕ)) (r t n f : ℕ) (s a : Frames) → IsHeld m r t (suc n) s → IsUnmapped m j r n f s a → (v : ℕ) → count_of v (tables_below m r (suc n)) ≡ count_of v (tables_for m r n) + count_of v (tables_below j r n)
-unfolding tables_below
-tables-last m j r t n f s a is u v = count_of-append v (tables_for m r n) (tables_below m r n) ∙ ap (λ l. count_of v (tables_for m r n) + count_of v l) (lists-unmapped m j r t n f s a is u).0
-
--- what was held: the page's frame, the tables that went, and what is held now
-count-unmapped : (m j : List (List ℕ)) (r t n f : ℕ) (s a : Frames) → IsHeld m r t (suc n) s → IsUnmapped m j r n f s a → (v : ℕ) → count_of v (held m r t (suc n)) ≡ count_of v (f ∷ []) + count_of v (tables_for m r n) + count_of v (held j r t n)
-count-unmapped m j r t n f s a is u v = omega (arith, count-last m j r t n f s a is u v, ap (count_of v) (held-unmapped m j r t n f s a is u))
+holders-unmapped m j r t n f s a is u v = omega (arith, holders-table m j s a is.free u.paged.free u.keeps.count u.extra v, count-unmapped m j r t n f s a is u v)
 
 IsHeld-unmapped : (m j : List (List ℕ)) (r t n f : ℕ) (s a : Frames) → IsHeld m r t (suc n) s → IsUnmapped m j r n f s a → IsHeld j r t n a
 IsHeld-unmapped m j r t n f s a is u = record {
   dense = IsDense-unmapped m j r t n f s a is u;
   once = λ v. omega (arith, is.once v, count-unmapped m j r t n f s a is u v);
   free = u.paged.free;
-  own = λ v some. further-same s a v u.extra ∙ is.own v (omega (arith, some, tables-last m j r t n f s a is u v));
+  own = λ v some. further-same s a v u.extra ∙ is.own v (omega (arith, some, count-unmapped m j r t n f s a is u v));
   alone = λ p h wide.
       let looks = u.removes.others p (omega (arith, is.dense.small, h)) (omega (arith, h)) in
       ap (further_at a) (frame_at-same m j r p looks) ∙ further-same s a (frame_at m r p) u.extra ∙ is.alone p (omega (arith, h)) (ap is_open (sym (marks_at-same m j r p looks)) ∙ wide);
@@ -121,10 +104,10 @@ bytes-unmapped m j r t n f s a is u v some none = u.keeps.others v (λ h. omega 
 
 stays-unmapped : (m j : List (List ℕ)) (r t n f : ℕ) (s a : Frames) → IsHeld m r t (suc n) s → IsUnmapped m j r n f s a → (v : ℕ) → 0 < count_of v (frames_below m r n) + count_of v (t ∷ []) → frame_of j v ≡ frame_of m v
 stays-unmapped m j r t n f s a is u v some =
-    let two = lists-unmapped m j r t n f s a is u in
+    let two = added-same j m r t n f a s (added m j r t n f s a is u) in
     let more : 0 < count_of v (held j r t n) = omega (arith, some, count-held j r t n v, ap (count_of v) two.1) in
     bytes-unmapped m j r t n f s a is u v (omega (arith, is.held v, count-unmapped m j r t n f s a is u v, more))
-    (omega (arith, is.once v, some, count-unmapped m j r t n f s a is u v, tables-last m j r t n f s a is u v, count-held m r t (suc n) v, count-held j r t n v, ap (count_of v) two.1))
+    (omega (arith, is.once v, some, count-unmapped m j r t n f s a is u v, count-held m r t (suc n) v, count-held j r t n v, ap (count_of v) two.1))
 
 -- ---- and then it goes
 

@@ -1,35 +1,31 @@
 -- Lemmas on what a program's memory shows from an address on.
-use Rattle.std.proofs.Common.{◌≡◌, ℕ, zero, suc, ◌+◌, ◌-◌, ◌*◌, ◌/◌, ◌%◌, ◌<◌, ◌≤◌, ◌⊎◌, inl, inr, Bool, true, false, List, [], ◌∷◌, ◌++◌, length, take, drop, min, Option, Some, None, refl, sym, ap, ◌∙◌, arith, length-append, length-drop, length-take, leb}
-use Rattle.std.proofs.lemmas.Bool.{cases_lt, le-leb, lt-leb}
-use Rattle.std.proofs.lemmas.List.{drop-drop, drop_at, drop-append-le, take-append-le}
+use Rattle.std.proofs.Common.{◌≡◌, ℕ, zero, suc, ◌+◌, ◌-◌, ◌*◌, ◌/◌, ◌%◌, ◌<◌, ◌≤◌, inl, inr, Bool, true, false, List, [], ◌∷◌, ◌++◌, length, take, drop, get_or, min, Option, Some, None, refl, sym, ap, ◌∙◌, arith, length-append, length-drop, length-take, leb}
+use Rattle.std.proofs.Math.Seq.{drop-cons, take-add}
+use Rattle.std.proofs.lemmas.Bool.{cases_Bool, cases_lt, le-leb, lt-leb}
+use Rattle.std.proofs.lemmas.List.{drop-drop, drop_all, drop_at, drop-append-le, get_or-drop, take-append-le}
+use Rattle.std.proofs.lemmas.Option.{get_or_from_slice_get, slice_get_cases, slice_get_within}
 use Rattle.std.proofs.lemmas.List.Concat.{flat_map-cons}
-use Rattle.std.proofs.lemmas.List.Sums.{take_while-cons, prefix_len-le-length}
+use Rattle.std.proofs.lemmas.List.Sums.{take_while-cons, prefix_len-le-length, prefix_len_passes, prefix_len_stops}
 use Rattle.std.specs.List.{flat_map, prefix_len, take_while}
 use Rattle.std.specs.Prelude.{if◌then◌else◌, slice_get}
 use Rattle.unixmodel.specs.declared.trap.Access.{Access}
 use Rattle.unixmodel.specs.Memory.{Page, Memory, permits, permitted, reach}
 use Rattle.vm.specs.Reach.{IsSized, run_of, rest_of, piece_at}
 
-either : (b : Bool) → (b ≡ true) ⊎ (b ≡ false)
-either true = inl refl
-either false = inr refl
+-- an item of a list, and where there is none
+pub item-at : {A : Type 0} (xs : List A) (i : ℕ) (x : A) → slice_get xs i ≡ Some x → (drop i xs ≡ x ∷ drop (suc i) xs) × (i < length xs) × (get_or xs i x ≡ x)
+item-at xs i x e =
+    let low = slice_get_within xs i x e in
+    let is = get_or_from_slice_get xs i x x e in
+    (drop-cons xs i x low ∙ ap (λ y. y ∷ drop (suc i) xs) is, low, is)
 
-take_none : (l : ℕ) → take {A = ℕ} l [] ≡ []
-take_none zero = refl
-take_none (suc l) = refl
+pub item-past : {A : Type 0} (xs : List A) (i : ℕ) → slice_get xs i ≡ None → length xs ≤ i
+item-past xs i e = elim ((slice_get_cases xs i).1) [ inl (x, low, some, is) ↦ absurd (cc (some, e)) | inr (past, none) ↦ past ]
 
-drop_none : (o : ℕ) → drop {A = ℕ} o [] ≡ []
-drop_none zero = refl
-drop_none (suc o) = refl
-
-take_split : (d l : ℕ) (xs : List ℕ) → take (d + l) xs ≡ take d xs ++ take l (drop d xs)
-take_split zero l xs = let e : 0 + l ≡ l = omega arith in rw e refl
-take_split (suc d) l [] = let e : suc d + l ≡ suc (d + l) = omega arith in rw e (sym (take_none l))
-take_split (suc d) l (x ∷ xs) = let e : suc d + l ≡ suc (d + l) = omega arith in rw e (ap (λ t. x ∷ t) (take_split d l xs))
-
-get_none : (i : ℕ) → slice_get {X = Page} [] i ≡ None
-get_none zero = refl
-get_none (suc i) = refl
+pub first-drop : {A : Type 0} (xs : List A) (q : ℕ) → slice_get (drop q xs) 0 ≡ slice_get xs q
+first-drop xs zero = refl
+first-drop [] (suc q) = refl
+first-drop (x ∷ xs) (suc q) = first-drop xs q
 
 abbrev flat : Access → List Page → List ℕ
 flat access xs = flat_map (λ p. p.bytes) (take_while (λ p. permits access p.marks) xs)
@@ -56,58 +52,44 @@ sized-drop (x ∷ xs) (suc q) h = sized-drop xs q (λ i p e. h (suc i) p e)
 
 length-flat : (a : Access) (xs : List Page) → IsSized xs → length (flat a xs) ≡ 4096 * run a xs
 length-flat a [] h = refl
-length-flat a (x ∷ xs) h = elim (either (permits a x.marks)) [
+length-flat a (x ∷ xs) h = elim (cases_Bool (permits a x.marks)) [
   | inl is ↦ omega (arith, ap length (flat-yes a x xs is), length-append x.bytes (flat a xs), h 0 x refl, length-flat a xs (λ i p e. h (suc i) p e), run-yes a x xs is)
   | inr isnt ↦ omega (arith, ap length (flat-no a x xs isnt), run-no a x xs isnt)
 ]
 
 -- ---- the run of pages
 
-run-more_from : (a : Access) (xs : List Page) (i : ℕ) (p : Page) → i ≤ run a xs → slice_get xs i ≡ Some p → permits a p.marks ≡ true → i < run a xs
-run-more_from a [] i p h at ok = absurd cc
-run-more_from a (x ∷ xs) zero p h at ok =
-    let same : x ≡ p = cc in
-    omega (arith, run-yes a x xs (ap (λ (q : Page). permits a q.marks) same ∙ ok))
-run-more_from a (x ∷ xs) (suc i) p h at ok = elim (either (permits a x.marks)) [
-  | inl is ↦ omega (arith, run-yes a x xs is, run-more_from a xs i p (omega (arith, h, run-yes a x xs is)) at ok)
-  | inr isnt ↦ absurd (omega (arith, h, run-no a x xs isnt))
-]
-
-run-stop_from : (a : Access) (xs : List Page) (i : ℕ) (p : Page) → i ≤ run a xs → slice_get xs i ≡ Some p → permits a p.marks ≡ false → run a xs ≡ i
-run-stop_from a [] i p h at ok = absurd cc
-run-stop_from a (x ∷ xs) zero p h at ok =
-    let same : x ≡ p = cc in
-    run-no a x xs (ap (λ (q : Page). permits a q.marks) same ∙ ok)
-run-stop_from a (x ∷ xs) (suc i) p h at ok = elim (either (permits a x.marks)) [
-  | inl is ↦ omega (arith, run-yes a x xs is, run-stop_from a xs i p (omega (arith, h, run-yes a x xs is)) at ok)
-  | inr isnt ↦ absurd (omega (arith, h, run-no a x xs isnt))
-]
-
-run-end_from : (a : Access) (xs : List Page) (i : ℕ) → i ≤ run a xs → slice_get xs i ≡ None → run a xs ≡ i
-run-end_from a [] i h at = omega (arith, h)
-run-end_from a (x ∷ xs) zero h at = absurd cc
-run-end_from a (x ∷ xs) (suc i) h at = elim (either (permits a x.marks)) [
-  | inl is ↦ omega (arith, run-yes a x xs is, run-end_from a xs i (omega (arith, h, run-yes a x xs is)) at)
-  | inr isnt ↦ absurd (omega (arith, h, run-no a x xs isnt))
-]
-
-get-drop : (xs : List Page) (q i : ℕ) → slice_get (drop q xs) i ≡ slice_get xs (q + i)
-get-drop xs zero i = let e : i ≡ 0 + i = omega arith in ap (slice_get xs) e
-get-drop [] (suc q) i = get_none i ∙ sym (get_none (suc q + i))
-get-drop (x ∷ xs) (suc q) i = let e : suc (q + i) ≡ suc q + i = omega arith in get-drop xs q i ∙ ap (slice_get (x ∷ xs)) e
-
 -- one more page of a run, and where it ends
 pub run-more : (a : Access) (mem : Memory) (first i : ℕ) (p : Page) → i ≤ run_of a mem first → slice_get mem (first + i) ≡ Some p → permits a p.marks ≡ true → i < run_of a mem first
 unfolding run_of
-run-more a mem first i p h at ok = run-more_from a (drop first mem) i p h (get-drop mem first i ∙ at) ok
+run-more a mem first i p h at ok =
+    let xs = drop first mem in
+    let test : Page → Bool = λ (q : Page). permits a q.marks in
+    let item = item-at mem (first + i) p at in
+    elim (cases_lt i (run a xs)) [
+      | inl low ↦ low
+      | inr high ↦
+          let same : run a xs ≡ i = omega (arith, h, high) in
+          let stops : test (get_or xs i p) ≡ false = ap (λ j. test (get_or xs j p)) (sym same) ∙ prefix_len_stops test xs p (omega (arith, item.1, same, length-drop first mem)) in
+          let bad : true ≡ false = sym ok ∙ ap test (sym (get_or-drop first mem i p ∙ item.2)) ∙ stops in
+          absurd cc
+    ]
 
 pub run-stop : (a : Access) (mem : Memory) (first i : ℕ) (p : Page) → i ≤ run_of a mem first → slice_get mem (first + i) ≡ Some p → permits a p.marks ≡ false → run_of a mem first ≡ i
 unfolding run_of
-run-stop a mem first i p h at ok = run-stop_from a (drop first mem) i p h (get-drop mem first i ∙ at) ok
+run-stop a mem first i p h at ok =
+    let xs = drop first mem in
+    let test : Page → Bool = λ (q : Page). permits a q.marks in
+    elim (cases_lt i (run a xs)) [
+      | inl low ↦
+          let bad : true ≡ false = sym (prefix_len_passes test xs i p low) ∙ ap test (get_or-drop first mem i p ∙ (item-at mem (first + i) p at).2) ∙ ok in
+          absurd cc
+      | inr high ↦ omega (arith, h, high)
+    ]
 
 pub run-end : (a : Access) (mem : Memory) (first i : ℕ) → i ≤ run_of a mem first → slice_get mem (first + i) ≡ None → run_of a mem first ≡ i
 unfolding run_of
-run-end a mem first i h at = run-end_from a (drop first mem) i h (get-drop mem first i ∙ at)
+run-end a mem first i h at = omega (arith, h, prefix_len-le-length (λ (p : Page). permits a p.marks) (drop first mem), length-drop first mem, item-past mem (first + i) at)
 
 -- how many bytes can be reached
 pub length-reach : (a : Access) (mem : Memory) (at : ℕ) → IsSized mem → length (reach a mem at) ≡ 4096 * run_of a mem (at / 4096) - at % 4096
@@ -117,7 +99,7 @@ length-reach a mem at h = omega (arith, length-drop (at % 4096) (flat a (drop (a
 flat-drop : (a : Access) (xs : List Page) (i : ℕ) → IsSized xs → i ≤ run a xs → flat a (drop i xs) ≡ drop (4096 * i) (flat a xs)
 flat-drop a xs zero h le = refl
 flat-drop a [] (suc i) h le = absurd (omega (arith, le))
-flat-drop a (x ∷ xs) (suc i) h le = elim (either (permits a x.marks)) [
+flat-drop a (x ∷ xs) (suc i) h le = elim (cases_Bool (permits a x.marks)) [
   | inl is ↦
       let size : length x.bytes ≡ 4096 = h 0 x refl in
       let low : i ≤ run a xs = omega (arith, le, run-yes a x xs is) in
@@ -169,14 +151,9 @@ reach-drop a mem at d h le =
     ∙ ap (λ n. drop n (flat a xs)) whole
     ∙ sym (drop-drop d o (flat a xs)))
 
-first-drop : (xs : List Page) (q : ℕ) → slice_get (drop q xs) 0 ≡ slice_get xs q
-first-drop xs zero = refl
-first-drop [] (suc q) = refl
-first-drop (x ∷ xs) (suc q) = first-drop xs q
-
 flat-front : (a : Access) (xs : List Page) (o l : ℕ) → IsSized xs → o + l ≤ 4096 → take l (drop o (flat a xs)) ≡ take l (rest_of o (permitted a (slice_get xs 0)))
-flat-front a [] o l h le = ap (take l) (drop_none o)
-flat-front a (x ∷ xs) o l h le = elim (either (permits a x.marks)) [
+flat-front a [] o l h le = ap (take l) (drop_all o [] (omega arith))
+flat-front a (x ∷ xs) o l h le = elim (cases_Bool (permits a x.marks)) [
   | inl is ↦
       let size : length x.bytes ≡ 4096 = h 0 x refl in
       let long : l ≤ length (drop o x.bytes) = omega (arith, length-drop o x.bytes, size) in
@@ -184,7 +161,7 @@ flat-front a (x ∷ xs) o l h le = elim (either (permits a x.marks)) [
       ∙ ap (take l) (drop-append-le o x.bytes (flat a xs) (omega (arith, size)))
       ∙ take-append-le l (drop o x.bytes) (flat a xs) long
       ∙ sym (ap (λ b. take l (rest_of o (if b then Some x else None))) is)
-  | inr isnt ↦ ap (λ b. take l (drop o b)) (flat-no a x xs isnt) ∙ ap (take l) (drop_none o) ∙ sym (ap (λ b. take l (rest_of o (if b then Some x else None))) isnt)
+  | inr isnt ↦ ap (λ b. take l (drop o b)) (flat-no a x xs isnt) ∙ ap (take l) (drop_all o [] (omega arith)) ∙ sym (ap (λ b. take l (rest_of o (if b then Some x else None))) isnt)
 ]
 
 -- what is reached begins with the rest of the page
@@ -196,7 +173,7 @@ reach-front a mem at l h le =
 
 sized-at : (o : Option Page) → ((p : Page) → o ≡ Some p → length p.bytes ≡ 4096) → (a : Access) (at : ℕ) → at < 4096 → at + length (rest_of at (permitted a o)) ≤ 4096
 sized-at None h a at low = omega (arith, low)
-sized-at (Some p) h a at low = elim (either (permits a p.marks)) [
+sized-at (Some p) h a at low = elim (cases_Bool (permits a p.marks)) [
   | inl is ↦ rw is (omega (arith, low, h p refl, length-drop at p.bytes))
   | inr isnt ↦ rw isnt (omega (arith, low))
 ]
@@ -214,18 +191,12 @@ piece-some a mem at h some =
 pub reach-next : (a : Access) (mem : Memory) (at d l : ℕ) → IsSized mem → d ≤ length (reach a mem at) → l ≤ length (piece_at a mem (at + d)) → take d (reach a mem at) ++ take l (piece_at a mem (at + d)) ≡ take (d + l) (reach a mem at)
 reach-next a mem at d l h low le =
     ap (λ x. take d (reach a mem at) ++ x) (sym (reach-front a mem (at + d) l h (omega (arith, le, length-piece a mem (at + d) h))) ∙ ap (take l) (reach-drop a mem at d h low))
-    ∙ sym (take_split d l (reach a mem at))
-
-run-inside : (a : Access) (xs : List Page) (q : ℕ) → 0 < run a (drop q xs) → q < length xs
-run-inside a [] zero h = absurd (omega (arith, h))
-run-inside a [] (suc q) h = absurd (omega (arith, h))
-run-inside a (x ∷ xs) zero h = omega arith
-run-inside a (x ∷ xs) (suc q) h = omega (arith, run-inside a xs q h)
+    ∙ sym (take-add d l (reach a mem at))
 
 -- an address from which a byte is reached lies in a page
 pub reach-inside : (a : Access) (mem : Memory) (at : ℕ) → IsSized mem → 0 < length (reach a mem at) → at / 4096 < length mem
 unfolding run_of
-reach-inside a mem at h some = run-inside a mem (at / 4096) (omega (arith, some, length-reach a mem at h))
+reach-inside a mem at h some = omega (arith, some, length-reach a mem at h, prefix_len-le-length (λ (p : Page). permits a p.marks) (drop (at / 4096) mem), length-drop (at / 4096) mem)
 
 -- while bytes are left to reach, the next lies in a page, and the rest of its page has some
 pub reach-page : (a : Access) (mem : Memory) (at d : ℕ) → IsSized mem → d < length (reach a mem at) → ((at + d) / 4096 < length mem) × (0 < length (piece_at a mem (at + d)))

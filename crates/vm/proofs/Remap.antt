@@ -15,6 +15,7 @@ use Rattle.pagetable.proofs.Beside.{IsTree-same, table_at-same, lookup_of-same}
 use Rattle.pagetable.specs.Shape.{IsTidy}
 use Rattle.vm.specs.Dense.{trap_page, frame_at, marks_at, page_at, page_with, pages_below, frames_below, tables_below, held, IsDense, IsHeld}
 use Rattle.vm.proofs.DenseLemmas.{count-held, page-held, pages_below-zero, pages_below-more, table-held}
+use Rattle.vm.proofs.StepLemmas.{beyond-held}
 use Rattle.vm.proofs.GrowLemmas.{IsTidy-same, lookup-parts, frame_at-is, marks_at-is, frame_at-same, marks_at-same, frames_below-same, tables_below-same}
 use Rattle.vm.specs.Leaf.{IsUserLeaf, right_marks, is_open, user_leaf}
 use Rattle.vm.proofs.LeafLemmas.{leaf-user, leaf-valid, right-leaf}
@@ -160,13 +161,8 @@ remap-trades m z k r t n p f g marks s q is low e =
       count = e.keeps.count ∙ e.count;
       moved = λ v. omega (arith, moved v, e.moved v);
       others = λ v more.
-          let some : 0 < holders_of m s v = omega (arith, more) in
-          let at = held-inside m s v is.free some in
-          let none : count_of v (tables_below m r n) ≡ 0 = elim (cases_eq (count_of v (tables_below m r n)) 0) [
-            | inl z ↦ z
-            | inr table ↦ absurd (omega (arith, more, table, count-held m r t n v, not-free-held m s v is.free at.0 at.1, is.own v (omega (arith, table))))
-          ] in
-          remap-bytes m z k r t n p f g marks s q is e v some none;
+          let none = (beyond-held m r t n s is v more).0 in
+          remap-bytes m z k r t n p f g marks s q is e v (omega (arith, more)) (omega (arith, none));
       fresh = λ v none some. elim e.new [
         | inl old ↦ absurd (omega (arith, none, some, moved v, ap (λ x. count_of v (x ∷ [])) old))
         | inr free ↦ elim (cases_eq v g) [

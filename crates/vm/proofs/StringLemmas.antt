@@ -1,16 +1,13 @@
 -- A string is read byte by byte.
 use Rattle.std.proofs.Common.{◌≡◌, ◌≢◌, ℕ, zero, suc, ◌+◌, ◌^◌, ◌<◌, ◌≤◌, List, [], ◌∷◌, ◌++◌, length, take, drop, Option, Some, None, refl, sym, ap, ◌∙◌, arith, length-append, length-take, append_assoc, append-nil, slice_set, leb, true}
 use Rattle.std.specs.Prelude.{if◌then◌else◌, slice_get, option_map}
+use Rattle.std.proofs.Math.Seq.{take-suc, take-suc-set}
 use Rattle.std.proofs.lemmas.Bool.{lt-leb, le-leb}
+use Rattle.std.proofs.lemmas.List.{drop_all}
 use Rattle.unixmodel.specs.declared.trap.Access.{Access}
 use Rattle.unixmodel.specs.Memory.{Memory, reach, before_nul}
 use Rattle.vm.specs.Reach.{IsSized, piece_at, short_string}
-use Rattle.vm.proofs.ReachLemmas.{reach-front, reach-drop, reach-page}
-
-first-drop : (xs : List ℕ) (q : ℕ) → slice_get (drop q xs) 0 ≡ slice_get xs q
-first-drop xs zero = refl
-first-drop [] (suc q) = refl
-first-drop (x ∷ xs) (suc q) = first-drop xs q
+use Rattle.vm.proofs.ReachLemmas.{first-drop, item-at, item-past, reach-front, reach-drop, reach-page}
 
 first-take : (xs : List ℕ) → slice_get (take 1 xs) 0 ≡ slice_get xs 0
 first-take [] = refl
@@ -38,10 +35,9 @@ mapped-nil (Some r) = refl
 pub strings-start : (bytes buffer : List ℕ) → Strings bytes buffer 0
 strings-start bytes buffer = record { within = omega arith; same = refl; rest = mapped-nil (before_nul bytes) }
 
+-- the next byte, behind those so far
 split : (xs : List ℕ) (i x : ℕ) → slice_get xs i ≡ Some x → (drop i xs ≡ x ∷ drop (suc i) xs) × (take (suc i) xs ≡ take i xs ++ (x ∷ [])) × (i < length xs)
-split [] i x e = absurd cc
-split (y ∷ ys) zero x e = let same : y ≡ x = cc in (ap (λ z. z ∷ ys) same, ap (λ z. z ∷ []) same, omega arith)
-split (y ∷ ys) (suc i) x e = let s = split ys i x e in (s.0, ap (λ l. y ∷ l) (s.1), omega (arith, s.2))
+split xs i x e = let item = item-at xs i x e in (item.0, take-suc xs i x item.1 ∙ ap (λ y. take i xs ++ (y ∷ [])) item.2, item.1)
 
 twice : (front : List ℕ) (x : ℕ) (o : Option (List ℕ)) → option_map (λ r. front ++ r) (option_map (λ r. x ∷ r) o) ≡ option_map (λ r. (front ++ (x ∷ [])) ++ r) o
 twice front x None = refl
@@ -51,11 +47,6 @@ before-more : (x : ℕ) (xs : List ℕ) → x ≢ 0 → before_nul (x ∷ xs) �
 before-more zero xs ne = absurd (ne refl)
 before-more (suc x) xs ne = refl
 
-take-set : (buffer : List ℕ) (i x : ℕ) → i < length buffer → take (suc i) (slice_set buffer i x) ≡ take i buffer ++ (x ∷ [])
-take-set [] i x h = absurd (omega (arith, h))
-take-set (y ∷ ys) zero x h = refl
-take-set (y ∷ ys) (suc i) x h = ap (λ l. y ∷ l) (take-set ys i x (omega (arith, h)))
-
 -- one more byte
 pub strings-next : (bytes buffer : List ℕ) (i x : ℕ) → Strings bytes buffer i → i < length buffer → slice_get bytes i ≡ Some x → x ≢ 0 → Strings bytes (slice_set buffer i x) (i + 1)
 strings-next bytes buffer i x was room at ne =
@@ -63,22 +54,16 @@ strings-next bytes buffer i x was room at ne =
     let one : i + 1 ≡ suc i = omega arith in
     rw one (record {
       within = omega (arith, s.2);
-      same = take-set buffer i x room ∙ ap (λ l. l ++ (x ∷ [])) was.same ∙ sym (s.1);
+      same = take-suc-set buffer i x room ∙ ap (λ l. l ++ (x ∷ [])) was.same ∙ sym (s.1);
       rest = was.rest ∙ ap (λ l. option_map (λ r. take i bytes ++ r) (before_nul l)) (s.0)
           ∙ ap (option_map (λ r. take i bytes ++ r)) (before-more x (drop (suc i) bytes) ne)
           ∙ twice (take i bytes) x (before_nul (drop (suc i) bytes))
           ∙ ap (λ f. option_map (λ r. f ++ r) (before_nul (drop (suc i) bytes))) (sym (s.1));
     })
 
-drop-end : (xs : List ℕ) (i : ℕ) → slice_get xs i ≡ None → drop i xs ≡ []
-drop-end [] zero e = refl
-drop-end [] (suc i) e = refl
-drop-end (x ∷ xs) zero e = absurd cc
-drop-end (x ∷ xs) (suc i) e = drop-end xs i e
-
 -- the bytes end before a 0
 pub string-open : (bytes buffer : List ℕ) (i most : ℕ) → Strings bytes buffer i → slice_get bytes i ≡ None → short_string most (before_nul bytes) ≡ None
-string-open bytes buffer i most was e = ap (short_string most) (was.rest ∙ ap (λ l. option_map (λ r. take i bytes ++ r) (before_nul l)) (drop-end bytes i e))
+string-open bytes buffer i most was e = ap (short_string most) (was.rest ∙ ap (λ l. option_map (λ r. take i bytes ++ r) (before_nul l)) (drop_all i bytes (item-past bytes i e)))
 
 -- the 0 is there
 pub string-ends : (bytes buffer : List ℕ) (i most : ℕ) → Strings bytes buffer i → i ≤ most → slice_get bytes i ≡ Some 0 → short_string most (before_nul bytes) ≡ Some (take i buffer)

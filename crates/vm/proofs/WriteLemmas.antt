@@ -1,8 +1,9 @@
 -- Bytes that are written a page at a time.
-use Rattle.std.proofs.Common.{◌≡◌, ℕ, zero, suc, ◌+◌, ◌-◌, ◌/◌, ◌%◌, ◌<◌, ◌≤◌, inl, inr, List, [], ◌∷◌, ◌++◌, length, take, drop, min, Some, refl, sym, ap, ◌∙◌, arith, slice_set, get_or-set_other, append_assoc}
+use Rattle.std.proofs.Common.{◌≡◌, ℕ, suc, ◌+◌, ◌-◌, ◌/◌, ◌%◌, ◌<◌, inl, inr, List, [], ◌∷◌, ◌++◌, length, take, drop, min, Some, refl, sym, ap, ◌∙◌, arith, slice_set, get_or-set_other, append_assoc}
 use Rattle.std.specs.Prelude.{slice_get}
 use Rattle.std.proofs.lemmas.Bool.{cases_lt}
-use Rattle.std.proofs.lemmas.List.{take-append-drop}
+use Rattle.std.proofs.Math.Seq.{take-suc-set}
+use Rattle.std.proofs.lemmas.List.{drop_all, drop-set-lt, take_all, take-append-drop}
 use Rattle.unixmodel.specs.Memory.{Page, Memory, overwrite, write_from, write_bytes}
 use Rattle.frames.specs.declared.Frames.{Frames}
 use Rattle.frames.specs.Free.{further_at}
@@ -10,6 +11,7 @@ use Rattle.ram.specs.Memory.{frame_of, put, put_bytes}
 use Rattle.vm.specs.declared.Space.{Space}
 use Rattle.vm.specs.Dense.{frame_at, marks_at, page_at, page_with}
 use Rattle.vm.specs.Reach.{written}
+use Rattle.vm.proofs.ReachLemmas.{item-at}
 use Rattle.vm.specs.Space.{pages_in, IsMapped, IsOnce, IsSpace, pages_of, Reframes}
 use Rattle.vm.proofs.StoreLemmas.{Writes-page, pages-stored, private-set, space-stays, trap-apart}
 
@@ -21,21 +23,6 @@ write_from-none (p ∷ ps) at = refl
 pub write-none : (mem : Memory) (at : ℕ) → write_bytes mem at [] ≡ mem
 unfolding write_bytes
 write-none mem at = ap (λ ps. take (at / 4096) mem ++ ps) (write_from-none (drop (at / 4096) mem) (at % 4096)) ∙ take-append-drop (at / 4096) mem
-
-split-page : (mem : List Page) (q : ℕ) (p : Page) → slice_get mem q ≡ Some p → drop q mem ≡ p ∷ drop (suc q) mem
-split-page [] q p at = absurd cc
-split-page (x ∷ xs) zero p at = let same : x ≡ p = cc in ap (λ y. y ∷ xs) same
-split-page (x ∷ xs) (suc q) p at = split-page xs q p at
-
-take-set : (mem : List Page) (q : ℕ) (p w : Page) → slice_get mem q ≡ Some p → take (suc q) (slice_set mem q w) ≡ take q mem ++ (w ∷ [])
-take-set [] q p w at = absurd cc
-take-set (x ∷ xs) zero p w at = refl
-take-set (x ∷ xs) (suc q) p w at = ap (λ l. x ∷ l) (take-set xs q p w at)
-
-drop-set : (mem : List Page) (q : ℕ) (w : Page) → drop (suc q) (slice_set mem q w) ≡ drop (suc q) mem
-drop-set [] q w = refl
-drop-set (x ∷ xs) zero w = refl
-drop-set (x ∷ xs) (suc q) w = drop-set xs q w
 
 write_from-first : (p : Page) (ps : List Page) (at : ℕ) (bs : List ℕ) → 0 < length bs → write_from (p ∷ ps) at bs ≡ written p at (take (4096 - at) bs) ∷ write_from ps 0 (drop (4096 - at) bs)
 write_from-first p ps at [] h = absurd (omega (arith, h))
@@ -52,22 +39,10 @@ whole-page mem at p bs some here =
     let rest = drop (4096 - o) bs in
     let page : (at + (4096 - o)) / 4096 ≡ suc q = omega arith in
     let start : (at + (4096 - o)) % 4096 ≡ 0 = omega arith in
-    let front : take (suc q) (slice_set mem q w) ≡ take q mem ++ (w ∷ []) = take-set mem q p w here in
-    let back : drop (suc q) (slice_set mem q w) ≡ drop (suc q) mem = drop-set mem q w in
-    let first : write_from (drop q mem) o bs ≡ w ∷ write_from (drop (suc q) mem) 0 rest = ap (λ l. write_from l o bs) (split-page mem q p here) ∙ write_from-first p (drop (suc q) mem) o bs some in
+    let front : take (suc q) (slice_set mem q w) ≡ take q mem ++ (w ∷ []) = take-suc-set mem q w (item-at mem q p here).1 in
+    let back : drop (suc q) (slice_set mem q w) ≡ drop (suc q) mem = drop-set-lt (suc q) mem q w (omega arith) in
+    let first : write_from (drop q mem) o bs ≡ w ∷ write_from (drop (suc q) mem) 0 rest = ap (λ l. write_from l o bs) ((item-at mem q p here).0) ∙ write_from-first p (drop (suc q) mem) o bs some in
     rw (page, start, front, back) (append_assoc (take q mem) (w ∷ []) (write_from (drop (suc q) mem) 0 rest) ∙ sym (ap (λ l. take q mem ++ l) first))
-
-drop-all : (n : ℕ) (bs : List ℕ) → length bs ≤ n → drop n bs ≡ []
-drop-all zero [] h = refl
-drop-all zero (b ∷ bs) h = absurd (omega (arith, h))
-drop-all (suc n) [] h = refl
-drop-all (suc n) (b ∷ bs) h = drop-all n bs (omega (arith, h))
-
-take-all : (n : ℕ) (bs : List ℕ) → length bs ≤ n → take n bs ≡ bs
-take-all zero [] h = refl
-take-all zero (b ∷ bs) h = absurd (omega (arith, h))
-take-all (suc n) [] h = refl
-take-all (suc n) (b ∷ bs) h = ap (λ l. b ∷ l) (take-all n bs (omega (arith, h)))
 
 pub write-page : (mem : Memory) (at n : ℕ) (p : Page) (bs : List ℕ) → 0 < length bs → slice_get mem (at / 4096) ≡ Some p → n ≡ min (4096 - at % 4096) (length bs)
     → write_bytes (slice_set mem (at / 4096) (written p (at % 4096) (take n bs))) (at + n) (drop n bs) ≡ write_bytes mem at bs
@@ -75,9 +50,9 @@ write-page mem at n p bs some here is = elim (cases_lt (length bs) (4096 - at % 
   | inl short ↦
       let l = 4096 - at % 4096 in
       let all : n ≡ length bs = omega (arith, is, short) in
-      let none : drop n bs ≡ [] = drop-all n bs (omega (arith, all)) in
-      let none_l : drop l bs ≡ [] = drop-all l bs (omega (arith, short)) in
-      let same : take n bs ≡ take l bs = take-all n bs (omega (arith, all)) ∙ sym (take-all l bs (omega (arith, short))) in
+      let none : drop n bs ≡ [] = drop_all n bs (omega (arith, all)) in
+      let none_l : drop l bs ≡ [] = drop_all l bs (omega (arith, short)) in
+      let same : take n bs ≡ take l bs = take_all n bs (omega (arith, all)) ∙ sym (take_all l bs (omega (arith, short))) in
       let k = slice_set mem (at / 4096) (written p (at % 4096) (take n bs)) in
       ap (write_bytes k (at + n)) none ∙ write-none k (at + n) ∙ ap (λ x. slice_set mem (at / 4096) (written p (at % 4096) x)) same
       ∙ sym (write-none (slice_set mem (at / 4096) (written p (at % 4096) (take l bs))) (at + l)) ∙ ap (write_bytes (slice_set mem (at / 4096) (written p (at % 4096) (take l bs))) (at + l)) (sym none_l)

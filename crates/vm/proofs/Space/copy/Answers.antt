@@ -1,38 +1,32 @@
-use Rattle.std.proofs.Common.{ap, arith}
+use Rattle.std.proofs.Common.{ap, arith, refl, rules, ◌∙◌}
 use Rattle.vm.specs.Dense.{frames_for}
 use Rattle.vm.proofs.Forked.{forked, part-room, part-start}
 use Rattle.vm.proofs.Space.copy.Goals as goal
 
-pub share_pages-requires-clause-part : goal.share_pages-requires-clause-part
-share_pages-requires-clause-part c =
+pub share_pages-requires : goal.share_pages-requires
+share_pages-requires c =
     let none = c.in-Ok.ensures.size in
-    part-start c.args.ram.now c.new.new.ram c.args.self.now c.in-Ok.child c.args.frames.now c.new.new.frames c.requires (rw none at c.in-Ok.ensures.space) (rw none at c.in-Ok.ensures.trades)
+    let space = rw none at c.in-Ok.ensures.space in
+    let trades = rw none at c.in-Ok.ensures.trades in
+    record {
+      part = part-start c.args.ram.now _ c.args.self.now c.in-Ok.child _ _ c.requires space trades;
+      room = part-room c.args.ram.now _ c.args.self.now c.in-Ok.child _ _ c.requires space trades (omega (arith, c.free.ensures c.args.ram.now, c.frames_for.ensures, ap frames_for c.pages_in.ensures));
+    }
 
-pub share_pages-requires-clause-room : goal.share_pages-requires-clause-room
-share_pages-requires-clause-room c =
-    let none = c.in-Ok.ensures.size in
-    part-room c.args.ram.now c.new.new.ram c.args.self.now c.in-Ok.child c.args.frames.now c.new.new.frames c.requires (rw none at c.in-Ok.ensures.space) (rw none at c.in-Ok.ensures.trades)
-    (omega (arith, c.free.ensures c.args.ram.now, c.frames_for.ensures, ap frames_for c.pages_in.ensures))
-
-pub returns-clause-space : goal.returns-clause-space
-returns-clause-space c = (forked c.args.ram.now c.new.new.ram c.share_pages.new.ram c.args.self.now c.in-Ok.child c.args.frames.now c.new.new.frames c.share_pages.new.frames c.requires (rw c.in-Ok.ensures.size at c.in-Ok.ensures.space) (rw c.in-Ok.ensures.size at c.in-Ok.ensures.trades) c.share_pages.ensures.all).child
-
-pub returns-clause-pages : goal.returns-clause-pages
-returns-clause-pages c = (forked c.args.ram.now c.new.new.ram c.share_pages.new.ram c.args.self.now c.in-Ok.child c.args.frames.now c.new.new.frames c.share_pages.new.frames c.requires (rw c.in-Ok.ensures.size at c.in-Ok.ensures.space) (rw c.in-Ok.ensures.size at c.in-Ok.ensures.trades) c.share_pages.ensures.all).pages
-
-pub returns-clause-source : goal.returns-clause-source
-returns-clause-source c = (forked c.args.ram.now c.new.new.ram c.share_pages.new.ram c.args.self.now c.in-Ok.child c.args.frames.now c.new.new.frames c.share_pages.new.frames c.requires (rw c.in-Ok.ensures.size at c.in-Ok.ensures.space) (rw c.in-Ok.ensures.size at c.in-Ok.ensures.trades) c.share_pages.ensures.all).parent
-
-pub returns-clause-shared : goal.returns-clause-shared
-returns-clause-shared c = (forked c.args.ram.now c.new.new.ram c.share_pages.new.ram c.args.self.now c.in-Ok.child c.args.frames.now c.new.new.frames c.share_pages.new.frames c.requires (rw c.in-Ok.ensures.size at c.in-Ok.ensures.space) (rw c.in-Ok.ensures.size at c.in-Ok.ensures.trades) c.share_pages.ensures.all).shared
-
-pub returns-clause-holders : goal.returns-clause-holders
-returns-clause-holders c = (forked c.args.ram.now c.new.new.ram c.share_pages.new.ram c.args.self.now c.in-Ok.child c.args.frames.now c.new.new.frames c.share_pages.new.frames c.requires (rw c.in-Ok.ensures.size at c.in-Ok.ensures.space) (rw c.in-Ok.ensures.size at c.in-Ok.ensures.trades) c.share_pages.ensures.all).holders
-
-pub returns-clause-trades : goal.returns-clause-trades
-returns-clause-trades c = (forked c.args.ram.now c.new.new.ram c.share_pages.new.ram c.args.self.now c.in-Ok.child c.args.frames.now c.new.new.frames c.share_pages.new.frames c.requires (rw c.in-Ok.ensures.size at c.in-Ok.ensures.space) (rw c.in-Ok.ensures.size at c.in-Ok.ensures.trades) c.share_pages.ensures.all).trades
-
-pub returns-clause-kept : goal.returns-clause-kept
-returns-clause-kept c =
-    let all = (forked c.args.ram.now c.new.new.ram c.share_pages.new.ram c.args.self.now c.in-Ok.child c.args.frames.now c.new.new.frames c.share_pages.new.frames c.requires (rw c.in-Ok.ensures.size at c.in-Ok.ensures.space) (rw c.in-Ok.ensures.size at c.in-Ok.ensures.trades) c.share_pages.ensures.all) in
-    (all.kept, all.registers)
+pub returns : goal.returns
+returns c =
+    let f = forked c.args.ram.now c.new.new.ram c.share_pages.new.ram c.args.self.now c.in-Ok.child _ _ _ c.requires (rw c.in-Ok.ensures.size at c.in-Ok.ensures.space) (rw c.in-Ok.ensures.size at c.in-Ok.ensures.trades) c.share_pages.ensures.all in
+    record {
+      space = f.child;
+      size = refl;
+      pages = f.pages;
+      registers = c.share_pages.ensures.all.trap ∙ c.in-Ok.ensures.registers;
+      source = f.parent;
+      kept = (f.kept, f.registers);
+      shared = f.shared;
+      holders = f.holders;
+      full = (search rules, λ less. absurd (omega (arith, less, c.free.ensures c.args.ram.now, c.frames_for.ensures, ap frames_for c.pages_in.ensures)));
+      only = tt;
+      unchanged = tt;
+      trades = f.trades;
+    }

@@ -9,45 +9,40 @@ use Rattle.vm.proofs.PageLemmas.{length-pages}
 use Rattle.vm.proofs.ReachLemmas.{reach-page, reach-next}
 use Rattle.vm.proofs.SizedLemmas.{pages-sized}
 use Rattle.vm.specs.Space.{pages_in, pages_of}
+use Rattle.vm.specs.Reach.{IsSized}
 use Rattle.vm.proofs.Space.copy_in.Goals as goal
+use Rattle.vm.proofs.Space.copy_in.Goals.{In-loop-done}
+
+-- the pages are whole, and all bytes that are asked for are reached
+sized : (c : In-loop-done) → IsSized (pages_of c.args.ram.now c.args.self.now)
+sized c = pages-sized _ _ _ _ c.frames_are_whole.ensures.memory c.requires
+
+long : (c : In-loop-done) → length c.args.buffer.now ≤ length (reach Load (pages_of c.args.ram.now c.args.self.now) c.args.address)
+long c = leb-true _ _ (sym c.if-not-can_read.ensures.reach)
 
 pub overflow_add-address : goal.overflow_add-address
 overflow_add-address c =
-    let m = c.args.ram.now in
-    let s = c.args.self.now in
-    let n = pages_in s.size in
-    let mem = pages_of m s in
-    let sized = pages-sized m s.root.0 s.trap.0 n c.frames_are_whole.ensures.memory c.requires in
-    let long : length c.args.buffer.now ≤ length (reach Load mem c.args.address) = leb-true _ _ (sym c.if-not-can_read.ensures.reach) in
-    let next = reach-page Load mem c.args.address c.loop-done.done sized (omega (arith, long)) in
-    omega (arith, next.0, length-pages m s.root.0 n, c.requires.small)
+    let next = reach-page Load _ c.args.address c.loop-done.done (sized c) (omega (arith, long c)) in
+    omega (arith, next.0, length-pages c.args.ram.now c.args.self.now.root.0 (pages_in c.args.self.now.size), c.requires.small)
 
 pub loop-done-smaller : goal.loop-done-smaller
 loop-done-smaller c =
-    let m = c.args.ram.now in
-    let s = c.args.self.now in
-    let mem = pages_of m s in
-    let sized = pages-sized m s.root.0 s.trap.0 (pages_in s.size) c.frames_are_whole.ensures.memory c.requires in
-    let long : length c.args.buffer.now ≤ length (reach Load mem c.args.address) = leb-true _ _ (sym c.if-not-can_read.ensures.reach) in
-    let next = reach-page Load mem c.args.address c.loop-done.done sized (omega (arith, long)) in
+    let at = (goal.at.loop-done-smaller c).In-loop-done in
+    let next = reach-page Load _ c.args.address c.loop-done.done (sized at) (omega (arith, long at)) in
     omega (arith, next.1, ap length c.readable-piece.ensures)
 
 pub loop-done-preserved : goal.loop-done-preserved
 loop-done-preserved c =
-    let m = c.args.ram.now in
-    let s = c.args.self.now in
-    let mem = pages_of m s in
+    let at = (goal.at.loop-done-preserved c).In-loop-done in
+    let mem = pages_of c.args.ram.now c.args.self.now in
     let d = c.loop-done.done in
     let n = c.min-len.result in
-    let i = c.loop-done.invariant in
-    let sized = pages-sized m s.root.0 s.trap.0 (pages_in s.size) c.frames_are_whole.ensures.memory c.requires in
-    let long : length c.args.buffer.now ≤ length (reach Load mem c.args.address) = leb-true _ _ (sym c.if-not-can_read.ensures.reach) in
     record {
       within = omega arith;
       same = take-put_mid d (d + n - d) c.loop-done.buffer c.copy_from_slice.new.self (d + n) (omega (arith, c.copy_from_slice.ensures.len)) (omega arith)
-          ∙ ap (λ l. l ++ c.copy_from_slice.new.self) i.same
+          ∙ ap (λ l. l ++ c.copy_from_slice.new.self) c.loop-done.invariant.same
           ∙ ap (λ l. take d (reach Load mem c.args.address) ++ l) (c.copy_from_slice.ensures.after ∙ ap (take n) c.readable-piece.ensures)
-          ∙ reach-next Load mem c.args.address d n sized (omega (arith, long)) (omega (arith, ap length c.readable-piece.ensures));
+          ∙ reach-next Load mem c.args.address d n (sized at) (omega (arith, long at)) (omega (arith, ap length c.readable-piece.ensures));
     }
 
 pub returns-clause-read : goal.returns-clause-read

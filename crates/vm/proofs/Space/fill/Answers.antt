@@ -42,13 +42,9 @@ loop-done-preserved c =
       frames = reframes-twice c.args.ram.now c.loop-done.ram c.write_page-done.new.ram c.args.self.now c.args.frames.now c.loop-done.frames c.write_page-done.new.frames i.frames e.frames;
     }
 
-pub returns-clause-written : goal.returns-clause-written
-returns-clause-written c =
+pub returns : goal.returns
+returns c =
     let i = c.loop-done.invariant in
     let none : drop c.loop-done.done c.args.bytes.now ≡ [] = drop_all c.loop-done.done c.args.bytes.now (omega arith) in
-    sym (write-none (pages_of c.loop-done.ram c.args.self.now) (c.args.address + c.loop-done.done))
-    ∙ ap (write_bytes (pages_of c.loop-done.ram c.args.self.now) (c.args.address + c.loop-done.done)) (sym none)
-    ∙ i.rest
-
-pub returns-clause-frames : goal.returns-clause-frames
-returns-clause-frames c = c.loop-done.invariant.frames
+    let write = write_bytes (pages_of c.loop-done.ram c.args.self.now) (c.args.address + c.loop-done.done) in
+    record { written = sym (write-none (pages_of c.loop-done.ram c.args.self.now) (c.args.address + c.loop-done.done)) ∙ ap write (sym none) ∙ i.rest; frames = i.frames }

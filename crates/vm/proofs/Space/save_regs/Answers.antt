@@ -19,19 +19,9 @@ loop-register-preserved c =
     c.frames_are_whole-in-loop-register.ensures.memory c.loop-register.invariant (omega arith) c.loop-register-test.true (c.fits-registers c.loop-register.register) refl
     (c.store_u64-in-loop-register.ensures ∙ ap (λ o. put c.loop-register.ram c.args.self.now.trap.0 o (word_bytes 8 (get_or c.args.registers.now c.loop-register.register 0))) c.place_of.ensures)
 
-pub returns-clause-registers : goal.returns-clause-registers
-returns-clause-registers c =
+pub returns : goal.returns
+returns c =
     let all : c.loop-register.register ≡ 32 = omega arith in
-    saved-is c.loop-register.ram c.args.self.now c.args.registers.now c.told-registers c.requires.zero (λ j low high. c.loop-register.invariant.saved j low (omega (arith, all)))
-
-pub returns-clause-pc : goal.returns-clause-pc
-returns-clause-pc c = c.loop-register.invariant.counter
-
-pub returns-clause-spare : goal.returns-clause-spare
-returns-clause-spare c = c.loop-register.invariant.spare
-
-pub returns-clause-pages : goal.returns-clause-pages
-returns-clause-pages c = c.loop-register.invariant.pages
-
-pub returns-clause-stands : goal.returns-clause-stands
-returns-clause-stands c = c.loop-register.invariant.stands
+    let i = c.loop-register.invariant in
+    let registers = saved-is c.loop-register.ram c.args.self.now c.args.registers.now c.told-registers c.requires.zero (λ j low high. i.saved j low (omega (arith, all))) in
+    record { registers = registers; pc = i.counter; spare = i.spare; pages = i.pages; stands = i.stands }
