@@ -151,7 +151,7 @@ used-held m r t n x v is u at =
       | inr e ↦ held_low m r t n u.page v is cases (ap (table_at m r) (sym e) ∙ at)
     ]
 
-cases_root : (x : Node) → (x ≡ Root) ⊎ (x ≢ Root)
+pub cases_root : (x : Node) → (x ≡ Root) ⊎ (x ≢ Root)
 cases_root Root = inl refl
 cases_root (Mid a) = inr (λ e. cc)
 cases_root (Low a b) = inr (λ e. cc)

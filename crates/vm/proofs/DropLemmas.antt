@@ -1,5 +1,5 @@
 -- The last page goes.
-use Rattle.std.proofs.Common.{◌≡◌, ℕ, suc, ◌+◌, ◌<◌, ◌≤◌, inl, inr, false, List, [], ◌∷◌, length, Option, Some, unwrap_or, refl, sym, ap, ◌∙◌, arith}
+use Rattle.std.proofs.Common.{◌≡◌, ℕ, suc, ◌+◌, ◌<◌, ◌≤◌, inl, inr, false, List, [], ◌∷◌, length, Option, Some, unwrap_or, refl, sym, ap, ◌∙◌, arith, add-one}
 use Rattle.std.specs.Option.{option_map}
 use Rattle.std.proofs.lemmas.Bool.{cases_eq}
 use Rattle.ram.specs.Memory.{frame_of}
@@ -121,40 +121,38 @@ beside-drop m j k r t n f s a w is u g =
     (λ v. omega (arith, is.held v, count-unmapped m j r t n f s a is u v, holders-unmapped m j r t n f s a is u v))
     (releases m j k r t n f s a w is u g) g.valid
 
-pub IsHeld-drop : (m j k : List (List ℕ)) (r t n f : ℕ) (s a w : Frames) → IsHeld m r t (suc n) s → IsUnmapped m j r n f s a → IsReleased j k f a w → IsHeld k r t n w
-IsHeld-drop m j k r t n f s a w is u g = (beside-drop m j k r t n f s a w is u g).space
+-- the space has a page less
+pub record IsDropped (m k : List (List ℕ)) (r t n : ℕ) (s w : Frames) : Type 0 where
+  pub space : IsHeld k r t n w
+  pub pages : (b : ℕ) → b ≤ n → pages_below k r b ≡ pages_below m r b
+  pub mapping : (read : ℕ → Marks) (b : ℕ) → b ≤ n → read_below read k r b ≡ read_below read m r b
+  pub trap : frame_of k t ≡ frame_of m t
+  pub trades : Trades m k s w (held m r t (n + 1)) (held k r t n)
 
-pub Trades-drop : (m j k : List (List ℕ)) (r t n f : ℕ) (s a w : Frames) → IsHeld m r t (suc n) s → IsUnmapped m j r n f s a → IsReleased j k f a w → Trades m k s w (held m r t (suc n)) (held k r t n)
-Trades-drop m j k r t n f s a w is u g =
+pub dropped : (m j k : List (List ℕ)) (r t n f : ℕ) (s a w : Frames) → IsHeld m r t (suc n) s → IsUnmapped m j r n f s a → IsReleased j k f a w → IsDropped m k r t n s w
+dropped m j k r t n f s a w is u g =
+    let beside = beside-drop m j k r t n f s a w is u g in
+    let stays = beside.stays in
     let give = releases m j k r t n f s a w is u g in
     let counts = count-unmapped m j r t n f s a is u in
-    let now : (v : ℕ) → count_of v (held k r t n) ≡ count_of v (held j r t n) = λ (v : ℕ). ap (count_of v) (beside-drop m j k r t n f s a w is u g).same in
+    let holders = holders-unmapped m j r t n f s a is u in
+    let looks : (p : ℕ) → p < n → lookup_of j r p ≡ lookup_of m r p = λ (p : ℕ) (h : p < n). u.removes.others p (omega (arith, is.dense.small, h)) (omega (arith, h)) in
     record {
-      count = give.count ∙ u.keeps.count;
-      moved = λ v. omega (arith, counts v, holders-unmapped m j r t n f s a is u v, g.holders v, now v);
-      others = λ v more.
-          let beyond = beyond-held m r t (suc n) s is v more in
-          give.others v (omega (arith, more, counts v, holders-unmapped m j r t n f s a is u v)) ∙ bytes-unmapped m j r t n f s a is u v (omega (arith, more)) (omega (arith, beyond.0));
-      fresh = λ v none some. absurd (omega (arith, none, some, now v, counts v));
+      space = beside.space;
+      pages = λ b le. pages_below-same j k r b (λ p h. stays.looks p)
+          (λ p h. let v = frame_at j r p in give.others v (omega (arith, is.held v, counts v, holders v, count-held j r t n v, page-held j r n p (omega (arith, h, le)))))
+          ∙ pages_below-same m j r b (λ p h. looks p (omega (arith, h, le))) (λ p h. stays-unmapped m j r t n f s a is u (frame_at m r p) (omega (arith, page-held m r n p (omega (arith, h, le)))));
+      mapping = λ read b le. read_below-same read m k r b (λ p h. stays.looks p ∙ looks p (omega (arith, h, le)));
+      trap = stays.trap ∙ stays-unmapped m j r t n f s a is u t (omega (arith, count_of-first t t [] refl));
+      trades = rw add-one (record {
+        count = give.count ∙ u.keeps.count;
+        moved = λ v. omega (arith, counts v, holders v, g.holders v, ap (count_of v) beside.same);
+        others = λ v more.
+            let beyond = beyond-held m r t (suc n) s is v more in
+            give.others v (omega (arith, more, counts v, holders v)) ∙ bytes-unmapped m j r t n f s a is u v (omega (arith, more)) (omega (arith, beyond.0));
+        fresh = λ v none some. absurd (omega (arith, none, some, ap (count_of v) beside.same, counts v));
+      });
     }
-
-pub pages-drop : (m j k : List (List ℕ)) (r t n f b : ℕ) (s a w : Frames) → IsHeld m r t (suc n) s → IsUnmapped m j r n f s a → IsReleased j k f a w → b ≤ n → pages_below k r b ≡ pages_below m r b
-pages-drop m j k r t n f b s a w is u g le =
-    let stays = (beside-drop m j k r t n f s a w is u g).stays in
-    let looks : (p : ℕ) → p < b → lookup_of j r p ≡ lookup_of m r p = λ (p : ℕ) (h : p < b). u.removes.others p (omega (arith, is.dense.small, h, le)) (omega (arith, h, le)) in
-    let space = IsHeld-unmapped m j r t n f s a is u in
-    let give = releases m j k r t n f s a w is u g in
-    pages_below-same j k r b (λ p h. stays.looks p)
-    (λ p h. give.others (frame_at j r p) (omega (arith, is.held (frame_at j r p), count-unmapped m j r t n f s a is u (frame_at j r p), holders-unmapped m j r t n f s a is u (frame_at j r p), count-held j r t n (frame_at j r p), page-held j r n p (omega (arith, h, le)))))
-    ∙ pages_below-same m j r b looks
-    (λ p h. stays-unmapped m j r t n f s a is u (frame_at m r p) (omega (arith, page-held m r n p (omega (arith, h, le)))))
-
-pub mapping-drop : (read : ℕ → Marks) (m j k : List (List ℕ)) (r t n f b : ℕ) (s a w : Frames) → IsHeld m r t (suc n) s → IsUnmapped m j r n f s a → IsReleased j k f a w → b ≤ n → read_below read k r b ≡ read_below read m r b
-mapping-drop read m j k r t n f b s a w is u g le =
-    read_below-same read m k r b (λ p h. (beside-drop m j k r t n f s a w is u g).stays.looks p ∙ u.removes.others p (omega (arith, is.dense.small, h, le)) (omega (arith, h, le)))
-
-pub trap-drop : (m j k : List (List ℕ)) (r t n f : ℕ) (s a w : Frames) → IsHeld m r t (suc n) s → IsUnmapped m j r n f s a → IsReleased j k f a w → frame_of k t ≡ frame_of m t
-trap-drop m j k r t n f s a w is u g = (beside-drop m j k r t n f s a w is u g).stays.trap ∙ stays-unmapped m j r t n f s a is u t (omega (arith, count_of-first t t [] refl))
 
 pub unmapped-was : (m : List (List ℕ)) (r n f : ℕ) (a : ℕ × ℕ) → lookup_of m r n ≡ Some a → ◌≡◌ {A = Option ℕ} (option_map (λ (x : ℕ × ℕ). x.0) (lookup_of m r n)) (Some f) → frame_at m r n ≡ f
 unmapped-was m r n f a found e =

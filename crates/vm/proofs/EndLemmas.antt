@@ -1,12 +1,12 @@
 -- A space of no pages goes.
-use Rattle.std.proofs.Common.{◌≡◌, ◌≢◌, ℕ, ◌+◌, ◌<◌, ◌⊎◌, inl, inr, false, List, [], ◌∷◌, ◌++◌, length, Option, Some, None, unwrap_or, refl, sym, ap, ◌∙◌, arith, eqb}
+use Rattle.std.proofs.Common.{◌≡◌, ◌≢◌, ℕ, ◌+◌, ◌<◌, inl, inr, false, List, [], ◌∷◌, ◌++◌, length, Option, Some, None, unwrap_or, refl, sym, ap, ◌∙◌, arith, eqb}
 use Rattle.std.proofs.lemmas.Bool.{cases_eq}
 use Rattle.ram.specs.Memory.{frame_of}
 use Rattle.frames.specs.declared.Frames.{Frames}
 use Rattle.frames.specs.Free.{among, free_of, extra_of}
 use Rattle.frames.specs.Holders.{one_if, count_of, Trades}
 use Rattle.frames.proofs.HolderLemmas.{count_of-first, count_of-other, among-none, none-among, holders-table}
-use Rattle.pagetable.specs.Tree.{Node, Root, Mid, Low, IsNode, mid_node, low_node, table_at, lookup_of, IsPaged, Holds}
+use Rattle.pagetable.specs.Tree.{Node, Root, IsNode, mid_node, low_node, table_at, lookup_of, IsPaged, Holds}
 use Rattle.pagetable.proofs.TreeLemmas.{further-same, mid_is_node, root_at}
 use Rattle.pagetable.proofs.Beside.{IsTree-same, table_at-same}
 use Rattle.pagetable.specs.Shape.{table_of, IsEmpty}
@@ -14,7 +14,7 @@ use Rattle.pagetable.proofs.EmptyLemmas.{IsEmpty-tables}
 use Rattle.pagetable.proofs.ShapeLemmas.{made-two}
 use Rattle.pagetable.proofs.LookupLemmas.{lookup-sound}
 use Rattle.vm.specs.Dense.{trap_page, trap_marks, frames_below, tables_below, held, IsHeld}
-use Rattle.vm.proofs.DenseLemmas.{count-held, table-held}
+use Rattle.vm.proofs.DenseLemmas.{cases_root, count-held, table-held}
 use Rattle.vm.proofs.StepLemmas.{beyond-held, held-not_free}
 use Rattle.vm.proofs.DropLemmas.{IsUnmapped, IsGiven}
 
@@ -34,13 +34,8 @@ none-of : (o : Option ℕ) → ((v : ℕ) → o ≡ Some v → ⊥) → o ≡ No
 none-of None h = refl
 none-of (Some v) h = absurd (h v refl)
 
-root-or : (x : Node) → (x ≡ Root) ⊎ (x ≢ Root)
-root-or Root = inl refl
-root-or (Mid a) = inr (λ e. cc)
-root-or (Low a b) = inr (λ e. cc)
-
 end-root : (m j : List (List ℕ)) (r t f : ℕ) (s a : Frames) → IsHeld m r t 0 s → IsUnmapped m j r trap_page f s a → (v : ℕ) → Holds j r v → v ≡ r
-end-root m j r t f s a is u v h = elim (root-or h.place) [
+end-root m j r t f s a is u v h = elim (cases_root h.place) [
   | inl e ↦ let g : Some v ≡ Some r = sym h.at_place ∙ ap (table_at j r) e ∙ root_at j r in cc
   | inr ne ↦ absurd (end-tables m j r t f s a is u h.place v h.is_node ne h.at_place)
 ]

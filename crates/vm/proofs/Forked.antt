@@ -129,12 +129,14 @@ part-before k x c n f leaf s q is low was marks closed after more list =
 abbrev page_as : List ℕ → Marks → Page
 page_as bs g = record { bytes = bs; marks = g }
 
--- the page's bytes are what the program saw there
-bytes : (m k : List (List ℕ)) (x : Space) (n f leaf : ℕ) (s : Frames) → n < pages_in x.size → frame_at m x.root.0 n ≡ f → IsClosed m k x n f leaf s → frame_of k f ≡ frame_of m (frame_at m x.root.0 n)
-bytes m k x n f leaf s low was e =
+page-of : (m k : List (List ℕ)) (x : Space) (n : ℕ) → n < pages_in x.size → pages_of k x ≡ pages_of m x → page_at k x.root.0 n ≡ page_at m x.root.0 n
+page-of m k x n low same =
     let d = page_at m x.root.0 n in
-    let same : page_at k x.root.0 n ≡ page_at m x.root.0 n = sym (get_or-pages k x.root.0 (pages_in x.size) n d low) ∙ ap (λ (l : List Page). get_or l n d) e.same.pages ∙ get_or-pages m x.root.0 (pages_in x.size) n d low in
-    ap (frame_of k) (sym e.frame) ∙ ap (λ (y : Page). y.bytes) same
+    sym (get_or-pages k x.root.0 (pages_in x.size) n d low) ∙ ap (λ (l : List Page). get_or l n d) same ∙ get_or-pages m x.root.0 (pages_in x.size) n d low
+
+-- the page's bytes are what the program saw there
+bytes : (m k : List (List ℕ)) (x : Space) (n f leaf : ℕ) (s : Frames) → n < pages_in x.size → IsClosed m k x n f leaf s → frame_of k f ≡ frame_of m (frame_at m x.root.0 n)
+bytes m k x n f leaf s low e = ap (frame_of k) (sym e.frame) ∙ ap (λ (y : Page). y.bytes) (page-of m k x n low e.same.pages)
 
 pub part-more : (m k l : List (List ℕ)) (x c : Space) (n f leaf : ℕ) (s q w : Frames) → IsPart m x c n s → n < pages_in x.size → frame_at m x.root.0 n ≡ f → IsClosed m k x n f leaf s
     → IsFreeList k q → ((v : ℕ) → holders_of k q v ≡ holders_of k s v + count_of v (f ∷ [])) → free_of k q ≡ free_of k s → IsNext k l c.root.0 n f leaf q w → IsMore m l x c n s w
@@ -182,7 +184,7 @@ part-more m k l x c n f leaf s q w is low was e after more list next =
       registers = stays.trap ∙ e.same.frames.registers;
       frames = λ p h. frame_at-same k l x.root.0 p (stays.looks p) ∙ e.frames p h;
       child = next-pages k l r t n f leaf q w b next
-          ∙ ap (λ (y : Page). pages_below k r n ++ (y ∷ [])) (ap (λ (g : Marks). page_as (frame_of k f) g) e.right ∙ ap (λ (bs : List ℕ). page_as bs (right_marks (marks_at m x.root.0 n))) (bytes m k x n f leaf s low was e))
+          ∙ ap (λ (y : Page). pages_below k r n ++ (y ∷ [])) (ap (λ (g : Marks). page_as (frame_of k f) g) e.right ∙ ap (λ (bs : List ℕ). page_as bs (right_marks (marks_at m x.root.0 n))) (bytes m k x n f leaf s low e))
           ∙ ap (λ (l : List Page). l ++ (page_at m x.root.0 n ∷ [])) (part.2);
       trap = next-trap k l r t n f leaf q w b next ∙ part.3;
       trades = all;
@@ -216,14 +218,12 @@ so-far-start m x c s is = record {
 
 pub so-far-more : (m k l : List (List ℕ)) (x c : Space) (n : ℕ) (s q w : Frames) → n < pages_in x.size → IsSoFar m k x c n s q → IsMore k l x c n q w → IsSoFar m l x c (n + 1) s w
 so-far-more m k l x c n s q w low so more =
-    let d = page_at m x.root.0 n in
-    let page : page_at k x.root.0 n ≡ page_at m x.root.0 n = sym (get_or-pages k x.root.0 (pages_in x.size) n d low) ∙ ap (λ (l : List Page). get_or l n d) so.pages ∙ get_or-pages m x.root.0 (pages_in x.size) n d low in
     rw add-one record {
       part = more.part;
       pages = more.pages ∙ so.pages;
       registers = more.registers ∙ so.registers;
       frames = λ p h. more.frames p h ∙ so.frames p h;
-      child = more.child ∙ ap (λ (y : Page). pages_below k c.root.0 n ++ (y ∷ [])) page ∙ ap (λ (l : List Page). l ++ (page_at m x.root.0 n ∷ [])) so.child ∙ sym (pages_below-more m x.root.0 n);
+      child = more.child ∙ ap (λ (y : Page). pages_below k c.root.0 n ++ (y ∷ [])) (page-of m k x n low so.pages) ∙ ap (λ (l : List Page). l ++ (page_at m x.root.0 n ∷ [])) so.child ∙ sym (pages_below-more m x.root.0 n);
       trap = more.trap ∙ so.trap;
       trades = Trades-twice m k l s q w (holds m x ++ held m c.root.0 c.trap.0 0) (holds k x ++ held k c.root.0 c.trap.0 n) (holds l x ++ held l c.root.0 c.trap.0 (suc n)) so.trades more.trades;
       free = omega (arith, more.free, so.free);

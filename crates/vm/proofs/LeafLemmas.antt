@@ -1,5 +1,6 @@
 -- Lemmas on the marks of leaves.
 use Rattle.std.proofs.Common.{◌≡◌, ◌+◌, ℕ, Bool, true, false, List, replicate, refl, sym, ap, subst, ◌∙◌, arith, rules, ◌&&◌}
+use Rattle.std.proofs.lemmas.Bool.{and_parts}
 use Rattle.unixmodel.specs.declared.trap.Access.{Access}
 use Rattle.unixmodel.specs.declared.trap.Access.TheVariants.{Fetch, Load, Store}
 use Rattle.unixmodel.specs.Memory.{Marks, Page, permits, zeros, zero_page}
@@ -85,10 +86,6 @@ allows-each Fetch = four (λ w x u wide. leaf_allows Fetch (user_leaf (marks_by 
 allows-each Load = four (λ w x u wide. leaf_allows Load (user_leaf (marks_by w x u) wide) ≡ permits Load (entry_marks (user_leaf (marks_by w x u) wide))) (search rules)
 allows-each Store = four (λ w x u wide. leaf_allows Store (user_leaf (marks_by w x u) wide) ≡ permits Store (entry_marks (user_leaf (marks_by w x u) wide))) (search rules)
 
-and-left : (a b : Bool) → (a && b) ≡ true → a ≡ true
-and-left true b e = refl
-and-left false b e = absurd cc
-
 pub leaf-allows : (a : Access) (leaf : ℕ) → IsUserLeaf leaf → leaf_allows a leaf ≡ permits a (entry_marks leaf)
 leaf-allows a leaf is =
     let m = right_marks leaf in
@@ -96,4 +93,4 @@ leaf-allows a leaf is =
 
 -- an open page is writable by right
 pub open-right : (leaf : ℕ) → IsUserLeaf leaf → is_open leaf ≡ true → (right_marks leaf).writable ≡ true
-open-right leaf is wide = and-left (right_marks leaf).writable (is_open leaf) (sym (open-each (right_marks leaf) (is_open leaf)) ∙ ap is_open (sym is) ∙ wide)
+open-right leaf is wide = (and_parts (right_marks leaf).writable (is_open leaf) (sym (open-each (right_marks leaf) (is_open leaf)) ∙ ap is_open (sym is) ∙ wide)).0

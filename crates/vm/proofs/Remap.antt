@@ -1,5 +1,5 @@
 -- A page gets another frame with the same bytes, or other marks with the same rights.
-use Rattle.std.proofs.Common.{◌≡◌, ◌≢◌, ℕ, zero, suc, ◌+◌, ◌^◌, ◌<◌, ◌≤◌, ◌⊎◌, inl, inr, Bool, false, true, List, [], ◌∷◌, ◌++◌, length, slice_set, length-set, get_or-set_other, get_or-set_same, Some, None, unwrap_or, nat_eq, ltb, subst, refl, sym, ap, ◌∙◌, arith}
+use Rattle.std.proofs.Common.{◌≡◌, ◌≢◌, ℕ, zero, suc, ◌+◌, ◌^◌, ◌<◌, ◌≤◌, ◌⊎◌, inl, inr, Bool, false, true, List, [], ◌∷◌, length, slice_set, length-set, get_or-set_other, get_or-set_same, Some, None, unwrap_or, nat_eq, ltb, subst, refl, sym, ap, ◌∙◌, arith}
 use Rattle.std.proofs.lemmas.Bool.{cases_eq}
 use Rattle.unixmodel.specs.Memory.{Page}
 use Rattle.ram.specs.Memory.{frame_of}
@@ -14,8 +14,8 @@ use Rattle.pagetable.proofs.LookupLemmas.{lookup-sound}
 use Rattle.pagetable.proofs.Beside.{IsTree-same, table_at-same, lookup_of-same}
 use Rattle.pagetable.specs.Shape.{IsTidy}
 use Rattle.vm.specs.Dense.{trap_page, frame_at, marks_at, page_at, page_with, pages_below, frames_below, tables_below, held, IsDense, IsHeld}
-use Rattle.vm.proofs.DenseLemmas.{count-held, page-held, pages_below-zero, pages_below-more, table-held}
-use Rattle.vm.proofs.StepLemmas.{beyond-held}
+use Rattle.vm.proofs.DenseLemmas.{count-held, page-held, table-held}
+use Rattle.vm.proofs.StepLemmas.{beyond-held, page-kept, pages-each}
 use Rattle.vm.proofs.GrowLemmas.{IsTidy-same, lookup-parts, frame_at-is, marks_at-is, frame_at-same, marks_at-same, frames_below-same, tables_below-same}
 use Rattle.vm.specs.Leaf.{IsUserLeaf, right_marks, is_open, user_leaf}
 use Rattle.vm.proofs.LeafLemmas.{leaf-user, leaf-valid, right-leaf}
@@ -172,14 +172,6 @@ remap-trades m z k r t n p f g marks s q is low e =
       ];
     }
 
-pages-each : (m k : List (List ℕ)) (r n : ℕ) → ((j : ℕ) → j < n → page_at k r j ≡ page_at m r j) → pages_below k r n ≡ pages_below m r n
-pages-each m k r zero same = pages_below-zero k r ∙ sym (pages_below-zero m r)
-pages-each m k r (suc n) same =
-    pages_below-more k r n
-    ∙ ap (λ x. pages_below k r n ++ (x ∷ [])) (same n (omega arith))
-    ∙ ap (λ l. l ++ (page_at m r n ∷ [])) (pages-each m k r n (λ j h. same j (omega (arith, h))))
-    ∙ sym (pages_below-more m r n)
-
 -- the program's memory is the same
 pub remap-pages : (m z k : List (List ℕ)) (r t n p f g marks : ℕ) (s q : Frames) → IsHeld m r t n s → p < n → IsRemap m z k r p f g marks s q → pages_below k r n ≡ pages_below m r n
 remap-pages m z k r t n p f g marks s q is low e =
@@ -205,9 +197,7 @@ remap-pages m z k r t n p f g marks s q is low e =
           let looks = remap-others m z k r t n p f g marks s q is e j (omega (arith, h, small)) ne in
           let v = frame_at m r j in
           let some = page-held m r n j h in
-          ap (λ x. page_with (frame_of k x) (marks_at k r j)) (frame_at-same m k r j looks)
-          ∙ ap (page_with (frame_of k v)) (marks_at-same m k r j looks)
-          ∙ ap (λ b. page_with b (marks_at m r j)) (remap-bytes m z k r t n p f g marks s q is e v (held-some m r t n s is v (omega (arith, count-held m r t n v, some))) (omega (arith, is.once v, count-held m r t n v, some)))
+          page-kept m k r j looks (remap-bytes m z k r t n p f g marks s q is e v (held-some m r t n s is v (omega (arith, count-held m r t n v, some))) (omega (arith, is.once v, count-held m r t n v, some)))
     ])
 
 -- and so are the registers

@@ -20,24 +20,24 @@ use Rattle.vm.specs.Shares.{held_at, all_held, IsPlace, IsMachine, frames_used, 
 -- ---- counts in a list of places
 
 -- one place counts no more than all, and two places neither
-one-place : (g : Option Space → List ℕ) (f : ℕ) (xs : List (Option Space)) (i : ℕ) → g None ≡ [] → count_of f (g (get_or xs i None)) ≤ count_of f (flat_map g xs)
+pub one-place : {X : Type 0} (g : Option X → List ℕ) (f : ℕ) (xs : List (Option X)) (i : ℕ) → g None ≡ [] → count_of f (g (get_or xs i None)) ≤ count_of f (flat_map g xs)
 one-place g f [] i none = omega (arith, ap (count_of f) none)
 one-place g f (x ∷ xs) zero none = omega (arith, count_of-append f (g x) (flat_map g xs))
 one-place g f (x ∷ xs) (suc i) none = omega (arith, count_of-append f (g x) (flat_map g xs), one-place g f xs i none)
 
-two-places : (g : Option Space → List ℕ) (f : ℕ) (xs : List (Option Space)) (i j : ℕ) → g None ≡ [] → j ≢ i → count_of f (g (get_or xs i None)) + count_of f (g (get_or xs j None)) ≤ count_of f (flat_map g xs)
+pub two-places : {X : Type 0} (g : Option X → List ℕ) (f : ℕ) (xs : List (Option X)) (i j : ℕ) → g None ≡ [] → j ≢ i → count_of f (g (get_or xs i None)) + count_of f (g (get_or xs j None)) ≤ count_of f (flat_map g xs)
 two-places g f [] i j none ne = omega (arith, ap (count_of f) none)
 two-places g f (x ∷ xs) zero zero none ne = absurd (ne refl)
 two-places g f (x ∷ xs) zero (suc j) none ne = omega (arith, count_of-append f (g x) (flat_map g xs), one-place g f xs j none)
 two-places g f (x ∷ xs) (suc i) zero none ne = omega (arith, count_of-append f (g x) (flat_map g xs), one-place g f xs i none)
 two-places g f (x ∷ xs) (suc i) (suc j) none ne = omega (arith, count_of-append f (g x) (flat_map g xs), two-places g f xs i j none (λ e. ne (ap suc e)))
 
-same-places : (g h : Option Space → List ℕ) (xs : List (Option Space)) → ((j : ℕ) → h (get_or xs j None) ≡ g (get_or xs j None)) → flat_map h xs ≡ flat_map g xs
+same-places : {X : Type 0} (g h : Option X → List ℕ) (xs : List (Option X)) → ((j : ℕ) → h (get_or xs j None) ≡ g (get_or xs j None)) → flat_map h xs ≡ flat_map g xs
 same-places g h [] same = refl
 same-places g h (x ∷ xs) same = ap (λ l. l ++ flat_map h xs) (same 0) ∙ ap (λ l. g x ++ l) (same-places g h xs (λ j. same (suc j)))
 
 -- one place changes
-set-place : (g h : Option Space → List ℕ) (f : ℕ) (xs : List (Option Space)) (i : ℕ) (y : Option Space) → i < length xs → ((j : ℕ) → j ≢ i → h (get_or xs j None) ≡ g (get_or xs j None))
+pub set-place : {X : Type 0} (g h : Option X → List ℕ) (f : ℕ) (xs : List (Option X)) (i : ℕ) (y : Option X) → i < length xs → ((j : ℕ) → j ≢ i → h (get_or xs j None) ≡ g (get_or xs j None))
     → count_of f (flat_map h (slice_set xs i y)) + count_of f (g (get_or xs i None)) ≡ count_of f (flat_map g xs) + count_of f (h y)
 set-place g h f [] i y hi same = absurd (omega arith)
 set-place g h f (x ∷ xs) zero y hi same =

@@ -79,13 +79,21 @@ read_below-same read m k r (suc n) looks =
     let here : read_at read k r n ≡ read_at read m r n = ap (λ (o : Option (ℕ × ℕ)). read_by read (unwrap_or o (0, 0))) (looks n (omega arith)) in
     ap (λ l. l ++ (read_at read k r n ∷ [])) (read_below-same read m k r n (λ p h. looks p (omega arith))) ∙ ap (λ x. read_below read m r n ++ (x ∷ [])) here
 
+-- a page that is mapped as it was, to a frame that keeps its bytes
+pub page-kept : (m k : List (List ℕ)) (r p : ℕ) → lookup_of k r p ≡ lookup_of m r p → frame_of k (frame_at m r p) ≡ frame_of m (frame_at m r p) → page_at k r p ≡ page_at m r p
+page-kept m k r p looks same =
+    ap (λ x. page_with (frame_of k x) (marks_at k r p)) (frame_at-same m k r p looks) ∙ ap (page_with (frame_of k (frame_at m r p))) (marks_at-same m k r p looks) ∙ ap (λ b. page_with b (marks_at m r p)) same
+
+pub pages-each : (m k : List (List ℕ)) (r n : ℕ) → ((p : ℕ) → p < n → page_at k r p ≡ page_at m r p) → pages_below k r n ≡ pages_below m r n
+pages-each m k r zero same = pages_below-zero k r ∙ sym (pages_below-zero m r)
+pages-each m k r (suc n) same =
+    pages_below-more k r n
+    ∙ ap (λ x. pages_below k r n ++ (x ∷ [])) (same n (omega arith))
+    ∙ ap (λ l. l ++ (page_at m r n ∷ [])) (pages-each m k r n (λ p h. same p (omega (arith, h))))
+    ∙ sym (pages_below-more m r n)
+
 pub pages_below-same : (m k : List (List ℕ)) (r n : ℕ) → ((p : ℕ) → p < n → lookup_of k r p ≡ lookup_of m r p) → ((p : ℕ) → p < n → frame_of k (frame_at m r p) ≡ frame_of m (frame_at m r p)) → pages_below k r n ≡ pages_below m r n
-pages_below-same m k r zero looks same = pages_below-zero k r ∙ sym (pages_below-zero m r)
-pages_below-same m k r (suc n) looks same =
-    let bytes : frame_of k (frame_at k r n) ≡ frame_of m (frame_at m r n) = ap (frame_of k) (frame_at-same m k r n (looks n (omega arith))) ∙ same n (omega arith) in
-    let page : page_at k r n ≡ page_at m r n = ap (λ b. page_with b (marks_at k r n)) bytes ∙ ap (page_with (frame_of m (frame_at m r n))) (marks_at-same m k r n (looks n (omega arith))) in
-    let rest : pages_below k r n ≡ pages_below m r n = pages_below-same m k r n (λ p h. looks p (omega arith)) (λ p h. same p (omega arith)) in
-    pages_below-more k r n ∙ ap (λ x. pages_below k r n ++ (x ∷ [])) page ∙ ap (λ l. l ++ (page_at m r n ∷ [])) rest ∙ sym (pages_below-more m r n)
+pages_below-same m k r n looks same = pages-each m k r n (λ p h. page-kept m k r p (looks p h) (same p h))
 
 pub IsTaken-set : (m z : List (List ℕ)) (s q : Frames) (f : ℕ) (w : List ℕ) → free_of m s ≡ f ∷ free_of m q → IsFreeList m q → z ≡ slice_set m f w → extra_of q ≡ extra_of s → IsTaken m z s q f
 IsTaken-set m z s q f w taken after e extra = record {

@@ -1,6 +1,6 @@
 use Rattle.std.proofs.Common.{ℕ, suc, ◌≢◌, Option, Some, None, ◌≡◌, arith, add-one}
 use Rattle.vm.specs.Dense.{IsHeld}
-use Rattle.vm.proofs.DropLemmas.{IsReleased, IsUnmapped, unmapped-was, give-inside, give-held, IsHeld-drop, Trades-drop, pages-drop, mapping-drop, trap-drop}
+use Rattle.vm.proofs.DropLemmas.{IsUnmapped, dropped, give-held, give-inside, unmapped-was}
 use Rattle.vm.proofs.StepLemmas.{IsHeld-paged}
 use Rattle.vm.proofs.Space.drop_page.Goals as goal
 use Rattle.vm.proofs.Space.drop_page.Goals.{After-unmap-frame}
@@ -32,14 +32,6 @@ give-requires c =
 pub returns : goal.returns
 returns c =
     let at = (goal.at.returns c).After-unmap-frame in
-    let is = one_more at in
-    let u = unmapped at in
     let e = c.give.ensures in
-    let g : IsReleased c.unmap-frame.new.ram c.give.new.ram c.unmap-frame.result.0 c.unmap-frame.new.frames c.give.new.self = record { valid = e.valid; holders = e.holders; others = e.others; stays = λ more. (e.stays more).1 } in
-    record {
-      held = IsHeld-drop _ _ _ _ _ _ _ _ _ c.give.new.self is u g;
-      pages = λ k le. pages-drop _ _ _ _ _ _ _ k _ _ c.give.new.self is u g le;
-      mapping = λ read k le. mapping-drop read _ _ _ _ _ _ _ k _ _ c.give.new.self is u g le;
-      trap = trap-drop _ _ _ _ _ _ _ _ _ c.give.new.self is u g;
-      trades = rw add-one (Trades-drop _ _ _ _ _ _ _ _ _ c.give.new.self is u g);
-    }
+    let d = dropped _ _ c.give.new.ram _ _ _ _ _ _ c.give.new.self (one_more at) (unmapped at) (record { valid = e.valid; holders = e.holders; others = e.others; stays = λ more. (e.stays more).1 }) in
+    record { held = d.space; pages = d.pages; mapping = d.mapping; trap = d.trap; trades = d.trades }
