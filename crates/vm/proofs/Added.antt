@@ -123,18 +123,18 @@ next-held z k r t n f marks q w b e =
 next-bytes : (z k : List (List ℕ)) (r t n f marks : ℕ) (q w : Frames) → IsBefore z r t n f marks q → IsNext z k r n f marks q w → (v : ℕ) → 0 < holders_of z q v → count_of v (tables_below z r n) ≡ 0 → frame_of k v ≡ frame_of z v
 next-bytes z k r t n f marks q w b e v some none = e.keeps.others v (λ h. omega (arith, none, table-held z r t n v b.space.dense h)) (held-inside z q v b.space.free some).1
 
--- the space trades for the tables that came
-pub next-trades : (z k : List (List ℕ)) (r t n f marks : ℕ) (q w : Frames) → IsBefore z r t n f marks q → IsNext z k r n f marks q w → Trades z k q w (held z r t n) (tables_for k r n ++ held z r t n)
+-- the space trades for the page's frame, which it was counted to hold, and the tables that came
+pub next-trades : (z k : List (List ℕ)) (r t n f marks : ℕ) (q w : Frames) → IsBefore z r t n f marks q → IsNext z k r n f marks q w → Trades z k q w (f ∷ held z r t n) (held k r t (suc n))
 next-trades z k r t n f marks q w b e =
     let is = b.space in
     let counts = next-count z k r t n f marks q w b e in
     record {
       count = e.keeps.count;
-      moved = λ v. omega (arith, counts v, next-holders z k r n f marks q w is.free e v, count_of-append v (tables_for k r n) (held z r t n));
+      moved = λ v. omega (arith, counts v, next-holders z k r n f marks q w is.free e v);
       others = λ v more.
-          let none = (beyond-held z r t n q is v more).0 in
+          let none = (beyond-held z r t n q is v (omega (arith, more))).0 in
           next-bytes z k r t n f marks q w b e v (omega (arith, more)) (omega (arith, none));
-      fresh = λ v none some. (free-none z q v is.free (omega (arith, none, some, counts v, count_of-append v (tables_for k r n) (held z r t n)))).0;
+      fresh = λ v none some. (free-none z q v is.free (omega (arith, none, some, counts v))).0;
     }
 
 pub next-pages : (z k : List (List ℕ)) (r t n f marks : ℕ) (q w : Frames) → IsBefore z r t n f marks q → IsNext z k r n f marks q w → pages_below k r (suc n) ≡ pages_below z r n ++ (page_with (frame_of z f) marks ∷ [])

@@ -18,17 +18,16 @@ use Rattle.vm.proofs.DenseLemmas.{cases_root, count-held, table-held}
 use Rattle.vm.proofs.StepLemmas.{beyond-held, held-not_free}
 use Rattle.vm.proofs.DropLemmas.{IsUnmapped, IsGiven}
 
-none-none : (v : ℕ × ℕ) (o : Option (ℕ × ℕ)) → o ≡ Some v → o ≡ None → ⊥
-none-none v o a b = cc
-
 -- nothing is mapped then
 pub end-tables : (m j : List (List ℕ)) (r t f : ℕ) (s a : Frames) → IsHeld m r t 0 s → IsUnmapped m j r trap_page f s a → (x : Node) (v : ℕ) → IsNode x → x ≢ Root → table_at j r x ≡ Some v → ⊥
 end-tables m j r t f s a is u x v nx nr h =
     let w = u.tidy.used x v nx nr h in
-    none-none w.value (lookup_of j r w.page) w.mapped (elim (cases_eq w.page trap_page) [
+    let some : lookup_of j r w.page ≡ Some w.value = w.mapped in
+    let none : lookup_of j r w.page ≡ None = elim (cases_eq w.page trap_page) [
       | inl e ↦ ap (lookup_of j r) e ∙ u.removes.changed
       | inr ne ↦ u.removes.others w.page w.inside ne ∙ is.dense.rest w.page (omega arith) w.inside ne
-    ])
+    ] in
+    cc
 
 none-of : (o : Option ℕ) → ((v : ℕ) → o ≡ Some v → ⊥) → o ≡ None
 none-of None h = refl

@@ -10,9 +10,9 @@ use Rattle.unixmodel.specs.Memory.{Page, Marks}
 use Rattle.vm.proofs.GrowLemmas.{frame_at-is, frame_at-same, missing-next}
 use Rattle.vm.proofs.PageLemmas.{get_or-pages}
 use Rattle.vm.specs.declared.Space.{Space}
-use Rattle.vm.specs.Dense.{frame_at, marks_at, page_at, pages_below, frames_below, tables_for, tables_below, held, frames_for, IsHeld}
+use Rattle.vm.specs.Dense.{frame_at, marks_at, page_at, pages_below, frames_below, tables_below, held, frames_for, IsHeld}
 use Rattle.vm.proofs.DenseLemmas.{count-held, frames_for-more, page-held, pages-apart, pages_below-more, pages_below-zero, length-held}
-use Rattle.vm.proofs.Added.{IsBefore, next-count, next-held, next-pages, next-trades, next-trap, share-stands}
+use Rattle.vm.proofs.Added.{IsBefore, next-held, next-pages, next-trades, next-trap, share-stands}
 use Rattle.vm.specs.Leaf.{is_open, right_marks}
 use Rattle.vm.proofs.Beside.{Trades-as, Trades-frame, Trades-held}
 use Rattle.vm.specs.Fork.{IsMore, IsPart, IsSoFar}
@@ -147,11 +147,10 @@ part-more m k l x c n f leaf s q w is low was e after more list next =
     let before = part-before k x c n f leaf s q part.0 low e.frame e.marks e.closed after more list in
     let b = before.1 in
     let trades = next-trades k l r t n f leaf q w b next in
-    let room : (v : ℕ) → count_of v (held k r t n) + count_of v (holds k x) ≤ holders_of k q v = λ (v : ℕ). omega (arith, part.0.room v, more v) in
-    let parent = Trades-held k l q w (held k r t n) (tables_for l r n ++ held k r t n) x.root.0 x.trap.0 (pages_in x.size) before.0 room trades next.paged.free in
+    let room : (v : ℕ) → count_of v (f ∷ held k r t n) + count_of v (holds k x) ≤ holders_of k q v = λ (v : ℕ). omega (arith, part.0.room v, more v) in
+    let parent = Trades-held k l q w (f ∷ held k r t n) (held l r t (suc n)) x.root.0 x.trap.0 (pages_in x.size) before.0 room trades next.paged.free in
     let stays = parent.stays in
     let child = next-held k l r t n f leaf q w b next in
-    let counts = next-count k l r t n f leaf q w b next in
     let here = page-once k x.root.0 x.trap.0 (pages_in x.size) n f s part.0.parent low e.frame in
     let first : Trades m k s s (holds m x ++ held m r t n) (held k r t n ++ holds k x) =
     Trades-as m k s s (held m r t n ++ holds m x) (held m r t n ++ holds k x) (holds m x ++ held m r t n) (held k r t n ++ holds k x)
@@ -161,10 +160,10 @@ part-more m k l x c n f leaf s q w is low was e after more list next =
     let second : Trades k k s q (held k r t n ++ holds k x) (f ∷ (held k r t n ++ holds k x)) =
     Trades-more k s q f (held k r t n ++ holds k x) more (omega (arith, here.2, count_of-append f (held k r t n) (holds k x))) in
     let third : Trades k l q w (f ∷ (held k r t n ++ holds k x)) (holds l x ++ held l r t (suc n)) =
-    Trades-as k l q w ((f ∷ holds k x) ++ held k r t n) ((f ∷ holds k x) ++ (tables_for l r n ++ held k r t n)) (f ∷ (held k r t n ++ holds k x)) (holds l x ++ held l r t (suc n))
-    (Trades-frame k l q w (held k r t n) (tables_for l r n ++ held k r t n) (f ∷ holds k x) trades)
-    (λ v. omega (arith, count_of-append v (held k r t n) (holds k x), count_of-append v (f ∷ holds k x) (held k r t n)))
-    (λ v. omega (arith, count_of-append v (holds l x) (held l r t (suc n)), count_of-append v (f ∷ holds k x) (tables_for l r n ++ held k r t n), count_of-append v (tables_for l r n) (held k r t n), counts v, ap (count_of v) parent.same)) in
+    Trades-as k l q w (holds k x ++ (f ∷ held k r t n)) (holds k x ++ held l r t (suc n)) (f ∷ (held k r t n ++ holds k x)) (holds l x ++ held l r t (suc n))
+    (Trades-frame k l q w (f ∷ held k r t n) (held l r t (suc n)) (holds k x) trades)
+    (λ v. omega (arith, count_of-append v (held k r t n) (holds k x), count_of-append v (holds k x) (f ∷ held k r t n)))
+    (λ v. omega (arith, count_of-append v (holds l x) (held l r t (suc n)), count_of-append v (holds k x) (held l r t (suc n)), ap (count_of v) parent.same)) in
     let all = Trades-twice m k l s s w (holds m x ++ held m r t n) (held k r t n ++ holds k x) (holds l x ++ held l r t (suc n)) first
     (Trades-twice k k l s q w (held k r t n ++ holds k x) (f ∷ (held k r t n ++ holds k x)) (holds l x ++ held l r t (suc n)) second third) in
     let lengths = Trades-lengths m l s w (holds m x ++ held m r t n) (holds l x ++ held l r t (suc n)) is.parent.free child.free (λ v. omega (arith, is.room v, count_of-append v (holds m x) (held m r t n))) all in

@@ -1,5 +1,6 @@
 -- Lemmas on the marks of leaves.
 use Rattle.std.proofs.Common.{◌≡◌, ◌+◌, ℕ, Bool, true, false, List, replicate, refl, sym, ap, subst, ◌∙◌, arith, rules, ◌&&◌}
+use Rattle.std.specs.Prelude.{if◌then◌else◌}
 use Rattle.std.proofs.lemmas.Bool.{and_parts}
 use Rattle.unixmodel.specs.declared.trap.Access.{Access}
 use Rattle.unixmodel.specs.declared.trap.Access.TheVariants.{Fetch, Load, Store}
@@ -50,26 +51,18 @@ pub leaf-trap : IsUserLeaf trap_marks
 leaf-trap = refl
 
 -- the leaf that the code makes: bit 8 where the page is writable
-pub leaf-writable : (w x u : Bool) (leaf : ℕ) → w ≡ true → leaf ≡ leaf_marks (marks_by w x u) → leaf + 256 ≡ user_leaf (marks_by w x u) true
+pub leaf-made : (b w x u : Bool) (leaf : ℕ) → w ≡ b → leaf ≡ leaf_marks (marks_by w x u) → (if b then leaf + 256 else leaf) ≡ user_leaf (marks_by w x u) true
 unfolding leaf_marks
-leaf-writable true x u leaf e is = omega (arith, is)
-leaf-writable false x u leaf e is = absurd cc
-
-pub leaf-readable : (w x u : Bool) (leaf : ℕ) → w ≡ false → leaf ≡ leaf_marks (marks_by w x u) → leaf ≡ user_leaf (marks_by w x u) true
-unfolding leaf_marks
-leaf-readable true x u leaf e is = absurd cc
-leaf-readable false x u leaf e is = omega (arith, is)
+leaf-made true true x u leaf e is = omega (arith, is)
+leaf-made false false x u leaf e is = omega (arith, is)
+leaf-made _ _ x u leaf e is = absurd cc
 
 -- and the closed one
-pub leaf-shared : (w x u : Bool) (leaf : ℕ) → w ≡ true → leaf ≡ leaf_marks (marks_by false x u) → leaf + 256 ≡ user_leaf (marks_by w x u) false
+pub leaf-shut : (b w x u : Bool) (leaf : ℕ) → w ≡ b → leaf ≡ leaf_marks (marks_by false x u) → (if b then leaf + 256 else leaf) ≡ user_leaf (marks_by w x u) false
 unfolding leaf_marks
-leaf-shared true x u leaf e is = omega (arith, is)
-leaf-shared false x u leaf e is = absurd cc
-
-pub leaf-unwritable : (w x u : Bool) (leaf : ℕ) → w ≡ false → leaf ≡ leaf_marks (marks_by false x u) → leaf ≡ user_leaf (marks_by w x u) false
-unfolding leaf_marks
-leaf-unwritable true x u leaf e is = absurd cc
-leaf-unwritable false x u leaf e is = omega (arith, is)
+leaf-shut true true x u leaf e is = omega (arith, is)
+leaf-shut false false x u leaf e is = omega (arith, is)
+leaf-shut _ _ x u leaf e is = absurd cc
 
 abbrev page_of : List ℕ → Marks → Page
 page_of bytes marks = record { bytes = bytes; marks = marks }

@@ -1,11 +1,11 @@
 -- A space of no pages.
-use Rattle.std.proofs.Common.{◌≡◌, ◌≢◌, ℕ, ◌+◌, false, true, List, [], ◌∷◌, ◌++◌, length, Some, sym, ap, ◌∙◌, arith, slice_set, get_or-set_other, replicate}
+use Rattle.std.proofs.Common.{◌≡◌, ◌≢◌, ℕ, ◌+◌, ◌<◌, false, true, List, [], ◌∷◌, ◌++◌, length, Some, sym, ap, ◌∙◌, arith, slice_set, length-set, get_or-set_other, replicate, inl, inr}
 use Rattle.ram.specs.Memory.{frame_of}
 use Rattle.frames.specs.declared.Frames.{Frames}
 use Rattle.frames.specs.Free.{among, free_of, free_count, extra_of, IsFreeList}
-use Rattle.frames.proofs.FreeLemmas.{among_first_not}
+use Rattle.frames.proofs.FreeLemmas.{among_first, among_first_not, further-free}
 use Rattle.frames.specs.Holders.{count_of, Trades}
-use Rattle.frames.proofs.HolderLemmas.{count_of-first, among-none, none-among, holders-table, held-inside, distinct-count}
+use Rattle.frames.proofs.HolderLemmas.{count_of-first, among-none, none-among, count-cases, free-holders, holders-table, held-inside, distinct-count}
 use Rattle.pagetable.specs.Tree.{Root, mid_node, low_node, table_at, IsPaged, Holds, missing}
 use Rattle.pagetable.proofs.TreeLemmas.{free-first, free_count-taken, further-same, mid_is_node, root_at, missing_two}
 use Rattle.pagetable.proofs.Beside.{IsTree-same, table_at-same, lookup_of-same}
@@ -14,8 +14,7 @@ use Rattle.pagetable.proofs.ShapeLemmas.{made-two}
 use Rattle.pagetable.proofs.EmptyLemmas.{only-root}
 use Rattle.vm.specs.Dense.{trap_page, trap_marks, frames_below, tables_below, held, IsDense, IsHeld}
 use Rattle.vm.proofs.DenseLemmas.{count-held}
-use Rattle.vm.proofs.StepLemmas.{IsTaken, IsNext, alone-next, fresh-next, free-after}
-use Rattle.frames.proofs.FreeLemmas.{among_first}
+use Rattle.vm.proofs.StepLemmas.{IsTaken, IsNext, free-after}
 
 -- an empty page table whose frame was free, and then a frame that is taken
 pub record IsStart (m j z : List (List ℕ)) (s a q : Frames) (r t : ℕ) : Type 0 where
@@ -64,7 +63,7 @@ start-free m j z s a q r t is = is.first ∙ ap (λ l. r ∷ l) (is.taken.taken 
 pub start-count : (m j z : List (List ℕ)) (s a q : Frames) (r t : ℕ) → IsStart m j z s a q r t → free_count m s ≡ 2 + free_count z q
 start-count m j z s a q r t is = free_count-taken m z s q 2 (omega (arith, ap length (start-free m j z s a q r t is))) (is.taken.extra ∙ is.extra) (free-after j z a q t is.paged.free is.taken).1
 
-pub IsDense-start : (m j z k : List (List ℕ)) (s a q w : Frames) (r t : ℕ) → IsStart m j z s a q r t → IsNext z k r trap_page t trap_marks q w → IsDense k r t 0
+IsDense-start : (m j z k : List (List ℕ)) (s a q w : Frames) (r t : ℕ) → IsStart m j z s a q r t → IsNext z k r trap_page t trap_marks q w → IsDense k r t 0
 IsDense-start m j z k s a q w r t is next = record {
   tree = next.paged.tree;
   tidy = next.tidy;
@@ -75,7 +74,7 @@ IsDense-start m j z k s a q w r t is next = record {
   rest = λ p _ low ne. next.inserts.others p low ne ∙ (start-empty m j z s a q r t is).pages p;
 }
 
-pub count-start : (m j z k : List (List ℕ)) (s a q w : Frames) (r t : ℕ) → IsStart m j z s a q r t → IsNext z k r trap_page t trap_marks q w → (g : ℕ) → count_of g (held k r t 0) + count_of g (free_of k w) ≡ count_of g (free_of m s)
+count-start : (m j z k : List (List ℕ)) (s a q w : Frames) (r t : ℕ) → IsStart m j z s a q r t → IsNext z k r trap_page t trap_marks q w → (g : ℕ) → count_of g (held k r t 0) + count_of g (free_of k w) ≡ count_of g (free_of m s)
 unfolding tables_below frames_below
 count-start m j z k s a q w r t is next g =
     let none = (start-empty m j z s a q r t is).tables (mid_node trap_page) (mid_is_node trap_page) (λ e. cc) in
@@ -84,40 +83,47 @@ count-start m j z k s a q w r t is next g =
     start-free m j z s a q r t is ∙ ap (λ l. r ∷ t ∷ l) (next.adds.taken ∙ ap (λ l. l ++ free_of k w) two) in
     omega (arith, ap (count_of g) all)
 
-tables-start : (k : List (List ℕ)) (r t g : ℕ) → count_of g (tables_below k r 0) + count_of g (t ∷ []) ≡ count_of g (held k r t 0)
-unfolding frames_below
-tables-start k r t g = omega (arith, count-held k r t 0 g)
+-- what the space holds was free
+was-free : (m j z k : List (List ℕ)) (s a q w : Frames) (r t : ℕ) → IsStart m j z s a q r t → IsNext z k r trap_page t trap_marks q w → (g : ℕ) → 0 < count_of g (held k r t 0) → among g (free_of m s) ≡ true
+was-free m j z k s a q w r t is next g some = elim (count-cases g (free_of m s)) [ inl at ↦ at | inr none ↦ absurd (omega (arith, count-start m j z k s a q w r t is next g, some, none)) ]
 
-pub IsHeld-start : (m j z k : List (List ℕ)) (s a q w : Frames) (r t : ℕ) → IsStart m j z s a q r t → IsNext z k r trap_page t trap_marks q w → length k ≡ length m → IsHeld k r t 0 w
-IsHeld-start m j z k s a q w r t is next len =
-    let counts = count-start m j z k s a q w r t is next in
+-- the space stands, and traded nothing for its frames
+pub record IsMade (m z k : List (List ℕ)) (r t : ℕ) (s w : Frames) : Type 0 where
+  pub space : IsHeld k r t 0 w
+  pub registers : frame_of k t ≡ frame_of z t
+  pub trades : Trades m k s w [] (held k r t 0)
+
+pub start-made : (m j z k : List (List ℕ)) (s a q w : Frames) (r t : ℕ) → IsStart m j z s a q r t → IsNext z k r trap_page t trap_marks q w → IsMade m z k r t s w
+start-made m j z k s a q w r t is next =
+    let zeros = replicate {A = ℕ} 4096 0 in
+    let len : length k ≡ length m = next.keeps.count ∙ is.taken.count ∙ ap length is.start ∙ length-set m r zeros in
     let extra = next.extra ∙ is.taken.extra ∙ is.extra in
+    let counts = count-start m j z k s a q w r t is next in
+    let holders = holders-table m k s w is.free next.paged.free len extra in
+    let free = was-free m j z k s a q w r t is next in
+    let stays : (g : ℕ) → g ≢ r → count_of g (free_of z q) ≡ 0 → frame_of k g ≡ frame_of z g = λ (g : ℕ) (ne : g ≢ r) (none : count_of g (free_of z q) ≡ 0).
+    next.keeps.others g (λ h. ne (only-root z r (start-empty m j z s a q r t is) h.place g h.is_node h.at_place).1) (among-none g (free_of z q) none) in
     record {
-      dense = IsDense-start m j z k s a q w r t is next;
-      once = λ g. omega (arith, counts g, distinct-count g (free_of m s) is.free.distinct);
-      free = next.paged.free;
-      own = λ g. alone-next m s w g 0 (count_of g (tables_below k r 0) + count_of g (t ∷ [])) is.free extra (λ none. absurd (omega (arith, none))) (omega (arith, counts g, tables-start k r t g));
-      alone = λ p low wide. absurd (omega (arith, low));
-      held = λ g. omega (arith, counts g, holders-table m k s w is.free next.paged.free len extra g);
+      space = record {
+        dense = IsDense-start m j z k s a q w r t is next;
+        once = λ g. omega (arith, counts g, distinct-count g (free_of m s) is.free.distinct);
+        free = next.paged.free;
+        own = λ g some. further-same s w g extra ∙ further-free m s g is.free (free g (omega (arith, some, count-held k r t 0 g)));
+        alone = λ p low wide. absurd (omega (arith, low));
+        held = λ g. omega (arith, counts g, holders g);
+      };
+      registers =
+          let first = free-first j a t (free_of j q) is.paged.free is.taken.taken in
+          let after = free-after j z a q t is.paged.free is.taken in
+          stays t (start-apart m j z s a q r t is) (none-among t (free_of z q) (ap (among t) (after.0) ∙ first.1));
+      trades = record {
+        count = len;
+        moved = λ g. omega (arith, counts g, holders g);
+        others = λ g h.
+            let none : count_of g (r ∷ t ∷ free_of z q) ≡ 0 = ap (count_of g) (sym (start-free m j z s a q r t is)) ∙ none-among g (free_of m s) (held-inside m s g is.free (omega (arith, h))).1 in
+            let not_r : g ≢ r = λ (e : g ≡ r). omega (arith, none, count_of-first g r (t ∷ free_of z q) e) in
+            let not_t : g ≢ t = λ (e : g ≡ t). omega (arith, none, count_of-first g t (free_of z q) e) in
+            stays g not_r (omega (arith, none)) ∙ is.taken.others g not_t ∙ rw is.start (get_or-set_other m r g zeros [] not_r);
+        fresh = λ g none some. free-holders m s g is.free (free g some);
+      };
     }
-
-start-stays : (m j z k : List (List ℕ)) (s a q w : Frames) (r t : ℕ) → IsStart m j z s a q r t → IsNext z k r trap_page t trap_marks q w → (g : ℕ) → g ≢ r → count_of g (free_of z q) ≡ 0 → frame_of k g ≡ frame_of z g
-start-stays m j z k s a q w r t is next g ne none = next.keeps.others g (λ h. ne (only-root z r (start-empty m j z s a q r t is) h.place g h.is_node h.at_place).1) (among-none g (free_of z q) none)
-
-pub Trades-start : (m j z k : List (List ℕ)) (s a q w : Frames) (r t : ℕ) → IsStart m j z s a q r t → IsNext z k r trap_page t trap_marks q w → length k ≡ length m → Trades m k s w [] (held k r t 0)
-Trades-start m j z k s a q w r t is next len = record {
-  count = len;
-  moved = λ g. omega (arith, count-start m j z k s a q w r t is next g, holders-table m k s w is.free next.paged.free len (next.extra ∙ is.taken.extra ∙ is.extra) g);
-  others = λ g h.
-      let none : count_of g (r ∷ t ∷ free_of z q) ≡ 0 = ap (count_of g) (sym (start-free m j z s a q r t is)) ∙ none-among g (free_of m s) (held-inside m s g is.free (omega (arith, h))).1 in
-      let not_r : g ≢ r = λ (e : g ≡ r). omega (arith, none, count_of-first g r (t ∷ free_of z q) e) in
-      let not_t : g ≢ t = λ (e : g ≡ t). omega (arith, none, count_of-first g t (free_of z q) e) in
-      start-stays m j z k s a q w r t is next g not_r (omega (arith, none)) ∙ is.taken.others g not_t ∙ rw is.start (get_or-set_other m r g (replicate {A = ℕ} 4096 0) [] not_r);
-  fresh = λ g. fresh-next m s g [] (held k r t 0) is.free (omega (arith, count-start m j z k s a q w r t is next g));
-}
-
-pub registers-start : (m j z k : List (List ℕ)) (s a q w : Frames) (r t : ℕ) → IsStart m j z s a q r t → IsNext z k r trap_page t trap_marks q w → frame_of k t ≡ frame_of z t
-registers-start m j z k s a q w r t is next =
-    let first = free-first j a t (free_of j q) is.paged.free is.taken.taken in
-    let after = free-after j z a q t is.paged.free is.taken in
-    start-stays m j z k s a q w r t is next t (start-apart m j z s a q r t is) (none-among t (free_of z q) (ap (among t) (after.0) ∙ first.1))

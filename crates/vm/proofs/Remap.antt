@@ -228,9 +228,6 @@ reframes-none m x s is = record { space = is; registers = refl; trades = Trades-
 pub reframes-twice : (m k l : List (List ℕ)) (x : Space) (s q w : Frames) → Reframes m k x s q → Reframes k l x q w → Reframes m l x s w
 reframes-twice m k l x s q w a b = record { space = b.space; registers = b.registers ∙ a.registers; trades = Trades-twice m k l s q w (holds m x) (holds k x) (holds l x) a.trades b.trades }
 
-pub rearranged-none : (m : List (List ℕ)) (x : Space) (s : Frames) → IsSpace m x s → IsRearranged m m x s s
-rearranged-none m x s is = record { frames = reframes-none m x s is; pages = refl }
-
 -- ---- other marks for the same frame
 
 pub remap-marks : (m k : List (List ℕ)) (r t n p f marks : ℕ) (s : Frames) → IsHeld m r t n s → p < n → frame_at m r p ≡ f → IsUserLeaf marks → right_marks marks ≡ right_marks (marks_at m r p) → (is_open marks ≡ true → further_at s f ≡ 0)
@@ -340,9 +337,6 @@ remap-split m z k r t n p f g marks s q is low e was leaf right inserts tables t
 
 pub page-inside-is : (m : List (List ℕ)) (r t n p f : ℕ) (s : Frames) → IsHeld m r t n s → p < n → frame_at m r p ≡ f → f < length m
 page-inside-is m r t n p f s is low was = omega (arith, was, (lookup-sound m r p (frame_at m r p) (marks_at m r p) is.dense.tree (is.dense.pages p low)).0)
-
-pub is-split : (m z : List (List ℕ)) (s q : Frames) (f g : ℕ) → free_of m s ≡ g ∷ free_of m q → IsFreeList m q → ((v : ℕ) → holders_of m q v + count_of v (f ∷ []) ≡ holders_of m s v + count_of v (g ∷ [])) → z ≡ slice_set m g (frame_of m f) → IsSplit m z s q f g
-is-split m z s q f g taken after holders is = record { taken = taken; after = after; holders = holders; is = is }
 
 pub split-inside : (m : List (List ℕ)) (s q : Frames) (g : ℕ) → IsFreeList m s → free_of m s ≡ g ∷ free_of m q → g < length m
 split-inside m s q g is taken = (free-first m s g (free_of m q) is taken).0

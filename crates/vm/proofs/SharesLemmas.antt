@@ -59,13 +59,10 @@ within-places (y ∷ xs) (suc i) x e = let h = within-places xs i x e in omega (
 
 -- ---- one place trades
 
-held-by : (m : List (List ℕ)) (places : List (Option Space)) (j : ℕ) (x : Space) → get_or places j None ≡ Some x → holds m x ≡ held_at m (get_or places j None)
-held-by m places j x e = ap (held_at m) (sym e)
-
 room-of : (m : List (List ℕ)) (s : Frames) (places : List (Option Space)) (others : List ℕ) (i j : ℕ) (x : Space) → IsMachine m s places others → j ≢ i → get_or places j None ≡ Some x
     → (f : ℕ) → count_of f (held_at m (get_or places i None)) + count_of f (holds m x) ≤ holders_of m s f
 room-of m s places others i j x is ne e f =
-    omega (arith, is.shared.each f, count_of-append f (flat_map (held_at m) places) others, two-places (held_at m) f places i j refl ne, ap (count_of f) (held-by m places j x e))
+    omega (arith, is.shared.each f, count_of-append f (flat_map (held_at m) places) others, two-places (held_at m) f places i j refl ne, ap (λ o. count_of f (held_at m o)) e)
 
 -- what one place trades leaves the others as they were
 pub trade-others : (m k : List (List ℕ)) (s n : Frames) (places : List (Option Space)) (others new : List ℕ) (i : ℕ) → IsMachine m s places others → Trades m k s n (held_at m (get_or places i None)) new → OthersUntouched m k places i
@@ -160,7 +157,7 @@ trade-rest m k s n places others new i f is t some =
 beside-rest : (m : List (List ℕ)) (s : Frames) (places : List (Option Space)) (others old : List ℕ) (j : ℕ) (x : Space) → IsMachine m s places others → ((f : ℕ) → count_of f old ≤ count_of f others) → get_or places j None ≡ Some x
     → (f : ℕ) → count_of f old + count_of f (holds m x) ≤ holders_of m s f
 beside-rest m s places others old j x is low e f =
-    omega (arith, low f, is.shared.each f, count_of-append f (flat_map (held_at m) places) others, one-place (held_at m) f places j refl, ap (count_of f) (held-by m places j x e))
+    omega (arith, low f, is.shared.each f, count_of-append f (flat_map (held_at m) places) others, one-place (held_at m) f places j refl, ap (λ o. count_of f (held_at m o)) e)
 
 -- all spaces are as they were where other frames come, go or are written
 pub rest-untouched : (m k : List (List ℕ)) (s n : Frames) (places : List (Option Space)) (others old new : List ℕ) → IsMachine m s places others → ((f : ℕ) → count_of f old ≤ count_of f others) → Trades m k s n old new → AllUntouched m k places

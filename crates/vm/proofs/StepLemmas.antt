@@ -3,12 +3,12 @@ use Rattle.std.proofs.Common.{◌≡◌, ◌≢◌, ℕ, zero, suc, ◌+◌, ◌
 use Rattle.std.proofs.lemmas.Bool.{cases_eq}
 use Rattle.ram.specs.Memory.{frame_of}
 use Rattle.frames.specs.declared.Frames.{Frames}
-use Rattle.frames.specs.Free.{among, free_of, extra_of, further_at, IsFreeList}
-use Rattle.frames.proofs.FreeLemmas.{free_of-same, IsFreeList-same, further-free}
+use Rattle.frames.specs.Free.{among, free_of, extra_of, IsFreeList}
+use Rattle.frames.proofs.FreeLemmas.{free_of-same, IsFreeList-same}
 use Rattle.frames.specs.Holders.{count_of, holders_of}
-use Rattle.frames.proofs.HolderLemmas.{among-none, none-among, free-holders, held-inside, one-holder, distinct-count, count-cases}
+use Rattle.frames.proofs.HolderLemmas.{among-none, none-among, held-inside, one-holder, distinct-count}
 use Rattle.pagetable.specs.Tree.{lookup_of, IsPaged, Holds, Keeps, Inserts}
-use Rattle.pagetable.proofs.TreeLemmas.{free-first, further-same}
+use Rattle.pagetable.proofs.TreeLemmas.{free-first}
 use Rattle.pagetable.specs.Shape.{IsTidy, Adds}
 use Rattle.vm.specs.Dense.{frame_at, marks_at, page_at, page_with, read_at, read_by, read_below, pages_below, tables_below, held, IsHeld}
 use Rattle.unixmodel.specs.Memory.{Marks}
@@ -40,20 +40,6 @@ beyond-held m r t n s is f more =
       | inl none ↦ (none, free)
       | inr some ↦ absurd (omega (arith, more, some, count-held m r t n f, one-holder m s f is.free (is.own f (omega (arith, some)))))
     ]
-
--- a frame that had no further holder, or was free, has none afterwards: so often it stood, and so often it stands
-pub alone-next : (m : List (List ℕ)) (s w : Frames) (f old new : ℕ) → IsFreeList m s → extra_of w ≡ extra_of s → (0 < old → further_at s f ≡ 0) → new ≤ old + count_of f (free_of m s) → 0 < new → further_at w f ≡ 0
-alone-next m s w f old new is same alone le some = further-same s w f same ∙ elim (count-cases f (free_of m s)) [
-  | inl at ↦ further-free m s f is at
-  | inr none ↦ alone (omega (arith, le, some, none))
-]
-
--- and one that comes to a holder was free
-pub fresh-next : (m : List (List ℕ)) (s : Frames) (f : ℕ) (old new : List ℕ) → IsFreeList m s → count_of f new ≤ count_of f old + count_of f (free_of m s) → count_of f old ≡ 0 → 0 < count_of f new → holders_of m s f ≡ 0
-fresh-next m s f old new is le none some = elim (count-cases f (free_of m s)) [
-  | inl at ↦ free-holders m s f is at
-  | inr absent ↦ absurd (omega (arith, le, none, some, absent))
-]
 
 pub free-after : (m z : List (List ℕ)) (s q : Frames) (f : ℕ) → IsFreeList m s → IsTaken m z s q f → (free_of z q ≡ free_of m q) × IsFreeList z q
 free-after m z s q f is k =

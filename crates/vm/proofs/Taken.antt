@@ -1,5 +1,5 @@
 -- A frame that is taken becomes the next page.
-use Rattle.std.proofs.Common.{◌≡◌, ℕ, suc, ◌+◌, ◌<◌, ◌≤◌, inl, inr, true, List, [], ◌∷◌, ◌++◌, refl, ap, ◌∙◌, arith, add-one}
+use Rattle.std.proofs.Common.{◌≡◌, ℕ, suc, ◌+◌, ◌<◌, ◌≤◌, inl, inr, true, List, [], ◌∷◌, ◌++◌, ap, ◌∙◌, arith, add-one}
 use Rattle.std.proofs.lemmas.Bool.{cases_eq}
 use Rattle.ram.specs.Memory.{frame_of}
 use Rattle.frames.specs.declared.Frames.{Frames}
@@ -10,10 +10,10 @@ use Rattle.frames.proofs.HolderLemmas.{count_of-append, count_of-other, free-hol
 use Rattle.pagetable.specs.Tree.{missing}
 use Rattle.pagetable.proofs.TreeLemmas.{further-same}
 use Rattle.unixmodel.specs.Memory.{Marks}
-use Rattle.vm.specs.Dense.{page_with, read_below, pages_below, tables_for, held, frames_for, IsHeld}
+use Rattle.vm.specs.Dense.{page_with, read_below, pages_below, held, frames_for, IsHeld}
 use Rattle.vm.proofs.DenseLemmas.{length-held}
 use Rattle.vm.proofs.StepLemmas.{IsTaken, IsNext, free-after, read_below-same}
-use Rattle.vm.proofs.Added.{IsBefore, next-count, next-fits, next-held, next-pages, next-trades, next-trap}
+use Rattle.vm.proofs.Added.{IsBefore, next-fits, next-held, next-pages, next-trades, next-trap}
 use Rattle.vm.proofs.Beside.{Besides, Trades-as, Trades-frame, Trades-held}
 
 taken-free : (m z : List (List ℕ)) (s q : Frames) (f : ℕ) → IsTaken m z s q f → among f (free_of m s) ≡ true
@@ -72,11 +72,7 @@ taken-grown m z k r t n f marks bytes s q w is k1 small e next =
     Trades-as m z s q (held m r t n ++ []) (held m r t n ++ (f ∷ [])) (held m r t n) (f ∷ held z r t n) (Trades-frame m z s q [] (f ∷ []) (held m r t n) (taken-trades m z s q f is.free k1))
     (λ v. omega (arith, count_of-append v (held m r t n) []))
     (λ v. omega (arith, count_of-append v (held m r t n) (f ∷ []), ap (count_of v) beside.same)) in
-    let second : Trades z k q w (f ∷ held z r t n) (held k r t (suc n)) =
-    Trades-as z k q w (f ∷ held z r t n) (f ∷ (tables_for k r n ++ held z r t n)) (f ∷ held z r t n) (held k r t (suc n)) (Trades-frame z k q w (held z r t n) (tables_for k r n ++ held z r t n) (f ∷ []) (next-trades z k r t n f marks q w b next))
-    (λ v. refl)
-    (λ v. omega (arith, next-count z k r t n f marks q w b next v, count_of-append v (tables_for k r n) (held z r t n))) in
-    let trades = Trades-twice m z k s q w (held m r t n) (f ∷ held z r t n) (held k r t (suc n)) first second in
+    let trades = Trades-twice m z k s q w (held m r t n) (f ∷ held z r t n) (held k r t (suc n)) first (next-trades z k r t n f marks q w b next) in
     record {
       space = rw add-one space;
       pages = rw add-one (next-pages z k r t n f marks q w b next) ∙ ap (λ l. l ++ (page_with (frame_of z f) marks ∷ [])) stays.pages ∙ ap (λ x. pages_below m r n ++ (page_with x marks ∷ [])) e;

@@ -1,6 +1,6 @@
 -- Lemmas on trap frames.
-use Rattle.std.proofs.Common.{◌≡◌, ℕ, zero, suc, ◌+◌, ◌*◌, ◌^◌, ◌<◌, ◌≤◌, ◌⊎◌, inl, inr, List, [], length, get_or, replicate, refl, sym, ap, ◌∙◌, arith, slice_set, length-set, get_or-set_same, get_or-set_other}
-use Rattle.std.proofs.lemmas.List.{ext_get_or, get_or-replicate}
+use Rattle.std.proofs.Common.{◌≡◌, ℕ, zero, suc, ◌+◌, ◌*◌, ◌^◌, ◌<◌, ◌≤◌, ◌⊎◌, inl, inr, List, [], length, get_or, refl, sym, ap, ◌∙◌, arith, slice_set, length-set, get_or-set_same, get_or-set_other}
+use Rattle.std.proofs.lemmas.List.{ext_get_or}
 use Rattle.std.proofs.lemmas.List.FromFn.{length-map-range_with_len, get_or-map-range_with_len}
 use Rattle.std.proofs.lemmas.Bool.{cases_eq}
 use Rattle.ram.specs.Memory.{frame_of, put, put_bytes, word_of, word_bytes, IsMemory}
@@ -51,9 +51,6 @@ beside-stored m k s o x at inside whole fits (inl low) e =
 beside-stored m k s o x at inside whole fits (inr high) e =
     ap (λ n. get_or (frame_of n s.trap.0) at 0) e ∙ ap (λ b. get_or b at 0) (frame_of-put_same m s.trap.0 o (word_bytes 8 x) inside)
     ∙ get_or-put_bytes_above (frame_of m s.trap.0) o (word_bytes 8 x) at 0 (omega (arith, fits, whole, length-word_bytes 8 x)) (omega (arith, high, length-word_bytes 8 x))
-
-zero_at : (i : ℕ) → i < 32 → get_or (replicate {A = ℕ} 32 0) i 0 ≡ 0
-zero_at i h = get_or-replicate 32 i 0 0 h
 
 pub trap-inside : (m : List (List ℕ)) (s : Space) → IsMapped m s → s.trap.0 < length m
 trap-inside m s is = (lookup-sound m s.root.0 trap_page s.trap.0 trap_marks is.tree is.trap).0

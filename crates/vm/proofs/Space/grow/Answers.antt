@@ -1,14 +1,15 @@
-use Rattle.std.proofs.Common.{◌≡◌, ◌+◌, ◌-◌, ◌≤◌, [], ◌∷◌, ◌++◌, replicate, refl, sym, ap, ◌∙◌, true, arith, append-nil, append_assoc}
+use Rattle.std.proofs.Common.{◌≡◌, ℕ, take, ◌+◌, ◌-◌, [], ◌∷◌, ◌++◌, replicate, refl, sym, ap, ◌∙◌, true, arith, append-nil, append_assoc}
 use Rattle.std.proofs.lemmas.List.{replicate_more}
 use Rattle.frames.proofs.HolderLemmas.{Trades-none, Trades-twice, held-count}
-use Rattle.vm.specs.Dense.{frames_for, held, page_with, pages_below}
+use Rattle.vm.specs.Dense.{frames_for, held, page_with, pages_below, read_below}
 use Rattle.vm.proofs.DenseLemmas.{length-held}
-use Rattle.unixmodel.specs.Memory.{zero_page}
+use Rattle.unixmodel.specs.Memory.{Marks, zero_page}
 use Rattle.vm.specs.Leaf.{entry_marks, marks_from, right_marks}
 use Rattle.vm.proofs.LeafLemmas.{leaf-user, leaf-valid, page-zero}
 use Rattle.vm.proofs.PageLemmas.{take-mapping}
 use Rattle.vm.specs.Space.{pages_in}
 use Rattle.vm.proofs.Space.grow.Goals as goal
+use Rattle.vm.proofs.Space.grow.Goals.{After-loop-page}
 
 pub loop-page-init : goal.loop-page-init
 loop-page-init c =
@@ -50,18 +51,13 @@ loop-page-preserved c =
       small = i.small;
     }
 
+-- the pages that were are mapped as they were
+front : (c : After-loop-page) (read : ℕ → Marks)
+    → take (pages_in c.args.self.now.size) (read_below read c.loop-page.ram c.args.self.now.root.0 (pages_in (c.args.self.now.size + c.args.bytes))) ≡ read_below read c.args.ram.now c.args.self.now.root.0 (pages_in c.args.self.now.size)
+front c read = take-mapping read c.loop-page.ram c.args.self.now.root.0 _ _ (omega arith) ∙ (rw c.pages_in-from.ensures at c.loop-page.invariant.mapping read)
+
 pub returns-clause-mapping : goal.returns-clause-mapping
-returns-clause-mapping c =
-    let r = c.args.self.now.root.0 in
-    let n = pages_in c.args.self.now.size in
-    let more : n ≤ pages_in (c.args.self.now.size + c.args.bytes) = omega arith in
-    take-mapping right_marks c.loop-page.ram r (pages_in (c.args.self.now.size + c.args.bytes)) n more
-    ∙ (rw c.pages_in-from.ensures at c.loop-page.invariant.mapping right_marks)
+returns-clause-mapping c = front (goal.at.returns-clause-mapping c).After-loop-page right_marks
 
 pub returns-clause-entries : goal.returns-clause-entries
-returns-clause-entries c =
-    let r = c.args.self.now.root.0 in
-    let n = pages_in c.args.self.now.size in
-    let more : n ≤ pages_in (c.args.self.now.size + c.args.bytes) = omega arith in
-    take-mapping entry_marks c.loop-page.ram r (pages_in (c.args.self.now.size + c.args.bytes)) n more
-    ∙ (rw c.pages_in-from.ensures at c.loop-page.invariant.mapping entry_marks)
+returns-clause-entries c = front (goal.at.returns-clause-entries c).After-loop-page entry_marks
