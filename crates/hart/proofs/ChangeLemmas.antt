@@ -1,6 +1,7 @@
 -- The frames after a store show the memory after it, and nothing else is new.
-use Rattle.std.proofs.Common.{Bool, true, false, cond, arith, refl, ap, sym, ◌∙◌, ◌≡◌, ◌≢◌, ℕ, zero, suc, ◌+◌, ◌-◌, ◌/◌, ◌%◌, ◌<◌, ◌≤◌, ◌⊎◌, inl, inr, List, [], ◌∷◌, ◌++◌, append_assoc, length, length-set, take, drop, set, get_or, get_or-set_same, get_or-set_other, Option, Some, None, Ok}
+use Rattle.std.proofs.Common.{Bool, true, false, cond, arith, refl, ap, sym, ◌∙◌, ◌≡◌, ◌≢◌, ℕ, suc, ◌+◌, ◌-◌, ◌/◌, ◌%◌, ◌<◌, ◌≤◌, ◌⊎◌, inl, inr, List, [], ◌∷◌, ◌++◌, append_assoc, length, length-set, take, drop, set, get_or, get_or-set_same, get_or-set_other, Option, Some, None, Ok}
 use Rattle.std.specs.Prelude.{slice_get, slice_set, slice_index_or, option_map}
+use Rattle.std.proofs.Math.Seq.{drop-cons}
 use Rattle.std.proofs.lemmas.Bool.{cases_eq}
 use Rattle.std.proofs.lemmas.List.{drop_all, length-map, same_lists, set_split, take_all}
 use Rattle.std.proofs.lemmas.Option.{get_or_from_slice_get, slice_get-get_or, slice_get-map, slice_get_within}
@@ -131,11 +132,6 @@ write_from-first p ps at (b ∷ bs) some fits =
     ∙ ap (λ rest. record p { bytes = overwrite p.bytes at (b ∷ bs) } ∷ write_from ps 0 rest) none
     ∙ ap (λ rest. record p { bytes = overwrite p.bytes at (b ∷ bs) } ∷ rest) (write_from-none ps)
 
-drop-page : (mem : List Page) (n : ℕ) (p : Page) → slice_get mem n ≡ Some p → drop n mem ≡ p ∷ drop (suc n) mem
-drop-page [] n p h = absurd (cc)
-drop-page (q ∷ qs) zero p h = let same : q ≡ p = cc in ap (λ r. r ∷ qs) same
-drop-page (q ∷ qs) (suc n) p h = drop-page qs n p h
-
 -- bytes in one page make that page new
 pub write_bytes-page : (mem : Memory) (address : ℕ) (new : List ℕ) (p : Page) → slice_get mem (address / 4096) ≡ Some p → 0 < length new → address % 4096 + length new ≤ 4096
     → write_bytes mem address new ≡ set mem (address / 4096) (record { bytes = overwrite p.bytes (address % 4096) new; marks = p.marks })
@@ -143,7 +139,7 @@ unfolding write_bytes
 write_bytes-page mem address new p found some fits =
     let n : ℕ = address / 4096 in
     let there : n < length mem = slice_get_within mem n p found in
-    ap (λ pages. take n mem ++ write_from pages (address % 4096) new) (drop-page mem n p found)
+    ap (λ pages. take n mem ++ write_from pages (address % 4096) new) (drop-cons mem n p there ∙ ap (λ q. q ∷ drop (suc n) mem) (get_or_from_slice_get mem n p p found))
     ∙ ap (λ pages. take n mem ++ pages) (write_from-first p (drop (suc n) mem) (address % 4096) new some fits)
     ∙ sym (set_split mem n (record { bytes = overwrite p.bytes (address % 4096) new; marks = p.marks }) there)
 

@@ -1,5 +1,5 @@
--- What an instruction leaves, whichever it is.
-use Rattle.std.proofs.Common.{Bool, true, false, cond, arith, refl, ap, ◌∙◌, ◌≡◌, ℕ, zero, suc, ◌*◌, ◌/◌, ◌%◌, ◌^◌, ◌<◌, inl, inr, subst, List, length, length-set, get_or-set_other, Option, Some, None, Ok, Err}
+-- What an instruction leaves of the memory, whichever it is.
+use Rattle.std.proofs.Common.{Bool, true, false, cond, arith, refl, ap, ◌≡◌, ℕ, zero, suc, ◌*◌, ◌/◌, ◌%◌, inl, inr, subst, List, length, Option, Some, None, Ok, Err}
 use Rattle.std.specs.Prelude.{◌==◌, slice_index}
 use Rattle.std.proofs.lemmas.Bool.Decides.{nat_tests}
 use Rattle.unixmodel.specs.declared.instr.Instr.{Instr}
@@ -10,13 +10,12 @@ use Rattle.unixmodel.specs.declared.trap.Access.TheVariants.{Fetch, Load, Store}
 use Rattle.unixmodel.specs.declared.trap.Cause.{Cause}
 use Rattle.unixmodel.specs.declared.trap.Cause.TheVariants.{IllegalInstruction, InstructionPageFault}
 use Rattle.unixmodel.specs.Cycle.{act_word, cycle, fetched}
-use Rattle.unixmodel.specs.Meaning.{Computed, Effect, act, is_taken, load_from, load_size, store_size, store_to, trap, write}
+use Rattle.unixmodel.specs.Meaning.{Computed, Effect, act, is_taken, load_from, load_size, store_size, store_to, trap}
 use Rattle.unixmodel.specs.Memory.{Memory, Page, bytes_at, page_for}
 use Rattle.unixmodel.specs.Numbers.{extend, le, number, plus}
 use Rattle.unixmodel.specs.Words.{instruction_of}
 use Rattle.hart.specs.Changes.{Stores}
 use Rattle.hart.specs.Sizes.{IsSize}
-use Rattle.hart.proofs.Registers.{IsHart}
 use Rattle.unixmodel.specs.declared.instr.Instr.TheVariants as instr
 
 -- ---- what holds of traps and of each instruction's effect holds of a cycle's
@@ -84,23 +83,3 @@ act-leaves regs pc mem _ = tt
 -- what an instruction writes is what a store may write
 pub cycle-stores : (regs : List ℕ) (pc : ℕ) (mem : Memory) (d : Computed) → cycle regs pc mem ≡ Ok d → Stores mem d.change
 cycle-stores regs pc mem d h = subst (Leaves mem) h (at_cycle (Leaves mem) regs pc mem (λ c address. tt) (act-leaves regs pc mem))
-
--- ---- the registers and the pc
-
-length-write : (regs : List ℕ) (rd value : ℕ) → length (write regs rd value) ≡ length regs
-length-write regs zero value = refl
-length-write regs (suc r) value = length-set regs (suc r) value
-
-write-first : (regs : List ℕ) (rd value : ℕ) → slice_index (write regs rd value) 0 ≡ slice_index regs 0
-write-first regs zero value = refl
-write-first regs (suc r) value = get_or-set_other regs (suc r) 0 value 0 (λ h. absurd (omega arith))
-
-IsHart-write : (regs : List ℕ) (pc rd value next : ℕ) → IsHart regs pc → next < 2 ^ 64 → next % 4 ≡ 0 → IsHart (write regs rd value) next
-IsHart-write regs pc rd value next was small aligned =
-    record { count = length-write regs rd value ∙ was.count; zero = write-first regs rd value ∙ was.zero; bounded = small; aligned = aligned }
-
-next-aligned : (pc : ℕ) → pc % 4 ≡ 0 → plus pc 4 % 4 ≡ 0
-next-aligned pc h = omega arith
-
-plus-small : (a b : ℕ) → plus a b < 2 ^ 64
-plus-small a b = omega arith

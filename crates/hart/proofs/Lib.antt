@@ -4,5 +4,4 @@ pub mod Steps
 pub mod ChangeLemmas
 pub mod CycleLemmas
 pub mod FollowsLemmas
-pub mod Registers
 pub mod Retries
