@@ -2,8 +2,8 @@
 use Rattle.hart.proofs.Retries.{Alike, Narrows}
 use Rattle.hart.specs.Changes.{changed, put_in}
 use Rattle.std.proofs.Common.{◌≡◌, ◌⊎◌, ◌&&◌, inl, inr, ℕ, ◌%◌, ◌/◌, ◌^◌, ◌<◌, ◌≤◌, Bool, true, false, cond, List, Option, Some, None, refl, sym, ap, ◌∙◌}
-use Rattle.std.specs.Prelude.{option_and_then, slice_get}
-use Rattle.std.proofs.lemmas.Bool.{cases_lt}
+use Rattle.std.specs.Prelude.{option_and_then, option_map, slice_get}
+use Rattle.std.proofs.lemmas.Bool.{cases_Bool, cases_lt}
 use Rattle.sv39.specs.Mapping.{Mapped, memory_of, page_in}
 use Rattle.unixmodel.specs.declared.trap.Access.{Access}
 use Rattle.unixmodel.specs.declared.trap.Access.TheVariants.{Fetch, Load, Store}
@@ -26,16 +26,12 @@ page-past : (read : ℕ → Marks) (m : List (List ℕ)) (r n p : ℕ) → n ≤
 page-past read m r n p high = unmapped-page m (read_below read m r n) p (sym (mapping-past read m r n p high))
 
 cond-alike : (b c : Bool) (p q : Page) → b ≡ c → p.bytes ≡ q.bytes → Alike (cond b (Some p) None) (cond c (Some q) None)
-cond-alike true true p q e same = inr (p, q, refl, refl, same)
-cond-alike true false p q e same = absurd cc
-cond-alike false true p q e same = absurd cc
-cond-alike false false p q e same = inl (refl, refl)
+cond-alike true true p q e same = ap Some same
+cond-alike false false p q e same = refl
+cond-alike _ _ p q e same = absurd cc
 
 alike-by : (a : Access) (o w : Option Page) (p q : Page) → o ≡ Some p → w ≡ Some q → permits a p.marks ≡ permits a q.marks → p.bytes ≡ q.bytes → Alike (permitted a o) (permitted a w)
 alike-by a o w p q here there same bytes = rw (here, there) (cond-alike (permits a p.marks) (permits a q.marks) p q same bytes)
-
-none-alike : (a : Access) (o w : Option Page) → o ≡ None → w ≡ None → Alike (permitted a o) (permitted a w)
-none-alike a o w here there = inl (ap (permitted a) here, ap (permitted a) there)
 
 -- an access that both marks of a page permit, or neither
 alike-at : (a : Access) (m : List (List ℕ)) (r n p : ℕ) → (p < n → permits a (entry_marks (marks_at m r p)) ≡ permits a (right_marks (marks_at m r p)))
@@ -44,7 +40,7 @@ alike-at a m r n p same = elim (cases_lt p n) [
   | inl low ↦
       alike-by a (slice_get (memory_of m (entries_below m r n)) p) (slice_get (pages_below m r n) p) (page_in m (read_at entry_marks m r p)) (page_in m (read_at right_marks m r p))
       (page-here entry_marks m r n p low) (page-here right_marks m r n p low) (same low) refl
-  | inr high ↦ none-alike a (slice_get (memory_of m (entries_below m r n)) p) (slice_get (pages_below m r n) p) (page-past entry_marks m r n p high) (page-past right_marks m r n p high)
+  | inr high ↦ ap (λ (o : Option Page). option_map (λ (x : Page). x.bytes) (permitted a o)) (page-past entry_marks m r n p high ∙ sym (page-past right_marks m r n p high))
 ]
 
 -- ---- all of them
@@ -53,14 +49,10 @@ closed-none : (b u : Bool) (p : Page) → b ≡ false → cond (b && u) (Some p)
 closed-none true u p e = absurd cc
 closed-none false u p e = refl
 
-bool-cases : (b : Bool) → (b ≡ true) ⊎ (b ≡ false)
-bool-cases true = inl refl
-bool-cases false = inr refl
-
 store-at : (m : List (List ℕ)) (r n p : ℕ) → ((q : ℕ) → q < n → IsUserLeaf (marks_at m r q))
     → (permitted Store (slice_get (memory_of m (entries_below m r n)) p) ≡ None) ⊎ Alike (permitted Store (slice_get (memory_of m (entries_below m r n)) p)) (permitted Store (slice_get (pages_below m r n) p))
 store-at m r n p leaves = elim (cases_lt p n) [
-  | inl low ↦ elim (bool-cases (is_open (marks_at m r p))) [
+  | inl low ↦ elim (cases_Bool (is_open (marks_at m r p))) [
     | inl wide ↦ inr (alike-at Store m r n p (λ h. ap (λ (b : Bool). b && (right_marks (marks_at m r p)).user) (wide ∙ sym (open-right (marks_at m r p) (leaves p low) wide))))
     | inr shut ↦ inl (ap (permitted Store) (page-here entry_marks m r n p low) ∙ closed-none (is_open (marks_at m r p)) (right_marks (marks_at m r p)).user (page_in m (read_at entry_marks m r p)) shut)
   ]
@@ -103,11 +95,11 @@ changed-right m r n (Bytes address bytes) =
 -- ---- what walks reach
 
 byte-alike : (va : ℕ) (p q : Option Page) → Alike p q → option_and_then (λ (x : Page). slice_get x.bytes (va % 4096)) p ≡ option_and_then (λ (x : Page). slice_get x.bytes (va % 4096)) q
-byte-alike va p q (inl (a, b)) = ap (option_and_then (λ (x : Page). slice_get x.bytes (va % 4096))) a ∙ sym (ap (option_and_then (λ (x : Page). slice_get x.bytes (va % 4096))) b)
-byte-alike va p q (inr (a, b, is_a, is_b, same)) =
-    ap (option_and_then (λ (x : Page). slice_get x.bytes (va % 4096))) is_a
-    ∙ ap (λ (bytes : List ℕ). slice_get bytes (va % 4096)) same
-    ∙ sym (ap (option_and_then (λ (x : Page). slice_get x.bytes (va % 4096))) is_b)
+byte-alike va None None h = refl
+byte-alike va (Some p) (Some q) h =
+    let same : p.bytes ≡ q.bytes = cc in
+    ap (λ (bytes : List ℕ). slice_get bytes (va % 4096)) same
+byte-alike va _ _ h = absurd cc
 
 shows-byte : (access : Access) (va : ℕ) (low high : Memory) (found : Option ℕ) → Narrows low high → found ≡ page_byte low va access → ShowsByte access found (page_byte high va access)
 shows-byte Fetch va low high found down e = e ∙ byte-alike va (page_for Fetch low va) (page_for Fetch high va) (down.fetch va)

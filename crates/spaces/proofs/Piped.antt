@@ -5,13 +5,13 @@ use Rattle.frames.proofs.HolderLemmas.{Trades-give, Trades-none, Trades-take, co
 use Rattle.frames.specs.Holders.{Trades, count_of, holders_of}
 use Rattle.pipe.specs.Pipe.{Pipe, Stays, bytes_of}
 use Rattle.ram.specs.Memory.{frame_of}
-use Rattle.spaces.proofs.Pipes.{one-pipe, pipe-found, pipe-free, pipe-held, pipe-refilled, pipe-slot, pipes-placed, set-pipe, two-pipes}
+use Rattle.spaces.proofs.Pipes.{pipe-found, pipe-free, pipe-held, pipe-slot, pipes-placed}
 use Rattle.spaces.proofs.Places.{free-taken, taken-fits}
-use Rattle.spaces.proofs.Traded.{map-same, same-shown}
+use Rattle.spaces.proofs.Traded.{same-shown}
 use Rattle.spaces.specs.declared.Spaces.TheInside.{Inside}
 use Rattle.spaces.specs.Ends.{IsOpen}
 use Rattle.spaces.specs.Spaces.{bytes_in, has_pipe, taken_frames, with_pipe}
-use Rattle.spaces.proofs.SpacesLemmas.{none-pipe, some-pipe, taken-piped, within}
+use Rattle.spaces.proofs.SpacesLemmas.{map-same, none-pipe, refilled, some-pipe, taken-piped, within}
 use Rattle.spaces.specs.View.{IsActive, IsSpaces, frames_at, pipe_frames, pipe_shown, shown, spaces_of}
 use Rattle.std.proofs.Common.{◌≡◌, ◌≢◌, ℕ, ◌+◌, ◌<◌, ◌≤◌, inl, inr, List, [], ◌∷◌, false, length, get_or, map, slice_set, subst, true, Option, Some, None, refl, sym, ap, ◌∙◌, arith, length-set, get_or-set_other, get_or-set_same, eqb}
 use Rattle.std.proofs.lemmas.Bool.{cases_eq}
@@ -23,7 +23,7 @@ use Rattle.unixmodel.specs.Translation as translation
 use Rattle.vm.specs.declared.Space.{Space}
 use Rattle.vm.specs.Shares as shares
 use Rattle.vm.specs.Shares.{AllUntouched, IsMachine}
-use Rattle.vm.proofs.SharesLemmas.{Trades-write, rest-held, rest-machine, rest-untouched}
+use Rattle.vm.proofs.SharesLemmas.{Trades-write, one-place, rest-held, rest-machine, rest-untouched, set-place, two-places}
 
 -- ---- the frame of a pipe
 
@@ -38,7 +38,7 @@ pipe-others : (m k : List (List ℕ)) (s n : Frames) (places : List (Option Spac
 pipe-others m k s n places ps q new is t r p ne e =
     let here : count_of p.frame (frames_at (slot ps r)) ≡ 1 + count_of p.frame [] = rw e (count_of-first p.frame p.frame [] refl) in
     t.others p.frame
-    (omega (arith, here, two-pipes p.frame ps q r ne, is.shared.each p.frame, count_of-append p.frame (flat_map (shares.held_at m) places) (pipe_frames ps)))
+    (omega (arith, here, two-places frames_at p.frame ps q r refl ne, is.shared.each p.frame, count_of-append p.frame (flat_map (shares.held_at m) places) (pipe_frames ps)))
 
 -- ---- the spaces stay
 
@@ -81,9 +81,9 @@ pub piped : {T : Type 0} (held : T → translation.Held) (i : Inside T) (q : ℕ
     → Piped held i (record i { ram = k; frames = n; pipes = record { items = qs } }) q (pipe_shown k y)
 piped held i q y k n qs is hi e free trades here =
     let ps = i.pipes.items in
-    let all = rest-untouched i.ram k i.frames n i.places.items (pipe_frames ps) (frames_at (slot ps q)) (frames_at y) is.machine (λ f. one-pipe f ps q) trades in
+    let all = rest-untouched i.ram k i.frames n i.places.items (pipe_frames ps) (frames_at (slot ps q)) (frames_at y) is.machine (λ f. one-place frames_at f ps q refl) trades in
     let sound : IsSpaces held (record i { ram = k; frames = n; pipes = record { items = qs } }) = record {
-      machine = rw e (rest-machine i.ram k i.frames n i.places.items (pipe_frames ps) (pipe_frames (slice_set ps q y)) (frames_at (slot ps q)) (frames_at y) is.machine free (λ f. one-pipe f ps q) trades (one-each y) (λ f. set-pipe f ps q y hi));
+      machine = rw e (rest-machine i.ram k i.frames n i.places.items (pipe_frames ps) (pipe_frames (slice_set ps q y)) (frames_at (slot ps q)) (frames_at y) is.machine free (λ f. one-place frames_at f ps q refl) trades (one-each y) (λ f. set-place frames_at frames_at f ps q y hi (λ r ne. refl)));
       all = is.all;
       active = runs-kept (held i.translator) i.ram k i.hart.root.0 i.places.items i.active all is.active;
       inside = λ x h. let old = is.inside x h in let count = trades.count in omega (arith, old, count);
@@ -97,16 +97,6 @@ piped held i q y k n qs is hi e free trades here =
       view = view;
       fits = omega (arith, ap taken_frames view, taken-fits held (record i { ram = k; frames = n; pipes = record { items = qs } }) sound, trades.count);
     }
-
--- a pipe comes
-piped-new : {T : Type 0} (held : T → translation.Held) (i : Inside T) (q : ℕ) (p : Pipe) (f : ℕ) (n : Frames) (qs : List (Option Pipe))
-    → IsSpaces held i → q < length i.pipes.items → slot i.pipes.items q ≡ None → qs ≡ slice_set i.pipes.items q (Some p)
-    → IsFreeList i.ram n → free_of i.ram i.frames ≡ f ∷ free_of i.ram n → extra_of n ≡ extra_of i.frames → p.frame ≡ f → IsOpen p → bytes_of i.ram p ≡ []
-    → Piped held i (record i { frames = n; pipes = record { items = qs } }) q (Some [])
-piped-new held i q p f n qs is hi none e free taken extra frame opens empty =
-    let trades : Trades i.ram i.ram i.frames n (frames_at (slot i.pipes.items q)) (frames_at (Some p)) = rw (none, frame) (Trades-take i.ram i.frames n f is.machine.free free taken extra) in
-    piped-as held i (record i { frames = n; pipes = record { items = qs } }) q (pipe_shown i.ram (Some p)) (Some [])
-    (piped held i q (Some p) i.ram n qs is hi e free trades (λ z at. (let same : p ≡ z = cc in subst (λ (z : Pipe). IsOpen z) same opens))) (ap Some empty)
 
 -- a pipe goes
 pub piped-gone : {T : Type 0} (held : T → translation.Held) (i : Inside T) (q : ℕ) (p : Pipe) (k : List (List ℕ)) (n : Frames) (qs : List (Option Pipe))
@@ -153,12 +143,6 @@ pipe-stands i q has = some-pipe_shown i.ram (slot i.pipes.items q) ∙ ap is_som
 pub pipes-count : {T : Type 0} (i : Inside T) → length (spaces_of i).pipes ≡ length i.pipes.items
 pipes-count i = length-map i.pipes.items (pipe_shown i.ram)
 
--- no frame is left for a pipe
-over-piped : {T : Type 0} (held : T → translation.Held) (i : Inside T) (q : ℕ) → IsSpaces held i → q < length i.pipes.items → slot (spaces_of i).pipes q ≡ None → free_count i.ram i.frames ≡ 0 → length i.ram < taken_frames (with_pipe (spaces_of i) q (Some []))
-over-piped held i q is hi none full =
-    let more = taken-piped (spaces_of i) q [] (rw (pipes-count i) hi) none in
-    omega (arith, free-taken held i is, full, more)
-
 -- a place that has a pipe is one of those there are, and one that has none is free
 pipe-within : {T : Type 0} (i : Inside T) (q : ℕ) → has_pipe (spaces_of i) q ≡ true → q < length i.pipes.items
 pipe-within i q has = rw (← pipes-count i) (within (spaces_of i).pipes q (bytes_in (spaces_of i) q) (some-pipe (slot (spaces_of i).pipes q) has))
@@ -183,11 +167,15 @@ pub piped-there : {T : Type 0} (held : T → translation.Held) (i : Inside T) (q
     → Piped held i (record i { frames = n; pipes = record { items = refill (length i.pipes.items) i.pipes.items (slice_set xs q (Some p)) } }) q (Some [])
 piped-there held i q p f n xs is low free same valid taken extra frame opens empty =
     let place = free-place held i q is low free in
-    piped-new held i q p f n _ is place.0 (pipe-none i q place.1) (pipe-refilled i.pipes.items xs q (Some p) (Some p) same refl) valid taken extra frame opens empty
+    let trades : Trades i.ram i.ram i.frames n (frames_at (slot i.pipes.items q)) (frames_at (Some p)) = rw (pipe-none i q place.1, frame) (Trades-take i.ram i.frames n f is.machine.free valid taken extra) in
+    piped-as held i _ q (pipe_shown i.ram (Some p)) (Some [])
+    (piped held i q (Some p) i.ram n _ is place.0 (refilled i.pipes.items xs q (Some p) (Some p) same refl) valid trades (λ z at. (let here : p ≡ z = cc in subst (λ (z : Pipe). IsOpen z) here opens))) (ap Some empty)
 
 -- or no frame is left for it
 pub over-free : {T : Type 0} (held : T → translation.Held) (i : Inside T) (q : ℕ) → IsSpaces held i → q < 100 → has_pipe (spaces_of i) q ≡ false → free_count i.ram i.frames ≡ 0 → length i.ram < taken_frames (with_pipe (spaces_of i) q (Some []))
-over-free held i q is low free full = let place = free-place held i q is low free in over-piped held i q is place.0 place.1 full
+over-free held i q is low free full =
+    let place = free-place held i q is low free in
+    omega (arith, free-taken held i is, full, taken-piped (spaces_of i) q [] (rw (pipes-count i) place.0) place.1)
 
 -- an end that is open is no reason to go on
 pub or-open : (b w : Bool) → w ≡ true → (b || not w) ≡ b

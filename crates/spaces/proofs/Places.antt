@@ -5,8 +5,9 @@ use Rattle.spaces.specs.declared.Spaces.TheInside.{Inside}
 use Rattle.spaces.specs.Spaces.{frames_in, has_space, view_at, no_pages, taken_frames}
 use Rattle.spaces.specs.View.{IsSpaces, view_with, pipe_frames, shown, spaces_of}
 use Rattle.spaces.proofs.Pipes.{pipes-taken}
-use Rattle.std.proofs.Common.{◌≡◌, ℕ, zero, suc, ◌+◌, ◌≤◌, Bool, true, false, List, [], ◌∷◌, length, get_or, map, nat_lt, Option, Some, None, refl, sym, ap, ◌∙◌, arith}
+use Rattle.std.proofs.Common.{◌≡◌, ℕ, ◌+◌, ◌≤◌, Bool, true, false, List, [], ◌∷◌, length, get_or, map, nat_lt, Option, Some, None, refl, sym, ap, ◌∙◌, arith}
 use Rattle.std.specs.Prelude.{if◌then◌else◌, is_some, sum_by, unwrap_or}
+use Rattle.std.proofs.Math.ListN.{get_or-map}
 use Rattle.std.proofs.lemmas.List.{length-map}
 use Rattle.std.proofs.lemmas.List.Sums.{sum_by-cons}
 use Rattle.unixmodel.specs.Counts.{page_frames}
@@ -25,9 +26,7 @@ pub there : (xs ys : List (Option Space)) (at : ℕ) (x : Space) → xs ≡ ys �
 there xs ys at x same e = ap (λ l. get_or l at None) (sym same) ∙ e
 
 shown-slot : (m : List (List ℕ)) (places : List (Option Space)) (at : ℕ) → slot (map (shown m) places) at ≡ shown m (slot places at)
-shown-slot m [] at = refl
-shown-slot m (x ∷ xs) zero = refl
-shown-slot m (x ∷ xs) (suc at) = shown-slot m xs at
+shown-slot m places at = get_or-map (shown m) places at None
 
 pub slot-is : {T : Type 0} (i : Inside T) (at : ℕ) (o : Option Space) → slot i.places.items at ≡ o → slot (spaces_of i).places at ≡ shown i.ram o
 slot-is i at o e = shown-slot i.ram i.places.items at ∙ ap (shown i.ram) e

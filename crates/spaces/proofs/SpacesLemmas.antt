@@ -1,5 +1,7 @@
 -- Lemmas on the values of address spaces.
-use Rattle.std.proofs.Common.{◌≡◌, ◌≢◌, ℕ, zero, suc, ◌+◌, ◌-◌, ◌<◌, ◌≤◌, true, false, List, [], ◌∷◌, ◌++◌, length, get_or, replicate, slice_set, take, Option, Some, None, refl, sym, ap, arith, append-nil, get_or-set_other, get_or-set_same}
+use Rattle.std.proofs.Common.{◌≡◌, ◌≢◌, ℕ, zero, suc, ◌+◌, ◌-◌, ◌<◌, ◌≤◌, true, false, List, [], ◌∷◌, ◌++◌, length, length-set, get_or, map, replicate, slice_set, take, Option, Some, None, refl, sym, ap, ◌∙◌, arith, append-nil, get_or-set_same}
+use Rattle.arrayvec.proofs.ArrayVecLemmas.{items-with_items}
+use Rattle.std.specs.List.{refill}
 use Rattle.std.specs.Prelude.{is_some, sum_by, unwrap_or}
 use Rattle.std.proofs.lemmas.List.{take_all}
 use Rattle.std.proofs.lemmas.List.Sums.{sum_by-cons}
@@ -14,6 +16,25 @@ pub within : {X : Type 0} (xs : List (Option X)) (i : ℕ) (x : X) → get_or xs
 within [] i x e = absurd (cc)
 within (y ∷ xs) zero x e = omega arith
 within (y ∷ xs) (suc i) x e = let h = within xs i x e in omega (arith, h)
+
+-- a write of one place through the slice of all
+pub refilled : {X : Type 0} (xs ys : List (Option X)) (at : ℕ) (y z : Option X) → ys ≡ xs → z ≡ y → refill (length xs) xs (slice_set ys at z) ≡ slice_set xs at y
+refilled xs ys at y z same new =
+    items-with_items (record { items = xs }) (slice_set ys at z) (length-set ys at z ∙ ap length same)
+    ∙ ap (λ l. slice_set l at z) same
+    ∙ ap (slice_set xs at) new
+
+-- what places show where all of them, or all but one, show what they showed
+pub map-same : {X Y : Type 0} (g h : Option X → Option Y) (xs : List (Option X)) → ((j : ℕ) → h (get_or xs j None) ≡ g (get_or xs j None)) → map h xs ≡ map g xs
+map-same g h [] same = refl
+map-same g h (x ∷ xs) same = ap (λ o. o ∷ map h xs) (same 0) ∙ ap (λ l. g x ∷ l) (map-same g h xs (λ j. same (suc j)))
+
+pub map-placed : {X Y : Type 0} (g h : Option X → Option Y) (xs : List (Option X)) (i : ℕ) (y : Option X) → ((j : ℕ) → j ≢ i → h (get_or xs j None) ≡ g (get_or xs j None)) → map h (slice_set xs i y) ≡ slice_set (map g xs) i (h y)
+map-placed g h [] i y same = refl
+map-placed g h (x ∷ xs) zero y same = ap (λ l. h y ∷ l) (map-same g h xs (λ j. same (suc j) (omega arith)))
+map-placed g h (x ∷ xs) (suc i) y same =
+    ap (λ o. o ∷ map h (slice_set xs i y)) (same 0 (omega arith))
+    ∙ ap (λ l. g x ∷ l) (map-placed g h xs i y (λ j ne. same (suc j) (λ e. ne (omega (arith, e)))))
 
 none-place : (o : Option SpaceView) → is_some o ≡ false → o ≡ None
 none-place None e = refl
@@ -36,9 +57,6 @@ taken-placed s at y h = omega (arith, sum-placed s.places at y h)
 
 pub held-same : (s : Spaces) (at : ℕ) (h : SpaceView) → at < length s.places → view_at (with_view s at h) at ≡ h
 held-same s at h within = ap (λ o. unwrap_or o no_pages) (get_or-set_same s.places at (Some h) None within)
-
-pub held-other : (s : Spaces) (at other : ℕ) (y : Option SpaceView) → other ≢ at → view_at (with_place s at y) other ≡ view_at s other
-held-other s at other y ne = ap (λ o. unwrap_or o no_pages) (get_or-set_other s.places at other y None ne)
 
 -- ---- other sizes, as the abstract Unix has them
 

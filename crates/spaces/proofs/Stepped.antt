@@ -14,8 +14,8 @@ use Rattle.spaces.specs.Spaces.{SpaceView, Spaces, computed, view_at, with_place
 use Rattle.spaces.proofs.SpacesLemmas.{within}
 use Rattle.spaces.specs.View.{IsActive, IsSpaces, Runs, view_with, pipe_frames, shown, spaces_of}
 use Rattle.spaces.proofs.Pipes.{pipes-beside}
-use Rattle.std.proofs.Common.{◌≡◌, ◌&&◌, Bool, false, inl, inr, ℕ, ◌/◌, ◌<◌, ◌≤◌, List, length, map, slice_set, subst, true, Option, Some, None, Ok, Err, refl, sym, ap, ◌∙◌, arith}
-use Rattle.std.specs.Prelude.{IfNone, IfSome, is_some, slice_get}
+use Rattle.std.proofs.Common.{◌≡◌, inl, inr, ℕ, ◌/◌, ◌<◌, ◌≤◌, List, length, map, slice_set, subst, true, Option, Some, None, Ok, Err, refl, sym, ap, ◌∙◌, arith}
+use Rattle.std.specs.Prelude.{IfNone, IfSome, is_some, option_map, slice_get}
 use Rattle.sv39.specs.Mapping.{IsCoherent, Mapped, Shows, WalksTo, coherent-kept, memory_of, shows-coherent}
 use Rattle.sv39.proofs.WalkLemmas.{walk_page-inside}
 use Rattle.unixmodel.specs.Cycle.{cycle}
@@ -26,9 +26,10 @@ use Rattle.unixmodel.specs.Translation as translation
 use Rattle.unixmodel.specs.Translation.{HoldsInside, HoldsNothing, IsKept}
 use Rattle.unixmodel.specs.Files.{slot}
 use Rattle.frames.specs.declared.Frames.{Frames}
+use Rattle.std.proofs.lemmas.Bool.{and_parts}
 use Rattle.std.proofs.lemmas.List.{set-get_or}
 use Rattle.vm.specs.declared.Space.{Space}
-use Rattle.unixmodel.specs.Memory.{Marks, Memory, page_for}
+use Rattle.unixmodel.specs.Memory.{Marks, Memory, Page, page_for}
 use Rattle.unixmodel.specs.declared.trap.Access.TheVariants.{Store}
 use Rattle.unixmodel.specs.declared.trap.Cause.{Cause}
 use Rattle.unixmodel.specs.declared.trap.Cause.TheVariants.{StorePageFault}
@@ -42,16 +43,12 @@ use Rattle.vm.specs.Leaf.{entry_marks, is_open, right_marks, user_leaf}
 
 -- ---- one space
 
-and-true : (a b : Bool) → (a && b) ≡ true → a ≡ true
-and-true true b e = refl
-and-true false b e = absurd cc
-
 stands-page : (m k : List (List ℕ)) (x : Space) → IsMapped m x → IsOnce m x → WritesPage m (entries_of m x) k → Stands m k x
 stands-page m k x is once wrote =
     let n = pages_in x.size in
     let at = mapping-is entry_marks m x.root.0 n wrote.page wrote.entry wrote.mapped in
     let frame : frame_at m x.root.0 wrote.page ≡ wrote.entry.frame = ap (λ (e : Mapped). e.frame) at in
-    let wide : is_open (marks_at m x.root.0 wrote.page) ≡ true = ap (λ (e : Mapped). e.marks.writable) at ∙ and-true wrote.entry.marks.writable wrote.entry.marks.user wrote.permitted in
+    let wide : is_open (marks_at m x.root.0 wrote.page) ≡ true = ap (λ (e : Mapped). e.marks.writable) at ∙ (and_parts wrote.entry.marks.writable wrote.entry.marks.user wrote.permitted).0 in
     space-stored m k x wrote.page wrote.bytes is once (mapping-within entry_marks m x.root.0 n wrote.page wrote.entry wrote.mapped) wide (rw frame wrote.is)
 
 -- what an instruction writes leaves the space standing
@@ -197,10 +194,15 @@ done-at held i t h k at is s run right =
       | inr trapped ↦ absurd (cc)
     ]
 
-trap-at : {T : Type 0} (held : T → translation.Held) (i : Inside T) (t : T) (h : Hart) (k : List (List ℕ)) (c : Trap) (at : ℕ)
-    → IsSpaces held i → Steps held i t h k (Some c) → (run : Runs (held i.translator) i.ram i.hart.root.0 i.places.items at) → Same i run.space
-    → (cycle i.hart.registers i.hart.pc (view_at (spaces_of i) at).memory ≡ Err c) × (spaces_of (record i { ram = k; translator = t; hart = h }) ≡ spaces_of i)
-trap-at held i t h k c at is s run right =
+-- a trap leaves the memory and the hart
+record Trapped {T : Type 0} (i : Inside T) (h : Hart) (k : List (List ℕ)) (c : Trap) (x : Space) : Type 0 where
+  low : cycle i.hart.registers i.hart.pc (let_through i.ram x) ≡ Err c
+  hart : h ≡ i.hart
+  memory : k ≡ i.ram
+
+trap-leaves : {T : Type 0} (held : T → translation.Held) (i : Inside T) (t : T) (h : Hart) (k : List (List ℕ)) (c : Trap) (at : ℕ)
+    → IsSpaces held i → Steps held i t h k (Some c) → (run : Runs (held i.translator) i.ram i.hart.root.0 i.places.items at) → Trapped i h k c run.space
+trap-leaves held i t h k c at is s run =
     let x = run.space in
     let d = did held i t h k (Some c) at is s run in
     elim (follows-cases (cycle i.hart.registers i.hart.pc (let_through i.ram x)) (entries_of i.ram x) (Some c) i.hart h i.ram k d.follows) [
@@ -208,8 +210,15 @@ trap-at held i t h k c at is s run right =
       | inr trapped ↦
           let both : Some c ≡ Some trapped.cause = trapped.result_is in
           let same : c ≡ trapped.cause = cc in
-          rw (held-is i at x run.stands) (rw same (sym right ∙ trapped.is), rw (trapped.hart, trapped.memory) refl)
+          record { low = rw same trapped.is; hart = trapped.hart; memory = trapped.memory }
     ]
+
+trap-at : {T : Type 0} (held : T → translation.Held) (i : Inside T) (t : T) (h : Hart) (k : List (List ℕ)) (c : Trap) (at : ℕ)
+    → IsSpaces held i → Steps held i t h k (Some c) → (run : Runs (held i.translator) i.ram i.hart.root.0 i.places.items at) → Same i run.space
+    → (cycle i.hart.registers i.hart.pc (view_at (spaces_of i) at).memory ≡ Err c) × (spaces_of (record i { ram = k; translator = t; hart = h }) ≡ spaces_of i)
+trap-at held i t h k c at is s run right =
+    let e = trap-leaves held i t h k c at is s run in
+    rw (held-is i at run.space run.stands) (sym right ∙ e.low, rw (e.hart, e.memory) refl)
 
 pub outcome : {T : Type 0} (held : T → translation.Held) (i : Inside T) (t : T) (h : Hart) (k : List (List ℕ)) (result : Option Trap) (at : ℕ)
     → IsSpaces held i → Steps held i t h k result → (run : Runs (held i.translator) i.ram i.hart.root.0 i.places.items at) → Same i run.space
@@ -232,19 +241,6 @@ trap-parts c address e = (ap cause_of e, ap address_of e)
 
 ok-no-fault : (d : Computed) (address : ℕ) → ◌≡◌ {A = Effect} (Ok d) (trap StorePageFault address) → ⊥
 ok-no-fault d address e = cc
-
-low-trap : {T : Type 0} (held : T → translation.Held) (i : Inside T) (t : T) (h : Hart) (k : List (List ℕ)) (c : Trap) (at : ℕ)
-    → IsSpaces held i → Steps held i t h k (Some c) → (run : Runs (held i.translator) i.ram i.hart.root.0 i.places.items at) → cycle i.hart.registers i.hart.pc (let_through i.ram run.space) ≡ Err c
-low-trap held i t h k c at is s run =
-    let x = run.space in
-    let d = did held i t h k (Some c) at is s run in
-    elim (follows-cases (cycle i.hart.registers i.hart.pc (let_through i.ram x)) (entries_of i.ram x) (Some c) i.hart h i.ram k d.follows) [
-      | inl done ↦ absurd (let bad = done.result_is in cc)
-      | inr trapped ↦
-          let both : Some c ≡ Some trapped.cause = trapped.result_is in
-          let same : c ≡ trapped.cause = cc in
-          rw same trapped.is
-    ]
 
 -- an instruction that was done
 pub same-done : {T : Type 0} (held : T → translation.Held) (i : Inside T) (t : T) (h : Hart) (k : List (List ℕ)) (at : ℕ)
@@ -269,8 +265,8 @@ same-trap held i t h k c at is s run closed =
     elim (cycle-retries i.hart.registers i.hart.pc (let_through i.ram x) (pages_of i.ram x) down) [
       | inl same ↦ same
       | inr (address, fault, none, again) ↦
-          let both = trap-parts c address (sym (low-trap held i t h k c at is s run) ∙ fault) in
-          again (let_through i.ram x) down (inl (none, ap (page_for Store (pages_of i.ram x)) (sym both.1) ∙ closed both.0))
+          let both = trap-parts c address (sym ((trap-leaves held i t h k c at is s run).low) ∙ fault) in
+          again (let_through i.ram x) down (ap (option_map (λ (p : Page). p.bytes)) (none ∙ sym (ap (page_for Store (pages_of i.ram x)) (sym both.1) ∙ closed both.0)))
     ]
 
 -- a store that faulted, once more where its page was opened: the fields after the fence are j
@@ -287,7 +283,7 @@ same-again held i j t h k c at g is s store run mapped hart pages made =
     let between : Narrows mid high = subst (λ (m : Memory). Narrows mid m) pages (narrows j.ram x mapped) in
     let lets : Alike (page_for Store mid c.address) (page_for Store high c.address) =
     subst (λ (m : Memory). Alike (page_for Store mid c.address) (page_for Store m c.address)) pages (opened-alike j.ram x.root.0 (pages_in x.size) c.address g made) in
-    let fault : cycle regs pc (let_through i.ram x) ≡ trap StorePageFault c.address = low-trap held i t h k c at is s run ∙ ap (λ (u : Cause). trap u c.address) store in
+    let fault : cycle regs pc (let_through i.ram x) ≡ trap StorePageFault c.address = (trap-leaves held i t h k c at is s run).low ∙ ap (λ (u : Cause). trap u c.address) store in
     let same : cycle regs pc mid ≡ cycle regs pc high = cycle-again regs pc c.address (let_through i.ram x) mid high down between lets fault in
     rw hart (same ∙ ap (cycle regs pc) (sym pages))
 
@@ -325,22 +321,12 @@ first-done held i t h k None at is s e none =
     done-for i at None (spaces_of (record i { ram = k; translator = t; hart = h })) e (outcome held i t h k None at is s run (same-done held i t h k at is s run)).0
 first-done held i t h k (Some c) at is s e none = absurd cc
 
--- a trap leaves the memory and the hart
-trap-leaves : {T : Type 0} (held : T → translation.Held) (i : Inside T) (t : T) (h : Hart) (k : List (List ℕ)) (c : Trap) (at : ℕ) → IsSpaces held i → Steps held i t h k (Some c) → Runs (held i.translator) i.ram i.hart.root.0 i.places.items at → (h ≡ i.hart) × (k ≡ i.ram)
-trap-leaves held i t h k c at is s run =
-    let x = run.space in
-    let d = did held i t h k (Some c) at is s run in
-    elim (follows-cases (cycle i.hart.registers i.hart.pc (let_through i.ram x)) (entries_of i.ram x) (Some c) i.hart h i.ram k d.follows) [
-      | inl done ↦ absurd (let bad = done.result_is in cc)
-      | inr trapped ↦ (trapped.hart, trapped.memory)
-    ]
-
 -- so the space stands
 pub trap-space : {T : Type 0} (held : T → translation.Held) (i : Inside T) (t : T) (h : Hart) (k : List (List ℕ)) (result : Option Trap) (c : Trap) (at : ℕ) (x : Space) → IsSpaces held i → Steps held i t h k result → i.active ≡ Some at → slot i.places.items at ≡ Some x → result ≡ Some c → IsSpace k x i.frames
 trap-space held i t h k None c at x is s e stands trapped = absurd cc
 trap-space held i t h k (Some b) c at x is s e stands trapped =
     let parts = runs-parts held i at x is e stands in
-    let memory = (trap-leaves held i t h k b at is s (record { space = x; stands = stands; same = parts.0; coherent = parts.1 })).1 in
+    let memory = (trap-leaves held i t h k b at is s (record { space = x; stands = stands; same = parts.0; coherent = parts.1 })).memory in
     subst (λ (m : List (List ℕ)). IsSpace m x i.frames) (sym memory) (is.machine.each at x stands)
 
 -- it raised a trap that stands
@@ -353,7 +339,7 @@ first-trap held i t h k (Some b) c at x is s e stands trapped closed =
     let parts = runs-parts held i at x is e stands in
     let run : Runs (held i.translator) i.ram i.hart.root.0 i.places.items at = record { space = x; stands = stands; same = parts.0; coherent = parts.1 } in
     let steps : Steps held i t h k (Some c) = subst (λ (u : Trap). Steps held i t h k (Some u)) is_c s in
-    let memory = (trap-leaves held i t h k c at is steps run).1 in
+    let memory = (trap-leaves held i t h k c at is steps run).memory in
     let none : c.cause ≡ StorePageFault → page_for Store (pages_of i.ram x) c.address ≡ None = subst (λ (m : List (List ℕ)). c.cause ≡ StorePageFault → page_for Store (pages_of m x) c.address ≡ None) memory closed in
     let right : Same i x = same-trap held i t h k c at is steps (record { space = x; stands = stands; same = parts.0; coherent = parts.1 }) none in
     trap-for i at (Some c) (spaces_of (record i { ram = k; translator = t; hart = h })) e (outcome held i t h k (Some c) at is steps (record { space = x; stands = stands; same = parts.0; coherent = parts.1 }) right).1
@@ -375,10 +361,10 @@ pub reopened : {T : Type 0} (held : T → translation.Held) (i : Inside T) (t u 
 reopened held i t u h k l n None c at x is s e stands trapped re fenced = absurd cc
 reopened held i t u h k l n (Some b) c at x is s e stands trapped re fenced =
     let parts = runs-parts held i at x is e stands in
-    let both = trap-leaves held i t h k b at is s (record { space = x; stands = stands; same = parts.0; coherent = parts.1 }) in
-    let arranged : IsRearranged i.ram l x i.frames n = subst (λ (m : List (List ℕ)). IsRearranged m l x i.frames n) both.1 re in
+    let leaves = trap-leaves held i t h k b at is s (record { space = x; stands = stands; same = parts.0; coherent = parts.1 }) in
+    let arranged : IsRearranged i.ram l x i.frames n = subst (λ (m : List (List ℕ)). IsRearranged m l x i.frames n) leaves.memory re in
     let placed = reframed-showing held i at x l n u (pages_of i.ram x) is stands arranged.frames (λ v has. absurd (fenced v has)) (λ a. fenced) arranged.pages in
-    rw both.0 (record {
+    rw leaves.hart (record {
       sound = placed.sound;
       view = placed.view ∙ same-value (spaces_of i) at (Some (view_with (pages_of i.ram x) x.size)) (slot-is i at (Some x) stands);
       hart = refl;

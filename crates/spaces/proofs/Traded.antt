@@ -5,13 +5,12 @@ use Rattle.frames.specs.Holders.{Trades}
 use Rattle.ram.specs.declared.FrameNo.{FrameNo}
 use Rattle.spaces.specs.declared.Spaces.TheInside.{Inside}
 use Rattle.spaces.specs.Spaces.{SpaceView, frames_in, grown, has_space, no_pages, taken_frames, with_place}
-use Rattle.spaces.proofs.SpacesLemmas.{place-free, taken-placed, within}
+use Rattle.spaces.proofs.SpacesLemmas.{map-placed, place-free, refilled, taken-placed, within}
 use Rattle.spaces.specs.View.{IsActive, IsSpaces, Runs, view_with, pipe_frames, shown, spaces_of}
 use Rattle.spaces.proofs.Pipes.{pipes-beside}
 use Rattle.spaces.proofs.Places.{frames-shown, frames_for-pages, free-is, free-taken, length-pages_of, places-count, slot-is, taken-fits}
-use Rattle.arrayvec.proofs.ArrayVecLemmas.{items-with_items}
 use Rattle.std.specs.List.{refill}
-use Rattle.std.proofs.Common.{◌≡◌, ◌≢◌, ℕ, zero, suc, ◌+◌, ◌-◌, ◌<◌, ◌≤◌, ◌⊎◌, inl, inr, List, [], ◌∷◌, ◌++◌, false, length, get_or, map, replicate, slice_set, subst, take, Option, Some, None, Result, Ok, Err, refl, sym, ap, ◌∙◌, arith, length-append, length-set, get_or-set_other, get_or-set_same}
+use Rattle.std.proofs.Common.{◌≡◌, ◌≢◌, ℕ, ◌+◌, ◌-◌, ◌<◌, ◌≤◌, ◌⊎◌, inl, inr, List, [], ◌∷◌, ◌++◌, false, length, map, replicate, slice_set, subst, take, Option, Some, None, Result, Ok, Err, refl, sym, ap, ◌∙◌, arith, length-append, length-set, get_or-set_other, get_or-set_same}
 use Rattle.std.proofs.lemmas.Bool.{cases_eq}
 use Rattle.std.proofs.lemmas.List.{length-replicate, set-get_or, take_all}
 use Rattle.std.specs.Prelude.{OnErr, OnOk}
@@ -27,33 +26,15 @@ use Rattle.vm.specs.Dense.{frames_for}
 use Rattle.vm.proofs.PageLemmas.{length-mapping}
 use Rattle.vm.specs.Leaf.{entry_marks}
 use Rattle.vm.specs.Shares as shares
-use Rattle.vm.specs.Shares.{IsPlace, OthersUntouched}
+use Rattle.vm.specs.Shares.{IsMachine, IsPlace, OthersUntouched}
 use Rattle.vm.proofs.SharesLemmas.{fork-machine, trade-machine, trade-others}
 use Rattle.vm.specs.Space.{IsSpace, IsUntouched, Reframes, holds, entries_of, pages_in, pages_of}
-
--- a write of one place through the slice of all
-pub refilled : (xs ys : List (Option Space)) (at : ℕ) (y z : Option Space) → ys ≡ xs → z ≡ y → refill (length xs) xs (slice_set ys at z) ≡ slice_set xs at y
-refilled xs ys at y z same new =
-    items-with_items (record { items = xs }) (slice_set ys at z) (length-set ys at z ∙ ap length same)
-    ∙ ap (λ l. slice_set l at z) same
-    ∙ ap (slice_set xs at) new
 
 -- a place that stays
 pub same-place : (xs : List (Option Space)) (at : ℕ) (x : Space) → slot xs at ≡ Some x → xs ≡ slice_set xs at (Some x)
 same-place xs at x e = sym (ap (slice_set xs at) (sym e) ∙ set-get_or xs at None)
 
 -- ---- what the places show
-
-pub map-same : (g h : Option Space → Option SpaceView) (xs : List (Option Space)) → ((j : ℕ) → h (get_or xs j None) ≡ g (get_or xs j None)) → map h xs ≡ map g xs
-map-same g h [] same = refl
-map-same g h (x ∷ xs) same = ap (λ o. o ∷ map h xs) (same 0) ∙ ap (λ l. g x ∷ l) (map-same g h xs (λ j. same (suc j)))
-
-map-placed : (g h : Option Space → Option SpaceView) (xs : List (Option Space)) (i : ℕ) (y : Option Space) → ((j : ℕ) → j ≢ i → h (get_or xs j None) ≡ g (get_or xs j None)) → map h (slice_set xs i y) ≡ slice_set (map g xs) i (h y)
-map-placed g h [] i y same = refl
-map-placed g h (x ∷ xs) zero y same = ap (λ l. h y ∷ l) (map-same g h xs (λ j. same (suc j) (omega arith)))
-map-placed g h (x ∷ xs) (suc i) y same =
-    ap (λ o. o ∷ map h (slice_set xs i y)) (same 0 (omega arith))
-    ∙ ap (λ l. g x ∷ l) (map-placed g h xs i y (λ j ne. same (suc j) (λ e. ne (omega (arith, e)))))
 
 pub same-shown : (m k : List (List ℕ)) (o : Option Space) → ((x : Space) → o ≡ Some x → IsUntouched m k x) → shown k o ≡ shown m o
 same-shown m k None h = refl
@@ -115,6 +96,25 @@ pub record Placed {T : Type 0} (held : T → translation.Held) (i j : Inside T) 
 pub placed-as : {T : Type 0} (held : T → translation.Held) (i j : Inside T) (at : ℕ) (y z : Option SpaceView) → Placed held i j at y → y ≡ z → Placed held i j at z
 placed-as held i j at y z p e = subst (λ (o : Option SpaceView). Placed held i j at o) e p
 
+-- one place has another space, where a place traded with the free frames
+placed : {T : Type 0} (held : T → translation.Held) (i : Inside T) (at from : ℕ) (y : Option Space) (k : List (List ℕ)) (n : Frames) (t : T) (q : List (Option Space)) (new : List ℕ)
+    → IsSpaces held i → q ≡ slice_set i.places.items at y → IsMachine k n (slice_set i.places.items at y) (pipe_frames i.pipes.items) → IsActive (held t) k i.hart.root.0 (slice_set i.places.items at y) i.active
+    → ((x : Translation) → held t x → held i.translator x) → map (shown k) (slice_set i.places.items at y) ≡ slice_set (map (shown i.ram) i.places.items) at (shown k y)
+    → Trades i.ram k i.frames n (shares.held_at i.ram (slot i.places.items from)) new
+    → Placed held i (record i { ram = k; frames = n; translator = t; places = record { items = q } }) at (shown k y)
+placed held i at from y k n t q new is e machine active fewer shows trades =
+    let j : Inside _ = record i { ram = k; frames = n; translator = t; places = record { items = q } } in
+    let sound : IsSpaces held j = record {
+      machine = rw e machine;
+      all = ap length e ∙ length-set i.places.items at y ∙ is.all;
+      active = rw e active;
+      inside = λ x h. let old = is.inside x (fewer x h) in let count = trades.count in omega (arith, old, count);
+      pipes = is.pipes;
+      both = is.both;
+    } in
+    let view : spaces_of j ≡ with_place (spaces_of i) at (shown k y) = rw (e, shows, pipes-beside i.ram k i.frames n i.places.items i.pipes.items new from is.machine trades, trades.count) refl in
+    record { sound = sound; view = view; fits = omega (arith, ap taken_frames view, taken-fits held j sound, trades.count) }
+
 pub traded : {T : Type 0} (held : T → translation.Held) (i : Inside T) (at : ℕ) (y : Option Space) (k : List (List ℕ)) (n : Frames) (t : T) (q : List (Option Space))
     → IsSpaces held i → at < length i.places.items → q ≡ slice_set i.places.items at y → IsPlace k y n
     → Trades i.ram k i.frames n (shares.held_at i.ram (slot i.places.items at)) (shares.held_at k y)
@@ -123,40 +123,21 @@ pub traded : {T : Type 0} (held : T → translation.Held) (i : Inside T) (at : �
     → Placed held i (record i { ram = k; frames = n; translator = t; places = record { items = q } }) at (shown k y)
 traded held i at y k n t q is hi e place trades fewer here =
     let others = trade-others i.ram k i.frames n i.places.items (pipe_frames i.pipes.items) (shares.held_at k y) at is.machine trades in
-    let sound : IsSpaces held (record i { ram = k; frames = n; translator = t; places = record { items = q } }) = record {
-      machine = rw e (trade-machine i.ram k i.frames n i.places.items (pipe_frames i.pipes.items) at y is.machine hi place trades);
-      all = ap length e ∙ length-set i.places.items at y ∙ is.all;
-      active = rw e (active-placed (held i.translator) (held t) i.ram k i.hart.root.0 i.places.items at y i.active others fewer here is.active);
-      inside = λ x h. let old = is.inside x (fewer x h) in let count = trades.count in omega (arith, old, count);
-      pipes = is.pipes;
-      both = is.both;
-    } in
-    let view : spaces_of (record i { ram = k; frames = n; translator = t; places = record { items = q } }) ≡ with_place (spaces_of i) at (shown k y) =
-    rw (e, shown-placed i.ram k i.places.items at y others, pipes-beside i.ram k i.frames n i.places.items i.pipes.items (shares.held_at k y) at is.machine trades, trades.count) refl in
-    record {
-      sound = sound;
-      view = view;
-      fits = omega (arith, ap taken_frames view, taken-fits held (record i { ram = k; frames = n; translator = t; places = record { items = q } }) sound, trades.count);
-    }
-
--- a space that was made settles in a free place
-settled : {T : Type 0} (held : T → translation.Held) (i : Inside T) (at : ℕ) (z : Space) (k : List (List ℕ)) (n : Frames) (q : List (Option Space))
-    → IsSpaces held i → at < length i.places.items → slot i.places.items at ≡ None → q ≡ slice_set i.places.items at (Some z) → IsSpace k z n → Trades i.ram k i.frames n [] (holds k z)
-    → Placed held i (record i { ram = k; frames = n; places = record { items = q } }) at (shown k (Some z))
-settled held i at z k n q is hi none e space trades =
-    traded held i at (Some z) k n i.translator q is hi e space (rw none trades) (λ x h. h) (λ a run. absurd (let bad : None ≡ Some run.space = sym none ∙ run.stands in cc))
+    placed held i at at y k n t q (shares.held_at k y) is e (trade-machine i.ram k i.frames n i.places.items (pipe_frames i.pipes.items) at y is.machine hi place trades)
+    (active-placed (held i.translator) (held t) i.ram k i.hart.root.0 i.places.items at y i.active others fewer here is.active) fewer (shown-placed i.ram k i.places.items at y others) trades
 
 free-place : {T : Type 0} (held : T → translation.Held) (i : Inside T) (at : ℕ) → IsSpaces held i → at < 64 → has_space (spaces_of i) at ≡ false → (at < length i.places.items) × (slot i.places.items at ≡ None)
 free-place held i at is low free = (let all = is.all in omega (arith, low, all), free-is i at (place-free (spaces_of i) at free))
 
--- by a write of the place through the slice of all
+-- a space that was made settles in a free place, by a write of the place through the slice of all
 pub settled-there : {T : Type 0} (held : T → translation.Held) (i : Inside T) (at : ℕ) (z : Space) (k : List (List ℕ)) (n : Frames) (xs : List (Option Space)) (y : Option SpaceView)
     → IsSpaces held i → at < 64 → has_space (spaces_of i) at ≡ false → xs ≡ i.places.items → IsSpace k z n → Trades i.ram k i.frames n [] (holds k z) → shown k (Some z) ≡ y
     → Placed held i (record i { ram = k; frames = n; places = record { items = refill (length i.places.items) i.places.items (slice_set xs at (Some z)) } }) at y
 settled-there held i at z k n xs y is low free same space trades shows =
     let place = free-place held i at is low free in
+    let e = refilled i.places.items xs at (Some z) (Some z) same refl in
     placed-as held i _ at (shown k (Some z)) y
-    (settled held i at z k n _ is place.0 place.1 (refilled i.places.items xs at (Some z) (Some z) same refl) space trades) shows
+    (traded held i at (Some z) k n i.translator _ is place.0 e space (rw place.1 trades) (λ x h. h) (λ a run. absurd (let bad : None ≡ Some run.space = sym place.1 ∙ run.stands in cc))) shows
 
 -- ---- a place gets a space that shares the frames of another one's
 
@@ -192,22 +173,9 @@ shared-there held i from to x z k n t xs y is low free same stands parent child 
     let e : q ≡ slice_set i.places.items to (Some z) = refilled i.places.items xs to (Some z) (Some z) same refl in
     let first : Trades i.ram k i.frames n (shares.held_at i.ram (slot i.places.items from)) (holds k x ++ holds k z) = rw stands trades in
     let others = trade-others i.ram k i.frames n i.places.items (pipe_frames i.pipes.items) (holds k x ++ holds k z) from is.machine first in
-    let sound : IsSpaces held (record i { ram = k; frames = n; translator = t; places = record { items = q } }) = record {
-      machine = rw e (fork-machine i.ram k i.frames n i.places.items (pipe_frames i.pipes.items) from to x z is.machine stands place.0 place.1 parent child trades);
-      all = ap length e ∙ length-set i.places.items to (Some z) ∙ is.all;
-      active = rw e (active-forked (held i.translator) (held t) i.ram k i.hart.root.0 i.places.items from to (Some z) i.active place.1 others fewer fenced is.active);
-      inside = λ v h. let old = is.inside v (fewer v h) in let count = trades.count in omega (arith, old, count);
-      pipes = is.pipes;
-      both = is.both;
-    } in
-    let view : spaces_of (record i { ram = k; frames = n; translator = t; places = record { items = q } }) ≡ with_place (spaces_of i) to (shown k (Some z)) =
-    rw (e, shown-forked i.ram k i.places.items from to x z stands pages others, pipes-beside i.ram k i.frames n i.places.items i.pipes.items (holds k x ++ holds k z) from is.machine first, trades.count) refl in
-    placed-as held i (record i { ram = k; frames = n; translator = t; places = record { items = q } }) to (shown k (Some z)) y
-    (record {
-      sound = sound;
-      view = view;
-      fits = omega (arith, ap taken_frames view, taken-fits held (record i { ram = k; frames = n; translator = t; places = record { items = q } }) sound, trades.count);
-    })
+    placed-as held i _ to (shown k (Some z)) y
+    (placed held i to from (Some z) k n t q (holds k x ++ holds k z) is e (fork-machine i.ram k i.frames n i.places.items (pipe_frames i.pipes.items) from to x z is.machine stands place.0 place.1 parent child trades)
+    (active-forked (held i.translator) (held t) i.ram k i.hart.root.0 i.places.items from to (Some z) i.active place.1 others fewer fenced is.active) fewer (shown-forked i.ram k i.places.items from to x z stands pages others) first)
     shows
 
 -- a place that isn't the active one loses its space

@@ -1,6 +1,7 @@
 use Rattle.spaces.proofs.Spaces.destroy.Goals as goal
 use Rattle.spaces.proofs.Places.{missing, there}
-use Rattle.spaces.proofs.Traded.{destroyed, refilled}
+use Rattle.spaces.proofs.Traded.{destroyed}
+use Rattle.spaces.proofs.SpacesLemmas.{refilled}
 use Rattle.std.proofs.Common.{None, sym, ◌∙◌}
 
 pub destroy-requires : goal.destroy-requires

@@ -2,7 +2,8 @@ use Rattle.spaces.proofs.Spaces.grow.Goals as goal
 use Rattle.frames.specs.Free.{free_count}
 use Rattle.spaces.proofs.Places.{held-is, missing, there}
 use Rattle.spaces.proofs.Results.{err-false, ok-true}
-use Rattle.spaces.proofs.Traded.{changed, grown-front, over-grown, placed-as, refilled, shown-as, view-same}
+use Rattle.spaces.proofs.Traded.{changed, grown-front, over-grown, placed-as, shown-as, view-same}
+use Rattle.spaces.proofs.SpacesLemmas.{refilled}
 use Rattle.spaces.specs.View.{view_with, shown}
 use Rattle.std.proofs.Common.{◌+◌, ◌++◌, ◌-◌, ◌<◌, ◌⊎◌, Some, inl, inr, refl, replicate}
 use Rattle.unixmodel.specs.Memory.{zero_page}

@@ -1,7 +1,7 @@
 use Rattle.spaces.proofs.Spaces.put_bytes.Goals as goal
 use Rattle.ram.specs.Memory.{frame_of}
 use Rattle.spaces.proofs.Piped.{pipe-frame, pipe-is, pipe-missing, pipe-there, piped-as, piped-written}
-use Rattle.spaces.proofs.Pipes.{pipe-refilled}
+use Rattle.spaces.proofs.SpacesLemmas.{refilled}
 use Rattle.std.proofs.Common.{Some, ap, refl}
 
 pub put_in-requires : goal.put_in-requires
@@ -19,7 +19,7 @@ invariant_of-self g c =
     let k = c.put_in.new.ram in
     let e = pipe-there i c.args.q c.deref_mut.result.now _ p (rw (← c.self.view_is) at c.requires) c.deref_mut.ensures.value c.in-Some.is in
     (piped-written g.T.Translate.held i c.args.q p z k (frame_of k p.frame) _ c.self.invariant e
-    (pipe-refilled i.pipes.items c.deref_mut.result.now c.args.q (Some z) (Some z) c.deref_mut.ensures.value refl) c.put_in.ensures.stays c.put_in.ensures.memory).sound
+    (refilled i.pipes.items c.deref_mut.result.now c.args.q (Some z) (Some z) c.deref_mut.ensures.value refl) c.put_in.ensures.stays c.put_in.ensures.memory).sound
 
 pub returns : goal.returns
 returns g c =
@@ -30,7 +30,7 @@ returns g c =
     let held = g.T.Translate.held in
     let e = pipe-there i c.args.q c.deref_mut.result.now _ p (rw (← c.self.view_is) at c.requires) c.deref_mut.ensures.value c.in-Some.is in
     let wrote = piped-written held i c.args.q p z k (frame_of k p.frame) _ c.self.invariant e
-    (pipe-refilled i.pipes.items c.deref_mut.result.now c.args.q (Some z) (Some z) c.deref_mut.ensures.value refl) c.put_in.ensures.stays c.put_in.ensures.memory in
+    (refilled i.pipes.items c.deref_mut.result.now c.args.q (Some z) (Some z) c.deref_mut.ensures.value refl) c.put_in.ensures.stays c.put_in.ensures.memory in
     record { bytes = rw (← c.self.view_is, pipe-is i c.args.q p e) (piped-as held i _ c.args.q _ _ wrote (ap Some c.put_in.ensures.bytes)).view; count = rw (← c.self.view_is, pipe-is i c.args.q p e) c.put_in.ensures.count }
 
 pub unreachable-requires : goal.unreachable-requires

@@ -1,6 +1,7 @@
 use Rattle.spaces.proofs.Spaces.shrink.Goals as goal
 use Rattle.spaces.proofs.Places.{held-is, missing, there}
-use Rattle.spaces.proofs.Traded.{changed, placed-as, refilled, shown-as}
+use Rattle.spaces.proofs.Traded.{changed, placed-as, shown-as}
+use Rattle.spaces.proofs.SpacesLemmas.{refilled}
 use Rattle.spaces.specs.View.{view_with, shown}
 use Rattle.std.proofs.Common.{◌≡◌, ◌-◌, Some, arith, refl, take}
 use Rattle.sv39.specs.Mapping.{coherent-nothing}

@@ -1,6 +1,6 @@
 use Rattle.spaces.proofs.Spaces.take_bytes.Goals as goal
 use Rattle.spaces.proofs.Piped.{pipe-frame, pipe-is, pipe-missing, pipe-there, piped-as, piped-read}
-use Rattle.spaces.proofs.Pipes.{pipe-refilled}
+use Rattle.spaces.proofs.SpacesLemmas.{refilled}
 use Rattle.std.proofs.Common.{Some, ap, refl}
 
 pub take_out-requires : goal.take_out-requires
@@ -17,7 +17,7 @@ invariant_of-self g c =
     let z = c.take_out.new.pipe in
     let e = pipe-there i c.args.q c.deref_mut.result.now _ p (rw (← c.self.view_is) at c.requires) c.deref_mut.ensures.value c.in-Some.is in
     (piped-read g.T.Translate.held i c.args.q p z _ c.self.invariant e
-    (pipe-refilled i.pipes.items c.deref_mut.result.now c.args.q (Some z) (Some z) c.deref_mut.ensures.value refl) c.take_out.ensures.stays).sound
+    (refilled i.pipes.items c.deref_mut.result.now c.args.q (Some z) (Some z) c.deref_mut.ensures.value refl) c.take_out.ensures.stays).sound
 
 pub returns : goal.returns
 returns g c =
@@ -27,7 +27,7 @@ returns g c =
     let held = g.T.Translate.held in
     let e = pipe-there i c.args.q c.deref_mut.result.now _ p (rw (← c.self.view_is) at c.requires) c.deref_mut.ensures.value c.in-Some.is in
     let left = piped-read held i c.args.q p z _ c.self.invariant e
-    (pipe-refilled i.pipes.items c.deref_mut.result.now c.args.q (Some z) (Some z) c.deref_mut.ensures.value refl) c.take_out.ensures.stays in
+    (refilled i.pipes.items c.deref_mut.result.now c.args.q (Some z) (Some z) c.deref_mut.ensures.value refl) c.take_out.ensures.stays in
     record {
       rest = rw (← c.self.view_is, pipe-is i c.args.q p e) (piped-as held i _ c.args.q _ _ left (ap Some c.take_out.ensures.rest)).view;
       bytes = rw (← c.self.view_is, pipe-is i c.args.q p e) c.take_out.ensures.bytes;
