@@ -75,13 +75,10 @@ pages-apart m r (suc n) p q one low high e = elim (cases_eq q n) [
   | inr ne ↦ pages-apart m r n p q (λ f. omega (arith, one f)) low (omega arith) e
 ]
 
-tables-later : (m : List (List ℕ)) (r n f : ℕ) → count_of f (tables_below m r n) ≤ count_of f (tables_below m r (suc n))
-unfolding tables_below
-tables-later m r n f = omega (arith, count_of-append f (tables_for m r n) (tables_below m r n))
-
 tables-after : (m : List (List ℕ)) (r n d f : ℕ) → count_of f (tables_below m r n) ≤ count_of f (tables_below m r (d + n))
+unfolding tables_below
 tables-after m r n zero f = let e : 0 + n ≡ n = omega arith in rw e (omega arith)
-tables-after m r n (suc d) f = let e : suc d + n ≡ suc (d + n) = omega arith in rw e (omega (arith, tables-after m r n d f, tables-later m r (d + n) f))
+tables-after m r n (suc d) f = let e : suc d + n ≡ suc (d + n) = omega arith in rw e (omega (arith, tables-after m r n d f, count_of-append f (tables_for m r (d + n)) (tables_below m r (d + n))))
 
 tables-grow : (m : List (List ℕ)) (r k n f : ℕ) → k ≤ n → count_of f (tables_below m r k) ≤ count_of f (tables_below m r n)
 tables-grow m r k n f h = let e : n ≡ (n - k) + k = omega arith in rw e (tables-after m r k (n - k) f)
@@ -97,17 +94,13 @@ low-first m r p h =
     let first = if eqb p 0 then table_of m r (mid_node p) ∷ [] else [] in
     rw (eq-eqb (p % 512) 0 h) (omega (arith, count_of-append t (first ++ (t ∷ [])) (tables_below m r p), count_of-append t first (t ∷ []), count_of-first t t [] refl))
 
-base-root : (m : List (List ℕ)) (r : ℕ) → 0 < count_of r (tables_below m r 0)
+-- the tables of a space of no pages
+base : (m : List (List ℕ)) (r : ℕ) → let count : ℕ → ℕ = λ t. count_of t (tables_below m r 0) in (0 < count r) × (0 < count (table_of m r (mid_node trap_page))) × (0 < count (table_of m r (low_node trap_page)))
 unfolding tables_below
-base-root m r = omega (arith, count_of-first r r (table_of m r (mid_node trap_page) ∷ table_of m r (low_node trap_page) ∷ []) refl)
-
-base-mid : (m : List (List ℕ)) (r : ℕ) → 0 < count_of (table_of m r (mid_node trap_page)) (tables_below m r 0)
-unfolding tables_below
-base-mid m r = omega (arith, count_of-first (table_of m r (mid_node trap_page)) (table_of m r (mid_node trap_page)) (table_of m r (low_node trap_page) ∷ []) refl)
-
-base-low : (m : List (List ℕ)) (r : ℕ) → 0 < count_of (table_of m r (low_node trap_page)) (tables_below m r 0)
-unfolding tables_below
-base-low m r = omega (arith, count_of-first (table_of m r (low_node trap_page)) (table_of m r (low_node trap_page)) [] refl)
+base m r =
+    let mid = table_of m r (mid_node trap_page) in
+    let low = table_of m r (low_node trap_page) in
+    (omega (arith, count_of-first r r (mid ∷ low ∷ []) refl), omega (arith, count_of-first mid mid (low ∷ []) refl), omega (arith, count_of-first low low [] refl))
 
 -- a mapped page is one of the pages or the trap frame's
 pub mapped-cases : (m : List (List ℕ)) (r t n p : ℕ) (v : ℕ × ℕ) → IsDense m r t n → p < 2 ^ 27 → lookup_of m r p ≡ Some v → (p < n) ⊎ (p ≡ trap_page)
@@ -132,7 +125,7 @@ held_mid m r t n p v is (inl low) at =
     rw (← e) (omega (arith, mid-first m r, tables-grow m r 1 n (table_of m r (mid_node 0)) (omega arith)))
 held_mid m r t n p v is (inr same) at =
     let e : table_of m r (mid_node trap_page) ≡ v = ap (λ q. table_of m r (mid_node q)) (sym same) ∙ table_of-some m r (mid_node p) v at in
-    rw (← e) (omega (arith, base-mid m r, tables-grow m r 0 n (table_of m r (mid_node trap_page)) (omega arith)))
+    rw (← e) (omega (arith, (base m r).1, tables-grow m r 0 n (table_of m r (mid_node trap_page)) (omega arith)))
 
 held_low : (m : List (List ℕ)) (r t n p v : ℕ) → IsDense m r t n → (p < n) ⊎ (p ≡ trap_page) → table_at m r (low_node p) ≡ Some v → 0 < count_of v (tables_below m r n)
 held_low m r t n p v is (inl low) at =
@@ -141,7 +134,7 @@ held_low m r t n p v is (inl low) at =
     rw (← e) (omega (arith, low-first m r q (omega arith), tables-grow m r (suc q) n (table_of m r (low_node q)) (omega arith)))
 held_low m r t n p v is (inr same) at =
     let e : table_of m r (low_node trap_page) ≡ v = ap (λ q. table_of m r (low_node q)) (sym same) ∙ table_of-some m r (low_node p) v at in
-    rw (← e) (omega (arith, base-low m r, tables-grow m r 0 n (table_of m r (low_node trap_page)) (omega arith)))
+    rw (← e) (omega (arith, (base m r).2, tables-grow m r 0 n (table_of m r (low_node trap_page)) (omega arith)))
 
 used-held : (m : List (List ℕ)) (r t n : ℕ) (x : Node) (v : ℕ) → IsDense m r t n → IsUsed m r x → table_at m r x ≡ Some v → 0 < count_of v (tables_below m r n)
 used-held m r t n x v is u at =
@@ -162,7 +155,7 @@ table-held m r t n v is h = elim (cases_root h.place) [
   | inl e ↦
       let same : Some r ≡ Some v = sym (root_at m r) ∙ ap (table_at m r) (sym e) ∙ h.at_place in
       let f : r ≡ v = cc in
-      rw (← f) (omega (arith, base-root m r, tables-grow m r 0 n r (omega arith)))
+      rw (← f) (omega (arith, (base m r).0, tables-grow m r 0 n r (omega arith)))
   | inr ne ↦ used-held m r t n h.place v is (is.tidy.used h.place v h.is_node ne h.at_place) h.at_place
 ]
 

@@ -1,6 +1,6 @@
 -- A page of a space is shared with a space that is made.
 use Rattle.std.proofs.Common.{◌≡◌, ◌≢◌, ℕ, zero, suc, ◌+◌, ◌-◌, ◌<◌, ◌≤◌, inl, inr, false, List, [], ◌∷◌, ◌++◌, refl, sym, ap, ◌∙◌, arith, add-one, length-append, get_or}
-use Rattle.std.proofs.lemmas.Bool.{cases_eq, cases_lt}
+use Rattle.std.proofs.lemmas.Bool.{cases_eq}
 use Rattle.ram.specs.Memory.{frame_of}
 use Rattle.frames.specs.declared.Frames.{Frames}
 use Rattle.frames.specs.Free.{free_of, free_count, IsFreeList}
@@ -11,12 +11,13 @@ use Rattle.vm.proofs.GrowLemmas.{frame_at-is, frame_at-same, missing-next}
 use Rattle.vm.proofs.PageLemmas.{get_or-pages}
 use Rattle.vm.specs.declared.Space.{Space}
 use Rattle.vm.specs.Dense.{frame_at, marks_at, page_at, pages_below, frames_below, tables_below, held, frames_for, IsHeld}
-use Rattle.vm.proofs.DenseLemmas.{count-held, frames_for-more, page-held, pages-apart, pages_below-more, pages_below-zero, length-held}
+use Rattle.vm.proofs.DenseLemmas.{count-held, frames_for-more, page-held, pages_below-more, pages_below-zero, length-held}
 use Rattle.vm.proofs.Added.{IsBefore, next-held, next-pages, next-trades, next-trap, share-stands}
 use Rattle.vm.specs.Leaf.{is_open, right_marks}
 use Rattle.vm.proofs.Beside.{Trades-as, Trades-frame, Trades-held}
 use Rattle.vm.specs.Fork.{IsMore, IsPart, IsSoFar}
 use Rattle.vm.proofs.StepLemmas.{IsNext}
+use Rattle.vm.proofs.StoreLemmas.{pages-same}
 use Rattle.vm.specs.Space.{IsRearranged, IsSpace, pages_of, registers_of, holds, pages_in}
 
 -- ---- trades of more than one holder
@@ -40,18 +41,6 @@ page-once m r t n p f s is low was =
     let at : 0 < count_of f (frames_below m r n) = omega (arith, page-held m r n p low, ap (λ x. count_of x (frames_below m r n)) was) in
     (omega (arith, is.once f, count-held m r t n f, at), omega (arith, is.once f, count-held m r t n f, at), omega (arith, is.once f, count-held m r t n f, at))
 
--- pages with one frame are one page
-page-same : (m : List (List ℕ)) (r t n p j : ℕ) (s : Frames) → IsHeld m r t n s → p < n → j < n → frame_at m r j ≡ frame_at m r p → j ≡ p
-page-same m r t n p j s is low high same =
-    let single : (v : ℕ) → count_of v (frames_below m r n) ≤ 1 = λ (v : ℕ). omega (arith, is.once v, count-held m r t n v) in
-    elim (cases_eq j p) [
-      | inl e ↦ e
-      | inr ne ↦ elim (cases_lt j p) [
-        | inl less ↦ absurd (pages-apart m r n j p single less low same)
-        | inr more ↦ absurd (pages-apart m r n p j single (omega (arith, more, ne)) high (sym same))
-      ]
-    ]
-
 -- a frame that no page of a list of pages has
 frames-absent : (m : List (List ℕ)) (r n f : ℕ) → ((p : ℕ) → p < n → frame_at m r p ≢ f) → count_of f (frames_below m r n) ≡ 0
 unfolding frames_below
@@ -63,7 +52,7 @@ pub part-absent : (m : List (List ℕ)) (x c : Space) (n f : ℕ) (s : Frames) �
 part-absent m x c n f s is low was =
     let one = page-once m x.root.0 x.trap.0 (pages_in x.size) n f s is.parent low was in
     let pages : count_of f (frames_below m c.root.0 n) ≡ 0 = frames-absent m c.root.0 n f (λ p h e.
-    omega (arith, h, page-same m x.root.0 x.trap.0 (pages_in x.size) n p s is.parent low (omega (arith, h, low)) (sym (is.shared p h) ∙ e ∙ sym was))) in
+    omega (arith, h, pages-same m x.root.0 x.trap.0 (pages_in x.size) p n is.parent.once (omega (arith, h, low)) low (sym (is.shared p h) ∙ e ∙ sym was))) in
     let room = is.room f in
     let at = held-inside m s f is.parent.free (omega (arith, room, one.2)) in
     elim (cases_eq (count_of f (tables_below m c.root.0 n) + count_of f (c.trap.0 ∷ [])) 0) [
@@ -114,7 +103,7 @@ part-before k x c n f leaf s q is low was marks closed after more list =
     let absent = part-absent k x c n f s is low was in
     let small = is.parent.dense.small in (
       share-stands k x.root.0 x.trap.0 (pages_in x.size) f s q is.parent after more list one.0
-          (λ p h e. let same : p ≡ n = page-same k x.root.0 x.trap.0 (pages_in x.size) n p s is.parent low h (e ∙ sym was) in ap is_open (ap (marks_at k x.root.0) same ∙ marks) ∙ closed),
+          (λ p h e. let same : p ≡ n = pages-same k x.root.0 x.trap.0 (pages_in x.size) p n is.parent.once h low (e ∙ sym was) in ap is_open (ap (marks_at k x.root.0) same ∙ marks) ∙ closed),
       record {
         space = share-stands k c.root.0 c.trap.0 n f s q is.child after more list
             (omega (arith, absent, count-held k c.root.0 c.trap.0 n f))

@@ -12,7 +12,7 @@ use Rattle.pagetable.proofs.Beside.{IsTree-same, table_at-same, lookup_of-same}
 use Rattle.pagetable.specs.Shape.{table_of, IsEmpty}
 use Rattle.pagetable.proofs.ShapeLemmas.{made-two}
 use Rattle.pagetable.proofs.EmptyLemmas.{only-root}
-use Rattle.vm.specs.Dense.{trap_page, trap_marks, frames_below, tables_below, held, IsDense, IsHeld}
+use Rattle.vm.specs.Dense.{trap_page, trap_marks, frames_below, tables_below, held, IsHeld}
 use Rattle.vm.proofs.DenseLemmas.{count-held}
 use Rattle.vm.proofs.StepLemmas.{IsTaken, IsNext, free-after}
 
@@ -63,17 +63,6 @@ start-free m j z s a q r t is = is.first ∙ ap (λ l. r ∷ l) (is.taken.taken 
 pub start-count : (m j z : List (List ℕ)) (s a q : Frames) (r t : ℕ) → IsStart m j z s a q r t → free_count m s ≡ 2 + free_count z q
 start-count m j z s a q r t is = free_count-taken m z s q 2 (omega (arith, ap length (start-free m j z s a q r t is))) (is.taken.extra ∙ is.extra) (free-after j z a q t is.paged.free is.taken).1
 
-IsDense-start : (m j z k : List (List ℕ)) (s a q w : Frames) (r t : ℕ) → IsStart m j z s a q r t → IsNext z k r trap_page t trap_marks q w → IsDense k r t 0
-IsDense-start m j z k s a q w r t is next = record {
-  tree = next.paged.tree;
-  tidy = next.tidy;
-  small = omega arith;
-  pages = λ p h. absurd (omega arith);
-  leaves = λ p h. absurd (omega arith);
-  trap = next.inserts.changed;
-  rest = λ p _ low ne. next.inserts.others p low ne ∙ (start-empty m j z s a q r t is).pages p;
-}
-
 count-start : (m j z k : List (List ℕ)) (s a q w : Frames) (r t : ℕ) → IsStart m j z s a q r t → IsNext z k r trap_page t trap_marks q w → (g : ℕ) → count_of g (held k r t 0) + count_of g (free_of k w) ≡ count_of g (free_of m s)
 unfolding tables_below frames_below
 count-start m j z k s a q w r t is next g =
@@ -82,10 +71,6 @@ count-start m j z k s a q w r t is next g =
     let all : free_of m s ≡ r ∷ t ∷ table_of k r (mid_node trap_page) ∷ table_of k r (low_node trap_page) ∷ free_of k w =
     start-free m j z s a q r t is ∙ ap (λ l. r ∷ t ∷ l) (next.adds.taken ∙ ap (λ l. l ++ free_of k w) two) in
     omega (arith, ap (count_of g) all)
-
--- what the space holds was free
-was-free : (m j z k : List (List ℕ)) (s a q w : Frames) (r t : ℕ) → IsStart m j z s a q r t → IsNext z k r trap_page t trap_marks q w → (g : ℕ) → 0 < count_of g (held k r t 0) → among g (free_of m s) ≡ true
-was-free m j z k s a q w r t is next g some = elim (count-cases g (free_of m s)) [ inl at ↦ at | inr none ↦ absurd (omega (arith, count-start m j z k s a q w r t is next g, some, none)) ]
 
 -- the space stands, and traded nothing for its frames
 pub record IsMade (m z k : List (List ℕ)) (r t : ℕ) (s w : Frames) : Type 0 where
@@ -100,12 +85,20 @@ start-made m j z k s a q w r t is next =
     let extra = next.extra ∙ is.taken.extra ∙ is.extra in
     let counts = count-start m j z k s a q w r t is next in
     let holders = holders-table m k s w is.free next.paged.free len extra in
-    let free = was-free m j z k s a q w r t is next in
+    let free : (g : ℕ) → 0 < count_of g (held k r t 0) → among g (free_of m s) ≡ true = λ (g : ℕ) (some : 0 < count_of g (held k r t 0)). elim (count-cases g (free_of m s)) [ inl at ↦ at | inr none ↦ absurd (omega (arith, counts g, some, none)) ] in
     let stays : (g : ℕ) → g ≢ r → count_of g (free_of z q) ≡ 0 → frame_of k g ≡ frame_of z g = λ (g : ℕ) (ne : g ≢ r) (none : count_of g (free_of z q) ≡ 0).
     next.keeps.others g (λ h. ne (only-root z r (start-empty m j z s a q r t is) h.place g h.is_node h.at_place).1) (among-none g (free_of z q) none) in
     record {
       space = record {
-        dense = IsDense-start m j z k s a q w r t is next;
+        dense = record {
+          tree = next.paged.tree;
+          tidy = next.tidy;
+          small = omega arith;
+          pages = λ p h. absurd (omega arith);
+          leaves = λ p h. absurd (omega arith);
+          trap = next.inserts.changed;
+          rest = λ p _ low ne. next.inserts.others p low ne ∙ (start-empty m j z s a q r t is).pages p;
+        };
         once = λ g. omega (arith, counts g, distinct-count g (free_of m s) is.free.distinct);
         free = next.paged.free;
         own = λ g some. further-same s w g extra ∙ further-free m s g is.free (free g (omega (arith, some, count-held k r t 0 g)));

@@ -263,11 +263,11 @@ free-left m s places others is =
 
 -- ---- the start
 
-none-held : (m : List (List ℕ)) (n : ℕ) → flat_map (held_at m) (replicate n None) ≡ []
-none-held m zero = refl
-none-held m (suc n) = none-held m n
+pub none-flat : {X : Type 0} (g : Option X → List ℕ) (n : ℕ) → g None ≡ [] → flat_map g (replicate n None) ≡ []
+none-flat g zero none = refl
+none-flat g (suc n) none = ap (λ l. l ++ flat_map g (replicate n None)) none ∙ none-flat g n none
 
-none-there : (n j : ℕ) (x : Space) → get_or (replicate n None) j None ≡ Some x → ⊥
+pub none-there : {X : Type 0} (n j : ℕ) (x : X) → get_or (replicate n None) j None ≡ Some x → ⊥
 none-there zero j x e = cc
 none-there (suc n) zero x e = cc
 none-there (suc n) (suc j) x e = none-there n j x e
@@ -277,6 +277,6 @@ pub machine-new : (m : List (List ℕ)) (s : Frames) (n : ℕ) → IsFreeList m 
 machine-new m s n free shared = record {
   free = free;
   each = λ j x e. absurd (none-there n j x e);
-  shared = record { each = λ f. omega (arith, shared.each f, count_of-append f (flat_map (held_at m) (replicate n None)) [], ap (count_of f) (none-held m n)) };
+  shared = record { each = λ f. omega (arith, shared.each f, count_of-append f (flat_map (held_at m) (replicate n None)) [], ap (count_of f) (none-flat (held_at m) n refl)) };
   alone = λ f some. absurd (omega (arith, some));
 }
