@@ -1,7 +1,7 @@
 -- One pipe trades frames, or is read or written: what is left of the fields, and what they show then.
 use Rattle.frames.specs.declared.Frames.{Frames}
 use Rattle.frames.specs.Free.{IsFreeList, SameBut, among, extra_of, free_count, free_of, further_at}
-use Rattle.frames.proofs.HolderLemmas.{Trades-give, Trades-none, Trades-take, count_of-append, count_of-first, held-inside, one_if-le}
+use Rattle.frames.proofs.HolderLemmas.{Trades-give, Trades-take, count_of-append, count_of-first, held-inside, one_if-le}
 use Rattle.frames.specs.Holders.{Trades, count_of, holders_of}
 use Rattle.pipe.specs.Pipe.{Pipe, Stays, bytes_of}
 use Rattle.ram.specs.Memory.{frame_of}
@@ -119,13 +119,6 @@ piped-written held i q p z k w qs is at e stays wrote =
     let both = Trades-write i.ram k i.frames p.frame w is.machine.free some (is.machine.alone p.frame (pipe-held i.pipes.items q p at)) wrote in
     let trades : Trades i.ram k i.frames i.frames (frames_at (slot i.pipes.items q)) (frames_at (Some z)) = rw (at, stays.frame) both.0 in
     piped held i q (Some z) k i.frames qs is (within i.pipes.items q p at) e both.1 trades (λ x here. (let same : z ≡ x = cc in subst (λ (x : Pipe). IsOpen x) same (open-stays p z stays (is.both q p at))))
-
-pub piped-read : {T : Type 0} (held : T → translation.Held) (i : Inside T) (q : ℕ) (p z : Pipe) (qs : List (Option Pipe))
-    → IsSpaces held i → slot i.pipes.items q ≡ Some p → qs ≡ slice_set i.pipes.items q (Some z) → Stays p z
-    → Piped held i (record i { pipes = record { items = qs } }) q (Some (bytes_of i.ram z))
-piped-read held i q p z qs is at e stays =
-    let trades : Trades i.ram i.ram i.frames i.frames (frames_at (slot i.pipes.items q)) (frames_at (Some z)) = rw (at, stays.frame) (Trades-none i.ram i.frames (p.frame ∷ [])) in
-    piped held i q (Some z) i.ram i.frames qs is (within i.pipes.items q p at) e is.machine.free trades (λ x here. (let same : z ≡ x = cc in subst (λ (x : Pipe). IsOpen x) same (open-stays p z stays (is.both q p at))))
 
 -- ---- what they show
 

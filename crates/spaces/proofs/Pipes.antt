@@ -6,7 +6,7 @@ use Rattle.pipe.specs.Pipe.{Pipe}
 use Rattle.pipe.proofs.PipeLemmas.{bytes_of-same}
 use Rattle.ram.specs.Memory.{frame_of}
 use Rattle.spaces.specs.View.{frames_at, pipe_frames, pipe_shown}
-use Rattle.std.proofs.Common.{◌≡◌, ◌≢◌, ℕ, zero, suc, ◌+◌, ◌<◌, List, [], ◌∷◌, length, get_or, map, replicate, slice_set, Option, Some, None, refl, sym, ap, ◌∙◌, arith}
+use Rattle.std.proofs.Common.{◌≡◌, ◌≢◌, ℕ, suc, ◌+◌, ◌<◌, List, [], ◌∷◌, length, get_or, map, slice_set, Option, Some, None, refl, sym, ap, ◌∙◌, arith}
 use Rattle.std.proofs.lemmas.List.{get_or_default, length-map}
 use Rattle.std.specs.List.{prefix_len}
 use Rattle.std.specs.Prelude.{cond, is_none, not}
@@ -42,20 +42,6 @@ free-shown m ps = rw (taken_first m ps, length-map ps (pipe_shown m)) refl
 -- a place of the fields, by what is read of the slice that a borrow of them shows
 pub pipe-found : (shown ps : List (Option Pipe)) (q : ℕ) (o y : Option Pipe) → shown ≡ ps → get_or shown q o ≡ y → q < length ps → slot ps q ≡ y
 pipe-found shown ps q o y same is hi = get_or_default ps q None o hi ∙ ap (λ l. get_or l q o) (sym same) ∙ is
-
--- ---- no pipes
-
-pub no-pipe : (n q : ℕ) (p : Pipe) {P : Type 0} → slot (replicate {A = Option Pipe} n None) q ≡ Some p → P
-no-pipe zero q p e = absurd (cc)
-no-pipe (suc n) zero p e = absurd (cc)
-no-pipe (suc n) (suc q) p e = no-pipe n q p e
-
-none-frames : (n : ℕ) → pipe_frames (replicate n None) ≡ []
-none-frames zero = refl
-none-frames (suc n) = none-frames n
-
-pub no-frames : pipe_frames (replicate 100 None) ≡ []
-no-frames = none-frames 100
 
 -- ---- counts
 

@@ -1,13 +1,14 @@
 use Rattle.spaces.proofs.Spaces.new.Goals as goal
-use Rattle.spaces.proofs.Pipes.{no-frames, no-pipe}
-use Rattle.vm.proofs.SharesLemmas.{machine-new}
+use Rattle.spaces.specs.View.{frames_at}
+use Rattle.std.proofs.Common.{refl}
+use Rattle.vm.proofs.SharesLemmas.{machine-new, none-flat, none-there}
 
 pub invariant_of-result-2 : goal.invariant_of-result-2
 invariant_of-result-2 g c = record {
-  machine = rw (c.from_array_in-2.ensures.items, no-frames, c.from_array_in.ensures.items) (machine-new _ _ 64 c.in_ok-frames.ensures.valid c.in_ok-frames.ensures.shared);
+  machine = rw (c.from_array_in-2.ensures.items, none-flat frames_at 100 refl, c.from_array_in.ensures.items) (machine-new _ _ 64 c.in_ok-frames.ensures.valid c.in_ok-frames.ensures.shared);
   all = c.from_array_in.ensures.len;
   active = tt;
   inside = λ t h. absurd (c.fence.ensures t h);
   pipes = c.from_array_in-2.ensures.len;
-  both = λ q p at. no-pipe 100 q p (rw c.from_array_in-2.ensures.items at at);
+  both = λ q p at. absurd (none-there 100 q p (rw c.from_array_in-2.ensures.items at at));
 }

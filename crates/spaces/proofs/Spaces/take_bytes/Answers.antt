@@ -1,7 +1,9 @@
 use Rattle.spaces.proofs.Spaces.take_bytes.Goals as goal
-use Rattle.spaces.proofs.Piped.{pipe-frame, pipe-is, pipe-missing, pipe-there, piped-as, piped-read}
+use Rattle.spaces.proofs.Piped.{pipe-frame, pipe-is, pipe-missing, pipe-there, piped-as, piped-written}
 use Rattle.spaces.proofs.SpacesLemmas.{refilled}
-use Rattle.std.proofs.Common.{Some, ap, refl}
+use Rattle.ram.specs.Memory.{frame_of}
+use Rattle.std.proofs.Common.{Some, [], ap, refl, sym}
+use Rattle.std.proofs.lemmas.List.{set-get_or}
 
 pub take_out-requires : goal.take_out-requires
 take_out-requires g c =
@@ -16,8 +18,8 @@ invariant_of-self g c =
     let p = c.in-Some.pipe in
     let z = c.take_out.new.pipe in
     let e = pipe-there i c.args.q c.deref_mut.result.now _ p (rw (← c.self.view_is) at c.requires) c.deref_mut.ensures.value c.in-Some.is in
-    (piped-read g.T.Translate.held i c.args.q p z _ c.self.invariant e
-    (refilled i.pipes.items c.deref_mut.result.now c.args.q (Some z) (Some z) c.deref_mut.ensures.value refl) c.take_out.ensures.stays).sound
+    (piped-written g.T.Translate.held i c.args.q p z i.ram (frame_of i.ram p.frame) _ c.self.invariant e
+    (refilled i.pipes.items c.deref_mut.result.now c.args.q (Some z) (Some z) c.deref_mut.ensures.value refl) c.take_out.ensures.stays (sym (set-get_or i.ram p.frame []))).sound
 
 pub returns : goal.returns
 returns g c =
@@ -26,8 +28,8 @@ returns g c =
     let z = c.take_out.new.pipe in
     let held = g.T.Translate.held in
     let e = pipe-there i c.args.q c.deref_mut.result.now _ p (rw (← c.self.view_is) at c.requires) c.deref_mut.ensures.value c.in-Some.is in
-    let left = piped-read held i c.args.q p z _ c.self.invariant e
-    (refilled i.pipes.items c.deref_mut.result.now c.args.q (Some z) (Some z) c.deref_mut.ensures.value refl) c.take_out.ensures.stays in
+    let left = piped-written held i c.args.q p z i.ram (frame_of i.ram p.frame) _ c.self.invariant e
+    (refilled i.pipes.items c.deref_mut.result.now c.args.q (Some z) (Some z) c.deref_mut.ensures.value refl) c.take_out.ensures.stays (sym (set-get_or i.ram p.frame [])) in
     record {
       rest = rw (← c.self.view_is, pipe-is i c.args.q p e) (piped-as held i _ c.args.q _ _ left (ap Some c.take_out.ensures.rest)).view;
       bytes = rw (← c.self.view_is, pipe-is i c.args.q p e) c.take_out.ensures.bytes;
