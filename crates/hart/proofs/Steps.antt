@@ -108,7 +108,8 @@ does_computes (Ok d) answers result old new ram h = (h.0, h.1, h.2, h.3, ap (sto
 does_computes (Err t) answers result old new ram h = (h.0, h.1, refl)
 
 -- whatever is answered
-step_unanswered : (held : Held) (meaning : Sight → Effect) (result : Option Trap) (old new : Hart) (ram : List (List ℕ)) → ((answers : Answers) → HasEffect (meaning (seen ram answers)) answers result old new ram ram) → IsStep held meaning result old new ram ram
+step_unanswered : (held : Held) (meaning : Sight → Effect) (result : Option Trap) (old new : Hart) (ram : List (List ℕ))
+    → ((answers : Answers) → HasEffect (meaning (seen ram answers)) answers result old new ram ram) → IsStep held meaning result old new ram ram
 step_unanswered held meaning result old new ram does = record { answers = walked ram old.root.0; allowed = λ access address. inl refl; does = does (walked ram old.root.0) }
 
 -- all instructions but loads and stores

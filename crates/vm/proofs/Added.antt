@@ -56,8 +56,12 @@ pub added-same : (z k : List (List ℕ)) (r t n f : ℕ) (q w : Frames) → IsAd
 added-same z k r t n f q w e = held-same z k r t n e.dense e.looks e.adds.stand
 
 -- what is held then: the page's frame, and the tables that came
-pub added-count : (z k : List (List ℕ)) (r t n f : ℕ) (q w : Frames) → IsAdded z k r t n f q w
-    → (v : ℕ) → (count_of v (held k r t (suc n)) ≡ count_of v (tables_for k r n) + count_of v (held z r t n) + count_of v (f ∷ [])) × (count_of v (free_of z q) ≡ count_of v (tables_for k r n) + count_of v (free_of k w)) × (count_of v (tables_below k r (suc n)) ≡ count_of v (tables_for k r n) + count_of v (tables_below z r n))
+pub record IsCounted (z k : List (List ℕ)) (r t n f : ℕ) (q w : Frames) (v : ℕ) : Type 0 where
+  pub held : count_of v (held k r t (suc n)) ≡ count_of v (tables_for k r n) + count_of v (held z r t n) + count_of v (f ∷ [])
+  pub free : count_of v (free_of z q) ≡ count_of v (tables_for k r n) + count_of v (free_of k w)
+  pub tables : count_of v (tables_below k r (suc n)) ≡ count_of v (tables_for k r n) + count_of v (tables_below z r n)
+
+pub added-count : (z k : List (List ℕ)) (r t n f : ℕ) (q w : Frames) → IsAdded z k r t n f q w → (v : ℕ) → IsCounted z k r t n f q w v
 unfolding tables_below frames_below
 added-count z k r t n f q w e v =
     let both = added-same z k r t n f q w e in
@@ -65,15 +69,14 @@ added-count z k r t n f q w e v =
     ap (count_of v) (e.adds.taken ∙ ap (λ l. l ++ free_of k w) (made-tables z k r t n e.dense e.small)) ∙ count_of-append v (tables_for k r n) (free_of k w) in
     let frames : count_of v (frames_below k r (suc n)) ≡ one_if (nat_eq v f) + count_of v (frames_below z r n) = ap (λ x. one_if (nat_eq v x) + count_of v (frames_below k r n)) e.frame ∙ ap (λ l. one_if (nat_eq v f) + count_of v l) (both.1) in
     let tables : count_of v (tables_below k r (suc n)) ≡ count_of v (tables_for k r n) + count_of v (tables_below z r n) = count_of-append v (tables_for k r n) (tables_below k r n) ∙ ap (λ l. count_of v (tables_for k r n) + count_of v l) (both.0) in
-    (omega (arith, count-held z r t n v, count-held k r t (suc n) v, frames, tables), taken, tables)
+    record { held = omega (arith, count-held z r t n v, count-held k r t (suc n) v, frames, tables); free = taken; tables = tables }
 
 next-added : (z k : List (List ℕ)) (r t n f marks : ℕ) (q w : Frames) → IsBefore z r t n f marks q → IsNext z k r n f marks q w → IsAdded z k r t n f q w
 next-added z k r t n f marks q w b e =
     let small = b.small in
     record { dense = b.space.dense; small = small; frame = frame_at-is k r n f marks e.inserts.changed; looks = λ p h. e.inserts.others p (omega (arith, small, h)) (omega (arith, small, h)); adds = e.adds }
 
-pub next-count : (z k : List (List ℕ)) (r t n f marks : ℕ) (q w : Frames) → IsBefore z r t n f marks q → IsNext z k r n f marks q w
-    → (v : ℕ) → (count_of v (held k r t (suc n)) ≡ count_of v (tables_for k r n) + count_of v (held z r t n) + count_of v (f ∷ [])) × (count_of v (free_of z q) ≡ count_of v (tables_for k r n) + count_of v (free_of k w)) × (count_of v (tables_below k r (suc n)) ≡ count_of v (tables_for k r n) + count_of v (tables_below z r n))
+pub next-count : (z k : List (List ℕ)) (r t n f marks : ℕ) (q w : Frames) → IsBefore z r t n f marks q → IsNext z k r n f marks q w → (v : ℕ) → IsCounted z k r t n f q w v
 next-count z k r t n f marks q w b e = added-count z k r t n f q w (next-added z k r t n f marks q w b e)
 
 -- a frame of the list has no holder and no further one

@@ -11,7 +11,7 @@ use Rattle.pagetable.specs.Tree.{lookup_of, IsPaged, Keeps}
 use Rattle.pagetable.specs.Shape.{IsTidy, Adds, Removes}
 use Rattle.pagetable.proofs.LookupLemmas.{lookup-sound}
 use Rattle.vm.specs.Dense.{trap_page, frame_at, marks_at, read_below, pages_below, frames_below, tables_for, tables_below, held, IsDense, IsHeld}
-use Rattle.vm.proofs.Added.{IsAdded, added-count, added-same}
+use Rattle.vm.proofs.Added.{IsAdded, IsCounted, added-count, added-same}
 use Rattle.vm.proofs.Beside.{Besides, Trades-held}
 use Rattle.vm.proofs.DenseLemmas.{count-held, page-held, table-held}
 use Rattle.vm.proofs.GrowLemmas.{frame_at-same, lookup-parts, marks_at-same}
@@ -68,8 +68,7 @@ added m j r t n f s a is u = record {
 }
 
 -- what was held: the page's frame, the tables that went, and what is held now
-count-unmapped : (m j : List (List ℕ)) (r t n f : ℕ) (s a : Frames) → IsHeld m r t (suc n) s → IsUnmapped m j r n f s a
-    → (v : ℕ) → (count_of v (held m r t (suc n)) ≡ count_of v (tables_for m r n) + count_of v (held j r t n) + count_of v (f ∷ [])) × (count_of v (free_of j a) ≡ count_of v (tables_for m r n) + count_of v (free_of m s)) × (count_of v (tables_below m r (suc n)) ≡ count_of v (tables_for m r n) + count_of v (tables_below j r n))
+count-unmapped : (m j : List (List ℕ)) (r t n f : ℕ) (s a : Frames) → IsHeld m r t (suc n) s → IsUnmapped m j r n f s a → (v : ℕ) → IsCounted j m r t n f a s v
 count-unmapped m j r t n f s a is u = added-count j m r t n f a s (added m j r t n f s a is u)
 
 -- the frame may be given back

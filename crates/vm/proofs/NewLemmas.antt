@@ -85,7 +85,8 @@ start-made m j z k s a q w r t is next =
     let extra = next.extra ∙ is.taken.extra ∙ is.extra in
     let counts = count-start m j z k s a q w r t is next in
     let holders = holders-table m k s w is.free next.paged.free len extra in
-    let free : (g : ℕ) → 0 < count_of g (held k r t 0) → among g (free_of m s) ≡ true = λ (g : ℕ) (some : 0 < count_of g (held k r t 0)). elim (count-cases g (free_of m s)) [ inl at ↦ at | inr none ↦ absurd (omega (arith, counts g, some, none)) ] in
+    let free : (g : ℕ) → 0 < count_of g (held k r t 0) → among g (free_of m s) ≡ true = λ (g : ℕ) (some : 0 < count_of g (held k r t 0)).
+    elim (count-cases g (free_of m s)) [ inl at ↦ at | inr none ↦ absurd (omega (arith, counts g, some, none)) ] in
     let stays : (g : ℕ) → g ≢ r → count_of g (free_of z q) ≡ 0 → frame_of k g ≡ frame_of z g = λ (g : ℕ) (ne : g ≢ r) (none : count_of g (free_of z q) ≡ 0).
     next.keeps.others g (λ h. ne (only-root z r (start-empty m j z s a q r t is) h.place g h.is_node h.at_place).1) (among-none g (free_of z q) none) in
     record {
