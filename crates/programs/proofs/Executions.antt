@@ -12,8 +12,9 @@ use Rattle.programs.specs.Passed.{Passes, plan_with, stacked}
 use Rattle.programs.specs.Placed.{paged}
 use Rattle.programs.proofs.Headings.{TellsProgram}
 use Rattle.programs.proofs.Loads.{IsProgram, is-program}
-use Rattle.programs.proofs.Places.{has-same, length-write, space-within}
-use Rattle.unixmodel.specs.Shown.{bytes_or_none}
+use Rattle.programs.proofs.Places.{length-write}
+use Rattle.programs.proofs.Serving.{file-kept-on}
+use Rattle.transfers.proofs.Pieces.{space-within}
 use Rattle.spaces.specs.Spaces.{SpaceView, Spaces, has_space, view_at, taken_frames, with_view}
 use Rattle.spaces.proofs.SpacesLemmas.{held-same}
 use Rattle.tree.specs.Tree.{FileTree, Serves}
@@ -45,7 +46,7 @@ if-finished : (b : Bool) (p new : Plan) → (if b then Some p else None) ≡ Som
 if-finished true p new is = ap (λ (x : Plan). length x.memory) (sym (same_Some p new is))
 if-finished false p new is = absurd (none-some new is)
 
-args-long : (pages : Memory) (pc : ℕ) (args : List (List ℕ)) (new : Plan) → with_args pages pc args ≡ Some new → length new.memory ≡ length pages + 2
+pub args-long : (pages : Memory) (pc : ℕ) (args : List (List ℕ)) (new : Plan) → with_args pages pc args ≡ Some new → length new.memory ≡ length pages + 2
 unfolding with_args with_stack
 args-long pages pc args new is =
     let size = 4096 * (length pages + 2) in
@@ -56,10 +57,13 @@ args-long pages pc args new is =
     ∙ strings-long stack args
     ∙ length-append pages (zero_page (stack_marks false) ∷ zero_page (stack_marks true) ∷ [])
 
+pub length-stacked : (pages : Memory) (page : List ℕ) → length (stacked pages page) ≡ length pages + 2
+length-stacked pages page = length-append pages (zero_page (stack_marks false) ∷ record { bytes = page; marks = stack_marks true } ∷ [])
+
 -- ---- the plan of a program
 
 module _ (file : List ℕ) where
-  no-plan : program_in file ≡ None → (o : Option (List (List ℕ))) → option_and_then (plan file) o ≡ None
+  pub no-plan : program_in file ≡ None → (o : Option (List (List ℕ))) → option_and_then (plan file) o ≡ None
   unfolding plan
   no-plan none None = refl
   no-plan none (Some args) = ap (option_and_then (λ (l : Loaded). with_args l.pages (round_down (number_at 8 24 file) 4) args)) (not-loaded (loaded_of file) none) where
@@ -68,7 +72,7 @@ module _ (file : List ℕ) where
     not-loaded (Some l) e = absurd (none-some _ (sym e))
 
   module _ (program : Program) (is : IsProgram file program) where
-    plan-is : (o : Option (List (List ℕ))) → option_and_then (plan file) o ≡ option_and_then (with_args is.loaded.pages program.header.entry) o
+    pub plan-is : (o : Option (List (List ℕ))) → option_and_then (plan file) o ≡ option_and_then (with_args is.loaded.pages program.header.entry) o
     unfolding plan
     plan-is None = refl
     plan-is (Some args) =
@@ -86,25 +90,22 @@ module _ (file : List ℕ) where
 
 -- ---- the file
 
--- a number is that of a file with these bytes
-pub record Has (files : Files) (n : ℕ) (file : List ℕ) : Type 0 where
-  pub links : ℕ
-  pub here : slot files n ≡ Some (File links file)
+-- a number has a program
+pub record HasProgram (files : Files) (n : ℕ) (program : Program) : Type 0 where
+  pub file : IsFile files n
+  pub bytes : file_bytes (slot files n) ≡ Some (file_at files n)
+  pub program_is : program_in (file_at files n) ≡ Some program
+  pub is : IsProgram (file_at files n) program
 
-has-file : (files : Files) (n : ℕ) (file : List ℕ) → file_bytes (slot files n) ≡ Some file → Has files n file
-has-file files n file some = go (slot files n) refl some where
-  go : (o : Option Node) → slot files n ≡ o → file_bytes o ≡ Some file → Has files n file
-  go None e is = absurd (none-some file is)
-  go (Some (File links bytes)) e is = record { links = links; here = e ∙ ap (λ b. Some (File links b)) (same_Some bytes file is) }
-  go (Some (Device links major minor)) e is = absurd (none-some file is)
-  go (Some (Directory links places)) e is = absurd (none-some file is)
-
--- what a program was told of
-pub record IsOf (files : Files) (n : ℕ) (program : Program) : Type 0 where
-  pub file : List ℕ
-  pub bytes : file_bytes (slot files n) ≡ Some file
-  pub has : Has files n file
-  pub is : IsProgram file program
+pub has-program : (files : Files) (n : ℕ) (program : Program) → option_and_then program_in (file_bytes (slot files n)) ≡ Some program → HasProgram files n program
+has-program files n program some = go (slot files n) refl some where
+  go : (o : Option Node) → slot files n ≡ o → option_and_then program_in (file_bytes o) ≡ Some program → HasProgram files n program
+  go None here is = absurd (none-some program is)
+  go (Some (File links bytes)) here is =
+      let made : program_in (file_at files n) ≡ Some program = rw here is in
+      record { file = record { links = links; bytes = bytes; here = here }; bytes = rw here refl; program_is = made; is = is-program (file_at files n) program made }
+  go (Some (Device links major minor)) here is = absurd (none-some program is)
+  go (Some (Directory links places)) here is = absurd (none-some program is)
 
 module _ {old mid : FileTree} (number : ℕ) {told : Option Program} (serves : Serves old mid (Ok told) (TellsProgram old mid (option_and_then program_in (file_bytes (slot old.files number))))) where
   pub program-none : told ≡ None → (mem : Memory) (argv : ℕ) → plan_at old.files number mem argv ≡ None
@@ -113,53 +114,39 @@ module _ {old mid : FileTree} (number : ℕ) {told : Option Program} (serves : S
     go None e = refl
     go (Some file) e = no-plan file e (args_at mem argv)
 
-  pub program-of : {program : Program} → told ≡ Some program → IsOf old.files number program
-  program-of {program} some = go (file_bytes (slot old.files number)) refl (sym serves.told.0.value ∙ some) where
-    go : (o : Option (List ℕ)) → file_bytes (slot old.files number) ≡ o → option_and_then program_in o ≡ Some program → IsOf old.files number program
-    go None e is = absurd (none-some program is)
-    go (Some file) e is = record { file = file; bytes = e; has = has-file old.files number file e; is = is-program file program is }
+  pub program-of : {program : Program} → told ≡ Some program → HasProgram old.files number program
+  program-of {program} some = has-program old.files number program (sym serves.told.0.value ∙ some)
 
-  module _ {program : Program} (of : IsOf old.files number program) where
+  module _ {program : Program} (of : HasProgram old.files number program) where
     pub file-there : IsFile mid.files number
-    file-there = record { links = of.has.links; bytes = of.file; here = ap (λ (t : FileTree). slot t.files number) serves.told.0.same ∙ of.has.here }
+    file-there = file-kept-on old number serves.told.0.same of.file
 
-    pub program-there : told ≡ Some program → program_in (file_at mid.files number) ≡ Some program
-    program-there some =
-        ap (λ (t : FileTree). program_in (file_at t.files number)) serves.told.0.same
-        ∙ ap (λ o. program_in (bytes_or_none o)) of.has.here
-        ∙ sym (ap (option_and_then program_in) of.bytes)
-        ∙ sym serves.told.0.value
-        ∙ some
+    pub program-there : program_in (file_at mid.files number) ≡ Some program
+    program-there = ap (λ (t : FileTree). program_in (file_at t.files number)) serves.told.0.same ∙ of.program_is
 
     pub loaded-there : loaded_of (file_at mid.files number) ≡ Some of.is.loaded
-    loaded-there =
-        ap (λ (t : FileTree). loaded_of (file_at t.files number)) serves.told.0.same
-        ∙ ap (λ o. loaded_of (bytes_or_none o)) of.has.here
-        ∙ of.is.is
+    loaded-there = ap (λ (t : FileTree). loaded_of (file_at t.files number)) serves.told.0.same ∙ of.is.is
 
 -- it has few pages
 pub few-told : (o : Option Program) (program : Program) → o ≡ Some program → IfSome o (λ p. p.pages ≤ 2 ^ 52) → program.pages ≤ 2 ^ 52
 few-told o program some few = subst (λ (x : Option Program). IfSome x (λ p. p.pages ≤ 2 ^ 52)) some few
 
-planned : {files : Files} {n : ℕ} {program : Program} (of : IsOf files n program) (mem : Memory) (argv : ℕ) → plan_at files n mem argv ≡ option_and_then (plan of.file) (args_at mem argv)
-planned of mem argv = ap (option_and_then (λ file. option_and_then (plan file) (args_at mem argv))) of.bytes
+planned : {files : Files} {n : ℕ} {program : Program} (of : HasProgram files n program) (mem : Memory) (argv : ℕ) → plan_at files n mem argv ≡ option_and_then (plan (file_at files n)) (args_at mem argv)
+planned {files} {n} of mem argv = ap (option_and_then (λ file. option_and_then (plan file) (args_at mem argv))) of.bytes
 
-module _ {files : Files} {n : ℕ} {program : Program} (of : IsOf files n program) (s : Spaces) (at argv : ℕ) where
+module _ {files : Files} {n : ℕ} {program : Program} (of : HasProgram files n program) (s : Spaces) (at argv : ℕ) where
   abbrev mem : Memory
   mem = (view_at s at).memory
 
   -- the frames don't suffice
   pub over-frames : (frames free : ℕ) → frames ≡ 3 + page_frames (program.pages + 2) → free + taken_frames s ≡ s.frames → free < frames → (p : Plan) → plan_at files n mem argv ≡ Some p → s.frames < frames_beside s p
   over-frames frames free are left over p is =
-      let long : length p.memory ≡ program.pages + 2 = plan-long of.file program of.is (args_at mem argv) p (sym (planned of mem argv) ∙ is) in
+      let long : length p.memory ≡ program.pages + 2 = plan-long (file_at files n) program of.is (args_at mem argv) p (sym (planned of mem argv) ∙ is) in
       subst (λ k. s.frames < taken_frames s + 3 + page_frames k) (sym long) (omega (arith, are, left, over))
 
   -- the arguments can't be given
   pub not-passed : Passes mem argv program.pages None → (p : Plan) → plan_at files n mem argv ≡ Some p → s.frames < frames_beside s p
-  not-passed passes p is = absurd (none-some p (sym (planned of mem argv ∙ plan-passed of.file program of.is mem argv None passes) ∙ is))
-
-  long-stack : (page : List ℕ) → length (stacked of.is.loaded.pages page) ≡ length of.is.loaded.pages + 2
-  long-stack page = length-append of.is.loaded.pages (zero_page (stack_marks false) ∷ record { bytes = page; marks = stack_marks true } ∷ [])
+  not-passed passes p is = absurd (none-some p (sym (planned of mem argv ∙ plan-passed (file_at files n) program of.is mem argv None passes) ∙ is))
 
   -- it is executed
   pub is-executed : (new : Spaces) (a : Arguments) (size frames free : ℕ) → has_space s at ≡ true → Passes mem argv program.pages (Some a) → frames ≡ 3 + page_frames (program.pages + 2) → free + taken_frames s ≡ s.frames → frames ≤ free
@@ -167,17 +154,14 @@ module _ {files : Files} {n : ℕ} {program : Program} (of : IsOf files n progra
       → IsExecuted (plan_at files n mem argv) s new at (record { pc = program.header.entry; count = a.count; sp = a.sp; size = size })
   is-executed new a size frames free has passes are left enough put told =
       let pages = of.is.loaded.pages in
-      let long : length (stacked pages a.page) ≡ program.pages + 2 = long-stack a.page ∙ ap (λ k. k + 2) of.is.pages in
-      let whole : 4096 * length (stacked pages a.page) ≡ 4096 * (length pages + 2) = ap (λ k. 4096 * k) (long-stack a.page) in
+      let long : length (stacked pages a.page) ≡ program.pages + 2 = length-stacked pages a.page ∙ ap (λ k. k + 2) of.is.pages in
+      let whole : 4096 * length (stacked pages a.page) ≡ 4096 * (length pages + 2) = ap (λ k. 4096 * k) (length-stacked pages a.page) in
       let shown : size ≡ 4096 * (length pages + 2) =
       told ∙ ap (λ (k : Spaces). (view_at k at).size) put ∙ ap (λ (h : SpaceView). h.size) (held-same s at (paged (stacked pages a.page)) (space-within s at has)) ∙ whole in
       record {
         plan = plan_with pages program.header.entry a;
-        is = planned of mem argv ∙ plan-passed of.file program of.is mem argv (Some a) passes;
+        is = planned of mem argv ∙ plan-passed (file_at files n) program of.is mem argv (Some a) passes;
         fits = subst (λ k. taken_frames s + 3 + page_frames k ≤ s.frames) (sym long) (omega (arith, are, left, enough));
         held = put ∙ ap (λ k. with_view s at (let h : SpaceView = record { memory = stacked pages a.page; size = k } in h)) whole;
         started = ap (λ k. let t : Started = record { pc = program.header.entry; count = a.count; sp = a.sp; size = k } in t) shown;
       }
-
-  pub has-new : (new : Spaces) (h : SpaceView) → has_space s at ≡ true → new ≡ with_view s at h → has_space new at ≡ true
-  has-new new h has put = ap (λ (k : Spaces). has_space k at) put ∙ has-same s at h has

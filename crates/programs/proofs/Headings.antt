@@ -1,7 +1,7 @@
 -- What the headers of a program file say, as they are read one after the other.
-use Rattle.std.proofs.Common.{ap, append-nil, arith, drop, length, min, refl, subst, sym, take, ℕ, zero, suc, ◌%◌, ◌*◌, ◌++◌, ◌+◌, ◌-◌, ◌/◌, ◌<◌, ◌∙◌, ◌≡◌, ◌≢◌, ◌≤◌, Bool, true, false, List, None, Ok, Err, Option, Result, Some, length-append}
+use Rattle.std.proofs.Common.{ap, append-nil, arith, drop, le_trans, length, refl, subst, sym, take, ℕ, zero, suc, ◌%◌, ◌*◌, ◌++◌, ◌+◌, ◌-◌, ◌/◌, ◌<◌, ◌∙◌, ◌≡◌, ◌≢◌, ◌≤◌, Bool, true, false, List, None, Ok, Err, Option, Result, Some, length-append}
 use Rattle.std.specs.Prelude.{IfSome, if◌then◌else◌, nat_le, option_and_then, option_map, replicate, slice_range, ◌&&◌, ◌==◌, ◌^◌}
-use Rattle.std.proofs.lemmas.Bool.{false≢true, le-leb}
+use Rattle.std.proofs.lemmas.Bool.{le-leb}
 use Rattle.std.proofs.lemmas.Bool.Decides.{nat_tests}
 use Rattle.std.proofs.lemmas.List.{drop_all, length-replicate}
 use Rattle.std.proofs.lemmas.Option.{none-some, same_Some}
@@ -16,10 +16,12 @@ use Rattle.elf.proofs.Plans.{header_in-part, headers_by, loaded_by, loads-header
 use Rattle.inode.specs.declared.InodeStat.{InodeStat}
 use Rattle.programs.specs.declared.headers.Program.{Program}
 use Rattle.programs.specs.Headed.{IsRead, end_behind, end_by, file_at, headed, program_in, segment_behind, unless_refused}
+use Rattle.transfers.proofs.Fits.{serves-told}
+use Rattle.tree.proofs.Serving.{HasRead, HasSeen}
 use Rattle.tree.specs.Telling.{Tells}
 use Rattle.tree.specs.Tree.{FileTree, Serves}
 use Rattle.tree.specs.Written.{IsFile}
-use Rattle.unixmodel.specs.Files.{Files, Node, node_bytes, slot}
+use Rattle.unixmodel.specs.Files.{Files, Node, slot}
 use Rattle.unixmodel.specs.Files.Node.{Device, Directory, File}
 use Rattle.unixmodel.specs.Memory.{Marks, pages_of, zero_page}
 use Rattle.unixmodel.specs.Numbers.{ceil_div, number_at}
@@ -29,14 +31,8 @@ use Rattle.unixmodel.specs.Shown.{bytes_or_none}
 
 -- ---- what a read of bytes that the file has tells
 
--- what a read tells
-abbrev Came : FileTree → FileTree → ℕ → ℕ → List ℕ → List ℕ → ℕ → Type 0
-Came old new number at out out' k =
-    (new ≡ record old { failures = new.failures })
-    × ((node : Node) → slot old.files number ≡ Some node → (k ≡ min (length out) (length (node_bytes node) - at)) × (out' ≡ part at k (node_bytes node) ++ drop k out))
-
 pub whole-read : (old new : FileTree) (number at : ℕ) (out out' : List ℕ) (k : ℕ) → IsFile old.files number → at + length out ≤ length (file_at old.files number)
-    → Serves old new (Ok k) (Came old new number at out out')
+    → Serves old new (Ok k) (HasRead old new number at out out')
     → Serves {T = Unit {0}} old new (Ok tt) (λ done. IsRead old new out' (part at (length out) (file_at old.files number)))
 whole-read old new number at out out' k file within serves =
     let bytes : file_at old.files number ≡ file.bytes = ap bytes_or_none file.here in
@@ -48,13 +44,13 @@ whole-read old new number at out out' k file within serves =
     ∙ ap (λ l. part at (length out) file.bytes ++ l) (drop_all (length out) out (omega arith))
     ∙ append-nil (part at (length out) file.bytes)
     ∙ ap (part at (length out)) (sym bytes) in
-    record { told = record { same = serves.told.0; value = value }; up = serves.up; down = serves.down; cause = record { later = serves.cause.later; failed = λ e. absurd (false≢true e) } }
+    serves-told tt (record { same = serves.told.0; value = value }) serves.up serves.cause.later
 
 -- ---- what is told
 
 -- what was read is told
 pub read-serves : {T : Type 0} {old new : FileTree} {told is : T} → new ≡ record old { failures = new.failures } → new.failed ≡ false → old.failures ≤ new.failures → told ≡ is → Serves old new (Ok told) (λ t. IsRead old new t is)
-read-serves same up later value = record { told = record { same = same; value = value }; up = up; down = tt; cause = record { later = later; failed = λ e. absurd (false≢true e) } }
+read-serves {told = told} same up later value = serves-told told (record { same = same; value = value }) up later
 
 -- where what is loaded ends, by what a program header asks for
 pub end-told : {old new : FileTree} {told : Result (Option LoadSegment) ElfFault} (file : List ℕ) (at end : ℕ) (o : Option ℕ) → Serves old new (Ok told) (λ t. IsRead old new t (segment_behind file at end)) → o ≡ end_by end told → Serves old new (Ok o) (λ t. IsRead old new t (end_behind file at end))
@@ -203,7 +199,7 @@ all-loaded has all = read-serves has.same has.up has.later (sym (ends-all has al
 abbrev IsWhole : Loaded → Type 0
 IsWhole l = length l.pages ≡ ceil_div l.end 4096
 
-length-pages : (marks : Marks) (n : ℕ) (front : List ℕ) → length (pages_of marks n front) ≡ n
+pub length-pages : (marks : Marks) (n : ℕ) (front : List ℕ) → length (pages_of marks n front) ≡ n
 unfolding pages_of
 length-pages marks zero front = refl
 length-pages marks (suc n) front = ap suc (length-pages marks n (drop 4096 front))
@@ -291,12 +287,7 @@ TellsProgram old new is told = IsRead old new told is × IfSome told (λ program
 module _ {old new : FileTree} (number : ℕ) where
   -- the header is refused
   pub head-refused : {told : Option FileHeader} → Serves old new (Ok told) (λ t. IsRead old new t (headed (file_at old.files number))) → told ≡ None → Serves old new (Ok None) (TellsProgram old new (program_in (file_at old.files number)))
-  head-refused serves none = record {
-    told = (record { same = serves.told.same; value = sym (program-refused (file_at old.files number) (sym serves.told.value ∙ none)) }, tt);
-    up = serves.up;
-    down = tt;
-    cause = record { later = serves.cause.later; failed = λ e. absurd (false≢true e) };
-  }
+  head-refused serves none = serves-told None (record { same = serves.told.same; value = sym (program-refused (file_at old.files number) (sym serves.told.value ∙ none)) }, tt) serves.up serves.cause.later
 
 -- its program headers are in the file
 pub header-fits : {old mid : FileTree} (number : ℕ) {head : Option FileHeader} {header : FileHeader} → Serves old mid (Ok head) (λ t. IsRead old mid t (headed (file_at old.files number))) → head ≡ Some header
@@ -323,40 +314,21 @@ module _ {old mid new : FileTree} (number : ℕ) {head : Option FileHeader} {hea
   same-both = second.told.same ∙ ap (λ (t : FileTree). record t { failures = new.failures }) first.told.same
 
   later-both : old.failures ≤ new.failures
-  later-both = let a = first.cause.later in let b = second.cause.later in omega (arith, a, b)
+  later-both = le_trans first.cause.later second.cause.later
 
   -- a segment is refused
   pub ends-refused : told ≡ None → Serves old new (Ok None) (TellsProgram old new (program_in whole_file))
-  ends-refused none = record {
-    told = (record { same = same-both; value = sym (segments-refused whole_file header headed-is (sym ends-is ∙ none)) }, tt);
-    up = second.up;
-    down = tt;
-    cause = record { later = later-both; failed = λ e. absurd (false≢true e) };
-  }
+  ends-refused none = serves-told None (record { same = same-both; value = sym (segments-refused whole_file header headed-is (sym ends-is ∙ none)) }, tt) second.up later-both
 
   pub program-told : (end pages : ℕ) → told ≡ Some end → end < 2 ^ 64 → pages ≡ ceil_div end 4096 → Serves old new (Ok (Some (record { header = header; pages = pages }))) (TellsProgram old new (program_in whole_file))
-  program-told end pages at fits count = record {
-    told = (record { same = same-both; value = program-is whole_file header headed-is end pages (sym ends-is ∙ at) count }, omega (arith, count, fits));
-    up = second.up;
-    down = tt;
-    cause = record { later = later-both; failed = λ e. absurd (false≢true e) };
-  }
+  program-told end pages at fits count = serves-told _ (record { same = same-both; value = program-is whole_file header headed-is end pages (sym ends-is ∙ at) count }, omega (arith, count, fits)) second.up later-both
 
--- what `stat` tells
-abbrev pub Stats : FileTree → FileTree → ℕ → InodeStat → Type 0
-Stats old mid number s = (mid ≡ record old { failures = mid.failures }) × ((node : Node) → slot old.files number ≡ Some node → Tells s node)
-
-module _ {old mid : FileTree} (number : ℕ) {s : InodeStat} (node : (n : Node) × (slot old.files number ≡ Some n)) (first : Serves old mid (Ok s) (Stats old mid number)) where
+module _ {old mid : FileTree} (number : ℕ) {s : InodeStat} (node : (n : Node) × (slot old.files number ≡ Some n)) (first : Serves old mid (Ok s) (HasSeen old mid number)) where
   tells-node : Tells s node.0
   tells-node = first.told.1 node.0 node.1
 
   pub other-refused : s.kind ≢ 2 → Serves old mid (Ok None) (TellsProgram old mid (option_and_then program_in (file_bytes (slot old.files number))))
-  other-refused other = record {
-    told = (record { same = first.told.0; value = sym (ap (option_and_then program_in) (no-file s (slot old.files number) node.0 node.1 tells-node other)) }, tt);
-    up = first.up;
-    down = tt;
-    cause = record { later = first.cause.later; failed = λ e. absurd (false≢true e) };
-  }
+  other-refused other = serves-told None (record { same = first.told.0; value = sym (ap (option_and_then program_in) (no-file s (slot old.files number) node.0 node.1 tells-node other)) }, tt) first.up first.cause.later
 
   module _ (kind : s.kind ≡ 2) where
     was : IsFile old.files number × (s.size ≡ length (file_at old.files number)) × (file_bytes (slot old.files number) ≡ Some (file_at old.files number))
@@ -372,18 +344,14 @@ module _ {old mid : FileTree} (number : ℕ) {s : InodeStat} (node : (n : Node) 
     is-same = ap (λ (t : FileTree). program_in (file_at t.files number)) first.told.0 ∙ sym (ap (option_and_then program_in) was.2)
 
     pub program-served : {new : FileTree} (r : Result (Option Program) DeviceFault) → Serves mid new r (TellsProgram mid new (program_in (file_at mid.files number))) → Serves old new r (TellsProgram old new (option_and_then program_in (file_bytes (slot old.files number))))
-    program-served {new} (Ok told) second = record {
-      told = (record { same = second.told.0.same ∙ ap (λ (t : FileTree). record t { failures = new.failures }) first.told.0; value = second.told.0.value ∙ is-same }, second.told.1);
-      up = second.up;
-      down = tt;
-      cause = record { later = (let a = first.cause.later in let b = second.cause.later in omega (arith, a, b)); failed = λ e. absurd (false≢true e) };
-    }
+    program-served {new} (Ok told) second =
+        serves-told told (record { same = second.told.0.same ∙ ap (λ (t : FileTree). record t { failures = new.failures }) first.told.0; value = second.told.0.value ∙ is-same }, second.told.1) second.up (le_trans first.cause.later second.cause.later)
     program-served {new} (Err fault) second = record {
       told = tt;
       up = tt;
       down = second.down;
       cause = record {
-        later = (let a = first.cause.later in let b = second.cause.later in omega (arith, a, b));
+        later = le_trans first.cause.later second.cause.later;
         failed = λ e. let a = first.cause.later in let b = second.cause.failed e in omega (arith, a, b);
       };
     }

@@ -12,13 +12,12 @@ use Rattle.elf.proofs.Plans.{headers_by, loaded_by, loads-header, loads-segment,
 use Rattle.programs.specs.declared.headers.Program.{Program}
 use Rattle.programs.specs.Headed.{IsRead, file_at, program_in, segment_behind, unless_refused}
 use Rattle.programs.specs.Placed.{Follows, HasRoom, IsPaged, Leaves, next_in, paged}
-use Rattle.programs.proofs.Headings.{HasLoaded, Stats, header-within, is-headed, loads-next, loads-one, none-read, whole-more}
-use Rattle.programs.proofs.Places.{has-same, held-twice, room-less, room-with, self-held, space-within}
-use Rattle.spaces.proofs.SpacesLemmas.{held-same}
+use Rattle.programs.proofs.Headings.{HasLoaded, header-within, is-headed, loads-next, loads-one, none-read, whole-more}
+use Rattle.programs.proofs.Places.{has-held, held-twice, is-held, room-less, room-with, self-held}
+use Rattle.tree.proofs.Serving.{HasSeen}
 use Rattle.tree.specs.Written.{IsFile}
 use Rattle.spaces.specs.Spaces.{SpaceView, Spaces, has_space, view_at, no_pages, with_view}
 use Rattle.tree.specs.Tree.{FileTree, Serves}
-use Rattle.unixmodel.specs.Files.{slot}
 use Rattle.unixmodel.specs.Files.Node.{File}
 use Rattle.unixmodel.specs.Shown.{bytes_or_none}
 use Rattle.inode.specs.declared.InodeStat.{InodeStat}
@@ -97,24 +96,6 @@ module _ (file : List ℕ) (place : ℕ) (h : SpaceView) (end : ℕ) (next : Loa
             ∙ ap (λ (x : LoadSegment). ceil_div (x.address + x.size) 4096) (sym shown);
       }
 
--- the segment is loaded
-pub next-loaded : (file : List ℕ) (place end : ℕ) (s s' : Spaces) (at : ℕ) (g : LoadSegment) (next : Loaded) → IsNext file place (view_at s at) end g next
-    → ((seg : Segment) → g ≡ segment_shown seg → s' ≡ with_view s at (paged ((view_at s at).memory ++ segment_pages file (length (view_at s at).memory) seg)))
-    → (g.address + g.size ≡ next.end) × (s' ≡ with_view s at (paged next.pages))
-next-loaded file place end s s' at g next is put = (
-  ap (λ (x : LoadSegment). x.address + x.size) is.shown ∙ ap (λ (l : Loaded). l.end) (sym is.is),
-  put (segment_at file place) is.shown ∙ ap (λ (l : Loaded). with_view s at (paged l.pages)) (sym is.is),
-)
-
--- it is skipped
-pub next-skipped : (end : ℕ) (s : Spaces) (at : ℕ) (next : Loaded) → has_space s at ≡ true → IsPaged (view_at s at) → record { pages = (view_at s at).memory; end = end } ≡ next → (end ≡ next.end) × (s ≡ with_view s at (paged next.pages))
-next-skipped end s at next has whole is = (
-  ap (λ (l : Loaded). l.end) is,
-  self-held s at has
-      ∙ ap (λ n. with_view s at (let h : SpaceView = record { memory = (view_at s at).memory; size = n } in h)) whole
-      ∙ ap (λ (l : Loaded). with_view s at (paged l.pages)) is,
-)
-
 -- ---- what `load_next` reads
 
 module _ {old mid : FileTree} (s : Spaces) (at number place end : ℕ) {told : Result (Option LoadSegment) ElfFault} (whole : length (view_at s at).memory ≡ ceil_div end 4096)
@@ -122,28 +103,39 @@ module _ {old mid : FileTree} (s : Spaces) (at number place end : ℕ) {told : R
   pub never-refused : (fault : ElfFault) → told ≡ Err fault → ⊥
   never-refused fault is = not-refused (file_at old.files number) place (view_at s at) end next some fault (sym serves.told.value ∙ is)
 
+  -- it is skipped
   pub skipped-next : {o : Option LoadSegment} → told ≡ Ok o → o ≡ None → has_space s at ≡ true → IsPaged (view_at s at) → (end ≡ next.end) × (s ≡ with_view s at (paged next.pages))
-  skipped-next ok none has paged =
-      next-skipped end s at next has paged (is-skipped (file_at old.files number) place (view_at s at) end next some (sym serves.told.value ∙ ok ∙ ap Ok none))
+  skipped-next ok none has paged-so =
+      let is = is-skipped (file_at old.files number) place (view_at s at) end next some (sym serves.told.value ∙ ok ∙ ap Ok none) in (
+        ap (λ (l : Loaded). l.end) is,
+        self-held s at has
+            ∙ ap (λ n. with_view s at (let h : SpaceView = record { memory = (view_at s at).memory; size = n } in h)) paged-so
+            ∙ ap (λ (l : Loaded). with_view s at (paged l.pages)) is,
+      )
 
   module _ {o : Option LoadSegment} {g : LoadSegment} (ok : told ≡ Ok o) (there : o ≡ Some g) where
-    pub taken-next : IsNext (file_at old.files number) place (view_at s at) end g next
+    taken-next : IsNext (file_at old.files number) place (view_at s at) end g next
     taken-next = is-next (file_at old.files number) place (view_at s at) end next some g (sym serves.told.value ∙ ok ∙ ap Ok there) whole
 
-    pub follows-next : Follows (length (file_at mid.files number)) (length (view_at s at).memory) g
-    follows-next = subst (λ (t : FileTree). Follows (length (file_at t.files number)) (length (view_at s at).memory) g) (sym serves.told.same) taken-next.follows
-
-    pub few-next : length next.pages < 2 ^ 32 → ceil_div (g.address + g.size) 4096 < 2 ^ 32
-    few-next few = subst (λ n. n < 2 ^ 32) taken-next.count few
-
-    pub room-next : HasRoom s at (length next.pages) → HasRoom s at (ceil_div (g.address + g.size) 4096)
-    room-next room = subst (HasRoom s at) taken-next.count room
+    -- it may be loaded
+    pub fits-next : length next.pages < 2 ^ 32 → HasRoom s at (length next.pages)
+        → Follows (length (file_at mid.files number)) (length (view_at s at).memory) g × (ceil_div (g.address + g.size) 4096 < 2 ^ 32) × HasRoom s at (ceil_div (g.address + g.size) 4096)
+    fits-next few room = (
+      subst (λ (t : FileTree). Follows (length (file_at t.files number)) (length (view_at s at).memory) g) (sym serves.told.same) taken-next.follows,
+      subst (λ n. n < 2 ^ 32) taken-next.count few,
+      subst (HasRoom s at) taken-next.count room,
+    )
 
     pub loaded-next : {new : Spaces} → ((seg : Segment) → g ≡ segment_shown seg → new ≡ with_view s at (paged ((view_at s at).memory ++ segment_pages (file_at mid.files number) (length (view_at s at).memory) seg)))
         → (g.address + g.size ≡ next.end) × (new ≡ with_view s at (paged next.pages))
     loaded-next {new} put =
-        next-loaded (file_at old.files number) place end s new at g next taken-next
-        (λ seg shown. put seg shown ∙ ap (λ (t : FileTree). with_view s at (paged ((view_at s at).memory ++ segment_pages (file_at t.files number) (length (view_at s at).memory) seg))) serves.told.same)
+        let is = taken-next in
+        let seg = segment_at (file_at old.files number) place in (
+          ap (λ (x : LoadSegment). x.address + x.size) is.shown ∙ ap (λ (l : Loaded). l.end) (sym is.is),
+          put seg is.shown
+              ∙ ap (λ (t : FileTree). with_view s at (paged ((view_at s at).memory ++ segment_pages (file_at t.files number) (length (view_at s at).memory) seg))) serves.told.same
+              ∙ ap (λ (l : Loaded). with_view s at (paged l.pages)) (sym is.is),
+        )
 
 -- ---- all of them
 
@@ -216,7 +208,7 @@ module _ {old now : FileTree} {before after : Spaces} {at number count place i e
   file = file_at old.files number
 
   held-now : view_at after at ≡ paged has.loads.loaded.pages
-  held-now = ap (λ (s : Spaces). view_at s at) has.pages ∙ held-same before at (paged has.loads.loaded.pages) (space-within before at space)
+  held-now = is-held before at (paged has.loads.loaded.pages) has.pages space
 
   pub file-same : file_at now.files number ≡ file
   file-same = ap (λ (t : FileTree). file_at t.files number) has.loads.same
@@ -224,11 +216,8 @@ module _ {old now : FileTree} {before after : Spaces} {at number count place i e
   pub file-long : {len : ℕ} → len ≡ length file → len ≡ length (file_at now.files number)
   file-long is = is ∙ ap length (sym file-same)
 
-  pub file-stands : IsFile old.files number → IsFile now.files number
-  file-stands is = record { links = is.links; bytes = is.bytes; here = ap (λ (t : FileTree). slot t.files number) has.loads.same ∙ is.here }
-
   pub has-now : has_space after at ≡ true
-  has-now = ap (λ (s : Spaces). has_space s at) has.pages ∙ has-same before at (paged has.loads.loaded.pages) space
+  has-now = has-held before at (paged has.loads.loaded.pages) has.pages space
 
   pub paged-now : IsPaged (view_at after at)
   paged-now = subst IsPaged (sym held-now) refl
@@ -329,7 +318,7 @@ is-program file program some = go (loaded_of file) (header_of (take 64 file) (le
         within = ap (λ (x : FileHeader). is_within x.program_headers (56 * x.count) (length file)) (sym header) ∙ headed-by.within;
       }
 
-module _ {old mid : FileTree} {number : ℕ} {stat : InodeStat} (file : IsFile old.files number) (serves : Serves old mid (Ok stat) (Stats old mid number)) where
+module _ {old mid : FileTree} {number : ℕ} {stat : InodeStat} (file : IsFile old.files number) (serves : Serves old mid (Ok stat) (HasSeen old mid number)) where
   file-kept : file_at mid.files number ≡ file_at old.files number
   file-kept = ap (λ (t : FileTree). file_at t.files number) serves.told.0
 
@@ -342,42 +331,34 @@ module _ {old mid : FileTree} {number : ℕ} {stat : InodeStat} (file : IsFile o
   pub loads-still : {program : Program} → (is : IsProgram (file_at old.files number) program) → load_segments (file_at mid.files number) program.header.count program.header.program_headers nothing_loaded ≡ Some is.loaded
   loads-still {program} is = ap (λ f. load_segments f program.header.count program.header.program_headers nothing_loaded) file-kept ∙ is.loads
 
-  module _ {program : Program} (is : IsProgram (file_at old.files number) program) (s s1 : Spaces) (at : ℕ) (has : has_space s at ≡ true) (cleared : s1 ≡ with_view s at no_pages) (few : program.pages < 2 ^ 32) (room : HasRoom s at (program.pages + 2)) where
-    pub has-cleared : has_space s1 at ≡ true
-    has-cleared = ap (λ (k : Spaces). has_space k at) cleared ∙ has-same s at no_pages has
-
-    pub empty-cleared : view_at s1 at ≡ no_pages
-    empty-cleared = ap (λ (k : Spaces). view_at k at) cleared ∙ held-same s at no_pages (space-within s at has)
-
-    pub last-still : Last s1 at (file_at mid.files number) program.header.count program.header.program_headers
-    last-still = (
+  module _ {program : Program} (is : IsProgram (file_at old.files number) program) (s : Spaces) {s1 : Spaces} (at : ℕ) (cleared : s1 ≡ with_view s at no_pages) where
+    pub last-still : program.pages < 2 ^ 32 → HasRoom s at (program.pages + 2) → Last s1 at (file_at mid.files number) program.header.count program.header.program_headers
+    last-still few room = (
       is.loaded,
       loads-still is,
       subst (λ n. n < 2 ^ 32) (sym is.pages) few,
       subst (λ (k : Spaces). HasRoom k at (length is.loaded.pages)) (sym cleared) (room-with s at (length is.loaded.pages) no_pages (room-less s at (length is.loaded.pages) (program.pages + 2) (omega (arith, is.pages)) room)),
     )
 
-    module _ (s2 : Spaces) (put : s2 ≡ with_view s1 at (paged is.loaded.pages)) where
+    module _ (has : has_space s at ≡ true) {s2 : Spaces} (put : (l : Loaded) → load_segments (file_at mid.files number) program.header.count program.header.program_headers nothing_loaded ≡ Some l → s2 ≡ with_view s1 at (paged l.pages)) where
       all-put : s2 ≡ with_view s at (paged is.loaded.pages)
-      all-put = put ∙ ap (λ (k : Spaces). with_view k at (paged is.loaded.pages)) cleared ∙ held-twice s at no_pages (paged is.loaded.pages)
+      all-put = put is.loaded (loads-still is) ∙ ap (λ (k : Spaces). with_view k at (paged is.loaded.pages)) cleared ∙ held-twice s at no_pages (paged is.loaded.pages)
 
       held-put : view_at s2 at ≡ paged is.loaded.pages
-      held-put = ap (λ (k : Spaces). view_at k at) all-put ∙ held-same s at (paged is.loaded.pages) (space-within s at has)
+      held-put = is-held s at (paged is.loaded.pages) all-put has
 
-      pub has-put : has_space s2 at ≡ true
-      has-put = ap (λ (k : Spaces). has_space k at) all-put ∙ has-same s at (paged is.loaded.pages) has
+      -- a stack may come behind them
+      pub stack-fits : HasRoom s at (program.pages + 2) → (has_space s2 at ≡ true) × IsPaged (view_at s2 at) × HasRoom s2 at (length (view_at s2 at).memory + 2)
+      stack-fits room = (
+        has-held s at (paged is.loaded.pages) all-put has,
+        subst IsPaged (sym held-put) refl,
+        subst (λ (h : SpaceView). HasRoom s2 at (length h.memory + 2)) (sym held-put)
+            (subst (λ (k : Spaces). HasRoom k at (length is.loaded.pages + 2)) (sym all-put)
+            (room-with s at (length is.loaded.pages + 2) (paged is.loaded.pages) (subst (λ n. HasRoom s at (n + 2)) (sym is.pages) room))),
+      )
 
-      pub paged-put : IsPaged (view_at s2 at)
-      paged-put = subst IsPaged (sym held-put) refl
-
-      pub room-put : HasRoom s2 at (length (view_at s2 at).memory + 2)
-      room-put =
-          subst (λ (h : SpaceView). HasRoom s2 at (length h.memory + 2)) (sym held-put)
-          (subst (λ (k : Spaces). HasRoom k at (length is.loaded.pages + 2)) (sym all-put)
-          (room-with s at (length is.loaded.pages + 2) (paged is.loaded.pages) (subst (λ n. HasRoom s at (n + 2)) (sym is.pages) room)))
-
-      pub stack-put : (s3 : Spaces) (page : List ℕ) → s3 ≡ with_view s2 at (paged (stacked (view_at s2 at).memory page)) → (l : Loaded) → loaded_of (file_at old.files number) ≡ Some l → s3 ≡ with_view s at (paged (stacked l.pages page))
-      stack-put s3 page stack l loaded =
+      pub stack-put : {s3 : Spaces} (page : List ℕ) → s3 ≡ with_view s2 at (paged (stacked (view_at s2 at).memory page)) → (l : Loaded) → loaded_of (file_at old.files number) ≡ Some l → s3 ≡ with_view s at (paged (stacked l.pages page))
+      stack-put page stack l loaded =
           let same : is.loaded ≡ l = same_Some is.loaded l (sym is.is ∙ loaded) in
           stack
           ∙ ap (λ (h : SpaceView). with_view s2 at (paged (stacked h.memory page))) held-put

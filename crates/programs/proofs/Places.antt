@@ -1,6 +1,6 @@
 -- The pages of a place, as a program comes into them.
 use Rattle.std.proofs.Common.{ap, append-nil, append_assoc, arith, drop, get_or-set_same, None, Ok, Option, Some, List, slice_set, length, length-append, refl, replicate, subst, sym, take, ℕ, zero, suc, ◌%◌, ◌*◌, ◌++◌, ◌+◌, ◌-◌, ◌/◌, ◌<◌, ◌∙◌, ◌≡◌, ◌≤◌, ◌∷◌, [], Bool, true, false}
-use Rattle.std.specs.Prelude.{Err, OnErr, OnOk, Result, unwrap_or, if◌then◌else◌, is_some}
+use Rattle.std.specs.Prelude.{Err, OnErr, OnOk, Result, if◌then◌else◌, is_some}
 use Rattle.std.proofs.lemmas.Bool.{lt-ltb}
 use Rattle.std.proofs.lemmas.Bool.Decides.{nat_tests}
 use Rattle.std.proofs.Math.Nat.{zero-add}
@@ -14,10 +14,10 @@ use Rattle.programs.specs.Passed.{stacked}
 use Rattle.programs.proofs.Stacks.{write-stack}
 use Rattle.programs.specs.Headed.{file_at}
 use Rattle.programs.specs.Placed.{Follows, HasRoom, IsPaged, Leaves, paged}
-use Rattle.spaces.specs.Spaces.{SpaceView, Spaces, frames_in, has_space, view_at, no_pages, taken_frames, with_view, written}
+use Rattle.spaces.specs.Spaces.{SpaceView, Spaces, frames_in, has_space, view_at, taken_frames, with_view, written}
 use Rattle.spaces.proofs.SpacesLemmas.{held-same, taken-placed, within}
 use Rattle.transfers.specs.Moved.{with_bytes}
-use Rattle.transfers.proofs.Pieces.{none-written, with-more}
+use Rattle.transfers.proofs.Pieces.{held-there, none-written, space-within, with-more}
 use Rattle.tree.specs.Tree.{FileTree, Serves}
 use Rattle.unixmodel.specs.Counts.{page_frames}
 use Rattle.unixmodel.specs.Files.{slot}
@@ -28,7 +28,7 @@ use Rattle.vm.specs.Reach.{IsSized}
 
 -- ---- frames
 
-suc-frames : (n : ℕ) → page_frames (suc n) ≡ suc n + ceil_div (suc n) 512 + 1
+pub suc-frames : (n : ℕ) → page_frames (suc n) ≡ suc n + ceil_div (suc n) 512 + 1
 suc-frames n = ap (λ (b : Bool). suc n + ceil_div (suc n) 512 + (if b then 1 else 0)) (lt-ltb 0 (suc n) (omega arith))
 
 pub page_frames-more : (a b : ℕ) → a ≤ b → page_frames a ≤ page_frames b
@@ -44,13 +44,6 @@ room-less s at a b less room = omega (arith, room, page_frames-more a b less)
 pub room-with : (s : Spaces) (at n : ℕ) (h : SpaceView) → HasRoom s at n → HasRoom (with_view s at h) at n
 room-with s at n h room =
     subst (λ (ps : List (Option SpaceView)). taken_frames (record s { places = ps }) + 4 + page_frames n ≤ s.frames) (sym (set-set s.places at (Some h) None)) room
-
-stands-within : (s : Spaces) (at : ℕ) (o : Option SpaceView) → slot s.places at ≡ o → is_some o ≡ true → at < length s.places
-stands-within s at None e some = absurd (cc)
-stands-within s at (Some h) e some = within s.places at h e
-
-pub space-within : (s : Spaces) (at : ℕ) → has_space s at ≡ true → at < length s.places
-space-within s at has = stands-within s at (slot s.places at) refl has
 
 -- ---- bytes of a file
 
@@ -136,20 +129,20 @@ write-behind xs ys bytes =
     let back : drop (length xs) (xs ++ ys) ≡ ys = drop_at xs ys (length xs) refl in
     rw (page, from, front, back) refl
 
-first-page : (bytes : List ℕ) → overwrite (zeros 4096) 0 (take 4096 bytes) ≡ take 4096 bytes ++ zeros (4096 - length bytes)
+pub first-page : (bytes : List ℕ) → overwrite (zeros 4096) 0 (take 4096 bytes) ≡ take 4096 bytes ++ zeros (4096 - length bytes)
 unfolding zeros
 first-page bytes =
     let short : 4096 - length (take 4096 bytes) ≡ 4096 - length bytes = omega (arith, length-take 4096 bytes) in
     ap (λ n. take 4096 bytes ++ drop n (zeros 4096)) (zero-add (length (take 4096 bytes)))
     ∙ ap (λ rest. take 4096 bytes ++ rest) (drop-replicate (length (take 4096 bytes)) 4096 0 ∙ ap zeros short)
 
-empty-pages : (marks : Marks) (n : ℕ) → replicate n (zero_page marks) ≡ pages_of marks n []
+pub empty-pages : (marks : Marks) (n : ℕ) → replicate n (zero_page marks) ≡ pages_of marks n []
 unfolding pages_of
 empty-pages marks zero = refl
 empty-pages marks (suc n) = ap (λ ps. zero_page marks ∷ ps) (empty-pages marks n)
 
 -- bytes written over pages of zeros
-filled-from : (marks : Marks) (n : ℕ) (bytes : List ℕ) → write_from (replicate n (zero_page marks)) 0 bytes ≡ pages_of marks n bytes
+pub filled-from : (marks : Marks) (n : ℕ) (bytes : List ℕ) → write_from (replicate n (zero_page marks)) 0 bytes ≡ pages_of marks n bytes
 unfolding pages_of
 filled-from marks zero bytes = refl
 filled-from marks (suc n) [] = empty-pages marks (suc n)
@@ -158,7 +151,7 @@ filled-from marks (suc n) (b ∷ bs) =
     ap (λ front. let p : Page = record { bytes = front; marks = marks } in p ∷ write_from (replicate n (zero_page marks)) 0 (drop 4096 (b ∷ bs))) (first-page (b ∷ bs))
     ∙ ap (λ ps. page ∷ ps) (filled-from marks n (drop 4096 (b ∷ bs)))
 
-filled : (marks : Marks) (n : ℕ) (bytes : List ℕ) → write_bytes (replicate n (zero_page marks)) 0 bytes ≡ pages_of marks n bytes
+pub filled : (marks : Marks) (n : ℕ) (bytes : List ℕ) → write_bytes (replicate n (zero_page marks)) 0 bytes ≡ pages_of marks n bytes
 unfolding write_bytes
 filled marks n bytes = filled-from marks n bytes
 
@@ -198,22 +191,18 @@ is-held s at h put has = ap (λ (k : Spaces). view_at k at) put ∙ held-same s 
 pub held-twice : (s : Spaces) (at : ℕ) (a b : SpaceView) → with_view (with_view s at a) at b ≡ with_view s at b
 held-twice s at a b = ap (λ (ps : List (Option SpaceView)). record s { places = ps }) (set-set s.places at (Some a) (Some b))
 
-some-held : (o : Option SpaceView) → is_some o ≡ true → o ≡ Some (unwrap_or o no_pages)
-some-held None some = absurd (cc)
-some-held (Some h) some = refl
-
 -- beside what the place holds, which goes then
 pub room-beside : (s : Spaces) (at n : ℕ) → has_space s at ≡ true → taken_frames s + 3 + page_frames n ≤ s.frames → HasRoom s at n
 room-beside s at n has enough =
     let placed = taken-placed s at None (space-within s at has) in
-    let four : frames_in (slot s.places at) ≡ 4 + page_frames (length (view_at s at).memory) = ap frames_in (some-held (slot s.places at) has) in
+    let four : frames_in (slot s.places at) ≡ 4 + page_frames (length (view_at s at).memory) = ap frames_in (sym (held-there s at has)) in
     omega (arith, enough, placed, four)
 
 -- a place that has what it had
 pub self-held : (s : Spaces) (at : ℕ) → has_space s at ≡ true → s ≡ with_view s at (view_at s at)
 self-held s at has =
     ap (λ (ps : List (Option SpaceView)). record s { places = ps })
-    (sym (ap (λ (o : Option SpaceView). slice_set s.places at o) (sym (some-held (slot s.places at) has)) ∙ set-get_or s.places at None))
+    (sym (ap (λ (o : Option SpaceView). slice_set s.places at o) (held-there s at has) ∙ set-get_or s.places at None))
 
 -- bytes that are written into pages
 pub with-written : (s : Spaces) (at : ℕ) (m : Memory) (address : ℕ) (bytes : List ℕ) → has_space s at ≡ true → with_bytes (with_view s at (paged m)) at address bytes ≡ with_view s at (paged (write_bytes m address bytes))
@@ -222,15 +211,14 @@ with-written s at m address bytes has =
     ∙ held-twice s at (paged m) (written (paged m) address bytes)
     ∙ ap (λ n. with_view s at (let h : SpaceView = record { memory = write_bytes m address bytes; size = 4096 * n } in h)) (sym (length-write m address bytes))
 
+-- some space is left, in two steps
+pub left-held : {s1 s2 : Spaces} (s : Spaces) (at : ℕ) (h : SpaceView) → s1 ≡ with_view s at h → (x : SpaceView) × (s2 ≡ with_view s1 at x) → (x : SpaceView) × (s2 ≡ with_view s at x)
+left-held s at h before left = (left.0, left.1 ∙ ap (λ (k : Spaces). with_view k at left.0) before ∙ held-twice s at h left.0)
+
 -- a failure leaves some space
 pub still-held : {A : Type 0} (s s1 s2 : Spaces) (at : ℕ) (h : SpaceView) (r : Result A DeviceFault) → s1 ≡ with_view s at h → OnErr r ((x : SpaceView) × (s2 ≡ with_view s1 at x)) → OnErr r ((x : SpaceView) × (s2 ≡ with_view s at x))
 still-held s s1 s2 at h (Ok done) before failed = tt
-still-held s s1 s2 at h (Err fault) before failed = (failed.0, failed.1 ∙ ap (λ (k : Spaces). with_view k at failed.0) before ∙ held-twice s at h failed.0)
-
--- in two steps
-pub failed-held : {A : Type 0} (s s1 s2 : Spaces) (at : ℕ) (h : SpaceView) (r : Result A DeviceFault) → s1 ≡ with_view s at h → (x : SpaceView) × (s2 ≡ with_view s1 at x) → OnErr r ((x : SpaceView) × (s2 ≡ with_view s at x))
-failed-held s s1 s2 at h (Ok done) before failed = tt
-failed-held s s1 s2 at h (Err fault) before failed = (failed.0, failed.1 ∙ ap (λ (k : Spaces). with_view k at failed.0) before ∙ held-twice s at h failed.0)
+still-held s s1 s2 at h (Err fault) before failed = left-held s at h before failed
 
 pub held-still : {A : Type 0} (s : Spaces) (at : ℕ) (r : Result A DeviceFault) → has_space s at ≡ true → OnErr r ((x : SpaceView) × (s ≡ with_view s at x))
 held-still s at (Ok done) has = tt

@@ -1,16 +1,20 @@
 -- The exits of functions that read a file in steps.
-use Rattle.std.proofs.Common.{Err, Ok, Result, ap, arith, false, le_trans, subst, sym, ℕ, ◌∙◌, ◌≡◌, ◌≤◌}
+use Rattle.std.proofs.Common.{Err, IsErrAnd, Ok, Result, ap, arith, false, le_trans, subst, sym, ℕ, ◌∙◌, ◌≡◌, ◌≤◌}
 use Rattle.std.specs.Prelude.{IfOk, OnErr, OnOk}
-use Rattle.std.proofs.lemmas.Bool.{false≢true}
+use Rattle.std.proofs.lemmas.Result.{err_from_is_err_and}
 use Rattle.blockdev.specs.declared.DeviceFault.{DeviceFault}
 use Rattle.programs.specs.Placed.{Leaves}
+pub use Rattle.transfers.proofs.Fits.{serves-told}
 use Rattle.tree.specs.Tree.{FileTree, Serves}
 use Rattle.tree.specs.Written.{IsFile}
 use Rattle.unixmodel.specs.Files.{Files}
 
--- ---- a result that is an error
+-- ---- the exit of a `?`
 
-module _ {B : Type 0} (r : Result B DeviceFault) (fault : DeviceFault) (is : r ≡ Err fault) where
+module _ {B : Type 0} (r : Result B DeviceFault) (Q : DeviceFault → Type 0) (exit : IsErrAnd r Q) where
+  is : r ≡ Err (err_from_is_err_and r exit).0
+  is = (err_from_is_err_and r exit).1
+
   pub err-told : (P : B → Type 0) → IfOk r P
   err-told P = subst (λ (x : Result B DeviceFault). IfOk x P) (sym is) tt
 
@@ -21,21 +25,19 @@ module _ {B : Type 0} (r : Result B DeviceFault) (fault : DeviceFault) (is : r �
   err-left P p = subst (λ (x : Result B DeviceFault). OnErr x P) (sym is) p
 
   -- the first step failed, or a later one
-  pub lost-first : {A : Type 0} {old new : FileTree} {given : DeviceFault} {Told : A → Type 0} (P : B → Type 0) → Serves old new (Err given) Told → Serves old new r P
-  lost-first {old = old} {new = new} P serves =
-      subst (λ (x : Result B DeviceFault). Serves old new x P) (sym is)
-      (record { told = tt; up = tt; down = serves.down; cause = record { later = serves.cause.later; failed = λ e. serves.cause.failed e } })
-
   pub lost-later : {A : Type 0} {old mid new : FileTree} {given : DeviceFault} {Told : A → Type 0} (P : B → Type 0) → old.failures ≤ mid.failures → Serves mid new (Err given) Told → Serves old new r P
   lost-later {old = old} {mid = mid} {new = new} P first serves =
       let after = serves.cause.later in
       subst (λ (x : Result B DeviceFault). Serves old new x P) (sym is)
       (record { told = tt; up = tt; down = serves.down; cause = record { later = le_trans first after; failed = λ e. let rises = serves.cause.failed e in omega (arith, rises, first) } })
 
+  pub lost-first : {A : Type 0} {old new : FileTree} {given : DeviceFault} {Told : A → Type 0} (P : B → Type 0) → Serves old new (Err given) Told → Serves old new r P
+  lost-first P serves = lost-later P (omega arith) serves
+
 -- ---- a value that is told
 
 pub kept-on : {B : Type 0} {old new : FileTree} (y : B) → new ≡ record old { failures = new.failures } → new.failed ≡ false → old.failures ≤ new.failures → Serves old new (Ok y) (Leaves old new)
-kept-on y same up later = record { told = same; up = up; down = tt; cause = record { later = later; failed = λ e. absurd (false≢true e) } }
+kept-on y same up later = serves-told y same up later
 
 pub kept-first : {A B : Type 0} {old new : FileTree} {x : A} {Told : A → Type 0} (y : B) → new ≡ record old { failures = new.failures } → Serves old new (Ok x) Told → Serves old new (Ok y) (Leaves old new)
 kept-first y same serves = kept-on y same serves.up serves.cause.later

@@ -1,14 +1,13 @@
 -- One string as the only argument.
-use Rattle.std.proofs.Common.{ap, arith, length, length-append, refl, subst, take, ℕ, ◌*◌, ◌++◌, ◌+◌, ◌-◌, ◌<◌, ◌∙◌, ◌≡◌, ◌≤◌, ◌∷◌, [], true, List, None, Option, Some}
+use Rattle.std.proofs.Common.{ap, arith, length, length-append, refl, subst, take, ℕ, ◌*◌, ◌++◌, ◌+◌, ◌<◌, ◌∙◌, ◌≡◌, ◌≤◌, ◌∷◌, [], List, None, Option}
 use Rattle.std.specs.List.{flat_map}
-use Rattle.std.specs.Prelude.{if◌then◌else◌, nat_le, option_map}
-use Rattle.std.proofs.lemmas.Bool.{le-leb}
+use Rattle.std.specs.Prelude.{option_map}
 use Rattle.programs.specs.declared.arguments.Arguments.{Arguments}
-use Rattle.programs.specs.Passed.{Finishes, HasPushed, PassesOne, plan_with, stacked}
-use Rattle.programs.proofs.Stacks.{pointers-low, push-under, pushed, refused-under, spelled-all, spelled-more, stack_with}
+use Rattle.programs.specs.Passed.{Finishes, HasPushed, PassesOne, plan_with}
+use Rattle.programs.proofs.Stacks.{finishes, pointers-low, push-under, pushed, refused-under, spelled-all, spelled-more, stack_with}
 use Rattle.unixmodel.specs.Memory.{Memory, overwrite, zeros}
 use Rattle.unixmodel.specs.Numbers.{le}
-use Rattle.unixmodel.specs.Plan.{Plan, finished, push, push_pointers, push_strings, with_args, with_stack}
+use Rattle.unixmodel.specs.Plan.{finished, push, push_pointers, push_strings, with_args, with_stack}
 
 module _ (pages : Memory) (pc : ℕ) (string : List ℕ) where
   abbrev bytes : List ℕ
@@ -46,23 +45,10 @@ module _ (pages : Memory) (pc : ℕ) (string : List ℕ) where
         ∙ ap (take 16) (spelled-more [] 0 (4096 * (length pages + 1) + top) refl (omega arith))
         ∙ spelled-all ((4096 * (length pages + 1) + top) ∷ []) 1 refl (omega arith)
 
-    long : 0 < length (flat_map (le 8) ((4096 * (length pages + 1) + top) ∷ []) ++ le 8 0)
-    long = omega (arith, length-append (flat_map (le 8) ((4096 * (length pages + 1) + top) ∷ [])) (le 8 0))
-
-    finishes : (r : Option Arguments) → Finishes page top (take 16 (overwrite (zeros 256) 0 (le 8 (base + top)))) 1 base r → with_args pages pc (string ∷ []) ≡ option_map (plan_with pages pc) r
-    finishes None over =
-        behind ∙ refused-under pages pc 1 (push (stack_with pages page top ((4096 * (length pages + 1) + top) ∷ [])) (flat_map (le 8) ((4096 * (length pages + 1) + top) ∷ []) ++ le 8 0))
-        (push-under pages page top ((4096 * (length pages + 1) + top) ∷ []) (flat_map (le 8) ((4096 * (length pages + 1) + top) ∷ []) ++ le 8 0) (omega (arith, over, ap length spelled)))
-    finishes (Some a) made =
-        let put : HasPushed page a.page top (flat_map (le 8) ((4096 * (length pages + 1) + top) ∷ []) ++ le 8 0) made.0 = subst (λ l. HasPushed page a.page top l made.0) spelled made.1 in
-        let yes : nat_le (4096 * (length pages + 2) - 4096) (4096 * (length pages + 1) + made.0) ≡ true = le-leb _ _ (omega arith) in
-        let sp : 4096 * (length pages + 1) + made.0 ≡ a.sp = omega (arith, made.2, is) in
-        let n : 1 ≡ a.count = omega (arith, made.3) in
-        behind
-        ∙ ap (finished (4096 * (length pages + 2)) pc 1) (pushed pages page a.page top ((4096 * (length pages + 1) + top) ∷ []) (flat_map (le 8) ((4096 * (length pages + 1) + top) ∷ []) ++ le 8 0) made.0 inside long put)
-        ∙ ap (λ b. if b then Some (record { memory = stacked pages a.page; size = 4096 * (length pages + 2); pc = pc; argc = 1; sp = 4096 * (length pages + 1) + made.0 }) else None) yes
-        ∙ ap (λ k. Some (let p : Plan = record { memory = stacked pages a.page; size = 4096 * (length pages + 2); pc = pc; argc = k; sp = 4096 * (length pages + 1) + made.0 } in p)) n
-        ∙ ap (λ k. Some (let p : Plan = record { memory = stacked pages a.page; size = 4096 * (length pages + 2); pc = pc; argc = a.count; sp = k } in p)) sp
+    passed : (r : Option Arguments) → Finishes page top (take 16 (overwrite (zeros 256) 0 (le 8 (base + top)))) 1 base r → with_args pages pc (string ∷ []) ≡ option_map (plan_with pages pc) r
+    passed r made =
+        let pointers = (4096 * (length pages + 1) + top) ∷ [] in
+        behind ∙ finishes pages pc page top pointers (flat_map (le 8) pointers ++ le 8 0) inside (omega (arith, length-append (flat_map (le 8) pointers) (le 8 0))) spelled refl is r made
 
 -- bytes for which there is no room
 pub one-refused : (bytes : List ℕ) (count : ℕ) → 4096 < length bytes → PassesOne bytes count None
@@ -74,4 +60,4 @@ pub one-passed : (bytes page spelled clear none : List ℕ) (top count base : �
 one-passed bytes page spelled clear none top count base r whole empty has put at made string is pages pc e =
     let pushed-here : HasPushed (zeros 4096) page 4096 (string ++ 0 ∷ []) top = subst (λ l. HasPushed l page 4096 (string ++ 0 ∷ []) top) whole (subst (λ l. HasPushed clear page 4096 l top) is has) in
     let spelled-here : spelled ≡ overwrite (zeros 256) 0 (le 8 (base + top)) = put ∙ ap (λ l. overwrite l 0 (le 8 (base + top))) empty in
-    finishes pages pc string page top base pushed-here (omega (arith, at, e)) r (subst (λ l. Finishes page top (take 16 l) 1 base r) spelled-here made)
+    passed pages pc string page top base pushed-here (omega (arith, at, e)) r (subst (λ l. Finishes page top (take 16 l) 1 base r) spelled-here made)

@@ -90,6 +90,21 @@ refused-under pages pc argc s under =
     let no : nat_le (4096 * (length pages + 2) - 4096) s.sp ≡ false = lt-leb _ _ (omega (arith, under)) in
     rw no refl
 
+-- what is pushed last stands, or finds no room
+pub finishes : (pages : Memory) (pc : ℕ) (page : List ℕ) (top : ℕ) (pointers bytes : List ℕ) {spelled : List ℕ} {n count base : ℕ} → top ≤ 4096 → 0 < length bytes → spelled ≡ bytes → n ≡ count → base ≡ 4096 * (length pages + 1)
+    → (r : Option Arguments) → Finishes page top spelled count base r → finished (4096 * (length pages + 2)) pc n (push (stack_with pages page top pointers) bytes) ≡ option_map (plan_with pages pc) r
+finishes pages pc page top pointers bytes {n = n} inside some same number is None over =
+    refused-under pages pc n (push (stack_with pages page top pointers) bytes) (push-under pages page top pointers bytes (omega (arith, over, ap length same)))
+finishes pages pc page top pointers bytes {n = n} inside some same number is (Some a) made =
+    let put : HasPushed page a.page top bytes made.0 = subst (λ l. HasPushed page a.page top l made.0) same made.1 in
+    let yes : nat_le (4096 * (length pages + 2) - 4096) (4096 * (length pages + 1) + made.0) ≡ true = le-leb _ _ (omega arith) in
+    let sp : 4096 * (length pages + 1) + made.0 ≡ a.sp = omega (arith, made.2, is) in
+    let argc : n ≡ a.count = omega (arith, made.3, number) in
+    ap (finished (4096 * (length pages + 2)) pc n) (pushed pages page a.page top pointers bytes made.0 inside some put)
+    ∙ ap (λ b. if b then Some (record { memory = stacked pages a.page; size = 4096 * (length pages + 2); pc = pc; argc = n; sp = 4096 * (length pages + 1) + made.0 }) else None) yes
+    ∙ ap (λ k. Some (let p : Plan = record { memory = stacked pages a.page; size = 4096 * (length pages + 2); pc = pc; argc = k; sp = 4096 * (length pages + 1) + made.0 } in p)) argc
+    ∙ ap (λ k. Some (let p : Plan = record { memory = stacked pages a.page; size = 4096 * (length pages + 2); pc = pc; argc = a.count; sp = k } in p)) sp
+
 -- ---- the words and the strings that are left
 
 -- what is made of the rest of the arguments
@@ -247,30 +262,11 @@ module _ {mem : Memory} {argv count i top : ℕ} {page spelled : List ℕ} (size
   -- the 0 word
   pub ended : {w : ℕ} → told ≡ Some w → w ≡ 0 → (base : ℕ) → base ≡ 4096 * (count + 1) → (r : Option Arguments) → Finishes page top (take (8 * i + 8) spelled) i base r → Passes mem argv count r
   unfolding push_strings push_pointers
-  ended some null base is r finishes pages pc e = go r finishes where
-    done : option_and_then (with_args pages pc) (args_at mem argv) ≡ finished (4096 * (length pages + 2)) pc (i + 0) (push (stack_with pages page top has.pointers) (flat_map (le 8) has.pointers ++ le 8 0))
-    done = rest-is pages pc e (word-zero mem (32 - (i + 1)) rest (is-word rest 0 (sym word-is ∙ some ∙ ap Some null)))
-
-    bytes : take (8 * i + 8) spelled ≡ flat_map (le 8) has.pointers ++ le 8 0
-    bytes = ap (take (8 * i + 8)) has.spells ∙ spelled-all has.pointers i has.few more
-
-    long : 0 < length (flat_map (le 8) has.pointers ++ le 8 0)
-    long = omega (arith, length-append (flat_map (le 8) has.pointers) (le 8 0))
-
-    go : (r : Option Arguments) → Finishes page top (take (8 * i + 8) spelled) i base r → option_and_then (with_args pages pc) (args_at mem argv) ≡ option_map (plan_with pages pc) r
-    go None over =
-        done ∙ refused-under pages pc (i + 0) (push (stack_with pages page top has.pointers) (flat_map (le 8) has.pointers ++ le 8 0))
-        (push-under pages page top has.pointers (flat_map (le 8) has.pointers ++ le 8 0) (omega (arith, over, ap length bytes)))
-    go (Some a) made =
-        let put : HasPushed page a.page top (flat_map (le 8) has.pointers ++ le 8 0) made.0 = subst (λ l. HasPushed page a.page top l made.0) bytes made.1 in
-        let yes : nat_le (4096 * (length pages + 2) - 4096) (4096 * (length pages + 1) + made.0) ≡ true = le-leb _ _ (omega arith) in
-        let sp : 4096 * (length pages + 1) + made.0 ≡ a.sp = omega (arith, made.2, is, e) in
-        let n : i + 0 ≡ a.count = omega (arith, made.3) in
-        done
-        ∙ ap (finished (4096 * (length pages + 2)) pc (i + 0)) (pushed pages page a.page top has.pointers (flat_map (le 8) has.pointers ++ le 8 0) made.0 has.inside long put)
-        ∙ ap (λ b. if b then Some (record { memory = stacked pages a.page; size = 4096 * (length pages + 2); pc = pc; argc = i + 0; sp = 4096 * (length pages + 1) + made.0 }) else None) yes
-        ∙ ap (λ k. Some (let p : Plan = record { memory = stacked pages a.page; size = 4096 * (length pages + 2); pc = pc; argc = k; sp = 4096 * (length pages + 1) + made.0 } in p)) n
-        ∙ ap (λ k. Some (let p : Plan = record { memory = stacked pages a.page; size = 4096 * (length pages + 2); pc = pc; argc = a.count; sp = k } in p)) sp
+  ended some null base is r made pages pc e =
+      let bytes = flat_map (le 8) has.pointers ++ le 8 0 in
+      let spells : take (8 * i + 8) spelled ≡ bytes = ap (take (8 * i + 8)) has.spells ∙ spelled-all has.pointers i has.few more in
+      rest-is pages pc e (word-zero mem (32 - (i + 1)) rest (is-word rest 0 (sym word-is ∙ some ∙ ap Some null)))
+      ∙ finishes pages pc page top has.pointers bytes has.inside (omega (arith, length-append (flat_map (le 8) has.pointers) (le 8 0))) spells (omega arith) (omega (arith, is, e)) r made
 
   module _ {w : ℕ} (some : told ≡ Some w) (other : w ≢ 0) where
     here : IsWord rest w

@@ -2,7 +2,7 @@
 use Rattle.std.proofs.Common.{◌≡◌, ℕ, zero, suc, ◌+◌, ◌-◌, ◌<◌, ◌≤◌, ◌^◌, ◌⊎◌, inl, inr, Bool, false, true, List, [], ◌++◌, length, take, drop, min, None, Ok, Option, Some, is_some, unwrap_or, slice_set, refl, ap, subst, sym, ◌∙◌, arith}
 use Rattle.std.specs.Prelude.{nat_le, ◌&&◌}
 use Rattle.std.proofs.Math.Seq.{take-append-add}
-use Rattle.std.proofs.lemmas.Bool.{and_from, and_left, and_right, cases_eq, cases_lt, cond-false, cond-true, le-leb, leb-false, lt-leb}
+use Rattle.std.proofs.lemmas.Bool.{and_from, and_left, and_right, cases_Bool, cases_eq, cases_lt, cond-false, cond-true, false≢true, le-leb, leb-false, lt-leb}
 use Rattle.std.proofs.lemmas.List.{get_or-set_same, length-append, length-drop, length-take, length-take-le, set-get_or, set-set, take-take, take_min}
 use Rattle.std.proofs.lemmas.Option.{none-some}
 use Rattle.transfers.proofs.Memory.{overwrite-none, overwrite-twice, readable-count}
@@ -21,10 +21,6 @@ use Rattle.vm.proofs.ReachLemmas.{reach-next, reach-page}
 
 -- ---- the greatest number that passes
 
-either : (b : Bool) → (b ≡ true) ⊎ (b ≡ false)
-either true = inl refl
-either false = inr refl
-
 module _ (test : ℕ → Bool) where
   here-is : (n : ℕ) → test (suc n) ≡ true → greatest test (suc n) ≡ suc n
   here-is n e = ap (λ (b : Bool). elim b [ true ↦ suc n | false ↦ greatest test n ]) e
@@ -34,21 +30,21 @@ module _ (test : ℕ → Bool) where
 
   pub greatest-low : (n : ℕ) → greatest test n ≤ n
   greatest-low zero = omega arith
-  greatest-low (suc n) = elim (either (test (suc n))) [
+  greatest-low (suc n) = elim (cases_Bool (test (suc n))) [
     | inl e ↦ omega (arith, here-is n e)
     | inr e ↦ omega (arith, below-is n e, greatest-low n)
   ]
 
   greatest-passes : (n : ℕ) → (greatest test n ≡ 0) ⊎ (test (greatest test n) ≡ true)
   greatest-passes zero = inl refl
-  greatest-passes (suc n) = elim (either (test (suc n))) [
+  greatest-passes (suc n) = elim (cases_Bool (test (suc n))) [
     | inl e ↦ inr (ap test (here-is n e) ∙ e)
     | inr e ↦ subst (λ k. (k ≡ 0) ⊎ (test k ≡ true)) (sym (below-is n e)) (greatest-passes n)
   ]
 
   greatest-above : (n j : ℕ) → greatest test n < j → j ≤ n → test j ≡ false
   greatest-above zero j above low = absurd (omega (arith, above, low))
-  greatest-above (suc n) j above low = elim (either (test (suc n))) [
+  greatest-above (suc n) j above low = elim (cases_Bool (test (suc n))) [
     | inl e ↦ absurd (omega (arith, here-is n e, above, low))
     | inr e ↦ elim (cases_eq j (suc n)) [
       | inl same ↦ ap test same ∙ e
@@ -363,10 +359,5 @@ module _ (mem : Memory) (address count : ℕ) (readable : is_some (read_bytes me
 
 -- ---- what is answered
 
-pub serves-told : {old now : FileTree} (n at : ℕ) (new : List ℕ) {told : Option ℕ} → Tells old now n at new told → now.failed ≡ false → old.failures ≤ now.failures → Serves old now (Ok told) (λ o. Tells old now n at new o)
-serves-told n at new tells up later = record {
-  told = tells;
-  up = up;
-  down = tt;
-  cause = record { later = later; failed = λ e. absurd (let bad : false ≡ true = e in cc) };
-}
+pub serves-told : {T : Type 0} {old now : FileTree} {Told : T → Type 0} (x : T) → Told x → now.failed ≡ false → old.failures ≤ now.failures → Serves old now (Ok x) Told
+serves-told x told up later = record { told = told; up = up; down = tt; cause = record { later = later; failed = λ e. absurd (false≢true e) } }

@@ -1,9 +1,8 @@
 -- Bytes of a node that are read in pieces.
-use Rattle.std.proofs.Common.{◌≡◌, ℕ, ◌+◌, ◌-◌, ◌<◌, ◌≤◌, ◌^◌, Bool, false, true, List, [], ◌++◌, length, take, drop, min, None, Option, Some, is_some, unwrap_or, slice_set, refl, ap, subst, sym, ◌∙◌, arith}
-use Rattle.std.specs.Bool.{OnTrue}
+use Rattle.std.proofs.Common.{◌≡◌, ℕ, ◌+◌, ◌-◌, ◌<◌, ◌≤◌, ◌^◌, true, List, [], ◌++◌, length, take, drop, min, None, Option, Some, is_some, unwrap_or, slice_set, refl, ap, subst, sym, ◌∙◌, arith}
 use Rattle.std.proofs.Math.Seq.{take-add}
-use Rattle.std.proofs.lemmas.Bool.{le-leb, leb-true}
-use Rattle.std.proofs.lemmas.List.{drop-drop, length-append, length-drop, length-take, length-take-le, get_or-set_same, set-get_or, set-set, take_at, take_min}
+use Rattle.std.proofs.lemmas.Bool.{leb-true}
+use Rattle.std.proofs.lemmas.List.{drop-drop, length-append, length-drop, length-take, length-take-le, get_or-set_same, set-get_or, set-set, take_min}
 use Rattle.blockdev.specs.Splice.{part}
 use Rattle.spaces.specs.Spaces.{SpaceView, Spaces, has_space, view_at, no_pages, with_view, written}
 use Rattle.spaces.proofs.SpacesLemmas.{held-same, within}
@@ -30,40 +29,16 @@ module _ (files : Files) (number offset : ℕ) (node : Node) (here : slot files 
   pub piece-fits : k ≤ length new
   piece-fits = omega (arith, ap length bytes, length-append (take k all) (drop k old), piece-length)
 
-  pub piece-bytes : take k new ≡ bytes_read files number offset (length old)
-  piece-bytes =
-      let most : k ≡ min (length old) (length all) = omega (arith, count, length-drop offset (node_bytes node)) in
-      ap (take k) bytes
-      ∙ take_at (take k all) (drop k old) k piece-length
-      ∙ ap (λ n. take n all) most
-      ∙ take_min (length old) all
-      ∙ ap (λ (o : Option Node). take (length old) (drop offset (bytes_of o))) (sym here)
-
-  pub piece-count : k ≡ length (bytes_read files number offset (length old))
-  piece-count = let low = piece-fits in omega (arith, ap length piece-bytes, length-take-le k new low)
-
--- fewer bytes may be written too
-pub writes-fewer : (mem : Memory) (at l c : ℕ) → can_write mem at c ≡ true → l ≤ c → can_write mem at l ≡ true
-writes-fewer mem at l c can less = le-leb l (length (reach Store mem at)) (omega (arith, less, leb-true c (length (reach Store mem at)) can))
-
--- what may be written is
-pub is-written : (b can : Bool) (P : Type 0) → b ≡ can → can ≡ true → OnTrue b P → P
-is-written true can P same is done = done
-is-written false can P same is done = absurd (cc)
-
 -- ---- the spaces
 
-space-within : (s : Spaces) (at : ℕ) → has_space s at ≡ true → at < length s.places
-space-within s at has = go (slot s.places at) refl has where
-  go : (o : Option SpaceView) → slot s.places at ≡ o → is_some o ≡ true → at < length s.places
-  go None e some = absurd (cc)
-  go (Some h) e some = within s.places at h e
-
-held-there : (s : Spaces) (at : ℕ) → has_space s at ≡ true → Some (view_at s at) ≡ slot s.places at
+pub held-there : (s : Spaces) (at : ℕ) → has_space s at ≡ true → Some (view_at s at) ≡ slot s.places at
 held-there s at has = go (slot s.places at) has where
   go : (o : Option SpaceView) → is_some o ≡ true → Some (unwrap_or o no_pages) ≡ o
   go None some = absurd (cc)
   go (Some h) some = refl
+
+pub space-within : (s : Spaces) (at : ℕ) → has_space s at ≡ true → at < length s.places
+space-within s at has = within s.places at (view_at s at) (sym (held-there s at has))
 
 module _ (s : Spaces) (at address : ℕ) (has : has_space s at ≡ true) where
   -- nothing is written

@@ -1,14 +1,11 @@
 use Rattle.std.proofs.Common.{Ok, ap, sym, ◌∙◌}
-use Rattle.std.proofs.lemmas.Result.{err_from_is_err_and}
 use Rattle.programs.proofs.Headings.{end-told}
 use Rattle.programs.proofs.Serving.{lost-first}
 use Rattle.programs.specs.Headed.{end_by, file_at}
 use Rattle.programs.proofs.headers.read_end.Goals as goal
 
 pub returns-in_err-read_segment : goal.returns-in_err-read_segment
-returns-in_err-read_segment g c =
-    let p = err_from_is_err_and c.from_residual.result c.from_residual.ensures.1 in
-    lost-first c.from_residual.result p.0 p.1 _ c.in_err-read_segment.ensures
+returns-in_err-read_segment g c = lost-first c.from_residual.result _ c.from_residual.ensures.1 _ c.in_err-read_segment.ensures
 
 pub returns-in-Err : goal.returns-in-Err
 returns-in-Err g c = end-told (file_at c.args.tree.now.files c.args.number) c.args.at c.args.end _ c.in_ok-read_segment.ensures (sym (ap (end_by c.args.end) c.in-Err.is))

@@ -1,5 +1,4 @@
 use Rattle.std.proofs.Common.{ap, arith, length, sym, ◌∙◌}
-use Rattle.std.proofs.lemmas.Result.{err_from_is_err_and}
 use Rattle.programs.proofs.Serving.{file-kept-on, lost-first, lost-later}
 use Rattle.programs.specs.Headed.{file_at}
 use Rattle.tree.specs.Tree.{FileTree}
@@ -16,23 +15,15 @@ pub returns : goal.returns
 returns g c = program-told c.args.number c.in_ok-header.ensures c.in-Some.is c.in_ok-end.ensures c.in-Some-2.end _ c.in-Some-2.is (omega arith) (omega (arith, c.div_ceil-pages.ensures))
 
 pub returns-in_err-header : goal.returns-in_err-header
-returns-in_err-header g c =
-    let p = err_from_is_err_and c.from_residual.result c.from_residual.ensures.1 in
-    lost-first c.from_residual.result p.0 p.1 _ c.in_err-header.ensures
+returns-in_err-header g c = lost-first c.from_residual.result _ c.from_residual.ensures.1 _ c.in_err-header.ensures
 
-pub read_ends-requires-clause-up : goal.read_ends-requires-clause-up
-read_ends-requires-clause-up g c = c.in_ok-header.ensures.up
-
-pub read_ends-requires-clause-file : goal.read_ends-requires-clause-file
-read_ends-requires-clause-file g c = file-kept-on c.args.tree.now c.args.number c.in_ok-header.ensures.told.same c.requires.file
-
-pub read_ends-requires-clause-long : goal.read_ends-requires-clause-long
-read_ends-requires-clause-long g c = c.requires.long ∙ ap (λ (t : FileTree). length (file_at t.files c.args.number)) (sym c.in_ok-header.ensures.told.same)
-
-pub read_ends-requires-clause-within : goal.read_ends-requires-clause-within
-read_ends-requires-clause-within g c = header-fits c.args.number c.in_ok-header.ensures c.in-Some.is c.args.len c.requires.long
+pub read_ends-requires : goal.read_ends-requires
+read_ends-requires g c = record {
+  up = c.in_ok-header.ensures.up;
+  file = file-kept-on c.args.tree.now c.args.number c.in_ok-header.ensures.told.same c.requires.file;
+  long = c.requires.long ∙ ap (λ (t : FileTree). length (file_at t.files c.args.number)) (sym c.in_ok-header.ensures.told.same);
+  within = header-fits c.args.number c.in_ok-header.ensures c.in-Some.is c.args.len c.requires.long;
+}
 
 pub returns-in_err-end : goal.returns-in_err-end
-returns-in_err-end g c =
-    let p = err_from_is_err_and c.from_residual-in_err-end.result c.from_residual-in_err-end.ensures.1 in
-    lost-later c.from_residual-in_err-end.result p.0 p.1 _ c.in_ok-header.ensures.cause.later c.in_err-end.ensures
+returns-in_err-end g c = lost-later c.from_residual-in_err-end.result _ c.from_residual-in_err-end.ensures.1 _ c.in_ok-header.ensures.cause.later c.in_err-end.ensures

@@ -13,18 +13,20 @@ add_pages-requires-clause-few g c = omega arith
 pub add_pages-requires-clause-room : goal.add_pages-requires-clause-room
 add_pages-requires-clause-room g c = room-less c.args.spaces.now c.args.at _ _ (omega arith) c.requires.room
 
-pub add_pages-requires-2-clause-space : goal.add_pages-requires-2-clause-space
-add_pages-requires-2-clause-space g c = has-held c.args.spaces.now c.args.at _ c.add_pages.ensures c.requires.space
+pub add_pages-requires-2 : goal.add_pages-requires-2
+add_pages-requires-2 g c = record {
+  space = has-held c.args.spaces.now c.args.at _ c.add_pages.ensures c.requires.space;
+  paged = one-paged c.args.spaces.now c.add_pages.new.spaces c.args.at _ c.requires.space c.add_pages.ensures;
+  few = omega arith;
+  room = one-room c.args.spaces.now c.add_pages.new.spaces c.args.at _ c.requires.space c.add_pages.ensures c.requires.room;
+}
 
-pub add_pages-requires-2-clause-paged : goal.add_pages-requires-2-clause-paged
-add_pages-requires-2-clause-paged g c = one-paged c.args.spaces.now c.add_pages.new.spaces c.args.at _ c.requires.space c.add_pages.ensures
-
-pub add_pages-requires-2-clause-room : goal.add_pages-requires-2-clause-room
-add_pages-requires-2-clause-room g c = one-room c.args.spaces.now c.add_pages.new.spaces c.args.at _ c.requires.space c.add_pages.ensures c.requires.room
-
-pub fill-requires-clause-space : goal.fill-requires-clause-space
-fill-requires-clause-space g c = has-held c.add_pages.new.spaces c.args.at _ c.add_pages-2.ensures (has-held c.args.spaces.now c.args.at _ c.add_pages.ensures c.requires.space)
-
-pub fill-requires-clause-inside : goal.fill-requires-clause-inside
-fill-requires-clause-inside g c =
-    stack-inside _ _ c.pages-pages.result c.args.page.now c.told-page c.pages-pages.ensures.count (omega (arith, one-longer c.args.spaces.now c.add_pages.new.spaces c.args.at _ c.requires.space c.add_pages.ensures, one-longer c.add_pages.new.spaces c.add_pages-2.new.spaces c.args.at _ (has-held c.args.spaces.now c.args.at _ c.add_pages.ensures c.requires.space) c.add_pages-2.ensures))
+pub fill-requires : goal.fill-requires
+fill-requires g c =
+    let has = has-held c.args.spaces.now c.args.at _ c.add_pages.ensures c.requires.space in
+    let one = one-longer c.args.spaces.now c.add_pages.new.spaces c.args.at _ c.requires.space c.add_pages.ensures in
+    let two = one-longer c.add_pages.new.spaces c.add_pages-2.new.spaces c.args.at _ has c.add_pages-2.ensures in
+    record {
+      space = has-held c.add_pages.new.spaces c.args.at _ c.add_pages-2.ensures has;
+      inside = stack-inside _ _ c.pages-pages.result c.args.page.now c.told-page c.pages-pages.ensures.count (omega (arith, one, two));
+    }

@@ -1,7 +1,7 @@
 use Rattle.std.proofs.Common.{arith, inl, inr, ◌∙◌}
 use Rattle.unixmodel.specs.Files.Node.{File}
 use Rattle.transfers.specs.Moved.{bytes_given}
-use Rattle.transfers.proofs.Fits.{count-low, file-now, given-length, given-low, never-refused, piece-part, piece-some, piece-within, same-failed, serves-told, went-low, write-all, write-begun, write-more, write-part, write-refused}
+use Rattle.transfers.proofs.Fits.{Tells, count-low, file-now, given-length, given-low, never-refused, piece-part, piece-some, piece-within, same-failed, serves-told, went-low, write-all, write-begun, write-more, write-part, write-refused}
 use Rattle.transfers.proofs.writing.write_node.Goals.{then-offset-size-via-then-offset-size, then-offset-size-via-else-offset-size+then-from-count-gt-LONGEST}
 use Rattle.transfers.proofs.writing.write_node.Goals as goal
 
@@ -16,7 +16,7 @@ returns-then-offset-size g c =
     let told = c.in_ok-size.ensures.told in
     let size = (told.1 (File c.requires.file.links c.requires.file.bytes) c.requires.file.here).2 in
     let whole = given-length _ c.args.address c.args.count c.requires.readable in
-    serves-told c.args.number c.args.offset given
+    serves-told {Told = Tells c.args.tree.now c.stat.new.self c.args.number c.args.offset given} _
     (write-refused c.args.tree.now c.stat.new.self c.args.number c.args.offset given c.requires.file told.0 (elim c.then-offset-size.branch [
       | then-offset-size-via-then-offset-size w ↦ let past = w.if-offset-size.true in inl (omega (arith, past, size))
       | then-offset-size-via-else-offset-size+then-from-count-gt-LONGEST w ↦ let long = w.if-from-count-gt-LONGEST.true in let from = w.from.ensures in inr (omega (arith, long, from, whole))
@@ -62,7 +62,7 @@ returns-then-went-piece g c =
     let part = piece-part _ c.args.address c.args.count c.requires.readable c.loop-done.done c.loop-done-test.true c.pages_are_whole.ensures.sized c.piece-piece.result.now c.piece-piece.ensures in
     let was = c.loop-done.invariant.later in
     let later = c.write.ensures.cause.later in
-    serves-told c.args.number c.args.offset given (write-part {new = given} c.loop-done.invariant c.piece-piece.result.now within part c.in_ok-went.ensures.told c.in-Some.went c.in-Some.is c.if-went-piece.true) c.in_ok-went.ensures.up (omega (arith, was, later))
+    serves-told {Told = Tells c.args.tree.now c.write.new.self c.args.number c.args.offset given} _ (write-part {new = given} c.loop-done.invariant c.piece-piece.result.now within part c.in_ok-went.ensures.told c.in-Some.went c.in-Some.is c.if-went-piece.true) c.in_ok-went.ensures.up (omega (arith, was, later))
 
 pub loop-done-smaller : goal.loop-done-smaller
 loop-done-smaller g c =
@@ -82,4 +82,4 @@ returns g c =
     let given = bytes_given c.args.spaces.now c.args.at c.args.address c.args.count in
     let whole = given-length _ c.args.address c.args.count c.requires.readable in
     let over = c.loop-done-test.false in
-    serves-told c.args.number c.args.offset given (write-all {new = given} c.loop-done.invariant (omega (arith, whole, over))) (same-failed {new = given} c.loop-done.invariant ∙ c.requires.up) c.loop-done.invariant.later
+    serves-told {Told = Tells c.args.tree.now c.loop-done.tree c.args.number c.args.offset given} _ (write-all {new = given} c.loop-done.invariant (omega (arith, whole, over))) (same-failed {new = given} c.loop-done.invariant ∙ c.requires.up) c.loop-done.invariant.later
