@@ -1,5 +1,6 @@
 -- Calls of the running process that are answered at once.
 use Rattle.blockdev.specs.declared.DeviceFault.{DeviceFault}
+use Rattle.unixmodel.specs.Memory.{Memory}
 use Rattle.std.proofs.Common.{◌≡◌, Err, ℕ, ◌<◌, ◌≤◌, List, [], length, Option, Some, None, refl, ap, subst, sym, ◌∙◌, Bool, true, false, ◌%◌, ℤ}
 use Rattle.std.specs.Prelude.{IfOk, IfSome, Ok, OnOk, Result, slice_index, slice_set, unwrap_or}
 use Rattle.std.proofs.lemmas.List.{length-set}
@@ -279,13 +280,13 @@ module _ (k : Kernel) (i : ℕ) (x : Here k i) (tree : FileTree) (q : Process) (
   pub turned-over : (call : Call) (answer : ℕ) → row (state_of k) i (me k i x) call ≡ Done (state_of turned) answer [] → k.spaces.frames < taken_frames turned.spaces → Acts k k i (Some call) Refuses
   turned-over call answer made over = refused k i x (Some call) (ap limited made ∙ rw (turned-full over) refl)
 
--- with other descriptors
-pub named-placed : (k : Kernel) (i : ℕ) (x : Here k i) (ds : List (Option ℕ)) → length ds ≡ length x.process.descriptors → IsPlaced (record x.process { descriptors = ds }) x.held
-named-placed k i x ds same = let l = live k i x.process x.held x.run x.sound in let placed = x.run.placed in record {
+-- with other descriptors, another directory and another memory
+pub named-placed : (k : Kernel) (i : ℕ) (x : Here k i) (ds : List (Option ℕ)) (directory : ℕ) (m : Memory) → length ds ≡ length x.process.descriptors → IsPlaced (record x.process { descriptors = ds; directory = directory }) (record x.held { memory = m })
+named-placed k i x ds directory m same = let l = live k i x.process x.held x.run x.sound in let placed = x.run.placed in record {
   size = placed.size;
   zero = placed.zero;
   aligned = placed.aligned;
-  mode = runs-mode (record x.process { descriptors = ds }) x.held.memory x.process.mode x.run.runs (record { descriptors = same ∙ l.descriptors }) (not-killed k i x.process x.held x.run x.sound);
+  mode = runs-mode (record x.process { descriptors = ds; directory = directory }) m x.process.mode x.run.runs (record { descriptors = same ∙ l.descriptors }) (not-killed k i x.process x.held x.run x.sound);
 }
 
 -- the files are in use, also where the running process is another one that works where it did

@@ -1,12 +1,12 @@
 -- wait: the first zombie child of the running process goes, and its status is written.
 use Rattle.kernel.specs.Holding.{home_in}
+use Rattle.std.proofs.lemmas.List.Folds.{prefix_len-set}
 use Rattle.kernel.proofs.Holding.{filed-put}
-use Rattle.std.proofs.Common.{◌≡◌, ◌≢◌, ℕ, zero, suc, ◌+◌, ◌-◌, ◌/◌, ◌%◌, ◌<◌, ◌≤◌, Bool, true, false, ◌&&◌, nat_eq, List, [], ◌∷◌, length, take, drop, IfSome, Option, Some, None, ℤ, refl, ap, sym, subst, ◌∙◌, arith}
-use Rattle.std.specs.List.{prefix_len}
-use Rattle.std.specs.Prelude.{cond, if◌then◌else◌, is_some, not, option_map, slice_index_or, slice_set}
+use Rattle.std.proofs.Common.{◌≡◌, ◌≢◌, ℕ, zero, suc, ◌+◌, ◌<◌, ◌≤◌, Bool, true, false, nat_eq, List, [], ◌∷◌, length, IfSome, Option, Some, None, ℤ, refl, ap, sym, subst, ◌∙◌, arith}
+use Rattle.std.specs.Prelude.{if◌then◌else◌, is_some, not, option_map, slice_index_or, slice_set}
 use Rattle.std.specs.Int.{cast_unsigned, w32}
-use Rattle.std.proofs.lemmas.Bool.{ne_eqb}
-use Rattle.std.proofs.lemmas.List.{length-append, length-set, map-set, take-append-drop}
+use Rattle.std.proofs.lemmas.Bool.{ne_eqb, and_parts}
+use Rattle.std.proofs.lemmas.List.{length-set, map-set, set_comm}
 use Rattle.calls.specs.Acts.{Acts, GoesOn, Runs, pending_for}
 use Rattle.calls.specs.declared.outcome.Came.{Came}
 use Rattle.calls.specs.declared.outcome.Came.TheVariants.{Answers, Blocks, Refuses}
@@ -16,12 +16,12 @@ use Rattle.calls.specs.Processes.{collected, with_status}
 use Rattle.kernel.specs.Sound.{IsEnded, IsKernel, IsMode, IsPending, IsPlace, IsPlaced, can_answer, is_at}
 use Rattle.calls.proofs.Acts.{Here, begins-on, getpid-is, goes-done, goes-waits, here-of, me, refused}
 use Rattle.kernel.proofs.Changes.{other-at}
-use Rattle.calls.proofs.Forks.{set-swap}
 use Rattle.kernel.proofs.Opens.{opened-names, waits-other}
 use Rattle.kernel.proofs.Runs.{IsRun, moved, moved-kernel, moved-run, moved-state, place-space, process-with, runs-set, self, set-slot, slot-other, slot-within, stands-set, state-run, with_process}
 use Rattle.kernel.proofs.Steps.{held-run, placed-with}
 use Rattle.files.specs.Counts.{names}
 use Rattle.files.proofs.CountsLemmas.{names-none}
+use Rattle.programs.proofs.Places.{length-write}
 use Rattle.proc.specs.declared.process.Process.{Process}
 use Rattle.proc.specs.declared.table.Reaped.{Reaped}
 use Rattle.proc.specs.Places.{Places, is_child_of, is_zombie_child_of, place_where, reaped_at, reaped_from, without, zombie_place}
@@ -36,7 +36,7 @@ use Rattle.unixmodel.specs.declared.process.Mode.{Mode}
 use Rattle.unixmodel.specs.declared.process.Mode.TheVariants.{Ready, Running, Waiting, Zombie}
 use Rattle.unixmodel.specs.declared.process.Pending.{Pending}
 use Rattle.unixmodel.specs.Files.{clear, put, slot}
-use Rattle.unixmodel.specs.Memory.{Memory, Page, write_bytes, write_from}
+use Rattle.unixmodel.specs.Memory.{Memory, write_bytes}
 use Rattle.unixmodel.specs.Numbers.{le}
 use Rattle.unixmodel.specs.Outcome.{Outcome, given, limited, no_descriptors, pending_arg, provided}
 use Rattle.unixmodel.specs.Outcome.Outcome.{Done, Refused, Waits}
@@ -49,22 +49,8 @@ use Rattle.unixmodel.specs.State.{State, holds, process_at, put_process}
 -- ---- searches
 
 -- a search answers the same where a place has another process of which the test says the same
-module _ (test : Process → Bool) where
-  prefix-put : (os : List (Option Process)) (i : ℕ) (p q : Process) → slot os i ≡ Some p → test q ≡ test p
-      → prefix_len (λ o. not (holds test o)) (put os i q) ≡ prefix_len (λ o. not (holds test o)) os
-  prefix-put [] i p q at same = refl
-  prefix-put (None ∷ os) zero p q at same = absurd (cc)
-  prefix-put (Some x ∷ os) zero p q at same =
-      let e : x ≡ p = cc in
-      ap (λ b. cond (not b) (1 + prefix_len (λ o. not (holds test o)) os) 0) (same ∙ sym (ap test e))
-  prefix-put (o ∷ os) (suc i) p q at same = ap (λ n. cond (not (holds test o)) (1 + n) 0) (prefix-put os i p q at same)
-
-  pub where-put : (os : List (Option Process)) (i : ℕ) (p q : Process) → slot os i ≡ Some p → test q ≡ test p → place_where (put os i q) test ≡ place_where os test
-  where-put os i p q at same = rw (prefix-put os i p q at same, length-set os i (Some q)) refl
-
-and-right : (a b : Bool) → (a && b) ≡ true → b ≡ true
-and-right true b h = h
-and-right false b h = absurd (cc)
+pub where-put : (test : Process → Bool) (os : List (Option Process)) (i : ℕ) (p q : Process) → slot os i ≡ Some p → test q ≡ test p → place_where (put os i q) test ≡ place_where os test
+where-put test os i p q at same = rw (prefix_len-set (λ o. not (holds test o)) os i (Some q) None (ap not same ∙ ap (λ o. not (holds test o)) (sym at)), length-set os i (Some q)) refl
 
 -- ---- a place is cleared
 
@@ -140,7 +126,7 @@ module _ (k : Kernel) (i : ℕ) (x : Here k i) (j : ℕ) (child : Process) (z : 
       let q = on_hart k.spaces x.process in
       let rest = base (rest_of k) in
       let old = with_process k.table i q in
-      let swap : put (clear k.table.places j) i q ≡ clear (put k.table.places i q) j = set-swap k.table.places j i None (Some q) z.apart in
+      let swap : put (clear k.table.places j) i q ≡ clear (put k.table.places i q) j = set_comm k.table.places j i None (Some q) z.apart in
       let shown : memories cleared.spaces ≡ slice_set (memories k.spaces) j [] = map-set memory_in k.spaces.places j None in
       state-run cleared i x.process x.held cleared-run
       ∙ ap (λ (places : List (Option Process)). with_table rest (record k.table { places = places }) (memories cleared.spaces)) swap
@@ -151,26 +137,12 @@ module _ (k : Kernel) (i : ℕ) (x : Here k i) (j : ℕ) (child : Process) (z : 
 
 -- ---- the status is written
 
-length-write_from : (ps : List Page) (at : ℕ) (new : List ℕ) → length (write_from ps at new) ≡ length ps
-length-write_from [] at new = refl
-length-write_from (p ∷ ps) at [] = refl
-length-write_from (p ∷ ps) at (b ∷ bs) = ap suc (length-write_from ps 0 (drop (4096 - at) (b ∷ bs)))
-
--- a write adds no page
-pub length-write_bytes : (mem : Memory) (at : ℕ) (new : List ℕ) → length (write_bytes mem at new) ≡ length mem
-unfolding write_bytes
-length-write_bytes mem at new =
-    length-append (take (at / 4096) mem) (write_from (drop (at / 4096) mem) (at % 4096) new)
-    ∙ ap (λ n. length (take (at / 4096) mem) + n) (length-write_from (drop (at / 4096) mem) (at % 4096) new)
-    ∙ sym (length-append (take (at / 4096) mem) (drop (at / 4096) mem))
-    ∙ ap length (take-append-drop (at / 4096) mem)
-
 status-written : (h : SpaceView) (a : ℕ) (status : ℤ) → with_status h (suc a) status ≡ written h (suc a) (le 4 (cast_unsigned w32 status))
 status-written h a status = let e : nat_eq (suc a) 0 ≡ false = ne_eqb (suc a) 0 (λ same. absurd (omega (arith, same))) in rw e refl
 
 status-pages : (h : SpaceView) (a : ℕ) (status : ℤ) → length (with_status h a status).memory ≡ length h.memory
 status-pages h zero status = refl
-status-pages h (suc a) status = ap (λ (x : SpaceView). length x.memory) (status-written h a status) ∙ length-write_bytes h.memory (suc a) (le 4 (cast_unsigned w32 status))
+status-pages h (suc a) status = ap (λ (x : SpaceView). length x.memory) (status-written h a status) ∙ length-write h.memory (suc a) (le 4 (cast_unsigned w32 status))
 
 status-self : (k : Kernel) (p : Process) (h : SpaceView) (a : ℕ) (status : ℤ) → rows.with_status (self k p h) a status ≡ self k p (with_status h a status)
 status-self k p h zero status = refl
@@ -195,7 +167,7 @@ module _ (k : Kernel) (i : ℕ) (x : Here k i) (j : ℕ) (child : Process) (z : 
   collected-is : collected_to ≡ collected k i a j status
   collected-is =
       let table : put (clear k.table.places j) i x.process ≡ clear k.table.places j = set-slot (clear k.table.places j) i (Some x.process) (cleared-run k i x j child z).process in
-      let swap : slice_set (slice_set k.spaces.places i (Some h)) j None ≡ slice_set (slice_set k.spaces.places j None) i (Some h) = set-swap k.spaces.places i j (Some h) None (back k i x j child z) in
+      let swap : slice_set (slice_set k.spaces.places i (Some h)) j None ≡ slice_set (slice_set k.spaces.places j None) i (Some h) = set_comm k.spaces.places i j (Some h) None (back k i x j child z) in
       rw (held-run k i x.process x.held x.run x.sound, table, swap) refl
 
   no-more : taken_frames collected_to.spaces ≤ k.spaces.frames
@@ -221,7 +193,7 @@ module _ (k : Kernel) (i : ℕ) (x : Here k i) (j : ℕ) (child : Process) (z : 
   collected-state =
       moved-state rest i x.process x.held (cleared-run k i x j child z) (cleared-kernel k i x j child z) x.process h k.spaces.registers k.spaces.pc (status-placed k i x a status) x.run.runs
       ∙ ap (λ (s : State). put_process s i (self k x.process h)) (cleared-state k i x j child z)
-      ∙ ap (λ (places : List (Option unix.Process)). record (state_of k) { places = places }) (set-swap (state_of k).places j i None (Some (self k x.process h)) z.apart)
+      ∙ ap (λ (places : List (Option unix.Process)). record (state_of k) { places = places }) (set_comm (state_of k).places j i None (Some (self k x.process h)) z.apart)
       ∙ ap (λ (q : unix.Process). record (state_of k) { places = clear (put (state_of k).places i q) j }) (sym (status-self k x.process x.held a status))
 
 -- ---- the call
@@ -250,7 +222,7 @@ module _ (k : Kernel) (i : ℕ) (x : Here k i) where
       let f = place_where-Some (is_zombie_child_of pid) k.table.places j found in
       let same : Some child ≡ Some f.0 = sym at ∙ f.1.0 in
       let e : child ≡ f.0 = cc in
-      let zombie : is_zombie_mode child.mode ≡ true = ap (λ (y : Process). is_zombie_mode y.mode) e ∙ and-right _ (is_zombie_mode f.0.mode) f.1.1 in
+      let zombie : is_zombie_mode child.mode ≡ true = ap (λ (y : Process). is_zombie_mode y.mode) e ∙ (and_parts _ (is_zombie_mode f.0.mode) f.1.1).1 in
       let apart : j ≢ i = λ same.
       let here : Some x.process ≡ Some child = sym x.run.process ∙ ap (slot k.table.places) (sym same) ∙ at in
       let g : x.process ≡ child = cc in

@@ -8,7 +8,7 @@ use Rattle.kernel.specs.Kernel.{Kernel, descriptors_at, state_of}
 use Rattle.kernel.specs.Sound.{IsForBytes, IsOpened, IsPending, file_named, is_on_pipe}
 use Rattle.calls.specs.Transfers.{OnThePipe, Transfers}
 use Rattle.calls.proofs.Acts.{Here, goes-done, goes-waits, going, me, turned, turned-here, turned-state, used-turned}
-use Rattle.calls.proofs.Collects.{length-write_bytes}
+use Rattle.programs.proofs.Places.{length-write}
 use Rattle.kernel.proofs.Opens.{waits-reading}
 use Rattle.kernel.proofs.Runs.{set-slot, slot-within}
 use Rattle.calls.proofs.Sends.{piped-kernel}
@@ -42,7 +42,7 @@ no-bytes n none = grind (arith, nat_tests)
 pub rewritten-fits : (s : Spaces) (i n : ℕ) (h : SpaceView) (at : ℕ) (bytes : List ℕ) → slot s.places i ≡ Some h → taken_frames s ≤ n → taken_frames (with_view s i (written h at bytes)) ≤ n
 rewritten-fits s i n h at bytes space few =
     let e : taken_frames (with_view s i (written h at bytes)) + frames_in (slot s.places i) ≡ taken_frames s + frames_in (Some (written h at bytes)) = taken-placed s i (Some (written h at bytes)) (slot-within s.places i h space) in
-    let f : frames_in (slot s.places i) ≡ frames_in (Some (written h at bytes)) = ap frames_in space ∙ sym (ap (λ (n : ℕ). 4 + page_frames n) (length-write_bytes h.memory at bytes)) in
+    let f : frames_in (slot s.places i) ≡ frames_in (Some (written h at bytes)) = ap frames_in space ∙ sym (ap (λ (n : ℕ). 4 + page_frames n) (length-write h.memory at bytes)) in
     omega (arith, e, f, few)
 
 fresh-is : (o : Option OpenFile) (f : OpenFile) (P : Type 0) → o ≡ Some f → is_on_pipe f.target ≡ true → IfSome o (λ f. is_on_pipe f.target ≡ true → P) → P

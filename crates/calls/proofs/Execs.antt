@@ -1,8 +1,8 @@
 -- exec: another program comes in the place of the one that runs.
-use Rattle.std.proofs.Common.{Bool, List, None, Option, Some, [], ap, arith, false, length, refl, subst, sym, true, ℕ, ◌%◌, ◌+◌, ◌-◌, ◌<◌, ◌*◌, ◌∙◌, ◌≡◌, ◌≤◌}
-use Rattle.std.specs.Prelude.{IfSome, if◌then◌else◌, is_some, nat_le, option_and_then}
+use Rattle.std.proofs.Common.{List, None, Option, Some, [], ap, arith, false, length, refl, subst, sym, true, ℕ, ◌%◌, ◌+◌, ◌-◌, ◌<◌, ◌*◌, ◌∙◌, ◌≡◌, ◌≤◌}
+use Rattle.std.specs.Prelude.{IfSome, is_some, nat_le, option_and_then}
 use Rattle.std.proofs.lemmas.Bool.{le-leb, lt-leb}
-use Rattle.std.proofs.lemmas.Option.{none-some, option_and_then_some, same_Some}
+use Rattle.std.proofs.lemmas.Option.{option_and_then_some, cond_some}
 use Rattle.calls.specs.Acts.{Acts, Runs}
 use Rattle.calls.specs.declared.outcome.Came.TheVariants.{Answers, Refuses}
 use Rattle.calls.specs.Reads.{HasRead}
@@ -41,17 +41,13 @@ use Rattle.unixmodel.specs.State.{State, put_process}
 
 -- ---- where a program begins
 
-finished-pc : (b : Bool) (p q : Plan) → (if b then Some p else None) ≡ Some q → q.pc ≡ p.pc
-finished-pc true p q is = ap (λ (r : Plan). r.pc) (sym (same_Some p q is))
-finished-pc false p q is = absurd (none-some q is)
-
 args-pc : (pages : Memory) (pc : ℕ) (args : List (List ℕ)) (q : Plan) → with_args pages pc args ≡ Some q → q.pc ≡ pc
 unfolding with_args
 args-pc pages pc args q is =
     let size = 4096 * (length pages + 2) in
     let stack : Stack = record { memory = with_stack pages; sp = size; pointers = [] } in
     let last = push_pointers (push_strings stack args) in
-    finished-pc (nat_le (size - 4096) last.sp) (record { memory = last.memory; size = size; pc = pc; argc = length args; sp = last.sp }) q is
+    ap (λ (r : Plan). r.pc) (sym (cond_some (nat_le (size - 4096) last.sp) (record { memory = last.memory; size = size; pc = pc; argc = length args; sp = last.sp }) q is).1)
 
 plan-pc : (file : List ℕ) (args : List (List ℕ)) (q : Plan) → plan file args ≡ Some q → q.pc ≡ round_down (number_at 8 24 file) 4
 unfolding plan
@@ -194,12 +190,6 @@ module _ (k : Kernel) (i : ℕ) (runs : Runs k i) where
 -- ---- over the fields: at is what they show, t and s what execute left of its tree and its spaces
 
 module _ (k : Kernel) (i : ℕ) (runs : Runs k i) (at : Kernel) (same : at ≡ k) where
-  pub exec-up : at.tree.failed ≡ false
-  exec-up = ap (λ (y : Kernel). y.tree.failed) same ∙ (here-of k i runs.sound runs.active).run.up
-
-  pub exec-space : has_space at.spaces i ≡ true
-  exec-space = ap (λ (y : Kernel). has_space y.spaces i) same ∙ ap is_some (here-of k i runs.sound runs.active).run.space
-
   exec-within : i < length at.spaces.places
   exec-within = let x' = here-of k i runs.sound runs.active in subst (λ (y : Kernel). i < length y.spaces.places) (sym same) (slot-within k.spaces.places i x'.held x'.run.space)
 

@@ -9,7 +9,8 @@ use Rattle.calls.specs.declared.outcome.Came.TheVariants.{Answers}
 use Rattle.calls.specs.Transfers.{Uses, Transfers}
 use Rattle.calls.proofs.Acts.{Here, goes-serves, going, me, turned, turned-here, turned-state, used-here, used-turned}
 use Rattle.calls.proofs.Draws.{rewritten-fits}
-use Rattle.calls.proofs.Moving.{opened-moved, used-changed, used-moved}
+use Rattle.calls.proofs.Moving.{opened-moved, used-moved}
+use Rattle.calls.proofs.Shapes.{used-changed}
 use Rattle.calls.proofs.Transfers.{file, file-fits, file-named, going-is, held-here, here}
 use Rattle.files.specs.declared.file.End.TheVariants as end
 use Rattle.files.specs.declared.file.OpenFile.{OpenFile}

@@ -1,7 +1,7 @@
 -- chdir: the running process works in another directory, and the one that it leaves may go.
-use Rattle.std.proofs.Common.{Bool, List, None, Option, Some, [], ap, arith, false, negsuc, refl, subst, sym, true, zero, suc, ℕ, ◌+◌, ◌<◌, ◌++◌, ◌∙◌, ◌∷◌, ◌≡◌, ◌≢◌, ◌≤◌, length}
-use Rattle.std.specs.Prelude.{Err, IfSome, IsSome, Ok, Result, if◌then◌else◌, slice_set}
-use Rattle.std.proofs.lemmas.Bool.{le-leb, ne_eqb}
+use Rattle.std.proofs.Common.{Bool, List, None, Option, Some, [], ap, arith, false, refl, subst, sym, true, zero, suc, ℕ, ◌+◌, ◌<◌, ◌++◌, ◌∙◌, ◌∷◌, ◌≡◌, ◌≢◌, ◌≤◌, length}
+use Rattle.std.specs.Prelude.{Err, IfSome, IsSome, Ok, Result, slice_set}
+use Rattle.std.proofs.lemmas.Bool.{ne_eqb}
 use Rattle.std.proofs.lemmas.List.Sums.{sum_by-cons, sum_by-set}
 use Rattle.std.proofs.lemmas.Option.{none-some, same_Some}
 use Rattle.blockdev.specs.declared.DeviceFault.{DeviceFault}
@@ -10,10 +10,10 @@ use Rattle.calls.specs.Gives.{IsLost}
 use Rattle.calls.specs.Reads.{HasRead}
 use Rattle.calls.specs.Replaced.{Reaches}
 use Rattle.calls.specs.declared.outcome.Came.TheVariants.{Answers, Refuses}
-use Rattle.calls.proofs.Acts.{Here, here-of, me, outcome-here, refused, settles, turned, turned-here, used-here}
+use Rattle.calls.proofs.Acts.{Here, here-of, me, outcome-here, refused, settles, turned, turned-here, used-here, named-placed}
+use Rattle.calls.proofs.Gone.{changed-fits, changed_answered, settles-gone}
 use Rattle.calls.proofs.Names.{home-is, names-rules, path-is}
 use Rattle.calls.proofs.Served.{ok-told, on-err, serves-lost}
-use Rattle.calls.proofs.Settles.{after}
 use Rattle.calls.proofs.Shapes.{folder-there}
 use Rattle.files.specs.Counts.{one_in}
 use Rattle.files.proofs.CountsLemmas.{Counts, one_at}
@@ -26,9 +26,9 @@ use Rattle.kernel.proofs.Finishes.{counting-kernel, counting-used}
 use Rattle.kernel.proofs.Holding.{AreAway, AreOldHomes, fewer-held, fewer-nodes, fewer-used, hold-more, holders-few, home-folder, homes-set, named_in}
 use Rattle.kernel.proofs.Named.{counts-joined}
 use Rattle.kernel.proofs.Opens.{opened-put, waits-running}
-use Rattle.kernel.proofs.Reaped.{away-loaded, match-active, match-place, opened-loaded, within-state_with}
-use Rattle.kernel.proofs.Running.{change-put, live, not-killed, regs-kernel, regs-run, runs-mode}
-use Rattle.kernel.proofs.Runs.{IsRun, home-running, loaded-run, moved, moved-run, moved-state, process-run, self, set-slot, set-twice, slot-within}
+use Rattle.kernel.proofs.Reaped.{away-loaded, opened-loaded}
+use Rattle.kernel.proofs.Running.{not-killed, regs-kernel, regs-run}
+use Rattle.kernel.proofs.Runs.{IsRun, home-running, loaded-run, moved-run, self, set-slot, set-twice, slot-within}
 use Rattle.kernel.proofs.Steps.{fail-keeps}
 use Rattle.kernel.specs.Descriptors.{descriptors_in}
 use Rattle.kernel.specs.Holding.{AreHeld, IsFolder, IsInUse, dropped, files_on, home_in, homes_at}
@@ -38,13 +38,12 @@ use Rattle.names.proofs.Naming.{find-used}
 use Rattle.proc.specs.declared.process.Process.{Process}
 use Rattle.proc.specs.Places.{changed, with_directory}
 use Rattle.proc.specs.Whole.{joined}
-use Rattle.spaces.specs.Spaces.{view_at, taken_frames}
+use Rattle.spaces.specs.Spaces.{view_at}
 use Rattle.tree.specs.Holding.{holders, let_go, with_hold, without_hold}
 use Rattle.tree.specs.Telling.{Tells}
 use Rattle.tree.specs.Tree.{FileTree, Serves}
 use Rattle.tree.specs.Whole.{IsWhole}
-use Rattle.unixmodel.specs.Calls.{end_if_killed, outcome_of, quiet, row, settle}
-use Rattle.unixmodel.specs.Counts.{is_within}
+use Rattle.unixmodel.specs.Calls.{outcome_of, row, settle}
 use Rattle.unixmodel.specs.declared.call.Call.{Call}
 use Rattle.unixmodel.specs.declared.call.Call.TheVariants.{Chdir}
 use Rattle.unixmodel.specs.declared.process.Mode.TheVariants.{Ready}
@@ -52,12 +51,10 @@ use Rattle.unixmodel.specs.Files.{Node, find, is_directory, kind_of, put, slot}
 use Rattle.unixmodel.specs.Files.Node.{Device, Directory, File}
 use Rattle.unixmodel.specs.Memory.{Memory, path_at}
 use Rattle.unixmodel.specs.NameCalls.{chdir_row, path_arg}
-use Rattle.unixmodel.specs.Outcome.{Outcome, answers, end_process, given, limited, provided}
+use Rattle.unixmodel.specs.Outcome.{Outcome, answers, given, limited, provided}
 use Rattle.unixmodel.specs.Outcome.Outcome.{Done, Refused}
-use Rattle.unixmodel.specs.Process as unix
-use Rattle.unixmodel.specs.Process.{with_answer}
 use Rattle.unixmodel.specs.Reap.{reap, without_nodes, without_pipes}
-use Rattle.unixmodel.specs.State.{State, change_process, process_at, put_process}
+use Rattle.unixmodel.specs.State.{State, put_process}
 
 -- ---- who holds what
 
@@ -151,12 +148,7 @@ module _ (k : Kernel) (i : ℕ) (x : Here k i) (n : ℕ) (short : n < length k.t
   left-held = leaves-held (used-here k i x) i x.process q x.process.directory n x.run.process (home-running x.process x.run.runs) (home-running q x.run.runs) short folder
 
   pub placed : IsPlaced q x.held
-  placed = let l = live k i x.process x.held x.run x.sound in let was = x.run.placed in record {
-    size = was.size;
-    zero = was.zero;
-    aligned = was.aligned;
-    mode = runs-mode q x.held.memory x.process.mode x.run.runs (record { descriptors = l.descriptors }) (not-killed k i x.process x.held x.run x.sound);
-  }
+  placed = named-placed k i x x.process.descriptors n x.held.memory refl
 
   -- failures: how many the device counts then
   module _ (failures : ℕ) (later : k.tree.failures ≤ failures) where
@@ -172,38 +164,17 @@ module _ (k : Kernel) (i : ℕ) (x : Here k i) (n : ℕ) (short : n < length k.t
     abbrev to : Kernel
     to = turned k i x tree q x.held k.files k.spaces.pipes placed x.run.runs
 
-    abbrev mid : List ℕ → Kernel
-    mid registers = moved k i q x.held registers k.spaces.pc
-
-    mid-fits : taken_frames (mid k.spaces.registers).spaces ≤ k.spaces.frames
-    mid-fits = rw (set-slot k.spaces.places i (Some x.held) x.run.space) x.sound.fits
-
     there : Here to i
-    there = turned-here k i x tree q x.held k.files k.spaces.pipes placed x.run.runs x.run.up used opened mid-fits
+    there = turned-here k i x tree q x.held k.files k.spaces.pipes placed x.run.runs x.run.up used opened (changed-fits k i x q placed x.run.runs)
 
     to-run : IsRun to i q x.held
     to-run = let r = moved-run k i x.process x.held x.run x.sound q x.held k.spaces.registers k.spaces.pc placed x.run.runs in record { active = r.active; process = r.process; space = r.space; placed = placed; runs = x.run.runs; up = x.run.up }
 
-    abbrev new : State
-    new = put_process (state_of k) i (record (me k i x) { directory = n })
-
-    new-within : is_within new ≡ true
-    new-within =
-        let m = mid k.spaces.registers in
-        ap is_within (sym (moved-state k i x.process x.held x.run x.sound q x.held k.spaces.registers k.spaces.pc placed x.run.runs))
-        ∙ within-state_with m (loaded m) (used-here k i x).within x.sound.opened.table (match-active m m.spaces.active (λ j. match-place (slot m.table.places j) (slot m.spaces.places j) (there.sound.stands j)))
-        ∙ le-leb _ _ mid-fits
-
     abbrev regs : List ℕ
     regs = slice_set k.spaces.registers 10 0
 
-    new-answered : change_process new i (with_answer 0) ≡ state_of (mid regs)
-    new-answered =
-        change-put i (state_of k) (record (me k i x) { directory = n }) (with_answer 0) (slot-within (state_of k).places i (me k i x) (process-run k i x.process x.held x.run))
-        ∙ sym (moved-state k i x.process x.held x.run x.sound q x.held regs k.spaces.pc placed x.run.runs)
-
     -- what it leaves, and nothing holds any more, goes
-    reaped : reap (state_of (mid regs)) ≡ state_of (answered to 0)
+    reaped : reap (state_of (changed_answered k i x q placed x.run.runs)) ≡ state_of (answered to 0)
     unfolding reap
     reaped =
         let last = answered to 0 in
@@ -217,21 +188,12 @@ module _ (k : Kernel) (i : ℕ) (x : Here k i) (n : ℕ) (short : n < length k.t
         let nodes = leaves-nodes (used-here k i x) i x.process q' x.process.directory n x.run.process (home-running x.process x.run.runs) (home-running q' x.run.runs) short folder s (memories last.spaces) (subst AreAway shown (away-loaded last is')) refl refl (ap (λ os. joined os (memories last.spaces)) shown) in
         ap (λ (y : State). without_nodes (without_pipes y)) (without_opens-same s k.files was.table counts') ∙ ap without_nodes (without_pipes-same s was.piped) ∙ nodes
 
-    chdir-settles : settle (state_of k) i (limited (Done new 0 [])) ≡ quiet (state_of (answered to 0))
-    chdir-settles =
-        let m = mid regs in
-        ap (λ (b : Bool). settle (state_of k) i (provided b (Done new 0 []))) new-within
-        ∙ ap (λ (s : State). after (end_if_killed s i (process_at s i)) []) new-answered
-        ∙ ap (λ (o : Option unix.Process). after (end_if_killed (state_of m) i o) []) (process-run m i q x.held (moved-run k i x.process x.held x.run x.sound q x.held regs k.spaces.pc placed x.run.runs))
-        ∙ ap (λ (b : Bool). after (if b then end_process (state_of m) i (self m q x.held) (negsuc 0) else reap (state_of m)) []) (not-killed k i x.process x.held x.run x.sound)
-        ∙ ap (λ (s : State). after s []) reaped
-
-    pub chdir-acts : row (state_of k) i (me k i x) Chdir ≡ Done new 0 [] → Acts k to i (Some Chdir) (Answers 0)
-    chdir-acts made = settles k i x to Chdir 0 [] there (record { up = x.run.up; later = later }) (ap (λ (o : Outcome). settle (state_of k) i (limited o)) made ∙ chdir-settles)
+    pub chdir-acts : row (state_of k) i (me k i x) Chdir ≡ Done (put_process (state_of k) i (self k q x.held)) 0 [] → Acts k to i (Some Chdir) (Answers 0)
+    chdir-acts made = settles k i x to Chdir 0 [] there (record { up = x.run.up; later = later }) (ap (λ (o : Outcome). settle (state_of k) i (limited o)) made ∙ settles-gone k i x q placed x.run.runs (not-killed k i x.process x.held x.run x.sound) there.sound.stands reaped)
 
 -- ---- chdir, step by step
 
-some-there : (o : Option Node) → IsSome o → (node : Node) × (o ≡ Some node)
+pub some-there : (o : Option Node) → IsSome o → (node : Node) × (o ≡ Some node)
 some-there None is = absurd (cc)
 some-there (Some node) is = (node, refl)
 

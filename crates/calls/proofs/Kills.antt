@@ -7,7 +7,7 @@ use Rattle.kernel.proofs.Holding.{AreOldHomes, fewer-leaves, fewer-nodes, named_
 use Rattle.std.proofs.Common.{List, None, Option, Some, [], ap, arith, false, inl, inr, length, map, nat_le, negsuc, refl, subst, suc, sym, true, zero, ℕ, ◌%◌, ◌+◌, ◌<◌, ◌∙◌, ◌≡◌, ◌≢◌}
 use Rattle.std.specs.Prelude.{not, option_map, slice_index, slice_index_or, slice_set}
 use Rattle.std.proofs.lemmas.Bool.{le-leb}
-use Rattle.std.proofs.lemmas.List.{get_or-set_other, length-map, map-set, set-get_or}
+use Rattle.std.proofs.lemmas.List.{get_or-set_other, length-map, map-set, set-get_or, set_comm}
 use Rattle.calls.specs.Acts.{Acts, Runs, marked_by, settled_by}
 use Rattle.calls.specs.declared.outcome.Came.TheVariants.{Answers, KillsItself, Refuses}
 use Rattle.kernel.specs.Kernel.{Kernel, answered, argument, base, ended, halted_by, lives, loaded, marked, memories, memory_in, on_hart, rest_of, state_of}
@@ -16,7 +16,6 @@ use Rattle.kernel.specs.Sound.{IsKernel, is_at}
 use Rattle.calls.proofs.Acts.{Here, came, does, here-of, me, refused}
 use Rattle.kernel.proofs.Changes.{ended-is, ended-kernel, ended_to, nodes, nodes-counted, old-homes, other-at}
 use Rattle.calls.proofs.Collects.{where-put}
-use Rattle.calls.proofs.Forks.{set-swap}
 use Rattle.kernel.proofs.Marks.{marked-is, marked-kernel, marked_to}
 use Rattle.kernel.proofs.Named.{counts-joined, old-all_closed, reap-closed}
 use Rattle.kernel.proofs.Reaped.{IsMatch, are-away, match-loaded, used-loaded, within-state_with}
@@ -78,7 +77,7 @@ module _ (k : Kernel) (i : ℕ) (x : Here k i) where
         let old = with_process k.table i (on_hart k.spaces p) in
         let there : slot old.places j ≡ Some q = slot-other k.table.places i j (Some (on_hart k.spaces p)) apart ∙ at in
         let swap : put (put k.table.places j (with_mark q)) i (on_hart k.spaces p) ≡ put (put k.table.places i (on_hart k.spaces p)) j (with_mark q) =
-        set-swap k.table.places j i (Some (with_mark q)) (Some (on_hart k.spaces p)) apart in
+        set_comm k.table.places j i (Some (with_mark q)) (Some (on_hart k.spaces p)) apart in
         ap (λ (s : State). change_process s j rows.marked) (state-run k i p h r)
         ∙ change_process-with_table rows.marked with_mark (λ m x. refl) rest old (memories k.spaces) j
         ∙ ap (λ (o : Option Process). with_table rest (record old { places = slice_set old.places j (option_map with_mark o) }) (memories k.spaces)) there

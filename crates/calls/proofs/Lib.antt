@@ -3,6 +3,7 @@ mod Apart
 pub mod Rows
 pub mod Served
 pub mod Acts
+pub mod Gone
 pub mod Forks
 pub mod Turned
 pub mod Resumes

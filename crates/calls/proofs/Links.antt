@@ -1,14 +1,12 @@
 -- link: a name more for a file or a device.
-use Rattle.blockdev.specs.declared.DeviceFault.{DeviceFault}
-use Rattle.std.proofs.Common.{◌≡◌, ◌≢◌, ℕ, ◌∙◌, List, None, Option, Some, ap, refl, subst, sym, true, false}
-use Rattle.std.specs.Prelude.{All, Err, IfOk, IfSome, Ok, OnErr, Result, option_and_then}
-use Rattle.calls.specs.Acts.{Acts, ActsOnDisk, Runs}
-use Rattle.calls.specs.declared.outcome.Came.{Came}
+use Rattle.calls.proofs.Served.{ok-told}
+use Rattle.std.proofs.Common.{◌≡◌, ◌≢◌, ℕ, ◌∙◌, List, None, Option, Some, ap, refl, subst, sym}
+use Rattle.std.specs.Prelude.{All, IfSome, Ok, Result, option_and_then}
+use Rattle.calls.specs.Acts.{Acts, Runs}
 use Rattle.calls.specs.declared.outcome.Came.TheVariants.{Answers, Refuses}
 use Rattle.calls.proofs.Acts.{refused}
-use Rattle.calls.proofs.Names.{faulted, given-then, here, home-is, made-over, mine, name-made, name-refused, name-sound, names-rules, ok-done, path-is, with_made}
+use Rattle.calls.proofs.Names.{NameFails, given-then, here, home-is, made-over, mine, name-fails, name-made, names-rules, path-is, with_made}
 use Rattle.kernel.specs.Kernel.{Kernel, argument, state_of}
-use Rattle.kernel.specs.Sound.{IsKernel}
 use Rattle.spaces.specs.Spaces.{view_at}
 use Rattle.tree.specs.Answers.{Overflows}
 use Rattle.tree.specs.declared.TreeFault.{TreeFault}
@@ -65,12 +63,8 @@ module _ (k : Kernel) (i : ℕ) (runs : Runs k i) where
     module _ (at : Kernel) (same : at ≡ k) where
       pub link-done : All (λ b. b ≢ 0) to → MakesLink at.tree t d from to r → (v : Unit {0}) → r ≡ Ok v → IsWhole t → Acts k (record at { tree = t }) i (Some Link) (Answers 0)
       link-done plain = subst (λ (y : Kernel). MakesLink y.tree t d from to r → (v : Unit {0}) → r ≡ Ok v → IsWhole t → Acts k (record y { tree = t }) i (Some Link) (Answers 0)) (sym same) (λ acts v e whole.
-          let made : linked_in k.tree.files d from to ≡ Some t.files = ok-done _ r v e acts.done in
+          let made : linked_in k.tree.files d from to ≡ Some t.files = ok-told _ r v e acts.done in
           name-made k i (here k i runs) t r acts Link (linked_in k.tree.files d from to) link-makes v e made (linked-changed (names-rules k i runs) d to plain from t.files made) whole)
 
-      pub link-sound : MakesLink at.tree t d from to r → (fault : TreeFault) → r ≡ Err fault → IsKernel (faulted at i t (is_device fault))
-      link-sound = subst (λ (y : Kernel). MakesLink y.tree t d from to r → (fault : TreeFault) → r ≡ Err fault → IsKernel (faulted y i t (is_device fault))) (sym same) (λ acts fault e. name-sound k i (here k i runs) t r acts Link runs link-over fault e)
-
-      pub link-fails : MakesLink at.tree t d from to r → (fault : TreeFault) → r ≡ Err fault → (came : Result Came DeviceFault) → IfOk came (λ c. (c ≡ Refuses) × (is_device fault ≡ false)) → OnErr came (is_device fault ≡ true) → ActsOnDisk k (faulted at i t (is_device fault)) i (Some Link) came
-      link-fails = subst (λ (y : Kernel). MakesLink y.tree t d from to r → (fault : TreeFault) → r ≡ Err fault → (came : Result Came DeviceFault) → IfOk came (λ c. (c ≡ Refuses) × (is_device fault ≡ false)) → OnErr came (is_device fault ≡ true) → ActsOnDisk k (faulted y i t (is_device fault)) i (Some Link) came) (sym same)
-          (λ acts fault e. name-refused k i (here k i runs) t r acts Link runs link-over fault e)
+      pub link-fails : MakesLink at.tree t d from to r → NameFails k at i t r Link
+      link-fails = subst (λ (y : Kernel). MakesLink y.tree t d from to r → NameFails k y i t r Link) (sym same) (λ acts. name-fails k i (here k i runs) t r acts Link runs link-over)

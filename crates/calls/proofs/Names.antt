@@ -1,5 +1,6 @@
 -- Calls on names: the running process stays as it is, and the files alone change.
 use Rattle.blockdev.specs.declared.DeviceFault.{DeviceFault}
+use Rattle.calls.proofs.Served.{ok-told}
 use Rattle.std.proofs.Common.{◌≡◌, ◌≢◌, ℕ, ◌<◌, ◌∙◌, Bool, List, [], None, Option, Some, ap, arith, false, refl, subst, sym, true}
 use Rattle.std.specs.Prelude.{All, Err, IfErr, IfOk, IfSome, IsSome, Ok, OnErr, Result, if◌then◌else◌, nat_le, option_and_then, option_map, ◌%◌, ◌&&◌, ◌^◌}
 use Rattle.std.proofs.lemmas.Bool.{false≢true, lt-leb}
@@ -10,6 +11,9 @@ use Rattle.calls.specs.declared.outcome.Came.TheVariants.{Answers, Refuses}
 use Rattle.calls.proofs.Acts.{Here, here-of, me, outcome-here, prints, refused, used-here}
 use Rattle.calls.proofs.Shapes.{folder-there, used-changed, used-shaped}
 use Rattle.kernel.specs.Holding.{IsInUse, home_in}
+use Rattle.calls.proofs.Woken.{running-now, watched-refuse}
+use Rattle.kernel.specs.View.{Keeps}
+use Rattle.kernel.specs.Watch.{Watches}
 use Rattle.kernel.specs.Kernel.{Kernel, argument, idle, on_hart, state_of}
 use Rattle.kernel.specs.Sound.{IsKernel}
 use Rattle.kernel.proofs.Holding.{home-folder}
@@ -87,13 +91,8 @@ made-over s (Some files) over = ap (λ b. provided b (Done (with_files s files) 
 
 -- ---- what an answer of the files says
 
-pub ok-done : {T : Type 0} (Told : T → Type 0) (r : Result T TreeFault) (v : T) → r ≡ Ok v → IfOk r Told → Told v
-ok-done Told (Ok w) v e told = let same : w ≡ v = cc in subst Told same told
-ok-done Told (Err fault) v e told = absurd (cc)
-
 err-why : {T : Type 0} (Why : TreeFault → Type 0) (r : Result T TreeFault) (fault : TreeFault) → r ≡ Err fault → IfErr r Why → Why fault
-err-why Why (Ok w) fault e why = absurd (cc)
-err-why Why (Err f) fault e why = let same : f ≡ fault = cc in subst Why same why
+err-why {T} Why r fault e why = subst (λ (y : Result T TreeFault). IfErr y Why) e why
 
 is-device : (fault : TreeFault) → is_device fault ≡ true → fault ≡ Device
 is-device Device is = refl
@@ -118,6 +117,11 @@ MakesNode old new d path it r =
 abbrev pub MakesFolder : FileTree → FileTree → ℕ → List ℕ → Result (Unit {0}) TreeFault → Type 0
 MakesFolder old new d path r =
     tree.Acts old new r (λ done. folder_in old.files d path ≡ Some new.files) (Overflows old.block_limit (folder_in old.files d path)) (LacksFolder old.block_limit old.files d path)
+
+-- what is left where the tree refuses; at is what the kernel's fields show
+pub record NameFails (k at : Kernel) (i : ℕ) (t : FileTree) {T : Type 0} (r : Result T TreeFault) (call : Call) : Type 0 where
+  pub keeps : (fault : TreeFault) → r ≡ Err fault → Watches at → Keeps (faulted at i t (is_device fault))
+  pub acts : (fault : TreeFault) → r ≡ Err fault → (came : Result Came DeviceFault) → IfOk came (λ c. (c ≡ Refuses) × (is_device fault ≡ false)) → OnErr came (is_device fault ≡ true) → ActsOnDisk k (faulted at i t (is_device fault)) i (Some call) came
 
 module _ (k : Kernel) (i : ℕ) (x : Here k i) (t : FileTree) where
   abbrev pub over : Kernel
@@ -174,17 +178,17 @@ module _ (k : Kernel) (i : ℕ) (x : Here k i) (t : FileTree) where
       fault-sound false is = (refuses is).sound
       fault-sound true is = fail-keeps k k i t refl x.sound x.run.active runs.zero runs.aligned (fails ∙ is)
 
-      pub name-sound : IsKernel (faulted k i t (is_device fault))
-      name-sound = fault-sound (is_device fault) refl
-
       fault-acts : (b : Bool) → is_device fault ≡ b → (came : Result Came DeviceFault) → IfOk came (λ c. (c ≡ Refuses) × (is_device fault ≡ false)) → OnErr came (is_device fault ≡ true) → ActsOnDisk k (faulted k i t b) i (Some call) came
       fault-acts false is (Ok c) ok err = subst (λ c. Acts k over i (Some call) c) (sym ok.0) (refuses is)
       fault-acts false is (Err f) ok err = absurd (false≢true (sym is ∙ err))
       fault-acts true is (Ok c) ok err = absurd (false≢true (sym ok.1 ∙ is))
       fault-acts true is (Err f) ok err = record { down = fails ∙ is; later = acts.later; rises = acts.cause (e ∙ ap Err (is-device fault is)) }
 
-      pub name-refused : (came : Result Came DeviceFault) → IfOk came (λ c. (c ≡ Refuses) × (is_device fault ≡ false)) → OnErr came (is_device fault ≡ true) → ActsOnDisk k (faulted k i t (is_device fault)) i (Some call) came
-      name-refused came ok err = fault-acts (is_device fault) refl came ok err
+    pub name-fails : Runs k i → (Bad → outcome_of (state_of k) i (me k i x) (Some call) ≡ Refused) → NameFails k k i t r call
+    name-fails runs bad = record {
+      keeps = λ fault e watched. record { sound = fault-sound runs bad fault e (is_device fault) refl; watched = watched-refuse k watched i (running-now i refl runs) (is_device fault) };
+      acts = λ fault e. fault-acts runs bad fault e (is_device fault) refl;
+    }
 
 -- ---- the process that calls
 
@@ -248,15 +252,11 @@ module _ (k : Kernel) (i : ℕ) (runs : Runs k i) where
       module _ (at : Kernel) (same : at ≡ k) where
         pub mknod-done : All (λ b. b ≢ 0) path → MakesNode at.tree t d path it r → (v : ℕ) → r ≡ Ok v → IsWhole t → Acts k (record at { tree = t }) i (Some Mknod) (Answers 0)
         mknod-done plain = subst (λ (y : Kernel). MakesNode y.tree t d path it r → (v : ℕ) → r ≡ Ok v → IsWhole t → Acts k (record y { tree = t }) i (Some Mknod) (Answers 0)) (sym same) (λ acts v e whole.
-            let made : node_made ≡ Some (record { files = t.files; number = v }) = ok-done _ r v e acts.done in
+            let made : node_made ≡ Some (record { files = t.files; number = v }) = ok-told _ r v e acts.done in
             name-made k i here t r acts Mknod (made_files node_made) mknod-makes v e (ap made_files made) (created-changed names-rules d path plain it (record { files = t.files; number = v }) made) whole)
 
-        pub mknod-sound : MakesNode at.tree t d path it r → (fault : TreeFault) → r ≡ Err fault → IsKernel (faulted at i t (is_device fault))
-        mknod-sound = subst (λ (y : Kernel). MakesNode y.tree t d path it r → (fault : TreeFault) → r ≡ Err fault → IsKernel (faulted y i t (is_device fault))) (sym same) (λ acts fault e. name-sound k i here t r acts Mknod runs mknod-over fault e)
-
-        pub mknod-fails : MakesNode at.tree t d path it r → (fault : TreeFault) → r ≡ Err fault → (came : Result Came DeviceFault) → IfOk came (λ c. (c ≡ Refuses) × (is_device fault ≡ false)) → OnErr came (is_device fault ≡ true) → ActsOnDisk k (faulted at i t (is_device fault)) i (Some Mknod) came
-        mknod-fails = subst (λ (y : Kernel). MakesNode y.tree t d path it r → (fault : TreeFault) → r ≡ Err fault → (came : Result Came DeviceFault) → IfOk came (λ c. (c ≡ Refuses) × (is_device fault ≡ false)) → OnErr came (is_device fault ≡ true) → ActsOnDisk k (faulted y i t (is_device fault)) i (Some Mknod) came) (sym same)
-            (λ acts fault e. name-refused k i here t r acts Mknod runs mknod-over fault e)
+        pub mknod-fails : MakesNode at.tree t d path it r → NameFails k at i t r Mknod
+        mknod-fails = subst (λ (y : Kernel). MakesNode y.tree t d path it r → NameFails k y i t r Mknod) (sym same) (λ acts. name-fails k i here t r acts Mknod runs mknod-over)
 
     module _ (t : FileTree) (r : Result (Unit {0}) TreeFault) where
       mkdir-makes : row (state_of k) i mine Mkdir ≡ with_made (state_of k) (folder_in k.tree.files d path)
@@ -268,12 +268,8 @@ module _ (k : Kernel) (i : ℕ) (runs : Runs k i) where
       module _ (at : Kernel) (same : at ≡ k) where
         pub mkdir-done : All (λ b. b ≢ 0) path → MakesFolder at.tree t d path r → (v : Unit {0}) → r ≡ Ok v → IsWhole t → Acts k (record at { tree = t }) i (Some Mkdir) (Answers 0)
         mkdir-done plain = subst (λ (y : Kernel). MakesFolder y.tree t d path r → (v : Unit {0}) → r ≡ Ok v → IsWhole t → Acts k (record y { tree = t }) i (Some Mkdir) (Answers 0)) (sym same) (λ acts v e whole.
-            let made : folder_in k.tree.files d path ≡ Some t.files = ok-done _ r v e acts.done in
+            let made : folder_in k.tree.files d path ≡ Some t.files = ok-told _ r v e acts.done in
             name-made k i here t r acts Mkdir (folder_in k.tree.files d path) mkdir-makes v e made (folder-changed names-rules d path plain t.files made) whole)
 
-        pub mkdir-sound : MakesFolder at.tree t d path r → (fault : TreeFault) → r ≡ Err fault → IsKernel (faulted at i t (is_device fault))
-        mkdir-sound = subst (λ (y : Kernel). MakesFolder y.tree t d path r → (fault : TreeFault) → r ≡ Err fault → IsKernel (faulted y i t (is_device fault))) (sym same) (λ acts fault e. name-sound k i here t r acts Mkdir runs mkdir-over fault e)
-
-        pub mkdir-fails : MakesFolder at.tree t d path r → (fault : TreeFault) → r ≡ Err fault → (came : Result Came DeviceFault) → IfOk came (λ c. (c ≡ Refuses) × (is_device fault ≡ false)) → OnErr came (is_device fault ≡ true) → ActsOnDisk k (faulted at i t (is_device fault)) i (Some Mkdir) came
-        mkdir-fails = subst (λ (y : Kernel). MakesFolder y.tree t d path r → (fault : TreeFault) → r ≡ Err fault → (came : Result Came DeviceFault) → IfOk came (λ c. (c ≡ Refuses) × (is_device fault ≡ false)) → OnErr came (is_device fault ≡ true) → ActsOnDisk k (faulted y i t (is_device fault)) i (Some Mkdir) came) (sym same)
-            (λ acts fault e. name-refused k i here t r acts Mkdir runs mkdir-over fault e)
+        pub mkdir-fails : MakesFolder at.tree t d path r → NameFails k at i t r Mkdir
+        mkdir-fails = subst (λ (y : Kernel). MakesFolder y.tree t d path r → NameFails k y i t r Mkdir) (sym same) (λ acts. name-fails k i here t r acts Mkdir runs mkdir-over)

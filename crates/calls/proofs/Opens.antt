@@ -1,7 +1,8 @@
 -- open: the running process has a new open file on a node.
 use Rattle.std.proofs.Common.{Bool, Err, List, None, Ok, Option, Some, [], ap, arith, false, inl, inr, le_trans, length, refl, subst, suc, sym, true, ℕ, ◌+◌, ◌<◌, ◌∙◌, ◌≡◌, ◌≢◌, ◌≤◌}
-use Rattle.std.specs.Prelude.{All, IfOk, IfSome, OnErr, Result, count_by, if◌then◌else◌, is_none, nat_lt, not, option_and_then, option_map, slice_set, ◌==◌, ◌||◌}
-use Rattle.std.proofs.lemmas.Bool.{and_parts, cases_eq, eqb-true, false≢true, lt-ltb, ltb-true}
+use Rattle.calls.proofs.Renames.{named-put}
+use Rattle.std.specs.Prelude.{All, IfSome, Result, count_by, if◌then◌else◌, is_none, nat_lt, not, option_and_then, option_map, slice_set, ◌==◌, ◌||◌}
+use Rattle.std.proofs.lemmas.Bool.{cases_eq, eqb-true, false≢true, lt-ltb}
 use Rattle.std.proofs.lemmas.List.{get_or-set_other, get_or-set_same, length-set}
 use Rattle.std.proofs.lemmas.List.Sums.{sum_by-set}
 use Rattle.std.proofs.lemmas.Option.{none-some, option_and_then_some, same_Some}
@@ -15,11 +16,11 @@ use Rattle.calls.specs.Reads.{HasRead}
 use Rattle.calls.specs.Renamed.{OpensAs, free_descriptors}
 use Rattle.calls.proofs.Acts.{Here, here-of, me, named-placed, prints, refused, turned, turned-here, turned-state, used-here, used-turned}
 use Rattle.calls.proofs.Homes.{few-hold, found-here, node-here, refused-read}
-use Rattle.calls.proofs.Names.{MakesNode, faulted, home-is, name-refused, name-sound, names-rules, ok-done, over-blocks, path-is}
+use Rattle.calls.proofs.Names.{MakesNode, NameFails, home-is, name-fails, names-rules, over-blocks, path-is}
 use Rattle.calls.proofs.Pipes.{given-refused}
-use Rattle.calls.proofs.Served.{lost-after, served-after}
+use Rattle.calls.proofs.Served.{lost-after, served-after, ok-told}
 use Rattle.calls.proofs.Shapes.{used-changed}
-use Rattle.files.specs.Counts.{names, one_in}
+use Rattle.files.specs.Counts.{one_in}
 use Rattle.files.proofs.CountsLemmas.{count-opened, names-put}
 use Rattle.files.specs.declared.file.OpenFile.{OpenFile}
 use Rattle.files.specs.declared.file.Target.TheVariants as target
@@ -33,12 +34,12 @@ use Rattle.files.proofs.Free.{free-None, free-opens, free-place}
 use Rattle.inode.specs.declared.InodeStat.{InodeStat}
 use Rattle.kernel.proofs.Holding.{hold-more}
 use Rattle.kernel.proofs.Opens.{alike-same, file-opened, place-counts, waits-kept, waits-running, waits-set}
-use Rattle.kernel.proofs.Runs.{process-run, same_or_not, set-slot, slot-other, slot-put, slot-within, within-run}
+use Rattle.kernel.proofs.Runs.{process-run, same_or_not, set-slot, slot-other, slot-put, slot-within}
 use Rattle.kernel.proofs.Steps.{with-tree}
-use Rattle.kernel.specs.Descriptors.{IsCounted, descriptors_in, named_by, names_in}
+use Rattle.kernel.specs.Descriptors.{IsCounted, descriptors_in}
 use Rattle.kernel.specs.Holding.{FitsNode, IsInUse, files_on, node_in, node_of, node_on}
 use Rattle.kernel.specs.Kernel.{Kernel, argument, state_of}
-use Rattle.kernel.specs.Sound.{IsKernel, IsOpenFile, IsOpened, IsPlaced}
+use Rattle.kernel.specs.Sound.{IsOpenFile, IsOpened, IsPlaced}
 use Rattle.names.proofs.Finding.{enter-parts, make-parts}
 use Rattle.names.proofs.Quiet as quiet
 use Rattle.names.proofs.Spots.{spot-absent}
@@ -54,7 +55,7 @@ use Rattle.tree.specs.Entering.{made_files, made_in}
 use Rattle.tree.specs.Holding.{holders, with_hold}
 use Rattle.tree.specs.Leaves.{leaf_node}
 use Rattle.tree.specs.Telling.{Tells, TellsMajor}
-use Rattle.tree.specs.Tree.{FileTree, has_failed, is_device}
+use Rattle.tree.specs.Tree.{FileTree, has_failed}
 use Rattle.tree.specs.Whole.{IsWhole}
 use Rattle.unixmodel.specs.Calls.{outcome_of, row, settle}
 use Rattle.unixmodel.specs.Counts.{blocks_of}
@@ -141,11 +142,6 @@ openable-cut files n f g told is = go (truncates g) where
 
 -- ---- a descriptor and a place
 
-pub seat-parts : (k : Kernel) (i : ℕ) → has_seat k i ≡ true → (0 < free_descriptors k.table i) × (0 < free_count k.files)
-seat-parts k i is =
-    let parts = and_parts (nat_lt 0 (free_descriptors k.table i)) (nat_lt 0 (free_count k.files)) is in
-    (ltb-true 0 (free_descriptors k.table i) parts.0, ltb-true 0 (free_count k.files) parts.1)
-
 some-place : {X : Type 0} (xs : List (Option X)) (n : ℕ) → free_slot xs ≡ Some n → nat_lt 0 (count_by is_none xs) ≡ true
 some-place xs n at = elim (cases_eq (count_by is_none xs) 0) [
   | inl none ↦ absurd (none-some n (sym (free-None xs none) ∙ at))
@@ -175,7 +171,7 @@ module _ (k : Kernel) (i : ℕ) (x : Here k i) (n : ℕ) (f : OpenFile) (place f
   fd-free = free-place x.process.descriptors fd free
 
   pub placed : IsPlaced q x.held
-  placed = named-placed k i x q.descriptors (length-set x.process.descriptors fd (Some place))
+  placed = named-placed k i x q.descriptors x.process.directory x.held.memory (length-set x.process.descriptors fd (Some place))
 
   opens-is : opens_of files ≡ put (opens_of k.files) place (file_of f)
   opens-is = opens-opened k.files place f
@@ -183,10 +179,8 @@ module _ (k : Kernel) (i : ℕ) (x : Here k i) (n : ℕ) (f : OpenFile) (place f
   counted : IsCounted files (put k.table.places i q)
   counted m =
       let more = count-opened k.files place f place-free.0 place-free.1 m in
-      let sums : named_by (put k.table.places i q) m + names_in m (slot k.table.places i) ≡ named_by k.table.places m + names m q.descriptors = sum_by-set (names_in m) k.table.places i (Some q) None (within-run k i x.process x.held x.run) in
-      let was : names_in m (slot k.table.places i) ≡ names m x.process.descriptors = ap (names_in m) x.run.process in
       let put_one = names-put m x.process.descriptors fd place fd-free.0 fd-free.1 in
-      omega (arith, more, sums, was, put_one, x.sound.opened.counted m)
+      omega (arith, more, named-put k i x q m, put_one, x.sound.opened.counted m)
 
   -- each open file but the new one was there
   each : (m : ℕ) (g : unix_files.OpenFile) → slot (opens_of files) m ≡ Some g → IsOpenFile g
@@ -278,9 +272,6 @@ module _ {k : Kernel} {i : ℕ} (runs : Runs k i) {n f : ℕ} {told : InodeStat}
   pub open-few : holders at.tree.holds n < 65535
   open-few = subst (λ (y : Kernel). holders y.tree.holds n < 65535) (sym same) (few-hold k i runs n)
 
-  pub open-number : n < 8192
-  open-number = (whole.numbers n open-there).1
-
   open-short : n < length k.tree.holds
   open-short = subst (λ (y : Kernel). n < length y.tree.holds) same (whole.numbers n open-there).0
 
@@ -317,9 +308,6 @@ module _ {k : Kernel} {i : ℕ} (runs : Runs k i) {n f : ℕ} {told : InodeStat}
 -- ---- a file that is emptied
 
 module _ {k : Kernel} {i : ℕ} (runs : Runs k i) (f n : ℕ) where
-  pub cut-not : truncates f ≡ false → IsCut k k i f n
-  cut-not no' = record { same = ap (λ (fs : Files). record k { tree = record k.tree { files = fs } }) (rw no' refl); later = omega arith; runs = runs }
-
   -- another tree, whose files the running process may use
   retreed : (t : FileTree) → t.failed ≡ false → Changed k.tree.files t.files → t.holds ≡ k.tree.holds → IsWhole t → Runs (record k { tree = t }) i
   retreed t up changes same whole =
@@ -512,12 +500,8 @@ module _ (k : Kernel) (i : ℕ) (runs : Runs k i) where
             ap (λ (b : Bool). provided b (Done last fd [])) (over-blocks last (subst (λ (fs : Files). k.tree.block_limit < blocks_of fs) (sym empty) (over made.files (ap made_files (made-from ∙ e1))))))))))
 
         module _ (t : FileTree) (r : Result ℕ TreeFault) (at : Kernel) (same : at ≡ k) where
-          pub create-sound : MakesNode at.tree t d path leaf.File r → (fault : TreeFault) → r ≡ Err fault → IsKernel (faulted at i t (is_device fault))
-          create-sound = subst (λ (y : Kernel). MakesNode y.tree t d path leaf.File r → (fault : TreeFault) → r ≡ Err fault → IsKernel (faulted y i t (is_device fault))) (sym same) (λ acts fault e. name-sound k i now t r acts Open runs new-over fault e)
-
-          pub create-fails : MakesNode at.tree t d path leaf.File r → (fault : TreeFault) → r ≡ Err fault → (came : Result Came DeviceFault) → IfOk came (λ c. (c ≡ Refuses) × (is_device fault ≡ false)) → OnErr came (is_device fault ≡ true) → ActsOnDisk k (faulted at i t (is_device fault)) i (Some Open) came
-          create-fails = subst (λ (y : Kernel). MakesNode y.tree t d path leaf.File r → (fault : TreeFault) → r ≡ Err fault → (came : Result Came DeviceFault) → IfOk came (λ c. (c ≡ Refuses) × (is_device fault ≡ false)) → OnErr came (is_device fault ≡ true) → ActsOnDisk k (faulted y i t (is_device fault)) i (Some Open) came) (sym same)
-              (λ acts fault e. name-refused k i now t r acts Open runs new-over fault e)
+          pub create-fails : MakesNode at.tree t d path leaf.File r → NameFails k at i t r Open
+          create-fails = subst (λ (y : Kernel). MakesNode y.tree t d path leaf.File r → NameFails k y i t r Open) (sym same) (λ acts. name-fails k i now t r acts Open runs new-over)
 
           module _ (acts : MakesNode at.tree t d path leaf.File r) (plain : All (λ b. b ≢ 0) path) (v : ℕ) (done : r ≡ Ok v) (whole : IsWhole t) where
             created : MakesNode k.tree t d path leaf.File r
@@ -527,7 +511,7 @@ module _ (k : Kernel) (i : ℕ) (runs : Runs k i) where
             new_node = record { files = t.files; number = v }
 
             made : made_in k.tree.files d path (leaf_node leaf.File) ≡ Some new_node
-            made = ok-done _ r v done created.done
+            made = ok-told _ r v done created.done
 
             new-there : slot t.files v ≡ Some (File 1 [])
             new-there = made-there new_node (sym made-from ∙ made)

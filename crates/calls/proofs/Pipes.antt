@@ -1,24 +1,22 @@
 -- pipe: the running process opens both ends of a new pipe.
 use Rattle.std.proofs.Common.{◌≡◌, ◌≢◌, ℕ, ◌+◌, ◌<◌, ◌≤◌, ◌⊎◌, inl, inr, Bool, true, false, List, [], ◌++◌, length, Option, Some, None, Err, refl, ap, sym, subst, ◌∙◌, arith}
+use Rattle.calls.proofs.Renames.{named-put}
 use Rattle.std.specs.Bool.{OnTrue}
 use Rattle.std.specs.Prelude.{count_by, is_none, option_map, slice_set}
 use Rattle.std.proofs.lemmas.List.{length-set}
-use Rattle.std.proofs.lemmas.List.Sums.{sum_by-set}
 use Rattle.calls.specs.Acts.{Acts, Runs}
 use Rattle.calls.specs.declared.outcome.Came.TheVariants.{Answers, Refuses}
-use Rattle.kernel.specs.Descriptors.{IsCounted, descriptors_in, named_by, names_in}
+use Rattle.kernel.specs.Descriptors.{IsCounted, descriptors_in}
 use Rattle.kernel.specs.Kernel.{Kernel, argument, descriptors_at, state_of}
 use Rattle.calls.specs.Renamed.{OpensAs, free_descriptors, pipe_file}
 use Rattle.kernel.specs.Sound.{IsKernel, IsOpenFile, IsOpened, IsPlaced}
-use Rattle.calls.proofs.Acts.{Here, does, here-of, me, refused, turned, turned-full, turned-here, turned-state, used-turned}
-use Rattle.calls.proofs.Collects.{length-write_bytes}
+use Rattle.calls.proofs.Acts.{Here, does, here-of, me, refused, turned, turned-full, turned-here, turned-state, used-turned, named-placed}
+use Rattle.programs.proofs.Places.{length-write}
 use Rattle.kernel.specs.Holding.{IsInUse}
 use Rattle.kernel.proofs.Holding.{used-opened}
 use Rattle.kernel.proofs.Opens.{alike-same, file-opened, place-counts, waits-kept, waits-running, waits-set}
-use Rattle.kernel.proofs.Runs.{same_or_not, set-twice, slot-other, slot-put, slot-within, with_process, within-run}
-use Rattle.kernel.proofs.Running.{live, not-killed, runs-mode}
+use Rattle.kernel.proofs.Runs.{same_or_not, set-twice, slot-other, slot-put, slot-within, with_process}
 use Rattle.kernel.proofs.Steps.{held-run}
-use Rattle.files.specs.Counts.{names}
 use Rattle.files.proofs.CountsLemmas.{count-opened, names-put}
 use Rattle.files.proofs.Free.{free-None, free-Some, free-opens, free-place, free-put}
 use Rattle.files.specs.Pipes.{IsPiped}
@@ -157,24 +155,15 @@ module _ (k : Kernel) (i : ℕ) (y : Here k i) (a : ℕ) (x : Ends) (free : AreF
   writer-free = free-place first x.writer (sym (free_slot-opens first) ∙ ap free_slot opens-first ∙ free.writer)
 
   placed : IsPlaced q h
-  placed = let l = live k i p y.held y.run is in record {
-    size = y.run.placed.size;
-    zero = y.run.placed.zero;
-    aligned = y.run.placed.aligned;
-    mode = runs-mode q h.memory q.mode y.run.runs
-        (record { descriptors = length-set (put p.descriptors x.read_fd x.reader) x.write_fd (Some x.writer) ∙ length-set p.descriptors x.read_fd (Some x.reader) ∙ l.descriptors })
-        (not-killed k i p y.held y.run is);
-  }
+  placed = named-placed k i y q.descriptors p.directory h.memory (length-set (put p.descriptors x.read_fd x.reader) x.write_fd (Some x.writer) ∙ length-set p.descriptors x.read_fd (Some x.reader))
 
   counted : IsCounted both (put k.table.places i q)
   counted m =
       let one = count-opened k.files x.reader (pipe_file x.pipe end.Read) reader-free.0 reader-free.1 m in
       let two = count-opened first x.writer (pipe_file x.pipe end.Write) writer-free.0 writer-free.1 m in
-      let sums : named_by (put k.table.places i q) m + names_in m (slot k.table.places i) ≡ named_by k.table.places m + names m q.descriptors = sum_by-set (names_in m) k.table.places i (Some q) None (within-run k i p y.held y.run) in
-      let was : names_in m (slot k.table.places i) ≡ names m p.descriptors = ap (names_in m) y.run.process in
       let put_one = names-put m p.descriptors x.read_fd x.reader read-free.0 read-free.1 in
       let put_two = names-put m (put p.descriptors x.read_fd x.reader) x.write_fd x.writer write-free.0 write-free.1 in
-      omega (arith, one, two, sums, was, put_one, put_two, is.opened.counted m)
+      omega (arith, one, two, named-put k i y q m, put_one, put_two, is.opened.counted m)
 
   -- an open file was there, or is one of the ends
   ends-come : (n : ℕ) (f : OpenFile) → slot (opens_of both) n ≡ Some f → (slot (opens_of k.files) n ≡ Some f) ⊎ ((e : End) × (f ≡ pipe_end x.pipe e))
@@ -241,7 +230,7 @@ module _ (k : Kernel) (i : ℕ) (y : Here k i) (a : ℕ) (x : Ends) (free : AreF
   to-frames =
       let s = with_pipe k.spaces x.pipe (Some []) in
       let e : taken_frames to.spaces + frames_in (slot k.spaces.places i) ≡ taken_frames s + frames_in (Some h) = taken-placed s i (Some h) (slot-within k.spaces.places i y.held y.run.space) in
-      let f : frames_in (slot k.spaces.places i) ≡ frames_in (Some h) = ap frames_in y.run.space ∙ sym (ap (λ n. 4 + page_frames n) (length-write_bytes y.held.memory a (le 4 x.read_fd ++ le 4 x.write_fd))) in
+      let f : frames_in (slot k.spaces.places i) ≡ frames_in (Some h) = ap frames_in y.run.space ∙ sym (ap (λ n. 4 + page_frames n) (length-write y.held.memory a (le 4 x.read_fd ++ le 4 x.write_fd))) in
       omega (arith, e, f)
 
   -- that is what pipe makes of the state

@@ -5,7 +5,7 @@ use Rattle.std.proofs.lemmas.List.{length-drop, take-append-drop, take-take}
 use Rattle.console.specs.Output.{AppendsBeginning}
 use Rattle.kernel.specs.Kernel.{Kernel}
 use Rattle.calls.specs.Transfers.{IsFront}
-use Rattle.calls.proofs.Writes.{readable-count}
+use Rattle.transfers.proofs.Memory.{readable-count}
 use Rattle.spaces.specs.Spaces.{view_at}
 use Rattle.unixmodel.specs.declared.trap.Access.TheVariants.{Load}
 use Rattle.unixmodel.specs.Memory.{Memory, reach, read_bytes}
@@ -20,14 +20,14 @@ Appends-none None = tt
 Appends-none (Some xs) = sym (append-nil xs)
 
 -- a writer that took two parts took both
-Appends-trans : (a b c : Option (List ℕ)) (xs ys : List ℕ) → Appends a b xs → Appends b c ys → Appends a c (xs ++ ys)
+pub Appends-trans : (a b c : Option (List ℕ)) (xs ys : List ℕ) → Appends a b xs → Appends b c ys → Appends a c (xs ++ ys)
 Appends-trans None b c xs ys h k = tt
 Appends-trans (Some x) None c xs ys h k = absurd h
 Appends-trans (Some x) (Some y) None xs ys h k = k
 Appends-trans (Some x) (Some y) (Some z) xs ys h k = rw (k, h) (append_assoc x xs ys)
 
 -- a beginning of what comes after what was printed
-begins_more : (before mid after : Option (List ℕ)) (xs ys zs all : List ℕ) → Appends before mid xs → AppendsBeginning mid after ys → (xs ++ ys) ++ zs ≡ all → AppendsBeginning before after all
+pub begins_more : (before mid after : Option (List ℕ)) (xs ys zs all : List ℕ) → Appends before mid xs → AppendsBeginning mid after ys → (xs ++ ys) ++ zs ≡ all → AppendsBeginning before after all
 begins_more before mid after xs ys zs all h k e = record {
   front = xs ++ k.front;
   rest = k.rest ++ zs;

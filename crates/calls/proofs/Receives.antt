@@ -1,10 +1,9 @@
 -- A read from the console goes on.
-use Rattle.std.proofs.Common.{◌≡◌, ℕ, zero, suc, ◌+◌, ◌-◌, ◌*◌, ◌/◌, ◌%◌, ◌<◌, ◌≤◌, ◌^◌, Bool, true, false, nat_eq, nat_le, nat_lt, List, [], ◌∷◌, ◌++◌, length, take, drop, map, Option, Some, refl, ap, subst, sym, ◌∙◌, arith}
-use Rattle.std.specs.List.{prefix_len}
+use Rattle.std.proofs.Common.{◌≡◌, ℕ, zero, suc, ◌+◌, ◌-◌, ◌<◌, ◌≤◌, ◌^◌, Bool, true, false, nat_eq, nat_le, nat_lt, List, [], ◌∷◌, length, take, Option, Some, refl, ap, subst, sym, ◌∙◌, arith}
 use Rattle.std.specs.Bool.{OnTrue}
-use Rattle.std.specs.Prelude.{if◌then◌else◌, cond, is_some}
-use Rattle.std.proofs.lemmas.Bool.{false≢true, le-leb, leb-true}
-use Rattle.std.proofs.lemmas.List.{length-drop, length-take-le, take-append-drop}
+use Rattle.std.specs.Prelude.{if◌then◌else◌, is_some}
+use Rattle.std.proofs.lemmas.Bool.{false≢true, leb-true}
+use Rattle.std.proofs.lemmas.List.{length-take-le}
 use Rattle.calls.specs.Acts.{GoesOn}
 use Rattle.calls.specs.declared.outcome.Came.TheVariants.{Answers, Blocks}
 use Rattle.kernel.specs.Kernel.{Kernel, descriptors_at, state_of, typed}
@@ -24,13 +23,12 @@ use Rattle.spaces.specs.Spaces.{SpaceView, Spaces, has_space, view_at, with_view
 use Rattle.spaces.proofs.SpacesLemmas.{held-same}
 use Rattle.unixmodel.specs.Console.{Console, Taken, take_line}
 use Rattle.unixmodel.specs.declared.process.Pending.{Pending}
-use Rattle.unixmodel.specs.declared.trap.Access.{Access}
 use Rattle.unixmodel.specs.declared.trap.Access.TheVariants.{Store}
 use Rattle.unixmodel.specs.FileCalls as rows
 use Rattle.unixmodel.specs.Files.{slot}
 use Rattle.unixmodel.specs.Files.Node.{Device}
 use Rattle.unixmodel.specs.FileCalls.{read_console, read_on, read_taken}
-use Rattle.unixmodel.specs.Memory.{Memory, Page, Marks, can_write, permits, reach, write_bytes, write_from}
+use Rattle.unixmodel.specs.Memory.{can_write, reach, write_bytes}
 use Rattle.unixmodel.specs.Numbers.{low}
 use Rattle.unixmodel.specs.OpenFiles.Target.{OnNode}
 use Rattle.unixmodel.specs.Outcome.{pending_arg}
@@ -38,8 +36,9 @@ use Rattle.unixmodel.specs.Outcome.Outcome.{Done, Waits}
 use Rattle.unixmodel.specs.Process as unix
 use Rattle.unixmodel.specs.OpenFiles.{OpenFile}
 use Rattle.unixmodel.specs.State.{State, put_process}
-use Rattle.vm.specs.Reach.{IsSized, run_of}
-use Rattle.vm.proofs.ReachLemmas.{length-reach, reach-drop, reach-page}
+use Rattle.vm.specs.Reach.{IsSized}
+use Rattle.transfers.proofs.Memory.{reach-written, rest-writes}
+use Rattle.vm.proofs.ReachLemmas.{reach-page}
 
 -- ---- what a read takes
 
@@ -69,57 +68,6 @@ unfolding take_line
 line-less has zero bytes over = absurd (cc)
 line-less has (suc n) [] over = omega arith
 line-less has (suc n) (b ∷ bs) over = step-less (nat_eq b 4) (nat_eq b 10) has b n bs (take_line true n bs) (line-less true n bs) over
-
--- ---- bytes that are written leave what may be written
-
-marks-write : (ps : List Page) (at : ℕ) (new : List ℕ) → map (λ (p : Page). p.marks) (write_from ps at new) ≡ map (λ (p : Page). p.marks) ps
-marks-write [] at new = refl
-marks-write (p ∷ ps) at [] = refl
-marks-write (p ∷ ps) at (b ∷ bs) = ap (λ (ms : List Marks). p.marks ∷ ms) (marks-write ps 0 (drop (4096 - at) (b ∷ bs)))
-
-marks-append : (ps qs : List Page) → map (λ (p : Page). p.marks) (ps ++ qs) ≡ map (λ (p : Page). p.marks) ps ++ map (λ (p : Page). p.marks) qs
-marks-append [] qs = refl
-marks-append (p ∷ ps) qs = ap (λ (ms : List Marks). p.marks ∷ ms) (marks-append ps qs)
-
-marks-drop : (n : ℕ) (ps : List Page) → map (λ (p : Page). p.marks) (drop n ps) ≡ drop n (map (λ (p : Page). p.marks) ps)
-marks-drop zero ps = refl
-marks-drop (suc n) [] = refl
-marks-drop (suc n) (p ∷ ps) = marks-drop n ps
-
-marks-written : (mem : Memory) (at : ℕ) (new : List ℕ) → map (λ (p : Page). p.marks) (write_bytes mem at new) ≡ map (λ (p : Page). p.marks) mem
-unfolding write_bytes
-marks-written mem at new =
-    marks-append (take (at / 4096) mem) (write_from (drop (at / 4096) mem) (at % 4096) new)
-    ∙ ap (λ (ms : List Marks). map (λ (p : Page). p.marks) (take (at / 4096) mem) ++ ms) (marks-write (drop (at / 4096) mem) (at % 4096) new)
-    ∙ sym (marks-append (take (at / 4096) mem) (drop (at / 4096) mem))
-    ∙ ap (map (λ (p : Page). p.marks)) (take-append-drop (at / 4096) mem)
-
-prefix-marks : (a : Access) (ps : List Page) → prefix_len (λ (p : Page). permits a p.marks) ps ≡ prefix_len (permits a) (map (λ (p : Page). p.marks) ps)
-prefix-marks a [] = refl
-prefix-marks a (p ∷ ps) = ap (λ (n : ℕ). cond (permits a p.marks) (1 + n) 0) (prefix-marks a ps)
-
-run-marks : (a : Access) (mem : Memory) (n : ℕ) → run_of a mem n ≡ prefix_len (permits a) (drop n (map (λ (p : Page). p.marks) mem))
-unfolding run_of
-run-marks a mem n = prefix-marks a (drop n mem) ∙ ap (prefix_len (permits a)) (marks-drop n mem)
-
-run-written : (a : Access) (mem : Memory) (at n : ℕ) (new : List ℕ) → run_of a (write_bytes mem at new) n ≡ run_of a mem n
-run-written a mem at n new =
-    run-marks a (write_bytes mem at new) n
-    ∙ ap (λ (ms : List Marks). prefix_len (permits a) (drop n ms)) (marks-written mem at new)
-    ∙ sym (run-marks a mem n)
-
-reach-written : (a : Access) (mem : Memory) (at b : ℕ) (new : List ℕ) → IsSized mem → IsSized (write_bytes mem b new) → length (reach a (write_bytes mem b new) at) ≡ length (reach a mem at)
-reach-written a mem at b new sized kept =
-    length-reach a (write_bytes mem b new) at kept
-    ∙ ap (λ (n : ℕ). 4096 * n - at % 4096) (run-written a mem b (at / 4096) new)
-    ∙ sym (length-reach a mem at sized)
-
--- the rest of a buffer
-pub rest-writes : (mem : Memory) (at d l c : ℕ) → IsSized mem → can_write mem at c ≡ true → d + l ≤ c → can_write mem (at + d) l ≡ true
-rest-writes mem at d l c sized can fits =
-    let whole : c ≤ length (reach Store mem at) = leb-true c (length (reach Store mem at)) can in
-    let rest : length (reach Store mem (at + d)) ≡ length (reach Store mem at) - d = ap length (reach-drop Store mem at d sized (omega (arith, whole, fits))) ∙ length-drop d (reach Store mem at) in
-    le-leb l (length (reach Store mem (at + d))) (omega (arith, whole, fits, rest))
 
 -- ---- the row of a read that goes on
 
@@ -264,16 +212,15 @@ module _ (k : Kernel) (i : ℕ) (w : Pending) (on : OnConsole k i end.Read w) wh
     held-made = ap (λ (s : Spaces). view_at s i) spaces-are ∙ held-same k.spaces i (written (view_at k.spaces i) address bytes) low-place
 
     -- a read that is not over goes on in its buffer
-    reads-on : IsSized (view_at new i).memory → over ≡ false → IsReading (descriptors_at k i) (view_at new i).memory (record w { done = w.done + n })
-    reads-on kept more =
+    reads-on : over ≡ false → IsReading (descriptors_at k i) (view_at new i).memory (record w { done = w.done + n })
+    reads-on more =
         let mem = (view_at k.spaces i).memory in
         let less : length (line_for k w).bytes < low (pending_arg w 2) - w.done = line-less (nat_lt 0 w.done) (low (pending_arg w 2) - w.done) k.console.committed (ap (λ (t : Taken). t.over) f.took ∙ more) in
         let same : length (line_for k w).bytes ≡ length bytes = ap (λ (t : Taken). length t.bytes) f.took in
         let all = count in
-        let kept' : IsSized (write_bytes mem address bytes) = subst (λ (h : SpaceView). IsSized h.memory) held-made kept in
         let on : IsReading (descriptors_at k i) (write_bytes mem address bytes) (record w { done = w.done + n }) = record {
           named = can.named;
-          buffer = ap (nat_le (low (pending_arg w 2))) (reach-written Store mem (pending_arg w 1) address bytes f.sized kept') ∙ can.buffer;
+          buffer = ap (nat_le (low (pending_arg w 2))) (reach-written Store mem (pending_arg w 1) address bytes f.sized) ∙ can.buffer;
           left = omega (arith, less, same, all);
         } in
         subst (λ (h : SpaceView). IsReading (descriptors_at k i) h.memory (record w { done = w.done + n })) (sym held-made) on
@@ -282,7 +229,7 @@ module _ (k : Kernel) (i : ℕ) (w : Pending) (on : OnConsole k i end.Read w) wh
     goes-on kept more =
         let further = record w { done = w.done + n } in
         let made-here : Here made i = subst (λ (y : Kernel). Here y i) (sym made-is) to-here in
-        let pending : IsPending (descriptors_at k i) (view_at new i).memory further w.number = subst (IsPending (descriptors_at k i) (view_at new i).memory further) (sym g.number) (reads-on kept more) in
+        let pending : IsPending (descriptors_at k i) (view_at new i).memory further w.number = subst (IsPending (descriptors_at k i) (view_at new i).memory further) (sym g.number) (reads-on more) in
         goes-waits k i x w made further made-here refl (pending, waits-reading k.files (descriptors_at k i) further g.number for (fresh further refl))
         (row ∙ ap (read_taken (state_of k) i (me k i x) w) f.took ∙ taken-waits (state_of k) i (me k i x) w t more
         ∙ ap (λ (s : State). Waits s (record w { done = w.done + length bytes })) (left-is ∙ sym (ap state_of made-is))

@@ -33,6 +33,12 @@ use Rattle.unixmodel.specs.State.{State, put_process}
 pub named-counts : (k : Kernel) (i : ℕ) (p : Process) (h : SpaceView) → IsRun k i p h → IsKernel k → (d n : ℕ) → slot p.descriptors d ≡ Some n → 0 < count_at k.files n
 named-counts k i p h r is d n at = place-counts k.files k.table.places is.opened.counted i (Some p) r.process d n at
 
+-- how often an open file is named once process q stands in place i
+pub named-put : (k : Kernel) (i : ℕ) (x : Here k i) (q : Process) (m : ℕ) → named_by (put k.table.places i q) m + names m x.process.descriptors ≡ named_by k.table.places m + names m q.descriptors
+named-put k i x q m =
+    let was : names_in m (slot k.table.places i) ≡ names m x.process.descriptors = ap (names_in m) x.run.process in
+    ap (λ n. named_by (put k.table.places i q) m + n) (sym was) ∙ sum_by-set (names_in m) k.table.places i (Some q) None (within-run k i x.process x.held x.run)
+
 module _ (k : Kernel) (i : ℕ) (x : Here k i) (n fd : ℕ) (named : slot x.process.descriptors (low (argument k 0)) ≡ Some n) (free : free_slot x.process.descriptors ≡ Some fd) where
   abbrev q : Process
   q = record x.process { descriptors = put x.process.descriptors fd n }
@@ -40,11 +46,9 @@ module _ (k : Kernel) (i : ℕ) (x : Here k i) (n fd : ℕ) (named : slot x.proc
   counted : IsCounted (shared k.files n) (put k.table.places i q)
   counted m =
       let more = count-shared k.files n (named-counts k i x.process x.held x.run x.sound (low (argument k 0)) n named) m in
-      let sums : named_by (put k.table.places i q) m + names_in m (slot k.table.places i) ≡ named_by k.table.places m + names m q.descriptors = sum_by-set (names_in m) k.table.places i (Some q) None (within-run k i x.process x.held x.run) in
-      let was : names_in m (slot k.table.places i) ≡ names m x.process.descriptors = ap (names_in m) x.run.process in
       let f = free-place x.process.descriptors fd free in
       let put_one = names-put m x.process.descriptors fd n f.0 f.1 in
-      omega (arith, more, sums, was, put_one, x.sound.opened.counted m)
+      omega (arith, more, named-put k i x q m, put_one, x.sound.opened.counted m)
 
   opened : IsOpened (shared k.files n) k.spaces.pipes (put k.table.places i q)
   opened = let was = x.sound.opened in record {
@@ -59,7 +63,7 @@ module _ (k : Kernel) (i : ℕ) (x : Here k i) (n fd : ℕ) (named : slot x.proc
   dup-acts : Acts k (duplicated k i fd n) i (Some Dup) (Answers fd)
   unfolding dup_row
   dup-acts =
-      let placed = named-placed k i x q.descriptors (length-set x.process.descriptors fd (Some n)) in
+      let placed = named-placed k i x q.descriptors x.process.directory x.held.memory (length-set x.process.descriptors fd (Some n)) in
       let same = set-slot k.spaces.places i (Some x.held) x.run.space in
       let to = turned k i x k.tree q x.held (shared k.files n) k.spaces.pipes placed x.run.runs in
       let state : state_of to ≡ put_process (state_of k) i (with_descriptor (me k i x) fd n) =

@@ -7,7 +7,7 @@ use Rattle.blockdev.specs.declared.DeviceFault.{DeviceFault}
 use Rattle.unixmodel.specs.Failures.{HasCause}
 use Rattle.calls.specs.Acts.{ActsOnDisk}
 use Rattle.calls.specs.declared.outcome.Came.{Came}
-use Rattle.calls.specs.Gives.{Ends, IsLost, IsServed, LeavesDisk, LeavesTree, halt_of}
+use Rattle.calls.specs.Gives.{Ends, IsLost, IsServed, LeavesDisk, halt_of}
 use Rattle.kernel.specs.Kernel.{Kernel, started, started_as, state_of, stopped_at, ticked}
 use Rattle.proc.specs.declared.process.Process.{Process}
 use Rattle.tree.specs.Tree.{FileTree, Serves}
@@ -17,10 +17,6 @@ use Rattle.unixmodel.specs.Files.{slot}
 -- they are as before
 pub same-served : {old new : FileTree} → new ≡ old → old.failed ≡ false → IsServed old new
 same-served same up = rw same (record { up = up; later = omega arith })
-
--- a part serves them, and what comes before and after it leaves them as they are
-pub served-between : {old from to new : FileTree} → from ≡ old → IsServed from to → new ≡ to → IsServed old new
-served-between began served ended = rw (ended, ← began) served
 
 -- a step that may fail
 pub serves-disk : {T : Type 0} {old new : FileTree} {r : Result T DeviceFault} {Told : T → Type 0} → Serves old new r Told → LeavesDisk old new r
@@ -42,8 +38,7 @@ disk-after a b c (Err fault) first then = lost-after first then
 
 -- an answer is handed on
 pub disk-lost : {T : Type 0} {old new : FileTree} (r : Result T DeviceFault) (fault : DeviceFault) → r ≡ Err fault → LeavesDisk old new r → IsLost old new
-disk-lost (Ok x) fault e leaves = absurd (cc)
-disk-lost (Err f) fault e leaves = leaves
+disk-lost {old = old} {new = new} r fault e leaves = subst (LeavesDisk old new) e leaves
 
 -- it failed
 pub serves-lost : {T : Type 0} {old new : FileTree} {Told : T → Type 0} (r : Result T DeviceFault) (fault : DeviceFault) → r ≡ Err fault → Serves old new r Told → IsLost old new
@@ -59,16 +54,13 @@ module _ (k new : Kernel) (i : ℕ) (call : Call) where
   err-lost (Err fault) e lost = lost
 
 pub disk-served : {T : Type 0} {old new : FileTree} (r : Result T DeviceFault) (x : T) → r ≡ Ok x → LeavesDisk old new r → IsServed old new
-disk-served (Ok y) x e leaves = leaves
-disk-served (Err f) x e leaves = absurd (cc)
+disk-served {old = old} {new = new} r x e leaves = subst (LeavesDisk old new) e leaves
 
 pub on-ok : {T : Type 0} {P : Type 0} (r : Result T DeviceFault) (x : T) → r ≡ Ok x → OnOk r P → P
-on-ok (Ok y) x e p = p
-on-ok (Err f) x e p = absurd (cc)
+on-ok {T} {P} r x e p = subst (λ (y : Result T DeviceFault). OnOk y P) e p
 
-pub ok-told : {T : Type 0} (Told : T → Type 0) (r : Result T DeviceFault) (x : T) → r ≡ Ok x → IfOk r Told → Told x
-ok-told Told (Ok y) x e told = let same : y ≡ x = cc in subst Told same told
-ok-told Told (Err f) x e told = absurd (cc)
+pub ok-told : {T E : Type 0} (Told : T → Type 0) (r : Result T E) (x : T) → r ≡ Ok x → IfOk r Told → Told x
+ok-told {T} {E} Told r x e told = subst (λ (y : Result T E). IfOk y Told) e told
 
 -- what is made is made of another state
 pub on-after : {A T : Type 0} (x y z : A) (r : Result T DeviceFault) → x ≡ y → OnOk r (y ≡ z) → OnOk r (x ≡ z)
@@ -76,8 +68,7 @@ on-after x y z (Ok t) same made = same ∙ made
 on-after x y z (Err fault) same made = tt
 
 pub on-err : {T : Type 0} {P : Type 0} (r : Result T DeviceFault) (fault : DeviceFault) → r ≡ Err fault → OnErr r P → P
-on-err (Ok y) fault e p = absurd (cc)
-on-err (Err f) fault e p = p
+on-err {T} {P} r fault e p = subst (λ (y : Result T DeviceFault). OnErr y P) e p
 
 pub where-err : {T : Type 0} {P : Type 0} (r : Result T DeviceFault) → P → OnErr r P
 where-err (Ok x) p = tt
@@ -87,11 +78,6 @@ where-err (Err f) p = p
 pub ends-goes : (new : Kernel) (s : State) (o : Option ℤ) → new.halted ≡ o → state_of new ≡ s → Ends new s (halt_of o)
 ends-goes new s None halts made = (made, ap (λ (x : State). x.halted) (sym made) ∙ halts)
 ends-goes new s (Some status) halts made = (made, ap (λ (x : State). x.halted) (sym made) ∙ halts)
-
--- whether the machine halts or not
-pub served-halts : {old new : FileTree} (o : Option ℤ) → IsServed old new → LeavesTree old new (halt_of o)
-served-halts None served = served
-served-halts (Some status) served = served
 
 -- ---- events that do not touch them
 

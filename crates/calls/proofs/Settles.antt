@@ -1,5 +1,5 @@
 -- What the outcome of a call of the running process makes of the state.
-use Rattle.std.proofs.Common.{◌≡◌, ℕ, Bool, List, Option, refl, ap, ◌∙◌}
+use Rattle.std.proofs.Common.{◌≡◌, ℕ, Bool, false, List, Option, Some, refl, ap, ◌∙◌}
 use Rattle.std.specs.Prelude.{if◌then◌else◌, negsuc, slice_index, slice_set}
 use Rattle.kernel.specs.Kernel.{Kernel, answered, entered, state_of}
 use Rattle.kernel.specs.Sound.{IsKernel}
@@ -8,33 +8,35 @@ use Rattle.kernel.proofs.Running.{answer-run, not-killed, regs-kernel, regs-run,
 use Rattle.kernel.proofs.Runs.{IsRun, process-run, self}
 use Rattle.proc.specs.declared.process.Process.{Process}
 use Rattle.spaces.specs.Spaces.{SpaceView}
-use Rattle.unixmodel.specs.Calls.{After, call, call_of, end_if_killed, outcome_of, quiet, settle}
+use Rattle.unixmodel.specs.Calls.{After, call, call_of, end_if_killed, outcome_of, settle}
 use Rattle.unixmodel.specs.declared.call.Call.{Call}
 use Rattle.unixmodel.specs.Reap.{reap}
 use Rattle.unixmodel.specs.Numbers.{low, plus}
-use Rattle.unixmodel.specs.Outcome.{end_process, limited, minus_one}
-use Rattle.unixmodel.specs.Outcome.Outcome.{Done, Refused}
+use Rattle.unixmodel.specs.Outcome.{end_process, limited}
+use Rattle.unixmodel.specs.Outcome.Outcome.{Done}
 use Rattle.unixmodel.specs.Process as unix
-use Rattle.unixmodel.specs.State.{State, process_at}
+use Rattle.unixmodel.specs.Process.{with_answer}
+use Rattle.unixmodel.specs.State.{State, change_process, process_at}
 
 abbrev pub after : State → List ℕ → After
 after state bytes = record { state = state; bytes = bytes }
 
-module _ (k : Kernel) (i : ℕ) (p : Process) (h : SpaceView) (r : IsRun k i p h) (is : IsKernel k) where
-  pub settle-refused : settle (state_of k) i Refused ≡ quiet (state_of (answered k minus_one))
-  settle-refused = ap quiet (answer-run k i p h r is minus_one)
+-- a call that is done: it is answered, and what nothing names any more goes
+pub settle-reaped : (begun new : State) (i value : ℕ) (bytes : List ℕ) {full last : State} {p : unix.Process} → change_process new i (with_answer value) ≡ full → process_at full i ≡ Some p → p.killed ≡ false → reap full ≡ last
+    → settle begun i (Done new value bytes) ≡ after last bytes
+settle-reaped begun new i value bytes {full = full} {p = p} answered at alive reaped =
+    ap (λ (s : State). after (end_if_killed s i (process_at s i)) bytes) answered
+    ∙ ap (λ (o : Option unix.Process). after (end_if_killed full i o) bytes) at
+    ∙ ap (λ (b : Bool). after (if b then end_process full i p (negsuc 0) else reap full) bytes) alive
+    ∙ ap (λ (s : State). after s bytes) reaped
 
+module _ (k : Kernel) (i : ℕ) (p : Process) (h : SpaceView) (r : IsRun k i p h) (is : IsKernel k) where
   -- a call that is done
   pub settle-done : (begun : State) (value : ℕ) (bytes : List ℕ) → settle begun i (Done (state_of k) value bytes) ≡ record { state = state_of (answered k value); bytes = bytes }
   settle-done begun value bytes =
       let k' = answered k value in
       let regs = slice_set k.spaces.registers 10 value in
-      let at = process-run k' i p h (regs-run k i p h r is regs k.spaces.pc) in
-      let reaped = reap-state k' (regs-kernel k is regs k.spaces.pc) r.up in
-      ap (λ (s : State). after (end_if_killed s i (process_at s i)) bytes) (answer-run k i p h r is value)
-      ∙ ap (λ (o : Option unix.Process). after (end_if_killed (state_of k') i o) bytes) at
-      ∙ ap (λ (b : Bool). after (if b then end_process (state_of k') i (self k' p h) (negsuc 0) else reap (state_of k')) bytes) (not-killed k i p h r is)
-      ∙ ap (λ (s : State). after s bytes) reaped
+      settle-reaped begun (state_of k) i value bytes (answer-run k i p h r is value) (process-run k' i p h (regs-run k i p h r is regs k.spaces.pc)) (not-killed k i p h r is) (reap-state k' (regs-kernel k is regs k.spaces.pc) r.up)
 
   pub settle-limited : (begun : State) (value : ℕ) (bytes : List ℕ) → settle begun i (limited (Done (state_of k) value bytes)) ≡ record { state = state_of (answered k value); bytes = bytes }
   settle-limited begun value bytes = rw (within-state k is r.up) (settle-done begun value bytes)

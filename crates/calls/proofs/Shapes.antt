@@ -1,6 +1,6 @@
 -- What holds of who holds nodes, where files change and the nodes that somebody holds stay of their type.
 use Rattle.std.proofs.Common.{◌≡◌, ℕ, ◌≤◌, List, None, Option, Some, ap, arith, refl, subst, sym}
-use Rattle.std.specs.Prelude.{IfSome, IsSome, option_map}
+use Rattle.std.specs.Prelude.{IfSome, IsSome, option_map, ◌↔◌}
 use Rattle.std.proofs.lemmas.Bool.Decides.{nat_tests}
 use Rattle.files.specs.Counts.{one_in}
 use Rattle.files.specs.declared.file.OpenFile.{OpenFile}
@@ -19,47 +19,26 @@ use Rattle.unixmodel.specs.Files.{Node, links_of, slot}
 use Rattle.unixmodel.specs.Files.Node.{Device, Directory, File}
 
 -- a node fits by its shape
-to-shape : (f : OpenFile) (t : Target) (o : Option Node) → FitsNode f t o → FitsNode f t (option_map shape o)
-to-shape f (target.Pipe pipe e) o is = tt
-to-shape f (target.File number offset) None is = absurd is
-to-shape f (target.File number offset) (Some (File links bytes)) is = is
-to-shape f (target.File number offset) (Some (Device links major minor)) is = absurd is
-to-shape f (target.File number offset) (Some (Directory links places)) is = is
-to-shape f (target.Console number) None is = absurd is
-to-shape f (target.Console number) (Some (File links bytes)) is = absurd is
-to-shape f (target.Console number) (Some (Device links major minor)) is = is
-to-shape f (target.Console number) (Some (Directory links places)) is = absurd is
-to-shape f (target.Device number) None is = absurd is
-to-shape f (target.Device number) (Some (File links bytes)) is = absurd is
-to-shape f (target.Device number) (Some (Device links major minor)) is = is
-to-shape f (target.Device number) (Some (Directory links places)) is = absurd is
+fits-shape : (f : OpenFile) (t : Target) (o : Option Node) → FitsNode f t o ↔ FitsNode f t (option_map shape o)
+fits-shape f (target.Pipe pipe e) o = (λ is. is, λ is. is)
+fits-shape f (target.File number offset) None = (λ is. is, λ is. is)
+fits-shape f (target.File number offset) (Some (File links bytes)) = (λ is. is, λ is. is)
+fits-shape f (target.File number offset) (Some (Device links major minor)) = (λ is. is, λ is. is)
+fits-shape f (target.File number offset) (Some (Directory links places)) = (λ is. is, λ is. is)
+fits-shape f (target.Console number) None = (λ is. is, λ is. is)
+fits-shape f (target.Console number) (Some (File links bytes)) = (λ is. is, λ is. is)
+fits-shape f (target.Console number) (Some (Device links major minor)) = (λ is. is, λ is. is)
+fits-shape f (target.Console number) (Some (Directory links places)) = (λ is. is, λ is. is)
+fits-shape f (target.Device number) None = (λ is. is, λ is. is)
+fits-shape f (target.Device number) (Some (File links bytes)) = (λ is. is, λ is. is)
+fits-shape f (target.Device number) (Some (Device links major minor)) = (λ is. is, λ is. is)
+fits-shape f (target.Device number) (Some (Directory links places)) = (λ is. is, λ is. is)
 
-of-shape : (f : OpenFile) (t : Target) (o : Option Node) → FitsNode f t (option_map shape o) → FitsNode f t o
-of-shape f (target.Pipe pipe e) o is = tt
-of-shape f (target.File number offset) None is = absurd is
-of-shape f (target.File number offset) (Some (File links bytes)) is = is
-of-shape f (target.File number offset) (Some (Device links major minor)) is = absurd is
-of-shape f (target.File number offset) (Some (Directory links places)) is = is
-of-shape f (target.Console number) None is = absurd is
-of-shape f (target.Console number) (Some (File links bytes)) is = absurd is
-of-shape f (target.Console number) (Some (Device links major minor)) is = is
-of-shape f (target.Console number) (Some (Directory links places)) is = absurd is
-of-shape f (target.Device number) None is = absurd is
-of-shape f (target.Device number) (Some (File links bytes)) is = absurd is
-of-shape f (target.Device number) (Some (Device links major minor)) is = is
-of-shape f (target.Device number) (Some (Directory links places)) is = absurd is
-
-to-folder : (o : Option Node) → IsFolder o → IsFolder (option_map shape o)
-to-folder None is = absurd is
-to-folder (Some (File links bytes)) is = absurd is
-to-folder (Some (Device links major minor)) is = absurd is
-to-folder (Some (Directory links places)) is = tt
-
-of-folder : (o : Option Node) → IsFolder (option_map shape o) → IsFolder o
-of-folder None is = absurd is
-of-folder (Some (File links bytes)) is = absurd is
-of-folder (Some (Device links major minor)) is = absurd is
-of-folder (Some (Directory links places)) is = tt
+folder-shape : (o : Option Node) → IsFolder o ↔ IsFolder (option_map shape o)
+folder-shape None = (λ is. is, λ is. is)
+folder-shape (Some (File links bytes)) = (λ is. is, λ is. is)
+folder-shape (Some (Device links major minor)) = (λ is. is, λ is. is)
+folder-shape (Some (Directory links places)) = (λ is. is, λ is. is)
 
 pub folder-there : (o : Option Node) → IsFolder o → IsSome o
 folder-there None is = absurd is
@@ -80,11 +59,11 @@ module _ {t : FileTree} {opens : List (Option Counted)} {os : List (Option Proce
   module _ (now : FileTree) (stays : (n : ℕ) → 1 ≤ holders t.holds n → option_map shape (slot now.files n) ≡ option_map shape (slot t.files n)) where
     fits-stays : (f : OpenFile) (on : Target) (o : Option ℕ) → ((n : ℕ) → o ≡ Some n → 1 ≤ holders t.holds n) → FitsNode f on (node_of t.files o) → FitsNode f on (node_of now.files o)
     fits-stays f on None held fits = fits
-    fits-stays f on (Some n) held fits = of-shape f on (slot now.files n) (subst (FitsNode f on) (sym (stays n (held n refl))) (to-shape f on (slot t.files n) fits))
+    fits-stays f on (Some n) held fits = (fits-shape f on (slot now.files n)).1 (subst (FitsNode f on) (sym (stays n (held n refl))) ((fits-shape f on (slot t.files n)).0 fits))
 
     home-stays : (o : Option ℕ) → ((d : ℕ) → o ≡ Some d → 1 ≤ holders t.holds d) → IfSome o (λ d. IsFolder (slot t.files d)) → IfSome o (λ d. IsFolder (slot now.files d))
     home-stays None held folder = tt
-    home-stays (Some d) held folder = of-folder (slot now.files d) (subst IsFolder (sym (stays d (held d refl))) (to-folder (slot t.files d) folder))
+    home-stays (Some d) held folder = (folder-shape (slot now.files d)).1 (subst IsFolder (sym (stays d (held d refl))) ((folder-shape (slot t.files d)).0 folder))
 
     -- who holds which node stays
     pub used-shaped : KeepsTree now.files → now.holds ≡ t.holds → slot now.files 0 ≡ None → blocks_of now.files ≤ now.block_limit

@@ -16,14 +16,17 @@ use Rattle.files.specs.declared.table.FileFault.{FileFault}
 use Rattle.files.specs.Meant.{file_of, target_of}
 use Rattle.files.specs.Places.{file_at, node_at, node_from}
 use Rattle.inode.specs.declared.InodeStat.{InodeStat}
-use Rattle.kernel.proofs.Finishes.{counting-kernel, counting-used}
+use Rattle.kernel.proofs.Finishes.{counting-used}
 use Rattle.kernel.proofs.Opens.{slot-file}
 use Rattle.kernel.proofs.Runs.{set-slot}
 use Rattle.kernel.proofs.Steps.{fail-keeps, held-run, placed-with}
 use Rattle.kernel.specs.Descriptors.{descriptors_in}
 use Rattle.kernel.specs.Holding.{FitsNode, IsInUse, node_of, node_on}
+use Rattle.calls.proofs.Woken.{running-now, watched-stop}
+use Rattle.kernel.specs.View.{Keeps}
+use Rattle.kernel.specs.Watch.{Watches}
 use Rattle.kernel.specs.Kernel.{Kernel, argument, counting, descriptors_at, left_as, state_of}
-use Rattle.kernel.specs.Sound.{IsKernel, IsOpened}
+use Rattle.kernel.specs.Sound.{IsOpened}
 use Rattle.spaces.specs.Spaces.{SpaceView, Spaces, view_at, with_view, written}
 use Rattle.std.proofs.lemmas.Option.{none-some, same_Some}
 use Rattle.tree.specs.Telling.{Tells}
@@ -64,15 +67,12 @@ le-8 x =
 -- ---- a step that reads the disk; at is what the fields show, and k the kernel's value
 
 module _ (at k : Kernel) (same : at ≡ k) (t : FileTree) where
-  module _ (told : t ≡ record at.tree { failures = t.failures }) where
-    pub read-keeps : IsKernel k → IsKernel (record at { tree = t })
-    read-keeps is = subst (λ (u : FileTree). IsKernel (record at { tree = u })) (sym told) (counting-kernel at t.failures (subst IsKernel (sym same) is))
+  pub has-read : t ≡ record at.tree { failures = t.failures } → at.tree.failures ≤ t.failures → HasRead k (record at { tree = t })
+  has-read told later = record { same = ap (λ (u : FileTree). record at { tree = u }) told ∙ ap (λ (y : Kernel). counting y t.failures) same; later = rw (← same) later }
 
-    pub has-read : at.tree.failures ≤ t.failures → HasRead k (record at { tree = t })
-    has-read later = record { same = ap (λ (u : FileTree). record at { tree = u }) told ∙ ap (λ (y : Kernel). counting y t.failures) same; later = rw (← same) later }
-
-  pub read-fails : (i : ℕ) → Runs k i → t.failed ≡ true → IsKernel (record (left_as at i Ready) { tree = t })
-  read-fails i runs down = fail-keeps at k i t same runs.sound runs.active runs.zero runs.aligned down
+  -- an access failed, and the running process is stopped
+  pub read-fails : (i : ℕ) → Runs k i → Watches at → t.failed ≡ true → Keeps (record (left_as at i Ready) { tree = t })
+  read-fails i runs watched down = record { sound = fail-keeps at k i t same runs.sound runs.active runs.zero runs.aligned down; watched = watched-stop watched at.spaces i (running-now i same runs) }
 
 pub reads-ok : {X : Type 0} {old new : Kernel} (Told : X → Type 0) (r : Result X DeviceFault) (x : X) → r ≡ Ok x → ReadsDisk old new Told r → HasRead old new × Told x
 reads-ok {old = old} {new = new} Told (Ok y) x e reads = let same : y ≡ x = cc in (reads.0, subst Told same reads.1)

@@ -1,14 +1,15 @@
 -- A write to a file.
-use Rattle.std.proofs.Common.{◌≡◌, ℕ, zero, suc, ◌+◌, ◌<◌, ◌≤◌, ◌^◌, Bool, true, false, nat_le, List, [], length, take, Option, Some, None, refl, ap, subst, sym, ◌∙◌, arith}
+use Rattle.std.proofs.Common.{◌≡◌, ℕ, ◌+◌, ◌<◌, ◌≤◌, ◌^◌, Bool, true, false, nat_le, List, [], length, take, Option, Some, None, refl, ap, subst, sym, ◌∙◌, arith}
 use Rattle.std.specs.Prelude.{if◌then◌else◌, Ok, ◌&&◌, ◌==◌}
 use Rattle.std.proofs.lemmas.Bool.{and_parts, leb-true}
-use Rattle.std.proofs.lemmas.Option.{none-some, same_Some}
+use Rattle.std.proofs.lemmas.Option.{none-some, same_Some, cond_some}
 use Rattle.calls.specs.Acts.{GoesOn, settled_by}
 use Rattle.calls.specs.declared.outcome.Came.TheVariants.{Answers, Refuses}
 use Rattle.calls.specs.Transfers.{Transfers, Uses}
 use Rattle.calls.proofs.Acts.{Here, goes-serves, going, going-here, me, turned, turned-here, used-turned}
 use Rattle.calls.proofs.Fetches.{low-same}
-use Rattle.calls.proofs.Moving.{opened-moved, used-changed, used-moved}
+use Rattle.calls.proofs.Moving.{opened-moved, used-moved}
+use Rattle.calls.proofs.Shapes.{used-changed}
 use Rattle.calls.proofs.Transfers.{file, file-fits, file-named, going-is, held-here, here, named-file}
 use Rattle.calls.proofs.Writes.{length-read}
 use Rattle.files.specs.declared.file.End.TheVariants as end
@@ -27,6 +28,7 @@ use Rattle.names.specs.Changes.{Changed}
 use Rattle.proc.specs.Places.{Places, changed, with_mode}
 use Rattle.spaces.proofs.SpacesLemmas.{some-pipe}
 use Rattle.spaces.specs.Spaces.{SpaceView, Spaces, view_at}
+use Rattle.transfers.proofs.Fits.{greatest-low}
 use Rattle.transfers.specs.Moved.{bytes_given}
 use Rattle.tree.proofs.Keeping.{written-changed}
 use Rattle.tree.specs.Tree.{FileTree, Serves}
@@ -36,7 +38,7 @@ use Rattle.unixmodel.specs.Calls.{quiet, settle}
 use Rattle.unixmodel.specs.declared.process.Mode.TheVariants.{Ready}
 use Rattle.unixmodel.specs.declared.process.Pending.{Pending}
 use Rattle.unixmodel.specs.Counts.{blocks_of}
-use Rattle.unixmodel.specs.FileCalls.{greatest, room_for, with_file, with_offset, write_node, write_on}
+use Rattle.unixmodel.specs.FileCalls.{room_for, with_file, with_offset, write_node, write_on}
 use Rattle.unixmodel.specs.Files.{Files, Node, longest, put, slot}
 use Rattle.unixmodel.specs.Files.Node.{Device, Directory, File}
 use Rattle.unixmodel.specs.Memory.{Memory, overwrite, read_bytes}
@@ -49,14 +51,6 @@ use Rattle.unixmodel.specs.Process as unix
 use Rattle.unixmodel.specs.State.{State}
 
 -- ---- the row
-
--- the greatest number that passes is no more than the last that is tried
-greatest-most : (test : ℕ → Bool) (n : ℕ) → greatest test n ≤ n
-greatest-most test zero = omega arith
-greatest-most test (suc n) = go (test (suc n)) (greatest-most test n) where
-  go : (b : Bool) → greatest test n ≤ n → elim b [ true ↦ suc n | false ↦ greatest test n ] ≤ suc n
-  go true most = omega arith
-  go false most = omega (arith, most)
 
 -- what is written so, and what is answered
 pub record IsStored (s : State) (k : ℕ) (f : unix_files.OpenFile) (n at links : ℕ) (old new : List ℕ) (v : Written) : Type 0 where
@@ -80,15 +74,11 @@ module _ (s : State) (k : ℕ) (f : unix_files.OpenFile) (n at links : ℕ) (old
   is-made is = record {
     row = rw is refl;
     low = leb-true (at + length new) longest (and_parts (nat_le at (length old)) (nat_le (at + length new) longest) is).1;
-    few = greatest-most (λ m. nat_le (blocks_of (with_file s.files n links (overwrite old at (take m new)))) s.block_limit) (length new);
+    few = greatest-low (λ m. nat_le (blocks_of (with_file s.files n links (overwrite old at (take m new)))) s.block_limit) (length new);
   }
 
-  stored-go : (v : Written) (b : Bool) → test ≡ b → (if b then Some made else None) ≡ Some v → IsStored s k f n at links old new v
-  stored-go v true is same = subst (IsStored s k f n at links old new) (same_Some made v same) (is-made is)
-  stored-go v false is same = absurd (none-some v same)
-
   is-stored : (v : Written) → written s.block_limit s.files n at new ≡ Some v → IsStored s k f n at links old new v
-  is-stored v same = stored-go v test refl (sym written-is ∙ same)
+  is-stored v same = let parts = cond_some test made v (sym written-is ∙ same) in subst (IsStored s k f n at links old new) parts.1 (is-made parts.0)
 
   refused-go : (b : Bool) → test ≡ b → (if b then Some made else None) ≡ None → write_node s k f n at links old new ≡ Refused
   refused-go true is same = absurd (none-some made (sym same))

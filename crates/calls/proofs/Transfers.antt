@@ -12,7 +12,7 @@ use Rattle.kernel.specs.Descriptors.{descriptors_in}
 use Rattle.kernel.specs.Holding.{FitsNode, node_of, node_on}
 use Rattle.kernel.specs.Kernel.{Kernel, argument, descriptors_at, state_of}
 use Rattle.kernel.specs.Ready.{Stands}
-use Rattle.kernel.specs.Sound.{IsForBytes, IsForPipe, IsFresh, IsPending, file_named, is_awaited, is_on_pipe}
+use Rattle.kernel.specs.Sound.{IsFresh, IsPending, file_named, is_on_pipe}
 use Rattle.calls.specs.Transfers.{Begins, MayUse, Transfers, call_on, can_transfer, target_for, target_named}
 use Rattle.calls.proofs.Acts.{Here, does, going, going-here, here-of, me, outcome-here, refused, used-here}
 use Rattle.kernel.proofs.Opens.{IsFileAt, IsNamed, file-at, open-named, slot-file}
@@ -30,7 +30,6 @@ use Rattle.proc.specs.declared.process.Process.{Process}
 use Rattle.spaces.specs.Spaces.{SpaceView, view_at}
 use Rattle.unixmodel.specs.Calls.{goes_on, row}
 use Rattle.unixmodel.specs.declared.call.Call.{Call}
-use Rattle.unixmodel.specs.declared.call.Call.TheVariants as call
 use Rattle.unixmodel.specs.declared.process.Pending.{Pending}
 use Rattle.unixmodel.specs.FileCalls.{is_usable, read_row, unless_empty, write_row}
 use Rattle.unixmodel.specs.Files.{Files, slot}
@@ -335,11 +334,3 @@ module _ {k : Kernel} {i : ℕ} {w : Pending} (e : End) (runs : Runs k i) (can :
 
   pub goes-transfers : {t : Target} → r ≡ Some t → Transfers k i e t w
   goes-transfers {t = t} is = record { runs = runs; number = number; can = pending; fresh = can.1.fresh; target = open-on (Some t) is }
-
--- a read that waits is one of the console or of a pipe, and a write that waits is one to a pipe
-module _ {k : Kernel} {i : ℕ} {e : End} {w : Pending} {t u : Target} (g : Transfers k i e t w) (on : t ≡ u) where
-  pub not-awaited : w.number ≡ call.Read → IsForBytes k.files (descriptors_at k i) w → is_awaited u ≡ false → ⊥
-  not-awaited reads for none = false≢true (sym none ∙ ap is_awaited (sym on ∙ sym (file g).on) ∙ named-file g (λ f. is_awaited f.target ≡ true) (for reads))
-
-  pub not-piped : w.number ≡ call.Write → IsForPipe k.files (descriptors_at k i) w → is_on_pipe u ≡ false → ⊥
-  not-piped writes for none = false≢true (sym none ∙ ap is_on_pipe (sym on ∙ sym (file g).on) ∙ named-file g (λ f. is_on_pipe f.target ≡ true) (for writes))

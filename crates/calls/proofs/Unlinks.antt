@@ -1,16 +1,15 @@
 -- unlink: a name less, and its node is given up where nothing keeps it any more.
-use Rattle.blockdev.specs.declared.DeviceFault.{DeviceFault}
-use Rattle.std.proofs.Common.{◌≡◌, ◌≢◌, ℕ, ◌*◌, ◌<◌, ◌≤◌, ◌∙◌, Bool, List, [], None, Option, Some, ap, arith, false, inl, inr, length, negsuc, refl, subst, sym, true}
-use Rattle.std.specs.Prelude.{Err, IfOk, IfSome, Ok, OnErr, Result, if◌then◌else◌, nat_le, nat_lt, option_and_then, option_map, slice_set, ◌&&◌, ◌||◌}
+use Rattle.calls.proofs.Served.{ok-told}
+use Rattle.std.proofs.Common.{◌≡◌, ◌≢◌, ℕ, ◌*◌, ◌<◌, ◌≤◌, ◌∙◌, Bool, List, [], None, Option, Some, ap, arith, false, inl, inr, length, refl, subst, sym, true}
+use Rattle.std.specs.Prelude.{IfSome, Ok, Result, if◌then◌else◌, nat_le, nat_lt, option_and_then, option_map, slice_set, ◌&&◌, ◌||◌}
 use Rattle.std.proofs.lemmas.Bool.{cases_lt, cases_eq, lt-ltb, ltb-true, or_right}
 use Rattle.std.proofs.lemmas.List.{get_or-set_other, get_or-set_same, length-set}
 use Rattle.std.proofs.lemmas.Option.{none-some, same_Some}
-use Rattle.calls.specs.Acts.{Acts, ActsOnDisk, Runs}
-use Rattle.calls.specs.declared.outcome.Came.{Came}
+use Rattle.calls.specs.Acts.{Acts, Runs}
 use Rattle.calls.specs.declared.outcome.Came.TheVariants.{Answers, Refuses}
 use Rattle.calls.proofs.Acts.{Here, me, refused, settles, used-here}
-use Rattle.calls.proofs.Names.{faulted, given-then, here, home-is, mine, name-refused, name-sound, ok-done, over, over-here, over-state, path-is, with_made}
-use Rattle.calls.proofs.Settles.{after}
+use Rattle.calls.proofs.Names.{NameFails, given-then, here, home-is, mine, name-fails, over, over-here, over-state, path-is, with_made}
+use Rattle.calls.proofs.Settles.{settle-reaped}
 use Rattle.calls.proofs.Shapes.{there, used-shaped}
 use Rattle.files.proofs.CountsLemmas.{Counts}
 use Rattle.files.proofs.PipesLemmas.{without_pipes-same}
@@ -22,7 +21,7 @@ use Rattle.kernel.proofs.Holding.{held-there, is_by, kept-cong, settled-by, used
 use Rattle.kernel.proofs.Named.{counts-joined}
 use Rattle.kernel.proofs.Reaped.{away-loaded, opened-loaded, used-loaded, within-state}
 use Rattle.kernel.proofs.Running.{answer-run, not-killed, regs-kernel, regs-run}
-use Rattle.kernel.proofs.Runs.{process-run, self}
+use Rattle.kernel.proofs.Runs.{process-run}
 use Rattle.names.specs.Changes.{Loses, shape}
 use Rattle.names.proofs.Finding.{unlink-parts}
 use Rattle.names.proofs.Quiet.{kept-gone, kept-here, kept-none}
@@ -37,19 +36,19 @@ use Rattle.tree.specs.Unlinks.{unlinked_in}
 use Rattle.tree.specs.Whole.{IsWhole}
 use Rattle.tree.proofs.Keeping.{Reaps, unlinked-reaps}
 use Rattle.tree.proofs.Storing.{blocks_of-set, used_by}
-use Rattle.unixmodel.specs.Calls.{end_if_killed, outcome_of, quiet, row, settle}
+use Rattle.unixmodel.specs.Calls.{outcome_of, quiet, row, settle}
 use Rattle.unixmodel.specs.Counts.{blocks_of, frames_of, is_within, opens_of}
 use Rattle.unixmodel.specs.declared.call.Call.TheVariants.{Unlink}
 use Rattle.unixmodel.specs.Files.{Files, Node, Spot, blocks_for, change_node, erase, is_directory, links_of, lookup, size_of, slot, spot_of, without_place}
 use Rattle.unixmodel.specs.Files.Node.{Device, Directory, File}
 use Rattle.unixmodel.specs.Memory.{path_at}
 use Rattle.unixmodel.specs.NameCalls.{fewer_links, path_arg, unlink_row, unlinked, with_files, without_name}
-use Rattle.unixmodel.specs.Outcome.{Outcome, answers, end_process, limited, provided}
+use Rattle.unixmodel.specs.Outcome.{Outcome, answers, limited}
 use Rattle.unixmodel.specs.Outcome.Outcome.{Done, Refused}
 use Rattle.unixmodel.specs.Process as unix
 use Rattle.unixmodel.specs.Process.{with_answer}
 use Rattle.unixmodel.specs.Reap.{is_used, kept, reap, without_nodes, without_opens, without_pipes}
-use Rattle.unixmodel.specs.State.{State, change_process, open_limit, process_at}
+use Rattle.unixmodel.specs.State.{State, change_process, open_limit}
 
 -- ---- the row
 
@@ -232,11 +231,7 @@ module _ (k : Kernel) (i : ℕ) (x : Here k i) (t : FileTree) (d : ℕ) (path : 
   settles-so =
       let here-last = process-run last i here-then.process here-then.held (regs-run to i here-then.process here-then.held here-then.run here-then.sound (slice_set k.spaces.registers 10 0) k.spaces.pc) in
       let within : is_within (with_files (state_of k) g.less) ≡ true = within-files (state_of k) g.less (unlinked-less k.tree.files g.at g.less g.made).blocks ∙ within-state k x.sound x.run.up in
-      ap (λ (b : Bool). settle (state_of k) i (provided b (Done (with_files (state_of k) g.less) 0 []))) within
-      ∙ ap (λ (s : State). after (end_if_killed s i (process_at s i)) []) answered-is
-      ∙ ap (λ (o : Option unix.Process). after (end_if_killed full i o) []) here-last
-      ∙ ap (λ (b : Bool). after (if b then end_process full i (self last here-then.process here-then.held) (negsuc 0) else reap full) []) (not-killed to i here-then.process here-then.held here-then.run here-then.sound)
-      ∙ ap (λ (s : State). after s []) reaped
+      rw within (settle-reaped (state_of k) (with_files (state_of k) g.less) i 0 [] answered-is here-last (not-killed to i here-then.process here-then.held here-then.run here-then.sound) reaped)
 
   made-is : nameless k.tree.files d path ≡ Some g.less
   made-is = ap (option_and_then (unlinked k.tree.files)) g.spot ∙ g.made
@@ -268,13 +263,9 @@ module _ (k : Kernel) (i : ℕ) (runs : Runs k i) where
     module _ (at : Kernel) (same : at ≡ k) where
       pub unlink-done : TakesName at.tree t d path r → (v : Unit {0}) → r ≡ Ok v → IsWhole t → Acts k (record at { tree = t }) i (Some Unlink) (Answers 0)
       unlink-done = subst (λ (y : Kernel). TakesName y.tree t d path r → (v : Unit {0}) → r ≡ Ok v → IsWhole t → Acts k (record y { tree = t }) i (Some Unlink) (Answers 0)) (sym same) (λ acts v e whole.
-          let made : unlinked_in k.tree.holds k.tree.files d path ≡ Some t.files = ok-done _ r v e acts.done in
+          let made : unlinked_in k.tree.holds k.tree.files d path ≡ Some t.files = ok-told _ r v e acts.done in
           let g = unlinked-reaps (used-here k i (here k i runs)).rules k.tree.holds d path t.files made in
           unlinks k i (here k i runs) t d path g acts.limit acts.holds (acts.failed ∙ ap has_failed e) acts.later whole unlink-makes)
 
-      pub unlink-sound : TakesName at.tree t d path r → (fault : TreeFault) → r ≡ Err fault → IsKernel (faulted at i t (is_device fault))
-      unlink-sound = subst (λ (y : Kernel). TakesName y.tree t d path r → (fault : TreeFault) → r ≡ Err fault → IsKernel (faulted y i t (is_device fault))) (sym same) (λ acts fault e. name-sound k i (here k i runs) t r acts Unlink runs unlink-none fault e)
-
-      pub unlink-fails : TakesName at.tree t d path r → (fault : TreeFault) → r ≡ Err fault → (came : Result Came DeviceFault) → IfOk came (λ c. (c ≡ Refuses) × (is_device fault ≡ false)) → OnErr came (is_device fault ≡ true) → ActsOnDisk k (faulted at i t (is_device fault)) i (Some Unlink) came
-      unlink-fails = subst (λ (y : Kernel). TakesName y.tree t d path r → (fault : TreeFault) → r ≡ Err fault → (came : Result Came DeviceFault) → IfOk came (λ c. (c ≡ Refuses) × (is_device fault ≡ false)) → OnErr came (is_device fault ≡ true) → ActsOnDisk k (faulted y i t (is_device fault)) i (Some Unlink) came) (sym same)
-          (λ acts fault e. name-refused k i (here k i runs) t r acts Unlink runs unlink-none fault e)
+      pub unlink-fails : TakesName at.tree t d path r → NameFails k at i t r Unlink
+      unlink-fails = subst (λ (y : Kernel). TakesName y.tree t d path r → NameFails k y i t r Unlink) (sym same) (λ acts. name-fails k i (here k i runs) t r acts Unlink runs unlink-none)

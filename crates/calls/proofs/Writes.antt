@@ -1,12 +1,12 @@
 -- Bytes that are read, and nodes that are open.
-use Rattle.std.proofs.Common.{◌≡◌, ℕ, ◌<◌, ◌≤◌, ◌^◌, Bool, true, false, nat_le, List, [], length, take, Option, Some, None, is_some, unwrap_or, ℤ, pos, negsuc, refl, ap, subst, sym, ◌∙◌, arith}
+use Rattle.std.proofs.Common.{◌≡◌, ℕ, ◌<◌, ◌^◌, true, false, nat_le, List, length, take, Option, Some, None, is_some, ℤ, pos, negsuc, refl, ap, subst, sym, ◌∙◌, arith}
 use Rattle.std.specs.Int.{cast_signed, cast_unsigned, w32}
 use Rattle.std.proofs.lemmas.Bool.{leb-true}
 use Rattle.std.proofs.lemmas.Int.{of_z-to_z}
 use Rattle.std.proofs.lemmas.List.{length-take-le}
-use Rattle.std.proofs.lemmas.Option.{none-some, same_Some}
+use Rattle.std.proofs.lemmas.Option.{none-some, same_Some, cond_some}
 use Rattle.std.specs.Result.{result_ok}
-use Rattle.std.specs.Prelude.{if◌then◌else◌, option_map}
+use Rattle.std.specs.Prelude.{option_map}
 use Rattle.files.specs.declared.file.OpenFile.{OpenFile}
 use Rattle.files.specs.declared.file.Target.{Target}
 use Rattle.files.specs.declared.file.Target.TheVariants as target
@@ -24,23 +24,11 @@ use Rattle.unixmodel.specs.Numbers.{int_of, low, natural}
 
 -- ---- bytes that are read
 
-taken-length : (xs : List ℕ) (n : ℕ) (bytes : List ℕ) (b : Bool) → nat_le n (length xs) ≡ b → (if b then Some (take n xs) else None) ≡ Some bytes → length bytes ≡ n
-taken-length xs n bytes true fits is = let e : take n xs ≡ bytes = cc in ap length (sym e) ∙ length-take-le n xs (leb-true n (length xs) fits)
-taken-length xs n bytes false fits is = absurd cc
-
 -- the bytes that are read have the count that was asked for
 pub length-read : (mem : Memory) (at n : ℕ) (bytes : List ℕ) → read_bytes mem at n ≡ Some bytes → length bytes ≡ n
-length-read mem at n bytes read = taken-length (reach Load mem at) n bytes (nat_le n (length (reach Load mem at))) refl read
-
-readable-go : (xs : List ℕ) (n : ℕ) (b : Bool) → nat_le n (length xs) ≡ b → is_some (if b then Some (take n xs) else None) ≡ true
-    → (n ≤ length xs) × (unwrap_or (if b then Some (take n xs) else None) [] ≡ take n xs)
-readable-go xs n true fits can = (leb-true n (length xs) fits, refl)
-readable-go xs n false fits can = absurd cc
-
--- bytes that can be read are the first that are reached
-pub readable-count : (mem : Memory) (at n : ℕ) → is_some (read_bytes mem at n) ≡ true
-    → (n ≤ length (reach Load mem at)) × (unwrap_or (read_bytes mem at n) [] ≡ take n (reach Load mem at))
-readable-count mem at n can = readable-go (reach Load mem at) n (nat_le n (length (reach Load mem at))) refl can
+length-read mem at n bytes read =
+    let parts = cond_some (nat_le n (length (reach Load mem at))) (take n (reach Load mem at)) bytes read in
+    ap length (sym parts.1) ∙ length-take-le n (reach Load mem at) (leb-true n (length (reach Load mem at)) parts.0)
 
 natural-pos : (z : ℤ) (c : ℕ) → natural z ≡ Some c → z ≡ pos c
 natural-pos (pos n) c is = let e : n ≡ c = cc in ap pos e

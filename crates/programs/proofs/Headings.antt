@@ -287,7 +287,8 @@ TellsProgram old new is told = IsRead old new told is × IfSome told (λ program
 module _ {old new : FileTree} (number : ℕ) where
   -- the header is refused
   pub head-refused : {told : Option FileHeader} → Serves old new (Ok told) (λ t. IsRead old new t (headed (file_at old.files number))) → told ≡ None → Serves old new (Ok None) (TellsProgram old new (program_in (file_at old.files number)))
-  head-refused serves none = serves-told None (record { same = serves.told.same; value = sym (program-refused (file_at old.files number) (sym serves.told.value ∙ none)) }, tt) serves.up serves.cause.later
+  head-refused serves none =
+      serves-told None (record { same = serves.told.same; value = sym (program-refused (file_at old.files number) (sym serves.told.value ∙ none)) }, tt) serves.up serves.cause.later
 
 -- its program headers are in the file
 pub header-fits : {old mid : FileTree} (number : ℕ) {head : Option FileHeader} {header : FileHeader} → Serves old mid (Ok head) (λ t. IsRead old mid t (headed (file_at old.files number))) → head ≡ Some header
@@ -321,14 +322,16 @@ module _ {old mid new : FileTree} (number : ℕ) {head : Option FileHeader} {hea
   ends-refused none = serves-told None (record { same = same-both; value = sym (segments-refused whole_file header headed-is (sym ends-is ∙ none)) }, tt) second.up later-both
 
   pub program-told : (end pages : ℕ) → told ≡ Some end → end < 2 ^ 64 → pages ≡ ceil_div end 4096 → Serves old new (Ok (Some (record { header = header; pages = pages }))) (TellsProgram old new (program_in whole_file))
-  program-told end pages at fits count = serves-told _ (record { same = same-both; value = program-is whole_file header headed-is end pages (sym ends-is ∙ at) count }, omega (arith, count, fits)) second.up later-both
+  program-told end pages at fits count =
+      serves-told _ (record { same = same-both; value = program-is whole_file header headed-is end pages (sym ends-is ∙ at) count }, omega (arith, count, fits)) second.up later-both
 
 module _ {old mid : FileTree} (number : ℕ) {s : InodeStat} (node : (n : Node) × (slot old.files number ≡ Some n)) (first : Serves old mid (Ok s) (HasSeen old mid number)) where
   tells-node : Tells s node.0
   tells-node = first.told.1 node.0 node.1
 
   pub other-refused : s.kind ≢ 2 → Serves old mid (Ok None) (TellsProgram old mid (option_and_then program_in (file_bytes (slot old.files number))))
-  other-refused other = serves-told None (record { same = first.told.0; value = sym (ap (option_and_then program_in) (no-file s (slot old.files number) node.0 node.1 tells-node other)) }, tt) first.up first.cause.later
+  other-refused other =
+      serves-told None (record { same = first.told.0; value = sym (ap (option_and_then program_in) (no-file s (slot old.files number) node.0 node.1 tells-node other)) }, tt) first.up first.cause.later
 
   module _ (kind : s.kind ≡ 2) where
     was : IsFile old.files number × (s.size ≡ length (file_at old.files number)) × (file_bytes (slot old.files number) ≡ Some (file_at old.files number))

@@ -1,19 +1,19 @@
 use Rattle.std.proofs.lemmas.Result.{err_from_is_err_and}
 use Rattle.unixmodel.specs.Failures.{Rises}
+use Rattle.std.proofs.Common.{rules}
 use Rattle.calls.proofs.Acts.{fails-leave, fails-of, makes-of, numbers}
 use Rattle.calls.proofs.Served.{on-ok}
 use Rattle.calls.proofs.calls.call.Goals as goal
 
-pub returns-in_err-came-clause-gives : goal.returns-in_err-came-clause-gives
-returns-in_err-came-clause-gives g c =
+pub returns-in_err-came : goal.returns-in_err-came
+returns-in_err-came g c =
     let e = err_from_is_err_and c.from_residual.result c.from_residual.ensures.1 in
     let rising = Rises (g.W.Out.failures c.args.console.now) (g.W.Out.failures c.act.new.console) in
-    rw (e.1, e.2) (fails-of c.begin.ensures (numbers c.args.kernel.now c.argument.ensures c.low.ensures c.call_of-call.ensures) c.act.new.kernel (g.W.Out.contents c.args.console.now) (g.W.Out.contents c.act.new.console) rising _ c.in_err-came.ensures.tries)
-
-pub returns-in_err-came-clause-tree : goal.returns-in_err-came-clause-tree
-returns-in_err-came-clause-tree g c =
-    let e = err_from_is_err_and c.from_residual.result c.from_residual.ensures.1 in
-    rw (e.1, e.2) (fails-leave c.begin.ensures (numbers c.args.kernel.now c.argument.ensures c.low.ensures c.call_of-call.ensures) c.act.new.kernel (g.W.Out.contents c.args.console.now) (g.W.Out.contents c.act.new.console) (Rises (g.W.Out.failures c.args.console.now) (g.W.Out.failures c.act.new.console)) _ c.in_err-came.ensures.tries)
+    record {
+      gives = rw (e.1, e.2) (fails-of c.begin.ensures (numbers c.args.kernel.now c.argument.ensures c.low.ensures c.call_of-call.ensures) c.act.new.kernel (g.W.Out.contents c.args.console.now) (g.W.Out.contents c.act.new.console) rising _ c.in_err-came.ensures.tries);
+      tree = rw (e.1, e.2) (fails-leave c.begin.ensures (numbers c.args.kernel.now c.argument.ensures c.low.ensures c.call_of-call.ensures) c.act.new.kernel (g.W.Out.contents c.args.console.now) (g.W.Out.contents c.act.new.console) (Rises (g.W.Out.failures c.args.console.now) (g.W.Out.failures c.act.new.console)) _ c.in_err-came.ensures.tries);
+      later = search rules;
+    }
 
 pub returns-clause-gives : goal.returns-clause-gives
 returns-clause-gives g c =

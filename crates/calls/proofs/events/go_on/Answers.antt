@@ -13,9 +13,8 @@ act_on-came-requires g c = let x = resumes-as c.args.at c.args.pending c.is_soun
 pub settle-requires : goal.settle-requires
 settle-requires g c = record { running = c.act_on-came.ensures.comes.active; can = c.act_on-came.ensures.comes.can }
 
-pub returns-clause-gives : goal.returns-clause-gives
-returns-clause-gives g c = resumes-if (resumes-as c.args.at c.args.pending c.is_sound.ensures.sound c.requires.idle c.requires.up c.requires.waits c.start.ensures) c.act_on-came.ensures _ c.settle.result c.settle.ensures.gives
-
-pub returns-clause-tree : goal.returns-clause-tree
-returns-clause-tree g c =
-    disk-after _ _ _ c.settle.result (served-after (same-served (ap (λ (k : Kernel). k.tree) c.start.ensures ∙ started-tree c.args.kernel.now c.args.at) c.requires.up) c.act_on-came.ensures.comes.served) c.settle.ensures.tree
+pub returns : goal.returns
+returns g c = record {
+  gives = resumes-if (resumes-as c.args.at c.args.pending c.is_sound.ensures.sound c.requires.idle c.requires.up c.requires.waits c.start.ensures) c.act_on-came.ensures _ c.settle.result c.settle.ensures.gives;
+  tree = disk-after _ _ _ c.settle.result (served-after (same-served (ap (λ (k : Kernel). k.tree) c.start.ensures ∙ started-tree c.args.kernel.now c.args.at) c.requires.up) c.act_on-came.ensures.comes.served) c.settle.ensures.tree;
+}

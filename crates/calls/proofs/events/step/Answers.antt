@@ -1,22 +1,21 @@
 use Rattle.calls.proofs.Served.{on-ok}
 use Rattle.calls.proofs.Takes.{does-err, does-made, made-quiet}
 use Rattle.calls.proofs.Turned.{next-executes, next-turns}
-use Rattle.std.proofs.Common.{refl, sym, ◌∙◌}
+use Rattle.std.proofs.Common.{refl, sym, ◌∙◌, rules}
 use Rattle.std.proofs.lemmas.Result.{err_from_is_err_and}
 use Rattle.calls.proofs.events.step.Goals.{in-None+in_ok-take_turn-in-None, in-Some+in_ok-instruct-in-Some}
 use Rattle.calls.proofs.events.step.Goals as goal
 
-pub returns-in_err-instruct-in-Some-clause-does : goal.returns-in_err-instruct-in-Some-clause-does
-returns-in_err-instruct-in-Some-clause-does g c =
+pub returns-in_err-instruct-in-Some : goal.returns-in_err-instruct-in-Some
+returns-in_err-instruct-in-Some g c =
     let e = err_from_is_err_and c.from_residual.result c.from_residual.ensures.1 in
     let active = sym c.in-Some.ensures in
     let same = next-executes c.args.kernel.now c.in-Some.at c.is_sound.ensures.sound active in
-    rw (e.1, e.2) (does-err _ _ _ _ _ _ _ same c.in_err-instruct-in-Some.ensures.gives)
-
-pub returns-in_err-instruct-in-Some-clause-tree : goal.returns-in_err-instruct-in-Some-clause-tree
-returns-in_err-instruct-in-Some-clause-tree g c =
-    let e = err_from_is_err_and c.from_residual.result c.from_residual.ensures.1 in
-    rw (e.1, e.2) c.in_err-instruct-in-Some.ensures.tree
+    record {
+      does = rw (e.1, e.2) (does-err _ _ _ _ _ _ _ same c.in_err-instruct-in-Some.ensures.gives);
+      tree = rw (e.1, e.2) c.in_err-instruct-in-Some.ensures.tree;
+      later = search rules;
+    }
 
 pub returns-clause-does : goal.returns-clause-does
 returns-clause-does g c =

@@ -1,5 +1,4 @@
 use Rattle.kernel.specs.View.{kernel_of}
-use Rattle.calls.proofs.Woken.{running-now, watched-stop}
 use Rattle.calls.proofs.Served.{on-err, tree-lost}
 use Rattle.calls.proofs.Stats.{read-fails}
 use Rattle.calls.proofs.file_calls.stat.Goals as goal
@@ -7,10 +6,7 @@ use Rattle.calls.proofs.file_calls.stat.Goals as goal
 pub invariant_of-kernel-in-Err : goal.invariant_of-kernel-in-Err
 invariant_of-kernel-in-Err g c =
     rw (c.stop.ensures.table, c.stop.ensures.spaces)
-    (record {
-      sound = read-fails (kernel_of c.kernel.inside) c.args.kernel.now c.kernel.view_is c.stat.new.self c.args.at c.requires.runs (on-err c.stat.result _ c.in-Err.is c.stat.ensures.down);
-      watched = watched-stop c.kernel.invariant.watched c.kernel.inside.spaces c.args.at (running-now c.args.at c.kernel.view_is c.requires.runs);
-    })
+    (read-fails (kernel_of c.kernel.inside) c.args.kernel.now c.kernel.view_is c.stat.new.self c.args.at c.requires.runs c.kernel.invariant.watched (on-err c.stat.result _ c.in-Err.is c.stat.ensures.down))
 
 pub returns-in-Err : goal.returns-in-Err
 returns-in-Err g c = tree-lost c.kernel.view_is c.stat.result c.in-Err.fault c.in-Err.is c.stat.ensures

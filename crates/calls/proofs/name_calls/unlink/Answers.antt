@@ -1,8 +1,6 @@
 use Rattle.std.proofs.Common.{arith}
 use Rattle.kernel.specs.View.{kernel_of}
-use Rattle.tree.specs.Tree.{is_device}
-use Rattle.calls.proofs.Woken.{running-now, watched-refuse}
-use Rattle.calls.proofs.Unlinks.{unlink-done, unlink-fails, unlink-pathless, unlink-sound}
+use Rattle.calls.proofs.Unlinks.{unlink-done, unlink-fails, unlink-pathless}
 use Rattle.calls.proofs.Names.{names-may}
 use Rattle.calls.proofs.name_calls.unlink.Goals as goal
 
@@ -13,16 +11,14 @@ pub invariant_of-kernel : goal.invariant_of-kernel
 invariant_of-kernel g c = record { sound = (unlink-done c.args.kernel.now c.args.at c.requires c.home-directory.result c.home-directory.ensures _ c.in-Some.ensures.path c.unlink.new.self c.unlink.result (kernel_of c.kernel.inside) c.kernel.view_is c.unlink.ensures _ c.in-Ok.is c.is_whole.ensures).sound; watched = c.kernel.invariant.watched }
 
 pub invariant_of-kernel-in-Err : goal.invariant_of-kernel-in-Err
-invariant_of-kernel-in-Err g c = rw (c.refuse.ensures.table, c.refuse.ensures.spaces) (record {
-  sound = unlink-sound c.args.kernel.now c.args.at c.requires c.home-directory.result c.home-directory.ensures _ c.in-Some.ensures.path c.unlink.new.self c.unlink.result (kernel_of c.kernel.inside) c.kernel.view_is c.unlink.ensures c.in-Err.fault c.in-Err.is;
-  watched = watched-refuse (kernel_of c.kernel.inside) c.kernel.invariant.watched c.args.at (running-now c.args.at c.kernel.view_is c.requires) (is_device c.in-Err.fault);
-})
+invariant_of-kernel-in-Err g c = rw (c.refuse.ensures.table, c.refuse.ensures.spaces)
+    ((unlink-fails c.args.kernel.now c.args.at c.requires c.home-directory.result c.home-directory.ensures _ c.in-Some.ensures.path c.unlink.new.self c.unlink.result (kernel_of c.kernel.inside) c.kernel.view_is c.unlink.ensures).keeps c.in-Err.fault c.in-Err.is c.kernel.invariant.watched)
 
 pub returns-in-Ok : goal.returns-in-Ok
 returns-in-Ok g c = unlink-done c.args.kernel.now c.args.at c.requires c.home-directory.result c.home-directory.ensures _ c.in-Some.ensures.path c.unlink.new.self c.unlink.result (kernel_of c.kernel.inside) c.kernel.view_is c.unlink.ensures _ c.in-Ok.is c.is_whole.ensures
 
 pub returns-in-Err : goal.returns-in-Err
-returns-in-Err g c = rw (c.refuse.ensures.table, c.refuse.ensures.spaces) (unlink-fails c.args.kernel.now c.args.at c.requires c.home-directory.result c.home-directory.ensures _ c.in-Some.ensures.path c.unlink.new.self c.unlink.result (kernel_of c.kernel.inside) c.kernel.view_is c.unlink.ensures c.in-Err.fault c.in-Err.is c.refuse.result c.refuse.ensures.came c.refuse.ensures.failed)
+returns-in-Err g c = rw (c.refuse.ensures.table, c.refuse.ensures.spaces) ((unlink-fails c.args.kernel.now c.args.at c.requires c.home-directory.result c.home-directory.ensures _ c.in-Some.ensures.path c.unlink.new.self c.unlink.result (kernel_of c.kernel.inside) c.kernel.view_is c.unlink.ensures).acts c.in-Err.fault c.in-Err.is c.refuse.result c.refuse.ensures.came c.refuse.ensures.failed)
 
 pub unlink-requires : goal.unlink-requires
 unlink-requires g c = let may = names-may c.args.kernel.now c.args.at c.requires (kernel_of c.kernel.inside) c.kernel.view_is c.home-directory.result c.home-directory.ensures in record { up = may.0; rules = may.1; directory = may.2 }

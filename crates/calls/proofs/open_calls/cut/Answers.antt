@@ -1,6 +1,5 @@
 use Rattle.std.proofs.Common.{sym}
 use Rattle.kernel.specs.View.{kernel_of}
-use Rattle.calls.proofs.Woken.{running-now, watched-stop}
 use Rattle.calls.proofs.Opens.{cut-done, uncut}
 use Rattle.calls.proofs.Served.{ok-told, on-err, tree-lost}
 use Rattle.calls.proofs.Stats.{read-fails}
@@ -12,10 +11,7 @@ invariant_of-kernel g c = record { sound = (cut-done c.requires.runs c.args.flag
 pub invariant_of-kernel-in-Err : goal.invariant_of-kernel-in-Err
 invariant_of-kernel-in-Err g c =
     rw (c.stop.ensures.table, c.stop.ensures.spaces)
-    (record {
-      sound = read-fails (kernel_of c.kernel.inside) c.args.kernel.now c.kernel.view_is c.truncate.new.self c.args.at c.requires.runs (on-err c.truncate.result _ c.in-Err.is c.truncate.ensures.down);
-      watched = watched-stop c.kernel.invariant.watched c.kernel.inside.spaces c.args.at (running-now c.args.at c.kernel.view_is c.requires.runs);
-    })
+    (read-fails (kernel_of c.kernel.inside) c.args.kernel.now c.kernel.view_is c.truncate.new.self c.args.at c.requires.runs c.kernel.invariant.watched (on-err c.truncate.result _ c.in-Err.is c.truncate.ensures.down))
 
 pub returns-in-Ok : goal.returns-in-Ok
 returns-in-Ok g c = cut-done c.requires.runs c.args.flags c.args.number c.kernel.view_is (sym c.if-not-truncates.ensures) c.truncate.new.self (ok-told _ c.truncate.result _ c.in-Ok.is c.truncate.ensures.told) c.truncate.ensures.cause.later c.is_whole.ensures

@@ -1,5 +1,4 @@
 use Rattle.kernel.specs.View.{kernel_of}
-use Rattle.calls.proofs.Woken.{running-now, watched-stop}
 use Rattle.calls.proofs.Names.{names-may}
 use Rattle.calls.proofs.Served.{on-err, tree-lost}
 use Rattle.calls.proofs.Stats.{read-fails}
@@ -8,10 +7,7 @@ use Rattle.calls.proofs.open_calls.find.Goals as goal
 pub invariant_of-kernel-in-Err : goal.invariant_of-kernel-in-Err
 invariant_of-kernel-in-Err g c =
     rw (c.stop.ensures.table, c.stop.ensures.spaces)
-    (record {
-      sound = read-fails (kernel_of c.kernel.inside) c.args.kernel.now c.kernel.view_is c.resolve.new.self c.args.at c.requires (on-err c.resolve.result _ c.in-Err.is c.resolve.ensures.down);
-      watched = watched-stop c.kernel.invariant.watched c.kernel.inside.spaces c.args.at (running-now c.args.at c.kernel.view_is c.requires);
-    })
+    (read-fails (kernel_of c.kernel.inside) c.args.kernel.now c.kernel.view_is c.resolve.new.self c.args.at c.requires c.kernel.invariant.watched (on-err c.resolve.result _ c.in-Err.is c.resolve.ensures.down))
 
 pub resolve-requires : goal.resolve-requires
 resolve-requires g c = let may = names-may c.args.kernel.now c.args.at c.requires (kernel_of c.kernel.inside) c.kernel.view_is c.home-directory.result c.home-directory.ensures in record { up = may.0; rules = may.1; directory = may.2 }

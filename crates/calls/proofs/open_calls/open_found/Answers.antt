@@ -19,14 +19,12 @@ returns-then-not-has_seat g c = open-full c.args.kernel.now c.args.at c.requires
 pub cut-requires-clause-node : goal.cut-requires-clause-node
 cut-requires-clause-node g c = node-then c.args.kernel.now c.args.at c.requires.runs c.args.number c.args.flags c.requires.asks c.stat.new.kernel c.in_ok-told.told (reads-ok _ c.stat.result _ c.in_ok-told.was c.stat.ensures)
 
-pub open_on-descriptor-requires-clause-may : goal.open_on-descriptor-requires-clause-may
-open_on-descriptor-requires-clause-may g c = may-open-cut c.args.kernel.now c.args.at c.requires.runs c.args.number c.args.flags c.requires.asks c.stat.new.kernel c.in_ok-told.told (reads-ok _ c.stat.result _ c.in_ok-told.was c.stat.ensures) (sym c.if-not-may_open.ensures) c.cut.new.kernel (cut-ok c.cut.result _ c.in_ok-cut.was c.cut.ensures)
-
-pub open_on-descriptor-requires-clause-seat : goal.open_on-descriptor-requires-clause-seat
-open_on-descriptor-requires-clause-seat g c = seat-cut c.args.kernel.now c.args.at c.requires.runs c.args.number c.args.flags c.requires.asks c.stat.new.kernel c.in_ok-told.told (reads-ok _ c.stat.result _ c.in_ok-told.was c.stat.ensures) (sym c.if-not-may_open.ensures) c.cut.new.kernel (cut-ok c.cut.result _ c.in_ok-cut.was c.cut.ensures) (sym c.if-not-has_seat.ensures)
-
-pub open_on-descriptor-requires-clause-runs : goal.open_on-descriptor-requires-clause-runs
-open_on-descriptor-requires-clause-runs g c = (cut-ok c.cut.result _ c.in_ok-cut.was c.cut.ensures).runs
+pub open_on-descriptor-requires : goal.open_on-descriptor-requires
+open_on-descriptor-requires g c = record {
+  runs = (cut-ok c.cut.result _ c.in_ok-cut.was c.cut.ensures).runs;
+  seat = seat-cut c.args.kernel.now c.args.at c.requires.runs c.args.number c.args.flags c.requires.asks c.stat.new.kernel c.in_ok-told.told (reads-ok _ c.stat.result _ c.in_ok-told.was c.stat.ensures) (sym c.if-not-may_open.ensures) c.cut.new.kernel (cut-ok c.cut.result _ c.in_ok-cut.was c.cut.ensures) (sym c.if-not-has_seat.ensures);
+  may = may-open-cut c.args.kernel.now c.args.at c.requires.runs c.args.number c.args.flags c.requires.asks c.stat.new.kernel c.in_ok-told.told (reads-ok _ c.stat.result _ c.in_ok-told.was c.stat.ensures) (sym c.if-not-may_open.ensures) c.cut.new.kernel (cut-ok c.cut.result _ c.in_ok-cut.was c.cut.ensures);
+}
 
 pub returns : goal.returns
 returns g c = open-found c.args.kernel.now c.args.at c.requires.runs c.args.number c.args.flags c.requires.asks c.stat.new.kernel c.in_ok-told.told (reads-ok _ c.stat.result _ c.in_ok-told.was c.stat.ensures) (sym c.if-not-may_open.ensures) c.cut.new.kernel (cut-ok c.cut.result _ c.in_ok-cut.was c.cut.ensures) c.open_on-descriptor.new.kernel c.open_on-descriptor.result c.open_on-descriptor.ensures

@@ -1,9 +1,7 @@
 use Rattle.std.proofs.Common.{refl, sym}
 use Rattle.kernel.specs.View.{kernel_of}
-use Rattle.tree.specs.Tree.{is_device}
 use Rattle.calls.proofs.Names.{names-may}
-use Rattle.calls.proofs.Woken.{running-now, watched-refuse}
-use Rattle.calls.proofs.Opens.{create-fails, create-sound, created-openable, created-runs, created-seat, open-absent, open-created, open-new-full}
+use Rattle.calls.proofs.Opens.{create-fails, created-openable, created-runs, created-seat, open-absent, open-created, open-new-full}
 use Rattle.calls.proofs.open_calls.open_new.Goals as goal
 
 pub returns-then-not-creates : goal.returns-then-not-creates
@@ -15,26 +13,22 @@ returns-then-not-has_seat g c = open-new-full c.args.kernel.now c.args.at c.requ
 pub invariant_of-kernel : goal.invariant_of-kernel
 invariant_of-kernel g c = record { sound = (created-runs c.args.kernel.now c.args.at c.requires.runs c.args.path.now c.args.flags c.requires.asks (sym c.if-not-creates.ensures) c.home-directory.result c.home-directory.ensures c.create.new.self c.create.result (kernel_of c.kernel.inside) c.kernel.view_is c.create.ensures c.requires.path c.in-Ok.number c.in-Ok.is c.is_whole.ensures).sound; watched = c.kernel.invariant.watched }
 
-pub open_on-descriptor-requires-clause-runs : goal.open_on-descriptor-requires-clause-runs
-open_on-descriptor-requires-clause-runs g c = created-runs c.args.kernel.now c.args.at c.requires.runs c.args.path.now c.args.flags c.requires.asks (sym c.if-not-creates.ensures) c.home-directory.result c.home-directory.ensures c.create.new.self c.create.result (kernel_of c.kernel.inside) c.kernel.view_is c.create.ensures c.requires.path c.in-Ok.number c.in-Ok.is c.is_whole.ensures
-
-pub open_on-descriptor-requires-clause-may : goal.open_on-descriptor-requires-clause-may
-open_on-descriptor-requires-clause-may g c = created-openable c.args.kernel.now c.args.at c.requires.runs c.args.path.now c.args.flags c.requires.asks (sym c.if-not-creates.ensures) c.home-directory.result c.home-directory.ensures c.create.new.self c.create.result (kernel_of c.kernel.inside) c.kernel.view_is c.create.ensures c.requires.path c.in-Ok.number c.in-Ok.is c.is_whole.ensures _ refl
-
-pub open_on-descriptor-requires-clause-seat : goal.open_on-descriptor-requires-clause-seat
-open_on-descriptor-requires-clause-seat g c = created-seat c.args.kernel.now c.args.at c.requires.runs c.args.path.now c.args.flags c.requires.asks (sym c.if-not-creates.ensures) c.home-directory.result c.home-directory.ensures c.create.new.self c.create.result (kernel_of c.kernel.inside) c.kernel.view_is c.create.ensures c.requires.path c.in-Ok.number c.in-Ok.is c.is_whole.ensures (sym c.if-not-has_seat.ensures)
+pub open_on-descriptor-requires : goal.open_on-descriptor-requires
+open_on-descriptor-requires g c = record {
+  runs = created-runs c.args.kernel.now c.args.at c.requires.runs c.args.path.now c.args.flags c.requires.asks (sym c.if-not-creates.ensures) c.home-directory.result c.home-directory.ensures c.create.new.self c.create.result (kernel_of c.kernel.inside) c.kernel.view_is c.create.ensures c.requires.path c.in-Ok.number c.in-Ok.is c.is_whole.ensures;
+  seat = created-seat c.args.kernel.now c.args.at c.requires.runs c.args.path.now c.args.flags c.requires.asks (sym c.if-not-creates.ensures) c.home-directory.result c.home-directory.ensures c.create.new.self c.create.result (kernel_of c.kernel.inside) c.kernel.view_is c.create.ensures c.requires.path c.in-Ok.number c.in-Ok.is c.is_whole.ensures (sym c.if-not-has_seat.ensures);
+  may = created-openable c.args.kernel.now c.args.at c.requires.runs c.args.path.now c.args.flags c.requires.asks (sym c.if-not-creates.ensures) c.home-directory.result c.home-directory.ensures c.create.new.self c.create.result (kernel_of c.kernel.inside) c.kernel.view_is c.create.ensures c.requires.path c.in-Ok.number c.in-Ok.is c.is_whole.ensures _ refl;
+}
 
 pub invariant_of-kernel-in-Err : goal.invariant_of-kernel-in-Err
-invariant_of-kernel-in-Err g c = rw (c.refuse.ensures.table, c.refuse.ensures.spaces) (record {
-  sound = create-sound c.args.kernel.now c.args.at c.requires.runs c.args.path.now c.args.flags c.requires.asks (sym c.if-not-creates.ensures) c.home-directory.result c.home-directory.ensures c.create.new.self c.create.result (kernel_of c.kernel.inside) c.kernel.view_is c.create.ensures c.in-Err.fault c.in-Err.is;
-  watched = watched-refuse (kernel_of c.kernel.inside) c.kernel.invariant.watched c.args.at (running-now c.args.at c.kernel.view_is c.requires.runs) (is_device c.in-Err.fault);
-})
+invariant_of-kernel-in-Err g c = rw (c.refuse.ensures.table, c.refuse.ensures.spaces)
+    ((create-fails c.args.kernel.now c.args.at c.requires.runs c.args.path.now c.args.flags c.requires.asks (sym c.if-not-creates.ensures) c.home-directory.result c.home-directory.ensures c.create.new.self c.create.result (kernel_of c.kernel.inside) c.kernel.view_is c.create.ensures).keeps c.in-Err.fault c.in-Err.is c.kernel.invariant.watched)
 
 pub returns-in-Ok : goal.returns-in-Ok
 returns-in-Ok g c = open-created c.args.kernel.now c.args.at c.requires.runs c.args.path.now c.args.flags c.requires.asks (sym c.if-not-creates.ensures) c.home-directory.result c.home-directory.ensures c.create.new.self c.create.result (kernel_of c.kernel.inside) c.kernel.view_is c.create.ensures c.requires.path c.in-Ok.number c.in-Ok.is c.is_whole.ensures c.open_on-descriptor.new.kernel c.open_on-descriptor.result c.open_on-descriptor.ensures
 
 pub returns-in-Err : goal.returns-in-Err
-returns-in-Err g c = rw (c.refuse.ensures.table, c.refuse.ensures.spaces) (create-fails c.args.kernel.now c.args.at c.requires.runs c.args.path.now c.args.flags c.requires.asks (sym c.if-not-creates.ensures) c.home-directory.result c.home-directory.ensures c.create.new.self c.create.result (kernel_of c.kernel.inside) c.kernel.view_is c.create.ensures c.in-Err.fault c.in-Err.is c.refuse.result c.refuse.ensures.came c.refuse.ensures.failed)
+returns-in-Err g c = rw (c.refuse.ensures.table, c.refuse.ensures.spaces) ((create-fails c.args.kernel.now c.args.at c.requires.runs c.args.path.now c.args.flags c.requires.asks (sym c.if-not-creates.ensures) c.home-directory.result c.home-directory.ensures c.create.new.self c.create.result (kernel_of c.kernel.inside) c.kernel.view_is c.create.ensures).acts c.in-Err.fault c.in-Err.is c.refuse.result c.refuse.ensures.came c.refuse.ensures.failed)
 
 pub create-requires : goal.create-requires
 create-requires g c = let may = names-may c.args.kernel.now c.args.at c.requires.runs (kernel_of c.kernel.inside) c.kernel.view_is c.home-directory.result c.home-directory.ensures in record { up = may.0; rules = may.1; directory = may.2; path = c.requires.path }

@@ -19,14 +19,15 @@ returns-in-Blocks-clause-gives g c =
     let can = subst (CanCome c.args.kernel.now c.args.at) c.in-Blocks.is c.requires.can in
     rw c.in-Blocks.is (settles-blocks c.args.kernel.now c.block.new.self c.args.at s.sound c.requires.running s.zero s.aligned c.in-Blocks.pending can c.block.ensures)
 
-pub returns-in-Exits-clause-gives : goal.returns-in-Exits-clause-gives
-returns-in-Exits-clause-gives g c =
+pub returns-in-Exits : goal.returns-in-Exits
+returns-in-Exits g c =
     let s = c.is_sound.ensures in
     let can = subst (CanCome c.args.kernel.now c.args.at) c.in-Exits.is c.requires.can in
-    rw c.in-Exits.is (settles-exits-if c.args.kernel.now c.finish.new.self c.args.at s.sound c.requires.running s.zero s.aligned c.in-Exits.status _ can c.finish.result c.finish.ensures.told)
-
-pub returns-in-Exits-clause-fails : goal.returns-in-Exits-clause-fails
-returns-in-Exits-clause-fails g c = where-err c.finish.result (subst IsEnd (sym c.in-Exits.is) tt)
+    record {
+      gives = rw c.in-Exits.is (settles-exits-if c.args.kernel.now c.finish.new.self c.args.at s.sound c.requires.running s.zero s.aligned c.in-Exits.status _ can c.finish.result c.finish.ensures.told);
+      fails = where-err c.finish.result (subst IsEnd (sym c.in-Exits.is) tt);
+      tree = serves-disk c.finish.ensures;
+    }
 
 pub returns-in-Answers-clause-tree : goal.returns-in-Answers-clause-tree
 returns-in-Answers-clause-tree g c = same-served (ap (λ (k : Kernel). k.tree) c.answer.ensures) (c.is_sound.ensures.sound.filed.up c.args.at c.requires.running)
@@ -36,9 +37,6 @@ returns-in-Refuses-clause-tree g c = same-served (ap (λ (k : Kernel). k.tree) c
 
 pub returns-in-Blocks-clause-tree : goal.returns-in-Blocks-clause-tree
 returns-in-Blocks-clause-tree g c = same-served (ap (λ (k : Kernel). k.tree) c.block.ensures) (c.is_sound.ensures.sound.filed.up c.args.at c.requires.running)
-
-pub returns-in-Exits-clause-tree : goal.returns-in-Exits-clause-tree
-returns-in-Exits-clause-tree g c = serves-disk c.finish.ensures
 
 pub returns-in_ok-finish-in-KillsItself-clause-gives : goal.returns-in_ok-finish-in-KillsItself-clause-gives
 returns-in_ok-finish-in-KillsItself-clause-gives g c =

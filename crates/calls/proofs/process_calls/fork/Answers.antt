@@ -46,14 +46,12 @@ returns g c =
     let made = forks c.args.kernel.now c.args.at c.requires k c.kernel.view_is c.in-Ok.seat seats c.in-Some.process (sym c.in-Some.ensures.process) c.if-not-copy.ensures.done.0 in
     rw (c.wake.ensures, table, c.if-not-copy.ensures.done.1, c.share_all.ensures, c.hold.ensures, c.from.ensures) (comes-waking made _)
 
-pub hold-requires-clause-up : goal.hold-requires-clause-up
-hold-requires-clause-up g c = hold-up c.args.kernel.now c.args.at c.requires (kernel_of c.kernel.inside) c.kernel.view_is c.in-Some.process (sym c.in-Some.ensures.process)
-
-pub hold-requires-clause-node : goal.hold-requires-clause-node
-hold-requires-clause-node g c = hold-there c.args.kernel.now c.args.at c.requires (kernel_of c.kernel.inside) c.kernel.view_is c.in-Some.process (sym c.in-Some.ensures.process)
-
-pub hold-requires-clause-few : goal.hold-requires-clause-few
-hold-requires-clause-few g c = hold-few c.args.kernel.now c.args.at c.requires (kernel_of c.kernel.inside) c.kernel.view_is c.in-Some.process (sym c.in-Some.ensures.process)
+pub hold-requires : goal.hold-requires
+hold-requires g c = record {
+  up = hold-up c.args.kernel.now c.args.at c.requires (kernel_of c.kernel.inside) c.kernel.view_is c.in-Some.process (sym c.in-Some.ensures.process);
+  node = hold-there c.args.kernel.now c.args.at c.requires (kernel_of c.kernel.inside) c.kernel.view_is c.in-Some.process (sym c.in-Some.ensures.process);
+  few = hold-few c.args.kernel.now c.args.at c.requires (kernel_of c.kernel.inside) c.kernel.view_is c.in-Some.process (sym c.in-Some.ensures.process);
+}
 
 pub invariant_of-kernel : goal.invariant_of-kernel
 invariant_of-kernel g c = rw c.if-not-copy.ensures.refused.1 c.kernel.invariant

@@ -28,16 +28,14 @@ write_status-requires-clause-space g c = active-space (kernel_of c.kernel.inside
 pub write_status-requires-clause-can : goal.write_status-requires-clause-can
 write_status-requires-clause-can g c = ap (λ (k : Kernel). can_answer (view_at k.spaces c.args.at).memory (pending_arg c.args.pending 0)) c.kernel.view_is ∙ c.requires.can
 
-pub destroy-requires-clause-space : goal.destroy-requires-clause-space
-destroy-requires-clause-space g c =
+pub destroy-requires : goal.destroy-requires
+destroy-requires g c =
     let x = collects c.requires.runs c.pid-parent.result c.pid-parent.ensures c.args.pending c.requires.number c.kernel.view_is (sym c.in-Some.ensures.reaped) in
     let fits : SFits w32 c.in-Some.reaped.status = search rules in
-    rw (c.write_status.ensures, to_z-of_z w32 c.in-Some.reaped.status fits) x.stands
-
-pub destroy-requires-clause-idle : goal.destroy-requires-clause-idle
-destroy-requires-clause-idle g c =
-    let x = collects c.requires.runs c.pid-parent.result c.pid-parent.ensures c.args.pending c.requires.number c.kernel.view_is (sym c.in-Some.ensures.reaped) in
-    rw c.write_status.ensures x.apart
+    record {
+      space = rw (c.write_status.ensures, to_z-of_z w32 c.in-Some.reaped.status fits) x.stands;
+      idle = rw c.write_status.ensures x.apart;
+    }
 
 pub invariant_of-kernel-2 : goal.invariant_of-kernel-2
 invariant_of-kernel-2 g c =
