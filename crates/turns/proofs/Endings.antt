@@ -1,6 +1,7 @@
 -- How a process ends, and what its end leaves of the others.
-use Rattle.std.proofs.Common.{◌≡◌, ◌∙◌, ℕ, ℤ, Bool, true, false, Option, Some, None, List, [], ◌∷◌, zero, suc, map, refl, sym, ap, subst}
+use Rattle.std.proofs.Common.{◌≡◌, ◌∙◌, ℕ, ℤ, Bool, true, false, Option, Some, None, map, refl, sym, ap, subst}
 use Rattle.std.specs.Prelude.{if◌then◌else◌, option_map}
+use Rattle.std.proofs.Math.ListN.{get_or-map}
 use Rattle.std.proofs.lemmas.List.{get_or-set_other}
 use Rattle.unixmodel.specs.Files.{slot}
 use Rattle.unixmodel.specs.Outcome.{end_process, orphaned, with_zombie, zombie_of}
@@ -26,11 +27,6 @@ reap-spares r s t spares = record {
 
 -- ---- the children of a process that ends
 
-slot-map : (f : Process → Process) (xs : List (Option Process)) (i : ℕ) → slot (map (option_map f) xs) i ≡ option_map f (slot xs i)
-slot-map f [] i = refl
-slot-map f (x ∷ xs) zero = refl
-slot-map f (x ∷ xs) (suc i) = slot-map f xs i
-
 given-up : (p : Process) (b : Bool) → Rests p (if b then record p { parent = 1 } else p)
 given-up p true = refl
 given-up p false = refl
@@ -45,6 +41,6 @@ end-spares s r p status = reap-spares r s (with_zombie s r p status) (record {
   last = refl;
   others = λ i apart.
       subst (IsSame (process_at s i))
-      (sym (get_or-set_other (map (option_map (orphaned p.pid)) s.places) r i (Some (zombie_of p status)) None apart ∙ slot-map (orphaned p.pid) s.places i))
+      (sym (get_or-set_other (map (option_map (orphaned p.pid)) s.places) r i (Some (zombie_of p status)) None apart ∙ get_or-map (option_map (orphaned p.pid)) s.places i None))
       (orphaned-same p.pid (process_at s i));
 })

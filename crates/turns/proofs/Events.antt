@@ -1,7 +1,7 @@
 -- What an event leaves in the place of a process that doesn't run, and which place was picked last after it.
-use Rattle.std.proofs.Common.{◌≡◌, ◌≢◌, ◌∙◌, ℕ, Bool, true, false, Option, Some, None, List, [], ◌∷◌, refl, sym, ap, subst}
-use Rattle.std.specs.Prelude.{find, if◌then◌else◌, unwrap_or}
-use Rattle.std.proofs.lemmas.Option.{same_Some}
+use Rattle.std.proofs.Common.{◌≡◌, ◌≢◌, ◌∙◌, ℕ, true, false, Option, Some, None, refl, sym, ap, subst}
+use Rattle.turns.proofs.Rounds.{turn-ready}
+use Rattle.std.specs.Prelude.{unwrap_or}
 use Rattle.std.proofs.lemmas.List.Quantifiers.{position-Some}
 use Rattle.unixmodel.specs.declared.event.Event.{Event}
 use Rattle.unixmodel.specs.declared.event.Event.TheVariants.{Key, Step, Tick}
@@ -10,7 +10,7 @@ use Rattle.unixmodel.specs.Next.{execute, execute_at, next, pick, step, stopped,
 use Rattle.unixmodel.specs.Process.{Process, is_running, with_mode}
 use Rattle.unixmodel.specs.Run.{picked_by, picked_unless}
 use Rattle.unixmodel.specs.State.{State, change_process, holds, process_at, running}
-use Rattle.unixmodel.specs.Turn.{is_ready, ready, round_from, turn}
+use Rattle.unixmodel.specs.Turn.{is_ready, ready, turn}
 use Rattle.turns.specs.Resting.{IsLeft}
 use Rattle.turns.proofs.Others.{IsPassed, Passes, spares-own, spares-passes}
 use Rattle.turns.proofs.Settling.{execute-passes, picked-passes}
@@ -50,19 +50,6 @@ execute_at-takes s r None runs here = takes-nothing s s refl refl
 execute_at-takes s r (Some p) runs here = takes-none s r (execute s r p).state (λ q. runs-there s r q runs) (execute-passes s r p)
 
 -- ---- a turn
-
-found-first : {X : Type 0} (test : X → Bool) (y x : X) (b : Bool) (rest : Option X) → test y ≡ b → (if b then Some y else rest) ≡ Some x → (rest ≡ Some x → test x ≡ true)
-    → test x ≡ true
-found-first test y x true rest is found later = sym (ap test (same_Some y x found)) ∙ is
-found-first test y x false rest is found later = later found
-
-found-passes : {X : Type 0} (test : X → Bool) (xs : List X) (x : X) → find test xs ≡ Some x → test x ≡ true
-found-passes test [] x found = absurd cc
-found-passes test (y ∷ xs) x found = found-first test y x (test y) (find test xs) refl found (found-passes test xs x)
-
-turn-ready : (s : State) (j : ℕ) → turn s ≡ Some j → ready s j ≡ true
-unfolding turn
-turn-ready s j is = found-passes (ready s) (round_from s.last) j is
 
 pick-takes : (s : State) (j : ℕ) (o : Option Process) → process_at s j ≡ o → ready s j ≡ true → Takes s (Some j) (pick s j o).state
 pick-takes s j None here is = absurd (let none : false ≡ true = sym (ap (holds (is_ready s)) here) ∙ is in cc)

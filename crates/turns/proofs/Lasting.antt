@@ -1,7 +1,7 @@
 -- The place that was picked last is one of the 64, and a process that is let be stays.
-use Rattle.std.proofs.Common.{◌≡◌, ◌≢◌, ◌∙◌, ℕ, ℤ, ◌<◌, Bool, true, false, Option, Some, None, List, [], ◌∷◌, refl, sym, ap, arith}
-use Rattle.std.specs.Prelude.{if◌then◌else◌, is_some, nat_le, option_and_then, unwrap_or}
-use Rattle.std.proofs.lemmas.Option.{same_Some}
+use Rattle.std.proofs.Common.{◌≡◌, ◌≢◌, ◌∙◌, ℕ, ℤ, ◌<◌, true, false, Option, Some, None, List, [], ◌∷◌, refl, sym, ap, arith}
+use Rattle.std.specs.Prelude.{is_some, nat_le, option_and_then, unwrap_or}
+use Rattle.std.proofs.lemmas.Option.{cond_some}
 use Rattle.unixmodel.specs.declared.event.Event.{Event}
 use Rattle.unixmodel.specs.Calls.{After}
 use Rattle.unixmodel.specs.Counts.{frames_of}
@@ -20,14 +20,10 @@ use Rattle.turns.specs.Resting.{IsLeft, IsLetBe, Rests}
 
 -- ---- the place that was picked last
 
-if-fits : (made s : State) (b : Bool) → (if b then Some made else None) ≡ Some s → s.last ≡ made.last
-if-fits made s true is = ap (λ (u : State). u.last) (sym (same_Some made s is))
-if-fits made s false is = absurd cc
-
 started : (make : Plan → State) (o : Option Plan) (s : State) → ((new : Plan) → (make new).last ≡ 63) → option_and_then (λ new. if_fits (make new)) o ≡ Some s → s.last < place_limit
 started make None s last is = absurd cc
 started make (Some new) s last is =
-    let e : s.last ≡ 63 = if-fits (make new) s (nat_le (frames_of (make new)) (make new).frame_limit) is ∙ last new in omega arith
+    let e : s.last ≡ 63 = ap (λ (u : State). u.last) (sym (cond_some (nat_le (frames_of (make new)) (make new).frame_limit) (make new) s is).1) ∙ last new in omega arith
 
 pub start-last : (files : Files) (blocks frames : ℕ) (s : State) → start files blocks frames ≡ Some s → s.last < place_limit
 unfolding start

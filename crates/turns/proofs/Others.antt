@@ -19,9 +19,6 @@ IsPassed None o = Unit {0}
 IsPassed (Some p) None = is_zombie p ≡ true
 IsPassed (Some p) (Some q) = Rests p q
 
-pub rests-same : (p : Process) → Rests p p
-rests-same p = refl
-
 pub rests-then : (p q r : Process) → Rests p q → Rests q r → Rests p r
 rests-then p q r first second = second ∙ ap (λ (x : Process). record x { parent = r.parent; killed = r.killed }) first
 
