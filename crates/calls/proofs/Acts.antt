@@ -1,7 +1,7 @@
 -- Calls of the running process that are answered at once.
 use Rattle.blockdev.specs.declared.DeviceFault.{DeviceFault}
 use Rattle.unixmodel.specs.Memory.{Memory}
-use Rattle.std.proofs.Common.{◌≡◌, Err, ℕ, ◌<◌, ◌≤◌, List, [], length, Option, Some, None, refl, ap, subst, sym, ◌∙◌, Bool, true, false, ◌%◌, ℤ}
+use Rattle.std.proofs.Common.{◌≡◌, Err, ℕ, ◌<◌, ◌≤◌, List, [], length, Option, Some, refl, ap, subst, sym, ◌∙◌, Bool, true, false, ◌%◌, ℤ}
 use Rattle.std.specs.Prelude.{IfOk, IfSome, Ok, OnOk, Result, slice_index, slice_set, unwrap_or}
 use Rattle.std.proofs.lemmas.List.{length-set}
 use Rattle.std.specs.Io.KnownBytes.{Appends}
@@ -210,8 +210,7 @@ unbuilt {k = k} {i = i} other runs is none at = let x = here-of k i runs.sound r
 -- ---- getpid
 
 pub getpid-is : (o : Option Process) (p : Process) (pid : ℕ) → o ≡ Some p → IfSome o (λ r. pid ≡ r.pid) → pid ≡ p.pid
-getpid-is None p pid at is = absurd (cc)
-getpid-is (Some r) p pid at is = is ∙ cc
+getpid-is o p pid at is = subst (λ (u : Option Process). IfSome u (λ r. pid ≡ r.pid)) at is
 
 pub getpids : (k : Kernel) (i pid : ℕ) → Runs k i → IfSome (slot k.table.places i) (λ p. pid ≡ p.pid) → Acts k k i (Some Getpid) (Answers pid)
 getpids k i pid runs is = let x = here-of k i runs.sound runs.active in rw (getpid-is (slot k.table.places i) x.process pid x.run.process is) (does k i x k Getpid x.process.pid x refl refl)

@@ -2,7 +2,7 @@
 use Rattle.std.proofs.Common.{Bool, List, None, Option, Some, [], ap, arith, false, refl, subst, sym, true, zero, suc, ℕ, ◌+◌, ◌<◌, ◌++◌, ◌∙◌, ◌∷◌, ◌≡◌, ◌≢◌, ◌≤◌, length}
 use Rattle.std.specs.Prelude.{Err, IfSome, IsSome, Ok, Result, slice_set}
 use Rattle.std.proofs.lemmas.Bool.{ne_eqb}
-use Rattle.std.proofs.lemmas.List.Sums.{sum_by-cons, sum_by-set}
+use Rattle.std.proofs.lemmas.List.Sums.{sum_by-cons, sum_by-set, sum_by-append}
 use Rattle.std.proofs.lemmas.Option.{none-some, same_Some}
 use Rattle.blockdev.specs.declared.DeviceFault.{DeviceFault}
 use Rattle.calls.specs.Acts.{Acts, Runs}
@@ -60,8 +60,7 @@ use Rattle.unixmodel.specs.State.{State, put_process}
 
 -- a place more behind the others
 homes-more : (os : List (Option Process)) (o : Option Process) (n : ℕ) → homes_at (os ++ o ∷ []) n ≡ homes_at os n + one_in n (home_in o)
-homes-more [] o n = omega (arith, sum_by-cons (λ x. one_in n (home_in x)) o [])
-homes-more (x ∷ os) o n = omega (arith, sum_by-cons (λ y. one_in n (home_in y)) x (os ++ o ∷ []), sum_by-cons (λ y. one_in n (home_in y)) x os, homes-more os o n)
+homes-more os o n = omega (arith, sum_by-append (λ x. one_in n (home_in x)) os (o ∷ []), sum_by-cons (λ x. one_in n (home_in x)) o [])
 
 module _ (P : ℕ → Type 0) where
   homes-append : (os : List (Option Process)) (o : Option Process) → IfSome (home_in o) P → ((j : ℕ) → IfSome (home_in (slot os j)) P) → (j : ℕ) → IfSome (home_in (slot (os ++ o ∷ []) j)) P
@@ -189,7 +188,9 @@ module _ (k : Kernel) (i : ℕ) (x : Here k i) (n : ℕ) (short : n < length k.t
         ap (λ (y : State). without_nodes (without_pipes y)) (without_opens-same s k.files was.table counts') ∙ ap without_nodes (without_pipes-same s was.piped) ∙ nodes
 
     pub chdir-acts : row (state_of k) i (me k i x) Chdir ≡ Done (put_process (state_of k) i (self k q x.held)) 0 [] → Acts k to i (Some Chdir) (Answers 0)
-    chdir-acts made = settles k i x to Chdir 0 [] there (record { up = x.run.up; later = later }) (ap (λ (o : Outcome). settle (state_of k) i (limited o)) made ∙ settles-gone k i x q placed x.run.runs (not-killed k i x.process x.held x.run x.sound) there.sound.stands reaped)
+    chdir-acts made =
+        settles k i x to Chdir 0 [] there (record { up = x.run.up; later = later })
+        (ap (λ (o : Outcome). settle (state_of k) i (limited o)) made ∙ settles-gone k i x q placed x.run.runs (not-killed k i x.process x.held x.run x.sound) there.sound.stands reaped)
 
 -- ---- chdir, step by step
 
@@ -217,10 +218,7 @@ module _ (k : Kernel) (i : ℕ) (runs : Runs k i) where
 
   -- what a path reaches from there
   pub found-here : (path : List ℕ) (o : Option ℕ) → IfSome (slot k.table.places i) (λ p. o ≡ find k.tree.files p.directory path) → find k.tree.files home path ≡ o
-  found-here path o is = go (slot k.table.places i) x.run.process is where
-    go : (q : Option Process) → q ≡ Some x.process → IfSome q (λ p. o ≡ find k.tree.files p.directory path) → find k.tree.files home path ≡ o
-    go None at is = absurd (none-some x.process at)
-    go (Some p) at is = sym (is ∙ ap (λ (q : Process). find k.tree.files q.directory path) (same_Some p x.process at))
+  found-here path o is = sym (subst (λ (q : Option Process). IfSome q (λ p. o ≡ find k.tree.files p.directory path)) x.run.process is)
 
   -- that is a node
   pub node-here : (path : List ℕ) (n : ℕ) → find k.tree.files home path ≡ Some n → (node : Node) × (slot k.tree.files n ≡ Some node)

@@ -3,8 +3,7 @@ use Rattle.blockdev.specs.declared.DeviceFault.{DeviceFault}
 use Rattle.calls.proofs.Served.{ok-told}
 use Rattle.std.proofs.Common.{◌≡◌, ◌≢◌, ℕ, ◌<◌, ◌∙◌, Bool, List, [], None, Option, Some, ap, arith, false, refl, subst, sym, true}
 use Rattle.std.specs.Prelude.{All, Err, IfErr, IfOk, IfSome, IsSome, Ok, OnErr, Result, if◌then◌else◌, nat_le, option_and_then, option_map, ◌%◌, ◌&&◌, ◌^◌}
-use Rattle.std.proofs.lemmas.Bool.{false≢true, lt-leb}
-use Rattle.std.proofs.lemmas.Option.{none-some, same_Some}
+use Rattle.std.proofs.lemmas.Bool.{false≢true, lt-leb, and_left, and_right}
 use Rattle.calls.specs.Acts.{Acts, ActsOnDisk, Runs}
 use Rattle.calls.specs.declared.outcome.Came.{Came}
 use Rattle.calls.specs.declared.outcome.Came.TheVariants.{Answers, Refuses}
@@ -78,12 +77,10 @@ unfolding mkdir_row folder_in
 mkdir-row s i p path at = rw at (given-then (spot_of s.files p.directory path) (made_directory s.files) (λ files. answers (with_files s files) 0))
 
 -- more blocks are taken than there are
-and-false : (a c : Bool) → (a && false) && c ≡ false
-and-false true c = refl
-and-false false c = refl
-
 pub over-blocks : (s : State) → s.block_limit < blocks_of s.files → is_within s ≡ false
-over-blocks s over = let none : nat_le (blocks_of s.files) s.block_limit ≡ false = lt-leb _ _ over in rw none (and-false (nat_le (frames_of s) s.frame_limit) (nat_le (opens_of s) open_limit))
+over-blocks s over =
+    and_left (nat_le (frames_of s) s.frame_limit && nat_le (blocks_of s.files) s.block_limit) (nat_le (opens_of s) open_limit)
+    (and_right (nat_le (frames_of s) s.frame_limit) (nat_le (blocks_of s.files) s.block_limit) (lt-leb _ _ over))
 
 pub made-over : (s : State) (made : Option Files) → Overflows s.block_limit made → limited (with_made s made) ≡ Refused
 made-over s None over = refl
@@ -200,10 +197,7 @@ module _ (k : Kernel) (i : ℕ) (runs : Runs k i) where
   mine = me k i here
 
   pub home-is : (d : ℕ) → IfSome (slot k.table.places i) (λ p. d ≡ p.directory) → d ≡ here.process.directory
-  home-is d is = go (slot k.table.places i) here.run.process is where
-    go : (o : Option Process) → o ≡ Some here.process → IfSome o (λ p. d ≡ p.directory) → d ≡ here.process.directory
-    go None at is = absurd (none-some here.process at)
-    go (Some p) at is = is ∙ ap (λ (q : Process). q.directory) (same_Some p here.process at)
+  home-is d is = subst (λ (o : Option Process). IfSome o (λ p. d ≡ p.directory)) here.run.process is
 
   pub path-is : (n : ℕ) (o : Option (List ℕ)) → o ≡ path_at (view_at k.spaces i).memory (argument k n) → path_arg mine n ≡ o
   path-is n o is = sym (is ∙ ap (λ (h : SpaceView). path_at h.memory (argument k n)) (held-run k i here.process here.held here.run here.sound))

@@ -75,23 +75,17 @@ use Rattle.unixmodel.specs.State.{State}
 
 -- ---- flags and types
 
-target-node : (n kind major : ℕ) → target_of (target_by n kind major) ≡ OnNode n 0
-target-node n kind major = go (kind == 3) (major == 1) where
-  go : (a b : Bool) → target_of (if a then (if b then target.Console n else target.Device n) else target.File n 0) ≡ OnNode n 0
-  go true true = refl
-  go true false = refl
-  go false b = refl
-
-target-on : (n kind major : ℕ) → node_on (target_by n kind major) ≡ Some n
-target-on n kind major = go (kind == 3) (major == 1) where
-  go : (a b : Bool) → node_on (if a then (if b then target.Console n else target.Device n) else target.File n 0) ≡ Some n
-  go true true = refl
-  go true false = refl
-  go false b = refl
+target-of : (n kind major : ℕ) → (target_of (target_by n kind major) ≡ OnNode n 0) × (node_on (target_by n kind major) ≡ Some n)
+target-of n kind major = go (kind == 3) (major == 1) where
+  go : (a b : Bool) → (target_of (if a then (if b then target.Console n else target.Device n) else target.File n 0) ≡ OnNode n 0)
+      × (node_on (if a then (if b then target.Console n else target.Device n) else target.File n 0) ≡ Some n)
+  go true true = (refl, refl)
+  go true false = (refl, refl)
+  go false b = (refl, refl)
 
 -- that is the open file of the row
 file-by : (f n kind major : ℕ) → file_of (file_by f (target_by n kind major)) ≡ opened f n
-file-by f n kind major = ap (λ (t : unix_files.Target). let g : unix_files.OpenFile = record { target = t; readable = not (has_bit f 0); writable = has_bit f 0 || has_bit f 1 } in g) (target-node n kind major)
+file-by f n kind major = ap (λ (t : unix_files.Target). let g : unix_files.OpenFile = record { target = t; readable = not (has_bit f 0); writable = has_bit f 0 || has_bit f 1 } in g) (target-of n kind major).0
 
 may-by : (f : ℕ) (node : Node) (kind major : ℕ) → kind ≡ kind_of node → TellsMajor major node → may_open_by f kind major ≡ may_open f node
 may-by f (File links bytes) kind major e m = rw e refl
@@ -113,20 +107,10 @@ openable-told files n f told here tells may =
     record { node = here.0; here = here.1; kind = t.0; major = t.3; may = sym (may-by f here.0 told.kind told.major t.0 t.3) ∙ may }
 
 -- a file that is emptied stays of its type
-kind-emptied : (node : Node) → kind_of (emptied node) ≡ kind_of node
-kind-emptied (File links bytes) = refl
-kind-emptied (Device links major minor) = refl
-kind-emptied (Directory links places) = refl
-
-major-emptied : (m : ℕ) (node : Node) → TellsMajor m node → TellsMajor m (emptied node)
-major-emptied m (File links bytes) is = is
-major-emptied m (Device links major minor) is = is
-major-emptied m (Directory links places) is = is
-
-may-emptied : (f : ℕ) (node : Node) → may_open f (emptied node) ≡ may_open f node
-may-emptied f (File links bytes) = refl
-may-emptied f (Device links major minor) = refl
-may-emptied f (Directory links places) = refl
+emptied-same : (node : Node) → (kind_of (emptied node) ≡ kind_of node) × ((m : ℕ) → TellsMajor m node → TellsMajor m (emptied node)) × ((f : ℕ) → may_open f (emptied node) ≡ may_open f node)
+emptied-same (File links bytes) = (refl, λ m is. is, λ f. refl)
+emptied-same (Device links major minor) = (refl, λ m is. is, λ f. refl)
+emptied-same (Directory links places) = (refl, λ m is. is, λ f. refl)
 
 openable-cut : (files : Files) (n f g : ℕ) (told : InodeStat) → IsOpenable files n f told → IsOpenable (truncated g (record { files = files; number = n })) n f told
 openable-cut files n f g told is = go (truncates g) where
@@ -134,9 +118,9 @@ openable-cut files n f g told is = go (truncates g) where
   go true = record {
     node = emptied is.node;
     here = get_or-set_same files n (option_map emptied (slot files n)) None (slot-within files n is.node is.here) ∙ ap (option_map emptied) is.here;
-    kind = is.kind ∙ sym (kind-emptied is.node);
-    major = major-emptied told.major is.node is.major;
-    may = may-emptied f is.node ∙ is.may;
+    kind = is.kind ∙ sym (emptied-same is.node).0;
+    major = (emptied-same is.node).1 told.major is.major;
+    may = (emptied-same is.node).2 f ∙ is.may;
   }
   go false = is
 
@@ -291,19 +275,19 @@ module _ {k : Kernel} {i : ℕ} (runs : Runs k i) {n f : ℕ} {told : InodeStat}
     abbrev with_parts : Kernel → FileTree → Places → List (Option Counted) → Kernel
     with_parts y u places opens = record y { tree = u; table = places; files = opens }
 
-    made-so : record at { tree = held; table = t; files = files } ≡ to k i x n g' one'.number fd one'.place free-here open-short (target-on n told.kind told.major) fits (target-node n told.kind told.major)
+    made-so : record at { tree = held; table = t; files = files } ≡ to k i x n g' one'.number fd one'.place free-here open-short (target-of n told.kind told.major).1 fits (target-of n told.kind told.major).0
     made-so =
         let u : FileTree = record k.tree { holds = with_hold k.tree.holds n } in
         ap (λ (v : FileTree). with_parts at v t files) holds
         ∙ ap (λ (y : Kernel). with_parts y (record y.tree { holds = with_hold y.tree.holds n }) t files) same
         ∙ ap (λ (places : Places). with_parts k u places files) one'.names
         ∙ ap (λ (opens : List (Option Counted)). with_parts k u (changed k.table i (with_descriptor fd (Some one'.number))) opens) one'.opens
-        ∙ opens-is-to k i x n g' one'.number fd one'.place free-here open-short (target-on n told.kind told.major) fits (target-node n told.kind told.major)
+        ∙ opens-is-to k i x n g' one'.number fd one'.place free-here open-short (target-of n told.kind told.major).1 fits (target-of n told.kind told.major).0
 
     pub opens-on : Opens k (record at { tree = held; table = t; files = files }) i (opened f n) fd
     opens-on =
         subst (λ (y : Kernel). Opens k y i (opened f n) fd) (sym made-so)
-        (opens-so k i x n g' one'.number fd one'.place free-here open-short (target-on n told.kind told.major) fits (target-node n told.kind told.major) runs (opened f n) (file-by f n told.kind told.major))
+        (opens-so k i x n g' one'.number fd one'.place free-here open-short (target-of n told.kind told.major).1 fits (target-of n told.kind told.major).0 runs (opened f n) (file-by f n told.kind told.major))
 
 -- ---- a file that is emptied
 

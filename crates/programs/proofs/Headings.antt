@@ -215,32 +215,43 @@ whole-more file l g whole aligned after =
     length-append l.pages (segment_pages file (length l.pages) g)
     ∙ omega (arith, length-segment file (length l.pages) g, whole, aligned, after)
 
-if-loaded : (file : List ℕ) (l : Loaded) (g : Segment) (b : Bool) → may_follow file l.end g ≡ b → IsWhole l → IfSome (if b then Some (with_segment file l g) else None) IsWhole
-if-loaded file l g true may whole = whole-more file l g whole (grind (arith, nat_tests, may)) (grind (arith, nat_tests, may))
-if-loaded file l g false may whole = tt
+-- What stays as one segment more is loaded, and joins, holds from what is loaded to what is loaded later.
+module _ (file : List ℕ) (R : Loaded → Loaded → Type 0) (same : (l : Loaded) → R l l) (joined : (a b c : Loaded) → R a b → R b c → R a c)
+    (step : (l : Loaded) (g : Segment) → may_follow file l.end g ≡ true → R l (with_segment file l g)) where
+  kind-related : (l : Loaded) (g : Segment) (kind may : Bool) → may_follow file l.end g ≡ may → IfSome (if kind then (if may then Some (with_segment file l g) else None) else Some l) (R l)
+  kind-related l g true true is = step l g is
+  kind-related l g true false is = tt
+  kind-related l g false may is = same l
 
-if-kind : (file : List ℕ) (l : Loaded) (g : Segment) (b : Bool) → IsWhole l → IfSome (if b then (if may_follow file l.end g then Some (with_segment file l g) else None) else Some l) IsWhole
-if-kind file l g true whole = if-loaded file l g (may_follow file l.end g) refl whole
-if-kind file l g false whole = whole
+  pub one-related : (l : Loaded) (g : Segment) → IfSome (load_segment file l g) (R l)
+  one-related l g = kind-related l g (g.kind == 1) (may_follow file l.end g) refl
 
--- of one program header
-pub loads-one : (file : List ℕ) (l : Loaded) (g : Segment) → IsWhole l → IfSome (load_segment file l g) IsWhole
-loads-one file l g whole = if-kind file l g (g.kind == 1) whole
+  then-related : (l : Loaded) (b : Bool) (o : Option Loaded) (f : Loaded → Option Loaded) → IfSome o (R l) → ((m : Loaded) → IfSome (f m) (R m)) → IfSome (if b then option_and_then f o else None) (R l)
+  then-related l false o f first next = tt
+  then-related l true None f first next = tt
+  then-related l true (Some m) f first next = go (f m) (next m) where
+    go : (u : Option Loaded) → IfSome u (R m) → IfSome u (R l)
+    go None is = tt
+    go (Some u) is = joined l m u first is
 
-if-then : (o : Option Loaded) (f : Loaded → Option Loaded) → IfSome o IsWhole → ((l : Loaded) → IsWhole l → IfSome (f l) IsWhole) → IfSome (option_and_then f o) IsWhole
-if-then None f whole next = tt
-if-then (Some l) f whole next = next l whole
+  pub all-related : (n at : ℕ) (l : Loaded) → IfSome (load_segments file n at l) (R l)
+  unfolding load_segments
+  all-related zero at l = same l
+  all-related (suc n) at l =
+      then-related l (nat_le (at + 56) (length file)) (load_segment file l (segment_at file at)) (λ next. load_segments file n (at + 56) next)
+      (one-related l (segment_at file at)) (λ next. all-related n (at + 56) next)
 
-if-within : (b : Bool) (o : Option Loaded) → IfSome o IsWhole → IfSome (if b then o else None) IsWhole
-if-within true o whole = whole
-if-within false o whole = tt
+abbrev pub KeepsWhole : Loaded → Loaded → Type 0
+KeepsWhole l m = IsWhole l → IsWhole m
 
-pub loads-whole : (file : List ℕ) (n at : ℕ) (l : Loaded) → IsWhole l → IfSome (load_segments file n at l) IsWhole
-unfolding load_segments
-loads-whole file zero at l whole = whole
-loads-whole file (suc n) at l whole =
-    if-within (nat_le (at + 56) (length file)) _
-    (if-then (load_segment file l (segment_at file at)) (λ next. load_segments file n (at + 56) next) (if-kind file l (segment_at file at) ((segment_at file at).kind == 1) whole) (λ next h. loads-whole file n (at + 56) next h))
+keeps-whole : (file : List ℕ) (l : Loaded) (g : Segment) → may_follow file l.end g ≡ true → KeepsWhole l (with_segment file l g)
+keeps-whole file l g may whole = whole-more file l g whole (grind (arith, nat_tests, may)) (grind (arith, nat_tests, may))
+
+pub loads-one : (file : List ℕ) (l : Loaded) (g : Segment) → IfSome (load_segment file l g) (KeepsWhole l)
+loads-one file l g = one-related file KeepsWhole (λ m whole. whole) (λ a b c first second whole. second (first whole)) (keeps-whole file) l g
+
+loads-whole : (file : List ℕ) (n at : ℕ) (l : Loaded) → IfSome (load_segments file n at l) (KeepsWhole l)
+loads-whole file n at l = all-related file KeepsWhole (λ m whole. whole) (λ a b c first second whole. second (first whole)) (keeps-whole file) n at l
 
 -- ---- the program
 
@@ -260,7 +271,7 @@ module _ (file : List ℕ) (header : FileHeader) (head : headed file ≡ Some he
   pub program-is : (end pages : ℕ) → option_map (λ (l : Loaded). l.end) loads ≡ Some end → pages ≡ ceil_div end 4096 → Some (record { header = header; pages = pages }) ≡ program_in file
   program-is end pages some count =
       let last = some-of loads end some in
-      let whole : IsWhole last.0 = subst (λ (o : Option Loaded). IfSome o IsWhole) last.1 (loads-whole file header.count header.program_headers nothing_loaded refl) in
+      let whole : IsWhole last.0 = subst (λ (o : Option Loaded). IfSome o (KeepsWhole nothing_loaded)) last.1 (loads-whole file header.count header.program_headers nothing_loaded) refl in
       let same : pages ≡ length last.0.pages = count ∙ ap (λ n. ceil_div n 4096) (sym last.2) ∙ sym whole in
       ap (λ n. Some (let p : Program = record { header = header; pages = n } in p)) same
       ∙ ap (λ h. Some (let p : Program = record { header = h; pages = length last.0.pages } in p)) ((is-headed file header head).read)
@@ -348,7 +359,8 @@ module _ {old mid : FileTree} (number : ℕ) {s : InodeStat} (node : (n : Node) 
 
     pub program-served : {new : FileTree} (r : Result (Option Program) DeviceFault) → Serves mid new r (TellsProgram mid new (program_in (file_at mid.files number))) → Serves old new r (TellsProgram old new (option_and_then program_in (file_bytes (slot old.files number))))
     program-served {new} (Ok told) second =
-        serves-told told (record { same = second.told.0.same ∙ ap (λ (t : FileTree). record t { failures = new.failures }) first.told.0; value = second.told.0.value ∙ is-same }, second.told.1) second.up (le_trans first.cause.later second.cause.later)
+        serves-told told (record { same = second.told.0.same ∙ ap (λ (t : FileTree). record t { failures = new.failures }) first.told.0; value = second.told.0.value ∙ is-same }, second.told.1)
+        second.up (le_trans first.cause.later second.cause.later)
     program-served {new} (Err fault) second = record {
       told = tt;
       up = tt;

@@ -1,6 +1,6 @@
 -- The program headers of a file, as their segments are loaded.
-use Rattle.std.proofs.Common.{ap, arith, length, refl, subst, sym, take, drop, ℕ, zero, suc, ◌%◌, ◌*◌, ◌++◌, ◌+◌, ◌-◌, ◌<◌, ◌∙◌, ◌≡◌, ◌≤◌, ◌^◌, ◌&&◌, Bool, true, false, List, None, Ok, Err, Option, Some, Result, length-append}
-use Rattle.std.specs.Prelude.{IfSome, if◌then◌else◌, nat_le, nat_lt, not, option_and_then, option_map, ◌==◌}
+use Rattle.std.proofs.Common.{ap, arith, length, refl, subst, sym, take, drop, ℕ, suc, ◌%◌, ◌*◌, ◌++◌, ◌+◌, ◌-◌, ◌<◌, ◌∙◌, ◌≡◌, ◌≤◌, ◌^◌, ◌&&◌, Bool, true, false, List, None, Ok, Err, Option, Some, Result, length-append, le_trans}
+use Rattle.std.specs.Prelude.{IfSome, if◌then◌else◌, nat_le, nat_lt, not, option_map, ◌==◌}
 use Rattle.std.proofs.lemmas.Bool.Decides.{nat_tests}
 use Rattle.std.proofs.lemmas.Option.{none-some, same_Some}
 use Rattle.elf.specs.declared.ElfFault.{ElfFault}
@@ -12,7 +12,7 @@ use Rattle.elf.proofs.Plans.{headers_by, loaded_by, loads-header, loads-segment,
 use Rattle.programs.specs.declared.headers.Program.{Program}
 use Rattle.programs.specs.Headed.{IsRead, file_at, program_in, segment_behind, unless_refused}
 use Rattle.programs.specs.Placed.{Follows, HasRoom, IsPaged, Leaves, next_in, paged}
-use Rattle.programs.proofs.Headings.{HasLoaded, header-within, is-headed, loads-next, loads-one, none-read, whole-more}
+use Rattle.programs.proofs.Headings.{HasLoaded, header-within, is-headed, loads-next, loads-one, none-read, whole-more, KeepsWhole, all-related}
 use Rattle.programs.proofs.Places.{has-held, held-twice, is-held, room-less, room-with, self-held}
 use Rattle.tree.proofs.Serving.{HasSeen}
 use Rattle.tree.specs.Written.{IsFile}
@@ -24,7 +24,7 @@ use Rattle.inode.specs.declared.InodeStat.{InodeStat}
 use Rattle.programs.specs.Passed.{stacked}
 use Rattle.unixmodel.specs.Memory.{Memory}
 use Rattle.unixmodel.specs.Numbers.{ceil_div}
-use Rattle.unixmodel.specs.Plan.{Loaded, Segment, load_segment, load_segments, loaded_of, may_follow, nothing_loaded, segment_at, segment_pages, with_segment}
+use Rattle.unixmodel.specs.Plan.{Loaded, Segment, load_segment, load_segments, loaded_of, nothing_loaded, segment_at, segment_pages, with_segment}
 
 -- ---- a segment that isn't refused
 
@@ -139,34 +139,11 @@ module _ {old mid : FileTree} (s : Spaces) (at number place end : ℕ) {told : R
 
 -- ---- all of them
 
-abbrev AtLeast : ℕ → Option Loaded → Type 0
-AtLeast n None = Unit {0}
-AtLeast n (Some l) = n ≤ length l.pages
-
-least-kind : (file : List ℕ) (l : Loaded) (g : Segment) (b : Bool) (may : Bool) → AtLeast (length l.pages) (if b then (if may then Some (with_segment file l g) else None) else Some l)
-least-kind file l g true true = omega (arith, length-append l.pages (segment_pages file (length l.pages) g))
-least-kind file l g true false = tt
-least-kind file l g false may = omega arith
-
-least-then : (n : ℕ) (o : Option Loaded) (f : Loaded → Option Loaded) → AtLeast n o → ((l : Loaded) → AtLeast (length l.pages) (f l)) → AtLeast n (option_and_then f o)
-least-then n None f low next = tt
-least-then n (Some l) f low next = least-more (length l.pages) (f l) low (next l) where
-  least-more : (m : ℕ) (o : Option Loaded) → n ≤ m → AtLeast m o → AtLeast n o
-  least-more m None less low = tt
-  least-more m (Some k) less low = omega (arith, less, low)
-
-least-if : (n : ℕ) (b : Bool) (o : Option Loaded) → AtLeast n o → AtLeast n (if b then o else None)
-least-if n true o low = low
-least-if n false o low = tt
-
 -- what is loaded later comes to what was there
-pages-least : (file : List ℕ) (n at : ℕ) (l : Loaded) → AtLeast (length l.pages) (load_segments file n at l)
-unfolding load_segments
-pages-least file zero at l = omega arith
-pages-least file (suc n) at l =
-    least-if (length l.pages) (nat_le (at + 56) (length file)) _
-    (least-then (length l.pages) (load_segment file l (segment_at file at)) (λ next. load_segments file n (at + 56) next)
-    (least-kind file l (segment_at file at) ((segment_at file at).kind == 1) (may_follow file l.end (segment_at file at))) (λ next. pages-least file n (at + 56) next))
+pages-least : (file : List ℕ) (n at : ℕ) (l : Loaded) → IfSome (load_segments file n at l) (λ m. length l.pages ≤ length m.pages)
+pages-least file n at l =
+    all-related file (λ k m. length k.pages ≤ length m.pages) (λ m. omega arith) (λ a b c first second. le_trans first second)
+    (λ k g may. omega (arith, length-append k.pages (segment_pages file (length k.pages) g))) n at l
 
 -- the next of several that aren't refused
 pub record HasNext (file : List ℕ) (n at : ℕ) (l last : Loaded) : Type 0 where
@@ -181,7 +158,7 @@ has-next file n at l last within all = go (load_segment file l (segment_at file 
   go None e = absurd (none-some last (sym (loads-next file n at l None within e) ∙ all))
   go (Some next) e =
       let rest : load_segments file n (at + 56) next ≡ Some last = sym (loads-next file n at l (Some next) within e) ∙ all in
-      record { next = next; loads = e; rest = rest; less = subst (AtLeast (length next.pages)) rest (pages-least file n (at + 56) next) }
+      record { next = next; loads = e; rest = rest; less = subst (λ (o : Option Loaded). IfSome o (λ m. length next.pages ≤ length m.pages)) rest (pages-least file n (at + 56) next) }
 
 -- the program headers so far are loaded
 pub record IsLoading (old now : FileTree) (before after : Spaces) (at number count place i end : ℕ) : Type 0 where
@@ -286,7 +263,7 @@ module _ {old now : FileTree} {before after : Spaces} {at number count place i e
         }
       where
         is-whole : (l : Loaded) → load_segment file has.loads.loaded (segment_at file (place + 56 * i)) ≡ Some l → length l.pages ≡ ceil_div l.end 4096
-        is-whole l e = subst (λ (k : Option Loaded). IfSome k (λ (x : Loaded). length x.pages ≡ ceil_div x.end 4096)) e (loads-one file has.loads.loaded (segment_at file (place + 56 * i)) (has.whole ∙ ap (λ n. ceil_div n 4096) (sym has.loads.ends)))
+        is-whole l e = subst (λ (k : Option Loaded). IfSome k (KeepsWhole has.loads.loaded)) e (loads-one file has.loads.loaded (segment_at file (place + 56 * i))) (has.whole ∙ ap (λ n. ceil_div n 4096) (sym has.loads.ends))
 
 -- ---- a whole program
 

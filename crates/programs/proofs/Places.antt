@@ -1,10 +1,11 @@
 -- The pages of a place, as a program comes into them.
 use Rattle.std.proofs.Common.{ap, append-nil, append_assoc, arith, drop, get_or-set_same, None, Ok, Option, Some, List, slice_set, length, length-append, refl, replicate, subst, sym, take, ℕ, zero, suc, ◌%◌, ◌*◌, ◌++◌, ◌+◌, ◌-◌, ◌/◌, ◌<◌, ◌∙◌, ◌≡◌, ◌≤◌, ◌∷◌, [], Bool, true, false}
+use Rattle.transfers.proofs.Memory.{marks-written}
 use Rattle.std.specs.Prelude.{Err, OnErr, OnOk, Result, if◌then◌else◌, is_some}
 use Rattle.std.proofs.lemmas.Bool.{lt-ltb}
 use Rattle.std.proofs.lemmas.Bool.Decides.{nat_tests}
 use Rattle.std.proofs.Math.Nat.{zero-add}
-use Rattle.std.proofs.lemmas.List.{drop-replicate, drop_all, drop_at, replicate-append-replicate, set-get_or, take_at, drop-drop, length-drop, length-replicate, length-take, length-take-le, set-set}
+use Rattle.std.proofs.lemmas.List.{drop-replicate, drop_all, drop_at, replicate-append-replicate, set-get_or, take_at, drop-drop, length-drop, length-replicate, length-take, length-take-le, set-set, length-map}
 use Rattle.std.proofs.Math.Seq.{take-add}
 use Rattle.blockdev.specs.Splice.{part}
 use Rattle.elf.specs.declared.LoadSegment.{LoadSegment}
@@ -47,16 +48,8 @@ room-with s at n h room =
 
 -- ---- bytes of a file
 
-length-write_from : (ps : List Page) (at : ℕ) (bytes : List ℕ) → length (write_from ps at bytes) ≡ length ps
-length-write_from [] at bytes = refl
-length-write_from (p ∷ ps) at [] = refl
-length-write_from (p ∷ ps) at (b ∷ bs) = ap suc (length-write_from ps 0 (drop (4096 - at) (b ∷ bs)))
-
 pub length-write : (mem : Memory) (at : ℕ) (bytes : List ℕ) → length (write_bytes mem at bytes) ≡ length mem
-unfolding write_bytes
-length-write mem at bytes =
-    length-append (take (at / 4096) mem) (write_from (drop (at / 4096) mem) (at % 4096) bytes)
-    ∙ omega (arith, length-write_from (drop (at / 4096) mem) (at % 4096) bytes, length-take (at / 4096) mem, length-drop (at / 4096) mem)
+length-write mem at bytes = sym (length-map (write_bytes mem at bytes) (λ (p : Page). p.marks)) ∙ ap length (marks-written mem at bytes) ∙ length-map mem (λ (p : Page). p.marks)
 
 -- the bytes of the file so far are in the pages
 pub record HasFilled (old now : FileTree) (before after : Spaces) (at number offset address count done : ℕ) : Type 0 where

@@ -1,5 +1,6 @@
 -- The stack of a program as its arguments are pushed.
 use Rattle.std.proofs.Common.{ap, append-nil, append_assoc, arith, drop, length, length-append, refl, subst, sym, take, ℕ, zero, suc, ◌%◌, ◌*◌, ◌++◌, ◌+◌, ◌-◌, ◌/◌, ◌<◌, ◌∙◌, ◌≡◌, ◌≢◌, ◌≤◌, ◌∷◌, [], Bool, true, false, List, None, Option, Some}
+use Rattle.std.proofs.lemmas.Grind.{flat_map-append}
 use Rattle.std.specs.List.{flat_map}
 use Rattle.std.specs.Prelude.{if◌then◌else◌, nat_le, nat_lt, option_and_then, option_map, ◌==◌}
 use Rattle.std.proofs.lemmas.Bool.{le-leb, lt-leb}
@@ -210,12 +211,7 @@ length-pointers [] = refl
 length-pointers (p ∷ ps) = ap length (flat_map-cons (le 8) p ps) ∙ length-append (le 8 p) (flat_map (le 8) ps) ∙ omega (arith, length-le 8 p, length-pointers ps)
 
 flat-more : (ps : List ℕ) (p : ℕ) → flat_map (le 8) (ps ++ p ∷ []) ≡ flat_map (le 8) ps ++ le 8 p
-flat-more [] p = flat_map-cons (le 8) p [] ∙ append-nil (le 8 p)
-flat-more (q ∷ ps) p =
-    flat_map-cons (le 8) q (ps ++ p ∷ [])
-    ∙ ap (λ l. le 8 q ++ l) (flat-more ps p)
-    ∙ sym (append_assoc (le 8 q) (flat_map (le 8) ps) (le 8 p))
-    ∙ ap (λ l. l ++ le 8 p) (sym (flat_map-cons (le 8) q ps))
+flat-more ps p = flat_map-append (le 8) ps (p ∷ []) ∙ ap (λ l. flat_map (le 8) ps ++ l) (flat_map-cons (le 8) p [] ∙ append-nil (le 8 p))
 
 -- a pointer more
 pub spelled-more : (ps : List ℕ) (i p : ℕ) → length ps ≡ i → i < 32 → overwrite (flat_map (le 8) ps ++ zeros (256 - 8 * i)) (8 * i) (le 8 p) ≡ flat_map (le 8) (ps ++ p ∷ []) ++ zeros (256 - 8 * (i + 1))

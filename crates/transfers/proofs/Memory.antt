@@ -4,7 +4,7 @@ use Rattle.std.specs.List.{prefix_len}
 use Rattle.std.specs.Prelude.{cond, if◌then◌else◌, nat_le, slice_get}
 use Rattle.std.proofs.Math.Seq.{drop-append-add, take-append-add}
 use Rattle.std.proofs.lemmas.Bool.{cases_lt, le-leb, leb-true}
-use Rattle.std.proofs.lemmas.List.{drop-append-le, drop-drop, drop_all, length-append, length-drop, length-take, length-take-le, take-append-drop, take-append-le, take_all, take_at}
+use Rattle.std.proofs.lemmas.List.{drop-append-le, drop-drop, drop_all, length-append, length-drop, length-take, length-take-le, take-append-drop, take-append-le, take_all, take_at, drop-map, map-append}
 use Rattle.unixmodel.specs.declared.trap.Access.{Access}
 use Rattle.unixmodel.specs.declared.trap.Access.TheVariants.{Load, Store}
 use Rattle.unixmodel.specs.Memory.{Marks, Memory, Page, can_write, overwrite, permits, reach, read_bytes, write_bytes, write_from}
@@ -155,21 +155,12 @@ marks-write [] at new = refl
 marks-write (p ∷ ps) at [] = refl
 marks-write (p ∷ ps) at (b ∷ bs) = ap (λ (ms : List Marks). p.marks ∷ ms) (marks-write ps 0 (drop (4096 - at) (b ∷ bs)))
 
-marks-append : (ps qs : List Page) → map (λ (p : Page). p.marks) (ps ++ qs) ≡ map (λ (p : Page). p.marks) ps ++ map (λ (p : Page). p.marks) qs
-marks-append [] qs = refl
-marks-append (p ∷ ps) qs = ap (λ (ms : List Marks). p.marks ∷ ms) (marks-append ps qs)
-
-marks-drop : (n : ℕ) (ps : List Page) → map (λ (p : Page). p.marks) (drop n ps) ≡ drop n (map (λ (p : Page). p.marks) ps)
-marks-drop zero ps = refl
-marks-drop (suc n) [] = refl
-marks-drop (suc n) (p ∷ ps) = marks-drop n ps
-
-marks-written : (mem : Memory) (at : ℕ) (new : List ℕ) → map (λ (p : Page). p.marks) (write_bytes mem at new) ≡ map (λ (p : Page). p.marks) mem
+pub marks-written : (mem : Memory) (at : ℕ) (new : List ℕ) → map (λ (p : Page). p.marks) (write_bytes mem at new) ≡ map (λ (p : Page). p.marks) mem
 unfolding write_bytes
 marks-written mem at new =
-    marks-append (take (at / 4096) mem) (write_from (drop (at / 4096) mem) (at % 4096) new)
+    map-append (λ (p : Page). p.marks) (take (at / 4096) mem) (write_from (drop (at / 4096) mem) (at % 4096) new)
     ∙ ap (λ (ms : List Marks). map (λ (p : Page). p.marks) (take (at / 4096) mem) ++ ms) (marks-write (drop (at / 4096) mem) (at % 4096) new)
-    ∙ sym (marks-append (take (at / 4096) mem) (drop (at / 4096) mem))
+    ∙ sym (map-append (λ (p : Page). p.marks) (take (at / 4096) mem) (drop (at / 4096) mem))
     ∙ ap (map (λ (p : Page). p.marks)) (take-append-drop (at / 4096) mem)
 
 prefix-marks : (a : Access) (ps : List Page) → prefix_len (λ (p : Page). permits a p.marks) ps ≡ prefix_len (permits a) (map (λ (p : Page). p.marks) ps)
@@ -178,7 +169,7 @@ prefix-marks a (p ∷ ps) = ap (λ (n : ℕ). cond (permits a p.marks) (1 + n) 0
 
 run-marks : (a : Access) (mem : Memory) (n : ℕ) → run_of a mem n ≡ prefix_len (permits a) (drop n (map (λ (p : Page). p.marks) mem))
 unfolding run_of
-run-marks a mem n = prefix-marks a (drop n mem) ∙ ap (prefix_len (permits a)) (marks-drop n mem)
+run-marks a mem n = prefix-marks a (drop n mem) ∙ ap (prefix_len (permits a)) (sym (drop-map (λ (p : Page). p.marks) n mem))
 
 run-written : (a : Access) (mem : Memory) (at n : ℕ) (new : List ℕ) → run_of a (write_bytes mem at new) n ≡ run_of a mem n
 run-written a mem at n new =

@@ -62,7 +62,8 @@ returns-then-went-piece g c =
     let part = piece-part _ c.args.address c.args.count c.requires.readable c.loop-done.done c.loop-done-test.true c.pages_are_whole.ensures.sized c.piece-piece.result.now c.piece-piece.ensures in
     let was = c.loop-done.invariant.later in
     let later = c.write.ensures.cause.later in
-    serves-told {Told = Tells c.args.tree.now c.write.new.self c.args.number c.args.offset given} _ (write-part {new = given} c.loop-done.invariant c.piece-piece.result.now within part c.in_ok-went.ensures.told c.in-Some.went c.in-Some.is c.if-went-piece.true) c.in_ok-went.ensures.up (omega (arith, was, later))
+    serves-told {Told = Tells c.args.tree.now c.write.new.self c.args.number c.args.offset given} _
+    (write-part {new = given} c.loop-done.invariant c.piece-piece.result.now within part c.in_ok-went.ensures.told c.in-Some.went c.in-Some.is c.if-went-piece.true) c.in_ok-went.ensures.up (omega (arith, was, later))
 
 pub loop-done-smaller : goal.loop-done-smaller
 loop-done-smaller g c =
@@ -82,4 +83,5 @@ returns g c =
     let given = bytes_given c.args.spaces.now c.args.at c.args.address c.args.count in
     let whole = given-length _ c.args.address c.args.count c.requires.readable in
     let over = c.loop-done-test.false in
-    serves-told {Told = Tells c.args.tree.now c.loop-done.tree c.args.number c.args.offset given} _ (write-all {new = given} c.loop-done.invariant (omega (arith, whole, over))) (same-failed {new = given} c.loop-done.invariant ∙ c.requires.up) c.loop-done.invariant.later
+    serves-told {Told = Tells c.args.tree.now c.loop-done.tree c.args.number c.args.offset given} _
+    (write-all {new = given} c.loop-done.invariant (omega (arith, whole, over))) (same-failed {new = given} c.loop-done.invariant ∙ c.requires.up) c.loop-done.invariant.later
