@@ -7,8 +7,8 @@ use Rattle.files.proofs.Whole.{slot-opens}
 use Rattle.kernel.specs.Descriptors.{IsCounted, names_in}
 use Rattle.kernel.specs.Holding.{FitsNode, IsFolder, IsInUse, files_on, home_in, homes_at, node_in, node_of, node_on}
 use Rattle.kernel.specs.Kernel.{Kernel, begun, memory_in, state_of}
-use Rattle.kernel.specs.Sound.{IsKernel, IsLive, IsOpenFile, IsOpened, IsPlace, IsPlaced, WaitsWell}
-use Rattle.machine.proofs.FlatLemmas.{length-free, none-free, slot-free, taken-alone, zeros-past}
+use Rattle.kernel.specs.Sound.{IsKernel, IsLive, IsOpenFile, IsOpened, IsPlaced}
+use Rattle.machine.proofs.FlatLemmas.{none-free, one-all, one-home, one-rests, one-stands, one-waits, same-past, taken-alone}
 use Rattle.machine.specs.declared.image_boot.Init.{Init}
 use Rattle.machine.specs.Booted.{IsBegun, IsInPlace, IsUnheld, LacksInit, PutsInit, bare_of, first_of, first_places, view_by, init_kernel}
 use Rattle.machine.specs.Flat.{alone}
@@ -16,7 +16,7 @@ use Rattle.machine.specs.View.{View, sound_view}
 use Rattle.names.specs.Rules.{KeepsTree}
 use Rattle.proc.specs.declared.process.Process.{Process}
 use Rattle.proc.specs.Mask.{all_in}
-use Rattle.proc.specs.Places.{Places, is_running, seated}
+use Rattle.proc.specs.Places.{Places, seated}
 use Rattle.proc.proofs.Joined.{joined-free_slots}
 use Rattle.proc.specs.Whole.{joined}
 use Rattle.spaces.specs.Spaces.{SpaceView, Spaces}
@@ -39,7 +39,7 @@ use Rattle.unixmodel.specs.Outcome.{no_descriptors}
 use Rattle.unixmodel.specs.Plan.{Plan}
 use Rattle.unixmodel.specs.Process as unix
 use Rattle.unixmodel.specs.Start.{first_process, first_state, if_fits, init_plan, start}
-use Rattle.unixmodel.specs.State.{State, holds, open_limit}
+use Rattle.unixmodel.specs.State.{State, open_limit}
 
 -- ---- the state
 
@@ -92,20 +92,6 @@ init-zero new = refl
 init-placed : (new : Plan) → new.pc % 4 ≡ 0 → IsPlaced (first_of new) (view_by new)
 init-placed new aligned = record { size = refl; zero = init-zero new; aligned = aligned; mode = init-live new }
 
-init-stands : (new : Plan) → new.pc % 4 ≡ 0 → (i : ℕ) → IsPlace (slot (Some (first_of new) ∷ free_slots 63) i) (slot (Some (view_by new) ∷ replicate 63 None) i)
-unfolding free_slots
-init-stands new aligned zero = init-placed new aligned
-init-stands new aligned (suc i) = rw (slot-free Process 63 i, slot-free SpaceView 63 i) tt
-
-init-rests : (new : Plan) (i : ℕ) → holds is_running (slot (Some (first_of new) ∷ free_slots 63) i) ≡ false
-unfolding free_slots
-init-rests new zero = refl
-init-rests new (suc i) = rw (slot-free Process 63 i) refl
-
-init-all : (new : Plan) → length (first_places new).places ≡ 64
-unfolding free_slots
-init-all new = ap suc (length-free Process 63)
-
 -- ---- no file is open
 
 abbrev no_files : List (Option Counted)
@@ -114,39 +100,30 @@ no_files = replicate 100 None
 init-counted : (new : Plan) → IsCounted no_files (first_places new).places
 unfolding free_slots
 init-counted new n =
-    let none : count_at no_files n ≡ 0 = ap count_in (slot-free Counted 100 n) in
+    let none : count_at no_files n ≡ 0 = ap count_in (same-past (Option Counted) None 100 n) in
     omega (arith, none, sum_by-cons (names_in n) (Some (first_of new)) (replicate 63 None), sum_by-replicate (names_in n) 63 None, names-none n)
 
 init-each : (n : ℕ) (f : unix_files.OpenFile) → slot (opens_of no_files) n ≡ Some f → IsOpenFile f
 init-each n f at =
-    absurd (none-some f (sym (slot-opens no_files n ∙ ap (option_map (λ (c : Counted). file_of c.file)) (slot-free Counted 100 n)) ∙ at))
-
-init-waits : (new : Plan) (i : ℕ) → WaitsWell no_files (slot (first_places new).places i)
-unfolding free_slots
-init-waits new zero = tt
-init-waits new (suc i) = rw (slot-free Process 63 i) tt
+    absurd (none-some f (sym (slot-opens no_files n ∙ ap (option_map (λ (c : Counted). file_of c.file)) (same-past (Option Counted) None 100 n)) ∙ at))
 
 init-opened : (new : Plan) → IsOpened no_files (replicate 100 None) (first_places new).places
 init-opened new = record {
-  table = record { all = length-free Counted 100; named = λ i c at. absurd (none-some c (sym (slot-free Counted 100 i) ∙ at)) };
+  table = record { all = length-replicate {A = Option Counted} 100 None; named = λ i c at. absurd (none-some c (sym (same-past (Option Counted) None 100 i) ∙ at)) };
   counted = init-counted new;
   each = init-each;
-  all = length-free (List ℕ) 100;
-  piped = λ q. ap is_some (slot-free (List ℕ) 100 q);
-  waits = init-waits new;
+  all = length-replicate {A = Option (List ℕ)} 100 None;
+  piped = λ q. ap is_some (same-past (Option (List ℕ)) None 100 q);
+  waits = one-waits no_files (first_of new) tt;
 }
 
 -- ---- process 1 holds the root
-
-init-root : (new : Plan) (n : ℕ) → homes_at (first_places new).places n ≡ one_in n (Some 1)
-unfolding free_slots
-init-root new n = let rest = none-free Process (λ o. one_in n (home_in o)) refl 63 in omega (arith, sum_by-cons (λ o. one_in n (home_in o)) (Some (first_of new)) (replicate 63 None), rest)
 
 init-files : (n : ℕ) → files_on no_files n ≡ 0
 init-files n = none-free Counted (λ o. one_in n (node_in o)) refl 100
 
 root-only : (new : Plan) (n : ℕ) → one_in n (Some 1) ≡ files_on no_files n + homes_at (first_places new).places n
-root-only new n = omega (arith, init-files n, init-root new n)
+root-only new n = omega (arith, init-files n, one-home (first_of new) refl n)
 
 root-held : (count : ℕ) → 1 < count → (n : ℕ) → holders (with_hold (replicate count 0) 1) n ≡ one_in n (Some 1)
 root-held zero more n = absurd (omega (arith, more))
@@ -155,7 +132,7 @@ root-held (suc (suc m)) more zero = refl
 root-held (suc (suc m)) more (suc zero) = refl
 root-held (suc (suc m)) more (suc (suc n)) =
     let other : (1 == suc (suc n)) ≡ false = grind (arith, nat_tests) in
-    rw other (zeros-past m n)
+    rw other (same-past ℕ 0 m n)
 
 -- a tree that was read since
 module _ (old tree : FileTree) (unheld : IsUnheld old) (same : tree ≡ record old { failures = tree.failures }) (whole : IsWhole tree) where
@@ -175,15 +152,15 @@ module _ (old tree : FileTree) (unheld : IsUnheld old) (same : tree ≡ record o
   root-within = let low = (whole.numbers 1 root-there).0 in omega (arith, low, ap length holds-same, length-replicate {A = ℕ} unheld.count 0)
 
   pub root-few : holders tree.holds 1 < 65535
-  root-few = let none : holders tree.holds 1 ≡ 0 = ap (λ h. holders h 1) holds-same ∙ zeros-past unheld.count 1 in omega (arith, none)
+  root-few = let none : holders tree.holds 1 ≡ 0 = ap (λ h. holders h 1) holds-same ∙ same-past ℕ 0 unheld.count 1 in omega (arith, none)
 
   init-homes : (new : Plan) (i : ℕ) → IfSome (home_in (slot (first_places new).places i)) (λ d. IsFolder (slot tree.files d))
   unfolding free_slots
   init-homes new zero = rw rules-same.root.here tt
-  init-homes new (suc i) = rw (slot-free Process 63 i) tt
+  init-homes new (suc i) = rw (same-past (Option Process) None 63 i) tt
 
   init-fits : (k : ℕ) (c : Counted) → slot no_files k ≡ Some c → FitsNode c.file c.file.target (node_of tree.files (node_on c.file.target))
-  init-fits k c at = absurd (none-some c (sym (slot-free Counted 100 k) ∙ at))
+  init-fits k c at = absurd (none-some c (sym (same-past (Option Counted) None 100 k) ∙ at))
 
   init-used : (new : Plan) → IsInUse (record tree { holds = with_hold tree.holds 1 }) no_files (first_places new).places
   init-used new = record {
@@ -199,10 +176,10 @@ module _ (old tree : FileTree) (unheld : IsUnheld old) (same : tree ≡ record o
   pub init-sound : (frames : ℕ) (new : Plan) → 4 + page_frames (length new.memory) ≤ frames → new.pc % 4 ≡ 0 → IsKernel (init_kernel tree frames new)
   unfolding free_slots
   init-sound frames new fits aligned = record {
-    all = init-all new;
-    spaces = ap suc (length-free SpaceView 63);
-    stands = init-stands new aligned;
-    runs = init-rests new;
+    all = one-all (first_of new);
+    spaces = ap suc (length-replicate {A = Option SpaceView} 63 None);
+    stands = one-stands (first_of new) (view_by new) (init-placed new aligned);
+    runs = one-rests (first_of new) refl;
     fits = rw (taken-alone frames (view_by new)) fits;
     opened = init-opened new;
     filed = record { up = λ i e. absurd (cc); used = λ up. init-used new };

@@ -3,7 +3,6 @@ use Rattle.std.proofs.lemmas.Option.{none-some, same_Some}
 use Rattle.tree.specs.Holding.{holders, with_hold}
 use Rattle.files.specs.Meant.{file_of}
 use Rattle.kernel.specs.Holding.{FitsNode, IsFolder, IsInUse, files_on, home_in, homes_at, node_in, node_of, node_on}
-use lib.Seq.{drop-append-add}
 use Rattle.kernel.specs.Descriptors.{IsCounted, named_by, names_in}
 use Rattle.kernel.specs.Kernel.{memory_in, state_of}
 use Rattle.kernel.specs.Sound.{IsFiled, IsKernel, IsLive, IsOpenFile, IsOpened, IsPlace, IsPlaced, WaitsWell}
@@ -13,6 +12,10 @@ use Rattle.files.specs.declared.file.OpenFile.{OpenFile}
 use Rattle.files.specs.declared.table.FileFault.{FileFault}
 use Rattle.files.specs.Places.{Counted, count_at, count_in, opened, opens_of, place_for}
 use Rattle.files.proofs.Whole.{slot-opens}
+use Rattle.programs.proofs.Headings.{length-pages}
+use Rattle.programs.proofs.Places.{filled, page_frames-more}
+use Rattle.programs.proofs.Stacks.{write-stack}
+use Rattle.programs.specs.Passed.{stacked}
 use Rattle.machine.specs.declared.fault.BootFault.{BootFault}
 use Rattle.machine.specs.declared.fault.BootFault.TheVariants.{FrameCount, NoInit, NoMemory}
 use Rattle.machine.specs.Flat.{LoadsFlat, alone, bare_plan, console_file, first, first_files, first_kernel, first_table, first_tree, flat_memory, flat_space}
@@ -23,60 +26,24 @@ use Rattle.proc.specs.Places.{is_running, seated}
 use Rattle.proc.proofs.Joined.{joined-free_slots}
 use Rattle.proc.specs.Whole.{joined}
 use Rattle.spaces.specs.Spaces.{SpaceView, Spaces, frames_in, grown, has_space, view_at, no_pages, no_spaces, taken_frames, with_view, written}
-use Rattle.std.proofs.Common.{Bool, Err, List, None, Ok, Option, Result, Some, [], ap, append_assoc, ap₂, arith, drop, false, get_or, inl, inr, is_some, length, length-append, map, nat_le, refl, replicate, subst, suc, sym, take, true, zero, ℕ, ◌%◌, ◌*◌, ◌++◌, ◌+◌, ◌-◌, ◌/◌, ◌<◌, ◌∙◌, ◌∷◌, ◌≡◌, ◌≢◌, ◌≤◌, ◌⊎◌, ◌↔◌}
+use Rattle.std.proofs.Common.{Bool, Err, List, None, Ok, Option, Result, Some, [], ap, append_assoc, ap₂, arith, false, get_or, inl, inr, is_some, length, length-append, map, nat_le, refl, replicate, subst, suc, sym, true, zero, ℕ, ◌*◌, ◌++◌, ◌+◌, ◌-◌, ◌/◌, ◌<◌, ◌∙◌, ◌∷◌, ◌≡◌, ◌≢◌, ◌≤◌, ◌⊎◌, ◌↔◌}
 use Rattle.std.specs.Bool.{OnFalse, OnTrue}
-use Rattle.std.proofs.lemmas.Bool.{le-leb, lt-leb, lt-ltb}
+use Rattle.std.proofs.lemmas.Bool.{le-leb, lt-leb}
 use Rattle.std.proofs.lemmas.Bool.Decides.{nat_tests}
-use Rattle.std.proofs.lemmas.List.{drop-replicate, length-replicate, length-take}
+use Rattle.std.proofs.lemmas.List.{length-replicate}
 use Rattle.std.proofs.lemmas.List.Folds.{sum_by-replicate}
 use Rattle.std.proofs.lemmas.List.Sums.{sum_by-cons}
-use Rattle.std.proofs.Math.Nat.{zero-add}
-use Rattle.std.proofs.Math.Seq.{take-append-add}
-use Rattle.std.specs.Prelude.{IfOk, IfSome, IsErrOf, OnErr, if◌then◌else◌, option_map, slice_index, sum_by, ◌==◌}
+use Rattle.std.specs.Prelude.{IfOk, IfSome, IsErrOf, OnErr, option_map, slice_index, sum_by, ◌==◌}
 use Rattle.tree.specs.Tree.{FileTree}
 use Rattle.unixmodel.specs.Counts.{blocks_of, frames_of, page_frames}
 use Rattle.unixmodel.specs.Files.{Files, free_slots, slot}
-use Rattle.unixmodel.specs.Memory.{Marks, Memory, Page, overwrite, pages_of, write_bytes, write_from, zero_page, zeros}
+use Rattle.unixmodel.specs.Memory.{Marks, Memory, overwrite, pages_of, write_bytes, zero_page, zeros}
 use Rattle.unixmodel.specs.Numbers.{ceil_div, le, round_down}
 use Rattle.unixmodel.specs.OpenFiles as unix_files
 use Rattle.unixmodel.specs.Plan.{plan_flat, push, push_pointers, push_strings, stack_marks, with_args, with_stack}
 use Rattle.unixmodel.specs.Process as unix
 use Rattle.unixmodel.specs.Start.{first_process, first_state, flat_descriptors, flat_files, flat_opens, if_fits, start_flat}
 use Rattle.unixmodel.specs.State.{State, holds}
-
--- ---- pages of bytes
-
-pub length-pages : (marks : Marks) (n : ℕ) (bytes : List ℕ) → length (pages_of marks n bytes) ≡ n
-unfolding pages_of
-length-pages marks zero bytes = refl
-length-pages marks (suc n) bytes = ap suc (length-pages marks n (drop 4096 bytes))
-
--- bytes over the beginning of a page of zeros
-first-page : (bytes : List ℕ) → overwrite (zeros 4096) 0 (take 4096 bytes) ≡ take 4096 bytes ++ zeros (4096 - length bytes)
-unfolding zeros
-first-page bytes =
-    let short : 4096 - length (take 4096 bytes) ≡ 4096 - length bytes = omega (arith, length-take 4096 bytes) in
-    ap (λ n. take 4096 bytes ++ drop n (zeros 4096)) (zero-add (length (take 4096 bytes)))
-    ∙ ap (λ rest. take 4096 bytes ++ rest) (drop-replicate (length (take 4096 bytes)) 4096 0 ∙ ap zeros short)
-
-empty-pages : (marks : Marks) (n : ℕ) → replicate n (zero_page marks) ≡ pages_of marks n []
-unfolding pages_of
-empty-pages marks zero = refl
-empty-pages marks (suc n) = ap (λ ps. zero_page marks ∷ ps) (empty-pages marks n)
-
--- bytes written over pages of zeros
-pub filled-from : (marks : Marks) (n : ℕ) (bytes : List ℕ) → write_from (replicate n (zero_page marks)) 0 bytes ≡ pages_of marks n bytes
-unfolding pages_of
-filled-from marks zero bytes = refl
-filled-from marks (suc n) [] = empty-pages marks (suc n)
-filled-from marks (suc n) (b ∷ bs) =
-    let page : Page = record { bytes = take 4096 (b ∷ bs) ++ zeros (4096 - length (b ∷ bs)); marks = marks } in
-    ap (λ front. let p : Page = record { bytes = front; marks = marks } in p ∷ write_from (replicate n (zero_page marks)) 0 (drop 4096 (b ∷ bs))) (first-page (b ∷ bs))
-    ∙ ap (λ ps. page ∷ ps) (filled-from marks n (drop 4096 (b ∷ bs)))
-
-pub filled : (marks : Marks) (n : ℕ) (bytes : List ℕ) → write_bytes (replicate n (zero_page marks)) 0 bytes ≡ pages_of marks n bytes
-unfolding write_bytes
-filled marks n bytes = filled-from marks n bytes
 
 -- ---- the stack of a program without arguments
 
@@ -85,19 +52,11 @@ zero-word : overwrite (zeros 4096) 4080 (le 8 0) ≡ zeros 4096
 unfolding zeros
 zero-word = refl
 
-stack-page : (p : Page) → p ≡ zero_page (stack_marks true) → write_from (p ∷ []) 4080 (le 8 0) ≡ p ∷ []
-stack-page p is = rw is (ap (λ bytes. let q : Page = record { bytes = bytes; marks = stack_marks true } in q ∷ []) zero-word)
-
 bare-stack : (pages : Memory) → write_bytes (with_stack pages) (4096 * (length pages + 2) - 16) (le 8 0) ≡ with_stack pages
-unfolding write_bytes with_stack
+unfolding with_stack
 bare-stack pages =
-    let at : (4096 * (length pages + 2) - 16) / 4096 ≡ length pages + 1 = omega arith in
-    let from : (4096 * (length pages + 2) - 16) % 4096 ≡ 4080 = omega arith in
-    let guard = zero_page (stack_marks false) in
-    let stack = zero_page (stack_marks true) in
-    let front : take (length pages + 1) (pages ++ guard ∷ stack ∷ []) ≡ pages ++ guard ∷ [] = take-append-add pages (guard ∷ stack ∷ []) 1 in
-    let back : drop (length pages + 1) (pages ++ guard ∷ stack ∷ []) ≡ stack ∷ [] = drop-append-add pages (guard ∷ stack ∷ []) 1 in
-    rw (at, from, front, back, stack-page stack refl) (append_assoc pages (guard ∷ []) (stack ∷ []))
+    let at : 4096 * (length pages + 2) - 16 ≡ 4096 * (length pages + 1) + 4080 = omega arith in
+    ap (λ a. write_bytes (stacked pages (zeros 4096)) a (le 8 0)) at ∙ write-stack pages (zeros 4096) 4080 (le 8 0) (omega arith) (omega arith) ∙ ap (stacked pages) zero-word
 
 above : (size n : ℕ) → size ≡ 4096 * (n + 2) → nat_le (size - 4096) (size - 16) ≡ true
 above size n is = le-leb (size - 4096) (size - 16) (omega (arith, is))
@@ -125,30 +84,19 @@ plan-is bytes =
     let pages = pages_of all (ceil_div (length bytes) 4096) bytes in
     bare pages ∙ ap (λ n. Some (bare_plan (with_stack pages) (4096 * n))) (sym (length-with_stack pages))
 
--- ---- the pages as they are made
-
-suc-frames : (n : ℕ) → page_frames (suc n) ≡ suc n + ceil_div (suc n) 512 + 1
-suc-frames n = ap (λ (b : Bool). suc n + ceil_div (suc n) 512 + (if b then 1 else 0)) (lt-ltb 0 (suc n) (omega arith))
-
-pub page_frames-more : (a b : ℕ) → a ≤ b → page_frames a ≤ page_frames b
-page_frames-more zero b less = omega arith
-page_frames-more (suc a) zero less = absurd (omega arith)
-page_frames-more (suc a) (suc b) less = rw (suc-frames a, suc-frames b) (omega (arith, less))
-
 -- ---- the first state
 
-pub slot-free : (X : Type 0) (n i : ℕ) → let free : List (Option X) = replicate n None in slot free i ≡ None
-slot-free X zero i = refl
-slot-free X (suc n) zero = refl
-slot-free X (suc n) (suc i) = slot-free X n i
+pub same-past : (X : Type 0) (d : X) (n i : ℕ) → get_or (replicate n d) i d ≡ d
+same-past X d zero i = refl
+same-past X d (suc n) zero = refl
+same-past X d (suc n) (suc i) = same-past X d n i
 
-pub length-free : (X : Type 0) (n : ℕ) → let free : List (Option X) = replicate n None in length free ≡ n
-length-free X zero = refl
-length-free X (suc n) = ap suc (length-free X n)
+pub none-free : (X : Type 0) (f : Option X → ℕ) → f None ≡ 0 → (n : ℕ) → sum_by f (replicate n None) ≡ 0
+none-free X f none zero = refl
+none-free X f none (suc n) = omega (arith, sum_by-cons f None (replicate n None), none, none-free X f none n)
 
 pub no-frames : (n : ℕ) → sum_by frames_in (replicate n None) ≡ 0
-no-frames zero = refl
-no-frames (suc n) = omega (arith, sum_by-cons frames_in None (replicate n None), no-frames n)
+no-frames n = none-free SpaceView frames_in refl n
 
 pub taken-alone : (frames : ℕ) (h : SpaceView) → taken_frames (alone frames h) ≡ 4 + page_frames (length h.memory)
 taken-alone frames h = omega (arith, sum_by-cons frames_in (Some h) (replicate 63 None), no-frames 63)
@@ -196,19 +144,32 @@ first-zero size = refl
 first-placed : (h : SpaceView) → IsPlaced (first h.size) h
 first-placed h = record { size = refl; zero = first-zero h.size; aligned = refl; mode = first-live h.size }
 
-first-stands : (h : SpaceView) (i : ℕ) → IsPlace (slot (Some (first h.size) ∷ free_slots 63) i) (slot (Some h ∷ replicate 63 None) i)
+-- a process alone in the first place
+pub one-stands : (p : Process) (h : SpaceView) → IsPlaced p h → (i : ℕ) → IsPlace (slot (Some p ∷ free_slots 63) i) (slot (Some h ∷ replicate 63 None) i)
 unfolding free_slots
-first-stands h zero = first-placed h
-first-stands h (suc i) = rw (slot-free Process 63 i, slot-free SpaceView 63 i) tt
+one-stands p h placed zero = placed
+one-stands p h placed (suc i) = rw (same-past (Option Process) None 63 i, same-past (Option SpaceView) None 63 i) tt
 
-first-rests : (size i : ℕ) → holds is_running (slot (Some (first size) ∷ free_slots 63) i) ≡ false
+pub one-rests : (p : Process) → is_running p ≡ false → (i : ℕ) → holds is_running (slot (Some p ∷ free_slots 63) i) ≡ false
 unfolding free_slots
-first-rests size zero = refl
-first-rests size (suc i) = rw (slot-free Process 63 i) refl
+one-rests p rests zero = rests
+one-rests p rests (suc i) = rw (same-past (Option Process) None 63 i) refl
 
-first-all : (size : ℕ) → length (first_table size).places ≡ 64
+pub one-all : (p : Process) → length (Some p ∷ free_slots 63) ≡ 64
 unfolding free_slots
-first-all size = ap suc (length-free Process 63)
+one-all p = ap suc (length-replicate {A = Option Process} 63 None)
+
+pub one-waits : (files : List (Option Counted)) (p : Process) → WaitsWell files (Some p) → (i : ℕ) → WaitsWell files (slot (Some p ∷ free_slots 63) i)
+unfolding free_slots
+one-waits files p waits zero = waits
+one-waits files p waits (suc i) = rw (same-past (Option Process) None 63 i) tt
+
+-- that works in the root
+pub one-home : (p : Process) → home_in (Some p) ≡ Some 1 → (n : ℕ) → homes_at (Some p ∷ free_slots 63) n ≡ one_in n (Some 1)
+unfolding free_slots
+one-home p home n =
+    let rest = none-free Process (λ o. one_in n (home_in o)) refl 63 in
+    omega (arith, sum_by-cons (λ o. one_in n (home_in o)) (Some p) (replicate 63 None), ap (one_in n) home, rest)
 
 -- ---- the first open files
 
@@ -234,50 +195,31 @@ other-file n = let other : (0 == suc n) ≡ false = grind (arith, nat_tests) in 
 
 first-counted : (size : ℕ) → IsCounted first_files (first_table size).places
 first-counted size zero = omega (arith, named-first size 0)
-first-counted size (suc n) = let none : count_at first_files (suc n) ≡ 0 = ap count_in (slot-free Counted 99 n) in omega (arith, none, named-first size (suc n), other-file n)
+first-counted size (suc n) = let none : count_at first_files (suc n) ≡ 0 = ap count_in (same-past (Option Counted) None 99 n) in omega (arith, none, named-first size (suc n), other-file n)
 
 first-named : (i : ℕ) (c : Counted) → slot first_files i ≡ Some c → 0 < c.count
 first-named zero c at = let three : 3 ≡ c.count = ap count_in at in omega (arith, three)
-first-named (suc i) c at = absurd (let bad : None ≡ Some c = sym (slot-free Counted 99 i) ∙ at in cc)
+first-named (suc i) c at = absurd (let bad : None ≡ Some c = sym (same-past (Option Counted) None 99 i) ∙ at in cc)
 
 first-each : (n : ℕ) (f : unix_files.OpenFile) → slot (opens_of first_files) n ≡ Some f → IsOpenFile f
 first-each zero f at = let e : file_of console_file ≡ f = cc in subst IsOpenFile e tt
 first-each (suc n) f at =
-    absurd (let bad : None ≡ Some f = sym (slot-opens first_files (suc n) ∙ ap (option_map (λ (c : Counted). file_of c.file)) (slot-free Counted 99 n)) ∙ at in cc)
-
-first-waits : (size i : ℕ) → WaitsWell first_files (slot (first_table size).places i)
-unfolding free_slots
-first-waits size zero = tt
-first-waits size (suc i) = rw (slot-free Process 63 i) tt
+    absurd (let bad : None ≡ Some f = sym (slot-opens first_files (suc n) ∙ ap (option_map (λ (c : Counted). file_of c.file)) (same-past (Option Counted) None 99 n)) ∙ at in cc)
 
 first-opened : (size : ℕ) → IsOpened first_files (replicate 100 None) (first_table size).places
 first-opened size = record {
-  table = record { all = ap suc (length-free Counted 99); named = first-named };
+  table = record { all = ap suc (length-replicate {A = Option Counted} 99 None); named = first-named };
   counted = first-counted size;
   each = first-each;
-  all = length-free (List ℕ) 100;
-  piped = λ q. ap is_some (slot-free (List ℕ) 100 q);
-  waits = first-waits size;
+  all = length-replicate {A = Option (List ℕ)} 100 None;
+  piped = λ q. ap is_some (same-past (Option (List ℕ)) None 100 q);
+  waits = one-waits first_files (first size) tt;
 }
 
 -- ---- who holds the root and the console
 
-pub none-free : (X : Type 0) (f : Option X → ℕ) → f None ≡ 0 → (n : ℕ) → sum_by f (replicate n None) ≡ 0
-none-free X f none zero = refl
-none-free X f none (suc n) = omega (arith, sum_by-cons f None (replicate n None), none, none-free X f none n)
-
 console-on : (n : ℕ) → files_on first_files n ≡ one_in n (Some 2)
 console-on n = let rest = none-free Counted (λ o. one_in n (node_in o)) refl 99 in omega (arith, sum_by-cons (λ o. one_in n (node_in o)) (Some (record { file = console_file; count = 3 })) (replicate 99 None), rest)
-
-root-at : (size n : ℕ) → homes_at (first_table size).places n ≡ one_in n (Some 1)
-unfolding free_slots
-root-at size n = let rest = none-free Process (λ o. one_in n (home_in o)) refl 63 in omega (arith, sum_by-cons (λ o. one_in n (home_in o)) (Some (first size)) (replicate 63 None), rest)
-
-pub zeros-past : (m n : ℕ) → ◌≡◌ {A = ℕ} (get_or (replicate m 0) n 0) 0
-zeros-past zero zero = refl
-zeros-past zero (suc n) = refl
-zeros-past (suc m) zero = refl
-zeros-past (suc m) (suc n) = zeros-past m n
 
 first-holders : (n : ℕ) → holders (with_hold (with_hold (replicate 16 0) 1) 2) n ≡ one_in n (Some 2) + one_in n (Some 1)
 first-holders zero = refl
@@ -286,17 +228,17 @@ first-holders (suc (suc zero)) = refl
 first-holders (suc (suc (suc n))) =
     let console : (2 == suc (suc (suc n))) ≡ false = grind (arith, nat_tests) in
     let root : (1 == suc (suc (suc n))) ≡ false = grind (arith, nat_tests) in
-    rw (console, root) (zeros-past 13 n)
+    rw (console, root) (same-past ℕ 0 13 n)
 
 first-fits : (tree : FileTree) → IsFlat tree → (k : ℕ) (c : Counted) → slot first_files k ≡ Some c → FitsNode c.file c.file.target (node_of tree.files (node_on c.file.target))
 unfolding flat_files free_slots
 first-fits tree flat zero c at = let e : record { file = console_file; count = 3 } ≡ c = same_Some (record { file = console_file; count = 3 }) c at in subst (λ (d : Counted). FitsNode d.file d.file.target (node_of tree.files (node_on d.file.target))) e (rw flat.files refl)
-first-fits tree flat (suc k) c at = absurd (none-some c (sym (slot-free Counted 99 k) ∙ at))
+first-fits tree flat (suc k) c at = absurd (none-some c (sym (same-past (Option Counted) None 99 k) ∙ at))
 
 first-homes : (tree : FileTree) → IsFlat tree → (size i : ℕ) → IfSome (home_in (slot (first_table size).places i)) (λ d. IsFolder (slot tree.files d))
 unfolding flat_files free_slots
 first-homes tree flat size zero = rw flat.files tt
-first-homes tree flat size (suc i) = rw (slot-free Process 63 i) tt
+first-homes tree flat size (suc i) = rw (same-past (Option Process) None 63 i) tt
 
 flat-zero : slot flat_files 0 ≡ None
 unfolding flat_files free_slots
@@ -311,7 +253,7 @@ first-used tree flat size = record {
   rules = flat.rules;
   zero = ap (λ (files : Files). slot files 0) flat.files ∙ flat-zero;
   within = rw (flat.files, flat.limit, flat-blocks) (omega arith);
-  holds = λ n. ap (λ h. holders (with_hold (with_hold h 1) 2) n) flat.holds ∙ first-holders n ∙ sym (ap₂ ◌+◌ (console-on n) (root-at size n));
+  holds = λ n. ap (λ h. holders (with_hold (with_hold h 1) 2) n) flat.holds ∙ first-holders n ∙ sym (ap₂ ◌+◌ (console-on n) (one-home (first size) refl n));
   held = λ n node at bare. absurd (let some = flat.linked n node at in omega (arith, some, bare));
   fits = first-fits tree flat;
   homes = first-homes tree flat size;
@@ -337,10 +279,10 @@ few-console tree flat = rw flat.holds (omega arith)
 
 pub first-sound : (tree : FileTree) → IsFlat tree → (frames : ℕ) (h : SpaceView) → 4 + page_frames (length h.memory) ≤ frames → IsKernel (first_kernel tree frames h)
 first-sound tree flat frames h fits = record {
-  all = first-all h.size;
-  spaces = ap suc (length-free SpaceView 63);
-  stands = first-stands h;
-  runs = first-rests h.size;
+  all = one-all (first h.size);
+  spaces = ap suc (length-replicate {A = Option SpaceView} 63 None);
+  stands = one-stands (first h.size) h (first-placed h);
+  runs = one-rests (first h.size) refl;
   fits = rw (taken-alone frames h) fits;
   opened = first-opened h.size;
   filed = first-filed tree flat h.size;

@@ -1,9 +1,8 @@
 -- What /init has process 1 execute, and how it comes into the first place.
-use Rattle.std.proofs.Common.{Bool, List, None, Ok, Option, Some, [], ap, arith, false, true, le_trans, length, length-append, refl, subst, sym, ℕ, ◌%◌, ◌*◌, ◌++◌, ◌+◌, ◌-◌, ◌/◌, ◌<◌, ◌^◌, ◌∙◌, ◌∷◌, ◌≡◌, ◌≤◌}
-use Rattle.std.proofs.lemmas.Bool.{false≢true}
+use Rattle.std.proofs.Common.{List, None, Ok, Option, Some, [], ap, arith, true, le_trans, length, refl, subst, sym, ℕ, ◌%◌, ◌*◌, ◌++◌, ◌+◌, ◌/◌, ◌<◌, ◌^◌, ◌∙◌, ◌∷◌, ◌≡◌, ◌≤◌}
+use Rattle.calls.proofs.Homes.{some-there}
 use Rattle.std.proofs.lemmas.Option.{none-some, same_Some}
-use Rattle.std.specs.List.{flat_map}
-use Rattle.std.specs.Prelude.{IfSome, IsSome, if◌then◌else◌, is_some, nat_le, option_and_then, option_map}
+use Rattle.std.specs.Prelude.{IfSome, IsSome, is_some, option_and_then, option_map}
 use Rattle.machine.proofs.FlatLemmas.{alone-space, no-frames}
 use Rattle.machine.specs.declared.image_boot.Init.{Init}
 use Rattle.machine.specs.Booted.{FindsInit, IsInPlace, IsInit, LacksInit, first_of}
@@ -11,7 +10,8 @@ use Rattle.machine.specs.Flat.{alone}
 use Rattle.names.proofs.Naming.{find-used}
 use Rattle.names.specs.Rules.{KeepsTree}
 use Rattle.programs.proofs.Loads.{IsProgram, is-program}
-use Rattle.programs.proofs.Places.{length-write}
+use Rattle.programs.proofs.Executions.{HasProgram, args-long, has-program, length-stacked, no-plan, plan-is}
+use Rattle.programs.proofs.Serving.{serves-told}
 use Rattle.programs.specs.declared.arguments.Arguments.{Arguments}
 use Rattle.programs.specs.declared.headers.Program.{Program}
 use Rattle.programs.specs.Headed.{IsRead, file_at, program_in}
@@ -22,10 +22,8 @@ use Rattle.tree.specs.Tree.{FileTree, Serves}
 use Rattle.tree.specs.Written.{IsFile}
 use Rattle.unixmodel.specs.Counts.{page_frames}
 use Rattle.unixmodel.specs.Files.{Files, Node, find, slot}
-use Rattle.unixmodel.specs.Files.Node.{Device, Directory, File}
-use Rattle.unixmodel.specs.Memory.{Memory, Page, zero_page}
-use Rattle.unixmodel.specs.Numbers.{le, number_at, round_down}
-use Rattle.unixmodel.specs.Plan.{Loaded, Plan, Stack, loaded_of, plan, push, push_pointers, push_strings, stack_marks, with_args, with_stack}
+use Rattle.unixmodel.specs.Numbers.{number_at}
+use Rattle.unixmodel.specs.Plan.{Loaded, Plan, loaded_of, plan, with_args}
 use Rattle.unixmodel.specs.ProcessCalls.{file_bytes}
 use Rattle.unixmodel.specs.Start.{init_path, init_plan}
 
@@ -40,92 +38,28 @@ pub plan-lost : (files : Files) → find files 1 init_path ≡ None → init_pla
 unfolding init_plan
 plan-lost files none = ap (λ o. option_and_then (λ file. plan file (init_path ∷ [])) (option_and_then (λ m. file_bytes (slot files m)) o)) none
 
-not-loaded : (file : List ℕ) (o : Option Loaded) → option_map (λ (l : Loaded). let p : Program = record { header = record { entry = round_down (number_at 8 24 file) 4; program_headers = number_at 8 32 file; count = number_at 2 56 file }; pages = length l.pages } in p) o ≡ None → o ≡ None
-not-loaded file None e = refl
-not-loaded file (Some l) e = absurd (none-some _ (sym e))
-
-plan-refused : (file : List ℕ) → program_in file ≡ None → plan file (init_path ∷ []) ≡ None
-unfolding plan
-plan-refused file none = ap (option_and_then (λ (l : Loaded). with_args l.pages (round_down (number_at 8 24 file) 4) (init_path ∷ []))) (not-loaded file (loaded_of file) none)
-
-no-program : (o : Option Node) → option_and_then program_in (file_bytes o) ≡ None → option_and_then (λ file. plan file (init_path ∷ [])) (file_bytes o) ≡ None
+no-program : (o : Option (List ℕ)) → option_and_then program_in o ≡ None → option_and_then (λ file. plan file (init_path ∷ [])) o ≡ None
 no-program None none = refl
-no-program (Some (File links bytes)) none = plan-refused bytes none
-no-program (Some (Device links major minor)) none = refl
-no-program (Some (Directory links places)) none = refl
+no-program (Some file) none = no-plan file none (Some (init_path ∷ []))
 
 pub plan-none : (files : Files) (n : ℕ) → find files 1 init_path ≡ Some n → option_and_then program_in (file_bytes (slot files n)) ≡ None → init_plan files ≡ None
-plan-none files n found none = plan_found files n found ∙ no-program (slot files n) none
-
--- how many pages a plan has
-push-long : (s : Stack) (bytes : List ℕ) → length (push s bytes).memory ≡ length s.memory
-unfolding push
-push-long s bytes = length-write s.memory (round_down (s.sp - length bytes) 16) bytes
-
-strings-long : (s : Stack) (args : List (List ℕ)) → length (push_strings s args).memory ≡ length s.memory
-unfolding push_strings
-strings-long s [] = refl
-strings-long s (x ∷ xs) = strings-long (push s (x ++ 0 ∷ [])) xs ∙ push-long s (x ++ 0 ∷ [])
-
-pointers-long : (s : Stack) → length (push_pointers s).memory ≡ length s.memory
-unfolding push_pointers
-pointers-long s = push-long s (flat_map (le 8) s.pointers ++ le 8 0)
-
-if-finished : (b : Bool) (p new : Plan) → (if b then Some p else None) ≡ Some new → length new.memory ≡ length p.memory
-if-finished true p new is = ap (λ (x : Plan). length x.memory) (sym (same_Some p new is))
-if-finished false p new is = absurd (none-some new is)
-
-args-long : (pages : Memory) (pc : ℕ) (args : List (List ℕ)) (new : Plan) → with_args pages pc args ≡ Some new → length new.memory ≡ length pages + 2
-unfolding with_args with_stack
-args-long pages pc args new is =
-    let size = 4096 * (length pages + 2) in
-    let stack : Stack = record { memory = pages ++ zero_page (stack_marks false) ∷ zero_page (stack_marks true) ∷ []; sp = size; pointers = [] } in
-    let last = push_pointers (push_strings stack args) in
-    if-finished (nat_le (size - 4096) last.sp) (record { memory = last.memory; size = size; pc = pc; argc = length args; sp = last.sp }) new is
-    ∙ pointers-long (push_strings stack args)
-    ∙ strings-long stack args
-    ∙ length-append pages (zero_page (stack_marks false) ∷ zero_page (stack_marks true) ∷ [])
-
--- a number has a program
-pub record HasProgram (files : Files) (n : ℕ) (program : Program) : Type 0 where
-  pub file : IsFile files n
-  pub program_is : program_in (file_at files n) ≡ Some program
-  pub bytes : file_bytes (slot files n) ≡ Some (file_at files n)
-
-has-program : (files : Files) (n : ℕ) (program : Program) → option_and_then program_in (file_bytes (slot files n)) ≡ Some program → HasProgram files n program
-has-program files n program some = go (slot files n) refl some where
-  go : (o : Option Node) → slot files n ≡ o → option_and_then program_in (file_bytes o) ≡ Some program → HasProgram files n program
-  go None here is = absurd (none-some program is)
-  go (Some (File links bytes)) here is = record {
-    file = record { links = links; bytes = bytes; here = here };
-    program_is = rw here is;
-    bytes = rw here refl;
-  }
-  go (Some (Device links major minor)) here is = absurd (none-some program is)
-  go (Some (Directory links places)) here is = absurd (none-some program is)
+plan-none files n found none = plan_found files n found ∙ no-program (file_bytes (slot files n)) none
 
 module _ (files : Files) (n : ℕ) (program : Program) (found : find files 1 init_path ≡ Some n) (has : HasProgram files n program) where
   file : List ℕ
   file = file_at files n
 
-  is : IsProgram (file_at files n) program
-  is = is-program (file_at files n) program has.program_is
+  abbrev is : IsProgram (file_at files n) program
+  is = has.is
 
-  planned : init_plan files ≡ plan (file_at files n) (init_path ∷ [])
-  planned = plan_found files n found ∙ ap (option_and_then (λ file. plan file (init_path ∷ []))) has.bytes
-
-  plan-loaded : (l : Loaded) → loaded_of (file_at files n) ≡ Some l → init_plan files ≡ with_args l.pages program.header.entry (init_path ∷ [])
-  unfolding plan
-  plan-loaded l loaded =
-      planned
-      ∙ ap (option_and_then (λ (l : Loaded). with_args l.pages (round_down (number_at 8 24 (file_at files n)) 4) (init_path ∷ []))) loaded
-      ∙ ap (λ pc. with_args l.pages pc (init_path ∷ [])) (sym (ap (λ h. h.entry) is.read))
-
-  pages-are : (l : Loaded) → loaded_of (file_at files n) ≡ Some l → length l.pages ≡ program.pages
-  pages-are l loaded = ap (λ (x : Loaded). length x.pages) (same_Some l is.loaded (sym loaded ∙ is.is)) ∙ is.pages
+  planned : init_plan files ≡ with_args is.loaded.pages program.header.entry (init_path ∷ [])
+  planned = plan_found files n found ∙ ap (option_and_then (λ file. plan file (init_path ∷ []))) has.bytes ∙ plan-is (file_at files n) program is (Some (init_path ∷ []))
 
   plan-passed : (told : Option Arguments) → PassesOne (init_path ++ 0 ∷ []) program.pages told → (l : Loaded) → loaded_of (file_at files n) ≡ Some l → init_plan files ≡ option_map (plan_with l.pages program.header.entry) told
-  plan-passed told passes l loaded = plan-loaded l loaded ∙ passes init_path refl l.pages program.header.entry (pages-are l loaded)
+  plan-passed told passes l loaded =
+      planned
+      ∙ passes init_path refl is.loaded.pages program.header.entry is.pages
+      ∙ ap (λ (x : Loaded). option_map (plan_with x.pages program.header.entry) told) (same_Some is.loaded l (sym is.is ∙ loaded))
 
   -- its arguments find no room
   argless : PassesOne (init_path ++ 0 ∷ []) program.pages None → init_plan files ≡ None
@@ -138,17 +72,10 @@ module _ (files : Files) (n : ℕ) (program : Program) (found : find files 1 ini
   -- the frames don't suffice for its pages
   too-long : (frames : ℕ) → frames < 4 + page_frames (program.pages + 2) → LacksInit files frames
   too-long frames over p planned-as =
-      let long : length p.memory ≡ program.pages + 2 = args-long is.loaded.pages program.header.entry (init_path ∷ []) p (sym (plan-loaded is.loaded is.is) ∙ planned-as) ∙ ap (λ n. n + 2) is.pages in
+      let long : length p.memory ≡ program.pages + 2 = args-long is.loaded.pages program.header.entry (init_path ∷ []) p (sym planned ∙ planned-as) ∙ ap (λ n. n + 2) is.pages in
       rw long over
 
 -- ---- reading it
-
-serves-told : {T : Type 0} {old new : FileTree} {View : T → Type 0} (x : T) → View x → new.failed ≡ false → old.failures ≤ new.failures → Serves old new (Ok x) View
-serves-told x told up later = record { told = told; up = up; down = tt; cause = record { later = later; failed = λ e. absurd (false≢true e) } }
-
-some-there : (o : Option Node) → IsSome o → (node : Node) × (o ≡ Some node)
-some-there None there = absurd (cc)
-some-there (Some node) there = (node, refl)
 
 abbrev Resolves : FileTree → FileTree → Option ℕ → Type 0
 Resolves old mid number = (mid ≡ record old { failures = mid.failures }) × (number ≡ find old.files 1 init_path)
@@ -208,9 +135,6 @@ module _ {old mid : FileTree} {number : Option ℕ} (serves : Serves old mid (Ok
         init-found less a passes = serves-told (Some (record { number = n; program = program; arguments = a })) (left, init-is old.files n program found has frames a passes (omega (arith, less, count))) reads.up later
 
 -- ---- putting it in its place
-
-length-stacked : (pages : Memory) (page : List ℕ) → length (stacked pages page) ≡ length pages + 2
-length-stacked pages page = length-append pages (zero_page (stack_marks false) ∷ (let p : Page = record { bytes = page; marks = stack_marks true } in p) ∷ [])
 
 module _ (files : Files) (frames : ℕ) (init : Init) (is : IsInit files frames init) where
   program-of : IsProgram (file_at files init.number) init.program

@@ -5,15 +5,11 @@ use Rattle.imagecheck.specs.declared.ImageFault.{ImageFault}
 use Rattle.imagecheck.specs.declared.ImageFault.TheVariants as fault
 use Rattle.machine.specs.declared.fault.BootFault.{BootFault}
 use Rattle.machine.specs.declared.fault.BootFault.TheVariants.{Device, FrameCount, Image, NoInit, NoMemory}
-use Rattle.machine.specs.Booted.{IsAccepted, IsBegun, IsBooted, IsNotBegun, IsUnbooted, IsUnheld, boot_fault}
+use Rattle.machine.specs.Booted.{IsAccepted, IsBegun, IsBooted, IsNotBegun, IsUnbooted, boot_fault}
 use Rattle.machine.specs.View.{View}
 use Rattle.mount.specs.Mounted.{IsMounted, IsUnmounted}
 use Rattle.tree.specs.Tree.{FileTree}
-use Rattle.unixmodel.specs.Image.{inodes_in}
 use Rattle.unixmodel.specs.Start.{start}
-
-pub unheld-mounted : {image : List ℕ} {failures : ℕ} {tree : FileTree} → IsMounted image failures tree → IsUnheld tree
-unheld-mounted {image} mounted = record { rules = mounted.rules; linked = mounted.linked; count = inodes_in image; holds = mounted.holds; up = mounted.up }
 
 module _ {image : List ℕ} {failures : ℕ} {tree : FileTree} (mounted : IsMounted image failures tree) (frames : ℕ) where
   accepted : IsAccepted image tree.files

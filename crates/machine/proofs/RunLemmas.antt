@@ -1,8 +1,7 @@
 -- How a run goes on by one step.
-use Rattle.std.proofs.Common.{◌≡◌, ℕ, ℤ, ◌+◌, ◌<◌, ◌≤◌, List, [], ◌∷◌, ◌++◌, take, drop, length, Option, Some, None, Err, refl, ap, sym, ◌∙◌, arith, append_assoc, append-nil}
+use Rattle.std.proofs.Common.{◌≡◌, ℕ, ℤ, ◌+◌, ◌<◌, ◌≤◌, List, [], ◌∷◌, ◌++◌, take, drop, length, Option, Some, None, Err, refl, ap, sym, ◌∙◌, arith, append-nil}
 use Rattle.std.proofs.lemmas.List.{take-append-drop}
-use Rattle.std.specs.Io.KnownBytes.{Appends}
-use Rattle.console.specs.Output.{AppendsBeginning}
+pub use Rattle.calls.proofs.Prints.{Appends-none, Appends-trans, begins_more}
 use Rattle.machine.proofs.Runs.{run-append, run-more, then_runs}
 use Rattle.calls.specs.declared.halt.Halt.{Halt}
 use Rattle.calls.specs.declared.halt.Halt.TheVariants.{Console, Device, Halted, InitEnded}
@@ -14,13 +13,6 @@ use Rattle.unixmodel.specs.Failures.{Rises}
 use Rattle.unixmodel.specs.Next.{next}
 use Rattle.unixmodel.specs.Run.{after_bytes, run}
 use Rattle.unixmodel.specs.State.{State}
-
--- a writer that took two parts took both
-pub Appends-trans : (a b c : Option (List ℕ)) (xs ys : List ℕ) → Appends a b xs → Appends b c ys → Appends a c (xs ++ ys)
-Appends-trans None b c xs ys h k = tt
-Appends-trans (Some x) None c xs ys h k = absurd h
-Appends-trans (Some x) (Some y) None xs ys h k = k
-Appends-trans (Some x) (Some y) (Some z) xs ys h k = rw (k, h) (append_assoc x xs ys)
 
 -- a rise from a later count is a rise
 pub Rises-later : (a b c : ℕ) → a ≤ b → Rises b c → b ≤ c → Rises a c
@@ -57,22 +49,13 @@ whole s i es up = ap (λ xs. run s xs) (sym (take-append-drop i es)) ∙ run-app
 pub run-halts : (s : State) (i : ℕ) (es : List Event) (status : ℤ) → s.halted ≡ None → (run s (take i es)).state.halted ≡ Some status → run s es ≡ run s (take i es)
 run-halts s i es status up is = whole s i es up ∙ rw is refl
 
-then_begins : (ys : List Event) (o : After) (r : Option ℤ) → (rest : List ℕ) × (o.bytes ++ rest ≡ (then_runs ys o r).bytes)
+pub then_begins : (ys : List Event) (o : After) (r : Option ℤ) → (rest : List ℕ) × (o.bytes ++ rest ≡ (then_runs ys o r).bytes)
 then_begins ys o (Some status) = ([], append-nil o.bytes)
 then_begins ys o None = ((run o.state ys).bytes, refl)
 
 -- what the first events print is a beginning
 pub run-begins : (s : State) (i : ℕ) (es : List Event) → s.halted ≡ None → (rest : List ℕ) × ((run s (take i es)).bytes ++ rest ≡ (run s es).bytes)
 run-begins s i es up = rw (whole s i es up) (then_begins (drop i es) (run s (take i es)) (run s (take i es)).state.halted)
-
--- a beginning of what comes after what was printed
-pub begins_more : (before mid after : Option (List ℕ)) (xs ys zs all : List ℕ) → Appends before mid xs → AppendsBeginning mid after ys → (xs ++ ys) ++ zs ≡ all → AppendsBeginning before after all
-begins_more before mid after xs ys zs all h k e = record {
-  front = xs ++ k.front;
-  rest = k.rest ++ zs;
-  parts = append_assoc xs k.front (k.rest ++ zs) ∙ ap (λ bs. xs ++ bs) (sym (append_assoc k.front k.rest zs)) ∙ ap (λ bs. xs ++ (bs ++ zs)) k.parts ∙ sym (append_assoc xs ys zs) ∙ e;
-  took = Appends-trans before mid after xs k.front h k.took;
-}
 
 -- a step that stops a run
 pub stops : (first now new : View) (i : ℕ) (es : List Event) (e : Event) (before mid after : Option (List ℕ)) (step_rises rises : Type 0) (halt : Halt)
@@ -117,10 +100,6 @@ stops first now new i es e before mid after step_rises rises Console more is h r
   },
 )
 stops first now new i es e before mid after step_rises rises Halted more is h r k = absurd (k.stopped (up_now first now (take i es) before mid h))
-
-pub Appends-none : (a : Option (List ℕ)) → Appends a a []
-Appends-none None = tt
-Appends-none (Some xs) = sym (append-nil xs)
 
 -- before the first event
 pub so_far_at_first : (first : View) (at : Option (List ℕ)) → IsUp first → SoFar first first [] at at

@@ -1,6 +1,7 @@
 -- What is left of a machine: nothing names a node but links.
-use Rattle.std.proofs.Common.{◌≡◌, ℕ, ◌+◌, Bool, true, false, List, [], ◌∷◌, None, Option, Some, ap, refl, subst, sym, ◌∙◌}
+use Rattle.std.proofs.Common.{◌≡◌, ℕ, ◌+◌, Bool, false, List, [], ◌∷◌, None, Option, Some, ap, refl, subst, sym, ◌∙◌}
 use Rattle.std.specs.Prelude.{nat_lt, ◌||◌}
+use Rattle.std.proofs.Math.Bool.{or-false}
 use Rattle.std.specs.List.{list_any}
 use Rattle.imagerules.specs.Content.{image_of}
 use Rattle.kernel.specs.Kernel.{Kernel, state_of}
@@ -18,10 +19,6 @@ none-kept : (opens : List (Option OpenFile)) (k : ℕ) → taken (kept (λ j f. 
 none-kept [] k = refl
 none-kept (None ∷ opens) k = none-kept opens (k + 1)
 none-kept (Some f ∷ opens) k = none-kept opens (k + 1)
-
-or-false : (b : Bool) → (b || false) ≡ b
-or-false true = refl
-or-false false = refl
 
 -- without processes no descriptor names an open file, and no open file or directory a node
 module _ (s : State) where

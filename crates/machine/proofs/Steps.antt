@@ -5,7 +5,7 @@ use Rattle.calls.specs.declared.halt.Halt.{Halt}
 use Rattle.calls.specs.declared.halt.Halt.TheVariants.{Console, Device, Halted, InitEnded}
 use Rattle.kernel.specs.Kernel.{Kernel, state_of}
 use Rattle.machine.specs.Gives.{ConsoleFails, IsDone, StepGives, fails}
-use Rattle.machine.proofs.RunLemmas.{Appends-none}
+use Rattle.calls.proofs.Prints.{Appends-none}
 use Rattle.machine.specs.View.{IsUp, View}
 use Rattle.console.specs.Output.{AppendsBeginning}
 use Rattle.tree.specs.Tree.{FileTree}

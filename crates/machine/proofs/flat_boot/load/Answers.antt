@@ -14,16 +14,14 @@ returns-then-not-grow g c =
     let created' = created _ _ _ c.requires c.if-not-create.ensures.done.1 in
     segment-over bytes _ _ c.grow.new.self _ (omega (arith, c.pages_in-pages.ensures)) created' c.if-not-grow.ensures.refused.0
 
-pub fill-requires-clause-space : goal.fill-requires-clause-space
-fill-requires-clause-space g c =
+pub fill-requires : goal.fill-requires
+fill-requires g c =
     let created' = created _ _ _ c.requires c.if-not-create.ensures.done.1 in
-    alone-space (segment-made c.args.bytes.now _ _ _ _ (omega (arith, c.pages_in-pages.ensures)) created' c.if-not-grow.ensures.done.1)
-
-pub fill-requires-clause-inside : goal.fill-requires-clause-inside
-fill-requires-clause-inside g c =
     let bytes = c.args.bytes.now in
-    let created' = created _ _ _ c.requires c.if-not-create.ensures.done.1 in
-    fill-inside bytes _ _ c.grow.new.self (segment-made bytes _ _ _ _ (omega (arith, c.pages_in-pages.ensures)) created' c.if-not-grow.ensures.done.1)
+    record {
+      space = alone-space (segment-made c.args.bytes.now _ _ _ _ (omega (arith, c.pages_in-pages.ensures)) created' c.if-not-grow.ensures.done.1);
+      inside = fill-inside bytes _ _ c.grow.new.self (segment-made bytes _ _ _ _ (omega (arith, c.pages_in-pages.ensures)) created' c.if-not-grow.ensures.done.1);
+    }
 
 pub grow-requires-2 : goal.grow-requires-2
 grow-requires-2 g c =

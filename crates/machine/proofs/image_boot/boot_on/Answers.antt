@@ -30,14 +30,12 @@ put_init-requires-clause-few g c = omega (arith, frames-of c.in-Ok.ensures, c.re
 pub is_whole-requires : goal.is_whole-requires
 is_whole-requires g c = c.in-Ok-Some.ensures.serves.up
 
-pub hold-requires-clause-up : goal.hold-requires-clause-up
-hold-requires-clause-up g c = c.in-Ok-Some.ensures.serves.up
-
-pub hold-requires-clause-node : goal.hold-requires-clause-node
-hold-requires-clause-node g c = root-there c.args.tree c.put_init.new.tree c.requires.unheld c.in-Ok-Some.ensures.serves.told c.is_whole.ensures
-
-pub hold-requires-clause-few : goal.hold-requires-clause-few
-hold-requires-clause-few g c = root-few c.args.tree c.put_init.new.tree c.requires.unheld c.in-Ok-Some.ensures.serves.told c.is_whole.ensures
+pub hold-requires : goal.hold-requires
+hold-requires g c = record {
+  up = c.in-Ok-Some.ensures.serves.up;
+  node = root-there c.args.tree c.put_init.new.tree c.requires.unheld c.in-Ok-Some.ensures.serves.told c.is_whole.ensures;
+  few = root-few c.args.tree c.put_init.new.tree c.requires.unheld c.in-Ok-Some.ensures.serves.told c.is_whole.ensures;
+}
 
 pub first_table-table-requires : goal.first_table-table-requires
 first_table-table-requires g c = few-init c.args.tree.files c.in-Ok.spaces.frames c.put_init.new.spaces c.in-Ok-Some.field-0 c.in-Ok-Some.init c.in-Ok-Some.field-0-is c.in-Ok-Some.ensures.put (omega (arith, frames-of c.in-Ok.ensures, c.requires.few))
