@@ -1,15 +1,15 @@
 -- One bit of a bitmap is written.
 use Rattle.std.proofs.Common.{◌≡◌, ◌≢◌, ℕ, ◌+◌, ◌-◌, ◌/◌, ◌%◌, ◌<◌, List, [], ◌∷◌, length, get_or, set, ap, sym, ◌∙◌, arith, inl, inr}
 use Rattle.std.proofs.lemmas.Bool.{cases_lt, cases_eq}
-use Rattle.std.proofs.lemmas.List.{get_or-set_same, get_or-set_other, length-set}
 use Rattle.std.specs.Int.{bit_at}
 use Rattle.blockdev.specs.Blocks.{block_at}
 use Rattle.blockdev.specs.Splice.{part, splice}
-use Rattle.blockdev.proofs.SpliceLemmas.{get_or-part, length-splice, get_or-splice_before, get_or-splice_inside, get_or-splice_after}
+use Rattle.blockdev.proofs.SpliceLemmas.{get_or-part, get_or-splice_before, get_or-splice_inside, get_or-splice_after}
 use Rattle.layout.specs.Super.{bitmap_start_of}
 use Rattle.layout.specs.declared.Geometry.{Geometry}
 use Rattle.layout.specs.Image.{bit_in}
 use Rattle.layout.specs.Sound.{HasParts}
+use Rattle.layout.proofs.Puts.{HasParts-kept, PutsBlock-write}
 use Rattle.balloc.specs.Bitmap.{SetsBit}
 
 -- a bit of the byte that is written, and of another
@@ -40,36 +40,24 @@ pub SetsBit-put : (g : Geometry) (old new : List (List ℕ)) (at b v bit : ℕ) 
 SetsBit-put g old new at b v bit parts spot high here others e =
     let within : at < length old = omega (arith, parts.count, parts.size_high, parts.room) in
     let whole : length (block_at old at) ≡ 1024 = parts.sizes at within in
-    let at_q : block_at new at ≡ splice (b % 8192 / 8) (v ∷ []) (block_at old at) = ap (λ x. block_at x at) e ∙ get_or-set_same old at (splice (b % 8192 / 8) (v ∷ []) (block_at old at)) [] within in
-    let elsewhere : (k : ℕ) → k ≢ at → block_at new k ≡ block_at old k = λ k h. ap (λ x. block_at x k) e ∙ get_or-set_other old at k (splice (b % 8192 / 8) (v ∷ []) (block_at old at)) [] h in
-    let long : length new ≡ length old = ap length e ∙ length-set old at (splice (b % 8192 / 8) (v ∷ []) (block_at old at)) in
+    let puts = PutsBlock-write old new at (b % 8192 / 8) (v ∷ []) parts.sizes within (omega arith) e in
     record {
-      parts = record {
-        count = long ∙ parts.count;
-        sizes = λ k h. elim (cases_eq k at) [
-          | inl met ↦ ap (λ x. length (block_at new x)) met ∙ ap length at_q ∙ length-splice (b % 8192 / 8) (v ∷ []) (block_at old at) (omega arith) ∙ whole
-          | inr other ↦ ap length (elsewhere k other) ∙ parts.sizes k (omega arith)
-        ];
-        size_high = parts.size_high;
-        inodes_low = parts.inodes_low;
-        inodes_high = parts.inodes_high;
-        room = parts.room;
-      };
+      parts = HasParts-kept parts puts.count puts.sizes;
       here =
           let low_bits : b % 8192 % 8 ≡ b % 8 = omega arith in
-          ap (λ x. bit_in (block_at new x) (b % 8192)) (sym spot) ∙ ap (λ x. bit_in x (b % 8192)) at_q
+          ap (λ x. bit_in (block_at new x) (b % 8192)) (sym spot) ∙ ap (λ x. bit_in x (b % 8192)) puts.here
           ∙ bit_in-same (block_at old at) (b % 8192 / 8) v (b % 8192) (omega arith) (omega arith)
           ∙ ap (bit_at v) low_bits ∙ here;
       others = λ c h apart. elim (cases_eq (c / 8192) (b / 8192)) [
         | inl met ↦
             let place : bitmap_start_of g.inodes + c / 8192 ≡ at = omega arith in
-            ap (λ x. bit_in (block_at new x) (c % 8192)) place ∙ ap (λ x. bit_in x (c % 8192)) at_q
+            ap (λ x. bit_in (block_at new x) (c % 8192)) place ∙ ap (λ x. bit_in x (c % 8192)) puts.here
             ∙ bit_in-put (block_at old at) (b % 8192) (c % 8192) v whole (omega arith) (omega arith) (omega arith) (λ k l other. others k l (omega arith))
             ∙ ap (λ x. bit_in (block_at old x) (c % 8192)) (sym place)
-        | inr other ↦ ap (λ x. bit_in x (c % 8192)) (elsewhere (bitmap_start_of g.inodes + c / 8192) (omega arith))
+        | inr other ↦ ap (λ x. bit_in x (c % 8192)) (puts.rest (bitmap_start_of g.inodes + c / 8192) (omega arith))
       ];
-      before = λ k h. elsewhere k (omega arith);
-      after = λ k h. elsewhere k (omega arith);
+      before = λ k h. puts.rest k (omega arith);
+      after = λ k h. puts.rest k (omega arith);
     }
 
 pub SetsBit-byte : (g : Geometry) (old read new : List (List ℕ)) (start b : ℕ) (bits : List ℕ) (v bit : ℕ) → HasParts g old → start ≡ bitmap_start_of g.inodes → b < g.size → read ≡ old → bits ≡ part (b % 8192 / 8) 1 (block_at old (start + b / 8192))

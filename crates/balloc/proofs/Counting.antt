@@ -1,6 +1,6 @@
 -- How a change of one bit changes the count of free blocks.
 use Rattle.std.specs.Prelude.{◌≡◌, ◌≢◌, ℕ, ◌+◌, ◌-◌, ◌<◌, ◌≤◌, ◌==◌, List, [], ◌∷◌, length, get_or, count_by, zero, suc}
-use Rattle.std.proofs.Common.{set, ap, sym, ◌∙◌, arith, refl, add-zero, Bool, true, false, cond, inl, inr}
+use Rattle.std.proofs.Common.{set, drop, ap, sym, ◌∙◌, arith, refl, add-zero, Bool, true, false, cond, inl, inr}
 use Rattle.std.proofs.lemmas.Bool.{cases_eq}
 use Rattle.std.proofs.lemmas.List.{get_or-set_other, get_or-set_same, length-set, ext_get_or}
 use Rattle.std.proofs.lemmas.List.Sums.{sum_by-cons, sum_by-set}
@@ -61,28 +61,37 @@ at_most_one : (b : Bool) → cond {A = ℕ} b 1 0 ≤ 1
 at_most_one true = omega arith
 at_most_one false = omega arith
 
-none_zero : (xs : List ℕ) → ((i : ℕ) → i < length xs → get_or xs i 0 ≡ 1) → count_by (λ x. x == 0) xs ≡ 0
-none_zero [] h = refl
-none_zero (x ∷ xs) h =
-    let rest : count_by (λ y. y == 0) xs ≡ 0 = none_zero xs (λ i l. h (suc i) (omega arith)) in
-    let one : x ≡ 1 = h 0 (omega arith) in
-    let z : ◌≡◌ {A = ℕ} (cond (x == 0) 1 0) 0 = ap (λ y. cond {A = ℕ} (y == 0) 1 0) one in
-    let c : count_by (λ y. y == 0) (x ∷ xs) ≡ cond {A = ℕ} (x == 0) 1 0 + count_by (λ y. y == 0) xs = sum_by-cons (λ y. cond (y == 0) 1 0) x xs in
-    omega arith
+-- ---- how many of a list are 0
 
-one_zero : (xs : List ℕ) (k : ℕ) → ((i : ℕ) → i < length xs → i ≢ k → get_or xs i 0 ≡ 1) → count_by (λ x. x == 0) xs ≤ 1
+abbrev pub zeros_in : List ℕ → ℕ
+zeros_in bits = count_by (λ x. x == 0) bits
+
+zeros-cons : (x : ℕ) (xs : List ℕ) → zeros_in (x ∷ xs) ≡ cond (x == 0) 1 0 + zeros_in xs
+zeros-cons x xs = sum_by-cons (λ y. cond (y == 0) 1 0) x xs
+
+pub zeros-first : (x v : ℕ) (xs : List ℕ) → x ≡ v → zeros_in (x ∷ xs) ≡ cond (v == 0) 1 0 + zeros_in xs
+zeros-first x v xs e = zeros-cons x xs ∙ ap (λ y. cond {A = ℕ} (y == 0) 1 0 + zeros_in xs) e
+
+-- places that are set count nothing
+pub zeros-skip : (xs : List ℕ) (i j : ℕ) → i ≤ j → j ≤ length xs → ((k : ℕ) → i ≤ k → k < j → get_or xs k 0 ≡ 1) → zeros_in (drop i xs) ≡ zeros_in (drop j xs)
+zeros-skip xs zero zero low high ones = refl
+zeros-skip xs (suc i) zero low high ones = absurd (omega arith)
+zeros-skip [] i (suc j) low high ones = absurd (omega arith)
+zeros-skip (x ∷ xs) zero (suc j) low high ones =
+    omega (arith, zeros-first x 1 xs (ones 0 (omega arith) (omega arith)), zeros-skip xs 0 j (omega arith) (omega arith) (λ k l h. ones (suc k) (omega arith) (omega arith)))
+zeros-skip (x ∷ xs) (suc i) (suc j) low high ones = zeros-skip xs i j (omega arith) (omega arith) (λ k l h. ones (suc k) (omega arith) (omega arith))
+
+pub zeros-past : (xs : List ℕ) → zeros_in (drop (length xs) xs) ≡ 0
+zeros-past [] = refl
+zeros-past (x ∷ xs) = zeros-past xs
+
+none_zero : (xs : List ℕ) → ((i : ℕ) → i < length xs → get_or xs i 0 ≡ 1) → zeros_in xs ≡ 0
+none_zero xs h = zeros-skip xs 0 (length xs) (omega arith) (omega arith) (λ k l m. h k m) ∙ zeros-past xs
+
+one_zero : (xs : List ℕ) (k : ℕ) → ((i : ℕ) → i < length xs → i ≢ k → get_or xs i 0 ≡ 1) → zeros_in xs ≤ 1
 one_zero [] k h = omega arith
-one_zero (x ∷ xs) zero h =
-    let rest : count_by (λ y. y == 0) xs ≡ 0 = none_zero xs (λ i l. h (suc i) (omega arith) (omega arith)) in
-    let z : cond {A = ℕ} (x == 0) 1 0 ≤ 1 = at_most_one (x == 0) in
-    let c : count_by (λ y. y == 0) (x ∷ xs) ≡ cond {A = ℕ} (x == 0) 1 0 + count_by (λ y. y == 0) xs = sum_by-cons (λ y. cond (y == 0) 1 0) x xs in
-    omega arith
-one_zero (x ∷ xs) (suc k) h =
-    let rest : count_by (λ y. y == 0) xs ≤ 1 = one_zero xs k (λ i l apart. h (suc i) (omega arith) (omega arith)) in
-    let one : x ≡ 1 = h 0 (omega arith) (omega arith) in
-    let z : ◌≡◌ {A = ℕ} (cond (x == 0) 1 0) 0 = ap (λ y. cond {A = ℕ} (y == 0) 1 0) one in
-    let c : count_by (λ y. y == 0) (x ∷ xs) ≡ cond {A = ℕ} (x == 0) 1 0 + count_by (λ y. y == 0) xs = sum_by-cons (λ y. cond (y == 0) 1 0) x xs in
-    omega arith
+one_zero (x ∷ xs) zero h = omega (arith, zeros-cons x xs, at_most_one (x == 0), none_zero xs (λ i l. h (suc i) (omega arith) (omega arith)))
+one_zero (x ∷ xs) (suc k) h = omega (arith, zeros-first x 1 xs (h 0 (omega arith) (omega arith)), one_zero xs k (λ i l apart. h (suc i) (omega arith) (omega arith)))
 
 -- where each bit is set nothing is free
 pub free_blocks-none : (g : Geometry) (blocks : List (List ℕ)) → ((b : ℕ) → data_start_of g.size g.inodes ≤ b → b < g.size → bit_of blocks (bitmap_start_of g.inodes) b ≡ 1) → free_blocks g blocks ≡ 0

@@ -12,16 +12,6 @@ use Rattle.balloc.specs.Refusals.{Refuses}
 pub told_err : {T E : Type 0} {fault : E} (r : Result T E) → IsErrAnd r (λ f. f ≡ fault) → r ≡ Err fault
 told_err r h = let p = err_from_is_err_and r h in p.1 ∙ ap Err p.2
 
--- an access failed
-pub told_device : {T : Type 0} (r : Result T BallocFault) → IsErrAnd r (λ f. f ≡ Device) → r ≡ Err Device
-told_device r h = told_err r h
-
-pub not_blocks : {T : Type 0} (r : Result T BallocFault) → r ≡ Err Device → r ≡ Err Blocks → ⊥
-not_blocks r e f = cc
-
-pub not_inodes : {T : Type 0} (r : Result T BallocFault) → r ≡ Err Device → r ≡ Err Inodes → ⊥
-not_inodes r e f = cc
-
 abbrev fault_or : {T E : Type 0} → Result T E → E → E
 fault_or (Ok x) other = other
 fault_or (Err fault) other = fault
@@ -54,10 +44,10 @@ for_blocks = record { apart = λ e. cc; known = λ e. cc; others = λ e. cc }
 pub for_inodes : AreTwo Inodes Blocks
 for_inodes = record { apart = λ e. cc; known = λ e. cc; others = λ e. cc }
 
-err_is : {T E : Type 0} (e f : E) → ◌≡◌ {A = Result T E} (Err e) (Err f) → e ≡ f
+pub err_is : {T E : Type 0} (e f : E) → ◌≡◌ {A = Result T E} (Err e) (Err f) → e ≡ f
 err_is e f h = ap (λ r. fault_or r e) h
 
-not_err : {T E : Type 0} (x : T) (e : E) → ◌≡◌ {A = Result T E} (Ok x) (Err e) → ⊥
+pub not_err : {T E : Type 0} (x : T) (e : E) → ◌≡◌ {A = Result T E} (Ok x) (Err e) → ⊥
 not_err x e h = cc
 
 module _ (old new : Disk) {fault other : BallocFault} {IsNone : Type 0} where
@@ -87,7 +77,7 @@ module _ (old new : Disk) {fault other : BallocFault} {IsNone : Type 0} where
   pub Refuses-failed : {T U E : Type 0} {before : ℕ} {access : Result U E} {e : E} {result : Result T BallocFault} → AreTwo fault other → IsErrAnd result (λ f. f ≡ Device)
       → length new.blocks ≡ length old.blocks → old.failures ≤ before → HasCause before new.failures access → access ≡ Err e → Refuses old new result fault other IsNone
   Refuses-failed {result = result} two told count h cause was =
-      let device : result ≡ Err Device = told_device result told in
+      let device : result ≡ Err Device = told_err result told in
       let from : HasCause old.failures new.failures result = HasCause-failed h cause was in
       record {
         none = λ q. absurd (two.known (err_is fault Device (sym q ∙ device)));

@@ -1,15 +1,12 @@
 -- A new file system is sound.
 use Rattle.std.proofs.Common.{◌≡◌, ◌≢◌, ℕ, ◌+◌, ◌-◌, ◌*◌, ◌/◌, ◌%◌, ◌^◌, ◌<◌, ◌≤◌, List, [], ◌∷◌, ◌++◌, length, get_or, set, drop, replicate, None, zero, suc, ap, sym, ◌∙◌, arith, inl, inr, refl, subst}
 use Rattle.std.proofs.lemmas.Bool.{cases_eq, cases_lt}
-use Rattle.std.proofs.lemmas.List.{ext_get_or, get_or-replicate, get_or-set_other, get_or-set_same, get_or_append_left, get_or_past, length-replicate, length-set, length-take}
+use Rattle.std.proofs.lemmas.List.{ext_get_or, get_or-replicate, get_or-set_other, get_or-set_same, get_or_past, length-replicate, length-take}
 use Rattle.std.proofs.lemmas.Nat.Bits.{bit_at-zero}
 use Rattle.std.specs.Int.{bit_at}
-use Rattle.std.specs.Prelude.{count_by, ◌==◌}
-use Rattle.std.proofs.Common.{cond}
-use Rattle.std.proofs.lemmas.List.Sums.{sum_by-cons}
 use Rattle.blockdev.specs.Blocks.{block_at}
 use Rattle.blockdev.specs.Splice.{part, splice}
-use Rattle.blockdev.proofs.SpliceLemmas.{get_or-part, length-splice}
+use Rattle.blockdev.proofs.SpliceLemmas.{get_or-part, get_or-splice_inside, length-splice}
 use Rattle.layout.specs.Super.{HasNumbers, SuperFits, bitmap_start_of, data_start_of, super_bytes, super_of}
 use Rattle.layout.proofs.ReadsBack.{super_of-super_bytes}
 use Rattle.layout.specs.declared.Geometry.{Geometry}
@@ -17,53 +14,37 @@ use Rattle.layout.specs.declared.SuperBlock.{SuperBlock}
 use Rattle.layout.specs.Image.{IsInode, bit_in, bit_of, free_blocks, data_bits, inode_at, nodes_of}
 use Rattle.layout.specs.Sound.{HasParts, IsSound, TellsGeometry}
 use Rattle.layout.proofs.Frame.{get_or-nodes_of, length-nodes_of, node_at-none}
-use Rattle.balloc.proofs.Counting.{get_or-data_bits, length-data_bits}
+use Rattle.layout.proofs.Puts.{HasParts-kept, PutsBlock-write}
+use Rattle.balloc.proofs.Counting.{get_or-data_bits, length-data_bits, zeros-first, zeros_in}
 use Rattle.balloc.specs.Format.{Cleared, HasFront, new_super}
-use Rattle.balloc.proofs.Records.{zero_at}
+use Rattle.layout.proofs.Plain.{zero_at}
 
 -- ---- a block is written from its start on
 
 pub HasParts-write : (g : Geometry) (old new : List (List ℕ)) (k : ℕ) (bytes : List ℕ) → HasParts g old → k < g.size → length bytes ≤ 1024
     → new ≡ set old k (splice 0 bytes (block_at old k)) → HasParts g new
 HasParts-write g old new k bytes parts high fits e =
-    let within : k < length old = omega (arith, parts.count) in
-    let whole : length (block_at old k) ≡ 1024 = parts.sizes k within in
-    let long : length new ≡ length old = ap length e ∙ length-set old k (splice 0 bytes (block_at old k)) in
-    record {
-      count = long ∙ parts.count;
-      sizes = λ j h. elim (cases_eq j k) [
-        | inl met ↦ ap (λ x. length (block_at x j)) e ∙ ap (λ i. length (block_at (set old k (splice 0 bytes (block_at old k))) i)) met
-            ∙ ap length (get_or-set_same old k (splice 0 bytes (block_at old k)) [] within) ∙ length-splice 0 bytes (block_at old k) (omega arith) ∙ whole
-        | inr other ↦ ap (λ x. length (block_at x j)) e ∙ ap length (get_or-set_other old k j (splice 0 bytes (block_at old k)) [] other) ∙ parts.sizes j (omega arith)
-      ];
-      size_high = parts.size_high;
-      inodes_low = parts.inodes_low;
-      inodes_high = parts.inodes_high;
-      room = parts.room;
-    }
+    let puts = PutsBlock-write old new k 0 bytes parts.sizes (omega (arith, parts.count)) (omega arith) e in
+    HasParts-kept parts puts.count puts.sizes
 
 -- a block of zeros written over a block
 splice-zeros : (old : List ℕ) (i : ℕ) → length old ≡ 1024 → ◌≡◌ {A = ℕ} (get_or (splice 0 (replicate 1024 0) old) i 0) 0
 splice-zeros old i e =
-    let long : length (splice 0 (replicate {A = ℕ} 1024 0) old) ≡ length old = length-splice 0 (replicate {A = ℕ} 1024 0) old (omega (arith, length-replicate {A = ℕ} 1024 0)) in
+    let zeros : length (replicate {A = ℕ} 1024 0) ≡ 1024 = length-replicate {A = ℕ} 1024 0 in
     elim (cases_lt i 1024) [
-      | inl h ↦ get_or-splice_first old i h
-      | inr h ↦ get_or_past (splice 0 (replicate {A = ℕ} 1024 0) old) i 0 (omega arith)
-    ] where
-      get_or-splice_first : (old : List ℕ) (i : ℕ) → i < 1024 → ◌≡◌ {A = ℕ} (get_or (splice 0 (replicate 1024 0) old) i 0) 0
-      get_or-splice_first old i h = get_or_append_left (replicate {A = ℕ} 1024 0) (drop (0 + length (replicate {A = ℕ} 1024 0)) old) 0 i (omega (arith, length-replicate {A = ℕ} 1024 0)) ∙ zero_at 1024 i
+      | inl h ↦ get_or-splice_inside 0 (replicate {A = ℕ} 1024 0) old i 0 (omega arith) (omega arith) (omega arith) ∙ zero_at 1024 (i - 0)
+      | inr h ↦ get_or_past (splice 0 (replicate {A = ℕ} 1024 0) old) i 0 (omega (arith, length-splice 0 (replicate {A = ℕ} 1024 0) old (omega arith)))
+    ]
 
 pub Cleared-more : (g : Geometry) (old new : List (List ℕ)) (k : ℕ) (zeros : List ℕ) → HasParts g old → Cleared old k → k < g.size → zeros ≡ replicate 1024 0
     → new ≡ set old k (splice 0 zeros (block_at old k)) → Cleared new (k + 1)
 Cleared-more g old new k zeros parts cleared high z e j h i =
     let within : k < length old = omega (arith, parts.count) in
-    ap (λ x. get_or (block_at x j) i 0) (e ∙ ap (λ w. set old k (splice 0 w (block_at old k))) z)
-    ∙ (elim (cases_eq j k) [
-      | inl met ↦ ap (λ q. get_or (block_at (set old k (splice 0 (replicate 1024 0) (block_at old k))) q) i 0) met
-          ∙ ap (λ b. get_or b i 0) (get_or-set_same old k (splice 0 (replicate 1024 0) (block_at old k)) [] within)
-          ∙ splice-zeros (block_at old k) i (parts.sizes k within)
-      | inr other ↦ ap (λ b. get_or b i 0) (get_or-set_other old k j (splice 0 (replicate 1024 0) (block_at old k)) [] other) ∙ cleared j (omega arith) i
-    ])
+    let puts = PutsBlock-write old new k 0 zeros parts.sizes within (omega (arith, ap length z, length-replicate {A = ℕ} 1024 0)) e in
+    elim (cases_eq j k) [
+      | inl met ↦ ap (λ q. get_or (block_at new q) i 0) met ∙ ap (λ b. get_or b i 0) (puts.here ∙ ap (λ w. splice 0 w (block_at old k)) z) ∙ splice-zeros (block_at old k) i (parts.sizes k within)
+      | inr other ↦ ap (λ b. get_or b i 0) (puts.rest j other) ∙ cleared j (omega arith) i
+    ]
 
 -- ---- bits
 
@@ -169,14 +150,9 @@ module _ (g : Geometry) (blocks : List (List ℕ)) (parts : HasParts g blocks) (
     );
   }
 
-all_zero : (xs : List ℕ) → ((i : ℕ) → i < length xs → get_or xs i 0 ≡ 0) → count_by (λ x. x == 0) xs ≡ length xs
+all_zero : (xs : List ℕ) → ((i : ℕ) → i < length xs → get_or xs i 0 ≡ 0) → zeros_in xs ≡ length xs
 all_zero [] h = refl
-all_zero (x ∷ xs) h =
-    let rest : count_by (λ y. y == 0) xs ≡ length xs = all_zero xs (λ i l. h (suc i) (omega arith)) in
-    let none : x ≡ 0 = h 0 (omega arith) in
-    let z : ◌≡◌ {A = ℕ} (cond (x == 0) 1 0) 1 = ap (λ y. cond {A = ℕ} (y == 0) 1 0) none in
-    let c : count_by (λ y. y == 0) (x ∷ xs) ≡ cond {A = ℕ} (x == 0) 1 0 + count_by (λ y. y == 0) xs = sum_by-cons (λ y. cond (y == 0) 1 0) x xs in
-    omega arith
+all_zero (x ∷ xs) h = omega (arith, zeros-first x 0 xs (h 0 (omega arith)), all_zero xs (λ i l. h (suc i) (omega arith)))
 
 pub free_blocks-all : (g : Geometry) (blocks : List (List ℕ)) → data_start_of g.size g.inodes < g.size → ((b : ℕ) → data_start_of g.size g.inodes ≤ b → b < g.size → bit_of blocks (bitmap_start_of g.inodes) b ≡ 0)
     → free_blocks g blocks + data_start_of g.size g.inodes ≡ g.size

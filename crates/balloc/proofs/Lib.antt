@@ -3,7 +3,7 @@ mod Clearing
 pub mod Exits
 pub mod Enough
 mod Formatting
-mod Records
+pub mod Records
 mod Scanning
 mod Searching
 mod Taking

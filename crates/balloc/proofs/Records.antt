@@ -1,7 +1,5 @@
 -- The record of an inode without blocks is written.
 use Rattle.std.proofs.Common.{◌≡◌, ◌≢◌, ℕ, ◌+◌, ◌*◌, ◌/◌, ◌%◌, ◌^◌, ◌<◌, ◌≤◌, List, [], ◌∷◌, length, get_or, set, replicate, Option, Some, None, ap, ◌∙◌, arith, inl, inr, refl}
-use Rattle.std.proofs.lemmas.Bool.{cases_lt}
-use Rattle.std.proofs.lemmas.List.{get_or-replicate, get_or_past, length-replicate}
 use Rattle.layout.specs.Inode.{Fits, inode_bytes}
 use Rattle.layout.specs.Numbers.{spelled}
 use Rattle.layout.specs.Super.{bitmap_start_of}
@@ -12,7 +10,7 @@ use Rattle.layout.specs.Sound.{IsSound}
 use Rattle.layout.proofs.Frame.{IsSound-replace, KeepsOthers, node_at-none, nodes_of-changed}
 use Rattle.layout.specs.Grow.{Grows, WritesInode}
 use Rattle.layout.proofs.GrowLemmas.{Grows-keeps, Grows-node, Grows-sound}
-use Rattle.layout.proofs.Plain.{Grows-empty, HoldsBytes-empty, asks_none}
+use Rattle.layout.proofs.Plain.{Grows-empty, HoldsBytes-empty, asks_none, zero_at}
 use Rattle.balloc.proofs.Counting.{free_blocks-same}
 use Rattle.balloc.specs.Inodes.{IsLowestUnused, IsUnused, fresh_inode, fresh_node}
 
@@ -22,13 +20,6 @@ length-spelled (x ∷ xs) = let e : length (spelled xs) ≡ 4 * length xs = leng
 
 pub length-inode_bytes : (inode : DiskInode) → Fits inode → length (inode_bytes inode) ≡ 64
 length-inode_bytes inode fits = let e : length (spelled inode.addresses) ≡ 4 * length inode.addresses = length-spelled inode.addresses in let p = fits.places in omega arith
-
--- thirteen numbers that are 0, and past them
-pub zero_at : (n k : ℕ) → ◌≡◌ {A = ℕ} (get_or (replicate n 0) k 0) 0
-zero_at n k = elim (cases_lt k n) [
-  | inl h ↦ get_or-replicate n k 0 0 h
-  | inr h ↦ get_or_past (replicate {A = ℕ} n 0) k 0 (omega (arith, length-replicate {A = ℕ} n 0))
-]
 
 -- the record of an inode without bytes
 pub fresh_fits : (kind major minor links : ℕ) → kind < 2 ^ 16 → major < 2 ^ 16 → minor < 2 ^ 16 → links < 2 ^ 16 → Fits (fresh_inode kind major minor links)

@@ -1,7 +1,7 @@
 -- A new block with the block of numbers that names it.
 use Rattle.std.proofs.Common.{◌≡◌, ◌≢◌, ℕ, ◌+◌, ◌-◌, ◌*◌, ◌/◌, ◌<◌, ◌≤◌, ◌⊎◌, List, length, get_or, set, ap, sym, ◌∙◌, arith, inl, inr, refl, subst}
 use Rattle.std.proofs.lemmas.Bool.{cases_eq, cases_lt}
-use Rattle.std.proofs.lemmas.List.{get_or-set_other, get_or-set_same, length-set}
+use Rattle.std.proofs.lemmas.List.{get_or-set_other, get_or-set_same}
 use Rattle.blockdev.specs.Blocks.{block_at}
 use Rattle.blockdev.specs.Splice.{splice}
 use Rattle.blockdev.proofs.SpliceLemmas.{part-splice_same}
@@ -12,13 +12,14 @@ use Rattle.layout.specs.Super.{bitmap_start_of}
 use Rattle.layout.specs.declared.DiskInode.{DiskInode}
 use Rattle.layout.specs.declared.Geometry.{Geometry}
 use Rattle.layout.specs.Image.{Asks, IsFree, IsSpare, IsUsed, bit_of, blocks_for, bytes_of, free_blocks, inode_at, slot_in, slot_of, taken_for}
+use Rattle.layout.proofs.Puts.{PutsBlock, PutsBlock-write}
 use Rattle.layout.proofs.Slots.{slot_in-direct, slot_in-indirect, slot_in-last}
 use Rattle.layout.specs.Grow.{Grows, IsFresh}
 use Rattle.balloc.specs.Bitmap.{TakesTwo}
 use Rattle.balloc.proofs.Counting.{free_blocks-take}
 use Rattle.inode.specs.Held.{HasInode}
 use Rattle.inode.specs.Writing.{Prepares}
-use Rattle.inode.proofs.Growing.{Grows-step, HoldsBytes-append, Leaves, Leaves-put, PutsBlock, PutsBlock-write, own_asks, own_node, own_slot, own_used, taken_large, taken_small, used_apart}
+use Rattle.inode.proofs.Growing.{Fits-address, Grows-step, HoldsBytes-append, Leaves, Leaves-put, own_asks, own_node, own_slot, own_used, taken_large, taken_small, used_apart}
 use Rattle.inode.proofs.Steps.{free_put}
 
 -- a number of a block that is written whole
@@ -79,11 +80,11 @@ module _ {g : Geometry} {old m2 m3 mid : List (List ℕ)} {n : ℕ} {inode : Dis
     others = λ c h apart. takes.second.takes.others c h (λ e. apart (inr e)) ∙ takes.first.takes.others c h (λ e. apart (inl e));
   }
 
-  puts_b : PutsBlock g m2 m3 b (splice 0 bytes (block_at m2 b))
-  puts_b = PutsBlock-write g m2 m3 b 0 bytes takes.second.takes.parts.count takes.second.takes.parts.sizes b_free.high (omega arith) written
+  puts_b : PutsBlock m2 m3 b (splice 0 bytes (block_at m2 b))
+  puts_b = PutsBlock-write m2 m3 b 0 bytes takes.second.takes.parts.sizes (omega (arith, b_free.high, takes.second.takes.parts.count)) (omega arith) written
 
-  puts_x : PutsBlock g m3 mid x (splice 0 index (block_at m3 x))
-  puts_x = PutsBlock-write g m3 mid x 0 index (puts_b.count ∙ takes.second.takes.parts.count) puts_b.sizes x_free.high (omega arith) indexed
+  puts_x : PutsBlock m3 mid x (splice 0 index (block_at m3 x))
+  puts_x = PutsBlock-write m3 mid x 0 index puts_b.sizes (omega (arith, x_free.high, puts_b.count, takes.second.takes.parts.count)) (omega arith) indexed
 
   leaves_both : Leaves g old mid F F
   leaves_both = Leaves-put g old m3 mid F F F x (splice 0 index (block_at m3 x))
@@ -175,24 +176,11 @@ module _ {g : Geometry} {old m2 m3 mid : List (List ℕ)} {n : ℕ} {inode : Dis
         (let e : inode.size / 1024 ≡ 12 = omega arith in ap (slot_in mid grown) e ∙ here_b)
         (puts_x.rest b (λ e. x_apart (sym e)) ∙ puts_b.here)
         (λ j l u. leaves_both.rest (slot_of old n j) (held.sound.in_range n j u).0 (λ t. elim t [
-          | inl e ↦ used_apart held j b u b_free e
-          | inr e ↦ used_apart held j x u x_free e
+          | inl e ↦ used_apart held n j b u b_free e
+          | inr e ↦ used_apart held n j x u x_free e
         ]));
     same = own_node held grown refl refl refl refl;
-    fits = record {
-      kind = fits.kind;
-      major = fits.major;
-      minor = fits.minor;
-      links = fits.links;
-      size = omega arith;
-      addresses = λ i h. elim (cases_eq i 12) [
-        | inl e ↦ let v : get_or (set inode.addresses 12 x) i 0 ≡ x = ap (λ q. get_or (set inode.addresses 12 x) q 0) e ∙ x_address in
-            let z = x_free.high in let y = held.sound.parts.size_high in omega arith
-        | inr e ↦ let v : get_or (set inode.addresses 12 x) i 0 ≡ get_or inode.addresses i 0 = get_or-set_other inode.addresses 12 i x 0 e in
-            let z = fits.addresses i (omega (arith, length-set inode.addresses 12 x)) in omega arith
-      ];
-      places = length-set inode.addresses 12 x ∙ fits.places;
-    };
+    fits = Fits-address fits (omega arith) 12 x (omega arith) (omega (arith, x_free.high, held.sound.parts.size_high));
     balance =
         let f : free_blocks g m3 ≡ free_blocks g m2 = free_put g m2 m3 b (splice 0 bytes (block_at m2 b)) puts_b b_free.low in
         let h : free_blocks g mid ≡ free_blocks g m3 = free_put g m3 mid x (splice 0 index (block_at m3 x)) puts_x x_free.low in

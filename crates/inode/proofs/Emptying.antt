@@ -1,43 +1,30 @@
 -- The blocks of an inode are given back one after the other.
 use Rattle.std.proofs.Common.{◌≡◌, ℕ, ◌+◌, ◌<◌, ◌≤◌, ◌⊎◌, List, [], length, get_or, replicate, ap, sym, ◌∙◌, arith, inl, inr, refl, subst}
 use Rattle.std.proofs.lemmas.Bool.{cases_lt}
-use Rattle.std.proofs.lemmas.List.{get_or-replicate, get_or_past, length-replicate}
-use Rattle.layout.specs.Inode.{Fits}
 use Rattle.layout.specs.Super.{bitmap_start_of, data_start_of}
 use Rattle.layout.specs.declared.DiskInode.{DiskInode}
 use Rattle.layout.specs.declared.Geometry.{Geometry}
 use Rattle.layout.specs.Grow.{WritesInode}
 use Rattle.layout.specs.Image.{IsUsed, bit_of, blocks_for, slot_in, slot_of, taken_for}
-use Rattle.layout.proofs.Slots.{slot_of-last, used_last}
+use Rattle.layout.proofs.Slots.{slot_of-last}
 use Rattle.balloc.specs.Bitmap.{SetsBit}
+use Rattle.layout.proofs.Plain.{zero_at}
 use Rattle.inode.specs.Held.{HasInode}
 use Rattle.inode.specs.Freeing.{Freed, IsOwn}
 use Rattle.inode.proofs.FreeingLemmas.{Freed-as, Freed-more, Freed-taken, Wrote-freed, slot_in_freed}
 use Rattle.inode.specs.Writing.{Wrote}
+use Rattle.inode.proofs.Reading.{numbers_in_disk, slot_used}
 use Rattle.inode.proofs.Growing.{own_fits, own_node, own_used, taken_large, taken_small}
-
--- numbers that are 0, and past them
-pub zero_at : (n k : ℕ) → ◌≡◌ {A = ℕ} (get_or (replicate n 0) k 0) 0
-zero_at n k = elim (cases_lt k n) [
-  | inl h ↦ get_or-replicate n k 0 0 h
-  | inr h ↦ get_or_past (replicate {A = ℕ} n 0) k 0 (omega (arith, length-replicate {A = ℕ} n 0))
-]
 
 -- ---- block k, where those before it are free
 
 module _ {g : Geometry} {old mid : List (List ℕ)} {n k : ℕ} {inode : DiskInode} (held : HasInode g old n inode)
     (freed : Freed g old mid n (λ j. j < k) k) (below : k < blocks_for inode.size) where
-  here_used : IsUsed old g.inodes n k
-  here_used = own_used held k (inl below)
-
-  pub here_low : k < 268
-  here_low = let f : inode.size ≤ 274432 = own_fits held in omega arith
+  abbrev here_used : IsUsed old g.inodes n k
+  here_used = slot_used held refl k below
 
   pub here_numbers : 12 ≤ k → get_or inode.addresses 12 0 < length mid
-  here_numbers h =
-      let last : IsUsed old g.inodes n 268 = used_last old g.inodes n k here_used h in
-      let at : slot_of old n 268 ≡ get_or inode.addresses 12 0 = slot_of-last old n ∙ ap (λ (i : DiskInode). get_or i.addresses 12 0) (sym held.same) in
-      omega (arith, (held.sound.in_range n 268 last).1, freed.parts.count)
+  here_numbers h = omega (arith, numbers_in_disk held refl k below h, freed.parts.count, held.sound.parts.count)
 
   pub here_is : {b : ℕ} → b ≡ slot_in mid inode k → b ≡ slot_of old n k
   here_is {b} e = e ∙ slot_in_freed g old mid n k k (λ j. j < k) inode held.sound freed held.same here_used
@@ -112,14 +99,3 @@ module _ {g : Geometry} {old read mid new : List (List ℕ)} {n : ℕ} {inode : 
       (subst (λ (i : DiskInode). Freed g old mid n (IsOwn i.size) (taken_for i.size)) held.same (subst (λ x. Freed g x mid n (IsOwn inode.size) (taken_for inode.size)) read_is freed))
       (own_node held (emptied inode) refl refl refl refl)
       refl (zero_at 13) writes
-
-pub Fits-empty : (inode : DiskInode) → Fits inode → Fits (emptied inode)
-Fits-empty inode fits = record {
-  kind = fits.kind;
-  major = fits.major;
-  minor = fits.minor;
-  links = fits.links;
-  size = omega arith;
-  addresses = λ i h. let z : ◌≡◌ {A = ℕ} (get_or (replicate 13 0) i 0) 0 = zero_at 13 i in omega arith;
-  places = refl;
-}

@@ -1,5 +1,5 @@
 -- How many blocks are wanting, a write within one block, and another number of links.
-use Rattle.std.proofs.Common.{◌≡◌, ℕ, ◌+◌, ◌*◌, ◌/◌, ◌%◌, ◌<◌, ◌≤◌, List, Some, length, set, ap, sym, ◌∙◌, arith, refl, subst}
+use Rattle.std.proofs.Common.{◌≡◌, ℕ, ◌+◌, ◌*◌, ◌/◌, ◌%◌, ◌<◌, ◌≤◌, List, Some, length, max, set, ap, sym, ◌∙◌, arith, refl, subst}
 use Rattle.blockdev.specs.Blocks.{block_at}
 use Rattle.blockdev.specs.Splice.{splice}
 use Rattle.layout.specs.Inode.{Fits}
@@ -8,6 +8,7 @@ use Rattle.layout.specs.declared.DiskInode.{DiskInode}
 use Rattle.layout.specs.declared.Geometry.{Geometry}
 use Rattle.layout.proofs.Frame.{IsSound-replace, KeepsOthers, nodes_of-changed}
 use Rattle.layout.specs.Grow.{Grows, WritesInode}
+use Rattle.layout.proofs.Puts.{HasParts-kept}
 use Rattle.layout.proofs.GrowLemmas.{Grows-keeps, Grows-node, Grows-sound}
 use Rattle.layout.specs.Image.{bit_in, blocks_for, bytes_of, free_blocks, inode_at, nodes_of, slot_in, slot_of, taken_for}
 use Rattle.layout.proofs.Plain.{Grows-same, HoldsBytes-same}
@@ -39,64 +40,33 @@ module _ {g : Geometry} {old : List (List ℕ)} {n : ℕ} {inode : DiskInode} (h
   lacks_both last few =
       lacks (blocks_for inode.size) (blocks_for (inode.size + 1) + 1) (taken_small inode.size (omega arith)) (taken_large (inode.size + 1) (omega arith)) (omega arith)
 
--- ---- the parts of a disk that is prepared
-
-pub Grows-parts : {g : Geometry} {old mid : List (List ℕ)} {n : ℕ} {inode : DiskInode} → HasParts g old → Grows g old mid n inode → HasParts g mid
-Grows-parts parts grows = record {
-  count = grows.count ∙ parts.count;
-  sizes = grows.sizes;
-  size_high = parts.size_high;
-  inodes_low = parts.inodes_low;
-  inodes_high = parts.inodes_high;
-  room = parts.room;
-}
-
--- ---- bytes within a block that the file has
-
-module _ {g : Geometry} {old mid : List (List ℕ)} {n at : ℕ} {inode : DiskInode} (bytes : List ℕ) (held : HasInode g old n inode) (fits : Fits inode)
-    (lies : LiesInBlock inode at bytes)
-    (written : mid ≡ set old (slot_of old n (at / 1024)) (splice (at % 1024) bytes (block_at old (slot_of old n (at / 1024))))) where
-  prepared_same : at + length bytes ≤ inode.size → Prepares g old mid n (record inode { size = inode.size }) (splice at bytes (bytes_of old n))
-  prepared_same short = Prepares-inside {size = inode.size} bytes held fits lies.there lies.within lies.room (omega arith) written
-
-  prepared_longer : inode.size ≤ at + length bytes → Prepares g old mid n (record inode { size = at + length bytes }) (splice at bytes (bytes_of old n))
-  prepared_longer long = Prepares-inside {size = at + length bytes} bytes held fits lies.there lies.within lies.room (omega arith) written
-
-  pub Wrote-kept : at + length bytes ≤ inode.size → Wrote g old mid n (splice at bytes (bytes_of old n))
-  Wrote-kept short =
-      let p : Prepares g old mid n (record inode { size = inode.size }) (splice at bytes (bytes_of old n)) = prepared_same short in
-      Wrote-record g old mid mid n (record inode { size = inode.size }) (splice at bytes (bytes_of old n)) held.sound held.used p
-      (WritesInode-same g old mid n (record inode { size = inode.size }) held.used.high p.grows held.same)
-
-  module _ (long : inode.size ≤ at + length bytes) where
-    pub parts_longer : HasParts g mid
-    parts_longer = Grows-parts held.sound.parts (prepared_longer long).grows
-
-    pub fits_longer : Fits (record inode { size = at + length bytes })
-    fits_longer = (prepared_longer long).fits
-
-    pub Wrote-longer : {new : List (List ℕ)} → WritesInode g mid new n (record inode { size = at + length bytes }) → Wrote g old new n (splice at bytes (bytes_of old n))
-    Wrote-longer {new} writes = Wrote-record g old mid new n (record inode { size = at + length bytes }) (splice at bytes (bytes_of old n)) held.sound held.used (prepared_longer long) writes
-
--- ---- the same, as the code does it
+-- ---- bytes within a block that the file has, as the code does it
 
 module _ {g : Geometry} {old read mid : List (List ℕ)} {n at target : ℕ} {inode : DiskInode} (bytes : List ℕ) (held : HasInode g old n inode) (fits : Fits inode)
     (lies : LiesInBlock inode at bytes) (read_is : read ≡ old) (target_is : target ≡ slot_in old inode (at / 1024))
     (e : mid ≡ set read target (splice (at % 1024) bytes (block_at read target))) where
-  written_is : mid ≡ set old (slot_of old n (at / 1024)) (splice (at % 1024) bytes (block_at old (slot_of old n (at / 1024))))
-  written_is = put_written old read mid target (slot_of old n (at / 1024)) (at % 1024) bytes e read_is (target_is ∙ slot_in_hand held refl (at / 1024))
+  prepared : (size : ℕ) → size ≡ max inode.size (at + length bytes) → Prepares g old mid n (record inode { size = size }) (splice at bytes (bytes_of old n))
+  prepared size size_is = Prepares-inside {size = size} bytes held fits lies.there lies.within lies.room size_is
+      (put_written old read mid target (slot_of old n (at / 1024)) (at % 1024) bytes e read_is (target_is ∙ slot_in_hand held refl (at / 1024)))
 
   pub inside_kept : at + length bytes ≤ inode.size → Wrote g old mid n (splice at bytes (bytes_of old n))
-  inside_kept = Wrote-kept bytes held fits lies written_is
+  inside_kept short =
+      let p = prepared inode.size (omega arith) in
+      Wrote-record g old mid mid n (record inode { size = inode.size }) (splice at bytes (bytes_of old n)) held.sound held.used p
+      (WritesInode-same g old mid n (record inode { size = inode.size }) held.used.high p.grows held.same)
 
-  pub inside_parts : inode.size ≤ at + length bytes → HasParts g mid
-  inside_parts = parts_longer bytes held fits lies written_is
+  module _ (long : inode.size ≤ at + length bytes) where
+    abbrev longer : Prepares g old mid n (record inode { size = at + length bytes }) (splice at bytes (bytes_of old n))
+    longer = prepared (at + length bytes) (omega arith)
 
-  pub inside_fits : inode.size ≤ at + length bytes → Fits (record inode { size = at + length bytes })
-  inside_fits = fits_longer bytes held fits lies written_is
+    pub inside_parts : HasParts g mid
+    inside_parts = HasParts-kept held.sound.parts longer.grows.count longer.grows.sizes
 
-  pub inside_longer : inode.size ≤ at + length bytes → {new : List (List ℕ)} → WritesInode g mid new n (record inode { size = at + length bytes }) → Wrote g old new n (splice at bytes (bytes_of old n))
-  inside_longer = Wrote-longer bytes held fits lies written_is
+    pub inside_fits : Fits (record inode { size = at + length bytes })
+    inside_fits = longer.fits
+
+    pub inside_longer : {new : List (List ℕ)} → WritesInode g mid new n (record inode { size = at + length bytes }) → Wrote g old new n (splice at bytes (bytes_of old n))
+    inside_longer {new} writes = Wrote-record g old mid new n (record inode { size = at + length bytes }) (splice at bytes (bytes_of old n)) held.sound held.used longer writes
 
 -- ---- a block more
 

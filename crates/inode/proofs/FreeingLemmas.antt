@@ -1,7 +1,8 @@
 -- Lemmas on what `specs/Freeing` defines.
-use Rattle.std.specs.Prelude.{◌≡◌, ◌≢◌, ℕ, ◌+◌, ◌*◌, ◌/◌, ◌%◌, ◌<◌, ◌⊎◌, List, [], length, get_or, ◌∷◌, Some, slice_set}
+use Rattle.std.specs.Prelude.{◌≡◌, ◌≢◌, ℕ, ◌+◌, ◌*◌, ◌/◌, ◌%◌, ◌<◌, ◌⊎◌, List, [], length, get_or, Some, slice_set}
 use Rattle.std.proofs.Common.{ap, sym, ◌∙◌, arith, inl, inr, refl, subst}
 use Rattle.std.proofs.lemmas.Bool.{cases_eq}
+use Rattle.std.proofs.lemmas.List.{nil_from_length}
 use Rattle.blockdev.specs.Blocks.{block_at}
 use Rattle.blockdev.specs.Splice.{part}
 use Rattle.layout.specs.Inode.{inode_of}
@@ -74,10 +75,6 @@ slot_in_freed g old mid n k count P inode sound freed e used =
     freed.rest (get_or inode.addresses 12 0) (let r = (sound.in_range n 268 last).0 in omega arith))
     ∙ ap (λ i. slot_in old i k) e
 
-no_bytes : (xs : List ℕ) → length xs ≡ 0 → xs ≡ []
-no_bytes [] h = refl
-no_bytes (x ∷ xs) h = absurd (omega arith)
-
 -- ---- all are given back, and the record is written
 
 module _ (g : Geometry) (old mid new : List (List ℕ)) (n : ℕ) (inode : DiskInode) (sound : IsSound g old) (used : IsInode old g.inodes n) (freed : Freed g old mid n (IsOwn (inode_at old n).size) (taken_for (inode_at old n).size))
@@ -144,7 +141,7 @@ module _ (g : Geometry) (old mid new : List (List ℕ)) (n : ℕ) (inode : DiskI
 
   pub Wrote-freed : Wrote g old new n []
   Wrote-freed =
-      let own : bytes_of new n ≡ [] = no_bytes (bytes_of new n) (length-bytes_of new n ∙ size_is) in
+      let own : bytes_of new n ≡ [] = nil_from_length (bytes_of new n) (length-bytes_of new n ∙ size_is) in
       let kind : (inode_at new n).kind ≢ 0 = λ z. used.kind (sym same.kind ∙ sym (ap (λ (i : DiskInode). i.kind) writes.here) ∙ z) in
       let free : free_blocks g new ≡ free_blocks g mid = free_blocks-same g mid new bit_same in
       let given = freed.free in

@@ -1,16 +1,17 @@
 -- A disk with the bytes of a write in place, before the inode's record is written.
-use Rattle.std.proofs.Common.{◌≡◌, ◌≢◌, ℕ, ◌+◌, ◌-◌, ◌/◌, ◌%◌, ◌<◌, ◌≤◌, ◌⊎◌, List, [], ◌++◌, length, get_or, set, take, drop, ap, sym, ◌∙◌, arith, inl, inr, refl, subst, cond, ltb}
+use Rattle.std.proofs.Common.{◌≡◌, ◌≢◌, ℕ, ◌+◌, ◌-◌, ◌/◌, ◌%◌, ◌<◌, ◌≤◌, ◌⊎◌, List, ◌++◌, length, get_or, set, take, drop, ap, sym, ◌∙◌, arith, inl, inr, refl, subst, cond, ltb}
 use Rattle.std.proofs.lemmas.Bool.{cases_eq, cases_lt}
 use Rattle.std.proofs.lemmas.Bool.Decides.{nat_tests}
 use Rattle.std.proofs.lemmas.List.{get_or-set_other, get_or-set_same, length-set, get_or_append_left, get_or-append_right, get_or-drop, get_or-take, length-append, length-drop, length-take-le}
 use Rattle.blockdev.specs.Blocks.{AreBlocks, block_at}
 use Rattle.blockdev.specs.Splice.{splice}
-use Rattle.blockdev.proofs.SpliceLemmas.{length-splice}
+use Rattle.layout.specs.Inode.{Fits}
 use Rattle.layout.specs.Super.{bitmap_start_of, data_start_of}
 use Rattle.layout.specs.declared.DiskInode.{DiskInode}
 use Rattle.layout.specs.declared.Geometry.{Geometry}
 use Rattle.layout.specs.Image.{Asks, IsFree, IsSpare, IsUsed, bit_in, bit_of, blocks_for, byte_of, bytes_of, inode_at, slot_in, slot_of, taken_for}
-use Rattle.layout.proofs.Slots.{asks_at}
+use Rattle.layout.proofs.Puts.{PutsBlock}
+use Rattle.layout.proofs.Slots.{IsSpare-size, asks_at}
 use Rattle.layout.proofs.Frame.{get_or-bytes_of, length-bytes_of}
 use Rattle.layout.specs.Grow.{Grows, HoldsBytes, IsFresh}
 use Rattle.inode.specs.Held.{HasInode}
@@ -27,6 +28,40 @@ pub taken_large : (size : ℕ) → 12 < blocks_for size → taken_for size ≡ b
 taken_large size h = go (blocks_for size) h where
   go : (b : ℕ) → 12 < b → b + cond (ltb 12 b) 1 0 ≡ b + 1
   go b h = grind (arith, nat_tests)
+
+-- ---- a larger record
+
+-- it asks for what a smaller one asks for
+pub asks_more : (size more j : ℕ) → blocks_for size ≤ blocks_for more → Asks size j → Asks more j
+asks_more size more j h a = elim a [ inl l ↦ inl (omega arith) | inr l ↦ let k = l.1 in inr (l.0, omega arith) ]
+
+module _ {inode : DiskInode} {size : ℕ} (fits : Fits inode) (short : size ≤ 274432) where
+  pub Fits-size : Fits (record inode { size = size })
+  Fits-size = record {
+    kind = fits.kind;
+    major = fits.major;
+    minor = fits.minor;
+    links = fits.links;
+    size = omega arith;
+    addresses = fits.addresses;
+    places = fits.places;
+  }
+
+  -- with another address
+  pub Fits-address : (k b : ℕ) → k < 13 → b < 16384 → Fits (record inode { size = size; addresses = set inode.addresses k b })
+  Fits-address k b within high = record {
+    kind = fits.kind;
+    major = fits.major;
+    minor = fits.minor;
+    links = fits.links;
+    size = omega arith;
+    addresses = λ i h. elim (cases_eq i k) [
+      | inl e ↦ let v : get_or (set inode.addresses k b) i 0 ≡ b = ap (λ q. get_or (set inode.addresses k b) q 0) e ∙ get_or-set_same inode.addresses k b 0 (omega (arith, fits.places)) in omega arith
+      | inr e ↦ let v : get_or (set inode.addresses k b) i 0 ≡ get_or inode.addresses i 0 = get_or-set_other inode.addresses k i b 0 e in
+          let z = fits.addresses i (omega (arith, length-set inode.addresses k b)) in omega arith
+    ];
+    places = length-set inode.addresses k b ∙ fits.places;
+  }
 
 -- ---- a list with a part written over that may pass its end
 
@@ -57,31 +92,6 @@ module _ (at : ℕ) (new old : List ℕ) (within : at ≤ length old) where
       let f : length (take at old) ≡ at = front in
       omega (arith, length-append (take at old) (new ++ drop (at + length new) old), length-append new (drop (at + length new) old), length-drop (at + length new) old)
 
--- ---- a data block is written
-
-pub record PutsBlock (g : Geometry) (old new : List (List ℕ)) (p : ℕ) (block : List ℕ) : Type 0 where
-  pub count : length new ≡ length old
-  pub sizes : AreBlocks new
-  pub here : block_at new p ≡ block
-  pub rest : (q : ℕ) → q ≢ p → block_at new q ≡ block_at old q
-
-pub PutsBlock-write : (g : Geometry) (old new : List (List ℕ)) (p from : ℕ) (bytes : List ℕ) → length old ≡ g.size → AreBlocks old → p < g.size → from + length bytes ≤ 1024
-    → new ≡ set old p (splice from bytes (block_at old p)) → PutsBlock g old new p (splice from bytes (block_at old p))
-PutsBlock-write g old new p from bytes count sizes high room e =
-    let whole : length (block_at old p) ≡ 1024 = sizes p (omega arith) in
-    let here : block_at new p ≡ splice from bytes (block_at old p) = ap (λ x. block_at x p) e ∙ get_or-set_same old p (splice from bytes (block_at old p)) [] (omega arith) in
-    let rest : (q : ℕ) → q ≢ p → block_at new q ≡ block_at old q = λ q h. ap (λ x. block_at x q) e ∙ get_or-set_other old p q (splice from bytes (block_at old p)) [] h in
-    let long : length new ≡ length old = ap length e ∙ length-set old p (splice from bytes (block_at old p)) in
-    record {
-      count = long;
-      sizes = λ q h. elim (cases_eq q p) [
-        | inl met ↦ ap (λ x. length (block_at new x)) met ∙ ap length here ∙ length-splice from bytes (block_at old p) (omega arith) ∙ whole
-        | inr other ↦ ap length (rest q other) ∙ sizes q (omega arith)
-      ];
-      here = here;
-      rest = rest;
-    }
-
 -- ---- what a step leaves, but for the blocks T, of which F are new
 
 pub record Leaves (g : Geometry) (old mid : List (List ℕ)) (F T : ℕ → Type 0) : Type 0 where
@@ -93,7 +103,7 @@ pub record Leaves (g : Geometry) (old mid : List (List ℕ)) (F T : ℕ → Type
   pub others : (c : ℕ) → c < g.size → (F c → ⊥) → bit_of mid (bitmap_start_of g.inodes) c ≡ bit_of old (bitmap_start_of g.inodes) c
 
 -- a data block is written after that
-pub Leaves-put : (g : Geometry) (old mid new : List (List ℕ)) (F T S : ℕ → Type 0) (p : ℕ) (block : List ℕ) → Leaves g old mid F T → PutsBlock g mid new p block → data_start_of g.size g.inodes ≤ p
+pub Leaves-put : (g : Geometry) (old mid new : List (List ℕ)) (F T S : ℕ → Type 0) (p : ℕ) (block : List ℕ) → Leaves g old mid F T → PutsBlock mid new p block → data_start_of g.size g.inodes ≤ p
     → ((q : ℕ) → T q → S q) → S p → Leaves g old new F S
 Leaves-put g old mid new F T S p block leaves puts low weaker touched = record {
   count = puts.count ∙ leaves.count;
@@ -115,15 +125,13 @@ module _ {g : Geometry} {old : List (List ℕ)} {n : ℕ} {inode : DiskInode} (h
   own_slot j = ap (λ i. slot_in old i j) (sym held.same)
 
   pub own_used : (j : ℕ) → Asks inode.size j → IsUsed old g.inodes n j
-  own_used j a = let e : inode.size ≡ (inode_at old n).size = size_same in record { inode = held.used; slot = elim a [ inl h ↦ inl (omega arith) | inr h ↦ let k = h.1 in inr (h.0, omega arith) ] }
+  own_used j a = record { inode = held.used; slot = subst (λ s. Asks s j) size_same a }
 
   pub own_asks : (j : ℕ) → IsUsed old g.inodes n j → Asks inode.size j
-  own_asks j u = let e : inode.size ≡ (inode_at old n).size = size_same in elim u.slot [ inl h ↦ inl (omega arith) | inr h ↦ let k = h.1 in inr (h.0, omega arith) ]
+  own_asks j u = subst (λ s. Asks s j) (sym size_same) u.slot
 
   pub own_spare : (j : ℕ) → IsSpare inode.size j → slot_in old inode j ≡ 0
-  own_spare j s =
-      let e : inode.size ≡ (inode_at old n).size = size_same in
-      sym (own_slot j) ∙ held.sound.spare n j held.used (record { within = s.within; unasked = λ a. s.unasked (own_asks j (record { inode = held.used; slot = a })); index = λ h l. let k = s.index h l in omega arith })
+  own_spare j s = sym (own_slot j) ∙ held.sound.spare n j held.used (IsSpare-size size_same s)
 
   pub own_fits : inode.size ≤ 274432
   own_fits = let e : inode.size ≡ (inode_at old n).size = size_same in omega (arith, held.sound.fits n held.used)
@@ -150,11 +158,8 @@ module _ {g : Geometry} {old : List (List ℕ)} {n : ℕ} {inode : DiskInode} (h
   }
 
   -- a block in use isn't free
-  pub used_apart : (j b : ℕ) → IsUsed old g.inodes n j → IsFree g old b → slot_of old n j ≢ b
-  used_apart j b u free e = let one = (held.sound.marked b free.high).1 (inr (n, j, u, e)) in let zero = free.clear in omega arith
-
-  pub other_apart : (m j b : ℕ) → IsUsed old g.inodes m j → IsFree g old b → slot_of old m j ≢ b
-  other_apart m j b u free e = let one = (held.sound.marked b free.high).1 (inr (m, j, u, e)) in let zero = free.clear in omega arith
+  pub used_apart : (m j b : ℕ) → IsUsed old g.inodes m j → IsFree g old b → slot_of old m j ≢ b
+  used_apart m j b u free e = let one = (held.sound.marked b free.high).1 (inr (m, j, u, e)) in let zero = free.clear in omega arith
 
   -- the bytes of a new block b behind those that there are
   pub HoldsBytes-append : (mid : List (List ℕ)) (next : DiskInode) → ((j : ℕ) → IsUsed old g.inodes n j → slot_in mid next j ≡ slot_of old n j) → (b : ℕ) (bytes block : List ℕ) → inode.size % 1024 ≡ 0 → length bytes ≤ 1024 → next.size ≡ inode.size + length bytes
@@ -204,13 +209,13 @@ module _ {g : Geometry} {old : List (List ℕ)} {n : ℕ} {inode : DiskInode} (h
           sizes = leaves.sizes;
           front = leaves.front;
           named = λ m j u apart. leaves.rest (slot_of old m j) (held.sound.in_range m j u).0 (λ t. elim (own (slot_of old m j) t) [
-            | inl free ↦ other_apart m j (slot_of old m j) u free refl
+            | inl free ↦ used_apart m j (slot_of old m j) u free refl
             | inr (i, v, e) ↦ apart (held.sound.once m j n i u v (sym e)).0
           ]);
           kind = let k = held.sound.kinds n held.used.low held.used.high in omega arith;
           used = λ j a z. held.used.kind (sym node ∙ sym kind ∙ z);
           fits = fits;
-          asks = λ j u. elim (own_asks j u) [ inl h ↦ inl (omega arith) | inr h ↦ let k = h.1 in inr (h.0, omega arith) ];
+          asks = λ j u. asks_more inode.size next.size j (omega arith) (own_asks j u);
           kept = kept;
           fresh = λ j f. fresh_free (slot_in mid next j) (fresh j f);
           once = once;

@@ -1,5 +1,5 @@
 -- A write goes on piece by piece.
-use Rattle.std.proofs.Common.{◌≡◌, ℕ, ◌+◌, ◌-◌, ◌%◌, ◌<◌, ◌≤◌, List, Result, Err, ◌++◌, length, get_or, min, take, drop, ap, sym, ◌∙◌, arith, inl, inr, subst}
+use Rattle.std.proofs.Common.{◌≡◌, ℕ, ◌+◌, ◌-◌, ◌%◌, ◌<◌, ◌≤◌, List, ◌++◌, length, get_or, min, take, drop, ap, sym, ◌∙◌, arith, inl, inr, subst}
 use Rattle.std.proofs.lemmas.Bool.{cases_lt}
 use Rattle.std.proofs.lemmas.List.{ext_get_or, get_or-take, length-take-le, take-append-drop, take_all}
 use Rattle.blockdev.specs.Splice.{part, splice}
@@ -7,11 +7,8 @@ use Rattle.blockdev.proofs.SpliceLemmas.{length-part, get_or-part}
 use Rattle.layout.specs.declared.Geometry.{Geometry}
 use Rattle.layout.specs.Image.{IsInode, bytes_of, taken_for}
 use Rattle.layout.specs.Sound.{IsSound}
-use Rattle.inode.specs.declared.InodeFault.{InodeFault}
-use Rattle.inode.specs.declared.InodeFault.TheVariants.{Blocks}
 use Rattle.inode.specs.Writing.{IsFull, LacksBlocks, Wrote}
 use Rattle.inode.proofs.Wrote.{Wrote-nothing, Wrote-trans}
-use Rattle.inode.proofs.Causes.{told_written}
 use Rattle.inode.proofs.Growing.{get_or-extend_after, get_or-extend_before, get_or-extend_inside, length-extend}
 
 -- no bytes written over
@@ -116,7 +113,3 @@ module _ {g : Geometry} {first disk : List (List ℕ)} {n at : ℕ} (done : ℕ)
   -- all is written
   pub Wrote-all : length bytes ≤ done → Wrote g first disk n (splice at bytes (bytes_of first n))
   Wrote-all all = subst (λ xs. Wrote g first disk n (splice at xs (bytes_of first n))) (take_all done bytes all) wrote
-
--- a refusal tells how many bytes are written
-pub IsFull-told : {T : Type 0} {g : Geometry} {old new : List (List ℕ)} {n at j k : ℕ} {bytes : List ℕ} → IsFull g old new n at bytes j → ◌≡◌ {A = Result T InodeFault} (Err (Blocks j)) (Err (Blocks k)) → IsFull g old new n at bytes k
-IsFull-told {g = g} {old} {new} {n} {at} {j} {k} {bytes} full told = subst (IsFull g old new n at bytes) (told_written j k told) full

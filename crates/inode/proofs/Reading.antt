@@ -80,7 +80,7 @@ module _ {g : Geometry} {old now : List (List ℕ)} {n : ℕ} {inode : DiskInode
   slot_in_hand = ap (λ x. slot_in x inode k) now_is ∙ ap (λ i. slot_in old i k) held.same
 
   module _ (below : k < blocks_for inode.size) where
-    slot_used : IsUsed old g.inodes n k
+    pub slot_used : IsUsed old g.inodes n k
     slot_used = own_used held k (inl below)
 
     pub slot_low : k < 268

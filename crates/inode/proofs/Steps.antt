@@ -2,7 +2,7 @@
 use Rattle.std.specs.Prelude.{if◌then◌else◌, nat_lt}
 use Rattle.std.proofs.Common.{◌≡◌, ◌≢◌, ℕ, ◌+◌, ◌-◌, ◌*◌, ◌/◌, ◌%◌, ◌<◌, ◌≤◌, ◌^◌, ◌⊎◌, List, [], length, get_or, set, drop, max, ap, sym, ◌∙◌, arith, inl, inr, refl, subst}
 use Rattle.std.proofs.lemmas.Bool.{cases_eq, cases_lt}
-use Rattle.std.proofs.lemmas.List.{get_or-set_other, get_or-set_same, length-set}
+use Rattle.std.proofs.lemmas.List.{get_or-set_other, get_or-set_same}
 use Rattle.byteorder.specs.Endian.{little_bytes, little_number}
 use Rattle.byteorder.specs.Numbers.{little_from-take, little_number-reads_back}
 use Rattle.blockdev.specs.Blocks.{block_at}
@@ -15,6 +15,7 @@ use Rattle.layout.specs.declared.DiskInode.{DiskInode}
 use Rattle.layout.specs.declared.Geometry.{Geometry}
 use Rattle.layout.specs.Image.{Asks, IsFree, IsSpare, IsUsed, bit_in, bit_of, blocks_for, byte_of, bytes_of, free_blocks, inode_at, slot_in, slot_of, taken_for}
 use Rattle.layout.specs.Sound.{HasParts}
+use Rattle.layout.proofs.Puts.{PutsBlock, PutsBlock-write}
 use Rattle.layout.proofs.Slots.{asks_at, asks_last, slot_in-direct, slot_in-indirect, slot_in-last, slot_in-same, used_within}
 use Rattle.layout.proofs.Frame.{get_or-bytes_of, length-bytes_of}
 use Rattle.layout.specs.Grow.{Grows, HoldsBytes, IsFresh}
@@ -22,7 +23,8 @@ use Rattle.balloc.specs.Bitmap.{SetsBit, TakesLowest}
 use Rattle.balloc.proofs.Counting.{free_blocks-same, free_blocks-take}
 use Rattle.inode.specs.Held.{HasInode}
 use Rattle.inode.specs.Writing.{Prepares}
-use Rattle.inode.proofs.Growing.{Grows-step, HoldsBytes-append, Leaves, Leaves-put, PutsBlock, PutsBlock-write, get_or-extend_after, get_or-extend_before, get_or-extend_inside, length-extend, own_asks, own_fits, own_length, own_node, own_slot, own_spare, own_used, taken_large, taken_small, used_apart}
+use Rattle.inode.proofs.Reading.{slot_low, slot_used, slot_whole}
+use Rattle.inode.proofs.Growing.{Fits-address, Fits-size, Grows-step, HoldsBytes-append, Leaves, Leaves-put, asks_more, get_or-extend_after, get_or-extend_before, get_or-extend_inside, length-extend, own_asks, own_fits, own_length, own_node, own_slot, own_spare, own_used, taken_large, taken_small, used_apart}
 
 -- a block is taken
 pub Leaves-take : (g : Geometry) (old new : List (List ℕ)) (b : ℕ) → HasParts g old → SetsBit g old new b 1 → Leaves g old new (λ c. c ≡ b) (λ p. p ≡ b)
@@ -36,7 +38,7 @@ Leaves-take g old new b parts sets = record {
 }
 
 -- the count of free blocks after a write of a data block
-pub free_put : (g : Geometry) (old new : List (List ℕ)) (p : ℕ) (block : List ℕ) → PutsBlock g old new p block → data_start_of g.size g.inodes ≤ p → free_blocks g new ≡ free_blocks g old
+pub free_put : (g : Geometry) (old new : List (List ℕ)) (p : ℕ) (block : List ℕ) → PutsBlock old new p block → data_start_of g.size g.inodes ≤ p → free_blocks g new ≡ free_blocks g old
 free_put g old new p block puts low = free_blocks-same g old new (λ c h. ap (λ x. bit_in x (c % 8192)) (puts.rest (bitmap_start_of g.inodes + c / 8192) (omega arith)))
 
 -- ---- within a block that the file has
@@ -47,43 +49,37 @@ module _ {g : Geometry} {old mid : List (List ℕ)} {n : ℕ} {inode : DiskInode
   abbrev inside : DiskInode
   inside = record inode { size = size }
 
-  slot_used : IsUsed old g.inodes n (at / 1024)
-  slot_used = own_used held (at / 1024) (inl there)
-
-  is_data : at / 1024 < 268
-  is_data = let f : inode.size ≤ 274432 = own_fits held in omega arith
+  abbrev target_used : IsUsed old g.inodes n (at / 1024)
+  target_used = slot_used held refl (at / 1024) there
 
   abbrev target : ℕ
   target = slot_of old n (at / 1024)
 
-  puts : PutsBlock g old mid target (splice (at % 1024) bytes (block_at old target))
-  puts = PutsBlock-write g old mid target (at % 1024) bytes held.sound.parts.count held.sound.parts.sizes (held.sound.in_range n (at / 1024) slot_used).1 room written
+  puts : PutsBlock old mid target (splice (at % 1024) bytes (block_at old target))
+  puts = PutsBlock-write old mid target (at % 1024) bytes held.sound.parts.sizes (omega (arith, (held.sound.in_range n (at / 1024) target_used).1, held.sound.parts.count)) room written
 
   leaves : Leaves g old mid (λ _. ⊥) (λ p. p ≡ target)
   leaves = record {
     count = puts.count;
     sizes = puts.sizes;
-    front = λ k h. puts.rest k (let r = (held.sound.in_range n (at / 1024) slot_used).0 in omega arith);
+    front = λ k h. puts.rest k (let r = (held.sound.in_range n (at / 1024) target_used).0 in omega arith);
     rest = λ p h apart. puts.rest p apart;
     marked = λ c h f. absurd f;
-    others = λ c h f. ap (λ x. bit_in x (c % 8192)) (puts.rest (bitmap_start_of g.inodes + c / 8192) (let r = (held.sound.in_range n (at / 1024) slot_used).0 in omega arith));
+    others = λ c h f. ap (λ x. bit_in x (c % 8192)) (puts.rest (bitmap_start_of g.inodes + c / 8192) (let r = (held.sound.in_range n (at / 1024) target_used).0 in omega arith));
   }
 
   same_blocks : blocks_for size ≡ blocks_for inode.size
   same_blocks = elim (cases_lt inode.size (at + length bytes)) [ inl more ↦ omega arith | inr less ↦ omega arith ]
 
   asks_same : (j : ℕ) → Asks size j → Asks inode.size j
-  asks_same j a = let e : blocks_for size ≡ blocks_for inode.size = same_blocks in elim a [ inl h ↦ inl (omega arith) | inr h ↦ let k = h.1 in inr (h.0, omega arith) ]
-
-  asks_too : (j : ℕ) → Asks inode.size j → Asks size j
-  asks_too j a = let e : blocks_for size ≡ blocks_for inode.size = same_blocks in elim a [ inl h ↦ inl (omega arith) | inr h ↦ let k = h.1 in inr (h.0, omega arith) ]
+  asks_same j a = asks_more size inode.size j (omega (arith, same_blocks)) a
 
   slot_stays : (j : ℕ) → j < 269 → (12 ≤ j → j < 268 → Asks inode.size 268) → slot_in mid inside j ≡ slot_in old inode j
   slot_stays j h last = slot_in-same old mid inode j h (λ l m.
       puts.rest (get_or inode.addresses 12 0) (λ e.
       let u : IsUsed old g.inodes n 268 = own_used held 268 (last l m) in
-      let met : 268 ≡ at / 1024 = (held.sound.once n 268 n (at / 1024) u slot_used (own_slot held 268 ∙ e)).1 in
-      let d = is_data in
+      let met : 268 ≡ at / 1024 = (held.sound.once n 268 n (at / 1024) u target_used (own_slot held 268 ∙ e)).1 in
+      let d = slot_low held refl (at / 1024) there in
       omega arith))
 
   kept : (j : ℕ) → IsUsed old g.inodes n j → slot_in mid inside j ≡ slot_of old n j
@@ -95,34 +91,28 @@ module _ {g : Geometry} {old mid : List (List ℕ)} {n : ℕ} {inode : DiskInode
 
   grows : Grows g old mid n inside
   grows = Grows-step held mid inside (λ _. ⊥) (λ p. p ≡ target) leaves
-      (λ p e. inr (at / 1024, slot_used, sym e)) (λ c. inr (λ f. f)) refl
+      (λ p e. inr (at / 1024, target_used, sym e)) (λ c. inr (λ f. f)) refl
       (let f : inode.size ≤ 274432 = own_fits held in let e = same_blocks in omega arith)
       (omega arith) kept (λ j f. unfresh j f) (λ c f. absurd f) (λ c f. absurd f) (λ i j f k e. absurd (unfresh i f))
       (λ j s.
       let e : blocks_for size ≡ blocks_for inode.size = same_blocks in
-      let t : IsSpare inode.size j = record { within = s.within; unasked = λ a. s.unasked (asks_too j a); index = λ h l. let k = s.index h l in omega arith } in
+      let t : IsSpare inode.size j = record { within = s.within; unasked = λ a. s.unasked (asks_more inode.size size j (omega arith) a); index = λ h l. let k = s.index h l in omega arith } in
       slot_stays j s.within (λ h l. inr (refl, t.index h l)) ∙ own_spare held j t)
-
-  whole : length (block_at old target) ≡ 1024
-  whole = held.sound.parts.sizes target (let r = (held.sound.in_range n (at / 1024) slot_used).1 in omega (arith, held.sound.parts.count))
-
-  long : length (bytes_of old n) ≡ inode.size
-  long = own_length held
 
   -- byte i of the file, in the block that is written
   old_byte : (i : ℕ) → i < inode.size → i / 1024 ≡ at / 1024 → get_or (block_at old target) (i % 1024) 0 ≡ get_or (bytes_of old n) i 0
   unfolding byte_of
   old_byte i h e =
-      let l : length (bytes_of old n) ≡ inode.size = long in
+      let l : length (bytes_of old n) ≡ inode.size = own_length held in
       let m : length (bytes_of old n) ≡ (inode_at old n).size = length-bytes_of old n in
       ap (λ q. get_or (block_at old (slot_of old n q)) (i % 1024) 0) (sym e) ∙ sym (get_or-bytes_of old n i (omega arith))
 
   holds : HoldsBytes mid inside (splice at bytes (bytes_of old n))
   unfolding byte_of
   holds =
-      let l : length (bytes_of old n) ≡ inode.size = long in
+      let l : length (bytes_of old n) ≡ inode.size = own_length held in
       let m : length (bytes_of old n) ≡ (inode_at old n).size = length-bytes_of old n in
-      let w : length (block_at old target) ≡ 1024 = whole in
+      let w : length (block_at old target) ≡ 1024 = slot_whole held refl (at / 1024) there in
       let b : blocks_for size ≡ blocks_for inode.size = same_blocks in
       record {
         size = length-extend at bytes (bytes_of old n) (omega arith) ∙ omega arith;
@@ -133,7 +123,7 @@ module _ {g : Geometry} {old mid : List (List ℕ)} {n : ℕ} {inode : DiskInode
             ∙ (elim (cases_eq (i / 1024) (at / 1024)) [
               | inr other ↦
                   let before : i < inode.size = elim (cases_lt i inode.size) [ inl x ↦ x | inr x ↦ absurd (other (omega arith)) ] in
-                  ap (λ x. get_or x (i % 1024) 0) (puts.rest (slot_of old n (i / 1024)) (λ e. other (held.sound.once n (i / 1024) n (at / 1024) u slot_used e).1))
+                  ap (λ x. get_or x (i % 1024) 0) (puts.rest (slot_of old n (i / 1024)) (λ e. other (held.sound.once n (i / 1024) n (at / 1024) u target_used e).1))
                   ∙ sym (get_or-bytes_of old n i (omega arith))
                   ∙ sym (elim (cases_lt i at) [
                     | inl front ↦ get_or-extend_before at bytes (bytes_of old n) (omega arith) i front
@@ -166,17 +156,9 @@ module _ {g : Geometry} {old mid : List (List ℕ)} {n : ℕ} {inode : DiskInode
     grows = grows;
     holds = holds;
     same = own_node held inside refl refl refl refl;
-    fits = record {
-      kind = fits.kind;
-      major = fits.major;
-      minor = fits.minor;
-      links = fits.links;
-      size = let g = grows.fits in omega arith;
-      addresses = fits.addresses;
-      places = fits.places;
-    };
+    fits = Fits-size fits grows.fits;
     balance =
-        let f : free_blocks g mid ≡ free_blocks g old = free_put g old mid target (splice (at % 1024) bytes (block_at old target)) puts (held.sound.in_range n (at / 1024) slot_used).0 in
+        let f : free_blocks g mid ≡ free_blocks g old = free_put g old mid target (splice (at % 1024) bytes (block_at old target)) puts (held.sound.in_range n (at / 1024) target_used).0 in
         let c : taken_for size ≡ taken_for inode.size = counts in
         let d : taken_for inode.size ≡ taken_for (inode_at old n).size = ap (λ (i : DiskInode). taken_for i.size) held.same in
         omega arith;
@@ -196,8 +178,8 @@ module _ {g : Geometry} {old m1 mid : List (List ℕ)} {n : ℕ} {inode : DiskIn
   free_d : IsFree g old b
   free_d = takes.lowest.free
 
-  puts_d : PutsBlock g m1 mid b (splice 0 bytes (block_at m1 b))
-  puts_d = PutsBlock-write g m1 mid b 0 bytes takes.takes.parts.count takes.takes.parts.sizes (takes.lowest.free.high) (omega arith) written
+  puts_d : PutsBlock m1 mid b (splice 0 bytes (block_at m1 b))
+  puts_d = PutsBlock-write m1 mid b 0 bytes takes.takes.parts.sizes (omega (arith, takes.lowest.free.high, takes.takes.parts.count)) (omega arith) written
 
   leaves_d : Leaves g old mid (λ c. c ≡ b) (λ p. p ≡ b)
   leaves_d = Leaves-put g old m1 mid (λ c. c ≡ b) (λ p. p ≡ b) (λ p. p ≡ b) b (splice 0 bytes (block_at m1 b)) (Leaves-take g old m1 b held.sound.parts takes.takes) puts_d takes.lowest.free.low (λ q t. t) refl
@@ -258,22 +240,9 @@ module _ {g : Geometry} {old m1 mid : List (List ℕ)} {n : ℕ} {inode : DiskIn
   Prepares-direct = record {
     grows = grows_d;
     holds = HoldsBytes-append held mid longer kept_d b bytes (block_at m1 b) whole room refl here_d puts_d.here
-        (λ j l u. leaves_d.rest (slot_of old n j) (held.sound.in_range n j u).0 (used_apart held j b u free_d));
+        (λ j l u. leaves_d.rest (slot_of old n j) (held.sound.in_range n j u).0 (used_apart held n j b u free_d));
     same = own_node held longer refl refl refl refl;
-    fits = record {
-      kind = fits.kind;
-      major = fits.major;
-      minor = fits.minor;
-      links = fits.links;
-      size = omega arith;
-      addresses = λ i h. elim (cases_eq i (inode.size / 1024)) [
-        | inl e ↦ let v : get_or (set inode.addresses (inode.size / 1024) b) i 0 ≡ b = ap (λ q. get_or (set inode.addresses (inode.size / 1024) b) q 0) e ∙ get_or-set_same inode.addresses (inode.size / 1024) b 0 (let p = fits.places in omega arith) in
-            let z = takes.lowest.free.high in let y = held.sound.parts.size_high in omega arith
-        | inr e ↦ let v : get_or (set inode.addresses (inode.size / 1024) b) i 0 ≡ get_or inode.addresses i 0 = get_or-set_other inode.addresses (inode.size / 1024) i b 0 e in
-            let z = fits.addresses i (omega (arith, length-set inode.addresses (inode.size / 1024) b)) in omega arith
-      ];
-      places = length-set inode.addresses (inode.size / 1024) b ∙ fits.places;
-    };
+    fits = Fits-address fits (omega arith) (inode.size / 1024) b (omega arith) (omega (arith, takes.lowest.free.high, held.sound.parts.size_high));
     balance =
         let f : free_blocks g mid ≡ free_blocks g m1 = free_put g m1 mid b (splice 0 bytes (block_at m1 b)) puts_d takes.lowest.free.low in
         let t : free_blocks g m1 + 1 ≡ free_blocks g old = free_blocks-take g old m1 b free_d takes.takes in
@@ -330,13 +299,13 @@ module _ {g : Geometry} {old m1 m2 mid : List (List ℕ)} {n : ℕ} {inode : Dis
   x_range = subst (λ q. (data_start_of g.size g.inodes ≤ q) × (q < g.size)) x_is (held.sound.in_range n 268 last_used)
 
   x_apart : x ≢ b
-  x_apart e = used_apart held 268 b last_used free_i (x_is ∙ e)
+  x_apart e = used_apart held n 268 b last_used free_i (x_is ∙ e)
 
-  puts_i : PutsBlock g m1 m2 b (splice 0 bytes (block_at m1 b))
-  puts_i = PutsBlock-write g m1 m2 b 0 bytes takes.takes.parts.count takes.takes.parts.sizes takes.lowest.free.high (omega arith) written
+  puts_i : PutsBlock m1 m2 b (splice 0 bytes (block_at m1 b))
+  puts_i = PutsBlock-write m1 m2 b 0 bytes takes.takes.parts.sizes (omega (arith, takes.lowest.free.high, takes.takes.parts.count)) (omega arith) written
 
-  puts_x : PutsBlock g m2 mid x (splice (4 * (k - 12)) num (block_at m2 x))
-  puts_x = PutsBlock-write g m2 mid x (4 * (k - 12)) num (puts_i.count ∙ takes.takes.parts.count) puts_i.sizes x_range.1 (omega arith) numbered
+  puts_x : PutsBlock m2 mid x (splice (4 * (k - 12)) num (block_at m2 x))
+  puts_x = PutsBlock-write m2 mid x (4 * (k - 12)) num puts_i.sizes (omega (arith, x_range.1, puts_i.count, takes.takes.parts.count)) (omega arith) numbered
 
   leaves_i : Leaves g old mid (λ c. c ≡ b) (λ p. (p ≡ b) ⊎ (p ≡ x))
   leaves_i = Leaves-put g old m2 mid (λ c. c ≡ b) (λ p. p ≡ b) (λ p. (p ≡ b) ⊎ (p ≡ x)) x (splice (4 * (k - 12)) num (block_at m2 x))
@@ -368,9 +337,6 @@ module _ {g : Geometry} {old m1 m2 mid : List (List ℕ)} {n : ℕ} {inode : Dis
   asks_apart : (j : ℕ) → Asks inode.size j → j ≢ k
   asks_apart j a = elim a [ inl h ↦ omega arith | inr h ↦ let e = h.0 in omega arith ]
 
-  asks_more : (j : ℕ) → Asks inode.size j → Asks (inode.size + length bytes) j
-  asks_more j a = elim a [ inl h ↦ inl (omega arith) | inr h ↦ let z = h.1 in inr (h.0, omega arith) ]
-
   kept_i : (j : ℕ) → IsUsed old g.inodes n j → slot_in mid grown j ≡ slot_of old n j
   kept_i j u = others_i j (used_within g old held.sound n j u) (asks_apart j (own_asks held j u)) ∙ sym (own_slot held j)
 
@@ -388,7 +354,7 @@ module _ {g : Geometry} {old m1 m2 mid : List (List ℕ)} {n : ℕ} {inode : Dis
 
   spare_i : (j : ℕ) → IsSpare (inode.size + length bytes) j → slot_in mid grown j ≡ 0
   spare_i j s = others_i j s.within (λ e. s.unasked (inl (omega arith)))
-      ∙ own_spare held j (record { within = s.within; unasked = λ a. s.unasked (asks_more j a); index = λ h l. omega arith })
+      ∙ own_spare held j (record { within = s.within; unasked = λ a. s.unasked (asks_more inode.size (inode.size + length bytes) j (omega arith) a); index = λ h l. omega arith })
 
   grows_i : Grows g old mid n grown
   grows_i = Grows-step held mid grown (λ c. c ≡ b) (λ p. (p ≡ b) ⊎ (p ≡ x)) leaves_i
@@ -402,11 +368,11 @@ module _ {g : Geometry} {old m1 m2 mid : List (List ℕ)} {n : ℕ} {inode : Dis
     holds = HoldsBytes-append held mid grown kept_i b bytes (block_at m1 b) whole room refl here_i
         (puts_x.rest b (λ e. x_apart (sym e)) ∙ puts_i.here)
         (λ j l u. leaves_i.rest (slot_of old n j) (held.sound.in_range n j u).0 (λ t. elim t [
-          | inl e ↦ used_apart held j b u free_i e
+          | inl e ↦ used_apart held n j b u free_i e
           | inr e ↦ let met : j ≡ 268 = (held.sound.once n j n 268 u last_used (e ∙ sym x_is)).1 in omega arith
         ]));
     same = own_node held grown refl refl refl refl;
-    fits = record { kind = fits.kind; major = fits.major; minor = fits.minor; links = fits.links; size = omega arith; addresses = fits.addresses; places = fits.places };
+    fits = Fits-size fits short;
     balance =
         let f : free_blocks g m2 ≡ free_blocks g m1 = free_put g m1 m2 b (splice 0 bytes (block_at m1 b)) puts_i takes.lowest.free.low in
         let h : free_blocks g mid ≡ free_blocks g m2 = free_put g m2 mid x (splice (4 * (k - 12)) num (block_at m2 x)) puts_x x_range.0 in

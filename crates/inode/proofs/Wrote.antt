@@ -1,7 +1,7 @@
 -- Writes that follow one another, and the record that ends a step.
-use Rattle.std.specs.Prelude.{◌≡◌, ℕ, ◌+◌, ◌*◌, ◌/◌, ◌%◌, ◌<◌, List, [], length, get_or, Option, None, Some, zero, suc, ◌∷◌}
+use Rattle.std.specs.Prelude.{◌≡◌, ℕ, ◌+◌, ◌*◌, ◌/◌, ◌%◌, ◌<◌, List, length, get_or, None, Some}
 use Rattle.std.proofs.Common.{set, ap, sym, ◌∙◌, arith, refl, subst}
-use Rattle.std.proofs.lemmas.List.{set-get_or}
+use Rattle.std.proofs.lemmas.List.{set-get_or, set-set}
 use Rattle.blockdev.specs.Splice.{part}
 use Rattle.layout.specs.Super.{bitmap_start_of}
 use Rattle.layout.specs.declared.DiskInode.{DiskInode}
@@ -15,18 +15,13 @@ use Rattle.layout.proofs.GrowLemmas.{Grows-bytes, Grows-keeps, Grows-node, Grows
 use Rattle.balloc.proofs.Counting.{free_blocks-same}
 use Rattle.inode.specs.Writing.{IsSameNode, Prepares, Wrote}
 
-set-set : (xs : List (Option RawNode)) (i : ℕ) (a b : Option RawNode) → set (set xs i a) i b ≡ set xs i b
-set-set [] i a b = refl
-set-set (x ∷ xs) zero a b = refl
-set-set (x ∷ xs) (suc i) a b = ap (λ l. x ∷ l) (set-set xs i a b)
-
 -- the same node has the same fields
-same_node : {k k' a a' i i' l l' : ℕ} (bytes : List ℕ) → k ≡ k' → a ≡ a' → i ≡ i' → l ≡ l'
-    → ◌≡◌ {A = RawNode} (record { kind = k; major = a; minor = i; links = l; bytes = bytes }) (record { kind = k'; major = a'; minor = i'; links = l'; bytes = bytes })
-same_node bytes p q r t = λ i. record { kind = p i; major = q i; minor = r i; links = t i; bytes = bytes }
+pub same_node : {k k' a a' i i' l l' : ℕ} {b b' : List ℕ} → k ≡ k' → a ≡ a' → i ≡ i' → l ≡ l' → b ≡ b'
+    → ◌≡◌ {A = RawNode} (record { kind = k; major = a; minor = i; links = l; bytes = b }) (record { kind = k'; major = a'; minor = i'; links = l'; bytes = b' })
+same_node p q r t u = λ i. record { kind = p i; major = q i; minor = r i; links = t i; bytes = u i }
 
 pub node_with-same : (old new : DiskInode) (bytes : List ℕ) → IsSameNode old new → node_with new bytes ≡ node_with old bytes
-node_with-same old new bytes same = same_node bytes same.kind same.major same.minor same.links
+node_with-same old new bytes same = same_node same.kind same.major same.minor same.links refl
 
 pub IsSameNode-trans : (a b c : DiskInode) → IsSameNode a b → IsSameNode b c → IsSameNode a c
 IsSameNode-trans a b c p q = record { kind = q.kind ∙ p.kind; major = q.major ∙ p.major; minor = q.minor ∙ p.minor; links = q.links ∙ p.links }

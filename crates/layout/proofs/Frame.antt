@@ -11,7 +11,8 @@ use Rattle.layout.specs.declared.DiskInode.{DiskInode}
 use Rattle.layout.specs.declared.Geometry.{Geometry}
 use Rattle.layout.specs.Image.{IsInode, IsSpare, IsUsed, RawNode, bit_of, byte_of, bytes_of, inode_at, node_at, node_with, nodes_of, slot_in, slot_of}
 use Rattle.layout.specs.Sound.{IsNamed, IsSound, TellsGeometry}
-use Rattle.layout.proofs.Slots.{IsInode-same, IsSpare-same, IsUsed-same, slot_in-same, slot_of-last, used_at, used_last, used_within}
+use Rattle.layout.proofs.Puts.{HasParts-kept}
+use Rattle.layout.proofs.Slots.{IsInode-same, IsSpare-size, IsUsed-same, slot_in-same, slot_of-last, used_at, used_last, used_within}
 
 -- ---- lists made by place
 
@@ -152,14 +153,7 @@ module _ (g : Geometry) (old new : List (List ℕ)) (n : ℕ) (sound : IsSound g
 
   pub IsSound-replace : IsSoundAt → IsSound g new
   IsSound-replace own = record {
-    parts = record {
-      count = keeps.count ∙ sound.parts.count;
-      sizes = keeps.sizes;
-      size_high = sound.parts.size_high;
-      inodes_low = sound.parts.inodes_low;
-      inodes_high = sound.parts.inodes_high;
-      room = sound.parts.room;
-    };
+    parts = HasParts-kept sound.parts keeps.count keeps.sizes;
     head = subst (TellsGeometry g) (sym keeps.head) sound.head;
     kinds = λ m l h. elim (cases_eq m n) [
       | inl here ↦ subst (λ q. (inode_at new q).kind ≤ 3) (sym here) own.kind
@@ -198,7 +192,7 @@ module _ (g : Geometry) (old new : List (List ℕ)) (n : ℕ) (sound : IsSound g
       | inr apart ↦
           let same : inode_at new m ≡ inode_at old m = keeps.inodes m i.high apart in
           let before : IsInode old g.inodes m = IsInode-same old new g.inodes m same i in
-          let empty : IsSpare (inode_at old m).size j = IsSpare-same old new m j same s in
+          let empty : IsSpare (inode_at old m).size j = IsSpare-size (ap (λ (k : DiskInode). k.size) same) s in
           spares_stay m j apart before empty ∙ sound.spare m j before empty
     ];
     marked = λ b h. (

@@ -2,10 +2,10 @@
 use Rattle.std.specs.Prelude.{◌≡◌, ◌≢◌, ℕ, ◌+◌, ◌*◌, ◌/◌, ◌%◌, ◌<◌, ◌≤◌, ◌⊎◌, List, [], length, get_or, Some}
 use Rattle.std.proofs.Common.{set, ap, sym, ◌∙◌, arith, inl, inr, refl, subst}
 use Rattle.std.proofs.lemmas.Bool.{cases_eq, cases_lt}
-use Rattle.std.proofs.lemmas.List.{append-nil, get_or-set_other, get_or-set_same, length-set, ext_get_or}
+use Rattle.std.proofs.lemmas.List.{append-nil, ext_get_or}
 use Rattle.blockdev.specs.Blocks.{block_at}
 use Rattle.blockdev.specs.Splice.{part, splice}
-use Rattle.blockdev.proofs.SpliceLemmas.{length-splice, part-splice_apart, part-splice_same}
+use Rattle.blockdev.proofs.SpliceLemmas.{part-splice_apart, part-splice_same}
 use Rattle.layout.specs.Inode.{Fits, inode_bytes, inode_of}
 use Rattle.layout.proofs.ReadsBack.{inode_of-inode_bytes}
 use Rattle.layout.specs.Super.{bitmap_start_of, data_start_of}
@@ -13,7 +13,8 @@ use Rattle.layout.specs.declared.DiskInode.{DiskInode}
 use Rattle.layout.specs.declared.Geometry.{Geometry}
 use Rattle.layout.specs.Image.{Asks, IsFree, IsSpare, IsUsed, bit_in, bit_of, byte_of, bytes_of, inode_at, node_at, node_with, slot_in, slot_of}
 use Rattle.layout.specs.Sound.{HasParts, IsNamed, IsSound}
-use Rattle.layout.proofs.Slots.{asks_at, asks_cases, asks_last, asks_within, slot_in-last, slot_in-same}
+use Rattle.layout.proofs.Puts.{PutsBlock-write}
+use Rattle.layout.proofs.Slots.{IsSpare-size, asks_at, asks_cases, asks_last, asks_within, slot_in-last, slot_in-same}
 use Rattle.layout.proofs.Frame.{IsSoundAt, KeepsOthers, NamedHere, get_or-bytes_of, length-bytes_of, node_at-some}
 use Rattle.layout.specs.Grow.{Grows, HoldsBytes, WritesInode}
 
@@ -21,32 +22,25 @@ pub WritesInode-write : (g : Geometry) (old new : List (List ℕ)) (n : ℕ) (in
     → new ≡ set old (2 + n / 16) (splice (64 * (n % 16)) bytes (block_at old (2 + n / 16))) → WritesInode g old new n inode
 WritesInode-write g old new n inode bytes parts high fits long spelled e =
     let within : 2 + n / 16 < length old = omega (arith, parts.count, parts.room) in
-    let whole : length (block_at old (2 + n / 16)) ≡ 1024 = parts.sizes (2 + n / 16) within in
-    let room : 64 * (n % 16) + length bytes ≤ length (block_at old (2 + n / 16)) = omega arith in
-    let size : length (splice (64 * (n % 16)) bytes (block_at old (2 + n / 16))) ≡ 1024 = length-splice (64 * (n % 16)) bytes (block_at old (2 + n / 16)) room ∙ whole in
-    let here : block_at new (2 + n / 16) ≡ splice (64 * (n % 16)) bytes (block_at old (2 + n / 16)) = ap (λ x. block_at x (2 + n / 16)) e ∙ get_or-set_same old (2 + n / 16) (splice (64 * (n % 16)) bytes (block_at old (2 + n / 16))) [] within in
-    let elsewhere : (k : ℕ) → k ≢ 2 + n / 16 → block_at new k ≡ block_at old k = λ k h. ap (λ x. block_at x k) e ∙ get_or-set_other old (2 + n / 16) k (splice (64 * (n % 16)) bytes (block_at old (2 + n / 16))) [] h in
-    let count : length new ≡ length old = ap length e ∙ length-set old (2 + n / 16) (splice (64 * (n % 16)) bytes (block_at old (2 + n / 16))) in
+    let room : 64 * (n % 16) + length bytes ≤ length (block_at old (2 + n / 16)) = omega (arith, parts.sizes (2 + n / 16) within) in
+    let puts = PutsBlock-write old new (2 + n / 16) (64 * (n % 16)) bytes parts.sizes within (omega arith) e in
     record {
-      count = count;
-      sizes = λ k h. elim (cases_eq k (2 + n / 16)) [
-        | inl met ↦ ap (λ q. length (block_at new q)) met ∙ ap length here ∙ size
-        | inr other ↦ ap length (elsewhere k other) ∙ parts.sizes k (omega arith)
-      ];
-      here = ap (λ b. inode_of (part (64 * (n % 16)) 64 b)) here
+      count = puts.count;
+      sizes = puts.sizes;
+      here = ap (λ b. inode_of (part (64 * (n % 16)) 64 b)) puts.here
           ∙ ap inode_of (part-splice_same (64 * (n % 16)) 64 bytes (block_at old (2 + n / 16)) (sym long) room ∙ spelled ∙ sym (append-nil (inode_bytes inode)))
           ∙ inode_of-inode_bytes inode [] fits;
       others = λ m apart. elim (cases_eq (m / 16) (n / 16)) [
         | inl met ↦
             let place : 2 + m / 16 ≡ 2 + n / 16 = omega arith in
             ap (λ q. inode_of (part (64 * (m % 16)) 64 (block_at new q))) place
-            ∙ ap (λ b. inode_of (part (64 * (m % 16)) 64 b)) here
+            ∙ ap (λ b. inode_of (part (64 * (m % 16)) 64 b)) puts.here
             ∙ ap inode_of (part-splice_apart (64 * (m % 16)) 64 (64 * (n % 16)) bytes (block_at old (2 + n / 16)) room (omega arith)
             (elim (cases_lt (m % 16) (n % 16)) [ inl below ↦ inl (omega arith) | inr above ↦ inr (omega arith) ]))
             ∙ sym (ap (λ q. inode_of (part (64 * (m % 16)) 64 (block_at old q))) place)
-        | inr other ↦ ap (λ b. inode_of (part (64 * (m % 16)) 64 b)) (elsewhere (2 + m / 16) (omega arith))
+        | inr other ↦ ap (λ b. inode_of (part (64 * (m % 16)) 64 b)) (puts.rest (2 + m / 16) (omega arith))
       ];
-      rest = elsewhere;
+      rest = puts.rest;
     }
 
 pub used_cases : (blocks : List (List ℕ)) (inodes n j : ℕ) → 1 ≤ n → n < inodes → IsUsed blocks inodes n j ⊎ (IsUsed blocks inodes n j → ⊥)
@@ -91,15 +85,13 @@ module _ (g : Geometry) (old mid new : List (List ℕ)) (n : ℕ) (inode : DiskI
   size_is = ap (λ (i : DiskInode). i.size) writes.here
 
   asked : (j : ℕ) → IsUsed new g.inodes n j → Asks inode.size j
-  asked j u = let e : (inode_at new n).size ≡ inode.size = size_is in elim u.slot [ inl h ↦ inl (omega arith) | inr h ↦ let k = h.1 in inr (h.0, omega arith) ]
+  asked j u = subst (λ s. Asks s j) size_is u.slot
 
   asking : (j : ℕ) → Asks inode.size j → IsUsed new g.inodes n j
-  asking j a =
-      let e : (inode_at new n).size ≡ inode.size = size_is in
-      record {
-        inode = record { low = low; high = high; kind = λ z. grows.used j a (sym (ap (λ (i : DiskInode). i.kind) writes.here) ∙ z) };
-        slot = elim a [ inl h ↦ inl (omega arith) | inr h ↦ let k = h.1 in inr (h.0, omega arith) ];
-      }
+  asking j a = record {
+    inode = record { low = low; high = high; kind = λ z. grows.used j a (sym (ap (λ (i : DiskInode). i.kind) writes.here) ∙ z) };
+    slot = subst (λ s. Asks s j) (sym size_is) a;
+  }
 
   asked_slot : (j : ℕ) → Asks inode.size j → slot_of new n j ≡ slot_in mid inode j
   asked_slot j a = slot_is j (asks_within inode.size j grows.fits a) (λ h l. asks_last inode.size j a h)
@@ -137,12 +129,7 @@ module _ (g : Geometry) (old mid new : List (List ℕ)) (n : ℕ) (inode : DiskI
           | inr a ↦ unnamed (slot_in mid inode j) (grows.fresh j (asked j u, a)) (m, i, v, f ∙ sym e ∙ asked_slot j (asked j u))
         ];
     spare = λ j i s.
-        let e : (inode_at new n).size ≡ inode.size = size_is in
-        let t : IsSpare inode.size j = record {
-          within = s.within;
-          unasked = λ a. s.unasked (asking j a).slot;
-          index = λ h l. let k = s.index h l in omega arith;
-        } in
+        let t : IsSpare inode.size j = IsSpare-size size_is s in
         slot_is j s.within (λ h l. inr (refl, t.index h l)) ∙ grows.spare j t;
     marked = λ b h. (
       (λ one. elim ((grows.bits b h).0 (sym (bit_same b h) ∙ one)) [

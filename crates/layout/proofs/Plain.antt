@@ -1,16 +1,23 @@
 -- The record of an inode is written while no block changes: one without blocks, or one that keeps its blocks.
-use Rattle.std.specs.Prelude.{◌≡◌, ◌≢◌, ℕ, ◌-◌, ◌/◌, ◌%◌, ◌<◌, ◌≤◌, List, [], get_or}
-use Rattle.std.proofs.Common.{ap, sym, ◌∙◌, arith, inl, inr, refl}
+use Rattle.std.specs.Prelude.{◌≡◌, ◌≢◌, ℕ, ◌/◌, ◌%◌, ◌≤◌, List, [], get_or}
+use Rattle.std.proofs.Common.{ap, sym, ◌∙◌, arith, inl, inr, refl, replicate, subst}
 use Rattle.std.proofs.lemmas.Bool.{cases_lt}
+use Rattle.std.proofs.lemmas.List.{get_or-replicate, get_or_past, length-replicate}
 use Rattle.blockdev.specs.Blocks.{block_at}
 use Rattle.layout.specs.declared.DiskInode.{DiskInode}
 use Rattle.layout.specs.declared.Geometry.{Geometry}
 use Rattle.layout.specs.Image.{Asks, IsInode, IsSpare, IsUsed, byte_of, bytes_of, inode_at, slot_in, slot_of}
 use Rattle.layout.specs.Sound.{IsSound}
-use Rattle.layout.specs.Numbers.{number_at}
-use Rattle.layout.proofs.Slots.{asks_at, slot_in-direct, slot_in-indirect, slot_in-last, used_within}
+use Rattle.layout.proofs.Slots.{IsSpare-size, slot_in-direct, slot_in-last}
 use Rattle.layout.proofs.Frame.{get_or-bytes_of, length-bytes_of}
 use Rattle.layout.specs.Grow.{Grows, HoldsBytes}
+
+-- numbers that are 0, and past them
+pub zero_at : (n k : ℕ) → ◌≡◌ {A = ℕ} (get_or (replicate n 0) k 0) 0
+zero_at n k = elim (cases_lt k n) [
+  | inl h ↦ get_or-replicate n k 0 0 h
+  | inr h ↦ get_or_past (replicate {A = ℕ} n 0) k 0 (omega (arith, length-replicate {A = ℕ} n 0))
+]
 
 -- a size of 0 asks for nothing
 pub asks_none : (size j : ℕ) → size ≡ 0 → Asks size j → ⊥
@@ -50,21 +57,15 @@ HoldsBytes-empty mid inode e = record { size = sym e; bytes_are = λ i h. absurd
 -- ---- the same blocks
 
 module _ (g : Geometry) (old : List (List ℕ)) (n : ℕ) (inode : DiskInode) (sound : IsSound g old) (used : IsInode old g.inodes n) (size : inode.size ≡ (inode_at old n).size) (addresses : inode.addresses ≡ (inode_at old n).addresses) where
-  slot_same : (j : ℕ) → j < 269 → slot_in old inode j ≡ slot_of old n j
+  slot_same : (j : ℕ) → slot_in old inode j ≡ slot_of old n j
   unfolding slot_of
-  slot_same j h = elim (cases_lt j 12) [
-    | inl low ↦ slot_in-direct old inode j low ∙ ap (λ l. get_or l j 0) addresses ∙ sym (slot_in-direct old (inode_at old n) j low)
-    | inr high ↦ elim (cases_lt j 268) [
-      | inl mid ↦ slot_in-indirect old inode j high mid ∙ ap (λ l. number_at (block_at old (get_or l 12 0)) (j - 12)) addresses ∙ sym (slot_in-indirect old (inode_at old n) j high mid)
-      | inr last ↦ let e : j ≡ 268 = omega arith in slot_in-last old inode j e ∙ ap (λ l. get_or l 12 0) addresses ∙ sym (slot_in-last old (inode_at old n) j e)
-    ]
-  ]
+  slot_same j = ap (λ l. slot_in old (record inode { addresses = l }) j) addresses
 
   asks_old : (j : ℕ) → Asks inode.size j → IsUsed old g.inodes n j
-  asks_old j a = let e : inode.size ≡ (inode_at old n).size = size in record { inode = used; slot = elim a [ inl h ↦ inl (omega arith) | inr h ↦ let k = h.1 in inr (h.0, omega arith) ] }
+  asks_old j a = record { inode = used; slot = subst (λ s. Asks s j) size a }
 
   asks_new : (j : ℕ) → IsUsed old g.inodes n j → Asks inode.size j
-  asks_new j u = let e : inode.size ≡ (inode_at old n).size = size in elim u.slot [ inl h ↦ inl (omega arith) | inr h ↦ let k = h.1 in inr (h.0, omega arith) ]
+  asks_new j u = subst (λ s. Asks s j) (sym size) u.slot
 
   pub Grows-same : inode.kind ≤ 3 → inode.kind ≢ 0 → Grows g old old n inode
   Grows-same kind taken =
@@ -79,12 +80,10 @@ module _ (g : Geometry) (old : List (List ℕ)) (n : ℕ) (inode : DiskInode) (s
         used = λ j a. taken;
         fits = omega arith;
         asks = asks_new;
-        kept = λ j u. slot_same j (used_within g old sound n j u);
+        kept = λ j u. slot_same j;
         fresh = λ j f. absurd (f.1 (asks_old j f.0));
         once = λ i j f f2 e. absurd (f.1 (asks_old i f.0));
-        spare = λ j s.
-            let t : IsSpare (inode_at old n).size j = record { within = s.within; unasked = λ a. s.unasked (asks_new j (record { inode = used; slot = a })); index = λ h l. let k = s.index h l in omega arith } in
-            slot_same j s.within ∙ sound.spare n j used t;
+        spare = λ j s. slot_same j ∙ sound.spare n j used (IsSpare-size size s);
         bits = λ b h. ((λ one. inl one), (λ why. elim why [ inl one ↦ one | inr (j, f, e) ↦ absurd (f.1 (asks_old j f.0)) ]));
       }
 
@@ -95,7 +94,5 @@ module _ (g : Geometry) (old : List (List ℕ)) (n : ℕ) (inode : DiskInode) (s
       record {
         size = length-bytes_of old n ∙ sym e;
         bytes_are = λ i h.
-            let u : IsUsed old g.inodes n (i / 1024) = asks_old (i / 1024) (asks_at inode.size i h) in
-            ap (λ q. get_or (block_at old q) (i % 1024) 0) (slot_same (i / 1024) (used_within g old sound n (i / 1024) u))
-            ∙ sym (get_or-bytes_of old n i (omega arith));
+            ap (λ q. get_or (block_at old q) (i % 1024) 0) (slot_same (i / 1024)) ∙ sym (get_or-bytes_of old n i (omega arith));
       }

@@ -1,6 +1,6 @@
 -- Slots: which there are, and what leaves them as they are.
 use Rattle.std.specs.Prelude.{◌≡◌, ℕ, ◌-◌, ◌/◌, ◌<◌, ◌≤◌, ◌⊎◌, List, get_or}
-use Rattle.std.proofs.Common.{ap, sym, ◌∙◌, arith, inl, inr, refl}
+use Rattle.std.proofs.Common.{ap, sym, ◌∙◌, arith, inl, inr, refl, subst}
 use Rattle.std.proofs.lemmas.Bool.{cases_lt, cases_eq}
 use Rattle.std.proofs.lemmas.Bool.Decides.{nat_tests}
 use Rattle.blockdev.specs.Blocks.{block_at}
@@ -59,22 +59,12 @@ asks_at size j h = inl (omega arith)
 pub IsInode-same : (old new : List (List ℕ)) (inodes m : ℕ) → inode_at new m ≡ inode_at old m → IsInode new inodes m → IsInode old inodes m
 IsInode-same old new inodes m e used = record { low = used.low; high = used.high; kind = λ z. used.kind (ap (λ (i : DiskInode). i.kind) e ∙ z) }
 
-pub Asks-same : (old new : List (List ℕ)) (m j : ℕ) → inode_at new m ≡ inode_at old m → Asks (inode_at new m).size j → Asks (inode_at old m).size j
-Asks-same old new m j e a =
-    let size : (inode_at new m).size ≡ (inode_at old m).size = ap (λ (i : DiskInode). i.size) e in
-    elim a [ inl h ↦ inl (omega arith) | inr h ↦ let k = h.1 in inr (h.0, omega arith) ]
-
 pub IsUsed-same : (old new : List (List ℕ)) (inodes m j : ℕ) → inode_at new m ≡ inode_at old m → IsUsed new inodes m j → IsUsed old inodes m j
-IsUsed-same old new inodes m j e used = record { inode = IsInode-same old new inodes m e used.inode; slot = Asks-same old new m j e used.slot }
+IsUsed-same old new inodes m j e used = record { inode = IsInode-same old new inodes m e used.inode; slot = subst (λ (i : DiskInode). Asks i.size j) e used.slot }
 
-pub IsSpare-same : (old new : List (List ℕ)) (m j : ℕ) → inode_at new m ≡ inode_at old m → IsSpare (inode_at new m).size j → IsSpare (inode_at old m).size j
-IsSpare-same old new m j e spare =
-    let size : (inode_at new m).size ≡ (inode_at old m).size = ap (λ (i : DiskInode). i.size) e in
-    record {
-      within = spare.within;
-      unasked = λ a. spare.unasked (Asks-same new old m j (sym e) a);
-      index = λ h l. let i = spare.index h l in omega arith;
-    }
+-- and what is spare by its size
+pub IsSpare-size : {size next j : ℕ} → size ≡ next → IsSpare size j → IsSpare next j
+IsSpare-size {j = j} e spare = subst (λ s. IsSpare s j) e spare
 
 pub used_last : (blocks : List (List ℕ)) (inodes m j : ℕ) → IsUsed blocks inodes m j → 12 ≤ j → IsUsed blocks inodes m 268
 used_last blocks inodes m j used h = record { inode = used.inode; slot = asks_last (inode_at blocks m).size j used.slot h }

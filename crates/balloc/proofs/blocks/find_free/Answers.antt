@@ -21,11 +21,16 @@ overflow_add-result g c =
     let inside : c.in-Some.i < c.min-end.result - c.scan.b / 8192 * 8192 = at.1 in
     record { fits = omega (arith, c.min-end.ensures, c.requires.parts.size_high) }
 
-pub returns-in-Some-clause-found : goal.returns-in-Some-clause-found
-returns-in-Some-clause-found g c =
-    first_here c.args.geometry c.args.disk.now.blocks c.in_ok-block.block c.scan.b c.bitmap_start-start.ensures (c.in_ok-block.ensures.bytes ∙ ap (λ d. block_at d (c.bitmap_start-start.result + c.scan.b / 8192)) c.scan.invariant.disk)
-    c.args.from c.scan.invariant.set_so_far (c.min-end.result - c.scan.b / 8192 * 8192) (omega (arith, c.min-end.ensures, c.scan-test.true)) (omega (arith, c.min-end.ensures)) c.requires.from c.scan.invariant.from
-    (omega (arith, c.min-end.ensures, c.scan-test.true)) c.in-Some.i (sym c.in-Some.ensures)
+pub returns-in-Some : goal.returns-in-Some
+returns-in-Some g c = record {
+  found =
+      first_here c.args.geometry c.args.disk.now.blocks c.in_ok-block.block c.scan.b c.bitmap_start-start.ensures (c.in_ok-block.ensures.bytes ∙ ap (λ d. block_at d (c.bitmap_start-start.result + c.scan.b / 8192)) c.scan.invariant.disk)
+      c.args.from c.scan.invariant.set_so_far (c.min-end.result - c.scan.b / 8192 * 8192) (omega (arith, c.min-end.ensures, c.scan-test.true)) (omega (arith, c.min-end.ensures)) c.requires.from c.scan.invariant.from
+      (omega (arith, c.min-end.ensures, c.scan-test.true)) c.in-Some.i (sym c.in-Some.ensures);
+  same = c.in_ok-block.ensures.same ∙ c.scan.invariant.disk;
+  refuses =
+      Refuses-done c.args.disk.now c.read.new.self (c.read.ensures.count ∙ ap length c.scan.invariant.disk) (omega (arith, c.scan.invariant.failures, c.read.ensures.cause.later));
+}
 
 pub scan-preserved : goal.scan-preserved
 scan-preserved g c = record {
@@ -37,13 +42,6 @@ scan-preserved g c = record {
       c.args.from c.scan.invariant.set_so_far (c.min-end.result - c.scan.b / 8192 * 8192) (omega (arith, c.min-end.ensures, c.scan-test.true)) (omega (arith, c.min-end.ensures)) (sym c.first_clear.ensures ∙ c.in_default.is) k low
       (omega (arith, high, c.min-end.ensures, c.scan-test.true));
 }
-
-pub returns-in-Some-clause-same : goal.returns-in-Some-clause-same
-returns-in-Some-clause-same g c = c.in_ok-block.ensures.same ∙ c.scan.invariant.disk
-
-pub returns-in-Some-clause-refuses : goal.returns-in-Some-clause-refuses
-returns-in-Some-clause-refuses g c =
-    Refuses-done c.args.disk.now c.read.new.self (c.read.ensures.count ∙ ap length c.scan.invariant.disk) (omega (arith, c.scan.invariant.failures, c.read.ensures.cause.later))
 
 pub returns : goal.returns
 returns g c = record {

@@ -3,8 +3,10 @@ use Rattle.std.proofs.lemmas.Result.{err_from_is_err_and, on_ok_weaker}
 use Rattle.layout.specs.Image.{blocks_for}
 use Rattle.inode.specs.Held.{HasInode-of}
 use Rattle.inode.proofs.FreeingLemmas.{Freed-none}
-use Rattle.inode.proofs.Causes.{HasCause-after, HasCause-good, HasCause-told}
-use Rattle.inode.proofs.Emptying.{freed_all, freed_few, here_end, here_first, here_freed, here_low, here_numbers, here_taken, last_end, last_first, last_taken}
+use Rattle.balloc.proofs.Exits.{HasCause-after, HasCause-failed}
+use Rattle.inode.proofs.Causes.{HasCause-good}
+use Rattle.inode.proofs.Emptying.{freed_all, freed_few, here_end, here_first, here_freed, here_numbers, here_taken, last_end, last_first, last_taken}
+use Rattle.inode.proofs.Reading.{slot_low}
 use Rattle.inode.proofs.empty.give_blocks.Goals as goal
 
 pub block-init : goal.block-init
@@ -21,7 +23,7 @@ pub block_number-requires : goal.block_number-requires
 block_number-requires g c =
     let below : c.block.index < blocks_for c.args.inode.now.size = omega (arith, c.block-test.true, c.div_ceil-count.ensures) in
     record {
-      slot = here_low (HasInode-of c.requires) c.block.invariant.freed below;
+      slot = slot_low (HasInode-of c.requires) refl c.block.index below;
       sizes = c.block.invariant.freed.parts.sizes;
       numbers = here_numbers (HasInode-of c.requires) c.block.invariant.freed below;
     }
@@ -30,7 +32,7 @@ pub returns-in_err-b : goal.returns-in_err-b
 returns-in_err-b g c = record {
   freed = rw (err_from_is_err_and c.from_residual.result c.from_residual.ensures.1).1 tt;
   count = c.block_number.ensures.count ∙ c.block.invariant.count;
-  cause = HasCause-told c.block.invariant.failures c.block_number.ensures.cause c.in_err-b.was;
+  cause = HasCause-failed c.block.invariant.failures c.block_number.ensures.cause c.in_err-b.was;
 }
 
 pub give_block-requires : goal.give_block-requires
@@ -47,7 +49,7 @@ pub returns-in_err-give_block : goal.returns-in_err-give_block
 returns-in_err-give_block g c = record {
   freed = rw (err_from_is_err_and c.from_residual-in_err-give_block.result c.from_residual-in_err-give_block.ensures.1).1 tt;
   count = c.give_block.ensures.count ∙ c.block_number.ensures.count ∙ c.block.invariant.count;
-  cause = HasCause-told (omega (arith, c.block.invariant.failures, c.block_number.ensures.cause.later)) c.give_block.ensures.cause c.in_err-give_block.was;
+  cause = HasCause-failed (omega (arith, c.block.invariant.failures, c.block_number.ensures.cause.later)) c.give_block.ensures.cause c.in_err-give_block.was;
 }
 
 pub block-preserved : goal.block-preserved

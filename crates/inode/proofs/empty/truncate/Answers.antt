@@ -1,7 +1,9 @@
 use Rattle.std.proofs.Common.{◌∙◌, arith}
 use Rattle.std.proofs.lemmas.Result.{err_from_is_err_and, on_ok_weaker}
-use Rattle.inode.proofs.Causes.{HasCause-after, HasCause-first, HasCause-told}
-use Rattle.inode.proofs.Emptying.{Fits-empty, Wrote-empty}
+use Rattle.balloc.proofs.Exits.{HasCause-after, HasCause-failed}
+use Rattle.inode.proofs.Causes.{HasCause-first}
+use Rattle.balloc.proofs.Records.{fresh_fits}
+use Rattle.inode.proofs.Emptying.{Wrote-empty}
 use Rattle.inode.proofs.Reading.{HasInode-read, IsInHand-read}
 use Rattle.inode.proofs.empty.truncate.Goals as goal
 
@@ -22,14 +24,15 @@ pub returns-in_err-give_blocks : goal.returns-in_err-give_blocks
 returns-in_err-give_blocks g c = record {
   wrote = rw (err_from_is_err_and c.from_residual-in_err-give_blocks.result c.from_residual-in_err-give_blocks.ensures.1).1 tt;
   count = c.give_blocks.ensures.count ∙ c.read_inode.ensures.count;
-  cause = HasCause-told c.read_inode.ensures.cause.later c.give_blocks.ensures.cause c.in_err-give_blocks.was;
+  cause = HasCause-failed c.read_inode.ensures.cause.later c.give_blocks.ensures.cause c.in_err-give_blocks.was;
 }
 
 pub write_inode-requires : goal.write_inode-requires
 write_inode-requires g c = record {
   parts = c.in_ok-give_blocks.ensures.freed.parts;
   high = c.requires.inode.high;
-  fits = Fits-empty c.in_ok-inode.inode c.in_ok-inode.ensures.fits;
+  fits = fresh_fits c.in_ok-inode.inode.kind c.in_ok-inode.inode.major c.in_ok-inode.inode.minor c.in_ok-inode.inode.links
+      c.in_ok-inode.ensures.fits.kind c.in_ok-inode.ensures.fits.major c.in_ok-inode.ensures.fits.minor c.in_ok-inode.ensures.fits.links;
 }
 
 pub returns : goal.returns

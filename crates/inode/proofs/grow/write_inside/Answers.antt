@@ -2,7 +2,8 @@ use Rattle.std.proofs.Common.{◌/◌, ◌∙◌, arith, subst, refl, le_of_lt}
 use Rattle.std.proofs.lemmas.Result.{err_from_is_err_and, on_ok_weaker}
 use Rattle.layout.specs.Grow.{WritesInode}
 use Rattle.inode.specs.Held.{HasInode-of}
-use Rattle.inode.proofs.Causes.{HasCause-after, HasCause-first, HasCause-good, HasCause-told}
+use Rattle.balloc.proofs.Exits.{HasCause-after, HasCause-failed}
+use Rattle.inode.proofs.Causes.{HasCause-first, HasCause-good}
 use Rattle.inode.proofs.Filling.{inside_fits, inside_kept, inside_longer, inside_parts}
 use Rattle.inode.proofs.Growing.{own_fits}
 use Rattle.inode.proofs.Reading.{numbers_in_disk, slot_in_disk, slot_low}
@@ -31,7 +32,7 @@ pub returns-in_err-write : goal.returns-in_err-write
 returns-in_err-write g c = record {
   wrote = rw (err_from_is_err_and c.from_residual-in_err-write.result c.from_residual-in_err-write.ensures.1).1 tt;
   count = c.write.ensures.count ∙ c.block_number.ensures.count;
-  cause = HasCause-told c.block_number.ensures.cause.later c.write.ensures.cause c.in_err-write.was;
+  cause = HasCause-failed c.block_number.ensures.cause.later c.write.ensures.cause c.in_err-write.was;
 }
 
 pub overflow_add-end : goal.overflow_add-end

@@ -1,7 +1,8 @@
 use Rattle.std.proofs.Common.{◌+◌, ◌/◌, ◌∙◌, ap, arith, length, refl}
 use Rattle.std.proofs.lemmas.Result.{err_from_is_err_and}
 use Rattle.blockdev.specs.Blocks.{block_at}
-use Rattle.inode.proofs.Causes.{HasCause-first, HasCause-good, HasCause-told}
+use Rattle.balloc.proofs.Exits.{HasCause-failed}
+use Rattle.inode.proofs.Causes.{HasCause-first, HasCause-good}
 use Rattle.inode.proofs.Reading.{HasInode-read, HasRead-chunk, HasRead-end, chunk_below, chunk_within, count_of, numbers_in_disk, slot_block, slot_in_disk, slot_low}
 use Rattle.inode.proofs.read.read_at.Goals as goal
 
@@ -47,7 +48,7 @@ returns-in_err-source g c =
       read = rw told tt;
       same = rw told tt;
       blocks = c.block_number.ensures.count ∙ ap length c.chunk.invariant.disk;
-      cause = HasCause-told c.chunk.invariant.failures c.block_number.ensures.cause c.in_err-source.was;
+      cause = HasCause-failed c.chunk.invariant.failures c.block_number.ensures.cause c.in_err-source.was;
     }
 
 pub read_part-requires : goal.read_part-requires
@@ -64,7 +65,7 @@ returns-in_err-read_part g c =
       read = rw told tt;
       same = rw told tt;
       blocks = c.read_part.ensures.count ∙ c.block_number.ensures.count ∙ ap length c.chunk.invariant.disk;
-      cause = HasCause-told (omega (arith, c.chunk.invariant.failures, c.block_number.ensures.cause.later)) c.read_part.ensures.cause c.in_err-read_part.was;
+      cause = HasCause-failed (omega (arith, c.chunk.invariant.failures, c.block_number.ensures.cause.later)) c.read_part.ensures.cause c.in_err-read_part.was;
     }
 
 pub chunk-preserved : goal.chunk-preserved

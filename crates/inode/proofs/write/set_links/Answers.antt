@@ -1,6 +1,7 @@
 use Rattle.std.proofs.Common.{◌∙◌}
 use Rattle.std.proofs.lemmas.Result.{err_from_is_err_and, on_ok_weaker}
-use Rattle.inode.proofs.Causes.{HasCause-after, HasCause-first}
+use Rattle.balloc.proofs.Exits.{HasCause-after}
+use Rattle.inode.proofs.Causes.{HasCause-first}
 use Rattle.inode.proofs.Filling.{linked_free, linked_nodes, linked_sound}
 use Rattle.inode.proofs.Reading.{HasInode-read}
 use Rattle.inode.proofs.write.set_links.Goals as goal

@@ -1,10 +1,11 @@
-use Rattle.std.proofs.Common.{Ok, Err, ap, ◌∙◌, arith, refl}
+use Rattle.std.proofs.Common.{Err, ap, ◌∙◌, arith, refl}
 use Rattle.std.specs.Result.{is_err}
 use Rattle.inode.specs.declared.InodeFault.TheVariants.{Blocks, Device, PastEnd, TooLong}
 use Rattle.inode.proofs.Wrote.{IsInode-same}
-use Rattle.inode.proofs.Causes.{Rises-before, device_alone, done_alone, full_alone, past_end_alone, told_device, too_long_alone}
+use Rattle.balloc.proofs.Exits.{not_err, told_err}
+use Rattle.inode.proofs.Causes.{Rises-before, told_fault}
 use Rattle.inode.proofs.Growing.{own_fits, own_past, own_short, own_within}
-use Rattle.inode.proofs.Pieces.{IsFull-piece, IsFull-told, Wrote-all, Wrote-begin, Wrote-piece, piece_less, piece_room, piece_short, piece_some, piece_within, place_within}
+use Rattle.inode.proofs.Pieces.{IsFull-piece, Wrote-all, Wrote-begin, Wrote-piece, piece_less, piece_room, piece_short, piece_some, piece_within, place_within}
 use Rattle.inode.proofs.Reading.{HasInode-read}
 use Rattle.inode.proofs.write.write_at.Goals as goal
 
@@ -13,35 +14,16 @@ read_inode-requires g c = record { parts = c.requires.sound.parts; high = c.requ
 
 pub returns-in_err-inode : goal.returns-in_err-inode
 returns-in_err-inode g c =
-    let device = told_device c.from_residual.result c.from_residual.ensures.1 in
-    let other = device_alone c.from_residual.result device in
-    record {
-      wrote = rw device tt;
-      accepted = rw device tt;
-      past_end = λ q. absurd (other.0 q);
-      too_long = λ q. absurd (other.1 q);
-      full = λ k q. absurd (other.2 k q);
-      count = c.read_inode.ensures.count;
-      later = c.read_inode.ensures.cause.later;
-      failed = λ _. c.read_inode.ensures.cause.failed (ap is_err c.in_err-inode.was);
-    }
+    told_fault c.args.geometry c.args.disk.now c.read_inode.new.disk c.args.number c.args.at c.args.bytes.now Device (told_err c.from_residual.result c.from_residual.ensures.1)
+    (c.read_inode.ensures.cause.failed (ap is_err c.in_err-inode.was)) c.read_inode.ensures.count c.read_inode.ensures.cause.later
 
 -- ---- refused before anything is written
 
 pub returns-then-at-inode : goal.returns-then-at-inode
 returns-then-at-inode g c =
     let held = HasInode-read c.requires.sound c.requires.inode c.in_ok-inode.ensures.inode in
-    let other = past_end_alone (Err PastEnd) refl in
-    record {
-      wrote = tt;
-      accepted = tt;
-      past_end = λ _. (own_past held c.if-at-inode.true, c.in_ok-inode.ensures.same);
-      too_long = λ q. absurd (other.0 q);
-      full = λ k q. absurd (other.1 k q);
-      count = c.read_inode.ensures.count;
-      later = c.read_inode.ensures.cause.later;
-      failed = λ q. absurd (other.2 q);
-    }
+    told_fault c.args.geometry c.args.disk.now c.read_inode.new.disk c.args.number c.args.at c.args.bytes.now PastEnd refl
+    (own_past held c.if-at-inode.true, c.in_ok-inode.ensures.same) c.read_inode.ensures.count c.read_inode.ensures.cause.later
 
 pub overflow_sub-at : goal.overflow_sub-at
 overflow_sub-at g c =
@@ -51,17 +33,8 @@ overflow_sub-at g c =
 pub returns-then-bytes-at : goal.returns-then-bytes-at
 returns-then-bytes-at g c =
     let held = HasInode-read c.requires.sound c.requires.inode c.in_ok-inode.ensures.inode in
-    let other = too_long_alone (Err TooLong) refl in
-    record {
-      wrote = tt;
-      accepted = tt;
-      past_end = λ q. absurd (other.0 q);
-      too_long = λ _. (own_within held c.if-at-inode.false, omega (arith, c.if-bytes-at.true), c.in_ok-inode.ensures.same);
-      full = λ k q. absurd (other.1 k q);
-      count = c.read_inode.ensures.count;
-      later = c.read_inode.ensures.cause.later;
-      failed = λ q. absurd (other.2 q);
-    }
+    told_fault c.args.geometry c.args.disk.now c.read_inode.new.disk c.args.number c.args.at c.args.bytes.now TooLong refl
+    (own_within held c.if-at-inode.false, omega (arith, c.if-bytes-at.true), c.in_ok-inode.ensures.same) c.read_inode.ensures.count c.read_inode.ensures.cause.later
 
 -- ---- piece by piece
 
@@ -107,35 +80,18 @@ piece-smaller g c = piece_less c.args.at c.args.bytes.now c.piece-test.true c.mi
 
 pub returns-in-Err-Device : goal.returns-in-Err-Device
 returns-in-Err-Device g c =
-    let other = device_alone (Err Device) refl in
-    record {
-      wrote = tt;
-      accepted = tt;
-      past_end = λ q. absurd (other.0 q);
-      too_long = λ q. absurd (other.1 q);
-      full = λ k q. absurd (other.2 k q);
-      count = c.write_piece.ensures.count ∙ c.piece.invariant.count;
-      later = omega (arith, c.write_piece.ensures.later, c.piece.invariant.failures);
-      failed = λ _. Rises-before c.piece.invariant.failures (c.write_piece.ensures.failed (c.in-Err-Device.is ∙ ap Err c.in-Err-Device.field-0-is));
-    }
+    told_fault c.args.geometry c.args.disk.now c.write_piece.new.disk c.args.number c.args.at c.args.bytes.now Device refl
+    (Rises-before c.piece.invariant.failures (c.write_piece.ensures.failed (c.in-Err-Device.is ∙ ap Err c.in-Err-Device.field-0-is)))
+    (c.write_piece.ensures.count ∙ c.piece.invariant.count) (omega (arith, c.write_piece.ensures.later, c.piece.invariant.failures))
 
 pub returns-in-Err-Blocks : goal.returns-in-Err-Blocks
 returns-in-Err-Blocks g c =
     let held = HasInode-read c.requires.sound c.requires.inode c.in_ok-inode.ensures.inode in
     let told = c.in-Err-Blocks.is ∙ ap Err c.in-Err-Blocks.field-0-is in
-    let full = IsFull-piece c.piece.done c.args.bytes.now (own_within held c.if-at-inode.false) c.piece.invariant.wrote c.piece-test.true
-    (own_short held c.if-at-inode.false c.if-bytes-at.false) (c.write_piece.ensures.unchanged told) (c.write_piece.ensures.few told) in
-    let other = full_alone (Err (Blocks c.piece.done)) c.piece.done refl in
-    record {
-      wrote = tt;
-      accepted = tt;
-      past_end = λ q. absurd (other.0 q);
-      too_long = λ q. absurd (other.1 q);
-      full = λ k q. IsFull-told full q;
-      count = c.write_piece.ensures.count ∙ c.piece.invariant.count;
-      later = omega (arith, c.write_piece.ensures.later, c.piece.invariant.failures);
-      failed = λ q. absurd (other.2 q);
-    }
+    told_fault c.args.geometry c.args.disk.now c.write_piece.new.disk c.args.number c.args.at c.args.bytes.now (Blocks c.piece.done) refl
+    (IsFull-piece c.piece.done c.args.bytes.now (own_within held c.if-at-inode.false) c.piece.invariant.wrote c.piece-test.true
+    (own_short held c.if-at-inode.false c.if-bytes-at.false) (c.write_piece.ensures.unchanged told) (c.write_piece.ensures.few told))
+    (c.write_piece.ensures.count ∙ c.piece.invariant.count) (omega (arith, c.write_piece.ensures.later, c.piece.invariant.failures))
 
 pub returns : goal.returns
 returns g c =
@@ -143,10 +99,10 @@ returns g c =
     record {
       wrote = Wrote-all c.piece.done c.args.bytes.now (own_within held c.if-at-inode.false) c.piece.invariant.wrote c.piece-test.false;
       accepted = (own_within held c.if-at-inode.false, own_short held c.if-at-inode.false c.if-bytes-at.false);
-      past_end = λ q. absurd (done_alone (Ok tt) tt refl PastEnd q);
-      too_long = λ q. absurd (done_alone (Ok tt) tt refl TooLong q);
-      full = λ k q. absurd (done_alone (Ok tt) tt refl (Blocks k) q);
+      past_end = λ q. absurd (not_err tt PastEnd q);
+      too_long = λ q. absurd (not_err tt TooLong q);
+      full = λ k q. absurd (not_err tt (Blocks k) q);
       count = c.piece.invariant.count;
       later = c.piece.invariant.failures;
-      failed = λ q. absurd (done_alone (Ok tt) tt refl Device q);
+      failed = λ q. absurd (not_err tt Device q);
     }

@@ -1,7 +1,8 @@
 use Rattle.std.proofs.Common.{◌∙◌, arith, sym}
+use Rattle.layout.proofs.Puts.{HasParts-kept}
 use Rattle.inode.proofs.Causes.{Rises-before}
 use Rattle.inode.proofs.Ends.{IsStep-done, IsStep-failed, IsStep-refused}
-use Rattle.inode.proofs.Filling.{BeginsBlock-end, Grows-parts, Wrote-grown, at_end, within_size}
+use Rattle.inode.proofs.Filling.{BeginsBlock-end, Wrote-grown, at_end, within_size}
 use Rattle.inode.proofs.Reading.{HasInode-read, IsInHand-read}
 use Rattle.inode.proofs.write.write_piece.Goals as goal
 
@@ -57,7 +58,7 @@ returns-in_err-next g c =
 
 pub write_inode-requires : goal.write_inode-requires
 write_inode-requires g c = record {
-  parts = Grows-parts (rw c.in_ok-inode.ensures.same c.requires.sound.parts) c.in_ok-next.ensures.done.grows;
+  parts = HasParts-kept (rw c.in_ok-inode.ensures.same c.requires.sound.parts) c.in_ok-next.ensures.done.grows.count c.in_ok-next.ensures.done.grows.sizes;
   high = c.requires.inode.high;
   fits = c.in_ok-next.ensures.done.fits;
 }
