@@ -235,31 +235,25 @@ two_places [] a h = absurd (none-some a h)
 two_places (o ∷ []) a h = absurd (none-some a h)
 two_places (o ∷ r ∷ os) a h = omega arith
 
-fits_kind : (image : List ℕ) (files : Files) (n : ℕ) (o : Option Node) → Stands image n o → KeepsNode files n o → KeepsSize o → FitsKind (kind_in image n) (length_in image n)
-fits_kind image files n None s k z = record {
-  most = λ u. absurd (u s);
-  directory_least = λ e. absurd (omega arith);
-  directory_places = λ e. absurd (omega arith);
-  device = λ e. absurd (omega arith);
+-- a type that isn't a directory's asks for a size that isn't too large, and a device for none
+fits_other : (kind size : ℕ) → kind ≢ 1 → (kind ≢ 0 → size ≤ longest) → (kind ≡ 3 → size ≡ 0) → FitsKind kind size
+fits_other kind size other most device = record {
+  most = most;
+  directory_least = λ e. absurd (other e);
+  directory_places = λ e. absurd (other e);
+  device = device;
 }
+
+fits_kind : (image : List ℕ) (files : Files) (n : ℕ) (o : Option Node) → Stands image n o → KeepsNode files n o → KeepsSize o → FitsKind (kind_in image n) (length_in image n)
+fits_kind image files n None s k z = fits_other (kind_in image n) (length_in image n) (λ e. omega arith) (λ u. absurd (u s)) (λ e. absurd (omega arith))
 fits_kind image files n (Some (File links bytes)) s k z =
     let e = s.kind in
     let size = s.size in
-    record {
-      most = λ u. omega arith;
-      directory_least = λ f. absurd (omega arith);
-      directory_places = λ f. absurd (omega arith);
-      device = λ f. absurd (omega arith);
-    }
+    fits_other (kind_in image n) (length_in image n) (λ f. omega arith) (λ u. omega arith) (λ f. absurd (omega arith))
 fits_kind image files n (Some (Device links major minor)) s k z =
     let e = s.kind in
     let size = s.size in
-    record {
-      most = λ u. omega arith;
-      directory_least = λ f. absurd (omega arith);
-      directory_places = λ f. absurd (omega arith);
-      device = λ f. size;
-    }
+    fits_other (kind_in image n) (length_in image n) (λ f. omega arith) (λ u. omega arith) (λ f. size)
 fits_kind image files n (Some (Directory links places)) s k z =
     let e = s.kind in
     let size = s.size in

@@ -2,7 +2,8 @@
 use Rattle.std.proofs.Common.{◌≡◌, ◌≢◌, ℕ, ◌+◌, ◌-◌, ◌*◌, ◌/◌, ◌%◌, ◌<◌, ◌≤◌, Bool, List, [], ◌∷◌, ◌++◌, None, Option, Some, length, get_or, take, drop, inl, inr, ap, sym, refl, ◌∙◌, arith, cond, true, false, zero, suc, All, flat_map, nat_eq, ◌==◌, ◌&&◌}
 use Rattle.std.specs.List.{list_all, range_with_len}
 use Rattle.std.proofs.lemmas.Bool.{and_parts, cases_lt, cond-false, false≢true, eqb-true, ne_eqb}
-use Rattle.std.proofs.lemmas.List.{append-nil, drop-drop, drop-take, drop_at, ext_get_or, get_or-drop, get_or-take, get_or_past, length-append, length-drop, length-replicate, length-take, length-take-le, take-append-drop, take-take, take_all, take_at}
+use Rattle.std.proofs.lemmas.List.{append-nil, drop-drop, drop_at, ext_get_or, get_or-drop, get_or-take, get_or_past, length-append, length-drop, length-replicate, length-take, length-take-le, take_all, take_at}
+use Rattle.std.proofs.Math.Seq.{take-add}
 use Rattle.std.proofs.lemmas.List.Concat.{flat_map-append}
 use Rattle.std.proofs.lemmas.List.Folds.{flat_map-map}
 use Rattle.std.proofs.lemmas.List.FromFn.{get_or-map-range_with_len, length-map-range_with_len}
@@ -113,13 +114,6 @@ chunk-fits bytes k fits i = elim (cases_lt i 16) [
   | inr r ↦ let e : get_or (take 16 (drop (16 * k) bytes)) i 0 ≡ 0 = get_or_past (take 16 (drop (16 * k) bytes)) i 0 (omega (arith, length-take 16 (drop (16 * k) bytes))) in omega arith
 ]
 
-pub take_next : (n m : ℕ) (xs : List ℕ) → take n xs ++ take m (drop n xs) ≡ take (n + m) xs
-take_next n m xs =
-    let e : n ≤ n + m = omega arith in
-    ap (λ r. r ++ take m (drop n xs)) (sym (take-take n (n + m) xs e))
-    ∙ ap (λ r. take n (take (n + m) xs) ++ r) (sym (drop-take n m xs))
-    ∙ take-append-drop n (take (n + m) xs)
-
 abbrev spelled_at : List ℕ → ℕ → List ℕ
 spelled_at bytes k = place_bytes (place_of_bytes (take 16 (drop (16 * k) bytes)))
 
@@ -135,7 +129,7 @@ spelled_fronts bytes fits (suc n) h =
     ∙ ap (λ r. flat_map (spelled_at bytes) (range_with_len 0 n) ++ r)
     (append-nil (spelled_at bytes (0 + n)) ∙ ap (spelled_at bytes) z ∙ place_of_bytes-spelled (take 16 (drop (16 * n) bytes)) long (chunk-fits bytes n fits))
     ∙ ap (λ r. r ++ take 16 (drop (16 * n) bytes)) (spelled_fronts bytes fits n (omega arith))
-    ∙ take_next (16 * n) 16 bytes ∙ ap (λ k. take k bytes) m
+    ∙ sym (take-add (16 * n) 16 bytes) ∙ ap (λ k. take k bytes) m
 
 -- the bytes are the spelling of the places that they spell
 pub places_in-spelled : (bytes : List ℕ) → length bytes % 16 ≡ 0 → ((i : ℕ) → get_or bytes i 0 < 256) → flat_map place_bytes (places_in bytes) ≡ bytes
