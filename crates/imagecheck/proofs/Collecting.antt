@@ -1,10 +1,11 @@
 -- The entries of all directories, one directory after the other, and what tables of them tell of the files.
-use Rattle.std.proofs.Common.{◌≡◌, ◌≢◌, ℕ, ◌+◌, ◌*◌, ◌/◌, ◌<◌, ◌≤◌, Bool, List, [], ◌∷◌, ◌++◌, None, Option, Some, length, get_or, map, replicate, take, drop, ap, sym, refl, ◌∙◌, arith, subst, cond, inl, inr, true, false, zero, suc, All, IsSome, count_by, filter, flat_map, option_map, slice_get, unwrap_or, ◌&&◌, ◌==◌, option_to_list}
+use Rattle.std.proofs.Common.{◌≡◌, ◌≢◌, ℕ, ◌+◌, ◌*◌, ◌/◌, ◌<◌, ◌≤◌, Bool, List, [], ◌∷◌, ◌++◌, None, Option, Some, length, get_or, map, replicate, take, drop, ap, sym, refl, ◌∙◌, add-zero, arith, subst, cond, inl, inr, true, false, zero, suc, All, IsSome, count_by, filter, flat_map, option_map, slice_get, unwrap_or, ◌&&◌, ◌==◌, option_to_list}
 use Rattle.std.specs.List.{find, range_with_len, sum_by}
 use Rattle.std.proofs.lemmas.Bool.{cases_eq, eq-eqb, ne_eqb}
 use Rattle.std.proofs.lemmas.List.{append-nil, append_assoc, map-append}
 use Rattle.std.proofs.lemmas.List.Concat.{flat_map-append}
 use Rattle.std.proofs.lemmas.List.Elements.{All-map, All-nil, All-replicate}
+use Rattle.std.proofs.lemmas.Simd.{map-map}
 use Rattle.std.proofs.lemmas.List.FromFn.{get_or-range_with_len, length-range_with_len}
 use Rattle.std.proofs.lemmas.List.Sums.{sum_by-append, sum_by-cons}
 use Rattle.layout.specs.declared.Geometry.{Geometry}
@@ -23,10 +24,6 @@ use Rattle.imagerules.proofs.Nodes.{length-files_in}
 use Rattle.imagecheck.proofs.Standing.{slot-zero, some_high, stands_each}
 
 -- ---- lists
-
-map-map : {A B C : Type 0} (f : B → C) (g : A → B) (xs : List A) → map f (map g xs) ≡ map (λ x. f (g x)) xs
-map-map f g [] = refl
-map-map f g (x ∷ xs) = ap (λ r. f (g x) ∷ r) (map-map f g xs)
 
 map-flat_map : {A B C : Type 0} (f : B → C) (g : A → List B) (h : A → List C) → ((x : A) → map f (g x) ≡ h x) → (xs : List A) → map f (flat_map g xs) ≡ flat_map h xs
 map-flat_map f g h e [] = refl
@@ -190,14 +187,11 @@ sum-none h d z a (suc n) l =
 sum-one : (h : ℕ → ℕ) (d : ℕ) → ((k : ℕ) → k ≢ d → h k ≡ 0) → (a n : ℕ) → a ≤ d → d < a + n → sum_by h (range_with_len a n) ≡ h d
 sum-one h d z a zero low high = absurd (omega arith)
 sum-one h d z a (suc n) low high = elim (cases_eq a d) [
-  | inl here ↦ sum_by-cons h a (range_with_len (a + 1) n) ∙ ap (λ s. h a + s) (sum-none h d z (a + 1) n (omega arith)) ∙ last (h a) ∙ ap h here
+  | inl here ↦ sum_by-cons h a (range_with_len (a + 1) n) ∙ ap (λ s. h a + s) (sum-none h d z (a + 1) n (omega arith)) ∙ add-zero (h a) ∙ ap h here
   | inr other ↦ sum_by-cons h a (range_with_len (a + 1) n) ∙ ap (λ s. s + sum_by h (range_with_len (a + 1) n)) (z a other) ∙ first (sum_by h (range_with_len (a + 1) n))
       ∙ sum-one h d z (a + 1) n (omega arith) (omega arith)
 ]
   where
-    last : (x : ℕ) → x + 0 ≡ x
-    last x = omega arith
-
     first : (x : ℕ) → 0 + x ≡ x
     first x = omega arith
 

@@ -2,6 +2,7 @@
 use Rattle.std.proofs.Common.{◌≡◌, ◌≢◌, ℕ, ◌+◌, ◌<◌, ◌≤◌, Bool, List, [], ◌∷◌, None, Option, Some, length, get_or, set, take, ap, sym, refl, ◌∙◌, arith, subst, cond, inl, inr, true, false, All, count_by, ◌==◌, find}
 use Rattle.std.specs.Option.{option_or}
 use Rattle.std.proofs.lemmas.Bool.{cases_eq, eq-eqb, ne_eqb}
+use Rattle.std.proofs.lemmas.Option.{none-some, same_Some}
 use Rattle.std.proofs.lemmas.List.{get_or-set_other, get_or-set_same, length-set, take_more}
 use Rattle.std.proofs.lemmas.List.Elements.{All-head, All-tail}
 use Rattle.std.proofs.lemmas.List.Folds.{find-append}
@@ -41,16 +42,11 @@ first_kept : (o q : Option Naming) → directory_or_zero o ≢ 0 → directory_o
 first_kept None q h = absurd (h refl)
 first_kept (Some m) q h = refl
 
-same_item : (x m : Naming) → Some x ≡ Some m → x ≡ m
-same_item x m e = cc
-
 found_all : (P : Naming → Type 0) (p : Naming → Bool) (xs : List Naming) → All P xs → (m : Naming) → find p xs ≡ Some m → P m
-found_all P p [] h m e = absurd (none e) where
-  none : None ≡ Some m → ⊥
-  none f = cc
+found_all P p [] h m e = absurd (none-some m e)
 found_all P p (x ∷ xs) h m e = go (p x) (found_all P p xs (All-tail P x xs h) m) e where
   go : (b : Bool) → (find p xs ≡ Some m → P m) → cond b (Some x) (find p xs) ≡ Some m → P m
-  go true rest f = subst P (same_item x m f) (All-head P x xs h)
+  go true rest f = subst P (same_Some x m f) (All-head P x xs h)
   go false rest f = rest f
 
 module _ (namings : List Naming) (i : ℕ) (x : Naming) (within : i < length namings) where

@@ -1,21 +1,21 @@
 -- The number that a directory's ".." tells.
-use Rattle.std.proofs.Common.{◌≡◌, ◌≢◌, ℕ, ◌+◌, ◌-◌, ◌*◌, ◌<◌, ◌≤◌, Bool, List, [], ◌∷◌, ◌++◌, None, Some, length, get_or, take, drop, ap, sym, refl, ◌∙◌, arith, subst, cond, inl, inr, true, false, flat_map, is_some, option_map, slice_range, unwrap_or, ◌==◌, ◌↔◌}
+use Rattle.std.proofs.Common.{◌≡◌, ◌≢◌, ℕ, ◌+◌, ◌-◌, ◌*◌, ◌<◌, ◌≤◌, Bool, List, [], ◌∷◌, ◌++◌, None, Some, length, get_or, take, drop, ap, sym, ◌∙◌, arith, subst, cond, inl, inr, true, false, flat_map, is_some, option_map, slice_range, unwrap_or, ◌==◌, ◌↔◌, IsSome}
 use Rattle.std.specs.List.{list_all}
-use Rattle.std.proofs.lemmas.Bool.{cases_eq, cases_lt, eqb-true, false≢true}
+use Rattle.std.proofs.lemmas.Bool.{cases_eq, eqb-true}
 use Rattle.std.proofs.lemmas.List.{ext_get_or, get_or-drop, get_or-take, get_or_append_left, length-append, length-drop, length-take, length-take-le}
 use Rattle.std.proofs.lemmas.Option.{none-some}
 use Rattle.unixmodel.specs.Files.{Entry, dot_dot, is_directory, slot}
-use Rattle.unixmodel.specs.Files.Node.{Device, Directory, File}
-use Rattle.unixmodel.specs.Image.{block_at, contents_in, count_in, data_blocks, direct_in, index_in, inode_at, inodes_in, is_directory_at, kind_in, length_in, links_in, major_in, minor_in, parent_of}
+use Rattle.unixmodel.specs.Image.{block_at, contents_in, count_in, data_blocks, direct_in, index_in, inode_at, is_directory_at, kind_in, length_in, parent_of}
 use Rattle.unixmodel.specs.Numbers.{number, number_at}
 use Rattle.imagerules.specs.Rules.{HasBlocks}
-use Rattle.imagerules.specs.Places.{HasEntries, HasLinks, file_in, files_in, node_in, place_of_bytes, places_in, without_zeros}
+use Rattle.imagerules.specs.Places.{HasEntries, HasLinks, files_in, place_of_bytes, places_in, without_zeros}
 use Rattle.imagecheck.specs.Entries.{FitsFront}
 use Rattle.imagecheck.specs.Reach.{IsDirectoryIn, first_block}
 use Rattle.imagecheck.proofs.Naming.{directory-least, entries-at, slot-directory}
-use Rattle.imagerules.proofs.Nodes.{file_in-free, file_in-used, file_in-zero, length-block, slot-files_in, slot-past}
+use Rattle.imagerules.proofs.Nodes.{length-block}
 use Rattle.imagerules.proofs.Numbers.{get_or-numbers_at, length-numbers_at}
-use Rattle.imagecheck.proofs.Reaching.{parent_leads, parent_root}
+use Rattle.imagecheck.proofs.Reaching.{parent_leads, parent_root, used_from}
+use Rattle.imagecheck.proofs.Standing.{is_directory-is, some_high, some_low}
 use Rattle.imagerules.proofs.Spelling.{slot-places_in}
 use Rattle.imagerules.proofs.Uses.{All-data_blocks, FitsAddresses-at, is_data_block-below}
 
@@ -25,33 +25,12 @@ module _ (image : List ℕ) (n : ℕ) where
   pub is_directory-at : IsDirectoryIn image n → is_directory_at (files_in image) n ≡ true
   is_directory-at h = ap (λ o. unwrap_or (option_map is_directory o) false) (slot-directory image n h.low h.high h.kind)
 
-  no_directory : slot (files_in image) n ≡ None → is_directory_at (files_in image) n ≡ true → ⊥
-  no_directory e h = false≢true (sym (ap (λ o. unwrap_or (option_map is_directory o) false) e) ∙ h)
-
-  kind_directory : (b c : Bool) → (kind_in image n == 1) ≡ b → (kind_in image n == 2) ≡ c → is_directory (node_in image n) ≡ true → kind_in image n ≡ 1
-  unfolding node_in
-  kind_directory true c e f h = eqb-true (kind_in image n) 1 e
-  kind_directory false true e f h =
-      absurd (false≢true (sym (ap (λ b. is_directory (cond b (Directory (links_in image n) (places_in (contents_in image n))) (cond (kind_in image n == 2) (File (links_in image n) (contents_in image n)) (Device (links_in image n) (major_in image n) (minor_in image n))))) e
-      ∙ ap (λ b. is_directory (cond b (File (links_in image n) (contents_in image n)) (Device (links_in image n) (major_in image n) (minor_in image n)))) f) ∙ h))
-  kind_directory false false e f h =
-      absurd (false≢true (sym (ap (λ b. is_directory (cond b (Directory (links_in image n) (places_in (contents_in image n))) (cond (kind_in image n == 2) (File (links_in image n) (contents_in image n)) (Device (links_in image n) (major_in image n) (minor_in image n))))) e
-      ∙ ap (λ b. is_directory (cond b (File (links_in image n) (contents_in image n)) (Device (links_in image n) (major_in image n) (minor_in image n)))) f) ∙ h))
-
   pub IsDirectoryIn-from : is_directory_at (files_in image) n ≡ true → IsDirectoryIn image n
-  IsDirectoryIn-from h = elim (cases_lt n (inodes_in image)) [
-    | inr past ↦ absurd (no_directory (slot-past image n past) h)
-    | inl high ↦ elim (cases_eq n 0) [
-      | inl z ↦ absurd (no_directory (slot-files_in image n high ∙ ap (file_in image) z ∙ file_in-zero image) h)
-      | inr some ↦ elim (cases_eq (kind_in image n) 0) [
-        | inl free ↦ absurd (no_directory (slot-files_in image n high ∙ file_in-free image n free) h)
-        | inr used ↦
-            let e : slot (files_in image) n ≡ Some (node_in image n) = slot-files_in image n high ∙ file_in-used image n (omega arith) used in
-            let d : is_directory (node_in image n) ≡ true = sym (ap (λ o. unwrap_or (option_map is_directory o) false) e) ∙ h in
-            record { low = omega arith; high = high; kind = kind_directory (kind_in image n == 1) (kind_in image n == 2) refl refl d }
-      ]
-    ]
-  ]
+  IsDirectoryIn-from h =
+      let used : IsSome (slot (files_in image) n) = used_from (slot (files_in image) n) h in
+      let high = some_high image n used in
+      let low = some_low image n (omega arith) used in
+      record { low = low; high = high; kind = eqb-true (kind_in image n) 1 (is_directory-is image n low high ∙ h) }
 
 -- the parent of a directory is one
 pub parent_directory : (image : List ℕ) → HasBlocks image → HasEntries (files_in image) → HasLinks (files_in image) → (n : ℕ) → IsDirectoryIn image n → IsDirectoryIn image (parent_of (files_in image) n)

@@ -72,7 +72,7 @@ parent_leads files entries links n used other =
 
 -- ---- from a chain of parents to a path
 
-used_from : (o : Option Node) → unwrap_or (option_map is_directory o) false ≡ true → IsSome o
+pub used_from : (o : Option Node) → unwrap_or (option_map is_directory o) false ≡ true → IsSome o
 used_from None h = absurd (false≢true h)
 used_from (Some node) h = refl
 

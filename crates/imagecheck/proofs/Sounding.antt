@@ -1,5 +1,7 @@
 -- What a result of a pass tells, from what the pass before it tells.
-use Rattle.std.proofs.Common.{Err, List, Ok, Result, length, ℕ, ◌≡◌, ◌≢◌, ◌≤◌, ap, arith, subst, sym, ◌∙◌, IfErr, IfOk, IsErrOf, OnOk}
+use Rattle.std.proofs.Common.{Err, List, Ok, Result, length, ℕ, ◌≡◌, ◌≢◌, ◌≤◌, ap, arith, subst, sym, ◌∙◌, IfErr, IfOk, IsErrAnd, IsErrOf, OnOk}
+use Rattle.std.proofs.lemmas.Result.{IfOk-from_err, err_from_is_err_and}
+use Rattle.std.specs.Result.{IsErr}
 use Rattle.unixmodel.specs.Failures.{Rises}
 use Rattle.unixmodel.specs.Files.{Files}
 use Rattle.unixmodel.specs.Image.{Denotes, named_blocks, numbers_in_use}
@@ -44,6 +46,10 @@ pub refused-from : {T : Type 0} (image : List ℕ) (r : Result T ImageFault) →
 refused-from image (Ok x) h = tt
 refused-from image (Err fault) h = λ i files d. Tells-not image files fault i h d
 
+-- a fault is told
+pub told-err : {T E : Type 0} {fault : E} (r : Result T E) → IsErrAnd r (λ f. f ≡ fault) → r ≡ Err fault
+told-err r told = let p = err_from_is_err_and r told in p.1 ∙ ap Err p.2
+
 -- a pass over an image tells what it finds, and blames no device
 pub Finds-told : (image : List ℕ) (fault : ImageFault) → Finds image fault → Tells image fault
 Finds-told image Device h = absurd h
@@ -52,15 +58,12 @@ Finds-told image fault h = h
 pub Finds-not_device : {T : Type 0} (image : List ℕ) (r : Result T ImageFault) → IfErr r (Finds image) → IsErrOf r Device → ⊥
 Finds-not_device image r h told = subst (λ x. IfErr x (Finds image)) told h
 
-pub NoMemory-found : {T : Type 0} (image : List ℕ) (r : Result T ImageFault) (fault : ImageFault) → r ≡ Err fault → fault ≡ NoMemory → IfErr r (Finds image)
-NoMemory-found image r fault e memory = subst (λ x. IfErr x (Finds image)) (sym (e ∙ ap Err memory)) tt
+-- a fault that is handed on is no success, and what holds of it holds of the result
+pub fault-sound : {T : Type 0} (P : Type 0) (r : Result T ImageFault) → IsErr r → OnOk r P
+fault-sound P r told = IfOk-from_err r (λ _. P) told
 
--- a fault that is handed on is no success, and is what was found
-pub fault-sound : {T : Type 0} (P : Type 0) (r : Result T ImageFault) (fault : ImageFault) → r ≡ Err fault → OnOk r P
-fault-sound P r fault e = subst (λ x. OnOk x P) (sym e) tt
-
-pub fault-found : {T : Type 0} (image : List ℕ) (r : Result T ImageFault) (fault given : ImageFault) → r ≡ Err fault → fault ≡ given → Finds image given → IfErr r (Finds image)
-fault-found image r fault given e same finds = subst (λ x. IfErr x (Finds image)) (sym (e ∙ ap Err same)) finds
+pub fault-told : {T : Type 0} {given : ImageFault} (P : ImageFault → Type 0) (r : Result T ImageFault) → IsErrAnd r (λ f. f ≡ given) → P given → IfErr r P
+fault-told P r told holds = subst (λ x. IfErr x P) (sym (told-err r told)) holds
 
 -- what a result tells that blames no image
 pub record IsOther {T : Type 0} (image : List ℕ) (r : Result T ImageFault) (P : T → Type 0) (other : ImageFault) : Type 0 where
@@ -68,12 +71,8 @@ pub record IsOther {T : Type 0} (image : List ℕ) (r : Result T ImageFault) (P 
   pub only : IfErr r (λ fault. Tells image fault)
   pub no : (fault : ImageFault) → other ≢ fault → IsErrOf r fault → ⊥
 
--- memory ran out, or the device failed
-pub no-memory : {T : Type 0} (image : List ℕ) (P : T → Type 0) (r : Result T ImageFault) (fault : ImageFault) → r ≡ Err fault → fault ≡ NoMemory → IsOther image r P NoMemory
-no-memory image P r fault e memory = rw (e ∙ ap Err memory) (record { told = tt; only = tt; no = λ fault other is. absurd (other (same-error is)) })
-
-pub no-device : {T : Type 0} (image : List ℕ) (P : T → Type 0) (r : Result T ImageFault) (fault : ImageFault) → r ≡ Err fault → fault ≡ Device → IsOther image r P Device
-no-device image P r fault e device = rw (e ∙ ap Err device) (record { told = tt; only = tt; no = λ fault other is. absurd (other (same-error is)) })
+pub no-image : {T : Type 0} {fault : ImageFault} (image : List ℕ) (P : T → Type 0) (r : Result T ImageFault) → IsErrAnd r (λ f. f ≡ fault) → Tells image fault → IsOther image r P fault
+no-image image P r told tells = rw (told-err r told) (record { told = tt; only = tells; no = λ other differs is. absurd (differs (same-error is)) })
 
 -- the parts of a summary
 pub record IsTold (image : List ℕ) (r : Result Summary ImageFault) : Type 0 where

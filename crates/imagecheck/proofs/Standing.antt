@@ -9,7 +9,7 @@ use Rattle.imagerules.specs.Rules.{HasBlocks}
 use Rattle.imagecheck.specs.Namings.{FitsLinks}
 use Rattle.imagerules.specs.Places.{EntriesAt, HasEntries, HasLinks, LinksAt, files_in, kind_node, node_in, places_in}
 use Rattle.imagecheck.proofs.Entering.{none_past, none_zero}
-use Rattle.imagecheck.proofs.Naming.{entries-at, slot-directory}
+use Rattle.imagecheck.proofs.Naming.{slot-directory}
 use Rattle.imagerules.proofs.Nodes.{file_in-free, file_in-used, file_in-zero, node_in-device, node_in-file, slot-files_in, slot-past}
 
 pub slot-zero : (image : List ℕ) → 0 < inodes_in image → slot (files_in image) 0 ≡ None
@@ -70,13 +70,6 @@ HasEntries-from image b names named fronts =
       numbers = λ k d l. (good.good k d l).number;
       named = named n low high e;
     }) (λ n low high e. tt) (λ n low high e. tt)
-
-module _ (image : List ℕ) (h : HasEntries (files_in image)) where
-  pub AreNamed-from : AreNamed image
-  AreNamed-from n low high e = (entries-at image n low high e h).named
-
-  pub HasFronts-from : HasFronts image
-  HasFronts-from n low high e = let fits = entries-at image n low high e h in record { own = fits.own; parent = fits.parent }
 
 -- ---- links
 

@@ -1,8 +1,9 @@
 -- Walks up from directories, which mark whom they meet.
 use Rattle.std.proofs.Common.{◌≡◌, ◌≢◌, ℕ, ◌+◌, ◌<◌, ◌≤◌, List, length, get_or, replicate, set, ap, sym, ◌∙◌, arith, subst, cond, inl, inr, zero, suc, count_by, slice_index, ◌==◌, ◌⊎◌}
-use Rattle.std.proofs.lemmas.Bool.{cases_eq, cases_lt, cond-false, cond-true, eq-eqb, ne_eqb}
-use Rattle.std.proofs.lemmas.List.{get_or-replicate, get_or-set_other, get_or-set_same, get_or_past, length-replicate}
+use Rattle.std.proofs.lemmas.Bool.{cases_eq, cond-false, cond-true, eq-eqb, ne_eqb}
+use Rattle.std.proofs.lemmas.List.{get_or-set_other, get_or-set_same, length-replicate}
 use Rattle.std.proofs.lemmas.List.Sums.{sum_by-set}
+use Rattle.layout.proofs.Plain.{zero_at}
 use Rattle.unixmodel.specs.Files.{Files}
 use Rattle.unixmodel.specs.Image.{parent_of}
 use Rattle.imagecheck.specs.Reach.{Climbs, HasWalked, ancestor}
@@ -61,9 +62,6 @@ module _ (files : Files) (start n : ℕ) (marks : List ℕ) (h : IsWalk files st
       }
 
   -- it comes to one that an earlier walk met
-  pub climbs_before : slice_index marks n ≢ 0 → slice_index marks n ≢ start → Climbs files start
-  climbs_before some other = h.first (h.before n some other)
-
   pub HasWalked-more : slice_index marks n ≢ 0 → slice_index marks n ≢ start → HasWalked files (start + 1) marks
   HasWalked-more some other = record {
     root = h.root;
@@ -99,12 +97,6 @@ unmarked_less marks n start within free some =
 
 -- ---- the walks one after the other
 
-none_marked : (count m : ℕ) → get_or {A = ℕ} (replicate count 0) m 0 ≡ 0
-none_marked count m = elim (cases_lt m count) [
-  | inl l ↦ get_or-replicate count m 0 0 l
-  | inr r ↦ get_or_past (replicate count 0) m 0 (omega (arith, length-replicate {A = ℕ} count 0))
-]
-
 one_marked : (files : Files) (marks : List ℕ) → slice_index marks 1 ≡ 1 → ((m : ℕ) → m ≢ 1 → slice_index marks m ≡ 0) → HasWalked files 2 marks
 one_marked files marks root free = record {
   root = root;
@@ -119,7 +111,7 @@ one_marked files marks root free = record {
 pub HasWalked-first : (files : Files) (count : ℕ) → 1 < count → HasWalked files 2 (set (replicate count 0) 1 1)
 HasWalked-first files count l =
     one_marked files (set (replicate count 0) 1 1) (get_or-set_same (replicate count 0) 1 1 0 (omega (arith, length-replicate {A = ℕ} count 0)))
-    (λ m other. get_or-set_other (replicate count 0) 1 m 1 0 other ∙ none_marked count m)
+    (λ m other. get_or-set_other (replicate count 0) 1 m 1 0 other ∙ zero_at count m)
 
 pub HasWalked-later : (files : Files) (next : ℕ) (marks : List ℕ) → HasWalked files next marks → HasWalked files (next + 1) marks
 HasWalked-later files next marks h = record {

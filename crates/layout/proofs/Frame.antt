@@ -12,7 +12,7 @@ use Rattle.layout.specs.declared.Geometry.{Geometry}
 use Rattle.layout.specs.Image.{IsInode, IsSpare, IsUsed, RawNode, bit_of, byte_of, bytes_of, inode_at, node_at, node_with, nodes_of, slot_in, slot_of}
 use Rattle.layout.specs.Sound.{IsNamed, IsSound, TellsGeometry}
 use Rattle.layout.proofs.Puts.{HasParts-kept}
-use Rattle.layout.proofs.Slots.{IsInode-same, IsSpare-size, IsUsed-same, slot_in-same, slot_of-last, used_at, used_last, used_within}
+use Rattle.layout.proofs.Slots.{IsInode-same, IsSpare-size, IsUsed-same, slot_in-same, asks_at, slot_of-last, used_last, used_within}
 
 -- ---- lists made by place
 
@@ -59,9 +59,6 @@ module _ (g : Geometry) (old new : List (List ℕ)) (n : ℕ) (sound : IsSound g
   used_before : (m j : ℕ) → m ≢ n → IsUsed new g.inodes m j → IsUsed old g.inodes m j
   used_before m j apart u = IsUsed-same old new g.inodes m j (keeps.inodes m u.inode.high apart) u
 
-  used_after : (m j : ℕ) → m ≢ n → IsUsed old g.inodes m j → IsUsed new g.inodes m j
-  used_after m j apart u = IsUsed-same new old g.inodes m j (sym (keeps.inodes m u.inode.high apart)) u
-
   -- a slot of another inode, where the indirect block that it stands in is in use
   slot_stays : (m j : ℕ) → m ≢ n → m < g.inodes → j < 269 → (12 ≤ j → j < 268 → IsUsed old g.inodes m 268) → slot_of new m j ≡ slot_of old m j
   unfolding slot_of
@@ -83,7 +80,7 @@ module _ (g : Geometry) (old new : List (List ℕ)) (n : ℕ) (sound : IsSound g
       let size : (inode_at new m).size ≡ (inode_at old m).size = ap (λ (k : DiskInode). k.size) same in
       ext_get_or 0 (bytes_of new m) (bytes_of old m) (length-bytes_of new m ∙ size ∙ sym (length-bytes_of old m)) (λ j l.
       let j_in : j < (inode_at old m).size = omega (arith, length-bytes_of new m) in
-      let used : IsUsed old g.inodes m (j / 1024) = used_at old g.inodes m j i j_in in
+      let used : IsUsed old g.inodes m (j / 1024) = record { inode = i; slot = asks_at (inode_at old m).size j j_in } in
       get_or-bytes_of new m j (omega arith)
       ∙ ap (λ q. get_or (block_at new q) (j % 1024) 0) (slots_stay m (j / 1024) apart used)
       ∙ ap (λ b. get_or b (j % 1024) 0) (keeps.named m (j / 1024) used apart)
@@ -130,10 +127,7 @@ module _ (g : Geometry) (old new : List (List ℕ)) (n : ℕ) (sound : IsSound g
   NamedHere b = (j : ℕ) × IsUsed new g.inodes n j × (slot_of new n j ≡ b)
 
   named_apart : (b : ℕ) → NamedApart b → IsNamed new g.inodes b
-  named_apart b (m, j, apart, u, e) = (m, j, used_after m j apart u, slots_stay m j apart u ∙ e)
-
-  named_here : (b : ℕ) → NamedHere b → IsNamed new g.inodes b
-  named_here b (j, u, e) = (n, j, u, e)
+  named_apart b (m, j, apart, u, e) = (m, j, IsUsed-same new old g.inodes m j (sym (keeps.inodes m u.inode.high apart)) u, slots_stay m j apart u ∙ e)
 
   named_where : (b : ℕ) → IsNamed new g.inodes b → NamedApart b ⊎ NamedHere b
   named_where b (m, j, u, e) = elim (cases_eq m n) [
@@ -196,7 +190,7 @@ module _ (g : Geometry) (old new : List (List ℕ)) (n : ℕ) (sound : IsSound g
           spares_stay m j apart before empty ∙ sound.spare m j before empty
     ];
     marked = λ b h. (
-      (λ one. elim ((own.marked b h).0 one) [ inl low ↦ inl low | inr named ↦ inr (elim named [ inl a ↦ named_apart b a | inr a ↦ named_here b a ]) ]),
+      (λ one. elim ((own.marked b h).0 one) [ inl low ↦ inl low | inr named ↦ inr (elim named [ inl a ↦ named_apart b a | inr (j, u, e) ↦ (n, j, u, e) ]) ]),
       (λ why. (own.marked b h).1 (elim why [ inl low ↦ inl low | inr named ↦ inr (named_where b named) ])),
     );
   }

@@ -54,15 +54,12 @@ used_cases blocks inodes n j low high =
     ]
 
 module _ (g : Geometry) (old mid new : List (List ℕ)) (n : ℕ) (inode : DiskInode) (sound : IsSound g old) (low : 1 ≤ n) (high : n < g.inodes) (grows : Grows g old mid n inode) (writes : WritesInode g mid new n inode) where
-  mid_inode : (m : ℕ) → m < g.inodes → inode_at mid m ≡ inode_at old m
-  mid_inode m h = ap (λ b. inode_of (part (64 * (m % 16)) 64 b)) (grows.front (2 + m / 16) (omega arith))
-
   pub Grows-keeps : KeepsOthers g old new n
   Grows-keeps = record {
     count = writes.count ∙ grows.count;
     sizes = writes.sizes;
     head = writes.rest 1 (omega arith) ∙ grows.front 1 (omega arith);
-    inodes = λ m h apart. writes.others m apart ∙ mid_inode m h;
+    inodes = λ m h apart. writes.others m apart ∙ ap (λ b. inode_of (part (64 * (m % 16)) 64 b)) (grows.front (2 + m / 16) (omega arith));
     named = λ m j u apart. writes.rest (slot_of old m j) (let r = (sound.in_range m j u).0 in omega arith) ∙ grows.named m j u apart;
   }
 

@@ -72,9 +72,6 @@ used_last blocks inodes m j used h = record { inode = used.inode; slot = asks_la
 pub used_within : (g : Geometry) (blocks : List (List ℕ)) → IsSound g blocks → (m j : ℕ) → IsUsed blocks g.inodes m j → j < 269
 used_within g blocks sound m j used = asks_within (inode_at blocks m).size j (sound.fits m used.inode) used.slot
 
-pub used_at : (blocks : List (List ℕ)) (inodes n j : ℕ) → IsInode blocks inodes n → j < (inode_at blocks n).size → IsUsed blocks inodes n (j / 1024)
-used_at blocks inodes n j inode h = record { inode = inode; slot = asks_at (inode_at blocks n).size j h }
-
 -- the address of the indirect block
 pub slot_of-last : (blocks : List (List ℕ)) (n : ℕ) → slot_of blocks n 268 ≡ get_or (inode_at blocks n).addresses 12 0
 unfolding slot_of

@@ -4,6 +4,7 @@ use Rattle.std.specs.Prelude.{map}
 use Rattle.std.specs.Int.{byte_at, bytes_low_first}
 use Rattle.std.specs.List.{range_with_len}
 use Rattle.std.proofs.Math.Nat.{div-div-eq-div-mul, pow-succ'}
+use Rattle.std.proofs.Math.Seq.{take-add}
 use Rattle.std.proofs.lemmas.List.{drop-drop, get_or-drop, length-drop}
 use Rattle.byteorder.specs.Endian.{little_number, little_bytes}
 use Rattle.byteorder.specs.Numbers.{little_from-cons}
@@ -18,17 +19,6 @@ AreBytes xs = (i : ℕ) → get_or xs i 0 < 2 ^ 8
 
 bytes-drop : (k : ℕ) (xs : List ℕ) → AreBytes xs → AreBytes (drop k xs)
 bytes-drop k xs are i = let e = get_or-drop k xs i 0 in let b = are (k + i) in omega arith
-
-take-nil : (k : ℕ) → ◌≡◌ {A = List ℕ} (take k []) []
-take-nil zero = refl
-take-nil (suc k) = refl
-
-take-add : (n m : ℕ) (xs : List ℕ) → take n xs ++ take m (drop n xs) ≡ take (n + m) xs
-take-add zero m xs = ap (λ k. take k xs) (let e : m ≡ 0 + m = omega arith in e)
-take-add (suc n) m [] = take-nil m ∙ sym (take-nil (suc n + m))
-take-add (suc n) m (x ∷ xs) =
-    let e : suc (n + m) ≡ suc n + m = omega arith in
-    ap (λ t. x ∷ t) (take-add n m xs) ∙ ap (λ k. take k (x ∷ xs)) e
 
 -- ---- a number
 
@@ -59,7 +49,7 @@ in_front k n m bytes h are =
     let within : n ≤ length (drop k bytes) = omega (arith, length-drop k bytes) in
     ap (λ front. front ++ take m (drop (k + n) bytes)) (bytes-number n (drop k bytes) within (bytes-drop k bytes are))
     ∙ ap (λ rest. take n (drop k bytes) ++ take m rest) (sym (drop-drop n k bytes))
-    ∙ take-add n m (drop k bytes)
+    ∙ sym (take-add n m (drop k bytes))
 
 -- ---- numbers of four bytes
 

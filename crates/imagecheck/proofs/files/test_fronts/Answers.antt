@@ -1,16 +1,16 @@
 use Rattle.std.proofs.Common.{◌≡◌, length, sym, subst, ◌∙◌, arith, take_at}
-use Rattle.std.proofs.lemmas.Result.{err_from_is_err_and}
+use Rattle.imagecheck.specs.Faults.{Finds}
 use Rattle.imagecheck.specs.Namings.{HasParents}
 use Rattle.imagerules.proofs.Bounds.{inodes-least}
 use Rattle.imagecheck.proofs.Collecting.{HasParents-from, namings-fitting, numbers-within, zeros}
-use Rattle.imagecheck.proofs.Sounding.{NoMemory-found, fault-sound}
+use Rattle.imagecheck.proofs.Sounding.{fault-sound, fault-told}
 use Rattle.imagecheck.proofs.files.test_fronts.Goals as goal
 
 pub returns-in_err-parents-clause-sound : goal.returns-in_err-parents-clause-sound
-returns-in_err-parents-clause-sound g c = let p = err_from_is_err_and c.from_residual.result c.from_residual.ensures.1 in fault-sound _ c.from_residual.result p.0 p.1
+returns-in_err-parents-clause-sound g c = fault-sound _ c.from_residual.result c.from_residual.ensures.0
 
 pub returns-in_err-parents-clause-fault : goal.returns-in_err-parents-clause-fault
-returns-in_err-parents-clause-fault g c = let p = err_from_is_err_and c.from_residual.result c.from_residual.ensures.1 in NoMemory-found c.args.image.now c.from_residual.result p.0 p.1 p.2
+returns-in_err-parents-clause-fault g c = fault-told (Finds c.args.image.now) c.from_residual.result c.from_residual.ensures.1 tt
 
 pub find_parents-requires : goal.find_parents-requires
 find_parents-requires g c =

@@ -1,15 +1,15 @@
 use Rattle.std.proofs.Common.{◌≡◌, sym, subst, ◌∙◌, arith, take_at}
-use Rattle.std.proofs.lemmas.Result.{err_from_is_err_and}
+use Rattle.imagecheck.specs.Faults.{Finds}
 use Rattle.imagecheck.specs.Namings.{TellsSubdirectories}
 use Rattle.imagecheck.proofs.Collecting.{TellsSubdirectories-from, namings-fitting, zeros}
-use Rattle.imagecheck.proofs.Sounding.{NoMemory-found, fault-sound}
+use Rattle.imagecheck.proofs.Sounding.{fault-sound, fault-told}
 use Rattle.imagecheck.proofs.files.test_subdirectories.Goals as goal
 
 pub returns-in_err-subdirectories-clause-sound : goal.returns-in_err-subdirectories-clause-sound
-returns-in_err-subdirectories-clause-sound g c = let p = err_from_is_err_and c.from_residual.result c.from_residual.ensures.1 in fault-sound _ c.from_residual.result p.0 p.1
+returns-in_err-subdirectories-clause-sound g c = fault-sound _ c.from_residual.result c.from_residual.ensures.0
 
 pub returns-in_err-subdirectories-clause-fault : goal.returns-in_err-subdirectories-clause-fault
-returns-in_err-subdirectories-clause-fault g c = let p = err_from_is_err_and c.from_residual.result c.from_residual.ensures.1 in NoMemory-found c.args.image.now c.from_residual.result p.0 p.1 p.2
+returns-in_err-subdirectories-clause-fault g c = fault-told (Finds c.args.image.now) c.from_residual.result c.from_residual.ensures.1 tt
 
 pub count_subdirectories-requires : goal.count_subdirectories-requires
 count_subdirectories-requires g c = record {

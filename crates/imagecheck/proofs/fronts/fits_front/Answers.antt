@@ -15,19 +15,16 @@ returns-then-not-holds-clause-bad c = λ h.
     let name : c.as_slice.result.now ≡ dot = c.as_slice.ensures in
     OnFalse_at c.if-not-holds.true c.holds.ensures.bad (sym own ∙ h.own ∙ ap (λ x. entry_of x c.args.n) (sym name))
 
-pub returns-clause-good : goal.returns-clause-good
-returns-clause-good c = OnTrue_from c.holds-2.result (FitsFront c.args.n c.args.parent c.args.bytes.now) (λ t.
+pub returns : goal.returns
+returns c =
     let own : slot (places_in c.args.bytes.now) 0 ≡ place_of_bytes c.place.result.now = slot-places_in c.args.bytes.now 0 (omega arith) ∙ ap place_of_bytes (sym c.place.ensures.place) in
     let name : c.as_slice.result.now ≡ dot = c.as_slice.ensures in
     let above : slot (places_in c.args.bytes.now) 1 ≡ place_of_bytes c.place-2.result.now = slot-places_in c.args.bytes.now 1 (omega arith) ∙ ap place_of_bytes (sym c.place-2.ensures.place) in
     let name2 : c.as_slice-2.result.now ≡ dot_dot = c.as_slice-2.ensures in
     record {
-      own = own ∙ OnTrue_at c.if-not-holds.false c.holds.ensures.good ∙ ap (λ x. entry_of x c.args.n) name;
-      parent = above ∙ OnTrue_at t c.holds-2.ensures.good ∙ ap (λ x. entry_of x c.args.parent) name2;
-    })
-
-pub returns-clause-bad : goal.returns-clause-bad
-returns-clause-bad c = OnFalse_from c.holds-2.result (FitsFront c.args.n c.args.parent c.args.bytes.now → ⊥) (λ f h.
-    let above : slot (places_in c.args.bytes.now) 1 ≡ place_of_bytes c.place-2.result.now = slot-places_in c.args.bytes.now 1 (omega arith) ∙ ap place_of_bytes (sym c.place-2.ensures.place) in
-    let name2 : c.as_slice-2.result.now ≡ dot_dot = c.as_slice-2.ensures in
-    OnFalse_at f c.holds-2.ensures.bad (sym above ∙ h.parent ∙ ap (λ x. entry_of x c.args.parent) (sym name2)))
+      good = OnTrue_from c.holds-2.result (FitsFront c.args.n c.args.parent c.args.bytes.now) (λ t. record {
+        own = own ∙ OnTrue_at c.if-not-holds.false c.holds.ensures.good ∙ ap (λ x. entry_of x c.args.n) name;
+        parent = above ∙ OnTrue_at t c.holds-2.ensures.good ∙ ap (λ x. entry_of x c.args.parent) name2;
+      });
+      bad = OnFalse_from c.holds-2.result (FitsFront c.args.n c.args.parent c.args.bytes.now → ⊥) (λ f h. OnFalse_at f c.holds-2.ensures.bad (sym above ∙ h.parent ∙ ap (λ x. entry_of x c.args.parent) (sym name2)));
+    }

@@ -2,22 +2,19 @@ use Rattle.std.proofs.Common.{◌≡◌, ◌<◌, ◌++◌, length, ap, refl, �
 use Rattle.blockdev.specs.Blocks.{block_at}
 use Rattle.imagerules.specs.Content.{image_of}
 use Rattle.imagerules.proofs.ContentLemmas.{image_of-more}
-use Rattle.imagecheck.proofs.Sounding.{Rises-before, no-device, no-memory}
+use Rattle.imagecheck.proofs.Sounding.{Rises-before, no-image}
 use Rattle.imagecheck.specs.declared.ImageFault.TheVariants.{Device}
-use Rattle.std.proofs.lemmas.Result.{err_from_is_err_and}
 use Rattle.imagecheck.proofs.load.read_blocks.Goals as goal
 
 pub returns-in_err-image : goal.returns-in_err-image
 returns-in_err-image g c =
-    let p = err_from_is_err_and c.from_residual.result c.from_residual.ensures.1 in
-    let out = no-memory (image_of (g.D.BlockDev.content c.args.device.now)) _ c.from_residual.result p.0 p.1 p.2 in
+    let out = no-image (image_of (g.D.BlockDev.content c.args.device.now)) _ c.from_residual.result c.from_residual.ensures.1 tt in
     record { bytes = out.told; only = out.only; same = refl; later = omega arith; failed = λ e. absurd (out.no Device (λ e. cc) e) }
 
 pub returns-in_err-block : goal.returns-in_err-block
 returns-in_err-block g c =
     let inv = c.loop-n.invariant in
-    let p = err_from_is_err_and c.from_residual-in_err-block.result c.from_residual-in_err-block.ensures.1 in
-    let out = no-device (image_of (g.D.BlockDev.content c.args.device.now)) _ c.from_residual-in_err-block.result p.0 p.1 p.2 in
+    let out = no-image (image_of (g.D.BlockDev.content c.args.device.now)) _ c.from_residual-in_err-block.result c.from_residual-in_err-block.ensures.1 tt in
     record {
       bytes = out.told;
       only = out.only;
@@ -29,9 +26,7 @@ returns-in_err-block g c =
 pub returns-in_err-extend_from_slice : goal.returns-in_err-extend_from_slice
 returns-in_err-extend_from_slice g c =
     let inv = c.loop-n.invariant in
-    let r = c.from_residual-in_err-extend_from_slice.result in
-    let p = err_from_is_err_and r c.from_residual-in_err-extend_from_slice.ensures.1 in
-    let out = no-memory (image_of (g.D.BlockDev.content c.args.device.now)) _ r p.0 p.1 p.2 in
+    let out = no-image (image_of (g.D.BlockDev.content c.args.device.now)) _ c.from_residual-in_err-extend_from_slice.result c.from_residual-in_err-extend_from_slice.ensures.1 tt in
     record {
       bytes = out.told;
       only = out.only;

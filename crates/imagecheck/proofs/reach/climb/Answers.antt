@@ -5,7 +5,7 @@ use Rattle.imagecheck.specs.Reach.{Climbs, HasWalked}
 use Rattle.imagerules.proofs.Bounds.{inodes-most}
 use Rattle.imagecheck.proofs.Parents.{is_directory-at}
 use Rattle.imagecheck.proofs.Reaching.{Climbs-reached}
-use Rattle.imagecheck.proofs.Walking.{HasWalked-more, IsWalk, IsWalk-more, IsWalk-start, climbs_before, round_not, unmarked_less}
+use Rattle.imagecheck.proofs.Walking.{HasWalked-more, IsWalk, IsWalk-more, IsWalk-start, round_not, unmarked_less}
 use Rattle.imagecheck.proofs.reach.climb.Goals as goal
 
 pub loop-marks-init : goal.loop-marks-init
@@ -33,19 +33,17 @@ loop-marks-preserved c =
       directory = c.parent-n.ensures.directory;
     }
 
-pub returns-clause-climbs : goal.returns-clause-climbs
-returns-clause-climbs c = OnTrue_from _ (Climbs (files_in c.args.image.now) c.args.start) (λ t.
-    climbs_before (files_in c.args.image.now) c.args.start c.loop-marks.n c.loop-marks.marks c.loop-marks.invariant.walk c.requires.above c.loop-marks-test.false
-    (eqb-false (get_or c.loop-marks.marks c.loop-marks.n 0) c.args.start (not-true (nat_eq (get_or c.loop-marks.marks c.loop-marks.n 0) c.args.start) t)))
-
-pub returns-clause-walked : goal.returns-clause-walked
-returns-clause-walked c = OnTrue_from _ (HasWalked (files_in c.args.image.now) (c.args.start + 1) c.loop-marks.marks) (λ t.
-    HasWalked-more (files_in c.args.image.now) c.args.start c.loop-marks.n c.loop-marks.marks c.loop-marks.invariant.walk c.requires.above c.loop-marks-test.false
-    (eqb-false (get_or c.loop-marks.marks c.loop-marks.n 0) c.args.start (not-true (nat_eq (get_or c.loop-marks.marks c.loop-marks.n 0) c.args.start) t)))
-
-pub returns-clause-round : goal.returns-clause-round
-returns-clause-round c = OnFalse_from _ (IsReached (files_in c.args.image.now) → ⊥) (λ f reached.
-    let image = c.args.image.now in
-    round_not (files_in image) c.args.start c.loop-marks.n c.loop-marks.marks c.loop-marks.invariant.walk c.requires.above
-    (eqb-true (get_or c.loop-marks.marks c.loop-marks.n 0) c.args.start (not-false (nat_eq (get_or c.loop-marks.marks c.loop-marks.n 0) c.args.start) f))
-    (Climbs-reached (files_in image) c.requires.entries reached c.loop-marks.n (is_directory-at image c.loop-marks.n c.loop-marks.invariant.directory)))
+pub returns : goal.returns
+returns c = record {
+  climbs = OnTrue_from _ (Climbs (files_in c.args.image.now) c.args.start) (λ t.
+      c.loop-marks.invariant.walk.first (c.loop-marks.invariant.walk.before c.loop-marks.n c.loop-marks-test.false
+      (eqb-false (get_or c.loop-marks.marks c.loop-marks.n 0) c.args.start (not-true (nat_eq (get_or c.loop-marks.marks c.loop-marks.n 0) c.args.start) t))));
+  walked = OnTrue_from _ (HasWalked (files_in c.args.image.now) (c.args.start + 1) c.loop-marks.marks) (λ t.
+      HasWalked-more (files_in c.args.image.now) c.args.start c.loop-marks.n c.loop-marks.marks c.loop-marks.invariant.walk c.requires.above c.loop-marks-test.false
+      (eqb-false (get_or c.loop-marks.marks c.loop-marks.n 0) c.args.start (not-true (nat_eq (get_or c.loop-marks.marks c.loop-marks.n 0) c.args.start) t)));
+  round = OnFalse_from _ (IsReached (files_in c.args.image.now) → ⊥) (λ f reached.
+      let image = c.args.image.now in
+      round_not (files_in image) c.args.start c.loop-marks.n c.loop-marks.marks c.loop-marks.invariant.walk c.requires.above
+      (eqb-true (get_or c.loop-marks.marks c.loop-marks.n 0) c.args.start (not-false (nat_eq (get_or c.loop-marks.marks c.loop-marks.n 0) c.args.start) f))
+      (Climbs-reached (files_in image) c.requires.entries reached c.loop-marks.n (is_directory-at image c.loop-marks.n c.loop-marks.invariant.directory)));
+}

@@ -1,20 +1,18 @@
 use Rattle.std.proofs.Common.{◌≡◌, Err, length, ap, sym, subst, ◌∙◌, arith, IfErr, IfOk}
-use Rattle.std.proofs.lemmas.Result.{IfErr-weaker, err_from_is_err_and}
+use Rattle.std.proofs.lemmas.Result.{IfErr-weaker}
 use Rattle.imagerules.specs.Content.{image_of}
 use Rattle.imagecheck.specs.Faults.{Finds, Tells}
 use Rattle.imagerules.specs.Fields.{HasGeometry}
 use Rattle.imagecheck.specs.Summaries.{IsSummary}
 use Rattle.imagerules.proofs.Bounds.{size-most}
-use Rattle.imagecheck.proofs.Sounding.{Finds-not_device, Finds-told, Rises-before, Summary-told, refused-from, same-fault}
+use Rattle.imagecheck.proofs.Sounding.{Finds-not_device, Finds-told, Rises-before, Summary-told, fault-told, refused-from, same-fault, told-err}
 use Rattle.imagerules.proofs.Super.{count-is}
 use Rattle.imagecheck.proofs.rules.check.Goals as goal
 
 pub returns-in_err-geometry-clause-refused : goal.returns-in_err-geometry-clause-refused
 returns-in_err-geometry-clause-refused g c =
     let image = image_of (g.D.BlockDev.content c.args.device.now) in
-    let p = err_from_is_err_and c.from_residual.result c.from_residual.ensures.1 in
-    let told : IfErr c.from_residual.result (λ fault. Tells image fault) = rw (p.1, p.2) c.in_err-geometry.ensures.fault in
-    refused-from image c.from_residual.result told
+    refused-from image c.from_residual.result (fault-told (Tells image) c.from_residual.result c.from_residual.ensures.1 c.in_err-geometry.ensures.fault)
 
 pub read_blocks-requires : goal.read_blocks-requires
 read_blocks-requires g c = record {
@@ -27,10 +25,9 @@ returns-in_err-image g c =
     let device = c.args.device.now in
     let image = image_of (g.D.BlockDev.content device) in
     let r = c.from_residual-in_err-image.result in
-    let p = err_from_is_err_and r c.from_residual-in_err-image.ensures.1 in
     let only = rw c.read_geometry.ensures.same at c.in_err-image.ensures.only in
-    let told : IfErr r (λ fault. Tells image fault) = rw (p.1, p.2) only in
-    let is : r ≡ Err c.in_err-image.field-0.0 = p.1 ∙ ap Err p.2 in
+    let told : IfErr r (Tells image) = fault-told (Tells image) r c.from_residual-in_err-image.ensures.1 only in
+    let is : r ≡ Err c.in_err-image.field-0.0 = told-err r c.from_residual-in_err-image.ensures.1 in
     record {
       denotes = rw is tt;
       inodes = rw is tt;

@@ -1,14 +1,12 @@
 use Rattle.std.proofs.Common.{sym, subst, ◌∙◌, []}
 use Rattle.imagerules.specs.Marks.{HasMarks}
 use Rattle.imagerules.proofs.Marking.{HasMarks-none}
-use Rattle.std.proofs.lemmas.Result.{err_from_is_err_and}
-use Rattle.imagecheck.proofs.Sounding.{NoMemory-found, fault-found, fault-sound}
+use Rattle.imagecheck.specs.Faults.{Finds}
+use Rattle.imagecheck.proofs.Sounding.{fault-sound, fault-told}
 use Rattle.imagecheck.proofs.rules.test_blocks.Goals as goal
 
 pub returns-in_err-marks-clause-fault : goal.returns-in_err-marks-clause-fault
-returns-in_err-marks-clause-fault g c =
-    let p = err_from_is_err_and c.from_residual-in_err-marks.result c.from_residual-in_err-marks.ensures.1 in
-    NoMemory-found c.args.image.now c.from_residual-in_err-marks.result p.0 p.1 p.2
+returns-in_err-marks-clause-fault g c = fault-told (Finds c.args.image.now) c.from_residual-in_err-marks.result c.from_residual-in_err-marks.ensures.1 tt
 
 pub test_marks-requires-clause-long : goal.test_marks-requires-clause-long
 test_marks-requires-clause-long g c = c.deref_mut.ensures.len ∙ c.in_ok-marks.ensures.len
@@ -18,19 +16,13 @@ test_marks-requires-clause-fresh g c =
     subst (HasMarks []) (sym (c.deref_mut.ensures.value ∙ c.in_ok-marks.ensures.items_if_clones_equal (λ y e. cc))) (HasMarks-none c.args.geometry.size)
 
 pub returns-in_err-marks-clause-sound : goal.returns-in_err-marks-clause-sound
-returns-in_err-marks-clause-sound g c =
-    let p = err_from_is_err_and c.from_residual-in_err-marks.result c.from_residual-in_err-marks.ensures.1 in
-    fault-sound _ c.from_residual-in_err-marks.result p.0 p.1
+returns-in_err-marks-clause-sound g c = fault-sound _ c.from_residual-in_err-marks.result c.from_residual-in_err-marks.ensures.0
 
 pub returns-in_err-test_inodes-clause-sound : goal.returns-in_err-test_inodes-clause-sound
-returns-in_err-test_inodes-clause-sound g c =
-    let p = err_from_is_err_and c.from_residual.result c.from_residual.ensures.1 in
-    fault-sound _ c.from_residual.result p.0 p.1
+returns-in_err-test_inodes-clause-sound g c = fault-sound _ c.from_residual.result c.from_residual.ensures.0
 
 pub returns-in_err-test_inodes-clause-fault : goal.returns-in_err-test_inodes-clause-fault
-returns-in_err-test_inodes-clause-fault g c =
-    let p = err_from_is_err_and c.from_residual.result c.from_residual.ensures.1 in
-    fault-found c.args.image.now c.from_residual.result p.0 _ p.1 p.2 c.in_err-test_inodes.ensures.fault
+returns-in_err-test_inodes-clause-fault g c = fault-told (Finds c.args.image.now) c.from_residual.result c.from_residual.ensures.1 c.in_err-test_inodes.ensures.fault
 
 pub test_marks-requires-clause-inodes : goal.test_marks-requires-clause-inodes
 test_marks-requires-clause-inodes g c = c.in_ok-test_inodes.ensures.inodes

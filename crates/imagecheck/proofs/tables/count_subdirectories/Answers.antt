@@ -1,4 +1,5 @@
-use Rattle.std.proofs.Common.{◌≡◌, ℕ, ◌<◌, ◌+◌, Bool, length, get_or, take, sym, ap, subst, ◌∙◌, arith, true, false, refl, ◌&&◌, ◌==◌, eq-eqb, ne_eqb, length-set, take_all}
+use Rattle.std.proofs.Common.{ℕ, ◌<◌, ◌+◌, Bool, length, get_or, take, sym, ap, subst, ◌∙◌, arith, refl, ◌&&◌, ◌==◌, eq-eqb, ne_eqb, length-set, take_all}
+use Rattle.std.proofs.lemmas.Bool.{and_from, and_left, and_right}
 use Rattle.unixmodel.specs.Image.{is_directory_at}
 use Rattle.imagecheck.specs.Namings.{CountsSubdirectories, IsNaming}
 use Rattle.imagerules.specs.Places.{files_in}
@@ -36,20 +37,6 @@ bounds-counts-naming-then-is_directory c =
     let high = (c.requires.namings c.loop-naming.naming-index none c.loop-naming-test.true).high in
     omega (arith, c.requires.geometry.inodes, c.requires.long, c.loop-naming.invariant.long)
 
-and_true : (x y : Bool) → x ≡ true → y ≡ true → (x && y) ≡ true
-and_true true y e f = f
-and_true false y e f = e
-
-and_left : (x y : Bool) → x ≡ false → (x && y) ≡ false
-and_left true y e = absurd (two e) where
-  two : true ≡ false → ⊥
-  two f = cc
-and_left false y e = refl
-
-and_right : (x y : Bool) → y ≡ false → (x && y) ≡ false
-and_right true y e = e
-and_right false y e = refl
-
 pub loop-naming-preserved : goal.loop-naming-preserved
 loop-naming-preserved c =
     let image = c.args.image.now in
@@ -66,7 +53,7 @@ loop-naming-preserved c =
         long = ap length w.counts-is ∙ length-set c.loop-naming.counts m.directory (get_or c.loop-naming.counts m.directory 0 + 1) ∙ inv.long;
         counted = subst (CountsSubdirectories image (take (i + 1) namings)) (sym w.counts-is)
             (tally_more p namings i none c.loop-naming-test.true c.loop-naming.counts inv.counted m.directory high
-            (and_true (m.directory == m.directory) (is_directory_at (files_in image) m.number) (eq-eqb m.directory m.directory refl) (sym c.is_directory.ensures ∙ w.if-is_directory.true))
+            (and_from (m.directory == m.directory) (is_directory_at (files_in image) m.number) (eq-eqb m.directory m.directory refl) (sym c.is_directory.ensures ∙ w.if-is_directory.true))
             (λ k other. and_left (m.directory == k) (is_directory_at (files_in image) m.number) (ne_eqb m.directory k (λ e. other (sym e)))));
       }
       | else-is_directory w ↦ record {
