@@ -33,10 +33,6 @@ fresh_fits kind major minor links a b c d = record {
   places = refl;
 }
 
--- an inode without bytes has no blocks
-unused_empty : (blocks : List (List ℕ)) (inodes n : ℕ) → (inode_at blocks n).size ≡ 0 → (j : ℕ) → IsUsed blocks inodes n j → ⊥
-unused_empty blocks inodes n e j u = asks_none (inode_at blocks n).size j e u.slot
-
 -- what is so once a record is written for this node, or for none
 pub record IsRecorded (g : Geometry) (old new : List (List ℕ)) (n : ℕ) (node : Option RawNode) : Type 0 where
   pub sound : IsSound g new
@@ -74,7 +70,7 @@ recorded_fresh {g} {old} {new} {n} {kind} {major} {minor} {links} sound unused s
 -- an inode without bytes is given back
 pub recorded_given : {g : Geometry} {old new : List (List ℕ)} {n : ℕ} → IsSound g old → IsInode old g.inodes n → (inode_at old n).size ≡ 0 → WritesInode g old new n (fresh_inode 0 0 0 0) → IsRecorded g old new n None
 recorded_given {g} {old} {new} {n} sound inode empty writes =
-    recorded_none g old new n (fresh_inode 0 0 0 0) sound inode.low inode.high (unused_empty old g.inodes n empty) (omega arith) refl (zero_at 13) writes refl
+    recorded_none g old new n (fresh_inode 0 0 0 0) sound inode.low inode.high (λ j u. asks_none (inode_at old n).size j empty u.slot) (omega arith) refl (zero_at 13) writes refl
 
 -- the lowest free one is free
 pub unused-lowest : {g : Geometry} {blocks : List (List ℕ)} {n : ℕ} → IsLowestUnused g blocks n → IsUnused g blocks n

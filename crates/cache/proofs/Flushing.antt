@@ -3,7 +3,7 @@ use Rattle.std.proofs.Common.{◌≡◌, ℕ, ◌+◌, ◌-◌, ◌^◌, ◌≤�
 use Rattle.std.specs.Option.{option_map_or}
 use Rattle.std.specs.Map.{lookup, set_value}
 use Rattle.std.proofs.lemmas.List.{length-set, get_or-set_same, get_or-set_other}
-use Rattle.std.proofs.lemmas.Bool.{cases_eq, cases_lt}
+use Rattle.std.proofs.lemmas.Bool.{cases_eq, cases_lt, or_parts}
 use Rattle.blockdev.specs.Blocks.{block_at}
 use Rattle.cache.specs.declared.held.Slot.{Slot}
 use Rattle.lru.specs.LruCache.{LruCache}
@@ -35,14 +35,6 @@ from-next es b from n is = (found-of from b es n is).0
 was-long : (es : List (ℕ × Slot)) (c : List (List ℕ)) (b : Bool) (n : ℕ) (s : Slot) → lookup (nat_eq n) es ≡ Some s → AreHeld es c b → length s.bytes ≡ 1024
 unfolding AreHeld
 was-long es c b n s h held = (held n s h).size
-
-or-left : (a b : Bool) → (a || b) ≡ false → a ≡ false
-or-left true b h = absurd cc
-or-left false b h = refl
-
-or-right : (a b : Bool) → (a || b) ≡ false → b ≡ false
-or-right true b h = absurd cc
-or-right false b h = h
 
 -- block n, which holds s, was written
 module _ (es : List (ℕ × Slot)) (c : List (List ℕ)) (b : Bool) (n : ℕ) (s : Slot) (h : lookup (nat_eq n) es ≡ Some s) (low : n < length c) where
@@ -81,7 +73,7 @@ module _ (es : List (ℕ × Slot)) (c : List (List ℕ)) (b : Bool) (n : ℕ) (s
           | inl early ↦ done k t was early
           | inr late ↦
               let still : (t.changed || b) ≡ false = settled from b es k t was late (λ most. absurd (not (at-most-lower n k (subst (λ o. IsAtMost o k) next most) below))) in
-              (held k t was).clean (or-right t.changed b still) (or-left t.changed b still)
+              (held k t was).clean (or_parts t.changed b still).1 (or_parts t.changed b still).0
         ])
         ∙ sym (get_or-set_other c n k s.bytes [] not)
   ] where
@@ -112,7 +104,7 @@ all-flushed es c b blocks stored from f next k t h = elim (cases_lt k from) [
   | inl early ↦ f.done k t h early
   | inr late ↦
       let still : (t.changed || b) ≡ false = settled from b es k t h late (λ most. subst (λ o. IsAtMost o k) next most) in
-      (f.held k t h).clean (or-right t.changed b still) (or-left t.changed b still)
+      (f.held k t h).clean (or_parts t.changed b still).1 (or_parts t.changed b still).0
 ]
 
 pub flushed-is : (es : List (ℕ × Slot)) (c : List (List ℕ)) (b : Bool) (blocks stored : List (List ℕ)) (from : ℕ) → IsFlushing es c b blocks stored from → next_of from b es ≡ None → c ≡ blocks

@@ -5,7 +5,7 @@ use Rattle.std.specs.Option.{option_map_or, option_map}
 use Rattle.std.specs.Map.Iter.{deref_pair}
 use Rattle.std.specs.Map.{keys_of, lookup}
 use Rattle.std.specs.Cmp.{nat_eq_equiv}
-use Rattle.std.proofs.lemmas.Bool.{cases_eq}
+use Rattle.std.proofs.lemmas.Bool.{cases_eq, or_parts}
 use Rattle.std.proofs.lemmas.Map.Entries.{lookup_from_place}
 use Rattle.std.proofs.lemmas.List.{get_or-set_same}
 use Rattle.lru.specs.LruCache.{LruCache, put_entries, last_entry}
@@ -28,14 +28,6 @@ safe-one c d k s h one same = record {
       ap (λ (p : ℕ × Slot). p.1.bytes) (sym pair) ∙ same ∙ ap (λ (p : ℕ × Slot). block_at d p.0) pair;
 }
 
-or-left : (a b : Bool) → (a || b) ≡ false → a ≡ false
-or-left true b h = absurd cc
-or-left false b h = refl
-
-or-right : (a b : Bool) → (a || b) ≡ false → b ≡ false
-or-right true b h = absurd cc
-or-right false b h = h
-
 -- what a look at the last entry tells
 pub is-last : (es : List (ℕ × Slot)) (r : Option (Bor ℕ × Bor Slot)) (x : Bor ℕ × Bor Slot) → option_map deref_pair r ≡ last_entry es → r ≡ Some x → last_entry es ≡ Some (x.0.now, x.1.now)
 is-last es r x told is = sym told ∙ ap (option_map deref_pair) is
@@ -47,7 +39,7 @@ none-last es r told is = sym told ∙ ap (option_map deref_pair) is
 pub safe-clean : (c : LruCache ℕ Slot) (d : List (List ℕ)) (b : Bool) (k : ℕ) (s : Slot) → length c.entries ≤ c.cap → IsDistinct nat_eq (keys_of c.entries) → last_entry c.entries ≡ Some (k, s) → AreHeld c.entries d b → (s.changed || b) ≡ false → IsLastSafe c d
 unfolding AreHeld
 safe-clean c d b k s fits distinct last held clean =
-    safe-one c d k s fits last ((held k s (last-lookup c.entries k s distinct last)).clean (or-right s.changed b clean) (or-left s.changed b clean))
+    safe-one c d k s fits last ((held k s (last-lookup c.entries k s distinct last)).clean (or_parts s.changed b clean).1 (or_parts s.changed b clean).0)
 
 -- it is written
 pub low-last : (c : LruCache ℕ Slot) (d : List (List ℕ)) (b : Bool) (k : ℕ) (s : Slot) → IsDistinct nat_eq (keys_of c.entries) → last_entry c.entries ≡ Some (k, s) → AreHeld c.entries d b → k < length d

@@ -1,27 +1,26 @@
 -- The entries of all directories, one directory after the other, and what tables of them tell of the files.
-use Rattle.std.proofs.Common.{◌≡◌, ◌≢◌, ℕ, ◌+◌, ◌*◌, ◌/◌, ◌<◌, ◌≤◌, Bool, List, [], ◌∷◌, ◌++◌, None, Option, Some, length, get_or, map, replicate, take, drop, ap, sym, refl, ◌∙◌, add-zero, arith, subst, cond, inl, inr, true, false, zero, suc, All, IsSome, count_by, filter, flat_map, option_map, slice_get, unwrap_or, ◌&&◌, ◌==◌, option_to_list}
+use Rattle.std.proofs.Common.{◌≡◌, ◌≢◌, ℕ, ◌+◌, ◌*◌, ◌/◌, ◌<◌, ◌≤◌, Bool, List, [], ◌∷◌, ◌++◌, Some, length, get_or, map, replicate, take, drop, ap, sym, refl, ◌∙◌, add-zero, arith, subst, cond, inl, inr, true, false, zero, suc, All, count_by, filter, flat_map, option_map, slice_get, unwrap_or, ◌&&◌, ◌==◌, option_to_list}
 use Rattle.std.specs.List.{find, range_with_len, sum_by}
 use Rattle.std.proofs.lemmas.Bool.{cases_eq, eq-eqb, ne_eqb}
 use Rattle.std.proofs.lemmas.List.{append-nil, append_assoc, map-append}
 use Rattle.std.proofs.lemmas.List.Concat.{flat_map-append}
 use Rattle.std.proofs.lemmas.List.Elements.{All-map, All-nil, All-replicate}
 use Rattle.std.proofs.lemmas.Simd.{map-map}
-use Rattle.std.proofs.lemmas.List.FromFn.{get_or-range_with_len, length-range_with_len}
 use Rattle.std.proofs.lemmas.List.Sums.{sum_by-append, sum_by-cons}
 use Rattle.layout.specs.declared.Geometry.{Geometry}
 use Rattle.unixmodel.specs.Files.{Entry, slot}
 use Rattle.unixmodel.specs.Image.{all_entries, contents_in, entries_of, inodes_in, is_directory_at, kind_in, names_number, names_of, parent_of, subdirectories}
 use Rattle.imagecheck.specs.Entries.{NamesDirectories, entries_in, entries_to}
 use Rattle.imagerules.specs.Rules.{BlockRules, HasBlocks, HasBlocks-of}
-use Rattle.imagecheck.specs.Namings.{CountsNames, CountsSubdirectories, HasParents, HasParentsAmong, IsListed, IsNaming, TellsNames, TellsSubdirectories, naming, namings_in, namings_of, parent_among, times_holding, times_named}
+use Rattle.imagecheck.specs.Namings.{CountsNames, CountsSubdirectories, HasParents, HasParentsAmong, IsListed, IsNaming, TellsNames, TellsSubdirectories, directory_or_zero, first_directory, naming, namings_in, namings_of, parent_among, times_holding, times_named}
 use Rattle.imagerules.specs.Places.{files_in, place_of_bytes}
 use Rattle.imagecheck.specs.declared.namings.Naming.{Naming}
 use Rattle.imagecheck.proofs.Entering.{entries_more}
 use Rattle.imagerules.proofs.Lists.{All-flat_map}
 use Rattle.imagerules.proofs.Marking.{range-split}
 use Rattle.imagecheck.proofs.Naming.{slot-directory}
-use Rattle.imagerules.proofs.Nodes.{length-files_in}
-use Rattle.imagecheck.proofs.Standing.{slot-zero, some_high, stands_each}
+use Rattle.imagerules.proofs.Nodes.{length-files_in, slot-zero}
+use Rattle.imagecheck.proofs.Standing.{some_high, stands_each}
 
 -- ---- lists
 
@@ -63,7 +62,7 @@ namings_to-more image n =
     ∙ ap (λ r. namings_to image n ++ r) (append-nil (namings_at image (0 + n)) ∙ ap (namings_at image) f)
 
 pub namings_to-first : (image : List ℕ) → 0 < inodes_in image → namings_to image 1 ≡ []
-namings_to-first image h = ap (λ o. namings_of 0 (entries_of o) ++ []) (slot-zero image h)
+namings_to-first image h = ap (λ o. namings_of 0 (entries_of o) ++ []) (slot-zero image 0 refl h)
 
 -- a directory's entries, and those of another inode
 entries_at : (image : List ℕ) (n : ℕ) → 1 ≤ n → n < inodes_in image → kind_in image n ≡ 1 → entries_of (slot (files_in image) n) ≡ entries_in (contents_in image n)
@@ -99,29 +98,12 @@ namings-place old now new d k bytes place low high at before more =
 
 namings-fit : (image : List ℕ) → HasBlocks image → NamesDirectories image → All (IsNaming image) (namings_in image)
 namings-fit image b named =
-    subst (All (IsNaming image)) (namings_to-all image)
-    (All-flat_map (IsNaming image) (namings_at image) (range_with_len 0 (inodes_in image)) (λ k d l.
-    let within : k < inodes_in image = omega (arith, length-range_with_len 0 (inodes_in image)) in
-    let e : get_or (range_with_len 0 (inodes_in image)) k d ≡ k = get_or-range_with_len 0 (inodes_in image) k d within ∙ omega arith in
-    subst (λ m. All (IsNaming image) (namings_at image m)) (sym e) (at k within)))
-  where
-    of_entries : (n : ℕ) → 1 ≤ n → n < inodes_in image → (es : List Entry) → All (λ (e : Entry). IsSome (slot (files_in image) e.number)) es → All (IsNaming image) (namings_of n es)
-    of_entries n low high es h = All-map (IsNaming image) (λ (e : Entry). naming (n, e)) es (λ k d l. record { low = low; high = high; number = h k d l })
-
-    none : (n : ℕ) (es : List Entry) → es ≡ [] → All (IsNaming image) (namings_of n es)
-    none n es e = subst (λ xs. All (IsNaming image) (namings_of n xs)) (sym e) (All-nil (IsNaming image))
-
-    at : (n : ℕ) → n < inodes_in image → All (IsNaming image) (namings_at image n)
-    at n high = elim (cases_eq n 0) [
-      | inl z ↦ none n (entries_of (slot (files_in image) n)) (ap (λ m. entries_of (slot (files_in image) m)) z ∙ ap entries_of (slot-zero image (omega arith)))
-      | inr some ↦ elim (cases_eq (kind_in image n) 1) [
-        | inr other ↦ none n (entries_of (slot (files_in image) n)) (entries_other image b n other)
-        | inl directory ↦
-            let low : 1 ≤ n = omega arith in
-            subst (λ es. All (IsNaming image) (namings_of n es)) (sym (entries_at image n low high directory))
-            (of_entries n low high (entries_in (contents_in image n)) (λ k d l. ((named n low high directory).good k d l).number))
-      ]
-    ]
+    let none : (n : ℕ) → All (IsNaming image) [] = λ n. All-nil (IsNaming image) in
+    let each : (n : ℕ) → All (IsNaming image) (namings_at image n) =
+    stands_each image b (λ n o. All (IsNaming image) (namings_of n (entries_of o))) none (λ n low high e.
+    All-map (IsNaming image) (λ (e : Entry). naming (n, e)) (entries_in (contents_in image n)) (λ k d l. record { low = low; high = high; number = ((named n low high e).good k d l).number }))
+    (λ n low high e. none n) (λ n low high e. none n) in
+    subst (All (IsNaming image)) (namings_to-all image) (All-flat_map (IsNaming image) (namings_at image) (range_with_len 0 (inodes_in image)) (λ k d l. each (get_or (range_with_len 0 (inodes_in image)) k d)))
 
 module _ {image : List ℕ} {g : Geometry} {namings : List Naming} (h : IsListed image g namings) where
   pub namings-fitting : All (IsNaming image) namings
@@ -146,32 +128,18 @@ TellsNames-from image counts namings e h n l = h n l ∙ ap (λ ms. times_named 
 
 -- ---- the directory that names a number
 
-find-map : {A B : Type 0} (p : B → Bool) (f : A → B) (xs : List A) → find p (map f xs) ≡ option_map f (find (λ x. p (f x)) xs)
-find-map p f [] = refl
-find-map p f (x ∷ xs) = go (p (f x)) (find-map p f xs) where
-  go : (b : Bool) → find p (map f xs) ≡ option_map f (find (λ y. p (f y)) xs) → cond b (Some (f x)) (find p (map f xs)) ≡ option_map f (cond b (Some x) (find (λ y. p (f y)) xs))
+first_filter : (n : ℕ) (xs : List (ℕ × Entry)) → first_directory (map naming xs) n ≡ unwrap_or (option_map (λ (e : ℕ × Entry). e.0) (slice_get (filter (names_number n) xs) 0)) 0
+first_filter n [] = refl
+first_filter n (x ∷ xs) = go (names_number n x) (first_filter n xs) where
+  go : (b : Bool) → first_directory (map naming xs) n ≡ unwrap_or (option_map (λ (e : ℕ × Entry). e.0) (slice_get (filter (names_number n) xs) 0)) 0
+      → directory_or_zero (cond b (Some (naming x)) (find (λ (m : Naming). m.number == n) (map naming xs)))
+      ≡ unwrap_or (option_map (λ (e : ℕ × Entry). e.0) (slice_get (cond b (x ∷ filter (names_number n) xs) (filter (names_number n) xs)) 0)) 0
   go true e = refl
   go false e = e
-
-first-filter : {A : Type 0} (p : A → Bool) (xs : List A) → find p xs ≡ slice_get (filter p xs) 0
-first-filter p [] = refl
-first-filter p (x ∷ xs) = go (p x) (first-filter p xs) where
-  go : (b : Bool) → find p xs ≡ slice_get (filter p xs) 0 → cond b (Some x) (find p xs) ≡ slice_get (cond b (x ∷ filter p xs) (filter p xs)) 0
-  go true e = refl
-  go false e = e
-
-directory_of : (o : Option (ℕ × Entry)) → option_map (λ (m : Naming). m.directory) (option_map naming o) ≡ option_map (λ (e : ℕ × Entry). e.0) o
-directory_of None = refl
-directory_of (Some e) = refl
 
 parent-is : (image : List ℕ) (n : ℕ) → parent_among (namings_in image) n ≡ parent_of (files_in image) n
 unfolding parent_of
-parent-is image n =
-    let all = all_entries (files_in image) in
-    ap (λ x. cond (n == 1) 1 x)
-    (ap (λ o. unwrap_or (option_map (λ (m : Naming). m.directory) o) 0) (find-map (λ (m : Naming). m.number == n) naming all)
-    ∙ ap (λ o. unwrap_or o 0) (directory_of (find (names_number n) all))
-    ∙ ap (λ o. unwrap_or (option_map (λ (e : ℕ × Entry). e.0) o) 0) (first-filter (names_number n) all))
+parent-is image n = ap (λ x. cond (n == 1) 1 x) (first_filter n (all_entries (files_in image)))
 
 pub HasParents-from : (image parents : List ℕ) (namings : List Naming) → namings ≡ namings_in image → HasParentsAmong namings parents → HasParents image parents
 HasParents-from image parents namings e h n l = h n l ∙ ap (λ ms. parent_among ms n) e ∙ parent-is image n

@@ -4,13 +4,13 @@ use Rattle.std.specs.List.{list_all}
 use Rattle.std.proofs.lemmas.Bool.{cond-false, cond-true, false≢true}
 use Rattle.std.proofs.lemmas.List.{drop-append-le, drop_all, length-take, length-take-le, take-append-drop, take_all, take_more}
 use Rattle.std.proofs.lemmas.List.Elements.{All-append, All-cons, All-head, All-nil, filter_map-append}
-use Rattle.unixmodel.specs.Files.{Entry, slot, taken}
+use Rattle.unixmodel.specs.Files.{Entry, Node, slot, taken}
 use Rattle.unixmodel.specs.Image.{inodes_in, kind_in}
 use Rattle.unixmodel.specs.Numbers.{number_at}
 use Rattle.imagecheck.specs.Entries.{Holds, entries_in, entries_to}
 use Rattle.imagerules.specs.Places.{files_in, place_of_bytes, places_in, without_zeros}
 use Rattle.imagerules.proofs.Lists.{All-left, All-right}
-use Rattle.imagerules.proofs.Nodes.{file_in-free, file_in-used, file_in-zero, slot-files_in, slot-past}
+use Rattle.imagerules.proofs.Nodes.{file_in-used, slot-files_in}
 use Rattle.imagerules.proofs.Spelling.{length-places_in, slot-places_in}
 
 -- ---- numbers in use
@@ -18,14 +18,8 @@ use Rattle.imagerules.proofs.Spelling.{length-places_in, slot-places_in}
 pub used_some : (image : List ℕ) (n : ℕ) → 1 ≤ n → n < inodes_in image → kind_in image n ≢ 0 → IsSome (slot (files_in image) n)
 used_some image n low high used = ap is_some (slot-files_in image n high ∙ file_in-used image n low used)
 
-pub none_past : (image : List ℕ) (n : ℕ) → inodes_in image ≤ n → IsSome (slot (files_in image) n) → ⊥
-none_past image n past h = false≢true (sym (ap is_some (slot-past image n past)) ∙ h)
-
-pub none_free : (image : List ℕ) (n : ℕ) → n < inodes_in image → kind_in image n ≡ 0 → IsSome (slot (files_in image) n) → ⊥
-none_free image n high free h = false≢true (sym (ap is_some (slot-files_in image n high ∙ file_in-free image n free)) ∙ h)
-
-pub none_zero : (image : List ℕ) (n : ℕ) → 0 < inodes_in image → n ≡ 0 → IsSome (slot (files_in image) n) → ⊥
-none_zero image n some z h = false≢true (sym (ap is_some (ap (slot (files_in image)) z ∙ slot-files_in image 0 some ∙ file_in-zero image)) ∙ h)
+pub none_used : {o : Option Node} → o ≡ None → IsSome o → ⊥
+none_used e used = false≢true (sym (ap is_some e) ∙ used)
 
 -- ---- one place
 

@@ -6,14 +6,14 @@ use Rattle.std.proofs.lemmas.List.{ext_get_or, get_or-drop, get_or-take, get_or_
 use Rattle.std.proofs.lemmas.Option.{none-some}
 use Rattle.unixmodel.specs.Files.{Entry, dot_dot, is_directory, slot}
 use Rattle.unixmodel.specs.Image.{block_at, contents_in, count_in, data_blocks, direct_in, index_in, inode_at, is_directory_at, kind_in, length_in, parent_of}
-use Rattle.unixmodel.specs.Numbers.{number, number_at}
+use Rattle.unixmodel.specs.Numbers.{number_at}
 use Rattle.imagerules.specs.Rules.{HasBlocks}
 use Rattle.imagerules.specs.Places.{HasEntries, HasLinks, files_in, place_of_bytes, places_in, without_zeros}
 use Rattle.imagecheck.specs.Entries.{FitsFront}
 use Rattle.imagecheck.specs.Reach.{IsDirectoryIn, first_block}
 use Rattle.imagecheck.proofs.Naming.{directory-least, entries-at, slot-directory}
 use Rattle.imagerules.proofs.Nodes.{length-block}
-use Rattle.imagerules.proofs.Numbers.{get_or-numbers_at, length-numbers_at}
+use Rattle.imagerules.proofs.Numbers.{get_or-numbers_at, length-numbers_at, same_number}
 use Rattle.imagecheck.proofs.Reaching.{parent_leads, parent_root, used_from}
 use Rattle.imagecheck.proofs.Standing.{is_directory-is, some_high, some_low}
 use Rattle.imagerules.proofs.Spelling.{slot-places_in}
@@ -42,19 +42,6 @@ parent_directory image blocks entries links n h = elim (cases_eq n 1) [
 ]
 
 -- ---- the bytes of its second place
-
--- numbers of the same bytes
-same_number : (k p q : ℕ) (xs ys : List ℕ) → p + k ≤ length xs → q + k ≤ length ys → ((i : ℕ) → i < k → get_or xs (p + i) 0 ≡ get_or ys (q + i) 0) → number_at k p xs ≡ number_at k q ys
-same_number k p q xs ys l m same =
-    ap number (ext_get_or 0 (slice_range xs p (p + k)) (slice_range ys q (q + k)) (long p xs l ∙ sym (long q ys m)) (λ i j.
-    let within : i < k = omega (arith, long p xs l) in
-    at p xs i within ∙ same i within ∙ sym (at q ys i within)))
-  where
-    long : (p : ℕ) (xs : List ℕ) → p + k ≤ length xs → length (slice_range xs p (p + k)) ≡ k
-    long p xs l = length-take-le (p + k - p) (drop p xs) (omega (arith, length-drop p xs)) ∙ omega arith
-
-    at : (p : ℕ) (xs : List ℕ) (i : ℕ) → i < k → get_or (slice_range xs p (p + k)) i 0 ≡ get_or xs (p + i) 0
-    at p xs i h = get_or-take (p + k - p) (drop p xs) i 0 (omega arith) ∙ get_or-drop p xs i 0
 
 taken_number : (t : Bool) (e f : Entry) → cond t None (Some e) ≡ Some f → e.number ≡ f.number
 taken_number true e f h = absurd (none-some f h)

@@ -1,7 +1,6 @@
 -- What a result of a pass tells, from what the pass before it tells.
 use Rattle.std.proofs.Common.{Err, List, Ok, Result, length, ℕ, ◌≡◌, ◌≢◌, ◌≤◌, ap, arith, subst, sym, ◌∙◌, IfErr, IfOk, IsErrAnd, IsErrOf, OnOk}
-use Rattle.std.proofs.lemmas.Result.{IfOk-from_err, err_from_is_err_and}
-use Rattle.std.specs.Result.{IsErr}
+use Rattle.std.proofs.lemmas.Result.{err_from_is_err_and}
 use Rattle.unixmodel.specs.Failures.{Rises}
 use Rattle.unixmodel.specs.Files.{Files}
 use Rattle.unixmodel.specs.Image.{Denotes, named_blocks, numbers_in_use}
@@ -58,10 +57,7 @@ Finds-told image fault h = h
 pub Finds-not_device : {T : Type 0} (image : List ℕ) (r : Result T ImageFault) → IfErr r (Finds image) → IsErrOf r Device → ⊥
 Finds-not_device image r h told = subst (λ x. IfErr x (Finds image)) told h
 
--- a fault that is handed on is no success, and what holds of it holds of the result
-pub fault-sound : {T : Type 0} (P : Type 0) (r : Result T ImageFault) → IsErr r → OnOk r P
-fault-sound P r told = IfOk-from_err r (λ _. P) told
-
+-- what holds of a fault that is handed on holds of the result
 pub fault-told : {T : Type 0} {given : ImageFault} (P : ImageFault → Type 0) (r : Result T ImageFault) → IsErrAnd r (λ f. f ≡ given) → P given → IfErr r P
 fault-told P r told holds = subst (λ x. IfErr x P) (sym (told-err r told)) holds
 

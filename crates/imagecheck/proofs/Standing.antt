@@ -8,49 +8,33 @@ use Rattle.imagecheck.specs.Entries.{AreNamed, HasFronts, NamesDirectories}
 use Rattle.imagerules.specs.Rules.{HasBlocks}
 use Rattle.imagecheck.specs.Namings.{FitsLinks}
 use Rattle.imagerules.specs.Places.{EntriesAt, HasEntries, HasLinks, LinksAt, files_in, kind_node, node_in, places_in}
-use Rattle.imagecheck.proofs.Entering.{none_past, none_zero}
+use Rattle.imagecheck.proofs.Entering.{none_used}
 use Rattle.imagecheck.proofs.Naming.{slot-directory}
-use Rattle.imagerules.proofs.Nodes.{file_in-free, file_in-used, file_in-zero, node_in-device, node_in-file, slot-files_in, slot-past}
+use Rattle.imagerules.proofs.Nodes.{by_kind, file_in-used, node_in-device, node_in-file, slot-files_in, slot-free, slot-past, slot-zero}
 
-pub slot-zero : (image : List ℕ) → 0 < inodes_in image → slot (files_in image) 0 ≡ None
-slot-zero image h = slot-files_in image 0 h ∙ file_in-zero image
+module _ (image : List ℕ) (n : ℕ) (high : n < inodes_in image) (low : 1 ≤ n) where
+  pub slot-file : kind_in image n ≡ 2 → slot (files_in image) n ≡ Some (File (links_in image n) (contents_in image n))
+  slot-file e = slot-files_in image n high ∙ file_in-used image n low (λ z. absurd (omega arith)) ∙ ap Some (node_in-file image n e)
 
-module _ (image : List ℕ) (n : ℕ) (high : n < inodes_in image) where
-  pub slot-free : kind_in image n ≡ 0 → slot (files_in image) n ≡ None
-  slot-free e = slot-files_in image n high ∙ file_in-free image n e
-
-  module _ (low : 1 ≤ n) where
-    pub slot-file : kind_in image n ≡ 2 → slot (files_in image) n ≡ Some (File (links_in image n) (contents_in image n))
-    slot-file e = slot-files_in image n high ∙ file_in-used image n low (λ z. absurd (omega arith)) ∙ ap Some (node_in-file image n e)
-
-    pub slot-device : kind_in image n ≡ 3 → slot (files_in image) n ≡ Some (Device (links_in image n) (major_in image n) (minor_in image n))
-    slot-device e = slot-files_in image n high ∙ file_in-used image n low (λ z. absurd (omega arith)) ∙ ap Some (node_in-device image n e)
+  pub slot-device : kind_in image n ≡ 3 → slot (files_in image) n ≡ Some (Device (links_in image n) (major_in image n) (minor_in image n))
+  slot-device e = slot-files_in image n high ∙ file_in-used image n low (λ z. absurd (omega arith)) ∙ ap Some (node_in-device image n e)
 
 -- a fact on numbers and what they stand for, by the four types
 module _ (image : List ℕ) (b : HasBlocks image) (P : ℕ → Option Node → Type 0) (free : (n : ℕ) → P n None)
     (directory : (n : ℕ) → 1 ≤ n → n < inodes_in image → kind_in image n ≡ 1 → P n (Some (Directory (links_in image n) (places_in (contents_in image n)))))
     (file : (n : ℕ) → 1 ≤ n → n < inodes_in image → kind_in image n ≡ 2 → P n (Some (File (links_in image n) (contents_in image n))))
     (device : (n : ℕ) → 1 ≤ n → n < inodes_in image → kind_in image n ≡ 3 → P n (Some (Device (links_in image n) (major_in image n) (minor_in image n)))) where
-  in_range : (n : ℕ) → 1 ≤ n → n < inodes_in image → P n (slot (files_in image) n)
-  in_range n low high =
-      let known : kind_in image n ≤ 3 = b.inodes.kinds.known n low high in
-      elim (cases_eq (kind_in image n) 0) [
-        | inl e ↦ subst (P n) (sym (slot-free image n high e)) (free n)
-        | inr p ↦ elim (cases_eq (kind_in image n) 1) [
-          | inl e ↦ subst (P n) (sym (slot-directory image n low high e)) (directory n low high e)
-          | inr q ↦ elim (cases_eq (kind_in image n) 2) [
-            | inl e ↦ subst (P n) (sym (slot-file image n high low e)) (file n low high e)
-            | inr r ↦ let e : kind_in image n ≡ 3 = omega arith in subst (P n) (sym (slot-device image n high low e)) (device n low high e)
-          ]
-        ]
-      ]
-
   pub stands_each : (n : ℕ) → P n (slot (files_in image) n)
   stands_each n = elim (cases_lt n (inodes_in image)) [
     | inr past ↦ subst (P n) (sym (slot-past image n past)) (free n)
     | inl high ↦ elim (cases_eq n 0) [
-      | inl z ↦ subst (P n) (sym (ap (slot (files_in image)) z ∙ slot-zero image (omega arith))) (free n)
-      | inr some ↦ in_range n (omega arith) high
+      | inl z ↦ subst (P n) (sym (slot-zero image n z (omega arith))) (free n)
+      | inr some ↦
+          let low : 1 ≤ n = omega arith in
+          by_kind (kind_in image n) (b.inodes.kinds.known n low high) (λ e. subst (P n) (sym (slot-free image n high e)) (free n))
+          (λ e. subst (P n) (sym (slot-directory image n low high e)) (directory n low high e))
+          (λ e. subst (P n) (sym (slot-file image n high low e)) (file n low high e))
+          (λ e. subst (P n) (sym (slot-device image n high low e)) (device n low high e))
     ]
   ]
 
@@ -84,43 +68,24 @@ HasLinks-from image b h =
     named : (n : ℕ) → 1 ≤ n → n < inodes_in image → kind_in image n ≢ 0 → kind_in image n ≢ 1 → (links_in image n ≡ names_of (files_in image) n) × (1 ≤ links_in image n) × (links_in image n ≤ most_links)
     named n low high used other = let fits = h n low high in (fits.counted used other, fits.least used other, fits.most used other)
 
-pub FitsLinks-same : (k l n s k' l' n' s' : ℕ) → k ≡ k' → l ≡ l' → n ≡ n' → s ≡ s' → FitsLinks k l n s → FitsLinks k' l' n' s'
-FitsLinks-same k l n s k' l' n' s' a b c d h =
-    subst (λ x. FitsLinks x l' n' s') a (subst (λ x. FitsLinks k x n' s') b (subst (λ x. FitsLinks k l x s') c (subst (FitsLinks k l n) d h)))
+leaf_fits : {k l n s : ℕ} → k ≢ 1 → (k ≢ 0 → (l ≡ n) × (1 ≤ l) × (l ≤ most_links)) → FitsLinks k l n s
+leaf_fits other at = record { directory = λ e. absurd (other e); counted = λ used _. (at used).0; least = λ used _. (at used).1; most = λ used _. (at used).2 }
 
 pub FitsLinks-at : (image : List ℕ) → HasBlocks image → HasLinks (files_in image) → (n : ℕ) → 1 ≤ n → n < inodes_in image → LinksFit image n
 FitsLinks-at image b h n low high =
-    let files = files_in image in
-    let known : kind_in image n ≤ 3 = b.inodes.kinds.known n low high in
-    elim (cases_eq (kind_in image n) 1) [
-      | inl e ↦ record {
-        directory = λ _. subst (LinksAt files n) (slot-directory image n low high e) (h n);
-        counted = λ used other. absurd (other e);
-        least = λ used other. absurd (other e);
-        most = λ used other. absurd (other e);
-      }
-      | inr p ↦ elim (cases_eq (kind_in image n) 2) [
-        | inl e ↦
-            let at = subst (LinksAt files n) (slot-file image n high low e) (h n) in
-            record { directory = λ d. absurd (p d); counted = λ used other. at.0; least = λ used other. at.1; most = λ used other. at.2 }
-        | inr q ↦ elim (cases_eq (kind_in image n) 3) [
-          | inl e ↦
-              let at = subst (LinksAt files n) (slot-device image n high low e) (h n) in
-              record { directory = λ d. absurd (p d); counted = λ used other. at.0; least = λ used other. at.1; most = λ used other. at.2 }
-          | inr r ↦
-              let z : kind_in image n ≡ 0 = omega arith in
-              record { directory = λ d. absurd (p d); counted = λ used other. absurd (used z); least = λ used other. absurd (used z); most = λ used other. absurd (used z) }
-        ]
-      ]
-    ]
+    let at = LinksAt (files_in image) n in
+    by_kind (kind_in image n) (b.inodes.kinds.known n low high) (λ e. leaf_fits (λ d. absurd (omega arith)) (λ used. absurd (used e)))
+    (λ e. record { directory = λ _. subst at (slot-directory image n low high e) (h n); counted = λ used other. absurd (other e); least = λ used other. absurd (other e); most = λ used other. absurd (other e) })
+    (λ e. leaf_fits (λ d. absurd (omega arith)) (λ _. subst at (slot-file image n high low e) (h n)))
+    (λ e. leaf_fits (λ d. absurd (omega arith)) (λ _. subst at (slot-device image n high low e) (h n)))
 
 -- ---- numbers in use
 
 pub some_low : (image : List ℕ) (n : ℕ) → 0 < inodes_in image → IsSome (slot (files_in image) n) → 1 ≤ n
-some_low image n some h = elim (cases_eq n 0) [ inl z ↦ absurd (none_zero image n some z h) | inr other ↦ omega arith ]
+some_low image n some h = elim (cases_eq n 0) [ inl z ↦ absurd (none_used (slot-zero image n z some) h) | inr other ↦ omega arith ]
 
 pub some_high : (image : List ℕ) (n : ℕ) → IsSome (slot (files_in image) n) → n < inodes_in image
-some_high image n h = elim (cases_lt n (inodes_in image)) [ inl l ↦ l | inr past ↦ absurd (none_past image n past h) ]
+some_high image n h = elim (cases_lt n (inodes_in image)) [ inl l ↦ l | inr past ↦ absurd (none_used (slot-past image n past) h) ]
 
 not_directory : (k links : ℕ) (bytes : List ℕ) (major minor : ℕ) → (k == 1) ≡ false → is_directory (kind_node k links bytes major minor) ≡ false
 not_directory k links bytes major minor e =

@@ -9,6 +9,7 @@ use Rattle.layout.specs.Image.{RawNode, bytes_of, free_blocks, inode_at, nodes_o
 use Rattle.layout.specs.Sound.{IsSound}
 use Rattle.balloc.specs.Inodes.{IsUnused, fresh_node}
 use Rattle.inode.specs.Writing.{Wrote, node_linked, IsFull}
+use Rattle.inode.proofs.Wrote.{same_node}
 use Rattle.imagemake.specs.Added.{LacksRoomFor, Widens}
 use Rattle.imagemake.specs.Stored.{Stores, bare, major_of, minor_of, raw_of}
 use Rattle.imagemake.proofs.Storing.{Stores-put, blocks_of-set, held-bytes, held-inode, held-node, held-whole, length-stored, slot-within, used_by}
@@ -35,11 +36,6 @@ few-more g old mid new n at bytes k same e full =
     let l = full.some_left in
     let m = taken-grows (at + k + 1) (length (bytes_of old n) + length bytes) (omega arith) in
     omega arith
-
--- the same fields make the same node
-same-raw : {k k' a a' i i' l l' : ℕ} {b b' : List ℕ} → k ≡ k' → a ≡ a' → i ≡ i' → l ≡ l' → b ≡ b'
-    → ◌≡◌ {A = RawNode} (record { kind = k; major = a; minor = i; links = l; bytes = b }) (record { kind = k'; major = a'; minor = i'; links = l'; bytes = b' })
-same-raw p q r t u = λ i. record { kind = p i; major = q i; minor = r i; links = t i; bytes = u i }
 
 -- ---- a node without bytes
 
@@ -70,7 +66,7 @@ Stores-taken g old new n t kind major minor k a i fresh sound nodes free files s
     let no_blocks : blocks_for (size_of (bare t)) ≡ 0 = bare-blocks (size_of (bare t)) (bare-size t) in
     let unused : used_by (slot files n) ≡ 0 = ap used_by none in
     Stores-put g old new files stores n (bare t) (omega (arith, fresh.high, length-stored g old files stores)) sound
-    (nodes ∙ ap (λ node. set (nodes_of old g.inodes) n (Some node)) (same-raw k a i refl refl ∙ fresh-bare t))
+    (nodes ∙ ap (λ node. set (nodes_of old g.inodes) n (Some node)) (same_node k a i refl refl ∙ fresh-bare t))
     (bare-whole t)
     (omega arith)
 
@@ -97,7 +93,7 @@ module _ (g : Geometry) (old new : List (List ℕ)) (n : ℕ) (bytes : List ℕ)
       let balance = wrote.balance in
       let long : taken_for (length (bytes_of old n ++ bytes)) ≡ taken_for (length (bytes_of old n) + length bytes) = ap taken_for (length-append (bytes_of old n) bytes) in
       Stores-put g old new files stores n after (slot-within files n before here) wrote.sound
-      (wrote.nodes ∙ ap (λ node. set (nodes_of old g.inodes) n (Some node)) (same-raw
+      (wrote.nodes ∙ ap (λ node. set (nodes_of old g.inodes) n (Some node)) (same_node
       (ap (λ (r : RawNode). r.kind) is ∙ sym wide.kind)
       (ap (λ (r : RawNode). r.major) is ∙ sym wide.major)
       (ap (λ (r : RawNode). r.minor) is ∙ sym wide.minor)
@@ -140,7 +136,7 @@ Stores-linked g old new n k sound nodes free one files node stores here =
     let same : blocks_for (size_of (with_links node (links_of node + 1))) ≡ blocks_for (size_of node) = ap blocks_for (links-size node (links_of node + 1)) in
     let used : used_by (slot files n) ≡ blocks_for (size_of node) = ap used_by here in
     Stores-put g old new files stores n (with_links node (links_of node + 1)) (slot-within files n node here) sound
-    (nodes ∙ ap (λ r. set (nodes_of old g.inodes) n (Some r)) (same-raw
+    (nodes ∙ ap (λ r. set (nodes_of old g.inodes) n (Some r)) (same_node
     (ap (λ (r : RawNode). r.kind) is)
     (ap (λ (r : RawNode). r.major) is)
     (ap (λ (r : RawNode). r.minor) is)

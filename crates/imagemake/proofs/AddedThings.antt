@@ -23,9 +23,6 @@ use Rattle.imagemake.proofs.AddedNodes.{links-size}
 pub slot-put : (files : Files) (n : ℕ) (node : Node) → n < length files → slot (put files n node) n ≡ Some node
 slot-put files n node h = get_or-set_same files n (Some node) None h
 
-pub held-links : (g : Geometry) (blocks : List (List ℕ)) (files : Files) → Stores g blocks files → (n : ℕ) (node : Node) → slot files n ≡ Some node → (inode_at blocks n).links ≡ links_of node
-held-links g blocks files stores n node here = ap (λ (r : RawNode). r.links) (held-node g blocks files stores n node here)
-
 -- ---- a node is put twice
 
 pub IsPut-again : (g : Geometry) (blocks : List (List ℕ)) (files : Files) (n : ℕ) (a b : Node) (result : Result (Unit {0}) StoreFault) → IsPut g blocks (put files n a) n b result → IsPut g blocks files n b result
@@ -34,12 +31,14 @@ IsPut-again g blocks files n a b result h =
 
 -- ---- a thing's bytes
 
-pub wide-folder : (n d : ℕ) (bytes : List ℕ) → bytes ≡ node_bytes (bare_directory n d) → Widens bytes (Directory 1 []) (bare_directory n d)
+pub wide-folder : (n d : ℕ) (t : Thing) (bytes : List ℕ) → t ≡ Folder → bytes ≡ node_bytes (bare_directory n d) → Widens bytes (bare t) (node_for n d t)
 unfolding zeros
-wide-folder n d bytes e = record { kind = refl; major = refl; minor = refl; links = refl; content = sym e; size = refl }
+wide-folder n d t bytes is e =
+    subst (λ k. Widens bytes (bare k) (node_for n d k)) (sym is) (record { kind = refl; major = refl; minor = refl; links = refl; content = sym e; size = refl })
 
-pub wide-bytes : (bytes : List ℕ) → Widens bytes (File 1 []) (File 1 bytes)
-wide-bytes bytes = record { kind = refl; major = refl; minor = refl; links = refl; content = refl; size = refl }
+pub wide-bytes : (n d : ℕ) (t : Thing) (bytes : List ℕ) → t ≡ Bytes bytes → Widens bytes (bare t) (node_for n d t)
+wide-bytes n d t bytes is =
+    subst (λ k. Widens bytes (bare k) (node_for n d k)) (sym is) (record { kind = refl; major = refl; minor = refl; links = refl; content = refl; size = refl })
 
 -- ---- a name more
 
@@ -74,7 +73,7 @@ TellsFull-weaker f fault.Blocks h = f h
 TellsFull-weaker f fault.Device h = h
 
 -- a link takes no room
-LacksRoomFor-linked : (g : Geometry) (files : Files) (d : ℕ) (t : Thing) (node : Node) → d < length files → LacksRoomFor g files d node → LacksRoomFor g files d (linked t node)
+pub LacksRoomFor-linked : (g : Geometry) (files : Files) (d : ℕ) (t : Thing) (node : Node) → d < length files → LacksRoomFor g files d node → LacksRoomFor g files d (linked t node)
 LacksRoomFor-linked g files d t node h lacks =
     let size : size_of (linked t node) ≡ size_of node = linked-size t node in
     let blocks : blocks_for (size_of (linked t node)) ≡ blocks_for (size_of node) = ap blocks_for size in
@@ -82,9 +81,6 @@ LacksRoomFor-linked g files d t node h lacks =
       | inl long ↦ inl (omega arith)
       | inr full ↦ inr (omega (arith, blocks_of-set files d (Some node) h, blocks_of-set files d (Some (linked t node)) h))
     ]
-
-pub TellsFull-linked : (g : Geometry) (files : Files) (d : ℕ) (t : Thing) (node : Node) (told : StoreFault) → d < length files → TellsFull (LacksRoomFor g files d node) told → TellsFull (LacksRoomFor g files d (linked t node)) told
-TellsFull-linked g files d t node told h = TellsFull-weaker (LacksRoomFor-linked g files d t node h) told
 
 -- the link of a directory
 pub IsPut-linked : (g : Geometry) (mid new : List (List ℕ)) (files : Files) (d : ℕ) (t : Thing) (node : Node) → t ≡ Folder → d < length files → Stores g mid (put files d node) → size_of node ≤ longest
@@ -102,29 +98,22 @@ IsPut-unlinked g new files d t node same h = subst (λ x. Stores g new (set file
 
 -- ---- a thing is put
 
-pub put-inode : (g : Geometry) (old blocks : List (List ℕ)) (n : ℕ) (node : Node) → n < g.inodes → (files : Files) → Stores g old files → Stores g blocks (put files n node) → IsInode blocks g.inodes n
-put-inode g old blocks n node h files before stores =
-    held-inode g blocks (set files n (Some node)) stores n node (slot-put files n node (omega (arith, length-stored g old files before)))
+-- a step that needs the inode may follow
+pub put-ready : (g : Geometry) (old blocks : List (List ℕ)) (n : ℕ) (node : Node) → n < g.inodes → (files : Files) → Stores g old files → Stores g blocks (put files n node) → record { sound : IsSound g blocks; inode : IsInode blocks g.inodes n }
+put-ready g old blocks n node h files before stores = record {
+  sound = stores.sound;
+  inode = held-inode g blocks (set files n (Some node)) stores n node (slot-put files n node (omega (arith, length-stored g old files before)));
+}
 
 -- what `append` promises
 abbrev pub Appends : Geometry → List (List ℕ) → List (List ℕ) → ℕ → List ℕ → Result (Unit {0}) StoreFault → Type 0
 Appends g old new n bytes result = (files : Files) (before after : Node) → Stores g old files → slot files n ≡ Some before → Widens bytes before after → IsPut g new files n after result
 
-pub IsPut-folder : (g : Geometry) (old mid new : List (List ℕ)) (files : Files) (n d : ℕ) (t : Thing) (bytes : List ℕ) (result : Result (Unit {0}) StoreFault) → t ≡ Folder → bytes ≡ node_bytes (bare_directory n d) → n < g.inodes
+pub IsPut-thing : (g : Geometry) (old mid new : List (List ℕ)) (files : Files) (n d : ℕ) (t : Thing) (bytes : List ℕ) (result : Result (Unit {0}) StoreFault) → Widens bytes (bare t) (node_for n d t) → n < g.inodes
     → Stores g old files → Stores g mid (put files n (bare t)) → Appends g mid new n bytes result → IsPut g new files n (node_for n d t) result
-IsPut-folder g old mid new files n d t bytes result is spelled h before stores append =
-    let high : n < length files = omega (arith, length-stored g old files before) in
-    subst (λ k. IsPut g new files n (node_for n d k) result) (sym is)
-    (IsPut-again g new files n (Directory 1 []) (bare_directory n d) result
-    (append (set files n (Some (Directory 1 []))) (Directory 1 []) (bare_directory n d) (subst (λ k. Stores g mid (set files n (Some (bare k)))) is stores) (slot-put files n (Directory 1 []) high) (wide-folder n d bytes spelled)))
-
-pub IsPut-bytes : (g : Geometry) (old mid new : List (List ℕ)) (files : Files) (n d : ℕ) (t : Thing) (bytes : List ℕ) (result : Result (Unit {0}) StoreFault) → t ≡ Bytes bytes → n < g.inodes
-    → Stores g old files → Stores g mid (put files n (bare t)) → Appends g mid new n bytes result → IsPut g new files n (node_for n d t) result
-IsPut-bytes g old mid new files n d t bytes result is h before stores append =
-    let high : n < length files = omega (arith, length-stored g old files before) in
-    subst (λ k. IsPut g new files n (node_for n d k) result) (sym is)
-    (IsPut-again g new files n (File 1 []) (File 1 bytes) result
-    (append (set files n (Some (File 1 []))) (File 1 []) (File 1 bytes) (subst (λ k. Stores g mid (set files n (Some (bare k)))) is stores) (slot-put files n (File 1 []) high) (wide-bytes bytes)))
+IsPut-thing g old mid new files n d t bytes result wide h before stores append =
+    IsPut-again g new files n (bare t) (node_for n d t) result
+    (append (set files n (Some (bare t))) (bare t) (node_for n d t) stores (slot-put files n (bare t) (omega (arith, length-stored g old files before))) wide)
 
 pub IsPut-special : (g : Geometry) (new : List (List ℕ)) (files : Files) (n d major minor : ℕ) (t : Thing) → t ≡ Special major minor → Stores g new (put files n (bare t)) → IsPut g new files n (node_for n d t) (Ok tt)
 IsPut-special g new files n d major minor t is stores =
@@ -146,5 +135,5 @@ named-directory g old new d e bytes u is short able append =
     let few = able.few in (
       stores.sound,
       held-inode g new (put able.files d (appended e able.node)) stores d (appended e able.node) here,
-      omega (arith, held-links g new (put able.files d (appended e able.node)) stores d (appended e able.node) here, appended-links e able.node),
+      omega (arith, ap (λ (r : RawNode). r.links) (held-node g new (put able.files d (appended e able.node)) stores d (appended e able.node) here), appended-links e able.node),
     )

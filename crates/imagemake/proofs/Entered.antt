@@ -38,7 +38,7 @@ few-links files d links places rules at =
     let e : length (entries_of (slot files d)) ≡ length (taken (drop 2 places)) = ap (λ o. length (entries_of o)) at in
     omega (arith, length-taken (drop 2 places), length-drop 2 places)
 
-module _ (g : Geometry) (blocks : List (List ℕ)) (made : List MadeName) (files : Files) (is : IsMade g blocks made files) where
+module _ {g : Geometry} {blocks : List (List ℕ)} {made : List MadeName} {files : Files} (is : IsMade g blocks made files) where
   pub made-inodes : length made + 2 ≤ g.inodes
   made-inodes =
       let count : length files ≡ g.inodes = is.begun.count in
@@ -48,8 +48,8 @@ module _ (g : Geometry) (blocks : List (List ℕ)) (made : List MadeName) (files
   pub made-few : length made < 65536
   made-few = let h = is.stores.sound.parts.inodes_high in let k = made-inodes in omega arith
 
-  module _ (path : List ℕ) (d : ℕ) (name : List ℕ) (spot : IsSpot made path d name) (room : length made + 2 < g.inodes) where
-    pub CanAdd-spot : CanAdd files d name (length made + 2)
+  module _ {path : List ℕ} {d : ℕ} {name : List ℕ} (spot : IsSpot made path d name) (room : length made + 2 < g.inodes) where
+    CanAdd-spot : CanAdd files d name (length made + 2)
     CanAdd-spot =
         let above = directory-at (slot files d) (is.listed.folders d ∙ spot.folder) in
         let count : length files ≡ g.inodes = is.begun.count in
@@ -64,38 +64,44 @@ module _ (g : Geometry) (blocks : List (List ℕ)) (made : List MadeName) (files
           unused = is.begun.free (length made + 2) (omega arith);
         }
 
-    -- the same of a name and a number that are equal
-    module _ (w : List ℕ) (k : ℕ) (same : w ≡ name) (next : k ≡ length made + 2) where
+    -- a name and a number that are equal to these
+    module _ {w : List ℕ} {k : ℕ} (same : w ≡ name) (next : k ≡ length made + 2) where
       pub CanAdd-named : CanAdd files d w k
       CanAdd-named = subst (λ v. CanAdd files d v k) (sym same) (subst (CanAdd files d name) (sym next) CanAdd-spot)
 
-      pub IsStored-spot : (new : List (List ℕ)) (thing : Thing) (r : Result (Unit {0}) StoreFault) → IsStored g new files d w k thing r → IsStored g new files d name (length made + 2) thing r
-      IsStored-spot new thing r h = subst (λ v. IsStored g new files d v (length made + 2) thing r) same (subst (λ n. IsStored g new files d w n thing r) next h)
+      -- the disk after it was stored, or wasn't
+      module _ (new : List (List ℕ)) (thing : Thing) (r : Result (Unit {0}) StoreFault) (told : Stores g blocks files → CanAdd files d w k → IsStored g new files d w k thing r) {given : List ℕ} (given_is : path ≡ given) where
+        stored : IsStored g new files d name (length made + 2) thing r
+        stored =
+            subst (λ v. IsStored g new files d v (length made + 2) thing r) same
+            (subst (λ n. IsStored g new files d w n thing r) next (told is.stores CanAdd-named))
 
-    -- it is stored
-    pub AddsEntry-stored : (new : List (List ℕ)) (thing : Thing) (one : MadeName) (now : List MadeName) → now ≡ made ++ one ∷ [] → one.directory ≡ d → one.name ≡ name → one.folder ≡ is_directory (node_for (length made + 2) d thing)
-        → Stores g new (added files d name (length made + 2) thing) → if_room (data_blocks_of g.size g.inodes) d (length made + 2) (added files d name (length made + 2) thing) ≡ Ok (added files d name (length made + 2) thing)
-        → AddsEntry g new made now files (record { path = path; thing = thing })
-    AddsEntry-stored new thing one now pushed stands named folder stores fits =
-        let n = length made + 2 in
-        let more = added files d name n thing in
-        let entry : ManifestEntry = record { path = path; thing = thing } in
-        let passed : with_manifest_entry (data_blocks_of g.size g.inodes) g.inodes files n entry ≡ Ok more =
-        spot-room made path d name spot (data_blocks_of g.size g.inodes) g.inodes files n thing is.listed room ∙ fits in
-        let long : n + 1 ≡ length (made ++ one ∷ []) + 2 = omega (arith, length_push made one) in
-        record {
-          more = more;
-          is = passed;
-          longer = ap length pushed ∙ length_push made one;
-          made_more = subst (λ names. IsMade g new names more) (sym pushed) (record {
-            stores = stores;
-            begun = subst (IsBegun (data_blocks_of g.size g.inodes) g.inodes more) long (IsBegun-more is.begun d name thing CanAdd-spot (is.listed.names d name (spot-good made path d name spot) ∙ spot.absent) fits);
-            listed = IsListed-more (adds-more is.begun d name thing CanAdd-spot) is.begun.rules made one refl is.listed stands named folder;
-          });
-        }
+        abbrev entry : ManifestEntry
+        entry = record { path = given; thing = thing }
 
-    -- it isn't
-    pub refused-stored : (new : List (List ℕ)) (thing : Thing) (fault : StoreFault) → IsStored g new files d name (length made + 2) thing (Err fault)
-        → Refuses (with_manifest_entry (data_blocks_of g.size g.inodes) g.inodes files (length made + 2) (record { path = path; thing = thing })) (make_fault fault)
-    refused-stored new thing Blocks told = spot-room made path d name spot (data_blocks_of g.size g.inodes) g.inodes files (length made + 2) thing is.listed room ∙ told
-    refused-stored new thing Device told = tt
+        passed : with_manifest_entry (data_blocks_of g.size g.inodes) g.inodes files (length made + 2) entry
+            ≡ if_room (data_blocks_of g.size g.inodes) d (length made + 2) (added files d name (length made + 2) thing)
+        passed =
+            ap (λ p. with_manifest_entry (data_blocks_of g.size g.inodes) g.inodes files (length made + 2) (record { path = p; thing = thing })) (sym given_is)
+            ∙ spot-room made path d name spot (data_blocks_of g.size g.inodes) g.inodes files (length made + 2) thing is.listed room
+
+        pub AddsEntry-stored : r ≡ Ok tt → {one : MadeName} {now : List MadeName} → now ≡ made ++ one ∷ [] → one.directory ≡ d → one.name ≡ name → one.folder ≡ is_directory (node_for (length made + 2) d thing) → AddsEntry g new made now files entry
+        AddsEntry-stored done {one} {now} pushed stands named folder =
+            let n = length made + 2 in
+            let more = added files d name n thing in
+            let kept : IsStored g new files d name n thing (Ok tt) = subst (IsStored g new files d name n thing) done stored in
+            let long : n + 1 ≡ length (made ++ one ∷ []) + 2 = omega (arith, length_push made one) in
+            record {
+              more = more;
+              is = passed ∙ kept.1;
+              longer = ap length pushed ∙ length_push made one;
+              made_more = subst (λ names. IsMade g new names more) (sym pushed) (record {
+                stores = kept.0;
+                begun = subst (IsBegun (data_blocks_of g.size g.inodes) g.inodes more) long (IsBegun-more is.begun d name thing CanAdd-spot (is.listed.names d name (spot-good made path d name spot) ∙ spot.absent) kept.1);
+                listed = IsListed-more (adds-more is.begun d name thing CanAdd-spot) is.begun.rules made one refl is.listed stands named folder;
+              });
+            }
+
+        pub refused-stored : (fault : StoreFault) → r ≡ Err fault → Refuses (with_manifest_entry (data_blocks_of g.size g.inodes) g.inodes files (length made + 2) entry) (make_fault fault)
+        refused-stored Blocks e = passed ∙ subst (IsStored g new files d name (length made + 2) thing) e stored
+        refused-stored Device e = tt

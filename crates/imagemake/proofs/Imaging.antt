@@ -1,11 +1,13 @@
 -- From a disk that stores files to the bytes of an image that denotes them.
 use Rattle.std.proofs.Common.{◌≡◌, ℕ, ◌+◌, ◌*◌, ◌/◌, ◌%◌, ◌<◌, ◌≤◌, ◌&&◌, Bool, true, false, cond, List, ◌∷◌, ◌++◌, None, Ok, Err, Result, length, nat_le, nat_lt, take, map, zero, suc, ap, sym, refl, ◌∙◌, arith, subst, flat_map, replicate}
 use Rattle.std.specs.List.{range_with_len}
-use Rattle.std.specs.Prelude.{IfErr, IfOk}
+use Rattle.std.specs.Prelude.{IfErr}
+use Rattle.std.specs.Result.{IsErrAnd}
 use Rattle.std.proofs.lemmas.Bool.Decides.{nat_tests}
 use Rattle.std.proofs.lemmas.List.{append-nil, take_all}
 use Rattle.std.proofs.lemmas.List.Concat.{flat_map-append}
 use Rattle.std.proofs.lemmas.List.Folds.{flat_map-map}
+use Rattle.balloc.proofs.Exits.{told_err}
 use Rattle.blockdev.specs.Blocks as device
 use Rattle.blockdev.specs.Blocks.{block_of}
 use Rattle.layout.specs.declared.Geometry.{Geometry}
@@ -27,7 +29,7 @@ use Rattle.imagemake.specs.declared.manifest.MakeFault.{MakeFault}
 use Rattle.imagemake.specs.declared.manifest.MakeFault.TheVariants.{NoMemory}
 use Rattle.imagemake.proofs.Denoted.{Denotes-stored}
 use Rattle.imagerules.proofs.Marking.{range-split}
-use Rattle.imagerules.proofs.Spelling.{take_next}
+use Rattle.std.proofs.Math.Seq.{take-add}
 use Rattle.imagemake.proofs.MadeBare.{no-files, slot-free}
 
 -- ---- blocks and bytes
@@ -42,7 +44,7 @@ fronts bytes (suc n) h =
     ∙ flat_map-append (block_of bytes) (range_with_len 0 n) (range_with_len (0 + n) 1)
     ∙ ap (λ r. flat_map (block_of bytes) (range_with_len 0 n) ++ r) (append-nil (block_of bytes (0 + n)) ∙ ap (block_of bytes) z)
     ∙ ap (λ r. r ++ block_of bytes n) (fronts bytes n (omega arith))
-    ∙ take_next (1024 * n) 1024 bytes ∙ ap (λ k. take k bytes) m
+    ∙ sym (take-add (1024 * n) 1024 bytes) ∙ ap (λ k. take k bytes) m
 
 -- whole blocks, one after the other
 pub image_of-blocks : (bytes : List ℕ) → length bytes % 1024 ≡ 0 → image_of (device.blocks_of bytes) ≡ bytes
@@ -98,11 +100,8 @@ possible size inodes h =
 
 -- ---- what the lack of memory tells
 
-pub none-refused : {T X : Type 0} (what : Result X Wrong) (r : Result T MakeFault) (fault : MakeFault) → r ≡ Err fault → fault ≡ NoMemory → IfErr r (λ f. Refuses what f)
-none-refused what r fault e memory = rw (e ∙ ap Err memory) tt
-
-pub none-told : {T : Type 0} (P : T → Type 0) (r : Result T MakeFault) (fault : MakeFault) → r ≡ Err fault → IfOk r P
-none-told P r fault e = rw e tt
+pub none-refused : {T X : Type 0} {fault : MakeFault} (what : Result X Wrong) (r : Result T MakeFault) → IsErrAnd r (λ f. f ≡ fault) → fault ≡ NoMemory → IfErr r (λ f. Refuses what f)
+none-refused what r told memory = rw (told_err r told ∙ ap Err memory) tt
 
 pub only-memory : {T X : Type 0} (what : Result X Wrong) (r : Result T MakeFault) → IfErr r (λ fault. fault ≡ NoMemory) → IfErr r (λ f. Refuses what f)
 only-memory what (Ok x) only = tt

@@ -1,5 +1,5 @@
 -- The files of an image with a root alone keep the rules.
-use Rattle.std.proofs.Common.{◌≡◌, ◌≢◌, ℕ, zero, suc, ◌+◌, ◌-◌, ◌≤◌, false, List, [], ◌∷◌, ◌++◌, length, None, Some, inl, inr, map, ap, sym, refl, ◌∙◌, arith, subst, IsSome, IsTrue, count_by, flat_map, is_some, option_map, sum_by, unwrap_or, ◌==◌}
+use Rattle.std.proofs.Common.{◌≡◌, ◌≢◌, ℕ, zero, suc, ◌+◌, ◌-◌, ◌≤◌, false, List, [], ◌∷◌, ◌++◌, length, None, Option, Some, inl, inr, map, ap, sym, refl, ◌∙◌, arith, subst, IsSome, IsTrue, count_by, flat_map, is_some, option_map, sum_by, unwrap_or, ◌==◌}
 use Rattle.std.specs.List.{range_with_len}
 use Rattle.std.proofs.lemmas.Bool.{cases_eq, cases_lt, false≢true}
 use Rattle.std.proofs.lemmas.List.{get_or-replicate, get_or-set_other, get_or-set_same, get_or_past, length-replicate, length-set}
@@ -51,17 +51,18 @@ module _ (inodes : ℕ) (some : 2 ≤ inodes) where
   unfolding bare_files
   slot-bare m s = get_or-set_other (free_slots inodes) 1 m (Some (bare_directory 1 1)) None s ∙ slot-free inodes m
 
-  bare-used : (m : ℕ) → IsSome (slot (bare_files inodes) m) → m ≡ 1
-  bare-used m h = elim (cases_eq m 1) [
-    | inl e ↦ e
-    | inr s ↦ absurd (false≢true (sym (ap is_some (slot-bare m s)) ∙ h))
+  -- what holds of the root and of numbers that aren't in use holds of each
+  bare-each : (P : ℕ → Option Node → Type 0) → P 1 (Some (bare_directory 1 1)) → ((m : ℕ) → P m None) → (m : ℕ) → P m (slot (bare_files inodes) m)
+  bare-each P root none m = elim (cases_eq m 1) [
+    | inl e ↦ subst (λ k. P k (slot (bare_files inodes) k)) (sym e) (subst (P 1) (sym slot-root) root)
+    | inr s ↦ subst (P m) (sym (slot-bare m s)) (none m)
   ]
 
+  bare-used : (m : ℕ) → IsSome (slot (bare_files inodes) m) → m ≡ 1
+  bare-used = bare-each (λ m o. IsSome o → m ≡ 1) (λ h. refl) (λ m h. absurd (false≢true h))
+
   bare-entries : (m : ℕ) → entries_of (slot (bare_files inodes) m) ≡ []
-  bare-entries m = elim (cases_eq m 1) [
-    | inl e ↦ ap (λ k. entries_of (slot (bare_files inodes) k)) e ∙ ap entries_of slot-root
-    | inr s ↦ ap entries_of (slot-bare m s)
-  ]
+  bare-entries = bare-each (λ m o. entries_of o ≡ []) refl (λ m. refl)
 
   no_entries : all_entries (bare_files inodes) ≡ []
   unfolding all_entries
@@ -86,24 +87,18 @@ module _ (inodes : ℕ) (some : 2 ≤ inodes) where
   bare-reached = refl
 
   bare-node : (m : ℕ) → KeepsNode (bare_files inodes) m (slot (bare_files inodes) m)
-  bare-node m = elim (cases_eq m 1) [
-    | inl e ↦ subst (λ k. KeepsNode (bare_files inodes) k (slot (bare_files inodes) k)) (sym e) (subst (KeepsNode (bare_files inodes) 1) (sym slot-root) record {
-      own = refl;
-      parent = ap (λ (p : ℕ). Some (record { name = dot_dot; number = p })) (sym bare-parent);
-      names = All-nil (λ (x : Entry). IsTrue (is_name x.name));
-      once = λ i j x l u. absurd (omega arith);
-      numbers = All-nil (λ (x : Entry). IsSome (slot (bare_files inodes) x.number));
-      named = bare-named;
-      counted = ap (λ c. 1 + c) (sym bare-subdirectories);
-    })
-    | inr s ↦ subst (KeepsNode (bare_files inodes) m) (sym (slot-bare m s)) tt
-  ]
+  bare-node = bare-each (KeepsNode (bare_files inodes)) (record {
+    own = refl;
+    parent = ap (λ (p : ℕ). Some (record { name = dot_dot; number = p })) (sym bare-parent);
+    names = All-nil (λ (x : Entry). IsTrue (is_name x.name));
+    once = λ i j x l u. absurd (omega arith);
+    numbers = All-nil (λ (x : Entry). IsSome (slot (bare_files inodes) x.number));
+    named = bare-named;
+    counted = ap (λ c. 1 + c) (sym bare-subdirectories);
+  }) (λ m. tt)
 
   bare-size : (m : ℕ) → KeepsSize (slot (bare_files inodes) m)
-  bare-size m = elim (cases_eq m 1) [
-    | inl e ↦ subst (λ k. KeepsSize (slot (bare_files inodes) k)) (sym e) (subst KeepsSize (sym slot-root) (omega arith))
-    | inr s ↦ subst KeepsSize (sym (slot-bare m s)) tt
-  ]
+  bare-size = bare-each (λ m o. KeepsSize o) (omega arith) (λ m. tt)
 
   pub KeepsRules-bare : KeepsRules (bare_files inodes)
   KeepsRules-bare = record {

@@ -98,6 +98,16 @@ module _ {files more : Files} {d links : ℕ} {places : List (Option Entry)} {na
   pub used-not_new : (m : ℕ) → IsSome (slot files m) → m ≢ n
   used-not_new m h e = false≢true (sym (ap (λ k. is_some (slot files k)) e ∙ ap is_some a.free) ∙ h)
 
+  -- what holds of the two numbers that change and of each other holds of all
+  pub each-more : (P : ℕ → Option Node → Type 0) → P n (slot more n) → P d (slot more d) → ((m : ℕ) → m ≢ n → m ≢ d → P m (slot files m)) → (m : ℕ) → P m (slot more m)
+  each-more P new above rest m = elim (cases_eq m n) [
+    | inl e ↦ subst (λ j. P j (slot more j)) (sym e) new
+    | inr s ↦ elim (cases_eq m d) [
+      | inl e ↦ subst (λ j. P j (slot more j)) (sym e) above
+      | inr t ↦ subst (P m) (sym (a.others m s t)) (rest m s t)
+    ]
+  ]
+
   module _ (two : 2 ≤ length places) where
     pub places-above : taken (drop 2 (places ++ Some (entry_for name n) ∷ [])) ≡ taken (drop 2 places) ++ entry_for name n ∷ []
     places-above = ap taken (drop-append-le 2 places (Some (entry_for name n) ∷ []) two) ∙ filter_map-append (λ o. o) (drop 2 places) (Some (entry_for name n) ∷ [])

@@ -3,7 +3,7 @@ use Rattle.std.proofs.Common.{◌≡◌, ◌≢◌, ℕ, zero, suc, ◌+◌, ◌
 use Rattle.std.specs.List.{range_with_len}
 use Rattle.std.proofs.lemmas.List.Concat.{flat_map-append}
 use Rattle.std.proofs.lemmas.List.Elements.{All-head, All-tail, filter-append}
-use Rattle.std.proofs.lemmas.List.Sums.{length-filter, sum_by-append, sum_by-cons}
+use Rattle.std.proofs.lemmas.List.Sums.{length-filter, sum_by-append, sum_by-cons, sum_by_push}
 use Rattle.imagerules.proofs.Marking.{range-split}
 
 -- ys is xs with x between two of its parts
@@ -65,12 +65,7 @@ count_by-same p q (x ∷ xs) h =
     ∙ sym (sum_by-cons (λ y. cond (q y) 1 0) x xs)
 
 pub count_by-push : {X : Type 0} (p : X → Bool) (xs : List X) (x : X) → count_by p (xs ++ x ∷ []) ≡ count_by p xs + cond (p x) 1 0
-count_by-push {X} p xs x =
-    let f : X → ℕ = λ y. cond (p y) 1 0 in
-    sum_by-append f xs (x ∷ []) ∙ ap (λ n. count_by p xs + n) (sum_by-cons f x [] ∙ none (cond (p x) 1 0))
-  where
-    none : (n : ℕ) → n + 0 ≡ n
-    none n = omega arith
+count_by-push p xs x = sum_by_push (λ y. cond (p y) 1 0) xs x
 
 nil_parts : {X : Type 0} (xs ys : List X) → xs ++ ys ≡ [] → (xs ≡ []) × (ys ≡ [])
 nil_parts [] ys h = (refl, h)

@@ -28,11 +28,8 @@ first-kept name [] more x h = absurd (none-some x h)
 first-kept name (None ∷ os) more x h = first-kept name os more x h
 first-kept name (Some e ∷ os) more x h = first_more (bytes_eq e.name name) e x (first name os) (first name (os ++ more)) (first-kept name os more x) h
 
-some_none : {X : Type 0} (x : X) → Some x ≡ None → ⊥
-some_none x e = cc
-
 first_rest : (b : Bool) (e : Entry) (r s t : Option Entry) → (r ≡ None → s ≡ t) → cond b (Some e) r ≡ None → cond b (Some e) s ≡ t
-first_rest true e r s t k h = absurd (some_none e h)
+first_rest true e r s t k h = absurd (none-some e (sym h))
 first_rest false e r s t k h = k h
 
 pub first-past : (name : List ℕ) (os more : List (Option Entry)) → first name os ≡ None → first name (os ++ more) ≡ first name more
@@ -43,7 +40,7 @@ first-past name (Some e ∷ os) more h = first_rest (bytes_eq e.name name) e (fi
 -- ---- no entry of the name
 
 other_name : (b : Bool) (e : Entry) (r : Option Entry) → cond b (Some e) r ≡ None → (b ≡ false) × (r ≡ None)
-other_name true e r h = absurd (some_none e h)
+other_name true e r h = absurd (none-some e (sym h))
 other_name false e r h = (refl, h)
 
 pub first-none : (name : List ℕ) (os : List (Option Entry)) → first name os ≡ None → All (λ (e : Entry). e.name ≢ name) (taken os)
@@ -72,7 +69,7 @@ lookup-directory files d links places name at h =
 
 pub number-none : (r : Option Entry) → entry_number r ≡ None → r ≡ None
 number-none None h = refl
-number-none (Some e) h = absurd (some_none e.number h)
+number-none (Some e) h = absurd (none-some e.number (sym h))
 
 pub number-some : (r : Option Entry) (n : ℕ) → entry_number r ≡ Some n → (e : Entry) × (r ≡ Some e) × (e.number ≡ n)
 number-some None n h = absurd (none-some n h)

@@ -1,5 +1,5 @@
 -- Files with an entry more: how many places name a number, which directory a number stands in, and how many directories a directory has.
-use Rattle.std.proofs.Common.{◌≡◌, ◌≢◌, ℕ, ◌+◌, ◌≤◌, false, cond, List, length, Option, Some, inl, inr, map, get_or, ap, sym, refl, ◌∙◌, arith, subst, All, IsSome, count_by, filter, option_map, slice_get, unwrap_or, ◌==◌}
+use Rattle.std.proofs.Common.{◌≡◌, ◌≢◌, ℕ, ◌+◌, ◌≤◌, false, cond, List, length, Option, Some, inl, inr, map, get_or, ap, sym, refl, ◌∙◌, add-zero, arith, subst, All, IsSome, count_by, filter, option_map, slice_get, unwrap_or, ◌==◌}
 use Rattle.std.specs.List.{range_with_len}
 use Rattle.std.proofs.lemmas.Bool.{cases_eq, cond-false, eq-eqb, ne_eqb}
 use Rattle.std.proofs.lemmas.List.Elements.{All-map, All-nil}
@@ -55,10 +55,7 @@ module _ {files more : Files} {d links : ℕ} {places : List (Option Entry)} {na
       names-more n ∙ ap (λ c. c + cond (n == n) 1 0) (count_by-none (λ (e : ℕ × Entry). e.1.number == n) (all_entries files) not_named) ∙ ap (λ b. 0 + cond b 1 0) (eq-eqb n n refl)
 
   pub names-other : (m : ℕ) → m ≢ n → names_of more m ≡ names_of files m
-  names-other m s = names-more m ∙ ap (λ b. names_of files m + cond b 1 0) (ne_eqb n m (λ e. s (sym e))) ∙ none (names_of files m)
-    where
-      none : (k : ℕ) → k + 0 ≡ k
-      none k = omega arith
+  names-other m s = names-more m ∙ ap (λ b. names_of files m + cond b 1 0) (ne_eqb n m (λ e. s (sym e))) ∙ add-zero (names_of files m)
 
   -- ---- the directory above
 

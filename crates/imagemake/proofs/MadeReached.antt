@@ -7,7 +7,7 @@ use Rattle.unixmodel.specs.Files.{Entry, Files, entry_number, find, follow, look
 use Rattle.unixmodel.specs.Image.{KeepsRules, is_name}
 use Rattle.unixmodel.specs.Manifest.{Thing}
 use Rattle.unixmodel.specs.Manifest.Thing.{Folder}
-use Rattle.imagemake.proofs.MadeEntry.{Adds, entry_for, links_with}
+use Rattle.imagemake.proofs.MadeEntry.{Adds, each-more, entry_for, links_with}
 use Rattle.imagemake.proofs.MadeLookup.{first-kept, first-past, found, lookup-directory, lookup-found, number-none, number-some}
 use Rattle.imagemake.proofs.MadeNames.{directory-above}
 use Rattle.imagerules.proofs.Paths.{find-root, find-slash, first_named as first}
@@ -67,10 +67,4 @@ module _ {files more : Files} {d links : ℕ} {places : List (Option Entry)} {na
         (r.0 ++ 0x2f ∷ name, find-slash more r.0 name d n good r.1 (lookup-new absent))
 
     pub reached-more : (m : ℕ) → IsSome (slot more m) → (path : List ℕ) × (find more 1 path ≡ Some m)
-    reached-more m h = elim (cases_eq m n) [
-      | inl e ↦ let r = reached_new in (r.0, r.1 ∙ ap Some (sym e))
-      | inr s ↦ elim (cases_eq m d) [
-        | inl e ↦ reached_before m (ap (λ k. is_some (slot files k)) e ∙ ap is_some a.before)
-        | inr t ↦ reached_before m (ap is_some (sym (a.others m s t)) ∙ h)
-      ]
-    ]
+    reached-more = each-more a (λ m o. IsSome o → (path : List ℕ) × (find more 1 path ≡ Some m)) (λ h. reached_new) (λ h. reached_before d (ap is_some a.before)) (λ m s t h. reached_before m h)

@@ -1,6 +1,6 @@
 -- Files with an entry more keep the rules.
-use Rattle.std.proofs.Common.{◌≡◌, ◌≢◌, ℕ, zero, suc, ◌+◌, ◌≤◌, true, List, [], ◌∷◌, ◌++◌, length, None, Option, Some, inl, inr, drop, ap, sym, refl, ◌∙◌, arith, subst, All, AllPairs, IsSome, IsTrue, is_some, ◌==◌}
-use Rattle.std.proofs.lemmas.Bool.{cases_eq, cond-false, ne_eqb}
+use Rattle.std.proofs.Common.{◌≡◌, ◌≢◌, ℕ, zero, suc, ◌+◌, ◌≤◌, true, List, [], ◌∷◌, ◌++◌, length, None, Option, Some, drop, ap, sym, refl, ◌∙◌, arith, subst, All, AllPairs, IsSome, IsTrue, is_some, ◌==◌}
+use Rattle.std.proofs.lemmas.Bool.{cond-false, ne_eqb}
 use Rattle.std.proofs.lemmas.List.{get_or_append_left}
 use Rattle.std.proofs.lemmas.List.Elements.{All-nil, All-push, All-tail, All-weaker}
 use Rattle.std.proofs.lemmas.List.Quantifiers.{all_pairs_push}
@@ -9,7 +9,7 @@ use Rattle.unixmodel.specs.Files.Node.{Directory}
 use Rattle.unixmodel.specs.Image.{KeepsNode, KeepsRules, KeepsSize, is_name, names_of, parent_of, subdirectories}
 use Rattle.unixmodel.specs.Manifest.{Thing, node_for}
 use Rattle.unixmodel.specs.Manifest.Thing.{Bytes, Folder, Special}
-use Rattle.imagemake.proofs.MadeEntry.{Adds, entry_for, links_with, places-above, used-kept}
+use Rattle.imagemake.proofs.MadeEntry.{Adds, each-more, entry_for, links_with, places-above, used-kept}
 use Rattle.imagemake.proofs.MadeLookup.{first-none}
 use Rattle.imagemake.proofs.MadeNames.{directory-above, directory-same, links-above, names-new, names-other, parent-new, parent-other, subdirectories-new, subdirectories-other, two-places}
 use Rattle.imagemake.proofs.MadeReached.{first-absent, reached-more}
@@ -81,29 +81,15 @@ module _ {files more : Files} {d links : ℕ} {places : List (Option Entry)} {na
         }
 
     node_at : (m : ℕ) → KeepsNode more m (slot more m)
-    node_at m = elim (cases_eq m n) [
-      | inl e ↦ subst (λ j. KeepsNode more j (slot more j)) (sym e)
-          (subst (KeepsNode more n) (sym a.here) (node_new more n d thing (λ s. absurd (omega arith)) (names-new a rules) (parent-new a rules (λ s. absurd (omega arith))) (subdirectories-new a rules)))
-      | inr s ↦ elim (cases_eq m d) [
-        | inl e ↦ subst (λ j. KeepsNode more j (slot more j)) (sym e) (subst (KeepsNode more d) (sym a.above) node_above)
-        | inr t ↦ subst (KeepsNode more m) (sym (a.others m s t)) (node_other m (slot files m) s t (rules.nodes m))
-      ]
-    ]
+    node_at = each-more a (KeepsNode more)
+        (subst (KeepsNode more n) (sym a.here) (node_new more n d thing (λ s. absurd (omega arith)) (names-new a rules) (parent-new a rules (λ s. absurd (omega arith))) (subdirectories-new a rules)))
+        (subst (KeepsNode more d) (sym a.above) node_above) (λ m s t. node_other m (slot files m) s t (rules.nodes m))
 
     module _ (short : KeepsSize (slot more n)) (short_above : KeepsSize (slot more d)) where
-      size_at : (m : ℕ) → KeepsSize (slot more m)
-      size_at m = elim (cases_eq m n) [
-        | inl e ↦ subst (λ j. KeepsSize (slot more j)) (sym e) short
-        | inr s ↦ elim (cases_eq m d) [
-          | inl e ↦ subst (λ j. KeepsSize (slot more j)) (sym e) short_above
-          | inr t ↦ subst KeepsSize (sym (a.others m s t)) (rules.sizes m)
-        ]
-      ]
-
       pub KeepsRules-more : KeepsRules more
       KeepsRules-more = record {
         root = directory-same a rules 1 (λ s. absurd (omega arith)) ∙ rules.root;
-        sizes = size_at;
+        sizes = each-more a (λ m o. KeepsSize o) short short_above (λ m s t. rules.sizes m);
         nodes = node_at;
         reached = reached-more a rules good absent;
       }

@@ -2,7 +2,7 @@
 use Rattle.std.proofs.Common.{◌≡◌, ◌≢◌, ℕ, ◌+◌, ◌-◌, ◌≤◌, Bool, true, false, cond, List, [], ◌∷◌, ◌++◌, length, None, Option, Some, inl, inr, ap, ap₂, sym, refl, ◌∙◌, arith, bytes_eq, nat_lt, option_and_then, option_map, position, slice_get, unwrap_or, ◌&&◌, ◌==◌, zero, suc, ◌<◌, not, eqb, eq-eqb, ne_eqb}
 use Rattle.std.specs.List.{list_all, position_or_len}
 use Rattle.std.specs.Option.{option_or}
-use Rattle.std.proofs.lemmas.Bool.{and_parts, cases_eq, cases_lt, eq-eqb, false_from_ne_true, ne_eqb, or_parts, le-ltb, lt-ltb, cond-false, cond-true}
+use Rattle.std.proofs.lemmas.Bool.{and_parts, cases_eq, cases_lt, eq-eqb, false≢true, false_from_ne_true, ne_eqb, or_parts, le-ltb, lt-ltb, cond-false, cond-true}
 use Rattle.std.proofs.lemmas.List.{length_push}
 use Rattle.std.proofs.lemmas.Option.{slice_get_past}
 use Rattle.std.proofs.lemmas.Slice.Eq.{bytes_eq-Decides}
@@ -51,10 +51,7 @@ slice_get-push (y ∷ ys) x = slice_get-push ys x
 -- ---- a name that is neither "." nor "..", where no such name stands yet
 
 other_bytes : (xs ys : List ℕ) → bytes_eq ys xs ≡ false → bytes_eq xs ys ≡ false
-other_bytes xs ys h = false_from_ne_true (bytes_eq xs ys) (λ t. clash (sym h ∙ (bytes_eq-Decides ys xs).1 (sym ((bytes_eq-Decides xs ys).0 t))))
-  where
-    clash : false ≡ true → ⊥
-    clash e = cc
+other_bytes xs ys h = false_from_ne_true (bytes_eq xs ys) (λ t. false≢true (sym h ∙ (bytes_eq-Decides ys xs).1 (sym ((bytes_eq-Decides xs ys).0 t))))
 
 bare_first : (n d : ℕ) (w : List ℕ) → is_name w ≡ true → found w (Some (bare_directory n d)) ≡ None
 bare_first n d w good =

@@ -1,9 +1,9 @@
 -- A failed access is told only where the device owns up to it.
-use Rattle.std.proofs.Common.{◌≡◌, ℕ, ◌≤◌, List, Err, Ok, Result, ap, arith, refl, subst, sym, ◌∙◌, OnOk, IsErrAnd, is_err}
-use Rattle.std.proofs.lemmas.Result.{err_from_is_err_and}
+use Rattle.std.proofs.Common.{◌≡◌, ℕ, ◌≤◌, List, Err, Ok, Result, ap, arith, refl, subst, sym, ◌∙◌, OnOk, is_err}
 use Rattle.unixmodel.specs.Failures.{HasCause, Rises}
 use Rattle.unixmodel.specs.Files.{Files, Node}
 use Rattle.layout.specs.declared.Geometry.{Geometry}
+use Rattle.balloc.proofs.Exits.{err_is}
 use Rattle.imagemake.specs.Added.{IsPut, Owns, OwnsUp}
 use Rattle.imagemake.specs.Begins.{BlamesDevice, make_fault}
 use Rattle.imagemake.specs.declared.manifest.MakeFault.{MakeFault}
@@ -15,33 +15,15 @@ pub OnOk-three : {T E P Q R S : Type 0} (r : Result T E) → (P → Q → R → 
 OnOk-three (Ok x) f p q r = f p q r
 OnOk-three (Err e) f p q r = tt
 
-pub told : {T E : Type 0} {fault : E} (r : Result T E) → IsErrAnd r (λ f. f ≡ fault) → r ≡ Err fault
-told r h = let p = err_from_is_err_and r h in p.1 ∙ ap Err p.2
-
 -- an error is no good answer
 pub none-done : {T E : Type 0} (P : Type 0) {r : Result T E} {fault : E} → r ≡ Err fault → OnOk r P
 none-done {T} {E} P e = subst (λ (x : Result T E). OnOk x P) (sym e) tt
-
--- the cause of an access that failed, and of one after it
-pub cause-failed : {T U E : Type 0} {a b : ℕ} {access : Result T E} {e : E} {r : Result U E} → HasCause a b access → access ≡ Err e → HasCause a b r
-cause-failed cause was = record { later = cause.later; failed = λ _. cause.failed (ap is_err was) }
-
-pub cause-after : {T E : Type 0} {a b c : ℕ} {r : Result T E} → a ≤ b → HasCause b c r → HasCause a c r
-cause-after h cause = record { later = let l = cause.later in omega (arith, h, l); failed = λ e. let rises = cause.failed e in omega (arith, h, rises) }
 
 -- a failed access says nothing of the files
 pub IsPut-failed : (g : Geometry) (blocks : List (List ℕ)) (files : Files) (n : ℕ) (node : Node) {r : Result (Unit {0}) StoreFault} → r ≡ Err Device → IsPut g blocks files n node r
 IsPut-failed g blocks files n node e = subst (IsPut g blocks files n node) (sym e) tt
 
 -- ---- the count of failures
-
-fault_or : {T E : Type 0} → E → Result T E → E
-fault_or other (Ok x) = other
-fault_or other (Err fault) = fault
-
-same_err : {T E : Type 0} {e f : E} → ◌≡◌ {A = Result T E} (Err e) (Err f) → e ≡ f
-unfolding fault_or
-same_err {e = e} h = ap (fault_or e) h
 
 module _ {F : Type 0} {fault : F} where
   -- an access failed, and those before were good
@@ -64,7 +46,7 @@ module _ {F : Type 0} {fault : F} where
 
   -- another fault is told
   pub Owns-other : {a c : ℕ} {other : F} {r : Result (Unit {0}) F} → a ≤ c → (other ≡ fault → ⊥) → r ≡ Err other → Owns fault a c r
-  Owns-other h differs is = record { later = h; failed = λ e. absurd (differs (same_err (sym is ∙ e))) }
+  Owns-other {other = other} h differs is = record { later = h; failed = λ e. absurd (differs (err_is other fault (sym is ∙ e))) }
 
 pub Blames-stored : {a b c : ℕ} {r : Result (Unit {0}) MakeFault} (fault : StoreFault) → a ≤ b → OwnsUp b c (Err fault) → r ≡ Err (make_fault fault) → BlamesDevice a c r
 Blames-stored Blocks h owns is = Owns-other (let l = owns.later in omega arith) (λ e. cc) is

@@ -1,5 +1,6 @@
 -- The pieces of a path, one after the other, and what they reach in the list of what is made.
 use Rattle.std.proofs.Common.{◌≡◌, ℕ, ◌+◌, ◌-◌, ◌<◌, ◌≤◌, Bool, List, [], ◌∷◌, None, Option, Some, length, get_or, take, drop, ap, sym, refl, ◌∙◌, arith, cond, true, false, zero, suc, inl, inr, add-one, nat_lt, option_and_then, option_map, position, slice_get, unwrap_or, ◌&&◌, ◌==◌}
+use Rattle.std.proofs.Math.Bool.{and-true}
 use Rattle.std.specs.List.{list_all, position_or_len}
 use Rattle.std.proofs.lemmas.Bool.{cases_lt, cond-false, cond-true, le-ltb, lt-ltb}
 use Rattle.std.proofs.lemmas.List.{drop-drop, length-drop, take_rest}
@@ -41,26 +42,28 @@ pieces_first bs i at =
 pub pieces_last : (bs : List ℕ) → position (λ b. b == 0x2f) bs ≡ None → pieces bs ≡ bs ∷ []
 pieces_last bs none = pieces_whole bs (position-None (λ b. b == 0x2f) bs 0 none)
 
-module _ (path : List ℕ) (at i : ℕ) (slash : position (λ b. b == 0x2f) (drop at path) ≡ Some i) where
+-- what stands from a place on, as a range of a slice has it
+pub first-in : (path : List ℕ) (at : ℕ) (o : Option ℕ) → o ≡ position (λ b. b == 0x2f) (take (length path - at) (drop at path)) → position (λ b. b == 0x2f) (drop at path) ≡ o
+first-in path at o e = ap (position (λ b. b == 0x2f)) (sym (take_rest path at)) ∙ sym e
+
+-- the next name ends at a slash, as the code finds it
+module _ (path : List ℕ) (at i : ℕ) (told : Some i ≡ position (λ b. b == 0x2f) (take (length path - at) (drop at path))) where
+  slash : position (λ b. b == 0x2f) (drop at path) ≡ Some i
+  slash = first-in path at (Some i) told
+
   pub within_next : at + (i + 1) ≤ length path
   within_next = let s = (position-Some (λ b. b == 0x2f) (drop at path) i 0 slash).0 in omega (arith, length-drop at path)
+
+  pub name_next : take (at + i - at) (drop at path) ≡ take i (drop at path)
+  name_next = let e : at + i - at ≡ i = omega arith in ap (λ n. take n (drop at path)) e
 
   pub pieces_next : pieces (drop at path) ≡ take i (drop at path) ∷ pieces (drop (at + (i + 1)) path)
   pieces_next = pieces_first (drop at path) i slash ∙ ap (λ bs. take i (drop at path) ∷ pieces bs) (drop-drop (i + 1) at path)
 
-  pub good_next : (name : List ℕ) → name ≡ take i (drop at path) → is_name name ≡ true → list_all is_name (pieces (drop at path)) ≡ list_all is_name (pieces (drop (at + (i + 1)) path))
-  good_next name e good =
+  pub all_next : (good : Bool) → is_name (take (at + i - at) (drop at path)) ≡ good → list_all is_name (pieces (drop at path)) ≡ (good && list_all is_name (pieces (drop (at + (i + 1)) path)))
+  all_next good is =
       ap (list_all is_name) pieces_next
-      ∙ ap (λ b. b && list_all is_name (pieces (drop (at + (i + 1)) path))) (ap is_name (sym e) ∙ good)
-
-  pub bad_next : (name : List ℕ) → name ≡ take i (drop at path) → is_name name ≡ false → list_all is_name (pieces (drop at path)) ≡ false
-  bad_next name e bad =
-      ap (list_all is_name) pieces_next
-      ∙ ap (λ b. b && list_all is_name (pieces (drop (at + (i + 1)) path))) (ap is_name (sym e) ∙ bad)
-
-and-true : (b : Bool) → (b && true) ≡ b
-and-true true = refl
-and-true false = refl
+      ∙ ap (λ b. b && list_all is_name (pieces (drop (at + (i + 1)) path))) (ap is_name (sym name_next) ∙ is)
 
 pub good_last : (bs : List ℕ) → position (λ b. b == 0x2f) bs ≡ None → list_all is_name (pieces bs) ≡ is_name bs
 good_last bs none = ap (list_all is_name) (pieces_last bs none) ∙ and-true (is_name bs)
@@ -116,7 +119,3 @@ is_folder-low made n h = cond-true (nat_lt n 2) _ _ (lt-ltb n 2 h)
 pub is_folder-high : (made : List MadeName) (n : ℕ) → 2 ≤ n → is_folder made n ≡ unwrap_or (option_map (λ (m : MadeName). m.folder) (slice_get made (n - 2))) false
 unfolding is_folder
 is_folder-high made n h = cond-false (nat_lt n 2) _ _ (le-ltb n 2 h)
-
--- what stands from a place on, as a range of a slice has it
-pub first-in : (path : List ℕ) (at : ℕ) (o : Option ℕ) → o ≡ position (λ b. b == 0x2f) (take (length path - at) (drop at path)) → position (λ b. b == 0x2f) (drop at path) ≡ o
-first-in path at o e = ap (position (λ b. b == 0x2f)) (sym (take_rest path at)) ∙ sym e

@@ -53,6 +53,9 @@ module _ (g : Geometry) (blocks : List (List ℕ)) (n : ℕ) (r : IsReadable g b
   numbers-many : 12 < count → length numbers ≡ 268
   numbers-many h = omega (arith, length-append (direct_in (image_of blocks) n) (index_in (image_of blocks) n), length-direct (image_of blocks) n, length-index (image_of blocks) n h)
 
+  numbers-long : length numbers ≤ 268
+  numbers-long = elim (cases_lt 12 count) [ inl many ↦ omega (arith, numbers-many many) | inr few ↦ omega (arith, numbers-few few) ]
+
   numbers-most : count ≤ length numbers
   numbers-most = elim (cases_lt 12 count) [
     | inl many ↦ let m = r.most in omega (arith, numbers-many many)
@@ -201,18 +204,11 @@ module _ (g : Geometry) (blocks : List (List ℕ)) (n : ℕ) (r : IsReadable g b
       last-unused
     where
       spare-at : (k : ℕ) → count ≤ k → k < length numbers → IsSpare size k
-      spare-at k low high = elim (cases_lt 12 count) [
-        | inl many ↦ record {
-          within = omega (arith, numbers-many many);
-          unasked = λ a. elim a [ inl x ↦ omega (arith, count-is) | inr x ↦ let e = x.0 in omega (arith, numbers-many many) ];
-          index = λ l m. omega (arith, count-is);
-        }
-        | inr few ↦ record {
-          within = omega (arith, numbers-few few);
-          unasked = λ a. elim a [ inl x ↦ omega (arith, count-is) | inr x ↦ let e = x.0 in omega (arith, numbers-few few) ];
-          index = λ l m. absurd (omega (arith, numbers-few few));
-        }
-      ]
+      spare-at k low high = record {
+        within = omega (arith, numbers-long);
+        unasked = λ a. elim a [ inl x ↦ omega (arith, count-is) | inr x ↦ let e = x.0 in omega (arith, numbers-long) ];
+        index = λ l m. elim (cases_lt 12 count) [ inl many ↦ omega (arith, count-is) | inr few ↦ absurd (omega (arith, numbers-few few)) ];
+      }
 
       spare-last : count ≤ 12 → IsSpare size 268
       spare-last few = record {

@@ -3,16 +3,16 @@ use Rattle.std.proofs.Common.{◌≡◌, ℕ, ◌<◌, ◌≤◌, Bool, true, fa
 use Rattle.std.specs.List.{list_all}
 use Rattle.std.proofs.lemmas.Bool.{and_parts, false≢true}
 use Rattle.std.proofs.lemmas.List.Folds.{list_all-append}
-use Rattle.std.proofs.lemmas.Option.{some_pair_parts, cond_some, same_Some}
+use Rattle.std.proofs.lemmas.Option.{none-some, some_pair_parts, cond_some, same_Some}
 use Rattle.unixmodel.specs.Files.{Files, follow, lookup, pieces, split_last, with_last}
 use Rattle.unixmodel.specs.Image.{is_directory_at, is_name}
 use Rattle.unixmodel.specs.Manifest.{Thing, added, if_room, names_in, with_manifest_entry}
-use Rattle.unixmodel.specs.Manifest.Wrong.{Inodes, Name, Parent, Twice}
+use Rattle.unixmodel.specs.Manifest.Wrong.{Inodes, Parent, Twice}
 use Rattle.imagemake.specs.Begins.{IsSpot}
 use Rattle.imagemake.specs.Begun.{IsListed}
 use Rattle.imagemake.specs.Made.{MadeName, found, is_folder, reach, seek}
 use Rattle.imagemake.proofs.MadeSearch.{follow-made}
-use Rattle.imagemake.proofs.MadeWrong.{entry-inodes, entry-name, entry-nowhere, entry-parent, entry-room, entry-twice}
+use Rattle.imagemake.proofs.MadeWrong.{entry-inodes, entry-nowhere, entry-parent, entry-room, entry-twice}
 use Rattle.imagemake.proofs.Pathing.{reach_some, split-pieces}
 
 -- ---- the names of a path
@@ -22,17 +22,11 @@ split_names w [] = refl
 split_names w (x ∷ xs) = ap (λ r. w ∷ r) (split_names x xs)
 
 split-names : (ws : List (List ℕ)) (split : List (List ℕ) × List ℕ) → split_last ws ≡ Some split → ws ≡ split.0 ++ split.1 ∷ []
-split-names [] split h = absurd (clash h)
-  where
-    clash : None ≡ Some split → ⊥
-    clash e = cc
+split-names [] split h = absurd (none-some split h)
 split-names (w ∷ ws) split h = split_names w ws ∙ ap (λ (p : List (List ℕ) × List ℕ). p.0 ++ p.1 ∷ []) (same_Some (with_last w (split_last ws)) split h)
 
 names-good : (path : List ℕ) (ws : List (List ℕ)) → names_in path ≡ Some ws → list_all is_name ws ≡ true
-names-good [] ws h = absurd (clash h)
-  where
-    clash : None ≡ Some ws → ⊥
-    clash e = cc
+names-good [] ws h = absurd (none-some ws h)
 names-good (b ∷ rest) ws h =
     let parts = cond_some (b == 0x2f && list_all is_name (pieces rest)) (pieces rest) ws h in
     ap (list_all is_name) (sym parts.1) ∙ (and_parts (b == 0x2f) (list_all is_name (pieces rest)) parts.0).1
@@ -62,9 +56,6 @@ split-good : (ws above : List (List ℕ)) (last : List ℕ) → split_last ws �
 split-good ws above last split good =
     let p = and_parts (list_all is_name above) (list_all is_name (last ∷ [])) (sym (list_all-append is_name above (last ∷ [])) ∙ ap (list_all is_name) (sym (split-names ws (above, last) split)) ∙ good) in
     (p.0, (and_parts (is_name last) true p.1).0)
-
-pub refused-name : (path : List ℕ) (blocks inodes : ℕ) (files : Files) (n : ℕ) (thing : Thing) → is_some (names_in path) ≡ false → with_manifest_entry blocks inodes files n (record { path = path; thing = thing }) ≡ Err Name
-refused-name path blocks inodes files n thing h = entry-name blocks inodes files n (record { path = path; thing = thing }) (no-names path h)
 
 module _ (made : List MadeName) (path : List ℕ) (good : is_some (names_in path) ≡ true) (o : Option ℕ) (last : List ℕ) (reached : reach made 1 (pieces (drop 1 path)) ≡ Some (o, last)) where
   parts : (above : List (List ℕ)) × (split_last (pieces (drop 1 path)) ≡ Some (above, last)) × (seek made 1 above ≡ o)

@@ -1,13 +1,13 @@
 -- What a step on the disk does to the files that it holds.
-use Rattle.std.proofs.Common.{◌≡◌, ◌≢◌, ℕ, ◌+◌, ◌<◌, ◌≤◌, List, [], ◌∷◌, None, Option, Some, length, get_or, set, ap, sym, refl, ◌∙◌, arith, subst, cond, zero, suc, inl, inr, map, sum_by, ◌==◌, ◌||◌}
-use Rattle.std.proofs.lemmas.Bool.{cases_eq, cases_lt, cond-false, cond-true, eq-eqb, ne_eqb, or_from, or_left, or_right}
+use Rattle.std.proofs.Common.{◌≡◌, ◌≢◌, ℕ, ◌+◌, ◌<◌, ◌≤◌, List, [], ◌∷◌, None, Option, Some, length, get_or, set, ap, sym, refl, ◌∙◌, arith, subst, zero, suc, inl, inr, map, sum_by}
+use Rattle.std.proofs.lemmas.Bool.{cases_eq, cases_lt}
 use Rattle.std.proofs.lemmas.List.{get_or-set_other, get_or-set_same, get_or_past, length-map, map-set}
 use Rattle.std.proofs.lemmas.List.Sums.{sum_by-cons, sum_by-set}
 use Rattle.std.proofs.lemmas.Option.{none-some, same_Some}
 use Rattle.unixmodel.specs.Counts.{blocks_of}
 use Rattle.unixmodel.specs.Files.{Files, Node, blocks_for, node_bytes, put, size_of, slot, taken}
 use Rattle.layout.specs.declared.Geometry.{Geometry}
-use Rattle.layout.proofs.Frame.{get_or-nodes_of, length-nodes_of}
+use Rattle.layout.proofs.Frame.{get_or-nodes_of, length-nodes_of, node_at-none, node_at-some}
 use Rattle.layout.specs.Image.{IsInode, RawNode, bytes_of, free_blocks, inode_at, node_at, node_with, nodes_of}
 use Rattle.layout.specs.Sound.{IsSound}
 use Rattle.imagemake.specs.Stored.{IsWhole, Stores, raw_of, raw_slot}
@@ -38,23 +38,6 @@ blocks_of-set files n o h =
 pub slot-within : (files : Files) (n : ℕ) (node : Node) → slot files n ≡ Some node → n < length files
 slot-within files n node e = elim (cases_lt n (length files)) [ inl l ↦ l | inr m ↦ absurd (none-some node (sym (get_or_past files n None m) ∙ e)) ]
 
-node-parts : (n kind : ℕ) (x y : RawNode) → cond ((n == 0) || (kind == 0)) None (Some x) ≡ Some y → (1 ≤ n) × (kind ≢ 0) × (x ≡ y)
-node-parts n kind x y e = elim (cases_eq n 0) [
-  | inl z ↦ absurd (none-some y (sym (cond-true ((n == 0) || (kind == 0)) None (Some x) (or_left (n == 0) (kind == 0) (eq-eqb n 0 z))) ∙ e))
-  | inr some ↦ elim (cases_eq kind 0) [
-    | inl z ↦ absurd (none-some y (sym (cond-true ((n == 0) || (kind == 0)) None (Some x) (or_right (n == 0) (kind == 0) (eq-eqb kind 0 z))) ∙ e))
-    | inr used ↦ (omega arith, used, same_Some x y (sym (cond-false ((n == 0) || (kind == 0)) None (Some x) (or_from (n == 0) (kind == 0) (ne_eqb n 0 some) (ne_eqb kind 0 used))) ∙ e))
-  ]
-]
-
-kind-zero : (n kind : ℕ) (x : RawNode) → 1 ≤ n → cond ((n == 0) || (kind == 0)) None (Some x) ≡ None → kind ≡ 0
-kind-zero n kind x h e = elim (cases_eq kind 0) [
-  | inl z ↦ z
-  | inr used ↦
-      let some : n ≢ 0 = λ z. omega arith in
-      absurd (none-some x (sym e ∙ cond-false ((n == 0) || (kind == 0)) None (Some x) (or_from (n == 0) (kind == 0) (ne_eqb n 0 some) (ne_eqb kind 0 used))))
-]
-
 module _ (g : Geometry) (blocks : List (List ℕ)) (files : Files) (stores : Stores g blocks files) where
   pub length-stored : length files ≡ g.inodes
   length-stored = sym (length-map files raw_slot) ∙ ap length (sym stores.nodes) ∙ length-nodes_of blocks g.inodes
@@ -64,10 +47,15 @@ module _ (g : Geometry) (blocks : List (List ℕ)) (files : Files) (stores : Sto
 
   module _ (n : ℕ) (node : Node) (here : slot files n ≡ Some node) where
     held : (1 ≤ n) × ((inode_at blocks n).kind ≢ 0) × (node_with (inode_at blocks n) (bytes_of blocks n) ≡ raw_of node)
-    unfolding node_at
     held =
-        let high : n < g.inodes = omega (arith, slot-within files n node here, length-stored) in
-        node-parts n (inode_at blocks n).kind (node_with (inode_at blocks n) (bytes_of blocks n)) (raw_of node) (node_at-stored n high ∙ ap raw_slot here)
+        let at = node_at-stored n (omega (arith, slot-within files n node here, length-stored)) ∙ ap raw_slot here in
+        elim (cases_eq n 0) [
+          | inl z ↦ absurd (none-some (raw_of node) (sym (node_at-none blocks n (inl z)) ∙ at))
+          | inr some ↦ elim (cases_eq (inode_at blocks n).kind 0) [
+            | inl z ↦ absurd (none-some (raw_of node) (sym (node_at-none blocks n (inr z)) ∙ at))
+            | inr used ↦ (omega arith, used, same_Some (node_with (inode_at blocks n) (bytes_of blocks n)) (raw_of node) (sym (node_at-some blocks n (omega arith) used) ∙ at))
+          ]
+        ]
 
     pub held-inode : IsInode blocks g.inodes n
     held-inode = record { low = held.0; high = omega (arith, slot-within files n node here, length-stored); kind = held.1 }
@@ -82,8 +70,10 @@ module _ (g : Geometry) (blocks : List (List ℕ)) (files : Files) (stores : Sto
     held-whole = subst IsWhole here (stores.whole n)
 
   pub unused-kind : (n : ℕ) → 1 ≤ n → n < g.inodes → slot files n ≡ None → (inode_at blocks n).kind ≡ 0
-  unfolding node_at
-  unused-kind n low high none = kind-zero n (inode_at blocks n).kind (node_with (inode_at blocks n) (bytes_of blocks n)) low (node_at-stored n high ∙ ap raw_slot none)
+  unused-kind n low high none = elim (cases_eq (inode_at blocks n).kind 0) [
+    | inl z ↦ z
+    | inr used ↦ absurd (none-some (node_with (inode_at blocks n) (bytes_of blocks n)) (sym (node_at-stored n high ∙ ap raw_slot none) ∙ node_at-some blocks n low used))
+  ]
 
 -- ---- a node is put
 

@@ -1,5 +1,5 @@
 -- What the rules of an image give: the files that it denotes, and no others.
-use Rattle.std.proofs.Common.{◌≡◌, ◌≢◌, ℕ, ◌+◌, ◌*◌, ◌<◌, ◌≤◌, Bool, List, [], ◌∷◌, ◌++◌, None, Option, Some, length, get_or, take, drop, map, ap, sym, ◌∙◌, arith, subst, cond, inl, inr, true, false, All, IsSome, IsTrue, filter, is_some, not, option_map, slice_get, unwrap_or, ◌&&◌, ◌==◌}
+use Rattle.std.proofs.Common.{◌≡◌, ◌≢◌, ℕ, ◌+◌, ◌*◌, ◌<◌, ◌≤◌, Bool, List, [], ◌∷◌, ◌++◌, None, Option, Some, length, get_or, take, drop, map, ap, sym, refl, ◌∙◌, arith, subst, cond, inl, inr, true, false, All, IsSome, IsTrue, filter, is_some, not, option_map, slice_get, unwrap_or, ◌&&◌, ◌==◌}
 use Rattle.std.specs.List.{list_all, range_with_len}
 use Rattle.std.proofs.lemmas.Bool.{and_parts, cases_eq, cases_lt, false≢true}
 use Rattle.std.proofs.lemmas.List.{ext_get_or, get_or_past}
@@ -12,7 +12,7 @@ use Rattle.imagerules.specs.Rules.{HasBlocks}
 use Rattle.imagerules.specs.Pieces.{FitsAddresses, FitsKind, HasKinds, HasSizes}
 use Rattle.imagerules.specs.Places.{EntriesAt, HasEntries, HasLinks, IsPlain, IsReached, LinksAt, PlaceFits, file_in, files_in, node_in}
 use Rattle.imagerules.proofs.Lists.{All-flat_map}
-use Rattle.imagerules.proofs.Nodes.{IsNode-from, IsNode-same, PlacesFit, contents-fit, file_in-free, file_in-used, file_in-zero, length-contents, length-files_in, node_in-directory, slot-files_in, slot-past}
+use Rattle.imagerules.proofs.Nodes.{IsNode-from, IsNode-same, PlacesFit, contents-fit, file_in-free, file_in-used, file_in-zero, length-contents, length-files_in, node_in-directory, slot-files_in, slot-past, slot-zero}
 use Rattle.imagerules.proofs.Summing.{length-data_blocks}
 use Rattle.imagerules.proofs.Uses.{All-data_blocks, FitsAddresses-at, is_data_block-below}
 use Rattle.std.proofs.lemmas.Option.{none-some}
@@ -193,7 +193,7 @@ module _ (image : List ℕ) (b : HasBlocks image) (fits : (i : ℕ) → get_or i
   size-kept n = elim (cases_lt n (inodes_in image)) [
     | inr past ↦ subst KeepsSize (sym (slot-past image n past)) tt
     | inl high ↦ elim (cases_eq n 0) [
-      | inl z ↦ subst KeepsSize (sym (ap (slot (files_in image)) z ∙ slot-files_in image 0 (omega arith) ∙ file_in-zero image)) tt
+      | inl z ↦ subst KeepsSize (sym (slot-zero image n z (omega arith))) tt
       | inr other ↦ keeps_size image n (slot (files_in image) n) (stands n (omega arith) high) (b.inodes.sizes n (omega arith) high).most
     ]
   ]
@@ -205,7 +205,7 @@ module _ (image : List ℕ) (b : HasBlocks image) (fits : (i : ℕ) → get_or i
       record {
         super = b.inodes.super;
         count = length-files_in image;
-        zero = slot-files_in image 0 (omega arith) ∙ file_in-zero image;
+        zero = slot-zero image 0 refl (omega arith);
         nodes = stands;
         blocks = b.addresses.blocks;
         unused = b.addresses.unused;

@@ -1,5 +1,5 @@
 -- The files of an image whose inodes and blocks are sound.
-use Rattle.std.proofs.Common.{◌≡◌, ◌≢◌, ℕ, ◌+◌, ◌-◌, ◌*◌, ◌<◌, ◌≤◌, List, [], ◌∷◌, None, Some, length, get_or, take, drop, ap, sym, refl, ◌∙◌, arith, subst, inl, inr, All, flat_map, ◌==◌, ◌||◌, ◌⊎◌}
+use Rattle.std.proofs.Common.{◌≡◌, ◌≢◌, ℕ, ◌+◌, ◌-◌, ◌*◌, ◌<◌, ◌≤◌, List, [], ◌∷◌, None, Some, length, get_or, take, drop, ap, sym, refl, ◌∙◌, arith, subst, inl, inr, All, flat_map, ◌==◌, ◌||◌}
 use Rattle.std.specs.Prelude.{⊤}
 use Rattle.std.proofs.lemmas.Bool.{cases_eq, cases_lt, cond-false, cond-true, eq-eqb, ne_eqb, or_from, or_right}
 use Rattle.std.proofs.lemmas.List.{get_or-drop, get_or-take, get_or_default, get_or_past, length-append, length-drop, length-take, length-take-le, nil_from_length}
@@ -39,6 +39,12 @@ module _ (image : List ℕ) where
   file_in-used n low used =
       let z : n ≢ 0 = λ e. omega arith in
       cond-false ((n == 0) || (kind_in image n == 0)) None (Some (node_in image n)) (or_from (n == 0) (kind_in image n == 0) (ne_eqb n 0 z) (ne_eqb (kind_in image n) 0 used))
+
+  pub slot-zero : (n : ℕ) → n ≡ 0 → 0 < inodes_in image → slot (files_in image) n ≡ None
+  slot-zero n z some = ap (slot (files_in image)) z ∙ slot-files_in image 0 some ∙ file_in-zero
+
+  pub slot-free : (n : ℕ) → n < inodes_in image → kind_in image n ≡ 0 → slot (files_in image) n ≡ None
+  slot-free n high free = slot-files_in image n high ∙ file_in-free n free
 
   module _ (n : ℕ) where
     pub node_in-directory : kind_in image n ≡ 1 → node_in image n ≡ Directory (links_in image n) (places_in (contents_in image n))
@@ -101,8 +107,10 @@ module _ (image : List ℕ) where
 
 -- ---- a sound inode stands for its node
 
-three : (k : ℕ) → k ≢ 0 → k ≤ 3 → (k ≡ 1) ⊎ ((k ≡ 2) ⊎ (k ≡ 3))
-three k n m = elim (cases_eq k 1) [ inl e ↦ inl e | inr a ↦ elim (cases_eq k 2) [ inl e ↦ inr (inl e) | inr b ↦ inr (inr (omega arith)) ] ]
+-- a type is one of four
+pub by_kind : {P : Type 0} (k : ℕ) → k ≤ 3 → (k ≡ 0 → P) → (k ≡ 1 → P) → (k ≡ 2 → P) → (k ≡ 3 → P) → P
+by_kind k most free directory file device =
+    elim (cases_eq k 0) [ inl e ↦ free e | inr a ↦ elim (cases_eq k 1) [ inl e ↦ directory e | inr b ↦ elim (cases_eq k 2) [ inl e ↦ file e | inr c ↦ device (omega arith) ] ] ]
 
 module _ (image : List ℕ) (n : ℕ) (fits : FitsKind (kind_in image n) (length_in image n)) (long : length (contents_in image n) ≡ length_in image n)
     (bytes : (i : ℕ) → get_or (contents_in image n) i 0 < 256) where
@@ -127,13 +135,11 @@ module _ (image : List ℕ) (n : ℕ) (fits : FitsKind (kind_in image n) (length
   }
 
   pub IsNode-from : kind_in image n ≢ 0 → kind_in image n ≤ 3 → IsNode image n (node_in image n)
-  IsNode-from used most = elim (three (kind_in image n) used most) [
-    | inl e ↦ subst (IsNode image n) (sym (node_in-directory image n e)) (IsNode-directory e)
-    | inr o ↦ elim o [
-      | inl e ↦ subst (IsNode image n) (sym (node_in-file image n e)) (record { kind = e; links = refl; size = sym long; contents = refl; major = tt })
-      | inr e ↦ subst (IsNode image n) (sym (node_in-device image n e)) (IsNode-device e)
-    ]
-  ]
+  IsNode-from used most =
+      by_kind (kind_in image n) most (λ z. absurd (used z))
+      (λ e. subst (IsNode image n) (sym (node_in-directory image n e)) (IsNode-directory e))
+      (λ e. subst (IsNode image n) (sym (node_in-file image n e)) (record { kind = e; links = refl; size = sym long; contents = refl; major = tt }))
+      (λ e. subst (IsNode image n) (sym (node_in-device image n e)) (IsNode-device e))
 
 -- ---- a node that stands for an inode is the inode's
 

@@ -39,26 +39,24 @@ numbers_in-slice n at xs h =
     ∙ number_at-drop 4 (at + 4 * k) xs (omega arith)
     ∙ sym (get_or-numbers_at n at xs k i))
 
+-- numbers of the same bytes
+pub same_number : (k p q : ℕ) (xs ys : List ℕ) → p + k ≤ length xs → q + k ≤ length ys → ((i : ℕ) → i < k → get_or xs (p + i) 0 ≡ get_or ys (q + i) 0) → number_at k p xs ≡ number_at k q ys
+same_number k p q xs ys l m same =
+    ap number (ext_get_or 0 (slice_range xs p (p + k)) (slice_range ys q (q + k)) (long p xs l ∙ sym (long q ys m)) (λ i j.
+    let within : i < k = omega (arith, long p xs l) in
+    at p xs i within ∙ same i within ∙ sym (at q ys i within)))
+  where
+    long : (p : ℕ) (xs : List ℕ) → p + k ≤ length xs → length (slice_range xs p (p + k)) ≡ k
+    long p xs l = length-take-le (p + k - p) (drop p xs) (omega (arith, length-drop p xs)) ∙ omega arith
+
+    at : (p : ℕ) (xs : List ℕ) (i : ℕ) → i < k → get_or (slice_range xs p (p + k)) i 0 ≡ get_or xs (p + i) 0
+    at p xs i h = get_or-take (p + k - p) (drop p xs) i 0 (omega arith) ∙ get_or-drop p xs i 0
+
 -- a number within a part
 pub number_at-part : (b m at : ℕ) (xs : List ℕ) → at + 4 ≤ m → b + m ≤ length xs → number_at 4 at (slice_range xs b (b + m)) ≡ number_at 4 (b + at) xs
 number_at-part b m at xs h l =
-    let e : b + m - b ≡ m = omega arith in
-    let long : at + 4 ≤ length (take (b + m - b) (drop b xs)) = omega (arith, length-take-le (b + m - b) (drop b xs) (omega (arith, length-drop b xs))) in
-    ap number (ext_get_or 0 (slice_range (slice_range xs b (b + m)) at (at + 4)) (slice_range xs (b + at) (b + at + 4))
-    (length-part at (slice_range xs b (b + m)) long ∙ sym (length-part (b + at) xs (omega arith)))
-    (λ k j.
-    let i : k < 4 = omega (arith, length-part at (slice_range xs b (b + m)) long) in
-    get_or-part at (slice_range xs b (b + m)) k i
-    ∙ get_or-take (b + m - b) (drop b xs) (at + k) 0 (omega arith)
-    ∙ get_or-drop b xs (at + k) 0
-    ∙ ap (λ q. get_or xs q 0) (omega arith)
-    ∙ sym (get_or-part (b + at) xs k i)))
-  where
-    length-part : (at : ℕ) (ys : List ℕ) → at + 4 ≤ length ys → length (slice_range ys at (at + 4)) ≡ 4
-    length-part at ys h = length-take-le (at + 4 - at) (drop at ys) (omega (arith, length-drop at ys)) ∙ omega arith
-
-    get_or-part : (at : ℕ) (ys : List ℕ) (k : ℕ) → k < 4 → get_or (slice_range ys at (at + 4)) k 0 ≡ get_or ys (at + k) 0
-    get_or-part at ys k h = get_or-take (at + 4 - at) (drop at ys) k 0 (omega arith) ∙ get_or-drop at ys k 0
+    same_number 4 at (b + at) (slice_range xs b (b + m)) xs (omega (arith, length-take-le (b + m - b) (drop b xs) (omega (arith, length-drop b xs)))) (omega arith) (λ i j.
+    get_or-take (b + m - b) (drop b xs) (at + i) 0 (omega arith) ∙ get_or-drop b xs (at + i) 0 ∙ ap (λ q. get_or xs q 0) (omega arith))
 
 -- numbers within a part
 pub numbers_at-part : (n b m : ℕ) (xs : List ℕ) → 4 * n ≤ m → b + m ≤ length xs → numbers_at n 0 (slice_range xs b (b + m)) ≡ numbers_at n b xs

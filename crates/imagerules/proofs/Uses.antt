@@ -57,13 +57,9 @@ FitsAddresses-at image h n low high used = record {
 All-one : (P : ℕ → Type 0) (x : ℕ) → P x → All P (x ∷ [])
 All-one P x h = All-cons P x [] h (All-nil P)
 
-if_blocks : (b : Bool) (P : ℕ → Type 0) (test zero : Bool) (x : ℕ) → (test ≡ true → P x) → cond b test zero ≡ true → All P (cond b (x ∷ []) [])
-if_blocks true P test zero x h e = All-one P x (h e)
-if_blocks false P test zero x h e = All-nil P
-
-if_unused : (b : Bool) (P : ℕ → Type 0) (test zero : Bool) (x : ℕ) → (zero ≡ true → P x) → cond b test zero ≡ true → All P (cond b [] (x ∷ []))
-if_unused true P test zero x h e = All-nil P
-if_unused false P test zero x h e = All-one P x (h e)
+if_parts : (b : Bool) (P Q : ℕ → Type 0) (test zero : Bool) (x : ℕ) → (test ≡ true → P x) → (zero ≡ true → Q x) → cond b test zero ≡ true → All P (cond b (x ∷ []) []) × All Q (cond b [] (x ∷ []))
+if_parts true P Q test zero x p q e = (All-one P x (p e), All-nil Q)
+if_parts false P Q test zero x p q e = (All-nil P, All-one Q x (q e))
 
 if_both : (b : Bool) (P Q : ℕ → Type 0) (test zero : Bool) (x : ℕ) → (P x → test ≡ true) → (Q x → zero ≡ true) → All P (cond b (x ∷ []) []) → All Q (cond b [] (x ∷ [])) → cond b test zero ≡ true
 if_both true P Q test zero x p q h k = p (All-head P x [] h)
@@ -73,12 +69,13 @@ module _ (image : List ℕ) (n : ℕ) where
   pub FitsAddresses-from : fits_indirect image n ≡ true → All (λ b. IsTrue (is_data_block image b)) (take (count_in image n) (direct_in image n ++ index_in image n))
       → All (λ b. b ≡ 0) (drop (count_in image n) (direct_in image n ++ index_in image n)) → FitsAddresses image n
   unfolding named_by unused_numbers data_blocks
-  FitsAddresses-from h blocks rest = record {
-    blocks = All-append (λ b. IsTrue (is_data_block image b)) (take (count_in image n) (direct_in image n ++ index_in image n)) (cond (needs_indirect image n) (indirect_in image n ∷ []) []) blocks
-        (if_blocks (needs_indirect image n) (λ b. IsTrue (is_data_block image b)) (is_data_block image (indirect_in image n)) (nat_eq (indirect_in image n) 0) (indirect_in image n) (λ e. e) h);
-    unused = All-append (λ b. b ≡ 0) (drop (count_in image n) (direct_in image n ++ index_in image n)) (cond (needs_indirect image n) [] (indirect_in image n ∷ [])) rest
-        (if_unused (needs_indirect image n) (λ b. b ≡ 0) (is_data_block image (indirect_in image n)) (nat_eq (indirect_in image n) 0) (indirect_in image n) (Decides-eqb (indirect_in image n) 0).0 h);
-  }
+  FitsAddresses-from h blocks rest =
+      let P = λ (b : ℕ). IsTrue (is_data_block image b) in
+      let parts = if_parts (needs_indirect image n) P (λ b. b ≡ 0) (is_data_block image (indirect_in image n)) (nat_eq (indirect_in image n) 0) (indirect_in image n) (λ e. e) (Decides-eqb (indirect_in image n) 0).0 h in
+      record {
+        blocks = All-append P (take (count_in image n) (direct_in image n ++ index_in image n)) (cond (needs_indirect image n) (indirect_in image n ∷ []) []) blocks parts.0;
+        unused = All-append (λ b. b ≡ 0) (drop (count_in image n) (direct_in image n ++ index_in image n)) (cond (needs_indirect image n) [] (indirect_in image n ∷ [])) rest parts.1;
+      }
 
   pub fits_indirect-at : FitsAddresses image n → fits_indirect image n ≡ true
   unfolding named_by unused_numbers data_blocks

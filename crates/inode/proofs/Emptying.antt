@@ -30,11 +30,8 @@ module _ {g : Geometry} {old mid : List (List ℕ)} {n k : ℕ} {inode : DiskIno
   here_is {b} e = e ∙ slot_in_freed g old mid n k k (λ j. j < k) inode held.sound freed held.same here_used
 
   module _ {now : List (List ℕ)} {b : ℕ} (now_is : now ≡ mid) (b_is : b ≡ slot_in mid inode k) where
-    pub here_first : data_start_of g.size g.inodes ≤ b
-    here_first = let e : b ≡ slot_of old n k = here_is b_is in omega (arith, (held.sound.in_range n k here_used).0)
-
-    pub here_end : b < g.size
-    here_end = let e : b ≡ slot_of old n k = here_is b_is in omega (arith, (held.sound.in_range n k here_used).1)
+    pub here_range : (data_start_of g.size g.inodes ≤ b) × (b < g.size)
+    here_range = subst (λ q. (data_start_of g.size g.inodes ≤ q) × (q < g.size)) (sym (here_is b_is)) (held.sound.in_range n k here_used)
 
     pub here_taken : bit_of now (bitmap_start_of g.inodes) b ≡ 1
     here_taken =
@@ -68,11 +65,8 @@ module _ {g : Geometry} {old mid : List (List ℕ)} {n count : ℕ} {inode : Dis
     last_unfreed : 268 < count → ⊥
     last_unfreed h = let f : inode.size ≤ 274432 = own_fits held in omega arith
 
-    pub last_first : data_start_of g.size g.inodes ≤ get_or inode.addresses 12 0
-    last_first = let e : slot_of old n 268 ≡ get_or inode.addresses 12 0 = last_is in omega (arith, (held.sound.in_range n 268 last_used).0)
-
-    pub last_end : get_or inode.addresses 12 0 < g.size
-    last_end = let e : slot_of old n 268 ≡ get_or inode.addresses 12 0 = last_is in omega (arith, (held.sound.in_range n 268 last_used).1)
+    pub last_range : (data_start_of g.size g.inodes ≤ get_or inode.addresses 12 0) × (get_or inode.addresses 12 0 < g.size)
+    last_range = subst (λ q. (data_start_of g.size g.inodes ≤ q) × (q < g.size)) last_is (held.sound.in_range n 268 last_used)
 
     pub last_taken : bit_of mid (bitmap_start_of g.inodes) (get_or inode.addresses 12 0) ≡ 1
     last_taken = ap (bit_of mid (bitmap_start_of g.inodes)) (sym last_is) ∙ Freed-taken g old mid n 268 count (λ j. j < count) held.sound freed last_used last_unfreed

@@ -56,17 +56,11 @@ module _ {g : Geometry} {old read mid : List (List ℕ)} {n at target : ℕ} {in
       (WritesInode-same g old mid n (record inode { size = inode.size }) held.used.high p.grows held.same)
 
   module _ (long : inode.size ≤ at + length bytes) where
-    abbrev longer : Prepares g old mid n (record inode { size = at + length bytes }) (splice at bytes (bytes_of old n))
-    longer = prepared (at + length bytes) (omega arith)
-
-    pub inside_parts : HasParts g mid
-    inside_parts = HasParts-kept held.sound.parts longer.grows.count longer.grows.sizes
-
-    pub inside_fits : Fits (record inode { size = at + length bytes })
-    inside_fits = longer.fits
+    pub inside_prepared : Prepares g old mid n (record inode { size = at + length bytes }) (splice at bytes (bytes_of old n))
+    inside_prepared = prepared (at + length bytes) (omega arith)
 
     pub inside_longer : {new : List (List ℕ)} → WritesInode g mid new n (record inode { size = at + length bytes }) → Wrote g old new n (splice at bytes (bytes_of old n))
-    inside_longer {new} writes = Wrote-record g old mid new n (record inode { size = at + length bytes }) (splice at bytes (bytes_of old n)) held.sound held.used longer writes
+    inside_longer {new} writes = Wrote-record g old mid new n (record inode { size = at + length bytes }) (splice at bytes (bytes_of old n)) held.sound held.used inside_prepared writes
 
 -- ---- a block more
 

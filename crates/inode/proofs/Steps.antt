@@ -286,11 +286,8 @@ module _ {g : Geometry} {old m1 m2 mid : List (List ℕ)} {n : ℕ} {inode : Dis
   free_i : IsFree g old b
   free_i = takes.lowest.free
 
-  last_asked : Asks inode.size 268
-  last_asked = inr (refl, omega arith)
-
   last_used : IsUsed old g.inodes n 268
-  last_used = own_used held 268 last_asked
+  last_used = own_used held 268 (inr (refl, omega arith))
 
   x_is : slot_of old n 268 ≡ x
   x_is = own_slot held 268

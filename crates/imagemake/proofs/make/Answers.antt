@@ -1,23 +1,26 @@
-use Rattle.std.proofs.Common.{◌≡◌, ℕ, Global, Vec, arith, refl, subst, sym, ◌∙◌}
-use Rattle.std.proofs.lemmas.Result.{IfOk-weaker, err_from_is_err_and}
+use Rattle.std.proofs.Common.{◌≡◌, ℕ, Global, Vec, arith, refl, subst, sym}
+use Rattle.std.proofs.lemmas.Result.{IfOk-from_err, IfOk-weaker, err_from_is_err_and}
 use Rattle.unixmodel.specs.Manifest.{bare_files, data_blocks_of, files_made, with_entries}
 use Rattle.imagemake.specs.Begins.{MakesEntries}
 use Rattle.imagerules.specs.Content.{image_of}
 use Rattle.imagemake.specs.Making.{MakesImage, Refuses, meaning}
 use Rattle.layout.specs.declared.Geometry.{Geometry}
-use Rattle.imagemake.proofs.Imaging.{MakesImage-entries, none-refused, none-told, only-memory, possible, refused-entries, refused-numbers}
+use Rattle.imagemake.proofs.Imaging.{MakesImage-entries, none-refused, only-memory, possible, refused-entries, refused-numbers}
 use Rattle.imagemake.proofs.make.Goals as goal
 
 pub returns-then-not-is_possible-clause-refused : goal.returns-then-not-is_possible-clause-refused
 returns-then-not-is_possible-clause-refused c = refused-numbers (meaning c.args.manifest.now.entries.items) c.args.size c.args.inodes (sym c.if-not-is_possible.ensures)
 
-pub returns-in_err-put_files-clause-refused : goal.returns-in_err-put_files-clause-refused
-returns-in_err-put_files-clause-refused c =
+pub returns-in_err-put_files : goal.returns-in_err-put_files
+returns-in_err-put_files c =
     let p = err_from_is_err_and c.from_residual-in_err-put_files.result c.from_residual-in_err-put_files.ensures.1 in
     let fault = c.in_err-put_files.field-0.0 in
-    rw (p.1, p.2)
-    (refused-entries (meaning c.args.manifest.now.entries.items) c.args.size c.args.inodes (sym c.if-not-is_possible.ensures) fault
-    (subst (λ entries. Refuses (with_entries (data_blocks_of c.args.size c.args.inodes) c.args.inodes (bare_files c.args.inodes) 2 (meaning entries)) fault) c.deref.ensures.value c.in_err-put_files.ensures.refused))
+    record {
+      made = IfOk-from_err c.from_residual-in_err-put_files.result _ c.from_residual-in_err-put_files.ensures.0;
+      refused = rw (p.1, p.2)
+          (refused-entries (meaning c.args.manifest.now.entries.items) c.args.size c.args.inodes (sym c.if-not-is_possible.ensures) fault
+          (subst (λ entries. Refuses (with_entries (data_blocks_of c.args.size c.args.inodes) c.args.inodes (bare_files c.args.inodes) 2 (meaning entries)) fault) c.deref.ensures.value c.in_err-put_files.ensures.refused));
+    }
 
 pub returns-clause-made : goal.returns-clause-made
 returns-clause-made c =
@@ -32,25 +35,17 @@ returns-clause-made c =
 pub blank-requires : goal.blank-requires
 blank-requires c = (possible c.args.size c.args.inodes (sym c.if-not-is_possible.ensures)).size_high
 
-pub returns-in_err-disk-clause-made : goal.returns-in_err-disk-clause-made
-returns-in_err-disk-clause-made c =
-    let p = err_from_is_err_and c.from_residual.result c.from_residual.ensures.1 in
-    none-told _ c.from_residual.result p.0 p.1
+pub returns-in_err-disk : goal.returns-in_err-disk
+returns-in_err-disk c = record {
+  made = IfOk-from_err c.from_residual.result _ c.from_residual.ensures.0;
+  refused = none-refused (files_made (meaning c.args.manifest.now.entries.items) c.args.size c.args.inodes) c.from_residual.result c.from_residual.ensures.1 c.in_err-disk.ensures.only;
+}
 
-pub returns-in_err-disk-clause-refused : goal.returns-in_err-disk-clause-refused
-returns-in_err-disk-clause-refused c =
-    let p = err_from_is_err_and c.from_residual.result c.from_residual.ensures.1 in
-    none-refused (files_made (meaning c.args.manifest.now.entries.items) c.args.size c.args.inodes) c.from_residual.result p.0 p.1 (p.2 ∙ c.in_err-disk.ensures.only)
-
-pub returns-in_err-made-clause-made : goal.returns-in_err-made-clause-made
-returns-in_err-made-clause-made c =
-    let p = err_from_is_err_and c.from_residual-in_err-made.result c.from_residual-in_err-made.ensures.1 in
-    none-told _ c.from_residual-in_err-made.result p.0 p.1
-
-pub returns-in_err-made-clause-refused : goal.returns-in_err-made-clause-refused
-returns-in_err-made-clause-refused c =
-    let p = err_from_is_err_and c.from_residual-in_err-made.result c.from_residual-in_err-made.ensures.1 in
-    none-refused (files_made (meaning c.args.manifest.now.entries.items) c.args.size c.args.inodes) c.from_residual-in_err-made.result p.0 p.1 p.2
+pub returns-in_err-made : goal.returns-in_err-made
+returns-in_err-made c = record {
+  made = IfOk-from_err c.from_residual-in_err-made.result _ c.from_residual-in_err-made.ensures.0;
+  refused = none-refused (files_made (meaning c.args.manifest.now.entries.items) c.args.size c.args.inodes) c.from_residual-in_err-made.result c.from_residual-in_err-made.ensures.1 refl;
+}
 
 pub put_files-requires : goal.put_files-requires
 put_files-requires c =
@@ -61,11 +56,6 @@ put_files-requires c =
       empty = c.in_ok-made.ensures.empty;
       room = let room = c.in_ok-made.ensures.room in omega (arith, room);
     }
-
-pub returns-in_err-put_files-clause-made : goal.returns-in_err-put_files-clause-made
-returns-in_err-put_files-clause-made c =
-    let p = err_from_is_err_and c.from_residual-in_err-put_files.result c.from_residual-in_err-put_files.ensures.1 in
-    none-told _ c.from_residual-in_err-put_files.result p.0 p.1
 
 pub returns-clause-refused : goal.returns-clause-refused
 returns-clause-refused c = only-memory (files_made (meaning c.args.manifest.now.entries.items) c.args.size c.args.inodes) c.bytes_of_disk.result c.bytes_of_disk.ensures.only

@@ -24,19 +24,19 @@ loop-n-preserved g c =
     let n = c.loop-n.n in
     let inv = c.loop-n.invariant in
     let high : n < inodes_in image = omega (arith, c.requires.geometry.inodes, c.loop-n-test.true) in
-    let here : kind_in image n ≡ 1 → HasNames image (contents_in image n) = elim c.if-kind-eq1.branch [
-      | then-kind-eq1+in_ok-test_directory w ↦ λ e. w.in_ok-test_directory.ensures.named
-      | else-kind-eq1 w ↦ λ e. absurd (w.if-kind-eq1.false (c.kind.ensures ∙ e))
-    ] in
-    record {
-      named = up_to_more (λ m. kind_in image m ≡ 1 → HasNames image (contents_in image m)) n inv.named here;
-      collected = elim c.if-kind-eq1.branch [
-        | then-kind-eq1+in_ok-test_directory w ↦ ◌∙◌ {A = List Naming} (ap (λ v. v.items) w.namings-is)
-            (namings_to-directory image n c.loop-n.namings.items w.test_directory.new.namings.items (omega arith) high (sym c.kind.ensures ∙ w.if-kind-eq1.true) inv.collected w.in_ok-test_directory.ensures.namings)
-        | else-kind-eq1 w ↦ ◌∙◌ {A = List Naming} (ap (λ v. v.items) w.namings-is)
-            (namings_to-other image c.requires.blocks n c.loop-n.namings.items (λ e. w.if-kind-eq1.false (c.kind.ensures ∙ e)) inv.collected)
-      ];
-    }
+    let named = λ (here : kind_in image n ≡ 1 → HasNames image (contents_in image n)). up_to_more (λ m. kind_in image m ≡ 1 → HasNames image (contents_in image m)) n inv.named here in
+    elim c.if-kind-eq1.branch [
+      | then-kind-eq1+in_ok-test_directory w ↦ record {
+        named = named (λ e. w.in_ok-test_directory.ensures.named);
+        collected = ◌∙◌ {A = List Naming} (ap (λ v. v.items) w.namings-is)
+            (namings_to-directory image n c.loop-n.namings.items w.test_directory.new.namings.items (omega arith) high (sym c.kind.ensures ∙ w.if-kind-eq1.true) inv.collected w.in_ok-test_directory.ensures.namings);
+      }
+      | else-kind-eq1 w ↦ record {
+        named = named (λ e. absurd (w.if-kind-eq1.false (c.kind.ensures ∙ e)));
+        collected = ◌∙◌ {A = List Naming} (ap (λ v. v.items) w.namings-is)
+            (namings_to-other image c.requires.blocks n c.loop-n.namings.items (λ e. w.if-kind-eq1.false (c.kind.ensures ∙ e)) inv.collected);
+      }
+    ]
 
 pub returns-clause-named : goal.returns-clause-named
 returns-clause-named g c = λ n low high directory. c.loop-n.invariant.named n low (omega (arith, c.requires.geometry.inodes, c.loop-n-test.false)) directory

@@ -28,21 +28,19 @@ pub loop-n-preserved : goal.loop-n-preserved
 loop-n-preserved c =
     let image = c.args.image.now in
     let n = c.loop-n.n in
-    record {
-      long = elim c.else-kind-eq1.branch [
-        | else-kind-eq1-via-then-kind-eq1+else-not-climb w ↦ ap length w.marks-is ∙ w.climb.auto.marks ∙ c.loop-n.invariant.long
-        | else-kind-eq1-via-else-kind-eq1 w ↦ ap length w.marks-is ∙ c.loop-n.invariant.long
-      ];
-      walked = elim c.else-kind-eq1.branch [
-        | else-kind-eq1-via-then-kind-eq1+else-not-climb w ↦
-            subst (HasWalked (files_in image) (n + 1)) (sym w.marks-is) (OnTrue_at {P = HasWalked (files_in image) (n + 1) w.climb.new.marks} w.if-not-climb.false w.climb.ensures.walked)
-        | else-kind-eq1-via-else-kind-eq1 w ↦ subst (HasWalked (files_in image) (n + 1)) (sym w.marks-is) (HasWalked-later (files_in image) n c.loop-n.marks c.loop-n.invariant.walked)
-      ];
-      climb = up_to_more (λ m. kind_in image m ≡ 1 → Climbs (files_in image) m) n c.loop-n.invariant.climb (elim c.else-kind-eq1.branch [
-        | else-kind-eq1-via-then-kind-eq1+else-not-climb w ↦ λ _. OnTrue_at {P = Climbs (files_in image) n} w.if-not-climb.false w.climb.ensures.climbs
-        | else-kind-eq1-via-else-kind-eq1 w ↦ λ e. absurd (w.if-kind-eq1.false (c.kind.ensures ∙ e))
-      ]);
-    }
+    let climbed = λ (here : kind_in image n ≡ 1 → Climbs (files_in image) n). up_to_more (λ m. kind_in image m ≡ 1 → Climbs (files_in image) m) n c.loop-n.invariant.climb here in
+    elim c.else-kind-eq1.branch [
+      | else-kind-eq1-via-then-kind-eq1+else-not-climb w ↦ record {
+        long = ap length w.marks-is ∙ w.climb.auto.marks ∙ c.loop-n.invariant.long;
+        walked = subst (HasWalked (files_in image) (n + 1)) (sym w.marks-is) (OnTrue_at {P = HasWalked (files_in image) (n + 1) w.climb.new.marks} w.if-not-climb.false w.climb.ensures.walked);
+        climb = climbed (λ _. OnTrue_at {P = Climbs (files_in image) n} w.if-not-climb.false w.climb.ensures.climbs);
+      }
+      | else-kind-eq1-via-else-kind-eq1 w ↦ record {
+        long = ap length w.marks-is ∙ c.loop-n.invariant.long;
+        walked = subst (HasWalked (files_in image) (n + 1)) (sym w.marks-is) (HasWalked-later (files_in image) n c.loop-n.marks c.loop-n.invariant.walked);
+        climb = climbed (λ e. absurd (w.if-kind-eq1.false (c.kind.ensures ∙ e)));
+      }
+    ]
 
 pub returns-clause-sound : goal.returns-clause-sound
 returns-clause-sound c =

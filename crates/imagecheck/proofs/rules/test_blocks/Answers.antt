@@ -2,7 +2,8 @@ use Rattle.std.proofs.Common.{sym, subst, ◌∙◌, []}
 use Rattle.imagerules.specs.Marks.{HasMarks}
 use Rattle.imagerules.proofs.Marking.{HasMarks-none}
 use Rattle.imagecheck.specs.Faults.{Finds}
-use Rattle.imagecheck.proofs.Sounding.{fault-sound, fault-told}
+use Rattle.std.proofs.lemmas.Result.{IfOk-from_err}
+use Rattle.imagecheck.proofs.Sounding.{fault-told}
 use Rattle.imagecheck.proofs.rules.test_blocks.Goals as goal
 
 pub returns-in_err-marks-clause-fault : goal.returns-in_err-marks-clause-fault
@@ -16,10 +17,10 @@ test_marks-requires-clause-fresh g c =
     subst (HasMarks []) (sym (c.deref_mut.ensures.value ∙ c.in_ok-marks.ensures.items_if_clones_equal (λ y e. cc))) (HasMarks-none c.args.geometry.size)
 
 pub returns-in_err-marks-clause-sound : goal.returns-in_err-marks-clause-sound
-returns-in_err-marks-clause-sound g c = fault-sound _ c.from_residual-in_err-marks.result c.from_residual-in_err-marks.ensures.0
+returns-in_err-marks-clause-sound g c = IfOk-from_err c.from_residual-in_err-marks.result _ c.from_residual-in_err-marks.ensures.0
 
 pub returns-in_err-test_inodes-clause-sound : goal.returns-in_err-test_inodes-clause-sound
-returns-in_err-test_inodes-clause-sound g c = fault-sound _ c.from_residual.result c.from_residual.ensures.0
+returns-in_err-test_inodes-clause-sound g c = IfOk-from_err c.from_residual.result _ c.from_residual.ensures.0
 
 pub returns-in_err-test_inodes-clause-fault : goal.returns-in_err-test_inodes-clause-fault
 returns-in_err-test_inodes-clause-fault g c = fault-told (Finds c.args.image.now) c.from_residual.result c.from_residual.ensures.1 c.in_err-test_inodes.ensures.fault

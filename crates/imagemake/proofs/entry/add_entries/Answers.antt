@@ -4,7 +4,8 @@ use Rattle.unixmodel.specs.Manifest.{data_blocks_of, with_manifest_entry}
 use Rattle.imagemake.specs.Begins.{AddsEntry}
 use Rattle.imagemake.specs.Making.{Refuses, entry_of, meaning}
 use Rattle.imagemake.proofs.Going.{IsGoing-more, IsGoing-root, MakesEntries-going, refused-going}
-use Rattle.imagemake.proofs.Owned.{Owns-done, Owns-told, told}
+use Rattle.balloc.proofs.Exits.{told_err}
+use Rattle.imagemake.proofs.Owned.{Owns-done, Owns-told}
 use Rattle.imagemake.proofs.entry.add_entries.Goals as goal
 
 pub loop-entry-init : goal.loop-entry-init
@@ -30,7 +31,7 @@ returns-in_err-add_entry-clause-refused g c =
     (subst (λ e. Refuses (with_manifest_entry blocks c.args.geometry.inodes going.files (length made + 2) (entry_of e)) fault) c.entry-item.is (c.in_err-add_entry.ensures.refused going.files going.made_so_far)))
 
 pub returns-in_err-add_entry-clause-cause : goal.returns-in_err-add_entry-clause-cause
-returns-in_err-add_entry-clause-cause g c = Owns-told c.loop-entry.invariant.failures c.in_err-add_entry.ensures.cause (told c.from_residual.result c.from_residual.ensures.1)
+returns-in_err-add_entry-clause-cause g c = Owns-told c.loop-entry.invariant.failures c.in_err-add_entry.ensures.cause (told_err c.from_residual.result c.from_residual.ensures.1)
 
 pub loop-entry-preserved : goal.loop-entry-preserved
 loop-entry-preserved g c =

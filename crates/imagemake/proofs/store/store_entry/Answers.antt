@@ -3,7 +3,8 @@ use Rattle.std.proofs.lemmas.Result.{err_from_is_err_and}
 use Rattle.unixmodel.specs.Files.Node.{Directory}
 use Rattle.imagemake.specs.Making.{thing_of}
 use Rattle.imagemake.proofs.AddedFiles.{IsStored-named, directory-after, few-files, unused-added, node-refused, still-there}
-use Rattle.imagemake.proofs.Owned.{Owns-after, Owns-told, told}
+use Rattle.balloc.proofs.Exits.{told_err}
+use Rattle.imagemake.proofs.Owned.{Owns-after, Owns-told}
 use Rattle.imagemake.proofs.Storing.{slot-within}
 use Rattle.imagemake.proofs.store.store_entry.Goals as goal
 
@@ -27,28 +28,24 @@ store_name-requires-clause-number g c =
     let able = c.requires.able in
     omega (arith, able.2.high, few-files c.args.geometry c.args.disk.now.blocks able.0 able.1)
 
-pub returns-in_err-store_node-clause-stored : goal.returns-in_err-store_node-clause-stored
-returns-in_err-store_node-clause-stored g c = λ files stores can.
-    let p = err_from_is_err_and c.from_residual.result c.from_residual.ensures.1 in
-    rw (p.1, p.2) (node-refused files c.args.directory c.args.name.now c.args.number (thing_of c.args.thing.now) can c.args.geometry _ (c.in_err-store_node.ensures.put files stores))
+pub returns-in_err-store_node : goal.returns-in_err-store_node
+returns-in_err-store_node g c = record {
+  stored = λ files stores can.
+      let p = err_from_is_err_and c.from_residual.result c.from_residual.ensures.1 in
+      rw (p.1, p.2) (node-refused files c.args.directory c.args.name.now c.args.number (thing_of c.args.thing.now) can c.args.geometry _ (c.in_err-store_node.ensures.put files stores));
+  count = c.store_node.ensures.count;
+  cause = Owns-told (omega arith) c.in_err-store_node.ensures.cause (told_err c.from_residual.result c.from_residual.ensures.1);
+}
 
-pub returns-in_err-store_node-clause-cause : goal.returns-in_err-store_node-clause-cause
-returns-in_err-store_node-clause-cause g c = Owns-told (omega arith) c.in_err-store_node.ensures.cause (told c.from_residual.result c.from_residual.ensures.1)
-
-pub returns-clause-cause : goal.returns-clause-cause
-returns-clause-cause g c = Owns-after c.in_ok-store_node.ensures.cause.later c.store_name.ensures.cause
-
-pub returns-clause-stored : goal.returns-clause-stored
-returns-clause-stored g c = λ files stores can.
-    let put = c.in_ok-store_node.ensures.put files stores in
-    IsStored-named files c.args.directory c.args.name.now c.args.number (thing_of c.args.thing.now) can c.args.geometry c.store_name.new.disk.blocks c.store_name.result put.1
-    (c.store_name.ensures.put _ (Directory can.links can.places) put.0 (still-there files c.args.directory c.args.name.now c.args.number (thing_of c.args.thing.now) can) refl)
+pub returns : goal.returns
+returns g c = record {
+  stored = λ files stores can.
+      let put = c.in_ok-store_node.ensures.put files stores in
+      IsStored-named files c.args.directory c.args.name.now c.args.number (thing_of c.args.thing.now) can c.args.geometry c.store_name.new.disk.blocks c.store_name.result put.1
+      (c.store_name.ensures.put _ (Directory can.links can.places) put.0 (still-there files c.args.directory c.args.name.now c.args.number (thing_of c.args.thing.now) can) refl);
+  count = c.store_name.ensures.count ∙ c.store_node.ensures.count;
+  cause = Owns-after c.in_ok-store_node.ensures.cause.later c.store_name.ensures.cause;
+}
 
 pub store_node-requires-clause-able : goal.store_node-requires-clause-able
 store_node-requires-clause-able g c = (c.requires.able.0, c.requires.able.1)
-
-pub returns-in_err-store_node-clause-count : goal.returns-in_err-store_node-clause-count
-returns-in_err-store_node-clause-count g c = c.store_node.ensures.count
-
-pub returns-clause-count : goal.returns-clause-count
-returns-clause-count g c = c.store_name.ensures.count ∙ c.store_node.ensures.count

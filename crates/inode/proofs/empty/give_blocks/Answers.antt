@@ -5,7 +5,7 @@ use Rattle.inode.specs.Held.{HasInode-of}
 use Rattle.inode.proofs.FreeingLemmas.{Freed-none}
 use Rattle.balloc.proofs.Exits.{HasCause-after, HasCause-failed}
 use Rattle.inode.proofs.Causes.{HasCause-good}
-use Rattle.inode.proofs.Emptying.{freed_all, freed_few, here_end, here_first, here_freed, here_numbers, here_taken, last_end, last_first, last_taken}
+use Rattle.inode.proofs.Emptying.{freed_all, freed_few, here_freed, here_numbers, here_range, here_taken, last_range, last_taken}
 use Rattle.inode.proofs.Reading.{slot_low}
 use Rattle.inode.proofs.empty.give_blocks.Goals as goal
 
@@ -38,10 +38,11 @@ returns-in_err-b g c = record {
 pub give_block-requires : goal.give_block-requires
 give_block-requires g c =
     let below : c.block.index < blocks_for c.args.inode.now.size = omega (arith, c.block-test.true, c.div_ceil-count.ensures) in
+    let range = here_range (HasInode-of c.requires) c.block.invariant.freed below c.in_ok-b.ensures.same c.in_ok-b.ensures.value in
     record {
       parts = rw c.in_ok-b.ensures.same c.block.invariant.freed.parts;
-      low = here_first (HasInode-of c.requires) c.block.invariant.freed below c.in_ok-b.ensures.same c.in_ok-b.ensures.value;
-      high = here_end (HasInode-of c.requires) c.block.invariant.freed below c.in_ok-b.ensures.same c.in_ok-b.ensures.value;
+      low = range.0;
+      high = range.1;
       taken = here_taken (HasInode-of c.requires) c.block.invariant.freed below c.in_ok-b.ensures.same c.in_ok-b.ensures.value;
     }
 
@@ -77,8 +78,8 @@ give_block-requires-2 g c =
     let many : 12 < c.block.index = omega (arith, c.if-count-le12.false, c.block-test.false) in
     record {
       parts = c.block.invariant.freed.parts;
-      low = last_first (HasInode-of c.requires) c.block.invariant.freed all many;
-      high = last_end (HasInode-of c.requires) c.block.invariant.freed all many;
+      low = (last_range (HasInode-of c.requires) c.block.invariant.freed all many).0;
+      high = (last_range (HasInode-of c.requires) c.block.invariant.freed all many).1;
       taken = last_taken (HasInode-of c.requires) c.block.invariant.freed all many;
     }
 

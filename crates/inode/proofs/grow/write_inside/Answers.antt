@@ -1,10 +1,11 @@
 use Rattle.std.proofs.Common.{◌/◌, ◌∙◌, arith, subst, refl, le_of_lt}
 use Rattle.std.proofs.lemmas.Result.{err_from_is_err_and, on_ok_weaker}
 use Rattle.layout.specs.Grow.{WritesInode}
+use Rattle.layout.proofs.Puts.{HasParts-kept}
 use Rattle.inode.specs.Held.{HasInode-of}
 use Rattle.balloc.proofs.Exits.{HasCause-after, HasCause-failed}
 use Rattle.inode.proofs.Causes.{HasCause-first, HasCause-good}
-use Rattle.inode.proofs.Filling.{inside_fits, inside_kept, inside_longer, inside_parts}
+use Rattle.inode.proofs.Filling.{inside_kept, inside_longer, inside_prepared}
 use Rattle.inode.proofs.Growing.{own_fits}
 use Rattle.inode.proofs.Reading.{numbers_in_disk, slot_in_disk, slot_low}
 use Rattle.inode.proofs.grow.write_inside.Goals as goal
@@ -49,13 +50,14 @@ pub overflow_cast-end : goal.overflow_cast-end
 overflow_cast-end g c = omega (arith, own_fits (HasInode-of c.requires.held), c.requires.lies.within, c.requires.lies.room)
 
 pub write_inode-requires : goal.write_inode-requires
-write_inode-requires g c = record {
-  parts = inside_parts c.args.bytes.now (HasInode-of c.requires.held) c.requires.fits c.requires.lies c.in_ok-target.ensures.same c.in_ok-target.ensures.value c.in_ok-write.ensures.written
-      (le_of_lt c.if-end-inode.false);
-  high = (HasInode-of c.requires.held).used.high;
-  fits = rw c.with_size.ensures (inside_fits c.args.bytes.now (HasInode-of c.requires.held) c.requires.fits c.requires.lies c.in_ok-target.ensures.same c.in_ok-target.ensures.value c.in_ok-write.ensures.written
-      (le_of_lt c.if-end-inode.false));
-}
+write_inode-requires g c =
+    let held = HasInode-of c.requires.held in
+    let prepared = inside_prepared c.args.bytes.now held c.requires.fits c.requires.lies c.in_ok-target.ensures.same c.in_ok-target.ensures.value c.in_ok-write.ensures.written (le_of_lt c.if-end-inode.false) in
+    record {
+      parts = HasParts-kept held.sound.parts prepared.grows.count prepared.grows.sizes;
+      high = held.used.high;
+      fits = rw c.with_size.ensures prepared.fits;
+    }
 
 pub returns : goal.returns
 returns g c = record {

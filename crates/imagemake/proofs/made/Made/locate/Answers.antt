@@ -1,5 +1,5 @@
-use Rattle.std.proofs.Common.{◌≡◌, ◌-◌, ◌+◌, Some, None, ap, arith, drop, sym, take, ◌∙◌}
-use Rattle.imagemake.proofs.Pathing.{first-in, pieces_next, reach_found, reach_last, reach_none, within_next}
+use Rattle.std.proofs.Common.{◌+◌, None, ap, drop, sym, take, ◌∙◌}
+use Rattle.imagemake.proofs.Pathing.{first-in, name_next, pieces_next, reach_found, reach_last, reach_none, within_next}
 use Rattle.imagemake.specs.Made.{found, reach}
 use Rattle.imagemake.proofs.made.Made.locate.Goals as goal
 
@@ -7,24 +7,20 @@ pub returns-in_default-find-clause-none : goal.returns-in_default-find-clause-no
 returns-in_default-find-clause-none c =
     let made = c.args.self.now.items in
     let path = c.args.path.now in
-    let e : c.name.at + c.in-Some.end - c.name.at ≡ c.in-Some.end = omega arith in
-    let slash = first-in path c.name.at (Some c.in-Some.end) c.in-Some.ensures in
     let none = reach_none made c.name.directory (take c.in-Some.end (drop c.name.at path)) (drop (c.name.at + (c.in-Some.end + 1)) path)
-    (ap (λ n. found made c.name.directory (take n (drop c.name.at path))) (sym e) ∙ sym c.in_default-find.ensures) in
-    (none.0, sym c.name.invariant.rest ∙ ap (reach made c.name.directory) (pieces_next path c.name.at c.in-Some.end slash) ∙ none.1)
+    (ap (found made c.name.directory) (sym (name_next path c.name.at c.in-Some.end c.in-Some.ensures)) ∙ sym c.in_default-find.ensures) in
+    (none.0, sym c.name.invariant.rest ∙ ap (reach made c.name.directory) (pieces_next path c.name.at c.in-Some.end c.in-Some.ensures) ∙ none.1)
 
 pub name-preserved : goal.name-preserved
 name-preserved c =
     let made = c.args.self.now.items in
     let path = c.args.path.now in
-    let e : c.name.at + c.in-Some.end - c.name.at ≡ c.in-Some.end = omega arith in
-    let slash = first-in path c.name.at (Some c.in-Some.end) c.in-Some.ensures in
     record {
-      within = within_next path c.name.at c.in-Some.end slash;
+      within = within_next path c.name.at c.in-Some.end c.in-Some.ensures;
       rest =
           sym (reach_found made c.name.directory (take c.in-Some.end (drop c.name.at path)) (drop (c.name.at + (c.in-Some.end + 1)) path) c.in-Some-find.next
-          (ap (λ n. found made c.name.directory (take n (drop c.name.at path))) (sym e) ∙ sym c.in-Some-find.ensures))
-          ∙ ap (reach made c.name.directory) (sym (pieces_next path c.name.at c.in-Some.end slash))
+          (ap (found made c.name.directory) (sym (name_next path c.name.at c.in-Some.end c.in-Some.ensures)) ∙ sym c.in-Some-find.ensures))
+          ∙ ap (reach made c.name.directory) (sym (pieces_next path c.name.at c.in-Some.end c.in-Some.ensures))
           ∙ c.name.invariant.rest;
     }
 
