@@ -1,12 +1,12 @@
 -- How a change of one bit changes the count of free blocks.
+use Rattle.std.proofs.Common.{set, drop, ap, sym, ◌∙◌, arith, refl, add-zero, Bool, true, false, cond}
 use Rattle.std.specs.Prelude.{◌≡◌, ◌≢◌, ℕ, ◌+◌, ◌-◌, ◌<◌, ◌≤◌, ◌==◌, List, [], ◌∷◌, length, get_or, count_by, zero, suc}
-use Rattle.std.proofs.Common.{set, drop, ap, sym, ◌∙◌, arith, refl, add-zero, Bool, true, false, cond, inl, inr}
-use Rattle.std.proofs.lemmas.Bool.{cases_eq}
-use Rattle.std.proofs.lemmas.List.{get_or-set_other, get_or-set_same, length-set, ext_get_or}
+use Rattle.std.proofs.lemmas.List.{ext_get_or}
 use Rattle.std.proofs.lemmas.List.Sums.{sum_by-cons, sum_by-set}
 use Rattle.std.proofs.lemmas.List.FromFn.{length-map-range_with_len, get_or-map-range_with_len}
 use Rattle.layout.specs.Super.{bitmap_start_of, data_start_of}
 use Rattle.layout.specs.declared.Geometry.{Geometry}
+use Rattle.layout.proofs.Frame.{set_from}
 use Rattle.layout.specs.Image.{IsFree, bit_of, data_bits, free_blocks}
 use Rattle.balloc.specs.Bitmap.{SetsBit}
 
@@ -20,23 +20,11 @@ get_or-data_bits g blocks i h = get_or-map-range_with_len (bit_of blocks (bitmap
 
 data_bits-set : (g : Geometry) (old new : List (List ℕ)) (b bit : ℕ) → SetsBit g old new b bit → data_start_of g.size g.inodes ≤ b → b < g.size → data_bits g new ≡ set (data_bits g old) (b - data_start_of g.size g.inodes) bit
 data_bits-set g old new b bit sets low high =
-    let first : ℕ = data_start_of g.size g.inodes in
-    let place : ℕ = b - data_start_of g.size g.inodes in
-    ext_get_or 0 (data_bits g new) (set (data_bits g old) (b - data_start_of g.size g.inodes) bit)
-    (length-data_bits g new ∙ sym (length-data_bits g old) ∙ sym (length-set (data_bits g old) (b - data_start_of g.size g.inodes) bit))
-    (λ i l.
-    let within : i < g.size - data_start_of g.size g.inodes = omega (arith, length-data_bits g new) in
-    get_or-data_bits g new i within
-    ∙ (elim (cases_eq i (b - data_start_of g.size g.inodes)) [
-      | inl here ↦
-          let e : data_start_of g.size g.inodes + i ≡ b = omega arith in
-          ap (bit_of new (bitmap_start_of g.inodes)) e ∙ sets.here
-          ∙ sym (get_or-set_same (data_bits g old) (b - data_start_of g.size g.inodes) bit 0 (omega (arith, length-data_bits g old)))
-          ∙ ap (λ k. get_or (set (data_bits g old) (b - data_start_of g.size g.inodes) bit) k 0) (sym here)
-      | inr other ↦ sets.others (data_start_of g.size g.inodes + i) (omega arith) (omega arith)
-          ∙ sym (get_or-data_bits g old i within)
-          ∙ sym (get_or-set_other (data_bits g old) (b - data_start_of g.size g.inodes) i bit 0 other)
-    ]))
+    let e : data_start_of g.size g.inodes + (b - data_start_of g.size g.inodes) ≡ b = omega arith in
+    set_from 0 (data_bits g old) (data_bits g new) (b - data_start_of g.size g.inodes) bit (omega (arith, length-data_bits g old)) (length-data_bits g new ∙ sym (length-data_bits g old))
+    (get_or-data_bits g new (b - data_start_of g.size g.inodes) (omega arith) ∙ ap (bit_of new (bitmap_start_of g.inodes)) e ∙ sets.here) (λ i l other.
+    let within : i < g.size - data_start_of g.size g.inodes = omega (arith, length-data_bits g old) in
+    get_or-data_bits g new i within ∙ sets.others (data_start_of g.size g.inodes + i) (omega arith) (omega arith) ∙ sym (get_or-data_bits g old i within))
 
 -- the bit that was there and the one that is there balance the counts
 pub free_blocks-set : (g : Geometry) (old new : List (List ℕ)) (b bit : ℕ) → SetsBit g old new b bit → data_start_of g.size g.inodes ≤ b → b < g.size

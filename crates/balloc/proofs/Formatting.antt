@@ -1,6 +1,6 @@
 -- A new file system is sound.
 use Rattle.std.proofs.Common.{◌≡◌, ◌≢◌, ℕ, ◌+◌, ◌-◌, ◌*◌, ◌/◌, ◌%◌, ◌^◌, ◌<◌, ◌≤◌, List, [], ◌∷◌, ◌++◌, length, get_or, set, drop, replicate, None, zero, suc, ap, sym, ◌∙◌, arith, inl, inr, refl, subst}
-use Rattle.std.proofs.lemmas.Bool.{cases_eq, cases_lt}
+use Rattle.std.proofs.lemmas.Bool.{cases_lt}
 use Rattle.std.proofs.lemmas.List.{ext_get_or, get_or-replicate, get_or-set_other, get_or-set_same, get_or_past, length-replicate, length-take}
 use Rattle.std.proofs.lemmas.Nat.Bits.{bit_at-zero}
 use Rattle.std.specs.Int.{bit_at}
@@ -13,7 +13,7 @@ use Rattle.layout.specs.declared.Geometry.{Geometry}
 use Rattle.layout.specs.declared.SuperBlock.{SuperBlock}
 use Rattle.layout.specs.Image.{IsInode, bit_in, bit_of, free_blocks, data_bits, inode_at, nodes_of}
 use Rattle.layout.specs.Sound.{HasParts, IsSound, TellsGeometry}
-use Rattle.layout.proofs.Frame.{get_or-nodes_of, length-nodes_of, node_at-none}
+use Rattle.layout.proofs.Frame.{at_or, get_or-nodes_of, length-nodes_of, node_at-none}
 use Rattle.layout.proofs.Puts.{HasParts-kept, PutsBlock-write}
 use Rattle.balloc.proofs.Counting.{get_or-data_bits, length-data_bits, zeros-first, zeros_in}
 use Rattle.balloc.specs.Format.{Cleared, HasFront, new_super}
@@ -41,10 +41,8 @@ pub Cleared-more : (g : Geometry) (old new : List (List ℕ)) (k : ℕ) (zeros :
 Cleared-more g old new k zeros parts cleared high z e j h i =
     let within : k < length old = omega (arith, parts.count) in
     let puts = PutsBlock-write old new k 0 zeros parts.sizes within (omega (arith, ap length z, length-replicate {A = ℕ} 1024 0)) e in
-    elim (cases_eq j k) [
-      | inl met ↦ ap (λ q. get_or (block_at new q) i 0) met ∙ ap (λ b. get_or b i 0) (puts.here ∙ ap (λ w. splice 0 w (block_at old k)) z) ∙ splice-zeros (block_at old k) i (parts.sizes k within)
-      | inr other ↦ ap (λ b. get_or b i 0) (puts.rest j other) ∙ cleared j (omega arith) i
-    ]
+    at_or (λ q. get_or (block_at new q) i 0 ≡ 0) k j (ap (λ b. get_or b i 0) (puts.here ∙ ap (λ w. splice 0 w (block_at old k)) z) ∙ splice-zeros (block_at old k) i (parts.sizes k within))
+    (λ other. ap (λ b. get_or b i 0) (puts.rest j other) ∙ cleared j (omega arith) i)
 
 -- ---- bits
 

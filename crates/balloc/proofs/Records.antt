@@ -1,5 +1,5 @@
 -- The record of an inode without blocks is written.
-use Rattle.std.proofs.Common.{◌≡◌, ◌≢◌, ℕ, ◌+◌, ◌*◌, ◌/◌, ◌%◌, ◌^◌, ◌<◌, ◌≤◌, List, [], ◌∷◌, length, get_or, set, replicate, Option, Some, None, ap, ◌∙◌, arith, inl, inr, refl}
+use Rattle.std.proofs.Common.{◌≡◌, ◌≢◌, ℕ, ◌+◌, ◌*◌, ◌/◌, ◌%◌, ◌^◌, ◌<◌, ◌≤◌, List, [], ◌∷◌, length, get_or, set, Option, Some, None, ap, ◌∙◌, arith, inr, refl}
 use Rattle.layout.specs.Inode.{Fits, inode_bytes}
 use Rattle.layout.specs.Numbers.{spelled}
 use Rattle.layout.specs.Super.{bitmap_start_of}

@@ -1,13 +1,13 @@
 -- A failure of an access is one of the call, where the accesses before were good.
 use Rattle.std.proofs.Common.{◌≡◌, ℕ, ◌+◌, ◌<◌, ◌≤◌, List, Result, Ok, Err, length, ap, sym, ◌∙◌, arith, subst}
-use Rattle.std.specs.Prelude.{IsErrOf, OnOk}
-use Rattle.std.specs.Result.{is_err}
+use Rattle.std.specs.Prelude.{IfOk, IsErrOf, OnOk}
+use Rattle.std.specs.Result.{IsErrAnd, is_err}
 use Rattle.unixmodel.specs.Failures.{HasCause, Rises}
 use Rattle.blockdev.specs.Splice.{splice}
 use Rattle.cache.specs.Disk.{Disk}
 use Rattle.layout.specs.declared.Geometry.{Geometry}
 use Rattle.layout.specs.Image.{bytes_of}
-use Rattle.balloc.proofs.Exits.{err_is}
+use Rattle.balloc.proofs.Exits.{err_is, told_err}
 use Rattle.inode.specs.Writing.{IsFull, Wrote}
 use Rattle.inode.specs.declared.InodeFault.{InodeFault}
 use Rattle.inode.specs.declared.InodeFault.TheVariants.{Blocks, Device, PastEnd, TooLong}
@@ -22,6 +22,12 @@ HasCause-first cause was = record { later = cause.later; failed = λ _. cause.fa
 -- all were good
 pub HasCause-good : {T E : Type 0} {a c : ℕ} {x : T} → a ≤ c → HasCause {T = T} {E = E} a c (Ok x)
 HasCause-good h = record { later = h; failed = λ e. cc }
+
+-- a read of bytes that fails
+pub read_failed : (old new : Disk) (P Q : ℕ → Type 0) (S : Type 0) {E : Type 0} (fault : E) {result : Result ℕ E} → IsErrAnd result (λ f. f ≡ fault) → length new.blocks ≡ length old.blocks
+    → HasCause old.failures new.failures result
+    → record { count : IfOk result P; read : IfOk result Q; same : OnOk result S; blocks : length new.blocks ≡ length old.blocks; cause : HasCause old.failures new.failures result }
+read_failed old new P Q S fault {result} told blocks cause = let e = told_err result told in record { count = rw e tt; read = rw e tt; same = rw e tt; blocks = blocks; cause = cause }
 
 -- ---- how a write of bytes ends
 

@@ -39,5 +39,6 @@ module _ {T : Type 0} {Part : T → Type 0} {g : Geometry} {old new : Disk} {n a
         → (IsErrOf {T = U} (Err fault) Blocks → LacksBlocks g old.blocks n at) → (IsErrOf {T = U} (Err fault) Blocks → new.blocks ≡ old.blocks) → (IsErrOf {T = U} (Err fault) Inodes → ⊥)
         → old.failures ≤ new.failures → (IsErrOf {T = U} (Err fault) Device → Rises old.failures new.failures) → IsStep g old new n at result Part
     IsStep-refused {U} {fault} {result} told few unchanged only later failed =
-        let part : Refuses {T = U} old new (Err fault) Blocks Inodes (LacksBlocks g old.blocks n at) = record { none = few; unchanged = unchanged; only = only; count = count; later = later; failed = failed } in
+        let part : Refuses {T = U} old new (Err fault) Blocks Inodes (LacksBlocks g old.blocks n at) =
+        record { none = few; unchanged = unchanged; only = only; count = count; later = later; failed = failed } in
         IsStep-of (rw (err_from_is_err_and result told).1 tt) (Refuses-part old new told part (λ l. l) refl (omega arith))

@@ -8,11 +8,10 @@ use Rattle.layout.specs.declared.DiskInode.{DiskInode}
 use Rattle.layout.specs.declared.Geometry.{Geometry}
 use Rattle.layout.proofs.Frame.{IsSound-replace, KeepsOthers, nodes_of-changed}
 use Rattle.layout.specs.Grow.{Grows, WritesInode}
-use Rattle.layout.proofs.Puts.{HasParts-kept}
 use Rattle.layout.proofs.GrowLemmas.{Grows-keeps, Grows-node, Grows-sound}
 use Rattle.layout.specs.Image.{bit_in, blocks_for, bytes_of, free_blocks, inode_at, nodes_of, slot_in, slot_of, taken_for}
 use Rattle.layout.proofs.Plain.{Grows-same, HoldsBytes-same}
-use Rattle.layout.specs.Sound.{HasParts, IsSound}
+use Rattle.layout.specs.Sound.{IsSound}
 use Rattle.balloc.proofs.Counting.{free_blocks-same}
 use Rattle.inode.specs.Held.{HasInode}
 use Rattle.inode.specs.Writing.{BeginsBlock, LacksBlocks, LiesInBlock, Prepares, Wrote, node_linked}

@@ -1,9 +1,9 @@
 -- One inode of a disk changes with the blocks that it names: the others stay, and the disk stays sound.
-use Rattle.std.specs.Prelude.{◌≡◌, ◌≢◌, ℕ, ◌/◌, ◌%◌, ◌<◌, ◌≤◌, ◌⊎◌, ◌↔◌, ◌==◌, ◌||◌, List, length, get_or, Option, None, Some}
 use Rattle.std.proofs.Common.{set, ap, sym, ◌∙◌, arith, inl, inr, refl, subst, cond}
+use Rattle.std.specs.Prelude.{◌≡◌, ◌≢◌, ℕ, ◌/◌, ◌%◌, ◌<◌, ◌≤◌, ◌⊎◌, ◌↔◌, ◌==◌, ◌||◌, List, length, get_or, Option, None, Some}
+use Rattle.std.proofs.lemmas.List.{get_or-set_other, get_or-set_same, length-set, ext_get_or}
 use Rattle.std.proofs.lemmas.Bool.{cases_lt, cases_eq}
 use Rattle.std.proofs.lemmas.Bool.Decides.{nat_tests}
-use Rattle.std.proofs.lemmas.List.{get_or-set_other, get_or-set_same, length-set, ext_get_or}
 use Rattle.std.proofs.lemmas.List.FromFn.{length-map-range_with_len, get_or-map-range_with_len}
 use Rattle.blockdev.specs.Blocks.{AreBlocks, block_at}
 use Rattle.layout.specs.Super.{bitmap_start_of, data_start_of}
@@ -13,6 +13,17 @@ use Rattle.layout.specs.Image.{IsInode, IsSpare, IsUsed, RawNode, bit_of, byte_o
 use Rattle.layout.specs.Sound.{IsNamed, IsSound, TellsGeometry}
 use Rattle.layout.proofs.Puts.{HasParts-kept}
 use Rattle.layout.proofs.Slots.{IsInode-same, IsSpare-size, IsUsed-same, slot_in-same, asks_at, slot_of-last, used_last, used_within}
+
+-- what holds of n, and of another number
+pub at_or : (P : ℕ → Type 0) (n m : ℕ) → P n → (m ≢ n → P m) → P m
+at_or P n m here apart = elim (cases_eq m n) [ inl e ↦ subst P (sym e) here | inr other ↦ apart other ]
+
+-- a list that differs from another at one place
+pub set_from : {A : Type 0} (d : A) (xs ys : List A) (n : ℕ) (x : A) → n < length xs → length ys ≡ length xs → get_or ys n d ≡ x
+    → ((m : ℕ) → m < length xs → m ≢ n → get_or ys m d ≡ get_or xs m d) → ys ≡ set xs n x
+set_from d xs ys n x within long here others =
+    ext_get_or d ys (set xs n x) (long ∙ sym (length-set xs n x)) (λ m l. at_or (λ k. get_or ys k d ≡ get_or (set xs n x) k d) n m (here ∙ sym (get_or-set_same xs n x d within))
+    (λ other. others m (omega arith) other ∙ sym (get_or-set_other xs n m x d other)))
 
 -- ---- lists made by place
 
@@ -103,19 +114,10 @@ module _ (g : Geometry) (old new : List (List ℕ)) (n : ℕ) (sound : IsSound g
   -- the nodes: those of before, but for that of n
   pub nodes_of-changed : n < g.inodes → nodes_of new g.inodes ≡ set (nodes_of old g.inodes) n (node_at new n)
   nodes_of-changed high =
-      ext_get_or None (nodes_of new g.inodes) (set (nodes_of old g.inodes) n (node_at new n))
-      (length-nodes_of new g.inodes ∙ sym (length-nodes_of old g.inodes) ∙ sym (length-set (nodes_of old g.inodes) n (node_at new n)))
-      (λ m l.
-      let m_in : m < g.inodes = omega (arith, length-nodes_of new g.inodes) in
-      get_or-nodes_of new g.inodes m m_in
-      ∙ (elim (cases_eq m n) [
-        | inl here ↦ ap (node_at new) here
-            ∙ sym (get_or-set_same (nodes_of old g.inodes) n (node_at new n) None (omega (arith, length-nodes_of old g.inodes)))
-            ∙ ap (λ q. get_or (set (nodes_of old g.inodes) n (node_at new n)) q None) (sym here)
-        | inr other ↦ node_stays m other m_in
-            ∙ sym (get_or-nodes_of old g.inodes m m_in)
-            ∙ sym (get_or-set_other (nodes_of old g.inodes) n m (node_at new n) None other)
-      ]))
+      set_from None (nodes_of old g.inodes) (nodes_of new g.inodes) n (node_at new n) (omega (arith, length-nodes_of old g.inodes)) (length-nodes_of new g.inodes ∙ sym (length-nodes_of old g.inodes))
+      (get_or-nodes_of new g.inodes n high) (λ m l other.
+      let m_in : m < g.inodes = omega (arith, length-nodes_of old g.inodes) in
+      get_or-nodes_of new g.inodes m m_in ∙ node_stays m other m_in ∙ sym (get_or-nodes_of old g.inodes m m_in))
 
   -- ---- the disk stays sound
 
@@ -149,46 +151,25 @@ module _ (g : Geometry) (old new : List (List ℕ)) (n : ℕ) (sound : IsSound g
   IsSound-replace own = record {
     parts = HasParts-kept sound.parts keeps.count keeps.sizes;
     head = subst (TellsGeometry g) (sym keeps.head) sound.head;
-    kinds = λ m l h. elim (cases_eq m n) [
-      | inl here ↦ subst (λ q. (inode_at new q).kind ≤ 3) (sym here) own.kind
-      | inr apart ↦ let e : (inode_at new m).kind ≡ (inode_at old m).kind = ap (λ (i : DiskInode). i.kind) (keeps.inodes m h apart) in omega (arith, sound.kinds m l h)
-    ];
-    fits = λ m i. elim (cases_eq m n) [
-      | inl here ↦ subst (λ q. (inode_at new q).size ≤ 274432) (sym here) own.fits
-      | inr apart ↦
-          let e : (inode_at new m).size ≡ (inode_at old m).size = ap (λ (i : DiskInode). i.size) (keeps.inodes m i.high apart) in
-          omega (arith, sound.fits m (IsInode-same old new g.inodes m (keeps.inodes m i.high apart) i))
-    ];
-    in_range = λ m j u. elim (cases_eq m n) [
-      | inl here ↦ subst (λ q. (data_start_of g.size g.inodes ≤ slot_of new q j) × (slot_of new q j < g.size)) (sym here) (own.in_range j (subst (λ q. IsUsed new g.inodes q j) here u))
-      | inr apart ↦ subst (λ b. (data_start_of g.size g.inodes ≤ b) × (b < g.size)) (sym (slots_stay m j apart (used_before m j apart u))) (sound.in_range m j (used_before m j apart u))
-    ];
-    once = λ m i q j u v e. elim (cases_eq m n) [
-      | inl here ↦ elim (cases_eq q n) [
-        | inl there ↦
-            let a : IsUsed new g.inodes n i = subst (λ x. IsUsed new g.inodes x i) here u in
-            let b : IsUsed new g.inodes n j = subst (λ x. IsUsed new g.inodes x j) there v in
-            (here ∙ sym there, own.once i j a b (ap (λ x. slot_of new x i) (sym here) ∙ e ∙ ap (λ x. slot_of new x j) there))
-        | inr apart ↦ absurd (own.apart (slot_of new n i)
-            (i, subst (λ x. IsUsed new g.inodes x i) here u, refl)
-            (q, j, apart, used_before q j apart v, sym (slots_stay q j apart (used_before q j apart v)) ∙ sym e ∙ ap (λ x. slot_of new x i) here))
-      ]
-      | inr away ↦ elim (cases_eq q n) [
-        | inl there ↦ absurd (own.apart (slot_of new n j)
-            (j, subst (λ x. IsUsed new g.inodes x j) there v, refl)
-            (m, i, away, used_before m i away u, sym (slots_stay m i away (used_before m i away u)) ∙ e ∙ ap (λ x. slot_of new x j) there))
-        | inr apart ↦ sound.once m i q j (used_before m i away u) (used_before q j apart v)
-            (sym (slots_stay m i away (used_before m i away u)) ∙ e ∙ slots_stay q j apart (used_before q j apart v))
-      ]
-    ];
-    spare = λ m j i s. elim (cases_eq m n) [
-      | inl here ↦ ap (λ q. slot_of new q j) here ∙ own.spare j (subst (λ q. IsInode new g.inodes q) here i) (subst (λ q. IsSpare (inode_at new q).size j) here s)
-      | inr apart ↦
-          let same : inode_at new m ≡ inode_at old m = keeps.inodes m i.high apart in
-          let before : IsInode old g.inodes m = IsInode-same old new g.inodes m same i in
-          let empty : IsSpare (inode_at old m).size j = IsSpare-size (ap (λ (k : DiskInode). k.size) same) s in
-          spares_stay m j apart before empty ∙ sound.spare m j before empty
-    ];
+    kinds = λ m l h. at_or (λ q. (inode_at new q).kind ≤ 3) n m own.kind (λ apart.
+        let e : (inode_at new m).kind ≡ (inode_at old m).kind = ap (λ (i : DiskInode). i.kind) (keeps.inodes m h apart) in omega (arith, sound.kinds m l h));
+    fits = λ m. at_or (λ q. IsInode new g.inodes q → (inode_at new q).size ≤ 274432) n m (λ i. own.fits) (λ apart i.
+        let e : (inode_at new m).size ≡ (inode_at old m).size = ap (λ (k : DiskInode). k.size) (keeps.inodes m i.high apart) in
+        omega (arith, sound.fits m (IsInode-same old new g.inodes m (keeps.inodes m i.high apart) i)));
+    in_range = λ m j. at_or (λ q. IsUsed new g.inodes q j → (data_start_of g.size g.inodes ≤ slot_of new q j) × (slot_of new q j < g.size)) n m (own.in_range j) (λ apart u.
+        subst (λ b. (data_start_of g.size g.inodes ≤ b) × (b < g.size)) (sym (slots_stay m j apart (used_before m j apart u))) (sound.in_range m j (used_before m j apart u)));
+    once = λ m i q j. at_or (λ x. IsUsed new g.inodes x i → IsUsed new g.inodes q j → slot_of new x i ≡ slot_of new q j → (x ≡ q) × (i ≡ j)) n m
+        (at_or (λ y. IsUsed new g.inodes n i → IsUsed new g.inodes y j → slot_of new n i ≡ slot_of new y j → (n ≡ y) × (i ≡ j)) n q (λ u v e. (refl, own.once i j u v e)) (λ apart u v e.
+        absurd (own.apart (slot_of new n i) (i, u, refl) (q, j, apart, used_before q j apart v, sym (slots_stay q j apart (used_before q j apart v)) ∙ sym e))))
+        (λ away. at_or (λ y. IsUsed new g.inodes m i → IsUsed new g.inodes y j → slot_of new m i ≡ slot_of new y j → (m ≡ y) × (i ≡ j)) n q (λ u v e.
+        absurd (own.apart (slot_of new n j) (j, v, refl) (m, i, away, used_before m i away u, sym (slots_stay m i away (used_before m i away u)) ∙ e)))
+        (λ apart u v e. sound.once m i q j (used_before m i away u) (used_before q j apart v)
+        (sym (slots_stay m i away (used_before m i away u)) ∙ e ∙ slots_stay q j apart (used_before q j apart v))));
+    spare = λ m j. at_or (λ q. IsInode new g.inodes q → IsSpare (inode_at new q).size j → slot_of new q j ≡ 0) n m (own.spare j) (λ apart i s.
+        let same : inode_at new m ≡ inode_at old m = keeps.inodes m i.high apart in
+        let before : IsInode old g.inodes m = IsInode-same old new g.inodes m same i in
+        let empty : IsSpare (inode_at old m).size j = IsSpare-size (ap (λ (k : DiskInode). k.size) same) s in
+        spares_stay m j apart before empty ∙ sound.spare m j before empty);
     marked = λ b h. (
       (λ one. elim ((own.marked b h).0 one) [ inl low ↦ inl low | inr named ↦ inr (elim named [ inl a ↦ named_apart b a | inr (j, u, e) ↦ (n, j, u, e) ]) ]),
       (λ why. (own.marked b h).1 (elim why [ inl low ↦ inl low | inr named ↦ inr (named_where b named) ])),

@@ -1,8 +1,7 @@
 use Rattle.std.proofs.Common.{◌+◌, ◌/◌, ◌∙◌, ap, arith, length, refl}
-use Rattle.std.proofs.lemmas.Result.{err_from_is_err_and}
 use Rattle.blockdev.specs.Blocks.{block_at}
 use Rattle.balloc.proofs.Exits.{HasCause-failed}
-use Rattle.inode.proofs.Causes.{HasCause-first, HasCause-good}
+use Rattle.inode.proofs.Causes.{HasCause-first, HasCause-good, read_failed}
 use Rattle.inode.proofs.Reading.{HasInode-read, HasRead-chunk, HasRead-end, chunk_below, chunk_within, count_of, numbers_in_disk, slot_block, slot_in_disk, slot_low}
 use Rattle.inode.proofs.read.read_at.Goals as goal
 
@@ -11,14 +10,7 @@ read_inode-requires g c = record { parts = c.requires.sound.parts; high = c.requ
 
 pub returns-in_err-inode : goal.returns-in_err-inode
 returns-in_err-inode g c =
-    let told = (err_from_is_err_and c.from_residual.result c.from_residual.ensures.1).1 in
-    record {
-      count = rw told tt;
-      read = rw told tt;
-      same = rw told tt;
-      blocks = c.read_inode.ensures.count;
-      cause = HasCause-first c.read_inode.ensures.cause c.in_err-inode.was;
-    }
+    read_failed c.args.disk.now c.read_inode.new.disk _ _ _ _ c.from_residual.ensures.1 c.read_inode.ensures.count (HasCause-first c.read_inode.ensures.cause c.in_err-inode.was)
 
 pub chunk-init : goal.chunk-init
 chunk-init g c = record {
@@ -42,14 +34,8 @@ block_number-requires g c =
 
 pub returns-in_err-source : goal.returns-in_err-source
 returns-in_err-source g c =
-    let told = (err_from_is_err_and c.from_residual-in_err-source.result c.from_residual-in_err-source.ensures.1).1 in
-    record {
-      count = rw told tt;
-      read = rw told tt;
-      same = rw told tt;
-      blocks = c.block_number.ensures.count ∙ ap length c.chunk.invariant.disk;
-      cause = HasCause-failed c.chunk.invariant.failures c.block_number.ensures.cause c.in_err-source.was;
-    }
+    read_failed c.args.disk.now c.block_number.new.disk _ _ _ _ c.from_residual-in_err-source.ensures.1 (c.block_number.ensures.count ∙ ap length c.chunk.invariant.disk)
+    (HasCause-failed c.chunk.invariant.failures c.block_number.ensures.cause c.in_err-source.was)
 
 pub read_part-requires : goal.read_part-requires
 read_part-requires g c =
@@ -59,14 +45,8 @@ read_part-requires g c =
 
 pub returns-in_err-read_part : goal.returns-in_err-read_part
 returns-in_err-read_part g c =
-    let told = (err_from_is_err_and c.from_residual-in_err-read_part.result c.from_residual-in_err-read_part.ensures.1).1 in
-    record {
-      count = rw told tt;
-      read = rw told tt;
-      same = rw told tt;
-      blocks = c.read_part.ensures.count ∙ c.block_number.ensures.count ∙ ap length c.chunk.invariant.disk;
-      cause = HasCause-failed (omega (arith, c.chunk.invariant.failures, c.block_number.ensures.cause.later)) c.read_part.ensures.cause c.in_err-read_part.was;
-    }
+    read_failed c.args.disk.now c.read_part.new.self _ _ _ _ c.from_residual-in_err-read_part.ensures.1 (c.read_part.ensures.count ∙ c.block_number.ensures.count ∙ ap length c.chunk.invariant.disk)
+    (HasCause-failed (omega (arith, c.chunk.invariant.failures, c.block_number.ensures.cause.later)) c.read_part.ensures.cause c.in_err-read_part.was)
 
 pub chunk-preserved : goal.chunk-preserved
 chunk-preserved g c =
