@@ -103,7 +103,8 @@ namings-fit image b named =
     stands_each image b (λ n o. All (IsNaming image) (namings_of n (entries_of o))) none (λ n low high e.
     All-map (IsNaming image) (λ (e : Entry). naming (n, e)) (entries_in (contents_in image n)) (λ k d l. record { low = low; high = high; number = ((named n low high e).good k d l).number }))
     (λ n low high e. none n) (λ n low high e. none n) in
-    subst (All (IsNaming image)) (namings_to-all image) (All-flat_map (IsNaming image) (namings_at image) (range_with_len 0 (inodes_in image)) (λ k d l. each (get_or (range_with_len 0 (inodes_in image)) k d)))
+    subst (All (IsNaming image)) (namings_to-all image)
+    (All-flat_map (IsNaming image) (namings_at image) (range_with_len 0 (inodes_in image)) (λ k d l. each (get_or (range_with_len 0 (inodes_in image)) k d)))
 
 module _ {image : List ℕ} {g : Geometry} {namings : List Naming} (h : IsListed image g namings) where
   pub namings-fitting : All (IsNaming image) namings

@@ -1,13 +1,14 @@
 -- Tables of what items tell, one item more at a time.
-use Rattle.std.proofs.Common.{◌≡◌, ◌≢◌, ℕ, ◌+◌, ◌<◌, ◌≤◌, Bool, List, [], ◌∷◌, None, Option, Some, length, get_or, set, take, ap, sym, refl, ◌∙◌, arith, subst, cond, inl, inr, true, false, All, count_by, ◌==◌, find}
+use Rattle.std.proofs.Common.{◌≡◌, ◌≢◌, ℕ, ◌+◌, ◌<◌, ◌≤◌, Bool, List, [], ◌∷◌, None, Option, Some, length, get_or, set, take, ap, sym, refl, ◌∙◌, arith, subst, cond, true, false, All, count_by, ◌==◌, find}
 use Rattle.std.specs.Option.{option_or}
-use Rattle.std.proofs.lemmas.Bool.{cases_eq, eq-eqb, ne_eqb}
+use Rattle.std.proofs.lemmas.Bool.{eq-eqb, ne_eqb}
 use Rattle.std.proofs.lemmas.Option.{none-some, same_Some}
 use Rattle.std.proofs.lemmas.List.{get_or-set_other, get_or-set_same, length-set, take_more}
 use Rattle.std.proofs.lemmas.List.Elements.{All-head, All-tail}
 use Rattle.std.proofs.lemmas.List.Folds.{find-append}
 use Rattle.std.proofs.lemmas.List.Sums.{count_by_more_no, count_by_more_yes}
-use Rattle.imagecheck.specs.Namings.{HasFirsts, HasParentsAmong, directory_or_zero, first_directory}
+use Rattle.imagecheck.specs.Namings.{HasFirsts, HasParentsAmong, directory_or_zero, first_directory, parent_among}
+use Rattle.layout.proofs.Frame.{at_or}
 use Rattle.imagecheck.specs.declared.namings.Naming.{Naming}
 
 -- ---- counts: p k x tells whether item x counts for place k
@@ -18,11 +19,9 @@ module _ {X : Type 0} (p : ℕ → X → Bool) (xs : List X) (i : ℕ) (x : X) (
       → (k : ℕ) → k < length (set counts at (get_or counts at 0 + 1)) → get_or (set counts at (get_or counts at 0 + 1)) k 0 ≡ count_by (p k) (take (i + 1) xs)
   tally_more at high hit miss k l =
       let high_k : k < length counts = omega (arith, length-set counts at (get_or counts at 0 + 1)) in
-      elim (cases_eq k at) [
-        | inl here ↦ ap (λ j. get_or (set counts at (get_or counts at 0 + 1)) j 0) here ∙ get_or-set_same counts at (get_or counts at 0 + 1) 0 high
-            ∙ ap (λ c. c + 1) (h at high) ∙ sym (count_by_more_yes (p at) xs i x within hit) ∙ ap (λ j. count_by (p j) (take (i + 1) xs)) (sym here)
-        | inr other ↦ get_or-set_other counts at k (get_or counts at 0 + 1) 0 other ∙ h k high_k ∙ sym (count_by_more_no (p k) xs i x within (miss k other))
-      ]
+      at_or (λ j. get_or (set counts at (get_or counts at 0 + 1)) j 0 ≡ count_by (p j) (take (i + 1) xs)) at k
+      (get_or-set_same counts at (get_or counts at 0 + 1) 0 high ∙ ap (λ c. c + 1) (h at high) ∙ sym (count_by_more_yes (p at) xs i x within hit))
+      (λ other. get_or-set_other counts at k (get_or counts at 0 + 1) 0 other ∙ h k high_k ∙ sym (count_by_more_no (p k) xs i x within (miss k other)))
 
   -- it counts for none
   pub tally_kept : ((k : ℕ) → p k (get_or xs i x) ≡ false) → (k : ℕ) → k < length counts → get_or counts k 0 ≡ count_by (p k) (take (i + 1) xs)
@@ -72,36 +71,25 @@ module _ (namings : List Naming) (i : ℕ) (x : Naming) (within : i < length nam
     firsts_more some z n l =
         let m = get_or namings i x in
         let high_n : n < length parents = omega (arith, length-set parents m.number m.directory) in
-        let test : Naming → Bool = λ (y : Naming). y.number == m.number in
-        elim (cases_eq n m.number) [
-          | inl here ↦
-              let none : find (λ (y : Naming). y.number == m.number) (take i namings) ≡ None =
-              none_from_zero (find (λ (y : Naming). y.number == m.number) (take i namings))
-              (found_all (λ (y : Naming). 1 ≤ y.directory) (λ (y : Naming). y.number == m.number) (take i namings) some) (sym (h m.number high) ∙ z) in
-              ap (λ k. get_or (set parents m.number m.directory) k 0) here ∙ get_or-set_same parents m.number m.directory 0 high
-              ∙ sym (ap directory_or_zero (found_here ∙ ap (λ o. option_or o (Some m)) none))
-              ∙ ap (first_directory (take (i + 1) namings)) (sym here)
-          | inr other ↦ get_or-set_other parents m.number n m.directory 0 other ∙ h n high_n ∙ sym (ap directory_or_zero (found_other n other))
-        ]
+        let none : find (λ (y : Naming). y.number == m.number) (take i namings) ≡ None =
+        none_from_zero (find (λ (y : Naming). y.number == m.number) (take i namings))
+        (found_all (λ (y : Naming). 1 ≤ y.directory) (λ (y : Naming). y.number == m.number) (take i namings) some) (sym (h m.number high) ∙ z) in
+        at_or (λ k. get_or (set parents m.number m.directory) k 0 ≡ first_directory (take (i + 1) namings) k) m.number n
+        (get_or-set_same parents m.number m.directory 0 high ∙ sym (ap directory_or_zero (found_here ∙ ap (λ o. option_or o (Some m)) none)))
+        (λ other. get_or-set_other parents m.number n m.directory 0 other ∙ h n high_n ∙ sym (ap directory_or_zero (found_other n other)))
 
     -- it has one
     pub firsts_kept : get_or parents (get_or namings i x).number 0 ≢ 0 → HasFirsts (take (i + 1) namings) parents
     firsts_kept some n l =
         let m = get_or namings i x in
-        elim (cases_eq n m.number) [
-          | inl here ↦
-              let there : directory_or_zero (find (λ (y : Naming). y.number == m.number) (take i namings)) ≢ 0 = λ z. some (h m.number high ∙ z) in
-              ap (λ k. get_or parents k 0) here ∙ h m.number high
-              ∙ sym (ap directory_or_zero found_here ∙ first_kept (find (λ (y : Naming). y.number == m.number) (take i namings)) (Some m) there)
-              ∙ ap (first_directory (take (i + 1) namings)) (sym here)
-          | inr other ↦ h n l ∙ sym (ap directory_or_zero (found_other n other))
-        ]
+        let there : directory_or_zero (find (λ (y : Naming). y.number == m.number) (take i namings)) ≢ 0 = λ z. some (h m.number high ∙ z) in
+        at_or (λ k. get_or parents k 0 ≡ first_directory (take (i + 1) namings) k) m.number n
+        (h m.number high ∙ sym (ap directory_or_zero found_here ∙ first_kept (find (λ (y : Naming). y.number == m.number) (take i namings)) (Some m) there))
+        (λ other. h n l ∙ sym (ap directory_or_zero (found_other n other)))
 
 -- the root is its own parent
 pub parents_from : (namings : List Naming) (parents : List ℕ) → HasFirsts namings parents → 1 < length parents → HasParentsAmong namings (set parents 1 1)
 parents_from namings parents h root n l =
     let high : n < length parents = omega (arith, length-set parents 1 1) in
-    elim (cases_eq n 1) [
-      | inl here ↦ ap (λ k. get_or (set parents 1 1) k 0) here ∙ get_or-set_same parents 1 1 0 root ∙ sym (ap (λ b. cond b 1 (first_directory namings n)) (eq-eqb n 1 here))
-      | inr other ↦ get_or-set_other parents 1 n 1 0 other ∙ h n high ∙ sym (ap (λ b. cond b 1 (first_directory namings n)) (ne_eqb n 1 other))
-    ]
+    at_or (λ k. get_or (set parents 1 1) k 0 ≡ parent_among namings k) 1 n (get_or-set_same parents 1 1 0 root)
+    (λ other. get_or-set_other parents 1 n 1 0 other ∙ h n high ∙ sym (ap (λ b. cond b 1 (first_directory namings n)) (ne_eqb n 1 other)))

@@ -75,7 +75,12 @@ pub FitsLinks-at : (image : List ℕ) → HasBlocks image → HasLinks (files_in
 FitsLinks-at image b h n low high =
     let at = LinksAt (files_in image) n in
     by_kind (kind_in image n) (b.inodes.kinds.known n low high) (λ e. leaf_fits (λ d. absurd (omega arith)) (λ used. absurd (used e)))
-    (λ e. record { directory = λ _. subst at (slot-directory image n low high e) (h n); counted = λ used other. absurd (other e); least = λ used other. absurd (other e); most = λ used other. absurd (other e) })
+    (λ e. record {
+      directory = λ _. subst at (slot-directory image n low high e) (h n);
+      counted = λ used other. absurd (other e);
+      least = λ used other. absurd (other e);
+      most = λ used other. absurd (other e);
+    })
     (λ e. leaf_fits (λ d. absurd (omega arith)) (λ _. subst at (slot-file image n high low e) (h n)))
     (λ e. leaf_fits (λ d. absurd (omega arith)) (λ _. subst at (slot-device image n high low e) (h n)))
 

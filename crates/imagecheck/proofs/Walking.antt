@@ -1,8 +1,9 @@
 -- Walks up from directories, which mark whom they meet.
-use Rattle.std.proofs.Common.{◌≡◌, ◌≢◌, ℕ, ◌+◌, ◌<◌, ◌≤◌, List, length, get_or, replicate, set, ap, sym, ◌∙◌, arith, subst, cond, inl, inr, zero, suc, count_by, slice_index, ◌==◌, ◌⊎◌}
+use Rattle.std.proofs.Common.{◌≡◌, ◌≢◌, ℕ, ◌+◌, ◌<◌, ◌≤◌, List, length, get_or, replicate, set, ap, sym, ◌∙◌, arith, cond, inl, inr, zero, suc, count_by, slice_index, ◌==◌, ◌⊎◌}
 use Rattle.std.proofs.lemmas.Bool.{cases_eq, cond-false, cond-true, eq-eqb, ne_eqb}
 use Rattle.std.proofs.lemmas.List.{get_or-set_other, get_or-set_same, length-replicate}
 use Rattle.std.proofs.lemmas.List.Sums.{sum_by-set}
+use Rattle.layout.proofs.Frame.{at_or}
 use Rattle.layout.proofs.Plain.{zero_at}
 use Rattle.unixmodel.specs.Files.{Files}
 use Rattle.unixmodel.specs.Image.{parent_of}
@@ -36,27 +37,17 @@ module _ (files : Files) (start n : ℕ) (marks : List ℕ) (h : IsWalk files st
       let other = λ (m : ℕ) (not_n : m ≢ n). get_or-set_other marks n m start 0 not_n in
       record {
         root = other 1 (λ e. let z : slice_index marks 1 ≡ 0 = ap (λ k. get_or marks k 0) e ∙ free in let r = h.root in absurd (omega arith)) ∙ h.root;
-        most = λ m. elim (cases_eq m n) [
-          | inl e ↦ let k : get_or (set marks n start) m 0 ≡ start = ap (λ k. get_or (set marks n start) k 0) e ∙ same in omega arith
-          | inr not_n ↦ let k = other m not_n in omega (arith, h.most m)
-        ];
-        before = λ m some not. elim (cases_eq m n) [
-          | inl e ↦ absurd (not (ap (λ k. get_or (set marks n start) k 0) e ∙ same))
-          | inr not_n ↦ h.before m (λ z. some (other m not_n ∙ z)) (λ z. not (other m not_n ∙ z))
-        ];
-        met = λ m here c. elim (cases_eq m n) [
-          | inl e ↦ subst (Climbs files) (sym e) (Climbs-child files n c)
-          | inr not_n ↦ h.met m (sym (other m not_n) ∙ here) (Climbs-child files n c)
-        ];
+        most = λ m. at_or (λ k. slice_index (set marks n start) k ≤ start) n m (omega arith) (λ not_n. let k = other m not_n in omega (arith, h.most m));
+        before = λ m. at_or (λ k. slice_index (set marks n start) k ≢ 0 → slice_index (set marks n start) k ≢ start → Climbs files k) n m (λ some not. absurd (not same))
+            (λ not_n some not. h.before m (λ z. some (other m not_n ∙ z)) (λ z. not (other m not_n ∙ z)));
+        met = λ m here c. at_or (λ k. slice_index (set marks n start) k ≡ start → Climbs files k) n m (λ _. Climbs-child files n c)
+            (λ not_n at. h.met m (sym (other m not_n) ∙ at) (Climbs-child files n c)) here;
         first = λ c. h.first (Climbs-child files n c);
         next = λ m here. elim (cases_eq m n) [
           | inl e ↦ inr (ap (parent_of files) e)
-          | inr not_n ↦ elim (cases_eq (parent_of files m) n) [
-            | inl e ↦ inl (ap (λ k. get_or (set marks n start) k 0) e ∙ same)
-            | inr up ↦ elim (h.next m (sym (other m not_n) ∙ here)) [
-              | inl e ↦ inl (other (parent_of files m) up ∙ e)
-              | inr e ↦ absurd (up e)
-            ]
+          | inr not_n ↦ elim (h.next m (sym (other m not_n) ∙ here)) [
+            | inl e ↦ inl (at_or (λ k. slice_index marks k ≡ start → slice_index (set marks n start) k ≡ start) n (parent_of files m) (λ _. same) (λ up f. other (parent_of files m) up ∙ f) e)
+            | inr e ↦ inl (ap (λ k. get_or (set marks n start) k 0) e ∙ same)
           ]
         ];
       }
@@ -100,10 +91,7 @@ unmarked_less marks n start within free some =
 one_marked : (files : Files) (marks : List ℕ) → slice_index marks 1 ≡ 1 → ((m : ℕ) → m ≢ 1 → slice_index marks m ≡ 0) → HasWalked files 2 marks
 one_marked files marks root free = record {
   root = root;
-  before = λ m. elim (cases_eq m 1) [
-    | inl e ↦ let one : slice_index marks m ≡ 1 = ap (slice_index marks) e ∙ root in omega arith
-    | inr other ↦ let none : slice_index marks m ≡ 0 = free m other in omega arith
-  ];
+  before = λ m. at_or (λ k. slice_index marks k < 2) 1 m (omega (arith, root)) (λ other. omega (arith, free m other));
   climbs = λ m some. elim (cases_eq m 1) [ inl e ↦ record { steps = 0; root = e } | inr other ↦ absurd (some (free m other)) ];
 }
 

@@ -1,7 +1,8 @@
 -- Marks, one block more at a time.
-use Rattle.std.proofs.Common.{◌≡◌, ◌≢◌, ℕ, ◌+◌, ◌-◌, ◌*◌, ◌/◌, ◌%◌, ◌<◌, ◌≤◌, Bool, List, [], ◌∷◌, ◌++◌, length, get_or, set, take, drop, replicate, ap, sym, refl, ◌∙◌, arith, subst, cond, true, false, inl, inr, zero, suc, filter, flat_map, nat_eq, nat_lt, not, ◌||◌, add-one, ap₂}
+use Rattle.std.proofs.Common.{◌≡◌, ◌≢◌, ℕ, ◌+◌, ◌-◌, ◌*◌, ◌/◌, ◌%◌, ◌<◌, ◌≤◌, Bool, List, [], ◌∷◌, ◌++◌, length, get_or, set, take, drop, replicate, ap, sym, refl, ◌∙◌, arith, subst, cond, true, false, zero, suc, filter, flat_map, nat_eq, nat_lt, not, ◌||◌, add-one, ap₂}
+use Rattle.std.proofs.Math.Seq.{take-suc-set}
 use Rattle.std.specs.List.{list_any, range_with_len}
-use Rattle.std.proofs.lemmas.Bool.{cases_eq, false≢true, le-ltb, lt-ltb, not-false, not-true, ne_eqb}
+use Rattle.std.proofs.lemmas.Bool.{false≢true, le-ltb, lt-ltb, not-false, not-true, ne_eqb}
 use Rattle.std.proofs.lemmas.Bool.Decides.{Decides-eqb}
 use Rattle.std.proofs.lemmas.List.{append-nil, append_assoc, drop_more, get_or-replicate, get_or-set_other, get_or-set_same, get_or_append_left, get_or_at, length-append, length-replicate, length-set, take-append-drop, take_more, get_or_default}
 use Rattle.std.proofs.lemmas.List.Concat.{flat_map-append}
@@ -14,8 +15,8 @@ use Rattle.imagerules.specs.Fields.{HasGeometry}
 use mathlib.Core.Bool.{beq}
 use Rattle.imagerules.proofs.Named.{cond_no, cond_yes}
 use Rattle.imagerules.proofs.Uses.{front_is}
+use Rattle.layout.proofs.Frame.{at_or}
 use Rattle.layout.specs.declared.Geometry.{Geometry}
-use Rattle.std.proofs.Math.Seq.{take-suc-set}
 
 -- a list in which no block stands twice has no such front
 pub IsOnce-left : (xs ys : List ℕ) → IsOnce (xs ++ ys) → IsOnce xs
@@ -36,13 +37,11 @@ module _ (before : List ℕ) (marks : List Bool) (h : HasMarks before marks) (b 
   HasMarks-more free = record {
     once = all_pairs_push (λ x y. x ≢ y) before b h.once (λ k d l e.
         false≢true (sym free ∙ h.marked b within ∙ list_any_at (nat_eq b) before k d l ((Decides-eqb b (get_or before k d)).1 (sym e))));
-    marked = λ c l. elim (cases_eq c b) [
-      | inl here ↦ ap (λ x. get_or (set marks b true) x false) here ∙ get_or-set_same marks b true false within
-          ∙ sym (ap (λ x. list_any (nat_eq x) (before ++ b ∷ [])) here ∙ list_any_at (nat_eq b) (before ++ b ∷ []) (length before) 0 (omega (arith, length-append before (b ∷ [])))
-          ((Decides-eqb b (get_or (before ++ b ∷ []) (length before) 0)).1 (sym (get_or_at before b [] 0 (length before) refl))))
-      | inr other ↦ get_or-set_other marks b c true false other ∙ h.marked c (omega (arith, length-set marks b true))
-          ∙ sym (list_any-append (nat_eq c) before (b ∷ []) ∙ or_false (list_any (nat_eq c) before) (nat_eq c b) (ne_eqb c b other))
-    ];
+    marked = λ c l. at_or (λ x. get_or (set marks b true) x false ≡ list_any (nat_eq x) (before ++ b ∷ [])) b c
+        (get_or-set_same marks b true false within ∙ sym (list_any_at (nat_eq b) (before ++ b ∷ []) (length before) 0 (omega (arith, length-append before (b ∷ [])))
+        ((Decides-eqb b (get_or (before ++ b ∷ []) (length before) 0)).1 (sym (get_or_at before b [] 0 (length before) refl)))))
+        (λ other. get_or-set_other marks b c true false other ∙ h.marked c (omega (arith, length-set marks b true))
+        ∙ sym (list_any-append (nat_eq c) before (b ∷ []) ∙ or_false (list_any (nat_eq c) before) (nat_eq c b) (ne_eqb c b other)));
   }
     where
       or_false : (x y : Bool) → y ≡ false → (x || (y || false)) ≡ x

@@ -71,7 +71,8 @@ module _ (image : List ℕ) (n : ℕ) where
   unfolding named_by unused_numbers data_blocks
   FitsAddresses-from h blocks rest =
       let P = λ (b : ℕ). IsTrue (is_data_block image b) in
-      let parts = if_parts (needs_indirect image n) P (λ b. b ≡ 0) (is_data_block image (indirect_in image n)) (nat_eq (indirect_in image n) 0) (indirect_in image n) (λ e. e) (Decides-eqb (indirect_in image n) 0).0 h in
+      let parts = if_parts (needs_indirect image n) P (λ b. b ≡ 0) (is_data_block image (indirect_in image n)) (nat_eq (indirect_in image n) 0) (indirect_in image n)
+      (λ e. e) (Decides-eqb (indirect_in image n) 0).0 h in
       record {
         blocks = All-append P (take (count_in image n) (direct_in image n ++ index_in image n)) (cond (needs_indirect image n) (indirect_in image n ∷ []) []) blocks parts.0;
         unused = All-append (λ b. b ≡ 0) (drop (count_in image n) (direct_in image n ++ index_in image n)) (cond (needs_indirect image n) [] (indirect_in image n ∷ [])) rest parts.1;
