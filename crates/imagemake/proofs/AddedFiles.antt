@@ -1,8 +1,7 @@
 -- What the steps of an entry and of the root make of the files, and whether they have room.
-use Rattle.std.proofs.Common.{◌≡◌, ◌≢◌, ℕ, ◌<◌, ◌≤◌, Bool, Err, List, None, Ok, Result, Some, length, set, cond, true, false, ap, sym, refl, ◌∙◌, arith, subst, inl, inr, MatchResult, nat_le, option_map, unwrap_or, ◌&&◌, ◌⊎◌}
+use Rattle.std.proofs.Common.{◌≡◌, ℕ, ◌<◌, ◌≤◌, Bool, Err, List, [], ◌∷◌, ◌++◌, None, Ok, Result, Some, length, set, cond, true, false, ap, sym, refl, ◌∙◌, arith, subst, inl, inr, MatchResult, nat_le, option_map, unwrap_or, ◌&&◌, ◌⊎◌}
 use Rattle.std.proofs.lemmas.Bool.{le-leb, lt-leb, true≢false}
 use Rattle.std.proofs.lemmas.List.{get_or-set_other, length-set, length_push, set_comm}
-use Rattle.std.proofs.lemmas.Option.{none-some}
 use Rattle.unixmodel.specs.Counts.{blocks_of}
 use Rattle.unixmodel.specs.Files.{Entry, Files, Node, blocks_for, free_slots, longest, put, size_of, slot}
 use Rattle.unixmodel.specs.Files.Node.{Directory}
@@ -13,8 +12,9 @@ use Rattle.imagemake.specs.declared.store.StoreFault.{StoreFault}
 use Rattle.imagemake.specs.declared.store.StoreFault.TheVariants.{Blocks, Device}
 use Rattle.imagemake.specs.Added.{CanAdd, HasDirectory, IsPut, IsStored, LacksRoomFor, TellsFull}
 use Rattle.imagemake.specs.Stored.{Stores}
-use Rattle.imagemake.proofs.Storing.{blocks_of-set, length-stored, slot-within, unused-kind, used_by}
-use Rattle.imagemake.proofs.AddedThings.{TellsFull-weaker, linked-size, slot-put}
+use Rattle.imagemake.proofs.Storing.{blocks_of-set, length-stored, unused-kind, used_by}
+use Rattle.imagemake.proofs.AddedThings.{TellsFull-weaker, linked-size}
+use Rattle.imagemake.proofs.MadeEntry.{Adds, Adds-added, linked-directory}
 use Rattle.imagemake.proofs.MadeBare.{length-free, no-files, slot-free}
 use Rattle.imagemake.proofs.AddedNodes.{taken-grows}
 
@@ -47,30 +47,21 @@ module _ (files : Files) (d : ℕ) (name : List ℕ) (n : ℕ) (thing : Thing) (
   abbrev one : Files
   one = put files n (node_for n d thing)
 
-  apart : d ≢ n
-  apart e = none-some above (sym can.unused ∙ ap (slot files) (sym e) ∙ can.directory)
-
-  within : d < length files
-  within = slot-within files d above can.directory
+  adds : Adds files (added files d name n thing) d can.links can.places name n thing
+  adds = Adds-added files d can.links can.places name n thing can.high can.unused can.directory
 
   pub still-there : slot one d ≡ Some above
-  still-there = get_or-set_other files n d (Some (node_for n d thing)) None apart ∙ can.directory
+  still-there = get_or-set_other files n d (Some (node_for n d thing)) None adds.other ∙ can.directory
 
   -- the node first, and then its name
   pub added-is : added files d name n thing ≡ put one d named
   unfolding added
   added-is =
       ap (λ o. put (set files d (option_map (λ node. linked thing (appended entry node)) o)) n (node_for n d thing)) can.directory
-      ∙ set_comm files d n (Some named) (Some (node_for n d thing)) apart
-
-  added-node : slot (added files d name n thing) n ≡ Some (node_for n d thing)
-  added-node =
-      ap (λ fs. slot fs n) added-is
-      ∙ get_or-set_other one d n (Some named) None (λ e. apart (sym e))
-      ∙ slot-put files n (node_for n d thing) can.high
+      ∙ set_comm files d n (Some named) (Some (node_for n d thing)) adds.other
 
   added-above : slot (added files d name n thing) d ≡ Some named
-  added-above = ap (λ fs. slot fs d) added-is ∙ slot-put one d named (omega (arith, within, length-set files n (Some (node_for n d thing))))
+  added-above = adds.above ∙ ap Some (sym (linked-directory thing can.links (can.places ++ Some entry ∷ [])))
 
   -- ---- the room
 
@@ -81,7 +72,7 @@ module _ (files : Files) (d : ℕ) (name : List ℕ) (n : ℕ) (thing : Thing) (
     has-room : size_of (node_for n d thing) ≤ longest → size_of named ≤ longest → blocks_of (put one d named) ≤ data_blocks_of g.size g.inodes → if_room (data_blocks_of g.size g.inodes) d n all ≡ Ok all
     has-room short above_short few =
         room-ok (is_short all n) (is_short all d) (nat_le (blocks_of all) (data_blocks_of g.size g.inodes)) (Ok all) (Err Wrong.Blocks)
-        (is-short all n (node_for n d thing) added-node ∙ le-leb (size_of (node_for n d thing)) longest short)
+        (is-short all n (node_for n d thing) adds.here ∙ le-leb (size_of (node_for n d thing)) longest short)
         (is-short all d named added-above ∙ le-leb (size_of named) longest above_short)
         (le-leb (blocks_of all) (data_blocks_of g.size g.inodes) (omega (arith, ap blocks_of added-is)))
 
@@ -89,7 +80,7 @@ module _ (files : Files) (d : ℕ) (name : List ℕ) (n : ℕ) (thing : Thing) (
     lacks-room why =
         room-no (is_short all n) (is_short all d) (nat_le (blocks_of all) (data_blocks_of g.size g.inodes)) (Ok all) (Err Wrong.Blocks)
         (elim why [
-          | inl long ↦ inl (is-short all n (node_for n d thing) added-node ∙ lt-leb (size_of (node_for n d thing)) longest long)
+          | inl long ↦ inl (is-short all n (node_for n d thing) adds.here ∙ lt-leb (size_of (node_for n d thing)) longest long)
           | inr rest ↦ inr (elim rest [
             | inl long ↦ inl (is-short all d named added-above ∙ lt-leb (size_of named) longest long)
             | inr full ↦ inr (lt-leb (blocks_of all) (data_blocks_of g.size g.inodes) (omega (arith, ap blocks_of added-is)))
@@ -102,7 +93,7 @@ module _ (files : Files) (d : ℕ) (name : List ℕ) (n : ℕ) (thing : Thing) (
         let longer : size_of above ≤ size_of named = omega (arith, linked-size thing (appended entry above), length_push can.places (Some entry)) in
         let used : used_by (slot one d) ≡ blocks_for (size_of above) = ap used_by still-there in
         let more : blocks_for (size_of above) ≤ blocks_for (size_of named) = taken-grows (size_of above) (size_of named) longer in
-        omega (arith, blocks_of-set one d (Some named) (omega (arith, within, length-set files n (Some (node_for n d thing)))))
+        omega (arith, blocks_of-set one d (Some named) (omega (arith, adds.within, length-set files n (Some (node_for n d thing)))))
 
     pub node-refused : (told : StoreFault) → TellsFull (LacksRoomFor g files n (node_for n d thing)) told → TellsFull (if_room (data_blocks_of g.size g.inodes) d n all ≡ Err Wrong.Blocks) told
     node-refused told = TellsFull-weaker

@@ -55,15 +55,12 @@ bare-whole : (t : Thing) → length (node_bytes (bare t)) ≡ size_of (bare t)
 bare-whole Folder = refl
 bare-whole thing = refl
 
-bare-blocks : (size : ℕ) → size ≡ 0 → blocks_for size ≡ 0
-bare-blocks size e = ap blocks_for e
-
 pub Stores-taken : (g : Geometry) (old new : List (List ℕ)) (n : ℕ) (t : Thing) (kind major minor : ℕ) → kind ≡ kind_of (bare t) → major ≡ major_of (bare t) → minor ≡ minor_of (bare t)
     → IsUnused g old n → IsSound g new → nodes_of new g.inodes ≡ set (nodes_of old g.inodes) n (Some (fresh_node kind major minor 1)) → free_blocks g new ≡ free_blocks g old
     → (files : Files) → Stores g old files → Stores g new (put files n (bare t))
 Stores-taken g old new n t kind major minor k a i fresh sound nodes free files stores =
     let none : slot files n ≡ None = slot-unused g old files stores n fresh.unused (slot files n) refl in
-    let no_blocks : blocks_for (size_of (bare t)) ≡ 0 = bare-blocks (size_of (bare t)) (bare-size t) in
+    let no_blocks : blocks_for (size_of (bare t)) ≡ 0 = ap blocks_for (bare-size t) in
     let unused : used_by (slot files n) ≡ 0 = ap used_by none in
     Stores-put g old new files stores n (bare t) (omega (arith, fresh.high, length-stored g old files stores)) sound
     (nodes ∙ ap (λ node. set (nodes_of old g.inodes) n (Some node)) (same_node k a i refl refl ∙ fresh-bare t))

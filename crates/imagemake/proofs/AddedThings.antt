@@ -99,7 +99,8 @@ IsPut-unlinked g new files d t node same h = subst (λ x. Stores g new (set file
 -- ---- a thing is put
 
 -- a step that needs the inode may follow
-pub put-ready : (g : Geometry) (old blocks : List (List ℕ)) (n : ℕ) (node : Node) → n < g.inodes → (files : Files) → Stores g old files → Stores g blocks (put files n node) → record { sound : IsSound g blocks; inode : IsInode blocks g.inodes n }
+pub put-ready : (g : Geometry) (old blocks : List (List ℕ)) (n : ℕ) (node : Node) → n < g.inodes → (files : Files) → Stores g old files → Stores g blocks (put files n node)
+    → record { sound : IsSound g blocks; inode : IsInode blocks g.inodes n }
 put-ready g old blocks n node h files before stores = record {
   sound = stores.sound;
   inode = held-inode g blocks (set files n (Some node)) stores n node (slot-put files n node (omega (arith, length-stored g old files before)));

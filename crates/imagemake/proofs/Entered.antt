@@ -70,7 +70,8 @@ module _ {g : Geometry} {blocks : List (List ℕ)} {made : List MadeName} {files
       CanAdd-named = subst (λ v. CanAdd files d v k) (sym same) (subst (CanAdd files d name) (sym next) CanAdd-spot)
 
       -- the disk after it was stored, or wasn't
-      module _ (new : List (List ℕ)) (thing : Thing) (r : Result (Unit {0}) StoreFault) (told : Stores g blocks files → CanAdd files d w k → IsStored g new files d w k thing r) {given : List ℕ} (given_is : path ≡ given) where
+      module _ (new : List (List ℕ)) (thing : Thing) (r : Result (Unit {0}) StoreFault) (told : Stores g blocks files → CanAdd files d w k → IsStored g new files d w k thing r)
+          {given : List ℕ} (given_is : path ≡ given) where
         stored : IsStored g new files d name (length made + 2) thing r
         stored =
             subst (λ v. IsStored g new files d v (length made + 2) thing r) same
@@ -85,7 +86,8 @@ module _ {g : Geometry} {blocks : List (List ℕ)} {made : List MadeName} {files
             ap (λ p. with_manifest_entry (data_blocks_of g.size g.inodes) g.inodes files (length made + 2) (record { path = p; thing = thing })) (sym given_is)
             ∙ spot-room made path d name spot (data_blocks_of g.size g.inodes) g.inodes files (length made + 2) thing is.listed room
 
-        pub AddsEntry-stored : r ≡ Ok tt → {one : MadeName} {now : List MadeName} → now ≡ made ++ one ∷ [] → one.directory ≡ d → one.name ≡ name → one.folder ≡ is_directory (node_for (length made + 2) d thing) → AddsEntry g new made now files entry
+        pub AddsEntry-stored : r ≡ Ok tt → {one : MadeName} {now : List MadeName} → now ≡ made ++ one ∷ [] → one.directory ≡ d → one.name ≡ name → one.folder ≡ is_directory (node_for (length made + 2) d thing)
+            → AddsEntry g new made now files entry
         AddsEntry-stored done {one} {now} pushed stands named folder =
             let n = length made + 2 in
             let more = added files d name n thing in
@@ -97,7 +99,8 @@ module _ {g : Geometry} {blocks : List (List ℕ)} {made : List MadeName} {files
               longer = ap length pushed ∙ length_push made one;
               made_more = subst (λ names. IsMade g new names more) (sym pushed) (record {
                 stores = kept.0;
-                begun = subst (IsBegun (data_blocks_of g.size g.inodes) g.inodes more) long (IsBegun-more is.begun d name thing CanAdd-spot (is.listed.names d name (spot-good made path d name spot) ∙ spot.absent) kept.1);
+                begun = subst (IsBegun (data_blocks_of g.size g.inodes) g.inodes more) long
+                    (IsBegun-more is.begun d name thing CanAdd-spot (is.listed.names d name (spot-good made path d name spot) ∙ spot.absent) kept.1);
                 listed = IsListed-more (adds-more is.begun d name thing CanAdd-spot) is.begun.rules made one refl is.listed stands named folder;
               });
             }

@@ -1,11 +1,11 @@
 -- From a disk that stores files to the bytes of an image that denotes them.
-use Rattle.std.proofs.Common.{◌≡◌, ℕ, ◌+◌, ◌*◌, ◌/◌, ◌%◌, ◌<◌, ◌≤◌, ◌&&◌, Bool, true, false, cond, List, ◌∷◌, ◌++◌, None, Ok, Err, Result, length, nat_le, nat_lt, take, map, zero, suc, ap, sym, refl, ◌∙◌, arith, subst, flat_map, replicate}
-use Rattle.std.specs.List.{range_with_len}
+use Rattle.std.proofs.Common.{◌≡◌, ℕ, ◌+◌, ◌*◌, ◌/◌, ◌%◌, ◌<◌, ◌≤◌, ◌&&◌, true, false, cond, List, ◌∷◌, None, Ok, Err, Result, length, nat_le, nat_lt, map, zero, suc, ap, sym, refl, ◌∙◌, arith, subst, replicate}
 use Rattle.std.specs.Prelude.{IfErr}
 use Rattle.std.specs.Result.{IsErrAnd}
+use Rattle.std.proofs.lemmas.List.{take_all}
+use Rattle.std.specs.List.{range_with_len}
+use Rattle.std.proofs.lemmas.Bool.{and_parts}
 use Rattle.std.proofs.lemmas.Bool.Decides.{nat_tests}
-use Rattle.std.proofs.lemmas.List.{append-nil, take_all}
-use Rattle.std.proofs.lemmas.List.Concat.{flat_map-append}
 use Rattle.std.proofs.lemmas.List.Folds.{flat_map-map}
 use Rattle.balloc.proofs.Exits.{told_err}
 use Rattle.blockdev.specs.Blocks as device
@@ -17,8 +17,7 @@ use Rattle.layout.specs.Super.{data_start_of}
 use Rattle.unixmodel.specs.Counts.{blocks_of}
 use Rattle.unixmodel.specs.Files.{free_slots}
 use Rattle.unixmodel.specs.Image.{Denotes, data_start}
-use Rattle.unixmodel.specs.Manifest.{ManifestEntry, bare_files, data_blocks_of, files_made, has_numbers, with_entries}
-use Rattle.unixmodel.specs.Manifest.{Wrong}
+use Rattle.unixmodel.specs.Manifest.{ManifestEntry, Wrong, bare_files, data_blocks_of, files_made, has_numbers, with_entries}
 use Rattle.unixmodel.specs.Manifest.Wrong.{Numbers}
 use Rattle.imagemake.specs.Begins.{MakesEntries}
 use Rattle.imagerules.specs.Content.{image_of}
@@ -28,29 +27,16 @@ use Rattle.imagemake.specs.Stored.{IsWhole, Stores, raw_slot}
 use Rattle.imagemake.specs.declared.manifest.MakeFault.{MakeFault}
 use Rattle.imagemake.specs.declared.manifest.MakeFault.TheVariants.{NoMemory}
 use Rattle.imagemake.proofs.Denoted.{Denotes-stored}
-use Rattle.imagerules.proofs.Marking.{range-split}
-use Rattle.std.proofs.Math.Seq.{take-add}
+use Rattle.imagerules.proofs.Spelling.{fronts}
 use Rattle.imagemake.proofs.MadeBare.{no-files, slot-free}
 
 -- ---- blocks and bytes
-
-fronts : (bytes : List ℕ) (n : ℕ) → 1024 * n ≤ length bytes → flat_map (block_of bytes) (range_with_len 0 n) ≡ take (1024 * n) bytes
-fronts bytes zero h = refl
-fronts bytes (suc n) h =
-    let e : suc n ≡ n + 1 = omega arith in
-    let z : 0 + n ≡ n = omega arith in
-    let m : 1024 * n + 1024 ≡ 1024 * suc n = omega arith in
-    ap (flat_map (block_of bytes)) (ap (range_with_len 0) e ∙ range-split 0 n 1)
-    ∙ flat_map-append (block_of bytes) (range_with_len 0 n) (range_with_len (0 + n) 1)
-    ∙ ap (λ r. flat_map (block_of bytes) (range_with_len 0 n) ++ r) (append-nil (block_of bytes (0 + n)) ∙ ap (block_of bytes) z)
-    ∙ ap (λ r. r ++ block_of bytes n) (fronts bytes n (omega arith))
-    ∙ sym (take-add (1024 * n) 1024 bytes) ∙ ap (λ k. take k bytes) m
 
 -- whole blocks, one after the other
 pub image_of-blocks : (bytes : List ℕ) → length bytes % 1024 ≡ 0 → image_of (device.blocks_of bytes) ≡ bytes
 image_of-blocks bytes whole =
     flat_map-map (λ (b : List ℕ). b) (block_of bytes) (range_with_len 0 (length bytes / 1024))
-    ∙ fronts bytes (length bytes / 1024) (omega arith)
+    ∙ fronts 1024 (λ k. 1024 * k) (block_of bytes) bytes refl (λ k. omega arith) (length bytes / 1024) (λ k l. refl)
     ∙ take_all (1024 * (length bytes / 1024)) bytes (omega arith)
 
 -- ---- a disk without files
@@ -79,23 +65,18 @@ pub record IsPossible (size inodes : ℕ) : Type 0 where
   pub inodes_high : inodes ≤ 8192
   pub room : data_start_of size inodes < size
 
-all-true : (a b c d e : Bool) → (a && b && c && d && e) ≡ true → (a ≡ true) × (b ≡ true) × (c ≡ true) × (d ≡ true) × (e ≡ true)
-all-true false b c d e h = absurd (cc)
-all-true true false c d e h = absurd (cc)
-all-true true true false d e h = absurd (cc)
-all-true true true true false e h = absurd (cc)
-all-true true true true true false h = absurd (cc)
-all-true true true true true true h = (refl, refl, refl, refl, refl)
-
 pub possible : (size inodes : ℕ) → has_numbers size inodes ≡ true → IsPossible size inodes
 possible size inodes h =
-    let p = all-true (nat_le 32 size) (nat_le size 16384) (nat_le 16 inodes) (nat_le inodes 8192) (nat_lt (data_start size inodes) size) h in
+    let a = and_parts (nat_le 32 size && nat_le size 16384 && nat_le 16 inodes && nat_le inodes 8192) (nat_lt (data_start size inodes) size) h in
+    let b = and_parts (nat_le 32 size && nat_le size 16384 && nat_le 16 inodes) (nat_le inodes 8192) a.0 in
+    let c = and_parts (nat_le 32 size && nat_le size 16384) (nat_le 16 inodes) b.0 in
+    let d = and_parts (nat_le 32 size) (nat_le size 16384) c.0 in
     record {
-      size_low = grind (arith, nat_tests, p.0);
-      size_high = grind (arith, nat_tests, p.1);
-      inodes_low = grind (arith, nat_tests, p.2);
-      inodes_high = grind (arith, nat_tests, p.3);
-      room = grind (arith, nat_tests, p.4);
+      size_low = grind (arith, nat_tests, d.0);
+      size_high = grind (arith, nat_tests, d.1);
+      inodes_low = grind (arith, nat_tests, c.1);
+      inodes_high = grind (arith, nat_tests, b.1);
+      room = grind (arith, nat_tests, a.1);
     }
 
 -- ---- what the lack of memory tells

@@ -1,9 +1,10 @@
 -- The files of an image with a root alone keep the rules.
 use Rattle.std.proofs.Common.{◌≡◌, ◌≢◌, ℕ, zero, suc, ◌+◌, ◌-◌, ◌≤◌, false, List, [], ◌∷◌, ◌++◌, length, None, Option, Some, inl, inr, map, ap, sym, refl, ◌∙◌, arith, subst, IsSome, IsTrue, count_by, flat_map, is_some, option_map, sum_by, unwrap_or, ◌==◌}
 use Rattle.std.specs.List.{range_with_len}
-use Rattle.std.proofs.lemmas.Bool.{cases_eq, cases_lt, false≢true}
+use Rattle.std.proofs.lemmas.Bool.{cases_lt, false≢true}
 use Rattle.std.proofs.lemmas.List.{get_or-replicate, get_or-set_other, get_or-set_same, get_or_past, length-replicate, length-set}
 use Rattle.std.proofs.lemmas.List.Elements.{All-nil}
+use Rattle.layout.proofs.Frame.{at_or}
 use Rattle.unixmodel.specs.Counts.{blocks_of}
 use Rattle.unixmodel.specs.Files.{Entry, Node, blocks_for, dot_dot, find, free_slots, is_directory, parts, size_of, slot, taken}
 use Rattle.unixmodel.specs.Image.{KeepsNode, KeepsRules, KeepsSize, all_entries, entries_of, is_name, names_of, parent_of, subdirectories}
@@ -52,17 +53,15 @@ module _ (inodes : ℕ) (some : 2 ≤ inodes) where
   slot-bare m s = get_or-set_other (free_slots inodes) 1 m (Some (bare_directory 1 1)) None s ∙ slot-free inodes m
 
   -- what holds of the root and of numbers that aren't in use holds of each
-  bare-each : (P : ℕ → Option Node → Type 0) → P 1 (Some (bare_directory 1 1)) → ((m : ℕ) → P m None) → (m : ℕ) → P m (slot (bare_files inodes) m)
-  bare-each P root none m = elim (cases_eq m 1) [
-    | inl e ↦ subst (λ k. P k (slot (bare_files inodes) k)) (sym e) (subst (P 1) (sym slot-root) root)
-    | inr s ↦ subst (P m) (sym (slot-bare m s)) (none m)
-  ]
+  pub bare-each : (P : ℕ → Option Node → Type 0) → P 1 (Some (bare_directory 1 1)) → ((m : ℕ) → m ≢ 1 → P m None) → (m : ℕ) → P m (slot (bare_files inodes) m)
+  bare-each P root none m =
+      at_or (λ k. P k (slot (bare_files inodes) k)) 1 m (subst (P 1) (sym slot-root) root) (λ s. subst (P m) (sym (slot-bare m s)) (none m s))
 
   bare-used : (m : ℕ) → IsSome (slot (bare_files inodes) m) → m ≡ 1
-  bare-used = bare-each (λ m o. IsSome o → m ≡ 1) (λ h. refl) (λ m h. absurd (false≢true h))
+  bare-used = bare-each (λ m o. IsSome o → m ≡ 1) (λ h. refl) (λ m s h. absurd (false≢true h))
 
   bare-entries : (m : ℕ) → entries_of (slot (bare_files inodes) m) ≡ []
-  bare-entries = bare-each (λ m o. entries_of o ≡ []) refl (λ m. refl)
+  bare-entries = bare-each (λ m o. entries_of o ≡ []) refl (λ m s. refl)
 
   no_entries : all_entries (bare_files inodes) ≡ []
   unfolding all_entries
@@ -95,10 +94,10 @@ module _ (inodes : ℕ) (some : 2 ≤ inodes) where
     numbers = All-nil (λ (x : Entry). IsSome (slot (bare_files inodes) x.number));
     named = bare-named;
     counted = ap (λ c. 1 + c) (sym bare-subdirectories);
-  }) (λ m. tt)
+  }) (λ m s. tt)
 
   bare-size : (m : ℕ) → KeepsSize (slot (bare_files inodes) m)
-  bare-size = bare-each (λ m o. KeepsSize o) (omega arith) (λ m. tt)
+  bare-size = bare-each (λ m o. KeepsSize o) (omega arith) (λ m s. tt)
 
   pub KeepsRules-bare : KeepsRules (bare_files inodes)
   KeepsRules-bare = record {

@@ -1,10 +1,11 @@
 -- Files with an entry more: what stands at each number, and what the entries of the directories are.
-use Rattle.std.proofs.Common.{◌≡◌, ◌≢◌, ℕ, ◌+◌, ◌<◌, ◌≤◌, true, false, List, [], ◌∷◌, ◌++◌, length, None, Option, Some, inl, inr, drop, map, ap, sym, refl, ◌∙◌, arith, subst, IsSome, flat_map, is_some, option_map, unwrap_or}
+use Rattle.std.proofs.Common.{◌≡◌, ◌≢◌, ℕ, ◌+◌, ◌<◌, ◌≤◌, true, false, List, [], ◌∷◌, ◌++◌, length, None, Option, Some, drop, map, ap, sym, refl, ◌∙◌, arith, subst, IsSome, flat_map, is_some, option_map, unwrap_or}
 use Rattle.std.specs.List.{range_with_len}
-use Rattle.std.proofs.lemmas.Bool.{cases_eq, false≢true}
+use Rattle.std.proofs.lemmas.Bool.{false≢true}
 use Rattle.std.proofs.lemmas.List.{drop-append-le, get_or-set_other, get_or-set_same, length-set, map-append}
 use Rattle.std.proofs.lemmas.List.Elements.{filter_map-append}
 use Rattle.std.proofs.lemmas.Option.{none-some}
+use Rattle.layout.proofs.Frame.{at_or}
 use Rattle.unixmodel.specs.Files.{Entry, Files, Node, change_node, is_directory, slot, taken}
 use Rattle.unixmodel.specs.Files.Node.{Directory}
 use Rattle.unixmodel.specs.Image.{all_entries, entries_of}
@@ -36,7 +37,7 @@ pub directory-at : (o : Option Node) → unwrap_or (option_map is_directory o) f
 directory-at (Some (Directory links places)) h = (links, places, refl)
 directory-at o h = absurd (false≢true h)
 
-linked-directory : (thing : Thing) (links : ℕ) (places : List (Option Entry)) → linked thing (Directory links places) ≡ Directory (links_with thing links) places
+pub linked-directory : (thing : Thing) (links : ℕ) (places : List (Option Entry)) → linked thing (Directory links places) ≡ Directory (links_with thing links) places
 linked-directory Folder links places = refl
 linked-directory thing links places = refl
 
@@ -80,33 +81,19 @@ module _ {files more : Files} {d links : ℕ} {places : List (Option Entry)} {na
   pub entries-here : entries_of (slot more n) ≡ []
   entries-here = ap entries_of a.here ∙ node-entries n d thing
 
-  pub entries-other : (m : ℕ) → m ≢ d → entries_of (slot more m) ≡ entries_of (slot files m)
-  entries-other m s = elim (cases_eq m n) [
-    | inl e ↦ ap (λ k. entries_of (slot more k)) e ∙ entries-here ∙ sym (ap (λ k. entries_of (slot files k)) e ∙ ap entries_of a.free)
-    | inr t ↦ ap entries_of (a.others m t s)
-  ]
+  -- what holds of the two numbers that change and of each other holds of all
+  pub each-more : (P : ℕ → Option Node → Type 0) → P n (slot more n) → P d (slot more d) → ((m : ℕ) → m ≢ n → m ≢ d → P m (slot files m)) → (m : ℕ) → P m (slot more m)
+  each-more P new above rest m =
+      at_or (λ k. P k (slot more k)) n m new (λ s. at_or (λ k. P k (slot more k)) d m above (λ t. subst (P m) (sym (a.others m s t)) (rest m s t)))
 
-  pub used-kept : (m : ℕ) → IsSome (slot files m) → IsSome (slot more m)
-  used-kept m h = elim (cases_eq m d) [
-    | inl e ↦ ap (λ k. is_some (slot more k)) e ∙ ap is_some a.above
-    | inr s ↦ elim (cases_eq m n) [
-      | inl e ↦ absurd (false≢true (sym (ap (λ k. is_some (slot files k)) e ∙ ap is_some a.free) ∙ h))
-      | inr t ↦ ap is_some (a.others m t s) ∙ h
-    ]
-  ]
+  pub entries-other : (m : ℕ) → m ≢ d → entries_of (slot more m) ≡ entries_of (slot files m)
+  entries-other = each-more (λ m o. m ≢ d → entries_of o ≡ entries_of (slot files m)) (λ _. entries-here ∙ sym (ap entries_of a.free)) (λ t. absurd (t refl)) (λ m s t _. refl)
 
   pub used-not_new : (m : ℕ) → IsSome (slot files m) → m ≢ n
   used-not_new m h e = false≢true (sym (ap (λ k. is_some (slot files k)) e ∙ ap is_some a.free) ∙ h)
 
-  -- what holds of the two numbers that change and of each other holds of all
-  pub each-more : (P : ℕ → Option Node → Type 0) → P n (slot more n) → P d (slot more d) → ((m : ℕ) → m ≢ n → m ≢ d → P m (slot files m)) → (m : ℕ) → P m (slot more m)
-  each-more P new above rest m = elim (cases_eq m n) [
-    | inl e ↦ subst (λ j. P j (slot more j)) (sym e) new
-    | inr s ↦ elim (cases_eq m d) [
-      | inl e ↦ subst (λ j. P j (slot more j)) (sym e) above
-      | inr t ↦ subst (P m) (sym (a.others m s t)) (rest m s t)
-    ]
-  ]
+  pub used-kept : (m : ℕ) → IsSome (slot files m) → IsSome (slot more m)
+  used-kept = each-more (λ m o. IsSome (slot files m) → IsSome o) (λ h. absurd (used-not_new n h refl)) (λ _. ap is_some a.above) (λ m s t h. h)
 
   module _ (two : 2 ≤ length places) where
     pub places-above : taken (drop 2 (places ++ Some (entry_for name n) ∷ [])) ≡ taken (drop 2 places) ++ entry_for name n ∷ []

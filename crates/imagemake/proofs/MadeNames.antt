@@ -1,7 +1,7 @@
 -- Files with an entry more: how many places name a number, which directory a number stands in, and how many directories a directory has.
-use Rattle.std.proofs.Common.{◌≡◌, ◌≢◌, ℕ, ◌+◌, ◌≤◌, false, cond, List, length, Option, Some, inl, inr, map, get_or, ap, sym, refl, ◌∙◌, add-zero, arith, subst, All, IsSome, count_by, filter, option_map, slice_get, unwrap_or, ◌==◌}
+use Rattle.std.proofs.Common.{◌≡◌, ◌≢◌, ℕ, ◌+◌, ◌≤◌, false, cond, List, length, Option, Some, map, get_or, ap, sym, refl, ◌∙◌, add-zero, arith, subst, All, IsSome, count_by, filter, option_map, slice_get, unwrap_or, ◌==◌}
 use Rattle.std.specs.List.{range_with_len}
-use Rattle.std.proofs.lemmas.Bool.{cases_eq, cond-false, eq-eqb, ne_eqb}
+use Rattle.std.proofs.lemmas.Bool.{cond-false, eq-eqb, ne_eqb}
 use Rattle.std.proofs.lemmas.List.Elements.{All-map, All-nil}
 use Rattle.unixmodel.specs.Files.{Entry, Files, Node, is_directory, slot}
 use Rattle.unixmodel.specs.Files.Node.{Directory}
@@ -9,7 +9,7 @@ use Rattle.unixmodel.specs.Image.{IsDirectory, KeepsNode, KeepsRules, all_entrie
 use Rattle.unixmodel.specs.Manifest.{Thing, node_for}
 use Rattle.unixmodel.specs.Manifest.Thing.{Folder}
 use Rattle.imagerules.proofs.Lists.{All-flat_map}
-use Rattle.imagemake.proofs.MadeEntry.{Adds, entries-above, entries-here, entries-other, entry_for, links_with, one_entry_more, used-not_new}
+use Rattle.imagemake.proofs.MadeEntry.{Adds, each-more, entries-above, entries-here, entries-other, entry_for, links_with, one_entry_more, used-not_new}
 use Rattle.imagemake.proofs.MadeLists.{count_by-none, count_by-one_more, count_by-push, count_by-same, filter-first, filter-none, filter-other}
 use Rattle.imagerules.proofs.Denoting.{two_places}
 
@@ -76,11 +76,8 @@ module _ {files more : Files} {d links : ℕ} {places : List (Option Entry)} {na
   -- ---- how many directories a directory has
 
   pub directory-same : (m : ℕ) → m ≢ n → is_directory_at more m ≡ is_directory_at files m
-  directory-same m s = elim (cases_eq m d) [
-    | inl e ↦ ap (λ k. is_directory_at more k) e ∙ ap (λ o. unwrap_or (option_map is_directory o) false) a.above
-        ∙ sym (ap (λ k. is_directory_at files k) e ∙ ap (λ o. unwrap_or (option_map is_directory o) false) a.before)
-    | inr t ↦ ap (λ o. unwrap_or (option_map is_directory o) false) (a.others m s t)
-  ]
+  directory-same = each-more a (λ m o. m ≢ n → unwrap_or (option_map is_directory o) false ≡ is_directory_at files m) (λ s. absurd (s refl))
+      (λ _. ap (λ o. unwrap_or (option_map is_directory o) false) a.above ∙ sym (ap (λ o. unwrap_or (option_map is_directory o) false) a.before)) (λ m s t _. refl)
 
   same_directories : (m : ℕ) → count_by (λ (e : Entry). is_directory_at more e.number) (entries_of (slot files m)) ≡ subdirectories files m
   unfolding subdirectories

@@ -1,6 +1,6 @@
 -- Files with an entry more: names lead where they led before, and the new one to its number.
-use Rattle.std.proofs.Common.{◌≡◌, ℕ, ◌≤◌, List, [], ◌∷◌, ◌++◌, None, Option, Some, inl, inr, ap, sym, refl, ◌∙◌, arith, IsSome, bytes_eq, is_some, option_and_then, true}
-use Rattle.std.proofs.lemmas.Bool.{cases_eq, cond-true}
+use Rattle.std.proofs.Common.{◌≡◌, ℕ, ◌≤◌, List, [], ◌∷◌, ◌++◌, None, Option, Some, ap, sym, refl, ◌∙◌, arith, IsSome, bytes_eq, is_some, option_and_then, true}
+use Rattle.std.proofs.lemmas.Bool.{cond-true}
 use Rattle.std.proofs.lemmas.Option.{none-some, option_and_then_some}
 use Rattle.std.proofs.lemmas.Slice.Eq.{bytes_eq-Decides}
 use Rattle.unixmodel.specs.Files.{Entry, Files, entry_number, find, follow, lookup, parts, slot}
@@ -41,13 +41,10 @@ module _ {files more : Files} {d links : ℕ} {places : List (Option Entry)} {na
 
   -- what a name led to stays
   pub lookup-kept : (k : ℕ) (w : List ℕ) (m : ℕ) → lookup files k w ≡ Some m → lookup more k w ≡ Some m
-  lookup-kept k w m h = elim (cases_eq k d) [
-    | inl e ↦ ap (λ j. lookup more j w) e ∙ lookup-kept_above w m (ap (λ j. lookup files j w) (sym e) ∙ h)
-    | inr t ↦ elim (cases_eq k n) [
-      | inl e ↦ absurd (none-some m (sym (lookup-found files k w ∙ ap (λ j. found w (slot files j)) e ∙ ap (found w) a.free) ∙ h))
-      | inr s ↦ lookup-found more k w ∙ ap (found w) (a.others k s t) ∙ sym (lookup-found files k w) ∙ h
-    ]
-  ]
+  lookup-kept k w m h =
+      lookup-found more k w ∙ each-more a (λ j o. lookup files j w ≡ Some m → found w o ≡ Some m)
+      (λ g. absurd (none-some m (sym (lookup-found files n w ∙ ap (found w) a.free) ∙ g))) (λ g. sym (lookup-found more d w) ∙ lookup-kept_above w m g)
+      (λ j s t g. sym (lookup-found files j w) ∙ g) k h
 
   pub follow-kept : (ws : List (List ℕ)) (k m : ℕ) → follow files k ws ≡ Some m → follow more k ws ≡ Some m
   follow-kept [] k m h = h

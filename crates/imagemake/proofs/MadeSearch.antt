@@ -1,20 +1,19 @@
 -- A name in a directory of what is made is found in the list of the names that are made so far.
-use Rattle.std.proofs.Common.{◌≡◌, ◌≢◌, ℕ, ◌+◌, ◌-◌, ◌≤◌, Bool, true, false, cond, List, [], ◌∷◌, ◌++◌, length, None, Option, Some, inl, inr, ap, ap₂, sym, refl, ◌∙◌, arith, bytes_eq, nat_lt, option_and_then, option_map, position, slice_get, unwrap_or, ◌&&◌, ◌==◌, zero, suc, ◌<◌, not, eqb, eq-eqb, ne_eqb}
+use Rattle.std.proofs.Common.{◌≡◌, ◌≢◌, ℕ, ◌+◌, ◌-◌, ◌≤◌, Bool, true, false, cond, List, [], ◌∷◌, ◌++◌, length, None, Option, Some, inl, inr, ap, ap₂, sym, refl, ◌∙◌, arith, bytes_eq, nat_lt, option_and_then, option_map, position, slice_get, unwrap_or, ◌&&◌, ◌==◌, zero, suc, not, eqb, eq-eqb, ne_eqb}
 use Rattle.std.specs.List.{list_all, position_or_len}
 use Rattle.std.specs.Option.{option_or}
 use Rattle.std.proofs.lemmas.Bool.{and_parts, cases_eq, cases_lt, eq-eqb, false≢true, false_from_ne_true, ne_eqb, or_parts, le-ltb, lt-ltb, cond-false, cond-true}
 use Rattle.std.proofs.lemmas.List.{length_push}
-use Rattle.std.proofs.lemmas.Option.{slice_get_past}
 use Rattle.std.proofs.lemmas.Slice.Eq.{bytes_eq-Decides}
-use Rattle.unixmodel.specs.Files.{Entry, Files, dot, dot_dot, entry_number, follow, is_directory, lookup, slot}
+use Rattle.unixmodel.specs.Files.{Entry, Files, dot, dot_dot, entry_number, follow, is_directory, lookup}
 use Rattle.unixmodel.specs.Image.{KeepsRules, is_directory_at, is_name}
 use Rattle.unixmodel.specs.Manifest.{Thing, bare_directory, bare_files, node_for}
 use Rattle.unixmodel.specs.Manifest.Thing.{Folder}
 use Rattle.imagemake.specs.Begun.{IsListed}
 use Rattle.imagemake.specs.Made.{MadeName, found as made_found, is_folder, seek, stands_at}
 use Rattle.imagemake.proofs.Pathing.{is_folder-high, is_folder-low}
-use Rattle.imagemake.proofs.MadeBare.{slot-bare, slot-root}
-use Rattle.imagemake.proofs.MadeEntry.{Adds, entry_for}
+use Rattle.imagemake.proofs.MadeBare.{bare-each}
+use Rattle.imagemake.proofs.MadeEntry.{Adds, each-more, entry_for}
 use Rattle.imagemake.proofs.MadeLookup.{first-past, found, lookup-found, number-none}
 use Rattle.imagemake.proofs.MadeNames.{directory-same}
 use Rattle.imagerules.proofs.Paths.{IsGiven-name, first_named as first}
@@ -39,12 +38,13 @@ position-push p xs x =
     ap (λ k. cond (nat_lt (position_or_len p (xs ++ x ∷ [])) k) (Some (position_or_len p (xs ++ x ∷ []))) None) (length_push xs x)
     ∙ push_step (position_or_len p xs) (length xs) (position_or_len p (xs ++ x ∷ [])) (p x) (prefix_len-le-length (λ y. not (p y)) xs) (position_or_len_push p xs x)
 
-pub slice_get-left : {X : Type 0} (xs ys : List X) (k : ℕ) → k < length xs → slice_get (xs ++ ys) k ≡ slice_get xs k
-slice_get-left [] ys k h = absurd (omega arith)
-slice_get-left (x ∷ xs) ys zero h = refl
-slice_get-left (x ∷ xs) ys (suc k) h = slice_get-left xs ys k (omega arith)
+slice_get-other : {X : Type 0} (xs : List X) (x : X) (k : ℕ) → k ≢ length xs → slice_get (xs ++ x ∷ []) k ≡ slice_get xs k
+slice_get-other [] x zero h = absurd (h refl)
+slice_get-other [] x (suc k) h = refl
+slice_get-other (y ∷ ys) x zero h = refl
+slice_get-other (y ∷ ys) x (suc k) h = slice_get-other ys x k (λ e. h (ap suc e))
 
-pub slice_get-push : {X : Type 0} (xs : List X) (x : X) → slice_get (xs ++ x ∷ []) (length xs) ≡ Some x
+slice_get-push : {X : Type 0} (xs : List X) (x : X) → slice_get (xs ++ x ∷ []) (length xs) ≡ Some x
 slice_get-push [] x = refl
 slice_get-push (y ∷ ys) x = slice_get-push ys x
 
@@ -77,10 +77,8 @@ module _ {files more : Files} {d links : ℕ} {places : List (Option Entry)} {na
       numbered false = refl
 
       lookup_there : k ≢ d → lookup more k w ≡ None
-      lookup_there t = elim (cases_eq k n) [
-        | inl e ↦ lookup-found more k w ∙ ap (λ j. found w (slot more j)) e ∙ ap (found w) a.here ∙ node_found n d thing w good
-        | inr s ↦ lookup-found more k w ∙ ap (found w) (a.others k s t) ∙ sym (lookup-found files k w) ∙ h
-      ]
+      lookup_there t = lookup-found more k w ∙ each-more a (λ j o. j ≢ d → lookup files j w ≡ None → found w o ≡ None)
+          (λ _ _. ap (found w) a.here ∙ node_found n d thing w good) (λ s. absurd (s refl)) (λ j s t _ g. sym (lookup-found files j w) ∙ g) k t h
 
   -- ---- the list with an item more
 
@@ -101,12 +99,6 @@ module _ {files more : Files} {d links : ℕ} {places : List (Option Entry)} {na
     unfolding made_found
     names_more k w good = name_more k w good (position (stands_at k w) made) refl ∙ ap (option_map (λ j. j + 2)) (sym (position-push (stands_at k w) made x))
 
-    old_number : (m : ℕ) → 2 ≤ m → m ≢ n → slice_get made (m - 2) ≡ slice_get (made ++ x ∷ []) (m - 2)
-    old_number m l s = elim (cases_lt (m - 2) (length made)) [
-      | inl below ↦ sym (slice_get-left made (x ∷ []) (m - 2) below)
-      | inr past ↦ slice_get_past made (m - 2) past ∙ sym (slice_get_past (made ++ x ∷ []) (m - 2) (omega (arith, length_push made x)))
-    ]
-
     folder_more : (m : ℕ) → is_directory_at more m ≡ is_folder (made ++ x ∷ []) m
     folder_more m = elim (cases_eq m n) [
       | inl e ↦
@@ -116,7 +108,7 @@ module _ {files more : Files} {d links : ℕ} {places : List (Option Entry)} {na
           ∙ ap (λ o. unwrap_or (option_map (λ (y : MadeName). y.folder) o) false) (slice_get-push made x))
       | inr s ↦ directory-same a rules m s ∙ listed.folders m ∙ elim (cases_lt m 2) [
         | inl l ↦ is_folder-low made m l ∙ sym (is_folder-low (made ++ x ∷ []) m l)
-        | inr l ↦ is_folder-high made m l ∙ ap (λ o. unwrap_or (option_map (λ (y : MadeName). y.folder) o) false) (old_number m l s) ∙ sym (is_folder-high (made ++ x ∷ []) m l)
+        | inr l ↦ is_folder-high made m l ∙ ap (λ o. unwrap_or (option_map (λ (y : MadeName). y.folder) o) false) (sym (slice_get-other made x (m - 2) (λ e. s (omega arith)))) ∙ sym (is_folder-high (made ++ x ∷ []) m l)
       ]
     ]
 
@@ -130,20 +122,14 @@ unfolding made_found is_folder
 IsListed-bare inodes some = record { names = no_name; folders = root_alone }
   where
     no_name : (d : ℕ) (w : List ℕ) → is_name w ≡ true → lookup (bare_files inodes) d w ≡ made_found [] d w
-    no_name d w good = elim (cases_eq d 1) [
-      | inl e ↦ lookup-found (bare_files inodes) d w ∙ ap (λ k. found w (slot (bare_files inodes) k)) e ∙ ap (found w) (slot-root inodes some) ∙ bare_first 1 1 w good
-      | inr s ↦ lookup-found (bare_files inodes) d w ∙ ap (found w) (slot-bare inodes some d s)
-    ]
+    no_name d w good = lookup-found (bare_files inodes) d w ∙ bare-each inodes some (λ _ o. found w o ≡ None) (bare_first 1 1 w good) (λ _ _. refl) d
 
     root_alone : (n : ℕ) → is_directory_at (bare_files inodes) n ≡ is_folder [] n
-    root_alone n = elim (cases_eq n 1) [
-      | inl e ↦ ap (λ k. is_directory_at (bare_files inodes) k) e ∙ ap (λ o. unwrap_or (option_map is_directory o) false) (slot-root inodes some) ∙ sym (ap (is_folder []) e)
-      | inr s ↦ ap (λ o. unwrap_or (option_map is_directory o) false) (slot-bare inodes some n s) ∙ sym (other (nat_lt n 2) (ne_eqb n 1 s))
-    ]
+    root_alone = bare-each inodes some (λ n o. unwrap_or (option_map is_directory o) false ≡ is_folder [] n) refl (λ n s. sym (other n (nat_lt n 2) (ne_eqb n 1 s)))
       where
-        other : (b : Bool) → (n == 1) ≡ false → cond b (n == 1) false ≡ false
-        other true e = e
-        other false e = refl
+        other : (n : ℕ) (b : Bool) → (n == 1) ≡ false → cond b (n == 1) false ≡ false
+        other n true e = e
+        other n false e = refl
 
 -- ---- names in turn
 

@@ -31,12 +31,9 @@ names-good (b ∷ rest) ws h =
     let parts = cond_some (b == 0x2f && list_all is_name (pieces rest)) (pieces rest) ws h in
     ap (list_all is_name) (sym parts.1) ∙ (and_parts (b == 0x2f) (list_all is_name (pieces rest)) parts.0).1
 
-is-none : {X : Type 0} (o : Option X) → is_some o ≡ false → o ≡ None
+pub is-none : {X : Type 0} (o : Option X) → is_some o ≡ false → o ≡ None
 is-none None h = refl
 is-none (Some x) h = absurd (false≢true (sym h))
-
-pub no-names : (path : List ℕ) → is_some (names_in path) ≡ false → names_in path ≡ None
-no-names path h = is-none (names_in path) h
 
 pub path-names : (path : List ℕ) → is_some (names_in path) ≡ true → names_in path ≡ Some (pieces (drop 1 path))
 path-names [] h = absurd (false≢true h)

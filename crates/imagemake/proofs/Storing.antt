@@ -7,7 +7,7 @@ use Rattle.std.proofs.lemmas.Option.{none-some, same_Some}
 use Rattle.unixmodel.specs.Counts.{blocks_of}
 use Rattle.unixmodel.specs.Files.{Files, Node, blocks_for, node_bytes, put, size_of, slot, taken}
 use Rattle.layout.specs.declared.Geometry.{Geometry}
-use Rattle.layout.proofs.Frame.{get_or-nodes_of, length-nodes_of, node_at-none, node_at-some}
+use Rattle.layout.proofs.Frame.{at_or, get_or-nodes_of, length-nodes_of, node_at-none, node_at-some}
 use Rattle.layout.specs.Image.{IsInode, RawNode, bytes_of, free_blocks, inode_at, node_at, node_with, nodes_of}
 use Rattle.layout.specs.Sound.{IsSound}
 use Rattle.imagemake.specs.Stored.{IsWhole, Stores, raw_of, raw_slot}
@@ -78,10 +78,8 @@ module _ (g : Geometry) (blocks : List (List ℕ)) (files : Files) (stores : Sto
 -- ---- a node is put
 
 whole-put : (files : Files) (n : ℕ) (node : Node) → n < length files → length (node_bytes node) ≡ size_of node → ((m : ℕ) → IsWhole (slot files m)) → (m : ℕ) → IsWhole (slot (put files n node) m)
-whole-put files n node h w whole m = elim (cases_eq m n) [
-  | inl e ↦ subst IsWhole (sym (ap (slot (put files n node)) e ∙ get_or-set_same files n (Some node) None h)) w
-  | inr away ↦ subst IsWhole (sym (get_or-set_other files n m (Some node) None away)) (whole m)
-]
+whole-put files n node h w whole m = at_or (λ k. IsWhole (slot (put files n node) k)) n m (subst IsWhole (sym (get_or-set_same files n (Some node) None h)) w)
+    (λ away. subst IsWhole (sym (get_or-set_other files n m (Some node) None away)) (whole m))
 
 module _ (g : Geometry) (old new : List (List ℕ)) (files : Files) (stores : Stores g old files) (n : ℕ) (node : Node) (high : n < length files) where
   pub Stores-put : IsSound g new → nodes_of new g.inodes ≡ set (nodes_of old g.inodes) n (Some (raw_of node)) → length (node_bytes node) ≡ size_of node

@@ -2,11 +2,11 @@ use Rattle.std.proofs.Common.{None, Some, ap, drop, refl, sym, ◌∙◌, is_som
 use Rattle.std.proofs.lemmas.List.{take_rest}
 use Rattle.imagemake.specs.Made.{found}
 use Rattle.imagemake.proofs.MadeWrong.{entry-name}
-use Rattle.imagemake.proofs.Spotting.{IsSpot-reached, no-names, refused-nowhere, refused-parent, refused-twice}
+use Rattle.imagemake.proofs.Spotting.{IsSpot-reached, is-none, refused-nowhere, refused-parent, refused-twice}
 use Rattle.imagemake.proofs.entry.spot.Goals as goal
 
 pub returns-then-not-is_path-clause-refused : goal.returns-then-not-is_path-clause-refused
-returns-then-not-is_path-clause-refused c = λ blocks inodes files n thing listed. entry-name blocks inodes files n (record { path = c.args.path.now; thing = thing }) (no-names c.args.path.now (sym c.if-not-is_path.ensures))
+returns-then-not-is_path-clause-refused c = λ blocks inodes files n thing listed. entry-name blocks inodes files n (record { path = c.args.path.now; thing = thing }) (is-none _ (sym c.if-not-is_path.ensures))
 
 pub returns-in_default-clause-refused : goal.returns-in_default-clause-refused
 returns-in_default-clause-refused c = λ blocks inodes files n thing listed.
