@@ -30,14 +30,10 @@ seven_forks : on_flat 64 (replicate 7 fork) ≡ 2 ∷ 3 ∷ 4 ∷ 5 ∷ 6 ∷ 7 
 unfolding all_opened
 seven_forks = refl
 
-seven_forks_frames : frames_of (ask_all (flat_state 64) (replicate 7 fork)) ≡ 63
-unfolding all_opened
-seven_forks_frames = refl
-
 -- a fork that is refused uses no pid
-no_pid_used : (ask_all (flat_state 64) (replicate 7 fork)).next_pid ≡ 8
+seven_forked : (let s = ask_all (flat_state 64) (replicate 7 fork) in frames_of s ∷ s.next_pid ∷ []) ≡ 63 ∷ 8 ∷ []
 unfolding all_opened
-no_pid_used = refl
+seven_forked = refl
 
 -- ---- exit and wait: a zombie holds its frames until it is waited for
 

@@ -1,6 +1,6 @@
 -- Programs of bytes alone: one that prints hi and ends with status 0 in nine steps, one of no bytes, some that
 -- access what isn't theirs, and the longest that 64 frames hold.
-use Rattle.std.specs.Prelude.{Err, List, None, Ok, Option, Some, false, is_some, negsuc, option_and_then, option_map, pos, refl, replicate, slice_index, true, [], ℕ, ℤ, ◌++◌, ◌∷◌, ◌≡◌}
+use Rattle.std.specs.Prelude.{Err, List, None, Ok, Option, Some, false, is_some, map, negsuc, option_and_then, option_map, pos, refl, replicate, slice_index, true, [], ℕ, ℤ, ◌++◌, ◌+◌, ◌∷◌, ◌≡◌}
 use Rattle.unixmodel.specs.declared.event.Event.{Event}
 use Rattle.unixmodel.specs.declared.event.Event.TheVariants.{Step, Tick}
 use Rattle.model_examples.proofs.Opened.{all_opened}
@@ -9,6 +9,7 @@ use Rattle.unixmodel.specs.Numbers.{le}
 use Rattle.unixmodel.specs.Run.{run}
 use Rattle.unixmodel.specs.Start.{start_flat}
 use Rattle.unixmodel.specs.Turn.{turn}
+use Rattle.unixmodel.specs.declared.trap.Cause.{Cause}
 use Rattle.unixmodel.specs.declared.trap.Cause.TheVariants.{Breakpoint, IllegalInstruction, LoadPageFault, StorePageFault}
 use Rattle.unixmodel.specs.declared.trap.Trap.{Trap}
 use Rattle.unixmodel.specs.Meaning.{Effect}
@@ -28,8 +29,11 @@ run_flat bytes frame_limit events = option_map (λ s. run s events) (start_flat 
 abbrev pub bytes_and_end : After → List ℕ × Option ℤ
 bytes_and_end a = (a.bytes, a.state.halted)
 
-abbrev pub nine_steps : List Event
-nine_steps = replicate 9 Step
+abbrev pub told_after : List ℕ → List Event → Option (List ℕ × Option ℤ)
+told_after program events = option_map bytes_and_end (run_flat program 256 events)
+
+abbrev pub hi : List ℕ
+hi = 0x68 ∷ 0x69 ∷ 0x0a ∷ []
 
 hi_start : is_some (start_flat hi_program 256) ≡ true
 unfolding all_opened
@@ -39,53 +43,19 @@ hi_turn : option_map (λ s. turn s) (start_flat hi_program 256) ≡ Some (Some 0
 unfolding all_opened
 hi_turn = refl
 
-hi_two : option_map bytes_and_end (run_flat hi_program 256 (replicate 2 Step)) ≡ Some ([], None)
+hi_steps : map (λ n. told_after hi_program (replicate n Step)) (0 ∷ 2 ∷ 5 ∷ 6 ∷ 8 ∷ 9 ∷ [])
+    ≡ Some ([], None) ∷ Some ([], None) ∷ Some ([], None) ∷ Some (hi, None) ∷ Some (hi, None) ∷ Some (hi, Some (pos 0)) ∷ []
 unfolding all_opened
-hi_two = refl
-
-hi_five : option_map bytes_and_end (run_flat hi_program 256 (replicate 5 Step)) ≡ Some ([], None)
-unfolding all_opened
-hi_five = refl
-
-hi_write : option_map bytes_and_end (run_flat hi_program 256 (replicate 6 Step)) ≡ Some (0x68 ∷ 0x69 ∷ 0x0a ∷ [], None)
-unfolding all_opened
-hi_write = refl
-
-hi_eight : option_map bytes_and_end (run_flat hi_program 256 (replicate 8 Step)) ≡ Some (0x68 ∷ 0x69 ∷ 0x0a ∷ [], None)
-unfolding all_opened
-hi_eight = refl
-
-hi_ends : option_map bytes_and_end (run_flat hi_program 256 nine_steps) ≡ Some (0x68 ∷ 0x69 ∷ 0x0a ∷ [], Some (pos 0))
-unfolding all_opened
-hi_ends = refl
+hi_steps = refl
 
 -- with a tick after three steps hi comes in the seventh step, and the end in the tenth
-hi_tick : option_map bytes_and_end (run_flat hi_program 256 (replicate 3 Step ++ Tick ∷ replicate 3 Step)) ≡ Some ([], None)
+hi_tick : map (λ n. told_after hi_program (replicate 3 Step ++ Tick ∷ replicate n Step)) (3 ∷ 4 ∷ 6 ∷ 7 ∷ [])
+    ≡ Some ([], None) ∷ Some (hi, None) ∷ Some (hi, None) ∷ Some (hi, Some (pos 0)) ∷ []
 unfolding all_opened
 hi_tick = refl
 
-hi_tick_seventh : option_map bytes_and_end (run_flat hi_program 256 (replicate 3 Step ++ Tick ∷ replicate 4 Step)) ≡ Some (0x68 ∷ 0x69 ∷ 0x0a ∷ [], None)
-unfolding all_opened
-hi_tick_seventh = refl
-
-hi_tick_ninth : option_map bytes_and_end (run_flat hi_program 256 (replicate 3 Step ++ Tick ∷ replicate 6 Step)) ≡ Some (0x68 ∷ 0x69 ∷ 0x0a ∷ [], None)
-unfolding all_opened
-hi_tick_ninth = refl
-
-hi_tick_tenth : option_map bytes_and_end (run_flat hi_program 256 (replicate 3 Step ++ Tick ∷ replicate 7 Step)) ≡ Some (0x68 ∷ 0x69 ∷ 0x0a ∷ [], Some (pos 0))
-unfolding all_opened
-hi_tick_tenth = refl
-
-hi_no_event : option_map bytes_and_end (run_flat hi_program 256 []) ≡ Some ([], None)
-unfolding all_opened
-hi_no_event = refl
-
 -- the empty file: pc 0 is the guard page, so the step after the turn ends it
-empty_turn : option_map bytes_and_end (run_flat [] 256 (Step ∷ [])) ≡ Some ([], None)
-unfolding all_opened
-empty_turn = refl
-
-empty_file : option_map bytes_and_end (run_flat [] 256 (Step ∷ Step ∷ [])) ≡ Some ([], Some (negsuc 0))
+empty_file : map (λ n. told_after [] (replicate n Step)) (1 ∷ 2 ∷ []) ≡ Some ([], None) ∷ Some ([], Some (negsuc 0)) ∷ []
 unfolding all_opened
 empty_file = refl
 
@@ -104,53 +74,33 @@ next_trap program steps =
 abbrev pub end_after : List ℕ → ℕ → Option (Option ℤ)
 end_after program steps = option_map (λ (a : After). a.state.halted) (run_flat program 256 (replicate steps Step))
 
--- words that are no instruction (of zeros, of ones, fence.i), and ebreak
-illegal_traps : (next_trap (le 4 0x00000000) 1 ∷ next_trap (le 4 0xffffffff) 1 ∷ next_trap (le 4 0x0000100f) 1 ∷ next_trap (le 4 0x00100073) 1 ∷ [])
-    ≡ Some (record { cause = IllegalInstruction; address = 0 }) ∷ Some (record { cause = IllegalInstruction; address = 0 })
-    ∷ Some (record { cause = IllegalInstruction; address = 0 }) ∷ Some (record { cause = Breakpoint; address = 0 }) ∷ []
-unfolding all_opened
-illegal_traps = refl
+-- both, and the status before that step
+abbrev pub meets : List ℕ → ℕ → Option Trap × Option (Option ℤ) × Option (Option ℤ)
+meets program steps = (next_trap program steps, end_after program steps, end_after program (steps + 1))
 
-illegal_ends : (end_after (le 4 0x00000000) 2 ∷ end_after (le 4 0xffffffff) 2 ∷ end_after (le 4 0x0000100f) 2 ∷ end_after (le 4 0x00100073) 2 ∷ [])
-    ≡ Some (Some (negsuc 0)) ∷ Some (Some (negsuc 0)) ∷ Some (Some (negsuc 0)) ∷ Some (Some (negsuc 0)) ∷ []
+abbrev pub refused : Cause → ℕ → Option Trap × Option (Option ℤ) × Option (Option ℤ)
+refused cause address = (Some (record { cause = cause; address = address }), Some None, Some (Some (negsuc 0)))
+
+-- words that are no instruction (of zeros, of ones, fence.i), and ebreak
+illegal : map (λ word. meets (le 4 word) 1) (0x00000000 ∷ 0xffffffff ∷ 0x0000100f ∷ 0x00100073 ∷ [])
+    ≡ refused IllegalInstruction 0 ∷ refused IllegalInstruction 0 ∷ refused IllegalInstruction 0 ∷ refused Breakpoint 0 ∷ []
 unfolding all_opened
-illegal_ends = refl
+illegal = refl
 
 -- lui a0, 1; sb x0, 0(a0): the guard page of a program of one page
-abbrev pub guard_store : List ℕ
-guard_store = le 4 0x00001537 ++ le 4 0x00050023
-
-guard_trap : next_trap guard_store 2 ≡ Some (record { cause = StorePageFault; address = 0x1000 })
+guard_store : meets (le 4 0x00001537 ++ le 4 0x00050023) 2 ≡ refused StorePageFault 0x1000
 unfolding all_opened
-guard_trap = refl
-
-guard_end : (end_after guard_store 2 ∷ end_after guard_store 3 ∷ []) ≡ Some None ∷ Some (Some (negsuc 0)) ∷ []
-unfolding all_opened
-guard_end = refl
+guard_store = refl
 
 -- addi a0, x0, 1; slli a0, a0, 38; lui a1, 2; sub a0, a0, a1; sb x0, 0(a0): the page of the trap frame
-abbrev pub trap_frame_store : List ℕ
-trap_frame_store = le 4 0x00100513 ++ le 4 0x02651513 ++ le 4 0x000025b7 ++ le 4 0x40b50533 ++ le 4 0x00050023
-
-trap_frame_trap : next_trap trap_frame_store 5 ≡ Some (record { cause = StorePageFault; address = 0x3fffffe000 })
+trap_frame_store : meets (le 4 0x00100513 ++ le 4 0x02651513 ++ le 4 0x000025b7 ++ le 4 0x40b50533 ++ le 4 0x00050023) 5 ≡ refused StorePageFault 0x3fffffe000
 unfolding all_opened
-trap_frame_trap = refl
-
-trap_frame_end : (end_after trap_frame_store 5 ∷ end_after trap_frame_store 6 ∷ []) ≡ Some None ∷ Some (Some (negsuc 0)) ∷ []
-unfolding all_opened
-trap_frame_end = refl
+trap_frame_store = refl
 
 -- addi a0, x0, 1; slli a0, a0, 38; lb a0, 0(a0): the first address past those that a program can have
-abbrev pub far_load : List ℕ
-far_load = le 4 0x00100513 ++ le 4 0x02651513 ++ le 4 0x00050503
-
-far_trap : next_trap far_load 3 ≡ Some (record { cause = LoadPageFault; address = 0x4000000000 })
+far_load : meets (le 4 0x00100513 ++ le 4 0x02651513 ++ le 4 0x00050503) 3 ≡ refused LoadPageFault 0x4000000000
 unfolding all_opened
-far_trap = refl
-
-far_end : (end_after far_load 3 ∷ end_after far_load 4 ∷ []) ≡ Some None ∷ Some (Some (negsuc 0)) ∷ []
-unfolding all_opened
-far_end = refl
+far_load = refl
 
 -- ---- a fetch reads what a store has written: lw a0, 16(x0); sw a0, 8(x0); 0; 0; addi a1, x0, 1
 
@@ -170,10 +120,6 @@ then_illegal = refl
 
 -- ---- 64 frames hold 58 pages of one process, so a program of 56
 
-longest_program : is_some (start_flat (replicate 229376 0) 64) ≡ true
+longest_program : map (λ count. is_some (start_flat (replicate count 0) 64)) (229376 ∷ 229377 ∷ []) ≡ true ∷ false ∷ []
 unfolding all_opened
 longest_program = refl
-
-too_long_program : is_some (start_flat (replicate 229377 0) 64) ≡ false
-unfolding all_opened
-too_long_program = refl

@@ -1,7 +1,8 @@
 -- The image of a root with the console: 32 blocks, 16 inodes.
-use Rattle.std.specs.Prelude.{Bool, IsSome, List, None, Option, Some, T, [], drop, false, is_some, length, map, nat_lt, not, refl, slice_index_or, suc, true, zero, ℕ, ◌&&◌, ◌*◌, ◌++◌, ◌<◌, ◌==◌, ◌||◌, ◌∷◌, ◌≡◌, ◌≤◌}
-use Rattle.std.proofs.Common.{ap, arith, eqb→eq, inl, inr, lit≤, subst, sym, ◌∙◌}
-use Rattle.std.proofs.lemmas.Bool.{cases_eq}
+use Rattle.std.specs.Prelude.{Bool, IsSome, List, None, Option, Some, T, [], drop, false, is_some, length, map, nat_lt, refl, slice_index_or, suc, true, zero, ℕ, ◌*◌, ◌++◌, ◌<◌, ◌==◌, ◌||◌, ◌∷◌, ◌≡◌, ◌≤◌}
+use Rattle.std.proofs.Common.{get_or, ap, arith, eqb→eq, lit≤, subst, sym, ◌∙◌}
+use Rattle.std.proofs.lemmas.Bool.{false≢true}
+use Rattle.std.proofs.lemmas.List.FromFn.{get_or-map-range_with_len}
 use Rattle.std.proofs.lemmas.List.Sums.{AllPass-from_list_all}
 use Rattle.std.specs.List.{range_with_len}
 use Rattle.model_examples.proofs.Opened.{all_opened}
@@ -74,78 +75,23 @@ console_super = record {
 
 console_stands : (n : ℕ) → 1 ≤ n → n < 16 → Stands console_image n (slot flat_files n)
 unfolding all_opened
+console_stands (suc (suc (suc (suc (suc (suc (suc (suc (suc (suc (suc (suc (suc (suc (suc (suc n)))))))))))))))) low high = absurd (omega arith)
 console_stands zero low high = absurd (omega arith)
 console_stands (suc zero) low high = record { kind = refl; links = refl; size = refl; contents = refl; major = tt }
 console_stands (suc (suc zero)) low high = record { kind = refl; links = refl; size = refl; contents = refl; major = (refl, refl) }
-console_stands (suc (suc (suc zero))) low high = refl
-console_stands (suc (suc (suc (suc zero)))) low high = refl
-console_stands (suc (suc (suc (suc (suc zero))))) low high = refl
-console_stands (suc (suc (suc (suc (suc (suc zero)))))) low high = refl
-console_stands (suc (suc (suc (suc (suc (suc (suc zero))))))) low high = refl
-console_stands (suc (suc (suc (suc (suc (suc (suc (suc zero)))))))) low high = refl
-console_stands (suc (suc (suc (suc (suc (suc (suc (suc (suc zero))))))))) low high = refl
-console_stands (suc (suc (suc (suc (suc (suc (suc (suc (suc (suc zero)))))))))) low high = refl
-console_stands (suc (suc (suc (suc (suc (suc (suc (suc (suc (suc (suc zero))))))))))) low high = refl
-console_stands (suc (suc (suc (suc (suc (suc (suc (suc (suc (suc (suc (suc zero)))))))))))) low high = refl
-console_stands (suc (suc (suc (suc (suc (suc (suc (suc (suc (suc (suc (suc (suc zero))))))))))))) low high = refl
-console_stands (suc (suc (suc (suc (suc (suc (suc (suc (suc (suc (suc (suc (suc (suc zero)))))))))))))) low high = refl
-console_stands (suc (suc (suc (suc (suc (suc (suc (suc (suc (suc (suc (suc (suc (suc (suc zero))))))))))))))) low high = refl
-console_stands (suc (suc (suc (suc (suc (suc (suc (suc (suc (suc (suc (suc (suc (suc (suc (suc n)))))))))))))))) low high = absurd (omega arith)
-
--- a test that passes at each number below n
-abbrev pub passes_below : (ℕ → Bool) → ℕ → Bool
-passes_below test zero = true
-passes_below test (suc n) = test n && passes_below test n
-
-not_true : false ≡ true → ⊥
-not_true h = subst (λ b. T (not b)) h tt
-
-left_part : (a b : Bool) → (a && b) ≡ true → a ≡ true
-left_part true b p = refl
-left_part false b p = p
-
-right_part : (a b : Bool) → (a && b) ≡ true → b ≡ true
-right_part true b p = p
-right_part false b p = absurd (not_true p)
-
-abbrev pub beq : Bool → Bool → Bool
-beq true b = b
-beq false b = not b
-
-same : (a b : Bool) → beq a b ≡ true → a ≡ b
-same true true p = refl
-same true false p = sym p
-same false true p = p
-same false false p = refl
-
-passes_below-at : (test : ℕ → Bool) (n k : ℕ) → passes_below test n ≡ true → k < n → test k ≡ true
-passes_below-at test zero k p l = absurd (omega arith)
-passes_below-at test (suc n) k p l = elim (cases_eq k n) [
-  | inl e ↦ ap test e ∙ left_part (test n) (passes_below test n) p
-  | inr d ↦ passes_below-at test n k (right_part (test n) (passes_below test n) p) (omega arith)
-]
+console_stands _ low high = refl
 
 console_bits : (b : ℕ) → b < 32 → bit_of console_image b ≡ (nat_lt b 5 || is_named console_image b)
 unfolding all_opened
-console_bits b l = same (bit_of console_image b) (nat_lt b 5 || is_named console_image b)
-    (passes_below-at (λ k. beq (bit_of console_image k) (nat_lt k 5 || is_named console_image k)) 32 b refl l)
+console_bits b l =
+    let wanted : ℕ → Bool = λ n. nat_lt n 5 || is_named console_image n in
+    let all : map (bit_of console_image) (range_with_len 0 32) ≡ map wanted (range_with_len 0 32) = refl in
+    sym (get_or-map-range_with_len (bit_of console_image) 0 32 b b false l (omega arith)) ∙ ap (λ bits. get_or bits b false) all ∙ get_or-map-range_with_len wanted 0 32 b b false l (omega arith)
 
 flat_rest : (n : ℕ) → slot flat_files (suc (suc (suc n))) ≡ None
 unfolding all_opened
-flat_rest zero = refl
-flat_rest (suc zero) = refl
-flat_rest (suc (suc zero)) = refl
-flat_rest (suc (suc (suc zero))) = refl
-flat_rest (suc (suc (suc (suc zero)))) = refl
-flat_rest (suc (suc (suc (suc (suc zero))))) = refl
-flat_rest (suc (suc (suc (suc (suc (suc zero)))))) = refl
-flat_rest (suc (suc (suc (suc (suc (suc (suc zero))))))) = refl
-flat_rest (suc (suc (suc (suc (suc (suc (suc (suc zero)))))))) = refl
-flat_rest (suc (suc (suc (suc (suc (suc (suc (suc (suc zero))))))))) = refl
-flat_rest (suc (suc (suc (suc (suc (suc (suc (suc (suc (suc zero)))))))))) = refl
-flat_rest (suc (suc (suc (suc (suc (suc (suc (suc (suc (suc (suc zero))))))))))) = refl
-flat_rest (suc (suc (suc (suc (suc (suc (suc (suc (suc (suc (suc (suc zero)))))))))))) = refl
 flat_rest (suc (suc (suc (suc (suc (suc (suc (suc (suc (suc (suc (suc (suc n))))))))))))) = refl
+flat_rest _ = refl
 
 root_places : List (Option Entry)
 root_places =
@@ -180,10 +126,10 @@ flat_nodes (suc (suc (suc n))) = subst (λ o. KeepsNode flat_files (suc (suc (su
 
 flat_reached : (n : ℕ) → IsSome (slot flat_files n) → (path : List ℕ) × (find flat_files 1 path ≡ Some n)
 unfolding all_opened
-flat_reached zero used = absurd (not_true used)
+flat_reached zero used = absurd (false≢true used)
 flat_reached (suc zero) used = ([], refl)
 flat_reached (suc (suc zero)) used = (console_name, refl)
-flat_reached (suc (suc (suc n))) used = absurd (not_true (sym (ap is_some (flat_rest n)) ∙ used))
+flat_reached (suc (suc (suc n))) used = absurd (false≢true (sym (ap is_some (flat_rest n)) ∙ used))
 
 console_rules : KeepsRules flat_files
 unfolding all_opened

@@ -1,6 +1,6 @@
 -- Small cases of programs.
 use Rattle.std.specs.Prelude.{List, None, Some, [], codes, false, is_some, length, option_map, pos, refl, replicate, ℕ, ◌++◌, ◌∷◌, ◌≡◌}
-use Rattle.model_examples.proofs.FlatRows.{bytes_and_end, hi_program, nine_steps}
+use Rattle.model_examples.proofs.FlatRows.{bytes_and_end, hi_program}
 use Rattle.model_examples.proofs.Opened.{all_opened}
 use Rattle.unixmodel.specs.ElfFile.{elf_file, elf_header, program_header}
 use Rattle.unixmodel.specs.Files.{Files, dot, dot_dot}
@@ -9,6 +9,7 @@ use Rattle.unixmodel.specs.Memory.{overwrite, read_bytes, zeros}
 use Rattle.unixmodel.specs.Numbers.{le}
 use Rattle.unixmodel.specs.Plan.{Plan, plan, plan_flat}
 use Rattle.unixmodel.specs.Run.{run}
+use Rattle.unixmodel.specs.declared.event.Event.TheVariants.{Step}
 use Rattle.unixmodel.specs.Start.{flat_files, init_path, start}
 
 abbrev pub numbers_of : Plan → List ℕ
@@ -64,7 +65,7 @@ abbrev pub init_files : Files
 init_files = None ∷ Some (Directory 1 (Some (record { name = dot; number = 1 }) ∷ Some (record { name = dot_dot; number = 1 }) ∷ Some (record { name = codes "init"; number = 2 }) ∷ []))
     ∷ Some (File 1 (elf_file hi_program)) ∷ replicate 13 None
 
-init_run : option_map (λ s. bytes_and_end (run s nine_steps)) (start init_files 27 256) ≡ Some ([], Some (pos 0))
+init_run : option_map (λ s. bytes_and_end (run s (replicate 9 Step))) (start init_files 27 256) ≡ Some ([], Some (pos 0))
 unfolding all_opened
 init_run = refl
 

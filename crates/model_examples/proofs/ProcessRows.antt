@@ -1,5 +1,5 @@
 -- Small cases of processes, memory and frames.
-use Rattle.std.specs.Prelude.{List, None, Option, Some, length, negsuc, pos, refl, [], ℕ, ◌++◌, ◌-◌, ◌^◌, ◌∷◌, ◌≡◌, ℤ}
+use Rattle.std.specs.Prelude.{List, None, Option, Some, length, map, negsuc, pos, refl, [], ℕ, ◌++◌, ◌-◌, ◌^◌, ◌∷◌, ◌≡◌, ℤ}
 use Rattle.unixmodel.specs.declared.event.Event.TheVariants.{Step, Tick}
 use Rattle.unixmodel.specs.declared.process.Mode.TheVariants.{Zombie}
 use Rattle.model_examples.proofs.Opened.{all_opened}
@@ -46,7 +46,7 @@ small_frames : free_after (flat_state 64) small_steps ≡ 54 ∷ 54 ∷ 55 ∷ 5
 unfolding all_opened
 small_frames = refl
 
-large : on_flat 64 (sbrk 225280 ∷ []) ≡ 12288 ∷ []
+large : map (λ bytes. on_flat 64 (sbrk bytes ∷ [])) (225280 ∷ 229376 ∷ []) ≡ (12288 ∷ []) ∷ (minus_one ∷ []) ∷ []
 unfolding all_opened
 large = refl
 
@@ -54,18 +54,10 @@ large_frames : frames_of (ask_all (flat_state 64) (sbrk 225280 ∷ [])) ≡ 64
 unfolding all_opened
 large_frames = refl
 
-too_large : on_flat 64 (sbrk 229376 ∷ []) ≡ minus_one ∷ []
-unfolding all_opened
-too_large = refl
-
 -- 512 pages take one table, 513 two
-second_table : on_flat 519 (sbrk 2084864 ∷ sbrk 4096 ∷ []) ≡ 12288 ∷ minus_one ∷ []
+second_table : map (λ frames. on_flat frames (sbrk 2084864 ∷ sbrk 4096 ∷ [])) (519 ∷ 520 ∷ []) ≡ (12288 ∷ minus_one ∷ []) ∷ (12288 ∷ 2097152 ∷ []) ∷ []
 unfolding all_opened
 second_table = refl
-
-second_table_fits : on_flat 520 (sbrk 2084864 ∷ sbrk 4096 ∷ []) ≡ 12288 ∷ 2097152 ∷ []
-unfolding all_opened
-second_table_fits = refl
 
 abbrev pub sizes_after : State → List Asked → List (ℕ × ℕ)
 sizes_after s [] = []
