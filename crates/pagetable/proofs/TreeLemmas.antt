@@ -9,7 +9,7 @@ use Rattle.frames.specs.declared.Frames.{Frames}
 use Rattle.frames.specs.Free.{among, free_of, free_count, extra_of, further_at, IsFreeList}
 use Rattle.frames.proofs.FreeLemmas.{among_first, among_first_not, free_of-same, further-free, shared-is, IsFreeList-same}
 use Rattle.sv39.specs.Walk.{base, entry_of}
-use Rattle.pagetable.specs.Tree.{table_entry, leaf_entry, child_of, leaf_of, Node, Root, Mid, Low, IsNode, child_at, table_at, leaf_at, low_node, mid_node, lookup_of, IsTableEntry, no_table, a_table, IsLeafMarks, IsLeafEntry, no_leaf, a_leaf, IsEntry, IsTree, Holds, Inserts, Writes, Links, next_node, IsUpper, IsPaged, Keeps, missing, missing_by}
+use Rattle.pagetable.specs.Tree.{table_entry, leaf_entry, child_of, leaf_of, Node, Root, Mid, Low, IsNode, child_at, table_at, leaf_at, low_node, mid_node, lookup_of, IsTableEntry, no_table, a_table, IsLeafEntry, no_leaf, IsEntry, IsTree, Holds, Inserts, Writes, Links, next_node, IsUpper, IsPaged, Keeps, missing, missing_by}
 use Rattle.std.proofs.Math.Nat.{div-div-eq-div-mul}
 use Rattle.std.proofs.lemmas.Nat.{div-mul-add, mod-mul-add}
 use Rattle.std.proofs.lemmas.Bool.{ne_eqb}
@@ -74,8 +74,6 @@ leaf_of-leaf f marks small =
     let low : base + f - base ≡ f = omega arith in
     rw (ne_eqb _ _ some, top, rest, low) refl
 
--- ---- a write to a table of the lowest level
-
 -- two tables of a tree at different places are in different frames
 pub tables_apart : (m : List (List ℕ)) (r : ℕ) → IsTree m r → (x y : Node) (t u : ℕ) → IsNode x → IsNode y → table_at m r x ≡ Some t → table_at m r y ≡ Some u → x ≢ y → t ≢ u
 tables_apart m r is x y t u nx ny ax ay ne e = ne (is.once x y u nx ny (rw (← e) ax) ay)
@@ -85,28 +83,114 @@ pub child_at-same : (m k : List (List ℕ)) (o : Option ℕ) (b : ℕ) → ((v :
 child_at-same m k None b h = refl
 child_at-same m k (Some v) b h = ap child_of (h v refl)
 
-root-write : (m k : List (List ℕ)) (r a b t c e : ℕ) → IsTree m r → IsNode (Low a b) → table_at m r (Low a b) ≡ Some t → Writes m k t c e → (i : ℕ) → entry_of k r i ≡ entry_of m r i
+pub leaf_at-same : (m k : List (List ℕ)) (o : Option ℕ) (i : ℕ) → ((v : ℕ) → o ≡ Some v → entry_of k v i ≡ entry_of m v i) → leaf_at k o i ≡ leaf_at m o i
+leaf_at-same m k None i h = refl
+leaf_at-same m k (Some v) i h = ap leaf_of (h v refl)
+
+-- ---- a tree of which one entry changes
+
+entry-beside : (m k : List (List ℕ)) (t c v i : ℕ) → (i ≢ c → entry_of k t i ≡ entry_of m t i) → (v ≢ t → frame_of k v ≡ frame_of m v) → (v ≢ t) ⊎ (i ≢ c) → entry_of k v i ≡ entry_of m v i
+entry-beside m k t c v i beside others (inl ne) = entry_of-frame m k v i (others ne)
+entry-beside m k t c v i beside others (inr ne) =
+    elim (cases_eq v t) [
+      | inl same ↦ rw same (beside ne)
+      | inr other ↦ entry_of-frame m k v i (others other)
+    ]
+
+-- an entry of the tree after the write
+pub entry-write : (m k : List (List ℕ)) (t c e v i : ℕ) → Writes m k t c e → i < 512 → (v ≢ t) ⊎ (i ≢ c) → entry_of k v i ≡ entry_of m v i
+entry-write m k t c e v i w small = entry-beside m k t c v i (w.beside i small) (w.others v)
+
+-- an entry of a table of the tree after the link
+entry-link : (m k : List (List ℕ)) (t c u v i : ℕ) → Links m k t c u → i < 512 → v ≢ u → (v ≢ t) ⊎ (i ≢ c) → entry_of k v i ≡ entry_of m v i
+entry-link m k t c u v i w small fresh = entry-beside m k t c v i (w.beside i small) (λ ne. w.others v ne fresh)
+
+-- the entries of the tables stay, but for entry c of the table t
+pub record KeepsBut (m k : List (List ℕ)) (r t c : ℕ) : Type 0 where
+  pub entries : (y : Node) (v i : ℕ) → IsNode y → table_at m r y ≡ Some v → i < 512 → (v ≢ t) ⊎ (i ≢ c) → entry_of k v i ≡ entry_of m v i
+
+pub KeepsBut-write : (m k : List (List ℕ)) (r t c e : ℕ) → Writes m k t c e → KeepsBut m k r t c
+KeepsBut-write m k r t c e w = record { entries = λ y v i ny h small ne. entry-write m k t c e v i w small ne }
+
+-- the new table is in no frame of the tree
+KeepsBut-link : (m k : List (List ℕ)) (r t c u : ℕ) → Links m k t c u → ¬ Holds m r u → KeepsBut m k r t c
+KeepsBut-link m k r t c u w new = record {
+  entries = λ y v i ny h small ne. entry-link m k t c u v i w small (λ e. new (record { place = y; is_node = ny; at_place = rw (← e) h })) ne;
+}
+
+-- under a table that is not the root, the root stays
+root-kept : (m k : List (List ℕ)) (r : ℕ) (x : Node) (t c : ℕ) → IsTree m r → KeepsBut m k r t c → IsNode x → table_at m r x ≡ Some t → Root ≢ x → (a : ℕ) → a < 512 → entry_of k r a ≡ entry_of m r a
 unfolding table_at
-root-write m k r a b t c e is node at w i =
-    entry_of-frame m k r i (w.others r (tables_apart m r is Root (Low a b) r t tt node refl at (λ g. cc)))
+root-kept m k r x t c is kept nx at ne a small = kept.entries Root r a tt refl small (inl (tables_apart m r is Root x r t tt nx refl at ne))
+
+-- other tables stay, if the entry leads to no tables but one, before and after
+pub table_at-kept : (m k : List (List ℕ)) (r : ℕ) (x : Node) (t c : ℕ) → IsTree m r → KeepsBut m k r t c → IsNode x → IsUpper x → table_at m r x ≡ Some t
+    → ((b : ℕ) → b < 512 → child_at k (child_of (entry_of k t c)) b ≡ child_at m (child_of (entry_of m t c)) b) → (y : Node) → IsNode y → y ≢ next_node x c → table_at k r y ≡ table_at m r y
+unfolding table_at
+table_at-kept m k r x t c is kept nx up at below Root ny ne = refl
+table_at-kept m k r Root t c is kept nx up at below (Mid a) ny ne = ap child_of (kept.entries Root r a tt refl ny (inr (λ e. ne (ap Mid e))))
+table_at-kept m k r Root t c is kept nx up at below (Low a b) ny ne =
+    let root : r ≡ t = cc in
+    elim (cases_eq a c) [
+      | inl same ↦ rw (same, root) (below b ny.1)
+      | inr other ↦
+          ap (λ o. child_at k (child_of o) b) (kept.entries Root r a tt refl ny.0 (inr other))
+          ∙ child_at-same m k (child_of (entry_of m r a)) b (λ v g. kept.entries (Mid a) v b ny.0 g ny.1 (inl (tables_apart m r is (Mid a) Root v t ny.0 tt g at (λ h. cc))))
+    ]
+table_at-kept m k r (Mid d) t c is kept nx up at below (Mid a) ny ne = ap child_of (root-kept m k r (Mid d) t c is kept nx at (λ g. cc) a ny)
+table_at-kept m k r (Mid d) t c is kept nx up at below (Low a b) ny ne =
+    ap (λ o. child_at k (child_of o) b) (root-kept m k r (Mid d) t c is kept nx at (λ g. cc) a ny.0)
+    ∙ child_at-same m k (child_of (entry_of m r a)) b (λ v g. kept.entries (Mid a) v b ny.0 g ny.1
+    (elim (cases_eq v t) [
+      | inl same ↦
+          let mids : Mid a ≡ Mid d = is.once (Mid a) (Mid d) t ny.0 nx (rw (← same) g) at in
+          inr (λ h. ne cc)
+      | inr other ↦ inl other
+    ]))
+table_at-kept m k r (Low d e) t c is kept nx up at below y ny ne = absurd up
+
+-- what the entry leads to is at the place after x
+pub table_at-next : (m : List (List ℕ)) (r : ℕ) (x : Node) (t c : ℕ) → IsUpper x → table_at m r x ≡ Some t → table_at m r (next_node x c) ≡ child_of (entry_of m t c)
+unfolding table_at
+table_at-next m r Root t c up at = let root : r ≡ t = cc in rw root refl
+table_at-next m r (Mid d) t c up at = ap (λ o. child_at m o c) at
+table_at-next m r (Low d e) t c up at = absurd up
+
+pub next-kept : (m k : List (List ℕ)) (r : ℕ) (x : Node) (t c : ℕ) → IsTree m r → KeepsBut m k r t c → IsNode x → IsUpper x → table_at m r x ≡ Some t → table_at k r (next_node x c) ≡ child_of (entry_of k t c)
+unfolding table_at
+next-kept m k r Root t c is kept nx up at = table_at-next k r Root t c up at
+next-kept m k r (Mid d) t c is kept nx up at = table_at-next k r (Mid d) t c up (ap child_of (root-kept m k r (Mid d) t c is kept nx at (λ g. cc) d nx) ∙ at)
+next-kept m k r (Low d e) t c is kept nx up at = absurd up
+
+pub low_not_upper : (x : Node) (a b : ℕ) → IsUpper x → Low a b ≢ x
+low_not_upper Root a b up e = cc
+low_not_upper (Mid c) a b up e = cc
+low_not_upper (Low c d) a b up e = up
+
+-- what other tables map stays; so does what the one after x maps, if all is as it was there
+pub lookup_of-kept : (m k : List (List ℕ)) (r : ℕ) (x : Node) (t c : ℕ) → IsTree m r → KeepsBut m k r t c → IsNode x → IsUpper x → table_at m r x ≡ Some t
+    → ((y : Node) → IsNode y → y ≢ next_node x c → table_at k r y ≡ table_at m r y)
+    → ((i : ℕ) → i < 512 → leaf_at k (table_at k r (next_node x c)) i ≡ leaf_at m (table_at m r (next_node x c)) i) → (p : ℕ) → lookup_of k r p ≡ lookup_of m r p
+unfolding lookup_of
+lookup_of-kept m k r x t c is kept nx up at others here p =
+    let node : IsNode (low_node p) = (omega arith, omega arith) in
+    elim (cases_node (low_node p) (next_node x c)) [
+      | inl same ↦ ap (λ y. leaf_at k (table_at k r y) (p % 512)) same ∙ here (p % 512) (omega arith) ∙ sym (ap (λ y. leaf_at m (table_at m r y) (p % 512)) same)
+      | inr other ↦
+          ap (λ o. leaf_at k o (p % 512)) (others (low_node p) node other)
+          ∙ leaf_at-same m k (table_at m r (low_node p)) (p % 512) (λ v g. kept.entries (low_node p) v (p % 512) node g (omega arith) (inl (tables_apart m r is (low_node p) x v t node nx g at (low_not_upper x (p / 262144 % 512) (p / 512 % 512) up))))
+    ]
+
+-- ---- a write to a table of the lowest level
 
 pub table_at-write : (m k : List (List ℕ)) (r a b t c e : ℕ) → IsTree m r → IsNode (Low a b) → table_at m r (Low a b) ≡ Some t → Writes m k t c e
     → (x : Node) → IsNode x → table_at k r x ≡ table_at m r x
 unfolding table_at
 table_at-write m k r a b t c e is node at w Root isn = refl
-table_at-write m k r a b t c e is node at w (Mid a') isn = ap child_of (root-write m k r a b t c e is node at w a')
+table_at-write m k r a b t c e is node at w (Mid a') isn = ap child_of (root-kept m k r (Low a b) t c is (KeepsBut-write m k r t c e w) node at (λ g. cc) a' isn)
 table_at-write m k r a b t c e is node at w (Low a' b') isn =
-    ap (λ o. child_at k (child_of o) b') (root-write m k r a b t c e is node at w a')
+    ap (λ o. child_at k (child_of o) b') (root-kept m k r (Low a b) t c is (KeepsBut-write m k r t c e w) node at (λ g. cc) a' isn.0)
     ∙ child_at-same m k (child_of (entry_of m r a')) b' (λ v g. entry_of-frame m k v b' (w.others v (tables_apart m r is (Mid a') (Low a b) v t isn.0 node g at (λ h. cc))))
-
--- an entry of the tree after the write
-pub entry-write : (m k : List (List ℕ)) (t c e v i : ℕ) → Writes m k t c e → i < 512 → (v ≢ t) ⊎ (i ≢ c) → entry_of k v i ≡ entry_of m v i
-entry-write m k t c e v i w small (inl ne) = entry_of-frame m k v i (w.others v ne)
-entry-write m k t c e v i w small (inr ne) =
-    elim (cases_eq v t) [
-      | inl same ↦ rw same (w.beside i small ne)
-      | inr other ↦ entry_of-frame m k v i (w.others v other)
-    ]
 
 pub IsTree-write : (m k : List (List ℕ)) (r a b t c e : ℕ) → IsTree m r → IsNode (Low a b) → table_at m r (Low a b) ≡ Some t → Writes m k t c e → IsLeafEntry (length m) e → IsTree k r
 IsTree-write m k r a b t c e is node at w leaf =
@@ -139,10 +223,6 @@ same_page p q sp sq same low =
     let mid : p / 512 % 512 ≡ q / 512 % 512 = cc in
     omega (arith, split p, split q, high, mid, low, sp, sq)
 
-pub leaf_at-same : (m k : List (List ℕ)) (o : Option ℕ) (i : ℕ) → ((v : ℕ) → o ≡ Some v → entry_of k v i ≡ entry_of m v i) → leaf_at k o i ≡ leaf_at m o i
-leaf_at-same m k None i h = refl
-leaf_at-same m k (Some v) i h = ap leaf_of (h v refl)
-
 pub lookup_of-write_other : (m k : List (List ℕ)) (r page t e p : ℕ) → IsTree m r → table_at m r (low_node page) ≡ Some t → Writes m k t (page % 512) e
     → page < 2 ^ 27 → p < 2 ^ 27 → p ≢ page → lookup_of k r p ≡ lookup_of m r p
 unfolding lookup_of
@@ -158,79 +238,28 @@ lookup_of-write_other m k r page t e p is at w sp sq ne =
       | inr other ↦ inl other
     ]))
 
-pub lookup_of-write_same : (m k : List (List ℕ)) (r page t f marks : ℕ) → IsTree m r → table_at m r (low_node page) ≡ Some t → Writes m k t (page % 512) (leaf_entry f marks)
-    → marks < 1024 → lookup_of k r page ≡ Some (f, marks)
+pub lookup_of-write_same : (m k : List (List ℕ)) (r page t e : ℕ) → IsTree m r → table_at m r (low_node page) ≡ Some t → Writes m k t (page % 512) e → lookup_of k r page ≡ leaf_of e
 unfolding lookup_of
-lookup_of-write_same m k r page t f marks is at w small =
-    let a = page / 262144 % 512 in
-    let b = page / 512 % 512 in
-    let node : IsNode (Low a b) = (omega arith, omega arith) in
-    rw (table_at-write m k r a b t (page % 512) (leaf_entry f marks) is node at w (low_node page) node, at, w.here) (leaf_of-leaf f marks small)
+lookup_of-write_same m k r page t e is at w =
+    let node : IsNode (low_node page) = (omega arith, omega arith) in
+    rw (table_at-write m k r (page / 262144 % 512) (page / 512 % 512) t (page % 512) e is node at w (low_node page) node, at, w.here) refl
 
 -- ---- a new table
-
--- an entry of a table of the tree after the link
-pub entry-link : (m k : List (List ℕ)) (t c u v i : ℕ) → Links m k t c u → i < 512 → v ≢ u → (v ≢ t) ⊎ (i ≢ c) → entry_of k v i ≡ entry_of m v i
-entry-link m k t c u v i w small fresh (inl ne) = entry_of-frame m k v i (w.others v ne fresh)
-entry-link m k t c u v i w small fresh (inr ne) =
-    elim (cases_eq v t) [
-      | inl same ↦ rw same (w.beside i small ne)
-      | inr other ↦ entry_of-frame m k v i (w.others v other fresh)
-    ]
 
 -- an empty table has no tables under it
 child_at-fresh : (k : List (List ℕ)) (u b : ℕ) → entry_of k u b ≡ 0 → child_at k (Some u) b ≡ None
 child_at-fresh k u b e = rw e child_of-zero
 
--- the new table is in no frame of the tree
-fresh_apart : (m : List (List ℕ)) (r u : ℕ) → ¬ Holds m r u → (y : Node) (v : ℕ) → IsNode y → table_at m r y ≡ Some v → v ≢ u
-fresh_apart m r u new y v ny h e = new (record { place = y; is_node = ny; at_place = rw (← e) h })
-
--- under a table that is not the root, the root stays
-root-link : (m k : List (List ℕ)) (r d t c u : ℕ) → IsTree m r → d < 512 → table_at m r (Mid d) ≡ Some t → Links m k t c u → ¬ Holds m r u → (a : ℕ) → a < 512 → entry_of k r a ≡ entry_of m r a
-unfolding table_at
-root-link m k r d t c u is nd at w new a small =
-    entry-link m k t c u r a w small (fresh_apart m r u new Root r tt refl) (inl (tables_apart m r is Root (Mid d) r t tt nd refl at (λ g. cc)))
-
 pub table_at-link_other : (m k : List (List ℕ)) (r : ℕ) (x : Node) (t c u : ℕ) → IsTree m r → IsNode x → IsUpper x → c < 512 → table_at m r x ≡ Some t → Links m k t c u
     → ¬ Holds m r u → table_at m r (next_node x c) ≡ None → (y : Node) → IsNode y → y ≢ next_node x c → table_at k r y ≡ table_at m r y
-unfolding table_at
-table_at-link_other m k r x t c u is nx up sc at w new none Root ny ne = refl
-table_at-link_other m k r Root t c u is nx up sc at w new none (Mid a) ny ne =
-    ap child_of (entry-link m k t c u r a w ny (λ e. new (rw (← e) (record { place = Root; is_node = tt; at_place = refl }))) (inr (λ e. ne (ap Mid e))))
-table_at-link_other m k r Root t c u is nx up sc at w new none (Low a b) ny ne =
-    let root : r ≡ t = cc in
-    elim (cases_eq a c) [
-      | inl same ↦
-          let k_mid : child_of (entry_of k r a) ≡ Some u = rw (same, root, w.here) (child_of-table u) in
-          let m_mid : child_of (entry_of m r a) ≡ None = rw same none in
-          ap (λ o. child_at k o b) k_mid ∙ child_at-fresh k u b (w.fresh b ny.1) ∙ sym (ap (λ o. child_at m o b) m_mid)
-      | inr other ↦
-          ap (λ o. child_at k (child_of o) b) (entry-link m k t c u r a w ny.0 (fresh_apart m r u new Root r tt refl) (inr other))
-          ∙ child_at-same m k (child_of (entry_of m r a)) b (λ v g. entry-link m k t c u v b w ny.1 (fresh_apart m r u new (Mid a) v ny.0 g) (inl (tables_apart m r is (Mid a) Root v t ny.0 tt g at (λ h. cc))))
-    ]
-table_at-link_other m k r (Mid d) t c u is nx up sc at w new none (Mid a) ny ne = ap child_of (root-link m k r d t c u is nx at w new a ny)
-table_at-link_other m k r (Mid d) t c u is nx up sc at w new none (Low a b) ny ne =
-    ap (λ o. child_at k (child_of o) b) (root-link m k r d t c u is nx at w new a ny.0)
-    ∙ child_at-same m k (child_of (entry_of m r a)) b (λ v g. entry-link m k t c u v b w ny.1 (fresh_apart m r u new (Mid a) v ny.0 g)
-    (elim (cases_eq v t) [
-      | inl same ↦
-          let mids : Mid a ≡ Mid d = is.once (Mid a) (Mid d) t ny.0 nx (rw (← same) g) at in
-          inr (λ h. ne cc)
-      | inr other ↦ inl other
-    ]))
-table_at-link_other m k r (Low d e) t c u is nx up sc at w new none (Mid a) ny ne = absurd up
-table_at-link_other m k r (Low d e) t c u is nx up sc at w new none (Low a b) ny ne = absurd up
+table_at-link_other m k r x t c u is nx up sc at w new none =
+    let before : child_of (entry_of m t c) ≡ None = sym (table_at-next m r x t c up at) ∙ none in
+    table_at-kept m k r x t c is (KeepsBut-link m k r t c u w new) nx up at
+    (λ b small. ap (λ o. child_at k o b) (ap child_of w.here ∙ child_of-table u) ∙ child_at-fresh k u b (w.fresh b small) ∙ sym (ap (λ o. child_at m o b) before))
 
 pub table_at-link_same : (m k : List (List ℕ)) (r : ℕ) (x : Node) (t c u : ℕ) → IsTree m r → IsNode x → IsUpper x → c < 512 → table_at m r x ≡ Some t → Links m k t c u
     → ¬ Holds m r u → table_at k r (next_node x c) ≡ Some u
-unfolding table_at
-table_at-link_same m k r Root t c u is nx up sc at w new =
-    let root : r ≡ t = cc in
-    rw (root, w.here) (child_of-table u)
-table_at-link_same m k r (Mid d) t c u is nx up sc at w new =
-    ap (λ o. child_at k o c) (ap child_of (root-link m k r d t c u is nx at w new d nx) ∙ at) ∙ ap child_of w.here ∙ child_of-table u
-table_at-link_same m k r (Low d e) t c u is nx up sc at w new = absurd up
+table_at-link_same m k r x t c u is nx up sc at w new = next-kept m k r x t c is (KeepsBut-link m k r t c u w new) nx up at ∙ ap child_of w.here ∙ child_of-table u
 
 -- a table at a place is the new one, or was there
 link_cases : (m k : List (List ℕ)) (r : ℕ) (x : Node) (t c u : ℕ) → IsTree m r → IsNode x → IsUpper x → c < 512 → table_at m r x ≡ Some t → Links m k t c u
@@ -244,7 +273,7 @@ link_cases m k r x t c u is nx up sc at w new none y v ny h =
       | inr other ↦ inr (sym (table_at-link_other m k r x t c u is nx up sc at w new none y ny other) ∙ h)
     ]
 
-entry_zero : (n : ℕ) (y : Node) → IsEntry n y 0
+pub entry_zero : (n : ℕ) (y : Node) → IsEntry n y 0
 entry_zero n Root = no_table refl
 entry_zero n (Mid a) = no_table refl
 entry_zero n (Low a b) = no_leaf refl
@@ -287,26 +316,12 @@ IsTree-link m k r x t c u is nx up sc at w new none inside =
       ]);
     }
 
-pub low_not_upper : (x : Node) (a b : ℕ) → IsUpper x → Low a b ≢ x
-low_not_upper Root a b up e = cc
-low_not_upper (Mid c) a b up e = cc
-low_not_upper (Low c d) a b up e = up
-
 -- a new table maps nothing
 pub lookup_of-link : (m k : List (List ℕ)) (r : ℕ) (x : Node) (t c u : ℕ) → IsTree m r → IsNode x → IsUpper x → c < 512 → table_at m r x ≡ Some t → Links m k t c u
     → ¬ Holds m r u → table_at m r (next_node x c) ≡ None → (p : ℕ) → lookup_of k r p ≡ lookup_of m r p
-unfolding lookup_of
-lookup_of-link m k r x t c u is nx up sc at w new none p =
-    let node : IsNode (low_node p) = (omega arith, omega arith) in
-    elim (cases_node (low_node p) (next_node x c)) [
-      | inl same ↦
-          ap (λ o. leaf_at k o (p % 512)) (ap (table_at k r) same ∙ table_at-link_same m k r x t c u is nx up sc at w new)
-          ∙ leaf_at-fresh k u (p % 512) (w.fresh (p % 512) (omega arith))
-          ∙ sym (ap (λ o. leaf_at m o (p % 512)) (ap (table_at m r) same ∙ none))
-      | inr other ↦
-          ap (λ o. leaf_at k o (p % 512)) (table_at-link_other m k r x t c u is nx up sc at w new none (low_node p) node other)
-          ∙ leaf_at-same m k (table_at m r (low_node p)) (p % 512) (λ v g. entry-link m k t c u v (p % 512) w (omega arith) (fresh_apart m r u new (low_node p) v node g) (inl (tables_apart m r is (low_node p) x v t node nx g at (low_not_upper x (p / 262144 % 512) (p / 512 % 512) up))))
-    ]
+lookup_of-link m k r x t c u is nx up sc at w new none =
+    lookup_of-kept m k r x t c is (KeepsBut-link m k r t c u w new) nx up at (table_at-link_other m k r x t c u is nx up sc at w new none)
+    (λ i small. ap (λ o. leaf_at k o i) (table_at-link_same m k r x t c u is nx up sc at w new) ∙ leaf_at-fresh k u i (w.fresh i small) ∙ sym (ap (λ o. leaf_at m o i) none))
 
 -- ---- entries that fit
 
@@ -488,14 +503,13 @@ write-stays m k r s x t c e is nx at w v held = w.others v (not_among v t (free_
 pub free_of-write : (m k : List (List ℕ)) (r : ℕ) (s : Frames) (page t e : ℕ) → IsPaged m r s → table_at m r (low_node page) ≡ Some t → Writes m k t (page % 512) e → free_of k s ≡ free_of m s
 free_of-write m k r s page t e is at w = free_of-same m k s (write-stays m k r s (low_node page) t (page % 512) e is (low_is_node page) at w)
 
-pub IsPaged-write : (m k : List (List ℕ)) (r : ℕ) (s : Frames) (page t f marks : ℕ) → IsPaged m r s → table_at m r (low_node page) ≡ Some t → Writes m k t (page % 512) (leaf_entry f marks)
-    → f < length m → IsLeafMarks marks → IsPaged k r s
-IsPaged-write m k r s page t f marks is at w inside good =
+pub IsPaged-write : (m k : List (List ℕ)) (r : ℕ) (s : Frames) (page t e : ℕ) → IsPaged m r s → table_at m r (low_node page) ≡ Some t → Writes m k t (page % 512) e → IsLeafEntry (length m) e
+    → IsPaged k r s
+IsPaged-write m k r s page t e is at w leaf =
     let node = low_is_node page in
-    let e = leaf_entry f marks in
     let stays = table_at-write m k r (page / 262144 % 512) (page / 512 % 512) t (page % 512) e is.tree node at w in
     record {
-      tree = IsTree-write m k r (page / 262144 % 512) (page / 512 % 512) t (page % 512) e is.tree node at w (a_leaf f marks inside good refl);
+      tree = IsTree-write m k r (page / 262144 % 512) (page / 512 % 512) t (page % 512) e is.tree node at w leaf;
       free = IsFreeList-same m k s is.free w.count (write-stays m k r s (low_node page) t (page % 512) e is node at w);
       apart = λ x v nx h. rw (free_of-write m k r s page t e is at w) (is.apart x v nx (sym (stays x nx) ∙ h));
       own = λ x v nx h. is.own x v nx (sym (stays x nx) ∙ h);
@@ -514,7 +528,7 @@ Keeps-write m k r s page t e is at w =
 pub Inserts-write : (m k : List (List ℕ)) (r : ℕ) (page t f marks : ℕ) → IsTree m r → table_at m r (low_node page) ≡ Some t → Writes m k t (page % 512) (leaf_entry f marks)
     → page < 2 ^ 27 → marks < 1024 → Inserts (lookup_of m r) (lookup_of k r) page (f, marks)
 Inserts-write m k r page t f marks is at w small good = record {
-  changed = lookup_of-write_same m k r page t f marks is at w good;
+  changed = lookup_of-write_same m k r page t (leaf_entry f marks) is at w ∙ leaf_of-leaf f marks good;
   others = λ p sp ne. lookup_of-write_other m k r page t (leaf_entry f marks) p is at w small sp ne;
 }
 

@@ -1,57 +1,18 @@
 -- A page that goes.
-use Rattle.std.proofs.Common.{◌≡◌, ◌≢◌, ℕ, ◌+◌, ◌*◌, ◌/◌, ◌%◌, ◌^◌, ◌<◌, ◌⊎◌, inl, inr, List, [], ◌∷◌, Option, Some, None, refl, sym, ap, ◌∙◌, arith}
+use Rattle.std.proofs.Common.{◌≡◌, ◌≢◌, ℕ, ◌+◌, ◌*◌, ◌/◌, ◌%◌, ◌^◌, ◌<◌, ◌⊎◌, inl, inr, List, Option, Some, None, sym, ap, ◌∙◌, arith}
 use Rattle.std.proofs.lemmas.Bool.{cases_eq}
-use Rattle.frames.specs.declared.Frames.{Frames}
-use Rattle.frames.specs.Free.{SameBut}
-use Rattle.frames.proofs.FreeLemmas.{IsFreeList-same}
-use Rattle.ram.specs.Memory.{frame_of}
 use Rattle.sv39.specs.Walk.{entry_of}
-use Rattle.pagetable.specs.Tree.{leaf_of, Node, Mid, Low, IsNode, IsUpper, next_node, table_at, child_at, leaf_at, low_node, mid_node, lookup_of, IsTree, Holds, Writes, no_leaf, IsPaged}
-use Rattle.pagetable.proofs.TreeLemmas.{low_is_node, table_at-write, IsTree-write, free_of-write, write-stays, lookup_of-write_other, leaf_of-zero, leaf_of-some, child_of-some, cases_node}
-use Rattle.pagetable.proofs.Beside.{table_at-same}
-use Rattle.pagetable.proofs.Unlink.{unlink_cases, among_not, table_at-unlink_other, table_at-unlink_same}
+use Rattle.pagetable.specs.Tree.{leaf_of, Node, Mid, Low, IsNode, table_at, child_at, leaf_at, low_node, mid_node, lookup_of, IsTree, Writes}
+use Rattle.pagetable.proofs.TreeLemmas.{lookup_of-write_other, lookup_of-write_same, leaf_of-zero, leaf_of-some, child_of-some, cases_node}
 use Rattle.pagetable.specs.Shape.{IsUsed, IsTidy, Removes}
 
 -- ---- the entry of the page
 
-pub IsPaged-clear : (m k : List (List ℕ)) (r : ℕ) (s : Frames) (page t : ℕ) → IsPaged m r s → table_at m r (low_node page) ≡ Some t → Writes m k t (page % 512) 0 → IsPaged k r s
-IsPaged-clear m k r s page t is at w =
-    let node = low_is_node page in
-    let stays = table_at-write m k r (page / 262144 % 512) (page / 512 % 512) t (page % 512) 0 is.tree node at w in
-    record {
-      tree = IsTree-write m k r (page / 262144 % 512) (page / 512 % 512) t (page % 512) 0 is.tree node at w (no_leaf refl);
-      free = IsFreeList-same m k s is.free w.count (write-stays m k r s (low_node page) t (page % 512) 0 is node at w);
-      apart = λ x v nx h. rw (free_of-write m k r s page t 0 is at w) (is.apart x v nx (sym (stays x nx) ∙ h));
-      own = λ x v nx h. is.own x v nx (sym (stays x nx) ∙ h);
-    }
-
-lookup-clear : (m k : List (List ℕ)) (r page t : ℕ) → IsTree m r → table_at m r (low_node page) ≡ Some t → Writes m k t (page % 512) 0 → lookup_of k r page ≡ None
-unfolding lookup_of
-lookup-clear m k r page t is at w =
-    rw (table_at-write m k r (page / 262144 % 512) (page / 512 % 512) t (page % 512) 0 is (low_is_node page) at w (low_node page) (low_is_node page), at, w.here) leaf_of-zero
-
 pub Removes-clear : (m k : List (List ℕ)) (r page t : ℕ) → IsTree m r → table_at m r (low_node page) ≡ Some t → Writes m k t (page % 512) 0 → page < 2 ^ 27 → Removes (lookup_of m r) (lookup_of k r) page
 Removes-clear m k r page t is at w small = record {
-  changed = lookup-clear m k r page t is at w;
+  changed = lookup_of-write_same m k r page t 0 is at w ∙ leaf_of-zero;
   others = λ p sp ne. lookup_of-write_other m k r page t 0 p is at w small sp ne;
 }
-
--- ---- a table that goes
-
-unlinked-same : (m k l : List (List ℕ)) (r : ℕ) (x : Node) (t c u : ℕ) → IsTree m r → IsNode x → IsNode (next_node x c) → IsUpper x → c < 512 → table_at m r x ≡ Some t → table_at m r (next_node x c) ≡ Some u
-    → ((i : ℕ) → i < 512 → entry_of m u i ≡ 0) → Writes m k t c 0 → SameBut (u ∷ []) k l → (v : ℕ) → Holds k r v → frame_of l v ≡ frame_of k v
-unlinked-same m k l r x t c u is nx nn up sc at below empty w given v h =
-    given.others v (among_not v u [] (unlink_cases m k r x t c u is nx nn up sc at below empty w h.place v h.is_node h.at_place).0 refl)
-
-pub unlinked-beside : (m k l : List (List ℕ)) (r : ℕ) (x : Node) (t c u : ℕ) → IsTree m r → IsNode x → IsNode (next_node x c) → IsUpper x → c < 512 → table_at m r x ≡ Some t → table_at m r (next_node x c) ≡ Some u
-    → ((i : ℕ) → i < 512 → entry_of m u i ≡ 0) → Writes m k t c 0 → SameBut (u ∷ []) k l → (y : Node) → IsNode y → y ≢ next_node x c → table_at l r y ≡ table_at m r y
-unlinked-beside m k l r x t c u is nx nn up sc at below empty w given y ny ne =
-    table_at-same k l r (unlinked-same m k l r x t c u is nx nn up sc at below empty w given) y ny ∙ table_at-unlink_other m k r x t c u is nx up sc at below empty w y ny ne
-
-pub unlinked-gone : (m k l : List (List ℕ)) (r : ℕ) (x : Node) (t c u : ℕ) → IsTree m r → IsNode x → IsNode (next_node x c) → IsUpper x → c < 512 → table_at m r x ≡ Some t → table_at m r (next_node x c) ≡ Some u
-    → ((i : ℕ) → i < 512 → entry_of m u i ≡ 0) → Writes m k t c 0 → SameBut (u ∷ []) k l → table_at l r (next_node x c) ≡ None
-unlinked-gone m k l r x t c u is nx nn up sc at below empty w given =
-    table_at-same k l r (unlinked-same m k l r x t c u is nx nn up sc at below empty w given) (next_node x c) nn ∙ table_at-unlink_same m k r x t c is nx up sc at w
 
 -- ---- no table but the root is empty afterwards
 
