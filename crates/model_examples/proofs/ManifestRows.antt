@@ -36,18 +36,10 @@ empty = refl
 default_blocks : data_blocks_of 2000 200 ≡ 1984
 default_blocks = refl
 
-most_inodes : counted (files_made [] 32 447) ≡ Ok (1, 1)
+made_numbers : map (λ (g : ℕ × ℕ). counted (files_made [] g.0 g.1)) ((32, 447) ∷ (32, 448) ∷ (31, 16) ∷ (16385, 16) ∷ (32, 15) ∷ (16384, 8193) ∷ [])
+    ≡ Ok (1, 1) ∷ replicate 5 (Err Numbers)
 unfolding all_opened
-most_inodes = refl
-
-too_many_inodes : counted (files_made [] 32 448) ≡ Err Numbers
-unfolding all_opened
-too_many_inodes = refl
-
-odd_numbers : map (λ (g : ℕ × ℕ). counted (files_made [] g.0 g.1)) ((31, 16) ∷ (16385, 16) ∷ (32, 15) ∷ (16384, 8193) ∷ [])
-    ≡ replicate 4 (Err Numbers)
-unfolding all_opened
-odd_numbers = refl
+made_numbers = refl
 
 -- ---- blocks: the thirteenth of a file takes two
 
@@ -61,38 +53,23 @@ one_file = refl
 abbrev pub letters : ℕ → List ManifestEntry
 letters n = map (λ k. dir (0x2f ∷ (0x61 + k) ∷ [])) (range_with_len 0 n)
 
-fourteen : small (letters 14) ≡ Ok (15, 15)
+many : map (λ n. small (letters n)) (14 ∷ 15 ∷ []) ≡ Ok (15, 15) ∷ Err Inodes ∷ []
 unfolding all_opened
-fourteen = refl
+many = refl
 
-fifteen : small (letters 15) ≡ Err Inodes
+names : map (λ path. small (dir path ∷ []))
+    (codes "/abcdefghijklmn" ∷ codes "/abcdefghijklmno" ∷ codes "a" ∷ codes "/" ∷ codes "/a/" ∷ codes "//a" ∷ codes "/." ∷ codes "/.." ∷ (0x2f ∷ 0 ∷ []) ∷ [] ∷ [])
+    ≡ Ok (2, 2) ∷ replicate 9 (Err Name)
 unfolding all_opened
-fifteen = refl
+names = refl
 
-bad_names : map (λ path. small (dir path ∷ []))
-    (codes "a" ∷ codes "/" ∷ codes "/a/" ∷ codes "//a" ∷ codes "/." ∷ codes "/.." ∷ codes "/abcdefghijklmno" ∷ (0x2f ∷ 0 ∷ []) ∷ [] ∷ [])
-    ≡ replicate 9 (Err Name)
+-- no parent, one that is a file, and a name twice
+faults : map small ((dir (codes "/a/b") ∷ []) ∷ (file (codes "/a") 1 ∷ dir (codes "/a/b") ∷ []) ∷ (dir (codes "/a") ∷ file (codes "/a") 0 ∷ []) ∷ []) ≡ Err Parent ∷ Err Parent ∷ Err Twice ∷ []
 unfolding all_opened
-bad_names = refl
-
-longest_name : small (dir (codes "/abcdefghijklmn") ∷ []) ≡ Ok (2, 2)
-unfolding all_opened
-longest_name = refl
-
-no_parent : small (dir (codes "/a/b") ∷ []) ≡ Err Parent
-unfolding all_opened
-no_parent = refl
-
-parent_is_a_file : small (file (codes "/a") 1 ∷ dir (codes "/a/b") ∷ []) ≡ Err Parent
-unfolding all_opened
-parent_is_a_file = refl
-
-twice : small (dir (codes "/a") ∷ file (codes "/a") 0 ∷ []) ≡ Err Twice
-unfolding all_opened
-twice = refl
+faults = refl
 
 -- the parent is told before the name that is there already, and that before the numbers that are left
-order : (small (dir (codes "/a") ∷ dir (codes "/b/a") ∷ dir (codes "/a") ∷ []) ∷ small (letters 14 ++ dir (codes "/a") ∷ []) ∷ []) ≡ Err Parent ∷ Err Twice ∷ []
+order : map small ((dir (codes "/a") ∷ dir (codes "/b/a") ∷ dir (codes "/a") ∷ []) ∷ (letters 14 ++ dir (codes "/a") ∷ []) ∷ []) ≡ Err Parent ∷ Err Twice ∷ []
 unfolding all_opened
 order = refl
 

@@ -1,5 +1,5 @@
 -- Small cases of descriptors, pipes and turns.
-use Rattle.std.specs.Prelude.{None, Some, [], length, refl, replicate, unwrap_or, ℕ, ◌++◌, ◌∷◌, ◌≡◌}
+use Rattle.std.specs.Prelude.{None, Option, Some, [], length, refl, replicate, unwrap_or, ℕ, ◌++◌, ◌∷◌, ◌≡◌}
 use Rattle.std.specs.List.{range_with_len}
 use Rattle.model_examples.proofs.FamilyRows.{fork}
 use Rattle.model_examples.proofs.Opened.{all_opened}
@@ -81,13 +81,12 @@ reader_gets = refl
 abbrev pub turned : State → State
 turned s = (run s (Tick ∷ Step ∷ [])).state
 
-writer_ends : runs_with (turned ten_read) ≡ Some 513
+abbrev pub left_with : State → Option ℕ × ℕ
+left_with s = (runs_with s, held_in s)
+
+writer_ends : left_with (turned ten_read) ≡ (Some 513, 503)
 unfolding all_opened
 writer_ends = refl
-
-writer_left : held_in (turned ten_read) ≡ 503
-unfolding all_opened
-writer_left = refl
 
 -- the writer has no read end, and the child closes the last
 abbrev pub broken : State

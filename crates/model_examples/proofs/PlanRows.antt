@@ -1,5 +1,5 @@
 -- Small cases of programs.
-use Rattle.std.specs.Prelude.{List, None, Some, [], codes, false, is_some, length, option_map, pos, refl, replicate, ℕ, ◌++◌, ◌∷◌, ◌≡◌}
+use Rattle.std.specs.Prelude.{List, None, Some, [], codes, false, is_some, length, map, option_map, pos, refl, replicate, ℕ, ◌++◌, ◌∷◌, ◌≡◌}
 use Rattle.model_examples.proofs.FlatRows.{bytes_and_end, hi_program}
 use Rattle.model_examples.proofs.Opened.{all_opened}
 use Rattle.unixmodel.specs.ElfFile.{elf_file, elf_header, program_header}
@@ -30,35 +30,21 @@ same_plan : plan (elf_file hi_program) [] ≡ plan_flat hi_program
 unfolding all_opened
 same_plan = refl
 
--- the longest argument
-longest_argument : option_map numbers_of (plan (elf_file hi_program) (replicate 4079 0x61 ∷ [])) ≡ Some (3 ∷ 12288 ∷ 0 ∷ 1 ∷ 8192 ∷ [])
+-- the longest argument, and one that is too long
+longest_argument : map (λ n. option_map numbers_of (plan (elf_file hi_program) (replicate n 0x61 ∷ []))) (4079 ∷ 4080 ∷ []) ≡ Some (3 ∷ 12288 ∷ 0 ∷ 1 ∷ 8192 ∷ []) ∷ None ∷ []
 unfolding all_opened
 longest_argument = refl
 
-too_long_argument : option_map numbers_of (plan (elf_file hi_program) (replicate 4080 0x61 ∷ [])) ≡ None
-unfolding all_opened
-too_long_argument = refl
-
--- no program header
 abbrev pub header_with : ℕ → ℕ → List ℕ
 header_with phoff phnum = overwrite (overwrite elf_header 32 (le 8 phoff)) 56 (le 2 phnum)
 
-no_segment : option_map numbers_of (plan (header_with 64 0) []) ≡ Some (2 ∷ 8192 ∷ 0 ∷ 0 ∷ 8176 ∷ [])
+-- no program header; too many, or one too far; one byte of the file over no memory
+odd_headers : map (λ file. option_map numbers_of (plan file []))
+    (header_with 64 0 ∷ (header_with 64 65535 ++ program_header 0) ∷ (header_with 0xfffffffffffffff0 1 ++ program_header 0)
+    ∷ (header_with 64 1 ++ overwrite (program_header 1) 40 (le 8 0) ++ zeros 4000) ∷ [])
+    ≡ Some (2 ∷ 8192 ∷ 0 ∷ 0 ∷ 8176 ∷ []) ∷ None ∷ None ∷ None ∷ []
 unfolding all_opened
-no_segment = refl
-
-many_headers : plan (header_with 64 65535 ++ program_header 0) [] ≡ None
-unfolding all_opened
-many_headers = refl
-
-far_headers : plan (header_with 0xfffffffffffffff0 1 ++ program_header 0) [] ≡ None
-unfolding all_opened
-far_headers = refl
-
--- one byte of the file over no memory
-short_memory : plan (header_with 64 1 ++ overwrite (program_header 1) 40 (le 8 0) ++ zeros 4000) [] ≡ None
-unfolding all_opened
-short_memory = refl
+odd_headers = refl
 
 -- /init alone on a disk: it has no descriptors, so it prints nothing, and ends with 0
 abbrev pub init_files : Files

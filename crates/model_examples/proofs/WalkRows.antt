@@ -1,64 +1,41 @@
 -- Small cases of the page-table walk.
 use Rattle.std.specs.Prelude.{Bool, List, None, Option, Some, false, is_some, map, refl, true, [], ℕ, ◌*◌, ◌++◌, ◌+◌, ◌-◌, ◌^◌, ◌∷◌, ◌≡◌}
+use Rattle.unixmodel.specs.declared.trap.Access.{Access}
 use Rattle.unixmodel.specs.declared.trap.Access.TheVariants.{Fetch, Load, Store}
 use Rattle.model_examples.proofs.Opened.{all_opened}
 use Rattle.unixmodel.specs.Memory.{zeros}
 use Rattle.unixmodel.specs.Numbers.{le}
 use Rattle.unixmodel.specs.Translation.{walk, walk_count}
 
-pub record Found : Type 0 where
-  pub place : Option ℕ
-  pub count : ℕ
+-- where an access at an address comes to by the tables from a root, and how many entries were read
+abbrev pub walked : List (List ℕ) → ℕ × ℕ × Access → Option ℕ × ℕ
+walked ram way = (walk ram way.0 way.1 way.2, walk_count ram way.0 way.1 way.2)
 
-abbrev pub found : Option ℕ → ℕ → Found
-found place count = record { place = place; count = count }
-
--- root, two tables and a page, in frames 0 to 3; page 0 is R, W, X, U
 abbrev pub table_with : ℕ → ℕ → List ℕ
 table_with k e = zeros (8 * k) ++ le 8 e ++ zeros (4088 - 8 * k)
 
 abbrev pub entry_to : ℕ → ℕ → ℕ
 entry_to frame bits = (0x80000 + frame) * 2 ^ 10 + bits
 
-abbrev pub small_ram : List (List ℕ)
-small_ram = table_with 0 (entry_to 1 0x01) ∷ table_with 0 (entry_to 2 0x01) ∷ table_with 0 (entry_to 3 0xdf) ∷ zeros 4096 ∷ []
+-- root, two tables and a page, in frames 0 to 3; page 0 has these bits
+abbrev pub ram_with : ℕ → List (List ℕ)
+ram_with bits = table_with 0 (entry_to 1 0x01) ∷ table_with 0 (entry_to 2 0x01) ∷ table_with 0 (entry_to 3 bits) ∷ zeros 4096 ∷ []
 
-first_page : found (walk small_ram 0 0x123 Fetch) (walk_count small_ram 0 0x123 Fetch) ≡ record { place = Some 0x80003123; count = 3 }
+-- page 0, which is R, W, X, U; page 1; another gigabyte; an address that is not canonical; a root outside
+walks : map (walked (ram_with 0xdf)) ((0, 0x123, Fetch) ∷ (0, 0x1000, Load) ∷ (0, 0x40000000, Load) ∷ (0, 0x4000000000, Load) ∷ (9, 0, Load) ∷ [])
+    ≡ (Some 0x80003123, 3) ∷ (None, 3) ∷ (None, 1) ∷ (None, 0) ∷ (None, 0) ∷ []
 unfolding all_opened
-first_page = refl
-
-second_page : found (walk small_ram 0 0x1000 Load) (walk_count small_ram 0 0x1000 Load) ≡ record { place = None; count = 3 }
-unfolding all_opened
-second_page = refl
-
-other_gigabyte : found (walk small_ram 0 0x40000000 Load) (walk_count small_ram 0 0x40000000 Load) ≡ record { place = None; count = 1 }
-unfolding all_opened
-other_gigabyte = refl
-
-not_canonical : found (walk small_ram 0 0x4000000000 Load) (walk_count small_ram 0 0x4000000000 Load) ≡ record { place = None; count = 0 }
-unfolding all_opened
-not_canonical = refl
-
-no_root : found (walk small_ram 9 0 Load) (walk_count small_ram 9 0 Load) ≡ record { place = None; count = 0 }
-unfolding all_opened
-no_root = refl
+walks = refl
 
 -- a leaf at the highest level takes 30 bits of the address as they are
 abbrev pub giant_ram : List (List ℕ)
 giant_ram = table_with 0 (0x80000 * 2 ^ 10 + 0xdf) ∷ zeros 4096 ∷ []
 
-giant_page : found (walk giant_ram 0 0x1005 Store) (walk_count giant_ram 0 0x1005 Store) ≡ record { place = Some 0x80001005; count = 1 }
+giant_walks : map (walked giant_ram) ((0, 0x1005, Store) ∷ (0, 0x2005, Store) ∷ []) ≡ (Some 0x80001005, 1) ∷ (None, 1) ∷ []
 unfolding all_opened
-giant_page = refl
-
-giant_outside : found (walk giant_ram 0 0x2005 Store) (walk_count giant_ram 0 0x2005 Store) ≡ record { place = None; count = 1 }
-unfolding all_opened
-giant_outside = refl
+giant_walks = refl
 
 -- ---- the bits of a leaf: what a fetch, a load and a store at 0x123 of page 0 reach
-
-abbrev pub ram_with : ℕ → List (List ℕ)
-ram_with bits = table_with 0 (entry_to 1 0x01) ∷ table_with 0 (entry_to 2 0x01) ∷ table_with 0 (entry_to 3 bits) ∷ zeros 4096 ∷ []
 
 abbrev pub reached : ℕ → List Bool
 reached bits = map (λ access. is_some (walk (ram_with bits) 0 0x123 access)) (Fetch ∷ Load ∷ Store ∷ [])

@@ -28,17 +28,16 @@ abbrev pub write_one : Asked
 write_one = plain 16 (3 ∷ 8192 ∷ 1 ∷ [])
 
 -- a file of 12288 bytes takes 12 blocks, the root one
-one_block_free : answers_to (at_offset (with_f (flat_state 256) (zeros 12288) 14) 12288) (write_one ∷ []) ≡ minus_one ∷ []
-unfolding all_opened
-one_block_free = refl
+abbrev pub with_blocks : ℕ → State
+with_blocks limit = at_offset (with_f (flat_state 256) (zeros 12288) limit) 12288
 
-one_block_stays : blocks_of (ask_all (at_offset (with_f (flat_state 256) (zeros 12288) 14) 12288) (write_one ∷ [])).files ≡ 13
+blocks_free : map (λ limit. answers_to (with_blocks limit) (write_one ∷ [])) (14 ∷ 15 ∷ []) ≡ (minus_one ∷ []) ∷ (1 ∷ []) ∷ []
+unfolding all_opened
+blocks_free = refl
+
+one_block_stays : blocks_of (ask_all (with_blocks 14) (write_one ∷ [])).files ≡ 13
 unfolding all_opened
 one_block_stays = refl
-
-two_blocks_free : answers_to (at_offset (with_f (flat_state 256) (zeros 12288) 15) 12288) (write_one ∷ []) ≡ 1 ∷ []
-unfolding all_opened
-two_blocks_free = refl
 
 -- ---- the console is open as descriptors 0, 1 and 2
 
