@@ -120,7 +120,7 @@ further-held m s f is some = (
   elim (cases_lt f (length m)) [ inl low ↦ low | inr past ↦ absurd (omega (arith, some, further-past m s f is past)) ],
 )
 
-apart-not : (f : ℕ) (fs : List ℕ) → AllByRecursion (λ y. nat_eq f y ≡ false) fs → among f fs ≡ false
+pub apart-not : (f : ℕ) (fs : List ℕ) → AllByRecursion (λ y. nat_eq f y ≡ false) fs → among f fs ≡ false
 apart-not f [] h = refl
 apart-not f (g ∷ fs) h = rw (h.0) (apart-not f fs h.1)
 

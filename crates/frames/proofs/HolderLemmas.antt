@@ -2,11 +2,11 @@
 use Rattle.std.proofs.Common.{◌≡◌, ◌≢◌, ℕ, zero, suc, ◌+◌, ◌<◌, ◌≤◌, ◌⊎◌, inl, inr, Bool, true, false, nat_eq, List, [], ◌∷◌, ◌++◌, length, refl, sym, ap, ◌∙◌, arith, eq-eqb, ltb, eqb, length-append, get_or, slice_set}
 use Rattle.std.proofs.lemmas.Bool.{cases_eq, cases_lt, le-ltb, lt-ltb, ne_eqb}
 use Rattle.std.proofs.lemmas.List.Sums.{sum_by-cons}
-use Rattle.std.specs.List.{IsDistinct, AllByRecursion, range_with_len, sum_by}
+use Rattle.std.specs.List.{IsDistinct, range_with_len, sum_by}
 use Rattle.ram.specs.Memory.{frame_of}
 use Rattle.frames.specs.declared.Frames.{Frames}
 use Rattle.frames.specs.Free.{among, counted, free_count, free_of, further_at, less_one, extra_of, IsFreeList, SameBut}
-use Rattle.frames.proofs.FreeLemmas.{further-is, further-free, further-past, further-count, shared-is, not_free}
+use Rattle.frames.proofs.FreeLemmas.{apart-not, further-is, further-free, further-past, further-count, shared-is, not_free}
 use Rattle.frames.specs.Holders.{one_if, count_of, holders_of, IsShared, Trades}
 
 pub one_if-le : (b : Bool) → one_if b ≤ 1
@@ -38,15 +38,11 @@ none-among f (x ∷ xs) h = elim (cases_eq f x) [
   | inr other ↦ rw (count_of-other f x xs other) (none-among f xs (rw (ne_eqb f x other) at h))
 ]
 
-apart-none : (f : ℕ) (xs : List ℕ) → AllByRecursion (λ y. nat_eq f y ≡ false) xs → count_of f xs ≡ 0
-apart-none f [] h = refl
-apart-none f (x ∷ xs) h = rw (h.0) (omega (arith, apart-none f xs h.1))
-
 pub distinct-count : (f : ℕ) (xs : List ℕ) → IsDistinct nat_eq xs → count_of f xs ≤ 1
 unfolding IsDistinct
 distinct-count f [] h = omega arith
 distinct-count f (x ∷ xs) h = elim (cases_eq f x) [
-  | inl same ↦ omega (arith, count_of-first f x xs same, ap (λ g. count_of g xs) same, apart-none x xs h.0)
+  | inl same ↦ omega (arith, count_of-first f x xs same, ap (λ g. count_of g xs) same, none-among x xs (apart-not x xs h.0))
   | inr other ↦ rw (count_of-other f x xs other) (distinct-count f xs h.1)
 ]
 

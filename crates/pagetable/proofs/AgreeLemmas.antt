@@ -1,6 +1,7 @@
 -- Lemmas on what `specs/Agree` defines.
-use Rattle.std.proofs.Common.{◌≡◌, ℕ, ◌+◌, ◌-◌, ◌*◌, ◌/◌, ◌%◌, ◌^◌, ◌<◌, ◌≤◌, Bool, true, false, ◌||◌, List, length, Option, Some, None, refl, sym, ap, ◌∙◌, arith, bit_and, eq-eqb, ltb, leb}
+use Rattle.std.proofs.Common.{◌≡◌, ℕ, ◌+◌, ◌-◌, ◌*◌, ◌/◌, ◌%◌, ◌^◌, ◌<◌, ◌≤◌, Bool, true, false, List, length, Option, Some, None, refl, sym, ap, ◌∙◌, arith, bit_and, eq-eqb, ltb, leb}
 use Rattle.std.specs.Prelude.{if◌then◌else◌}
+use Rattle.std.proofs.Math.Bool.{or-true}
 use Rattle.std.proofs.lemmas.Bool.{eqb-true, lt-ltb, le-leb}
 use Rattle.std.proofs.lemmas.Nat.{div-mul-add, mod-mul-add, and_assoc}
 use Rattle.unixmodel.specs.declared.trap.Access.{Access}
@@ -30,10 +31,6 @@ number_of-entry n marks h small =
 high-entry : (n marks : ℕ) → marks < 1024 → n < 2 ^ 44 → (n * 1024 + marks) / 2 ^ 54 ≡ 0
 high-entry n marks h small = omega (arith, small, h)
 
-or_true : (b : Bool) → (b || true) ≡ true
-or_true true = refl
-or_true false = refl
-
 turn_of-table : (t n span : ℕ) (a : Access) → t < n → n ≤ 32768 → turn_of (table_entry t) span a ≡ turn_by true true true true (base + t)
 unfolding is_sound is_table
 turn_of-table t n span a h small =
@@ -50,7 +47,7 @@ turn_of-leaf f n marks a h small good =
     let valid : has marks 1 ≡ true = part_of marks 1 good.1 refl in
     let readable : has marks 2 ≡ true = part_of marks 2 good.1 refl in
     let whole : (base + f) % 1 ≡ 0 = omega arith in
-    rw (number_of-entry (base + f) marks good.0 (omega arith), marks_of-entry (base + f) marks good.0, high-entry (base + f) marks good.0 (omega arith), valid, readable, whole, or_true) refl
+    rw (number_of-entry (base + f) marks good.0 (omega arith), marks_of-entry (base + f) marks good.0, high-entry (base + f) marks good.0 (omega arith), valid, readable, whole, or-true) refl
 
 frame_at-base : (n t : ℕ) → t < n → frame_at n (base + t) ≡ Some t
 frame_at-base n t h =

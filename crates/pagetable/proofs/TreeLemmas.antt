@@ -1,13 +1,13 @@
 -- What writes leave of a page table.
-use Rattle.std.proofs.Common.{◌≡◌, ◌≢◌, ℕ, ◌+◌, ◌-◌, ◌*◌, ◌/◌, ◌%◌, ◌^◌, ◌<◌, ◌≤◌, ◌⊎◌, inl, inr, true, false, nat_eq, List, [], ◌∷◌, length, Option, Some, None, refl, sym, ap, ◌∙◌, arith, slice_set, get_or-set_other, get_or, replicate, length-set}
+use Rattle.std.proofs.Common.{◌≡◌, ◌≢◌, ℕ, ◌+◌, ◌-◌, ◌*◌, ◌/◌, ◌%◌, ◌^◌, ◌<◌, ◌≤◌, ◌⊎◌, inl, inr, true, false, List, [], ◌∷◌, length, Option, Some, None, refl, sym, ap, ◌∙◌, arith, slice_set, get_or-set_other, get_or, replicate, length-set}
 use Rattle.std.proofs.lemmas.Bool.{cases_eq, cases_lt}
 use Rattle.ram.specs.Memory.{frame_of, word_bytes, put, IsMemory}
 use Rattle.ram.proofs.MemoryLemmas.{word_of-frame, word_of-put_same, word_of-put_beside, frame_of-put_other, length-put, length-word_bytes, word_of-put_other, IsMemory-set, word_of-zeros}
 use Rattle.std.proofs.lemmas.List.{length-replicate}
-use Rattle.std.specs.List.{AllByRecursion, IsDistinct}
+use Rattle.std.specs.List.{IsDistinct}
 use Rattle.frames.specs.declared.Frames.{Frames}
 use Rattle.frames.specs.Free.{among, free_of, free_count, extra_of, further_at, IsFreeList}
-use Rattle.frames.proofs.FreeLemmas.{among_first, among_first_not, free_of-same, further-free, shared-is, IsFreeList-same}
+use Rattle.frames.proofs.FreeLemmas.{among_first, apart-not, among_first_not, free_of-same, further-free, shared-is, IsFreeList-same}
 use Rattle.sv39.specs.Walk.{base, entry_of}
 use Rattle.pagetable.specs.Tree.{table_entry, leaf_entry, child_of, leaf_of, Node, Root, Mid, Low, IsNode, child_at, table_at, leaf_at, low_node, mid_node, lookup_of, IsTableEntry, no_table, a_table, IsLeafEntry, no_leaf, IsEntry, IsTree, Holds, Inserts, Writes, Links, next_node, IsUpper, IsPaged, Keeps, missing, missing_by}
 use Rattle.std.proofs.Math.Nat.{div-div-eq-div-mul}
@@ -40,18 +40,13 @@ entry_of-put_other m t i e u j ne = word_of-put_other m t (8 * i) (word_bytes 8 
 
 pub cases_node : (x y : Node) → (x ≡ y) ⊎ (x ≢ y)
 cases_node Root Root = inl refl
-cases_node Root (Mid a) = inr (λ e. cc)
-cases_node Root (Low a b) = inr (λ e. cc)
-cases_node (Mid a) Root = inr (λ e. cc)
 cases_node (Mid a) (Mid c) = elim (cases_eq a c) [ inl e ↦ inl (ap Mid e) | inr ne ↦ inr (λ e. ne cc) ]
-cases_node (Mid a) (Low c d) = inr (λ e. cc)
-cases_node (Low a b) Root = inr (λ e. cc)
-cases_node (Low a b) (Mid c) = inr (λ e. cc)
 cases_node (Low a b) (Low c d) =
     elim (cases_eq a c) [
       | inl e ↦ elim (cases_eq b d) [ inl f ↦ inl cc | inr ne ↦ inr (λ g. ne cc) ]
       | inr ne ↦ inr (λ g. ne cc)
     ]
+cases_node _ _ = inr (λ e. cc)
 
 pub child_of-zero : child_of 0 ≡ None
 unfolding child_of
@@ -409,14 +404,10 @@ Links-put m t c u mem ht hu ne small fits =
 
 -- ---- free frames
 
-absent_from : (f : ℕ) (fs : List ℕ) → AllByRecursion (λ y. nat_eq f y ≡ false) fs → among f fs ≡ false
-absent_from f [] h = refl
-absent_from f (g ∷ fs) h = rw (h.0) (absent_from f fs h.1)
-
 -- the first free frame is one of the memory, and not among the others
 pub free-first : (m : List (List ℕ)) (s : Frames) (f : ℕ) (fs : List ℕ) → IsFreeList m s → free_of m s ≡ f ∷ fs → (f < length m) × (among f fs ≡ false)
 unfolding IsDistinct
-free-first m s f fs is e = (is.inside f (rw e (among_first f fs)), absent_from f fs ((rw e at is.distinct).0))
+free-first m s f fs is e = (is.inside f (rw e (among_first f fs)), apart-not f fs ((rw e at is.distinct).0))
 
 not_among : (f g : ℕ) (fs : List ℕ) → among f fs ≡ true → among g fs ≡ false → f ≢ g
 not_among f g fs held out e = cc (rw e at held)
@@ -488,13 +479,6 @@ Keeps-link m k r s n x t c u is nx up sc at w none e =
         (split v free).1,
       );
     }
-
-pub Keeps-twice : (m k l : List (List ℕ)) (r : ℕ) (s n q : Frames) → Keeps m k r s n → Keeps k l r n q → Keeps m l r s q
-Keeps-twice m k l r s n q a b = record {
-  count = b.count ∙ a.count;
-  others = λ v out free. let next = a.outside v out free in b.others v (next.0) (next.1) ∙ a.others v out free;
-  outside = λ v out free. let next = a.outside v out free in b.outside v (next.0) (next.1);
-}
 
 pub write-stays : (m k : List (List ℕ)) (r : ℕ) (s : Frames) (x : Node) (t c e : ℕ) → IsPaged m r s → IsNode x → table_at m r x ≡ Some t → Writes m k t c e
     → (v : ℕ) → among v (free_of m s) ≡ true → frame_of k v ≡ frame_of m v
