@@ -5,14 +5,13 @@ use Rattle.std.proofs.lemmas.Bool.{ne_eqb}
 use Rattle.std.proofs.lemmas.Bool.Decides.{nat_tests}
 use Rattle.std.proofs.lemmas.List.{get_or-set_other, length-map, length-set, set-get_or}
 use Rattle.std.specs.Option.{option_eq}
-use Rattle.std.proofs.Math.ListN as listn
 use Rattle.kernel.specs.Descriptors.{all_closed, descriptors_in, standing}
 use Rattle.kernel.specs.Holding.{AreHeld, IsInUse, all_dropped, files_on, gone_nodes, home_in, homes_at}
-use Rattle.kernel.proofs.Holding.{AreOldHomes, all-failed, fewer-held, fewer-leaves, fewer-nodes, fewer-used, filed-put, idle-filed, named_in, same-map}
+use Rattle.kernel.proofs.Holding.{AreOldHomes, all-failed, all-set, fewer-held, fewer-leaves, fewer-nodes, fewer-used, filed-put, idle-filed, named_in, same-map, slot-map}
 use Rattle.kernel.specs.Kernel.{Kernel, base, descriptors_at, ended, halted_by, idle, left_as, left_home, lives, loaded, memories, memory_in, on_hart, rest_of, state_of}
 use Rattle.kernel.specs.Sound.{IsKernel, IsMode, IsPlace, IsPlaced, WaitsWell, is_at}
-use Rattle.kernel.proofs.Named.{Leaves, counted-ended, counts-joined, fewer-pipes, files-all_closed, files_on-all_closed, leaves-standing, named_in-append, old-all_closed, opens-all_closed, reap-closed, table-all_closed}
-use Rattle.kernel.proofs.Opens.{opened-put, waits-fewer, waits-set}
+use Rattle.kernel.proofs.Named.{Leaves, counted-ended, counts-joined, fewer-pipes, files-all_closed, files_on-all_closed, leaves-standing, named_in-append, old-all_closed, opens-all_closed, orphan-same, reap-closed, table-all_closed}
+use Rattle.kernel.proofs.Opens.{active-by, active-same, opened-put, waits-fewer, waits-set}
 use Rattle.kernel.proofs.Reaped.{are-away, opened-loaded, used-loaded}
 use Rattle.kernel.proofs.Runs.{IsRun, memory-at, put-with, runs-set, same_or_not, set-twice, slot-other, slot-put, slot-within, state-run, with_process, within-run}
 use Rattle.files.specs.Counts.{one_in}
@@ -41,10 +40,7 @@ use Rattle.unixmodel.specs.State.{State, holds, put_process}
 -- where the process of a place is another one
 pub stands-put : (os : List (Option Process)) (hs : List (Option SpaceView)) (i : ℕ) (o : Option Process) → i < length os → IsPlace o (slot hs i)
     → ((j : ℕ) → IsPlace (slot os j) (slot hs j)) → (j : ℕ) → IsPlace (slot (slice_set os i o) j) (slot hs j)
-stands-put os hs i o short is stands j = elim (same_or_not j i) [
-  | inl same ↦ rw (same, slot-put os i o short) is
-  | inr other ↦ rw (slot-other os i j o other) (stands j)
-]
+stands-put os hs i o short is stands = all-set (λ j x. IsPlace x (slot hs j)) os i o is stands
 
 mode-kept : (s : Spaces) (p : Process) (m : Memory) (mode : Mode) → IsMode p m mode → IsMode (on_hart s p) m mode
 mode-kept s p m Running is = (record { descriptors = is.0.descriptors }, is.1)
@@ -59,34 +55,11 @@ hart-placed s zero' aligned None (Some h) is = is
 hart-placed s zero' aligned (Some p) None is = is
 hart-placed s zero' aligned (Some p) (Some h) is = record { size = is.size; zero = zero'; aligned = aligned; mode = mode-kept s p h.memory p.mode is.mode }
 
-changed-placed : (s : Spaces) → slice_index s.registers 0 ≡ 0 → s.pc % 4 ≡ 0 → (os : List (Option Process)) (hs : List (Option SpaceView)) (i : ℕ) → ((j : ℕ) → IsPlace (slot os j) (slot hs j))
-    → (j : ℕ) → IsPlace (slot (slice_set os i (option_map (on_hart s) (slot os i))) j) (slot hs j)
-changed-placed s z a [] hs i is j = is j
-changed-placed s z a (o ∷ os) hs zero is zero = hart-placed s z a o (slot hs 0) (is 0)
-changed-placed s z a (o ∷ os) hs zero is (suc j) = is (suc j)
-changed-placed s z a (o ∷ os) hs (suc i) is zero = is 0
-changed-placed s z a (o ∷ os) [] (suc i) is (suc j) = changed-placed s z a os [] i (λ b. is (suc b)) j
-changed-placed s z a (o ∷ os) (h ∷ hs) (suc i) is (suc j) = changed-placed s z a os hs i (λ b. is (suc b)) j
-
-active-placed : (k : Kernel) → slice_index k.spaces.registers 0 ≡ 0 → k.spaces.pc % 4 ≡ 0 → (o : Option ℕ) → ((j : ℕ) → IsPlace (slot k.table.places j) (slot k.spaces.places j))
-    → (j : ℕ) → IsPlace (slot (changed_at k.table (on_hart k.spaces) o).places j) (slot k.spaces.places j)
-active-placed k z a None is j = is j
-active-placed k z a (Some i) is j = changed-placed k.spaces z a k.table.places k.spaces.places i is j
-
 pub loaded-placed : (k : Kernel) → IsKernel k → slice_index k.spaces.registers 0 ≡ 0 → k.spaces.pc % 4 ≡ 0 → (j : ℕ) → IsPlace (slot (loaded k).places j) (slot k.spaces.places j)
-loaded-placed k is z a j = active-placed k z a k.spaces.active is.stands j
-
-running-changed : (s : Spaces) (os : List (Option Process)) (i j : ℕ) → holds table.is_running (slot (slice_set os i (option_map (on_hart s) (slot os i))) j) ≡ holds table.is_running (slot os j)
-running-changed s [] i j = refl
-running-changed s (None ∷ os) zero zero = refl
-running-changed s (Some p ∷ os) zero zero = refl
-running-changed s (o ∷ os) zero (suc j) = refl
-running-changed s (o ∷ os) (suc i) zero = refl
-running-changed s (o ∷ os) (suc i) (suc j) = running-changed s os i j
+loaded-placed k is z a = active-by (λ j o. IsPlace o (slot k.spaces.places j)) k (λ j o. hart-placed k.spaces z a o (slot k.spaces.places j)) k.spaces.active is.stands
 
 pub running-active : (k : Kernel) (o : Option ℕ) (j : ℕ) → holds table.is_running (slot (changed_at k.table (on_hart k.spaces) o).places j) ≡ holds table.is_running (slot k.table.places j)
-running-active k None j = refl
-running-active k (Some i) j = running-changed k.spaces k.table.places i j
+running-active k = active-same (holds table.is_running) k (λ p. refl)
 
 pub length-active : (k : Kernel) (o : Option ℕ) → length (changed_at k.table (on_hart k.spaces) o).places ≡ length k.table.places
 length-active k None = refl
@@ -109,37 +82,13 @@ pub slot-idle : (k : Kernel) (at : ℕ) (o : Option ℕ) → option_eq nat_eq o 
 slot-idle k at None other = refl
 slot-idle k at (Some i) other = get_or-set_other k.table.places i at (option_map (on_hart k.spaces) (slot k.table.places i)) None (grind (arith, nat_tests, other))
 
-descriptors-changed : (s : Spaces) (os : List (Option Process)) (i j : ℕ) → descriptors_in (slot (slice_set os i (option_map (on_hart s) (slot os i))) j) ≡ descriptors_in (slot os j)
-descriptors-changed s [] i j = refl
-descriptors-changed s (None ∷ os) zero zero = refl
-descriptors-changed s (Some p ∷ os) zero zero = refl
-descriptors-changed s (o ∷ os) zero (suc j) = refl
-descriptors-changed s (o ∷ os) (suc i) zero = refl
-descriptors-changed s (o ∷ os) (suc i) (suc j) = descriptors-changed s os i j
-
-descriptors-active : (k : Kernel) (o : Option ℕ) (j : ℕ) → descriptors_in (slot (changed_at k.table (on_hart k.spaces) o).places j) ≡ descriptors_at k j
-descriptors-active k None j = refl
-descriptors-active k (Some i) j = descriptors-changed k.spaces k.table.places i j
-
 -- the descriptors are those of the loaded table's process
 pub descriptors-loaded : (k : Kernel) (j : ℕ) (q : Process) → slot (loaded k).places j ≡ Some q → descriptors_at k j ≡ q.descriptors
-descriptors-loaded k j q at = sym (descriptors-active k k.spaces.active j) ∙ ap descriptors_in at
-
-left-changed : (s : Spaces) (os : List (Option Process)) (i j : ℕ) → left_home (slot (slice_set os i (option_map (on_hart s) (slot os i))) j) ≡ left_home (slot os j)
-left-changed s [] i j = refl
-left-changed s (None ∷ os) zero zero = refl
-left-changed s (Some p ∷ os) zero zero = refl
-left-changed s (o ∷ os) zero (suc j) = refl
-left-changed s (o ∷ os) (suc i) zero = refl
-left-changed s (o ∷ os) (suc i) (suc j) = left-changed s os i j
-
-left-active : (k : Kernel) (o : Option ℕ) (j : ℕ) → left_home (slot (changed_at k.table (on_hart k.spaces) o).places j) ≡ left_home (slot k.table.places j)
-left-active k None j = refl
-left-active k (Some i) j = left-changed k.spaces k.table.places i j
+descriptors-loaded k j q at = sym (active-same descriptors_in k (λ p. refl) k.spaces.active j) ∙ ap descriptors_in at
 
 -- and so is the directory
 home-loaded : (k : Kernel) (j : ℕ) (q : Process) → slot (loaded k).places j ≡ Some q → left_home (slot k.table.places j) ≡ q.directory ∷ []
-home-loaded k j q at = sym (left-active k k.spaces.active j) ∙ ap left_home at
+home-loaded k j q at = sym (active-same left_home k (λ p. refl) k.spaces.active j) ∙ ap left_home at
 
 -- ---- the process that ran runs no more
 
@@ -195,20 +144,9 @@ orphan-placed pid (Some p) (Some h) is = elim (nat_eq p.parent pid) as (λ b. Is
   | false ↦ is
 ]
 
-orphan-runs : (pid : ℕ) (o : Option Process) → holds table.is_running (option_map (orphaned pid) o) ≡ holds table.is_running o
-orphan-runs pid None = refl
-orphan-runs pid (Some p) = elim (nat_eq p.parent pid) as (λ b. table.is_running (if b then record p { parent = 1 } else p) ≡ table.is_running p) [ true ↦ refl | false ↦ refl ]
-
 orphan-waits : (opens : List (Option Counted)) (pid : ℕ) (o : Option Process) → WaitsWell opens o → WaitsWell opens (option_map (orphaned pid) o)
 orphan-waits opens pid None is = tt
 orphan-waits opens pid (Some p) is = elim (nat_eq p.parent pid) as (λ b. WaitsWell opens (Some (if b then record p { parent = 1 } else p))) [ true ↦ is | false ↦ is ]
-
-orphan-home : (pid : ℕ) (o : Option Process) → home_in (option_map (orphaned pid) o) ≡ home_in o
-orphan-home pid None = refl
-orphan-home pid (Some p) = elim (nat_eq p.parent pid) as (λ b. home_in (Some (if b then record p { parent = 1 } else p)) ≡ home_in (Some p)) [ true ↦ refl | false ↦ refl ]
-
-pub slot-map : (f : Process → Process) (os : List (Option Process)) (j : ℕ) → slot (map (option_map f) os) j ≡ option_map f (slot os j)
-slot-map f os j = listn.get_or-map (option_map f) os j None
 
 -- the end of process q, which the loaded table has in place i
 pub ended-made : (k : Kernel) (i : ℕ) (q : Process) (status : ℤ) → slot (loaded k).places i ≡ Some q → halted_by (slot k.table.places i) ≡ halted_by (Some q)
@@ -276,7 +214,7 @@ module _ (k : Kernel) (is : IsKernel k) (z : slice_index k.spaces.registers 0 �
   orphans-placed j = rw (slot-map (orphaned q.pid) (loaded k).places j) (orphan-placed q.pid (slot (loaded k).places j) (slot k.spaces.places j) (loaded-placed k is z a j))
 
   orphans-run : (j : ℕ) → holds table.is_running (slot orphans j) ≡ is_at j k.spaces.active
-  orphans-run j = rw (slot-map (orphaned q.pid) (loaded k).places j) (orphan-runs q.pid (slot (loaded k).places j) ∙ running-active k k.spaces.active j ∙ is.runs j)
+  orphans-run j = rw (slot-map (orphaned q.pid) (loaded k).places j) (orphan-same (holds table.is_running) q.pid (λ p. refl) (slot (loaded k).places j) ∙ running-active k k.spaces.active j ∙ is.runs j)
 
   orphans-wait : (j : ℕ) → WaitsWell k.files (slot orphans j)
   orphans-wait j = rw (slot-map (orphaned q.pid) (loaded k).places j) (orphan-waits k.files q.pid (slot (loaded k).places j) ((opened-loaded k is).waits j))
@@ -293,13 +231,16 @@ module _ (k : Kernel) (is : IsKernel k) (z : slice_index k.spaces.registers 0 �
     go true e = absurd (let bad : false ≡ true = sym (ap not e) ∙ alive in cc)
     go false e = refl
 
+  orphan-home : (o : Option Process) → home_in (option_map (orphaned q.pid) o) ≡ home_in o
+  orphan-home = orphan-same home_in q.pid (λ p. refl)
+
   orphan-homes : (m : ℕ) → homes_at orphans m ≡ homes_at (loaded k).places m
-  orphan-homes m = same-map (λ o. one_in m (home_in o)) (orphaned q.pid) (λ o. ap (one_in m) (orphan-home q.pid o)) (loaded k).places
+  orphan-homes m = same-map (λ o. one_in m (home_in o)) (orphaned q.pid) (λ o. ap (one_in m) (orphan-home o)) (loaded k).places
 
   pub nodes-counted : (m : ℕ) → files_on left m + homes_at (put orphans i gone) m + named_in nodes m ≡ files_on k.files m + homes_at (loaded k).places m
   nodes-counted m =
       let sums = sum_by-set (λ o. one_in m (home_in o)) orphans i (Some gone) None short in
-      let was : one_in m (home_in (slot orphans i)) ≡ one_in m (Some q.directory) = ap (one_in m) (ap home_in (slot-map (orphaned q.pid) (loaded k).places i) ∙ orphan-home q.pid (slot (loaded k).places i) ∙ ap home_in there ∙ home-here) in
+      let was : one_in m (home_in (slot orphans i)) ≡ one_in m (Some q.directory) = ap (one_in m) (ap home_in (slot-map (orphaned q.pid) (loaded k).places i) ∙ orphan-home (slot (loaded k).places i) ∙ ap home_in there ∙ home-here) in
       let last : named_in (q.directory ∷ []) m ≡ one_in m (Some q.directory) = sum_by-cons (one_at m) q.directory [] ∙ omega arith in
       omega (arith, files_on-all_closed k.files q.descriptors m, named_in-append (gone_nodes k.files q.descriptors) (q.directory ∷ []) m, sums, was, last, orphan-homes m)
 
@@ -307,7 +248,7 @@ module _ (k : Kernel) (is : IsKernel k) (z : slice_index k.spaces.registers 0 �
   old-homes j d at = elim (same_or_not j i) [
     | inl same ↦ absurd (none-some d (ap home_in (sym (slot-put orphans i (Some gone) short)) ∙ ap (λ n. home_in (slot (put orphans i gone) n)) (sym same) ∙ at))
     | inr other ↦
-        sym (orphan-home q.pid (slot (loaded k).places j))
+        sym (orphan-home (slot (loaded k).places j))
         ∙ ap home_in (sym (slot-map (orphaned q.pid) (loaded k).places j))
         ∙ ap home_in (sym (slot-other orphans i j (Some gone) other))
         ∙ at

@@ -1,7 +1,8 @@
 -- Who holds the nodes of the disk: what comes of processes, open files and nodes that change.
 use Rattle.std.proofs.Common.{◌≡◌, ◌≢◌, ℕ, zero, suc, ◌+◌, ◌-◌, ◌<◌, ◌≤◌, Bool, true, false, cond, List, [], ◌∷◌, length, map, Option, Some, None, inl, inr, refl, ap, ap₂, sym, subst, ◌∙◌, arith}
-use Rattle.std.specs.Prelude.{IfSome, nat_lt, option_map, slice_set, sum_by, ◌||◌, ◌==◌}
+use Rattle.std.specs.Prelude.{IfSome, nat_lt, option_map, slice_set, sum_by, unwrap_or, ◌||◌, ◌==◌}
 use Rattle.std.specs.List.{list_any}
+use Rattle.std.proofs.Math.ListN.{get_or-map}
 use Rattle.std.proofs.lemmas.Bool.{cases_eq, cases_lt, lt-ltb, ltb-true, or_left, or_right}
 use Rattle.std.proofs.lemmas.Bool.Decides.{nat_tests}
 use Rattle.std.proofs.lemmas.List.{get_or-set_other, get_or-set_same}
@@ -37,7 +38,23 @@ use Rattle.unixmodel.specs.Process.{is_zombie_mode}
 use Rattle.unixmodel.specs.Reap.{is_used, kept, without_nodes}
 use Rattle.unixmodel.specs.State.{State}
 
+-- ---- what holds of each place
+
+pub slot-map : {X : Type 0} (f : X → X) (xs : List (Option X)) (j : ℕ) → slot (map (option_map f) xs) j ≡ option_map f (slot xs j)
+slot-map f xs j = get_or-map (option_map f) xs j None
+
+-- one place has another one
+pub all-set : {X : Type 0} (P : ℕ → Option X → Type 0) (xs : List (Option X)) (i : ℕ) (o : Option X) → P i o → ((j : ℕ) → P j (slot xs j)) → (j : ℕ) → P j (slot (slice_set xs i o) j)
+all-set P [] i o here is j = is j
+all-set P (x ∷ xs) zero o here is zero = here
+all-set P (x ∷ xs) zero o here is (suc j) = is (suc j)
+all-set P (x ∷ xs) (suc i) o here is zero = is 0
+all-set P (x ∷ xs) (suc i) o here is (suc j) = all-set (λ n. P (suc n)) xs i o here (λ n. is (suc n)) j
+
 -- ---- sums over places
+
+pub one_at-self : (n : ℕ) → one_at n n ≡ 1
+one_at-self n = grind (arith, nat_tests)
 
 module _ {X : Type 0} (f : Option X → ℕ) where
   -- a place counts as much as before
@@ -61,57 +78,44 @@ module _ {X : Type 0} (f : Option X → ℕ) where
 
 module _ (P : ℕ → Type 0) where
   pub homes-set : (os : List (Option Process)) (i : ℕ) (o : Option Process) → IfSome (home_in o) P → ((j : ℕ) → IfSome (home_in (slot os j)) P) → (j : ℕ) → IfSome (home_in (slot (slice_set os i o) j)) P
-  homes-set [] i o here is j = is j
-  homes-set (x ∷ os) zero o here is zero = here
-  homes-set (x ∷ os) zero o here is (suc j) = is (suc j)
-  homes-set (x ∷ os) (suc i) o here is zero = is 0
-  homes-set (x ∷ os) (suc i) o here is (suc j) = homes-set os i o here (λ b. is (suc b)) j
+  homes-set os i o here is = all-set (λ j x. IfSome (home_in x) P) os i o here is
 
   homes-map : (g : Process → Process) → ((o : Option Process) → home_in (option_map g o) ≡ home_in o) → (os : List (Option Process)) → ((j : ℕ) → IfSome (home_in (slot os j)) P) → (j : ℕ) → IfSome (home_in (slot (map (option_map g) os) j)) P
-  homes-map g same [] is j = is j
-  homes-map g same (o ∷ os) is zero = subst (λ h. IfSome h P) (sym (same o)) (is 0)
-  homes-map g same (o ∷ os) is (suc j) = homes-map g same os (λ b. is (suc b)) j
+  homes-map g same os is j = subst (λ h. IfSome h P) (sym (ap home_in (slot-map g os j) ∙ same (slot os j))) (is j)
 
 module _ {t : FileTree} {opens : List (Option Counted)} {os : List (Option Process)} (is : IsInUse t opens os) where
-  -- a process works where it did
-  pub used-put : (i : ℕ) (o : Option Process) → home_in o ≡ home_in (slot os i) → IsInUse t opens (slice_set os i o)
-  used-put i o same = record {
+  -- other open files and processes hold each node as often
+  pub used-by : (new : List (Option Counted)) (after : List (Option Process)) → ((n : ℕ) → files_on opens n + homes_at os n ≡ files_on new n + homes_at after n)
+      → ((k : ℕ) (c : Counted) → slot new k ≡ Some c → FitsNode c.file c.file.target (node_of t.files (node_on c.file.target))) → ((j : ℕ) → IfSome (home_in (slot after j)) (λ d. IsFolder (slot t.files d))) → IsInUse t new after
+  used-by new after same fits homes = record {
     rules = is.rules;
     zero = is.zero;
     within = is.within;
-    holds = λ n. is.holds n ∙ ap (λ m. files_on opens n + m) (sym (same-set (λ x. one_in n (home_in x)) os i o (ap (one_in n) same)));
+    holds = λ n. is.holds n ∙ same n;
     held = is.held;
-    fits = is.fits;
-    homes = homes-set (λ d. IsFolder (slot t.files d)) os i o (subst (λ h. IfSome h (λ d. IsFolder (slot t.files d))) (sym same) (is.homes i)) is.homes;
+    fits = fits;
+    homes = homes;
   }
+
+  -- a process works where it did
+  pub used-put : (i : ℕ) (o : Option Process) → home_in o ≡ home_in (slot os i) → IsInUse t opens (slice_set os i o)
+  used-put i o same =
+      used-by opens (slice_set os i o) (λ n. ap (λ m. files_on opens n + m) (sym (same-set (λ x. one_in n (home_in x)) os i o (ap (one_in n) same)))) is.fits
+      (homes-set (λ d. IsFolder (slot t.files d)) os i o (subst (λ h. IfSome h (λ d. IsFolder (slot t.files d))) (sym same) (is.homes i)) is.homes)
 
   -- all do
   pub used-map : (g : Process → Process) → ((o : Option Process) → home_in (option_map g o) ≡ home_in o) → IsInUse t opens (map (option_map g) os)
-  used-map g same = record {
-    rules = is.rules;
-    zero = is.zero;
-    within = is.within;
-    holds = λ n. is.holds n ∙ ap (λ m. files_on opens n + m) (sym (same-map (λ x. one_in n (home_in x)) g (λ o. ap (one_in n) (same o)) os));
-    held = is.held;
-    fits = is.fits;
-    homes = homes-map (λ d. IsFolder (slot t.files d)) g same os is.homes;
-  }
+  used-map g same =
+      used-by opens (map (option_map g) os) (λ n. ap (λ m. files_on opens n + m) (sym (same-map (λ x. one_in n (home_in x)) g (λ o. ap (one_in n) (same o)) os))) is.fits
+      (homes-map (λ d. IsFolder (slot t.files d)) g same os is.homes)
 
   -- the nodes that are held are there
   none-on : (n : ℕ) → slot t.files n ≡ None → files_on opens n ≡ 0
   none-on n gone = go opens is.fits where
     off : (f : OpenFile) (on : Target) → FitsNode f on (node_of t.files (node_on on)) → one_in n (node_on on) ≡ 0
     off f (target.Pipe pipe e) fits = refl
-    off f (target.File number offset) fits = elim (cases_eq n number) [
-      | inl same ↦ absurd (subst (FitsNode f (target.File number offset)) (ap (slot t.files) (sym same) ∙ gone) fits)
-      | inr other ↦ grind (arith, nat_tests)
-    ]
-    off f (target.Console number) fits = elim (cases_eq n number) [
-      | inl same ↦ absurd (subst (FitsNode f (target.Console number)) (ap (slot t.files) (sym same) ∙ gone) fits)
-      | inr other ↦ grind (arith, nat_tests)
-    ]
-    off f (target.Device number) fits = elim (cases_eq n number) [
-      | inl same ↦ absurd (subst (FitsNode f (target.Device number)) (ap (slot t.files) (sym same) ∙ gone) fits)
+    off f on fits = elim (cases_eq n (unwrap_or (node_on on) 0)) [
+      | inl same ↦ absurd (subst (FitsNode f on) (ap (slot t.files) (sym same) ∙ gone) fits)
       | inr other ↦ grind (arith, nat_tests)
     ]
 
@@ -141,15 +145,7 @@ module _ {t : FileTree} {opens : List (Option Counted)} {os : List (Option Proce
 module _ {t : FileTree} {opens : List (Option Counted)} {os : List (Option Process)} (is : IsInUse t opens os) where
   -- as many are on each node
   pub used-files : (new : List (Option Counted)) → ((n : ℕ) → files_on new n ≡ files_on opens n) → ((k : ℕ) (c : Counted) → slot new k ≡ Some c → FitsNode c.file c.file.target (node_of t.files (node_on c.file.target))) → IsInUse t new os
-  used-files new same fits = record {
-    rules = is.rules;
-    zero = is.zero;
-    within = is.within;
-    holds = λ n. is.holds n ∙ ap (λ m. m + homes_at os n) (sym (same n));
-    held = is.held;
-    fits = fits;
-    homes = is.homes;
-  }
+  used-files new same fits = used-by is new os (λ n. ap (λ m. m + homes_at os n) (sym (same n))) fits is.homes
 
   -- one descriptor more names an open file
   pub used-shared : (i : ℕ) → IsInUse t (shared opens i) os
@@ -215,10 +211,8 @@ lt-one true = refl
 lt-one false = refl
 
 node-same : (n : ℕ) (on : Target) → is_node n (target_of on) ≡ nat_lt 0 (one_in n (node_on on))
-node-same n (target.File number offset) = sym (lt-one (number == n))
-node-same n (target.Console number) = sym (lt-one (number == n))
-node-same n (target.Device number) = sym (lt-one (number == n))
 node-same n (target.Pipe pipe e) = refl
+node-same n on = sym (lt-one (unwrap_or (node_on on) 0 == n))
 
 any-files : (n : ℕ) (opens : List (Option Counted)) → list_any (λ (f : unix_files.OpenFile). is_node n f.target) (taken (opens_of opens)) ≡ nat_lt 0 (files_on opens n)
 any-files n [] = refl
@@ -322,7 +316,7 @@ module _ (t : FileTree) (n : ℕ) (some : 1 ≤ holders t.holds n) where
   -- how many hold node m then
   count-after : (m : ℕ) → holders (without_hold t.holds n) m + one_at m n ≡ holders t.holds m
   count-after m = elim (cases_eq m n) [
-    | inl same ↦ (let one : one_at m n ≡ 1 = grind (arith, nat_tests) in rw same (let self : one_at n n ≡ 1 = grind (arith, nat_tests) in omega (arith, here-after, self)))
+    | inl same ↦ rw same (omega (arith, here-after, one_at-self n))
     | inr other ↦ (let none : one_at m n ≡ 0 = grind (arith, nat_tests) in omega (arith, other-after m other, none))
   ]
 
@@ -382,7 +376,7 @@ abbrev pub AreFew : List ℕ → List ℕ → Type 0
 AreFew holds ns = (m : ℕ) → named_in ns m ≤ holders holds m
 
 first-few : (holds : List ℕ) (n : ℕ) (ns : List ℕ) → AreFew holds (n ∷ ns) → 1 ≤ holders holds n
-first-few holds n ns few = let self : one_at n n ≡ 1 = grind (arith, nat_tests) in omega (arith, few n, sum_by-cons (one_at n) n ns, self)
+first-few holds n ns few = omega (arith, few n, sum_by-cons (one_at n) n ns, one_at-self n)
 
 some-node : (o : Option Node) → o ≢ None → (node : Node) × (o ≡ Some node)
 some-node None there = absurd (there refl)
@@ -495,9 +489,7 @@ module _ {t : FileTree} {opens : List (Option Counted)} {os : List (Option Proce
 
   node-stays : (f : OpenFile) (on : Target) → ((n : ℕ) → node_on on ≡ Some n → slot now.files n ≡ slot t.files n) → FitsNode f on (node_of t.files (node_on on)) → FitsNode f on (node_of now.files (node_on on))
   node-stays f (target.Pipe pipe e) same fits = tt
-  node-stays f (target.File number offset) same fits = subst (FitsNode f (target.File number offset)) (sym (same number refl)) fits
-  node-stays f (target.Console number) same fits = subst (FitsNode f (target.Console number)) (sym (same number refl)) fits
-  node-stays f (target.Device number) same fits = subst (FitsNode f (target.Device number)) (sym (same number refl)) fits
+  node-stays f on same fits = subst (FitsNode f on) (sym (same (unwrap_or (node_on on) 0) refl)) fits
 
   home-stays : (j : ℕ) (h : Option ℕ) → home_in (slot after j) ≡ h → IfSome h (λ d. IsFolder (slot now.files d))
   home-stays j None at = tt

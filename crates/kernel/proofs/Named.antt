@@ -1,17 +1,16 @@
 -- The open files and the pipes keep what holds of them where descriptors come and go, and what is left of them is what
 -- the abstract Unix leaves.
 use Rattle.tree.specs.Tree.{FileTree}
-use Rattle.std.proofs.Common.{append_assoc, Bool, List, None, Option, Some, [], ap, arith, cond, false, inl, inr, length, refl, subst, suc, sym, true, zero, ℕ, ℤ, ◌+◌, ◌-◌, ◌++◌, ◌<◌, ◌≡◌, ◌≤◌, ◌∙◌, ◌∷◌}
-use Rattle.std.specs.Prelude.{drop, is_some, map, option_and_then, option_map, slice_index_or, slice_set, ◌==◌}
+use Rattle.std.proofs.Common.{drop-cons, eq-eqb, append_assoc, Bool, List, None, Option, Some, [], ap, arith, cond, false, inl, inr, length, refl, subst, suc, sym, true, ℕ, ℤ, ◌+◌, ◌-◌, ◌++◌, ◌<◌, ◌≡◌, ◌≤◌, ◌∙◌, ◌∷◌}
+use Rattle.std.specs.Prelude.{drop, is_some, map, option_and_then, option_map, slice_set, ◌==◌}
 use Rattle.std.proofs.lemmas.Bool.{cases_eq, cases_lt}
 use Rattle.std.proofs.lemmas.Option.{none-some, same_Some}
-use Rattle.std.proofs.lemmas.Bool.Decides.{nat_tests}
-use Rattle.std.proofs.lemmas.List.{get_or-set_other, get_or-set_same, length-append, length-map, set-get_or}
+use Rattle.std.proofs.lemmas.List.{get_or-set_other, get_or-set_same, get_or_past, length-append, length-map, set-get_or}
 use Rattle.std.proofs.lemmas.List.Sums.{sum_by-cons, sum_by-set}
-use Rattle.std.proofs.Math.ListN as listn
 use Rattle.kernel.specs.Descriptors.{IsCounted, after_close, all_closed, all_shared, closed_in, named_by, names_in, shared_in, standing}
 use Rattle.kernel.proofs.Opens.{count-joined, file-shared}
-use Rattle.kernel.proofs.Holding.{AreOld, named_in, used-shared}
+use Rattle.kernel.proofs.Holding.{AreOld, named_in, one_at-self, same-map, slot-map, used-shared}
+use Rattle.names.proofs.Finding.{slot-within}
 use Rattle.kernel.specs.Holding.{IsInUse, files_on, gone_nodes, last_node, listed, node_in, node_on}
 use Rattle.files.specs.Counts.{names, one_in}
 use Rattle.files.proofs.CountsLemmas.{Counts, count-closed, count-shared, lt-no, lt-yes, names-none, one_at}
@@ -36,11 +35,6 @@ use Rattle.unixmodel.specs.OpenFiles.Target.{OnPipe}
 use Rattle.unixmodel.specs.Reap.{reap, without_nodes, without_pipes}
 use Rattle.unixmodel.specs.State.{State}
 
-slot-within : {X : Type 0} (xs : List (Option X)) (i : ℕ) (x : X) → slot xs i ≡ Some x → i < length xs
-slot-within [] i x at = absurd (let bad : None ≡ Some x = at in cc)
-slot-within (y ∷ xs) zero x at = omega arith
-slot-within (y ∷ xs) (suc i) x at = omega (arith, slot-within xs i x at)
-
 -- ---- descriptors that a table counts
 
 -- each open file is counted as often as these descriptors name it, or oftener
@@ -49,9 +43,6 @@ AreNamed t ds = (n : ℕ) → names n ds ≤ count_at t n
 
 names-cons : (n : ℕ) (d : Option ℕ) (ds : List (Option ℕ)) → names n (d ∷ ds) ≡ one_in n d + names n ds
 names-cons n d ds = sum_by-cons (one_in n) d ds
-
-one_at-self : (n : ℕ) → one_at n n ≡ 1
-one_at-self n = grind (arith, nat_tests)
 
 pub first-named : (t : List (Option Counted)) (n : ℕ) (ds : List (Option ℕ)) → AreNamed t (Some n ∷ ds) → 0 < count_at t n
 first-named t n ds are = omega (arith, are n, names-cons n (Some n) ds, one_at-self n)
@@ -78,36 +69,24 @@ count-all_shared t (d ∷ ds) are n =
     let rest = count-all_shared (shared_in t d) ds (named-share t d ds are) n in
     omega (arith, rest, names-cons n d ds, count-share t d ds are n)
 
-table-share : (t : List (Option Counted)) (d : Option ℕ) → IsTable t → IsTable (shared_in t d)
-table-share t None is = is
-table-share t (Some n) is = table-shared t n is
+kept-all_shared : (P : List (Option Counted) → Type 0) → ((t : List (Option Counted)) (n : ℕ) → P t → P (shared t n)) → (t : List (Option Counted)) (ds : List (Option ℕ)) → P t → P (all_shared t ds)
+kept-all_shared P step t [] is = is
+kept-all_shared P step t (None ∷ ds) is = kept-all_shared P step t ds is
+kept-all_shared P step t (Some n ∷ ds) is = kept-all_shared P step (shared t n) ds (step t n is)
 
 pub table-all_shared : (t : List (Option Counted)) (ds : List (Option ℕ)) → IsTable t → IsTable (all_shared t ds)
-table-all_shared t [] is = is
-table-all_shared t (d ∷ ds) is = table-all_shared (shared_in t d) ds (table-share t d is)
-
-opens-share : (t : List (Option Counted)) (d : Option ℕ) → opens_of (shared_in t d) ≡ opens_of t
-opens-share t None = refl
-opens-share t (Some n) = opens-shared t n
-
-file-share : (t : List (Option Counted)) (d : Option ℕ) (n : ℕ) → file_at (shared_in t d) n ≡ file_at t n
-file-share t None n = refl
-file-share t (Some i) n = file-shared t i n
+table-all_shared t ds is = kept-all_shared IsTable table-shared t ds is
 
 pub file-all_shared : (t : List (Option Counted)) (ds : List (Option ℕ)) (n : ℕ) → file_at (all_shared t ds) n ≡ file_at t n
-file-all_shared t [] n = refl
-file-all_shared t (d ∷ ds) n = file-all_shared (shared_in t d) ds n ∙ file-share t d n
+file-all_shared t ds n = kept-all_shared (λ u. file_at u n ≡ file_at t n) (λ u i same. file-shared u i n ∙ same) t ds refl
 
 -- they are in use as before
 pub used-all_shared : {t : FileTree} (opens : List (Option Counted)) {os : List (Option Process)} (ds : List (Option ℕ)) → IsInUse t opens os → IsInUse t (all_shared opens ds) os
-used-all_shared opens [] is = is
-used-all_shared opens (None ∷ ds) is = used-all_shared opens ds is
-used-all_shared opens (Some n ∷ ds) is = used-all_shared (shared opens n) ds (used-shared is n)
+used-all_shared {t} opens {os} ds is = kept-all_shared (λ u. IsInUse t u os) (λ u n is. used-shared is n) opens ds is
 
 -- the open files are the same
 pub opens-all_shared : (t : List (Option Counted)) (ds : List (Option ℕ)) → opens_of (all_shared t ds) ≡ opens_of t
-opens-all_shared t [] = refl
-opens-all_shared t (d ∷ ds) = opens-all_shared (shared_in t d) ds ∙ opens-share t d
+opens-all_shared t ds = kept-all_shared (λ u. opens_of u ≡ opens_of t) (λ u n same. opens-shared u n ∙ same) t ds refl
 
 -- the table counts the descriptors of a child too, which are those of process i
 pub counted-forked : (t : List (Option Counted)) (places : List (Option Process)) (i j : ℕ) (p child : Process) → IsCounted t places → slot places i ≡ Some p → j < length places → slot places j ≡ None
@@ -134,24 +113,16 @@ count-all_closed t (d ∷ ds) are n =
     let rest = count-all_closed (closed_in t d) ds (named-close t d ds are) n in
     omega (arith, rest, names-cons n d ds, count-close t d ds are n)
 
-table-close : (t : List (Option Counted)) (d : Option ℕ) → IsTable t → IsTable (closed_in t d)
-table-close t None is = is
-table-close t (Some n) is = table-closed t n is
+kept-all_closed : (P : List (Option Counted) → Type 0) → ((t : List (Option Counted)) (n : ℕ) → P t → P (closed t n)) → (t : List (Option Counted)) (ds : List (Option ℕ)) → P t → P (all_closed t ds)
+kept-all_closed P step t [] is = is
+kept-all_closed P step t (None ∷ ds) is = kept-all_closed P step t ds is
+kept-all_closed P step t (Some n ∷ ds) is = kept-all_closed P step (closed t n) ds (step t n is)
 
 pub table-all_closed : (t : List (Option Counted)) (ds : List (Option ℕ)) → IsTable t → IsTable (all_closed t ds)
-table-all_closed t [] is = is
-table-all_closed t (d ∷ ds) is = table-all_closed (closed_in t d) ds (table-close t d is)
-
-left-close : (old new : List (Option Counted)) (d : Option ℕ) → IsLeft old new → IsLeft old (closed_in new d)
-left-close old new None left = left
-left-close old new (Some n) left = left-closed old new n left
-
-left-all : (old new : List (Option Counted)) (ds : List (Option ℕ)) → IsLeft old new → IsLeft old (all_closed new ds)
-left-all old new [] left = left
-left-all old new (d ∷ ds) left = left-all old (closed_in new d) ds (left-close old new d left)
+table-all_closed t ds is = kept-all_closed IsTable table-closed t ds is
 
 pub left-all_closed : (t : List (Option Counted)) (ds : List (Option ℕ)) → IsLeft t (all_closed t ds)
-left-all_closed t ds = left-all t t ds (left-same t)
+left-all_closed t ds = kept-all_closed (IsLeft t) (left-closed t) t ds (left-same t)
 
 opens-left : (old new : List (Option Counted)) (n : ℕ) (f : unix.OpenFile) → IsLeft old new → (o : Option Counted) → slot new n ≡ o → slot (opens_of new) n ≡ Some f → slot (opens_of old) n ≡ Some f
 opens-left old new n f left None is at = absurd (let bad : None ≡ Some f = ap (option_map (λ (c : Counted). file_of c.file)) (sym is) ∙ sym (slot-opens new n) ∙ at in cc)
@@ -181,9 +152,7 @@ old-after : (a b c : List (Option Counted)) → AreOld a b → AreOld b c → Ar
 old-after a b c first then k x at = let mid = then k x at in let old = first k mid.0 mid.1.0 in (old.0, (old.1.0, old.1.1 ∙ mid.1.1))
 
 pub old-all_closed : (t : List (Option Counted)) (ds : List (Option ℕ)) → AreOld t (all_closed t ds)
-old-all_closed t [] k c at = (c, (at, refl))
-old-all_closed t (None ∷ ds) k c at = old-all_closed t ds k c at
-old-all_closed t (Some n ∷ ds) k c at = old-after t (closed t n) (all_closed (closed t n) ds) (old-closed t n) (old-all_closed (closed t n) ds) k c at
+old-all_closed t ds = kept-all_closed (AreOld t) (λ u n old. old-after t u (closed u n) old (old-closed u n)) t ds (λ k c at. (c, (at, refl)))
 
 pub files-all_closed : (t : List (Option Counted)) (ds : List (Option ℕ)) (n : ℕ) (f : OpenFile) → file_at (all_closed t ds) n ≡ Some f → file_at t n ≡ Some f
 files-all_closed t ds n f at = go (slot (all_closed t ds) n) refl at where
@@ -193,16 +162,13 @@ files-all_closed t ds n f at = go (slot (all_closed t ds) n) refl at where
 
 -- ---- the counts of an ended process's table
 
+-- what an orphan has as before
+pub orphan-same : {X : Type 0} (f : Option Process → X) (pid : ℕ) → ((p : Process) → f (Some (record p { parent = 1 })) ≡ f (Some p)) → (o : Option Process) → f (option_map (orphaned pid) o) ≡ f o
+orphan-same f pid same None = refl
+orphan-same f pid same (Some p) = elim (p.parent == pid) as (λ b. f (Some (cond b (record p { parent = 1 }) p)) ≡ f (Some p)) [ true ↦ same p | false ↦ refl ]
+
 orphaned-names : (pid n : ℕ) (o : Option Process) → names_in n (option_map (orphaned pid) o) ≡ names_in n o
-orphaned-names pid n None = refl
-orphaned-names pid n (Some q) = elim (q.parent == pid) as (λ b. names n (cond b (record q { parent = 1 }) q).descriptors ≡ names n q.descriptors) [ true ↦ refl | false ↦ refl ]
-
-named_by-mapped : (f : Process → Process) (n : ℕ) → ((o : Option Process) → names_in n (option_map f o) ≡ names_in n o) → (places : List (Option Process)) → named_by (map (option_map f) places) n ≡ named_by places n
-named_by-mapped f n same [] = refl
-named_by-mapped f n same (o ∷ os) = rw (sum_by-cons (names_in n) (option_map f o) (map (option_map f) os), sum_by-cons (names_in n) o os, same o, named_by-mapped f n same os) refl
-
-slot-map : (f : Process → Process) (os : List (Option Process)) (j : ℕ) → slot (map (option_map f) os) j ≡ option_map f (slot os j)
-slot-map f os j = listn.get_or-map (option_map f) os j None
+orphaned-names pid n = orphan-same (names_in n) pid (λ p. refl)
 
 named_by-ended : (places : List (Option Process)) (i : ℕ) (p : Process) (status : ℤ) → slot places i ≡ Some p
     → (n : ℕ) → named_by (put (map (option_map (orphaned p.pid)) places) i (zombie_of p status)) n + names n p.descriptors ≡ named_by places n
@@ -211,7 +177,7 @@ named_by-ended places i p status at n =
     let short : i < length orphans = rw (length-map places (option_map (orphaned p.pid))) (slot-within places i p at) in
     let sums = sum_by-set (names_in n) orphans i (Some (zombie_of p status)) None short in
     let there : names_in n (slot orphans i) ≡ names n p.descriptors = ap (names_in n) (slot-map (orphaned p.pid) places i) ∙ orphaned-names p.pid n (slot places i) ∙ ap (names_in n) at in
-    omega (arith, sums, there, named_by-mapped (orphaned p.pid) n (orphaned-names p.pid n) places, names-none n)
+    omega (arith, sums, there, same-map (names_in n) (orphaned p.pid) (orphaned-names p.pid n) places, names-none n)
 
 -- once process i has ended, the table counts the descriptors of all the others
 pub counted-ended : (t : List (Option Counted)) (places : List (Option Process)) (i : ℕ) (p : Process) (status : ℤ) → IsCounted t places → slot places i ≡ Some p
@@ -254,10 +220,8 @@ module _ (pipes : List (Option (List ℕ))) (t : List (Option Counted)) (n : ℕ
 
 pub left-close_pipe : (old pipes : List (Option (List ℕ))) (opens : List (Option unix.OpenFile)) (o : Option Target) → IsLeftOf old pipes → IsLeftOf old (after_close pipes opens o)
 left-close_pipe old pipes opens None left = left
-left-close_pipe old pipes opens (Some (target.File number offset)) left = left
-left-close_pipe old pipes opens (Some (target.Console number)) left = left
-left-close_pipe old pipes opens (Some (target.Device number)) left = left
 left-close_pipe old pipes opens (Some (target.Pipe q e)) left = elim (has_pipe opens q) as (λ b. IsLeftOf old (cond b pipes (clear pipes q))) [ true ↦ left | false ↦ pipes-clear old pipes q left ]
+left-close_pipe old pipes opens _ left = left
 
 last-is : (o : Option Counted) (on : Target) → option_and_then last_in o ≡ Some on → (c : Counted) × ((o ≡ Some c) × (c.file.target ≡ on))
 last-is None on last = absurd (let bad : None ≡ Some on = last in cc)
@@ -266,15 +230,12 @@ last-is (Some c) on last = elim (cases_lt 1 c.count) [
   | inr one ↦ (let same : Some c.file.target ≡ Some on = rw (lt-no 1 c.count one) at last in (c, (refl, cc)))
 ]
 
-eq-self : (n : ℕ) → (n == n) ≡ true
-eq-self n = grind (arith, nat_tests)
-
 -- the pipe of a last end stood until then
 pub stands-last : (t : List (Option Counted)) (pipes : List (Option (List ℕ))) (n q : ℕ) (e : files_end.End) → IsPiped pipes (opens_of t) → last_target t n ≡ Some (target.Pipe q e) → is_some (slot pipes q) ≡ true
 stands-last t pipes n q e is last =
     let c = last-is (slot t n) (target.Pipe q e) last in
     let at : slot (opens_of t) n ≡ Some (file_of c.0.file) = slot-opens t n ∙ ap (option_map (λ (d : Counted). file_of d.file)) c.1.0 in
-    is q ∙ has_pipe-clear (opens_of t) n (file_of c.0.file) q at ∙ rw (c.1.1, eq-self q) refl
+    is q ∙ has_pipe-clear (opens_of t) n (file_of c.0.file) q at ∙ rw (c.1.1, eq-eqb q q refl) refl
 
 -- a state with these open files alone
 abbrev with_opens : List (Option unix.OpenFile) → State
@@ -353,7 +314,7 @@ reap-closed s t pipes ds files is piped counts nodes =
 pub files_on-closed : (t : List (Option Counted)) (n m : ℕ) → files_on (closed t n) m + named_in (listed (last_node t n)) m ≡ files_on t m
 files_on-closed t n m = elim (cases_lt n (length t)) [
   | inl inside ↦ (let sums = sum_by-set (λ o. one_in m (node_in o)) t n (option_and_then fewer (slot t n)) None inside in omega (arith, sums, goes (slot t n)))
-  | inr outside ↦ rw (set_outside t n (option_and_then fewer (slot t n)) outside, outside_none t n outside) (omega arith)
+  | inr outside ↦ rw (set_outside t n (option_and_then fewer (slot t n)) outside, get_or_past t n None outside) (omega arith)
 ]
   where
     one : (h : Option ℕ) → named_in (listed h) m ≡ one_in m h
@@ -367,11 +328,6 @@ files_on-closed t n m = elim (cases_lt n (length t)) [
       | inr last ↦ rw (lt-no 1 c.count last) (omega (arith, one (node_on c.file.target)))
     ]
 
-    outside_none : {X : Type 0} (xs : List (Option X)) (i : ℕ) → length xs ≤ i → slot xs i ≡ None
-    outside_none [] i h = refl
-    outside_none (x ∷ xs) zero h = absurd (omega (arith, h))
-    outside_none (x ∷ xs) (suc i) h = outside_none xs i (omega (arith, h))
-
 pub named_in-append : (xs ys : List ℕ) (m : ℕ) → named_in (xs ++ ys) m ≡ named_in xs m + named_in ys m
 named_in-append [] ys m = omega arith
 named_in-append (x ∷ xs) ys m = omega (arith, sum_by-cons (one_at m) x (xs ++ ys), sum_by-cons (one_at m) x xs, named_in-append xs ys m)
@@ -382,11 +338,6 @@ files_on-all_closed t (None ∷ ds) m = files_on-all_closed t ds m
 files_on-all_closed t (Some n ∷ ds) m = omega (arith, files_on-all_closed (closed t n) ds m, files_on-closed t n m, named_in-append (listed (last_node t n)) (gone_nodes (closed t n) ds) m)
 
 -- ---- one descriptor after the other
-
-drop-cons : {X : Type 0} (xs : List X) (i : ℕ) (d : X) → i < length xs → drop i xs ≡ slice_index_or xs i d ∷ drop (suc i) xs
-drop-cons [] i d h = absurd (omega (arith, h))
-drop-cons (x ∷ xs) zero d h = refl
-drop-cons (x ∷ xs) (suc i) d h = drop-cons xs i d (omega (arith, h))
 
 next-closed : (t : List (Option Counted)) (ds : List (Option ℕ)) (i : ℕ) (o : Option ℕ) → i < length ds → slot ds i ≡ o → all_closed t (drop i ds) ≡ all_closed (closed_in t o) (drop (i + 1) ds)
 next-closed t ds i o h at =

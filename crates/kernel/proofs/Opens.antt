@@ -1,10 +1,11 @@
 -- The open files of a kernel where the descriptors of its processes stay, and what a descriptor names.
-use Rattle.std.proofs.Common.{◌≡◌, ◌≢◌, ℕ, zero, suc, ◌+◌, ◌<◌, ◌≤◌, true, List, [], ◌∷◌, length, Option, Some, None, refl, ap, subst, sym, ◌∙◌, arith}
+use Rattle.std.proofs.Common.{◌≡◌, ◌≢◌, ℕ, ◌+◌, ◌<◌, ◌≤◌, true, List, [], ◌∷◌, length, Option, Some, None, refl, ap, subst, sym, ◌∙◌, arith}
 use Rattle.std.specs.Prelude.{IfSome, option_and_then, option_map, slice_set}
-use Rattle.std.proofs.lemmas.Bool.Decides.{nat_tests}
 use Rattle.std.proofs.lemmas.List.Sums.{sum_by-cons}
 use Rattle.kernel.specs.Descriptors.{IsCounted, descriptors_in, named_by, names_in}
+use Rattle.kernel.proofs.Holding.{all-set, least, one_at-self, same-set}
 use Rattle.kernel.specs.Kernel.{Kernel, on_hart}
+use Rattle.names.proofs.Finding.{slot-within}
 use Rattle.kernel.specs.Sound.{IsAwaiting, IsForBytes, IsForPipe, IsFresh, IsOpenFile, IsOpened, WaitsAs, WaitsWell, file_named, is_awaited, is_on_pipe}
 use Rattle.files.proofs.CountsLemmas as counts
 use Rattle.files.specs.Counts.{names}
@@ -12,9 +13,9 @@ use Rattle.files.proofs.CountsLemmas.{count_of, names-clear, one_at}
 use Rattle.files.specs.declared.file.OpenFile.{OpenFile}
 use Rattle.files.specs.declared.file.Target.{Target}
 use Rattle.files.specs.Meant.{file_of}
-use Rattle.files.specs.Places.{Counted, count_at, count_in, file_at, opened, opens_of, shared}
+use Rattle.files.specs.Places.{Counted, count_at, count_in, file_at, more, opened, opens_of, shared}
 use Rattle.std.proofs.lemmas.List.{get_or-set_other}
-use Rattle.files.proofs.Whole.{slot-opens}
+use Rattle.files.proofs.Whole.{file-opens, slot-opens}
 use Rattle.proc.specs.declared.process.Process.{Process}
 use Rattle.proc.specs.Places.{changed_at}
 use Rattle.proc.specs.Whole.{joined, with_memory}
@@ -32,23 +33,11 @@ use Rattle.unixmodel.specs.Outcome.{pending_arg}
 use Rattle.unixmodel.specs.Process as unix
 use Rattle.unixmodel.specs.State.{State}
 
--- ---- descriptors that stay
-
--- a place names as much as before
-pub named-set : (n : ℕ) (os : List (Option Process)) (i : ℕ) (o : Option Process) → names_in n o ≡ names_in n (slot os i) → named_by (slice_set os i o) n ≡ named_by os n
-named-set n [] i o same = refl
-named-set n (x ∷ os) zero o same = sum_by-cons (names_in n) o os ∙ ap (λ (m : ℕ). m + named_by os n) same ∙ sym (sum_by-cons (names_in n) x os)
-named-set n (x ∷ os) (suc i) o same = sum_by-cons (names_in n) x (slice_set os i o) ∙ ap (λ (m : ℕ). names_in n x + m) (named-set n os i o same) ∙ sym (sum_by-cons (names_in n) x os)
-
 -- ---- who waits in a read or a write
 
 -- a place has another process
 pub waits-set : (opens : List (Option Counted)) (os : List (Option Process)) (i : ℕ) (o : Option Process) → WaitsWell opens o → ((j : ℕ) → WaitsWell opens (slot os j)) → (j : ℕ) → WaitsWell opens (slot (slice_set os i o) j)
-waits-set opens [] i o here is j = is j
-waits-set opens (x ∷ os) zero o here is zero = here
-waits-set opens (x ∷ os) zero o here is (suc j) = is (suc j)
-waits-set opens (x ∷ os) (suc i) o here is zero = is 0
-waits-set opens (x ∷ os) (suc i) o here is (suc j) = waits-set opens os i o here (λ b. is (suc b)) j
+waits-set opens os i o here is = all-set (λ j x. WaitsWell opens x) os i o here is
 
 -- a process that runs doesn't wait
 pub waits-running : (opens : List (Option Counted)) (p : Process) → p.mode ≡ Running → WaitsWell opens (Some p)
@@ -118,7 +107,7 @@ module _ (files : List (Option Counted)) (pipes : List (Option (List ℕ))) (os 
   pub opened-names : (i : ℕ) (o : Option Process) → ((n : ℕ) → names_in n o ≡ names_in n (slot os i)) → WaitsWell files o → IsOpened files pipes os → IsOpened files pipes (slice_set os i o)
   opened-names i o same well is = record {
     table = is.table;
-    counted = λ n. is.counted n ∙ sym (named-set n os i o (same n));
+    counted = λ n. is.counted n ∙ sym (same-set (names_in n) os i o (same n));
     each = is.each;
     all = is.all;
     piped = is.piped;
@@ -129,9 +118,10 @@ module _ (files : List (Option Counted)) (pipes : List (Option (List ℕ))) (os 
   pub opened-put : (i : ℕ) (o : Option Process) → descriptors_in o ≡ descriptors_in (slot os i) → WaitsWell files o → IsOpened files pipes os → IsOpened files pipes (slice_set os i o)
   opened-put i o same well is = opened-names i o (λ n. ap (names n) same) well is
 
-hart-descriptors : (s : Spaces) (o : Option Process) → descriptors_in (option_map (on_hart s) o) ≡ descriptors_in o
-hart-descriptors s None = refl
-hart-descriptors s (Some p) = refl
+-- what the hart's process has that its table's has too
+pub hart-same : {X : Type 0} (f : Option Process → X) (s : Spaces) → ((p : Process) → f (Some (on_hart s p)) ≡ f (Some p)) → (o : Option Process) → f (option_map (on_hart s) o) ≡ f o
+hart-same f s same None = refl
+hart-same f s same (Some p) = same p
 
 hart-waits : (opens : List (Option Counted)) (s : Spaces) (o : Option Process) → WaitsWell opens o → WaitsWell opens (option_map (on_hart s) o)
 hart-waits opens s None is = tt
@@ -139,7 +129,17 @@ hart-waits opens s (Some p) is = is
 
 pub opened-active : (k : Kernel) (files : List (Option Counted)) (pipes : List (Option (List ℕ))) (o : Option ℕ) → IsOpened files pipes k.table.places → IsOpened files pipes (changed_at k.table (on_hart k.spaces) o).places
 opened-active k files pipes None is = is
-opened-active k files pipes (Some i) is = opened-put files pipes k.table.places i (option_map (on_hart k.spaces) (slot k.table.places i)) (hart-descriptors k.spaces (slot k.table.places i)) (hart-waits files k.spaces (slot k.table.places i) (is.waits i)) is
+opened-active k files pipes (Some i) is = opened-put files pipes k.table.places i (option_map (on_hart k.spaces) (slot k.table.places i)) (hart-same descriptors_in k.spaces (λ p. refl) (slot k.table.places i)) (hart-waits files k.spaces (slot k.table.places i) (is.waits i)) is
+
+-- what holds of each place, and of the hart's process as of its table's
+pub active-by : (P : ℕ → Option Process → Type 0) (k : Kernel) → ((j : ℕ) (o : Option Process) → P j o → P j (option_map (on_hart k.spaces) o)) → (a : Option ℕ)
+    → ((j : ℕ) → P j (slot k.table.places j)) → (j : ℕ) → P j (slot (changed_at k.table (on_hart k.spaces) a).places j)
+active-by P k step None is = is
+active-by P k step (Some i) is = all-set P k.table.places i (option_map (on_hart k.spaces) (slot k.table.places i)) (step i (slot k.table.places i) (is i)) is
+
+pub active-same : {X : Type 0} (f : Option Process → X) (k : Kernel) → ((p : Process) → f (Some (on_hart k.spaces p)) ≡ f (Some p)) → (a : Option ℕ) (j : ℕ)
+    → f (slot (changed_at k.table (on_hart k.spaces) a).places j) ≡ f (slot k.table.places j)
+active-same f k same a = active-by (λ j o. f o ≡ f (slot k.table.places j)) k (λ j o e. hart-same f k.spaces same o ∙ e) a (λ j. refl)
 
 -- the processes with their memories name the same
 pub count-joined : (os : List (Option Process)) (ms : List Memory) (n : ℕ) → count_of (joined os ms) n ≡ named_by os n
@@ -164,26 +164,13 @@ pub record IsNamed (s : State) (p : unix.Process) (d : ℕ) (f : unix_files.Open
   pub named : slot p.descriptors d ≡ Some number
   pub opened : slot s.opens number ≡ Some f
 
-named-least : (n : ℕ) (os : List (Option Process)) (i : ℕ) (p : Process) → slot os i ≡ Some p → names n p.descriptors ≤ named_by os n
-named-least n [] i p at = absurd (cc)
-named-least n (o ∷ os) zero p at = let same : names_in n o ≡ names n p.descriptors = ap (names_in n) at in omega (arith, sum_by-cons (names_in n) o os, same)
-named-least n (o ∷ os) (suc i) p at = omega (arith, sum_by-cons (names_in n) o os, named-least n os i p at)
-
-within : {X : Type 0} (xs : List (Option X)) (i : ℕ) (x : X) → slot xs i ≡ Some x → i < length xs
-within [] i x is = absurd (cc)
-within (y ∷ xs) zero x is = omega arith
-within (y ∷ xs) (suc i) x is = let h = within xs i x is in omega (arith, h)
-
-one-self : (n : ℕ) → one_at n n ≡ 1
-one-self n = grind (arith, nat_tests)
-
 names-some : (n : ℕ) (ds : List (Option ℕ)) (d : ℕ) → slot ds d ≡ Some n → 0 < names n ds
-names-some n ds d at = omega (arith, names-clear n ds d n (within ds d n at) at, one-self n)
+names-some n ds d at = omega (arith, names-clear n ds d n (slot-within ds d n at) at, one_at-self n)
 
 -- what a descriptor of a process names is counted
 pub place-counts : (files : List (Option Counted)) (os : List (Option Process)) → IsCounted files os → (i : ℕ) (o : Option Process) → slot os i ≡ o → (d n : ℕ) → slot (descriptors_in o) d ≡ Some n → 0 < count_at files n
 place-counts files os counted i None at d n named = absurd (cc)
-place-counts files os counted i (Some p) at d n named = omega (arith, counted n, named-least n os i p at, names-some n p.descriptors d named)
+place-counts files os counted i (Some p) at d n named = omega (arith, counted n, least (names_in n) os i p at, names-some n p.descriptors d named)
 
 module _ (files : List (Option Counted)) (pipes : List (Option (List ℕ))) (os : List (Option Process)) (is : IsOpened files pipes os) where
   open-go : (n : ℕ) (o : Option Counted) → slot files n ≡ o → 0 < count_in o → (f : unix_files.OpenFile) × ((slot (opens_of files) n ≡ Some f) × IsOpenFile f)
@@ -220,19 +207,14 @@ file-at opens ds d t is = file-go opens ds d t (slot ds d) refl is
 
 -- an open file, as a state has it
 pub slot-file : (opens : List (Option Counted)) (n : ℕ) → slot (opens_of opens) n ≡ option_map file_of (file_at opens n)
-slot-file opens n = slot-opens opens n ∙ go (slot opens n) where
-  go : (o : Option Counted) → option_map (λ (c : Counted). file_of c.file) o ≡ option_map file_of (option_map (λ (c : Counted). c.file) o)
-  go None = refl
-  go (Some c) = refl
+slot-file opens n = file-opens opens n
 
 -- one descriptor more names it, and it is as it was
 pub file-shared : (opens : List (Option Counted)) (i n : ℕ) → file_at (shared opens i) n ≡ file_at opens n
-file-shared [] i n = refl
-file-shared (None ∷ opens) zero zero = refl
-file-shared (Some c ∷ opens) zero zero = refl
-file-shared (o ∷ opens) zero (suc n) = refl
-file-shared (o ∷ opens) (suc i) zero = refl
-file-shared (o ∷ opens) (suc i) (suc n) = file-shared opens i n
+file-shared opens i = all-set (λ n o. option_map (λ (c : Counted). c.file) o ≡ file_at opens n) opens i (option_map more (slot opens i)) (go (slot opens i)) (λ n. refl) where
+  go : (o : Option Counted) → option_map (λ (c : Counted). c.file) (option_map more o) ≡ option_map (λ (c : Counted). c.file) o
+  go None = refl
+  go (Some c) = refl
 
 -- another place stays as it is
 pub file-opened : (opens : List (Option Counted)) (i : ℕ) (f : OpenFile) (n : ℕ) → n ≢ i → file_at (opened opens i f) n ≡ file_at opens n

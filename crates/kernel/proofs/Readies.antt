@@ -14,7 +14,7 @@ use Rattle.proc.proofs.Joined.{slot-joined, zombie_child-with_table}
 use Rattle.proc.specs.Whole.{with_memory, with_table}
 use Rattle.spaces.specs.Spaces.{Spaces}
 use Rattle.unixmodel.specs.declared.call.Call.{Call}
-use Rattle.unixmodel.specs.declared.call.Call.TheVariants.{Chdir, Close, Dup, Exec, Exit, Fork, Fstat, Getpid, Kill, Link, Mkdir, Mknod, Open, Pipe, Read, Sbrk, Sleep, Unlink, Uptime, Wait, Write}
+use Rattle.unixmodel.specs.declared.call.Call.TheVariants.{Read, Wait, Write}
 use Rattle.unixmodel.specs.declared.process.Mode.{Mode}
 use Rattle.unixmodel.specs.declared.process.Mode.TheVariants.{Ready, Running, Waiting, Zombie}
 use Rattle.unixmodel.specs.declared.process.Pending.{Pending}
@@ -68,24 +68,7 @@ module _ (rest : Rest) (t : Places) (ms : List Memory) where
       ∙ sym (zombie_child-with_table (awaited_in rest.opens rest.pipes rest.console rest.ticks) (record { places = t.places; last = 0; next_pid = 0; awake = [] }) [] p.pid))
   goes-same p m w Read = held-same (turn.can_read_from s) (turn.can_read_from a) reads-same (turn.pending_file s (with_memory m p) w)
   goes-same p m w Write = held-same (turn.can_write_to s) (turn.can_write_to a) writes-same (turn.pending_file s (with_memory m p) w)
-  goes-same p m w Sleep = refl
-  goes-same p m w Fork = refl
-  goes-same p m w Exit = refl
-  goes-same p m w Pipe = refl
-  goes-same p m w Kill = refl
-  goes-same p m w Exec = refl
-  goes-same p m w Fstat = refl
-  goes-same p m w Chdir = refl
-  goes-same p m w Dup = refl
-  goes-same p m w Getpid = refl
-  goes-same p m w Sbrk = refl
-  goes-same p m w Uptime = refl
-  goes-same p m w Open = refl
-  goes-same p m w Mknod = refl
-  goes-same p m w Unlink = refl
-  goes-same p m w Link = refl
-  goes-same p m w Mkdir = refl
-  goes-same p m w Close = refl
+  goes-same p m w _ = refl
 
   mode-same : (p : Process) (m : Memory) (mode : Mode) → turn.is_ready_in s (with_memory m p) mode ≡ turn.is_ready_in a (with_memory [] p) mode
   mode-same p m Running = refl

@@ -1,11 +1,11 @@
 -- What nothing names any more: a kernel's state has none of it. And the frames that its processes and pipes take.
-use Rattle.std.proofs.Common.{◌≡◌, ℕ, zero, suc, ◌<◌, ◌≤◌, Bool, true, false, ◌&&◌, nat_le, List, [], ◌∷◌, length, map, Option, Some, None, refl, ap, sym, ◌∙◌, arith, ◌+◌}
-use Rattle.std.specs.Prelude.{option_map, slice_set, sum_by}
+use Rattle.std.proofs.Common.{◌≡◌, ℕ, suc, ◌<◌, ◌≤◌, Bool, true, false, ◌&&◌, nat_le, List, [], ◌∷◌, length, map, Option, Some, None, refl, ap, sym, ◌∙◌, arith, ◌+◌}
+use Rattle.std.specs.Prelude.{option_map, sum_by}
 use Rattle.std.proofs.lemmas.Bool.{le-leb, lt-leb}
 use Rattle.std.proofs.lemmas.List.Sums.{sum_by-cons}
 use Rattle.kernel.specs.Kernel.{Kernel, loaded, memories, memory_in, on_hart, rest_of, state_of, state_with}
 use Rattle.kernel.specs.Sound.{IsKernel, IsMode, IsOpened, IsPlace}
-use Rattle.kernel.proofs.Opens.{count-joined, few-taken, opened-active}
+use Rattle.kernel.proofs.Opens.{active-by, count-joined, few-taken, hart-same, opened-active}
 use Rattle.files.proofs.CountsLemmas.{Counts}
 use Rattle.files.proofs.PipesLemmas.{without_pipes-same}
 use Rattle.files.specs.Places.{IsTable, opens_of}
@@ -46,19 +46,9 @@ match-on s None q is = is
 match-on s (Some p) None is = is
 match-on s (Some p) (Some h) is = tt
 
-match-changed : (s : Spaces) (os : List (Option Process)) (hs : List (Option SpaceView)) (i : ℕ) → ((j : ℕ) → IsMatch (slot os j) (slot hs j))
-    → (j : ℕ) → IsMatch (slot (slice_set os i (option_map (on_hart s) (slot os i))) j) (slot hs j)
-match-changed s [] hs i is j = is j
-match-changed s (o ∷ os) hs zero is zero = match-on s o (slot hs 0) (is 0)
-match-changed s (o ∷ os) hs zero is (suc j) = is (suc j)
-match-changed s (o ∷ os) hs (suc i) is zero = is 0
-match-changed s (o ∷ os) [] (suc i) is (suc j) = match-changed s os [] i (λ a. is (suc a)) j
-match-changed s (o ∷ os) (h ∷ hs) (suc i) is (suc j) = match-changed s os hs i (λ a. is (suc a)) j
-
 pub match-active : (k : Kernel) (o : Option ℕ) → ((j : ℕ) → IsMatch (slot k.table.places j) (slot k.spaces.places j))
     → (j : ℕ) → IsMatch (slot (changed_at k.table (on_hart k.spaces) o).places j) (slot k.spaces.places j)
-match-active k None is j = is j
-match-active k (Some i) is j = match-changed k.spaces k.table.places k.spaces.places i is j
+match-active k o is = active-by (λ j x. IsMatch x (slot k.spaces.places j)) k (λ j x. match-on k.spaces x (slot k.spaces.places j)) o is
 
 pub match-loaded : (k : Kernel) → IsKernel k → (j : ℕ) → IsMatch (slot (loaded k).places j) (slot k.spaces.places j)
 match-loaded k is j = match-active k k.spaces.active (λ a. match-place (slot k.table.places a) (slot k.spaces.places a) (is.stands a)) j
@@ -126,28 +116,19 @@ within-state_with k t fits is stands =
 
 -- ---- a kernel's state
 
-home-on : (s : Spaces) (o : Option Process) → home_in (option_map (on_hart s) o) ≡ home_in o
-home-on s None = refl
-home-on s (Some p) = refl
-
 pub used-active : (k : Kernel) (o : Option ℕ) → IsInUse k.tree k.files k.table.places → IsInUse k.tree k.files (changed_at k.table (on_hart k.spaces) o).places
 used-active k None is = is
-used-active k (Some i) is = used-put is i (option_map (on_hart k.spaces) (slot k.table.places i)) (home-on k.spaces (slot k.table.places i))
+used-active k (Some i) is = used-put is i (option_map (on_hart k.spaces) (slot k.table.places i)) (hart-same home_in k.spaces (λ p. refl) (slot k.table.places i))
 
 pub used-loaded : (k : Kernel) → IsKernel k → k.tree.failed ≡ false → IsInUse k.tree k.files (loaded k).places
 used-loaded k is up = used-active k k.spaces.active (is.filed.used up)
 
-away-on : (s : Spaces) (os : List (Option Process)) (i : ℕ) → AreAway os → AreAway (slice_set os i (option_map (on_hart s) (slot os i)))
-away-on s [] i away j p at zombie = absurd (none-some p at)
-away-on s (None ∷ os) zero away zero p at zombie = absurd (none-some p at)
-away-on s (Some x ∷ os) zero away zero p at zombie = let same : on_hart s x ≡ p = same_Some (on_hart s x) p at in sym (ap (λ (y : Process). y.directory) same) ∙ away 0 x refl (ap (λ (y : Process). is_zombie_mode y.mode) same ∙ zombie)
-away-on s (o ∷ os) zero away (suc j) p at zombie = away (suc j) p at zombie
-away-on s (o ∷ os) (suc i) away zero p at zombie = away 0 p at zombie
-away-on s (o ∷ os) (suc i) away (suc j) p at zombie = away-on s os i (λ n. away (suc n)) j p at zombie
+away-hart : (s : Spaces) (o : Option Process) → ((p : Process) → o ≡ Some p → is_zombie_mode p.mode ≡ true → p.directory ≡ 0) → (p : Process) → option_map (on_hart s) o ≡ Some p → is_zombie_mode p.mode ≡ true → p.directory ≡ 0
+away-hart s None away p at zombie = absurd (none-some p at)
+away-hart s (Some x) away p at zombie = let same : on_hart s x ≡ p = same_Some (on_hart s x) p at in sym (ap (λ (y : Process). y.directory) same) ∙ away x refl (ap (λ (y : Process). is_zombie_mode y.mode) same ∙ zombie)
 
 pub away-active : (k : Kernel) (o : Option ℕ) → AreAway k.table.places → AreAway (changed_at k.table (on_hart k.spaces) o).places
-away-active k None away = away
-away-active k (Some i) away = away-on k.spaces k.table.places i away
+away-active k o away = active-by (λ j x. (p : Process) → x ≡ Some p → is_zombie_mode p.mode ≡ true → p.directory ≡ 0) k (λ j x. away-hart k.spaces x) o away
 
 pub away-loaded : (k : Kernel) → IsKernel k → AreAway (loaded k).places
 away-loaded k is = away-active k k.spaces.active (are-away k.table.places k.spaces.places is.stands)

@@ -23,6 +23,7 @@ use Rattle.unixmodel.specs.Memory.{Memory}
 use Rattle.unixmodel.specs.Process as unix
 use Rattle.unixmodel.specs.Process.{is_running_mode, is_zombie_mode}
 use Rattle.unixmodel.specs.State.{State, holds, process_at, put_process}
+pub use Rattle.names.proofs.Finding.{slot-within}
 
 -- ---- places
 
@@ -43,11 +44,6 @@ set-twice (x ∷ xs) (suc i) a b = ap (λ ys. x ∷ ys) (set-twice xs i a b)
 -- what stands in a place already is put there
 pub set-slot : {X : Type 0} (xs : List (Option X)) (i : ℕ) (o : Option X) → slot xs i ≡ o → slice_set xs i o ≡ xs
 set-slot xs i o is = rw (← is) (set-get_or xs i None)
-
-pub slot-within : {X : Type 0} (xs : List (Option X)) (i : ℕ) (x : X) → slot xs i ≡ Some x → i < length xs
-slot-within [] i x is = absurd (cc)
-slot-within (y ∷ xs) zero x is = omega arith
-slot-within (y ∷ xs) (suc i) x is = let h = slot-within xs i x is in omega (arith, h)
 
 pub memory-at : (s : Spaces) (i : ℕ) → slice_index_or (memories s) i [] ≡ memory_in (slot s.places i)
 memory-at s i = listn.get_or-map memory_in s.places i None

@@ -11,7 +11,7 @@ use Rattle.files.specs.Places.{Counted, moved, moved_to, opens_of}
 use Rattle.kernel.specs.Ready.{awaited_in, has_slept, seen}
 use Rattle.kernel.specs.Watch.{IsAsleep, IsAsleepAs, IsWatched, roused, waits_as, waits_in, waits_on}
 use Rattle.kernel.specs.declared.channels.Channel.TheVariants.{Bytes, Children, Ticks}
-use Rattle.kernel.proofs.Changes.{slot-map}
+use Rattle.kernel.proofs.Holding.{slot-map}
 use Rattle.kernel.proofs.Masks.{fewer-put, holds-within, roused-out, set-other}
 use Rattle.kernel.proofs.Readies.{children-seen, held-same, ready-seen}
 use Rattle.kernel.proofs.Runs.{same_or_not, slot-other, slot-put}
@@ -22,7 +22,7 @@ use Rattle.proc.specs.Places as table
 use Rattle.proc.specs.Places.{Places, exited, is_zombie_child_of, orphaned, place_where, zombie_of}
 use Rattle.proc.specs.Whole.{with_memory}
 use Rattle.unixmodel.specs.declared.call.Call.{Call}
-use Rattle.unixmodel.specs.declared.call.Call.TheVariants.{Chdir, Close, Dup, Exec, Exit, Fork, Fstat, Getpid, Kill, Link, Mkdir, Mknod, Open, Pipe, Read, Sbrk, Sleep, Unlink, Uptime, Wait, Write}
+use Rattle.unixmodel.specs.declared.call.Call.TheVariants.{Read, Sleep, Wait, Write}
 use Rattle.unixmodel.specs.declared.process.Mode.{Mode}
 use Rattle.unixmodel.specs.declared.process.Mode.TheVariants.{Ready, Running, Waiting, Zombie}
 use Rattle.unixmodel.specs.declared.process.Pending.{Pending}
@@ -122,23 +122,7 @@ module _ (a : State) (os : List (Option Process)) (p : Process) (w : Pending) (w
   stays-out wait read write sleep Read = read
   stays-out wait read write sleep Write = write
   stays-out wait read write sleep Sleep = sleep
-  stays-out wait read write sleep Fork = λ none. refl
-  stays-out wait read write sleep Exit = λ none. refl
-  stays-out wait read write sleep Pipe = λ none. refl
-  stays-out wait read write sleep Kill = λ none. refl
-  stays-out wait read write sleep Exec = λ none. refl
-  stays-out wait read write sleep Fstat = λ none. refl
-  stays-out wait read write sleep Chdir = λ none. refl
-  stays-out wait read write sleep Dup = λ none. refl
-  stays-out wait read write sleep Getpid = λ none. refl
-  stays-out wait read write sleep Sbrk = λ none. refl
-  stays-out wait read write sleep Uptime = λ none. refl
-  stays-out wait read write sleep Open = λ none. refl
-  stays-out wait read write sleep Mknod = λ none. refl
-  stays-out wait read write sleep Unlink = λ none. refl
-  stays-out wait read write sleep Link = λ none. refl
-  stays-out wait read write sleep Mkdir = λ none. refl
-  stays-out wait read write sleep Close = λ none. refl
+  stays-out wait read write sleep _ = λ none. refl
 
 -- ---- who is asleep stays so
 
@@ -268,9 +252,7 @@ test-moved test offset same (o ∷ files) (suc i) (suc n) = test-moved test offs
 
 end-moved : (q : ℕ) (end : End) (offset : ℕ) (t : file.Target) → is_end q end (target_of (moved_to offset t)) ≡ is_end q end (target_of t)
 end-moved q end offset (target.File number old) = refl
-end-moved q end offset (target.Console number) = refl
-end-moved q end offset (target.Device number) = refl
-end-moved q end offset (target.Pipe pipe e) = refl
+end-moved q end offset _ = refl
 
 any-moved : (q : ℕ) (end : End) (offset : ℕ) (files : List (Option Counted)) (i : ℕ) → list_any (λ (f : OpenFile). is_end q end f.target) (taken (opens_of (moved files i offset))) ≡ list_any (λ (f : OpenFile). is_end q end f.target) (taken (opens_of files))
 any-moved q end offset [] i = refl
@@ -296,15 +278,11 @@ module _ (files : List (Option Counted)) (pipes : List (Option (List ℕ))) (con
 
   read-kind : (t : file.Target) → turn.can_read_from (seen before os) (target_of (moved_to offset t)) ≡ turn.can_read_from (seen before os) (target_of t)
   read-kind (target.File number old) = refl
-  read-kind (target.Console number) = refl
-  read-kind (target.Device number) = refl
-  read-kind (target.Pipe pipe e) = refl
+  read-kind _ = refl
 
   write-kind : (t : file.Target) → turn.can_write_to (seen before os) (target_of (moved_to offset t)) ≡ turn.can_write_to (seen before os) (target_of t)
   write-kind (target.File number old) = refl
-  write-kind (target.Console number) = refl
-  write-kind (target.Device number) = refl
-  write-kind (target.Pipe pipe e) = refl
+  write-kind _ = refl
 
   file-moved : (test : Target → Bool) → ((t : file.Target) → test (target_of (moved_to offset t)) ≡ test (target_of t)) → (o : Option ℕ) → turn.holds_of test (option_and_then (slot (opens_of (moved files i offset))) o) ≡ turn.holds_of test (option_and_then (slot (opens_of files)) o)
   file-moved test same None = refl
