@@ -1,9 +1,9 @@
 -- Which process runs, and the end of a process.
-use Rattle.std.proofs.Common.{◌≡◌, ◌≢◌, ℕ, zero, suc, ◌+◌, ◌<◌, ◌≤◌, ◌%◌, inl, inr, Bool, true, false, nat_eq, List, [], ◌∷◌, ◌++◌, length, map, Option, Some, None, ℤ, refl, ap, sym, ◌∙◌, arith}
-use Rattle.std.specs.Prelude.{if◌then◌else◌, not, option_map, slice_index, slice_index_or, slice_set}
+use Rattle.std.proofs.Common.{◌≡◌, ◌≢◌, ℕ, zero, suc, ◌+◌, ◌<◌, ◌≤◌, ◌%◌, inl, inr, true, false, nat_eq, List, [], ◌∷◌, ◌++◌, length, map, Option, Some, None, ℤ, refl, ap, sym, ◌∙◌, arith}
+use Rattle.std.specs.Prelude.{if◌then◌else◌, option_map, slice_index, slice_index_or, slice_set}
 use Rattle.std.proofs.lemmas.Bool.{ne_eqb}
 use Rattle.std.proofs.lemmas.Bool.Decides.{nat_tests}
-use Rattle.std.proofs.lemmas.List.{get_or-set_other, length-map, length-set, set-get_or}
+use Rattle.std.proofs.lemmas.List.{get_or-set_other, length-map, length-set}
 use Rattle.std.specs.Option.{option_eq}
 use Rattle.kernel.specs.Descriptors.{all_closed, descriptors_in, standing}
 use Rattle.kernel.specs.Holding.{AreHeld, IsInUse, all_dropped, files_on, gone_nodes, home_in, homes_at}
@@ -13,7 +13,7 @@ use Rattle.kernel.specs.Sound.{IsKernel, IsMode, IsPlace, IsPlaced, WaitsWell, i
 use Rattle.kernel.proofs.Named.{Leaves, counted-ended, counts-joined, fewer-pipes, files-all_closed, files_on-all_closed, leaves-standing, named_in-append, old-all_closed, opens-all_closed, orphan-same, reap-closed, table-all_closed}
 use Rattle.kernel.proofs.Opens.{active-by, active-same, opened-put, waits-fewer, waits-set}
 use Rattle.kernel.proofs.Reaped.{are-away, opened-loaded, used-loaded}
-use Rattle.kernel.proofs.Runs.{IsRun, memory-at, put-with, runs-set, same_or_not, set-twice, slot-other, slot-put, slot-within, state-run, with_process, within-run}
+use Rattle.kernel.proofs.Runs.{IsRun, home-living, memory-at, put-same, runs-set, same_or_not, set-twice, slot-other, slot-put, slot-within, state-run, with_process, within-run}
 use Rattle.files.specs.Counts.{one_in}
 use Rattle.files.proofs.CountsLemmas.{Counts, one_at}
 use Rattle.std.proofs.lemmas.List.Sums.{sum_by-cons, sum_by-set}
@@ -31,7 +31,7 @@ use Rattle.unixmodel.specs.Files.{put, slot}
 use Rattle.unixmodel.specs.Memory.{Memory}
 use Rattle.unixmodel.specs.Outcome as ends
 use Rattle.unixmodel.specs.Outcome.{end_process}
-use Rattle.unixmodel.specs.Process.{is_running_mode, is_zombie_mode}
+use Rattle.unixmodel.specs.Process.{is_running_mode}
 use Rattle.unixmodel.specs.Reap.{reap}
 use Rattle.unixmodel.specs.State.{State, holds, put_process}
 
@@ -42,18 +42,17 @@ pub stands-put : (os : List (Option Process)) (hs : List (Option SpaceView)) (i 
     → ((j : ℕ) → IsPlace (slot os j) (slot hs j)) → (j : ℕ) → IsPlace (slot (slice_set os i o) j) (slot hs j)
 stands-put os hs i o short is stands = all-set (λ j x. IsPlace x (slot hs j)) os i o is stands
 
-mode-kept : (s : Spaces) (p : Process) (m : Memory) (mode : Mode) → IsMode p m mode → IsMode (on_hart s p) m mode
-mode-kept s p m Running is = (record { descriptors = is.0.descriptors }, is.1)
-mode-kept s p m Ready is = record { descriptors = is.descriptors }
-mode-kept s p m (Waiting w) is = (record { descriptors = is.0.descriptors }, is.1)
-mode-kept s p m (Zombie status) is = record { descriptors = is.descriptors; directory = is.directory }
+-- another parent, or other registers, say nothing of the mode
+mode-kept : (p : Process) (parent : ℕ) (registers : List ℕ) (pc : ℕ) (m : Memory) (mode : Mode) → IsMode p m mode → IsMode (record p { parent = parent; registers = registers; pc = pc }) m mode
+mode-kept p parent registers pc m Running is = (record { descriptors = is.0.descriptors }, is.1)
+mode-kept p parent registers pc m Ready is = record { descriptors = is.descriptors }
+mode-kept p parent registers pc m (Waiting w) is = (record { descriptors = is.0.descriptors }, is.1)
+mode-kept p parent registers pc m (Zombie status) is = record { descriptors = is.descriptors; directory = is.directory }
 
 -- the hart's process stands as well as its table's
 hart-placed : (s : Spaces) → slice_index s.registers 0 ≡ 0 → s.pc % 4 ≡ 0 → (o : Option Process) (q : Option SpaceView) → IsPlace o q → IsPlace (option_map (on_hart s) o) q
-hart-placed s zero' aligned None None is = is
-hart-placed s zero' aligned None (Some h) is = is
-hart-placed s zero' aligned (Some p) None is = is
-hart-placed s zero' aligned (Some p) (Some h) is = record { size = is.size; zero = zero'; aligned = aligned; mode = mode-kept s p h.memory p.mode is.mode }
+hart-placed s zero' aligned (Some p) (Some h) is = record { size = is.size; zero = zero'; aligned = aligned; mode = mode-kept p p.parent s.registers s.pc h.memory p.mode is.mode }
+hart-placed s zero' aligned _ _ is = is
 
 pub loaded-placed : (k : Kernel) → IsKernel k → slice_index k.spaces.registers 0 ≡ 0 → k.spaces.pc % 4 ≡ 0 → (j : ℕ) → IsPlace (slot (loaded k).places j) (slot k.spaces.places j)
 loaded-placed k is z a = active-by (λ j o. IsPlace o (slot k.spaces.places j)) k (λ j o. hart-placed k.spaces z a o (slot k.spaces.places j)) k.spaces.active is.stands
@@ -116,33 +115,20 @@ module _ (k : Kernel) (i : ℕ) (p : Process) (h : SpaceView) (r : IsRun k i p h
 
     pub left-state : state_of (left_to k i q) ≡ put_process (state_of k) i (with_memory h.memory q)
     left-state =
-        let rest = base (rest_of k) in
         let old = with_process k.table i (on_hart k.spaces p) in
         let twice : put k.table.places i q ≡ put (put k.table.places i (on_hart k.spaces p)) i q = sym (set-twice k.table.places i (Some (on_hart k.spaces p)) (Some q)) in
-        let at : slice_index_or (memories k.spaces) i [] ≡ h.memory = memory-at k.spaces i ∙ ap memory_in r.space in
-        let same : memories k.spaces ≡ slice_set (memories k.spaces) i h.memory = sym (ap (λ m. slice_set (memories k.spaces) i m) (sym at) ∙ set-get_or (memories k.spaces) i []) in
-        let short : i < length (memories k.spaces) = rw (length-map k.spaces.places memory_in) (slot-within k.spaces.places i h r.space) in
-        ap (λ (places : List (Option Process)). with_table rest (record k.table { places = places }) (memories k.spaces)) twice
-        ∙ ap (λ (ms : List Memory). with_table rest (with_process old i q) ms) same
-        ∙ sym (put-with rest old (memories k.spaces) i q h.memory short)
+        ap (λ (places : List (Option Process)). with_table (base (rest_of k)) (record k.table { places = places }) (memories k.spaces)) twice
+        ∙ put-same (base (rest_of k)) old k.spaces i q h r.space
         ∙ sym (ap (λ (s : State). put_process s i (with_memory h.memory q)) (state-run k i p h r))
 
 -- ---- the end of a process
 
-parent-kept : (p : Process) (m : Memory) (mode : Mode) → IsMode p m mode → IsMode (record p { parent = 1 }) m mode
-parent-kept p m Running is = (record { descriptors = is.0.descriptors }, is.1)
-parent-kept p m Ready is = record { descriptors = is.descriptors }
-parent-kept p m (Waiting w) is = (record { descriptors = is.0.descriptors }, is.1)
-parent-kept p m (Zombie status) is = record { descriptors = is.descriptors; directory = is.directory }
-
 orphan-placed : (pid : ℕ) (o : Option Process) (q : Option SpaceView) → IsPlace o q → IsPlace (option_map (orphaned pid) o) q
-orphan-placed pid None None is = is
-orphan-placed pid None (Some h) is = is
-orphan-placed pid (Some p) None is = is
 orphan-placed pid (Some p) (Some h) is = elim (nat_eq p.parent pid) as (λ b. IsPlaced (if b then record p { parent = 1 } else p) h) [
-  | true ↦ record { size = is.size; zero = is.zero; aligned = is.aligned; mode = parent-kept p h.memory p.mode is.mode }
+  | true ↦ record { size = is.size; zero = is.zero; aligned = is.aligned; mode = mode-kept p 1 p.registers p.pc h.memory p.mode is.mode }
   | false ↦ is
 ]
+orphan-placed pid _ _ is = is
 
 orphan-waits : (opens : List (Option Counted)) (pid : ℕ) (o : Option Process) → WaitsWell opens o → WaitsWell opens (option_map (orphaned pid) o)
 orphan-waits opens pid None is = tt
@@ -225,12 +211,6 @@ module _ (k : Kernel) (is : IsKernel k) (z : slice_index k.spaces.registers 0 �
   fewer : taken_frames ended_to.spaces ≤ k.spaces.frames
   fewer = omega (arith, is.fits, fewer-pipes k.spaces.pipes (standing k.spaces.pipes (opens_of left)) leaves.1.all leaves.1.each)
 
-  home-here : home_in (Some q) ≡ Some q.directory
-  home-here = go (is_zombie_mode q.mode) refl where
-    go : (b : Bool) → is_zombie_mode q.mode ≡ b → (if b then None else Some q.directory) ≡ Some q.directory
-    go true e = absurd (let bad : false ≡ true = sym (ap not e) ∙ alive in cc)
-    go false e = refl
-
   orphan-home : (o : Option Process) → home_in (option_map (orphaned q.pid) o) ≡ home_in o
   orphan-home = orphan-same home_in q.pid (λ p. refl)
 
@@ -240,7 +220,7 @@ module _ (k : Kernel) (is : IsKernel k) (z : slice_index k.spaces.registers 0 �
   pub nodes-counted : (m : ℕ) → files_on left m + homes_at (put orphans i gone) m + named_in nodes m ≡ files_on k.files m + homes_at (loaded k).places m
   nodes-counted m =
       let sums = sum_by-set (λ o. one_in m (home_in o)) orphans i (Some gone) None short in
-      let was : one_in m (home_in (slot orphans i)) ≡ one_in m (Some q.directory) = ap (one_in m) (ap home_in (slot-map (orphaned q.pid) (loaded k).places i) ∙ orphan-home (slot (loaded k).places i) ∙ ap home_in there ∙ home-here) in
+      let was : one_in m (home_in (slot orphans i)) ≡ one_in m (Some q.directory) = ap (one_in m) (ap home_in (slot-map (orphaned q.pid) (loaded k).places i) ∙ orphan-home (slot (loaded k).places i) ∙ ap home_in there ∙ home-living q alive) in
       let last : named_in (q.directory ∷ []) m ≡ one_in m (Some q.directory) = sum_by-cons (one_at m) q.directory [] ∙ omega arith in
       omega (arith, files_on-all_closed k.files q.descriptors m, named_in-append (gone_nodes k.files q.descriptors) (q.directory ∷ []) m, sums, was, last, orphan-homes m)
 

@@ -7,7 +7,7 @@ use Rattle.std.proofs.lemmas.Option.{same_Some}
 use Rattle.unixmodel.specs.declared.process.Mode.{Mode}
 use Rattle.unixmodel.specs.Process.{is_zombie_mode}
 use Rattle.kernel.specs.Kernel.{Kernel, base, counting, ended, halted_by, idle, lives, loaded, memories, memory_in, on_hart, rest_of, state_of, waking}
-use Rattle.kernel.specs.Sound.{IsKernel, IsPlace, IsPlaced, is_at, CanEnd, CanEndIn, IsAlive}
+use Rattle.kernel.specs.Sound.{IsKernel, IsPlaced, is_at, CanEnd, CanEndIn, IsAlive}
 use Rattle.kernel.proofs.Changes.{ended-held, ended-is, ended-kernel, ended-made, loaded-placed, other-at}
 use Rattle.kernel.proofs.Holding.{failed-filed}
 use Rattle.kernel.proofs.Dropping.{counted}
@@ -17,7 +17,7 @@ use Rattle.blockdev.specs.declared.DeviceFault.{DeviceFault}
 use Rattle.tree.specs.Tree.{FileTree, Serves}
 use Rattle.unixmodel.specs.Failures.{HasCause}
 use Rattle.kernel.proofs.Leaving.{ends-at}
-use Rattle.kernel.proofs.Runs.{loaded-run, memory-at, process-with, run-of, set-slot, slot-put, with_process, within-run}
+use Rattle.kernel.proofs.Runs.{loaded-run, memory-at, process-with, run-of, set-slot, slot-put, with_process, within-run, space-of}
 use Rattle.kernel.proofs.Starts.{killed-ends, state-idle}
 use Rattle.files.specs.Places.{Counted, opens_of}
 use Rattle.proc.specs.declared.process.Process.{Process}
@@ -37,15 +37,10 @@ pub record IsThere (k : Kernel) (i : ℕ) (p : Process) (h : SpaceView) : Type 0
   pub space : slot k.spaces.places i ≡ Some h
   pub placed : IsPlaced p h
 
-there-go : (k : Kernel) (i : ℕ) (p : Process) (o : Option Process) (q : Option SpaceView) → slot k.table.places i ≡ o → slot k.spaces.places i ≡ q → IsPlace o q → o ≡ Some p → (h : SpaceView) × IsThere k i p h
-there-go k i p None q process space is at = absurd (cc)
-there-go k i p (Some x) None process space is at = absurd is
-there-go k i p (Some x) (Some h) process space is at =
-    let e : x ≡ p = cc in
-    (h, record { process = process ∙ at; space = space; placed = subst (λ (y : Process). IsPlaced y h) e is })
-
 pub there-of : (k : Kernel) (i : ℕ) (p : Process) → IsKernel k → slot k.table.places i ≡ Some p → (h : SpaceView) × IsThere k i p h
-there-of k i p is at = there-go k i p (slot k.table.places i) (slot k.spaces.places i) refl refl (is.stands i) at
+there-of k i p is at =
+    let h = space-of (slot k.table.places i) (slot k.spaces.places i) p at (is.stands i) in
+    (h.0, record { process = at; space = h.1.0; placed = h.1.1 })
 
 module _ (k : Kernel) (i : ℕ) (p : Process) (h : SpaceView) (is : IsKernel k) (none : k.spaces.active ≡ None) (t : IsThere k i p h) (alive : lives p ≡ true) where
   pub process-idle : process_at (state_of k) i ≡ Some (with_memory h.memory p)
@@ -133,23 +128,18 @@ finish-is k i q status is can at =
     ap (λ (t : Places). record (finished k i q status) { table = exited t i status }) (sym w.put)
     ∙ ended-made k i q status at w.pids
 
-space-go : (o : Option Process) (q : Option SpaceView) (p : Process) → IsPlace o q → o ≡ Some p → (h : SpaceView) × (q ≡ Some h)
-space-go None q p is at = absurd (cc)
-space-go (Some x) None p is at = absurd is
-space-go (Some x) (Some h) p is at = (h, refl)
-
 -- it held the nodes that it lets go
 held-whole : (k : Kernel) (i : ℕ) (q : Process) → IsKernel k → CanEnd k i → slice_index k.spaces.registers 0 ≡ 0 → k.spaces.pc % 4 ≡ 0 → slot (loaded k).places i ≡ Some q → AreHeld k.tree (gone_nodes k.files q.descriptors ++ q.directory ∷ [])
 held-whole k i q is can z a at =
     let w = whole-of k i q is can at in
-    let s = space-go (slot (loaded k).places i) (slot k.spaces.places i) q (loaded-placed k is z a i) at in
-    ended-held k is z a i q s.0 at s.1 w.pids w.alone w.living (pos 0) w.up
+    let s = space-of (slot (loaded k).places i) (slot k.spaces.places i) q at (loaded-placed k is z a i) in
+    ended-held k is z a i q s.0 at s.1.0 w.pids w.alone w.living (pos 0) w.up
 
 finish-keeps : (k : Kernel) (i : ℕ) (q : Process) (status : ℤ) → IsKernel k → CanEnd k i → slice_index k.spaces.registers 0 ≡ 0 → k.spaces.pc % 4 ≡ 0 → slot (loaded k).places i ≡ Some q → IsKernel (ended k i status)
 finish-keeps k i q status is can z a at =
     let w = whole-of k i q is can at in
-    let s = space-go (slot (loaded k).places i) (slot k.spaces.places i) q (loaded-placed k is z a i) at in
-    rw (ended-is k is z a i q s.0 at s.1 w.pids w.alone w.living status) (ended-kernel k is z a i q s.0 at s.1 w.pids w.alone w.living status)
+    let s = space-of (slot (loaded k).places i) (slot k.spaces.places i) q at (loaded-placed k is z a i) in
+    rw (ended-is k is z a i q s.0 at s.1.0 w.pids w.alone w.living status) (ended-kernel k is z a i q s.0 at s.1.0 w.pids w.alone w.living status)
 
 -- the count of the device's failures says nothing of the rest
 pub counting-used : {t : FileTree} {opens : List (Option Counted)} {places : List (Option Process)} (failures : ℕ) → IsInUse t opens places → IsInUse (record t { failures = failures }) opens places
@@ -203,18 +193,3 @@ told-waking a b awake (Err fault) told = tt
 
 pub serves-waking : {old t : FileTree} {r : Result (Unit {0}) DeviceFault} (a b : Kernel) (awake : List Bool) → Serves old t r (λ done. a ≡ b) → Serves old t r (λ done. waking a awake ≡ waking b awake)
 serves-waking {r = r} a b awake serves = record { told = told-waking a b awake r serves.told; up = serves.up; down = serves.down; cause = serves.cause }
-
--- there is a process that may end
-finish-some-go : (k : Kernel) (i : ℕ) (o : Option ℕ) → IsKernel k → k.spaces.active ≡ o → CanEndIn k i o → slot (loaded k).places i ≡ None → ⊥
-finish-some-go k i (Some j) is active can at =
-    let run = run-of k i is (active ∙ ap Some can) in
-    let held : slot (loaded k).places i ≡ Some (on_hart k.spaces run.0) =
-    ap (λ (t : Places). slot t.places i) (loaded-run k i run.0 run.1.0 run.1.1) ∙ slot-put k.table.places i (Some (on_hart k.spaces run.0)) (within-run k i run.0 run.1.0 run.1.1) in
-    absurd (cc)
-finish-some-go k i None is active can at =
-    let same : loaded k ≡ k.table = rw active refl in
-    let there : slot k.table.places i ≡ None = ap (λ (t : Places). slot t.places i) (sym same) ∙ at in
-    rw there at can.0
-
-pub finish-some : (k : Kernel) (i : ℕ) → IsKernel k → CanEnd k i → slot (loaded k).places i ≡ None → ⊥
-finish-some k i is can at = finish-some-go k i k.spaces.active is refl can at

@@ -12,6 +12,8 @@ use Rattle.proc.specs.Mask.{is_in}
 use Rattle.proc.specs.Places.{place_where}
 use Rattle.unixmodel.specs.Files.{slot}
 use Rattle.unixmodel.specs.State.{holds}
+-- there is no such place
+pub use Rattle.files.proofs.Whole.{set_outside as set-past}
 
 -- ---- a place is woken
 
@@ -26,12 +28,6 @@ set-other (b ∷ bs) zero zero out = absurd (cc)
 set-other (b ∷ bs) zero (suc j) out = out
 set-other (b ∷ bs) (suc i) zero out = out
 set-other (b ∷ bs) (suc i) (suc j) out = set-other bs i j out
-
--- there is no such place
-pub set-past : {X : Type 0} (xs : List X) (i : ℕ) (x : X) → length xs ≤ i → slice_set xs i x ≡ xs
-set-past [] i x past = refl
-set-past (y ∷ xs) zero x past = absurd (omega arith)
-set-past (y ∷ xs) (suc i) x past = ap (λ ys. y ∷ ys) (set-past xs i x (omega arith))
 
 -- ---- those who pass are woken
 

@@ -111,10 +111,8 @@ module _ (k : Kernel) (idle : k.spaces.active ≡ None) where
 
   -- who is ready lives
   alive-mode : (s : State) (m : Memory) (p : Process) (mode : Mode) → p.mode ≡ mode → turn.is_ready_in s (with_memory m p) mode ≡ true → lives p ≡ true
-  alive-mode s m p Running e ready = rw e refl
-  alive-mode s m p Ready e ready = rw e refl
-  alive-mode s m p (Waiting w) e ready = rw e refl
   alive-mode s m p (Zombie status) e ready = absurd (cc)
+  alive-mode s m p _ e ready = rw e refl
 
   alive-go : (s : State) (m : Memory) (o : Option Process) → holds (turn.is_ready s) (option_map (with_memory m) o) ≡ true → IsAlive o
   unfolding turn.is_ready

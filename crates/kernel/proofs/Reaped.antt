@@ -19,9 +19,10 @@ use Rattle.unixmodel.specs.Files.{slot, taken}
 use Rattle.unixmodel.specs.Memory.{Memory}
 use Rattle.unixmodel.specs.Reap.{reap, without_nodes, without_opens, without_pipes}
 use Rattle.unixmodel.specs.declared.process.Mode.{Mode}
-use Rattle.unixmodel.specs.declared.process.Mode.TheVariants.{Ready, Running, Waiting, Zombie}
+use Rattle.unixmodel.specs.declared.process.Mode.TheVariants.{Zombie}
 use Rattle.unixmodel.specs.Process.{is_zombie_mode}
 use Rattle.std.proofs.lemmas.Option.{none-some, same_Some}
+use Rattle.kernel.proofs.Runs.{space-of}
 use Rattle.kernel.specs.Holding.{IsInUse, home_in}
 use Rattle.kernel.proofs.Holding.{AreAway, nodes-stay, used-put}
 use Rattle.unixmodel.specs.State.{State}
@@ -42,9 +43,8 @@ match-place (Some p) None is = absurd is
 match-place (Some p) (Some h) is = tt
 
 match-on : (s : Spaces) (o : Option Process) (q : Option SpaceView) → IsMatch o q → IsMatch (option_map (on_hart s) o) q
-match-on s None q is = is
-match-on s (Some p) None is = is
 match-on s (Some p) (Some h) is = tt
+match-on s _ _ is = is
 
 pub match-active : (k : Kernel) (o : Option ℕ) → ((j : ℕ) → IsMatch (slot k.table.places j) (slot k.spaces.places j))
     → (j : ℕ) → IsMatch (slot (changed_at k.table (on_hart k.spaces) o).places j) (slot k.spaces.places j)
@@ -60,14 +60,10 @@ opened-loaded k is = opened-active k k.files k.spaces.pipes k.spaces.active is.o
 
 -- a zombie works nowhere
 away-in : (o : Option Process) (q : Option SpaceView) → IsPlace o q → (p : Process) → o ≡ Some p → is_zombie_mode p.mode ≡ true → p.directory ≡ 0
-away-in None q is p at zombie = absurd (none-some p at)
-away-in (Some x) None is p at zombie = absurd is
-away-in (Some x) (Some h) is p at zombie = let same : x ≡ p = same_Some x p at in go x h.memory x.mode is.mode (ap (λ (y : Process). is_zombie_mode y.mode) same ∙ zombie) (ap (λ (y : Process). y.directory) same) where
-  go : (x : Process) (m : Memory) (mode : Mode) → IsMode x m mode → is_zombie_mode mode ≡ true → x.directory ≡ p.directory → p.directory ≡ 0
-  go x m Running is zombie same = absurd (let bad : false ≡ true = zombie in cc)
-  go x m Ready is zombie same = absurd (let bad : false ≡ true = zombie in cc)
-  go x m (Waiting w) is zombie same = absurd (let bad : false ≡ true = zombie in cc)
-  go x m (Zombie status) is zombie same = sym same ∙ is.directory
+away-in o q is p at zombie = let h = space-of o q p at is in go h.0.memory p.mode h.1.1.mode zombie where
+  go : (m : Memory) (mode : Mode) → IsMode p m mode → is_zombie_mode mode ≡ true → p.directory ≡ 0
+  go m (Zombie status) is zombie = is.directory
+  go m _ is zombie = absurd (let bad : false ≡ true = zombie in cc)
 
 pub are-away : (os : List (Option Process)) (hs : List (Option SpaceView)) → ((j : ℕ) → IsPlace (slot os j) (slot hs j)) → AreAway os
 are-away os hs stands j p at zombie = away-in (slot os j) (slot hs j) (stands j) p at zombie

@@ -8,7 +8,7 @@ use Rattle.proc.specs.declared.process.Process.{Process}
 use Rattle.proc.specs.Whole.{with_memory}
 use Rattle.spaces.specs.Spaces.{SpaceView}
 use Rattle.unixmodel.specs.declared.process.Mode.{Mode}
-use Rattle.unixmodel.specs.declared.process.Mode.TheVariants.{Ready, Running, Waiting, Zombie}
+use Rattle.unixmodel.specs.declared.process.Mode.TheVariants.{Running}
 use Rattle.unixmodel.specs.Files.{put}
 use Rattle.unixmodel.specs.Memory.{Memory}
 use Rattle.unixmodel.specs.Process as unix
@@ -20,10 +20,7 @@ on_regs k registers pc = record k { spaces = record k.spaces { registers = regis
 
 -- a running process may be in that mode
 pub runs-mode : (p : Process) (memory : Memory) (mode : Mode) → mode ≡ Running → IsLive p → p.killed ≡ false → IsMode p memory mode
-runs-mode p memory Running e l n = (l, n)
-runs-mode p memory Ready e l n = absurd (cc)
-runs-mode p memory (Waiting w) e l n = absurd (cc)
-runs-mode p memory (Zombie status) e l n = absurd (cc)
+runs-mode p memory mode e l n = rw e (l, n)
 
 -- a process that was put in a place is changed
 pub change-put : (i : ℕ) (s : State) (p : unix.Process) (change : unix.Process → unix.Process) → i < length s.places → change_process (put_process s i p) i change ≡ put_process s i (change p)
@@ -36,10 +33,7 @@ pub regs-kernel : (k : Kernel) → IsKernel k → (registers : List ℕ) (pc : �
 regs-kernel k is registers pc = record { all = is.all; spaces = is.spaces; stands = is.stands; runs = is.runs; fits = is.fits; opened = is.opened; filed = is.filed }
 
 run-mode : (p : Process) (memory : Memory) (mode : Mode) → mode ≡ Running → IsMode p memory mode → IsLive p × (p.killed ≡ false)
-run-mode p memory Running e is = is
-run-mode p memory Ready e is = absurd (cc)
-run-mode p memory (Waiting w) e is = absurd (cc)
-run-mode p memory (Zombie status) e is = absurd (cc)
+run-mode p memory mode e is = rw e at is
 
 module _ (k : Kernel) (i : ℕ) (p : Process) (h : SpaceView) (r : IsRun k i p h) (is : IsKernel k) where
   pub regs-run : (registers : List ℕ) (pc : ℕ) → IsRun (on_regs k registers pc) i p h

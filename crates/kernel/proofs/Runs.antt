@@ -1,11 +1,13 @@
 -- The running process, and what becomes of the state where it alone changes.
-use Rattle.std.proofs.Common.{false, ◌≡◌, ◌≢◌, ℕ, zero, suc, ◌<◌, ◌≤◌, ◌⊎◌, inl, inr, true, nat_eq, List, [], ◌∷◌, length, Option, Some, None, refl, ap, sym, ◌∙◌, arith}
+use Rattle.std.proofs.Common.{false, Bool, subst, ◌≡◌, ◌≢◌, ℕ, zero, suc, ◌<◌, ◌≤◌, ◌⊎◌, inl, inr, true, nat_eq, List, [], ◌∷◌, length, Option, Some, None, refl, ap, sym, ◌∙◌, arith}
 use Rattle.std.specs.Prelude.{if◌then◌else◌, is_some, option_map, slice_set, slice_index_or}
 use Rattle.std.proofs.lemmas.Bool.Decides.{nat_tests}
 use Rattle.std.proofs.lemmas.List.{get_or-set_other, get_or-set_same, length-map, length-set, map-set, set-get_or}
 use Rattle.std.proofs.Math.ListN as listn
 use Rattle.kernel.specs.Descriptors.{descriptors_in}
-use Rattle.kernel.specs.Kernel.{Kernel, base, loaded, memories, memory_in, on_hart, rest_of, state_of}
+use Rattle.std.proofs.lemmas.Bool.{not-true}
+use Rattle.std.proofs.lemmas.Option.{none-some, same_Some}
+use Rattle.kernel.specs.Kernel.{Kernel, base, lives, loaded, memories, memory_in, on_hart, rest_of, state_of}
 use Rattle.kernel.specs.Sound.{IsKernel, IsPlace, IsPlaced, is_at}
 use Rattle.kernel.specs.Holding.{home_in}
 use Rattle.kernel.proofs.Holding.{filed-put}
@@ -17,7 +19,7 @@ use Rattle.proc.proofs.Joined.{put-joined, slot-joined}
 use Rattle.proc.specs.Whole.{with_memory, with_table}
 use Rattle.spaces.specs.Spaces.{SpaceView, Spaces, has_space, taken_frames}
 use Rattle.unixmodel.specs.declared.process.Mode.{Mode}
-use Rattle.unixmodel.specs.declared.process.Mode.TheVariants.{Ready, Running, Waiting, Zombie}
+use Rattle.unixmodel.specs.declared.process.Mode.TheVariants.{Running}
 use Rattle.unixmodel.specs.Files.{put, slot}
 use Rattle.unixmodel.specs.Memory.{Memory}
 use Rattle.unixmodel.specs.Process as unix
@@ -59,6 +61,15 @@ module _ (s : State) (t : Places) (ms : List Memory) (i : ℕ) where
   pub process-with : (p : Process) → slot t.places i ≡ Some p → process_at (with_table s t ms) i ≡ Some (with_memory (slice_index_or ms i []) p)
   process-with p is = slot-joined t.places ms i ∙ ap (option_map (with_memory (slice_index_or ms i []))) is
 
+-- a process is put in place i, and its memory stays
+pub put-same : (s : State) (t : Places) (sp : Spaces) (i : ℕ) (q : Process) (h : SpaceView) → slot sp.places i ≡ Some h
+    → with_table s (with_process t i q) (memories sp) ≡ put_process (with_table s t (memories sp)) i (with_memory h.memory q)
+put-same s t sp i q h space =
+    let at : slice_index_or (memories sp) i [] ≡ h.memory = memory-at sp i ∙ ap memory_in space in
+    let same : memories sp ≡ slice_set (memories sp) i h.memory = sym (ap (λ m. slice_set (memories sp) i m) (sym at) ∙ set-get_or (memories sp) i []) in
+    let short : i < length (memories sp) = rw (length-map sp.places memory_in) (slot-within sp.places i h space) in
+    ap (λ (ms : List Memory). with_table s (with_process t i q) ms) same ∙ sym (put-with s t (memories sp) i q h.memory short)
+
 -- ---- the running process
 
 pub record IsRun (k : Kernel) (i : ℕ) (p : Process) (h : SpaceView) : Type 0 where
@@ -74,39 +85,28 @@ eq-self i = grind (arith, nat_tests)
 
 running-mode : (m : Mode) → is_running_mode m ≡ true → m ≡ Running
 running-mode Running h = refl
-running-mode Ready h = absurd (cc)
-running-mode (Waiting w) h = absurd (cc)
-running-mode (Zombie status) h = absurd (cc)
+running-mode _ h = absurd (cc)
 
-run-go : (k : Kernel) (i : ℕ) (o : Option Process) (q : Option SpaceView) → k.tree.failed ≡ false → k.spaces.active ≡ Some i → slot k.table.places i ≡ o → slot k.spaces.places i ≡ q → IsPlace o q → holds table.is_running o ≡ true
-    → (p : Process) × ((h : SpaceView) × IsRun k i p h)
-run-go k i None q up active process space stands runs = absurd (cc)
-run-go k i (Some p) None up active process space stands runs = absurd stands
-run-go k i (Some p) (Some h) up active process space stands runs = (
-  p,
-  (
-    h,
-    record {
-      active = active;
-      process = process;
-      space = space;
-      placed = stands;
-      runs = running-mode p.mode runs;
-      up = up;
-    },
-  ),
-)
+running-process : (o : Option Process) → holds table.is_running o ≡ true → (p : Process) × ((o ≡ Some p) × (p.mode ≡ Running))
+running-process None runs = absurd (cc)
+running-process (Some p) runs = (p, (refl, running-mode p.mode runs))
+
+-- a place with a process has a space, which fits it
+pub space-of : (o : Option Process) (q : Option SpaceView) (p : Process) → o ≡ Some p → IsPlace o q → (h : SpaceView) × ((q ≡ Some h) × IsPlaced p h)
+space-of None q p at is = absurd (none-some p at)
+space-of (Some x) None p at is = absurd is
+space-of (Some x) (Some h) p at is = (h, (refl, subst (λ (y : Process). IsPlaced y h) (same_Some x p at) is))
+
+pub place-space : (o : Option Process) (q : Option SpaceView) (p : Process) → o ≡ Some p → IsPlace o q → is_some q ≡ true
+place-space o q p at is = ap is_some (space-of o q p at is).1.0
 
 -- the active place has the running process
 pub run-of : (k : Kernel) (i : ℕ) → IsKernel k → k.spaces.active ≡ Some i → (p : Process) × ((h : SpaceView) × IsRun k i p h)
 run-of k i is active =
     let here : is_at i k.spaces.active ≡ true = rw active (eq-self i) in
-    run-go k i (slot k.table.places i) (slot k.spaces.places i) (is.filed.up i active) active refl refl (is.stands i) (is.runs i ∙ here)
-
-pub place-space : (o : Option Process) (q : Option SpaceView) (p : Process) → o ≡ Some p → IsPlace o q → is_some q ≡ true
-place-space None q p e is = absurd (cc)
-place-space (Some r) None p e is = absurd is
-place-space (Some r) (Some h) p e is = refl
+    let p = running-process (slot k.table.places i) (is.runs i ∙ here) in
+    let h = space-of (slot k.table.places i) (slot k.spaces.places i) p.0 p.1.0 (is.stands i) in
+    (p.0, (h.0, record { active = active; process = p.1.0; space = h.1.0; placed = h.1.1; runs = p.1.1; up = is.filed.up i active }))
 
 -- over the fields: k is what they show, and now is the kernel's value
 module _ (k now : Kernel) (i : ℕ) (same : k ≡ now) (is : IsKernel k) (active : now.spaces.active ≡ Some i) where
@@ -141,6 +141,10 @@ module _ (k : Kernel) (i : ℕ) (p : Process) (h : SpaceView) (r : IsRun k i p h
 -- it works in its directory
 pub home-running : (p : Process) → p.mode ≡ Running → home_in (Some p) ≡ Some p.directory
 home-running p runs = ap (λ (m : Mode). if is_zombie_mode m then None else Some p.directory) runs
+
+-- and so does one that lives
+pub home-living : (p : Process) → lives p ≡ true → home_in (Some p) ≡ Some p.directory
+home-living p alive = ap (λ (b : Bool). if b then None else Some p.directory) (not-true (is_zombie_mode p.mode) alive)
 
 -- ---- the running process alone changes
 

@@ -1,10 +1,9 @@
 -- What a kernel shows of its processes, in the words of its state.
-use Rattle.std.proofs.Common.{◌≡◌, inl, inr, ℕ, zero, suc, ◌+◌, Bool, true, List, [], ◌∷◌, Option, Some, None, refl, ap, sym, ◌∙◌}
-use Rattle.std.specs.Prelude.{IfSome, cond, is_some, not, option_and_then, option_map, position, slice_get, slice_set, unwrap_or}
-use Rattle.std.specs.List.{prefix_len}
+use Rattle.std.proofs.Common.{◌≡◌, ℕ, Bool, true, List, Option, Some, None, refl, ap, sym, ◌∙◌}
+use Rattle.std.specs.Prelude.{IfSome, is_some, option_and_then, option_map, position, slice_get, slice_set, unwrap_or}
 use Rattle.std.proofs.lemmas.List.{length-set}
 use Rattle.kernel.proofs.Reaped.{frames-with, match-loaded}
-use Rattle.kernel.proofs.Runs.{memory-at, place-space, same_or_not, slot-other, slot-put, slot-within}
+use Rattle.kernel.proofs.Runs.{memory-at, place-space}
 use Rattle.kernel.specs.Kernel.{Kernel, base, loaded, memories, memory_in, on_hart, rest_of, state_of}
 use Rattle.kernel.specs.Shows.{bare}
 use Rattle.kernel.specs.Sound.{IsKernel}
@@ -19,25 +18,17 @@ use Rattle.unixmodel.specs.Memory.{Memory}
 use Rattle.unixmodel.specs.Process as unix
 use Rattle.unixmodel.specs.Shown.{ShowsMemory, shown_page, shown_process}
 use Rattle.unixmodel.specs.State.{holds, place_of_pid, process_at}
+use Rattle.kernel.proofs.Opens.{active-by, hart-same}
+use Rattle.std.proofs.lemmas.List.Folds.{position_or_len-set}
 
 -- ---- a search
 
-module _ (test : Option Process → Bool) where
-  prefix_len-set : (os : List (Option Process)) (i : ℕ) (o : Option Process) → test o ≡ test (slot os i) → prefix_len (λ q. not (test q)) (slice_set os i o) ≡ prefix_len (λ q. not (test q)) os
-  prefix_len-set [] i o same = refl
-  prefix_len-set (q ∷ os) zero o same = rw same refl
-  prefix_len-set (q ∷ os) (suc i) o same = ap (λ n. cond (not (test q)) (1 + n) 0) (prefix_len-set os i o same)
-
-  position-set : (os : List (Option Process)) (i : ℕ) (o : Option Process) → test o ≡ test (slot os i) → position test (slice_set os i o) ≡ position test os
-  position-set os i o same = rw (prefix_len-set os i o same, length-set os i o) refl
-
-pid-on : (s : Spaces) (pid : ℕ) (o : Option Process) → holds (has_pid pid) (option_map (on_hart s) o) ≡ holds (has_pid pid) o
-pid-on s pid None = refl
-pid-on s pid (Some p) = refl
+position-set : (test : Option Process → Bool) (os : List (Option Process)) (i : ℕ) (o : Option Process) → test o ≡ test (slot os i) → position test (slice_set os i o) ≡ position test os
+position-set test os i o same = rw (position_or_len-set test os i o None same, length-set os i o) refl
 
 place-changed : (t : Places) (s : Spaces) (pid : ℕ) (o : Option ℕ) → place_where (changed_at t (on_hart s) o).places (has_pid pid) ≡ place_where t.places (has_pid pid)
 place-changed t s pid None = refl
-place-changed t s pid (Some i) = position-set (holds (has_pid pid)) t.places i (option_map (on_hart s) (slot t.places i)) (pid-on s pid (slot t.places i))
+place-changed t s pid (Some i) = position-set (holds (has_pid pid)) t.places i (option_map (on_hart s) (slot t.places i)) (hart-same (holds (has_pid pid)) s (λ p. refl) (slot t.places i))
 
 -- ---- the process with a pid
 
@@ -77,11 +68,8 @@ whole-shown k now pid i same r told found o whole =
 -- ---- its memory
 
 loaded-some : (k : Kernel) (i : ℕ) (p : Process) (o : Option ℕ) → slot k.table.places i ≡ Some p → (q : Process) × (slot (changed_at k.table (on_hart k.spaces) o).places i ≡ Some q)
-loaded-some k i p None is = (p, is)
-loaded-some k i p (Some j) is = elim (same_or_not i j) [
-  | inl same ↦ (on_hart k.spaces p, rw (← same, slot-put k.table.places i (option_map (on_hart k.spaces) (slot k.table.places i)) (slot-within k.table.places i p is), is) refl)
-  | inr other ↦ (p, slot-other k.table.places j i (option_map (on_hart k.spaces) (slot k.table.places j)) other ∙ is)
-]
+loaded-some k i p a is =
+    active-by (λ j o. j ≡ i → (q : Process) × (o ≡ Some q)) k (λ j o was e. let q = was e in (on_hart k.spaces q.0, ap (option_map (on_hart k.spaces)) q.1)) a (λ j e. (p, ap (slot k.table.places) e ∙ is)) i refl
 
 memory-held : (o : Option SpaceView) → memory_in o ≡ (unwrap_or o no_pages).memory
 memory-held None = refl

@@ -1,15 +1,15 @@
 -- A process is picked.
-use Rattle.std.proofs.Common.{◌≡◌, ◌≢◌, ℕ, ◌<◌, ◌%◌, Bool, true, false, List, [], length, Option, Some, None, ℤ, negsuc, refl, ap, sym, subst, ◌∙◌}
-use Rattle.std.specs.Prelude.{if◌then◌else◌, is_some, not, slice_index, slice_index_or, slice_set}
-use Rattle.std.proofs.lemmas.List.{length-map, length-set, set-get_or}
+use Rattle.std.proofs.Common.{◌≡◌, ◌≢◌, ℕ, ◌<◌, ◌%◌, Bool, true, false, List, length, Option, Some, None, ℤ, negsuc, refl, ap, sym, subst, ◌∙◌}
+use Rattle.std.specs.Prelude.{if◌then◌else◌, is_some, not, slice_index}
+use Rattle.std.proofs.lemmas.List.{length-set}
 use Rattle.kernel.specs.Descriptors.{descriptors_in}
-use Rattle.kernel.specs.Kernel.{Kernel, base, ended, halted_by, lives, loaded, memories, memory_in, picked, rest_of, started, started_as, state_of}
+use Rattle.kernel.specs.Kernel.{Kernel, base, ended, halted_by, lives, loaded, memories, picked, rest_of, started, started_as, state_of}
 use Rattle.kernel.specs.Sound.{CanRun, IsKernel, IsLive, IsPlace, IsPlaced, is_at}
 use Rattle.kernel.proofs.Changes.{ended-is, ended-state, other-at, stands-put}
 use Rattle.kernel.proofs.Opens.{opened-put}
 use Rattle.kernel.specs.Holding.{home_in}
 use Rattle.kernel.proofs.Holding.{filed-as, filed-put}
-use Rattle.kernel.proofs.Runs.{IsRun, eq-self, memory-at, put-with, runs-set, set-twice, slot-put, slot-within, state-run, with_process}
+use Rattle.kernel.proofs.Runs.{IsRun, eq-self, runs-set, set-twice, slot-put, slot-within, state-run, with_process, home-living, put-same}
 use Rattle.proc.specs.declared.process.Process.{Process}
 use Rattle.proc.specs.Places.{changed, with_mode}
 use Rattle.proc.specs.Whole.{with_memory, with_table}
@@ -18,20 +18,13 @@ use Rattle.unixmodel.specs.Calls.{quiet}
 use Rattle.unixmodel.specs.declared.process.Mode.{Mode}
 use Rattle.unixmodel.specs.declared.process.Mode.TheVariants.{Ready, Running}
 use Rattle.unixmodel.specs.Files.{slot}
-use Rattle.unixmodel.specs.Memory.{Memory}
 use Rattle.unixmodel.specs.Next as next
 use Rattle.unixmodel.specs.Outcome.{end_process}
-use Rattle.unixmodel.specs.Process.{is_zombie_mode}
 use Rattle.unixmodel.specs.State.{State, put_process}
 
 -- none runs: the state has the table as it is
 pub picked-state : (k : Kernel) (i : ℕ) → k.spaces.active ≡ None → state_of (picked k i) ≡ record (state_of k) { last = i }
 picked-state k i idle = rw idle refl
-
-placed-is : (o : Option Process) (q : Option SpaceView) (p : Process) (h : SpaceView) → o ≡ Some p → q ≡ Some h → IsPlace o q → IsPlaced p h
-placed-is None q p h at space is = absurd (cc)
-placed-is (Some x) None p h at space is = absurd (cc)
-placed-is (Some x) (Some y) p h at space is = let e : x ≡ p = cc in let f : y ≡ h = cc in subst (λ (z : Process). IsPlaced z h) e (subst (λ (z : SpaceView). IsPlaced x z) f is)
 
 -- process p, which lives, stands in place i, and none runs
 module _ (k : Kernel) (i : ℕ) (p : Process) (h : SpaceView) (is : IsKernel k) (idle : k.spaces.active ≡ None) (process : slot k.table.places i ≡ Some p) (space : slot k.spaces.places i ≡ Some h) (alive : lives p ≡ true) where
@@ -42,7 +35,7 @@ module _ (k : Kernel) (i : ℕ) (p : Process) (h : SpaceView) (is : IsKernel k) 
   short = slot-within k.table.places i p process
 
   placed : IsPlaced p h
-  placed = placed-is (slot k.table.places i) (slot k.spaces.places i) p h process space (is.stands i)
+  placed = rw (process, space) at (is.stands i)
 
   pub state-idle : state_of k ≡ with_table (base (rest_of k)) k.table (memories k.spaces)
   state-idle = rw idle refl
@@ -71,12 +64,6 @@ module _ (k : Kernel) (i : ℕ) (p : Process) (h : SpaceView) (is : IsKernel k) 
     q-placed : IsPlaced q h
     q-placed = record { size = placed.size; zero = placed.zero; aligned = placed.aligned; mode = (record { descriptors = l.descriptors }, n) }
 
-    home-alive : home_in (Some q) ≡ home_in (Some p)
-    home-alive = go (is_zombie_mode p.mode) refl where
-      go : (b : Bool) → is_zombie_mode p.mode ≡ b → Some p.directory ≡ (if b then None else Some p.directory)
-      go true e = absurd (let bad : false ≡ true = sym (ap not e) ∙ alive in cc)
-      go false e = refl
-
     pub started-run : IsRun started_to i q h
     started-run = record { active = refl; process = slot-put k.table.places i (Some q) short; space = space; placed = q-placed; runs = refl; up = up }
 
@@ -86,21 +73,16 @@ module _ (k : Kernel) (i : ℕ) (p : Process) (h : SpaceView) (is : IsKernel k) 
       spaces = is.spaces;
       stands = stands-put k.table.places k.spaces.places i (Some q) short (rw space q-placed) is.stands;
       runs = runs-set k.table.places i (Some q) k.spaces.active (Some i) short (sym (eq-self i)) (λ j other. other-at i j other ∙ sym (ap (is_at j) idle)) is.runs;
-      filed = filed-as (filed-put is.filed i (Some q) (home-alive ∙ sym (ap home_in process))) (Some i) (λ j e. up);
+      filed = filed-as (filed-put is.filed i (Some q) (sym (home-living p alive) ∙ sym (ap home_in process))) (Some i) (λ j e. up);
       fits = is.fits;
       opened = opened-put k.files k.spaces.pipes k.table.places i (Some q) (sym (ap descriptors_in process)) tt is.opened;
     }
 
     pub started-state : state_of started_to ≡ put_process (state_of k) i (with_memory h.memory q)
     started-state =
-        let rest = base (rest_of k) in
-        let at : slice_index_or (memories k.spaces) i [] ≡ h.memory = memory-at k.spaces i ∙ ap memory_in space in
-        let same : memories k.spaces ≡ slice_set (memories k.spaces) i h.memory = sym (ap (λ m. slice_set (memories k.spaces) i m) (sym at) ∙ set-get_or (memories k.spaces) i []) in
-        let low : i < length (memories k.spaces) = rw (length-map k.spaces.places memory_in) (slot-within k.spaces.places i h space) in
         state-run started_to i q h started-run
-        ∙ ap (λ (places : List (Option Process)). with_table rest (record k.table { places = places }) (memories k.spaces)) (set-twice k.table.places i (Some q) (Some q))
-        ∙ ap (λ (ms : List Memory). with_table rest (with_process k.table i q) ms) same
-        ∙ sym (put-with rest k.table (memories k.spaces) i q h.memory low)
+        ∙ ap (λ (places : List (Option Process)). with_table (base (rest_of k)) (record k.table { places = places }) (memories k.spaces)) (set-twice k.table.places i (Some q) (Some q))
+        ∙ put-same (base (rest_of k)) k.table k.spaces i q h space
         ∙ sym (ap (λ (s : State). put_process s i (with_memory h.memory q)) state-idle)
 
     -- a picked process in user state runs

@@ -10,7 +10,7 @@ use Rattle.kernel.specs.declared.channels.Channel.TheVariants.{Bytes, Children, 
 use Rattle.kernel.specs.Ready.{seen}
 use Rattle.kernel.proofs.Masks.{set-in, set-past}
 use Rattle.kernel.proofs.Runs.{eq-self}
-use Rattle.kernel.proofs.Watching.{exited-is, no-zombie, unready-asleep, watched-bytes, watched-ended, watched-put, watched-running, watched-ticks, watched-woken}
+use Rattle.kernel.proofs.Watching.{exited-is, no-zombie, unready-asleep, watched-bytes, watched-ended, watched-put, watched-running, watched-ticks, watched-woken, child-map}
 use Rattle.proc.specs.declared.process.Process.{Process}
 use Rattle.proc.specs.Mask.{is_in}
 use Rattle.proc.specs.Pick.{Answers}
@@ -82,10 +82,7 @@ module _ {a : State} {os : List (Option Process)} {awake : List Bool} (watched :
   ]
 
   pub watched-changed : (i : ℕ) (f : Process → Process) → ((p : Process) (pid : ℕ) → is_zombie_child_of pid (f p) ≡ true → is_zombie_child_of pid p ≡ true) → IsWatched a (slice_set os i (option_map f (slot os i))) (slice_set awake i true)
-  watched-changed i f zombies = watched-roused i (option_map f (slot os i)) (λ pid. go pid (slot os i)) where
-    go : (pid : ℕ) (o : Option Process) → holds (is_zombie_child_of pid) (option_map f o) ≡ true → holds (is_zombie_child_of pid) o ≡ true
-    go pid None is = is
-    go pid (Some p) is = zombies p pid is
+  watched-changed i f zombies = watched-roused i (option_map f (slot os i)) (λ pid. child-map f zombies pid (slot os i))
 
   pub watched-started : (i : ℕ) → IsWatched a (slice_set os i (option_map (with_mode Running) (slot os i))) (slice_set awake i true)
   watched-started i = watched-changed i (with_mode Running) (no-zombie Running refl)

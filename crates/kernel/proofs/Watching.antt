@@ -71,9 +71,7 @@ module _ (a : State) (os : List (Option Process)) where
 -- who runs is awake
 runs-wakes : (a : State) (os : List (Option Process)) (p : Process) (mode : Mode) → is_running_mode mode ≡ true → IsAsleepAs a os p mode → ⊥
 runs-wakes a os p Running runs is = is
-runs-wakes a os p Ready runs is = is
-runs-wakes a os p (Waiting w) runs is = absurd (cc)
-runs-wakes a os p (Zombie status) runs is = absurd (cc)
+runs-wakes a os p _ runs is = absurd (cc)
 
 o-wakes : (a : State) (os : List (Option Process)) (o : Option Process) → holds table.is_running o ≡ true → IsAsleep a os o → ⊥
 o-wakes a os None runs is = absurd (cc)
@@ -170,6 +168,12 @@ put-still a os os' fewer (Some p) is =
     } in
     still goes (λ w at. refl) is
 
+-- a changed process is a zombie only if it was
+pub child-map : (f : Process → Process) → ((p : Process) (pid : ℕ) → is_zombie_child_of pid (f p) ≡ true → is_zombie_child_of pid p ≡ true) → (pid : ℕ) (o : Option Process)
+    → holds (is_zombie_child_of pid) (option_map f o) ≡ true → holds (is_zombie_child_of pid) o ≡ true
+child-map f zombies pid None is = is
+child-map f zombies pid (Some p) is = zombies p pid is
+
 module _ {a : State} {os : List (Option Process)} {awake : List Bool} (watched : IsWatched a os awake) where
   -- which is a zombie only if the old one was, and is awake or asleep
   pub watched-put : (i : ℕ) (o : Option Process) → i < length os → ((pid : ℕ) → holds (is_zombie_child_of pid) o ≡ true → holds (is_zombie_child_of pid) (slot os i) ≡ true)
@@ -191,12 +195,8 @@ module _ {a : State} {os : List (Option Process)} {awake : List Bool} (watched :
 
   -- and may become any other one but a zombie
   pub watched-running : (i : ℕ) (f : Process → Process) → holds table.is_running (slot os i) ≡ true → ((p : Process) (pid : ℕ) → is_zombie_child_of pid (f p) ≡ true → is_zombie_child_of pid p ≡ true) → IsWatched a (slice_set os i (option_map f (slot os i))) awake
-  watched-running i f runs zombies = watched-put i (option_map f (slot os i)) (holds-within table.is_running os i runs) (λ pid. child-map pid (slot os i))
+  watched-running i f runs zombies = watched-put i (option_map f (slot os i)) (holds-within table.is_running os i runs) (λ pid. child-map f zombies pid (slot os i))
       (λ out. absurd (true≢false (sym (running-awake i runs) ∙ out)))
-    where
-      child-map : (pid : ℕ) (o : Option Process) → holds (is_zombie_child_of pid) (option_map f o) ≡ true → holds (is_zombie_child_of pid) o ≡ true
-      child-map pid None is = is
-      child-map pid (Some p) is = zombies p pid is
 
 -- a process that hasn't ended is nobody's zombie
 pub no-zombie : (mode : Mode) → is_zombie_mode mode ≡ false → (p : Process) (pid : ℕ) → is_zombie_child_of pid (record p { mode = mode }) ≡ true → is_zombie_child_of pid p ≡ true
