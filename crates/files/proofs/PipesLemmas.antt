@@ -5,13 +5,13 @@ use Rattle.std.proofs.Common.{ap, arith, get_or-set_other, get_or-set_same, inl,
 use Rattle.std.proofs.lemmas.Bool.{cases_eq}
 use Rattle.std.proofs.lemmas.Bool.Decides.{nat_tests}
 use Rattle.files.specs.Places.{has_pipe}
-use Rattle.files.proofs.Whole.{kept-each, kept_in}
+use Rattle.files.proofs.Whole.{all-set, kept-each, kept_in}
 use Rattle.unixmodel.specs.FileCalls.{pipe_end}
 use Rattle.unixmodel.specs.Files.{clear, put, slot, taken}
 use Rattle.unixmodel.specs.OpenFiles.{End, OpenFile, is_pipe}
 use Rattle.unixmodel.specs.OpenFiles.End.{ReadEnd, WriteEnd}
 use Rattle.unixmodel.specs.OpenFiles.Target.{OnNode, OnPipe}
-use Rattle.unixmodel.specs.Reap.{is_piped, kept, without_pipes}
+use Rattle.unixmodel.specs.Reap.{kept, without_pipes}
 use Rattle.unixmodel.specs.State.{State}
 use Rattle.files.specs.Pipes.{IsPiped}
 
@@ -100,34 +100,31 @@ pipes-same pipes = record { all = refl; each = λ q bytes at. at }
 pub pipes-clear : (old new : List (Option (List ℕ))) (q : ℕ) → IsLeftOf old new → IsLeftOf old (clear new q)
 pipes-clear old new q left = record {
   all = length-set new q None ∙ left.all;
-  each = λ r bytes at. elim (cases_eq r q) [
-    | inl same ↦ absurd (let bad : None ≡ Some bytes = sym (slot-clear new q) ∙ ap (slot (clear new q)) (sym same) ∙ at in cc)
-    | inr other ↦ left.each r bytes (sym (get_or-set_other new q r None None other) ∙ at)
-  ];
+  each = all-set (λ r o. (bytes : List ℕ) → o ≡ Some bytes → slot old r ≡ Some bytes) new q None (λ bytes at. absurd (let bad : None ≡ Some bytes = at in cc)) left.each;
 }
 
-abbrev piped : State → ℕ → List ℕ → Bool
-piped s q pipe = is_piped s q
+abbrev piped : List (Option OpenFile) → ℕ → List ℕ → Bool
+piped opens q pipe = has_pipe opens q
 
-pipe-none : (s : State) (q : ℕ) (old : Option (List ℕ)) → is_piped s q ≡ false → kept_in (piped s) q old ≡ None
-pipe-none s q None fails = refl
-pipe-none s q (Some bytes) fails = rw fails refl
+pipe-none : (opens : List (Option OpenFile)) (q : ℕ) (old : Option (List ℕ)) → has_pipe opens q ≡ false → kept_in (piped opens) q old ≡ None
+pipe-none opens q None fails = refl
+pipe-none opens q (Some bytes) fails = rw fails refl
 
-kept-pipe : (s : State) (q : ℕ) (old new : Option (List ℕ)) → is_some new ≡ is_piped s q → ((bytes : List ℕ) → new ≡ Some bytes → old ≡ Some bytes) → kept_in (piped s) q old ≡ new
-kept-pipe s q old None is same = pipe-none s q old (sym is)
-kept-pipe s q old (Some bytes) is same = rw (same bytes refl, ← is) refl
+kept-pipe : (opens : List (Option OpenFile)) (q : ℕ) (old new : Option (List ℕ)) → is_some new ≡ has_pipe opens q → ((bytes : List ℕ) → new ≡ Some bytes → old ≡ Some bytes) → kept_in (piped opens) q old ≡ new
+kept-pipe opens q old None is same = pipe-none opens q old (sym is)
+kept-pipe opens q old (Some bytes) is same = rw (same bytes refl, ← is) refl
 
--- of the pipes of a state those are kept that stand
-pub pipes-left : (s : State) (old new : List (Option (List ℕ))) → IsPiped new s.opens → IsLeftOf old new → kept (λ q pipe. is_piped s q) 0 old ≡ new
-pipes-left s old new is left =
-    kept-each (piped s) old new 0 left.all
+-- of the pipes of these open files those are kept that stand
+pub pipes-left : (opens : List (Option OpenFile)) (old new : List (Option (List ℕ))) → IsPiped new opens → IsLeftOf old new → kept (piped opens) 0 old ≡ new
+pipes-left opens old new is left =
+    kept-each (piped opens) old new 0 left.all
     (λ i j e.
     let same : j ≡ i = omega (arith, e) in
-    rw same (kept-pipe s i (slot old i) (slot new i) (is i) (left.each i)))
+    rw same (kept-pipe opens i (slot old i) (slot new i) (is i) (left.each i)))
 
 pub without_pipes-left : (s : State) (old new : List (Option (List ℕ))) → IsPiped new s.opens → IsLeftOf old new → without_pipes (record s { pipes = old }) ≡ record s { pipes = new }
 unfolding without_pipes
-without_pipes-left s old new is left = ap (λ pipes. record s { pipes = pipes }) (pipes-left s old new is left)
+without_pipes-left s old new is left = ap (λ pipes. record s { pipes = pipes }) (pipes-left s.opens old new is left)
 
 pub without_pipes-same : (s : State) → IsPiped s.pipes s.opens → without_pipes s ≡ s
 without_pipes-same s is = without_pipes-left s s.pipes s.pipes is (pipes-same s.pipes)

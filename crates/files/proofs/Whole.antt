@@ -1,9 +1,9 @@
 -- What the table comes to in the abstract Unix's state: its open files are the state's, and what is left of the table
 -- where descriptors go is what a state is left with where nothing names the others any more.
 use Rattle.std.specs.Prelude.{Bool, List, None, Option, Some, [], cond, false, length, option_and_then, option_map, slice_set, suc, zero, ℕ, ◌+◌, ◌-◌, ◌<◌, ◌≡◌, ◌≤◌, ◌∷◌}
-use Rattle.std.proofs.Common.{ap, ap₂, arith, get_or-set_other, get_or-set_same, inl, inr, length-set, refl, sym, ◌∙◌}
+use Rattle.std.proofs.Common.{ap, ap₂, arith, inl, inr, length-set, refl, sym, ◌∙◌}
 use Rattle.std.proofs.lemmas.List.{set-get_or}
-use Rattle.std.proofs.lemmas.Bool.{cases_eq, cases_lt}
+use Rattle.std.proofs.lemmas.Bool.{cases_lt}
 use Rattle.files.proofs.CountsLemmas.{Counts, count_of, described-no, described-yes, lt-no, lt-yes}
 use Rattle.files.proofs.Mapped.{free_slot-told, length-told, set-told, slot-told}
 use Rattle.files.specs.declared.file.OpenFile.{OpenFile}
@@ -14,6 +14,7 @@ use Rattle.unixmodel.specs.Files.{clear, free_slot, put, slot}
 use Rattle.unixmodel.specs.OpenFiles as unix
 use Rattle.unixmodel.specs.Reap.{is_described, kept, without_opens}
 use Rattle.unixmodel.specs.State.{State}
+pub use Rattle.std.proofs.lemmas.List.{set_past as set_outside}
 
 abbrev file_in : Counted → unix.OpenFile
 file_in c = file_of c.file
@@ -86,21 +87,18 @@ opens-moved t i offset number old f at on =
 
 -- ---- a table stays one
 
-pub set_outside : {X : Type 0} (xs : List X) (i : ℕ) (x : X) → length xs ≤ i → slice_set xs i x ≡ xs
-set_outside [] i x h = refl
-set_outside (y ∷ xs) zero x h = absurd (omega (arith, h))
-set_outside (y ∷ xs) (suc i) x h = ap (λ l. y ∷ l) (set_outside xs i x (omega (arith, h)))
+-- what holds of each place, where one has another
+pub all-set : {X : Type 0} (P : ℕ → Option X → Type 0) (xs : List (Option X)) (i : ℕ) (o : Option X) → P i o → ((j : ℕ) → P j (slot xs j)) → (j : ℕ) → P j (slot (slice_set xs i o) j)
+all-set P [] i o here is j = is j
+all-set P (x ∷ xs) zero o here is zero = here
+all-set P (x ∷ xs) zero o here is (suc j) = is (suc j)
+all-set P (x ∷ xs) (suc i) o here is zero = is 0
+all-set P (x ∷ xs) (suc i) o here is (suc j) = all-set (λ n. P (suc n)) xs i o here (λ n. is (suc n)) j
 
 table-set : (t : List (Option Counted)) (i : ℕ) (o : Option Counted) → IsTable t → ((c : Counted) → o ≡ Some c → 0 < c.count) → IsTable (slice_set t i o)
 table-set t i o is here = record {
   all = length-set t i o ∙ is.all;
-  named = λ k c at. elim (cases_eq k i) [
-    | inl same ↦ elim (cases_lt i (length t)) [
-      | inl inside ↦ here c (sym (get_or-set_same t i o None inside) ∙ ap (slot (slice_set t i o)) (sym same) ∙ at)
-      | inr outside ↦ is.named k c (ap (λ l. slot l k) (sym (set_outside t i o outside)) ∙ at)
-    ]
-    | inr other ↦ is.named k c (sym (get_or-set_other t i k o None other) ∙ at)
-  ];
+  named = all-set (λ k x. (c : Counted) → x ≡ Some c → 0 < c.count) t i o here is.named;
 }
 
 pub table-opened : (t : List (Option Counted)) (i : ℕ) (f : OpenFile) → IsTable t → IsTable (opened t i f)
@@ -140,28 +138,19 @@ pub record IsLeft (old new : List (Option Counted)) : Type 0 where
 pub left-same : (t : List (Option Counted)) → IsLeft t t
 left-same t = record { all = refl; each = λ i c at. slot-opens t i ∙ ap (option_map file_in) at }
 
-fewer-from : (o : Option Counted) (c : Counted) → option_and_then fewer o ≡ Some c → (d : Counted) × ((o ≡ Some d) × (d.file ≡ c.file))
+pub fewer-from : (o : Option Counted) (c : Counted) → option_and_then fewer o ≡ Some c → (d : Counted) × ((o ≡ Some d) × (d.file ≡ c.file))
 fewer-from None c at = absurd (let bad : None ≡ Some c = at in cc)
 fewer-from (Some d) c at = elim (cases_lt 1 d.count) [
   | inl more ↦ (let is : record d { count = d.count - 1 } ≡ c = (let both : Some (record d { count = d.count - 1 }) ≡ Some c = rw (lt-yes 1 d.count more) at at in cc) in (d, (refl, ap (λ e. e.file) is)))
   | inr last ↦ absurd (let bad : None ≡ Some c = rw (lt-no 1 d.count last) at at in cc)
 ]
 
-left-here : (old new : List (Option Counted)) (i : ℕ) → IsLeft old new → (k : ℕ) (c : Counted) → k ≡ i → slot (closed new i) k ≡ Some c → slot (opens_of old) k ≡ Some (file_of c.file)
-left-here old new i left k c same at = elim (cases_lt i (length new)) [
-  | inl inside ↦
-      let from = fewer-from (slot new i) c (sym (get_or-set_same new i (option_and_then fewer (slot new i)) None inside) ∙ ap (slot (closed new i)) (sym same) ∙ at) in
-      left.each k from.0 (ap (slot new) same ∙ from.1.0) ∙ ap (λ f. Some (file_of f)) from.1.1
-  | inr outside ↦ left.each k c (ap (λ l. slot l k) (sym (set_outside new i (option_and_then fewer (slot new i)) outside)) ∙ at)
-]
-
 pub left-closed : (old new : List (Option Counted)) (i : ℕ) → IsLeft old new → IsLeft old (closed new i)
 left-closed old new i left = record {
   all = length-set new i (option_and_then fewer (slot new i)) ∙ left.all;
-  each = λ k c at. elim (cases_eq k i) [
-    | inl same ↦ left-here old new i left k c same at
-    | inr other ↦ left.each k c (sym (get_or-set_other new i k (option_and_then fewer (slot new i)) None other) ∙ at)
-  ];
+  each = all-set (λ k o. (c : Counted) → o ≡ Some c → slot (opens_of old) k ≡ Some (file_of c.file)) new i (option_and_then fewer (slot new i))
+      (λ c at. let from = fewer-from (slot new i) c at in left.each i from.0 from.1.0 ∙ ap (λ f. Some (file_of f)) from.1.1)
+      left.each;
 }
 
 -- ---- reaping

@@ -7,7 +7,8 @@ use Rattle.std.proofs.lemmas.List.{get_or-set_other, length-map, length-set}
 use Rattle.std.specs.Option.{option_eq}
 use Rattle.kernel.specs.Descriptors.{all_closed, descriptors_in, standing}
 use Rattle.kernel.specs.Holding.{AreHeld, IsInUse, all_dropped, files_on, gone_nodes, home_in, homes_at}
-use Rattle.kernel.proofs.Holding.{AreOldHomes, all-failed, all-set, fewer-held, fewer-leaves, fewer-nodes, fewer-used, filed-put, idle-filed, named_in, same-map, slot-map}
+use Rattle.files.proofs.Whole.{all-set}
+use Rattle.kernel.proofs.Holding.{AreOldHomes, all-failed, fewer-held, fewer-leaves, fewer-nodes, fewer-used, filed-put, idle-filed, named_in, same-map, slot-map}
 use Rattle.kernel.specs.Kernel.{Kernel, base, descriptors_at, ended, halted_by, idle, left_as, left_home, lives, loaded, memories, memory_in, on_hart, rest_of, state_of}
 use Rattle.kernel.specs.Sound.{IsKernel, IsMode, IsPlace, IsPlaced, WaitsWell, is_at}
 use Rattle.kernel.proofs.Named.{Leaves, counted-ended, counts-joined, fewer-pipes, files-all_closed, files_on-all_closed, leaves-standing, named_in-append, old-all_closed, opens-all_closed, orphan-same, reap-closed, table-all_closed}

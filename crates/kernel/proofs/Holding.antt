@@ -15,7 +15,7 @@ use Rattle.files.specs.declared.file.Target.{Target}
 use Rattle.files.specs.declared.file.Target.TheVariants as target
 use Rattle.files.specs.Meant.{target_of}
 use Rattle.files.specs.Places.{Counted, more, opened, opens_of, shared}
-use Rattle.files.proofs.Whole.{set_outside}
+use Rattle.files.proofs.Whole.{all-set}
 use Rattle.kernel.specs.Holding.{AreHeld, FitsNode, IsFolder, IsInUse, all_dropped, dropped, files_on, home_in, homes_at, node_in, node_of, node_on}
 use Rattle.kernel.specs.Sound.{IsFiled}
 use Rattle.names.proofs.Finding.{slot-within}
@@ -42,14 +42,6 @@ use Rattle.unixmodel.specs.State.{State}
 
 pub slot-map : {X : Type 0} (f : X → X) (xs : List (Option X)) (j : ℕ) → slot (map (option_map f) xs) j ≡ option_map f (slot xs j)
 slot-map f xs j = get_or-map (option_map f) xs j None
-
--- one place has another one
-pub all-set : {X : Type 0} (P : ℕ → Option X → Type 0) (xs : List (Option X)) (i : ℕ) (o : Option X) → P i o → ((j : ℕ) → P j (slot xs j)) → (j : ℕ) → P j (slot (slice_set xs i o) j)
-all-set P [] i o here is j = is j
-all-set P (x ∷ xs) zero o here is zero = here
-all-set P (x ∷ xs) zero o here is (suc j) = is (suc j)
-all-set P (x ∷ xs) (suc i) o here is zero = is 0
-all-set P (x ∷ xs) (suc i) o here is (suc j) = all-set (λ n. P (suc n)) xs i o here (λ n. is (suc n)) j
 
 -- ---- sums over places
 
@@ -149,37 +141,27 @@ module _ {t : FileTree} {opens : List (Option Counted)} {os : List (Option Proce
 
   -- one descriptor more names an open file
   pub used-shared : (i : ℕ) → IsInUse t (shared opens i) os
-  used-shared i = used-files (shared opens i) (λ n. same-set (λ o. one_in n (node_in o)) opens i (option_map more (slot opens i)) (ap (one_in n) (node-more (slot opens i)))) fits where
-    node-more : (o : Option Counted) → node_in (option_map more o) ≡ node_in o
-    node-more None = refl
-    node-more (Some c) = refl
+  used-shared i =
+      used-files (shared opens i) (λ n. same-set (λ o. one_in n (node_in o)) opens i (option_map more (slot opens i)) (ap (one_in n) (node-more (slot opens i))))
+      (all-set (λ k o. (c : Counted) → o ≡ Some c → FitsNode c.file c.file.target (node_of t.files (node_on c.file.target))) opens i (option_map more (slot opens i))
+      (λ c at. let old = was (slot opens i) c at in subst (λ f. FitsNode f f.target (node_of t.files (node_on f.target))) old.1.1 (is.fits i old.0 old.1.0)) is.fits)
+    where
+      node-more : (o : Option Counted) → node_in (option_map more o) ≡ node_in o
+      node-more None = refl
+      node-more (Some c) = refl
 
-    was : (o : Option Counted) (c : Counted) → option_map more o ≡ Some c → (d : Counted) × ((o ≡ Some d) × (d.file ≡ c.file))
-    was None c at = absurd (none-some c at)
-    was (Some d) c at = (d, (refl, ap (λ (x : Counted). x.file) (same_Some (more d) c at)))
-
-    fits : (k : ℕ) (c : Counted) → slot (shared opens i) k ≡ Some c → FitsNode c.file c.file.target (node_of t.files (node_on c.file.target))
-    fits k c at = elim (cases_eq k i) [
-      | inl same ↦ elim (cases_lt i (length opens)) [
-        | inl inside ↦
-            let old = was (slot opens i) c (sym (get_or-set_same opens i (option_map more (slot opens i)) None inside) ∙ ap (slot (shared opens i)) (sym same) ∙ at) in
-            subst (λ f. FitsNode f f.target (node_of t.files (node_on f.target))) old.1.1 (is.fits i old.0 old.1.0)
-        | inr outside ↦ is.fits k c (ap (λ l. slot l k) (sym (set_outside opens i (option_map more (slot opens i)) outside)) ∙ at)
-      ]
-      | inr other ↦ is.fits k c (sym (get_or-set_other opens i k (option_map more (slot opens i)) None other) ∙ at)
-    ]
+      was : (o : Option Counted) (c : Counted) → option_map more o ≡ Some c → (d : Counted) × ((o ≡ Some d) × (d.file ≡ c.file))
+      was None c at = absurd (none-some c at)
+      was (Some d) c at = (d, (refl, ap (λ (x : Counted). x.file) (same_Some (more d) c at)))
 
   -- an open file takes a free place; it is on no node
   pub used-opened : (i : ℕ) (f : OpenFile) → i < length opens → slot opens i ≡ None → node_on f.target ≡ None → FitsNode f f.target None → IsInUse t (opened opens i f) os
   used-opened i f inside free none fitting =
       used-files (opened opens i f)
       (λ n. same-set (λ o. one_in n (node_in o)) opens i (Some (record { file = f; count = 1 })) (ap (one_in n) (none ∙ sym (ap node_in free))))
-      (λ k c at. elim (cases_eq k i) [
-        | inl same ↦
-            let is' : record { file = f; count = 1 } ≡ c = same_Some (record { file = f; count = 1 }) c (sym (get_or-set_same opens i (Some (record { file = f; count = 1 })) None inside) ∙ ap (slot (opened opens i f)) (sym same) ∙ at) in
-            subst (λ (d : Counted). FitsNode d.file d.file.target (node_of t.files (node_on d.file.target))) is' (subst (λ o. FitsNode f f.target (node_of t.files o)) (sym none) fitting)
-        | inr other ↦ is.fits k c (sym (get_or-set_other opens i k (Some (record { file = f; count = 1 })) None other) ∙ at)
-      ])
+      (all-set (λ k o. (c : Counted) → o ≡ Some c → FitsNode c.file c.file.target (node_of t.files (node_on c.file.target))) opens i (Some (record { file = f; count = 1 }))
+      (λ c at. subst (λ (d : Counted). FitsNode d.file d.file.target (node_of t.files (node_on d.file.target))) (same_Some (record { file = f; count = 1 }) c at) (subst (λ o. FitsNode f f.target (node_of t.files o)) (sym none) fitting))
+      is.fits)
 
 -- ---- a process runs, or none
 

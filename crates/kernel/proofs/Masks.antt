@@ -13,7 +13,7 @@ use Rattle.proc.specs.Places.{place_where}
 use Rattle.unixmodel.specs.Files.{slot}
 use Rattle.unixmodel.specs.State.{holds}
 -- there is no such place
-pub use Rattle.files.proofs.Whole.{set_outside as set-past}
+pub use Rattle.std.proofs.lemmas.List.{set_past as set-past}
 
 -- ---- a place is woken
 

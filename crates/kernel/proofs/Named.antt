@@ -1,11 +1,11 @@
 -- The open files and the pipes keep what holds of them where descriptors come and go, and what is left of them is what
 -- the abstract Unix leaves.
 use Rattle.tree.specs.Tree.{FileTree}
-use Rattle.std.proofs.Common.{drop-cons, eq-eqb, append_assoc, Bool, List, None, Option, Some, [], ap, arith, cond, false, inl, inr, length, refl, subst, suc, sym, true, ℕ, ℤ, ◌+◌, ◌-◌, ◌++◌, ◌<◌, ◌≡◌, ◌≤◌, ◌∙◌, ◌∷◌}
+use Rattle.std.proofs.Common.{drop-cons, eq-eqb, append_assoc, Bool, List, None, Option, Some, [], ap, arith, cond, false, inl, inr, length, refl, subst, suc, sym, true, ℕ, ℤ, ◌+◌, ◌++◌, ◌<◌, ◌≡◌, ◌≤◌, ◌∙◌, ◌∷◌}
 use Rattle.std.specs.Prelude.{drop, is_some, map, option_and_then, option_map, slice_set, ◌==◌}
-use Rattle.std.proofs.lemmas.Bool.{cases_eq, cases_lt}
-use Rattle.std.proofs.lemmas.Option.{none-some, same_Some}
-use Rattle.std.proofs.lemmas.List.{get_or-set_other, get_or-set_same, get_or_past, length-append, length-map, set-get_or}
+use Rattle.std.proofs.lemmas.Bool.{cases_lt}
+use Rattle.std.proofs.lemmas.Option.{none-some}
+use Rattle.std.proofs.lemmas.List.{get_or_past, length-append, length-map, set-get_or}
 use Rattle.std.proofs.lemmas.List.Sums.{sum_by-cons, sum_by-set}
 use Rattle.kernel.specs.Descriptors.{IsCounted, after_close, all_closed, all_shared, closed_in, named_by, names_in, shared_in, standing}
 use Rattle.kernel.proofs.Opens.{count-joined, file-shared}
@@ -22,7 +22,7 @@ use Rattle.files.specs.declared.file.Target.{Target}
 use Rattle.files.specs.declared.file.Target.TheVariants as target
 use Rattle.files.specs.Meant.{end_of, file_of, target_of}
 use Rattle.files.specs.Places.{Counted, IsTable, closed, count_at, fewer, file_at, has_pipe, last_in, last_target, opens_of, shared}
-use Rattle.files.proofs.Whole.{IsLeft, left-closed, left-same, opens-closed, opens-closed_last, opens-shared, set_outside, slot-opens, table-closed, table-shared, without_opens-left}
+use Rattle.files.proofs.Whole.{all-set, fewer-from, IsLeft, left-closed, left-same, opens-closed, opens-closed_last, opens-shared, set_outside, slot-opens, table-closed, table-shared, without_opens-left}
 use Rattle.proc.specs.declared.process.Process.{Process}
 use Rattle.proc.specs.Places.{orphaned, zombie_of}
 use Rattle.proc.specs.Whole.{joined}
@@ -133,20 +133,8 @@ pub opens-all_closed : (t : List (Option Counted)) (ds : List (Option ℕ)) (n :
 opens-all_closed t ds n f at = opens-left t (all_closed t ds) n f (left-all_closed t ds) (slot (all_closed t ds) n) refl at
 
 old-closed : (t : List (Option Counted)) (n : ℕ) → AreOld t (closed t n)
-old-closed t n k c at = elim (cases_eq k n) [
-  | inl same ↦ elim (cases_lt n (length t)) [
-    | inl inside ↦ (let was = fewer-is (slot t n) c (sym (get_or-set_same t n (option_and_then fewer (slot t n)) None inside) ∙ ap (slot (closed t n)) (sym same) ∙ at) in (was.0, (ap (slot t) same ∙ was.1.0, was.1.1)))
-    | inr outside ↦ (c, (ap (λ l. slot l k) (sym (set_outside t n (option_and_then fewer (slot t n)) outside)) ∙ at, refl))
-  ]
-  | inr other ↦ (c, (sym (get_or-set_other t n k (option_and_then fewer (slot t n)) None other) ∙ at, refl))
-]
-  where
-    fewer-is : (o : Option Counted) (c : Counted) → option_and_then fewer o ≡ Some c → (d : Counted) × ((o ≡ Some d) × (d.file ≡ c.file))
-    fewer-is None c at = absurd (none-some c at)
-    fewer-is (Some d) c at = elim (cases_lt 1 d.count) [
-      | inl more ↦ (let is : record d { count = d.count - 1 } ≡ c = same_Some (record d { count = d.count - 1 }) c (rw (lt-yes 1 d.count more) at at) in (d, (refl, ap (λ e. e.file) is)))
-      | inr last ↦ absurd (none-some c (rw (lt-no 1 d.count last) at at))
-    ]
+old-closed t n =
+    all-set (λ k o. (c : Counted) → o ≡ Some c → (d : Counted) × ((slot t k ≡ Some d) × (d.file ≡ c.file))) t n (option_and_then fewer (slot t n)) (fewer-from (slot t n)) (λ k c at. (c, (at, refl)))
 
 old-after : (a b c : List (Option Counted)) → AreOld a b → AreOld b c → AreOld a c
 old-after a b c first then k x at = let mid = then k x at in let old = first k mid.0 mid.1.0 in (old.0, (old.1.0, old.1.1 ∙ mid.1.1))
@@ -237,25 +225,9 @@ stands-last t pipes n q e is last =
     let at : slot (opens_of t) n ≡ Some (file_of c.0.file) = slot-opens t n ∙ ap (option_map (λ (d : Counted). file_of d.file)) c.1.0 in
     is q ∙ has_pipe-clear (opens_of t) n (file_of c.0.file) q at ∙ rw (c.1.1, eq-eqb q q refl) refl
 
--- a state with these open files alone
-abbrev with_opens : List (Option unix.OpenFile) → State
-with_opens opens = record {
-  places = [];
-  files = [];
-  opens = opens;
-  pipes = [];
-  console = record { committed = []; edited = [] };
-  ticks = 0;
-  next_pid = 0;
-  last = 0;
-  frame_limit = 0;
-  block_limit = 0;
-  halted = None;
-}
-
 -- the pipes that are left where they follow the open files
 pub standing-is : (opens : List (Option unix.OpenFile)) (old new : List (Option (List ℕ))) → IsPiped new opens → IsLeftOf old new → standing old opens ≡ new
-standing-is opens old new is left = pipes-left (with_opens opens) old new is left
+standing-is opens old new is left = pipes-left opens old new is left
 
 -- ---- what is left as a whole
 

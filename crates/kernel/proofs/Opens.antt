@@ -3,7 +3,7 @@ use Rattle.std.proofs.Common.{◌≡◌, ◌≢◌, ℕ, ◌+◌, ◌<◌, ◌�
 use Rattle.std.specs.Prelude.{IfSome, option_and_then, option_map, slice_set}
 use Rattle.std.proofs.lemmas.List.Sums.{sum_by-cons}
 use Rattle.kernel.specs.Descriptors.{IsCounted, descriptors_in, named_by, names_in}
-use Rattle.kernel.proofs.Holding.{all-set, least, one_at-self, same-set}
+use Rattle.kernel.proofs.Holding.{least, one_at-self, same-set}
 use Rattle.kernel.specs.Kernel.{Kernel, on_hart}
 use Rattle.names.proofs.Finding.{slot-within}
 use Rattle.kernel.specs.Sound.{IsAwaiting, IsForBytes, IsForPipe, IsFresh, IsOpenFile, IsOpened, WaitsAs, WaitsWell, file_named, is_awaited, is_on_pipe}
@@ -15,7 +15,7 @@ use Rattle.files.specs.declared.file.Target.{Target}
 use Rattle.files.specs.Meant.{file_of}
 use Rattle.files.specs.Places.{Counted, count_at, count_in, file_at, more, opened, opens_of, shared}
 use Rattle.std.proofs.lemmas.List.{get_or-set_other}
-use Rattle.files.proofs.Whole.{file-opens, slot-opens}
+use Rattle.files.proofs.Whole.{all-set, file-opens, slot-opens}
 use Rattle.proc.specs.declared.process.Process.{Process}
 use Rattle.proc.specs.Places.{changed_at}
 use Rattle.proc.specs.Whole.{joined, with_memory}

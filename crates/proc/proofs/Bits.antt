@@ -1,9 +1,9 @@
 -- The bits of a number, and the places of a mask.
-use Rattle.std.proofs.Common.{Bool, List, [], ap, arith, false, inl, inr, length, refl, sym, suc, true, w64, zero, ℕ, ◌%◌, ◌*◌, ◌+◌, ◌-◌, ◌/◌, ◌<◌, ◌==◌, ◌∙◌, ◌∷◌, ◌≡◌, ◌≢◌, ◌≤◌, ◌^◌, max}
+use Rattle.std.proofs.Common.{Bool, List, ap, arith, false, inl, inr, length, refl, sym, suc, true, w64, zero, ℕ, ◌%◌, ◌*◌, ◌+◌, ◌-◌, ◌/◌, ◌<◌, ◌==◌, ◌∙◌, ◌≡◌, ◌≢◌, ◌≤◌, ◌^◌, max}
 use Rattle.std.specs.Prelude.{bit_and, bit_or, slice_set}
 use Rattle.std.specs.Int.{bit_at, bit_not, rotate_right, trailing_zeros}
 use Rattle.std.proofs.lemmas.Bool.{cases_eq, cases_lt}
-use Rattle.std.proofs.lemmas.List.{ext_get_or, get_or-set_other, get_or-set_same, length-set}
+use Rattle.std.proofs.lemmas.List.{ext_get_or, get_or-set_other, get_or-set_same, length-set, set_past}
 use Rattle.std.proofs.lemmas.Nat.{mod_below, or_lt, pow_pos, shr-shr, shr_le, shr_split}
 use Rattle.std.proofs.lemmas.Nat.Bits.{bit_at-suc, bit_at-trailing_zeros, bit_at-zero, bit_at_above, bit_at_cat_high, bit_at_cat_low, bit_at_clear_other, bit_at_clear_same, bit_at_lowest, bit_at_or, bit_at_set_other, bit_at_set_same, shr_and_one}
 use Rattle.proc.specs.Mask.{IsNext, NoneIsIn, bits_of, is_in}
@@ -38,11 +38,7 @@ bit-set n at low = one-changed n (bit_or n (1 * 2 ^ at % 2 ^ 64)) at true low (a
 
 -- there is no such place
 pub bit-past : (n at : ℕ) → 64 ≤ at → bits_of 64 n ≡ slice_set (bits_of 64 n) at true
-bit-past n at past = sym (set-past (bits_of 64 n) at (omega (arith, length-bits_of 64 n))) where
-  set-past : (xs : List Bool) (i : ℕ) → length xs ≤ i → slice_set xs i true ≡ xs
-  set-past [] i past = refl
-  set-past (x ∷ xs) zero past = absurd (omega arith)
-  set-past (x ∷ xs) (suc i) past = ap (λ ys. x ∷ ys) (set-past xs i (omega arith))
+bit-past n at past = sym (set_past (bits_of 64 n) at true (omega (arith, length-bits_of 64 n)))
 
 pub bit-cleared : (n at : ℕ) → at < 64 → bits_of 64 (bit_and n (bit_not w64 (1 * 2 ^ at % 2 ^ 64))) ≡ slice_set (bits_of 64 n) at false
 bit-cleared n at low = one-changed n (bit_and n (bit_not w64 (1 * 2 ^ at % 2 ^ 64))) at false low (ap (λ b. b == 1) (bit_at_clear_same w64 n at low)) (λ i h other. bit_at_clear_other w64 n at low i h other)
