@@ -44,18 +44,13 @@ pub map-sized-zeros : (n : ℕ) → map sized (replicate n (replicate 4096 0)) �
 map-sized-zeros zero = refl
 map-sized-zeros (suc n) = rw (sized-zeros, map-sized-zeros n) refl
 
-replicate-suc : {X : Type 0} (n : ℕ) (x : X) → replicate (suc n) x ≡ replicate n x ++ x ∷ []
-replicate-suc zero x = refl
-replicate-suc (suc n) x = ap (λ l. x ∷ l) (replicate-suc n x)
-
-pub replicate-push : {X : Type 0} (n : ℕ) (x : X) → replicate (n + 1) x ≡ replicate n x ++ x ∷ []
-replicate-push n x = rw add-one (replicate-suc n x)
-
--- two reads of one frame have the same length
-pub same_length : (m v : List (List ℕ)) (f : ℕ) (r s : List ℕ) → map sized m ≡ v → f < length v → r ≡ get_or m f r → s ≡ get_or m f s → length r ≡ 4096 → length s ≡ 4096
-same_length m v f r s is h e g full =
+-- a frame that was looked up twice: it is the memory's, and whole
+pub frame-read : (m v : List (List ℕ)) (f : ℕ) (r s : List ℕ) → map sized m ≡ v → f < length v → r ≡ get_or m f r → s ≡ get_or m f s → length r ≡ 4096 → (length s ≡ 4096) × (s ≡ frame_of v f)
+frame-read m v f r s is h e g full =
     let inside : f < length m = omega (arith, h, ap length is, length-map m sized) in
-    let same : r ≡ s = e ∙ get_or_default m f r s inside ∙ sym g in rw (← same) full
+    let same : r ≡ s = e ∙ get_or_default m f r s inside ∙ sym g in
+    let whole : length s ≡ 4096 = rw (← same) full in
+    (whole, frame_of-read m v f s is h g whole)
 
 pub length-zeros : length (replicate {A = ℕ} 4096 0) ≡ 4096
 length-zeros = length-replicate {A = ℕ} 4096 0
