@@ -1,10 +1,9 @@
 -- Ways between addresses, and offsets, as fields.
-use Rattle.std.proofs.Common.{ℤ, ◌≡◌, ◌≤◌, ◌<◌, ◌∙◌, ◌+◌, ◌-◌, ◌*◌, ◌%◌, ◌/◌, ◌^◌, ℕ, Bool, Err, None, Ok, Result, Some, ap, arith, false, if◌then◌else◌, nat_le, neg_ℤ, negsuc, not, pos, refl, suc, sym, true, zero, ◌==◌}
+use Rattle.std.proofs.Common.{ℤ, ◌≡◌, ◌≤◌, ◌<◌, ◌∙◌, ◌+◌, ◌-◌, ◌*◌, ◌%◌, ◌/◌, ◌^◌, ℕ, Bool, Err, None, Ok, Result, Some, ap, arith, false, if◌then◌else◌, neg_ℤ, negsuc, not, pos, refl, suc, sym, true, zero, ◌==◌}
 use Rattle.std.proofs.Math.Nat.{div-add-mod, mod-lt, mul_right_comm, pow-suc}
-use Rattle.std.proofs.lemmas.Bool.{ne_eqb}
+use Rattle.std.proofs.lemmas.Bool.{le-leb, lt-leb, ne_eqb}
 use Rattle.std.proofs.lemmas.Nat.{pow_pos}
 use Rattle.std.proofs.Math.Pow.{pow-lt}
-use Rattle.std.proofs.lemmas.Bool.Decides.{nat_tests}
 use Rattle.unixmodel.specs.Assembly as the
 use Rattle.unixmodel.specs.Numbers.{away, field, lies_in}
 use Rattle.unixmodel.specs.declared.assembly.AsmKind.{AsmKind}
@@ -12,28 +11,22 @@ use Rattle.unixmodel.specs.declared.assembly.AsmKind.TheVariants as kind
 use Rattle.asmtext.specs.Numbers.{field_within}
 use Rattle.asmtext.proofs.NumberLemmas.{field_negated, negative_within, positive_within}
 
-is_at_most : (m n : ℕ) → m ≤ n → nat_le m n ≡ true
-is_at_most m n h = grind (arith, nat_tests)
-
-is_above : (m n : ℕ) → n < m → nat_le m n ≡ false
-is_above m n h = grind (arith, nat_tests)
-
 ahead_is : (a b : ℕ) → a ≤ b → away a b ≡ pos (b - a)
-ahead_is a b h = ap (λ t. if t then pos (b - a) else neg_ℤ (pos (a - b))) (is_at_most a b h)
+ahead_is a b h = ap (λ t. if t then pos (b - a) else neg_ℤ (pos (a - b))) (le-leb a b h)
 
 back_is : (a b : ℕ) → b < a → away a b ≡ neg_ℤ (pos (a - b))
-back_is a b h = ap (λ t. if t then pos (b - a) else neg_ℤ (pos (a - b))) (is_above a b h)
+back_is a b h = ap (λ t. if t then pos (b - a) else neg_ℤ (pos (a - b))) (lt-leb a b h)
 
 -- ---- the way between two addresses
 
 pub ahead_in : (a b below above bits : ℕ) → a ≤ b → b - a ≤ above → above < 2 ^ bits → Some (b - a) ≡ field_within below above bits (away a b)
 ahead_in a b below above bits h k l =
-    ap (λ t. if t then Some (b - a) else None) (sym (is_at_most (b - a) above k)) ∙ positive_within below above bits (b - a) l ∙ ap (field_within below above bits) (sym (ahead_is a b h))
+    ap (λ t. if t then Some (b - a) else None) (sym (le-leb (b - a) above k)) ∙ positive_within below above bits (b - a) l ∙ ap (field_within below above bits) (sym (ahead_is a b h))
 
 pub back_in : (a b below above bits : ℕ) → b < a → a - b ≤ below → below < 2 ^ bits → Some (2 ^ bits - (a - b)) ≡ field_within below above bits (away a b)
 back_in a b below above bits h k l =
     ap Some (sym (field_negated bits (a - b) (omega arith) (omega arith)))
-    ∙ negative_within below above bits (a - b) (Some (a - b)) (ap (λ t. if t then Some (a - b) else None) (sym (is_at_most (a - b) below k)))
+    ∙ negative_within below above bits (a - b) (Some (a - b)) (ap (λ t. if t then Some (a - b) else None) (sym (le-leb (a - b) below k)))
     ∙ ap (field_within below above bits) (sym (back_is a b h))
 
 -- ---- offsets: whether one is odd shows in its field
@@ -62,13 +55,6 @@ parity (suc k) n h = parity_of k n
 
 abbrev tested : (bits : ℕ) (n : ℤ) → Result ℕ AsmKind
 tested bits n = if field 1 n == 1 then Err kind.Align else Ok (field bits n)
-
-pub offset_none : (bits : ℕ) (n : ℤ) → None ≡ field_within (2 ^ (bits - 1)) (2 ^ (bits - 1) - 1) bits n → Err kind.Range ≡ the.offset_field bits n
-offset_none bits n e = step (lies_in (2 ^ (bits - 1)) (2 ^ (bits - 1) - 1) n) e
-  where
-    step : (b : Bool) → None ≡ (if b then Some (field bits n) else None) → Err kind.Range ≡ (if not b then Err kind.Range else tested bits n)
-    step true h = grind (arith, h)
-    step false h = refl
 
 offset_some : (bits : ℕ) (n : ℤ) (found : ℕ) → Some found ≡ field_within (2 ^ (bits - 1)) (2 ^ (bits - 1) - 1) bits n → (found ≡ field bits n) × (the.offset_field bits n ≡ tested bits n)
 offset_some bits n found e = step (lies_in (2 ^ (bits - 1)) (2 ^ (bits - 1) - 1) n) e

@@ -1,10 +1,11 @@
 -- What the reader of program files finds in the file of a program.
-use Rattle.std.proofs.Common.{◌≡◌, ◌∙◌, ◌≤◌, ◌<◌, ◌+◌, ◌-◌, ◌*◌, ◌/◌, ◌%◌, ◌^◌, ◌++◌, ◌∷◌, ℕ, Bool, List, Some, false, [], ap, append_assoc, arith, drop, length, refl, sym, replicate, take, true, suc, zero, length-append, if◌then◌else◌, Err, Ok, OnOk, Result, is_ok}
-use Rattle.std.specs.Prelude.{slice_range, nat_le, nat_lt, ◌||◌, ◌==◌}
+use Rattle.std.proofs.Common.{◌≡◌, ◌∙◌, ◌≤◌, ◌<◌, ◌+◌, ◌-◌, ◌*◌, ◌/◌, ◌%◌, ◌^◌, ◌++◌, ◌∷◌, ℕ, List, Some, [], ap, append_assoc, arith, drop, length, refl, sym, replicate, take, true, suc, zero, length-append, if◌then◌else◌, Err, Ok, OnOk, Result, is_ok}
+use Rattle.std.specs.Prelude.{slice_range, ◌==◌}
 use Rattle.std.proofs.Math.Nat.{pow-suc}
 use Rattle.std.proofs.Math.Seq.{drop-append_seam, take-length}
 use Rattle.std.specs.declared.alloc.AllocError.{AllocError}
-use Rattle.std.proofs.lemmas.Bool.Decides.{nat_tests}
+use Rattle.std.proofs.Math.Bool.{or-true}
+use Rattle.std.proofs.lemmas.Bool.{le-leb, lt-ltb}
 use Rattle.std.proofs.lemmas.List.{length-replicate, take_all}
 use Rattle.unixmodel.specs.ElfFile.{elf_file, elf_header, program_header}
 use Rattle.unixmodel.specs.Memory.{Marks, pages_of, zeros}
@@ -67,22 +68,9 @@ segment size rest = refl
 abbrev all_marks : Marks
 all_marks = record { writable = true; executable = true; user = true }
 
-or_true : (b : Bool) → (b || true) ≡ true
-or_true true = refl
-or_true false = refl
-
-at_most_itself : (n : ℕ) → nat_le n n ≡ true
-at_most_itself n = grind (arith, nat_tests)
-
-is_at_most : (m n : ℕ) → m ≤ n → nat_le m n ≡ true
-is_at_most m n h = grind (arith, nat_tests)
-
-is_less : (m n : ℕ) → m < n → nat_lt m n ≡ true
-is_less m n h = grind (arith, nat_tests)
-
 follows : (file : List ℕ) (size : ℕ) → size < 2 ^ 64 → 4096 + size ≤ length file → may_follow file 0 (read_segment size) ≡ true
 follows file size h room =
-    rw (at_most_itself size, is_less (0 + size) (2 ^ 64) (omega arith), is_at_most (4096 + size) (length file) room, or_true (size == 0)) refl
+    rw (le-leb size size (omega arith), lt-ltb (0 + size) (2 ^ 64) (omega arith), le-leb (4096 + size) (length file) room, or-true (size == 0)) refl
 
 abbrev program_of : List ℕ → Loaded
 program_of bytes = record { pages = pages_of all_marks (ceil_div (length bytes) 4096) bytes; end = 0 + length bytes }
@@ -99,14 +87,14 @@ loads_it file bytes h long behind = rw (follows file (length bytes) h (omega (ar
 loads : (file bytes : List ℕ) → length bytes < 2 ^ 64 → length file ≡ 4096 + length bytes → drop 4096 file ≡ bytes → segment_at file 64 ≡ read_segment (length bytes)
     → load_segments file 1 64 nothing_loaded ≡ Some (program_of bytes)
 unfolding load_segments
-loads file bytes h long behind is = rw (is_at_most 120 (length file) (omega (arith, long)), is, loads_it file bytes h long behind) refl
+loads file bytes h long behind is = rw (le-leb 120 (length file) (omega (arith, long)), is, loads_it file bytes h long behind) refl
 
 -- a file whose headers say so has the plan of its program
 planned : (file bytes : List ℕ) → length bytes < 2 ^ 64 → length file ≡ 4096 + length bytes → drop 4096 file ≡ bytes → segment_at file 64 ≡ read_segment (length bytes)
     → number_at 4 0 file ≡ 0x464C457F → number_at 8 24 file ≡ 0 → number_at 8 32 file ≡ 64 → number_at 2 56 file ≡ 1 → plan file [] ≡ plan_flat bytes
 unfolding plan plan_flat
 planned file bytes h long behind is m e at count =
-    rw (is_at_most 64 (length file) (omega (arith, long)), m, e, at, count, loads file bytes h long behind is) refl
+    rw (le-leb 64 (length file) (omega (arith, long)), m, e, at, count, loads file bytes h long behind is) refl
 
 in_front : (bytes : List ℕ) → elf_file bytes ≡ front (length bytes) ++ (zeros 3976 ++ bytes)
 unfolding elf_file

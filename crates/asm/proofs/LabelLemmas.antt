@@ -11,15 +11,6 @@ use Rattle.std.proofs.lemmas.Slice.Eq.{bytes_eq-Decides}
 use Rattle.unixmodel.specs.Assembly.{Placed as ThePlaced, definition}
 use Rattle.asm.specs.Labels.{Finds, named}
 
-pub noted_next : (old new rest : Option ℕ) (b : Bool) (i : ℕ) → new ≡ option_or old (if b then Some i else None) → option_or new rest ≡ option_or old (cond b (Some i) rest)
-noted_next (Some x) new rest b i e = ap (λ o. option_or o rest) e
-noted_next None new rest true i e = ap (λ o. option_or o rest) e
-noted_next None new rest false i e = ap (λ o. option_or o rest) e
-
-pub or_none : (o : Option ℕ) → option_or o None ≡ o
-or_none None = refl
-or_none (Some x) = refl
-
 module _ {X : Type 0} where
   item_at : (i : ℕ) (all : List X) (x : X) (xs : List X) → drop i all ≡ x ∷ xs → slice_get all i ≡ Some x
   item_at zero all x xs e = ap (λ l. slice_get l 0) e

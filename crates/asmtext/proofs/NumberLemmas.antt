@@ -35,9 +35,6 @@ positive_within below above bits n h = step (nat_le n above) refl
     step true e = let le : n ≤ above = grind (arith, nat_tests, e) in ap Some (sym (mod-eq_of_lt (omega arith)))
     step false e = refl
 
-pub size_within : (n most size : ℕ) → Some size ≡ (if nat_le n most then Some n else None) → size ≤ most
-size_within n most size e = grind (arith, nat_tests)
-
 field_positive : (bits n : ℕ) → field bits (pos n) < 2 ^ bits
 field_positive bits n = mod-lt n (pow_pos bits)
 

@@ -1,5 +1,5 @@
 -- Lemmas on symbols and the parts between commas.
-use Rattle.std.proofs.Common.{◌≡◌, ◌∙◌, ◌+◌, ◌++◌, ◌-◌, ◌==◌, ℕ, Bool, List, [], ◌∷◌, ap, cond, drop, length, map, refl, reverse, sym, take, true, false, not, position, if◌then◌else◌}
+use Rattle.std.proofs.Common.{◌≡◌, ◌∙◌, ◌+◌, ◌++◌, ◌-◌, ◌==◌, ℕ, Bool, List, [], ◌∷◌, ap, cond, drop, length, map, refl, reverse, sym, take, true, false, if◌then◌else◌}
 use Rattle.std.specs.List.{onto_first, prefix_len, slice_split, suffix_len}
 use Rattle.std.specs.List.{take-map, drop-map}
 use Rattle.std.proofs.lemmas.List.{length-map, map-append}
@@ -15,9 +15,6 @@ use Rattle.asmtext.specs.declared.tokens.Symbol.{Symbol}
 pub prefix_len-map : {X Y : Type 0} (p : Y → Bool) (f : X → Y) (xs : List X) → prefix_len p (map f xs) ≡ prefix_len (λ x. p (f x)) xs
 prefix_len-map p f [] = refl
 prefix_len-map p f (x ∷ xs) = ap (λ n. cond (p (f x)) (1 + n) 0) (prefix_len-map p f xs)
-
-pub position-map : {X Y : Type 0} (p : Y → Bool) (f : X → Y) (xs : List X) → position p (map f xs) ≡ position (λ x. p (f x)) xs
-position-map p f xs = rw (prefix_len-map (λ y. not (p y)) f xs, length-map xs f) refl
 
 first_of_split : {X Y : Type 0} (f : X → Y) (x : X) (rest : List (List X)) → onto_first (f x) (map (map f) rest) ≡ map (map f) (onto_first x rest)
 first_of_split f x [] = refl
