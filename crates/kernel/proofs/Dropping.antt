@@ -1,5 +1,6 @@
 -- Nodes are let go one after the other, and the device counts its failures on the way.
-use Rattle.std.proofs.Common.{◌≡◌, ◌≢◌, ℕ, suc, zero, ◌+◌, ◌<◌, ◌≤◌, false, true, le_trans, List, [], ◌∷◌, drop, length, None, refl, ap, sym, subst, ◌∙◌, arith}
+use Rattle.std.proofs.lemmas.List.{drop_all}
+use Rattle.std.proofs.Common.{drop-cons, ◌≡◌, ◌≢◌, ℕ, suc, ◌+◌, ◌<◌, ◌≤◌, false, true, le_trans, List, [], ◌∷◌, drop, length, None, refl, ap, sym, subst, ◌∙◌, arith}
 use Rattle.std.specs.Prelude.{Err, IsErr, Ok, Result, slice_index}
 use Rattle.blockdev.specs.declared.DeviceFault.{DeviceFault}
 use Rattle.kernel.specs.Holding.{AreHeld, all_dropped, dropped}
@@ -26,13 +27,8 @@ pub record IsLetting (old : FileTree) (nodes : List ℕ) (now : FileTree) (i : �
   pub goes : (failures : ℕ) → counted (all_dropped now (drop i nodes)) failures ≡ counted (all_dropped old nodes) failures
   pub later : old.failures ≤ now.failures
 
-drop-suc : (ns : List ℕ) (i : ℕ) → i < length ns → drop i ns ≡ slice_index ns i ∷ drop (suc i) ns
-drop-suc [] i h = absurd (omega (arith, h))
-drop-suc (n ∷ ns) zero h = refl
-drop-suc (n ∷ ns) (suc i) h = drop-suc ns i (omega (arith, h))
-
 drop-next : (ns : List ℕ) (i : ℕ) → i < length ns → drop i ns ≡ slice_index ns i ∷ drop (i + 1) ns
-drop-next ns i h = let next : suc i ≡ i + 1 = omega arith in drop-suc ns i h ∙ ap (λ j. slice_index ns i ∷ drop j ns) next
+drop-next ns i h = let next : suc i ≡ i + 1 = omega arith in drop-cons ns i 0 h ∙ ap (λ j. slice_index ns i ∷ drop j ns) next
 
 module _ {old now : FileTree} {nodes : List ℕ} {i : ℕ} (is : IsLetting old nodes now i) (h : i < length nodes) where
   abbrev n : ℕ
@@ -69,13 +65,9 @@ lets-more is h t (Err fault) serves x e = absurd (let bad : Err fault ≡ Ok x =
 pub lets-begin : (t : FileTree) (nodes : List ℕ) → t.failed ≡ false → AreHeld t nodes → IsLetting t nodes t 0
 lets-begin t nodes up held = record { up = up; held = held; goes = λ failures. refl; later = omega arith }
 
-drop-all : (ns : List ℕ) → drop (length ns) ns ≡ []
-drop-all [] = refl
-drop-all (n ∷ ns) = drop-all ns
-
 -- all were
 pub lets-all : (old now : FileTree) (nodes : List ℕ) (i : ℕ) → i ≡ length nodes → IsLetting old nodes now i → now ≡ counted (all_dropped old nodes) now.failures
-lets-all old now nodes i all is = sym (ap (λ ns. counted (all_dropped now ns) now.failures) (ap (λ j. drop j nodes) all ∙ drop-all nodes)) ∙ is.goes now.failures
+lets-all old now nodes i all is = sym (ap (λ ns. counted (all_dropped now ns) now.failures) (drop_all i nodes (omega (arith, all)))) ∙ is.goes now.failures
 
 -- an access failed on the way
 pub lets-fails : {old now : FileTree} {nodes : List ℕ} {i : ℕ} {P Q : Unit {0} → Type 0} → IsLetting old nodes now i → (t : FileTree) (r s : Result (Unit {0}) DeviceFault) → Serves now t r P → (fault : DeviceFault) → r ≡ Err fault → IsErr s → Serves old t s Q

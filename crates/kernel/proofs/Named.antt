@@ -251,12 +251,11 @@ leaves-standing t pipes ds is =
 -- no more pipes stand than did
 pub fewer-pipes : (old new : List (Option (List ℕ))) → length new ≡ length old → ((q : ℕ) (bytes : List ℕ) → slot new q ≡ Some bytes → slot old q ≡ Some bytes) → length (taken new) ≤ length (taken old)
 fewer-pipes [] [] all each = omega arith
-fewer-pipes [] (o ∷ new) all each = absurd (omega (arith, all))
-fewer-pipes (o ∷ old) [] all each = absurd (omega (arith, all))
 fewer-pipes (None ∷ old) (None ∷ new) all each = fewer-pipes old new (omega (arith, all)) (λ q. each (suc q))
 fewer-pipes (Some b ∷ old) (None ∷ new) all each = let rest = fewer-pipes old new (omega (arith, all)) (λ q. each (suc q)) in omega (arith, rest)
 fewer-pipes (None ∷ old) (Some b ∷ new) all each = absurd (let bad : None ≡ Some b = each 0 b refl in cc)
 fewer-pipes (Some b ∷ old) (Some c ∷ new) all each = let rest = fewer-pipes old new (omega (arith, all)) (λ q. each (suc q)) in omega (arith, rest)
+fewer-pipes _ _ all each = absurd (omega (arith, all))
 
 -- ---- what the abstract Unix leaves
 

@@ -38,9 +38,8 @@ IsMatch (Some p) (Some h) = Unit {0}
 
 pub match-place : (o : Option Process) (q : Option SpaceView) → IsPlace o q → IsMatch o q
 match-place None None is = tt
-match-place None (Some h) is = absurd is
-match-place (Some p) None is = absurd is
 match-place (Some p) (Some h) is = tt
+match-place _ _ is = absurd is
 
 match-on : (s : Spaces) (o : Option Process) (q : Option SpaceView) → IsMatch o q → IsMatch (option_map (on_hart s) o) q
 match-on s (Some p) (Some h) is = tt
@@ -83,14 +82,11 @@ sum-joined : (os : List (Option Process)) (hs : List (Option SpaceView)) → ((i
 unfolding joined
 sum-joined [] [] stands = refl
 sum-joined [] (None ∷ hs) stands = omega (arith, sum_by-cons frames_in None hs, sum-joined [] hs (λ i. stands (suc i)))
-sum-joined [] (Some h ∷ hs) stands = absurd (stands 0)
 sum-joined (None ∷ os) [] stands = sum-joined os [] (λ i. stands (suc i))
-sum-joined (Some p ∷ os) [] stands = absurd (stands 0)
 sum-joined (None ∷ os) (None ∷ hs) stands = omega (arith, sum_by-cons frames_in None hs, sum-joined os hs (λ i. stands (suc i)))
-sum-joined (None ∷ os) (Some h ∷ hs) stands = absurd (stands 0)
-sum-joined (Some p ∷ os) (None ∷ hs) stands = absurd (stands 0)
 sum-joined (Some p ∷ os) (Some h ∷ hs) stands =
     omega (arith, sum_by-cons frames_in (Some h) hs, sum_by-cons process_frames (with_memory h.memory p) (taken (joined os (map memory_in hs))), sum-joined os hs (λ i. stands (suc i)))
+sum-joined _ _ stands = absurd (stands 0)
 
 pub frames-with : (k : Kernel) (t : Places) → ((i : ℕ) → IsMatch (slot t.places i) (slot k.spaces.places i))
     → frames_of (state_with t (memories k.spaces) (rest_of k)) ≡ taken_frames k.spaces
