@@ -3,8 +3,8 @@ use Rattle.std.specs.Prelude.{List, None, Option, Some, length, map, negsuc, pos
 use Rattle.unixmodel.specs.declared.event.Event.TheVariants.{Step, Tick}
 use Rattle.unixmodel.specs.declared.process.Mode.TheVariants.{Zombie}
 use Rattle.model_examples.proofs.Opened.{all_opened}
-use Rattle.model_examples.proofs.Scripts.{Asked, answers_to, ask, ask_all, bytes_in, flat_state, mode_of, on_flat, plain}
-use Rattle.unixmodel.specs.Counts.{frames_of, free_frames}
+use Rattle.model_examples.proofs.Scripts.{Asked, answer_at, answers_to, ask, ask_all, bytes_in, flat_state, mode_of, on_flat, plain}
+use Rattle.unixmodel.specs.Counts.{free_frames}
 use Rattle.unixmodel.specs.Memory.{write_bytes}
 use Rattle.unixmodel.specs.Outcome.{minus_one}
 use Rattle.unixmodel.specs.Process.{Process}
@@ -38,38 +38,27 @@ frames_before : free_frames (flat_state 64) ≡ 55
 unfolding all_opened
 frames_before = refl
 
-small_answers : on_flat 64 small_steps ≡ 12288 ∷ 12289 ∷ 16384 ∷ 12287 ∷ minus_one ∷ 12288 ∷ []
-unfolding all_opened
-small_answers = refl
+-- what each call answers, the free frames after it, and the size and the pages of process 1
+abbrev pub told_by_each : State → List Asked → List (ℕ × ℕ × ℕ × ℕ)
+told_by_each s [] = []
+told_by_each s (c ∷ cs) =
+    let after = (ask s 0 c).state in
+    let size = size_and_pages after in
+    (answer_at after 0, free_frames after, size.0, size.1) ∷ told_by_each after cs
 
-small_frames : free_after (flat_state 64) small_steps ≡ 54 ∷ 54 ∷ 55 ∷ 55 ∷ 55 ∷ 60 ∷ []
+small : told_by_each (flat_state 64) small_steps
+    ≡ (12288, 54, 12289, 4) ∷ (12289, 54, 16384, 4) ∷ (16384, 55, 12287, 3) ∷ (12287, 55, 12288, 3) ∷ (minus_one, 55, 12288, 3) ∷ (12288, 60, 0, 0) ∷ []
 unfolding all_opened
-small_frames = refl
+small = refl
 
-large : map (λ bytes. on_flat 64 (sbrk bytes ∷ [])) (225280 ∷ 229376 ∷ []) ≡ (12288 ∷ []) ∷ (minus_one ∷ []) ∷ []
+large : map (λ bytes. told_by_each (flat_state 64) (sbrk bytes ∷ [])) (225280 ∷ 229376 ∷ []) ≡ ((12288, 0, 237568, 58) ∷ []) ∷ ((minus_one, 55, 12288, 3) ∷ []) ∷ []
 unfolding all_opened
 large = refl
-
-large_frames : frames_of (ask_all (flat_state 64) (sbrk 225280 ∷ [])) ≡ 64
-unfolding all_opened
-large_frames = refl
 
 -- 512 pages take one table, 513 two
 second_table : map (λ frames. on_flat frames (sbrk 2084864 ∷ sbrk 4096 ∷ [])) (519 ∷ 520 ∷ []) ≡ (12288 ∷ minus_one ∷ []) ∷ (12288 ∷ 2097152 ∷ []) ∷ []
 unfolding all_opened
 second_table = refl
-
-abbrev pub sizes_after : State → List Asked → List (ℕ × ℕ)
-sizes_after s [] = []
-sizes_after s (c ∷ cs) = size_and_pages (ask s 0 c).state ∷ sizes_after (ask s 0 c).state cs
-
-small_sizes : sizes_after (flat_state 64) small_steps ≡ (12289, 4) ∷ (16384, 4) ∷ (12287, 3) ∷ (12288, 3) ∷ (12288, 3) ∷ (0, 0) ∷ []
-unfolding all_opened
-small_sizes = refl
-
-refused_size : sizes_after (flat_state 64) (sbrk 229376 ∷ []) ≡ (12288, 3) ∷ []
-unfolding all_opened
-refused_size = refl
 
 -- a page that stays keeps its bytes, and one that comes is 0
 abbrev pub marked : State
