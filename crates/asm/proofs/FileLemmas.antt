@@ -8,7 +8,7 @@ use Rattle.std.proofs.Math.Bool.{or-true}
 use Rattle.std.proofs.lemmas.Bool.{le-leb, lt-ltb}
 use Rattle.std.proofs.lemmas.List.{length-replicate, take_all}
 use Rattle.unixmodel.specs.ElfFile.{elf_file, elf_header, program_header}
-use Rattle.unixmodel.specs.Memory.{Marks, pages_of, zeros}
+use Rattle.unixmodel.specs.Memory.{Perm, pages_of, zeros}
 use Rattle.unixmodel.specs.Numbers.{ceil_div, le, number, number_at}
 use Rattle.unixmodel.specs.Plan.{Loaded, Segment, load_segment, load_segments, may_follow, nothing_loaded, plan, plan_flat, segment_at, segment_pages}
 
@@ -65,7 +65,7 @@ segment size rest = refl
 
 -- ---- the one segment
 
-abbrev all_marks : Marks
+abbrev all_marks : Perm
 all_marks = record { writable = true; executable = true; user = true }
 
 follows : (file : List ℕ) (size : ℕ) → size < 2 ^ 64 → 4096 + size ≤ length file → may_follow file 0 (read_segment size) ≡ true

@@ -9,31 +9,31 @@ use Rattle.cache.specs.declared.held.Slot.{Slot}
 use Rattle.lru.specs.LruCache.{LruCache}
 use Rattle.cache.specs.Disk.{Disk}
 use Rattle.cache.specs.Next.{next_of}
-use Rattle.cache.specs.Overlay.{AreFlushed, AreHeld, cleaned, overlay}
+use Rattle.cache.specs.Overlay.{AreFlushed, AreKept, cleaned, overlay}
 use Rattle.cache.proofs.Entries.{lookup-set_other, lookup-set_same}
-use Rattle.cache.proofs.Overlays.{AreHeld-doubt, AreHeld-set, AreHeld-written, held-some, length-overlay, overlay-is, overlay-same}
+use Rattle.cache.proofs.Overlays.{AreKept-doubt, AreKept-set, AreKept-written, held-some, length-overlay, overlay-is, overlay-same}
 use Rattle.cache.proofs.Scanning.{IsAtMost, found-of, settled}
 
 -- the blocks stay as they were, and the device has those below a number
 pub record IsFlushing (es : List (ℕ × Slot)) (c : List (List ℕ)) (b : Bool) (blocks stored : List (List ℕ)) (to : ℕ) : Type 0 where
-  pub held : AreHeld es c b
+  pub held : AreKept es c b
   pub shows : overlay es c ≡ blocks
   pub done : AreFlushed es c to
   pub count : length c ≡ length stored
 
-pub flush-begins : (es : List (ℕ × Slot)) (c : List (List ℕ)) (b : Bool) (blocks stored : List (List ℕ)) → AreHeld es c b → overlay es c ≡ blocks → c ≡ stored → IsFlushing es c b blocks stored 0
+pub flush-begins : (es : List (ℕ × Slot)) (c : List (List ℕ)) (b : Bool) (blocks stored : List (List ℕ)) → AreKept es c b → overlay es c ≡ blocks → c ≡ stored → IsFlushing es c b blocks stored 0
 unfolding AreFlushed
 flush-begins es c b blocks stored held shows is = record { held = held; shows = shows; done = λ k s h low. absurd (omega arith); count = ap length is }
 
 pub low-next : (es : List (ℕ × Slot)) (c : List (List ℕ)) (b : Bool) (blocks stored : List (List ℕ)) (from n : ℕ) → IsFlushing es c b blocks stored from → next_of from b es ≡ Some n → n < length c
-unfolding AreHeld
+unfolding AreKept
 low-next es c b blocks stored from n f is = let found = found-of from b es n is in (f.held n found.1.0 found.1.1).inside
 
 pub from-next : (es : List (ℕ × Slot)) (b : Bool) (from n : ℕ) → next_of from b es ≡ Some n → from ≤ n
 from-next es b from n is = (found-of from b es n is).0
 
-was-long : (es : List (ℕ × Slot)) (c : List (List ℕ)) (b : Bool) (n : ℕ) (s : Slot) → lookup (nat_eq n) es ≡ Some s → AreHeld es c b → length s.bytes ≡ 1024
-unfolding AreHeld
+was-long : (es : List (ℕ × Slot)) (c : List (List ℕ)) (b : Bool) (n : ℕ) (s : Slot) → lookup (nat_eq n) es ≡ Some s → AreKept es c b → length s.bytes ≡ 1024
+unfolding AreKept
 was-long es c b n s h held = (held n s h).size
 
 -- block n, which holds s, was written
@@ -47,8 +47,8 @@ module _ (es : List (ℕ × Slot)) (c : List (List ℕ)) (b : Bool) (n : ℕ) (s
   here : lookup (nat_eq n) es' ≡ Some (cleaned s)
   here = lookup-set_same es n s (cleaned s) h
 
-  wrote-held : AreHeld es c b → AreHeld es' c' b
-  wrote-held held = AreHeld-set es c' b n s (cleaned s) h (AreHeld-written es c b n s h held) (record {
+  wrote-held : AreKept es c b → AreKept es' c' b
+  wrote-held held = AreKept-set es c' b n s (cleaned s) h (AreKept-written es c b n s h held) (record {
     inside = subst (λ k. n < k) (sym (length-set c n s.bytes)) low;
     size = was-long es c b n s h held;
     clean = λ _ _. sym (get_or-set_same c n s.bytes [] low);
@@ -61,8 +61,8 @@ module _ (es : List (ℕ × Slot)) (c : List (List ℕ)) (b : Bool) (n : ℕ) (s
         ∙ ap (λ x. option_map_or (λ (s : Slot). s.bytes) (lookup (nat_eq k) es) x) (get_or-set_other c n k s.bytes [] not)
   ])
 
-  wrote-done : (from : ℕ) → AreHeld es c b → AreFlushed es c from → next_of from b es ≡ Some n → AreFlushed es' c' (n + 1)
-  unfolding AreFlushed AreHeld
+  wrote-done : (from : ℕ) → AreKept es c b → AreFlushed es c from → next_of from b es ≡ Some n → AreFlushed es' c' (n + 1)
+  unfolding AreFlushed AreKept
   wrote-done from held done next k t e below = elim (cases_eq k n) [
     | inl is ↦ let one : Some t ≡ Some (cleaned s) = sym e ∙ ap (λ i. lookup (nat_eq i) es') is ∙ here in
         let value : t ≡ cleaned s = cc in
@@ -99,7 +99,7 @@ flush-goes-on es new c d b e blocks stored from n f next wrote cleans kept =
 
 -- no block is left that the device may lack
 pub all-flushed : (es : List (ℕ × Slot)) (c : List (List ℕ)) (b : Bool) (blocks stored : List (List ℕ)) (from : ℕ) → IsFlushing es c b blocks stored from → next_of from b es ≡ None → (k : ℕ) (s : Slot) → lookup (nat_eq k) es ≡ Some s → s.bytes ≡ block_at c k
-unfolding AreFlushed AreHeld
+unfolding AreFlushed AreKept
 all-flushed es c b blocks stored from f next k t h = elim (cases_lt k from) [
   | inl early ↦ f.done k t h early
   | inr late ↦
@@ -110,16 +110,16 @@ all-flushed es c b blocks stored from f next k t h = elim (cases_lt k from) [
 pub flushed-is : (es : List (ℕ × Slot)) (c : List (List ℕ)) (b : Bool) (blocks stored : List (List ℕ)) (from : ℕ) → IsFlushing es c b blocks stored from → next_of from b es ≡ None → c ≡ blocks
 flushed-is es c b blocks stored from f next = sym (overlay-is es c (all-flushed es c b blocks stored from f next)) ∙ f.shows
 
-pub flushed-held : (es : List (ℕ × Slot)) (c : List (List ℕ)) (b : Bool) (blocks stored : List (List ℕ)) (from : ℕ) → IsFlushing es c b blocks stored from → next_of from b es ≡ None → AreHeld es c false
-unfolding AreHeld
+pub flushed-held : (es : List (ℕ × Slot)) (c : List (List ℕ)) (b : Bool) (blocks stored : List (List ℕ)) (from : ℕ) → IsFlushing es c b blocks stored from → next_of from b es ≡ None → AreKept es c false
+unfolding AreKept
 flushed-held es c b blocks stored from f next k s h =
     let was = f.held k s h in
     record { inside = was.inside; size = was.size; clean = λ _ _. all-flushed es c b blocks stored from f next k s h }
 
 -- a write failed
-pub flush-fails : (l m : LruCache ℕ Slot) (c d : List (List ℕ)) (b e : Bool) (blocks stored : List (List ℕ)) (from : ℕ) → IsFlushing l.entries c b blocks stored from → m ≡ l → e ≡ true → length d ≡ length c → AreHeld m.entries d e
+pub flush-fails : (l m : LruCache ℕ Slot) (c d : List (List ℕ)) (b e : Bool) (blocks stored : List (List ℕ)) (from : ℕ) → IsFlushing l.entries c b blocks stored from → m ≡ l → e ≡ true → length d ≡ length c → AreKept m.entries d e
 flush-fails l m c d b e blocks stored from f same doubt count =
-    subst (λ (x : LruCache ℕ Slot). AreHeld x.entries d e) (sym same) (subst (AreHeld l.entries d) (sym doubt) (AreHeld-doubt l.entries c b d count f.held))
+    subst (λ (x : LruCache ℕ Slot). AreKept x.entries d e) (sym same) (subst (AreKept l.entries d) (sym doubt) (AreKept-doubt l.entries c b d count f.held))
 
 pub flush-count : (es fs : List (ℕ × Slot)) (c d : List (List ℕ)) (b : Bool) (blocks stored : List (List ℕ)) (from : ℕ) → IsFlushing es c b blocks stored from → length d ≡ length c → length (overlay fs d) ≡ length blocks
 flush-count es fs c d b blocks stored from f count = length-overlay fs d ∙ count ∙ sym (length-overlay es c) ∙ ap length f.shows

@@ -8,38 +8,38 @@ use Rattle.std.proofs.lemmas.Bool.{cases_eq}
 use Rattle.lru.specs.LruCache.{promoted}
 use Rattle.blockdev.specs.Blocks.{AreBlocks, block_at}
 use Rattle.cache.specs.declared.held.Slot.{Slot}
-use Rattle.cache.specs.Overlay.{AreHeld, IsHeld, held_or, overlay}
+use Rattle.cache.specs.Overlay.{AreKept, IsKept, kept_or, overlay}
 use Rattle.cache.proofs.Entries.{lookup-promoted, lookup-set_other, lookup-set_same}
 
-pub held-some : (es : List (ℕ × Slot)) (c : List (List ℕ)) (k : ℕ) (s : Slot) → lookup (nat_eq k) es ≡ Some s → held_or es c k ≡ s.bytes
+pub held-some : (es : List (ℕ × Slot)) (c : List (List ℕ)) (k : ℕ) (s : Slot) → lookup (nat_eq k) es ≡ Some s → kept_or es c k ≡ s.bytes
 held-some es c k s h = ap (λ o. option_map_or (λ (s : Slot). s.bytes) o (block_at c k)) h
 
-pub held-none : (es : List (ℕ × Slot)) (c : List (List ℕ)) (k : ℕ) → lookup (nat_eq k) es ≡ None → held_or es c k ≡ block_at c k
+pub held-none : (es : List (ℕ × Slot)) (c : List (List ℕ)) (k : ℕ) → lookup (nat_eq k) es ≡ None → kept_or es c k ≡ block_at c k
 held-none es c k h = ap (λ o. option_map_or (λ (s : Slot). s.bytes) o (block_at c k)) h
 
 pub length-overlay : (es : List (ℕ × Slot)) (c : List (List ℕ)) → length (overlay es c) ≡ length c
 unfolding overlay
-length-overlay es c = length-map-range_with_len (held_or es c) 0 (length c)
+length-overlay es c = length-map-range_with_len (kept_or es c) 0 (length c)
 
-pub at-overlay : (es : List (ℕ × Slot)) (c : List (List ℕ)) (k : ℕ) → k < length c → block_at (overlay es c) k ≡ held_or es c k
+pub at-overlay : (es : List (ℕ × Slot)) (c : List (List ℕ)) (k : ℕ) → k < length c → block_at (overlay es c) k ≡ kept_or es c k
 unfolding overlay
-at-overlay es c k h = get_or-map-range_with_len (held_or es c) 0 (length c) k k [] h (omega arith)
+at-overlay es c k h = get_or-map-range_with_len (kept_or es c) 0 (length c) k k [] h (omega arith)
 
-pub overlay-same : (es fs : List (ℕ × Slot)) (c d : List (List ℕ)) → length d ≡ length c → ((k : ℕ) → k < length c → held_or fs d k ≡ held_or es c k) → overlay fs d ≡ overlay es c
+pub overlay-same : (es fs : List (ℕ × Slot)) (c d : List (List ℕ)) → length d ≡ length c → ((k : ℕ) → k < length c → kept_or fs d k ≡ kept_or es c k) → overlay fs d ≡ overlay es c
 overlay-same es fs c d e same =
     ext_get_or [] (overlay fs d) (overlay es c) (length-overlay fs d ∙ e ∙ sym (length-overlay es c)) (λ k h.
     let low : k < length d = omega (arith, length-overlay fs d) in
     let low' : k < length c = omega arith in
     at-overlay fs d k low ∙ same k low' ∙ sym (at-overlay es c k low'))
 
-pub overlay-put : (es fs : List (ℕ × Slot)) (c d : List (List ℕ)) (n : ℕ) (b : List ℕ) → length d ≡ length c → n < length c → ((k : ℕ) → k < length c → k ≢ n → held_or fs d k ≡ held_or es c k) → held_or fs d n ≡ b → overlay fs d ≡ set (overlay es c) n b
+pub overlay-put : (es fs : List (ℕ × Slot)) (c d : List (List ℕ)) (n : ℕ) (b : List ℕ) → length d ≡ length c → n < length c → ((k : ℕ) → k < length c → k ≢ n → kept_or fs d k ≡ kept_or es c k) → kept_or fs d n ≡ b → overlay fs d ≡ set (overlay es c) n b
 overlay-put es fs c d n b e m same here =
     ext_get_or [] (overlay fs d) (set (overlay es c) n b) (length-overlay fs d ∙ e ∙ sym (length-overlay es c) ∙ sym (length-set (overlay es c) n b)) (λ k h.
     let low : k < length d = omega (arith, length-overlay fs d) in
     let low' : k < length c = omega arith in
     let top : n < length (overlay es c) = omega (arith, length-overlay es c) in
     at-overlay fs d k low ∙ (elim (cases_eq k n) [
-      | inl is ↦ ap (held_or fs d) is ∙ here ∙ sym (get_or-set_same (overlay es c) n b [] top) ∙ ap (λ i. get_or (set (overlay es c) n b) i []) (sym is)
+      | inl is ↦ ap (kept_or fs d) is ∙ here ∙ sym (get_or-set_same (overlay es c) n b [] top) ∙ ap (λ i. get_or (set (overlay es c) n b) i []) (sym is)
       | inr not ↦ same k low' not ∙ sym (get_or-set_other (overlay es c) n k b [] not ∙ at-overlay es c k low')
     ]))
 
@@ -55,12 +55,12 @@ overlay-is es c same =
 pub overlay-nil : (c : List (List ℕ)) → overlay [] c ≡ c
 overlay-nil c = overlay-is [] c (λ k s h. absurd cc)
 
-pub AreHeld-nil : (c : List (List ℕ)) (d : Bool) → AreHeld [] c d
-unfolding AreHeld
-AreHeld-nil c d k s h = absurd cc
+pub AreKept-nil : (c : List (List ℕ)) (d : Bool) → AreKept [] c d
+unfolding AreKept
+AreKept-nil c d k s h = absurd cc
 
-pub sizes-overlay : (es : List (ℕ × Slot)) (c : List (List ℕ)) (d : Bool) → AreHeld es c d → AreBlocks c → AreBlocks (overlay es c)
-unfolding AreHeld
+pub sizes-overlay : (es : List (ℕ × Slot)) (c : List (List ℕ)) (d : Bool) → AreKept es c d → AreBlocks c → AreBlocks (overlay es c)
+unfolding AreKept
 sizes-overlay es c d held sizes n h = ap length (at-overlay es c n low) ∙ go (lookup (nat_eq n) es) refl where
   low : n < length c
   low = omega (arith, length-overlay es c)
@@ -73,9 +73,9 @@ sizes-overlay es c d held sizes n h = ap length (at-overlay es c n low) ∙ go (
 pub overlay-promoted : (es : List (ℕ × Slot)) (c : List (List ℕ)) (n : ℕ) → overlay (promoted (nat_eq n) es) c ≡ overlay es c
 overlay-promoted es c n = overlay-same es (promoted (nat_eq n) es) c c refl (λ k h. ap (λ o. option_map_or (λ (s : Slot). s.bytes) o (block_at c k)) (lookup-promoted es n k))
 
-pub AreHeld-promoted : (es : List (ℕ × Slot)) (c : List (List ℕ)) (d : Bool) (n : ℕ) → AreHeld es c d → AreHeld (promoted (nat_eq n) es) c d
-unfolding AreHeld
-AreHeld-promoted es c d n held k s h = held k s (sym (lookup-promoted es n k) ∙ h)
+pub AreKept-promoted : (es : List (ℕ × Slot)) (c : List (List ℕ)) (d : Bool) (n : ℕ) → AreKept es c d → AreKept (promoted (nat_eq n) es) c d
+unfolding AreKept
+AreKept-promoted es c d n held k s h = held k s (sym (lookup-promoted es n k) ∙ h)
 
 -- a new value at n
 pub overlay-set : (es : List (ℕ × Slot)) (c : List (List ℕ)) (n : ℕ) (v w : Slot) → lookup (nat_eq n) es ≡ Some v → n < length c → overlay (set_value (nat_eq n) es w) c ≡ set (overlay es c) n w.bytes
@@ -83,11 +83,11 @@ overlay-set es c n v w h low = overlay-put es (set_value (nat_eq n) es w) c c n 
     (λ k _ other. ap (λ o. option_map_or (λ (s : Slot). s.bytes) o (block_at c k)) (lookup-set_other es n k w other))
     (held-some (set_value (nat_eq n) es w) c n w (lookup-set_same es n v w h))
 
-pub AreHeld-set : (es : List (ℕ × Slot)) (c : List (List ℕ)) (d : Bool) (n : ℕ) (v w : Slot) → lookup (nat_eq n) es ≡ Some v → AreHeld es c d → IsHeld c d n w → AreHeld (set_value (nat_eq n) es w) c d
-unfolding AreHeld
-AreHeld-set es c d n v w h held new k s e = elim (cases_eq k n) [
+pub AreKept-set : (es : List (ℕ × Slot)) (c : List (List ℕ)) (d : Bool) (n : ℕ) (v w : Slot) → lookup (nat_eq n) es ≡ Some v → AreKept es c d → IsKept c d n w → AreKept (set_value (nat_eq n) es w) c d
+unfolding AreKept
+AreKept-set es c d n v w h held new k s e = elim (cases_eq k n) [
   | inl is ↦ let same : Some w ≡ Some s = sym (lookup-set_same es n v w h) ∙ ap (λ i. lookup (nat_eq i) (set_value (nat_eq n) es w)) (sym is) ∙ e in
-      let value : w ≡ s = cc in subst (λ i. IsHeld c d i s) (sym is) (subst (λ t. IsHeld c d n t) value new)
+      let value : w ≡ s = cc in subst (λ i. IsKept c d i s) (sym is) (subst (λ t. IsKept c d n t) value new)
   | inr not ↦ held k s (sym (lookup-set_other es n k w not) ∙ e)
 ]
 
@@ -99,9 +99,9 @@ overlay-written es c n s h = overlay-same es es c (set c n s.bytes) (length-set 
   | inr not ↦ ap (λ b. option_map_or (λ (s : Slot). s.bytes) (lookup (nat_eq k) es) b) (get_or-set_other c n k s.bytes [] not)
 ])
 
-pub AreHeld-written : (es : List (ℕ × Slot)) (c : List (List ℕ)) (d : Bool) (n : ℕ) (s : Slot) → lookup (nat_eq n) es ≡ Some s → AreHeld es c d → AreHeld es (set c n s.bytes) d
-unfolding AreHeld
-AreHeld-written es c d n s h held k t e =
+pub AreKept-written : (es : List (ℕ × Slot)) (c : List (List ℕ)) (d : Bool) (n : ℕ) (s : Slot) → lookup (nat_eq n) es ≡ Some s → AreKept es c d → AreKept es (set c n s.bytes) d
+unfolding AreKept
+AreKept-written es c d n s h held k t e =
     let was = held k t e in
     record {
       inside = omega (arith, length-set c n s.bytes, was.inside);
@@ -115,16 +115,16 @@ AreHeld-written es c d n s h held k t e =
     }
 
 -- a write failed
-pub AreHeld-doubt : (es : List (ℕ × Slot)) (c : List (List ℕ)) (d : Bool) (new : List (List ℕ)) → length new ≡ length c → AreHeld es c d → AreHeld es new true
-unfolding AreHeld
-AreHeld-doubt es c d new e held k s h =
+pub AreKept-doubt : (es : List (ℕ × Slot)) (c : List (List ℕ)) (d : Bool) (new : List (List ℕ)) → length new ≡ length c → AreKept es c d → AreKept es new true
+unfolding AreKept
+AreKept-doubt es c d new e held k s h =
     let was = held k s h in
     record { inside = omega (arith, was.inside); size = was.size; clean = λ sure _. absurd cc }
 
 -- what the write of a held block leaves, whether it was done or not
-pub AreHeld-tried : {E : Type 0} (es : List (ℕ × Slot)) (c new : List (List ℕ)) (d b : Bool) (n : ℕ) (s : Slot) (r : Result Unit E) → lookup (nat_eq n) es ≡ Some s → AreHeld es c d → length new ≡ length c → OnOk r (new ≡ set c n s.bytes) → OnOk r (b ≡ d) → OnErr r (b ≡ true) → AreHeld es new b
-AreHeld-tried es c new d b n s (Ok x) h held e written kept doubt = subst (λ l. AreHeld es l b) (sym written) (subst (AreHeld es (set c n s.bytes)) (sym kept) (AreHeld-written es c d n s h held))
-AreHeld-tried es c new d b n s (Err x) h held e written kept doubt = subst (AreHeld es new) (sym doubt) (AreHeld-doubt es c d new e held)
+pub AreKept-tried : {E : Type 0} (es : List (ℕ × Slot)) (c new : List (List ℕ)) (d b : Bool) (n : ℕ) (s : Slot) (r : Result Unit E) → lookup (nat_eq n) es ≡ Some s → AreKept es c d → length new ≡ length c → OnOk r (new ≡ set c n s.bytes) → OnOk r (b ≡ d) → OnErr r (b ≡ true) → AreKept es new b
+AreKept-tried es c new d b n s (Ok x) h held e written kept doubt = subst (λ l. AreKept es l b) (sym written) (subst (AreKept es (set c n s.bytes)) (sym kept) (AreKept-written es c d n s h held))
+AreKept-tried es c new d b n s (Err x) h held e written kept doubt = subst (AreKept es new) (sym doubt) (AreKept-doubt es c d new e held)
 
 pub overlay-tried : {E : Type 0} (es : List (ℕ × Slot)) (c new : List (List ℕ)) (n : ℕ) (s : Slot) (r : Result Unit E) → lookup (nat_eq n) es ≡ Some s → OnOk r (new ≡ set c n s.bytes) → OnOk r (overlay es new ≡ overlay es c)
 overlay-tried es c new n s (Ok x) h written = ap (overlay es) written ∙ overlay-written es c n s h
@@ -136,9 +136,9 @@ overlay-other es c n b none low = overlay-put es es c (set c n b) n b (length-se
     (λ k _ not. ap (λ x. option_map_or (λ (s : Slot). s.bytes) (lookup (nat_eq k) es) x) (get_or-set_other c n k b [] not))
     (held-none es (set c n b) n none ∙ get_or-set_same c n b [] low)
 
-AreHeld-other : (es : List (ℕ × Slot)) (c : List (List ℕ)) (d : Bool) (n : ℕ) (b : List ℕ) → lookup (nat_eq n) es ≡ None → AreHeld es c d → AreHeld es (set c n b) d
-unfolding AreHeld
-AreHeld-other es c d n b none held k s e =
+AreKept-other : (es : List (ℕ × Slot)) (c : List (List ℕ)) (d : Bool) (n : ℕ) (b : List ℕ) → lookup (nat_eq n) es ≡ None → AreKept es c d → AreKept es (set c n b) d
+unfolding AreKept
+AreKept-other es c d n b none held k s e =
     let was = held k s e in
     let not : k ≢ n = λ is. let wrong : None ≡ Some s = sym none ∙ ap (λ i. lookup (nat_eq i) es) (sym is) ∙ e in absurd cc in
     record {
@@ -147,9 +147,9 @@ AreHeld-other es c d n b none held k s e =
       clean = λ sure same. was.clean sure same ∙ sym (get_or-set_other c n k b [] not);
     }
 
-pub AreHeld-passed : {E : Type 0} (es : List (ℕ × Slot)) (c new : List (List ℕ)) (d e : Bool) (n : ℕ) (b : List ℕ) (r : Result Unit E) → lookup (nat_eq n) es ≡ None → AreHeld es c d → length new ≡ length c → OnOk r (new ≡ set c n b) → OnOk r (e ≡ d) → OnErr r (e ≡ true) → AreHeld es new e
-AreHeld-passed es c new d e n b (Ok x) none held count written kept doubt = subst (λ l. AreHeld es l e) (sym written) (subst (AreHeld es (set c n b)) (sym kept) (AreHeld-other es c d n b none held))
-AreHeld-passed es c new d e n b (Err x) none held count written kept doubt = subst (AreHeld es new) (sym doubt) (AreHeld-doubt es c d new count held)
+pub AreKept-passed : {E : Type 0} (es : List (ℕ × Slot)) (c new : List (List ℕ)) (d e : Bool) (n : ℕ) (b : List ℕ) (r : Result Unit E) → lookup (nat_eq n) es ≡ None → AreKept es c d → length new ≡ length c → OnOk r (new ≡ set c n b) → OnOk r (e ≡ d) → OnErr r (e ≡ true) → AreKept es new e
+AreKept-passed es c new d e n b (Ok x) none held count written kept doubt = subst (λ l. AreKept es l e) (sym written) (subst (AreKept es (set c n b)) (sym kept) (AreKept-other es c d n b none held))
+AreKept-passed es c new d e n b (Err x) none held count written kept doubt = subst (AreKept es new) (sym doubt) (AreKept-doubt es c d new count held)
 
 pub overlay-passed : {E : Type 0} (es : List (ℕ × Slot)) (c new : List (List ℕ)) (n : ℕ) (b : List ℕ) (r : Result Unit E) → lookup (nat_eq n) es ≡ None → n < length c → OnOk r (new ≡ set c n b) → OnOk r (overlay es new ≡ set (overlay es c) n b)
 overlay-passed es c new n b (Ok x) none low written = ap (overlay es) written ∙ overlay-other es c n b none low

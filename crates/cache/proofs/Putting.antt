@@ -11,7 +11,7 @@ use Rattle.std.proofs.lemmas.List.{get_or-set_same}
 use Rattle.lru.specs.LruCache.{LruCache, put_entries, last_entry}
 use Rattle.blockdev.specs.Blocks.{block_at}
 use Rattle.cache.specs.declared.held.Slot.{Slot}
-use Rattle.cache.specs.Overlay.{AreHeld, IsHeld, IsLastSafe, held_or, overlay}
+use Rattle.cache.specs.Overlay.{AreKept, IsKept, IsLastSafe, kept_or, overlay}
 use Rattle.cache.proofs.Entries.{lookup-cut, lookup-here, lookup-later, put-is}
 use Rattle.cache.proofs.Overlays.{held-some, held-none, overlay-put, overlay-same}
 
@@ -36,14 +36,14 @@ pub none-last : (es : List (ℕ × Slot)) (r : Option (Bor ℕ × Bor Slot)) →
 none-last es r told is = sym told ∙ ap (option_map deref_pair) is
 
 -- the last block is as the device has it
-pub safe-clean : (c : LruCache ℕ Slot) (d : List (List ℕ)) (b : Bool) (k : ℕ) (s : Slot) → length c.entries ≤ c.cap → IsDistinct nat_eq (keys_of c.entries) → last_entry c.entries ≡ Some (k, s) → AreHeld c.entries d b → (s.changed || b) ≡ false → IsLastSafe c d
-unfolding AreHeld
+pub safe-clean : (c : LruCache ℕ Slot) (d : List (List ℕ)) (b : Bool) (k : ℕ) (s : Slot) → length c.entries ≤ c.cap → IsDistinct nat_eq (keys_of c.entries) → last_entry c.entries ≡ Some (k, s) → AreKept c.entries d b → (s.changed || b) ≡ false → IsLastSafe c d
+unfolding AreKept
 safe-clean c d b k s fits distinct last held clean =
     safe-one c d k s fits last ((held k s (last-lookup c.entries k s distinct last)).clean (or_parts s.changed b clean).1 (or_parts s.changed b clean).0)
 
 -- it is written
-pub low-last : (c : LruCache ℕ Slot) (d : List (List ℕ)) (b : Bool) (k : ℕ) (s : Slot) → IsDistinct nat_eq (keys_of c.entries) → last_entry c.entries ≡ Some (k, s) → AreHeld c.entries d b → k < length d
-unfolding AreHeld
+pub low-last : (c : LruCache ℕ Slot) (d : List (List ℕ)) (b : Bool) (k : ℕ) (s : Slot) → IsDistinct nat_eq (keys_of c.entries) → last_entry c.entries ≡ Some (k, s) → AreKept c.entries d b → k < length d
+unfolding AreKept
 low-last c d b k s distinct last held = (held k s (last-lookup c.entries k s distinct last)).inside
 
 pub safe-written : (c : LruCache ℕ Slot) (d new : List (List ℕ)) (k : ℕ) (s : Slot) → length c.entries ≤ c.cap → k < length d → last_entry c.entries ≡ Some (k, s) → new ≡ set d k s.bytes → IsLastSafe c new
@@ -63,11 +63,11 @@ module _ (c : LruCache ℕ Slot) (n : ℕ) (v : Slot) (absent : lookup (nat_eq n
   abbrev after : List (ℕ × Slot)
   after = (n, v) ∷ take (c.cap - 1) c.entries
 
-  held-after : (d : List (List ℕ)) (b : Bool) → length c.entries ≤ c.cap → AreHeld c.entries d b → IsHeld d b n v → AreHeld after d b
-  unfolding AreHeld
+  held-after : (d : List (List ℕ)) (b : Bool) → length c.entries ≤ c.cap → AreKept c.entries d b → IsKept d b n v → AreKept after d b
+  unfolding AreKept
   held-after d b fits held new k s e = elim (cases_eq k n) [
     | inl is ↦ let same : Some v ≡ Some s = sym (lookup-here (n, v) (take (c.cap - 1) c.entries) k is) ∙ e in
-        let value : v ≡ s = cc in subst (λ i. IsHeld d b i s) (sym is) (subst (λ t. IsHeld d b n t) value new)
+        let value : v ≡ s = cc in subst (λ i. IsKept d b i s) (sym is) (subst (λ t. IsKept d b n t) value new)
     | inr not ↦ let rest : lookup (nat_eq k) (take (c.cap - 1) c.entries) ≡ Some s = sym (lookup-later (n, v) (take (c.cap - 1) c.entries) k not) ∙ e in
         (elim (lookup-cut (c.cap - 1) c.entries k (omega arith)) [
           | inl same ↦ held k s (sym same ∙ rest)
@@ -75,7 +75,7 @@ module _ (c : LruCache ℕ Slot) (n : ℕ) (v : Slot) (absent : lookup (nat_eq n
         ])
   ]
 
-  others : (d : List (List ℕ)) → IsLastSafe c d → (k : ℕ) → k ≢ n → held_or after d k ≡ held_or c.entries d k
+  others : (d : List (List ℕ)) → IsLastSafe c d → (k : ℕ) → k ≢ n → kept_or after d k ≡ kept_or c.entries d k
   others d safe k not =
       ap (λ o. option_map_or (λ (s : Slot). s.bytes) o (block_at d k)) (lookup-later (n, v) (take (c.cap - 1) c.entries) k not)
       ∙ (elim (lookup-cut (c.cap - 1) c.entries k (omega (arith, safe.fits))) [
@@ -87,8 +87,8 @@ module _ (c : LruCache ℕ Slot) (n : ℕ) (v : Slot) (absent : lookup (nat_eq n
             held-none (take (c.cap - 1) c.entries) d k gone.0 ∙ sym (safe.last k cut.0 full place) ∙ sym (held-some c.entries d k cut.0 cut.3)
       ])
 
-  pub AreHeld-put : (d : List (List ℕ)) (b : Bool) → IsLastSafe c d → AreHeld c.entries d b → IsHeld d b n v → AreHeld (put_entries nat_eq c n v) d b
-  AreHeld-put d b safe held new = subst (λ es. AreHeld es d b) (sym (put-is c n v absent)) (held-after d b safe.fits held new)
+  pub AreKept-put : (d : List (List ℕ)) (b : Bool) → IsLastSafe c d → AreKept c.entries d b → IsKept d b n v → AreKept (put_entries nat_eq c n v) d b
+  AreKept-put d b safe held new = subst (λ es. AreKept es d b) (sym (put-is c n v absent)) (held-after d b safe.fits held new)
 
   -- a changed block comes in
   pub overlay-changed : (d : List (List ℕ)) → IsLastSafe c d → n < length d → overlay (put_entries nat_eq c n v) d ≡ set (overlay c.entries d) n v.bytes

@@ -9,34 +9,34 @@ use Rattle.blockdev.specs.Splice.{part, splice}
 use Rattle.blockdev.proofs.SpliceLemmas.{length-splice, put_mid-splice}
 use Rattle.cache.specs.Disk.{Disk}
 use Rattle.cache.specs.declared.held.Slot.{Slot}
-use Rattle.cache.specs.Overlay.{AreHeld, IsLastSafe, overlay}
+use Rattle.cache.specs.Overlay.{AreKept, IsLastSafe, overlay}
 use Rattle.cache.proofs.Entries.{lookup-promoted}
-use Rattle.cache.proofs.Overlays.{AreHeld-passed, AreHeld-promoted, AreHeld-set, at-overlay, held-none, held-some, length-overlay, overlay-other, overlay-promoted, overlay-set}
-use Rattle.cache.proofs.Putting.{AreHeld-put, overlay-changed, overlay-read}
+use Rattle.cache.proofs.Overlays.{AreKept-passed, AreKept-promoted, AreKept-set, at-overlay, held-none, held-some, length-overlay, overlay-other, overlay-promoted, overlay-set}
+use Rattle.cache.proofs.Putting.{AreKept-put, overlay-changed, overlay-read}
 
 pub blocks-are : {x y : Disk} → x ≡ y → x.blocks ≡ y.blocks
 blocks-are e = ap (λ (d : Disk). d.blocks) e
 
 -- a cache shows the blocks, of which n is one
 pub record IsUsed (l : LruCache ℕ Slot) (c : List (List ℕ)) (b : Bool) (blocks : List (List ℕ)) (n : ℕ) : Type 0 where
-  pub held : AreHeld l.entries c b
+  pub held : AreKept l.entries c b
   pub shows : overlay l.entries c ≡ blocks
   pub low : n < length c
 
-pub used : (old new : LruCache ℕ Slot) (c : List (List ℕ)) (b : Bool) (blocks : List (List ℕ)) (n : ℕ) → new ≡ lru_cache (promoted (nat_eq n) old.entries) old.cap → AreHeld old.entries c b → overlay old.entries c ≡ blocks → n < length blocks → IsUsed new c b blocks n
+pub used : (old new : LruCache ℕ Slot) (c : List (List ℕ)) (b : Bool) (blocks : List (List ℕ)) (n : ℕ) → new ≡ lru_cache (promoted (nat_eq n) old.entries) old.cap → AreKept old.entries c b → overlay old.entries c ≡ blocks → n < length blocks → IsUsed new c b blocks n
 used old new c b blocks n is held shows low = record {
-  held = subst (λ (l : LruCache ℕ Slot). AreHeld l.entries c b) (sym is) (AreHeld-promoted old.entries c b n held);
+  held = subst (λ (l : LruCache ℕ Slot). AreKept l.entries c b) (sym is) (AreKept-promoted old.entries c b n held);
   shows = ap (λ (l : LruCache ℕ Slot). overlay l.entries c) is ∙ overlay-promoted old.entries c n ∙ shows;
   low = subst (λ k. n < k) (sym (ap length shows) ∙ length-overlay old.entries c) low;
 }
 
-pub unheld : (old new : LruCache ℕ Slot) (r : Option (Bor Slot)) (n : ℕ) → new ≡ lru_cache (promoted (nat_eq n) old.entries) old.cap → option_copied r ≡ lookup (nat_eq n) old.entries → r ≡ None → lookup (nat_eq n) new.entries ≡ None
-unheld old new r n is told none = ap (λ (l : LruCache ℕ Slot). lookup (nat_eq n) l.entries) is ∙ lookup-promoted old.entries n n ∙ sym told ∙ ap option_copied none
+pub unkept : (old new : LruCache ℕ Slot) (r : Option (Bor Slot)) (n : ℕ) → new ≡ lru_cache (promoted (nat_eq n) old.entries) old.cap → option_copied r ≡ lookup (nat_eq n) old.entries → r ≡ None → lookup (nat_eq n) new.entries ≡ None
+unkept old new r n is told none = ap (λ (l : LruCache ℕ Slot). lookup (nat_eq n) l.entries) is ∙ lookup-promoted old.entries n n ∙ sym told ∙ ap option_copied none
 
-pub unheld-mut : (old : LruCache ℕ Slot) (r : Option (MutBor Slot)) (n : ℕ) → option_copied_mut r ≡ lookup (nat_eq n) old.entries → r ≡ None → lookup (nat_eq n) old.entries ≡ None
-unheld-mut old r n told none = sym told ∙ ap option_copied_mut none
+pub unkept-mut : (old : LruCache ℕ Slot) (r : Option (MutBor Slot)) (n : ℕ) → option_copied_mut r ≡ lookup (nat_eq n) old.entries → r ≡ None → lookup (nat_eq n) old.entries ≡ None
+unkept-mut old r n told none = sym told ∙ ap option_copied_mut none
 
-pub begun : (l : LruCache ℕ Slot) (c : List (List ℕ)) (b : Bool) (blocks : List (List ℕ)) (n : ℕ) → AreHeld l.entries c b → overlay l.entries c ≡ blocks → n < length blocks → IsUsed l c b blocks n
+pub begun : (l : LruCache ℕ Slot) (c : List (List ℕ)) (b : Bool) (blocks : List (List ℕ)) (n : ℕ) → AreKept l.entries c b → overlay l.entries c ≡ blocks → n < length blocks → IsUsed l c b blocks n
 begun l c b blocks n held shows low = record { held = held; shows = shows; low = subst (λ k. n < k) (sym (ap length shows) ∙ length-overlay l.entries c) low }
 
 -- the device was read
@@ -44,7 +44,7 @@ pub moved : (l : LruCache ℕ Slot) (c d : List (List ℕ)) (b : Bool) (blocks :
 moved l c d b blocks n u same = subst (λ x. IsUsed l x b blocks n) (sym same) u
 
 -- the block that leaves was written
-pub roomed : (l : LruCache ℕ Slot) (c d : List (List ℕ)) (b e : Bool) (blocks : List (List ℕ)) (n : ℕ) → IsUsed l c b blocks n → length d ≡ length c → AreHeld l.entries d e → overlay l.entries d ≡ overlay l.entries c → IsUsed l d e blocks n
+pub roomed : (l : LruCache ℕ Slot) (c d : List (List ℕ)) (b e : Bool) (blocks : List (List ℕ)) (n : ℕ) → IsUsed l c b blocks n → length d ≡ length c → AreKept l.entries d e → overlay l.entries d ≡ overlay l.entries c → IsUsed l d e blocks n
 roomed l c d b e blocks n u count held same = record { held = held; shows = same ∙ u.shows; low = subst (λ k. n < k) (sym count) u.low }
 
 pub counts : (l : LruCache ℕ Slot) (c d : List (List ℕ)) (b : Bool) (blocks : List (List ℕ)) (n : ℕ) (fs : List (ℕ × Slot)) → IsUsed l c b blocks n → length d ≡ length c → length (overlay fs d) ≡ length blocks
@@ -55,10 +55,10 @@ pub shown : (l : LruCache ℕ Slot) (c : List (List ℕ)) (b : Bool) (blocks : L
 shown l c b blocks n u none = sym (held-none l.entries c n none) ∙ sym (at-overlay l.entries c n u.low) ∙ ap (λ x. block_at x n) u.shows
 
 -- a block as the device has it comes in, if there is memory
-pub read-held : {X E : Type 0} (l new : LruCache ℕ Slot) (c : List (List ℕ)) (b : Bool) (blocks : List (List ℕ)) (n : ℕ) (s : Slot) (r : Result X E) → IsUsed l c b blocks n → AreBlocks c → IsLastSafe l c → lookup (nat_eq n) l.entries ≡ None → s.bytes ≡ block_at c n → OnOk r (new ≡ lru_cache (put_entries nat_eq l n s) l.cap) → OnErr r (new ≡ l) → AreHeld new.entries c b
-read-held l new c b blocks n s (Ok x) u sizes safe none same ok err = subst (λ (m : LruCache ℕ Slot). AreHeld m.entries c b) (sym ok)
-    (AreHeld-put l n s none c b safe u.held (record { inside = u.low; size = ap length same ∙ sizes n u.low; clean = λ _ _. same }))
-read-held l new c b blocks n s (Err x) u sizes safe none same ok err = subst (λ (m : LruCache ℕ Slot). AreHeld m.entries c b) (sym err) u.held
+pub read-held : {X E : Type 0} (l new : LruCache ℕ Slot) (c : List (List ℕ)) (b : Bool) (blocks : List (List ℕ)) (n : ℕ) (s : Slot) (r : Result X E) → IsUsed l c b blocks n → AreBlocks c → IsLastSafe l c → lookup (nat_eq n) l.entries ≡ None → s.bytes ≡ block_at c n → OnOk r (new ≡ lru_cache (put_entries nat_eq l n s) l.cap) → OnErr r (new ≡ l) → AreKept new.entries c b
+read-held l new c b blocks n s (Ok x) u sizes safe none same ok err = subst (λ (m : LruCache ℕ Slot). AreKept m.entries c b) (sym ok)
+    (AreKept-put l n s none c b safe u.held (record { inside = u.low; size = ap length same ∙ sizes n u.low; clean = λ _ _. same }))
+read-held l new c b blocks n s (Err x) u sizes safe none same ok err = subst (λ (m : LruCache ℕ Slot). AreKept m.entries c b) (sym err) u.held
 
 pub read-shows : {X E : Type 0} (l new : LruCache ℕ Slot) (c : List (List ℕ)) (b : Bool) (blocks : List (List ℕ)) (n : ℕ) (s : Slot) (r : Result X E) → IsUsed l c b blocks n → IsLastSafe l c → lookup (nat_eq n) l.entries ≡ None → s.bytes ≡ block_at c n → OnOk r (new ≡ lru_cache (put_entries nat_eq l n s) l.cap) → OnErr r (new ≡ l) → overlay new.entries c ≡ blocks
 read-shows l new c b blocks n s (Ok x) u safe none same ok err = ap (λ (m : LruCache ℕ Slot). overlay m.entries c) ok ∙ overlay-read l n s none c safe same ∙ u.shows
@@ -90,12 +90,12 @@ module _ (old : LruCache ℕ Slot) (c : List (List ℕ)) (b : Bool) (blocks : Li
   inside-of : overlay old.entries c ≡ blocks → n < length blocks → n < length c
   inside-of shows low = subst (λ k. n < k) (sym (ap length shows) ∙ length-overlay old.entries c) low
 
-  pub hit-held : AreHeld old.entries c b → overlay old.entries c ≡ blocks → n < length blocks → lookup (nat_eq n) old.entries ≡ Some s → new ≡ bytes → k ≡ length bytes → at + length bytes ≤ 1024 → AreHeld (set_value (nat_eq n) (promoted (nat_eq n) old.entries) overwritten) c b
-  unfolding AreHeld
+  pub hit-held : AreKept old.entries c b → overlay old.entries c ≡ blocks → n < length blocks → lookup (nat_eq n) old.entries ≡ Some s → new ≡ bytes → k ≡ length bytes → at + length bytes ≤ 1024 → AreKept (set_value (nat_eq n) (promoted (nat_eq n) old.entries) overwritten) c b
+  unfolding AreKept
   hit-held held shows low is after count fits =
       let long : length s.bytes ≡ 1024 = (held n s is).size in
       let room : at + length bytes ≤ length s.bytes = omega arith in
-      AreHeld-set (promoted (nat_eq n) old.entries) c b n s overwritten (lookup-promoted old.entries n n ∙ is) (AreHeld-promoted old.entries c b n held) (record {
+      AreKept-set (promoted (nat_eq n) old.entries) c b n s overwritten (lookup-promoted old.entries n n ∙ is) (AreKept-promoted old.entries c b n held) (record {
         inside = inside-of shows low;
         size = ap length (put_mid-splice at k s.bytes new bytes after count) ∙ length-splice at bytes s.bytes room ∙ long;
         clean = λ _ clean. absurd cc;
@@ -108,8 +108,8 @@ module _ (old : LruCache ℕ Slot) (c : List (List ℕ)) (b : Bool) (blocks : Li
       ∙ ap (set blocks n) (put_mid-splice at k s.bytes new bytes after count ∙ ap (splice at bytes) (hit old c blocks n s shows low is))
 
 -- a block for which there was no memory is written to the device
-pub refused-held : {E : Type 0} (l m : LruCache ℕ Slot) (c d : List (List ℕ)) (b e : Bool) (blocks : List (List ℕ)) (n : ℕ) (x : List ℕ) (r : Result Unit E) → IsUsed l c b blocks n → lookup (nat_eq n) l.entries ≡ None → m ≡ l → length d ≡ length c → OnOk r (d ≡ set c n x) → OnOk r (e ≡ b) → OnErr r (e ≡ true) → AreHeld m.entries d e
-refused-held l m c d b e blocks n x r u none is count written kept doubt = subst (λ (x : LruCache ℕ Slot). AreHeld x.entries d e) (sym is) (AreHeld-passed l.entries c d b e n x r none u.held count written kept doubt)
+pub refused-held : {E : Type 0} (l m : LruCache ℕ Slot) (c d : List (List ℕ)) (b e : Bool) (blocks : List (List ℕ)) (n : ℕ) (x : List ℕ) (r : Result Unit E) → IsUsed l c b blocks n → lookup (nat_eq n) l.entries ≡ None → m ≡ l → length d ≡ length c → OnOk r (d ≡ set c n x) → OnOk r (e ≡ b) → OnErr r (e ≡ true) → AreKept m.entries d e
+refused-held l m c d b e blocks n x r u none is count written kept doubt = subst (λ (x : LruCache ℕ Slot). AreKept x.entries d e) (sym is) (AreKept-passed l.entries c d b e n x r none u.held count written kept doubt)
 
 -- bytes are written into a block that wasn't held
 module _ (l : LruCache ℕ Slot) (c : List (List ℕ)) (b : Bool) (blocks : List (List ℕ)) (n at k : ℕ) (block bytes new : List ℕ) (u : IsUsed l c b blocks n) (none : lookup (nat_eq n) l.entries ≡ None) where
@@ -124,9 +124,9 @@ module _ (l : LruCache ℕ Slot) (c : List (List ℕ)) (b : Bool) (blocks : List
       let room : at + length bytes ≤ length block = omega arith in
       ap length (put_mid-splice at k block new bytes after count) ∙ length-splice at bytes block room ∙ long
 
-  pub miss-held : (m : LruCache ℕ Slot) → IsLastSafe l c → length block ≡ 1024 → new ≡ bytes → k ≡ length bytes → at + length bytes ≤ 1024 → m ≡ lru_cache (put_entries nat_eq l n changed) l.cap → AreHeld m.entries c b
-  miss-held m safe long after count fits is = subst (λ (x : LruCache ℕ Slot). AreHeld x.entries c b) (sym is)
-      (AreHeld-put l n changed none c b safe u.held (record { inside = u.low; size = size-is long after count fits; clean = λ _ clean. absurd cc }))
+  pub miss-held : (m : LruCache ℕ Slot) → IsLastSafe l c → length block ≡ 1024 → new ≡ bytes → k ≡ length bytes → at + length bytes ≤ 1024 → m ≡ lru_cache (put_entries nat_eq l n changed) l.cap → AreKept m.entries c b
+  miss-held m safe long after count fits is = subst (λ (x : LruCache ℕ Slot). AreKept x.entries c b) (sym is)
+      (AreKept-put l n changed none c b safe u.held (record { inside = u.low; size = size-is long after count fits; clean = λ _ clean. absurd cc }))
 
   pub miss-shows : (m : LruCache ℕ Slot) → IsLastSafe l c → block ≡ block_at blocks n → new ≡ bytes → k ≡ length bytes → m ≡ lru_cache (put_entries nat_eq l n changed) l.cap → overlay m.entries c ≡ set blocks n (splice at bytes (block_at blocks n))
   miss-shows m safe read after count is = ap (λ (x : LruCache ℕ Slot). overlay x.entries c) is ∙ overlay-changed l n changed none c safe u.low

@@ -36,11 +36,11 @@ impl<D: BlockDev, A: Allocator + Clone> Model for Cache<D, A> {
 
     ghost Value = { Disk };
 
-    ghost use Rattle.cache.specs.Overlay.{overlay, AreHeld};
+    ghost use Rattle.cache.specs.Overlay.{overlay, AreKept};
 
     ghost view = { λ c. record { blocks = overlay c.held.entries (D.content c.device); stored = D.content c.device; failures = D.failures c.device } };
 
-    ghost invariant = { λ c. AreHeld c.held.entries (D.content c.device) c.in_doubt };
+    ghost invariant = { λ c. AreKept c.held.entries (D.content c.device) c.in_doubt };
 }
 
 impl<D: BlockDev, A: Allocator + Clone> Cache<D, A> {

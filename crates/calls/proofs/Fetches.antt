@@ -30,7 +30,7 @@ use Rattle.proc.specs.Places.{Places, changed, with_mode}
 use Rattle.spaces.specs.Spaces.{Spaces, view_at, written}
 use Rattle.transfers.specs.Moved.{IsRead, bytes_of, bytes_read, with_bytes}
 use Rattle.tree.proofs.Storing.{whole-node}
-use Rattle.tree.specs.Held.{FitsPlaces}
+use Rattle.tree.specs.Stored.{FitsPlaces}
 use Rattle.tree.specs.Tree.{FileTree, Serves}
 use Rattle.tree.specs.Whole.{IsWhole}
 use Rattle.unixmodel.specs.declared.process.Mode.TheVariants.{Ready}

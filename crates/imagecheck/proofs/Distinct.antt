@@ -15,7 +15,7 @@ use Rattle.byteorder.specs.Endian.{little_number}
 use Rattle.unixmodel.specs.Files.{Entry, name_bytes}
 use Rattle.unixmodel.specs.Memory.{zeros}
 use Rattle.unixmodel.specs.Numbers.{number, number_at}
-use Rattle.imagecheck.specs.Entries.{AreOther, Holds, entries_in, entries_to, name_number, name_numbers}
+use Rattle.imagecheck.specs.Entries.{AreOther, IfTaken, entries_in, entries_to, name_number, name_numbers}
 use Rattle.imagerules.specs.Places.{place_of_bytes, without_zeros}
 use Rattle.imagecheck.proofs.Entering.{all_more, entries_all, entries_more, entries_none, place-taken}
 use Rattle.imagerules.proofs.Numbers.{number_at-drop}
@@ -56,12 +56,12 @@ module _ (place : List ℕ) (long : length place ≡ 16) where
   rest : length (drop 2 place) ≡ 14
   rest = omega (arith, length-drop 2 place)
 
-  trimmed-place : ((i : ℕ) → get_or place i 0 < 256) → Holds IsTrimmed (place_of_bytes place)
+  trimmed-place : ((i : ℕ) → get_or place i 0 < 256) → IfTaken IsTrimmed (place_of_bytes place)
   trimmed-place fits = go (list_all (λ b. b == 0) place) where
     e : name_bytes (without_zeros (drop 2 place)) ≡ drop 2 place
     e = name_bytes-spelled (drop 2 place) rest
 
-    go : (t : Bool) → Holds IsTrimmed (cond t None (Some (record { name = without_zeros (drop 2 place); number = number_at 2 0 place })))
+    go : (t : Bool) → IfTaken IsTrimmed (cond t None (Some (record { name = without_zeros (drop 2 place); number = number_at 2 0 place })))
     go true = tt
     go false = record {
       long = ap length e ∙ rest;

@@ -7,7 +7,7 @@ use Rattle.std.proofs.lemmas.List.Elements.{All-append, All-cons, All-head, All-
 use Rattle.unixmodel.specs.Files.{Entry, Node, slot, taken}
 use Rattle.unixmodel.specs.Image.{inodes_in, kind_in}
 use Rattle.unixmodel.specs.Numbers.{number_at}
-use Rattle.imagecheck.specs.Entries.{Holds, entries_in, entries_to}
+use Rattle.imagecheck.specs.Entries.{IfTaken, entries_in, entries_to}
 use Rattle.imagerules.specs.Places.{files_in, place_of_bytes, places_in, without_zeros}
 use Rattle.imagerules.proofs.Lists.{All-left, All-right}
 use Rattle.imagerules.proofs.Nodes.{file_in-used, slot-files_in}
@@ -67,23 +67,23 @@ pub entries_all : (bytes : List ℕ) (k : ℕ) → length bytes / 16 ≤ k → e
 entries_all bytes k h = ap (λ os. taken (drop 2 os)) (take_all k (places_in bytes) (omega (arith, length-places_in bytes)))
 
 module _ (P : Entry → Type 0) where
-  All-option : (o : Option Entry) → Holds P o → All P (option_to_list o)
+  All-option : (o : Option Entry) → IfTaken P o → All P (option_to_list o)
   All-option None h = All-nil P
   All-option (Some e) h = All-cons P e [] h (All-nil P)
 
-  pub Holds-option : (o : Option Entry) → All P (option_to_list o) → Holds P o
-  Holds-option None h = tt
-  Holds-option (Some e) h = All-head P e [] h
+  pub IfTaken-option : (o : Option Entry) → All P (option_to_list o) → IfTaken P o
+  IfTaken-option None h = tt
+  IfTaken-option (Some e) h = All-head P e [] h
 
   module _ (bytes : List ℕ) (k : ℕ) (low : 2 ≤ k) (high : k < length bytes / 16) where
-    pub all_more : All P (entries_to bytes k) → Holds P (place_of_bytes (take 16 (drop (16 * k) bytes))) → All P (entries_to bytes (k + 1))
+    pub all_more : All P (entries_to bytes k) → IfTaken P (place_of_bytes (take 16 (drop (16 * k) bytes))) → All P (entries_to bytes (k + 1))
     all_more h here =
         subst (All P) (sym (entries_more bytes k low high))
         (All-append P (entries_to bytes k) (option_to_list (place_of_bytes (take 16 (drop (16 * k) bytes)))) h (All-option (place_of_bytes (take 16 (drop (16 * k) bytes))) here))
 
-    pub all_here : All P (entries_in bytes) → Holds P (place_of_bytes (take 16 (drop (16 * k) bytes)))
+    pub all_here : All P (entries_in bytes) → IfTaken P (place_of_bytes (take 16 (drop (16 * k) bytes)))
     all_here h =
         let split = entries_split bytes k low high in
         let front : All P (entries_to bytes (k + 1)) = All-left P (entries_to bytes (k + 1)) split.0 (subst (All P) split.1 h) in
-        Holds-option (place_of_bytes (take 16 (drop (16 * k) bytes)))
+        IfTaken-option (place_of_bytes (take 16 (drop (16 * k) bytes)))
         (All-right P (entries_to bytes k) (option_to_list (place_of_bytes (take 16 (drop (16 * k) bytes)))) (subst (All P) (entries_more bytes k low high) front))

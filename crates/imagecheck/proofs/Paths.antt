@@ -5,20 +5,20 @@ use Rattle.std.proofs.lemmas.Option.{none-some}
 use Rattle.std.proofs.lemmas.List.Elements.{All-cons, All-head, All-nil, All-tail}
 use Rattle.std.proofs.lemmas.Slice.Eq.{bytes_eq-Decides}
 use Rattle.unixmodel.specs.Files.{Entry, dot, dot_dot, has_name, is_dot_name, slot, taken}
-use Rattle.imagecheck.specs.Entries.{AreOther, Holds}
+use Rattle.imagecheck.specs.Entries.{AreOther, IfTaken}
 use Rattle.imagerules.proofs.Paths.{first_named}
 
 -- what holds of each taken place
-pub holds_taken : (P : Entry → Type 0) (os : List (Option Entry)) → All P (taken os) → All (Holds P) os
-holds_taken P [] h = All-nil (Holds P)
-holds_taken P (None ∷ os) h = All-cons (Holds P) None os tt (holds_taken P os h)
-holds_taken P (Some e ∷ os) h = All-cons (Holds P) (Some e) os (All-head P e (taken os) h) (holds_taken P os (All-tail P e (taken os) h))
+pub holds_taken : (P : Entry → Type 0) (os : List (Option Entry)) → All P (taken os) → All (IfTaken P) os
+holds_taken P [] h = All-nil (IfTaken P)
+holds_taken P (None ∷ os) h = All-cons (IfTaken P) None os tt (holds_taken P os h)
+holds_taken P (Some e ∷ os) h = All-cons (IfTaken P) (Some e) os (All-head P e (taken os) h) (holds_taken P os (All-tail P e (taken os) h))
 
 -- holds of the place that a name finds
-pub holds_named : (P : Entry → Type 0) (name : List ℕ) (os : List (Option Entry)) → All (Holds P) os → Holds P (first_named name os)
+pub holds_named : (P : Entry → Type 0) (name : List ℕ) (os : List (Option Entry)) → All (IfTaken P) os → IfTaken P (first_named name os)
 holds_named P name [] h = tt
 holds_named P name (o ∷ os) h =
-    cond_both (has_name name o) o (first_named name os) (Holds P) (λ _. All-head (Holds P) o os h) (λ _. holds_named P name os (All-tail (Holds P) o os h))
+    cond_both (has_name name o) o (first_named name os) (IfTaken P) (λ _. All-head (IfTaken P) o os h) (λ _. holds_named P name os (All-tail (IfTaken P) o os h))
 
 same_name : (name : List ℕ) → bytes_eq name name ≡ true
 same_name name = (bytes_eq-Decides name name).1 refl

@@ -9,7 +9,7 @@ use Rattle.std.proofs.lemmas.Option.{none-some}
 use Rattle.unixmodel.specs.Files.{Entry, Files, Node, dot, dot_dot, entry_number, find, follow, has_name, is_directory, live_places, lookup, parts, slot, taken}
 use Rattle.unixmodel.specs.Files.Node.{Directory}
 use Rattle.unixmodel.specs.Image.{all_entries, entries_of, is_directory_at, names_number, names_of, parent_of, subdirectories, is_name}
-use Rattle.imagecheck.specs.Entries.{Holds}
+use Rattle.imagecheck.specs.Entries.{IfTaken}
 use Rattle.imagerules.specs.Places.{EntriesAt, FitsEntries, HasEntries, HasLinks, IsReached, LinksAt}
 use Rattle.imagecheck.specs.Reach.{Climbs, ancestor}
 use Rattle.imagerules.proofs.Denoting.{below-slot}
@@ -154,15 +154,15 @@ module _ (files : Files) (entries : HasEntries files) where
               (sym (entries_at files (λ y. names_number n y ≡ true → parent_of files n ≡ y.0) (parent_only n directory other) d within k x l (eq-eqb n n refl))) climbs)
         ]
 
-    places_climb : (places : List (Option Entry)) → FitsEntries files d places → All (λ (e : Entry). IsClimber files e.number) (taken (drop 2 places)) → All (Holds (λ (e : Entry). IsClimber files e.number)) places
+    places_climb : (places : List (Option Entry)) → FitsEntries files d places → All (λ (e : Entry). IsClimber files e.number) (taken (drop 2 places)) → All (IfTaken (λ (e : Entry). IsClimber files e.number)) places
     places_climb [] fits h = absurd (none-some (record { name = dot; number = d }) fits.own)
     places_climb (o ∷ []) fits h = absurd (none-some (record { name = dot_dot; number = parent_of files d }) fits.parent)
     places_climb (o ∷ r ∷ os) fits h =
         let P = λ (e : Entry). IsClimber files e.number in
-        All-cons (Holds P) o (r ∷ os) (subst (Holds P) (sym fits.own) (λ _. climbs))
-        (All-cons (Holds P) r os (subst (Holds P) (sym fits.parent) (λ _. Climbs-parent files d climbs)) (holds_taken P os h))
+        All-cons (IfTaken P) o (r ∷ os) (subst (IfTaken P) (sym fits.own) (λ _. climbs))
+        (All-cons (IfTaken P) r os (subst (IfTaken P) (sym fits.parent) (λ _. Climbs-parent files d climbs)) (holds_taken P os h))
 
-  number_climbs : (o : Option Entry) → Holds (λ (e : Entry). IsClimber files e.number) o → IfSome (entry_number o) (IsClimber files)
+  number_climbs : (o : Option Entry) → IfTaken (λ (e : Entry). IsClimber files e.number) o → IfSome (entry_number o) (IsClimber files)
   number_climbs None h = tt
   number_climbs (Some e) h = h
 

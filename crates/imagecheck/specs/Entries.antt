@@ -11,12 +11,12 @@ pub record IsGood (image : List ℕ) (e : Entry) : Type 0 where
   pub number : IsSome (slot (files_in image) e.number)
 
 -- what holds of the entry in a place, if it is taken
-abbrev pub Holds : (Entry → Type 0) → Option Entry → Type 0
-Holds P None = ⊤
-Holds P (Some e) = P e
+abbrev pub IfTaken : (Entry → Type 0) → Option Entry → Type 0
+IfTaken P None = ⊤
+IfTaken P (Some e) = P e
 
 abbrev pub GoodPlace : List ℕ → Option Entry → Type 0
-GoodPlace image o = Holds (IsGood image) o
+GoodPlace image o = IfTaken (IsGood image) o
 
 -- the entries before place k
 abbrev pub entries_to : List ℕ → ℕ → List Entry

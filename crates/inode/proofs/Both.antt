@@ -17,7 +17,7 @@ use Rattle.layout.proofs.Slots.{slot_in-direct, slot_in-indirect, slot_in-last}
 use Rattle.layout.specs.Grow.{Grows, IsFresh}
 use Rattle.balloc.specs.Bitmap.{TakesTwo}
 use Rattle.balloc.proofs.Counting.{free_blocks-take}
-use Rattle.inode.specs.Held.{HasInode}
+use Rattle.inode.specs.OnDisk.{HasInode}
 use Rattle.inode.specs.Writing.{Prepares}
 use Rattle.inode.proofs.Growing.{Fits-address, Grows-step, HoldsBytes-append, Leaves, Leaves-put, own_asks, own_node, own_slot, own_used, taken_large, taken_small, used_apart}
 use Rattle.inode.proofs.Steps.{free_put}

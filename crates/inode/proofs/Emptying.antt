@@ -9,7 +9,7 @@ use Rattle.layout.specs.Image.{IsUsed, bit_of, blocks_for, slot_in, slot_of, tak
 use Rattle.layout.proofs.Slots.{slot_of-last}
 use Rattle.balloc.specs.Bitmap.{SetsBit}
 use Rattle.layout.proofs.Plain.{zero_at}
-use Rattle.inode.specs.Held.{HasInode}
+use Rattle.inode.specs.OnDisk.{HasInode}
 use Rattle.inode.specs.Freeing.{Freed, IsOwn}
 use Rattle.inode.proofs.FreeingLemmas.{Freed-as, Freed-more, Freed-taken, Wrote-freed, slot_in_freed}
 use Rattle.inode.specs.Writing.{Wrote}

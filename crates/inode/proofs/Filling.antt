@@ -13,7 +13,7 @@ use Rattle.layout.specs.Image.{bit_in, blocks_for, bytes_of, free_blocks, inode_
 use Rattle.layout.proofs.Plain.{Grows-same, HoldsBytes-same}
 use Rattle.layout.specs.Sound.{IsSound}
 use Rattle.balloc.proofs.Counting.{free_blocks-same}
-use Rattle.inode.specs.Held.{HasInode}
+use Rattle.inode.specs.OnDisk.{HasInode}
 use Rattle.inode.specs.Writing.{BeginsBlock, LacksBlocks, LiesInBlock, Prepares, Wrote, node_linked}
 use Rattle.inode.proofs.Wrote.{Wrote-record, WritesInode-same}
 use Rattle.inode.proofs.Growing.{own_length, taken_large, taken_small}

@@ -14,7 +14,7 @@ use Rattle.layout.proofs.Puts.{PutsBlock}
 use Rattle.layout.proofs.Slots.{IsSpare-size, asks_at}
 use Rattle.layout.proofs.Frame.{get_or-bytes_of, length-bytes_of}
 use Rattle.layout.specs.Grow.{Grows, HoldsBytes, IsFresh}
-use Rattle.inode.specs.Held.{HasInode}
+use Rattle.inode.specs.OnDisk.{HasInode}
 use Rattle.inode.specs.Writing.{IsSameNode}
 
 -- ---- counts

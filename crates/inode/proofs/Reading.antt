@@ -14,7 +14,7 @@ use Rattle.layout.specs.Numbers.{number_at}
 use Rattle.layout.proofs.NumberLemmas.{number_at-take}
 use Rattle.layout.proofs.Slots.{slot_of-last, used_last}
 use Rattle.layout.proofs.Frame.{length-bytes_of, get_or-bytes_of}
-use Rattle.inode.specs.Held.{HasInode, IsInHand, IsInHand-of}
+use Rattle.inode.specs.OnDisk.{HasInode, IsInHand, IsInHand-of}
 use Rattle.inode.specs.Reading.{HasRead}
 use Rattle.inode.proofs.Growing.{own_fits, own_length, own_used}
 

@@ -21,7 +21,7 @@ use Rattle.layout.proofs.Frame.{get_or-bytes_of, length-bytes_of}
 use Rattle.layout.specs.Grow.{Grows, HoldsBytes, IsFresh}
 use Rattle.balloc.specs.Bitmap.{SetsBit, TakesLowest}
 use Rattle.balloc.proofs.Counting.{free_blocks-same, free_blocks-take}
-use Rattle.inode.specs.Held.{HasInode}
+use Rattle.inode.specs.OnDisk.{HasInode}
 use Rattle.inode.specs.Writing.{Prepares}
 use Rattle.inode.proofs.Reading.{slot_low, slot_used, slot_whole}
 use Rattle.inode.proofs.Growing.{Fits-address, Fits-size, Grows-step, HoldsBytes-append, Leaves, Leaves-put, asks_more, get_or-extend_after, get_or-extend_before, get_or-extend_inside, length-extend, own_asks, own_fits, own_length, own_node, own_slot, own_spare, own_used, taken_large, taken_small, used_apart}

@@ -1,4 +1,4 @@
-pub mod Held
+pub mod OnDisk
 pub mod Reading
 pub mod Writing
 pub mod Freeing

@@ -5,7 +5,7 @@ ghost use Rattle.unixmodel.specs.Failures.{HasCause};
 ghost use Rattle.layout.specs.Image.{IsInode, taken_for};
 ghost use Rattle.layout.specs.Sound.{IsSound};
 ghost use Rattle.inode.specs.Freeing.{Freed, IsOwn};
-ghost use Rattle.inode.specs.Held.{IsInHand};
+ghost use Rattle.inode.specs.OnDisk.{IsInHand};
 ghost use Rattle.inode.specs.Writing.{Wrote};
 
 use crate::read::block_number;

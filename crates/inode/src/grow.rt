@@ -9,7 +9,7 @@ ghost use Rattle.blockdev.specs.Splice.{splice};
 ghost use Rattle.layout.specs.Inode.{Fits};
 ghost use Rattle.layout.specs.Numbers.{number_at};
 ghost use Rattle.layout.specs.Image.{bytes_of};
-ghost use Rattle.inode.specs.Held.{IsInHand};
+ghost use Rattle.inode.specs.OnDisk.{IsInHand};
 ghost use Rattle.inode.specs.Writing.{BeginsBlock, LiesInBlock, PutsBehind, Wrote};
 
 use crate::read::block_number;

@@ -6,7 +6,7 @@ ghost use Rattle.blockdev.specs.Splice.{splice};
 ghost use Rattle.layout.specs.Inode.{Fits};
 ghost use Rattle.layout.specs.Image.{IsInode, bytes_of, free_blocks, inode_at, nodes_of};
 ghost use Rattle.layout.specs.Sound.{IsSound};
-ghost use Rattle.inode.specs.Held.{IsInHand};
+ghost use Rattle.inode.specs.OnDisk.{IsInHand};
 ghost use Rattle.inode.specs.Writing.{BeginsBlock, IsFull, IsStep, PutsBehind, Wrote, node_linked};
 
 use crate::InodeFault;

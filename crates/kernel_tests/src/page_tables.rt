@@ -7,7 +7,7 @@ use pagetable::{Full, PageTable, leaf_marks};
 use ram::{FrameNo, Ram};
 use std::marker::Model;
 use std::process::Abort;
-use sv39::{Marks, walk_page};
+use sv39::{EntryBits, walk_page};
 use unixmodel::trap::Access;
 
 // A table in a memory, and a frame to map.
@@ -62,11 +62,11 @@ impl Mapping {
             .map(&mut self.ram, &mut self.frames, page, self.frame, marks)
     }
 
-    fn find(&self, page: u64) -> Option<(FrameNo, Marks)> {
+    fn find(&self, page: u64) -> Option<(FrameNo, EntryBits)> {
         self.table.find(&self.ram, page)
     }
 
-    fn shows(&self, page: u64, marks: Marks) -> bool {
+    fn shows(&self, page: u64, marks: EntryBits) -> bool {
         self.find(page) == Some((self.frame, marks))
     }
 
@@ -108,7 +108,7 @@ fn mapped(rt: &(impl Abort + AllocGlobal)) -> Mapping {
 #[test]
 fn maps_a_page(rt: HostRuntime) {
     let mapping = mapped(&rt);
-    assert!(rt; mapping.free() == 4 && mapping.shows(5, Marks(215)));
+    assert!(rt; mapping.free() == 4 && mapping.shows(5, EntryBits(215)));
     assert!(rt; mapping.find(4).is_none());
 }
 

@@ -3,7 +3,9 @@ use crate::expected::{memory, store_all};
 use bitflags::Flags;
 use ram::{FrameNo, Ram};
 use std::process::Abort;
-use sv39::{Access, BASE, Marks, Plain, Pte, Tlb, Translate, Turn, walk, walk_counted, walk_page};
+use sv39::{
+    Access, BASE, EntryBits, Plain, Pte, Tlb, Translate, Turn, walk, walk_counted, walk_page,
+};
 
 // Addresses, accesses, and the places that these have in memory.
 const ADDRESSES: [(u64, Access, Option<u64>); 10] = [
@@ -71,7 +73,7 @@ fn addresses_that_are_too_high_are_not_looked_up(rt: HostRuntime) {
 fn entries_are_read(rt: HostRuntime) {
     let entry = Pte(0x2000_0c53);
     assert!(rt; entry.number() == BASE + 3);
-    assert!(rt; entry.marks().contains(Marks::READ | Marks::USER));
+    assert!(rt; entry.marks().contains(EntryBits::READ | EntryBits::USER));
     for (entry, is_last, access, want) in [
         (entry, true, Access::Load, Turn::Leaf(BASE + 3)),
         (entry, true, Access::Fetch, Turn::Stop),

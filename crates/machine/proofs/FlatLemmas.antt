@@ -37,7 +37,7 @@ use Rattle.std.specs.Prelude.{IfOk, IfSome, IsErrOf, OnErr, option_map, slice_in
 use Rattle.tree.specs.Tree.{FileTree}
 use Rattle.unixmodel.specs.Counts.{blocks_of, frames_of, page_frames}
 use Rattle.unixmodel.specs.Files.{Files, free_slots, slot}
-use Rattle.unixmodel.specs.Memory.{Marks, Memory, overwrite, pages_of, write_bytes, zero_page, zeros}
+use Rattle.unixmodel.specs.Memory.{Perm, Memory, overwrite, pages_of, write_bytes, zero_page, zeros}
 use Rattle.unixmodel.specs.Numbers.{ceil_div, le, round_down}
 use Rattle.unixmodel.specs.OpenFiles as unix_files
 use Rattle.unixmodel.specs.Plan.{plan_flat, push, push_pointers, push_strings, stack_marks, with_args, with_stack}
@@ -73,14 +73,14 @@ length-with_stack pages = length-append pages (zero_page (stack_marks false) ∷
 
 pub length-flat : (bytes : List ℕ) → length (flat_memory bytes) ≡ ceil_div (length bytes) 4096 + 2
 length-flat bytes =
-    let all : Marks = record { writable = true; executable = true; user = true } in
+    let all : Perm = record { writable = true; executable = true; user = true } in
     length-with_stack (pages_of all (ceil_div (length bytes) 4096) bytes)
     ∙ ap (λ n. n + 2) (length-pages all (ceil_div (length bytes) 4096) bytes)
 
 pub plan-is : (bytes : List ℕ) → plan_flat bytes ≡ Some (bare_plan (flat_memory bytes) (4096 * length (flat_memory bytes)))
 unfolding plan_flat
 plan-is bytes =
-    let all : Marks = record { writable = true; executable = true; user = true } in
+    let all : Perm = record { writable = true; executable = true; user = true } in
     let pages = pages_of all (ceil_div (length bytes) 4096) bytes in
     bare pages ∙ ap (λ n. Some (bare_plan (with_stack pages) (4096 * n))) (sym (length-with_stack pages))
 
@@ -294,7 +294,7 @@ table-first size = refl
 
 -- ---- the space as it is made: the pages of the program, its bytes in them, the guard page, the stack
 
-abbrev all_marks : Marks
+abbrev all_marks : Perm
 all_marks = record { writable = true; executable = true; user = true }
 
 abbrev program_pages : List ℕ → ℕ

@@ -25,7 +25,7 @@ use Rattle.imagerules.proofs.Marking.{blocks_of-free, named_before-all}
 use Rattle.imagerules.proofs.Nodes.{PlacesFit}
 use Rattle.imagemake.proofs.Slotted.{contents-are, length-listed}
 use Rattle.imagemake.proofs.Legible.{bit-held}
-use Rattle.tree.specs.Held.{Agrees, FitsPlaces, HasDevice, Holds, HoldsFiles}
+use Rattle.tree.specs.Stored.{Agrees, FitsPlaces, HasDevice, Stores, StoresFiles}
 use Rattle.mount.proofs.Ranges.{count-map, count-named, count-same}
 use Rattle.mount.proofs.Sounding.{IsDenoted, IsSound-denoted, data-named, legible, readable}
 
@@ -90,7 +90,7 @@ module _ (g : Geometry) (blocks : List (List ℕ)) (files : Files) (h : IsDenote
         device = device-held n high node is.major;
       })
 
-  nodes-held : HoldsFiles (nodes_of blocks g.inodes) files
+  nodes-held : StoresFiles (nodes_of blocks g.inodes) files
   nodes-held = record {
     count = length-nodes_of blocks g.inodes ∙ h.inodes ∙ sym h.denotes.count;
     each = λ n l.
@@ -167,5 +167,5 @@ module _ (g : Geometry) (blocks : List (List ℕ)) (files : Files) (h : IsDenote
       ap (λ k. k + blocks_of files) (clear ∙ unnamed) ∙ ap (λ k. count_by (λ b. not (list_any (nat_eq b) (named_blocks (image_of blocks)))) (range_with_len (data_start_of g.size g.inodes) (g.size - data_start_of g.size g.inodes)) + k) (blocks-named files refl) ∙ all
 
   -- the disk holds the files that its image denotes
-  pub Holds-denoted : Holds g blocks files
-  Holds-denoted = record { sound = IsSound-denoted g blocks files h; nodes = nodes-held; free = free-held; places = places-held }
+  pub Stores-denoted : Stores g blocks files
+  Stores-denoted = record { sound = IsSound-denoted g blocks files h; nodes = nodes-held; free = free-held; places = places-held }

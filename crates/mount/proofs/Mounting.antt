@@ -11,11 +11,11 @@ use Rattle.unixmodel.specs.Manifest.{data_blocks_of}
 use Rattle.imagerules.specs.Content.{image_of}
 use Rattle.imagerules.proofs.ContentLemmas.{length-image_of}
 use Rattle.imagerules.proofs.Denoting.{Denotes-files}
-use Rattle.tree.specs.Held.{IsHeld, files_of}
+use Rattle.tree.specs.Stored.{IsFileSystem, files_of}
 use Rattle.tree.specs.Tree.{tree_over}
 use Rattle.tree.proofs.Storing.{files-are, held-again}
 use Rattle.mount.specs.Mounted.{IsMounted, TellsNumbers, IsUnmounted}
-use Rattle.mount.proofs.Holding.{Holds-denoted}
+use Rattle.mount.proofs.Holding.{Stores-denoted}
 use Rattle.mount.proofs.Sounding.{IsDenoted}
 use Rattle.unixmodel.specs.Failures.{Rises}
 use Rattle.imagecheck.specs.Faults.{IsOfImage, Tells}
@@ -32,12 +32,12 @@ module _ (blocks : List (List ℕ)) (sizes : AreBlocks blocks) (files : Files) (
   denoted = record { sizes = sizes; size = numbers.size; inodes = numbers.inodes; denotes = d }
 
   -- a disk of these blocks holds the files that they tell
-  pub IsHeld-mounted : (disk : Disk) → disk.blocks ≡ blocks → IsHeld g disk.blocks
-  IsHeld-mounted disk same = subst (IsHeld g) (sym same) (held-again g blocks files (Holds-denoted g blocks files denoted))
+  pub IsFileSystem-mounted : (disk : Disk) → disk.blocks ≡ blocks → IsFileSystem g disk.blocks
+  IsFileSystem-mounted disk same = subst (IsFileSystem g) (sym same) (held-again g blocks files (Stores-denoted g blocks files denoted))
 
   pub IsMounted-over : (failures : ℕ) (disk : Disk) → disk.blocks ≡ blocks → failures ≤ disk.failures → IsMounted (image_of blocks) failures (tree_over g disk)
   IsMounted-over failures disk same later =
-      let are : files_of g disk.blocks ≡ files = ap (files_of g) same ∙ files-are g blocks files (Holds-denoted g blocks files denoted) in
+      let are : files_of g disk.blocks ≡ files = ap (files_of g) same ∙ files-are g blocks files (Stores-denoted g blocks files denoted) in
       record {
         denotes = subst (Denotes (image_of blocks)) (sym are) d;
         only = λ others e. Denotes-files (image_of blocks) others e ∙ sym (Denotes-files (image_of blocks) files d) ∙ sym are;

@@ -15,7 +15,7 @@ use Rattle.mount.specs.Mounted.{AreLinked}
 use Rattle.names.specs.Rules.{KeepsTree}
 use Rattle.settled.proofs.ToRules.{KeepsRules-live}
 use Rattle.tree.proofs.Storing.{length-held, whole-node}
-use Rattle.tree.specs.Held.{Agrees, FitsPlaces, HasDevice, Holds, IsRaw, IsStored}
+use Rattle.tree.specs.Stored.{Agrees, FitsPlaces, HasDevice, Stores, IsRaw, IsStored}
 use Rattle.unixmodel.specs.Files.{Files, Node, slot}
 use Rattle.unixmodel.specs.Files.Node.{Device, Directory, File}
 use Rattle.unixmodel.specs.Image.{Denotes, HasMajor, IsNode, KeepsRules, Stands}
@@ -24,7 +24,7 @@ free-held : (o : Option Node) → Agrees None o → o ≡ None
 free-held None h = refl
 free-held (Some node) h = absurd h
 
-module _ (g : Geometry) (blocks : List (List ℕ)) (files : Files) (holds : Holds g blocks files) where
+module _ (g : Geometry) (blocks : List (List ℕ)) (files : Files) (holds : Stores g blocks files) where
   parts : HasParts g blocks
   parts = holds.sound.parts
 

@@ -116,13 +116,13 @@ unfolding make_at
 make-parts files at node made h =
     option_and_then_some (λ n. option_map (with_number n) (enter (put files n (node n)) at n)) (free_number files) made h (λ n f g. found n f (enter (put files n (node n)) at n) refl g)
   where
-  with_number : ℕ → Files → Made
-  with_number n new = record { files = new; number = n }
+    with_number : ℕ → Files → Made
+    with_number n new = record { files = new; number = n }
 
-  found : (n : ℕ) → free_number files ≡ Some n → (o : Option Files) → enter (put files n (node n)) at n ≡ o → option_map (with_number n) o ≡ Some made → IsMade files at node made
-  found n f None g h = absurd (none-some made h)
-  found n f (Some new) g h =
-      subst (IsMade files at node) (same_Some (with_number n new) made h) (record { free = free-number files n f; entered = g })
+    found : (n : ℕ) → free_number files ≡ Some n → (o : Option Files) → enter (put files n (node n)) at n ≡ o → option_map (with_number n) o ≡ Some made → IsMade files at node made
+    found n f None g h = absurd (none-some made h)
+    found n f (Some new) g h =
+        subst (IsMade files at node) (same_Some (with_number n new) made h) (record { free = free-number files n f; entered = g })
 
 -- ---- no name
 

@@ -2,13 +2,13 @@
 use Rattle.std.proofs.Common.{◌≡◌, ℕ, ◌%◌, List, length, Some, refl, sym, ap, ◌∙◌}
 use Rattle.ram.specs.Memory.{frame_of}
 use Rattle.sv39.specs.Walk.{entry_of}
-use Rattle.pagetable.specs.Tree.{child_of, Node, Root, Mid, Low, IsNode, table_at, child_at, leaf_at, low_node, lookup_of, IsTree, Holds}
+use Rattle.pagetable.specs.Tree.{child_of, Node, Root, Mid, Low, IsNode, table_at, child_at, leaf_at, low_node, lookup_of, IsTree, HasTable}
 use Rattle.pagetable.proofs.TreeLemmas.{entry_of-frame, child_at-same, leaf_at-same, low_is_node}
 
-held_at : (m : List (List ℕ)) (r : ℕ) (x : Node) (v : ℕ) → IsNode x → table_at m r x ≡ Some v → Holds m r v
+held_at : (m : List (List ℕ)) (r : ℕ) (x : Node) (v : ℕ) → IsNode x → table_at m r x ≡ Some v → HasTable m r v
 held_at m r x v nx at = record { place = x; is_node = nx; at_place = at }
 
-pub table_at-same : (m k : List (List ℕ)) (r : ℕ) → ((v : ℕ) → Holds m r v → frame_of k v ≡ frame_of m v) → (x : Node) → IsNode x → table_at k r x ≡ table_at m r x
+pub table_at-same : (m k : List (List ℕ)) (r : ℕ) → ((v : ℕ) → HasTable m r v → frame_of k v ≡ frame_of m v) → (x : Node) → IsNode x → table_at k r x ≡ table_at m r x
 unfolding table_at
 table_at-same m k r same Root nx = refl
 table_at-same m k r same (Mid a) nx = ap child_of (entry_of-frame m k r a (same r (held_at m r Root r tt refl)))
@@ -16,7 +16,7 @@ table_at-same m k r same (Low a b) nx =
     ap (λ o. child_at k (child_of o) b) (entry_of-frame m k r a (same r (held_at m r Root r tt refl)))
     ∙ child_at-same m k (child_of (entry_of m r a)) b (λ v g. entry_of-frame m k v b (same v (held_at m r (Mid a) v nx.0 g)))
 
-pub IsTree-same : (m k : List (List ℕ)) (r : ℕ) → IsTree m r → length k ≡ length m → ((v : ℕ) → Holds m r v → frame_of k v ≡ frame_of m v) → IsTree k r
+pub IsTree-same : (m k : List (List ℕ)) (r : ℕ) → IsTree m r → length k ≡ length m → ((v : ℕ) → HasTable m r v → frame_of k v ≡ frame_of m v) → IsTree k r
 IsTree-same m k r is len same =
     let stays = table_at-same m k r same in
     record {
@@ -27,7 +27,7 @@ IsTree-same m k r is len same =
           rw (len, entry_of-frame m k t i (same t (held_at m r x t nx old))) (is.sound x t i nx old small);
     }
 
-pub lookup_of-same : (m k : List (List ℕ)) (r : ℕ) → ((v : ℕ) → Holds m r v → frame_of k v ≡ frame_of m v) → (page : ℕ) → lookup_of k r page ≡ lookup_of m r page
+pub lookup_of-same : (m k : List (List ℕ)) (r : ℕ) → ((v : ℕ) → HasTable m r v → frame_of k v ≡ frame_of m v) → (page : ℕ) → lookup_of k r page ≡ lookup_of m r page
 unfolding lookup_of
 lookup_of-same m k r same page =
     ap (λ o. leaf_at k o (page % 512)) (table_at-same m k r same (low_node page) (low_is_node page))

@@ -9,7 +9,7 @@ use Rattle.frames.specs.declared.Frames.{Frames}
 use Rattle.frames.specs.Free.{among, free_of, free_count, extra_of, further_at, IsFreeList}
 use Rattle.frames.proofs.FreeLemmas.{among_first, apart-not, among_first_not, free_of-same, further-free, shared-is, IsFreeList-same}
 use Rattle.sv39.specs.Walk.{base, entry_of}
-use Rattle.pagetable.specs.Tree.{table_entry, leaf_entry, child_of, leaf_of, Node, Root, Mid, Low, IsNode, child_at, table_at, leaf_at, low_node, mid_node, lookup_of, IsTableEntry, no_table, a_table, IsLeafEntry, no_leaf, IsEntry, IsTree, Holds, Inserts, Writes, Links, next_node, IsUpper, IsPaged, Keeps, missing, missing_by}
+use Rattle.pagetable.specs.Tree.{table_entry, leaf_entry, child_of, leaf_of, Node, Root, Mid, Low, IsNode, child_at, table_at, leaf_at, low_node, mid_node, lookup_of, IsTableEntry, no_table, a_table, IsLeafEntry, no_leaf, IsEntry, IsTree, HasTable, Inserts, Writes, Links, next_node, IsUpper, IsPaged, Keeps, missing, missing_by}
 use Rattle.std.proofs.Math.Nat.{div-div-eq-div-mul}
 use Rattle.std.proofs.lemmas.Nat.{div-mul-add, mod-mul-add}
 use Rattle.std.proofs.lemmas.Bool.{ne_eqb}
@@ -108,7 +108,7 @@ pub KeepsBut-write : (m k : List (List ℕ)) (r t c e : ℕ) → Writes m k t c 
 KeepsBut-write m k r t c e w = record { entries = λ y v i ny h small ne. entry-write m k t c e v i w small ne }
 
 -- the new table is in no frame of the tree
-KeepsBut-link : (m k : List (List ℕ)) (r t c u : ℕ) → Links m k t c u → ¬ Holds m r u → KeepsBut m k r t c
+KeepsBut-link : (m k : List (List ℕ)) (r t c u : ℕ) → Links m k t c u → ¬ HasTable m r u → KeepsBut m k r t c
 KeepsBut-link m k r t c u w new = record {
   entries = λ y v i ny h small ne. entry-link m k t c u v i w small (λ e. new (record { place = y; is_node = ny; at_place = rw (← e) h })) ne;
 }
@@ -246,19 +246,19 @@ child_at-fresh : (k : List (List ℕ)) (u b : ℕ) → entry_of k u b ≡ 0 → 
 child_at-fresh k u b e = rw e child_of-zero
 
 pub table_at-link_other : (m k : List (List ℕ)) (r : ℕ) (x : Node) (t c u : ℕ) → IsTree m r → IsNode x → IsUpper x → c < 512 → table_at m r x ≡ Some t → Links m k t c u
-    → ¬ Holds m r u → table_at m r (next_node x c) ≡ None → (y : Node) → IsNode y → y ≢ next_node x c → table_at k r y ≡ table_at m r y
+    → ¬ HasTable m r u → table_at m r (next_node x c) ≡ None → (y : Node) → IsNode y → y ≢ next_node x c → table_at k r y ≡ table_at m r y
 table_at-link_other m k r x t c u is nx up sc at w new none =
     let before : child_of (entry_of m t c) ≡ None = sym (table_at-next m r x t c up at) ∙ none in
     table_at-kept m k r x t c is (KeepsBut-link m k r t c u w new) nx up at
     (λ b small. ap (λ o. child_at k o b) (ap child_of w.here ∙ child_of-table u) ∙ child_at-fresh k u b (w.fresh b small) ∙ sym (ap (λ o. child_at m o b) before))
 
 pub table_at-link_same : (m k : List (List ℕ)) (r : ℕ) (x : Node) (t c u : ℕ) → IsTree m r → IsNode x → IsUpper x → c < 512 → table_at m r x ≡ Some t → Links m k t c u
-    → ¬ Holds m r u → table_at k r (next_node x c) ≡ Some u
+    → ¬ HasTable m r u → table_at k r (next_node x c) ≡ Some u
 table_at-link_same m k r x t c u is nx up sc at w new = next-kept m k r x t c is (KeepsBut-link m k r t c u w new) nx up at ∙ ap child_of w.here ∙ child_of-table u
 
 -- a table at a place is the new one, or was there
 link_cases : (m k : List (List ℕ)) (r : ℕ) (x : Node) (t c u : ℕ) → IsTree m r → IsNode x → IsUpper x → c < 512 → table_at m r x ≡ Some t → Links m k t c u
-    → ¬ Holds m r u → table_at m r (next_node x c) ≡ None → (y : Node) (v : ℕ) → IsNode y → table_at k r y ≡ Some v
+    → ¬ HasTable m r u → table_at m r (next_node x c) ≡ None → (y : Node) (v : ℕ) → IsNode y → table_at k r y ≡ Some v
     → ((y ≡ next_node x c) × (v ≡ u)) ⊎ (table_at m r y ≡ Some v)
 link_cases m k r x t c u is nx up sc at w new none y v ny h =
     elim (cases_node y (next_node x c)) [
@@ -279,7 +279,7 @@ entry_table n (Mid a) u up h = a_table u h refl
 entry_table n (Low a b) u up h = absurd up
 
 pub IsTree-link : (m k : List (List ℕ)) (r : ℕ) (x : Node) (t c u : ℕ) → IsTree m r → IsNode x → IsUpper x → c < 512 → table_at m r x ≡ Some t → Links m k t c u
-    → ¬ Holds m r u → table_at m r (next_node x c) ≡ None → u < length m → IsTree k r
+    → ¬ HasTable m r u → table_at m r (next_node x c) ≡ None → u < length m → IsTree k r
 IsTree-link m k r x t c u is nx up sc at w new none inside =
     let cases = link_cases m k r x t c u is nx up sc at w new none in
     let held : (y : Node) → IsNode y → table_at m r y ≡ Some u → ⊥ = λ y ny h. new (record { place = y; is_node = ny; at_place = h }) in
@@ -313,7 +313,7 @@ IsTree-link m k r x t c u is nx up sc at w new none inside =
 
 -- a new table maps nothing
 pub lookup_of-link : (m k : List (List ℕ)) (r : ℕ) (x : Node) (t c u : ℕ) → IsTree m r → IsNode x → IsUpper x → c < 512 → table_at m r x ≡ Some t → Links m k t c u
-    → ¬ Holds m r u → table_at m r (next_node x c) ≡ None → (p : ℕ) → lookup_of k r p ≡ lookup_of m r p
+    → ¬ HasTable m r u → table_at m r (next_node x c) ≡ None → (p : ℕ) → lookup_of k r p ≡ lookup_of m r p
 lookup_of-link m k r x t c u is nx up sc at w new none =
     lookup_of-kept m k r x t c is (KeepsBut-link m k r t c u w new) nx up at (table_at-link_other m k r x t c u is nx up sc at w new none)
     (λ i small. ap (λ o. leaf_at k o i) (table_at-link_same m k r x t c u is nx up sc at w new) ∙ leaf_at-fresh k u i (w.fresh i small) ∙ sym (ap (λ o. leaf_at m o i) none))
@@ -442,7 +442,7 @@ free_count-taken m k s n j e table is = omega (arith, e, ap (λ (t : List ℕ ×
 
 -- ---- the tree beside the free frames
 
-pub held_absent : (m : List (List ℕ)) (r : ℕ) (s : Frames) (u : ℕ) (fs : List ℕ) → IsPaged m r s → free_of m s ≡ u ∷ fs → ¬ Holds m r u
+pub held_absent : (m : List (List ℕ)) (r : ℕ) (s : Frames) (u : ℕ) (fs : List ℕ) → IsPaged m r s → free_of m s ≡ u ∷ fs → ¬ HasTable m r u
 held_absent m r s u fs is e h = cc (is.apart h.place u h.is_node h.at_place, ap (among u) e, among_first u fs)
 
 pub IsPaged-link : (m k : List (List ℕ)) (r : ℕ) (s n : Frames) (x : Node) (t c u : ℕ) → IsPaged m r s → IsNode x → IsUpper x → c < 512 → table_at m r x ≡ Some t → Links m k t c u

@@ -7,7 +7,7 @@ use Rattle.frames.proofs.FreeLemmas.{free_of-same, IsFreeList-same}
 use Rattle.pagetable.proofs.Beside.{IsTree-same, table_at-same, lookup_of-same}
 use Rattle.ram.specs.Memory.{frame_of}
 use Rattle.sv39.specs.Walk.{entry_of}
-use Rattle.pagetable.specs.Tree.{child_of, leaf_of, Node, IsNode, IsUpper, next_node, table_at, child_at, leaf_at, lookup_of, IsTree, Holds, Writes, IsPaged, Keeps}
+use Rattle.pagetable.specs.Tree.{child_of, leaf_of, Node, IsNode, IsUpper, next_node, table_at, child_at, leaf_at, lookup_of, IsTree, HasTable, Writes, IsPaged, Keeps}
 use Rattle.pagetable.proofs.TreeLemmas.{further-same, KeepsBut-write, table_at-kept, table_at-next, next-kept, lookup_of-kept, tables_apart, entry-write, entry_zero, child_of-zero, leaf_of-zero, cases_node, write-stays}
 
 -- the table u, which the entry c of the table t in x leads to, maps nothing, and the entry is cleared
@@ -89,10 +89,10 @@ pub unlinked : (m k l : List (List ℕ)) (r : ℕ) (s n : Frames) (x : Node) (t 
     → IsUnlinked m l r s n x c
 unlinked m k l r s n x t c u is un given e valid table =
     let cases = unlink_cases m k r x t c u un in
-    let same : (v : ℕ) → Holds k r v → frame_of l v ≡ frame_of k v = λ (v : ℕ) (h : Holds k r v). given.others v (among_not v u [] (cases h.place v h.is_node h.at_place).0 refl) in
+    let same : (v : ℕ) → HasTable k r v → frame_of l v ≡ frame_of k v = λ (v : ℕ) (h : HasTable k r v). given.others v (among_not v u [] (cases h.place v h.is_node h.at_place).0 refl) in
     let old : (y : Node) (v : ℕ) → IsNode y → table_at l r y ≡ Some v → (v ≢ u) × (table_at m r y ≡ Some v) =
-        λ (y : Node) (v : ℕ) (ny : IsNode y) (h : table_at l r y ≡ Some v). cases y v ny (sym (table_at-same k l r same y ny) ∙ h) in
-    let not_u : (v : ℕ) → ¬ Holds m r v → v ≢ u = λ (v : ℕ) (out : ¬ Holds m r v) (g : v ≡ u). out (rw g (record { place = next_node x c; is_node = un.next; at_place = un.below })) in
+    λ (y : Node) (v : ℕ) (ny : IsNode y) (h : table_at l r y ≡ Some v). cases y v ny (sym (table_at-same k l r same y ny) ∙ h) in
+    let not_u : (v : ℕ) → ¬ HasTable m r v → v ≢ u = λ (v : ℕ) (out : ¬ HasTable m r v) (g : v ≡ u). out (rw g (record { place = next_node x c; is_node = un.next; at_place = un.below })) in
     record {
       paged = record {
         tree = IsTree-same k l r (IsTree-unlink m k r x t c u un) given.count same;

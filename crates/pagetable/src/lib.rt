@@ -16,11 +16,11 @@ ghost use Rattle.unixmodel.specs.Translation.{walk_page};
 ghost use Rattle.pagetable.specs.Agree.{given_frame};
 ghost use Rattle.pagetable.specs.Marks.{leaf_marks};
 ghost use Rattle.pagetable.specs.Shape.{table_of, IsTidy, IsEmpty, Adds, Removes};
-ghost use Rattle.pagetable.specs.Tree.{Node, IsNode, Root, table_entry, leaf_entry, child_of, leaf_of, table_at, low_node, mid_node, lookup_of, IsTableEntry, IsLeafEntry, IsLeafMarks, IsTree, IsPaged, Keeps, Holds, Inserts, Writes, Links, missing};
+ghost use Rattle.pagetable.specs.Tree.{Node, IsNode, Root, table_entry, leaf_entry, child_of, leaf_of, table_at, low_node, mid_node, lookup_of, IsTableEntry, IsLeafEntry, IsLeafMarks, IsTree, IsPaged, Keeps, HasTable, Inserts, Writes, Links, missing};
 
 use frames::Frames;
 use ram::{FrameNo, Ram};
-use sv39::{BASE, Marks};
+use sv39::{BASE, EntryBits};
 
 // Bytes in an entry, and entries in a table.
 const ENTRY_SIZE: usize = 8;
@@ -48,7 +48,7 @@ pub struct PageTable {
 }
 
 // The bits of a mark, where it is set.
-fn bits_if(set: bool, mark: Marks) -> u16
+fn bits_if(set: bool, mark: EntryBits) -> u16
     requires { mark.0 < 1024 }
     ensures { result ≡ one_if set * mark.0 }
 {
@@ -59,14 +59,17 @@ fn bits_if(set: bool, mark: Marks) -> u16
 ///
 /// The walk sets no A or D, so they stand from the start; without U a program has no access.
 #[tactic(auto, unfolding(crate::specs::Marks::leaf_marks))]
-pub fn leaf_marks(writable: bool, executable: bool, user: bool) -> Marks
+pub fn leaf_marks(writable: bool, executable: bool, user: bool) -> EntryBits
     ensures marks { result.0 ≡ leaf_marks (record { writable = writable; executable = executable; user = user }) }
     ensures leaf { IsLeafMarks result.0 }
 {
-    let always = Marks::VALID.0 + Marks::READ.0 + Marks::ACCESSED.0 + Marks::DIRTY.0;
-    let write = bits_if(writable, Marks::WRITE);
-    let execute = bits_if(executable, Marks::EXECUTE);
-    Marks(always + write + execute + bits_if(user, Marks::USER))
+    let always = EntryBits::VALID.0
+        + EntryBits::READ.0
+        + EntryBits::ACCESSED.0
+        + EntryBits::DIRTY.0;
+    let write = bits_if(writable, EntryBits::WRITE);
+    let execute = bits_if(executable, EntryBits::EXECUTE);
+    EntryBits(always + write + execute + bits_if(user, EntryBits::USER))
 }
 
 // The table that an entry names.
@@ -88,7 +91,7 @@ fn child(ram: &Ram, table: FrameNo, index: u64) -> Option<FrameNo>
 
 // What an entry maps to.
 #[tactic(auto, unfolding(crate::specs::Tree::leaf_of, sv39::specs::Walk::entry_of))]
-fn leaf(ram: &Ram, table: FrameNo, index: u64) -> Option<(FrameNo, Marks)>
+fn leaf(ram: &Ram, table: FrameNo, index: u64) -> Option<(FrameNo, EntryBits)>
     requires table { table.0 < length ram.now }
     requires index { index < 512 }
     requires sound { IsLeafEntry (length ram.now) (entry_of ram.now table.0 index) }
@@ -101,7 +104,7 @@ fn leaf(ram: &Ram, table: FrameNo, index: u64) -> Option<(FrameNo, Marks)>
     } else {
         Some((
             FrameNo((entry / FRAME_UNIT - BASE) as u32),
-            Marks((entry % FRAME_UNIT) as u16),
+            EntryBits((entry % FRAME_UNIT) as u16),
         ))
     }
 }
@@ -127,13 +130,13 @@ fn link(ram: &mut Ram, frames: &mut Frames, table: FrameNo, index: u64) -> Frame
     ram.store_u64(
         table,
         ENTRY_SIZE * index as usize,
-        (BASE + u64::from(fresh.0)) * FRAME_UNIT + u64::from(Marks::VALID.0),
+        (BASE + u64::from(fresh.0)) * FRAME_UNIT + u64::from(EntryBits::VALID.0),
     );
     fresh
 }
 
 // Makes an entry of a table map to a frame.
-fn write(ram: &mut Ram, table: FrameNo, index: u64, frame: FrameNo, marks: Marks)
+fn write(ram: &mut Ram, table: FrameNo, index: u64, frame: FrameNo, marks: EntryBits)
     requires table { table.0 < length ram.old }
     requires index { index < 512 }
     requires marks { marks.0 < 1024 }
@@ -218,7 +221,7 @@ impl PageTable {
     /// The frame and the marks that a page is mapped to, or `None`.
     ///
     /// Of the page's number the lowest 27 bits count, as in the walk.
-    pub fn find(&self, ram: &Ram, page: u64) -> Option<(FrameNo, Marks)>
+    pub fn find(&self, ram: &Ram, page: u64) -> Option<(FrameNo, EntryBits)>
         requires { IsTree ram.now self.now.root.0 }
         ensures { option_map (λ x. (x.0.0, x.1.0)) result ≡ lookup_of ram.now self.now.root.0 page }
     {
@@ -282,7 +285,7 @@ impl PageTable {
         page: u64,
         low: FrameNo,
         frame: FrameNo,
-        marks: Marks,
+        marks: EntryBits,
     )
         requires paged { IsPaged ram.old self.now.root.0 frames.now }
         requires low { table_at ram.old self.now.root.0 (low_node page) ≡ Some low.0 }
@@ -308,7 +311,7 @@ impl PageTable {
         frames: &mut Frames,
         page: u64,
         frame: FrameNo,
-        marks: Marks,
+        marks: EntryBits,
     ) -> Result<(), Full>
         requires paged { IsPaged ram.old self.now.root.0 frames.old }
         requires page { page < 2 ^ 27 }
@@ -353,7 +356,7 @@ impl PageTable {
     }
 
     /// Gives a page that is mapped other marks; its frame stays.
-    pub fn set_perm(&self, ram: &mut Ram, frames: &Frames, page: u64, marks: Marks)
+    pub fn set_perm(&self, ram: &mut Ram, frames: &Frames, page: u64, marks: EntryBits)
         requires paged { IsPaged ram.old self.now.root.0 frames.now }
         requires page { page < 2 ^ 27 }
         requires mapped { lookup_of ram.old self.now.root.0 page ≢ None }
@@ -375,7 +378,7 @@ impl PageTable {
     }
 
     /// Gives a page that is mapped another frame and other marks. No table comes or goes.
-    pub fn remap(&self, ram: &mut Ram, frames: &Frames, page: u64, frame: FrameNo, marks: Marks)
+    pub fn remap(&self, ram: &mut Ram, frames: &Frames, page: u64, frame: FrameNo, marks: EntryBits)
         requires paged { IsPaged ram.old self.now.root.0 frames.now }
         requires page { page < 2 ^ 27 }
         requires mapped { lookup_of ram.old self.now.root.0 page ≢ None }

@@ -23,7 +23,7 @@ use Rattle.tree.specs.Tree.{FileTree, Serves}
 use Rattle.tree.specs.Written.{IsFile}
 use Rattle.unixmodel.specs.Files.{Files, Node, slot}
 use Rattle.unixmodel.specs.Files.Node.{Device, Directory, File}
-use Rattle.unixmodel.specs.Memory.{Marks, pages_of, zero_page}
+use Rattle.unixmodel.specs.Memory.{Perm, pages_of, zero_page}
 use Rattle.unixmodel.specs.Numbers.{ceil_div, number_at}
 use Rattle.unixmodel.specs.Plan.{Loaded, Segment, load_segment, load_segments, loaded_of, may_follow, nothing_loaded, segment_at, segment_marks, segment_pages, with_segment}
 use Rattle.unixmodel.specs.ProcessCalls.{file_bytes}
@@ -199,7 +199,7 @@ all-loaded has all = read-serves has.same has.up has.later (sym (ends-all has al
 abbrev IsWhole : Loaded → Type 0
 IsWhole l = length l.pages ≡ ceil_div l.end 4096
 
-pub length-pages : (marks : Marks) (n : ℕ) (front : List ℕ) → length (pages_of marks n front) ≡ n
+pub length-pages : (marks : Perm) (n : ℕ) (front : List ℕ) → length (pages_of marks n front) ≡ n
 unfolding pages_of
 length-pages marks zero front = refl
 length-pages marks (suc n) front = ap suc (length-pages marks n (drop 4096 front))

@@ -22,7 +22,7 @@ use Rattle.transfers.proofs.Pieces.{held-there, none-written, space-within, with
 use Rattle.tree.specs.Tree.{FileTree, Serves}
 use Rattle.unixmodel.specs.Counts.{page_frames}
 use Rattle.unixmodel.specs.Files.{slot}
-use Rattle.unixmodel.specs.Memory.{Marks, Memory, Page, overwrite, pages_of, write_bytes, write_from, zero_page, zeros}
+use Rattle.unixmodel.specs.Memory.{Perm, Memory, Page, overwrite, pages_of, write_bytes, write_from, zero_page, zeros}
 use Rattle.unixmodel.specs.Numbers.{ceil_div}
 use Rattle.unixmodel.specs.Plan.{Segment, segment_marks, segment_pages, stack_marks}
 use Rattle.vm.specs.Reach.{IsSized}
@@ -129,13 +129,13 @@ first-page bytes =
     ap (λ n. take 4096 bytes ++ drop n (zeros 4096)) (zero-add (length (take 4096 bytes)))
     ∙ ap (λ rest. take 4096 bytes ++ rest) (drop-replicate (length (take 4096 bytes)) 4096 0 ∙ ap zeros short)
 
-pub empty-pages : (marks : Marks) (n : ℕ) → replicate n (zero_page marks) ≡ pages_of marks n []
+pub empty-pages : (marks : Perm) (n : ℕ) → replicate n (zero_page marks) ≡ pages_of marks n []
 unfolding pages_of
 empty-pages marks zero = refl
 empty-pages marks (suc n) = ap (λ ps. zero_page marks ∷ ps) (empty-pages marks n)
 
 -- bytes written over pages of zeros
-pub filled-from : (marks : Marks) (n : ℕ) (bytes : List ℕ) → write_from (replicate n (zero_page marks)) 0 bytes ≡ pages_of marks n bytes
+pub filled-from : (marks : Perm) (n : ℕ) (bytes : List ℕ) → write_from (replicate n (zero_page marks)) 0 bytes ≡ pages_of marks n bytes
 unfolding pages_of
 filled-from marks zero bytes = refl
 filled-from marks (suc n) [] = empty-pages marks (suc n)
@@ -144,7 +144,7 @@ filled-from marks (suc n) (b ∷ bs) =
     ap (λ front. let p : Page = record { bytes = front; marks = marks } in p ∷ write_from (replicate n (zero_page marks)) 0 (drop 4096 (b ∷ bs))) (first-page (b ∷ bs))
     ∙ ap (λ ps. page ∷ ps) (filled-from marks n (drop 4096 (b ∷ bs)))
 
-pub filled : (marks : Marks) (n : ℕ) (bytes : List ℕ) → write_bytes (replicate n (zero_page marks)) 0 bytes ≡ pages_of marks n bytes
+pub filled : (marks : Perm) (n : ℕ) (bytes : List ℕ) → write_bytes (replicate n (zero_page marks)) 0 bytes ≡ pages_of marks n bytes
 unfolding write_bytes
 filled marks n bytes = filled-from marks n bytes
 
@@ -227,7 +227,7 @@ segment-in s s1 s2 at file mem count g has aligned after is added put =
     ∙ with-written s at (mem ++ replicate (ceil_div (g.address + g.size) 4096 - length mem) (zero_page (segment_marks g))) g.address (part g.offset g.file_size file) has
     ∙ ap (λ (m : Memory). with_view s at (paged m)) (segment-filled file mem g aligned after)
 
-abbrev marks_of : LoadSegment → Marks
+abbrev marks_of : LoadSegment → Perm
 marks_of g = record { writable = g.writable; executable = g.executable; user = true }
 
 pub segment-loaded : (s s1 s2 : Spaces) (at : ℕ) (file : List ℕ) (mem : Memory) (count : ℕ) (shown : LoadSegment) → has_space s at ≡ true → Follows (length file) (length mem) shown → count ≡ ceil_div (shown.address + shown.size) 4096 - length mem

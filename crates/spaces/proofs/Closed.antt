@@ -11,7 +11,7 @@ use Rattle.unixmodel.specs.Meaning.{Change}
 use Rattle.unixmodel.specs.Meaning.Change.{Bytes, Nothing}
 use Rattle.unixmodel.specs.Shown.{ShowsByte, ShowsMemory, byte_at, page_byte}
 use Rattle.unixmodel.specs.Translation.{walk}
-use Rattle.unixmodel.specs.Memory.{Marks, Memory, Page, page_for, permits, permitted}
+use Rattle.unixmodel.specs.Memory.{Perm, Memory, Page, page_for, permits, permitted}
 use Rattle.vm.specs.Dense.{marks_at, read_at, read_below, entries_below, pages_below, mapping_below}
 use Rattle.vm.specs.Leaf.{IsUserLeaf, entry_marks, is_open, right_marks, user_leaf}
 use Rattle.vm.proofs.LeafLemmas.{leaf-open, open-right, right-leaf}
@@ -19,10 +19,10 @@ use Rattle.vm.proofs.WalkLaw.{get-mapping, mapped-page, mapping-past, unmapped-p
 
 -- ---- a page
 
-page-here : (read : ℕ → Marks) (m : List (List ℕ)) (r n p : ℕ) → p < n → slice_get (memory_of m (read_below read m r n)) p ≡ Some (page_in m (read_at read m r p))
+page-here : (read : ℕ → Perm) (m : List (List ℕ)) (r n p : ℕ) → p < n → slice_get (memory_of m (read_below read m r n)) p ≡ Some (page_in m (read_at read m r p))
 page-here read m r n p low = mapped-page m (read_below read m r n) p (read_at read m r p) (sym (get-mapping read m r n p low))
 
-page-past : (read : ℕ → Marks) (m : List (List ℕ)) (r n p : ℕ) → n ≤ p → slice_get (memory_of m (read_below read m r n)) p ≡ None
+page-past : (read : ℕ → Perm) (m : List (List ℕ)) (r n p : ℕ) → n ≤ p → slice_get (memory_of m (read_below read m r n)) p ≡ None
 page-past read m r n p high = unmapped-page m (read_below read m r n) p (sym (mapping-past read m r n p high))
 
 cond-alike : (b c : Bool) (p q : Page) → b ≡ c → p.bytes ≡ q.bytes → Alike (cond b (Some p) None) (cond c (Some q) None)
@@ -68,11 +68,11 @@ narrows-right m r n leaves = record {
 }
 
 -- a page that was opened lets a store through where the program may write it by right
-pub opened-alike : (m : List (List ℕ)) (r n address : ℕ) (g : Marks) → marks_at m r (address / 4096) ≡ user_leaf g true → Alike (page_for Store (memory_of m (entries_below m r n)) address) (page_for Store (pages_below m r n) address)
+pub opened-alike : (m : List (List ℕ)) (r n address : ℕ) (g : Perm) → marks_at m r (address / 4096) ≡ user_leaf g true → Alike (page_for Store (memory_of m (entries_below m r n)) address) (page_for Store (pages_below m r n) address)
 opened-alike m r n address g made =
     let leaf = marks_at m r (address / 4096) in
     let wide : is_open leaf ≡ g.writable = ap is_open made ∙ leaf-open g in
-    let right : (right_marks leaf).writable ≡ g.writable = ap (λ (l : ℕ). (right_marks l).writable) made ∙ ap (λ (a : Marks). a.writable) (right-leaf g true) in
+    let right : (right_marks leaf).writable ≡ g.writable = ap (λ (l : ℕ). (right_marks l).writable) made ∙ ap (λ (a : Perm). a.writable) (right-leaf g true) in
     alike-at Store m r n (address / 4096) (λ h. ap (λ (b : Bool). b && (right_marks leaf).user) (wide ∙ sym right))
 
 -- ---- stores go by frames alone

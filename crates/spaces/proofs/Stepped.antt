@@ -29,7 +29,7 @@ use Rattle.frames.specs.declared.Frames.{Frames}
 use Rattle.std.proofs.lemmas.Bool.{and_parts}
 use Rattle.std.proofs.lemmas.List.{set-get_or}
 use Rattle.vm.specs.declared.Space.{Space}
-use Rattle.unixmodel.specs.Memory.{Marks, Memory, Page, page_for}
+use Rattle.unixmodel.specs.Memory.{Perm, Memory, Page, page_for}
 use Rattle.unixmodel.specs.declared.trap.Access.TheVariants.{Store}
 use Rattle.unixmodel.specs.declared.trap.Cause.{Cause}
 use Rattle.unixmodel.specs.declared.trap.Cause.TheVariants.{StorePageFault}
@@ -57,12 +57,12 @@ stands-only m k x is once (inl same) = rw same (Stands-none m x is once)
 stands-only m k x is once (inr wrote) = stands-page m k x is once wrote
 
 -- the hart may be run on the pages of a space, by what the walk lets through or by right
-mapped-inside : (read : ℕ → Marks) (m : List (List ℕ)) (x : Space) → IsMapped m x → (p : ℕ) (e : Mapped) → slice_get (read_below read m x.root.0 (pages_in x.size)) p ≡ Some e → e.frame < length m
+mapped-inside : (read : ℕ → Perm) (m : List (List ℕ)) (x : Space) → IsMapped m x → (p : ℕ) (e : Mapped) → slice_get (read_below read m x.root.0 (pages_in x.size)) p ≡ Some e → e.frame < length m
 mapped-inside read m x is p e at =
     let frame : frame_at m x.root.0 p ≡ e.frame = ap (λ (e : Mapped). e.frame) (mapping-is read m x.root.0 (pages_in x.size) p e at) in
     rw frame at (page-inside m x.root.0 x.trap.0 (pages_in x.size) p is (mapping-within read m x.root.0 (pages_in x.size) p e at))
 
-mapped-apart : (read : ℕ → Marks) (m : List (List ℕ)) (x : Space) → IsOnce m x → (p q : ℕ) (e d : Mapped) → slice_get (read_below read m x.root.0 (pages_in x.size)) p ≡ Some e → slice_get (read_below read m x.root.0 (pages_in x.size)) q ≡ Some d
+mapped-apart : (read : ℕ → Perm) (m : List (List ℕ)) (x : Space) → IsOnce m x → (p q : ℕ) (e d : Mapped) → slice_get (read_below read m x.root.0 (pages_in x.size)) p ≡ Some e → slice_get (read_below read m x.root.0 (pages_in x.size)) q ≡ Some d
     → e.frame ≡ d.frame → p ≡ q
 mapped-apart read m x once p q e d at_p at_q same =
     let n = pages_in x.size in
@@ -70,7 +70,7 @@ mapped-apart read m x once p q e d at_p at_q same =
     let frame_q : frame_at m x.root.0 q ≡ d.frame = ap (λ (e : Mapped). e.frame) (mapping-is read m x.root.0 n q d at_q) in
     pages-same m x.root.0 x.trap.0 n p q once (mapping-within read m x.root.0 n p e at_p) (mapping-within read m x.root.0 n q d at_q) (frame_p ∙ same ∙ sym frame_q)
 
-sound : (read : ℕ → Marks) (m : List (List ℕ)) (x : Space) → IsMapped m x → IsOnce m x → IsSound m (read_below read m x.root.0 (pages_in x.size))
+sound : (read : ℕ → Perm) (m : List (List ℕ)) (x : Space) → IsMapped m x → IsOnce m x → IsSound m (read_below read m x.root.0 (pages_in x.size))
 sound read m x is once = record {
   inside = mapped-inside read m x is;
   alone = λ n e at permitted k f g at_n at_k same. mapped-apart read m x once k n g f at_k at_n same;
@@ -270,7 +270,7 @@ same-trap held i t h k c at is s run closed =
     ]
 
 -- a store that faulted, once more where its page was opened: the fields after the fence are j
-pub same-again : {T : Type 0} (held : T → translation.Held) (i j : Inside T) (t : T) (h : Hart) (k : List (List ℕ)) (c : Trap) (at : ℕ) (g : Marks)
+pub same-again : {T : Type 0} (held : T → translation.Held) (i j : Inside T) (t : T) (h : Hart) (k : List (List ℕ)) (c : Trap) (at : ℕ) (g : Perm)
     → IsSpaces held i → Steps held i t h k (Some c) → c.cause ≡ StorePageFault → (run : Runs (held i.translator) i.ram i.hart.root.0 i.places.items at) → IsMapped j.ram run.space → j.hart ≡ i.hart → pages_of j.ram run.space ≡ pages_of i.ram run.space
     → marks_at j.ram run.space.root.0 (c.address / 4096) ≡ user_leaf g true → Same j run.space
 same-again held i j t h k c at g is s store run mapped hart pages made =
@@ -372,7 +372,7 @@ reopened held i t u h k l n (Some b) c at x is s e stands trapped re fenced =
     })
 
 -- what the second step did, by the values before the first: j are the fields between
-pub second : {T : Type 0} (held : T → translation.Held) (i j : Inside T) (t u : T) (h o : Hart) (k l : List (List ℕ)) (result again : Option Trap) (c : Trap) (at : ℕ) (x : Space) (g : Marks) → IsSpaces held i → Steps held i t h k result → i.active ≡ Some at → j.active ≡ Some at
+pub second : {T : Type 0} (held : T → translation.Held) (i j : Inside T) (t u : T) (h o : Hart) (k l : List (List ℕ)) (result again : Option Trap) (c : Trap) (at : ℕ) (x : Space) (g : Perm) → IsSpaces held i → Steps held i t h k result → i.active ≡ Some at → j.active ≡ Some at
     → slot i.places.items at ≡ Some x → slot j.places.items at ≡ Some x → result ≡ Some c → c.cause ≡ StorePageFault → Reopened held i j at x → marks_at j.ram x.root.0 (c.address / 4096) ≡ user_leaf g true → Steps held j u o l again
     → WasDone (spaces_of i) at again (spaces_of (record j { ram = l; translator = u; hart = o })) × WasTrapped (spaces_of i) at again (spaces_of (record j { ram = l; translator = u; hart = o }))
 second held i j t u h o k l None again c at x g is s e f stands there trapped store re made next = absurd cc

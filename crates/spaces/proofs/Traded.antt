@@ -19,7 +19,7 @@ use Rattle.unixmodel.specs.Files.{slot}
 use Rattle.unixmodel.specs.Translation as translation
 use Rattle.unixmodel.specs.Translation.{Translation, HoldsNothing}
 use Rattle.unixmodel.specs.Counts.{page_frames}
-use Rattle.unixmodel.specs.Memory.{Marks, Memory, zero_page}
+use Rattle.unixmodel.specs.Memory.{Perm, Memory, zero_page}
 use Rattle.vm.specs.declared.Space.{Space}
 use Rattle.vm.specs.declared.VmFault.{VmFault}
 use Rattle.vm.specs.Dense.{frames_for}
@@ -247,7 +247,7 @@ over-free held i at y is low free more =
     over held i at None y is place.0 place.1 (omega (arith, more))
 
 -- nor for a space of more bytes, which is refused where it would pass the greatest size or takes more frames than are free
-pub over-grown : {T : Type 0} (held : T → translation.Held) (i : Inside T) (at : ℕ) (x : Space) (bytes : ℕ) (marks : Marks) → IsSpaces held i → slot i.places.items at ≡ Some x → length i.ram ≤ 32768
+pub over-grown : {T : Type 0} (held : T → translation.Held) (i : Inside T) (at : ℕ) (x : Space) (bytes : ℕ) (marks : Perm) → IsSpaces held i → slot i.places.items at ≡ Some x → length i.ram ≤ 32768
     → (274877898752 < x.size + bytes) ⊎ (frames_for (pages_in x.size) + free_count i.ram i.frames < frames_for (pages_in (x.size + bytes)))
     → length i.ram < taken_frames (with_place (spaces_of i) at (Some (grown (view_with (pages_of i.ram x) x.size) bytes marks)))
 over-grown held i at x bytes marks is e small why =

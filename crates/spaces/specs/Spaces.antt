@@ -3,7 +3,7 @@ use Rattle.std.specs.Prelude.{Bool, List, None, Option, Some, [], drop, is_some,
 use Rattle.unixmodel.specs.Counts.{page_frames}
 use Rattle.unixmodel.specs.Files.{slot, taken}
 use Rattle.unixmodel.specs.Meaning.{Computed}
-use Rattle.unixmodel.specs.Memory.{Marks, Memory, reach, write_bytes, zero_page}
+use Rattle.unixmodel.specs.Memory.{Perm, Memory, reach, write_bytes, zero_page}
 use Rattle.unixmodel.specs.declared.trap.Access.TheVariants.{Load}
 use Rattle.unixmodel.specs.Next.{memory_after}
 use Rattle.unixmodel.specs.OpenFiles.{pipe_room}
@@ -61,7 +61,7 @@ with_view s at held = with_place s at (Some held)
 -- ---- other memories
 
 -- so many bytes more: the pages that come are 0 and have these marks
-abbrev pub grown : SpaceView → ℕ → Marks → SpaceView
+abbrev pub grown : SpaceView → ℕ → Perm → SpaceView
 grown h bytes marks = record {
   memory = h.memory ++ replicate (ceil_div (h.size + bytes) 4096 - ceil_div h.size 4096) (zero_page marks);
   size = h.size + bytes;

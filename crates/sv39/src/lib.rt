@@ -23,10 +23,10 @@ pub use unixmodel::trap::Access;
 
 /// The marks of an entry: its low 10 bits.
 #[derive(Clone, Copy, PartialEq, Eq, Debug)]
-pub struct Marks(pub u16);
+pub struct EntryBits(pub u16);
 
 bitflag_items! {
-    impl Marks: u16 {
+    impl EntryBits: u16 {
         const VALID = 1;
         const READ = 2;
         const WRITE = 4;
@@ -38,7 +38,7 @@ bitflag_items! {
     }
 }
 
-impl Flags for Marks {
+impl Flags for EntryBits {
     type Bits = u16;
 
     ghost exact = { ⊤ };
@@ -47,16 +47,16 @@ impl Flags for Marks {
 
     ghost set_of = { λ m. m.0 };
 
-    fn flags<'a>() -> &'a [Flag<Marks>] {
-        Marks::FLAGS
+    fn flags<'a>() -> &'a [Flag<EntryBits>] {
+        EntryBits::FLAGS
     }
 
     fn bits(&self) -> u16 {
         self.0
     }
 
-    fn from_bits_retain(bits: u16) -> Marks {
-        Marks(bits)
+    fn from_bits_retain(bits: u16) -> EntryBits {
+        EntryBits(bits)
     }
 }
 
@@ -89,10 +89,10 @@ impl Pte {
     /// The marks.
     #[inline]
     #[tactic(auto, unfolding(crate::specs::Entry::marks_of))]
-    pub fn marks(self) -> Marks
+    pub fn marks(self) -> EntryBits
         ensures { result.0 ≡ marks_of self.0 }
     {
-        Marks((self.0 % 1024) as u16)
+        EntryBits((self.0 % 1024) as u16)
     }
 
     /// The frame number, of 44 bits; the memory's first frame has `BASE`.
@@ -114,9 +114,9 @@ impl Pte {
         ensures { result ≡ is_sound self.0 }
     {
         let marks = self.marks();
-        marks.contains(Marks::VALID)
+        marks.contains(EntryBits::VALID)
             & (self.0 >> 54 == 0)
-            & (!marks.contains(Marks::WRITE) | marks.contains(Marks::READ))
+            & (!marks.contains(EntryBits::WRITE) | marks.contains(EntryBits::READ))
     }
 
     // Whether it names a table of the next level, where it is sound.
@@ -126,8 +126,8 @@ impl Pte {
         ensures { result ≡ is_table self.0 }
     {
         let marks = self.marks();
-        !marks.contains(Marks::READ)
-            & (!marks.contains(Marks::WRITE) & !marks.contains(Marks::EXECUTE))
+        !marks.contains(EntryBits::READ)
+            & (!marks.contains(EntryBits::WRITE) & !marks.contains(EntryBits::EXECUTE))
     }
 
     /// What the walk for an access does at this entry of a level whose leaves have `span` pages. A leaf
@@ -158,15 +158,15 @@ impl Pte {
 // ACCESSED, or for a store without DIRTY, is refused.
 #[inline(always)]
 #[tactic(auto, unfolding(crate::specs::Entry::allows))]
-fn allows(marks: Marks, access: Access) -> bool
+fn allows(marks: EntryBits, access: Access) -> bool
     ensures { result ≡ allows marks.0 access }
 {
     let needed = match access {
-        Access::Fetch => marks.contains(Marks::EXECUTE),
-        Access::Load => marks.contains(Marks::READ),
-        Access::Store => marks.contains(Marks::WRITE) & marks.contains(Marks::DIRTY),
+        Access::Fetch => marks.contains(EntryBits::EXECUTE),
+        Access::Load => marks.contains(EntryBits::READ),
+        Access::Store => marks.contains(EntryBits::WRITE) & marks.contains(EntryBits::DIRTY),
     };
-    needed & (marks.contains(Marks::USER) & marks.contains(Marks::ACCESSED))
+    needed & (marks.contains(EntryBits::USER) & marks.contains(EntryBits::ACCESSED))
 }
 
 // The frame of the memory that an entry names by a number.

@@ -7,7 +7,7 @@ use Rattle.std.proofs.lemmas.Bool.{cases_lt, le-leb, leb-true}
 use Rattle.std.proofs.lemmas.List.{drop-append-le, drop-drop, drop_all, length-append, length-drop, length-take, length-take-le, take-append-drop, take-append-le, take_all, take_at, drop-map, map-append}
 use Rattle.unixmodel.specs.declared.trap.Access.{Access}
 use Rattle.unixmodel.specs.declared.trap.Access.TheVariants.{Load, Store}
-use Rattle.unixmodel.specs.Memory.{Marks, Memory, Page, can_write, overwrite, permits, reach, read_bytes, write_bytes, write_from}
+use Rattle.unixmodel.specs.Memory.{Perm, Memory, Page, can_write, overwrite, permits, reach, read_bytes, write_bytes, write_from}
 use Rattle.vm.specs.Reach.{IsSized, run_of}
 use Rattle.vm.specs.Reach as vm
 use Rattle.vm.proofs.ReachLemmas.{length-reach, reach-drop}
@@ -153,13 +153,13 @@ written-twice (p ∷ ps) at xs ys sized = elim (cases_lt at 4096) [
 marks-write : (ps : List Page) (at : ℕ) (new : List ℕ) → map (λ (p : Page). p.marks) (write_from ps at new) ≡ map (λ (p : Page). p.marks) ps
 marks-write [] at new = refl
 marks-write (p ∷ ps) at [] = refl
-marks-write (p ∷ ps) at (b ∷ bs) = ap (λ (ms : List Marks). p.marks ∷ ms) (marks-write ps 0 (drop (4096 - at) (b ∷ bs)))
+marks-write (p ∷ ps) at (b ∷ bs) = ap (λ (ms : List Perm). p.marks ∷ ms) (marks-write ps 0 (drop (4096 - at) (b ∷ bs)))
 
 pub marks-written : (mem : Memory) (at : ℕ) (new : List ℕ) → map (λ (p : Page). p.marks) (write_bytes mem at new) ≡ map (λ (p : Page). p.marks) mem
 unfolding write_bytes
 marks-written mem at new =
     map-append (λ (p : Page). p.marks) (take (at / 4096) mem) (write_from (drop (at / 4096) mem) (at % 4096) new)
-    ∙ ap (λ (ms : List Marks). map (λ (p : Page). p.marks) (take (at / 4096) mem) ++ ms) (marks-write (drop (at / 4096) mem) (at % 4096) new)
+    ∙ ap (λ (ms : List Perm). map (λ (p : Page). p.marks) (take (at / 4096) mem) ++ ms) (marks-write (drop (at / 4096) mem) (at % 4096) new)
     ∙ sym (map-append (λ (p : Page). p.marks) (take (at / 4096) mem) (drop (at / 4096) mem))
     ∙ ap (map (λ (p : Page). p.marks)) (take-append-drop (at / 4096) mem)
 
@@ -174,7 +174,7 @@ run-marks a mem n = prefix-marks a (drop n mem) ∙ ap (prefix_len (permits a)) 
 run-written : (a : Access) (mem : Memory) (at n : ℕ) (new : List ℕ) → run_of a (write_bytes mem at new) n ≡ run_of a mem n
 run-written a mem at n new =
     run-marks a (write_bytes mem at new) n
-    ∙ ap (λ (ms : List Marks). prefix_len (permits a) (drop n ms)) (marks-written mem at new)
+    ∙ ap (λ (ms : List Perm). prefix_len (permits a) (drop n ms)) (marks-written mem at new)
     ∙ sym (run-marks a mem n)
 
 pub reach-written : (a : Access) (mem : Memory) (at b : ℕ) (new : List ℕ) → IsSized mem → length (reach a (write_bytes mem b new) at) ≡ length (reach a mem at)

@@ -5,7 +5,7 @@ use Rattle.std.proofs.lemmas.List.Elements.{All-cons, All-nil}
 use Rattle.std.proofs.lemmas.Option.{same_Some}
 use Rattle.layout.specs.declared.Geometry.{Geometry}
 use Rattle.tree.specs.Entering.{HasRoom, entered, growth, room_in}
-use Rattle.tree.specs.Held.{Holds, files_of}
+use Rattle.tree.specs.Stored.{Stores, files_of}
 use Rattle.imagerules.specs.Places.{IsPlain}
 use Rattle.unixmodel.specs.Files.{Entry, Files, dot, dot_dot, put, slot}
 use Rattle.unixmodel.specs.Files.Node.{Directory}
@@ -58,7 +58,7 @@ module _ (files : Files) (n : ℕ) (here : slot files n ≡ Some (Directory 1 []
   first-is = entered-is files n 1 [] here 0 (own n)
 
   -- with the first, as the disk tells it
-  module _ {g : Geometry} {mid : List (List ℕ)} (holds : Holds g mid (entered files n 0 (own n))) where
+  module _ {g : Geometry} {mid : List (List ℕ)} (holds : Stores g mid (entered files n 0 (own n))) where
     first-here : slot (files_of g mid) n ≡ Some (Directory 1 (Some (own n) ∷ []))
     first-here =
         ap (λ (fs : Files). slot fs n) (files-are g mid (entered files n 0 (own n)) holds ∙ first-is)

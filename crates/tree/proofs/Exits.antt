@@ -11,7 +11,7 @@ use Rattle.names.specs.Rules.{KeepsTree}
 use Rattle.tree.specs.declared.TreeFault.{TreeFault}
 use Rattle.tree.specs.declared.TreeFault.TheVariants.{Device}
 use Rattle.tree.specs.Entering.{HasRoom}
-use Rattle.tree.specs.Held.{Holds, IsHeld, files_of}
+use Rattle.tree.specs.Stored.{Stores, IsFileSystem, files_of}
 use Rattle.tree.specs.Steps.{HasPlace, Reads, Turns}
 use Rattle.tree.specs.Unlinks.{Unlinks}
 use Rattle.unixmodel.specs.Failures.{HasCause, Rises}
@@ -30,14 +30,14 @@ module _ {old new : List (List ℕ)} (same : new ≡ old) where
   pub inode-same : {k n : ℕ} → IsInode old k n → IsInode new k n
   inode-same {k} {n} = subst (λ b. IsInode b k n) (sym same)
 
-  pub held-same : {g : Geometry} → IsHeld g old → IsHeld g new
-  held-same {g} = subst (λ b. IsHeld g b) (sym same)
+  pub held-same : {g : Geometry} → IsFileSystem g old → IsFileSystem g new
+  held-same {g} = subst (λ b. IsFileSystem g b) (sym same)
 
   -- what a step on the inode of a node asks
-  pub node-asked : {g : Geometry} {files : Files} (holds : Holds g old files) {n : ℕ} {node : Node} → slot files n ≡ Some node → record { sound : IsSound g new; inode : IsInode new g.inodes n }
+  pub node-asked : {g : Geometry} {files : Files} (holds : Stores g old files) {n : ℕ} {node : Node} → slot files n ≡ Some node → record { sound : IsSound g new; inode : IsInode new g.inodes n }
   node-asked {g} {files} holds {n} {node} here = record { sound = sound-same holds.sound; inode = inode-same (held-inode g old files holds n node here) }
 
-  pub used-asked : {g : Geometry} {files : Files} (holds : Holds g old files) {n : ℕ} → slot files n ≢ None → record { sound : IsSound g new; inode : IsInode new g.inodes n }
+  pub used-asked : {g : Geometry} {files : Files} (holds : Stores g old files) {n : ℕ} → slot files n ≢ None → record { sound : IsSound g new; inode : IsInode new g.inodes n }
   used-asked {files = files} holds {n} some = node-asked holds (some-node (slot files n) some).1
 
   pub rules-same : (g : Geometry) → KeepsTree (files_of g old) → KeepsTree (files_of g new)
@@ -75,7 +75,7 @@ module _ {old new : Disk} (count : length new.blocks ≡ length old.blocks) wher
     pub Turns-broken : {T : Type 0} {g : Geometry} {files : Files} {s : Result T DeviceFault} {f : DeviceFault} → IsErrAnd s (λ x. x ≡ f) → Turns g old new s files
     Turns-broken {s = s} told = record { holds = rw (told_err s told) tt; count = count; cause = HasCause-failed later cause was }
 
-  pub Turns-good : {T : Type 0} {g : Geometry} {files : Files} {x : T} → Holds g new.blocks files → old.failures ≤ new.failures → Turns g old new (Ok x) files
+  pub Turns-good : {T : Type 0} {g : Geometry} {files : Files} {x : T} → Stores g new.blocks files → old.failures ≤ new.failures → Turns g old new (Ok x) files
   Turns-good holds later = record { holds = holds; count = count; cause = record { later = later; failed = λ e. cc } }
 
   pub Turns-lost : {T : Type 0} {g : Geometry} {files : Files} {e : DeviceFault} → old.failures ≤ new.failures → Rises old.failures new.failures → Turns {T = T} g old new (Err e) files

@@ -7,7 +7,7 @@ use Rattle.blockdev.specs.Splice.{splice}
 use Rattle.layout.specs.declared.Geometry.{Geometry}
 use Rattle.layout.specs.Image.{bytes_of, free_blocks, taken_for}
 use Rattle.inode.specs.Writing.{IsFull, Wrote}
-use Rattle.tree.specs.Held.{Holds}
+use Rattle.tree.specs.Stored.{Stores}
 use Rattle.tree.specs.Written.{IsFile, Written, count_of, files_after, fitting, with_bytes, write_to, written}
 use Rattle.unixmodel.specs.Counts.{blocks_of}
 use Rattle.unixmodel.specs.FileCalls.{greatest, with_file}
@@ -16,7 +16,7 @@ use Rattle.unixmodel.specs.Files.Node.{File}
 use Rattle.unixmodel.specs.Manifest.{data_blocks_of}
 use Rattle.unixmodel.specs.Memory.{overwrite}
 use Rattle.tree.proofs.Erasing.{taken-grows}
-use Rattle.tree.proofs.Storing.{Holds-wrote, blocks_of-set, held-raw, slot-within, used_by}
+use Rattle.tree.proofs.Storing.{Stores-wrote, blocks_of-set, held-raw, slot-within, used_by}
 
 -- the greatest number that passes
 greatest-is : (test : ℕ → Bool) (n k : ℕ) → k ≤ n → test k ≡ true → ((j : ℕ) → k < j → j ≤ n → test j ≡ false) → greatest test n ≡ k
@@ -26,7 +26,7 @@ greatest-is test (suc n) k high here above = elim (cases_eq k (suc n)) [
   | inr s ↦ ap (λ (b : Bool). elim b [ true ↦ suc n | false ↦ greatest test n ]) (above (suc n) (omega arith) (omega arith)) ∙ greatest-is test n k (omega arith) here (λ j l m. above j l (omega arith))
 ]
 
-module _ {g : Geometry} {old : List (List ℕ)} {files : Files} (holds : Holds g old files) (n at : ℕ) (new : List ℕ) (file : IsFile files n) where
+module _ {g : Geometry} {old : List (List ℕ)} {files : Files} (holds : Stores g old files) (n at : ℕ) (new : List ℕ) (file : IsFile files n) where
   limit : ℕ
   limit = data_blocks_of g.size g.inodes
 
@@ -37,10 +37,10 @@ module _ {g : Geometry} {old : List (List ℕ)} {files : Files} (holds : Holds g
   file-bytes = (held-raw g old files holds n (File file.links file.bytes) file.here).bytes
 
   -- the disk with other bytes of the file
-  file-put : (now : List (List ℕ)) (bytes : List ℕ) → Wrote g old now n bytes → Holds g now (put files n (File file.links bytes))
+  file-put : (now : List (List ℕ)) (bytes : List ℕ) → Wrote g old now n bytes → Stores g now (put files n (File file.links bytes))
   file-put now bytes wrote =
       let was = held-raw g old files holds n (File file.links file.bytes) file.here in
-      Holds-wrote holds file.here wrote (File file.links bytes) (record { kind = was.kind; links = was.links; bytes = refl; device = tt }) tt
+      Stores-wrote holds file.here wrote (File file.links bytes) (record { kind = was.kind; links = was.links; bytes = refl; device = tt }) tt
 
   long-enough : (k : ℕ) → at ≤ length file.bytes → k ≤ length new → at + k ≤ length (overwrite file.bytes at (take k new))
   long-enough k low high =
@@ -70,7 +70,7 @@ module _ {g : Geometry} {old : List (List ℕ)} {files : Files} (holds : Holds g
 
   -- so many bytes are written, and there are no blocks for more
   written-done : (now : List (List ℕ)) (k : ℕ) → k ≤ length new → at ≤ length file.bytes → at + length new ≤ 274432 → Wrote g old now n (splice at (take k new) (bytes_of old n))
-      → ((j : ℕ) → k < j → j ≤ length new → nat_le (blocks_of (more j)) limit ≡ false) → written limit files n at new ≡ Some (with_bytes files n at file.links file.bytes new k) × Holds g now (more k)
+      → ((j : ℕ) → k < j → j ≤ length new → nat_le (blocks_of (more j)) limit ≡ false) → written limit files n at new ≡ Some (with_bytes files n at file.links file.bytes new k) × Stores g now (more k)
   unfolding limit fitting
   written-done now k high low short wrote above =
       let held = file-put now (overwrite file.bytes at (take k new)) (subst (Wrote g old now n) (ap (splice at (take k new)) file-bytes ∙ sym (append_assoc (take at file.bytes) (take k new) (drop (at + length (take k new)) file.bytes))) wrote) in
@@ -92,29 +92,29 @@ module _ {g : Geometry} {old : List (List ℕ)} {files : Files} (holds : Holds g
   abbrev w : Option Written
   w = written (data_blocks_of g.size g.inodes) files n at new
 
-  pub write-whole : (now : List (List ℕ)) → Wrote g old now n (splice at new (bytes_of old n)) → (at ≤ length (bytes_of old n)) × (at + length new ≤ 274432) → (Some (length new) ≡ count_of w) × Holds g now (files_after files w)
+  pub write-whole : (now : List (List ℕ)) → Wrote g old now n (splice at new (bytes_of old n)) → (at ≤ length (bytes_of old n)) × (at + length new ≤ 274432) → (Some (length new) ≡ count_of w) × Stores g now (files_after files w)
   unfolding limit
   write-whole now wrote fits =
       let done = written-done now (length new) (omega arith) (subst (λ b. at ≤ length b) file-bytes fits.0) fits.1
       (subst (λ b. Wrote g old now n (splice at b (bytes_of old n))) (sym (take_all (length new) new (omega arith))) wrote) (λ j l m. absurd (omega arith)) in
-      (ap count_of (sym done.0), subst (λ o. Holds g now (files_after files o)) (sym done.0) done.1)
+      (ap count_of (sym done.0), subst (λ o. Stores g now (files_after files o)) (sym done.0) done.1)
 
-  pub write-part : (now : List (List ℕ)) (k : ℕ) → IsFull g old now n at new k → (Some k ≡ count_of w) × Holds g now (files_after files w)
+  pub write-part : (now : List (List ℕ)) (k : ℕ) → IsFull g old now n at new k → (Some k ≡ count_of w) × Stores g now (files_after files w)
   unfolding limit
   write-part now k full =
       let low = subst (λ b. at ≤ length b) file-bytes full.within in
       let some = full.some_left in
       let done = written-done now k (omega arith) low full.short full.wrote (too-many k low some full.few) in
-      (ap count_of (sym done.0), subst (λ o. Holds g now (files_after files o)) (sym done.0) done.1)
+      (ap count_of (sym done.0), subst (λ o. Stores g now (files_after files o)) (sym done.0) done.1)
 
-  pub write-past : (now : List (List ℕ)) → (length (bytes_of old n) < at) × (now ≡ old) → (None ≡ count_of w) × Holds g now (files_after files w)
+  pub write-past : (now : List (List ℕ)) → (length (bytes_of old n) < at) × (now ≡ old) → (None ≡ count_of w) × Stores g now (files_after files w)
   unfolding limit
   write-past now past =
       let none = refused (and_left (nat_le at (length file.bytes)) (nat_le (at + length new) longest) (lt-leb at (length file.bytes) (subst (λ b. length b < at) file-bytes past.0))) in
-      (ap count_of (sym none), subst (λ o. Holds g now (files_after files o)) (sym none) (subst (λ b. Holds g b files) (sym past.1) holds))
+      (ap count_of (sym none), subst (λ o. Stores g now (files_after files o)) (sym none) (subst (λ b. Stores g b files) (sym past.1) holds))
 
-  pub write-long : (now : List (List ℕ)) → (at ≤ length (bytes_of old n)) × (274432 < at + length new) × (now ≡ old) → (None ≡ count_of w) × Holds g now (files_after files w)
+  pub write-long : (now : List (List ℕ)) → (at ≤ length (bytes_of old n)) × (274432 < at + length new) × (now ≡ old) → (None ≡ count_of w) × Stores g now (files_after files w)
   unfolding limit
   write-long now long =
       let none = refused (and_right (nat_le at (length file.bytes)) (nat_le (at + length new) longest) (lt-leb (at + length new) longest long.1)) in
-      (ap count_of (sym none), subst (λ o. Holds g now (files_after files o)) (sym none) (subst (λ b. Holds g b files) (sym long.2) holds))
+      (ap count_of (sym none), subst (λ o. Stores g now (files_after files o)) (sym none) (subst (λ b. Stores g b files) (sym long.2) holds))

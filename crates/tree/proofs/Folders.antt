@@ -11,7 +11,7 @@ use Rattle.tree.specs.declared.TreeFault.TheVariants.{Blocks, DeadDir, DotName, 
 use Rattle.tree.specs.declared.TreeFault.TheVariants as fault
 use Rattle.tree.specs.Answers.{Overflows}
 use Rattle.tree.specs.Entering.{HasGap, LacksBlocks, entered, folder_in, growth, placed, room_in}
-use Rattle.tree.specs.Held.{Holds, IsHeld, files_of}
+use Rattle.tree.specs.Stored.{Stores, IsFileSystem, files_of}
 use Rattle.tree.specs.Lacking.{LacksFolder, LacksGap}
 use Rattle.unixmodel.specs.Counts.{blocks_of}
 use Rattle.unixmodel.specs.Files.{Entry, Files, Node, Spot, change_node, free_number, links_of, live_places, lookup, most_links, put, slot, spot_of}
@@ -138,7 +138,7 @@ module _ (files : Files) (d : ℕ) (path : List ℕ) where
 
 -- ---- the disk
 
-module _ {g : Geometry} {old : List (List ℕ)} {files : Files} (holds : Holds g old files) {d : ℕ} {path : List ℕ} {at : Spot} {k : ℕ} (gap : HasGap g old files d path 1 at k) where
+module _ {g : Geometry} {old : List (List ℕ)} {files : Files} (holds : Stores g old files) {d : ℕ} {path : List ℕ} {at : Spot} {k : ℕ} (gap : HasGap g old files d path 1 at k) where
   abbrev parent : Node
   parent = Directory (suc gap.links) gap.places
 
@@ -163,8 +163,8 @@ module _ {g : Geometry} {old : List (List ℕ)} {files : Files} (holds : Holds g
     free-n = free-number files n is
 
     -- what putting its own entries asks
-    pub dots-asked : {mid : List (List ℕ)} → Holds g mid first
-        → record { held : IsHeld g mid; bare : slot (files_of g mid) n ≡ Some (Directory 1 []); number : n < 65536; above : at.directory < 65536; block : 1 ≤ free_blocks g mid }
+    pub dots-asked : {mid : List (List ℕ)} → Stores g mid first
+        → record { held : IsFileSystem g mid; bare : slot (files_of g mid) n ≡ Some (Directory 1 []); number : n < 65536; above : at.directory < 65536; block : 1 ≤ free_blocks g mid }
     dots-asked {mid} now =
         let long = length-held g old files holds in
         let most = holds.sound.parts.inodes_high in
@@ -182,18 +182,18 @@ module _ {g : Geometry} {old : List (List ℕ)} {files : Files} (holds : Holds g
           block = omega arith;
         }
 
-    pub first-next : {mid new : List (List ℕ)} → Holds g mid first → Holds g new (put (files_of g mid) n (new_directory at.directory n)) → Holds g new next
-    first-next {mid} {new} now h = subst (Holds g new) (set-set files n (Some (Directory 1 [])) (Some (new_directory at.directory n))) (held-step now (λ (fs : Files). put fs n (new_directory at.directory n)) h)
+    pub first-next : {mid new : List (List ℕ)} → Stores g mid first → Stores g new (put (files_of g mid) n (new_directory at.directory n)) → Stores g new next
+    first-next {mid} {new} now h = subst (Stores g new) (set-set files n (Some (Directory 1 [])) (Some (new_directory at.directory n))) (held-step now (λ (fs : Files). put fs n (new_directory at.directory n)) h)
 
-    pub name-asked : {mid : List (List ℕ)} → Holds g mid next → All (λ b. b ≢ 0) path → AsksEntry g mid at k n
+    pub name-asked : {mid : List (List ℕ)} → Stores g mid next → All (λ b. b ≢ 0) path → AsksEntry g mid at k n
     name-asked now =
         entry-asked holds now gap (second-blocks files d path at gap.spot gap.links gap.places gap.here k gap.room n is) (second-here files d path at gap.spot gap.links gap.places gap.here k gap.room n is) n free-n.within
 
-    pub next-last : {mid new : List (List ℕ)} → Holds g mid next → Holds g new (entered (files_of g mid) at.directory k name) → Holds g new last
+    pub next-last : {mid new : List (List ℕ)} → Stores g mid next → Stores g new (entered (files_of g mid) at.directory k name) → Stores g new last
     next-last now = held-step now (λ (fs : Files). entered fs at.directory k name)
 
-    module _ {mid : List (List ℕ)} (now : Holds g mid last) (few : suc gap.links < most_links) where
-      pub above-asked : record { held : IsHeld g mid; node : (node : Node) × (slot (files_of g mid) at.directory ≡ Some node) × (links_of node < 65535) }
+    module _ {mid : List (List ℕ)} (now : Stores g mid last) (few : suc gap.links < most_links) where
+      pub above-asked : record { held : IsFileSystem g mid; node : (node : Node) × (slot (files_of g mid) at.directory ≡ Some node) × (links_of node < 65535) }
       above-asked = record {
         held = held-again g mid last now;
         node = (
@@ -203,5 +203,5 @@ module _ {g : Geometry} {old : List (List ℕ)} {files : Files} (holds : Holds g
         );
       }
 
-      pub folder-held : {new : List (List ℕ)} → Holds g new (change_node (files_of g mid) at.directory more_links) → IsHeld g new × (folder_in files d path ≡ Some (files_of g new))
+      pub folder-held : {new : List (List ℕ)} → Stores g new (change_node (files_of g mid) at.directory more_links) → IsFileSystem g new × (folder_in files d path ≡ Some (files_of g new))
       folder-held h = held-made (held-step now (λ (fs : Files). change_node fs at.directory more_links) h) Some (folder-done files d path at gap.spot gap.links gap.places gap.here k gap.room n is few gap.free)

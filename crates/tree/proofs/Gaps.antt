@@ -10,7 +10,7 @@ use Rattle.layout.specs.Image.{bytes_of, free_blocks}
 use Rattle.tree.specs.declared.TreeFault.{TreeFault}
 use Rattle.tree.specs.Answers.{Answers, Overflows}
 use Rattle.tree.specs.Entering.{HasGap, HasRoom, IsFullAt, LacksBlocks, entered, growth, made_files, made_in, room_in}
-use Rattle.tree.specs.Held.{IsHeld, files_of}
+use Rattle.tree.specs.Stored.{IsFileSystem, files_of}
 use Rattle.tree.specs.Paths.{IsDead, IsNoDirectory, above}
 use Rattle.imagerules.specs.Places.{places_in}
 use Rattle.unixmodel.specs.Counts.{blocks_of}
@@ -44,7 +44,7 @@ spot-directory files d path at h = go (above files d path) (sym (spot-above file
 -- ---- a gap
 
 -- what the looks at the directory of a spot told, each at a disk that is as it was
-module _ {g : Geometry} {blocks : List (List ℕ)} (held : IsHeld g blocks) (d : ℕ) (path : List ℕ) {at : Spot} (spot : spot_of (files_of g blocks) d path ≡ Some at) where
+module _ {g : Geometry} {blocks : List (List ℕ)} (held : IsFileSystem g blocks) (d : ℕ) (path : List ℕ) {at : Spot} (spot : spot_of (files_of g blocks) d path ≡ Some at) where
   pub live : IsLiveAt (files_of g blocks) at.directory
   live = spot-directory (files_of g blocks) d path at spot
 

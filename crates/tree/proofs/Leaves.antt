@@ -15,7 +15,7 @@ use Rattle.tree.specs.declared.TreeFault.TheVariants.{Blocks, DeadDir, DotName, 
 use Rattle.tree.specs.declared.TreeFault.TheVariants as fault
 use Rattle.tree.specs.Answers.{Overflows}
 use Rattle.tree.specs.Entering.{fresh, HasGap, HasRoom, entered, growth, made_files, made_in}
-use Rattle.tree.specs.Held.{Holds, IsHeld, files_of}
+use Rattle.tree.specs.Stored.{Stores, IsFileSystem, files_of}
 use Rattle.imagerules.specs.Places.{IsPlain}
 use Rattle.tree.specs.Lacking.{LacksGap, LacksMaking}
 use Rattle.tree.specs.Leaves.{leaf_node}
@@ -71,14 +71,14 @@ places-of _ = []
 -- what putting the entry asks
 abbrev pub AsksEntry : Geometry → List (List ℕ) → Spot → ℕ → ℕ → Type 0
 AsksEntry g blocks at k n = record {
-  held : IsHeld g blocks;
+  held : IsFileSystem g blocks;
   plain : IsPlain (record { name = at.name; number = n });
   room : HasRoom (files_of g blocks) at.directory k;
   fits : (r : HasRoom (files_of g blocks) at.directory k) → growth r.places k ≤ free_blocks g blocks;
 }
 
 -- in files that changed elsewhere
-pub entry-asked : {g : Geometry} {old mid : List (List ℕ)} {files next : Files} (holds : Holds g old files) (now : Holds g mid next) {d : ℕ} {path : List ℕ} {at : Spot} {k more : ℕ} (gap : HasGap g old files d path more at k)
+pub entry-asked : {g : Geometry} {old mid : List (List ℕ)} {files next : Files} (holds : Stores g old files) (now : Stores g mid next) {d : ℕ} {path : List ℕ} {at : Spot} {k more : ℕ} (gap : HasGap g old files d path more at k)
     → blocks_of next ≡ blocks_of files + more → slot next at.directory ≡ Some (Directory (suc gap.links) gap.places) → (n : ℕ) → n < length files → All (λ b. b ≢ 0) path → AsksEntry g mid at k n
 entry-asked {g} {old} {mid} {files} {next} holds now {d} {path} {at} {k} gap blocks still n high plain =
     let long = length-held g old files holds in
@@ -98,21 +98,21 @@ entry-asked {g} {old} {mid} {files} {next} holds now {d} {path} {at} {k} gap blo
     }
 
 -- the entry of a file or device
-module _ {g : Geometry} {old mid : List (List ℕ)} {files : Files} (holds : Holds g old files) {d : ℕ} {path : List ℕ} (node : Node) (empty : size_of node ≡ 0) {at : Spot} {k : ℕ} (gap : HasGap g old files d path 0 at k) {n : ℕ} (is : free_number files ≡ Some n) (now : Holds g mid (put files n node)) where
+module _ {g : Geometry} {old mid : List (List ℕ)} {files : Files} (holds : Stores g old files) {d : ℕ} {path : List ℕ} (node : Node) (empty : size_of node ≡ 0) {at : Spot} {k : ℕ} (gap : HasGap g old files d path 0 at k) {n : ℕ} (is : free_number files ≡ Some n) (now : Stores g mid (put files n node)) where
   pub made-asked : All (λ b. b ≢ 0) path → AsksEntry g mid at k n
   made-asked =
       let number = free-number files n is in
       let blocks = fresh-blocks files n node number empty in
       entry-asked holds now gap (omega arith) (still-here number node at.directory gap.here) n number.within
 
-  pub made-held : {new : List (List ℕ)} → Holds g new (entered (files_of g mid) at.directory k (record { name = at.name; number = n })) → IsHeld g new × (made_in files d path node ≡ Some (record { files = files_of g new; number = n }))
+  pub made-held : {new : List (List ℕ)} → Stores g new (entered (files_of g mid) at.directory k (record { name = at.name; number = n })) → IsFileSystem g new × (made_in files d path node ≡ Some (record { files = files_of g new; number = n }))
   made-held holds' =
       let e : Entry = record { name = at.name; number = n } in
       held-made (held-step now (λ (fs : Files). entered fs at.directory k e) holds') (λ (fs : Files). let made : Made = record { files = fs; number = n } in Some made)
       (made-done (data_blocks_of g.size g.inodes) files d path node empty at gap.spot gap.links gap.places gap.here k gap.room n is gap.free)
 
 -- the lowest free number is taken for it
-pub leaf-taken : {g : Geometry} {old mid new : List (List ℕ)} {n : ℕ} {node : Node} (kind major minor : ℕ) → mid ≡ old → fresh kind major minor ≡ node → (free_number (files_of g mid) ≡ Some n) × Holds g new (put (files_of g mid) n (fresh kind major minor))
-    → (free_number (files_of g old) ≡ Some n) × Holds g new (put (files_of g old) n node)
-leaf-taken {g} {old} {mid} {new} {n} {node} kind major minor same is told = subst (λ x. (free_number (files_of g old) ≡ Some n) × Holds g new (put (files_of g old) n x)) is
-    (subst (λ b. (free_number (files_of g b) ≡ Some n) × Holds g new (put (files_of g b) n (fresh kind major minor))) same told)
+pub leaf-taken : {g : Geometry} {old mid new : List (List ℕ)} {n : ℕ} {node : Node} (kind major minor : ℕ) → mid ≡ old → fresh kind major minor ≡ node → (free_number (files_of g mid) ≡ Some n) × Stores g new (put (files_of g mid) n (fresh kind major minor))
+    → (free_number (files_of g old) ≡ Some n) × Stores g new (put (files_of g old) n node)
+leaf-taken {g} {old} {mid} {new} {n} {node} kind major minor same is told = subst (λ x. (free_number (files_of g old) ≡ Some n) × Stores g new (put (files_of g old) n x)) is
+    (subst (λ b. (free_number (files_of g b) ≡ Some n) × Stores g new (put (files_of g b) n (fresh kind major minor))) same told)

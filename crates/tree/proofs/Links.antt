@@ -17,7 +17,7 @@ use Rattle.tree.specs.Answers.{Overflows}
 use Rattle.tree.specs.Steps.{Reads}
 use Rattle.unixmodel.specs.Manifest.{data_blocks_of}
 use Rattle.tree.specs.Entering.{HasGap, LacksBlocks, Reaches, entered, growth, linked_in, room_in}
-use Rattle.tree.specs.Held.{Holds, IsHeld, files_of}
+use Rattle.tree.specs.Stored.{Stores, IsFileSystem, files_of}
 use Rattle.tree.specs.Lacking.{LacksGap, LacksLinking}
 use Rattle.unixmodel.specs.Counts.{blocks_of}
 use Rattle.unixmodel.specs.Files.{Entry, Files, Node, Spot, change_node, enter, find, is_directory, kind_of, links_of, live_places, lookup, most_links, places_at, put, slot, spot_of, with_links}
@@ -136,7 +136,7 @@ pub found-node : (g : Geometry) {old mid : Disk} → KeepsTree (files_of g old.b
     → Reads old mid r (λ m. m ≡ find (files_of g old.blocks) d path) → r ≡ Ok o → o ≡ Some n → (node : Node) × (slot (files_of g old.blocks) n ≡ Some node)
 found-node g {old} keeps d path used {n = n} reads was some = node-of (slot (files_of g old.blocks) n) (find-used keeps d path n used (sym (read-told reads was) ∙ some))
 
-pub seen : {g : Geometry} {old mid : Disk} (now : Disk) (held : IsHeld g old.blocks) → KeepsTree (files_of g old.blocks) → (d : ℕ) (path : List ℕ) → IsSome (slot (files_of g old.blocks) d) → {r : Result (Option ℕ) DeviceFault} {o : Option ℕ} {n : ℕ}
+pub seen : {g : Geometry} {old mid : Disk} (now : Disk) (held : IsFileSystem g old.blocks) → KeepsTree (files_of g old.blocks) → (d : ℕ) (path : List ℕ) → IsSome (slot (files_of g old.blocks) d) → {r : Result (Option ℕ) DeviceFault} {o : Option ℕ} {n : ℕ}
     → Reads old mid r (λ m. m ≡ find (files_of g old.blocks) d path) → r ≡ Ok o → o ≡ Some n → now.blocks ≡ mid.blocks → mid.failures ≤ now.failures
     → {kind links : ℕ} → kind ≡ (inode_at mid.blocks n).kind → links ≡ (inode_at mid.blocks n).links → IsSeen g old now d path n kind links
 seen {g} {old} now held keeps d path used {n = n} reads was some kept later k l =
@@ -153,7 +153,7 @@ seen {g} {old} now held keeps d path used {n = n} reads was some kept later k l 
       later = le_trans (read-later reads) later;
     }
 
-module _ {g : Geometry} {old now : Disk} {d : ℕ} {path : List ℕ} {n kind links : ℕ} (held : IsHeld g old.blocks) (s : IsSeen g old now d path n kind links) (new : List ℕ) where
+module _ {g : Geometry} {old now : Disk} {d : ℕ} {path : List ℕ} {n kind links : ℕ} (held : IsFileSystem g old.blocks) (s : IsSeen g old now d path n kind links) (new : List ℕ) where
   abbrev files : Files
   files = files_of g old.blocks
 
@@ -186,21 +186,21 @@ module _ {g : Geometry} {old now : Disk} {d : ℕ} {path : List ℕ} {n kind lin
         gap : HasGap g old.blocks files d new 0 at k
         gap = subst (λ b. HasGap g b (files_of g b) d new 0 at k) s.same told.0
 
-        pub link-asked : record { held : IsHeld g last; node : (node : Node) × (slot (files_of g last) n ≡ Some node) × (links_of node < 65535) }
+        pub link-asked : record { held : IsFileSystem g last; node : (node : Node) × (slot (files_of g last) n ≡ Some node) × (links_of node < 65535) }
         link-asked =
             let same = told.1 ∙ s.same in
             record { held = held-same same held; node = (s.node, ap (λ b. slot (files_of g b) n) same ∙ s.here, (let e = s.links-are in omega arith)) }
 
-        module _ {mid : List (List ℕ)} (turn : Holds g mid (change_node (files_of g last) n more_links)) where
-          linked-now : Holds g mid (change_node files n more_links)
-          linked-now = subst (λ b. Holds g mid (change_node (files_of g b) n more_links)) (told.1 ∙ s.same) turn
+        module _ {mid : List (List ℕ)} (turn : Stores g mid (change_node (files_of g last) n more_links)) where
+          linked-now : Stores g mid (change_node files n more_links)
+          linked-now = subst (λ b. Stores g mid (change_node (files_of g b) n more_links)) (told.1 ∙ s.same) turn
 
           pub linked-asked : All (λ b. b ≢ 0) new → AsksEntry g mid at k n
           linked-asked =
               let blocks = more-blocks files n s.node s.here in
               entry-asked held linked-now gap (omega arith) (still-there files d path new n s.node s.found s.here file at.directory (suc gap.links) gap.places gap.here) n (slot-within files n s.node s.here)
 
-          pub linked-held : {done : List (List ℕ)} → Holds g done (entered (files_of g mid) at.directory k (record { name = at.name; number = n })) → IsHeld g done × (linked_in files d path new ≡ Some (files_of g done))
+          pub linked-held : {done : List (List ℕ)} → Stores g done (entered (files_of g mid) at.directory k (record { name = at.name; number = n })) → IsFileSystem g done × (linked_in files d path new ≡ Some (files_of g done))
           linked-held h =
               held-made (held-step linked-now (λ (fs : Files). entered fs at.directory k (record { name = at.name; number = n })) h) Some
               (linked-done files d path new n s.node s.found s.here file room at gap.spot gap.links gap.places gap.here k gap.room gap.free)

@@ -5,7 +5,7 @@ use Rattle.std.proofs.lemmas.Bool.{false≢true, lt-ltb}
 use Rattle.layout.specs.declared.Geometry.{Geometry}
 use Rattle.layout.specs.Image.{bytes_of, inode_at}
 use Rattle.tree.specs.declared.place.Found.{Found}
-use Rattle.tree.specs.Held.{Holds}
+use Rattle.tree.specs.Stored.{Stores}
 use Rattle.tree.specs.Names.{found_in}
 use Rattle.imagerules.specs.Places.{places_in}
 use Rattle.unixmodel.specs.Files.{Entry, Files, Node, entry_number, has_name, kind_of, links_of, live_places, lookup, slot}
@@ -49,7 +49,7 @@ lookup-dead files d name e = ap (option_and_then (λ ps. entry_number (option_an
 
 -- ---- as the disk tells it
 
-module _ {g : Geometry} {blocks : List (List ℕ)} {files : Files} (holds : Holds g blocks files) (d : ℕ) (used : IsSome (slot files d)) {kind links : ℕ} (kind-is : kind ≡ (inode_at blocks d).kind) (links-are : links ≡ (inode_at blocks d).links) where
+module _ {g : Geometry} {blocks : List (List ℕ)} {files : Files} (holds : Stores g blocks files) (d : ℕ) (used : IsSome (slot files d)) {kind links : ℕ} (kind-is : kind ≡ (inode_at blocks d).kind) (links-are : links ≡ (inode_at blocks d).links) where
   live-is : (node : Node) → slot files d ≡ Some node → is_live node ≡ ((kind == 1) && nat_lt 0 links)
   live-is node here =
       let raw = held-raw g blocks files holds d node here in

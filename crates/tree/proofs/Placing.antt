@@ -12,7 +12,7 @@ use Rattle.layout.specs.declared.Geometry.{Geometry}
 use Rattle.layout.specs.Image.{IsInode, bytes_of, free_blocks, taken_for}
 use Rattle.inode.specs.Writing.{IsFull, Wrote}
 use Rattle.tree.specs.Entering.{HasRoom, entered, growth, placed, room_in}
-use Rattle.tree.specs.Held.{FitsPlaces, Holds}
+use Rattle.tree.specs.Stored.{FitsPlaces, Stores}
 use Rattle.imagerules.specs.Places.{IsPlain, PlaceFits}
 use Rattle.tree.specs.Steps.{Reads}
 use Rattle.unixmodel.specs.Failures.{HasCause}
@@ -23,7 +23,7 @@ use Rattle.balloc.proofs.Exits.{HasCause-after}
 use Rattle.tree.proofs.Reading.{short-bytes}
 use Rattle.tree.proofs.Rooms.{entered-is, growth-behind, room-cases}
 use Rattle.imagerules.proofs.Spelling.{length-place_bytes, length-spelling}
-use Rattle.tree.proofs.Storing.{Holds-wrote, held-fits, held-inode, held-raw, held-size}
+use Rattle.tree.proofs.Storing.{Stores-wrote, held-fits, held-inode, held-raw, held-size}
 
 -- ---- the blocks that an entry takes
 
@@ -33,7 +33,7 @@ growth-size places place size grown e is =
     is ∙ ap (λ s. cond (nat_lt place (s / 16)) 0 (taken_for (s + 16) - taken_for s)) e
     ∙ ap (λ n. cond (nat_lt place n) 0 (taken_for (16 * length places + 16) - taken_for (16 * length places))) d
 
-module _ {g : Geometry} {blocks : List (List ℕ)} {files : Files} (holds : Holds g blocks files) (d k : ℕ) where
+module _ {g : Geometry} {blocks : List (List ℕ)} {files : Files} (holds : Stores g blocks files) (d k : ℕ) where
   pub room-size : (room : HasRoom files d k) → length (bytes_of blocks d) ≡ 16 * length room.places
   room-size room = held-size g blocks files holds d (Directory room.links room.places) room.here
 
@@ -89,7 +89,7 @@ spelling-placed places k e fits plain room = elim (room-cases places k room) [
 
 -- ---- a directory with an entry
 
-module _ (g : Geometry) (old new : List (List ℕ)) (files : Files) (holds : Holds g old files) (d k : ℕ) (room : HasRoom files d k) (e : Entry) (plain : IsPlain e) where
+module _ (g : Geometry) (old new : List (List ℕ)) (files : Files) (holds : Stores g old files) (d k : ℕ) (room : HasRoom files d k) (e : Entry) (plain : IsPlain e) where
   place-bounds : (k ≤ length room.places) × (16 * k + 16 ≤ 274432)
   place-bounds =
       let short = short-bytes holds.sound (room-inode holds d k room) in
@@ -128,10 +128,10 @@ module _ (g : Geometry) (old new : List (List ℕ)) (files : Files) (holds : Hol
   next-fits : FitsPlaces (Some next)
   next-fits = placed-fits room.places k e (held-fits g old files holds d (Directory room.links room.places) room.here) plain
 
-  pub Holds-entered : Wrote g old new d (splice (16 * k) (place_bytes (Some e)) (bytes_of old d)) → Holds g new (entered files d k e)
-  Holds-entered wrote =
+  pub Stores-entered : Wrote g old new d (splice (16 * k) (place_bytes (Some e)) (bytes_of old d)) → Stores g new (entered files d k e)
+  Stores-entered wrote =
       let was = held-raw g old files holds d (Directory room.links room.places) room.here in
       let bytes : splice (16 * k) (place_bytes (Some e)) (bytes_of old d) ≡ flat_map place_bytes (placed room.places k e) =
       ap (splice (16 * k) (place_bytes (Some e))) was.bytes ∙ spelling-placed room.places k e (held-fits g old files holds d (Directory room.links room.places) room.here) plain room.room in
-      subst (Holds g new) (sym (entered-is files d room.links room.places room.here k e))
-      (Holds-wrote holds room.here wrote next (record { kind = was.kind; links = was.links; bytes = bytes; device = tt }) next-fits)
+      subst (Stores g new) (sym (entered-is files d room.links room.places room.here k e))
+      (Stores-wrote holds room.here wrote next (record { kind = was.kind; links = was.links; bytes = bytes; device = tt }) next-fits)

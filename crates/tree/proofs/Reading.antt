@@ -20,7 +20,7 @@ use Rattle.tree.specs.Names.{found_at, found_in, is_bare}
 use Rattle.imagerules.specs.Places.{place_of_bytes, places_in, without_zeros}
 use Rattle.tree.specs.Steps.{Reads}
 use Rattle.unixmodel.specs.Failures.{Rises}
-use Rattle.tree.specs.Held.{files_of}
+use Rattle.tree.specs.Stored.{files_of}
 use Rattle.unixmodel.specs.Files.{Entry, has_name, lookup, slot, taken}
 use Rattle.unixmodel.specs.Numbers.{number_at}
 use Rattle.imagerules.proofs.Spelling.{slot-places_in}

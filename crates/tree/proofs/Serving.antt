@@ -10,7 +10,7 @@ use Rattle.inode.specs.declared.InodeStat.{InodeStat}
 use Rattle.inode.specs.Looking as inode
 use Rattle.inode.specs.Looking.{IsTold}
 use Rattle.layout.specs.Image.{RawNode, bytes_of, inode_at, node_with}
-use Rattle.tree.specs.Held.{Holds, IsHeld, IsRaw, files_of}
+use Rattle.tree.specs.Stored.{Stores, IsFileSystem, IsRaw, files_of}
 use Rattle.tree.specs.Holding.{let_go, without_hold}
 use Rattle.std.proofs.lemmas.Bool.{false≢true}
 use Rattle.std.proofs.lemmas.Result.{IfErr-weaker, IfOk-at_ok, IfOk-weaker}
@@ -48,7 +48,7 @@ reads-serves g d d' hs f b up (Ok x) told same cause e = record {
 }
 
 -- what is told of an inode's bytes is told of its node's
-pub read-told-node : {g : Geometry} {blocks : List (List ℕ)} (held : IsHeld g blocks) (n at : ℕ) (out out' : List ℕ) (r : Result ℕ DeviceFault)
+pub read-told-node : {g : Geometry} {blocks : List (List ℕ)} (held : IsFileSystem g blocks) (n at : ℕ) (out out' : List ℕ) (r : Result ℕ DeviceFault)
     → IfOk r (λ k. k ≡ min (length out) (length (bytes_of blocks n) - at)) → IfOk r (λ k. out' ≡ part at k (bytes_of blocks n) ++ drop k out)
     → (k : ℕ) → r ≡ Ok k → (node : Node) → slot (files_of g blocks) n ≡ Some node → (k ≡ min (length out) (length (node_bytes node) - at)) × (out' ≡ part at k (node_bytes node) ++ drop k out)
 read-told-node {g} {blocks} held n at out out' r count read k is node here =
@@ -61,12 +61,12 @@ major-told : (raw : RawNode) (node : Node) (major : ℕ) → IsRaw raw node → 
 major-told raw (Device links of minor) major is told = told ∙ is.device.0
 major-told raw _ major is told = tt
 
-pub tells : (g : Geometry) (blocks : List (List ℕ)) (held : IsHeld g blocks) (n : ℕ) (node : Node) → slot (files_of g blocks) n ≡ Some node → (s : InodeStat) → IsTold blocks n s → Tells s node
+pub tells : (g : Geometry) (blocks : List (List ℕ)) (held : IsFileSystem g blocks) (n : ℕ) (node : Node) → slot (files_of g blocks) n ≡ Some node → (s : InodeStat) → IsTold blocks n s → Tells s node
 tells g blocks held n node here s told =
     let is = held-raw g blocks (files_of g blocks) held n node here in
     (told.kind ∙ is.kind, told.links ∙ is.links, told.size ∙ held-size g blocks (files_of g blocks) held n node here, major-told (node_with (inode_at blocks n) (bytes_of blocks n)) node s.major is told.major)
 
-pub tells-any : (g : Geometry) (blocks : List (List ℕ)) (held : IsHeld g blocks) (n : ℕ) (o : Option Node) → slot (files_of g blocks) n ≡ o → (told : Option InodeStat) → inode.Tells blocks g.inodes n told → TellsAny told o
+pub tells-any : (g : Geometry) (blocks : List (List ℕ)) (held : IsFileSystem g blocks) (n : ℕ) (o : Option Node) → slot (files_of g blocks) n ≡ o → (told : Option InodeStat) → inode.Tells blocks g.inodes n told → TellsAny told o
 tells-any g blocks held n None here None told = tt
 tells-any g blocks held n (Some node) here None told = absurd (told (held-inode g blocks (files_of g blocks) held n node here))
 tells-any g blocks held n None here (Some s) told =
@@ -106,7 +106,7 @@ module _ {t seen : FileTree} (is : t ≡ seen) where
   names-asked n held up rules used = record { held = held (up-inside up); rules = subst (λ (t : FileTree). KeepsTree t.files) (sym is) rules; directory = subst (λ (t : FileTree). IsSome (slot t.files n)) (sym is) used }
 
   -- a node's number is one of those that can be held
-  pub within-inside : {g : Geometry} {blocks : List (List ℕ)} → (t.failed ≡ false → IsHeld g blocks) → t.files ≡ files_of g blocks → length t.holds ≡ g.inodes → seen.failed ≡ false → (n : ℕ) → slot seen.files n ≢ None → n < length t.holds
+  pub within-inside : {g : Geometry} {blocks : List (List ℕ)} → (t.failed ≡ false → IsFileSystem g blocks) → t.files ≡ files_of g blocks → length t.holds ≡ g.inodes → seen.failed ≡ false → (n : ℕ) → slot seen.files n ≢ None → n < length t.holds
   within-inside {g} {blocks} held same count up n some =
       let node = some-node (slot t.files n) (node-inside n some) in
       let high = slot-within t.files n node.0 node.1 in
@@ -115,10 +115,10 @@ module _ {t seen : FileTree} (is : t ≡ seen) where
 
 -- ---- calls on names
 
-module _ {T : Type 0} (g : Geometry) (d d' : Disk) (hs : List ℕ) {f b : Bool} {r : Result T TreeFault} {Done : T → Type 0} {Refused : Type 0} {Why : TreeFault → Type 0} (answers : Answers d d' r (λ x. IsHeld g d'.blocks × Done x) Refused Why) (e : b ≡ has_failed r) where
+module _ {T : Type 0} (g : Geometry) (d d' : Disk) (hs : List ℕ) {f b : Bool} {r : Result T TreeFault} {Done : T → Type 0} {Refused : Type 0} {Why : TreeFault → Type 0} (answers : Answers d d' r (λ x. IsFileSystem g d'.blocks × Done x) Refused Why) (e : b ≡ has_failed r) where
   pub acts : Acts (tree g d hs f) (tree g d' hs b) r Done Refused Why
   acts = record {
-    done = IfOk-weaker r (λ x. IsHeld g d'.blocks × Done x) Done (λ x h. h.1) answers.done;
+    done = IfOk-weaker r (λ x. IsFileSystem g d'.blocks × Done x) Done (λ x h. h.1) answers.done;
     refused = IfErr-weaker r (λ fault. fault ≢ Device → IsRefused d d' Refused (Why fault)) (λ fault. fault ≢ Device → IsRefusal (tree g d hs f) (tree g d' hs b) Refused (Why fault))
         (λ fault h known. let no = h known in record { refused = no.refused; why = no.why; same = ap (files_of g) no.same }) answers.refused;
     failed = e;
@@ -141,21 +141,21 @@ turns-serves g d d' before hs f b files (Ok x) up turns e = record {
 }
 
 -- the disk holds its files still
-pub turns-held : {T : Type 0} {g : Geometry} {d d' : Disk} {b : Bool} {files : Files} {r : Result T DeviceFault} → Turns g d d' r files → b ≡ is_err r → b ≡ false → IsHeld g d'.blocks
+pub turns-held : {T : Type 0} {g : Geometry} {d d' : Disk} {b : Bool} {files : Files} {r : Result T DeviceFault} → Turns g d d' r files → b ≡ is_err r → b ≡ false → IsFileSystem g d'.blocks
 turns-held {T} {g} {d} {d'} {b} {files} {r} turns e up = go r turns.holds (sym e ∙ up) where
-  go : (r : Result T DeviceFault) → OnOk r (Holds g d'.blocks files) → is_err r ≡ false → IsHeld g d'.blocks
+  go : (r : Result T DeviceFault) → OnOk r (Stores g d'.blocks files) → is_err r ≡ false → IsFileSystem g d'.blocks
   go (Ok x) holds q = held-again g d'.blocks files holds
   go (Err fault) holds q = absurd (false≢true (sym q))
 
 pub device-is : (fault : TreeFault) → is_device fault ≡ false → fault ≢ Device
 device-is fault h = λ e. false≢true (sym h ∙ ap is_device e)
 
-pub answers-held : {T : Type 0} {g : Geometry} {d d' : Disk} {b : Bool} {r : Result T TreeFault} {Done : T → Type 0} {Refused : Type 0} {Why : TreeFault → Type 0} → Answers d d' r (λ x. IsHeld g d'.blocks × Done x) Refused Why
-    → b ≡ has_failed r → IsHeld g d.blocks → b ≡ false → IsHeld g d'.blocks
+pub answers-held : {T : Type 0} {g : Geometry} {d d' : Disk} {b : Bool} {r : Result T TreeFault} {Done : T → Type 0} {Refused : Type 0} {Why : TreeFault → Type 0} → Answers d d' r (λ x. IsFileSystem g d'.blocks × Done x) Refused Why
+    → b ≡ has_failed r → IsFileSystem g d.blocks → b ≡ false → IsFileSystem g d'.blocks
 answers-held {T} {g} {d} {d'} {b} {r} {Done} {Refused} {Why} answers e held up = go r answers.done answers.refused (sym e ∙ up) where
-  go : (r : Result T TreeFault) → IfOk r (λ x. IsHeld g d'.blocks × Done x) → IfErr r (λ fault. fault ≢ Device → IsRefused d d' Refused (Why fault)) → has_failed r ≡ false → IsHeld g d'.blocks
+  go : (r : Result T TreeFault) → IfOk r (λ x. IsFileSystem g d'.blocks × Done x) → IfErr r (λ fault. fault ≢ Device → IsRefused d d' Refused (Why fault)) → has_failed r ≡ false → IsFileSystem g d'.blocks
   go (Ok x) h none q = h.0
-  go (Err fault) h none q = subst (IsHeld g) (sym (none (device-is fault q)).same) held
+  go (Err fault) h none q = subst (IsFileSystem g) (sym (none (device-is fault q)).same) held
 
 -- one that held a node lets go
 pub drop-serves : (g : Geometry) (d d' : Disk) (before hs used : List ℕ) (n : ℕ) (f b : Bool) (r : Result (Unit {0}) DeviceFault) → f ≡ false → hs ≡ without_hold before n → used ≡ hs → Turns g d d' r (let_go used (files_of g d.blocks) n) → b ≡ is_err r
@@ -171,6 +171,6 @@ serves-also (Err fault) serves also = record { told = tt; up = tt; down = serves
 serves-also (Ok x) serves also = record { told = (serves.told, also); up = serves.up; down = tt; cause = serves.cause }
 
 -- where the blocks are as they were
-pub same-held : {T : Type 0} {g : Geometry} {b : Bool} (old new : List (List ℕ)) (r : Result T DeviceFault) → OnOk r (new ≡ old) → b ≡ is_err r → IsHeld g old → b ≡ false → IsHeld g new
-same-held {g = g} old new (Ok x) same e held up = subst (λ b. IsHeld g b) (sym same) held
+pub same-held : {T : Type 0} {g : Geometry} {b : Bool} (old new : List (List ℕ)) (r : Result T DeviceFault) → OnOk r (new ≡ old) → b ≡ is_err r → IsFileSystem g old → b ≡ false → IsFileSystem g new
+same-held {g = g} old new (Ok x) same e held up = subst (λ b. IsFileSystem g b) (sym same) held
 same-held old new (Err fault) same e held up = absurd (false≢true (sym up ∙ e))

@@ -4,7 +4,7 @@ use Rattle.std.specs.Prelude.{IsSome, Ok, Result, is_some, option_and_then}
 use Rattle.names.specs.Rules.{KeepsTree}
 use Rattle.layout.specs.declared.Geometry.{Geometry}
 use Rattle.layout.specs.Image.{inode_at}
-use Rattle.tree.specs.Held.{Holds}
+use Rattle.tree.specs.Stored.{Stores}
 use Rattle.tree.specs.Lacking.{LacksGap}
 use Rattle.tree.specs.Paths.{IsDead, IsNoDirectory, LacksSpot, above}
 use Rattle.tree.specs.declared.TreeFault.{TreeFault}
@@ -23,7 +23,7 @@ use Rattle.blockdev.specs.declared.DeviceFault.{DeviceFault}
 pub spot-none : (files : Files) (d : ℕ) (path : List ℕ) → above files d path ≡ None → spot_of files d path ≡ None
 spot-none files d path e = spot-above files d path ∙ ap (option_and_then (λ (two : ℕ × List ℕ). live_spot files two.1 two.0)) e
 
-module _ {g : Geometry} {blocks : List (List ℕ)} {files : Files} (holds : Holds g blocks files) (keeps : KeepsTree files) (d : ℕ) (path : List ℕ) (used : IsSome (slot files d)) (k : ℕ) (name : List ℕ) (is : above files d path ≡ Some (k, name)) where
+module _ {g : Geometry} {blocks : List (List ℕ)} {files : Files} (holds : Stores g blocks files) (keeps : KeepsTree files) (d : ℕ) (path : List ℕ) (used : IsSome (slot files d)) (k : ℕ) (name : List ℕ) (is : above files d path ≡ Some (k, name)) where
   pub above-node : (x : Node) × (slot files k ≡ Some x)
   above-node = node-of (slot files k) (above-used keeps d path used k name is)
 

@@ -15,7 +15,7 @@ use Rattle.tree.proofs.Linking.{turned}
 use Rattle.tree.proofs.Exits.{Turns-broken, Turns-good}
 use Rattle.tree.proofs.Serving.{tells-any, tree, turns-serves}
 use Rattle.tree.proofs.Storing.{files-are, held-again, length-held, slot-within}
-use Rattle.tree.specs.Held.{Holds, IsHeld, files_of}
+use Rattle.tree.specs.Stored.{Stores, IsFileSystem, files_of}
 use Rattle.tree.specs.Holding.{let_go, stays, unheld}
 use Rattle.tree.specs.Steps.{Turns}
 use Rattle.tree.specs.Telling.{TellsAny}
@@ -59,7 +59,7 @@ let-go-at files now n same = go (slot files n) refl where
   ]
 
 -- what a look at it told
-module _ {g : Geometry} {blocks : List (List ℕ)} (held : IsHeld g blocks) (n : ℕ) where
+module _ {g : Geometry} {blocks : List (List ℕ)} (held : IsFileSystem g blocks) (n : ℕ) where
   abbrev files : Files
   files = files_of g blocks
 
@@ -76,20 +76,20 @@ module _ {g : Geometry} {blocks : List (List ℕ)} (held : IsHeld g blocks) (n :
     go (Some node) t = (node, refl, t.1)
 
 -- the disk stays, with the files that it holds
-pub turns-same : {g : Geometry} {old new : Disk} {files : Files} → IsHeld g old.blocks → new.blocks ≡ old.blocks → length new.blocks ≡ length old.blocks → old.failures ≤ new.failures → files ≡ files_of g old.blocks → Turns {T = Unit {0}} g old new (Ok tt) files
-turns-same {g} {old} {files = files} held same count later are = Turns-good count (subst (λ b. Holds g b files) (sym same) (subst (Holds g old.blocks) (sym are) held)) later
+pub turns-same : {g : Geometry} {old new : Disk} {files : Files} → IsFileSystem g old.blocks → new.blocks ≡ old.blocks → length new.blocks ≡ length old.blocks → old.failures ≤ new.failures → files ≡ files_of g old.blocks → Turns {T = Unit {0}} g old new (Ok tt) files
+turns-same {g} {old} {files = files} held same count later are = Turns-good count (subst (λ b. Stores g b files) (sym same) (subst (Stores g old.blocks) (sym are) held)) later
 
 -- ---- all of them
 
 -- of the numbers below i the nodes without links are gone
 pub record IsSwept (g : Geometry) (old now : Disk) (i : ℕ) : Type 0 where
-  pub held : IsHeld g now.blocks
+  pub held : IsFileSystem g now.blocks
   pub below : (n : ℕ) → n < i → slot (files_of g now.blocks) n ≡ slot (unheld (files_of g old.blocks)) n
   pub rest : (n : ℕ) → i ≤ n → slot (files_of g now.blocks) n ≡ slot (files_of g old.blocks) n
   pub count : length now.blocks ≡ length old.blocks
   pub later : old.failures ≤ now.failures
 
-pub swept-none : (g : Geometry) (disk : Disk) → IsHeld g disk.blocks → IsSwept g disk disk 0
+pub swept-none : (g : Geometry) (disk : Disk) → IsFileSystem g disk.blocks → IsSwept g disk disk 0
 swept-none g disk held = record { held = held; below = λ n l. absurd (omega (arith, l)); rest = λ n l. refl; count = refl; later = omega arith }
 
 module _ {g : Geometry} {old now : Disk} {i : ℕ} (is : IsSwept g old now i) where
@@ -115,13 +115,13 @@ module _ {g : Geometry} {old now : Disk} {i : ℕ} (is : IsSwept g old now i) wh
   swept-fails turns failed told = Turns-broken (turns.count ∙ is.count) is.later turns.cause failed told
 
   -- no number is left
-  pub swept-all : IsHeld g old.blocks → g.inodes ≤ i → Turns {T = Unit {0}} g old now (Ok tt) (unheld (files_of g old.blocks))
+  pub swept-all : IsFileSystem g old.blocks → g.inodes ≤ i → Turns {T = Unit {0}} g old now (Ok tt) (unheld (files_of g old.blocks))
   swept-all held all =
       let before = length-held g old.blocks (files_of g old.blocks) held in
       let after = length-held g now.blocks (files_of g now.blocks) is.held in
       let same : files_of g now.blocks ≡ unheld (files_of g old.blocks) =
       ext_get_or None (files_of g now.blocks) (unheld (files_of g old.blocks)) (after ∙ sym before ∙ sym (length-kept is_linked 0 (files_of g old.blocks))) (λ n l. is.below n (omega (arith, l, after, all))) in
-      Turns-good is.count (subst (Holds g now.blocks) same is.held) is.later
+      Turns-good is.count (subst (Stores g now.blocks) same is.held) is.later
 
 -- and nobody holds any of them
 pub swept-serves : (g : Geometry) (d d' : Disk) (before after : List ℕ) (f b : Bool) (r : Result (Unit {0}) DeviceFault) → f ≡ false → after ≡ replicate (length before) 0 → Turns g d d' r (unheld (files_of g d.blocks)) → b ≡ is_err r

@@ -11,21 +11,21 @@ use Rattle.layout.specs.Image.{bytes_of, free_blocks, inode_at, node_at, node_wi
 use Rattle.layout.specs.Sound.{IsSound}
 use Rattle.names.proofs.Finding.{IsFree, free-number}
 use Rattle.tree.specs.Entering.{entered, fresh, room_in}
-use Rattle.tree.specs.Held.{Agrees, FitsPlaces, Holds, IsRaw}
+use Rattle.tree.specs.Stored.{Agrees, FitsPlaces, Stores, IsRaw}
 use Rattle.unixmodel.specs.Counts.{blocks_of}
 use Rattle.unixmodel.specs.Files.{Entry, Files, Node, Spot, blocks_for, enter, free_number, put, size_of, slot}
 use Rattle.unixmodel.specs.Files.Node.{Directory}
 use Rattle.unixmodel.specs.NameCalls.{Made, make_at}
 use Rattle.tree.proofs.Rooms.{enter-full, enter-room}
 use Rattle.tree.proofs.Reading.{position-at, position-none}
-use Rattle.tree.proofs.Storing.{Holds-set, blocks_of-set, held-inode, length-held, used_by}
+use Rattle.tree.proofs.Storing.{Stores-set, blocks_of-set, held-inode, length-held, used_by}
 
 -- ---- the lowest free number
 
 drop-slot : (files : Files) (k : ℕ) → slot (drop 1 files) k ≡ slot files (1 + k)
 drop-slot files k = get_or-drop 1 files k None
 
-module _ (g : Geometry) (blocks : List (List ℕ)) (files : Files) (holds : Holds g blocks files) where
+module _ (g : Geometry) (blocks : List (List ℕ)) (files : Files) (holds : Stores g blocks files) where
   unused-slot : (n : ℕ) → (inode_at blocks n).kind ≡ 0 → slot files n ≡ None
   unused-slot n e = go (slot files n) refl where
     go : (o : Option Node) → slot files n ≡ o → o ≡ None
@@ -102,14 +102,14 @@ fresh-raw (suc (suc (suc zero))) major minor low high = (record { kind = refl; l
 fresh-raw _ major minor low high = absurd (omega arith)
 
 -- what take_inode ensures
-pub Holds-fresh : (g : Geometry) (old new : List (List ℕ)) (files : Files) → Holds g old files → (kind major minor n : ℕ) → 1 ≤ kind → kind ≤ 3 → free_number files ≡ Some n
-    → IsSound g new → nodes_of new g.inodes ≡ set (nodes_of old g.inodes) n (Some (fresh_node kind major minor 1)) → free_blocks g new ≡ free_blocks g old → Holds g new (put files n (fresh kind major minor))
-Holds-fresh g old new files holds kind major minor n low high is sound nodes free =
+pub Stores-fresh : (g : Geometry) (old new : List (List ℕ)) (files : Files) → Stores g old files → (kind major minor n : ℕ) → 1 ≤ kind → kind ≤ 3 → free_number files ≡ Some n
+    → IsSound g new → nodes_of new g.inodes ≡ set (nodes_of old g.inodes) n (Some (fresh_node kind major minor 1)) → free_blocks g new ≡ free_blocks g old → Stores g new (put files n (fresh kind major minor))
+Stores-fresh g old new files holds kind major minor n low high is sound nodes free =
     let number = free-number files n is in
     let raw = fresh-raw kind major minor low high in
     let none : used_by (slot files n) ≡ 0 = ap used_by number.free in
     let small : blocks_for (size_of (fresh kind major minor)) ≡ 0 = ap blocks_for raw.2 in
-    Holds-set holds n (Some (fresh_node kind major minor 1)) (Some (fresh kind major minor)) number.within sound nodes raw.0 raw.1 (omega arith)
+    Stores-set holds n (Some (fresh_node kind major minor 1)) (Some (fresh kind major minor)) number.within sound nodes raw.0 raw.1 (omega arith)
 
 -- the blocks that are free stay free
 pub fresh-blocks : (files : Files) (n : ℕ) (node : Node) → IsFree files n → size_of node ≡ 0 → blocks_of (put files n node) ≡ blocks_of files

@@ -6,7 +6,7 @@ use Rattle.std.proofs.lemmas.Option.{none-some, same_Some}
 use Rattle.layout.specs.declared.Geometry.{Geometry}
 use Rattle.layout.specs.Image.{bytes_of, inode_at}
 use Rattle.tree.specs.declared.place.Found.{Found}
-use Rattle.tree.specs.Held.{Holds, IsHeld, files_of}
+use Rattle.tree.specs.Stored.{Stores, IsFileSystem, files_of}
 use Rattle.tree.specs.Names.{dropped, found_at, found_in, is_bare, removal}
 use Rattle.unixmodel.specs.NameCalls.{fewer_links, may_remove, removed_node, unlinked, without_name}
 use Rattle.imagerules.specs.Places.{places_in}
@@ -126,7 +126,7 @@ stays-busy node h = go (may_remove node) h where
 
 -- ---- the disk
 
-module _ (g : Geometry) (blocks : List (List ℕ)) (files : Files) (holds : Holds g blocks files) where
+module _ (g : Geometry) (blocks : List (List ℕ)) (files : Files) (holds : Stores g blocks files) where
   pub directory-places : (n links : ℕ) (places : List (Option Entry)) → slot files n ≡ Some (Directory links places) → places_in (bytes_of blocks n) ≡ places
   directory-places n links places here =
       let is = held-raw g blocks files holds n (Directory links places) here in
@@ -143,7 +143,7 @@ module _ (g : Geometry) (blocks : List (List ℕ)) (files : Files) (holds : Hold
   removal-directory n node here k bare is = absurd (let e = (held-raw g blocks files holds n node here).kind in omega arith)
 
 -- what a look for a name told
-pub named-in : {g : Geometry} {blocks : List (List ℕ)} (held : IsHeld g blocks) {d : ℕ} (naming : IsNaming (files_of g blocks) d) (name : List ℕ) {o x : Option Found} → o ≡ found_in (places_in (bytes_of blocks d)) name → o ≡ x → found_in naming.places name ≡ x
+pub named-in : {g : Geometry} {blocks : List (List ℕ)} (held : IsFileSystem g blocks) {d : ℕ} (naming : IsNaming (files_of g blocks) d) (name : List ℕ) {o x : Option Found} → o ≡ found_in (places_in (bytes_of blocks d)) name → o ≡ x → found_in naming.places name ≡ x
 named-in {g} {blocks} held {d} naming name told is = ap (λ places. found_in places name) (sym (directory-places g blocks (files_of g blocks) held d (suc naming.links) naming.places naming.here)) ∙ sym told ∙ is
 
 -- ---- the nodes that are there stay

@@ -10,7 +10,7 @@ use Rattle.tree.specs.declared.TreeFault.{TreeFault}
 use Rattle.tree.specs.declared.TreeFault.TheVariants.{Blocks, DeadDir, DotName, Exists, Full, Inodes, IsDir, Links, NotDir, NotEmpty, NotFound}
 use Rattle.tree.specs.declared.TreeFault.TheVariants as fault
 use Rattle.tree.specs.Answers.{Answers}
-use Rattle.tree.specs.Held.{Holds, IsHeld, files_of}
+use Rattle.tree.specs.Stored.{Stores, IsFileSystem, files_of}
 use Rattle.tree.specs.Holding.{let_go}
 use Rattle.tree.specs.Lacking.{LacksUnlinking}
 use Rattle.tree.specs.Paths.{LacksSpot}
@@ -96,15 +96,15 @@ spot-answers g old mid new holds d path at spot same later count after told give
 
 module _ {g : Geometry} {old new : List (List ℕ)} {at : Spot} {n : ℕ} (u : IsUnlinked g old new at n) where
   -- what letting its node go asks
-  pub gone-asked : (holds : List ℕ) → length holds ≡ g.inodes → record { held : IsHeld g new; node : slot (files_of g new) n ≢ None; within : n < length holds }
+  pub gone-asked : (holds : List ℕ) → length holds ≡ g.inodes → record { held : IsFileSystem g new; node : slot (files_of g new) n ≢ None; within : n < length holds }
   gone-asked holds count =
       let node = some-node (slot u.files n) u.stands in
       let high = slot-within u.files n node.0 node.1 in
       let long = length-held g new u.files u.holds in
       record { held = held-again g new u.files u.holds; node = held-used u.holds n u.stands; within = omega arith }
 
-  pub gone-done : {before last : List (List ℕ)} (holds : List ℕ) (d : ℕ) (path : List ℕ) → old ≡ before → spot_of (files_of g before) d path ≡ Some at → Holds g last (let_go holds (files_of g new) n)
-      → IsHeld g last × (unlinked_in holds (files_of g before) d path ≡ Some (files_of g last))
+  pub gone-done : {before last : List (List ℕ)} (holds : List ℕ) (d : ℕ) (path : List ℕ) → old ≡ before → spot_of (files_of g before) d path ≡ Some at → Stores g last (let_go holds (files_of g new) n)
+      → IsFileSystem g last × (unlinked_in holds (files_of g before) d path ≡ Some (files_of g last))
   gone-done {before} {last} holds d path same spot now =
       held-made (held-step u.holds (λ fs. let_go holds fs n) now) Some
       (gone-name holds (files_of g before) d path at spot n u.files (ap (λ b. lookup (files_of g b) at.directory at.name) (sym same) ∙ u.named) (ap (λ b. unlinked (files_of g b) at) (sym same) ∙ u.made))

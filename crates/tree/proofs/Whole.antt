@@ -1,7 +1,7 @@
 -- The files of a disk keep what those of every disk keep.
 use Rattle.std.proofs.Common.{◌≡◌, ◌≢◌, ◌<◌, ℕ, List, None, Option, Some, arith, length, refl}
 use Rattle.layout.specs.declared.Geometry.{Geometry}
-use Rattle.tree.specs.Held.{Holds}
+use Rattle.tree.specs.Stored.{Stores}
 use Rattle.tree.specs.Tree.{FileTree}
 use Rattle.tree.specs.Whole.{IsWhole}
 use Rattle.tree.proofs.Linking.{some-node}
@@ -9,7 +9,7 @@ use Rattle.tree.proofs.Storing.{held-inode, length-held, slot-within}
 use Rattle.unixmodel.specs.Files.{Files, Node, slot}
 use Rattle.unixmodel.specs.Manifest.{data_blocks_of}
 
-module _ (g : Geometry) (blocks : List (List ℕ)) (files : Files) (holds : Holds g blocks files) where
+module _ (g : Geometry) (blocks : List (List ℕ)) (files : Files) (holds : Stores g blocks files) where
   none-zero : slot files 0 ≡ None
   none-zero = go (slot files 0) refl where
     go : (o : Option Node) → slot files 0 ≡ o → o ≡ None

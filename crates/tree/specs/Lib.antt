@@ -1,4 +1,4 @@
-pub mod Held
+pub mod Stored
 pub mod Names
 pub mod Steps
 pub mod Unlinks

@@ -6,7 +6,7 @@ use Rattle.layout.specs.declared.Geometry.{Geometry}
 use Rattle.tree.specs.declared.tree.Tree.TheInside.{Inside}
 use Rattle.tree.specs.declared.TreeFault.{TreeFault}
 use Rattle.tree.specs.declared.TreeFault.TheVariants.{Device}
-use Rattle.tree.specs.Held.{IsHeld, files_of}
+use Rattle.tree.specs.Stored.{IsFileSystem, files_of}
 use Rattle.unixmodel.specs.Failures.{HasCause, Rises}
 use Rattle.unixmodel.specs.Files.{Files}
 use Rattle.unixmodel.specs.Manifest.{data_blocks_of}
@@ -36,7 +36,7 @@ tree_of t = record {
 
 pub record IsInside {D : Type 0} (t : Inside D) : Type 0 where
   pub count : length t.holds.items ≡ t.geometry.inodes
-  pub held : t.failed ≡ false → IsHeld t.geometry t.disk.blocks
+  pub held : t.failed ≡ false → IsFileSystem t.geometry t.disk.blocks
 
 -- what a call on a file system answers: what is told holds, and no access has failed; an error is told only where the device
 -- counts one

@@ -4,7 +4,7 @@ use Rattle.cache.specs.Disk.{Disk}
 use Rattle.layout.specs.declared.Geometry.{Geometry}
 use Rattle.tree.specs.declared.TreeFault.{TreeFault}
 use Rattle.tree.specs.declared.TreeFault.TheVariants.{DotName, Device, NotEmpty, NotFound}
-use Rattle.tree.specs.Held.{Holds, files_of}
+use Rattle.tree.specs.Stored.{Stores, files_of}
 use Rattle.tree.specs.Holding.{let_go}
 use Rattle.unixmodel.specs.NameCalls.{may_remove, unlinked}
 use Rattle.unixmodel.specs.Failures.{Rises}
@@ -22,7 +22,7 @@ pub record IsNaming (files : Files) (d : ℕ) : Type 0 where
 pub record IsUnlinked (g : Geometry) (old new : List (List ℕ)) (at : Spot) (n : ℕ) : Type 0 where
   pub files : Files
   pub made : unlinked (files_of g old) at ≡ Some files
-  pub holds : Holds g new files
+  pub holds : Stores g new files
   pub named : lookup (files_of g old) at.directory at.name ≡ Some n
   pub stands : slot files n ≢ None
 

@@ -1,6 +1,6 @@
 -- What the files of every disk keep.
 use Rattle.std.specs.Prelude.{None, length, ℕ, ◌<◌, ◌≡◌, ◌≢◌, ◌≤◌}
-use Rattle.tree.specs.Held.{FitsPlaces}
+use Rattle.tree.specs.Stored.{FitsPlaces}
 use Rattle.tree.specs.Tree.{FileTree}
 use Rattle.unixmodel.specs.Counts.{blocks_of}
 use Rattle.unixmodel.specs.Files.{slot}

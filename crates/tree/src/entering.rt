@@ -6,7 +6,7 @@ ghost use Rattle.layout.specs.Image.{free_blocks, taken_for};
 ghost use Rattle.names.specs.Rules.{KeepsTree};
 ghost use Rattle.tree.specs.Answers.{Answers};
 ghost use Rattle.tree.specs.Entering.{HasGap, HasRoom, entered, fresh, growth, room_in};
-ghost use Rattle.tree.specs.Held.{Holds, IsHeld, files_of};
+ghost use Rattle.tree.specs.Stored.{Stores, IsFileSystem, files_of};
 ghost use Rattle.tree.specs.Lacking.{LacksGap};
 ghost use Rattle.tree.specs.Steps.{Reads, Turns};
 ghost use Rattle.unixmodel.specs.Files.{free_number, place_bytes, put, slot};
@@ -59,7 +59,7 @@ fn has_room<D: BlockDev>(
     place: usize,
     more: usize,
 ) -> Result<bool, DeviceFault>
-    requires held { IsHeld geometry disk.old.blocks }
+    requires held { IsFileSystem geometry disk.old.blocks }
     requires room { HasRoom (files_of geometry disk.old.blocks) directory place }
     requires more { more ≤ 1 }
     ensures { Reads disk.old disk.new result (λ enough. (r : HasRoom (files_of geometry disk.old.blocks) directory place) → enough ≡ nat_le (growth r.places place + more) (free_blocks geometry disk.old.blocks)) }
@@ -77,7 +77,7 @@ pub fn find_gap<'a, D: BlockDev>(
     path: &'a [u8],
     more: usize,
 ) -> Result<Gap<'a>, TreeFault>
-    requires held { IsHeld geometry disk.old.blocks }
+    requires held { IsFileSystem geometry disk.old.blocks }
     requires rules { KeepsTree (files_of geometry disk.old.blocks) }
     requires directory { IsSome (slot (files_of geometry disk.old.blocks) directory) }
     requires more { more ≤ 1 }
@@ -116,7 +116,7 @@ pub fn put_entry<D: BlockDev>(
     gap: &Gap,
     number: usize,
 ) -> Result<(), DeviceFault>
-    requires held { IsHeld geometry disk.old.blocks }
+    requires held { IsFileSystem geometry disk.old.blocks }
     requires plain { IsPlain (record { name = gap.now.name.now; number = number }) }
     requires room { HasRoom (files_of geometry disk.old.blocks) gap.now.directory gap.now.place }
     requires fits { (r : HasRoom (files_of geometry disk.old.blocks) gap.now.directory gap.now.place) → growth r.places gap.now.place ≤ free_blocks geometry disk.old.blocks }
@@ -140,10 +140,10 @@ pub fn take_node<D: BlockDev>(
     major: u16,
     minor: u16,
 ) -> Result<usize, TreeFault>
-    requires held { IsHeld geometry disk.old.blocks }
+    requires held { IsFileSystem geometry disk.old.blocks }
     requires some { 1 ≤ kind }
     requires kind { kind ≤ 3 }
-    ensures { Answers disk.old disk.new result (λ n. (free_number (files_of geometry disk.old.blocks) ≡ Some n) × Holds geometry disk.new.blocks (put (files_of geometry disk.old.blocks) n (fresh kind major minor))) (free_number (files_of geometry disk.old.blocks) ≡ None) (λ fault. fault ≡ TreeFault.Inodes) }
+    ensures { Answers disk.old disk.new result (λ n. (free_number (files_of geometry disk.old.blocks) ≡ Some n) × Stores geometry disk.new.blocks (put (files_of geometry disk.old.blocks) n (fresh kind major minor))) (free_number (files_of geometry disk.old.blocks) ≡ None) (λ fault. fault ≡ TreeFault.Inodes) }
 {
     match take_inode(disk, geometry, kind, major, minor, 1) {
         Ok(number) => Ok(number),

@@ -5,7 +5,7 @@ ghost use Rattle.layout.specs.Image.{free_blocks};
 ghost use Rattle.names.specs.Rules.{KeepsTree};
 ghost use Rattle.tree.specs.Answers.{Answers, Overflows};
 ghost use Rattle.tree.specs.Entering.{folder_in, fresh, linked_in, made_files, made_in};
-ghost use Rattle.tree.specs.Held.{IsHeld, files_of};
+ghost use Rattle.tree.specs.Stored.{IsFileSystem, files_of};
 ghost use Rattle.tree.specs.Lacking.{LacksFolder, LacksLinking, LacksMaking};
 ghost use Rattle.tree.specs.Leaves.{leaf_node};
 ghost use Rattle.tree.specs.Steps.{Turns};
@@ -65,11 +65,11 @@ pub fn create<D: BlockDev>(
     path: &[u8],
     leaf: Leaf,
 ) -> Result<usize, TreeFault>
-    requires held { IsHeld geometry disk.old.blocks }
+    requires held { IsFileSystem geometry disk.old.blocks }
     requires rules { KeepsTree (files_of geometry disk.old.blocks) }
     requires directory { IsSome (slot (files_of geometry disk.old.blocks) directory) }
     requires path { All (λ b. b ≢ 0) path.now }
-    ensures { Answers disk.old disk.new result (λ n. IsHeld geometry disk.new.blocks × (made_in (files_of geometry disk.old.blocks) directory path.now (leaf_node leaf) ≡ Some (record { files = files_of geometry disk.new.blocks; number = n }))) (Overflows (data_blocks_of geometry.size geometry.inodes) (made_files (made_in (files_of geometry disk.old.blocks) directory path.now (leaf_node leaf)))) (LacksMaking (data_blocks_of geometry.size geometry.inodes) (files_of geometry disk.old.blocks) directory path.now 0) }
+    ensures { Answers disk.old disk.new result (λ n. IsFileSystem geometry disk.new.blocks × (made_in (files_of geometry disk.old.blocks) directory path.now (leaf_node leaf) ≡ Some (record { files = files_of geometry disk.new.blocks; number = n }))) (Overflows (data_blocks_of geometry.size geometry.inodes) (made_files (made_in (files_of geometry disk.old.blocks) directory path.now (leaf_node leaf)))) (LacksMaking (data_blocks_of geometry.size geometry.inodes) (files_of geometry disk.old.blocks) directory path.now 0) }
 {
     let gap = find_gap(disk, geometry, directory, path, 0)?;
     let (kind, major, minor) = leaf.numbers();
@@ -87,11 +87,11 @@ pub fn link<D: BlockDev>(
     old: &[u8],
     new: &[u8],
 ) -> Result<(), TreeFault>
-    requires held { IsHeld geometry disk.old.blocks }
+    requires held { IsFileSystem geometry disk.old.blocks }
     requires rules { KeepsTree (files_of geometry disk.old.blocks) }
     requires directory { IsSome (slot (files_of geometry disk.old.blocks) directory) }
     requires path { All (λ b. b ≢ 0) new.now }
-    ensures { Answers disk.old disk.new result (λ done. IsHeld geometry disk.new.blocks × (linked_in (files_of geometry disk.old.blocks) directory old.now new.now ≡ Some (files_of geometry disk.new.blocks))) (Overflows (data_blocks_of geometry.size geometry.inodes) (linked_in (files_of geometry disk.old.blocks) directory old.now new.now)) (LacksLinking (data_blocks_of geometry.size geometry.inodes) (files_of geometry disk.old.blocks) directory old.now new.now) }
+    ensures { Answers disk.old disk.new result (λ done. IsFileSystem geometry disk.new.blocks × (linked_in (files_of geometry disk.old.blocks) directory old.now new.now ≡ Some (files_of geometry disk.new.blocks))) (Overflows (data_blocks_of geometry.size geometry.inodes) (linked_in (files_of geometry disk.old.blocks) directory old.now new.now)) (LacksLinking (data_blocks_of geometry.size geometry.inodes) (files_of geometry disk.old.blocks) directory old.now new.now) }
 {
     let Some(number) = find(disk, geometry, directory, old)? else {
         return Err(TreeFault::NotFound);
@@ -118,11 +118,11 @@ pub fn create_directory<D: BlockDev>(
     directory: usize,
     path: &[u8],
 ) -> Result<(), TreeFault>
-    requires held { IsHeld geometry disk.old.blocks }
+    requires held { IsFileSystem geometry disk.old.blocks }
     requires rules { KeepsTree (files_of geometry disk.old.blocks) }
     requires directory { IsSome (slot (files_of geometry disk.old.blocks) directory) }
     requires path { All (λ b. b ≢ 0) path.now }
-    ensures { Answers disk.old disk.new result (λ done. IsHeld geometry disk.new.blocks × (folder_in (files_of geometry disk.old.blocks) directory path.now ≡ Some (files_of geometry disk.new.blocks))) (Overflows (data_blocks_of geometry.size geometry.inodes) (folder_in (files_of geometry disk.old.blocks) directory path.now)) (LacksFolder (data_blocks_of geometry.size geometry.inodes) (files_of geometry disk.old.blocks) directory path.now) }
+    ensures { Answers disk.old disk.new result (λ done. IsFileSystem geometry disk.new.blocks × (folder_in (files_of geometry disk.old.blocks) directory path.now ≡ Some (files_of geometry disk.new.blocks))) (Overflows (data_blocks_of geometry.size geometry.inodes) (folder_in (files_of geometry disk.old.blocks) directory path.now)) (LacksFolder (data_blocks_of geometry.size geometry.inodes) (files_of geometry disk.old.blocks) directory path.now) }
 {
     let gap = find_gap(disk, geometry, directory, path, 1)?;
     let above = stat(disk, geometry, gap.directory)?;
@@ -143,7 +143,7 @@ fn put_dots<D: BlockDev>(
     number: usize,
     above: usize,
 ) -> Result<(), DeviceFault>
-    requires held { IsHeld geometry disk.old.blocks }
+    requires held { IsFileSystem geometry disk.old.blocks }
     requires bare { slot (files_of geometry disk.old.blocks) number ≡ Some (Directory 1 []) }
     requires number { number < 65536 }
     requires above { above < 65536 }

@@ -3,7 +3,7 @@
 ghost use Rattle.std.specs.Prelude.{◌≡◌, ◌<◌, IfNone, IfSome, IsSome, None, Some, [], ◌∷◌, length, not, option_map, position, ◌==◌};
 ghost use Rattle.names.specs.Rules.{KeepsTree};
 ghost use Rattle.tree.specs.Answers.{Answers};
-ghost use Rattle.tree.specs.Held.{IsHeld, files_of};
+ghost use Rattle.tree.specs.Stored.{IsFileSystem, files_of};
 ghost use Rattle.tree.specs.Paths.{LacksSpot, above};
 ghost use Rattle.tree.specs.Steps.{Reads};
 ghost use Rattle.unixmodel.specs.Files.{find, parts, slot, spot_of, start_of};
@@ -64,7 +64,7 @@ pub fn find<D: BlockDev>(
     directory: usize,
     path: &[u8],
 ) -> Result<Option<usize>, DeviceFault>
-    requires held { IsHeld geometry disk.old.blocks }
+    requires held { IsFileSystem geometry disk.old.blocks }
     requires rules { KeepsTree (files_of geometry disk.old.blocks) }
     requires directory { IsSome (slot (files_of geometry disk.old.blocks) directory) }
     ensures { Reads disk.old disk.new result (λ number. number ≡ find (files_of geometry disk.old.blocks) directory path.now) }
@@ -88,7 +88,7 @@ fn reach<'a, D: BlockDev>(
     directory: usize,
     path: &'a [u8],
 ) -> Result<Option<(usize, &'a [u8])>, DeviceFault>
-    requires held { IsHeld geometry disk.old.blocks }
+    requires held { IsFileSystem geometry disk.old.blocks }
     requires rules { KeepsTree (files_of geometry disk.old.blocks) }
     requires directory { IsSome (slot (files_of geometry disk.old.blocks) directory) }
     ensures { Reads disk.old disk.new result (λ o. option_map (λ two. (two.0, two.1.now)) o ≡ above (files_of geometry disk.old.blocks) directory path.now) }
@@ -118,7 +118,7 @@ pub fn spot<'a, D: BlockDev>(
     directory: usize,
     path: &'a [u8],
 ) -> Result<(usize, &'a [u8]), TreeFault>
-    requires held { IsHeld geometry disk.old.blocks }
+    requires held { IsFileSystem geometry disk.old.blocks }
     requires rules { KeepsTree (files_of geometry disk.old.blocks) }
     requires directory { IsSome (slot (files_of geometry disk.old.blocks) directory) }
     ensures { Answers disk.old disk.new result (λ two. (spot_of (files_of geometry disk.old.blocks) directory path.now ≡ Some (record { directory = two.0; name = two.1.now })) × (disk.new.blocks ≡ disk.old.blocks)) (spot_of (files_of geometry disk.old.blocks) directory path.now ≡ None) (LacksSpot (files_of geometry disk.old.blocks) directory path.now) }

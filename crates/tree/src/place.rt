@@ -5,7 +5,7 @@ ghost use Rattle.std.specs.List.{list_all};
 ghost use Rattle.blockdev.specs.Splice.{part};
 ghost use Rattle.layout.specs.Image.{IsInode, bytes_of};
 ghost use Rattle.layout.specs.Sound.{IsSound};
-ghost use Rattle.tree.specs.Held.{IsHeld, files_of};
+ghost use Rattle.tree.specs.Stored.{IsFileSystem, files_of};
 ghost use Rattle.tree.specs.Entering.{room_behind, room_in};
 ghost use Rattle.tree.specs.Names.{found_in, is_bare};
 ghost use Rattle.imagerules.specs.Places.{place_of_bytes, places_in, without_zeros};
@@ -134,7 +134,7 @@ pub fn lookup<D: BlockDev>(
     directory: usize,
     name: &[u8],
 ) -> Result<Option<usize>, DeviceFault>
-    requires held { IsHeld geometry disk.old.blocks }
+    requires held { IsFileSystem geometry disk.old.blocks }
     requires node { IsSome (slot (files_of geometry disk.old.blocks) directory) }
     ensures { Reads disk.old disk.new result (λ number. number ≡ lookup (files_of geometry disk.old.blocks) directory name.now) }
 {

@@ -1,7 +1,7 @@
 //! Steps that change one node of a disk.
 
 ghost use Rattle.std.specs.Prelude.{◌≡◌, ◌≢◌, ℕ, ◌+◌, ◌-◌, ◌*◌, ◌<◌, ◌≤◌, None, Some, length};
-ghost use Rattle.tree.specs.Held.{IsHeld, files_of};
+ghost use Rattle.tree.specs.Stored.{IsFileSystem, files_of};
 ghost use Rattle.tree.specs.Holding.{let_go};
 ghost use Rattle.tree.specs.Names.{dropped};
 ghost use Rattle.unixmodel.specs.NameCalls.{emptied, fewer_links, more_links};
@@ -24,7 +24,7 @@ pub fn free_place<D: BlockDev>(
     directory: usize,
     k: usize,
 ) -> Result<(), DeviceFault>
-    requires held { IsHeld geometry disk.old.blocks }
+    requires held { IsFileSystem geometry disk.old.blocks }
     requires place { HasPlace (files_of geometry disk.old.blocks) directory k }
     ensures { Turns geometry disk.old disk.new result (erase (files_of geometry disk.old.blocks) directory k) }
 {
@@ -43,7 +43,7 @@ pub fn drop_link<D: BlockDev>(
     geometry: Geometry,
     number: usize,
 ) -> Result<(), DeviceFault>
-    requires held { IsHeld geometry disk.old.blocks }
+    requires held { IsFileSystem geometry disk.old.blocks }
     requires node { slot (files_of geometry disk.old.blocks) number ≢ None }
     ensures { Turns geometry disk.old disk.new result (change_node (files_of geometry disk.old.blocks) number fewer_links) }
 {
@@ -57,7 +57,7 @@ pub fn add_link<D: BlockDev>(
     geometry: Geometry,
     number: usize,
 ) -> Result<(), DeviceFault>
-    requires held { IsHeld geometry disk.old.blocks }
+    requires held { IsFileSystem geometry disk.old.blocks }
     requires node { (node : Node) × (slot (files_of geometry disk.old.blocks) number ≡ Some node) × (links_of node < 65535) }
     ensures { Turns geometry disk.old disk.new result (change_node (files_of geometry disk.old.blocks) number more_links) }
 {
@@ -73,7 +73,7 @@ pub fn drop_links<D: BlockDev>(
     directory: usize,
     is_directory: bool,
 ) -> Result<(), DeviceFault>
-    requires held { IsHeld geometry disk.old.blocks }
+    requires held { IsFileSystem geometry disk.old.blocks }
     requires node { slot (files_of geometry disk.old.blocks) number ≢ None }
     requires directory { slot (files_of geometry disk.old.blocks) directory ≢ None }
     ensures { Turns geometry disk.old disk.new result (dropped (files_of geometry disk.old.blocks) number directory is_directory) }
@@ -92,7 +92,7 @@ pub fn let_go<D: BlockDev>(
     holds: &[u16],
     number: usize,
 ) -> Result<(), DeviceFault>
-    requires held { IsHeld geometry disk.old.blocks }
+    requires held { IsFileSystem geometry disk.old.blocks }
     requires node { slot (files_of geometry disk.old.blocks) number ≢ None }
     requires within { number < length holds.now }
     ensures { Turns geometry disk.old disk.new result (let_go holds.now (files_of geometry disk.old.blocks) number) }
@@ -113,7 +113,7 @@ pub fn release<D: BlockDev>(
     geometry: Geometry,
     number: usize,
 ) -> Result<(), DeviceFault>
-    requires held { IsHeld geometry disk.old.blocks }
+    requires held { IsFileSystem geometry disk.old.blocks }
     requires node { slot (files_of geometry disk.old.blocks) number ≢ None }
     ensures { Turns geometry disk.old disk.new result (clear (files_of geometry disk.old.blocks) number) }
 {
@@ -127,7 +127,7 @@ pub fn empty_file<D: BlockDev>(
     geometry: Geometry,
     number: usize,
 ) -> Result<(), DeviceFault>
-    requires held { IsHeld geometry disk.old.blocks }
+    requires held { IsFileSystem geometry disk.old.blocks }
     requires node { slot (files_of geometry disk.old.blocks) number ≢ None }
     ensures { Turns geometry disk.old disk.new result (change_node (files_of geometry disk.old.blocks) number emptied) }
 {

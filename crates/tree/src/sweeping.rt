@@ -1,7 +1,7 @@
 //! Nodes without links go, once nobody holds any node.
 
 ghost use Rattle.std.specs.Prelude.{[]};
-ghost use Rattle.tree.specs.Held.{IsHeld, files_of};
+ghost use Rattle.tree.specs.Stored.{IsFileSystem, files_of};
 ghost use Rattle.tree.specs.Holding.{let_go, unheld};
 ghost use Rattle.tree.specs.Steps.{Turns};
 
@@ -17,7 +17,7 @@ pub fn release_unlinked<D: BlockDev>(
     geometry: Geometry,
     number: usize,
 ) -> Result<(), DeviceFault>
-    requires { IsHeld geometry disk.old.blocks }
+    requires { IsFileSystem geometry disk.old.blocks }
     ensures { Turns geometry disk.old disk.new result (let_go [] (files_of geometry disk.old.blocks) number) }
 {
     let Some(node) = look(disk, geometry, number)? else {
@@ -31,7 +31,7 @@ pub fn release_unlinked<D: BlockDev>(
 
 /// All nodes without links go with their blocks.
 pub fn release_all<D: BlockDev>(disk: &mut Cache<D>, geometry: Geometry) -> Result<(), DeviceFault>
-    requires { IsHeld geometry disk.old.blocks }
+    requires { IsFileSystem geometry disk.old.blocks }
     ensures { Turns geometry disk.old disk.new result (unheld (files_of geometry disk.old.blocks)) }
 {
     for number in 0..geometry.inodes {

@@ -5,7 +5,7 @@ ghost use Rattle.blockdev.specs.Splice.{part};
 ghost use Rattle.names.specs.Rules.{KeepsTree};
 ghost use Rattle.tree.specs.Answers.{Overflows};
 ghost use Rattle.tree.specs.Entering.{folder_in, linked_in, made_files, made_in};
-ghost use Rattle.tree.specs.Held.{IsHeld, IsStored};
+ghost use Rattle.tree.specs.Stored.{IsFileSystem, IsStored};
 ghost use Rattle.tree.specs.Holding.{holders, let_go, unheld, with_hold, without_hold};
 ghost use Rattle.tree.specs.Lacking.{LacksFolder, LacksLinking, LacksMaking, LacksUnlinking};
 ghost use Rattle.tree.specs.Leaves.{leaf_node};
@@ -59,7 +59,7 @@ impl<D: BlockDev> Model for Tree<D> {
 impl<D: BlockDev> Tree<D> {
     /// The files that a disk of this geometry holds, of which nobody holds any. It is the only call that asks for host memory.
     pub fn new(alloc: Global, disk: Cache<D>, geometry: Geometry) -> Result<Tree<D>, AllocError>
-        requires { IsHeld geometry disk.blocks }
+        requires { IsFileSystem geometry disk.blocks }
         ensures { IfOk result (λ tree. tree ≡ tree_over geometry disk) }
     {
         Ok(Tree {

@@ -1,7 +1,7 @@
 //! Bytes of files are written.
 
 ghost use Rattle.std.specs.Prelude.{◌≡◌, IfOk};
-ghost use Rattle.tree.specs.Held.{IsHeld, files_of};
+ghost use Rattle.tree.specs.Stored.{IsFileSystem, files_of};
 ghost use Rattle.tree.specs.Steps.{Turns};
 ghost use Rattle.tree.specs.Written.{IsFile, count_of, files_after, written};
 ghost use Rattle.unixmodel.specs.Manifest.{data_blocks_of};
@@ -20,7 +20,7 @@ pub fn write<D: BlockDev>(
     at: usize,
     bytes: &[u8],
 ) -> Result<Option<usize>, DeviceFault>
-    requires held { IsHeld geometry disk.old.blocks }
+    requires held { IsFileSystem geometry disk.old.blocks }
     requires file { IsFile (files_of geometry disk.old.blocks) number }
     ensures turns { Turns geometry disk.old disk.new result (files_after (files_of geometry disk.old.blocks) (written (data_blocks_of geometry.size geometry.inodes) (files_of geometry disk.old.blocks) number at bytes.now)) }
     ensures told { IfOk result (λ count. count ≡ count_of (written (data_blocks_of geometry.size geometry.inodes) (files_of geometry disk.old.blocks) number at bytes.now)) }

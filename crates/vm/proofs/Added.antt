@@ -10,7 +10,7 @@ use Rattle.frames.proofs.HolderLemmas.{count_of-append, count_of-first, count_of
 use Rattle.pagetable.specs.Tree.{lookup_of, missing}
 use Rattle.pagetable.specs.Shape.{Adds}
 use Rattle.pagetable.proofs.TreeLemmas.{further-same}
-use Rattle.vm.specs.Dense.{trap_page, frame_at, marks_at, page_at, page_with, pages_below, frames_below, tables_for, tables_below, held, frames_for, IsDense, IsHeld}
+use Rattle.vm.specs.Dense.{trap_page, frame_at, marks_at, page_at, page_with, pages_below, frames_below, tables_for, tables_below, held, frames_for, IsDense, OwnsFrames}
 use Rattle.vm.proofs.DenseLemmas.{count-held, page-held, pages_below-more, table-held}
 use Rattle.vm.proofs.GrowLemmas.{lookup-parts, frame_at-is, marks_at-is, frame_at-same, marks_at-same, held-same, made-tables, missing-next}
 use Rattle.vm.specs.Leaf.{is_open}
@@ -18,7 +18,7 @@ use Rattle.vm.proofs.StepLemmas.{IsNext, beyond-held, pages_below-same}
 
 -- the space before, beside whoever else holds the page's frame
 pub record IsBefore (z : List (List ℕ)) (r t n f marks : ℕ) (q : Frames) : Type 0 where
-  pub space : IsHeld z r t n q
+  pub space : OwnsFrames z r t n q
   pub small : n < 32768
   pub room : (v : ℕ) → count_of v (held z r t n) + count_of v (f ∷ []) ≤ holders_of z q v
   pub absent : count_of f (held z r t n) ≡ 0
@@ -89,7 +89,7 @@ free-none m s v is some = elim (count-cases v (free_of m s)) [
 next-holders : (z k : List (List ℕ)) (r n f marks : ℕ) (q w : Frames) → IsFreeList z q → IsNext z k r n f marks q w → (v : ℕ) → holders_of k w v + count_of v (free_of k w) ≡ holders_of z q v + count_of v (free_of z q)
 next-holders z k r n f marks q w is e v = holders-table z k q w is e.paged.free e.keeps.count e.extra v
 
-pub next-held : (z k : List (List ℕ)) (r t n f marks : ℕ) (q w : Frames) → IsBefore z r t n f marks q → IsNext z k r n f marks q w → IsHeld k r t (suc n) w
+pub next-held : (z k : List (List ℕ)) (r t n f marks : ℕ) (q w : Frames) → IsBefore z r t n f marks q → IsNext z k r n f marks q w → OwnsFrames k r t (suc n) w
 next-held z k r t n f marks q w b e =
     let is = b.space in
     let counts = next-count z k r t n f marks q w b e in
@@ -161,7 +161,7 @@ next-trap z k r t n f marks q w b e =
     next-bytes z k r t n f marks q w b e t (omega (arith, is.held t, count-held z r t n t, one)) (omega (arith, is.once t, count-held z r t n t, one))
 
 -- its tables fit where the count of the next page does
-pub next-fits : (z : List (List ℕ)) (r t n : ℕ) (q : Frames) → IsHeld z r t n q → n < 32768 → frames_for (n + 1) ≤ 1 + frames_for n + free_count z q → missing z r n ≤ free_count z q
+pub next-fits : (z : List (List ℕ)) (r t n : ℕ) (q : Frames) → OwnsFrames z r t n q → n < 32768 → frames_for (n + 1) ≤ 1 + frames_for n + free_count z q → missing z r n ≤ free_count z q
 next-fits z r t n q is small room =
     let more : frames_for (n + 1) ≡ frames_for (suc n) = ap frames_for (add-one n) in
     omega (arith, room, more, missing-next z r t n is.dense small)
@@ -169,8 +169,8 @@ next-fits z r t n q is small room =
 -- ---- a frame gets another holder
 
 -- a space stands where a frame that it holds at a closed page alone, or doesn't hold, gets another holder
-pub share-stands : (m : List (List ℕ)) (r t n f : ℕ) (s q : Frames) → IsHeld m r t n s → IsFreeList m q → ((v : ℕ) → holders_of m q v ≡ holders_of m s v + count_of v (f ∷ [])) → free_of m q ≡ free_of m s
-    → count_of f (tables_below m r n) + count_of f (t ∷ []) ≡ 0 → ((p : ℕ) → p < n → frame_at m r p ≡ f → is_open (marks_at m r p) ≡ false) → IsHeld m r t n q
+pub share-stands : (m : List (List ℕ)) (r t n f : ℕ) (s q : Frames) → OwnsFrames m r t n s → IsFreeList m q → ((v : ℕ) → holders_of m q v ≡ holders_of m s v + count_of v (f ∷ [])) → free_of m q ≡ free_of m s
+    → count_of f (tables_below m r n) + count_of f (t ∷ []) ≡ 0 → ((p : ℕ) → p < n → frame_at m r p ≡ f → is_open (marks_at m r p) ≡ false) → OwnsFrames m r t n q
 share-stands m r t n f s q is after more list no_table closed =
     let further : (v : ℕ) → v ≢ f → further_at q v ≡ further_at s v = λ (v : ℕ) (ne : v ≢ f). omega (arith, more v, count_of-other v f [] ne, holders-free m s is.free v, holders-free m q after v, ap (count_of v) list) in
     record {

@@ -6,14 +6,14 @@ use Rattle.frames.specs.declared.Frames.{Frames}
 use Rattle.frames.specs.Free.{further_at, IsFreeList}
 use Rattle.frames.specs.Holders.{count_of, holders_of, Trades}
 use Rattle.frames.proofs.HolderLemmas.{count_of-append, count_of-first, one-holder, single, Trades-beside}
-use Rattle.pagetable.specs.Tree.{Holds, lookup_of}
+use Rattle.pagetable.specs.Tree.{HasTable, lookup_of}
 use Rattle.pagetable.proofs.Beside.{table_at-same, lookup_of-same}
 use Rattle.vm.specs.declared.Space.{Space}
-use Rattle.vm.specs.Dense.{held, tables_below, frames_below, frame_at, read_below, pages_below, IsDense, IsHeld}
+use Rattle.vm.specs.Dense.{held, tables_below, frames_below, frame_at, read_below, pages_below, IsDense, OwnsFrames}
 use Rattle.vm.proofs.DenseLemmas.{count-held, page-held, table-held}
 use Rattle.vm.proofs.GrowLemmas.{IsDense-same, held-same, frame_at-same, marks_at-same}
 use Rattle.vm.proofs.StepLemmas.{read_below-same, pages_below-same}
-use Rattle.unixmodel.specs.Memory.{Marks}
+use Rattle.unixmodel.specs.Memory.{Perm}
 use Rattle.vm.specs.Leaf.{entry_marks, is_open, right_marks}
 use Rattle.vm.specs.Space.{IsSpace, holds, pages_in, IsUntouched}
 
@@ -30,14 +30,14 @@ alone-stays m k s n old new f is after t room alone =
 pub record StaysMapped (m k : List (List ℕ)) (r t n : ℕ) : Type 0 where
   pub tables : tables_below k r n ≡ tables_below m r n
   pub frames : frames_below k r n ≡ frames_below m r n
-  pub reads : (read : ℕ → Marks) → read_below read k r n ≡ read_below read m r n
+  pub reads : (read : ℕ → Perm) → read_below read k r n ≡ read_below read m r n
   pub pages : pages_below k r n ≡ pages_below m r n
   pub trap : frame_of k t ≡ frame_of m t
   pub looks : (p : ℕ) → lookup_of k r p ≡ lookup_of m r p
 
 pub held-stays : (m k : List (List ℕ)) (r t n : ℕ) → IsDense m r t n → ((f : ℕ) → 0 < count_of f (held m r t n) → frame_of k f ≡ frame_of m f) → StaysMapped m k r t n
 held-stays m k r t n is same =
-    let tables : (v : ℕ) → Holds m r v → frame_of k v ≡ frame_of m v = λ (v : ℕ) (h : Holds m r v). same v (omega (arith, count-held m r t n v, table-held m r t n v is h)) in
+    let tables : (v : ℕ) → HasTable m r v → frame_of k v ≡ frame_of m v = λ (v : ℕ) (h : HasTable m r v). same v (omega (arith, count-held m r t n v, table-held m r t n v is h)) in
     let both = held-same m k r t n is (λ p h. lookup_of-same m k r tables p) (λ x u nx h. table_at-same m k r tables x nx ∙ h) in
     record {
       tables = both.0;
@@ -62,11 +62,11 @@ Trades-untouched m k s n old new b is room t =
 
 -- a space of c pages stands beside a trade of others
 pub record Besides (m k : List (List ℕ)) (n : Frames) (r q c : ℕ) : Type 0 where
-  pub space : IsHeld k r q c n
+  pub space : OwnsFrames k r q c n
   pub same : held k r q c ≡ held m r q c
   pub stays : StaysMapped m k r q c
 
-pub Trades-held : (m k : List (List ℕ)) (s n : Frames) (old new : List ℕ) (r q c : ℕ) → IsHeld m r q c s → ((f : ℕ) → count_of f old + count_of f (held m r q c) ≤ holders_of m s f) → Trades m k s n old new → IsFreeList k n
+pub Trades-held : (m k : List (List ℕ)) (s n : Frames) (old new : List ℕ) (r q c : ℕ) → OwnsFrames m r q c s → ((f : ℕ) → count_of f old + count_of f (held m r q c) ≤ holders_of m s f) → Trades m k s n old new → IsFreeList k n
     → Besides m k n r q c
 Trades-held m k s n old new r q c is room t free =
     let same = Trades-beside m k s n old new (held m r q c) room t in

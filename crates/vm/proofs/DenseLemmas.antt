@@ -4,7 +4,7 @@ use Rattle.std.specs.Prelude.{if◌then◌else◌}
 use Rattle.std.proofs.lemmas.Bool.{cases_eq, cases_lt, ne_eqb, lt-ltb, le-ltb}
 use Rattle.frames.specs.Holders.{one_if, count_of}
 use Rattle.frames.proofs.HolderLemmas.{count_of-append, count_of-first}
-use Rattle.pagetable.specs.Tree.{Node, Root, Mid, Low, mid_node, low_node, table_at, lookup_of, Holds}
+use Rattle.pagetable.specs.Tree.{Node, Root, Mid, Low, mid_node, low_node, table_at, lookup_of, HasTable}
 use Rattle.pagetable.proofs.TreeLemmas.{root_at}
 use Rattle.pagetable.specs.Shape.{table_of, IsUsed}
 use Rattle.pagetable.proofs.ShapeLemmas.{table_of-some}
@@ -150,7 +150,7 @@ cases_root (Mid a) = inr (λ e. cc)
 cases_root (Low a b) = inr (λ e. cc)
 
 -- each table is counted
-pub table-held : (m : List (List ℕ)) (r t n v : ℕ) → IsDense m r t n → Holds m r v → 0 < count_of v (tables_below m r n)
+pub table-held : (m : List (List ℕ)) (r t n v : ℕ) → IsDense m r t n → HasTable m r v → 0 < count_of v (tables_below m r n)
 table-held m r t n v is h = elim (cases_root h.place) [
   | inl e ↦
       let same : Some r ≡ Some v = sym (root_at m r) ∙ ap (table_at m r) (sym e) ∙ h.at_place in

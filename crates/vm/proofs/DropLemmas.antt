@@ -10,14 +10,14 @@ use Rattle.frames.proofs.HolderLemmas.{count_of-first, among-none, held-inside, 
 use Rattle.pagetable.specs.Tree.{lookup_of, IsPaged, Keeps}
 use Rattle.pagetable.specs.Shape.{IsTidy, Adds, Removes}
 use Rattle.pagetable.proofs.LookupLemmas.{lookup-sound}
-use Rattle.vm.specs.Dense.{trap_page, frame_at, marks_at, read_below, pages_below, frames_below, tables_for, tables_below, held, IsDense, IsHeld}
+use Rattle.vm.specs.Dense.{trap_page, frame_at, marks_at, read_below, pages_below, frames_below, tables_for, tables_below, held, IsDense, OwnsFrames}
 use Rattle.vm.proofs.Added.{IsAdded, IsCounted, added-count, added-same}
 use Rattle.vm.proofs.Beside.{Besides, Trades-held}
 use Rattle.vm.proofs.DenseLemmas.{count-held, page-held, table-held}
 use Rattle.vm.proofs.GrowLemmas.{frame_at-same, lookup-parts, marks_at-same}
 use Rattle.pagetable.proofs.TreeLemmas.{further-same}
 use Rattle.vm.proofs.StepLemmas.{held-not_free, beyond-held, read_below-same, pages_below-same}
-use Rattle.unixmodel.specs.Memory.{Marks}
+use Rattle.unixmodel.specs.Memory.{Perm}
 use Rattle.vm.specs.Leaf.{is_open}
 
 -- page n is unmapped, and then its frame f is given back
@@ -43,7 +43,7 @@ pub record IsGiven (j k : List (List ℕ)) (f : ℕ) (a w : Frames) : Type 0 whe
   pub valid : IsFreeList k w
   pub others : SameBut (f ∷ []) j k
 
-pub IsDense-unmapped : (m j : List (List ℕ)) (r t n f : ℕ) (s a : Frames) → IsHeld m r t (suc n) s → IsUnmapped m j r n f s a → IsDense j r t n
+pub IsDense-unmapped : (m j : List (List ℕ)) (r t n f : ℕ) (s a : Frames) → OwnsFrames m r t (suc n) s → IsUnmapped m j r n f s a → IsDense j r t n
 IsDense-unmapped m j r t n f s a is u = record {
   tree = u.paged.tree;
   tidy = u.tidy;
@@ -58,7 +58,7 @@ IsDense-unmapped m j r t n f s a is u = record {
 }
 
 -- the other way round the page comes
-added : (m j : List (List ℕ)) (r t n f : ℕ) (s a : Frames) → IsHeld m r t (suc n) s → IsUnmapped m j r n f s a → IsAdded j m r t n f a s
+added : (m j : List (List ℕ)) (r t n f : ℕ) (s a : Frames) → OwnsFrames m r t (suc n) s → IsUnmapped m j r n f s a → IsAdded j m r t n f a s
 added m j r t n f s a is u = record {
   dense = IsDense-unmapped m j r t n f s a is u;
   small = omega (arith, is.dense.small);
@@ -68,25 +68,25 @@ added m j r t n f s a is u = record {
 }
 
 -- what was held: the page's frame, the tables that went, and what is held now
-count-unmapped : (m j : List (List ℕ)) (r t n f : ℕ) (s a : Frames) → IsHeld m r t (suc n) s → IsUnmapped m j r n f s a → (v : ℕ) → IsCounted j m r t n f a s v
+count-unmapped : (m j : List (List ℕ)) (r t n f : ℕ) (s a : Frames) → OwnsFrames m r t (suc n) s → IsUnmapped m j r n f s a → (v : ℕ) → IsCounted j m r t n f a s v
 count-unmapped m j r t n f s a is u = added-count j m r t n f a s (added m j r t n f s a is u)
 
 -- the frame may be given back
-pub give-inside : (m j : List (List ℕ)) (r t n f : ℕ) (s a : Frames) → IsHeld m r t (suc n) s → IsUnmapped m j r n f s a → f < length j
+pub give-inside : (m j : List (List ℕ)) (r t n f : ℕ) (s a : Frames) → OwnsFrames m r t (suc n) s → IsUnmapped m j r n f s a → f < length j
 give-inside m j r t n f s a is u =
     let found = lookup-sound m r n (frame_at m r n) (marks_at m r n) is.dense.tree (is.dense.pages n (omega arith)) in
     omega (arith, found.0, u.was, u.keeps.count)
 
-pub give-held : (m j : List (List ℕ)) (r t n f : ℕ) (s a : Frames) → IsHeld m r t (suc n) s → IsUnmapped m j r n f s a → among f (free_of j a) ≡ false
+pub give-held : (m j : List (List ℕ)) (r t n f : ℕ) (s a : Frames) → OwnsFrames m r t (suc n) s → IsUnmapped m j r n f s a → among f (free_of j a) ≡ false
 give-held m j r t n f s a is u = among-none f (free_of j a) (omega (arith, count-unmapped m j r t n f s a is u f, held-not_free m r t (suc n) s is f, count_of-first f f [] refl))
 
 -- ---- the space without the page, whose frame it still holds
 
-holders-unmapped : (m j : List (List ℕ)) (r t n f : ℕ) (s a : Frames) → IsHeld m r t (suc n) s → IsUnmapped m j r n f s a → (v : ℕ) → holders_of j a v + count_of v (tables_for m r n) ≡ holders_of m s v
+holders-unmapped : (m j : List (List ℕ)) (r t n f : ℕ) (s a : Frames) → OwnsFrames m r t (suc n) s → IsUnmapped m j r n f s a → (v : ℕ) → holders_of j a v + count_of v (tables_for m r n) ≡ holders_of m s v
 holders-unmapped m j r t n f s a is u v = omega (arith, holders-table m j s a is.free u.paged.free u.keeps.count u.extra v, count-unmapped m j r t n f s a is u v)
 
-IsHeld-unmapped : (m j : List (List ℕ)) (r t n f : ℕ) (s a : Frames) → IsHeld m r t (suc n) s → IsUnmapped m j r n f s a → IsHeld j r t n a
-IsHeld-unmapped m j r t n f s a is u = record {
+OwnsFrames-unmapped : (m j : List (List ℕ)) (r t n f : ℕ) (s a : Frames) → OwnsFrames m r t (suc n) s → IsUnmapped m j r n f s a → OwnsFrames j r t n a
+OwnsFrames-unmapped m j r t n f s a is u = record {
   dense = IsDense-unmapped m j r t n f s a is u;
   once = λ v. omega (arith, is.once v, count-unmapped m j r t n f s a is u v);
   free = u.paged.free;
@@ -98,10 +98,10 @@ IsHeld-unmapped m j r t n f s a is u = record {
 }
 
 -- a frame that has a holder and was no table of the space keeps its bytes
-bytes-unmapped : (m j : List (List ℕ)) (r t n f : ℕ) (s a : Frames) → IsHeld m r t (suc n) s → IsUnmapped m j r n f s a → (v : ℕ) → 0 < holders_of m s v → count_of v (tables_below m r (suc n)) ≡ 0 → frame_of j v ≡ frame_of m v
+bytes-unmapped : (m j : List (List ℕ)) (r t n f : ℕ) (s a : Frames) → OwnsFrames m r t (suc n) s → IsUnmapped m j r n f s a → (v : ℕ) → 0 < holders_of m s v → count_of v (tables_below m r (suc n)) ≡ 0 → frame_of j v ≡ frame_of m v
 bytes-unmapped m j r t n f s a is u v some none = u.keeps.others v (λ h. omega (arith, none, table-held m r t (suc n) v is.dense h)) (held-inside m s v is.free some).1
 
-stays-unmapped : (m j : List (List ℕ)) (r t n f : ℕ) (s a : Frames) → IsHeld m r t (suc n) s → IsUnmapped m j r n f s a → (v : ℕ) → 0 < count_of v (frames_below m r n) + count_of v (t ∷ []) → frame_of j v ≡ frame_of m v
+stays-unmapped : (m j : List (List ℕ)) (r t n f : ℕ) (s a : Frames) → OwnsFrames m r t (suc n) s → IsUnmapped m j r n f s a → (v : ℕ) → 0 < count_of v (frames_below m r n) + count_of v (t ∷ []) → frame_of j v ≡ frame_of m v
 stays-unmapped m j r t n f s a is u v some =
     let two = added-same j m r t n f a s (added m j r t n f s a is u) in
     let more : 0 < count_of v (held j r t n) = omega (arith, some, count-held j r t n v, ap (count_of v) two.1) in
@@ -110,25 +110,25 @@ stays-unmapped m j r t n f s a is u v some =
 
 -- ---- and then it goes
 
-releases : (m j k : List (List ℕ)) (r t n f : ℕ) (s a w : Frames) → IsHeld m r t (suc n) s → IsUnmapped m j r n f s a → IsReleased j k f a w → Trades j k a w (f ∷ []) []
+releases : (m j k : List (List ℕ)) (r t n f : ℕ) (s a w : Frames) → OwnsFrames m r t (suc n) s → IsUnmapped m j r n f s a → IsReleased j k f a w → Trades j k a w (f ∷ []) []
 releases m j k r t n f s a w is u g = Trades-give j k a w f u.paged.free g.holders g.others g.stays
     (omega (arith, is.held f, count-unmapped m j r t n f s a is u f, holders-unmapped m j r t n f s a is u f, count_of-first f f [] refl))
 
-beside-drop : (m j k : List (List ℕ)) (r t n f : ℕ) (s a w : Frames) → IsHeld m r t (suc n) s → IsUnmapped m j r n f s a → IsReleased j k f a w → Besides j k w r t n
+beside-drop : (m j k : List (List ℕ)) (r t n f : ℕ) (s a w : Frames) → OwnsFrames m r t (suc n) s → IsUnmapped m j r n f s a → IsReleased j k f a w → Besides j k w r t n
 beside-drop m j k r t n f s a w is u g =
-    Trades-held j k a w (f ∷ []) [] r t n (IsHeld-unmapped m j r t n f s a is u)
+    Trades-held j k a w (f ∷ []) [] r t n (OwnsFrames-unmapped m j r t n f s a is u)
     (λ v. omega (arith, is.held v, count-unmapped m j r t n f s a is u v, holders-unmapped m j r t n f s a is u v))
     (releases m j k r t n f s a w is u g) g.valid
 
 -- the space has a page less
 pub record IsDropped (m k : List (List ℕ)) (r t n : ℕ) (s w : Frames) : Type 0 where
-  pub space : IsHeld k r t n w
+  pub space : OwnsFrames k r t n w
   pub pages : (b : ℕ) → b ≤ n → pages_below k r b ≡ pages_below m r b
-  pub mapping : (read : ℕ → Marks) (b : ℕ) → b ≤ n → read_below read k r b ≡ read_below read m r b
+  pub mapping : (read : ℕ → Perm) (b : ℕ) → b ≤ n → read_below read k r b ≡ read_below read m r b
   pub trap : frame_of k t ≡ frame_of m t
   pub trades : Trades m k s w (held m r t (n + 1)) (held k r t n)
 
-pub dropped : (m j k : List (List ℕ)) (r t n f : ℕ) (s a w : Frames) → IsHeld m r t (suc n) s → IsUnmapped m j r n f s a → IsReleased j k f a w → IsDropped m k r t n s w
+pub dropped : (m j k : List (List ℕ)) (r t n f : ℕ) (s a w : Frames) → OwnsFrames m r t (suc n) s → IsUnmapped m j r n f s a → IsReleased j k f a w → IsDropped m k r t n s w
 dropped m j k r t n f s a w is u g =
     let beside = beside-drop m j k r t n f s a w is u g in
     let stays = beside.stays in

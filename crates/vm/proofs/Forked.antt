@@ -6,11 +6,11 @@ use Rattle.frames.specs.declared.Frames.{Frames}
 use Rattle.frames.specs.Free.{free_of, free_count, IsFreeList}
 use Rattle.frames.specs.Holders.{count_of, holders_of, Trades}
 use Rattle.frames.proofs.HolderLemmas.{count_of-append, count_of-other, held-inside, not-free-held, Trades-none, Trades-twice, Trades-lengths}
-use Rattle.unixmodel.specs.Memory.{Page, Marks}
+use Rattle.unixmodel.specs.Memory.{Page, Perm}
 use Rattle.vm.proofs.GrowLemmas.{frame_at-is, frame_at-same, missing-next}
 use Rattle.vm.proofs.PageLemmas.{get_or-pages}
 use Rattle.vm.specs.declared.Space.{Space}
-use Rattle.vm.specs.Dense.{frame_at, marks_at, page_at, pages_below, frames_below, tables_below, held, frames_for, IsHeld}
+use Rattle.vm.specs.Dense.{frame_at, marks_at, page_at, pages_below, frames_below, tables_below, held, frames_for, OwnsFrames}
 use Rattle.vm.proofs.DenseLemmas.{count-held, frames_for-more, page-held, pages_below-more, pages_below-zero, length-held}
 use Rattle.vm.proofs.Added.{IsBefore, next-held, next-pages, next-trades, next-trap, share-stands}
 use Rattle.vm.specs.Leaf.{is_open, right_marks}
@@ -36,7 +36,7 @@ Trades-more m s n f all more there = record {
 -- ---- the frame of the page
 
 -- a frame of a page stands there once, and is no table and no trap frame
-page-once : (m : List (List ℕ)) (r t n p f : ℕ) (s : Frames) → IsHeld m r t n s → p < n → frame_at m r p ≡ f → (count_of f (tables_below m r n) + count_of f (t ∷ []) ≡ 0) × (count_of f (frames_below m r n) ≡ 1) × (count_of f (held m r t n) ≡ 1)
+page-once : (m : List (List ℕ)) (r t n p f : ℕ) (s : Frames) → OwnsFrames m r t n s → p < n → frame_at m r p ≡ f → (count_of f (tables_below m r n) + count_of f (t ∷ []) ≡ 0) × (count_of f (frames_below m r n) ≡ 1) × (count_of f (held m r t n) ≡ 1)
 page-once m r t n p f s is low was =
     let at : 0 < count_of f (frames_below m r n) = omega (arith, page-held m r n p low, ap (λ x. count_of x (frames_below m r n)) was) in
     (omega (arith, is.once f, count-held m r t n f, at), omega (arith, is.once f, count-held m r t n f, at), omega (arith, is.once f, count-held m r t n f, at))
@@ -115,7 +115,7 @@ part-before k x c n f leaf s q is low was marks closed after more list =
       },
     )
 
-abbrev page_as : List ℕ → Marks → Page
+abbrev page_as : List ℕ → Perm → Page
 page_as bs g = record { bytes = bs; marks = g }
 
 page-of : (m k : List (List ℕ)) (x : Space) (n : ℕ) → n < pages_in x.size → pages_of k x ≡ pages_of m x → page_at k x.root.0 n ≡ page_at m x.root.0 n
@@ -172,7 +172,7 @@ part-more m k l x c n f leaf s q w is low was e after more list next =
       registers = stays.trap ∙ e.same.frames.registers;
       frames = λ p h. frame_at-same k l x.root.0 p (stays.looks p) ∙ e.frames p h;
       child = next-pages k l r t n f leaf q w b next
-          ∙ ap (λ (y : Page). pages_below k r n ++ (y ∷ [])) (ap (λ (g : Marks). page_as (frame_of k f) g) e.right ∙ ap (λ (bs : List ℕ). page_as bs (right_marks (marks_at m x.root.0 n))) (bytes m k x n f leaf s low e))
+          ∙ ap (λ (y : Page). pages_below k r n ++ (y ∷ [])) (ap (λ (g : Perm). page_as (frame_of k f) g) e.right ∙ ap (λ (bs : List ℕ). page_as bs (right_marks (marks_at m x.root.0 n))) (bytes m k x n f leaf s low e))
           ∙ ap (λ (l : List Page). l ++ (page_at m x.root.0 n ∷ [])) (part.2);
       trap = next-trap k l r t n f leaf q w b next ∙ part.3;
       trades = all;
@@ -259,13 +259,13 @@ shared-frames m k x c p s w is so low =
 -- ---- a space that is made, and all pages
 
 -- an empty space beside the one that it will share with
-pub part-start : (m k : List (List ℕ)) (x c : Space) (s q : Frames) → IsSpace m x s → IsHeld k c.root.0 c.trap.0 0 q → Trades m k s q [] (held k c.root.0 c.trap.0 0) → IsPart k x c 0 q
+pub part-start : (m k : List (List ℕ)) (x c : Space) (s q : Frames) → IsSpace m x s → OwnsFrames k c.root.0 c.trap.0 0 q → Trades m k s q [] (held k c.root.0 c.trap.0 0) → IsPart k x c 0 q
 part-start m k x c s q is new t =
     let beside = Trades-held m k s q [] (held k c.root.0 c.trap.0 0) x.root.0 x.trap.0 (pages_in x.size) is (λ v. omega (arith, is.held v)) t new.free in
     record { parent = beside.space; child = new; room = λ v. omega (arith, t.moved v, is.held v, ap (count_of v) beside.same); shared = λ p h. absurd (omega (arith, h)) }
 
 -- the pages fit, where the count of the whole space does
-pub part-room : (m k : List (List ℕ)) (x c : Space) (s q : Frames) → IsSpace m x s → IsHeld k c.root.0 c.trap.0 0 q → Trades m k s q [] (held k c.root.0 c.trap.0 0) → frames_for (pages_in x.size) ≤ free_count m s → frames_for (pages_in x.size) ≤ frames_for 0 + free_count k q
+pub part-room : (m k : List (List ℕ)) (x c : Space) (s q : Frames) → IsSpace m x s → OwnsFrames k c.root.0 c.trap.0 0 q → Trades m k s q [] (held k c.root.0 c.trap.0 0) → frames_for (pages_in x.size) ≤ free_count m s → frames_for (pages_in x.size) ≤ frames_for 0 + free_count k q
 part-room m k x c s q is new t room = omega (arith, room, length-held k c.root.0 c.trap.0 0, Trades-lengths m k s q [] (held k c.root.0 c.trap.0 0) is.free new.free (λ v. omega arith) t)
 
 -- a frame of a page gets no holder by a new space
@@ -280,7 +280,7 @@ same-holders m k x c p s q is t low =
 
 -- the space is forked: k has the new space, and then its pages
 pub record IsForked (m l : List (List ℕ)) (x c : Space) (s w : Frames) : Type 0 where
-  pub child : IsHeld l c.root.0 c.trap.0 (pages_in x.size) w
+  pub child : OwnsFrames l c.root.0 c.trap.0 (pages_in x.size) w
   pub parent : IsSpace l x w
   pub pages : pages_below l c.root.0 (pages_in x.size) ≡ pages_of m x
   pub kept : pages_of l x ≡ pages_of m x
@@ -289,7 +289,7 @@ pub record IsForked (m l : List (List ℕ)) (x c : Space) (s w : Frames) : Type 
   pub holders : (p : ℕ) → p < pages_in x.size → holders_of l w (frame_at m x.root.0 p) ≡ holders_of m s (frame_at m x.root.0 p) + 1
   pub trades : Trades m l s w (holds m x) (holds l x ++ held l c.root.0 c.trap.0 (pages_in x.size))
 
-pub forked : (m k l : List (List ℕ)) (x c : Space) (s q w : Frames) → IsSpace m x s → IsHeld k c.root.0 c.trap.0 0 q → Trades m k s q [] (held k c.root.0 c.trap.0 0) → IsSoFar k l x c (pages_in x.size) q w → IsForked m l x c s w
+pub forked : (m k l : List (List ℕ)) (x c : Space) (s q w : Frames) → IsSpace m x s → OwnsFrames k c.root.0 c.trap.0 0 q → Trades m k s q [] (held k c.root.0 c.trap.0 0) → IsSoFar k l x c (pages_in x.size) q w → IsForked m l x c s w
 forked m k l x c s q w is new t so =
     let beside = Trades-held m k s q [] (held k c.root.0 c.trap.0 0) x.root.0 x.trap.0 (pages_in x.size) is (λ v. omega (arith, is.held v)) t new.free in
     let part = part-start m k x c s q is new t in

@@ -2,7 +2,7 @@
 use Rattle.std.proofs.Common.{◌≡◌, ◌≢◌, ℕ, zero, suc, ◌+◌, ◌-◌, ◌/◌, ◌%◌, ◌<◌, ◌⊎◌, inl, inr, List, [], ◌∷◌, length, Option, Some, None, unwrap_or, refl, sym, ap, ◌∙◌, arith, eq-eqb}
 use Rattle.std.proofs.lemmas.Bool.{cases_eq, ne_eqb}
 use Rattle.ram.specs.Memory.{frame_of}
-use Rattle.pagetable.specs.Tree.{Node, Mid, Low, IsNode, leaf_at, mid_node, low_node, table_at, lookup_of, Holds, missing}
+use Rattle.pagetable.specs.Tree.{Node, Mid, Low, IsNode, leaf_at, mid_node, low_node, table_at, lookup_of, HasTable, missing}
 use Rattle.pagetable.proofs.TreeLemmas.{low_is_node, mid_is_node, no_low}
 use Rattle.pagetable.proofs.Beside.{IsTree-same, table_at-same, lookup_of-same}
 use Rattle.pagetable.specs.Shape.{table_of, IsTidy, made}
@@ -12,7 +12,7 @@ use Rattle.vm.proofs.DenseLemmas.{mapped-cases, low-0, mid-0, length-tables_for,
 
 -- ---- what stays where the frames of the tables stay
 
-pub IsTidy-same : (m k : List (List ℕ)) (r : ℕ) → IsTidy m r → ((v : ℕ) → Holds m r v → frame_of k v ≡ frame_of m v) → IsTidy k r
+pub IsTidy-same : (m k : List (List ℕ)) (r : ℕ) → IsTidy m r → ((v : ℕ) → HasTable m r v → frame_of k v ≡ frame_of m v) → IsTidy k r
 IsTidy-same m k r is same = record {
   used = λ x t nx nr h.
       let u = is.used x t nx nr (sym (table_at-same m k r same x nx) ∙ h) in
@@ -35,7 +35,7 @@ frame_at-same m k r p e = ap (λ (o : Option (ℕ × ℕ)). (unwrap_or o (0, 0))
 pub marks_at-same : (m k : List (List ℕ)) (r p : ℕ) → lookup_of k r p ≡ lookup_of m r p → marks_at k r p ≡ marks_at m r p
 marks_at-same m k r p e = ap (λ (o : Option (ℕ × ℕ)). (unwrap_or o (0, 0)).1) e
 
-pub IsDense-same : (m k : List (List ℕ)) (r t n : ℕ) → IsDense m r t n → length k ≡ length m → ((v : ℕ) → Holds m r v → frame_of k v ≡ frame_of m v) → IsDense k r t n
+pub IsDense-same : (m k : List (List ℕ)) (r t n : ℕ) → IsDense m r t n → length k ≡ length m → ((v : ℕ) → HasTable m r v → frame_of k v ≡ frame_of m v) → IsDense k r t n
 IsDense-same m k r t n is len same =
     let looks = lookup_of-same m k r same in
     record {

@@ -4,14 +4,14 @@ use Rattle.std.specs.Prelude.{if◌then◌else◌}
 use Rattle.std.proofs.lemmas.Bool.{and_parts}
 use Rattle.unixmodel.specs.declared.trap.Access.{Access}
 use Rattle.unixmodel.specs.declared.trap.Access.TheVariants.{Fetch, Load, Store}
-use Rattle.unixmodel.specs.Memory.{Marks, Page, permits, zeros, zero_page}
+use Rattle.unixmodel.specs.Memory.{Perm, Page, permits, zeros, zero_page}
 use Rattle.unixmodel.specs.Translation.{leaf_allows}
 use Rattle.pagetable.specs.Marks.{leaf_marks}
 use Rattle.pagetable.specs.Tree.{IsLeafMarks}
 use Rattle.vm.specs.Dense.{trap_marks, page_with}
 use Rattle.vm.specs.Leaf.{IsUserLeaf, entry_marks, is_open, right_marks, user_leaf}
 
-abbrev marks_by : Bool → Bool → Bool → Marks
+abbrev marks_by : Bool → Bool → Bool → Perm
 marks_by w x u = record { writable = w; executable = x; user = u }
 
 -- a statement for both values of a bit
@@ -27,23 +27,23 @@ four : (P : Bool → Bool → Bool → Bool → Type 0) → Both (λ w. Both (λ
 four P h w x u = both (P w x u) (both (λ u. Both (P w x u)) (both (λ x. Both (λ u. Both (P w x u))) (both (λ w. Both (λ x. Both (λ u. Both (P w x u)))) h w) x) u)
 
 -- what a program may do is read back off the leaf
-pub right-leaf : (marks : Marks) (wide : Bool) → right_marks (user_leaf marks wide) ≡ marks
+pub right-leaf : (marks : Perm) (wide : Bool) → right_marks (user_leaf marks wide) ≡ marks
 right-leaf marks = four (λ w x u wide. right_marks (user_leaf (marks_by w x u) wide) ≡ marks_by w x u) (search rules) marks.writable marks.executable marks.user
 
-pub leaf-user : (marks : Marks) (wide : Bool) → IsUserLeaf (user_leaf marks wide)
+pub leaf-user : (marks : Perm) (wide : Bool) → IsUserLeaf (user_leaf marks wide)
 leaf-user marks = four (λ w x u wide. IsUserLeaf (user_leaf (marks_by w x u) wide)) (search rules) marks.writable marks.executable marks.user
 
-pub leaf-valid : (marks : Marks) (wide : Bool) → IsLeafMarks (user_leaf marks wide)
+pub leaf-valid : (marks : Perm) (wide : Bool) → IsLeafMarks (user_leaf marks wide)
 leaf-valid marks = four (λ w x u wide. IsLeafMarks (user_leaf (marks_by w x u) wide)) (search rules) marks.writable marks.executable marks.user
 
-open-each : (marks : Marks) (wide : Bool) → is_open (user_leaf marks wide) ≡ (marks.writable && wide)
+open-each : (marks : Perm) (wide : Bool) → is_open (user_leaf marks wide) ≡ (marks.writable && wide)
 open-each marks = four (λ w x u wide. is_open (user_leaf (marks_by w x u) wide) ≡ (w && wide)) (search rules) marks.writable marks.executable marks.user
 
 -- a leaf is open where it is made so and the page is writable by right
-pub leaf-open : (marks : Marks) → is_open (user_leaf marks true) ≡ marks.writable
+pub leaf-open : (marks : Perm) → is_open (user_leaf marks true) ≡ marks.writable
 leaf-open marks = open-each marks true ∙ both (λ w. (w && true) ≡ w) (refl, refl) marks.writable
 
-pub leaf-closed : (marks : Marks) → is_open (user_leaf marks false) ≡ false
+pub leaf-closed : (marks : Perm) → is_open (user_leaf marks false) ≡ false
 leaf-closed marks = open-each marks false ∙ both (λ w. (w && false) ≡ false) (refl, refl) marks.writable
 
 -- the trap frame's page is one that programs may not use
@@ -64,13 +64,13 @@ leaf-shut true true x u leaf e is = omega (arith, is)
 leaf-shut false false x u leaf e is = omega (arith, is)
 leaf-shut _ _ x u leaf e is = absurd cc
 
-abbrev page_of : List ℕ → Marks → Page
+abbrev page_of : List ℕ → Perm → Page
 page_of bytes marks = record { bytes = bytes; marks = marks }
 
 -- a page of zeros
-pub page-zero : (marks : Marks) → page_with (replicate 4096 0) (user_leaf marks true) ≡ zero_page marks
+pub page-zero : (marks : Perm) → page_with (replicate 4096 0) (user_leaf marks true) ≡ zero_page marks
 unfolding zeros
-page-zero marks = ap (λ (x : Marks). page_of (replicate 4096 0) x) (right-leaf marks true)
+page-zero marks = ap (λ (x : Perm). page_of (replicate 4096 0) x) (right-leaf marks true)
 
 -- ---- what the walk lets through
 

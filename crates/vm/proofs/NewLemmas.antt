@@ -6,13 +6,13 @@ use Rattle.frames.specs.Free.{among, free_of, free_count, extra_of, IsFreeList}
 use Rattle.frames.proofs.FreeLemmas.{among_first, among_first_not, further-free}
 use Rattle.frames.specs.Holders.{count_of, Trades}
 use Rattle.frames.proofs.HolderLemmas.{count_of-first, among-none, none-among, count-cases, free-holders, holders-table, held-inside, distinct-count}
-use Rattle.pagetable.specs.Tree.{Root, mid_node, low_node, table_at, IsPaged, Holds, missing}
+use Rattle.pagetable.specs.Tree.{Root, mid_node, low_node, table_at, IsPaged, HasTable, missing}
 use Rattle.pagetable.proofs.TreeLemmas.{free-first, free_count-taken, further-same, mid_is_node, root_at, missing_two}
 use Rattle.pagetable.proofs.Beside.{IsTree-same, table_at-same, lookup_of-same}
 use Rattle.pagetable.specs.Shape.{table_of, IsEmpty}
 use Rattle.pagetable.proofs.ShapeLemmas.{made-two}
 use Rattle.pagetable.proofs.EmptyLemmas.{only-root}
-use Rattle.vm.specs.Dense.{trap_page, trap_marks, frames_below, tables_below, held, IsHeld}
+use Rattle.vm.specs.Dense.{trap_page, trap_marks, frames_below, tables_below, held, OwnsFrames}
 use Rattle.vm.proofs.DenseLemmas.{count-held}
 use Rattle.vm.proofs.StepLemmas.{IsTaken, IsNext, free-after}
 
@@ -32,7 +32,7 @@ start-apart m j z s a q r t is e =
     let at : among t (free_of j a) ≡ true = ap (among t) is.taken.taken ∙ among_first t (free_of j q) in
     cc (ap (λ x. among x (free_of j a)) e, out, at)
 
-start-same : (m j z : List (List ℕ)) (s a q : Frames) (r t : ℕ) → IsStart m j z s a q r t → (v : ℕ) → Holds j r v → frame_of z v ≡ frame_of j v
+start-same : (m j z : List (List ℕ)) (s a q : Frames) (r t : ℕ) → IsStart m j z s a q r t → (v : ℕ) → HasTable j r v → frame_of z v ≡ frame_of j v
 start-same m j z s a q r t is v h = is.taken.others v (λ e. start-apart m j z s a q r t is (sym e ∙ (only-root j r is.empty h.place v h.is_node h.at_place).1))
 
 pub start-empty : (m j z : List (List ℕ)) (s a q : Frames) (r t : ℕ) → IsStart m j z s a q r t → IsEmpty z r
@@ -74,7 +74,7 @@ count-start m j z k s a q w r t is next g =
 
 -- the space stands, and traded nothing for its frames
 pub record IsMade (m z k : List (List ℕ)) (r t : ℕ) (s w : Frames) : Type 0 where
-  pub space : IsHeld k r t 0 w
+  pub space : OwnsFrames k r t 0 w
   pub registers : frame_of k t ≡ frame_of z t
   pub trades : Trades m k s w [] (held k r t 0)
 

@@ -8,12 +8,12 @@ use Rattle.frames.specs.Free.{among, free_of, further_at, IsFreeList}
 use Rattle.frames.proofs.FreeLemmas.{among_first, among_first_not, free_of-same, further-free, IsFreeList-same}
 use Rattle.frames.specs.Holders.{one_if, count_of, holders_of, Trades}
 use Rattle.frames.proofs.HolderLemmas.{one_if-le, count_of-first, count_of-other, held-inside, not-free-held, holders-free, holders-table, free-holders, Trades-none, Trades-twice}
-use Rattle.pagetable.specs.Tree.{IsLeafMarks, Node, IsNode, mid_node, low_node, table_at, lookup_of, IsPaged, Holds, Keeps, Inserts}
+use Rattle.pagetable.specs.Tree.{IsLeafMarks, Node, IsNode, mid_node, low_node, table_at, lookup_of, IsPaged, HasTable, Keeps, Inserts}
 use Rattle.pagetable.proofs.TreeLemmas.{low_is_node, mid_is_node, free-first}
 use Rattle.pagetable.proofs.LookupLemmas.{lookup-sound}
 use Rattle.pagetable.proofs.Beside.{IsTree-same, table_at-same, lookup_of-same}
 use Rattle.pagetable.specs.Shape.{IsTidy}
-use Rattle.vm.specs.Dense.{trap_page, frame_at, marks_at, page_at, page_with, pages_below, frames_below, tables_below, held, IsDense, IsHeld}
+use Rattle.vm.specs.Dense.{trap_page, frame_at, marks_at, page_at, page_with, pages_below, frames_below, tables_below, held, IsDense, OwnsFrames}
 use Rattle.vm.proofs.DenseLemmas.{count-held, page-held, table-held}
 use Rattle.vm.proofs.StepLemmas.{beyond-held, page-kept, pages-each}
 use Rattle.vm.proofs.GrowLemmas.{IsTidy-same, lookup-parts, frame_at-is, marks_at-is, frame_at-same, marks_at-same, frames_below-same, tables_below-same}
@@ -42,20 +42,20 @@ pub record IsRemap (m z k : List (List ℕ)) (r p f g marks : ℕ) (s q : Frames
   pub paged : IsPaged k r q
   pub keeps : Keeps z k r q q
 
-held-some : (m : List (List ℕ)) (r t n : ℕ) (s : Frames) → IsHeld m r t n s → (v : ℕ) → 0 < count_of v (held m r t n) → 0 < holders_of m s v
+held-some : (m : List (List ℕ)) (r t n : ℕ) (s : Frames) → OwnsFrames m r t n s → (v : ℕ) → 0 < count_of v (held m r t n) → 0 < holders_of m s v
 held-some m r t n s is v some = omega (arith, some, is.held v)
 
-table-stays : (m z k : List (List ℕ)) (r t n p f g marks : ℕ) (s q : Frames) → IsHeld m r t n s → IsRemap m z k r p f g marks s q → (v : ℕ) → Holds m r v → frame_of z v ≡ frame_of m v
+table-stays : (m z k : List (List ℕ)) (r t n p f g marks : ℕ) (s q : Frames) → OwnsFrames m r t n s → IsRemap m z k r p f g marks s q → (v : ℕ) → HasTable m r v → frame_of z v ≡ frame_of m v
 table-stays m z k r t n p f g marks s q is e v h = e.rest v (held-some m r t n s is v (omega (arith, count-held m r t n v, table-held m r t n v is.dense h)))
 
 -- what is mapped at other pages
-pub remap-others : (m z k : List (List ℕ)) (r t n p f g marks : ℕ) (s q : Frames) → IsHeld m r t n s → IsRemap m z k r p f g marks s q → (j : ℕ) → j < 2 ^ 27 → j ≢ p → lookup_of k r j ≡ lookup_of m r j
+pub remap-others : (m z k : List (List ℕ)) (r t n p f g marks : ℕ) (s q : Frames) → OwnsFrames m r t n s → IsRemap m z k r p f g marks s q → (j : ℕ) → j < 2 ^ 27 → j ≢ p → lookup_of k r j ≡ lookup_of m r j
 remap-others m z k r t n p f g marks s q is e j small ne = e.inserts.others j small ne ∙ lookup_of-same m z r (table-stays m z k r t n p f g marks s q is e) j
 
-remap-tables : (m z k : List (List ℕ)) (r t n p f g marks : ℕ) (s q : Frames) → IsHeld m r t n s → IsRemap m z k r p f g marks s q → (x : Node) → IsNode x → table_at k r x ≡ table_at m r x
+remap-tables : (m z k : List (List ℕ)) (r t n p f g marks : ℕ) (s q : Frames) → OwnsFrames m r t n s → IsRemap m z k r p f g marks s q → (x : Node) → IsNode x → table_at k r x ≡ table_at m r x
 remap-tables m z k r t n p f g marks s q is e x nx = e.tables x nx ∙ table_at-same m z r (table-stays m z k r t n p f g marks s q is e) x nx
 
-pub remap-dense : (m z k : List (List ℕ)) (r t n p f g marks : ℕ) (s q : Frames) → IsHeld m r t n s → p < n → IsRemap m z k r p f g marks s q → IsDense k r t n
+pub remap-dense : (m z k : List (List ℕ)) (r t n p f g marks : ℕ) (s q : Frames) → OwnsFrames m r t n s → p < n → IsRemap m z k r p f g marks s q → IsDense k r t n
 remap-dense m z k r t n p f g marks s q is low e =
     let small = is.dense.small in
     let looks = remap-others m z k r t n p f g marks s q is e in
@@ -89,13 +89,13 @@ count-frames m k r (suc n) p f g looks new old low v = elim (cases_eq n p) [
       omega (arith, rest, ap (λ x. one_if (nat_eq v x)) (frame_at-same m k r n (looks n (omega arith) ne)))
 ]
 
-tables-same : (m z k : List (List ℕ)) (r t n p f g marks : ℕ) (s q : Frames) → IsHeld m r t n s → IsRemap m z k r p f g marks s q → tables_below k r n ≡ tables_below m r n
+tables-same : (m z k : List (List ℕ)) (r t n p f g marks : ℕ) (s q : Frames) → OwnsFrames m r t n s → IsRemap m z k r p f g marks s q → tables_below k r n ≡ tables_below m r n
 tables-same m z k r t n p f g marks s q is e =
     let same = remap-tables m z k r t n p f g marks s q is e in
     tables_below-same m k r n (λ j h. (ap (λ o. unwrap_or o 0) (same (mid_node j) (mid_is_node j)), ap (λ o. unwrap_or o 0) (same (low_node j) (low_is_node j))))
 
 -- what is held: one frame for another
-pub remap-held : (m z k : List (List ℕ)) (r t n p f g marks : ℕ) (s q : Frames) → IsHeld m r t n s → p < n → IsRemap m z k r p f g marks s q
+pub remap-held : (m z k : List (List ℕ)) (r t n p f g marks : ℕ) (s q : Frames) → OwnsFrames m r t n s → p < n → IsRemap m z k r p f g marks s q
     → (v : ℕ) → count_of v (held k r t n) + count_of v (f ∷ []) ≡ count_of v (held m r t n) + count_of v (g ∷ [])
 remap-held m z k r t n p f g marks s q is low e v =
     let small = is.dense.small in
@@ -103,7 +103,7 @@ remap-held m z k r t n p f g marks s q is low e v =
     omega (arith, count-held m r t n v, count-held k r t n v, frames, ap (count_of v) (tables-same m z k r t n p f g marks s q is e))
 
 -- where the page keeps its frame, all pages do, and what is held stays
-pub remap-frames : (m z k : List (List ℕ)) (r t n p f marks : ℕ) (s q : Frames) → IsHeld m r t n s → p < n → IsRemap m z k r p f f marks s q → (j : ℕ) → j < n → frame_at k r j ≡ frame_at m r j
+pub remap-frames : (m z k : List (List ℕ)) (r t n p f marks : ℕ) (s q : Frames) → OwnsFrames m r t n s → p < n → IsRemap m z k r p f f marks s q → (j : ℕ) → j < n → frame_at k r j ≡ frame_at m r j
 remap-frames m z k r t n p f marks s q is low e j h =
     let small = is.dense.small in
     elim (cases_eq j p) [
@@ -111,14 +111,14 @@ remap-frames m z k r t n p f marks s q is low e j h =
       | inr ne ↦ frame_at-same m k r j (remap-others m z k r t n p f f marks s q is e j (omega (arith, h, small)) ne)
     ]
 
-pub remap-kept : (m z k : List (List ℕ)) (r t n p f marks : ℕ) (s q : Frames) → IsHeld m r t n s → p < n → IsRemap m z k r p f f marks s q → (v : ℕ) → count_of v (held k r t n) ≡ count_of v (held m r t n)
+pub remap-kept : (m z k : List (List ℕ)) (r t n p f marks : ℕ) (s q : Frames) → OwnsFrames m r t n s → p < n → IsRemap m z k r p f f marks s q → (v : ℕ) → count_of v (held k r t n) ≡ count_of v (held m r t n)
 remap-kept m z k r t n p f marks s q is low e v = omega (arith, remap-held m z k r t n p f f marks s q is low e v)
 
 page-is-held : (m : List (List ℕ)) (r t n p f : ℕ) → p < n → frame_at m r p ≡ f → 0 < count_of f (held m r t n)
 page-is-held m r t n p f low was = omega (arith, count-held m r t n f, page-held m r n p low, ap (λ x. count_of x (frames_below m r n)) was)
 
 -- the space stands
-pub remap-space : (m z k : List (List ℕ)) (r t n p f g marks : ℕ) (s q : Frames) → IsHeld m r t n s → p < n → IsRemap m z k r p f g marks s q → IsHeld k r t n q
+pub remap-space : (m z k : List (List ℕ)) (r t n p f g marks : ℕ) (s q : Frames) → OwnsFrames m r t n s → p < n → IsRemap m z k r p f g marks s q → OwnsFrames k r t n q
 remap-space m z k r t n p f g marks s q is low e =
     let small = is.dense.small in
     let moved = remap-held m z k r t n p f g marks s q is low e in
@@ -145,7 +145,7 @@ remap-space m z k r t n p f g marks s q is low e =
     }
 
 -- a frame that has a holder and is no table of the space keeps its bytes
-remap-bytes : (m z k : List (List ℕ)) (r t n p f g marks : ℕ) (s q : Frames) → IsHeld m r t n s → IsRemap m z k r p f g marks s q → (v : ℕ) → 0 < holders_of m s v → count_of v (tables_below m r n) ≡ 0 → frame_of k v ≡ frame_of m v
+remap-bytes : (m z k : List (List ℕ)) (r t n p f g marks : ℕ) (s q : Frames) → OwnsFrames m r t n s → IsRemap m z k r p f g marks s q → (v : ℕ) → 0 < holders_of m s v → count_of v (tables_below m r n) ≡ 0 → frame_of k v ≡ frame_of m v
 remap-bytes m z k r t n p f g marks s q is e v some none =
     let stays = table-stays m z k r t n p f g marks s q is e in
     e.keeps.others v
@@ -154,7 +154,7 @@ remap-bytes m z k r t n p f g marks s q is e v some none =
     ∙ e.rest v some
 
 -- it trades a frame for another
-pub remap-trades : (m z k : List (List ℕ)) (r t n p f g marks : ℕ) (s q : Frames) → IsHeld m r t n s → p < n → IsRemap m z k r p f g marks s q → Trades m k s q (held m r t n) (held k r t n)
+pub remap-trades : (m z k : List (List ℕ)) (r t n p f g marks : ℕ) (s q : Frames) → OwnsFrames m r t n s → p < n → IsRemap m z k r p f g marks s q → Trades m k s q (held m r t n) (held k r t n)
 remap-trades m z k r t n p f g marks s q is low e =
     let moved = remap-held m z k r t n p f g marks s q is low e in
     record {
@@ -173,7 +173,7 @@ remap-trades m z k r t n p f g marks s q is low e =
     }
 
 -- the program's memory is the same
-pub remap-pages : (m z k : List (List ℕ)) (r t n p f g marks : ℕ) (s q : Frames) → IsHeld m r t n s → p < n → IsRemap m z k r p f g marks s q → pages_below k r n ≡ pages_below m r n
+pub remap-pages : (m z k : List (List ℕ)) (r t n p f g marks : ℕ) (s q : Frames) → OwnsFrames m r t n s → p < n → IsRemap m z k r p f g marks s q → pages_below k r n ≡ pages_below m r n
 remap-pages m z k r t n p f g marks s q is low e =
     let small = is.dense.small in
     let stays = table-stays m z k r t n p f g marks s q is e in
@@ -201,7 +201,7 @@ remap-pages m z k r t n p f g marks s q is low e =
     ])
 
 -- and so are the registers
-pub remap-trap : (m z k : List (List ℕ)) (r t n p f g marks : ℕ) (s q : Frames) → IsHeld m r t n s → IsRemap m z k r p f g marks s q → frame_of k t ≡ frame_of m t
+pub remap-trap : (m z k : List (List ℕ)) (r t n p f g marks : ℕ) (s q : Frames) → OwnsFrames m r t n s → IsRemap m z k r p f g marks s q → frame_of k t ≡ frame_of m t
 remap-trap m z k r t n p f g marks s q is e =
     let one = count_of-first t t [] refl in
     remap-bytes m z k r t n p f g marks s q is e t (held-some m r t n s is t (omega (arith, one, count-held m r t n t))) (omega (arith, one, is.once t, count-held m r t n t))
@@ -230,7 +230,7 @@ reframes-twice m k l x s q w a b = record { space = b.space; registers = b.regis
 
 -- ---- other marks for the same frame
 
-pub remap-marks : (m k : List (List ℕ)) (r t n p f marks : ℕ) (s : Frames) → IsHeld m r t n s → p < n → frame_at m r p ≡ f → IsUserLeaf marks → right_marks marks ≡ right_marks (marks_at m r p) → (is_open marks ≡ true → further_at s f ≡ 0)
+pub remap-marks : (m k : List (List ℕ)) (r t n p f marks : ℕ) (s : Frames) → OwnsFrames m r t n s → p < n → frame_at m r p ≡ f → IsUserLeaf marks → right_marks marks ≡ right_marks (marks_at m r p) → (is_open marks ≡ true → further_at s f ≡ 0)
     → Inserts (lookup_of m r) (lookup_of k r) p (f, marks) → ((x : Node) → IsNode x → table_at k r x ≡ table_at m r x) → IsTidy k r → IsPaged k r s → Keeps m k r s s → free_of k s ≡ free_of m s
     → IsRemap m m k r p f f marks s s
 remap-marks m k r t n p f marks s is low was leaf right sole inserts tables tidy paged keeps free = record {
@@ -288,11 +288,11 @@ split-apart m z s q f g is e v some =
     ap (among v) (split-free m z s q f g is e).0 ∙ (among_first_not v g (free_of m q) (sym (ap (among v) e.taken) ∙ (held-inside m s v is some).1)).1
 
 -- the tables may be written then
-pub split-paged : (m z : List (List ℕ)) (r t n : ℕ) (s q : Frames) (f g : ℕ) → IsHeld m r t n s → IsSplit m z s q f g → IsPaged z r q × IsTidy z r × ((p : ℕ) → lookup_of z r p ≡ lookup_of m r p)
+pub split-paged : (m z : List (List ℕ)) (r t n : ℕ) (s q : Frames) (f g : ℕ) → OwnsFrames m r t n s → IsSplit m z s q f g → IsPaged z r q × IsTidy z r × ((p : ℕ) → lookup_of z r p ≡ lookup_of m r p)
 split-paged m z r t n s q f g is e =
-    let some : (v : ℕ) → Holds m r v → 0 < count_of v (tables_below m r n) = λ (v : ℕ) (h : Holds m r v). table-held m r t n v is.dense h in
-    let same : (v : ℕ) → Holds m r v → frame_of z v ≡ frame_of m v = λ (v : ℕ) (h : Holds m r v). split-rest m z s q f g is.free e v (held-some m r t n s is v (omega (arith, some v h, count-held m r t n v))) in
-    let holds : (x : Node) (v : ℕ) → IsNode x → table_at z r x ≡ Some v → Holds m r v = λ (x : Node) (v : ℕ) (nx : IsNode x) (h : table_at z r x ≡ Some v). record { place = x; is_node = nx; at_place = sym (table_at-same m z r same x nx) ∙ h } in (
+    let some : (v : ℕ) → HasTable m r v → 0 < count_of v (tables_below m r n) = λ (v : ℕ) (h : HasTable m r v). table-held m r t n v is.dense h in
+    let same : (v : ℕ) → HasTable m r v → frame_of z v ≡ frame_of m v = λ (v : ℕ) (h : HasTable m r v). split-rest m z s q f g is.free e v (held-some m r t n s is v (omega (arith, some v h, count-held m r t n v))) in
+    let holds : (x : Node) (v : ℕ) → IsNode x → table_at z r x ≡ Some v → HasTable m r v = λ (x : Node) (v : ℕ) (nx : IsNode x) (h : table_at z r x ≡ Some v). record { place = x; is_node = nx; at_place = sym (table_at-same m z r same x nx) ∙ h } in (
       record {
         tree = IsTree-same m z r is.dense.tree (split-count m z s q f g e) same;
         free = (split-free m z s q f g is.free e).1;
@@ -307,7 +307,7 @@ split-paged m z r t n s q f g is e =
 pub split-sole : (m z : List (List ℕ)) (s q : Frames) (f g : ℕ) → IsFreeList m s → IsSplit m z s q f g → further_at q g ≡ 0
 split-sole m z s q f g is e = omega (arith, split-fewer m z s q f g is e g, further-free m s g is (ap (among g) e.taken ∙ among_first g (free_of m q)))
 
-pub remap-split : (m z k : List (List ℕ)) (r t n p f g marks : ℕ) (s q : Frames) → IsHeld m r t n s → p < n → IsSplit m z s q f g → frame_at m r p ≡ f → IsUserLeaf marks → right_marks marks ≡ right_marks (marks_at m r p)
+pub remap-split : (m z k : List (List ℕ)) (r t n p f g marks : ℕ) (s q : Frames) → OwnsFrames m r t n s → p < n → IsSplit m z s q f g → frame_at m r p ≡ f → IsUserLeaf marks → right_marks marks ≡ right_marks (marks_at m r p)
     → Inserts (lookup_of z r) (lookup_of k r) p (g, marks) → ((x : Node) → IsNode x → table_at k r x ≡ table_at z r x) → IsTidy k r → IsPaged k r q → Keeps z k r q q → free_of k q ≡ free_of z q
     → IsRemap m z k r p f g marks s q
 remap-split m z k r t n p f g marks s q is low e was leaf right inserts tables tidy paged keeps free =
@@ -335,18 +335,18 @@ remap-split m z k r t n p f g marks s q is low e was leaf right inserts tables t
 
 -- ---- what a caller knows
 
-pub page-inside-is : (m : List (List ℕ)) (r t n p f : ℕ) (s : Frames) → IsHeld m r t n s → p < n → frame_at m r p ≡ f → f < length m
+pub page-inside-is : (m : List (List ℕ)) (r t n p f : ℕ) (s : Frames) → OwnsFrames m r t n s → p < n → frame_at m r p ≡ f → f < length m
 page-inside-is m r t n p f s is low was = omega (arith, was, (lookup-sound m r p (frame_at m r p) (marks_at m r p) is.dense.tree (is.dense.pages p low)).0)
 
 pub split-inside : (m : List (List ℕ)) (s q : Frames) (g : ℕ) → IsFreeList m s → free_of m s ≡ g ∷ free_of m q → g < length m
 split-inside m s q g is taken = (free-first m s g (free_of m q) is taken).0
 
-pub split-mapped : (m z : List (List ℕ)) (r t n p : ℕ) (s q : Frames) (f g : ℕ) → IsHeld m r t n s → p < n → IsSplit m z s q f g → lookup_of z r p ≢ None
+pub split-mapped : (m z : List (List ℕ)) (r t n p : ℕ) (s q : Frames) (f g : ℕ) → OwnsFrames m r t n s → p < n → IsSplit m z s q f g → lookup_of z r p ≢ None
 split-mapped m z r t n p s q f g is low e none =
     let same : lookup_of z r p ≡ lookup_of m r p = (split-paged m z r t n s q f g is e).2 p in
     cc (same, none, is.dense.pages p low)
 
-pub page-single : (m : List (List ℕ)) (r t n p f : ℕ) (s : Frames) → IsHeld m r t n s → p < n → frame_at m r p ≡ f → holders_of m s f ≤ 1 → further_at s f ≡ 0
+pub page-single : (m : List (List ℕ)) (r t n p f : ℕ) (s : Frames) → OwnsFrames m r t n s → p < n → frame_at m r p ≡ f → holders_of m s f ≤ 1 → further_at s f ≡ 0
 page-single m r t n p f s is low was few =
     let at = held-inside m s f is.free (held-some m r t n s is f (page-is-held m r t n p f low was)) in
     omega (arith, few, not-free-held m s f is.free at.0 at.1)

@@ -7,11 +7,11 @@ use Rattle.frames.specs.Free.{among, free_of, extra_of, IsFreeList}
 use Rattle.frames.proofs.FreeLemmas.{free_of-same, IsFreeList-same}
 use Rattle.frames.specs.Holders.{count_of, holders_of}
 use Rattle.frames.proofs.HolderLemmas.{among-none, none-among, held-inside, one-holder, distinct-count}
-use Rattle.pagetable.specs.Tree.{lookup_of, IsPaged, Holds, Keeps, Inserts}
+use Rattle.pagetable.specs.Tree.{lookup_of, IsPaged, HasTable, Keeps, Inserts}
 use Rattle.pagetable.proofs.TreeLemmas.{free-first}
 use Rattle.pagetable.specs.Shape.{IsTidy, Adds}
-use Rattle.vm.specs.Dense.{frame_at, marks_at, page_at, page_with, read_at, read_by, read_below, pages_below, tables_below, held, IsHeld}
-use Rattle.unixmodel.specs.Memory.{Marks}
+use Rattle.vm.specs.Dense.{frame_at, marks_at, page_at, page_with, read_at, read_by, read_below, pages_below, tables_below, held, OwnsFrames}
+use Rattle.unixmodel.specs.Memory.{Perm}
 use Rattle.vm.specs.Leaf.{IsUserLeaf}
 use Rattle.vm.proofs.DenseLemmas.{pages_below-zero, pages_below-more, count-held, table-held}
 use Rattle.vm.proofs.GrowLemmas.{frame_at-same, marks_at-same}
@@ -25,14 +25,14 @@ pub record IsTaken (m z : List (List ℕ)) (s n : Frames) (f : ℕ) : Type 0 whe
   pub extra : extra_of n ≡ extra_of s
 
 -- what a space holds is not free, and nothing is free twice
-pub held-not_free : (m : List (List ℕ)) (r t n : ℕ) (s : Frames) → IsHeld m r t n s → (f : ℕ) → count_of f (held m r t n) + count_of f (free_of m s) ≤ 1
+pub held-not_free : (m : List (List ℕ)) (r t n : ℕ) (s : Frames) → OwnsFrames m r t n s → (f : ℕ) → count_of f (held m r t n) + count_of f (free_of m s) ≤ 1
 held-not_free m r t n s is f = elim (cases_eq (count_of f (held m r t n)) 0) [
   | inl none ↦ omega (arith, none, distinct-count f (free_of m s) is.free.distinct)
   | inr some ↦ omega (arith, is.once f, none-among f (free_of m s) (held-inside m s f is.free (omega (arith, is.held f, some))).1)
 ]
 
 -- a frame with more holders than this space is none of its tables, nor its trap frame, and isn't free
-pub beyond-held : (m : List (List ℕ)) (r t n : ℕ) (s : Frames) → IsHeld m r t n s → (f : ℕ) → count_of f (held m r t n) < holders_of m s f
+pub beyond-held : (m : List (List ℕ)) (r t n : ℕ) (s : Frames) → OwnsFrames m r t n s → (f : ℕ) → count_of f (held m r t n) < holders_of m s f
     → (count_of f (tables_below m r n) + count_of f (t ∷ []) ≡ 0) × (count_of f (free_of m s) ≡ 0)
 beyond-held m r t n s is f more =
     let free = none-among f (free_of m s) (held-inside m s f is.free (omega (arith, more))).1 in
@@ -58,7 +58,7 @@ pub record IsNext (z k : List (List ℕ)) (r n f marks : ℕ) (q w : Frames) : T
   pub extra : extra_of w ≡ extra_of q
 
 -- the pages that stay
-pub read_below-same : (read : ℕ → Marks) (m k : List (List ℕ)) (r n : ℕ) → ((p : ℕ) → p < n → lookup_of k r p ≡ lookup_of m r p) → read_below read k r n ≡ read_below read m r n
+pub read_below-same : (read : ℕ → Perm) (m k : List (List ℕ)) (r n : ℕ) → ((p : ℕ) → p < n → lookup_of k r p ≡ lookup_of m r p) → read_below read k r n ≡ read_below read m r n
 unfolding read_below
 read_below-same read m k r zero looks = refl
 read_below-same read m k r (suc n) looks =
@@ -90,12 +90,12 @@ IsTaken-set m z s q f w taken after e extra = record {
   extra = extra;
 }
 
-pub IsHeld-paged : (m : List (List ℕ)) (r t n : ℕ) (s : Frames) → IsHeld m r t n s → IsPaged m r s
-IsHeld-paged m r t n s is = record {
+pub OwnsFrames-paged : (m : List (List ℕ)) (r t n : ℕ) (s : Frames) → OwnsFrames m r t n s → IsPaged m r s
+OwnsFrames-paged m r t n s is = record {
   tree = is.dense.tree;
   free = is.free;
   apart = λ x v nx h.
-      let held_v : Holds m r v = record { place = x; is_node = nx; at_place = h } in
+      let held_v : HasTable m r v = record { place = x; is_node = nx; at_place = h } in
       among-none v (free_of m s) (omega (arith, held-not_free m r t n s is v, count-held m r t n v, table-held m r t n v is.dense held_v));
   own = λ x v nx h. is.own v (omega (arith, table-held m r t n v is.dense (record { place = x; is_node = nx; at_place = h })));
 }

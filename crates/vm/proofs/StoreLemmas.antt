@@ -8,12 +8,12 @@ use Rattle.frames.specs.Free.{among, free_of, further_at, IsFreeList}
 use Rattle.frames.proofs.FreeLemmas.{free_of-same, IsFreeList-same}
 use Rattle.frames.specs.Holders.{one_if, count_of, holders_of, Trades}
 use Rattle.frames.proofs.HolderLemmas.{among-none, count_of-first, holders-free, one-holder, Trades-none, Trades-twice}
-use Rattle.pagetable.specs.Tree.{Holds}
+use Rattle.pagetable.specs.Tree.{HasTable}
 use Rattle.pagetable.proofs.Beside.{table_at-same, lookup_of-same}
 use Rattle.pagetable.proofs.LookupLemmas.{lookup-sound}
 use Rattle.unixmodel.specs.Memory.{Page}
 use Rattle.vm.specs.declared.Space.{Space}
-use Rattle.vm.specs.Dense.{frame_at, marks_at, page_at, page_with, pages_below, frames_below, tables_below, held, IsDense, IsHeld}
+use Rattle.vm.specs.Dense.{frame_at, marks_at, page_at, page_with, pages_below, frames_below, tables_below, held, IsDense, OwnsFrames}
 use Rattle.vm.proofs.DenseLemmas.{count-held, page-held, pages-apart, table-held}
 use Rattle.vm.proofs.GrowLemmas.{IsDense-same, held-same, frame_at-same, marks_at-same}
 use Rattle.vm.proofs.PageLemmas.{length-pages, get_or-pages}
@@ -26,7 +26,7 @@ pub record Writes (m k : List (List ℕ)) (r t n : ℕ) : Type 0 where
   pub count : length k ≡ length m
   pub others : (f : ℕ) → count_of f (t ∷ frames_below m r n) ≡ 0 → frame_of k f ≡ frame_of m f
 
-tables-stay : (m k : List (List ℕ)) (r t n : ℕ) → IsDense m r t n → ((f : ℕ) → count_of f (held m r t n) ≤ 1) → Writes m k r t n → (v : ℕ) → Holds m r v → frame_of k v ≡ frame_of m v
+tables-stay : (m k : List (List ℕ)) (r t n : ℕ) → IsDense m r t n → ((f : ℕ) → count_of f (held m r t n) ≤ 1) → Writes m k r t n → (v : ℕ) → HasTable m r v → frame_of k v ≡ frame_of m v
 tables-stay m k r t n is once w v h = w.others v (omega (arith, once v, count-held m r t n v, table-held m r t n v is h))
 
 held-stays : (m k : List (List ℕ)) (r t n : ℕ) → IsDense m r t n → ((f : ℕ) → count_of f (held m r t n) ≤ 1) → Writes m k r t n → held k r t n ≡ held m r t n
@@ -35,14 +35,14 @@ held-stays m k r t n is once w =
     let lists = held-same m k r t n is (λ q h. lookup_of-same m k r tables q) (λ x v nx h. table_at-same m k r tables x nx ∙ h) in
     ap (λ l. l ++ (t ∷ frames_below k r n)) (lists.0) ∙ ap (λ l. tables_below m r n ++ (t ∷ l)) (lists.1)
 
-free-stays : (m k : List (List ℕ)) (r t n : ℕ) (s : Frames) → IsHeld m r t n s → Writes m k r t n → (g : ℕ) → among g (free_of m s) ≡ true → frame_of k g ≡ frame_of m g
+free-stays : (m k : List (List ℕ)) (r t n : ℕ) (s : Frames) → OwnsFrames m r t n s → Writes m k r t n → (g : ℕ) → among g (free_of m s) ≡ true → frame_of k g ≡ frame_of m g
 free-stays m k r t n s is w g at = elim (cases_eq (count_of g (t ∷ frames_below m r n)) 0) [
   | inl none ↦ w.others g none
   | inr some ↦ absurd (cc (at, among-none g (free_of m s) (omega (arith, some, held-not_free m r t n s is g, count-held m r t n g))))
 ]
 
 -- the space stands beside free frames and other holders where frames with several holders aren't written
-pub space-stays : (m k : List (List ℕ)) (r t n : ℕ) (s : Frames) → IsHeld m r t n s → Writes m k r t n → ((f : ℕ) → further_at s f ≢ 0 → frame_of k f ≡ frame_of m f) → IsHeld k r t n s × Trades m k s s (held m r t n) (held k r t n)
+pub space-stays : (m k : List (List ℕ)) (r t n : ℕ) (s : Frames) → OwnsFrames m r t n s → Writes m k r t n → ((f : ℕ) → further_at s f ≢ 0 → frame_of k f ≡ frame_of m f) → OwnsFrames k r t n s × Trades m k s s (held m r t n) (held k r t n)
 space-stays m k r t n s is w private =
     let same = held-stays m k r t n is.dense is.once w in
     let tables = tables-stay m k r t n is.dense is.once w in

@@ -9,8 +9,8 @@ use Rattle.frames.specs.Holders.{count_of, holders_of, Trades}
 use Rattle.frames.proofs.HolderLemmas.{count_of-append, count_of-other, free-holders, holders-table, Trades-lengths, Trades-twice}
 use Rattle.pagetable.specs.Tree.{missing}
 use Rattle.pagetable.proofs.TreeLemmas.{further-same}
-use Rattle.unixmodel.specs.Memory.{Marks}
-use Rattle.vm.specs.Dense.{page_with, read_below, pages_below, held, frames_for, IsHeld}
+use Rattle.unixmodel.specs.Memory.{Perm}
+use Rattle.vm.specs.Dense.{page_with, read_below, pages_below, held, frames_for, OwnsFrames}
 use Rattle.vm.proofs.DenseLemmas.{length-held}
 use Rattle.vm.proofs.StepLemmas.{IsTaken, IsNext, free-after, read_below-same}
 use Rattle.vm.proofs.Added.{IsBefore, next-fits, next-held, next-pages, next-trades, next-trap}
@@ -32,10 +32,10 @@ taken-trades m z s q f is k =
     }
 
 -- the space stands beside that
-taken-beside : (m z : List (List ℕ)) (r t n : ℕ) (s q : Frames) (f : ℕ) → IsHeld m r t n s → IsTaken m z s q f → Besides m z q r t n
+taken-beside : (m z : List (List ℕ)) (r t n : ℕ) (s q : Frames) (f : ℕ) → OwnsFrames m r t n s → IsTaken m z s q f → Besides m z q r t n
 taken-beside m z r t n s q f is k = Trades-held m z s q [] (f ∷ []) r t n is (λ v. omega (arith, is.held v)) (taken-trades m z s q f is.free k) (free-after m z s q f is.free k).1
 
-pub taken-before : (m z : List (List ℕ)) (r t n f marks : ℕ) (s q : Frames) → IsHeld m r t n s → IsTaken m z s q f → n < 32768 → IsBefore z r t n f marks q
+pub taken-before : (m z : List (List ℕ)) (r t n f marks : ℕ) (s q : Frames) → OwnsFrames m r t n s → IsTaken m z s q f → n < 32768 → IsBefore z r t n f marks q
 taken-before m z r t n f marks s q is k small =
     let beside = taken-beside m z r t n s q f is k in
     let at = taken-free m z s q f k in
@@ -48,21 +48,21 @@ taken-before m z r t n f marks s q is k small =
     }
 
 -- the tables that the page needs are free
-pub taken-fits : (m z : List (List ℕ)) (r t n f : ℕ) (s q : Frames) → IsHeld m r t n s → IsTaken m z s q f → n < 32768 → frames_for (n + 1) ≤ frames_for n + free_count m s → missing z r n ≤ free_count z q
+pub taken-fits : (m z : List (List ℕ)) (r t n f : ℕ) (s q : Frames) → OwnsFrames m r t n s → IsTaken m z s q f → n < 32768 → frames_for (n + 1) ≤ frames_for n + free_count m s → missing z r n ≤ free_count z q
 taken-fits m z r t n f s q is k small room =
     let beside = taken-beside m z r t n s q f is k in
     next-fits z r t n q beside.space small (omega (arith, room, Trades-lengths m z s q [] (f ∷ []) is.free beside.space.free (λ v. omega arith) (taken-trades m z s q f is.free k)))
 
 -- the page has come, with these bytes
 pub record IsGrown (m k : List (List ℕ)) (r t n marks : ℕ) (bytes : List ℕ) (s w : Frames) : Type 0 where
-  pub space : IsHeld k r t (n + 1) w
+  pub space : OwnsFrames k r t (n + 1) w
   pub pages : pages_below k r (n + 1) ≡ pages_below m r n ++ (page_with bytes marks ∷ [])
-  pub mapping : (read : ℕ → Marks) (b : ℕ) → b ≤ n → read_below read k r b ≡ read_below read m r b
+  pub mapping : (read : ℕ → Perm) (b : ℕ) → b ≤ n → read_below read k r b ≡ read_below read m r b
   pub trap : frame_of k t ≡ frame_of m t
   pub trades : Trades m k s w (held m r t n) (held k r t (n + 1))
   pub room : frames_for (n + 1) + free_count k w ≡ frames_for n + free_count m s
 
-pub taken-grown : (m z k : List (List ℕ)) (r t n f marks : ℕ) (bytes : List ℕ) (s q w : Frames) → IsHeld m r t n s → IsTaken m z s q f → n < 32768 → frame_of z f ≡ bytes → IsNext z k r n f marks q w → IsGrown m k r t n marks bytes s w
+pub taken-grown : (m z k : List (List ℕ)) (r t n f marks : ℕ) (bytes : List ℕ) (s q w : Frames) → OwnsFrames m r t n s → IsTaken m z s q f → n < 32768 → frame_of z f ≡ bytes → IsNext z k r n f marks q w → IsGrown m k r t n marks bytes s w
 taken-grown m z k r t n f marks bytes s q w is k1 small e next =
     let b = taken-before m z r t n f marks s q is k1 small in
     let beside = taken-beside m z r t n s q f is k1 in

@@ -5,7 +5,7 @@ use Rattle.std.proofs.lemmas.Bool.{cases_eq, cases_lt, eqb-true}
 use Rattle.std.proofs.lemmas.Option.{slice_get-get_or, slice_get_past, slice_get_within, slice_get-map}
 use Rattle.unixmodel.specs.declared.trap.Access.{Access}
 use Rattle.unixmodel.specs.declared.trap.Access.TheVariants.{Fetch, Load, Store}
-use Rattle.unixmodel.specs.Memory.{Marks, permits}
+use Rattle.unixmodel.specs.Memory.{Perm, permits}
 use Rattle.unixmodel.specs.Translation.{leaf_allows, is_canonical, Held}
 use Rattle.sv39.specs.Mapping.{Mapped, memory_of, page_in, allowed, frame_for, WalksTo, IsCoherent}
 use Rattle.pagetable.specs.Agree.{translation, given_frame}
@@ -18,29 +18,29 @@ use Rattle.vm.proofs.PageLemmas.{length-mapping, get_or-mapping}
 
 -- ---- the mapping, an entry at a time
 
-abbrev mapped_of : ℕ → Marks → Mapped
+abbrev mapped_of : ℕ → Perm → Mapped
 mapped_of f a = record { frame = f; marks = a }
 
 none_mapped : Mapped
 none_mapped = record { frame = 0; marks = record { writable = false; executable = false; user = false } }
 
-pub get-mapping : (read : ℕ → Marks) (m : List (List ℕ)) (r n p : ℕ) → p < n → slice_get (read_below read m r n) p ≡ Some (read_at read m r p)
+pub get-mapping : (read : ℕ → Perm) (m : List (List ℕ)) (r n p : ℕ) → p < n → slice_get (read_below read m r n) p ≡ Some (read_at read m r p)
 get-mapping read m r n p h =
     slice_get-get_or (read_below read m r n) p none_mapped (omega (arith, h, length-mapping read m r n))
     ∙ ap Some (get_or-mapping read m r n p none_mapped h)
 
-pub mapping-past : (read : ℕ → Marks) (m : List (List ℕ)) (r n p : ℕ) → n ≤ p → slice_get (read_below read m r n) p ≡ None
+pub mapping-past : (read : ℕ → Perm) (m : List (List ℕ)) (r n p : ℕ) → n ≤ p → slice_get (read_below read m r n) p ≡ None
 mapping-past read m r n p h = slice_get_past (read_below read m r n) p (omega (arith, h, length-mapping read m r n))
 
-pub mapping-within : (read : ℕ → Marks) (m : List (List ℕ)) (r n p : ℕ) (e : Mapped) → slice_get (read_below read m r n) p ≡ Some e → p < n
+pub mapping-within : (read : ℕ → Perm) (m : List (List ℕ)) (r n p : ℕ) (e : Mapped) → slice_get (read_below read m r n) p ≡ Some e → p < n
 mapping-within read m r n p e h = omega (arith, slice_get_within (read_below read m r n) p e h, length-mapping read m r n)
 
-pub mapping-is : (read : ℕ → Marks) (m : List (List ℕ)) (r n p : ℕ) (e : Mapped) → slice_get (read_below read m r n) p ≡ Some e → read_at read m r p ≡ e
+pub mapping-is : (read : ℕ → Perm) (m : List (List ℕ)) (r n p : ℕ) (e : Mapped) → slice_get (read_below read m r n) p ≡ Some e → read_at read m r p ≡ e
 mapping-is read m r n p e h =
     let both : Some (read_at read m r p) ≡ Some e = sym (get-mapping read m r n p (mapping-within read m r n p e h)) ∙ h in
     cc
 
-pub mapped-parts : (f g : ℕ) (a b : Marks) → f ≡ g → a ≡ b → mapped_of f a ≡ mapped_of g b
+pub mapped-parts : (f g : ℕ) (a b : Perm) → f ≡ g → a ≡ b → mapped_of f a ≡ mapped_of g b
 mapped-parts f g a b e h = ap (λ x. mapped_of x a) e ∙ ap (mapped_of g) h
 
 -- an entry of the mapping is a page of the memory

@@ -7,7 +7,7 @@ use Rattle.frames.specs.Holders.{one_if, count_of, holders_of}
 use Rattle.pagetable.specs.Tree.{mid_node, low_node, lookup_of, IsTree}
 use Rattle.pagetable.specs.Shape.{table_of, IsTidy}
 use Rattle.sv39.specs.Mapping.{Mapped, memory_of}
-use Rattle.unixmodel.specs.Memory.{Marks, Page, Memory}
+use Rattle.unixmodel.specs.Memory.{Perm, Page, Memory}
 use Rattle.vm.specs.Leaf.{IsUserLeaf, entry_marks, is_open, right_marks}
 
 -- the page of the trap frame
@@ -27,10 +27,10 @@ abbrev pub marks_at : List (List ℕ) → ℕ → ℕ → ℕ
 marks_at m r p = (unwrap_or (lookup_of m r p) (0, 0)).1
 
 -- the frame of a leaf, and marks as they are read off it
-abbrev pub read_by : (ℕ → Marks) → ℕ × ℕ → Mapped
+abbrev pub read_by : (ℕ → Perm) → ℕ × ℕ → Mapped
 read_by read leaf = record { frame = leaf.0; marks = read leaf.1 }
 
-abbrev pub read_at : (ℕ → Marks) → List (List ℕ) → ℕ → ℕ → Mapped
+abbrev pub read_at : (ℕ → Perm) → List (List ℕ) → ℕ → ℕ → Mapped
 read_at read m r p = read_by read (frame_at m r p, marks_at m r p)
 
 -- a page with these bytes and the marks of this leaf
@@ -42,7 +42,7 @@ abbrev pub page_at : List (List ℕ) → ℕ → ℕ → Page
 page_at m r p = page_with (frame_of m (frame_at m r p)) (marks_at m r p)
 
 -- the frames of the pages below n, and their marks as they are read off the leaves
-unfoldable pub read_below : (ℕ → Marks) → List (List ℕ) → ℕ → ℕ → List Mapped
+unfoldable pub read_below : (ℕ → Perm) → List (List ℕ) → ℕ → ℕ → List Mapped
 read_below read m r zero = []
 read_below read m r (suc n) = read_below read m r n ++ (read_at read m r n ∷ [])
 
@@ -92,7 +92,7 @@ pub record IsDense (m : List (List ℕ)) (r t n : ℕ) : Type 0 where
 
 -- A space of n pages beside the free frames and other holders: it alone holds its tables, its trap frame and the frames
 -- of open pages.
-pub record IsHeld (m : List (List ℕ)) (r t n : ℕ) (s : Frames) : Type 0 where
+pub record OwnsFrames (m : List (List ℕ)) (r t n : ℕ) (s : Frames) : Type 0 where
   pub dense : IsDense m r t n
   pub once : (f : ℕ) → count_of f (held m r t n) ≤ 1
   pub free : IsFreeList m s

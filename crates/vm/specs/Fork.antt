@@ -5,13 +5,13 @@ use Rattle.frames.specs.declared.Frames.{Frames}
 use Rattle.frames.specs.Free.{free_count}
 use Rattle.frames.specs.Holders.{count_of, holders_of, Trades}
 use Rattle.vm.specs.declared.Space.{Space}
-use Rattle.vm.specs.Dense.{IsHeld, frame_at, frames_for, held, page_at, pages_below}
+use Rattle.vm.specs.Dense.{OwnsFrames, frame_at, frames_for, held, page_at, pages_below}
 use Rattle.vm.specs.Space.{IsSpace, holds, pages_in, pages_of, registers_of}
 
 -- a space and one that is made, which shares its first n pages
 pub record IsPart (m : List (List ℕ)) (x c : Space) (n : ℕ) (s : Frames) : Type 0 where
   pub parent : IsSpace m x s
-  pub child : IsHeld m c.root.0 c.trap.0 n s
+  pub child : OwnsFrames m c.root.0 c.trap.0 n s
   pub room : (v : ℕ) → count_of v (holds m x) + count_of v (held m c.root.0 c.trap.0 n) ≤ holders_of m s v
   pub shared : (p : ℕ) → p < n → frame_at m c.root.0 p ≡ frame_at m x.root.0 p
 

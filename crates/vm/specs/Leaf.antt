@@ -3,12 +3,12 @@ use Rattle.std.specs.Prelude.{◌≡◌, ◌&&◌, ◌*◌, ◌+◌, ℕ, Bool}
 use Rattle.frames.specs.Holders.{one_if}
 use Rattle.sv39.specs.Entry.{has}
 use Rattle.sv39.specs.Mapping.{Mapped}
-use Rattle.unixmodel.specs.Memory.{Marks}
+use Rattle.unixmodel.specs.Memory.{Perm as Rights}
 use Rattle.vm.specs.declared.Perm.{Perm}
 
 -- What a program may do at a page by right. Bit 8 of a leaf, which the walk doesn't look at, says that it may write; W
 -- says that a store goes through without the kernel.
-abbrev pub right_marks : ℕ → Marks
+abbrev pub right_marks : ℕ → Rights
 right_marks leaf = record { writable = has leaf 256; executable = has leaf 8; user = has leaf 16 }
 
 -- a leaf is open where a store goes through without the kernel
@@ -16,11 +16,11 @@ abbrev pub is_open : ℕ → Bool
 is_open leaf = has leaf 4
 
 -- what the walk lets through
-abbrev pub entry_marks : ℕ → Marks
+abbrev pub entry_marks : ℕ → Rights
 entry_marks leaf = record { writable = is_open leaf; executable = has leaf 8; user = has leaf 16 }
 
 -- the leaf of a page: valid, readable, accessed and dirty, and what a program may do there
-abbrev pub user_leaf : Marks → Bool → ℕ
+abbrev pub user_leaf : Rights → Bool → ℕ
 user_leaf m wide = 1 + 2 + 4 * one_if (m.writable && wide) + 8 * one_if m.executable + 16 * one_if m.user + 64 + 128 + 256 * one_if m.writable
 
 -- these are the marks of the leaf of a page: it is open only where it is writable by right
@@ -28,7 +28,7 @@ abbrev pub IsUserLeaf : ℕ → Type 0
 IsUserLeaf leaf = leaf ≡ user_leaf (right_marks leaf) (is_open leaf)
 
 -- the marks that a caller gives
-abbrev pub marks_from : Perm → Marks
+abbrev pub marks_from : Perm → Rights
 marks_from p = record { writable = p.w; executable = p.x; user = p.u }
 
 -- an entry of a mapping, by its parts

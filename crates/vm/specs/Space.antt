@@ -3,7 +3,7 @@ use Rattle.std.specs.Prelude.{◌≡◌, ◌≤◌, ℕ, ◌+◌, ◌/◌, List,
 use Rattle.ram.specs.Memory.{frame_of}
 use Rattle.frames.specs.declared.Frames.{Frames}
 use Rattle.vm.specs.declared.Space.{Space}
-use Rattle.vm.specs.Dense.{mapping_below, entries_below, held, IsDense, IsHeld}
+use Rattle.vm.specs.Dense.{mapping_below, entries_below, held, IsDense, OwnsFrames}
 use Rattle.frames.specs.Holders.{count_of, Trades}
 use Rattle.sv39.specs.Mapping.{Mapped, memory_of}
 use Rattle.unixmodel.specs.Memory.{Memory}
@@ -18,7 +18,7 @@ max_size = 274877898752
 
 -- the space stands beside the free frames
 abbrev pub IsSpace : List (List ℕ) → Space → Frames → Type 0
-IsSpace m s free = IsHeld m s.root.0 s.trap.0 (pages_in s.size) free
+IsSpace m s free = OwnsFrames m s.root.0 s.trap.0 (pages_in s.size) free
 
 -- the tables map the pages of the space, its trap frame, and nothing else
 abbrev pub IsMapped : List (List ℕ) → Space → Type 0

@@ -14,17 +14,17 @@ use bitflags::Flags;
 use frames::Frames;
 use pagetable::PageTable;
 use ram::{FrameNo, Ram};
-use sv39::Marks;
+use sv39::EntryBits;
 use unixmodel::trap::Access;
 
 // What a program may do by right at the page of a leaf.
-pub(crate) fn perm_of(leaf: Marks) -> Perm
+pub(crate) fn perm_of(leaf: EntryBits) -> Perm
     ensures { marks_from result ≡ right_marks leaf.0 }
 {
     Perm {
         w: leaf.contains(RIGHT),
-        x: leaf.contains(Marks::EXECUTE),
-        u: leaf.contains(Marks::USER),
+        x: leaf.contains(EntryBits::EXECUTE),
+        u: leaf.contains(EntryBits::USER),
     }
 }
 

@@ -15,8 +15,8 @@ ghost use Rattle.ram.specs.Memory.{frame_of};
 ghost use Rattle.frames.specs.Free.{among, free_of, free_count, IsFreeList};
 ghost use Rattle.frames.specs.Holders.{Trades, holders_of};
 ghost use Rattle.pagetable.specs.Tree.{IsLeafMarks};
-ghost use Rattle.vm.specs.Dense.{IsDense, IsHeld, frame_at, frames_for, held, page_with, pages_below, read_below};
-ghost use Rattle.unixmodel.specs.Memory.{Marks as Rights};
+ghost use Rattle.vm.specs.Dense.{IsDense, OwnsFrames, frame_at, frames_for, held, page_with, pages_below, read_below};
+ghost use Rattle.unixmodel.specs.Memory.{Perm as Rights};
 ghost use Rattle.vm.specs.Leaf.{marks_from, user_leaf, IsUserLeaf};
 ghost use Rattle.vm.specs.Space.{pages_in, max_size, IsSpace, entries_of, mapping_of, pages_of, registers_of, holds};
 ghost use Rattle.unixmodel.specs.Memory.{zero_page};
@@ -29,7 +29,7 @@ mod trapframe;
 use frames::Frames;
 use pagetable::{PageTable, leaf_marks};
 use ram::{FrameNo, Ram};
-use sv39::Marks;
+use sv39::EntryBits;
 use thiserror::Error;
 
 /// Why a call on a space is refused.
@@ -59,24 +59,24 @@ pub struct Perm {
 
 impl Perm {
     // The marks of the leaf of a page.
-    fn leaf(self) -> Marks
+    fn leaf(self) -> EntryBits
         ensures { result.0 ≡ user_leaf (marks_from self) true }
     {
         let leaf = leaf_marks(self.w, self.x, self.u);
         if self.w {
-            Marks(leaf.0 + RIGHT.0)
+            EntryBits(leaf.0 + RIGHT.0)
         } else {
             leaf
         }
     }
 
     // The same without W: a store faults, also where the page is writable by right.
-    fn closed_leaf(self) -> Marks
+    fn closed_leaf(self) -> EntryBits
         ensures { result.0 ≡ user_leaf (marks_from self) false }
     {
         let closed = leaf_marks(false, self.x, self.u);
         if self.w {
-            Marks(closed.0 + RIGHT.0)
+            EntryBits(closed.0 + RIGHT.0)
         } else {
             closed
         }
@@ -102,10 +102,10 @@ pub const MAX_SIZE: u64 = 0x3fffffe000;
 pub const TRAP_PAGE: u64 = 0x3fffffe;
 
 // The mark that a program may write a page by right. The walk doesn't look at it: where W is missing a store faults.
-const RIGHT: Marks = Marks(256);
+const RIGHT: EntryBits = EntryBits(256);
 
 // The marks of the trap frame's page: V, R, W, A, D and the right to write, and no U.
-const TRAP: Marks = Marks(455);
+const TRAP: EntryBits = EntryBits(455);
 
 /// How many frames a space of so many pages holds: the pages, the trap frame, the root, two tables for
 /// the trap frame, a table for each 512 pages, and one above those.
@@ -169,13 +169,13 @@ impl Space {
     }
 
     // Makes a free frame, all zero, the next page.
-    fn add_page(&self, ram: &mut Ram, frames: &mut Frames, n: u64, marks: Marks)
-        requires held { IsHeld ram.old self.now.root.0 self.now.trap.0 n frames.old }
+    fn add_page(&self, ram: &mut Ram, frames: &mut Frames, n: u64, marks: EntryBits)
+        requires held { OwnsFrames ram.old self.now.root.0 self.now.trap.0 n frames.old }
         requires small { n < 32768 }
         requires room { frames_for (n + 1) ≤ frames_for n + free_count ram.old frames.old }
         requires marks { IsLeafMarks marks.0 }
         requires user { IsUserLeaf marks.0 }
-        ensures held { IsHeld ram.new self.now.root.0 self.now.trap.0 (n + 1) frames.new }
+        ensures held { OwnsFrames ram.new self.now.root.0 self.now.trap.0 (n + 1) frames.new }
         ensures pages { pages_below ram.new self.now.root.0 (n + 1) ≡ pages_below ram.old self.now.root.0 n ++ (page_with (replicate 4096 0) marks.0 ∷ []) }
         ensures mapping { (read : ℕ → Rights) (k : ℕ) → k ≤ n → read_below read ram.new self.now.root.0 k ≡ read_below read ram.old self.now.root.0 k }
         ensures trap { frame_of ram.new self.now.trap.0 ≡ frame_of ram.old self.now.trap.0 }
@@ -274,8 +274,8 @@ impl Space {
 
     // Gives back the last page.
     fn drop_page(&self, ram: &mut Ram, frames: &mut Frames, n: u64)
-        requires { IsHeld ram.old self.now.root.0 self.now.trap.0 (n + 1) frames.old }
-        ensures held { IsHeld ram.new self.now.root.0 self.now.trap.0 n frames.new }
+        requires { OwnsFrames ram.old self.now.root.0 self.now.trap.0 (n + 1) frames.old }
+        ensures held { OwnsFrames ram.new self.now.root.0 self.now.trap.0 n frames.new }
         ensures pages { (k : ℕ) → k ≤ n → pages_below ram.new self.now.root.0 k ≡ pages_below ram.old self.now.root.0 k }
         ensures mapping { (read : ℕ → Rights) (k : ℕ) → k ≤ n → read_below read ram.new self.now.root.0 k ≡ read_below read ram.old self.now.root.0 k }
         ensures trap { frame_of ram.new self.now.trap.0 ≡ frame_of ram.old self.now.trap.0 }
@@ -289,9 +289,9 @@ impl Space {
 
     // Gives back the pages from `to` on.
     fn drop_pages(&self, ram: &mut Ram, frames: &mut Frames, from: u64, to: u64)
-        requires held { IsHeld ram.old self.now.root.0 self.now.trap.0 from frames.old }
+        requires held { OwnsFrames ram.old self.now.root.0 self.now.trap.0 from frames.old }
         requires order { to ≤ from }
-        ensures held { IsHeld ram.new self.now.root.0 self.now.trap.0 to frames.new }
+        ensures held { OwnsFrames ram.new self.now.root.0 self.now.trap.0 to frames.new }
         ensures pages { pages_below ram.new self.now.root.0 to ≡ pages_below ram.old self.now.root.0 to }
         ensures mapping { (read : ℕ → Rights) → read_below read ram.new self.now.root.0 to ≡ read_below read ram.old self.now.root.0 to }
         ensures trap { frame_of ram.new self.now.trap.0 ≡ frame_of ram.old self.now.trap.0 }

@@ -18,7 +18,7 @@ use crate::access::perm_of;
 use frames::Frames;
 use pagetable::PageTable;
 use ram::{FrameNo, Ram};
-use sv39::Marks;
+use sv39::EntryBits;
 
 impl Space {
     // Gives a page whose frame has other holders too a frame of its own, with the same bytes, and tells it.
@@ -28,7 +28,7 @@ impl Space {
         frames: &mut Frames,
         page: u64,
         frame: FrameNo,
-        leaf: Marks,
+        leaf: EntryBits,
     ) -> FrameNo
         requires space { IsSpace ram.old self.now frames.old }
         requires page { page < pages_in self.now.size }
@@ -51,7 +51,7 @@ impl Space {
     }
 
     // Gives a page other marks with the same rights; it is opened only where its frame has one holder.
-    fn set_page(&self, ram: &mut Ram, frames: &Frames, page: u64, frame: FrameNo, leaf: Marks)
+    fn set_page(&self, ram: &mut Ram, frames: &Frames, page: u64, frame: FrameNo, leaf: EntryBits)
         requires space { IsSpace ram.old self.now frames.now }
         requires page { page < pages_in self.now.size }
         requires frame { frame_at ram.old self.now.root.0 page ≡ frame.0 }

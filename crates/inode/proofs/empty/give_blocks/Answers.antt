@@ -1,7 +1,7 @@
 use Rattle.std.proofs.Common.{◌≡◌, ◌<◌, ◌∙◌, arith, refl}
 use Rattle.std.proofs.lemmas.Result.{err_from_is_err_and, on_ok_weaker}
 use Rattle.layout.specs.Image.{blocks_for}
-use Rattle.inode.specs.Held.{HasInode-of}
+use Rattle.inode.specs.OnDisk.{HasInode-of}
 use Rattle.inode.proofs.FreeingLemmas.{Freed-none}
 use Rattle.balloc.proofs.Exits.{HasCause-after, HasCause-failed}
 use Rattle.inode.proofs.Causes.{HasCause-good}

@@ -1,5 +1,5 @@
 use Rattle.std.proofs.Common.{◌∙◌, arith}
-use Rattle.inode.specs.Held.{HasInode-of}
+use Rattle.inode.specs.OnDisk.{HasInode-of}
 use Rattle.inode.proofs.Ends.{IsStep-done, IsStep-failed, IsStep-refused}
 use Rattle.inode.proofs.Filling.{lacks_direct}
 use Rattle.inode.proofs.Steps.{Prepares-direct}

@@ -1,5 +1,5 @@
 use Rattle.std.proofs.Common.{length, ap, arith, le_refl, refl, ◌∙◌}
-use Rattle.inode.specs.Held.{HasInode-of}
+use Rattle.inode.specs.OnDisk.{HasInode-of}
 use Rattle.inode.proofs.Ends.{IsStep-done, IsStep-failed, IsStep-refused}
 use Rattle.inode.proofs.Filling.{lacks_indirect}
 use Rattle.inode.proofs.Reading.{numbers_in_disk}

@@ -2,7 +2,7 @@ use Rattle.std.proofs.Common.{◌/◌, ◌∙◌, arith, subst, refl, le_of_lt}
 use Rattle.std.proofs.lemmas.Result.{err_from_is_err_and, on_ok_weaker}
 use Rattle.layout.specs.Grow.{WritesInode}
 use Rattle.layout.proofs.Puts.{HasParts-kept}
-use Rattle.inode.specs.Held.{HasInode-of}
+use Rattle.inode.specs.OnDisk.{HasInode-of}
 use Rattle.balloc.proofs.Exits.{HasCause-after, HasCause-failed}
 use Rattle.inode.proofs.Causes.{HasCause-first, HasCause-good}
 use Rattle.inode.proofs.Filling.{inside_kept, inside_longer, inside_prepared}

@@ -2,7 +2,7 @@ use Rattle.std.proofs.Common.{length, ◌∙◌, ◌≤◌, arith, refl, subst, 
 use Rattle.std.proofs.lemmas.Result.{err_from_is_err_and}
 use Rattle.imagerules.specs.Content.{image_of}
 use Rattle.imagerules.specs.Places.{files_in}
-use Rattle.mount.proofs.Mounting.{IsHeld-mounted, IsMounted-over, two-blocks, unmounted-check, unmounted-device, unmounted-memory}
+use Rattle.mount.proofs.Mounting.{IsFileSystem-mounted, IsMounted-over, two-blocks, unmounted-check, unmounted-device, unmounted-memory}
 use Rattle.mount.proofs.device.mount.Goals as goal
 use Rattle.mount.specs.Mounted.{IsMounted, TellsNumbers}
 
@@ -38,7 +38,7 @@ new-requires-2 g c =
     let blocks = g.D.BlockDev.content device in
     let geometry = c.in_ok-geometry.geometry in
     let numbers : TellsNumbers (image_of blocks) geometry = subst (λ b. TellsNumbers (image_of b) geometry) c.check.ensures.same c.in_ok-geometry.ensures.numbers in
-    IsHeld-mounted blocks (g.met.D.BlockDev.sizes device) (files_in (image_of blocks)) c.in_ok-_summary.ensures.denotes geometry numbers c.in_ok-disk.disk
+    IsFileSystem-mounted blocks (g.met.D.BlockDev.sizes device) (files_in (image_of blocks)) c.in_ok-_summary.ensures.denotes geometry numbers c.in_ok-disk.disk
     (c.in_ok-disk.ensures.blocks ∙ c.read_geometry.ensures.same ∙ c.check.ensures.same)
 
 pub returns-in_err-new-clause-unmounted : goal.returns-in_err-new-clause-unmounted

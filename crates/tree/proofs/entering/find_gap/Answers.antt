@@ -1,6 +1,6 @@
 use Rattle.std.proofs.Common.{ap, length, ◌∙◌, refl, le_refl, le_trans}
 use Rattle.std.specs.Prelude.{is_some}
-use Rattle.tree.specs.Held.{files_of}
+use Rattle.tree.specs.Stored.{files_of}
 use Rattle.tree.proofs.Answering.{Answers-fails, Answers-no, Answers-yes, Answers-passed}
 use Rattle.tree.proofs.Gaps.{done-of, gap-full, gap-has, gap-here, gap-lacks, gap-place, gap-room}
 use Rattle.tree.proofs.Reading.{looked, read-later, read-same, read-told}

@@ -3,8 +3,8 @@ use Rattle.blockdev.specs.Splice.{splice}
 use Rattle.inode.specs.Writing.{IsFull, Wrote}
 use Rattle.layout.specs.Image.{bytes_of}
 use Rattle.imagerules.proofs.Spelling.{length-place_bytes}
-use Rattle.tree.specs.Held.{files_of}
-use Rattle.tree.proofs.Placing.{Holds-entered, never-lacks, place-high, place-low}
+use Rattle.tree.specs.Stored.{files_of}
+use Rattle.tree.proofs.Placing.{Stores-entered, never-lacks, place-high, place-low}
 use Rattle.tree.proofs.Exits.{Turns-good, Turns-lost, node-asked}
 use Rattle.tree.proofs.entering.put_entry.Goals as goal
 
@@ -42,7 +42,7 @@ returns-in-Ok g c =
     let blocks = c.args.disk.now.blocks in
     let wrote = subst (λ bytes. Wrote c.args.geometry blocks c.write_at.new.disk.blocks c.args.gap.now.directory (splice (16 * c.args.gap.now.place) bytes (bytes_of blocks c.args.gap.now.directory))) c.place_bytes-entry.ensures c.in-Ok.ensures.wrote in
     Turns-good c.write_at.ensures.count
-    (Holds-entered c.args.geometry blocks c.write_at.new.disk.blocks (files_of c.args.geometry blocks) c.requires.held c.args.gap.now.directory c.args.gap.now.place c.requires.room _ c.requires.plain wrote)
+    (Stores-entered c.args.geometry blocks c.write_at.new.disk.blocks (files_of c.args.geometry blocks) c.requires.held c.args.gap.now.directory c.args.gap.now.place c.requires.room _ c.requires.plain wrote)
     c.write_at.ensures.later
 
 pub returns-in-Err-Device : goal.returns-in-Err-Device

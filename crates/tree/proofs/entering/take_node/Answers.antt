@@ -1,7 +1,7 @@
 use Rattle.std.proofs.Common.{Err, ap, refl, ◌∙◌}
-use Rattle.tree.specs.Held.{files_of}
+use Rattle.tree.specs.Stored.{files_of}
 use Rattle.tree.proofs.Answering.{Answers-no, Answers-yes, Answers-lost}
-use Rattle.tree.proofs.Taking.{Holds-fresh, lowest-number, no-number}
+use Rattle.tree.proofs.Taking.{Stores-fresh, lowest-number, no-number}
 use Rattle.tree.proofs.entering.take_node.Goals as goal
 
 pub returns-in-Ok : goal.returns-in-Ok
@@ -9,7 +9,7 @@ returns-in-Ok g c =
     let blocks = c.args.disk.now.blocks in
     let files = files_of c.args.geometry blocks in
     let is = lowest-number c.args.geometry blocks files c.requires.held c.in-Ok.number c.in-Ok.ensures.taken in
-    Answers-yes _ (is, Holds-fresh c.args.geometry blocks c.take_inode.new.disk.blocks files c.requires.held c.args.kind c.args.major c.args.minor c.in-Ok.number c.requires.some c.requires.kind is c.in-Ok.ensures.sound c.in-Ok.ensures.nodes c.in-Ok.ensures.free)
+    Answers-yes _ (is, Stores-fresh c.args.geometry blocks c.take_inode.new.disk.blocks files c.requires.held c.args.kind c.args.major c.args.minor c.in-Ok.number c.requires.some c.requires.kind is c.in-Ok.ensures.sound c.in-Ok.ensures.nodes c.in-Ok.ensures.free)
     c.take_inode.ensures.count c.take_inode.ensures.later
 
 pub returns-in-Err-Inodes : goal.returns-in-Err-Inodes

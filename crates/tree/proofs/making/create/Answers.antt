@@ -1,6 +1,6 @@
 use Rattle.std.proofs.Common.{◌≡◌, None, ap, refl, subst, sym, ◌∙◌, le_refl, le_trans}
 use Rattle.tree.specs.Entering.{made_files}
-use Rattle.tree.specs.Held.{files_of}
+use Rattle.tree.specs.Stored.{files_of}
 use Rattle.tree.specs.Lacking.{LacksMaking}
 use Rattle.tree.specs.Leaves.{leaf_node}
 use Rattle.unixmodel.specs.Files.{free_number}

@@ -1,5 +1,5 @@
 use Rattle.std.proofs.Common.{◌≡◌, ◌≤◌, None, ap, arith, refl, subst, suc, sym, ◌∙◌, le_refl, le_trans}
-use Rattle.tree.specs.Held.{files_of}
+use Rattle.tree.specs.Stored.{files_of}
 use Rattle.tree.specs.Lacking.{LacksFolder}
 use Rattle.unixmodel.specs.Files.{free_number, most_links}
 use Rattle.unixmodel.specs.Files.Node.{Directory}

@@ -1,5 +1,5 @@
 use Rattle.std.proofs.Common.{inl, sym, ◌∙◌, refl, le_refl, le_trans}
-use Rattle.tree.specs.Held.{files_of}
+use Rattle.tree.specs.Stored.{files_of}
 use Rattle.unixmodel.specs.Manifest.{data_blocks_of}
 use Rattle.tree.proofs.Answering.{Answers-fails, Answers-no, Answers-passed, Answers-yes}
 use Rattle.tree.proofs.Gaps.{done-of, overflow-none}

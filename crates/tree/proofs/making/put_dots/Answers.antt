@@ -1,5 +1,5 @@
 use Rattle.layout.specs.Image.{free_blocks}
-use Rattle.tree.specs.Held.{files_of}
+use Rattle.tree.specs.Stored.{files_of}
 use Rattle.tree.proofs.Dots.{dot-plain, dots-plain, first-fits, first-room, second-fits, second-is, second-room}
 use Rattle.tree.proofs.Linking.{Turns-after, turned}
 use Rattle.tree.proofs.Storing.{held-again}

@@ -1,6 +1,6 @@
 use Rattle.std.proofs.Common.{ap, arith, refl, sym, ◌∙◌, le_trans}
 use Rattle.names.proofs.Naming.{lookup-used}
-use Rattle.tree.specs.Held.{files_of}
+use Rattle.tree.specs.Stored.{files_of}
 use Rattle.unixmodel.specs.Files.{parts, follow}
 use Rattle.tree.proofs.Parts.{find-start, follow-next, start-held}
 use Rattle.tree.proofs.Reading.{Reads-fails, Reads-then, looked, read-later, read-same, Reads-good}

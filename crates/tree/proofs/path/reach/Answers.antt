@@ -1,6 +1,6 @@
 use Rattle.std.proofs.Common.{ap, arith, refl, sym, ◌∙◌, le_trans, ◌∷◌}
 use Rattle.names.proofs.Naming.{lookup-used}
-use Rattle.tree.specs.Held.{files_of}
+use Rattle.tree.specs.Stored.{files_of}
 use Rattle.unixmodel.specs.Files.{parts}
 use Rattle.tree.proofs.Parts.{above-nothing, above-start, reach-next, start-held}
 use Rattle.tree.proofs.Reading.{Reads-fails, Reads-good, Reads-then, looked, read-later, read-same}

@@ -1,6 +1,6 @@
 use Rattle.std.proofs.Common.{◌≡◌, ◌≤◌, ◌∷◌, length}
 use Rattle.std.specs.Prelude.{IsSome}
-use Rattle.tree.specs.Held.{files_of}
+use Rattle.tree.specs.Stored.{files_of}
 use Rattle.tree.specs.Paths.{above, reach}
 use Rattle.unixmodel.specs.Files.{parts, slot}
 use Rattle.tree.proofs.path.reach.Given as goal

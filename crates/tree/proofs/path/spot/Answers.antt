@@ -1,5 +1,5 @@
 use Rattle.std.proofs.Common.{length, ap, ◌∙◌, refl, le_refl, le_trans}
-use Rattle.tree.specs.Held.{files_of}
+use Rattle.tree.specs.Stored.{files_of}
 use Rattle.tree.proofs.Answering.{Answers-fails, Answers-no, Answers-yes}
 use Rattle.tree.proofs.Reading.{read-later, read-same}
 use Rattle.tree.proofs.Spots.{above-node, reached, spot-bare, spot-live, spot-none, spot-other}

@@ -1,7 +1,7 @@
 use Rattle.std.proofs.Common.{refl, ap, sym, ◌∙◌, le_refl}
 use Rattle.std.specs.Prelude.{option_map}
 use Rattle.tree.specs.declared.place.Found.{Found}
-use Rattle.tree.specs.Held.{files_of}
+use Rattle.tree.specs.Stored.{files_of}
 use Rattle.unixmodel.specs.Files.{slot}
 use Rattle.tree.proofs.Looking.{dead-told, lookup-told, node-of}
 use Rattle.tree.proofs.Reading.{Reads-good, Reads-then, read-told, Reads-fails}

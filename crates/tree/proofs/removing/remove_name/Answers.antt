@@ -1,6 +1,6 @@
 use Rattle.std.proofs.Common.{◌≡◌, Some, None, ap, refl, sym, subst, ◌∙◌, le_refl, le_trans}
 use Rattle.std.proofs.lemmas.Option.{none-some}
-use Rattle.tree.specs.Held.{Holds, files_of}
+use Rattle.tree.specs.Stored.{Stores, files_of}
 use Rattle.tree.specs.Names.{dropped, removal}
 use Rattle.tree.proofs.Linking.{turned}
 use Rattle.tree.proofs.Reading.{read-same, read-told, read-later}
@@ -60,7 +60,7 @@ drop_links-requires g c =
     let found = found-parts c.requires.naming.places c.args.name.now c.in-Some.found (named-in c.requires.held c.requires.naming c.args.name.now (read-told c.find_name.ensures c.in_ok-found.was) c.in-Some.is) in
     let node = found-node c.requires.naming c.args.name.now found in
     let same = read-same c.removal.ensures c.in_ok-is_directory.was ∙ read-same c.find_name.ensures c.in_ok-found.was in
-    let now = subst (λ b. Holds c.args.geometry c.free_place.new.disk.blocks (erase (files_of c.args.geometry b) c.args.directory c.in-Some.found.place)) same (turned c.free_place.ensures c.in_ok-free_place.was) in
+    let now = subst (λ b. Stores c.args.geometry c.free_place.new.disk.blocks (erase (files_of c.args.geometry b) c.args.directory c.in-Some.found.place)) same (turned c.free_place.ensures c.in_ok-free_place.was) in
     record {
       held = held-again c.args.geometry c.free_place.new.disk.blocks _ now;
       node = held-used now c.in-Some.found.number (stays-erased files c.args.directory c.in-Some.found.place c.in-Some.found.number (λ e. none-some node.0 (sym e ∙ node.1)));
@@ -75,7 +75,7 @@ returns g c =
     let first = read-same c.find_name.ensures c.in_ok-found.was in
     let same = read-same c.removal.ensures c.in_ok-is_directory.was ∙ first in
     let goes : removal node.0 ≡ Some c.in-Some-2.is_directory = sym (read-told c.removal.ensures c.in_ok-is_directory.was node.0 (ap (λ b. slot (files_of c.args.geometry b) c.in-Some.found.number) first ∙ node.1)) ∙ c.in-Some-2.is in
-    let now = subst (λ b. Holds c.args.geometry c.free_place.new.disk.blocks (erase (files_of c.args.geometry b) c.args.directory c.in-Some.found.place)) same (turned c.free_place.ensures c.in_ok-free_place.was) in
+    let now = subst (λ b. Stores c.args.geometry c.free_place.new.disk.blocks (erase (files_of c.args.geometry b) c.args.directory c.in-Some.found.place)) same (turned c.free_place.ensures c.in_ok-free_place.was) in
     let less = erase files c.args.directory c.in-Some.found.place in
     record {
       gives = record {

@@ -1,6 +1,6 @@
 use Rattle.std.proofs.Common.{ap, arith, length, refl, sym, ◌+◌, ◌∙◌, le_refl}
 use Rattle.balloc.proofs.Exits.{HasCause-after}
-use Rattle.tree.specs.Held.{files_of}
+use Rattle.tree.specs.Stored.{files_of}
 use Rattle.tree.proofs.Linking.{relinked-held}
 use Rattle.tree.proofs.Storing.{held-links}
 use Rattle.tree.proofs.Exits.{Turns-broken, node-asked}

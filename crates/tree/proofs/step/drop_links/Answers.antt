@@ -1,5 +1,5 @@
 use Rattle.std.proofs.Common.{ap, sym, ◌∙◌, le_refl, subst}
-use Rattle.tree.specs.Held.{files_of, Holds}
+use Rattle.tree.specs.Stored.{files_of, Stores}
 use Rattle.tree.specs.Names.{dropped}
 use Rattle.unixmodel.specs.NameCalls.{fewer_links}
 use Rattle.tree.proofs.Linking.{Turns-after, turned}
@@ -33,6 +33,6 @@ returns-in_err-drop_link g c = Turns-broken c.drop_link.ensures.count (le_refl _
 pub returns : goal.returns
 returns g c =
     Turns-good c.drop_link.ensures.count
-    (subst (λ goes. Holds c.args.geometry c.drop_link.new.disk.blocks (dropped (files_of c.args.geometry c.args.disk.now.blocks) c.args.number c.args.directory goes)) (sym c.if-is_directory.false)
+    (subst (λ goes. Stores c.args.geometry c.drop_link.new.disk.blocks (dropped (files_of c.args.geometry c.args.disk.now.blocks) c.args.number c.args.directory goes)) (sym c.if-is_directory.false)
     (turned c.drop_link.ensures c.in_ok-drop_link.was))
     c.drop_link.ensures.cause.later

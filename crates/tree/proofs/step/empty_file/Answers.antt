@@ -1,5 +1,5 @@
 use Rattle.std.proofs.Common.{ap, length, refl, subst, sym, ◌∙◌, le_refl}
-use Rattle.tree.specs.Held.{Holds, files_of}
+use Rattle.tree.specs.Stored.{Stores, files_of}
 use Rattle.unixmodel.specs.Files.{change_node}
 use Rattle.unixmodel.specs.NameCalls.{emptied}
 use Rattle.tree.proofs.Emptying.{emptied-held, emptied-other}
@@ -13,7 +13,7 @@ stat-requires g c = used-asked refl c.requires.held c.requires.node
 pub returns-then-node-ne-FILE : goal.returns-then-node-ne-FILE
 returns-then-node-ne-FILE g c =
     Turns-good c.stat.ensures.count
-    (subst (λ b. Holds c.args.geometry b (change_node (files_of c.args.geometry c.args.disk.now.blocks) c.args.number emptied)) (sym c.in_ok-node.ensures.same)
+    (subst (λ b. Stores c.args.geometry b (change_node (files_of c.args.geometry c.args.disk.now.blocks) c.args.number emptied)) (sym c.in_ok-node.ensures.same)
     (emptied-other c.requires.held c.args.number c.requires.node c.in_ok-node.ensures.kind c.if-node-ne-FILE.true))
     c.stat.ensures.cause.later
 

@@ -1,5 +1,5 @@
 use Rattle.std.proofs.Common.{◌≡◌, ap, arith, refl, subst, sym, ◌∙◌, le_refl}
-use Rattle.tree.specs.Held.{Holds, files_of}
+use Rattle.tree.specs.Stored.{Stores, files_of}
 use Rattle.tree.specs.Holding.{let_go}
 use Rattle.unixmodel.specs.Files.{clear, slot}
 use Rattle.tree.proofs.Letting.{let-go-clear, let-go-held, let-go-linked}
@@ -11,7 +11,7 @@ use Rattle.tree.proofs.step.let_go.Goals as goal
 pub returns-then-holds-number-gt0 : goal.returns-then-holds-number-gt0
 returns-then-holds-number-gt0 g c =
     Turns-good refl
-    (subst (Holds c.args.geometry c.args.disk.now.blocks) (sym (let-go-held c.args.holds.now (files_of c.args.geometry c.args.disk.now.blocks) c.args.number (let some = c.if-holds-number-gt0.true in omega arith))) c.requires.held)
+    (subst (Stores c.args.geometry c.args.disk.now.blocks) (sym (let-go-held c.args.holds.now (files_of c.args.geometry c.args.disk.now.blocks) c.args.number (let some = c.if-holds-number-gt0.true in omega arith))) c.requires.held)
     (le_refl _)
 
 pub stat-requires : goal.stat-requires
@@ -24,8 +24,8 @@ returns-then-node-gt0 g c =
     let links = held-links c.args.geometry c.args.disk.now.blocks files c.requires.held c.args.number at.0 at.1 c.in_ok-node.ensures.links in
     let some = c.if-node-gt0.true in
     Turns-good c.stat.ensures.count
-    (subst (λ b. Holds c.args.geometry b (let_go c.args.holds.now files c.args.number)) (sym c.in_ok-node.ensures.same)
-    (subst (Holds c.args.geometry c.args.disk.now.blocks) (sym (let-go-linked c.args.holds.now files c.args.number at.0 at.1 (omega arith))) c.requires.held))
+    (subst (λ b. Stores c.args.geometry b (let_go c.args.holds.now files c.args.number)) (sym c.in_ok-node.ensures.same)
+    (subst (Stores c.args.geometry c.args.disk.now.blocks) (sym (let-go-linked c.args.holds.now files c.args.number at.0 at.1 (omega arith))) c.requires.held))
     c.stat.ensures.cause.later
 
 pub returns : goal.returns

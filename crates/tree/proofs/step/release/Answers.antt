@@ -1,6 +1,6 @@
 use Rattle.std.proofs.Common.{refl, ◌∙◌, le_refl}
 use Rattle.inode.proofs.Wrote.{IsInode-same}
-use Rattle.tree.specs.Held.{files_of}
+use Rattle.tree.specs.Stored.{files_of}
 use Rattle.balloc.proofs.Exits.{HasCause-after}
 use Rattle.tree.proofs.Releasing.{emptied-size, released}
 use Rattle.tree.proofs.Exits.{Turns-broken, used-asked}

@@ -1,6 +1,6 @@
 use Rattle.std.proofs.Common.{[], ◌≡◌, ap, arith, refl, sym, ◌∙◌, le_refl}
 use Rattle.std.proofs.lemmas.Option.{none-some}
-use Rattle.tree.specs.Held.{files_of}
+use Rattle.tree.specs.Stored.{files_of}
 use Rattle.tree.specs.Holding.{let_go}
 use Rattle.tree.proofs.Letting.{let-go-clear, let-go-linked}
 use Rattle.tree.proofs.Linking.{Turns-after}

@@ -1,7 +1,7 @@
 use Rattle.std.proofs.Common.{arith, ap, ◌∙◌, replicate, get_or-set_same}
 use Rattle.ram.specs.Memory.{frame_of}
 use Rattle.pagetable.proofs.TreeLemmas.{free-first}
-use Rattle.vm.proofs.StepLemmas.{IsHeld-paged, IsTaken, IsTaken-set}
+use Rattle.vm.proofs.StepLemmas.{OwnsFrames-paged, IsTaken, IsTaken-set}
 use Rattle.vm.proofs.Added.{IsBefore}
 use Rattle.vm.proofs.Taken.{taken-before, taken-fits, taken-grown}
 use Rattle.vm.proofs.Space.add_page.Goals as goal
@@ -17,7 +17,7 @@ pub zero-requires : goal.zero-requires
 zero-requires c = (free-first c.args.ram.now c.args.frames.now c.in-Some.frame.0 _ c.requires.held.free c.in-Some.ensures.some).0
 
 pub map-requires-clause-paged : goal.map-requires-clause-paged
-map-requires-clause-paged c = IsHeld-paged _ _ _ _ _ (before (goal.at.map-requires-clause-paged c).After-zero).space
+map-requires-clause-paged c = OwnsFrames-paged _ _ _ _ _ (before (goal.at.map-requires-clause-paged c).After-zero).space
 
 pub map-requires-clause-frame : goal.map-requires-clause-frame
 map-requires-clause-frame c = omega (arith, (taken (goal.at.map-requires-clause-frame c).After-zero).count, (free-first c.args.ram.now c.args.frames.now c.in-Some.frame.0 _ c.requires.held.free c.in-Some.ensures.some).0)

@@ -1,14 +1,14 @@
 use Rattle.std.proofs.Common.{ℕ, suc, ◌≢◌, Option, Some, None, ◌≡◌, arith, add-one}
-use Rattle.vm.specs.Dense.{IsHeld}
+use Rattle.vm.specs.Dense.{OwnsFrames}
 use Rattle.vm.proofs.DropLemmas.{IsUnmapped, dropped, give-held, give-inside, unmapped-was}
-use Rattle.vm.proofs.StepLemmas.{IsHeld-paged}
+use Rattle.vm.proofs.StepLemmas.{OwnsFrames-paged}
 use Rattle.vm.proofs.Space.drop_page.Goals as goal
 use Rattle.vm.proofs.Space.drop_page.Goals.{After-unmap-frame}
 
 some-lookup : (A : Type 0) (o : Option A) (a : A) → o ≡ Some a → o ≢ None
 some-lookup A o a e z = cc
 
-one_more : (c : After-unmap-frame) → IsHeld c.args.ram.now c.args.self.now.root.0 c.args.self.now.trap.0 (suc c.args.n) c.args.frames.now
+one_more : (c : After-unmap-frame) → OwnsFrames c.args.ram.now c.args.self.now.root.0 c.args.self.now.trap.0 (suc c.args.n) c.args.frames.now
 one_more c = rw (← add-one c.args.n) c.requires
 
 unmapped : (c : After-unmap-frame) → IsUnmapped c.args.ram.now c.unmap-frame.new.ram c.args.self.now.root.0 c.args.n c.unmap-frame.result.0 c.args.frames.now c.unmap-frame.new.frames
@@ -18,7 +18,7 @@ unmapped c =
     record { was = was; removes = e.removes; drops = e.drops; tidy = e.tidy; paged = e.paged; keeps = e.keeps; extra = e.extra }
 
 pub unmap-frame-requires-clause-paged : goal.unmap-frame-requires-clause-paged
-unmap-frame-requires-clause-paged c = IsHeld-paged _ _ _ _ _ c.requires
+unmap-frame-requires-clause-paged c = OwnsFrames-paged _ _ _ _ _ c.requires
 
 pub unmap-frame-requires-clause-mapped : goal.unmap-frame-requires-clause-mapped
 unmap-frame-requires-clause-mapped c = some-lookup (ℕ × ℕ) _ _ (c.requires.dense.pages c.args.n (omega arith))

@@ -3,7 +3,7 @@ use Rattle.std.proofs.lemmas.List.{replicate_more}
 use Rattle.frames.proofs.HolderLemmas.{Trades-none, Trades-twice, held-count}
 use Rattle.vm.specs.Dense.{frames_for, held, page_with, pages_below, read_below}
 use Rattle.vm.proofs.DenseLemmas.{length-held}
-use Rattle.unixmodel.specs.Memory.{Marks, zero_page}
+use Rattle.unixmodel.specs.Memory.{Perm, zero_page}
 use Rattle.vm.specs.Leaf.{entry_marks, marks_from, right_marks}
 use Rattle.vm.proofs.LeafLemmas.{leaf-user, leaf-valid, page-zero}
 use Rattle.vm.proofs.PageLemmas.{take-mapping}
@@ -52,7 +52,7 @@ loop-page-preserved c =
     }
 
 -- the pages that were are mapped as they were
-front : (c : After-loop-page) (read : ℕ → Marks)
+front : (c : After-loop-page) (read : ℕ → Perm)
     → take (pages_in c.args.self.now.size) (read_below read c.loop-page.ram c.args.self.now.root.0 (pages_in (c.args.self.now.size + c.args.bytes))) ≡ read_below read c.args.ram.now c.args.self.now.root.0 (pages_in c.args.self.now.size)
 front c read = take-mapping read c.loop-page.ram c.args.self.now.root.0 _ _ (omega arith) ∙ (rw c.pages_in-from.ensures at c.loop-page.invariant.mapping read)
 

@@ -1,13 +1,13 @@
 use Rattle.std.proofs.Common.{arith, ap, sym, true, ◌∙◌}
 use Rattle.frames.specs.Free.{further_at}
-use Rattle.unixmodel.specs.Memory.{Marks}
+use Rattle.unixmodel.specs.Memory.{Perm}
 use Rattle.vm.specs.Leaf.{user_leaf}
 use Rattle.vm.proofs.Remap.{IsMadeLeaf, made-leaf, page-inside-is, page-shared, page-single}
 use Rattle.vm.proofs.Space.open_page.Goals as goal
 use Rattle.vm.proofs.Space.open_page.Goals.{After-leaf-open}
 
 made : (c : After-leaf-open) → IsMadeLeaf c.args.ram.now c.args.self.now.root.0 c.args.page c.in-Some.frame.0 c.leaf-open.result.0 true
-made c = made-leaf _ _ _ _ c.in-Some.leaf.0 _ true c.in-Some.ensures (c.leaf-open.ensures ∙ ap (λ (a : Marks). user_leaf a true) c.perm_of.ensures)
+made c = made-leaf _ _ _ _ c.in-Some.leaf.0 _ true c.in-Some.ensures (c.leaf-open.ensures ∙ ap (λ (a : Perm). user_leaf a true) c.perm_of.ensures)
 
 pub holders-requires-clause-inside : goal.holders-requires-clause-inside
 holders-requires-clause-inside c = page-inside-is _ _ _ _ _ _ _ c.requires.space c.requires.page (made (goal.at.holders-requires-clause-inside c).After-leaf-open).frame

@@ -1,10 +1,10 @@
 use Rattle.vm.proofs.GrowLemmas.{frame_at-is, marks_at-is}
 use Rattle.vm.proofs.Remap.{page-inside-is, rearranged, remap-frames, remap-kept, remap-marks}
-use Rattle.vm.proofs.StepLemmas.{IsHeld-paged}
+use Rattle.vm.proofs.StepLemmas.{OwnsFrames-paged}
 use Rattle.vm.proofs.Space.set_page.Goals as goal
 
 pub remap-requires-clause-paged : goal.remap-requires-clause-paged
-remap-requires-clause-paged c = IsHeld-paged _ _ _ _ _ c.requires.space
+remap-requires-clause-paged c = OwnsFrames-paged _ _ _ _ _ c.requires.space
 
 pub remap-requires-clause-frame : goal.remap-requires-clause-frame
 remap-requires-clause-frame c = page-inside-is _ _ _ _ _ _ _ c.requires.space c.requires.page c.requires.frame

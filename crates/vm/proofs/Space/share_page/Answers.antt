@@ -1,5 +1,5 @@
 use Rattle.std.proofs.Common.{◌≡◌, false, true, ap, arith, ◌∙◌}
-use Rattle.unixmodel.specs.Memory.{Marks}
+use Rattle.unixmodel.specs.Memory.{Perm}
 use Rattle.vm.specs.Dense.{marks_at}
 use Rattle.vm.specs.Leaf.{is_open, right_marks, user_leaf}
 use Rattle.vm.specs.Fork.{IsPart}
@@ -8,12 +8,12 @@ use Rattle.vm.proofs.Added.{IsBefore, next-fits}
 use Rattle.vm.proofs.Forked.{IsClosed, closed-free, more-some, part-before, part-closed, part-holder, part-more}
 use Rattle.vm.proofs.LeafLemmas.{leaf-closed}
 use Rattle.vm.proofs.Remap.{IsMadeLeaf, made-leaf, page-inside-is}
-use Rattle.vm.proofs.StepLemmas.{IsHeld-paged}
+use Rattle.vm.proofs.StepLemmas.{OwnsFrames-paged}
 use Rattle.vm.proofs.Space.share_page.Goals as goal
 use Rattle.vm.proofs.Space.share_page.Goals.{After-closed_leaf-closed, After-set_page, After-share}
 
 made : (c : After-closed_leaf-closed) → IsMadeLeaf c.args.ram.now c.args.self.now.root.0 c.args.page c.in-Some.frame.0 c.closed_leaf-closed.result.0 false
-made c = made-leaf _ _ _ _ c.in-Some.leaf.0 _ false c.in-Some.ensures (c.closed_leaf-closed.ensures ∙ ap (λ (a : Marks). user_leaf a false) c.perm_of.ensures)
+made c = made-leaf _ _ _ _ c.in-Some.leaf.0 _ false c.in-Some.ensures (c.closed_leaf-closed.ensures ∙ ap (λ (a : Perm). user_leaf a false) c.perm_of.ensures)
 
 shut : (c : After-closed_leaf-closed) → is_open c.closed_leaf-closed.result.0 ≡ false
 shut c = ap is_open (made c).made ∙ leaf-closed (right_marks (marks_at c.args.ram.now c.args.self.now.root.0 c.args.page))
@@ -57,7 +57,7 @@ map-requires c =
     let at = goal.at.map-requires c in
     let before = (both at.After-share c.if-not-share.false).1 in
     let inside = page-inside-is _ _ _ _ _ _ _ c.set_page.ensures.same.frames.space c.requires.page c.set_page.ensures.frame in
-    record { paged = IsHeld-paged _ _ _ _ _ before.space; page = omega (arith, before.small); frame = inside; marks = (made at.After-closed_leaf-closed).marks }
+    record { paged = OwnsFrames-paged _ _ _ _ _ before.space; page = omega (arith, before.small); frame = inside; marks = (made at.After-closed_leaf-closed).marks }
 
 pub unreachable-requires-in-Err : goal.unreachable-requires-in-Err
 unreachable-requires-in-Err c =

@@ -1,5 +1,5 @@
 use Rattle.std.proofs.Common.{refl}
-use Rattle.tree.specs.Held.{files_of}
+use Rattle.tree.specs.Stored.{files_of}
 use Rattle.tree.proofs.Serving.{up-inside}
 use Rattle.tree.proofs.Whole.{whole-held}
 use Rattle.tree.proofs.tree.Tree.is_whole.Goals as goal

@@ -1,4 +1,4 @@
-use Rattle.tree.specs.Held.{files_of}
+use Rattle.tree.specs.Stored.{files_of}
 use Rattle.tree.proofs.Serving.{node-inside, turns-held, turns-serves, up-inside}
 use Rattle.unixmodel.specs.Files.{change_node}
 use Rattle.unixmodel.specs.NameCalls.{emptied}
