@@ -58,16 +58,17 @@ passed-gone None u child here gone zombie = tt
 passed-gone (Some p) None child here gone zombie = ap is_zombie (same_Some p child here) ∙ zombie
 passed-gone (Some p) (Some q) child here gone zombie = absurd cc
 
-cleared : (places : List (Option Process)) (j : ℕ) → slot (clear places j) j ≡ None
-cleared [] j = refl
-cleared (x ∷ places) zero = refl
-cleared (x ∷ places) (suc j) = cleared places j
+-- a place that is changed by what stood there
+slot-changed : (f : Option Process → Option Process) → f None ≡ None → (places : List (Option Process)) (j : ℕ) → slot (set places j (f (slot places j))) j ≡ f (slot places j)
+slot-changed f none [] j = sym none
+slot-changed f none (x ∷ places) zero = refl
+slot-changed f none (x ∷ places) (suc j) = slot-changed f none places j
 
 gone-passed : (places : List (Option Process)) (r j : ℕ) (o : Option Process) (child : Process) → slot places j ≡ Some child → is_zombie child ≡ true → (i : ℕ) → i ≢ r
     → IsPassed (slot places i) (slot (clear (set places r o) j) i)
 gone-passed places r j o child here zombie i apart = elim (cases_eq i j) [
   | inl same ↦ passed-gone (slot places i) (slot (clear (set places r o) j) i) child (ap (slot places) same ∙ here)
-      (ap (slot (clear (set places r o) j)) same ∙ cleared (set places r o) j) zombie
+      (ap (slot (clear (set places r o) j)) same ∙ slot-changed (λ q. None) refl (set places r o) j) zombie
   | inr other ↦ passed-is (slot places i) (slot (clear (set places r o) j) i) (get_or-set_other (set places r o) j i None None other ∙ get_or-set_other places r i o None apart)
 ]
 
@@ -93,11 +94,6 @@ wait-yields s r p =
 
 -- ---- kill: a process is marked
 
-slot-changed : (f : Process → Process) (places : List (Option Process)) (j : ℕ) → slot (set places j (option_map f (slot places j))) j ≡ option_map f (slot places j)
-slot-changed f [] j = refl
-slot-changed f (x ∷ places) zero = refl
-slot-changed f (x ∷ places) (suc j) = slot-changed f places j
-
 same-marked : (o : Option Process) → IsSame o (option_map marked o)
 same-marked None = tt
 same-marked (Some p) = refl
@@ -107,7 +103,7 @@ marked-same places j i = elim (cases_eq i j) [
   | inl here ↦
       let new = set places j (option_map marked (slot places j)) in
       let e : slot new i ≡ option_map marked (slot places i) =
-      ap (slot new) here ∙ slot-changed marked places j ∙ ap (λ k. option_map marked (slot places k)) (sym here) in
+      ap (slot new) here ∙ slot-changed (option_map marked) refl places j ∙ ap (λ k. option_map marked (slot places k)) (sym here) in
       subst (IsSame (slot places i)) (sym e) (same-marked (slot places i))
   | inr other ↦ same-is (slot places i) (slot (set places j (option_map marked (slot places j))) i) (get_or-set_other places j i (option_map marked (slot places j)) None other)
 ]
