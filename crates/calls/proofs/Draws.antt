@@ -68,9 +68,6 @@ module _ (k : Kernel) (i : ℕ) (w : Pending) (q : ℕ) (on : OnThePipe k i end.
   stands : has_pipe k.spaces q ≡ true
   stands = transfer-stands g
 
-  pub reads-stands : (at : Kernel) → at ≡ k → has_pipe at.spaces q ≡ true
-  reads-stands at same = rw same stands
-
   at-pipe : slot k.spaces.pipes q ≡ Some bytes
   at-pipe = some-pipe (slot k.spaces.pipes q) stands
 

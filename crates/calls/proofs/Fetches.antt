@@ -2,7 +2,6 @@
 use Rattle.std.proofs.Common.{◌≡◌, ℕ, ◌+◌, ◌<◌, ◌≤◌, ◌^◌, true, false, List, [], length, take, drop, Option, Some, None, refl, ap, subst, sym, ◌∙◌, arith}
 use Rattle.std.specs.Prelude.{Err, Ok}
 use Rattle.std.proofs.lemmas.List.{length-drop, length-take}
-use Rattle.std.proofs.lemmas.Option.{same_Some}
 use Rattle.blockdev.specs.declared.DeviceFault.{DeviceFault}
 use Rattle.calls.specs.Acts.{GoesOn}
 use Rattle.calls.specs.declared.outcome.Came.TheVariants.{Answers}
@@ -101,10 +100,6 @@ module _ (k : Kernel) (i : ℕ) (w : Pending) (number offset : ℕ) (u : Uses k 
 
   pub reads-node : (at : Kernel) → at ≡ k → (node : Node) × (slot at.tree.files number ≡ Some node)
   reads-node at same = (content.node, rw same content.here)
-
-  -- the number of its open file
-  pub reads-number : {d : ℕ} → d ≡ low (pending_arg w 0) → (o : Option ℕ) → o ≡ slot (descriptors_at k i) d → (n : ℕ) → o ≡ Some n → n ≡ (file g).number
-  reads-number place o told n some = same_Some n (file g).number (sym some ∙ told ∙ ap (slot (descriptors_at k i)) place ∙ (file g).named)
 
   -- ---- bytes that come
 

@@ -158,10 +158,6 @@ module _ (k : Kernel) (i : ℕ) (w : Pending) (number offset : ℕ) (u : Uses k 
   pub writes-is_file : (at : Kernel) → at ≡ k → IsFile at.tree.files number
   writes-is_file at same = rw same is-file
 
-  -- the number of its open file
-  pub writes-number : {d : ℕ} → d ≡ low (pending_arg w 0) → (o : Option ℕ) → o ≡ slot (descriptors_at k i) d → (n : ℕ) → o ≡ Some n → n ≡ (file g).number
-  writes-number place o told n some = same_Some n (file g).number (sym some ∙ told ∙ ap (slot (descriptors_at k i)) place ∙ (file g).named)
-
   -- ---- the device fails
 
   pub writes-lost : (at : Kernel) → at ≡ k → (t : FileTree) → t.failed ≡ true → (table : Places) → table ≡ changed at.table i (λ p. with_mode Ready (on_hart at.spaces p)) → (last : Spaces) → last ≡ idle at.spaces → IsKernel (record at { tree = t; table = table; spaces = last })

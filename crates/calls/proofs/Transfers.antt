@@ -287,6 +287,13 @@ module _ {k : Kernel} {i : ℕ} {e : End} {t : Target} {w : Pending} (g : Transf
   pub transfer-stands : Stands k.spaces (target_of t)
   transfer-stands = stands-open k.spaces (opens_of k.files) file.number (file_of file.file) (target_of t) g.runs.sound.opened.piped (slot-file k.files file.number ∙ ap (option_map file_of) file.opened) (ap target_of file.on)
 
+  pub stands-now : {at : Kernel} → at ≡ k → Stands at.spaces (target_of t)
+  stands-now same = rw same transfer-stands
+
+  -- the number of its open file
+  pub named-number : {d : ℕ} → d ≡ low (pending_arg w 0) → (o : Option ℕ) → o ≡ slot (descriptors_at k i) d → (n : ℕ) → o ≡ Some n → n ≡ file.number
+  named-number place o told n some = same_Some n file.number (sym some ∙ told ∙ ap (slot (descriptors_at k i)) place ∙ file.named)
+
   pub going-is : going k i here w ≡ goes_on (state_of k) i (me k i here) w (call_on e)
   going-is = ap (goes_on (state_of k) i (me k i here) w) g.number
 

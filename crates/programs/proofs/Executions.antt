@@ -1,8 +1,8 @@
 -- A program in the place of another.
-use Rattle.std.proofs.Common.{ap, arith, length, length-append, refl, subst, sym, ℕ, ◌*◌, ◌++◌, ◌+◌, ◌-◌, ◌<◌, ◌≤◌, ◌^◌, ◌∙◌, ◌≡◌, ◌∷◌, [], Bool, true, false, List, None, Ok, Option, Some}
+use Rattle.std.proofs.Common.{ap, arith, length, length-append, refl, subst, sym, ℕ, ◌*◌, ◌++◌, ◌+◌, ◌-◌, ◌<◌, ◌≤◌, ◌^◌, ◌∙◌, ◌≡◌, ◌∷◌, [], true, false, List, None, Ok, Option, Some}
 use Rattle.std.specs.List.{flat_map}
-use Rattle.std.specs.Prelude.{IfSome, if◌then◌else◌, nat_le, option_and_then, option_map}
-use Rattle.std.proofs.lemmas.Option.{none-some, same_Some}
+use Rattle.std.specs.Prelude.{IfSome, nat_le, option_and_then, option_map}
+use Rattle.std.proofs.lemmas.Option.{none-some, cond_some}
 use Rattle.programs.specs.declared.arguments.Arguments.{Arguments}
 use Rattle.programs.specs.declared.executing.Started.{Started}
 use Rattle.programs.specs.declared.headers.Program.{Program}
@@ -42,17 +42,13 @@ pointers-long : (s : Stack) → length (push_pointers s).memory ≡ length s.mem
 unfolding push_pointers
 pointers-long s = push-long s (flat_map (le 8) s.pointers ++ le 8 0)
 
-if-finished : (b : Bool) (p new : Plan) → (if b then Some p else None) ≡ Some new → length new.memory ≡ length p.memory
-if-finished true p new is = ap (λ (x : Plan). length x.memory) (sym (same_Some p new is))
-if-finished false p new is = absurd (none-some new is)
-
 pub args-long : (pages : Memory) (pc : ℕ) (args : List (List ℕ)) (new : Plan) → with_args pages pc args ≡ Some new → length new.memory ≡ length pages + 2
 unfolding with_args with_stack
 args-long pages pc args new is =
     let size = 4096 * (length pages + 2) in
     let stack : Stack = record { memory = pages ++ zero_page (stack_marks false) ∷ zero_page (stack_marks true) ∷ []; sp = size; pointers = [] } in
     let last = push_pointers (push_strings stack args) in
-    if-finished (nat_le (size - 4096) last.sp) (record { memory = last.memory; size = size; pc = pc; argc = length args; sp = last.sp }) new is
+    ap (λ (x : Plan). length x.memory) (sym (cond_some (nat_le (size - 4096) last.sp) (record { memory = last.memory; size = size; pc = pc; argc = length args; sp = last.sp }) new is).1)
     ∙ pointers-long (push_strings stack args)
     ∙ strings-long stack args
     ∙ length-append pages (zero_page (stack_marks false) ∷ zero_page (stack_marks true) ∷ [])

@@ -2,7 +2,7 @@
 use Rattle.std.proofs.Common.{◌≡◌, ℕ, ◌+◌, ◌-◌, ◌<◌, ◌≤◌, ◌^◌, true, List, [], ◌++◌, length, take, drop, min, None, Option, Some, is_some, unwrap_or, slice_set, refl, ap, subst, sym, ◌∙◌, arith}
 use Rattle.std.proofs.Math.Seq.{take-add}
 use Rattle.std.proofs.lemmas.Bool.{leb-true}
-use Rattle.std.proofs.lemmas.List.{drop-drop, length-append, length-drop, length-take, length-take-le, get_or-set_same, set-get_or, set-set, take_min}
+use Rattle.std.proofs.lemmas.List.{drop-drop, length-append, length-drop, length-take, length-take-le, set-get_or, set-set, take_min}
 use Rattle.blockdev.specs.Splice.{part}
 use Rattle.spaces.specs.Spaces.{SpaceView, Spaces, has_space, view_at, no_pages, with_view, written}
 use Rattle.spaces.proofs.SpacesLemmas.{held-same, within}
@@ -52,11 +52,6 @@ module _ (s : Spaces) (at address : ℕ) (has : has_space s at ≡ true) where
   module _ (bytes : List ℕ) where
     held-with : view_at (with_bytes s at address bytes) at ≡ written (view_at s at) address bytes
     held-with = held-same s at (written (view_at s at) address bytes) (space-within s at has)
-
-    pub has-with : has_space (with_bytes s at address bytes) at ≡ true
-    has-with = go where
-      go : has_space (with_bytes s at address bytes) at ≡ true
-      go = ap is_some (get_or-set_same s.places at (Some (written (view_at s at) address bytes)) None (space-within s at has))
 
     -- the rest of the buffer may be written
     pub writes-with : (d l c : ℕ) → IsSized (view_at s at).memory → can_write (view_at s at).memory address c ≡ true → d + l ≤ c → can_write (view_at (with_bytes s at address bytes) at).memory (address + d) l ≡ true

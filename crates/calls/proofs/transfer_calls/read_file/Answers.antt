@@ -1,9 +1,10 @@
 use Rattle.std.proofs.Common.{arith, ◌∙◌, ap, ◌+◌}
 use Rattle.kernel.specs.View.{kernel_of}
+use Rattle.calls.proofs.Transfers.{named-number}
 use Rattle.kernel.proofs.Watching.{watched-moved}
 use Rattle.spaces.specs.Spaces.{Spaces}
 use Rattle.calls.proofs.Woken.{running-now, watched-piped, watched-stop}
-use Rattle.calls.proofs.Fetches.{reads-done, reads-lost, reads-near, reads-node, reads-number}
+use Rattle.calls.proofs.Fetches.{reads-done, reads-lost, reads-near, reads-node}
 use Rattle.calls.proofs.transfer_calls.read_file.Goals as goal
 
 pub read_node-read-requires-clause-node : goal.read_node-read-requires-clause-node
@@ -17,7 +18,7 @@ overflow_add-offset g c =
 
 pub invariant_of-kernel : goal.invariant_of-kernel
 invariant_of-kernel g c =
-    let at = reads-number c.args.kernel.now c.args.at c.args.pending c.args.number c.args.offset c.requires c.low.ensures _ c.open_id.ensures.named _ c.in-Some.is in
+    let at = named-number c.requires.goes c.low.ensures _ c.open_id.ensures.named _ c.in-Some.is in
     let goes = reads-done c.args.kernel.now c.args.at c.args.pending c.args.number c.args.offset c.requires (kernel_of c.kernel.inside) c.kernel.view_is c.is_whole.ensures _ (c.from-count.ensures ∙ c.low-2.ensures) _ _ c.in-Ok.ensures.serves _ c.in-Ok.ensures.written _ (c.from.ensures ∙ at) _ c.low-in-Ok.ensures _ c.set_offset.ensures in
     record {
       sound = goes.comes.sound;
@@ -36,6 +37,6 @@ invariant_of-kernel-in-Err g c =
 
 pub returns-in-Ok : goal.returns-in-Ok
 returns-in-Ok g c =
-    let at = reads-number c.args.kernel.now c.args.at c.args.pending c.args.number c.args.offset c.requires c.low.ensures _ c.open_id.ensures.named _ c.in-Some.is in
+    let at = named-number c.requires.goes c.low.ensures _ c.open_id.ensures.named _ c.in-Some.is in
     let goes = reads-done c.args.kernel.now c.args.at c.args.pending c.args.number c.args.offset c.requires (kernel_of c.kernel.inside) c.kernel.view_is c.is_whole.ensures _ (c.from-count.ensures ∙ c.low-2.ensures) _ _ c.in-Ok.ensures.serves _ c.in-Ok.ensures.written _ (c.from.ensures ∙ at) _ c.low-in-Ok.ensures _ c.set_offset.ensures in
     goes

@@ -1,13 +1,14 @@
 use Rattle.kernel.specs.View.{kernel_of}
 use Rattle.kernel.proofs.Watching.{watched-bytes}
+use Rattle.calls.proofs.Transfers.{stands-now}
 use Rattle.kernel.proofs.Wakes.{kernel-waking}
 use Rattle.std.proofs.Common.{refl}
 use Rattle.calls.proofs.Woken.{goes-waking}
-use Rattle.calls.proofs.Draws.{reads-ended, reads-stands, reads-taken, reads-waiting}
+use Rattle.calls.proofs.Draws.{reads-ended, reads-taken, reads-waiting}
 use Rattle.calls.proofs.transfer_calls.read_pipe.Goals as goal
 
 pub has_bytes-requires : goal.has_bytes-requires
-has_bytes-requires g c = reads-stands c.args.kernel.now c.args.at c.args.pending c.args.pipe c.requires (kernel_of c.kernel.inside) c.kernel.view_is
+has_bytes-requires g c = stands-now c.requires.1 c.kernel.view_is
 
 pub invariant_of-kernel : goal.invariant_of-kernel
 invariant_of-kernel g c =

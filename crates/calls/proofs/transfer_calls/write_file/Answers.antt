@@ -1,8 +1,9 @@
 use Rattle.std.proofs.Common.{arith, ◌∙◌, ◌+◌}
 use Rattle.kernel.specs.View.{kernel_of}
+use Rattle.calls.proofs.Transfers.{named-number}
 use Rattle.kernel.proofs.Watching.{watched-moved}
 use Rattle.calls.proofs.Woken.{running-now, watched-stop}
-use Rattle.calls.proofs.Stores.{writes-done, writes-is_file, writes-lost, writes-near, writes-number, writes-refused}
+use Rattle.calls.proofs.Stores.{writes-done, writes-is_file, writes-lost, writes-near, writes-refused}
 use Rattle.calls.proofs.transfer_calls.write_file.Goals as goal
 
 pub write_node-wrote-requires-clause-file : goal.write_node-wrote-requires-clause-file
@@ -22,7 +23,7 @@ overflow_add-offset g c =
 
 pub invariant_of-kernel-in-Ok : goal.invariant_of-kernel-in-Ok
 invariant_of-kernel-in-Ok g c =
-    let at = writes-number c.args.kernel.now c.args.at c.args.pending c.args.number c.args.offset c.requires c.low.ensures _ c.open_id.ensures.named _ c.in-Some.is in
+    let at = named-number c.requires.goes c.low.ensures _ c.open_id.ensures.named _ c.in-Some.is in
     let sound = (writes-done c.args.kernel.now c.args.at c.args.pending c.args.number c.args.offset c.requires (kernel_of c.kernel.inside) c.kernel.view_is _ (c.from-count.ensures ∙ c.low-2.ensures) _ c.is_whole.ensures _ c.in-Ok.ensures _ c.in-Some-wrote.is _ (c.from.ensures ∙ at) _ c.low-in-Ok.ensures _ c.set_offset.ensures _ c.write_answer.ensures).comes.sound in
     record {
       sound = sound;
@@ -38,5 +39,5 @@ invariant_of-kernel-in-Err g c =
 
 pub returns-in-Some-wrote : goal.returns-in-Some-wrote
 returns-in-Some-wrote g c =
-    let at = writes-number c.args.kernel.now c.args.at c.args.pending c.args.number c.args.offset c.requires c.low.ensures _ c.open_id.ensures.named _ c.in-Some.is in
+    let at = named-number c.requires.goes c.low.ensures _ c.open_id.ensures.named _ c.in-Some.is in
     writes-done c.args.kernel.now c.args.at c.args.pending c.args.number c.args.offset c.requires (kernel_of c.kernel.inside) c.kernel.view_is _ (c.from-count.ensures ∙ c.low-2.ensures) _ c.is_whole.ensures _ c.in-Ok.ensures _ c.in-Some-wrote.is _ (c.from.ensures ∙ at) _ c.low-in-Ok.ensures _ c.set_offset.ensures _ c.write_answer.ensures

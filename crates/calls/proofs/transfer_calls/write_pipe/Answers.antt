@@ -1,9 +1,10 @@
 use Rattle.std.proofs.Common.{◌≡◌, ℕ, ◌-◌, ap, arith, sym, ◌∙◌, refl}
 use Rattle.kernel.specs.View.{kernel_of}
+use Rattle.calls.proofs.Transfers.{stands-now}
 use Rattle.kernel.proofs.Watching.{watched-bytes}
 use Rattle.kernel.proofs.Wakes.{kernel-waking}
 use Rattle.calls.proofs.Woken.{goes-waking}
-use Rattle.calls.proofs.Sends.{sends-closed, sends-fits, sends-keeps, sends-on, sends-over, sends-readable, sends-stands, sends-within}
+use Rattle.calls.proofs.Sends.{sends-closed, sends-fits, sends-keeps, sends-on, sends-over, sends-readable, sends-within}
 use Rattle.calls.proofs.transfer_calls.write_pipe.Goals as goal
 
 left : {m n l : ℕ} (d : ℕ) → m ≡ n → n ≡ l → m - d ≡ l - d
@@ -16,7 +17,7 @@ pub overflow_add-address : goal.overflow_add-address
 overflow_add-address g c = let fits = sends-fits c.args.kernel.now c.args.at c.args.pending c.args.pipe c.requires (kernel_of c.kernel.inside) c.kernel.view_is c.pages_are_whole.ensures.sized (c.from.result - c.args.pending.done) (left c.args.pending.done c.from.ensures c.low.ensures) c.pages_are_whole.ensures.few in omega (arith, fits)
 
 pub write_pipe-sent-requires-clause-pipe : goal.write_pipe-sent-requires-clause-pipe
-write_pipe-sent-requires-clause-pipe g c = sends-stands c.args.kernel.now c.args.at c.args.pending c.args.pipe c.requires (kernel_of c.kernel.inside) c.kernel.view_is
+write_pipe-sent-requires-clause-pipe g c = stands-now c.requires.1 c.kernel.view_is
 
 pub write_pipe-sent-requires-clause-readable : goal.write_pipe-sent-requires-clause-readable
 write_pipe-sent-requires-clause-readable g c = sends-readable c.args.kernel.now c.args.at c.args.pending c.args.pipe c.requires (kernel_of c.kernel.inside) c.kernel.view_is c.pages_are_whole.ensures.sized (c.from.result - c.args.pending.done) (left c.args.pending.done c.from.ensures c.low.ensures)
