@@ -17,7 +17,7 @@ use Rattle.inode.specs.declared.InodeStat.{InodeStat}
 use Rattle.programs.specs.declared.headers.Program.{Program}
 use Rattle.programs.specs.Headed.{IsRead, end_behind, end_by, file_at, headed, program_in, segment_behind, unless_refused}
 use Rattle.transfers.proofs.Fits.{serves-told}
-use Rattle.tree.proofs.Serving.{HasRead, HasSeen}
+use Rattle.programs.proofs.Serving.{HasRead, HasSeen}
 use Rattle.tree.specs.Telling.{Tells}
 use Rattle.tree.specs.Tree.{FileTree, Serves}
 use Rattle.tree.specs.Written.{IsFile}

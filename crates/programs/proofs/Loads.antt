@@ -14,7 +14,7 @@ use Rattle.programs.specs.Headed.{IsRead, file_at, program_in, segment_behind, u
 use Rattle.programs.specs.Placed.{Follows, HasRoom, IsPaged, Leaves, next_in, paged}
 use Rattle.programs.proofs.Headings.{HasLoaded, header-within, is-headed, loads-next, loads-one, none-read, whole-more, KeepsWhole, all-related}
 use Rattle.programs.proofs.Places.{has-held, held-twice, is-held, room-less, room-with, self-held}
-use Rattle.tree.proofs.Serving.{HasSeen}
+use Rattle.programs.proofs.Serving.{HasSeen}
 use Rattle.tree.specs.Written.{IsFile}
 use Rattle.spaces.specs.Spaces.{SpaceView, Spaces, has_space, view_at, no_pages, with_view}
 use Rattle.tree.specs.Tree.{FileTree, Serves}

@@ -1,13 +1,28 @@
 -- The exits of functions that read a file in steps.
-use Rattle.std.proofs.Common.{Err, IsErrAnd, Ok, Result, ap, arith, false, le_trans, subst, sym, ℕ, ◌∙◌, ◌≡◌, ◌≤◌}
-use Rattle.std.specs.Prelude.{IfOk, OnErr, OnOk}
+use Rattle.std.proofs.Common.{Err, IsErrAnd, List, Ok, Option, Result, Some, ap, arith, drop, false, le_trans, length, subst, sym, ℕ, ◌++◌, ◌-◌, ◌∙◌, ◌≡◌, ◌≤◌}
+use Rattle.std.specs.Prelude.{IfOk, OnErr, OnOk, min}
 use Rattle.std.proofs.lemmas.Result.{err_from_is_err_and}
 use Rattle.blockdev.specs.declared.DeviceFault.{DeviceFault}
+use Rattle.blockdev.specs.Splice.{part}
+use Rattle.inode.specs.declared.InodeStat.{InodeStat}
 use Rattle.programs.specs.Placed.{Leaves}
 pub use Rattle.transfers.proofs.Fits.{serves-told}
+use Rattle.tree.specs.Telling.{Tells}
 use Rattle.tree.specs.Tree.{FileTree, Serves}
 use Rattle.tree.specs.Written.{IsFile}
-use Rattle.unixmodel.specs.Files.{Files}
+use Rattle.unixmodel.specs.Files.{Files, Node, node_bytes, slot}
+
+-- ---- what steps tell
+
+-- what a read tells
+abbrev pub HasRead : FileTree → FileTree → ℕ → ℕ → List ℕ → List ℕ → ℕ → Type 0
+HasRead old new n at out out' k =
+    (new ≡ record old { failures = new.failures })
+    × ((node : Node) → slot old.files n ≡ Some node → (k ≡ min (length out) (length (node_bytes node) - at)) × (out' ≡ part at k (node_bytes node) ++ drop k out))
+
+-- what a look at a node tells
+abbrev pub HasSeen : FileTree → FileTree → ℕ → InodeStat → Type 0
+HasSeen old new n s = (new ≡ record old { failures = new.failures }) × ((node : Node) → slot old.files n ≡ Some node → Tells s node)
 
 -- ---- the exit of a `?`
 
