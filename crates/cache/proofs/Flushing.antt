@@ -1,5 +1,5 @@
 -- The held blocks are written in rising order of number.
-use Rattle.std.proofs.Common.{◌≡◌, ℕ, ◌+◌, ◌-◌, ◌^◌, ◌≤◌, ◌<◌, Bool, true, false, ◌||◌, List, [], length, set, get_or, Some, None, nat_eq, refl, sym, ap, subst, ◌∙◌, arith, inl, inr, Fits, w64}
+use Rattle.std.proofs.Common.{◌≡◌, ℕ, ◌+◌, ◌-◌, ◌^◌, ◌≤◌, ◌<◌, Bool, true, false, ◌||◌, List, [], length, set, get_or, Some, None, nat_eq, sym, ap, subst, ◌∙◌, arith, inl, inr, Fits, w64}
 use Rattle.std.specs.Option.{option_map_or}
 use Rattle.std.specs.Map.{lookup, set_value}
 use Rattle.std.proofs.lemmas.List.{length-set, get_or-set_same, get_or-set_other}

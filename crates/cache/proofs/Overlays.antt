@@ -150,7 +150,3 @@ AreKept-other es c d n b none held k s e =
 pub AreKept-passed : {E : Type 0} (es : List (ℕ × Slot)) (c new : List (List ℕ)) (d e : Bool) (n : ℕ) (b : List ℕ) (r : Result Unit E) → lookup (nat_eq n) es ≡ None → AreKept es c d → length new ≡ length c → OnOk r (new ≡ set c n b) → OnOk r (e ≡ d) → OnErr r (e ≡ true) → AreKept es new e
 AreKept-passed es c new d e n b (Ok x) none held count written kept doubt = subst (λ l. AreKept es l e) (sym written) (subst (AreKept es (set c n b)) (sym kept) (AreKept-other es c d n b none held))
 AreKept-passed es c new d e n b (Err x) none held count written kept doubt = subst (AreKept es new) (sym doubt) (AreKept-doubt es c d new count held)
-
-pub overlay-passed : {E : Type 0} (es : List (ℕ × Slot)) (c new : List (List ℕ)) (n : ℕ) (b : List ℕ) (r : Result Unit E) → lookup (nat_eq n) es ≡ None → n < length c → OnOk r (new ≡ set c n b) → OnOk r (overlay es new ≡ set (overlay es c) n b)
-overlay-passed es c new n b (Ok x) none low written = ap (overlay es) written ∙ overlay-other es c n b none low
-overlay-passed es c new n b (Err x) none low written = written

@@ -1,5 +1,5 @@
 -- A block comes into the cache, and another leaves.
-use Rattle.std.proofs.Common.{◌≡◌, ◌≢◌, ℕ, ◌-◌, ◌<◌, ◌≤◌, Bool, true, false, ◌||◌, Bor, List, [], ◌∷◌, length, set, take, slice_get, Result, Ok, Err, OnOk, Option, Some, None, nat_eq, refl, sym, ap, subst, ◌∙◌, arith, inl, inr}
+use Rattle.std.proofs.Common.{◌≡◌, ◌≢◌, ℕ, ◌-◌, ◌<◌, ◌≤◌, Bool, false, ◌||◌, Bor, List, [], ◌∷◌, length, set, take, slice_get, Result, Ok, Err, OnOk, Option, Some, None, nat_eq, refl, sym, ap, subst, ◌∙◌, arith, inl, inr}
 use Rattle.std.specs.List.{IsDistinct}
 use Rattle.std.specs.Option.{option_map_or, option_map}
 use Rattle.std.specs.Map.Iter.{deref_pair}
@@ -32,9 +32,6 @@ safe-one c d k s h one same = record {
 pub is-last : (es : List (ℕ × Slot)) (r : Option (Bor ℕ × Bor Slot)) (x : Bor ℕ × Bor Slot) → option_map deref_pair r ≡ last_entry es → r ≡ Some x → last_entry es ≡ Some (x.0.now, x.1.now)
 is-last es r x told is = sym told ∙ ap (option_map deref_pair) is
 
-pub none-last : (es : List (ℕ × Slot)) (r : Option (Bor ℕ × Bor Slot)) → option_map deref_pair r ≡ last_entry es → r ≡ None → last_entry es ≡ None
-none-last es r told is = sym told ∙ ap (option_map deref_pair) is
-
 -- the last block is as the device has it
 pub safe-clean : (c : LruCache ℕ Slot) (d : List (List ℕ)) (b : Bool) (k : ℕ) (s : Slot) → length c.entries ≤ c.cap → IsDistinct nat_eq (keys_of c.entries) → last_entry c.entries ≡ Some (k, s) → AreKept c.entries d b → (s.changed || b) ≡ false → IsLastSafe c d
 unfolding AreKept
@@ -48,12 +45,6 @@ low-last c d b k s distinct last held = (held k s (last-lookup c.entries k s dis
 
 pub safe-written : (c : LruCache ℕ Slot) (d new : List (List ℕ)) (k : ℕ) (s : Slot) → length c.entries ≤ c.cap → k < length d → last_entry c.entries ≡ Some (k, s) → new ≡ set d k s.bytes → IsLastSafe c new
 safe-written c d new k s fits low last is = safe-one c new k s fits last (sym (ap (λ l. block_at l k) is ∙ get_or-set_same d k s.bytes [] low))
-
-pub safe-room : (c : LruCache ℕ Slot) (d : List (List ℕ)) → length c.entries < c.cap → IsLastSafe c d
-safe-room c d h = record { fits = omega arith; last = λ k s full _. absurd (omega arith) }
-
-pub safe-none : (c : LruCache ℕ Slot) (d : List (List ℕ)) → length c.entries ≤ c.cap → last_entry c.entries ≡ None → IsLastSafe c d
-safe-none c d h none = record { fits = h; last = λ k s _ is. let wrong : None ≡ Some (k, s) = sym none ∙ is in absurd cc }
 
 pub safe-tried : {E : Type 0} (c : LruCache ℕ Slot) (d new : List (List ℕ)) (k : ℕ) (s : Slot) (r : Result Unit E) → length c.entries ≤ c.cap → k < length d → last_entry c.entries ≡ Some (k, s) → OnOk r (new ≡ set d k s.bytes) → OnOk r (IsLastSafe c new)
 safe-tried c d new k s (Ok x) fits low last is = safe-written c d new k s fits low last is

@@ -44,7 +44,6 @@ use Rattle.unixmodel.specs.Counts.{is_within}
 use Rattle.unixmodel.specs.declared.process.Pending.{Pending}
 use Rattle.unixmodel.specs.ProcessCalls.{sleep_on}
 use Rattle.unixmodel.specs.Process as unix
-use Rattle.unixmodel.specs.Process.{with_answer}
 use Rattle.unixmodel.specs.State.{State, put_process}
 
 -- the running process and its space, in a kernel that is sound

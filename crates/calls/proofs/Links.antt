@@ -13,7 +13,7 @@ use Rattle.tree.specs.declared.TreeFault.{TreeFault}
 use Rattle.tree.specs.Entering.{linked_in}
 use Rattle.tree.specs.Lacking.{LacksLinking}
 use Rattle.tree.specs.Tree as tree
-use Rattle.tree.specs.Tree.{FileTree, is_device}
+use Rattle.tree.specs.Tree.{FileTree}
 use Rattle.tree.specs.Whole.{IsWhole}
 use Rattle.tree.proofs.Keeping.{linked-changed}
 use Rattle.unixmodel.specs.Calls.{outcome_of, row}

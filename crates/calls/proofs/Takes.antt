@@ -34,7 +34,6 @@ use Rattle.unixmodel.specs.Next.{execute_at, is_ecall, pick, take_turn}
 use Rattle.unixmodel.specs.Outcome.{end_process}
 use Rattle.unixmodel.specs.State.{State, process_at}
 use Rattle.unixmodel.specs.Turn as turn
-use Rattle.unixmodel.specs.Turn.{round_from}
 
 -- ---- what is told
 

@@ -31,7 +31,7 @@ use Rattle.tree.specs.declared.TreeFault.{TreeFault}
 use Rattle.tree.specs.Holding.{holders, let_go}
 use Rattle.tree.specs.Lacking.{LacksUnlinking}
 use Rattle.tree.specs.Tree as tree
-use Rattle.tree.specs.Tree.{FileTree, has_failed, is_device}
+use Rattle.tree.specs.Tree.{FileTree, has_failed}
 use Rattle.tree.specs.Unlinks.{unlinked_in}
 use Rattle.tree.specs.Whole.{IsWhole}
 use Rattle.tree.proofs.Keeping.{Reaps, unlinked-reaps}

@@ -1,5 +1,5 @@
 -- How a run ends whose bytes are written out, and what it leaves.
-use Rattle.std.proofs.Common.{◌≡◌, ◌≢◌, ◌∙◌, ℕ, ℤ, Bool, List, [], ◌++◌, take, drop, Option, Some, None, Result, Ok, Err, IsTrue, true, false, ap, subst, sym, append-nil, ◌⊎◌, inl, inr, refl}
+use Rattle.std.proofs.Common.{◌≡◌, ◌∙◌, ℕ, ℤ, Bool, List, [], take, drop, Option, Some, None, Result, Ok, Err, true, false, ap, subst, sym, append-nil, inr, refl}
 use Rattle.std.proofs.KnownBytes.{Appends-kept}
 use Rattle.std.proofs.lemmas.List.{take-append-drop}
 use Rattle.std.specs.Io.KnownBytes.{Keeps}
@@ -17,7 +17,6 @@ use Rattle.machine.specs.View.{IsUp, View}
 use Rattle.unixmodel.specs.Calls.{After}
 use Rattle.unixmodel.specs.declared.event.Event.{Event}
 use Rattle.unixmodel.specs.Run.{run}
-use Rattle.unixmodel.specs.State.{State}
 
 -- ---- what is written out
 
@@ -101,22 +100,6 @@ module _ {D : Type 0} (content : D → List (List ℕ)) (count : D → ℕ) (fir
   played : (halted : Option ℤ) (disk : Option D) → IsDone first last (run first.state events) before after halted → Saves content last saves disk
       → IsPlayed content first events before after saves halted disk
   played halted disk done saved = record { last = last; done = done; saved = saved }
-
-  -- it isn't to be saved
-  pub leaves-none : (end : End) → saves ≡ false → PlaysOut first last events before after end → Leaves content count first events before after saves end None
-  leaves-none Running is k = played None None k (rw is tt)
-  leaves-none (Halted (halt.InitEnded status)) is k = played (Some status) None k (rw is tt)
-  leaves-none (Halted halt.Device) is k = (refl, (last, inl k))
-  leaves-none (Halted halt.Console) is k = (refl, k)
-  leaves-none (Halted halt.Halted) is k = absurd k
-
-  -- the device or the console failed
-  pub leaves-failed : (end : End) → status_of end ≢ 0 → PlaysOut first last events before after end → Leaves content count first events before after saves end None
-  leaves-failed Running ne k = absurd (ne refl)
-  leaves-failed (Halted (halt.InitEnded status)) ne k = absurd (ne refl)
-  leaves-failed (Halted halt.Device) ne k = (refl, (last, inl k))
-  leaves-failed (Halted halt.Console) ne k = (refl, k)
-  leaves-failed (Halted halt.Halted) ne k = absurd k
 
   -- it is saved
   pub leaves-saved : (end : End) (disk : D) → saves ≡ true → status_of end ≡ 0 → PlaysOut first last events before after end

@@ -22,7 +22,7 @@ use Rattle.std.proofs.lemmas.Option.{none-some}
 use Rattle.files.specs.Places.{Counted, opens_of}
 use Rattle.proc.specs.declared.process.Process.{Process}
 use Rattle.proc.specs.Places as table
-use Rattle.proc.specs.Places.{Places, changed_at, exited, orphaned, zombie_of}
+use Rattle.proc.specs.Places.{changed_at, exited, orphaned, zombie_of}
 use Rattle.proc.proofs.Joined.{with_zombie-with_table}
 use Rattle.proc.specs.Whole.{with_memory, with_table}
 use Rattle.spaces.specs.Spaces.{SpaceView, Spaces, taken_frames}

@@ -183,9 +183,6 @@ module _ (k now : Kernel) (i : ℕ) (q : Process) (status : ℤ) (same : k ≡ n
     cause = subst (λ (x : Kernel). HasCause x.tree.failures t.failures r) same serves.cause;
   }
 
-  pub finish-up : k.tree.failed ≡ false
-  finish-up = rw same (whole-of now i q is can at).up
-
 -- the same with another mask
 told-waking : (a b : Kernel) (awake : List Bool) (r : Result (Unit {0}) DeviceFault) → IfOk r (λ done. a ≡ b) → IfOk r (λ done. waking a awake ≡ waking b awake)
 told-waking a b awake (Ok done) told = ap (λ x. waking x awake) told

@@ -72,9 +72,6 @@ module _ (P : ℕ → Type 0) where
   pub homes-set : (os : List (Option Process)) (i : ℕ) (o : Option Process) → IfSome (home_in o) P → ((j : ℕ) → IfSome (home_in (slot os j)) P) → (j : ℕ) → IfSome (home_in (slot (slice_set os i o) j)) P
   homes-set os i o here is = all-set (λ j x. IfSome (home_in x) P) os i o here is
 
-  homes-map : (g : Process → Process) → ((o : Option Process) → home_in (option_map g o) ≡ home_in o) → (os : List (Option Process)) → ((j : ℕ) → IfSome (home_in (slot os j)) P) → (j : ℕ) → IfSome (home_in (slot (map (option_map g) os) j)) P
-  homes-map g same os is j = subst (λ h. IfSome h P) (sym (ap home_in (slot-map g os j) ∙ same (slot os j))) (is j)
-
 module _ {t : FileTree} {opens : List (Option Counted)} {os : List (Option Process)} (is : IsInUse t opens os) where
   -- other open files and processes hold each node as often
   pub used-by : (new : List (Option Counted)) (after : List (Option Process)) → ((n : ℕ) → files_on opens n + homes_at os n ≡ files_on new n + homes_at after n)
@@ -94,12 +91,6 @@ module _ {t : FileTree} {opens : List (Option Counted)} {os : List (Option Proce
   used-put i o same =
       used-by opens (slice_set os i o) (λ n. ap (λ m. files_on opens n + m) (sym (same-set (λ x. one_in n (home_in x)) os i o (ap (one_in n) same)))) is.fits
       (homes-set (λ d. IsFolder (slot t.files d)) os i o (subst (λ h. IfSome h (λ d. IsFolder (slot t.files d))) (sym same) (is.homes i)) is.homes)
-
-  -- all do
-  pub used-map : (g : Process → Process) → ((o : Option Process) → home_in (option_map g o) ≡ home_in o) → IsInUse t opens (map (option_map g) os)
-  used-map g same =
-      used-by opens (map (option_map g) os) (λ n. ap (λ m. files_on opens n + m) (sym (same-map (λ x. one_in n (home_in x)) g (λ o. ap (one_in n) (same o)) os))) is.fits
-      (homes-map (λ d. IsFolder (slot t.files d)) g same os is.homes)
 
   -- the nodes that are held are there
   none-on : (n : ℕ) → slot t.files n ≡ None → files_on opens n ≡ 0

@@ -9,7 +9,7 @@ use Rattle.names.proofs.Finding.{slot-within}
 use Rattle.kernel.specs.Sound.{IsAwaiting, IsForBytes, IsForPipe, IsFresh, IsOpenFile, IsOpened, WaitsAs, WaitsWell, file_named, is_awaited, is_on_pipe}
 use Rattle.files.proofs.CountsLemmas as counts
 use Rattle.files.specs.Counts.{names}
-use Rattle.files.proofs.CountsLemmas.{count_of, names-clear, one_at}
+use Rattle.files.proofs.CountsLemmas.{count_of, names-clear}
 use Rattle.files.specs.declared.file.OpenFile.{OpenFile}
 use Rattle.files.specs.declared.file.Target.{Target}
 use Rattle.files.specs.Meant.{file_of}

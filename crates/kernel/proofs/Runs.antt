@@ -14,7 +14,7 @@ use Rattle.kernel.proofs.Holding.{filed-put}
 use Rattle.kernel.proofs.Opens.{opened-put, waits-running}
 use Rattle.proc.specs.declared.process.Process.{Process}
 use Rattle.proc.specs.Places as table
-use Rattle.proc.specs.Places.{Places, changed}
+use Rattle.proc.specs.Places.{Places}
 use Rattle.proc.proofs.Joined.{put-joined, slot-joined}
 use Rattle.proc.specs.Whole.{with_memory, with_table}
 use Rattle.spaces.specs.Spaces.{SpaceView, Spaces, has_space, taken_frames}

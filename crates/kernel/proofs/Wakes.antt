@@ -15,7 +15,7 @@ use Rattle.proc.specs.declared.process.Process.{Process}
 use Rattle.proc.specs.Mask.{is_in}
 use Rattle.proc.specs.Pick.{Answers}
 use Rattle.proc.specs.Places as table
-use Rattle.proc.specs.Places.{Places, changed_at, exited, is_zombie_child_of, orphaned, with_mode, zombie_of}
+use Rattle.proc.specs.Places.{Places, changed_at, exited, is_zombie_child_of, with_mode}
 use Rattle.spaces.specs.Spaces as spaces
 use Rattle.spaces.specs.Spaces.{Spaces, view_at}
 use Rattle.std.specs.Borrow.{Bor}

@@ -6,7 +6,7 @@ use Rattle.std.proofs.lemmas.Bool.Decides.{Decides-eqb}
 use Rattle.blockdev.specs.Blocks as device
 use Rattle.blockdev.specs.Blocks.{AreBlocks}
 use Rattle.layout.specs.Image as disk
-use Rattle.layout.specs.Image.{IsInode, IsUsed, bit_in, slot_of}
+use Rattle.layout.specs.Image.{IsInode, IsUsed, slot_of}
 use Rattle.layout.specs.Sound.{HasParts, IsNamed, IsSound, TellsGeometry}
 use Rattle.layout.specs.Super.{bitmap_start_of, data_start_of, super_of}
 use Rattle.layout.specs.declared.Geometry.{Geometry}

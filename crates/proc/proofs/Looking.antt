@@ -4,7 +4,7 @@ use Rattle.std.specs.Prelude.{slice_set}
 use Rattle.std.proofs.lemmas.Bool.{cases_eq, cases_lt}
 use Rattle.std.proofs.lemmas.List.{get_or-set_other, get_or-set_same}
 use Rattle.proc.specs.Mask.{IsNext, NoneIsIn, all_in, is_in}
-use Rattle.proc.specs.Pick.{IsFirst, NoneSays, place_in_round}
+use Rattle.proc.specs.Pick.{IsFirst, place_in_round}
 
 -- in the set of all places each is
 pub all-in : (n i : ℕ) → is_in (all_in n) i ≡ true
@@ -23,15 +23,6 @@ pub looks-begin : (says : ℕ → Bool → Type 0) (last : ℕ) (awake : List Bo
 looks-begin says last awake asleep = record { in_round = (omega arith, omega arith); asleep = asleep; passed = λ k low high. absurd (omega arith) }
 
 module _ {says : ℕ → Bool → Type 0} {last : ℕ} {awake : List Bool} {turn : ℕ} (looks : IsLooking says last awake turn) where
-  pub looks-none : NoneIsIn awake last turn 65 → NoneIsIn awake last 1 65
-  looks-none none = λ k low high. elim (cases_lt k turn) [
-    | inl less ↦ looks.passed k low less
-    | inr more ↦ none k more high
-  ]
-
-  pub none-says : NoneIsIn awake last turn 65 → NoneSays says last
-  none-says none = λ k low high. looks.asleep (place_in_round last k) (looks-none none k low (omega arith))
-
   module _ {next : ℕ} (is : IsNext awake last turn next) where
     pub before-next : NoneIsIn awake last 1 next
     before-next = λ k low high. elim (cases_lt k turn) [

@@ -1,5 +1,5 @@
 -- The exits of functions that read a file in steps.
-use Rattle.std.proofs.Common.{Err, IsErrAnd, List, Ok, Option, Result, Some, ap, arith, drop, false, le_trans, length, subst, sym, ℕ, ◌++◌, ◌-◌, ◌∙◌, ◌≡◌, ◌≤◌}
+use Rattle.std.proofs.Common.{Err, IsErrAnd, List, Ok, Result, Some, ap, arith, drop, false, le_trans, length, subst, sym, ℕ, ◌++◌, ◌-◌, ◌∙◌, ◌≡◌, ◌≤◌}
 use Rattle.std.specs.Prelude.{IfOk, OnErr, OnOk, min}
 use Rattle.std.proofs.lemmas.Result.{err_from_is_err_and}
 use Rattle.blockdev.specs.declared.DeviceFault.{DeviceFault}

@@ -10,7 +10,7 @@ use Rattle.imagecheck.specs.Reach.{Climbs}
 use Rattle.imagecheck.proofs.Reaching.{Climbs-child, IsReached-from, parent_root}
 use Rattle.names.specs.Rules.{IsLive, KeepsLive, KeepsTree, entries, folders, names_by, names_for}
 use Rattle.names.proofs.Naming.{named-used}
-use Rattle.names.proofs.Quiet.{HasLinked, leaves, left, left-linked}
+use Rattle.names.proofs.Quiet.{HasLinked}
 use Rattle.names.proofs.Steps.{entry-names}
 use Rattle.settled.proofs.Counted.{good-from, once-from}
 use Rattle.settled.proofs.Parents.{parent-only}
@@ -106,7 +106,3 @@ module _ {files : Files} (keeps : KeepsTree files) (linked : HasLinked files) wh
     nodes = λ n. node-rules n (slot files n) (HasEntries-live n) (HasLinks-live n);
     reached = IsReached-from files HasEntries-live HasLinks-live Climbs-live;
   }
-
--- what is left without the nodes that have no links keeps the rules of files at rest
-pub KeepsRules-left : {files : Files} → KeepsTree files → KeepsRules (left files)
-KeepsRules-left {files} keeps = KeepsRules-live (leaves keeps) (left-linked files)

@@ -16,7 +16,8 @@ use Rattle.spaces.specs.View.{IsActive, IsSpaces, Runs, view_with, pipe_frames, 
 use Rattle.spaces.proofs.Pipes.{pipes-beside}
 use Rattle.std.proofs.Common.{◌≡◌, inl, inr, ℕ, ◌/◌, ◌<◌, ◌≤◌, List, length, map, slice_set, subst, true, Option, Some, None, Ok, Err, refl, sym, ap, ◌∙◌, arith}
 use Rattle.std.specs.Prelude.{IfNone, IfSome, is_some, option_map, slice_get}
-use Rattle.sv39.specs.Mapping.{IsCoherent, Mapped, Shows, WalksTo, coherent-kept, memory_of, shows-coherent}
+use Rattle.sv39.specs.Mapping.{IsCoherent, Mapped, Shows, WalksTo, memory_of}
+use Rattle.sv39.proofs.Coherence.{coherent-kept, shows-coherent}
 use Rattle.sv39.proofs.WalkLemmas.{walk_page-inside}
 use Rattle.unixmodel.specs.Cycle.{cycle}
 use Rattle.unixmodel.specs.declared.trap.Trap.{Trap}

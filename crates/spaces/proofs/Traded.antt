@@ -14,7 +14,8 @@ use Rattle.std.proofs.Common.{◌≡◌, ◌≢◌, ℕ, ◌+◌, ◌-◌, ◌<�
 use Rattle.std.proofs.lemmas.Bool.{cases_eq}
 use Rattle.std.proofs.lemmas.List.{length-replicate, set-get_or, take_all}
 use Rattle.std.specs.Prelude.{OnErr, OnOk}
-use Rattle.sv39.specs.Mapping.{IsCoherent, Mapped, coherent-nothing}
+use Rattle.sv39.specs.Mapping.{IsCoherent, Mapped}
+use Rattle.sv39.proofs.Coherence.{coherent-nothing}
 use Rattle.unixmodel.specs.Files.{slot}
 use Rattle.unixmodel.specs.Translation as translation
 use Rattle.unixmodel.specs.Translation.{Translation, HoldsNothing}

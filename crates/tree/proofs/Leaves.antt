@@ -11,7 +11,7 @@ use Rattle.names.proofs.Spots.{is_part, is_plain, spot-parts}
 use Rattle.tree.specs.declared.making.Leaf.{Leaf}
 use Rattle.tree.specs.declared.making.Leaf.TheVariants as leaf
 use Rattle.tree.specs.declared.TreeFault.{TreeFault}
-use Rattle.tree.specs.declared.TreeFault.TheVariants.{Blocks, DeadDir, DotName, Exists, Full, Inodes, IsDir, Links, NotDir, NotEmpty, NotFound}
+use Rattle.tree.specs.declared.TreeFault.TheVariants.{Blocks, DeadDir, Exists, Full, NotDir, NotFound}
 use Rattle.tree.specs.declared.TreeFault.TheVariants as fault
 use Rattle.tree.specs.Answers.{Overflows}
 use Rattle.tree.specs.Entering.{fresh, HasGap, HasRoom, entered, growth, made_files, made_in}

@@ -9,7 +9,7 @@ use Rattle.layout.specs.Image.{inode_at}
 use Rattle.names.specs.Rules.{KeepsTree}
 use Rattle.names.proofs.Naming.{find-used}
 use Rattle.tree.specs.declared.TreeFault.{TreeFault}
-use Rattle.tree.specs.declared.TreeFault.TheVariants.{Blocks, DeadDir, DotName, Exists, Full, Inodes, IsDir, Links, NotDir, NotEmpty, NotFound}
+use Rattle.tree.specs.declared.TreeFault.TheVariants.{Blocks, DeadDir, Exists, Full, NotDir, NotFound}
 use Rattle.tree.specs.declared.TreeFault.TheVariants as fault
 use Rattle.blockdev.specs.declared.DeviceFault.{DeviceFault}
 use Rattle.cache.specs.Disk.{Disk}

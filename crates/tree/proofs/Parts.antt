@@ -131,9 +131,6 @@ first-name path i end at is =
 -- ---- what names reach
 
 module _ (files : Files) (k : ℕ) (name : List ℕ) (names : List (List ℕ)) where
-  pub reach-last : names ≡ [] → reach files k (name ∷ names) ≡ Some (k, name)
-  reach-last e = ap (λ ws. reach files k (name ∷ ws)) e
-
   module _ (w : List ℕ) (ws : List (List ℕ)) (more : names ≡ w ∷ ws) where
     reach-more : reach files k (name ∷ names) ≡ option_and_then (λ m. reach files m (w ∷ ws)) (lookup files k name)
     reach-more = ap (λ xs. reach files k (name ∷ xs)) more ∙ go (lookup files k name) where

@@ -8,7 +8,7 @@ use Rattle.tree.specs.Stored.{Stores}
 use Rattle.tree.specs.Lacking.{LacksGap}
 use Rattle.tree.specs.Paths.{IsDead, IsNoDirectory, LacksSpot, above}
 use Rattle.tree.specs.declared.TreeFault.{TreeFault}
-use Rattle.tree.specs.declared.TreeFault.TheVariants.{Blocks, DeadDir, DotName, Exists, Full, Inodes, IsDir, Links, NotDir, NotEmpty, NotFound}
+use Rattle.tree.specs.declared.TreeFault.TheVariants.{DeadDir, NotDir, NotFound}
 use Rattle.tree.specs.declared.TreeFault.TheVariants as fault
 use Rattle.unixmodel.specs.Files.{Files, Node, Spot, kind_of, links_of, live_places, live_spot, slot, spot_of}
 use Rattle.unixmodel.specs.Files.Node.{Directory}

@@ -7,7 +7,7 @@ use Rattle.layout.specs.declared.Geometry.{Geometry}
 use Rattle.names.proofs.Naming.{numbers-used}
 use Rattle.names.specs.Rules.{KeepsTree}
 use Rattle.tree.specs.declared.TreeFault.{TreeFault}
-use Rattle.tree.specs.declared.TreeFault.TheVariants.{Blocks, DeadDir, DotName, Exists, Full, Inodes, IsDir, Links, NotDir, NotEmpty, NotFound}
+use Rattle.tree.specs.declared.TreeFault.TheVariants.{DeadDir, DotName, NotDir, NotEmpty, NotFound}
 use Rattle.tree.specs.declared.TreeFault.TheVariants as fault
 use Rattle.tree.specs.Answers.{Answers}
 use Rattle.tree.specs.Stored.{Stores, IsFileSystem, files_of}

@@ -4,7 +4,7 @@ use Rattle.spaces.proofs.Traded.{changed, placed-as, shown-as}
 use Rattle.spaces.proofs.SpacesLemmas.{refilled}
 use Rattle.spaces.specs.View.{view_with, shown}
 use Rattle.std.proofs.Common.{◌≡◌, ◌-◌, Some, arith, refl, take}
-use Rattle.sv39.specs.Mapping.{coherent-nothing}
+use Rattle.sv39.proofs.Coherence.{coherent-nothing}
 use Rattle.vm.specs.Space.{entries_of, pages_in, pages_of}
 
 pub shrink-requires-clause-space : goal.shrink-requires-clause-space
