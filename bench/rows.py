@@ -212,9 +212,12 @@ def making_rows():
     yield Row("boot and save of 16384 blocks", whole, 16384, "block", (Beside("of 8192", half, 2.2),))
     whole, half = made_full(16384, 8192), made_full(8192, 4096)
     yield Row("mkfs of 16384 blocks and 8192 inodes", whole, 16384, "block", (Beside("of half of both", half, 2.2),))
-    for name, make in [("devices", texts.flat_manifest), ("directories in one another", texts.chain_manifest)]:
+    for name, make, most in [
+        ("devices", texts.flat_manifest, 2.2),
+        ("directories in one another", texts.chain_manifest, 4.84),  # (2.2 twice: the text is four times as long)
+    ]:
         whole, half = make(8190), make(4095)
-        other = Beside("of half as many", Mkfs(*half), count=len(half[0]))
+        other = Beside("of half as many", Mkfs(*half), most, len(half[0]))
         yield Row(f"mkfs of 8190 {name}", Mkfs(*whole), len(whole[0]), "byte of the manifest", (other,))
 
 

@@ -1,5 +1,5 @@
 -- An entry is put on a disk.
-use Rattle.std.proofs.Common.{◌≡◌, ℕ, ◌+◌, ◌*◌, ◌<◌, ◌≤◌, List, [], ◌∷◌, ◌++◌, None, Option, Some, Ok, Err, Result, length, drop, ap, sym, refl, ◌∙◌, arith, subst}
+use Rattle.std.proofs.Common.{◌≡◌, ℕ, ◌+◌, ◌*◌, ◌<◌, ◌≤◌, Bool, List, [], ◌∷◌, ◌++◌, None, Option, Some, Ok, Err, Result, length, drop, ap, sym, refl, ◌∙◌, arith, subst}
 use Rattle.std.proofs.lemmas.List.{length-drop, length_push}
 use Rattle.std.proofs.lemmas.List.Sums.{count_by-le-length}
 use Rattle.unixmodel.specs.Files.{Entry, Files, is_directory, longest, slot, taken}
@@ -11,7 +11,7 @@ use Rattle.imagemake.specs.Added.{CanAdd, IsStored}
 use Rattle.imagemake.specs.Begins.{AddsEntry, IsMade, IsSpot, make_fault}
 use Rattle.imagemake.specs.Begun.{IsBegun}
 use Rattle.imagemake.specs.Stored.{Stores}
-use Rattle.imagemake.specs.Made.{MadeName}
+use Rattle.imagemake.specs.Made.{MadeName, made_name}
 use Rattle.imagemake.specs.Making.{Refuses}
 use Rattle.imagemake.specs.declared.store.StoreFault.{StoreFault}
 use Rattle.imagemake.specs.declared.store.StoreFault.TheVariants.{Blocks, Device}
@@ -64,18 +64,16 @@ module _ {g : Geometry} {blocks : List (List ℕ)} {made : List MadeName} {files
           unused = is.begun.free (length made + 2) (omega arith);
         }
 
-    -- a name and a number that are equal to these
-    module _ {w : List ℕ} {k : ℕ} (same : w ≡ name) (next : k ≡ length made + 2) where
-      pub CanAdd-named : CanAdd files d w k
-      CanAdd-named = subst (λ v. CanAdd files d v k) (sym same) (subst (CanAdd files d name) (sym next) CanAdd-spot)
+    -- a number that is equal to this
+    module _ {k : ℕ} (next : k ≡ length made + 2) where
+      pub CanAdd-next : CanAdd files d name k
+      CanAdd-next = subst (CanAdd files d name) (sym next) CanAdd-spot
 
       -- the disk after it was stored, or wasn't
-      module _ (new : List (List ℕ)) (thing : Thing) (r : Result (Unit {0}) StoreFault) (told : Stores g blocks files → CanAdd files d w k → IsStored g new files d w k thing r)
+      module _ (new : List (List ℕ)) (thing : Thing) (r : Result (Unit {0}) StoreFault) (told : Stores g blocks files → CanAdd files d name k → IsStored g new files d name k thing r)
           {given : List ℕ} (given_is : path ≡ given) where
         stored : IsStored g new files d name (length made + 2) thing r
-        stored =
-            subst (λ v. IsStored g new files d v (length made + 2) thing r) same
-            (subst (λ n. IsStored g new files d w n thing r) next (told is.stores CanAdd-named))
+        stored = subst (λ n. IsStored g new files d name n thing r) next (told is.stores CanAdd-next)
 
         abbrev entry : ManifestEntry
         entry = record { path = given; thing = thing }
@@ -86,9 +84,10 @@ module _ {g : Geometry} {blocks : List (List ℕ)} {made : List MadeName} {files
             ap (λ p. with_manifest_entry (data_blocks_of g.size g.inodes) g.inodes files (length made + 2) (record { path = p; thing = thing })) (sym given_is)
             ∙ spot-room made path d name spot (data_blocks_of g.size g.inodes) g.inodes files (length made + 2) thing is.listed room
 
-        pub AddsEntry-stored : r ≡ Ok tt → {one : MadeName} {now : List MadeName} → now ≡ made ++ one ∷ [] → one.directory ≡ d → one.name ≡ name → one.folder ≡ is_directory (node_for (length made + 2) d thing)
+        pub AddsEntry-stored : r ≡ Ok tt → {folder : Bool} {now : List MadeName} → now ≡ made ++ made_name d name folder ∷ [] → folder ≡ is_directory (node_for (length made + 2) d thing)
             → AddsEntry g new made now files entry
-        AddsEntry-stored done {one} {now} pushed stands named folder =
+        AddsEntry-stored done {folder} {now} pushed is_folder =
+            let one = made_name d name folder in
             let n = length made + 2 in
             let more = added files d name n thing in
             let kept : IsStored g new files d name n thing (Ok tt) = subst (IsStored g new files d name n thing) done stored in
@@ -101,7 +100,7 @@ module _ {g : Geometry} {blocks : List (List ℕ)} {made : List MadeName} {files
                 stores = kept.0;
                 begun = subst (IsBegun (data_blocks_of g.size g.inodes) g.inodes more) long
                     (IsBegun-more is.begun d name thing CanAdd-spot (is.listed.names d name (spot-good made path d name spot) ∙ spot.absent) kept.1);
-                listed = IsListed-more (adds-more is.begun d name thing CanAdd-spot) is.begun.rules made one refl is.listed stands named folder;
+                listed = IsListed-more (adds-more is.begun d name thing CanAdd-spot) is.begun.rules made one refl is.listed refl refl is_folder;
               });
             }
 

@@ -6,6 +6,7 @@ pub mod Denoted
 pub mod Entered
 pub mod Going
 pub mod Imaging
+pub mod Leading
 pub mod Legible
 pub mod Located
 pub mod MadeBare

@@ -1,8 +1,8 @@
 -- Names are looked up among those that are made so far.
-use Rattle.std.specs.Prelude.{Bool, List, Option, Some, [], false, if◌then◌else◌, nat_lt, option_and_then, option_map, position, slice_get, unwrap_or, ℕ, ◌&&◌, ◌+◌, ◌-◌, ◌==◌, ◌∷◌, ◌≤◌, length}
+use Rattle.std.specs.Prelude.{Bool, List, Option, Some, [], false, if◌then◌else◌, nat_lt, option_and_then, option_map, position, slice_get, unwrap_or, ℕ, ◌&&◌, ◌+◌, ◌++◌, ◌-◌, ◌==◌, ◌∷◌, ◌≡◌, ◌≤◌, drop, length}
 use Rattle.std.specs.Borrow.{Bor}
 use Rattle.std.specs.Str.{bytes_eq}
-use Rattle.unixmodel.specs.Files.{split_last}
+use Rattle.unixmodel.specs.Files.{pieces, split_last}
 
 -- a name in the directory of this number, and whether it is a directory's
 pub record MadeName : Type 0 where
@@ -48,3 +48,11 @@ seek made d (name ∷ names) = option_and_then (λ next. seek made next names) (
 -- what all but the last name reach, and the last
 unfoldable pub reach : List MadeName → ℕ → List (List ℕ) → Option (Option ℕ × List ℕ)
 reach made d names = option_map (λ (split : List (List ℕ) × List ℕ). (seek made d split.0, split.1)) (split_last names)
+
+-- what is found in the first list is found in the other
+abbrev pub Extends : List MadeName → List MadeName → Type 0
+Extends made more = (d : ℕ) (name : List ℕ) (n : ℕ) → found made d name ≡ Some n → found more d name ≡ Some n
+
+-- the path leads to number n, whatever else is made: what stands below it is looked up from there
+pub record LeadsTo (made : List MadeName) (above : List ℕ) (n : ℕ) : Type 0 where
+  pub below : (more : List MadeName) → Extends made more → (bs : List ℕ) → reach more 1 (pieces (drop 1 (above ++ 0x2f ∷ bs))) ≡ reach more n (pieces bs)

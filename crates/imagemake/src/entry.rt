@@ -1,14 +1,14 @@
 //! The entries of a manifest are put on a disk, one after the other.
 
-ghost use Rattle.std.specs.Prelude.{◌≡◌, ◌≤◌, ◌+◌, ◌<◌, [], drop, length, IfOk, IfErr, OnOk};
+ghost use Rattle.std.specs.Prelude.{◌≡◌, ◌≤◌, ◌+◌, ◌<◌, [], length, IfOk, IfErr, OnOk};
 ghost use Rattle.unixmodel.specs.Files.{Files};
 ghost use Rattle.unixmodel.specs.Manifest.{bare_files, data_blocks_of, with_entries, with_manifest_entry};
 ghost use Rattle.imagemake.specs.Begins.{AddsEntry, BlamesDevice, IsMade, IsSpot, MakesEntries, RefusesPath};
-ghost use Rattle.imagemake.specs.Made.{HasRoom};
+ghost use Rattle.imagemake.specs.Made.{HasRoom, LeadsTo};
 ghost use Rattle.imagemake.specs.Making.{Refuses, entry_of, meaning};
 ghost use Rattle.imagemake.specs.Stored.{Stores};
 
-use crate::made::Made;
+use crate::made::{Made, Spot};
 use crate::manifest::{Entry, MakeFault};
 use crate::path::is_path;
 use crate::store::{StoreFault, store_entry};
@@ -30,27 +30,27 @@ impl From<StoreFault> for MakeFault {
     }
 }
 
-// The directory that a path's last name is to stand in, and where that name begins.
-fn spot<'a>(made: &Made<'a>, path: &'a [u8]) -> Result<(usize, usize), MakeFault>
+// The directory that a path's last name is to stand in, above that name.
+fn locate<'a>(made: &Made<'a>, path: &'a [u8]) -> Result<Spot<'a>, MakeFault>
     requires { length made.now.items < 65536 }
-    ensures within { IfOk result (λ s. s.1 ≤ length path.now) }
-    ensures spot { IfOk result (λ s. IsSpot made.now.items path.now s.0 (drop s.1 path.now)) }
+    ensures spot { IfOk result (λ spot. IsSpot made.now.items path.now spot.directory spot.below.now) }
+    ensures leads { IfOk result (λ spot. LeadsTo made.now.items spot.above.now spot.directory) }
     ensures refused { IfErr result (λ fault. RefusesPath made.now.items path.now fault) }
     ensures memory { IfErr result (λ fault. fault ≡ MakeFault.NoMemory → ⊥) }
 {
     if !is_path(path) {
         return Err(MakeFault::Name);
     }
-    let Some((directory, at)) = made.locate(path) else {
+    let Some(spot) = made.locate(path) else {
         return Err(MakeFault::Parent);
     };
-    if !made.is_directory(directory) {
+    if !made.is_directory(spot.directory) {
         return Err(MakeFault::Parent);
     }
-    if made.find(directory, &path[at..]).is_some() {
+    if made.find(spot.directory, spot.below).is_some() {
         return Err(MakeFault::Twice);
     }
-    Ok((directory, at))
+    Ok(spot)
 }
 
 // Puts an entry on the disk.
@@ -69,14 +69,20 @@ fn add_entry<'a, D: BlockDev>(
     ensures cause { BlamesDevice disk.old.failures disk.new.failures result }
 {
     let path = entry.path.as_slice();
-    let (directory, at) = spot(made, path)?;
+    let spot = locate(made, path)?;
     let number = made.len() + 2;
     if number >= geometry.inodes {
         return Err(MakeFault::Inodes);
     }
-    let name = &path[at..];
-    store_entry(disk, geometry, directory, name, number, &entry.thing)?;
-    made.push(directory, name, entry.thing.is_directory());
+    store_entry(
+        disk,
+        geometry,
+        spot.directory,
+        spot.below,
+        number,
+        &entry.thing,
+    )?;
+    made.push(spot, entry.thing.is_directory());
     Ok(())
 }
 

@@ -1,24 +1,23 @@
-use Rattle.std.proofs.Common.{◌≡◌, ◌+◌, ap, arith, drop, length, refl, sym, subst, ◌∙◌}
-use Rattle.std.proofs.lemmas.List.{length_push, take_rest}
+use Rattle.std.proofs.Common.{◌≡◌, ◌+◌, ap, arith, length, refl, sym, subst, ◌∙◌}
+use Rattle.std.proofs.lemmas.List.{length_push}
 use Rattle.std.proofs.lemmas.Result.{err_from_is_err_and}
 use Rattle.unixmodel.specs.Manifest.{data_blocks_of, with_manifest_entry}
-use Rattle.imagemake.specs.Made.{found}
 use Rattle.imagemake.specs.Making.{Refuses, thing_of}
-use Rattle.imagemake.proofs.Entered.{AddsEntry-stored, CanAdd-named, made-few, refused-stored}
+use Rattle.imagemake.proofs.Entered.{AddsEntry-stored, CanAdd-next, made-few, refused-stored}
 use Rattle.balloc.proofs.Exits.{told_err}
 use Rattle.imagemake.proofs.Owned.{Owns-done, Owns-other, Blames-stored, none-done}
 use Rattle.imagemake.proofs.Things.{folder-thing}
 use Rattle.imagemake.proofs.Spotting.{spot-inodes}
 use Rattle.imagemake.proofs.entry.add_entry.Goals as goal
 
-pub spot-requires : goal.spot-requires
-spot-requires g c = made-few c.requires.made.1
+pub locate-requires : goal.locate-requires
+locate-requires g c = made-few c.requires.made.1
 
 pub overflow_add-number : goal.overflow_add-number
 overflow_add-number g c = record { fits = omega (arith, c.len-number.ensures, made-few c.requires.made.1) }
 
-pub returns-in_err-directory : goal.returns-in_err-directory
-returns-in_err-directory g c =
+pub returns-in_err-spot : goal.returns-in_err-spot
+returns-in_err-spot g c =
     let p = err_from_is_err_and c.from_residual.result c.from_residual.ensures.1 in
     let told = told_err c.from_residual.result c.from_residual.ensures.1 in
     record {
@@ -26,11 +25,11 @@ returns-in_err-directory g c =
       room = none-done _ told;
       refused = rw (p.1, p.2) (λ files is.
           subst (λ path. Refuses (with_manifest_entry (data_blocks_of c.args.geometry.size c.args.geometry.inodes) c.args.geometry.inodes files (length c.args.made.now.items + 2)
-          (record { path = path; thing = thing_of c.args.entry.now.thing })) c.in_err-directory.field-0.0)
+          (record { path = path; thing = thing_of c.args.entry.now.thing })) c.in_err-spot.field-0.0)
           c.as_slice-path.ensures.value
-          (c.in_err-directory.ensures.refused (data_blocks_of c.args.geometry.size c.args.geometry.inodes) c.args.geometry.inodes files (length c.args.made.now.items + 2) (thing_of c.args.entry.now.thing) is.listed));
+          (c.in_err-spot.ensures.refused (data_blocks_of c.args.geometry.size c.args.geometry.inodes) c.args.geometry.inodes files (length c.args.made.now.items + 2) (thing_of c.args.entry.now.thing) is.listed));
       count = refl;
-      cause = Owns-other (omega arith) c.in_err-directory.ensures.memory told;
+      cause = Owns-other (omega arith) c.in_err-spot.ensures.memory told;
     }
 
 pub returns-then-number-geometry-clause-refused : goal.returns-then-number-geometry-clause-refused
@@ -38,7 +37,7 @@ returns-then-number-geometry-clause-refused g c = λ files is.
     let blocks = data_blocks_of c.args.geometry.size c.args.geometry.inodes in
     let thing = thing_of c.args.entry.now.thing in
     ap (λ path. with_manifest_entry blocks c.args.geometry.inodes files (length c.args.made.now.items + 2) (record { path = path; thing = thing })) (sym c.as_slice-path.ensures.value)
-    ∙ spot-inodes c.args.made.now.items c.as_slice-path.result.now c.in_ok-directory.directory (drop c.in_ok-directory.at c.as_slice-path.result.now) c.in_ok-directory.ensures.spot
+    ∙ spot-inodes c.args.made.now.items c.as_slice-path.result.now c.in_ok-spot.spot.directory c.in_ok-spot.spot.below.now c.in_ok-spot.ensures.spot
     blocks c.args.geometry.inodes files (length c.args.made.now.items + 2) thing is.listed (omega (arith, c.if-number-geometry.true, c.len-number.ensures))
 
 pub returns-then-number-geometry-clause-cause : goal.returns-then-number-geometry-clause-cause
@@ -49,8 +48,8 @@ store_entry-requires g c = record {
   able = (
     c.requires.made.0,
     c.requires.made.1.stores,
-    CanAdd-named c.requires.made.1 c.in_ok-directory.ensures.spot (omega (arith, c.if-number-geometry.false, c.len-number.ensures))
-        (take_rest c.as_slice-path.result.now c.in_ok-directory.at) (ap (λ k. k + 2) c.len-number.ensures),
+    CanAdd-next c.requires.made.1 c.in_ok-spot.ensures.spot (omega (arith, c.if-number-geometry.false, c.len-number.ensures))
+        (ap (λ k. k + 2) c.len-number.ensures),
   );
 }
 
@@ -62,29 +61,27 @@ returns-in_err-store_entry g c =
       added = none-done _ told;
       room = none-done _ told;
       refused = rw (p.1, p.2) (λ files is.
-          refused-stored is c.in_ok-directory.ensures.spot (omega (arith, c.if-number-geometry.false, c.len-number.ensures)) (take_rest c.as_slice-path.result.now c.in_ok-directory.at) (ap (λ k. k + 2) c.len-number.ensures)
+          refused-stored is c.in_ok-spot.ensures.spot (omega (arith, c.if-number-geometry.false, c.len-number.ensures)) (ap (λ k. k + 2) c.len-number.ensures)
           c.store_entry.new.disk.blocks (thing_of c.args.entry.now.thing) _ (c.in_err-store_entry.ensures.stored files) c.as_slice-path.ensures.value c.in_err-store_entry.field-0.0 refl);
       count = c.store_entry.ensures.count;
       cause = Blames-stored c.in_err-store_entry.field-0.0 (omega arith) c.in_err-store_entry.ensures.cause told;
     }
 
 pub push-requires : goal.push-requires
-push-requires g c =
-    let path = c.as_slice-path.result.now in
-    record {
-      absent = ap (found c.args.made.now.items c.in_ok-directory.directory) (take_rest path c.in_ok-directory.at) ∙ c.in_ok-directory.ensures.spot.absent;
-      room = omega (arith, c.requires.room, c.if-number-geometry.false, c.len-number.ensures);
-    }
+push-requires g c = record {
+  absent = c.in_ok-spot.ensures.spot.absent;
+  leads = c.in_ok-spot.ensures.leads;
+  room = omega (arith, c.requires.room, c.if-number-geometry.false, c.len-number.ensures);
+}
 
 pub returns : goal.returns
 returns g c =
-    let same = take_rest c.as_slice-path.result.now c.in_ok-directory.at in
     let longer : length c.push.new.self.items ≡ length c.args.made.now.items + 1 = ap length c.push.ensures.items ∙ length_push c.args.made.now.items _ in
     record {
       added = λ files is.
-          AddsEntry-stored is c.in_ok-directory.ensures.spot (omega (arith, c.if-number-geometry.false, c.len-number.ensures)) same (ap (λ k. k + 2) c.len-number.ensures)
-          c.store_entry.new.disk.blocks (thing_of c.args.entry.now.thing) _ (c.in_ok-store_entry.ensures.stored files) c.as_slice-path.ensures.value refl c.push.ensures.items refl same
-          (c.is_directory.ensures ∙ folder-thing (length c.args.made.now.items + 2) c.in_ok-directory.directory c.args.entry.now.thing);
+          AddsEntry-stored is c.in_ok-spot.ensures.spot (omega (arith, c.if-number-geometry.false, c.len-number.ensures)) (ap (λ k. k + 2) c.len-number.ensures)
+          c.store_entry.new.disk.blocks (thing_of c.args.entry.now.thing) _ (c.in_ok-store_entry.ensures.stored files) c.as_slice-path.ensures.value refl c.push.ensures.items
+          (c.is_directory.ensures ∙ folder-thing (length c.args.made.now.items + 2) c.in_ok-spot.spot.directory c.args.entry.now.thing);
       room = omega (arith, c.requires.room, c.push.ensures.room, longer);
       refused = tt;
       count = c.store_entry.ensures.count;

@@ -1,29 +1,34 @@
-use Rattle.std.proofs.Common.{◌+◌, None, ap, drop, sym, take, ◌∙◌}
-use Rattle.imagemake.proofs.Pathing.{first-in, name_next, pieces_next, reach_found, reach_last, reach_none, within_next}
-use Rattle.imagemake.specs.Made.{found, reach}
+use Rattle.std.proofs.Common.{ap, drop, sym, take, ◌+◌, ◌∙◌}
+use Rattle.std.proofs.lemmas.List.{take_rest}
+use Rattle.imagemake.specs.Made.{reach}
+use Rattle.imagemake.proofs.Leading.{above-next, joined-next, leads-next, reach-below}
+use Rattle.imagemake.proofs.Pathing.{pieces_first, reach_last, reach_none}
 use Rattle.imagemake.proofs.made.Made.locate.Goals as goal
 
 pub returns-in_default-find-clause-none : goal.returns-in_default-find-clause-none
 returns-in_default-find-clause-none c =
     let made = c.args.self.now.items in
-    let path = c.args.path.now in
-    let none = reach_none made c.name.directory (take c.in-Some.end (drop c.name.at path)) (drop (c.name.at + (c.in-Some.end + 1)) path)
-    (ap (found made c.name.directory) (sym (name_next path c.name.at c.in-Some.end c.in-Some.ensures)) ∙ sym c.in_default-find.ensures) in
-    (none.0, sym c.name.invariant.rest ∙ ap (reach made c.name.directory) (pieces_next path c.name.at c.in-Some.end c.in-Some.ensures) ∙ none.1)
+    let spot = c.name.spot in
+    let none = reach_none made spot.directory (take c.in-Some.end spot.below.now) (drop (c.in-Some.end + 1) spot.below.now) (sym c.in_default-find.ensures) in (
+      none.0,
+      reach-below c.name.invariant.leads c.args.path.now spot.below.now c.name.invariant.joined
+          ∙ ap (reach made spot.directory) (pieces_first spot.below.now c.in-Some.end (sym c.in-Some.ensures)) ∙ none.1,
+    )
 
 pub name-preserved : goal.name-preserved
 name-preserved c =
-    let made = c.args.self.now.items in
     let path = c.args.path.now in
+    let spot = c.name.spot in
+    let end = c.in-Some.end in
+    let is = c.name.invariant.joined in
+    let slash = sym c.in-Some.ensures in
+    let above = above-next path spot.above.now spot.below.now end is slash in
     record {
-      within = within_next path c.name.at c.in-Some.end c.in-Some.ensures;
-      rest =
-          sym (reach_found made c.name.directory (take c.in-Some.end (drop c.name.at path)) (drop (c.name.at + (c.in-Some.end + 1)) path) c.in-Some-find.next
-          (ap (found made c.name.directory) (sym (name_next path c.name.at c.in-Some.end c.in-Some.ensures)) ∙ sym c.in-Some-find.ensures))
-          ∙ ap (reach made c.name.directory) (sym (pieces_next path c.name.at c.in-Some.end c.in-Some.ensures))
-          ∙ c.name.invariant.rest;
+      joined = joined-next path spot.above.now spot.below.now end is slash above (take_rest spot.below.now (end + 1));
+      leads = leads-next path spot.above.now spot.below.now end is slash above c.name.invariant.leads (sym c.in-Some-find.ensures);
     }
 
 pub returns-clause-found : goal.returns-clause-found
 returns-clause-found c =
-    sym c.name.invariant.rest ∙ reach_last c.args.self.now.items c.name.directory (drop c.name.at c.args.path.now) (first-in c.args.path.now c.name.at None c.in_default.ensures)
+    reach-below c.name.invariant.leads c.args.path.now c.name.spot.below.now c.name.invariant.joined
+    ∙ reach_last c.args.self.now.items c.name.spot.directory c.name.spot.below.now (sym c.in_default.ensures)

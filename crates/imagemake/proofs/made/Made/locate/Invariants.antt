@@ -1,13 +1,12 @@
-use Rattle.std.proofs.Common.{◌≡◌, ◌-◌, ◌≤◌, drop, length}
-use Rattle.unixmodel.specs.Files.{pieces}
-use Rattle.imagemake.specs.Made.{reach}
+use Rattle.std.proofs.Common.{◌≡◌, ◌++◌, ◌∷◌, length}
+use Rattle.imagemake.specs.Made.{LeadsTo}
 use Rattle.imagemake.proofs.made.Made.locate.Given as goal
 
 abbrev pub invariant-name : goal.invariant-name
 invariant-name l = record {
-  within : l.at ≤ length l.path;
-  rest : reach l.self.items l.directory (pieces (drop l.at l.path)) ≡ reach l.self.items 1 (pieces (drop 1 l.path));
+  joined : l.path ≡ l.spot.above.now ++ 0x2f ∷ l.spot.below.now;
+  leads : LeadsTo l.self.items l.spot.above.now l.spot.directory;
 }
 
 abbrev pub decreases-name : goal.decreases-name
-decreases-name l = length l.path - l.at
+decreases-name l = length l.spot.below.now
