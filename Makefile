@@ -2,20 +2,23 @@
 
 # Where `rt run` leaves the program once every crate below it is proved.
 PROGRAM := crates/xv6/out/xv6
-SOURCES := $(shell find crates -name out -prune -o \( -name '*.rt' -o -name '*.antt' \) -print)
+
+# Whether that program is there, and no source is newer than it.
+IS_FRESH := [ -x $(PROGRAM) ] && [ -z "$$(find crates crates.txt -name out -prune -o \( -name '*.rt' -o -name '*.antt' -o -name crates.txt \) \
+	-newer $(PROGRAM) -print -quit)" ]
 
 # The user programs: a text each. user/manifest puts them on an image, and user/demo is what is typed at it.
 TEXTS := $(wildcard user/*.s)
 USER := $(TEXTS:user/%.s=out/user/%)
 IMAGE := out/xv6.img
 
-.PHONY: demo build image user test edits check bench fmt
+.PHONY: demo build program image user test quick edits check bench fmt
 
 # Boots a machine from an image with the user programs, types at its shell, and shows its console. It takes the
 # proved build where there is one that is not older than the sources. Else `rt try` compiles, and proves nothing of, the
 # program of crates/userland, which does the same in one run.
 demo:
-	@if [ -x $(PROGRAM) ] && $(MAKE) -sq $(PROGRAM); then \
+	@if $(IS_FRESH); then \
 		echo 'demo: the proved build, $(PROGRAM)'; \
 		$(MAKE) -s image && $(PROGRAM) run $(IMAGE) user/demo; \
 	else \
@@ -24,17 +27,21 @@ demo:
 			rt try $$(for file in $$(ls data); do echo --data $$file=data/$$file; done)); \
 	fi
 
-# Proves every crate that the program stands on, builds it as $(PROGRAM), and runs it once.
-build: $(PROGRAM)
+# Proves every crate, several at a time, a line for each; builds the program as $(PROGRAM), and runs it once.
+build:
+	@if $(IS_FRESH); then echo '$(PROGRAM) is proved and built'; else \
+		tools/prove.py && cd crates/xv6 && rt run -- flat data/hello.bin data/hello.txt && touch out/xv6; \
+	fi
 
-$(PROGRAM): $(SOURCES) crates.txt
-	cd crates/xv6 && rt run -- flat data/hello.bin data/hello.txt
-	@touch $@
+# The program that is there: what needs it starts no proofs by itself.
+program:
+	@[ -x $(PROGRAM) ] || { echo '$(PROGRAM) is not built: make build proves and builds it, in about half an hour' >&2; exit 1; }
+	@$(IS_FRESH) || echo 'note: $(PROGRAM) is older than the sources (make build)' >&2
 
 # Assembles the user programs.
 user: $(USER)
 
-out/user/%: user/%.s $(PROGRAM)
+out/user/%: user/%.s $(wildcard $(PROGRAM)) | program
 	@mkdir -p $(@D)
 	$(PROGRAM) asm $< $@
 
@@ -52,12 +59,16 @@ test:
 edits:
 	edits/try.py
 
-# Every proof, over what earlier checks kept.
+# Every proof, over what earlier checks kept: several at a time, a line a crate.
 check:
-	rt all check
+	tools/prove.py
+
+# What differs from the last commit of main, and all above it, with their tests.
+quick:
+	tools/prove.py --changed
 
 # Times the built program beside a plain Rust interpreter of the same design.
-bench: $(PROGRAM)
+bench: | program
 	bench/run.py $(PROGRAM)
 
 # Lays out the sources of every crate.

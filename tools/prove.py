@@ -1,0 +1,107 @@
+#!/usr/bin/env python3
+"""Proves crates, lowest first, and prints a line for each as it ends.
+
+    tools/prove.py                    every crate, several side by side
+    tools/prove.py --changed          what differs from the last commit of main, and all crates above that, with their tests
+    tools/prove.py --changed HEAD~3   what differs from that commit
+
+Without --changed as many checks run side by side as there are processors, and 3 GB of free memory for each (--jobs N: N of
+them); with it they run one after the other, each with so many jobs. What was proved already and has not changed costs a look.
+The status is 0 where all is proved; else what the check of a crate said is printed. This is for work: `rt ci` alone is the
+gate, which proves from nothing and tries the edits.
+"""
+import argparse
+import os
+import subprocess
+import sys
+import time
+from pathlib import Path
+
+ROOT = Path(__file__).resolve().parent.parent
+CRATES = ROOT / "crates"
+
+
+def read_crates():
+    """The crates of crates.txt, each with those of the repository that it stands on."""
+    lines = (line.split("#")[0].strip() for line in (ROOT / "crates.txt").read_text().splitlines())
+    named = {line.split(":")[0].split()[0]: line.split(":")[1].split() for line in lines if line}
+    return {name: [it for it in below if it in named] for name, below in named.items()}
+
+
+def with_all_above(names, crates):
+    """These crates and those that stand on them, lowest first: crates.txt may have any order."""
+    found, left = [], dict(crates)
+    while left:
+        name = next(it for it, below in left.items() if not any(lower in left for lower in below))
+        if name in names or any(it in found for it in crates[name]):
+            found.append(name)
+        del left[name]
+    return found
+
+
+def changed_since(commit, crates):
+    """The crates with a file that differs from a commit or that git does not know yet."""
+    asked = (["diff", "--name-only", commit, "--", "crates"], ["ls-files", "--others", "--exclude-standard", "--", "crates"])
+    told = [subprocess.run(["git", *it], cwd=ROOT, check=True, capture_output=True, text=True).stdout for it in asked]
+    return {Path(it).parts[1] for it in "".join(told).splitlines()} & set(crates)
+
+
+def has_tests(name):
+    return any("#[test]" in it.read_text() for it in (CRATES / name / "src").rglob("*.rt"))
+
+
+def free_jobs():
+    """A check for each processor, if there are 3 GB of memory for each."""
+    memory = os.sysconf("SC_AVPHYS_PAGES") * os.sysconf("SC_PAGE_SIZE")
+    return max(1, min(len(os.sched_getaffinity(0)), memory // (3 << 30)))
+
+
+def tell(name, said, started):
+    """Prints the line of a crate, and what its check said where it isn't proved. Whether it is proved is the answer."""
+    is_proved = "logic=proved" in said
+    print(f"{time.monotonic() - started:6.0f} s  {name} {'is proved' if is_proved else 'IS NOT PROVED'}", flush=True)
+    if not is_proved:
+        print("".join(f"    {it}\n" for it in said.splitlines()[-40:]), flush=True)
+    return is_proved
+
+
+def prove_all(jobs):
+    """Every crate: rt prints `== NAME` and what the check said, crate by crate."""
+    started, name, said, all_proved = time.monotonic(), None, [], True
+    words = ["rt", "all", "check", "--jobs", str(jobs)]
+    with subprocess.Popen(words, cwd=CRATES, stdout=subprocess.PIPE, stderr=subprocess.STDOUT, text=True) as check:
+        for line in check.stdout:
+            if line.startswith("== "):
+                all_proved &= name is None or tell(name, "".join(said), started)
+                name, said = line[3:].strip(), []
+            said.append(line)
+        all_proved &= name is not None and tell(name, "".join(said), started)
+    return 0 if check.returncode == 0 and all_proved else 1
+
+
+def prove_changed(commit, jobs):
+    """What changed and all above it, with their tests, up to the first that isn't proved."""
+    started, crates = time.monotonic(), read_crates()
+    names = with_all_above(changed_since(commit, crates), crates)
+    print(f"changed since {commit}, and above: {' '.join(names) or 'nothing'}", flush=True)
+    for name in names:
+        words = ["rt", "test" if has_tests(name) else "check", "--jobs", str(jobs)]
+        check = subprocess.run(words, cwd=CRATES / name, stdout=subprocess.PIPE, stderr=subprocess.STDOUT, text=True)
+        if not tell(name, check.stdout, started) or check.returncode:
+            return 1
+    return 0
+
+
+def main(words):
+    parser = argparse.ArgumentParser(description=__doc__, formatter_class=argparse.RawDescriptionHelpFormatter)
+    parser.add_argument("--changed", nargs="?", const="main", metavar="COMMIT", help="what differs from a commit (main), and all above it")
+    parser.add_argument("--jobs", type=int, metavar="N", help="how many at a time, at least 1")
+    wanted = parser.parse_args(words)
+    if wanted.jobs is not None and wanted.jobs < 1:
+        parser.error("--jobs takes a number above 0")
+    jobs = wanted.jobs or free_jobs()
+    return prove_changed(wanted.changed, jobs) if wanted.changed else prove_all(jobs)
+
+
+if __name__ == "__main__":
+    sys.exit(main(sys.argv[1:]))
