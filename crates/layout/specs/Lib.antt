@@ -5,3 +5,4 @@ pub mod Entries
 pub mod Image
 pub mod Sound
 pub mod Grow
+pub mod Formats
