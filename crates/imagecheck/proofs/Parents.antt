@@ -1,11 +1,11 @@
 -- The number that a directory's ".." tells.
-use Rattle.std.proofs.Common.{◌≡◌, ◌≢◌, ℕ, ◌+◌, ◌-◌, ◌*◌, ◌<◌, ◌≤◌, Bool, List, [], ◌∷◌, ◌++◌, None, Some, length, get_or, take, drop, ap, sym, ◌∙◌, arith, subst, cond, inl, inr, true, false, flat_map, is_some, option_map, slice_range, unwrap_or, ◌==◌, ◌↔◌, IsSome}
+use Rattle.std.proofs.Common.{◌≡◌, ◌≢◌, ℕ, ◌+◌, ◌-◌, ◌*◌, ◌<◌, ◌≤◌, Bool, List, [], ◌∷◌, None, Some, length, get_or, take, drop, ap, sym, ◌∙◌, arith, subst, cond, inl, inr, true, false, flat_map, is_some, option_map, slice_range, unwrap_or, ◌==◌, ◌↔◌, IsSome, IsTrue}
 use Rattle.std.specs.List.{list_all}
 use Rattle.std.proofs.lemmas.Bool.{cases_eq, eqb-true}
-use Rattle.std.proofs.lemmas.List.{ext_get_or, get_or-drop, get_or-take, get_or_append_left, length-append, length-drop, length-take, length-take-le}
+use Rattle.std.proofs.lemmas.List.{ext_get_or, get_or-drop, get_or-take, get_or_append_left, length-drop, length-take-le}
 use Rattle.std.proofs.lemmas.Option.{none-some}
 use Rattle.unixmodel.specs.Files.{Entry, dot_dot, is_directory, slot}
-use Rattle.unixmodel.specs.Image.{block_at, contents_in, count_in, data_blocks, direct_in, index_in, inode_at, is_directory_at, kind_in, length_in, parent_of}
+use Rattle.unixmodel.specs.Image.{block_at, contents_in, count_in, data_blocks, format_of, inode_at, is_data_block, is_directory_at, kind_in, length_in, parent_of}
 use Rattle.unixmodel.specs.Numbers.{number_at}
 use Rattle.imagerules.specs.Rules.{HasBlocks}
 use Rattle.imagerules.specs.Places.{HasEntries, HasLinks, files_in, place_of_bytes, places_in, without_zeros}
@@ -13,7 +13,11 @@ use Rattle.imagecheck.specs.Entries.{FitsFront}
 use Rattle.imagecheck.specs.Reach.{IsDirectoryIn, first_block}
 use Rattle.imagecheck.proofs.Naming.{directory-least, entries-at, slot-directory}
 use Rattle.imagerules.proofs.Nodes.{length-block}
-use Rattle.imagerules.proofs.Numbers.{get_or-numbers_at, length-numbers_at, same_number}
+use Rattle.imagerules.proofs.Numbers.{same_number}
+use Rattle.imagerules.proofs.Read.{number_in-record}
+use Rattle.imagerules.proofs.Summing.{length-data_blocks}
+use Rattle.unixmodel.specs.Formats.{most_data}
+use Rattle.imagecheck.proofs.Slotting.{data-at, first-address, first-here}
 use Rattle.imagecheck.proofs.Reaching.{parent_leads, parent_root, used_from}
 use Rattle.imagecheck.proofs.Standing.{is_directory-is, some_high, some_low}
 use Rattle.imagerules.proofs.Spelling.{slot-places_in}
@@ -62,26 +66,22 @@ module _ (image : List ℕ) (blocks : HasBlocks image) (n : ℕ) (h : IsDirector
   some_blocks : 1 ≤ count_in image n
   some_blocks = let least = (blocks.inodes.sizes n h.low h.high).directory_least h.kind in omega arith
 
+  few_blocks : count_in image n ≤ most_data (format_of image)
+  few_blocks = let most = (blocks.inodes.sizes n h.low h.high).most used in omega arith
+
   first_is : get_or (data_blocks image n) 0 0 ≡ first_block image n
-  unfolding data_blocks
   first_is =
-      let l = length-numbers_at 12 (inode_at n + 12) image in
-      get_or-take (count_in image n) (direct_in image n ++ index_in image n) 0 0 (omega (arith, some_blocks))
-      ∙ get_or_append_left (direct_in image n) (index_in image n) 0 0 (omega arith) ∙ get_or-numbers_at 12 (inode_at n + 12) image 0 (omega arith)
-      ∙ ap (λ p. number_at 4 p image) (omega arith)
+      data-at image n few_blocks 0 0 some_blocks ∙ number_in-record image n 0 (first-here image)
+      ∙ ap (λ a. number_at 4 (inode_at n + 12 + 4 * a) image) (first-address image) ∙ ap (λ p. number_at 4 p image) (omega arith)
 
   long_blocks : 1 ≤ length (data_blocks image n)
-  unfolding data_blocks
-  long_blocks =
-      let l = length-numbers_at 12 (inode_at n + 12) image in
-      omega (arith, some_blocks, length-take (count_in image n) (direct_in image n ++ index_in image n), length-append (direct_in image n) (index_in image n))
+  long_blocks = omega (arith, some_blocks, length-data_blocks image n)
 
   -- it lies in the image
   pub first_inside : 1024 * first_block image n + 1024 ≤ length image
-  unfolding data_blocks
   first_inside =
       let whole = blocks.inodes.super.whole in
-      let each = All-data_blocks image n (FitsAddresses-at image blocks.addresses n h.low h.high used) 0 0 long_blocks in
+      let each = All-data_blocks image n (λ b. IsTrue (is_data_block image b)) few_blocks (FitsAddresses-at image blocks.addresses n h.low h.high used).blocks 0 0 long_blocks in
       omega (arith, is_data_block-below image (get_or (data_blocks image n) 0 0) each, first_is)
 
   -- its bytes begin with those of that block

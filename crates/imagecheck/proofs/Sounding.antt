@@ -3,8 +3,10 @@ use Rattle.std.proofs.Common.{Err, List, Ok, Result, length, ℕ, ◌≡◌, ◌
 use Rattle.std.proofs.lemmas.Result.{err_from_is_err_and}
 use Rattle.unixmodel.specs.Failures.{Rises}
 use Rattle.unixmodel.specs.Files.{Files}
-use Rattle.unixmodel.specs.Image.{Denotes, named_blocks, numbers_in_use}
-use Rattle.imagecheck.specs.Faults.{Finds, IsOfImage, Tells}
+use Rattle.unixmodel.specs.Formats.{Format}
+use Rattle.unixmodel.specs.Image.{DenotesIn, named_blocks, numbers_in_use}
+use Rattle.imagecheck.specs.Faults.{Finds, IsOfImage, IsOutside, Tells}
+use Rattle.imagerules.specs.Pieces.{HasMagic}
 use Rattle.imagerules.specs.Places.{files_in}
 use Rattle.imagecheck.specs.Summaries.{IsSummary}
 use Rattle.imagecheck.specs.declared.ImageFault.{ImageFault}
@@ -14,20 +16,20 @@ use Rattle.imagecheck.specs.declared.ImageFault.TheVariants as fault
 use Rattle.imagerules.proofs.Denoting.{HasEntries-denotes, HasKinds-denotes, HasLinks-denotes, HasSizes-denotes, IsReached-denotes}
 
 -- a fault that holds rules out that the image denotes files
-pub Tells-not : (image : List ℕ) (files : Files) (fault : ImageFault) → IsOfImage fault → Tells image fault → Denotes image files → ⊥
-Tells-not image files fault.Length i t d = t (record { least = let l = d.super.size_least in let w = d.super.whole in omega arith; whole = d.super.whole })
-Tells-not image files fault.Magic i t d = t.1 d.super.magic
-Tells-not image files fault.Numbers i t d = t.2 d.super
-Tells-not image files fault.NodeType i t d = t.1 (HasKinds-denotes image files d)
-Tells-not image files fault.Size i t d = t.2 (HasSizes-denotes image files d)
-Tells-not image files fault.Address i t d = t.1 (record { blocks = d.blocks; unused = d.unused })
-Tells-not image files fault.SharedBlock i t d = t.2 d.once
-Tells-not image files fault.Bitmap i t d = t.3 d.bitmap
-Tells-not image files fault.Entry i t d = t.1 (HasEntries-denotes image files d)
-Tells-not image files fault.Links i t d = t.2 (HasLinks-denotes image files d)
-Tells-not image files fault.Unreached i t d = t.3 (IsReached-denotes image files d)
-Tells-not image files fault.Device i t d = i
-Tells-not image files fault.NoMemory i t d = i
+pub Tells-not : (f : Format) (image : List ℕ) (files : Files) (fault : ImageFault) → IsOfImage fault → Tells f image fault → DenotesIn f image files → ⊥
+Tells-not f image files fault.Length i t d = t (record { least = let l = d.super.size_least in let w = d.super.whole in omega arith; whole = d.super.whole })
+Tells-not f image files fault.Magic i t d = t.1 d.magic
+Tells-not f image files fault.Numbers i t d = t.2 d.super
+Tells-not f image files fault.NodeType i t d = t.1.1 (HasKinds-denotes image files d)
+Tells-not f image files fault.Size i t d = t.1.2 (HasSizes-denotes image files d)
+Tells-not f image files fault.Address i t d = t.1.1 (record { blocks = d.blocks; spares = d.spares })
+Tells-not f image files fault.SharedBlock i t d = t.1.2 d.once
+Tells-not f image files fault.Bitmap i t d = t.1.3 d.bitmap
+Tells-not f image files fault.Entry i t d = t.1.1 (HasEntries-denotes image files d)
+Tells-not f image files fault.Links i t d = t.1.2 (HasLinks-denotes image files d)
+Tells-not f image files fault.Unreached i t d = t.1.3 (IsReached-denotes image files d)
+Tells-not f image files fault.Device i t d = i
+Tells-not f image files fault.NoMemory i t d = i
 
 pub OnOk-from : {T E P Q : Type 0} (r : Result T E) → OnOk r P → (P → Q) → OnOk r Q
 OnOk-from (Ok x) h f = f h
@@ -41,18 +43,28 @@ same-error : {T : Type 0} {x y : ImageFault} → ◌≡◌ {A = Result T ImageFa
 same-error e = cc
 
 -- a fault of the image that is told rules out that it denotes files
-pub refused-from : {T : Type 0} (image : List ℕ) (r : Result T ImageFault) → IfErr r (λ fault. Tells image fault) → IfErr r (λ fault. IsOfImage fault → (files : Files) → Denotes image files → ⊥)
-refused-from image (Ok x) h = tt
-refused-from image (Err fault) h = λ i files d. Tells-not image files fault i h d
+pub refused-from : {T : Type 0} (f : Format) (image : List ℕ) (r : Result T ImageFault) → IfErr r (λ fault. Tells f image fault) → IfErr r (λ fault. IsOfImage fault → (files : Files) → DenotesIn f image files → ⊥)
+refused-from f image (Ok x) h = tt
+refused-from f image (Err fault) h = λ i files d. Tells-not f image files fault i h d
 
 -- a fault is told
 pub told-err : {T E : Type 0} {fault : E} (r : Result T E) → IsErrAnd r (λ f. f ≡ fault) → r ≡ Err fault
 told-err r told = let p = err_from_is_err_and r told in p.1 ∙ ap Err p.2
 
 -- a pass over an image tells what it finds, and blames no device
-pub Finds-told : (image : List ℕ) (fault : ImageFault) → Finds image fault → Tells image fault
-Finds-told image Device h = absurd h
-Finds-told image fault h = h
+pub Finds-told : (f : Format) (image : List ℕ) → HasMagic f image → (fault : ImageFault) → Finds image fault → Tells f image fault
+Finds-told f image m fault.Length h = absurd h
+Finds-told f image m fault.Magic h = absurd h
+Finds-told f image m fault.Numbers h = absurd h
+Finds-told f image m fault.Device h = absurd h
+Finds-told f image m fault.NoMemory h = tt
+Finds-told f image m fault h = (m, h)
+
+-- what the device or memory is blamed for is told of every image
+pub outside-told : (f : Format) (image : List ℕ) (fault : ImageFault) → IsOutside fault → Tells f image fault
+outside-told f image fault.Device h = tt
+outside-told f image fault.NoMemory h = tt
+outside-told f image fault h = absurd h
 
 pub Finds-not_device : {T : Type 0} (image : List ℕ) (r : Result T ImageFault) → IfErr r (Finds image) → IsErrOf r Device → ⊥
 Finds-not_device image r h told = subst (λ x. IfErr x (Finds image)) told h
@@ -62,23 +74,23 @@ pub fault-told : {T : Type 0} {given : ImageFault} (P : ImageFault → Type 0) (
 fault-told P r told holds = subst (λ x. IfErr x P) (sym (told-err r told)) holds
 
 -- what a result tells that blames no image
-pub record IsOther {T : Type 0} (image : List ℕ) (r : Result T ImageFault) (P : T → Type 0) (other : ImageFault) : Type 0 where
+pub record IsOther {T : Type 0} (r : Result T ImageFault) (P : T → Type 0) (other : ImageFault) : Type 0 where
   pub told : IfOk r P
-  pub only : IfErr r (λ fault. Tells image fault)
+  pub only : IfErr r IsOutside
   pub no : (fault : ImageFault) → other ≢ fault → IsErrOf r fault → ⊥
 
-pub no-image : {T : Type 0} {fault : ImageFault} (image : List ℕ) (P : T → Type 0) (r : Result T ImageFault) → IsErrAnd r (λ f. f ≡ fault) → Tells image fault → IsOther image r P fault
-no-image image P r told tells = rw (told-err r told) (record { told = tt; only = tells; no = λ other differs is. absurd (differs (same-error is)) })
+pub no-image : {T : Type 0} {fault : ImageFault} (P : T → Type 0) (r : Result T ImageFault) → IsErrAnd r (λ f. f ≡ fault) → IsOutside fault → IsOther r P fault
+no-image P r told tells = rw (told-err r told) (record { told = tt; only = tells; no = λ other differs is. absurd (differs (same-error is)) })
 
 -- the parts of a summary
-pub record IsTold (image : List ℕ) (r : Result Summary ImageFault) : Type 0 where
-  pub denotes : OnOk r (Denotes image (files_in image))
+pub record IsTold (f : Format) (image : List ℕ) (r : Result Summary ImageFault) : Type 0 where
+  pub denotes : OnOk r (DenotesIn f image (files_in image))
   pub inodes : IfOk r (λ summary. summary.inodes ≡ length (numbers_in_use image))
   pub blocks : IfOk r (λ summary. summary.blocks ≡ length (named_blocks image))
 
-pub Summary-told : (image : List ℕ) (r : Result Summary ImageFault) → IfOk r (IsSummary image) → IsTold image r
-Summary-told image (Ok summary) h = record { denotes = h.denotes; inodes = h.inodes; blocks = h.blocks }
-Summary-told image (Err fault) h = record { denotes = tt; inodes = tt; blocks = tt }
+pub Summary-told : (f : Format) (image : List ℕ) → HasMagic f image → (r : Result Summary ImageFault) → IfOk r (IsSummary image) → IsTold f image r
+Summary-told f image m (Ok summary) h = record { denotes = h.denotes f m; inodes = h.inodes; blocks = h.blocks }
+Summary-told f image m (Err fault) h = record { denotes = tt; inodes = tt; blocks = tt }
 
 -- a fault of the image is neither the device's nor memory's
 pub record IsOwn {T : Type 0} (r : Result T ImageFault) : Type 0 where

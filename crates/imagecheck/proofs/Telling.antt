@@ -1,13 +1,24 @@
 -- What the super block of a device of so many blocks tells, if it has this length.
-use Rattle.std.proofs.Common.{◌≡◌, ◌≢◌, ℕ, ◌≤◌, List, ap, length, sym, ◌∙◌, arith}
+use Rattle.std.proofs.Common.{◌≡◌, ◌≢◌, ℕ, ◌≤◌, List, cond, ◌==◌, ap, length, sym, ◌∙◌, arith}
 use Rattle.blockdev.specs.Blocks.{block_at}
-use Rattle.layout.specs.Super.{HasNumbers, super_of}
+use Rattle.layout.specs.Formats.{format_named}
+use Rattle.layout.specs.Super.{HasNumbersIn, super_of}
+use Rattle.layout.specs.declared.Format as layout
+use Rattle.layout.specs.declared.Format.TheVariants as kinds
+use Rattle.unixmodel.specs.Formats.{Format, large, small}
+use Rattle.unixmodel.specs.Image.{format_of}
 use Rattle.layout.specs.declared.SuperBlock.{SuperBlock}
 use Rattle.imagerules.specs.Content.{IsFront, image_of}
-use Rattle.imagerules.specs.Fields.{HasGeometry, SuperRules-of}
-use Rattle.imagecheck.specs.Faults.{Tells}
+use Rattle.imagerules.specs.Fields.{SuperRules-of}
+use Rattle.imagerules.specs.Pieces.{HasMagic}
+use Rattle.imagecheck.specs.Faults.{Begins, Tells}
 use Rattle.imagecheck.specs.declared.ImageFault.TheVariants.{Length, Magic, Numbers}
-use Rattle.imagerules.proofs.Super.{HasLength-from, HasLength-not, HasNumbers-from, HasSuper-from, inodes-is, magic-is, size-is}
+use Rattle.imagerules.proofs.Super.{HasLength-from, HasLength-not, HasNumbers-in, HasSuper-in, inodes-is, magic-is, size-is}
+
+-- its magic number tells the format of an image
+pub format_of-magic : (format : layout.Format) (image : List ℕ) → HasMagic (format_named format) image → format_of image ≡ format_named format
+format_of-magic kinds.Small image m = ap (λ k. cond (k == large.magic) large small) m
+format_of-magic kinds.Large image m = ap (λ k. cond (k == large.magic) large small) m
 
 module _ (blocks : List (List ℕ)) (count : ℕ) (block : List ℕ) (front : IsFront blocks count block) (least : 2 ≤ count) (s : SuperBlock) (read : s ≡ super_of block) where
   two : 2 ≤ length blocks
@@ -16,23 +27,32 @@ module _ (blocks : List (List ℕ)) (count : ℕ) (block : List ℕ) (front : Is
   e : s ≡ super_of (block_at blocks 1)
   e = read ∙ ap super_of front.front
 
-  pub Length-told : s.size ≢ count → Tells (image_of blocks) Length
-  Length-told n = HasLength-not blocks front.sizes two s e (λ z. n (z ∙ sym front.many))
+  pub Length-told : (f : Format) → s.size ≢ count → Tells f (image_of blocks) Length
+  Length-told f n = HasLength-not blocks front.sizes two s e (λ z. n (z ∙ sym front.many))
 
-  module _ (size : s.size ≡ count) where
-    pub HasGeometry-from : s.magic ≡ 0x10203040 → HasNumbers s → HasGeometry (image_of blocks) (record { size = count; inodes = s.inodes })
-    HasGeometry-from magic numbers = record {
-      rules = SuperRules-of (HasSuper-from blocks front.sizes two s e (size ∙ front.many) magic numbers);
-      size = sym size ∙ size-is blocks front.sizes two s e;
-      inodes = inodes-is blocks front.sizes two s e;
+  module _ (format : layout.Format) (size : s.size ≡ count) where
+    magic_told : s.magic ≡ (format_named format).magic → HasMagic (format_named format) (image_of blocks)
+    magic_told m = sym (magic-is blocks front.sizes two s e) ∙ m
+
+    most_is : s.magic ≡ (format_named format).magic → (format_of (image_of blocks)).most ≡ (format_named format).most
+    most_is m = ap (λ (f : Format). f.most) (format_of-magic format (image_of blocks) (magic_told m))
+
+    pub Begins-from : s.magic ≡ (format_named format).magic → HasNumbersIn (format_named format) s → Begins (format_named format) (image_of blocks) (record { size = count; inodes = s.inodes })
+    Begins-from magic numbers = record {
+      magic = magic_told magic;
+      geometry = record {
+        rules = SuperRules-of (HasSuper-in blocks front.sizes two s e (format_named format) (size ∙ front.many) (most_is magic) numbers);
+        size = sym size ∙ size-is blocks front.sizes two s e;
+        inodes = inodes-is blocks front.sizes two s e;
+      };
     }
 
-    pub Magic-told : s.magic ≢ 0x10203040 → Tells (image_of blocks) Magic
+    pub Magic-told : s.magic ≢ (format_named format).magic → Tells (format_named format) (image_of blocks) Magic
     Magic-told n = (HasLength-from blocks front.sizes two s e (size ∙ front.many), λ m. n (magic-is blocks front.sizes two s e ∙ m))
 
-    pub Numbers-told : s.magic ≡ 0x10203040 → (HasNumbers s → ⊥) → Tells (image_of blocks) Numbers
+    pub Numbers-told : s.magic ≡ (format_named format).magic → (HasNumbersIn (format_named format) s → ⊥) → Tells (format_named format) (image_of blocks) Numbers
     Numbers-told magic n = (
       HasLength-from blocks front.sizes two s e (size ∙ front.many),
-      sym (magic-is blocks front.sizes two s e) ∙ magic,
-      λ h. n (HasNumbers-from blocks front.sizes two s e h),
+      magic_told magic,
+      λ h. n (HasNumbers-in blocks front.sizes two s e (format_named format) (most_is magic) h),
     )

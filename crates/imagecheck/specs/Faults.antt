@@ -1,36 +1,52 @@
 -- Which fault an image has: the first in the order of the rules whose rule it breaks.
 -- The order: length, magic, numbers, types, sizes, addresses, shared blocks, bitmap, entries, links, reach.
 use Rattle.std.specs.Prelude.{List, ℕ, ⊤}
+use Rattle.layout.specs.declared.Geometry.{Geometry}
+use Rattle.unixmodel.specs.Formats.{Format}
 use Rattle.unixmodel.specs.Image.{HasSuper}
+use Rattle.imagerules.specs.Fields.{HasGeometry}
 use Rattle.imagerules.specs.Rules.{HasBlocks, HasInodes}
 use Rattle.imagerules.specs.Pieces.{HasAddresses, HasBitmap, HasKinds, HasLength, HasMagic, HasSizes, NamesOnce}
 use Rattle.imagerules.specs.Places.{HasEntries, HasLinks, IsReached, files_in}
 use Rattle.imagecheck.specs.declared.ImageFault.{ImageFault}
 use Rattle.imagecheck.specs.declared.ImageFault.TheVariants.{Address, Bitmap, Device, Entry, Length, Links, Magic, NoMemory, NodeType, Numbers, SharedBlock, Size, Unreached}
 
--- the fault holds of the image, and those before it don't
-abbrev pub Tells : List ℕ → ImageFault → Type 0
-Tells image Length = HasLength image → ⊥
-Tells image Magic = HasLength image × (HasMagic image → ⊥)
-Tells image Numbers = HasLength image × HasMagic image × (HasSuper image → ⊥)
-Tells image NodeType = HasSuper image × (HasKinds image → ⊥)
-Tells image Size = HasSuper image × HasKinds image × (HasSizes image → ⊥)
-Tells image Address = HasInodes image × (HasAddresses image → ⊥)
-Tells image SharedBlock = HasInodes image × HasAddresses image × (NamesOnce image → ⊥)
-Tells image Bitmap = HasInodes image × HasAddresses image × NamesOnce image × (HasBitmap image → ⊥)
-Tells image Entry = HasBlocks image × (HasEntries (files_in image) → ⊥)
-Tells image Links = HasBlocks image × HasEntries (files_in image) × (HasLinks (files_in image) → ⊥)
-Tells image Unreached = HasBlocks image × HasEntries (files_in image) × HasLinks (files_in image) × (IsReached (files_in image) → ⊥)
-Tells image Device = ⊤
-Tells image NoMemory = ⊤
+-- the super block is one of the format, and tells this geometry
+pub record Begins (f : Format) (image : List ℕ) (g : Geometry) : Type 0 where
+  pub magic : HasMagic f image
+  pub geometry : HasGeometry image g
 
--- the fault that a pass over an image in memory finds: one of the image, or that memory ran out
+-- the fault that a pass over an image in memory finds: it holds of an image with a sound super block, and those before it don't;
+-- or memory ran out
 abbrev pub Finds : List ℕ → ImageFault → Type 0
-Finds image Device = ⊥
-Finds image fault = Tells image fault
+Finds image NodeType = HasSuper image × (HasKinds image → ⊥)
+Finds image Size = HasSuper image × HasKinds image × (HasSizes image → ⊥)
+Finds image Address = HasInodes image × (HasAddresses image → ⊥)
+Finds image SharedBlock = HasInodes image × HasAddresses image × (NamesOnce image → ⊥)
+Finds image Bitmap = HasInodes image × HasAddresses image × NamesOnce image × (HasBitmap image → ⊥)
+Finds image Entry = HasBlocks image × (HasEntries (files_in image) → ⊥)
+Finds image Links = HasBlocks image × HasEntries (files_in image) × (HasLinks (files_in image) → ⊥)
+Finds image Unreached = HasBlocks image × HasEntries (files_in image) × HasLinks (files_in image) × (IsReached (files_in image) → ⊥)
+Finds image NoMemory = ⊤
+Finds image fault = ⊥
+
+-- the fault holds of the image in a format, and those before it don't
+abbrev pub Tells : Format → List ℕ → ImageFault → Type 0
+Tells f image Length = HasLength image → ⊥
+Tells f image Magic = HasLength image × (HasMagic f image → ⊥)
+Tells f image Numbers = HasLength image × HasMagic f image × (HasSuper image → ⊥)
+Tells f image Device = ⊤
+Tells f image NoMemory = ⊤
+Tells f image fault = HasMagic f image × Finds image fault
 
 -- the fault is one of the image, and not of the device or of memory
 abbrev pub IsOfImage : ImageFault → Type 0
 IsOfImage Device = ⊥
 IsOfImage NoMemory = ⊥
 IsOfImage fault = ⊤
+
+-- the fault is the device's or memory's
+abbrev pub IsOutside : ImageFault → Type 0
+IsOutside Device = ⊤
+IsOutside NoMemory = ⊤
+IsOutside fault = ⊥

@@ -1,127 +1,112 @@
 //! The blocks that inodes name.
 
-ghost use Rattle.std.specs.Prelude.{◌≡◌, ◌≢◌, ◌+◌, ◌-◌, ◌*◌, ◌/◌, ◌<◌, ◌≤◌, ◌++◌, ◌&&◌, ◌==◌, length, take, IsTrue};
+ghost use Rattle.std.specs.Prelude.{◌≡◌, ◌≢◌, ◌+◌, ◌*◌, ◌<◌, ◌≤◌, ◌==◌, if◌then◌else◌, length};
 ghost use Rattle.std.specs.Bool.{OnTrue, OnFalse};
-ghost use Rattle.std.specs.List.{list_all};
-ghost use Rattle.unixmodel.specs.Image.{numbers_at, data_start, count_in, kind_in, named_by, needs_indirect, indirect_in, direct_in, index_in};
-ghost use Rattle.imagerules.specs.Fields.{HasGeometry, HasInode, is_data_in};
-ghost use Rattle.imagerules.specs.Pieces.{HasSizes, HasAddresses, FitsAddresses, fits_indirect};
+ghost use Rattle.layout.specs.Formats.{format_named};
+ghost use Rattle.unixmodel.specs.Image.{count_in, format_of, inode_at, kind_in, number_in};
+ghost use Rattle.unixmodel.specs.Numbers.{number_at};
+ghost use Rattle.unixmodel.specs.Slots.{single};
+ghost use Rattle.imagecheck.specs.Slots.{IsFound};
+ghost use Rattle.imagerules.specs.Fields.{HasGeometry, HasInode, HasPlace, is_data_in};
+ghost use Rattle.imagerules.specs.Pieces.{HasSizes, HasAddresses, FitsAddresses};
 
-use crate::fields::{indirect, inode_place, kind, size};
-use layout::Geometry;
+use crate::fields::{inode_place, kind, number32, size};
+use crate::slots::{address_of, holder_of, index_blocks, is_in_record, place_of, slot_at, there};
+use layout::{Format, Geometry};
 
-// The blocks that an inode can name: those whose numbers stand in it and in its indirect block, and that block.
-pub const MOST: usize = 12 + 256 + 1;
-
-// Reads numbers of four bytes that stand one after the other from a place on.
-fn read_numbers(image: &[u8], at: usize, numbers: &mut [u32])
-    requires { at + 4 * length numbers.old ≤ length image.now }
-    ensures { numbers.new ≡ numbers_at (length numbers.old) at image.now }
+// The format of an image.
+pub fn format_of(image: &[u8]) -> Format
+    requires { 2048 ≤ length image.now }
+    ensures { format_named result ≡ format_of image.now }
 {
-    layout::read_numbers(&image[at..at + 4 * numbers.len()], numbers);
+    if number32(image, 1024) == Format::Large.magic() {
+        Format::Large
+    } else {
+        Format::Small
+    }
 }
 
 // How many data blocks the size of an inode asks for.
 pub fn block_count(image: &[u8], n: usize) -> usize
     requires { HasInode image.now n }
     ensures count { result ≡ count_in image.now n }
-    ensures most { result ≤ 268 }
+    ensures most { result ≤ single (format_of image.now) }
 {
     (size(image, n) as usize + 1023) / 1024
 }
 
-// Reads the block numbers of an inode, the direct ones and those in its indirect block if its size needs that, and
-// tells how many these are.
-pub fn block_numbers(image: &[u8], n: usize, numbers: &mut [u32; MOST]) -> usize
-    requires inode { HasInode image.now n }
-    requires index { IsTrue (needs_indirect image.now n) → 1024 * indirect_in image.now n + 1024 ≤ length image.now }
-    ensures numbers { take result numbers.new ≡ direct_in image.now n ++ index_in image.now n }
-    ensures count { count_in image.now n ≤ result }
-    ensures most { result ≤ 268 }
+// A number of an inode's record.
+fn own_number(image: &[u8], n: usize, place: usize) -> usize
+    requires inode { HasPlace image.now n }
+    requires place { place < 13 }
+    ensures { result ≡ number_at 4 (inode_at n + 12 + 4 * place) image.now }
 {
-    read_numbers(image, inode_place(n) + 12, &mut numbers[..12]);
-    if block_count(image, n) <= 12 {
-        return 12;
-    }
-    read_numbers(
-        image,
-        1024 * indirect(image, n) as usize,
-        &mut numbers[12..268],
-    );
-    268
+    number32(image, inode_place(n) + 12 + 4 * place) as usize
 }
 
-// Reads the numbers of all blocks that an inode names, and tells how many these are.
-pub fn named(image: &[u8], n: usize, numbers: &mut [u32; MOST]) -> usize
-    requires inode { HasInode image.now n }
-    requires index { IsTrue (needs_indirect image.now n) → 1024 * indirect_in image.now n + 1024 ≤ length image.now }
-    ensures blocks { take result numbers.new ≡ named_by image.now n }
-    ensures most { result ≤ 269 }
+// A number of an index block.
+fn index_number(image: &[u8], block: usize, place: usize) -> usize
+    requires block { 1024 * block + 1024 ≤ length image.now }
+    requires place { place < 256 }
+    ensures { result ≡ number_at 4 (1024 * block + 4 * place) image.now }
 {
-    block_numbers(image, n, numbers);
-    let count = block_count(image, n);
-    if count <= 12 {
-        return count;
+    number32(image, 1024 * block + 4 * place) as usize
+}
+
+// The number in a slot of an inode: it stands in the record, or in the index block of the slot that holds it.
+pub fn number(image: &[u8], n: usize, slot: usize) -> usize
+    requires inode { HasPlace image.now n }
+    requires found { IsFound image.now n slot }
+    ensures { result ≡ number_in image.now n slot }
+{
+    let format = format_of(image);
+    if is_in_record(format, slot) {
+        return own_number(image, n, address_of(format, slot));
     }
-    numbers[count] = indirect(image, n);
-    count + 1
+    let block = number(image, n, holder_of(format, slot));
+    index_number(image, block, place_of(format, slot))
 }
 
 // Whether the block is a data block.
 fn is_data(geometry: Geometry, block: usize) -> bool
     requires inodes { geometry.inodes ≤ 8192 }
-    requires size { geometry.size ≤ 16384 }
+    requires size { geometry.size ≤ 131072 }
     ensures { result ≡ is_data_in geometry block }
 {
     geometry.data_start() <= block && block < geometry.size
 }
 
-// Whether all these blocks are data blocks.
-fn are_data(geometry: Geometry, numbers: &[u32]) -> bool
+// Whether a number is that of a data block where one is asked for, and else 0.
+fn fits(geometry: Geometry, asked: bool, number: usize) -> bool
     requires inodes { geometry.inodes ≤ 8192 }
-    requires size { geometry.size ≤ 16384 }
-    ensures { result ≡ list_all (is_data_in geometry) numbers.now }
+    requires size { geometry.size ≤ 131072 }
+    ensures { result ≡ (if asked then is_data_in geometry number else number == 0) }
 {
-    numbers
-        .iter()
-        .all(|number| is_data(geometry, *number as usize))
-}
-
-// Whether all these numbers are 0.
-fn are_zero(numbers: &[u32]) -> bool
-    ensures { result ≡ list_all (λ b. b == 0) numbers.now }
-{
-    numbers.iter().all(|number| *number == 0)
-}
-
-// Whether the indirect number of an inode is a data block where its size needs one, and else 0.
-fn has_indirect(image: &[u8], geometry: Geometry, n: usize) -> bool
-    requires geometry { HasGeometry image.now geometry }
-    requires inode { HasInode image.now n }
-    ensures { result ≡ fits_indirect image.now n }
-{
-    let number = indirect(image, n) as usize;
-    if block_count(image, n) <= 12 {
-        number == 0
-    } else {
+    if asked {
         is_data(geometry, number)
+    } else {
+        number == 0
     }
 }
 
-// Whether the numbers of an inode that its size asks for are data blocks, and all others 0.
+// Whether the numbers of an inode that its size asks for are data blocks, and all others 0. An index block is read once its own
+// number was found to be a data block.
 fn fits_addresses(image: &[u8], geometry: Geometry, n: usize) -> bool
     requires geometry { HasGeometry image.now geometry }
     requires inode { HasInode image.now n }
     ensures good { OnTrue result (FitsAddresses image.now n) }
     ensures bad { OnFalse result (FitsAddresses image.now n → ⊥) }
 {
-    if !has_indirect(image, geometry, n) {
-        return false;
-    }
-    let mut numbers = [0; MOST];
-    let end = block_numbers(image, n, &mut numbers);
+    let format = format_of(image);
     let count = block_count(image, n);
-    are_data(geometry, &numbers[..count]) && are_zero(&numbers[count..end])
+    let taken = count + index_blocks(format, count);
+    for k in 0..there(format, count) {
+        let block = number(image, n, slot_at(format, count, k));
+        if !fits(geometry, k < taken, block) {
+            return false;
+        }
+    }
+    true
 }
 
 // The same for an inode that is in use, and nothing for another.

@@ -1,27 +1,30 @@
 //! The bytes of an inode.
 
-ghost use Rattle.std.specs.Prelude.{◌≡◌, ◌≢◌, ◌+◌, ◌*◌, ◌<◌, ◌≤◌, ◌++◌, length, flat_map, All, OnOk};
-ghost use Rattle.unixmodel.specs.Image.{block_at, contents_in, kind_in};
-ghost use Rattle.imagerules.specs.Fields.{HasGeometry};
+ghost use Rattle.std.specs.Prelude.{◌≡◌, ◌≢◌, ◌+◌, ◌*◌, ◌<◌, ◌≤◌, ◌++◌, length, flat_map, OnOk};
+ghost use Rattle.unixmodel.specs.Image.{block_at, contents_in, data_blocks, kind_in};
+ghost use Rattle.imagerules.specs.Fields.{HasGeometry, HasInode, SuperRules};
+ghost use Rattle.imagerules.specs.Pieces.{FitsAddresses};
 ghost use Rattle.imagerules.specs.Rules.{BlockRules};
 ghost use Rattle.imagecheck.specs.Reach.{IsDirectoryIn, first_block};
 
-use crate::blocks::{MOST, block_count, block_numbers};
+use crate::blocks::{block_count, number};
 use crate::fields::{inode_place, number32, size};
 use layout::Geometry;
 use std::alloc::{AllocError, Allocator};
 
-// Appends the bytes of these blocks.
+// Appends the bytes of the data blocks of an inode.
 fn copy_blocks<A: Allocator>(
     image: &[u8],
-    numbers: &[u32],
+    n: usize,
     bytes: &mut Vec<u8, A>,
 ) -> Result<(), AllocError>
-    requires { All (λ b. 1024 * b + 1024 ≤ length image.now) numbers.now }
-    ensures { OnOk result (bytes.new.items ≡ bytes.old.items ++ flat_map (block_at image.now) numbers.now) }
+    requires inode { HasInode image.now n }
+    requires addresses { FitsAddresses image.now n }
+    requires rules { SuperRules image.now }
+    ensures { OnOk result (bytes.new.items ≡ bytes.old.items ++ flat_map (block_at image.now) (data_blocks image.now n)) }
 {
-    for number in numbers {
-        let at = 1024 * *number as usize;
+    for k in 0..block_count(image, n) {
+        let at = 1024 * number(image, n, k);
         bytes.extend_from_slice(&image[at..at + 1024])?;
     }
     Ok(())
@@ -52,11 +55,8 @@ pub fn read_contents<A: Allocator>(
     requires used { kind_in image.now n ≢ 0 }
     ensures { OnOk result (bytes.new.items ≡ contents_in image.now n) }
 {
-    let mut numbers = [0; MOST];
-    block_numbers(image, n, &mut numbers);
-    let count = block_count(image, n);
     bytes.clear();
-    copy_blocks(image, &numbers[..count], bytes)?;
+    copy_blocks(image, n, bytes)?;
     bytes.truncate(size(image, n) as usize);
     Ok(())
 }

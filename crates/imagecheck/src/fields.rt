@@ -2,7 +2,7 @@
 
 ghost use Rattle.std.specs.Prelude.{◌≡◌, ◌+◌, ◌*◌, ◌/◌, ◌%◌, ◌<◌, ◌≤◌, length};
 ghost use Rattle.unixmodel.specs.Numbers.{number_at};
-ghost use Rattle.unixmodel.specs.Image.{inode_at, kind_in, links_in, length_in, indirect_in};
+ghost use Rattle.unixmodel.specs.Image.{inode_at, kind_in, links_in, length_in};
 ghost use Rattle.imagerules.specs.Fields.{HasPlace};
 
 use byteorder::{ByteOrder, LittleEndian};
@@ -53,12 +53,4 @@ pub fn size(image: &[u8], n: usize) -> u32
     ensures { result ≡ length_in image.now n }
 {
     number32(image, inode_place(n) + 8)
-}
-
-// The number of the block that holds the numbers past the twelfth.
-pub fn indirect(image: &[u8], n: usize) -> u32
-    requires { HasPlace image.now n }
-    ensures { result ≡ indirect_in image.now n }
-{
-    number32(image, inode_place(n) + 60)
 }

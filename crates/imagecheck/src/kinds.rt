@@ -5,7 +5,9 @@ ghost use Rattle.std.specs.Bool.{OnTrue, OnFalse};
 ghost use Rattle.imagerules.specs.Fields.{HasGeometry};
 ghost use Rattle.imagerules.specs.Pieces.{HasKinds, HasSizes, FitsKind};
 
+use crate::blocks::format_of;
 use crate::fields::{kind, size};
+use crate::slots::single;
 use layout::Geometry;
 
 // Whether each type is known, and the root is a directory.
@@ -22,16 +24,16 @@ pub fn has_kinds(image: &[u8], geometry: Geometry) -> bool
     kind(image, 1) == 1
 }
 
-// Whether an inode of this type may have this size in bytes.
-fn fits_kind(kind: u16, size: u32) -> bool
+// Whether an inode of this type may have this size in bytes, if a file has so many at most.
+fn fits_kind(longest: usize, kind: u16, size: usize) -> bool
     requires { kind ≤ 3 }
-    ensures good { OnTrue result (FitsKind kind size) }
-    ensures bad { OnFalse result (FitsKind kind size → ⊥) }
+    ensures good { OnTrue result (FitsKind longest kind size) }
+    ensures bad { OnFalse result (FitsKind longest kind size → ⊥) }
 {
     match kind {
         0 => true,
-        1 => size >= 32 && size <= 274_432 && size % 16 == 0,
-        2 => size <= 274_432,
+        1 => size >= 32 && size <= longest && size % 16 == 0,
+        2 => size <= longest,
         _ => size == 0,
     }
 }
@@ -43,8 +45,9 @@ pub fn has_sizes(image: &[u8], geometry: Geometry) -> bool
     ensures good { OnTrue result (HasSizes image.now) }
     ensures bad { OnFalse result (HasSizes image.now → ⊥) }
 {
+    let longest = 1024 * single(format_of(image));
     for n in 1..geometry.inodes {
-        if !fits_kind(kind(image, n), size(image, n)) {
+        if !fits_kind(longest, kind(image, n), size(image, n) as usize) {
             return false;
         }
     }

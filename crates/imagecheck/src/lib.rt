@@ -16,11 +16,12 @@ mod names;
 mod namings;
 mod reach;
 mod rules;
+mod slots;
 mod summary;
 mod tables;
 
 use blockdev::DeviceFault;
-pub use rules::{Summary, check};
+pub use rules::{Summary, check, check1};
 use std::alloc::AllocError;
 use std::fmt;
 use thiserror::Error;

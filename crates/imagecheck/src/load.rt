@@ -3,26 +3,26 @@
 ghost use Rattle.std.specs.Prelude.{◌≡◌, ◌≤◌, ℕ, List, length, IfOk, IfErr, IsErrOf};
 ghost use Rattle.unixmodel.specs.Failures.{Rises};
 ghost use Rattle.imagerules.specs.Content.{IsFront, image_of};
-ghost use Rattle.imagecheck.specs.Faults.{IsOfImage, Tells};
-ghost use Rattle.imagerules.specs.Fields.{HasGeometry};
+ghost use Rattle.imagecheck.specs.Faults.{Begins, IsOfImage, IsOutside, Tells};
+ghost use Rattle.layout.specs.Formats.{format_named};
 
 use crate::ImageFault;
 use blockdev::{BLOCK_SIZE, Block, BlockDev};
-use layout::{Geometry, LayoutFault, SuperBlock};
+use layout::{Format, Geometry, LayoutFault, SuperBlock};
 use std::alloc::Allocator;
 
-// The geometry that the super block tells of a device of so many blocks, if its numbers and the length are right.
-fn geometry_in(block: &Block, count: usize) -> Result<Geometry, ImageFault>
+// The geometry that the super block tells of a device of so many blocks, if its numbers and the length are right in the format.
+fn geometry_in(format: Format, block: &Block, count: usize) -> Result<Geometry, ImageFault>
     requires { 2 ≤ count }
-    ensures geometry { IfOk result (λ g. (blocks : List (List ℕ)) → IsFront blocks count block.now → HasGeometry (image_of blocks) g) }
-    ensures fault { IfErr result (λ fault. (blocks : List (List ℕ)) → IsFront blocks count block.now → Tells (image_of blocks) fault) }
+    ensures geometry { IfOk result (λ g. (blocks : List (List ℕ)) → IsFront blocks count block.now → Begins (format_named format) (image_of blocks) g) }
+    ensures fault { IfErr result (λ fault. (blocks : List (List ℕ)) → IsFront blocks count block.now → Tells (format_named format) (image_of blocks) fault) }
     ensures own { IfErr result IsOfImage }
 {
     let numbers = SuperBlock::from_front(block);
     if numbers.size as usize != count {
         return Err(ImageFault::Length);
     }
-    match numbers.test() {
+    match numbers.test(format) {
         Ok(()) => Ok(Geometry {
             size: count,
             inodes: numbers.inodes as usize,
@@ -33,10 +33,10 @@ fn geometry_in(block: &Block, count: usize) -> Result<Geometry, ImageFault>
     }
 }
 
-// Reads the super block, and tests the length and its numbers.
-pub fn read_geometry<D: BlockDev>(device: &mut D) -> Result<Geometry, ImageFault>
-    ensures geometry { IfOk result (λ g. HasGeometry (image_of (D.content device.old)) g) }
-    ensures fault { IfErr result (λ fault. Tells (image_of (D.content device.old)) fault) }
+// Reads the super block, and tests the length and its numbers in the format.
+pub fn read_geometry<D: BlockDev>(format: Format, device: &mut D) -> Result<Geometry, ImageFault>
+    ensures geometry { IfOk result (λ g. Begins (format_named format) (image_of (D.content device.old)) g) }
+    ensures fault { IfErr result (λ fault. Tells (format_named format) (image_of (D.content device.old)) fault) }
     ensures memory { IsErrOf result ImageFault.NoMemory → ⊥ }
     ensures same { D.content device.new ≡ D.content device.old }
     ensures later { D.failures device.old ≤ D.failures device.new }
@@ -47,7 +47,7 @@ pub fn read_geometry<D: BlockDev>(device: &mut D) -> Result<Geometry, ImageFault
         return Err(ImageFault::Length);
     }
     let block = device.read(1)?;
-    geometry_in(&block, count)
+    geometry_in(format, &block, count)
 }
 
 // Reads all blocks.
@@ -57,9 +57,9 @@ pub fn read_blocks<A: Allocator, D: BlockDev>(
     count: usize,
 ) -> Result<Vec<u8, A>, ImageFault>
     requires count { count ≡ length (D.content device.old) }
-    requires most { count ≤ 16384 }
+    requires most { count ≤ 131072 }
     ensures bytes { IfOk result (λ image. image.items ≡ image_of (D.content device.old)) }
-    ensures only { IfErr result (λ fault. Tells (image_of (D.content device.old)) fault) }
+    ensures only { IfErr result IsOutside }
     ensures same { D.content device.new ≡ D.content device.old }
     ensures later { D.failures device.old ≤ D.failures device.new }
     ensures failed { IsErrOf result ImageFault.Device → Rises (D.failures device.old) (D.failures device.new) }

@@ -1,15 +1,16 @@
 //! Marks of the blocks that inodes name: none is named twice, and the bitmap agrees with them.
 
-ghost use Rattle.std.specs.Prelude.{◌≡◌, ℕ, ◌+◌, ◌*◌, ◌/◌, ◌%◌, ◌<◌, ◌≤◌, ◌++◌, [], List, not, length, slice_index, slice_index_or, slice_set, false, true, All};
+ghost use Rattle.std.specs.Prelude.{◌≡◌, ℕ, ◌+◌, ◌*◌, ◌/◌, ◌%◌, ◌<◌, ◌≤◌, ◌++◌, [], List, not, length, slice_index, slice_index_or, slice_set, false, true};
 ghost use Rattle.std.specs.Bool.{OnTrue, OnFalse};
 ghost use Rattle.unixmodel.specs.Numbers.{has_bit};
-ghost use Rattle.unixmodel.specs.Image.{named_blocks, bitmap_start};
-ghost use Rattle.imagerules.specs.Fields.{HasGeometry};
+ghost use Rattle.unixmodel.specs.Image.{bitmap_start, named_blocks, named_by, size_in};
+ghost use Rattle.imagerules.specs.Fields.{HasGeometry, HasInode, SuperRules};
 ghost use Rattle.imagerules.specs.Marks.{HasMarks, IsOnce, blocks_of};
-ghost use Rattle.imagerules.specs.Pieces.{HasSizes, HasAddresses, NamesOnce, HasBitmap};
+ghost use Rattle.imagerules.specs.Pieces.{FitsAddresses, HasSizes, HasAddresses, NamesOnce, HasBitmap};
 
-use crate::blocks::{MOST, named};
+use crate::blocks::{block_count, format_of, number};
 use crate::fields::kind;
+use crate::slots::{index_blocks, slot_at};
 use layout::Geometry;
 
 // Marks a block, and tells whether it had no mark.
@@ -23,21 +24,26 @@ fn mark(marks: &mut [bool], block: usize) -> bool
     free
 }
 
-// Marks blocks one after the other, up to the first that has a mark, and tells whether there was none.
-fn mark_all(marks: &mut [bool], numbers: &[u32]) -> bool
-    requires { All (λ b. b < length marks.old) numbers.now }
-    ensures good { (before : List ℕ) → HasMarks before marks.old → OnTrue result (HasMarks (before ++ numbers.now) marks.new) }
-    ensures bad { (before : List ℕ) → HasMarks before marks.old → OnFalse result (IsOnce (before ++ numbers.now) → ⊥) }
+// Marks the blocks that an inode names, up to the first that has a mark, and tells whether there was none.
+fn mark_all(image: &[u8], n: usize, marks: &mut [bool]) -> bool
+    requires inode { HasInode image.now n }
+    requires addresses { FitsAddresses image.now n }
+    requires rules { SuperRules image.now }
+    requires long { length marks.old ≡ size_in image.now }
+    ensures good { (before : List ℕ) → HasMarks before marks.old → OnTrue result (HasMarks (before ++ named_by image.now n) marks.new) }
+    ensures bad { (before : List ℕ) → HasMarks before marks.old → OnFalse result (IsOnce (before ++ named_by image.now n) → ⊥) }
 {
-    for number in numbers {
-        if !mark(marks, *number as usize) {
+    let format = format_of(image);
+    let count = block_count(image, n);
+    for k in 0..count + index_blocks(format, count) {
+        if !mark(marks, number(image, n, slot_at(format, count, k))) {
             return false;
         }
     }
     true
 }
 
-// Marks the blocks that an inode names, and tells whether none had a mark. An inode that is free names none.
+// The same for an inode that is in use. One that is free names none.
 fn mark_inode(image: &[u8], geometry: Geometry, n: usize, marks: &mut [bool]) -> bool
     requires geometry { HasGeometry image.now geometry }
     requires sizes { HasSizes image.now }
@@ -51,9 +57,7 @@ fn mark_inode(image: &[u8], geometry: Geometry, n: usize, marks: &mut [bool]) ->
     if kind(image, n) == 0 {
         return true;
     }
-    let mut numbers = [0; MOST];
-    let count = named(image, n, &mut numbers);
-    mark_all(marks, &numbers[..count])
+    mark_all(image, n, marks)
 }
 
 // Marks each block that an inode names, and tells whether none is named twice.
@@ -76,7 +80,7 @@ pub fn names_once(image: &[u8], geometry: Geometry, marks: &mut [bool]) -> bool
 
 // A bit of the bitmap that begins at a block.
 fn bit(image: &[u8], start: usize, block: usize) -> bool
-    requires block { block ≤ 16384 }
+    requires block { block ≤ 131072 }
     requires start { start ≤ 16384 }
     requires inside { 1024 * start + block / 8 < length image.now }
     ensures { result ≡ has_bit (slice_index image.now (1024 * start + block / 8)) (block % 8) }

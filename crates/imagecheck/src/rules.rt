@@ -3,7 +3,9 @@
 ghost use Rattle.std.specs.Prelude.{◌≡◌, ◌≤◌, [], length, IfOk, IfErr, IsErrOf, OnOk};
 ghost use Rattle.unixmodel.specs.Failures.{Rises};
 ghost use Rattle.unixmodel.specs.Files.{Files};
-ghost use Rattle.unixmodel.specs.Image.{Denotes, named_blocks, numbers_in_use};
+ghost use Rattle.unixmodel.specs.Formats.{format, small};
+ghost use Rattle.unixmodel.specs.Image.{Denotes, DenotesIn, DenotesSmall, named_blocks, numbers_in_use};
+ghost use Rattle.layout.specs.Formats.{format_named};
 ghost use Rattle.imagerules.specs.Content.{image_of};
 ghost use Rattle.imagecheck.specs.Faults.{Finds, IsOfImage, Tells};
 ghost use Rattle.imagerules.specs.Rules.{BlockRules, HasInodes};
@@ -21,7 +23,7 @@ use crate::load::{read_blocks, read_geometry};
 use crate::marks::{has_bitmap, names_once};
 use crate::summary::{blocks_in_use, inodes_in_use};
 use blockdev::BlockDev;
-use layout::Geometry;
+use layout::{CURRENT, Format, Geometry};
 use std::alloc::Allocator;
 
 /// What an image uses.
@@ -102,6 +104,26 @@ fn summary_of<A: Allocator>(
     })
 }
 
+// Reads an image and tests that it denotes files in a format.
+fn check_in<A: Allocator, D: BlockDev>(
+    alloc: A,
+    device: &mut D,
+    format: Format,
+) -> Result<Summary, ImageFault>
+    ensures denotes { OnOk result (DenotesIn (format_named format) (image_of (D.content device.old)) (files_in (image_of (D.content device.old)))) }
+    ensures inodes { IfOk result (λ summary. summary.inodes ≡ length (numbers_in_use (image_of (D.content device.old)))) }
+    ensures blocks { IfOk result (λ summary. summary.blocks ≡ length (named_blocks (image_of (D.content device.old)))) }
+    ensures fault { IfErr result (λ fault. Tells (format_named format) (image_of (D.content device.old)) fault) }
+    ensures refused { IfErr result (λ fault. IsOfImage fault → (files : Files) → DenotesIn (format_named format) (image_of (D.content device.old)) files → ⊥) }
+    ensures same { D.content device.new ≡ D.content device.old }
+    ensures later { D.failures device.old ≤ D.failures device.new }
+    ensures failed { IsErrOf result ImageFault.Device → Rises (D.failures device.old) (D.failures device.new) }
+{
+    let geometry = read_geometry(format, device)?;
+    let image = read_blocks(&alloc, device, geometry.size)?;
+    summary_of(&alloc, &image, geometry)
+}
+
 /// Reads an image and tests that it denotes files: its length, its super block, its inodes, the blocks that they name,
 /// the places of its directories, the counts of links, and that a path reaches each inode in use.
 ///
@@ -111,13 +133,25 @@ pub fn check<A: Allocator, D: BlockDev>(alloc: A, device: &mut D) -> Result<Summ
     ensures denotes { OnOk result (Denotes (image_of (D.content device.old)) (files_in (image_of (D.content device.old)))) }
     ensures inodes { IfOk result (λ summary. summary.inodes ≡ length (numbers_in_use (image_of (D.content device.old)))) }
     ensures blocks { IfOk result (λ summary. summary.blocks ≡ length (named_blocks (image_of (D.content device.old)))) }
-    ensures fault { IfErr result (λ fault. Tells (image_of (D.content device.old)) fault) }
+    ensures fault { IfErr result (λ fault. Tells format (image_of (D.content device.old)) fault) }
     ensures refused { IfErr result (λ fault. IsOfImage fault → (files : Files) → Denotes (image_of (D.content device.old)) files → ⊥) }
     ensures same { D.content device.new ≡ D.content device.old }
     ensures later { D.failures device.old ≤ D.failures device.new }
     ensures failed { IsErrOf result ImageFault.Device → Rises (D.failures device.old) (D.failures device.new) }
 {
-    let geometry = read_geometry(device)?;
-    let image = read_blocks(&alloc, device, geometry.size)?;
-    summary_of(&alloc, &image, geometry)
+    check_in(alloc, device, CURRENT)
+}
+
+/// The same in the format of small files.
+pub fn check1<A: Allocator, D: BlockDev>(alloc: A, device: &mut D) -> Result<Summary, ImageFault>
+    ensures denotes { OnOk result (DenotesSmall (image_of (D.content device.old)) (files_in (image_of (D.content device.old)))) }
+    ensures inodes { IfOk result (λ summary. summary.inodes ≡ length (numbers_in_use (image_of (D.content device.old)))) }
+    ensures blocks { IfOk result (λ summary. summary.blocks ≡ length (named_blocks (image_of (D.content device.old)))) }
+    ensures fault { IfErr result (λ fault. Tells small (image_of (D.content device.old)) fault) }
+    ensures refused { IfErr result (λ fault. IsOfImage fault → (files : Files) → DenotesSmall (image_of (D.content device.old)) files → ⊥) }
+    ensures same { D.content device.new ≡ D.content device.old }
+    ensures later { D.failures device.old ≤ D.failures device.new }
+    ensures failed { IsErrOf result ImageFault.Device → Rises (D.failures device.old) (D.failures device.new) }
+{
+    check_in(alloc, device, Format::Small)
 }

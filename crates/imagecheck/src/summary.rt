@@ -6,8 +6,9 @@ ghost use Rattle.imagerules.specs.Fields.{HasGeometry};
 ghost use Rattle.imagerules.specs.Marks.{blocks_of};
 ghost use Rattle.imagerules.specs.Pieces.{HasSizes};
 
-use crate::blocks::block_count;
+use crate::blocks::{block_count, format_of};
 use crate::fields::kind;
+use crate::slots::index_blocks;
 use layout::Geometry;
 
 // How many blocks an inode names. One that is free names none.
@@ -17,13 +18,13 @@ fn block_total(image: &[u8], geometry: Geometry, n: usize) -> usize
     requires low { 1 ≤ n }
     requires high { n < geometry.inodes }
     ensures total { result ≡ length (blocks_of image.now n) }
-    ensures most { result ≤ 269 }
+    ensures most { result ≤ 66061 }
 {
     if kind(image, n) == 0 {
         return 0;
     }
     let count = block_count(image, n);
-    if count <= 12 { count } else { count + 1 }
+    count + index_blocks(format_of(image), count)
 }
 
 // How many blocks all inodes name.

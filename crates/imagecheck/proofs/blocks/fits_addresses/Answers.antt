@@ -1,33 +1,39 @@
-use Rattle.std.proofs.Common.{sym, ◌∙◌, arith}
-use Rattle.std.proofs.lemmas.Bool.{OnFalse_from, OnTrue_from, false≢true}
-use Rattle.imagerules.specs.Pieces.{FitsAddresses}
-use Rattle.imagerules.proofs.Uses.{FitsAddresses-front, FitsAddresses-read, FitsAddresses-rest, fits_indirect-at, indirect-inside}
-use Rattle.imagerules.proofs.Bounds.{inodes-most, size-most}
+use Rattle.std.proofs.Common.{below_more, sym, ◌∙◌}
+use Rattle.std.proofs.lemmas.Bool.{false≢true}
+use Rattle.imagecheck.specs.Slots.{FitsSlot}
+use Rattle.imagerules.proofs.Bounds.{inodes-most, size-most, super-is}
+use Rattle.imagecheck.proofs.Numbering.{FitsSlot-from, FitsSlot-test, IsCounted, IsFound-told, number_told, small_told, taken_told, there_told, within_told}
+use Rattle.imagecheck.proofs.Slotting.{FitsAddresses-from, FitsSlot-at, IsFound-next}
 use Rattle.imagecheck.proofs.blocks.fits_addresses.Goals as goal
 
-pub block_numbers-end-requires-clause-index : goal.block_numbers-end-requires-clause-index
-block_numbers-end-requires-clause-index c = indirect-inside c.requires.geometry c.args.n (sym c.has_indirect.ensures ∙ c.if-not-has_indirect.false)
+pub number-block-requires-clause-found : goal.number-block-requires-clause-found
+number-block-requires-clause-found c =
+    let i : IsCounted c.args.image.now c.args.n c.format_of-format.result c.block_count-count.result =
+    record { named = c.format_of-format.ensures; count = c.block_count-count.ensures.count; most = c.block_count-count.ensures.most } in
+    IsFound-told i c.loop-k.k c.slot_at.ensures
+    (IsFound-next c.args.image.now c.args.n (small_told i) (super-is c.requires.geometry) c.loop-k.k (there_told i c.there-k-end.ensures c.loop-k-test.true) c.loop-k.invariant)
 
-pub are_data-requires : goal.are_data-requires
-are_data-requires c = record { inodes = inodes-most c.requires.geometry; size = size-most c.requires.geometry }
+pub fits-requires : goal.fits-requires
+fits-requires c = record { inodes = inodes-most c.requires.geometry; size = size-most c.requires.geometry }
 
-pub returns-then-not-has_indirect-clause-bad : goal.returns-then-not-has_indirect-clause-bad
-returns-then-not-has_indirect-clause-bad c = λ h. false≢true (sym c.if-not-has_indirect.true ∙ c.has_indirect.ensures ∙ fits_indirect-at c.args.image.now c.args.n h)
+pub returns-then-not-fits-clause-bad : goal.returns-then-not-fits-clause-bad
+returns-then-not-fits-clause-bad c = λ h.
+    let i : IsCounted c.args.image.now c.args.n c.format_of-format.result c.block_count-count.result =
+    record { named = c.format_of-format.ensures; count = c.block_count-count.ensures.count; most = c.block_count-count.ensures.most } in
+    false≢true (sym c.if-not-fits.true ∙ c.fits.ensures
+    ∙ FitsSlot-test c.requires.geometry c.args.n c.loop-k.k _ c.number-block.result (taken_told i c.index_blocks.ensures.told) (number_told i c.loop-k.k c.slot_at.ensures c.number-block.ensures)
+    (FitsSlot-at c.args.image.now c.args.n (small_told i) h c.loop-k.k (there_told i c.there-k-end.ensures c.loop-k-test.true)))
 
-pub returns-then-are_data-clause-good : goal.returns-then-are_data-clause-good
-returns-then-are_data-clause-good c = OnTrue_from c.are_zero.result (FitsAddresses c.args.image.now c.args.n) (λ t.
-    FitsAddresses-read c.args.image.now c.args.n c.block_count-count.result c.block_numbers-end.result c.block_numbers-end.new.numbers c.block_numbers-end.ensures.numbers c.block_count-count.ensures.count
-    (omega (arith, c.block_numbers-end.ensures.count, c.block_count-count.ensures.count)) c.requires.geometry
-    (sym c.has_indirect.ensures ∙ c.if-not-has_indirect.false) (sym c.are_data.ensures ∙ c.if-are_data.true) (sym c.are_zero.ensures ∙ t))
+pub loop-k-preserved : goal.loop-k-preserved
+loop-k-preserved c =
+    let i : IsCounted c.args.image.now c.args.n c.format_of-format.result c.block_count-count.result =
+    record { named = c.format_of-format.ensures; count = c.block_count-count.ensures.count; most = c.block_count-count.ensures.most } in
+    below_more (FitsSlot c.args.image.now c.args.n) c.loop-k.k c.loop-k.invariant
+    (FitsSlot-from c.requires.geometry c.args.n c.loop-k.k _ c.number-block.result (taken_told i c.index_blocks.ensures.told) (number_told i c.loop-k.k c.slot_at.ensures c.number-block.ensures)
+    (sym c.fits.ensures ∙ c.if-not-fits.false))
 
-pub returns-then-are_data-clause-bad : goal.returns-then-are_data-clause-bad
-returns-then-are_data-clause-bad c = OnFalse_from c.are_zero.result (FitsAddresses c.args.image.now c.args.n → ⊥) (λ f h.
-    false≢true (sym f ∙ c.are_zero.ensures
-    ∙ FitsAddresses-rest c.args.image.now c.args.n c.block_count-count.result c.block_numbers-end.result c.block_numbers-end.new.numbers c.block_numbers-end.ensures.numbers c.block_count-count.ensures.count
-    (omega (arith, c.block_numbers-end.ensures.count, c.block_count-count.ensures.count)) c.requires.geometry h))
-
-pub returns-else-are_data-clause-bad : goal.returns-else-are_data-clause-bad
-returns-else-are_data-clause-bad c = OnFalse_from c.are_data.result (FitsAddresses c.args.image.now c.args.n → ⊥) (λ f h.
-    false≢true (sym f ∙ c.are_data.ensures
-    ∙ FitsAddresses-front c.args.image.now c.args.n c.block_count-count.result c.block_numbers-end.result c.block_numbers-end.new.numbers c.block_numbers-end.ensures.numbers c.block_count-count.ensures.count
-    (omega (arith, c.block_numbers-end.ensures.count, c.block_count-count.ensures.count)) c.requires.geometry h))
+pub returns-clause-good : goal.returns-clause-good
+returns-clause-good c =
+    let i : IsCounted c.args.image.now c.args.n c.format_of-format.result c.block_count-count.result =
+    record { named = c.format_of-format.ensures; count = c.block_count-count.ensures.count; most = c.block_count-count.ensures.most } in
+    FitsAddresses-from c.args.image.now c.args.n (small_told i) (λ k l. c.loop-k.invariant k (within_told i c.there-k-end.ensures c.loop-k-test.false l))

@@ -1,7 +1,8 @@
 use Rattle.std.proofs.Common.{ℕ, ◌<◌, ◌≤◌}
-use Rattle.unixmodel.specs.Image.{kind_in, length_in}
+use Rattle.unixmodel.specs.Image.{format_of, kind_in, length_in}
+use Rattle.unixmodel.specs.Formats.{most_bytes}
 use Rattle.imagerules.specs.Pieces.{FitsKind}
 use Rattle.imagecheck.proofs.kinds.has_sizes.Given as goal
 
 abbrev pub invariant-loop-n : goal.invariant-loop-n
-invariant-loop-n l = (m : ℕ) → 1 ≤ m → m < l.n → FitsKind (kind_in l.image m) (length_in l.image m)
+invariant-loop-n l = (m : ℕ) → 1 ≤ m → m < l.n → FitsKind (most_bytes (format_of l.image)) (kind_in l.image m) (length_in l.image m)

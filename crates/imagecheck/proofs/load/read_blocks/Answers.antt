@@ -8,13 +8,13 @@ use Rattle.imagecheck.proofs.load.read_blocks.Goals as goal
 
 pub returns-in_err-image : goal.returns-in_err-image
 returns-in_err-image g c =
-    let out = no-image (image_of (g.D.BlockDev.content c.args.device.now)) _ c.from_residual.result c.from_residual.ensures.1 tt in
+    let out = no-image _ c.from_residual.result c.from_residual.ensures.1 tt in
     record { bytes = out.told; only = out.only; same = refl; later = omega arith; failed = λ e. absurd (out.no Device (λ e. cc) e) }
 
 pub returns-in_err-block : goal.returns-in_err-block
 returns-in_err-block g c =
     let inv = c.loop-n.invariant in
-    let out = no-image (image_of (g.D.BlockDev.content c.args.device.now)) _ c.from_residual-in_err-block.result c.from_residual-in_err-block.ensures.1 tt in
+    let out = no-image _ c.from_residual-in_err-block.result c.from_residual-in_err-block.ensures.1 tt in
     record {
       bytes = out.told;
       only = out.only;
@@ -26,7 +26,7 @@ returns-in_err-block g c =
 pub returns-in_err-extend_from_slice : goal.returns-in_err-extend_from_slice
 returns-in_err-extend_from_slice g c =
     let inv = c.loop-n.invariant in
-    let out = no-image (image_of (g.D.BlockDev.content c.args.device.now)) _ c.from_residual-in_err-extend_from_slice.result c.from_residual-in_err-extend_from_slice.ensures.1 tt in
+    let out = no-image _ c.from_residual-in_err-extend_from_slice.result c.from_residual-in_err-extend_from_slice.ensures.1 tt in
     record {
       bytes = out.told;
       only = out.only;

@@ -1,22 +1,56 @@
-use Rattle.std.proofs.Common.{◌+◌, ◌++◌, take, drop, get_or, subst, arith, take_all}
+use Rattle.std.proofs.Common.{[], ◌+◌, ◌∷◌, ◌++◌, take, drop, subst, sym, ap, ◌∙◌, arith, take_all}
+use Rattle.unixmodel.specs.Image.{named_by}
+use Rattle.imagerules.specs.Fields.{HasSuper-of}
 use Rattle.imagerules.specs.Marks.{HasMarks, IsOnce}
 use Rattle.imagerules.proofs.Marking.{list_more, list_split, mark_more, mark_shared}
+use Rattle.imagecheck.proofs.Numbering.{IsCounted, IsFound-told, IsNamed, below_taken, below_there, named_told, small_named, small_told, taken_told}
+use Rattle.imagecheck.proofs.Slotting.{found-at, named-long}
 use Rattle.imagecheck.proofs.marks.mark_all.Goals as goal
+use Rattle.imagecheck.proofs.marks.mark_all.Goals.{After-number}
+
+-- the number that the walk has read
+named : (c : After-number) → IsNamed c.args.image.now c.args.n c.loop-k.k c.number.result
+named c =
+    let i : IsCounted c.args.image.now c.args.n c.format_of-format.result c.block_count-count.result =
+    record { named = c.format_of-format.ensures; count = c.block_count-count.ensures.count; most = c.block_count-count.ensures.most } in
+    named_told i (HasSuper-of c.args.image.now c.requires.rules) c.requires.addresses c.index_blocks.ensures.told c.loop-k-test.true c.slot_at.ensures c.number.ensures
+
+pub slot_at-requires : goal.slot_at-requires
+slot_at-requires c =
+    let i : IsCounted c.args.image.now c.args.n c.format_of-format.result c.block_count-count.result =
+    record { named = c.format_of-format.ensures; count = c.block_count-count.ensures.count; most = c.block_count-count.ensures.most } in
+    record { count = small_named i; within = below_there i c.index_blocks.ensures.told c.loop-k-test.true }
+
+pub number-requires-clause-found : goal.number-requires-clause-found
+number-requires-clause-found c =
+    let i : IsCounted c.args.image.now c.args.n c.format_of-format.result c.block_count-count.result =
+    record { named = c.format_of-format.ensures; count = c.block_count-count.ensures.count; most = c.block_count-count.ensures.most } in
+    IsFound-told i c.loop-k.k c.slot_at.ensures
+    (found-at c.args.image.now c.args.n (small_told i) (HasSuper-of c.args.image.now c.requires.rules) c.requires.addresses c.loop-k.k (below_taken i c.index_blocks.ensures.told c.loop-k-test.true))
+
+pub mark-requires : goal.mark-requires
+mark-requires c = omega (arith, (named c).inside, c.requires.long, c.loop-k.auto.marks)
 
 pub returns-then-not-mark-clause-bad : goal.returns-then-not-mark-clause-bad
 returns-then-not-mark-clause-bad c = λ before h once.
-    let i = c.loop-number.number-index in
-    let b = get_or c.args.numbers.now i 0 in
-    mark_shared (before ++ take i c.args.numbers.now) b c.loop-number.marks c.mark.new.marks c.mark.result (omega (arith, c.requires i 0 c.loop-number-test.true)) c.mark.ensures.free (c.loop-number.invariant before h) c.if-not-mark.true
-    (drop (i + 1) c.args.numbers.now) (subst IsOnce (list_split before c.args.numbers.now i c.loop-number-test.true) once)
+    let xs = named_by c.args.image.now c.args.n in
+    let k = c.loop-k.k in
+    let is = named ((goal.at.returns-then-not-mark-clause-bad c).After-number) in
+    mark_shared (before ++ take k xs) c.number.result c.loop-k.marks c.mark.new.marks c.mark.result (omega (arith, is.inside, c.requires.long, c.loop-k.auto.marks)) c.mark.ensures.free (c.loop-k.invariant before h) c.if-not-mark.true
+    (drop (k + 1) xs) (subst (λ b. IsOnce ((before ++ take k xs) ++ (b ∷ drop (k + 1) xs))) (sym is.is) (subst IsOnce (list_split before xs k is.within) once))
 
-pub loop-number-preserved : goal.loop-number-preserved
-loop-number-preserved c = λ before h.
-    let i = c.loop-number.number-index in
-    let b = get_or c.args.numbers.now i 0 in
-    subst (λ xs. HasMarks xs c.mark.new.marks) (list_more before c.args.numbers.now i c.loop-number-test.true)
-    (mark_more (before ++ take i c.args.numbers.now) b c.loop-number.marks c.mark.new.marks c.mark.result (omega (arith, c.requires i 0 c.loop-number-test.true)) c.mark.ensures.free (c.loop-number.invariant before h) c.mark.ensures.marks c.if-not-mark.false)
+pub loop-k-preserved : goal.loop-k-preserved
+loop-k-preserved c = λ before h.
+    let xs = named_by c.args.image.now c.args.n in
+    let k = c.loop-k.k in
+    let is = named ((goal.at.loop-k-preserved c).After-number) in
+    subst (λ ys. HasMarks ys c.mark.new.marks) (ap (λ b. (before ++ take k xs) ++ (b ∷ [])) is.is ∙ list_more before xs k is.within)
+    (mark_more (before ++ take k xs) c.number.result c.loop-k.marks c.mark.new.marks c.mark.result (omega (arith, is.inside, c.requires.long, c.loop-k.auto.marks)) c.mark.ensures.free (c.loop-k.invariant before h) c.mark.ensures.marks c.if-not-mark.false)
 
 pub returns-clause-good : goal.returns-clause-good
 returns-clause-good c = λ before h.
-    subst (λ xs. HasMarks (before ++ xs) c.loop-number.marks) (take_all c.loop-number.number-index c.args.numbers.now c.loop-number-test.false) (c.loop-number.invariant before h)
+    let i : IsCounted c.args.image.now c.args.n c.format_of-format.result c.block_count-count.result =
+    record { named = c.format_of-format.ensures; count = c.block_count-count.ensures.count; most = c.block_count-count.ensures.most } in
+    subst (λ ys. HasMarks (before ++ ys) c.loop-k.marks)
+    (take_all c.loop-k.k (named_by c.args.image.now c.args.n) (omega (arith, named-long c.args.image.now c.args.n (small_told i), taken_told i c.index_blocks.ensures.told, c.loop-k-test.false)))
+    (c.loop-k.invariant before h)

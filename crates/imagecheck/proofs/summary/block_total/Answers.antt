@@ -1,6 +1,7 @@
-use Rattle.std.proofs.Common.{◌+◌, ap, sym, ◌∙◌, arith}
+use Rattle.std.proofs.Common.{sym, ◌∙◌}
 use Rattle.imagerules.proofs.Bounds.{HasInode-at, HasPlace-at}
-use Rattle.imagerules.proofs.Summing.{length-few, length-many}
+use Rattle.imagerules.proofs.Summing.{length-blocks_of}
+use Rattle.imagecheck.proofs.Numbering.{IsCounted, taken_told}
 use Rattle.imagecheck.proofs.summary.block_total.Goals as goal
 
 pub kind-requires : goal.kind-requires
@@ -9,12 +10,8 @@ kind-requires c = HasPlace-at c.requires.geometry c.args.n c.requires.high
 pub block_count-count-requires : goal.block_count-count-requires
 block_count-count-requires c = HasInode-at c.requires.geometry c.requires.sizes c.args.n c.requires.low c.requires.high (λ z. c.if-kind-eq0.false (c.kind.ensures ∙ z))
 
-pub returns-then-count-le12-clause-total : goal.returns-then-count-le12-clause-total
-returns-then-count-le12-clause-total c =
-    c.block_count-count.ensures.count
-    ∙ sym (length-few c.args.image.now c.args.n (λ z. c.if-kind-eq0.false (c.kind.ensures ∙ z)) (omega (arith, c.block_count-count.ensures.count, c.block_count-count.ensures.most)) (omega (arith, c.block_count-count.ensures.count)))
-
-pub returns-else-count-le12-clause-total : goal.returns-else-count-le12-clause-total
-returns-else-count-le12-clause-total c =
-    ap (λ m. m + 1) c.block_count-count.ensures.count
-    ∙ sym (length-many c.args.image.now c.args.n (λ z. c.if-kind-eq0.false (c.kind.ensures ∙ z)) (omega (arith, c.block_count-count.ensures.count, c.block_count-count.ensures.most)) (omega (arith, c.block_count-count.ensures.count)))
+pub returns-clause-total : goal.returns-clause-total
+returns-clause-total c =
+    let i : IsCounted c.args.image.now c.args.n c.format_of.result c.block_count-count.result =
+    record { named = c.format_of.ensures; count = c.block_count-count.ensures.count; most = c.block_count-count.ensures.most } in
+    taken_told i c.index_blocks.ensures.told ∙ sym (length-blocks_of c.args.image.now c.args.n (λ z. c.if-kind-eq0.false (c.kind.ensures ∙ z)))

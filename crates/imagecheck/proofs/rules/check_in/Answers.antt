@@ -1,39 +1,41 @@
 use Rattle.std.proofs.Common.{◌≡◌, Err, length, ap, sym, subst, ◌∙◌, arith, IfErr, IfOk}
 use Rattle.std.proofs.lemmas.Result.{IfErr-weaker}
+use Rattle.layout.specs.Formats.{format_named}
 use Rattle.imagerules.specs.Content.{image_of}
 use Rattle.imagecheck.specs.Faults.{Finds, Tells}
 use Rattle.imagerules.specs.Fields.{HasGeometry}
 use Rattle.imagecheck.specs.Summaries.{IsSummary}
 use Rattle.imagerules.proofs.Bounds.{size-most}
-use Rattle.imagecheck.proofs.Sounding.{Finds-not_device, Finds-told, Rises-before, Summary-told, fault-told, refused-from, same-fault, told-err}
+use Rattle.imagecheck.proofs.Sounding.{Finds-not_device, Finds-told, Rises-before, Summary-told, fault-told, outside-told, refused-from, same-fault, told-err}
 use Rattle.imagerules.proofs.Super.{count-is}
-use Rattle.imagecheck.proofs.rules.check.Goals as goal
+use Rattle.imagecheck.proofs.rules.check_in.Goals as goal
 
 pub returns-in_err-geometry-clause-refused : goal.returns-in_err-geometry-clause-refused
 returns-in_err-geometry-clause-refused g c =
     let image = image_of (g.D.BlockDev.content c.args.device.now) in
-    refused-from image c.from_residual.result (fault-told (Tells image) c.from_residual.result c.from_residual.ensures.1 c.in_err-geometry.ensures.fault)
+    let f = format_named c.args.format in
+    refused-from f image c.from_residual.result (fault-told (Tells f image) c.from_residual.result c.from_residual.ensures.1 c.in_err-geometry.ensures.fault)
 
 pub read_blocks-requires : goal.read_blocks-requires
 read_blocks-requires g c = record {
-  count = count-is (g.D.BlockDev.content c.args.device.now) (g.met.D.BlockDev.sizes c.args.device.now) c.in_ok-geometry.ensures.geometry ∙ ap length (sym c.read_geometry.ensures.same);
-  most = size-most c.in_ok-geometry.ensures.geometry;
+  count = count-is (g.D.BlockDev.content c.args.device.now) (g.met.D.BlockDev.sizes c.args.device.now) c.in_ok-geometry.ensures.geometry.geometry ∙ ap length (sym c.read_geometry.ensures.same);
+  most = size-most c.in_ok-geometry.ensures.geometry.geometry;
 }
 
 pub returns-in_err-image : goal.returns-in_err-image
 returns-in_err-image g c =
     let device = c.args.device.now in
     let image = image_of (g.D.BlockDev.content device) in
+    let f = format_named c.args.format in
     let r = c.from_residual-in_err-image.result in
-    let only = rw c.read_geometry.ensures.same at c.in_err-image.ensures.only in
-    let told : IfErr r (Tells image) = fault-told (Tells image) r c.from_residual-in_err-image.ensures.1 only in
+    let told : IfErr r (Tells f image) = fault-told (Tells f image) r c.from_residual-in_err-image.ensures.1 (outside-told f image c.in_err-image.field-0.0 c.in_err-image.ensures.only) in
     let is : r ≡ Err c.in_err-image.field-0.0 = told-err r c.from_residual-in_err-image.ensures.1 in
     record {
       denotes = rw is tt;
       inodes = rw is tt;
       blocks = rw is tt;
       fault = told;
-      refused = refused-from image r told;
+      refused = refused-from f image r told;
       same = ◌∙◌ {a = g.D.BlockDev.content c.read_blocks.new.device} c.read_blocks.ensures.same c.read_geometry.ensures.same;
       later = omega (arith, c.read_blocks.ensures.later, c.read_geometry.ensures.later);
       failed = λ e. Rises-before (g.D.BlockDev.failures device) (g.D.BlockDev.failures c.read_geometry.new.device) (g.D.BlockDev.failures c.read_blocks.new.device) c.read_geometry.ensures.later
@@ -42,23 +44,25 @@ returns-in_err-image g c =
 
 pub summary_of-requires : goal.summary_of-requires
 summary_of-requires g c =
-    subst (λ image. HasGeometry image c.in_ok-geometry.geometry) (sym (c.deref.ensures.value ∙ c.in_ok-image.ensures.bytes ∙ ap image_of c.read_geometry.ensures.same)) c.in_ok-geometry.ensures.geometry
+    subst (λ image. HasGeometry image c.in_ok-geometry.geometry) (sym (c.deref.ensures.value ∙ c.in_ok-image.ensures.bytes ∙ ap image_of c.read_geometry.ensures.same)) c.in_ok-geometry.ensures.geometry.geometry
 
 pub returns : goal.returns
 returns g c =
     let blocks = g.D.BlockDev.content c.args.device.now in
     let image = image_of blocks in
+    let f = format_named c.args.format in
+    let magic = c.in_ok-geometry.ensures.geometry.magic in
     let r = c.summary_of.result in
     let e : c.deref.result.now ≡ image = c.deref.ensures.value ∙ c.in_ok-image.ensures.bytes ∙ ap image_of c.read_geometry.ensures.same in
     let finds : IfErr r (Finds image) = subst (λ x. IfErr r (Finds x)) e c.summary_of.ensures.fault in
-    let told : IfErr r (λ fault. Tells image fault) = IfErr-weaker r (Finds image) (λ fault. Tells image fault) (Finds-told image) finds in
-    let summary = Summary-told image r (subst (λ x. IfOk r (IsSummary x)) e c.summary_of.ensures.summary) in
+    let told : IfErr r (λ fault. Tells f image fault) = IfErr-weaker r (Finds image) (λ fault. Tells f image fault) (Finds-told f image magic) finds in
+    let summary = Summary-told f image magic r (subst (λ x. IfOk r (IsSummary x)) e c.summary_of.ensures.summary) in
     record {
       denotes = summary.denotes;
       inodes = summary.inodes;
       blocks = summary.blocks;
       fault = told;
-      refused = refused-from image r told;
+      refused = refused-from f image r told;
       same = ◌∙◌ {a = g.D.BlockDev.content c.read_blocks.new.device} c.read_blocks.ensures.same c.read_geometry.ensures.same;
       later = omega (arith, c.read_blocks.ensures.later, c.read_geometry.ensures.later);
       failed = λ device. absurd (Finds-not_device image r finds device);

@@ -1,0 +1,6 @@
+use Rattle.std.proofs.Common.{ℕ, ◌<◌}
+use Rattle.imagecheck.specs.Slots.{FitsSlot}
+use Rattle.imagecheck.proofs.blocks.fits_addresses.Given as goal
+
+abbrev pub invariant-loop-k : goal.invariant-loop-k
+invariant-loop-k l = (i : ℕ) → i < l.k → FitsSlot l.image l.n i
