@@ -13,9 +13,9 @@ use Rattle.unixmodel.specs.Image.{bit_of, bitmap_start, data_start, inodes_in, i
 use Rattle.imagerules.specs.Content.{image_of}
 use Rattle.imagerules.specs.Marks.{blocks_of}
 use Rattle.imagerules.proofs.Marking.{blocks_of-used, named_before-all}
+use Rattle.imagerules.proofs.Read.{byte-located, kind-located}
 use Rattle.imagerules.proofs.Uses.{All-numbers}
 use Rattle.imagemake.proofs.Apart.{any-range}
-use Rattle.imagemake.proofs.Located.{byte-located, kind-located}
 use Rattle.imagemake.proofs.Slotted.{All-listed, IsReadable, any-listed}
 
 pub record IsLegible (g : Geometry) (blocks : List (List ℕ)) : Type 0 where
