@@ -16,6 +16,7 @@ use Rattle.layout.specs.Sound.{IsSound}
 use Rattle.layout.specs.Super.{data_start_of}
 use Rattle.unixmodel.specs.Counts.{blocks_of}
 use Rattle.unixmodel.specs.Files.{free_slots}
+use Rattle.unixmodel.specs.Formats.{format}
 use Rattle.unixmodel.specs.Image.{Denotes, data_start}
 use Rattle.unixmodel.specs.Manifest.{ManifestEntry, Wrong, bare_files, data_blocks_of, files_made, has_numbers, with_entries}
 use Rattle.unixmodel.specs.Manifest.Wrong.{Numbers}
@@ -60,17 +61,17 @@ Stores-none g blocks sound nodes free =
 
 pub record IsPossible (size inodes : ℕ) : Type 0 where
   pub size_low : 32 ≤ size
-  pub size_high : size ≤ 16384
+  pub size_high : size ≤ format.most
   pub inodes_low : 16 ≤ inodes
   pub inodes_high : inodes ≤ 8192
   pub room : data_start_of size inodes < size
 
 pub possible : (size inodes : ℕ) → has_numbers size inodes ≡ true → IsPossible size inodes
 possible size inodes h =
-    let a = and_parts (nat_le 32 size && nat_le size 16384 && nat_le 16 inodes && nat_le inodes 8192) (nat_lt (data_start size inodes) size) h in
-    let b = and_parts (nat_le 32 size && nat_le size 16384 && nat_le 16 inodes) (nat_le inodes 8192) a.0 in
-    let c = and_parts (nat_le 32 size && nat_le size 16384) (nat_le 16 inodes) b.0 in
-    let d = and_parts (nat_le 32 size) (nat_le size 16384) c.0 in
+    let a = and_parts (nat_le 32 size && nat_le size format.most && nat_le 16 inodes && nat_le inodes 8192) (nat_lt (data_start size inodes) size) h in
+    let b = and_parts (nat_le 32 size && nat_le size format.most && nat_le 16 inodes) (nat_le inodes 8192) a.0 in
+    let c = and_parts (nat_le 32 size && nat_le size format.most) (nat_le 16 inodes) b.0 in
+    let d = and_parts (nat_le 32 size) (nat_le size format.most) c.0 in
     record {
       size_low = grind (arith, nat_tests, d.0);
       size_high = grind (arith, nat_tests, d.1);

@@ -4,6 +4,7 @@
 ghost use Rattle.std.specs.Prelude.{◌≡◌, ◌<◌, ◌≤◌, ◌*◌, Err, [], length, IfOk, IfErr, OnOk};
 ghost use Rattle.blockdev.specs.Blocks.{AreBlocks};
 ghost use Rattle.layout.specs.Sound.{HasParts};
+ghost use Rattle.unixmodel.specs.Formats.{format};
 ghost use Rattle.unixmodel.specs.Manifest.{bare_files, data_blocks_of, files_made, has_numbers, with_entries};
 ghost use Rattle.imagemake.specs.Begins.{BlamesDevice, MakesEntries};
 ghost use Rattle.imagerules.specs.Content.{image_of};
@@ -20,7 +21,7 @@ use balloc::format;
 use blockdev::{BLOCK_SIZE, BlockDev, MemDisk};
 use cache::Cache;
 use entry::add_entries;
-use layout::Geometry;
+use layout::{Geometry, MOST_BLOCKS};
 use made::Made;
 pub use manifest::{Entry, MakeFault, Manifest, Thing};
 use std::alloc::Global;
@@ -54,7 +55,7 @@ fn is_possible(geometry: Geometry) -> bool
     ensures { result ≡ has_numbers geometry.size geometry.inodes }
 {
     32 <= geometry.size
-        && geometry.size <= 16384
+        && geometry.size <= MOST_BLOCKS as usize
         && 16 <= geometry.inodes
         && geometry.inodes <= 8192
         && geometry.data_start() < geometry.size
@@ -62,7 +63,7 @@ fn is_possible(geometry: Geometry) -> bool
 
 // A disk of zeros.
 fn blank(alloc: Global, geometry: Geometry) -> Result<Cache<MemDisk>, MakeFault>
-    requires { geometry.size ≤ 16384 }
+    requires { geometry.size ≤ format.most }
     ensures count { IfOk result (λ disk. length disk.blocks ≡ geometry.size) }
     ensures sizes { IfOk result (λ disk. AreBlocks disk.blocks) }
     ensures only { IfErr result (λ fault. fault ≡ MakeFault.NoMemory) }

@@ -5,6 +5,7 @@ use Rattle.std.specs.List.{list_all}
 use Rattle.unixmodel.specs.Counts.{blocks_of}
 use Rattle.unixmodel.specs.Files.{Entry, Files, Node, change_node, dot, dot_dot, follow, free_slots, links_of, longest, lookup, pieces, put, size_of, slot, split_last, with_links}
 use Rattle.unixmodel.specs.Files.Node.{Device, Directory, File}
+use Rattle.unixmodel.specs.Formats.{format}
 use Rattle.unixmodel.specs.Image.{data_start, is_directory_at, is_name}
 
 -- what an entry makes: a directory, a file of bytes, or a device
@@ -38,7 +39,7 @@ data_blocks_of size inodes = size - data_start size inodes
 
 abbrev pub has_numbers : ℕ → ℕ → Bool
 has_numbers size inodes =
-    nat_le 32 size && nat_le size 16384 && nat_le 16 inodes && nat_le inodes 8192 && nat_lt (data_start size inodes) size
+    nat_le 32 size && nat_le size format.most && nat_le 16 inodes && nat_le inodes 8192 && nat_lt (data_start size inodes) size
 
 -- ---- an entry
 
