@@ -5,7 +5,7 @@ use Rattle.std.proofs.lemmas.Bool.{cases_eq, cond-false, eqb-true, false≢true,
 use Rattle.std.proofs.lemmas.List.{get_or-set_other, length-set, set-set, set_comm}
 use Rattle.std.proofs.lemmas.Option.{same_Some}
 use Rattle.std.proofs.lemmas.Slice.Eq.{bytes_eq-Decides}
-use Rattle.unixmodel.specs.Files.{Entry, Files, Node, Spot, change_node, clear, dot, dot_dot, erase, is_directory, is_dot_name, links_of, lookup, put, slot, without_place}
+use Rattle.unixmodel.specs.Files.{Entry, Files, Node, Spot, change_node, clear, dot, dot_dot, erase, is_directory, is_dot_name, links_of, longest, lookup, put, slot, without_place}
 use Rattle.unixmodel.specs.Files.Node.{Directory}
 use Rattle.unixmodel.specs.Image.{KeepsSize, is_directory_at}
 use Rattle.names.specs.Changes.{Loses, shape}
@@ -130,7 +130,7 @@ module _ {files : Files} (keeps : KeepsTree files) {at : Spot} {k n : ℕ} (name
         quiet = λ m. ap (λ o. names_by o m) here-less ∙ relinked-names node (links_of node - 1) m ∙ ap (λ o. names_by o m) (sym here);
         kind = λ h. kind-less;
         size = subst KeepsSize (sym here-less) (relinked-size node (links_of node - 1) (subst KeepsSize here (keeps.sizes n)));
-        size_above = subst KeepsSize (sym after-less) (subst (λ c. 16 * c ≤ 274432) (sym (length-set named.places k None)) (subst KeepsSize named.here (keeps.sizes d)));
+        size_above = subst KeepsSize (sym after-less) (subst (λ c. 16 * c ≤ longest) (sym (length-set named.places k None)) (subst KeepsSize named.here (keeps.sizes d)));
         live = subst (KeepsLive less n) (sym here-less) (drops.live less);
       }
 

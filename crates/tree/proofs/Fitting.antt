@@ -69,7 +69,7 @@ module _ {g : Geometry} {old : List (List ℕ)} {files : Files} (holds : Stores 
   written-is = ap (write_to limit files n at new) file.here
 
   -- so many bytes are written, and there are no blocks for more
-  written-done : (now : List (List ℕ)) (k : ℕ) → k ≤ length new → at ≤ length file.bytes → at + length new ≤ 274432 → Wrote g old now n (splice at (take k new) (bytes_of old n))
+  written-done : (now : List (List ℕ)) (k : ℕ) → k ≤ length new → at ≤ length file.bytes → at + length new ≤ longest → Wrote g old now n (splice at (take k new) (bytes_of old n))
       → ((j : ℕ) → k < j → j ≤ length new → nat_le (blocks_of (more j)) limit ≡ false) → written limit files n at new ≡ Some (with_bytes files n at file.links file.bytes new k) × Stores g now (more k)
   unfolding limit fitting
   written-done now k high low short wrote above =
@@ -92,7 +92,7 @@ module _ {g : Geometry} {old : List (List ℕ)} {files : Files} (holds : Stores 
   abbrev w : Option Written
   w = written (data_blocks_of g.size g.inodes) files n at new
 
-  pub write-whole : (now : List (List ℕ)) → Wrote g old now n (splice at new (bytes_of old n)) → (at ≤ length (bytes_of old n)) × (at + length new ≤ 274432) → (Some (length new) ≡ count_of w) × Stores g now (files_after files w)
+  pub write-whole : (now : List (List ℕ)) → Wrote g old now n (splice at new (bytes_of old n)) → (at ≤ length (bytes_of old n)) × (at + length new ≤ longest) → (Some (length new) ≡ count_of w) × Stores g now (files_after files w)
   unfolding limit
   write-whole now wrote fits =
       let done = written-done now (length new) (omega arith) (subst (λ b. at ≤ length b) file-bytes fits.0) fits.1
@@ -113,7 +113,7 @@ module _ {g : Geometry} {old : List (List ℕ)} {files : Files} (holds : Stores 
       let none = refused (and_left (nat_le at (length file.bytes)) (nat_le (at + length new) longest) (lt-leb at (length file.bytes) (subst (λ b. length b < at) file-bytes past.0))) in
       (ap count_of (sym none), subst (λ o. Stores g now (files_after files o)) (sym none) (subst (λ b. Stores g b files) (sym past.1) holds))
 
-  pub write-long : (now : List (List ℕ)) → (at ≤ length (bytes_of old n)) × (274432 < at + length new) × (now ≡ old) → (None ≡ count_of w) × Stores g now (files_after files w)
+  pub write-long : (now : List (List ℕ)) → (at ≤ length (bytes_of old n)) × (longest < at + length new) × (now ≡ old) → (None ≡ count_of w) × Stores g now (files_after files w)
   unfolding limit
   write-long now long =
       let none = refused (and_right (nat_le at (length file.bytes)) (nat_le (at + length new) longest) (lt-leb (at + length new) longest long.1)) in

@@ -16,7 +16,7 @@ use Rattle.tree.specs.Stored.{FitsPlaces, Stores}
 use Rattle.imagerules.specs.Places.{IsPlain, PlaceFits}
 use Rattle.tree.specs.Steps.{Reads}
 use Rattle.unixmodel.specs.Failures.{HasCause}
-use Rattle.unixmodel.specs.Files.{Entry, Files, Node, place_bytes, put}
+use Rattle.unixmodel.specs.Files.{Entry, Files, Node, longest, place_bytes, put}
 use Rattle.unixmodel.specs.Files.Node.{Directory}
 use Rattle.tree.proofs.Erasing.{spelling-set, taken-grows}
 use Rattle.balloc.proofs.Exits.{HasCause-after}
@@ -90,7 +90,7 @@ spelling-placed places k e fits plain room = elim (room-cases places k room) [
 -- ---- a directory with an entry
 
 module _ (g : Geometry) (old new : List (List ℕ)) (files : Files) (holds : Stores g old files) (d k : ℕ) (room : HasRoom files d k) (e : Entry) (plain : IsPlain e) where
-  place-bounds : (k ≤ length room.places) × (16 * k + 16 ≤ 274432)
+  place-bounds : (k ≤ length room.places) × (16 * k + 16 ≤ longest)
   place-bounds =
       let short = short-bytes holds.sound (room-inode holds d k room) in
       let size = room-size holds d k room in
@@ -99,7 +99,7 @@ module _ (g : Geometry) (old new : List (List ℕ)) (files : Files) (holds : Sto
         | inr m ↦ let low = m.0 in let is = m.1 in (omega arith, omega arith)
       ]
 
-  pub place-high : 16 * k + 16 ≤ 274432
+  pub place-high : 16 * k + 16 ≤ longest
   place-high = place-bounds.1
 
   pub place-low : 16 * k ≤ length (bytes_of old d)

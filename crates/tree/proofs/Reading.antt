@@ -21,12 +21,12 @@ use Rattle.imagerules.specs.Places.{place_of_bytes, places_in, without_zeros}
 use Rattle.tree.specs.Steps.{Reads}
 use Rattle.unixmodel.specs.Failures.{Rises}
 use Rattle.tree.specs.Stored.{files_of}
-use Rattle.unixmodel.specs.Files.{Entry, has_name, lookup, slot, taken}
+use Rattle.unixmodel.specs.Files.{Entry, has_name, longest, lookup, slot, taken}
 use Rattle.unixmodel.specs.Numbers.{number_at}
 use Rattle.imagerules.proofs.Spelling.{slot-places_in}
 
 -- a file is never longer than an int
-pub short-bytes : {g : Geometry} {blocks : List (List ℕ)} {n : ℕ} → IsSound g blocks → IsInode blocks g.inodes n → length (bytes_of blocks n) ≤ 274432
+pub short-bytes : {g : Geometry} {blocks : List (List ℕ)} {n : ℕ} → IsSound g blocks → IsInode blocks g.inodes n → length (bytes_of blocks n) ≤ longest
 short-bytes {g} {blocks} {n} sound inode = let fits = sound.fits n inode in omega (arith, length-bytes_of blocks n)
 
 -- ---- the first that passes

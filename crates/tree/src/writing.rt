@@ -12,7 +12,7 @@ use inode::{InodeFault, write_at};
 use layout::Geometry;
 
 /// Writes bytes into a file from the place `at` on, as many as there are blocks for, and tells how many. `None` comes where
-/// the place lies past the file's end or the file would be longer than 274432 bytes; nothing is written then.
+/// the place lies past the file's end or the file would be longer than `layout::LONGEST`; nothing is written then.
 pub fn write<D: BlockDev>(
     disk: &mut Cache<D>,
     geometry: Geometry,
