@@ -1,10 +1,9 @@
 -- An entry is put on a disk.
-use Rattle.std.proofs.Common.{◌≡◌, ℕ, ◌+◌, ◌*◌, ◌<◌, ◌≤◌, Bool, List, [], ◌∷◌, ◌++◌, None, Option, Some, Ok, Err, Result, length, drop, ap, sym, refl, ◌∙◌, arith, subst}
-use Rattle.std.proofs.lemmas.List.{length-drop, length_push}
-use Rattle.std.proofs.lemmas.List.Sums.{count_by-le-length}
-use Rattle.unixmodel.specs.Files.{Entry, Files, is_directory, longest, slot, taken}
+use Rattle.std.proofs.Common.{◌≡◌, ℕ, ◌+◌, ◌<◌, ◌≤◌, Bool, List, [], ◌∷◌, ◌++◌, Option, Some, Ok, Err, Result, length, ap, sym, refl, ◌∙◌, arith, subst}
+use Rattle.std.proofs.lemmas.List.{length_push}
+use Rattle.unixmodel.specs.Files.{Entry, Files, is_directory, slot}
 use Rattle.unixmodel.specs.Files.Node.{Directory}
-use Rattle.unixmodel.specs.Image.{KeepsNode, KeepsRules, KeepsSize, entries_of, is_directory_at, subdirectories}
+use Rattle.unixmodel.specs.Image.{KeepsNode, KeepsRules}
 use Rattle.unixmodel.specs.Manifest.{ManifestEntry, Thing, added, data_blocks_of, if_room, node_for, with_manifest_entry}
 use Rattle.layout.specs.declared.Geometry.{Geometry}
 use Rattle.imagemake.specs.Added.{CanAdd, IsStored}
@@ -15,6 +14,7 @@ use Rattle.imagemake.specs.Made.{MadeName, made_name}
 use Rattle.imagemake.specs.Making.{Refuses}
 use Rattle.imagemake.specs.declared.store.StoreFault.{StoreFault}
 use Rattle.imagemake.specs.declared.store.StoreFault.TheVariants.{Blocks, Device}
+use Rattle.imagemake.proofs.FewLinks.{few-directories}
 use Rattle.imagemake.proofs.MadeEntry.{directory-at}
 use Rattle.imagemake.proofs.MadeFiles.{IsBegun-more, adds-more}
 use Rattle.imagemake.proofs.MadeSearch.{IsListed-more}
@@ -23,20 +23,12 @@ use Rattle.imagerules.proofs.Denoting.{below-slot}
 
 -- ---- how many there are
 
-length-taken : {X : Type 0} (xs : List (Option X)) → length (taken xs) ≤ length xs
-length-taken [] = omega arith
-length-taken (None ∷ xs) = let h = length-taken xs in omega arith
-length-taken (Some x ∷ xs) = let h = length-taken xs in omega arith
-
-few-links : (files : Files) (d links : ℕ) (places : List (Option Entry)) → KeepsRules files → slot files d ≡ Some (Directory links places) → links < 65535
-unfolding subdirectories
-few-links files d links places rules at =
+few-links : (files : Files) (d links : ℕ) (places : List (Option Entry)) → KeepsRules files → length files ≤ 8192 → slot files d ≡ Some (Directory links places) → links < 65535
+few-links files d links places rules most at =
     let kept : KeepsNode files d (Some (Directory links places)) = subst (KeepsNode files d) at (rules.nodes d) in
-    let size : 16 * length places ≤ longest = subst KeepsSize at (rules.sizes d) in
-    let counted : links ≡ 1 + subdirectories files d = kept.counted in
-    let most : subdirectories files d ≤ length (entries_of (slot files d)) = count_by-le-length (λ (e : Entry). is_directory_at files e.number) (entries_of (slot files d)) in
-    let e : length (entries_of (slot files d)) ≡ length (taken (drop 2 places)) = ap (λ o. length (entries_of o)) at in
-    omega (arith, length-taken (drop 2 places), length-drop 2 places)
+    let counted = kept.counted in
+    let few = few-directories files d rules in
+    omega arith
 
 module _ {g : Geometry} {blocks : List (List ℕ)} {made : List MadeName} {files : Files} (is : IsMade g blocks made files) where
   pub made-inodes : length made + 2 ≤ g.inodes
@@ -57,7 +49,7 @@ module _ {g : Geometry} {blocks : List (List ℕ)} {made : List MadeName} {files
           links = above.0;
           places = above.1;
           directory = above.2;
-          few = few-links files d above.0 above.1 is.begun.rules above.2;
+          few = few-links files d above.0 above.1 is.begun.rules (let h = is.stores.sound.parts.inodes_high in omega arith) above.2;
           named = spot-good made path d name spot;
           low = omega arith;
           high = omega arith;

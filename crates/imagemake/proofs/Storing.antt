@@ -30,6 +30,10 @@ sum-taken (None ∷ os) = omega (arith, sum-taken os, sum_by-cons used_by None o
 sum-taken (Some node ∷ os) =
     sum_by-cons (λ (x : Node). blocks_for (size_of x)) node (taken os) ∙ ap (λ k. blocks_for (size_of node) + k) (sum-taken os) ∙ sym (sum_by-cons used_by (Some node) os)
 
+pub blocks_of-used : (files : Files) → blocks_of files ≡ sum_by used_by files
+unfolding blocks_of
+blocks_of-used files = sum-taken files
+
 pub blocks_of-set : (files : Files) (n : ℕ) (o : Option Node) → n < length files → blocks_of (set files n o) + used_by (slot files n) ≡ blocks_of files + used_by o
 unfolding blocks_of
 blocks_of-set files n o h =
