@@ -26,6 +26,7 @@ use made::Made;
 pub use manifest::{Entry, MakeFault, Manifest, Thing};
 use std::alloc::Global;
 use store::store_root;
+pub use store::{StoreFault, append};
 
 /// Makes an image of so many blocks and places for inodes.
 pub fn make(
@@ -61,8 +62,8 @@ fn is_possible(geometry: Geometry) -> bool
         && geometry.data_start() < geometry.size
 }
 
-// A disk of zeros.
-fn blank(alloc: Global, geometry: Geometry) -> Result<Cache<MemDisk>, MakeFault>
+/// A disk of zeros, in memory. The fault is `NoMemory`.
+pub fn blank(alloc: Global, geometry: Geometry) -> Result<Cache<MemDisk>, MakeFault>
     requires { geometry.size ≤ format.most }
     ensures count { IfOk result (λ disk. length disk.blocks ≡ geometry.size) }
     ensures sizes { IfOk result (λ disk. AreBlocks disk.blocks) }
@@ -98,8 +99,8 @@ fn put_files<'a, D: BlockDev>(
     add_entries(disk, geometry, made, entries)
 }
 
-// The bytes of a disk.
-fn bytes_of_disk(mut disk: Cache<MemDisk>) -> Result<Vec<u8>, MakeFault>
+/// The bytes of a disk. The fault is `NoMemory`.
+pub fn bytes_of_disk(mut disk: Cache<MemDisk>) -> Result<Vec<u8>, MakeFault>
     ensures bytes { IfOk result (λ bytes. bytes.items ≡ image_of disk.blocks) }
     ensures only { IfErr result (λ fault. fault ≡ MakeFault.NoMemory) }
 {

@@ -17,13 +17,16 @@ use blockdev::{BlockDev, DeviceFault};
 use cache::Cache;
 use inode::{InodeFault, set_links, stat, write_at};
 use layout::{Entry, Geometry};
+use thiserror::Error;
 
 /// Why nothing more is stored.
-#[derive(Clone, Copy)]
+#[derive(Clone, Copy, Debug, Error)]
 pub enum StoreFault {
     /// A file or a directory would be too long, or the blocks don't suffice.
+    #[error("a file or a directory is too long, or the blocks don't suffice")]
     Blocks,
     /// A device access failed.
+    #[error("a device access failed")]
     Device,
 }
 
@@ -138,8 +141,8 @@ fn take<D: BlockDev>(
     )
 }
 
-// Appends bytes to those of an inode.
-fn append<D: BlockDev>(
+/// Appends bytes to those of an inode in use. After a fault the inode may have a part of them.
+pub fn append<D: BlockDev>(
     disk: &mut Cache<D>,
     geometry: Geometry,
     number: usize,
