@@ -17,13 +17,13 @@ use blockdev::{BlockDev, DeviceFault};
 use byteorder::{ByteOrder, LittleEndian};
 use cache::Cache;
 use inode::{InodeStat, read_at, stat};
-use layout::Geometry;
+use layout::{Geometry, LONGEST};
 
 /// The type of a directory's inode.
 pub const DIRECTORY: u16 = 1;
 
 // The most places of a directory.
-const MOST_PLACES: usize = 17152;
+const MOST_PLACES: usize = LONGEST / 16;
 
 /// Where a name stands, and the number that it names.
 #[derive(Clone, Copy)]
