@@ -7,7 +7,7 @@ ghost use Rattle.unixmodel.specs.declared.instr.Instr.{Instr as TheInstr};
 use crate::{opcodes, operations};
 use unixmodel::instr::{Amount, AmountW, BranchOffset, Imm12, Imm20, Instr, JumpOffset, Reg};
 
-/// The instruction that a word is: the one of RV64I that the RISC-V unprivileged manual spells by it, and `None`
+/// The instruction that a word is: the one of RV64IM that the RISC-V unprivileged manual spells by it, and `None`
 /// where it spells none.
 #[inline(always)]
 pub fn decode(word: u32) -> Option<Instr>

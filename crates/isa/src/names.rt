@@ -133,6 +133,14 @@ pub fn reg_name(op: RegOp) -> &'static str
         RegOp::Sra => "sra",
         RegOp::Or => "or",
         RegOp::And => "and",
+        RegOp::Mul => "mul",
+        RegOp::Mulh => "mulh",
+        RegOp::Mulhsu => "mulhsu",
+        RegOp::Mulhu => "mulhu",
+        RegOp::Div => "div",
+        RegOp::Divu => "divu",
+        RegOp::Rem => "rem",
+        RegOp::Remu => "remu",
     }
 }
 
@@ -145,5 +153,10 @@ pub fn reg_w_name(op: RegOpW) -> &'static str
         RegOpW::Sllw => "sllw",
         RegOpW::Srlw => "srlw",
         RegOpW::Sraw => "sraw",
+        RegOpW::Mulw => "mulw",
+        RegOpW::Divw => "divw",
+        RegOpW::Divuw => "divuw",
+        RegOpW::Remw => "remw",
+        RegOpW::Remuw => "remuw",
     }
 }

@@ -181,6 +181,14 @@ pub fn reg_op(funct7: u32, funct3: u32) -> Option<RegOp>
         (0b0100000, 0b101) => Some(RegOp::Sra),
         (0b0000000, 0b110) => Some(RegOp::Or),
         (0b0000000, 0b111) => Some(RegOp::And),
+        (0b0000001, 0b000) => Some(RegOp::Mul),
+        (0b0000001, 0b001) => Some(RegOp::Mulh),
+        (0b0000001, 0b010) => Some(RegOp::Mulhsu),
+        (0b0000001, 0b011) => Some(RegOp::Mulhu),
+        (0b0000001, 0b100) => Some(RegOp::Div),
+        (0b0000001, 0b101) => Some(RegOp::Divu),
+        (0b0000001, 0b110) => Some(RegOp::Rem),
+        (0b0000001, 0b111) => Some(RegOp::Remu),
         _ => None,
     }
 }
@@ -201,6 +209,14 @@ pub fn functs_of_reg(op: RegOp) -> (u32, u32)
         RegOp::Sra => (0b0100000, 0b101),
         RegOp::Or => (0b0000000, 0b110),
         RegOp::And => (0b0000000, 0b111),
+        RegOp::Mul => (0b0000001, 0b000),
+        RegOp::Mulh => (0b0000001, 0b001),
+        RegOp::Mulhsu => (0b0000001, 0b010),
+        RegOp::Mulhu => (0b0000001, 0b011),
+        RegOp::Div => (0b0000001, 0b100),
+        RegOp::Divu => (0b0000001, 0b101),
+        RegOp::Rem => (0b0000001, 0b110),
+        RegOp::Remu => (0b0000001, 0b111),
     }
 }
 
@@ -216,6 +232,11 @@ pub fn reg_w_op(funct7: u32, funct3: u32) -> Option<RegOpW>
         (0b0000000, 0b001) => Some(RegOpW::Sllw),
         (0b0000000, 0b101) => Some(RegOpW::Srlw),
         (0b0100000, 0b101) => Some(RegOpW::Sraw),
+        (0b0000001, 0b000) => Some(RegOpW::Mulw),
+        (0b0000001, 0b100) => Some(RegOpW::Divw),
+        (0b0000001, 0b101) => Some(RegOpW::Divuw),
+        (0b0000001, 0b110) => Some(RegOpW::Remw),
+        (0b0000001, 0b111) => Some(RegOpW::Remuw),
         _ => None,
     }
 }
@@ -231,5 +252,10 @@ pub fn functs_of_reg_w(op: RegOpW) -> (u32, u32)
         RegOpW::Sllw => (0b0000000, 0b001),
         RegOpW::Srlw => (0b0000000, 0b101),
         RegOpW::Sraw => (0b0100000, 0b101),
+        RegOpW::Mulw => (0b0000001, 0b000),
+        RegOpW::Divw => (0b0000001, 0b100),
+        RegOpW::Divuw => (0b0000001, 0b101),
+        RegOpW::Remw => (0b0000001, 0b110),
+        RegOpW::Remuw => (0b0000001, 0b111),
     }
 }
