@@ -41,7 +41,7 @@ pub enum Word {
 }
 
 // The words, each with what it asks for.
-const WORDS: [(&[u8], Word); 63] = [
+const WORDS: [(&[u8], Word); 76] = [
     (b"add", Word::Register(RegisterOp::Reg(RegOp::Add))),
     (b"sub", Word::Register(RegisterOp::Reg(RegOp::Sub))),
     (b"sll", Word::Register(RegisterOp::Reg(RegOp::Sll))),
@@ -52,11 +52,24 @@ const WORDS: [(&[u8], Word); 63] = [
     (b"sra", Word::Register(RegisterOp::Reg(RegOp::Sra))),
     (b"or", Word::Register(RegisterOp::Reg(RegOp::Or))),
     (b"and", Word::Register(RegisterOp::Reg(RegOp::And))),
+    (b"mul", Word::Register(RegisterOp::Reg(RegOp::Mul))),
+    (b"mulh", Word::Register(RegisterOp::Reg(RegOp::Mulh))),
+    (b"mulhsu", Word::Register(RegisterOp::Reg(RegOp::Mulhsu))),
+    (b"mulhu", Word::Register(RegisterOp::Reg(RegOp::Mulhu))),
+    (b"div", Word::Register(RegisterOp::Reg(RegOp::Div))),
+    (b"divu", Word::Register(RegisterOp::Reg(RegOp::Divu))),
+    (b"rem", Word::Register(RegisterOp::Reg(RegOp::Rem))),
+    (b"remu", Word::Register(RegisterOp::Reg(RegOp::Remu))),
     (b"addw", Word::Register(RegisterOp::RegW(RegOpW::Addw))),
     (b"subw", Word::Register(RegisterOp::RegW(RegOpW::Subw))),
     (b"sllw", Word::Register(RegisterOp::RegW(RegOpW::Sllw))),
     (b"srlw", Word::Register(RegisterOp::RegW(RegOpW::Srlw))),
     (b"sraw", Word::Register(RegisterOp::RegW(RegOpW::Sraw))),
+    (b"mulw", Word::Register(RegisterOp::RegW(RegOpW::Mulw))),
+    (b"divw", Word::Register(RegisterOp::RegW(RegOpW::Divw))),
+    (b"divuw", Word::Register(RegisterOp::RegW(RegOpW::Divuw))),
+    (b"remw", Word::Register(RegisterOp::RegW(RegOpW::Remw))),
+    (b"remuw", Word::Register(RegisterOp::RegW(RegOpW::Remuw))),
     (b"addi", Word::Number(NumberOp::Imm(ImmOp::Addi))),
     (b"slti", Word::Number(NumberOp::Imm(ImmOp::Slti))),
     (b"sltiu", Word::Number(NumberOp::Imm(ImmOp::Sltiu))),

@@ -1,5 +1,6 @@
 pub mod Bytes
 pub mod Mappings
+pub mod Products
 pub mod Steps
 pub mod ChangeLemmas
 pub mod CycleLemmas

@@ -1,0 +1,12 @@
+-- That products fit into 128 bits.
+use Rattle.std.proofs.Common.{arith, ◌-◌, ◌<◌, ◌^◌, ◌≤◌, ℕ}
+use Rattle.std.specs.Prelude.{FitsSigned, pos, unsigned_abs, ◌*ℤ◌}
+use Rattle.std.specs.Int.{cast_signed, w128, w64}
+use Rattle.std.proofs.lemmas.Int.{fits_signed_mul, ints}
+
+signed_abs : (a : ℕ) → a < 2 ^ 64 → unsigned_abs (cast_signed w64 a) ≤ 2 ^ 63
+signed_abs a l = grind (arith, ints)
+
+-- a signed number by an unsigned one
+pub mixed_fits : (a b : ℕ) → a < 2 ^ 64 → b < 2 ^ 64 → FitsSigned w128 (cast_signed w64 a *ℤ pos b)
+mixed_fits a b l m = fits_signed_mul w128 (cast_signed w64 a) (pos b) (2 ^ 63) (2 ^ 64 - 1) (signed_abs a l) (omega (arith, m)) (omega arith)
