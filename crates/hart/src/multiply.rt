@@ -100,11 +100,8 @@ pub fn divw(a: u32, b: u32) -> u64
     if b == 0 {
         return u64::MAX;
     }
-    extend_u32(
-        a.cast_signed()
-            .wrapping_div(b.cast_signed())
-            .cast_unsigned(),
-    )
+    let quotient = a.cast_signed().wrapping_div(b.cast_signed());
+    extend_u32(quotient.cast_unsigned())
 }
 
 /// DIVUW.
@@ -123,11 +120,8 @@ pub fn remw(a: u32, b: u32) -> u64
     if b == 0 {
         return extend_u32(a);
     }
-    extend_u32(
-        a.cast_signed()
-            .wrapping_rem(b.cast_signed())
-            .cast_unsigned(),
-    )
+    let remainder = a.cast_signed().wrapping_rem(b.cast_signed());
+    extend_u32(remainder.cast_unsigned())
 }
 
 /// REMUW.
