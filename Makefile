@@ -12,7 +12,7 @@ TEXTS := $(wildcard user/*.s)
 USER := $(TEXTS:user/%.s=out/user/%)
 IMAGE := out/xv6.img
 
-.PHONY: demo build program image user test quick edits check bench fmt
+.PHONY: demo build program image user test quick edits check bench qemu fmt
 
 # Boots a machine from an image with the user programs, types at its shell, and shows its console. It takes the
 # proved build where there is one that is not older than the sources. Else `rt try` compiles, and proves nothing of, the
@@ -70,6 +70,11 @@ quick:
 # Times the built program beside a plain Rust interpreter of the same design.
 bench: | program
 	bench/run.py $(PROGRAM)
+
+# Compares multiplications and divisions with qemu's: the stored rows, and 1,000,000 random pairs. It needs Debian's packages
+# qemu-user, gcc-riscv64-linux-gnu and libc6-dev-riscv64-cross.
+qemu: | program
+	qemu/compare.py $(PROGRAM)
 
 # Lays out the sources of every crate.
 fmt:

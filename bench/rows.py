@@ -64,6 +64,42 @@ def hart_rows():
         yield Row(f"{name} from an image", booted, steps, "step", (Beside("the same by `flat`", without),))
 
 
+# ---- multiplication
+
+# The instruction, and the call of a routine that shifts and adds, which a compiler's code has on a machine without it.
+MULTIPLIES = ["mul a0, a0, a1", "jal ra, times"]
+
+
+def hash_after(rounds):
+    """What `programs/hash.s` comes to."""
+    value = 14695981039346656037
+    for _ in range(rounds):
+        for byte in range(1024):
+            value = (value ^ byte % 256) * 1099511628211 % 2**64
+    return value
+
+
+def product_sum():
+    """The sum of the numbers of the product in `programs/matrix.s`."""
+    left, right = [number % 256 for number in range(1024)], [number % 64 for number in range(1024)]
+    columns = [sum(left[at::32]) for at in range(32)]
+    rows = [sum(right[32 * at : 32 * at + 32]) for at in range(32)]
+    return sum(column * row for column, row in zip(columns, rows))
+
+
+def multiply_rows():
+    """The same loop with multiplication in hardware and without it."""
+    for name, program, rounds, wanted, count in [
+        ("a hash of 512 KiB", "hash", 512, hash_after(512), 512 * 1024),
+        ("a product of matrices, 16 times", "matrix", 16, product_sum(), 16 * 32**3),
+    ]:
+        by_mul, by_routine = [
+            Flat(Program(program, ROUNDS=rounds, WANTED=wanted, MULTIPLY=how), flags=("--tlb",)) for how in MULTIPLIES
+        ]
+        routine = Beside("by a routine in place of mul", by_routine)
+        yield beside_plain(name, by_mul, routine, count=count, unit="multiplication")
+
+
 # ---- memory and processes
 
 PAGE = 4096
@@ -251,6 +287,6 @@ def counted_jobs():
 
 def all_rows():
     """Every row, in the order in which they are run."""
-    machines = [hart_rows, page_rows, process_rows, turn_rows, byte_rows]
+    machines = [hart_rows, multiply_rows, page_rows, process_rows, turn_rows, byte_rows]
     for group in [*machines, rewriting_rows, name_rows, making_rows, checking_rows, text_rows]:
         yield from group()

@@ -172,6 +172,16 @@ fn with_register(word: u32, a: u64, b: u64) -> Result<u64, Trap> {
         (5, 32) => (a as i64 >> (b & 63)) as u64,
         (6, 0) => a | b,
         (7, 0) => a & b,
+        (0, 1) => a.wrapping_mul(b),
+        (1, 1) => (a as i64 as i128 * b as i64 as i128 >> 64) as u64,
+        (2, 1) => (a as i64 as i128 * b as i128 >> 64) as u64,
+        (3, 1) => (a as u128 * b as u128 >> 64) as u64,
+        (4, 1) if b == 0 => u64::MAX,
+        (4, 1) => (a as i64).wrapping_div(b as i64) as u64,
+        (5, 1) => a.checked_div(b).unwrap_or(u64::MAX),
+        (6, 1) if b == 0 => a,
+        (6, 1) => (a as i64).wrapping_rem(b as i64) as u64,
+        (7, 1) => a.checked_rem(b).unwrap_or(a),
         _ => return Err(Trap::Fault),
     })
 }
@@ -196,6 +206,13 @@ fn with_register_32(word: u32, a: i32, b: u32) -> Result<i32, Trap> {
         (1, 0) => a << (b & 31),
         (5, 0) => (a as u32 >> (b & 31)) as i32,
         (5, 32) => a >> (b & 31),
+        (0, 1) => a.wrapping_mul(b as i32),
+        (4, 1) if b == 0 => -1,
+        (4, 1) => a.wrapping_div(b as i32),
+        (5, 1) => (a as u32).checked_div(b).unwrap_or(u32::MAX) as i32,
+        (6, 1) if b == 0 => a,
+        (6, 1) => a.wrapping_rem(b as i32),
+        (7, 1) => (a as u32).checked_rem(b).unwrap_or(a as u32) as i32,
         _ => return Err(Trap::Fault),
     })
 }

@@ -1,7 +1,7 @@
 //! A plain Rust interpreter of the machine's design, to measure `xv6 flat` against: the memory is
 //! one block of frames, each access walks three levels of Sv39 tables in it, or with `--tlb` looks
 //! first at what is remembered of 64 pages for each kind of access, and each step decodes its
-//! instruction from the word. It knows RV64I, the calls fork, exit, wait, pipe, read, sbrk, write and
+//! instruction from the word. It knows RV64IM, the calls fork, exit, wait, pipe, read, sbrk, write and
 //! close, 64 places of processes that take turns, pipes whose bytes lie in a frame, and a console with
 //! keys. A fork shares the pages until they are written, or with `--copying` copies them at once. A
 //! script's lines `step N`, `tick N`, `type TEXT` and `keys HEX` say what happens.

@@ -12,26 +12,24 @@ static inline void print(int file, const char *text)
     write(file, text, length);
 }
 
-/* A number in decimal. RV64I has no division: each digit is how often a power of ten can be taken away. */
+/* A number in decimal. */
 static inline void print_number(int file, unsigned long number)
 {
-    static const unsigned long powers[] = {
-        10000000000000000000ul, 1000000000000000000ul, 100000000000000000ul, 10000000000000000ul, 1000000000000000ul,
-        100000000000000ul, 10000000000000ul, 1000000000000ul, 100000000000ul, 10000000000ul, 1000000000ul, 100000000ul,
-        10000000ul, 1000000ul, 100000ul, 10000ul, 1000ul, 100ul, 10ul, 1ul
-    };
     char digits[20];
-    int count = 0;
-    for (int place = 0; place < 20; place++) {
-        char digit = '0';
-        while (number >= powers[place]) {
-            number -= powers[place];
-            digit++;
-        }
-        if (digit != '0' || count > 0 || place == 19)
-            digits[count++] = digit;
-    }
-    write(file, digits, count);
+    int first = sizeof digits;
+    do {
+        digits[--first] = '0' + number % 10;
+        number /= 10;
+    } while (number != 0);
+    write(file, digits + first, sizeof digits - first);
+}
+
+/* The same with a sign, where there is one. */
+static inline void print_integer(int file, long number)
+{
+    if (number < 0)
+        print(file, "-");
+    print_number(file, number < 0 ? -(unsigned long)number : (unsigned long)number);
 }
 
 #endif

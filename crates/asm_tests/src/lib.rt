@@ -3,4 +3,6 @@
 #![tactic(auto)]
 
 #[cfg(test)]
+mod products;
+#[cfg(test)]
 mod texts;

@@ -17,7 +17,8 @@ fn has_words(file: &[u8], words: &[u32]) -> bool {
     rest.is_empty()
 }
 
-fn gives(alloc: Global, text: &str, words: &[u32]) -> bool {
+/// Whether a text is assembled to these words.
+pub fn gives(alloc: Global, text: &str, words: &[u32]) -> bool {
     match assemble(alloc, text) {
         Ok(file) => has_words(&file, words),
         Err(_) => false,

@@ -1,6 +1,6 @@
 //! One step of a hart: fetch, decode, execute.
 //!
-//! From the RISC-V unprivileged manual, its chapters on RV32I and RV64I. An instruction that raises a trap changes
+//! From the RISC-V unprivileged manual, its chapters on RV32I, RV64I and the extension M. An instruction that raises a trap changes
 //! nothing; the address that is told with it is the target of a jump, the accessed address of a load or store, and
 //! else the pc.
 ghost use Rattle.std.specs.Prelude.{◌≡◌, ◌%◌, ◌/◌, ◌<◌, ◌+◌, ◌*◌, ◌^◌, ◌==◌, ◌≤◌, Option, Some, None, ℕ, List, length, slice_index, IfSome, IfNone};

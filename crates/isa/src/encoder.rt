@@ -5,7 +5,7 @@ ghost use Rattle.unixmodel.specs.Spell.{spell, r_word, i_word, s_word, b_word, u
 use crate::{opcodes, operations};
 use unixmodel::instr::{BranchOffset, Imm12, Imm20, Instr, JumpOffset, Reg};
 
-/// The word that spells an instruction, in the formats of the RISC-V unprivileged manual's RV64I.
+/// The word that spells an instruction, in the formats of the RISC-V unprivileged manual's RV64IM.
 pub fn encode(instr: Instr) -> u32
     ensures { result ≡ spell instr }
 {

@@ -1,6 +1,6 @@
 //! Words that are instructions, and words that are none.
 use isa::{decode, encode};
-use unixmodel::instr::{AmountW, Imm12, Instr, Reg, ShiftOp};
+use unixmodel::instr::{AmountW, Imm12, Instr, Reg, RegOpW, ShiftOp};
 
 /// sraiw ra, ra, 1
 fn shift() -> Instr {
@@ -21,18 +21,29 @@ fn fence() -> Instr {
     }
 }
 
+/// remw a0, a0, a1
+fn remainder() -> Instr {
+    Instr::RegW {
+        op: RegOpW::Remw,
+        rd: Reg::new(10),
+        rs1: Reg::new(10),
+        rs2: Reg::new(11),
+    }
+}
+
 #[test]
 fn reads_and_spells_words(rt: HostRuntime) {
     assert!(rt; decode(0x4010_d09b) == Some(shift()) && encode(shift()) == 0x4010_d09b);
     assert!(rt; decode(0x0ff0_000f) == Some(fence()) && encode(fence()) == 0x0ff0_000f);
+    assert!(rt; decode(0x02b5_653b) == Some(remainder()) && encode(remainder()) == 0x02b5_653b);
     assert!(rt; decode(0x0000_0073) == Some(Instr::Ecall));
     assert!(rt; encode(Instr::Ecall) == 0x0000_0073);
 }
 
 #[test]
-fn refuses_words_outside_rv64i(rt: HostRuntime) {
-    // sraiw with bit 25 set, fence.i, and the words of only zeros and only ones
-    for word in [0x4210_d09b, 0x0000_100f, 0x0000_0000, 0xffff_ffff] {
+fn refuses_words_that_are_no_instructions(rt: HostRuntime) {
+    // sraiw with bit 25 set, fence.i, the word between mulw and divw, and the words of only zeros and only ones
+    for word in [0x4210_d09b, 0x0000_100f, 0x02b5_153b, 0x0000_0000, 0xffff_ffff] {
         assert!(rt; decode(word).is_none(), "{word:#x}");
     }
 }

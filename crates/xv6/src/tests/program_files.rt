@@ -28,7 +28,7 @@ fn with_program(rt: &(impl Abort + AllocGlobal), text: &str, changes: &[(usize, 
 }
 
 // Texts, and what is shown of their files: only whole words are.
-static SHOWN: [(&str, &str); 7] = [
+static SHOWN: [(&str, &str); 8] = [
     (
         "li a7, 11\necall\n",
         "00000000: 000008b7 lui a7, 0x0\n00000004: 00b88893 addi a7, a7, 11\n00000008: 00000073 ecall\n",
@@ -48,6 +48,10 @@ static SHOWN: [(&str, &str); 7] = [
     (
         "sraiw ra, ra, 1\n.word 0x4210d09b\nfence\n.word 15\n.byte 1",
         "00000000: 4010d09b sraiw ra, ra, 1\n00000004: 4210d09b .word 0x4210d09b\n00000008: 0ff0000f fence\n0000000c: 0000000f .word 0x0000000f\n",
+    ),
+    (
+        "mul a0, a0, a1\ndiv a0, a0, a1\nmulhsu t0, t1, t2\nremuw s0, s1, zero\nremw a0, a0, a1\n.word 0x02b5153b",
+        "00000000: 02b50533 mul a0, a0, a1\n00000004: 02b54533 div a0, a0, a1\n00000008: 027322b3 mulhsu t0, t1, t2\n0000000c: 0204f43b remuw s0, s1, zero\n00000010: 02b5653b remw a0, a0, a1\n00000014: 02b5153b .word 0x02b5153b\n",
     ),
     (".byte 1", ""),
     ("", ""),
