@@ -13,6 +13,7 @@ use std::io;
 use sv39::Plain;
 
 /// A row of the table.
+#[derive(Clone, Copy)]
 struct Row<'a> {
     /// The instruction's name.
     name: &'a str,
