@@ -1,7 +1,7 @@
 //! The frames of a memory: which are free, and how many hold each of the others.
 #![tactic(auto)]
 
-ghost use Rattle.std.specs.Prelude.{◌≡◌, ℕ, ◌+◌, ◌<◌, ◌≤◌, List, [], ◌∷◌, length, false, replicate, IfSome, IfNone, IfOk};
+ghost use Rattle.std.specs.Prelude.{◌≡◌, ℕ, ◌+◌, ◌<◌, ◌≤◌, List, [], ◌∷◌, length, false, replicate, None, IfSome, IfNone, IfOk, ◌↔◌};
 ghost use Rattle.std.specs.Bool.{OnTrue, OnFalse};
 ghost use Rattle.std.specs.List.{range_with_len};
 ghost use Rattle.frames.specs.Free.{among, free_of, free_count, extra_of, further_at, IsFreeList, SameBut};
@@ -108,11 +108,13 @@ impl Frames {
         taken
     }
 
-    /// Takes the first free frame, whose bytes may be anything, for its first holder; `None` where `free` is 0.
+    /// Takes the first free frame, whose bytes may be anything, for its first holder; `None` exactly where `free` is 0,
+    /// and then nothing changed.
     pub fn take(&mut self, ram: &Ram) -> Option<FrameNo>
         requires { IsFreeList ram.now self.old }
         ensures some { IfSome result (λ f. free_of ram.now self.old ≡ f.0 ∷ free_of ram.now self.new) }
-        ensures none { IfNone result ((free_count ram.now self.old ≡ 0) × (self.new ≡ self.old)) }
+        ensures none { result ≡ None ↔ free_count ram.now self.old ≡ 0 }
+        ensures unchanged { IfNone result (self.new ≡ self.old) }
         ensures extra { extra_of self.new ≡ extra_of self.old }
         ensures valid { IsFreeList ram.now self.new }
     {
