@@ -127,9 +127,8 @@ impl<const N: usize> Tlb<N> {
     // hart's way from the physical address back to it is left out.
     #[inline(always)]
     fn frame(&mut self, ram: &Ram, root: FrameNo, va: u64, access: Access) -> Option<FrameNo>
-        requires { HoldsInside (Keeps N self.old.fetches self.old.loads self.old.stores) ram.now }
         ensures found { IsFound (Keeps N self.old.fetches self.old.loads self.old.stores) ram.now root.0 va access (option_map (λ f. f.0) result) }
-        ensures inside { IfSome result (λ f. f.0 < length ram.now) }
+        ensures inside { HoldsInside (Keeps N self.old.fetches self.old.loads self.old.stores) ram.now → IfSome result (λ f. f.0 < length ram.now) }
         ensures kept { IsKept (Keeps N self.old.fetches self.old.loads self.old.stores) (Keeps N self.new.fetches self.new.loads self.new.stores) ram.now root.0 }
         ensures hit { (frame : ℕ) → Keeps N self.old.fetches self.old.loads self.old.stores (asked root.0 va access frame) → (option_map (λ f. f.0) result ≡ Some frame) × (self.new ≡ self.old) }
         ensures walks { ((frame : ℕ) → ¬ Keeps N self.old.fetches self.old.loads self.old.stores (asked root.0 va access frame)) →
@@ -149,9 +148,9 @@ impl<const N: usize> Translate for Tlb<N> {
 
     #[inline(always)]
     fn translate(&mut self, ram: &Ram, root: FrameNo, va: u64, access: Access) -> Result<Pa, Fault>
-        requires { HoldsInside (Keeps N self.old.fetches self.old.loads self.old.stores) ram.now }
         ensures answer { IsAnswer (Keeps N self.old.fetches self.old.loads self.old.stores) ram.now root.0 va access (result_ok result) }
-        ensures inside { IfOk result (λ pa. (2 ^ 31 ≤ pa) × (pa / 4096 - 0x80000 < length ram.now)) }
+        // what is held may be of another memory: where it lies inside this one, so does the answer
+        ensures inside { HoldsInside (Keeps N self.old.fetches self.old.loads self.old.stores) ram.now → IfOk result (λ pa. (2 ^ 31 ≤ pa) × (pa / 4096 - 0x80000 < length ram.now)) }
         ensures kept { IsKept (Keeps N self.old.fetches self.old.loads self.old.stores) (Keeps N self.new.fetches self.new.loads self.new.stores) ram.now root.0 }
         ensures hit { (frame : ℕ) → Keeps N self.old.fetches self.old.loads self.old.stores (asked root.0 va access frame) → (result ≡ Ok (place_in va frame)) × (self.new ≡ self.old) }
         ensures walks { ((frame : ℕ) → ¬ Keeps N self.old.fetches self.old.loads self.old.stores (asked root.0 va access frame)) →
