@@ -19,7 +19,7 @@ pub struct Seen {
     pub pc: u64,
     /// In bytes.
     pub size: u64,
-    /// Whether it was killed, and hasn't ended yet.
+    /// Whether it was killed. The mark stays once it has ended, and a zombie that is killed gets it too.
     pub killed: bool,
     pub state: ProcessState,
 }
