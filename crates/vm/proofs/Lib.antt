@@ -7,6 +7,7 @@ pub mod Forked
 pub mod GrowLemmas
 pub mod LeafLemmas
 pub mod NewLemmas
+pub mod OpenLemmas
 pub mod PageLemmas
 pub mod PartLemmas
 pub mod ReachLemmas

@@ -11,9 +11,9 @@ use Rattle.frames.proofs.HolderLemmas.{among-none, count_of-first, holders-free,
 use Rattle.pagetable.specs.Tree.{HasTable}
 use Rattle.pagetable.proofs.Beside.{table_at-same, lookup_of-same}
 use Rattle.pagetable.proofs.LookupLemmas.{lookup-sound}
-use Rattle.unixmodel.specs.Memory.{Page}
+use Rattle.unixmodel.specs.Memory.{Page, Perm}
 use Rattle.vm.specs.declared.Space.{Space}
-use Rattle.vm.specs.Dense.{frame_at, marks_at, page_at, page_with, pages_below, frames_below, tables_below, held, IsDense, OwnsFrames}
+use Rattle.vm.specs.Dense.{frame_at, marks_at, page_at, page_with, pages_below, frames_below, read_below, tables_below, held, IsDense, OwnsFrames}
 use Rattle.vm.proofs.DenseLemmas.{count-held, page-held, pages-apart, table-held}
 use Rattle.vm.proofs.GrowLemmas.{IsDense-same, held-same, frame_at-same, marks_at-same}
 use Rattle.vm.proofs.PageLemmas.{length-pages, get_or-pages}
@@ -70,6 +70,10 @@ space-stays m k r t n s is w private =
       },
     )
 
+-- the leaves of its pages are read as before
+pub reads-stay : (m k : List (List ℕ)) (r t n : ℕ) → IsDense m r t n → ((f : ℕ) → count_of f (held m r t n) ≤ 1) → Writes m k r t n → (read : ℕ → Perm) → read_below read k r n ≡ read_below read m r n
+reads-stay m k r t n is once w read = read_below-same read m k r n (λ p h. lookup_of-same m k r (tables-stay m k r t n is once w) p)
+
 -- the space stands where only its pages and its trap frame are written, and those alone that it alone holds
 pub stands : (m k : List (List ℕ)) (s : Space) → IsMapped m s → IsOnce m s → Writes m k s.root.0 s.trap.0 (pages_in s.size) → ((free : Frames) → IsSpace m s free → (f : ℕ) → further_at free f ≢ 0 → frame_of k f ≡ frame_of m f) → Stands m k s
 stands m k s is once w private =
@@ -81,8 +85,8 @@ stands m k s is once w private =
       count = w.count;
       mapped = IsDense-same m k r t n is w.count tables;
       once = λ f. omega (arith, once f, ap (count_of f) (held-stays m k r t n is once w));
-      mapping = read_below-same right_marks m k r n (λ p h. lookup_of-same m k r tables p);
-      entries = read_below-same entry_marks m k r n (λ p h. lookup_of-same m k r tables p);
+      mapping = reads-stay m k r t n is once w right_marks;
+      entries = reads-stay m k r t n is once w entry_marks;
       frames = held-stays m k r t n is once w;
       space = λ free h. (space-stays m k r t n free h w (private free h)).0;
       trades = λ free h. (space-stays m k r t n free h w (private free h)).1;

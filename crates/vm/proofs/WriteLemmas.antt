@@ -4,16 +4,16 @@ use Rattle.std.specs.Prelude.{slice_get}
 use Rattle.std.proofs.lemmas.Bool.{cases_lt}
 use Rattle.std.proofs.Math.Seq.{take-suc-set}
 use Rattle.std.proofs.lemmas.List.{drop_all, drop-set-lt, take_all, take-append-drop}
-use Rattle.unixmodel.specs.Memory.{Page, Memory, overwrite, write_from, write_bytes}
+use Rattle.unixmodel.specs.Memory.{Page, Perm, Memory, overwrite, write_from, write_bytes}
 use Rattle.frames.specs.declared.Frames.{Frames}
 use Rattle.frames.specs.Free.{further_at}
 use Rattle.ram.specs.Memory.{frame_of, put, put_bytes}
 use Rattle.vm.specs.declared.Space.{Space}
-use Rattle.vm.specs.Dense.{frame_at, marks_at, page_at, page_with}
+use Rattle.vm.specs.Dense.{frame_at, marks_at, page_at, page_with, read_below}
 use Rattle.vm.specs.Reach.{written}
 use Rattle.vm.proofs.ReachLemmas.{item-at}
 use Rattle.vm.specs.Space.{pages_in, IsMapped, IsOnce, IsSpace, pages_of, Reframes}
-use Rattle.vm.proofs.StoreLemmas.{Writes-page, pages-stored, private-set, space-stays, trap-apart}
+use Rattle.vm.proofs.StoreLemmas.{Writes-page, pages-stored, private-set, reads-stay, space-stays, trap-apart}
 
 write_from-none : (ps : List Page) (at : ℕ) → write_from ps at [] ≡ ps
 write_from-none [] at = refl
@@ -74,6 +74,11 @@ put-reframes m k s q p at bs is low sole e =
     let w = put_bytes (frame_of m f) at bs in
     let both = space-stays m k r s.trap.0 n q is (Writes-page m k r s.trap.0 n p w low e) (private-set m k q f w sole e) in
     record { space = both.0; registers = rw e (get_or-set_other m f s.trap.0 w [] (trap-apart m r s.trap.0 n p is.once low)); trades = both.1 }
+
+-- the leaves are read as before
+pub put-reads : (m k : List (List ℕ)) (s : Space) (p at : ℕ) (bs : List ℕ) → IsMapped m s → IsOnce m s → p < pages_in s.size → k ≡ put m (frame_at m s.root.0 p) at bs → (read : ℕ → Perm) → read_below read k s.root.0 (pages_in s.size) ≡ read_below read m s.root.0 (pages_in s.size)
+unfolding put
+put-reads m k s p at bs is once low e = reads-stay m k s.root.0 s.trap.0 (pages_in s.size) is once (Writes-page m k s.root.0 s.trap.0 (pages_in s.size) p (put_bytes (frame_of m (frame_at m s.root.0 p)) at bs) low e)
 
 pub put-written : (m k : List (List ℕ)) (s : Space) (p at : ℕ) (bs : List ℕ) → IsMapped m s → IsOnce m s → p < pages_in s.size → k ≡ put m (frame_at m s.root.0 p) at bs
     → pages_of k s ≡ slice_set (pages_of m s) p (written (page_at m s.root.0 p) at bs)

@@ -54,6 +54,10 @@ mapping_below m r n = read_below right_marks m r n
 abbrev pub entries_below : List (List ℕ) → ℕ → ℕ → List Mapped
 entries_below m r n = read_below entry_marks m r n
 
+-- at each page from one on, of those below n, a store goes through where a program may write by right
+abbrev pub IsOpenFrom : List (List ℕ) → ℕ → ℕ → ℕ → Type 0
+IsOpenFrom m r n first = (p : ℕ) → first ≤ p → p < n → is_open (marks_at m r p) ≡ (right_marks (marks_at m r p)).writable
+
 -- the pages below n
 abbrev pub pages_below : List (List ℕ) → ℕ → ℕ → Memory
 pages_below m r n = memory_of m (mapping_below m r n)

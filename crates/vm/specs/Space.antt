@@ -3,7 +3,7 @@ use Rattle.std.specs.Prelude.{◌≡◌, ◌≤◌, ℕ, ◌+◌, ◌/◌, List,
 use Rattle.ram.specs.Memory.{frame_of}
 use Rattle.frames.specs.declared.Frames.{Frames}
 use Rattle.vm.specs.declared.Space.{Space}
-use Rattle.vm.specs.Dense.{mapping_below, entries_below, held, IsDense, OwnsFrames}
+use Rattle.vm.specs.Dense.{mapping_below, entries_below, held, IsDense, IsOpenFrom, OwnsFrames}
 use Rattle.frames.specs.Holders.{count_of, Trades}
 use Rattle.sv39.specs.Mapping.{Mapped, memory_of}
 use Rattle.unixmodel.specs.Memory.{Memory}
@@ -47,6 +47,11 @@ holds m s = held m s.root.0 s.trap.0 (pages_in s.size)
 -- no frame stands twice in what the space holds: no two pages have the same, and none of them is a table or the trap frame
 abbrev pub IsOnce : List (List ℕ) → Space → Type 0
 IsOnce m s = (f : ℕ) → count_of f (holds m s) ≤ 1
+
+-- A space's pages from one on stay open where they are, and those that come behind it are open: there a store goes through
+-- where the program may write by right.
+abbrev pub StaysOpen : List (List ℕ) → List (List ℕ) → Space → Space → Type 0
+StaysOpen m k old new = (first : ℕ) → IsOpenFrom m old.root.0 (pages_in old.size) first → IsOpenFrom k new.root.0 (pages_in new.size) first
 
 -- a space of which no more was written than the bytes of its pages and its trap frame
 pub record Stands (m k : List (List ℕ)) (s : Space) : Type 0 where

@@ -7,7 +7,7 @@ ghost use Rattle.unixmodel.specs.declared.trap.Access.TheVariants.{Load, Store};
 ghost use Rattle.unixmodel.specs.Memory.{permits, reach, can_write, read_bytes, string_at, write_bytes};
 ghost use Rattle.vm.specs.Leaf.{marks_from, mapped_as, right_marks};
 ghost use Rattle.vm.specs.Reach.{run_of, piece_at, short_string};
-ghost use Rattle.vm.specs.Space.{pages_in, IsMapped, IsOnce, IsSpace, entries_of, mapping_of, pages_of, Reframes};
+ghost use Rattle.vm.specs.Space.{pages_in, IsMapped, IsOnce, IsSpace, entries_of, mapping_of, pages_of, Reframes, StaysOpen};
 
 use crate::{Perm, RIGHT, Space, VmFault, pages_in};
 use bitflags::Flags;
@@ -211,6 +211,7 @@ impl Space {
         ensures count { result ≡ min (4096 - address % 4096) (length bytes.now) }
         ensures rest { write_bytes (pages_of ram.new self.now) (address + result) (drop result bytes.now) ≡ write_bytes (pages_of ram.old self.now) address bytes.now }
         ensures frames { Reframes ram.old ram.new self.now frames.old frames.new }
+        ensures opens { StaysOpen ram.old ram.new self.now self.now }
     {
         let at = (address % 4096) as usize;
         let len = (4096 - at).min(bytes.len());
@@ -227,6 +228,7 @@ impl Space {
         requires inside { (i : ℕ) → i < length bytes.now → (address + i) / 4096 < pages_in self.now.size }
         ensures written { pages_of ram.new self.now ≡ write_bytes (pages_of ram.old self.now) address bytes.now }
         ensures frames { Reframes ram.old ram.new self.now frames.old frames.new }
+        ensures opens { StaysOpen ram.old ram.new self.now self.now }
     {
         let mut done = 0;
         while done < bytes.len() {
@@ -250,6 +252,7 @@ impl Space {
         ensures only { OnErr result (IsErrOf result VmFault.BadAddress) }
         ensures unchanged { OnErr result ((ram.new ≡ ram.old) × (frames.new ≡ frames.old)) }
         ensures frames { Reframes ram.old ram.new self.now frames.old frames.new }
+        ensures opens { StaysOpen ram.old ram.new self.now self.now }
     {
         ram.frames_are_whole();
         if !self.can_write(ram, address, bytes.len() as u64) {

@@ -15,10 +15,10 @@ ghost use Rattle.ram.specs.Memory.{frame_of};
 ghost use Rattle.frames.specs.Free.{among, free_of, free_count, IsFreeList};
 ghost use Rattle.frames.specs.Holders.{Trades, holders_of};
 ghost use Rattle.pagetable.specs.Tree.{IsLeafMarks};
-ghost use Rattle.vm.specs.Dense.{IsDense, OwnsFrames, frame_at, frames_for, held, page_with, pages_below, read_below};
+ghost use Rattle.vm.specs.Dense.{IsDense, OwnsFrames, frame_at, frames_for, held, marks_at, page_with, pages_below, read_below};
 ghost use Rattle.unixmodel.specs.Memory.{Perm as Rights};
 ghost use Rattle.vm.specs.Leaf.{marks_from, user_leaf, IsUserLeaf};
-ghost use Rattle.vm.specs.Space.{pages_in, max_size, IsSpace, entries_of, mapping_of, pages_of, registers_of, holds};
+ghost use Rattle.vm.specs.Space.{pages_in, max_size, IsSpace, entries_of, mapping_of, pages_of, registers_of, holds, StaysOpen};
 ghost use Rattle.unixmodel.specs.Memory.{zero_page};
 
 mod access;
@@ -178,6 +178,7 @@ impl Space {
         ensures held { OwnsFrames ram.new self.now.root.0 self.now.trap.0 (n + 1) frames.new }
         ensures pages { pages_below ram.new self.now.root.0 (n + 1) ≡ pages_below ram.old self.now.root.0 n ++ (page_with (replicate 4096 0) marks.0 ∷ []) }
         ensures mapping { (read : ℕ → Rights) (k : ℕ) → k ≤ n → read_below read ram.new self.now.root.0 k ≡ read_below read ram.old self.now.root.0 k }
+        ensures marks { marks_at ram.new self.now.root.0 n ≡ marks.0 }
         ensures trap { frame_of ram.new self.now.trap.0 ≡ frame_of ram.old self.now.trap.0 }
         ensures trades { Trades ram.old ram.new frames.old frames.new (held ram.old self.now.root.0 self.now.trap.0 n) (held ram.new self.now.root.0 self.now.trap.0 (n + 1)) }
         ensures room { frames_for (n + 1) + free_count ram.new frames.new ≡ frames_for n + free_count ram.old frames.old }
@@ -208,6 +209,7 @@ impl Space {
         ensures registers { IfOk result (λ c. registers_of ram.new c ≡ replicate 4096 0) }
         ensures source { IsSpace ram.new self.now frames.new }
         ensures kept { (pages_of ram.new self.now ≡ pages_of ram.old self.now) × (registers_of ram.new self.now ≡ registers_of ram.old self.now) }
+        ensures frames { (p : ℕ) → p < pages_in self.now.size → frame_at ram.new self.now.root.0 p ≡ frame_at ram.old self.now.root.0 p }
         ensures shared { IfOk result (λ c. (p : ℕ) → p < pages_in self.now.size → frame_at ram.new c.root.0 p ≡ frame_at ram.old self.now.root.0 p) }
         ensures holders { OnOk result ((p : ℕ) → p < pages_in self.now.size → holders_of ram.new frames.new (frame_at ram.old self.now.root.0 p) ≡ holders_of ram.old frames.old (frame_at ram.old self.now.root.0 p) + 1) }
         ensures full { IsErrOf result VmFault.Frames ↔ free_count ram.old frames.old < frames_for (pages_in self.now.size) }
@@ -229,7 +231,8 @@ impl Space {
         }
     }
 
-    /// Adds so many bytes: pages that come are all 0 and have these marks.
+    /// Adds so many bytes: pages that come are all 0 and have these marks, and a store goes through at them where those
+    /// permit it.
     ///
     /// `TooLarge` where the size would pass `MAX_SIZE`; if it wouldn't, `Frames` where fewer frames are
     /// free than the pages and their tables need. The cost goes by the pages that come alone.
@@ -246,6 +249,7 @@ impl Space {
         ensures pages { OnOk result (pages_of ram.new self.new ≡ pages_of ram.old self.old ++ replicate (pages_in (self.old.size + bytes) - pages_in self.old.size) (zero_page (marks_from perm))) }
         ensures mapping { OnOk result (take (pages_in self.old.size) (mapping_of ram.new self.new) ≡ mapping_of ram.old self.old) }
         ensures entries { OnOk result (take (pages_in self.old.size) (entries_of ram.new self.new) ≡ entries_of ram.old self.old) }
+        ensures opens { StaysOpen ram.old ram.new self.old self.new }
         ensures root { self.new.root ≡ self.old.root }
         ensures registers { registers_of ram.new self.new ≡ registers_of ram.old self.old }
         ensures large { IsErrOf result VmFault.TooLarge ↔ max_size < self.old.size + bytes }
@@ -311,6 +315,7 @@ impl Space {
         ensures pages { pages_of ram.new self.new ≡ take (pages_in (self.old.size - bytes)) (pages_of ram.old self.old) }
         ensures mapping { mapping_of ram.new self.new ≡ take (pages_in (self.old.size - bytes)) (mapping_of ram.old self.old) }
         ensures entries { entries_of ram.new self.new ≡ take (pages_in (self.old.size - bytes)) (entries_of ram.old self.old) }
+        ensures opens { StaysOpen ram.old ram.new self.old self.new }
         ensures root { self.new.root ≡ self.old.root }
         ensures registers { registers_of ram.new self.new ≡ registers_of ram.old self.old }
         ensures trades { Trades ram.old ram.new frames.old frames.new (holds ram.old self.old) (holds ram.new self.new) }

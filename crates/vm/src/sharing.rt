@@ -4,14 +4,14 @@
 //! open page's frame has one holder. Before a page is written whose frame others hold too, it gets a frame of its own with
 //! the same bytes: what the others see stays, and there always is a free frame for it.
 
-ghost use Rattle.std.specs.Prelude.{◌≡◌, ◌≤◌, ◌<◌, ◌+◌, ℕ, true};
+ghost use Rattle.std.specs.Prelude.{◌≡◌, ◌≢◌, ◌≤◌, ◌<◌, ◌+◌, ℕ, true};
 ghost use Rattle.frames.specs.Free.{free_count, further_at};
 ghost use Rattle.frames.specs.Holders.{count_of, holders_of};
 ghost use Rattle.pagetable.specs.Tree.{IsLeafMarks};
 ghost use Rattle.vm.specs.Dense.{frame_at, frames_for, marks_at};
 ghost use Rattle.vm.specs.Fork.{IsMore, IsPart, IsSoFar};
 ghost use Rattle.vm.specs.Leaf.{IsUserLeaf, is_open, right_marks, user_leaf};
-ghost use Rattle.vm.specs.Space.{IsRearranged, IsSpace, holds, pages_in};
+ghost use Rattle.vm.specs.Space.{IsRearranged, IsSpace, StaysOpen, holds, pages_in};
 
 use crate::Space;
 use crate::access::perm_of;
@@ -41,6 +41,7 @@ impl Space {
         ensures sole { further_at frames.new result.0 ≡ 0 }
         ensures frame { frame_at ram.new self.now.root.0 page ≡ result.0 }
         ensures marks { marks_at ram.new self.now.root.0 page ≡ leaf.0 }
+        ensures others { (p : ℕ) → p < pages_in self.now.size → p ≢ page → marks_at ram.new self.now.root.0 p ≡ marks_at ram.old self.now.root.0 p }
     {
         ram.frames_are_whole();
         let own = frames.split(ram, frame);
@@ -62,6 +63,7 @@ impl Space {
         ensures same { IsRearranged ram.old ram.new self.now frames.now frames.now }
         ensures frame { frame_at ram.new self.now.root.0 page ≡ frame.0 }
         ensures marks { marks_at ram.new self.now.root.0 page ≡ leaf.0 }
+        ensures others { (p : ℕ) → p < pages_in self.now.size → p ≢ page → marks_at ram.new self.now.root.0 p ≡ marks_at ram.old self.now.root.0 p }
         ensures frames { (p : ℕ) → p < pages_in self.now.size → frame_at ram.new self.now.root.0 p ≡ frame_at ram.old self.now.root.0 p }
         ensures held { (f : ℕ) → count_of f (holds ram.new self.now) ≡ count_of f (holds ram.old self.now) }
     {
@@ -78,6 +80,7 @@ impl Space {
         ensures sole { further_at frames.new result.0 ≡ 0 }
         ensures frame { frame_at ram.new self.now.root.0 page ≡ result.0 }
         ensures marks { marks_at ram.new self.now.root.0 page ≡ user_leaf (right_marks (marks_at ram.old self.now.root.0 page)) true }
+        ensures opens { StaysOpen ram.old ram.new self.now self.now }
         ensures kept { further_at frames.old (frame_at ram.old self.now.root.0 page) ≡ 0 → result.0 ≡ frame_at ram.old self.now.root.0 page }
     {
         ram.frames_are_whole();

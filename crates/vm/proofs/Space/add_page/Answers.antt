@@ -1,6 +1,7 @@
 use Rattle.std.proofs.Common.{arith, ap, ◌∙◌, replicate, get_or-set_same}
 use Rattle.ram.specs.Memory.{frame_of}
 use Rattle.pagetable.proofs.TreeLemmas.{free-first}
+use Rattle.vm.proofs.GrowLemmas.{marks_at-is}
 use Rattle.vm.proofs.StepLemmas.{OwnsFrames-paged, IsTaken, IsTaken-set}
 use Rattle.vm.proofs.Added.{IsBefore}
 use Rattle.vm.proofs.Taken.{taken-before, taken-fits, taken-grown}
@@ -32,4 +33,4 @@ returns c =
     let g = taken-grown c.args.ram.now c.zero.new.self c.map.new.ram _ _ _ _ _ (replicate 4096 0) _ _ _ c.requires.held (taken z) c.requires.small
     (ap (λ m. frame_of m c.in-Some.frame.0) c.zero.ensures ∙ get_or-set_same c.args.ram.now c.in-Some.frame.0 (replicate 4096 0) _ inside)
     (record { leaf = c.requires.user; inserts = c.in-Ok.ensures.mapped; adds = c.in-Ok.ensures.adds; tidy = c.in-Ok.ensures.tidy (before z).space.dense.tidy; paged = c.in-Ok.ensures.paged; keeps = c.in-Ok.ensures.keeps; extra = c.in-Ok.ensures.extra }) in
-    record { held = g.space; pages = g.pages; mapping = g.mapping; trap = g.trap; trades = g.trades; room = g.room }
+    record { held = g.space; pages = g.pages; mapping = g.mapping; marks = marks_at-is c.map.new.ram _ _ _ _ c.in-Ok.ensures.mapped.changed; trap = g.trap; trades = g.trades; room = g.room }

@@ -1,4 +1,4 @@
-use Rattle.std.proofs.Common.{ap, arith, refl, rules, ◌∙◌}
+use Rattle.std.proofs.Common.{ap, arith, refl, rules, sym, ◌∙◌}
 use Rattle.vm.specs.Dense.{frames_for}
 use Rattle.vm.proofs.Forked.{forked, part-room, part-start}
 use Rattle.vm.proofs.Space.copy.Goals as goal
@@ -23,6 +23,7 @@ returns c =
       registers = c.share_pages.ensures.all.trap ∙ c.in-Ok.ensures.registers;
       source = f.parent;
       kept = (f.kept, f.registers);
+      frames = λ p h. sym (c.share_pages.ensures.all.part.shared p h) ∙ f.shared p h;
       shared = f.shared;
       holders = f.holders;
       full = (search rules, λ less. absurd (omega (arith, less, c.free.ensures c.args.ram.now, c.frames_for.ensures, ap frames_for c.pages_in.ensures)));

@@ -13,6 +13,7 @@ loop-done-init c =
       within = omega arith;
       rest = ap (λ at. write_bytes (pages_of c.args.ram.now c.args.self.now) at c.args.bytes.now) start;
       frames = reframes-none c.args.ram.now c.args.self.now c.args.frames.now c.requires.space;
+      opens = λ first h. h;
     }
 
 pub overflow_add-address : goal.overflow_add-address
@@ -40,6 +41,7 @@ loop-done-preserved c =
           ∙ ap (write_bytes (pages_of c.write_page-done.new.ram c.args.self.now) (c.args.address + d + n)) (sym (drop-drop n d bs))
           ∙ (rw left at e.rest) ∙ i.rest;
       frames = reframes-twice c.args.ram.now c.loop-done.ram c.write_page-done.new.ram c.args.self.now c.args.frames.now c.loop-done.frames c.write_page-done.new.frames i.frames e.frames;
+      opens = λ first h. e.opens first (i.opens first h);
     }
 
 pub returns : goal.returns
@@ -47,4 +49,4 @@ returns c =
     let i = c.loop-done.invariant in
     let none : drop c.loop-done.done c.args.bytes.now ≡ [] = drop_all c.loop-done.done c.args.bytes.now (omega arith) in
     let write = write_bytes (pages_of c.loop-done.ram c.args.self.now) (c.args.address + c.loop-done.done) in
-    record { written = sym (write-none (pages_of c.loop-done.ram c.args.self.now) (c.args.address + c.loop-done.done)) ∙ ap write (sym none) ∙ i.rest; frames = i.frames }
+    record { written = sym (write-none (pages_of c.loop-done.ram c.args.self.now) (c.args.address + c.loop-done.done)) ∙ ap write (sym none) ∙ i.rest; frames = i.frames; opens = i.opens }

@@ -1,6 +1,6 @@
 use Rattle.std.proofs.Common.{◌≡◌, ◌≤◌, ◌+◌, ◌-◌, length, drop}
 use Rattle.unixmodel.specs.Memory.{write_bytes}
-use Rattle.vm.specs.Space.{pages_of, Reframes}
+use Rattle.vm.specs.Space.{pages_of, Reframes, StaysOpen}
 use Rattle.vm.proofs.Space.fill.Given as goal
 
 abbrev pub invariant-loop-done : goal.invariant-loop-done
@@ -8,6 +8,7 @@ invariant-loop-done l = record {
   within : l.done ≤ length l.bytes;
   rest : write_bytes (pages_of l.ram l.self) (l.address + l.done) (drop l.done l.bytes) ≡ write_bytes (pages_of l.initial.ram l.self) l.address l.bytes;
   frames : Reframes l.initial.ram l.ram l.self l.initial.frames l.frames;
+  opens : StaysOpen l.initial.ram l.ram l.self l.self;
 }
 
 abbrev pub decreases-loop-done : goal.decreases-loop-done

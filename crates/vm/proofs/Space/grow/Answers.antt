@@ -6,6 +6,7 @@ use Rattle.vm.proofs.DenseLemmas.{length-held}
 use Rattle.unixmodel.specs.Memory.{Perm, zero_page}
 use Rattle.vm.specs.Leaf.{entry_marks, marks_from, right_marks}
 use Rattle.vm.proofs.LeafLemmas.{leaf-user, leaf-valid, page-zero}
+use Rattle.vm.proofs.OpenLemmas.{open-fewer, open-more}
 use Rattle.vm.proofs.PageLemmas.{take-mapping}
 use Rattle.vm.specs.Space.{pages_in}
 use Rattle.vm.proofs.Space.grow.Goals as goal
@@ -20,6 +21,7 @@ loop-page-init c =
       space = rw same c.requires;
       pages = rw none (sym (append-nil (pages_below c.args.ram.now c.args.self.now.root.0 n)));
       mapping = λ read. refl;
+      opens = λ first h. h;
       trap = refl;
       trades = Trades-none c.args.ram.now c.args.frames.now (held c.args.ram.now c.args.self.now.root.0 c.args.self.now.trap.0 n);
       room = omega (arith, c.frames_for.ensures, c.frames_for-2.ensures, c.if-frames_for-from.false, c.free.ensures c.args.ram.now);
@@ -45,6 +47,7 @@ loop-page-preserved c =
       pages = c.add_page.ensures.pages ∙ ap (λ x. pages_below c.loop-page.ram c.args.self.now.root.0 p ++ (x ∷ [])) made ∙ ap (λ l. l ++ (zero ∷ [])) i.pages ∙ append_assoc (pages_below c.args.ram.now c.args.self.now.root.0 from) (replicate (p - from) zero) (zero ∷ [])
           ∙ ap (λ l. pages_below c.args.ram.now c.args.self.now.root.0 from ++ l) (rw count (replicate_more (p - from) zero));
       mapping = λ read. c.add_page.ensures.mapping read from (omega arith) ∙ i.mapping read;
+      opens = λ first h. open-more c.loop-page.ram c.add_page.new.ram c.args.self.now.root.0 p first (marks_from c.args.perm) (λ read. c.add_page.ensures.mapping read p (omega arith)) (c.add_page.ensures.marks ∙ c.leaf-leaf.ensures) (i.opens first h);
       trap = c.add_page.ensures.trap ∙ i.trap;
       trades = Trades-twice c.args.ram.now c.loop-page.ram c.add_page.new.ram c.args.frames.now c.loop-page.frames c.add_page.new.frames _ _ _ i.trades c.add_page.ensures.trades;
       room = omega (arith, i.room, c.add_page.ensures.room);
@@ -61,3 +64,9 @@ returns-clause-mapping c = front (goal.at.returns-clause-mapping c).After-loop-p
 
 pub returns-clause-entries : goal.returns-clause-entries
 returns-clause-entries c = front (goal.at.returns-clause-entries c).After-loop-page entry_marks
+
+pub returns-clause-opens : goal.returns-clause-opens
+returns-clause-opens c = λ first h.
+    let r = c.args.self.now.root.0 in
+    let was = open-fewer c.args.ram.now r (pages_in c.args.self.now.size) c.pages_in-from.result first (omega (arith, c.pages_in-from.ensures)) h in
+    open-fewer c.loop-page.ram r c.loop-page.page (pages_in (c.args.self.now.size + c.args.bytes)) first (omega (arith, c.pages_in-to.ensures)) (c.loop-page.invariant.opens first was)

@@ -1,8 +1,11 @@
 use Rattle.std.proofs.Common.{arith, ap, sym, true, ◌∙◌}
 use Rattle.frames.specs.Free.{further_at}
 use Rattle.unixmodel.specs.Memory.{Perm}
-use Rattle.vm.specs.Leaf.{user_leaf}
+use Rattle.vm.specs.Dense.{marks_at}
+use Rattle.vm.specs.Leaf.{right_marks, user_leaf}
+use Rattle.vm.specs.Space.{pages_in}
 use Rattle.vm.proofs.Remap.{IsMadeLeaf, made-leaf, page-inside-is, page-shared, page-single}
+use Rattle.vm.proofs.OpenLemmas.{open-one}
 use Rattle.vm.proofs.Space.open_page.Goals as goal
 use Rattle.vm.proofs.Space.open_page.Goals.{After-leaf-open}
 
@@ -28,3 +31,15 @@ returns-then-holders-gt1-clause-kept c = λ alone. absurd (page-shared c.args.ra
 
 pub returns-else-holders-gt1-clause-sole : goal.returns-else-holders-gt1-clause-sole
 returns-else-holders-gt1-clause-sole c = page-single _ _ _ _ _ _ _ c.requires.space c.requires.page (made (goal.at.returns-else-holders-gt1-clause-sole c).After-leaf-open).frame (omega (arith, c.holders.ensures, c.if-holders-gt1.false))
+
+pub returns-then-holders-gt1-clause-opens : goal.returns-then-holders-gt1-clause-opens
+returns-then-holders-gt1-clause-opens c = λ first h.
+    let r = c.args.self.now.root.0 in
+    let m = made (goal.at.returns-then-holders-gt1-clause-opens c).After-leaf-open in
+    open-one c.args.ram.now c.split_page.new.ram r (pages_in c.args.self.now.size) c.args.page first (right_marks (marks_at c.args.ram.now r c.args.page)) (c.split_page.ensures.marks ∙ m.made) c.split_page.ensures.others h
+
+pub returns-else-holders-gt1-clause-opens : goal.returns-else-holders-gt1-clause-opens
+returns-else-holders-gt1-clause-opens c = λ first h.
+    let r = c.args.self.now.root.0 in
+    let m = made (goal.at.returns-else-holders-gt1-clause-opens c).After-leaf-open in
+    open-one c.args.ram.now c.set_page.new.ram r (pages_in c.args.self.now.size) c.args.page first (right_marks (marks_at c.args.ram.now r c.args.page)) (c.set_page.ensures.marks ∙ m.made) c.set_page.ensures.others h

@@ -1,4 +1,5 @@
-use Rattle.vm.proofs.GrowLemmas.{frame_at-is, marks_at-is}
+use Rattle.std.proofs.Common.{arith}
+use Rattle.vm.proofs.GrowLemmas.{frame_at-is, marks_at-is, marks_at-same}
 use Rattle.vm.proofs.Remap.{page-inside-is, rearranged, remap-frames, remap-kept, remap-marks}
 use Rattle.vm.proofs.StepLemmas.{OwnsFrames-paged}
 use Rattle.vm.proofs.Space.set_page.Goals as goal
@@ -18,6 +19,7 @@ returns c =
       same = rearranged _ _ _ _ _ _ _ _ _ _ now.space now.page e;
       frame = frame_at-is _ _ _ _ _ r.inserts.changed;
       marks = marks_at-is _ _ _ _ _ r.inserts.changed;
+      others = λ p low ne. marks_at-same _ _ _ p (r.inserts.others p (omega (arith, low, now.space.dense.small)) ne);
       frames = remap-frames _ _ _ _ _ _ _ _ _ _ _ now.space now.page e;
       held = remap-kept _ _ _ _ _ _ _ _ _ _ _ now.space now.page e;
     }

@@ -1,6 +1,6 @@
-use Rattle.std.proofs.Common.{arith}
+use Rattle.std.proofs.Common.{arith, ◌∙◌}
 use Rattle.vm.specs.Space.{pages_in}
-use Rattle.vm.proofs.GrowLemmas.{frame_at-is, marks_at-is}
+use Rattle.vm.proofs.GrowLemmas.{frame_at-is, marks_at-is, marks_at-same}
 use Rattle.vm.proofs.Remap.{IsSplit, page-inside-is, rearranged, remap-split, split-count, split-inside, split-mapped, split-paged, split-sole}
 use Rattle.vm.proofs.Space.split_page.Goals as goal
 use Rattle.vm.proofs.Space.split_page.Goals.{After-copy}
@@ -29,11 +29,13 @@ pub returns : goal.returns
 returns c =
     let e = split (goal.at.returns c).After-copy in
     let r = c.remap.ensures in
-    let tidy = r.tidy (split-paged _ _ _ _ _ _ _ _ _ c.requires.space e).1 in
+    let paged = split-paged _ _ _ _ (pages_in c.args.self.now.size) _ _ _ _ c.requires.space e in
+    let tidy = r.tidy paged.1 in
     record {
       same = rearranged _ c.copy.new.self _ _ _ _ _ _ _ _ c.requires.space c.requires.page
           (remap-split _ _ _ _ _ _ _ _ _ _ _ _ c.requires.space c.requires.page e c.requires.frame c.requires.leaf c.requires.right r.inserts r.tables tidy r.paged r.keeps r.free);
       sole = split-sole _ _ _ _ _ _ c.requires.space.free e;
       frame = frame_at-is _ _ _ _ _ r.inserts.changed;
       marks = marks_at-is _ _ _ _ _ r.inserts.changed;
+      others = λ p low ne. marks_at-same _ _ _ p (r.inserts.others p (omega (arith, low, c.requires.space.dense.small)) ne ∙ paged.2 p);
     }

@@ -5,9 +5,10 @@ use Rattle.unixmodel.specs.Memory.{Memory, write_bytes}
 use Rattle.vm.specs.Dense.{page_at, read_at}
 use Rattle.vm.specs.Leaf.{right_marks}
 use Rattle.vm.specs.Space.{pages_in, mapping_of, pages_of}
+use Rattle.vm.proofs.OpenLemmas.{open-read}
 use Rattle.vm.proofs.Remap.{page-inside-is, reframes-twice}
 use Rattle.vm.proofs.WalkLaw.{get-mapping, mapped-page}
-use Rattle.vm.proofs.WriteLemmas.{put-reframes, put-written, write-page}
+use Rattle.vm.proofs.WriteLemmas.{put-reads, put-reframes, put-written, write-page}
 use Rattle.vm.proofs.Space.write_page.Goals as goal
 
 pub write_part-requires-clause-frame : goal.write_part-requires-clause-frame
@@ -39,3 +40,14 @@ returns-clause-frames c =
     let same = c.open_page-frame.ensures in
     reframes-twice c.args.ram.now z c.write_part.new.ram s c.args.frames.now q q same.same.frames
     (put-reframes z c.write_part.new.ram s q (c.args.address / 4096) (c.args.address % 4096) part same.same.frames.space c.requires.page (ap (further_at q) same.frame ∙ same.sole) (c.write_part.ensures ∙ ap (λ (f : ℕ). put z f (c.args.address % 4096) part) (sym same.frame)))
+
+pub returns-clause-opens : goal.returns-clause-opens
+returns-clause-opens c = λ first h.
+    let z = c.open_page-frame.new.ram in
+    let s = c.args.self.now in
+    let part = take c.min-len.result c.args.bytes.now in
+    let same = c.open_page-frame.ensures in
+    let is = same.same.frames.space in
+    open-read z c.write_part.new.ram s.root.0 (pages_in s.size) first
+    (put-reads z c.write_part.new.ram s (c.args.address / 4096) (c.args.address % 4096) part is.dense is.once c.requires.page (c.write_part.ensures ∙ ap (λ (f : ℕ). put z f (c.args.address % 4096) part) (sym same.frame)))
+    (same.opens first h)
