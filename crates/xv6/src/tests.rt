@@ -179,7 +179,9 @@ fn says_hi_and_ends(rt: HostRuntime) {
 }
 
 // Programs of zeros: the frames, the length, the script, standard error and status.
-static BOOTS: [(u32, usize, &str, &str, u8); 6] = [
+static BOOTS: [(u32, usize, &str, &str, u8); 8] = [
+    (64, 0, "step 1", "running\n", 0),
+    (32768, 0, "step 1", "running\n", 0),
     (256, 0, "step 1", "running\n", 0),
     (256, 0, "step 2", DEAD, 0),
     (63, 0, "", "fault 2 FrameCount\n", 1),

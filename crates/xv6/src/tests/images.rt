@@ -75,6 +75,9 @@ fn makes_an_image_of_default_size(rt: HostRuntime) {
     expect_bytes(&rt, files.image.as_slice(), 1052, &[15, 0, 0, 0]);
 }
 
+// Sizes and counts of inodes: the least of each, the greatest, and the most inodes that fit in the least size.
+static IMAGE_NUMBERS: [(u32, u32); 3] = [(32, 16), (16384, 8192), (32, 447)];
+
 static NUMBER_FAULTS: [(u32, u32); 5] = [(31, 16), (32, 15), (32, 448), (16385, 16), (16384, 8193)];
 
 #[test]
@@ -84,7 +87,10 @@ fn knows_the_numbers_of_an_image(rt: HostRuntime) {
         let job = mkfs(*size, *inodes);
         expect(&rt, &mut files, &job, "", "fault 6 Numbers\n", 1);
     }
-    expect_made(&rt, &mut files, &mkfs(32, 447), "ok 1 inodes 1 blocks\n");
+    for (size, inodes) in &IMAGE_NUMBERS {
+        let job = mkfs(*size, *inodes);
+        expect_made(&rt, &mut files, &job, "ok 1 inodes 1 blocks\n");
+    }
 }
 
 #[test]

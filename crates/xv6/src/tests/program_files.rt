@@ -90,7 +90,8 @@ fn tells_what_is_wrong_with_texts(rt: HostRuntime) {
 
 // Bytes of a program's file that are changed, what is shown of it, standard error and status. The program header has its type
 // at 64, its flags at 68, its address at 80, its size in the file at 96 and in memory at 104.
-static CHANGED: [(&[(usize, u8)], &str, &str, u8); 9] = [
+static CHANGED: [(&[(usize, u8)], &str, &str, u8); 10] = [
+    (&[(68, 4)], "", "", 0),
     (&[(68, 6)], "", "", 0),
     (&[(64, 2), (81, 1)], "", "", 0),
     (

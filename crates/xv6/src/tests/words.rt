@@ -183,8 +183,9 @@ fn tells_why_words_are_refused(rt: HostRuntime) {
     }
 }
 
-// The help of words, and what it has to name.
-static HELP: [(&[&str], &[&str]); 2] = [
+// The help of words, and what it has to name. Its ranges are those whose ends are taken and beyond which all is refused:
+// `BOOTS`, and `needs_frames` in `runs.rt`; `IMAGE_NUMBERS` and `NUMBER_FAULTS` in `images.rt`.
+static HELP: [(&[&str], &[&str]); 4] = [
     (
         &["xv6", "--help"],
         &[
@@ -194,8 +195,25 @@ static HELP: [(&[&str], &[&str]); 2] = [
     (
         &["xv6", "run", "--help"],
         &[
-            "IMAGE", "SCRIPT", "--frames", "256", "--tlb", "--save", "OUT", "/init", "keys HEX",
+            "IMAGE",
+            "SCRIPT",
+            "--frames",
+            "Frames of 4096 bytes, 64 to 32768",
+            "256",
+            "--tlb",
+            "--save",
+            "OUT",
+            "/init",
+            "keys HEX",
         ],
+    ),
+    (
+        &["xv6", "flat", "--help"],
+        &["Frames of 4096 bytes, 64 to 32768"],
+    ),
+    (
+        &["xv6", "mkfs", "--help"],
+        &["Blocks of 1024 bytes, 32 to 16384", "Inodes, 16 to 8192"],
     ),
 ];
 
