@@ -1,7 +1,7 @@
 //! The disk that a machine leaves.
 use crate::play::Act::{Answer, Halts, Steps};
 use crate::play::{
-    Act, EXIT, GETPID, MKDIR, MKNOD, NEXT_CALL, Program, ROOM, WRITE, holds_at, saved,
+    Act, EXIT, GETPID, MKDIR, MKNOD, NEXT_CALL, OPEN, Program, ROOM, WRITE, holds_at, saved,
 };
 use image::{Entry, Manifest, Summary, Thing, check, make};
 use machine::Halt;
@@ -10,10 +10,20 @@ use std::process::Abort;
 use sv39::{Plain, Tlb, Translate};
 use translators::Noting;
 
-// A path, and the numbers of the device that it names; a directory has none.
-type Name<'a> = (&'a [u8], Option<(u16, u16)>);
+// What a path names.
+#[derive(Clone, Copy)]
+enum Named {
+    Folder,
+    // A file without bytes.
+    Empty,
+    // A device, by its major and minor.
+    Device(u16, u16),
+}
 
-const CONSOLE: Name<'static> = (b"/console", Some((1, 0)));
+// A path, and what it names.
+type Name<'a> = (&'a [u8], Named);
+
+const CONSOLE: Name<'static> = (b"/console", Named::Device(1, 0));
 
 // What an image of the root and the console uses.
 const FLAT: Summary = Summary {
@@ -23,11 +33,12 @@ const FLAT: Summary = Summary {
 
 fn manifest(alloc: Global, names: &[Name<'_>]) -> Result<Manifest, AllocError> {
     let mut entries = Vec::new(alloc);
-    for (path, device) in names {
+    for (path, named) in names {
         let path = Vec::from_slice(alloc, path)?;
-        let thing = match *device {
-            Some((major, minor)) => Thing::Device { major, minor },
-            None => Thing::Directory,
+        let thing = match *named {
+            Named::Folder => Thing::Directory,
+            Named::Empty => Thing::File(Vec::new(alloc)),
+            Named::Device(major, minor) => Thing::Device { major, minor },
         };
         entries.push(Entry { path, thing })?;
     }
@@ -87,23 +98,31 @@ fn saves_once_process_1_has_ended(rt: HostRuntime) {
     leaves(&rt, Program::Calls(&CALLS), &ACTS, &[CONSOLE], FLAT);
 }
 
-// The names stand behind the calls.
+// The names stand behind the calls. Each byte is as the maker of images has it, also the numbers of a file that is no device.
 #[test]
 fn has_what_was_made(rt: HostRuntime) {
-    const CALLS: [[u64; 4]; 3] = [
-        [96, 2, 3, MKNOD],
-        [104, 0, 0, MKDIR],
-        [b'n' as u64, b'm' as u64, 0, 0],
+    const CALLS: [[u64; 4]; 4] = [
+        [128, 2, 3, MKNOD],
+        [136, 0, 0, MKDIR],
+        [144, 0x201, 0, OPEN],
+        [b'n' as u64, b'm' as u64, b'f' as u64, 0],
     ];
-    const ACTS: [Act; 4] = [
+    const ACTS: [Act; 6] = [
         Steps(NEXT_CALL),
         Answer(1, 0),
         Steps(NEXT_CALL),
         Answer(1, 0),
+        Steps(NEXT_CALL),
+        Answer(1, 3),
     ];
-    const NAMES: [Name; 3] = [CONSOLE, (b"/n", Some((2, 3))), (b"/m", None)];
+    const NAMES: [Name; 4] = [
+        CONSOLE,
+        (b"/n", Named::Device(2, 3)),
+        (b"/m", Named::Folder),
+        (b"/f", Named::Empty),
+    ];
     const USED: Summary = Summary {
-        inodes: 4,
+        inodes: 5,
         blocks: 2,
     };
     leaves(&rt, Program::Calls(&CALLS), &ACTS, &NAMES, USED);
