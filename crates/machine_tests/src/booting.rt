@@ -9,7 +9,7 @@ use machine::{BootFault, Halt, Machine, Seen, boot};
 use ram::{FRAME_SIZE, FrameNo, Ram};
 use std::alloc::Global;
 use sv39::{Plain, Tlb, Translate};
-use translators::Noting;
+use translators::{MOST_PAGES, Noting};
 use unixmodel::event::Event;
 
 const INIT: &[u8; 5] = b"/init";
@@ -110,7 +110,7 @@ fn init_has_no_descriptors(rt: HostRuntime) {
     holds_at(
         &rt,
         2,
-        ends(alloc, image, Noting::new(alloc, 16)) == Some(true),
+        ends(alloc, image, Noting::new(alloc, MOST_PAGES)) == Some(true),
     );
 }
 

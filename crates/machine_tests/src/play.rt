@@ -9,7 +9,7 @@ use std::io;
 use std::io::Write;
 use std::process::Abort;
 use sv39::{Plain, Tlb, Translate, walk};
-use translators::{Counting, Noting};
+use translators::{Counting, MOST_PAGES, Noting};
 use unixmodel::event::Event;
 use unixmodel::trap::Access;
 
@@ -120,9 +120,6 @@ pub(crate) const UNTOLD: u8 = 0xaa;
 
 /// How much is read at once.
 pub(crate) const MOST_READ: usize = 64;
-
-/// How many pages a translator notes that notes all pages of a program: no program here has more.
-const AHEAD: u64 = 16;
 
 /// A call: a0, a1, a2 and its number, and the row that is next where its answer is 0.
 #[derive(Clone, Copy)]
@@ -560,7 +557,14 @@ fn run_over_each(
     run_over(rt, program, Plain::new(), size, acts, text);
     run_over(rt, program, Tlb::<64>::new(), size, acts, text);
     run_over(rt, program, Noting::new(alloc, 0), size, acts, text);
-    run_over(rt, program, Noting::new(alloc, AHEAD), size, acts, text);
+    run_over(
+        rt,
+        program,
+        Noting::new(alloc, MOST_PAGES),
+        size,
+        acts,
+        text,
+    );
     let (fetches, fences) = (Cell::new(0), Cell::new(0));
     let counting = Counting::new(&fetches, &fences);
     run_over(rt, program, counting, size, acts, text);
@@ -611,7 +615,7 @@ pub(crate) fn expect_answers(
     expect_answers_over(rt, frames, Plain::new(), calls, answers);
     expect_answers_over(rt, frames, Tlb::<64>::new(), calls, answers);
     expect_answers_over(rt, frames, Noting::new(alloc, 0), calls, answers);
-    expect_answers_over(rt, frames, Noting::new(alloc, AHEAD), calls, answers);
+    expect_answers_over(rt, frames, Noting::new(alloc, MOST_PAGES), calls, answers);
     let (fetches, fences) = (Cell::new(0), Cell::new(0));
     let counting = Counting::new(&fetches, &fences);
     expect_answers_over(rt, frames, counting, calls, answers);

@@ -8,7 +8,7 @@ use machine::Halt;
 use std::alloc::{AllocError, Global};
 use std::process::Abort;
 use sv39::{Plain, Tlb, Translate};
-use translators::Noting;
+use translators::{MOST_PAGES, Noting};
 
 // What a path names.
 #[derive(Clone, Copy)]
@@ -75,7 +75,7 @@ fn leaves(
     let left = (image.as_slice(), used);
     leaves_over(rt, program, Plain::new(), acts, left);
     leaves_over(rt, program, Tlb::<64>::new(), acts, left);
-    leaves_over(rt, program, Noting::new(rt.alloc(), 16), acts, left);
+    leaves_over(rt, program, Noting::new(rt.alloc(), MOST_PAGES), acts, left);
 }
 
 #[test]

@@ -6,4 +6,4 @@ mod counting;
 mod noting;
 
 pub use crate::counting::Counting;
-pub use crate::noting::Noting;
+pub use crate::noting::{MOST_PAGES, Noting};
