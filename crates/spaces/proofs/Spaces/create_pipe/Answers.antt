@@ -2,7 +2,7 @@ use Rattle.spaces.proofs.Spaces.create_pipe.Goals as goal
 use Rattle.spaces.proofs.Piped.{over-free, piped-there}
 use Rattle.spaces.specs.Ends.{IsOpen}
 use Rattle.spaces.specs.View.{spaces_of}
-use Rattle.std.proofs.Common.{ap}
+use Rattle.std.proofs.Common.{ap, refl}
 
 pub invariant_of-self : goal.invariant_of-self
 invariant_of-self g c =
@@ -20,5 +20,5 @@ returns-in-Some-clause-done g c =
 pub returns-in-None-clause-refused : goal.returns-in-None-clause-refused
 returns-in-None-clause-refused g c =
     let i = c.self.inside in
-    let full = c.in-None.ensures.none in
-    rw (← c.self.view_is) (over-free g.T.Translate.held i c.args.q c.self.invariant c.requires.inside (rw (← c.self.view_is) at c.requires.free) full.0, ap (λ n. spaces_of (record i { frames = n })) full.1)
+    let full = c.in-None.ensures in
+    rw (← c.self.view_is) (over-free g.T.Translate.held i c.args.q c.self.invariant c.requires.inside (rw (← c.self.view_is) at c.requires.free) full.none.0 refl, ap (λ n. spaces_of (record i { frames = n })) full.unchanged)
