@@ -21,4 +21,4 @@ pub returns-in-None-clause-refused : goal.returns-in-None-clause-refused
 returns-in-None-clause-refused g c =
     let i = c.self.inside in
     let full = c.in-None.ensures in
-    rw (← c.self.view_is) (over-free g.T.Translate.held i c.args.q c.self.invariant c.requires.inside (rw (← c.self.view_is) at c.requires.free) full.none.0 refl, ap (λ n. spaces_of (record i { frames = n })) full.unchanged)
+    rw (← c.self.view_is) (over-free g.T.Translate.held i c.args.q c.self.invariant c.requires.inside (rw (← c.self.view_is) at c.requires.free) (full.none.0 refl), ap (λ n. spaces_of (record i { frames = n })) full.unchanged)
