@@ -1,8 +1,9 @@
 //! How often the device is read and written, and what it has then.
 
-use blockdev::{BlockDev, FlakyDisk, MemDisk};
+use blockdev::{BlockDev, FailAt, MemDisk};
 use cache::Cache;
 use std::alloc::Allocator;
+use std::num::NonZeroU64;
 use std::process::Abort;
 
 /// An empty disk of so many blocks.
@@ -58,7 +59,7 @@ enum Act {
 // All accesses are good.
 const NEVER: u64 = u64::MAX;
 
-fn fills(cache: &mut Cache<FlakyDisk>, n: usize, count: usize, value: u8) -> bool {
+fn fills(cache: &mut Cache<FailAt<MemDisk>>, n: usize, count: usize, value: u8) -> bool {
     for at in 0..count {
         if !put(cache, n, at, value) {
             return false;
@@ -67,7 +68,7 @@ fn fills(cache: &mut Cache<FlakyDisk>, n: usize, count: usize, value: u8) -> boo
     true
 }
 
-fn reads_all(cache: &mut Cache<FlakyDisk>, from: usize, to: usize) -> bool {
+fn reads_all(cache: &mut Cache<FailAt<MemDisk>>, from: usize, to: usize) -> bool {
     for n in from..to {
         if byte(cache, n, 0).is_none() {
             return false;
@@ -76,7 +77,7 @@ fn reads_all(cache: &mut Cache<FlakyDisk>, from: usize, to: usize) -> bool {
     true
 }
 
-fn flushes(cache: &mut Cache<FlakyDisk>, count: usize) -> bool {
+fn flushes(cache: &mut Cache<FailAt<MemDisk>>, count: usize) -> bool {
     for _ in 0..count {
         if cache.flush().is_err() {
             return false;
@@ -86,7 +87,7 @@ fn flushes(cache: &mut Cache<FlakyDisk>, count: usize) -> bool {
 }
 
 // Does it, and tells whether that gives what is expected.
-fn does(cache: &mut Cache<FlakyDisk>, act: Act) -> bool {
+fn does(cache: &mut Cache<FailAt<MemDisk>>, act: Act) -> bool {
     match act {
         Act::Put(n, value, is_good) => put(cache, n, 0, value) == is_good,
         Act::Fill(n, count, value) => fills(cache, n, count, value),
@@ -100,12 +101,12 @@ fn does(cache: &mut Cache<FlakyDisk>, act: Act) -> bool {
 
 // An empty disk of so many blocks after these acts. One access fails, after so many good ones.
 fn after(rt: &(impl Abort + AllocGlobal), blocks: usize, good: u64, acts: &[Act]) -> MemDisk {
-    let device = FlakyDisk::new(disk_of(rt, blocks), good);
+    let device = FailAt::new(disk_of(rt, blocks), NonZeroU64::MIN.saturating_add(good));
     let mut cache = Cache::new(rt.alloc(), device).expect(rt, "memory");
     for act in acts {
         assert!(rt; does(&mut cache, *act));
     }
-    let disk = cache.into_device().into_disk();
+    let disk = cache.into_device().into_inner();
     assert!(rt; disk.bytes().len() == blocks.saturating_mul(1024));
     disk
 }

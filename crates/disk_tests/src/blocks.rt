@@ -7,7 +7,7 @@ use crate::volume::{SMALL, disk_of};
 use balloc::{
     BallocFault, first_clear, format, give_block, give_inode, take_block, take_inode, take_two,
 };
-use blockdev::FlakyDisk;
+use blockdev::{FailAt, MemDisk};
 use cache::Cache;
 use layout::Geometry;
 use std::process::Abort;
@@ -16,7 +16,7 @@ use std::process::Abort;
 type Taken = (usize, (usize, usize, (usize, usize)));
 
 // An inode is taken and given back.
-fn use_inode(disk: &mut Cache<FlakyDisk>, geometry: Geometry) -> Result<usize, BallocFault>
+fn use_inode(disk: &mut Cache<FailAt<MemDisk>>, geometry: Geometry) -> Result<usize, BallocFault>
     requires sound { IsSound geometry disk.old.blocks }
     ensures sound { OnOk result (IsSound geometry disk.new.blocks) }
 {
@@ -27,7 +27,7 @@ fn use_inode(disk: &mut Cache<FlakyDisk>, geometry: Geometry) -> Result<usize, B
 
 // Blocks are taken, and the second is given back.
 fn use_blocks(
-    disk: &mut Cache<FlakyDisk>,
+    disk: &mut Cache<FailAt<MemDisk>>,
     geometry: Geometry,
 ) -> Result<(usize, usize, (usize, usize)), BallocFault>
     requires parts { HasParts geometry disk.old.blocks }
@@ -40,7 +40,7 @@ fn use_blocks(
 }
 
 // One call of each, on a new file system.
-fn use_all(disk: &mut Cache<FlakyDisk>, geometry: Geometry) -> Result<Taken, BallocFault>
+fn use_all(disk: &mut Cache<FailAt<MemDisk>>, geometry: Geometry) -> Result<Taken, BallocFault>
     requires parts { HasParts geometry disk.old.blocks }
     requires size { 32 ≤ geometry.size }
 {
@@ -87,7 +87,7 @@ fn takes_the_lowest(rt: HostRuntime) {
 }
 
 // A new file system of these numbers.
-fn formatted(rt: &(impl Abort + AllocGlobal), geometry: Geometry) -> Cache<FlakyDisk>
+fn formatted(rt: &(impl Abort + AllocGlobal), geometry: Geometry) -> Cache<FailAt<MemDisk>>
     ensures { HasParts geometry result.blocks }
 {
     let mut disk = disk_of(rt.alloc(), geometry, 0, u64::MAX).expect(rt, "a disk");

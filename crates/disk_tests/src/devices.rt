@@ -1,12 +1,20 @@
 //! A disk in memory, and one of which an access fails.
 
-use blockdev::{BlockDev, FlakyDisk, MemDisk};
+use blockdev::{BlockDev, FailAt, MemDisk};
+use std::num::NonZeroU64;
 use std::process::Abort;
 
 /// A disk of so many zeros.
 pub fn zeros(rt: &(impl Abort + AllocGlobal), count: usize) -> MemDisk {
     let bytes = vec![in rt.alloc(); 0; count].expect(rt, "memory");
     MemDisk::new(bytes).expect(rt, "whole blocks")
+}
+
+/// A disk of which one access fails, after so many good ones.
+pub fn fail_after(disk: MemDisk, good: u64) -> FailAt<MemDisk>
+    ensures { result.device ≡ disk }
+{
+    FailAt::new(disk, NonZeroU64::MIN.saturating_add(good))
 }
 
 // A disk of three blocks, of which one was written.
@@ -43,10 +51,10 @@ fn refuses_parts_of_blocks(rt: HostRuntime) {
 
 #[test]
 fn fails_once(rt: HostRuntime) {
-    let mut flaky = FlakyDisk::new(zeros(&rt, 1024), 1);
+    let mut flaky = fail_after(zeros(&rt, 1024), 1);
     assert!(rt; flaky.blocks() == 1);
     assert!(rt; flaky.write(0, &[1; 1024]).is_ok() && !flaky.has_failed());
     assert!(rt; flaky.read(0).is_err() && flaky.has_failed());
     assert!(rt; flaky.read(0).is_ok());
-    assert!(rt; flaky.into_disk().bytes().starts_with(&[1]));
+    assert!(rt; flaky.into_inner().bytes().starts_with(&[1]));
 }

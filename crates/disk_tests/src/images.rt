@@ -1,7 +1,7 @@
 //! A small image, and each fault put into it.
 
-use crate::devices::zeros;
-use blockdev::{FlakyDisk, MemDisk};
+use crate::devices::{fail_after, zeros};
+use blockdev::MemDisk;
 use image::{ImageFault, Summary, check};
 use std::process::Abort;
 
@@ -211,6 +211,6 @@ fn tells_a_short_device(rt: HostRuntime) {
 
 #[test]
 fn tells_a_failed_access(rt: HostRuntime) {
-    let mut flaky = FlakyDisk::new(zeros(&rt, 2048), 0);
+    let mut flaky = fail_after(zeros(&rt, 2048), 0);
     assert!(rt; check(rt.alloc(), &mut flaky) == Err(ImageFault::Device) && flaky.has_failed());
 }

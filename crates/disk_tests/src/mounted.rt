@@ -1,7 +1,8 @@
 //! The files of an image in use.
 
+use crate::devices::fail_after;
 use crate::maker::small;
-use blockdev::{FlakyDisk, MemDisk};
+use blockdev::MemDisk;
 use image::ImageFault;
 use inode::InodeStat;
 use mount::{mount, mount_flat};
@@ -11,7 +12,7 @@ use tree::TreeFault;
 // What is wrong with the small image where an access fails after so many good ones.
 fn fault_after(rt: &(impl Abort + AllocGlobal), good: u64) -> Option<ImageFault> {
     let disk = MemDisk::new(small(rt)).expect(rt, "whole blocks");
-    mount(rt.alloc(), FlakyDisk::new(disk, good)).err()
+    mount(rt.alloc(), fail_after(disk, good)).err()
 }
 
 #[test]

@@ -4,8 +4,9 @@ ghost use Rattle.std.specs.Prelude.{◌≡◌, ◌≢◌, All, IfOk, IsSome, fal
 ghost use Rattle.std.specs.Bool.{OnTrue};
 ghost use Rattle.tree.specs.Tree.{has_failed};
 
+use crate::devices::fail_after;
 use crate::maker::small;
-use blockdev::{FlakyDisk, MemDisk};
+use blockdev::{FailAt, MemDisk};
 use mount::mount;
 use std::marker::Model;
 use std::process::Abort;
@@ -32,7 +33,7 @@ enum Step<'a> {
 // Files in use. After a failed access they are of no more use, so each call takes them and gives them back.
 #[derive(Drop)]
 struct Used {
-    tree: Tree<FlakyDisk>,
+    tree: Tree<FailAt<MemDisk>>,
 }
 
 impl Model for Used {
@@ -69,7 +70,7 @@ impl Used {
     // The files of the small image. One access fails, after so many good ones.
     fn new(rt: &(impl Abort + AllocGlobal), good: u64) -> Used {
         let disk = MemDisk::new(small(rt)).expect(rt, "whole blocks");
-        let tree = mount(rt.alloc(), FlakyDisk::new(disk, good)).expect(rt, "files");
+        let tree = mount(rt.alloc(), fail_after(disk, good)).expect(rt, "files");
         Used { tree }
     }
 

@@ -7,8 +7,9 @@ ghost use Rattle.layout.specs.Image.{IsInode};
 ghost use Rattle.layout.specs.Sound.{HasParts, IsSound};
 ghost use Rattle.layout.specs.Super.{data_start_of};
 
+use crate::devices::fail_after;
 use balloc::{BallocFault, format, read_inode, take_inode};
-use blockdev::{BLOCK_SIZE, DeviceFault, FlakyDisk, MemDisk};
+use blockdev::{BLOCK_SIZE, DeviceFault, FailAt, MemDisk};
 use cache::Cache;
 use inode::{InodeFault, read_at, set_links, stat, truncate, write_at};
 use layout::Geometry;
@@ -27,7 +28,7 @@ pub fn disk_of(
     geometry: Geometry,
     byte: u8,
     good: u64,
-) -> Result<Cache<FlakyDisk>, DeviceFault>
+) -> Result<Cache<FailAt<MemDisk>>, DeviceFault>
     ensures parts { IfOk result (λ disk. HasParts geometry disk.blocks) }
     ensures size { OnOk result (32 ≤ geometry.size) }
 {
@@ -40,7 +41,7 @@ pub fn disk_of(
     let Ok(disk) = MemDisk::new(bytes) else {
         return Err(DeviceFault);
     };
-    let Ok(disk) = Cache::new(alloc, FlakyDisk::new(disk, good)) else {
+    let Ok(disk) = Cache::new(alloc, fail_after(disk, good)) else {
         return Err(DeviceFault);
     };
     if disk.blocks() != geometry.size {
@@ -101,7 +102,11 @@ pub fn first_wrong(
 }
 
 // Whether a number is that of an inode in use.
-fn look_up(disk: &mut Cache<FlakyDisk>, geometry: Geometry, number: usize) -> Result<(), InodeFault>
+fn look_up(
+    disk: &mut Cache<FailAt<MemDisk>>,
+    geometry: Geometry,
+    number: usize,
+) -> Result<(), InodeFault>
     requires { IsSound geometry disk.old.blocks }
     ensures inode { OnOk result (IsInode disk.new.blocks geometry.inodes number) }
     ensures same { OnOk result (disk.new.blocks ≡ disk.old.blocks) }
@@ -130,7 +135,7 @@ fn is_lost(told: &Result<(), InodeFault>) -> bool
 // looked up before it is used, so that steps can go on after a refusal.
 #[derive(Drop)]
 struct Volume {
-    disk: Cache<FlakyDisk>,
+    disk: Cache<FailAt<MemDisk>>,
     geometry: Geometry,
 }
 
@@ -148,7 +153,7 @@ impl Model for Volume {
 
 impl Volume {
     // One without files.
-    fn new(mut disk: Cache<FlakyDisk>, geometry: Geometry) -> Result<Volume, InodeFault>
+    fn new(mut disk: Cache<FailAt<MemDisk>>, geometry: Geometry) -> Result<Volume, InodeFault>
         requires parts { HasParts geometry disk.blocks }
         requires size { 32 ≤ geometry.size }
     {

@@ -2,12 +2,13 @@
 use crate::hello::{BYTES, stale};
 use crate::play::holds_at;
 use asm::write_elf;
-use blockdev::{FlakyDisk, MemDisk};
+use blockdev::{FailAt, MemDisk};
 use console::Writer;
 use image::{Entry, ImageFault, Manifest, Summary, Thing, check, make};
 use machine::{BootFault, Halt, Machine, Seen, boot};
 use ram::{FRAME_SIZE, FrameNo, Ram};
 use std::alloc::Global;
+use std::num::NonZeroU64;
 use sv39::{Plain, Tlb, Translate};
 use translators::{MOST_PAGES, Noting};
 use unixmodel::event::Event;
@@ -182,7 +183,7 @@ fn tells_why_it_does_not_boot(rt: HostRuntime) {
 
 // Why it doesn't boot from a disk whose accesses fail after so many good ones.
 fn failing(alloc: Global, image: &[u8], good: u64) -> Option<BootFault> {
-    let disk = FlakyDisk::new(disk_of(alloc, image)?, good);
+    let disk = FailAt::new(disk_of(alloc, image)?, NonZeroU64::MIN.saturating_add(good));
     boot(alloc, disk, Plain::new(), 64).err()
 }
 

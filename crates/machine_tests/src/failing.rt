@@ -5,11 +5,12 @@ ghost use Rattle.mount.specs.Mounted.{IsFlat};
 use crate::play::{
     EXIT, FSTAT, MKDIR, MKNOD, MOST_READ, Program, UNTOLD, WRITE, holds_at, is_front,
 };
-use blockdev::{FlakyDisk, MemDisk};
+use blockdev::{FailAt, MemDisk};
 use console::Writer;
 use machine::{Halt, Machine, boot_flat_on};
 use mount::{flat_image, mount};
 use std::alloc::Global;
+use std::num::NonZeroU64;
 use std::process::Abort;
 use sv39::Plain;
 use tree::Tree;
@@ -45,7 +46,7 @@ const NAMES: u64 = 32 + 32 * 10;
 const LETTERS: u64 = NAMES + 24;
 
 // A root and the console, on a disk of which one access fails, after so many good ones.
-fn flat_tree(alloc: Global, good: u64) -> Option<Tree<FlakyDisk>>
+fn flat_tree(alloc: Global, good: u64) -> Option<Tree<FailAt<MemDisk>>>
     ensures { IfSome result IsFlat }
 {
     let Ok(image) = flat_image(alloc) else {
@@ -54,7 +55,10 @@ fn flat_tree(alloc: Global, good: u64) -> Option<Tree<FlakyDisk>>
     let Ok(disk) = MemDisk::new(image) else {
         return None;
     };
-    match mount(alloc, FlakyDisk::new(disk, good)) {
+    match mount(
+        alloc,
+        FailAt::new(disk, NonZeroU64::MIN.saturating_add(good)),
+    ) {
         Ok(tree) => Some(tree),
         Err(_) => None,
     }
@@ -71,7 +75,7 @@ enum Asked {
 // A machine on a disk of which one access fails, what it prints, and how many events are done.
 #[derive(Drop)]
 struct Run {
-    machine: Machine<FlakyDisk, Plain>,
+    machine: Machine<FailAt<MemDisk>, Plain>,
     out: Writer<Vec<u8>>,
     done: usize,
 }

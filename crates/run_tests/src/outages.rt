@@ -1,10 +1,11 @@
 //! A disk of which one access fails, each in its turn, while files are made, written, linked, unlinked and read.
 use crate::disks::{disk_of, holds_at, image_of};
 use crate::sources::WORKER;
-use blockdev::FlakyDisk;
+use blockdev::{FailAt, MemDisk};
 use console::Writer;
 use machine::{Halt, Machine, boot};
 use std::alloc::{AllocError, Global};
+use std::num::NonZeroU64;
 use sv39::Plain;
 use unixmodel::event::Event;
 
@@ -16,7 +17,7 @@ const ACCESSES: u64 = 300;
 // What it prints.
 const TEXT: &[u8; 6] = b"abcdef";
 
-type Failing = Machine<FlakyDisk, Plain>;
+type Failing = Machine<FailAt<MemDisk>, Plain>;
 
 // How a machine goes whose disk fails once: the later the access, the further it comes.
 #[derive(Clone, Copy)]
@@ -36,7 +37,13 @@ enum Course {
 // A machine whose disk fails after so many good accesses. `None`: as it boots.
 fn booted(alloc: Global, image: &[u8], good: u64) -> Option<Failing> {
     let disk = disk_of(alloc, image)?;
-    boot(alloc, FlakyDisk::new(disk, good), Plain::new(), 64).ok()
+    boot(
+        alloc,
+        FailAt::new(disk, NonZeroU64::MIN.saturating_add(good)),
+        Plain::new(),
+        64,
+    )
+    .ok()
 }
 
 // One step: how it went, and what it printed.
