@@ -1,6 +1,8 @@
 -- The command line that the program declares, and what a job says of it.
-use Rattle.std.specs.Prelude.{◌≡◌, ◌↔◌, IsTrue, ℕ, pos, List, [], ◌∷◌, Option, Some, true, false, codes, fold, option_map}
+use Rattle.std.specs.Prelude.{◌≡◌, ◌↔◌, IsTrue, ℕ, pos, List, [], ◌∷◌, None, Option, Some, true, false, codes, fold, option_map}
+use Rattle.std.specs.Int.NonZero.{non_zero_u64_get}
 use Rattle.std.specs.Str.Parse.{IsNumeral, digits_value}
+use Rattle.std.specs.declared.num.NonZeroU64.{NonZeroU64}
 use Rattle.clap.specs.Words.{App, Row, Rule, Text, app_of, first_of, new_app, new_rule, with_rule, with_subcommand}
 use Rattle.clap.specs.declared.builder.action.ArgAction.TheVariants.{SetTrue}
 use Rattle.clap.specs.declared.builder.command.Command.{Command}
@@ -33,6 +35,14 @@ number_rule name default = record (new_rule name) {
   defaults = default ∷ [];
 }
 
+-- --name N, a number of 32 bits from 1 on, which may be left out
+abbrev pub count_rule : Text → Rule
+count_rule name = record (new_rule name) {
+  long = Some name;
+  value_names = 1;
+  parser = Some (Signed (pos 1) (pos 4294967295));
+}
+
 -- --name WORD, which may be left out
 abbrev pub option_rule : Text → Rule
 option_rule name = record (new_rule name) { long = Some name; value_names = 1 }
@@ -49,10 +59,11 @@ boot_options app = with_rule (with_rule app (number_rule (codes "frames") (codes
 abbrev pub declared_flat : App
 declared_flat = with_rule (with_rule (boot_options (new_app (codes "flat"))) (word_rule (codes "FILE"))) (word_rule (codes "SCRIPT"))
 
--- run [--frames N] [--tlb] [--save OUT] IMAGE SCRIPT
+-- run [--frames N] [--tlb] [--fail N] [--save OUT] IMAGE SCRIPT
 abbrev pub declared_run : App
 declared_run =
-    with_rule (with_rule (with_rule (boot_options (new_app (codes "run"))) (option_rule (codes "save")))
+    with_rule (with_rule (with_rule (with_rule (boot_options (new_app (codes "run")))
+    (count_rule (codes "fail"))) (option_rule (codes "save")))
     (word_rule (codes "IMAGE"))) (word_rule (codes "SCRIPT"))
 
 -- mkfs [--size N] [--inodes N] MANIFEST IMAGE
@@ -109,6 +120,7 @@ pub record DeclaresOwn (app : App) (command : Command) : Type 0 where
 abbrev pub rule_given : Text → Given → Rule
 rule_given name given.Bare = word_rule name
 rule_given name (given.Number default) = number_rule name default.now
+rule_given name given.Count = count_rule name
 rule_given name (given.Option value) = option_rule name
 rule_given name given.Flag = flag_rule name
 
@@ -130,6 +142,11 @@ pub record Writes (text : Text) (n : ℕ) : Type 0 where
 abbrev pub IsWritten : Text → List Row → ℕ → Type 0
 IsWritten name found n = (text : Text) × (first_of name found ≡ Some text) × Writes text n
 
+-- the number that was found of this name, none where there is none
+abbrev pub IsCount : Text → List Row → Option NonZeroU64 → Type 0
+IsCount name found None = first_of name found ≡ None
+IsCount name found (Some n) = IsWritten name found (non_zero_u64_get n)
+
 -- the words and the numbers are those found
 pub record IsFlat (found : List Row) (flat : Flat) : Type 0 where
   pub text : Text
@@ -145,6 +162,7 @@ pub record IsRun (found : List Row) (run : Run) : Type 0 where
   pub given : first_of (codes "frames") found ≡ Some text
   pub frames : Writes text run.frames
   pub tlb : IsTrue run.tlb ↔ (first_of (codes "tlb") found ≡ Some (codes "true"))
+  pub fail : IsCount (codes "fail") found run.fail
   -- none where the option is left out
   pub save : option_map (λ word. word.now) run.save ≡ first_of (codes "save") found
   pub image : first_of (codes "IMAGE") found ≡ Some run.image.now

@@ -1,12 +1,13 @@
 //! What the words of a command line ask for.
 ghost use Rattle.std.specs.Prelude.{◌≡◌, ◌↔◌, IfOk, IfSome, IsTrue, Some, codes, false, fold, map, option_map};
 ghost use Rattle.clap.specs.Words.{app_of, first_of, found_of, rows_of, rule_of, subcommand_of, subcommand_rows_of};
-ghost use Rattle.commandline.specs.Declarations.{DeclaresOwn, IsJob, IsWritten, Writes, declared, declared_by, declared_top, number_rule, rule_given, with_declared};
+ghost use Rattle.commandline.specs.Declarations.{DeclaresOwn, IsCount, IsJob, IsWritten, Writes, declared, declared_by, declared_top, number_rule, rule_given, with_declared};
 
 use crate::jobs::{Asm, Check, Dump, Flat, Job, Ls, Mkfs, Run};
 use clap::error::ErrorKind;
 use clap::{Arg, ArgAction, ArgMatches, Command, Error, value_parser};
 use std::alloc::{AllocError, Global};
+use std::num::NonZeroU64;
 
 const EXAMPLE: &str = "\
 Example: hello.bin is a program of RV64I instructions, loaded at address 0, and hello.txt says
@@ -39,6 +40,11 @@ A machine boots from an image that has a program /init, and leaves another:
 
 xv6 run --save after.img disk.img script.txt
 
+It can be shown a disk of which an access fails, here the 50th: `halt 2 Device` is the answer, or
+`fault 3 Device` where the machine meets it as it boots, and nothing is saved:
+
+xv6 run --fail 50 disk.img script.txt
+
 Programs are written as assembly texts:
 
     start:  li a7, 11       # getpid
@@ -57,6 +63,8 @@ enum Given<'a> {
     Bare,
     // As an option with a number, of this default.
     Number(&'a str),
+    // As an option with a number from 1 on, that may be left out.
+    Count,
     // As an option that may be left out; help calls its value so.
     Option(&'a str),
     // As a flag, which is left out or given once.
@@ -108,9 +116,14 @@ const FLAT: [Word<'static>; 4] = [
     SCRIPT,
 ];
 
-const RUN: [Word<'static>; 5] = [
+const RUN: [Word<'static>; 6] = [
     FRAMES,
     TLB,
+    Word {
+        name: "fail",
+        given: Given::Count,
+        help: "Lets the N-th access of the disk fail, 1 to 4294967295, to see what the machine does then",
+    },
     Word {
         name: "save",
         given: Given::Option("OUT"),
@@ -245,6 +258,11 @@ fn arg<'a>(alloc: Global, word: Word<'a>) -> Arg<'a>
     match word.given {
         Given::Bare => Arg::new(alloc, name).help(word.help).required(true),
         Given::Number(default) => number(alloc, name, default, word.help),
+        Given::Count => Arg::new(alloc, name)
+            .long(name)
+            .value_name("N")
+            .help(word.help)
+            .value_parser(value_parser!(u32).range(1..)),
         Given::Option(value) => Arg::new(alloc, name)
             .long(name)
             .value_name(value)
@@ -328,6 +346,23 @@ fn number_found<'a>(found: &ArgMatches<'a>, name: &str) -> Option<u32>
     number_of(word_found(found, name)?)
 }
 
+// What was found is no number from 1 on.
+#[derive(Drop)]
+struct NoCount;
+
+// The number from 1 on that was found of this name, if any was.
+fn count_found<'a>(found: &ArgMatches<'a>, name: &str) -> Result<Option<NonZeroU64>, NoCount>
+    ensures { IfOk result (IsCount name.now (rows_of (found_of found.now))) }
+{
+    let Some(text) = option_found(found, name) else {
+        return Ok(None);
+    };
+    match NonZeroU64::new(u64::from(number_of(text).ok_or(NoCount)?)) {
+        Some(count) => Ok(Some(count)),
+        None => Err(NoCount),
+    }
+}
+
 // Whether the flag of this name was found.
 fn flag_found<'a>(found: &ArgMatches<'a>, name: &str) -> bool
     ensures { IsTrue result ↔ (first_of name.now (rows_of (found_of found.now)) ≡ Some (codes "true")) }
@@ -360,12 +395,16 @@ fn run<'a>(found: &ArgMatches<'a>) -> Option<Job<'a>>
 {
     let frames = number_found(found, "frames")?;
     let tlb = flag_found(found, "tlb");
+    let Ok(fail) = count_found(found, "fail") else {
+        return None;
+    };
     let save = option_found(found, "save");
     let image = word_found(found, "IMAGE")?;
     let script = word_found(found, "SCRIPT")?;
     Some(Job::Run(Run {
         frames,
         tlb,
+        fail,
         save,
         image,
         script,

@@ -1,5 +1,7 @@
 //! What the program can do.
 
+use std::num::NonZeroU64;
+
 /// A command, with its words, numbers and flags.
 #[derive(Clone, Copy, PartialEq, Eq)]
 pub enum Job<'a> {
@@ -39,6 +41,8 @@ pub struct Run<'a> {
     pub frames: u32,
     /// Whether the translator remembers translations.
     pub tlb: bool,
+    /// The number of the disk's access that fails, counted from 1, where one is to fail.
+    pub fail: Option<NonZeroU64>,
     /// The name of the file to which the saved image is written, where it is to be saved.
     pub save: Option<&'a str>,
     /// The name of the image's file.

@@ -1,3 +1,4 @@
+mod FailingRuns
 pub mod Ends
 pub mod EventLemmas
 pub mod PlayLemmas

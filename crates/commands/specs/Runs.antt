@@ -1,11 +1,15 @@
 -- What a run of a machine over the events of a script prints, how it ends, and what it leaves.
-use Rattle.std.specs.Prelude.{Bool, IsTrue, List, None, Option, Some, false, true, ℕ, ℤ, ◌≡◌, ◌⊎◌}
+use Rattle.std.specs.Prelude.{Bool, IsTrue, List, None, Option, Some, false, option_map, true, ℕ, ℤ, ◌≡◌, ◌⊎◌}
+use Rattle.std.specs.Int.NonZero.{non_zero_u64_get}
+use Rattle.std.specs.declared.num.NonZeroU64.{NonZeroU64}
+use Rattle.blockdev.specs.Disk.{Failing, count_of}
 use Rattle.calls.specs.declared.halt.Halt.TheVariants as halt
 use Rattle.commands.specs.declared.report.End.{End}
 use Rattle.commands.specs.declared.report.End.TheVariants.{Halted, Running}
 use Rattle.console.specs.Output.{AppendsBeginning}
 use Rattle.imagerules.specs.Content.{image_of}
-use Rattle.machine.specs.Booted.{IsBooted}
+use Rattle.machine.specs.Booted.{IsBooted, IsUnbooted}
+use Rattle.machine.specs.declared.fault.BootFault.{BootFault}
 use Rattle.machine.specs.Gives.{DeviceFailsIn, IsDone}
 use Rattle.machine.specs.Saved.{IsLost, IsSaved}
 use Rattle.machine.specs.View.{View}
@@ -53,6 +57,27 @@ pub record IsImageRun {D : Type 0} (content : D → List (List ℕ)) (count : D 
   pub first : View
   pub booted : IsBooted (image_of (content disk)) (count disk) frames first
   pub leaves : Leaves content count first events before after saves end left
+
+-- the count of failures of a disk of which one access fails
+abbrev pub failing_count : {D : Type 0} → (D → ℕ) → Failing D → ℕ
+failing_count count failing = count_of failing.left (count failing.device)
+
+-- a machine boots from the disk with its n-th access failing, and the events leave this
+pub record IsFailingRun {D : Type 0} (content : D → List (List ℕ)) (count : D → ℕ) (n : ℕ) (disk : D) (frames : ℕ) (events : List Event) (before after : Option (List ℕ)) (saves : Bool) (end : End) (left : Option D) : Type 0 where
+  -- the disk of which an access fails, as it is left
+  pub failing : Option (Failing D)
+  pub inner : option_map (λ (d : Failing D). d.device) failing ≡ left
+  pub runs : IsImageRun (λ (d : Failing D). content d.device) (failing_count count) (record { device = disk; left = n }) frames events before after saves end failing
+
+-- the same with an access that fails, or with none
+abbrev pub IsRunWith : {D : Type 0} → (D → List (List ℕ)) → (D → ℕ) → Option NonZeroU64 → D → ℕ → List Event → Option (List ℕ) → Option (List ℕ) → Bool → End → Option D → Type 0
+IsRunWith content count None disk frames events before after saves end left = IsImageRun content count disk frames events before after saves end left
+IsRunWith content count (Some n) disk frames events before after saves end left = IsFailingRun content count (non_zero_u64_get n) disk frames events before after saves end left
+
+-- why no machine boots from the disk
+abbrev pub IsUnbootedWith : {D : Type 0} → (D → ℕ) → Option NonZeroU64 → List ℕ → ℕ → ℕ → BootFault → Type 0
+IsUnbootedWith count None image failures frames fault = IsUnbooted count image failures frames fault
+IsUnbootedWith count (Some n) image failures frames fault = IsUnbooted (failing_count count) image (count_of (non_zero_u64_get n) failures) frames fault
 
 -- a machine boots a flat program, and the events end so
 pub record IsFlatRun (program : List ℕ) (frames : ℕ) (events : List Event) (before after : Option (List ℕ)) (end : End) : Type 0 where

@@ -1,8 +1,8 @@
 //! Boots machines and gives them the events of a script.
-ghost use Rattle.std.specs.Prelude.{◌≡◌, ◌<◌, ◌⊎◌, ◌↔◌, IfErr, IfOk, IsErrOf, None, OnErr, is_some};
+ghost use Rattle.std.specs.Prelude.{◌≡◌, ◌<◌, ◌⊎◌, ◌↔◌, IfErr, IfOk, IsErrOf, None, OnErr, is_some, option_map};
 ghost use Rattle.commands.specs.Plays.{script_events};
 ghost use Rattle.commands.specs.Reports.{end_of};
-ghost use Rattle.commands.specs.Runs.{IsFlatRun, IsImageRun, Leaves, PlaysOut};
+ghost use Rattle.commands.specs.Runs.{IsFlatRun, IsImageRun, IsRunWith, IsUnbootedWith, Leaves, PlaysOut};
 ghost use Rattle.imagerules.specs.Content.{image_of};
 ghost use Rattle.machine.specs.Booted.{IsUnbooted};
 ghost use Rattle.machine.specs.View.{IsUp};
@@ -13,7 +13,7 @@ use crate::perform::images::disk_of;
 use crate::perform::{read, script_of, write};
 use crate::play::play;
 use crate::report::{End, Failure};
-use blockdev::{BlockDev, MemDisk};
+use blockdev::{BlockDev, FailAt, MemDisk};
 use commandline::{Flat, Run};
 use console::Writer;
 use machine::{BootFault, Halt, Machine, boot, boot_flat_with};
@@ -125,6 +125,37 @@ fn run_disk<D: BlockDev, T: Translate + Drop, W: Write + Drop>(
     Ok(run_machine(machine, script, words.save.is_some(), stdout))
 }
 
+// Of what is left of a disk of which one access fails, the disk below.
+fn inner_of<D: BlockDev>(failing: Option<FailAt<D>>) -> Option<D>
+    ensures { option_map (λ failing. failing.device) failing ≡ result }
+{
+    failing.map(FailAt::into_inner)
+}
+
+// The same, with a disk of which one access fails, if the words ask for it.
+fn run_with<D: BlockDev, T: Translate + Drop, W: Write + Drop>(
+    alloc: Global,
+    disk: D,
+    translator: T,
+    words: &Run<'_>,
+    script: &[Command<'_>],
+    stdout: W,
+) -> Result<Ran<D, W>, BootFault>
+    ensures ran { IfOk result (λ ran. IsRunWith D.content D.failures words.now.fail disk words.now.frames (script_events script.now) (W.contents stdout) (W.contents ran.stdout) (is_some words.now.save) ran.end ran.disk) }
+    ensures refused { IfErr result (IsUnbootedWith D.failures words.now.fail (image_of (D.content disk)) (D.failures disk) words.now.frames) }
+{
+    let Some(n) = words.fail else {
+        return run_disk(alloc, disk, translator, words, script, stdout);
+    };
+    let failing = FailAt::new(disk, n);
+    let Ran { end, disk, stdout } = run_disk(alloc, failing, translator, words, script, stdout)?;
+    Ok(Ran {
+        end,
+        disk: inner_of(disk),
+        stdout,
+    })
+}
+
 // Two files, in this order.
 fn read_both<'a, H: Host>(
     host: &mut H,
@@ -179,9 +210,9 @@ fn run_over<'a, W: Write>(
 ) -> Result<(End, Option<MemDisk>), Failure<'a>> {
     let ran = if words.tlb {
         let cache = Tlb::<64>::new();
-        run_disk(alloc, disk, cache, &words, script, stdout)
+        run_with(alloc, disk, cache, &words, script, stdout)
     } else {
-        run_disk(alloc, disk, Plain::new(), &words, script, stdout)
+        run_with(alloc, disk, Plain::new(), &words, script, stdout)
     };
     match ran {
         Ok(ran) => Ok((ran.end, ran.disk)),

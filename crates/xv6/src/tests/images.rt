@@ -165,7 +165,7 @@ fn tells_lines_that_cannot_be_read(rt: HostRuntime) {
 }
 
 // Jobs on files that are not there, or can't be written, or are no image, and standard error.
-static UNUSABLE: [(Job<'static>, &str); 4] = [
+const UNUSABLE: [(Job<'static>, &str); 4] = [
     (
         Job::Mkfs(Mkfs {
             size: 32,

@@ -136,7 +136,7 @@ fn refuses_what_is_no_program(rt: HostRuntime) {
     }
 }
 
-static UNREAD: [(Job<'static>, &str); 3] = [
+const UNREAD: [(Job<'static>, &str); 3] = [
     (
         Job::Asm(Asm {
             text: "nosuch",

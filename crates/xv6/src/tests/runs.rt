@@ -2,8 +2,10 @@
 use crate::tests::images::{CHECK, mkfs};
 use crate::tests::program_files::ASM;
 use crate::tests::{DEAD, Files, expect, expect_narrow, files_of};
+use commands::perform::perform;
 use commands::{Job, Run};
 use std::mem::swap;
+use std::num::NonZeroU64;
 use std::process::Abort;
 
 // Says `hi` on descriptor 1: 35 bytes.
@@ -33,6 +35,19 @@ fn run(frames: u32, tlb: bool, save: Option<&'static str>) -> Job<'static> {
     Job::Run(Run {
         frames,
         tlb,
+        fail: None,
+        save,
+        image: "image",
+        script: "script",
+    })
+}
+
+// The access of this number fails.
+fn run_failing(fail: u64, frames: u32, tlb: bool, save: Option<&'static str>) -> Job<'static> {
+    Job::Run(Run {
+        frames,
+        tlb,
+        fail: NonZeroU64::new(fail),
         save,
         image: "image",
         script: "script",
@@ -191,6 +206,76 @@ fn saves_nothing_where_the_console_fails(rt: HostRuntime) {
     }
 }
 
+// What a run tells of whose disk one access fails, and its status: the later the access, the further it comes.
+static FAILURES: [(&[u8], u8); 3] = [
+    (b"fault 3 Device\n", 1),
+    (b"halt 2 Device\n", 1),
+    (b"running\n", 0),
+];
+
+// More accesses than a run makes.
+const ACCESSES: u64 = 200;
+
+// Which of these it tells. Where an access failed, the image stays as it is.
+fn failure_of(rt: &(impl Abort + AllocGlobal), files: &mut Files, job: &Job<'_>) -> usize {
+    let image = files.image.clone().expect(rt, "memory");
+    let mut err = Vec::new(rt.alloc());
+    let status = perform(rt.alloc(), job, files, &mut Vec::new(rt.alloc()), &mut err);
+    let told = (err.as_slice(), status);
+    let failure = FAILURES.iter().position(|line| *line == told);
+    assert!(rt; failure == Some(2) || files.image == image);
+    failure.expect(rt, "a line of a failure")
+}
+
+// How many accesses fail the boot, and how many the run or the save.
+fn failures_of(rt: &(impl Abort + AllocGlobal), tlb: bool, save: Option<&'static str>) -> [u64; 2] {
+    let mut files = with_image(rt, MAKES, INIT, 32);
+    put_text(rt, &mut files, b"step 15");
+    let mut counts = [0; 2];
+    let mut reached = 0;
+    for n in 1..ACCESSES {
+        let failure = failure_of(rt, &mut files, &run_failing(n, 256, tlb, save));
+        assert!(rt; reached <= failure, "access {n}");
+        reached = failure;
+        match counts.get_mut(failure) {
+            Some(count) => *count = n,
+            None => return counts,
+        }
+    }
+    assert!(rt; false, "it never ends well");
+    counts
+}
+
+// The boot reads the super block, each of the 32 blocks, and then what it needs of /init.
+#[test]
+fn tells_a_disk_that_fails(rt: HostRuntime) {
+    for tlb in [false, true] {
+        let [boots, halts] = failures_of(&rt, tlb, None);
+        assert!(rt; 34 < boots && boots < halts);
+        let [same, more] = failures_of(&rt, tlb, Some("image"));
+        assert!(rt;
+            same == boots && halts < more,
+            "the save asks for the disk too"
+        );
+    }
+}
+
+// Frames are counted first, and an image that is refused may be told before an access fails.
+#[test]
+fn tells_of_the_frames_before_the_disk_fails(rt: HostRuntime) {
+    let mut files = with_image(&rt, HELLO, INIT, 32);
+    put_text(&rt, &mut files, b"step 9");
+    let job = run_failing(1, 63, false, Some("image"));
+    expect(&rt, &mut files, &job, "", "fault 2 FrameCount\n", 1);
+    let job = run_failing(4294967295, 64, false, None);
+    expect(&rt, &mut files, &job, "", "halt 1 InitEnded 0\n", 0);
+    files.image.truncate(31744);
+    let job = run_failing(1, 64, false, Some("image"));
+    expect(&rt, &mut files, &job, "", "fault 3 Device\n", 1);
+    let job = run_failing(30, 64, false, Some("image"));
+    expect(&rt, &mut files, &job, "", "fault 1 Length\n", 1);
+}
+
 // No machine boots, whatever the translator is, and nothing is saved.
 fn expect_fault(rt: &(impl Abort + AllocGlobal), files: &mut Files, frames: u32, line: &str) {
     put_text(rt, files, b"step 9");
@@ -270,6 +355,7 @@ fn reads_the_image_first(rt: HostRuntime) {
         let job = Job::Run(Run {
             frames: 1,
             tlb: false,
+            fail: None,
             save: None,
             image,
             script,

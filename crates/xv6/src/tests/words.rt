@@ -2,8 +2,9 @@
 use crate::tests::output_of;
 use clap::error::ErrorKind;
 use commands::{Asm, Check, Dump, Flat, Job, Ls, Mkfs, Run, job, refuse};
+use std::num::NonZeroU64;
 
-static JOBS: [(&[&str], Job<'static>); 11] = [
+const JOBS: [(&[&str], Job<'static>); 12] = [
     (
         &["xv6", "flat", "a", "b"],
         Job::Flat(Flat {
@@ -36,6 +37,7 @@ static JOBS: [(&[&str], Job<'static>); 11] = [
         Job::Run(Run {
             frames: 256,
             tlb: false,
+            fail: None,
             save: None,
             image: "a",
             script: "b",
@@ -55,7 +57,19 @@ static JOBS: [(&[&str], Job<'static>); 11] = [
         Job::Run(Run {
             frames: 64,
             tlb: true,
+            fail: None,
             save: Some("c"),
+            image: "a",
+            script: "b",
+        }),
+    ),
+    (
+        &["xv6", "run", "--fail", "1", "a", "b"],
+        Job::Run(Run {
+            frames: 256,
+            tlb: false,
+            fail: Some(NonZeroU64::MIN),
+            save: None,
             image: "a",
             script: "b",
         }),
@@ -104,7 +118,22 @@ fn knows_its_words(rt: HostRuntime) {
     }
 }
 
-static REFUSALS: [(&[&str], ErrorKind); 13] = [
+#[test]
+fn knows_the_last_access(rt: HostRuntime) {
+    let words = ["xv6", "run", "--save=c", "a", "--fail=4294967295", "b"];
+    let wanted = Job::Run(Run {
+        frames: 256,
+        tlb: false,
+        fail: NonZeroU64::new(4294967295),
+        save: Some("c"),
+        image: "a",
+        script: "b",
+    });
+    let found = job(rt.alloc(), &words).expect(&rt, "a job");
+    assert!(rt; found == wanted);
+}
+
+static REFUSALS: [(&[&str], ErrorKind); 19] = [
     (&["xv6", "--help", "", ""], ErrorKind::DisplayHelp),
     (&["xv6", "flat", "a", "--help"], ErrorKind::DisplayHelp),
     (&["xv6", "sharp", "a", "b"], ErrorKind::InvalidSubcommand),
@@ -139,6 +168,30 @@ static REFUSALS: [(&[&str], ErrorKind); 13] = [
         &["xv6", "mkfs", "--inodes=+16", "a", "b"],
         ErrorKind::ValueValidation,
     ),
+    (
+        &["xv6", "run", "--fail", "0", "a", "b"],
+        ErrorKind::ValueValidation,
+    ),
+    (
+        &["xv6", "run", "--fail=4294967296", "a", "b"],
+        ErrorKind::ValueValidation,
+    ),
+    (
+        &["xv6", "run", "--fail", "+1", "a", "b"],
+        ErrorKind::ValueValidation,
+    ),
+    (
+        &["xv6", "run", "--fail=-1", "a", "b"],
+        ErrorKind::ValueValidation,
+    ),
+    (
+        &["xv6", "run", "--fail=", "a", "b"],
+        ErrorKind::ValueValidation,
+    ),
+    (
+        &["xv6", "flat", "--fail", "1", "a", "b"],
+        ErrorKind::UnknownArgument,
+    ),
 ];
 
 #[test]
@@ -153,12 +206,18 @@ fn refuses_other_words(rt: HostRuntime) {
 
 // What is told of words that are no job: the words, how many bytes standard output takes, how standard error begins, and
 // the status.
-static TOLD: [(&[&str], usize, &str, u8); 4] = [
+static TOLD: [(&[&str], usize, &str, u8); 5] = [
     (&["xv6", "--help"], 100_000, "", 0),
     (&["xv6", "--help"], 99, "cannot write standard output\n", 1),
     (&["xv6", "sharp"], 100_000, "error: ", 2),
     (
         &["xv6", "flat", "--frames", "+64", "a", "b"],
+        100_000,
+        "error: ",
+        2,
+    ),
+    (
+        &["xv6", "run", "--fail", "0", "a", "b"],
         100_000,
         "error: ",
         2,
@@ -189,7 +248,7 @@ static HELP: [(&[&str], &[&str]); 4] = [
     (
         &["xv6", "--help"],
         &[
-            "flat", "run", "mkfs", "check", "ls", "asm", "dump", "--save",
+            "flat", "run", "mkfs", "check", "ls", "asm", "dump", "--save", "--fail",
         ],
     ),
     (
@@ -201,6 +260,8 @@ static HELP: [(&[&str], &[&str]); 4] = [
             "Frames of 4096 bytes, 64 to 32768",
             "256",
             "--tlb",
+            "--fail",
+            "4294967295",
             "--save",
             "OUT",
             "/init",

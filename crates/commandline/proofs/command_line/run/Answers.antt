@@ -13,6 +13,7 @@ returns c =
         given = frames.1;
         frames = frames.2;
         tlb = c.flag_found-tlb.ensures;
+        fail = c.in-Ok.ensures;
         save = c.option_found-save.ensures;
         image = c.in_ok-image.ensures;
         script = c.in_ok-script.ensures;
