@@ -1,0 +1,85 @@
+-- What the names of a folder hold, and what the steps of putting a file in the place of another make of that.
+use Rattle.std.specs.Prelude.{Bool, List, [], None, Option, Some, true, ℕ, ◌++◌, ◌≡◌, ◌≢◌}
+use Rattle.outputs.specs.declared.put.Attempt.{Attempt}
+use Rattle.outputs.specs.declared.put.Attempt.TheVariants.{Put, Taken}
+use Rattle.outputs.specs.declared.fault.PutFault.{PutFault}
+use Rattle.outputs.specs.declared.fault.PutFault.TheVariants as fault
+
+-- the bytes under each name, if there is a file; the name of the file that was begun last, and whether all that was
+-- written to it stands on the disk
+pub record Held : Type 0 where
+  pub bytes : List ℕ → Option (List ℕ)
+  pub begun : List ℕ
+  pub synced : Bool
+
+-- all names but one hold what they held
+abbrev pub IsBut : List ℕ → Held → Held → Type 0
+IsBut name old new = (n : List ℕ) → n ≢ name → new.bytes n ≡ old.bytes n
+
+-- all names do
+abbrev pub IsSame : Held → Held → Type 0
+IsSame old new = (n : List ℕ) → new.bytes n ≡ old.bytes n
+
+-- one name holds this, all others what they held
+pub record Sets (name : List ℕ) (held : Option (List ℕ)) (old new : Held) : Type 0 where
+  pub at : new.bytes name ≡ held
+  pub others : IsBut name old new
+
+-- a new name holds a file without bytes
+pub record Begins (name : List ℕ) (old new : Held) : Type 0 where
+  pub free : old.bytes name ≡ None
+  pub begun : new.begun ≡ name
+  pub sets : Sets name (Some []) old new
+
+-- these bytes come to the end of the file that was begun
+pub record Writes (bytes : List ℕ) (old new : Held) : Type 0 where
+  pub end : (front : List ℕ) → old.bytes old.begun ≡ Some front → new.bytes old.begun ≡ Some (front ++ bytes)
+  pub others : IsBut old.begun old new
+
+-- what the file that was begun holds is open
+abbrev pub Spoils : Held → Held → Type 0
+Spoils old new = IsBut old.begun old new
+
+-- what was written stands on the disk
+pub record Syncs (old new : Held) : Type 0 where
+  pub same : IsSame old new
+  pub synced : new.synced ≡ true
+
+-- what one name held the other holds, and the one nothing
+pub record Moves (one other : List ℕ) (old new : Held) : Type 0 where
+  pub gone : new.bytes one ≡ None
+  pub there : new.bytes other ≡ old.bytes one
+  pub others : (n : List ℕ) → n ≢ one → n ≢ other → new.bytes n ≡ old.bytes n
+
+-- the file that was begun, of which nothing was written yet, gets these bytes and then the name
+pub record Ends (begun name bytes : List ℕ) (old new : Held) : Type 0 where
+  pub gone : new.bytes begun ≡ None
+  pub there : old.begun ≡ begun → old.bytes begun ≡ Some [] → new.bytes name ≡ Some bytes
+  pub others : (n : List ℕ) → n ≢ old.begun → n ≢ begun → n ≢ name → new.bytes n ≡ old.bytes n
+
+-- the file has these bytes, or the name of the new one is taken and all is as it was
+abbrev pub Tries : List ℕ → List ℕ → Attempt → Held → Held → Type 0
+Tries name bytes Put old new = Sets name (Some bytes) old new
+Tries name bytes Taken old new = IsSame old new
+
+-- all is as it was; but a file that was begun under another name may be left, where it could not be removed
+abbrev pub Keeps : List ℕ → PutFault → Held → Held → Type 0
+Keeps name fault.Left old new = (begun : List ℕ) × ((begun ≢ name) × IsBut begun old new)
+Keeps name _ old new = IsSame old new
+
+-- the file that was begun is gone, or stays where it could not be removed
+abbrev pub GivesUp : List ℕ → PutFault → Held → Held → Type 0
+GivesUp begun fault.Left old new = IsSame old new
+GivesUp begun _ old new = Sets begun None old new
+
+-- what holds of the two, where it is known what a folder holds
+abbrev pub Known : (Held → Held → Type 0) → Option Held → Option Held → Type 0
+Known relation None None = Unit {0}
+Known relation None (Some new) = ⊥
+Known relation (Some old) None = ⊥
+Known relation (Some old) (Some new) = relation old new
+
+-- what was written to the file that was begun last stands on the disk, where that is known
+abbrev pub IsSynced : Option Held → Type 0
+IsSynced None = Unit {0}
+IsSynced (Some held) = held.synced ≡ true

@@ -1,0 +1,15 @@
+//! Files that are written whole: the bytes go to a new file in the same folder, which then takes the name. So the name
+//! holds the old file or the new one at each moment, whatever step fails and wherever the program ends.
+#![tactic(auto)]
+
+mod fault;
+mod folder;
+mod put;
+mod system;
+#[cfg(test)]
+mod tests;
+
+pub use fault::{PutFault, StepFault};
+pub use folder::Folder;
+pub use put::replace;
+pub use system::write;
