@@ -7,5 +7,5 @@ pub mod play;
 mod report;
 
 pub use commandline::{Asm, Check, Dump, Flat, Job, Ls, Mkfs, Run, job};
-pub use host::{Host, HostFault};
+pub use host::{Front, Host, HostFault, Why};
 pub use report::refuse;

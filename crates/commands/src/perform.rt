@@ -4,7 +4,7 @@ mod images;
 mod program_files;
 mod runs;
 
-use crate::host::Host;
+use crate::host::{Front, Host, Why};
 use crate::report::{Failure, print, tell};
 use commandline::{Check, Flat, Job, Mkfs, Run};
 use image::Summary;
@@ -13,11 +13,31 @@ use std::fmt;
 use std::io::Write;
 use texts::{Command, TextFault, parse};
 
+// Why a file is not read or written: where memory was refused, that is told in place of the file.
+fn refused<'a, H: Host>(host: &H, failure: Failure<'a>) -> Failure<'a> {
+    match host.why() {
+        Why::NoMemory => Failure::NoMemory,
+        Why::Unknown | Why::System(_) => failure,
+    }
+}
+
 // A file's bytes.
 fn read<'a, H: Host>(host: &mut H, name: &'a str) -> Result<Vec<u8>, Failure<'a>> {
     match host.read(name) {
         Ok(bytes) => Ok(bytes),
-        Err(_) => Err(Failure::Read(name)),
+        Err(_) => Err(refused(host, Failure::Read(name))),
+    }
+}
+
+// A file's first bytes, so many at most.
+fn read_front<'a, H: Host>(
+    host: &mut H,
+    name: &'a str,
+    most: usize,
+) -> Result<Front, Failure<'a>> {
+    match host.read_front(name, most) {
+        Ok(front) => Ok(front),
+        Err(_) => Err(refused(host, Failure::Read(name))),
     }
 }
 
@@ -25,7 +45,7 @@ fn read<'a, H: Host>(host: &mut H, name: &'a str) -> Result<Vec<u8>, Failure<'a>
 fn write<'a, H: Host>(host: &mut H, name: &'a str, bytes: &[u8]) -> Result<(), Failure<'a>> {
     match host.write(name, bytes) {
         Ok(()) => Ok(()),
-        Err(_) => Err(Failure::Write(name)),
+        Err(_) => Err(refused(host, Failure::Write(name))),
     }
 }
 

@@ -2,16 +2,26 @@
 ghost use Rattle.std.specs.Prelude.{◌≡◌, IfOk};
 ghost use Rattle.commands.specs.Entries.{IsEntryOf};
 
-use crate::host::Host;
-use crate::perform::{read, write};
+use crate::host::{Front, Host};
+use crate::perform::{read_front, write};
 use crate::report::Failure;
-use blockdev::MemDisk;
+use blockdev::{BLOCK_SIZE, MemDisk};
 use commandline::{Check, Ls, Mkfs};
 use image::{Entry, ImageFault, MakeFault, Manifest, Summary, Thing};
+use layout::{LONGEST, MOST_BLOCKS};
 use listings::{ListingFault, write_directory};
 use std::alloc::{AllocError, Global};
 use std::io::Write;
 use texts::{Line, TextFault, parse};
+
+/// How much of an image is read: a byte more than the longest has.
+const MOST_IMAGE: usize = BLOCK_SIZE * MOST_BLOCKS as usize + 1;
+
+/// How much of a host's file is read for a manifest: a byte more than the longest file has.
+const MOST_FILE: usize = LONGEST + 1;
+
+/// Where the super block of an image has its count of blocks: four bytes.
+const SIZE_AT: usize = BLOCK_SIZE + 4;
 
 // What the lines of a manifest say; the text has to be one.
 fn lines_of<'a>(
@@ -29,10 +39,10 @@ fn lines_of<'a>(
     }
 }
 
-// The bytes of the host's file of this name.
+// The bytes of the host's file of this name; of one that is too long for a file of an image, too many of them.
 fn host_file<'a, H: Host>(host: &mut H, name: &'a [u8]) -> Result<Vec<u8>, Failure<'a>> {
     match str::from_utf8(name) {
-        Ok(name) => read(host, name),
+        Ok(name) => Ok(read_front(host, name, MOST_FILE)?.bytes),
         Err(_) => Err(Failure::Read("")),
     }
 }
@@ -62,17 +72,31 @@ fn entry_of<'a, H: Host>(alloc: Global, line: &Line<'a>, host: &mut H) -> Result
     }
 }
 
-// The manifest that the lines say. All of the host's files are read, in their order.
+// How many bytes of a file an entry has.
+fn bytes_in(entry: &Entry) -> usize {
+    match &entry.thing {
+        Thing::File(bytes) => bytes.len(),
+        Thing::Directory | Thing::Device { .. } => 0,
+    }
+}
+
+// The manifest that the lines say, for an image of so many blocks. All of the host's files are read, in their order. No entry
+// is kept behind the one with which the files are more than all blocks hold: the making ends there at the latest.
 fn manifest_of<'a, H: Host>(
     alloc: Global,
     lines: &[Line<'a>],
+    size: u32,
     host: &mut H,
 ) -> Result<Manifest, Failure<'a>> {
     let mut entries = Vec::new(alloc);
+    let mut room = Some(BLOCK_SIZE * size.min(MOST_BLOCKS) as usize);
     for line in lines {
         let entry = entry_of(alloc, line, host)?;
-        if entries.push(entry).is_err() {
-            return Err(Failure::NoMemory);
+        if let Some(left) = room {
+            room = left.checked_sub(bytes_in(&entry));
+            if entries.push(entry).is_err() {
+                return Err(Failure::NoMemory);
+            }
         }
     }
     Ok(Manifest { entries })
@@ -87,7 +111,7 @@ pub fn mkfs<'a, H: Host>(
     host: &mut H,
 ) -> Result<(), Failure<'a>> {
     let lines = lines_of(alloc, words.manifest, text)?;
-    let manifest = manifest_of(alloc, lines.as_slice(), host)?;
+    let manifest = manifest_of(alloc, lines.as_slice(), words.size, host)?;
     let image = match image::make(alloc, &manifest, words.size, words.inodes) {
         Ok(image) => image,
         Err(fault) => return Err(Failure::Make(fault)),
@@ -95,9 +119,44 @@ pub fn mkfs<'a, H: Host>(
     write(host, words.image, image.as_slice())
 }
 
-/// The disk of this image.
-pub fn disk_of<'a>(bytes: Vec<u8>) -> Result<MemDisk, Failure<'a>> {
-    match MemDisk::new(bytes) {
+/// An image, of which no more is read than shows that it is too long.
+pub fn read_image<'a, H: Host>(host: &mut H, name: &'a str) -> Result<Front, Failure<'a>> {
+    read_front(host, name, MOST_IMAGE)
+}
+
+// What stands for an image of this front that is too long, of this length if it has an end. It has the same faults: the wrong
+// length, unless the super block says so many blocks; else the wrong magic number, or, since no image has so many, the numbers.
+fn stand_in(mut front: Vec<u8>, length: Option<u64>) -> Vec<u8> {
+    front.truncate(2 * BLOCK_SIZE);
+    if front.len() < SIZE_AT + 4 {
+        return front;
+    }
+    let told = [
+        front[SIZE_AT],
+        front[SIZE_AT + 1],
+        front[SIZE_AT + 2],
+        front[SIZE_AT + 3],
+    ];
+    let blocks = u64::from(u32::from_le_bytes(told));
+    let size: u8 = if length == Some(1024 * blocks) { 2 } else { 0 };
+    front[SIZE_AT..SIZE_AT + 4].copy_from_slice(&[size, 0, 0, 0]);
+    front
+}
+
+/// The disk of this image; one that is too long is refused as the whole image would be.
+pub fn disk_of<'a>(image: Front) -> Result<MemDisk, Failure<'a>> {
+    let Front { bytes, length } = image;
+    if let Some(length) = length
+        && length % 1024 != 0
+    {
+        return Err(Failure::Image(ImageFault::Length));
+    }
+    let disk = if bytes.len() < MOST_IMAGE {
+        MemDisk::new(bytes)
+    } else {
+        MemDisk::new(stand_in(bytes, length))
+    };
+    match disk {
         Ok(disk) => Ok(disk),
         Err(_) => Err(Failure::Image(ImageFault::Length)),
     }
@@ -109,7 +168,7 @@ pub fn check<'a, H: Host>(
     words: Check<'a>,
     host: &mut H,
 ) -> Result<Summary, Failure<'a>> {
-    let mut disk = disk_of(read(host, words.image)?)?;
+    let mut disk = disk_of(read_image(host, words.image)?)?;
     match image::check(alloc, &mut disk) {
         Ok(summary) => Ok(summary),
         Err(fault) => Err(Failure::Image(fault)),
@@ -123,7 +182,7 @@ pub fn ls<'a, H: Host, W: Write>(
     host: &mut H,
     stdout: &mut W,
 ) -> Result<(), Failure<'a>> {
-    let disk = disk_of(read(host, words.image)?)?;
+    let disk = disk_of(read_image(host, words.image)?)?;
     match write_directory(alloc, disk, words.path.as_bytes(), stdout) {
         Ok(()) => {}
         Err(ListingFault::Image(fault)) => return Err(Failure::Image(fault)),

@@ -9,8 +9,8 @@ ghost use Rattle.machine.specs.View.{IsUp};
 ghost use Rattle.unixmodel.specs.Start.{start_flat};
 
 use crate::host::Host;
-use crate::perform::images::disk_of;
-use crate::perform::{read, script_of, write};
+use crate::perform::images::{disk_of, read_image};
+use crate::perform::{read, read_front, script_of, write};
 use crate::play::play;
 use crate::report::{End, Failure};
 use blockdev::{BlockDev, FailAt, MemDisk};
@@ -21,6 +21,9 @@ use std::alloc::Global;
 use std::io::Write;
 use sv39::{Plain, Tlb, Translate};
 use texts::Command;
+
+/// How much of a flat program is read: a byte more than the largest memory has, so that what is cut off can't boot either.
+const MOST_PROGRAM: usize = 32768 * 4096 + 1;
 
 /// How a run ended, the disk that is left where it was to be saved, and the output that has the console's bytes.
 #[derive(Drop)]
@@ -156,17 +159,6 @@ fn run_with<D: BlockDev, T: Translate + Drop, W: Write + Drop>(
     })
 }
 
-// Two files, in this order.
-fn read_both<'a, H: Host>(
-    host: &mut H,
-    one: &'a str,
-    other: &'a str,
-) -> Result<(Vec<u8>, Vec<u8>), Failure<'a>> {
-    let one = read(host, one)?;
-    let other = read(host, other)?;
-    Ok((one, other))
-}
-
 // A flat program over the translator that the words ask for.
 fn flat_over<'a, W: Write>(
     alloc: Global,
@@ -195,7 +187,8 @@ pub fn flat<'a, H: Host, W: Write>(
     host: &mut H,
     stdout: &mut W,
 ) -> Result<End, Failure<'a>> {
-    let (program, bytes) = read_both(host, words.file, words.script)?;
+    let program = read_front(host, words.file, MOST_PROGRAM)?.bytes;
+    let bytes = read(host, words.script)?;
     let script = script_of(alloc, words.script, bytes.as_slice())?;
     flat_over(alloc, words, program.as_slice(), script.as_slice(), stdout)
 }
@@ -228,7 +221,8 @@ pub fn run<'a, H: Host, W: Write>(
     host: &mut H,
     stdout: &mut W,
 ) -> Result<(End, Option<MemDisk>), Failure<'a>> {
-    let (image, bytes) = read_both(host, words.image, words.script)?;
+    let image = read_image(host, words.image)?;
+    let bytes = read(host, words.script)?;
     let script = script_of(alloc, words.script, bytes.as_slice())?;
     let disk = disk_of(image)?;
     run_over(alloc, words, disk, script.as_slice(), stdout)
