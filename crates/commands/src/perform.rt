@@ -30,11 +30,7 @@ fn read<'a, H: Host>(host: &mut H, name: &'a str) -> Result<Vec<u8>, Failure<'a>
 }
 
 // A file's first bytes, so many at most.
-fn read_front<'a, H: Host>(
-    host: &mut H,
-    name: &'a str,
-    most: usize,
-) -> Result<Front, Failure<'a>> {
+fn read_front<'a, H: Host>(host: &mut H, name: &'a str, most: usize) -> Result<Front, Failure<'a>> {
     match host.read_front(name, most) {
         Ok(front) => Ok(front),
         Err(_) => Err(refused(host, Failure::Read(name))),

@@ -35,7 +35,13 @@ fn run(rt: &HostRuntime) -> Result<u8, AllocError> {
     let mut stdout = BufWriter::new(alloc, io::writer(rt)).map_err(|_| AllocError)?;
     let mut stderr = rt.stderr();
     Ok(match job(alloc, words.as_slice()) {
-        Ok(job) => perform(alloc, &job, &mut RealFiles::new(rt), &mut stdout, &mut stderr),
+        Ok(job) => perform(
+            alloc,
+            &job,
+            &mut RealFiles::new(rt),
+            &mut stdout,
+            &mut stderr,
+        ),
         Err(error) => refuse(&error, &mut stdout, &mut stderr),
     })
 }

@@ -1,6 +1,7 @@
 //! Stored runs of the commands on disk images.
-use crate::tests::{Files, expect, expect_narrow, files_of};
-use commands::{Check, Job, Ls, Mkfs};
+use crate::tests::{Files, expect, expect_narrow, expect_told, files_of};
+use commands::perform::perform;
+use commands::{Check, Host, HostFault, Job, Ls, Mkfs, Why};
 use std::process::Abort;
 
 pub const CHECK: Job<'static> = Job::Check(Check { image: "image" });
@@ -194,6 +195,85 @@ fn tells_files_that_cannot_be_used(rt: HostRuntime) {
     for (job, line) in &UNUSABLE {
         expect(&rt, &mut files, job, "", line, 1);
     }
+}
+
+// Files of 20 blocks for an image of 32, of which two are too many: what is told comes at the second at the latest, after all
+// files were read.
+#[test]
+fn reads_files_behind_a_fault(rt: HostRuntime) {
+    static FAULTS: [(&str, usize, &str); 5] = [
+        (
+            "file /a host\nfile /b host\ndir x",
+            20000,
+            "fault 3 Blocks\n",
+        ),
+        (
+            "file /a host\nfile /b host\nfile /c host",
+            20000,
+            "fault 3 Blocks\n",
+        ),
+        (
+            "file /a host\nfile /b host\nfile /c none",
+            20000,
+            "cannot read none\n",
+        ),
+        ("dir x\nfile /a host\nfile /b host", 20000, "fault 1 Name\n"),
+        (
+            "file /a host\nfile /a host\ndir x",
+            20000,
+            "fault 2 Twice\n",
+        ),
+    ];
+    expect_faults(&rt, &FAULTS);
+}
+
+// Images with a block more than the longest: the count of blocks and the first byte of the magic number in the super block, bytes
+// behind the last block, and what is told.
+static LONG: [([u8; 4], u8, usize, &str); 5] = [
+    ([0x00, 0x40, 0, 0], 0x40, 0, "fault 1 Length\n"),
+    ([0x02, 0x00, 0, 0], 0x40, 0, "fault 1 Length\n"),
+    ([0x01, 0x40, 0, 0], 0x41, 0, "fault 2 Magic\n"),
+    ([0x01, 0x40, 0, 0], 0x40, 0, "fault 3 Numbers\n"),
+    ([0x01, 0x40, 0, 0], 0x40, 1, "fault 1 Length\n"),
+];
+
+#[test]
+fn judges_images_that_are_too_long(rt: HostRuntime) {
+    for (size, magic, more, line) in &LONG {
+        let mut image = vec![in rt.alloc(); 0u8; 1024 * 16385 + *more].expect(&rt, "memory");
+        image[1024..1028].copy_from_slice(&[*magic, 0x30, 0x20, 0x10]);
+        image[1028..1032].copy_from_slice(size);
+        let mut files = with_files(&rt, "", 0);
+        files.image = image;
+        expect(&rt, &mut files, &CHECK, "", line, 1);
+    }
+}
+
+// A host that finds no memory.
+#[derive(Drop)]
+struct Full;
+
+impl Host for Full {
+    fn read(&mut self, _name: &str) -> Result<Vec<u8>, HostFault> {
+        Err(HostFault)
+    }
+
+    fn write(&mut self, _name: &str, _bytes: &[u8]) -> Result<(), HostFault> {
+        Err(HostFault)
+    }
+
+    fn why(&self) -> Why {
+        Why::NoMemory
+    }
+}
+
+#[test]
+fn tells_that_a_file_found_no_memory(rt: HostRuntime) {
+    let mut out = Vec::new(rt.alloc());
+    let mut err = Vec::new(rt.alloc());
+    let ended = perform(rt.alloc(), &CHECK, &mut Full, &mut out, &mut err);
+    let told = (out.as_slice(), err.as_slice(), ended);
+    expect_told(&rt, told, "", "no memory\n", 1);
 }
 
 #[test]
