@@ -12,7 +12,7 @@ TEXTS := $(wildcard user/*.s)
 USER := $(TEXTS:user/%.s=out/user/%)
 IMAGE := out/xv6.img
 
-.PHONY: demo build program image user test quick edits check bench qemu fmt
+.PHONY: demo build program image user test quick edits check bench qemu kills full places limits fuzz fmt
 
 # Boots a machine from an image with the user programs, types at its shell, and shows its console. It takes the
 # proved build where there is one that is not older than the sources. Else `rt try` compiles, and proves nothing of, the
@@ -75,6 +75,26 @@ bench: | program
 # qemu-user, gcc-riscv64-linux-gnu and libc6-dev-riscv64-cross.
 qemu: | program
 	qemu/compare.py $(PROGRAM)
+
+# Ends a thousand saves at random moments, and looks whether the old file or the new one is there, whole.
+kills: | program
+	bench/saves.py kills $(PROGRAM)
+
+# Saves to a full disk, at each length.
+full: | program
+	bench/saves.py full $(PROGRAM)
+
+# Saves to links, pipes, closed folders and the like.
+places: | program
+	bench/saves.py places $(PROGRAM)
+
+# Hands the program inputs without end, and looks how much memory it takes.
+limits: | program
+	bench/saves.py memory $(PROGRAM)
+
+# Hands the program random files for a minute.
+fuzz: | program
+	bench/fuzz.py --seed $$$$ $(PROGRAM)
 
 # Lays out the sources of every crate.
 fmt:

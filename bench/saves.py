@@ -3,6 +3,7 @@
 
     bench/saves.py kills [--runs N] [--seed N] PROGRAM     as `make kills` calls it
     bench/saves.py full PROGRAM                            as `make full` does: a disk without room, at each length
+    bench/saves.py places PROGRAM                          as `make places` does: links, pipes, permissions
     bench/saves.py memory PROGRAM                          as `make limits` does
 
 `kills` runs `run --save OUT` over an old image of 16 MB and ends it by SIGKILL: half of the runs at a random moment, the others
@@ -12,6 +13,9 @@ begun is left beside where the program was killed as it was written: these are c
 `full` saves an image of 32 blocks and one of 200 to a file system that has room for so many pages, from none to all of them:
 a small tmpfs where one can be mounted (that needs root, or `unshare`), and then under a limit on the length of files. Each time
 OUT must have the old bytes and no other file be left where the program answers 1, and the new bytes where it answers 0.
+
+`places` saves to a link, to a link that leads nowhere, to a pipe and to standard output, over a file of permissions of its own,
+over one that may not be written, and into a folder that takes no new file, with a file that may be written and without.
 
 `memory` checks an endless file, boots one, and makes images of a manifest with 2000 lines that name a file of 270,000 bytes,
 and of one that names an endless file: at most 64 MB over the image's size.
@@ -245,6 +249,100 @@ def full(arguments, folder):
     return good
 
 
+# ---- places
+
+class Places:
+    """Saves to places of all kinds, as a user who isn't root, and what is wrong."""
+
+    def __init__(self, program, folder):
+        self.folder, self.new = folder, prepare(program, folder, 32)
+        self.program, self.wrong = program, []
+        self.user = {"user": 65534, "group": 65534, "extra_groups": []} if os.geteuid() == 0 else {}
+        os.chmod(folder, 0o755)
+
+    def place(self, name, mode=0o777):
+        """A folder of this mode."""
+        place = self.folder / name
+        place.mkdir()
+        os.chmod(place, mode)
+        return place
+
+    def old(self, path, mode=0o666):
+        path.write_bytes(b"old")
+        os.chmod(path, mode)
+        return path
+
+    def save(self, out, stdout=subprocess.DEVNULL):
+        words = [self.program, "run", "--save", str(out), "image", "script"]
+        ran = subprocess.run(words, cwd=self.folder, stdout=stdout, stderr=subprocess.PIPE, text=True, **self.user)
+        return ran.returncode
+
+    def expect(self, what, is_so):
+        print(f"{what}: {'as wanted' if is_so else 'WRONG'}")
+        self.wrong += [] if is_so else [what]
+
+    def links(self):
+        place, other = self.place("links"), self.place("other")
+        target = self.old(other / "target")
+        (place / "link").symlink_to("../other/target")
+        (place / "chain").symlink_to("link")
+        status = self.save(place / "chain")
+        same = (place / "chain").is_symlink() and (place / "link").is_symlink()
+        self.expect("a link to a link", status == 0 and same and target.read_bytes() == self.new and not begun(other))
+        (place / "nowhere").symlink_to("../other/new")
+        status = self.save(place / "nowhere")
+        self.expect("a link that leads nowhere", status == 0 and (place / "nowhere").is_symlink() and (other / "new").read_bytes() == self.new)
+
+    def modes(self):
+        place = self.place("modes")
+        for mode in (0o600, 0o640, 0o666, 0o755):
+            out = self.old(place / f"{mode:o}", mode)
+            os.chown(out, *(65534, 65534) if self.user else (-1, -1))
+            status = self.save(out)
+            self.expect(f"permissions {mode:o}", status == 0 and out.stat().st_mode & 0o7777 == mode and out.read_bytes() == self.new)
+        out = self.old(place / "closed", 0o444)
+        self.expect("a file that may not be written", self.save(out) == 1 and out.read_bytes() == b"old")
+        self.expect("a new file", self.save(place / "new") == 0 and (place / "new").read_bytes() == self.new)
+        self.expect("no new file is left", not begun(place))
+
+    def pipes(self):
+        place = self.place("pipes")
+        pipe = place / "pipe"
+        os.mkfifo(pipe)
+        os.chmod(pipe, 0o666)
+        reader = subprocess.Popen(["cat", str(pipe)], stdout=subprocess.PIPE)
+        status = self.save(pipe)
+        held = reader.communicate()[0]
+        self.expect("a pipe", status == 0 and held == self.new and pipe.is_fifo())
+        words = [self.program, "mkfs", "--size", "32", "--inodes", "16", "/dev/null", "/dev/stdout"]
+        ran = subprocess.run(words, cwd=self.folder, capture_output=True)
+        self.expect("standard output, a pipe", ran.returncode == 0 and len(ran.stdout) == 32768)
+        with open(place / "shown", "wb") as file:
+            ran = subprocess.run(words, cwd=self.folder, stdout=file)
+        self.expect("standard output, a file", ran.returncode == 0 and (place / "shown").stat().st_size == 32768)
+        self.expect("a folder", self.save(place) == 1)
+
+    def closed(self):
+        place = self.place("shut")
+        out = self.old(place / "out")
+        os.chmod(place, 0o555)
+        self.expect("a closed folder with a file", self.save(out) == 0 and out.read_bytes() == self.new)
+        self.expect("a closed folder without one", self.save(place / "none") == 1 and os.listdir(place) == ["out"])
+        sticky = self.place("sticky", 0o1777)
+        out = self.old(sticky / "out")
+        self.expect("another's file in a sticky folder", self.save(out) == 0 and out.read_bytes() == self.new and not begun(sticky))
+
+
+def places(arguments, folder):
+    """Places of all kinds."""
+    tried = Places(arguments.program, folder)
+    tried.links()
+    tried.modes()
+    tried.pipes()
+    tried.closed()
+    return not tried.wrong
+
+
 # ---- memory
 
 def peak(words, cwd):
@@ -288,13 +386,13 @@ def memory(arguments, folder):
 
 def main():
     parser = argparse.ArgumentParser(description=__doc__, formatter_class=argparse.RawDescriptionHelpFormatter)
-    parser.add_argument("what", choices=("kills", "full", "memory"))
+    parser.add_argument("what", choices=("kills", "full", "places", "memory"))
     parser.add_argument("program", type=os.path.abspath)
     parser.add_argument("--runs", type=int, default=1000)
     parser.add_argument("--seed", type=int, default=1)
     arguments = parser.parse_args()
     with tempfile.TemporaryDirectory() as folder:
-        good = {"kills": kills, "full": full, "memory": memory}[arguments.what](arguments, pathlib.Path(folder))
+        good = {"kills": kills, "full": full, "places": places, "memory": memory}[arguments.what](arguments, pathlib.Path(folder))
     sys.exit(0 if good else 1)
 
 
