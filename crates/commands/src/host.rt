@@ -19,6 +19,7 @@ pub enum Why {
 /// The first bytes of a file.
 #[derive(Drop)]
 pub struct Front {
+    /// They are all of the file where they are as many as its length.
     pub bytes: Vec<u8>,
     /// How long the whole file is, where it has an end that can be asked for.
     pub length: Option<u64>,

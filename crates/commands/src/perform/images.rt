@@ -151,7 +151,7 @@ pub fn disk_of<'a>(image: Front) -> Result<MemDisk, Failure<'a>> {
     {
         return Err(Failure::Image(ImageFault::Length));
     }
-    let disk = if bytes.len() < MOST_IMAGE {
+    let disk = if length == Some(bytes.len() as u64) {
         MemDisk::new(bytes)
     } else {
         MemDisk::new(stand_in(bytes, length))

@@ -1,7 +1,7 @@
 //! Stored runs of the commands on disk images.
 use crate::tests::{Files, expect, expect_narrow, expect_told, files_of};
 use commands::perform::perform;
-use commands::{Check, Host, HostFault, Job, Ls, Mkfs, Why};
+use commands::{Check, Front, Host, HostFault, Job, Ls, Mkfs, Why};
 use std::process::Abort;
 
 pub const CHECK: Job<'static> = Job::Check(Check { image: "image" });
@@ -227,25 +227,98 @@ fn reads_files_behind_a_fault(rt: HostRuntime) {
     expect_faults(&rt, &FAULTS);
 }
 
-// Images with a block more than the longest: the count of blocks and the first byte of the magic number in the super block, bytes
-// behind the last block, and what is told.
-static LONG: [([u8; 4], u8, usize, &str); 5] = [
-    ([0x00, 0x40, 0, 0], 0x40, 0, "fault 1 Length\n"),
-    ([0x02, 0x00, 0, 0], 0x40, 0, "fault 1 Length\n"),
-    ([0x01, 0x40, 0, 0], 0x41, 0, "fault 2 Magic\n"),
-    ([0x01, 0x40, 0, 0], 0x40, 0, "fault 3 Numbers\n"),
-    ([0x01, 0x40, 0, 0], 0x40, 1, "fault 1 Length\n"),
+// The host of one image, of which it shows the first two blocks.
+#[derive(Drop)]
+struct Long {
+    front: Vec<u8>,
+    length: Option<u64>,
+}
+
+impl Host for Long {
+    fn read(&mut self, _name: &str) -> Result<Vec<u8>, HostFault> {
+        Err(HostFault)
+    }
+
+    fn write(&mut self, _name: &str, _bytes: &[u8]) -> Result<(), HostFault> {
+        Err(HostFault)
+    }
+
+    fn read_front(&mut self, _name: &str, _most: usize) -> Result<Front, HostFault> {
+        let bytes = self.front.clone().map_err(|_| HostFault)?;
+        Ok(Front {
+            bytes,
+            length: self.length,
+        })
+    }
+}
+
+// Images that are longer than the longest: the count of blocks in the super block, the first byte of its magic number, the length
+// of the image if it has an end, and what is told.
+static LONG: [([u8; 4], u8, Option<u64>, &str); 7] = [
+    (
+        [0x00, 0x40, 0, 0],
+        0x40,
+        Some(1024 * 16385),
+        "fault 1 Length\n",
+    ),
+    (
+        [0x02, 0x00, 0, 0],
+        0x40,
+        Some(1024 * 16385),
+        "fault 1 Length\n",
+    ),
+    (
+        [0x01, 0x40, 0, 0],
+        0x41,
+        Some(1024 * 16385),
+        "fault 2 Magic\n",
+    ),
+    (
+        [0x01, 0x40, 0, 0],
+        0x40,
+        Some(1024 * 16385),
+        "fault 3 Numbers\n",
+    ),
+    (
+        [0x01, 0x40, 0, 0],
+        0x40,
+        Some(1024 * 16385 + 1),
+        "fault 1 Length\n",
+    ),
+    (
+        [0xff, 0xff, 0xff, 0xff],
+        0x40,
+        Some(1024 * 4294967295),
+        "fault 3 Numbers\n",
+    ),
+    ([0x01, 0x40, 0, 0], 0x40, None, "fault 1 Length\n"),
 ];
+
+// Does a job with this host: it has to tell this line.
+fn expect_refused<H: Host>(
+    rt: &(impl Abort + AllocGlobal),
+    host: &mut H,
+    job: &Job<'_>,
+    line: &str,
+) {
+    let mut out = Vec::new(rt.alloc());
+    let mut err = Vec::new(rt.alloc());
+    let ended = perform(rt.alloc(), job, host, &mut out, &mut err);
+    let told = (out.as_slice(), err.as_slice(), ended);
+    expect_told(rt, told, "", line, 1);
+}
 
 #[test]
 fn judges_images_that_are_too_long(rt: HostRuntime) {
-    for (size, magic, more, line) in &LONG {
-        let mut image = vec![in rt.alloc(); 0u8; 1024 * 16385 + *more].expect(&rt, "memory");
-        image[1024..1028].copy_from_slice(&[*magic, 0x30, 0x20, 0x10]);
-        image[1028..1032].copy_from_slice(size);
-        let mut files = with_files(&rt, "", 0);
-        files.image = image;
-        expect(&rt, &mut files, &CHECK, "", line, 1);
+    for (size, magic, length, line) in &LONG {
+        let mut front = vec![in rt.alloc(); 0u8; 2048].expect(&rt, "memory");
+        front[1024..1028].copy_from_slice(&[*magic, 0x30, 0x20, 0x10]);
+        front[1028..1032].copy_from_slice(size);
+        let mut host = Long {
+            front,
+            length: *length,
+        };
+        expect_refused(&rt, &mut host, &CHECK, line);
     }
 }
 
@@ -269,11 +342,7 @@ impl Host for Full {
 
 #[test]
 fn tells_that_a_file_found_no_memory(rt: HostRuntime) {
-    let mut out = Vec::new(rt.alloc());
-    let mut err = Vec::new(rt.alloc());
-    let ended = perform(rt.alloc(), &CHECK, &mut Full, &mut out, &mut err);
-    let told = (out.as_slice(), err.as_slice(), ended);
-    expect_told(&rt, told, "", "no memory\n", 1);
+    expect_refused(&rt, &mut Full, &CHECK, "no memory\n");
 }
 
 #[test]
