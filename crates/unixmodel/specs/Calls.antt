@@ -49,7 +49,7 @@ row s i p Unlink = unlink_row s i p
 row s i p Link = link_row s i p
 row s i p Mkdir = mkdir_row s i p
 
--- the row that a waiting call goes on by: of the calls so far these can wait
+-- the row that a waiting call goes on by: these are the calls that can wait
 abbrev pub goes_on : State → ℕ → Process → Pending → Call → Outcome
 goes_on s i p w Wait = wait_on s i p w
 goes_on s i p w Sleep = sleep_on s i p w
