@@ -43,7 +43,13 @@ fn reads_and_spells_words(rt: HostRuntime) {
 #[test]
 fn refuses_words_that_are_no_instructions(rt: HostRuntime) {
     // sraiw with bit 25 set, fence.i, the word between mulw and divw, and the words of only zeros and only ones
-    for word in [0x4210_d09b, 0x0000_100f, 0x02b5_153b, 0x0000_0000, 0xffff_ffff] {
+    for word in [
+        0x4210_d09b,
+        0x0000_100f,
+        0x02b5_153b,
+        0x0000_0000,
+        0xffff_ffff,
+    ] {
         assert!(rt; decode(word).is_none(), "{word:#x}");
     }
 }
