@@ -1,9 +1,9 @@
 //! A program that says `hi`: its console, its process, its pages and its tables.
 use crate::play::Act::{
-    Faults, Gone, Halts, Is, Killed, NoPage, NoTables, Page, Parent, Pc, Reaches, Registers, Runs,
-    Size, Steps,
+    Answer, Faults, Gone, Halts, Is, Killed, NoPage, NoTables, Page, Parent, Pc, Reaches,
+    Registers, Runs, Size, Steps,
 };
-use crate::play::{Act, Program, READY, ROOM, RUNNING, holds_at, prints, run};
+use crate::play::{Act, NEXT_CALL, Program, READY, ROOM, RUNNING, SBRK, holds_at, prints, run};
 use console::Writer;
 use machine::{Halt, Perm, ProcessState, boot_flat, boot_flat_with};
 use ram::{FrameNo, Ram};
@@ -147,6 +147,20 @@ fn its_tables_show_its_pages(rt: HostRuntime) {
         NoTables(2),
     ];
     run(&rt, HI, &ACTS);
+}
+
+// Pages that nobody shared: the program's, its stack, and one that came later.
+#[test]
+fn pages_that_come_let_stores_through(rt: HostRuntime) {
+    const CALLS: [[u64; 4]; 1] = [[4096, 0, 0, SBRK]];
+    const ACTS: [Act; 5] = [
+        Steps(NEXT_CALL),
+        Answer(1, 12288),
+        Reaches(4095, Access::Store, 0),
+        Reaches(0x2000, Access::Store, 0),
+        Reaches(0x3000, Access::Store, 0),
+    ];
+    run(&rt, Program::Calls(&CALLS), &ACTS);
 }
 
 // It takes one byte, and fails at the next.
