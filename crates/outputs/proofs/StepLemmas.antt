@@ -2,11 +2,9 @@
 use Rattle.std.proofs.Common.{Bool, List, [], None, Err, Ok, OnErr, Option, Result, Some, false, true, refl, sym, ap, bytes_eq, ℕ, ◌∙◌, ◌≡◌, ◌≢◌}
 use Rattle.std.proofs.lemmas.Bool.{false≢true}
 use Rattle.std.proofs.lemmas.Slice.Eq.{bytes_eq-Decides}
-use Rattle.outputs.specs.Steps.{Begins, Ends, GivesUp, Held, IsBut, IsSame, IsSynced, Keeps, Known, Moves, Sets, Spoils, Syncs, Tries, Writes}
+use Rattle.outputs.specs.Steps.{Begins, Ends, GivesUp, Held, IsBut, IsSame, IsSynced, Keeps, Known, Moves, Sets, Spoils, Syncs, Writes}
 use Rattle.outputs.specs.declared.fault.PutFault.{PutFault}
 use Rattle.outputs.specs.declared.fault.PutFault.TheVariants as fault
-use Rattle.outputs.specs.declared.put.Attempt.{Attempt}
-use Rattle.outputs.specs.declared.put.Attempt.TheVariants.{Put, Taken}
 
 -- two steps are one, where it is known what the names hold
 pub known-then : {one other both : Held → Held → Type 0} → ((a b c : Held) → one a b → other b c → both a c) → (x y z : Option Held) → Known one x y → Known other y z → Known both x z

@@ -1,5 +1,5 @@
 use Rattle.std.proofs.Common.{rules}
-use Rattle.outputs.proofs.StepLemmas.{known-given-up, known-then, puts}
+use Rattle.outputs.proofs.StepLemmas.{known-given-up}
 use Rattle.outputs.proofs.put.put_by.Goals as goal
 
 pub returns-in-Err-clause-err : goal.returns-in-Err-clause-err
