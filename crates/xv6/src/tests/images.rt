@@ -295,12 +295,7 @@ static LONG: [([u8; 4], u8, Option<u64>, &str); 7] = [
 ];
 
 // Does a job with this host: it has to tell this line.
-fn expect_refused<H: Host>(
-    rt: &(impl Abort + AllocGlobal),
-    host: &mut H,
-    job: &Job<'_>,
-    line: &str,
-) {
+fn expect_line<H: Host>(rt: &(impl Abort + AllocGlobal), host: &mut H, job: &Job<'_>, line: &str) {
     let mut out = Vec::new(rt.alloc());
     let mut err = Vec::new(rt.alloc());
     let ended = perform(rt.alloc(), job, host, &mut out, &mut err);
@@ -318,7 +313,7 @@ fn judges_images_that_are_too_long(rt: HostRuntime) {
             front,
             length: *length,
         };
-        expect_refused(&rt, &mut host, &CHECK, line);
+        expect_line(&rt, &mut host, &CHECK, line);
     }
 }
 
@@ -342,7 +337,7 @@ impl Host for Full {
 
 #[test]
 fn tells_that_a_file_found_no_memory(rt: HostRuntime) {
-    expect_refused(&rt, &mut Full, &CHECK, "no memory\n");
+    expect_line(&rt, &mut Full, &CHECK, "no memory\n");
 }
 
 #[test]
