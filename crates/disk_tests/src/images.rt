@@ -2,7 +2,7 @@
 
 use crate::devices::{fail_after, zeros};
 use blockdev::MemDisk;
-use image::{ImageFault, Summary, check};
+use image::{ImageFault, Summary, check, check1};
 use std::process::Abort;
 
 // A byte of an image and what it is set to.
@@ -52,6 +52,34 @@ const TWO_BLOCKS: [Change; 5] = [
     (ROOT + 76, 6),
     (ROOT + 80, 7),
     (4096, 0xff),
+];
+
+// That file with 12 blocks of bytes, 6 to 17, as many as an inode of the small format names directly.
+const TWELVE_BLOCKS: [Change; 16] = [
+    (ROOT + 73, 0x30),
+    (ROOT + 76, 6),
+    (ROOT + 80, 7),
+    (ROOT + 84, 8),
+    (ROOT + 88, 9),
+    (ROOT + 92, 10),
+    (ROOT + 96, 11),
+    (ROOT + 100, 12),
+    (ROOT + 104, 13),
+    (ROOT + 108, 14),
+    (ROOT + 112, 15),
+    (ROOT + 116, 16),
+    (ROOT + 120, 17),
+    (4096, 0xff),
+    (4097, 0xff),
+    (4098, 0x03),
+];
+
+// And one byte more, in block 19, whose number stands in the index block 18.
+const ONE_MORE: [Change; 4] = [
+    (ROOT + 72, 1),
+    (ROOT + 124, 18),
+    (18 * 1024, 19),
+    (4098, 0x0f),
 ];
 
 // A directory, inode 2, that the root names, with its two first places in block 6.
@@ -107,18 +135,31 @@ fn put(bytes: &mut [u8], changes: &[Change]) {
     }
 }
 
-// What is told of the small image with these changes, one list after the other.
+// A disk with the small image and these changes, one list after the other.
+fn disk_of(rt: &(impl Abort + AllocGlobal), lists: &[&[Change]]) -> MemDisk {
+    let mut bytes = vec![in rt.alloc(); 0; 32 * 1024].expect(rt, "memory");
+    put(bytes.as_mut_slice(), &SMALL);
+    for changes in lists {
+        put(bytes.as_mut_slice(), changes);
+    }
+    MemDisk::new(bytes).expect(rt, "whole blocks")
+}
+
+// What is told of it.
 fn told_of(
     rt: &(impl Abort + AllocGlobal),
     first: &[Change],
     second: &[Change],
 ) -> Result<Summary, ImageFault> {
-    let mut bytes = vec![in rt.alloc(); 0; 32 * 1024].expect(rt, "memory");
-    put(bytes.as_mut_slice(), &SMALL);
-    put(bytes.as_mut_slice(), first);
-    put(bytes.as_mut_slice(), second);
-    let mut disk = MemDisk::new(bytes).expect(rt, "whole blocks");
-    check(rt.alloc(), &mut disk)
+    check(rt.alloc(), &mut disk_of(rt, &[first, second]))
+}
+
+// What is told of it in the small format.
+fn told_small(
+    rt: &(impl Abort + AllocGlobal),
+    lists: &[&[Change]],
+) -> Result<Summary, ImageFault> {
+    check1(rt.alloc(), &mut disk_of(rt, lists))
 }
 
 // Each of these changes, behind the first ones, makes this fault.
@@ -162,6 +203,30 @@ fn tells_each_fault(rt: HostRuntime) {
         (ImageFault::Bitmap, (4099, 0x80)),
     ] {
         assert!(rt; told_of(&rt, &[], &[change]) == Err(fault));
+    }
+}
+
+#[test]
+fn tells_what_is_in_use_in_the_small_format(rt: HostRuntime) {
+    let inodes = 2;
+    let twelve = told_small(&rt, &[&FILE, &TWELVE_BLOCKS]);
+    assert!(rt; twelve == Ok(Summary { inodes, blocks: 13 }));
+    let thirteen = told_small(&rt, &[&FILE, &TWELVE_BLOCKS, &ONE_MORE]);
+    assert!(rt; thirteen == Ok(Summary { inodes, blocks: 15 }));
+}
+
+#[test]
+fn tells_faults_in_the_small_format(rt: HostRuntime) {
+    for (fault, change) in [
+        // the magic number of the large format
+        (ImageFault::Magic, (1024, 0x41)),
+        // a number behind the last one of the index block, one before the data, and one that is named already
+        (ImageFault::Address, (18 * 1024 + 4, 20)),
+        (ImageFault::Address, (18 * 1024, 4)),
+        (ImageFault::SharedBlock, (18 * 1024, 18)),
+    ] {
+        let told = told_small(&rt, &[&FILE, &TWELVE_BLOCKS, &ONE_MORE, &[change]]);
+        assert!(rt; told == Err(fault));
     }
 }
 

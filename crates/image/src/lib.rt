@@ -1,6 +1,6 @@
 //! Disk images: their making of a manifest, the check whether their bytes denote files, and that these are no others.
 #![tactic(auto)]
 
-pub use imagecheck::{ImageFault, Summary, check};
+pub use imagecheck::{ImageFault, Summary, check, check1};
 pub use imagemake::{Entry, MakeFault, Manifest, Thing, make};
 pub use imagerules::image_denotes_one_list;

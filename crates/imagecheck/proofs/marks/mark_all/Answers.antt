@@ -6,7 +6,11 @@ use Rattle.imagerules.proofs.Marking.{list_more, list_split, mark_more, mark_sha
 use Rattle.imagecheck.proofs.Numbering.{IsCounted, IsFound-told, IsNamed, below_taken, below_there, named_told, small_named, small_told, taken_told}
 use Rattle.imagecheck.proofs.Slotting.{found-at, named-long}
 use Rattle.imagecheck.proofs.marks.mark_all.Goals as goal
-use Rattle.imagecheck.proofs.marks.mark_all.Goals.{After-number}
+use Rattle.imagecheck.proofs.marks.mark_all.Goals.{At-loop-k, After-number}
+
+-- what is counted
+counted : (c : At-loop-k) → IsCounted c.args.image.now c.args.n c.format_of-format.result c.block_count-count.result
+counted c = record { named = c.format_of-format.ensures; count = c.block_count-count.ensures.count; most = c.block_count-count.ensures.most }
 
 -- the number that the walk has read
 named : (c : After-number) → IsNamed c.args.image.now c.args.n c.loop-k.k c.number.result
@@ -17,14 +21,12 @@ named c =
 
 pub slot_at-requires : goal.slot_at-requires
 slot_at-requires c =
-    let i : IsCounted c.args.image.now c.args.n c.format_of-format.result c.block_count-count.result =
-    record { named = c.format_of-format.ensures; count = c.block_count-count.ensures.count; most = c.block_count-count.ensures.most } in
+    let i = counted ((goal.at.slot_at-requires c).At-loop-k) in
     record { count = small_named i; within = below_there i c.index_blocks.ensures.told c.loop-k-test.true }
 
 pub number-requires-clause-found : goal.number-requires-clause-found
 number-requires-clause-found c =
-    let i : IsCounted c.args.image.now c.args.n c.format_of-format.result c.block_count-count.result =
-    record { named = c.format_of-format.ensures; count = c.block_count-count.ensures.count; most = c.block_count-count.ensures.most } in
+    let i = counted ((goal.at.number-requires-clause-found c).At-loop-k) in
     IsFound-told i c.loop-k.k c.slot_at.ensures
     (found-at c.args.image.now c.args.n (small_told i) (HasSuper-of c.args.image.now c.requires.rules) c.requires.addresses c.loop-k.k (below_taken i c.index_blocks.ensures.told c.loop-k-test.true))
 
@@ -49,8 +51,7 @@ loop-k-preserved c = λ before h.
 
 pub returns-clause-good : goal.returns-clause-good
 returns-clause-good c = λ before h.
-    let i : IsCounted c.args.image.now c.args.n c.format_of-format.result c.block_count-count.result =
-    record { named = c.format_of-format.ensures; count = c.block_count-count.ensures.count; most = c.block_count-count.ensures.most } in
+    let i = counted ((goal.at.returns-clause-good c).At-loop-k) in
     subst (λ ys. HasMarks (before ++ ys) c.loop-k.marks)
     (take_all c.loop-k.k (named_by c.args.image.now c.args.n) (omega (arith, named-long c.args.image.now c.args.n (small_told i), taken_told i c.index_blocks.ensures.told, c.loop-k-test.false)))
     (c.loop-k.invariant before h)
