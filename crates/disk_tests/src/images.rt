@@ -155,10 +155,7 @@ fn told_of(
 }
 
 // What is told of it in the small format.
-fn told_small(
-    rt: &(impl Abort + AllocGlobal),
-    lists: &[&[Change]],
-) -> Result<Summary, ImageFault> {
+fn told_small(rt: &(impl Abort + AllocGlobal), lists: &[&[Change]]) -> Result<Summary, ImageFault> {
     check1(rt.alloc(), &mut disk_of(rt, lists))
 }
 
