@@ -12,7 +12,7 @@ TEXTS := $(wildcard user/*.s)
 USER := $(TEXTS:user/%.s=out/user/%)
 IMAGE := out/xv6.img
 
-.PHONY: demo build program image user test quick edits check bench qemu kills full places limits fuzz fmt
+.PHONY: demo build program image user test quick edits check bench qemu kills full places limits fuzz outages refusals fmt
 
 # Boots a machine from an image with the user programs, types at its shell, and shows its console. It takes the
 # proved build where there is one that is not older than the sources. Else `rt try` compiles, and proves nothing of, the
@@ -95,6 +95,14 @@ limits: | program
 # Hands the program random files for a minute.
 fuzz: | program
 	bench/fuzz.py --seed $$$$ $(PROGRAM)
+
+# Lets each access of the disk fail in its turn, in a session at the shell of the built program. It takes a minute.
+outages: $(IMAGE)
+	bench/each_access.py $(PROGRAM) $(IMAGE)
+
+# Refuses each request for memory in its turn, in each command of the built program. It takes a minute.
+refusals: | program
+	bench/each_allocation.py $(PROGRAM)
 
 # Lays out the sources of every crate.
 fmt:

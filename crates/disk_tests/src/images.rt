@@ -3,6 +3,7 @@
 use crate::devices::{fail_after, zeros};
 use blockdev::MemDisk;
 use image::{ImageFault, Summary, check, check1};
+use linked_list_allocator::LocalHeap;
 use std::process::Abort;
 
 // A byte of an image and what it is set to.
@@ -159,6 +160,17 @@ fn told_small(rt: &(impl Abort + AllocGlobal), lists: &[&[Change]]) -> Result<Su
     check1(rt.alloc(), &mut disk_of(rt, lists))
 }
 
+// What is told of it where memory is refused past so many bytes.
+fn told_within(
+    rt: &(impl Abort + AllocGlobal),
+    first: &[Change],
+    second: &[Change],
+    size: usize,
+) -> Result<Summary, ImageFault> {
+    let heap = LocalHeap::new(rt.alloc(), size).expect(rt, "memory");
+    check(&heap, &mut disk_of(rt, &[first, second]))
+}
+
 // Each of these changes, behind the first ones, makes this fault.
 fn expect_fault(
     rt: &(impl Abort + AllocGlobal),
@@ -275,4 +287,39 @@ fn tells_a_short_device(rt: HostRuntime) {
 fn tells_a_failed_access(rt: HostRuntime) {
     let mut flaky = fail_after(zeros(&rt, 2048), 0);
     assert!(rt; check(rt.alloc(), &mut flaky) == Err(ImageFault::Device) && flaky.has_failed());
+}
+
+// However much memory there is, what is told of the image is that it doesn't suffice, or the same as with enough of it. Each
+// request is refused at some of the sizes.
+fn expect_refusals(rt: &(impl Abort + AllocGlobal), first: &[Change], second: &[Change]) {
+    let told = told_of(rt, first, second);
+    let mut refused = false;
+    let mut last = told;
+    for units in 0..ENOUGH {
+        last = told_within(rt, first, second, TOO_LITTLE + 16 * units);
+        refused = refused || last != told;
+        assert!(rt;
+            last == told || last == Err(ImageFault::NoMemory),
+            "with {units} units"
+        );
+    }
+    assert!(rt;
+        refused && last == told,
+        "it needs some memory, and there is enough"
+    );
+}
+
+// A check keeps the whole image. This is too little for it.
+const TOO_LITTLE: usize = 32 * 1024 - 256;
+
+// As many units of 16 bytes more as a check of the small image takes, and more.
+const ENOUGH: usize = 160;
+
+#[test]
+fn tells_that_memory_is_refused(rt: HostRuntime) {
+    expect_refusals(&rt, &[], &[]);
+    expect_refusals(&rt, &FILE, &TWO_BLOCKS);
+    expect_refusals(&rt, &DIRECTORY, &[]);
+    expect_refusals(&rt, &ROUND, &[]);
+    expect_refusals(&rt, &FILE, &[(ROOT + 70, 2)]);
 }

@@ -3,13 +3,15 @@ use crate::play::Act::{
     Answer, Faults, Gone, Halts, Is, Killed, NoPage, NoTables, Page, Parent, Pc, Reaches,
     Registers, Runs, Size, Steps,
 };
-use crate::play::{Act, NEXT_CALL, Program, READY, ROOM, RUNNING, SBRK, holds_at, prints, run};
+use crate::play::{
+    Act, NEXT_CALL, Program, READY, ROOM, RUNNING, SBRK, holds_at, prints, run, saved,
+};
 use console::Writer;
 use machine::{Halt, Perm, ProcessState, boot_flat, boot_flat_with};
 use ram::{FrameNo, Ram};
 use std::alloc::Global;
 use std::cell::Cell;
-use sv39::{Tlb, Translate};
+use sv39::{Plain, Tlb, Translate};
 use translators::Counting;
 use unixmodel::event::Event;
 use unixmodel::trap::Access;
@@ -174,6 +176,8 @@ fn halts_where_the_console_fails(rt: HostRuntime) {
         Parent(1, 0),
     ];
     prints(&rt, HI, (64, 1), &ACTS, b"h");
+    let left = saved(&rt, HI, Plain::new(), 1, &ACTS);
+    holds_at(&rt, ACTS.len(), left.err() == Some(Halt::Halted));
 }
 
 // The first of nine steps is a turn, and each of the others is an instruction: boot and the turn may fence, and the end of the

@@ -1,0 +1,188 @@
+//! A session on a disk of which one access fails, each in its turn.
+use crate::session::{Session, disk_of, events_of};
+use anyhow::{bail, ensure};
+use blockdev::{BlockDev, FailAt};
+use console::Writer;
+use machine::{BootFault, Halt, Machine, boot};
+use std::alloc::Global;
+use std::num::NonZeroU64;
+use sv39::Plain;
+use unixmodel::event::Event;
+
+// A boot reads the whole image: of so many accesses one is tried, up to the last ones of a boot, and then each.
+const STRIDE: u64 = 16;
+
+// More accesses than a session makes.
+const ACCESSES: u64 = 20_000;
+
+// How far a machine comes whose disk fails: the later the access, the further.
+#[derive(Clone, Copy, PartialEq)]
+enum Course {
+    // It doesn't boot.
+    Boot,
+    // It halts at an event, and prints what those before it print.
+    Halt,
+    // All events are done, and it can't be saved.
+    Save,
+    // It is saved.
+    End,
+}
+
+// What events print, one after the other.
+#[derive(Drop)]
+struct Printed {
+    bytes: Vec<u8>,
+    // How many bytes there are behind each event.
+    counts: Vec<usize>,
+}
+
+impl Printed {
+    // What the first events print, so many of them.
+    fn by(&self, events: usize) -> &[u8] {
+        let last = events.checked_sub(1);
+        let count = last.and_then(|last| self.counts.get(last));
+        self.bytes.get(..count.copied().unwrap_or(0)).unwrap_or(&[])
+    }
+}
+
+// Gives events up to the one that isn't done: how many are done, and why that one isn't.
+fn go<D: BlockDev>(
+    machine: &mut Machine<D, Plain>,
+    events: &[Event],
+    out: &mut Writer<Vec<u8>>,
+) -> (usize, Option<Halt>) {
+    for (done, event) in events.iter().enumerate() {
+        if let Err(halt) = machine.step(*event, out) {
+            return (done, Some(halt));
+        }
+    }
+    (events.len(), None)
+}
+
+// Whether events are answered by that it has halted.
+fn is_still<D: BlockDev>(machine: &mut Machine<D, Plain>, out: &mut Writer<Vec<u8>>) -> bool {
+    machine.step(Event::Step, out) == Err(Halt::Halted)
+        && machine.run(&[Event::Tick], out) == Err(Halt::Halted)
+}
+
+// How it goes on where all events are done.
+fn save<D: BlockDev>(machine: Machine<D, Plain>) -> anyhow::Result<Course> {
+    match machine.save() {
+        Ok(_) => Ok(Course::End),
+        Err(Halt::Device) => Ok(Course::Save),
+        Err(_) => bail!("the machine isn't saved"),
+    }
+}
+
+// A session, and what it prints where no access fails.
+#[derive(Drop)]
+struct Outage<'a> {
+    image: &'a [u8],
+    frames: u32,
+    events: Vec<Event>,
+    printed: Printed,
+}
+
+impl<'a> Outage<'a> {
+    fn new(alloc: Global, session: &Session<'_>, image: &'a [u8]) -> anyhow::Result<Outage<'a>> {
+        let mut outage = Outage {
+            image,
+            frames: session.frames,
+            events: events_of(alloc, session)?,
+            printed: Printed {
+                bytes: Vec::new(alloc),
+                counts: Vec::new(alloc),
+            },
+        };
+        outage.print(alloc)?;
+        Ok(outage)
+    }
+
+    // Plays it on a disk that doesn't fail.
+    fn print(&mut self, alloc: Global) -> anyhow::Result<()> {
+        let mut machine = boot(
+            alloc,
+            disk_of(alloc, self.image)?,
+            Plain::new(),
+            self.frames,
+        )?;
+        for event in &self.events {
+            let mut out = Writer::new(Vec::new(alloc));
+            ensure!(machine.step(*event, &mut out).is_ok(), "the machine halted");
+            let printed = out.into_inner();
+            self.printed.bytes.extend_from_slice(printed.as_slice())?;
+            self.printed.counts.push(self.printed.bytes.len())?;
+        }
+        Ok(())
+    }
+
+    // How far a machine comes that booted. What it prints is a beginning of all, which ends with a whole event.
+    fn play<D: BlockDev>(
+        &self,
+        alloc: Global,
+        mut machine: Machine<D, Plain>,
+    ) -> anyhow::Result<Course> {
+        let mut out = Writer::new(Vec::new(alloc));
+        let (done, halt) = go(&mut machine, self.events.as_slice(), &mut out);
+        let course = match halt {
+            None => save(machine)?,
+            Some(Halt::Device) if is_still(&mut machine, &mut out) => Course::Halt,
+            Some(_) => bail!("the machine halted in another way"),
+        };
+        let printed = out.into_inner();
+        ensure!(
+            printed.as_slice() == self.printed.by(done),
+            "it prints something else"
+        );
+        Ok(course)
+    }
+
+    // How far it comes where the access of this number fails.
+    fn course(&self, alloc: Global, n: NonZeroU64) -> anyhow::Result<Course> {
+        let disk = FailAt::new(disk_of(alloc, self.image)?, n);
+        match boot(alloc, disk, Plain::new(), self.frames) {
+            Ok(machine) => self.play(alloc, machine),
+            Err(BootFault::Device) => Ok(Course::Boot),
+            Err(fault) => bail!("it doesn't boot: {fault}"),
+        }
+    }
+
+    // The number of an access that fails the boot, near the last of these.
+    fn booting(&self, alloc: Global) -> anyhow::Result<NonZeroU64> {
+        let mut last = NonZeroU64::MIN;
+        for _ in 0..ACCESSES {
+            let next = last.saturating_add(STRIDE);
+            if self.course(alloc, next)? != Course::Boot {
+                return Ok(last);
+            }
+            last = next;
+        }
+        bail!("it never boots")
+    }
+
+    // Lets each access behind this one fail, up to where none does. A later access fails no sooner, and each course is reached.
+    fn fail_behind(&self, alloc: Global, booting: NonZeroU64) -> anyhow::Result<()> {
+        let mut reached = Course::Boot as u8;
+        for more in 1..ACCESSES {
+            let course = self.course(alloc, booting.saturating_add(more))? as u8;
+            ensure!(
+                course == reached || course == reached.wrapping_add(1),
+                "it comes too far or not far enough"
+            );
+            reached = course;
+            if reached == Course::End as u8 {
+                return Ok(());
+            }
+        }
+        bail!("it never ends well")
+    }
+}
+
+/// Plays a session once for each access at which its disk may fail, of those that a boot makes for some. The machine doesn't boot,
+/// or halts, or can't be saved, and tells that its device failed; its console has a beginning of what the whole session prints, up
+/// to the end of an event; and it does no more.
+pub fn fail_each(alloc: Global, session: &Session<'_>, image: &[u8]) -> anyhow::Result<()> {
+    let outage = Outage::new(alloc, session, image)?;
+    let booting = outage.booting(alloc)?;
+    outage.fail_behind(alloc, booting)
+}
