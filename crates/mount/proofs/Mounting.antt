@@ -6,11 +6,13 @@ use Rattle.layout.specs.declared.Geometry.{Geometry}
 use Rattle.names.specs.Rules.{KeepsTree}
 use Rattle.settled.proofs.FromRules.{KeepsTree-rules, linked-rules}
 use Rattle.unixmodel.specs.Files.{Files, slot}
-use Rattle.unixmodel.specs.Image.{Denotes, size_in}
+use Rattle.unixmodel.specs.Formats.{format, most_bytes}
+use Rattle.unixmodel.specs.Image.{Denotes, KeepsRules, KeepsRulesTo, size_in}
 use Rattle.unixmodel.specs.Manifest.{data_blocks_of}
 use Rattle.imagerules.specs.Content.{image_of}
 use Rattle.imagerules.proofs.ContentLemmas.{length-image_of}
 use Rattle.imagerules.proofs.Denoting.{Denotes-files}
+use Rattle.imagemake.proofs.Slotted.{format-told}
 use Rattle.tree.specs.Stored.{IsFileSystem, files_of}
 use Rattle.tree.specs.Tree.{tree_over}
 use Rattle.tree.proofs.Storing.{files-are, held-again}
@@ -31,6 +33,9 @@ module _ (blocks : List (List ℕ)) (sizes : AreBlocks blocks) (files : Files) (
   denoted : IsDenoted g blocks files
   denoted = record { sizes = sizes; size = numbers.size; inodes = numbers.inodes; denotes = d }
 
+  rules-denoted : KeepsRules files
+  rules-denoted = subst (λ f. KeepsRulesTo (most_bytes f) files) (format-told (image_of blocks) d.magic) d.rules
+
   -- a disk of these blocks holds the files that they tell
   pub IsFileSystem-mounted : (disk : Disk) → disk.blocks ≡ blocks → IsFileSystem g disk.blocks
   IsFileSystem-mounted disk same = subst (IsFileSystem g) (sym same) (held-again g blocks files (Stores-denoted g blocks files denoted))
@@ -41,8 +46,8 @@ module _ (blocks : List (List ℕ)) (sizes : AreBlocks blocks) (files : Files) (
       record {
         denotes = subst (Denotes (image_of blocks)) (sym are) d;
         only = λ others e. Denotes-files (image_of blocks) others e ∙ sym (Denotes-files (image_of blocks) files d) ∙ sym are;
-        rules = subst KeepsTree (sym are) (KeepsTree-rules d.rules);
-        linked = λ n node here. linked-rules d.rules n node (ap (λ (fs : Files). slot fs n) (sym are) ∙ here);
+        rules = subst KeepsTree (sym are) (KeepsTree-rules rules-denoted);
+        linked = λ n node here. linked-rules rules-denoted n node (ap (λ (fs : Files). slot fs n) (sym are) ∙ here);
         holds = ap (λ n. replicate n 0) numbers.inodes;
         limit = ap (λ size. data_blocks_of size g.inodes) numbers.size ∙ ap (data_blocks_of (size_in (image_of blocks))) numbers.inodes;
         up = refl;
@@ -54,7 +59,7 @@ is-told P r fault e h = subst (λ x. IfErr x P) (sym e) h
 
 module _ {D T : Type 0} (count : D → ℕ) (image : List ℕ) (failures : ℕ) (r : Result T ImageFault) where
   -- the check
-  pub unmounted-check : {U : Type 0} (left : D) (fault found : ImageFault) → r ≡ Err fault → fault ≡ found → Tells image found → (IsOfImage found → (files : Files) → Denotes image files → ⊥)
+  pub unmounted-check : {U : Type 0} (left : D) (fault found : ImageFault) → r ≡ Err fault → fault ≡ found → Tells format image found → (IsOfImage found → (files : Files) → Denotes image files → ⊥)
       → (IsErrOf {T = U} (Err found) Device → Rises failures (count left)) → IfErr r (IsUnmounted count image failures)
   unmounted-check {U = U} left fault found e same tells none failed =
       is-told (IsUnmounted count image failures) r fault e (subst (IsUnmounted count image failures) (sym same) (record { tells = tells; none = none; failed = λ device. (left, failed (again device)) }))

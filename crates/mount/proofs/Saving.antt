@@ -4,9 +4,9 @@ use Rattle.std.specs.Prelude.{Err, Ok, OnOk, Result}
 use Rattle.std.proofs.lemmas.Bool.{cases_eq}
 use Rattle.blockdev.specs.declared.DeviceFault.{DeviceFault}
 use Rattle.imagemake.proofs.Denoted.{Denotes-standing, readable}
-use Rattle.imagemake.proofs.Located.{kind-located, links-located, major-located, minor-located, size-located}
 use Rattle.imagemake.proofs.Slotted.{contents-are}
 use Rattle.imagerules.specs.Content.{image_of}
+use Rattle.imagerules.proofs.Read.{kind-located, links-located, major-located, minor-located, size-located}
 use Rattle.layout.specs.declared.Geometry.{Geometry}
 use Rattle.layout.proofs.Frame.{get_or-nodes_of, length-bytes_of, node_at-none, node_at-some}
 use Rattle.layout.specs.Image.{IsInode, bytes_of, inode_at, node_at, node_with}
@@ -44,7 +44,7 @@ module _ (g : Geometry) (blocks : List (List ℕ)) (files : Files) (holds : Stor
       kind = sym (kind-located g blocks parts n i.high) ∙ raw.kind;
       links = sym (links-located g blocks parts n i.high) ∙ raw.links;
       size = sym (size-located g blocks parts n i.high) ∙ sym (length-bytes_of blocks n) ∙ ap length raw.bytes ∙ whole-node node fits;
-      contents = contents-are g blocks n (readable g blocks holds.sound n i) (λ k asks. let r = (holds.sound.in_range n k (record { inode = i; slot = asks })).1 in omega (arith, parts.count)) ∙ raw.bytes;
+      contents = contents-are g blocks n (readable g blocks holds.sound n i) ∙ raw.bytes;
       major = has-major node raw.device;
     }
 

@@ -1,28 +1,29 @@
 -- A disk whose image denotes files is sound.
-use Rattle.std.proofs.Common.{◌≡◌, ◌≢◌, ℕ, ◌-◌, ◌<◌, ◌≤◌, List, length, get_or, ap, sym, ◌∙◌, arith, subst, inl, inr, All, IsTrue, flat_map, min, nat_le, nat_lt, ◌==◌, ◌⊎◌, Decides, refl}
+use Rattle.std.proofs.Common.{◌≡◌, ◌≢◌, ℕ, ◌-◌, ◌<◌, ◌≤◌, List, length, get_or, ap, sym, ◌∙◌, arith, subst, inl, inr, All, IsTrue, flat_map, nat_le, nat_lt, ◌⊎◌, Decides, refl}
 use Rattle.std.specs.List.{range_with_len}
 use Rattle.std.proofs.lemmas.Bool.{and_parts, cases_lt, leb-true, ltb-true}
 use Rattle.std.proofs.lemmas.Bool.Decides.{Decides-eqb}
+use Rattle.std.proofs.lemmas.List.Elements.{All-weaker}
 use Rattle.blockdev.specs.Blocks as device
 use Rattle.blockdev.specs.Blocks.{AreBlocks}
 use Rattle.layout.specs.Image as disk
-use Rattle.layout.specs.Image.{IsInode, IsUsed, slot_of}
+use Rattle.layout.specs.Image.{IsInode, IsUsed, asked_slot, slot_of}
 use Rattle.layout.specs.Sound.{HasParts, IsNamed, IsSound, TellsGeometry}
 use Rattle.layout.specs.Super.{bitmap_start_of, data_start_of, super_of}
 use Rattle.layout.specs.declared.Geometry.{Geometry}
-use Rattle.unixmodel.specs.Files.{Files}
-use Rattle.unixmodel.specs.Image.{Denotes, bit_of, count_in, data_start, indirect_in, inodes_in, is_data_block, kind_in, length_in, named_blocks, size_in}
+use Rattle.unixmodel.specs.Files.{Files, longest}
+use Rattle.unixmodel.specs.Formats.{Format, format, most_bytes}
+use Rattle.unixmodel.specs.Image.{Denotes, bit_of, data_start, format_of, inodes_in, is_data_block, kind_in, length_in, named_blocks, size_in}
 use Rattle.imagerules.specs.Content.{image_of}
 use Rattle.imagerules.proofs.ContentLemmas.{length-image_of}
 use Rattle.imagerules.specs.Marks.{IsOnce, blocks_of}
 use Rattle.imagerules.specs.Pieces.{FitsAddresses}
 use Rattle.imagerules.proofs.Denoting.{HasKinds-denotes, HasSizes-denotes}
-use Rattle.imagemake.proofs.Located.{kind-located, size-located}
 use Rattle.imagerules.proofs.Marking.{named_before-all, blocks_of-used}
-use Rattle.imagerules.proofs.Named.{cond_yes}
-use Rattle.imagerules.proofs.Uses.{FitsAddresses-at, fits_indirect-at, is_data_block-below}
+use Rattle.imagerules.proofs.Read.{kind-located, size-located}
+use Rattle.imagerules.proofs.Uses.{FitsAddresses-at, is_data_block-below}
 use Rattle.mount.proofs.Ranges.{apart-two, once-one}
-use Rattle.imagemake.proofs.Slotted.{IsReadable, listed-once, listed-slot, listed-within, spare-zero}
+use Rattle.imagemake.proofs.Slotted.{HasSlots, IsReadable, IsReadable-listed, format-told, slot-listed, spare-zero}
 use Rattle.imagemake.proofs.Legible.{IsLegible, bit-held, named-decides}
 use Rattle.imagerules.proofs.Super.{HasNumbers-from, inodes-is, magic-is, size-is}
 
@@ -39,13 +40,19 @@ module _ (g : Geometry) (blocks : List (List ℕ)) (files : Files) (h : IsDenote
   count-held : length blocks ≡ g.size
   count-held = let whole = h.denotes.super.whole in omega (arith, length-image_of blocks h.sizes, h.size)
 
+  same-format : format_of (image_of blocks) ≡ format
+  same-format = format-told (image_of blocks) h.denotes.magic
+
+  same-most : (format_of (image_of blocks)).most ≡ format.most
+  same-most = ap (λ (f : Format). f.most) same-format
+
   parts-held : HasParts g blocks
   parts-held =
       let super = h.denotes.super in
       record {
         count = count-held;
         sizes = h.sizes;
-        size_high = let most = super.size_most in omega (arith, h.size);
+        size_high = let most = super.size_most in omega (arith, h.size, same-most);
         inodes_low = let least = super.inodes_least in omega (arith, h.inodes);
         inodes_high = let most = super.inodes_most in omega (arith, h.inodes);
         room = let blocks_in = super.blocks in let some = super.some_blocks in omega (arith, h.size, h.inodes);
@@ -57,8 +64,8 @@ module _ (g : Geometry) (blocks : List (List ℕ)) (files : Files) (h : IsDenote
       let two : 2 ≤ length blocks = omega (arith, count-held, h.size) in
       let s = super_of (device.block_at blocks 1) in
       record {
-        numbers = HasNumbers-from blocks h.sizes two s refl h.denotes.super;
-        magic = magic-is blocks h.sizes two s refl ∙ h.denotes.super.magic;
+        numbers = HasNumbers-from blocks h.sizes two s refl same-most h.denotes.super;
+        magic = magic-is blocks h.sizes two s refl ∙ h.denotes.magic;
         size = size-is blocks h.sizes two s refl ∙ sym h.size;
         inodes = inodes-is blocks h.sizes two s refl ∙ sym h.inodes;
       }
@@ -72,22 +79,27 @@ module _ (g : Geometry) (blocks : List (List ℕ)) (files : Files) (h : IsDenote
     within-inode : n < inodes_in (image_of blocks)
     within-inode = let high = inode.high in omega (arith, h.inodes)
 
-    size-most : length_in (image_of blocks) n ≤ 274432
-    size-most = (HasSizes-denotes (image_of blocks) files h.denotes n inode.low within-inode).most used-inode
+    size-most : length_in (image_of blocks) n ≤ longest
+    size-most = subst (λ f. length_in (image_of blocks) n ≤ most_bytes f) same-format ((HasSizes-denotes (image_of blocks) files h.denotes n inode.low within-inode).most used-inode)
 
     addresses-held : FitsAddresses (image_of blocks) n
-    addresses-held = FitsAddresses-at (image_of blocks) (record { blocks = h.denotes.blocks; unused = h.denotes.unused }) n inode.low within-inode used-inode
+    addresses-held = FitsAddresses-at (image_of blocks) (record { blocks = h.denotes.blocks; spares = h.denotes.spares }) n inode.low within-inode used-inode
+
+    data-listed : All (λ b. IsTrue (is_data_block (image_of blocks) b)) (blocks_of (image_of blocks) n)
+    data-listed = subst (All (λ b. IsTrue (is_data_block (image_of blocks) b))) (sym (blocks_of-used (image_of blocks) n used-inode)) addresses-held.blocks
+
+    has-slots : HasSlots g blocks n
+    has-slots = record {
+      parts = parts-held;
+      same = same-format;
+      inode = inode;
+      fits = let high = inode.high in omega (arith, size-most, size-located g blocks parts-held n high);
+    }
 
     pub readable : IsReadable g blocks n
-    readable = record {
-      parts = parts-held;
-      inode = inode;
-      most = omega (arith, size-most);
-      index = λ many.
-          let last = indirect_in (image_of blocks) n in
-          let low = is_data_block-below (image_of blocks) last (sym (cond_yes 12 (count_in (image_of blocks) n) (is_data_block (image_of blocks) last) (last == 0) many) ∙ fits_indirect-at (image_of blocks) n addresses-held) in
-          omega (arith, count-held, h.size);
-    }
+    readable =
+        IsReadable-listed g blocks n has-slots
+        (All-weaker (λ b. IsTrue (is_data_block (image_of blocks) b)) (λ b. b < length blocks) (λ b t. omega (arith, is_data_block-below (image_of blocks) b t, count-held, h.size)) (blocks_of (image_of blocks) n) data-listed)
 
   pub legible : IsLegible g blocks
   legible = record { parts = parts-held; size = h.size; inodes = h.inodes; readable = readable }
@@ -110,42 +122,38 @@ module _ (g : Geometry) (blocks : List (List ℕ)) (files : Files) (h : IsDenote
   once-all : IsOnce all_listed
   once-all = subst IsOnce (sym (named_before-all (image_of blocks))) h.denotes.once
 
-  module _ (n : ℕ) (inode : IsInode blocks g.inodes n) where
-    data-listed : All IsData (blocks_of (image_of blocks) n)
-    data-listed = subst (All IsData) (sym (blocks_of-used (image_of blocks) n (used-inode n inode))) (addresses-held n inode).blocks
-
-    once-listed : IsOnce (blocks_of (image_of blocks) n)
-    once-listed = let in_range = within-inode n inode in once-one (blocks_of (image_of blocks)) 1 (inodes_in (image_of blocks) - 1) once-all n inode.low (omega arith)
+  once-listed : (n : ℕ) → IsInode blocks g.inodes n → IsOnce (blocks_of (image_of blocks) n)
+  once-listed n inode = let in_range = within-inode n inode in once-one (blocks_of (image_of blocks)) 1 (inodes_in (image_of blocks) - 1) once-all n inode.low (omega arith)
 
   slot-data : (n k : ℕ) → IsUsed blocks g.inodes n k → IsData (slot_of blocks n k)
   slot-data n k u =
-      let r = readable n u.inode in
-      subst IsData (listed-slot g blocks n r k 0 u.slot) (data-listed n u.inode (min k (count_in (image_of blocks) n)) 0 (listed-within g blocks n r k u.slot))
+      let at = slot-listed g blocks n (readable n u.inode) k 0 u.slot in
+      subst IsData at.2 (data-listed n u.inode at.0 0 at.1)
 
   -- two slots of one inode
   once-inode : (n j k : ℕ) → IsUsed blocks g.inodes n j → IsUsed blocks g.inodes n k → slot_of blocks n j ≡ slot_of blocks n k → j ≡ k
   once-inode n j k u v e =
-      let r = readable n u.inode in
-      let count = count_in (image_of blocks) n in
+      let a = slot-listed g blocks n (readable n u.inode) j 0 u.slot in
+      let b = slot-listed g blocks n (readable n u.inode) k 0 v.slot in
       let once = once-listed n u.inode in
-      let same : get_or (blocks_of (image_of blocks) n) (min j count) 0 ≡ get_or (blocks_of (image_of blocks) n) (min k count) 0 = listed-slot g blocks n r j 0 u.slot ∙ e ∙ sym (listed-slot g blocks n r k 0 v.slot) in
-      elim (cases_lt (min j count) (min k count)) [
-        | inl low ↦ absurd (once (min j count) (min k count) 0 low (listed-within g blocks n r k v.slot) same)
-        | inr a ↦ elim (cases_lt (min k count) (min j count)) [
-          | inl low ↦ absurd (once (min k count) (min j count) 0 low (listed-within g blocks n r j u.slot) (sym same))
-          | inr b ↦ listed-once g blocks n r j k u.slot v.slot (omega arith)
+      let same : get_or (blocks_of (image_of blocks) n) a.0 0 ≡ get_or (blocks_of (image_of blocks) n) b.0 0 = a.2 ∙ e ∙ sym b.2 in
+      elim (cases_lt a.0 b.0) [
+        | inl low ↦ absurd (once a.0 b.0 0 low b.1 same)
+        | inr p ↦ elim (cases_lt b.0 a.0) [
+          | inl low ↦ absurd (once b.0 a.0 0 low a.1 (sym same))
+          | inr q ↦
+              let place : a.0 ≡ b.0 = omega arith in
+              sym a.3 ∙ ap (λ p. asked_slot (disk.blocks_for (disk.inode_at blocks n).size) p) place ∙ b.3
         ]
       ]
 
   -- slots of two
   apart-inodes : (m j n k : ℕ) → m < n → IsUsed blocks g.inodes m j → IsUsed blocks g.inodes n k → slot_of blocks m j ≢ slot_of blocks n k
   apart-inodes m j n k low u v e =
-      let r = readable m u.inode in
-      let s = readable n v.inode in
+      let a = slot-listed g blocks m (readable m u.inode) j 0 u.slot in
+      let b = slot-listed g blocks n (readable n v.inode) k 0 v.slot in
       let high = within-inode n v.inode in
-      apart-two (blocks_of (image_of blocks)) 1 (inodes_in (image_of blocks) - 1) once-all m n u.inode.low low (omega arith)
-      (min j (count_in (image_of blocks) m)) (min k (count_in (image_of blocks) n)) 0 (listed-within g blocks m r j u.slot) (listed-within g blocks n s k v.slot)
-      (listed-slot g blocks m r j 0 u.slot ∙ e ∙ sym (listed-slot g blocks n s k 0 v.slot))
+      apart-two (blocks_of (image_of blocks)) 1 (inodes_in (image_of blocks) - 1) once-all m n u.inode.low low (omega arith) a.0 b.0 0 a.1 b.1 (a.2 ∙ e ∙ sym b.2)
 
   once-slots : (m j n k : ℕ) → IsUsed blocks g.inodes m j → IsUsed blocks g.inodes n k → slot_of blocks m j ≡ slot_of blocks n k → (m ≡ n) × (j ≡ k)
   once-slots m j n k u v e = elim (cases_lt m n) [
@@ -172,7 +180,7 @@ module _ (g : Geometry) (blocks : List (List ℕ)) (files : Files) (h : IsDenote
     fits = λ n inode. let high = inode.high in omega (arith, size-most n inode, size-located g blocks parts-held n high);
     in_range = λ n k u. data-range (slot_of blocks n k) (slot-data n k u);
     once = once-slots;
-    spare = λ n k inode spare. spare-zero g blocks n (readable n inode) (addresses-held n inode).unused k spare;
+    spare = λ n k inode spare. spare-zero g blocks n (readable n inode) (addresses-held n inode).spares k spare;
     marked = λ b high.
         let bit = bit-held g blocks legible b high in
         let decides = bit-decides b high in

@@ -8,6 +8,7 @@ use Rattle.names.specs.Rules.{KeepsTree}
 use Rattle.tree.specs.Tree.{FileTree}
 use Rattle.unixmodel.specs.Failures.{Rises}
 use Rattle.unixmodel.specs.Files.{Files, Node, links_of, slot}
+use Rattle.unixmodel.specs.Formats.{format}
 use Rattle.unixmodel.specs.Image.{Denotes, inodes_in, size_in}
 use Rattle.unixmodel.specs.Manifest.{ManifestEntry, data_blocks_of}
 use Rattle.unixmodel.specs.Manifest.Thing.{Special}
@@ -37,7 +38,7 @@ pub record IsMounted (image : List ℕ) (failures : ℕ) (tree : FileTree) : Typ
 -- why none are in use: the fault is one of the image, which then denotes no files; or an access of the device failed, and the
 -- device that is left counts it; or the host has no memory
 pub record IsUnmounted {D : Type 0} (count : D → ℕ) (image : List ℕ) (failures : ℕ) (fault : ImageFault) : Type 0 where
-  pub tells : Tells image fault
+  pub tells : Tells format image fault
   pub none : IsOfImage fault → (files : Files) → Denotes image files → ⊥
   pub failed : fault ≡ Device → (left : D) × Rises failures (count left)
 
