@@ -1,4 +1,6 @@
 //! Where files come from and go to.
+ghost use Rattle.std.specs.Prelude.{◌≤◌, IfOk, vec_len};
+
 use std::io;
 
 /// A file could not be read or written.
@@ -34,7 +36,9 @@ pub trait Host {
     fn write(&mut self, name: &str, bytes: &[u8]) -> Result<(), HostFault>;
 
     /// The first bytes of a file, so many where it has as many. A host that can stops reading there.
-    fn read_front(&mut self, name: &str, most: usize) -> Result<Front, HostFault> {
+    fn read_front(&mut self, name: &str, most: usize) -> Result<Front, HostFault>
+        ensures { IfOk result (λ front. vec_len front.bytes ≤ most) }
+    {
         let mut bytes = self.read(name)?;
         let length = Some(bytes.len() as u64);
         bytes.truncate(most);

@@ -4,6 +4,8 @@ mod images;
 mod program_files;
 mod runs;
 
+ghost use Rattle.std.specs.Prelude.{◌≤◌, IfOk, vec_len};
+
 use crate::host::{Front, Host, Why};
 use crate::report::{Failure, print, tell};
 use commandline::{Check, Flat, Job, Mkfs, Run};
@@ -30,7 +32,9 @@ fn read<'a, H: Host>(host: &mut H, name: &'a str) -> Result<Vec<u8>, Failure<'a>
 }
 
 // A file's first bytes, so many at most.
-fn read_front<'a, H: Host>(host: &mut H, name: &'a str, most: usize) -> Result<Front, Failure<'a>> {
+fn read_front<'a, H: Host>(host: &mut H, name: &'a str, most: usize) -> Result<Front, Failure<'a>>
+    ensures { IfOk result (λ front. vec_len front.bytes ≤ most) }
+{
     match host.read_front(name, most) {
         Ok(front) => Ok(front),
         Err(_) => Err(refused(host, Failure::Read(name))),

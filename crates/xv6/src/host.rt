@@ -1,4 +1,6 @@
 //! The host of the program: real files.
+ghost use Rattle.std.specs.Prelude.{◌≤◌, IfOk, vec_len};
+
 use commands::{Front, Host, HostFault, Why};
 use std::fs::{self, OpenFile};
 use std::io::{self, ErrorKind, Read};
@@ -31,11 +33,14 @@ impl<'a, R: Files + AllocGlobal> RealFiles<'a, R> {
 
 // The first bytes of a file, and how long it is: so long as it was read to its end, and else as the system says, which knows
 // the length of regular files alone.
-fn front<R: Files + AllocGlobal>(rt: &R, name: &str, most: usize) -> io::Result<Front> {
+fn front<R: Files + AllocGlobal>(rt: &R, name: &str, most: usize) -> io::Result<Front>
+    ensures { IfOk result (λ front. vec_len front.bytes ≤ most) }
+{
     let file = fs::open(rt, name)?;
     let metadata = file.metadata()?;
     let mut bytes = Vec::new(rt.alloc());
     file.take(most as u64).read_to_end(&mut bytes)?;
+    bytes.truncate(most);
     let length = if bytes.len() < most {
         Some(bytes.len() as u64)
     } else if metadata.is_file() && metadata.len() >= bytes.len() as u64 {
@@ -58,8 +63,13 @@ impl<R: Files + AllocGlobal> Host for RealFiles<'_, R> {
     }
 
     fn read_front(&mut self, name: &str, most: usize) -> Result<Front, HostFault> {
-        let done = front(self.rt, name, most);
-        self.told(done)
+        match front(self.rt, name, most) {
+            Ok(front) => Ok(front),
+            Err(error) => {
+                self.error = Some(error);
+                Err(HostFault)
+            }
+        }
     }
 
     fn why(&self) -> Why {

@@ -1,5 +1,5 @@
 //! Makes, checks and lists disk images.
-ghost use Rattle.std.specs.Prelude.{◌≡◌, IfOk};
+ghost use Rattle.std.specs.Prelude.{◌≡◌, ◌≤◌, IfOk, vec_len};
 ghost use Rattle.commands.specs.Entries.{IsEntryOf};
 
 use crate::host::{Front, Host};
@@ -40,7 +40,9 @@ fn lines_of<'a>(
 }
 
 // The bytes of the host's file of this name; of one that is too long for a file of an image, too many of them.
-fn host_file<'a, H: Host>(host: &mut H, name: &'a [u8]) -> Result<Vec<u8>, Failure<'a>> {
+fn host_file<'a, H: Host>(host: &mut H, name: &'a [u8]) -> Result<Vec<u8>, Failure<'a>>
+    ensures { IfOk result (λ bytes. vec_len bytes ≤ MOST_FILE) }
+{
     match str::from_utf8(name) {
         Ok(name) => Ok(read_front(host, name, MOST_FILE)?.bytes),
         Err(_) => Err(Failure::Read("")),
@@ -120,7 +122,9 @@ pub fn mkfs<'a, H: Host>(
 }
 
 /// An image, of which no more is read than shows that it is too long.
-pub fn read_image<'a, H: Host>(host: &mut H, name: &'a str) -> Result<Front, Failure<'a>> {
+pub fn read_image<'a, H: Host>(host: &mut H, name: &'a str) -> Result<Front, Failure<'a>>
+    ensures { IfOk result (λ front. vec_len front.bytes ≤ MOST_IMAGE) }
+{
     read_front(host, name, MOST_IMAGE)
 }
 

@@ -243,8 +243,9 @@ impl Host for Long {
         Err(HostFault)
     }
 
-    fn read_front(&mut self, _name: &str, _most: usize) -> Result<Front, HostFault> {
-        let bytes = self.front.clone().map_err(|_| HostFault)?;
+    fn read_front(&mut self, _name: &str, most: usize) -> Result<Front, HostFault> {
+        let mut bytes = self.front.clone().map_err(|_| HostFault)?;
+        bytes.truncate(most);
         Ok(Front {
             bytes,
             length: self.length,
