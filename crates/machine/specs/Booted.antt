@@ -24,6 +24,7 @@ use Rattle.unixmodel.specs.declared.process.Mode.TheVariants.{Ready}
 use Rattle.unixmodel.specs.Counts.{page_frames}
 use Rattle.unixmodel.specs.Failures.{Rises}
 use Rattle.unixmodel.specs.Files.{Files, free_slots}
+use Rattle.unixmodel.specs.Formats.{format}
 use Rattle.unixmodel.specs.Image.{Denotes, inodes_in, size_in}
 use Rattle.unixmodel.specs.Manifest.{data_blocks_of}
 use Rattle.unixmodel.specs.Memory.{zeros}
@@ -58,7 +59,7 @@ pub record IsWithoutInit (image : List ℕ) (frames : ℕ) : Type 0 where
 
 -- why a machine doesn't boot from an image
 abbrev pub IsUnbooted : {D : Type 0} → (D → ℕ) → List ℕ → ℕ → ℕ → BootFault → Type 0
-IsUnbooted count image failures frames (Image fault) = IsOfImage fault × Tells image fault × ((files : Files) → Denotes image files → ⊥)
+IsUnbooted count image failures frames (Image fault) = IsOfImage fault × Tells format image fault × ((files : Files) → Denotes image files → ⊥)
 IsUnbooted count image failures frames FrameCount = (frames < 64) ⊎ (32768 < frames)
 IsUnbooted {D} count image failures frames Device = (left : D) × Rises failures (count left)
 IsUnbooted count image failures frames NoMemory = Unit {0}
