@@ -142,7 +142,8 @@ pub fn check<A: Allocator, D: BlockDev>(alloc: A, device: &mut D) -> Result<Summ
     check_in(alloc, device, CURRENT)
 }
 
-/// The same in the format of small files.
+/// Reads an image in the small format and tests that it denotes files, by the rules of `check` and in their order. An
+/// image of another format has the fault `Magic`.
 pub fn check1<A: Allocator, D: BlockDev>(alloc: A, device: &mut D) -> Result<Summary, ImageFault>
     ensures denotes { OnOk result (DenotesSmall (image_of (D.content device.old)) (files_in (image_of (D.content device.old)))) }
     ensures inodes { IfOk result (λ summary. summary.inodes ≡ length (numbers_in_use (image_of (D.content device.old)))) }
