@@ -64,7 +64,7 @@ module _ (test : ℕ → Bool) where
 
 -- ---- a file of which the first bytes are written
 
-module _ (limit : ℕ) (files : Files) (n : ℕ) (file : IsFile files n) (at : ℕ) (new : List ℕ) (start : at ≤ length file.bytes) (short : at + length new ≤ 274432) where
+module _ (limit : ℕ) (files : Files) (n : ℕ) (file : IsFile files n) (at : ℕ) (new : List ℕ) (start : at ≤ length file.bytes) (short : at + length new ≤ longest) where
   abbrev front : ℕ → Files
   front k = with_file files n file.links (overwrite file.bytes at (take k new))
 
@@ -137,7 +137,7 @@ module _ (limit : ℕ) (files : Files) (n : ℕ) (file : IsFile files n) (at : �
   front-none = ap (λ bytes. put files n (File file.links bytes)) (overwrite-none file.bytes at) ∙ ap (λ (o : Option Node). slice_set files n o) (sym file.here) ∙ set-get_or files n None
 
 -- where the place lies past the end, or the file would be too long, nothing is written
-pub written-none : (limit : ℕ) (files : Files) (n : ℕ) (file : IsFile files n) (at : ℕ) (new : List ℕ) → (length file.bytes < at) ⊎ (274432 < at + length new) → written limit files n at new ≡ None
+pub written-none : (limit : ℕ) (files : Files) (n : ℕ) (file : IsFile files n) (at : ℕ) (new : List ℕ) → (length file.bytes < at) ⊎ (longest < at + length new) → written limit files n at new ≡ None
 unfolding written
 written-none limit files n file at new over =
     let never : (nat_le at (length file.bytes) && nat_le (at + length new) longest) ≡ false = elim over [
@@ -159,17 +159,17 @@ pub record HasWritten (old now : FileTree) (n at : ℕ) (new : List ℕ) (done :
   pub within : done ≤ length new
   pub file : IsFile old.files n
   pub start : at ≤ length file.bytes
-  pub short : at + length new ≤ 274432
+  pub short : at + length new ≤ longest
   pub same : now ≡ record old { files = with_file old.files n file.links (overwrite file.bytes at (take done new)); failures = now.failures }
   pub fits : (done ≡ 0) ⊎ (nat_le (blocks_of (with_file old.files n file.links (overwrite file.bytes at (take done new)))) old.block_limit ≡ true)
   pub later : old.failures ≤ now.failures
 
-pub write-refused : (old now : FileTree) (n at : ℕ) (new : List ℕ) (file : IsFile old.files n) → now ≡ record old { failures = now.failures } → (length file.bytes < at) ⊎ (274432 < at + length new) → Tells old now n at new None
+pub write-refused : (old now : FileTree) (n at : ℕ) (new : List ℕ) (file : IsFile old.files n) → now ≡ record old { failures = now.failures } → (length file.bytes < at) ⊎ (longest < at + length new) → Tells old now n at new None
 write-refused old now n at new file same over =
     let none = written-none old.block_limit old.files n file at new over in
     (same ∙ ap (λ (o : Option Written). record old { files = files_after old.files o; failures = now.failures }) (sym none), ap count_of (sym none))
 
-pub write-begun : {old now : FileTree} {n at : ℕ} {new : List ℕ} (file : IsFile old.files n) → at ≤ length file.bytes → at + length new ≤ 274432 → now ≡ record old { failures = now.failures } → old.failures ≤ now.failures → HasWritten old now n at new 0
+pub write-begun : {old now : FileTree} {n at : ℕ} {new : List ℕ} (file : IsFile old.files n) → at ≤ length file.bytes → at + length new ≤ longest → now ≡ record old { failures = now.failures } → old.failures ≤ now.failures → HasWritten old now n at new 0
 write-begun {old} {now} {n} {at} {new} file start short same later = record {
   within = omega arith;
   file = file;
@@ -217,7 +217,7 @@ module _ {old now : FileTree} {n at : ℕ} {new : List ℕ} {done : ℕ} (has : 
     mid-start : at + done ≤ length (overwrite has.file.bytes at (take done new))
     mid-start = omega (arith, length-front old.block_limit old.files n has.file at new has.start has.short done (omega (arith, fits)))
 
-    mid-short : at + done + length q ≤ 274432
+    mid-short : at + done + length q ≤ longest
     mid-short = let short = has.short in omega (arith, short, fits)
 
     done-length : length (take done new) ≡ done

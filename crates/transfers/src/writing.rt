@@ -32,7 +32,7 @@ fn piece<T: Translate + Drop>(spaces: &Spaces<T>, at: usize, address: u64, most:
 
 /// Writes `count` bytes of the memory of a place from `address` on into a file from the place `offset` on, as many as there
 /// are blocks for, and tells how many. `None` comes where `offset` lies past the file's end or the file would be longer than
-/// 274432 bytes; nothing is written then.
+/// any file of the disk's format; nothing is written then.
 pub fn write_node<D: BlockDev, T: Translate + Drop>(
     tree: &mut Tree<D>,
     spaces: &Spaces<T>,
