@@ -1,6 +1,6 @@
 //! The records of an image and their bytes.
 
-use layout::{DiskInode, Entry, LayoutFault, MAGIC, SuperBlock};
+use layout::{CURRENT, DiskInode, Entry, LayoutFault, MAGIC, SuperBlock};
 
 // The numbers of an image of 32 blocks and 16 inodes.
 const SMALLEST: [u8; 32] = [
@@ -52,7 +52,10 @@ fn wants_numbers_that_fit(rt: HostRuntime) {
             bitmap_start,
             ..NUMBERS
         };
-        assert!(rt; numbers.test() == want, "{size} blocks, {inodes} inodes");
+        assert!(rt;
+            numbers.test(CURRENT) == want,
+            "{size} blocks, {inodes} inodes"
+        );
     }
 }
 
