@@ -1,5 +1,7 @@
 //! A disk in memory, and one of which an access fails.
 
+ghost use Rattle.std.specs.Prelude.{◌≡◌};
+
 use blockdev::{BlockDev, FailAt, MemDisk};
 use std::num::NonZeroU64;
 use std::process::Abort;

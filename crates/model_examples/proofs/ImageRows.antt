@@ -1,15 +1,18 @@
 -- The image of a root with the console: 32 blocks, 16 inodes.
-use Rattle.std.specs.Prelude.{Bool, IsSome, List, None, Option, Some, T, [], drop, false, is_some, length, map, nat_lt, refl, slice_index_or, suc, true, zero, ℕ, ◌*◌, ◌++◌, ◌<◌, ◌==◌, ◌||◌, ◌∷◌, ◌≡◌, ◌≤◌}
+use Rattle.std.specs.Prelude.{Bool, IsSome, List, None, Option, Some, T, [], drop, false, is_some, length, map, nat_lt, refl, suc, true, zero, ℕ, ◌*◌, ◌++◌, ◌-◌, ◌<◌, ◌==◌, ◌||◌, ◌∷◌, ◌≡◌, ◌≤◌}
 use Rattle.std.proofs.Common.{get_or, ap, arith, eqb→eq, lit≤, subst, sym, ◌∙◌}
 use Rattle.std.proofs.lemmas.Bool.{false≢true}
+use Rattle.std.proofs.lemmas.Bool.Decides.{nat_tests}
 use Rattle.std.proofs.lemmas.List.FromFn.{get_or-map-range_with_len}
 use Rattle.std.proofs.lemmas.List.Sums.{AllPass-from_list_all}
 use Rattle.std.specs.List.{range_with_len}
 use Rattle.model_examples.proofs.Opened.{all_opened}
 use Rattle.unixmodel.specs.Files.{Entry, dot, dot_dot, find, node_bytes, slot, taken}
-use Rattle.unixmodel.specs.Image.{Denotes, HasSuper, IsDirectory, KeepsNode, KeepsRules, KeepsSize, Stands, all_unused, bit_of, contents_in, is_data_block, is_name, is_named, named_blocks, names_of, numbers_in_use, parent_of, subdirectories, super_number}
+use Rattle.unixmodel.specs.Formats.{small}
+use Rattle.unixmodel.specs.Image.{Denotes, HasSpares, HasSuper, IsDirectory, KeepsNode, KeepsRules, KeepsSize, Stands, bit_of, contents_in, is_data_block, is_name, is_named, named_blocks, names_of, number_in, numbers_in_use, parent_of, subdirectories, super_number}
 use Rattle.unixmodel.specs.Memory.{zeros}
 use Rattle.unixmodel.specs.Numbers.{le, low}
+use Rattle.unixmodel.specs.Slots.{IsSpare, first_of, holder_of, in_record}
 use Rattle.unixmodel.specs.Start.{console_name, console_root, flat_files}
 
 abbrev pub console_image : List ℕ
@@ -37,9 +40,10 @@ image_blocks : named_blocks console_image ≡ 5 ∷ []
 unfolding all_opened
 image_blocks = refl
 
-image_unused : all_unused console_image ≡ zeros 25
+-- the direct numbers that nothing asks for, and that of the index block
+image_spares : (map (number_in console_image 1) (range_with_len 1 11) ++ map (number_in console_image 2) (range_with_len 0 12)) ++ number_in console_image 1 268 ∷ number_in console_image 2 268 ∷ [] ≡ zeros 25
 unfolding all_opened
-image_unused = refl
+image_spares = refl
 
 image_root : contents_in console_image 1 ≡ node_bytes console_root
 unfolding all_opened
@@ -60,7 +64,6 @@ console_super : HasSuper console_image
 unfolding all_opened
 console_super = record {
   whole = refl;
-  magic = refl;
   size_least = lit≤ tt;
   size_most = lit≤ tt;
   inodes_least = lit≤ tt;
@@ -87,6 +90,58 @@ console_bits b l =
     let wanted : ℕ → Bool = λ n. nat_lt n 5 || is_named console_image n in
     let all : map (bit_of console_image) (range_with_len 0 32) ≡ map wanted (range_with_len 0 32) = refl in
     sym (get_or-map-range_with_len (bit_of console_image) 0 32 b b false l (omega arith)) ∙ ap (λ bits. get_or bits b false) all ∙ get_or-map-range_with_len wanted 0 32 b b false l (omega arith)
+
+-- of at most 12 blocks the spare numbers are direct ones behind them, and that of the index block
+spare_low : (count k : ℕ) → IsSpare small count k → (k ≡ 268 → ⊥) → count ≤ k
+unfolding first_of
+spare_low count k s other =
+    let within : k < 269 = s.within in
+    let unreached : count ≤ first_of small k = s.unreached in
+    grind (arith, nat_tests)
+
+spare_direct : (count k : ℕ) → count ≤ 12 → IsSpare small count k → (k ≡ 268 → ⊥) → k < 12
+unfolding in_record holder_of first_of
+spare_direct count k few s other = by_place (in_record small k) refl where
+  by_place : (b : Bool) → in_record small k ≡ b → k < 12
+  by_place true own =
+      let within : k < 269 = s.within in
+      grind (arith, nat_tests)
+  by_place false apart =
+      let within : k < 269 = s.within in
+      let reached : first_of small (holder_of small k) < count = (s.index apart).reached in
+      grind (arith, nat_tests)
+
+root_spares : HasSpares console_image 1
+unfolding all_opened
+root_spares k s = by_slot (k == 268) refl where
+  by_slot : (b : Bool) → (k == 268) ≡ b → number_in console_image 1 k ≡ 0
+  by_slot true here = subst (λ j. number_in console_image 1 j ≡ 0) (sym (eqb→eq k 268 (subst T (sym here) tt))) refl
+  by_slot false apart =
+      let other : k ≡ 268 → ⊥ = λ e. false≢true (sym apart ∙ ap (λ j. j == 268) e) in
+      let least : 1 ≤ k = spare_low 1 k s other in
+      let below : k < 12 = spare_direct 1 k (lit≤ tt) s other in
+      let none : ℕ → ℕ = λ _. 0 in
+      let all : map (number_in console_image 1) (range_with_len 1 11) ≡ map none (range_with_len 1 11) = refl in
+      sym (get_or-map-range_with_len (number_in console_image 1) 1 11 (k - 1) k 0 (omega arith) (omega arith)) ∙ ap (λ numbers. get_or numbers (k - 1) 0) all
+      ∙ get_or-map-range_with_len none 1 11 (k - 1) k 0 (omega arith) (omega arith)
+
+device_spares : HasSpares console_image 2
+unfolding all_opened
+device_spares k s = by_slot (k == 268) refl where
+  by_slot : (b : Bool) → (k == 268) ≡ b → number_in console_image 2 k ≡ 0
+  by_slot true here = subst (λ j. number_in console_image 2 j ≡ 0) (sym (eqb→eq k 268 (subst T (sym here) tt))) refl
+  by_slot false apart =
+      let other : k ≡ 268 → ⊥ = λ e. false≢true (sym apart ∙ ap (λ j. j == 268) e) in
+      let below : k < 12 = spare_direct 0 k (lit≤ tt) s other in
+      let none : ℕ → ℕ = λ _. 0 in
+      let all : map (number_in console_image 2) (range_with_len 0 12) ≡ map none (range_with_len 0 12) = refl in
+      sym (get_or-map-range_with_len (number_in console_image 2) 0 12 k k 0 below (omega arith)) ∙ ap (λ numbers. get_or numbers k 0) all
+      ∙ get_or-map-range_with_len none 0 12 k k 0 below (omega arith)
+
+console_spares : (k d : ℕ) → k < 2 → HasSpares console_image (get_or (1 ∷ 2 ∷ []) k d)
+console_spares zero d l = root_spares
+console_spares (suc zero) d l = device_spares
+console_spares (suc (suc k)) d l = absurd (omega arith)
 
 flat_rest : (n : ℕ) → slot flat_files (suc (suc (suc n))) ≡ None
 unfolding all_opened
@@ -138,13 +193,14 @@ console_rules = record { root = refl; sizes = flat_sizes; nodes = flat_nodes; re
 console_denotes : Denotes console_image flat_files
 unfolding all_opened
 console_denotes = record {
+  magic = refl;
   super = console_super;
   count = refl;
   zero = refl;
   nodes = console_stands;
   blocks = AllPass-from_list_all (is_data_block console_image) (named_blocks console_image) refl;
-  unused = λ k d l. eqb→eq (slice_index_or (all_unused console_image) k d) 0
-      (subst T (sym (AllPass-from_list_all (λ b. b == 0) (all_unused console_image) refl k d l)) tt);
+  spares = λ k d l. subst (λ numbers. HasSpares console_image (get_or numbers k d)) (sym image_nodes)
+      (console_spares k d (subst (λ numbers. k < length numbers) image_nodes l));
   once = λ i j d below l. let one : j < 1 = l in absurd (omega arith);
   bitmap = console_bits;
   rules = console_rules;
