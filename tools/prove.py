@@ -57,26 +57,39 @@ def free_jobs():
 
 
 def tell(name, said, started):
-    """Prints the line of a crate, and what its check said where it isn't proved. Whether it is proved is the answer."""
-    is_proved = "logic=proved" in said
-    print(f"{time.monotonic() - started:6.0f} s  {name} {'is proved' if is_proved else 'IS NOT PROVED'}", flush=True)
-    if not is_proved:
-        print("".join(f"    {it}\n" for it in said.splitlines()[-40:]), flush=True)
-    return is_proved
+    """Prints the line of a crate, and what its check said where it isn't proved. Nothing is said of one that hasn't changed."""
+    verdicts = [it for it in said if it.startswith("logic=")]
+    if all(it.startswith("logic=proved") for it in verdicts) and not any("error" in it for it in said):
+        word = "is proved" if verdicts else "was proved before"
+        print(f"{time.monotonic() - started:6.0f} s  {name} {word}", flush=True)
+        return
+    print(f"{time.monotonic() - started:6.0f} s  {name} IS NOT PROVED", flush=True)
+    print("".join(f"    {it}" for it in said[-40:]), flush=True)
+
+
+def groups(lines):
+    """Of what rt all check prints, each crate's name and what its check said: up to where it is told to be proved, or all."""
+    name, said = None, []
+    for line in lines:
+        if line.startswith("== "):
+            if name:
+                yield name, said
+            name, said = line[3:].strip(), []
+        said.append(line)
+        if name and line.startswith("logic=proved"):
+            yield name, said
+            name = None
 
 
 def prove_all(jobs):
-    """Every crate: rt prints `== NAME` and what the check said, crate by crate."""
-    started, name, said, all_proved = time.monotonic(), None, [], True
+    """Every crate."""
+    started = time.monotonic()
     words = ["rt", "all", "check", "--jobs", str(jobs)]
     with subprocess.Popen(words, cwd=CRATES, stdout=subprocess.PIPE, stderr=subprocess.STDOUT, text=True) as check:
-        for line in check.stdout:
-            if line.startswith("== "):
-                all_proved &= name is None or tell(name, "".join(said), started)
-                name, said = line[3:].strip(), []
-            said.append(line)
-        all_proved &= name is not None and tell(name, "".join(said), started)
-    return 0 if check.returncode == 0 and all_proved else 1
+        for name, said in groups(check.stdout):
+            if name != "summary":
+                tell(name, said, started)
+    return 1 if check.returncode else 0
 
 
 def prove_changed(commit, jobs):
@@ -87,7 +100,8 @@ def prove_changed(commit, jobs):
     for name in names:
         words = ["rt", "test" if has_tests(name) else "check", "--jobs", str(jobs)]
         check = subprocess.run(words, cwd=CRATES / name, stdout=subprocess.PIPE, stderr=subprocess.STDOUT, text=True)
-        if not tell(name, check.stdout, started) or check.returncode:
+        tell(name, check.stdout.splitlines(keepends=True), started)
+        if check.returncode:
             return 1
     return 0
 
