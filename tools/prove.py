@@ -12,6 +12,7 @@ gate, which proves from nothing and tries the edits.
 """
 import argparse
 import os
+import re
 import subprocess
 import sys
 import time
@@ -59,7 +60,7 @@ def free_jobs():
 def tell(name, said, started):
     """Prints the line of a crate, and what its check said where it isn't proved. Nothing is said of one that hasn't changed."""
     verdicts = [it for it in said if it.startswith("logic=")]
-    if all(it.startswith("logic=proved") for it in verdicts) and not any("error" in it for it in said):
+    if all(it.startswith("logic=proved") for it in verdicts) and not any(re.search(r"(^|\s)error[:\[]", it) for it in said):
         word = "is proved" if verdicts else "was proved before"
         print(f"{time.monotonic() - started:6.0f} s  {name} {word}", flush=True)
         return
