@@ -2,6 +2,8 @@
 //!
 //! From the RISC-V unprivileged manual, its chapter on the extension M. No division traps: by zero the quotient has all
 //! bits 1 and the remainder is the dividend, and the least signed number by -1 gives itself and 0.
+//!
+//! What is called from the step stays out of line (`inline(never)`), so that the loop over steps is small.
 ghost use Rattle.std.specs.Prelude.{◌≡◌, ◌*ℤ◌, ◌%◌, ◌^◌, pos};
 ghost use Rattle.std.specs.Int.{cast_signed, w32, w64};
 ghost use Rattle.unixmodel.specs.Meaning.{high, quotient, remainder};
@@ -18,7 +20,7 @@ fn high(product: i128) -> u64
 }
 
 /// MULH: both numbers are signed.
-#[inline]
+#[inline(never)]
 pub fn mulh(a: u64, b: u64) -> u64
     ensures { result ≡ high (cast_signed w64 a *ℤ cast_signed w64 b) }
 {
@@ -26,7 +28,7 @@ pub fn mulh(a: u64, b: u64) -> u64
 }
 
 /// MULHSU: the first number is signed, and the second isn't.
-#[inline]
+#[inline(never)]
 #[tactic(auto, using(crate::proofs::Products::mixed_fits))]
 pub fn mulhsu(a: u64, b: u64) -> u64
     ensures { result ≡ high (cast_signed w64 a *ℤ pos b) }
@@ -35,7 +37,7 @@ pub fn mulhsu(a: u64, b: u64) -> u64
 }
 
 /// MULHU: neither number is signed.
-#[inline]
+#[inline(never)]
 pub fn mulhu(a: u64, b: u64) -> u64
     ensures { result ≡ high (pos a *ℤ pos b) }
 {
@@ -43,7 +45,7 @@ pub fn mulhu(a: u64, b: u64) -> u64
 }
 
 /// DIV.
-#[inline]
+#[inline(never)]
 pub fn div(a: u64, b: u64) -> u64
     ensures { result ≡ quotient 64 (cast_signed w64 a) (cast_signed w64 b) }
 {
@@ -56,7 +58,7 @@ pub fn div(a: u64, b: u64) -> u64
 }
 
 /// DIVU.
-#[inline]
+#[inline(never)]
 pub fn divu(a: u64, b: u64) -> u64
     ensures { result ≡ quotient 64 (pos a) (pos b) }
 {
@@ -64,7 +66,7 @@ pub fn divu(a: u64, b: u64) -> u64
 }
 
 /// REM.
-#[inline]
+#[inline(never)]
 pub fn rem(a: u64, b: u64) -> u64
     ensures { result ≡ remainder 64 (cast_signed w64 a) (cast_signed w64 b) }
 {
@@ -77,7 +79,7 @@ pub fn rem(a: u64, b: u64) -> u64
 }
 
 /// REMU.
-#[inline]
+#[inline(never)]
 pub fn remu(a: u64, b: u64) -> u64
     ensures { result ≡ remainder 64 (pos a) (pos b) }
 {
@@ -85,7 +87,7 @@ pub fn remu(a: u64, b: u64) -> u64
 }
 
 /// MULW.
-#[inline]
+#[inline(never)]
 pub fn mulw(a: u32, b: u32) -> u64
     ensures { result ≡ extend 32 (field 32 (pos a *ℤ pos b)) }
 {
@@ -93,7 +95,7 @@ pub fn mulw(a: u32, b: u32) -> u64
 }
 
 /// DIVW.
-#[inline]
+#[inline(never)]
 pub fn divw(a: u32, b: u32) -> u64
     ensures { result ≡ extend 32 (quotient 32 (cast_signed w32 a) (cast_signed w32 b)) }
 {
@@ -105,7 +107,7 @@ pub fn divw(a: u32, b: u32) -> u64
 }
 
 /// DIVUW.
-#[inline]
+#[inline(never)]
 pub fn divuw(a: u32, b: u32) -> u64
     ensures { result ≡ extend 32 (quotient 32 (pos a) (pos b)) }
 {
@@ -113,7 +115,7 @@ pub fn divuw(a: u32, b: u32) -> u64
 }
 
 /// REMW.
-#[inline]
+#[inline(never)]
 pub fn remw(a: u32, b: u32) -> u64
     ensures { result ≡ extend 32 (remainder 32 (cast_signed w32 a) (cast_signed w32 b)) }
 {
@@ -125,7 +127,7 @@ pub fn remw(a: u32, b: u32) -> u64
 }
 
 /// REMUW.
-#[inline]
+#[inline(never)]
 pub fn remuw(a: u32, b: u32) -> u64
     ensures { result ≡ extend 32 (remainder 32 (pos a) (pos b)) }
 {

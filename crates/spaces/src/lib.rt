@@ -540,6 +540,7 @@ impl<T: Translate + Drop> Spaces<T> {
     ///
     /// A store that faults at a page which the program may write by right is done in the same step: the page is opened,
     /// and gets a frame of its own where others hold its frame too.
+    #[inline(always)]
     pub fn execute(&mut self) -> Option<Trap>
         requires { is_some self.old.active ≡ true }
         ensures done { IfNone result (IfSome self.old.active (λ at. (d : Computed) × (cycle self.old.registers self.old.pc (view_at self.old at).memory ≡ Ok d) × (self.new ≡ computed self.old at d))) }
