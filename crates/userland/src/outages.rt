@@ -15,6 +15,11 @@ const STRIDE: u64 = 16;
 // More accesses than a session makes.
 const ACCESSES: u64 = 20_000;
 
+// The number of the access behind so many.
+fn access(good: u64) -> NonZeroU64 {
+    NonZeroU64::MIN.saturating_add(good)
+}
+
 // How far a machine comes whose disk fails: the later the access, the further.
 #[derive(Clone, Copy, PartialEq)]
 enum Course {
@@ -37,6 +42,21 @@ struct Printed {
 }
 
 impl Printed {
+    // What events print on a disk that doesn't fail.
+    fn of(alloc: Global, image: &[u8], frames: u32, events: &[Event]) -> anyhow::Result<Printed> {
+        let mut machine = boot(alloc, disk_of(alloc, image)?, Plain::new(), frames)?;
+        let mut bytes = Vec::new(alloc);
+        let mut counts = Vec::new(alloc);
+        for event in events {
+            let mut out = Writer::new(Vec::new(alloc));
+            ensure!(machine.step(*event, &mut out).is_ok(), "the machine halted");
+            let printed = out.into_inner();
+            bytes.extend_from_slice(printed.as_slice())?;
+            counts.push(bytes.len())?;
+        }
+        Ok(Printed { bytes, counts })
+    }
+
     // What the first events print, so many of them.
     fn by(&self, events: usize) -> &[u8] {
         let last = events.checked_sub(1);
@@ -85,35 +105,14 @@ struct Outage<'a> {
 
 impl<'a> Outage<'a> {
     fn new(alloc: Global, session: &Session<'_>, image: &'a [u8]) -> anyhow::Result<Outage<'a>> {
-        let mut outage = Outage {
+        let events = events_of(alloc, session)?;
+        let printed = Printed::of(alloc, image, session.frames, events.as_slice())?;
+        Ok(Outage {
             image,
             frames: session.frames,
-            events: events_of(alloc, session)?,
-            printed: Printed {
-                bytes: Vec::new(alloc),
-                counts: Vec::new(alloc),
-            },
-        };
-        outage.print(alloc)?;
-        Ok(outage)
-    }
-
-    // Plays it on a disk that doesn't fail.
-    fn print(&mut self, alloc: Global) -> anyhow::Result<()> {
-        let mut machine = boot(
-            alloc,
-            disk_of(alloc, self.image)?,
-            Plain::new(),
-            self.frames,
-        )?;
-        for event in &self.events {
-            let mut out = Writer::new(Vec::new(alloc));
-            ensure!(machine.step(*event, &mut out).is_ok(), "the machine halted");
-            let printed = out.into_inner();
-            self.printed.bytes.extend_from_slice(printed.as_slice())?;
-            self.printed.counts.push(self.printed.bytes.len())?;
-        }
-        Ok(())
+            events,
+            printed,
+        })
     }
 
     // How far a machine comes that booted. What it prints is a beginning of all, which ends with a whole event.
@@ -149,13 +148,10 @@ impl<'a> Outage<'a> {
 
     // The number of an access that fails the boot, near the last of these.
     fn booting(&self, alloc: Global) -> anyhow::Result<NonZeroU64> {
-        let mut last = NonZeroU64::MIN;
-        for _ in 0..ACCESSES {
-            let next = last.saturating_add(STRIDE);
-            if self.course(alloc, next)? != Course::Boot {
-                return Ok(last);
+        for round in 0..ACCESSES {
+            if self.course(alloc, access(STRIDE * (round + 1)))? != Course::Boot {
+                return Ok(access(STRIDE * round));
             }
-            last = next;
         }
         bail!("it never boots")
     }
