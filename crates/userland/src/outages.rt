@@ -47,7 +47,7 @@ impl Printed {
         let mut machine = boot(alloc, disk_of(alloc, image)?, Plain::new(), frames)?;
         let mut bytes = Vec::new(alloc);
         let mut counts = Vec::new(alloc);
-        for event in events {
+        for event in events.iter() {
             let mut out = Writer::new(Vec::new(alloc));
             ensure!(machine.step(*event, &mut out).is_ok(), "the machine halted");
             let printed = out.into_inner();
