@@ -25,7 +25,8 @@ USER = HERE.parent / "user"
 
 # Lines that tell that memory is wanting.
 WANTING = [rb"no memory", rb"cannot read \w+", rb"line \d+: 8 NoMemory", rb"fault (4|7|13) NoMemory"]
-WANTING = re.compile(rb"(" + rb"|".join(WANTING) + rb")\n")
+# Where a save is not written, the line of the run comes before.
+WANTING = re.compile(rb"(?:running\n)?(" + rb"|".join(WANTING) + rb")\n")
 
 SCRIPT = "step 100000\ntype echo hi | cat\nstep 100000\n"
 
