@@ -8,12 +8,9 @@
 //!
 //! Each is played on six machines, which have to show and to leave the same: over each of five translators, and on a disk beside
 //! a cache without memory.
-//!
-//! Where `fail` stands for `boot`, the session is played again and again, each time with another access of its disk that fails.
 #![tactic(auto)]
 
 mod desk;
-mod outages;
 mod session;
 mod starved;
 
@@ -21,7 +18,6 @@ use anyhow::{Context, ensure};
 use desk::Desk;
 use image::{Summary, check};
 use linked_list_allocator::LocalHeap;
-use outages::fail_each;
 use session::{Session, Shown, disk_of, play_on};
 use starved::{Starved, TOO_LITTLE};
 use std::alloc::Global;
@@ -209,18 +205,6 @@ fn play_out<W: Write>(
     Ok(left)
 }
 
-// Plays a session whose disk fails, each time at another access.
-fn fail<W: Write>(
-    alloc: Global,
-    session: &Session<'_>,
-    image: &[u8],
-    out: &mut W,
-) -> anyhow::Result<()> {
-    fail_each(alloc, session, image).context(session.title)?;
-    writeln!(out, "{}\n[each access failed in its turn]\n", session.title)?;
-    Ok(())
-}
-
 // Does what a paragraph of standard input asks for.
 fn show<R: Files + AllocGlobal, W: Write>(
     alloc: Global,
@@ -228,13 +212,7 @@ fn show<R: Files + AllocGlobal, W: Write>(
     paragraph: &str,
     out: &mut W,
 ) -> anyhow::Result<()> {
-    if let Some(session) = Session::read(paragraph, "fail") {
-        let image = desk.file(session.image)?;
-        return fail(alloc, &session, image.as_slice(), out);
-    }
-    let session = Session::read(paragraph, "boot").context(
-        "a session has a title, an image and a script",
-    )?;
+    let session = Session::read(paragraph).context("a session has a title, an image and a script")?;
     let image = desk.file(session.image)?;
     let left = play_out(alloc, &session, image.as_slice(), out)?;
     desk.keep(LEFT, left)
