@@ -10,12 +10,10 @@ ghost use Rattle.unixmodel.specs.Memory.{read_bytes};
 ghost use Rattle.vm.specs.Reach.{piece_at};
 
 use blockdev::{BlockDev, DeviceFault};
+use layout::LONGEST;
 use spaces::Spaces;
 use sv39::Translate;
 use tree::Tree;
-
-// The longest file in bytes.
-const LONGEST: u64 = 274_432;
 
 // The bytes of a place from an address on, up to the end of its page, and so many at the most.
 fn piece<T: Translate + Drop>(spaces: &Spaces<T>, at: usize, address: u64, most: u64) -> &[u8]
@@ -50,7 +48,7 @@ pub fn write_node<D: BlockDev, T: Translate + Drop>(
 {
     spaces.pages_are_whole(at);
     let size = tree.stat(number)?.size;
-    if offset > size || u64::from(offset) + count > LONGEST {
+    if offset > size || u64::from(offset) + count > LONGEST as u64 {
         return Ok(None);
     }
     let mut done = 0;
