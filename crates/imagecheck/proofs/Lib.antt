@@ -3,6 +3,7 @@ pub mod Copying
 pub mod Counting
 pub mod Distinct
 pub mod Entering
+pub mod Fronting
 pub mod Naming
 pub mod Numbering
 pub mod Parents

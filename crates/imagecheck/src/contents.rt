@@ -41,7 +41,7 @@ pub fn front_place(image: &[u8], geometry: Geometry, n: usize) -> usize
     1024 * number32(image, inode_place(n) + 12) as usize
 }
 
-// Puts the bytes of an inode in place of others.
+/// Puts the bytes of an inode in place of others.
 pub fn read_contents<A: Allocator>(
     image: &[u8],
     geometry: Geometry,

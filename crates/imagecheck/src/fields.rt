@@ -2,7 +2,7 @@
 
 ghost use Rattle.std.specs.Prelude.{◌≡◌, ◌+◌, ◌*◌, ◌/◌, ◌%◌, ◌<◌, ◌≤◌, length};
 ghost use Rattle.unixmodel.specs.Numbers.{number_at};
-ghost use Rattle.unixmodel.specs.Image.{inode_at, kind_in, links_in, length_in};
+ghost use Rattle.unixmodel.specs.Image.{inode_at, kind_in, length_in, links_in, major_in, minor_in};
 ghost use Rattle.imagerules.specs.Fields.{HasPlace};
 
 use byteorder::{ByteOrder, LittleEndian};
@@ -31,7 +31,7 @@ pub fn inode_place(n: usize) -> usize
     1024 * (2 + n / 16) + 64 * (n % 16)
 }
 
-// The type of an inode: 0 free, 1 directory, 2 file, 3 device.
+/// The type of an inode: 0 free, 1 directory, 2 file, 3 device.
 pub fn kind(image: &[u8], n: usize) -> u16
     requires { HasPlace image.now n }
     ensures { result ≡ kind_in image.now n }
@@ -39,7 +39,23 @@ pub fn kind(image: &[u8], n: usize) -> u16
     number16(image, inode_place(n))
 }
 
-// How many names an inode says that it has.
+/// The major number of an inode, which counts where it is a device.
+pub fn major(image: &[u8], n: usize) -> u16
+    requires { HasPlace image.now n }
+    ensures { result ≡ major_in image.now n }
+{
+    number16(image, inode_place(n) + 2)
+}
+
+/// The minor number of an inode, which counts where it is a device.
+pub fn minor(image: &[u8], n: usize) -> u16
+    requires { HasPlace image.now n }
+    ensures { result ≡ minor_in image.now n }
+{
+    number16(image, inode_place(n) + 4)
+}
+
+/// How many names an inode says that it has.
 pub fn links(image: &[u8], n: usize) -> u16
     requires { HasPlace image.now n }
     ensures { result ≡ links_in image.now n }

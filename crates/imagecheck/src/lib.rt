@@ -12,6 +12,7 @@ mod kinds;
 mod links;
 mod load;
 mod marks;
+mod memory;
 mod names;
 mod namings;
 mod reach;
@@ -21,6 +22,11 @@ mod summary;
 mod tables;
 
 use blockdev::DeviceFault;
+pub use contents::read_contents;
+pub use fields::{
+    kind as inode_kind, links as inode_links, major as inode_major, minor as inode_minor,
+};
+pub use memory::check1_bytes;
 pub use rules::{Summary, check, check1};
 use std::alloc::AllocError;
 use std::fmt;

@@ -12,7 +12,7 @@ use layout::{Format, Geometry, LayoutFault, SuperBlock};
 use std::alloc::Allocator;
 
 // The geometry that the super block tells of a device of so many blocks, if its numbers and the length are right in the format.
-fn geometry_in(format: Format, block: &Block, count: usize) -> Result<Geometry, ImageFault>
+pub fn geometry_in(format: Format, block: &Block, count: usize) -> Result<Geometry, ImageFault>
     requires { 2 ≤ count }
     ensures geometry { IfOk result (λ g. (blocks : List (List ℕ)) → IsFront blocks count block.now → Begins (format_named format) (image_of blocks) g) }
     ensures fault { IfErr result (λ fault. (blocks : List (List ℕ)) → IsFront blocks count block.now → Tells (format_named format) (image_of blocks) fault) }

@@ -87,7 +87,7 @@ fn test_blocks<A: Allocator>(alloc: A, image: &[u8], geometry: Geometry) -> Resu
 }
 
 // Tests the inodes, their blocks and the files, the rules from the types on, and counts what is in use.
-fn summary_of<A: Allocator>(
+pub fn summary_of<A: Allocator>(
     alloc: A,
     image: &[u8],
     geometry: Geometry,

@@ -2,14 +2,9 @@
 use Rattle.std.proofs.Common.{◌≡◌, ℕ, ◌+◌, ◌*◌, ◌/◌, ◌%◌, ◌<◌, ◌≤◌, ◌&&◌, true, false, cond, List, ◌∷◌, None, Ok, Err, Result, length, nat_le, nat_lt, map, zero, suc, ap, sym, refl, ◌∙◌, arith, subst, replicate}
 use Rattle.std.specs.Prelude.{IfErr}
 use Rattle.std.specs.Result.{IsErrAnd}
-use Rattle.std.proofs.lemmas.List.{take_all}
-use Rattle.std.specs.List.{range_with_len}
 use Rattle.std.proofs.lemmas.Bool.{and_parts}
 use Rattle.std.proofs.lemmas.Bool.Decides.{nat_tests}
-use Rattle.std.proofs.lemmas.List.Folds.{flat_map-map}
 use Rattle.balloc.proofs.Exits.{told_err}
-use Rattle.blockdev.specs.Blocks as device
-use Rattle.blockdev.specs.Blocks.{block_of}
 use Rattle.layout.specs.declared.Geometry.{Geometry}
 use Rattle.layout.specs.Image.{free_blocks, nodes_of}
 use Rattle.layout.specs.Sound.{IsSound}
@@ -28,17 +23,7 @@ use Rattle.imagemake.specs.Stored.{IsWhole, Stores, raw_slot}
 use Rattle.imagemake.specs.declared.manifest.MakeFault.{MakeFault}
 use Rattle.imagemake.specs.declared.manifest.MakeFault.TheVariants.{NoMemory}
 use Rattle.imagemake.proofs.Denoted.{Denotes-stored}
-use Rattle.imagerules.proofs.Spelling.{fronts}
 use Rattle.imagemake.proofs.MadeBare.{no-files, slot-free}
-
--- ---- blocks and bytes
-
--- whole blocks, one after the other
-pub image_of-blocks : (bytes : List ℕ) → length bytes % 1024 ≡ 0 → image_of (device.blocks_of bytes) ≡ bytes
-image_of-blocks bytes whole =
-    flat_map-map (λ (b : List ℕ). b) (block_of bytes) (range_with_len 0 (length bytes / 1024))
-    ∙ fronts 1024 (λ k. 1024 * k) (block_of bytes) bytes refl (λ k. omega arith) (length bytes / 1024) (λ k l. refl)
-    ∙ take_all (1024 * (length bytes / 1024)) bytes (omega arith)
 
 -- ---- a disk without files
 

@@ -12,7 +12,7 @@ use Rattle.imagecheck.specs.declared.ImageFault.{ImageFault}
 use Rattle.imagecheck.specs.declared.ImageFault.TheVariants as fault
 use Rattle.imagemake.specs.declared.manifest.MakeFault.{MakeFault}
 use Rattle.imagemake.specs.declared.manifest.MakeFault.TheVariants.{Blocks, Inodes, Name, NoMemory, Numbers, Parent, Twice}
-use Rattle.imagemake.proofs.Imaging.{image_of-blocks}
+use Rattle.imagerules.proofs.ContentLemmas.{image_of-blocks}
 use Rattle.mount.specs.Mounted.{IsFlat, IsFlatImage, IsMounted, IsUnmounted, console_manifest}
 use Rattle.tree.specs.Tree.{FileTree}
 

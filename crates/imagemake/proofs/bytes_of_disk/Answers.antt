@@ -1,7 +1,7 @@
 use Rattle.std.proofs.Common.{◌≡◌, ◌%◌, ap, arith, length, sym, ◌∙◌}
 use Rattle.blockdev.specs.Blocks.{blocks_of}
 use Rattle.imagerules.specs.Content.{image_of}
-use Rattle.imagemake.proofs.Imaging.{image_of-blocks}
+use Rattle.imagerules.proofs.ContentLemmas.{image_of-blocks}
 use Rattle.imagemake.proofs.bytes_of_disk.Goals as goal
 
 pub returns-clause-bytes : goal.returns-clause-bytes
