@@ -2,7 +2,7 @@ use Rattle.std.proofs.Common.{arith, inl, inr, ◌∙◌}
 use Rattle.unixmodel.specs.Files.Node.{File}
 use Rattle.transfers.specs.Moved.{bytes_given}
 use Rattle.transfers.proofs.Fits.{Tells, count-low, file-now, given-length, given-low, never-refused, piece-part, piece-some, piece-within, same-failed, serves-told, went-low, write-all, write-begun, write-more, write-part, write-refused}
-use Rattle.transfers.proofs.writing.write_node.Goals.{then-offset-size-via-then-offset-size, then-offset-size-via-else-offset-size+then-from-count-gt-LONGEST}
+use Rattle.transfers.proofs.writing.write_node.Goals.{then-offset-size-via-then-offset-size, then-offset-size-via-else-offset-size+then-from-count}
 use Rattle.transfers.proofs.writing.write_node.Goals as goal
 
 pub overflow_add-from : goal.overflow_add-from
@@ -19,7 +19,7 @@ returns-then-offset-size g c =
     serves-told {Told = Tells c.args.tree.now c.stat.new.self c.args.number c.args.offset given} _
     (write-refused c.args.tree.now c.stat.new.self c.args.number c.args.offset given c.requires.file told.0 (elim c.then-offset-size.branch [
       | then-offset-size-via-then-offset-size w ↦ let past = w.if-offset-size.true in inl (omega (arith, past, size))
-      | then-offset-size-via-else-offset-size+then-from-count-gt-LONGEST w ↦ let long = w.if-from-count-gt-LONGEST.true in let from = w.from.ensures in inr (omega (arith, long, from, whole))
+      | then-offset-size-via-else-offset-size+then-from-count w ↦ let long = w.if-from-count.true in let from = w.from.ensures in inr (omega (arith, long, from, whole))
     ]))
     c.in_ok-size.ensures.up c.stat.ensures.cause.later
 
@@ -30,7 +30,7 @@ loop-done-init g c =
     let size = (told.1 (File c.requires.file.links c.requires.file.bytes) c.requires.file.here).2 in
     let whole = given-length _ c.args.address c.args.count c.requires.readable in
     let start = c.if-offset-size.false in
-    let short = c.if-from-count-gt-LONGEST.false in
+    let short = c.if-from-count.false in
     write-begun {new = given} c.requires.file (omega (arith, start, size)) (omega (arith, short, c.from.ensures, whole)) told.0 c.stat.ensures.cause.later
 
 pub overflow_add-address : goal.overflow_add-address
