@@ -1,0 +1,6 @@
+pub mod Parts
+pub mod Emptied
+pub mod Copied
+pub mod Migrated
+mod Devices
+mod Told

@@ -1,0 +1,68 @@
+use Rattle.std.proofs.Common.{◌≢◌, ◌+◌, arith, subst, sym, ◌∙◌}
+use Rattle.unixmodel.specs.Image.{kind_in}
+use Rattle.cache.specs.Disk.{Disk}
+use Rattle.imagerules.specs.Places.{files_in, node_in}
+use Rattle.imagerules.proofs.Bounds.{HasPlace-at, inodes-least}
+use Rattle.balloc.proofs.Exits.{told_err}
+use Rattle.migrate.specs.Copies.{IsCopied}
+use Rattle.migrate.proofs.Copied.{HasCopied, blocks-sound, copied-all, copied-free, copied-more, copied-none, count-files, lacks-more, node-fits, node-is}
+use Rattle.migrate.proofs.copy.copy_nodes.Goals as goal
+use Rattle.migrate.proofs.copy.copy_nodes.Goals.{else-kind-ne0, then-kind-ne0+in_ok-copy_node}
+
+pub loop-n-init : goal.loop-n-init
+loop-n-init g c = copied-none c.args.old.now c.requires.source c.args.geometry c.requires.geometry c.args.disk.now.blocks c.requires.empty
+
+pub kind-requires : goal.kind-requires
+kind-requires g c = HasPlace-at c.requires.geometry c.loop-n.n c.loop-n-test.true
+
+pub copy_node-requires : goal.copy_node-requires
+copy_node-requires g c =
+    let copied = c.loop-n.invariant in
+    record {
+      geometry = c.requires.geometry;
+      blocks = blocks-sound c.args.old.now c.requires.source;
+      low = omega arith;
+      high = c.loop-n-test.true;
+      used = λ z. c.if-kind-ne0.true (c.kind.ensures ∙ z);
+      able = (copied.now, copied.stores, copied.part.after c.loop-n.n (omega arith));
+    }
+
+pub returns-in_err-copy_node : goal.returns-in_err-copy_node
+returns-in_err-copy_node g c =
+    let old = c.args.old.now in
+    let source = c.requires.source in
+    let geometry = c.args.geometry in
+    let has = c.requires.geometry in
+    let n = c.loop-n.n in
+    let copied = c.loop-n.invariant in
+    let high = c.loop-n-test.true in
+    let used : kind_in old n ≢ 0 = λ z. c.if-kind-ne0.true (c.kind.ensures ∙ z) in
+    let fault = c.in_err-copy_node.field-0.0 in
+    subst (IsCopied geometry c.copy_node.new.disk.blocks (files_in old)) (sym (told_err c.from_residual.result c.from_residual.ensures.1))
+    (lacks-more old source geometry has n c.loop-n.auto.n high used copied fault
+    (c.in_err-copy_node.ensures copied.now (node_in old n) copied.stores (copied.part.after n (omega arith)) (node-is old source geometry has n c.loop-n.auto.n high used) (node-fits old source geometry has n c.loop-n.auto.n high used)))
+
+pub loop-n-preserved : goal.loop-n-preserved
+loop-n-preserved g c =
+    let old = c.args.old.now in
+    let source = c.requires.source in
+    let geometry = c.args.geometry in
+    let has = c.requires.geometry in
+    let n = c.loop-n.n in
+    let copied = c.loop-n.invariant in
+    let low = c.loop-n.auto.n in
+    let high = c.loop-n-test.true in
+    elim c.if-kind-ne0.branch [
+      | then-kind-ne0+in_ok-copy_node w ↦
+          let used : kind_in old n ≢ 0 = λ z. w.if-kind-ne0.true (c.kind.ensures ∙ z) in
+          subst (λ (disk : Disk). HasCopied geometry disk.blocks (n + 1) (files_in old)) (sym w.disk-is)
+          (copied-more old source geometry has n low high used copied
+          (w.in_ok-copy_node.ensures copied.now (node_in old n) copied.stores (copied.part.after n (omega arith)) (node-is old source geometry has n low high used) (node-fits old source geometry has n low high used)))
+      | else-kind-ne0 w ↦
+          subst (λ (disk : Disk). HasCopied geometry disk.blocks (n + 1) (files_in old)) (sym w.disk-is) (copied-free old source geometry has n high (sym c.kind.ensures ∙ w.if-kind-ne0.false) copied)
+    ]
+
+pub returns : goal.returns
+returns g c =
+    let end = c.loop-n.auto.n-end (omega (arith, inodes-least c.requires.geometry)) in
+    copied-all c.loop-n.invariant (omega (arith, count-files c.args.old.now c.requires.source c.args.geometry c.requires.geometry, end, c.loop-n-test.false))
