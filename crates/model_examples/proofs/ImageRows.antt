@@ -8,7 +8,7 @@ use Rattle.std.proofs.lemmas.List.Sums.{AllPass-from_list_all}
 use Rattle.std.specs.List.{range_with_len}
 use Rattle.model_examples.proofs.Opened.{all_opened}
 use Rattle.unixmodel.specs.Files.{Entry, dot, dot_dot, find, node_bytes, slot, taken}
-use Rattle.unixmodel.specs.Formats.{small}
+use Rattle.unixmodel.specs.Formats.{large}
 use Rattle.unixmodel.specs.Image.{Denotes, HasSpares, HasSuper, IsDirectory, KeepsNode, KeepsRules, KeepsSize, Stands, bit_of, contents_in, is_data_block, is_name, is_named, named_blocks, names_of, number_in, numbers_in_use, parent_of, subdirectories, super_number}
 use Rattle.unixmodel.specs.Memory.{zeros}
 use Rattle.unixmodel.specs.Numbers.{le, low}
@@ -18,7 +18,7 @@ use Rattle.unixmodel.specs.Start.{console_name, console_root, flat_files}
 abbrev pub console_image : List ℕ
 console_image =
     zeros 1024
-    ++ le 4 0x10203040 ++ le 4 32 ++ le 4 27 ++ le 4 16 ++ le 4 0 ++ le 4 2 ++ le 4 2 ++ le 4 4 ++ zeros 992
+    ++ le 4 0x10203041 ++ le 4 32 ++ le 4 27 ++ le 4 16 ++ le 4 0 ++ le 4 2 ++ le 4 2 ++ le 4 4 ++ zeros 992
     ++ zeros 64
     ++ le 2 1 ++ le 2 0 ++ le 2 0 ++ le 2 1 ++ le 4 48 ++ le 4 5 ++ zeros 48
     ++ le 2 3 ++ le 2 1 ++ le 2 0 ++ le 2 1 ++ le 4 0 ++ zeros 52
@@ -28,7 +28,7 @@ console_image =
     ++ node_bytes console_root ++ zeros 976
     ++ zeros (26 * 1024)
 
-image_numbers : length console_image ∷ map (super_number console_image) (range_with_len 0 8) ≡ 32768 ∷ 0x10203040 ∷ 32 ∷ 27 ∷ 16 ∷ 0 ∷ 2 ∷ 2 ∷ 4 ∷ []
+image_numbers : length console_image ∷ map (super_number console_image) (range_with_len 0 8) ≡ 32768 ∷ 0x10203041 ∷ 32 ∷ 27 ∷ 16 ∷ 0 ∷ 2 ∷ 2 ∷ 4 ∷ []
 unfolding all_opened
 image_numbers = refl
 
@@ -40,8 +40,9 @@ image_blocks : named_blocks console_image ≡ 5 ∷ []
 unfolding all_opened
 image_blocks = refl
 
--- the direct numbers that nothing asks for, and that of the index block
-image_spares : (map (number_in console_image 1) (range_with_len 1 11) ++ map (number_in console_image 2) (range_with_len 0 12)) ++ number_in console_image 1 268 ∷ number_in console_image 2 268 ∷ [] ≡ zeros 25
+-- the direct numbers that nothing asks for, and those of the index blocks
+image_spares : (map (number_in console_image 1) (range_with_len 1 10) ++ map (number_in console_image 2) (range_with_len 0 11))
+    ++ map (number_in console_image 1) (65803 ∷ 65804 ∷ []) ++ map (number_in console_image 2) (65803 ∷ 65804 ∷ []) ≡ zeros 25
 unfolding all_opened
 image_spares = refl
 
@@ -91,52 +92,65 @@ console_bits b l =
     let all : map (bit_of console_image) (range_with_len 0 32) ≡ map wanted (range_with_len 0 32) = refl in
     sym (get_or-map-range_with_len (bit_of console_image) 0 32 b b false l (omega arith)) ∙ ap (λ bits. get_or bits b false) all ∙ get_or-map-range_with_len wanted 0 32 b b false l (omega arith)
 
--- of at most 12 blocks the spare numbers are direct ones behind them, and that of the index block
-spare_low : (count k : ℕ) → IsSpare small count k → (k ≡ 268 → ⊥) → count ≤ k
-unfolding first_of
-spare_low count k s other =
-    let within : k < 269 = s.within in
-    let unreached : count ≤ first_of small k = s.unreached in
+-- of at most 11 blocks the spare numbers are direct ones behind them, and those of the index blocks
+record IsOther (k : ℕ) : Type 0 where
+  single : k ≡ 65803 → ⊥
+  double : k ≡ 65804 → ⊥
+
+spare_own : (count k : ℕ) → count ≤ 11 → IsSpare large count k → in_record large k ≡ true
+unfolding in_record holder_of first_of
+spare_own count k few s = by_place (in_record large k) refl where
+  by_place : (b : Bool) → in_record large k ≡ b → in_record large k ≡ true
+  by_place true own = own
+  by_place false apart =
+      let reached : first_of large (holder_of large k) < count = (s.index apart).reached in
+      absurd (grind (arith, nat_tests))
+
+spare_direct : (count k : ℕ) → count ≤ 11 → IsSpare large count k → IsOther k → k < 11
+unfolding in_record
+spare_direct count k few s other =
+    let own : in_record large k ≡ true = spare_own count k few s in
+    let single : k ≡ 65803 → ⊥ = other.single in
+    let double : k ≡ 65804 → ⊥ = other.double in
     grind (arith, nat_tests)
 
-spare_direct : (count k : ℕ) → count ≤ 12 → IsSpare small count k → (k ≡ 268 → ⊥) → k < 12
-unfolding in_record holder_of first_of
-spare_direct count k few s other = by_place (in_record small k) refl where
-  by_place : (b : Bool) → in_record small k ≡ b → k < 12
-  by_place true own =
-      let within : k < 269 = s.within in
-      grind (arith, nat_tests)
-  by_place false apart =
-      let within : k < 269 = s.within in
-      let reached : first_of small (holder_of small k) < count = (s.index apart).reached in
-      grind (arith, nat_tests)
+spare_low : (count k : ℕ) → IsSpare large count k → k < 11 → count ≤ k
+unfolding first_of
+spare_low count k s low =
+    let unreached : count ≤ first_of large k = s.unreached in
+    grind (arith, nat_tests)
+
+-- so what is 0 at those places is 0 at each spare one
+at_places : (count : ℕ) (number : ℕ → ℕ) → count ≤ 11 → number 65803 ≡ 0 → number 65804 ≡ 0
+    → ((k : ℕ) → count ≤ k → k < 11 → number k ≡ 0) → (k : ℕ) → IsSpare large count k → number k ≡ 0
+at_places count number few single double direct k s = by_slot (k == 65803) (k == 65804) refl refl where
+  by_slot : (b c : Bool) → (k == 65803) ≡ b → (k == 65804) ≡ c → number k ≡ 0
+  by_slot true c here _ = subst (λ j. number j ≡ 0) (sym (eqb→eq k 65803 (subst T (sym here) tt))) single
+  by_slot false true _ here = subst (λ j. number j ≡ 0) (sym (eqb→eq k 65804 (subst T (sym here) tt))) double
+  by_slot false false apart away =
+      let other : IsOther k = record { single = λ e. false≢true (sym apart ∙ ap (λ j. j == 65803) e); double = λ e. false≢true (sym away ∙ ap (λ j. j == 65804) e) } in
+      let low : k < 11 = spare_direct count k few s other in
+      direct k (spare_low count k s low) low
 
 root_spares : HasSpares console_image 1
 unfolding all_opened
-root_spares k s = by_slot (k == 268) refl where
-  by_slot : (b : Bool) → (k == 268) ≡ b → number_in console_image 1 k ≡ 0
-  by_slot true here = subst (λ j. number_in console_image 1 j ≡ 0) (sym (eqb→eq k 268 (subst T (sym here) tt))) refl
-  by_slot false apart =
-      let other : k ≡ 268 → ⊥ = λ e. false≢true (sym apart ∙ ap (λ j. j == 268) e) in
-      let least : 1 ≤ k = spare_low 1 k s other in
-      let below : k < 12 = spare_direct 1 k (lit≤ tt) s other in
+root_spares = at_places 1 (number_in console_image 1) (lit≤ tt) refl refl direct where
+  direct : (k : ℕ) → 1 ≤ k → k < 11 → number_in console_image 1 k ≡ 0
+  direct k least below =
       let none : ℕ → ℕ = λ _. 0 in
-      let all : map (number_in console_image 1) (range_with_len 1 11) ≡ map none (range_with_len 1 11) = refl in
-      sym (get_or-map-range_with_len (number_in console_image 1) 1 11 (k - 1) k 0 (omega arith) (omega arith)) ∙ ap (λ numbers. get_or numbers (k - 1) 0) all
-      ∙ get_or-map-range_with_len none 1 11 (k - 1) k 0 (omega arith) (omega arith)
+      let all : map (number_in console_image 1) (range_with_len 1 10) ≡ map none (range_with_len 1 10) = refl in
+      sym (get_or-map-range_with_len (number_in console_image 1) 1 10 (k - 1) k 0 (omega arith) (omega arith)) ∙ ap (λ numbers. get_or numbers (k - 1) 0) all
+      ∙ get_or-map-range_with_len none 1 10 (k - 1) k 0 (omega arith) (omega arith)
 
 device_spares : HasSpares console_image 2
 unfolding all_opened
-device_spares k s = by_slot (k == 268) refl where
-  by_slot : (b : Bool) → (k == 268) ≡ b → number_in console_image 2 k ≡ 0
-  by_slot true here = subst (λ j. number_in console_image 2 j ≡ 0) (sym (eqb→eq k 268 (subst T (sym here) tt))) refl
-  by_slot false apart =
-      let other : k ≡ 268 → ⊥ = λ e. false≢true (sym apart ∙ ap (λ j. j == 268) e) in
-      let below : k < 12 = spare_direct 0 k (lit≤ tt) s other in
+device_spares = at_places 0 (number_in console_image 2) (lit≤ tt) refl refl direct where
+  direct : (k : ℕ) → 0 ≤ k → k < 11 → number_in console_image 2 k ≡ 0
+  direct k _ below =
       let none : ℕ → ℕ = λ _. 0 in
-      let all : map (number_in console_image 2) (range_with_len 0 12) ≡ map none (range_with_len 0 12) = refl in
-      sym (get_or-map-range_with_len (number_in console_image 2) 0 12 k k 0 below (omega arith)) ∙ ap (λ numbers. get_or numbers k 0) all
-      ∙ get_or-map-range_with_len none 0 12 k k 0 below (omega arith)
+      let all : map (number_in console_image 2) (range_with_len 0 11) ≡ map none (range_with_len 0 11) = refl in
+      sym (get_or-map-range_with_len (number_in console_image 2) 0 11 k k 0 below (omega arith)) ∙ ap (λ numbers. get_or numbers k 0) all
+      ∙ get_or-map-range_with_len none 0 11 k k 0 below (omega arith)
 
 console_spares : (k d : ℕ) → k < 2 → HasSpares console_image (get_or (1 ∷ 2 ∷ []) k d)
 console_spares zero d l = root_spares

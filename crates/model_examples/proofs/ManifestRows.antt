@@ -33,18 +33,18 @@ empty : small [] ≡ Ok (1, 1)
 unfolding all_opened
 empty = refl
 
-default_blocks : data_blocks_of 2000 200 ≡ 1984
+default_blocks : map (λ (g : ℕ × ℕ). data_blocks_of g.0 g.1) ((2000, 200) ∷ (131072, 16) ∷ []) ≡ 1984 ∷ 131051 ∷ []
 default_blocks = refl
 
-made_numbers : map (λ (g : ℕ × ℕ). counted (files_made [] g.0 g.1)) ((32, 447) ∷ (32, 448) ∷ (31, 16) ∷ (16385, 16) ∷ (32, 15) ∷ (16384, 8193) ∷ [])
-    ≡ Ok (1, 1) ∷ replicate 5 (Err Numbers)
+made_numbers : map (λ (g : ℕ × ℕ). counted (files_made [] g.0 g.1)) ((32, 447) ∷ (131072, 16) ∷ (32, 448) ∷ (31, 16) ∷ (131073, 16) ∷ (32, 15) ∷ (131072, 8193) ∷ [])
+    ≡ replicate 2 (Ok (1, 1)) ++ replicate 5 (Err Numbers)
 unfolding all_opened
 made_numbers = refl
 
--- ---- blocks: the thirteenth of a file takes two
+-- ---- blocks: the twelfth of a file takes two
 
-one_file : map (λ n. small (file (codes "/a") n ∷ [])) (0 ∷ 12288 ∷ 12289 ∷ 25600 ∷ 25601 ∷ [])
-    ≡ Ok (2, 1) ∷ Ok (2, 13) ∷ Ok (2, 15) ∷ Ok (2, 27) ∷ Err Blocks ∷ []
+one_file : map (λ n. small (file (codes "/a") n ∷ [])) (0 ∷ 11264 ∷ 11265 ∷ 12288 ∷ 12289 ∷ 25600 ∷ 25601 ∷ [])
+    ≡ Ok (2, 1) ∷ Ok (2, 12) ∷ Ok (2, 14) ∷ Ok (2, 14) ∷ Ok (2, 15) ∷ Ok (2, 27) ∷ Err Blocks ∷ []
 unfolding all_opened
 one_file = refl
 

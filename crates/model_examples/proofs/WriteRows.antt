@@ -1,10 +1,10 @@
 -- Small cases of writes to the console and to files.
-use Rattle.std.specs.Prelude.{List, codes, map, refl, true, unwrap_or, [], ℕ, ◌∷◌, ◌≡◌}
+use Rattle.std.specs.Prelude.{List, codes, map, refl, true, unwrap_or, [], ℕ, ◌+◌, ◌∷◌, ◌≡◌}
 use Rattle.model_examples.proofs.Opened.{all_opened}
 use Rattle.model_examples.proofs.Scripts.{Asked, answer_at, answers_to, ask, ask_all, flat_state, plain}
 use Rattle.unixmodel.specs.Counts.{blocks_of}
 use Rattle.unixmodel.specs.FileCalls.{with_descriptor}
-use Rattle.unixmodel.specs.Files.{enter, put}
+use Rattle.unixmodel.specs.Files.{blocks_for, enter, put}
 use Rattle.unixmodel.specs.Files.Node.{File}
 use Rattle.unixmodel.specs.Memory.{zeros}
 use Rattle.unixmodel.specs.OpenFiles.Target.{OnNode}
@@ -27,15 +27,20 @@ at_offset s offset = record (change_process s 0 (λ p. with_descriptor p 3 1)) {
 abbrev pub write_one : Asked
 write_one = plain 16 (3 ∷ 8192 ∷ 1 ∷ [])
 
--- a file of 12288 bytes takes 12 blocks, the root one
-abbrev pub with_blocks : ℕ → State
-with_blocks limit = at_offset (with_f (flat_state 256) (zeros 12288) limit) 12288
+-- the blocks of a file of so many bytes, with its index blocks
+file_blocks : map blocks_for (11264 ∷ 11265 ∷ 273408 ∷ 273409 ∷ 535552 ∷ 535553 ∷ 67382272 ∷ []) ≡ 11 ∷ 13 ∷ 268 ∷ 271 ∷ 526 ∷ 528 ∷ 66061 ∷ []
+file_blocks = refl
 
-blocks_free : map (λ limit. answers_to (with_blocks limit) (write_one ∷ [])) (14 ∷ 15 ∷ []) ≡ (minus_one ∷ []) ∷ (1 ∷ []) ∷ []
+-- a file of so many bytes behind which one more is written, where so many blocks are free: the root takes one
+abbrev pub with_free : ℕ → ℕ → State
+with_free size free = at_offset (with_f (flat_state 256) (zeros size) (1 + blocks_for size + free)) size
+
+blocks_free : map (λ (g : ℕ × ℕ). answers_to (with_free g.0 g.1) (write_one ∷ [])) ((11264, 1) ∷ (11264, 2) ∷ (12288, 0) ∷ (12288, 1) ∷ [])
+    ≡ (minus_one ∷ []) ∷ (1 ∷ []) ∷ (minus_one ∷ []) ∷ (1 ∷ []) ∷ []
 unfolding all_opened
 blocks_free = refl
 
-one_block_stays : blocks_of (ask_all (with_blocks 14) (write_one ∷ [])).files ≡ 13
+one_block_stays : blocks_of (ask_all (with_free 11264 1) (write_one ∷ [])).files ≡ 12
 unfolding all_opened
 one_block_stays = refl
 
