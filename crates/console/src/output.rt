@@ -1,6 +1,6 @@
 //! Where the console's bytes go: a trait, and the output that any writer makes.
 ghost use Rattle.std.specs.Prelude.{◌≡◌, ◌≤◌, List, ℕ, Option, OnOk, OnErr};
-ghost use Rattle.std.specs.Io.KnownBytes.{Appends};
+ghost use Rattle.std.specs.Io.KnownBytes.{Appends, Keeps};
 ghost use Rattle.console.specs.Output.{AppendsBeginning};
 ghost use Rattle.unixmodel.specs.Failures.{Rises};
 
@@ -53,6 +53,22 @@ impl<W: Write> Writer<W> {
         ensures { result ≡ self.now.failed }
     {
         self.failed
+    }
+
+    /// Writes out what the writer kept back. The bytes that it took stay what they were; where that fails, it is a failure.
+    pub fn flush(&mut self) -> Result<(), OutFault>
+        ensures kept { Keeps (W.contents self.old.inner) (W.contents self.new.inner) }
+        ensures later { self.old.failed ≤ self.new.failed }
+        ensures cause { OnErr result (Rises self.old.failed self.new.failed) }
+        ensures sound { OnOk result (self.new.failed ≡ self.old.failed) }
+    {
+        match self.inner.flush() {
+            Ok(()) => Ok(()),
+            Err(_) => {
+                self.failed = self.failed.saturating_add(1);
+                Err(OutFault::Writer)
+            }
+        }
     }
 
     /// The writer.

@@ -207,6 +207,16 @@ impl Files {
         self.slot(id).map(|slot| slot.file)
     }
 
+    /// How many descriptors name an open file: none where the place is free.
+    pub fn references(&self, id: usize) -> u32
+        ensures { result ≡ count_at self.now id }
+    {
+        match self.slot(id) {
+            Some(slot) => slot.references,
+            None => 0,
+        }
+    }
+
     /// What an open file is open on, where it is open for reading and can be read.
     pub fn read(&self, id: usize) -> Result<Target, FileFault>
         ensures { result ≡ readable_at (file_at self.now id) }

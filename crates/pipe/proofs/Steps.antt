@@ -1,7 +1,7 @@
 -- The steps of a write and of a read.
-use Rattle.std.proofs.Common.{◌≡◌, ◌<◌, ◌≤◌, inl, inr, ℕ, suc, zero, ◌+◌, ◌-◌, ◌%◌, List, [], ◌∷◌, ◌++◌, append_assoc, drop, get_or, get_or-set_same, length, length-take, min, refl, replicate, set, slice_set, sym, take, ap, ◌∙◌, arith}
+use Rattle.std.proofs.Common.{◌≡◌, ◌<◌, ◌≤◌, inl, inr, ℕ, suc, zero, ◌+◌, ◌-◌, ◌%◌, List, [], ◌∷◌, ◌++◌, append_assoc, append-nil, drop, get_or, get_or-set_same, length, length-take, min, mod-eq_of_lt, refl, replicate, set, slice_set, sym, take, ap, ap₂, ◌∙◌, arith}
 use Rattle.std.proofs.lemmas.Bool.{cases_lt}
-use Rattle.std.proofs.lemmas.List.{take_all, take_at, take_more}
+use Rattle.std.proofs.lemmas.List.{drop_more, take_all, take_at, take_more}
 use Rattle.ram.specs.Memory.{frame_of, sized}
 use Rattle.ring.specs.Ring.{ring}
 use Rattle.ring.proofs.RingLemmas.{drop-ring, length-ring, ring-append, ring-around, ring-push, take-ring}
@@ -71,3 +71,26 @@ read-rest x k n c t count = elim (cases_lt n c) [
 
 pub read-nothing : (x : List ℕ) (k n c : ℕ) → n ≡ 0 → ring 512 x k n ≡ drop c (ring 512 x k n)
 read-nothing x k n c h = ring-none x k n h ∙ sym (drop-ring 512 x k c n ∙ ring-none x (k + c) (n - c) (omega arith))
+
+-- bytes that stand before the end of the room
+pub ring-straight : (x : List ℕ) (k n : ℕ) → 512 ≤ length x → k + n ≤ 512 → ring 512 x k n ≡ take n (drop k x)
+unfolding ring
+ring-straight x k zero full h = refl
+ring-straight x k (suc n) full h =
+    let low : k < 512 = omega arith in
+    rw (drop_more x k 0 (omega arith), mod-eq_of_lt low, ring-straight x (k + 1) n full (omega arith)) refl
+
+-- the bytes of a ring are those up to the end of the room, and those from its beginning
+pub ring-parts : (x : List ℕ) (k n t : ℕ) → 512 ≤ length x → k < 512 → n ≤ 512 → t ≡ min n (512 - k) → take t (drop k x) ++ take (n - t) x ≡ ring 512 x k n
+ring-parts x k n t full start held front = elim (cases_lt (512 - k) n) [
+  | inl more ↦
+      let a : t ≡ 512 - k = omega arith in
+      let b : (k + t) % 512 ≡ 0 = rw (let c : k + t ≡ 512 = omega arith in c) refl in
+      let d : 0 + (n - t) ≤ 512 = omega arith in
+      ap₂ ◌++◌ (sym (ring-straight x k t full (omega arith))) (sym (ring-straight x 0 (n - t) full d) ∙ ap (λ i. ring 512 x (i + 0) (n - t)) (sym b) ∙ ring-around 512 x (k + t) 0 (n - t) ∙ ap (λ i. ring 512 x i (n - t)) (let c : k + t + 0 ≡ k + t = omega arith in c))
+      ∙ sym (ring-append 512 x k t (n - t) n (omega arith))
+  | inr fits ↦
+      let a : t ≡ n = omega arith in
+      let b : n - t ≡ 0 = omega arith in
+      ap₂ ◌++◌ (sym (ring-straight x k t full (omega arith))) (ap (λ i. take i x) b) ∙ append-nil (ring 512 x k t) ∙ ap (ring 512 x k) a
+]

@@ -114,6 +114,19 @@ impl Pipe {
         }
     }
 
+    /// The bytes that it holds, the oldest first: those of the second slice stand behind those of the first.
+    pub fn bytes<'a>(&self, ram: &'a Ram) -> (&'a [u8], &'a [u8])
+        requires { self.now.frame < length ram.now }
+        ensures { result.0.now ++ result.1.now ≡ bytes_of ram.now self.now }
+    {
+        let places = ram.frame(self.frame);
+        let front = self.held.min(ROOM - self.from);
+        (
+            &places[self.from..self.from + front],
+            &places[..self.held - front],
+        )
+    }
+
     /// Whether a read can go on: a byte is there, or none can come.
     pub fn can_read(&self) -> bool
         ensures { (m : List (List ℕ)) → result ≡ (not (is_empty (bytes_of m self.now)) || not self.now.write_open) }

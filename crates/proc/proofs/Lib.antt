@@ -1,5 +1,6 @@
 pub mod Mapped
 pub mod Bits
 pub mod Looking
+pub mod Following
 pub mod Turns
 pub mod Joined

@@ -1,10 +1,10 @@
 -- A pick that goes on from a turn of its round.
-use Rattle.std.proofs.Common.{Bool, List, arith, false, inl, inr, length, refl, subst, suc, sym, true, zero, ℕ, ◌+◌, ◌∙◌, ◌≡◌, ◌≤◌}
+use Rattle.std.proofs.Common.{Bool, List, arith, false, inl, inr, length, refl, subst, suc, sym, true, zero, ℕ, ◌+◌, ◌<◌, ◌∙◌, ◌≡◌, ◌≤◌}
 use Rattle.std.specs.Prelude.{slice_set}
 use Rattle.std.proofs.lemmas.Bool.{cases_eq, cases_lt}
 use Rattle.std.proofs.lemmas.List.{get_or-set_other, get_or-set_same}
 use Rattle.proc.specs.Mask.{IsNext, NoneIsIn, all_in, is_in}
-use Rattle.proc.specs.Pick.{IsFirst, place_in_round}
+use Rattle.proc.specs.Pick.{IsFirst, NoneSays, place_in_round}
 
 -- in the set of all places each is
 pub all-in : (n i : ℕ) → is_in (all_in n) i ≡ true
@@ -65,3 +65,42 @@ module _ {says : ℕ → Bool → Type 0} {last : ℕ} {awake : List Bool} {turn
           | inr more ↦ (let same : k ≡ next = omega arith in rw same (get_or-set_same awake at false true (omega arith)))
         ];
       }
+
+-- ---- a look that changes nothing
+
+-- in none of the turns so far it is yes
+pub record HasLooked (says : ℕ → Bool → Type 0) (last turn : ℕ) : Type 0 where
+  pub in_round : (1 ≤ turn) × (turn ≤ 65)
+  pub before : (k : ℕ) → 1 ≤ k → k < turn → says (place_in_round last k) false
+
+pub looked-none : (says : ℕ → Bool → Type 0) (last : ℕ) → HasLooked says last 1
+looked-none says last = record { in_round = (omega arith, omega arith); before = λ k low high. absurd (omega arith) }
+
+module _ {says : ℕ → Bool → Type 0} {last : ℕ} (awake : List Bool) {turn : ℕ} (asleep : (i : ℕ) → is_in awake i ≡ false → says i false) (looked : HasLooked says last turn) where
+  pub looked-to : (to : ℕ) → NoneIsIn awake last turn to → (k : ℕ) → 1 ≤ k → k < to → says (place_in_round last k) false
+  looked-to to out k low high = elim (cases_lt k turn) [
+    | inl less ↦ looked.before k low less
+    | inr more ↦ asleep (place_in_round last k) (out k more high)
+  ]
+
+  module _ {next : ℕ} (is : IsNext awake last turn next) where
+    pub looked-first : says (place_in_round last next) true → IsFirst says last (place_in_round last next)
+    looked-first yes' = let from = looked.in_round in let to = is.in_round in record {
+      turn = next;
+      in_round = (omega arith, omega arith);
+      there = refl;
+      yes = yes';
+      before = looked-to next is.before;
+    }
+
+    pub looked-on : says (place_in_round last next) false → HasLooked says last (next + 1)
+    looked-on no' = let from = looked.in_round in let to = is.in_round in record {
+      in_round = (omega arith, omega arith);
+      before = λ k low high. elim (cases_lt k next) [
+        | inl less ↦ looked-to next is.before k low less
+        | inr more ↦ (let same : k ≡ next = omega arith in subst (λ j. says (place_in_round last j) false) (sym same) no')
+      ];
+    }
+
+  pub looked-all : NoneIsIn awake last turn 65 → NoneSays says last
+  looked-all out = λ k low high. looked-to 65 out k low (omega arith)

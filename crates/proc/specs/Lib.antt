@@ -4,3 +4,4 @@ pub mod Places
 pub mod Sound
 pub mod Whole
 pub mod Lending
+pub mod Next

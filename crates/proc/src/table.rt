@@ -5,7 +5,8 @@ ghost use Rattle.std.specs.Option.{option_copied, option_copied_mut};
 ghost use Rattle.unixmodel.specs.Files.{free_slot, free_slots, put, slot};
 ghost use Rattle.proc.specs.Mask.{all_in};
 ghost use Rattle.unixmodel.specs.ProcessCalls.{status_of};
-ghost use Rattle.proc.specs.Places.{is_zombie_child_of, orphaned, place_where, zombie_of};
+ghost use Rattle.proc.specs.Next.{IsNextOf, lesser};
+ghost use Rattle.proc.specs.Places.{has_pid, is_zombie_child_of, orphaned, place_where, zombie_of};
 ghost use Rattle.unixmodel.specs.State.{holds, place_limit};
 ghost use Rattle.unixmodel.specs.declared.process.Mode.TheVariants.{Ready, Running, Waiting};
 
@@ -81,6 +82,30 @@ pub fn zombie_child(places: &[Place], parent: u32) -> Option<usize>
         Some(process) => process.parent == parent && matches!(process.mode, Mode::Zombie(_)),
         None => false,
     })
+}
+
+// The lesser of the pid that was found and another, which counts where it is above a third.
+fn lesser(found: Option<u32>, after: u32, pid: u32) -> Option<u32>
+    ensures { result ≡ lesser found after pid }
+{
+    match found {
+        Some(least) if least < pid => Some(least),
+        _ if after < pid => Some(pid),
+        _ => found,
+    }
+}
+
+// The least pid above another.
+fn least_above(places: &[Place], after: u32) -> Option<u32>
+    ensures { IsNextOf (λ pid. is_some (place_where places.now (has_pid pid))) after result }
+{
+    let mut least = None;
+    for place in places {
+        if let Some(process) = place {
+            least = lesser(least, after, process.pid);
+        }
+    }
+    least
 }
 
 // A child of a process goes to process 1.
@@ -254,6 +279,13 @@ impl Table {
         })
     }
 
+    /// The least pid above another, among those of all processes, also of zombies.
+    pub fn next_pid(&self, after: u32) -> Option<u32>
+        ensures { IsNextOf (λ pid. is_some (place_where self.now.places (has_pid pid))) after result }
+    {
+        least_above(self.places.as_slice(), after)
+    }
+
     // The first place of a child of a process.
     fn first_child(&self, pid: u32) -> Option<usize>
         ensures { result ≡ place_where self.now.places (is_child_of pid) }
@@ -298,6 +330,24 @@ impl Table {
                 return Some(at);
             }
             self.awake.clear(at);
+            turn = next + 1;
+        }
+        None
+    }
+
+    /// The place that a pick would find. Nothing changes.
+    pub fn next_ready<F: Fn(&[Place], usize) -> bool>(&self, ready: F) -> Option<usize>
+        requires callable { F.IsAlwaysCallable ready }
+        requires awake { (i : ℕ) → is_awake self.now i ≡ false → Answers F.Fn ready self.now.places i false }
+        ensures first { Picks (Answers F.Fn ready self.now.places) self.now.last result }
+        ensures within { IfSome result (λ i. i < 64) }
+    {
+        let mut turn = 1;
+        'round: while let Some(next) = self.awake.next(self.last, turn) {
+            let at = (self.last + next) % PLACES;
+            if ready(self.places.as_slice(), at) {
+                return Some(at);
+            }
             turn = next + 1;
         }
         None

@@ -16,6 +16,7 @@
 
 ghost use Rattle.std.specs.Prelude.{◌≡◌, ◌≢◌, List, ◌+◌, ◌-◌, ◌++◌, ◌<◌, ◌≤◌, ◌/◌, ◌%◌, ◌^◌, ℕ, [], All, Some, None, true, false, drop, length, is_some, min, nat_le, nat_lt, not, option_and_then, option_map, replicate, slice_get, slice_index, slice_set, take, IfOk, IfSome, IfNone, Ok, Err};
 ghost use Rattle.std.specs.Bool.{OnTrue, OnFalse};
+ghost use Rattle.std.specs.Option.{option_copied};
 ghost use Rattle.spaces.specs.Spaces.{bytes_in, computed, filled, fitting, grown, has_pipe, has_space, view_at, no_pages, no_spaces, read_at, shrunk, taken_frames, taken_to, with_view, with_pipe, with_place, written};
 ghost use Rattle.spaces.specs.Ends.{IsOpen};
 ghost use Rattle.pipe.specs.Pipe.{Stays, bytes_of};
@@ -156,6 +157,16 @@ fn pipe_at(pipes: &ArrayVec<Option<Pipe>, 100>, q: usize) -> &Pipe
     match &pipes.as_slice()[q] {
         Some(pipe) => pipe,
         None => unreachable!(),
+    }
+}
+
+// The pipe of a place, if it has one.
+fn pipe_in(pipes: &ArrayVec<Option<Pipe>, 100>, q: usize) -> Option<&Pipe>
+    ensures { option_copied result ≡ slot pipes.now.items q }
+{
+    match pipes.as_slice().get(q) {
+        Some(Some(pipe)) => Some(pipe),
+        _ => None,
     }
 }
 
@@ -597,6 +608,17 @@ impl<T: Translate + Drop> Spaces<T> {
         match self.pipes[q].take() {
             Some(pipe) => self.frames.give(&mut self.ram, pipe.frame()),
             None => unreachable!(),
+        }
+    }
+
+    /// The bytes of a pipe, the oldest first: those of the second slice stand behind those of the first. `None` where there is no such
+    /// pipe.
+    pub fn pipe(&self, q: usize) -> Option<(&[u8], &[u8])>
+        ensures { option_map (λ r. r.0.now ++ r.1.now) result ≡ slot self.now.pipes q }
+    {
+        match pipe_in(&self.pipes, q) {
+            Some(pipe) => Some(pipe.bytes(&self.ram)),
+            None => None,
         }
     }
 

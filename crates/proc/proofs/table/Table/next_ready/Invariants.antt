@@ -1,0 +1,11 @@
+use Rattle.std.proofs.Common.{◌-◌}
+use Rattle.proc.specs.Pick.{Answers}
+use Rattle.proc.proofs.Looking.{HasLooked}
+use Rattle.proc.proofs.table.Table.next_ready.Given as goal
+
+-- no place of the turns so far is ready
+abbrev pub invariant-round : goal.invariant-round
+invariant-round g l = HasLooked (Answers g.F.Fn l.ready l.self-inside.places.items) l.self-inside.last l.turn
+
+abbrev pub decreases-round : goal.decreases-round
+decreases-round g l = 65 - l.turn

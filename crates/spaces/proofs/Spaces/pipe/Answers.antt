@@ -1,0 +1,17 @@
+use Rattle.std.proofs.Common.{Some, ap, refl, sym}
+use Rattle.spaces.proofs.Piped.{pipe-frame}
+use Rattle.spaces.proofs.Pipes.{pipe-slot}
+use Rattle.spaces.proofs.Spaces.pipe.Goals as goal
+
+pub bytes-requires : goal.bytes-requires
+bytes-requires g c = (pipe-frame g.T.Translate.held c.self.inside c.args.q c.in-Some.pipe.now c.self.invariant (sym c.in-Some.ensures)).0
+
+pub returns-in-Some : goal.returns-in-Some
+returns-in-Some g c =
+    let i = c.self.inside in
+    rw (← c.self.view_is, pipe-slot i.ram i.pipes.items c.args.q, ← c.in-Some.ensures) (ap Some c.bytes.ensures)
+
+pub returns-in-None : goal.returns-in-None
+returns-in-None g c =
+    let i = c.self.inside in
+    rw (← c.self.view_is, pipe-slot i.ram i.pipes.items c.args.q, ← c.in-None.ensures) refl
