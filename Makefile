@@ -12,7 +12,7 @@ TEXTS := $(wildcard user/*.s)
 USER := $(TEXTS:user/%.s=out/user/%)
 IMAGE := out/xv6.img
 
-.PHONY: demo build program image user test quick edits check bench qemu kills full places limits fuzz hostile outages refusals fmt
+.PHONY: demo build program image user test quick edits check bench qemu kills full places limits fuzz outages refusals fmt
 
 # Boots a machine from an image with the user programs, types at its shell, and shows its console. It takes the
 # proved build where there is one that is not older than the sources. Else `rt try` compiles, and proves nothing of, the
@@ -95,11 +95,6 @@ limits: | program
 # Hands the program random files for a minute.
 fuzz: | program
 	bench/fuzz.py --seed $$$$ $(PROGRAM)
-
-# Goes through all of what crates/hostile goes through a part of: 1,000 programs of random words over five translators, each bit of an
-# image's first blocks. `rt try` compiles its program with checks, and proves nothing. It takes many minutes.
-hostile:
-	cd crates/hostile && printf '%s\n' arguments files images pieces 'bits 1' 'programs 1 1000' | rt try --seconds 3600
 
 # Lets each access of the disk fail in its turn, in a session at the shell of the built program. It takes a minute.
 outages: $(IMAGE)
