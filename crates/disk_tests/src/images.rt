@@ -9,13 +9,15 @@ use std::process::Abort;
 // A byte of an image and what it is set to.
 type Change = (usize, u8);
 
+// Changes that are made one list after the other, and what is told of the image then.
+type Told = (&'static [&'static [Change]], Result<Summary, ImageFault>);
+
 // The first byte of the root's inode.
 const ROOT: usize = 2048 + 64;
 
 // An image of 32 blocks and 16 inodes, in which the root has its two first places in block 5: the super block's numbers,
-// the root's inode, its places, and the bitmap; the other bytes are 0.
-const SMALL: [Change; 20] = [
-    (1024, 0x40),
+// the root's inode, its places, and the bitmap; the other bytes are 0. The first byte of its magic number tells its format.
+const SMALL: [Change; 19] = [
     (1025, 0x30),
     (1026, 0x20),
     (1027, 0x10),
@@ -55,9 +57,9 @@ const TWO_BLOCKS: [Change; 5] = [
     (4096, 0xff),
 ];
 
-// That file with 12 blocks of bytes, 6 to 17, as many as an inode of the small format names directly.
-const TWELVE_BLOCKS: [Change; 16] = [
-    (ROOT + 73, 0x30),
+// That file with 11 blocks of bytes, 6 to 16, as many as an inode of the large format names directly.
+const ELEVEN_BLOCKS: [Change; 15] = [
+    (ROOT + 73, 0x2c),
     (ROOT + 76, 6),
     (ROOT + 80, 7),
     (ROOT + 84, 8),
@@ -69,15 +71,26 @@ const TWELVE_BLOCKS: [Change; 16] = [
     (ROOT + 108, 14),
     (ROOT + 112, 15),
     (ROOT + 116, 16),
-    (ROOT + 120, 17),
     (4096, 0xff),
     (4097, 0xff),
-    (4098, 0x03),
+    (4098, 0x01),
 ];
 
-// And one byte more, in block 19, whose number stands in the index block 18.
-const ONE_MORE: [Change; 4] = [
+// And one byte more, in block 18, whose number stands in the index block 17.
+const TWELFTH: [Change; 4] = [
     (ROOT + 72, 1),
+    (ROOT + 120, 17),
+    (17 * 1024, 18),
+    (4098, 0x07),
+];
+
+// Or a twelfth block, 17, which an inode of the small format names directly too, and one byte more, in block 19, whose number stands
+// in the index block 18.
+const OLD_TWELFTH: [Change; 3] = [(ROOT + 73, 0x30), (ROOT + 120, 17), (4098, 0x03)];
+
+const OLD_THIRTEENTH: [Change; 5] = [
+    (ROOT + 72, 1),
+    (ROOT + 73, 0x30),
     (ROOT + 124, 18),
     (18 * 1024, 19),
     (4098, 0x0f),
@@ -136,10 +149,11 @@ fn put(bytes: &mut [u8], changes: &[Change]) {
     }
 }
 
-// A disk with the small image and these changes, one list after the other.
-fn disk_of(rt: &(impl Abort + AllocGlobal), lists: &[&[Change]]) -> MemDisk {
+// A disk with the small image, its magic number beginning so, and these changes, one list after the other.
+fn disk_of(rt: &(impl Abort + AllocGlobal), magic: u8, lists: &[&[Change]]) -> MemDisk {
     let mut bytes = vec![in rt.alloc(); 0; 32 * 1024].expect(rt, "memory");
     put(bytes.as_mut_slice(), &SMALL);
+    put(bytes.as_mut_slice(), &[(1024, magic)]);
     for changes in lists {
         put(bytes.as_mut_slice(), changes);
     }
@@ -147,31 +161,26 @@ fn disk_of(rt: &(impl Abort + AllocGlobal), lists: &[&[Change]]) -> MemDisk {
 }
 
 // What is told of it.
-fn told_of(
-    rt: &(impl Abort + AllocGlobal),
-    first: &[Change],
-    second: &[Change],
-) -> Result<Summary, ImageFault> {
-    check(rt.alloc(), &mut disk_of(rt, &[first, second]))
+fn told_of(rt: &(impl Abort + AllocGlobal), lists: &[&[Change]]) -> Result<Summary, ImageFault> {
+    check(rt.alloc(), &mut disk_of(rt, 0x41, lists))
 }
 
-// What is told of it in the small format.
+// What is told of the same image in the small format.
 fn told_small(rt: &(impl Abort + AllocGlobal), lists: &[&[Change]]) -> Result<Summary, ImageFault> {
-    check1(rt.alloc(), &mut disk_of(rt, lists))
+    check1(rt.alloc(), &mut disk_of(rt, 0x40, lists))
 }
 
 // What is told of it where memory is refused past so many bytes.
 fn told_within(
     rt: &(impl Abort + AllocGlobal),
-    first: &[Change],
-    second: &[Change],
+    lists: &[&[Change]],
     size: usize,
 ) -> Result<Summary, ImageFault> {
     let heap = LocalHeap::new(rt.alloc(), size).expect(rt, "memory");
-    check(&heap, &mut disk_of(rt, &[first, second]))
+    check(&heap, &mut disk_of(rt, 0x41, lists))
 }
 
-// Each of these changes, behind the first ones, makes this fault.
+// Each of these changes, behind the first ones, makes this fault in both formats.
 fn expect_fault(
     rt: &(impl Abort + AllocGlobal),
     fault: ImageFault,
@@ -179,63 +188,194 @@ fn expect_fault(
     rows: &[&[Change]],
 ) {
     for (row, second) in rows.iter().enumerate() {
-        assert!(rt; told_of(rt, first, second) == Err(fault), "row {row}");
+        assert!(rt; told_of(rt, &[first, second]) == Err(fault), "row {row}");
+        assert!(rt; told_small(rt, &[first, second]) == Err(fault), "row {row}");
     }
 }
+
+const IN_USE: [Told; 3] = [
+    (
+        &[],
+        Ok(Summary {
+            inodes: 1,
+            blocks: 1,
+        }),
+    ),
+    (
+        &[&FILE, &TWO_BLOCKS],
+        Ok(Summary {
+            inodes: 2,
+            blocks: 3,
+        }),
+    ),
+    (
+        &[&DIRECTORY],
+        Ok(Summary {
+            inodes: 2,
+            blocks: 2,
+        }),
+    ),
+];
 
 #[test]
 fn tells_what_is_in_use(rt: HostRuntime) {
-    for (first, second, inodes, blocks) in [
-        ([].as_slice(), [].as_slice(), 1, 1),
-        (FILE.as_slice(), TWO_BLOCKS.as_slice(), 2, 3),
-        (DIRECTORY.as_slice(), [].as_slice(), 2, 2),
-    ] {
-        assert!(rt; told_of(&rt, first, second) == Ok(Summary { inodes, blocks }));
+    for (lists, want) in IN_USE {
+        assert!(rt; told_of(&rt, lists) == want && told_small(&rt, lists) == want);
     }
 }
+
+// A changed byte, and the fault that it makes in both formats.
+const FAULTS: [(ImageFault, Change); 14] = [
+    (ImageFault::Length, (1028, 33)),
+    (ImageFault::Magic, (1025, 0x31)),
+    (ImageFault::Numbers, (1044, 3)),
+    (ImageFault::NodeType, (ROOT + 64, 4)),
+    (ImageFault::NodeType, (ROOT, 2)),
+    (ImageFault::Size, (ROOT + 8, 33)),
+    (ImageFault::Size, (ROOT + 8, 16)),
+    (ImageFault::Address, (ROOT + 12, 4)),
+    (ImageFault::Address, (ROOT + 12, 32)),
+    (ImageFault::Address, (ROOT + 16, 6)),
+    (ImageFault::Address, (ROOT + 56, 6)),
+    (ImageFault::Address, (ROOT + 60, 6)),
+    (ImageFault::Bitmap, (4096, 0x1f)),
+    (ImageFault::Bitmap, (4099, 0x80)),
+];
 
 #[test]
 fn tells_each_fault(rt: HostRuntime) {
-    for (fault, change) in [
-        (ImageFault::Length, (1028, 33)),
-        (ImageFault::Magic, (1024, 0x41)),
-        (ImageFault::Numbers, (1044, 3)),
-        (ImageFault::NodeType, (ROOT + 64, 4)),
-        (ImageFault::NodeType, (ROOT, 2)),
-        (ImageFault::Size, (ROOT + 8, 33)),
-        (ImageFault::Size, (ROOT + 8, 16)),
-        (ImageFault::Address, (ROOT + 12, 4)),
-        (ImageFault::Address, (ROOT + 12, 32)),
-        (ImageFault::Address, (ROOT + 16, 6)),
-        (ImageFault::Address, (ROOT + 60, 6)),
-        (ImageFault::Bitmap, (4096, 0x1f)),
-        (ImageFault::Bitmap, (4099, 0x80)),
-    ] {
-        assert!(rt; told_of(&rt, &[], &[change]) == Err(fault));
+    for (fault, change) in FAULTS {
+        expect_fault(&rt, fault, &[], &[&[change]]);
     }
 }
 
 #[test]
-fn tells_what_is_in_use_in_the_small_format(rt: HostRuntime) {
-    let inodes = 2;
-    let twelve = told_small(&rt, &[&FILE, &TWELVE_BLOCKS]);
-    assert!(rt; twelve == Ok(Summary { inodes, blocks: 13 }));
-    let thirteen = told_small(&rt, &[&FILE, &TWELVE_BLOCKS, &ONE_MORE]);
-    assert!(rt; thirteen == Ok(Summary { inodes, blocks: 15 }));
+fn knows_one_format(rt: HostRuntime) {
+    assert!(rt; told_of(&rt, &[&[(1024, 0x40)]]) == Err(ImageFault::Magic));
+    assert!(rt; told_small(&rt, &[&[(1024, 0x41)]]) == Err(ImageFault::Magic));
 }
 
+const LARGE_FILES: [Told; 8] = [
+    (
+        &[&FILE, &ELEVEN_BLOCKS],
+        Ok(Summary {
+            inodes: 2,
+            blocks: 12,
+        }),
+    ),
+    (
+        &[&FILE, &ELEVEN_BLOCKS, &TWELFTH],
+        Ok(Summary {
+            inodes: 2,
+            blocks: 14,
+        }),
+    ),
+    // no number stands in the index block
+    (
+        &[&FILE, &ELEVEN_BLOCKS, &OLD_TWELFTH],
+        Err(ImageFault::Address),
+    ),
+    // that of a double index block, and one behind the last one of the single index block
+    (
+        &[&FILE, &ELEVEN_BLOCKS, &TWELFTH, &[(ROOT + 124, 20)]],
+        Err(ImageFault::Address),
+    ),
+    (
+        &[&FILE, &ELEVEN_BLOCKS, &TWELFTH, &[(17 * 1024 + 4, 20)]],
+        Err(ImageFault::Address),
+    ),
+    // one before the data, one that is named already, and one that isn't marked
+    (
+        &[&FILE, &ELEVEN_BLOCKS, &TWELFTH, &[(17 * 1024, 4)]],
+        Err(ImageFault::Address),
+    ),
+    (
+        &[&FILE, &ELEVEN_BLOCKS, &TWELFTH, &[(17 * 1024, 17)]],
+        Err(ImageFault::SharedBlock),
+    ),
+    (
+        &[&FILE, &ELEVEN_BLOCKS, &TWELFTH, &[(4098, 0x05)]],
+        Err(ImageFault::Bitmap),
+    ),
+];
+
 #[test]
-fn tells_faults_in_the_small_format(rt: HostRuntime) {
-    for (fault, change) in [
-        // the magic number of the large format
-        (ImageFault::Magic, (1024, 0x41)),
-        // a number behind the last one of the index block, one before the data, and one that is named already
-        (ImageFault::Address, (18 * 1024 + 4, 20)),
-        (ImageFault::Address, (18 * 1024, 4)),
-        (ImageFault::SharedBlock, (18 * 1024, 18)),
-    ] {
-        let told = told_small(&rt, &[&FILE, &TWELVE_BLOCKS, &ONE_MORE, &[change]]);
-        assert!(rt; told == Err(fault));
+fn tells_of_index_blocks(rt: HostRuntime) {
+    for (row, (lists, want)) in LARGE_FILES.iter().enumerate() {
+        assert!(rt; told_of(&rt, lists) == *want, "row {row}");
+    }
+}
+
+const SMALL_FILES: [Told; 8] = [
+    (
+        &[&FILE, &ELEVEN_BLOCKS],
+        Ok(Summary {
+            inodes: 2,
+            blocks: 12,
+        }),
+    ),
+    (
+        &[&FILE, &ELEVEN_BLOCKS, &OLD_TWELFTH],
+        Ok(Summary {
+            inodes: 2,
+            blocks: 13,
+        }),
+    ),
+    (
+        &[&FILE, &ELEVEN_BLOCKS, &OLD_TWELFTH, &OLD_THIRTEENTH],
+        Ok(Summary {
+            inodes: 2,
+            blocks: 15,
+        }),
+    ),
+    // nothing names the block that is marked
+    (&[&FILE, &ELEVEN_BLOCKS, &TWELFTH], Err(ImageFault::Bitmap)),
+    (
+        &[
+            &FILE,
+            &ELEVEN_BLOCKS,
+            &OLD_TWELFTH,
+            &OLD_THIRTEENTH,
+            &[(18 * 1024 + 4, 20)],
+        ],
+        Err(ImageFault::Address),
+    ),
+    (
+        &[
+            &FILE,
+            &ELEVEN_BLOCKS,
+            &OLD_TWELFTH,
+            &OLD_THIRTEENTH,
+            &[(18 * 1024, 4)],
+        ],
+        Err(ImageFault::Address),
+    ),
+    (
+        &[
+            &FILE,
+            &ELEVEN_BLOCKS,
+            &OLD_TWELFTH,
+            &OLD_THIRTEENTH,
+            &[(18 * 1024, 18)],
+        ],
+        Err(ImageFault::SharedBlock),
+    ),
+    (
+        &[
+            &FILE,
+            &ELEVEN_BLOCKS,
+            &OLD_TWELFTH,
+            &OLD_THIRTEENTH,
+            &[(4098, 0x0b)],
+        ],
+        Err(ImageFault::Bitmap),
+    ),
+];
+
+#[test]
+fn tells_of_index_blocks_in_the_small_format(rt: HostRuntime) {
+    for (row, (lists, want)) in SMALL_FILES.iter().enumerate() {
+        assert!(rt; told_small(&rt, lists) == *want, "row {row}");
     }
 }
 
@@ -291,12 +431,12 @@ fn tells_a_failed_access(rt: HostRuntime) {
 
 // However much memory there is, what is told of the image is that it doesn't suffice, or the same as with enough of it. Each
 // request is refused at some of the sizes.
-fn expect_refusals(rt: &(impl Abort + AllocGlobal), first: &[Change], second: &[Change]) {
-    let told = told_of(rt, first, second);
+fn expect_refusals(rt: &(impl Abort + AllocGlobal), lists: &[&[Change]]) {
+    let told = told_of(rt, lists);
     let mut refused = false;
     let mut last = told;
     for units in 0..ENOUGH {
-        last = told_within(rt, first, second, TOO_LITTLE + 16 * units);
+        last = told_within(rt, lists, TOO_LITTLE + 16 * units);
         refused = refused || last != told;
         assert!(rt;
             last == told || last == Err(ImageFault::NoMemory),
@@ -317,9 +457,14 @@ const ENOUGH: usize = 160;
 
 #[test]
 fn tells_that_memory_is_refused(rt: HostRuntime) {
-    expect_refusals(&rt, &[], &[]);
-    expect_refusals(&rt, &FILE, &TWO_BLOCKS);
-    expect_refusals(&rt, &DIRECTORY, &[]);
-    expect_refusals(&rt, &ROUND, &[]);
-    expect_refusals(&rt, &FILE, &[(ROOT + 70, 2)]);
+    let lists: [&[&[Change]]; 5] = [
+        &[],
+        &[&FILE, &TWO_BLOCKS],
+        &[&DIRECTORY],
+        &[&ROUND],
+        &[&FILE, &[(ROOT + 70, 2)]],
+    ];
+    for changes in lists {
+        expect_refusals(&rt, changes);
+    }
 }

@@ -13,10 +13,10 @@ fn expect(rt: &(impl Abort + AllocGlobal), geometry: Geometry, steps: &[Step]) {
 // Bytes stand behind a block's end, and a file without bytes keeps its names.
 const WRITTEN: [Step; 7] = [
     Step::Create(Some(1)),
-    Step::Fill(1, 0, 12 * 1024, 7, Ok(())),
-    Step::Write(1, 12 * 1024 - 1, *b"hello"),
-    Step::Read(1, 12 * 1024 - 3, 7, *b"\x07\x07hello\x01\x01"),
-    Step::Link(1, 2, (2, 1, 12 * 1024 + 4)),
+    Step::Fill(1, 0, 11 * 1024, 7, Ok(())),
+    Step::Write(1, 11 * 1024 - 1, *b"hello"),
+    Step::Read(1, 11 * 1024 - 3, 7, *b"\x07\x07hello\x01\x01"),
+    Step::Link(1, 2, (2, 1, 11 * 1024 + 4)),
     Step::Empty(1),
     Step::Link(1, 3, (2, 2, 0)),
 ];
@@ -33,8 +33,12 @@ fn tells_what_does_not_fit(rt: HostRuntime) {
         (0, 26 * 1024, Ok(())),
         (0, 27 * 1024, Err(InodeFault::Blocks { written: 26 * 1024 })),
         (1, 0, Err(InodeFault::PastEnd)),
-        (0, 274_433, Err(InodeFault::TooLong)),
-        (0, 274_432, Err(InodeFault::Blocks { written: 26 * 1024 })),
+        (0, 67_382_273, Err(InodeFault::TooLong)),
+        (
+            0,
+            67_382_272,
+            Err(InodeFault::Blocks { written: 26 * 1024 }),
+        ),
     ] {
         expect(
             &rt,
@@ -44,47 +48,72 @@ fn tells_what_does_not_fit(rt: HostRuntime) {
     }
 }
 
-// 27 blocks: the thirteenth of a file needs two, and takes both or none.
-const PAIRS: [Step; 11] = [
-    Step::Create(Some(1)),
-    Step::Create(Some(2)),
-    Step::Create(Some(3)),
-    Step::Fill(1, 0, 12 * 1024, 1, Ok(())),
-    Step::Fill(2, 0, 12 * 1024, 2, Ok(())),
-    Step::Fill(3, 0, 2 * 1024, 3, Ok(())),
-    Step::Fill(
-        1,
-        12 * 1024,
-        1,
-        b'x',
-        Err(InodeFault::Blocks { written: 0 }),
-    ),
-    // the one free block stayed free
-    Step::Fill(3, 2 * 1024, 1, b'x', Ok(())),
-    // with three free ones it goes
-    Step::Empty(3),
-    Step::Fill(1, 12 * 1024, 1, b'x', Ok(())),
-    // and one is left
-    Step::Fill(3, 0, 2 * 1024, 3, Err(InodeFault::Blocks { written: 1024 })),
+// A disk of so many blocks, the bytes of a file on it, how many blocks are free, one fewer than a byte behind them needs, and how
+// many all but the last are of another file, which has the rest.
+type Filled = (usize, usize, u8, u8);
+
+// The twelfth block of a file needs the single index block too, the 268th the double one and its first leaf, and each 256th from
+// there on a leaf.
+const FILLED: [Filled; 5] = [
+    (32, 11264, 1, 13),
+    (32, 12288, 0, 12),
+    (284, 273_408, 2, 8),
+    (284, 274_432, 0, 7),
+    (541, 535_552, 1, 8),
 ];
 
-#[test]
-fn takes_both_blocks_or_none(rt: HostRuntime) {
-    expect(&rt, SMALL, &PAIRS);
+// The byte is refused and takes no block, and takes all that it needs once they are free.
+const fn steps_of(filled: Filled) -> [Step; 11] {
+    let (_, bytes, free, others) = filled;
+    let free = 1024 * free as usize;
+    let fewer = 1024 * others as usize;
+    let others = fewer + 1024;
+    [
+        Step::Create(Some(1)),
+        Step::Create(Some(2)),
+        Step::Fill(1, 0, bytes, 1, Ok(())),
+        Step::Fill(2, 0, others, 2, Ok(())),
+        Step::Fill(1, bytes, 1, b'x', NONE),
+        // the free blocks stayed free
+        Step::Fill(2, others, free, 2, Ok(())),
+        Step::Fill(2, others + free, 1, b'x', NONE),
+        // with one more free it goes, and none is left
+        Step::Empty(2),
+        Step::Fill(2, 0, fewer, 2, Ok(())),
+        Step::Fill(1, bytes, 1, b'x', Ok(())),
+        Step::Fill(2, fewer, 1, b'x', NONE),
+    ]
 }
 
-const LONGEST: [Step; 5] = [
+// No block is left for a byte more.
+const NONE: Result<(), InodeFault> = Err(InodeFault::Blocks { written: 0 });
+
+#[test]
+fn takes_all_blocks_or_none(rt: HostRuntime) {
+    for filled in FILLED {
+        let geometry = Geometry {
+            size: filled.0,
+            inodes: 16,
+        };
+        expect(&rt, geometry, &steps_of(filled));
+    }
+}
+
+// The longest file, read where its leaves meet and at its end.
+const LONGEST: [Step; 7] = [
     Step::Create(Some(1)),
-    Step::Fill(1, 0, 274_431, 7, Ok(())),
-    Step::Fill(1, 274_431, 1, b'x', Ok(())),
-    Step::Fill(1, 274_432, 1, b'x', Err(InodeFault::TooLong)),
-    Step::Link(1, 1, (2, 1, 274_432)),
+    Step::Fill(1, 0, 67_382_271, 7, Ok(())),
+    Step::Fill(1, 67_382_271, 1, b'x', Ok(())),
+    Step::Fill(1, 67_382_272, 1, b'x', Err(InodeFault::TooLong)),
+    Step::Read(1, 535_548, 9, [7; 9]),
+    Step::Read(1, 67_382_265, 7, *b"\x07\x07\x07\x07\x07\x07x\x01\x01"),
+    Step::Link(1, 1, (2, 1, 67_382_272)),
 ];
 
 #[test]
-fn has_at_most_274432_bytes(rt: HostRuntime) {
+fn has_at_most_67382272_bytes(rt: HostRuntime) {
     let geometry = Geometry {
-        size: 400,
+        size: 131_072,
         inodes: 16,
     };
     expect(&rt, geometry, &LONGEST);

@@ -12,6 +12,8 @@ mod images;
 #[cfg(test)]
 mod inodes;
 #[cfg(test)]
+mod leaves;
+#[cfg(test)]
 mod maker;
 #[cfg(test)]
 mod mounted;

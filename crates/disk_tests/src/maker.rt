@@ -20,6 +20,14 @@ pub fn small(rt: &(impl Abort + AllocGlobal)) -> Vec<u8> {
     make(rt.alloc(), &Manifest { entries }, 32, 16).expect(rt, "an image")
 }
 
+/// An image of so many blocks and 16 inodes with a file, inode 2, of so many zeros.
+pub fn with_file(rt: &(impl Abort + AllocGlobal), blocks: u32, size: usize) -> Vec<u8> {
+    let zeros = vec![in rt.alloc(); 0; size].expect(rt, "memory");
+    let mut entries = Vec::new(rt.alloc());
+    add(rt, &mut entries, b"/f", Thing::File(zeros));
+    make(rt.alloc(), &Manifest { entries }, blocks, 16).expect(rt, "an image")
+}
+
 // One more entry of a manifest.
 fn add(rt: &(impl Abort + AllocGlobal), entries: &mut Vec<Entry>, path: &[u8], thing: Thing) {
     let path = Vec::from_slice(rt.alloc(), path).expect(rt, "memory");
@@ -78,7 +86,7 @@ const FAULTS: [(&[u8], &[u8], usize, MakeFault); 9] = [
     (b"/a", b"/a/b", 0, MakeFault::Parent),
     (b"/a/b", b"/a", 0, MakeFault::Parent),
     (b"/a", b"/b", 26 * 1024, MakeFault::Blocks),
-    (b"/a", b"/b", 274_433, MakeFault::Blocks),
+    (b"/a", b"/b", 67_382_273, MakeFault::Blocks),
 ];
 
 #[test]

@@ -1,10 +1,10 @@
 //! The records of an image and their bytes.
 
-use layout::{CURRENT, DiskInode, Entry, LayoutFault, MAGIC, SuperBlock};
+use layout::{CURRENT, DiskInode, Entry, Format, LayoutFault, MAGIC, SuperBlock};
 
 // The numbers of an image of 32 blocks and 16 inodes.
 const SMALLEST: [u8; 32] = [
-    0x40, 0x30, 0x20, 0x10, 0x20, 0, 0, 0, 0x1b, 0, 0, 0, 0x10, 0, 0, 0, 0, 0, 0, 0, 2, 0, 0, 0, 2,
+    0x41, 0x30, 0x20, 0x10, 0x20, 0, 0, 0, 0x1b, 0, 0, 0, 0x10, 0, 0, 0, 0, 0, 0, 0, 2, 0, 0, 0, 2,
     0, 0, 0, 4, 0, 0, 0,
 ];
 
@@ -31,21 +31,45 @@ fn refuses_wrong_super_blocks(rt: HostRuntime) {
     let short = SuperBlock::from_bytes(&SMALLEST[1..]);
     assert!(rt; short == Err(LayoutFault::Short));
     let mut wrong = SMALLEST;
-    wrong[0] = 0x41;
+    wrong[0] = 0x40;
     assert!(rt; SuperBlock::from_bytes(&wrong) == Err(LayoutFault::Magic));
     wrong = SMALLEST;
     wrong[8] = 0x1c;
     assert!(rt; SuperBlock::from_bytes(&wrong) == Err(LayoutFault::Numbers));
 }
 
+// The magic numbers of the formats.
+const SMALL: (u32, Format) = (0x1020_3040, Format::Small);
+
+const LARGE: (u32, Format) = (0x1020_3041, CURRENT);
+
+// A size, a count of inodes, where the bitmap starts, the data blocks, and what is told of them in a format.
+type Numbers = ((u32, Format), u32, u32, u32, u32, Result<(), LayoutFault>);
+
+const FITS: [Numbers; 9] = [
+    (LARGE, 2000, 200, 15, 1984, Ok(())),
+    (SMALL, 2000, 200, 15, 1984, Ok(())),
+    (LARGE, 32, 447, 30, 1, Ok(())),
+    (LARGE, 32, 448, 31, 0, Err(LayoutFault::Numbers)),
+    (LARGE, 131_072, 16, 4, 131_051, Ok(())),
+    (LARGE, 131_073, 16, 4, 131_052, Err(LayoutFault::Numbers)),
+    (SMALL, 16384, 16, 4, 16377, Ok(())),
+    (SMALL, 16385, 16, 4, 16378, Err(LayoutFault::Numbers)),
+    (
+        (0x1020_3041, Format::Small),
+        2000,
+        200,
+        15,
+        1984,
+        Err(LayoutFault::Magic),
+    ),
+];
+
 #[test]
 fn wants_numbers_that_fit(rt: HostRuntime) {
-    for (size, inodes, bitmap_start, blocks, want) in [
-        (2000, 200, 15, 1984, Ok(())),
-        (32, 447, 30, 1, Ok(())),
-        (32, 448, 31, 0, Err(LayoutFault::Numbers)),
-    ] {
+    for ((magic, format), size, inodes, bitmap_start, blocks, want) in FITS {
         let numbers = SuperBlock {
+            magic,
             size,
             blocks,
             inodes,
@@ -53,7 +77,7 @@ fn wants_numbers_that_fit(rt: HostRuntime) {
             ..NUMBERS
         };
         assert!(rt;
-            numbers.test(CURRENT) == want,
+            numbers.test(format) == want,
             "{size} blocks, {inodes} inodes"
         );
     }

@@ -6,13 +6,14 @@ ghost use Rattle.inode.specs.declared.InodeFault.{InodeFault};
 ghost use Rattle.layout.specs.Image.{IsInode};
 ghost use Rattle.layout.specs.Sound.{HasParts, IsSound};
 ghost use Rattle.layout.specs.Super.{data_start_of};
+ghost use Rattle.unixmodel.specs.Formats.{format};
 
 use crate::devices::fail_after;
 use balloc::{BallocFault, format, read_inode, take_inode};
 use blockdev::{BLOCK_SIZE, DeviceFault, FailAt, MemDisk};
 use cache::Cache;
 use inode::{InodeFault, read_at, set_links, stat, truncate, write_at};
-use layout::Geometry;
+use layout::{Geometry, MOST_BLOCKS};
 use std::alloc::Global;
 use std::marker::Model;
 
@@ -52,12 +53,12 @@ pub fn disk_of(
 
 // Whether a disk can have these numbers.
 fn is_possible(geometry: Geometry) -> bool
-    ensures size { OnTrue result ((32 ≤ geometry.size) × (geometry.size ≤ 16384)) }
+    ensures size { OnTrue result ((32 ≤ geometry.size) × (geometry.size ≤ format.most)) }
     ensures inodes { OnTrue result ((16 ≤ geometry.inodes) × (geometry.inodes ≤ 8192)) }
     ensures room { OnTrue result (data_start_of geometry.size geometry.inodes < geometry.size) }
 {
     32 <= geometry.size
-        && geometry.size <= 16384
+        && geometry.size <= MOST_BLOCKS as usize
         && 16 <= geometry.inodes
         && geometry.inodes <= 8192
         && geometry.data_start() < geometry.size

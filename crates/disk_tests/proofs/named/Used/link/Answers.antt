@@ -1,7 +1,6 @@
 use Rattle.std.proofs.Common.{◌≢◌, ap, subst, sym, ◌∙◌}
 use Rattle.std.specs.Bool.{OnTrue}
 use Rattle.std.specs.Prelude.{All, is_some}
-use Rattle.tree.specs.declared.making.Leaf.TheVariants as leaf
 use Rattle.tree.proofs.Keeping.{acts-keeps, linked-changed}
 use Rattle.disk_tests.proofs.named.Used.link.Goals as goal
 

@@ -1,6 +1,5 @@
 use Rattle.std.proofs.Common.{ap, sym, ◌∙◌}
 use Rattle.std.specs.Prelude.{is_some}
-use Rattle.tree.specs.declared.making.Leaf.TheVariants as leaf
 use Rattle.tree.proofs.Keeping.{acts-keeps, unlinked-reaps}
 use Rattle.disk_tests.proofs.named.Used.unlink.Goals as goal
 
