@@ -22,6 +22,4 @@ mod named;
 #[cfg(test)]
 mod records;
 #[cfg(test)]
-mod turned;
-#[cfg(test)]
 mod volume;

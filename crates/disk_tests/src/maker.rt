@@ -1,15 +1,9 @@
 //! Small images, and each fault of a manifest.
 
-use image::{Entry, MakeFault, Manifest, Summary, Thing, make};
+use image::{Entry, MakeFault, Manifest, Thing, make};
 use std::process::Abort;
 
-/// What the small image uses: the root, a directory, a file in it and a device.
-pub const WHOLE: Summary = Summary {
-    inodes: 4,
-    blocks: 3,
-};
-
-/// An image of 32 blocks and 16 inodes.
+/// An image of 32 blocks and 16 inodes: the root, a directory, a file in it and a device.
 pub fn small(rt: &(impl Abort + AllocGlobal)) -> Vec<u8> {
     let mut entries = Vec::new(rt.alloc());
     add(rt, &mut entries, b"/bin", Thing::Directory);
