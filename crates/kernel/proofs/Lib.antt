@@ -13,6 +13,7 @@ pub mod Finishes
 pub mod Marks
 pub mod Readies
 pub mod Shown
+pub mod Idle
 pub mod Masks
 pub mod Watching
 pub mod Wakes

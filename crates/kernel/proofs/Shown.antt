@@ -1,16 +1,24 @@
 -- What a kernel shows of its processes, in the words of its state.
-use Rattle.std.proofs.Common.{◌≡◌, ℕ, Bool, true, List, Option, Some, None, refl, ap, sym, ◌∙◌}
-use Rattle.std.specs.Prelude.{IfSome, is_some, option_and_then, option_map, position, slice_get, slice_set, unwrap_or}
+use Rattle.std.proofs.Common.{◌≡◌, ℕ, Bool, true, false, arith, List, [], ◌∷◌, Option, Some, None, refl, ap, subst, sym, ◌∙◌, ◌+◌}
+use Rattle.std.specs.Prelude.{IfSome, is_some, option_and_then, option_map, position, slice_get, slice_set, sum_by, unwrap_or}
 use Rattle.std.proofs.lemmas.List.{length-set}
-use Rattle.kernel.proofs.Reaped.{frames-with, match-loaded}
+use Rattle.std.proofs.lemmas.List.Sums.{sum_by-cons}
+use Rattle.files.specs.Counts.{names}
+use Rattle.files.specs.declared.file.OpenFile.{OpenFile}
+use Rattle.files.specs.Meant.{file_of}
+use Rattle.files.specs.Places.{Counted, count_at, file_at, opens_of}
+use Rattle.std.proofs.Math.ListN.{get_or-map}
+use Rattle.kernel.proofs.Reaped.{frames-with, match-loaded, opened-loaded}
 use Rattle.kernel.proofs.Runs.{memory-at, place-space}
 use Rattle.kernel.specs.Kernel.{Kernel, base, loaded, memories, memory_in, on_hart, rest_of, state_of}
-use Rattle.kernel.specs.Shows.{bare}
+use Rattle.kernel.specs.Descriptors.{named_by, names_in}
+use Rattle.kernel.specs.Holding.{FitsNode, node_of, node_on}
+use Rattle.kernel.specs.Shows.{bare, descriptors_on, naming}
 use Rattle.kernel.specs.Sound.{IsKernel}
 use Rattle.proc.specs.declared.process.Process.{Process}
 use Rattle.proc.specs.Places.{Places, changed_at, has_pid, place_where}
 use Rattle.proc.proofs.Joined.{place_of_pid-with_table, place_where-Some, slot-joined}
-use Rattle.proc.specs.Whole.{with_memory}
+use Rattle.proc.specs.Whole.{joined, with_memory}
 use Rattle.spaces.specs.Spaces.{SpaceView, Spaces, has_space, view_at, no_pages, taken_frames}
 use Rattle.unixmodel.specs.Counts.{frames_of}
 use Rattle.unixmodel.specs.Files.{slot}
@@ -26,9 +34,10 @@ use Rattle.std.proofs.lemmas.List.Folds.{position_or_len-set}
 position-set : (test : Option Process → Bool) (os : List (Option Process)) (i : ℕ) (o : Option Process) → test o ≡ test (slot os i) → position test (slice_set os i o) ≡ position test os
 position-set test os i o same = rw (position_or_len-set test os i o None same, length-set os i o) refl
 
-place-changed : (t : Places) (s : Spaces) (pid : ℕ) (o : Option ℕ) → place_where (changed_at t (on_hart s) o).places (has_pid pid) ≡ place_where t.places (has_pid pid)
-place-changed t s pid None = refl
-place-changed t s pid (Some i) = position-set (holds (has_pid pid)) t.places i (option_map (on_hart s) (slot t.places i)) (hart-same (holds (has_pid pid)) s (λ p. refl) (slot t.places i))
+-- what the hart holds of a process is no matter of the test
+pub place-changed : (test : Process → Bool) → ((s : Spaces) (p : Process) → test (on_hart s p) ≡ test p) → (t : Places) (s : Spaces) (o : Option ℕ) → place_where (changed_at t (on_hart s) o).places test ≡ place_where t.places test
+place-changed test same t s None = refl
+place-changed test same t s (Some i) = position-set (holds test) t.places i (option_map (on_hart s) (slot t.places i)) (hart-same (holds test) s (same s) (slot t.places i))
 
 -- ---- the process with a pid
 
@@ -36,7 +45,7 @@ module _ (k : Kernel) where
   pub place-state : (pid : ℕ) → place_of_pid (state_of k) pid ≡ place_where k.table.places (has_pid pid)
   place-state pid =
       place_of_pid-with_table (base (rest_of k)) (loaded k) (memories k.spaces) pid
-      ∙ place-changed k.table k.spaces pid k.spaces.active
+      ∙ place-changed (has_pid pid) (λ s p. refl) k.table k.spaces k.spaces.active
 
   pub process-state : (i : ℕ) → process_at (state_of k) i ≡ option_map (with_memory (memory_in (slot k.spaces.places i))) (slot (loaded k).places i)
   process-state i = slot-joined (loaded k).places (memories k.spaces) i ∙ ap (λ (m : Memory). option_map (with_memory m) (slot (loaded k).places i)) (memory-at k.spaces i)
@@ -104,3 +113,48 @@ module _ (k : Kernel) (pid i : ℕ) (found : place_where k.table.places (has_pid
 
 pub frames-state : (k : Kernel) → IsKernel k → frames_of (state_of k) ≡ taken_frames k.spaces
 frames-state k is = frames-with k (loaded k) (match-loaded k is)
+
+-- ---- pids
+
+pub pid-shown : (k : Kernel) (pid : ℕ) → is_some (place_where k.table.places (has_pid pid)) ≡ is_some (shown_process (state_of k) pid)
+pid-shown k pid = go (place_where k.table.places (has_pid pid)) refl where
+  go : (o : Option ℕ) → place_where k.table.places (has_pid pid) ≡ o → is_some o ≡ is_some (shown_process (state_of k) pid)
+  go None found = sym (ap is_some (shown-none k pid found))
+  go (Some i) found = sym (some-shown k pid i found)
+
+-- ---- open files
+
+file-in : (o : Option Counted) → option_map (λ (c : Counted). file_of c.file) o ≡ option_map file_of (option_map (λ (c : Counted). c.file) o)
+file-in None = refl
+file-in (Some c) = refl
+
+file-of : (t : List (Option Counted)) (n : ℕ) → slot (opens_of t) n ≡ option_map file_of (file_at t n)
+file-of t n = get_or-map (option_map (λ (c : Counted). file_of c.file)) t n None ∙ file-in (slot t n)
+
+pub file-shown : (t : List (Option Counted)) (n : ℕ) (f : OpenFile) → Some f ≡ file_at t n → Some (file_of f) ≡ slot (opens_of t) n
+file-shown t n f at = ap (option_map file_of) at ∙ sym (file-of t n)
+
+pub no-file : (t : List (Option Counted)) (n : ℕ) → None ≡ file_at t n → None ≡ slot (opens_of t) n
+no-file t n at = ap (option_map file_of) at ∙ sym (file-of t n)
+
+named-joined : (os : List (Option Process)) (ms : List Memory) (n : ℕ) → sum_by (naming n) (joined os ms) ≡ named_by os n
+unfolding joined
+named-joined [] ms n = refl
+named-joined (None ∷ os) [] n = omega (arith, sum_by-cons (naming n) None (joined os []), named-joined os [] n, sum_by-cons (names_in n) None os)
+named-joined (Some p ∷ os) [] n = sum_by-cons (naming n) (Some (with_memory [] p)) (joined os []) ∙ ap (λ (m : ℕ). names n p.descriptors + m) (named-joined os [] n) ∙ sym (sum_by-cons (names_in n) (Some p) os)
+named-joined (None ∷ os) (m ∷ ms) n = omega (arith, sum_by-cons (naming n) None (joined os ms), named-joined os ms n, sum_by-cons (names_in n) None os)
+named-joined (Some p ∷ os) (m ∷ ms) n = sum_by-cons (naming n) (Some (with_memory m p)) (joined os ms) ∙ ap (λ (c : ℕ). names n p.descriptors + c) (named-joined os ms n) ∙ sym (sum_by-cons (names_in n) (Some p) os)
+
+pub count-shown : (k : Kernel) → IsKernel k → (n : ℕ) → count_at k.files n ≡ descriptors_on (state_of k) n
+count-shown k is n = (opened-loaded k is).counted n ∙ sym (named-joined (loaded k).places (memories k.spaces) n)
+
+-- an open file fits its node
+abbrev Fits : Kernel → OpenFile → Type 0
+Fits k f = FitsNode f f.target (node_of k.tree.files (node_on f.target))
+
+fits-in : (k : Kernel) (o : Option Counted) (f : OpenFile) → Some f ≡ option_map (λ (c : Counted). c.file) o → ((c : Counted) → o ≡ Some c → Fits k c.file) → Fits k f
+fits-in k None f is each = absurd (cc)
+fits-in k (Some c) f is each = let same : f ≡ c.file = cc in subst (Fits k) (sym same) (each c refl)
+
+pub fits-shown : (k : Kernel) → IsKernel k → k.tree.failed ≡ false → (n : ℕ) (f : OpenFile) → Some f ≡ file_at k.files n → Fits k f
+fits-shown k is up n f at = fits-in k (slot k.files n) f at ((is.filed.used up).fits n)

@@ -6,3 +6,4 @@ pub mod View
 pub mod Ready
 pub mod Watch
 pub mod Shows
+pub mod Idle

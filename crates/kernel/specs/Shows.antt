@@ -1,6 +1,9 @@
--- What is shown of a process.
+-- What is shown of processes and of open files.
+use Rattle.std.specs.Prelude.{None, Option, Some, sum_by, ℕ}
+use Rattle.files.specs.Counts.{names}
 use Rattle.proc.specs.declared.process.Process.{Process}
 use Rattle.unixmodel.specs.Process as unix
+use Rattle.unixmodel.specs.State.{State}
 
 -- a process of the abstract Unix, but for its memory
 abbrev pub bare : unix.Process → Process
@@ -15,3 +18,12 @@ bare p = record {
   killed = p.killed;
   mode = p.mode;
 }
+
+-- how many descriptors of a place name open file n
+abbrev pub naming : ℕ → Option unix.Process → ℕ
+naming n None = 0
+naming n (Some p) = names n p.descriptors
+
+-- how many descriptors of all processes do
+abbrev pub descriptors_on : State → ℕ → ℕ
+descriptors_on s n = sum_by (naming n) s.places

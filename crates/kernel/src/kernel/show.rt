@@ -1,20 +1,32 @@
-//! What a kernel shows of its processes.
-ghost use Rattle.std.specs.Prelude.{◌≡◌, ◌+◌, IfSome, is_some, option_map};
+//! What a kernel shows of its processes, open files and pipes.
+ghost use Rattle.std.specs.Prelude.{◌≡◌, ◌+◌, ◌++◌, IfSome, false, is_some, option_map};
+ghost use Rattle.files.specs.Meant.{file_of};
+ghost use Rattle.kernel.specs.Holding.{FitsNode, node_of, node_on};
 ghost use Rattle.kernel.specs.Kernel.{state_of};
-ghost use Rattle.kernel.specs.Shows.{bare};
+ghost use Rattle.kernel.specs.Shows.{bare, descriptors_on};
+ghost use Rattle.proc.specs.Next.{IsNextOf};
 ghost use Rattle.unixmodel.specs.Counts.{frames_of};
+ghost use Rattle.unixmodel.specs.Files.{slot};
 ghost use Rattle.unixmodel.specs.Memory.{Page};
 ghost use Rattle.unixmodel.specs.Shown.{ShowsMemory, shown_page, shown_process};
 ghost use Rattle.vm.specs.Leaf.{marks_from};
 
 use crate::kernel::Kernel;
 use blockdev::BlockDev;
+use files::OpenFile;
 use proc::Process;
 use ram::{FRAME_SIZE, FrameNo, Ram};
 use sv39::Translate;
 use vm::Perm;
 
 impl<D: BlockDev, T: Translate + Drop> Kernel<D, T> {
+    /// The least pid above another, among those of all processes, also of zombies.
+    pub fn next_pid(&self, after: u32) -> Option<u32>
+        ensures { IsNextOf (λ pid. is_some (shown_process (state_of self.now) pid)) after result }
+    {
+        self.table.next_pid(after)
+    }
+
     /// The process with a pid, but for its memory; `None` where there is none.
     pub fn shown(&self, pid: u32) -> Option<Process>
         ensures { result ≡ option_map bare (shown_process (state_of self.now) pid) }
@@ -46,5 +58,23 @@ impl<D: BlockDev, T: Translate + Drop> Kernel<D, T> {
         ensures { result + frames_of (state_of self.now) ≡ (state_of self.now).frame_limit }
     {
         self.spaces.free()
+    }
+    /// An open file, and how many descriptors of all processes name it; `None` where there is none with this number.
+    pub fn opened(&self, id: usize) -> Option<(OpenFile, u32)>
+        ensures file { option_map (λ r. file_of r.0) result ≡ slot (state_of self.now).opens id }
+        ensures count { IfSome result (λ r. r.1 ≡ descriptors_on (state_of self.now) id) }
+        // until an access of the device has failed it fits the node that it is on
+        ensures fits { self.now.tree.failed ≡ false → IfSome result (λ r. FitsNode r.0 r.0.target (node_of self.now.tree.files (node_on r.0.target))) }
+    {
+        let file = self.files.file(id)?;
+        Some((file, self.files.references(id)))
+    }
+
+    /// The bytes of a pipe, the oldest first: those of the second slice stand behind those of the first. `None` where there is no such
+    /// pipe.
+    pub fn pipe(&self, number: usize) -> Option<(&[u8], &[u8])>
+        ensures { option_map (λ r. r.0.now ++ r.1.now) result ≡ slot (state_of self.now).pipes number }
+    {
+        self.spaces.pipe(number)
     }
 }

@@ -1,0 +1,11 @@
+use Rattle.std.proofs.Common.{ap, is_some, not, sym, ◌∙◌}
+use Rattle.kernel.proofs.Idle.{busy-state, idle-turn, none-not-some}
+use Rattle.kernel.proofs.kernel.Kernel.is_idle.Goals as goal
+
+pub returns-in-Some : goal.returns-in-Some
+returns-in-Some g c = busy-state c.args.self.now c.is_sound.ensures.sound _ (sym c.in-Some.ensures)
+
+pub returns-in-None : goal.returns-in-None
+returns-in-None g c =
+    none-not-some c.next_turn.result c.is_none.result c.is_none.ensures c.next_turn.ensures
+    ∙ idle-turn c.args.self.now c.is_sound.ensures.sound (sym c.in-None.ensures)

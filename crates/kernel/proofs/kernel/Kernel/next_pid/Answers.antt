@@ -1,0 +1,7 @@
+use Rattle.kernel.specs.View.{kernel_of}
+use Rattle.kernel.proofs.Shown.{pid-shown}
+use Rattle.proc.proofs.Following.{next-same}
+use Rattle.kernel.proofs.kernel.Kernel.next_pid.Goals as goal
+
+pub returns : goal.returns
+returns g c = rw (← c.self.view_is) (next-same _ _ c.args.after c.next_pid.result (pid-shown (kernel_of c.self.inside)) c.next_pid.ensures)

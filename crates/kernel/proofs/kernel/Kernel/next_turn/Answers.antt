@@ -1,0 +1,26 @@
+use Rattle.std.proofs.Common.{false, refl, rules, ap, sym, ◌∙◌, ◌≡◌}
+use Rattle.kernel.specs.Kernel.{Kernel, base, memories, rest_of}
+use Rattle.kernel.specs.Ready.{seen}
+use Rattle.kernel.specs.View.{kernel_of}
+use Rattle.kernel.specs.Watch.{awaited_of}
+use Rattle.kernel.proofs.Readies.{ready-same, turn-idle}
+use Rattle.kernel.proofs.Wakes.{picked-places, watched-picked}
+use Rattle.kernel.proofs.Watching.{asleep-unready}
+use Rattle.proc.proofs.Turns.{turn-from_pick}
+use Rattle.proc.specs.Whole.{with_table}
+use Rattle.unixmodel.specs.Turn.{ready, turn}
+use Rattle.kernel.proofs.kernel.Kernel.next_turn.Goals as goal
+
+pub next_ready-requires-clause-awake : goal.next_ready-requires-clause-awake
+next_ready-requires-clause-awake g c i out =
+    let k = kernel_of c.self.inside in
+    let unready : false ≡ ready (seen (awaited_of k) k.table.places) i = sym (asleep-unready (awaited_of k) k.table.places i (c.self.invariant.watched.asleep i out)) in
+    record { shown = record { ref_ptr = (0, 0); now = k.table.places }; shows = refl; says = record { met = unready } }
+
+pub returns : goal.returns
+returns g c =
+    let k = kernel_of c.self.inside in
+    turn-from_pick _ _ (base (rest_of k)) k.table (memories k.spaces) c.next_ready.result c.next_ready.ensures.first
+    (λ shown i b r. (search rules) ∙ sym (ready-same (rest_of k) (record k.table { places = shown.now }) (memories k.spaces) i))
+    ∙ ap (λ (x : Kernel). turn (with_table (base (rest_of x)) x.table (memories x.spaces))) c.self.view_is
+    ∙ turn-idle c.args.self.now c.requires

@@ -1,0 +1,33 @@
+-- Whether anything goes on: who runs, who is ready, and who sleeps.
+use Rattle.std.specs.Prelude.{Bool, false, is_none, true, ◌&&◌}
+use Rattle.std.specs.List.{list_any}
+use Rattle.unixmodel.specs.declared.call.Call.{Call}
+use Rattle.unixmodel.specs.declared.call.Call.TheVariants.{Sleep}
+use Rattle.unixmodel.specs.declared.process.Mode.{Mode}
+use Rattle.unixmodel.specs.declared.process.Mode.TheVariants.{Ready, Running, Waiting, Zombie}
+use Rattle.unixmodel.specs.Process.{Process}
+use Rattle.unixmodel.specs.State.{State, holds, running}
+use Rattle.unixmodel.specs.Turn.{turn}
+
+-- no process runs, and none is ready: a step changes nothing
+abbrev pub is_idle : State → Bool
+is_idle s = is_none (running s) && is_none (turn s)
+
+-- ---- who sleeps
+
+abbrev pub is_sleep : Call → Bool
+is_sleep Sleep = true
+is_sleep _ = false
+
+abbrev pub is_sleeping_mode : Mode → Bool
+is_sleeping_mode Running = false
+is_sleeping_mode Ready = false
+is_sleeping_mode (Waiting w) = is_sleep w.number
+is_sleeping_mode (Zombie status) = false
+
+abbrev pub is_sleeping : Process → Bool
+is_sleeping p = is_sleeping_mode p.mode
+
+-- a process waits in sleep, so time alone can make it ready
+abbrev pub is_anyone_asleep : State → Bool
+is_anyone_asleep s = list_any (holds is_sleeping) s.places

@@ -1,0 +1,79 @@
+//! Whether a kernel has anything to do.
+ghost use Rattle.std.specs.Prelude.{◌≡◌, None};
+ghost use Rattle.std.specs.List.{list_any};
+ghost use Rattle.files.specs.Pipes.{IsPiped};
+ghost use Rattle.files.specs.Places.{opens_of};
+ghost use Rattle.kernel.specs.Idle.{is_anyone_asleep, is_idle, is_sleep, is_sleeping_mode};
+ghost use Rattle.kernel.specs.Kernel.{state_of};
+ghost use Rattle.kernel.specs.Ready.{awaited, seen};
+ghost use Rattle.proc.specs.declared.process.Process.{Process};
+ghost use Rattle.unixmodel.specs.State.{holds};
+ghost use Rattle.unixmodel.specs.Turn.{ready, turn};
+
+use crate::kernel::Kernel;
+use crate::ready::Awaited;
+use blockdev::BlockDev;
+use proc::Place;
+use sv39::Translate;
+use unixmodel::call::Call;
+use unixmodel::process::Mode;
+
+// Whether a process is in `sleep`.
+fn is_sleeping(mode: Mode) -> bool
+    ensures { result ≡ is_sleeping_mode mode }
+{
+    match mode {
+        Mode::Waiting(pending) => matches!(pending.number, Call::Sleep),
+        _ => false,
+    }
+}
+
+// Whether a process is in `sleep`, of those in these places.
+fn any_sleeping(places: &[Place]) -> bool
+    ensures { result ≡ list_any (holds (λ (p : Process). is_sleeping_mode p.mode)) places.now }
+{
+    places.iter().any(|place| match place {
+        Some(process) => is_sleeping(process.mode),
+        None => false,
+    })
+}
+
+impl<D: BlockDev, T: Translate + Drop> Kernel<D, T> {
+    /// The place of the process whose turn it is; `None`: none is ready.
+    pub fn next_turn(&self) -> Option<usize>
+        requires { self.now.spaces.active ≡ None }
+        ensures { result ≡ turn (state_of self.now) }
+    {
+        self.is_sound();
+        let now = Awaited {
+            ticks: self.ticks,
+            console: &self.console,
+            files: &self.files,
+            spaces: &self.spaces,
+        };
+        self.table.next_ready(
+            |places, at|
+                requires { IsPiped now.spaces.now.pipes (opens_of now.files.now) }
+                ensures { result ≡ ready (seen (awaited now.entry) places.now) at }
+            { now.is_ready(places, at) },
+        )
+    }
+
+    /// Whether no process runs and none is ready, so that a step changes nothing.
+    pub fn is_idle(&self) -> bool
+        ensures { result ≡ is_idle (state_of self.now) }
+    {
+        self.is_sound();
+        match self.active() {
+            Some(_) => false,
+            None => self.next_turn().is_none(),
+        }
+    }
+
+    /// Whether a process waits in `sleep`, so that time alone can make it ready.
+    pub fn is_anyone_asleep(&self) -> bool
+        ensures { result ≡ is_anyone_asleep (state_of self.now) }
+    {
+        any_sleeping(self.table.places())
+    }
+}
