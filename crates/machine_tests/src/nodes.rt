@@ -65,14 +65,14 @@ fn a_write_ends_with_the_blocks(rt: HostRuntime) {
     run(&rt, Program::Calls(&CALLS), &ACTS);
 }
 
-// The thirteenth block of a file comes with the block of its numbers, or not at all. Two files of twelve blocks leave two free, of
-// which directories take one or both. Behind the calls stand `f`, `g`, `d` and `e`.
+// The twelfth block of a file comes with the block of its numbers, or not at all. Files of eleven and of twelve blocks leave two
+// free, of which directories take one or both. Behind the calls stand `f`, `g`, `d` and `e`.
 #[test]
 fn one_free_block_stays_free(rt: HostRuntime) {
     const CALLS: [[u64; 4]; 15] = [
         [0x3000, 0, 0, SBRK],
         [480, NEW, 0, OPEN],
-        [3, HEAP, 12288, WRITE],
+        [3, HEAP, 11264, WRITE],
         [488, NEW, 0, OPEN],
         [4, HEAP, 12288, WRITE],
         [496, 0, 0, MKDIR],
@@ -87,11 +87,11 @@ fn one_free_block_stays_free(rt: HostRuntime) {
         [0x66, 0x67, 0x64, 0x65],
     ];
     const ACTS: [Act; 4] = [
-        Answers(&[0x3000, 3, 12288, 4, 12288, 0, MINUS_ONE]),
+        Answers(&[0x3000, 3, 11264, 4, 12288, 0, MINUS_ONE]),
         Node(
             3,
             Some(Stat {
-                size: 12288,
+                size: 11264,
                 ..FILE
             }),
         ),
@@ -99,7 +99,7 @@ fn one_free_block_stays_free(rt: HostRuntime) {
         Node(
             3,
             Some(Stat {
-                size: 12290,
+                size: 11266,
                 ..FILE
             }),
         ),

@@ -49,23 +49,23 @@ fn what_is_held_without_a_name_is_not_saved(rt: HostRuntime) {
 // Whether it read the file, wrote one byte more, and was refused another.
 fn has_filled(seen: &Seen) -> bool {
     seen.state == ProcessState::Running
-        && seen.registers[18] == 274_431
+        && seen.registers[18] == 67_382_271
         && seen.registers[19] == 1
         && seen.registers[20] == u64::MAX
 }
 
 #[test]
-fn a_file_has_at_most_274432_bytes(rt: HostRuntime) {
+fn a_file_has_at_most_67382272_bytes(rt: HostRuntime) {
     const FULL: Stat = Stat {
         kind: 2,
         links: 1,
-        size: 274_432,
+        size: 67_382_272,
     };
     let room = Room {
-        frames: 128,
-        blocks: 400,
+        frames: 16500,
+        blocks: 131_072,
     };
-    let mut run = run_of(rt.alloc(), FILLER, 274_431, room).expect(&rt, "a machine");
+    let mut run = run_of(rt.alloc(), FILLER, 67_382_271, room).expect(&rt, "a machine");
     holds_at(&rt, 0, run.steps(STEPS));
     let seen = run.machine.inspect(1).expect(&rt, "process 1");
     holds_at(&rt, 1, has_filled(&seen));

@@ -179,9 +179,9 @@ stay:   j stay
 f:      .ascii \"f\\0\"
 ";
 
-/// Reads a file of 274431 bytes to its end (s2), and writes one byte twice (s3 and s4).
+/// Reads a file of 67382271 bytes to its end (s2), and writes one byte twice (s3 and s4).
 pub(crate) const FILLER: &str = "
-        li a0, 274431
+        li a0, 67382271
         li a7, 12
         ecall
         mv s1, a0
@@ -190,7 +190,7 @@ pub(crate) const FILLER: &str = "
         li a7, 15
         ecall
         mv a1, s1
-        li a2, 274431
+        li a2, 67382271
         li a7, 5
         ecall
         mv s2, a0
