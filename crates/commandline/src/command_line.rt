@@ -141,7 +141,7 @@ const MKFS: [Word<'static>; 4] = [
     Word {
         name: "size",
         given: Given::Number("2000"),
-        help: "Blocks of 1024 bytes, 32 to 16384",
+        help: "Blocks of 1024 bytes, 32 to 131072",
     },
     Word {
         name: "inodes",

@@ -55,7 +55,7 @@ fn expect_bytes(rt: &impl Abort, image: &[u8], start: usize, wanted: &[u8]) {
 
 // The words of the super block.
 static NUMBERS: [u8; 32] = [
-    0x40, 0x30, 0x20, 0x10, 0x20, 0, 0, 0, 0x1b, 0, 0, 0, 0x10, 0, 0, 0, 0, 0, 0, 0, 2, 0, 0, 0, 2,
+    0x41, 0x30, 0x20, 0x10, 0x20, 0, 0, 0, 0x1b, 0, 0, 0, 0x10, 0, 0, 0, 0, 0, 0, 0, 2, 0, 0, 0, 2,
     0, 0, 0, 4, 0, 0, 0,
 ];
 
@@ -77,9 +77,15 @@ fn makes_an_image_of_default_size(rt: HostRuntime) {
 }
 
 // Sizes and counts of inodes: the least of each, the greatest, and the most inodes that fit in the least size.
-static IMAGE_NUMBERS: [(u32, u32); 3] = [(32, 16), (16384, 8192), (32, 447)];
+static IMAGE_NUMBERS: [(u32, u32); 3] = [(32, 16), (131_072, 8192), (32, 447)];
 
-static NUMBER_FAULTS: [(u32, u32); 5] = [(31, 16), (32, 15), (32, 448), (16385, 16), (16384, 8193)];
+static NUMBER_FAULTS: [(u32, u32); 5] = [
+    (31, 16),
+    (32, 15),
+    (32, 448),
+    (131_073, 16),
+    (131_072, 8193),
+];
 
 #[test]
 fn knows_the_numbers_of_an_image(rt: HostRuntime) {
@@ -96,15 +102,17 @@ fn knows_the_numbers_of_an_image(rt: HostRuntime) {
 
 #[test]
 fn counts_the_blocks_of_files(rt: HostRuntime) {
-    static IMAGES: [(&str, usize, &str); 4] = [
+    static IMAGES: [(&str, usize, &str); 6] = [
         ("file /a host", 0, "ok 2 inodes 1 blocks\n"),
-        ("file /a host", 12288, "ok 2 inodes 13 blocks\n"),
+        ("file /a host", 11264, "ok 2 inodes 12 blocks\n"),
+        ("file /a host", 11265, "ok 2 inodes 14 blocks\n"),
+        ("file /a host", 12288, "ok 2 inodes 14 blocks\n"),
         ("file /a host", 12289, "ok 2 inodes 15 blocks\n"),
         ("file /a host", 25600, "ok 2 inodes 27 blocks\n"),
     ];
     static FAULTS: [(&str, usize, &str); 2] = [
         ("file /a host", 25601, "fault 3 Blocks\n"),
-        ("file /a host", 274433, "fault 3 Blocks\n"),
+        ("file /a host", 67_382_273, "fault 3 Blocks\n"),
     ];
     expect_images(&rt, &IMAGES);
     expect_faults(&rt, &FAULTS);
@@ -256,43 +264,28 @@ impl Host for Long {
 // Images that are longer than the longest: the count of blocks in the super block, the first byte of its magic number, the length
 // of the image if it has an end, and what is told.
 static LONG: [([u8; 4], u8, Option<u64>, &str); 7] = [
+    ([0, 0, 2, 0], 0x41, Some(1024 * 131_073), "fault 1 Length\n"),
+    ([2, 0, 0, 0], 0x41, Some(1024 * 131_073), "fault 1 Length\n"),
+    ([1, 0, 2, 0], 0x40, Some(1024 * 131_073), "fault 2 Magic\n"),
     (
-        [0x00, 0x40, 0, 0],
-        0x40,
-        Some(1024 * 16385),
-        "fault 1 Length\n",
-    ),
-    (
-        [0x02, 0x00, 0, 0],
-        0x40,
-        Some(1024 * 16385),
-        "fault 1 Length\n",
-    ),
-    (
-        [0x01, 0x40, 0, 0],
+        [1, 0, 2, 0],
         0x41,
-        Some(1024 * 16385),
-        "fault 2 Magic\n",
-    ),
-    (
-        [0x01, 0x40, 0, 0],
-        0x40,
-        Some(1024 * 16385),
+        Some(1024 * 131_073),
         "fault 3 Numbers\n",
     ),
     (
-        [0x01, 0x40, 0, 0],
-        0x40,
-        Some(1024 * 16385 + 1),
+        [1, 0, 2, 0],
+        0x41,
+        Some(1024 * 131_073 + 1),
         "fault 1 Length\n",
     ),
     (
         [0xff, 0xff, 0xff, 0xff],
-        0x40,
+        0x41,
         Some(1024 * 4294967295),
         "fault 3 Numbers\n",
     ),
-    ([0x01, 0x40, 0, 0], 0x40, None, "fault 1 Length\n"),
+    ([1, 0, 2, 0], 0x41, None, "fault 1 Length\n"),
 ];
 
 // Does a job with this host: it has to tell this line.
@@ -387,7 +380,7 @@ fn keeps_major_and_minor_apart(rt: HostRuntime) {
 
 // Bytes of an image with a file and a directory (inodes 2 and 3) that are changed, and what the check tells.
 static CHANGES: [(&[(usize, u8)], &str); 10] = [
-    (&[(1024, 0x41)], "fault 2 Magic\n"),
+    (&[(1024, 0x40)], "fault 2 Magic\n"),
     (&[(1032, 0x1c)], "fault 3 Numbers\n"),
     (&[(2176, 9)], "fault 4 NodeType\n"),
     (&[(2188, 4)], "fault 5 Address\n"),

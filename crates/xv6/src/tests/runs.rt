@@ -301,7 +301,7 @@ fn needs_frames(rt: HostRuntime) {
 
 // Bytes of the image that are changed, and what is told of it.
 static CHANGES: [(usize, u8, &str); 4] = [
-    (1024, 0x41, "fault 2 Magic\n"),
+    (1024, 0x40, "fault 2 Magic\n"),
     (1032, 0x1c, "fault 3 Numbers\n"),
     (2176, 9, "fault 4 NodeType\n"),
     (2182, 2, "fault 10 Links\n"),

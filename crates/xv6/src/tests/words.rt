@@ -274,7 +274,7 @@ static HELP: [(&[&str], &[&str]); 4] = [
     ),
     (
         &["xv6", "mkfs", "--help"],
-        &["Blocks of 1024 bytes, 32 to 16384", "Inodes, 16 to 8192"],
+        &["Blocks of 1024 bytes, 32 to 131072", "Inodes, 16 to 8192"],
     ),
 ];
 
