@@ -29,8 +29,8 @@ use sv39::{Plain, Tlb, Translate};
 use translators::{Counting, Noting};
 
 /// The programs: each is assembled from the text of this name with `.s` behind it.
-const PROGRAMS: [&str; 10] = [
-    "init", "sh", "cat", "echo", "ls", "ln", "rm", "mkdir", "kill", "forktest",
+const PROGRAMS: [&str; 11] = [
+    "init", "sh", "cat", "echo", "ls", "ln", "rm", "mkdir", "kill", "forktest", "fill",
 ];
 
 /// How many pages a program has at most, with its stack and what it asks for.
