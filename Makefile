@@ -12,7 +12,7 @@ TEXTS := $(wildcard user/*.s)
 USER := $(TEXTS:user/%.s=out/user/%)
 IMAGE := out/xv6.img
 
-.PHONY: demo build program image user test quick edits check bench qemu kills full places limits fuzz outages refusals fmt
+.PHONY: demo build program image user test quick edits check bench qemu kills full places limits large fuzz outages refusals fmt
 
 # Boots a machine from an image with the user programs, types at its shell, and shows its console. It takes the
 # proved build where there is one that is not older than the sources. Else `rt try` compiles, and proves nothing of, the
@@ -91,6 +91,10 @@ places: | program
 # Hands the program inputs without end, and looks how much memory it takes.
 limits: | program
 	bench/saves.py memory $(PROGRAM)
+
+# Makes the longest file on the largest image, and has a shell fill, read and remove files as long as that.
+large: | program
+	bench/large.py $(PROGRAM)
 
 # Hands the program random files for a minute.
 fuzz: | program

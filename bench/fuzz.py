@@ -35,8 +35,8 @@ BOOT = {2: "FrameCount", 3: "Device", 4: "NoMemory", 5: "NoInit"}
 TREE = {1: "NotFound", 2: "NotDir"}
 ELF = "Magic Sizes Align Overlap Short".split()
 ASM = "Syntax Mnemonic Operand Range Label Twice Align NoMemory".split()
-NUMBERS = (0, 1, 2, 3, 11, 12, 13, 15, 16, 31, 32, 63, 64, 127, 255, 256, 1023, 1024, 4095, 4096, 16384, 32767, 32768, 65535,
-           65536, 270336, 274432, 0x7fffffff, 0x80000000, 0xffffffff)
+NUMBERS = (0, 1, 2, 3, 11, 12, 13, 15, 16, 31, 32, 63, 64, 127, 255, 256, 1023, 1024, 4095, 4096, 11264, 11265, 16384, 32767, 32768,
+           65535, 65536, 131072, 131073, 270336, 273408, 273409, 67382272, 67382273, 0x7fffffff, 0x80000000, 0xffffffff)
 
 
 def numbered(names):
@@ -66,7 +66,7 @@ COMMANDS = {
     "asm": Command(("text",), "", ANY + OUT + [f"line \\d+: {n} {name}" for n, name in enumerate(ASM, 1)], makes="made"),
     "mkfs": Command(("manifest",), "", ANY + OUT + numbered(MAKE) + [r"manifest line \d+"], ("--size", "--inodes"), "made"),
     "check": Command(("image",), r"ok \d+ inodes \d+ blocks\n", ANY + numbered(IMAGE)),
-    "ls": Command(("image",), r"(?s:.{14} \S+ [ \d]{5} [ \d]{6}\n)*", ANY + numbered(IMAGE) + numbered(TREE)),
+    "ls": Command(("image",), r"(?s:.{14} \S+ [ \d]{5} [ \d]{6,8}\n)*", ANY + numbered(IMAGE) + numbered(TREE)),
     "dump": Command(("program",), r"([0-9a-f]{8}: [0-9a-f]{8} .+\n)*", ANY + numbered(ELF)),
     "flat": Command(("program", "script"), r"(?s:.*)", ANY + SCRIPT + RAN + numbered(BOOT), ("--frames", "--tlb")),
     "run": Command(("image", "script"), r"(?s:.*)", ANY + SCRIPT + OUT + RAN + numbered(BOOT) + numbered(IMAGE),

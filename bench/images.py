@@ -3,10 +3,26 @@
 import struct
 
 BLOCK = 1024
-DIRECT, INDIRECT = 12, 256
-MOST_BLOCKS = DIRECT + INDIRECT
+MAGIC = 0x10203041
+DIRECT, NUMBERS = 11, 256
+MOST_BLOCKS = DIRECT + NUMBERS + NUMBERS * NUMBERS
 PLACES = BLOCK // 16
 FREE, DIRECTORY, FILE, DEVICE = range(4)
+
+
+def index_blocks(count):
+    """How many index blocks a file of so many blocks has: the single one, and past its numbers the double one and leaves."""
+    if count > DIRECT + NUMBERS:
+        return 2 + -(-(count - DIRECT - NUMBERS) // NUMBERS)
+    return int(count > DIRECT)
+
+
+def most_in(room):
+    """How many blocks the longest file has that fits in so many with its index blocks."""
+    count = min(MOST_BLOCKS, room)
+    while count + index_blocks(count) > room:
+        count -= 1
+    return count
 
 
 class Image:
@@ -17,7 +33,7 @@ class Image:
         self.bitmap = 2 + inodes // 16 + 1
         self.data = self.next_block = self.bitmap + size // 8192 + 1
         self.bytes = bytearray(BLOCK * size)
-        numbers = (0x10203040, size, size - self.data, inodes, 0, 2, 2, self.bitmap)
+        numbers = (MAGIC, size, size - self.data, inodes, 0, 2, 2, self.bitmap)
         struct.pack_into("<8I", self.bytes, BLOCK, *numbers)
         self.next_inode = 2
         self.entries = {1: [(b".", 1), (b"..", 1)]}
@@ -50,18 +66,25 @@ class Image:
     def put(self, number, content):
         """Writes an inode whose bytes are these, in blocks that are free."""
         count = -(-len(content) // BLOCK)
-        first = self.next_block
-        self.next_block += count + (count > DIRECT)
-        numbers = list(range(first, first + count))
+        first, single = self.next_block, self.next_block + count
+        self.next_block = single + index_blocks(count)
         self.bytes[BLOCK * first:BLOCK * first + len(content)] = content
+        numbers = list(range(first, single))
+        leaves = range(single + 2, self.next_block)
+        for at, block in enumerate([single, *leaves] if count > DIRECT else []):
+            start = DIRECT + NUMBERS * at
+            self.put_numbers(block, numbers[start:start + NUMBERS])
+        if leaves:
+            self.put_numbers(single + 1, leaves)
         direct = (numbers[:DIRECT] + [0] * DIRECT)[:DIRECT]
-        above = 0
-        if count > DIRECT:
-            above = first + count
-            struct.pack_into(f"<{count - DIRECT}I", self.bytes, BLOCK * above, *numbers[DIRECT:])
-        fields = (self.kinds[number], 0, 0, self.links[number], len(content), *direct, above)
+        above = (single if count > DIRECT else 0, single + 1 if leaves else 0)
+        fields = (self.kinds[number], 0, 0, self.links[number], len(content), *direct, *above)
         place = BLOCK * (2 + number // 16) + 64 * (number % 16)
         struct.pack_into("<4H14I", self.bytes, place, *fields)
+
+    def put_numbers(self, block, numbers):
+        """Writes an index block that begins with these numbers."""
+        struct.pack_into(f"<{len(numbers)}I", self.bytes, BLOCK * block, *numbers)
 
     def finish(self, contents):
         """The whole image, once each inode is written: a directory's places, or the bytes of a file. And what `xv6 check`
@@ -90,11 +113,11 @@ def many_blocks(size, init=b""):
     image = Image(size, 128)
     contents = {image.file(1, b"init"): init}
     blocks = -(-len(init) // BLOCK)
-    room = image.room() - 1 - blocks - (blocks > DIRECT)
-    while room > 1:
-        blocks = min(MOST_BLOCKS, room - 1)
+    room = image.room() - 1 - blocks - index_blocks(blocks)
+    while room > 0:
+        blocks = most_in(room)
         contents[image.file(1, b"f%d" % image.next_inode)] = b"x" * BLOCK * blocks
-        room -= blocks + (blocks > DIRECT)
+        room -= blocks + index_blocks(blocks)
     return image.finish(contents)
 
 

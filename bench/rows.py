@@ -198,8 +198,8 @@ def session(lines):
 # ---- files
 
 
-def rewriting(length, piece, rounds):
-    return Program("rewrite", LENGTH=length, PIECE=piece, ROUNDS=rounds)
+def rewriting(length, piece, rounds, after="next"):
+    return Program("rewrite", LENGTH=length, PIECE=piece, ROUNDS=rounds, AFTER=after)
 
 
 def naming(files, size, rounds=1):
@@ -217,6 +217,22 @@ def rewriting_rows():
         whole, half = [Booted(image_of({"init": rewriting(length, piece, 100)})) for length in [270000, 135000]]
         name = f"a file of 270000 bytes written and read back in pieces of {piece}, 100 times"
         yield Row(name, whole, 54_000_000, "byte", (Beside("of 135000 bytes", half, count=27_000_000),))
+
+
+MEGABYTE = 1 << 20
+
+
+def large_rows():
+    """64 MB in files that are written, read back and removed on the largest image, so each byte counts twice."""
+    jobs = {
+        size: Booted(image_of({"init": rewriting(size * MEGABYTE, 4096, 64 // size, "remove")}, size=131072))
+        for size in [64, 16, 1]
+    }
+    least = Beside("of 1 MB, 64 times", jobs[1], 1.2)
+    name = "a file of 64 MB written, read back and removed"
+    yield Row(name, jobs[64], 128 * MEGABYTE, "byte", (Beside("of 16 MB, 4 times", jobs[16], 1.2), least))
+    name = "a file of 16 MB written, read back and removed, 4 times"
+    yield Row(name, jobs[16], 128 * MEGABYTE, "byte", (least,))
 
 
 def name_rows():
@@ -288,5 +304,5 @@ def counted_jobs():
 def all_rows():
     """Every row, in the order in which they are run."""
     machines = [hart_rows, multiply_rows, page_rows, process_rows, turn_rows, byte_rows]
-    for group in [*machines, rewriting_rows, name_rows, making_rows, checking_rows, text_rows]:
+    for group in [*machines, rewriting_rows, large_rows, name_rows, making_rows, checking_rows, text_rows]:
         yield from group()

@@ -18,7 +18,7 @@ OUT must have the old bytes and no other file be left where the program answers 
 over one that may not be written, and into a folder that takes no new file, with a file that may be written and without.
 
 `memory` checks an endless file, boots one, and makes images of a manifest with 2000 lines that name a file of 270,000 bytes,
-and of one that names an endless file: at most 64 MB over the image's size.
+and of one that names an endless file: at most 64 MB over the size of the image, or of the largest one where it is read.
 
 The status is 1 where something was lost.
 """
@@ -364,14 +364,15 @@ def memory(arguments, folder):
     with open(folder / "long.img", "wb") as file:
         file.truncate(3 << 30)
     rows = [
-        (["check", "/dev/zero"], 16, 1, "fault 1 Length"),
-        (["check", "long.img"], 16, 1, "fault 1 Length"),
-        (["run", "/dev/zero", "empty"], 16, 1, "fault 1 Length"),
-        (["run", "--frames", "1", "/dev/zero", "empty"], 16, 1, "fault 2 FrameCount"),
-        (["ls", "/dev/zero", "/"], 16, 1, "fault 1 Length"),
+        (["check", "/dev/zero"], 128, 1, "fault 1 Length"),
+        (["check", "long.img"], 128, 1, "fault 1 Length"),
+        (["run", "/dev/zero", "empty"], 128, 1, "fault 1 Length"),
+        (["run", "--frames", "1", "/dev/zero", "empty"], 128, 1, "fault 2 FrameCount"),
+        (["ls", "/dev/zero", "/"], 128, 1, "fault 1 Length"),
         (["flat", "/dev/zero", "empty"], 128, 1, "fault 5 NoInit"),
         (["mkfs", "many", "out.img"], 2, 1, "fault 3 Blocks"),
         (["mkfs", "--size", "16384", "--inodes", "8000", "many", "out.img"], 16, 1, "fault 3 Blocks"),
+        (["mkfs", "--size", "131072", "--inodes", "8000", "many", "out.img"], 128, 1, "fault 3 Blocks"),
         (["mkfs", "--size", "4294967295", "many", "out.img"], 16, 1, "fault 6 Numbers"),
         (["mkfs", "endless", "out.img"], 2, 1, "fault 3 Blocks"),
     ]

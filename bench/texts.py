@@ -1,5 +1,7 @@
 """Long texts: manifests, and a text for the assembler with what `xv6 dump` prints of it."""
 
+from images import index_blocks
+
 
 def full_manifest(size, inodes):
     """The manifest of an image whose inodes and data blocks are all in use, and what `xv6 check` says of it. Its files, of
@@ -22,7 +24,7 @@ def flat_manifest(count):
     """The manifest of so many devices in the root, and what `xv6 check` says: it has no bytes but those of the root's places."""
     text = "".join(f"dev /d{name} 1 1\n" for name in range(count))
     blocks = -(-16 * (count + 2) // 1024)
-    return text, f"ok {count + 1} inodes {blocks + (blocks > 12)} blocks\n".encode()
+    return text, f"ok {count + 1} inodes {blocks + index_blocks(blocks)} blocks\n".encode()
 
 
 def chain_manifest(depth):

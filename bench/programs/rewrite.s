@@ -1,5 +1,6 @@
 # rewrite: ROUNDS times makes or empties a file, writes LENGTH bytes to it in pieces of PIECE bytes, and reads them back in
-# such pieces. A piece starts with a number of its own, by which it is known again.
+# such pieces. A piece starts with a number of its own, by which it is known again. AFTER is `remove` where the file is then
+# removed, and else `next`.
 
             li s0, ROUNDS           # s0: rounds left
             la s1, piece            # s1: what is written and read
@@ -56,7 +57,12 @@ done:       bne s6, zero, failed
             li a7, 21               # close
             ecall
             bne a0, zero, failed
-            addi s0, s0, -1
+            j AFTER
+remove:     la a0, name
+            li a7, 18               # unlink
+            ecall
+            bne a0, zero, failed
+next:       addi s0, s0, -1
             bne s0, zero, round
             j exit                  # a0 is 0
 
