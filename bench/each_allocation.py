@@ -24,7 +24,7 @@ HERE = pathlib.Path(__file__).resolve().parent
 USER = HERE.parent / "user"
 
 # Lines that tell that memory is wanting.
-WANTING = [rb"no memory", rb"cannot read \w+", rb"line \d+: 8 NoMemory", rb"fault (4|7|13) NoMemory"]
+WANTING = [rb"no memory", rb"cannot read \w+", rb"line \d+: 8 NoMemory", rb"fault (3|4|7|13) NoMemory"]
 # Where a save is not written, the line of the run comes before.
 WANTING = re.compile(rb"(?:running\n)?(" + rb"|".join(WANTING) + rb")\n")
 
@@ -40,6 +40,7 @@ COMMANDS = {
     "mkfs": (["mkfs", "manifest", "out"], "out"),
     "check": (["check", "image"], None),
     "ls": (["ls", "image", "/"], None),
+    "migrate": (["migrate", "old", "out"], "out"),
     "flat": (["flat", "flat", "short"], None),
     "run": (["run", "--save", "out", "image", "script"], "out"),
     "run --tlb --fail": (["run", "--tlb", "--fail", "4000000", "image", "script"], None),
@@ -61,6 +62,12 @@ def fill(folder, program):
     (folder / "short").write_text("step 100\ntick 2\n")
     (folder / "flat").write_bytes(FLAT)
     subprocess.run([program, "mkfs", "manifest", "image"], cwd=folder, check=True)
+    # an image of the small format: where no file has more than 11 blocks only the magic number differs
+    (folder / "few").write_text("dir /a\nfile /a/b short\ndev /c 1 0\n")
+    subprocess.run([program, "mkfs", "--size", "32", "--inodes", "16", "few", "old"], cwd=folder, check=True)
+    old = bytearray((folder / "old").read_bytes())
+    old[1024] = 0x40
+    (folder / "old").write_bytes(old)
 
 
 def run(program, library, words, written, folder, number):

@@ -67,6 +67,7 @@ COMMANDS = {
     "mkfs": Command(("manifest",), "", ANY + OUT + numbered(MAKE) + [r"manifest line \d+"], ("--size", "--inodes"), "made"),
     "check": Command(("image",), r"ok \d+ inodes \d+ blocks\n", ANY + numbered(IMAGE)),
     "ls": Command(("image",), r"(?s:.{14} \S+ [ \d]{5} [ \d]{6,8}\n)*", ANY + numbered(IMAGE) + numbered(TREE)),
+    "migrate": Command(("old",), r"ok \d+ inodes \d+ blocks\n", ANY + OUT + numbered(IMAGE) + ["fault 2 Blocks", "fault 3 NoMemory"], makes="made"),
     "dump": Command(("program",), r"([0-9a-f]{8}: [0-9a-f]{8} .+\n)*", ANY + numbered(ELF)),
     "flat": Command(("program", "script"), r"(?s:.*)", ANY + SCRIPT + RAN + numbered(BOOT), ("--frames", "--tlb")),
     "run": Command(("image", "script"), r"(?s:.*)", ANY + SCRIPT + OUT + RAN + numbered(BOOT) + numbered(IMAGE),
@@ -79,7 +80,7 @@ class Files:
 
     def __init__(self, program, folder, seed):
         self.program, self.folder, self.chance = program, folder, random.Random(seed)
-        self.good = {kind: [] for kind in ("text", "manifest", "script", "program", "image")}
+        self.good = {kind: [] for kind in ("text", "manifest", "script", "program", "image", "old")}
         self.make()
 
     def make(self):
@@ -95,7 +96,11 @@ class Files:
             self.good["manifest"].append(text)
             (self.folder / "manifest").write_bytes(text)
             self.do("mkfs", "--size", str(size), "--inodes", str(inodes), "manifest", f"image{number}")
-            self.good["image"].append((self.folder / f"image{number}").read_bytes())
+            image = (self.folder / f"image{number}").read_bytes()
+            self.good["image"].append(image)
+            if size < 2000:
+                # where no file has more than 11 blocks the small format differs in the magic number alone
+                self.good["old"].append(image[:1024] + b"\x40" + image[1025:])
         demo = (USER / "demo").read_bytes()
         self.good["script"] += [demo, b"step 100\ntick 3\nstep 100\nkeys 0061620d7f15\ntype mkdir a\nstep 3000\n",
                                 b"step 3000\ntype forktest\nstep 50000\n", b""]

@@ -19,6 +19,7 @@ use Rattle.commandline.specs.declared.jobs.Flat.{Flat}
 use Rattle.commandline.specs.declared.jobs.Job.{Job}
 use Rattle.commandline.specs.declared.jobs.Job.TheVariants as job
 use Rattle.commandline.specs.declared.jobs.Ls.{Ls}
+use Rattle.commandline.specs.declared.jobs.Migrate.{Migrate}
 use Rattle.commandline.specs.declared.jobs.Mkfs.{Mkfs}
 use Rattle.commandline.specs.declared.jobs.Run.{Run}
 
@@ -81,6 +82,10 @@ declared_check = with_rule (new_app (codes "check")) (word_rule (codes "IMAGE"))
 abbrev pub declared_ls : App
 declared_ls = with_rule (with_rule (new_app (codes "ls")) (word_rule (codes "IMAGE"))) (word_rule (codes "PATH"))
 
+-- migrate OLD NEW
+abbrev pub declared_migrate : App
+declared_migrate = with_rule (with_rule (new_app (codes "migrate")) (word_rule (codes "OLD"))) (word_rule (codes "NEW"))
+
 -- asm TEXT ELF
 abbrev pub declared_asm : App
 declared_asm = with_rule (with_rule (new_app (codes "asm")) (word_rule (codes "TEXT"))) (word_rule (codes "ELF"))
@@ -101,7 +106,9 @@ with_machines app = with_subcommand (with_subcommand app declared_flat.top) decl
 
 -- what works on disk images
 abbrev pub with_images : App → App
-with_images app = with_subcommand (with_subcommand (with_subcommand app declared_mkfs.top) declared_check.top) declared_ls.top
+with_images app =
+    with_subcommand (with_subcommand (with_subcommand (with_subcommand app
+    declared_mkfs.top) declared_check.top) declared_ls.top) declared_migrate.top
 
 -- what works on the texts and the files of programs
 abbrev pub with_programs : App → App
@@ -185,6 +192,10 @@ pub record IsLs (found : List Row) (ls : Ls) : Type 0 where
   pub image : first_of (codes "IMAGE") found ≡ Some ls.image.now
   pub path : first_of (codes "PATH") found ≡ Some ls.path.now
 
+pub record IsMigrate (found : List Row) (migrate : Migrate) : Type 0 where
+  pub old : first_of (codes "OLD") found ≡ Some migrate.old.now
+  pub new : first_of (codes "NEW") found ≡ Some migrate.new.now
+
 pub record IsAsm (found : List Row) (asm : Asm) : Type 0 where
   pub text : first_of (codes "TEXT") found ≡ Some asm.text.now
   pub elf : first_of (codes "ELF") found ≡ Some asm.elf.now
@@ -199,5 +210,6 @@ IsJob found (job.Run run) = (rows : List Row) × (found ≡ Some (codes "run", r
 IsJob found (job.Mkfs mkfs) = (rows : List Row) × (found ≡ Some (codes "mkfs", rows)) × IsMkfs rows mkfs
 IsJob found (job.Check check) = (rows : List Row) × (found ≡ Some (codes "check", rows)) × IsCheck rows check
 IsJob found (job.Ls ls) = (rows : List Row) × (found ≡ Some (codes "ls", rows)) × IsLs rows ls
+IsJob found (job.Migrate migrate) = (rows : List Row) × (found ≡ Some (codes "migrate", rows)) × IsMigrate rows migrate
 IsJob found (job.Asm asm) = (rows : List Row) × (found ≡ Some (codes "asm", rows)) × IsAsm rows asm
 IsJob found (job.Dump dump) = (rows : List Row) × (found ≡ Some (codes "dump", rows)) × IsDump rows dump

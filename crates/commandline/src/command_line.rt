@@ -3,7 +3,7 @@ ghost use Rattle.std.specs.Prelude.{◌≡◌, ◌↔◌, IfOk, IfSome, IsTrue, 
 ghost use Rattle.clap.specs.Words.{app_of, first_of, found_of, rows_of, rule_of, subcommand_of, subcommand_rows_of};
 ghost use Rattle.commandline.specs.Declarations.{DeclaresOwn, IsCount, IsJob, IsWritten, Writes, declared, declared_by, declared_top, number_rule, rule_given, with_declared};
 
-use crate::jobs::{Asm, Check, Dump, Flat, Job, Ls, Mkfs, Run};
+use crate::jobs::{Asm, Check, Dump, Flat, Job, Ls, Migrate, Mkfs, Run};
 use clap::error::ErrorKind;
 use clap::{Arg, ArgAction, ArgMatches, Command, Error, value_parser};
 use std::alloc::{AllocError, Global};
@@ -35,6 +35,11 @@ xv6 ls disk.img /bin
 
 The second prints `ok 4 inodes 3 blocks`: what is in use. The third prints a line for each entry:
 its name, its type (1 a directory, 2 a file, 3 a device), its inode and its size.
+
+An image of the small format, which has files of up to 274432 bytes, is refused as `fault 2 Magic`.
+One of the large format, with the same files, is made of it, and told as `check` tells it:
+
+xv6 migrate old.img new.img
 
 A machine boots from an image that has a program /init, and leaves another:
 
@@ -179,6 +184,19 @@ const LS: [Word<'static>; 2] = [
     },
 ];
 
+const MIGRATE: [Word<'static>; 2] = [
+    Word {
+        name: "OLD",
+        given: Given::Bare,
+        help: "The image of the small format",
+    },
+    Word {
+        name: "NEW",
+        given: Given::Bare,
+        help: "The image of the large format, which is written",
+    },
+];
+
 const ASM: [Word<'static>; 2] = [
     Word {
         name: "TEXT",
@@ -198,7 +216,7 @@ const DUMP: [Word<'static>; 1] = [Word {
     help: "The program's file",
 }];
 
-const COMMANDS: [Declared<'static>; 7] = [
+const COMMANDS: [Declared<'static>; 8] = [
     Declared {
         name: "flat",
         about: "Boots a flat program and runs a script of events",
@@ -223,6 +241,11 @@ const COMMANDS: [Declared<'static>; 7] = [
         name: "ls",
         about: "Lists a directory of a disk image",
         words: &LS,
+    },
+    Declared {
+        name: "migrate",
+        about: "Makes an image of the large format of one of the small format",
+        words: &MIGRATE,
     },
     Declared {
         name: "asm",
@@ -444,6 +467,15 @@ fn ls<'a>(found: &ArgMatches<'a>) -> Option<Job<'a>>
     Some(Job::Ls(Ls { image, path }))
 }
 
+// What the words after `migrate` ask for.
+fn migrate<'a>(found: &ArgMatches<'a>) -> Option<Job<'a>>
+    ensures { IfSome result (IsJob (Some (codes "migrate", rows_of (found_of found.now)))) }
+{
+    let old = word_found(found, "OLD")?;
+    let new = word_found(found, "NEW")?;
+    Some(Job::Migrate(Migrate { old, new }))
+}
+
 // What the words after `asm` ask for.
 fn asm<'a>(found: &ArgMatches<'a>) -> Option<Job<'a>>
     ensures { IfSome result (IsJob (Some (codes "asm", rows_of (found_of found.now)))) }
@@ -479,6 +511,9 @@ fn job_found<'a>(matches: &ArgMatches<'a>) -> Option<Job<'a>>
     }
     if let Some(found) = matches.subcommand_matches("ls") {
         return ls(found);
+    }
+    if let Some(found) = matches.subcommand_matches("migrate") {
+        return migrate(found);
     }
     if let Some(found) = matches.subcommand_matches("asm") {
         return asm(found);

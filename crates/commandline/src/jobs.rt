@@ -15,6 +15,8 @@ pub enum Job<'a> {
     Check(Check<'a>),
     /// Lists a directory of a disk image.
     Ls(Ls<'a>),
+    /// Makes an image of one of the small format.
+    Migrate(Migrate<'a>),
     /// Assembles a text.
     Asm(Asm<'a>),
     /// Shows the instructions of a program file.
@@ -78,6 +80,15 @@ pub struct Ls<'a> {
     pub image: &'a str,
     /// The path of the directory, from the root.
     pub path: &'a str,
+}
+
+/// The words of the command `migrate`.
+#[derive(Clone, Copy, PartialEq, Eq)]
+pub struct Migrate<'a> {
+    /// The name of the old image's file.
+    pub old: &'a str,
+    /// The name of the new image's file, which is written.
+    pub new: &'a str,
 }
 
 /// The words of the command `asm`.

@@ -12,6 +12,8 @@ use Rattle.imagemake.specs.declared.manifest.MakeFault.{MakeFault}
 use Rattle.imagemake.specs.declared.manifest.MakeFault.TheVariants as make
 use Rattle.machine.specs.declared.fault.BootFault.{BootFault}
 use Rattle.machine.specs.declared.fault.BootFault.TheVariants as boot
+use Rattle.migrate.specs.declared.fault.MigrateFault.{MigrateFault}
+use Rattle.migrate.specs.declared.fault.MigrateFault.TheVariants as migrate
 use Rattle.tree.specs.declared.TreeFault.{TreeFault}
 use Rattle.tree.specs.declared.TreeFault.TheVariants as tree
 use Rattle.unixmodel.specs.declared.assembly.AsmKind.{AsmKind}
@@ -93,6 +95,17 @@ boot_name boot.FrameCount = codes "FrameCount"
 boot_name boot.Device = codes "Device"
 boot_name boot.NoMemory = codes "NoMemory"
 boot_name boot.NoInit = codes "NoInit"
+
+-- an old image that is refused is told by its own fault
+abbrev pub migrate_number : MigrateFault → ℕ
+migrate_number (migrate.Image fault) = image_number fault
+migrate_number migrate.Blocks = 2
+migrate_number migrate.NoMemory = 3
+
+abbrev pub migrate_name : MigrateFault → List ℕ
+migrate_name (migrate.Image fault) = image_name fault
+migrate_name migrate.Blocks = codes "Blocks"
+migrate_name migrate.NoMemory = codes "NoMemory"
 
 abbrev pub tree_number : TreeFault → ℕ
 tree_number tree.NotFound = 1

@@ -6,6 +6,6 @@ pub mod perform;
 pub mod play;
 mod report;
 
-pub use commandline::{Asm, Check, Dump, Flat, Job, Ls, Mkfs, Run, job};
+pub use commandline::{Asm, Check, Dump, Flat, Job, Ls, Migrate, Mkfs, Run, job};
 pub use host::{Front, Host, HostFault, Why};
 pub use report::refuse;

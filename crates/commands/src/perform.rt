@@ -8,7 +8,7 @@ ghost use Rattle.std.specs.Prelude.{◌≤◌, IfOk, vec_len};
 
 use crate::host::{Front, Host, Why};
 use crate::report::{Failure, print, tell};
-use commandline::{Check, Flat, Job, Mkfs, Run};
+use commandline::{Flat, Job, Mkfs, Run};
 use image::Summary;
 use std::alloc::Global;
 use std::fmt;
@@ -125,15 +125,13 @@ fn perform_mkfs<H: Host, E: Write>(
     }
 }
 
-// Checks an image, and tells what it uses.
-fn perform_check<H: Host, W: Write, E: Write>(
-    alloc: Global,
-    words: Check<'_>,
-    host: &mut H,
+// Tells what an image uses, or what was wrong.
+fn perform_telling<W: Write, E: Write>(
+    found: Result<Summary, Failure<'_>>,
     stdout: &mut W,
     stderr: &mut E,
 ) -> u8 {
-    match images::check(alloc, words, host) {
+    match found {
         Ok(summary) => print(&Accepted(summary), stdout, stderr),
         Err(failure) => tell(&failure, stderr),
     }
@@ -160,8 +158,9 @@ pub fn perform<H: Host, W: Write, E: Write>(
         Job::Flat(words) => perform_flat(alloc, words, host, stdout, stderr),
         Job::Run(words) => perform_run(alloc, words, host, stdout, stderr),
         Job::Mkfs(words) => perform_mkfs(alloc, words, host, stderr),
-        Job::Check(words) => perform_check(alloc, words, host, stdout, stderr),
+        Job::Check(words) => perform_telling(images::check(alloc, words, host), stdout, stderr),
         Job::Ls(words) => perform_quietly(images::ls(alloc, words, host, stdout), stderr),
+        Job::Migrate(words) => perform_telling(images::migrate(alloc, words, host), stdout, stderr),
         Job::Asm(words) => perform_quietly(program_files::asm(alloc, words, host), stderr),
         Job::Dump(words) => perform_quietly(
             program_files::dump(alloc, words, host, stdout),

@@ -1,12 +1,12 @@
 //! What the program tells of how a job ended.
 ghost use Rattle.std.specs.Prelude.{◌≡◌};
-ghost use Rattle.commands.specs.Reports.{assembly_name, assembly_number, boot_name, boot_number, image_name, image_number, make_name, make_number, program_name, program_number, status_of, tree_name, tree_number};
+ghost use Rattle.commands.specs.Reports.{assembly_name, assembly_number, boot_name, boot_number, image_name, image_number, make_name, make_number, migrate_name, migrate_number, program_name, program_number, status_of, tree_name, tree_number};
 
 use asm::{AsmFault, AsmKind};
 use clap::Error;
 use clap::error::ErrorKind;
 use elf::ElfFault;
-use image::{ImageFault, MakeFault};
+use image::{ImageFault, MakeFault, MigrateFault};
 use machine::{BootFault, Halt};
 use std::fmt;
 use std::io::Write;
@@ -62,6 +62,8 @@ pub enum Failure<'a> {
     Make(MakeFault),
     /// The image does not denote files.
     Image(ImageFault),
+    /// The image is not migrated.
+    Migrate(MigrateFault),
     /// The path is no directory of the image.
     Tree(TreeFault),
     /// The text is not assembled.
@@ -84,6 +86,7 @@ impl fmt::Display for Failure<'_> {
             Failure::Boot(fault) => write_fault(f, boot_fault(*fault)),
             Failure::Make(fault) => write_fault(f, make_fault(*fault)),
             Failure::Image(fault) => write_fault(f, image_fault(*fault)),
+            Failure::Migrate(fault) => write_fault(f, migrate_fault(*fault)),
             Failure::Tree(fault) => write_fault(f, tree_fault(*fault)),
             Failure::Assembly(fault) => {
                 let line = fault.line;
@@ -152,6 +155,18 @@ fn image_fault(fault: ImageFault) -> (u8, &'static str)
         ImageFault::Unreached => (11, "Unreached"),
         ImageFault::Device => (12, "Device"),
         ImageFault::NoMemory => (13, "NoMemory"),
+    }
+}
+
+// Why an image is not migrated; of an old one that is refused the image's own fault.
+fn migrate_fault(fault: MigrateFault) -> (u8, &'static str)
+    ensures number { result.0 ≡ migrate_number fault }
+    ensures name { result.1.now ≡ migrate_name fault }
+{
+    match fault {
+        MigrateFault::Image(fault) => image_fault(fault),
+        MigrateFault::Blocks => (2, "Blocks"),
+        MigrateFault::NoMemory => (3, "NoMemory"),
     }
 }
 

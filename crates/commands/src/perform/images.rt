@@ -1,14 +1,21 @@
 //! Makes, checks and lists disk images.
-ghost use Rattle.std.specs.Prelude.{◌≡◌, ◌≤◌, IfOk, vec_len};
+ghost use Rattle.std.specs.Prelude.{◌≡◌, ◌<◌, ◌≤◌, IfOk, IsErrOf, length, vec_len};
+ghost use Rattle.unixmodel.specs.Counts.{blocks_of};
+ghost use Rattle.unixmodel.specs.Files.{Files};
+ghost use Rattle.unixmodel.specs.Formats.{small};
+ghost use Rattle.unixmodel.specs.Image.{Denotes, DenotesSmall, inodes_in, named_blocks, numbers_in_use, size_in};
+ghost use Rattle.unixmodel.specs.Manifest.{data_blocks_of};
+ghost use Rattle.imagecheck.specs.Faults.{Tells};
+ghost use Rattle.imagecheck.specs.declared.ImageFault.{ImageFault};
 ghost use Rattle.commands.specs.Entries.{IsEntryOf};
 
 use crate::host::{Front, Host};
 use crate::perform::{read_front, write};
 use crate::report::Failure;
 use blockdev::{BLOCK_SIZE, MemDisk};
-use commandline::{Check, Ls, Mkfs};
-use image::{Entry, ImageFault, MakeFault, Manifest, Summary, Thing};
-use layout::{LONGEST, MOST_BLOCKS};
+use commandline::{Check, Ls, Migrate, Mkfs};
+use image::{Entry, ImageFault, MakeFault, Manifest, MigrateFault, Summary, Thing};
+use layout::{Format, LONGEST, MOST_BLOCKS};
 use listings::{ListingFault, write_directory};
 use std::alloc::{AllocError, Global};
 use std::io::Write;
@@ -16,9 +23,6 @@ use texts::{Line, TextFault, parse};
 
 /// How much of an image is read: a byte more than the longest has.
 const MOST_IMAGE: usize = BLOCK_SIZE * MOST_BLOCKS as usize + 1;
-
-/// How much of a host's file is read for a manifest: a byte more than the longest file has.
-const MOST_FILE: usize = LONGEST + 1;
 
 /// Where the super block of an image has its count of blocks: four bytes.
 const SIZE_AT: usize = BLOCK_SIZE + 4;
@@ -39,12 +43,12 @@ fn lines_of<'a>(
     }
 }
 
-// The bytes of the host's file of this name; of one that is too long for a file of an image, too many of them.
-fn host_file<'a, H: Host>(host: &mut H, name: &'a [u8]) -> Result<Vec<u8>, Failure<'a>>
-    ensures { IfOk result (λ bytes. vec_len bytes ≤ MOST_FILE) }
+// The first bytes of the host's file of this name, so many at most.
+fn host_file<'a, H: Host>(host: &mut H, name: &'a [u8], most: usize) -> Result<Vec<u8>, Failure<'a>>
+    ensures { IfOk result (λ bytes. vec_len bytes ≤ most) }
 {
     match str::from_utf8(name) {
-        Ok(name) => Ok(read_front(host, name, MOST_FILE)?.bytes),
+        Ok(name) => Ok(read_front(host, name, most)?.bytes),
         Err(_) => Err(Failure::Read("")),
     }
 }
@@ -59,13 +63,18 @@ fn entry(alloc: Global, path: &[u8], thing: Thing) -> Result<Entry, AllocError>
     Ok(Entry { path: bytes, thing })
 }
 
-// The entry that a line asks for.
-fn entry_of<'a, H: Host>(alloc: Global, line: &Line<'a>, host: &mut H) -> Result<Entry, Failure<'a>>
+// The entry that a line asks for, with so many bytes of a host's file at most.
+fn entry_of<'a, H: Host>(
+    alloc: Global,
+    line: &Line<'a>,
+    host: &mut H,
+    most: usize,
+) -> Result<Entry, Failure<'a>>
     ensures { IfOk result (IsEntryOf line.now) }
 {
     let made = match *line {
         Line::Directory(path) => entry(alloc, path, Thing::Directory),
-        Line::File(path, name) => entry(alloc, path, Thing::File(host_file(host, name)?)),
+        Line::File(path, name) => entry(alloc, path, Thing::File(host_file(host, name, most)?)),
         Line::Device(path, major, minor) => entry(alloc, path, Thing::Device { major, minor }),
     };
     match made {
@@ -82,8 +91,9 @@ fn bytes_in(entry: &Entry) -> usize {
     }
 }
 
-// The manifest that the lines say, for an image of so many blocks. All of the host's files are read, in their order. No entry
-// is kept behind the one with which the files are more than all blocks hold: the making ends there at the latest.
+// The manifest that the lines say, for an image of so many blocks. All of the host's files are read, in their order, each to a byte
+// more than a file or all blocks hold. No entry is kept behind the one with which the files are more than all blocks hold: the
+// making ends there at the latest.
 fn manifest_of<'a, H: Host>(
     alloc: Global,
     lines: &[Line<'a>],
@@ -91,9 +101,11 @@ fn manifest_of<'a, H: Host>(
     host: &mut H,
 ) -> Result<Manifest, Failure<'a>> {
     let mut entries = Vec::new(alloc);
-    let mut room = Some(BLOCK_SIZE * size.min(MOST_BLOCKS) as usize);
+    let space = BLOCK_SIZE * size.min(MOST_BLOCKS) as usize;
+    let most = LONGEST.min(space) + 1;
+    let mut room = Some(space);
     for line in lines {
-        let entry = entry_of(alloc, line, host)?;
+        let entry = entry_of(alloc, line, host, most)?;
         if let Some(left) = room {
             room = left.checked_sub(bytes_in(&entry));
             if entries.push(entry).is_err() {
@@ -147,20 +159,24 @@ fn stand_in(mut front: Vec<u8>, length: Option<u64>) -> Vec<u8> {
     front
 }
 
-/// The disk of this image; one that is too long is refused as the whole image would be.
-pub fn disk_of<'a>(image: Front) -> Result<MemDisk, Failure<'a>> {
+// The bytes of an image, of which no more was read than shows whether it is too long; one that is too long is refused as the
+// whole image would be.
+fn bytes_of<'a>(image: Front) -> Result<Vec<u8>, Failure<'a>> {
     let Front { bytes, length } = image;
     if let Some(length) = length
         && length % 1024 != 0
     {
         return Err(Failure::Image(ImageFault::Length));
     }
-    let disk = if length == Some(bytes.len() as u64) {
-        MemDisk::new(bytes)
-    } else {
-        MemDisk::new(stand_in(bytes, length))
-    };
-    match disk {
+    if length == Some(bytes.len() as u64) {
+        return Ok(bytes);
+    }
+    Ok(stand_in(bytes, length))
+}
+
+/// The disk of this image; one that is too long is refused as the whole image would be.
+pub fn disk_of<'a>(image: Front) -> Result<MemDisk, Failure<'a>> {
+    match MemDisk::new(bytes_of(image)?) {
         Ok(disk) => Ok(disk),
         Err(_) => Err(Failure::Image(ImageFault::Length)),
     }
@@ -177,6 +193,39 @@ pub fn check<'a, H: Host>(
         Ok(summary) => Ok(summary),
         Err(fault) => Err(Failure::Image(fault)),
     }
+}
+
+// The image of the large format that one of the small format becomes, and what it uses.
+fn migrated(alloc: Global, old: &[u8]) -> Result<(Vec<u8>, Summary), MigrateFault>
+    ensures image { IfOk result (λ made. (files : Files) → DenotesSmall old.now files → Denotes made.0.items files) }
+    ensures inodes { IfOk result (λ made. made.1.inodes ≡ length (numbers_in_use made.0.items)) }
+    ensures blocks { IfOk result (λ made. made.1.blocks ≡ length (named_blocks made.0.items)) }
+    ensures refused { (fault : ImageFault) → IsErrOf result (MigrateFault.Image fault) → Tells small old.now fault }
+    ensures full { IsErrOf result MigrateFault.Blocks → (files : Files) × DenotesSmall old.now files × (data_blocks_of (size_in old.now) (inodes_in old.now) < blocks_of files) }
+{
+    let new = image::migrate(alloc, old)?;
+    let Ok(mut disk) = MemDisk::new(new) else {
+        unreachable!();
+    };
+    let summary = image::check(alloc, &mut disk)?;
+    Ok((disk.into_bytes(), summary))
+}
+
+/// The command `migrate`. Of an old image that is too long a byte more than the longest has is read. The new one is checked
+/// before it is written.
+pub fn migrate<'a, H: Host>(
+    alloc: Global,
+    words: Migrate<'a>,
+    host: &mut H,
+) -> Result<Summary, Failure<'a>> {
+    let most = BLOCK_SIZE * Format::Small.most() as usize + 1;
+    let old = bytes_of(read_front(host, words.old, most)?)?;
+    let (new, summary) = match migrated(alloc, &old) {
+        Ok(made) => made,
+        Err(fault) => return Err(Failure::Migrate(fault)),
+    };
+    write(host, words.new, &new)?;
+    Ok(summary)
 }
 
 /// The command `ls`. The image is checked before anything is listed.

@@ -1,10 +1,10 @@
 //! Stored words, and the jobs that they name.
 use crate::tests::output_of;
 use clap::error::ErrorKind;
-use commands::{Asm, Check, Dump, Flat, Job, Ls, Mkfs, Run, job, refuse};
+use commands::{Asm, Check, Dump, Flat, Job, Ls, Migrate, Mkfs, Run, job, refuse};
 use std::num::NonZeroU64;
 
-const JOBS: [(&[&str], Job<'static>); 12] = [
+const JOBS: [(&[&str], Job<'static>); 13] = [
     (
         &["xv6", "flat", "a", "b"],
         Job::Flat(Flat {
@@ -101,6 +101,10 @@ const JOBS: [(&[&str], Job<'static>); 12] = [
         }),
     ),
     (
+        &["xv6", "migrate", "a", "b"],
+        Job::Migrate(Migrate { old: "a", new: "b" }),
+    ),
+    (
         &["xv6", "asm", "a", "b"],
         Job::Asm(Asm {
             text: "a",
@@ -133,7 +137,7 @@ fn knows_the_last_access(rt: HostRuntime) {
     assert!(rt; found == wanted);
 }
 
-static REFUSALS: [(&[&str], ErrorKind); 19] = [
+static REFUSALS: [(&[&str], ErrorKind); 20] = [
     (&["xv6", "--help", "", ""], ErrorKind::DisplayHelp),
     (&["xv6", "flat", "a", "--help"], ErrorKind::DisplayHelp),
     (&["xv6", "sharp", "a", "b"], ErrorKind::InvalidSubcommand),
@@ -150,6 +154,7 @@ static REFUSALS: [(&[&str], ErrorKind); 19] = [
         ErrorKind::ValueValidation,
     ),
     (&["xv6", "ls", "a"], ErrorKind::MissingRequiredArgument),
+    (&["xv6", "migrate", "a"], ErrorKind::MissingRequiredArgument),
     (&["xv6", "asm", "a"], ErrorKind::MissingRequiredArgument),
     (&["xv6", "dump"], ErrorKind::MissingRequiredArgument),
     (
@@ -248,7 +253,7 @@ static HELP: [(&[&str], &[&str]); 4] = [
     (
         &["xv6", "--help"],
         &[
-            "flat", "run", "mkfs", "check", "ls", "asm", "dump", "--save", "--fail",
+            "flat", "run", "mkfs", "check", "ls", "migrate", "asm", "dump", "--save", "--fail",
         ],
     ),
     (

@@ -18,7 +18,10 @@ pub returns-in-Some-subcommand_matches-4 : goal.returns-in-Some-subcommand_match
 returns-in-Some-subcommand_matches-4 c = is-job c.ls.result c.args.matches.now _ _ (c.in-Some-subcommand_matches-4.ensures.found.0 refl) c.in-Some-subcommand_matches-4.ensures.rows c.ls.ensures
 
 pub returns-in-Some-subcommand_matches-5 : goal.returns-in-Some-subcommand_matches-5
-returns-in-Some-subcommand_matches-5 c = is-job c.asm.result c.args.matches.now _ _ (c.in-Some-subcommand_matches-5.ensures.found.0 refl) c.in-Some-subcommand_matches-5.ensures.rows c.asm.ensures
+returns-in-Some-subcommand_matches-5 c = is-job c.migrate.result c.args.matches.now _ _ (c.in-Some-subcommand_matches-5.ensures.found.0 refl) c.in-Some-subcommand_matches-5.ensures.rows c.migrate.ensures
+
+pub returns-in-Some-subcommand_matches-6 : goal.returns-in-Some-subcommand_matches-6
+returns-in-Some-subcommand_matches-6 c = is-job c.asm.result c.args.matches.now _ _ (c.in-Some-subcommand_matches-6.ensures.found.0 refl) c.in-Some-subcommand_matches-6.ensures.rows c.asm.ensures
 
 pub returns : goal.returns
 returns c = is-job c.dump.result c.args.matches.now _ _ (c.in_ok-subcommand_matches.ensures.found.0 refl) c.in_ok-subcommand_matches.ensures.rows c.dump.ensures
