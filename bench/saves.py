@@ -372,7 +372,7 @@ def memory(arguments, folder):
         (["flat", "/dev/zero", "empty"], 128, 1, "fault 5 NoInit"),
         (["mkfs", "many", "out.img"], 2, 1, "fault 3 Blocks"),
         (["mkfs", "--size", "16384", "--inodes", "8000", "many", "out.img"], 16, 1, "fault 3 Blocks"),
-        (["mkfs", "--size", "131072", "--inodes", "8000", "many", "out.img"], 128, 1, "fault 3 Blocks"),
+        (["mkfs", "--size", "131072", "--inodes", "8000", "many", "out.img"], 256, 1, "fault 3 Blocks"),
         (["mkfs", "--size", "4294967295", "many", "out.img"], 16, 1, "fault 6 Numbers"),
         (["mkfs", "endless", "out.img"], 2, 1, "fault 3 Blocks"),
     ]

@@ -38,7 +38,8 @@ fn front<R: Files + AllocGlobal>(rt: &R, name: &str, most: usize) -> io::Result<
 {
     let file = fs::open(rt, name)?;
     let metadata = file.metadata()?;
-    let mut bytes = Vec::new(rt.alloc());
+    let likely = metadata.len().min(most as u64) as usize;
+    let mut bytes = Vec::with_capacity(rt.alloc(), likely)?;
     file.take(most as u64).read_to_end(&mut bytes)?;
     bytes.truncate(most);
     let length = if bytes.len() < most {

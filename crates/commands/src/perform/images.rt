@@ -101,7 +101,12 @@ fn manifest_of<'a, H: Host>(
     host: &mut H,
 ) -> Result<Manifest, Failure<'a>> {
     let mut entries = Vec::new(alloc);
-    let space = BLOCK_SIZE * size.min(MOST_BLOCKS) as usize;
+    // (there is no image of more blocks, and nothing has to be kept for it)
+    let space = if size <= MOST_BLOCKS {
+        BLOCK_SIZE * size as usize
+    } else {
+        0
+    };
     let most = LONGEST.min(space) + 1;
     let mut room = Some(space);
     for line in lines {
