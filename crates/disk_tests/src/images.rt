@@ -6,14 +6,14 @@ use image::{ImageFault, Summary, check, check1};
 use linked_list_allocator::LocalHeap;
 use std::process::Abort;
 
-// A byte of an image and what it is set to.
-type Change = (usize, u8);
+/// A byte of an image and what it is set to.
+pub type Change = (usize, u8);
 
 // Changes that are made one list after the other, and what is told of the image then.
 type Told = (&'static [&'static [Change]], Result<Summary, ImageFault>);
 
-// The first byte of the root's inode.
-const ROOT: usize = 2048 + 64;
+/// The first byte of the root's inode.
+pub const ROOT: usize = 2048 + 64;
 
 // An image of 32 blocks and 16 inodes, in which the root has its two first places in block 5: the super block's numbers,
 // the root's inode, its places, and the bitmap; the other bytes are 0. The first byte of its magic number tells its format.
@@ -39,8 +39,8 @@ const SMALL: [Change; 19] = [
     (5139, b'.'),
 ];
 
-// A file without bytes, inode 2, that the root names.
-const FILE: [Change; 5] = [
+/// A file without bytes, inode 2, that the root names.
+pub const FILE: [Change; 5] = [
     (ROOT + 8, 48),
     (5152, 2),
     (5154, b'a'),
@@ -57,8 +57,8 @@ const TWO_BLOCKS: [Change; 5] = [
     (4096, 0xff),
 ];
 
-// That file with 11 blocks of bytes, 6 to 16, as many as an inode of the large format names directly.
-const ELEVEN_BLOCKS: [Change; 15] = [
+/// That file with 11 blocks of bytes, 6 to 16, as many as an inode of the large format names directly.
+pub const ELEVEN_BLOCKS: [Change; 15] = [
     (ROOT + 73, 0x2c),
     (ROOT + 76, 6),
     (ROOT + 80, 7),
@@ -84,10 +84,10 @@ const TWELFTH: [Change; 4] = [
     (4098, 0x07),
 ];
 
-// Or a twelfth block, 17, which an inode of the small format names directly too, and one byte more, in block 19, whose number stands
-// in the index block 18.
-const OLD_TWELFTH: [Change; 3] = [(ROOT + 73, 0x30), (ROOT + 120, 17), (4098, 0x03)];
+/// Or a twelfth block, 17, which an inode of the small format names directly too.
+pub const OLD_TWELFTH: [Change; 3] = [(ROOT + 73, 0x30), (ROOT + 120, 17), (4098, 0x03)];
 
+// And one byte more, in block 19, whose number stands in the index block 18.
 const OLD_THIRTEENTH: [Change; 5] = [
     (ROOT + 72, 1),
     (ROOT + 73, 0x30),
@@ -149,15 +149,20 @@ fn put(bytes: &mut [u8], changes: &[Change]) {
     }
 }
 
-// A disk with the small image, its magic number beginning so, and these changes, one list after the other.
-fn disk_of(rt: &(impl Abort + AllocGlobal), magic: u8, lists: &[&[Change]]) -> MemDisk {
+/// The bytes of the small image, its magic number beginning so, with these changes, one list after the other.
+pub fn bytes_of(rt: &(impl Abort + AllocGlobal), magic: u8, lists: &[&[Change]]) -> Vec<u8> {
     let mut bytes = vec![in rt.alloc(); 0; 32 * 1024].expect(rt, "memory");
     put(bytes.as_mut_slice(), &SMALL);
     put(bytes.as_mut_slice(), &[(1024, magic)]);
     for changes in lists {
         put(bytes.as_mut_slice(), changes);
     }
-    MemDisk::new(bytes).expect(rt, "whole blocks")
+    bytes
+}
+
+// A disk with these bytes.
+fn disk_of(rt: &(impl Abort + AllocGlobal), magic: u8, lists: &[&[Change]]) -> MemDisk {
+    MemDisk::new(bytes_of(rt, magic, lists)).expect(rt, "whole blocks")
 }
 
 // What is told of it.

@@ -16,6 +16,8 @@ mod leaves;
 #[cfg(test)]
 mod maker;
 #[cfg(test)]
+mod migrated;
+#[cfg(test)]
 mod mounted;
 #[cfg(test)]
 mod named;
