@@ -6,3 +6,4 @@ pub mod Looks
 pub mod Flat
 pub mod Saved
 pub mod Booted
+pub mod Holdings

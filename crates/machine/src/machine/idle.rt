@@ -1,0 +1,23 @@
+//! Whether a machine has anything to do.
+ghost use Rattle.std.specs.Prelude.{◌≡◌};
+ghost use Rattle.kernel.specs.Idle.{is_anyone_asleep, is_idle};
+
+use crate::machine::Machine;
+use blockdev::BlockDev;
+use sv39::Translate;
+
+impl<D: BlockDev, T: Translate + Drop> Machine<D, T> {
+    /// Whether no process runs and none is ready, so that a step changes nothing.
+    pub fn is_idle(&self) -> bool
+        ensures { result ≡ is_idle self.now.state }
+    {
+        self.kernel.is_idle()
+    }
+
+    /// Whether a process waits in `sleep`, so that a tick can make it ready.
+    pub fn is_anyone_asleep(&self) -> bool
+        ensures { result ≡ is_anyone_asleep self.now.state }
+    {
+        self.kernel.is_anyone_asleep()
+    }
+}
