@@ -16,6 +16,8 @@ mod inodes;
 #[cfg(test)]
 mod links;
 #[cfg(test)]
+mod looking;
+#[cfg(test)]
 mod naming;
 #[cfg(test)]
 mod nodes;

@@ -1,7 +1,9 @@
 //! Programs, and runs of them: a list of acts, each of which does something to the machine or looks at it.
 use blockdev::MemDisk;
 use console::Writer;
-use machine::{Halt, Machine, Perm, ProcessState, Seen, Stat, boot_flat_with};
+use machine::{
+    Halt, Machine, OpenOn, Opened, Pending, Perm, ProcessState, Seen, Stat, boot_flat_with,
+};
 use ram::{FRAME_SIZE, FrameNo, Ram};
 use std::alloc::{AllocError, Global};
 use std::cell::Cell;
@@ -169,6 +171,18 @@ pub(crate) enum Act<'a> {
     Registers(u32, &'a [u64; 32]),
     /// There is no process with this pid.
     Gone(u32),
+    /// The least pid above this one.
+    Next(u32, Option<u32>),
+    /// What the first descriptors of a process name, behind which all are free; its directory; and the call that it waits in.
+    Holds(u32, &'a [Option<u8>], u32, Option<Pending>),
+    /// What the open file with this number is open on, whether for reading and for writing, and how many descriptors name it.
+    Opens(usize, OpenOn, (bool, bool), u32),
+    /// There is no open file with this number.
+    Closed(usize),
+    /// The bytes of the pipe with this number.
+    Pipe(usize, Option<&'a [u8]>),
+    /// Whether no process runs and none is ready, and whether one sleeps.
+    Idle(bool, bool),
     /// The bytes from an address of a process on.
     Bytes(u32, u64, &'a [u8]),
     /// The marks of a page of a process, and its first bytes, behind which all are zero.
@@ -409,18 +423,79 @@ impl<T: Translate + Drop> Play<T> {
         }
     }
 
+    // Whether these are the first descriptors of a process, behind which all are free, with its directory and its call.
+    fn keeps(
+        &self,
+        pid: u32,
+        front: &[Option<u8>],
+        directory: u32,
+        pending: Option<Pending>,
+    ) -> bool {
+        match self.machine.holdings(pid) {
+            Some(held) => {
+                held.descriptors.starts_with(front)
+                    && held
+                        .descriptors
+                        .iter()
+                        .skip(front.len())
+                        .all(|name| name.is_none())
+                    && held.directory == directory
+                    && held.pending == pending
+            }
+            None => false,
+        }
+    }
+
+    // Whether a pipe holds these bytes.
+    fn pipes(&self, number: usize, bytes: Option<&[u8]>) -> bool {
+        match (self.machine.pipe(number), bytes) {
+            (Some((front, back)), Some(bytes)) => match bytes.get(front.len()..) {
+                Some(rest) => bytes.starts_with(front) && rest == back,
+                None => false,
+            },
+            (None, None) => true,
+            _ => false,
+        }
+    }
+
+    // Whether the machine lists what the act says.
+    fn lists(&self, act: Act<'_>) -> bool {
+        match act {
+            Act::Next(after, pid) => self.machine.next_pid(after) == pid,
+            Act::Holds(pid, front, directory, pending) => self.keeps(
+                pid, front, directory, pending,
+            ),
+            Act::Opens(file, on, (readable, writable), descriptors) => {
+                self.machine.opened(file)
+                    == Some(Opened {
+                        on,
+                        readable,
+                        writable,
+                        descriptors,
+                    })
+            }
+            Act::Closed(file) => self.machine.opened(file).is_none(),
+            Act::Pipe(number, bytes) => self.pipes(number, bytes),
+            Act::Idle(idle, asleep) => {
+                self.machine.is_idle() == idle && self.machine.is_anyone_asleep() == asleep
+            }
+            _ => self.tells(act),
+        }
+    }
+
     // Whether the machine is as the act says.
     fn shows(&self, act: Act<'_>) -> bool {
         match act {
             Act::Free(free) => self.machine.free_frames() == free,
-            Act::Gone(pid) => self.machine.inspect(pid).is_none(),
+            Act::Gone(pid) => self.machine.inspect(pid).is_none()
+                && self.machine.holdings(pid).is_none(),
             Act::Bytes(pid, address, bytes) => self.holds(pid, address, bytes),
             Act::Page(pid, page, marks, bytes) => self.is_page(pid, page, marks, bytes),
             Act::NoPage(pid, page) => self.machine.peek(pid, page).is_none(),
             Act::NoTables(pid) => self.machine.tables(pid).is_none(),
             Act::Reaches(address, access, byte) => self.reached(address, access) == Some(byte),
             Act::Faults(address, access) => self.faults(address, access),
-            _ => self.tells(act),
+            _ => self.lists(act),
         }
     }
 
