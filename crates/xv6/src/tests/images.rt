@@ -386,7 +386,7 @@ static CHANGES: [(&[(usize, u8)], &str); 10] = [
     (&[(2188, 4)], "fault 5 Address\n"),
     (&[(2188, 5)], "fault 6 SharedBlock\n"),
     (&[(4096, 0)], "fault 7 Bitmap\n"),
-    (&[(2187, 1)], "fault 8 Size\n"),
+    (&[(2187, 5)], "fault 8 Size\n"),
     (&[(5154, b'/')], "fault 9 Entry\n"),
     (&[(2182, 2)], "fault 10 Links\n"),
     (&[(2182, 0)], "fault 10 Links\n"),
