@@ -1,4 +1,3 @@
 pub mod Entries
-pub mod Plays
 pub mod Reports
 pub mod Runs

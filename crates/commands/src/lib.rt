@@ -3,7 +3,6 @@
 
 mod host;
 pub mod perform;
-pub mod play;
 mod report;
 
 pub use commandline::{Asm, Check, Dump, Flat, Job, Ls, Migrate, Mkfs, Run, job};

@@ -3,8 +3,8 @@ ghost use Rattle.machine.specs.View.{IsUp};
 
 use anyhow::{Context, bail};
 use blockdev::{BlockDev, MemDisk};
-use commands::play::play;
 use console::Writer;
+use live::play::play;
 use machine::{Halt, Machine, boot};
 use std::alloc::Global;
 use sv39::Translate;

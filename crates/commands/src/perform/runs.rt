@@ -1,6 +1,6 @@
 //! Boots machines and gives them the events of a script.
 ghost use Rattle.std.specs.Prelude.{◌≡◌, ◌<◌, ◌⊎◌, ◌↔◌, IfErr, IfOk, IsErrOf, None, OnErr, is_some, option_map};
-ghost use Rattle.commands.specs.Plays.{script_events};
+ghost use Rattle.live.specs.Plays.{script_events};
 ghost use Rattle.commands.specs.Reports.{end_of};
 ghost use Rattle.commands.specs.Runs.{IsFlatRun, IsImageRun, IsRunWith, IsUnbootedWith, Leaves, PlaysOut};
 ghost use Rattle.imagerules.specs.Content.{image_of};
@@ -11,11 +11,11 @@ ghost use Rattle.unixmodel.specs.Start.{start_flat};
 use crate::host::Host;
 use crate::perform::images::{disk_of, read_image};
 use crate::perform::{read, read_front, script_of, write};
-use crate::play::play;
 use crate::report::{End, Failure};
 use blockdev::{BlockDev, FailAt, MemDisk};
 use commandline::{Flat, Run};
 use console::Writer;
+use live::play::play;
 use machine::{BootFault, Halt, Machine, boot, boot_flat_with};
 use std::alloc::Global;
 use std::io::Write;
@@ -34,7 +34,7 @@ pub struct Ran<D, W> {
 }
 
 // How a run ended. Bytes that the writer had kept back and cannot write are lost: then the console failed.
-fn end_of(ended: Result<(), Halt>, is_written: bool) -> End
+pub fn end_of(ended: Result<(), Halt>, is_written: bool) -> End
     ensures { result ≡ end_of ended is_written }
 {
     if !is_written {

@@ -1,6 +1,6 @@
 use Rattle.std.proofs.Common.{sym, ◌∙◌}
 use Rattle.commands.proofs.Ends.{leaves-saved, leaves-unsaved}
-use Rattle.commands.specs.Plays.{script_events}
+use Rattle.live.specs.Plays.{script_events}
 use Rattle.commands.proofs.perform.runs.run_machine.Goals as goal
 
 pub returns-in-Ok : goal.returns-in-Ok

@@ -1,6 +1,6 @@
 use Rattle.std.proofs.Common.{is_some}
 use Rattle.imagerules.specs.Content.{image_of}
-use Rattle.commands.specs.Plays.{script_events}
+use Rattle.live.specs.Plays.{script_events}
 use Rattle.commands.proofs.FailingRuns.{passed-on, runs-failing, unbooted-failing}
 use Rattle.commands.proofs.perform.runs.run_with.Goals as goal
 

@@ -1,6 +1,6 @@
 use Rattle.std.proofs.Common.{◌≤◌, replicate, take}
 use Rattle.machine.proofs.RunLemmas.{SoFar}
-use Rattle.commands.proofs.play.repeat.Given as goal
+use Rattle.live.proofs.play.repeat.Given as goal
 
 -- the events so far are done as the model says
 abbrev pub invariant-loop-made : goal.invariant-loop-made

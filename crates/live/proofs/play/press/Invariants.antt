@@ -1,7 +1,7 @@
 use Rattle.std.proofs.Common.{◌≤◌, map, take}
 use Rattle.machine.proofs.RunLemmas.{SoFar}
 use Rattle.unixmodel.specs.declared.event.Event.TheVariants.{Key}
-use Rattle.commands.proofs.play.press.Given as goal
+use Rattle.live.proofs.play.press.Given as goal
 
 -- the keys so far are pressed as the model says
 abbrev pub invariant-loop-key : goal.invariant-loop-key

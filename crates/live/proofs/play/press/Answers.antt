@@ -3,8 +3,8 @@ use Rattle.std.proofs.lemmas.List.{length-map}
 use Rattle.std.proofs.lemmas.Result.{err_from_is_err_and}
 use Rattle.machine.proofs.RunLemmas.{Rises-later, goes_on, so_far_at_first, stops}
 use Rattle.unixmodel.specs.declared.event.Event.TheVariants.{Key}
-use Rattle.commands.proofs.EventLemmas.{press-next}
-use Rattle.commands.proofs.play.press.Goals as goal
+use Rattle.live.proofs.EventLemmas.{press-next}
+use Rattle.live.proofs.play.press.Goals as goal
 
 pub loop-key-init : goal.loop-key-init
 loop-key-init g c = record {

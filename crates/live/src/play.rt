@@ -4,7 +4,7 @@ ghost use Rattle.machine.specs.Gives.{RunGives};
 ghost use Rattle.machine.specs.View.{IsUp};
 ghost use Rattle.unixmodel.specs.Failures.{Rises};
 ghost use Rattle.unixmodel.specs.declared.event.Event.TheVariants.{Key};
-ghost use Rattle.commands.specs.Plays.{events_of, script_events};
+ghost use Rattle.live.specs.Plays.{events_of, script_events};
 
 use blockdev::BlockDev;
 use console::Out;
@@ -34,7 +34,7 @@ fn repeat<D: BlockDev, T: Translate + Drop, W: Out>(
 }
 
 // Keys, one after the other.
-fn press<D: BlockDev, T: Translate + Drop, W: Out>(
+pub(crate) fn press<D: BlockDev, T: Translate + Drop, W: Out>(
     machine: &mut Machine<D, T>,
     keys: &[u8],
     out: &mut W,

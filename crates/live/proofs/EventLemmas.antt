@@ -3,7 +3,7 @@ use Rattle.std.proofs.Common.{◌≡◌, ◌∙◌, ◌+◌, ◌<◌, ℕ, List,
 use Rattle.std.proofs.lemmas.List.{get_or-map, get_or-replicate, length-map, length-replicate, take_more}
 use Rattle.unixmodel.specs.declared.event.Event.{Event}
 use Rattle.unixmodel.specs.declared.event.Event.TheVariants.{Key}
-use Rattle.commands.specs.Plays.{events_of, script_events}
+use Rattle.live.specs.Plays.{events_of, script_events}
 use Rattle.texts.specs.declared.script.lines.Command.{Command}
 
 pub script_events-append : (xs ys : List Command) → script_events (xs ++ ys) ≡ script_events xs ++ script_events ys

@@ -2,8 +2,8 @@ use Rattle.std.proofs.Common.{arith, length, replicate, ◌<◌}
 use Rattle.std.proofs.lemmas.List.{length-replicate}
 use Rattle.std.proofs.lemmas.Result.{err_from_is_err_and}
 use Rattle.machine.proofs.RunLemmas.{Rises-later, goes_on, so_far_at_first, stops}
-use Rattle.commands.proofs.EventLemmas.{repeat-next}
-use Rattle.commands.proofs.play.repeat.Goals as goal
+use Rattle.live.proofs.EventLemmas.{repeat-next}
+use Rattle.live.proofs.play.repeat.Goals as goal
 
 pub loop-made-init : goal.loop-made-init
 loop-made-init g c = record {

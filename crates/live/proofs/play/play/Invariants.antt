@@ -1,7 +1,7 @@
 use Rattle.std.proofs.Common.{◌≤◌, take}
 use Rattle.machine.proofs.RunLemmas.{SoFar}
-use Rattle.commands.specs.Plays.{script_events}
-use Rattle.commands.proofs.play.play.Given as goal
+use Rattle.live.specs.Plays.{script_events}
+use Rattle.live.proofs.play.play.Given as goal
 
 -- the commands so far are done as the model says
 abbrev pub invariant-loop-command : goal.invariant-loop-command

@@ -1,0 +1,8 @@
+//! Gives a machine its events: those of a script, or those of a session at a keyboard.
+#![tactic(auto)]
+
+pub mod play;
+pub mod session;
+mod terminal;
+
+pub use terminal::{Given, MOST_KEYS, Mood, Move, Terminal};

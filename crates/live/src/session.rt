@@ -1,0 +1,205 @@
+//! A session: a machine is given what is typed, and time.
+ghost use Rattle.std.specs.Prelude.{◌≡◌, ◌≤◌, OnOk, false, map, replicate, true};
+ghost use Rattle.live.specs.Sessions.{IsGiven, IsSession, answered, is_end, is_ticked, keys_of, mood_of, moved, steps, ticks_of, work};
+ghost use Rattle.machine.specs.Gives.{RunGives};
+ghost use Rattle.machine.specs.View.{IsUp};
+ghost use Rattle.unixmodel.specs.Failures.{Rises};
+ghost use Rattle.unixmodel.specs.declared.event.Event.TheVariants.{Step};
+ghost use Rattle.unixmodel.specs.declared.event.Event.TheVariants as event;
+
+use crate::play::press;
+use crate::terminal::{Given, Mood, Move, Terminal};
+use blockdev::BlockDev;
+use console::{Out, Writer};
+use machine::{Halt, Machine};
+use std::io::Write;
+use sv39::Translate;
+use unixmodel::event::Event;
+
+// What a machine does.
+fn mood<D: BlockDev, T: Translate + Drop>(machine: &Machine<D, T>) -> Mood
+    ensures { result ≡ mood_of machine.now.state }
+{
+    if !machine.is_idle() {
+        Mood::Busy
+    } else if machine.is_anyone_asleep() {
+        Mood::Asleep
+    } else {
+        Mood::Idle
+    }
+}
+
+// The keys that were given.
+fn keys(given: &Given) -> &[u8]
+    ensures { result.now ≡ keys_of given.now }
+{
+    match given {
+        Given::Keys(keys) => keys.as_slice(),
+        _ => &[],
+    }
+}
+
+// Whether no key will come.
+fn is_end(given: &Given) -> bool
+    ensures { result ≡ is_end given.now }
+{
+    matches!(given, Given::End)
+}
+
+// Whether a tick follows.
+fn ticks(mood: Mood, given: &Given) -> bool
+    ensures { result ≡ is_ticked mood given.now }
+{
+    match (mood, given) {
+        (Mood::Busy, Given::Keys(_) | Given::Nothing) | (Mood::Asleep, Given::Nothing) => true,
+        _ => false,
+    }
+}
+
+// Steps until no process runs and none is ready, so many at most; and how many they were, with the one at which the machine halted.
+fn work<D: BlockDev, T: Translate + Drop, W: Out>(
+    machine: &mut Machine<D, T>,
+    most: u32,
+    out: &mut W,
+) -> (u32, Result<(), Halt>)
+    requires { IsUp machine.old }
+    ensures gives { RunGives machine.old machine.new (replicate result.0 Step) (W.contents out.old) (W.contents out.new) (Rises (W.failures out.old) (W.failures out.new)) result.1 }
+    ensures count { result.0 ≤ work most machine.old.state }
+    ensures all { OnOk result.1 (result.0 ≡ work most machine.old.state) }
+    ensures later { W.failures out.old ≤ W.failures out.new }
+{
+    for done in 0..most {
+        if machine.is_idle() {
+            return (done, Ok(()));
+        }
+        match machine.step(Event::Step, out) {
+            Ok(()) => (),
+            Err(halt) => return (done + 1, Err(halt)),
+        }
+    }
+    (most, Ok(()))
+}
+
+// A quantum of steps, which is recorded.
+fn advance<D: BlockDev, T: Translate + Drop, S: Terminal, W: Out>(
+    machine: &mut Machine<D, T>,
+    quantum: u32,
+    terminal: &mut S,
+    out: &mut W,
+) -> Result<(), Halt>
+    requires { IsUp machine.old }
+    ensures given { IsGiven (steps quantum machine.old.state) machine.old machine.new (W.contents out.old) (W.contents out.new) (W.failures out.old) (W.failures out.new) (S.kept terminal.old) (S.kept terminal.new) result }
+    ensures gives { S.gives terminal.new ≡ S.gives terminal.old }
+{
+    let (count, ended) = work(machine, quantum, out);
+    terminal.note(Move::Steps(count));
+    ended
+}
+
+// Keys, which are recorded.
+fn type_keys<D: BlockDev, T: Translate + Drop, S: Terminal, W: Out>(
+    machine: &mut Machine<D, T>,
+    keys: &[u8],
+    terminal: &mut S,
+    out: &mut W,
+) -> Result<(), Halt>
+    requires { IsUp machine.old }
+    ensures given { IsGiven (map event.Key keys.now) machine.old machine.new (W.contents out.old) (W.contents out.new) (W.failures out.old) (W.failures out.new) (S.kept terminal.old) (S.kept terminal.new) result }
+    ensures gives { S.gives terminal.new ≡ S.gives terminal.old }
+{
+    terminal.note(Move::Keys(keys));
+    press(machine, keys, out)
+}
+
+// A tick where it is due, which is recorded.
+fn tick_if<D: BlockDev, T: Translate + Drop, S: Terminal, W: Out>(
+    machine: &mut Machine<D, T>,
+    is_due: bool,
+    terminal: &mut S,
+    out: &mut W,
+) -> Result<(), Halt>
+    requires { IsUp machine.old }
+    ensures given { IsGiven (ticks_of is_due) machine.old machine.new (W.contents out.old) (W.contents out.new) (W.failures out.old) (W.failures out.new) (S.kept terminal.old) (S.kept terminal.new) result }
+    ensures gives { S.gives terminal.new ≡ S.gives terminal.old }
+{
+    if is_due {
+        terminal.note(Move::Tick);
+        machine.step(Event::Tick, out)
+    } else {
+        Ok(())
+    }
+}
+
+// What comes at once of what the keyboard gave.
+fn answer<D: BlockDev, T: Translate + Drop, S: Terminal, W: Out>(
+    machine: &mut Machine<D, T>,
+    mood: Mood,
+    given: &Given,
+    terminal: &mut S,
+    out: &mut W,
+) -> Result<(), Halt>
+    requires { IsUp machine.old }
+    ensures given { IsGiven (answered mood given.now) machine.old machine.new (W.contents out.old) (W.contents out.new) (W.failures out.old) (W.failures out.new) (S.kept terminal.old) (S.kept terminal.new) result }
+    ensures gives { S.gives terminal.new ≡ S.gives terminal.old }
+{
+    type_keys(machine, keys(given), terminal, out)?;
+    tick_if(machine, ticks(mood, given), terminal, out)
+}
+
+// Shows the processes where that is wished.
+fn show_if<D: BlockDev, T: Translate + Drop, S: Terminal>(
+    machine: &Machine<D, T>,
+    given: &Given,
+    terminal: &mut S,
+)
+    ensures kept { S.kept terminal.new ≡ S.kept terminal.old }
+    ensures gives { S.gives terminal.new ≡ S.gives terminal.old }
+{
+    if let Given::Show = given {
+        terminal.show(machine);
+    }
+}
+
+// What comes of what the keyboard gave, which isn't its end: the events, and the quantum behind them.
+fn go_on<D: BlockDev, T: Translate + Drop, S: Terminal, W: Out>(
+    machine: &mut Machine<D, T>,
+    quantum: u32,
+    given: &Given,
+    terminal: &mut S,
+    out: &mut W,
+) -> Result<(), Halt>
+    requires up { IsUp machine.old }
+    requires more { is_end given.now ≡ false }
+    ensures given { IsGiven (moved quantum machine.old.state given.now) machine.old machine.new (W.contents out.old) (W.contents out.new) (W.failures out.old) (W.failures out.new) (S.kept terminal.old) (S.kept terminal.new) result }
+    ensures gives { S.gives terminal.new ≡ S.gives terminal.old }
+{
+    show_if(machine, given, terminal);
+    answer(machine, mood(machine), given, terminal, out)?;
+    advance(machine, quantum, terminal, out)
+}
+
+/// A session: quanta of steps, keys and ticks, as the keyboard gives keys or none, until its end. The events are recorded, and the
+/// console's bytes are written out before each question to the keyboard; where that fails, the session ends too. `Err` says how
+/// the machine halted.
+pub fn session<D: BlockDev, T: Translate + Drop, S: Terminal, W: Write>(
+    machine: &mut Machine<D, T>,
+    quantum: u32,
+    terminal: &mut S,
+    out: &mut Writer<W>,
+) -> Result<(), Halt>
+    requires { IsUp machine.old }
+    ensures { IsSession quantum (S.gives terminal.old) (S.gives terminal.new) machine.old machine.new (W.contents out.old.inner) (W.contents out.new.inner) out.old.failed out.new.failed (S.kept terminal.old) (S.kept terminal.new) result }
+{
+    advance(machine, quantum, terminal, out)?;
+    for _moves in 0..u64::MAX {
+        if out.flush().is_err() {
+            return Ok(());
+        }
+        let given = terminal.ask(mood(machine));
+        if is_end(&given) {
+            return Ok(());
+        }
+        go_on(machine, quantum, &given, terminal, out)?;
+    }
+    Ok(())
+}

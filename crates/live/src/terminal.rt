@@ -1,0 +1,73 @@
+//! What a session has before it: a keyboard, and a record of what the machine is given.
+ghost use Rattle.std.specs.Prelude.{◌≡◌, ◌++◌, ◌∷◌, List, Option, option_map};
+
+use arrayvec::ArrayVec;
+use blockdev::BlockDev;
+use machine::Machine;
+use sv39::Translate;
+
+/// The most keys that a keyboard gives at once: half of what a machine keeps of a typed line.
+pub const MOST_KEYS: usize = 64;
+
+/// What a keyboard gives when it is asked.
+#[derive(Drop)]
+pub enum Given {
+    /// Keys, in the order in which they were typed.
+    Keys(ArrayVec<u8, MOST_KEYS>),
+    /// No key, and time has passed.
+    Nothing,
+    /// No key, but the wish to see the processes.
+    Show,
+    /// No key, and none will come.
+    End,
+}
+
+/// What the machine does while its keyboard is asked.
+#[derive(Clone, Copy, PartialEq, Eq, Debug)]
+pub enum Mood {
+    /// A process runs or is ready.
+    Busy,
+    /// None is, and one waits in `sleep`.
+    Asleep,
+    /// None is, and time alone changes nothing.
+    Idle,
+}
+
+/// Events of one kind that a machine was given, one after the other.
+#[derive(Clone, Copy)]
+pub enum Move<'a> {
+    /// So many steps.
+    Steps(u32),
+    /// Typed keys.
+    Keys(&'a [u8]),
+    /// A timer interrupt.
+    Tick,
+}
+
+/// A keyboard, and a record of what the machine is given.
+pub trait Terminal {
+    ghost use Rattle.live.specs.Moves.{events_moved};
+    ghost use Rattle.live.specs.declared.terminal.Given.{Given};
+    ghost use Rattle.unixmodel.specs.declared.event.Event.{Event};
+
+    /// What the keyboard will give, where that is known.
+    ghost gives: { Self → Option (List Given) };
+
+    /// The events that are recorded, where they are known.
+    ghost kept: { Self → Option (List Event) };
+
+    /// What was typed since the keyboard was last asked. It may wait for that, but for a busy machine only a short time.
+    fn ask(&mut self, mood: Mood) -> Given
+        ensures gives { gives self.old ≡ option_map (λ rest. result ∷ rest) (gives self.new) }
+        ensures kept { kept self.new ≡ kept self.old };
+
+    /// Records these events behind the others.
+    fn note(&mut self, moved: Move<'_>)
+        ensures kept { kept self.new ≡ option_map (λ events. events ++ events_moved moved.entry) (kept self.old) }
+        ensures gives { gives self.new ≡ gives self.old };
+
+    /// Shows the processes of the machine, as was wished at the keyboard.
+    fn show<D: BlockDev, T: Translate + Drop>(&mut self, machine: &Machine<D, T>)
+        ensures kept { kept self.new ≡ kept self.old }
+        ensures gives { gives self.new ≡ gives self.old };
+}
