@@ -1,7 +1,7 @@
 //! The files that the commands of the program work on.
 use anyhow::bail;
 use commands::perform::perform;
-use commands::{Asm, Host, HostFault, Job, Mkfs};
+use commands::{Asm, Host, HostFault, Job, Migrate, Mkfs};
 use std::collections::BTreeMap;
 use std::fs;
 use std::rt::Files;
@@ -42,7 +42,7 @@ impl<'a, R: Files + AllocGlobal> Desk<'a, R> {
         Ok(())
     }
 
-    // Does a job of the program that prints nothing.
+    // Does a job of the program, whatever it prints.
     fn perform(&mut self, job: &Job<'_>) -> anyhow::Result<()> {
         let alloc = self.rt.alloc();
         let mut printed = Vec::new(alloc);
@@ -72,6 +72,11 @@ impl<'a, R: Files + AllocGlobal> Desk<'a, R> {
             manifest,
             image,
         }))
+    }
+
+    /// Makes of an image of the small format one of the large format.
+    pub fn migrate(&mut self, old: &str, new: &str) -> anyhow::Result<()> {
+        self.perform(&Job::Migrate(Migrate { old, new }))
     }
 }
 

@@ -2,22 +2,28 @@
 //! at their consoles shows what each program does.
 //!
 //! Standard input has sessions, with an empty line between two. The first line of one is its title, the second `boot IMAGE
-//! FRAMES`, and the others are a script as `xv6 flat` takes it. Images are `xv6.img` and `small.img`, and `left.img`, which
-//! the session before left. Of each session the title is printed, the console's bytes with a line end behind them, and a line
-//! that says how it ended, how many frames were free then, and what the image that it leaves uses.
+//! FRAMES`, and the others are a script as `xv6 flat` takes it. Images are `xv6.img` and `small.img`; `migrated.img`, which
+//! was made of an image of the small format with the files of `xv6.img`; and `left.img`, which the session before left. Of each
+//! session the title is printed, the console's bytes with a line end behind them, and a line that says how it ended, how many
+//! frames were free then, and what the image that it leaves uses.
 //!
 //! Each is played on six machines, which have to show and to leave the same: over each of five translators, and on a disk beside
 //! a cache without memory.
+//!
+//! Where `fail` stands for `boot`, the session is played again and again, each time with another access of its disk that fails.
 #![tactic(auto)]
 
 mod desk;
+mod outages;
 mod session;
 mod starved;
 
 use anyhow::{Context, ensure};
+use blockdev::BLOCK_SIZE;
 use desk::Desk;
 use image::{Summary, check};
 use linked_list_allocator::LocalHeap;
+use outages::fail_each;
 use session::{Session, Shown, disk_of, play_on};
 use starved::{Starved, TOO_LITTLE};
 use std::alloc::Global;
@@ -39,6 +45,11 @@ const PAGES: u64 = 8;
 /// What the last session left.
 const LEFT: &str = "left.img";
 
+/// An image of the small format with the files of another, and what is made of it.
+const OLD: &str = "old.img";
+
+const MIGRATED: &str = "migrated.img";
+
 // Assembles a program.
 fn assemble<R: Files + AllocGlobal>(
     alloc: Global,
@@ -55,7 +66,19 @@ fn prepare<R: Files + AllocGlobal>(alloc: Global, desk: &mut Desk<'_, R>) -> any
         assemble(alloc, desk, name)?;
     }
     desk.make("manifest", (2000, 200), "xv6.img")?;
-    desk.make("small", (64, 16), "small.img")
+    desk.make("small", (64, 16), "small.img")?;
+    migrate(desk, "xv6.img")
+}
+
+// Makes an image of the small format of one in which no file has more than 11 blocks, as the formats differ in the magic number alone
+// there; and of this one an image of the large format again.
+fn migrate<R: Files + AllocGlobal>(desk: &mut Desk<'_, R>, image: &str) -> anyhow::Result<()> {
+    let mut old = desk.file(image)?;
+    if let Some(magic) = old.get_mut(BLOCK_SIZE) {
+        *magic = 0x40;
+    }
+    desk.keep(OLD, old)?;
+    desk.migrate(OLD, MIGRATED)
 }
 
 // Plays a session on a disk in memory: what is shown, and the image that is left.
@@ -212,7 +235,13 @@ fn show<R: Files + AllocGlobal, W: Write>(
     paragraph: &str,
     out: &mut W,
 ) -> anyhow::Result<()> {
-    let session = Session::read(paragraph).context("a session has a title, an image and a script")?;
+    if let Some(session) = Session::read(paragraph, "fail") {
+        let image = desk.file(session.image)?;
+        return fail_each(alloc, &session, image.as_slice(), out).context(session.title);
+    }
+    let session = Session::read(paragraph, "boot").context(
+        "a session has a title, an image and a script",
+    )?;
     let image = desk.file(session.image)?;
     let left = play_out(alloc, &session, image.as_slice(), out)?;
     desk.keep(LEFT, left)

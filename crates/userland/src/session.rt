@@ -6,9 +6,10 @@ use blockdev::{BlockDev, MemDisk};
 use console::Writer;
 use live::play::play;
 use machine::{Halt, Machine, boot};
-use std::alloc::Global;
+use std::alloc::{AllocError, Global};
 use sv39::Translate;
 use texts::{Command, TextFault, parse};
+use unixmodel::event::Event;
 
 /// A session that is to be played.
 #[derive(Clone, Copy)]
@@ -17,18 +18,22 @@ pub struct Session<'a> {
     pub title: &'a str,
     /// The image that its machine boots from.
     pub image: &'a str,
-    // How many frames the machine has.
-    frames: u32,
+    /// How many frames the machine has.
+    pub frames: u32,
     // What happens to it.
     script: &'a str,
 }
 
 impl<'a> Session<'a> {
-    /// The session that a paragraph asks for: its title, a line `boot IMAGE FRAMES`, and its script.
-    pub fn read(paragraph: &'a str) -> Option<Session<'a>> {
+    /// The session that a paragraph asks for: its title, a line `WORD IMAGE FRAMES`, and its script. `None`: the word is another.
+    pub fn read(paragraph: &'a str, word: &str) -> Option<Session<'a>> {
         let (title, rest) = paragraph.split_once('\n')?;
         let (place, script) = rest.split_once('\n')?;
-        let (image, frames) = place.strip_prefix("boot ")?.split_once(' ')?;
+        let (first, place) = place.split_once(' ')?;
+        if first != word {
+            return None;
+        }
+        let (image, frames) = place.split_once(' ')?;
         Some(Session {
             title,
             image,
@@ -56,6 +61,44 @@ fn commands_of<'a>(alloc: Global, script: &'a str) -> anyhow::Result<Vec<Command
         Err(TextFault::Line(line)) => bail!("script line {line}"),
         Err(TextFault::NoMemory) => bail!("no memory"),
     }
+}
+
+// An event, so many times.
+fn repeat(events: &mut Vec<Event>, event: Event, times: u32) -> Result<(), AllocError> {
+    for _ in 0..times {
+        events.push(event)?;
+    }
+    Ok(())
+}
+
+// Typed keys.
+fn press(events: &mut Vec<Event>, keys: &[u8]) -> Result<(), AllocError> {
+    for key in keys {
+        events.push(Event::Key(*key))?;
+    }
+    Ok(())
+}
+
+// The events of a command.
+fn obey(events: &mut Vec<Event>, command: &Command<'_>) -> Result<(), AllocError> {
+    match command {
+        Command::Step(times) => repeat(events, Event::Step, *times),
+        Command::Tick(times) => repeat(events, Event::Tick, *times),
+        Command::Keys(keys) => press(events, keys.as_slice()),
+        Command::Type(text) => {
+            press(events, text)?;
+            press(events, b"\n")
+        }
+    }
+}
+
+/// The events of a session, one by one.
+pub fn events_of(alloc: Global, session: &Session<'_>) -> anyhow::Result<Vec<Event>> {
+    let mut events = Vec::new(alloc);
+    for command in &commands_of(alloc, session.script)? {
+        obey(&mut events, command)?;
+    }
+    Ok(events)
 }
 
 /// A disk of these bytes.
