@@ -1,0 +1,4 @@
+mod Answering
+mod Refusing
+mod Repeating
+mod Standing

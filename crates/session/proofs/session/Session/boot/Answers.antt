@@ -1,0 +1,26 @@
+use Rattle.std.proofs.Common.{ap, arith, subst, sym, true≢false, ℕ, List, ◌%◌, ◌∙◌, ◌≡◌}
+use Rattle.std.specs.Prelude.{IsErr, is_err, vec_len}
+use Rattle.machine.specs.Booted.{IsBooted}
+use Rattle.session.proofs.Refusing.{counted, disk-image, length-refused, refused-on, whole-unless}
+use Rattle.session.proofs.session.Session.boot.Goals as goal
+
+pub returns-in_default-new-clause-refused : goal.returns-in_default-new-clause-refused
+returns-in_default-new-clause-refused c =
+    length-refused c.args.image.now c.args.frames (λ whole. c.new.ensures.length.0 (ap is_err c.in_default-new.is) (ap (λ n. n % 1024) c.in-Ok.ensures.len ∙ whole))
+
+pub returns-in_err-machine-clause-refused : goal.returns-in_err-machine-clause-refused
+returns-in_err-machine-clause-refused c =
+    let whole : vec_len c.in-Ok.bytes % 1024 ≡ 0 = whole-unless _ (IsErr c.new.result) (λ e. true≢false (sym e ∙ ap is_err c.in-Ok-new.is)) c.new.ensures.length.1 in
+    refused-on _ c.args.image.now _ c.args.frames c.from_residual.result c.in_err-machine.field-0.0 c.from_residual.ensures.1
+    (disk-image c.args.image.now c.in-Ok.bytes.items c.in-Ok-new.disk.bytes (vec_len c.in-Ok.bytes) c.in-Ok.ensures.items c.in-Ok-new.ensures.bytes c.in-Ok.ensures.len whole)
+    c.in_err-machine.ensures.refused
+
+pub returns-clause-booted : goal.returns-clause-booted
+returns-clause-booted c =
+    let whole : vec_len c.in-Ok.bytes % 1024 ≡ 0 = whole-unless _ (IsErr c.new.result) (λ e. true≢false (sym e ∙ ap is_err c.in-Ok-new.is)) c.new.ensures.length.1 in
+    subst (λ (bs : List ℕ). IsBooted bs 0 c.args.frames c.in_ok-machine.machine)
+    (disk-image c.args.image.now c.in-Ok.bytes.items c.in-Ok-new.disk.bytes (vec_len c.in-Ok.bytes) c.in-Ok.ensures.items c.in-Ok-new.ensures.bytes c.in-Ok.ensures.len whole)
+    c.in_ok-machine.ensures.booted
+
+pub returns-clause-count : goal.returns-clause-count
+returns-clause-count c = counted _ c.args.frames (omega (arith, c.if-frames-lt-FEWEST.false)) (omega (arith, c.if-frames-gt-MOST.false))

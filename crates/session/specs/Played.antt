@@ -1,0 +1,89 @@
+-- What a session answers to events and looks, and what it leaves. Its disk is in memory and never fails.
+use Rattle.std.proofs.Common.{Global, Vec}
+use Rattle.std.specs.Prelude.{Err, IsErrOf, List, Ok, OnOk, Option, Result, Some, false, replicate, true, ℕ, ◌<◌, ◌≡◌, ◌≤◌}
+use Rattle.calls.specs.declared.halt.Halt.{Halt}
+use Rattle.calls.specs.declared.halt.Halt.TheVariants.{Console, Device, Halted, InitEnded}
+use Rattle.kernel.specs.Idle.{is_idle}
+use Rattle.machine.specs.Booted.{IsUnbooted}
+use Rattle.machine.specs.declared.fault.BootFault.{BootFault}
+use Rattle.machine.specs.declared.fault.BootFault.TheVariants as fault
+use Rattle.machine.specs.Gives.{RunGives, StepGives}
+use Rattle.machine.specs.Looks.{LookGives}
+use Rattle.machine.specs.View.{View}
+use Rattle.session.specs.declared.play.Ran.{Ran}
+use Rattle.session.specs.declared.session.Session.{Session}
+use Rattle.unixmodel.specs.Calls.{After}
+use Rattle.unixmodel.specs.declared.event.Event.{Event}
+use Rattle.unixmodel.specs.declared.event.Event.TheVariants.{Step}
+use Rattle.unixmodel.specs.Image.{Denotes}
+use Rattle.unixmodel.specs.Run.{run}
+use Rattle.unixmodel.specs.Shown.{left}
+
+-- the console's bytes that nobody took yet
+abbrev pub console_of : Session → List ℕ
+console_of s = s.console.inner.items
+
+-- why a machine doesn't boot from an image
+abbrev pub Refuses : List ℕ → ℕ → BootFault → Type 0
+Refuses image frames fault.Device = ⊥
+Refuses image frames f = IsUnbooted {D = Unit {0}} (λ u. 0) image 0 frames f
+
+-- ---- events
+
+-- what an event that makes `a` is answered with, over the bytes before and after
+abbrev pub StepTells : View → View → After → List ℕ → List ℕ → Result (Unit {0}) Halt → Type 0
+StepTells old new a before after (Err Device) = ⊥
+StepTells old new a before after result = StepGives old new a (Some before) (Some after) (Unit {0}) result
+
+abbrev pub StepAnswers : Session → Session → After → Result (Unit {0}) Halt → Type 0
+StepAnswers old new a result = StepTells old.machine new.machine a (console_of old) (console_of new) result
+
+-- what a list of events is answered with
+abbrev pub Tells : View → View → List Event → List ℕ → List ℕ → Result (Unit {0}) Halt → Type 0
+Tells old new events before after (Err Device) = ⊥
+Tells old new events before after result = RunGives old new events (Some before) (Some after) (Unit {0}) result
+
+abbrev pub Answers : Session → Session → List Event → Result (Unit {0}) Halt → Type 0
+Answers old new events result = Tells old.machine new.machine events (console_of old) (console_of new) result
+
+-- ---- a run until nobody is ready
+
+-- a process runs or is ready before each of so many steps
+abbrev pub IsBusyFor : View → ℕ → Type 0
+IsBusyFor old steps = (k : ℕ) → k < steps → is_idle (run old.state (replicate k Step)).state ≡ false
+
+-- so many steps were taken, none where nobody ran or was ready, and fewer than the most only where nobody does then
+pub record IsAsFar (old new : View) (most : ℕ) (ran : Ran) : Type 0 where
+  pub within : ran.steps ≤ most
+  pub busy : IsBusyFor old ran.steps
+  pub idle : OnOk ran.answer (ran.steps < most → is_idle new.state ≡ true)
+
+-- what the run of a machine that takes events is answered with
+pub record Advances (old new : View) (most : ℕ) (before after : Option (List ℕ)) (rising : Type 0) (ran : Ran) : Type 0 where
+  pub gives : RunGives old new (replicate ran.steps Step) before after rising ran.answer
+  pub far : IsAsFar old new most ran
+
+-- what the run of a session is answered with; no step is taken by a machine that had stopped
+pub record Runs (old new : Session) (most : ℕ) (ran : Ran) : Type 0 where
+  pub answers : Answers old new (replicate ran.steps Step) ran.answer
+  pub far : IsAsFar old.machine new.machine most ran
+  pub none : IsErrOf ran.answer Halted → ran.steps ≡ 0
+
+-- ---- looks, and the end
+
+-- what a look at the files is answered with
+abbrev pub LookTells : {X : Type 0} → View → View → (X → Type 0) → Result X Halt → Type 0
+LookTells old new Told (Err Device) = ⊥
+LookTells old new Told result = LookGives old new Told result
+
+-- the console's bytes stay
+abbrev pub Looks : {X : Type 0} → Session → Session → (X → Type 0) → Result X Halt → Type 0
+Looks old new Told result = LookTells old.machine new.machine Told result × (console_of new ≡ console_of old)
+
+-- the bytes of the disk denote the files that are left without the processes
+abbrev pub Saves : View → Result (Vec ℕ Global) Halt → Type 0
+Saves m (Ok image) = (m.failed ≡ false) × Denotes image.items (left m.state)
+Saves m (Err (InitEnded status)) = ⊥
+Saves m (Err Device) = ⊥
+Saves m (Err Console) = ⊥
+Saves m (Err Halted) = m.failed ≡ true

@@ -1,0 +1,78 @@
+//! Steps of a machine over a disk in memory.
+ghost use Rattle.std.specs.Prelude.{◌≡◌, ◌≤◌, false, replicate, true};
+ghost use Rattle.machine.specs.Gives.{RunGives};
+ghost use Rattle.machine.specs.View.{IsUp};
+ghost use Rattle.session.specs.Played.{Advances};
+ghost use Rattle.unixmodel.specs.declared.event.Event.TheVariants.{Step};
+ghost use Rattle.unixmodel.specs.Failures.{Rises};
+
+use blockdev::MemDisk;
+use console::{Out, Writer};
+use machine::{Halt, Machine};
+use sv39::Tlb;
+use unixmodel::event::Event;
+
+/// How far a run came.
+#[derive(Clone, Copy, Debug)]
+pub struct Ran {
+    /// How many steps it took; a step at which the machine stops is one of them.
+    pub steps: u32,
+    /// Why the machine stops.
+    pub answer: Result<(), Halt>,
+}
+
+/// Whether a machine takes events. Nothing changes.
+pub fn is_up(machine: &mut Machine<MemDisk, Tlb<64>>, out: &mut Writer<Vec<u8>>) -> bool
+    ensures up { result ≡ true → IsUp machine.old }
+    ensures stopped { result ≡ false → ¬ IsUp machine.old }
+    ensures same { machine.new ≡ machine.old }
+    ensures bytes { out.new.inner.items ≡ out.old.inner.items }
+{
+    // The count of failures of a disk in memory stays 0.
+    let _disk = machine.device();
+    let done = machine.run(&[], out);
+    let _disk = machine.device();
+    done.is_ok()
+}
+
+/// So many steps of a machine that takes events, up to the first at which it stops.
+pub fn repeat<W: Out>(
+    machine: &mut Machine<MemDisk, Tlb<64>>,
+    times: u32,
+    out: &mut W,
+) -> Result<(), Halt>
+    requires { IsUp machine.old }
+    ensures gives { RunGives machine.old machine.new (replicate times Step) (W.contents out.old) (W.contents out.new) (Rises (W.failures out.old) (W.failures out.new)) result }
+    ensures later { W.failures out.old ≤ W.failures out.new }
+{
+    for _made in 0..times {
+        machine.step(Event::Step, out)?;
+    }
+    Ok(())
+}
+
+/// At most so many steps of a machine that takes events, while a process runs or is ready.
+pub fn advance<W: Out>(machine: &mut Machine<MemDisk, Tlb<64>>, most: u32, out: &mut W) -> Ran
+    requires { IsUp machine.old }
+    ensures advances { Advances machine.old machine.new most (W.contents out.old) (W.contents out.new) (Rises (W.failures out.old) (W.failures out.new)) result }
+    ensures later { W.failures out.old ≤ W.failures out.new }
+{
+    for made in 0..most {
+        if machine.is_idle() {
+            return Ran {
+                steps: made,
+                answer: Ok(()),
+            };
+        }
+        if let Err(halt) = machine.step(Event::Step, out) {
+            return Ran {
+                steps: made + 1,
+                answer: Err(halt),
+            };
+        }
+    }
+    Ran {
+        steps: most,
+        answer: Ok(()),
+    }
+}
