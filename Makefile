@@ -12,7 +12,7 @@ TEXTS := $(wildcard user/*.s)
 USER := $(TEXTS:user/%.s=out/user/%)
 IMAGE := out/xv6.img
 
-.PHONY: demo build program image user test quick edits check bench qemu kills full places limits large fuzz outages refusals fmt
+.PHONY: demo build program image user live qemu check-live test quick edits check bench check-qemu kills full places limits large fuzz outages refusals fmt
 
 # Boots a machine from an image with the user programs, types at its shell, and shows its console. It takes the
 # proved build where there is one that is not older than the sources. Else `rt try` compiles, and proves nothing of, the
@@ -51,6 +51,18 @@ image: $(IMAGE)
 $(IMAGE): user/manifest $(USER)
 	cd out/user && ../../$(PROGRAM) mkfs ../../$< ../../$@
 
+# A session at the shell: what is typed goes to the machine. ^A x ends it, ^P shows the processes, ^C kills it; the terminal is set
+# back exactly. out/last.script replays the session.
+live: $(IMAGE)
+	@tools/live.sh $(PROGRAM) $(IMAGE) out/last.script
+
+# What xv6's users type.
+qemu: live
+
+# A session at a pseudo-terminal: keys while a program spins, ^A x, ^C, and the end of the input.
+check-live: $(IMAGE)
+	bench/terminal.py $(PROGRAM) $(IMAGE)
+
 # The merge gate: every proof from nothing, the edits that must fail, all tests and stored runs.
 test:
 	rt ci
@@ -73,7 +85,7 @@ bench: | program
 
 # Compares multiplications and divisions with qemu's: the stored rows, and 1,000,000 random pairs. It needs Debian's packages
 # qemu-user, gcc-riscv64-linux-gnu and libc6-dev-riscv64-cross.
-qemu: | program
+check-qemu: | program
 	qemu/compare.py $(PROGRAM)
 
 # Ends a thousand saves at random moments, and looks whether the old file or the new one is there, whole.

@@ -1,7 +1,7 @@
 #!/usr/bin/env python3
 """Compares multiplications and divisions with those of qemu.
 
-    qemu/compare.py [PROGRAM]     with the built xv6, as `make qemu` calls it
+    qemu/compare.py [PROGRAM]     with the built xv6, as `make check-qemu` calls it
 
 Qemu has to give what each row of the table in `crates/multiply_rows` wants. Then 1,000,000 random pairs of operands are
 multiplied and divided by each of the 13 instructions, on the machine (`xv6 flat`) and by qemu, with the same program

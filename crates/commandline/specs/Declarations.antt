@@ -18,6 +18,7 @@ use Rattle.commandline.specs.declared.jobs.Dump.{Dump}
 use Rattle.commandline.specs.declared.jobs.Flat.{Flat}
 use Rattle.commandline.specs.declared.jobs.Job.{Job}
 use Rattle.commandline.specs.declared.jobs.Job.TheVariants as job
+use Rattle.commandline.specs.declared.jobs.Live.{Live}
 use Rattle.commandline.specs.declared.jobs.Ls.{Ls}
 use Rattle.commandline.specs.declared.jobs.Migrate.{Migrate}
 use Rattle.commandline.specs.declared.jobs.Mkfs.{Mkfs}
@@ -94,6 +95,13 @@ declared_asm = with_rule (with_rule (new_app (codes "asm")) (word_rule (codes "T
 abbrev pub declared_dump : App
 declared_dump = with_rule (new_app (codes "dump")) (word_rule (codes "ELF"))
 
+-- live [--frames N] [--quantum N] [--record SCRIPT] [--save OUT] [--terminal] IMAGE
+abbrev pub declared_live : App
+declared_live =
+    with_rule (with_rule (with_rule (with_rule (with_rule (with_rule (new_app (codes "live"))
+    (number_rule (codes "frames") (codes "256"))) (count_rule (codes "quantum"))) (option_rule (codes "record")))
+    (option_rule (codes "save"))) (flag_rule (codes "terminal"))) (word_rule (codes "IMAGE"))
+
 -- a command has to be there
 abbrev pub declared_top : App
 declared_top = record (new_app (codes "xv6")) {
@@ -114,8 +122,12 @@ with_images app =
 abbrev pub with_programs : App → App
 with_programs app = with_subcommand (with_subcommand app declared_asm.top) declared_dump.top
 
+-- what has a person at the keyboard
+abbrev pub with_sessions : App → App
+with_sessions app = with_subcommand app declared_live.top
+
 abbrev pub declared : App
-declared = with_programs (with_images (with_machines declared_top))
+declared = with_sessions (with_programs (with_images (with_machines declared_top)))
 
 -- the command declares no more than this, for itself alone
 pub record DeclaresOwn (app : App) (command : Command) : Type 0 where
@@ -203,6 +215,17 @@ pub record IsAsm (found : List Row) (asm : Asm) : Type 0 where
 pub record IsDump (found : List Row) (dump : Dump) : Type 0 where
   pub elf : first_of (codes "ELF") found ≡ Some dump.elf.now
 
+pub record IsLive (found : List Row) (live : Live) : Type 0 where
+  pub text : Text
+  pub given : first_of (codes "frames") found ≡ Some text
+  pub frames : Writes text live.frames
+  pub quantum : IsCount (codes "quantum") found live.quantum
+  -- none where the option is left out
+  pub script : option_map (λ word. word.now) live.script ≡ first_of (codes "record") found
+  pub save : option_map (λ word. word.now) live.save ≡ first_of (codes "save") found
+  pub terminal : IsTrue live.terminal ↔ (first_of (codes "terminal") found ≡ Some (codes "true"))
+  pub image : first_of (codes "IMAGE") found ≡ Some live.image.now
+
 -- the job is the command found, with its words
 abbrev pub IsJob : Option (Text × List Row) → Job → Type 0
 IsJob found (job.Flat flat) = (rows : List Row) × (found ≡ Some (codes "flat", rows)) × IsFlat rows flat
@@ -213,3 +236,4 @@ IsJob found (job.Ls ls) = (rows : List Row) × (found ≡ Some (codes "ls", rows
 IsJob found (job.Migrate migrate) = (rows : List Row) × (found ≡ Some (codes "migrate", rows)) × IsMigrate rows migrate
 IsJob found (job.Asm asm) = (rows : List Row) × (found ≡ Some (codes "asm", rows)) × IsAsm rows asm
 IsJob found (job.Dump dump) = (rows : List Row) × (found ≡ Some (codes "dump", rows)) × IsDump rows dump
+IsJob found (job.Live live) = (rows : List Row) × (found ≡ Some (codes "live", rows)) × IsLive rows live

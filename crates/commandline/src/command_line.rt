@@ -3,7 +3,7 @@ ghost use Rattle.std.specs.Prelude.{◌≡◌, ◌↔◌, IfOk, IfSome, IsTrue, 
 ghost use Rattle.clap.specs.Words.{app_of, first_of, found_of, rows_of, rule_of, subcommand_of, subcommand_rows_of};
 ghost use Rattle.commandline.specs.Declarations.{DeclaresOwn, IsCount, IsJob, IsWritten, Writes, declared, declared_by, declared_top, number_rule, rule_given, with_declared};
 
-use crate::jobs::{Asm, Check, Dump, Flat, Job, Ls, Migrate, Mkfs, Run};
+use crate::jobs::{Asm, Check, Dump, Flat, Job, Live, Ls, Migrate, Mkfs, Run};
 use clap::error::ErrorKind;
 use clap::{Arg, ArgAction, ArgMatches, Command, Error, value_parser};
 use std::alloc::{AllocError, Global};
@@ -49,6 +49,11 @@ It can be shown a disk of which an access fails, here the 50th: `halt 2 Device` 
 `fault 3 Device` where the machine meets it as it boots, and nothing is saved:
 
 xv6 run --fail 50 disk.img script.txt
+
+One types at it in a session, here what standard input has; a record of that is a script:
+
+echo ls | xv6 live --record record.txt disk.img
+xv6 run disk.img record.txt
 
 Programs are written as assembly texts:
 
@@ -216,7 +221,36 @@ const DUMP: [Word<'static>; 1] = [Word {
     help: "The program's file",
 }];
 
-const COMMANDS: [Declared<'static>; 8] = [
+const LIVE: [Word<'static>; 6] = [
+    FRAMES,
+    Word {
+        name: "quantum",
+        given: Given::Count,
+        help: "Steps between two ticks while a process is ready, 100000 if left out",
+    },
+    Word {
+        name: "record",
+        given: Given::Option("SCRIPT"),
+        help: "Where the script is written, line by line, that gives a machine the same events",
+    },
+    Word {
+        name: "save",
+        given: Given::Option("OUT"),
+        help: "Where the image is written that the machine leaves, without its processes",
+    },
+    Word {
+        name: "terminal",
+        given: Given::Flag,
+        help: "Standard input is a terminal that answers within a tenth of a second (make live): ^A x ends the session, ^P shows the processes",
+    },
+    Word {
+        name: "IMAGE",
+        given: Given::Bare,
+        help: "The image, which has a program /init",
+    },
+];
+
+const COMMANDS: [Declared<'static>; 9] = [
     Declared {
         name: "flat",
         about: "Boots a flat program and runs a script of events",
@@ -256,6 +290,11 @@ const COMMANDS: [Declared<'static>; 8] = [
         name: "dump",
         about: "Shows the instructions of a program file",
         words: &DUMP,
+    },
+    Declared {
+        name: "live",
+        about: "Boots a machine from a disk image and gives it what is typed",
+        words: &LIVE,
     },
 ];
 
@@ -493,6 +532,28 @@ fn dump<'a>(found: &ArgMatches<'a>) -> Option<Job<'a>>
     Some(Job::Dump(Dump { elf }))
 }
 
+// What the words after `live` ask for.
+fn live<'a>(found: &ArgMatches<'a>) -> Option<Job<'a>>
+    ensures { IfSome result (IsJob (Some (codes "live", rows_of (found_of found.now)))) }
+{
+    let frames = number_found(found, "frames")?;
+    let Ok(quantum) = count_found(found, "quantum") else {
+        return None;
+    };
+    let script = option_found(found, "record");
+    let save = option_found(found, "save");
+    let terminal = flag_found(found, "terminal");
+    let image = word_found(found, "IMAGE")?;
+    Some(Job::Live(Live {
+        frames,
+        quantum,
+        script,
+        save,
+        terminal,
+        image,
+    }))
+}
+
 // The job that was found.
 fn job_found<'a>(matches: &ArgMatches<'a>) -> Option<Job<'a>>
     ensures { IfSome result (IsJob (subcommand_rows_of matches.now)) }
@@ -517,6 +578,9 @@ fn job_found<'a>(matches: &ArgMatches<'a>) -> Option<Job<'a>>
     }
     if let Some(found) = matches.subcommand_matches("asm") {
         return asm(found);
+    }
+    if let Some(found) = matches.subcommand_matches("live") {
+        return live(found);
     }
     dump(matches.subcommand_matches("dump")?)
 }

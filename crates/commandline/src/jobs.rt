@@ -21,6 +21,8 @@ pub enum Job<'a> {
     Asm(Asm<'a>),
     /// Shows the instructions of a program file.
     Dump(Dump<'a>),
+    /// Boots a machine from a disk image and gives it what is typed.
+    Live(Live<'a>),
 }
 
 /// The words of the command `flat`.
@@ -105,4 +107,21 @@ pub struct Asm<'a> {
 pub struct Dump<'a> {
     /// The name of the program's file.
     pub elf: &'a str,
+}
+
+/// The words of the command `live`.
+#[derive(Clone, Copy, PartialEq, Eq)]
+pub struct Live<'a> {
+    /// How many frames the memory has.
+    pub frames: u32,
+    /// How many steps there are between two ticks while a process is ready, where that is told.
+    pub quantum: Option<NonZeroU64>,
+    /// The name of the file to which the script of the session is written, where one is.
+    pub script: Option<&'a str>,
+    /// The name of the file to which the saved image is written, where it is to be saved.
+    pub save: Option<&'a str>,
+    /// Whether standard input is a terminal, which tells by a read of nothing that no key came for a while.
+    pub terminal: bool,
+    /// The name of the image's file.
+    pub image: &'a str,
 }

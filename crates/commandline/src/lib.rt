@@ -5,4 +5,4 @@ mod command_line;
 mod jobs;
 
 pub use command_line::job;
-pub use jobs::{Asm, Check, Dump, Flat, Job, Ls, Migrate, Mkfs, Run};
+pub use jobs::{Asm, Check, Dump, Flat, Job, Live, Ls, Migrate, Mkfs, Run};

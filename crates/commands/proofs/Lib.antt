@@ -1,3 +1,4 @@
 mod FailingRuns
 mod Migrating
+mod Sitting
 pub mod Ends

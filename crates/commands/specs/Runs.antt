@@ -52,6 +52,11 @@ Leaves content count first events before after saves (Halted halt.Device) disk =
 Leaves content count first events before after saves (Halted halt.Console) disk = (disk ≡ None) × AppendsBeginning before after (run first.state events).bytes
 Leaves content count first events before after saves (Halted halt.Halted) disk = ⊥
 
+-- what is left of a machine whose events ended so, whichever they were
+abbrev pub LeavesOf : {D : Type 0} → (D → List (List ℕ)) → (D → ℕ) → View → Bool → End → End → Option D → Type 0
+LeavesOf content count last saves ended end disk =
+    (first : View) (events : List Event) (before after : Option (List ℕ)) → PlaysOut first last events before after ended → Leaves content count first events before after saves end disk
+
 -- a machine boots from the disk, and the events leave this
 pub record IsImageRun {D : Type 0} (content : D → List (List ℕ)) (count : D → ℕ) (disk : D) (frames : ℕ) (events : List Event) (before after : Option (List ℕ)) (saves : Bool) (end : End) (left : Option D) : Type 0 where
   pub first : View

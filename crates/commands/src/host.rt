@@ -1,5 +1,5 @@
 //! Where files come from and go to.
-ghost use Rattle.std.specs.Prelude.{◌≤◌, IfOk, vec_len};
+ghost use Rattle.std.specs.Prelude.{◌≤◌, IfOk, length, vec_len};
 
 use std::io;
 
@@ -27,7 +27,7 @@ pub struct Front {
     pub length: Option<u64>,
 }
 
-/// Files by their names.
+/// Files by their names, and standard input.
 pub trait Host {
     /// The whole of a file.
     fn read(&mut self, name: &str) -> Result<Vec<u8>, HostFault>;
@@ -43,6 +43,25 @@ pub trait Host {
         let length = Some(bytes.len() as u64);
         bytes.truncate(most);
         Ok(Front { bytes, length })
+    }
+
+    /// Puts bytes behind those of a file that is there.
+    fn append(&mut self, _name: &str, _bytes: &[u8]) -> Result<(), HostFault> {
+        Err(HostFault)
+    }
+
+    /// Reads from standard input into the front of `bytes`, and tells how many they are: none at its end, and none where a terminal
+    /// that waits only a moment was given none.
+    fn type_in(&mut self, bytes: &mut [u8]) -> Result<usize, HostFault>
+        ensures { IfOk result (λ count. count ≤ length bytes.old) }
+    {
+        let _ = bytes.len();
+        Ok(0)
+    }
+
+    /// Whether a second has passed since standard input was read, so that it is read while the machine works, too.
+    fn is_due(&mut self) -> bool {
+        true
     }
 
     /// Why the last file that could not be read or written could not.

@@ -5,6 +5,6 @@ mod host;
 pub mod perform;
 mod report;
 
-pub use commandline::{Asm, Check, Dump, Flat, Job, Ls, Migrate, Mkfs, Run, job};
+pub use commandline::{Asm, Check, Dump, Flat, Job, Live, Ls, Migrate, Mkfs, Run, job};
 pub use host::{Front, Host, HostFault, Why};
 pub use report::refuse;

@@ -3,6 +3,8 @@
 mod images;
 mod program_files;
 mod runs;
+mod seat;
+mod sessions;
 
 ghost use Rattle.std.specs.Prelude.{◌≤◌, IfOk, vec_len};
 
@@ -38,6 +40,14 @@ fn read_front<'a, H: Host>(host: &mut H, name: &'a str, most: usize) -> Result<F
     match host.read_front(name, most) {
         Ok(front) => Ok(front),
         Err(_) => Err(refused(host, Failure::Read(name))),
+    }
+}
+
+// Puts bytes behind those of a file.
+fn append<'a, H: Host>(host: &mut H, name: &'a str, bytes: &[u8]) -> Result<(), Failure<'a>> {
+    match host.append(name, bytes) {
+        Ok(()) => Ok(()),
+        Err(_) => Err(refused(host, Failure::Write(name))),
     }
 }
 
@@ -166,5 +176,6 @@ pub fn perform<H: Host, W: Write, E: Write>(
             program_files::dump(alloc, words, host, stdout),
             stderr,
         ),
+        Job::Live(words) => sessions::perform(alloc, words, host, stdout, stderr),
     }
 }

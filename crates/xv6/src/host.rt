@@ -1,22 +1,53 @@
 //! The host of the program: real files.
-ghost use Rattle.std.specs.Prelude.{◌≤◌, IfOk, vec_len};
+ghost use Rattle.std.specs.Prelude.{◌≤◌, IfOk, length, vec_len};
 
 use commands::{Front, Host, HostFault, Why};
-use std::fs::{self, OpenFile};
-use std::io::{self, ErrorKind, Read};
+use std::fs::{self, OpenFile, OpenOptions};
+use std::io::{self, ErrorKind, Read, Write};
 use std::rt::Files;
+use std::time::{Clock, Duration};
+
+/// How many seconds a busy machine's keyboard isn't read.
+const REST: u64 = 1;
+
+/// How many milliseconds a terminal waits at least before it answers that nothing was typed.
+const MOMENT: u128 = 10;
+
+/// How many answers of nothing in a row may come sooner: a terminal that is gone gives no others.
+const MOST_EARLY: u32 = 100;
 
 /// The files of the system that the program runs on.
 #[derive(Drop)]
 pub struct RealFiles<'a, R> {
     rt: &'a R,
     error: Option<io::Error>,
+    // When standard input was last read, by the clock.
+    read_at: Option<Duration>,
+    // How many reads of it in a row gave nothing, and at once.
+    early: u32,
 }
 
-impl<'a, R: Files + AllocGlobal> RealFiles<'a, R> {
+impl<'a, R: Files + Clock + Input + AllocGlobal> RealFiles<'a, R> {
     /// The files of this system.
     pub fn new(rt: &'a R) -> RealFiles<'a, R> {
-        RealFiles { rt, error: None }
+        RealFiles {
+            rt,
+            error: None,
+            read_at: None,
+            early: 0,
+        }
+    }
+
+    // Counts a read that began then, and whether standard input is still there.
+    fn is_there(&mut self, begun: Option<Duration>, count: usize) -> bool {
+        self.early = match (begun, self.read_at) {
+            (Some(begun), Some(end))
+                if count == 0 && end.saturating_sub(begun).as_millis() < MOMENT => {
+                self.early.saturating_add(1)
+            }
+            _ => 0,
+        };
+        self.early <= MOST_EARLY
     }
 
     // What came of a call. Its error is kept.
@@ -52,7 +83,13 @@ fn front<R: Files + AllocGlobal>(rt: &R, name: &str, most: usize) -> io::Result<
     Ok(Front { bytes, length })
 }
 
-impl<R: Files + AllocGlobal> Host for RealFiles<'_, R> {
+// Puts bytes behind those of a file.
+fn append<R: Files>(rt: &R, name: &str, bytes: &[u8]) -> io::Result<()> {
+    let mut file = OpenOptions::new().append(true).open(rt, name)?;
+    file.write_all(bytes)
+}
+
+impl<R: Files + Clock + Input + AllocGlobal> Host for RealFiles<'_, R> {
     fn read(&mut self, name: &str) -> Result<Vec<u8>, HostFault> {
         let done = fs::read(self.rt, name);
         self.told(done)
@@ -70,6 +107,38 @@ impl<R: Files + AllocGlobal> Host for RealFiles<'_, R> {
                 self.error = Some(error);
                 Err(HostFault)
             }
+        }
+    }
+
+    fn append(&mut self, name: &str, bytes: &[u8]) -> Result<(), HostFault> {
+        let done = append(self.rt, name, bytes);
+        self.told(done)
+    }
+
+    fn type_in(&mut self, bytes: &mut [u8]) -> Result<usize, HostFault>
+        ensures { IfOk result (λ count. count ≤ length bytes.old) }
+    {
+        let begun = self.rt.monotonic().ok();
+        let count = match self.rt.reader().read(bytes) {
+            Ok(count) => count,
+            Err(error) if error.kind() == ErrorKind::Interrupted => 0,
+            Err(error) => {
+                self.error = Some(error);
+                return Err(HostFault);
+            }
+        };
+        self.read_at = self.rt.monotonic().ok();
+        if self.is_there(begun, count) {
+            Ok(count)
+        } else {
+            Err(HostFault)
+        }
+    }
+
+    fn is_due(&mut self) -> bool {
+        match (self.rt.monotonic(), self.read_at) {
+            (Ok(now), Some(then)) => now.saturating_sub(then).as_secs() >= REST,
+            _ => true,
         }
     }
 

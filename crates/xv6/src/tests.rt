@@ -1,5 +1,6 @@
 //! Stored runs: jobs done with files in memory, and what they have to write.
 mod images;
+mod living;
 mod migrating;
 mod program_files;
 mod runs;

@@ -2,7 +2,7 @@
 ghost use Rattle.std.specs.Prelude.{◌≡◌, ◌<◌, ◌⊎◌, ◌↔◌, IfErr, IfOk, IsErrOf, None, OnErr, is_some, option_map};
 ghost use Rattle.live.specs.Plays.{script_events};
 ghost use Rattle.commands.specs.Reports.{end_of};
-ghost use Rattle.commands.specs.Runs.{IsFlatRun, IsImageRun, IsRunWith, IsUnbootedWith, Leaves, PlaysOut};
+ghost use Rattle.commands.specs.Runs.{IsFlatRun, IsImageRun, IsRunWith, IsUnbootedWith, Leaves, LeavesOf, PlaysOut};
 ghost use Rattle.imagerules.specs.Content.{image_of};
 ghost use Rattle.machine.specs.Booted.{IsUnbooted};
 ghost use Rattle.machine.specs.View.{IsUp};
@@ -33,7 +33,7 @@ pub struct Ran<D, W> {
     pub stdout: W,
 }
 
-// How a run ended. Bytes that the writer had kept back and cannot write are lost: then the console failed.
+/// How a run ended. Bytes that the writer had kept back and cannot write are lost: then the console failed.
 pub fn end_of(ended: Result<(), Halt>, is_written: bool) -> End
     ensures { result ≡ end_of ended is_written }
 {
@@ -62,6 +62,24 @@ fn play_out<D: BlockDev, T: Translate + Drop, W: Write>(
     (end_of(ended, is_written), stdout)
 }
 
+/// The disk that a machine leaves whose events ended so, if it is to be saved and neither its device nor the console has failed; and how
+/// that ended.
+pub fn leave<D: BlockDev, T: Translate + Drop>(
+    machine: Machine<D, T>,
+    saves: bool,
+    end: End,
+) -> (End, Option<D>)
+    ensures { LeavesOf D.content D.failures machine saves end result.0 result.1 }
+{
+    if !saves || end.status() != 0 {
+        return (end, None);
+    }
+    match machine.save() {
+        Ok(disk) => (end, Some(disk)),
+        Err(halt) => (End::Halted(halt), None),
+    }
+}
+
 // The events of a script; then the machine is saved, if it is to be and neither its device nor the console has failed.
 fn run_machine<D: BlockDev, T: Translate + Drop, W: Write>(
     mut machine: Machine<D, T>,
@@ -73,25 +91,8 @@ fn run_machine<D: BlockDev, T: Translate + Drop, W: Write>(
     ensures { Leaves D.content D.failures machine (script_events script.now) (W.contents stdout) (W.contents result.stdout) saves result.end result.disk }
 {
     let (end, stdout) = play_out(&mut machine, script, stdout);
-    if !saves || end.status() != 0 {
-        return Ran {
-            end,
-            disk: None,
-            stdout,
-        };
-    }
-    match machine.save() {
-        Ok(disk) => Ran {
-            end,
-            disk: Some(disk),
-            stdout,
-        },
-        Err(halt) => Ran {
-            end: End::Halted(halt),
-            disk: None,
-            stdout,
-        },
-    }
+    let (end, disk) = leave(machine, saves, end);
+    Ran { end, disk, stdout }
 }
 
 // Boots a flat program over a translator and gives it the events of a script.

@@ -21,7 +21,7 @@ fn put_text(rt: &(impl Abort + AllocGlobal), files: &mut Files, text: &[u8]) {
 }
 
 // Files with an image of a manifest, of so many blocks, whose host's file is the program of an assembly text.
-fn with_image(rt: &(impl Abort + AllocGlobal), text: &str, manifest: &str, size: u32) -> Files {
+pub fn with_image(rt: &(impl Abort + AllocGlobal), text: &str, manifest: &str, size: u32) -> Files {
     let nothing = Vec::new(rt.alloc());
     let mut files = files_of(rt.alloc(), nothing, text.as_bytes()).expect(rt, "memory");
     expect(rt, &mut files, &ASM, "", "", 0);
@@ -92,7 +92,7 @@ const REPEATS: &str = "\
     mv a2, a0\n li a0, 0\n la a1, line\n li a7, 16\n ecall\n mv a0, s0\n li a7, 2\n ecall\n\
     console: .ascii \"console\\0\"\ngreeting: .ascii \"hi\\n\"\nline: .zero 100\n";
 
-const WITH_CONSOLE: &str = "dev /console 1 0\nfile /init host";
+pub const WITH_CONSOLE: &str = "dev /console 1 0\nfile /init host";
 
 #[test]
 fn types_at_the_console(rt: HostRuntime) {

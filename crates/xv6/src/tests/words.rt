@@ -1,10 +1,10 @@
 //! Stored words, and the jobs that they name.
 use crate::tests::output_of;
 use clap::error::ErrorKind;
-use commands::{Asm, Check, Dump, Flat, Job, Ls, Migrate, Mkfs, Run, job, refuse};
+use commands::{Asm, Check, Dump, Flat, Job, Live, Ls, Migrate, Mkfs, Run, job, refuse};
 use std::num::NonZeroU64;
 
-const JOBS: [(&[&str], Job<'static>); 13] = [
+const JOBS: [(&[&str], Job<'static>); 15] = [
     (
         &["xv6", "flat", "a", "b"],
         Job::Flat(Flat {
@@ -112,6 +112,38 @@ const JOBS: [(&[&str], Job<'static>); 13] = [
         }),
     ),
     (&["xv6", "dump", "b"], Job::Dump(Dump { elf: "b" })),
+    (
+        &["xv6", "live", "b"],
+        Job::Live(Live {
+            frames: 256,
+            quantum: None,
+            script: None,
+            save: None,
+            terminal: false,
+            image: "b",
+        }),
+    ),
+    (
+        &[
+            "xv6",
+            "live",
+            "--record=c",
+            "--terminal",
+            "--frames=64",
+            "--quantum",
+            "1",
+            "b",
+            "--save=d",
+        ],
+        Job::Live(Live {
+            frames: 64,
+            quantum: Some(NonZeroU64::MIN),
+            script: Some("c"),
+            save: Some("d"),
+            terminal: true,
+            image: "b",
+        }),
+    ),
 ];
 
 #[test]
@@ -137,7 +169,7 @@ fn knows_the_last_access(rt: HostRuntime) {
     assert!(rt; found == wanted);
 }
 
-static REFUSALS: [(&[&str], ErrorKind); 20] = [
+static REFUSALS: [(&[&str], ErrorKind); 23] = [
     (&["xv6", "--help", "", ""], ErrorKind::DisplayHelp),
     (&["xv6", "flat", "a", "--help"], ErrorKind::DisplayHelp),
     (&["xv6", "sharp", "a", "b"], ErrorKind::InvalidSubcommand),
@@ -197,6 +229,12 @@ static REFUSALS: [(&[&str], ErrorKind); 20] = [
         &["xv6", "flat", "--fail", "1", "a", "b"],
         ErrorKind::UnknownArgument,
     ),
+    (&["xv6", "live"], ErrorKind::MissingRequiredArgument),
+    (
+        &["xv6", "live", "--quantum=0", "a"],
+        ErrorKind::ValueValidation,
+    ),
+    (&["xv6", "live", "a", "b"], ErrorKind::UnknownArgument),
 ];
 
 #[test]
@@ -249,11 +287,12 @@ fn tells_why_words_are_refused(rt: HostRuntime) {
 
 // The help of words, and what it has to name. Its ranges are those whose ends are taken and beyond which all is refused:
 // `BOOTS`, and `needs_frames` in `runs.rt`; `IMAGE_NUMBERS` and `NUMBER_FAULTS` in `images.rt`.
-static HELP: [(&[&str], &[&str]); 4] = [
+static HELP: [(&[&str], &[&str]); 5] = [
     (
         &["xv6", "--help"],
         &[
-            "flat", "run", "mkfs", "check", "ls", "migrate", "asm", "dump", "--save", "--fail",
+            "flat", "run", "mkfs", "check", "ls", "migrate", "asm", "dump", "live", "--save",
+            "--fail",
         ],
     ),
     (
@@ -280,6 +319,20 @@ static HELP: [(&[&str], &[&str]); 4] = [
     (
         &["xv6", "mkfs", "--help"],
         &["Blocks of 1024 bytes, 32 to 131072", "Inodes, 16 to 8192"],
+    ),
+    (
+        &["xv6", "live", "--help"],
+        &[
+            "IMAGE",
+            "Frames of 4096 bytes, 64 to 32768",
+            "--quantum",
+            "100000",
+            "--record",
+            "SCRIPT",
+            "--save",
+            "--terminal",
+            "^A x",
+        ],
     ),
 ];
 

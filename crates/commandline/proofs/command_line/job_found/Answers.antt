@@ -23,5 +23,8 @@ returns-in-Some-subcommand_matches-5 c = is-job c.migrate.result c.args.matches.
 pub returns-in-Some-subcommand_matches-6 : goal.returns-in-Some-subcommand_matches-6
 returns-in-Some-subcommand_matches-6 c = is-job c.asm.result c.args.matches.now _ _ (c.in-Some-subcommand_matches-6.ensures.found.0 refl) c.in-Some-subcommand_matches-6.ensures.rows c.asm.ensures
 
+pub returns-in-Some-subcommand_matches-7 : goal.returns-in-Some-subcommand_matches-7
+returns-in-Some-subcommand_matches-7 c = is-job c.live.result c.args.matches.now _ _ (c.in-Some-subcommand_matches-7.ensures.found.0 refl) c.in-Some-subcommand_matches-7.ensures.rows c.live.ensures
+
 pub returns : goal.returns
 returns c = is-job c.dump.result c.args.matches.now _ _ (c.in_ok-subcommand_matches.ensures.found.0 refl) c.in_ok-subcommand_matches.ensures.rows c.dump.ensures

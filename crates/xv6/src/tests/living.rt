@@ -1,0 +1,268 @@
+//! Stored sessions at a keyboard.
+ghost use Rattle.std.specs.Prelude.{◌≤◌, IfOk, length};
+
+use crate::tests::runs::{WITH_CONSOLE, with_image};
+use crate::tests::{expect_told, output_of};
+use commands::perform::perform;
+use commands::{Host, HostFault, Job, Live, Run};
+use std::alloc::{AllocError, Global};
+use std::num::NonZeroU64;
+use std::process::Abort;
+
+// Says once more each line that is typed, two ticks later, until none comes: then it ends with 7.
+const LISTENS: &str = "\
+    la a0, console\n li a1, 2\n li a7, 15\n ecall\n\
+    again: li a0, 0\n la a1, line\n li a2, 100\n li a7, 5\n ecall\n beq a0, zero, ends\n mv s0, a0\n\
+    li a0, 2\n li a7, 13\n ecall\n mv a2, s0\n li a0, 0\n la a1, line\n li a7, 16\n ecall\n j again\n\
+    ends: li a0, 7\n li a7, 2\n ecall\n\
+    console: .ascii \"console\\0\"\nline: .zero 100\n";
+
+// The files `image`, `record` and `saved`, and what is typed.
+#[derive(Drop)]
+struct Desk {
+    image: Vec<u8>,
+    record: Vec<u8>,
+    saved: Vec<u8>,
+    typed: Vec<u8>,
+    // How long the record may get.
+    room: usize,
+}
+
+impl Host for Desk {
+    fn read(&mut self, name: &str) -> Result<Vec<u8>, HostFault> {
+        let found = if name == "image" {
+            &self.image
+        } else if name == "record" {
+            &self.record
+        } else {
+            return Err(HostFault);
+        };
+        found.clone().map_err(|_| HostFault)
+    }
+
+    fn write(&mut self, name: &str, bytes: &[u8]) -> Result<(), HostFault> {
+        let file = if name == "record" {
+            &mut self.record
+        } else if name == "saved" {
+            &mut self.saved
+        } else {
+            return Err(HostFault);
+        };
+        file.clear();
+        file.extend_from_slice(bytes).map_err(|_| HostFault)
+    }
+
+    fn append(&mut self, name: &str, bytes: &[u8]) -> Result<(), HostFault> {
+        if name != "record" || self.record.len().saturating_add(bytes.len()) > self.room {
+            return Err(HostFault);
+        }
+        self.record.extend_from_slice(bytes).map_err(|_| HostFault)
+    }
+
+    // Gives two keys at most.
+    fn type_in(&mut self, bytes: &mut [u8]) -> Result<usize, HostFault>
+        ensures { IfOk result (λ count. count ≤ length bytes.old) }
+    {
+        let count = self.typed.len().min(bytes.len()).min(2);
+        for place in bytes.iter_mut().take(count) {
+            if !self.typed.is_empty() {
+                *place = self.typed.remove(0);
+            }
+        }
+        Ok(count)
+    }
+}
+
+fn desk_of(alloc: Global, image: &[u8], typed: &[u8], room: usize) -> Result<Desk, AllocError> {
+    Ok(Desk {
+        image: image.to_vec(alloc)?,
+        record: Vec::new(alloc),
+        saved: Vec::new(alloc),
+        typed: typed.to_vec(alloc)?,
+        room,
+    })
+}
+
+// Does a job at a desk, with a standard output of so much room.
+fn expect_at(
+    rt: &(impl Abort + AllocGlobal),
+    desk: &mut Desk,
+    job: &Job<'_>,
+    row: (usize, &str, &str, u8),
+) {
+    let (room, stdout, stderr, status) = row;
+    let mut out = output_of(rt.alloc(), room, true);
+    let mut err = Vec::new(rt.alloc());
+    let ended = perform(rt.alloc(), job, desk, &mut out, &mut err);
+    let told = (out.taken.as_slice(), err.as_slice(), ended);
+    expect_told(rt, told, stdout, stderr, status);
+}
+
+const LIVE: Live<'static> = Live {
+    frames: 256,
+    quantum: None,
+    script: Some("record"),
+    save: Some("saved"),
+    terminal: false,
+    image: "image",
+};
+
+const REPLAY: Job<'static> = Job::Run(Run {
+    frames: 256,
+    tlb: false,
+    fail: None,
+    save: Some("saved"),
+    image: "image",
+    script: "record",
+});
+
+// Whether it is at a terminal, what is typed, standard output, standard error but for its end, and that.
+type Session = (
+    bool,
+    &'static [u8],
+    &'static str,
+    &'static str,
+    &'static str,
+);
+
+const REPLAYED: &str = "xv6 run --frames 256 image record\n";
+
+static SESSIONS: [Session; 8] = [
+    (false, b"", "", REPLAYED, "running\n"),
+    (false, b"ab", "ab", REPLAYED, "running\n"),
+    (
+        false,
+        b"ab\ncd\n",
+        "ab\nab\ncd\ncd\n",
+        REPLAYED,
+        "running\n",
+    ),
+    (
+        false,
+        b"ab\n\x04ef\n",
+        "ab\nab\n\x04",
+        REPLAYED,
+        "halt 1 InitEnded 7\n",
+    ),
+    (false, b"\x01x\n", "\x01x\n\x01x\n", REPLAYED, "running\n"),
+    (true, b"a\n\x01xb\n", "a\n", REPLAYED, "running\n"),
+    (true, b"\x01\x01\n\x01x", "\x01\n", REPLAYED, "running\n"),
+    (
+        true,
+        b"a\x10b\x01x",
+        "ab",
+        "\n1 sleep 12288\nxv6 run --frames 256 image record\n",
+        "running\n",
+    ),
+];
+
+// A session, and the run over its record: it prints the same, ends the same and leaves the same.
+fn expect_session(
+    rt: &(impl Abort + AllocGlobal),
+    image: &[u8],
+    session: Session,
+    quantum: Option<NonZeroU64>,
+) {
+    let alloc = rt.alloc();
+    let (terminal, typed, stdout, told, line) = session;
+    let mut desk = desk_of(alloc, image, typed, 100_000).expect(rt, "memory");
+    let live = Job::Live(Live {
+        terminal,
+        quantum,
+        ..LIVE
+    });
+    let stderr = format!(in alloc; "{told}{line}").expect(rt, "memory");
+    expect_at(rt, &mut desk, &live, (1000, stdout, stderr.as_str(), 0));
+    let left = desk.saved.clone().expect(rt, "memory");
+    expect_at(rt, &mut desk, &REPLAY, (1000, stdout, line, 0));
+    assert!(rt; desk.saved == left && !left.is_empty(), "{stderr}");
+}
+
+#[test]
+fn replays_what_was_typed(rt: HostRuntime) {
+    let files = with_image(&rt, LISTENS, WITH_CONSOLE, 32);
+    for session in &SESSIONS {
+        for quantum in [None, NonZeroU64::new(5)] {
+            expect_session(&rt, files.image.as_slice(), *session, quantum);
+        }
+    }
+}
+
+// The words of a session, how long the record may get, how many bytes standard output takes, what it took, standard error and status.
+type Refused = (Live<'static>, usize, usize, &'static str, &'static str, u8);
+
+const REFUSED: [Refused; 7] = [
+    (
+        Live {
+            image: "none",
+            ..LIVE
+        },
+        1000,
+        1000,
+        "",
+        "cannot read none\n",
+        1,
+    ),
+    (
+        Live {
+            image: "record",
+            ..LIVE
+        },
+        1000,
+        1000,
+        "",
+        "fault 1 Length\n",
+        1,
+    ),
+    (
+        Live { frames: 63, ..LIVE },
+        1000,
+        1000,
+        "",
+        "fault 2 FrameCount\n",
+        1,
+    ),
+    (
+        Live {
+            script: Some("none"),
+            ..LIVE
+        },
+        1000,
+        1000,
+        "",
+        "cannot write none\n",
+        1,
+    ),
+    (
+        Live {
+            save: Some("none"),
+            ..LIVE
+        },
+        1000,
+        1000,
+        "a\na\n",
+        "running\ncannot write none\n",
+        1,
+    ),
+    (
+        LIVE,
+        10,
+        1000,
+        "a\na\n",
+        "running\ncannot write record\n",
+        1,
+    ),
+    (LIVE, 1000, 3, "a\na", "halt 3 Console\n", 1),
+];
+
+#[test]
+fn tells_what_fails_in_a_session(rt: HostRuntime) {
+    let files = with_image(&rt, LISTENS, WITH_CONSOLE, 32);
+    for (words, length, room, stdout, stderr, status) in &REFUSED {
+        let mut desk = desk_of(rt.alloc(), files.image.as_slice(), b"a\n", *length).expect(
+            &rt, "memory",
+        );
+        let row = (*room, *stdout, *stderr, *status);
+        expect_at(&rt, &mut desk, &Job::Live(*words), row);
+    }
+}
