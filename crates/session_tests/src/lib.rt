@@ -1,0 +1,5 @@
+//! Sessions whose first program prints, reads a line and ends.
+#![tactic(auto)]
+
+#[cfg(test)]
+mod line;
