@@ -13,8 +13,8 @@ use Rattle.std.specs.Box.{box_value}
 use Rattle.clap.specs.declared.builder.arg.Arg.{Arg}
 use Rattle.clap.specs.declared.builder.command.Command.{Command}
 use Rattle.commandline.specs.Declarations.{DeclaresOwn, IsJob, declared_by, rule_given, with_declared, with_word}
-use Rattle.commandline.specs.declared.command_line.Declared.{Declared}
-use Rattle.commandline.specs.declared.command_line.Word.{Word}
+use Rattle.commandline.specs.declared.declarations.Declared.{Declared}
+use Rattle.commandline.specs.declared.declarations.Word.{Word}
 use Rattle.commandline.specs.declared.jobs.Job.{Job}
 
 -- an argument that is the command's own is one rule more

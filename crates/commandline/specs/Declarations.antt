@@ -1,5 +1,6 @@
 -- The command line that the program declares, and what a job says of it.
-use Rattle.std.specs.Prelude.{◌≡◌, ◌↔◌, IsTrue, ℕ, pos, List, [], ◌∷◌, None, Option, Some, true, false, codes, fold, option_map}
+use Rattle.std.specs.Prelude.{◌≡◌, ◌↔◌, IsTrue, Bool, ℕ, pos, List, [], ◌∷◌, None, Option, Some, true, false, codes, fold, option_map}
+use Rattle.std.specs.Borrow.{Bor}
 use Rattle.std.specs.Int.NonZero.{non_zero_u64_get}
 use Rattle.std.specs.Str.Parse.{IsNumeral, digits_value}
 use Rattle.std.specs.declared.num.NonZeroU64.{NonZeroU64}
@@ -8,10 +9,10 @@ use Rattle.clap.specs.declared.builder.action.ArgAction.TheVariants.{SetTrue}
 use Rattle.clap.specs.declared.builder.command.Command.{Command}
 use Rattle.clap.specs.declared.builder.command.Command.TheViews.{out-Command}
 use Rattle.clap.specs.declared.builder.value_parser.ValueParser.TheVariants.{Signed}
-use Rattle.commandline.specs.declared.command_line.Declared.{Declared}
-use Rattle.commandline.specs.declared.command_line.Given.{Given}
-use Rattle.commandline.specs.declared.command_line.Given.TheVariants as given
-use Rattle.commandline.specs.declared.command_line.Word.{Word}
+use Rattle.commandline.specs.declared.declarations.Declared.{Declared}
+use Rattle.commandline.specs.declared.declarations.Given.{Given}
+use Rattle.commandline.specs.declared.declarations.Given.TheVariants as given
+use Rattle.commandline.specs.declared.declarations.Word.{Word}
 use Rattle.commandline.specs.declared.jobs.Asm.{Asm}
 use Rattle.commandline.specs.declared.jobs.Check.{Check}
 use Rattle.commandline.specs.declared.jobs.Dump.{Dump}
@@ -22,11 +23,22 @@ use Rattle.commandline.specs.declared.jobs.Live.{Live}
 use Rattle.commandline.specs.declared.jobs.Ls.{Ls}
 use Rattle.commandline.specs.declared.jobs.Migrate.{Migrate}
 use Rattle.commandline.specs.declared.jobs.Mkfs.{Mkfs}
+use Rattle.commandline.specs.declared.jobs.Get.{Get}
+use Rattle.commandline.specs.declared.jobs.Lines.{Lines}
+use Rattle.commandline.specs.declared.jobs.Part.{Part}
+use Rattle.commandline.specs.declared.jobs.Play.{Play}
+use Rattle.commandline.specs.declared.jobs.Put.{Put}
+use Rattle.commandline.specs.declared.jobs.Telling.{Telling}
+use Rattle.commandline.specs.declared.jobs.Trace.{Trace}
 use Rattle.commandline.specs.declared.jobs.Run.{Run}
 
 -- a word that has to be there
 abbrev pub word_rule : Text → Rule
 word_rule name = record (new_rule name) { required = true }
+
+-- a word that may be left out
+abbrev pub last_rule : Text → Rule
+last_rule name = new_rule name
 
 -- --name N, a number of 32 bits, with a default where it is left out
 abbrev pub number_rule : Text → Text → Rule
@@ -53,81 +65,130 @@ option_rule name = record (new_rule name) { long = Some name; value_names = 1 }
 abbrev pub flag_rule : Text → Rule
 flag_rule name = record (new_rule name) { long = Some name; action = Some SetTrue }
 
+-- --name, a flag with a letter
+abbrev pub letter_rule : Text → ℕ → Rule
+letter_rule name letter = record (new_rule name) { long = Some name; short = Some letter; action = Some SetTrue }
+
 -- [--frames N] [--tlb]
 abbrev pub boot_options : App → App
 boot_options app = with_rule (with_rule app (number_rule (codes "frames") (codes "256"))) (flag_rule (codes "tlb"))
 
--- flat [--frames N] [--tlb] FILE SCRIPT
-abbrev pub declared_flat : App
-declared_flat = with_rule (with_rule (boot_options (new_app (codes "flat"))) (word_rule (codes "FILE"))) (word_rule (codes "SCRIPT"))
+-- [--report] [--json FILE] [--registers PID] [--memory PID] [--status] [--progress]
+abbrev pub telling_options : App → App
+telling_options app =
+    with_rule (with_rule (with_rule (with_rule (with_rule (with_rule app
+    (flag_rule (codes "report"))) (option_rule (codes "json"))) (count_rule (codes "registers"))) (count_rule (codes "memory")))
+    (flag_rule (codes "status"))) (flag_rule (codes "progress"))
 
--- run [--frames N] [--tlb] [--fail N] [--save OUT] IMAGE SCRIPT
+-- [--explain]
+abbrev pub explained : App → App
+explained app = with_rule app (flag_rule (codes "explain"))
+
+-- one more word
+abbrev pub with_bare : App → Text → App
+with_bare app name = with_rule app (word_rule name)
+
+-- what all runs from an image take
+abbrev pub run_options : App → App
+run_options app = explained (telling_options (with_rule (with_rule (boot_options app) (count_rule (codes "fail"))) (option_rule (codes "save"))))
+
+-- flat [..] FILE SCRIPT
+abbrev pub declared_flat : App
+declared_flat = with_bare (with_bare (explained (telling_options (boot_options (new_app (codes "flat"))))) (codes "FILE")) (codes "SCRIPT")
+
+-- run [..] [--fail N] [--save OUT] IMAGE SCRIPT
 abbrev pub declared_run : App
-declared_run =
-    with_rule (with_rule (with_rule (with_rule (boot_options (new_app (codes "run")))
-    (count_rule (codes "fail"))) (option_rule (codes "save")))
-    (word_rule (codes "IMAGE"))) (word_rule (codes "SCRIPT"))
+declared_run = with_bare (with_bare (run_options (new_app (codes "run"))) (codes "IMAGE")) (codes "SCRIPT")
+
+-- live [--frames N] [--quantum N] [--record SCRIPT] [--save OUT] [--terminal] [--progress] IMAGE
+abbrev pub declared_live : App
+declared_live =
+    with_bare (explained (with_rule (with_rule (with_rule (with_rule (with_rule (with_rule (new_app (codes "live"))
+    (number_rule (codes "frames") (codes "256"))) (count_rule (codes "quantum"))) (option_rule (codes "record")))
+    (option_rule (codes "save"))) (flag_rule (codes "terminal"))) (flag_rule (codes "progress")))) (codes "IMAGE")
+
+-- play [..] [--script OUT] IMAGE PLAY
+abbrev pub declared_play : App
+declared_play = with_bare (with_bare (with_rule (run_options (new_app (codes "play"))) (option_rule (codes "script"))) (codes "IMAGE")) (codes "PLAY")
+
+-- [--pid PID] [--calls NAMES] [--from N] [--to N]
+abbrev pub part_options : App → App
+part_options app =
+    with_rule (with_rule (with_rule (with_rule app
+    (count_rule (codes "pid"))) (option_rule (codes "calls"))) (count_rule (codes "from"))) (count_rule (codes "to"))
+
+-- [--bytes N] [--each] [--time] [--turns]
+abbrev pub line_options : App → App
+line_options app =
+    with_rule (with_rule (with_rule (with_rule app
+    (number_rule (codes "bytes") (codes "32"))) (flag_rule (codes "each"))) (flag_rule (codes "time"))) (flag_rule (codes "turns"))
+
+-- trace [..] [--text FILE] [--perfetto FILE] [--commits FILE] [--core-is-pid] IMAGE SCRIPT
+abbrev pub declared_trace : App
+declared_trace =
+    with_bare (with_bare (with_rule (with_rule (with_rule (with_rule (line_options (part_options (run_options (new_app (codes "trace")))))
+    (option_rule (codes "text"))) (option_rule (codes "perfetto"))) (option_rule (codes "commits"))) (flag_rule (codes "core-is-pid")))
+    (codes "IMAGE")) (codes "SCRIPT")
 
 -- mkfs [--size N] [--inodes N] MANIFEST IMAGE
 abbrev pub declared_mkfs : App
 declared_mkfs =
-    with_rule (with_rule (with_rule (with_rule (new_app (codes "mkfs"))
-    (number_rule (codes "size") (codes "2000"))) (number_rule (codes "inodes") (codes "200")))
-    (word_rule (codes "MANIFEST"))) (word_rule (codes "IMAGE"))
+    with_bare (with_bare (explained (with_rule (with_rule (new_app (codes "mkfs"))
+    (number_rule (codes "size") (codes "2000"))) (number_rule (codes "inodes") (codes "200"))))
+    (codes "MANIFEST")) (codes "IMAGE")
 
 -- check IMAGE
 abbrev pub declared_check : App
-declared_check = with_rule (new_app (codes "check")) (word_rule (codes "IMAGE"))
+declared_check = with_bare (explained (new_app (codes "check"))) (codes "IMAGE")
 
--- ls IMAGE PATH
+-- ls [-R] IMAGE PATH
 abbrev pub declared_ls : App
-declared_ls = with_rule (with_rule (new_app (codes "ls")) (word_rule (codes "IMAGE"))) (word_rule (codes "PATH"))
+declared_ls = with_bare (with_bare (explained (with_rule (new_app (codes "ls")) (letter_rule (codes "recursive") 82))) (codes "IMAGE")) (codes "PATH")
+
+-- get IMAGE PATH [OUT]
+abbrev pub declared_get : App
+declared_get = with_rule (with_bare (with_bare (explained (new_app (codes "get"))) (codes "IMAGE")) (codes "PATH")) (last_rule (codes "OUT"))
+
+-- put IMAGE PATH FILE
+abbrev pub declared_put : App
+declared_put = with_bare (with_bare (with_bare (explained (new_app (codes "put"))) (codes "IMAGE")) (codes "PATH")) (codes "FILE")
 
 -- migrate OLD NEW
 abbrev pub declared_migrate : App
-declared_migrate = with_rule (with_rule (new_app (codes "migrate")) (word_rule (codes "OLD"))) (word_rule (codes "NEW"))
+declared_migrate = with_bare (with_bare (explained (new_app (codes "migrate"))) (codes "OLD")) (codes "NEW")
 
 -- asm TEXT ELF
 abbrev pub declared_asm : App
-declared_asm = with_rule (with_rule (new_app (codes "asm")) (word_rule (codes "TEXT"))) (word_rule (codes "ELF"))
+declared_asm = with_bare (with_bare (explained (new_app (codes "asm"))) (codes "TEXT")) (codes "ELF")
 
 -- dump ELF
 abbrev pub declared_dump : App
-declared_dump = with_rule (new_app (codes "dump")) (word_rule (codes "ELF"))
-
--- live [--frames N] [--quantum N] [--record SCRIPT] [--save OUT] [--terminal] IMAGE
-abbrev pub declared_live : App
-declared_live =
-    with_rule (with_rule (with_rule (with_rule (with_rule (with_rule (new_app (codes "live"))
-    (number_rule (codes "frames") (codes "256"))) (count_rule (codes "quantum"))) (option_rule (codes "record")))
-    (option_rule (codes "save"))) (flag_rule (codes "terminal"))) (word_rule (codes "IMAGE"))
+declared_dump = with_bare (explained (new_app (codes "dump"))) (codes "ELF")
 
 -- a command has to be there
 abbrev pub declared_top : App
 declared_top = record (new_app (codes "xv6")) {
-  top = record (new_app (codes "xv6")).top { subcommand_required = true; arg_required_else_help = true };
+  top = record (new_app (codes "xv6")).top { subcommand_required = true; arg_required_else_help = true; has_version = true };
 }
 
 -- what boots a machine
 abbrev pub with_machines : App → App
-with_machines app = with_subcommand (with_subcommand app declared_flat.top) declared_run.top
+with_machines app =
+    with_subcommand (with_subcommand (with_subcommand (with_subcommand (with_subcommand app
+    declared_flat.top) declared_run.top) declared_live.top) declared_play.top) declared_trace.top
 
 -- what works on disk images
 abbrev pub with_images : App → App
 with_images app =
-    with_subcommand (with_subcommand (with_subcommand (with_subcommand app
-    declared_mkfs.top) declared_check.top) declared_ls.top) declared_migrate.top
+    with_subcommand (with_subcommand (with_subcommand (with_subcommand (with_subcommand (with_subcommand app
+    declared_mkfs.top) declared_check.top) declared_ls.top) declared_get.top) declared_put.top) declared_migrate.top
 
 -- what works on the texts and the files of programs
 abbrev pub with_programs : App → App
 with_programs app = with_subcommand (with_subcommand app declared_asm.top) declared_dump.top
 
--- what has a person at the keyboard
-abbrev pub with_sessions : App → App
-with_sessions app = with_subcommand app declared_live.top
-
 abbrev pub declared : App
-declared = with_sessions (with_programs (with_images (with_machines declared_top)))
+declared = with_programs (with_images (with_machines declared_top))
 
 -- the command declares no more than this, for itself alone
 pub record DeclaresOwn (app : App) (command : Command) : Type 0 where
@@ -138,10 +199,12 @@ pub record DeclaresOwn (app : App) (command : Command) : Type 0 where
 
 abbrev pub rule_given : Text → Given → Rule
 rule_given name given.Bare = word_rule name
+rule_given name given.Last = last_rule name
 rule_given name (given.Number default) = number_rule name default.now
-rule_given name given.Count = count_rule name
+rule_given name (given.Count value) = count_rule name
 rule_given name (given.Option value) = option_rule name
 rule_given name given.Flag = flag_rule name
+rule_given name (given.Letter letter) = letter_rule name letter
 
 abbrev pub with_word : App → Word → App
 with_word app word = with_rule app (rule_given word.name.now word.given)
@@ -166,34 +229,68 @@ abbrev pub IsCount : Text → List Row → Option NonZeroU64 → Type 0
 IsCount name found None = first_of name found ≡ None
 IsCount name found (Some n) = IsWritten name found (non_zero_u64_get n)
 
+-- the flag was found
+abbrev pub IsFlag : Text → List Row → Bool → Type 0
+IsFlag name found given = IsTrue given ↔ (first_of name found ≡ Some (codes "true"))
+
+-- the word that was found, none where it was left out
+abbrev pub IsOption : Text → List Row → Option (Bor Text) → Type 0
+IsOption name found word = option_map (λ w. w.now) word ≡ first_of name found
+
 -- the words and the numbers are those found
+pub record IsTelling (found : List Row) (telling : Telling) : Type 0 where
+  pub report : IsFlag (codes "report") found telling.report
+  pub json : IsOption (codes "json") found telling.json
+  pub registers : IsCount (codes "registers") found telling.registers
+  pub memory : IsCount (codes "memory") found telling.memory
+  pub status : IsFlag (codes "status") found telling.status
+  pub progress : IsFlag (codes "progress") found telling.progress
+
 pub record IsFlat (found : List Row) (flat : Flat) : Type 0 where
-  pub text : Text
-  pub given : first_of (codes "frames") found ≡ Some text
-  pub frames : Writes text flat.frames
-  -- a flag that is given has this value
-  pub tlb : IsTrue flat.tlb ↔ (first_of (codes "tlb") found ≡ Some (codes "true"))
+  pub frames : IsWritten (codes "frames") found flat.frames
+  pub tlb : IsFlag (codes "tlb") found flat.tlb
+  pub telling : IsTelling found flat.telling
   pub file : first_of (codes "FILE") found ≡ Some flat.file.now
   pub script : first_of (codes "SCRIPT") found ≡ Some flat.script.now
 
-pub record IsRun (found : List Row) (run : Run) : Type 0 where
-  pub text : Text
-  pub given : first_of (codes "frames") found ≡ Some text
-  pub frames : Writes text run.frames
-  pub tlb : IsTrue run.tlb ↔ (first_of (codes "tlb") found ≡ Some (codes "true"))
+-- the same of a run, whose last word has this name
+pub record IsRun (last : Text) (found : List Row) (run : Run) : Type 0 where
+  pub frames : IsWritten (codes "frames") found run.frames
+  pub tlb : IsFlag (codes "tlb") found run.tlb
   pub fail : IsCount (codes "fail") found run.fail
-  -- none where the option is left out
-  pub save : option_map (λ word. word.now) run.save ≡ first_of (codes "save") found
+  pub save : IsOption (codes "save") found run.save
+  pub telling : IsTelling found run.telling
   pub image : first_of (codes "IMAGE") found ≡ Some run.image.now
-  pub script : first_of (codes "SCRIPT") found ≡ Some run.script.now
+  pub script : first_of last found ≡ Some run.script.now
+
+pub record IsPlay (found : List Row) (play : Play) : Type 0 where
+  pub run : IsRun (codes "PLAY") found play.run
+  pub script : IsOption (codes "script") found play.script
+
+pub record IsPart (found : List Row) (part : Part) : Type 0 where
+  pub pid : IsCount (codes "pid") found part.pid
+  pub calls : IsOption (codes "calls") found part.calls
+  pub from : IsCount (codes "from") found part.from
+  pub to : IsCount (codes "to") found part.to
+
+pub record IsLines (found : List Row) (lines : Lines) : Type 0 where
+  pub bytes : IsWritten (codes "bytes") found lines.bytes
+  pub each : IsFlag (codes "each") found lines.each
+  pub time : IsFlag (codes "time") found lines.time
+  pub turns : IsFlag (codes "turns") found lines.turns
+  pub core_is_pid : IsFlag (codes "core-is-pid") found lines.core_is_pid
+
+pub record IsTrace (found : List Row) (trace : Trace) : Type 0 where
+  pub run : IsRun (codes "SCRIPT") found trace.run
+  pub part : IsPart found trace.part
+  pub lines : IsLines found trace.lines
+  pub text : IsOption (codes "text") found trace.text
+  pub perfetto : IsOption (codes "perfetto") found trace.perfetto
+  pub commits : IsOption (codes "commits") found trace.commits
 
 pub record IsMkfs (found : List Row) (mkfs : Mkfs) : Type 0 where
-  pub size_text : Text
-  pub size_given : first_of (codes "size") found ≡ Some size_text
-  pub size : Writes size_text mkfs.size
-  pub inodes_text : Text
-  pub inodes_given : first_of (codes "inodes") found ≡ Some inodes_text
-  pub inodes : Writes inodes_text mkfs.inodes
+  pub size : IsWritten (codes "size") found mkfs.size
+  pub inodes : IsWritten (codes "inodes") found mkfs.inodes
   pub manifest : first_of (codes "MANIFEST") found ≡ Some mkfs.manifest.now
   pub image : first_of (codes "IMAGE") found ≡ Some mkfs.image.now
 
@@ -201,8 +298,19 @@ pub record IsCheck (found : List Row) (check : Check) : Type 0 where
   pub image : first_of (codes "IMAGE") found ≡ Some check.image.now
 
 pub record IsLs (found : List Row) (ls : Ls) : Type 0 where
+  pub recursive : IsFlag (codes "recursive") found ls.recursive
   pub image : first_of (codes "IMAGE") found ≡ Some ls.image.now
   pub path : first_of (codes "PATH") found ≡ Some ls.path.now
+
+pub record IsGet (found : List Row) (get : Get) : Type 0 where
+  pub image : first_of (codes "IMAGE") found ≡ Some get.image.now
+  pub path : first_of (codes "PATH") found ≡ Some get.path.now
+  pub out : IsOption (codes "OUT") found get.out
+
+pub record IsPut (found : List Row) (put : Put) : Type 0 where
+  pub image : first_of (codes "IMAGE") found ≡ Some put.image.now
+  pub path : first_of (codes "PATH") found ≡ Some put.path.now
+  pub file : first_of (codes "FILE") found ≡ Some put.file.now
 
 pub record IsMigrate (found : List Row) (migrate : Migrate) : Type 0 where
   pub old : first_of (codes "OLD") found ≡ Some migrate.old.now
@@ -216,23 +324,25 @@ pub record IsDump (found : List Row) (dump : Dump) : Type 0 where
   pub elf : first_of (codes "ELF") found ≡ Some dump.elf.now
 
 pub record IsLive (found : List Row) (live : Live) : Type 0 where
-  pub text : Text
-  pub given : first_of (codes "frames") found ≡ Some text
-  pub frames : Writes text live.frames
+  pub frames : IsWritten (codes "frames") found live.frames
   pub quantum : IsCount (codes "quantum") found live.quantum
-  -- none where the option is left out
-  pub script : option_map (λ word. word.now) live.script ≡ first_of (codes "record") found
-  pub save : option_map (λ word. word.now) live.save ≡ first_of (codes "save") found
-  pub terminal : IsTrue live.terminal ↔ (first_of (codes "terminal") found ≡ Some (codes "true"))
+  pub script : IsOption (codes "record") found live.script
+  pub save : IsOption (codes "save") found live.save
+  pub terminal : IsFlag (codes "terminal") found live.terminal
+  pub progress : IsFlag (codes "progress") found live.progress
   pub image : first_of (codes "IMAGE") found ≡ Some live.image.now
 
 -- the job is the command found, with its words
 abbrev pub IsJob : Option (Text × List Row) → Job → Type 0
 IsJob found (job.Flat flat) = (rows : List Row) × (found ≡ Some (codes "flat", rows)) × IsFlat rows flat
-IsJob found (job.Run run) = (rows : List Row) × (found ≡ Some (codes "run", rows)) × IsRun rows run
+IsJob found (job.Run run) = (rows : List Row) × (found ≡ Some (codes "run", rows)) × IsRun (codes "SCRIPT") rows run
+IsJob found (job.Play play) = (rows : List Row) × (found ≡ Some (codes "play", rows)) × IsPlay rows play
+IsJob found (job.Trace trace) = (rows : List Row) × (found ≡ Some (codes "trace", rows)) × IsTrace rows trace
 IsJob found (job.Mkfs mkfs) = (rows : List Row) × (found ≡ Some (codes "mkfs", rows)) × IsMkfs rows mkfs
 IsJob found (job.Check check) = (rows : List Row) × (found ≡ Some (codes "check", rows)) × IsCheck rows check
 IsJob found (job.Ls ls) = (rows : List Row) × (found ≡ Some (codes "ls", rows)) × IsLs rows ls
+IsJob found (job.Get get) = (rows : List Row) × (found ≡ Some (codes "get", rows)) × IsGet rows get
+IsJob found (job.Put put) = (rows : List Row) × (found ≡ Some (codes "put", rows)) × IsPut rows put
 IsJob found (job.Migrate migrate) = (rows : List Row) × (found ≡ Some (codes "migrate", rows)) × IsMigrate rows migrate
 IsJob found (job.Asm asm) = (rows : List Row) × (found ≡ Some (codes "asm", rows)) × IsAsm rows asm
 IsJob found (job.Dump dump) = (rows : List Row) × (found ≡ Some (codes "dump", rows)) × IsDump rows dump

@@ -1,302 +1,20 @@
 //! What the words of a command line ask for.
 ghost use Rattle.std.specs.Prelude.{◌≡◌, ◌↔◌, IfOk, IfSome, IsTrue, Some, codes, false, fold, map, option_map};
 ghost use Rattle.clap.specs.Words.{app_of, first_of, found_of, rows_of, rule_of, subcommand_of, subcommand_rows_of};
-ghost use Rattle.commandline.specs.Declarations.{DeclaresOwn, IsCount, IsJob, IsWritten, Writes, declared, declared_by, declared_top, number_rule, rule_given, with_declared};
+ghost use Rattle.commandline.specs.Declarations.{DeclaresOwn, IsCount, IsJob, IsLines, IsPart, IsRun, IsTelling, IsWritten, Writes, declared, declared_by, declared_top, number_rule, rule_given, with_declared};
 
-use crate::jobs::{Asm, Check, Dump, Flat, Job, Live, Ls, Migrate, Mkfs, Run};
+use crate::declarations::{COMMANDS, Declared, EXAMPLE, Given, Word};
+use crate::jobs::{
+    Asm, Check, Dump, Flat, Get, Job, Lines, Live, Ls, Migrate, Mkfs, Part, Play, Put, Run,
+    Telling, Trace,
+};
 use clap::error::ErrorKind;
 use clap::{Arg, ArgAction, ArgMatches, Command, Error, value_parser};
 use std::alloc::{AllocError, Global};
 use std::num::NonZeroU64;
 
-const EXAMPLE: &str = "\
-Example: hello.bin is a program of RV64I instructions, loaded at address 0, and hello.txt says
-what happens to the machine, one command a line:
-
-    step 1000       1000 instructions or turns
-    tick 1          a timer interrupt
-    type ls         the keys l, s and return
-    keys 7f04       keys by their codes
-
-xv6 flat --frames 128 hello.bin hello.txt
-
-The console's bytes go to standard output. At the end standard error has `running`, or how the
-machine came to a halt, as `halt 1 InitEnded 0`.
-
-A disk image is made of what a manifest lists, one entry a line, a directory before what is in it:
-
-    dir /bin
-    file /bin/hello hello.bin
-    dev /console 1 0
-
-xv6 mkfs --size 64 --inodes 16 manifest.txt disk.img
-xv6 check disk.img
-xv6 ls disk.img /bin
-
-The second prints `ok 4 inodes 3 blocks`: what is in use. The third prints a line for each entry:
-its name, its type (1 a directory, 2 a file, 3 a device), its inode and its size.
-
-An image of the small format, which has files of up to 274432 bytes, is refused as `fault 2 Magic`.
-One of the large format, with the same files, is made of it, and told as `check` tells it:
-
-xv6 migrate old.img new.img
-
-A machine boots from an image that has a program /init, and leaves another:
-
-xv6 run --save after.img disk.img script.txt
-
-It can be shown a disk of which an access fails, here the 50th: `halt 2 Device` is the answer, or
-`fault 3 Device` where the machine meets it as it boots, and nothing is saved:
-
-xv6 run --fail 50 disk.img script.txt
-
-One types at it in a session, here what standard input has; a record of that is a script:
-
-echo ls | xv6 live --record record.txt disk.img
-xv6 run disk.img record.txt
-
-Programs are written as assembly texts:
-
-    start:  li a7, 11       # getpid
-            ecall
-            j start
-
-xv6 asm start.s start
-xv6 dump start
-
-The second prints a line for each word, the first `00000000: 000008b7 lui a7, 0x0`.";
-
-// How a word of a command is given.
-#[derive(Clone, Copy)]
-enum Given<'a> {
-    // It has to be there.
-    Bare,
-    // As an option with a number, of this default.
-    Number(&'a str),
-    // As an option with a number from 1 on, that may be left out.
-    Count,
-    // As an option that may be left out; help calls its value so.
-    Option(&'a str),
-    // As a flag, which is left out or given once.
-    Flag,
-}
-
-// A word of a command.
-#[derive(Clone, Copy)]
-struct Word<'a> {
-    name: &'a str,
-    given: Given<'a>,
-    help: &'a str,
-}
-
-// A command, and the words that it takes.
-#[derive(Clone, Copy)]
-struct Declared<'a> {
-    name: &'a str,
-    about: &'a str,
-    words: &'a [Word<'a>],
-}
-
-const FRAMES: Word<'static> = Word {
-    name: "frames",
-    given: Given::Number("256"),
-    help: "Frames of 4096 bytes, 64 to 32768",
-};
-
-const TLB: Word<'static> = Word {
-    name: "tlb",
-    given: Given::Flag,
-    help: "Remembers translations, so that most accesses walk no page table",
-};
-
-const SCRIPT: Word<'static> = Word {
-    name: "SCRIPT",
-    given: Given::Bare,
-    help: "What happens: lines `step N`, `tick N`, `keys HEX` and `type TEXT`",
-};
-
-const FLAT: [Word<'static>; 4] = [
-    FRAMES,
-    TLB,
-    Word {
-        name: "FILE",
-        given: Given::Bare,
-        help: "The program: instructions and bytes, from address 0 on",
-    },
-    SCRIPT,
-];
-
-const RUN: [Word<'static>; 6] = [
-    FRAMES,
-    TLB,
-    Word {
-        name: "fail",
-        given: Given::Count,
-        help: "Lets the N-th access of the disk fail, 1 to 4294967295, to see what the machine does then",
-    },
-    Word {
-        name: "save",
-        given: Given::Option("OUT"),
-        help: "Where the image is written that the machine leaves, without its processes",
-    },
-    Word {
-        name: "IMAGE",
-        given: Given::Bare,
-        help: "The image, which has a program /init",
-    },
-    SCRIPT,
-];
-
-const MKFS: [Word<'static>; 4] = [
-    Word {
-        name: "size",
-        given: Given::Number("2000"),
-        help: "Blocks of 1024 bytes, 32 to 131072",
-    },
-    Word {
-        name: "inodes",
-        given: Given::Number("200"),
-        help: "Inodes, 16 to 8192",
-    },
-    Word {
-        name: "MANIFEST",
-        given: Given::Bare,
-        help: "What is made: lines `dir PATH`, `file PATH HOSTFILE` and `dev PATH MAJOR MINOR`",
-    },
-    Word {
-        name: "IMAGE",
-        given: Given::Bare,
-        help: "The image, which is written",
-    },
-];
-
-const CHECK: [Word<'static>; 1] = [Word {
-    name: "IMAGE",
-    given: Given::Bare,
-    help: "The image",
-}];
-
-const LS: [Word<'static>; 2] = [
-    Word {
-        name: "IMAGE",
-        given: Given::Bare,
-        help: "The image",
-    },
-    Word {
-        name: "PATH",
-        given: Given::Bare,
-        help: "The directory's path, from the root",
-    },
-];
-
-const MIGRATE: [Word<'static>; 2] = [
-    Word {
-        name: "OLD",
-        given: Given::Bare,
-        help: "The image of the small format",
-    },
-    Word {
-        name: "NEW",
-        given: Given::Bare,
-        help: "The image of the large format, which is written",
-    },
-];
-
-const ASM: [Word<'static>; 2] = [
-    Word {
-        name: "TEXT",
-        given: Given::Bare,
-        help: "The text",
-    },
-    Word {
-        name: "ELF",
-        given: Given::Bare,
-        help: "The program's file, which is written",
-    },
-];
-
-const DUMP: [Word<'static>; 1] = [Word {
-    name: "ELF",
-    given: Given::Bare,
-    help: "The program's file",
-}];
-
-const LIVE: [Word<'static>; 6] = [
-    FRAMES,
-    Word {
-        name: "quantum",
-        given: Given::Count,
-        help: "Steps between two ticks while a process is ready, 100000 if left out",
-    },
-    Word {
-        name: "record",
-        given: Given::Option("SCRIPT"),
-        help: "Where the script is written, line by line, that gives a machine the same events",
-    },
-    Word {
-        name: "save",
-        given: Given::Option("OUT"),
-        help: "Where the image is written that the machine leaves, without its processes",
-    },
-    Word {
-        name: "terminal",
-        given: Given::Flag,
-        help: "Standard input is a terminal that answers within a tenth of a second (make live): ^A x ends the session, ^P shows the processes",
-    },
-    Word {
-        name: "IMAGE",
-        given: Given::Bare,
-        help: "The image, which has a program /init",
-    },
-];
-
-const COMMANDS: [Declared<'static>; 9] = [
-    Declared {
-        name: "flat",
-        about: "Boots a flat program and runs a script of events",
-        words: &FLAT,
-    },
-    Declared {
-        name: "run",
-        about: "Boots a machine from a disk image and runs a script of events",
-        words: &RUN,
-    },
-    Declared {
-        name: "mkfs",
-        about: "Makes a disk image of what a manifest lists",
-        words: &MKFS,
-    },
-    Declared {
-        name: "check",
-        about: "Checks that a disk image denotes files",
-        words: &CHECK,
-    },
-    Declared {
-        name: "ls",
-        about: "Lists a directory of a disk image",
-        words: &LS,
-    },
-    Declared {
-        name: "migrate",
-        about: "Makes an image of the large format of one of the small format",
-        words: &MIGRATE,
-    },
-    Declared {
-        name: "asm",
-        about: "Makes a program file of an assembly text",
-        words: &ASM,
-    },
-    Declared {
-        name: "dump",
-        about: "Shows the instructions of a program file",
-        words: &DUMP,
-    },
-    Declared {
-        name: "live",
-        about: "Boots a machine from a disk image and gives it what is typed",
-        words: &LIVE,
-    },
-];
+/// What `--version` prints behind the name: the list of changes tells what each version brought.
+const VERSION: &str = "0.9.0";
 
 // An option with a number.
 fn number<'a>(alloc: Global, name: &'a str, default: &'a str, help: &'a str) -> Arg<'a>
@@ -319,10 +37,11 @@ fn arg<'a>(alloc: Global, word: Word<'a>) -> Arg<'a>
     let name = word.name;
     match word.given {
         Given::Bare => Arg::new(alloc, name).help(word.help).required(true),
+        Given::Last => Arg::new(alloc, name).help(word.help),
         Given::Number(default) => number(alloc, name, default, word.help),
-        Given::Count => Arg::new(alloc, name)
+        Given::Count(value) => Arg::new(alloc, name)
             .long(name)
-            .value_name("N")
+            .value_name(value)
             .help(word.help)
             .value_parser(value_parser!(u32).range(1..)),
         Given::Option(value) => Arg::new(alloc, name)
@@ -331,6 +50,11 @@ fn arg<'a>(alloc: Global, word: Word<'a>) -> Arg<'a>
             .help(word.help),
         Given::Flag => Arg::new(alloc, name)
             .long(name)
+            .help(word.help)
+            .action(ArgAction::SetTrue),
+        Given::Letter(letter) => Arg::new(alloc, name)
+            .long(name)
+            .short(letter)
             .help(word.help)
             .action(ArgAction::SetTrue),
     }
@@ -354,6 +78,7 @@ fn bare_command<'a>(alloc: Global) -> Command<'a>
     let about = "A RISC-V Unix in the manner of xv6, as a machine that is proved correct";
     Command::new(alloc, "xv6")
         .about(about)
+        .version(VERSION)
         .after_help(EXAMPLE)
         .subcommand_required(true)
         .arg_required_else_help(true)
@@ -435,25 +160,51 @@ fn flag_found<'a>(found: &ArgMatches<'a>, name: &str) -> bool
     }
 }
 
+// What the words ask to be told of a run.
+fn telling<'a>(found: &ArgMatches<'a>) -> Option<Telling<'a>>
+    ensures { IfSome result (IsTelling (rows_of (found_of found.now))) }
+{
+    let report = flag_found(found, "report");
+    let json = option_found(found, "json");
+    let Ok(registers) = count_found(found, "registers") else {
+        return None;
+    };
+    let Ok(memory) = count_found(found, "memory") else {
+        return None;
+    };
+    let status = flag_found(found, "status");
+    let progress = flag_found(found, "progress");
+    Some(Telling {
+        report,
+        json,
+        registers,
+        memory,
+        status,
+        progress,
+    })
+}
+
 // What the words after `flat` ask for.
 fn flat<'a>(found: &ArgMatches<'a>) -> Option<Job<'a>>
     ensures { IfSome result (IsJob (Some (codes "flat", rows_of (found_of found.now)))) }
 {
     let frames = number_found(found, "frames")?;
     let tlb = flag_found(found, "tlb");
+    let telling = telling(found)?;
     let file = word_found(found, "FILE")?;
     let script = word_found(found, "SCRIPT")?;
     Some(Job::Flat(Flat {
         frames,
         tlb,
+        telling,
         file,
         script,
     }))
 }
 
-// What the words after `run` ask for.
-fn run<'a>(found: &ArgMatches<'a>) -> Option<Job<'a>>
-    ensures { IfSome result (IsJob (Some (codes "run", rows_of (found_of found.now)))) }
+// What the words of a run ask for, whose last word has this name.
+fn run_found<'a>(found: &ArgMatches<'a>, last: &str) -> Option<Run<'a>>
+    ensures { IfSome result (IsRun last.now (rows_of (found_of found.now))) }
 {
     let frames = number_found(found, "frames")?;
     let tlb = flag_found(found, "tlb");
@@ -461,15 +212,93 @@ fn run<'a>(found: &ArgMatches<'a>) -> Option<Job<'a>>
         return None;
     };
     let save = option_found(found, "save");
+    let telling = telling(found)?;
     let image = word_found(found, "IMAGE")?;
-    let script = word_found(found, "SCRIPT")?;
-    Some(Job::Run(Run {
+    let script = word_found(found, last)?;
+    Some(Run {
         frames,
         tlb,
         fail,
         save,
+        telling,
         image,
         script,
+    })
+}
+
+// What the words after `run` ask for.
+fn run<'a>(found: &ArgMatches<'a>) -> Option<Job<'a>>
+    ensures { IfSome result (IsJob (Some (codes "run", rows_of (found_of found.now)))) }
+{
+    Some(Job::Run(run_found(found, "SCRIPT")?))
+}
+
+// What the words after `play` ask for.
+fn play<'a>(found: &ArgMatches<'a>) -> Option<Job<'a>>
+    ensures { IfSome result (IsJob (Some (codes "play", rows_of (found_of found.now)))) }
+{
+    let run = run_found(found, "PLAY")?;
+    let script = option_found(found, "script");
+    Some(Job::Play(Play { run, script }))
+}
+
+// Which events of a run the words ask to be shown.
+fn part<'a>(found: &ArgMatches<'a>) -> Option<Part<'a>>
+    ensures { IfSome result (IsPart (rows_of (found_of found.now))) }
+{
+    let Ok(pid) = count_found(found, "pid") else {
+        return None;
+    };
+    let calls = option_found(found, "calls");
+    let Ok(from) = count_found(found, "from") else {
+        return None;
+    };
+    let Ok(to) = count_found(found, "to") else {
+        return None;
+    };
+    Some(Part {
+        pid,
+        calls,
+        from,
+        to,
+    })
+}
+
+// How the words ask that lines are written.
+fn lines<'a>(found: &ArgMatches<'a>) -> Option<Lines>
+    ensures { IfSome result (IsLines (rows_of (found_of found.now))) }
+{
+    let bytes = number_found(found, "bytes")?;
+    let each = flag_found(found, "each");
+    let time = flag_found(found, "time");
+    let turns = flag_found(found, "turns");
+    let core_is_pid = flag_found(found, "core-is-pid");
+    Some(Lines {
+        bytes,
+        each,
+        time,
+        turns,
+        core_is_pid,
+    })
+}
+
+// What the words after `trace` ask for.
+fn trace<'a>(found: &ArgMatches<'a>) -> Option<Job<'a>>
+    ensures { IfSome result (IsJob (Some (codes "trace", rows_of (found_of found.now)))) }
+{
+    let run = run_found(found, "SCRIPT")?;
+    let part = part(found)?;
+    let lines = lines(found)?;
+    let text = option_found(found, "text");
+    let perfetto = option_found(found, "perfetto");
+    let commits = option_found(found, "commits");
+    Some(Job::Trace(Trace {
+        run,
+        part,
+        lines,
+        text,
+        perfetto,
+        commits,
     }))
 }
 
@@ -501,9 +330,34 @@ fn check<'a>(found: &ArgMatches<'a>) -> Option<Job<'a>>
 fn ls<'a>(found: &ArgMatches<'a>) -> Option<Job<'a>>
     ensures { IfSome result (IsJob (Some (codes "ls", rows_of (found_of found.now)))) }
 {
+    let recursive = flag_found(found, "recursive");
     let image = word_found(found, "IMAGE")?;
     let path = word_found(found, "PATH")?;
-    Some(Job::Ls(Ls { image, path }))
+    Some(Job::Ls(Ls {
+        recursive,
+        image,
+        path,
+    }))
+}
+
+// What the words after `get` ask for.
+fn get<'a>(found: &ArgMatches<'a>) -> Option<Job<'a>>
+    ensures { IfSome result (IsJob (Some (codes "get", rows_of (found_of found.now)))) }
+{
+    let image = word_found(found, "IMAGE")?;
+    let path = word_found(found, "PATH")?;
+    let out = option_found(found, "OUT");
+    Some(Job::Get(Get { image, path, out }))
+}
+
+// What the words after `put` ask for.
+fn put<'a>(found: &ArgMatches<'a>) -> Option<Job<'a>>
+    ensures { IfSome result (IsJob (Some (codes "put", rows_of (found_of found.now)))) }
+{
+    let image = word_found(found, "IMAGE")?;
+    let path = word_found(found, "PATH")?;
+    let file = word_found(found, "FILE")?;
+    Some(Job::Put(Put { image, path, file }))
 }
 
 // What the words after `migrate` ask for.
@@ -543,6 +397,7 @@ fn live<'a>(found: &ArgMatches<'a>) -> Option<Job<'a>>
     let script = option_found(found, "record");
     let save = option_found(found, "save");
     let terminal = flag_found(found, "terminal");
+    let progress = flag_found(found, "progress");
     let image = word_found(found, "IMAGE")?;
     Some(Job::Live(Live {
         frames,
@@ -550,6 +405,7 @@ fn live<'a>(found: &ArgMatches<'a>) -> Option<Job<'a>>
         script,
         save,
         terminal,
+        progress,
         image,
     }))
 }
@@ -564,6 +420,15 @@ fn job_found<'a>(matches: &ArgMatches<'a>) -> Option<Job<'a>>
     if let Some(found) = matches.subcommand_matches("run") {
         return run(found);
     }
+    if let Some(found) = matches.subcommand_matches("live") {
+        return live(found);
+    }
+    if let Some(found) = matches.subcommand_matches("play") {
+        return play(found);
+    }
+    if let Some(found) = matches.subcommand_matches("trace") {
+        return trace(found);
+    }
     if let Some(found) = matches.subcommand_matches("mkfs") {
         return mkfs(found);
     }
@@ -573,14 +438,17 @@ fn job_found<'a>(matches: &ArgMatches<'a>) -> Option<Job<'a>>
     if let Some(found) = matches.subcommand_matches("ls") {
         return ls(found);
     }
+    if let Some(found) = matches.subcommand_matches("get") {
+        return get(found);
+    }
+    if let Some(found) = matches.subcommand_matches("put") {
+        return put(found);
+    }
     if let Some(found) = matches.subcommand_matches("migrate") {
         return migrate(found);
     }
     if let Some(found) = matches.subcommand_matches("asm") {
         return asm(found);
-    }
-    if let Some(found) = matches.subcommand_matches("live") {
-        return live(found);
     }
     dump(matches.subcommand_matches("dump")?)
 }
@@ -615,4 +483,13 @@ pub fn job<'a>(alloc: Global, words: &'a [&'a str]) -> Result<Job<'a>, Error>
 {
     let mut command = command(alloc)?;
     job_read(&mut command, words)
+}
+
+/// Whether the words ask that more is said of what is wrong, in a line behind the usual one.
+pub fn explains(words: &[&str]) -> bool {
+    words
+        .iter()
+        .skip(1)
+        .take_while(|word| **word != "--")
+        .any(|word| *word == "--explain")
 }

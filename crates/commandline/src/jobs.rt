@@ -9,20 +9,45 @@ pub enum Job<'a> {
     Flat(Flat<'a>),
     /// Boots a machine from a disk image and gives it the events of a script.
     Run(Run<'a>),
+    /// Boots a machine from a disk image and gives it what is typed.
+    Live(Live<'a>),
+    /// Boots a machine from a disk image and gives it the events of a play, which waits for what the machine does.
+    Play(Play<'a>),
+    /// Does as `Run`, and shows what each process does.
+    Trace(Trace<'a>),
     /// Makes a disk image.
     Mkfs(Mkfs<'a>),
     /// Checks a disk image.
     Check(Check<'a>),
     /// Lists a directory of a disk image.
     Ls(Ls<'a>),
+    /// Reads a file of a disk image.
+    Get(Get<'a>),
+    /// Writes a file of a disk image.
+    Put(Put<'a>),
     /// Makes an image of one of the small format.
     Migrate(Migrate<'a>),
     /// Assembles a text.
     Asm(Asm<'a>),
     /// Shows the instructions of a program file.
     Dump(Dump<'a>),
-    /// Boots a machine from a disk image and gives it what is typed.
-    Live(Live<'a>),
+}
+
+/// What is told of a run besides the console's bytes and how it ended.
+#[derive(Clone, Copy, PartialEq, Eq)]
+pub struct Telling<'a> {
+    /// Whether it is told why the machine stopped, each fault, and what each process is.
+    pub report: bool,
+    /// The name of the file to which the same is written as JSON, where it is.
+    pub json: Option<&'a str>,
+    /// The pid of the process whose registers are told, where any are.
+    pub registers: Option<NonZeroU64>,
+    /// The pid of the process whose pages are told, where any are.
+    pub memory: Option<NonZeroU64>,
+    /// Whether the status to exit with is that of process 1.
+    pub status: bool,
+    /// Whether a terminal is told how many steps are done.
+    pub progress: bool,
 }
 
 /// The words of the command `flat`.
@@ -32,6 +57,8 @@ pub struct Flat<'a> {
     pub frames: u32,
     /// Whether the translator remembers translations.
     pub tlb: bool,
+    /// What is told of it.
+    pub telling: Telling<'a>,
     /// The name of the program's file.
     pub file: &'a str,
     /// The name of the script's file.
@@ -49,10 +76,66 @@ pub struct Run<'a> {
     pub fail: Option<NonZeroU64>,
     /// The name of the file to which the saved image is written, where it is to be saved.
     pub save: Option<&'a str>,
+    /// What is told of it.
+    pub telling: Telling<'a>,
     /// The name of the image's file.
     pub image: &'a str,
     /// The name of the script's file.
     pub script: &'a str,
+}
+
+/// The words of the command `play`.
+#[derive(Clone, Copy, PartialEq, Eq)]
+pub struct Play<'a> {
+    /// The words that it shares with `run`. Its script is the play.
+    pub run: Run<'a>,
+    /// The name of the file to which the script is written that gives a machine the same events, where one is.
+    pub script: Option<&'a str>,
+}
+
+/// Which of its events a trace shows.
+#[derive(Clone, Copy, PartialEq, Eq)]
+pub struct Part<'a> {
+    /// The pid of the only process, where there is one.
+    pub pid: Option<NonZeroU64>,
+    /// The names of the only calls with commas between them, where there are any.
+    pub calls: Option<&'a str>,
+    /// The number of the first event, counted from 1; where none is told, the first of all.
+    pub from: Option<NonZeroU64>,
+    /// The number of the last event; where none is told, the last of all.
+    pub to: Option<NonZeroU64>,
+}
+
+/// How the lines of a trace are written.
+#[derive(Clone, Copy, PartialEq, Eq)]
+pub struct Lines {
+    /// How many bytes are shown of a buffer.
+    pub bytes: u32,
+    /// Whether equal calls that follow each other are shown one by one.
+    pub each: bool,
+    /// Whether a line begins with the number of its event.
+    pub time: bool,
+    /// Whether it is shown which process gets the hart.
+    pub turns: bool,
+    /// Whether a log of commits has the pid where it has the number of the core.
+    pub core_is_pid: bool,
+}
+
+/// The words of the command `trace`.
+#[derive(Clone, Copy, PartialEq, Eq)]
+pub struct Trace<'a> {
+    /// The words that it shares with `run`.
+    pub run: Run<'a>,
+    /// Which events are shown.
+    pub part: Part<'a>,
+    /// How the lines are written.
+    pub lines: Lines,
+    /// The name of the file to which the lines are written, where it isn't standard error.
+    pub text: Option<&'a str>,
+    /// The name of the file to which Chrome's trace events are written, where they are.
+    pub perfetto: Option<&'a str>,
+    /// The name of the file to which a log of commits is written, where one is.
+    pub commits: Option<&'a str>,
 }
 
 /// The words of the command `mkfs`.
@@ -78,10 +161,34 @@ pub struct Check<'a> {
 /// The words of the command `ls`.
 #[derive(Clone, Copy, PartialEq, Eq)]
 pub struct Ls<'a> {
+    /// Whether the directories below are listed, too.
+    pub recursive: bool,
     /// The name of the image's file.
     pub image: &'a str,
     /// The path of the directory, from the root.
     pub path: &'a str,
+}
+
+/// The words of the command `get`.
+#[derive(Clone, Copy, PartialEq, Eq)]
+pub struct Get<'a> {
+    /// The name of the image's file.
+    pub image: &'a str,
+    /// The path of the file, from the root.
+    pub path: &'a str,
+    /// The name of the file to which its bytes are written, where it isn't standard output.
+    pub out: Option<&'a str>,
+}
+
+/// The words of the command `put`.
+#[derive(Clone, Copy, PartialEq, Eq)]
+pub struct Put<'a> {
+    /// The name of the image's file, which is written.
+    pub image: &'a str,
+    /// The path of the file, from the root.
+    pub path: &'a str,
+    /// The name of the file of the host that has its bytes.
+    pub file: &'a str,
 }
 
 /// The words of the command `migrate`.
@@ -122,6 +229,8 @@ pub struct Live<'a> {
     pub save: Option<&'a str>,
     /// Whether standard input is a terminal, which tells by a read of nothing that no key came for a while.
     pub terminal: bool,
+    /// Whether a terminal is told how many steps are done.
+    pub progress: bool,
     /// The name of the image's file.
     pub image: &'a str,
 }

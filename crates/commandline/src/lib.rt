@@ -2,7 +2,11 @@
 #![tactic(auto)]
 
 mod command_line;
+mod declarations;
 mod jobs;
 
-pub use command_line::job;
-pub use jobs::{Asm, Check, Dump, Flat, Job, Live, Ls, Migrate, Mkfs, Run};
+pub use command_line::{explains, job};
+pub use jobs::{
+    Asm, Check, Dump, Flat, Get, Job, Lines, Live, Ls, Migrate, Mkfs, Part, Play, Put, Run,
+    Telling, Trace,
+};

@@ -2,7 +2,7 @@ use Rattle.std.proofs.Common.{[], Bor, List, fold, subst, ℕ}
 use Rattle.std.proofs.lemmas.List.{take_all}
 use Rattle.clap.specs.Simple.{new_app}
 use Rattle.commandline.specs.Declarations.{DeclaresOwn, with_word}
-use Rattle.commandline.specs.declared.command_line.Given.TheVariants as given
+use Rattle.commandline.specs.declared.declarations.Given.TheVariants as given
 use Rattle.commandline.proofs.CommandLineLemmas.{declares-more}
 use Rattle.commandline.proofs.command_line.command_of.Goals as goal
 

@@ -4,16 +4,14 @@ use Rattle.clap.specs.Matches.{found_of}
 use Rattle.commandline.proofs.command_line.flat.Goals as goal
 
 pub returns : goal.returns
-returns c =
-    let frames = c.in_ok-frames.ensures in (
-      rows_of (found_of c.args.found.now),
-      refl,
-      record {
-        text = frames.0;
-        given = frames.1;
-        frames = frames.2;
-        tlb = c.flag_found-tlb.ensures;
-        file = c.in_ok-file.ensures;
-        script = c.in_ok-script.ensures;
-      },
-    )
+returns c = (
+  rows_of (found_of c.args.found.now),
+  refl,
+  record {
+    frames = c.in_ok-frames.ensures;
+    tlb = c.flag_found-tlb.ensures;
+    telling = c.in_ok-telling.ensures;
+    file = c.in_ok-file.ensures;
+    script = c.in_ok-script.ensures;
+  },
+)

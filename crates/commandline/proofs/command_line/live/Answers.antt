@@ -4,18 +4,16 @@ use Rattle.clap.specs.Matches.{found_of}
 use Rattle.commandline.proofs.command_line.live.Goals as goal
 
 pub returns : goal.returns
-returns c =
-    let frames = c.in_ok-frames.ensures in (
-      rows_of (found_of c.args.found.now),
-      refl,
-      record {
-        text = frames.0;
-        given = frames.1;
-        frames = frames.2;
-        quantum = c.in-Ok.ensures;
-        script = c.option_found-script.ensures;
-        save = c.option_found-save.ensures;
-        terminal = c.flag_found-terminal.ensures;
-        image = c.in_ok-image.ensures;
-      },
-    )
+returns c = (
+  rows_of (found_of c.args.found.now),
+  refl,
+  record {
+    frames = c.in_ok-frames.ensures;
+    quantum = c.in-Ok.ensures;
+    script = c.option_found-script.ensures;
+    save = c.option_found-save.ensures;
+    terminal = c.flag_found-terminal.ensures;
+    progress = c.flag_found-progress.ensures;
+    image = c.in_ok-image.ensures;
+  },
+)

@@ -4,4 +4,12 @@ use Rattle.clap.specs.Matches.{found_of}
 use Rattle.commandline.proofs.command_line.ls.Goals as goal
 
 pub returns : goal.returns
-returns c = (rows_of (found_of c.args.found.now), refl, record { image = c.in_ok-image.ensures; path = c.in_ok-path.ensures })
+returns c = (
+  rows_of (found_of c.args.found.now),
+  refl,
+  record {
+    recursive = c.flag_found-recursive.ensures;
+    image = c.in_ok-image.ensures;
+    path = c.in_ok-path.ensures;
+  },
+)

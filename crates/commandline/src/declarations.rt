@@ -1,0 +1,523 @@
+//! The commands, and the words that they take.
+
+pub(crate) const EXAMPLE: &str = "\
+Example: hello.bin is a program of RV64I instructions, loaded at address 0, and hello.txt says
+what happens to the machine, one command a line:
+
+    step 1000       1000 instructions or turns
+    tick 1          a timer interrupt
+    type ls         the keys l, s and return
+    keys 7f04       keys by their codes
+
+xv6 flat --frames 128 hello.bin hello.txt
+
+The console's bytes go to standard output. At the end standard error has `running`, or how the
+machine came to a halt, as `halt 1 InitEnded 0`.
+
+A disk image is made of what a manifest lists, one entry a line, a directory before what is in it:
+
+    dir /bin
+    file /bin/hello hello.bin
+    dev /console 1 0
+
+xv6 mkfs --size 64 --inodes 16 manifest.txt disk.img
+xv6 check disk.img
+xv6 ls disk.img /bin
+
+The second prints `ok 4 inodes 3 blocks`: what is in use. The third prints a line for each entry:
+its name, its type (1 a directory, 2 a file, 3 a device), its inode and its size.
+
+An image of the small format, which has files of up to 274432 bytes, is refused as `fault 2 Magic`.
+One of the large format, with the same files, is made of it, and told as `check` tells it:
+
+xv6 migrate old.img new.img
+
+A machine boots from an image that has a program /init, and leaves another:
+
+xv6 run --save after.img disk.img script.txt
+
+It can be shown a disk of which an access fails, here the 50th: `halt 2 Device` is the answer, or
+`fault 3 Device` where the machine meets it as it boots, and nothing is saved:
+
+xv6 run --fail 50 disk.img script.txt
+
+One types at it in a session, here what standard input has; a record of that is a script:
+
+echo ls | xv6 live --record record.txt disk.img
+xv6 run disk.img record.txt
+
+What a run does is shown call by call, and what the machine is at its end:
+
+xv6 trace disk.img script.txt
+xv6 run --report disk.img script.txt
+
+A play waits for what the machine prints, and for idle machines, where a script counts steps:
+
+    until \"$ \" 10000000
+    type ls
+    until idle 10000000
+
+xv6 play disk.img play.txt
+
+Files of an image are read and written by name:
+
+xv6 get disk.img /README readme.txt
+xv6 put disk.img /hello hello.bin
+
+With --explain a command says more of what is wrong, in a line behind the usual one.
+
+Programs are written as assembly texts:
+
+    start:  li a7, 11       # getpid
+            ecall
+            j start
+
+xv6 asm start.s start
+xv6 dump start
+
+The second prints a line for each word, the first `00000000: 000008b7 lui a7, 0x0`.";
+
+// How a word of a command is given.
+#[derive(Clone, Copy)]
+pub(crate) enum Given<'a> {
+    // It has to be there.
+    Bare,
+    // It may be left out.
+    Last,
+    // As an option with a number, of this default.
+    Number(&'a str),
+    // As an option with a number from 1 on, that may be left out; help calls it so.
+    Count(&'a str),
+    // As an option that may be left out; help calls its value so.
+    Option(&'a str),
+    // As a flag, which is left out or given once.
+    Flag,
+    // As a flag that has a letter, too.
+    Letter(char),
+}
+
+// A word of a command.
+#[derive(Clone, Copy)]
+pub(crate) struct Word<'a> {
+    pub(crate) name: &'a str,
+    pub(crate) given: Given<'a>,
+    pub(crate) help: &'a str,
+}
+
+// A command, and the words that it takes.
+#[derive(Clone, Copy)]
+pub(crate) struct Declared<'a> {
+    pub(crate) name: &'a str,
+    pub(crate) about: &'a str,
+    pub(crate) words: &'a [Word<'a>],
+}
+
+const FRAMES: Word<'static> = Word {
+    name: "frames",
+    given: Given::Number("256"),
+    help: "Frames of 4096 bytes, 64 to 32768",
+};
+
+const TLB: Word<'static> = Word {
+    name: "tlb",
+    given: Given::Flag,
+    help: "Remembers translations, so that most accesses walk no page table",
+};
+
+const FAIL: Word<'static> = Word {
+    name: "fail",
+    given: Given::Count("N"),
+    help: "Lets the N-th access of the disk fail, 1 to 4294967295, to see what the machine does then",
+};
+
+const SAVE: Word<'static> = Word {
+    name: "save",
+    given: Given::Option("OUT"),
+    help: "Where the image is written that the machine leaves, without its processes",
+};
+
+const REPORT: Word<'static> = Word {
+    name: "report",
+    given: Given::Flag,
+    help: "Tells at the end why the machine stopped, each fault, and what each process is",
+};
+
+const JSON: Word<'static> = Word {
+    name: "json",
+    given: Given::Option("FILE"),
+    help: "Where the same is written as JSON",
+};
+
+const REGISTERS: Word<'static> = Word {
+    name: "registers",
+    given: Given::Count("PID"),
+    help: "Tells at the end the registers of the process with this pid",
+};
+
+const MEMORY: Word<'static> = Word {
+    name: "memory",
+    given: Given::Count("PID"),
+    help: "Tells at the end the pages of the process with this pid, with their marks",
+};
+
+const STATUS: Word<'static> = Word {
+    name: "status",
+    given: Given::Flag,
+    help: "Exits with the low eight bits of process 1's status, where it has ended",
+};
+
+const PROGRESS: Word<'static> = Word {
+    name: "progress",
+    given: Given::Flag,
+    help: "Tells on a terminal, while the machine runs, how many steps it has done",
+};
+
+const EXPLAIN: Word<'static> = Word {
+    name: "explain",
+    given: Given::Flag,
+    help: "Says more of what is wrong, in a line behind the usual one",
+};
+
+const SCRIPT: Word<'static> = Word {
+    name: "SCRIPT",
+    given: Given::Bare,
+    help: "What happens: lines `step N`, `tick N`, `keys HEX` and `type TEXT`",
+};
+
+const BOOTED: Word<'static> = Word {
+    name: "IMAGE",
+    given: Given::Bare,
+    help: "The image, which has a program /init",
+};
+
+const IMAGE: Word<'static> = Word {
+    name: "IMAGE",
+    given: Given::Bare,
+    help: "The image",
+};
+
+const PROGRAM_FILE: Word<'static> = Word {
+    name: "ELF",
+    given: Given::Bare,
+    help: "The program's file",
+};
+
+const FLAT: [Word<'static>; 11] = [
+    FRAMES,
+    TLB,
+    REPORT,
+    JSON,
+    REGISTERS,
+    MEMORY,
+    STATUS,
+    PROGRESS,
+    EXPLAIN,
+    Word {
+        name: "FILE",
+        given: Given::Bare,
+        help: "The program: instructions and bytes, from address 0 on",
+    },
+    SCRIPT,
+];
+
+const RUN: [Word<'static>; 13] = [
+    FRAMES, TLB, FAIL, SAVE, REPORT, JSON, REGISTERS, MEMORY, STATUS, PROGRESS, EXPLAIN, BOOTED,
+    SCRIPT,
+];
+
+const TRACE: [Word<'static>; 25] = [
+    FRAMES,
+    TLB,
+    FAIL,
+    SAVE,
+    REPORT,
+    JSON,
+    REGISTERS,
+    MEMORY,
+    STATUS,
+    PROGRESS,
+    EXPLAIN,
+    Word {
+        name: "pid",
+        given: Given::Count("PID"),
+        help: "Shows the process with this pid alone",
+    },
+    Word {
+        name: "calls",
+        given: Given::Option("NAMES"),
+        help: "Shows these calls alone, as `read,write`",
+    },
+    Word {
+        name: "from",
+        given: Given::Count("N"),
+        help: "Shows nothing before the N-th event, counted from 1",
+    },
+    Word {
+        name: "to",
+        given: Given::Count("N"),
+        help: "Shows nothing after the N-th event",
+    },
+    Word {
+        name: "bytes",
+        given: Given::Number("32"),
+        help: "Bytes that are shown of a buffer",
+    },
+    Word {
+        name: "each",
+        given: Given::Flag,
+        help: "Shows equal calls that follow each other one by one",
+    },
+    Word {
+        name: "time",
+        given: Given::Flag,
+        help: "Begins each line with the number of its event",
+    },
+    Word {
+        name: "turns",
+        given: Given::Flag,
+        help: "Shows which process gets the hart",
+    },
+    Word {
+        name: "text",
+        given: Given::Option("FILE"),
+        help: "Where the lines are written, in place of standard error",
+    },
+    Word {
+        name: "perfetto",
+        given: Given::Option("FILE"),
+        help: "Where the same is written as Chrome's trace events, for ui.perfetto.dev",
+    },
+    Word {
+        name: "commits",
+        given: Given::Option("FILE"),
+        help: "Where a line is written for each instruction, as Spike's log of commits",
+    },
+    Word {
+        name: "core-is-pid",
+        given: Given::Flag,
+        help: "Has the pid where a log of commits has the number of the core",
+    },
+    BOOTED,
+    SCRIPT,
+];
+
+const PLAY: [Word<'static>; 14] = [
+    FRAMES,
+    TLB,
+    FAIL,
+    SAVE,
+    REPORT,
+    JSON,
+    REGISTERS,
+    MEMORY,
+    STATUS,
+    PROGRESS,
+    EXPLAIN,
+    Word {
+        name: "script",
+        given: Given::Option("OUT"),
+        help: "Where the script is written, line by line, that gives a machine the same events",
+    },
+    BOOTED,
+    Word {
+        name: "PLAY",
+        given: Given::Bare,
+        help: "What happens: a script's lines, and `until`, `every`, `repeat` and `random`",
+    },
+];
+
+const MKFS: [Word<'static>; 5] = [
+    Word {
+        name: "size",
+        given: Given::Number("2000"),
+        help: "Blocks of 1024 bytes, 32 to 131072",
+    },
+    Word {
+        name: "inodes",
+        given: Given::Number("200"),
+        help: "Inodes, 16 to 8192",
+    },
+    EXPLAIN,
+    Word {
+        name: "MANIFEST",
+        given: Given::Bare,
+        help: "What is made: lines `dir PATH`, `file PATH HOSTFILE` and `dev PATH MAJOR MINOR`",
+    },
+    Word {
+        name: "IMAGE",
+        given: Given::Bare,
+        help: "The image, which is written",
+    },
+];
+
+const CHECK: [Word<'static>; 2] = [EXPLAIN, IMAGE];
+
+const LS: [Word<'static>; 4] = [
+    Word {
+        name: "recursive",
+        given: Given::Letter('R'),
+        help: "Lists the directories below, too",
+    },
+    EXPLAIN,
+    IMAGE,
+    Word {
+        name: "PATH",
+        given: Given::Bare,
+        help: "The directory's path, from the root",
+    },
+];
+
+const GET: [Word<'static>; 4] = [
+    EXPLAIN,
+    IMAGE,
+    Word {
+        name: "PATH",
+        given: Given::Bare,
+        help: "The file's path, from the root",
+    },
+    Word {
+        name: "OUT",
+        given: Given::Last,
+        help: "Where its bytes are written, in place of standard output",
+    },
+];
+
+const PUT: [Word<'static>; 4] = [
+    EXPLAIN,
+    Word {
+        name: "IMAGE",
+        given: Given::Bare,
+        help: "The image, which is written",
+    },
+    Word {
+        name: "PATH",
+        given: Given::Bare,
+        help: "The file's path, from the root, which is made or made anew",
+    },
+    Word {
+        name: "FILE",
+        given: Given::Bare,
+        help: "The file of the host that has its bytes",
+    },
+];
+
+const MIGRATE: [Word<'static>; 3] = [
+    EXPLAIN,
+    Word {
+        name: "OLD",
+        given: Given::Bare,
+        help: "The image of the small format",
+    },
+    Word {
+        name: "NEW",
+        given: Given::Bare,
+        help: "The image of the large format, which is written",
+    },
+];
+
+const ASM: [Word<'static>; 3] = [
+    EXPLAIN,
+    Word {
+        name: "TEXT",
+        given: Given::Bare,
+        help: "The text",
+    },
+    Word {
+        name: "ELF",
+        given: Given::Bare,
+        help: "The program's file, which is written",
+    },
+];
+
+const DUMP: [Word<'static>; 2] = [EXPLAIN, PROGRAM_FILE];
+
+const LIVE: [Word<'static>; 8] = [
+    FRAMES,
+    Word {
+        name: "quantum",
+        given: Given::Count("N"),
+        help: "Steps between two ticks while a process is ready, 100000 if left out",
+    },
+    Word {
+        name: "record",
+        given: Given::Option("SCRIPT"),
+        help: "Where the script is written, line by line, that gives a machine the same events",
+    },
+    SAVE,
+    Word {
+        name: "terminal",
+        given: Given::Flag,
+        help: "Standard input is a terminal that answers within a tenth of a second (make live): ^A x ends the session, ^P shows the processes",
+    },
+    PROGRESS,
+    EXPLAIN,
+    BOOTED,
+];
+
+pub(crate) const COMMANDS: [Declared<'static>; 13] = [
+    Declared {
+        name: "flat",
+        about: "Boots a flat program and runs a script of events",
+        words: &FLAT,
+    },
+    Declared {
+        name: "run",
+        about: "Boots a machine from a disk image and runs a script of events",
+        words: &RUN,
+    },
+    Declared {
+        name: "live",
+        about: "Boots a machine from a disk image and gives it what is typed",
+        words: &LIVE,
+    },
+    Declared {
+        name: "play",
+        about: "Boots a machine from a disk image and runs a play, which waits for what the machine does",
+        words: &PLAY,
+    },
+    Declared {
+        name: "trace",
+        about: "Does as `run`, and shows each call, fault and end of a process",
+        words: &TRACE,
+    },
+    Declared {
+        name: "mkfs",
+        about: "Makes a disk image of what a manifest lists",
+        words: &MKFS,
+    },
+    Declared {
+        name: "check",
+        about: "Checks that a disk image denotes files",
+        words: &CHECK,
+    },
+    Declared {
+        name: "ls",
+        about: "Lists a directory of a disk image",
+        words: &LS,
+    },
+    Declared {
+        name: "get",
+        about: "Reads a file of a disk image",
+        words: &GET,
+    },
+    Declared {
+        name: "put",
+        about: "Writes a file of a disk image",
+        words: &PUT,
+    },
+    Declared {
+        name: "migrate",
+        about: "Makes an image of the large format of one of the small format",
+        words: &MIGRATE,
+    },
+    Declared {
+        name: "asm",
+        about: "Makes a program file of an assembly text",
+        words: &ASM,
+    },
+    Declared {
+        name: "dump",
+        about: "Shows the instructions of a program file",
+        words: &DUMP,
+    },
+];
