@@ -1,10 +1,13 @@
 //! Does a job.
 
 mod images;
+mod openings;
+mod plays;
 mod program_files;
 mod runs;
 mod seat;
 mod sessions;
+mod traces;
 
 ghost use Rattle.std.specs.Prelude.{◌≤◌, IfOk, vec_len};
 
@@ -12,6 +15,7 @@ use crate::host::{Front, Host, Why};
 use crate::report::{Failure, print, tell};
 use commandline::{Flat, Job, Mkfs, Run};
 use image::Summary;
+use live::Nobody;
 use std::alloc::Global;
 use std::fmt;
 use std::io::Write;
@@ -94,7 +98,7 @@ fn perform_flat<H: Host, W: Write, E: Write>(
     stdout: &mut W,
     stderr: &mut E,
 ) -> u8 {
-    match runs::flat(alloc, words, host, stdout) {
+    match runs::flat(alloc, words, host, &mut Nobody, stdout) {
         Ok(end) => {
             let _ = writeln!(stderr, "{end}");
             end.status()
@@ -111,7 +115,7 @@ fn perform_run<H: Host, W: Write, E: Write>(
     stdout: &mut W,
     stderr: &mut E,
 ) -> u8 {
-    let (end, written) = match runs::run(alloc, words, host, stdout) {
+    let (end, written) = match runs::run(alloc, words, host, &mut Nobody, stdout) {
         Ok((end, disk)) => (end, runs::keep(words.save, disk, host)),
         Err(failure) => return tell(&failure, stderr),
     };
@@ -177,5 +181,9 @@ pub fn perform<H: Host, W: Write, E: Write>(
             stderr,
         ),
         Job::Live(words) => sessions::perform(alloc, words, host, stdout, stderr),
+        Job::Play(words) => plays::perform(alloc, words, host, stdout, stderr),
+        Job::Trace(words) => traces::perform(alloc, words, host, stdout, stderr),
+        Job::Get(words) => openings::get(alloc, words, host, stdout, stderr),
+        Job::Put(words) => openings::put(alloc, words, host, stderr),
     }
 }

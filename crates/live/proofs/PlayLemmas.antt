@@ -1,7 +1,9 @@
 -- How a run over some events goes on over others.
 use Rattle.std.proofs.Common.{◌≡◌, ◌∙◌, ℕ, ℤ, ◌+◌, List, ◌++◌, take, length, Option, Some, None, Result, Ok, Err, ap, sym, arith, append_assoc, append-nil, length-append, refl, []}
+use Rattle.std.proofs.KnownBytes.{Appends-kept}
 use Rattle.std.proofs.Math.Seq.{take-append-add}
 use Rattle.std.proofs.lemmas.List.{take-append-le}
+use Rattle.std.specs.Io.KnownBytes.{Keeps}
 use Rattle.machine.proofs.Runs.{run-append, then_runs}
 use Rattle.machine.proofs.RunLemmas.{Appends-trans, Rises-later, SoFar, up_now}
 use Rattle.calls.specs.declared.halt.Halt.{Halt}
@@ -12,6 +14,10 @@ use Rattle.unixmodel.specs.Calls.{After}
 use Rattle.unixmodel.specs.declared.event.Event.{Event}
 use Rattle.unixmodel.specs.Run.{after_bytes, run}
 use Rattle.unixmodel.specs.State.{State}
+
+-- the bytes so far are written out
+pub so-far-kept : {first now : View} {es : List Event} {before mid after : Option (List ℕ)} → SoFar first now es before mid → Keeps mid after → SoFar first now es before after
+so-far-kept h keeps = record { began = h.began; done = record h.done { printed = Appends-kept _ _ _ _ h.done.printed keeps } }
 
 -- the model's run over both lists
 both : (first now : View) (xs ys : List Event) (before mid : Option (List ℕ))

@@ -4,5 +4,7 @@
 pub mod play;
 pub mod session;
 mod terminal;
+mod watch;
 
 pub use terminal::{Given, MOST_KEYS, Mood, Move, Terminal};
+pub use watch::{Nobody, Watch};

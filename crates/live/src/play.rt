@@ -1,14 +1,18 @@
 //! Gives a machine the events of a script.
 ghost use Rattle.std.specs.Prelude.{◌≤◌, map, replicate};
-ghost use Rattle.machine.specs.Gives.{RunGives};
+ghost use Rattle.std.specs.Io.KnownBytes.{Keeps};
+ghost use Rattle.machine.specs.Gives.{RunGives, StepGives};
 ghost use Rattle.machine.specs.View.{IsUp};
 ghost use Rattle.unixmodel.specs.Failures.{Rises};
+ghost use Rattle.unixmodel.specs.Next.{next};
 ghost use Rattle.unixmodel.specs.declared.event.Event.TheVariants.{Key};
 ghost use Rattle.live.specs.Plays.{events_of, script_events};
 
+use crate::watch::Watch;
 use blockdev::BlockDev;
-use console::Out;
+use console::{Out, Writer};
 use machine::{Halt, Machine};
+use std::io::Write;
 use sv39::Translate;
 use texts::Command;
 use unixmodel::event::Event;
@@ -16,27 +20,59 @@ use unixmodel::event::Event;
 /// The key that ends a typed line.
 const LINE_END: u8 = 0x0a;
 
+/// How many events there are at most between two times at which the console's bytes are written out.
+const BATCH: u32 = 65536;
+
+// One event, at which somebody looks on.
+fn step<D: BlockDev, T: Translate + Drop, V: Watch, W: Out>(
+    machine: &mut Machine<D, T>,
+    event: Event,
+    watch: &mut V,
+    out: &mut W,
+) -> Result<(), Halt>
+    ensures gives { StepGives machine.old machine.new (next machine.old.state event) (W.contents out.old) (W.contents out.new) (Rises (W.failures out.old) (W.failures out.new)) result }
+    ensures later { W.failures out.old ≤ W.failures out.new }
+{
+    watch.before(machine, event);
+    let ended = machine.step(event, out);
+    watch.after(machine, event, ended);
+    ended
+}
+
+// Writes out the console's bytes where a batch of events begins. What the writer doesn't take then it keeps back, and is asked again.
+fn write_out_at<W: Write>(made: u32, out: &mut Writer<W>)
+    ensures kept { Keeps (W.contents out.old.inner) (W.contents out.new.inner) }
+    ensures later { out.old.failed ≤ out.new.failed }
+{
+    if made % BATCH == 0 {
+        let _ = out.flush();
+    }
+}
+
 // The same event, so many times.
-fn repeat<D: BlockDev, T: Translate + Drop, W: Out>(
+fn repeat<D: BlockDev, T: Translate + Drop, V: Watch, W: Write>(
     machine: &mut Machine<D, T>,
     event: Event,
     times: u32,
-    out: &mut W,
+    watch: &mut V,
+    out: &mut Writer<W>,
 ) -> Result<(), Halt>
     requires { IsUp machine.old }
-    ensures gives { RunGives machine.old machine.new (replicate times event) (W.contents out.old) (W.contents out.new) (Rises (W.failures out.old) (W.failures out.new)) result }
-    ensures later { W.failures out.old ≤ W.failures out.new }
+    ensures gives { RunGives machine.old machine.new (replicate times event) (W.contents out.old.inner) (W.contents out.new.inner) (Rises out.old.failed out.new.failed) result }
+    ensures later { out.old.failed ≤ out.new.failed }
 {
-    for _made in 0..times {
-        machine.step(event, out)?;
+    for made in 0..times {
+        write_out_at(made, out);
+        step(machine, event, watch, out)?;
     }
     Ok(())
 }
 
 // Keys, one after the other.
-pub(crate) fn press<D: BlockDev, T: Translate + Drop, W: Out>(
+pub(crate) fn press<D: BlockDev, T: Translate + Drop, V: Watch, W: Out>(
     machine: &mut Machine<D, T>,
     keys: &[u8],
+    watch: &mut V,
     out: &mut W,
 ) -> Result<(), Halt>
     requires { IsUp machine.old }
@@ -44,45 +80,47 @@ pub(crate) fn press<D: BlockDev, T: Translate + Drop, W: Out>(
     ensures later { W.failures out.old ≤ W.failures out.new }
 {
     for key in keys {
-        machine.step(Event::Key(*key), out)?;
+        step(machine, Event::Key(*key), watch, out)?;
     }
     Ok(())
 }
 
 // The events of one command.
-fn obey<D: BlockDev, T: Translate + Drop, W: Out>(
+fn obey<D: BlockDev, T: Translate + Drop, V: Watch, W: Write>(
     machine: &mut Machine<D, T>,
     command: &Command<'_>,
-    out: &mut W,
+    watch: &mut V,
+    out: &mut Writer<W>,
 ) -> Result<(), Halt>
     requires { IsUp machine.old }
-    ensures gives { RunGives machine.old machine.new (events_of command.now) (W.contents out.old) (W.contents out.new) (Rises (W.failures out.old) (W.failures out.new)) result }
-    ensures later { W.failures out.old ≤ W.failures out.new }
+    ensures gives { RunGives machine.old machine.new (events_of command.now) (W.contents out.old.inner) (W.contents out.new.inner) (Rises out.old.failed out.new.failed) result }
+    ensures later { out.old.failed ≤ out.new.failed }
 {
     match command {
-        Command::Step(times) => repeat(machine, Event::Step, *times, out),
-        Command::Tick(times) => repeat(machine, Event::Tick, *times, out),
-        Command::Keys(keys) => press(machine, keys.as_slice(), out),
+        Command::Step(times) => repeat(machine, Event::Step, *times, watch, out),
+        Command::Tick(times) => repeat(machine, Event::Tick, *times, watch, out),
+        Command::Keys(keys) => press(machine, keys.as_slice(), watch, out),
         Command::Type(text) => {
-            press(machine, text, out)?;
-            press(machine, &[LINE_END], out)
+            press(machine, text, watch, out)?;
+            press(machine, &[LINE_END], watch, out)
         }
     }
 }
 
 /// The events of a script, up to the first at which the machine halts: the machine's run over them
-/// all, without a list of them.
-pub fn play<D: BlockDev, T: Translate + Drop, W: Out>(
+/// all, without a list of them. The console's bytes are written out as the machine runs.
+pub fn play<D: BlockDev, T: Translate + Drop, V: Watch, W: Write>(
     machine: &mut Machine<D, T>,
     script: &[Command<'_>],
-    out: &mut W,
+    watch: &mut V,
+    out: &mut Writer<W>,
 ) -> Result<(), Halt>
     requires { IsUp machine.old }
-    ensures gives { RunGives machine.old machine.new (script_events script.now) (W.contents out.old) (W.contents out.new) (Rises (W.failures out.old) (W.failures out.new)) result }
-    ensures later { W.failures out.old ≤ W.failures out.new }
+    ensures gives { RunGives machine.old machine.new (script_events script.now) (W.contents out.old.inner) (W.contents out.new.inner) (Rises out.old.failed out.new.failed) result }
+    ensures later { out.old.failed ≤ out.new.failed }
 {
     for command in script {
-        obey(machine, command, out)?;
+        obey(machine, command, watch, out)?;
     }
     Ok(())
 }

@@ -9,6 +9,7 @@ ghost use Rattle.unixmodel.specs.declared.event.Event.TheVariants as event;
 
 use crate::play::press;
 use crate::terminal::{Given, Mood, Move, Terminal};
+use crate::watch::Nobody;
 use blockdev::BlockDev;
 use console::{Out, Writer};
 use machine::{Halt, Machine};
@@ -108,7 +109,7 @@ fn type_keys<D: BlockDev, T: Translate + Drop, S: Terminal, W: Out>(
     ensures gives { S.gives terminal.new ≡ S.gives terminal.old }
 {
     terminal.note(Move::Keys(keys));
-    press(machine, keys, out)
+    press(machine, keys, &mut Nobody, out)
 }
 
 // A tick where it is due, which is recorded.

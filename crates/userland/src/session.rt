@@ -4,6 +4,7 @@ ghost use Rattle.machine.specs.View.{IsUp};
 use anyhow::{Context, bail};
 use blockdev::{BlockDev, MemDisk};
 use console::Writer;
+use live::Nobody;
 use live::play::play;
 use machine::{Halt, Machine, boot};
 use std::alloc::{AllocError, Global};
@@ -115,7 +116,7 @@ fn run<D: BlockDev, T: Translate + Drop>(
     requires { IsUp machine.old }
 {
     let mut out = Writer::new(Vec::new(alloc));
-    let ended = match play(machine, commands, &mut out) {
+    let ended = match play(machine, commands, &mut Nobody, &mut out) {
         Ok(()) => None,
         Err(Halt::InitEnded(status)) => Some(status),
         Err(_) => bail!("the machine failed"),

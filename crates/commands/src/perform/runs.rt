@@ -15,6 +15,7 @@ use crate::report::{End, Failure};
 use blockdev::{BlockDev, FailAt, MemDisk};
 use commandline::{Flat, Run};
 use console::Writer;
+use live::Watch;
 use live::play::play;
 use machine::{BootFault, Halt, Machine, boot, boot_flat_with};
 use std::alloc::Global;
@@ -47,16 +48,18 @@ pub fn end_of(ended: Result<(), Halt>, is_written: bool) -> End
 }
 
 // The events of a script, whose bytes for the console are written out.
-fn play_out<D: BlockDev, T: Translate + Drop, W: Write>(
+fn play_out<D: BlockDev, T: Translate + Drop, V: Watch, W: Write>(
     machine: &mut Machine<D, T>,
     script: &[Command<'_>],
+    watch: &mut V,
     stdout: W,
 ) -> (End, W)
     requires { IsUp machine.old }
     ensures { PlaysOut machine.old machine.new (script_events script.now) (W.contents stdout) (W.contents result.1) result.0 }
 {
     let mut out = Writer::new(stdout);
-    let ended = play(machine, script, &mut out);
+    let ended = play(machine, script, watch, &mut out);
+    watch.end(machine);
     let mut stdout = out.into_inner();
     let is_written = stdout.flush().is_ok();
     (end_of(ended, is_written), stdout)
@@ -81,27 +84,29 @@ pub fn leave<D: BlockDev, T: Translate + Drop>(
 }
 
 // The events of a script; then the machine is saved, if it is to be and neither its device nor the console has failed.
-fn run_machine<D: BlockDev, T: Translate + Drop, W: Write>(
+fn run_machine<D: BlockDev, T: Translate + Drop, V: Watch, W: Write>(
     mut machine: Machine<D, T>,
     script: &[Command<'_>],
     saves: bool,
+    watch: &mut V,
     stdout: W,
 ) -> Ran<D, W>
     requires { IsUp machine }
     ensures { Leaves D.content D.failures machine (script_events script.now) (W.contents stdout) (W.contents result.stdout) saves result.end result.disk }
 {
-    let (end, stdout) = play_out(&mut machine, script, stdout);
+    let (end, stdout) = play_out(&mut machine, script, watch, stdout);
     let (end, disk) = leave(machine, saves, end);
     Ran { end, disk, stdout }
 }
 
 // Boots a flat program over a translator and gives it the events of a script.
-fn run_flat<T: Translate + Drop, W: Write + Drop>(
+fn run_flat<T: Translate + Drop, V: Watch, W: Write + Drop>(
     alloc: Global,
     program: &[u8],
     translator: T,
     frames: u32,
     script: &[Command<'_>],
+    watch: &mut V,
     stdout: W,
 ) -> Result<(End, W), BootFault>
     ensures ran { IfOk result (λ ran. IsFlatRun program.now frames (script_events script.now) (W.contents stdout) (W.contents ran.1) ran.0) }
@@ -110,23 +115,24 @@ fn run_flat<T: Translate + Drop, W: Write + Drop>(
     ensures only { OnErr result (IsErrOf result BootFault.FrameCount ⊎ (IsErrOf result BootFault.NoInit ⊎ IsErrOf result BootFault.NoMemory)) }
 {
     let mut machine = boot_flat_with(alloc, program, translator, frames)?;
-    Ok(play_out(&mut machine, script, stdout))
+    Ok(play_out(&mut machine, script, watch, stdout))
 }
 
 // Boots a machine from a disk over a translator and gives it the events of a script.
-fn run_disk<D: BlockDev, T: Translate + Drop, W: Write + Drop>(
+fn run_disk<D: BlockDev, T: Translate + Drop, V: Watch, W: Write + Drop>(
     alloc: Global,
     disk: D,
     translator: T,
     words: &Run<'_>,
     script: &[Command<'_>],
+    watch: &mut V,
     stdout: W,
 ) -> Result<Ran<D, W>, BootFault>
     ensures ran { IfOk result (λ ran. IsImageRun D.content D.failures disk words.now.frames (script_events script.now) (W.contents stdout) (W.contents ran.stdout) (is_some words.now.save) ran.end ran.disk) }
     ensures refused { IfErr result (IsUnbooted D.failures (image_of (D.content disk)) (D.failures disk) words.now.frames) }
 {
     let machine = boot(alloc, disk, translator, words.frames)?;
-    Ok(run_machine(machine, script, words.save.is_some(), stdout))
+    Ok(run_machine(machine, script, words.save.is_some(), watch, stdout))
 }
 
 // Of what is left of a disk of which one access fails, the disk below.
@@ -137,22 +143,25 @@ fn inner_of<D: BlockDev>(failing: Option<FailAt<D>>) -> Option<D>
 }
 
 // The same, with a disk of which one access fails, if the words ask for it.
-fn run_with<D: BlockDev, T: Translate + Drop, W: Write + Drop>(
+fn run_with<D: BlockDev, T: Translate + Drop, V: Watch, W: Write + Drop>(
     alloc: Global,
     disk: D,
     translator: T,
     words: &Run<'_>,
     script: &[Command<'_>],
+    watch: &mut V,
     stdout: W,
 ) -> Result<Ran<D, W>, BootFault>
     ensures ran { IfOk result (λ ran. IsRunWith D.content D.failures words.now.fail disk words.now.frames (script_events script.now) (W.contents stdout) (W.contents ran.stdout) (is_some words.now.save) ran.end ran.disk) }
     ensures refused { IfErr result (IsUnbootedWith D.failures words.now.fail (image_of (D.content disk)) (D.failures disk) words.now.frames) }
 {
     let Some(n) = words.fail else {
-        return run_disk(alloc, disk, translator, words, script, stdout);
+        return run_disk(alloc, disk, translator, words, script, watch, stdout);
     };
     let failing = FailAt::new(disk, n);
-    let Ran { end, disk, stdout } = run_disk(alloc, failing, translator, words, script, stdout)?;
+    let Ran { end, disk, stdout } = run_disk(
+        alloc, failing, translator, words, script, watch, stdout,
+    )?;
     Ok(Ran {
         end,
         disk: inner_of(disk),
@@ -161,18 +170,27 @@ fn run_with<D: BlockDev, T: Translate + Drop, W: Write + Drop>(
 }
 
 // A flat program over the translator that the words ask for.
-fn flat_over<'a, W: Write>(
+fn flat_over<'a, V: Watch, W: Write>(
     alloc: Global,
     words: Flat<'a>,
     program: &[u8],
     script: &[Command<'_>],
+    watch: &mut V,
     stdout: &mut W,
 ) -> Result<End, Failure<'a>> {
     let ended = if words.tlb {
         let cache = Tlb::<64>::new();
-        run_flat(alloc, program, cache, words.frames, script, stdout)
+        run_flat(alloc, program, cache, words.frames, script, watch, stdout)
     } else {
-        run_flat(alloc, program, Plain::new(), words.frames, script, stdout)
+        run_flat(
+            alloc,
+            program,
+            Plain::new(),
+            words.frames,
+            script,
+            watch,
+            stdout,
+        )
     };
     match ended {
         Ok((end, _)) => Ok(end),
@@ -182,31 +200,40 @@ fn flat_over<'a, W: Write>(
 
 /// The command `flat`. Its files are read in the order of the command line, and the script is
 /// parsed, before anything is booted.
-pub fn flat<'a, H: Host, W: Write>(
+pub fn flat<'a, H: Host, V: Watch, W: Write>(
     alloc: Global,
     words: Flat<'a>,
     host: &mut H,
+    watch: &mut V,
     stdout: &mut W,
 ) -> Result<End, Failure<'a>> {
     let program = read_front(host, words.file, MOST_PROGRAM)?.bytes;
     let bytes = read(host, words.script)?;
     let script = script_of(alloc, words.script, bytes.as_slice())?;
-    flat_over(alloc, words, program.as_slice(), script.as_slice(), stdout)
+    flat_over(
+        alloc,
+        words,
+        program.as_slice(),
+        script.as_slice(),
+        watch,
+        stdout,
+    )
 }
 
 // A machine over the translator that the words ask for.
-fn run_over<'a, W: Write>(
+fn run_over<'a, V: Watch, W: Write>(
     alloc: Global,
     words: Run<'a>,
     disk: MemDisk,
     script: &[Command<'_>],
+    watch: &mut V,
     stdout: &mut W,
 ) -> Result<(End, Option<MemDisk>), Failure<'a>> {
     let ran = if words.tlb {
         let cache = Tlb::<64>::new();
-        run_with(alloc, disk, cache, &words, script, stdout)
+        run_with(alloc, disk, cache, &words, script, watch, stdout)
     } else {
-        run_with(alloc, disk, Plain::new(), &words, script, stdout)
+        run_with(alloc, disk, Plain::new(), &words, script, watch, stdout)
     };
     match ran {
         Ok(ran) => Ok((ran.end, ran.disk)),
@@ -216,17 +243,18 @@ fn run_over<'a, W: Write>(
 
 /// The command `run`: how it ended, and the disk that is left where it was to be saved. Its files are read in the order of
 /// the command line, and the script is parsed, before there is a disk.
-pub fn run<'a, H: Host, W: Write>(
+pub fn run<'a, H: Host, V: Watch, W: Write>(
     alloc: Global,
     words: Run<'a>,
     host: &mut H,
+    watch: &mut V,
     stdout: &mut W,
 ) -> Result<(End, Option<MemDisk>), Failure<'a>> {
     let image = read_image(host, words.image)?;
     let bytes = read(host, words.script)?;
     let script = script_of(alloc, words.script, bytes.as_slice())?;
     let disk = disk_of(image)?;
-    run_over(alloc, words, disk, script.as_slice(), stdout)
+    run_over(alloc, words, disk, script.as_slice(), watch, stdout)
 }
 
 /// Writes the image of the disk that is left, if there is one, to the file of this name.

@@ -5,6 +5,6 @@ use Rattle.live.proofs.play.repeat.Given as goal
 -- the events so far are done as the model says
 abbrev pub invariant-loop-made : goal.invariant-loop-made
 invariant-loop-made g l = record {
-  so_far : SoFar l.fn.machine l.machine (take l._made (replicate l.times l.event)) (g.W.Out.contents l.fn.out) (g.W.Out.contents l.out);
-  later : g.W.Out.failures l.fn.out ≤ g.W.Out.failures l.out;
+  so_far : SoFar l.fn.machine l.machine (take l.made (replicate l.times l.event)) (g.W.Write.contents l.fn.out.inner) (g.W.Write.contents l.out.inner);
+  later : l.fn.out.failed ≤ l.out.failed;
 }

@@ -1,0 +1,47 @@
+//! What looks on while a machine is given events.
+
+use blockdev::BlockDev;
+use machine::{Halt, Machine};
+use sv39::Translate;
+use unixmodel::event::Event;
+
+/// Looks at a machine before and after each of its events. It can't change what they do.
+pub trait Watch {
+    /// The machine is about to be given this event.
+    fn before<D: BlockDev, T: Translate + Drop>(&mut self, machine: &Machine<D, T>, event: Event);
+
+    /// The machine was given this event. `ended` is what it answered.
+    fn after<D: BlockDev, T: Translate + Drop>(
+        &mut self,
+        machine: &Machine<D, T>,
+        event: Event,
+        ended: Result<(), Halt>,
+    );
+
+    /// No more events come.
+    fn end<D: BlockDev, T: Translate + Drop>(&mut self, machine: &Machine<D, T>);
+}
+
+/// Looks at nothing.
+#[derive(Clone, Copy)]
+pub struct Nobody;
+
+impl Watch for Nobody {
+    #[inline]
+    fn before<D: BlockDev, T: Translate + Drop>(
+        &mut self,
+        _machine: &Machine<D, T>,
+        _event: Event,
+    ) {}
+
+    #[inline]
+    fn after<D: BlockDev, T: Translate + Drop>(
+        &mut self,
+        _machine: &Machine<D, T>,
+        _event: Event,
+        _ended: Result<(), Halt>,
+    ) {}
+
+    #[inline]
+    fn end<D: BlockDev, T: Translate + Drop>(&mut self, _machine: &Machine<D, T>) {}
+}
