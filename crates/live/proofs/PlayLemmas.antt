@@ -15,9 +15,12 @@ use Rattle.unixmodel.specs.declared.event.Event.{Event}
 use Rattle.unixmodel.specs.Run.{after_bytes, run}
 use Rattle.unixmodel.specs.State.{State}
 
--- the bytes so far are written out
+-- the bytes are written out
+pub done-kept : {first now : View} {all : After} {before mid after : Option (List ℕ)} {r : Option ℤ} → IsDone first now all before mid r → Keeps mid after → IsDone first now all before after r
+done-kept h keeps = record { state = h.state; halts = h.halts; sound = h.sound; printed = Appends-kept _ _ _ _ h.printed keeps; later = h.later }
+
 pub so-far-kept : {first now : View} {es : List Event} {before mid after : Option (List ℕ)} → SoFar first now es before mid → Keeps mid after → SoFar first now es before after
-so-far-kept h keeps = record { began = h.began; done = record h.done { printed = Appends-kept _ _ _ _ h.done.printed keeps } }
+so-far-kept h keeps = record { began = h.began; done = done-kept h.done keeps }
 
 -- the model's run over both lists
 both : (first now : View) (xs ys : List Event) (before mid : Option (List ℕ))

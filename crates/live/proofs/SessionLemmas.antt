@@ -3,12 +3,11 @@ use Rattle.std.proofs.Common.{◌≡◌, ◌∙◌, ℕ, ◌+◌, ◌-◌, ◌<�
 use Rattle.std.specs.Prelude.{OnErr, OnOk, length, option_map, suc, zero}
 use Rattle.std.specs.Io.KnownBytes.{Keeps}
 use Rattle.std.specs.Result.{is_err}
-use Rattle.std.proofs.KnownBytes.{Appends-kept}
 use Rattle.std.proofs.lemmas.List.{replicate_more, take-replicate}
 use Rattle.std.proofs.lemmas.List.Sums.{fold-append}
 use Rattle.calls.specs.declared.halt.Halt.{Halt}
 use Rattle.kernel.specs.Idle.{is_idle}
-use Rattle.live.proofs.PlayLemmas.{runs_on, stops_in}
+use Rattle.live.proofs.PlayLemmas.{done-kept, runs_on, stops_in}
 use Rattle.live.specs.declared.terminal.Given.{Given}
 use Rattle.live.specs.declared.terminal.Mood.{Mood}
 use Rattle.live.specs.declared.terminal.Mood.TheVariants as mood
@@ -94,16 +93,7 @@ module _ {first now : View} {before mid : Option (List ℕ)} {f0 f1 : ℕ} {k0 k
     events = h.events;
     follows = h.follows;
     records = h.records;
-    runs = (
-      h.runs.0,
-      record {
-        state = h.runs.1.state;
-        halts = h.runs.1.halts;
-        sound = h.runs.1.sound;
-        printed = Appends-kept _ _ _ _ h.runs.1.printed keeps;
-        later = h.runs.1.later;
-      },
-    );
+    runs = (h.runs.0, done-kept h.runs.1 keeps);
     later = let a = h.later in omega arith;
   }
 
