@@ -5,6 +5,9 @@ mod host;
 pub mod perform;
 mod report;
 
-pub use commandline::{Asm, Check, Dump, Flat, Job, Live, Ls, Migrate, Mkfs, Run, job};
+pub use commandline::{
+    Asm, Check, Dump, Flat, Get, Job, Lines, Live, Ls, Migrate, Mkfs, Part, Play, Put, Run, Telling,
+    Trace, explains, job,
+};
 pub use host::{Front, Host, HostFault, Why};
 pub use report::refuse;

@@ -7,7 +7,7 @@ mod runs;
 mod words;
 
 use commands::perform::perform;
-use commands::{Flat, Host, HostFault, Job};
+use commands::{Flat, Host, HostFault, Job, Telling};
 use std::alloc::{AllocError, Global};
 use std::io;
 use std::io::Write;
@@ -24,6 +24,16 @@ const HELLO: &[u32] = &[
     0x0020_0893, // addi a7, zero, 2
     0x0000_0073, // ecall                # exit
 ];
+
+// Nothing is told of a run besides the console's bytes and how it ended.
+const UNTOLD: Telling<'static> = Telling {
+    report: false,
+    json: None,
+    registers: None,
+    memory: None,
+    status: false,
+    progress: false,
+};
 
 // How a process ends at a fault.
 const DEAD: &str = "halt 1 InitEnded -1\n";
@@ -99,6 +109,7 @@ fn flat(frames: u32, tlb: bool) -> Job<'static> {
     Job::Flat(Flat {
         frames,
         tlb,
+        telling: UNTOLD,
         file: "program",
         script: "script",
     })
@@ -483,6 +494,7 @@ fn reads_files_in_order(rt: HostRuntime) {
         let job = Job::Flat(Flat {
             frames: 1,
             tlb: false,
+            telling: UNTOLD,
             file,
             script,
         });

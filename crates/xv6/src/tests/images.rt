@@ -435,6 +435,7 @@ fn tells_directories_that_are_not_reached(rt: HostRuntime) {
 
 fn ls(path: &str) -> Job<'_> {
     Job::Ls(Ls {
+        recursive: false,
         image: "image",
         path,
     })
@@ -517,6 +518,7 @@ fn lists_the_image_of_a_machine_without_a_disk(rt: HostRuntime) {
 fn lists_no_image_that_is_missing(rt: HostRuntime) {
     let mut files = with_files(&rt, "", 0);
     let job = Job::Ls(Ls {
+        recursive: false,
         image: "nosuch",
         path: "/",
     });

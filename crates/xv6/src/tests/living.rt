@@ -2,7 +2,7 @@
 ghost use Rattle.std.specs.Prelude.{◌≤◌, IfOk, length};
 
 use crate::tests::runs::{WITH_CONSOLE, with_image};
-use crate::tests::{expect_told, output_of};
+use crate::tests::{UNTOLD, expect_told, output_of};
 use commands::perform::perform;
 use commands::{Host, HostFault, Job, Live, Run};
 use std::alloc::{AllocError, Global};
@@ -104,6 +104,7 @@ const LIVE: Live<'static> = Live {
     script: Some("record"),
     save: Some("saved"),
     terminal: false,
+    progress: false,
     image: "image",
 };
 
@@ -112,6 +113,7 @@ const REPLAY: Job<'static> = Job::Run(Run {
     tlb: false,
     fail: None,
     save: Some("saved"),
+    telling: UNTOLD,
     image: "image",
     script: "record",
 });
@@ -198,6 +200,7 @@ type Refused = (Live<'static>, usize, usize, &'static str, &'static str, u8);
 const REFUSED: [Refused; 7] = [
     (
         Live {
+            progress: false,
             image: "none",
             ..LIVE
         },
@@ -209,6 +212,7 @@ const REFUSED: [Refused; 7] = [
     ),
     (
         Live {
+            progress: false,
             image: "record",
             ..LIVE
         },

@@ -1,7 +1,7 @@
 //! Stored runs of machines that boot from an image.
 use crate::tests::images::{CHECK, mkfs};
 use crate::tests::program_files::ASM;
-use crate::tests::{DEAD, Files, expect, expect_narrow, files_of};
+use crate::tests::{DEAD, Files, UNTOLD, expect, expect_narrow, files_of};
 use commands::perform::perform;
 use commands::{Job, Run};
 use std::mem::swap;
@@ -37,6 +37,7 @@ fn run(frames: u32, tlb: bool, save: Option<&'static str>) -> Job<'static> {
         tlb,
         fail: None,
         save,
+        telling: UNTOLD,
         image: "image",
         script: "script",
     })
@@ -49,6 +50,7 @@ fn run_failing(fail: u64, frames: u32, tlb: bool, save: Option<&'static str>) ->
         tlb,
         fail: NonZeroU64::new(fail),
         save,
+        telling: UNTOLD,
         image: "image",
         script: "script",
     })
@@ -357,6 +359,7 @@ fn reads_the_image_first(rt: HostRuntime) {
             tlb: false,
             fail: None,
             save: None,
+            telling: UNTOLD,
             image,
             script,
         });

@@ -1,15 +1,30 @@
 //! Stored words, and the jobs that they name.
-use crate::tests::output_of;
+use crate::tests::{UNTOLD, output_of};
 use clap::error::ErrorKind;
-use commands::{Asm, Check, Dump, Flat, Job, Live, Ls, Migrate, Mkfs, Run, job, refuse};
+use commands::{
+    Asm, Check, Dump, Flat, Get, Job, Lines, Live, Ls, Migrate, Mkfs, Part, Play, Put, Run,
+    Telling, Trace, explains, job, refuse,
+};
 use std::num::NonZeroU64;
 
-const JOBS: [(&[&str], Job<'static>); 15] = [
+// What `run a b` asks for.
+const PLAIN: Run<'static> = Run {
+    frames: 256,
+    tlb: false,
+    fail: None,
+    save: None,
+    telling: UNTOLD,
+    image: "a",
+    script: "b",
+};
+
+const JOBS: [(&[&str], Job<'static>); 21] = [
     (
         &["xv6", "flat", "a", "b"],
         Job::Flat(Flat {
             frames: 256,
             tlb: false,
+            telling: UNTOLD,
             file: "a",
             script: "b",
         }),
@@ -19,6 +34,7 @@ const JOBS: [(&[&str], Job<'static>); 15] = [
         Job::Flat(Flat {
             frames: 4294967295,
             tlb: false,
+            telling: UNTOLD,
             file: "a",
             script: "-b",
         }),
@@ -28,6 +44,7 @@ const JOBS: [(&[&str], Job<'static>); 15] = [
         Job::Flat(Flat {
             frames: 64,
             tlb: true,
+            telling: UNTOLD,
             file: "a",
             script: "b",
         }),
@@ -39,6 +56,7 @@ const JOBS: [(&[&str], Job<'static>); 15] = [
             tlb: false,
             fail: None,
             save: None,
+            telling: UNTOLD,
             image: "a",
             script: "b",
         }),
@@ -59,6 +77,7 @@ const JOBS: [(&[&str], Job<'static>); 15] = [
             tlb: true,
             fail: None,
             save: Some("c"),
+            telling: UNTOLD,
             image: "a",
             script: "b",
         }),
@@ -70,6 +89,7 @@ const JOBS: [(&[&str], Job<'static>); 15] = [
             tlb: false,
             fail: Some(NonZeroU64::MIN),
             save: None,
+            telling: UNTOLD,
             image: "a",
             script: "b",
         }),
@@ -96,6 +116,7 @@ const JOBS: [(&[&str], Job<'static>); 15] = [
     (
         &["xv6", "ls", "a", ""],
         Job::Ls(Ls {
+            recursive: false,
             image: "a",
             path: "",
         }),
@@ -120,6 +141,7 @@ const JOBS: [(&[&str], Job<'static>); 15] = [
             script: None,
             save: None,
             terminal: false,
+            progress: false,
             image: "b",
         }),
     ),
@@ -141,7 +163,110 @@ const JOBS: [(&[&str], Job<'static>); 15] = [
             script: Some("c"),
             save: Some("d"),
             terminal: true,
+            progress: false,
             image: "b",
+        }),
+    ),
+    (
+        &[
+            "xv6",
+            "run",
+            "--report",
+            "--json",
+            "c",
+            "--status",
+            "--progress",
+            "--explain",
+            "a",
+            "b",
+        ],
+        Job::Run(Run {
+            frames: 256,
+            tlb: false,
+            fail: None,
+            save: None,
+            telling: Telling {
+                report: true,
+                json: Some("c"),
+                registers: None,
+                memory: None,
+                status: true,
+                progress: true,
+            },
+            image: "a",
+            script: "b",
+        }),
+    ),
+    (
+        &["xv6", "play", "--script", "c", "a", "b"],
+        Job::Play(Play {
+            run: PLAIN,
+            script: Some("c"),
+        }),
+    ),
+    (
+        &[
+            "xv6",
+            "trace",
+            "--calls",
+            "read,write",
+            "--bytes",
+            "0",
+            "--each",
+            "--time",
+            "--turns",
+            "--core-is-pid",
+            "--text",
+            "c",
+            "--perfetto",
+            "d",
+            "--commits",
+            "e",
+            "a",
+            "b",
+        ],
+        Job::Trace(Trace {
+            run: PLAIN,
+            part: Part {
+                pid: None,
+                calls: Some("read,write"),
+                from: None,
+                to: None,
+            },
+            lines: Lines {
+                bytes: 0,
+                each: true,
+                time: true,
+                turns: true,
+                core_is_pid: true,
+            },
+            text: Some("c"),
+            perfetto: Some("d"),
+            commits: Some("e"),
+        }),
+    ),
+    (
+        &["xv6", "ls", "-R", "a", "/"],
+        Job::Ls(Ls {
+            recursive: true,
+            image: "a",
+            path: "/",
+        }),
+    ),
+    (
+        &["xv6", "get", "a", "/b"],
+        Job::Get(Get {
+            image: "a",
+            path: "/b",
+            out: None,
+        }),
+    ),
+    (
+        &["xv6", "put", "a", "/b", "c"],
+        Job::Put(Put {
+            image: "a",
+            path: "/b",
+            file: "c",
         }),
     ),
 ];
@@ -154,16 +279,51 @@ fn knows_its_words(rt: HostRuntime) {
     }
 }
 
+// Each number from 1 on has its own option.
 #[test]
-fn knows_the_last_access(rt: HostRuntime) {
-    let words = ["xv6", "run", "--save=c", "a", "--fail=4294967295", "b"];
-    let wanted = Job::Run(Run {
-        frames: 256,
-        tlb: false,
-        fail: NonZeroU64::new(4294967295),
-        save: Some("c"),
-        image: "a",
-        script: "b",
+fn knows_counts(rt: HostRuntime) {
+    let words = [
+        "xv6",
+        "trace",
+        "--save=c",
+        "a",
+        "--fail=4294967295",
+        "--registers",
+        "1",
+        "--memory=2",
+        "--pid=3",
+        "--from=4",
+        "--to=5",
+        "b",
+    ];
+    let telling = Telling {
+        registers: NonZeroU64::new(1),
+        memory: NonZeroU64::new(2),
+        ..UNTOLD
+    };
+    let wanted = Job::Trace(Trace {
+        run: Run {
+            fail: NonZeroU64::new(4294967295),
+            save: Some("c"),
+            telling,
+            ..PLAIN
+        },
+        part: Part {
+            pid: NonZeroU64::new(3),
+            calls: None,
+            from: NonZeroU64::new(4),
+            to: NonZeroU64::new(5),
+        },
+        lines: Lines {
+            bytes: 32,
+            each: false,
+            time: false,
+            turns: false,
+            core_is_pid: false,
+        },
+        text: None,
+        perfetto: None,
+        commits: None,
     });
     let found = job(rt.alloc(), &words).expect(&rt, "a job");
     assert!(rt; found == wanted);
@@ -291,8 +451,24 @@ static HELP: [(&[&str], &[&str]); 5] = [
     (
         &["xv6", "--help"],
         &[
-            "flat", "run", "mkfs", "check", "ls", "migrate", "asm", "dump", "live", "--save",
+            "flat",
+            "run",
+            "live",
+            "play",
+            "trace",
+            "mkfs",
+            "check",
+            "ls",
+            "get",
+            "put",
+            "migrate",
+            "asm",
+            "dump",
+            "--save",
             "--fail",
+            "--report",
+            "--explain",
+            "--version",
         ],
     ),
     (
@@ -350,4 +526,12 @@ fn teaches_its_words(rt: HostRuntime) {
             assert!(rt; text.contains(*word), "{word}: {text}");
         }
     }
+}
+
+#[test]
+fn explains_what_is_asked_for(rt: HostRuntime) {
+    assert!(rt; explains(&["xv6", "check", "--explain", "a"]) && !explains(&["xv6", "check", "a"]));
+    assert!(rt;
+        !explains(&["--explain", "check", "a"]) && !explains(&["xv6", "check", "--", "--explain"])
+    );
 }
