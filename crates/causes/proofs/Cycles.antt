@@ -1,0 +1,52 @@
+-- How the cycle of a process that is seen traps.
+use Rattle.std.proofs.Common.{ap, refl, sym, ◌∙◌, ◌≡◌, ℕ, Option, Some, None, option_and_then, option_map}
+use Rattle.std.proofs.lemmas.Option.{none-some, same_Some}
+use Rattle.causes.specs.Causes.{memory_of, trap_of, trap_shown}
+use Rattle.machine.specs.declared.seen.Seen.{Seen}
+use Rattle.machine.specs.Seen.{seen_of}
+use Rattle.unixmodel.specs.Cycle.{act_word, cycle, fetched}
+use Rattle.unixmodel.specs.declared.trap.Access.TheVariants.{Fetch}
+use Rattle.unixmodel.specs.declared.trap.Cause.TheVariants.{InstructionPageFault}
+use Rattle.unixmodel.specs.declared.trap.Trap.{Trap}
+use Rattle.unixmodel.specs.Memory.{Memory, Page, bytes_at, page_for}
+use Rattle.unixmodel.specs.Next.{effect_of}
+use Rattle.unixmodel.specs.Numbers.{number}
+use Rattle.unixmodel.specs.Process.{Process}
+use Rattle.unixmodel.specs.Words.{instruction_of}
+
+-- the word at the pc, where it may be fetched
+abbrev word_at : Memory → ℕ → Option ℕ
+word_at mem pc = option_map (λ page. number (bytes_at 4 pc page)) (page_for Fetch mem pc)
+
+abbrev page_fault : ℕ → Trap
+page_fault pc = record { cause = InstructionPageFault; address = pc }
+
+traps-unfetched : (p : Process) → None ≡ word_at p.memory p.pc → trap_shown p ≡ Some (page_fault p.pc)
+unfolding effect_of cycle
+traps-unfetched p h = go (page_for Fetch p.memory p.pc) h where
+  go : (found : Option Page) → None ≡ option_map (λ page. number (bytes_at 4 p.pc page)) found → trap_of (fetched found p.registers p.pc p.memory) ≡ Some (page_fault p.pc)
+  go None none = refl
+  go (Some page) none = absurd (none-some (number (bytes_at 4 p.pc page)) none)
+
+traps-word : (p : Process) (word : ℕ) → Some word ≡ word_at p.memory p.pc → trap_of (act_word (instruction_of word) p.registers p.pc p.memory) ≡ trap_shown p
+unfolding effect_of cycle
+traps-word p word h = go (page_for Fetch p.memory p.pc) h where
+  go : (found : Option Page) → Some word ≡ option_map (λ page. number (bytes_at 4 p.pc page)) found
+      → trap_of (act_word (instruction_of word) p.registers p.pc p.memory) ≡ trap_of (fetched found p.registers p.pc p.memory)
+  go None some = absurd (none-some word (sym some))
+  go (Some page) some = ap (λ w. trap_of (act_word (instruction_of w) p.registers p.pc p.memory)) (same_Some word (number (bytes_at 4 p.pc page)) some)
+
+pub shown-unfetched : (o : Option Process) (seen : Seen) → Some seen ≡ option_map seen_of o → None ≡ word_at (memory_of o) seen.pc
+    → Some (page_fault seen.pc) ≡ option_and_then trap_shown o
+shown-unfetched None seen is h = absurd (none-some seen (sym is))
+shown-unfetched (Some p) seen is h =
+    let pc : seen.pc ≡ p.pc = ap (λ (s : Seen). s.pc) (same_Some seen (seen_of p) is) in
+    rw pc (sym (traps-unfetched p (h ∙ ap (λ pc. word_at p.memory pc) pc)))
+
+pub shown-word : (o : Option Process) (seen : Seen) (word : ℕ) → Some seen ≡ option_map seen_of o → Some word ≡ word_at (memory_of o) seen.pc
+    → trap_of (act_word (instruction_of word) seen.registers seen.pc (memory_of o)) ≡ option_and_then trap_shown o
+shown-word None seen word is h = absurd (none-some seen (sym is))
+shown-word (Some p) seen word is h =
+    let same : seen ≡ seen_of p = same_Some seen (seen_of p) is in
+    ap (λ (s : Seen). trap_of (act_word (instruction_of word) s.registers s.pc p.memory)) same
+    ∙ traps-word p word (h ∙ ap (λ (s : Seen). word_at p.memory s.pc) same)

@@ -1,0 +1,2 @@
+mod Cycles
+mod Words

@@ -1,0 +1,24 @@
+-- What the next instruction of a process traps with, where that is no call.
+use Rattle.std.specs.Prelude.{Err, None, Ok, Option, Some, [], if◌then◌else◌, ℕ}
+use Rattle.unixmodel.specs.declared.trap.Trap.{Trap}
+use Rattle.unixmodel.specs.Meaning.{Effect}
+use Rattle.unixmodel.specs.Memory.{Memory}
+use Rattle.unixmodel.specs.Next.{effect_of, is_ecall}
+use Rattle.unixmodel.specs.Process.{Process}
+use Rattle.unixmodel.specs.Shown.{shown_process}
+use Rattle.unixmodel.specs.State.{State}
+
+abbrev pub trap_of : Effect → Option Trap
+trap_of (Ok d) = None
+trap_of (Err t) = if is_ecall t.cause then None else Some t
+
+abbrev pub trap_shown : Process → Option Trap
+trap_shown p = trap_of (effect_of p)
+
+-- the memory of the process with a pid; no page where there is none
+abbrev pub memory_of : Option Process → Memory
+memory_of None = []
+memory_of (Some p) = p.memory
+
+abbrev pub memory_shown : State → ℕ → Memory
+memory_shown s pid = memory_of (shown_process s pid)
