@@ -1,10 +1,11 @@
 #!/usr/bin/env python3
-"""terminal.py PROGRAM IMAGE: sessions at a pseudo-terminal, as `make live` has them: ^A x, ^C, keys while a program spins, a terminal
-that is closed, and input from a pipe. The terminal is set back exactly, and each record replays to the same console."""
+"""terminal.py PROGRAM IMAGE: sessions at a pseudo-terminal, as `make live` has them: ^A x, ^C, keys while a program spins, lines that
+come slowly, a terminal that is closed, and input from a pipe. The terminal is set back exactly, and each record replays to the same console."""
 import os
 import pty
 import select
 import shutil
+import signal
 import subprocess
 import sys
 import tempfile
@@ -14,6 +15,24 @@ import time
 PROGRAM, IMAGE = (os.path.abspath(path) for path in sys.argv[1:3])
 TOP = os.path.dirname(os.path.dirname(os.path.abspath(__file__)))
 FRAMES = ["--frames", "4096"]
+
+# Says six times that it is there, each time after a second of work or so.
+SLOW = """li s1, 6
+line: li s0, 20000000
+again: addi s0, s0, -1
+bne s0, zero, again
+li a0, 1
+la a1, there
+li a2, 6
+li a7, 16
+ecall
+addi s1, s1, -1
+bne s1, zero, line
+li a0, 0
+li a7, 2
+ecall
+there: .ascii "there\\n"
+"""
 
 # Works for some seconds, and then says so.
 SPIN = """li s0, 50000000
@@ -84,6 +103,19 @@ class Session:
         return done.stdout
 
 
+def with_program(folder, name, text):
+    """An image with the user programs and one more."""
+    for file in os.listdir(os.path.join(TOP, "out", "user")):
+        shutil.copy(os.path.join(TOP, "out", "user", file), folder)
+    with open(os.path.join(TOP, "user", "manifest")) as manifest, open(os.path.join(folder, "manifest"), "w") as wider:
+        wider.write(manifest.read() + f"file /{name} {name}\n")
+    with open(os.path.join(folder, name + ".s"), "w") as file:
+        file.write(text)
+    subprocess.run([PROGRAM, "asm", name + ".s", name], cwd=folder, check=True)
+    subprocess.run([PROGRAM, "mkfs", "manifest", "image"], cwd=folder, check=True)
+    return os.path.join(folder, "image")
+
+
 def leave(folder):
     session = Session(folder, IMAGE)
     session.until(b"$ ")
@@ -112,15 +144,7 @@ def kill(folder):
 
 def spin(folder):
     """Keys are echoed while a program spins, and obeyed behind it; ^A x ends a session in which one does."""
-    for name in os.listdir(os.path.join(TOP, "out", "user")):
-        shutil.copy(os.path.join(TOP, "out", "user", name), folder)
-    with open(os.path.join(TOP, "user", "manifest")) as manifest, open(os.path.join(folder, "manifest"), "w") as wider:
-        wider.write(manifest.read() + "file /spin spin\n")
-    with open(os.path.join(folder, "spin.s"), "w") as text:
-        text.write(SPIN)
-    subprocess.run([PROGRAM, "asm", "spin.s", "spin"], cwd=folder, check=True)
-    subprocess.run([PROGRAM, "mkfs", "manifest", "image"], cwd=folder, check=True)
-    session = Session(folder, os.path.join(folder, "image"))
+    session = Session(folder, with_program(folder, "spin", SPIN))
     session.until(b"$ ")
     session.type(b"spin\n")
     session.until(b"spin\n")
@@ -147,6 +171,33 @@ def close(folder):
     assert b"seen\n" in session.replay()
 
 
+def slow(folder):
+    """Lines come as they are printed; ^C loses none that came, and the record has them."""
+    image = with_program(folder, "slow", SLOW)
+    script = os.path.join(folder, "script")
+    with open(script, "w") as text:
+        text.write("step 5000\ntype slow\nstep 300000000\n")
+    run = subprocess.Popen([PROGRAM, "run", image, script], stdout=subprocess.PIPE, stderr=subprocess.DEVNULL)
+    console, times = b"", []
+    while console.count(b"there\n") < 3:
+        byte = os.read(run.stdout.fileno(), 1)
+        assert byte, console
+        console += byte
+        if console.endswith(b"there\n"):
+            times.append(time.time())
+    assert min(after - before for before, after in zip(times, times[1:])) > 0.1, times
+    run.send_signal(signal.SIGINT)
+    console += run.stdout.read()
+    assert run.wait() == -signal.SIGINT and console.count(b"there\n") == 3, console
+    session = Session(folder, image)
+    session.until(b"$ ")
+    session.type(b"slow\n")
+    session.until(3 * b"there\n")
+    session.type(b"\x03")
+    session.ends(130)
+    assert session.replay().count(b"there\n") == session.console.count(b"there\n") >= 3, session.console
+
+
 def pipe(folder):
     record = os.path.join(folder, "record")
     done = subprocess.run([PROGRAM, "live", "--record", record, IMAGE], input=b"echo hi | cat\n", capture_output=True)
@@ -161,7 +212,7 @@ def pipe(folder):
     assert (lost.returncode, lost.stderr) == (1, b"halt 3 Console\n"), lost
 
 
-for part in (leave, kill, spin, close, pipe):
+for part in (leave, kill, spin, slow, close, pipe):
     with tempfile.TemporaryDirectory() as place:
         part(place)
     print(part.__name__, "ok", flush=True)
