@@ -1,0 +1,5 @@
+pub mod Sealed
+pub mod Follows
+pub mod Numbers
+pub mod Puts
+pub mod Tells
