@@ -12,7 +12,10 @@ TEXTS := $(wildcard user/*.s)
 USER := $(TEXTS:user/%.s=out/user/%)
 IMAGE := out/xv6.img
 
-.PHONY: demo build program image user live qemu check-live test quick edits check bench check-qemu kills full places limits large fuzz outages refusals fmt
+# The library for C and Python.
+LIBRARY := out/library
+
+.PHONY: demo build program image user live qemu check-live library check-library test quick edits check bench check-qemu kills full places limits large fuzz outages refusals fmt
 
 # Boots a machine from an image with the user programs, types at its shell, and shows its console. It takes the
 # proved build where there is one that is not older than the sources. Else `rt try` compiles, and proves nothing of, the
@@ -62,6 +65,16 @@ qemu: live
 # A session at a pseudo-terminal: keys while a program spins, ^A x, ^C, and the end of the input.
 check-live: $(IMAGE)
 	bench/terminal.py $(PROGRAM) $(IMAGE)
+
+# Proves the functions for C and Python, and makes out/library: libxv6.a, libxv6.so, xv6.h and the package cathompi.
+library:
+	@if [ -f $(LIBRARY)/libxv6.so ] && [ -z "$$(find crates crates.txt c python tools -name out -prune -o \
+		\( -name '*.rt' -o -name '*.antt' -o -name crates.txt -o -name xv6.h -o -name __init__.py -o -name library.sh \) \
+		-newer $(LIBRARY)/libxv6.so -print -quit)" ]; then echo '$(LIBRARY) is proved and made'; else tools/library.sh $(LIBRARY); fi
+
+# Tries the library: C under valgrind, Python, and 50 random sessions beside the program. It takes a minute.
+check-library: $(IMAGE) library
+	tools/check_library.sh $(LIBRARY) $(PROGRAM) $(IMAGE)
 
 # The merge gate: every proof from nothing, the edits that must fail, all tests and stored runs.
 test:

@@ -1,0 +1,299 @@
+/* test.c IMAGE SCRIPT: a session with each function of xv6.h, 40 machines at once, and arguments that are wrong. The console's bytes go to
+   standard output, and the events of the session to SCRIPT: `xv6 run --frames 256 IMAGE SCRIPT` has to print the same bytes.
+   make check-library runs it under valgrind. The status is 0 where all is as it has to be. */
+#include "xv6.h"
+
+#include <stdio.h>
+#include <stdlib.h>
+#include <string.h>
+
+#define FRAMES 256u
+#define MANY 100000000u
+#define MACHINES 40
+
+static uint8_t *image;
+static size_t length;
+static int wrong;
+
+static void must(int holds, const char *what)
+{
+    if (holds) return;
+    fprintf(stderr, "test.c: %s\n", what);
+    wrong = 1;
+}
+
+static int read_image(const char *name)
+{
+    FILE *file = fopen(name, "rb");
+    if (file == NULL || fseek(file, 0, SEEK_END) != 0) return 0;
+    length = (size_t)ftell(file);
+    rewind(file);
+    image = malloc(length);
+    if (image == NULL || fread(image, 1, length, file) != length) return 0;
+    return fclose(file) == 0;
+}
+
+/* ---- a session */
+
+/* Runs until nobody is ready, and keeps the event. */
+static void run(struct xv6_machine *machine, FILE *script)
+{
+    uint32_t done = 0;
+    must(xv6_run(machine, MANY, &done) == 0 && done < MANY, "a run ends by itself");
+    if (done != 0) fprintf(script, "step %u\n", done);
+}
+
+static void type(struct xv6_machine *machine, FILE *script, const char *line)
+{
+    size_t i;
+    for (i = 0; line[i] != 0; i++) must(xv6_key(machine, (uint8_t)line[i]) == 0, "a key");
+    must(xv6_key(machine, '\n') == 0, "the key at a line's end");
+    fprintf(script, "type %s\n", line);
+}
+
+/* Prints the console's bytes, a few at a time, and tells how many they are. */
+static size_t print_console(struct xv6_machine *machine, FILE *out)
+{
+    uint8_t bytes[7];
+    size_t all = 0, count;
+    while ((count = xv6_console(machine, bytes, sizeof bytes)) != 0) {
+        if (out != NULL) fwrite(bytes, 1, count, out);
+        all += count;
+    }
+    return all;
+}
+
+/* The shell waits for a line, and its parent for the shell. */
+static void look_at_processes(struct xv6_machine *machine)
+{
+    struct xv6_process process;
+    uint8_t page[4096], few[4] = {9, 9, 9, 9};
+    must(xv6_next_pid(machine, 0) == 1, "process 1 is the first");
+    must(xv6_process(machine, 1, &process) == 0 && process.pid == 1 && process.parent == 0, "process 1 is told");
+    must(process.state == XV6_WAITING && process.call == 3, "process 1 waits in wait");
+    must(xv6_next_pid(machine, 1) == 2 && xv6_next_pid(machine, 2) == 0, "the shell is the other");
+    must(xv6_process(machine, 2, &process) == 0 && process.parent == 1 && process.call == 5, "the shell waits in read");
+    must(process.pc % 4 == 0 && process.size % 4096 == 0 && process.registers[0] == 0, "the shell's registers");
+    must(xv6_page(machine, 2, process.pc / 4096, page, sizeof page) == (XV6_PAGE | XV6_READ | XV6_WRITE | XV6_EXECUTE), "the page of its pc");
+    must(memcmp(page + process.pc % 4096 - 4, "\x73\0\0\0", 4) == 0, "an ecall is before its pc");
+    must(xv6_page(machine, 2, process.size / 4096 - 2, few, 0) == XV6_PAGE, "the page below the stack can't be touched");
+    must(xv6_page(machine, 2, process.pc / 4096, few, 2) != 0 && memcmp(few, page, 2) == 0 && few[2] == 9, "two bytes of a page");
+    must(xv6_page(machine, 2, process.size / 4096, few, sizeof few) == 0 && few[2] == 9, "no page behind the last");
+}
+
+/* The number of a name of 14 bytes at most in the root's directory; 0 where there is none. */
+static size_t find(struct xv6_machine *machine, const char *name)
+{
+    uint8_t entry[16];
+    char told[15] = {0};
+    size_t at, count;
+    for (at = 0; xv6_read(machine, 1, at, entry, sizeof entry, &count) == 0 && count == sizeof entry; at += count) {
+        memcpy(told, entry + 2, 14);
+        if (strcmp(told, name) == 0) return (size_t)entry[0] + 256u * entry[1];
+    }
+    return 0;
+}
+
+static void look_at_files(struct xv6_machine *machine)
+{
+    struct xv6_stat stat;
+    uint8_t bytes[8] = {0};
+    size_t count = 9, init = find(machine, "init");
+    must(xv6_stat(machine, 1, &stat) == 0 && stat.kind == XV6_DIRECTORY && stat.size % 16 == 0, "the root");
+    must(init != 0 && xv6_stat(machine, init, &stat) == 0 && stat.kind == XV6_FILE && stat.links == 1, "/init");
+    must(xv6_read(machine, init, 0, bytes, sizeof bytes, &count) == 0 && count == 8, "8 bytes of /init");
+    must(memcmp(bytes, "\x7f" "ELF", 4) == 0, "/init is a program");
+    must(xv6_read(machine, init, stat.size, bytes, sizeof bytes, &count) == 0 && count == 0, "the end of /init");
+    must(xv6_stat(machine, find(machine, "console"), &stat) == 0 && stat.kind == XV6_DEVICE, "the console");
+    must(xv6_stat(machine, find(machine, "d"), &stat) == 0 && stat.kind == XV6_DIRECTORY, "a new directory");
+    must(xv6_stat(machine, 199, &stat) == 0 && stat.kind == XV6_NO_NODE, "no node");
+}
+
+/* The image that a session leaves boots, and has its files. */
+static void save_and_boot(struct xv6_machine *machine)
+{
+    uint8_t *saved = malloc(length);
+    struct xv6_machine again = {NULL};
+    size_t bytes = 0;
+    must(saved != NULL && xv6_save(machine, saved, length, &bytes) == 0 && bytes == length, "the image is saved");
+    must(machine->inside == NULL, "a saved machine is closed");
+    must(xv6_boot(saved, length, FRAMES, &again) == 0 && find(&again, "d") != 0, "the saved image boots");
+    xv6_close(&again);
+    free(saved);
+}
+
+static void play(FILE *script)
+{
+    static const char *const lines[] = {"ls", "echo hi | cat", "mkdir d", "ls d", "nope"};
+    struct xv6_machine machine = {NULL};
+    uint32_t done, free_frames;
+    size_t i;
+    must(xv6_version() == XV6_VERSION, "the version");
+    must(xv6_boot(image, length, FRAMES, &machine) == 0, "the image boots");
+    run(&machine, script);
+    free_frames = xv6_free_frames(&machine);
+    must(free_frames > 0 && free_frames < FRAMES, "free frames");
+    for (i = 0; i < sizeof lines / sizeof *lines; i++) {
+        must(xv6_is_idle(&machine) == 1, "nobody is ready before a line");
+        type(&machine, script, lines[i]);
+        must(xv6_is_idle(&machine) == 0, "somebody is ready behind it");
+        must(xv6_steps(&machine, 17) == 0, "17 steps");
+        must(xv6_tick(&machine) == 0, "a tick");
+        fprintf(script, "step 17\ntick 1\n");
+        run(&machine, script);
+    }
+    must(xv6_run(&machine, MANY, &done) == 0 && done == 0, "nobody is ready");
+    must(xv6_free_frames(&machine) == free_frames, "all frames came back");
+    must(print_console(&machine, stdout) > 100, "the console's bytes");
+    look_at_processes(&machine);
+    look_at_files(&machine);
+    save_and_boot(&machine);
+}
+
+/* ---- many machines */
+
+static void play_many(void)
+{
+    struct xv6_machine machines[MACHINES];
+    uint32_t done;
+    size_t bytes[MACHINES];
+    int i;
+    for (i = 0; i < MACHINES; i++) must(xv6_boot(image, length, 64, &machines[i]) == 0, "each of 40 boots");
+    for (i = 0; i < MACHINES; i++) {
+        must(xv6_run(&machines[i], MANY, &done) == 0, "each of 40 runs");
+        if (i % 2 == 0) must(xv6_key(&machines[i], 'x') == 0, "a key for every second");
+    }
+    for (i = 0; i < MACHINES; i++) bytes[i] = print_console(&machines[i], NULL);
+    for (i = 0; i < MACHINES; i++) must(bytes[i] == bytes[1] + (i % 2 == 0), "each of 40 printed what is its own");
+    for (i = 0; i < MACHINES; i++) xv6_close(&machines[i]);
+}
+
+/* ---- arguments that are wrong */
+
+static struct xv6_machine up, closed;
+static struct xv6_process process;
+static struct xv6_stat stat_out;
+static uint8_t room[16];
+static size_t count;
+static uint32_t steps;
+
+static uint32_t boots(const uint8_t *bytes, size_t many, uint32_t frames)
+{
+    struct xv6_machine machine = {NULL};
+    uint32_t answer = xv6_boot(bytes, many, frames, &machine);
+    must((answer == 0) == (machine.inside != NULL), "a handle is there after 0 alone");
+    xv6_close(&machine);
+    return answer;
+}
+
+#define ROW(call, answer) must((call) == (answer), #call " is " #answer)
+
+static void refuse_images(void)
+{
+    ROW(boots(image, length - 1, FRAMES), XV6_BOOT_IMAGE);
+    ROW(boots(image, 1024, FRAMES), XV6_BOOT_IMAGE);
+    ROW(boots(image, 0, FRAMES), XV6_BOOT_IMAGE);
+    ROW(boots(NULL, 0, FRAMES), XV6_BOOT_IMAGE);
+    ROW(boots(NULL, 1024, FRAMES), XV6_NULL);
+    ROW(boots(image, length, 63), XV6_BOOT_FRAMES);
+    ROW(boots(image, length, 32769), XV6_BOOT_FRAMES);
+    ROW(boots(image, length, 0xffffffffu), XV6_BOOT_FRAMES);
+    ROW(boots(image, length, 64), 0u);
+    ROW(xv6_boot(image, length, FRAMES, NULL), XV6_NULL);
+}
+
+/* Each function of a machine, where there is none. */
+static void refuse_handle(struct xv6_machine *machine)
+{
+    ROW(xv6_steps(machine, 1), XV6_NULL);
+    ROW(xv6_run(machine, 1, &steps), XV6_NULL);
+    ROW(xv6_tick(machine), XV6_NULL);
+    ROW(xv6_key(machine, 'x'), XV6_NULL);
+    ROW(xv6_console(machine, room, sizeof room), 0u);
+    ROW(xv6_is_idle(machine), 1u);
+    ROW(xv6_next_pid(machine, 0), 0u);
+    ROW(xv6_process(machine, 1, &process), XV6_NULL);
+    ROW(xv6_page(machine, 1, 0, room, sizeof room), 0u);
+    ROW(xv6_free_frames(machine), 0u);
+    ROW(xv6_stat(machine, 1, &stat_out), XV6_NULL);
+    ROW(xv6_read(machine, 1, 0, room, sizeof room, &count), XV6_NULL);
+    ROW(xv6_save(machine, room, sizeof room, &count), XV6_NULL);
+    ROW(xv6_is_closed(machine), 1);
+    xv6_close(machine);
+}
+
+/* A place that is null, for a machine that is up. */
+static void refuse_places(void)
+{
+    ROW(xv6_run(&up, 1, NULL), XV6_NULL);
+    ROW(xv6_process(&up, 1, NULL), XV6_NULL);
+    ROW(xv6_stat(&up, 1, NULL), XV6_NULL);
+    ROW(xv6_console(&up, NULL, 1), 0u);
+    ROW(xv6_console(&up, NULL, 0), 0u);
+    ROW(xv6_page(&up, 1, 0, NULL, 1), 0u);
+    ROW(xv6_page(&up, 1, 0, NULL, 0) & XV6_PAGE, 1u);
+    ROW(xv6_read(&up, 1, 0, NULL, 1, &count), XV6_NULL);
+    ROW(xv6_read(&up, 1, 0, room, sizeof room, NULL), XV6_NULL);
+    ROW(xv6_read(&up, 1, 0, NULL, 0, &count), 0u);
+    ROW(xv6_save(&up, NULL, 1, &count), XV6_NULL);
+    ROW(xv6_save(&up, room, sizeof room, NULL), XV6_NULL);
+}
+
+/* Numbers of nothing. */
+static void find_nothing(void)
+{
+    ROW(xv6_process(&up, 0, &process), (uint32_t)XV6_NO_PROCESS);
+    ROW(xv6_process(&up, 77, &process), (uint32_t)XV6_NO_PROCESS);
+    ROW(xv6_process(&up, 0xffffffffu, &process), (uint32_t)XV6_NO_PROCESS);
+    ROW(xv6_next_pid(&up, 0xffffffffu), 0u);
+    ROW(xv6_page(&up, 77, 0, room, sizeof room), 0u);
+    ROW(xv6_page(&up, 1, UINT64_MAX, room, sizeof room), 0u);
+    ROW(xv6_stat(&up, SIZE_MAX, &stat_out) + stat_out.kind, 0u);
+    ROW(xv6_read(&up, SIZE_MAX, 0, room, sizeof room, &count) + count, 0u);
+    ROW(xv6_read(&up, 1, SIZE_MAX, room, sizeof room, &count) + count, 0u);
+}
+
+/* After a save into too little room the machine is closed, and the length of its image is told. */
+static void save_a_part(void)
+{
+    ROW(xv6_save(&up, room, sizeof room, &count), 0u);
+    ROW(count, length);
+    ROW(memcmp(room, image, sizeof room), 0);
+}
+
+/* Keys without end, of which none is read. */
+static void press_keys(void)
+{
+    int i;
+    for (i = 0; i < 300; i++) ROW(xv6_key(&up, 'a'), 0u);
+}
+
+static void refuse(void)
+{
+    refuse_images();
+    refuse_handle(NULL);
+    must(xv6_boot(image, length, FRAMES, &closed) == 0, "the image boots again");
+    xv6_close(&closed);
+    refuse_handle(&closed);
+    must(xv6_boot(image, length, FRAMES, &up) == 0, "the image boots a third time");
+    refuse_places();
+    find_nothing();
+    press_keys();
+    save_a_part();
+    refuse_handle(&up);
+}
+
+int main(int argc, char **argv)
+{
+    FILE *script;
+    if (argc != 3 || !read_image(argv[1]) || (script = fopen(argv[2], "w")) == NULL) {
+        fprintf(stderr, "test.c: an image that can be read, and a script that can be written\n");
+        return 2;
+    }
+    play(script);
+    must(fclose(script) == 0, "the script is written");
+    play_many();
+    refuse();
+    free(image);
+    return wrong;
+}
