@@ -1,0 +1,157 @@
+#!/usr/bin/env python3
+"""test.py FOLDER PROGRAM IMAGE: the package in a folder, and 50 random sessions, whose console has the bytes of `xv6 run`."""
+import copy
+import os
+import random
+import subprocess
+import sys
+import tempfile
+from concurrent.futures import ThreadPoolExecutor
+
+sys.path.insert(0, os.path.abspath(sys.argv[1]))
+from cathompi import BootError, Closed, Error, Halted, Machine, NotPrinted
+
+SEEDS = 50
+LINES = ["ls", "echo hi | cat", "mkdir d", "cat init | cat", "rm cat", "ln sh x", "forktest", "kill 2", "echo a b c", "ls | cat", "nope", "\x08\x15x", "\x04"]
+
+
+def raises(kind, call, *arguments):
+    """Whether a call raises an error of this kind."""
+    try:
+        call(*arguments)
+    except kind:
+        return True
+    return False
+
+
+def try_session(image):
+    """A line at the shell, and what is told of the machine."""
+    with Machine(image) as machine:
+        assert machine.run_until("$ ") == b"init: starting sh\n$ " and machine.idle
+        machine.type("ls\n")
+        assert machine.run_until("$ ").split() == b"ls . .. init sh cat echo ls ln rm mkdir kill forktest fill console $".split()
+        assert machine.console() == b"" and machine.run() == 0
+        first, shell = machine.processes()
+        assert (first.pid, first.parent, first.state, first.call, first.status) == (1, 0, "waiting", "wait", None)
+        assert (shell.pid, shell.parent, shell.state, shell.call, shell.registers[0]) == (2, 1, "waiting", "read", 0)
+        page = machine.page(2, shell.pc // 4096)
+        assert page.marks == "rwx" and page.data[shell.pc % 4096 - 4:][:4] == b"\x73\0\0\0" and len(page.data) == 4096
+        assert [machine.page(2, number).marks for number in range(3)] == ["rwx", "---", "rw-"]
+        assert machine.page(2, shell.size // 4096) is None and machine.process(99) is None
+        machine.type("mkdir d\n")
+        assert bytes(machine) == b"mkdir d\n$ "
+        machine.type("nothing")
+        assert raises(NotPrinted, machine.run_until, "$ ") and machine.console() == b"nothing"
+        assert raises(NotPrinted, machine.run_until, "x", 0) and raises(ValueError, machine.run_until, "")
+        return machine.free_frames
+
+
+def try_files(image):
+    """Paths, and an image that is saved and boots."""
+    machine = Machine(image)
+    machine.run()
+    machine.type("mkdir d\n")
+    machine.run()
+    machine.type("mkdir d/e\n")
+    machine.run()
+    files = machine.files()
+    assert [path for path, node in files.items() if node.kind == "directory"] == ["/", "/d", "/d/e"]
+    assert files["/console"].kind == "device" and files["/init"].links == 1
+    assert machine.stat("d/e") == files["/d/e"] == machine.stat(files["/d/e"].number)
+    assert machine.read("/init")[:4] == b"\x7fELF" and len(machine.read("init")) == files["/init"].size and machine.read("/console") == b""
+    assert all(raises(FileNotFoundError, machine.stat, where) for where in ("none", "init/x", 0, 199))
+    saved = machine.save()
+    assert len(saved) == len(image) and machine.closed and raises(Closed, machine.run)
+    with Machine(saved) as again:
+        again.run()
+        assert again.files().keys() == files.keys()
+
+
+def try_errors(image):
+    """Each error with its reason."""
+    assert raises(BootError, Machine, image[:-1]) and raises(BootError, Machine, b"") and raises(BootError, Machine, image, 63)
+    assert raises(ValueError, Machine, image, -1) and raises(ValueError, Machine, image, 1 << 32) and raises(TypeError, Machine, "xv6.img")
+    machine = Machine(bytearray(image), 64)
+    other = copy.copy(machine)
+    machine.close()
+    machine.close()
+    calls = [machine.run, machine.tick, machine.console, machine.processes, machine.files, machine.save, other.run, lambda: machine.steps(1)]
+    assert all(raises(Closed, call) for call in calls) and raises(Closed, machine.type, "x") and raises(Closed, machine.page, 1, 0)
+    with Machine(image) as halting:
+        halting.type("kill 1\n")
+        try:
+            halting.run()
+            assert False, "process 1 ended"
+        except Halted as error:
+            assert error.number == 1 and error.reason == "process 1 ended" and isinstance(error, Error)
+        assert halting.process(1).state == "ended" and raises(Halted, halting.run) and len(halting.save()) == len(image)
+
+
+def try_threads(image):
+    """Machines in threads, each with its own, and one that all of them share."""
+    def session(_number):
+        with Machine(image) as machine:
+            machine.run()
+            machine.type("ls\n")
+            machine.run()
+            return machine.console()
+
+    with ThreadPoolExecutor(4) as threads, Machine(image) as shared:
+        assert len(set(threads.map(session, range(40)))) == 1
+        list(threads.map(lambda _number: shared.steps(1000), range(40)))
+        assert shared.console() == b"init: starting sh\n$ "
+
+
+def play(machine, dice):
+    """Random events until the machine stops; tells them as lines of a script."""
+    script = []
+    for _event in range(dice.randrange(3, 25)):
+        kind = dice.randrange(4)
+        try:
+            if kind == 0:
+                steps = dice.choice([1, 17, 500, 5000, 40000])
+                script.append(f"step {steps}")
+                machine.steps(steps)
+            elif kind == 1:
+                script.append("tick 1")
+                machine.tick()
+            elif kind == 2:
+                line = dice.choice(LINES) + "\n"
+                script.append(f"keys {line.encode().hex()}")
+                machine.type(line)
+            else:
+                most = dice.choice([3, 3000, 3000000])
+                script.append("")
+                script[-1] = f"step {machine.run(most)}"
+        except Halted:
+            script[-1] = script[-1] or f"step {most}"
+            break
+    return [line for line in script if line != "step 0"]
+
+
+def try_seeds(program, path, image):
+    """Random sessions; tells how many bytes their consoles have."""
+    all_bytes = 0
+    for seed in range(SEEDS):
+        with Machine(image) as machine, tempfile.NamedTemporaryFile("w", suffix=".script") as script:
+            script.write("\n".join(play(machine, random.Random(seed))) + "\n")
+            script.flush()
+            told = subprocess.run([program, "run", "--frames", "256", path, script.name], capture_output=True).stdout
+            assert machine.console() == told, f"seed {seed}"
+            all_bytes += len(told)
+    return all_bytes
+
+
+def main():
+    program, path = sys.argv[2:4]
+    with open(path, "rb") as file:
+        image = file.read()
+    free = try_session(image)
+    try_files(image)
+    try_errors(image)
+    try_threads(image)
+    print(f"check-library: Python: a session, with {free} frames free; files; errors; threads")
+    print(f"check-library: Python: {SEEDS} random sessions, {try_seeds(os.path.abspath(program), path, image)} bytes, the same as the program's")
+
+
+main()
