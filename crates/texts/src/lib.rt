@@ -7,4 +7,4 @@ mod script;
 
 pub use lines::{FromLine, TextFault, parse};
 pub use manifest::Line;
-pub use script::Command;
+pub use script::{Command, bytes_of, count, pair_value};

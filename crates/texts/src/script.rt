@@ -3,5 +3,5 @@
 mod fields;
 mod lines;
 
-pub use fields::count;
+pub use fields::{bytes_of, count, pair_value};
 pub use lines::Command;

@@ -40,8 +40,8 @@ fn digit_value(code: u8) -> Option<u8>
     }
 }
 
-// The byte that two hexadecimal digits write.
-fn pair_value(high: u8, low: u8) -> Option<u8>
+/// The byte that two hexadecimal digits write. Letters are in lower case.
+pub fn pair_value(high: u8, low: u8) -> Option<u8>
     ensures { result ≡ hex_pair high low }
 {
     match (digit_value(high), digit_value(low)) {
