@@ -1,5 +1,5 @@
 //! The entries of a directory.
-ghost use Rattle.std.specs.Prelude.{IfOk, OnOk};
+ghost use Rattle.std.specs.Prelude.{◌≡◌, IfOk, OnOk, false};
 ghost use Rattle.listings.specs.Listed.{IsAtRest, IsFolder};
 
 use blockdev::{BlockDev, DeviceFault};
@@ -7,16 +7,16 @@ use image::ImageFault;
 use inode::InodeStat;
 use layout::Entry;
 use mount::mount;
-use std::alloc::Global;
+use std::alloc::{AllocError, Global};
 use std::io;
 use std::io::Write;
 use tree::{Tree, TreeFault};
 
 /// The number of the root.
-const ROOT: usize = 1;
+pub const ROOT: usize = 1;
 
 /// The type of a directory.
-const DIRECTORY: u16 = 1;
+pub const DIRECTORY: u16 = 1;
 
 /// How many bytes an entry has in its directory.
 const ENTRY_SIZE: usize = 16;
@@ -30,6 +30,8 @@ pub enum ListingFault {
     Tree(TreeFault),
     /// The list isn't taken.
     Output,
+    /// The host has no memory for a path.
+    NoMemory,
 }
 
 impl From<ImageFault> for ListingFault {
@@ -66,8 +68,19 @@ impl From<DeviceFault> for ListingFault {
     }
 }
 
-// The directory that a path reaches from the root.
-fn directory_at<D: BlockDev>(tree: &mut Tree<D>, path: &[u8]) -> Result<usize, TreeFault>
+impl From<AllocError> for ListingFault {
+    ghost use Rattle.std.specs.Prelude.{◌≡◌};
+    ghost use Rattle.listings.specs.declared.directory.ListingFault.TheVariants.{NoMemory};
+
+    ghost from_gives = { λ _ told. told ≡ NoMemory };
+
+    fn from(_failed: AllocError) -> ListingFault {
+        ListingFault::NoMemory
+    }
+}
+
+/// The directory that a path reaches from the root.
+pub fn directory_at<D: BlockDev>(tree: &mut Tree<D>, path: &[u8]) -> Result<usize, TreeFault>
     requires { IsAtRest tree.old }
     ensures rests { OnOk result (IsAtRest tree.new) }
     ensures folder { IfOk result (IsFolder tree.new) }
@@ -93,26 +106,65 @@ fn write_entry<W: Write>(entry: &Entry, node: InodeStat, out: &mut W) -> io::Res
     writeln!(out, " {kind} {number:>5} {size:>6}")
 }
 
-// Writes a line for each entry of a directory.
-fn write_entries<D: BlockDev, W: Write>(
+/// How many places a directory has.
+pub fn count_places<D: BlockDev>(tree: &mut Tree<D>, directory: usize) -> Result<usize, DeviceFault>
+    requires { tree.old.failed ≡ false }
+    ensures { OnOk result (tree.new.failed ≡ false) }
+{
+    match tree.look(directory)? {
+        Some(node) => Ok(node.size as usize / ENTRY_SIZE),
+        None => Ok(0),
+    }
+}
+
+/// The entry in a place of a directory, if there is one.
+pub fn entry_at<D: BlockDev>(
+    tree: &mut Tree<D>,
+    directory: usize,
+    place: usize,
+) -> Result<Option<Entry>, DeviceFault>
+    requires { tree.old.failed ≡ false }
+    ensures { OnOk result (tree.new.failed ≡ false) }
+{
+    let mut bytes = [0; ENTRY_SIZE];
+    let _count = tree.read_any(directory, place.saturating_mul(ENTRY_SIZE), &mut bytes)?;
+    let entry = Entry::from_front(&bytes);
+    Ok((entry.number > 0).then_some(entry))
+}
+
+// Writes the line of a place of a directory, if it has an entry; in files at rest each entry names a node.
+fn write_place<D: BlockDev, W: Write>(
+    tree: &mut Tree<D>,
+    directory: usize,
+    place: usize,
+    out: &mut W,
+) -> Result<(), ListingFault>
+    requires { tree.old.failed ≡ false }
+    ensures { OnOk result (tree.new.failed ≡ false) }
+{
+    let Some(entry) = entry_at(tree, directory, place)? else {
+        return Ok(());
+    };
+    let Some(node) = tree.look(usize::from(entry.number))? else {
+        return Ok(());
+    };
+    match write_entry(&entry, node, out) {
+        Ok(()) => Ok(()),
+        Err(_) => Err(ListingFault::Output),
+    }
+}
+
+/// Writes a line for each entry of a directory.
+pub fn write_entries<D: BlockDev, W: Write>(
     tree: &mut Tree<D>,
     directory: usize,
     out: &mut W,
 ) -> Result<(), ListingFault>
-    requires rests { IsAtRest tree.old }
-    requires folder { IsFolder tree.old directory }
+    requires { tree.old.failed ≡ false }
+    ensures { OnOk result (tree.new.failed ≡ false) }
 {
-    let size = tree.stat(directory)?.size as usize;
-    for place in 0..size / ENTRY_SIZE {
-        let mut bytes = [0; ENTRY_SIZE];
-        let _count = tree.read(directory, place * ENTRY_SIZE, &mut bytes)?;
-        let entry = Entry::from_front(&bytes);
-        if entry.number > 0 {
-            let node = tree.stat(usize::from(entry.number))?;
-            if write_entry(&entry, node, out).is_err() {
-                return Err(ListingFault::Output);
-            }
-        }
+    for place in 0..count_places(tree, directory)? {
+        write_place(tree, directory, place, out)?;
     }
     Ok(())
 }

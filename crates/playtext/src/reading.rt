@@ -61,11 +61,7 @@ fn repeat<'a>(name: &'a [u8], words: &mut Words<'a>) -> Result<Deed<'a>, Fault<'
 }
 
 // What a line says that has this first word.
-fn deed<'a>(
-    alloc: Global,
-    name: &'a [u8],
-    words: &mut Words<'a>,
-) -> Result<Deed<'a>, Fault<'a>> {
+fn deed<'a>(alloc: Global, name: &'a [u8], words: &mut Words<'a>) -> Result<Deed<'a>, Fault<'a>> {
     match name {
         b"step" => Ok(Deed::Give(Command::Step(words.number(name)?))),
         b"tick" => Ok(Deed::Give(Command::Tick(words.number(name)?))),
