@@ -1,3 +1,3 @@
 pub mod EventLemmas
 pub mod PlayLemmas
-mod SessionLemmas
+pub mod SessionLemmas

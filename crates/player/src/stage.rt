@@ -1,0 +1,259 @@
+//! Gives a machine the events of a play.
+ghost use Rattle.std.specs.Prelude.{◌≤◌};
+ghost use Rattle.std.specs.Io.KnownBytes.{Keeps};
+ghost use Rattle.machine.specs.View.{IsUp};
+ghost use Rattle.player.specs.Played.{IsPlayed, halts};
+
+use crate::tail::Tail;
+use blockdev::BlockDev;
+use console::Out;
+use live::Watch;
+use machine::{Halt, Machine};
+use playtext::{Act, Clock, Deed, Goal, Place, Play};
+use std::io::Write;
+use sv39::Translate;
+use texts::Command;
+use unixmodel::event::Event;
+
+/// The key that ends a typed line.
+const LINE_END: u8 = b'\n';
+
+/// How many steps there are at most between two times at which the console's bytes are written out.
+const BATCH: u32 = 65536;
+
+/// A record of what a machine is given.
+pub trait Record {
+    ghost use Rattle.std.specs.Prelude.{[], List, Option, option_map, ◌++◌, ◌∷◌, ◌≡◌};
+    ghost use Rattle.unixmodel.specs.declared.event.Event.{Event};
+
+    /// The events that are recorded, where they are known.
+    ghost kept: { Self → Option (List Event) };
+
+    /// Records this event behind the others.
+    fn note(&mut self, event: Event)
+        ensures { kept self.new ≡ option_map (λ events. events ++ event ∷ []) (kept self.old) };
+}
+
+/// What was waited for did not come.
+#[derive(Clone, Copy)]
+pub struct Unreached {
+    /// The number of the line that waits, from 1 on.
+    pub line: usize,
+    /// How many steps it waited.
+    pub steps: u32,
+}
+
+// One event, which is recorded.
+fn give<D: BlockDev, T: Translate + Drop, R: Record, V: Watch, W: Write>(
+    machine: &mut Machine<D, T>,
+    event: Event,
+    keeper: &mut R,
+    watch: &mut V,
+    out: &mut Tail<W>,
+) -> Result<(), Halt>
+    requires { IsUp machine.old }
+    ensures { IsPlayed machine.old machine.new (W.contents out.old.out.inner) (W.contents out.new.out.inner) out.old.out.failed out.new.out.failed (R.kept keeper.old) (R.kept keeper.new) result }
+{
+    keeper.note(event);
+    watch.before(machine, event);
+    let ended = machine.step(event, out);
+    watch.after(machine, event, ended);
+    ended
+}
+
+// The same event, so many times.
+fn repeat<D: BlockDev, T: Translate + Drop, R: Record, V: Watch, W: Write>(
+    machine: &mut Machine<D, T>,
+    event: Event,
+    times: u32,
+    keeper: &mut R,
+    watch: &mut V,
+    out: &mut Tail<W>,
+) -> Result<(), Halt>
+    requires { IsUp machine.old }
+    ensures { IsPlayed machine.old machine.new (W.contents out.old.out.inner) (W.contents out.new.out.inner) out.old.out.failed out.new.out.failed (R.kept keeper.old) (R.kept keeper.new) result }
+{
+    for _made in 0..times {
+        give(machine, event, keeper, watch, out)?;
+    }
+    Ok(())
+}
+
+// Keys, one after the other.
+fn press<D: BlockDev, T: Translate + Drop, R: Record, V: Watch, W: Write>(
+    machine: &mut Machine<D, T>,
+    keys: &[u8],
+    keeper: &mut R,
+    watch: &mut V,
+    out: &mut Tail<W>,
+) -> Result<(), Halt>
+    requires { IsUp machine.old }
+    ensures { IsPlayed machine.old machine.new (W.contents out.old.out.inner) (W.contents out.new.out.inner) out.old.out.failed out.new.out.failed (R.kept keeper.old) (R.kept keeper.new) result }
+{
+    for key in keys {
+        give(machine, Event::Key(*key), keeper, watch, out)?;
+    }
+    Ok(())
+}
+
+// A tick where it is due.
+fn tick_if<D: BlockDev, T: Translate + Drop, R: Record, V: Watch, W: Write>(
+    machine: &mut Machine<D, T>,
+    is_due: bool,
+    keeper: &mut R,
+    watch: &mut V,
+    out: &mut Tail<W>,
+) -> Result<(), Halt>
+    requires { IsUp machine.old }
+    ensures { IsPlayed machine.old machine.new (W.contents out.old.out.inner) (W.contents out.new.out.inner) out.old.out.failed out.new.out.failed (R.kept keeper.old) (R.kept keeper.new) result }
+{
+    if is_due {
+        give(machine, Event::Tick, keeper, watch, out)
+    } else {
+        Ok(())
+    }
+}
+
+// A step, and a tick where the clock strikes.
+fn pace<D: BlockDev, T: Translate + Drop, R: Record, V: Watch, W: Write>(
+    machine: &mut Machine<D, T>,
+    clock: &mut Clock,
+    keeper: &mut R,
+    watch: &mut V,
+    out: &mut Tail<W>,
+) -> Result<(), Halt>
+    requires { IsUp machine.old }
+    ensures { IsPlayed machine.old machine.new (W.contents out.old.out.inner) (W.contents out.new.out.inner) out.old.out.failed out.new.out.failed (R.kept keeper.old) (R.kept keeper.new) result }
+{
+    give(machine, Event::Step, keeper, watch, out)?;
+    tick_if(machine, clock.strikes(), keeper, watch, out)
+}
+
+// Whether that has come for which a play waits. A halt ends the play before.
+fn is_reached<D: BlockDev, T: Translate + Drop, W: Write>(
+    machine: &Machine<D, T>,
+    goal: Option<&Goal>,
+    out: &Tail<W>,
+) -> bool {
+    match goal {
+        Some(Goal::Shown(text)) => out.ends_with(text.as_slice()),
+        Some(Goal::Idle) => machine.is_idle(),
+        Some(Goal::Halt) | None => false,
+    }
+}
+
+// Writes out the console's bytes where a batch of steps begins.
+fn write_out_at<W: Write>(made: u32, out: &mut Tail<W>)
+    ensures kept { Keeps (W.contents out.old.out.inner) (W.contents out.new.out.inner) }
+    ensures later { out.old.out.failed ≤ out.new.out.failed }
+{
+    if made % BATCH == 0 {
+        out.flush();
+    }
+}
+
+// Steps until that has come for which a play waits, so many at most; and whether it has come.
+fn walk<D: BlockDev, T: Translate + Drop, R: Record, V: Watch, W: Write>(
+    machine: &mut Machine<D, T>,
+    goal: Option<&Goal>,
+    most: u32,
+    clock: &mut Clock,
+    keeper: &mut R,
+    watch: &mut V,
+    out: &mut Tail<W>,
+) -> Result<bool, Halt>
+    requires { IsUp machine.old }
+    ensures { IsPlayed machine.old machine.new (W.contents out.old.out.inner) (W.contents out.new.out.inner) out.old.out.failed out.new.out.failed (R.kept keeper.old) (R.kept keeper.new) (halts result) }
+{
+    for made in 0..most {
+        if is_reached(machine, goal, out) {
+            return Ok(true);
+        }
+        write_out_at(made, out);
+        pace(machine, clock, keeper, watch, out)?;
+    }
+    Ok(is_reached(machine, goal, out))
+}
+
+// The events of a command.
+fn command<D: BlockDev, T: Translate + Drop, R: Record, V: Watch, W: Write>(
+    machine: &mut Machine<D, T>,
+    command: &Command<'_>,
+    clock: &mut Clock,
+    keeper: &mut R,
+    watch: &mut V,
+    out: &mut Tail<W>,
+) -> Result<(), Halt>
+    requires { IsUp machine.old }
+    ensures { IsPlayed machine.old machine.new (W.contents out.old.out.inner) (W.contents out.new.out.inner) out.old.out.failed out.new.out.failed (R.kept keeper.old) (R.kept keeper.new) result }
+{
+    match command {
+        Command::Step(times) => {
+            let _reached = walk(machine, None, *times, clock, keeper, watch, out)?;
+            Ok(())
+        }
+        Command::Tick(times) => repeat(machine, Event::Tick, *times, keeper, watch, out),
+        Command::Keys(keys) => press(machine, keys.as_slice(), keeper, watch, out),
+        Command::Type(text) => {
+            press(machine, text, keeper, watch, out)?;
+            give(machine, Event::Key(LINE_END), keeper, watch, out)
+        }
+    }
+}
+
+// The events of an act; and what it waited for in vain, if it did.
+fn act<D: BlockDev, T: Translate + Drop, R: Record, V: Watch, W: Write>(
+    machine: &mut Machine<D, T>,
+    act: &Act<'_>,
+    clock: &mut Clock,
+    keeper: &mut R,
+    watch: &mut V,
+    out: &mut Tail<W>,
+) -> Result<Option<Unreached>, Halt>
+    requires { IsUp machine.old }
+    ensures { IsPlayed machine.old machine.new (W.contents out.old.out.inner) (W.contents out.new.out.inner) out.old.out.failed out.new.out.failed (R.kept keeper.old) (R.kept keeper.new) (halts result) }
+{
+    match &act.deed {
+        Deed::Give(said) => {
+            command(machine, said, clock, keeper, watch, out)?;
+            Ok(None)
+        }
+        Deed::Until(goal, most) => {
+            let (line, steps) = (act.line, *most);
+            let is_there = walk(machine, Some(goal), steps, clock, keeper, watch, out)?;
+            Ok((!is_there).then_some(Unreached { line, steps }))
+        }
+        Deed::Set(next) => {
+            *clock = *next;
+            Ok(None)
+        }
+        Deed::Repeat { .. } | Deed::End => Ok(None),
+    }
+}
+
+/// The events of a play, up to the first at which the machine halts, or to a line that waits in vain, which is told then: the
+/// machine's run over them all, and just these are recorded. The console's bytes are written out as the machine runs.
+pub fn perform<D: BlockDev, T: Translate + Drop, R: Record, V: Watch, W: Write>(
+    machine: &mut Machine<D, T>,
+    play: &Play<'_>,
+    keeper: &mut R,
+    watch: &mut V,
+    out: &mut Tail<W>,
+) -> Result<Option<Unreached>, Halt>
+    requires { IsUp machine.old }
+    ensures { IsPlayed machine.old machine.new (W.contents out.old.out.inner) (W.contents out.new.out.inner) out.old.out.failed out.new.out.failed (R.kept keeper.old) (R.kept keeper.new) (halts result) }
+{
+    let mut place = Place::new();
+    let mut clock = Clock::Off;
+    for _acts in 0..u64::MAX {
+        let Some(next) = place.next_act(play.acts.as_slice()) else {
+            break;
+        };
+        let unreached = act(machine, next, &mut clock, keeper, watch, out)?;
+        if unreached.is_some() {
+            return Ok(unreached);
+        }
+        out.flush();
+    }
+    Ok(None)
+}
