@@ -136,3 +136,32 @@ refusals: | program
 # Lays out the sources of every crate.
 fmt:
 	@for crate in crates/*/; do (cd $$crate && rt fmt) || exit 1; done
+
+# ---- the page
+
+# The machine as a page of one file, which opens offline: out/web/xv6.html. It takes the proved library of crates/xv6_c, and Debian's
+# package binaryen. A module that is there already is taken by MODULE=FILE.
+WEB := out/web/xv6.html
+MODULE := out/web/machine.wasm
+
+.PHONY: web check-web
+
+web: $(WEB)
+
+out/web/machine.wasm: $(wildcard crates/xv6_c/src/*.rt c/xv6.h web/*.sh)
+	web/build.sh out/web
+
+# The page's image has the user programs, and unhex, by which files are put on it.
+out/web/xv6.img: user/manifest web/unhex.s $(USER) | program
+	$(PROGRAM) asm web/unhex.s out/user/unhex
+	{ cat user/manifest; echo 'file /unhex unhex'; } > out/user/web-manifest
+	@mkdir -p $(@D)
+	cd out/user && $(abspath $(PROGRAM)) mkfs web-manifest $(abspath $@)
+
+$(WEB): $(MODULE) out/web/xv6.img $(wildcard web/*.js web/*.css web/*.html) web/make_page.py
+	web/make_page.py $(MODULE) out/web/xv6.img $@
+	@echo '$@ is written: open it in a browser'
+
+# Uses the page in a browser without a window, and compares it with the program. It needs Debian's package chromium.
+check-web: $(WEB)
+	web/check.py $(WEB) $(PROGRAM) out/web/xv6.img out/web/pictures

@@ -1,0 +1,213 @@
+// Looks at each step of the hart, and tells the kernel calls of the programs as lines.
+import { isCall } from "./disassembly.js";
+
+const MOST_LINES = 200;
+const MOST_BYTES = 32;
+const PAGE = 4096;
+const A0 = 10;
+const A7 = 17;
+
+// How the arguments of a call are told: a number, an address, a path, an argument list, bytes that go out or come in.
+const CALLS = {
+  1: { name: "fork", takes: [] },
+  2: { name: "exit", takes: ["number"] },
+  3: { name: "wait", takes: ["address"] },
+  4: { name: "pipe", takes: ["address"] },
+  5: { name: "read", takes: ["number", "in", "number"] },
+  6: { name: "kill", takes: ["number"] },
+  7: { name: "exec", takes: ["path", "list"] },
+  8: { name: "fstat", takes: ["number", "address"] },
+  9: { name: "chdir", takes: ["path"] },
+  10: { name: "dup", takes: ["number"] },
+  11: { name: "getpid", takes: [] },
+  12: { name: "sbrk", takes: ["number"] },
+  13: { name: "sleep", takes: ["number"] },
+  14: { name: "uptime", takes: [] },
+  15: { name: "open", takes: ["path", "flags"] },
+  16: { name: "write", takes: ["number", "out", "number"] },
+  17: { name: "mknod", takes: ["path", "number", "number"] },
+  18: { name: "unlink", takes: ["path"] },
+  19: { name: "link", takes: ["path", "path"] },
+  20: { name: "mkdir", takes: ["path"] },
+  21: { name: "close", takes: ["number"] },
+};
+const READ = 5;
+const WRITE = 16;
+const EXIT = 2;
+const EXEC = 7;
+
+export const callName = (number) => CALLS[number]?.name ?? `call ${number}`;
+
+const low = (value) => Number(BigInt.asIntN(32, value));
+const hex = (value) => `0x${value.toString(16)}`;
+const ESCAPES = { 0x0a: "\\n", 0x09: "\\t", 0x0d: "\\r", 0x22: '\\"', 0x5c: "\\\\" };
+
+function letterOf(byte) {
+  if (ESCAPES[byte]) return ESCAPES[byte];
+  return byte >= 0x20 && byte < 0x7f ? String.fromCharCode(byte) : `\\${byte.toString(8)}`;
+}
+
+function quote(bytes) {
+  const text = bytes.slice(0, MOST_BYTES).map(letterOf).join("");
+  return `"${text}"${bytes.length > MOST_BYTES ? "..." : ""}`;
+}
+
+/** What a waiting process waits for, in words. */
+export function waitsFor({ call, registers }) {
+  const first = low(registers[A0]);
+  switch (callName(call)) {
+    case "read":
+      return `read: bytes at descriptor ${first}`;
+    case "write":
+      return `write: room at descriptor ${first}`;
+    case "wait":
+      return "wait: the end of a child";
+    case "sleep":
+      return `sleep: ${first} ticks`;
+    default:
+      return callName(call);
+  }
+}
+
+// Bytes of a program's memory, as far as there is any.
+function bytesAt(machine, pid, address, count) {
+  const bytes = [];
+  let at = address;
+  while (bytes.length < count) {
+    const page = machine.page(pid, at / BigInt(PAGE));
+    if (!page?.read) break;
+    const from = Number(at % BigInt(PAGE));
+    const part = page.bytes.subarray(from, from + count - bytes.length);
+    bytes.push(...part);
+    at += BigInt(part.length);
+  }
+  return bytes;
+}
+
+function textAt(machine, pid, address) {
+  const bytes = bytesAt(machine, pid, address, MOST_BYTES + 1);
+  const end = bytes.indexOf(0);
+  return quote(end < 0 ? bytes : bytes.slice(0, end));
+}
+
+function listAt(machine, pid, address) {
+  const texts = [];
+  for (let index = 0n; index < 8n; index += 1n) {
+    const pointer = bytesAt(machine, pid, address + 8n * index, 8);
+    const at = pointer.reduceRight((sum, byte) => sum * 256n + BigInt(byte), 0n);
+    if (pointer.length < 8 || at === 0n) return `[${texts.join(", ")}]`;
+    texts.push(textAt(machine, pid, at));
+  }
+  return `[${texts.join(", ")}, ...]`;
+}
+
+function told(machine, process, kind, index) {
+  const value = process.registers[A0 + index];
+  switch (kind) {
+    case "number":
+      return String(low(value));
+    case "path":
+      return textAt(machine, process.pid, value);
+    case "list":
+      return listAt(machine, process.pid, value);
+    default:
+      return hex(value);
+  }
+}
+
+/** The last calls of each process, while it is watched. */
+export class Calls {
+  constructor() {
+    this.lines = [];
+    this.open = new Map();
+    this.running = 0;
+  }
+
+  /** What the calls of a process were, the oldest first. */
+  of(pid) {
+    return this.lines.filter((line) => line.pid === pid);
+  }
+
+  /** So many steps at most, each looked at. */
+  run(machine, most, done) {
+    let count = 0;
+    while (count < most) {
+      const process = this.runningProcess(machine);
+      if (process) this.before(machine, process);
+      const made = machine.run(1, done);
+      if (made === 0) break;
+      count += made;
+    }
+    return count;
+  }
+
+  runningProcess(machine) {
+    const known = this.running && machine.process(this.running);
+    const process = known?.state === "running" ? known : machine.processes().find(({ state }) => state === "running");
+    this.running = process?.pid ?? 0;
+    return process;
+  }
+
+  // A process that runs has the answer of its last call, and may be at the next one.
+  before(machine, process) {
+    this.answer(machine, process);
+    const page = machine.page(process.pid, process.pc / BigInt(PAGE));
+    if (!page?.execute) return;
+    const at = Number(process.pc % BigInt(PAGE));
+    if (at % 4 === 0 && isCall(new DataView(page.bytes.buffer).getInt32(at, true))) this.begin(machine, process);
+  }
+
+  begin(machine, process) {
+    const number = low(process.registers[A7]);
+    const { takes = [] } = CALLS[number] ?? {};
+    const line = {
+      pid: process.pid,
+      number,
+      at: process.pc,
+      buffer: process.registers[A0 + 1],
+      parts: takes.map((kind, index) => told(machine, process, kind, index)),
+      answer: number === EXIT ? "?" : null,
+      bytes: null,
+      times: 1,
+    };
+    if (number === WRITE) this.spell(line, bytesAt(machine, process.pid, line.buffer, this.room(low(process.registers[A0 + 2]))));
+    this.lines.push(line);
+    if (this.lines.length > 2 * MOST_LINES) this.lines.splice(0, MOST_LINES);
+    if (number !== EXIT) this.open.set(process.pid, line);
+  }
+
+  room(count) {
+    return Math.max(0, Math.min(count, MOST_BYTES + 1));
+  }
+
+  spell(line, bytes) {
+    line.bytes = bytes;
+    line.parts[1] = quote(bytes);
+  }
+
+  answer(machine, process) {
+    const line = this.open.get(process.pid);
+    if (!line || (process.pc === line.at && line.number !== EXEC)) return;
+    this.open.delete(process.pid);
+    const answer = low(process.registers[A0]);
+    line.answer = String(answer);
+    if (line.number === READ) this.spell(line, bytesAt(machine, process.pid, line.buffer, this.room(answer)));
+    this.join(line);
+  }
+
+  // Reads and writes of single bytes, one behind the other, are one line.
+  join(line) {
+    const before = this.of(line.pid).at(-2);
+    const alike = before?.bytes && line.bytes?.length === 1 && before.number === line.number && before.answer === "1" && line.answer === "1";
+    if (!alike || before.parts[0] !== line.parts[0]) return;
+    this.lines.splice(this.lines.lastIndexOf(line), 1);
+    before.times += 1;
+    this.spell(before, [...before.bytes, ...line.bytes]);
+  }
+}
+
+/** A line of a call. */
+export function callText({ number, parts, answer, times }) {
+  const joined = times > 1 ? ` (${times} times)` : "";
+  return `${callName(number)}(${parts.join(", ")}) = ${answer ?? "waits"}${joined}`;
+}

@@ -1,0 +1,239 @@
+// The machine in WebAssembly: the module, and its functions as the methods of a class.
+import { Heap } from "./heap.js";
+
+const MAJOR = 1;
+const ROOM = 4096;
+const PROCESS_SIZE = 296;
+const ROOT = 1;
+const ENTRY_SIZE = 16;
+
+const HALTS = ["", "process 1 has ended", "the disk failed", "no memory for the console's bytes", "the machine has stopped"];
+const BOOTS = [
+  "",
+  "these bytes are no disk image",
+  "a machine has from 64 to 32768 frames",
+  "the disk failed",
+  "the browser has no memory",
+  "the image has no program /init that fits",
+];
+const STATES = ["", "running", "ready", "waiting", "ended"];
+const KINDS = ["", "directory", "file", "device"];
+
+/** Why a machine stops. */
+export class Halt extends Error {
+  constructor(number) {
+    super(HALTS[number]);
+    this.number = number;
+  }
+}
+
+// What the module asks of its host: memory, and the product of two numbers of 128 bits.
+function hostOf(loaded) {
+  const answer = (result, at) => {
+    const view = loaded.heap.view();
+    view.setBigUint64(Number(result), at ? 1n : 0n, true);
+    view.setBigUint64(Number(result) + 8, BigInt(at), true);
+  };
+  return {
+    rattle_alloc: (result, size) => answer(result, loaded.heap.take(Number(size))),
+    rattle_dealloc: (at) => loaded.heap.give(Number(at)),
+    rattle_realloc: (result, at, kept, size) => {
+      const to = loaded.heap.take(Number(size));
+      if (to) {
+        loaded.heap.bytes(to, Number(kept)).set(loaded.heap.bytes(Number(at), Number(kept)));
+        loaded.heap.give(Number(at));
+      }
+      answer(result, to);
+    },
+    __multi3: (result, low, high, otherLow, otherHigh) => {
+      const whole = (lower, upper) => (BigInt.asUintN(64, upper) << 64n) | BigInt.asUintN(64, lower);
+      const product = whole(low, high) * whole(otherLow, otherHigh);
+      const view = loaded.heap.view();
+      view.setBigUint64(Number(result), BigInt.asUintN(64, product), true);
+      view.setBigUint64(Number(result) + 8, BigInt.asUintN(64, product >> 64n), true);
+    },
+  };
+}
+
+/** Compiles the module. A machine is made of what comes back by `Machine.boot`. */
+export async function loadModule(bytes) {
+  const loaded = { heap: null, calls: null };
+  const { instance } = await WebAssembly.instantiate(bytes, { env: hostOf(loaded) });
+  const { exports } = instance;
+  loaded.heap = new Heap(exports.memory, Number(exports.__heap_base.value));
+  loaded.calls = exports;
+  const major = Math.floor(exports.xv6_raw_version() / 1000);
+  if (major !== MAJOR) throw new Error(`the module has version ${major}, and not ${MAJOR}`);
+  return loaded;
+}
+
+/** A machine. Each call may throw a `Halt`. */
+export class Machine {
+  /** Boots a machine from the bytes of an image. It throws where they are none. */
+  static boot(module, image, frames) {
+    const { heap, calls } = module;
+    const at = heap.take(image.length);
+    const handle = heap.take(16);
+    if (!at || !handle) throw new Error(BOOTS[4]);
+    heap.bytes(at, image.length).set(image);
+    const fault = calls.xv6_raw_boot(BigInt(at), BigInt(image.length), frames, BigInt(handle));
+    heap.give(at);
+    if (fault) {
+      heap.give(handle);
+      throw new Error(BOOTS[fault]);
+    }
+    return new Machine(module, handle, image.length);
+  }
+
+  constructor({ heap, calls }, handle, imageLength) {
+    this.heap = heap;
+    this.calls = calls;
+    this.handle = BigInt(handle);
+    this.imageLength = imageLength;
+    this.count = heap.take(16);
+    this.room = heap.take(ROOM);
+    this.countAt = BigInt(this.count);
+    this.roomAt = BigInt(this.room);
+  }
+
+  check(number) {
+    if (number) throw new Halt(number);
+  }
+
+  /** So many steps. */
+  steps(times) {
+    this.check(this.calls.xv6_raw_steps(this.handle, times));
+  }
+
+  /** At most so many steps, and none once nobody runs or is ready. `done` is called with their number, also before a halt. */
+  run(most, done) {
+    const halt = this.calls.xv6_raw_run(this.handle, most, this.countAt);
+    const count = this.heap.view().getUint32(this.count, true);
+    done(count);
+    this.check(halt);
+    return count;
+  }
+
+  tick() {
+    this.check(this.calls.xv6_raw_tick(this.handle));
+  }
+
+  key(byte) {
+    this.check(this.calls.xv6_raw_key(this.handle, byte));
+  }
+
+  /** The console's bytes since the last call. */
+  console() {
+    const parts = [];
+    for (;;) {
+      const count = Number(this.calls.xv6_raw_console(this.handle, this.roomAt, BigInt(ROOM)));
+      if (count === 0) return parts.flat();
+      parts.push([...this.heap.bytes(this.room, count)]);
+    }
+  }
+
+  /** A process; `null` where there is none with this pid. */
+  process(pid) {
+    if (this.calls.xv6_raw_process(this.handle, pid, this.roomAt)) return null;
+    const view = new DataView(this.heap.memory.buffer, this.room, PROCESS_SIZE);
+    const registers = Array.from({ length: 32 }, (_, index) => view.getBigUint64(8 * index, true));
+    return {
+      registers,
+      pc: view.getBigUint64(256, true),
+      size: Number(view.getBigUint64(264, true)),
+      pid: view.getUint32(272, true),
+      parent: view.getUint32(276, true),
+      state: STATES[view.getUint32(280, true)],
+      call: view.getUint32(284, true),
+      status: view.getInt32(288, true),
+      killed: view.getUint32(292, true) !== 0,
+    };
+  }
+
+  processes() {
+    const all = [];
+    let pid = this.calls.xv6_raw_next_pid(this.handle, 0);
+    while (pid) {
+      all.push(this.process(pid));
+      pid = this.calls.xv6_raw_next_pid(this.handle, pid);
+    }
+    return all;
+  }
+
+  /** Whether a page may be read, written and executed, and its bytes; `null` where there is no such page. */
+  page(pid, number) {
+    const marks = this.calls.xv6_raw_page(this.handle, pid, BigInt(number), this.roomAt, BigInt(ROOM));
+    if (!marks) return null;
+    return {
+      read: (marks & 2) !== 0,
+      write: (marks & 4) !== 0,
+      execute: (marks & 8) !== 0,
+      bytes: this.heap.bytes(this.room, ROOM).slice(),
+    };
+  }
+
+  freeFrames() {
+    return this.calls.xv6_raw_free_frames(this.handle);
+  }
+
+  /** A node of the disk; `null` where there is none. */
+  stat(inode) {
+    this.check(this.calls.xv6_raw_stat(this.handle, BigInt(inode), this.roomAt));
+    const view = new DataView(this.heap.memory.buffer, this.room, 12);
+    const kind = KINDS[view.getUint32(0, true)];
+    return kind ? { inode, kind, links: view.getUint32(4, true), size: view.getUint32(8, true) } : null;
+  }
+
+  /** All bytes of a node. */
+  read(inode) {
+    const whole = new Uint8Array(this.stat(inode)?.size ?? 0);
+    let at = 0;
+    while (at < whole.length) {
+      this.check(this.calls.xv6_raw_read(this.handle, BigInt(inode), BigInt(at), this.roomAt, BigInt(ROOM), this.countAt));
+      const count = Number(this.heap.view().getBigUint64(this.count, true));
+      if (count === 0) break;
+      whole.set(this.heap.bytes(this.room, count), at);
+      at += count;
+    }
+    return whole.subarray(0, at);
+  }
+
+  /** The names in a directory, but for `.` and `..`, with what is there. */
+  names(directory = ROOT) {
+    const bytes = this.read(directory);
+    const all = [];
+    for (let at = 0; at + ENTRY_SIZE <= bytes.length; at += ENTRY_SIZE) {
+      const inode = bytes[at] | (bytes[at + 1] << 8);
+      const name = String.fromCharCode(...bytes.subarray(at + 2, at + ENTRY_SIZE)).replace(/\0.*$/s, "");
+      if (inode && name !== "." && name !== "..") all.push({ name, ...this.stat(inode) });
+    }
+    return all;
+  }
+
+  inside() {
+    return this.heap.view().getBigUint64(Number(this.handle), true);
+  }
+
+  /** Ends the machine. No call may follow. */
+  close() {
+    this.calls.xv6_raw_close(this.inside());
+    this.forget();
+  }
+
+  /** Ends the machine, and hands back the bytes of its disk. */
+  save() {
+    const at = this.heap.take(this.imageLength);
+    if (!at) throw new Error(BOOTS[4]);
+    const halt = this.calls.xv6_raw_save(this.inside(), BigInt(at), BigInt(this.imageLength), this.countAt);
+    const image = this.heap.bytes(at, this.imageLength).slice();
+    this.heap.give(at);
+    this.forget();
+    this.check(halt);
+    return image;
+  }
+
+  forget() {
+    for (const at of [Number(this.handle), this.count, this.room]) this.heap.give(at);
+    this.calls = null;
+  }
+}
