@@ -161,7 +161,7 @@ class Check:
         self.browser.wait(f"!document.getElementById('status').textContent.includes({json.dumps(before)})", "three steps")
         self.browser.press("F8")
         self.settle("ls")
-        for wanted in ("copy", "pid-1"):
+        for wanted in ("copy", "follow", "pid-1"):
             self.browser.press("Tab")
             self.equal(self.browser.js("document.activeElement.id"), wanted, f"Tab leads to {wanted}")
         console, _ = self.run(self.link()[1])
