@@ -132,29 +132,33 @@ export class Calls {
   run(machine, most, done) {
     let count = 0;
     while (count < most) {
-      const process = this.runningProcess(machine);
-      if (process) this.before(machine, process);
-      const made = machine.run(1, done);
-      if (made === 0) break;
-      count += made;
+      const pid = this.runningIn(machine);
+      if (pid) this.before(machine, pid);
+      if (machine.run(1, done) === 0) break;
+      count += 1;
     }
     return count;
   }
 
-  runningProcess(machine) {
-    const known = this.running && machine.process(this.running);
-    const process = known?.state === "running" ? known : machine.processes().find(({ state }) => state === "running");
-    this.running = process?.pid ?? 0;
-    return process;
+  /** What was not looked at is not known. */
+  lose() {
+    for (const line of this.open.values()) line.answer = "?";
+    this.open.clear();
+  }
+
+  runningIn(machine) {
+    if (this.running && machine.isRunning(this.running)) return this.running;
+    this.running = machine.processes().find(({ state }) => state === "running")?.pid ?? 0;
+    return this.running && machine.isRunning(this.running) ? this.running : 0;
   }
 
   // A process that runs has the answer of its last call, and may be at the next one.
-  before(machine, process) {
+  before(machine, pid) {
+    const isAtCall = isCall(machine.word(pid));
+    if (!isAtCall && !this.open.has(pid)) return;
+    const process = machine.process(pid);
     this.answer(machine, process);
-    const page = machine.page(process.pid, process.pc / BigInt(PAGE));
-    if (!page?.execute) return;
-    const at = Number(process.pc % BigInt(PAGE));
-    if (at % 4 === 0 && isCall(new DataView(page.bytes.buffer).getInt32(at, true))) this.begin(machine, process);
+    if (isAtCall && !this.open.has(pid)) this.begin(machine, process);
   }
 
   begin(machine, process) {

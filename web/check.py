@@ -62,13 +62,13 @@ class Check:
 
     # ---- the program
 
-    def run(self, script):
-        """What the program prints of a script, and the image that it leaves."""
+    def run(self, script, ends="running\n"):
+        """What the program prints of a script that ends like that, and the image that it leaves."""
         (self.folder / "script").write_text(script)
         left = self.folder / "left.img"
         words = [self.program, "run", "--frames", "256", "--save", str(left), self.image, str(self.folder / "script")]
         done = subprocess.run(words, capture_output=True, check=False)
-        if done.stderr != b"running\n":
+        if done.stderr.decode() != ends:
             raise SystemExit(f"the program says {done.stderr!r}")
         return done.stdout, left.read_bytes()
 
@@ -167,6 +167,31 @@ class Check:
         console, _ = self.run(self.link()[1])
         self.equal(self.screen(), self.shown(console), "steps by keys")
 
+    def shows(self):
+        """^P shows the processes."""
+        self.browser.js("document.getElementById('keys').focus()")
+        before = self.screen()
+        self.browser.press("p", control=True)
+        self.equal(self.screen(), before + "\n1 sleep 12288\n2 sleep 12288\n", "^P shows the processes")
+
+    def ends(self):
+        """A machine stops where process 1 ends."""
+        self.browser.click("#boot")
+        self.settle("another boot")
+        self.browser.type("kill 1\n")
+        self.browser.wait("document.getElementById('status').textContent.startsWith('stopped: process 1 has ended')", "the end")
+        console, _ = self.run(self.link()[1], "halt 1 InitEnded -1\n")
+        self.equal(self.screen(), self.shown(console), "process 1 ends")
+
+    def scripts(self):
+        """A script is played."""
+        script = "step 1000\ntype ls\nstep 20000\ntick 2\n"
+        (self.folder / "played").write_text(script)
+        self.browser.give_file("#script-input", self.folder / "played")
+        self.browser.wait("document.getElementById('status').textContent.includes('2 ticks, 3 keys')", "the script")
+        console, _ = self.run(script)
+        self.equal(self.screen(), self.shown(console), "a script is played")
+
     def fits(self, width):
         wide = self.browser.js("document.documentElement.scrollWidth")
         self.equal(wide <= width, True, f"nothing is wider than {width} pixels")
@@ -197,6 +222,10 @@ def use(check, width):
     check.browser.picture(check.pictures / f"web-{width}.png", whole=True)
     check.images()
     check.steps()
+    check.shows()
+    check.ends()
+    check.scripts()
+    check.lines()
     address, _ = check.link()
     check.links(address, check.screen(), width)
     check.browser.size(width, WIDTHS[width], dark=True)

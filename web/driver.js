@@ -83,7 +83,13 @@ export class Driver {
     this.guard(() => this.machine.key(byte));
   }
 
-  /** What was typed: at once, but behind what was pasted. */
+  /** Whether each step is looked at, so that calls can be told. */
+  watch(isWatched) {
+    if (!isWatched) this.calls.lose();
+    this.isWatched = isWatched;
+  }
+
+  /** What was typed: at once, but behind what was pasted. The rest of a replay goes. */
   type(bytes) {
     if (this.halt) return;
     this.replayed = [];
@@ -96,6 +102,12 @@ export class Driver {
     this.record.repeat("tick", 1);
     this.sinceTick = { time: 0, steps: 0 };
     this.guard(() => this.machine.tick());
+  }
+
+  /** A tick of the reader's. The rest of a replay goes. */
+  tickByHand() {
+    this.replayed = [];
+    this.tick();
   }
 
   /** At most so many steps; how many there were. */

@@ -16,6 +16,7 @@ export class Heap {
     this.end = Math.ceil(start / SMALLEST) * SMALLEST;
     this.free = new Map();
     this.rooms = new Map();
+    this.window = null;
   }
 
   /** The address of a new block; 0 where the browser has no memory. */
@@ -51,9 +52,11 @@ export class Heap {
     }
   }
 
-  /** A window on all of the memory. It is taken anew each time, since the memory may have grown. */
+  /** A window on all of the memory. A memory that has grown has another buffer. */
   view() {
-    return new DataView(this.memory.buffer);
+    const { buffer } = this.memory;
+    if (this.window?.buffer !== buffer) this.window = new DataView(buffer);
+    return this.window;
   }
 
   bytes(at, count) {

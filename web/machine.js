@@ -3,7 +3,12 @@ import { Heap } from "./heap.js";
 
 const MAJOR = 1;
 const ROOM = 4096;
+const PAGE = 4096n;
 const PROCESS_SIZE = 296;
+const PC = 256;
+const STATE = 280;
+const RUNNING = 1;
+const EXECUTE = 8;
 const ROOT = 1;
 const ENTRY_SIZE = 16;
 
@@ -139,15 +144,28 @@ export class Machine {
     const registers = Array.from({ length: 32 }, (_, index) => view.getBigUint64(8 * index, true));
     return {
       registers,
-      pc: view.getBigUint64(256, true),
+      pc: view.getBigUint64(PC, true),
       size: Number(view.getBigUint64(264, true)),
       pid: view.getUint32(272, true),
       parent: view.getUint32(276, true),
-      state: STATES[view.getUint32(280, true)],
+      state: STATES[view.getUint32(STATE, true)],
       call: view.getUint32(284, true),
       status: view.getInt32(288, true),
       killed: view.getUint32(292, true) !== 0,
     };
+  }
+
+  /** Whether a process runs; then its pc stands where `word` finds it. */
+  isRunning(pid) {
+    return this.calls.xv6_raw_process(this.handle, pid, this.roomAt) === 0 && this.heap.view().getUint32(this.room + STATE, true) === RUNNING;
+  }
+
+  /** The word at the pc of the process that `isRunning` looked at; 0 where there is none. */
+  word(pid) {
+    const pc = this.heap.view().getBigUint64(this.room + PC, true);
+    const at = Number(pc % PAGE);
+    const marks = this.calls.xv6_raw_page(this.handle, pid, pc / PAGE, this.roomAt, BigInt(Math.min(at + 4, ROOM)));
+    return marks & EXECUTE && at % 4 === 0 ? this.heap.view().getInt32(this.room + at, true) : 0;
   }
 
   processes() {
@@ -167,7 +185,7 @@ export class Machine {
     return {
       read: (marks & 2) !== 0,
       write: (marks & 4) !== 0,
-      execute: (marks & 8) !== 0,
+      execute: (marks & EXECUTE) !== 0,
       bytes: this.heap.bytes(this.room, ROOM).slice(),
     };
   }

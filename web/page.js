@@ -15,6 +15,7 @@ const PAGE_SIZE = 4096;
 const MOST_SHOWN = 1 << 16;
 
 const grouped = (number) => number.toLocaleString("en");
+const counted = (number, word) => `${grouped(number)} ${word}${number === 1 ? "" : "s"}`;
 
 /** What the reader sees and does. */
 class Page {
@@ -44,7 +45,9 @@ class Page {
 
   /** Another machine, with the events of a session or none. */
   boot(image, frames, events = []) {
+    const begin = performance.now();
     const driver = new Driver(this.module, image, frames);
+    const time = performance.now() - begin;
     this.driver?.close();
     this.driver = driver;
     this.image = image;
@@ -56,13 +59,13 @@ class Page {
     byId("first-image").hidden = image === this.firstImage;
     this.shown.length = -1;
     this.shown.filesLength = -1;
-    this.say("");
+    this.say(`booted in ${time.toFixed(0)} ms`);
   }
 
   obeyControls() {
     this.driver.rate = Number(byId("rate").value);
     this.driver.hasClock = byId("clock").checked;
-    this.driver.isWatched = byId("watch").checked;
+    this.driver.watch(byId("watch").checked);
   }
 
   // ---- what happens
@@ -140,7 +143,7 @@ class Page {
     const { step, tick, keys } = driver.record.count;
     const state = driver.halt ? `stopped: ${driver.halt.message}` : driver.isReplaying ? "replays" : driver.isRunning ? "runs" : "pauses";
     const frames = `${grouped(driver.machine.freeFrames())} of ${grouped(driver.record.frames)} frames free`;
-    const events = `${grouped(step)} steps, ${grouped(tick)} ticks, ${grouped(keys)} keys`;
+    const events = [counted(step, "step"), counted(tick, "tick"), counted(keys, "key")].join(", ");
     byId("status").textContent = [state, events, frames, this.pace.text].filter((part) => part).join(" · ");
     byId("run").textContent = driver.isRunning ? "Pause" : "Run";
   }
@@ -152,7 +155,8 @@ class Page {
       this.shown.time = time;
       this.show();
     }
-    if (length !== this.shown.filesLength && time - this.shown.files >= SHOW_FILES_EVERY) {
+    const filesEvery = this.driver.isBusy ? SHOW_FILES_EVERY : SHOW_EVERY;
+    if (length !== this.shown.filesLength && time - this.shown.files >= filesEvery) {
       this.shown.filesLength = length;
       this.shown.files = time;
       this.showFiles();
@@ -226,10 +230,9 @@ class Page {
     const { href } = new URL(await toFragment(this.driver.record), location.href);
     byId("link").value = href;
     byId("link").select();
-    this.isOwnLink = true;
     history.replaceState(null, "", href);
     await navigator.clipboard?.writeText(href).then(
-      () => this.say("the link is copied"),
+      () => this.say(`the link is copied: ${grouped(href.length)} letters`),
       () => this.say("copy the link from its field"),
     );
   }
@@ -288,7 +291,7 @@ function wireControls(page) {
   const onClick = (id, act) => byId(id).addEventListener("click", guarded(page, act));
   onClick("run", () => page.run(!page.driver.isRunning));
   onClick("step", () => page.step());
-  onClick("tick", () => page.driver.tick());
+  onClick("tick", () => page.driver.tickByHand());
   onClick("copy", () => copyText(page));
   onClick("boot", () => page.boot(page.image, page.wantedFrames()));
   onClick("first-image", () => page.boot(page.firstImage, page.wantedFrames()));
@@ -301,6 +304,7 @@ function wireControls(page) {
 
 function wireFiles(page) {
   asksForFile(page, "add-file", "file-input", (name, bytes) => page.addFile(name, bytes));
+  asksForFile(page, "play-script", "script-input", (name, bytes) => page.playScript(new TextDecoder().decode(bytes)));
   asksForFile(page, "own-image", "image-input", (name, bytes) => page.boot(bytes, page.wantedFrames()));
 }
 
@@ -314,7 +318,7 @@ function wireLinks(page) {
 
 function wireKeys(page) {
   document.addEventListener("keydown", (event) => {
-    const act = { F8: () => page.run(!page.driver.isRunning), F9: () => (event.shiftKey ? page.driver.tick() : page.step()) }[event.key];
+    const act = { F8: () => page.run(!page.driver.isRunning), F9: () => (event.shiftKey ? page.driver.tickByHand() : page.step()) }[event.key];
     if (!act) return;
     event.preventDefault();
     act();
@@ -323,8 +327,13 @@ function wireKeys(page) {
 
 async function copyText(page) {
   const selected = document.getSelection().toString();
-  await navigator.clipboard.writeText(selected || page.terminal.text);
-  page.say(selected ? "what is selected is copied" : "all that the terminal shows is copied");
+  try {
+    await navigator.clipboard.writeText(selected || page.terminal.text);
+    page.say(selected ? "what is selected is copied" : "all that the terminal shows is copied");
+  } catch {
+    page.terminal.select();
+    page.say("the browser copies by ^C alone: all is selected");
+  }
 }
 
 // ---- the beginning

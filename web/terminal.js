@@ -45,7 +45,8 @@ export class Terminal {
     Object.assign(this, { frame, screen, keys, type, showProcesses, say });
     this.clear();
     keys.addEventListener("keydown", (event) => this.press(event));
-    keys.addEventListener("input", () => this.take());
+    keys.addEventListener("input", (event) => event.isComposing || this.take());
+    keys.addEventListener("compositionend", () => this.take());
     keys.addEventListener("paste", (event) => this.paste(event));
     frame.addEventListener("mouseup", () => this.focusUnlessSelected());
     document.addEventListener("keydown", (event) => this.wake(event));
@@ -79,6 +80,10 @@ export class Terminal {
 
   focus() {
     this.keys.focus({ preventScroll: true });
+  }
+
+  select() {
+    document.getSelection().selectAllChildren(this.screen);
   }
 
   focusUnlessSelected() {

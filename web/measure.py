@@ -1,0 +1,88 @@
+#!/usr/bin/env python3
+"""measure.py PAGE PROGRAM IMAGE: how large the page and its module are, how long a boot takes there, and how many steps a second a loop with a
+load and a store makes: in the browser, and by PROGRAM, the built xv6, beside it."""
+import json
+import pathlib
+import re
+import resource
+import subprocess
+import sys
+import tempfile
+
+from browser import Browser
+from make_page import joined
+
+LOOP = """start: addi sp, sp, -16
+loop: ld t0, 0(sp)
+      addi t0, t0, 1
+      sd t0, 0(sp)
+      j loop
+"""
+STEPS = 200_000
+FEW = 2_000
+BEST_OF = 300
+
+MEASURE = """(async () => {
+const unpack = async (id) => {
+  const packed = Uint8Array.from(atob(document.getElementById(id).textContent), (letter) => letter.charCodeAt(0));
+  return new Uint8Array(await new Response(new Blob([packed]).stream().pipeThrough(new DecompressionStream("gzip"))).arrayBuffer());
+};
+const [code, image] = await Promise.all(["packed-module", "packed-image"].map(unpack));
+MODULES
+const begin = performance.now();
+const module = await machine.loadModule(code);
+const compiled = performance.now() - begin;
+const times = (count, act) => Array.from({ length: count }, () => { const from = performance.now(); act(); return performance.now() - from; });
+const boots = times(BEST_OF, () => machine.Machine.boot(module, image, 256).close());
+const spin = machine.Machine.boot(module, Uint8Array.from(LOOP_IMAGE), 64);
+spin.steps(FEW);
+const plain = times(BEST_OF, () => spin.steps(STEPS));
+const noted = new calls.Calls();
+const watched = times(BEST_OF, () => noted.run(spin, FEW, () => {}));
+const rate = (steps, all) => steps / Math.min(...all) / 1000;
+return { module: code.length, compiled, boot: Math.min(...boots), plain: rate(STEPS, plain), watched: rate(FEW, watched) };
+})()"""
+
+
+def image_of_loop(program, folder):
+    """The bytes of an image with the loop as its first program."""
+    (folder / "loop.s").write_text(LOOP)
+    (folder / "manifest").write_text("file /init loop\n")
+    subprocess.run([program, "asm", "loop.s", "loop"], cwd=folder, check=True)
+    subprocess.run([program, "mkfs", "--size", "64", "--inodes", "16", "manifest", "loop.img"], cwd=folder, check=True)
+    return (folder / "loop.img").read_bytes()
+
+
+def seconds(program, folder, steps):
+    """The seconds of a processor that the program's run of so many steps takes."""
+    (folder / "script").write_text(f"step {steps}\n")
+    before = resource.getrusage(resource.RUSAGE_CHILDREN).ru_utime
+    subprocess.run([program, "run", "--tlb", "loop.img", "script"], cwd=folder, check=True, stderr=subprocess.DEVNULL)
+    return resource.getrusage(resource.RUSAGE_CHILDREN).ru_utime - before
+
+
+def in_browser(page, loop):
+    text = MEASURE.replace("MODULES", joined("driver", set()))
+    for name, value in {"LOOP_IMAGE": json.dumps(list(loop)), "BEST_OF": BEST_OF, "STEPS": STEPS, "FEW": FEW}.items():
+        text = re.sub(rf"\b{name}\b", str(value), text)
+    with Browser() as browser:
+        browser.open(pathlib.Path(page).resolve().as_uri())
+        browser.wait("document.getElementById('screen').textContent.endsWith('$ ')", "the first prompt")
+        browser.click("#run")
+        return browser.js(text)
+
+
+def main():
+    page, program, image = sys.argv[1:]
+    program = str(pathlib.Path(program).resolve())
+    with tempfile.TemporaryDirectory() as name:
+        folder = pathlib.Path(name)
+        got = in_browser(page, image_of_loop(program, folder))
+        native = min(seconds(program, folder, 40 * STEPS) - seconds(program, folder, 10 * STEPS) for _ in range(3))
+    print(f"page {pathlib.Path(page).stat().st_size} bytes, module {got['module']}, image {pathlib.Path(image).stat().st_size}")
+    print(f"module compiled in {got['compiled']:.1f} ms, boot in {got['boot']:.1f} ms")
+    print(f"million steps a second: {got['plain']:.1f}; with calls noted {got['watched']:.2f}; the program {30 * STEPS / native / 1e6:.1f}")
+
+
+if __name__ == "__main__":
+    main()
