@@ -11,6 +11,7 @@ import tempfile
 import zlib
 
 from browser import Browser
+from make_page import UNPACK, joined
 
 HERE = pathlib.Path(__file__).resolve().parent
 WIDTHS = {1400: 900, 400: 800}
@@ -19,6 +20,23 @@ PASTED = "echo one > a\necho two > b\r\ncat a b\n" + "echo " + " ".join(["word"]
 IDLE = "document.getElementById('status').textContent.startsWith('runs') && [...document.querySelectorAll('#processes tr')].every((row) => row.dataset.state === 'waiting')"
 PROMPT = "document.getElementById('screen').textContent.endsWith('$ ')"
 WORDS = 4000
+SEEDS = 60
+TYPED = ["ls", "echo hi | cat", "mkdir d", "cat init", "rm cat", "ln sh x", "forktest", "kill 2", "echo a b c", "ls | cat", "nope", "\x08\x15x\x04"]
+PLAY = f"""(async () => {{
+{UNPACK}
+const [code, image] = await Promise.all(["packed-module", "packed-image"].map(unpack));
+{joined("driver", set())}
+const module = await machine.loadModule(code);
+return SCRIPTS.map((script) => {{
+  const played = new driver.Driver(module, image, 256);
+  played.watch(false);
+  played.replay(record.eventsOf(script));
+  while (played.isReplaying) played.replaySome(1000000);
+  const bytes = played.machine.console();
+  played.close();
+  return bytes;
+}});
+}})()"""
 
 
 class Check:
@@ -63,12 +81,12 @@ class Check:
     # ---- the program
 
     def run(self, script, ends="running\n"):
-        """What the program prints of a script that ends like that, and the image that it leaves."""
+        """What the program prints of a script that ends like that, or anyhow, and the image that it leaves."""
         (self.folder / "script").write_text(script)
         left = self.folder / "left.img"
         words = [self.program, "run", "--frames", "256", "--save", str(left), self.image, str(self.folder / "script")]
         done = subprocess.run(words, capture_output=True, check=False)
-        if done.stderr.decode() != ends:
+        if ends and done.stderr.decode() != ends:
             raise SystemExit(f"the program says {done.stderr!r}")
         return done.stdout, left.read_bytes()
 
@@ -196,6 +214,24 @@ class Check:
         wide = self.browser.js("document.documentElement.scrollWidth")
         self.equal(wide <= width, True, f"nothing is wider than {width} pixels")
 
+    def seeds(self):
+        """Random events give the program's console."""
+        chance = random.Random(7)
+        scripts = ["".join(self.event(chance) for _ in range(chance.randrange(3, 25))) for _ in range(SEEDS)]
+        wanted = [list(self.run(script, None)[0]) for script in scripts]
+        got = self.browser.js(PLAY.replace("SCRIPTS", json.dumps(scripts)))
+        self.equal(got, wanted, f"{SEEDS} random scripts, {sum(map(len, wanted))} bytes")
+
+    @staticmethod
+    def event(chance):
+        """A line of a script."""
+        kind = chance.randrange(3)
+        if kind == 0:
+            return f"step {chance.choice([1, 17, 500, 5000, 40000])}\n"
+        if kind == 1:
+            return f"tick {chance.choice([1, 1, 2])}\n"
+        return f"keys {(chance.choice(TYPED) + chr(10)).encode().hex()}\n"
+
     def words(self):
         """Instructions have the texts that the program gives them."""
         chance = random.Random(6)
@@ -238,7 +274,9 @@ def main():
     with Browser() as browser:
         check = Check(browser, page, program, image, folder)
         try:
+            check.start(check.address, 1400)
             check.words()
+            check.seeds()
             for width in WIDTHS:
                 use(check, width)
         except (TimeoutError, SystemExit):

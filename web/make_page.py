@@ -11,6 +11,10 @@ IMPORT = re.compile(r'^import \{ (.*) \} from "\./(\w+)\.js";\n', re.MULTILINE)
 EXPORT = re.compile(r"^export ((?:async )?(?:function|class|const) (\w+))", re.MULTILINE)
 
 
+# The page's own function, by which it reads what is packed in it.
+UNPACK = re.search(r"^async function unpack.*?^}\n", (HERE / "page.js").read_text(), re.MULTILINE | re.DOTALL)[0].replace("byId(", "document.getElementById(")
+
+
 def packed(name):
     """A file as text, made small. The same bytes give the same text."""
     return base64.b64encode(gzip.compress(pathlib.Path(name).read_bytes(), 9, mtime=0)).decode()

@@ -10,7 +10,7 @@ import sys
 import tempfile
 
 from browser import Browser
-from make_page import joined
+from make_page import UNPACK, joined
 
 LOOP = """start: addi sp, sp, -16
 loop: ld t0, 0(sp)
@@ -23,10 +23,7 @@ FEW = 2_000
 BEST_OF = 300
 
 MEASURE = """(async () => {
-const unpack = async (id) => {
-  const packed = Uint8Array.from(atob(document.getElementById(id).textContent), (letter) => letter.charCodeAt(0));
-  return new Uint8Array(await new Response(new Blob([packed]).stream().pipeThrough(new DecompressionStream("gzip"))).arrayBuffer());
-};
+UNPACK
 const [code, image] = await Promise.all(["packed-module", "packed-image"].map(unpack));
 MODULES
 const begin = performance.now();
@@ -62,7 +59,7 @@ def seconds(program, folder, steps):
 
 
 def in_browser(page, loop):
-    text = MEASURE.replace("MODULES", joined("driver", set()))
+    text = MEASURE.replace("UNPACK", UNPACK).replace("MODULES", joined("driver", set()))
     for name, value in {"LOOP_IMAGE": json.dumps(list(loop)), "BEST_OF": BEST_OF, "STEPS": STEPS, "FEW": FEW}.items():
         text = re.sub(rf"\b{name}\b", str(value), text)
     with Browser() as browser:

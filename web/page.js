@@ -134,7 +134,7 @@ class Page {
     const { step } = this.driver.record.count;
     if (time - this.pace.time < 500) return;
     const rate = ((step - this.pace.steps) / (time - this.pace.time)) * 1000;
-    this.pace = { time, steps: step, text: rate > 0 ? `${grouped(Math.round(rate))} steps a second` : "" };
+    this.pace = { time, steps: step, text: rate > 0 && this.driver.isRunning ? `${grouped(Math.round(rate))} steps a second` : "" };
     this.showStatus();
   }
 
