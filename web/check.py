@@ -65,6 +65,19 @@ class Check:
         self.browser.wait(f"document.getElementById('screen') && {PROMPT}", "the first prompt")
         self.settle("the first prompt")
 
+    def to_terminal(self):
+        """Gives the terminal the focus, which the link's field has after a link."""
+        self.browser.js("document.getElementById('keys').focus()")
+
+    def enter(self, line):
+        """Types a line at the shell, which has to do what it says."""
+        self.to_terminal()
+        before = self.screen()
+        self.browser.type(line + "\n")
+        self.settle(line)
+        if not self.screen().startswith(f"{before}{line}\n"):
+            raise SystemExit(f"{line} did not come: {self.screen()!r}")
+
     def screen(self):
         return self.browser.js("document.getElementById('screen').textContent")
 
@@ -105,24 +118,30 @@ class Check:
 
     def lines(self):
         for line in LINES:
-            self.browser.type(line + "\n")
-            self.settle(line)
+            self.enter(line)
         console, _ = self.run(self.link()[1])
         self.equal(self.screen(), self.shown(console), "four lines")
 
     def edits(self):
         """Keys that take back, and those that are the page's."""
+        self.to_terminal()
         self.browser.type("lx")
         self.browser.press("h", control=True)
         self.browser.press("u", control=True)
         self.browser.press("c", control=True)
         self.browser.type("echo back\n")
+        # A phone's keyboard gives texts, and takes back what the text field holds.
+        self.browser.call("Input.insertText", text="echo textz")
+        self.browser.js("(() => { const keys = document.getElementById('keys'); keys.value = ''; keys.dispatchEvent(new InputEvent('input')); })()")
+        self.browser.call("Input.insertText", text="\n")
         self.settle("keys that take back")
+        if "\ntext\n$ " not in self.screen():
+            raise SystemExit(f"no text came: {self.screen()!r}")
         console, _ = self.run(self.link()[1])
         self.equal(self.screen(), self.shown(console), "keys that take back")
 
     def pastes(self):
-        self.browser.js("document.getElementById('keys').focus()")
+        self.to_terminal()
         self.browser.paste(PASTED)
         self.browser.wait("document.getElementById('screen').textContent.includes('one\\ntwo\\n')", "what was pasted")
         self.settle("what was pasted")
@@ -155,9 +174,7 @@ class Check:
         self.browser.give_file("#image-input", self.folder / "own.img")
         self.browser.wait("!document.getElementById('first-image').hidden", "the image of one's own")
         self.settle("the image of one's own")
-        self.browser.js("document.getElementById('keys').focus()")
-        self.browser.type("cat a b\n")
-        self.settle("cat a b")
+        self.enter("cat a b")
         self.equal(self.screen(), "init: starting sh\n$ cat a b\none\ntwo\n$ ", "it boots again")
         self.browser.click("#first-image")
         self.settle("the first image")
@@ -187,7 +204,7 @@ class Check:
 
     def shows(self):
         """^P shows the processes."""
-        self.browser.js("document.getElementById('keys').focus()")
+        self.to_terminal()
         before = self.screen()
         self.browser.press("p", control=True)
         self.equal(self.screen(), before + "\n1 sleep 12288\n2 sleep 12288\n", "^P shows the processes")

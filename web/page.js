@@ -11,6 +11,7 @@ const FRAMES = 256;
 const LONGEST = 250; // milliseconds that one picture may stand for
 const SHOW_EVERY = 100; // milliseconds
 const SHOW_FILES_EVERY = 1000;
+const SHARE = 10; // of the time, what is shown takes one part
 const PAGE_SIZE = 4096;
 const MOST_SHOWN = 1 << 16;
 
@@ -26,7 +27,7 @@ class Page {
     this.chosen = 1;
     this.chosenPage = 0;
     this.registers = { before: null, now: null, pid: 0 };
-    this.shown = { time: 0, files: 0, length: -1, filesLength: -1 };
+    this.shown = { time: 0, cost: 0, files: 0, length: -1, filesLength: -1 };
     this.pace = { time: 0, steps: 0, text: "" };
     this.upload = null;
     this.terminal = new Terminal(
@@ -150,10 +151,10 @@ class Page {
 
   showIfDue(time) {
     const { length } = this.driver.record;
-    if (length !== this.shown.length && time - this.shown.time >= SHOW_EVERY) {
-      this.shown.length = length;
-      this.shown.time = time;
+    if (length !== this.shown.length && time - this.shown.time >= Math.max(SHOW_EVERY, this.shown.cost * SHARE)) {
+      const begin = performance.now();
       this.show();
+      this.shown = { ...this.shown, length, time, cost: performance.now() - begin };
     }
     const filesEvery = this.driver.isBusy ? SHOW_FILES_EVERY : SHOW_EVERY;
     if (length !== this.shown.filesLength && time - this.shown.files >= filesEvery) {
@@ -246,7 +247,6 @@ class Page {
   /** Replays the session of a link, if it holds one and the image is that of the link. */
   async follow(fragment) {
     const session = await fromFragment(fragment);
-    if (!session) return;
     const image = [this.image, this.firstImage].find((one) => markOf(one) === session.mark);
     if (!image) throw new Error("the session is one of another image: boot that first");
     this.boot(image, session.frames, session.events);
@@ -310,6 +310,7 @@ function wireFiles(page) {
 
 function wireLinks(page) {
   const follow = guarded(page, (fragment) => page.follow(fragment));
+  if (location.hash) follow(location.hash);
   byId("link").addEventListener("keydown", (event) => {
     if (event.key === "Enter") follow(byId("link").value.replace(/^[^#]*/, ""));
   });
@@ -358,7 +359,6 @@ async function start() {
   };
   requestAnimationFrame(draw);
   page.terminal.focus();
-  await guarded(page, () => page.follow(location.hash))();
 }
 
 start().catch((error) => {

@@ -91,11 +91,18 @@ export async function toFragment(record) {
   return SIGN + toLetters(packed);
 }
 
-/** The session of a link: `{ mark, frames, events }`; `null` where it holds none. */
+async function unpacked(fragment) {
+  try {
+    const packed = fromLetters(fragment.slice(SIGN.length));
+    return new TextDecoder().decode(await through(packed, new DecompressionStream("deflate-raw")));
+  } catch {
+    return "";
+  }
+}
+
+/** The session of a link: `{ mark, frames, events }`. It throws where the link holds none. */
 export async function fromFragment(fragment) {
-  if (!fragment.startsWith(SIGN)) return null;
-  const packed = fromLetters(fragment.slice(SIGN.length));
-  const text = new TextDecoder().decode(await through(packed, new DecompressionStream("deflate-raw")));
+  const text = fragment.startsWith(SIGN) ? await unpacked(fragment) : "";
   const [head, ...lines] = text.split("\n");
   const [, mark, frames] = head.match(/^boot ([0-9a-f]{8}) (\d+)$/) ?? [];
   if (!mark) throw new Error("the link holds no session");

@@ -4,6 +4,7 @@ const MOST_CELLS = 20_000;
 const CONTROL = { d: 0x04, h: 0x08, u: 0x15 };
 const NAMED = { Enter: 0x0a, Backspace: 0x7f };
 const BACKSPACE = 0x08;
+const HELD = " "; // the text field holds a blank, so that a phone's keyboard has something to take back
 const PRINTED = [0x09, 0x0a];
 
 /** The cells of a screen. The console writes text, line ends, and a backspace, a blank and a backspace for each key that is taken back. */
@@ -47,6 +48,7 @@ export class Terminal {
     keys.addEventListener("keydown", (event) => this.press(event));
     keys.addEventListener("input", (event) => event.isComposing || this.take());
     keys.addEventListener("compositionend", () => this.take());
+    keys.addEventListener("focus", () => this.hold());
     keys.addEventListener("paste", (event) => this.paste(event));
     frame.addEventListener("mouseup", () => this.focusUnlessSelected());
     document.addEventListener("keydown", (event) => this.wake(event));
@@ -96,12 +98,13 @@ export class Terminal {
   }
 
   press(event) {
+    if (event.isComposing) return undefined;
     const control = event.ctrlKey && !event.altKey ? event.key.toLowerCase() : "";
     if (control === "c") return this.interrupt();
     const byte = byteOf(event);
     if (control !== "p" && byte === null) return undefined;
     event.preventDefault();
-    return control === "p" ? this.showProcesses() : this.send([byte]);
+    return control === "p" ? this.showProcesses() : this.type([byte]);
   }
 
   interrupt() {
@@ -110,19 +113,21 @@ export class Terminal {
     }
   }
 
+  hold() {
+    this.keys.value = HELD;
+    this.keys.setSelectionRange(HELD.length, HELD.length);
+  }
+
   // Letters come by the text field, so that each way of writing them works.
   take() {
-    const text = lineEnds(this.keys.value);
-    this.keys.value = "";
-    this.send([...new TextEncoder().encode(text)]);
+    const { value } = this.keys;
+    this.hold();
+    if (value === "") return this.type([NAMED.Backspace]);
+    return this.type([...new TextEncoder().encode(lineEnds(value.replace(HELD, "")))]);
   }
 
   paste(event) {
     event.preventDefault();
-    this.send([...new TextEncoder().encode(lineEnds(event.clipboardData.getData("text")))]);
-  }
-
-  send(bytes) {
-    this.type(bytes);
+    this.type([...new TextEncoder().encode(lineEnds(event.clipboardData.getData("text")))]);
   }
 }

@@ -87,16 +87,20 @@ export function showCalls(list, lines) {
 
 const markText = (page) => (page.read ? "r" : "-") + (page.write ? "w" : "-") + (page.execute ? "x" : "-");
 
-function isAlike(bytes, others) {
-  return bytes.every((byte, index) => byte === others[index]);
+const wordsOf = (bytes) => new Uint32Array(bytes.buffer);
+
+function isAlike(words, others) {
+  for (let index = 0; index < words.length; index += 1) if (words[index] !== others[index]) return false;
+  return true;
 }
 
-// The processes whose page of the same number has the same bytes and isn't writable by one of them alone.
+// The processes whose page of the same number has the same bytes, the least pid first.
 function holdersOf(machine, process, number, page, processes) {
+  const words = wordsOf(page.bytes);
   const alike = processes.filter(({ pid, state }) => {
     if (pid === process.pid || state === "ended") return false;
     const other = machine.page(pid, number);
-    return other?.read && isAlike(page.bytes, other.bytes);
+    return other?.read && isAlike(words, wordsOf(other.bytes));
   });
   return [process.pid, ...alike.map(({ pid }) => pid)].sort((a, b) => a - b);
 }
