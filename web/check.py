@@ -226,6 +226,11 @@ class Check:
         self.browser.wait("document.getElementById('status').textContent.includes('2 ticks, 3 keys')", "the script")
         console, _ = self.run(script)
         self.equal(self.screen(), self.shown(console), "a script is played")
+        (self.folder / "short").write_text("step 100\n")
+        self.browser.give_file("#script-input", self.folder / "short")
+        self.browser.wait("document.getElementById('status').textContent.startsWith('pauses · 100 steps, 0 ticks')", "100 steps")
+        self.browser.press("F8")
+        self.settle("the rest")
 
     def fits(self, width):
         wide = self.browser.js("document.documentElement.scrollWidth")

@@ -12,6 +12,31 @@ const QUANTUM = { plain: 100_000, watched: 500 };
 const SLEEP = 13;
 const LINE_END = 10;
 
+// What was pasted and is not yet typed.
+class Pasted {
+  constructor() {
+    this.bytes = [];
+    this.at = 0;
+  }
+
+  get isEmpty() {
+    return this.at === this.bytes.length;
+  }
+
+  add(bytes) {
+    this.bytes = this.bytes.slice(this.at).concat(bytes);
+    this.at = 0;
+  }
+
+  /** A line, or a part of it that the console has room for. */
+  takeLine() {
+    const end = this.bytes.indexOf(LINE_END, this.at) + 1 || this.bytes.length;
+    const from = this.at;
+    this.at = Math.min(end, from + LINE);
+    return this.bytes.slice(from, this.at);
+  }
+}
+
 /** A machine, and what it is given. `rate` is in steps a second, or `Infinity`. */
 export class Driver {
   constructor(module, image, frames) {
@@ -25,7 +50,7 @@ export class Driver {
     this.hasClock = true;
     this.rate = Infinity;
     this.halt = null;
-    this.pasted = [];
+    this.pasted = new Pasted();
     this.replayed = [];
     this.fraction = 0;
     this.sinceTick = { time: 0, steps: 0 };
@@ -34,7 +59,7 @@ export class Driver {
 
   /** The events of a session, before any others. A machine that is busy at their end is left as it stands there. */
   replay(events) {
-    this.replayed = events.map((event) => ({ ...event, bytes: event.bytes?.slice() }));
+    this.replayed = events.map((event) => ({ ...event, at: 0 }));
   }
 
   get isReplaying() {
@@ -43,12 +68,12 @@ export class Driver {
 
   /** Whether a process runs or is ready. */
   get isBusy() {
-    return this.machine.processes().some(({ state }) => state === "running" || state === "ready");
+    return !this.machine.isIdle();
   }
 
   /** Whether something that was pasted waits for room at the console. */
   get hasTyped() {
-    return this.pasted.length > 0;
+    return !this.pasted.isEmpty;
   }
 
   /** The bytes of the image that the machine would leave: those of another one, after the same events. */
@@ -72,7 +97,7 @@ export class Driver {
     } catch (error) {
       if (!(error instanceof Halt)) throw error;
       this.halt = error;
-      this.pasted = [];
+      this.pasted = new Pasted();
       this.replayed = [];
       return 0;
     }
@@ -93,7 +118,7 @@ export class Driver {
   type(bytes) {
     if (this.halt) return;
     this.replayed = [];
-    if (this.hasTyped || bytes.length > 1) this.pasted.push(...bytes);
+    if (this.hasTyped || bytes.length > 1) this.pasted.add(bytes);
     else bytes.forEach((byte) => this.key(byte));
   }
 
@@ -140,12 +165,12 @@ export class Driver {
   advance(most, time) {
     const end = performance.now() + time;
     let left = most;
-    while (left > 0 && !this.halt) {
-      const most = Math.min(left, this.isWatched ? QUANTUM.watched : QUANTUM.plain);
-      const made = this.isReplaying ? this.replaySome(most) : this.steps(most);
-      if (!this.isReplaying) this.pasteIfDue(made < most);
+    while (left > 0 && this.isRunning && !this.halt) {
+      const part = Math.min(left, this.isWatched ? QUANTUM.watched : QUANTUM.plain);
+      const made = this.isReplaying ? this.replaySome(part) : this.steps(part);
+      if (!this.isReplaying) this.pasteIfDue(made < part);
       left -= Math.max(made, 1);
-      if ((made < most && !this.isReplaying && !this.hasTyped) || performance.now() > end) break;
+      if ((made < part && !this.isReplaying && !this.hasTyped) || performance.now() > end) break;
     }
   }
 
@@ -153,7 +178,7 @@ export class Driver {
   replaySome(most) {
     const event = this.replayed[0];
     const made = event.kind === "step" ? this.exactly(event, most) : this.give(event);
-    if (event.times === 0 || event.bytes?.length === 0) this.replayed.shift();
+    if (event.times === 0 || event.at === event.bytes?.length) this.replayed.shift();
     if (!this.isReplaying && this.isBusy) this.isRunning = false;
     return made;
   }
@@ -176,7 +201,8 @@ export class Driver {
       this.tick();
       event.times -= 1;
     } else {
-      this.key(event.bytes.shift());
+      this.key(event.bytes[event.at]);
+      event.at += 1;
     }
     return 1;
   }
@@ -185,11 +211,8 @@ export class Driver {
     if (this.hasTyped && (isIdle || this.sincePaste > PATIENCE)) this.paste();
   }
 
-  // A line of what was pasted, or a part of it that the console has room for.
   paste() {
-    const end = this.pasted.indexOf(LINE_END);
-    const count = Math.min(end < 0 ? this.pasted.length : end + 1, LINE);
-    this.pasted.splice(0, count).forEach((byte) => this.key(byte));
+    this.pasted.takeLine().forEach((byte) => this.key(byte));
     this.sincePaste = 0;
   }
 

@@ -127,6 +127,11 @@ export class Machine {
     this.check(this.calls.xv6_raw_key(this.handle, byte));
   }
 
+  /** Whether no process runs and none is ready, so that a step changes nothing. */
+  isIdle() {
+    return this.calls.xv6_raw_is_idle(this.handle) !== 0;
+  }
+
   /** The console's bytes since the last call. */
   console() {
     const parts = [];

@@ -17,6 +17,8 @@ function lineOf({ kind, times, bytes }) {
   return kind === "keys" ? `keys ${hexOf(bytes)}` : `${kind} ${times}`;
 }
 
+const isNothing = (event) => event === null || event.times === 0 || event.bytes?.length === 0;
+
 // What a line of a script says, as an event; `null` for an empty line.
 function eventOf(line) {
   const [word, rest] = line.split(/ (.*)/s);
@@ -70,7 +72,7 @@ export class Record {
 
 /** The events of a script. It throws where a line says nothing. */
 export function eventsOf(script) {
-  return script.split("\n").map(eventOf).filter((event) => event !== null);
+  return script.split("\n").map(eventOf).filter((event) => !isNothing(event));
 }
 
 async function through(bytes, stream) {
