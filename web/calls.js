@@ -131,11 +131,17 @@ export class Calls {
   /** So many steps at most, each looked at. */
   run(machine, most, done) {
     let count = 0;
-    while (count < most) {
-      const pid = this.runningIn(machine);
-      if (pid) this.before(machine, pid);
-      if (machine.run(1, done) === 0) break;
-      count += 1;
+    const add = (made) => {
+      count += made;
+    };
+    try {
+      while (count < most) {
+        const pid = this.runningIn(machine);
+        if (pid) this.before(machine, pid);
+        if (machine.run(1, add) === 0) break;
+      }
+    } finally {
+      done(count);
     }
     return count;
   }

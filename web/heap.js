@@ -16,7 +16,7 @@ export class Heap {
     this.end = Math.ceil(start / SMALLEST) * SMALLEST;
     this.free = new Map();
     this.rooms = new Map();
-    this.window = null;
+    this.view = new DataView(memory.buffer);
   }
 
   /** The address of a new block; 0 where the browser has no memory. */
@@ -43,20 +43,15 @@ export class Heap {
     return at;
   }
 
+  // A memory that has grown is seen by another window.
   grow(pages) {
     try {
       this.memory.grow(pages);
+      this.view = new DataView(this.memory.buffer);
       return true;
     } catch {
       return false;
     }
-  }
-
-  /** A window on all of the memory. A memory that has grown has another buffer. */
-  view() {
-    const { buffer } = this.memory;
-    if (this.window?.buffer !== buffer) this.window = new DataView(buffer);
-    return this.window;
   }
 
   bytes(at, count) {

@@ -3,7 +3,7 @@ import { Heap } from "./heap.js";
 
 const MAJOR = 1;
 const ROOM = 4096;
-const PAGE = 4096n;
+const ALL = BigInt(ROOM);
 const PROCESS_SIZE = 296;
 const PC = 256;
 const STATE = 280;
@@ -35,7 +35,7 @@ export class Halt extends Error {
 // What the module asks of its host: memory, and the product of two numbers of 128 bits.
 function hostOf(loaded) {
   const answer = (result, at) => {
-    const view = loaded.heap.view();
+    const view = loaded.heap.view;
     view.setBigUint64(Number(result), at ? 1n : 0n, true);
     view.setBigUint64(Number(result) + 8, BigInt(at), true);
   };
@@ -53,7 +53,7 @@ function hostOf(loaded) {
     __multi3: (result, low, high, otherLow, otherHigh) => {
       const whole = (lower, upper) => (BigInt.asUintN(64, upper) << 64n) | BigInt.asUintN(64, lower);
       const product = whole(low, high) * whole(otherLow, otherHigh);
-      const view = loaded.heap.view();
+      const view = loaded.heap.view;
       view.setBigUint64(Number(result), BigInt.asUintN(64, product), true);
       view.setBigUint64(Number(result) + 8, BigInt.asUintN(64, product >> 64n), true);
     },
@@ -99,6 +99,7 @@ export class Machine {
     this.room = heap.take(ROOM);
     this.countAt = BigInt(this.count);
     this.roomAt = BigInt(this.room);
+    this.codePage = { number: 0, asked: 0n };
   }
 
   check(number) {
@@ -113,7 +114,7 @@ export class Machine {
   /** At most so many steps, and none once nobody runs or is ready. `done` is called with their number, also before a halt. */
   run(most, done) {
     const halt = this.calls.xv6_raw_run(this.handle, most, this.countAt);
-    const count = this.heap.view().getUint32(this.count, true);
+    const count = this.heap.view.getUint32(this.count, true);
     done(count);
     this.check(halt);
     return count;
@@ -136,7 +137,7 @@ export class Machine {
   console() {
     const parts = [];
     for (;;) {
-      const count = Number(this.calls.xv6_raw_console(this.handle, this.roomAt, BigInt(ROOM)));
+      const count = Number(this.calls.xv6_raw_console(this.handle, this.roomAt, ALL));
       if (count === 0) return parts.flat();
       parts.push([...this.heap.bytes(this.room, count)]);
     }
@@ -162,15 +163,17 @@ export class Machine {
 
   /** Whether a process runs; then its pc stands where `word` finds it. */
   isRunning(pid) {
-    return this.calls.xv6_raw_process(this.handle, pid, this.roomAt) === 0 && this.heap.view().getUint32(this.room + STATE, true) === RUNNING;
+    return this.calls.xv6_raw_process(this.handle, pid, this.roomAt) === 0 && this.heap.view.getUint32(this.room + STATE, true) === RUNNING;
   }
 
   /** The word at the pc of the process that `isRunning` looked at; 0 where there is none. */
   word(pid) {
-    const pc = this.heap.view().getBigUint64(this.room + PC, true);
-    const at = Number(pc % PAGE);
-    const marks = this.calls.xv6_raw_page(this.handle, pid, pc / PAGE, this.roomAt, BigInt(Math.min(at + 4, ROOM)));
-    return marks & EXECUTE && at % 4 === 0 ? this.heap.view().getInt32(this.room + at, true) : 0;
+    const { view } = this.heap;
+    const low = view.getUint32(this.room + PC, true);
+    const number = view.getUint32(this.room + PC + 4, true) * 2 ** 20 + (low >>> 12);
+    if (number !== this.codePage.number) this.codePage = { number, asked: BigInt(number) };
+    const marks = this.calls.xv6_raw_page(this.handle, pid, this.codePage.asked, this.roomAt, ALL);
+    return marks & EXECUTE && low % 4 === 0 ? view.getInt32(this.room + (low & (ROOM - 1)), true) : 0;
   }
 
   processes() {
@@ -185,7 +188,7 @@ export class Machine {
 
   /** Whether a page may be read, written and executed, and its bytes; `null` where there is no such page. */
   page(pid, number) {
-    const marks = this.calls.xv6_raw_page(this.handle, pid, BigInt(number), this.roomAt, BigInt(ROOM));
+    const marks = this.calls.xv6_raw_page(this.handle, pid, BigInt(number), this.roomAt, ALL);
     if (!marks) return null;
     return {
       read: (marks & 2) !== 0,
@@ -212,8 +215,8 @@ export class Machine {
     const whole = new Uint8Array(this.stat(inode)?.size ?? 0);
     let at = 0;
     while (at < whole.length) {
-      this.check(this.calls.xv6_raw_read(this.handle, BigInt(inode), BigInt(at), this.roomAt, BigInt(ROOM), this.countAt));
-      const count = Number(this.heap.view().getBigUint64(this.count, true));
+      this.check(this.calls.xv6_raw_read(this.handle, BigInt(inode), BigInt(at), this.roomAt, ALL, this.countAt));
+      const count = Number(this.heap.view.getBigUint64(this.count, true));
       if (count === 0) break;
       whole.set(this.heap.bytes(this.room, count), at);
       at += count;
@@ -234,7 +237,7 @@ export class Machine {
   }
 
   inside() {
-    return this.heap.view().getBigUint64(Number(this.handle), true);
+    return this.heap.view.getBigUint64(Number(this.handle), true);
   }
 
   /** Ends the machine. No call may follow. */
