@@ -1,7 +1,7 @@
 // Gives a machine its events: steps as fast as is wished, what is typed, time, and those of a session that is replayed.
 import { Calls } from "./calls.js";
 import { Halt, Machine } from "./machine.js";
-import { Record, markOf } from "./record.js";
+import { Record } from "./record.js";
 
 const FRAME = 12; // milliseconds of steps at a time
 const TICK = 100; // milliseconds
@@ -43,7 +43,7 @@ export class Driver {
     this.module = module;
     this.image = image;
     this.machine = Machine.boot(module, image, frames);
-    this.record = new Record(markOf(image), frames);
+    this.record = new Record(frames);
     this.calls = new Calls();
     this.isRunning = true;
     this.isWatched = true;

@@ -228,7 +228,7 @@ class Page {
   }
 
   async makeLink() {
-    const { href } = new URL(await toFragment(this.driver.record), location.href);
+    const { href } = new URL(await toFragment(this.driver.record, markOf(this.image)), location.href);
     byId("link").value = href;
     byId("link").select();
     history.replaceState(null, "", href);

@@ -31,8 +31,7 @@ function eventOf(line) {
 
 /** The events of a machine, each kind's runs as one. */
 export class Record {
-  constructor(mark, frames) {
-    this.mark = mark;
+  constructor(frames) {
     this.frames = frames;
     this.events = [];
     this.count = { step: 0, tick: 0, keys: 0 };
@@ -64,9 +63,9 @@ export class Record {
     return this.events.map((event) => `${lineOf(event)}\n`).join("");
   }
 
-  /** Image, frames and script, as a link holds them. */
-  text() {
-    return `boot ${this.mark} ${this.frames}\n${this.script()}`;
+  /** The mark of the image, frames and script, as a link holds them. */
+  text(mark) {
+    return `boot ${mark} ${this.frames}\n${this.script()}`;
   }
 }
 
@@ -87,9 +86,9 @@ const toLetters = (bytes) => {
 };
 const fromLetters = (letters) => Uint8Array.from(atob(letters.replaceAll("-", "+").replaceAll("_", "/")), (letter) => letter.charCodeAt(0));
 
-/** The part of a link that holds a session. */
-export async function toFragment(record) {
-  const packed = await through(new TextEncoder().encode(record.text()), new CompressionStream("deflate-raw"));
+/** The part of a link that holds a session on the image with a mark. */
+export async function toFragment(record, mark) {
+  const packed = await through(new TextEncoder().encode(record.text(mark)), new CompressionStream("deflate-raw"));
   return SIGN + toLetters(packed);
 }
 
