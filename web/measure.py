@@ -18,9 +18,10 @@ loop: ld t0, 0(sp)
       sd t0, 0(sp)
       j loop
 """
-STEPS = 200_000
-FEW = 2_000
-BEST_OF = 300
+STEPS = 50_000_000
+FEW = 1_000_000
+BEST_OF = 5
+BOOT_TIMES = 100
 
 MEASURE = """(async () => {
 UNPACK
@@ -30,14 +31,10 @@ const begin = performance.now();
 const module = await machine.loadModule(code);
 const compiled = performance.now() - begin;
 const times = (count, act) => Array.from({ length: count }, () => { const from = performance.now(); act(); return performance.now() - from; });
-const boots = times(BEST_OF, () => machine.Machine.boot(module, image, 256).close());
-const spin = machine.Machine.boot(module, Uint8Array.from(LOOP_IMAGE), 64);
-spin.steps(FEW);
-const plain = times(BEST_OF, () => spin.steps(STEPS));
-const noted = new calls.Calls();
-const watched = times(BEST_OF, () => noted.run(spin, FEW, () => {}));
-const rate = (steps, all) => steps / Math.min(...all) / 1000;
-return { module: code.length, compiled, boot: Math.min(...boots), plain: rate(STEPS, plain), watched: rate(FEW, watched) };
+const boots = times(BOOT_TIMES, () => machine.Machine.boot(module, image, 256).close());
+globalThis.spin = machine.Machine.boot(module, Uint8Array.from(LOOP_IMAGE), 64);
+globalThis.noted = new calls.Calls();
+return { module: code.length, compiled, first: boots[0], boot: Math.min(...boots) };
 })()"""
 
 
@@ -58,15 +55,35 @@ def seconds(program, folder, steps):
     return resource.getrusage(resource.RUSAGE_CHILDREN).ru_utime - before
 
 
+def script_time(browser):
+    """The seconds of a processor that the page's code has taken."""
+    metrics = browser.call("Performance.getMetrics")["metrics"]
+    return next(it["value"] for it in metrics if it["name"] == "ThreadTime")
+
+
+def rate(browser, text, steps):
+    """Steps a second of a processor, the best of several runs."""
+    best = 0
+    for _ in range(BEST_OF):
+        before = script_time(browser)
+        browser.js(text)
+        best = max(best, steps / (script_time(browser) - before))
+    return best
+
+
 def in_browser(page, loop):
     text = MEASURE.replace("UNPACK", UNPACK).replace("MODULES", joined("driver", set()))
-    for name, value in {"LOOP_IMAGE": json.dumps(list(loop)), "BEST_OF": BEST_OF, "STEPS": STEPS, "FEW": FEW}.items():
+    for name, value in {"LOOP_IMAGE": json.dumps(list(loop)), "BOOT_TIMES": BOOT_TIMES}.items():
         text = re.sub(rf"\b{name}\b", str(value), text)
     with Browser() as browser:
         browser.open(pathlib.Path(page).resolve().as_uri())
         browser.wait("document.getElementById('screen').textContent.endsWith('$ ')", "the first prompt")
         browser.click("#run")
-        return browser.js(text)
+        browser.call("Performance.enable", timeDomain="threadTicks")
+        got = browser.js(text)
+        got["plain"] = rate(browser, f"spin.steps({STEPS})", STEPS)
+        got["noted"] = rate(browser, f"noted.run(spin, {FEW}, () => {{}})", FEW)
+        return got
 
 
 def main():
@@ -75,10 +92,11 @@ def main():
     with tempfile.TemporaryDirectory() as name:
         folder = pathlib.Path(name)
         got = in_browser(page, image_of_loop(program, folder))
-        native = min(seconds(program, folder, 40 * STEPS) - seconds(program, folder, 10 * STEPS) for _ in range(3))
+        native = min(seconds(program, folder, 2 * STEPS) - seconds(program, folder, STEPS) for _ in range(BEST_OF))
     print(f"page {pathlib.Path(page).stat().st_size} bytes, module {got['module']}, image {pathlib.Path(image).stat().st_size}")
-    print(f"module compiled in {got['compiled']:.1f} ms, boot in {got['boot']:.1f} ms")
-    print(f"million steps a second: {got['plain']:.1f}; with calls noted {got['watched']:.2f}; the program {30 * STEPS / native / 1e6:.1f}")
+    print(f"module compiled in {got['compiled']:.1f} ms; first boot in {got['first']:.1f} ms, best of {BOOT_TIMES} {got['boot']:.1f}")
+    rates = [got["plain"], got["noted"], STEPS / native]
+    print("million steps a second of a processor: {:.1f}; with calls noted {:.2f}; the program {:.1f}".format(*(it / 1e6 for it in rates)))
 
 
 if __name__ == "__main__":

@@ -22,4 +22,4 @@ exports=$(grep -o 'xv6_raw_[a-z_]*' "$header" | grep -v '_$' | sort -u | sed 's/
     -o "$work/big.wasm" "$work/web.o"
 
 wasm-opt --enable-memory64 --enable-bulk-memory --enable-mutable-globals --enable-sign-ext --enable-nontrapping-float-to-int \
-    --memory64-lowering "$work/big.wasm" -o "$out"
+    --memory64-lowering -O3 "$work/big.wasm" -o "$out"
