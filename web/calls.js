@@ -121,6 +121,7 @@ export class Calls {
     this.lines = [];
     this.open = new Map();
     this.running = 0;
+    this.last = 0;
   }
 
   /** What the calls of a process were, the oldest first. */
@@ -158,8 +159,9 @@ export class Calls {
     return this.running && machine.isRunning(this.running) ? this.running : 0;
   }
 
-  // A process that runs has the answer of its last call, and may be at the next one.
+  // A process that runs has the answer of its last call, and may be at the next one. `last` is the pid of the last that ran.
   before(machine, pid) {
+    this.last = pid;
     const isAtCall = isCall(machine.word(pid));
     if (!isAtCall && !this.open.has(pid)) return;
     const process = machine.process(pid);
@@ -219,5 +221,6 @@ export class Calls {
 /** A line of a call. */
 export function callText({ number, parts, answer, times }) {
   const joined = times > 1 ? ` (${times} times)` : "";
-  return `${callName(number)}(${parts.join(", ")}) = ${answer ?? "waits"}${joined}`;
+  const answered = answer === null ? "waits" : `= ${answer}`;
+  return `${callName(number)}(${parts.join(", ")}) ${answered}${joined}`;
 }

@@ -115,10 +115,11 @@ class Page {
     this.choose(pid);
   }
 
-  // The process that is shown: the one that runs, where that is wished.
+  // The process that is shown: the one that runs or ran last, where that is wished.
   chooseAmong(processes) {
-    const running = byId("follow").checked && processes.find(({ state }) => state === "running");
-    const process = running || (processes.find(({ pid }) => pid === this.chosen) ?? processes.at(-1));
+    const withPid = (wanted) => processes.find(({ pid }) => pid === wanted);
+    const running = () => processes.find(({ state }) => state === "running") ?? withPid(this.driver.calls.last);
+    const process = (byId("follow").checked && running()) || withPid(this.chosen) || processes.at(-1);
     this.chosen = process?.pid;
     return process;
   }
