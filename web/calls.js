@@ -143,8 +143,17 @@ export class Calls {
       }
     } finally {
       done(count);
+      this.settle(machine);
     }
     return count;
+  }
+
+  // A call of which a process came back before the last step has its answer.
+  settle(machine) {
+    for (const pid of this.open.keys()) {
+      const process = machine.process(pid);
+      if (process?.state === "running" || process?.state === "ready") this.answer(machine, process);
+    }
   }
 
   /** What was not looked at is not known. */

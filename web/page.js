@@ -11,7 +11,7 @@ const FRAMES = 256;
 const LONGEST = 250; // milliseconds that one picture may stand for
 const SHOW_EVERY = 100; // milliseconds
 const SHOW_FILES_EVERY = 1000;
-const SHARE = 10; // of the time, what is shown takes one part
+const SHARE = 10; // of the time of a busy machine, what is shown takes one part
 const PAGE_SIZE = 4096;
 const MOST_SHOWN = 1 << 16;
 
@@ -152,13 +152,14 @@ class Page {
 
   showIfDue(time) {
     const { length } = this.driver.record;
-    if (length !== this.shown.length && time - this.shown.time >= Math.max(SHOW_EVERY, this.shown.cost * SHARE)) {
+    const isBusy = this.driver.isRunning && this.driver.isBusy;
+    const every = isBusy ? Math.max(SHOW_EVERY, this.shown.cost * SHARE) : SHOW_EVERY;
+    if (length !== this.shown.length && time - this.shown.time >= every) {
       const begin = performance.now();
       this.show();
       this.shown = { ...this.shown, length, time, cost: performance.now() - begin };
     }
-    const filesEvery = this.driver.isBusy ? SHOW_FILES_EVERY : SHOW_EVERY;
-    if (length !== this.shown.filesLength && time - this.shown.files >= filesEvery) {
+    if (length !== this.shown.filesLength && time - this.shown.files >= (isBusy ? SHOW_FILES_EVERY : SHOW_EVERY)) {
       this.shown.filesLength = length;
       this.shown.files = time;
       this.showFiles();
