@@ -6,8 +6,8 @@ pub mod perform;
 mod report;
 
 pub use commandline::{
-    Asm, Check, Dump, Flat, Get, Job, Lines, Live, Ls, Migrate, Mkfs, Part, Play, Put, Run, Telling,
-    Trace, explains, job,
+    Asm, Check, Dump, Flat, Get, Job, Lines, Live, Ls, Migrate, Mkfs, Part, Play, Put, Run,
+    Telling, Trace, explains, job,
 };
 pub use host::{Front, Host, HostFault, Why};
 pub use report::refuse;
