@@ -1,0 +1,85 @@
+//! What is kept of each process.
+
+use crate::call_text::Asked;
+use arrayvec::ArrayVec;
+use machine::ProcessState;
+
+/// The most bytes of a program's name that are kept.
+pub const MOST_NAME: usize = 64;
+
+/// What a process did at the last event.
+#[derive(Clone, Copy, PartialEq, Eq)]
+pub enum Doing {
+    /// It has the hart.
+    Runs,
+    /// It is in user state, and has not the hart.
+    Rests,
+    /// It waits in a call, which has read or written so many bytes so far.
+    Waits(u64),
+    /// It has ended.
+    Ended,
+}
+
+/// Where a process ended: the time at which an arrow leaves, and the lane.
+#[derive(Clone, Copy)]
+pub struct Exit {
+    pub at: u64,
+    pub lane: u8,
+}
+
+/// A process, as it was at the last event.
+#[derive(Drop)]
+pub struct Lane {
+    pub pid: u32,
+    /// The path of its program, as it was given.
+    pub name: ArrayVec<u8, MOST_NAME>,
+    pub doing: Doing,
+    /// The time from which on it has the hart, if it has it.
+    pub since: u64,
+    /// The call that it waits in.
+    pub pending: Option<Asked>,
+    /// Who killed it first.
+    pub killer: Option<u32>,
+    /// Where an arrow to the one that waits for it leaves, if there is to be one.
+    pub exit: Option<Exit>,
+}
+
+/// What a state says of a process that waits in no call that is known.
+pub fn doing_in(state: ProcessState, done: u64) -> Doing {
+    match state {
+        ProcessState::Running => Doing::Runs,
+        ProcessState::Ready => Doing::Rests,
+        ProcessState::Waiting(_) => Doing::Waits(done),
+        ProcessState::Zombie(_) => Doing::Ended,
+    }
+}
+
+impl Lane {
+    /// A process that nothing is known of but its pid.
+    pub fn new(pid: u32, doing: Doing) -> Lane {
+        Lane {
+            pid,
+            name: ArrayVec::new(),
+            doing,
+            since: 0,
+            pending: None,
+            killer: None,
+            exit: None,
+        }
+    }
+
+    /// Calls it by this name, or by its first bytes.
+    pub fn rename(&mut self, name: &[u8]) {
+        self.name.clear();
+        for byte in name {
+            if self.name.try_push(*byte).is_err() {
+                break;
+            }
+        }
+    }
+}
+
+/// The place of a process among others; `None` where it isn't there.
+pub fn place_of(lanes: &[Lane], pid: u32) -> Option<usize> {
+    lanes.iter().position(|lane| lane.pid == pid)
+}

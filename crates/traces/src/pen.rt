@@ -1,0 +1,115 @@
+//! Writes lines to where each form goes.
+
+use std::alloc::Global;
+use std::fmt;
+
+/// A form of a trace.
+#[derive(Clone, Copy, PartialEq, Eq, Debug)]
+pub enum Form {
+    /// Text in strace's manner.
+    Text,
+    /// Spans in Chrome's JSON.
+    Spans,
+    /// Commits in Spike's form.
+    Commits,
+}
+
+/// A sink took not all that was written to it.
+#[derive(Clone, Copy, PartialEq, Eq, Debug)]
+pub struct SinkFault;
+
+/// Where the forms of a trace go.
+pub trait Sinks {
+    /// Puts bytes behind those that this form has.
+    fn put(&mut self, form: Form, bytes: &[u8]) -> Result<(), SinkFault>;
+}
+
+/// Why a trace isn't whole.
+#[derive(Clone, Copy, PartialEq, Eq, Debug)]
+pub enum Trouble {
+    /// Memory was refused.
+    NoMemory,
+    /// The sink of this form failed.
+    Lost(Form),
+}
+
+/// Writes lines to sinks, and remembers what failed.
+#[derive(Drop)]
+pub struct Pen<S> {
+    sinks: S,
+    line: String,
+    has_text: bool,
+    has_spans: bool,
+    has_commits: bool,
+    trouble: Option<Trouble>,
+}
+
+impl<S: Sinks + Drop> Pen<S> {
+    /// A pen that writes no form so far.
+    pub fn new(alloc: Global, sinks: S) -> Self {
+        Pen {
+            sinks,
+            line: String::new(alloc),
+            has_text: false,
+            has_spans: false,
+            has_commits: false,
+            trouble: None,
+        }
+    }
+
+    /// Whether lines of a form are written: it is wanted, and all went well so far.
+    pub fn has(&self, form: Form) -> bool {
+        match form {
+            Form::Text => self.has_text,
+            Form::Spans => self.has_spans,
+            Form::Commits => self.has_commits,
+        }
+    }
+
+    /// Sets whether lines of a form are written.
+    pub fn set(&mut self, form: Form, is_wanted: bool) {
+        match form {
+            Form::Text => self.has_text = is_wanted,
+            Form::Spans => self.has_spans = is_wanted,
+            Form::Commits => self.has_commits = is_wanted,
+        }
+    }
+
+    /// Gives up a form, and remembers why, if nothing was given up before.
+    pub fn lose(&mut self, form: Form, trouble: Trouble) {
+        self.set(form, false);
+        if self.trouble.is_none() {
+            self.trouble = Some(trouble);
+        }
+    }
+
+    /// Gives up all forms, since memory was refused.
+    pub fn starve(&mut self) {
+        self.lose(Form::Text, Trouble::NoMemory);
+        self.lose(Form::Spans, Trouble::NoMemory);
+        self.lose(Form::Commits, Trouble::NoMemory);
+    }
+
+    /// Why the trace isn't whole, if it isn't.
+    pub fn trouble(&self) -> Option<Trouble> {
+        self.trouble
+    }
+
+    /// Writes a line, if its form is written.
+    pub fn put<L: fmt::Display>(&mut self, form: Form, line: &L) {
+        if !self.has(form) {
+            return;
+        }
+        self.line.clear();
+        if write!(self.line, "{line}").is_err() {
+            self.lose(form, Trouble::NoMemory);
+        } else if self.sinks.put(form, self.line.as_bytes()).is_err() {
+            self.lose(form, Trouble::Lost(form));
+        }
+    }
+
+    /// The sinks.
+    pub fn into_sinks(self) -> S {
+        self.sinks
+    }
+}

@@ -1,0 +1,71 @@
+//! Equal calls in a row, which are one line.
+
+use crate::call_text::{Asked, CallText, Shown};
+use std::alloc::{AllocError, Global};
+
+/// A call that was answered at once, and how often it came in a row.
+#[derive(Drop)]
+pub struct Row {
+    /// How often it came; 0 where no call is held.
+    pub times: u64,
+    pub pid: u32,
+    pub number: u32,
+    /// The number of the event of the first.
+    pub at: u64,
+    pub text: CallText,
+    pub answer: i64,
+}
+
+impl Row {
+    /// Holds no call.
+    pub fn new(alloc: Global) -> Row {
+        Row {
+            times: 0,
+            pid: 0,
+            number: 0,
+            at: 0,
+            text: CallText::new(alloc),
+            answer: 0,
+        }
+    }
+
+    // Whether the buffers let two calls be told as one: they are equal, or single bytes.
+    fn fits(&self, text: &CallText) -> bool {
+        let is_single = self.answer == 1
+            && self.text.shown != Shown::Nothing
+            && text.shown == Shown::Whole;
+        is_single
+            || (self.text.shown == text.shown && self.text.data.as_slice() == text.data.as_slice())
+    }
+
+    /// Whether a call goes on with the row.
+    pub fn takes(&self, asked: &Asked, text: &CallText, answer: i64) -> bool {
+        self.times > 0
+            && self.pid == asked.pid
+            && self.number == asked.number
+            && self.answer == answer
+            && self.text.front.as_str() == text.front.as_str()
+            && self.text.back.as_str() == text.back.as_str()
+            && self.fits(text)
+    }
+
+    /// Holds this call in the place of the one before.
+    pub fn begin(&mut self, asked: &Asked, text: &CallText, answer: i64) -> Result<(), AllocError> {
+        self.text.copy_from(text)?;
+        self.times = 1;
+        self.pid = asked.pid;
+        self.number = asked.number;
+        self.at = asked.at;
+        self.answer = answer;
+        Ok(())
+    }
+
+    /// Counts one call more, and shows its byte, if it is one of a single byte.
+    pub fn go_on(&mut self, text: &CallText, most: usize) -> Result<(), AllocError> {
+        self.times = self.times.saturating_add(1);
+        if self.answer == 1 {
+            self.text.add_data(text.data.as_slice(), most)?;
+        }
+        Ok(())
+    }
+}

@@ -1,0 +1,350 @@
+//! The tracer: looks at a machine before and behind each event, and writes what it did.
+
+mod beginning;
+mod drawing;
+mod logging;
+mod saying;
+mod turning;
+
+use crate::call_text::{Asked, CallText, describe};
+use crate::lanes::{Doing, Lane, MOST_NAME, place_of};
+use crate::memory;
+use crate::pen::{Form, Pen, Sinks, Trouble};
+use crate::pipes::PipeTrack;
+use crate::rows::Row;
+use crate::wishes::Wanted;
+use arrayvec::ArrayVec;
+use blockdev::BlockDev;
+use causes::word;
+use live::Watch;
+use machine::{Call, Halt, Machine, ProcessState, Seen};
+use std::alloc::{AllocError, Global};
+use sv39::Translate;
+use unixmodel::event::Event;
+
+/// The most processes that a machine has.
+const MOST_PROCESSES: usize = 64;
+
+/// The most pipes that a machine has: not more than open files.
+const MOST_PIPES: usize = 100;
+
+/// The word of `ecall`.
+const ECALL: u32 = 0x73;
+
+// What the machine is about to do.
+#[derive(Clone, Copy)]
+enum Ahead {
+    // Nothing that shows.
+    Nothing,
+    // An instruction of this process, and its word, where it may be fetched.
+    Instruction { seen: Seen, word: Option<u32> },
+    // A call.
+    Call(Asked),
+    // A turn.
+    Turn,
+    // A timer interrupt.
+    Tick,
+    // A typed byte.
+    Key(u8),
+}
+
+/// Traces a machine: writes to sinks what it does, as it does it.
+#[derive(Drop)]
+pub struct Tracer<S> {
+    pen: Pen<S>,
+    wanted: Wanted,
+    // How many events have passed: where one of spans stands in time.
+    at: u64,
+    is_begun: bool,
+    // Whether the last event that is shown has passed.
+    is_over: bool,
+    ahead: Ahead,
+    running: Option<u32>,
+    lanes: Vec<Lane>,
+    pipes: Vec<PipeTrack>,
+    // The arguments of the call that is looked at, and the path where it has one.
+    text: CallText,
+    path: ArrayVec<u8, MOST_NAME>,
+    // The same arguments as one text.
+    whole: String,
+    row: Row,
+    // How many arrows were drawn.
+    arrows: u64,
+}
+
+// The answer of a call, as a0 has it.
+fn answer_of(seen: &Seen) -> i64 {
+    seen.registers[10].cast_signed()
+}
+
+// What a process asks for that is about to make a call.
+fn asked_of(seen: &Seen, at: u64) -> Asked {
+    let registers = &seen.registers;
+    Asked {
+        pid: seen.pid,
+        number: (registers[17] % 0x1_0000_0000) as u32,
+        arguments: [
+            registers[10],
+            registers[11],
+            registers[12],
+            registers[13],
+            registers[14],
+            registers[15],
+        ],
+        at,
+    }
+}
+
+// Empty pipes, as many as there may be.
+fn empty_pipes(alloc: Global) -> Result<Vec<PipeTrack>, AllocError> {
+    let mut pipes = Vec::with_capacity(alloc, MOST_PIPES)?;
+    for _made in 0..MOST_PIPES {
+        pipes.push(PipeTrack::new())?;
+    }
+    Ok(pipes)
+}
+
+impl<S: Sinks + Drop> Tracer<S> {
+    /// A tracer that writes what is wanted to these sinks.
+    pub fn new(alloc: Global, wanted: Wanted, sinks: S) -> Result<Self, AllocError> {
+        let mut pen = Pen::new(alloc, sinks);
+        pen.set(Form::Text, wanted.text);
+        pen.set(Form::Spans, wanted.spans);
+        pen.set(Form::Commits, wanted.commits);
+        Ok(Tracer {
+            pen,
+            wanted,
+            at: 0,
+            is_begun: false,
+            is_over: false,
+            ahead: Ahead::Nothing,
+            running: None,
+            lanes: Vec::with_capacity(alloc, MOST_PROCESSES)?,
+            pipes: empty_pipes(alloc)?,
+            text: CallText::new(alloc),
+            path: ArrayVec::new(),
+            whole: String::new(alloc),
+            row: Row::new(alloc),
+            arrows: 0,
+        })
+    }
+
+    /// Why the trace isn't whole, if it isn't.
+    pub fn failed(&self) -> Option<Trouble> {
+        self.pen.trouble()
+    }
+
+    /// Writes the end of the trace, and gives the sinks back: an error says why the trace isn't whole.
+    pub fn finish(mut self) -> (S, Result<(), Trouble>) {
+        self.close();
+        self.draw_tail();
+        let done = match self.pen.trouble() {
+            None => Ok(()),
+            Some(trouble) => Err(trouble),
+        };
+        (self.pen.into_sinks(), done)
+    }
+
+    // The number of the event, counted from 1.
+    fn number(&self) -> u64 {
+        self.at.saturating_add(1)
+    }
+
+    // Whether the events of a process are shown now.
+    fn shows(&self, pid: u32) -> bool {
+        self.wanted.has_event(self.number()) && self.wanted.pid.unwrap_or(pid) == pid
+    }
+
+    // Whether a call of a process is shown now.
+    fn shows_call(&self, asked: &Asked) -> bool {
+        self.shows(asked.pid) && self.wanted.calls.contains(asked.number)
+    }
+
+    // What the machine's next event shows.
+    fn look_ahead<D: BlockDev, T: Translate + Drop>(
+        &mut self,
+        machine: &Machine<D, T>,
+        event: Event,
+    ) -> Ahead {
+        match (event, self.running) {
+            (Event::Step, Some(pid)) => self.look_at(machine, pid),
+            (Event::Step, None) if machine.is_idle() => Ahead::Nothing,
+            (Event::Step, None) => Ahead::Turn,
+            (Event::Tick, _) => Ahead::Tick,
+            (Event::Key(key), _) => Ahead::Key(key),
+        }
+    }
+
+    // What the process that has the hart is about to do.
+    fn look_at<D: BlockDev, T: Translate + Drop>(
+        &mut self,
+        machine: &Machine<D, T>,
+        pid: u32,
+    ) -> Ahead {
+        let Some(seen) = machine.inspect(pid) else {
+            return Ahead::Nothing;
+        };
+        let next = word(machine, pid, seen.pc);
+        if next != Some(ECALL) {
+            return Ahead::Instruction { seen, word: next };
+        }
+        let asked = asked_of(&seen, self.at);
+        self.describe(machine, &asked, None);
+        if asked.call() == Some(Call::Exec) {
+            self.take_path(machine, &asked);
+        }
+        Ahead::Call(asked)
+    }
+
+    // Takes the arguments of a call as text.
+    fn describe<D: BlockDev, T: Translate + Drop>(
+        &mut self,
+        machine: &Machine<D, T>,
+        asked: &Asked,
+        answer: Option<i64>,
+    ) {
+        if !self.pen.has(Form::Text) && !self.pen.has(Form::Spans) {
+            return;
+        }
+        let most = self.wanted.most();
+        if describe(&mut self.text, machine, asked, answer, most).is_err() {
+            self.pen.starve();
+        }
+    }
+
+    // Takes the path of a program that is to run.
+    fn take_path<D: BlockDev, T: Translate + Drop>(
+        &mut self,
+        machine: &Machine<D, T>,
+        asked: &Asked,
+    ) {
+        self.path.clear();
+        let [address, ..] = asked.arguments;
+        for at in 0..MOST_NAME as u64 {
+            match memory::byte(machine, asked.pid, address.wrapping_add(at)) {
+                Some(0) | None => break,
+                Some(byte) => {
+                    let _ = self.path.try_push(byte);
+                }
+            }
+        }
+    }
+
+    // The process with a pid.
+    fn lane_mut(&mut self, pid: u32) -> Option<&mut Lane> {
+        let place = place_of(self.lanes.as_slice(), pid)?;
+        self.lanes.get_mut(place)
+    }
+
+    // Says what a process does.
+    fn set_doing(&mut self, pid: u32, doing: Doing) {
+        if let Some(lane) = self.lane_mut(pid) {
+            lane.doing = doing;
+        }
+    }
+
+    // What an instruction did that was no call.
+    fn after_instruction<D: BlockDev, T: Translate + Drop>(
+        &mut self,
+        machine: &Machine<D, T>,
+        before: &Seen,
+        word: Option<u32>,
+    ) {
+        let Some(behind) = machine.inspect(before.pid) else {
+            return;
+        };
+        match (behind.state, word) {
+            (ProcessState::Running, Some(word)) => self.log_commit(before, &behind, word),
+            (ProcessState::Running, None) => (),
+            _ => self.faulted(machine, before),
+        }
+    }
+
+    // What a call did.
+    fn after_call<D: BlockDev, T: Translate + Drop>(
+        &mut self,
+        machine: &Machine<D, T>,
+        asked: &Asked,
+    ) {
+        if asked.call() == Some(Call::Exit) {
+            return self.left(machine, asked);
+        }
+        let Some(seen) = machine.inspect(asked.pid) else {
+            return;
+        };
+        match seen.state {
+            ProcessState::Waiting(_) => self.waits(machine, asked),
+            ProcessState::Zombie(_) => {
+                self.answered(machine, asked, answer_of(&seen), false);
+                self.killed(machine, asked.pid);
+            }
+            _ => self.answered(machine, asked, answer_of(&seen), false),
+        }
+    }
+
+    // What an event did that was ahead.
+    fn follow<D: BlockDev, T: Translate + Drop>(&mut self, machine: &Machine<D, T>) {
+        match self.ahead {
+            Ahead::Nothing => (),
+            Ahead::Instruction { seen, word } => self.after_instruction(machine, &seen, word),
+            Ahead::Call(asked) => self.after_call(machine, &asked),
+            Ahead::Turn => self.after_turn(machine),
+            Ahead::Tick => self.after_tick(),
+            Ahead::Key(key) => self.draw_key(key),
+        }
+    }
+
+    // A call at which the machine failed.
+    fn break_off(&mut self) {
+        if let Ahead::Call(asked) = self.ahead {
+            self.say_unfinished(&asked);
+            if let Some(lane) = self.lane_mut(asked.pid) {
+                lane.pending = Some(asked);
+            }
+        }
+    }
+
+    // Writes what is left where all events that are shown have passed.
+    fn close(&mut self) {
+        if self.is_over {
+            return;
+        }
+        self.say_row();
+        self.draw_rest();
+        self.is_over = true;
+    }
+}
+
+impl<S: Sinks + Drop> Watch for Tracer<S> {
+    fn before<D: BlockDev, T: Translate + Drop>(&mut self, machine: &Machine<D, T>, event: Event) {
+        if !self.is_begun {
+            self.begin(machine);
+        }
+        if self.number() == self.wanted.from {
+            self.log_all(machine);
+        }
+        self.ahead = self.look_ahead(machine, event);
+    }
+
+    fn after<D: BlockDev, T: Translate + Drop>(
+        &mut self,
+        machine: &Machine<D, T>,
+        _event: Event,
+        ended: Result<(), Halt>,
+    ) {
+        if matches!(ended, Err(Halt::Device | Halt::Console)) {
+            self.break_off();
+        } else {
+            self.follow(machine);
+        }
+        let is_last = self.number() >= self.wanted.to;
+        self.at = self.number();
+        if is_last {
+            self.close();
+        }
+    }
+
+    fn end<D: BlockDev, T: Translate + Drop>(&mut self, _machine: &Machine<D, T>) {
+        self.close();
+    }
+}

@@ -1,0 +1,329 @@
+//! What becomes of processes: who gets the hart, whose call is answered, who ends.
+
+use super::beginning::done_of;
+use super::{Tracer, answer_of};
+use crate::call_text::{Asked, int};
+use crate::commits::Note;
+use crate::lanes::{Doing, Exit, Lane, place_of};
+use crate::lines::{FaultText, Says};
+use crate::pen::{Form, Sinks};
+use crate::spans::{Arrow, CALLS, HART, Point, Span};
+use blockdev::BlockDev;
+use causes::fault_of;
+use machine::{Call, Machine, ProcessState, Seen};
+use sv39::Translate;
+
+// Whether a turn picked a process that did this before: it got the hart, ended, or read or wrote more.
+fn is_picked<D: BlockDev, T: Translate + Drop>(
+    machine: &Machine<D, T>,
+    before: Doing,
+    seen: &Seen,
+) -> bool {
+    match (before, seen.state) {
+        (Doing::Rests | Doing::Waits(_), ProcessState::Running | ProcessState::Zombie(_)) => true,
+        (Doing::Waits(done), ProcessState::Waiting(_)) => done_of(machine, seen.pid) != done,
+        _ => false,
+    }
+}
+
+impl<S: Sinks + Drop> Tracer<S> {
+    // The process that a turn picked; `None` where it shows on none.
+    fn picked<D: BlockDev, T: Translate + Drop>(&self, machine: &Machine<D, T>) -> Option<Seen> {
+        for lane in self.lanes.iter() {
+            if let Some(seen) = machine.inspect(lane.pid)
+                && is_picked(machine, lane.doing, &seen)
+            {
+                return Some(seen);
+            }
+        }
+        None
+    }
+
+    // What a turn did.
+    pub(super) fn after_turn<D: BlockDev, T: Translate + Drop>(&mut self, machine: &Machine<D, T>) {
+        let Some(seen) = self.picked(machine) else {
+            return;
+        };
+        match seen.state {
+            ProcessState::Running => self.runs(machine, &seen),
+            ProcessState::Zombie(_) => self.killed(machine, seen.pid),
+            _ => self.goes_on(machine, seen.pid),
+        }
+    }
+
+    // A process got the hart, with the answer of its call, if it waited in one.
+    fn runs<D: BlockDev, T: Translate + Drop>(&mut self, machine: &Machine<D, T>, seen: &Seen) {
+        let pid = seen.pid;
+        self.set_doing(pid, Doing::Runs);
+        self.give_hart(Some(pid));
+        if self.wanted.turns {
+            self.say(pid, Says::Turn);
+        }
+        let pending = match self.lane_mut(pid) {
+            Some(lane) => lane.pending.take(),
+            None => None,
+        };
+        if let Some(asked) = pending {
+            self.answered(machine, &asked, answer_of(seen), true);
+        }
+    }
+
+    // A call that waits has written a part.
+    fn goes_on<D: BlockDev, T: Translate + Drop>(&mut self, machine: &Machine<D, T>, pid: u32) {
+        self.set_doing(pid, Doing::Waits(done_of(machine, pid)));
+        let pending = match self.lane_mut(pid) {
+            Some(lane) => lane.pending,
+            None => None,
+        };
+        self.draw_pipes(machine, pending.as_ref(), true);
+    }
+
+    // The timer took the hart from the process that had it.
+    pub(super) fn after_tick(&mut self) {
+        self.draw_tick();
+        if let Some(pid) = self.running {
+            if self.wanted.turns {
+                self.say(pid, Says::Tick);
+            }
+            self.set_doing(pid, Doing::Rests);
+            self.give_hart(None);
+        }
+    }
+
+    // A call waits.
+    pub(super) fn waits<D: BlockDev, T: Translate + Drop>(
+        &mut self,
+        machine: &Machine<D, T>,
+        asked: &Asked,
+    ) {
+        self.say_unfinished(asked);
+        let done = done_of(machine, asked.pid);
+        if let Some(lane) = self.lane_mut(asked.pid) {
+            lane.doing = Doing::Waits(done);
+            lane.pending = Some(*asked);
+        }
+        self.draw_pipes(machine, Some(asked), true);
+        self.give_hart(None);
+    }
+
+    // A call was answered, at once or in a turn.
+    pub(super) fn answered<D: BlockDev, T: Translate + Drop>(
+        &mut self,
+        machine: &Machine<D, T>,
+        asked: &Asked,
+        answer: i64,
+        is_resumed: bool,
+    ) {
+        let fills_in = matches!(asked.call(), Some(Call::Wait | Call::Pipe | Call::Read));
+        if is_resumed || fills_in {
+            self.describe(machine, asked, Some(answer));
+        }
+        if is_resumed {
+            self.say_resumed(asked, answer);
+        } else {
+            self.say_answered(asked, answer);
+        }
+        self.draw_call(asked, Some(answer));
+        self.draw_pipes(machine, Some(asked), false);
+        self.log_answer(machine, asked, answer);
+        self.take_effect(machine, asked, answer);
+    }
+
+    // What an answered call does to processes.
+    fn take_effect<D: BlockDev, T: Translate + Drop>(
+        &mut self,
+        machine: &Machine<D, T>,
+        asked: &Asked,
+        answer: i64,
+    ) {
+        let pid = (answer.cast_unsigned() % 0x1_0000_0000) as u32;
+        match asked.call() {
+            Some(Call::Fork) if answer > 0 => self.born(machine, asked, pid),
+            Some(Call::Wait) if answer > 0 => self.collected(asked, pid),
+            Some(Call::Exec) if answer >= 0 => self.renamed(asked.pid),
+            Some(Call::Kill) if answer == 0 => self.marked(asked),
+            _ => (),
+        }
+    }
+
+    // A process was forked.
+    fn born<D: BlockDev, T: Translate + Drop>(
+        &mut self,
+        machine: &Machine<D, T>,
+        asked: &Asked,
+        child: u32,
+    ) {
+        let mut lane = Lane::new(child, Doing::Rests);
+        if let Some(parent) = self.lane_mut(asked.pid) {
+            lane.rename(parent.name.as_slice());
+        }
+        self.add_lane(lane);
+        self.draw_birth(asked, child);
+        self.log_process(machine, child);
+    }
+
+    // A process runs another program.
+    fn renamed(&mut self, pid: u32) {
+        if let Some(place) = place_of(self.lanes.as_slice(), pid)
+            && let Some(lane) = self.lanes.get_mut(place)
+        {
+            lane.rename(self.path.as_slice());
+        }
+    }
+
+    // A process was marked to be killed.
+    fn marked(&mut self, asked: &Asked) {
+        let [pid, ..] = asked.arguments;
+        if let Some(lane) = self.lane_mut(int(pid).cast_unsigned())
+            && lane.doing != Doing::Ended
+            && lane.killer.is_none()
+        {
+            lane.killer = Some(asked.pid);
+        }
+    }
+
+    // A process that had ended was waited for.
+    fn collected(&mut self, asked: &Asked, child: u32) {
+        let Some(place) = place_of(self.lanes.as_slice(), child) else {
+            return;
+        };
+        let exit = match self.lanes.get(place) {
+            Some(lane) => lane.exit,
+            None => None,
+        };
+        self.draw_name(place);
+        if place < self.lanes.len() {
+            self.lanes.swap_remove(place);
+        }
+        if let Some(Exit { at, lane }) = exit
+            && self.shows_call(asked)
+        {
+            let to = Point {
+                at: self.at,
+                pid: asked.pid,
+                lane: CALLS,
+            };
+            self.draw_arrow(
+                Arrow::End,
+                Point {
+                    at,
+                    pid: child,
+                    lane,
+                },
+                to,
+            );
+        }
+    }
+
+    // A process ended: where an arrow leaves is kept if its slice is shown.
+    fn ends<D: BlockDev, T: Translate + Drop>(
+        &mut self,
+        machine: &Machine<D, T>,
+        pid: u32,
+        status: i32,
+        exit: Option<Exit>,
+    ) {
+        if let Some(lane) = self.lane_mut(pid) {
+            lane.doing = Doing::Ended;
+            lane.pending = None;
+            lane.exit = exit;
+        }
+        self.draw_pipes(machine, None, false);
+        self.log(pid, Note::Ended(status));
+        if self.running == Some(pid) {
+            self.give_hart(None);
+        }
+    }
+
+    // A process called exit.
+    pub(super) fn left<D: BlockDev, T: Translate + Drop>(
+        &mut self,
+        machine: &Machine<D, T>,
+        asked: &Asked,
+    ) {
+        let [status, ..] = asked.arguments;
+        let status = int(status);
+        self.say_left(asked);
+        self.say(asked.pid, Says::Ended(status));
+        self.draw_call(asked, None);
+        let exit = Exit {
+            at: self.at,
+            lane: CALLS,
+        };
+        let shown = if self.shows_call(asked) {
+            Some(exit)
+        } else {
+            None
+        };
+        self.ends(machine, asked.pid, status, shown);
+    }
+
+    // A process faulted.
+    pub(super) fn faulted<D: BlockDev, T: Translate + Drop>(
+        &mut self,
+        machine: &Machine<D, T>,
+        before: &Seen,
+    ) {
+        let (pid, pc) = (before.pid, before.pc);
+        let fault = FaultText(fault_of(machine, pid));
+        self.say(pid, Says::Fault { fault, pc });
+        self.say(pid, Says::Ended(-1));
+        self.draw(
+            pid,
+            Span::Fault {
+                pid,
+                at: self.at,
+                fault,
+            },
+        );
+        let exit = Exit {
+            at: self.at,
+            lane: HART,
+        };
+        let shown = if self.shows(pid) { Some(exit) } else { None };
+        self.ends(machine, pid, -1, shown);
+    }
+
+    // A process that was killed ended.
+    pub(super) fn killed<D: BlockDev, T: Translate + Drop>(
+        &mut self,
+        machine: &Machine<D, T>,
+        pid: u32,
+    ) {
+        let (killer, pending) = match self.lane_mut(pid) {
+            Some(lane) => (lane.killer, lane.pending),
+            None => (None, None),
+        };
+        self.say(pid, Says::Killed(killer));
+        if let Some(asked) = pending {
+            self.describe(machine, &asked, None);
+            self.draw_call(&asked, None);
+        }
+        self.draw(
+            pid,
+            Span::Moment {
+                pid,
+                name: "killed",
+                at: self.at,
+            },
+        );
+        let exit = Exit {
+            at: self.at,
+            lane: CALLS,
+        };
+        let shown = if self.shows(pid) { Some(exit) } else { None };
+        self.ends(machine, pid, -1, shown);
+    }
+
+    // The hart goes to a process, or to none.
+    fn give_hart(&mut self, pid: Option<u32>) {
+        self.draw_run();
+        self.running = pid;
+        let since = self.at.saturating_add(1);
+        if let Some(pid) = pid
+            && let Some(lane) = self.lane_mut(pid)
+        {
+            lane.since = since;
+        }
+    }
+}
