@@ -1,7 +1,8 @@
 // Looks at each step of the hart, and tells the kernel calls of the programs as lines.
 import { isCall } from "./disassembly.js";
 
-const MOST_LINES = 200;
+const MOST_LINES = 100; // of a process
+const MOST_PROCESSES = 200;
 const MOST_BYTES = 32;
 const PAGE = 4096;
 const A0 = 10;
@@ -118,7 +119,7 @@ function told(machine, process, kind, index) {
 /** The last calls of each process, while it is watched. */
 export class Calls {
   constructor() {
-    this.lines = [];
+    this.lines = new Map();
     this.open = new Map();
     this.running = 0;
     this.last = 0;
@@ -126,7 +127,7 @@ export class Calls {
 
   /** What the calls of a process were, the oldest first. */
   of(pid) {
-    return this.lines.filter((line) => line.pid === pid);
+    return this.lines.get(pid) ?? [];
   }
 
   /** So many steps at most, each looked at. */
@@ -182,7 +183,6 @@ export class Calls {
     const number = low(process.registers[A7]);
     const { takes = [] } = CALLS[number] ?? {};
     const line = {
-      pid: process.pid,
       number,
       at: process.pc,
       buffer: process.registers[A0 + 1],
@@ -192,9 +192,16 @@ export class Calls {
       times: 1,
     };
     if (number === WRITE) this.spell(line, bytesAt(machine, process.pid, line.buffer, this.room(low(process.registers[A0 + 2]))));
-    this.lines.push(line);
-    if (this.lines.length > 2 * MOST_LINES) this.lines.splice(0, MOST_LINES);
+    this.keep(process.pid, line);
     if (number !== EXIT) this.open.set(process.pid, line);
+  }
+
+  keep(pid, line) {
+    const lines = this.of(pid);
+    lines.push(line);
+    if (lines.length > MOST_LINES) lines.shift();
+    this.lines.set(pid, lines);
+    if (this.lines.size > MOST_PROCESSES) this.lines.delete(this.lines.keys().next().value);
   }
 
   room(count) {
@@ -212,16 +219,16 @@ export class Calls {
     this.open.delete(process.pid);
     const answer = low(process.registers[A0]);
     line.answer = String(answer);
-    if (line.number === READ) this.spell(line, bytesAt(machine, process.pid, line.buffer, this.room(answer)));
-    this.join(line);
+    if (line.number === READ && answer >= 0) this.spell(line, bytesAt(machine, process.pid, line.buffer, this.room(answer)));
+    this.join(this.of(process.pid));
   }
 
   // Reads and writes of single bytes, one behind the other, are one line.
-  join(line) {
-    const before = this.of(line.pid).at(-2);
-    const alike = before?.bytes && line.bytes?.length === 1 && before.number === line.number && before.answer === "1" && line.answer === "1";
+  join(lines) {
+    const [before, line] = lines.slice(-2);
+    const alike = before?.bytes && line?.bytes?.length === 1 && before.number === line.number && before.answer === "1" && line.answer === "1";
     if (!alike || before.parts[0] !== line.parts[0]) return;
-    this.lines.splice(this.lines.lastIndexOf(line), 1);
+    lines.pop();
     before.times += 1;
     this.spell(before, [...before.bytes, ...line.bytes]);
   }
