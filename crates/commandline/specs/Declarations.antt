@@ -73,12 +73,12 @@ letter_rule name letter = record (new_rule name) { long = Some name; short = Som
 abbrev pub boot_options : App → App
 boot_options app = with_rule (with_rule app (number_rule (codes "frames") (codes "256"))) (flag_rule (codes "tlb"))
 
--- [--report] [--json FILE] [--registers PID] [--memory PID] [--status] [--progress]
+-- [--report] [--json FILE] [--registers PID] [--memory PID] [--status]
 abbrev pub telling_options : App → App
 telling_options app =
-    with_rule (with_rule (with_rule (with_rule (with_rule (with_rule app
+    with_rule (with_rule (with_rule (with_rule (with_rule app
     (flag_rule (codes "report"))) (option_rule (codes "json"))) (count_rule (codes "registers"))) (count_rule (codes "memory")))
-    (flag_rule (codes "status"))) (flag_rule (codes "progress"))
+    (flag_rule (codes "status"))
 
 -- [--explain]
 abbrev pub explained : App → App
@@ -100,12 +100,12 @@ declared_flat = with_bare (with_bare (explained (telling_options (boot_options (
 abbrev pub declared_run : App
 declared_run = with_bare (with_bare (run_options (new_app (codes "run"))) (codes "IMAGE")) (codes "SCRIPT")
 
--- live [--frames N] [--quantum N] [--record SCRIPT] [--save OUT] [--terminal] [--progress] IMAGE
+-- live [--frames N] [--quantum N] [--record SCRIPT] [--save OUT] [--terminal] IMAGE
 abbrev pub declared_live : App
 declared_live =
-    with_bare (explained (with_rule (with_rule (with_rule (with_rule (with_rule (with_rule (new_app (codes "live"))
+    with_bare (explained (with_rule (with_rule (with_rule (with_rule (with_rule (new_app (codes "live"))
     (number_rule (codes "frames") (codes "256"))) (count_rule (codes "quantum"))) (option_rule (codes "record")))
-    (option_rule (codes "save"))) (flag_rule (codes "terminal"))) (flag_rule (codes "progress")))) (codes "IMAGE")
+    (option_rule (codes "save"))) (flag_rule (codes "terminal")))) (codes "IMAGE")
 
 -- play [..] [--script OUT] IMAGE PLAY
 abbrev pub declared_play : App
@@ -244,7 +244,6 @@ pub record IsTelling (found : List Row) (telling : Telling) : Type 0 where
   pub registers : IsCount (codes "registers") found telling.registers
   pub memory : IsCount (codes "memory") found telling.memory
   pub status : IsFlag (codes "status") found telling.status
-  pub progress : IsFlag (codes "progress") found telling.progress
 
 pub record IsFlat (found : List Row) (flat : Flat) : Type 0 where
   pub frames : IsWritten (codes "frames") found flat.frames
@@ -329,7 +328,6 @@ pub record IsLive (found : List Row) (live : Live) : Type 0 where
   pub script : IsOption (codes "record") found live.script
   pub save : IsOption (codes "save") found live.save
   pub terminal : IsFlag (codes "terminal") found live.terminal
-  pub progress : IsFlag (codes "progress") found live.progress
   pub image : first_of (codes "IMAGE") found ≡ Some live.image.now
 
 -- the job is the command found, with its words

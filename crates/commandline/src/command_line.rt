@@ -173,14 +173,12 @@ fn telling<'a>(found: &ArgMatches<'a>) -> Option<Telling<'a>>
         return None;
     };
     let status = flag_found(found, "status");
-    let progress = flag_found(found, "progress");
     Some(Telling {
         report,
         json,
         registers,
         memory,
         status,
-        progress,
     })
 }
 
@@ -397,7 +395,6 @@ fn live<'a>(found: &ArgMatches<'a>) -> Option<Job<'a>>
     let script = option_found(found, "record");
     let save = option_found(found, "save");
     let terminal = flag_found(found, "terminal");
-    let progress = flag_found(found, "progress");
     let image = word_found(found, "IMAGE")?;
     Some(Job::Live(Live {
         frames,
@@ -405,7 +402,6 @@ fn live<'a>(found: &ArgMatches<'a>) -> Option<Job<'a>>
         script,
         save,
         terminal,
-        progress,
         image,
     }))
 }

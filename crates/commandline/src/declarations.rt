@@ -166,12 +166,6 @@ const STATUS: Word<'static> = Word {
     help: "Exits with the low eight bits of process 1's status, where it has ended",
 };
 
-const PROGRESS: Word<'static> = Word {
-    name: "progress",
-    given: Given::Flag,
-    help: "Tells on a terminal, while the machine runs, how many steps it has done",
-};
-
 const EXPLAIN: Word<'static> = Word {
     name: "explain",
     given: Given::Flag,
@@ -202,7 +196,7 @@ const PROGRAM_FILE: Word<'static> = Word {
     help: "The program's file",
 };
 
-const FLAT: [Word<'static>; 11] = [
+const FLAT: [Word<'static>; 10] = [
     FRAMES,
     TLB,
     REPORT,
@@ -210,7 +204,6 @@ const FLAT: [Word<'static>; 11] = [
     REGISTERS,
     MEMORY,
     STATUS,
-    PROGRESS,
     EXPLAIN,
     Word {
         name: "FILE",
@@ -220,12 +213,11 @@ const FLAT: [Word<'static>; 11] = [
     SCRIPT,
 ];
 
-const RUN: [Word<'static>; 13] = [
-    FRAMES, TLB, FAIL, SAVE, REPORT, JSON, REGISTERS, MEMORY, STATUS, PROGRESS, EXPLAIN, BOOTED,
-    SCRIPT,
+const RUN: [Word<'static>; 12] = [
+    FRAMES, TLB, FAIL, SAVE, REPORT, JSON, REGISTERS, MEMORY, STATUS, EXPLAIN, BOOTED, SCRIPT,
 ];
 
-const TRACE: [Word<'static>; 25] = [
+const TRACE: [Word<'static>; 24] = [
     FRAMES,
     TLB,
     FAIL,
@@ -235,7 +227,6 @@ const TRACE: [Word<'static>; 25] = [
     REGISTERS,
     MEMORY,
     STATUS,
-    PROGRESS,
     EXPLAIN,
     Word {
         name: "pid",
@@ -301,7 +292,7 @@ const TRACE: [Word<'static>; 25] = [
     SCRIPT,
 ];
 
-const PLAY: [Word<'static>; 14] = [
+const PLAY: [Word<'static>; 13] = [
     FRAMES,
     TLB,
     FAIL,
@@ -311,7 +302,6 @@ const PLAY: [Word<'static>; 14] = [
     REGISTERS,
     MEMORY,
     STATUS,
-    PROGRESS,
     EXPLAIN,
     Word {
         name: "script",
@@ -431,7 +421,7 @@ const ASM: [Word<'static>; 3] = [
 
 const DUMP: [Word<'static>; 2] = [EXPLAIN, PROGRAM_FILE];
 
-const LIVE: [Word<'static>; 8] = [
+const LIVE: [Word<'static>; 7] = [
     FRAMES,
     Word {
         name: "quantum",
@@ -449,7 +439,6 @@ const LIVE: [Word<'static>; 8] = [
         given: Given::Flag,
         help: "Standard input is a terminal that answers within a tenth of a second (make live): ^A x ends the session, ^P shows the processes",
     },
-    PROGRESS,
     EXPLAIN,
     BOOTED,
 ];

@@ -46,8 +46,6 @@ pub struct Telling<'a> {
     pub memory: Option<NonZeroU64>,
     /// Whether the status to exit with is that of process 1.
     pub status: bool,
-    /// Whether a terminal is told how many steps are done.
-    pub progress: bool,
 }
 
 /// The words of the command `flat`.
@@ -229,8 +227,6 @@ pub struct Live<'a> {
     pub save: Option<&'a str>,
     /// Whether standard input is a terminal, which tells by a read of nothing that no key came for a while.
     pub terminal: bool,
-    /// Whether a terminal is told how many steps are done.
-    pub progress: bool,
     /// The name of the image's file.
     pub image: &'a str,
 }

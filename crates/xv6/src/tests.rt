@@ -32,7 +32,6 @@ const UNTOLD: Telling<'static> = Telling {
     registers: None,
     memory: None,
     status: false,
-    progress: false,
 };
 
 // How a process ends at a fault.

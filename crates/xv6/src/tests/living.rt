@@ -104,7 +104,6 @@ const LIVE: Live<'static> = Live {
     script: Some("record"),
     save: Some("saved"),
     terminal: false,
-    progress: false,
     image: "image",
 };
 
@@ -200,8 +199,7 @@ type Refused = (Live<'static>, usize, usize, &'static str, &'static str, u8);
 const REFUSED: [Refused; 7] = [
     (
         Live {
-            progress: false,
-            image: "none",
+                    image: "none",
             ..LIVE
         },
         1000,
@@ -212,8 +210,7 @@ const REFUSED: [Refused; 7] = [
     ),
     (
         Live {
-            progress: false,
-            image: "record",
+                    image: "record",
             ..LIVE
         },
         1000,

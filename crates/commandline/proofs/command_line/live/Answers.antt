@@ -13,7 +13,6 @@ returns c = (
     script = c.option_found-script.ensures;
     save = c.option_found-save.ensures;
     terminal = c.flag_found-terminal.ensures;
-    progress = c.flag_found-progress.ensures;
     image = c.in_ok-image.ensures;
   },
 )
