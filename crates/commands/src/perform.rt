@@ -7,7 +7,7 @@ mod program_files;
 mod runs;
 mod seat;
 mod sessions;
-mod traces;
+mod tracing;
 
 ghost use Rattle.std.specs.Prelude.{◌≤◌, IfOk, vec_len};
 
@@ -182,7 +182,7 @@ pub fn perform<H: Host, W: Write, E: Write>(
         ),
         Job::Live(words) => sessions::perform(alloc, words, host, stdout, stderr),
         Job::Play(words) => plays::perform(alloc, words, host, stdout, stderr),
-        Job::Trace(words) => traces::perform(alloc, words, host, stdout, stderr),
+        Job::Trace(words) => tracing::perform(alloc, words, host, stdout, stderr),
         Job::Get(words) => openings::get(alloc, words, host, stdout, stderr),
         Job::Put(words) => openings::put(alloc, words, host, stderr),
     }

@@ -70,6 +70,8 @@ pub enum Failure<'a> {
     Assembly(AsmFault),
     /// The file is no program.
     Program(ElfFault),
+    /// No call has this name.
+    Call(&'a str),
     /// Standard output took not all that was written to it.
     Output,
     /// The program itself found no memory.
@@ -94,6 +96,7 @@ impl fmt::Display for Failure<'_> {
                 write!(f, "line {line}: {number} {name}")
             }
             Failure::Program(fault) => write_fault(f, program_fault(*fault)),
+            Failure::Call(name) => write!(f, "no call {name}"),
             Failure::Output => write!(f, "cannot write standard output"),
             Failure::NoMemory => write!(f, "no memory"),
         }

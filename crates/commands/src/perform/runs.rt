@@ -220,8 +220,8 @@ pub fn flat<'a, H: Host, V: Watch, W: Write>(
     )
 }
 
-// A machine over the translator that the words ask for.
-fn run_over<'a, V: Watch, W: Write>(
+/// A machine over the translator that the words ask for: how it ended, and the disk that is left where it was to be saved.
+pub fn run_over<'a, V: Watch, W: Write>(
     alloc: Global,
     words: Run<'a>,
     disk: MemDisk,

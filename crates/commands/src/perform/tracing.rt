@@ -1,0 +1,243 @@
+//! Runs of which it is shown what each process does.
+
+use crate::host::Host;
+use crate::perform::images::{disk_of, read_image};
+use crate::perform::runs::{keep, run_over};
+use crate::perform::{append, read, script_of, write};
+use crate::report::{End, Failure, tell};
+use commandline::Trace;
+use std::alloc::Global;
+use std::io::Write;
+use traces::{CallSet, Form, SinkFault, Sinks, Tracer, Trouble, Wanted};
+
+/// The most bytes of a file that wait to be written.
+const MOST_WAITING: usize = 65536;
+
+// A file to which one form goes, if it goes to one, and the bytes that are not written yet.
+#[derive(Drop)]
+struct Sheet<'a> {
+    name: Option<&'a str>,
+    waiting: Vec<u8>,
+}
+
+impl<'a> Sheet<'a> {
+    fn new(alloc: Global, name: Option<&'a str>) -> Self {
+        Sheet {
+            name,
+            waiting: Vec::new(alloc),
+        }
+    }
+
+    // Makes the file, which is empty so far.
+    fn begin<H: Host>(&self, host: &mut H) -> Result<(), Failure<'a>> {
+        match self.name {
+            Some(name) => write(host, name, &[]),
+            None => Ok(()),
+        }
+    }
+
+    // Writes the bytes that wait.
+    fn write_out<H: Host>(&mut self, host: &mut H) -> Result<(), Failure<'a>> {
+        let Some(name) = self.name else {
+            return Ok(());
+        };
+        if self.waiting.is_empty() {
+            return Ok(());
+        }
+        let done = append(host, name, self.waiting.as_slice());
+        self.waiting.clear();
+        done
+    }
+
+    // Puts bytes behind the others.
+    fn put<H: Host>(&mut self, host: &mut H, bytes: &[u8]) -> Result<(), Failure<'a>> {
+        if self.waiting.extend_from_slice(bytes).is_err() {
+            return Err(Failure::NoMemory);
+        }
+        if self.waiting.len() < MOST_WAITING {
+            return Ok(());
+        }
+        self.write_out(host)
+    }
+}
+
+// Where the forms of a trace go: files, and standard error for a text that has none.
+#[derive(Drop)]
+struct Sheets<'a, 'b, H, E> {
+    host: &'b mut H,
+    stderr: &'b mut E,
+    text: Sheet<'a>,
+    spans: Sheet<'a>,
+    commits: Sheet<'a>,
+    // Why the first that could not be written could not.
+    failure: Option<Failure<'a>>,
+}
+
+impl<'a, 'b, H: Host, E: Write> Sheets<'a, 'b, H, E> {
+    // The files of these names, which are made.
+    fn begin(
+        alloc: Global,
+        words: &Trace<'a>,
+        host: &'b mut H,
+        stderr: &'b mut E,
+    ) -> Result<Self, Failure<'a>> {
+        let text = Sheet::new(alloc, words.text);
+        let spans = Sheet::new(alloc, words.perfetto);
+        let commits = Sheet::new(alloc, words.commits);
+        text.begin(host)?;
+        spans.begin(host)?;
+        commits.begin(host)?;
+        Ok(Sheets {
+            host,
+            stderr,
+            text,
+            spans,
+            commits,
+            failure: None,
+        })
+    }
+
+    // A line of the text, to its file or to standard error.
+    fn put_text(&mut self, bytes: &[u8]) -> Result<(), Failure<'a>> {
+        if self.text.name.is_some() {
+            return self.text.put(self.host, bytes);
+        }
+        match self.stderr.write_all(bytes) {
+            Ok(()) => Ok(()),
+            Err(_) => Err(Failure::Write("standard error")),
+        }
+    }
+
+    // Writes the files to their ends; why not all of them are whole.
+    fn finish(self) -> Result<(), Failure<'a>> {
+        let Sheets {
+            host,
+            stderr: _,
+            mut text,
+            mut spans,
+            mut commits,
+            failure,
+        } = self;
+        let text = text.write_out(host);
+        let spans = spans.write_out(host);
+        let commits = commits.write_out(host);
+        match failure {
+            Some(failure) => Err(failure),
+            None => text.and(spans).and(commits),
+        }
+    }
+}
+
+impl<H: Host, E: Write> Sinks for Sheets<'_, '_, H, E> {
+    fn put(&mut self, form: Form, bytes: &[u8]) -> Result<(), SinkFault> {
+        let done = match form {
+            Form::Text => self.put_text(bytes),
+            Form::Spans => self.spans.put(self.host, bytes),
+            Form::Commits => self.commits.put(self.host, bytes),
+        };
+        match done {
+            Ok(()) => Ok(()),
+            Err(failure) => {
+                if self.failure.is_none() {
+                    self.failure = Some(failure);
+                }
+                Err(SinkFault)
+            }
+        }
+    }
+}
+
+// The calls that are shown.
+fn calls_of<'a>(words: &Trace<'a>) -> Result<CallSet, Failure<'a>> {
+    let Some(names) = words.part.calls else {
+        return Ok(CallSet::ALL);
+    };
+    match CallSet::parse(names) {
+        Ok(calls) => Ok(calls),
+        Err(name) => Err(Failure::Call(name)),
+    }
+}
+
+// What is traced, and how.
+fn wanted_of<'a>(words: &Trace<'a>) -> Result<Wanted, Failure<'a>> {
+    let calls = calls_of(words)?;
+    let (part, lines) = (words.part, words.lines);
+    Ok(Wanted {
+        text: true,
+        spans: words.perfetto.is_some(),
+        commits: words.commits.is_some(),
+        pid: part
+            .pid
+            .map(|pid| u32::try_from(pid.get()).unwrap_or(u32::MAX)),
+        calls,
+        from: part.from.map_or(1, |from| from.get()),
+        to: part.to.map_or(u64::MAX, |to| to.get()),
+        joins: !lines.each,
+        bytes: lines.bytes as usize,
+        times: lines.time,
+        turns: lines.turns,
+        core_is_pid: lines.core_is_pid,
+    })
+}
+
+// Why a trace isn't whole: what its files tell, or else that there was no memory.
+fn whole<'a>(
+    traced: Result<(), Trouble>,
+    written: Result<(), Failure<'a>>,
+) -> Result<(), Failure<'a>> {
+    match (written, traced) {
+        (Ok(()), Err(_)) => Err(Failure::NoMemory),
+        (written, _) => written,
+    }
+}
+
+// A run, to its end: how it ended, and whether all files were written.
+fn trace<'a, H: Host, W: Write, E: Write>(
+    alloc: Global,
+    words: &Trace<'a>,
+    host: &mut H,
+    stdout: &mut W,
+    stderr: &mut E,
+) -> Result<(End, Result<(), Failure<'a>>), Failure<'a>> {
+    let wanted = wanted_of(words)?;
+    let image = read_image(host, words.run.image)?;
+    let bytes = read(host, words.run.script)?;
+    let script = script_of(alloc, words.run.script, bytes.as_slice())?;
+    let disk = disk_of(image)?;
+    let sheets = Sheets::begin(alloc, words, host, stderr)?;
+    let Ok(mut tracer) = Tracer::new(alloc, wanted, sheets) else {
+        return Err(Failure::NoMemory);
+    };
+    let (end, disk) = run_over(
+        alloc,
+        words.run,
+        disk,
+        script.as_slice(),
+        &mut tracer,
+        stdout,
+    )?;
+    let (sheets, traced) = tracer.finish();
+    let written = whole(traced, sheets.finish());
+    let saved = keep(words.run.save, disk, host);
+    Ok((end, written.and(saved)))
+}
+
+/// The command `trace`: as `run`, and what each process does is written as it does it.
+pub fn perform<H: Host, W: Write, E: Write>(
+    alloc: Global,
+    words: Trace<'_>,
+    host: &mut H,
+    stdout: &mut W,
+    stderr: &mut E,
+) -> u8 {
+    match trace(alloc, &words, host, stdout, stderr) {
+        Ok((end, written)) => {
+            let _ = writeln!(stderr, "{end}");
+            match written {
+                Ok(()) => end.status(),
+                Err(failure) => tell(&failure, stderr),
+            }
+        }
+        Err(failure) => tell(&failure, stderr),
+    }
+}
