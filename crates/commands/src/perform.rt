@@ -5,6 +5,7 @@ mod openings;
 mod plays;
 mod program_files;
 mod runs;
+mod scribe;
 mod seat;
 mod sessions;
 mod tracing;
@@ -183,7 +184,7 @@ pub fn perform<H: Host, W: Write, E: Write>(
         Job::Live(words) => sessions::perform(alloc, words, host, stdout, stderr),
         Job::Play(words) => plays::perform(alloc, words, host, stdout, stderr),
         Job::Trace(words) => tracing::perform(alloc, words, host, stdout, stderr),
-        Job::Get(words) => openings::get(alloc, words, host, stdout, stderr),
-        Job::Put(words) => openings::put(alloc, words, host, stderr),
+        Job::Get(words) => perform_quietly(openings::get(alloc, words, host, stdout), stderr),
+        Job::Put(words) => perform_quietly(openings::put(alloc, words, host), stderr),
     }
 }

@@ -2,6 +2,8 @@
 mod images;
 mod living;
 mod migrating;
+mod openings;
+mod plays;
 mod program_files;
 mod runs;
 mod words;

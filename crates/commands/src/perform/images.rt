@@ -16,7 +16,7 @@ use blockdev::{BLOCK_SIZE, MemDisk};
 use commandline::{Check, Ls, Migrate, Mkfs};
 use image::{Entry, ImageFault, MakeFault, Manifest, MigrateFault, Summary, Thing};
 use layout::{Format, LONGEST, MOST_BLOCKS};
-use listings::{ListingFault, write_directory};
+use listings::{ListingFault, write_directory, write_tree};
 use std::alloc::{AllocError, Global};
 use std::io::Write;
 use texts::{Line, TextFault, parse};
@@ -241,11 +241,18 @@ pub fn ls<'a, H: Host, W: Write>(
     stdout: &mut W,
 ) -> Result<(), Failure<'a>> {
     let disk = disk_of(read_image(host, words.image)?)?;
-    match write_directory(alloc, disk, words.path.as_bytes(), stdout) {
+    let path = words.path.as_bytes();
+    let listed = if words.recursive {
+        write_tree(alloc, disk, path, stdout)
+    } else {
+        write_directory(alloc, disk, path, stdout)
+    };
+    match listed {
         Ok(()) => {}
         Err(ListingFault::Image(fault)) => return Err(Failure::Image(fault)),
         Err(ListingFault::Tree(fault)) => return Err(Failure::Tree(fault)),
         Err(ListingFault::Output) => return Err(Failure::Output),
+        Err(ListingFault::NoMemory) => return Err(Failure::NoMemory),
     }
     match stdout.flush() {
         Ok(()) => Ok(()),

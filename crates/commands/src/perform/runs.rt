@@ -135,8 +135,8 @@ fn run_disk<D: BlockDev, T: Translate + Drop, V: Watch, W: Write + Drop>(
     Ok(run_machine(machine, script, words.save.is_some(), watch, stdout))
 }
 
-// Of what is left of a disk of which one access fails, the disk below.
-fn inner_of<D: BlockDev>(failing: Option<FailAt<D>>) -> Option<D>
+/// Of what is left of a disk of which one access fails, the disk below.
+pub fn inner_of<D: BlockDev>(failing: Option<FailAt<D>>) -> Option<D>
     ensures { option_map (λ failing. failing.device) failing ≡ result }
 {
     failing.map(FailAt::into_inner)

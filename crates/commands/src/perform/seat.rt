@@ -164,8 +164,8 @@ fn meaning(is_terminal: bool, is_escaped: bool, byte: u8) -> Typed
     }
 }
 
-// Writes a line of the record.
-fn write_line(lines: &mut String, moved: Move<'_>) -> Result<(), AllocError> {
+/// Writes a line of a record.
+pub fn write_line(lines: &mut String, moved: Move<'_>) -> Result<(), AllocError> {
     match moved {
         Move::Steps(0) | Move::Keys(&[]) => Ok(()),
         Move::Steps(count) => writeln!(lines, "step {count}"),

@@ -38,8 +38,8 @@ fn quantum_of(words: &Live<'_>) -> u32 {
     }
 }
 
-// How a session ended: where an output has failed it was the console.
-fn end_with(ended: Result<(), Halt>, failures: u64, is_written: bool) -> End
+/// How a session ended: where an output has failed it was the console.
+pub fn end_with(ended: Result<(), Halt>, failures: u64, is_written: bool) -> End
     ensures sound { failures ≡ 0 → result ≡ end_of ended is_written }
     ensures fault { failures ≢ 0 → result ≡ Halted Console }
 {

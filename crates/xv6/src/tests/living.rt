@@ -10,7 +10,7 @@ use std::num::NonZeroU64;
 use std::process::Abort;
 
 // Says once more each line that is typed, two ticks later, until none comes: then it ends with 7.
-const LISTENS: &str = "\
+pub const LISTENS: &str = "\
     la a0, console\n li a1, 2\n li a7, 15\n ecall\n\
     again: li a0, 0\n la a1, line\n li a2, 100\n li a7, 5\n ecall\n beq a0, zero, ends\n mv s0, a0\n\
     li a0, 2\n li a7, 13\n ecall\n mv a2, s0\n li a0, 0\n la a1, line\n li a7, 16\n ecall\n j again\n\
