@@ -1,0 +1,5 @@
+//! What reports tell of runs that stop in different ways.
+#![tactic(auto)]
+
+#[cfg(test)]
+mod rows;
