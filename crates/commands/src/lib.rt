@@ -1,6 +1,7 @@
 //! The commands of the program, done over a host's files.
 #![tactic(auto)]
 
+mod explaining;
 mod host;
 pub mod perform;
 mod report;
@@ -9,5 +10,6 @@ pub use commandline::{
     Asm, Check, Dump, Flat, Get, Job, Lines, Live, Ls, Migrate, Mkfs, Part, Play, Put, Run,
     Telling, Trace, explains, job,
 };
+pub use explaining::{explain, explain_words};
 pub use host::{Front, Host, HostFault, Why};
 pub use report::refuse;

@@ -8,13 +8,15 @@ mod runs;
 mod scribe;
 mod seat;
 mod sessions;
+mod telling;
 mod tracing;
 
 ghost use Rattle.std.specs.Prelude.{◌≤◌, IfOk, vec_len};
 
 use crate::host::{Front, Host, Why};
-use crate::report::{Failure, print, tell};
-use commandline::{Flat, Job, Mkfs, Run};
+use crate::perform::telling::{Teller, looks_on, status_of, tell_kept};
+use crate::report::{End, Failure, print, tell};
+use commandline::{Flat, Job, Mkfs, Run, Telling};
 use image::Summary;
 use live::Nobody;
 use std::alloc::Global;
@@ -91,6 +93,23 @@ impl fmt::Display for Accepted {
     }
 }
 
+// Tells how a run ended, behind what else is to be told of it, and then what was not written; answers the status to exit with.
+fn finish<'a, H: Host, E: Write>(
+    end: End,
+    written: Result<(), Failure<'a>>,
+    teller: Option<Teller>,
+    telling: &Telling<'a>,
+    host: &mut H,
+    stderr: &mut E,
+) -> u8 {
+    let told = tell_kept(teller, telling, host, stderr);
+    let _ = writeln!(stderr, "{end}");
+    match written.and(told) {
+        Ok(()) => status_of(telling, end),
+        Err(failure) => tell(&failure, stderr),
+    }
+}
+
 // Boots a flat program, runs a script, and tells how that ended.
 fn perform_flat<H: Host, W: Write, E: Write>(
     alloc: Global,
@@ -99,11 +118,16 @@ fn perform_flat<H: Host, W: Write, E: Write>(
     stdout: &mut W,
     stderr: &mut E,
 ) -> u8 {
-    match runs::flat(alloc, words, host, &mut Nobody, stdout) {
-        Ok(end) => {
-            let _ = writeln!(stderr, "{end}");
-            end.status()
-        }
+    let telling = words.telling;
+    let mut teller = None;
+    let ended = if looks_on(&telling) {
+        let watch = teller.insert(Teller::new(alloc, words.file, &telling));
+        runs::flat(alloc, words, host, watch, stdout)
+    } else {
+        runs::flat(alloc, words, host, &mut Nobody, stdout)
+    };
+    match ended {
+        Ok(end) => finish(end, Ok(()), teller, &telling, host, stderr),
         Err(failure) => tell(&failure, stderr),
     }
 }
@@ -116,13 +140,19 @@ fn perform_run<H: Host, W: Write, E: Write>(
     stdout: &mut W,
     stderr: &mut E,
 ) -> u8 {
-    let (end, written) = match runs::run(alloc, words, host, &mut Nobody, stdout) {
-        Ok((end, disk)) => (end, runs::keep(words.save, disk, host)),
-        Err(failure) => return tell(&failure, stderr),
+    let telling = words.telling;
+    let mut teller = None;
+    let ran = if looks_on(&telling) {
+        let watch = teller.insert(Teller::new(alloc, "/init", &telling));
+        runs::run(alloc, words, host, watch, stdout)
+    } else {
+        runs::run(alloc, words, host, &mut Nobody, stdout)
     };
-    let _ = writeln!(stderr, "{end}");
-    match written {
-        Ok(()) => end.status(),
+    match ran {
+        Ok((end, disk)) => {
+            let kept = runs::keep(words.save, disk, host);
+            finish(end, kept, teller, &telling, host, stderr)
+        }
         Err(failure) => tell(&failure, stderr),
     }
 }

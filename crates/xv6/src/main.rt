@@ -6,14 +6,34 @@ mod host;
 mod tests;
 
 use commands::perform::perform;
-use commands::{job, refuse};
+use commands::{Job, explain, explain_words, explains, job, refuse};
+use explanations::Noting;
 use host::RealFiles;
 use std::alloc::AllocError;
-use std::io::{self, BufWriter, ErrorKind};
+use std::io::{self, BufWriter, ErrorKind, Write};
 use std::process::ExitCode;
 
 /// The status of a wrong command line.
 const WRONG_WORDS: u8 = 2;
+
+/// Does a job on real files, and says more of the last line where that is wanted and the job is not done.
+fn do_job<W: Write, E: Write>(
+    rt: &HostRuntime,
+    job: &Job<'_>,
+    is_explained: bool,
+    stdout: &mut W,
+    stderr: &mut E,
+) -> Result<u8, AllocError> {
+    let alloc = rt.alloc();
+    let mut files = RealFiles::new(rt);
+    let mut noting = Noting::new(stderr);
+    let status = perform(alloc, job, &mut files, stdout, &mut noting);
+    if is_explained && status != 0 {
+        let line = String::from_str(alloc, noting.line())?;
+        explain(alloc, job, line.as_str(), &mut files, &mut noting)?;
+    }
+    Ok(status)
+}
 
 /// Does the job that the process's words name. Standard output is buffered, and written out before
 /// the line that tells how the job ended.
@@ -34,16 +54,17 @@ fn run(rt: &HostRuntime) -> Result<u8, AllocError> {
     let words: Vec<&str> = kept.iter().map(|word| word.as_str()).collect(alloc)?;
     let mut stdout = BufWriter::new(alloc, io::writer(rt)).map_err(|_| AllocError)?;
     let mut stderr = rt.stderr();
-    Ok(match job(alloc, words.as_slice()) {
-        Ok(job) => perform(
-            alloc,
-            &job,
-            &mut RealFiles::new(rt),
-            &mut stdout,
-            &mut stderr,
-        ),
-        Err(error) => refuse(&error, &mut stdout, &mut stderr),
-    })
+    let words = words.as_slice();
+    match job(alloc, words) {
+        Ok(job) => do_job(rt, &job, explains(words), &mut stdout, &mut stderr),
+        Err(error) => {
+            let status = refuse(&error, &mut stdout, &mut stderr);
+            if explains(words) {
+                explain_words(alloc, words, &mut stderr)?;
+            }
+            Ok(status)
+        }
+    }
 }
 
 fn main(rt: HostRuntime) -> ExitCode {

@@ -7,9 +7,10 @@ use crate::perform::read;
 use crate::perform::runs::{inner_of, keep, leave};
 use crate::perform::scribe::Scribe;
 use crate::perform::sessions::end_with;
+use crate::perform::telling::{Teller, looks_on, status_of, tell_kept};
 use crate::report::{End, Failure, tell};
 use blockdev::{BlockDev, FailAt, MemDisk};
-use commandline::{Play, Run};
+use commandline::{Play, Run, Telling};
 use live::{Nobody, Watch};
 use machine::{BootFault, Machine, boot};
 use player::{Record, Tail, Unreached};
@@ -155,6 +156,7 @@ fn tell_end<E: Write>(
     name: &str,
     finish: Finish,
     written: Result<(), Failure<'_>>,
+    telling: &Telling<'_>,
     stderr: &mut E,
 ) -> u8 {
     let Finish { end, unreached } = finish;
@@ -165,7 +167,7 @@ fn tell_end<E: Write>(
         }
         _ => {
             let _ = writeln!(stderr, "{end}");
-            end.status()
+            status_of(telling, end)
         }
     };
     match written {
@@ -211,8 +213,19 @@ pub fn perform<H: Host, W: Write, E: Write>(
         Ok(play) => play,
         Err(fault) => return tell_fault(name, fault, stderr),
     };
-    match go(alloc, &words, image, &play, &mut Nobody, host, stdout) {
-        Ok((finish, written)) => tell_end(name, finish, written, stderr),
+    let telling = words.run.telling;
+    let mut teller = None;
+    let gone = if looks_on(&telling) {
+        let watch = teller.insert(Teller::new(alloc, "/init", &telling));
+        go(alloc, &words, image, &play, watch, host, stdout)
+    } else {
+        go(alloc, &words, image, &play, &mut Nobody, host, stdout)
+    };
+    match gone {
+        Ok((finish, written)) => {
+            let told = tell_kept(teller, &telling, host, stderr);
+            tell_end(name, finish, written.and(told), &telling, stderr)
+        }
         Err(failure) => tell(&failure, stderr),
     }
 }

@@ -3,7 +3,8 @@
 use crate::host::Host;
 use crate::perform::images::{disk_of, read_image};
 use crate::perform::runs::{keep, run_over};
-use crate::perform::{append, read, script_of, write};
+use crate::perform::telling::{Both, Teller};
+use crate::perform::{append, finish, read, script_of, write};
 use crate::report::{End, Failure, tell};
 use commandline::Trace;
 use std::alloc::Global;
@@ -191,14 +192,14 @@ fn whole<'a>(
     }
 }
 
-// A run, to its end: how it ended, and whether all files were written.
+// A run, to its end: how it ended, whether all files were written, and what is to be told of it.
 fn trace<'a, H: Host, W: Write, E: Write>(
     alloc: Global,
     words: &Trace<'a>,
     host: &mut H,
     stdout: &mut W,
     stderr: &mut E,
-) -> Result<(End, Result<(), Failure<'a>>), Failure<'a>> {
+) -> Result<(End, Result<(), Failure<'a>>, Teller), Failure<'a>> {
     let wanted = wanted_of(words)?;
     let image = read_image(host, words.run.image)?;
     let bytes = read(host, words.run.script)?;
@@ -208,18 +209,16 @@ fn trace<'a, H: Host, W: Write, E: Write>(
     let Ok(mut tracer) = Tracer::new(alloc, wanted, sheets) else {
         return Err(Failure::NoMemory);
     };
-    let (end, disk) = run_over(
-        alloc,
-        words.run,
-        disk,
-        script.as_slice(),
-        &mut tracer,
-        stdout,
-    )?;
+    let mut teller = Teller::new(alloc, "/init", &words.run.telling);
+    let mut both = Both {
+        first: &mut tracer,
+        second: &mut teller,
+    };
+    let (end, disk) = run_over(alloc, words.run, disk, script.as_slice(), &mut both, stdout)?;
     let (sheets, traced) = tracer.finish();
     let written = whole(traced, sheets.finish());
     let saved = keep(words.run.save, disk, host);
-    Ok((end, written.and(saved)))
+    Ok((end, written.and(saved), teller))
 }
 
 /// The command `trace`: as `run`, and what each process does is written as it does it.
@@ -231,13 +230,14 @@ pub fn perform<H: Host, W: Write, E: Write>(
     stderr: &mut E,
 ) -> u8 {
     match trace(alloc, &words, host, stdout, stderr) {
-        Ok((end, written)) => {
-            let _ = writeln!(stderr, "{end}");
-            match written {
-                Ok(()) => end.status(),
-                Err(failure) => tell(&failure, stderr),
-            }
-        }
+        Ok((end, written, teller)) => finish(
+            end,
+            written,
+            Some(teller),
+            &words.run.telling,
+            host,
+            stderr,
+        ),
         Err(failure) => tell(&failure, stderr),
     }
 }

@@ -199,7 +199,7 @@ type Refused = (Live<'static>, usize, usize, &'static str, &'static str, u8);
 const REFUSED: [Refused; 7] = [
     (
         Live {
-                    image: "none",
+            image: "none",
             ..LIVE
         },
         1000,
@@ -210,7 +210,7 @@ const REFUSED: [Refused; 7] = [
     ),
     (
         Live {
-                    image: "record",
+            image: "record",
             ..LIVE
         },
         1000,

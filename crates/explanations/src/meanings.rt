@@ -1,0 +1,219 @@
+//! What each line means.
+
+/// A line, or the beginning of one, and what it means.
+type Meaning = (&'static str, &'static str);
+
+/// Lines that stand as they are.
+const LINES: [Meaning; 45] = [
+    (
+        "running",
+        "the script came to its end, and the machine goes on: --report tells what each process does",
+    ),
+    (
+        "halt 2 Device",
+        "an access of the disk failed; nothing was saved",
+    ),
+    (
+        "halt 3 Console",
+        "standard output took not all of the console's bytes: is the disk full, or the reader gone? nothing was saved",
+    ),
+    ("halt 4 Halted", "the machine had stopped before"),
+    (
+        "no memory",
+        "the program itself found no memory: end other programs, or take a smaller image",
+    ),
+    (
+        "cannot write standard output",
+        "standard output took not all: is the disk full, or the reader gone?",
+    ),
+    ("fault 2 FrameCount", "--frames takes 64 to 32768"),
+    (
+        "fault 3 Device",
+        "an access of the disk failed as the machine booted: --fail N asks for that",
+    ),
+    (
+        "fault 4 NoMemory",
+        "the host has no memory for so many frames: take fewer",
+    ),
+    (
+        "fault 5 NoInit",
+        "there is no /init on the image, or it is no program (xv6 dump shows), or the frames don't suffice for it",
+    ),
+    (
+        "fault 1 Name",
+        "a name of the manifest is none: each is of 1 to 14 bytes, and a path begins with /",
+    ),
+    ("fault 2 Twice", "a path is listed twice in the manifest"),
+    (
+        "fault 3 Blocks",
+        "the files take more blocks than --size gives, which takes up to 131072, or one of them is too long",
+    ),
+    (
+        "fault 4 Inodes",
+        "there are more entries than --inodes gives, which takes up to 8192",
+    ),
+    (
+        "fault 5 Parent",
+        "an entry is in a directory that no earlier line lists",
+    ),
+    (
+        "fault 6 Numbers",
+        "--size takes 32 to 131072 and --inodes 16 to 8192, and the image needs room for them",
+    ),
+    (
+        "fault 7 NoMemory",
+        "the host has no memory for the image: take a smaller --size",
+    ),
+    (
+        "fault 1 Length",
+        "the file has another length than its super block says: is it cut off?",
+    ),
+    (
+        "fault 2 Magic",
+        "it is no image of the large format: xv6 migrate OLD NEW makes one of the small format, xv6 mkfs a new one",
+    ),
+    (
+        "fault 3 Numbers",
+        "the numbers of the super block don't fit one another",
+    ),
+    (
+        "fault 4 NodeType",
+        "an inode has an unknown type, or the root is no directory",
+    ),
+    (
+        "fault 5 Address",
+        "an inode names a block that is no data block, or one where its size asks for none",
+    ),
+    ("fault 6 SharedBlock", "a block is named twice"),
+    (
+        "fault 7 Bitmap",
+        "the bitmap doesn't mark just the blocks that are in use",
+    ),
+    (
+        "fault 8 Size",
+        "an inode has a size that its type can't have",
+    ),
+    (
+        "fault 9 Entry",
+        "a place of a directory is wrong: its name, or the inode that it names",
+    ),
+    (
+        "fault 10 Links",
+        "an inode's count of links isn't the number of its names",
+    ),
+    (
+        "fault 11 Unreached",
+        "an inode in use isn't reached from the root",
+    ),
+    ("fault 12 Device", "an access of the disk failed"),
+    (
+        "fault 13 NoMemory",
+        "the host has no memory to check the image",
+    ),
+    (
+        "fault 2 Blocks",
+        "the files take more blocks in the large format than the image has: put fewer on it",
+    ),
+    (
+        "fault 3 NoMemory",
+        "the host has no memory for the new image",
+    ),
+    (
+        "fault 1 NotFound",
+        "there is nothing of this name on the image: xv6 ls IMAGE / shows what there is",
+    ),
+    ("fault 2 NotDir", "what has this name is no directory"),
+    ("fault 3 Exists", "there is something of this name"),
+    ("fault 4 IsDir", "what has this name is a directory"),
+    ("fault 9 Blocks", "the image has no blocks left for that"),
+    ("fault 10 Inodes", "the image has no inodes left for that"),
+    ("fault 11 Full", "the directory or the file takes no more"),
+    (
+        "fault 1 Magic",
+        "the file does not begin as an ELF file: xv6 asm makes one, and docs/PROGRAMS.md tells how C is compiled",
+    ),
+    (
+        "fault 2 Sizes",
+        "a segment has more bytes in the file than in memory, or ends past the last address",
+    ),
+    (
+        "fault 3 Align",
+        "a segment does not begin where a page begins: link with the linker script of examples/c",
+    ),
+    (
+        "fault 4 Overlap",
+        "a segment begins before the last page of the one before it ends",
+    ),
+    (
+        "fault 5 Short",
+        "the file ends before its headers or segments do: is it cut off?",
+    ),
+    (
+        "line 0: 8 NoMemory",
+        "the host has no memory for the program",
+    ),
+];
+
+/// Beginnings of lines.
+const BEGINNINGS: [Meaning; 5] = [
+    (
+        "halt 1 InitEnded",
+        "process 1 ended with that status: -1 of a fault of its own, which --report tells, or killed",
+    ),
+    (
+        "cannot read",
+        "the file cannot be read, or is a text that is no UTF-8",
+    ),
+    ("cannot write", "the file cannot be written"),
+    (
+        "script line",
+        "the line is none of `step N`, `tick N`, `keys HEX` and `type TEXT`; N is up to 1000000000",
+    ),
+    (
+        "manifest line",
+        "the line is none of `dir PATH`, `file PATH HOSTFILE` and `dev PATH MAJOR MINOR`",
+    ),
+];
+
+/// Ends of lines: what is wrong with a line of an assembly text.
+const ENDS: [Meaning; 7] = [
+    (
+        ": 1 Syntax",
+        "a character past ASCII, a string that has no end, or a word that begins with no letter or dot",
+    ),
+    (": 2 Mnemonic", "there is no such instruction or directive"),
+    (
+        ": 3 Operand",
+        "the operands are not those of the instruction",
+    ),
+    (
+        ": 4 Range",
+        "a number or an offset doesn't fit its field, or the program gets too long",
+    ),
+    (": 5 Label", "no line defines the label"),
+    (": 6 Twice", "an earlier line defines the label"),
+    (
+        ": 7 Align",
+        "an instruction stands at an address that is no multiple of 4 (.pad 4 before it), or an offset is odd",
+    ),
+];
+
+/// What a line means by which the program tells how a job ended, and what to do.
+pub fn meaning(line: &str) -> Option<&'static str> {
+    for (text, means) in &LINES {
+        if line == *text {
+            return Some(*means);
+        }
+    }
+    for (text, means) in &BEGINNINGS {
+        if line.starts_with(*text) {
+            return Some(*means);
+        }
+    }
+    for (text, means) in &ENDS {
+        if line.ends_with(*text) {
+            return Some(*means);
+        }
+    }
+    None
+}
