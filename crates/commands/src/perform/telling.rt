@@ -67,7 +67,8 @@ impl Watch for Teller {
     }
 }
 
-/// Two that look on.
+/// Two that look on, the first one first.
+#[derive(Drop)]
 pub struct Both<'a, A, B> {
     pub first: &'a mut A,
     pub second: &'a mut B,
