@@ -58,15 +58,15 @@ export function waitsFor({ call, registers }) {
   const first = low(registers[A0]);
   switch (callName(call)) {
     case "read":
-      return `read: bytes at descriptor ${first}`;
+      return `for bytes at descriptor ${first} (read)`;
     case "write":
-      return `write: room at descriptor ${first}`;
+      return `for room at descriptor ${first} (write)`;
     case "wait":
-      return "wait: the end of a child";
+      return "for the end of a child (wait)";
     case "sleep":
-      return `sleep: ${first} ticks`;
+      return `for ${first} ticks (sleep)`;
     default:
-      return callName(call);
+      return `in ${callName(call)}`;
   }
 }
 

@@ -16,7 +16,7 @@ function stateText(process) {
   const killed = process.killed ? ", killed" : "";
   switch (process.state) {
     case "waiting":
-      return `waits in ${waitsFor(process)}${killed}`;
+      return `waits ${waitsFor(process)}${killed}`;
     case "ended":
       return `ended with ${process.status}`;
     default:
