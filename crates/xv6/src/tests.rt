@@ -6,6 +6,7 @@ mod openings;
 mod plays;
 mod program_files;
 mod runs;
+mod telling;
 mod words;
 
 use commands::perform::perform;

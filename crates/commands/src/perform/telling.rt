@@ -69,12 +69,12 @@ impl Watch for Teller {
 
 /// Two that look on, the first one first.
 #[derive(Drop)]
-pub struct Both<'a, A, B> {
-    pub first: &'a mut A,
-    pub second: &'a mut B,
+pub struct Both<A, B> {
+    pub first: A,
+    pub second: B,
 }
 
-impl<A: Watch, B: Watch> Watch for Both<'_, A, B> {
+impl<A: Watch, B: Watch> Watch for Both<A, B> {
     fn before<D: BlockDev, T: Translate + Drop>(&mut self, machine: &Machine<D, T>, event: Event) {
         self.first.before(machine, event);
         self.second.before(machine, event);

@@ -206,15 +206,18 @@ fn trace<'a, H: Host, W: Write, E: Write>(
     let script = script_of(alloc, words.run.script, bytes.as_slice())?;
     let disk = disk_of(image)?;
     let sheets = Sheets::begin(alloc, words, host, stderr)?;
-    let Ok(mut tracer) = Tracer::new(alloc, wanted, sheets) else {
+    let Ok(tracer) = Tracer::new(alloc, wanted, sheets) else {
         return Err(Failure::NoMemory);
     };
-    let mut teller = Teller::new(alloc, "/init", &words.run.telling);
     let mut both = Both {
-        first: &mut tracer,
-        second: &mut teller,
+        first: tracer,
+        second: Teller::new(alloc, "/init", &words.run.telling),
     };
     let (end, disk) = run_over(alloc, words.run, disk, script.as_slice(), &mut both, stdout)?;
+    let Both {
+        first: tracer,
+        second: teller,
+    } = both;
     let (sheets, traced) = tracer.finish();
     let written = whole(traced, sheets.finish());
     let saved = keep(words.run.save, disk, host);

@@ -16,7 +16,7 @@ const HELLO: &str = "\
 const INIT: &str = "file /init host";
 
 // Puts this text where texts lie.
-fn put_text(rt: &(impl Abort + AllocGlobal), files: &mut Files, text: &[u8]) {
+pub fn put_text(rt: &(impl Abort + AllocGlobal), files: &mut Files, text: &[u8]) {
     files.text = text.to_vec(rt.alloc()).expect(rt, "memory");
 }
 
