@@ -18,7 +18,6 @@ use crate::perform::telling::{Teller, looks_on, status_of, tell_kept};
 use crate::report::{End, Failure, print, tell};
 use commandline::{Flat, Job, Mkfs, Run, Telling};
 use image::Summary;
-use live::Nobody;
 use std::alloc::Global;
 use std::fmt;
 use std::io::Write;
@@ -122,9 +121,9 @@ fn perform_flat<H: Host, W: Write, E: Write>(
     let mut teller = None;
     let ended = if looks_on(&telling) {
         let watch = teller.insert(Teller::new(alloc, words.file, &telling));
-        runs::flat(alloc, words, host, watch, stdout)
+        runs::flat_watched(alloc, words, host, watch, stdout)
     } else {
-        runs::flat(alloc, words, host, &mut Nobody, stdout)
+        runs::flat(alloc, words, host, stdout)
     };
     match ended {
         Ok(end) => finish(end, Ok(()), teller, &telling, host, stderr),
@@ -144,9 +143,9 @@ fn perform_run<H: Host, W: Write, E: Write>(
     let mut teller = None;
     let ran = if looks_on(&telling) {
         let watch = teller.insert(Teller::new(alloc, "/init", &telling));
-        runs::run(alloc, words, host, watch, stdout)
+        runs::run_watched(alloc, words, host, watch, stdout)
     } else {
-        runs::run(alloc, words, host, &mut Nobody, stdout)
+        runs::run(alloc, words, host, stdout)
     };
     match ran {
         Ok((end, disk)) => {

@@ -15,8 +15,8 @@ use crate::report::{End, Failure};
 use blockdev::{BlockDev, FailAt, MemDisk};
 use commandline::{Flat, Run};
 use console::Writer;
-use live::Watch;
 use live::play::play;
+use live::{Nobody, Watch};
 use machine::{BootFault, Halt, Machine, boot, boot_flat_with};
 use std::alloc::Global;
 use std::io::Write;
@@ -169,28 +169,25 @@ fn run_with<D: BlockDev, T: Translate + Drop, V: Watch, W: Write + Drop>(
     })
 }
 
+/// The translator of runs at which somebody looks on. It is a type of its own, so that the code of other runs is compiled without
+/// them; the output is the same over every translator.
+type Watched = Tlb<32>;
+
 // A flat program over the translator that the words ask for.
-fn flat_over<'a, V: Watch, W: Write>(
+fn flat_over<'a, W: Write>(
     alloc: Global,
     words: Flat<'a>,
     program: &[u8],
     script: &[Command<'_>],
-    watch: &mut V,
     stdout: &mut W,
 ) -> Result<End, Failure<'a>> {
+    let frames = words.frames;
     let ended = if words.tlb {
         let cache = Tlb::<64>::new();
-        run_flat(alloc, program, cache, words.frames, script, watch, stdout)
+        run_flat(alloc, program, cache, frames, script, &mut Nobody, stdout)
     } else {
-        run_flat(
-            alloc,
-            program,
-            Plain::new(),
-            words.frames,
-            script,
-            watch,
-            stdout,
-        )
+        let plain = Plain::new();
+        run_flat(alloc, program, plain, frames, script, &mut Nobody, stdout)
     };
     match ended {
         Ok((end, _)) => Ok(end),
@@ -198,42 +195,61 @@ fn flat_over<'a, V: Watch, W: Write>(
     }
 }
 
+// The program and the script of a flat run, which are read in this order.
+fn read_flat<'a, H: Host>(
+    host: &mut H,
+    words: &Flat<'a>,
+) -> Result<(Vec<u8>, Vec<u8>), Failure<'a>> {
+    let program = read_front(host, words.file, MOST_PROGRAM)?.bytes;
+    let script = read(host, words.script)?;
+    Ok((program, script))
+}
+
 /// The command `flat`. Its files are read in the order of the command line, and the script is
 /// parsed, before anything is booted.
-pub fn flat<'a, H: Host, V: Watch, W: Write>(
+pub fn flat<'a, H: Host, W: Write>(
+    alloc: Global,
+    words: Flat<'a>,
+    host: &mut H,
+    stdout: &mut W,
+) -> Result<End, Failure<'a>> {
+    let (program, bytes) = read_flat(host, &words)?;
+    let script = script_of(alloc, words.script, bytes.as_slice())?;
+    flat_over(alloc, words, program.as_slice(), script.as_slice(), stdout)
+}
+
+/// The same, at which somebody looks on.
+pub fn flat_watched<'a, H: Host, V: Watch, W: Write>(
     alloc: Global,
     words: Flat<'a>,
     host: &mut H,
     watch: &mut V,
     stdout: &mut W,
 ) -> Result<End, Failure<'a>> {
-    let program = read_front(host, words.file, MOST_PROGRAM)?.bytes;
-    let bytes = read(host, words.script)?;
+    let (program, bytes) = read_flat(host, &words)?;
     let script = script_of(alloc, words.script, bytes.as_slice())?;
-    flat_over(
-        alloc,
-        words,
-        program.as_slice(),
-        script.as_slice(),
-        watch,
-        stdout,
-    )
+    let (program, script) = (program.as_slice(), script.as_slice());
+    let cache = Watched::new();
+    match run_flat(alloc, program, cache, words.frames, script, watch, stdout) {
+        Ok((end, _)) => Ok(end),
+        Err(fault) => Err(Failure::Boot(fault)),
+    }
 }
 
-/// A machine over the translator that the words ask for: how it ended, and the disk that is left where it was to be saved.
-pub fn run_over<'a, V: Watch, W: Write>(
+// A machine over the translator that the words ask for.
+fn run_over<'a, W: Write>(
     alloc: Global,
     words: Run<'a>,
     disk: MemDisk,
     script: &[Command<'_>],
-    watch: &mut V,
     stdout: &mut W,
 ) -> Result<(End, Option<MemDisk>), Failure<'a>> {
     let ran = if words.tlb {
         let cache = Tlb::<64>::new();
-        run_with(alloc, disk, cache, &words, script, watch, stdout)
+        run_with(alloc, disk, cache, &words, script, &mut Nobody, stdout)
     } else {
-        run_with(alloc, disk, Plain::new(), &words, script, watch, stdout)
+        let plain = Plain::new();
+        run_with(alloc, disk, plain, &words, script, &mut Nobody, stdout)
     };
     match ran {
         Ok(ran) => Ok((ran.end, ran.disk)),
@@ -241,9 +257,39 @@ pub fn run_over<'a, V: Watch, W: Write>(
     }
 }
 
+/// A machine at which somebody looks on: how it ended, and the disk that is left where it was to be saved.
+pub fn run_watched_over<'a, V: Watch, W: Write>(
+    alloc: Global,
+    words: Run<'a>,
+    disk: MemDisk,
+    script: &[Command<'_>],
+    watch: &mut V,
+    stdout: &mut W,
+) -> Result<(End, Option<MemDisk>), Failure<'a>> {
+    let cache = Watched::new();
+    match run_with(alloc, disk, cache, &words, script, watch, stdout) {
+        Ok(ran) => Ok((ran.end, ran.disk)),
+        Err(fault) => Err(Failure::Boot(fault)),
+    }
+}
+
 /// The command `run`: how it ended, and the disk that is left where it was to be saved. Its files are read in the order of
 /// the command line, and the script is parsed, before there is a disk.
-pub fn run<'a, H: Host, V: Watch, W: Write>(
+pub fn run<'a, H: Host, W: Write>(
+    alloc: Global,
+    words: Run<'a>,
+    host: &mut H,
+    stdout: &mut W,
+) -> Result<(End, Option<MemDisk>), Failure<'a>> {
+    let image = read_image(host, words.image)?;
+    let bytes = read(host, words.script)?;
+    let script = script_of(alloc, words.script, bytes.as_slice())?;
+    let disk = disk_of(image)?;
+    run_over(alloc, words, disk, script.as_slice(), stdout)
+}
+
+/// The same, at which somebody looks on.
+pub fn run_watched<'a, H: Host, V: Watch, W: Write>(
     alloc: Global,
     words: Run<'a>,
     host: &mut H,
@@ -254,7 +300,7 @@ pub fn run<'a, H: Host, V: Watch, W: Write>(
     let bytes = read(host, words.script)?;
     let script = script_of(alloc, words.script, bytes.as_slice())?;
     let disk = disk_of(image)?;
-    run_over(alloc, words, disk, script.as_slice(), watch, stdout)
+    run_watched_over(alloc, words, disk, script.as_slice(), watch, stdout)
 }
 
 /// Writes the image of the disk that is left, if there is one, to the file of this name.

@@ -2,7 +2,7 @@
 
 use crate::host::Host;
 use crate::perform::images::{disk_of, read_image};
-use crate::perform::runs::{keep, run_over};
+use crate::perform::runs::{keep, run_watched_over};
 use crate::perform::telling::{Both, Teller};
 use crate::perform::{append, finish, read, script_of, write};
 use crate::report::{End, Failure, tell};
@@ -213,7 +213,14 @@ fn trace<'a, H: Host, W: Write, E: Write>(
         first: tracer,
         second: Teller::new(alloc, "/init", &words.run.telling),
     };
-    let (end, disk) = run_over(alloc, words.run, disk, script.as_slice(), &mut both, stdout)?;
+    let (end, disk) = run_watched_over(
+        alloc,
+        words.run,
+        disk,
+        script.as_slice(),
+        &mut both,
+        stdout,
+    )?;
     let Both {
         first: tracer,
         second: teller,
