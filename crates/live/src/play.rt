@@ -23,7 +23,9 @@ const LINE_END: u8 = 0x0a;
 /// How many events there are at most between two times at which the console's bytes are written out.
 const BATCH: u32 = 65536;
 
-// One event, at which somebody looks on.
+// One event, at which somebody looks on. It is inlined, so that the loop of a run has the machine's step in it: what calls it else
+// gives an event that is known.
+#[inline(always)]
 fn step<D: BlockDev, T: Translate + Drop, V: Watch, W: Out>(
     machine: &mut Machine<D, T>,
     event: Event,
