@@ -1,7 +1,7 @@
 //! Physical memory: a list of frames of 4096 bytes.
 //!
 //! A frame is named by its number, from 0 on, and a byte by its place in the frame. A number in memory
-//! stands with its lowest byte first, as RISC-V has it. Only `Ram::new` takes memory of the host.
+//! stands with its lowest byte first, as RISC-V has it. Only `Ram::new` and `Ram::duplicate` take memory of the host.
 #![tactic(auto)]
 
 ghost use Rattle.std.specs.Prelude.{◌≡◌, ◌≢◌, ℕ, ◌+◌, ◌*◌, ◌^◌, ◌<◌, ◌≤◌, List, length, replicate, slice_set, slice_range, slice_index_or, IfOk};
@@ -138,6 +138,16 @@ impl Ram {
         ensures { IfOk result (λ r. r ≡ replicate n (replicate 4096 0)) }
     {
         match zero_frames(alloc, n) {
+            Ok(frames) => Ok(Ram { frames }),
+            Err(_) => Err(NoMemory),
+        }
+    }
+
+    /// A memory of its own with the same bytes. It takes as much of the host: all of it is asked for at once.
+    pub fn duplicate(&self, alloc: Global) -> Result<Ram, NoMemory>
+        ensures { IfOk result (λ r. r ≡ self.now) }
+    {
+        match Vec::from_slice(alloc, self.frames.as_slice()) {
             Ok(frames) => Ok(Ram { frames }),
             Err(_) => Err(NoMemory),
         }
