@@ -1,2 +1,3 @@
+pub mod Duplicates
 pub mod HolderLemmas
 pub mod FreeLemmas

@@ -52,3 +52,10 @@ pub record IsFreeList (m : List (List ℕ)) (s : Frames) : Type 0 where
 pub record SameBut (fs : List ℕ) (old new : List (List ℕ)) : Type 0 where
   pub count : length new ≡ length old
   pub others : (g : ℕ) → among g fs ≡ false → frame_of new g ≡ frame_of old g
+
+-- the same list of free frames and the same counts, whatever room the counts have
+pub record IsDuplicate (old new : Frames) : Type 0 where
+  pub first : new.first ≡ old.first
+  pub count : new.count ≡ old.count
+  pub holders : new.holders.items ≡ old.holders.items
+  pub shared : new.shared ≡ old.shared

@@ -4,7 +4,7 @@
 ghost use Rattle.std.specs.Prelude.{◌≡◌, ℕ, ◌+◌, ◌<◌, ◌≤◌, List, [], ◌∷◌, length, false, replicate, None, IfSome, IfNone, IfOk, ◌↔◌};
 ghost use Rattle.std.specs.Bool.{OnTrue, OnFalse};
 ghost use Rattle.std.specs.List.{range_with_len};
-ghost use Rattle.frames.specs.Free.{among, free_of, free_count, extra_of, further_at, IsFreeList, SameBut};
+ghost use Rattle.frames.specs.Free.{among, free_of, free_count, extra_of, further_at, IsDuplicate, IsFreeList, SameBut};
 ghost use Rattle.frames.specs.Holders.{count_of, holders_of, IsShared};
 
 use ram::{FrameNo, NoMemory, Ram};
@@ -74,6 +74,21 @@ impl Frames {
             frames.give(ram, FrameNo(count - 1 - i));
         }
         frames
+    }
+
+    /// The same free frames with the same holders, for a duplicate of the memory. It takes 2 bytes a frame of the host.
+    pub fn duplicate(&self, alloc: Global) -> Result<Frames, NoMemory>
+        ensures { IfOk result (IsDuplicate self.now) }
+    {
+        match Vec::from_slice(alloc, self.holders.as_slice()) {
+            Ok(holders) => Ok(Frames {
+                first: self.first,
+                count: self.count,
+                holders,
+                shared: self.shared,
+            }),
+            Err(_) => Err(NoMemory),
+        }
     }
 
     /// How many frames could be taken still, if each holder had frames of its own: all frames, less the sum of
