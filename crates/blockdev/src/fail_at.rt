@@ -4,7 +4,8 @@ ghost use Rattle.std.specs.Prelude.{◌≡◌, ◌≢◌, ℕ, ◌-◌, ◌<◌,
 ghost use Rattle.std.specs.Int.NonZero.{non_zero_u64_get};
 ghost use Rattle.unixmodel.specs.Failures.{HasCause};
 
-use crate::{Block, BlockDev, DeviceFault};
+use crate::{Block, BlockDev, DeviceFault, Duplicate};
+use std::alloc::{AllocError, Global};
 use std::marker::Model;
 use std::num::NonZeroU64;
 
@@ -92,6 +93,21 @@ impl<D: BlockDev> BlockDev for FailAt<D> {
     {
         spend(&mut self.left)?;
         self.device.write(n, block)
+    }
+}
+
+impl<D: Duplicate> Duplicate for FailAt<D> {
+    ghost use Rattle.blockdev.specs.Disk.{count_of};
+
+    fn duplicate(&self, alloc: Global) -> Result<FailAt<D>, AllocError>
+        ensures content { IfOk result (λ d. D.content d.device ≡ D.content self.now.device) }
+        ensures failures { IfOk result (λ d. count_of d.left (D.failures d.device) ≡ count_of self.now.left (D.failures self.now.device)) }
+        ensures left { IfOk result (λ d. d.left ≡ self.now.left) }
+    {
+        Ok(FailAt {
+            device: self.device.duplicate(alloc)?,
+            left: self.left,
+        })
     }
 }
 
