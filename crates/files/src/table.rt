@@ -112,6 +112,15 @@ impl Files {
         }
     }
 
+    /// The same open files in the same places, with their counts.
+    pub fn duplicate(&self) -> Files
+        ensures { result ≡ self.now }
+    {
+        let mut slots = ArrayVec::new();
+        slots.try_extend_from_slice(self.slots.as_slice()).unwrap();
+        Files { slots }
+    }
+
     // An open file and its count.
     fn slot(&self, id: usize) -> Option<Slot>
         ensures slot { option_map counted_of result ≡ slot self.now id }
