@@ -27,6 +27,13 @@ impl Mask {
         Mask { bits: u64::MAX }
     }
 
+    /// The same places.
+    pub fn duplicate(&self) -> Mask
+        ensures { result ≡ self.now }
+    {
+        Mask { bits: self.bits }
+    }
+
     /// Whether a place is in.
     pub fn has(&self, at: usize) -> bool
         requires { at < 64 }

@@ -172,6 +172,22 @@ impl Table {
         }
     }
 
+    /// The same processes in the same places.
+    pub fn duplicate(&self) -> Table
+        ensures { result ≡ self.now }
+    {
+        let mut places = ArrayVec::new();
+        places
+            .try_extend_from_slice(self.places.as_slice())
+            .unwrap();
+        Table {
+            places,
+            last: self.last,
+            next_pid: self.next_pid,
+            awake: self.awake.duplicate(),
+        }
+    }
+
     /// All places.
     pub fn places(&self) -> &[Place]
         ensures places { result.now ≡ self.now.places }
