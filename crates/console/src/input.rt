@@ -82,6 +82,18 @@ impl Console {
         }
     }
 
+    /// A console of its own with the same bytes.
+    pub fn duplicate(&self) -> Console
+        ensures { result ≡ self.now }
+    {
+        Console {
+            places: self.places,
+            from: self.from,
+            committed: self.committed,
+            edited: self.edited,
+        }
+    }
+
     // Whether it holds as many bytes as it can.
     fn is_full(&self) -> bool
         ensures { result ≡ is_full self.now }

@@ -71,6 +71,13 @@ impl<W: Write> Writer<W> {
         }
     }
 
+    /// The writer, to be looked at.
+    pub fn get_ref(&self) -> &W
+        ensures { result.now ≡ self.now.inner }
+    {
+        &self.inner
+    }
+
     /// The writer.
     pub fn into_inner(self) -> W
         ensures { result ≡ self.inner }
