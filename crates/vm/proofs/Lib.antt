@@ -2,6 +2,7 @@ pub mod Added
 pub mod Beside
 pub mod DenseLemmas
 pub mod DropLemmas
+pub mod Duplicates
 pub mod EndLemmas
 pub mod Forked
 pub mod GrowLemmas

@@ -134,6 +134,17 @@ impl Space {
         self.size
     }
 
+    /// The same space in a duplicate of the memory.
+    pub fn duplicate(&self) -> Space
+        ensures { result ≡ self.now }
+    {
+        Space {
+            root: self.root,
+            trap: self.trap,
+            size: self.size,
+        }
+    }
+
     /// Makes a space of no pages, whose trap frame is all 0. `Frames` where fewer than 4 frames are free.
     pub fn new(ram: &mut Ram, frames: &mut Frames) -> Result<Space, VmFault>
         requires { IsFreeList ram.old frames.old }

@@ -1,0 +1,26 @@
+-- A machine stays one over a duplicate of its free frames.
+use Rattle.std.proofs.Common.{ℕ, List, Option}
+use Rattle.frames.proofs.Duplicates.{same-further, same-holders, same-list, same-shared}
+use Rattle.frames.specs.declared.Frames.{Frames}
+use Rattle.frames.specs.Free.{IsDuplicate}
+use Rattle.vm.specs.declared.Space.{Space}
+use Rattle.vm.specs.Shares.{IsMachine, all_held}
+use Rattle.vm.specs.Space.{IsSpace}
+
+same-space : (m : List (List ℕ)) (x : Space) (s n : Frames) → IsDuplicate s n → IsSpace m x s → IsSpace m x n
+same-space m x s n is space = record {
+  dense = space.dense;
+  once = space.once;
+  free = same-list m s n is space.free;
+  own = λ f some. rw (same-further s n f is) (space.own f some);
+  alone = λ p low writable. rw (same-further s n _ is) (space.alone p low writable);
+  held = λ f. rw (same-holders m s n f is) (space.held f);
+}
+
+pub same-machine : (m : List (List ℕ)) (s n : Frames) (places : List (Option Space)) (others : List ℕ) → IsDuplicate s n → IsMachine m s places others → IsMachine m n places others
+same-machine m s n places others is machine = record {
+  free = same-list m s n is machine.free;
+  each = λ j x at. same-space m x s n is (machine.each j x at);
+  shared = same-shared m s n (all_held m places others) is machine.shared;
+  alone = λ f some. rw (same-further s n f is) (machine.alone f some);
+}
