@@ -12,8 +12,8 @@ ghost use Rattle.blockdev.specs.Splice.{part, splice};
 
 mod held;
 
-use blockdev::{Block, BlockDev, DeviceFault};
-use held::{Slot, Slots, make_room, next_to_write, write_now, write_out};
+use blockdev::{Block, BlockDev, DeviceFault, Duplicate};
+use held::{Slot, Slots, duplicates, make_room, next_to_write, write_now, write_out};
 use lru::LruCache;
 use std::alloc::{AllocError, Allocator, Global};
 use std::marker::Model;
@@ -178,5 +178,18 @@ impl<D: BlockDev, A: Allocator + Clone> Cache<D, A> {
         }
         self.in_doubt = false;
         Ok(())
+    }
+}
+
+impl<D: Duplicate> Cache<D> {
+    /// The same blocks over a duplicate of the device. It asks for host memory for the device, and for the blocks that are held.
+    pub fn duplicate(&self, alloc: Global) -> Result<Cache<D>, AllocError>
+        ensures { IfOk result (λ cache. cache ≡ self.now) }
+    {
+        Ok(Cache {
+            device: self.device.duplicate(alloc)?,
+            held: duplicates(&self.held, alloc)?,
+            in_doubt: self.in_doubt,
+        })
     }
 }
