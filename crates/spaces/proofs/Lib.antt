@@ -1,3 +1,4 @@
+mod Duplicates
 mod Pipes
 mod Places
 mod Whole

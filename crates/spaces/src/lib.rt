@@ -210,6 +210,29 @@ fn all_of(registers: &[u64; 32])
     ensures { length registers.now ≡ 32 }
 {}
 
+// The same spaces in the same places, in a duplicate of the memory.
+fn duplicate_places(places: &ArrayVec<Option<Space>, 64>) -> ArrayVec<Option<Space>, 64>
+    ensures { result ≡ places.now }
+{
+    let mut copies = ArrayVec::new();
+    for place in places.as_slice() {
+        copies.push(match place {
+            Some(space) => Some(space.duplicate()),
+            None => None,
+        });
+    }
+    copies
+}
+
+// The same pipes in the same places, whose bytes stand in a duplicate of the memory.
+fn duplicate_pipes(pipes: &ArrayVec<Option<Pipe>, 100>) -> ArrayVec<Option<Pipe>, 100>
+    ensures { result ≡ pipes.now }
+{
+    let mut copies = ArrayVec::new();
+    copies.try_extend_from_slice(pipes.as_slice()).unwrap();
+    copies
+}
+
 impl<T: Translate + Drop> Spaces<T> {
     /// No spaces over a memory; the hart's registers are 0. The translator is fenced: it may hold anything.
     ///
@@ -233,6 +256,32 @@ impl<T: Translate + Drop> Spaces<T> {
             },
             active: None,
             pipes: ArrayVec::from_array_in((), [None; 100]),
+        })
+    }
+
+    /// The same spaces, pipes and registers over a duplicate of the memory, with a translator of its own. That one is fenced: it may
+    /// hold anything.
+    ///
+    /// It takes 4098 bytes a frame of the host: `NoMemory` where it has none for them.
+    pub fn duplicate<U: Translate + Drop>(
+        &self,
+        alloc: Global,
+        translator: U,
+    ) -> Result<Spaces<U>, NoMemory>
+        ensures { IfOk result (λ s. s ≡ self.now) }
+    {
+        let ram = self.ram.duplicate(alloc)?;
+        let frames = self.frames.duplicate(alloc)?;
+        let mut fenced = translator;
+        fenced.fence();
+        Ok(Spaces {
+            ram,
+            frames,
+            translator: fenced,
+            places: duplicate_places(&self.places),
+            hart: self.hart.duplicate(),
+            active: self.active,
+            pipes: duplicate_pipes(&self.pipes),
         })
     }
 

@@ -1,0 +1,39 @@
+-- Spaces over duplicates of what they stand on.
+use Rattle.std.proofs.Common.{List, None, Option, Some, ℕ, ◌≡◌}
+use Rattle.frames.specs.Free.{IsDuplicate}
+use Rattle.spaces.specs.declared.Spaces.TheInside.{Inside}
+use Rattle.spaces.specs.View.{IsActive, IsSpaces, pipe_frames}
+use Rattle.unixmodel.specs.Translation as translation
+use Rattle.unixmodel.specs.Translation.{HoldsNothing}
+use Rattle.vm.proofs.Duplicates.{same-machine}
+use Rattle.vm.specs.declared.Space.{Space}
+
+-- where nothing is held, nothing else than before is
+active-fenced : (old new : translation.Held) (m : List (List ℕ)) (root : ℕ) (places : List (Option Space)) (a : Option ℕ) → HoldsNothing new → IsActive old m root places a → IsActive new m root places a
+active-fenced old new m root places None nothing is = tt
+active-fenced old new m root places (Some at) nothing is = record {
+  space = is.space;
+  stands = is.stands;
+  same = is.same;
+  coherent = record { walks = λ t held. absurd (nothing t held) };
+}
+
+-- the parts of a duplicate, with a translator that is fenced
+pub record IsParts {T U : Type 0} (held : U → translation.Held) (i : Inside T) (j : Inside U) : Type 0 where
+  pub ram : j.ram ≡ i.ram
+  pub frames : IsDuplicate i.frames j.frames
+  pub places : j.places ≡ i.places
+  pub hart : j.hart ≡ i.hart
+  pub active : j.active ≡ i.active
+  pub pipes : j.pipes ≡ i.pipes
+  pub fenced : HoldsNothing (held j.translator)
+
+pub parts-sound : {T U : Type 0} (old : T → translation.Held) (new : U → translation.Held) (i : Inside T) (j : Inside U) → IsParts new i j → IsSpaces old i → IsSpaces new j
+parts-sound old new i j is spaces = record {
+  machine = rw (is.ram, is.places, is.pipes) (same-machine i.ram i.frames j.frames i.places.items (pipe_frames i.pipes.items) is.frames spaces.machine);
+  all = rw is.places spaces.all;
+  active = rw (is.ram, is.places, is.hart, is.active) (active-fenced (old i.translator) (new j.translator) i.ram i.hart.root.0 i.places.items i.active is.fenced spaces.active);
+  inside = λ t held. absurd (is.fenced t held);
+  pipes = rw is.pipes spaces.pipes;
+  both = rw is.pipes spaces.both;
+}
