@@ -1,11 +1,11 @@
 -- How steps on a disk end, and what its blocks keep where they stay as they were.
-use Rattle.std.proofs.Common.{◌≡◌, ◌≢◌, ℕ, ◌+◌, ◌*◌, ◌/◌, ◌<◌, ◌≤◌, List, None, Some, Result, Ok, Err, length, ap, sym, arith, le_trans, subst}
+use Rattle.std.proofs.Common.{◌≡◌, ◌≢◌, ℕ, ◌≤◌, List, None, Some, Result, Ok, Err, length, ap, sym, arith, le_trans, subst}
 use Rattle.std.specs.Prelude.{IsSome}
 use Rattle.std.specs.Result.{IsErrAnd, is_err}
 use Rattle.blockdev.specs.declared.DeviceFault.{DeviceFault}
 use Rattle.cache.specs.Disk.{Disk}
 use Rattle.layout.specs.declared.Geometry.{Geometry}
-use Rattle.layout.specs.Image.{IsInode, bytes_of}
+use Rattle.layout.specs.Image.{IsInode}
 use Rattle.layout.specs.Sound.{IsSound}
 use Rattle.names.specs.Rules.{KeepsTree}
 use Rattle.tree.specs.declared.TreeFault.{TreeFault}
@@ -57,10 +57,6 @@ module _ {old new : List (List ℕ)} (same : new ≡ old) where
 
   pub node-same : (g : Geometry) (n : ℕ) → slot (files_of g old) n ≢ None → slot (files_of g new) n ≢ None
   node-same g n = subst (λ b. slot (files_of g b) n ≢ None) (sym same)
-
-  -- the place of a directory that is read
-  pub place-within : (d size k : ℕ) → size ≡ length (bytes_of old d) → k < size / 16 → 16 * k + 16 ≤ length (bytes_of new d)
-  place-within d size k is low = subst (λ b. 16 * k + 16 ≤ length (bytes_of b d)) (sym same) (let high : 16 * k + 16 ≤ size = omega arith in omega arith)
 
 pub none-more : 0 ≤ 1
 none-more = omega arith

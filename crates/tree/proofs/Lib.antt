@@ -8,6 +8,7 @@ pub mod Parts
 pub mod Rooms
 pub mod Answering
 pub mod Exits
+pub mod Scanned
 pub mod Spots
 pub mod Placing
 pub mod Taking

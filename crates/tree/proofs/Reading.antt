@@ -1,14 +1,13 @@
 -- What is read of a directory's places.
-use Rattle.std.proofs.Common.{◌≡◌, ℕ, ◌+◌, ◌-◌, ◌*◌, ◌/◌, ◌<◌, ◌≤◌, Bool, List, [], ◌∷◌, None, Option, Some, length, get_or, ap, sym, refl, ◌∙◌, arith, le_trans, subst, cond, true, false, suc}
+use Rattle.std.proofs.Common.{◌≡◌, ℕ, ◌+◌, ◌-◌, ◌<◌, ◌≤◌, Bool, List, [], ◌∷◌, None, Option, Some, length, get_or, ap, sym, refl, ◌∙◌, arith, le_trans, subst, cond, true, false, suc}
 use Rattle.std.specs.Prelude.{Err, IfOk, Ok, OnOk, Result, drop, nat_lt, option_and_then, position, ◌==◌}
 use Rattle.std.specs.Result.{IsErrAnd}
-use Rattle.balloc.proofs.Exits.{HasCause-failed, told_err}
+use Rattle.balloc.proofs.Exits.{HasCause-after, HasCause-failed, told_err}
 use Rattle.std.specs.List.{list_all, position_or_len}
 use Rattle.std.proofs.lemmas.Bool.{cond-false, cond-true, false≢true, le-ltb, lt-ltb, ne_eqb}
 use Rattle.std.proofs.lemmas.List.{get_or-drop, length-drop}
 use Rattle.std.proofs.lemmas.Option.{none-some}
 use Rattle.std.proofs.lemmas.List.Sums.{position_or_len_is}
-use Rattle.blockdev.specs.Splice.{part}
 use Rattle.blockdev.specs.declared.DeviceFault.{DeviceFault}
 use Rattle.cache.specs.Disk.{Disk}
 use Rattle.layout.specs.declared.Geometry.{Geometry}
@@ -17,13 +16,12 @@ use Rattle.layout.specs.Image.{IsInode, bytes_of}
 use Rattle.layout.specs.Sound.{IsSound}
 use Rattle.tree.specs.declared.place.Found.{Found}
 use Rattle.tree.specs.Names.{found_at, found_in, is_bare}
-use Rattle.imagerules.specs.Places.{place_of_bytes, places_in, without_zeros}
+use Rattle.imagerules.specs.Places.{place_of_bytes, without_zeros}
 use Rattle.tree.specs.Steps.{Reads}
 use Rattle.unixmodel.specs.Failures.{Rises}
 use Rattle.tree.specs.Stored.{files_of}
 use Rattle.unixmodel.specs.Files.{Entry, has_name, longest, lookup, slot, taken}
 use Rattle.unixmodel.specs.Numbers.{number_at}
-use Rattle.imagerules.proofs.Spelling.{slot-places_in}
 
 -- a file is never longer than an int
 pub short-bytes : {g : Geometry} {blocks : List (List ℕ)} {n : ℕ} → IsSound g blocks → IsInode blocks g.inodes n → length (bytes_of blocks n) ≤ longest
@@ -75,10 +73,10 @@ bare-no places k e low here =
     let some = some-taken (drop 2 places) (k - 2) e (slot-drop places (k - 2) ∙ ap (slot places) s ∙ here) in
     ne_eqb (length (taken (drop 2 places))) 0 (λ z. absurd (omega arith))
 
-pub place-free : (bytes : List ℕ) → list_all (λ b. b == 0) bytes ≡ true → place_of_bytes bytes ≡ None
+place-free : (bytes : List ℕ) → list_all (λ b. b == 0) bytes ≡ true → place_of_bytes bytes ≡ None
 place-free bytes h = cond-true (list_all (λ b. b == 0) bytes) None (Some (record { name = without_zeros (drop 2 bytes); number = number_at 2 0 bytes })) h
 
-pub place-taken : (bytes : List ℕ) → list_all (λ b. b == 0) bytes ≡ false → place_of_bytes bytes ≡ Some (record { name = without_zeros (drop 2 bytes); number = number_at 2 0 bytes })
+place-taken : (bytes : List ℕ) → list_all (λ b. b == 0) bytes ≡ false → place_of_bytes bytes ≡ Some (record { name = without_zeros (drop 2 bytes); number = number_at 2 0 bytes })
 place-taken bytes h = cond-false (list_all (λ b. b == 0) bytes) None (Some (record { name = without_zeros (drop 2 bytes); number = number_at 2 0 bytes })) h
 
 has-free : (name : List ℕ) (o : Option Entry) → o ≡ None → has_name name o ≡ false
@@ -106,12 +104,6 @@ module _ {T : Type 0} {Told : T → Type 0} {old new : Disk} {r : Result T Devic
   pub read-later : old.failures ≤ new.failures
   read-later = read.cause.later
 
--- what a place is, by the bytes that were read of it
-pub place-told : (blocks : List (List ℕ)) (d : ℕ) {mid new : Disk} {k size : ℕ} {r : Result (List ℕ) DeviceFault} {x : List ℕ} → Reads mid new r (λ place. place ≡ part (16 * k) 16 (bytes_of mid.blocks d)) → r ≡ Ok x → mid.blocks ≡ blocks
-    → size ≡ length (bytes_of blocks d) → k < size / 16 → slot (places_in (bytes_of blocks d)) k ≡ place_of_bytes x
-place-told blocks d {k = k} read is same size within =
-    slot-places_in (bytes_of blocks d) k (omega arith) ∙ ap place_of_bytes (sym (read-told read is ∙ ap (λ b. part (16 * k) 16 (bytes_of b d)) same))
-
 -- a name that was looked up
 pub looked : (g : Geometry) (blocks : List (List ℕ)) (d : ℕ) (name : List ℕ) {mid new : Disk} {r : Result (Option ℕ) DeviceFault} {o x : Option ℕ} → Reads mid new r (λ n. n ≡ lookup (files_of g mid.blocks) d name) → r ≡ Ok o → mid.blocks ≡ blocks → o ≡ x
     → lookup (files_of g blocks) d name ≡ x
@@ -131,3 +123,8 @@ Reads-good x same later told = record { told = told; same = same; count = ap len
 pub Reads-then : {T U : Type 0} {Told : T → Type 0} {Also : U → Type 0} {old mid new : Disk} {r : Result T DeviceFault} {x : T}
     → Reads mid new r Told → r ≡ Ok x → mid.blocks ≡ old.blocks → old.failures ≤ mid.failures → (y : U) → Also y → Reads old new (Ok y) Also
 Reads-then read is same later y also = Reads-good y (read-same read is ∙ same) (le_trans later (read-later read)) also
+
+-- what a read tells tells more, where those before it left the disk as it was
+pub Reads-more : {T : Type 0} {Told Also : T → Type 0} {old mid new : Disk} (r : Result T DeviceFault) → Reads mid new r Told → mid.blocks ≡ old.blocks → old.failures ≤ mid.failures → ((x : T) → Told x → Also x) → Reads old new r Also
+Reads-more (Err e) read same later more = record { told = tt; same = tt; count = read.count ∙ ap length same; cause = HasCause-after later read.cause }
+Reads-more (Ok x) read same later more = record { told = more x read.told; same = read.same ∙ same; count = read.count ∙ ap length same; cause = HasCause-after later read.cause }

@@ -1,5 +1,6 @@
 pub mod Stored
 pub mod Names
+pub mod Scanning
 pub mod Steps
 pub mod Unlinks
 pub mod Answers

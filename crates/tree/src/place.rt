@@ -1,6 +1,6 @@
 //! The places of a directory.
 
-ghost use Rattle.std.specs.Prelude.{◌≡◌, IsSome, ℕ, ◌+◌, ◌-◌, ◌*◌, ◌/◌, ◌%◌, ◌<◌, ◌≤◌, ◌==◌, List, length, nat_lt, ◌&&◌};
+ghost use Rattle.std.specs.Prelude.{◌≡◌, IsSome, ℕ, ◌+◌, ◌-◌, ◌*◌, ◌/◌, ◌%◌, ◌<◌, ◌≤◌, ◌==◌, List, get_or, length, nat_lt, ◌&&◌};
 ghost use Rattle.std.specs.List.{list_all};
 ghost use Rattle.blockdev.specs.Splice.{part};
 ghost use Rattle.layout.specs.Image.{IsInode, bytes_of};
@@ -8,22 +8,27 @@ ghost use Rattle.layout.specs.Sound.{IsSound};
 ghost use Rattle.tree.specs.Stored.{IsFileSystem, files_of};
 ghost use Rattle.tree.specs.Entering.{room_behind, room_in};
 ghost use Rattle.tree.specs.Names.{found_in, is_bare};
+ghost use Rattle.tree.specs.Scanning.{Scans, is_sought};
 ghost use Rattle.imagerules.specs.Places.{place_of_bytes, places_in, without_zeros};
 ghost use Rattle.tree.specs.Steps.{Reads};
 ghost use Rattle.unixmodel.specs.Files.{has_name, lookup, slot};
-ghost use Rattle.unixmodel.specs.Numbers.{number_at};
 
-use blockdev::{BlockDev, DeviceFault};
-use byteorder::{ByteOrder, LittleEndian};
+use blockdev::{BLOCK_SIZE, BlockDev, DeviceFault};
 use cache::Cache;
 use inode::{InodeStat, read_at, stat};
-use layout::{Geometry, LONGEST};
+use layout::{Entry, Geometry, LONGEST};
 
 /// The type of a directory's inode.
 pub const DIRECTORY: u16 = 1;
 
+// How many bytes a place has.
+const PLACE_SIZE: usize = 16;
+
+// How many places a block has.
+const PLACES: usize = BLOCK_SIZE / PLACE_SIZE;
+
 // The most places of a directory.
-const MOST_PLACES: usize = LONGEST / 16;
+const MOST_PLACES: usize = LONGEST / PLACE_SIZE;
 
 /// Where a name stands, and the number that it names.
 #[derive(Clone, Copy)]
@@ -57,40 +62,135 @@ fn before_zeros(bytes: &[u8]) -> &[u8]
     &bytes[..end]
 }
 
-// The number in a place.
-fn number(place: &[u8]) -> u16
-    requires { 2 ≤ length place.now }
-    ensures { result ≡ number_at 2 0 place.now }
+// The byte that a name begins with, 0 where it is empty.
+fn first_byte(name: &[u8]) -> u8
+    ensures { result ≡ get_or name.now 0 0 }
 {
-    LittleEndian::read_u16(place)
+    match name.first() {
+        Some(byte) => *byte,
+        None => 0,
+    }
 }
 
-// Whether a place has this name.
+// Whether a place has this name. Most others differ in their first byte.
 fn has_name(place: &[u8], name: &[u8]) -> bool
     requires { length place.now ≡ 16 }
     ensures { result ≡ has_name name.now (place_of_bytes place.now) }
 {
-    if is_zero(place) {
+    if place[2] != first_byte(name) || is_zero(place) {
         return false;
     }
     before_zeros(&place[2..]) == name
 }
 
-// The bytes of place `k` of a directory.
-fn read_place<D: BlockDev>(
+// What is sought in a directory.
+#[derive(Drop)]
+enum Sought<'a> {
+    // The place of a name.
+    Name(&'a [u8]),
+    // A free place.
+    Free,
+    // A place in use.
+    Taken,
+}
+
+// Whether a place is what is sought.
+fn is_sought(place: &[u8], sought: &Sought) -> bool
+    requires { length place.now ≡ 16 }
+    ensures { result ≡ is_sought sought.now (place_of_bytes place.now) }
+{
+    match sought {
+        Sought::Name(name) => has_name(place, name),
+        Sought::Free => is_zero(place),
+        Sought::Taken => !is_zero(place),
+    }
+}
+
+// The bytes of place `k`.
+fn place_at(places: &[u8], k: usize) -> &[u8]
+    requires { 16 * k + 16 ≤ length places.now }
+    ensures place { result.now ≡ part (16 * k) 16 places.now }
+    ensures long { length result.now ≡ 16 }
+{
+    &places[PLACE_SIZE * k..PLACE_SIZE * k + PLACE_SIZE]
+}
+
+// The first of these places that is what is sought.
+fn first(places: &[u8], sought: &Sought) -> Option<Found>
+    ensures { Scans sought.now places.now 0 result }
+{
+    for k in 0..places.len() / PLACE_SIZE {
+        let place = place_at(places, k);
+        if is_sought(place, sought) {
+            return Some(Found {
+                place: k,
+                number: usize::from(Entry::from_front(place).number),
+            });
+        }
+    }
+    None
+}
+
+// How many places a directory has.
+fn count_places<D: BlockDev>(
+    disk: &mut Cache<D>,
+    geometry: Geometry,
+    directory: usize,
+) -> Result<usize, DeviceFault>
+    requires sound { IsSound geometry disk.old.blocks }
+    requires inode { IsInode disk.old.blocks geometry.inodes directory }
+    ensures { Reads disk.old disk.new result (λ count. count ≡ length (bytes_of disk.old.blocks directory) / 16) }
+{
+    let stat = stat(disk, geometry, directory)?;
+    Ok(stat.size as usize / PLACE_SIZE)
+}
+
+// Reads places of a directory from place `k` on, as many as `out` has room for.
+fn read_places<D: BlockDev>(
     disk: &mut Cache<D>,
     geometry: Geometry,
     directory: usize,
     k: usize,
-) -> Result<[u8; 16], DeviceFault>
+    out: &mut [u8],
+) -> Result<(), DeviceFault>
     requires sound { IsSound geometry disk.old.blocks }
     requires inode { IsInode disk.old.blocks geometry.inodes directory }
-    requires within { 16 * k + 16 ≤ length (bytes_of disk.old.blocks directory) }
-    ensures { Reads disk.old disk.new result (λ place. place ≡ part (16 * k) 16 (bytes_of disk.old.blocks directory)) }
+    requires within { 16 * k + length out.old ≤ length (bytes_of disk.old.blocks directory) }
+    ensures { Reads disk.old disk.new result (λ _. out.new ≡ part (16 * k) (length out.old) (bytes_of disk.old.blocks directory)) }
 {
-    let mut place = [0; 16];
-    let _count = read_at(disk, geometry, directory, 16 * k, &mut place)?;
-    Ok(place)
+    let _count = read_at(disk, geometry, directory, PLACE_SIZE * k, out)?;
+    Ok(())
+}
+
+// The first place from `from` on that is what is sought, of a directory with so many places. It is read by blocks.
+fn scan<D: BlockDev>(
+    disk: &mut Cache<D>,
+    geometry: Geometry,
+    directory: usize,
+    count: usize,
+    from: usize,
+    sought: &Sought,
+) -> Result<Option<Found>, DeviceFault>
+    requires sound { IsSound geometry disk.old.blocks }
+    requires inode { IsInode disk.old.blocks geometry.inodes directory }
+    requires count { count ≡ length (bytes_of disk.old.blocks directory) / 16 }
+    ensures { Reads disk.old disk.new result (Scans sought.now (bytes_of disk.old.blocks directory) from) }
+{
+    let mut block = [0; BLOCK_SIZE];
+    let mut k = from;
+    'block: while k < count {
+        let places = (PLACES - k % PLACES).min(count - k);
+        let bytes = &mut block[..PLACE_SIZE * places];
+        read_places(disk, geometry, directory, k, bytes)?;
+        if let Some(found) = first(bytes, sought) {
+            return Ok(Some(Found {
+                place: k + found.place,
+                number: found.number,
+            }));
+        }
+        k += places;
+    }
+    Ok(None)
 }
 
 /// Where a name stands in a directory.
@@ -104,20 +204,8 @@ pub fn find_name<D: BlockDev>(
     requires inode { IsInode disk.old.blocks geometry.inodes directory }
     ensures { Reads disk.old disk.new result (λ found. found ≡ found_in (places_in (bytes_of disk.old.blocks directory)) name.now) }
 {
-    let stat = stat(disk, geometry, directory)?;
-    let count = stat.size as usize / 16;
-    let mut k = 0;
-    'place: while k < count {
-        let bytes = read_place(disk, geometry, directory, k)?;
-        if has_name(&bytes, name) {
-            return Ok(Some(Found {
-                place: k,
-                number: usize::from(number(&bytes)),
-            }));
-        }
-        k += 1;
-    }
-    Ok(None)
+    let count = count_places(disk, geometry, directory)?;
+    scan(disk, geometry, directory, count, 0, &Sought::Name(name))
 }
 
 // Whether a node is a directory with links.
@@ -159,17 +247,11 @@ pub fn room<D: BlockDev>(
     requires inode { IsInode disk.old.blocks geometry.inodes directory }
     ensures { Reads disk.old disk.new result (λ place. place ≡ room_in (places_in (bytes_of disk.old.blocks directory))) }
 {
-    let stat = stat(disk, geometry, directory)?;
-    let count = stat.size as usize / 16;
-    let mut k = 0;
-    'place: while k < count {
-        let bytes = read_place(disk, geometry, directory, k)?;
-        if is_zero(&bytes) {
-            return Ok(Some(k));
-        }
-        k += 1;
+    let count = count_places(disk, geometry, directory)?;
+    match scan(disk, geometry, directory, count, 0, &Sought::Free)? {
+        Some(found) => Ok(Some(found.place)),
+        None => Ok(end_place(count)),
     }
-    Ok(end_place(count))
 }
 
 // The place behind so many, unless that is past the longest directory.
@@ -193,15 +275,7 @@ pub fn is_empty<D: BlockDev>(
     requires inode { IsInode disk.old.blocks geometry.inodes directory }
     ensures { Reads disk.old disk.new result (λ bare. bare ≡ is_bare (places_in (bytes_of disk.old.blocks directory))) }
 {
-    let stat = stat(disk, geometry, directory)?;
-    let count = stat.size as usize / 16;
-    let mut k = 2;
-    'place: while k < count {
-        let bytes = read_place(disk, geometry, directory, k)?;
-        if !is_zero(&bytes) {
-            return Ok(false);
-        }
-        k += 1;
-    }
-    Ok(true)
+    let count = count_places(disk, geometry, directory)?;
+    let taken = scan(disk, geometry, directory, count, 2, &Sought::Taken)?;
+    Ok(taken.is_none())
 }

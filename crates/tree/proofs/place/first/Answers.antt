@@ -1,0 +1,29 @@
+use Rattle.std.proofs.Common.{below_more, below_none, ◌≡◌, ◌≤◌, false, ap, sym, ◌∙◌, arith}
+use Rattle.layout.specs.declared.Entry.{Entry}
+use Rattle.tree.specs.Scanning.{is_sought, place_in}
+use Rattle.imagerules.specs.Places.{place_of_bytes}
+use Rattle.unixmodel.specs.Numbers.{number_at}
+use Rattle.tree.proofs.Scanned.{number-first}
+use Rattle.tree.proofs.place.first.Goals as goal
+
+pub loop-k-init : goal.loop-k-init
+loop-k-init c = below_none _
+
+pub loop-k-preserved : goal.loop-k-preserved
+loop-k-preserved c =
+    below_more (λ j. 0 ≤ j → is_sought c.args.sought.now (place_in c.args.places.now j) ≡ false) c.loop-k.k c.loop-k.invariant
+    (λ _. ap (λ b. is_sought c.args.sought.now (place_of_bytes b)) (sym c.place_at-place.ensures.place) ∙ sym c.is_sought.ensures ∙ c.if-is_sought.false)
+
+pub returns-then-is_sought : goal.returns-then-is_sought
+returns-then-is_sought c =
+    let place = c.place_at-place.ensures.place in
+    record {
+      behind = omega arith;
+      within = omega arith;
+      before = c.loop-k.invariant;
+      here = ap (λ b. is_sought c.args.sought.now (place_of_bytes b)) (sym place) ∙ sym c.is_sought.ensures ∙ c.if-is_sought.true;
+      number = c.from.ensures ∙ ap (λ (e : Entry). e.number) c.from_front.ensures ∙ number-first c.place_at-place.result.now (let l = c.place_at-place.ensures.long in omega arith) ∙ ap (number_at 2 0) place;
+    }
+
+pub returns : goal.returns
+returns c = λ j less low. c.loop-k.invariant j (let end = c.loop-k-test.false in omega arith) low

@@ -1,0 +1,32 @@
+-- What a scan of a directory's places finds.
+use Rattle.std.specs.Prelude.{Bool, List, None, Option, Some, is_none, is_some, length, ℕ, ◌*◌, ◌/◌, ◌<◌, ◌≡◌, ◌≤◌, true, false}
+use Rattle.blockdev.specs.Splice.{part}
+use Rattle.imagerules.specs.Places.{place_of_bytes}
+use Rattle.tree.specs.declared.place.Found.{Found}
+use Rattle.tree.specs.declared.place.Sought.{Sought}
+use Rattle.tree.specs.declared.place.Sought.TheVariants.{Free, Name, Taken}
+use Rattle.unixmodel.specs.Files.{Entry, has_name}
+use Rattle.unixmodel.specs.Numbers.{number_at}
+
+-- whether a place is what is sought
+abbrev pub is_sought : Sought → Option Entry → Bool
+is_sought (Name name) o = has_name name.now o
+is_sought Free o = is_none o
+is_sought Taken o = is_some o
+
+-- place k of a directory's bytes
+abbrev pub place_in : List ℕ → ℕ → Option Entry
+place_in bytes k = place_of_bytes (part (16 * k) 16 bytes)
+
+-- the first place from `from` on that is, and the number in it
+pub record IsFirst (sought : Sought) (bytes : List ℕ) (from : ℕ) (found : Found) : Type 0 where
+  pub behind : from ≤ found.place
+  pub within : found.place < length bytes / 16
+  pub before : (k : ℕ) → k < found.place → from ≤ k → is_sought sought (place_in bytes k) ≡ false
+  pub here : is_sought sought (place_in bytes found.place) ≡ true
+  pub number : found.number ≡ number_at 2 0 (part (16 * found.place) 16 bytes)
+
+-- it is found, if there is one
+abbrev pub Scans : Sought → List ℕ → ℕ → Option Found → Type 0
+Scans sought bytes from (Some found) = IsFirst sought bytes from found
+Scans sought bytes from None = (k : ℕ) → k < length bytes / 16 → from ≤ k → is_sought sought (place_in bytes k) ≡ false
