@@ -14,8 +14,11 @@ ghost use Rattle.sv39.specs.Walk.{base, frame_at, entry_of, turn_at, follow, is_
 ghost use Rattle.sv39.specs.Counts.{count_mid, count_high, count_levels};
 
 mod lookaside;
+mod places;
+mod recent;
 
 pub use crate::lookaside::Tlb;
+pub use crate::recent::Recent;
 use bitflags::{Flag, Flags, bitflag_items};
 use ram::{FrameNo, Ram};
 use std::marker::Model;

@@ -1,60 +1,29 @@
 //! A translator that remembers what it found, so that most accesses need no walk.
-ghost use Rattle.std.specs.Prelude.{◌≡◌, ◌≢◌, ℕ, ◌+◌, ◌-◌, ◌*◌, ◌/◌, ◌%◌, ◌^◌, ◌<◌, ◌≤◌, ◌⊎◌, List, length, slice_set, Some, IfSome, IfNone, IfOk};
+ghost use Rattle.std.specs.Prelude.{◌≡◌, ◌≢◌, ℕ, ◌+◌, ◌-◌, ◌*◌, ◌/◌, ◌%◌, ◌^◌, ◌<◌, ◌≤◌, ◌⊎◌, List, length, Some, IfSome, IfNone, IfOk};
 ghost use Rattle.std.specs.Result.{result_ok};
 ghost use Rattle.std.specs.Option.{option_map};
 ghost use Rattle.unixmodel.specs.Translation.{walk_page, walk, walk_count, place_in, Translation, IsAnswer, IsKept, HoldsNothing, HoldsInside};
-ghost use Rattle.sv39.specs.Lookaside.{Keeps, IsFound, IsPlaced, asked, filled, for_access};
+ghost use Rattle.sv39.specs.Lookaside.{Keeps, IsFound, Cache, asked};
 
+use crate::places::Places;
 use crate::{Access, Fault, Pa, Translate, address, walked};
 use ram::{FrameNo, Ram};
-
-// A page has a frame under a root.
-#[derive(Clone, Copy)]
-struct Entry {
-    page: u64,
-    root: FrameNo,
-    frame: FrameNo,
-}
-
-// No address is on this page, which has no number of 52 bits.
-const NONE: Entry = Entry {
-    page: u64::MAX,
-    root: FrameNo(0),
-    frame: FrameNo(0),
-};
-
-// Places that keep nothing.
-fn empty<const N: usize>() -> [Entry; N]
-    ensures { (root page frame : ℕ) → ¬ IsPlaced N result root page frame }
-{
-    [NONE; N]
-}
-
-// The frame that is kept for a page under a root.
-#[inline(always)]
-fn find<const N: usize>(places: &[Entry; N], root: FrameNo, page: u64) -> Option<FrameNo>
-    requires some { 0 < N }
-    requires page { page < 2 ^ 52 }
-    ensures found { IfSome result (λ f. IsPlaced N places.now root.0 page f.0) }
-    ensures none { IfNone result ((f : ℕ) → ¬ IsPlaced N places.now root.0 page f) }
-{
-    let entry = &places[(page % N as u64) as usize];
-    if (entry.page == page) & (entry.root.0 == root.0) {
-        Some(entry.frame)
-    } else {
-        None
-    }
-}
+use std::marker::Model;
 
 /// Remembers translations, for each kind of access one in each of `N` places. A page's place is its number
 /// modulo `N`, and what is remembered answers only for its root, page and access.
 #[derive(Drop)]
 pub struct Tlb<const N: usize> {
-    fetches: [Entry; N],
-    loads: [Entry; N],
-    stores: [Entry; N],
+    places: Places<N>,
     reads: u64,
-    ghost some: { 0 < N },
+}
+
+impl<const N: usize> Model for Tlb<N> {
+    ghost use Rattle.sv39.specs.Lookaside.{Cache};
+
+    ghost Value = { Cache };
+
+    ghost view = { λ tlb. record { fetches = tlb.places.fetches; loads = tlb.places.loads; stores = tlb.places.stores; reads = tlb.reads } };
 }
 
 impl<const N: usize> Tlb<N> {
@@ -65,9 +34,7 @@ impl<const N: usize> Tlb<N> {
         ensures nothing { (t : Translation) → ¬ Keeps N result.fetches result.loads result.stores t }
     {
         Tlb {
-            fetches: empty(),
-            loads: empty(),
-            stores: empty(),
+            places: Places::new(),
             reads: 0,
         }
     }
@@ -77,25 +44,6 @@ impl<const N: usize> Tlb<N> {
         ensures { result ≡ self.now.reads }
     {
         self.reads
-    }
-
-    #[inline(always)]
-    fn places(&self, access: Access) -> &[Entry; N]
-        ensures { result.now ≡ for_access self.now.fetches self.now.loads self.now.stores access }
-    {
-        match access {
-            Access::Fetch => &self.fetches,
-            Access::Load => &self.loads,
-            Access::Store => &self.stores,
-        }
-    }
-
-    #[inline(always)]
-    fn kept(&self, root: FrameNo, va: u64, access: Access) -> Option<FrameNo>
-        ensures found { IfSome result (λ f. Keeps N self.now.fetches self.now.loads self.now.stores (asked root.0 va access f.0)) }
-        ensures none { IfNone result ((f : ℕ) → ¬ Keeps N self.now.fetches self.now.loads self.now.stores (asked root.0 va access f)) }
-    {
-        find(self.places(access), root, va / 4096)
     }
 
     // Walks, and remembers what it finds.
@@ -112,13 +60,7 @@ impl<const N: usize> Tlb<N> {
         let walked = walked(ram, root, page, access);
         self.reads = self.reads.wrapping_add(u64::from(walked.count));
         if let Some(frame) = walked.frame {
-            let entry = Entry { page, root, frame };
-            let at = (page % N as u64) as usize;
-            match access {
-                Access::Fetch => self.fetches[at] = entry,
-                Access::Load => self.loads[at] = entry,
-                Access::Store => self.stores[at] = entry,
-            }
+            self.places.keep(root, page, access, frame);
         }
         walked.frame
     }
@@ -136,7 +78,7 @@ impl<const N: usize> Tlb<N> {
         ensures joins { IfSome result (λ f. Keeps N self.new.fetches self.new.loads self.new.stores (asked root.0 va access f.0)) }
         ensures stays { (t : Translation) → t.page % N ≢ va / 4096 % N → Keeps N self.old.fetches self.old.loads self.old.stores t → Keeps N self.new.fetches self.new.loads self.new.stores t }
     {
-        if let Some(frame) = self.kept(root, va, access) {
+        if let Some(frame) = self.places.kept(root, va, access) {
             return Some(frame);
         }
         self.look_up(ram, root, va / 4096, access)
@@ -168,8 +110,6 @@ impl<const N: usize> Translate for Tlb<N> {
         ensures nothing { HoldsNothing (Keeps N self.new.fetches self.new.loads self.new.stores) }
         ensures reads { self.new.reads ≡ self.old.reads }
     {
-        self.fetches = empty();
-        self.loads = empty();
-        self.stores = empty();
+        self.places.clear();
     }
 }

@@ -1,0 +1,101 @@
+-- What places keep after one of them was filled or emptied.
+use Rattle.std.proofs.Common.{◌≡◌, ◌≢◌, ℕ, zero, suc, ◌%◌, ◌^◌, ◌<◌, inl, inr, List, [], ◌∷◌, length, Some, refl, ap, ◌∙◌, arith}
+use Rattle.std.specs.Prelude.{slice_get, slice_set, ◌⊎◌}
+use Rattle.unixmodel.specs.declared.trap.Access.{Access}
+use Rattle.unixmodel.specs.declared.trap.Access.TheVariants.{Fetch, Load, Store}
+use Rattle.unixmodel.specs.Translation.{Translation}
+use Rattle.sv39.specs.declared.places.Entry.{Entry}
+use Rattle.sv39.specs.Lookaside.{IsPlaced, Keeps, Kept, filled, for_access, set_for}
+
+-- ---- one list
+
+get-set : {X : Type 0} (xs : List X) (i : ℕ) (y : X) → i < length xs → slice_get (slice_set xs i y) i ≡ Some y
+get-set [] i y h = absurd (omega arith)
+get-set (x ∷ xs) zero y h = refl
+get-set (x ∷ xs) (suc i) y h = get-set xs i y (omega arith)
+
+get-there : {X : Type 0} (xs : List X) (i : ℕ) (y z : X) → slice_get (slice_set xs i y) i ≡ Some z → y ≡ z
+get-there [] i y z h = absurd cc
+get-there (x ∷ xs) zero y z h = cc
+get-there (x ∷ xs) (suc i) y z h = get-there xs i y z h
+
+get-other : {X : Type 0} (xs : List X) (i j : ℕ) (y : X) → j ≢ i → slice_get (slice_set xs i y) j ≡ slice_get xs j
+get-other [] i j y h = refl
+get-other (x ∷ xs) zero zero y h = absurd (h refl)
+get-other (x ∷ xs) zero (suc j) y h = refl
+get-other (x ∷ xs) (suc i) zero y h = refl
+get-other (x ∷ xs) (suc i) (suc j) y h = get-other xs i j y (λ e. h (ap suc e))
+
+get-only : {X : Type 0} (xs : List X) (i j : ℕ) (y z : X) → slice_get (slice_set xs i y) j ≡ Some z → (slice_get xs j ≡ Some z) ⊎ (y ≡ z)
+get-only [] i j y z h = inl h
+get-only (x ∷ xs) zero zero y z h = inr cc
+get-only (x ∷ xs) zero (suc j) y z h = inl h
+get-only (x ∷ xs) (suc i) zero y z h = inl h
+get-only (x ∷ xs) (suc i) (suc j) y z h = get-only xs i j y z h
+
+-- ---- the places of an access
+
+abbrev of : Kept → Access → List Entry
+of kept access = for_access kept.fetches kept.loads kept.stores access
+
+placed-only : (n : ℕ) (places : List Entry) (at : ℕ) (entry : Entry) (root page frame : ℕ) → IsPlaced n (slice_set places at entry) root page frame
+    → IsPlaced n places root page frame ⊎ (entry ≡ filled root page frame)
+placed-only n places at entry root page frame is =
+    elim (get-only places at (page % n) entry (filled root page frame) is.entry) [
+      | inl was ↦ inl (record { entry = was; bounded = is.bounded })
+      | inr now ↦ inr now
+    ]
+
+placed-joins : (n : ℕ) (places : List Entry) (root page frame : ℕ) → page % n < length places → page < 2 ^ 52 → IsPlaced n (slice_set places (page % n) (filled root page frame)) root page frame
+placed-joins n places root page frame inside bounded = record { entry = get-set places (page % n) (filled root page frame) inside; bounded = bounded }
+
+placed-stays : (n : ℕ) (places : List Entry) (at : ℕ) (entry : Entry) (root page frame : ℕ) → page % n ≢ at → IsPlaced n places root page frame → IsPlaced n (slice_set places at entry) root page frame
+placed-stays n places at entry root page frame other is = record { entry = get-other places at (page % n) entry other ∙ is.entry; bounded = is.bounded }
+
+-- ---- a place for an access is filled
+
+pub set-joins : (n : ℕ) (kept : Kept) (access : Access) (root page frame : ℕ) → page % n < length (of kept access) → page < 2 ^ 52
+    → IsPlaced n (of (set_for kept access (page % n) (filled root page frame)) access) root page frame
+set-joins n kept Fetch root page frame = placed-joins n kept.fetches root page frame
+set-joins n kept Load root page frame = placed-joins n kept.loads root page frame
+set-joins n kept Store root page frame = placed-joins n kept.stores root page frame
+
+stays-for : (n : ℕ) (kept : Kept) (access a : Access) (at : ℕ) (entry : Entry) (root page frame : ℕ) → page % n ≢ at → IsPlaced n (of kept a) root page frame
+    → IsPlaced n (of (set_for kept access at entry) a) root page frame
+stays-for n kept Fetch Fetch at entry root page frame other is = placed-stays n kept.fetches at entry root page frame other is
+stays-for n kept Fetch Load at entry root page frame other is = is
+stays-for n kept Fetch Store at entry root page frame other is = is
+stays-for n kept Load Fetch at entry root page frame other is = is
+stays-for n kept Load Load at entry root page frame other is = placed-stays n kept.loads at entry root page frame other is
+stays-for n kept Load Store at entry root page frame other is = is
+stays-for n kept Store Fetch at entry root page frame other is = is
+stays-for n kept Store Load at entry root page frame other is = is
+stays-for n kept Store Store at entry root page frame other is = placed-stays n kept.stores at entry root page frame other is
+
+pub set-stays : (n : ℕ) (kept : Kept) (access : Access) (at : ℕ) (entry : Entry) (t : Translation) → t.page % n ≢ at → IsPlaced n (of kept t.access) t.root t.page t.frame
+    → IsPlaced n (of (set_for kept access at entry) t.access) t.root t.page t.frame
+set-stays n kept access at entry t = stays-for n kept access t.access at entry t.root t.page t.frame
+
+only-for : (n : ℕ) (kept : Kept) (access a : Access) (at : ℕ) (entry : Entry) (root page frame : ℕ) → IsPlaced n (of (set_for kept access at entry) a) root page frame
+    → IsPlaced n (of kept a) root page frame ⊎ ((a ≡ access) × (entry ≡ filled root page frame))
+only-for n kept Fetch Fetch at entry root page frame is = elim (placed-only n kept.fetches at entry root page frame is) [ inl was ↦ inl was | inr now ↦ inr (refl, now) ]
+only-for n kept Fetch Load at entry root page frame is = inl is
+only-for n kept Fetch Store at entry root page frame is = inl is
+only-for n kept Load Fetch at entry root page frame is = inl is
+only-for n kept Load Load at entry root page frame is = elim (placed-only n kept.loads at entry root page frame is) [ inl was ↦ inl was | inr now ↦ inr (refl, now) ]
+only-for n kept Load Store at entry root page frame is = inl is
+only-for n kept Store Fetch at entry root page frame is = inl is
+only-for n kept Store Load at entry root page frame is = inl is
+only-for n kept Store Store at entry root page frame is = elim (placed-only n kept.stores at entry root page frame is) [ inl was ↦ inl was | inr now ↦ inr (refl, now) ]
+
+same : (r p f root page frame : ℕ) (a access : Access) → a ≡ access → filled root page frame ≡ filled r p f
+    → (let t : Translation = record { root = r; page = p; access = a; frame = f } in t) ≡ record { root = root; page = page; access = access; frame = frame }
+same r p f root page frame a access e is = rw (e, ap (λ (x : Entry). x.root.0) is, ap (λ (x : Entry). x.page) is, ap (λ (x : Entry). x.frame.0) is) refl
+
+pub set-only : (n : ℕ) (kept : Kept) (access : Access) (root page frame : ℕ) (t : Translation) → IsPlaced n (of (set_for kept access (page % n) (filled root page frame)) t.access) t.root t.page t.frame
+    → Keeps n kept.fetches kept.loads kept.stores t ⊎ (t ≡ record { root = root; page = page; access = access; frame = frame })
+set-only n kept access root page frame t is =
+    elim (only-for n kept access t.access (page % n) (filled root page frame) t.root t.page t.frame is) [
+      | inl was ↦ inl was
+      | inr now ↦ inr (same t.root t.page t.frame root page frame t.access access now.0 now.1)
+    ]
