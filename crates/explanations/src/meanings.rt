@@ -155,7 +155,7 @@ const LINES: [Meaning; 45] = [
 ];
 
 /// Beginnings of lines.
-const BEGINNINGS: [Meaning; 5] = [
+const BEGINNINGS: [Meaning; 6] = [
     (
         "halt 1 InitEnded",
         "process 1 ended with that status: -1 of a fault of its own, which --report tells, or killed",
@@ -165,6 +165,7 @@ const BEGINNINGS: [Meaning; 5] = [
         "the file cannot be read, or is a text that is no UTF-8",
     ),
     ("cannot write", "the file cannot be written"),
+    ("no call", "a name that --calls lists is none of a call"),
     (
         "script line",
         "the line is none of `step N`, `tick N`, `keys HEX` and `type TEXT`; N is up to 1000000000",
@@ -175,8 +176,12 @@ const BEGINNINGS: [Meaning; 5] = [
     ),
 ];
 
-/// Ends of lines: what is wrong with a line of an assembly text.
-const ENDS: [Meaning; 7] = [
+/// Ends of lines: what is wrong with a line of a play or of an assembly text.
+const ENDS: [Meaning; 8] = [
+    (
+        ": no such command",
+        "a line of a play begins with step, tick, keys, type, until, every, random or repeat",
+    ),
     (
         ": 1 Syntax",
         "a character past ASCII, a string that has no end, or a word that begins with no letter or dot",
@@ -198,6 +203,12 @@ const ENDS: [Meaning; 7] = [
     ),
 ];
 
+/// What a play tells that waited in vain, and what that means.
+const IN_VAIN: Meaning = (
+    ": not reached in ",
+    "the machine didn't come to that in so many steps: --report tells what each process does",
+);
+
 /// What a line means by which the program tells how a job ended, and what to do.
 pub fn meaning(line: &str) -> Option<&'static str> {
     for (text, means) in &LINES {
@@ -215,5 +226,6 @@ pub fn meaning(line: &str) -> Option<&'static str> {
             return Some(*means);
         }
     }
-    None
+    let (text, means) = IN_VAIN;
+    line.contains(text).then_some(means)
 }

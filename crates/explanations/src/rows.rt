@@ -9,6 +9,8 @@ fn lines_have_meanings(rt: HostRuntime) {
     assert!(rt; meaning("line 3: 5 Label") == Some("no line defines the label"));
     assert!(rt; meaning("cannot write a") == Some("the file cannot be written"));
     assert!(rt; meaning("fault 14 Odd").is_none());
+    assert!(rt; meaning("a:3: untill: no such command").is_some());
+    assert!(rt; meaning("a:4: not reached in 7 steps").is_some());
 }
 
 #[test]
@@ -17,6 +19,8 @@ fn the_name_that_was_meant(rt: HostRuntime) {
     assert!(rt; nearest(rt.alloc(), "liv", &names) == Ok(Some("live")));
     assert!(rt; nearest(rt.alloc(), "mksf", &names) == Ok(Some("mkfs")));
     assert!(rt; nearest(rt.alloc(), "x", &names) == Ok(None));
+    assert!(rt; nearest(rt.alloc(), "run", &names) == Ok(None));
+    assert!(rt; nearest(rt.alloc(), "reedme", &["init", "README"]) == Ok(Some("README")));
 }
 
 #[test]

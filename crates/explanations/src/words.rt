@@ -9,6 +9,17 @@ pub const COMMANDS: [&str; 13] = [
 /// What a line of a script begins with.
 pub const SCRIPT: [&str; 4] = ["step", "tick", "keys", "type"];
 
+/// What a line of a play begins with.
+pub const PLAY: [&str; 8] = [
+    "step", "tick", "keys", "type", "until", "every", "random", "repeat",
+];
+
+/// The calls.
+pub const CALLS: [&str; 21] = [
+    "fork", "exit", "wait", "pipe", "read", "kill", "exec", "fstat", "chdir", "dup", "getpid",
+    "sbrk", "sleep", "uptime", "open", "write", "mknod", "unlink", "link", "mkdir", "close",
+];
+
 /// What a line of a manifest begins with.
 pub const MANIFEST: [&str; 3] = ["dir", "file", "dev"];
 
@@ -53,4 +64,12 @@ pub fn number_behind(line: &str, beginning: &str) -> Option<usize> {
         None => rest,
     };
     digits.parse().ok()
+}
+
+/// The last word of a line.
+pub fn last_word(line: &str) -> &str {
+    match line.rsplit_once(' ') {
+        Some((_, word)) => word,
+        None => line,
+    }
 }

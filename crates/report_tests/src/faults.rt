@@ -1,0 +1,228 @@
+//! Programs of a few words, each run to its last: the fault that is told is the one that comes.
+use causes::fault_of;
+use console::Writer;
+use machine::{Halt, boot_flat};
+use std::alloc::Global;
+use std::io::sink;
+use unixmodel::event::Event;
+use unixmodel::trap::{Cause, Trap};
+
+/// A program of words; the cause and the address that its last word is told with, and that as a text.
+type Row = (&'static [u32], Option<(Cause, u64, &'static str)>);
+
+/// lui t0, 1 to 3: the page below the stack, the stack, and the end of the memory.
+const T0_GUARD: u32 = 0x0000_12b7;
+
+const T0_STACK: u32 = 0x0000_22b7;
+
+const T0_END: u32 = 0x0000_32b7;
+
+const ROWS: [Row; 27] = [
+    // jalr zero, 2(zero), which clears bit 0 of 3 as well; jal zero, 2; beq and bne of zero with itself, by 2; bgeu by 6.
+    (
+        &[0x0020_0067],
+        Some((
+            Cause::InstructionMisaligned,
+            2,
+            "jump to 0x2 at pc 0x0: no multiple of 4",
+        )),
+    ),
+    (
+        &[0x0030_0067],
+        Some((
+            Cause::InstructionMisaligned,
+            2,
+            "jump to 0x2 at pc 0x0: no multiple of 4",
+        )),
+    ),
+    (
+        &[0x13, 0x0020_006f],
+        Some((
+            Cause::InstructionMisaligned,
+            6,
+            "jump to 0x6 at pc 0x4: no multiple of 4",
+        )),
+    ),
+    (
+        &[0x0000_0163],
+        Some((
+            Cause::InstructionMisaligned,
+            2,
+            "jump to 0x2 at pc 0x0: no multiple of 4",
+        )),
+    ),
+    (&[0x0000_1163], None),
+    (
+        &[0x0000_7363],
+        Some((
+            Cause::InstructionMisaligned,
+            6,
+            "jump to 0x6 at pc 0x0: no multiple of 4",
+        )),
+    ),
+    // Words that are no instruction.
+    (
+        &[0xe406_1141],
+        Some((
+            Cause::IllegalInstruction,
+            0,
+            "illegal instruction 0x1141 at pc 0x0 (compressed code? compile with -march=rv64im)",
+        )),
+    ),
+    (
+        &[0x13, 0xffff_ffff],
+        Some((
+            Cause::IllegalInstruction,
+            4,
+            "illegal instruction 0xffffffff at pc 0x4",
+        )),
+    ),
+    (
+        &[0x13, 0],
+        Some((
+            Cause::IllegalInstruction,
+            4,
+            "illegal instruction 0x0 at pc 0x4 (zeros are no code)",
+        )),
+    ),
+    // jalr zero, -4(t0): the last word of the first page.
+    (
+        &[T0_GUARD, 0xffc2_8067, 0],
+        Some((
+            Cause::IllegalInstruction,
+            0xffc,
+            "illegal instruction 0x0 at pc 0xffc (zeros are no code)",
+        )),
+    ),
+    (
+        &[0x0010_0073],
+        Some((Cause::Breakpoint, 0, "ebreak at pc 0x0")),
+    ),
+    (&[0x0000_0073], None),
+    // lw t1, 1(zero); lh t1, -1(t0); sd zero, 4(zero).
+    (
+        &[0x0010_2303],
+        Some((
+            Cause::LoadMisaligned,
+            1,
+            "load from 0x1 at pc 0x0: no multiple of its size",
+        )),
+    ),
+    (
+        &[T0_END, 0xfff2_9303],
+        Some((
+            Cause::LoadMisaligned,
+            0x2fff,
+            "load from 0x2fff at pc 0x4: no multiple of its size",
+        )),
+    ),
+    (
+        &[0x0000_3223],
+        Some((
+            Cause::StoreMisaligned,
+            4,
+            "store to 0x4 at pc 0x0: no multiple of its size",
+        )),
+    ),
+    // jalr zero, 0(t0).
+    (
+        &[T0_GUARD, 0x0002_8067, 0],
+        Some((
+            Cause::InstructionPageFault,
+            0x1000,
+            "fetch at pc 0x1000: the page below the stack may not be used (stack overflow?)",
+        )),
+    ),
+    (
+        &[T0_STACK, 0x0002_8067, 0],
+        Some((
+            Cause::InstructionPageFault,
+            0x2000,
+            "fetch at pc 0x2000: the page may not be executed",
+        )),
+    ),
+    (
+        &[T0_END, 0x0002_8067, 0],
+        Some((
+            Cause::InstructionPageFault,
+            0x3000,
+            "fetch at pc 0x3000: the process has no page there",
+        )),
+    ),
+    // lb t1, -1(t0) and 0(t0); ld t1, -8(t0); lb t1, -1(zero).
+    (&[T0_GUARD, 0xfff2_8303], None),
+    (&[T0_END, 0xff82_b303], None),
+    (
+        &[T0_GUARD, 0x0002_8303],
+        Some((
+            Cause::LoadPageFault,
+            0x1000,
+            "load from 0x1000 at pc 0x4: the page below the stack may not be used (stack overflow?)",
+        )),
+    ),
+    (
+        &[T0_END, 0x0002_8303],
+        Some((
+            Cause::LoadPageFault,
+            0x3000,
+            "load from 0x3000 at pc 0x4: the process has no page there",
+        )),
+    ),
+    (
+        &[0xfff0_0303],
+        Some((
+            Cause::LoadPageFault,
+            0xffff_ffff_ffff_ffff,
+            "load from 0xffffffffffffffff at pc 0x0: the process has no page there",
+        )),
+    ),
+    // sb zero, -1(t0) and 0(t0).
+    (&[T0_END, 0xfe02_8fa3], None),
+    (
+        &[T0_GUARD, 0x0002_8023],
+        Some((
+            Cause::StorePageFault,
+            0x1000,
+            "store to 0x1000 at pc 0x4: the page below the stack may not be used (stack overflow?)",
+        )),
+    ),
+    (
+        &[T0_END, 0x0002_8023],
+        Some((
+            Cause::StorePageFault,
+            0x3000,
+            "store to 0x3000 at pc 0x4: the process has no page there",
+        )),
+    ),
+    // li a7, 1; ecall; sd zero, 0x100(zero): a page that is shared after a fork.
+    (&[0x0010_0893, 0x73, 0x1000_3023], None),
+];
+
+// Whether the fault that is told before the last word is the row's, and comes.
+fn tells(alloc: Global, row: &Row) -> Option<bool> {
+    let mut program = Vec::new(alloc);
+    for word in row.0 {
+        program.extend_from_slice(&word.to_le_bytes()).ok()?;
+    }
+    let mut machine = boot_flat(alloc, program.as_slice(), 64).ok()?;
+    let mut out = Writer::new(sink());
+    // The turn that picks the process, and all words but the last.
+    for _word in row.0 {
+        machine.step(Event::Step, &mut out).ok()?;
+    }
+    let told = fault_of(&machine, 1);
+    let ended = machine.step(Event::Step, &mut out);
+    let (Some(told), Some((cause, address, words))) = (told, row.1) else {
+        return Some(told.is_none() && row.1.is_none() && ended.is_ok());
+    };
+    let text = format!(in alloc; "{told}").ok()?;
+    let comes = ended == Err(Halt::InitEnded(-1));
+    Some(told.trap == Trap { cause, address } && comes && text.as_str() == words)
+}
+
+#[test]
+fn faults_are_told_before_they_come(rt: HostRuntime) {
+    for row in &ROWS {
+        assert!(rt; tells(rt.alloc(), row) == Some(true));
+    }
+}

@@ -1,0 +1,201 @@
+//! The programs that are traced.
+
+use asm::assemble;
+use blockdev::MemDisk;
+use image::{Entry, Manifest, Thing, make};
+use machine::{Machine, boot};
+use std::alloc::Global;
+use sv39::Plain;
+
+/// What a shell does for `echo hi | cat`.
+pub const SHELL: &str = "
+        la a0, console
+        li a1, 2
+        li a7, 15
+        ecall
+        li a0, 0
+        li a7, 10
+        ecall
+        li a0, 0
+        ecall
+        addi s0, sp, -64
+        mv a0, s0
+        li a7, 4
+        ecall
+        li a7, 1
+        ecall
+        beq a0, zero, left
+        lw a0, 4(s0)
+        li a7, 21
+        ecall
+        li a7, 1
+        ecall
+        beq a0, zero, right
+        lw a0, 0(s0)
+        li a7, 21
+        ecall
+        li a0, 0
+        li a7, 3
+        ecall
+        addi a0, sp, -8
+        li a7, 3
+        ecall
+        li a0, 0
+        li a7, 2
+        ecall
+left:   li a0, 1
+        li a7, 21
+        ecall
+        lw a0, 4(s0)
+        li a7, 10
+        ecall
+        lw a0, 0(s0)
+        li a7, 21
+        ecall
+        lw a0, 4(s0)
+        ecall
+        la a0, echo
+        la a1, arguments
+        sd a0, 0(a1)
+        la t0, hi
+        sd t0, 8(a1)
+        li a7, 7
+        ecall
+right:  li a0, 0
+        li a7, 21
+        ecall
+        lw a0, 0(s0)
+        li a7, 10
+        ecall
+        lw a0, 0(s0)
+        li a7, 21
+        ecall
+        la a0, cat
+        la a1, arguments
+        sd a0, 0(a1)
+        li a7, 7
+        ecall
+console: .ascii \"console\\0\"
+echo:   .ascii \"echo\\0\"
+cat:    .ascii \"cat\\0\"
+hi:     .ascii \"hi\\0\"
+        .pad 8
+arguments: .zero 32
+";
+
+/// Writes `hi` and a line end, the last two bytes one by one, and ends with status 3.
+pub const ECHO: &str = "
+        li a0, 1
+        la a1, hi
+        li a2, 1
+        li a7, 16
+        ecall
+        li a0, 1
+        addi a1, a1, 1
+        ecall
+        li a0, 1
+        addi a1, a1, 1
+        ecall
+        li a0, 3
+        li a7, 2
+        ecall
+hi:     .ascii \"hi\\n\"
+";
+
+/// Copies what it reads.
+pub const CAT: &str = "
+again:  li a0, 0
+        la a1, buffer
+        li a2, 512
+        li a7, 5
+        ecall
+        mv a2, a0
+        beq a2, zero, end
+        li a0, 1
+        li a7, 16
+        ecall
+        j again
+end:    li a0, 0
+        li a7, 2
+        ecall
+buffer: .zero 512
+";
+
+/// Four processes, each of which waits for all its children.
+pub const FORKS: &str = "
+        li a7, 1
+        ecall
+        li a7, 1
+        ecall
+again:  li a0, 0
+        li a7, 3
+        ecall
+        bge a0, zero, again
+        li a0, 0
+        li a7, 2
+        ecall
+";
+
+/// A child stores where it has no page, and process 1 comes to a breakpoint.
+pub const FAULTS: &str = "
+        li a7, 1
+        ecall
+        beq a0, zero, child
+        addi a0, sp, -8
+        li a7, 3
+        ecall
+        ebreak
+child:  lui t0, 256
+        sw zero, 4(t0)
+";
+
+/// A child sleeps for long, and is killed.
+pub const SLEEPER: &str = "
+        li a7, 1
+        ecall
+        beq a0, zero, child
+        mv s0, a0
+        li a0, 1
+        li a7, 13
+        ecall
+        mv a0, s0
+        li a7, 6
+        ecall
+        li a0, 0
+        li a7, 3
+        ecall
+        li a7, 11
+        ecall
+        ecall
+        li a7, 99
+        ecall
+        li a7, 6
+        ecall
+child:  li a0, 100
+        li a7, 13
+        ecall
+";
+
+// The image of these programs and the console.
+fn image_of(alloc: Global, programs: &[(&str, &str)]) -> Option<Vec<u8>> {
+    let console = Entry {
+        path: Vec::from_slice(alloc, b"/console").ok()?,
+        thing: Thing::Device { major: 1, minor: 0 },
+    };
+    let mut entries = Vec::from_array(alloc, [console]).ok()?;
+    for (path, text) in programs {
+        let entry = Entry {
+            path: Vec::from_slice(alloc, path.as_bytes()).ok()?,
+            thing: Thing::File(assemble(alloc, text).ok()?),
+        };
+        entries.push(entry).ok()?;
+    }
+    make(alloc, &Manifest { entries }, 64, 16).ok()
+}
+
+/// A machine whose first program is `/init` of these.
+pub fn machine_of(alloc: Global, programs: &[(&str, &str)]) -> Option<Machine<MemDisk, Plain>> {
+    let image = image_of(alloc, programs)?;
+    let disk = MemDisk::new(image).ok()?;
+    boot(alloc, disk, Plain::new(), 256).ok()
+}
