@@ -26,7 +26,7 @@ use crate::removing::unlink;
 use crate::step::{empty_file, let_go};
 use crate::sweeping::release_all;
 use crate::writing::write;
-use blockdev::{BlockDev, DeviceFault};
+use blockdev::{BlockDev, DeviceFault, Duplicate};
 use cache::Cache;
 use inode::{InodeStat, look, read_at, stat};
 use layout::Geometry;
@@ -288,5 +288,19 @@ fn has_failed<T>(answer: &Result<T, TreeFault>) -> bool
     match answer {
         Ok(_) => false,
         Err(fault) => *fault == TreeFault::Device,
+    }
+}
+
+impl<D: Duplicate> Tree<D> {
+    /// The same files over a duplicate of the disk, with as many who hold each. It asks for host memory for all of it.
+    pub fn duplicate(&self, alloc: Global) -> Result<Tree<D>, AllocError>
+        ensures { IfOk result (λ tree. tree ≡ self.now) }
+    {
+        Ok(Tree {
+            disk: self.disk.duplicate(alloc)?,
+            geometry: self.geometry,
+            holds: Vec::from_slice(alloc, self.holds.as_slice())?,
+            failed: self.failed,
+        })
     }
 }
