@@ -29,6 +29,7 @@ ghost use Rattle.vm.specs.Reach.{piece_at};
 ghost use Rattle.unixmodel.specs.Turn.{ready, turn};
 ghost use Rattle.unixmodel.specs.declared.process.Mode.TheVariants.{Ready};
 
+mod duplicate;
 mod idle;
 mod show;
 

@@ -17,6 +17,7 @@ pub use holdings::{Holdings, OpenOn, Opened};
 pub use image_boot::boot;
 pub use inodes::Stat;
 pub use machine::Machine;
+pub use ram::NoMemory;
 pub use seen::{ProcessState, Seen};
 pub use unixmodel::call::Call;
 pub use unixmodel::process::Pending;

@@ -14,6 +14,7 @@ ghost use Rattle.unixmodel.specs.Memory.{Page};
 ghost use Rattle.unixmodel.specs.Shown.{ShowsMemory, shown_bytes, shown_page, shown_process, shown_stat};
 ghost use Rattle.vm.specs.Leaf.{marks_from};
 
+mod copy;
 mod idle;
 mod looks;
 mod save;
