@@ -1,5 +1,5 @@
 -- Lemmas on a console's bytes in its ring.
-use Rattle.std.proofs.Common.{◌≡◌, ◌<◌, ℕ, zero, suc, ◌+◌, ◌-◌, ◌%◌, List, [], length, take, drop, set, refl, sym, ap, ap₂, ◌∙◌, arith}
+use Rattle.std.proofs.Common.{◌≡◌, ◌<◌, ℕ, zero, suc, ◌+◌, ◌++◌, ◌-◌, ◌%◌, List, [], get_or, length, take, drop, set, refl, sym, ap, ap₂, ◌∙◌, arith}
 use Rattle.unixmodel.specs.Console.{commit, with_byte}
 use Rattle.console.specs.Line.{line_of, without_last}
 use Rattle.ring.specs.Ring.{ring}
@@ -30,3 +30,17 @@ line-drop_first xs k (suc c) e h =
     ∙ ap₂ (λ l m. record { committed = l; edited = m })
     (ap (λ i. ring 128 xs i c) z ∙ ring-around 128 xs (k + 1) 0 c ∙ ap (λ i. ring 128 xs i c) y)
     (ring-around 128 xs (k + 1) c e ∙ ap (λ i. ring 128 xs i e) b)
+
+-- the byte at a place of a ring
+byte-ring : (xs : List ℕ) (k n i : ℕ) → i < n → get_or (ring 128 xs k n) i 0 ≡ get_or xs ((k + i) % 128) 0
+unfolding ring
+byte-ring xs k zero i h = absurd (omega arith)
+byte-ring xs k (suc n) zero h =
+    let a : k ≡ k + 0 = omega arith in
+    ap (λ j. get_or xs (j % 128) 0) a
+byte-ring xs k (suc n) (suc i) h =
+    let a : k + 1 + i ≡ k + suc i = omega arith in
+    byte-ring xs (k + 1) n i (omega arith) ∙ ap (λ j. get_or xs (j % 128) 0) a
+
+pub line-byte : (xs : List ℕ) (k c e i : ℕ) → i < c + e → get_or xs ((k + i) % 128) 0 ≡ get_or (ring 128 xs k c ++ ring 128 xs (k + c) e) i 0
+line-byte xs k c e i h = sym (byte-ring xs k (c + e) i h) ∙ ap (λ l. get_or l i 0) (ring-append 128 xs k c e (c + e) refl)

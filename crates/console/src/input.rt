@@ -1,5 +1,5 @@
 //! What is typed at the console, and what a read takes of it.
-ghost use Rattle.std.specs.Prelude.{◌≡◌, ◌+◌, ◌-◌, ◌<◌, ◌≤◌, List, [], length, take, drop, slice_get, false, not, OnOk, OnErr};
+ghost use Rattle.std.specs.Prelude.{◌≡◌, ◌+◌, ◌++◌, ◌-◌, ◌<◌, ◌≤◌, List, [], length, take, drop, slice_get, slice_index, false, not, OnOk, OnErr};
 ghost use Rattle.std.specs.Io.KnownBytes.{Appends};
 ghost use Rattle.unixmodel.specs.Console.{add_byte, key, take_line, is_full, commit, committed_at_end, with_byte};
 ghost use Rattle.unixmodel.specs.Failures.{Rises};
@@ -101,8 +101,15 @@ impl Console {
         self.committed + self.edited == ROOM
     }
 
-    // How many bytes the edited line has.
-    fn edited_len(&self) -> usize
+    /// How many bytes can be read.
+    pub fn committed_len(&self) -> usize
+        ensures { result ≡ length self.now.committed }
+    {
+        self.committed
+    }
+
+    /// How many bytes the edited line has.
+    pub fn edited_len(&self) -> usize
         ensures { result ≡ length self.now.edited }
     {
         self.edited
@@ -199,6 +206,14 @@ impl Console {
         ensures within { length self.now.committed + length self.now.edited ≤ 128 }
     {
         self.committed > 0
+    }
+
+    /// The byte at a place: first come those that can be read, the oldest before the others, then the edited line.
+    pub fn byte(&self, at: usize) -> u8
+        requires { at < length self.now.committed + length self.now.edited }
+        ensures { result ≡ slice_index (self.now.committed ++ self.now.edited) at }
+    {
+        self.places[(self.from + at) % ROOM]
     }
 
     // The first byte that can be read.

@@ -289,8 +289,8 @@ impl<D: BlockDev, T: Translate + Drop> Kernel<D, T> {
         self.leave(at, Mode::Waiting(pending));
     }
 
-    // The process in a place, of the running one with what the hart holds.
-    fn whole(&self, at: usize) -> Option<Process>
+    /// The process in a place, but for its memory; of the running one with what the hart holds.
+    pub fn whole(&self, at: usize) -> Option<Process>
         ensures process { result ≡ slot (loaded self.now).places at }
         ensures within { IfSome result (λ _. at < 64) }
     {

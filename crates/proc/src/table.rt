@@ -302,6 +302,20 @@ impl Table {
         least_above(self.places.as_slice(), after)
     }
 
+    /// The place that was picked last.
+    pub fn last(&self) -> usize
+        ensures { result ≡ self.now.last }
+    {
+        self.last
+    }
+
+    /// The pid that the next process gets.
+    pub fn coming_pid(&self) -> u32
+        ensures { result ≡ self.now.next_pid }
+    {
+        self.next_pid
+    }
+
     // The first place of a child of a process.
     fn first_child(&self, pid: u32) -> Option<usize>
         ensures { result ≡ place_where self.now.places (is_child_of pid) }

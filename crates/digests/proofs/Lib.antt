@@ -1,0 +1,3 @@
+mod Steps
+mod States
+mod Reading

@@ -1,0 +1,88 @@
+-- The parts of a kernel's state, as they go into its digest.
+use Rattle.std.proofs.Common.{◌≡◌, ℕ, ◌+◌, ◌<◌, Bool, false, true, List, [], ◌∷◌, ◌++◌, length, take, Option, None, Some, ap, ap₂, arith, get_or, length-append, refl, subst, sym, ◌∙◌}
+use Rattle.std.specs.Prelude.{is_some, option_map, slice_get, unwrap_or}
+use Rattle.std.proofs.lemmas.List.{take_all}
+use Rattle.std.proofs.lemmas.List.Sums.{fold_more}
+use Rattle.digests.specs.Digest.{bare_mixed, console_mixed, each, front_of, memory_mixed, mix, mixed, page_or_same, place_mixed, status_number}
+use Rattle.digests.proofs.Steps.{each-all}
+use Rattle.kernel.proofs.Shown.{process-state}
+use Rattle.kernel.specs.Kernel.{Kernel, loaded, memory_in, on_hart, state_of}
+use Rattle.proc.specs.declared.process.Process.{Process}
+use Rattle.proc.specs.Places.{Places, changed_at}
+use Rattle.proc.specs.Whole.{with_memory}
+use Rattle.spaces.specs.Spaces.{SpaceView, no_pages}
+use Rattle.unixmodel.specs.Console.{Console}
+use Rattle.unixmodel.specs.Files.{slot}
+use Rattle.unixmodel.specs.Memory.{Memory, Page}
+use Rattle.unixmodel.specs.State.{process_at}
+
+-- ---- processes
+
+-- a page of a memory goes in, if there is one
+abbrev pub pages_step : Memory → ℕ → ℕ → ℕ
+pages_step memory digest n = page_or_same digest (slice_get memory n)
+
+pub no-memory : (o : Option SpaceView) (digest : ℕ) → is_some o ≡ false → mix digest 0 ≡ memory_mixed digest (memory_in o)
+unfolding memory_mixed each
+no-memory None digest none = refl
+no-memory (Some h) digest none = absurd (cc)
+
+pub memory-done : (o : Option SpaceView) (digest now n pages : ℕ) → is_some o ≡ true → pages ≡ length (unwrap_or o no_pages).memory
+    → now ≡ each (pages_step (unwrap_or o no_pages).memory) n (mix digest pages) → n ≡ pages → now ≡ memory_mixed digest (memory_in o)
+unfolding memory_mixed
+memory-done None digest now n pages some count is all = absurd (cc)
+memory-done (Some h) digest now n pages some count is all =
+    each-all (pages_step h.memory) n (length h.memory) (mix digest pages) now is (all ∙ count) ∙ ap (λ k. each (pages_step h.memory) (length h.memory) (mix digest k)) count
+
+place-told : (k : Kernel) (i digest : ℕ) (o : Option Process) → o ≡ slot (loaded k).places i
+    → place_mixed digest (option_map (with_memory (memory_in (slot k.spaces.places i))) o) ≡ place_mixed digest (process_at (state_of k) i)
+place-told k i digest o is = ap (λ (p : Option Process). place_mixed digest (option_map (with_memory (memory_in (slot k.spaces.places i))) p)) is ∙ ap (place_mixed digest) (sym (process-state k i))
+
+pub no-place : (k : Kernel) (i digest : ℕ) → None ≡ slot (loaded k).places i → mix digest 0 ≡ place_mixed digest (process_at (state_of k) i)
+no-place k i digest is = place-told k i digest None is
+
+bare-same : (digest : ℕ) (memory : Memory) (p : Process) → bare_mixed digest (with_memory [] p) ≡ bare_mixed digest (with_memory memory p)
+unfolding bare_mixed
+bare-same digest memory p = refl
+
+place-done : (k : Kernel) (i digest bare now : ℕ) (p : Process) → Some p ≡ slot (loaded k).places i → bare ≡ bare_mixed digest (with_memory [] p) → now ≡ memory_mixed bare (memory_in (slot k.spaces.places i))
+    → now ≡ place_mixed digest (process_at (state_of k) i)
+place-done k i digest bare now p is told all =
+    let memory = memory_in (slot k.spaces.places i) in
+    all ∙ ap (λ d. memory_mixed d memory) (told ∙ bare-same digest memory p) ∙ place-told k i digest (Some p) is
+
+-- at is what the fields show, and k the kernel's value
+pub place-at : (at k : Kernel) → at ≡ k → (i digest bare now : ℕ) (p : Process) → Some p ≡ slot (loaded k).places i → bare ≡ bare_mixed digest (with_memory [] p) → now ≡ memory_mixed bare (memory_in (slot at.spaces.places i))
+    → now ≡ place_mixed digest (process_at (state_of k) i)
+place-at at k same i digest bare now p is told all = place-done k i digest bare now p is told (all ∙ ap (λ (x : Kernel). memory_mixed bare (memory_in (slot x.spaces.places i))) same)
+
+-- ---- the console
+
+abbrev pub typed : Console → List ℕ
+typed c = c.committed ++ c.edited
+
+pub byte-next : (xs : List ℕ) (i digest now next : ℕ) → i < length xs → now ≡ mixed digest (take i xs) → next ≡ mix now (get_or xs i 0) → next ≡ mixed digest (take (i + 1) xs)
+byte-next xs i digest now next low so_far told = told ∙ ap (λ d. mix d (get_or xs i 0)) so_far ∙ sym (fold_more mix digest xs i 0 low)
+
+pub console-done : (c : Console) (digest committed edited now n : ℕ) → committed ≡ length c.committed → edited ≡ length c.edited
+    → now ≡ mixed (mixed digest (committed ∷ edited ∷ [])) (take n (typed c)) → n ≡ committed + edited → now ≡ console_mixed digest c
+unfolding console_mixed
+console-done c digest committed edited now n first second is all =
+    is
+    ∙ ap (λ xs. mixed (mixed digest (committed ∷ edited ∷ [])) xs) (take_all n (typed c) (omega (arith, length-append c.committed c.edited, first, second, all)))
+    ∙ ap₂ (λ a b. mixed (mixed digest (a ∷ b ∷ [])) (typed c)) first second
+
+-- ---- the rest
+
+last-of : (t : Places) (change : Process → Process) (o : Option ℕ) → t.last ≡ (changed_at t change o).last
+last-of t change None = refl
+last-of t change (Some i) = refl
+
+coming-of : (t : Places) (change : Process → Process) (o : Option ℕ) → t.next_pid ≡ (changed_at t change o).next_pid
+coming-of t change None = refl
+coming-of t change (Some i) = refl
+
+pub front-state : (k : Kernel) → (k.ticks ∷ k.table.next_pid ∷ k.table.last ∷ status_number k.halted ∷ []) ≡ front_of (state_of k)
+front-state k =
+    ap (λ n. k.ticks ∷ n ∷ k.table.last ∷ status_number k.halted ∷ []) (coming-of k.table (on_hart k.spaces) k.spaces.active)
+    ∙ ap (λ n. k.ticks ∷ (loaded k).next_pid ∷ n ∷ status_number k.halted ∷ []) (last-of k.table (on_hart k.spaces) k.spaces.active)

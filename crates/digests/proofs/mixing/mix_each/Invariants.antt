@@ -1,0 +1,6 @@
+use Rattle.std.proofs.Common.{◌≡◌, take}
+use Rattle.digests.specs.Digest.{mixed}
+use Rattle.digests.proofs.mixing.mix_each.Given as goal
+
+abbrev pub invariant-loop-byte : goal.invariant-loop-byte
+invariant-loop-byte l = l.digest ≡ mixed l.fn.digest (take l.byte-index l.bytes)

@@ -1,0 +1,6 @@
+use Rattle.std.proofs.Common.{◌≡◌, take}
+use Rattle.digests.specs.Digest.{mixed}
+use Rattle.digests.proofs.mixing.mix_numbers.Given as goal
+
+abbrev pub invariant-loop-number : goal.invariant-loop-number
+invariant-loop-number l = l.digest ≡ mixed l.fn.digest (take l.number-index l.numbers)

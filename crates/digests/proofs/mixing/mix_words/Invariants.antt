@@ -1,0 +1,6 @@
+use Rattle.std.proofs.Common.{◌≡◌}
+use Rattle.digests.specs.Digest.{each, word_mixed}
+use Rattle.digests.proofs.mixing.mix_words.Given as goal
+
+abbrev pub invariant-loop-k : goal.invariant-loop-k
+invariant-loop-k l = l.digest ≡ each (word_mixed l.bytes) l.k l.fn.digest

@@ -1,0 +1,6 @@
+use Rattle.std.proofs.Common.{◌≡◌, take}
+use Rattle.digests.specs.Digest.{descriptors_mixed}
+use Rattle.digests.proofs.processes.mix_descriptors.Given as goal
+
+abbrev pub invariant-loop-descriptor : goal.invariant-loop-descriptor
+invariant-loop-descriptor l = l.digest ≡ descriptors_mixed l.fn.digest (take l.descriptor-index l.descriptors)

@@ -1,0 +1,12 @@
+use Rattle.std.proofs.Common.{sym, ◌∙◌}
+use Rattle.digests.proofs.States.{no-place, place-at}
+use Rattle.kernel.specs.View.{kernel_of}
+use Rattle.digests.proofs.processes.mix_place.Goals as goal
+
+pub returns-in-None : goal.returns-in-None
+returns-in-None g c = c.mix.ensures ∙ no-place c.args.kernel.now c.args.at c.args.digest (sym c.in-None.is ∙ c.whole.ensures.process)
+
+pub returns-in-Some : goal.returns-in-Some
+returns-in-Some g c =
+    place-at (kernel_of c.kernel.inside) c.args.kernel.now c.kernel.view_is c.args.at c.args.digest c.mix_process.result c.mix_memory.result c.in-Some.process
+    (sym c.in-Some.is ∙ c.whole.ensures.process) c.mix_process.ensures c.mix_memory.ensures

@@ -1,0 +1,171 @@
+-- The digest of a state: a number of 64 bits, into which the numbers that make up the state are mixed one after the other.
+-- What no event changes is left out (how many frames and blocks there are), and of devices their minor numbers.
+use Rattle.std.specs.Prelude.{Bool, List, None, Option, Some, [], bit_xor, drop, false, length, slice_get, suc, take, true, zero, ℕ, ℤ, ◌%◌, ◌*◌, ◌++◌, ◌+◌, ◌/◌, ◌^◌, ◌∷◌}
+use Rattle.std.specs.Int.{cast_unsigned, div_ceil, w32}
+use Rattle.std.specs.List.{fold}
+use Rattle.byteorder.specs.Endian.{little_number}
+use Rattle.unixmodel.specs.Console.{Console}
+use Rattle.unixmodel.specs.declared.call.Call.{Call}
+use Rattle.unixmodel.specs.declared.call.Call.TheVariants.{Read, Sleep, Wait, Write}
+use Rattle.unixmodel.specs.declared.process.Mode.{Mode}
+use Rattle.unixmodel.specs.declared.process.Mode.TheVariants.{Ready, Running, Waiting, Zombie}
+use Rattle.unixmodel.specs.Files.{Files, Node, kind_of, links_of, node_bytes, size_of, slot}
+use Rattle.unixmodel.specs.Files.Node.{Device, Directory, File}
+use Rattle.unixmodel.specs.Memory.{Memory, Page}
+use Rattle.unixmodel.specs.OpenFiles.{OpenFile, Target}
+use Rattle.unixmodel.specs.OpenFiles.End.{ReadEnd, WriteEnd}
+use Rattle.unixmodel.specs.OpenFiles.Target.{OnNode, OnPipe}
+use Rattle.unixmodel.specs.Process.{Process}
+use Rattle.unixmodel.specs.Shown.{bytes_or_none}
+use Rattle.unixmodel.specs.State.{State, open_limit, place_limit, process_at}
+
+-- ---- mixing
+
+-- the digest of nothing
+abbrev pub start : ℕ
+start = 0xCBF29CE484222325
+
+-- An odd number, so that no two numbers of 64 bits have the same product in 64 bits.
+abbrev pub factor : ℕ
+factor = 0x9E3779B97F4A7C15
+
+-- the high half goes into the low one too
+abbrev pub folded : ℕ → ℕ
+folded product = bit_xor product (product / 2 ^ 32)
+
+-- one number goes in
+unfoldable pub mix : ℕ → ℕ → ℕ
+mix digest number = folded (bit_xor digest number * factor % 2 ^ 64)
+
+-- numbers go in, one after the other
+abbrev pub mixed : ℕ → List ℕ → ℕ
+mixed digest numbers = fold mix digest numbers
+
+-- n steps, each of which is told its number, from 0 on
+unfoldable pub each : (ℕ → ℕ → ℕ) → ℕ → ℕ → ℕ
+each step zero digest = digest
+each step (suc n) digest = step (each step n digest) n
+
+-- word k of bytes, and all of them in turn
+abbrev pub word_mixed : List ℕ → ℕ → ℕ → ℕ
+word_mixed bytes digest k = mix digest (little_number 8 (drop (8 * k) bytes))
+
+abbrev pub words_mixed : ℕ → List ℕ → ℕ
+words_mixed digest bytes = each (word_mixed bytes) (length bytes / 8) digest
+
+-- bytes go in as words of 8, and what is left behind the last word by itself
+unfoldable pub bytes_mixed : ℕ → List ℕ → ℕ
+bytes_mixed digest bytes = mixed (words_mixed digest bytes) (drop (8 * (length bytes / 8)) bytes)
+
+abbrev pub flag : Bool → ℕ
+flag false = 0
+flag true = 1
+
+-- ---- processes
+
+-- the number of a call that can wait; no other call waits
+abbrev pub waiting_number : Call → ℕ
+waiting_number Wait = 3
+waiting_number Read = 5
+waiting_number Sleep = 13
+waiting_number Write = 16
+waiting_number _ = 0
+
+abbrev pub mode_numbers : Mode → List ℕ
+mode_numbers Running = 1 ∷ []
+mode_numbers Ready = 2 ∷ []
+mode_numbers (Waiting w) = 3 ∷ waiting_number w.number ∷ w.done ∷ w.since ∷ w.args
+mode_numbers (Zombie status) = 4 ∷ cast_unsigned w32 status ∷ []
+
+abbrev pub descriptor_number : Option ℕ → ℕ
+descriptor_number None = 0
+descriptor_number (Some id) = id + 1
+
+abbrev pub descriptors_mixed : ℕ → List (Option ℕ) → ℕ
+descriptors_mixed digest descriptors = fold (λ d o. mix d (descriptor_number o)) digest descriptors
+
+abbrev pub page_mixed : ℕ → Page → ℕ
+page_mixed digest p = bytes_mixed (mixed digest (flag p.marks.writable ∷ flag p.marks.executable ∷ flag p.marks.user ∷ [])) p.bytes
+
+abbrev pub page_or_same : ℕ → Option Page → ℕ
+page_or_same digest None = digest
+page_or_same digest (Some p) = page_mixed digest p
+
+-- a memory: how many pages it has, and each of them
+unfoldable pub memory_mixed : ℕ → Memory → ℕ
+memory_mixed digest memory = each (λ d n. page_or_same d (slice_get memory n)) (length memory) (mix digest (length memory))
+
+abbrev pub front_numbers : Process → List ℕ
+front_numbers p = p.pid ∷ p.parent ∷ p.pc ∷ p.size ∷ p.directory ∷ flag p.killed ∷ []
+
+-- a process, but for its memory
+unfoldable pub bare_mixed : ℕ → Process → ℕ
+bare_mixed digest p = descriptors_mixed (mixed (mixed (mixed digest (front_numbers p)) p.registers) (mode_numbers p.mode)) p.descriptors
+
+abbrev pub place_mixed : ℕ → Option Process → ℕ
+place_mixed digest None = mix digest 0
+place_mixed digest (Some p) = memory_mixed (bare_mixed digest p) p.memory
+
+unfoldable pub places_mixed : ℕ → State → ℕ
+places_mixed digest s = each (λ d i. place_mixed d (process_at s i)) place_limit digest
+
+-- ---- open files, pipes, the console
+
+abbrev pub target_numbers : Target → List ℕ
+target_numbers (OnNode number offset) = 1 ∷ number ∷ offset ∷ []
+target_numbers (OnPipe pipe ReadEnd) = 2 ∷ pipe ∷ []
+target_numbers (OnPipe pipe WriteEnd) = 3 ∷ pipe ∷ []
+
+abbrev pub open_mixed : ℕ → Option OpenFile → ℕ
+open_mixed digest None = mix digest 0
+open_mixed digest (Some f) = mixed (mixed digest (target_numbers f.target)) (flag f.readable ∷ flag f.writable ∷ [])
+
+unfoldable pub opens_mixed : ℕ → List (Option OpenFile) → ℕ
+opens_mixed digest opens = each (λ d n. open_mixed d (slot opens n)) open_limit digest
+
+-- the bytes of a pipe stand between two numbers that are no bytes
+abbrev pub pipe_mixed : ℕ → Option (List ℕ) → ℕ
+pipe_mixed digest None = mix digest 0
+pipe_mixed digest (Some bytes) = mix (mixed (mix digest 0x100) bytes) 0x100
+
+unfoldable pub pipes_mixed : ℕ → List (Option (List ℕ)) → ℕ
+pipes_mixed digest pipes = each (λ d n. pipe_mixed d (slot pipes n)) open_limit digest
+
+unfoldable pub console_mixed : ℕ → Console → ℕ
+console_mixed digest c = mixed (mixed digest (length c.committed ∷ length c.edited ∷ [])) (c.committed ++ c.edited)
+
+-- ---- files
+
+abbrev pub major_of : Node → ℕ
+major_of (File links bytes) = 0
+major_of (Device links major minor) = major
+major_of (Directory links places) = 0
+
+-- the bytes of a node of a size, block by block
+unfoldable pub contents_mixed : ℕ → ℕ → List ℕ → ℕ
+contents_mixed digest size bytes = each (λ d k. bytes_mixed d (take 1024 (drop (1024 * k) bytes))) (div_ceil size 1024) digest
+
+abbrev pub node_mixed : ℕ → Option Node → ℕ
+node_mixed digest None = mix digest 0
+node_mixed digest (Some node) =
+    contents_mixed (mixed digest (kind_of node ∷ links_of node ∷ size_of node ∷ major_of node ∷ [])) (size_of node) (node_bytes node)
+
+-- a disk has at most 8192 numbers
+unfoldable pub files_mixed : ℕ → Files → ℕ
+files_mixed digest files = each (λ d n. node_mixed d (slot files n)) 8192 digest
+
+-- ---- the state
+
+abbrev pub status_number : Option ℤ → ℕ
+status_number None = 0
+status_number (Some status) = cast_unsigned w32 status + 1
+
+abbrev pub front_of : State → List ℕ
+front_of s = s.ticks ∷ s.next_pid ∷ s.last ∷ status_number s.halted ∷ []
+
+-- all but the files
+unfoldable pub digest_but_files : State → ℕ
+digest_but_files s = pipes_mixed (opens_mixed (places_mixed (console_mixed (mixed start (front_of s)) s.console) s) s.opens) s.pipes
+
+unfoldable pub digest_of : State → ℕ
+digest_of s = files_mixed (digest_but_files s) s.files

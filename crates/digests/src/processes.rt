@@ -1,0 +1,138 @@
+//! How processes go into a digest.
+ghost use Rattle.std.specs.Prelude.{◌≡◌, [], slice_get, true};
+ghost use Rattle.digests.specs.Digest.{bare_mixed, descriptor_number, descriptors_mixed, memory_mixed, mixed, mode_numbers, page_or_same, place_mixed, places_mixed, waiting_number};
+ghost use Rattle.kernel.specs.Kernel.{memory_in, state_of};
+ghost use Rattle.proc.specs.Whole.{with_memory};
+ghost use Rattle.spaces.specs.Spaces.{has_space, view_at};
+ghost use Rattle.unixmodel.specs.Files.{slot};
+ghost use Rattle.unixmodel.specs.State.{process_at};
+
+use crate::mixing::{flag, mix, mix_bytes, mix_numbers};
+use blockdev::BlockDev;
+use kernel::Kernel;
+use proc::{PLACES, Process};
+use spaces::Spaces;
+use sv39::Translate;
+use unixmodel::call::Call;
+use unixmodel::process::Mode;
+
+// The number of a call that can wait.
+fn waiting_number(call: Call) -> u64
+    ensures { result ≡ waiting_number call }
+{
+    match call {
+        Call::Wait => 3,
+        Call::Read => 5,
+        Call::Sleep => 13,
+        Call::Write => 16,
+        _ => 0,
+    }
+}
+
+// What a process is doing goes in.
+fn mix_mode(digest: u64, mode: Mode) -> u64
+    ensures { result ≡ mixed digest (mode_numbers mode) }
+{
+    match mode {
+        Mode::Running => mix(digest, 1),
+        Mode::Ready => mix(digest, 2),
+        Mode::Waiting(pending) => {
+            let front = [
+                3,
+                waiting_number(pending.number),
+                pending.done,
+                u64::from(pending.since),
+            ];
+            mix_numbers(mix_numbers(digest, &front), &pending.args)
+        }
+        Mode::Zombie(status) => mix_numbers(digest, &[4, u64::from(status.cast_unsigned())]),
+    }
+}
+
+// What a descriptor names, as a number.
+fn descriptor_number(descriptor: Option<u8>) -> u64
+    ensures { result ≡ descriptor_number descriptor }
+{
+    match descriptor {
+        None => 0,
+        Some(id) => u64::from(id) + 1,
+    }
+}
+
+// What descriptors name goes in.
+fn mix_descriptors(digest: u64, descriptors: &[Option<u8>]) -> u64
+    ensures { result ≡ descriptors_mixed digest descriptors.now }
+{
+    let mut digest = digest;
+    for descriptor in descriptors {
+        digest = mix(digest, descriptor_number(*descriptor));
+    }
+    digest
+}
+
+// A process goes in, but for its memory.
+#[tactic(auto, unfolding(crate::specs::Digest::bare_mixed))]
+fn mix_process(digest: u64, process: &Process) -> u64
+    ensures { result ≡ bare_mixed digest (with_memory [] process.now) }
+{
+    let front = [
+        u64::from(process.pid),
+        u64::from(process.parent),
+        process.pc,
+        process.size,
+        u64::from(process.directory),
+        flag(process.killed),
+    ];
+    let digest = mix_numbers(mix_numbers(digest, &front), &process.registers);
+    mix_descriptors(mix_mode(digest, process.mode), &process.descriptors)
+}
+
+// A page of a place's memory goes in, if there is one with this number.
+fn mix_page<T: Translate + Drop>(digest: u64, spaces: &Spaces<T>, at: usize, n: u64) -> u64
+    requires { has_space spaces.now at ≡ true }
+    ensures { result ≡ page_or_same digest (slice_get (view_at spaces.now at).memory n) }
+{
+    match spaces.page(at, n) {
+        None => digest,
+        Some((bytes, marks)) => {
+            let marks = [flag(marks.w), flag(marks.x), flag(marks.u)];
+            mix_bytes(mix_numbers(digest, &marks), bytes)
+        }
+    }
+}
+
+// The memory of a place goes in.
+fn mix_memory<T: Translate + Drop>(digest: u64, spaces: &Spaces<T>, at: usize) -> u64
+    ensures { result ≡ memory_mixed digest (memory_in (slot spaces.now.places at)) }
+{
+    if !spaces.has_space(at) {
+        return mix(digest, 0);
+    }
+    let pages = spaces.pages(at);
+    let mut digest = mix(digest, pages);
+    for n in 0..pages {
+        digest = mix_page(digest, spaces, at, n);
+    }
+    digest
+}
+
+// The process of a place goes in.
+fn mix_place<D: BlockDev, T: Translate + Drop>(digest: u64, kernel: &Kernel<D, T>, at: usize) -> u64
+    ensures { result ≡ place_mixed digest (process_at (state_of kernel.now) at) }
+{
+    match kernel.whole(at) {
+        None => mix(digest, 0),
+        Some(process) => mix_memory(mix_process(digest, &process), &kernel.spaces, at),
+    }
+}
+
+/// All processes go in.
+pub fn mix_places<D: BlockDev, T: Translate + Drop>(digest: u64, kernel: &Kernel<D, T>) -> u64
+    ensures { result ≡ places_mixed digest (state_of kernel.now) }
+{
+    let mut digest = digest;
+    for at in 0..PLACES {
+        digest = mix_place(digest, kernel, at);
+    }
+    digest
+}

@@ -1,0 +1,55 @@
+//! The digest of all but the files.
+ghost use Rattle.std.specs.Prelude.{◌≡◌, ◌∷◌, []};
+ghost use Rattle.digests.specs.Digest.{digest_but_files, front_of, mixed, start, status_number};
+ghost use Rattle.kernel.specs.Kernel.{state_of};
+
+use crate::mixing::mix_numbers;
+use crate::opened::{mix_console, mix_opens, mix_pipes};
+use crate::processes::mix_places;
+use blockdev::BlockDev;
+use kernel::Kernel;
+use proc::Table;
+use sv39::Translate;
+
+/// The digest of nothing.
+const START: u64 = 0xCBF2_9CE4_8422_2325;
+
+// How process 1 ended, as a number.
+fn status_number(halted: Option<i32>) -> u64
+    ensures { result ≡ status_number halted }
+{
+    match halted {
+        None => 0,
+        Some(status) => u64::from(status.cast_unsigned()) + 1,
+    }
+}
+
+// The numbers that aren't of one process go in first.
+fn mix_counts(ticks: u32, table: &Table, halted: Option<i32>) -> u64
+    ensures { result ≡ mixed start (ticks ∷ table.now.next_pid ∷ table.now.last ∷ status_number halted ∷ []) }
+{
+    let numbers = [
+        u64::from(ticks),
+        u64::from(table.coming_pid()),
+        table.last() as u64,
+        status_number(halted),
+    ];
+    mix_numbers(START, &numbers)
+}
+
+// The same of a kernel.
+fn mix_front<D: BlockDev, T: Translate + Drop>(kernel: &Kernel<D, T>) -> u64
+    ensures { result ≡ mixed start (front_of (state_of kernel.now)) }
+{
+    mix_counts(kernel.ticks, &kernel.table, kernel.halted)
+}
+
+/// The digest of a state, but for its files: they go in by `mix_files`.
+#[tactic(auto, unfolding(crate::specs::Digest::digest_but_files))]
+pub fn digest_but_files<D: BlockDev, T: Translate + Drop>(kernel: &Kernel<D, T>) -> u64
+    ensures { result ≡ digest_but_files (state_of kernel.now) }
+{
+    let digest = mix_console(mix_front(kernel), &kernel.console);
+    let digest = mix_opens(mix_places(digest, kernel), kernel);
+    mix_pipes(digest, kernel)
+}
