@@ -6,12 +6,13 @@ use Rattle.blockdev.specs.declared.DeviceFault.{DeviceFault}
 use Rattle.blockdev.specs.Splice.{part}
 use Rattle.calls.proofs.Served.{disk-lost, serves-disk}
 use Rattle.calls.specs.Gives.{IsLost}
+use Rattle.digests.specs.Digest.{digest_but_files, digest_of, files_mixed}
 use Rattle.inode.specs.declared.InodeStat.{InodeStat}
 use Rattle.kernel.proofs.Holding.{failed-filed}
 use Rattle.kernel.proofs.Steps.{fail-keeps, with-tree}
 use Rattle.kernel.proofs.Wakes.{running-at}
 use Rattle.calls.proofs.Woken.{watched-stop}
-use Rattle.kernel.specs.Kernel.{Kernel, idle}
+use Rattle.kernel.specs.Kernel.{Kernel, idle, state_of}
 use Rattle.kernel.specs.Sound.{IsFiled, IsKernel}
 use Rattle.kernel.specs.View.{Keeps}
 use Rattle.kernel.specs.Watch.{Watches}
@@ -42,6 +43,11 @@ read-shown bytes old new at k count front =
       count = k_is ∙ sym (length-take (length old) (drop at bytes));
       front = front ∙ ap (λ xs. xs ++ drop k old) (ap (λ n. take n (drop at bytes)) k_is ∙ take_min (length old) (drop at bytes));
     }
+
+-- at is what the fields show, and now the kernel's value
+pub digest-told : {but digest : ℕ} (at now : Kernel) → at ≡ now → but ≡ digest_but_files (state_of now) → digest ≡ files_mixed but at.tree.files → digest ≡ digest_of (state_of at)
+unfolding digest_of
+digest-told {digest = digest} at now same but_is is = is ∙ ap (λ d. files_mixed d at.tree.files) (but_is ∙ ap (λ (k : Kernel). digest_but_files (state_of k)) (sym same))
 
 -- ---- where the device fails
 

@@ -38,8 +38,8 @@ fn told(seen: Option<InodeStat>) -> Option<Stat>
     }
 }
 
-// The process that runs, if one does, runs no more, since an access of the device has failed.
-fn stop_running<T: Translate + Drop>(table: &mut Table, spaces: &mut Spaces<T>)
+/// The process that runs, if one does, runs no more, since an access of the device has failed.
+pub(crate) fn stop_running<T: Translate + Drop>(table: &mut Table, spaces: &mut Spaces<T>)
     ensures table { table.new ≡ stopped_in table.old spaces.old spaces.old.active }
     ensures spaces { spaces.new ≡ idle spaces.old }
 {

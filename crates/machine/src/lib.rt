@@ -1,6 +1,7 @@
 //! The machine: a pure function from events to the console's bytes, the state of every process and the disk.
 #![tactic(auto)]
 
+mod digest;
 mod fault;
 mod flat_boot;
 mod holdings;

@@ -1,14 +1,19 @@
-//! What a machine tells of what its processes hold: their descriptors, the open files and the pipes.
+//! What a machine tells of what its processes hold: their descriptors, the open files and the pipes; and a number that stands for all
+//! of its state.
 ghost use Rattle.std.specs.Prelude.{◌≡◌, ◌++◌, IfSome, false, is_some, option_map};
+ghost use Rattle.digests.specs.Digest.{digest_of};
 ghost use Rattle.kernel.specs.Shows.{descriptors_on};
 ghost use Rattle.machine.specs.Holdings.{IsOfKind, file_told, holdings_of};
+ghost use Rattle.machine.specs.Looks.{LookGives};
 ghost use Rattle.proc.specs.Next.{IsNextOf};
 ghost use Rattle.unixmodel.specs.Files.{slot};
 ghost use Rattle.unixmodel.specs.Shown.{shown_process};
 
+use crate::digest::digest_kernel;
 use crate::holdings::{Holdings, Opened, described, held};
 use crate::machine::Machine;
 use blockdev::BlockDev;
+use calls::Halt;
 use sv39::Translate;
 
 impl<D: BlockDev, T: Translate + Drop> Machine<D, T> {
@@ -45,5 +50,20 @@ impl<D: BlockDev, T: Translate + Drop> Machine<D, T> {
         ensures { option_map (λ r. r.0.now ++ r.1.now) result ≡ slot self.now.state.pipes number }
     {
         self.kernel.pipe(number)
+    }
+
+    /// A number that is made of the whole state and of nothing else: machines of equal states have equal digests, whatever their
+    /// translators hold and wherever their pages and blocks lie. Other states have another digest but by chance, of one in 2^64 where
+    /// nobody looks for such states; minor numbers of devices, and how many frames and blocks there are, don't go in. `Device`: an
+    /// access of the device failed, as at a step.
+    pub fn digest(&mut self) -> Result<u64, Halt>
+        ensures { LookGives self.old self.new (λ digest. digest ≡ digest_of self.old.state) result }
+    {
+        if self.failed {
+            return Err(Halt::Halted);
+        }
+        let digest = digest_kernel(&mut self.kernel);
+        self.failed = digest.is_err();
+        Ok(digest?)
     }
 }

@@ -1,0 +1,29 @@
+//! The digest of a machine's state.
+ghost use Rattle.std.specs.Prelude.{◌≡◌, false};
+ghost use Rattle.calls.specs.Reads.{ReadsDisk};
+ghost use Rattle.digests.specs.Digest.{digest_of};
+ghost use Rattle.kernel.specs.Kernel.{state_of};
+
+use crate::inodes::stop_running;
+use blockdev::{BlockDev, DeviceFault};
+use calls::Kernel;
+use digests::{digest_but_files, mix_files};
+use sv39::Translate;
+
+/// The digest of the state, whose files are read from the device.
+pub fn digest_kernel<D: BlockDev, T: Translate + Drop>(
+    kernel: &mut Kernel<D, T>,
+) -> Result<u64, DeviceFault>
+    requires { kernel.old.tree.failed ≡ false }
+    ensures { ReadsDisk kernel.old kernel.new (λ digest. digest ≡ digest_of (state_of kernel.old)) result }
+{
+    kernel.is_sound();
+    let but_files = digest_but_files(kernel);
+    match mix_files(but_files, &mut kernel.tree) {
+        Ok(digest) => Ok(digest),
+        Err(fault) => {
+            stop_running(&mut kernel.table, &mut kernel.spaces);
+            Err(fault)
+        }
+    }
+}
