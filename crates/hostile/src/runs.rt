@@ -4,7 +4,7 @@ use console::Writer;
 use machine::{Halt, Machine, boot_flat_with};
 use std::alloc::Global;
 use std::cell::Cell;
-use sv39::{Plain, Tlb, Translate};
+use sv39::{Plain, Recent, Tlb, Translate};
 use translators::{Counting, MOST_PAGES, Noting};
 use unixmodel::event::Event;
 
@@ -128,6 +128,8 @@ pub fn run_over_each(alloc: Global, program: &[u8], keys: &[u8]) -> Option<Run<P
     let (fetches, fences) = (Cell::new(0), Cell::new(0));
     let counting = Counting::new(&fetches, &fences);
     let same = is_like(alloc, program, keys, &first, Tlb::<64>::new())
+        && is_like(alloc, program, keys, &first, Recent::new(Plain::new()))
+        && is_like(alloc, program, keys, &first, Recent::new(Tlb::<64>::new()))
         && is_like(alloc, program, keys, &first, Noting::new(alloc, 0))
         && is_like(alloc, program, keys, &first, Noting::new(alloc, MOST_PAGES))
         && is_like(alloc, program, keys, &first, counting);

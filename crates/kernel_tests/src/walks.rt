@@ -4,8 +4,10 @@ use bitflags::Flags;
 use ram::{FrameNo, Ram};
 use std::process::Abort;
 use sv39::{
-    Access, BASE, EntryBits, Plain, Pte, Tlb, Translate, Turn, walk, walk_counted, walk_page,
+    Access, BASE, EntryBits, Plain, Pte, Recent, Tlb, Translate, Turn, walk, walk_counted,
+    walk_page,
 };
+use translators::Noting;
 
 // Addresses, accesses, and the places that these have in memory.
 const ADDRESSES: [(u64, Access, Option<u64>); 10] = [
@@ -46,12 +48,37 @@ fn is_answer(ram: &Ram, plain: &mut Plain, va: u64, access: Access, want: Option
     walked == want && translated == want && looked_up == want
 }
 
+// Whether one that remembers what this translator answers says so, after a fence.
+fn is_recalled<T: Translate + Drop>(
+    ram: &Ram,
+    below: T,
+    va: u64,
+    access: Access,
+    want: Option<u64>,
+) -> bool {
+    let mut recent = Recent::new(below);
+    recent.fence();
+    recent.translate(ram, FrameNo(0), va, access).ok() == want
+}
+
 #[test]
 fn addresses_are_translated(rt: HostRuntime) {
     let ram = by_hand(&rt);
     let mut plain = Plain::new();
     for (va, access, want) in ADDRESSES {
         assert!(rt; is_answer(&ram, &mut plain, va, access, want), "at {va}");
+    }
+}
+
+#[test]
+fn answers_are_those_of_the_translator_below(rt: HostRuntime) {
+    let ram = by_hand(&rt);
+    let alloc = rt.alloc();
+    for (va, access, want) in ADDRESSES {
+        let same = is_recalled(&ram, Plain::new(), va, access, want)
+            && is_recalled(&ram, Tlb::<64>::new(), va, access, want)
+            && is_recalled(&ram, Noting::new(alloc, 0), va, access, want);
+        assert!(rt; same, "at {va}");
     }
 }
 

@@ -11,7 +11,7 @@ use machine::{Halt, Perm, ProcessState, boot_flat, boot_flat_with};
 use ram::{FrameNo, Ram};
 use std::alloc::Global;
 use std::cell::Cell;
-use sv39::{Plain, Tlb, Translate};
+use sv39::{Plain, Recent, Tlb, Translate};
 use translators::Counting;
 use unixmodel::event::Event;
 use unixmodel::trap::Access;
@@ -196,6 +196,18 @@ fn each_fetch_is_translated_and_no_step_fences(rt: HostRuntime) {
     let done = machine.run(&[Event::Step; 1], &mut out);
     holds_at(&rt, 2, done == Err(Halt::InitEnded(0)));
     holds_at(&rt, 3, fetches.get() == 8);
+}
+
+// These eight fetches are of one page: over a translator that remembers its answers they are one.
+#[test]
+fn fetches_of_one_page_are_asked_for_once(rt: HostRuntime) {
+    let (fetches, fences) = (Cell::new(0), Cell::new(0));
+    let recent = Recent::new(Counting::new(&fetches, &fences));
+    let mut machine = boot_flat_with(rt.alloc(), &BYTES, recent, 64).expect(&rt, "a machine");
+    let mut out = Writer::new(Vec::new(rt.alloc()));
+    let done = machine.run(&[Event::Step; 9], &mut out);
+    holds_at(&rt, 0, done == Err(Halt::InitEnded(0)));
+    holds_at(&rt, 1, fetches.get() == 1 && fences.get() > 0);
 }
 
 // A leaf for all pages from page 0 on, in frame 0 and those after it: it may be read, written and executed.

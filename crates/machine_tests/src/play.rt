@@ -10,7 +10,7 @@ use std::cell::Cell;
 use std::io;
 use std::io::Write;
 use std::process::Abort;
-use sv39::{Plain, Tlb, Translate, walk};
+use sv39::{Plain, Recent, Tlb, Translate, walk};
 use translators::{Counting, MOST_PAGES, Noting};
 use unixmodel::event::Event;
 use unixmodel::trap::Access;
@@ -631,6 +631,7 @@ fn run_over_each(
     let alloc = rt.alloc();
     run_over(rt, program, Plain::new(), size, acts, text);
     run_over(rt, program, Tlb::<64>::new(), size, acts, text);
+    run_over(rt, program, Recent::new(Plain::new()), size, acts, text);
     run_over(rt, program, Noting::new(alloc, 0), size, acts, text);
     run_over(
         rt,
