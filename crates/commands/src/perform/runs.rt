@@ -20,7 +20,7 @@ use live::{Nobody, Watch};
 use machine::{BootFault, Halt, Machine, boot, boot_flat_with};
 use std::alloc::Global;
 use std::io::Write;
-use sv39::{Plain, Tlb, Translate};
+use sv39::{Plain, Recent, Tlb, Translate};
 use texts::Command;
 
 /// How much of a flat program is read: a byte more than the largest memory has, so that what is cut off can't boot either.
@@ -183,10 +183,10 @@ fn flat_over<'a, W: Write>(
 ) -> Result<End, Failure<'a>> {
     let frames = words.frames;
     let ended = if words.tlb {
-        let cache = Tlb::<64>::new();
+        let cache = Recent::new(Tlb::<64>::new());
         run_flat(alloc, program, cache, frames, script, &mut Nobody, stdout)
     } else {
-        let plain = Plain::new();
+        let plain = Recent::new(Plain::new());
         run_flat(alloc, program, plain, frames, script, &mut Nobody, stdout)
     };
     match ended {
@@ -245,10 +245,10 @@ fn run_over<'a, W: Write>(
     stdout: &mut W,
 ) -> Result<(End, Option<MemDisk>), Failure<'a>> {
     let ran = if words.tlb {
-        let cache = Tlb::<64>::new();
+        let cache = Recent::new(Tlb::<64>::new());
         run_with(alloc, disk, cache, &words, script, &mut Nobody, stdout)
     } else {
-        let plain = Plain::new();
+        let plain = Recent::new(Plain::new());
         run_with(alloc, disk, plain, &words, script, &mut Nobody, stdout)
     };
     match ran {
