@@ -5,6 +5,7 @@
 mod directory;
 mod found;
 mod getting;
+mod missing;
 mod opening_fault;
 mod program;
 mod putting;
@@ -12,6 +13,7 @@ mod walk;
 
 pub use directory::{ListingFault, write_directory};
 pub use getting::read_file;
+pub use missing::{Missing, first_missing};
 pub use opening_fault::OpeningFault;
 pub use program::{ProgramFault, segments, write_program};
 pub use putting::write_file;
