@@ -42,12 +42,13 @@ fn step<D: BlockDev, T: Translate + Drop, V: Watch, W: Out>(
 }
 
 // Writes out the console's bytes where a batch of events begins. What the writer doesn't take then it keeps back, and is asked again.
-fn write_out_at<W: Write>(made: u32, out: &mut Writer<W>)
+fn write_out_at<V: Watch, W: Write>(event: Event, made: u32, watch: &mut V, out: &mut Writer<W>)
     ensures kept { Keeps (W.contents out.old.inner) (W.contents out.new.inner) }
     ensures later { out.old.failed ≤ out.new.failed }
 {
     if made % BATCH == 0 {
         let _ = out.flush();
+        watch.written_out(event, made);
     }
 }
 
@@ -64,9 +65,10 @@ fn repeat<D: BlockDev, T: Translate + Drop, V: Watch, W: Write>(
     ensures later { out.old.failed ≤ out.new.failed }
 {
     for made in 0..times {
-        write_out_at(made, out);
+        write_out_at(event, made, watch, out);
         step(machine, event, watch, out)?;
     }
+    watch.repeated(event, times);
     Ok(())
 }
 

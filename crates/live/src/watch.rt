@@ -18,6 +18,14 @@ pub trait Watch {
         ended: Result<(), Halt>,
     );
 
+    /// The console's bytes were written out, before this event that comes again and again, and came so many times so far.
+    #[inline]
+    fn written_out(&mut self, _event: Event, _made: u32) {}
+
+    /// This event came so many times, one after the other, and no more.
+    #[inline]
+    fn repeated(&mut self, _event: Event, _times: u32) {}
+
     /// No more events come.
     fn end<D: BlockDev, T: Translate + Drop>(&mut self, machine: &Machine<D, T>);
 }
