@@ -143,12 +143,13 @@ fn is_reached<D: BlockDev, T: Translate + Drop, W: Write>(
 }
 
 // Writes out the console's bytes where a batch of steps begins.
-fn write_out_at<W: Write>(made: u32, out: &mut Tail<W>)
+fn write_out_at<V: Watch, W: Write>(made: u32, watch: &mut V, out: &mut Tail<W>)
     ensures kept { Keeps (W.contents out.old.out.inner) (W.contents out.new.out.inner) }
     ensures later { out.old.out.failed ≤ out.new.out.failed }
 {
     if made % BATCH == 0 {
         out.flush();
+        watch.written_out(Event::Step, made);
     }
 }
 
@@ -167,11 +168,13 @@ fn walk<D: BlockDev, T: Translate + Drop, R: Record, V: Watch, W: Write>(
 {
     for made in 0..most {
         if is_reached(machine, goal, out) {
+            watch.repeated(Event::Step, made);
             return Ok(true);
         }
-        write_out_at(made, out);
+        write_out_at(made, watch, out);
         pace(machine, clock, keeper, watch, out)?;
     }
+    watch.repeated(Event::Step, most);
     Ok(is_reached(machine, goal, out))
 }
 
