@@ -15,8 +15,6 @@ mod pipes;
 mod quoting;
 mod rows;
 mod spans;
-#[cfg(test)]
-mod tests;
 mod tracing;
 mod wishes;
 

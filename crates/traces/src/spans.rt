@@ -55,6 +55,29 @@ pub struct Point {
     pub lane: u8,
 }
 
+/// What passed between two moments.
+#[derive(Clone, Copy)]
+pub struct Period {
+    pub since: u64,
+    pub until: u64,
+}
+
+impl Period {
+    // How long it lasted.
+    fn length(self) -> u64 {
+        self.until.saturating_sub(self.since)
+    }
+}
+
+/// A call that was answered, or ended with its process.
+#[derive(Clone, Copy)]
+pub struct Done<'a> {
+    pub number: u32,
+    pub period: Period,
+    pub text: &'a str,
+    pub answer: Option<i64>,
+}
+
 /// An event of the trace.
 #[derive(Clone, Copy)]
 pub enum Span<'a> {
@@ -70,17 +93,12 @@ pub enum Span<'a> {
     /// A process had the hart.
     Runs {
         pid: u32,
-        since: u64,
-        until: u64,
+        period: Period,
     },
-    /// A call that was answered, or ended with its process.
+    /// A call of a process.
     Call {
         pid: u32,
-        number: u32,
-        since: u64,
-        until: u64,
-        text: &'a str,
-        answer: Option<i64>,
+        done: Done<'a>,
     },
     /// A call that was not answered.
     Open {
@@ -145,25 +163,41 @@ fn write_arrow<W: fmt::Write>(
     )
 }
 
+// What is told of a process at any time: its name.
+fn write_name<W: fmt::Write>(f: &mut fmt::Formatter<W>, pid: u32, name: &[u8]) -> fmt::Result {
+    let name = Spelled(name);
+    write!(
+        f,
+        "{{\"ph\":\"M\",\"name\":\"process_name\",\"pid\":{pid},\"args\":{{\"name\":\"{name}\"}}}}"
+    )
+}
+
 // A call's slice, with its text and its answer.
-fn write_call<W: fmt::Write>(
-    f: &mut fmt::Formatter<W>,
-    pid: u32,
-    number: u32,
-    (since, until): (u64, u64),
-    text: &str,
-    answer: Option<i64>,
-) -> fmt::Result {
-    let (name, text) = (CallName(number), Escaped(text));
-    let lasts = until.saturating_sub(since);
+fn write_call<W: fmt::Write>(f: &mut fmt::Formatter<W>, pid: u32, done: Done<'_>) -> fmt::Result {
+    let (name, text) = (CallName(done.number), Escaped(done.text));
+    let (since, lasts) = (done.period.since, done.period.length());
     write!(
         f,
         "{{\"ph\":\"X\",\"cat\":\"call\",\"name\":\"{name}\",\"ts\":{since},\"dur\":{lasts},\"pid\":{pid},\"tid\":{CALLS},\"args\":{{\"call\":\"{name}({text})\","
     )?;
-    match answer {
+    match done.answer {
         Some(answer) => write!(f, "\"answer\":\"{answer}\"}}}}"),
         None => f.write_str("\"answer\":\"?\"}}"),
     }
+}
+
+// A call that has a beginning alone.
+fn write_open<W: fmt::Write>(
+    f: &mut fmt::Formatter<W>,
+    pid: u32,
+    number: u32,
+    since: u64,
+) -> fmt::Result {
+    let name = CallName(number);
+    write!(
+        f,
+        "{{\"ph\":\"B\",\"cat\":\"call\",\"name\":\"{name}\",\"ts\":{since},\"pid\":{pid},\"tid\":{CALLS}}}"
+    )
 }
 
 // What is told once of a process.
@@ -174,7 +208,28 @@ fn write_lanes<W: fmt::Write>(f: &mut fmt::Formatter<W>, pid: u32) -> fmt::Resul
     )
 }
 
+// How many bytes a pipe has.
+fn write_level<W: fmt::Write>(
+    f: &mut fmt::Formatter<W>,
+    pipe: usize,
+    at: u64,
+    bytes: usize,
+) -> fmt::Result {
+    write!(
+        f,
+        "{{\"ph\":\"C\",\"name\":\"pipe {pipe}\",\"ts\":{at},\"pid\":0,\"args\":{{\"bytes\":{bytes}}}}}"
+    )
+}
+
 // A moment of the whole machine.
+fn write_tick<W: fmt::Write>(f: &mut fmt::Formatter<W>, at: u64) -> fmt::Result {
+    write!(
+        f,
+        "{{\"ph\":\"i\",\"s\":\"g\",\"name\":\"tick\",\"ts\":{at},\"pid\":0,\"tid\":0}}"
+    )
+}
+
+// The same, with the typed byte.
 fn write_key<W: fmt::Write>(f: &mut fmt::Formatter<W>, at: u64, key: u8) -> fmt::Result {
     let bytes = [key];
     let typed = Spelled(&bytes);
@@ -184,78 +239,56 @@ fn write_key<W: fmt::Write>(f: &mut fmt::Formatter<W>, at: u64, key: u8) -> fmt:
     )
 }
 
-// A slice of a lane.
-fn write_slice<W: fmt::Write>(
+// A moment at which a process faulted.
+fn write_fault<W: fmt::Write>(
     f: &mut fmt::Formatter<W>,
-    (category, name): (&str, &str),
-    (since, until): (u64, u64),
     pid: u32,
-    lane: u8,
+    at: u64,
+    fault: FaultText,
 ) -> fmt::Result {
-    let lasts = until.saturating_sub(since);
     write!(
         f,
-        "{{\"ph\":\"X\",\"cat\":\"{category}\",\"name\":\"{name}\",\"ts\":{since},\"dur\":{lasts},\"pid\":{pid},\"tid\":{lane}}}"
+        "{{\"ph\":\"i\",\"s\":\"t\",\"name\":\"{fault}\",\"ts\":{at},\"pid\":{pid},\"tid\":{HART}}}"
+    )
+}
+
+// A slice of the lane of the hart.
+fn write_run<W: fmt::Write>(f: &mut fmt::Formatter<W>, pid: u32, period: Period) -> fmt::Result {
+    let (since, lasts) = (period.since, period.length());
+    write!(
+        f,
+        "{{\"ph\":\"X\",\"cat\":\"hart\",\"name\":\"runs\",\"ts\":{since},\"dur\":{lasts},\"pid\":{pid},\"tid\":{HART}}}"
+    )
+}
+
+// A slice of one microsecond in the lane of calls.
+fn write_moment<W: fmt::Write>(
+    f: &mut fmt::Formatter<W>,
+    pid: u32,
+    name: &str,
+    at: u64,
+) -> fmt::Result {
+    write!(
+        f,
+        "{{\"ph\":\"X\",\"cat\":\"life\",\"name\":\"{name}\",\"ts\":{at},\"dur\":1,\"pid\":{pid},\"tid\":{CALLS}}}"
     )
 }
 
 impl fmt::Display for Span<'_> {
     fn fmt<W: fmt::Write>(&self, f: &mut fmt::Formatter<W>) -> fmt::Result {
         match *self {
-            Span::Name { pid, name } => {
-                let name = Spelled(name);
-                write!(
-                    f,
-                    "{{\"ph\":\"M\",\"name\":\"process_name\",\"pid\":{pid},\"args\":{{\"name\":\"{name}\"}}}}"
-                )
-            }
+            Span::Name { pid, name } => write_name(f, pid, name),
             Span::Lanes { pid } => write_lanes(f, pid),
-            Span::Runs { pid, since, until } => write_slice(
-                f,
-                ("hart", "runs"),
-                (since, until),
-                pid,
-                HART,
-            ),
-            Span::Call {
-                pid,
-                number,
-                since,
-                until,
-                text,
-                answer,
-            } => { write_call(f, pid, number, (since, until), text, answer) }
-            Span::Open { pid, number, since } => {
-                let name = CallName(number);
-                write!(
-                    f,
-                    "{{\"ph\":\"B\",\"cat\":\"call\",\"name\":\"{name}\",\"ts\":{since},\"pid\":{pid},\"tid\":{CALLS}}}"
-                )
-            }
-            Span::Moment { pid, name, at } => {
-                write_slice(f, ("life", name), (at, at.saturating_add(1)), pid, CALLS)
-            }
+            Span::Runs { pid, period } => write_run(f, pid, period),
+            Span::Call { pid, done } => write_call(f, pid, done),
+            Span::Open { pid, number, since } => write_open(f, pid, number, since),
+            Span::Moment { pid, name, at } => write_moment(f, pid, name, at),
             Span::From { arrow, id, point } => write_arrow(f, "\"s\"", arrow, id, point),
             Span::To { arrow, id, point } => write_arrow(f, "\"f\",\"bp\":\"e\"", arrow, id, point),
-            Span::Level { pipe, at, bytes } => {
-                write!(
-                    f,
-                    "{{\"ph\":\"C\",\"name\":\"pipe {pipe}\",\"ts\":{at},\"pid\":0,\"args\":{{\"bytes\":{bytes}}}}}"
-                )
-            }
-            Span::Tick { at } => {
-                write!(
-                    f,
-                    "{{\"ph\":\"i\",\"s\":\"g\",\"name\":\"tick\",\"ts\":{at},\"pid\":0,\"tid\":0}}"
-                )
-            }
+            Span::Level { pipe, at, bytes } => write_level(f, pipe, at, bytes),
+            Span::Tick { at } => write_tick(f, at),
             Span::Key { at, key } => write_key(f, at, key),
-            Span::Fault { pid, at, fault } => {
-                write!(
-                    f,
-                    "{{\"ph\":\"i\",\"s\":\"t\",\"name\":\"{fault}\",\"ts\":{at},\"pid\":{pid},\"tid\":{HART}}}"
-                )
-            }
+            Span::Fault { pid, at, fault } => write_fault(f, pid, at, fault),
         }
     }
 }

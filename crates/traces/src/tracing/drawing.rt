@@ -4,7 +4,7 @@ use super::{MOST_PIPES, MOST_PROCESSES, Tracer};
 use crate::call_text::Asked;
 use crate::lanes::Doing;
 use crate::pen::{Form, Sinks};
-use crate::spans::{Arrow, CALLS, HEAD, Next, Point, Span, TAIL};
+use crate::spans::{Arrow, CALLS, Done, HEAD, Next, Period, Point, Span, TAIL};
 use blockdev::BlockDev;
 use machine::Machine;
 use sv39::Translate;
@@ -54,8 +54,11 @@ impl<S: Sinks + Drop> Tracer<S> {
             Some(lane) => lane.since,
             None => return,
         };
-        let until = self.number();
-        self.draw(pid, Span::Runs { pid, since, until });
+        let period = Period {
+            since,
+            until: self.number(),
+        };
+        self.draw(pid, Span::Runs { pid, period });
     }
 
     // Writes the slice of a call.
@@ -68,15 +71,17 @@ impl<S: Sinks + Drop> Tracer<S> {
         if write!(self.whole, "{text}").is_err() {
             return self.pen.starve();
         }
-        let span = Span::Call {
-            pid: asked.pid,
+        let done = Done {
             number: asked.number,
-            since: asked.at,
-            until: self.at.saturating_add(1),
+            period: Period {
+                since: asked.at,
+                until: self.at.saturating_add(1),
+            },
             text: self.whole.as_str(),
             answer,
         };
-        self.pen.put(Form::Spans, &Next(span));
+        let pid = asked.pid;
+        self.pen.put(Form::Spans, &Next(Span::Call { pid, done }));
     }
 
     // Writes an arrow.
@@ -182,8 +187,8 @@ impl<S: Sinks + Drop> Tracer<S> {
         };
         if self.wanted.pid.unwrap_or(pid) == pid {
             let until = self.at.max(since);
-            self.pen
-                .put(Form::Spans, &Next(Span::Runs { pid, since, until }));
+            let period = Period { since, until };
+            self.pen.put(Form::Spans, &Next(Span::Runs { pid, period }));
         }
     }
 
