@@ -73,12 +73,12 @@ letter_rule name letter = record (new_rule name) { long = Some name; short = Som
 abbrev pub boot_options : App → App
 boot_options app = with_rule (with_rule app (number_rule (codes "frames") (codes "256"))) (flag_rule (codes "tlb"))
 
--- [--report] [--json FILE] [--registers PID] [--memory PID] [--status]
+-- [--report] [--json FILE] [--registers PID] [--memory PID] [--status] [--progress]
 abbrev pub telling_options : App → App
 telling_options app =
-    with_rule (with_rule (with_rule (with_rule (with_rule app
+    with_rule (with_rule (with_rule (with_rule (with_rule (with_rule app
     (flag_rule (codes "report"))) (option_rule (codes "json"))) (count_rule (codes "registers"))) (count_rule (codes "memory")))
-    (flag_rule (codes "status"))
+    (flag_rule (codes "status"))) (flag_rule (codes "progress"))
 
 -- [--explain]
 abbrev pub explained : App → App
@@ -244,6 +244,7 @@ pub record IsTelling (found : List Row) (telling : Telling) : Type 0 where
   pub registers : IsCount (codes "registers") found telling.registers
   pub memory : IsCount (codes "memory") found telling.memory
   pub status : IsFlag (codes "status") found telling.status
+  pub progress : IsFlag (codes "progress") found telling.progress
 
 pub record IsFlat (found : List Row) (flat : Flat) : Type 0 where
   pub frames : IsWritten (codes "frames") found flat.frames

@@ -173,12 +173,14 @@ fn telling<'a>(found: &ArgMatches<'a>) -> Option<Telling<'a>>
         return None;
     };
     let status = flag_found(found, "status");
+    let progress = flag_found(found, "progress");
     Some(Telling {
         report,
         json,
         registers,
         memory,
         status,
+        progress,
     })
 }
 

@@ -51,6 +51,10 @@ What a run does is shown call by call, and what the machine is at its end:
 xv6 trace disk.img script.txt
 xv6 run --report disk.img script.txt
 
+A long run tells on a terminal how far it is:
+
+xv6 run --progress disk.img script.txt
+
 A play waits for what the machine prints, and for idle machines, where a script counts steps:
 
     until \"$ \" 10000000
@@ -166,6 +170,12 @@ const STATUS: Word<'static> = Word {
     help: "Exits with the low eight bits of process 1's status, where it has ended",
 };
 
+const PROGRESS: Word<'static> = Word {
+    name: "progress",
+    given: Given::Flag,
+    help: "Tells on a terminal how many steps are done; `live` and `play` do so by themselves",
+};
+
 const EXPLAIN: Word<'static> = Word {
     name: "explain",
     given: Given::Flag,
@@ -196,7 +206,7 @@ const PROGRAM_FILE: Word<'static> = Word {
     help: "The program's file",
 };
 
-const FLAT: [Word<'static>; 10] = [
+const FLAT: [Word<'static>; 11] = [
     FRAMES,
     TLB,
     REPORT,
@@ -204,6 +214,7 @@ const FLAT: [Word<'static>; 10] = [
     REGISTERS,
     MEMORY,
     STATUS,
+    PROGRESS,
     EXPLAIN,
     Word {
         name: "FILE",
@@ -213,11 +224,12 @@ const FLAT: [Word<'static>; 10] = [
     SCRIPT,
 ];
 
-const RUN: [Word<'static>; 12] = [
-    FRAMES, TLB, FAIL, SAVE, REPORT, JSON, REGISTERS, MEMORY, STATUS, EXPLAIN, BOOTED, SCRIPT,
+const RUN: [Word<'static>; 13] = [
+    FRAMES, TLB, FAIL, SAVE, REPORT, JSON, REGISTERS, MEMORY, STATUS, PROGRESS, EXPLAIN, BOOTED,
+    SCRIPT,
 ];
 
-const TRACE: [Word<'static>; 24] = [
+const TRACE: [Word<'static>; 25] = [
     FRAMES,
     TLB,
     FAIL,
@@ -227,6 +239,7 @@ const TRACE: [Word<'static>; 24] = [
     REGISTERS,
     MEMORY,
     STATUS,
+    PROGRESS,
     EXPLAIN,
     Word {
         name: "pid",
@@ -292,7 +305,7 @@ const TRACE: [Word<'static>; 24] = [
     SCRIPT,
 ];
 
-const PLAY: [Word<'static>; 13] = [
+const PLAY: [Word<'static>; 14] = [
     FRAMES,
     TLB,
     FAIL,
@@ -302,6 +315,7 @@ const PLAY: [Word<'static>; 13] = [
     REGISTERS,
     MEMORY,
     STATUS,
+    PROGRESS,
     EXPLAIN,
     Word {
         name: "script",

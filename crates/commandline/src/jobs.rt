@@ -46,6 +46,8 @@ pub struct Telling<'a> {
     pub memory: Option<NonZeroU64>,
     /// Whether the status to exit with is that of process 1.
     pub status: bool,
+    /// Whether it is told on a terminal how many steps are done.
+    pub progress: bool,
 }
 
 /// The words of the command `flat`.

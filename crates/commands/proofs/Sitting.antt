@@ -1,16 +1,17 @@
--- How a session ends whose bytes are written out.
+-- How a session ends whose bytes are written out, and how a play does.
 use Rattle.std.proofs.Common.{◌≡◌, ◌≢◌, ◌∙◌, ℕ, Bool, List, [], Option, Result, Ok, Err, true, false, append-nil, arith, inl, inr, refl, subst, sym, suc, zero}
 use Rattle.std.specs.Io.KnownBytes.{Keeps}
 use Rattle.calls.specs.declared.halt.Halt.{Halt}
 use Rattle.calls.specs.declared.halt.Halt.TheVariants as halt
 use Rattle.commands.proofs.Ends.{plays-through}
 use Rattle.commands.specs.Reports.{end_of}
-use Rattle.commands.specs.Seats.{AreOf, IsLeft, SitsOut}
+use Rattle.commands.specs.Seats.{AreOf, IsLeft, PlayedOut, SitsOut}
 use Rattle.commands.specs.declared.report.End.{End}
 use Rattle.commands.specs.declared.report.End.TheVariants.{Halted}
 use Rattle.live.specs.declared.terminal.Given.{Given}
 use Rattle.live.specs.Sessions.{Ends, Follows, IsSession}
 use Rattle.machine.specs.View.{IsUp, View}
+use Rattle.player.specs.Played.{IsPlayed}
 use Rattle.unixmodel.specs.declared.event.Event.{Event}
 use Rattle.unixmodel.specs.Failures.{Rises}
 
@@ -52,3 +53,20 @@ module _ {quantum : ℕ} {gives later : Option (List Given)} {kept keeps : Optio
       by-count : (n : ℕ) → fails ≡ n → SitsOut quantum gives later kept keeps old new before after end
       by-count zero is = subst (λ (x : End). SitsOut quantum gives later kept keeps old new before after x) (sym (sound is)) (sits-with written (λ w. is))
       by-count (suc n) is = subst (λ (x : End). SitsOut quantum gives later kept keeps old new before after x) (sym (fault (λ z. absurd (omega (arith, is, z))))) (sits-with false (λ w. absurd (cc)))
+
+module _ {kept keeps : Option (List Event)} {old new : View} {from before to mid after : Option (List ℕ)} {failed fails : ℕ} {ended : Result (Unit {0}) Halt}
+    (e : from ≡ before) (f : to ≡ mid) (same : Keeps mid after) (up : IsUp old) (h : IsPlayed old new from to failed fails kept keeps ended) where
+  played-with : (written : Bool) → PlayedOut kept keeps old new before after (end_of ended written)
+  played-with written = record {
+    events = h.events;
+    records = h.records;
+    plays = plays-through old new from before to mid after e f same h.events (Rises failed fails) ended written up h.runs;
+  }
+
+  -- a play whose output failed is one whose console failed
+  pub played-out : {end : End} (written : Bool) → (fails ≡ 0 → end ≡ end_of ended written) → (fails ≢ 0 → end ≡ Halted halt.Console) → PlayedOut kept keeps old new before after end
+  played-out {end} written sound fault = by-count fails refl
+    where
+      by-count : (n : ℕ) → fails ≡ n → PlayedOut kept keeps old new before after end
+      by-count zero is = subst (λ (x : End). PlayedOut kept keeps old new before after x) (sym (sound is)) (played-with written)
+      by-count (suc n) is = subst (λ (x : End). PlayedOut kept keeps old new before after x) (sym (fault (λ z. absurd (omega (arith, is, z))))) (played-with false)

@@ -1,4 +1,4 @@
--- How a session at a keyboard ends, and what it leaves.
+-- How a session at a keyboard ends, and what it leaves; how a play ends.
 use Rattle.std.specs.Prelude.{Bool, List, Option, [], length, option_map, ℕ, ◌++◌, ◌∷◌, ◌≡◌, ◌⊎◌}
 use Rattle.commands.specs.Runs.{Leaves, PlaysOut}
 use Rattle.commands.specs.declared.report.End.{End}
@@ -35,3 +35,9 @@ pub record IsSat {D : Type 0} (content : D → List (List ℕ)) (count : D → �
   pub ended : End
   pub sits : SitsOut quantum gives later kept keeps old last before after ended
   pub leaves : Leaves content count old sits.events before after saves end disk
+
+-- a machine was given the events of a play, and just these are recorded; with what is written out
+pub record PlayedOut (kept keeps : Option (List Event)) (old new : View) (before after : Option (List ℕ)) (end : End) : Type 0 where
+  pub events : List Event
+  pub records : keeps ≡ option_map (λ es. es ++ events) kept
+  pub plays : PlaysOut old new events before after end

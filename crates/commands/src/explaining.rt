@@ -1,31 +1,45 @@
 //! What --explain adds: a line that says more of the one by which a job told that it is not done.
 
+mod images;
+
 use crate::host::{Host, Why};
 use commandline::Job;
 use explanations::words::{
-    ASSEMBLY, COMMANDS, MANIFEST, SCRIPT, first_word, line_of, number_behind,
+    ASSEMBLY, CALLS, COMMANDS, MANIFEST, PLAY, SCRIPT, first_word, last_word, line_of,
+    number_behind,
 };
 use explanations::{meaning, misfit_of, nearest};
 use std::alloc::{AllocError, Global};
 use std::io::Write;
 
-// A line of a text that is none: its file, its number, its words, and the word that was meant, if one is near.
+// A text that a job was told to read, and what was told of it.
+#[derive(Clone, Copy)]
+struct Told<'a> {
+    name: &'a str,
+    text: &'a str,
+    line: &'a str,
+}
+
+// A line of a text that is none: its file, its number, its words, and the word that was meant, if one is near, or what is wrong.
 fn odd_line(
     alloc: Global,
-    name: &str,
-    text: &str,
-    number: usize,
+    told: Told<'_>,
+    number: Option<usize>,
     words: &[&str],
 ) -> Result<Option<String>, AllocError> {
-    let Some(line) = line_of(text, number) else {
+    let Some(number) = number else {
         return Ok(None);
     };
-    let line = line.trim();
-    let told = match nearest(alloc, first_word(line), words)? {
-        Some(meant) => format!(in alloc; "{name}:{number}: {line}: did you mean {meant}?")?,
-        None => format!(in alloc; "{name}:{number}: {line}")?,
+    let Some(line) = line_of(told.text, number) else {
+        return Ok(None);
     };
-    Ok(Some(told))
+    let (name, line) = (told.name, line.trim());
+    let more = match (nearest(alloc, first_word(line), words)?, meaning(told.line)) {
+        (Some(meant), _) => format!(in alloc; ": did you mean {meant}?")?,
+        (None, Some(means)) => format!(in alloc; ": {means}")?,
+        (None, None) => String::new(alloc),
+    };
+    Ok(Some(format!(in alloc; "{name}:{number}: {line}{more}")?))
 }
 
 // The text of a file, if it has one.
@@ -36,42 +50,23 @@ fn text_of<H: Host>(alloc: Global, name: &str, host: &mut H) -> Option<String> {
 }
 
 // What is wrong with a manifest.
-fn of_manifest(
-    alloc: Global,
-    name: &str,
-    text: &str,
-    line: &str,
-) -> Result<Option<String>, AllocError> {
-    if let Some(number) = number_behind(line, "manifest line ") {
-        return odd_line(alloc, name, text, number, &MANIFEST);
+fn of_manifest(alloc: Global, told: Told<'_>) -> Result<Option<String>, AllocError> {
+    if let Some(number) = number_behind(told.line, "manifest line ") {
+        return odd_line(alloc, told, Some(number), &MANIFEST);
     }
-    let Some(misfit) = misfit_of(text) else {
+    let Some(misfit) = misfit_of(told.text) else {
         return Ok(None);
     };
     let names_it = match misfit.fault {
-        1 => line == "fault 1 Name",
-        2 => line == "fault 2 Twice",
-        _ => line == "fault 5 Parent",
+        1 => told.line == "fault 1 Name",
+        2 => told.line == "fault 2 Twice",
+        _ => told.line == "fault 5 Parent",
     };
     if !names_it {
         return Ok(None);
     }
-    let (number, path, why) = (misfit.line, misfit.path, misfit.why);
+    let (name, number, path, why) = (told.name, misfit.line, misfit.path, misfit.why);
     Ok(Some(format!(in alloc; "{name}:{number}: {path} {why}")?))
-}
-
-// What is wrong with a line of a script or of an assembly text.
-fn of_line(
-    alloc: Global,
-    name: &str,
-    text: &str,
-    number: Option<usize>,
-    words: &[&str],
-) -> Result<Option<String>, AllocError> {
-    match number {
-        Some(number) => odd_line(alloc, name, text, number, words),
-        None => Ok(None),
-    }
 }
 
 // The text that a job was told to read, which its faults are of.
@@ -79,6 +74,7 @@ fn name_of<'a>(job: &Job<'a>) -> Option<&'a str> {
     match *job {
         Job::Flat(words) => Some(words.script),
         Job::Run(words) => Some(words.script),
+        Job::Trace(words) => Some(words.run.script),
         Job::Mkfs(words) => Some(words.manifest),
         Job::Asm(words) => Some(words.text),
         _ => None,
@@ -86,7 +82,7 @@ fn name_of<'a>(job: &Job<'a>) -> Option<&'a str> {
 }
 
 // What is said of this text alone, if anything is.
-fn particular<H: Host>(
+fn of_text<H: Host>(
     alloc: Global,
     job: &Job<'_>,
     line: &str,
@@ -99,16 +95,52 @@ fn particular<H: Host>(
         return Ok(None);
     };
     let text = text.as_str();
+    let told = Told { name, text, line };
     match *job {
-        Job::Mkfs(_) => of_manifest(alloc, name, text, line),
-        Job::Asm(_) => of_line(alloc, name, text, number_behind(line, "line "), &ASSEMBLY),
-        _ => of_line(
-            alloc,
-            name,
-            text,
-            number_behind(line, "script line "),
-            &SCRIPT,
-        ),
+        Job::Mkfs(_) => of_manifest(alloc, told),
+        Job::Asm(_) => odd_line(alloc, told, number_behind(line, "line "), &ASSEMBLY),
+        _ => odd_line(alloc, told, number_behind(line, "script line "), &SCRIPT),
+    }
+}
+
+// A word of a line, and the one of these that was meant, if one is near.
+fn guess(alloc: Global, word: &str, words: &[&str]) -> Result<Option<String>, AllocError> {
+    match nearest(alloc, word, words)? {
+        Some(meant) => Ok(Some(format!(in alloc; "{word}: did you mean {meant}?")?)),
+        None => Ok(None),
+    }
+}
+
+// The command of a play, or the call, that was meant by a word of this line.
+fn of_word(alloc: Global, job: &Job<'_>, line: &str) -> Result<Option<String>, AllocError> {
+    match *job {
+        Job::Play(_) => match line.strip_suffix(": no such command") {
+            Some(front) => guess(alloc, last_word(front), &PLAY),
+            None => Ok(None),
+        },
+        Job::Trace(_) => match line.strip_prefix("no call ") {
+            Some(name) => guess(alloc, name, &CALLS),
+            None => Ok(None),
+        },
+        _ => Ok(None),
+    }
+}
+
+// What is said of this job alone, if anything is.
+fn particular<H: Host>(
+    alloc: Global,
+    job: &Job<'_>,
+    line: &str,
+    host: &mut H,
+) -> Result<Option<String>, AllocError> {
+    let told = match line {
+        "fault 5 NoInit" => images::of_init(alloc, job, host)?,
+        "fault 1 NotFound" => images::of_path(alloc, job, host)?,
+        _ => of_word(alloc, job, line)?,
+    };
+    match told {
+        Some(told) => Ok(Some(told)),
+        None => of_text(alloc, job, line, host),
     }
 }
 
@@ -127,7 +159,8 @@ fn refusal(alloc: Global, line: &str, why: Why) -> Result<Option<String>, AllocE
     }
 }
 
-/// Says more of the last line that a job told: what the system says of a file, which line of a text is meant, or what the line means.
+/// Says more of the last line that a job told: what the system says of a file, which line of a text or which name on an image is
+/// meant, or what the line means.
 pub fn explain<H: Host, E: Write>(
     alloc: Global,
     job: &Job<'_>,
@@ -161,10 +194,8 @@ pub fn explain_words<E: Write>(
     let Some(word) = words.get(1) else {
         return Ok(());
     };
-    if !COMMANDS.contains(word)
-        && let Some(meant) = nearest(alloc, word, &COMMANDS)?
-    {
-        let _ = writeln!(stderr, "explain: {word}: did you mean {meant}?");
+    if let Some(told) = guess(alloc, word, &COMMANDS)? {
+        let _ = writeln!(stderr, "explain: {told}");
     }
     Ok(())
 }

@@ -1,7 +1,7 @@
 //! Where files come from and go to.
 ghost use Rattle.std.specs.Prelude.{◌≤◌, IfOk, length, vec_len};
 
-use std::io;
+use std::{fmt, io};
 
 /// A file could not be read or written.
 #[derive(Clone, Copy)]
@@ -27,8 +27,44 @@ pub struct Front {
     pub length: Option<u64>,
 }
 
-/// Files by their names, and standard input.
+/// The terminal that standard error is.
+pub trait Screen {
+    /// Whether standard output is a terminal, too, so that the console's bytes stand on the same screen.
+    fn has_console(&self) -> bool;
+
+    /// How many milliseconds have passed since some moment, always the same.
+    fn milliseconds(&self) -> u64;
+
+    /// Writes a text at once. What the terminal doesn't take is lost.
+    fn show<T: fmt::Display>(&self, text: &T);
+}
+
+/// No terminal.
+#[derive(Clone, Copy)]
+pub struct NoScreen;
+
+impl Screen for NoScreen {
+    fn has_console(&self) -> bool {
+        false
+    }
+
+    fn milliseconds(&self) -> u64 {
+        0
+    }
+
+    fn show<T: fmt::Display>(&self, _text: &T) {}
+}
+
+/// Files by their names, standard input, and the terminal where there is one.
 pub trait Host {
+    /// Its terminal.
+    type Screen: Screen + Drop;
+
+    /// The terminal that standard error is, where it is one.
+    fn screen(&self) -> Option<Self::Screen> {
+        None
+    }
+
     /// The whole of a file.
     fn read(&mut self, name: &str) -> Result<Vec<u8>, HostFault>;
 

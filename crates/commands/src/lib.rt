@@ -11,5 +11,5 @@ pub use commandline::{
     Telling, Trace, explains, job,
 };
 pub use explaining::{explain, explain_words};
-pub use host::{Front, Host, HostFault, Why};
+pub use host::{Front, Host, HostFault, NoScreen, Screen, Why};
 pub use report::refuse;

@@ -1,9 +1,10 @@
 //! Does a job.
 
-mod images;
+pub(crate) mod images;
 mod openings;
 mod plays;
 mod program_files;
+mod progress;
 mod runs;
 mod scribe;
 mod seat;
@@ -13,8 +14,9 @@ mod tracing;
 
 ghost use Rattle.std.specs.Prelude.{◌≤◌, IfOk, vec_len};
 
-use crate::host::{Front, Host, Why};
-use crate::perform::telling::{Teller, looks_on, status_of, tell_kept};
+use crate::host::{Front, Host, Screen, Why};
+use crate::perform::progress::{Cleared, Gauge, Meter};
+use crate::perform::telling::{Both, Teller, looks_on, status_of, tell_kept};
 use crate::report::{End, Failure, print, tell};
 use commandline::{Flat, Job, Mkfs, Run, Telling};
 use image::Summary;
@@ -110,20 +112,25 @@ fn finish<'a, H: Host, E: Write>(
 }
 
 // Boots a flat program, runs a script, and tells how that ended.
-fn perform_flat<H: Host, W: Write, E: Write>(
+fn perform_flat<H: Host, S: Screen, W: Write, E: Write>(
     alloc: Global,
     words: Flat<'_>,
     host: &mut H,
+    meter: &Meter<S>,
     stdout: &mut W,
     stderr: &mut E,
 ) -> u8 {
     let telling = words.telling;
-    let mut teller = None;
-    let ended = if looks_on(&telling) {
-        let watch = teller.insert(Teller::new(alloc, words.file, &telling));
-        runs::flat_watched(alloc, words, host, watch, stdout)
+    let mut gauge = Gauge { meter };
+    let (ended, teller) = if looks_on(&telling) {
+        let mut both = Both {
+            first: Teller::new(alloc, words.file, &telling),
+            second: gauge,
+        };
+        let ended = runs::flat_watched(alloc, words, host, &mut both, stdout);
+        (ended, Some(both.first))
     } else {
-        runs::flat(alloc, words, host, stdout)
+        (runs::flat(alloc, words, host, &mut gauge, stdout), None)
     };
     match ended {
         Ok(end) => finish(end, Ok(()), teller, &telling, host, stderr),
@@ -132,20 +139,25 @@ fn perform_flat<H: Host, W: Write, E: Write>(
 }
 
 // Boots a machine from an image, runs a script, and tells how that ended. The image that is left is written before.
-fn perform_run<H: Host, W: Write, E: Write>(
+fn perform_run<H: Host, S: Screen, W: Write, E: Write>(
     alloc: Global,
     words: Run<'_>,
     host: &mut H,
+    meter: &Meter<S>,
     stdout: &mut W,
     stderr: &mut E,
 ) -> u8 {
     let telling = words.telling;
-    let mut teller = None;
-    let ran = if looks_on(&telling) {
-        let watch = teller.insert(Teller::new(alloc, "/init", &telling));
-        runs::run_watched(alloc, words, host, watch, stdout)
+    let mut gauge = Gauge { meter };
+    let (ran, teller) = if looks_on(&telling) {
+        let mut both = Both {
+            first: Teller::new(alloc, "/init", &telling),
+            second: gauge,
+        };
+        let ran = runs::run_watched(alloc, words, host, &mut both, stdout);
+        (ran, Some(both.first))
     } else {
-        runs::run(alloc, words, host, stdout)
+        (runs::run(alloc, words, host, &mut gauge, stdout), None)
     };
     match ran {
         Ok((end, disk)) => {
@@ -189,6 +201,18 @@ fn perform_quietly<E: Write>(done: Result<(), Failure<'_>>, stderr: &mut E) -> u
     }
 }
 
+// The terminal on which a job tells that it goes on, where it does: of a trace, where its text isn't on standard error.
+fn screen_of<H: Host>(job: &Job<'_>, host: &H) -> Option<H::Screen> {
+    let is_told = match *job {
+        Job::Flat(words) => words.telling.progress,
+        Job::Run(words) => words.telling.progress,
+        Job::Trace(words) => words.run.telling.progress && words.text.is_some(),
+        Job::Live(_) | Job::Play(_) => true,
+        _ => false,
+    };
+    if is_told { host.screen() } else { None }
+}
+
 /// Does the job, with the host's files, and answers the status to exit with: 0 where it was done.
 /// The console's bytes and what is found or listed go to `stdout`, and all else that is told to `stderr`.
 pub fn perform<H: Host, W: Write, E: Write>(
@@ -198,9 +222,12 @@ pub fn perform<H: Host, W: Write, E: Write>(
     stdout: &mut W,
     stderr: &mut E,
 ) -> u8 {
+    let meter = Meter::new(screen_of(job, host));
+    let mut stdout = Cleared::new(stdout, &meter);
+    let stdout = &mut stdout;
     match *job {
-        Job::Flat(words) => perform_flat(alloc, words, host, stdout, stderr),
-        Job::Run(words) => perform_run(alloc, words, host, stdout, stderr),
+        Job::Flat(words) => perform_flat(alloc, words, host, &meter, stdout, stderr),
+        Job::Run(words) => perform_run(alloc, words, host, &meter, stdout, stderr),
         Job::Mkfs(words) => perform_mkfs(alloc, words, host, stderr),
         Job::Check(words) => perform_telling(images::check(alloc, words, host), stdout, stderr),
         Job::Ls(words) => perform_quietly(images::ls(alloc, words, host, stdout), stderr),
@@ -210,9 +237,9 @@ pub fn perform<H: Host, W: Write, E: Write>(
             program_files::dump(alloc, words, host, stdout),
             stderr,
         ),
-        Job::Live(words) => sessions::perform(alloc, words, host, stdout, stderr),
-        Job::Play(words) => plays::perform(alloc, words, host, stdout, stderr),
-        Job::Trace(words) => tracing::perform(alloc, words, host, stdout, stderr),
+        Job::Live(words) => sessions::perform(alloc, words, host, &meter, stdout, stderr),
+        Job::Play(words) => plays::perform(alloc, words, host, &meter, stdout, stderr),
+        Job::Trace(words) => tracing::perform(alloc, words, host, &meter, stdout, stderr),
         Job::Get(words) => perform_quietly(openings::get(alloc, words, host, stdout), stderr),
         Job::Put(words) => perform_quietly(openings::put(alloc, words, host), stderr),
     }

@@ -1,7 +1,7 @@
 //! The files that the commands of the program work on.
 use anyhow::bail;
 use commands::perform::perform;
-use commands::{Asm, Host, HostFault, Job, Migrate, Mkfs};
+use commands::{Asm, Host, HostFault, Job, Migrate, Mkfs, NoScreen};
 use std::collections::BTreeMap;
 use std::fs;
 use std::rt::Files;
@@ -81,6 +81,8 @@ impl<'a, R: Files + AllocGlobal> Desk<'a, R> {
 }
 
 impl<R: Files + AllocGlobal> Host for Desk<'_, R> {
+    type Screen = NoScreen;
+
     fn read(&mut self, name: &str) -> Result<Vec<u8>, HostFault> {
         self.file(name).map_err(|_| HostFault)
     }

@@ -1,7 +1,8 @@
 //! The host of the program: real files.
 ghost use Rattle.std.specs.Prelude.{◌≤◌, IfOk, length, vec_len};
 
-use commands::{Front, Host, HostFault, Why};
+use commands::{Front, Host, HostFault, Screen, Why};
+use std::fmt;
 use std::fs::{self, OpenFile, OpenOptions};
 use std::io::{self, ErrorKind, Read, Write};
 use std::rt::Files;
@@ -16,10 +17,42 @@ const MOMENT: u128 = 10;
 /// How many answers of nothing in a row may come sooner: a terminal that is gone gives no others.
 const MOST_EARLY: u32 = 100;
 
+/// Which of the standard streams are terminals.
+#[derive(Clone, Copy)]
+pub struct Terminals {
+    pub is_output: bool,
+    pub is_error: bool,
+}
+
+/// The terminal that standard error is.
+#[derive(Clone, Copy)]
+pub struct RealScreen<'a, R> {
+    rt: &'a R,
+    has_console: bool,
+}
+
+impl<R: Clock + Eprint> Screen for RealScreen<'_, R> {
+    fn has_console(&self) -> bool {
+        self.has_console
+    }
+
+    fn milliseconds(&self) -> u64 {
+        match self.rt.monotonic() {
+            Ok(now) => u64::try_from(now.as_millis()).unwrap_or(u64::MAX),
+            Err(_) => 0,
+        }
+    }
+
+    fn show<T: fmt::Display>(&self, text: &T) {
+        let _ = eprint!(self.rt; "{text}");
+    }
+}
+
 /// The files of the system that the program runs on.
 #[derive(Drop)]
 pub struct RealFiles<'a, R> {
     rt: &'a R,
+    terminals: Terminals,
     error: Option<io::Error>,
     // When standard input was last read, by the clock.
     read_at: Option<Duration>,
@@ -27,11 +60,12 @@ pub struct RealFiles<'a, R> {
     early: u32,
 }
 
-impl<'a, R: Files + Clock + Input + AllocGlobal> RealFiles<'a, R> {
-    /// The files of this system.
-    pub fn new(rt: &'a R) -> RealFiles<'a, R> {
+impl<'a, R: Files + Clock + Input + Eprint + AllocGlobal> RealFiles<'a, R> {
+    /// The files of this system, whose standard streams are these terminals.
+    pub fn new(rt: &'a R, terminals: Terminals) -> RealFiles<'a, R> {
         RealFiles {
             rt,
+            terminals,
             error: None,
             read_at: None,
             early: 0,
@@ -89,7 +123,16 @@ fn append<R: Files>(rt: &R, name: &str, bytes: &[u8]) -> io::Result<()> {
     file.write_all(bytes)
 }
 
-impl<R: Files + Clock + Input + AllocGlobal> Host for RealFiles<'_, R> {
+impl<'a, R: Files + Clock + Input + Eprint + AllocGlobal> Host for RealFiles<'a, R> {
+    type Screen = RealScreen<'a, R>;
+
+    fn screen(&self) -> Option<RealScreen<'a, R>> {
+        self.terminals.is_error.then_some(RealScreen {
+            rt: self.rt,
+            has_console: self.terminals.is_output,
+        })
+    }
+
     fn read(&mut self, name: &str) -> Result<Vec<u8>, HostFault> {
         let done = fs::read(self.rt, name);
         self.told(done)

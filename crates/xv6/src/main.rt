@@ -8,9 +8,9 @@ mod tests;
 use commands::perform::perform;
 use commands::{Job, explain, explain_words, explains, job, refuse};
 use explanations::Noting;
-use host::RealFiles;
+use host::{RealFiles, Terminals};
 use std::alloc::AllocError;
-use std::io::{self, BufWriter, ErrorKind, Write};
+use std::io::{self, BufWriter, ErrorKind, IsTerminal, Write};
 use std::process::ExitCode;
 
 /// The status of a wrong command line.
@@ -25,7 +25,11 @@ fn do_job<W: Write, E: Write>(
     stderr: &mut E,
 ) -> Result<u8, AllocError> {
     let alloc = rt.alloc();
-    let mut files = RealFiles::new(rt);
+    let terminals = Terminals {
+        is_output: rt.stdout().is_terminal(),
+        is_error: rt.stderr().is_terminal(),
+    };
+    let mut files = RealFiles::new(rt, terminals);
     let mut noting = Noting::new(stderr);
     let status = perform(alloc, job, &mut files, stdout, &mut noting);
     if is_explained && status != 0 {

@@ -5,12 +5,14 @@ mod migrating;
 mod openings;
 mod plays;
 mod program_files;
+mod progress;
 mod runs;
 mod telling;
+mod tracing;
 mod words;
 
 use commands::perform::perform;
-use commands::{Flat, Host, HostFault, Job, Telling};
+use commands::{Flat, Host, HostFault, Job, NoScreen, Telling};
 use std::alloc::{AllocError, Global};
 use std::io;
 use std::io::Write;
@@ -35,6 +37,7 @@ const UNTOLD: Telling<'static> = Telling {
     registers: None,
     memory: None,
     status: false,
+    progress: false,
 };
 
 // How a process ends at a fault.
@@ -50,6 +53,8 @@ struct Files {
 }
 
 impl Host for Files {
+    type Screen = NoScreen;
+
     fn read(&mut self, name: &str) -> Result<Vec<u8>, HostFault> {
         let found = if name == "program" || name == "host" {
             &self.bytes

@@ -1,18 +1,22 @@
 //! Plays: scripts that wait for what the machine does.
+ghost use Rattle.std.specs.Prelude.{◌≡◌};
+ghost use Rattle.commands.specs.Seats.{PlayedOut};
 ghost use Rattle.machine.specs.View.{IsUp};
+ghost use Rattle.player.specs.Played.{halts};
 
-use crate::host::{Front, Host};
+use crate::host::{Front, Host, Screen};
 use crate::perform::images::{disk_of, read_image};
+use crate::perform::progress::{Gauge, Meter};
 use crate::perform::read;
 use crate::perform::runs::{inner_of, keep, leave};
 use crate::perform::scribe::Scribe;
 use crate::perform::sessions::end_with;
-use crate::perform::telling::{Teller, looks_on, status_of, tell_kept};
+use crate::perform::telling::{Both, Teller, looks_on, status_of, tell_kept};
 use crate::report::{End, Failure, tell};
 use blockdev::{BlockDev, FailAt, MemDisk};
 use commandline::{Play, Run, Telling};
-use live::{Nobody, Watch};
-use machine::{BootFault, Machine, boot};
+use live::Watch;
+use machine::{BootFault, Halt, Machine, boot};
 use player::{Record, Tail, Unreached};
 use playtext::{PlayFault, Why, parse};
 use std::alloc::Global;
@@ -29,30 +33,37 @@ struct Finish {
     unreached: Option<Unreached>,
 }
 
+// How a play ended for the machine, and what it waited for in vain, if it did.
+fn parts(ended: Result<Option<Unreached>, Halt>) -> (Result<(), Halt>, Option<Unreached>)
+    ensures { result.0 ≡ halts ended }
+{
+    match ended {
+        Ok(unreached) => (Ok(()), unreached),
+        Err(halt) => (Err(halt), None),
+    }
+}
+
 // The events of a play, whose bytes for the console are written out.
 fn play_out<D: BlockDev, T: Translate + Drop, R: Record, V: Watch, W: Write>(
     machine: &mut Machine<D, T>,
     play: &playtext::Play<'_>,
-    record: &mut R,
+    keeper: &mut R,
     watch: &mut V,
-    stdout: &mut W,
-) -> Finish
+    stdout: W,
+) -> (Finish, W)
     requires { IsUp machine.old }
+    ensures { PlayedOut (R.kept keeper.old) (R.kept keeper.new) machine.old machine.new (W.contents stdout) (W.contents result.1) result.0.end }
 {
     let mut out = Tail::new(stdout);
-    let ended = player::perform(machine, play, record, watch, &mut out);
+    let played = player::perform(machine, play, keeper, watch, &mut out);
     watch.end(machine);
+    let (ended, unreached) = parts(played);
     let out = out.into_out();
     let failures = out.failures();
-    let is_written = out.into_inner().flush().is_ok();
-    let (ended, unreached) = match ended {
-        Ok(unreached) => (Ok(()), unreached),
-        Err(halt) => (Err(halt), None),
-    };
-    Finish {
-        end: end_with(ended, failures, is_written),
-        unreached,
-    }
+    let mut stdout = out.into_inner();
+    let is_written = stdout.flush().is_ok();
+    let end = end_with(ended, failures, is_written);
+    (Finish { end, unreached }, stdout)
 }
 
 // Boots a machine from a disk over a translator and gives it the events of a play; then it is saved, if it is to be and the play
@@ -68,7 +79,7 @@ fn play_disk<D: BlockDev, T: Translate + Drop, R: Record, V: Watch, W: Write>(
     stdout: &mut W,
 ) -> Result<(Finish, Option<D>), BootFault> {
     let mut machine = boot(alloc, disk, translator, words.frames)?;
-    let Finish { end, unreached } = play_out(&mut machine, play, record, watch, stdout);
+    let (Finish { end, unreached }, _) = play_out(&mut machine, play, record, watch, stdout);
     let saves = words.save.is_some() && unreached.is_none();
     let (end, disk) = leave(machine, saves, end);
     Ok((Finish { end, unreached }, disk))
@@ -197,10 +208,11 @@ fn read_both<'a, H: Host>(host: &mut H, words: &Run<'a>) -> Result<(Front, Vec<u
 
 /// The command `play`: boots a machine from an image, gives it the events of a play, and tells how that ended. The script and the
 /// image that is left are written before. The play is read whole before the machine boots.
-pub fn perform<H: Host, W: Write, E: Write>(
+pub fn perform<H: Host, S: Screen, W: Write, E: Write>(
     alloc: Global,
     words: Play<'_>,
     host: &mut H,
+    meter: &Meter<S>,
     stdout: &mut W,
     stderr: &mut E,
 ) -> u8 {
@@ -214,12 +226,19 @@ pub fn perform<H: Host, W: Write, E: Write>(
         Err(fault) => return tell_fault(name, fault, stderr),
     };
     let telling = words.run.telling;
-    let mut teller = None;
-    let gone = if looks_on(&telling) {
-        let watch = teller.insert(Teller::new(alloc, "/init", &telling));
-        go(alloc, &words, image, &play, watch, host, stdout)
+    let mut gauge = Gauge { meter };
+    let (gone, teller) = if looks_on(&telling) {
+        let mut both = Both {
+            first: Teller::new(alloc, "/init", &telling),
+            second: gauge,
+        };
+        let gone = go(alloc, &words, image, &play, &mut both, host, stdout);
+        (gone, Some(both.first))
     } else {
-        go(alloc, &words, image, &play, &mut Nobody, host, stdout)
+        (
+            go(alloc, &words, image, &play, &mut gauge, host, stdout),
+            None,
+        )
     };
     match gone {
         Ok((finish, written)) => {

@@ -15,8 +15,8 @@ use crate::report::{End, Failure};
 use blockdev::{BlockDev, FailAt, MemDisk};
 use commandline::{Flat, Run};
 use console::Writer;
+use live::Watch;
 use live::play::play;
-use live::{Nobody, Watch};
 use machine::{BootFault, Halt, Machine, boot, boot_flat_with};
 use std::alloc::Global;
 use std::io::Write;
@@ -169,25 +169,26 @@ fn run_with<D: BlockDev, T: Translate + Drop, V: Watch, W: Write + Drop>(
     })
 }
 
-/// The translator of runs at which somebody looks on. It is a type of its own, so that the code of other runs is compiled without
+/// The translator of runs at each of whose events somebody looks on. It is a type of its own, so that the code of other runs is compiled without
 /// them; the output is the same over every translator.
 type Watched = Tlb<32>;
 
 // A flat program over the translator that the words ask for.
-fn flat_over<'a, W: Write>(
+fn flat_over<'a, V: Watch, W: Write>(
     alloc: Global,
     words: Flat<'a>,
     program: &[u8],
     script: &[Command<'_>],
+    watch: &mut V,
     stdout: &mut W,
 ) -> Result<End, Failure<'a>> {
     let frames = words.frames;
     let ended = if words.tlb {
         let cache = Recent::new(Tlb::<64>::new());
-        run_flat(alloc, program, cache, frames, script, &mut Nobody, stdout)
+        run_flat(alloc, program, cache, frames, script, watch, stdout)
     } else {
         let plain = Recent::new(Plain::new());
-        run_flat(alloc, program, plain, frames, script, &mut Nobody, stdout)
+        run_flat(alloc, program, plain, frames, script, watch, stdout)
     };
     match ended {
         Ok((end, _)) => Ok(end),
@@ -205,20 +206,22 @@ fn read_flat<'a, H: Host>(
     Ok((program, script))
 }
 
-/// The command `flat`. Its files are read in the order of the command line, and the script is
-/// parsed, before anything is booted.
-pub fn flat<'a, H: Host, W: Write>(
+/// The command `flat`, at whose batches of events somebody looks on. Its files are read in the order of the command line, and the
+/// script is parsed, before anything is booted.
+pub fn flat<'a, H: Host, V: Watch, W: Write>(
     alloc: Global,
     words: Flat<'a>,
     host: &mut H,
+    watch: &mut V,
     stdout: &mut W,
 ) -> Result<End, Failure<'a>> {
     let (program, bytes) = read_flat(host, &words)?;
     let script = script_of(alloc, words.script, bytes.as_slice())?;
-    flat_over(alloc, words, program.as_slice(), script.as_slice(), stdout)
+    let (program, script) = (program.as_slice(), script.as_slice());
+    flat_over(alloc, words, program, script, watch, stdout)
 }
 
-/// The same, at which somebody looks on.
+/// The same, at each of whose events somebody looks on.
 pub fn flat_watched<'a, H: Host, V: Watch, W: Write>(
     alloc: Global,
     words: Flat<'a>,
@@ -237,19 +240,20 @@ pub fn flat_watched<'a, H: Host, V: Watch, W: Write>(
 }
 
 // A machine over the translator that the words ask for.
-fn run_over<'a, W: Write>(
+fn run_over<'a, V: Watch, W: Write>(
     alloc: Global,
     words: Run<'a>,
     disk: MemDisk,
     script: &[Command<'_>],
+    watch: &mut V,
     stdout: &mut W,
 ) -> Result<(End, Option<MemDisk>), Failure<'a>> {
     let ran = if words.tlb {
         let cache = Recent::new(Tlb::<64>::new());
-        run_with(alloc, disk, cache, &words, script, &mut Nobody, stdout)
+        run_with(alloc, disk, cache, &words, script, watch, stdout)
     } else {
         let plain = Recent::new(Plain::new());
-        run_with(alloc, disk, plain, &words, script, &mut Nobody, stdout)
+        run_with(alloc, disk, plain, &words, script, watch, stdout)
     };
     match ran {
         Ok(ran) => Ok((ran.end, ran.disk)),
@@ -257,7 +261,7 @@ fn run_over<'a, W: Write>(
     }
 }
 
-/// A machine at which somebody looks on: how it ended, and the disk that is left where it was to be saved.
+/// A machine at each of whose events somebody looks on: how it ended, and the disk that is left where it was to be saved.
 pub fn run_watched_over<'a, V: Watch, W: Write>(
     alloc: Global,
     words: Run<'a>,
@@ -273,22 +277,23 @@ pub fn run_watched_over<'a, V: Watch, W: Write>(
     }
 }
 
-/// The command `run`: how it ended, and the disk that is left where it was to be saved. Its files are read in the order of
-/// the command line, and the script is parsed, before there is a disk.
-pub fn run<'a, H: Host, W: Write>(
+/// The command `run`, at whose batches of events somebody looks on: how it ended, and the disk that is left where it was to be saved.
+/// Its files are read in the order of the command line, and the script is parsed, before there is a disk.
+pub fn run<'a, H: Host, V: Watch, W: Write>(
     alloc: Global,
     words: Run<'a>,
     host: &mut H,
+    watch: &mut V,
     stdout: &mut W,
 ) -> Result<(End, Option<MemDisk>), Failure<'a>> {
     let image = read_image(host, words.image)?;
     let bytes = read(host, words.script)?;
     let script = script_of(alloc, words.script, bytes.as_slice())?;
     let disk = disk_of(image)?;
-    run_over(alloc, words, disk, script.as_slice(), stdout)
+    run_over(alloc, words, disk, script.as_slice(), watch, stdout)
 }
 
-/// The same, at which somebody looks on.
+/// The same, at each of whose events somebody looks on.
 pub fn run_watched<'a, H: Host, V: Watch, W: Write>(
     alloc: Global,
     words: Run<'a>,

@@ -2,8 +2,9 @@
 ghost use Rattle.std.specs.Prelude.{◌≡◌, ◌≢◌, None, false, true};
 ghost use Rattle.commands.specs.declared.perform.seat.Typed.TheVariants.{Key};
 
-use crate::host::Host;
+use crate::host::{Host, Screen};
 use crate::perform::append;
+use crate::perform::progress::Meter;
 use crate::report::Failure;
 use arrayvec::ArrayVec;
 use blockdev::BlockDev;
@@ -59,8 +60,9 @@ impl fmt::Display for Line {
 
 /// The terminal of a session.
 #[derive(Drop)]
-pub struct Seat<'a, 'b, H, E> {
+pub struct Seat<'a, 'b, H, S, E> {
     host: &'b mut H,
+    meter: &'b Meter<S>,
     stderr: &'b mut E,
     // Whether standard input is a terminal that waits only a moment.
     is_terminal: bool,
@@ -76,17 +78,19 @@ pub struct Seat<'a, 'b, H, E> {
     failure: Option<Failure<'a>>,
 }
 
-impl<'a, 'b, H: Host, E: Write> Seat<'a, 'b, H, E> {
+impl<'a, 'b, H: Host, S: Screen, E: Write> Seat<'a, 'b, H, S, E> {
     /// A terminal over a host, whose record goes to the file of this name, which is there.
     pub fn new(
         alloc: Global,
         host: &'b mut H,
+        meter: &'b Meter<S>,
         stderr: &'b mut E,
         is_terminal: bool,
         script: Option<&'a str>,
     ) -> Self {
         Seat {
             host,
+            meter,
             stderr,
             is_terminal,
             script,
@@ -113,6 +117,7 @@ impl<'a, 'b, H: Host, E: Write> Seat<'a, 'b, H, E> {
 
     /// Writes the record to its end. An error says why it could not all be written.
     pub fn finish(mut self) -> Result<(), Failure<'a>> {
+        self.meter.clear();
         self.write_out();
         match self.failure {
             None => Ok(()),
@@ -180,7 +185,7 @@ pub fn write_line(lines: &mut String, moved: Move<'_>) -> Result<(), AllocError>
     }
 }
 
-impl<H: Host, E: Write> Seat<'_, '_, H, E> {
+impl<H: Host, S: Screen, E: Write> Seat<'_, '_, H, S, E> {
     // Takes the first byte that was typed, which is that key.
     fn take(&mut self) {
         if !self.typed.is_empty() {
@@ -224,12 +229,16 @@ impl<H: Host, E: Write> Seat<'_, '_, H, E> {
     }
 }
 
-impl<H: Host, E: Write> Terminal for Seat<'_, '_, H, E> {
+impl<H: Host, S: Screen, E: Write> Terminal for Seat<'_, '_, H, S, E> {
     ghost gives = { λ seat. None };
 
     ghost kept = { λ seat. None };
 
     fn ask(&mut self, mood: Mood) -> Given {
+        match mood {
+            Mood::Busy => self.meter.show(0),
+            Mood::Asleep | Mood::Idle => self.meter.pause(),
+        }
         if !self.is_asked(mood) {
             return Given::Nothing;
         }
@@ -244,6 +253,9 @@ impl<H: Host, E: Write> Terminal for Seat<'_, '_, H, E> {
     }
 
     fn note(&mut self, moved: Move<'_>) {
+        if let Move::Steps(count) = moved {
+            self.meter.count(count);
+        }
         if self.script.is_none() || self.failure.is_some() {
             return;
         }
@@ -256,6 +268,7 @@ impl<H: Host, E: Write> Terminal for Seat<'_, '_, H, E> {
     }
 
     fn show<D: BlockDev, T: Translate + Drop>(&mut self, machine: &Machine<D, T>) {
+        self.meter.clear();
         let _ = writeln!(self.stderr);
         let mut pid = 0;
         for _shown in 0..MOST_PROCESSES {

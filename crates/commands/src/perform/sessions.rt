@@ -6,8 +6,9 @@ ghost use Rattle.commands.specs.Seats.{IsSat, SitsOut};
 ghost use Rattle.commands.specs.declared.report.End.TheVariants.{Halted};
 ghost use Rattle.machine.specs.View.{IsUp};
 
-use crate::host::Host;
+use crate::host::{Host, Screen};
 use crate::perform::images::{disk_of, read_image};
+use crate::perform::progress::Meter;
 use crate::perform::runs::{Ran, end_of, keep, leave};
 use crate::perform::seat::Seat;
 use crate::perform::write;
@@ -105,16 +106,17 @@ fn begin_record<'a, H: Host>(script: Option<&'a str>, host: &mut H) -> Result<()
 }
 
 // A session, to its end: how it ended, and whether all files were written.
-fn live<'a, H: Host, W: Write, E: Write>(
+fn live<'a, H: Host, S: Screen, W: Write, E: Write>(
     alloc: Global,
     words: &Live<'a>,
     host: &mut H,
+    meter: &Meter<S>,
     stdout: &mut W,
     stderr: &mut E,
 ) -> Result<(End, Result<(), Failure<'a>>), Failure<'a>> {
     let machine = boot_image(alloc, words, host)?;
     begin_record(words.script, host)?;
-    let mut seat = Seat::new(alloc, host, stderr, words.terminal, words.script);
+    let mut seat = Seat::new(alloc, host, meter, stderr, words.terminal, words.script);
     let saves = words.save.is_some();
     let ran = sit(machine, quantum_of(words), &mut seat, saves, stdout);
     let recorded = seat.finish();
@@ -135,14 +137,15 @@ fn tell_end<E: Write>(words: &Live<'_>, end: End, is_whole: bool, stderr: &mut E
 }
 
 /// Boots a machine from an image, gives it what is typed, and tells how that ended. The image that is left is written before.
-pub fn perform<H: Host, W: Write, E: Write>(
+pub fn perform<H: Host, S: Screen, W: Write, E: Write>(
     alloc: Global,
     words: Live<'_>,
     host: &mut H,
+    meter: &Meter<S>,
     stdout: &mut W,
     stderr: &mut E,
 ) -> u8 {
-    match live(alloc, &words, host, stdout, stderr) {
+    match live(alloc, &words, host, meter, stdout, stderr) {
         Ok((end, written)) => {
             tell_end(&words, end, written.is_ok(), stderr);
             match written {

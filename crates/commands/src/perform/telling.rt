@@ -90,6 +90,16 @@ impl<A: Watch, B: Watch> Watch for Both<A, B> {
         self.second.after(machine, event, ended);
     }
 
+    fn written_out(&mut self, event: Event, made: u32) {
+        self.first.written_out(event, made);
+        self.second.written_out(event, made);
+    }
+
+    fn repeated(&mut self, event: Event, times: u32) {
+        self.first.repeated(event, times);
+        self.second.repeated(event, times);
+    }
+
     fn end<D: BlockDev, T: Translate + Drop>(&mut self, machine: &Machine<D, T>) {
         self.first.end(machine);
         self.second.end(machine);

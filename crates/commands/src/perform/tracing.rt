@@ -1,7 +1,8 @@
 //! Runs of which it is shown what each process does.
 
-use crate::host::Host;
+use crate::host::{Host, Screen};
 use crate::perform::images::{disk_of, read_image};
+use crate::perform::progress::{Gauge, Meter};
 use crate::perform::runs::{keep, run_watched_over};
 use crate::perform::telling::{Both, Teller};
 use crate::perform::{append, finish, read, script_of, write};
@@ -193,10 +194,11 @@ fn whole<'a>(
 }
 
 // A run, to its end: how it ended, whether all files were written, and what is to be told of it.
-fn trace<'a, H: Host, W: Write, E: Write>(
+fn trace<'a, H: Host, S: Screen, W: Write, E: Write>(
     alloc: Global,
     words: &Trace<'a>,
     host: &mut H,
+    meter: &Meter<S>,
     stdout: &mut W,
     stderr: &mut E,
 ) -> Result<(End, Result<(), Failure<'a>>, Teller), Failure<'a>> {
@@ -209,37 +211,41 @@ fn trace<'a, H: Host, W: Write, E: Write>(
     let Ok(tracer) = Tracer::new(alloc, wanted, sheets) else {
         return Err(Failure::NoMemory);
     };
-    let mut both = Both {
+    let mut all = Both {
         first: tracer,
-        second: Teller::new(alloc, "/init", &words.run.telling),
+        second: Both {
+            first: Teller::new(alloc, "/init", &words.run.telling),
+            second: Gauge { meter },
+        },
     };
     let (end, disk) = run_watched_over(
         alloc,
         words.run,
         disk,
         script.as_slice(),
-        &mut both,
+        &mut all,
         stdout,
     )?;
     let Both {
         first: tracer,
-        second: teller,
-    } = both;
+        second: others,
+    } = all;
     let (sheets, traced) = tracer.finish();
     let written = whole(traced, sheets.finish());
     let saved = keep(words.run.save, disk, host);
-    Ok((end, written.and(saved), teller))
+    Ok((end, written.and(saved), others.first))
 }
 
 /// The command `trace`: as `run`, and what each process does is written as it does it.
-pub fn perform<H: Host, W: Write, E: Write>(
+pub fn perform<H: Host, S: Screen, W: Write, E: Write>(
     alloc: Global,
     words: Trace<'_>,
     host: &mut H,
+    meter: &Meter<S>,
     stdout: &mut W,
     stderr: &mut E,
 ) -> u8 {
-    match trace(alloc, &words, host, stdout, stderr) {
+    match trace(alloc, &words, host, meter, stdout, stderr) {
         Ok((end, written, teller)) => finish(
             end,
             written,

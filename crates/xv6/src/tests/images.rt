@@ -1,7 +1,7 @@
 //! Stored runs of the commands on disk images.
 use crate::tests::{Files, expect, expect_narrow, expect_told, files_of};
 use commands::perform::perform;
-use commands::{Check, Front, Host, HostFault, Job, Ls, Mkfs, Why};
+use commands::{Check, Front, Host, HostFault, Job, Ls, Mkfs, NoScreen, Why};
 use std::process::Abort;
 
 pub const CHECK: Job<'static> = Job::Check(Check { image: "image" });
@@ -243,6 +243,8 @@ struct Long {
 }
 
 impl Host for Long {
+    type Screen = NoScreen;
+
     fn read(&mut self, _name: &str) -> Result<Vec<u8>, HostFault> {
         Err(HostFault)
     }
@@ -316,6 +318,8 @@ fn judges_images_that_are_too_long(rt: HostRuntime) {
 struct Full;
 
 impl Host for Full {
+    type Screen = NoScreen;
+
     fn read(&mut self, _name: &str) -> Result<Vec<u8>, HostFault> {
         Err(HostFault)
     }

@@ -4,7 +4,7 @@ ghost use Rattle.std.specs.Prelude.{◌≤◌, IfOk, length};
 use crate::tests::runs::{WITH_CONSOLE, with_image};
 use crate::tests::{UNTOLD, expect_told, output_of};
 use commands::perform::perform;
-use commands::{Host, HostFault, Job, Live, Run};
+use commands::{Host, HostFault, Job, Live, NoScreen, Run};
 use std::alloc::{AllocError, Global};
 use std::num::NonZeroU64;
 use std::process::Abort;
@@ -19,9 +19,9 @@ pub const LISTENS: &str = "\
 
 // The files `image`, `record` and `saved`, and what is typed.
 #[derive(Drop)]
-struct Desk {
-    image: Vec<u8>,
-    record: Vec<u8>,
+pub struct Desk {
+    pub image: Vec<u8>,
+    pub record: Vec<u8>,
     saved: Vec<u8>,
     typed: Vec<u8>,
     // How long the record may get.
@@ -29,6 +29,8 @@ struct Desk {
 }
 
 impl Host for Desk {
+    type Screen = NoScreen;
+
     fn read(&mut self, name: &str) -> Result<Vec<u8>, HostFault> {
         let found = if name == "image" {
             &self.image
@@ -73,7 +75,7 @@ impl Host for Desk {
     }
 }
 
-fn desk_of(alloc: Global, image: &[u8], typed: &[u8], room: usize) -> Result<Desk, AllocError> {
+pub fn desk_of(alloc: Global, image: &[u8], typed: &[u8], room: usize) -> Result<Desk, AllocError> {
     Ok(Desk {
         image: image.to_vec(alloc)?,
         record: Vec::new(alloc),

@@ -1,5 +1,6 @@
 //! Stored runs of the commands that take files out of disk images and put files into them.
 use crate::tests::images::{CHECK, mkfs};
+use crate::tests::telling::expect_explained;
 use crate::tests::{Files, expect, files_of};
 use commands::{Get, Job, Ls, Put};
 use std::process::Abort;
@@ -104,6 +105,26 @@ fn gets_no_file_where_none_is(rt: HostRuntime) {
     files.image.truncate(1023);
     expect(&rt, &mut files, &get("/f"), "", "fault 1 Length\n", 1);
     expect(&rt, &mut files, &put("/f"), "", "fault 1 Length\n", 1);
+}
+
+// A path that leads to no file, and the one that was meant.
+static MEANT: [(&str, &str); 5] = [
+    ("/F", "/F: did you mean /f?"),
+    ("D//e/x", "D//e/x: did you mean /d//e/x?"),
+    ("/d/E/x", "/d/E/x: did you mean /d/e/x?"),
+    ("/d/f", NOTHING),
+    ("/c", NOTHING),
+];
+
+const NOTHING: &str =
+    "there is nothing of this name on the image: xv6 ls IMAGE / shows what there is";
+
+#[test]
+fn guesses_names(rt: HostRuntime) {
+    let mut files = with_letters(&rt, 1);
+    for (path, more) in &MEANT {
+        expect_explained(&rt, &mut files, &get(path), "fault 1 NotFound", more);
+    }
 }
 
 // Paths, and what is listed there and below.

@@ -1,9 +1,10 @@
 //! Stored plays, and the scripts that they come to.
 use crate::tests::living::LISTENS;
 use crate::tests::runs::{WITH_CONSOLE, with_image};
+use crate::tests::telling::expect_explained;
 use crate::tests::{UNTOLD, expect_told};
 use commands::perform::perform;
-use commands::{Host, HostFault, Job, Play, Run};
+use commands::{Host, HostFault, Job, NoScreen, Play, Run};
 use std::alloc::{AllocError, Global};
 use std::process::Abort;
 
@@ -16,6 +17,8 @@ struct Stage {
 }
 
 impl Host for Stage {
+    type Screen = NoScreen;
+
     fn read(&mut self, name: &str) -> Result<Vec<u8>, HostFault> {
         let found = if name == "image" {
             &self.image
@@ -244,5 +247,9 @@ fn faults_of_plays_are_told(rt: HostRuntime) {
         });
         let line = format!(in rt.alloc(); "play:{told}\n").expect(&rt, "memory");
         expect_on(&rt, &mut stage, &job, ("", line.as_str(), 1));
+        if *play == "untill" {
+            let more = "untill: did you mean until?";
+            expect_explained(&rt, &mut stage, &job, line.as_str(), more);
+        }
     }
 }

@@ -1,6 +1,7 @@
 //! Stored runs of machines that boot from an image.
 use crate::tests::images::{CHECK, mkfs};
 use crate::tests::program_files::ASM;
+use crate::tests::telling::expect_explained;
 use crate::tests::{DEAD, Files, UNTOLD, expect, expect_narrow, files_of};
 use commands::perform::perform;
 use commands::{Job, Run};
@@ -9,11 +10,13 @@ use std::num::NonZeroU64;
 use std::process::Abort;
 
 // Says `hi` on descriptor 1: 35 bytes.
-const HELLO: &str = "\
+pub const HELLO: &str = "\
     addi a0, zero, 1\n addi a1, zero, 32\n addi a2, zero, 3\n addi a7, zero, 16\n ecall\n\
     addi a0, zero, 0\n addi a7, zero, 2\n ecall\n.ascii \"hi\\n\"\n";
 
-const INIT: &str = "file /init host";
+pub const INIT: &str = "file /init host";
+
+const NO_INIT: &str = "fault 5 NoInit\n";
 
 // Puts this text where texts lie.
 pub fn put_text(rt: &(impl Abort + AllocGlobal), files: &mut Files, text: &[u8]) {
@@ -297,7 +300,15 @@ fn needs_frames(rt: HostRuntime) {
     put_text(&rt, &mut files, b"step 2");
     expect(&rt, &mut files, &run(64, false, None), "", DEAD, 0);
     let mut files = with_image(&rt, ".zero 229377", INIT, 400);
-    expect_fault(&rt, &mut files, 64, "fault 5 NoInit\n");
+    expect_fault(&rt, &mut files, 64, NO_INIT);
+    let job = run(64, false, None);
+    expect_explained(
+        &rt,
+        &mut files,
+        &job,
+        NO_INIT,
+        "64 frames don't suffice for /init",
+    );
     expect(&rt, &mut files, &run(65, false, None), "", DEAD, 0);
 }
 
@@ -328,16 +339,25 @@ fn boots_from_no_image_that_is_refused(rt: HostRuntime) {
 
 #[test]
 fn needs_a_program_to_begin_with(rt: HostRuntime) {
-    static MANIFESTS: [&str; 4] = ["", "file /other host", "dir /init", "dev /init 1 0"];
-    for manifest in &MANIFESTS {
+    static MANIFESTS: [(&str, &str); 4] = [
+        ("", "no /init on the image"),
+        ("file /other host", "no /init on the image"),
+        ("dir /init", "/init is a directory"),
+        ("dev /init 1 0", "no /init on the image"),
+    ];
+    for (manifest, more) in &MANIFESTS {
         let mut files = with_image(&rt, HELLO, manifest, 32);
-        expect_fault(&rt, &mut files, 64, "fault 5 NoInit\n");
+        expect_fault(&rt, &mut files, 64, NO_INIT);
+        expect_explained(&rt, &mut files, &run(64, false, None), NO_INIT, more);
     }
     let mut files = with_image(&rt, HELLO, INIT, 32);
     files.bytes.truncate(119);
     put_text(&rt, &mut files, INIT.as_bytes());
     expect(&rt, &mut files, &mkfs(32, 16), "", "", 0);
-    expect_fault(&rt, &mut files, 64, "fault 5 NoInit\n");
+    expect_fault(&rt, &mut files, 64, NO_INIT);
+    let more =
+        "/init is no program: fault 5 Short: the file ends before its headers or segments do: is it cut off?";
+    expect_explained(&rt, &mut files, &run(64, false, None), NO_INIT, more);
 }
 
 // The names of the image and the script, the bytes of the script, and standard error.

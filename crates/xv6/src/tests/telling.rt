@@ -1,8 +1,8 @@
 //! What is told of a run besides how it ended, and what is said of a line that tells a fault.
 use crate::tests::images::mkfs;
 use crate::tests::runs::put_text;
-use crate::tests::{Files, UNTOLD, expect, files_of, flat, hello, program_of};
-use commands::{Flat, Job, Telling, explain, explain_words};
+use crate::tests::{UNTOLD, expect, files_of, flat, hello, program_of};
+use commands::{Flat, Host, Job, Telling, explain, explain_words};
 use std::num::NonZeroU64;
 use std::process::Abort;
 
@@ -81,18 +81,22 @@ fn tells_pages_and_registers(rt: HostRuntime) {
     expect(&rt, &mut files, &job, "", pages, 0);
 }
 
-// What is said of the last line that a job told, over a text.
-fn expect_explained(
+// What is said of the last line that a job told.
+pub fn expect_explained(
     rt: &(impl Abort + AllocGlobal),
-    files: &mut Files,
+    files: &mut impl Host,
     job: &Job<'_>,
-    row: &(&str, &str, &str),
+    line: &str,
+    wanted: &str,
 ) {
-    let (text, line, wanted) = *row;
-    put_text(rt, files, text.as_bytes());
     let mut err = Vec::new(rt.alloc());
-    explain(rt.alloc(), job, line, files, &mut err).expect(rt, "memory");
-    assert_eq!(rt; err.as_slice(), wanted.as_bytes(), "{line}");
+    explain(rt.alloc(), job, line.trim_end(), files, &mut err).expect(rt, "memory");
+    let told = str::from_utf8(err.as_slice()).unwrap_or("").trim_end();
+    assert_eq!(rt;
+        told.strip_prefix("explain: ").unwrap_or(""),
+        wanted,
+        "{line}"
+    );
 }
 
 #[test]
@@ -101,27 +105,36 @@ fn explains_what_is_wrong(rt: HostRuntime) {
         (
             "dir /a\ndir /a\n",
             "fault 2 Twice",
-            "explain: manifest:2: /a is listed twice\n",
+            "manifest:2: /a is listed twice",
         ),
         (
             "dri /a\n",
             "manifest line 1",
-            "explain: manifest:1: dri /a: did you mean dir?\n",
+            "manifest:1: dri /a: did you mean dir?",
         ),
         ("dir /a\n", "a line of no fault", ""),
     ];
-    static SCRIPTS: [(&str, &str, &str); 1] = [(
-        "step 1\nstepp 1\n",
-        "script line 2",
-        "explain: script:2: stepp 1: did you mean step?\n",
-    )];
+    static SCRIPTS: [(&str, &str, &str); 2] = [
+        (
+            "step 1\nstepp 1\n",
+            "script line 2",
+            "script:2: stepp 1: did you mean step?",
+        ),
+        (
+            "step x\n",
+            "script line 1",
+            "script:1: step x: the line is none of `step N`, `tick N`, `keys HEX` and `type TEXT`; N is up to 1000000000",
+        ),
+    ];
     let nothing = Vec::new(rt.alloc());
     let mut files = files_of(rt.alloc(), nothing, b"").expect(&rt, "memory");
-    for row in &MANIFESTS {
-        expect_explained(&rt, &mut files, &mkfs(64, 16), row);
+    for (text, line, wanted) in &MANIFESTS {
+        put_text(&rt, &mut files, text.as_bytes());
+        expect_explained(&rt, &mut files, &mkfs(64, 16), line, wanted);
     }
-    for row in &SCRIPTS {
-        expect_explained(&rt, &mut files, &flat(256, false), row);
+    for (text, line, wanted) in &SCRIPTS {
+        put_text(&rt, &mut files, text.as_bytes());
+        expect_explained(&rt, &mut files, &flat(256, false), line, wanted);
     }
     let mut err = Vec::new(rt.alloc());
     explain_words(rt.alloc(), &["xv6", "rnu", "a"], &mut err).expect(&rt, "memory");

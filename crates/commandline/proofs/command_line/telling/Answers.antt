@@ -7,4 +7,5 @@ returns c = record {
   registers = c.in-Ok.ensures;
   memory = c.in-Ok-count_found.ensures;
   status = c.flag_found-status.ensures;
+  progress = c.flag_found-progress.ensures;
 }
