@@ -1,4 +1,4 @@
-/* test.c IMAGE SCRIPT: a session with each function of xv6.h, 40 machines at once, and arguments that are wrong. The console's bytes go to
+/* test.c IMAGE SCRIPT: a session with each function of xv6.h, 40 machines at once, copies, and arguments that are wrong. The console's bytes go to
    standard output, and the events of the session to SCRIPT: `xv6 run --frames 256 IMAGE SCRIPT` has to print the same bytes.
    make check-library runs it under valgrind. The status is 0 where all is as it has to be. */
 #include "xv6.h"
@@ -168,9 +168,70 @@ static void play_many(void)
     for (i = 0; i < MACHINES; i++) xv6_close(&machines[i]);
 }
 
+/* ---- copies */
+
+/* Whether two machines have the same processes, with all registers, and as many free frames. */
+static int are_alike(struct xv6_machine *one, struct xv6_machine *other)
+{
+    struct xv6_process first, second;
+    uint32_t pid = 0;
+    while ((pid = xv6_next_pid(one, pid)) != 0) {
+        if (xv6_process(one, pid, &first) != 0 || xv6_process(other, pid, &second) != 0) return 0;
+        if (memcmp(&first, &second, sizeof first) != 0 || xv6_next_pid(one, pid) != xv6_next_pid(other, pid)) return 0;
+    }
+    return xv6_free_frames(one) == xv6_free_frames(other);
+}
+
+/* A copy in the middle of a command goes on as its source, another one has a tick more, and none sees what the others do. */
+static void play_copies(int source_goes_first)
+{
+    struct xv6_machine source = {NULL}, twin = {NULL}, other = {NULL};
+    uint32_t done;
+    size_t bytes;
+    int i;
+    must(xv6_boot(image, length, FRAMES, &source) == 0 && xv6_run(&source, MANY, &done) == 0, "a machine that is copied");
+    must(xv6_key(&source, 'l') == 0 && xv6_key(&source, 's') == 0 && xv6_key(&source, '\n') == 0, "its line");
+    must(xv6_steps(&source, 300) == 0, "it is at its line");
+    must(xv6_copy(&source, &twin) == 0 && xv6_copy(&source, &other) == 0, "two copies");
+    must(twin.inside != NULL && twin.inside != source.inside && are_alike(&twin, &source), "a copy is like its source");
+    must(xv6_tick(&other) == 0 && xv6_steps(&other, 300) == 0, "one copy goes on");
+    must(are_alike(&twin, &source) && !are_alike(&other, &source), "the others stay");
+    for (i = 0; i < 300; i++) {
+        must(xv6_steps(&source, 1) == 0 && xv6_steps(&twin, 1) == 0, "one step of two machines");
+        must(are_alike(&twin, &source), "both do the same");
+    }
+    must(!are_alike(&other, &source), "a tick goes another way");
+    must(xv6_key(&other, 'x') == 0 && xv6_run(&source, MANY, &done) == 0 && xv6_run(&twin, MANY, &done) == 0, "a key for one of them");
+    bytes = print_console(&source, NULL);
+    must(bytes > 20 && print_console(&twin, NULL) == bytes, "a copy has the bytes that nobody took");
+    xv6_close(source_goes_first ? &source : &twin);
+    must(xv6_run(&other, MANY, &done) == 0 && print_console(&other, NULL) == bytes + 1, "what was closed is not missed");
+    xv6_close(source_goes_first ? &twin : &source);
+    xv6_close(&other);
+}
+
+/* A machine that has stopped has copies that have stopped. */
+static void copy_stopped(void)
+{
+    static const char line[] = "kill 1\n";
+    struct xv6_machine machine = {NULL}, copy = {NULL};
+    uint8_t *saved = malloc(length), *other = malloc(length);
+    uint32_t done;
+    size_t i, bytes = 0;
+    must(saved != NULL && other != NULL && xv6_boot(image, length, FRAMES, &machine) == 0, "the image boots for a kill");
+    for (i = 0; line[i] != 0; i++) must(xv6_key(&machine, (uint8_t)line[i]) == 0, "a key of a kill");
+    must(xv6_run(&machine, MANY, &done) == XV6_INIT_ENDED && xv6_copy(&machine, &copy) == 0, "a copy after the end");
+    must(xv6_tick(&machine) == XV6_HALTED && xv6_tick(&copy) == XV6_HALTED && are_alike(&copy, &machine), "both have stopped");
+    must(xv6_save(&copy, other, length, &bytes) == 0 && bytes == length, "the copy is saved");
+    must(xv6_save(&machine, saved, length, &bytes) == 0 && bytes == length, "its source is saved");
+    must(memcmp(saved, other, length) == 0, "both images are the same");
+    free(saved);
+    free(other);
+}
+
 /* ---- arguments that are wrong */
 
-static struct xv6_machine up, closed;
+static struct xv6_machine up, closed, copied;
 static struct xv6_process process;
 static struct xv6_stat stat_out;
 static uint8_t room[16];
@@ -218,6 +279,8 @@ static void refuse_handle(struct xv6_machine *machine)
     ROW(xv6_stat(machine, 1, &stat_out), XV6_NULL);
     ROW(xv6_read(machine, 1, 0, room, sizeof room, &count), XV6_NULL);
     ROW(xv6_save(machine, room, sizeof room, &count), XV6_NULL);
+    ROW(xv6_copy(machine, &copied), XV6_NULL);
+    ROW(xv6_is_closed(&copied), 1);
     ROW(xv6_is_closed(machine), 1);
     xv6_close(machine);
 }
@@ -225,6 +288,8 @@ static void refuse_handle(struct xv6_machine *machine)
 /* A place that is null, for a machine that is up. */
 static void refuse_places(void)
 {
+    ROW(xv6_copy(&up, NULL), XV6_NULL);
+    ROW(xv6_copy(&up, &up), XV6_NULL);
     ROW(xv6_run(&up, 1, NULL), XV6_NULL);
     ROW(xv6_process(&up, 1, NULL), XV6_NULL);
     ROW(xv6_stat(&up, 1, NULL), XV6_NULL);
@@ -293,6 +358,9 @@ int main(int argc, char **argv)
     play(script);
     must(fclose(script) == 0, "the script is written");
     play_many();
+    play_copies(0);
+    play_copies(1);
+    copy_stopped();
     refuse();
     free(image);
     return wrong;

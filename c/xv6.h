@@ -5,7 +5,7 @@
 
    Memory   The library copies the image, and keeps no pointer of the caller's after a call. `inside` is the library's own:
             xv6_close and xv6_save free it and clear `inside`, nothing else may. Make no copy of a handle: one of a machine
-            that was closed is not known as such, and to use it is undefined.
+            that was closed is not known as such, and to use it is undefined. xv6_copy makes a machine of its own.
    Errors   0, or a number of those below. After XV6_INIT_ENDED one can still look and save; after XV6_CONSOLE_LOST each event,
             xv6_stat, xv6_read and xv6_save answer XV6_HALTED. The numbers that xv6_is_idle, xv6_console, xv6_next_pid,
             xv6_page and xv6_free_frames tell are no errors: where something is null they tell 1, 0, 0, 0 and 0.
@@ -24,9 +24,9 @@ extern "C" {
 #endif
 
 /* The major number times 1000, and the minor one. A new function adds 1; one that changes, or a struct that does, adds 1000. */
-#define XV6_VERSION 1000
+#define XV6_VERSION 1001
 
-/* A machine. All of it is cleared before xv6_boot and after xv6_close. */
+/* A machine. All of it is cleared before xv6_boot and xv6_copy, and after xv6_close. */
 struct xv6_machine {
     void *inside;
 };
@@ -51,7 +51,7 @@ struct xv6_stat {
     uint32_t size;          /* in bytes */
 };
 
-/* Why an image doesn't boot. */
+/* Why an image doesn't boot. xv6_copy answers XV6_BOOT_MEMORY alone. */
 enum {
     XV6_BOOT_IMAGE = 1,     /* the bytes are no image */
     XV6_BOOT_FRAMES = 2,    /* fewer than 64 frames, or more than 32768 */
@@ -82,6 +82,7 @@ enum { XV6_PAGE = 1, XV6_READ = 2, XV6_WRITE = 4, XV6_EXECUTE = 8 };
 
 uint32_t xv6_raw_version(void);
 uint32_t xv6_raw_boot(const uint8_t *image, size_t length, uint32_t frames, struct xv6_machine *out);
+uint32_t xv6_raw_copy(struct xv6_machine *machine, struct xv6_machine *out);
 void xv6_raw_close(struct xv6_machine machine);
 uint32_t xv6_raw_steps(struct xv6_machine *machine, uint32_t times);
 uint32_t xv6_raw_run(struct xv6_machine *machine, uint32_t most, uint32_t *done);
@@ -116,6 +117,13 @@ static inline uint32_t xv6_boot(const uint8_t *image, size_t length, uint32_t fr
 {
     if (out == NULL || (image == NULL && length != 0)) return XV6_NULL;
     return xv6_raw_boot(image, length, frames, out);
+}
+
+/* Copies a machine, with the bytes of its console that nobody took: both go on by themselves from where it stands, and each is closed by
+   itself. XV6_BOOT_MEMORY where the host has no memory, and then nothing is written. `out` is another place than `machine`. */
+static inline uint32_t xv6_copy(struct xv6_machine *machine, struct xv6_machine *out)
+{
+    return xv6_is_closed(machine) || out == NULL || out == machine ? XV6_NULL : xv6_raw_copy(machine, out);
 }
 
 /* Ends a machine, frees its memory and clears `inside`. Nothing happens where it was cleared. */

@@ -1,5 +1,5 @@
 #!/usr/bin/env python3
-"""test.py FOLDER PROGRAM IMAGE: the package in a folder, and 50 random sessions, whose console has the bytes of `xv6 run`."""
+"""test.py FOLDER PROGRAM IMAGE: the package in a folder, 50 random sessions, whose console has the bytes of `xv6 run`, and 50 that are copied."""
 import copy
 import os
 import random
@@ -72,10 +72,9 @@ def try_errors(image):
     assert raises(BootError, Machine, image[:-1]) and raises(BootError, Machine, b"") and raises(BootError, Machine, image, 63)
     assert raises(ValueError, Machine, image, -1) and raises(ValueError, Machine, image, 1 << 32) and raises(TypeError, Machine, "xv6.img")
     machine = Machine(bytearray(image), 64)
-    other = copy.copy(machine)
     machine.close()
     machine.close()
-    calls = [machine.run, machine.tick, machine.console, machine.processes, machine.files, machine.save, other.run, lambda: machine.steps(1)]
+    calls = [machine.run, machine.tick, machine.console, machine.processes, machine.files, machine.save, machine.copy, lambda: machine.steps(1)]
     assert all(raises(Closed, call) for call in calls) and raises(Closed, machine.type, "x") and raises(Closed, machine.page, 1, 0)
     with Machine(image) as halting:
         halting.type("kill 1\n")
@@ -85,6 +84,37 @@ def try_errors(image):
         except Halted as error:
             assert error.number == 1 and error.reason == "process 1 ended" and isinstance(error, Error)
         assert halting.process(1).state == "ended" and raises(Halted, halting.run) and len(halting.save()) == len(image)
+
+
+def told(machine):
+    """All processes with their registers, and how many frames are free."""
+    return machine.processes(), machine.free_frames
+
+
+def try_copies(image):
+    """A copy goes on as its source does, and neither sees what the other does."""
+    machine = Machine(image)
+    machine.run_until("init: ")
+    machine.type("ls\n")
+    machine.steps(300)
+    twin, other, deep = machine.copy(), copy.copy(machine), copy.deepcopy(machine)
+    before = told(machine)
+    other.tick()
+    other.steps(300)
+    assert told(machine) == before == told(twin) == told(deep) != told(other)
+    for _step in range(300):
+        machine.steps(1)
+        twin.steps(1)
+        assert told(machine) == told(twin)
+    assert told(machine) != told(other)
+    text = machine.run_until("console\n$ ")
+    assert text.startswith(b"starting sh\n$ ls\n") and text == twin.run_until("console\n$ ")
+    deep.type("mkdir d\n")
+    machine.close()
+    deep.run()
+    assert "/d" in deep.files() and "/d" not in twin.files() and raises(Closed, copy.copy, machine)
+    twin.close()
+    assert other.run_until("console\n$ ") == text and other.run() == 0 and deep.save() != other.save()
 
 
 def try_threads(image):
@@ -129,6 +159,16 @@ def play(machine, dice):
     return [line for line in script if line != "step 0"]
 
 
+def try_copied_seeds(image):
+    """A copy in the middle of a random session: the same events do the same to both, and leave the same disk."""
+    for seed in range(SEEDS):
+        with Machine(image, 128) as machine:
+            play(machine, random.Random(seed))
+            with machine.copy() as twin:
+                assert play(machine, random.Random(SEEDS + seed)) == play(twin, random.Random(SEEDS + seed)), f"seed {seed}"
+                assert told(machine) == told(twin) and machine.console() == twin.console() and machine.save() == twin.save(), f"seed {seed}"
+
+
 def try_seeds(program, path, image):
     """Random sessions; tells how many bytes their consoles have."""
     all_bytes = 0
@@ -149,8 +189,11 @@ def main():
     free = try_session(image)
     try_files(image)
     try_errors(image)
+    try_copies(image)
     try_threads(image)
-    print(f"check-library: Python: a session, with {free} frames free; files; errors; threads")
+    print(f"check-library: Python: a session, with {free} frames free; files; errors; copies; threads")
+    try_copied_seeds(image)
+    print(f"check-library: Python: {SEEDS} random sessions, each copied on its way")
     print(f"check-library: Python: {SEEDS} random sessions, {try_seeds(os.path.abspath(program), path, image)} bytes, the same as the program's")
 
 

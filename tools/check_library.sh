@@ -1,5 +1,5 @@
 #!/bin/sh
-# check_library.sh FOLDER PROGRAM IMAGE: tries the library that library.sh made. C: a session, 40 machines and arguments that are wrong,
+# check_library.sh FOLDER PROGRAM IMAGE: tries the library that library.sh made. C: a session, 40 machines, copies and arguments that are wrong,
 # under valgrind, which has to find no leak and no invalid access; Python: the package, and 50 random sessions. The console's bytes are those
 # of `xv6 run`. It needs Debian's gcc, g++, make, valgrind, python3 and python3-matplotlib.
 set -e

@@ -20,7 +20,7 @@ from typing import Dict, Iterator, List, Optional, Tuple, Union
 
 __all__ = ["BootError", "Closed", "Error", "Halted", "Machine", "Node", "NotPrinted", "Page", "Process", "VERSION"]
 
-VERSION = 1000
+VERSION = 1001
 """The version of the library that this file is written for: the major number times 1000, and the minor one."""
 
 PAGE_SIZE = 4096
@@ -110,6 +110,7 @@ def _load() -> ctypes.CDLL:
     for function_name, answer, takes in [
         ("version", u32, []),
         ("boot", u32, [data, size, u32, at]),
+        ("copy", u32, [at, at]),
         ("close", None, [_Machine]),
         ("steps", u32, [at, u32]),
         ("run", u32, [at, u32, ctypes.POINTER(u32)]),
@@ -192,17 +193,39 @@ class Machine:
     """
 
     def __init__(self, image: bytes, frames: int = 256) -> None:
-        self._at = _Machine()
-        self._lock = threading.RLock()
-        self._room = ctypes.create_string_buffer(1 << 16)
-        self._kept = b""
         image = image if isinstance(image, bytes) else bytes(memoryview(image))
-        self._length = len(image)
+        self._set_up(len(image))
         fault = _library.xv6_raw_boot(image, len(image), _number(frames), self._at)
         if fault:
             raise BootError(fault)
 
+    def _set_up(self, length: int, kept: bytes = b"") -> None:
+        """No machine yet: how many bytes its image has, and what it printed and nobody took."""
+        self._at = _Machine()
+        self._lock = threading.RLock()
+        self._room = ctypes.create_string_buffer(1 << 16)
+        self._length = length
+        self._kept = kept
+
     # ---- its life
+
+    def copy(self) -> Machine:
+        """A machine of its own that goes on from where this one stands, also with what was printed and `console` did not give yet.
+
+        Neither sees what the other does, and each is closed by itself. MemoryError where the host has no memory for it.
+        """
+        with self._lock:
+            at = self._open()
+            other = object.__new__(type(self))
+            other._set_up(self._length, self._kept)
+            if _library.xv6_raw_copy(at, other._at):
+                raise MemoryError("the host has no memory for a copy")
+            return other
+
+    __copy__ = copy
+
+    def __deepcopy__(self, _memo: Dict[int, object]) -> Machine:
+        return self.copy()
 
     def close(self) -> None:
         """Ends the machine and frees its memory. Nothing happens where it is closed."""

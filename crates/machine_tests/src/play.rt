@@ -315,9 +315,9 @@ fn byte_at(ram: &Ram, pa: u64) -> Option<u8> {
     }
 }
 
-// A console that takes one byte at a time, so many of them, and then none.
+/// A console that takes one byte at a time, so many of them, and then none.
 #[derive(Drop)]
-struct Narrow {
+pub(crate) struct Narrow {
     taken: Vec<u8>,
     room: usize,
 }
@@ -338,6 +338,12 @@ impl Write for Narrow {
     }
 }
 
+/// A console that takes so many bytes.
+pub(crate) fn narrow(alloc: Global, room: usize) -> Writer<Narrow> {
+    let taken = Vec::new(alloc);
+    Writer::new(Narrow { taken, room })
+}
+
 // A machine, and what it prints.
 #[derive(Drop)]
 struct Play<T: Translate + Drop> {
@@ -355,8 +361,7 @@ impl<T: Translate + Drop> Play<T> {
     ) -> Option<Play<T>> {
         let bytes = program.bytes(alloc).ok()?;
         let machine = boot_flat_with(alloc, bytes.as_slice(), translator, frames).ok()?;
-        let taken = Vec::new(alloc);
-        let out = Writer::new(Narrow { taken, room });
+        let out = narrow(alloc, room);
         Some(Play { machine, out })
     }
 

@@ -11,7 +11,7 @@ use crate::play::{Ran, advance, is_up, repeat};
 use blockdev::MemDisk;
 use console::Writer;
 use image::ImageFault;
-use machine::{BootFault, Halt, Machine, boot};
+use machine::{BootFault, Halt, Machine, NoMemory, boot};
 use std::alloc::Global;
 use std::mem::replace;
 use sv39::Tlb;
@@ -56,6 +56,24 @@ impl Session {
             alloc,
             machine,
             console: Writer::new(Vec::new(alloc)),
+        })
+    }
+
+    /// A session of its own, which goes on as this one would: with the same machine, and the same bytes of its console that nobody
+    /// took yet.
+    ///
+    /// `NoMemory` where the host has none for it.
+    pub fn copy(&self) -> Result<Session, NoMemory>
+        ensures machine { IfOk result (λ s. s.machine ≡ self.now.machine) }
+        ensures console { IfOk result (λ s. console_of s ≡ console_of self.now) }
+    {
+        let Ok(bytes) = Vec::from_slice(self.alloc, self.console.get_ref().as_slice()) else {
+            return Err(NoMemory);
+        };
+        Ok(Session {
+            alloc: self.alloc,
+            machine: self.machine.copy(self.alloc, Tlb::<64>::new())?,
+            console: Writer::new(bytes),
         })
     }
 

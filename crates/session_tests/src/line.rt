@@ -88,6 +88,27 @@ fn a_line_ends_the_program(rt: HostRuntime) {
     assert!(rt; is_in(&session, 4, 0));
 }
 
+// Whether a typed line ends the program, and nothing but its echo is to be taken.
+fn ends_by_a_line(session: &mut Session) -> bool {
+    let is_typed = session.key(b'x') == Ok(()) && session.key(b'\n') == Ok(());
+    let ran = session.run(MANY);
+    is_typed
+        && ran.answer == Err(Halt::InitEnded(7))
+        && takes(session, 4, b"x\n")
+        && is_in(session, 4, 0)
+}
+
+// That the host has no memory for a copy is tried by no test: a session is over the heap itself, which no test can empty.
+#[test]
+fn a_copy_goes_on_like_its_source(rt: HostRuntime) {
+    let mut session = booted(rt.alloc()).expect(&rt, "a session");
+    let _ran = session.run(MANY);
+    let mut copy = session.copy().expect(&rt, "a copy");
+    assert!(rt; takes(&mut session, 4, b"hi\n") && takes(&mut copy, 4, b"hi\n"));
+    assert!(rt; ends_by_a_line(&mut copy) && is_in(&session, 3, 5));
+    assert!(rt; takes(&mut session, 4, b"") && ends_by_a_line(&mut session));
+}
+
 #[test]
 fn as_many_steps_do_the_same(rt: HostRuntime) {
     let mut session = booted(rt.alloc()).expect(&rt, "a session");

@@ -34,9 +34,21 @@ use std::alloc::Global;
 /// The version of these functions: the major number times 1000, and the minor one.
 #[unsafe(no_mangle)]
 pub extern "C" fn xv6_raw_version() -> u32
-    ensures { result ≡ 1000 }
+    ensures { result ≡ 1001 }
 {
-    1000
+    1001
+}
+
+// Puts the handle of a session: 0, or 4 where there is no memory for it.
+fn put_session(alloc: Global, session: Session, out: &mut *mut u8) -> u32
+    ensures refused { result ≢ 0 → result ≡ 4 }
+    ensures kept { result ≢ 0 → out.new ≡ out.old }
+{
+    let Ok(boxed) = Box::new(alloc, session) else {
+        return of_fault(BootFault::NoMemory);
+    };
+    *out = Box::into_raw(boxed) as *mut u8;
+    0
 }
 
 /// Boots a machine from a copy of an image. 0: its handle is at `out`; else why there is none.
@@ -46,15 +58,24 @@ pub extern "C" fn xv6_raw_boot(alloc: Global, image: &[u8], frames: u32, out: &m
     ensures refused { result ≢ 0 → RefusesBy image.now frames result }
     ensures kept { result ≢ 0 → out.new ≡ out.old }
 {
-    let session = match Session::boot(alloc, image, frames) {
-        Ok(session) => session,
-        Err(fault) => return of_fault(fault),
-    };
-    let Ok(boxed) = Box::new(alloc, session) else {
-        return of_fault(BootFault::NoMemory);
-    };
-    *out = Box::into_raw(boxed) as *mut u8;
-    0
+    match Session::boot(alloc, image, frames) {
+        Ok(session) => put_session(alloc, session, out),
+        Err(fault) => of_fault(fault),
+    }
+}
+
+/// Copies a machine, and the bytes of its console that nobody took yet; nothing of it changes. 0: the copy's handle is at `out`; 4: there is
+/// no memory for it.
+#[unsafe(no_mangle)]
+pub extern "C" fn xv6_raw_copy(machine: &mut Sealed, alloc: Global, out: &mut *mut u8) -> u32
+    ensures same { machine.new.session ≡ machine.old.session }
+    ensures refused { result ≢ 0 → result ≡ 4 }
+    ensures kept { result ≢ 0 → out.new ≡ out.old }
+{
+    match get_mut(machine).copy() {
+        Ok(session) => put_session(alloc, session, out),
+        Err(_) => of_fault(BootFault::NoMemory),
+    }
 }
 
 /// Ends a machine and frees its memory.
