@@ -59,7 +59,7 @@ def hart_rows():
         without = Flat(program)
         cached = Flat(program, flags=("--tlb",))
         yield beside_plain(name, without, count=steps, unit="step")
-        yield beside_plain(f"{name} with --tlb", cached, Beside("without --tlb", without, 0.5), count=steps, unit="step")
+        yield beside_plain(f"{name} with --tlb", cached, Beside("without --tlb", without, 1.1), count=steps, unit="step")
         booted = Booted(image_of({"init": program}))
         yield Row(f"{name} from an image", booted, steps, "step", (Beside("the same by `flat`", without),))
 

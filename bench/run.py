@@ -9,10 +9,10 @@ and else beside the same at another size; and the commands that make and check i
 
     tight loop with --tlb: 1.294 s, 12.9 ns for each step, peak 3052 KiB
         plain Rust: 1.142 s, ratio 1.13
-        without --tlb: 2.443 s, ratio 0.53, MORE THAN 0.5
+        without --tlb: 1.121 s, ratio 1.15, MORE THAN 1.1
 
-says that the row took 1.294 seconds of processor time, 1.13 times as long as the plain interpreter and 0.53 times as long as
-without the flag, where at most half is wanted. Where the job beside a row does fewer units, `1.02 for each byte` says that a
+says that the row took 1.294 seconds of processor time, 1.13 times as long as the plain interpreter and 1.15 times as long as
+without the flag, where at most 1.1 is wanted. Where the job beside a row does fewer units, `1.02 for each byte` says that a
 byte of the row took 1.02 times as long as one of that job. A row is run turn by turn with what stands beside it, so that other
 work on the machine slows both, and the least times are taken.
 
