@@ -1,7 +1,7 @@
 //! Copies of machines: each goes on as its source does, and neither sees what the other does.
 use crate::hello::{BYTES, stale};
 use crate::play::{
-    EXIT, FORK, MKDIR, PIPE, Program, READ, ROOM, Row, SLEEP, WAIT, WRITE, holds_at, narrow,
+    EXIT, FORK, MKDIR, PIPE, Program, READ, ROOM, Row, SLEEP, WAIT, WRITE, holds_at, narrow_console,
 };
 use blockdev::MemDisk;
 use console::Writer;
@@ -189,7 +189,7 @@ fn stays_stopped(alloc: Global, machine: &Machine<MemDisk, Plain>, saves: bool) 
 // The same for a program that says `hi` at a console that takes so many bytes, and why it stops.
 fn is_copied_stopped(alloc: Global, room: usize, why: Halt, saves: bool) -> Option<bool> {
     let mut machine = boot_flat_with(alloc, &BYTES, Plain::new(), 64).ok()?;
-    let done = machine.run(&[Event::Step; 9], &mut narrow(alloc, room));
+    let done = machine.run(&[Event::Step; 9], &mut narrow_console(alloc, room));
     Some(done == Err(why) && stays_stopped(alloc, &machine, saves)?)
 }
 

@@ -339,7 +339,7 @@ impl Write for Narrow {
 }
 
 /// A console that takes so many bytes.
-pub(crate) fn narrow(alloc: Global, room: usize) -> Writer<Narrow> {
+pub(crate) fn narrow_console(alloc: Global, room: usize) -> Writer<Narrow> {
     let taken = Vec::new(alloc);
     Writer::new(Narrow { taken, room })
 }
@@ -361,7 +361,7 @@ impl<T: Translate + Drop> Play<T> {
     ) -> Option<Play<T>> {
         let bytes = program.bytes(alloc).ok()?;
         let machine = boot_flat_with(alloc, bytes.as_slice(), translator, frames).ok()?;
-        let out = narrow(alloc, room);
+        let out = narrow_console(alloc, room);
         Some(Play { machine, out })
     }
 
