@@ -64,7 +64,9 @@ fn arg<'a>(alloc: Global, word: Word<'a>) -> Arg<'a>
 fn command_of<'a>(alloc: Global, row: &Declared<'a>) -> Result<Command<'a>, AllocError>
     ensures { IfOk result (DeclaresOwn (declared_by row.now)) }
 {
-    let mut command = Command::new(alloc, row.name).about(row.about);
+    let mut command = Command::new(alloc, row.name)
+        .about(row.about)
+        .after_help(row.example);
     for word in row.words {
         command = command.arg(arg(alloc, *word))?;
     }

@@ -113,6 +113,8 @@ pub(crate) struct Word<'a> {
 pub(crate) struct Declared<'a> {
     pub(crate) name: &'a str,
     pub(crate) about: &'a str,
+    // What help ends with.
+    pub(crate) example: &'a str,
     pub(crate) words: &'a [Word<'a>],
 }
 
@@ -461,66 +463,129 @@ pub(crate) const COMMANDS: [Declared<'static>; 13] = [
     Declared {
         name: "flat",
         about: "Boots a flat program and runs a script of events",
+        example: "\
+Example, where script.txt has lines as `step 1000`, `tick 1` and `type ls`:
+
+xv6 flat --frames 128 hello.bin script.txt",
         words: &FLAT,
     },
     Declared {
         name: "run",
         about: "Boots a machine from a disk image and runs a script of events",
+        example: "\
+Example, which leaves the image after the run, and tells who waits for what at its end:
+
+xv6 run --report --save after.img disk.img script.txt",
         words: &RUN,
     },
     Declared {
         name: "live",
         about: "Boots a machine from a disk image and gives it what is typed",
+        example: "\
+Example, which keeps a script of the session and runs it again:
+
+echo ls | xv6 live --record record.txt disk.img
+xv6 run disk.img record.txt",
         words: &LIVE,
     },
     Declared {
         name: "play",
         about: "Boots a machine from a disk image and runs a play, which waits for what the machine does",
+        example: "\
+Example, where play.txt has a wait, a line that is typed, and a wait for an idle machine:
+
+    until \"$ \" 10000000
+    type ls
+    until idle 10000000
+
+xv6 play disk.img play.txt",
         words: &PLAY,
     },
     Declared {
         name: "trace",
         about: "Does as `run`, and shows each call, fault and end of a process",
+        example: "\
+Example, the calls of forks and pipes alone, and the same run for a viewer of traces:
+
+xv6 trace --calls fork,pipe,wait disk.img script.txt
+xv6 trace --perfetto trace.json disk.img script.txt",
         words: &TRACE,
     },
     Declared {
         name: "mkfs",
         about: "Makes a disk image of what a manifest lists",
+        example: "\
+Example, where manifest.txt has a directory, a file of the host and the console:
+
+    dir /bin
+    file /bin/hello hello.bin
+    dev /console 1 0
+
+xv6 mkfs --size 64 --inodes 16 manifest.txt disk.img",
         words: &MKFS,
     },
     Declared {
         name: "check",
         about: "Checks that a disk image denotes files",
+        example: "\
+Example, which prints `ok 4 inodes 3 blocks`, or `fault N Name`, told in full:
+
+xv6 check --explain disk.img",
         words: &CHECK,
     },
     Declared {
         name: "ls",
         about: "Lists a directory of a disk image",
+        example: "\
+Example, all directories; a line has name, type (1 a directory, 2 a file, 3 a device), inode, size:
+
+xv6 ls -R disk.img /",
         words: &LS,
     },
     Declared {
         name: "get",
         about: "Reads a file of a disk image",
+        example: "\
+Example, to the terminal, and to a file:
+
+xv6 get disk.img /README
+xv6 get disk.img /README readme.txt",
         words: &GET,
     },
     Declared {
         name: "put",
         about: "Writes a file of a disk image",
+        example: "\
+Example:
+
+xv6 put disk.img /hello hello",
         words: &PUT,
     },
     Declared {
         name: "migrate",
         about: "Makes an image of the large format of one of the small format",
+        example: "\
+Example:
+
+xv6 migrate old.img new.img",
         words: &MIGRATE,
     },
     Declared {
         name: "asm",
         about: "Makes a program file of an assembly text",
+        example: "\
+Example, where start.s is a text as `start: li a7, 11`, `ecall`, `j start`, a line each:
+
+xv6 asm start.s start",
         words: &ASM,
     },
     Declared {
         name: "dump",
         about: "Shows the instructions of a program file",
+        example: "\
+Example, a line for each word, as `00000000: 000008b7 lui a7, 0x0`:
+
+xv6 dump start",
         words: &DUMP,
     },
 ];

@@ -13,7 +13,7 @@ loop-word-preserved c =
     c.in_ok-command.ensures c.arg.ensures.local c.arg.ensures.rule
 
 pub loop-word-init : goal.loop-word-init
-loop-word-init c = record { shape = rw c.about-command.ensures c.new.ensures.app; local = rw c.about-command.ensures c.new.ensures.local }
+loop-word-init c = record { shape = rw (c.after_help-command.ensures, c.about.ensures) c.new.ensures.app; local = rw (c.after_help-command.ensures, c.about.ensures) c.new.ensures.local }
 
 pub returns : goal.returns
 returns c =
