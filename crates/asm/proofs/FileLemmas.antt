@@ -1,5 +1,5 @@
 -- What the reader of program files finds in the file of a program.
-use Rattle.std.proofs.Common.{◌≡◌, ◌∙◌, ◌≤◌, ◌<◌, ◌+◌, ◌-◌, ◌*◌, ◌/◌, ◌%◌, ◌^◌, ◌++◌, ◌∷◌, ℕ, List, Some, [], ap, append_assoc, arith, drop, length, refl, sym, replicate, take, true, suc, zero, length-append, if◌then◌else◌, Err, Ok, OnOk, Result, is_ok}
+use Rattle.std.proofs.Common.{false, ◌≡◌, ◌∙◌, ◌≤◌, ◌<◌, ◌+◌, ◌-◌, ◌*◌, ◌/◌, ◌%◌, ◌^◌, ◌++◌, ◌∷◌, ℕ, List, Some, [], ap, append_assoc, arith, drop, length, refl, sym, replicate, take, true, suc, zero, length-append, if◌then◌else◌, Err, Ok, OnOk, Result, is_ok}
 use Rattle.std.specs.Prelude.{slice_range, ◌==◌}
 use Rattle.std.proofs.Math.Nat.{pow-suc}
 use Rattle.std.proofs.Math.Seq.{drop-append_seam, take-length}
@@ -66,7 +66,7 @@ segment size rest = refl
 -- ---- the one segment
 
 abbrev all_marks : Perm
-all_marks = record { writable = true; executable = true; user = true }
+all_marks = record { writable = true; executable = true; user = true; shared = false }
 
 follows : (file : List ℕ) (size : ℕ) → size < 2 ^ 64 → 4096 + size ≤ length file → may_follow file 0 (read_segment size) ≡ true
 follows file size h room =

@@ -1,5 +1,5 @@
 -- What an instruction does where a translator answers its accesses, whatever the tables are.
-use Rattle.std.specs.Prelude.{ℕ, ◌≡◌, ◌%◌, ◌==◌, true, if◌then◌else◌, List, [], Option, Some, None, MatchResult, option_map, slice_index, slice_index_or, slice_set}
+use Rattle.std.specs.Prelude.{ℕ, ◌≡◌, ◌%◌, ◌==◌, false, true, if◌then◌else◌, List, [], Option, Some, None, MatchResult, option_map, slice_index, slice_index_or, slice_set}
 use Rattle.unixmodel.specs.declared.instr.Instr.{Instr}
 use Rattle.unixmodel.specs.declared.instr.LoadOp.{LoadOp}
 use Rattle.unixmodel.specs.declared.instr.StoreOp.{StoreOp}
@@ -33,7 +33,7 @@ Sight = Access → ℕ → Option Page
 
 -- a frame that an access was given: its marks have been looked at
 abbrev pub given : List (List ℕ) → ℕ → Page
-given ram f = record { bytes = slice_index_or ram f []; marks = record { writable = true; executable = true; user = true } }
+given ram f = record { bytes = slice_index_or ram f []; marks = record { writable = true; executable = true; user = true; shared = false } }
 
 abbrev pub seen : List (List ℕ) → Answers → Sight
 seen ram answers access address = option_map (given ram) (answers access address)

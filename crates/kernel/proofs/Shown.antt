@@ -24,7 +24,7 @@ use Rattle.unixmodel.specs.Counts.{frames_of}
 use Rattle.unixmodel.specs.Files.{slot}
 use Rattle.unixmodel.specs.Memory.{Memory}
 use Rattle.unixmodel.specs.Process as unix
-use Rattle.unixmodel.specs.Shown.{ShowsMemory, shown_page, shown_process}
+use Rattle.unixmodel.specs.Shown.{ShowsMemory, shown_page, shown_process, told_page}
 use Rattle.unixmodel.specs.State.{holds, place_of_pid, process_at}
 use Rattle.kernel.proofs.Opens.{active-by, hart-same}
 use Rattle.std.proofs.lemmas.List.Folds.{position_or_len-set}
@@ -100,8 +100,8 @@ module _ (k : Kernel) (pid i : ℕ) (found : place_where k.table.places (has_pid
             ∙ ap (λ (m : Memory). Some (with_memory m q.0)) (memory-held (slot k.spaces.places i)),
       )
 
-  pub page-shown : (n : ℕ) → shown_page (state_of k) pid n ≡ slice_get (view_at k.spaces i).memory n
-  page-shown n = ap (option_and_then (λ (p : unix.Process). slice_get p.memory n)) shown-some.1
+  pub page-shown : (n : ℕ) → shown_page (state_of k) pid n ≡ option_map told_page (slice_get (view_at k.spaces i).memory n)
+  page-shown n = ap (option_and_then (λ (p : unix.Process). option_map told_page (slice_get p.memory n))) shown-some.1
 
   pub tables-shown : (ram : List (List ℕ)) (root : ℕ) → ShowsMemory ram root (view_at k.spaces i).memory → IfSome (shown_process (state_of k) pid) (λ p. ShowsMemory ram root p.memory)
   tables-shown ram root shows = rw shown-some.1 shows

@@ -143,8 +143,8 @@ impl Alone {
 
     // The marks of a page.
     fn perm(&self, page: u64) -> Option<Perm> {
-        let (_frame, perm) = self.space.find_page(&self.ram, page)?;
-        Some(perm)
+        let (_frame, marks) = self.space.find_page(&self.ram, page)?;
+        Some(marks.perm)
     }
 
     // Four bytes, or why they may not be read.

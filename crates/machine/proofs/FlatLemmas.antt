@@ -73,14 +73,14 @@ length-with_stack pages = length-append pages (zero_page (stack_marks false) ∷
 
 pub length-flat : (bytes : List ℕ) → length (flat_memory bytes) ≡ ceil_div (length bytes) 4096 + 2
 length-flat bytes =
-    let all : Perm = record { writable = true; executable = true; user = true } in
+    let all : Perm = record { writable = true; executable = true; user = true; shared = false } in
     length-with_stack (pages_of all (ceil_div (length bytes) 4096) bytes)
     ∙ ap (λ n. n + 2) (length-pages all (ceil_div (length bytes) 4096) bytes)
 
 pub plan-is : (bytes : List ℕ) → plan_flat bytes ≡ Some (bare_plan (flat_memory bytes) (4096 * length (flat_memory bytes)))
 unfolding plan_flat
 plan-is bytes =
-    let all : Perm = record { writable = true; executable = true; user = true } in
+    let all : Perm = record { writable = true; executable = true; user = true; shared = false } in
     let pages = pages_of all (ceil_div (length bytes) 4096) bytes in
     bare pages ∙ ap (λ n. Some (bare_plan (with_stack pages) (4096 * n))) (sym (length-with_stack pages))
 
@@ -295,7 +295,7 @@ table-first size = refl
 -- ---- the space as it is made: the pages of the program, its bytes in them, the guard page, the stack
 
 abbrev all_marks : Perm
-all_marks = record { writable = true; executable = true; user = true }
+all_marks = record { writable = true; executable = true; user = true; shared = false }
 
 abbrev program_pages : List ℕ → ℕ
 program_pages bytes = ceil_div (length bytes) 4096

@@ -22,7 +22,7 @@ use Rattle.unixmodel.specs.Start.{flat_descriptors}
 -- the pages of the bytes, with all marks, and the guard and the stack above them
 abbrev pub flat_memory : List ℕ → Memory
 flat_memory bytes =
-    with_stack (pages_of (record { writable = true; executable = true; user = true }) (ceil_div (length bytes) 4096) bytes)
+    with_stack (pages_of (record { writable = true; executable = true; user = true; shared = false }) (ceil_div (length bytes) 4096) bytes)
 
 -- the space that shows them
 abbrev pub flat_space : List ℕ → SpaceView

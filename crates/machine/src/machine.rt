@@ -180,7 +180,7 @@ impl<D: BlockDev, T: Translate + Drop> Machine<D, T> {
 
     /// The memory, and the frame of the root of a process's page table; `None` where there is no such process. A walk
     /// from that root reaches the bytes that `peek` tells of a page where its marks allow the access, and faults
-    /// elsewhere.
+    /// elsewhere. At a page that a fork had since it came a store may fault, too.
     pub fn tables(&self, pid: u32) -> Option<(&Ram, FrameNo)>
         ensures some { is_some result ≡ is_some (shown_process self.now.state pid) }
         ensures shows { IfSome result (λ r. IfSome (shown_process self.now.state pid) (λ p. ShowsMemory r.0.now r.1.0 p.memory)) }

@@ -1,7 +1,7 @@
 //! exec: a program in the place of the one that runs, out of a file that the one that runs has written.
-use crate::play::Act::{Answer, Bytes, Free, Halts, NoPage, Page, Pc, Size, Steps};
+use crate::play::Act::{Answer, Bytes, Free, Halts, NoPage, Page, Pc, Size, Steps, Stores};
 use crate::play::{
-    Act, EXEC, MINUS_ONE, NEXT_CALL, OPEN, Program, SBRK, WRITE, expect_answers, run,
+    Act, EXEC, FORK, MINUS_ONE, NEXT_CALL, OPEN, Program, SBRK, WRITE, expect_answers, run,
 };
 use machine::{Halt, Perm};
 
@@ -77,6 +77,46 @@ fn a_page_without_w_is_not_written(rt: HostRuntime) {
         Page(1, 0, CODE, &[0x23, 0, 1, 0, 0x23, 0, 0, 0]),
     ];
     run(&rt, Program::Calls(&STORING), &ACTS);
+}
+
+// The same behind a fork.
+const FORKING: [[u64; 4]; 10] = [
+    [0, 0, 0, FORK],
+    [NAME_OF_4, NEW, 0, OPEN],
+    [3, NAME_OF_4 + 16, 128, WRITE],
+    [NAME_OF_4, NAME_OF_4 + 8, 0, EXEC],
+    [0x70, 0, 0x10102464c457f, 0],
+    [0x100f30002, 0, 64, 0],
+    [0x38004000000000, 1, 0x500000001, 120],
+    [0, 0, 8, 8],
+    [0x1000, 0x0000_0023_0001_0023, 0, 0],
+    [0, 0, 0, 0],
+];
+
+const NAME_OF_4: u64 = 32 + 32 * 4;
+
+// Each page lets a store through where the program may write it, but for those that a fork had.
+#[test]
+fn only_pages_that_a_fork_had_refuse_a_store(rt: HostRuntime) {
+    const ACTS: [Act; 16] = [
+        Steps(1),
+        Stores(1, 0, true),
+        Stores(1, 0x1000, false),
+        Stores(1, 0x2000, true),
+        Steps(NEXT_CALL - 1),
+        Answer(1, 2),
+        Stores(1, 0, false),
+        Stores(1, 0x2000, false),
+        Stores(2, 0, false),
+        Stores(2, 0x2000, false),
+        Steps(3 * NEXT_CALL),
+        Answer(1, 0),
+        Stores(1, 0, false),
+        Stores(1, 0x2000, true),
+        Stores(2, 0, false),
+        Stores(2, 0x2000, false),
+    ];
+    run(&rt, Program::Calls(&FORKING), &ACTS);
 }
 
 // The strings of the two arguments stand below the end of the stack's page, and their pointers below them.

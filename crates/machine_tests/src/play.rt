@@ -195,6 +195,8 @@ pub(crate) enum Act<'a> {
     Reaches(u64, Access, u8),
     /// The tables of process 1 don't allow this access.
     Faults(u64, Access),
+    /// Whether the tables of a process let a store through at an address.
+    Stores(u32, u64, bool),
     /// What is told of a node of the disk, by its number.
     Node(usize, Option<Stat>),
     /// The bytes of a node from a place on, into so much room.
@@ -420,6 +422,11 @@ impl<T: Translate + Drop> Play<T> {
         }
     }
 
+    fn stores(&self, pid: u32, address: u64) -> Option<bool> {
+        let (ram, root) = self.machine.tables(pid)?;
+        Some(walk(ram, root, address, Access::Store).is_ok())
+    }
+
     fn tells(&self, act: Act<'_>) -> bool {
         let pid = pid_of(act);
         match self.machine.inspect(pid) {
@@ -500,6 +507,7 @@ impl<T: Translate + Drop> Play<T> {
             Act::NoTables(pid) => self.machine.tables(pid).is_none(),
             Act::Reaches(address, access, byte) => self.reached(address, access) == Some(byte),
             Act::Faults(address, access) => self.faults(address, access),
+            Act::Stores(pid, address, through) => self.stores(pid, address) == Some(through),
             _ => self.lists(act),
         }
     }

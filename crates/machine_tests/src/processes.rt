@@ -1,6 +1,7 @@
 //! Processes that fork, wait, kill, sleep and take turns.
 use crate::play::Act::{
-    Answer, Bytes, Free, Gone, Halts, Is, Killed, NoPage, NoTables, Parent, Pc, Size, Steps, Turn,
+    Answer, Bytes, Free, Gone, Halts, Is, Killed, NoPage, NoTables, Parent, Pc, Size, Steps,
+    Stores, Turn,
 };
 use crate::play::{
     Act, EXIT, FIRST_ANSWER, FORK, GETPID, KILL, MINUS_ONE, NEXT_ANSWER, Program, READY, ROOM,
@@ -128,14 +129,17 @@ const STORES: [u32; 8] = [
 
 #[test]
 fn parent_and_child_store_to_pages_of_their_own(rt: HostRuntime) {
-    const ACTS: [Act; 13] = [
+    const ACTS: [Act; 16] = [
         Steps(1 + 5),
         Bytes(1, 0x2000, &[1]),
         Bytes(2, 0x2000, &[1]),
+        Stores(1, 0x2000, false),
         // a store is done in its step, also where the page was shared
         Steps(2),
         Bytes(1, 0x2000, &[7]),
         Bytes(2, 0x2000, &[1]),
+        Stores(1, 0x2000, true),
+        Stores(2, 0x2000, false),
         Free(46),
         Turn,
         Steps(2),

@@ -256,8 +256,8 @@ misaligned = refl
 
 abbrev pub three_pages : Memory
 three_pages =
-    pages_of (record { writable = false; executable = true; user = true }) 1 (0x80 ∷ 0xff ∷ 0x34 ∷ 0x12 ∷ 0x78 ∷ 0x56 ∷ 0x34 ∷ 0x92 ∷ [])
-    ++ zero_page (record { writable = true; executable = false; user = true }) ∷ zero_page (record { writable = true; executable = true; user = false }) ∷ []
+    pages_of (record { writable = false; executable = true; user = true; shared = false }) 1 (0x80 ∷ 0xff ∷ 0x34 ∷ 0x12 ∷ 0x78 ∷ 0x56 ∷ 0x34 ∷ 0x92 ∷ [])
+    ++ zero_page (record { writable = true; executable = false; user = true; shared = false }) ∷ zero_page (record { writable = true; executable = true; user = false; shared = false }) ∷ []
 
 abbrev pub from_memory : LoadOp → ℕ → Effect
 from_memory op at = act (instr.Load op 5 6 0) (two_registers at 0) 0x1000 three_pages

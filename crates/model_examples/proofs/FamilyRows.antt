@@ -1,11 +1,12 @@
 -- Small cases of many processes: fork, exit, wait, kill, sleep and the turn.
-use Rattle.std.specs.Prelude.{None, Some, [], negsuc, option_map, refl, replicate, ℕ, ◌++◌, ◌∷◌, ◌≡◌}
+use Rattle.std.specs.Prelude.{Bool, List, None, Option, Some, [], false, map, negsuc, option_map, refl, replicate, true, ℕ, ◌++◌, ◌∷◌, ◌≡◌}
 use Rattle.model_examples.proofs.Opened.{all_opened}
-use Rattle.model_examples.proofs.ProcessRows.{below_zero, free_after}
+use Rattle.model_examples.proofs.ProcessRows.{below_zero, free_after, sbrk}
 use Rattle.model_examples.proofs.Scripts.{Asked, answers_to, ask, ask_all, bytes_in, flat_state, on_flat, plain, runs_with}
 use Rattle.unixmodel.specs.Counts.{frames_of, free_frames}
 use Rattle.unixmodel.specs.declared.event.Event.TheVariants.{Step, Tick}
 use Rattle.unixmodel.specs.declared.process.Mode.TheVariants.{Zombie}
+use Rattle.unixmodel.specs.Memory.{Page}
 use Rattle.unixmodel.specs.Outcome.{minus_one}
 use Rattle.unixmodel.specs.Process.{Process}
 use Rattle.unixmodel.specs.Run.{run, turns}
@@ -34,6 +35,15 @@ seven_forks = refl
 seven_forked : (let s = ask_all (flat_state 64) (replicate 7 fork) in frames_of s ∷ s.next_pid ∷ []) ≡ 63 ∷ 8 ∷ []
 unfolding all_opened
 seven_forked = refl
+
+-- it marks the pages of both, and none that comes later
+abbrev shared_by : Option Process → List Bool
+shared_by None = []
+shared_by (Some p) = map (λ (page : Page). page.marks.shared) p.memory
+
+fork_marks : (let s = ask_all (flat_state 64) (fork ∷ sbrk 4096 ∷ []) in shared_by (process_at s 0) ++ shared_by (process_at s 1)) ≡ true ∷ true ∷ true ∷ false ∷ true ∷ true ∷ true ∷ []
+unfolding all_opened
+fork_marks = refl
 
 -- ---- exit and wait: a zombie holds its frames until it is waited for
 

@@ -60,7 +60,7 @@ fn bits_if(set: bool, mark: EntryBits) -> u16
 /// The walk sets no A or D, so they stand from the start; without U a program has no access.
 #[tactic(auto, unfolding(crate::specs::Marks::leaf_marks))]
 pub fn leaf_marks(writable: bool, executable: bool, user: bool) -> EntryBits
-    ensures marks { result.0 ≡ leaf_marks (record { writable = writable; executable = executable; user = user }) }
+    ensures marks { result.0 ≡ leaf_marks (record { writable = writable; executable = executable; user = user; shared = false }) }
     ensures leaf { IsLeafMarks result.0 }
 {
     let always = EntryBits::VALID.0

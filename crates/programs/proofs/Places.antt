@@ -228,7 +228,7 @@ segment-in s s1 s2 at file mem count g has aligned after is added put =
     ∙ ap (λ (m : Memory). with_view s at (paged m)) (segment-filled file mem g aligned after)
 
 abbrev marks_of : LoadSegment → Perm
-marks_of g = record { writable = g.writable; executable = g.executable; user = true }
+marks_of g = record { writable = g.writable; executable = g.executable; user = true; shared = false }
 
 pub segment-loaded : (s s1 s2 : Spaces) (at : ℕ) (file : List ℕ) (mem : Memory) (count : ℕ) (shown : LoadSegment) → has_space s at ≡ true → Follows (length file) (length mem) shown → count ≡ ceil_div (shown.address + shown.size) 4096 - length mem
     → s1 ≡ with_view s at (paged (mem ++ replicate count (zero_page (marks_of shown)))) → (r : Result (Unit {0}) DeviceFault) → OnOk r (s2 ≡ with_bytes s1 at shown.address (part shown.offset shown.file_size file))

@@ -9,12 +9,12 @@ use Rattle.unixmodel.specs.declared.trap.Access.{Access}
 use Rattle.unixmodel.specs.declared.trap.Access.TheVariants.{Fetch, Load, Store}
 use Rattle.unixmodel.specs.Meaning.{Change}
 use Rattle.unixmodel.specs.Meaning.Change.{Bytes, Nothing}
-use Rattle.unixmodel.specs.Shown.{ShowsByte, ShowsMemory, byte_at, page_byte}
+use Rattle.unixmodel.specs.Shown.{ShowsByte, ShowsMemory, byte_at, is_shared, page_byte}
 use Rattle.unixmodel.specs.Translation.{walk}
 use Rattle.unixmodel.specs.Memory.{Perm, Memory, Page, page_for, permits, permitted}
 use Rattle.vm.specs.Dense.{marks_at, read_at, read_below, entries_below, pages_below, mapping_below}
 use Rattle.vm.specs.Leaf.{IsUserLeaf, entry_marks, is_open, right_marks, user_leaf}
-use Rattle.vm.proofs.LeafLemmas.{leaf-open, open-right, right-leaf}
+use Rattle.vm.proofs.LeafLemmas.{leaf-open, open-right, open-unshared, right-leaf}
 use Rattle.vm.proofs.WalkLaw.{get-mapping, mapped-page, mapping-past, unmapped-page}
 
 -- ---- a page
@@ -101,13 +101,36 @@ byte-alike va (Some p) (Some q) h =
     ap (λ (bytes : List ℕ). slice_get bytes (va % 4096)) same
 byte-alike va _ _ h = absurd cc
 
-shows-byte : (access : Access) (va : ℕ) (low high : Memory) (found : Option ℕ) → Narrows low high → found ≡ page_byte low va access → ShowsByte access found (page_byte high va access)
-shows-byte Fetch va low high found down e = e ∙ byte-alike va (page_for Fetch low va) (page_for Fetch high va) (down.fetch va)
-shows-byte Load va low high found down e = e ∙ byte-alike va (page_for Load low va) (page_for Load high va) (down.load va)
-shows-byte Store va low high found down e = elim (down.store va) [
+-- a page that no fork had lets a store through where the program may write it by right
+unshared-alike : (m : List (List ℕ)) (r n p : ℕ) → ((q : ℕ) → q < n → IsUserLeaf (marks_at m r q)) → is_shared (slice_get (pages_below m r n) p) ≡ false
+    → Alike (permitted Store (slice_get (memory_of m (entries_below m r n)) p)) (permitted Store (slice_get (pages_below m r n) p))
+unshared-alike m r n p leaves none = alike-at Store m r n p (λ low.
+    let leaf = marks_at m r p in
+    let alone : (right_marks leaf).shared ≡ false = ap is_shared (sym (page-here right_marks m r n p low)) ∙ none in
+    ap (λ (b : Bool). b && (right_marks leaf).user) (open-unshared leaf (leaves p low) alone))
+
+-- what the walk lets through, beside what a program may do by right: it narrows it, and is it where no fork had the page
+pub record IsSeen (low high : Memory) : Type 0 where
+  pub narrows : Narrows low high
+  pub unshared : (address : ℕ) → is_shared (slice_get high (address / 4096)) ≡ false → Alike (page_for Store low address) (page_for Store high address)
+
+pub seen-right : (m : List (List ℕ)) (r n : ℕ) → ((q : ℕ) → q < n → IsUserLeaf (marks_at m r q)) → IsSeen (memory_of m (entries_below m r n)) (pages_below m r n)
+seen-right m r n leaves = record {
+  narrows = narrows-right m r n leaves;
+  unshared = λ address none. unshared-alike m r n (address / 4096) leaves none;
+}
+
+shows-store : (va : ℕ) (low high : Memory) (found : Option ℕ) (shared : Bool) → IsSeen low high → is_shared (slice_get high (va / 4096)) ≡ shared → found ≡ page_byte low va Store → ShowsByte Store shared found (page_byte high va Store)
+shows-store va low high found false down is e = e ∙ byte-alike va (page_for Store low va) (page_for Store high va) (down.unshared va is)
+shows-store va low high found true down is e = elim (down.narrows.store va) [
   | inl none ↦ inl (e ∙ ap (option_and_then (λ (x : Page). slice_get x.bytes (va % 4096))) none)
   | inr alike ↦ inr (e ∙ byte-alike va (page_for Store low va) (page_for Store high va) alike)
 ]
 
-pub shows-right : (ram : List (List ℕ)) (root : ℕ) (low high : Memory) → Narrows low high → ((va : ℕ) (access : Access) → va < 2 ^ 64 → option_and_then (byte_at ram) (walk ram root va access) ≡ page_byte low va access) → ShowsMemory ram root high
+shows-byte : (access : Access) (va : ℕ) (low high : Memory) (found : Option ℕ) → IsSeen low high → found ≡ page_byte low va access → ShowsByte access (is_shared (slice_get high (va / 4096))) found (page_byte high va access)
+shows-byte Fetch va low high found down e = e ∙ byte-alike va (page_for Fetch low va) (page_for Fetch high va) (down.narrows.fetch va)
+shows-byte Load va low high found down e = e ∙ byte-alike va (page_for Load low va) (page_for Load high va) (down.narrows.load va)
+shows-byte Store va low high found down e = shows-store va low high found (is_shared (slice_get high (va / 4096))) down refl e
+
+pub shows-right : (ram : List (List ℕ)) (root : ℕ) (low high : Memory) → IsSeen low high → ((va : ℕ) (access : Access) → va < 2 ^ 64 → option_and_then (byte_at ram) (walk ram root va access) ≡ page_byte low va access) → ShowsMemory ram root high
 shows-right ram root low high down reached va access small = shows-byte access va low high (option_and_then (byte_at ram) (walk ram root va access)) down (reached va access small)

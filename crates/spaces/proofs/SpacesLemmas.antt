@@ -1,13 +1,14 @@
 -- Lemmas on the values of address spaces.
-use Rattle.std.proofs.Common.{◌≡◌, ◌≢◌, ℕ, zero, suc, ◌+◌, ◌-◌, ◌<◌, ◌≤◌, true, false, List, [], ◌∷◌, ◌++◌, length, length-set, get_or, map, replicate, slice_set, take, Option, Some, None, refl, sym, ap, ◌∙◌, arith, append-nil, get_or-set_same}
+use Rattle.std.proofs.Common.{◌≡◌, ◌≢◌, ℕ, zero, suc, ◌+◌, ◌-◌, ◌<◌, ◌≤◌, true, false, List, [], ◌∷◌, ◌++◌, length, length-set, get_or, map, replicate, slice_set, take, Option, Some, None, refl, sym, ap, ◌∙◌, arith, append-nil, get_or-set_other, get_or-set_same}
 use Rattle.arrayvec.proofs.ArrayVecLemmas.{items-with_items}
 use Rattle.std.specs.List.{refill}
 use Rattle.std.specs.Prelude.{is_some, sum_by, unwrap_or}
-use Rattle.std.proofs.lemmas.List.{take_all}
+use Rattle.std.proofs.lemmas.List.{length-map, take_all}
 use Rattle.std.proofs.lemmas.List.Sums.{sum_by-cons}
-use Rattle.spaces.specs.Spaces.{SpaceView, Spaces, frames_in, grown, has_space, view_at, no_pages, shrunk, taken_frames, with_view, with_pipe, with_place}
+use Rattle.spaces.specs.Spaces.{SpaceView, Spaces, forked, frames_in, grown, has_space, view_at, no_pages, shrunk, taken_frames, with_view, with_pipe, with_place}
+use Rattle.unixmodel.specs.Counts.{page_frames}
 use Rattle.unixmodel.specs.Files.{slot, taken}
-use Rattle.unixmodel.specs.Memory.{Memory, zero_page}
+use Rattle.unixmodel.specs.Memory.{Memory, shared_page, zero_page}
 use Rattle.unixmodel.specs.Numbers.{ceil_div}
 use Rattle.unixmodel.specs.Plan.{stack_marks}
 use Rattle.unixmodel.specs.ProcessCalls.{with_pages}
@@ -52,6 +53,24 @@ sum-placed (x ∷ xs) (suc i) y h =
 -- the places take more by what one of them takes more
 pub taken-placed : (s : Spaces) (at : ℕ) (y : Option SpaceView) → at < length s.places → taken_frames (with_place s at y) + frames_in (slot s.places at) ≡ taken_frames s + frames_in y
 taken-placed s at y h = omega (arith, sum-placed s.places at y h)
+
+-- and as much where a fork leaves one as where a place has the same pages
+pub taken-forked : (s : Spaces) (from to : ℕ) (h : SpaceView) → slot s.places from ≡ Some h → has_space s to ≡ false → to < length s.places → taken_frames (with_view (with_view s from (forked h)) to (forked h)) ≡ taken_frames (with_view s to h)
+taken-forked s from to h at free low =
+    let none = place-free s to free in
+    let apart : to ≢ from = λ (e : to ≡ from). let bad : None ≡ Some h = sym none ∙ ap (slot s.places) e ∙ at in cc in
+    let same : frames_in (Some (forked h)) ≡ frames_in (Some h) = ap (λ n. 4 + page_frames n) (length-map h.memory shared_page) in
+    let middle = with_view s from (forked h) in
+    omega (
+      arith,
+      same,
+      taken-placed s from (Some (forked h)) (within s.places from h at),
+      ap frames_in at,
+      taken-placed middle to (Some (forked h)) (omega (arith, low, length-set s.places from (Some (forked h)))),
+      ap frames_in (get_or-set_other s.places from to (Some (forked h)) None apart ∙ none),
+      taken-placed s to (Some h) low,
+      ap frames_in none,
+    )
 
 -- ---- a place after a change of one
 

@@ -88,22 +88,26 @@ active-placed old new m k root places at y (Some j) others fewer here run = elim
 pub shown-as : (k : List (List ℕ)) (z : Space) (memory : Memory) (size : ℕ) → pages_of k z ≡ memory → z.size ≡ size → shown k (Some z) ≡ Some (view_with memory size)
 shown-as k z memory size p e = ap (λ (m : Memory). Some (view_with m z.size)) p ∙ ap (λ (n : ℕ). Some (view_with memory n)) e
 
--- the fields after a change of one place, which shows this then
-pub record Placed {T : Type 0} (held : T → translation.Held) (i j : Inside T) (at : ℕ) (y : Option SpaceView) : Type 0 where
+-- the fields after a change of places, which show these then
+pub record Shows {T : Type 0} (held : T → translation.Held) (i j : Inside T) (places : List (Option SpaceView)) : Type 0 where
   pub sound : IsSpaces held j
-  pub view : spaces_of j ≡ with_place (spaces_of i) at y
-  pub fits : taken_frames (with_place (spaces_of i) at y) ≤ length i.ram
+  pub view : spaces_of j ≡ record (spaces_of i) { places = places }
+  pub fits : taken_frames (record (spaces_of i) { places = places }) ≤ length i.ram
+
+-- and after a change of one, which shows this
+abbrev pub Placed : {T : Type 0} → (T → translation.Held) → Inside T → Inside T → ℕ → Option SpaceView → Type 0
+Placed held i j at y = Shows held i j (slice_set (spaces_of i).places at y)
 
 pub placed-as : {T : Type 0} (held : T → translation.Held) (i j : Inside T) (at : ℕ) (y z : Option SpaceView) → Placed held i j at y → y ≡ z → Placed held i j at z
 placed-as held i j at y z p e = subst (λ (o : Option SpaceView). Placed held i j at o) e p
 
 -- one place has another space, where a place traded with the free frames
-placed : {T : Type 0} (held : T → translation.Held) (i : Inside T) (at from : ℕ) (y : Option Space) (k : List (List ℕ)) (n : Frames) (t : T) (q : List (Option Space)) (new : List ℕ)
+placed : {T : Type 0} (held : T → translation.Held) (i : Inside T) (at from : ℕ) (y : Option Space) (k : List (List ℕ)) (n : Frames) (t : T) (q : List (Option Space)) (new : List ℕ) (places : List (Option SpaceView))
     → IsSpaces held i → q ≡ slice_set i.places.items at y → IsMachine k n (slice_set i.places.items at y) (pipe_frames i.pipes.items) → IsActive (held t) k i.hart.root.0 (slice_set i.places.items at y) i.active
-    → ((x : Translation) → held t x → held i.translator x) → map (shown k) (slice_set i.places.items at y) ≡ slice_set (map (shown i.ram) i.places.items) at (shown k y)
+    → ((x : Translation) → held t x → held i.translator x) → map (shown k) (slice_set i.places.items at y) ≡ places
     → Trades i.ram k i.frames n (shares.held_at i.ram (slot i.places.items from)) new
-    → Placed held i (record i { ram = k; frames = n; translator = t; places = record { items = q } }) at (shown k y)
-placed held i at from y k n t q new is e machine active fewer shows trades =
+    → Shows held i (record i { ram = k; frames = n; translator = t; places = record { items = q } }) places
+placed held i at from y k n t q new places is e machine active fewer shows trades =
     let j : Inside _ = record i { ram = k; frames = n; translator = t; places = record { items = q } } in
     let sound : IsSpaces held j = record {
       machine = rw e machine;
@@ -113,7 +117,7 @@ placed held i at from y k n t q new is e machine active fewer shows trades =
       pipes = is.pipes;
       both = is.both;
     } in
-    let view : spaces_of j ≡ with_place (spaces_of i) at (shown k y) = rw (e, shows, pipes-beside i.ram k i.frames n i.places.items i.pipes.items new from is.machine trades, trades.count) refl in
+    let view : spaces_of j ≡ record (spaces_of i) { places = places } = rw (e, shows, pipes-beside i.ram k i.frames n i.places.items i.pipes.items new from is.machine trades, trades.count) refl in
     record { sound = sound; view = view; fits = omega (arith, ap taken_frames view, taken-fits held j sound, trades.count) }
 
 pub traded : {T : Type 0} (held : T → translation.Held) (i : Inside T) (at : ℕ) (y : Option Space) (k : List (List ℕ)) (n : Frames) (t : T) (q : List (Option Space))
@@ -124,10 +128,10 @@ pub traded : {T : Type 0} (held : T → translation.Held) (i : Inside T) (at : �
     → Placed held i (record i { ram = k; frames = n; translator = t; places = record { items = q } }) at (shown k y)
 traded held i at y k n t q is hi e place trades fewer here =
     let others = trade-others i.ram k i.frames n i.places.items (pipe_frames i.pipes.items) (shares.held_at k y) at is.machine trades in
-    placed held i at at y k n t q (shares.held_at k y) is e (trade-machine i.ram k i.frames n i.places.items (pipe_frames i.pipes.items) at y is.machine hi place trades)
+    placed held i at at y k n t q (shares.held_at k y) (slice_set (map (shown i.ram) i.places.items) at (shown k y)) is e (trade-machine i.ram k i.frames n i.places.items (pipe_frames i.pipes.items) at y is.machine hi place trades)
     (active-placed (held i.translator) (held t) i.ram k i.hart.root.0 i.places.items at y i.active others fewer here is.active) fewer (shown-placed i.ram k i.places.items at y others) trades
 
-free-place : {T : Type 0} (held : T → translation.Held) (i : Inside T) (at : ℕ) → IsSpaces held i → at < 64 → has_space (spaces_of i) at ≡ false → (at < length i.places.items) × (slot i.places.items at ≡ None)
+pub free-place : {T : Type 0} (held : T → translation.Held) (i : Inside T) (at : ℕ) → IsSpaces held i → at < 64 → has_space (spaces_of i) at ≡ false → (at < length i.places.items) × (slot i.places.items at ≡ None)
 free-place held i at is low free = (let all = is.all in omega (arith, low, all), free-is i at (place-free (spaces_of i) at free))
 
 -- a space that was made settles in a free place, by a write of the place through the slice of all
@@ -142,14 +146,11 @@ settled-there held i at z k n xs y is low free same space trades shows =
 
 -- ---- a place gets a space that shares the frames of another one's
 
-shown-forked : (m k : List (List ℕ)) (places : List (Option Space)) (from to : ℕ) (x z : Space) → slot places from ≡ Some x → pages_of k x ≡ pages_of m x → OthersUntouched m k places from
-    → map (shown k) (slice_set places to (Some z)) ≡ slice_set (map (shown m) places) to (shown k (Some z))
-shown-forked m k places from to x z stands pages others = map-placed (shown m) (shown k) places to (Some z) (λ j ne. elim (cases_eq j from) [
-  | inl same ↦
-      let at : slot places j ≡ Some x = ap (slot places) same ∙ stands in
-      ap (shown k) at ∙ shown-as k x (pages_of m x) x.size pages refl ∙ sym (ap (shown m) at)
-  | inr other ↦ same-shown m k (slot places j) (λ y e. others j y other e)
-])
+shown-forked : (m k : List (List ℕ)) (places : List (Option Space)) (from to : ℕ) (x z : Space) → slot places from ≡ Some x → OthersUntouched m k places from
+    → map (shown k) (slice_set places to (Some z)) ≡ slice_set (slice_set (map (shown m) places) from (shown k (Some x))) to (shown k (Some z))
+shown-forked m k places from to x z stands others =
+    map-placed (shown k) (shown k) places to (Some z) (λ j ne. refl)
+    ∙ ap (λ (l : List (Option SpaceView)). slice_set l to (shown k (Some z))) (ap (map (shown k)) (same-place places from x stands) ∙ shown-placed m k places from (Some x) others)
 
 active-forked : (old new : translation.Held) (m k : List (List ℕ)) (root : ℕ) (places : List (Option Space)) (from to : ℕ) (y : Option Space) (a : Option ℕ) → slot places to ≡ None → OthersUntouched m k places from → ((t : Translation) → new t → old t)
     → (a ≡ Some from → HoldsNothing new) → IsActive old m root places a → IsActive new k root (slice_set places to y) a
@@ -164,20 +165,20 @@ active-forked old new m k root places from to y (Some j) none others fewer fence
           record { space = run.space; stands = stands; same = run.same; coherent = rw stays.entries (coherent-fewer old new run.space.root.0 (entries_of m run.space) fewer run.coherent) }
     ]
 
-pub shared-there : {T : Type 0} (held : T → translation.Held) (i : Inside T) (from to : ℕ) (x z : Space) (k : List (List ℕ)) (n : Frames) (t : T) (xs : List (Option Space)) (y : Option SpaceView)
-    → IsSpaces held i → to < 64 → has_space (spaces_of i) to ≡ false → xs ≡ i.places.items → slot i.places.items from ≡ Some x → IsSpace k x n → IsSpace k z n → Trades i.ram k i.frames n (holds i.ram x) (holds k x ++ holds k z) → pages_of k x ≡ pages_of i.ram x
-    → ((u : Translation) → held t u → held i.translator u) → (i.active ≡ Some from → HoldsNothing (held t)) → shown k (Some z) ≡ y
-    → Placed held i (record i { ram = k; frames = n; translator = t; places = record { items = refill (length i.places.items) i.places.items (slice_set xs to (Some z)) } }) to y
-shared-there held i from to x z k n t xs y is low free same stands parent child trades pages fewer fenced shows =
+pub shared-there : {T : Type 0} (held : T → translation.Held) (i : Inside T) (from to : ℕ) (x z : Space) (k : List (List ℕ)) (n : Frames) (t : T) (xs : List (Option Space)) (w y : Option SpaceView)
+    → IsSpaces held i → to < 64 → has_space (spaces_of i) to ≡ false → xs ≡ i.places.items → slot i.places.items from ≡ Some x → IsSpace k x n → IsSpace k z n → Trades i.ram k i.frames n (holds i.ram x) (holds k x ++ holds k z)
+    → ((u : Translation) → held t u → held i.translator u) → (i.active ≡ Some from → HoldsNothing (held t)) → shown k (Some x) ≡ w → shown k (Some z) ≡ y
+    → Shows held i (record i { ram = k; frames = n; translator = t; places = record { items = refill (length i.places.items) i.places.items (slice_set xs to (Some z)) } }) (slice_set (slice_set (spaces_of i).places from w) to y)
+shared-there held i from to x z k n t xs w y is low free same stands parent child trades fewer fenced left shows =
     let place = free-place held i to is low free in
     let q = refill (length i.places.items) i.places.items (slice_set xs to (Some z)) in
     let e : q ≡ slice_set i.places.items to (Some z) = refilled i.places.items xs to (Some z) (Some z) same refl in
     let first : Trades i.ram k i.frames n (shares.held_at i.ram (slot i.places.items from)) (holds k x ++ holds k z) = rw stands trades in
     let others = trade-others i.ram k i.frames n i.places.items (pipe_frames i.pipes.items) (holds k x ++ holds k z) from is.machine first in
-    placed-as held i _ to (shown k (Some z)) y
-    (placed held i to from (Some z) k n t q (holds k x ++ holds k z) is e (fork-machine i.ram k i.frames n i.places.items (pipe_frames i.pipes.items) from to x z is.machine stands place.0 place.1 parent child trades)
-    (active-forked (held i.translator) (held t) i.ram k i.hart.root.0 i.places.items from to (Some z) i.active place.1 others fewer fenced is.active) fewer (shown-forked i.ram k i.places.items from to x z stands pages others) first)
-    shows
+    placed held i to from (Some z) k n t q (holds k x ++ holds k z) (slice_set (slice_set (spaces_of i).places from w) to y) is e (fork-machine i.ram k i.frames n i.places.items (pipe_frames i.pipes.items) from to x z is.machine stands place.0 place.1 parent child trades)
+    (active-forked (held i.translator) (held t) i.ram k i.hart.root.0 i.places.items from to (Some z) i.active place.1 others fewer fenced is.active) fewer
+    (shown-forked i.ram k i.places.items from to x z stands others ∙ ap (λ (o : Option SpaceView). slice_set (slice_set (spaces_of i).places from o) to (shown k (Some z))) left ∙ ap (slice_set (slice_set (spaces_of i).places from w) to) shows)
+    first
 
 -- a place that isn't the active one loses its space
 pub destroyed : {T : Type 0} (held : T → translation.Held) (i : Inside T) (at : ℕ) (x : Space) (k : List (List ℕ)) (n : Frames) (q : List (Option Space))

@@ -3,7 +3,7 @@ use Rattle.std.specs.Prelude.{Bool, List, None, Option, Some, [], drop, is_some,
 use Rattle.unixmodel.specs.Counts.{page_frames}
 use Rattle.unixmodel.specs.Files.{slot, taken}
 use Rattle.unixmodel.specs.Meaning.{Computed}
-use Rattle.unixmodel.specs.Memory.{Perm, Memory, reach, write_bytes, zero_page}
+use Rattle.unixmodel.specs.Memory.{Perm, Memory, reach, shared_memory, write_bytes, zero_page}
 use Rattle.unixmodel.specs.declared.trap.Access.TheVariants.{Load}
 use Rattle.unixmodel.specs.Next.{memory_after}
 use Rattle.unixmodel.specs.OpenFiles.{pipe_room}
@@ -70,6 +70,14 @@ grown h bytes marks = record {
 -- so many bytes fewer
 abbrev pub shrunk : SpaceView → ℕ → SpaceView
 shrunk h bytes = record { memory = take (ceil_div (h.size - bytes) 4096) h.memory; size = h.size - bytes }
+
+-- the same pages, as a fork leaves them
+abbrev pub forked : SpaceView → SpaceView
+forked h = record h { memory = shared_memory h.memory }
+
+-- place `to` has the pages of place `from`, by a fork
+abbrev pub copied : Spaces → ℕ → ℕ → Spaces
+copied s from to = with_view (with_view s from (forked (view_at s from))) to (forked (view_at s from))
 
 -- these bytes stand from an address on
 abbrev pub written : SpaceView → ℕ → List ℕ → SpaceView

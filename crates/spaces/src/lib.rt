@@ -17,7 +17,7 @@
 ghost use Rattle.std.specs.Prelude.{◌≡◌, ◌≢◌, List, ◌+◌, ◌-◌, ◌++◌, ◌<◌, ◌≤◌, ◌/◌, ◌%◌, ◌^◌, ℕ, [], All, Some, None, true, false, drop, length, is_some, min, nat_le, nat_lt, not, option_and_then, option_map, replicate, slice_get, slice_index, slice_set, take, IfOk, IfSome, IfNone, Ok, Err};
 ghost use Rattle.std.specs.Bool.{OnTrue, OnFalse};
 ghost use Rattle.std.specs.Option.{option_copied};
-ghost use Rattle.spaces.specs.Spaces.{bytes_in, computed, filled, fitting, grown, has_pipe, has_space, view_at, no_pages, no_spaces, read_at, shrunk, taken_frames, taken_to, with_view, with_pipe, with_place, written};
+ghost use Rattle.spaces.specs.Spaces.{bytes_in, computed, copied, filled, fitting, grown, has_pipe, has_space, view_at, no_pages, no_spaces, read_at, shrunk, taken_frames, taken_to, with_view, with_pipe, with_place, written};
 ghost use Rattle.spaces.specs.Ends.{IsOpen};
 ghost use Rattle.pipe.specs.Pipe.{Stays, bytes_of};
 ghost use Rattle.ram.specs.Memory.{frame_of};
@@ -30,7 +30,7 @@ ghost use Rattle.unixmodel.specs.declared.trap.Cause.TheVariants.{StorePageFault
 ghost use Rattle.unixmodel.specs.Memory.{Page, page_for, can_write, path_at, reach, read_bytes, string_at};
 ghost use Rattle.unixmodel.specs.Numbers.{ceil_div};
 ghost use Rattle.unixmodel.specs.OpenFiles.{pipe_room};
-ghost use Rattle.unixmodel.specs.Shown.{ShowsMemory, byte_at, page_byte};
+ghost use Rattle.unixmodel.specs.Shown.{ShowsMemory, byte_at, page_byte, told_page};
 ghost use Rattle.unixmodel.specs.Turn.{is_empty};
 ghost use Rattle.unixmodel.specs.Translation.{HoldsInside, HoldsNothing, IsKept, Translation, walk};
 ghost use Rattle.hart.specs.Follows.{Follows};
@@ -126,7 +126,7 @@ fn closed_page(space: &Space, ram: &Ram, trap: Trap) -> Option<u64>
     };
     let page = trap.address / 4096;
     match space.find_page(ram, page) {
-        Some((_, perm)) if perm.permits(Access::Store) => Some(page),
+        Some((_, marks)) if marks.permits(Access::Store) => Some(page),
         _ => None,
     }
 }
@@ -378,11 +378,11 @@ impl<T: Translate + Drop> Spaces<T> {
     /// The bytes and the marks of a page of a place; `None` past the last one.
     pub fn page(&self, at: usize, n: u64) -> Option<(&[u8; FRAME_SIZE], Perm)>
         requires { has_space self.now at ≡ true }
-        ensures { option_map (λ r. let p : Page = record { bytes = r.0.now; marks = marks_from r.1 } in p) result ≡ slice_get (view_at self.now at).memory n }
+        ensures { option_map (λ r. let p : Page = record { bytes = r.0.now; marks = marks_from r.1 } in p) result ≡ option_map told_page (slice_get (view_at self.now at).memory n) }
     {
         let space = space_at(&self.places, at);
-        let (frame, perm) = space.find_page(&self.ram, n)?;
-        Some((self.ram.frame(frame), perm))
+        let (frame, marks) = space.find_page(&self.ram, n)?;
+        Some((self.ram.frame(frame), marks.perm))
     }
 
     /// The memory, and the frame of the root of a place's page table.
@@ -413,14 +413,14 @@ impl<T: Translate + Drop> Spaces<T> {
     /// Makes a space in a free place with the pages of another place's. `false`: the frames don't suffice; then nothing
     /// changed.
     ///
-    /// The two share their frames, each page counted in full. The other place's pages are closed then, so there is a fence
-    /// where it is the active one.
+    /// The two share their frames, each page counted in full, and their pages are marked as those of a fork. The other
+    /// place's pages are closed then, so there is a fence where it is the active one.
     pub fn copy(&mut self, from: usize, to: usize) -> bool
         requires from { has_space self.old from ≡ true }
         requires inside { to < 64 }
         requires free { has_space self.old to ≡ false }
-        ensures done { OnTrue result ((taken_frames (with_view self.old to (view_at self.old from)) ≤ self.old.frames) × (self.new ≡ with_view self.old to (view_at self.old from))) }
-        ensures refused { OnFalse result ((self.old.frames < taken_frames (with_view self.old to (view_at self.old from))) × (self.new ≡ self.old)) }
+        ensures done { OnTrue result ((taken_frames (copied self.old from to) ≤ self.old.frames) × (self.new ≡ copied self.old from to)) }
+        ensures refused { OnFalse result ((self.old.frames < taken_frames (copied self.old from to)) × (self.new ≡ self.old)) }
     {
         let space = space_at(&self.places, from);
         match space.copy(&mut self.ram, &mut self.frames) {

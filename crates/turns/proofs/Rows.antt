@@ -18,17 +18,17 @@ use Rattle.unixmodel.specs.OpenFiles.End.{ReadEnd, WriteEnd}
 use Rattle.unixmodel.specs.OpenFiles.Target.{OnNode, OnPipe}
 use Rattle.unixmodel.specs.Outcome.{Outcome, pending_arg, pending_of}
 use Rattle.unixmodel.specs.Process.{Process, arg, is_child_of, is_zombie, last_pid}
-use Rattle.unixmodel.specs.ProcessCalls.{child_of, collect, fork_row, has_child, has_slept, kill_row, marked, sbrk_row, sleep_on, wait_for, wait_on, wait_row, zombie_child}
+use Rattle.unixmodel.specs.ProcessCalls.{child_of, collect, fork_row, has_child, has_slept, kill_row, marked, sbrk_row, sharing, sleep_on, wait_for, wait_on, wait_row, zombie_child}
 use Rattle.unixmodel.specs.State.{State, change_process, has_end, holds, place_of_pid, process_at}
 use Rattle.turns.proofs.Others.{IsPassed, IsSame, Passes, passed-is, same-is, spares-passes}
 use Rattle.turns.proofs.Yielding.{Yields, passes-all, passes-own, passes-refl, yields-either, yields-given, yields-provided}
 
 -- ---- fork: a free place is filled
 
-filled-passed : (places : List (Option Process)) (j : ℕ) (p : Process) → free_slot places ≡ Some j → (i : ℕ) → IsPassed (slot places i) (slot (put places j p) i)
-filled-passed places j p free i = elim (cases_eq i j) [
-  | inl here ↦ subst (λ o. IsPassed o (slot (put places j p) i)) (sym (ap (slot places) here ∙ none (slot places j) (position-Some is_none places j None free).1)) tt
-  | inr other ↦ passed-is (slot places i) (slot (put places j p) i) (get_or-set_other places j i (Some p) None other)
+fork-passed : (places : List (Option Process)) (r j : ℕ) (q p : Process) → free_slot places ≡ Some j → (i : ℕ) → i ≢ r → IsPassed (slot places i) (slot (put (put places r q) j p) i)
+fork-passed places r j q p free i apart = elim (cases_eq i j) [
+  | inl here ↦ subst (λ o. IsPassed o (slot (put (put places r q) j p) i)) (sym (ap (slot places) here ∙ none (slot places j) (position-Some is_none places j None free).1)) tt
+  | inr other ↦ passed-is (slot places i) (slot (put (put places r q) j p) i) (get_or-set_other (put places r q) j i (Some p) None other ∙ get_or-set_other places r i (Some q) None apart)
 ]
   where
     none : (o : Option Process) → is_none o ≡ true → o ≡ None
@@ -36,10 +36,10 @@ filled-passed places j p free i = elim (cases_eq i j) [
     none (Some p) is = absurd cc
 
 fork-passes : (s : State) (r : ℕ) (p : Process) (j : ℕ) → free_slot s.places ≡ Some j
-    → Passes r s (record s { places = put s.places j (child_of p s.next_pid); next_pid = s.next_pid + 1 })
+    → Passes r s (record s { places = put (put s.places r (sharing p)) j (child_of (sharing p) s.next_pid); next_pid = s.next_pid + 1 })
 fork-passes s r p j free = record {
   last = refl;
-  others = λ i apart. filled-passed s.places j (child_of p s.next_pid) free i;
+  others = λ i apart. fork-passed s.places r j (sharing p) (child_of (sharing p) s.next_pid) free i apart;
 }
 
 pub fork-yields : (s : State) (r : ℕ) (p : Process) → Yields r s (fork_row s r p)

@@ -1,16 +1,17 @@
 -- A page of a space is shared with a space that is made.
 use Rattle.std.proofs.Common.{◌≡◌, ◌≢◌, ℕ, zero, suc, ◌+◌, ◌-◌, ◌<◌, ◌≤◌, inl, inr, false, List, [], ◌∷◌, ◌++◌, refl, sym, ap, ◌∙◌, arith, add-one, length-append, get_or}
 use Rattle.std.proofs.lemmas.Bool.{cases_eq}
+use Rattle.std.proofs.lemmas.List.{map-append}
 use Rattle.ram.specs.Memory.{frame_of}
 use Rattle.frames.specs.declared.Frames.{Frames}
 use Rattle.frames.specs.Free.{free_of, free_count, IsFreeList}
 use Rattle.frames.specs.Holders.{count_of, holders_of, Trades}
 use Rattle.frames.proofs.HolderLemmas.{count_of-append, count_of-other, held-inside, not-free-held, Trades-none, Trades-twice, Trades-lengths}
-use Rattle.unixmodel.specs.Memory.{Page, Perm}
+use Rattle.unixmodel.specs.Memory.{Page, Perm, shared_marks, shared_memory, shared_page}
 use Rattle.vm.proofs.GrowLemmas.{frame_at-is, frame_at-same, missing-next}
 use Rattle.vm.proofs.PageLemmas.{get_or-pages}
 use Rattle.vm.specs.declared.Space.{Space}
-use Rattle.vm.specs.Dense.{frame_at, marks_at, page_at, pages_below, frames_below, tables_below, held, frames_for, OwnsFrames}
+use Rattle.vm.specs.Dense.{frame_at, marks_at, page_at, page_with, pages_below, frames_below, tables_below, held, frames_for, OwnsFrames}
 use Rattle.vm.proofs.DenseLemmas.{count-held, frames_for-more, page-held, pages_below-more, pages_below-zero, length-held}
 use Rattle.vm.proofs.Added.{IsBefore, next-held, next-pages, next-trades, next-trap, share-stands}
 use Rattle.vm.specs.Leaf.{is_open, right_marks}
@@ -18,7 +19,7 @@ use Rattle.vm.proofs.Beside.{Trades-as, Trades-frame, Trades-held}
 use Rattle.vm.specs.Fork.{IsMore, IsPart, IsSoFar}
 use Rattle.vm.proofs.StepLemmas.{IsNext}
 use Rattle.vm.proofs.StoreLemmas.{pages-same}
-use Rattle.vm.specs.Space.{IsRearranged, IsSpace, pages_of, registers_of, holds, pages_in}
+use Rattle.vm.specs.Space.{IsSpace, Reframes, pages_of, registers_of, holds, pages_in}
 
 -- ---- trades of more than one holder
 
@@ -62,31 +63,33 @@ part-absent m x c n f s is low was =
 
 -- ---- the steps: the page is closed, its frame gets a holder, the other tables get the page
 
--- the page was closed, and the space is rearranged
+-- the page was marked and closed, and the others are as they were
 pub record IsClosed (m k : List (List ℕ)) (x : Space) (n f leaf : ℕ) (s : Frames) : Type 0 where
-  pub same : IsRearranged m k x s s
+  pub stands : Reframes m k x s s
+  pub page : page_at k x.root.0 n ≡ page_with (frame_of m f) leaf
+  pub pages : (p : ℕ) → p < pages_in x.size → p ≢ n → page_at k x.root.0 p ≡ page_at m x.root.0 p
   pub held : (v : ℕ) → count_of v (holds k x) ≡ count_of v (holds m x)
   pub frames : (p : ℕ) → p < pages_in x.size → frame_at k x.root.0 p ≡ frame_at m x.root.0 p
   pub frame : frame_at k x.root.0 n ≡ f
   pub marks : marks_at k x.root.0 n ≡ leaf
-  pub right : right_marks leaf ≡ right_marks (marks_at m x.root.0 n)
+  pub right : right_marks leaf ≡ shared_marks (right_marks (marks_at m x.root.0 n))
   pub closed : is_open leaf ≡ false
 
 -- no frame is free then that wasn't
 pub closed-free : (m k : List (List ℕ)) (x : Space) (n f leaf : ℕ) (s : Frames) → IsSpace m x s → IsClosed m k x n f leaf s → free_count k s ≡ free_count m s
 closed-free m k x n f leaf s is e =
-    omega (arith, Trades-lengths m k s s (holds m x) (holds k x) is.free e.same.frames.space.free is.held e.same.frames.trades, length-held m x.root.0 x.trap.0 (pages_in x.size), length-held k x.root.0 x.trap.0 (pages_in x.size))
+    omega (arith, Trades-lengths m k s s (holds m x) (holds k x) is.free e.stands.space.free is.held e.stands.trades, length-held m x.root.0 x.trap.0 (pages_in x.size), length-held k x.root.0 x.trap.0 (pages_in x.size))
 
 -- the part stands where the page is closed
 pub part-closed : (m k : List (List ℕ)) (x c : Space) (n f leaf : ℕ) (s : Frames) → IsPart m x c n s → n < pages_in x.size → IsClosed m k x n f leaf s
     → IsPart k x c n s × ((v : ℕ) → count_of v (held k c.root.0 c.trap.0 n) ≡ count_of v (held m c.root.0 c.trap.0 n)) × (pages_below k c.root.0 n ≡ pages_below m c.root.0 n) × (frame_of k c.trap.0 ≡ frame_of m c.trap.0)
 part-closed m k x c n f leaf s is low e =
-    let beside = Trades-held m k s s (holds m x) (holds k x) c.root.0 c.trap.0 n is.child is.room e.same.frames.trades e.same.frames.space.free in
+    let beside = Trades-held m k s s (holds m x) (holds k x) c.root.0 c.trap.0 n is.child is.room e.stands.trades e.stands.space.free in
     let stays = beside.stays in (
       record {
-        parent = e.same.frames.space;
+        parent = e.stands.space;
         child = beside.space;
-        room = λ v. omega (arith, is.room v, ap (count_of v) beside.same, e.held v, e.same.frames.trades.moved v);
+        room = λ v. omega (arith, is.room v, ap (count_of v) beside.same, e.held v, e.stands.trades.moved v);
         shared = λ p h. frame_at-same m k c.root.0 p (stays.looks p) ∙ is.shared p h ∙ sym (e.frames p (omega (arith, h, low)));
       },
       λ v. ap (count_of v) beside.same,
@@ -124,8 +127,12 @@ page-of m k x n low same =
     sym (get_or-pages k x.root.0 (pages_in x.size) n d low) ∙ ap (λ (l : List Page). get_or l n d) same ∙ get_or-pages m x.root.0 (pages_in x.size) n d low
 
 -- the page's bytes are what the program saw there
-bytes : (m k : List (List ℕ)) (x : Space) (n f leaf : ℕ) (s : Frames) → n < pages_in x.size → IsClosed m k x n f leaf s → frame_of k f ≡ frame_of m (frame_at m x.root.0 n)
-bytes m k x n f leaf s low e = ap (frame_of k) (sym e.frame) ∙ ap (λ (y : Page). y.bytes) (page-of m k x n low e.same.pages)
+bytes : (m k : List (List ℕ)) (x : Space) (n f leaf : ℕ) (s : Frames) → frame_at m x.root.0 n ≡ f → IsClosed m k x n f leaf s → frame_of k f ≡ frame_of m (frame_at m x.root.0 n)
+bytes m k x n f leaf s was e = ap (frame_of k) (sym e.frame) ∙ ap (λ (y : Page). y.bytes) e.page ∙ ap (frame_of m) (sym was)
+
+-- and its marks those that a fork leaves
+closed-page : (m k : List (List ℕ)) (x : Space) (n f leaf : ℕ) (s : Frames) (bs : List ℕ) → IsClosed m k x n f leaf s → bs ≡ frame_of m (frame_at m x.root.0 n) → page_with bs leaf ≡ shared_page (page_at m x.root.0 n)
+closed-page m k x n f leaf s bs e same = ap (λ (g : Perm). page_as bs g) e.right ∙ ap (λ (bs : List ℕ). page_as bs (shared_marks (right_marks (marks_at m x.root.0 n)))) same
 
 pub part-more : (m k l : List (List ℕ)) (x c : Space) (n f leaf : ℕ) (s q w : Frames) → IsPart m x c n s → n < pages_in x.size → frame_at m x.root.0 n ≡ f → IsClosed m k x n f leaf s
     → IsFreeList k q → ((v : ℕ) → holders_of k q v ≡ holders_of k s v + count_of v (f ∷ [])) → free_of k q ≡ free_of k s → IsNext k l c.root.0 n f leaf q w → IsMore m l x c n s w
@@ -143,7 +150,7 @@ part-more m k l x c n f leaf s q w is low was e after more list next =
     let here = page-once k x.root.0 x.trap.0 (pages_in x.size) n f s part.0.parent low e.frame in
     let first : Trades m k s s (holds m x ++ held m r t n) (held k r t n ++ holds k x) =
     Trades-as m k s s (held m r t n ++ holds m x) (held m r t n ++ holds k x) (holds m x ++ held m r t n) (held k r t n ++ holds k x)
-    (Trades-frame m k s s (holds m x) (holds k x) (held m r t n) e.same.frames.trades)
+    (Trades-frame m k s s (holds m x) (holds k x) (held m r t n) e.stands.trades)
     (λ v. omega (arith, count_of-append v (holds m x) (held m r t n), count_of-append v (held m r t n) (holds m x)))
     (λ v. omega (arith, count_of-append v (held k r t n) (holds k x), count_of-append v (held m r t n) (holds k x), part.1 v)) in
     let second : Trades k k s q (held k r t n ++ holds k x) (f ∷ (held k r t n ++ holds k x)) =
@@ -168,12 +175,13 @@ part-more m k l x c n f leaf s q w is low was e after more list next =
               frame_at-same k l r p (next.inserts.others p (omega (arith, h, small)) ne) ∙ part.0.shared p (omega (arith, h, ne)) ∙ sym (frame_at-same k l x.root.0 p (stays.looks p))
         ];
       };
-      pages = stays.pages ∙ e.same.pages;
-      registers = stays.trap ∙ e.same.frames.registers;
+      marked = page-of k l x n low stays.pages ∙ e.page ∙ closed-page m k x n f leaf s (frame_of m f) e (ap (frame_of m) (sym was));
+      pages = λ p h ne. page-of k l x p h stays.pages ∙ e.pages p h ne;
+      registers = stays.trap ∙ e.stands.registers;
       frames = λ p h. frame_at-same k l x.root.0 p (stays.looks p) ∙ e.frames p h;
       child = next-pages k l r t n f leaf q w b next
-          ∙ ap (λ (y : Page). pages_below k r n ++ (y ∷ [])) (ap (λ (g : Perm). page_as (frame_of k f) g) e.right ∙ ap (λ (bs : List ℕ). page_as bs (right_marks (marks_at m x.root.0 n))) (bytes m k x n f leaf s low e))
-          ∙ ap (λ (l : List Page). l ++ (page_at m x.root.0 n ∷ [])) (part.2);
+          ∙ ap (λ (y : Page). pages_below k r n ++ (y ∷ [])) (closed-page m k x n f leaf s (frame_of k f) e (bytes m k x n f leaf s was e))
+          ∙ ap (λ (l : List Page). l ++ (shared_page (page_at m x.root.0 n) ∷ [])) (part.2);
       trap = next-trap k l r t n f leaf q w b next ∙ part.3;
       trades = all;
       free = omega (arith, lengths, length-append (holds m x) (held m r t n), length-append (holds l x) (held l r t (suc n)), length-held m x.root.0 x.trap.0 (pages_in x.size), length-held l x.root.0 x.trap.0 (pages_in x.size), length-held m r t n, length-held l r t (suc n));
@@ -192,13 +200,22 @@ part-holder k x c n f s is low was = omega (arith, is.parent.held f, (page-once 
 
 -- ---- all pages
 
+pages-marked : (m k : List (List ℕ)) (r n : ℕ) → ((p : ℕ) → p < n → page_at k r p ≡ shared_page (page_at m r p)) → pages_below k r n ≡ shared_memory (pages_below m r n)
+pages-marked m k r zero each = pages_below-zero k r ∙ sym (ap shared_memory (pages_below-zero m r))
+pages-marked m k r (suc n) each =
+    pages_below-more k r n
+    ∙ ap (λ (y : Page). pages_below k r n ++ (y ∷ [])) (each n (omega arith))
+    ∙ ap (λ (l : List Page). l ++ (shared_page (page_at m r n) ∷ [])) (pages-marked m k r n (λ p h. each p (omega (arith, h))))
+    ∙ sym (ap shared_memory (pages_below-more m r n) ∙ map-append shared_page (pages_below m r n) (page_at m r n ∷ []))
+
 pub so-far-start : (m : List (List ℕ)) (x c : Space) (s : Frames) → IsPart m x c 0 s → IsSoFar m m x c 0 s s
 so-far-start m x c s is = record {
   part = is;
-  pages = refl;
+  marked = λ p h. absurd (omega (arith, h));
+  pages = λ p high low. refl;
   registers = refl;
   frames = λ p h. refl;
-  child = pages_below-zero m c.root.0 ∙ sym (pages_below-zero m x.root.0);
+  child = pages_below-zero m c.root.0 ∙ sym (ap shared_memory (pages_below-zero m x.root.0));
   trap = refl;
   trades = Trades-none m s (holds m x ++ held m c.root.0 c.trap.0 0);
   free = refl;
@@ -208,10 +225,17 @@ pub so-far-more : (m k l : List (List ℕ)) (x c : Space) (n : ℕ) (s q w : Fra
 so-far-more m k l x c n s q w low so more =
     rw add-one record {
       part = more.part;
-      pages = more.pages ∙ so.pages;
+      marked = λ p h. elim (cases_eq p n) [
+        | inl same ↦ ap (page_at l x.root.0) same ∙ more.marked ∙ ap shared_page (so.pages n (omega arith) low) ∙ ap (λ (j : ℕ). shared_page (page_at m x.root.0 j)) (sym same)
+        | inr ne ↦ more.pages p (omega (arith, h, low)) ne ∙ so.marked p (omega (arith, h, ne))
+      ];
+      pages = λ p high h. more.pages p h (omega (arith, high)) ∙ so.pages p (omega (arith, high)) h;
       registers = more.registers ∙ so.registers;
       frames = λ p h. more.frames p h ∙ so.frames p h;
-      child = more.child ∙ ap (λ (y : Page). pages_below k c.root.0 n ++ (y ∷ [])) (page-of m k x n low so.pages) ∙ ap (λ (l : List Page). l ++ (page_at m x.root.0 n ∷ [])) so.child ∙ sym (pages_below-more m x.root.0 n);
+      child = more.child
+          ∙ ap (λ (y : Page). pages_below k c.root.0 n ++ (shared_page y ∷ [])) (so.pages n (omega arith) low)
+          ∙ ap (λ (l : List Page). l ++ (shared_page (page_at m x.root.0 n) ∷ [])) so.child
+          ∙ sym (ap shared_memory (pages_below-more m x.root.0 n) ∙ map-append shared_page (pages_below m x.root.0 n) (page_at m x.root.0 n ∷ []));
       trap = more.trap ∙ so.trap;
       trades = Trades-twice m k l s q w (holds m x ++ held m c.root.0 c.trap.0 0) (holds k x ++ held k c.root.0 c.trap.0 n) (holds l x ++ held l c.root.0 c.trap.0 (suc n)) so.trades more.trades;
       free = omega (arith, more.free, so.free);
@@ -282,8 +306,8 @@ same-holders m k x c p s q is t low =
 pub record IsForked (m l : List (List ℕ)) (x c : Space) (s w : Frames) : Type 0 where
   pub child : OwnsFrames l c.root.0 c.trap.0 (pages_in x.size) w
   pub parent : IsSpace l x w
-  pub pages : pages_below l c.root.0 (pages_in x.size) ≡ pages_of m x
-  pub kept : pages_of l x ≡ pages_of m x
+  pub pages : pages_below l c.root.0 (pages_in x.size) ≡ shared_memory (pages_of m x)
+  pub kept : pages_of l x ≡ shared_memory (pages_of m x)
   pub registers : registers_of l x ≡ registers_of m x
   pub shared : (p : ℕ) → p < pages_in x.size → frame_at l c.root.0 p ≡ frame_at m x.root.0 p
   pub holders : (p : ℕ) → p < pages_in x.size → holders_of l w (frame_at m x.root.0 p) ≡ holders_of m s (frame_at m x.root.0 p) + 1
@@ -303,8 +327,8 @@ forked m k l x c s q w is new t so =
     record {
       child = so.part.child;
       parent = so.part.parent;
-      pages = so.child ∙ beside.stays.pages;
-      kept = so.pages ∙ beside.stays.pages;
+      pages = so.child ∙ ap shared_memory beside.stays.pages;
+      kept = pages-marked k l x.root.0 (pages_in x.size) so.marked ∙ ap shared_memory beside.stays.pages;
       registers = so.registers ∙ beside.stays.trap;
       shared = λ p h. (both p h).0 ∙ same p;
       holders = λ p h. ap (holders_of l w) (sym (same p)) ∙ (both p h).1 ∙ ap (λ f. holders_of k q f + 1) (same p) ∙ ap (λ n. n + 1) (same-holders m k x c p s q is t h);

@@ -1,7 +1,7 @@
--- A page gets another frame with the same bytes, or other marks with the same rights.
+-- A page gets another frame with the same bytes, or other marks.
 use Rattle.std.proofs.Common.{◌≡◌, ◌≢◌, ℕ, zero, suc, ◌+◌, ◌^◌, ◌<◌, ◌≤◌, ◌⊎◌, inl, inr, Bool, false, true, List, [], ◌∷◌, length, slice_set, length-set, get_or-set_other, get_or-set_same, Some, None, unwrap_or, nat_eq, ltb, subst, refl, sym, ap, ◌∙◌, arith}
 use Rattle.std.proofs.lemmas.Bool.{cases_eq}
-use Rattle.unixmodel.specs.Memory.{Page}
+use Rattle.unixmodel.specs.Memory.{Page, Perm}
 use Rattle.ram.specs.Memory.{frame_of}
 use Rattle.frames.specs.declared.Frames.{Frames}
 use Rattle.frames.specs.Free.{among, free_of, further_at, IsFreeList}
@@ -34,7 +34,6 @@ pub record IsRemap (m z k : List (List ℕ)) (r p f g marks : ℕ) (s q : Frames
   pub moved : (v : ℕ) → holders_of k q v + count_of v (f ∷ []) ≡ holders_of m s v + count_of v (g ∷ [])
   pub fewer : (v : ℕ) → further_at q v ≤ further_at s v
   pub leaf : IsUserLeaf marks
-  pub right : right_marks marks ≡ right_marks (marks_at m r p)
   pub sole : is_open marks ≡ true → further_at q g ≡ 0
   pub inserts : Inserts (lookup_of z r) (lookup_of k r) p (g, marks)
   pub tables : (x : Node) → IsNode x → table_at k r x ≡ table_at z r x
@@ -172,32 +171,42 @@ remap-trades m z k r t n p f g marks s q is low e =
       ];
     }
 
--- the program's memory is the same
-pub remap-pages : (m z k : List (List ℕ)) (r t n p f g marks : ℕ) (s q : Frames) → OwnsFrames m r t n s → p < n → IsRemap m z k r p f g marks s q → pages_below k r n ≡ pages_below m r n
-remap-pages m z k r t n p f g marks s q is low e =
-    let small = is.dense.small in
+-- the page has the bytes that it had, and these marks
+pub remap-page : (m z k : List (List ℕ)) (r t n p f g marks : ℕ) (s q : Frames) → OwnsFrames m r t n s → p < n → IsRemap m z k r p f g marks s q → page_at k r p ≡ page_with (frame_of m f) marks
+remap-page m z k r t n p f g marks s q is low e =
     let stays = table-stays m z k r t n p f g marks s q is e in
+    let no_table : count_of g (tables_below m r n) ≡ 0 = elim e.new [
+      | inl old ↦ omega (arith, ap (λ x. count_of x (tables_below m r n)) old, is.once f, count-held m r t n f, page-held m r n p low, ap (λ x. count_of x (frames_below m r n)) e.was)
+      | inr free ↦ omega (arith, free, is.held g, count-held m r t n g)
+    ] in
+    let bytes : frame_of k g ≡ frame_of m f = e.keeps.others g
+    (λ h. omega (arith, no_table, table-held m r t n g is.dense (record { place = h.place; is_node = h.is_node; at_place = sym (table_at-same m z r stays h.place h.is_node) ∙ h.at_place })))
+    e.taken
+    ∙ e.bytes in
+    ap (λ x. page_with (frame_of k x) (marks_at k r p)) (frame_at-is k r p g marks e.inserts.changed)
+    ∙ ap (λ x. page_with (frame_of k g) x) (marks_at-is k r p g marks e.inserts.changed)
+    ∙ ap (λ b. page_with b marks) bytes
+
+-- and the others are as they were
+pub remap-other : (m z k : List (List ℕ)) (r t n p f g marks : ℕ) (s q : Frames) → OwnsFrames m r t n s → p < n → IsRemap m z k r p f g marks s q → (j : ℕ) → j < n → j ≢ p → page_at k r j ≡ page_at m r j
+remap-other m z k r t n p f g marks s q is low e j h ne =
+    let small = is.dense.small in
+    let looks = remap-others m z k r t n p f g marks s q is e j (omega (arith, h, small)) ne in
+    let v = frame_at m r j in
+    let some = page-held m r n j h in
+    page-kept m k r j looks (remap-bytes m z k r t n p f g marks s q is e v (held-some m r t n s is v (omega (arith, count-held m r t n v, some))) (omega (arith, is.once v, count-held m r t n v, some)))
+
+-- the program's memory is the same, where the rights are
+pub remap-pages : (m z k : List (List ℕ)) (r t n p f g marks : ℕ) (s q : Frames) → OwnsFrames m r t n s → p < n → IsRemap m z k r p f g marks s q → right_marks marks ≡ right_marks (marks_at m r p) → pages_below k r n ≡ pages_below m r n
+remap-pages m z k r t n p f g marks s q is low e right =
     pages-each m k r n (λ j h. elim (cases_eq j p) [
       | inl same ↦
-          let no_table : count_of g (tables_below m r n) ≡ 0 = elim e.new [
-            | inl old ↦ omega (arith, ap (λ x. count_of x (tables_below m r n)) old, is.once f, count-held m r t n f, page-held m r n p low, ap (λ x. count_of x (frames_below m r n)) e.was)
-            | inr free ↦ omega (arith, free, is.held g, count-held m r t n g)
-          ] in
-          let bytes : frame_of k g ≡ frame_of m f = e.keeps.others g
-          (λ h. omega (arith, no_table, table-held m r t n g is.dense (record { place = h.place; is_node = h.is_node; at_place = sym (table_at-same m z r stays h.place h.is_node) ∙ h.at_place })))
-          e.taken
-          ∙ e.bytes in
           ap (page_at k r) same
-          ∙ ap (λ x. page_with (frame_of k x) (marks_at k r p)) (frame_at-is k r p g marks e.inserts.changed)
-          ∙ ap (λ x. page_with (frame_of k g) x) (marks_at-is k r p g marks e.inserts.changed)
-          ∙ ap (λ b. page_with b marks) (bytes ∙ ap (frame_of m) (sym e.was))
-          ∙ ap (λ x. let d : Page = record { bytes = frame_of m (frame_at m r p); marks = x } in d) e.right
+          ∙ remap-page m z k r t n p f g marks s q is low e
+          ∙ ap (λ v. page_with (frame_of m v) marks) (sym e.was)
+          ∙ ap (λ x. let d : Page = record { bytes = frame_of m (frame_at m r p); marks = x } in d) right
           ∙ ap (page_at m r) (sym same)
-      | inr ne ↦
-          let looks = remap-others m z k r t n p f g marks s q is e j (omega (arith, h, small)) ne in
-          let v = frame_at m r j in
-          let some = page-held m r n j h in
-          page-kept m k r j looks (remap-bytes m z k r t n p f g marks s q is e v (held-some m r t n s is v (omega (arith, count-held m r t n v, some))) (omega (arith, is.once v, count-held m r t n v, some)))
+      | inr ne ↦ remap-other m z k r t n p f g marks s q is low e j h ne
     ])
 
 -- and so are the registers
@@ -208,17 +217,22 @@ remap-trap m z k r t n p f g marks s q is e =
 
 -- ---- the whole space
 
-pub rearranged : (m z k : List (List ℕ)) (x : Space) (p f g marks : ℕ) (s q : Frames) → IsSpace m x s → p < pages_in x.size → IsRemap m z k x.root.0 p f g marks s q → IsRearranged m k x s q
-rearranged m z k x p f g marks s q is low e =
+pub reframed : (m z k : List (List ℕ)) (x : Space) (p f g marks : ℕ) (s q : Frames) → IsSpace m x s → p < pages_in x.size → IsRemap m z k x.root.0 p f g marks s q → Reframes m k x s q
+reframed m z k x p f g marks s q is low e =
     let r = x.root.0 in
     let t = x.trap.0 in
     let n = pages_in x.size in
-    let after = remap-space m z k r t n p f g marks s q is low e in
-    let trades = remap-trades m z k r t n p f g marks s q is low e in
     record {
-      frames = record { space = after; registers = remap-trap m z k r t n p f g marks s q is e; trades = trades };
-      pages = remap-pages m z k r t n p f g marks s q is low e;
+      space = remap-space m z k r t n p f g marks s q is low e;
+      registers = remap-trap m z k r t n p f g marks s q is e;
+      trades = remap-trades m z k r t n p f g marks s q is low e;
     }
+
+pub rearranged : (m z k : List (List ℕ)) (x : Space) (p f g marks : ℕ) (s q : Frames) → IsSpace m x s → p < pages_in x.size → IsRemap m z k x.root.0 p f g marks s q → right_marks marks ≡ right_marks (marks_at m x.root.0 p) → IsRearranged m k x s q
+rearranged m z k x p f g marks s q is low e right = record {
+  frames = reframed m z k x p f g marks s q is low e;
+  pages = remap-pages m z k x.root.0 x.trap.0 (pages_in x.size) p f g marks s q is low e right;
+}
 
 -- ---- frames that change, one after another
 
@@ -230,10 +244,10 @@ reframes-twice m k l x s q w a b = record { space = b.space; registers = b.regis
 
 -- ---- other marks for the same frame
 
-pub remap-marks : (m k : List (List ℕ)) (r t n p f marks : ℕ) (s : Frames) → OwnsFrames m r t n s → p < n → frame_at m r p ≡ f → IsUserLeaf marks → right_marks marks ≡ right_marks (marks_at m r p) → (is_open marks ≡ true → further_at s f ≡ 0)
+pub remap-marks : (m k : List (List ℕ)) (r t n p f marks : ℕ) (s : Frames) → OwnsFrames m r t n s → p < n → frame_at m r p ≡ f → IsUserLeaf marks → (is_open marks ≡ true → further_at s f ≡ 0)
     → Inserts (lookup_of m r) (lookup_of k r) p (f, marks) → ((x : Node) → IsNode x → table_at k r x ≡ table_at m r x) → IsTidy k r → IsPaged k r s → Keeps m k r s s → free_of k s ≡ free_of m s
     → IsRemap m m k r p f f marks s s
-remap-marks m k r t n p f marks s is low was leaf right sole inserts tables tidy paged keeps free = record {
+remap-marks m k r t n p f marks s is low was leaf sole inserts tables tidy paged keeps free = record {
   was = was;
   count = refl;
   rest = λ v some. refl;
@@ -244,7 +258,6 @@ remap-marks m k r t n p f marks s is low was leaf right sole inserts tables tidy
   moved = λ v. omega (arith, holders-table m k s s is.free paged.free keeps.count refl v, ap (count_of v) free);
   fewer = λ v. omega arith;
   leaf = leaf;
-  right = right;
   sole = sole;
   inserts = inserts;
   tables = tables;
@@ -307,10 +320,10 @@ split-paged m z r t n s q f g is e =
 pub split-sole : (m z : List (List ℕ)) (s q : Frames) (f g : ℕ) → IsFreeList m s → IsSplit m z s q f g → further_at q g ≡ 0
 split-sole m z s q f g is e = omega (arith, split-fewer m z s q f g is e g, further-free m s g is (ap (among g) e.taken ∙ among_first g (free_of m q)))
 
-pub remap-split : (m z k : List (List ℕ)) (r t n p f g marks : ℕ) (s q : Frames) → OwnsFrames m r t n s → p < n → IsSplit m z s q f g → frame_at m r p ≡ f → IsUserLeaf marks → right_marks marks ≡ right_marks (marks_at m r p)
+pub remap-split : (m z k : List (List ℕ)) (r t n p f g marks : ℕ) (s q : Frames) → OwnsFrames m r t n s → p < n → IsSplit m z s q f g → frame_at m r p ≡ f → IsUserLeaf marks
     → Inserts (lookup_of z r) (lookup_of k r) p (g, marks) → ((x : Node) → IsNode x → table_at k r x ≡ table_at z r x) → IsTidy k r → IsPaged k r q → Keeps z k r q q → free_of k q ≡ free_of z q
     → IsRemap m z k r p f g marks s q
-remap-split m z k r t n p f g marks s q is low e was leaf right inserts tables tidy paged keeps free =
+remap-split m z k r t n p f g marks s q is low e was leaf inserts tables tidy paged keeps free =
     let first = free-first m s g (free_of m q) is.free e.taken in
     let at : among g (free_of m s) ≡ true = ap (among g) e.taken ∙ among_first g (free_of m q) in
     record {
@@ -324,7 +337,6 @@ remap-split m z k r t n p f g marks s q is low e was leaf right inserts tables t
       moved = λ v. omega (arith, e.holders v, holders-table m k q q e.after paged.free (keeps.count ∙ split-count m z s q f g e) refl v, ap (count_of v) (free ∙ (split-free m z s q f g is.free e).0));
       fewer = split-fewer m z s q f g is.free e;
       leaf = leaf;
-      right = right;
       sole = λ wide. split-sole m z s q f g is.free e;
       inserts = inserts;
       tables = tables;
@@ -355,18 +367,18 @@ page-single m r t n p f s is low was few =
 pub page-shared : (m : List (List ℕ)) (s : Frames) (f : ℕ) → IsFreeList m s → 1 < holders_of m s f → further_at s f ≢ 0
 page-shared m s f is many none = omega (arith, many, holders-free m s is f, one_if-le (ltb f (length m)), none)
 
--- a leaf that is made of the one that was found, with the same rights
-pub record IsMadeLeaf (m : List (List ℕ)) (r p f a : ℕ) (wide : Bool) : Type 0 where
+-- a leaf that is made of the one that was found, with rights that come of its
+pub record IsMadeLeaf (m : List (List ℕ)) (r p f a : ℕ) (change : Perm → Perm) (wide : Bool) : Type 0 where
   pub frame : frame_at m r p ≡ f
   pub leaf : IsUserLeaf a
   pub marks : IsLeafMarks a
-  pub right : right_marks a ≡ right_marks (marks_at m r p)
-  pub made : a ≡ user_leaf (right_marks (marks_at m r p)) wide
+  pub right : right_marks a ≡ change (right_marks (marks_at m r p))
+  pub made : a ≡ user_leaf (change (right_marks (marks_at m r p))) wide
 
-pub made-leaf : (m : List (List ℕ)) (r p f a b : ℕ) (wide : Bool) → Some (f, a) ≡ lookup_of m r p → b ≡ user_leaf (right_marks a) wide → IsMadeLeaf m r p f b wide
-made-leaf m r p f a b wide found is =
-    let rights = right_marks (marks_at m r p) in
-    let made : b ≡ user_leaf rights wide = is ∙ ap (λ (l : ℕ). user_leaf (right_marks l) wide) (sym (marks_at-is m r p f a (sym found))) in
+pub made-leaf : (m : List (List ℕ)) (r p f a b : ℕ) (change : Perm → Perm) (wide : Bool) → Some (f, a) ≡ lookup_of m r p → b ≡ user_leaf (change (right_marks a)) wide → IsMadeLeaf m r p f b change wide
+made-leaf m r p f a b change wide found is =
+    let rights = change (right_marks (marks_at m r p)) in
+    let made : b ≡ user_leaf rights wide = is ∙ ap (λ (l : ℕ). user_leaf (change (right_marks l)) wide) (sym (marks_at-is m r p f a (sym found))) in
     record {
       frame = frame_at-is m r p f a (sym found);
       leaf = subst IsUserLeaf (sym made) (leaf-user rights wide);

@@ -22,7 +22,7 @@ abbrev mapped_of : ℕ → Perm → Mapped
 mapped_of f a = record { frame = f; marks = a }
 
 none_mapped : Mapped
-none_mapped = record { frame = 0; marks = record { writable = false; executable = false; user = false } }
+none_mapped = record { frame = 0; marks = record { writable = false; executable = false; user = false; shared = false } }
 
 pub get-mapping : (read : ℕ → Perm) (m : List (List ℕ)) (r n p : ℕ) → p < n → slice_get (read_below read m r n) p ≡ Some (read_at read m r p)
 get-mapping read m r n p h =

@@ -1,12 +1,13 @@
 -- A space that is made of another one, whose frames it shares.
-use Rattle.std.specs.Prelude.{◌≡◌, ◌<◌, ◌≤◌, ◌+◌, ℕ, suc, List, ◌∷◌, [], ◌++◌}
+use Rattle.std.specs.Prelude.{◌≡◌, ◌≢◌, ◌<◌, ◌≤◌, ◌+◌, ℕ, suc, List, ◌∷◌, [], ◌++◌}
 use Rattle.ram.specs.Memory.{frame_of}
 use Rattle.frames.specs.declared.Frames.{Frames}
 use Rattle.frames.specs.Free.{free_count}
 use Rattle.frames.specs.Holders.{count_of, holders_of, Trades}
 use Rattle.vm.specs.declared.Space.{Space}
 use Rattle.vm.specs.Dense.{OwnsFrames, frame_at, frames_for, held, page_at, pages_below}
-use Rattle.vm.specs.Space.{IsSpace, holds, pages_in, pages_of, registers_of}
+use Rattle.vm.specs.Space.{IsSpace, holds, pages_in, registers_of}
+use Rattle.unixmodel.specs.Memory.{shared_memory, shared_page}
 
 -- a space and one that is made, which shares its first n pages
 pub record IsPart (m : List (List ℕ)) (x c : Space) (n : ℕ) (s : Frames) : Type 0 where
@@ -18,10 +19,11 @@ pub record IsPart (m : List (List ℕ)) (x c : Space) (n : ℕ) (s : Frames) : T
 -- one page more
 pub record IsMore (m k : List (List ℕ)) (x c : Space) (n : ℕ) (s w : Frames) : Type 0 where
   pub part : IsPart k x c (suc n) w
-  pub pages : pages_of k x ≡ pages_of m x
+  pub marked : page_at k x.root.0 n ≡ shared_page (page_at m x.root.0 n)
+  pub pages : (p : ℕ) → p < pages_in x.size → p ≢ n → page_at k x.root.0 p ≡ page_at m x.root.0 p
   pub registers : registers_of k x ≡ registers_of m x
   pub frames : (p : ℕ) → p < pages_in x.size → frame_at k x.root.0 p ≡ frame_at m x.root.0 p
-  pub child : pages_below k c.root.0 (suc n) ≡ pages_below m c.root.0 n ++ (page_at m x.root.0 n ∷ [])
+  pub child : pages_below k c.root.0 (suc n) ≡ pages_below m c.root.0 n ++ (shared_page (page_at m x.root.0 n) ∷ [])
   pub trap : frame_of k c.trap.0 ≡ frame_of m c.trap.0
   pub trades : Trades m k s w (holds m x ++ held m c.root.0 c.trap.0 n) (holds k x ++ held k c.root.0 c.trap.0 (suc n))
   pub free : frames_for (suc n) + free_count k w ≡ frames_for n + free_count m s
@@ -29,10 +31,11 @@ pub record IsMore (m k : List (List ℕ)) (x c : Space) (n : ℕ) (s w : Frames)
 -- the first n pages are shared
 pub record IsSoFar (m k : List (List ℕ)) (x c : Space) (n : ℕ) (s w : Frames) : Type 0 where
   pub part : IsPart k x c n w
-  pub pages : pages_of k x ≡ pages_of m x
+  pub marked : (p : ℕ) → p < n → page_at k x.root.0 p ≡ shared_page (page_at m x.root.0 p)
+  pub pages : (p : ℕ) → n ≤ p → p < pages_in x.size → page_at k x.root.0 p ≡ page_at m x.root.0 p
   pub registers : registers_of k x ≡ registers_of m x
   pub frames : (p : ℕ) → p < pages_in x.size → frame_at k x.root.0 p ≡ frame_at m x.root.0 p
-  pub child : pages_below k c.root.0 n ≡ pages_below m x.root.0 n
+  pub child : pages_below k c.root.0 n ≡ shared_memory (pages_below m x.root.0 n)
   pub trap : frame_of k c.trap.0 ≡ frame_of m c.trap.0
   pub trades : Trades m k s w (holds m x ++ held m c.root.0 c.trap.0 0) (holds k x ++ held k c.root.0 c.trap.0 n)
   pub free : frames_for n + free_count k w ≡ frames_for 0 + free_count m s

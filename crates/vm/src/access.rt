@@ -5,11 +5,11 @@ ghost use Rattle.ram.specs.Memory.{frame_of, put};
 ghost use Rattle.sv39.specs.Mapping.{Mapped, WalksTo};
 ghost use Rattle.unixmodel.specs.declared.trap.Access.TheVariants.{Load, Store};
 ghost use Rattle.unixmodel.specs.Memory.{permits, reach, can_write, read_bytes, string_at, write_bytes};
-ghost use Rattle.vm.specs.Leaf.{marks_from, mapped_as, right_marks};
+ghost use Rattle.vm.specs.Leaf.{rights_from, mapped_as, right_marks};
 ghost use Rattle.vm.specs.Reach.{run_of, piece_at, short_string};
 ghost use Rattle.vm.specs.Space.{pages_in, IsMapped, IsOnce, IsSpace, entries_of, mapping_of, pages_of, Reframes, StaysOpen};
 
-use crate::{Perm, RIGHT, Space, VmFault, pages_in};
+use crate::{Marks, Perm, RIGHT, SHARED, Space, VmFault, pages_in};
 use bitflags::Flags;
 use frames::Frames;
 use pagetable::PageTable;
@@ -17,26 +17,29 @@ use ram::{FrameNo, Ram};
 use sv39::EntryBits;
 use unixmodel::trap::Access;
 
-// What a program may do by right at the page of a leaf.
-pub(crate) fn perm_of(leaf: EntryBits) -> Perm
-    ensures { marks_from result ≡ right_marks leaf.0 }
+// The marks of the page of a leaf.
+pub(crate) fn marks_of(leaf: EntryBits) -> Marks
+    ensures { rights_from result ≡ right_marks leaf.0 }
 {
-    Perm {
-        w: leaf.contains(RIGHT),
-        x: leaf.contains(EntryBits::EXECUTE),
-        u: leaf.contains(EntryBits::USER),
+    Marks {
+        perm: Perm {
+            w: leaf.contains(RIGHT),
+            x: leaf.contains(EntryBits::EXECUTE),
+            u: leaf.contains(EntryBits::USER),
+        },
+        shared: leaf.contains(SHARED),
     }
 }
 
-impl Perm {
+impl Marks {
     /// Whether a program may access a page with these marks so.
     pub fn permits(self, access: Access) -> bool
-        ensures { result ≡ permits access (marks_from self) }
+        ensures { result ≡ permits access (rights_from self) }
     {
         match access {
-            Access::Fetch => self.x && self.u,
-            Access::Load => self.u,
-            Access::Store => self.w && self.u,
+            Access::Fetch => self.perm.x && self.perm.u,
+            Access::Load => self.perm.u,
+            Access::Store => self.perm.w && self.perm.u,
         }
     }
 }
@@ -73,7 +76,7 @@ impl Space {
     }
 
     /// The frame and the marks of a page; `None` past the last page.
-    pub fn find_page(&self, ram: &Ram, page: u64) -> Option<(FrameNo, Perm)>
+    pub fn find_page(&self, ram: &Ram, page: u64) -> Option<(FrameNo, Marks)>
         requires { IsMapped ram.now self.now }
         ensures found { option_map (λ x. mapped_as x.0.0 x.1) result ≡ slice_get (mapping_of ram.now self.now) page }
         ensures inside { IfSome result (λ x. x.0.0 < length ram.now) }
@@ -83,7 +86,7 @@ impl Space {
         }
         let table = PageTable { root: self.root };
         match table.find(ram, page) {
-            Some((frame, leaf)) => Some((frame, perm_of(leaf))),
+            Some((frame, leaf)) => Some((frame, marks_of(leaf))),
             None => unreachable!(),
         }
     }
@@ -94,7 +97,7 @@ impl Space {
         ensures { result.now ≡ piece_at Load (pages_of ram.now self.now) address }
     {
         match self.find_page(ram, address / 4096) {
-            Some((frame, perm)) if perm.permits(Access::Load) => {
+            Some((frame, marks)) if marks.permits(Access::Load) => {
                 &ram.frame(frame)[(address % 4096) as usize..]
             }
             _ => &[],
@@ -110,7 +113,7 @@ impl Space {
     {
         for i in 0..most {
             match self.find_page(ram, first + i) {
-                Some((_, perm)) if perm.permits(access) => {}
+                Some((_, marks)) if marks.permits(access) => {}
                 _ => return i,
             }
         }

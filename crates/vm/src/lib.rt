@@ -13,11 +13,11 @@
 ghost use Rattle.std.specs.Prelude.{◌≡◌, ◌≢◌, ℕ, ◌+◌, ◌-◌, ◌*◌, ◌/◌, ◌%◌, ◌^◌, ◌<◌, ◌≤◌, List, [], ◌∷◌, ◌++◌, length, take, replicate, None, Some, true, false, OnOk, OnErr, IsErrOf, IsTrue, ◌↔◌, ◌⊎◌};
 ghost use Rattle.ram.specs.Memory.{frame_of};
 ghost use Rattle.frames.specs.Free.{among, free_of, free_count, IsFreeList};
-ghost use Rattle.frames.specs.Holders.{Trades, holders_of};
+ghost use Rattle.frames.specs.Holders.{Trades, holders_of, one_if};
 ghost use Rattle.pagetable.specs.Tree.{IsLeafMarks};
 ghost use Rattle.vm.specs.Dense.{IsDense, OwnsFrames, frame_at, frames_for, held, marks_at, page_with, pages_below, read_below};
-ghost use Rattle.unixmodel.specs.Memory.{Perm as Rights};
-ghost use Rattle.vm.specs.Leaf.{marks_from, user_leaf, IsUserLeaf};
+ghost use Rattle.unixmodel.specs.Memory.{Perm as Rights, shared_marks, shared_memory};
+ghost use Rattle.vm.specs.Leaf.{marks_from, rights_from, user_leaf, IsUserLeaf};
 ghost use Rattle.vm.specs.Space.{pages_in, max_size, IsSpace, entries_of, mapping_of, pages_of, registers_of, holds, StaysOpen};
 ghost use Rattle.unixmodel.specs.Memory.{zero_page};
 
@@ -57,29 +57,51 @@ pub struct Perm {
     pub u: bool,
 }
 
-impl Perm {
-    // The marks of the leaf of a page.
-    fn leaf(self) -> EntryBits
-        ensures { result.0 ≡ user_leaf (marks_from self) true }
+/// The marks of a page, as the kernel keeps them.
+#[derive(Clone, Copy)]
+pub struct Marks {
+    /// What a program may do there by right.
+    pub perm: Perm,
+    /// Whether a fork had the page since it came: the first store to it may fault, and is done then.
+    pub shared: bool,
+}
+
+impl Marks {
+    // The marks of a page that comes.
+    fn new(perm: Perm) -> Marks
+        ensures { rights_from result ≡ marks_from perm }
     {
-        let leaf = leaf_marks(self.w, self.x, self.u);
-        if self.w {
-            EntryBits(leaf.0 + RIGHT.0)
-        } else {
-            leaf
+        Marks {
+            perm,
+            shared: false,
         }
     }
 
-    // The same without W: a store faults, also where the page is writable by right.
-    fn closed_leaf(self) -> EntryBits
-        ensures { result.0 ≡ user_leaf (marks_from self) false }
+    // The bits of a leaf that the walk doesn't look at.
+    fn kernel_bits(self) -> u16
+        ensures { result ≡ 256 * one_if self.perm.w + 512 * one_if self.shared }
     {
-        let closed = leaf_marks(false, self.x, self.u);
-        if self.w {
-            EntryBits(closed.0 + RIGHT.0)
-        } else {
-            closed
-        }
+        RIGHT.0 * u16::from(self.perm.w) + SHARED.0 * u16::from(self.shared)
+    }
+
+    // The marks of the leaf of a page that is open, where a program may write it.
+    fn leaf(self) -> EntryBits
+        ensures { result.0 ≡ user_leaf (rights_from self) true }
+    {
+        let leaf = leaf_marks(self.perm.w, self.perm.x, self.perm.u);
+        EntryBits(leaf.0 + self.kernel_bits())
+    }
+
+    // The same as a fork leaves them, without W: a store faults, also where the page is writable by right.
+    fn closed_leaf(self) -> EntryBits
+        ensures { result.0 ≡ user_leaf (shared_marks (rights_from self)) false }
+    {
+        let closed = leaf_marks(false, self.perm.x, self.perm.u);
+        let shared = Marks {
+            shared: true,
+            ..self
+        };
+        EntryBits(closed.0 + shared.kernel_bits())
     }
 }
 
@@ -103,6 +125,9 @@ pub const TRAP_PAGE: u64 = 0x3fffffe;
 
 // The mark that a program may write a page by right. The walk doesn't look at it: where W is missing a store faults.
 const RIGHT: EntryBits = EntryBits(256);
+
+// The mark that a fork had a page, which the walk doesn't look at either.
+const SHARED: EntryBits = EntryBits(512);
 
 // The marks of the trap frame's page: V, R, W, A, D and the right to write, and no U.
 const TRAP: EntryBits = EntryBits(455);
@@ -210,16 +235,17 @@ impl Space {
 
     /// Makes a space with the same pages, whose frames each have one holder more then; its trap frame is all 0.
     ///
-    /// Every page is closed in both: who may write it by right and stores to it first gets a frame of its own. Each page
+    /// Every page is closed in both, and marked as one that a fork had: who may write it by right and stores to it first gets a frame of its own. Each page
     /// is counted in full: `Frames` where fewer frames are free than the space would need if it shared none.
     pub fn copy(&self, ram: &mut Ram, frames: &mut Frames) -> Result<Space, VmFault>
         requires { IsSpace ram.old self.now frames.old }
         ensures space { IfOk result (λ c. IsSpace ram.new c frames.new) }
         ensures size { IfOk result (λ c. c.size ≡ self.now.size) }
-        ensures pages { IfOk result (λ c. pages_of ram.new c ≡ pages_of ram.old self.now) }
+        ensures pages { IfOk result (λ c. pages_of ram.new c ≡ shared_memory (pages_of ram.old self.now)) }
         ensures registers { IfOk result (λ c. registers_of ram.new c ≡ replicate 4096 0) }
         ensures source { IsSpace ram.new self.now frames.new }
-        ensures kept { (pages_of ram.new self.now ≡ pages_of ram.old self.now) × (registers_of ram.new self.now ≡ registers_of ram.old self.now) }
+        ensures marked { OnOk result (pages_of ram.new self.now ≡ shared_memory (pages_of ram.old self.now)) }
+        ensures kept { registers_of ram.new self.now ≡ registers_of ram.old self.now }
         ensures frames { (p : ℕ) → p < pages_in self.now.size → frame_at ram.new self.now.root.0 p ≡ frame_at ram.old self.now.root.0 p }
         ensures shared { IfOk result (λ c. (p : ℕ) → p < pages_in self.now.size → frame_at ram.new c.root.0 p ≡ frame_at ram.old self.now.root.0 p) }
         ensures holders { OnOk result ((p : ℕ) → p < pages_in self.now.size → holders_of ram.new frames.new (frame_at ram.old self.now.root.0 p) ≡ holders_of ram.old frames.old (frame_at ram.old self.now.root.0 p) + 1) }
@@ -279,7 +305,7 @@ impl Space {
         if frames_for(from) + u64::from(frames.free()) < frames_for(to) {
             return Err(VmFault::Frames);
         }
-        let leaf = perm.leaf();
+        let leaf = Marks::new(perm).leaf();
         for page in from..to {
             self.add_page(ram, frames, page, leaf);
         }

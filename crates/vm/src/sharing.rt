@@ -1,20 +1,21 @@
 //! Pages whose frames have several holders.
 //!
 //! A page that is writable by right is open or closed: at an open page a store goes through, at a closed one it faults. An
-//! open page's frame has one holder. Before a page is written whose frame others hold too, it gets a frame of its own with
+//! open page's frame has one holder. Only a page that a fork had is closed, and it stays marked as one. Before a page is written whose frame others hold too, it gets a frame of its own with
 //! the same bytes: what the others see stays, and there always is a free frame for it.
 
 ghost use Rattle.std.specs.Prelude.{◌≡◌, ◌≢◌, ◌≤◌, ◌<◌, ◌+◌, ℕ, true};
 ghost use Rattle.frames.specs.Free.{free_count, further_at};
 ghost use Rattle.frames.specs.Holders.{count_of, holders_of};
 ghost use Rattle.pagetable.specs.Tree.{IsLeafMarks};
-ghost use Rattle.vm.specs.Dense.{frame_at, frames_for, marks_at};
+ghost use Rattle.ram.specs.Memory.{frame_of};
+ghost use Rattle.vm.specs.Dense.{frame_at, frames_for, marks_at, page_at, page_with};
 ghost use Rattle.vm.specs.Fork.{IsMore, IsPart, IsSoFar};
 ghost use Rattle.vm.specs.Leaf.{IsUserLeaf, is_open, right_marks, user_leaf};
-ghost use Rattle.vm.specs.Space.{IsRearranged, IsSpace, StaysOpen, holds, pages_in};
+ghost use Rattle.vm.specs.Space.{IsRearranged, IsSpace, Reframes, StaysOpen, holds, pages_in};
 
 use crate::Space;
-use crate::access::perm_of;
+use crate::access::marks_of;
 use frames::Frames;
 use pagetable::PageTable;
 use ram::{FrameNo, Ram};
@@ -51,16 +52,18 @@ impl Space {
         own
     }
 
-    // Gives a page other marks with the same rights; it is opened only where its frame has one holder.
+    // Gives a page other marks; it is opened only where its frame has one holder.
     fn set_page(&self, ram: &mut Ram, frames: &Frames, page: u64, frame: FrameNo, leaf: EntryBits)
         requires space { IsSpace ram.old self.now frames.now }
         requires page { page < pages_in self.now.size }
         requires frame { frame_at ram.old self.now.root.0 page ≡ frame.0 }
         requires marks { IsLeafMarks leaf.0 }
         requires leaf { IsUserLeaf leaf.0 }
-        requires right { right_marks leaf.0 ≡ right_marks (marks_at ram.old self.now.root.0 page) }
         requires sole { is_open leaf.0 ≡ true → further_at frames.now frame.0 ≡ 0 }
-        ensures same { IsRearranged ram.old ram.new self.now frames.now frames.now }
+        ensures stands { Reframes ram.old ram.new self.now frames.now frames.now }
+        ensures same { right_marks leaf.0 ≡ right_marks (marks_at ram.old self.now.root.0 page) → IsRearranged ram.old ram.new self.now frames.now frames.now }
+        ensures page { page_at ram.new self.now.root.0 page ≡ page_with (frame_of ram.old frame.0) leaf.0 }
+        ensures pages { (p : ℕ) → p < pages_in self.now.size → p ≢ page → page_at ram.new self.now.root.0 p ≡ page_at ram.old self.now.root.0 p }
         ensures frame { frame_at ram.new self.now.root.0 page ≡ frame.0 }
         ensures marks { marks_at ram.new self.now.root.0 page ≡ leaf.0 }
         ensures others { (p : ℕ) → p < pages_in self.now.size → p ≢ page → marks_at ram.new self.now.root.0 p ≡ marks_at ram.old self.now.root.0 p }
@@ -88,7 +91,7 @@ impl Space {
         let Some((frame, leaf)) = table.find(ram, page) else {
             unreachable!()
         };
-        let open = perm_of(leaf).leaf();
+        let open = marks_of(leaf).leaf();
         if frames.holders(ram, frame) > 1 {
             self.split_page(ram, frames, page, frame, open)
         } else {
@@ -97,7 +100,7 @@ impl Space {
         }
     }
 
-    // Shares a page with a space that is made: the page is closed in both, and its frame gets a holder.
+    // Shares a page with a space that is made: the page is marked and closed in both, and its frame gets a holder.
     fn share_page(&self, child: &Space, ram: &mut Ram, frames: &mut Frames, page: u64)
         requires part { IsPart ram.old self.now child.now page frames.old }
         requires page { page < pages_in self.now.size }
@@ -109,7 +112,7 @@ impl Space {
         let Some((frame, leaf)) = table.find(ram, page) else {
             unreachable!()
         };
-        let closed = perm_of(leaf).closed_leaf();
+        let closed = marks_of(leaf).closed_leaf();
         self.set_page(ram, frames, page, frame, closed);
         if !frames.share(ram, frame) {
             unreachable!()

@@ -1,6 +1,8 @@
 use Rattle.spaces.proofs.Spaces.page.Goals as goal
 use Rattle.spaces.proofs.Places.{held-is, stands-there}
-use Rattle.std.proofs.Common.{sym}
+use Rattle.std.proofs.Common.{ap, sym}
+use Rattle.std.specs.Prelude.{option_map}
+use Rattle.unixmodel.specs.Shown.{told_page}
 use Rattle.vm.specs.Leaf.{mapped_as}
 use Rattle.vm.specs.Space.{mapping_of}
 use Rattle.vm.proofs.WalkLaw.{mapped-page, unmapped-page}
@@ -16,11 +18,11 @@ returns-in_err-frame g c =
     let i = c.self.inside in
     let e = c.space_at-space.ensures in
     rw (← c.self.view_is, held-is i c.args.at c.space_at-space.result.now e, c.from_residual.ensures)
-    (sym (unmapped-page i.ram (mapping_of i.ram c.space_at-space.result.now) c.args.n c.in_err-frame.ensures.found))
+    (sym (ap (option_map told_page) (unmapped-page i.ram (mapping_of i.ram c.space_at-space.result.now) c.args.n c.in_err-frame.ensures.found)))
 
 pub returns : goal.returns
 returns g c =
     let i = c.self.inside in
     let e = c.space_at-space.ensures in
     rw (← c.self.view_is, held-is i c.args.at c.space_at-space.result.now e, c.frame.ensures)
-    (sym (mapped-page i.ram (mapping_of i.ram c.space_at-space.result.now) c.args.n (mapped_as c.in_ok-frame.frame.0 c.in_ok-frame.perm) c.in_ok-frame.ensures.found))
+    (sym (ap (option_map told_page) (mapped-page i.ram (mapping_of i.ram c.space_at-space.result.now) c.args.n (mapped_as c.in_ok-frame.frame.0 c.in_ok-frame.marks) c.in_ok-frame.ensures.found)))

@@ -1,8 +1,8 @@
 use Rattle.spaces.proofs.Spaces.tables.Goals as goal
-use Rattle.spaces.proofs.Closed.{shows-right}
+use Rattle.spaces.proofs.Closed.{seen-right, shows-right}
 use Rattle.spaces.proofs.Places.{held-is, stands-there}
-use Rattle.spaces.proofs.Stepped.{let_through, narrows}
-use Rattle.vm.specs.Space.{pages_of}
+use Rattle.spaces.proofs.Stepped.{let_through}
+use Rattle.vm.specs.Space.{pages_in, pages_of}
 
 pub space_at-space-requires : goal.space_at-space-requires
 space_at-space-requires g c = stands-there c.self.inside c.args.at (rw (← c.self.view_is) at c.requires)
@@ -16,4 +16,4 @@ returns g c =
     let i = c.self.inside in
     let x = c.space_at-space.result.now in
     rw (← c.self.view_is, held-is i c.args.at x e)
-    (shows-right i.ram c.root_of.result.0 (let_through i.ram x) (pages_of i.ram x) (narrows i.ram x (c.self.invariant.machine.each c.args.at x e).dense) c.root_of.ensures)
+    (shows-right i.ram c.root_of.result.0 (let_through i.ram x) (pages_of i.ram x) (seen-right i.ram x.root.0 (pages_in x.size) (c.self.invariant.machine.each c.args.at x e).dense.leaves) c.root_of.ensures)

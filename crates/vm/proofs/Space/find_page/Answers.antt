@@ -15,7 +15,7 @@ returns-clause-found c =
     let m = c.args.ram.now in
     let r = c.args.self.now.root.0 in
     let found = sym c.in-Some.ensures in
-    ap Some (mapped-parts c.in-Some.frame.0 (frame_at m r c.args.page) _ (right_marks (marks_at m r c.args.page)) (sym (frame_at-is m r c.args.page c.in-Some.frame.0 c.in-Some.leaf.0 found)) (c.perm_of.ensures ∙ ap right_marks (sym (marks_at-is m r c.args.page c.in-Some.frame.0 c.in-Some.leaf.0 found))))
+    ap Some (mapped-parts c.in-Some.frame.0 (frame_at m r c.args.page) _ (right_marks (marks_at m r c.args.page)) (sym (frame_at-is m r c.args.page c.in-Some.frame.0 c.in-Some.leaf.0 found)) (c.marks_of.ensures ∙ ap right_marks (sym (marks_at-is m r c.args.page c.in-Some.frame.0 c.in-Some.leaf.0 found))))
     ∙ sym (get-mapping right_marks m r (pages_in c.args.self.now.size) c.args.page (omega (arith, c.pages_in.ensures, c.if-page-pages_in.false)))
 
 pub returns-clause-inside : goal.returns-clause-inside

@@ -4,7 +4,7 @@ use Rattle.frames.proofs.HolderLemmas.{Trades-none, Trades-twice, held-count}
 use Rattle.vm.specs.Dense.{frames_for, held, page_with, pages_below, read_below}
 use Rattle.vm.proofs.DenseLemmas.{length-held}
 use Rattle.unixmodel.specs.Memory.{Perm, zero_page}
-use Rattle.vm.specs.Leaf.{entry_marks, marks_from, right_marks}
+use Rattle.vm.specs.Leaf.{entry_marks, marks_from, right_marks, user_leaf}
 use Rattle.vm.proofs.LeafLemmas.{leaf-user, leaf-valid, page-zero}
 use Rattle.vm.proofs.OpenLemmas.{open-fewer, open-more}
 use Rattle.vm.proofs.PageLemmas.{take-mapping}
@@ -29,10 +29,10 @@ loop-page-init c =
     }
 
 pub add_page-requires-clause-marks : goal.add_page-requires-clause-marks
-add_page-requires-clause-marks c = rw c.leaf-leaf.ensures (leaf-valid (marks_from c.args.perm) true)
+add_page-requires-clause-marks c = rw (c.leaf-leaf.ensures ∙ ap (λ (a : Perm). user_leaf a true) c.new.ensures) (leaf-valid (marks_from c.args.perm) true)
 
 pub add_page-requires-clause-user : goal.add_page-requires-clause-user
-add_page-requires-clause-user c = rw c.leaf-leaf.ensures (leaf-user (marks_from c.args.perm) true)
+add_page-requires-clause-user c = rw (c.leaf-leaf.ensures ∙ ap (λ (a : Perm). user_leaf a true) c.new.ensures) (leaf-user (marks_from c.args.perm) true)
 
 pub loop-page-preserved : goal.loop-page-preserved
 loop-page-preserved c =
@@ -40,14 +40,14 @@ loop-page-preserved c =
     let from = c.pages_in-from.result in
     let p = c.loop-page.page in
     let zero = zero_page (marks_from c.args.perm) in
-    let made : page_with (replicate 4096 0) c.leaf-leaf.result.0 ≡ zero = ap (page_with (replicate 4096 0)) c.leaf-leaf.ensures ∙ page-zero (marks_from c.args.perm) in
+    let made : page_with (replicate 4096 0) c.leaf-leaf.result.0 ≡ zero = ap (page_with (replicate 4096 0)) (c.leaf-leaf.ensures ∙ ap (λ (a : Perm). user_leaf a true) c.new.ensures) ∙ page-zero (marks_from c.args.perm) in
     let count : p + 1 - from ≡ p - from + 1 = omega arith in
     record {
       space = c.add_page.ensures.held;
       pages = c.add_page.ensures.pages ∙ ap (λ x. pages_below c.loop-page.ram c.args.self.now.root.0 p ++ (x ∷ [])) made ∙ ap (λ l. l ++ (zero ∷ [])) i.pages ∙ append_assoc (pages_below c.args.ram.now c.args.self.now.root.0 from) (replicate (p - from) zero) (zero ∷ [])
           ∙ ap (λ l. pages_below c.args.ram.now c.args.self.now.root.0 from ++ l) (rw count (replicate_more (p - from) zero));
       mapping = λ read. c.add_page.ensures.mapping read from (omega arith) ∙ i.mapping read;
-      opens = λ first h. open-more c.loop-page.ram c.add_page.new.ram c.args.self.now.root.0 p first (marks_from c.args.perm) (λ read. c.add_page.ensures.mapping read p (omega arith)) (c.add_page.ensures.marks ∙ c.leaf-leaf.ensures) (i.opens first h);
+      opens = λ first h. open-more c.loop-page.ram c.add_page.new.ram c.args.self.now.root.0 p first (marks_from c.args.perm) (λ read. c.add_page.ensures.mapping read p (omega arith)) (c.add_page.ensures.marks ∙ (c.leaf-leaf.ensures ∙ ap (λ (a : Perm). user_leaf a true) c.new.ensures)) (i.opens first h);
       trap = c.add_page.ensures.trap ∙ i.trap;
       trades = Trades-twice c.args.ram.now c.loop-page.ram c.add_page.new.ram c.args.frames.now c.loop-page.frames c.add_page.new.frames _ _ _ i.trades c.add_page.ensures.trades;
       room = omega (arith, i.room, c.add_page.ensures.room);

@@ -9,8 +9,8 @@ use Rattle.vm.proofs.OpenLemmas.{open-one}
 use Rattle.vm.proofs.Space.open_page.Goals as goal
 use Rattle.vm.proofs.Space.open_page.Goals.{After-leaf-open}
 
-made : (c : After-leaf-open) → IsMadeLeaf c.args.ram.now c.args.self.now.root.0 c.args.page c.in-Some.frame.0 c.leaf-open.result.0 true
-made c = made-leaf _ _ _ _ c.in-Some.leaf.0 _ true c.in-Some.ensures (c.leaf-open.ensures ∙ ap (λ (a : Perm). user_leaf a true) c.perm_of.ensures)
+made : (c : After-leaf-open) → IsMadeLeaf c.args.ram.now c.args.self.now.root.0 c.args.page c.in-Some.frame.0 c.leaf-open.result.0 (λ rights. rights) true
+made c = made-leaf _ _ _ _ c.in-Some.leaf.0 _ (λ (a : Perm). a) true c.in-Some.ensures (c.leaf-open.ensures ∙ ap (λ (a : Perm). user_leaf a true) c.marks_of.ensures)
 
 pub holders-requires-clause-inside : goal.holders-requires-clause-inside
 holders-requires-clause-inside c = page-inside-is _ _ _ _ _ _ _ c.requires.space c.requires.page (made (goal.at.holders-requires-clause-inside c).After-leaf-open).frame
@@ -24,7 +24,10 @@ pub set_page-requires : goal.set_page-requires
 set_page-requires c =
     let m = made (goal.at.set_page-requires c).After-leaf-open in
     let sole = page-single _ _ _ _ _ _ _ c.requires.space c.requires.page m.frame (omega (arith, c.holders.ensures, c.if-holders-gt1.false)) in
-    record { space = c.requires.space; page = c.requires.page; frame = m.frame; marks = m.marks; leaf = m.leaf; right = m.right; sole = λ wide. sole }
+    record { space = c.requires.space; page = c.requires.page; frame = m.frame; marks = m.marks; leaf = m.leaf; sole = λ wide. sole }
+
+pub returns-else-holders-gt1-clause-same : goal.returns-else-holders-gt1-clause-same
+returns-else-holders-gt1-clause-same c = c.set_page.ensures.same (made (goal.at.returns-else-holders-gt1-clause-same c).After-leaf-open).right
 
 pub returns-then-holders-gt1-clause-kept : goal.returns-then-holders-gt1-clause-kept
 returns-then-holders-gt1-clause-kept c = λ alone. absurd (page-shared c.args.ram.now c.args.frames.now c.in-Some.frame.0 c.requires.space.free (omega (arith, c.holders.ensures, c.if-holders-gt1.true)) (ap (further_at c.args.frames.now) (sym (made (goal.at.returns-then-holders-gt1-clause-kept c).After-leaf-open).frame) ∙ alone))

@@ -1,6 +1,6 @@
 use Rattle.std.proofs.Common.{arith}
 use Rattle.vm.proofs.GrowLemmas.{frame_at-is, marks_at-is, marks_at-same}
-use Rattle.vm.proofs.Remap.{page-inside-is, rearranged, remap-frames, remap-kept, remap-marks}
+use Rattle.vm.proofs.Remap.{page-inside-is, rearranged, reframed, remap-frames, remap-kept, remap-marks, remap-other, remap-page}
 use Rattle.vm.proofs.StepLemmas.{OwnsFrames-paged}
 use Rattle.vm.proofs.Space.set_page.Goals as goal
 
@@ -14,9 +14,12 @@ pub returns : goal.returns
 returns c =
     let now = c.requires in
     let r = c.remap.ensures in
-    let e = remap-marks c.args.ram.now c.remap.new.ram _ _ _ _ _ _ _ now.space now.page now.frame now.leaf now.right now.sole r.inserts r.tables (r.tidy now.space.dense.tidy) r.paged r.keeps r.free in
+    let e = remap-marks c.args.ram.now c.remap.new.ram _ _ _ _ _ _ _ now.space now.page now.frame now.leaf now.sole r.inserts r.tables (r.tidy now.space.dense.tidy) r.paged r.keeps r.free in
     record {
-      same = rearranged _ _ _ _ _ _ _ _ _ _ now.space now.page e;
+      stands = reframed _ _ _ _ _ _ _ _ _ _ now.space now.page e;
+      same = λ right. rearranged _ _ _ _ _ _ _ _ _ _ now.space now.page e right;
+      page = remap-page _ _ _ _ _ _ _ _ _ _ _ _ now.space now.page e;
+      pages = remap-other _ _ _ _ _ _ _ _ _ _ _ _ now.space now.page e;
       frame = frame_at-is _ _ _ _ _ r.inserts.changed;
       marks = marks_at-is _ _ _ _ _ r.inserts.changed;
       others = λ p low ne. marks_at-same _ _ _ p (r.inserts.others p (omega (arith, low, now.space.dense.small)) ne);

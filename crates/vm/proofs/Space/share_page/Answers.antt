@@ -1,5 +1,5 @@
 use Rattle.std.proofs.Common.{◌≡◌, false, true, ap, arith, ◌∙◌}
-use Rattle.unixmodel.specs.Memory.{Perm}
+use Rattle.unixmodel.specs.Memory.{Perm, shared_marks}
 use Rattle.vm.specs.Dense.{marks_at}
 use Rattle.vm.specs.Leaf.{is_open, right_marks, user_leaf}
 use Rattle.vm.specs.Fork.{IsPart}
@@ -12,8 +12,8 @@ use Rattle.vm.proofs.StepLemmas.{OwnsFrames-paged}
 use Rattle.vm.proofs.Space.share_page.Goals as goal
 use Rattle.vm.proofs.Space.share_page.Goals.{After-closed_leaf-closed, After-set_page, After-share}
 
-made : (c : After-closed_leaf-closed) → IsMadeLeaf c.args.ram.now c.args.self.now.root.0 c.args.page c.in-Some.frame.0 c.closed_leaf-closed.result.0 false
-made c = made-leaf _ _ _ _ c.in-Some.leaf.0 _ false c.in-Some.ensures (c.closed_leaf-closed.ensures ∙ ap (λ (a : Perm). user_leaf a false) c.perm_of.ensures)
+made : (c : After-closed_leaf-closed) → IsMadeLeaf c.args.ram.now c.args.self.now.root.0 c.args.page c.in-Some.frame.0 c.closed_leaf-closed.result.0 shared_marks false
+made c = made-leaf _ _ _ _ c.in-Some.leaf.0 _ shared_marks false c.in-Some.ensures (c.closed_leaf-closed.ensures ∙ ap (λ (a : Perm). user_leaf (shared_marks a) false) c.marks_of.ensures)
 
 shut : (c : After-closed_leaf-closed) → is_open c.closed_leaf-closed.result.0 ≡ false
 shut c = ap is_open (made c).made ∙ leaf-closed (right_marks (marks_at c.args.ram.now c.args.self.now.root.0 c.args.page))
@@ -22,7 +22,7 @@ closed : (c : After-set_page) → IsClosed c.args.ram.now c.set_page.new.ram c.a
 closed c =
     let leaf = (goal.at.After-set_page c).After-closed_leaf-closed in
     let e = c.set_page.ensures in
-    record { same = e.same; held = e.held; frames = e.frames; frame = e.frame; marks = e.marks; right = (made leaf).right; closed = shut leaf }
+    record { stands = e.stands; page = e.page; pages = e.pages; held = e.held; frames = e.frames; frame = e.frame; marks = e.marks; right = (made leaf).right; closed = shut leaf }
 
 part : (c : After-set_page) → IsPart c.set_page.new.ram c.args.self.now c.args.child.now c.args.page c.args.frames.now
 part c = (part-closed c.args.ram.now _ _ _ _ _ _ _ c.requires.part c.requires.page (closed c)).0
@@ -31,7 +31,7 @@ pub set_page-requires : goal.set_page-requires
 set_page-requires c =
     let leaf = (goal.at.set_page-requires c).After-closed_leaf-closed in
     let m = made leaf in
-    record { space = c.requires.part.parent; page = c.requires.page; frame = m.frame; marks = m.marks; leaf = m.leaf; right = m.right; sole = λ wide. absurd (let e = shut leaf in cc) }
+    record { space = c.requires.part.parent; page = c.requires.page; frame = m.frame; marks = m.marks; leaf = m.leaf; sole = λ wide. absurd (let e = shut leaf in cc) }
 
 -- the frame gets a holder then
 both : (c : After-share) → c.share.result ≡ true
@@ -56,7 +56,7 @@ pub map-requires : goal.map-requires
 map-requires c =
     let at = goal.at.map-requires c in
     let before = (both at.After-share c.if-not-share.false).1 in
-    let inside = page-inside-is _ _ _ _ _ _ _ c.set_page.ensures.same.frames.space c.requires.page c.set_page.ensures.frame in
+    let inside = page-inside-is _ _ _ _ _ _ _ c.set_page.ensures.stands.space c.requires.page c.set_page.ensures.frame in
     record { paged = OwnsFrames-paged _ _ _ _ _ before.space; page = omega (arith, before.small); frame = inside; marks = (made at.After-closed_leaf-closed).marks }
 
 pub unreachable-requires-in-Err : goal.unreachable-requires-in-Err

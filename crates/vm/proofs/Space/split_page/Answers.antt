@@ -33,7 +33,7 @@ returns c =
     let tidy = r.tidy paged.1 in
     record {
       same = rearranged _ c.copy.new.self _ _ _ _ _ _ _ _ c.requires.space c.requires.page
-          (remap-split _ _ _ _ _ _ _ _ _ _ _ _ c.requires.space c.requires.page e c.requires.frame c.requires.leaf c.requires.right r.inserts r.tables tidy r.paged r.keeps r.free);
+          (remap-split _ _ _ _ _ _ _ _ _ _ _ _ c.requires.space c.requires.page e c.requires.frame c.requires.leaf r.inserts r.tables tidy r.paged r.keeps r.free) c.requires.right;
       sole = split-sole _ _ _ _ _ _ c.requires.space.free e;
       frame = frame_at-is _ _ _ _ _ r.inserts.changed;
       marks = marks_at-is _ _ _ _ _ r.inserts.changed;

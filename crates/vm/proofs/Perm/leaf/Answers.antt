@@ -1,9 +1,0 @@
-use Rattle.std.proofs.Common.{false, true}
-use Rattle.vm.proofs.LeafLemmas.{leaf-made}
-use Rattle.vm.proofs.Perm.leaf.Goals as goal
-
-pub returns-then-self : goal.returns-then-self
-returns-then-self c = leaf-made true c.args.self.w c.args.self.x c.args.self.u c.leaf_marks-leaf.result.0 c.if-self.true c.leaf_marks-leaf.ensures.marks
-
-pub returns-else-self : goal.returns-else-self
-returns-else-self c = leaf-made false c.args.self.w c.args.self.x c.args.self.u c.leaf_marks-leaf.result.0 c.if-self.false c.leaf_marks-leaf.ensures.marks
