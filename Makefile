@@ -82,7 +82,7 @@ test:
 
 # The wrong bodies that the gate leaves out: those of the functions inside. It takes more than an hour of a processor.
 edits:
-	edits/try.py
+	tools/edits.py
 
 # Every proof, over what earlier checks kept: several at a time, a line a crate.
 check:
