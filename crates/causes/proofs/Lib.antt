@@ -1,3 +1,2 @@
-mod Pages
 mod Cycles
 mod Words

@@ -41,18 +41,26 @@ fn step<D: BlockDev, T: Translate + Drop, V: Watch, W: Out>(
     ended
 }
 
-// Writes out the console's bytes where a batch of events begins. What the writer doesn't take then it keeps back, and is asked again.
-fn write_out_at<V: Watch, W: Write>(event: Event, made: u32, watch: &mut V, out: &mut Writer<W>)
-    ensures kept { Keeps (W.contents out.old.inner) (W.contents out.new.inner) }
-    ensures later { out.old.failed ≤ out.new.failed }
+// The same event, so many times, with nothing between.
+fn batch<D: BlockDev, T: Translate + Drop, V: Watch, W: Out>(
+    machine: &mut Machine<D, T>,
+    event: Event,
+    times: u32,
+    watch: &mut V,
+    out: &mut W,
+) -> Result<(), Halt>
+    requires { IsUp machine.old }
+    ensures gives { RunGives machine.old machine.new (replicate times event) (W.contents out.old) (W.contents out.new) (Rises (W.failures out.old) (W.failures out.new)) result }
+    ensures later { W.failures out.old ≤ W.failures out.new }
 {
-    if made % BATCH == 0 {
-        let _ = out.flush();
-        watch.written_out(event, made);
+    for _ in 0..times {
+        step(machine, event, watch, out)?;
     }
+    Ok(())
 }
 
-// The same event, so many times.
+// The same event, so many times. The console's bytes are written out before each batch; what the writer doesn't take then it keeps
+// back, and is asked again.
 fn repeat<D: BlockDev, T: Translate + Drop, V: Watch, W: Write>(
     machine: &mut Machine<D, T>,
     event: Event,
@@ -64,9 +72,13 @@ fn repeat<D: BlockDev, T: Translate + Drop, V: Watch, W: Write>(
     ensures gives { RunGives machine.old machine.new (replicate times event) (W.contents out.old.inner) (W.contents out.new.inner) (Rises out.old.failed out.new.failed) result }
     ensures later { out.old.failed ≤ out.new.failed }
 {
-    for made in 0..times {
-        write_out_at(event, made, watch, out);
-        step(machine, event, watch, out)?;
+    let mut made = 0;
+    while made < times {
+        let count = BATCH.min(times - made);
+        let _ = out.flush();
+        watch.written_out(event, made);
+        batch(machine, event, count, watch, out)?;
+        made += count;
     }
     watch.repeated(event, times);
     Ok(())

@@ -1,33 +1,34 @@
-use Rattle.std.proofs.Common.{arith, length, replicate, ◌<◌}
-use Rattle.std.proofs.lemmas.List.{length-replicate}
+use Rattle.std.proofs.Common.{arith}
 use Rattle.std.proofs.lemmas.Result.{err_from_is_err_and}
-use Rattle.machine.proofs.RunLemmas.{Rises-later, goes_on, so_far_at_first, stops}
-use Rattle.live.proofs.EventLemmas.{repeat-next}
-use Rattle.live.proofs.PlayLemmas.{so-far-kept}
+use Rattle.machine.proofs.RunLemmas.{Rises-later, so_far_at_first, up_now}
+use Rattle.live.proofs.EventLemmas.{batch-next, batch-whole}
+use Rattle.live.proofs.PlayLemmas.{ends_with, goes_on_by, so-far-kept, stops_in}
 use Rattle.live.proofs.play.repeat.Goals as goal
 
 pub loop-made-init : goal.loop-made-init
 loop-made-init g c = record {
   so_far = so_far_at_first _ _ c.requires;
   later = omega arith;
+  within = omega arith;
 }
 
-pub returns-in_err-step-clause-gives : goal.returns-in_err-step-clause-gives
-returns-in_err-step-clause-gives g c =
+pub batch-requires : goal.batch-requires
+batch-requires g c = up_now _ _ _ _ _ c.loop-made.invariant.so_far
+
+pub returns-in_err-batch-clause-gives : goal.returns-in_err-batch-clause-gives
+returns-in_err-batch-clause-gives g c =
     let p = err_from_is_err_and c.from_residual.result c.from_residual.ensures.1 in
     let before = c.loop-made.invariant in
-    let more : c.loop-made.made < length (replicate c.args.times c.args.event) = rw (length-replicate c.args.times c.args.event) c.loop-made-test.true in
-    let written = c.write_out_at.ensures in
-    rw (p.1, p.2) (stops _ _ _ c.loop-made.made (replicate c.args.times c.args.event) _ _ _ _ _ _ _ more (repeat-next _ _ _ c.loop-made-test.true)
-    (so-far-kept before.so_far written.kept)
-    (λ r. Rises-later _ _ _ (let l = before.later in let k = written.later in omega arith) r c.step.ensures.later) c.in_err-step.ensures.gives)
+    ends_with _ _ _ _ _ _ _ _ _ _ _ (batch-whole c.args.times c.loop-made.made c.min-count.result c.args.event (omega arith)) p.1 p.2
+    (stops_in _ _ _ _ _ _ _ _ _ _ _ (so-far-kept before.so_far c.flush.ensures.kept)
+    (λ r. Rises-later _ _ _ (let l = before.later in let k = c.flush.ensures.later in omega arith) r c.batch.ensures.later) c.in_err-batch.ensures.gives)
 
 pub loop-made-preserved : goal.loop-made-preserved
 loop-made-preserved g c =
     let before = c.loop-made.invariant in
-    let more : c.loop-made.made < length (replicate c.args.times c.args.event) = rw (length-replicate c.args.times c.args.event) c.loop-made-test.true in
     record {
-      so_far = goes_on _ _ _ c.loop-made.made (replicate c.args.times c.args.event) _ _ _ _ more (repeat-next _ _ _ c.loop-made-test.true)
-          (so-far-kept before.so_far c.write_out_at.ensures.kept) c.in_ok-step.ensures.gives.1;
-      later = let l = before.later in let k = c.write_out_at.ensures.later in let m = c.step.ensures.later in omega arith;
+      so_far = rw (batch-next c.loop-made.made c.min-count.result c.args.event)
+          (goes_on_by _ _ _ _ _ _ _ _ (so-far-kept before.so_far c.flush.ensures.kept) c.in_ok-batch.ensures.gives.1);
+      later = let l = before.later in let k = c.flush.ensures.later in let m = c.batch.ensures.later in omega arith;
+      within = omega arith;
     }
