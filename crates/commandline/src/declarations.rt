@@ -127,7 +127,7 @@ const FRAMES: Word<'static> = Word {
 const TLB: Word<'static> = Word {
     name: "tlb",
     given: Given::Flag,
-    help: "Remembers translations, so that most accesses walk no page table",
+    help: "Translates through a lookaside buffer of 64 translations, as a hart does; what is printed is the same",
 };
 
 const FAIL: Word<'static> = Word {

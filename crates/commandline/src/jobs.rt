@@ -55,7 +55,7 @@ pub struct Telling<'a> {
 pub struct Flat<'a> {
     /// How many frames the memory has.
     pub frames: u32,
-    /// Whether the translator remembers translations.
+    /// Whether translations go through a lookaside buffer.
     pub tlb: bool,
     /// What is told of it.
     pub telling: Telling<'a>,
@@ -70,7 +70,7 @@ pub struct Flat<'a> {
 pub struct Run<'a> {
     /// How many frames the memory has.
     pub frames: u32,
-    /// Whether the translator remembers translations.
+    /// Whether translations go through a lookaside buffer.
     pub tlb: bool,
     /// The number of the disk's access that fails, counted from 1, where one is to fail.
     pub fail: Option<NonZeroU64>,
