@@ -53,8 +53,10 @@ fn batch<D: BlockDev, T: Translate + Drop, V: Watch, W: Out>(
     ensures gives { RunGives machine.old machine.new (replicate times event) (W.contents out.old) (W.contents out.new) (Rises (W.failures out.old) (W.failures out.new)) result }
     ensures later { W.failures out.old ≤ W.failures out.new }
 {
-    for _ in 0..times {
+    let mut left = times;
+    while left > 0 {
         step(machine, event, watch, out)?;
+        left -= 1;
     }
     Ok(())
 }
