@@ -1,6 +1,6 @@
 -- How a change of one bit changes the count of free blocks.
 use Rattle.std.proofs.Common.{set, drop, ap, sym, ◌∙◌, arith, refl, add-zero, Bool, true, false, cond}
-use Rattle.std.specs.Prelude.{◌≡◌, ◌≢◌, ℕ, ◌+◌, ◌-◌, ◌<◌, ◌≤◌, ◌==◌, List, [], ◌∷◌, length, get_or, count_by, zero, suc}
+use Rattle.std.specs.Prelude.{◌≡◌, ℕ, ◌+◌, ◌-◌, ◌<◌, ◌≤◌, ◌==◌, List, [], ◌∷◌, length, get_or, count_by, zero, suc}
 use Rattle.std.proofs.lemmas.List.{ext_get_or}
 use Rattle.std.proofs.lemmas.List.Sums.{sum_by-cons, sum_by-set}
 use Rattle.std.proofs.lemmas.List.FromFn.{length-map-range_with_len, get_or-map-range_with_len}
@@ -76,22 +76,11 @@ zeros-past (x ∷ xs) = zeros-past xs
 none_zero : (xs : List ℕ) → ((i : ℕ) → i < length xs → get_or xs i 0 ≡ 1) → zeros_in xs ≡ 0
 none_zero xs h = zeros-skip xs 0 (length xs) (omega arith) (omega arith) (λ k l m. h k m) ∙ zeros-past xs
 
-one_zero : (xs : List ℕ) (k : ℕ) → ((i : ℕ) → i < length xs → i ≢ k → get_or xs i 0 ≡ 1) → zeros_in xs ≤ 1
-one_zero [] k h = omega arith
-one_zero (x ∷ xs) zero h = omega (arith, zeros-cons x xs, at_most_one (x == 0), none_zero xs (λ i l. h (suc i) (omega arith) (omega arith)))
-one_zero (x ∷ xs) (suc k) h = omega (arith, zeros-first x 1 xs (h 0 (omega arith) (omega arith)), one_zero xs k (λ i l apart. h (suc i) (omega arith) (omega arith)))
-
 -- where each bit is set nothing is free
 pub free_blocks-none : (g : Geometry) (blocks : List (List ℕ)) → ((b : ℕ) → data_start_of g.size g.inodes ≤ b → b < g.size → bit_of blocks (bitmap_start_of g.inodes) b ≡ 1) → free_blocks g blocks ≡ 0
 free_blocks-none g blocks all = none_zero (data_bits g blocks) (λ i l.
     let within : i < g.size - data_start_of g.size g.inodes = omega (arith, length-data_bits g blocks) in
     get_or-data_bits g blocks i within ∙ all (data_start_of g.size g.inodes + i) (omega arith) (omega arith))
-
--- where only one may be clear at most one is free
-pub free_blocks-one : (g : Geometry) (blocks : List (List ℕ)) (k : ℕ) → data_start_of g.size g.inodes ≤ k → ((b : ℕ) → data_start_of g.size g.inodes ≤ b → b < g.size → b ≢ k → bit_of blocks (bitmap_start_of g.inodes) b ≡ 1) → free_blocks g blocks ≤ 1
-free_blocks-one g blocks k low all = one_zero (data_bits g blocks) (k - data_start_of g.size g.inodes) (λ i l apart.
-    let within : i < g.size - data_start_of g.size g.inodes = omega (arith, length-data_bits g blocks) in
-    get_or-data_bits g blocks i within ∙ all (data_start_of g.size g.inodes + i) (omega arith) (omega arith) (omega arith))
 
 -- the same bits
 pub free_blocks-same : (g : Geometry) (old new : List (List ℕ)) → ((b : ℕ) → b < g.size → bit_of new (bitmap_start_of g.inodes) b ≡ bit_of old (bitmap_start_of g.inodes) b) → free_blocks g new ≡ free_blocks g old

@@ -1,6 +1,5 @@
 mod Bits
 mod Clearing
-pub mod Exits
 pub mod Enough
 mod Formatting
 pub mod Records

@@ -5,14 +5,14 @@ use Rattle.layout.specs.Numbers.{spelled}
 use Rattle.layout.specs.Super.{bitmap_start_of}
 use Rattle.layout.specs.declared.DiskInode.{DiskInode}
 use Rattle.layout.specs.declared.Geometry.{Geometry}
-use Rattle.layout.specs.Image.{IsInode, IsUsed, RawNode, bit_in, free_blocks, inode_at, node_at, node_with, nodes_of}
+use Rattle.layout.specs.Image.{IsInode, IsUsed, RawNode, bit_in, inode_at, node_at, node_with, nodes_of}
 use Rattle.layout.specs.Sound.{IsSound}
 use Rattle.layout.proofs.Frame.{IsSound-replace, KeepsOthers, node_at-none, nodes_of-changed}
 use Rattle.layout.specs.Grow.{Grows, WritesInode}
 use Rattle.layout.proofs.GrowLemmas.{Grows-keeps, Grows-node, Grows-sound}
 use Rattle.layout.proofs.Plain.{Grows-empty, HoldsBytes-empty, asks_none, zero_at}
 use Rattle.balloc.proofs.Counting.{free_blocks-same}
-use Rattle.balloc.specs.Inodes.{IsLowestUnused, IsUnused, fresh_inode, fresh_node}
+use Rattle.balloc.specs.Inodes.{IsLowestUnused, IsUnused, SetsNode, fresh_inode, fresh_node}
 
 length-spelled : (xs : List ℕ) → length (spelled xs) ≡ 4 * length xs
 length-spelled [] = refl
@@ -33,12 +33,6 @@ fresh_fits kind major minor links a b c d = record {
   places = refl;
 }
 
--- what is so once a record is written for this node, or for none
-pub record IsRecorded (g : Geometry) (old new : List (List ℕ)) (n : ℕ) (node : Option RawNode) : Type 0 where
-  pub sound : IsSound g new
-  pub nodes : nodes_of new g.inodes ≡ set (nodes_of old g.inodes) n node
-  pub free : free_blocks g new ≡ free_blocks g old
-
 module _ (g : Geometry) (old new : List (List ℕ)) (n : ℕ) (inode : DiskInode) (sound : IsSound g old) (low : 1 ≤ n) (high : n < g.inodes) (unused : (j : ℕ) → IsUsed old g.inodes n j → ⊥)
     (kind : inode.kind ≤ 3) (empty : inode.size ≡ 0) (zero : (k : ℕ) → get_or inode.addresses k 0 ≡ 0) (writes : WritesInode g old new n inode) where
   abbrev grows : Grows g old old n inode
@@ -47,28 +41,28 @@ module _ (g : Geometry) (old new : List (List ℕ)) (n : ℕ) (inode : DiskInode
   abbrev keeps : KeepsOthers g old new n
   keeps = Grows-keeps g old old new n inode sound low high grows writes
 
-  recorded : (shown : Option RawNode) → node_at new n ≡ shown → IsRecorded g old new n shown
+  recorded : (shown : Option RawNode) → node_at new n ≡ shown → SetsNode g old new n shown
   recorded shown is = record {
     sound = IsSound-replace g old new n sound keeps (Grows-sound g old old new n inode sound low high grows writes);
     nodes = nodes_of-changed g old new n sound keeps high ∙ ap (set (nodes_of old g.inodes) n) is;
     free = free_blocks-same g old new (λ b h. ap (λ c. bit_in c (b % 8192)) (writes.rest (bitmap_start_of g.inodes + b / 8192) (omega arith)));
   }
 
-  recorded_some : inode.kind ≢ 0 → IsRecorded g old new n (Some (node_with inode []))
+  recorded_some : inode.kind ≢ 0 → SetsNode g old new n (Some (node_with inode []))
   recorded_some taken = recorded (Some (node_with inode [])) (Grows-node g old old new n inode sound low high grows writes [] taken (HoldsBytes-empty old inode empty))
 
-  recorded_none : inode.kind ≡ 0 → IsRecorded g old new n None
+  recorded_none : inode.kind ≡ 0 → SetsNode g old new n None
   recorded_none free = recorded None (node_at-none new n (inr (ap (λ (i : DiskInode). i.kind) writes.here ∙ free)))
 
 -- a free inode is taken
 pub recorded_fresh : {g : Geometry} {old new : List (List ℕ)} {n kind major minor links : ℕ} → IsSound g old → IsUnused g old n → 1 ≤ kind → kind ≤ 3 → WritesInode g old new n (fresh_inode kind major minor links)
-    → IsRecorded g old new n (Some (fresh_node kind major minor links))
+    → SetsNode g old new n (Some (fresh_node kind major minor links))
 recorded_fresh {g} {old} {new} {n} {kind} {major} {minor} {links} sound unused some kinds writes =
     recorded_some g old new n (fresh_inode kind major minor links) sound unused.low unused.high (λ j u. u.inode.kind unused.unused) kinds refl (zero_at 13)
     writes (λ z. omega arith)
 
 -- an inode without bytes is given back
-pub recorded_given : {g : Geometry} {old new : List (List ℕ)} {n : ℕ} → IsSound g old → IsInode old g.inodes n → (inode_at old n).size ≡ 0 → WritesInode g old new n (fresh_inode 0 0 0 0) → IsRecorded g old new n None
+pub recorded_given : {g : Geometry} {old new : List (List ℕ)} {n : ℕ} → IsSound g old → IsInode old g.inodes n → (inode_at old n).size ≡ 0 → WritesInode g old new n (fresh_inode 0 0 0 0) → SetsNode g old new n None
 recorded_given {g} {old} {new} {n} sound inode empty writes =
     recorded_none g old new n (fresh_inode 0 0 0 0) sound inode.low inode.high (λ j u. asks_none (inode_at old n).size j empty u.slot) (omega arith) refl (zero_at 13) writes refl
 

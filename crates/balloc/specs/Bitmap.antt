@@ -1,10 +1,10 @@
 -- The lowest clear bit, and what a change of one bit of the bitmap says.
-use Rattle.std.specs.Prelude.{◌≡◌, ◌≢◌, ℕ, ◌-◌, ◌<◌, ◌≤◌, ◌==◌, List, Option, find}
+use Rattle.std.specs.Prelude.{◌≡◌, ◌≢◌, ℕ, ◌+◌, ◌-◌, ◌<◌, ◌≤◌, ◌==◌, List, None, Option, Some, find}
 use Rattle.std.specs.List.{range_with_len}
 use Rattle.blockdev.specs.Blocks.{block_at}
 use Rattle.layout.specs.Super.{bitmap_start_of, data_start_of}
 use Rattle.layout.specs.declared.Geometry.{Geometry}
-use Rattle.layout.specs.Image.{IsFree, bit_in, bit_of}
+use Rattle.layout.specs.Image.{IsFree, bit_in, bit_of, free_blocks}
 use Rattle.layout.specs.Sound.{HasParts}
 
 -- the lowest clear bit of a block from here up to and without there
@@ -39,8 +39,17 @@ pub record TakesLowest (g : Geometry) (old new : List (List ℕ)) (b : ℕ) : Ty
   pub lowest : IsLowestFree g old b
   pub takes : SetsBit g old new b 1
 
--- the two lowest free blocks are taken: b, and then c
-pub record TakesTwo (g : Geometry) (old new : List (List ℕ)) (b c : ℕ) : Type 0 where
-  pub mid : List (List ℕ)
-  pub first : TakesLowest g old mid b
-  pub second : TakesLowest g mid new c
+-- the first free block from here on is told, or that there is none
+abbrev pub Finds : Geometry → List (List ℕ) → ℕ → Option ℕ → Type 0
+Finds g blocks from (Some b) = IsFirstFree g blocks from b
+Finds g blocks from None = IsFullFrom g blocks from
+
+-- the lowest free block is taken, or none is free and nothing is changed
+abbrev pub Takes : Geometry → List (List ℕ) → List (List ℕ) → Option ℕ → Type 0
+Takes g old new (Some b) = TakesLowest g old new b × (free_blocks g new + 1 ≡ free_blocks g old)
+Takes g old new None = (free_blocks g old ≡ 0) × (new ≡ old)
+
+-- a block is given back
+pub record Gives (g : Geometry) (old new : List (List ℕ)) (b : ℕ) : Type 0 where
+  pub sets : SetsBit g old new b 0
+  pub free : free_blocks g new ≡ free_blocks g old + 1

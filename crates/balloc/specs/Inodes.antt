@@ -1,8 +1,10 @@
 -- Inodes that are free, and new ones.
-use Rattle.std.specs.Prelude.{◌≡◌, ◌≢◌, ℕ, ◌<◌, ◌≤◌, List, [], replicate}
+use Rattle.std.specs.Prelude.{◌≡◌, ◌≢◌, ℕ, ◌<◌, ◌≤◌, List, [], None, Option, Some, replicate, slice_set}
 use Rattle.layout.specs.declared.DiskInode.{DiskInode}
 use Rattle.layout.specs.declared.Geometry.{Geometry}
-use Rattle.layout.specs.Image.{RawNode, inode_at}
+use Rattle.layout.specs.Image.{RawNode, free_blocks, inode_at, nodes_of}
+use Rattle.layout.specs.Inode.{Fits}
+use Rattle.layout.specs.Sound.{IsSound}
 
 -- no inode is free
 abbrev pub AreAllUsed : Geometry → List (List ℕ) → Type 0
@@ -28,3 +30,29 @@ fresh_inode kind major minor links = record { kind = kind; major = major; minor 
 -- a node without bytes
 abbrev pub fresh_node : ℕ → ℕ → ℕ → ℕ → RawNode
 fresh_node kind major minor links = record { kind = kind; major = major; minor = minor; links = links; bytes = [] }
+
+-- what is read of the record of inode n
+pub record IsRecord (blocks : List (List ℕ)) (n : ℕ) (inode : DiskInode) : Type 0 where
+  pub is : inode ≡ inode_at blocks n
+  pub fits : Fits inode
+
+-- number n has this node, which takes no blocks, or none; all else is as before
+pub record SetsNode (g : Geometry) (old new : List (List ℕ)) (n : ℕ) (node : Option RawNode) : Type 0 where
+  pub sound : IsSound g new
+  pub nodes : nodes_of new g.inodes ≡ slice_set (nodes_of old g.inodes) n node
+  pub free : free_blocks g new ≡ free_blocks g old
+
+-- number n has a node without bytes
+pub record TakesNode (g : Geometry) (old new : List (List ℕ)) (n kind major minor links : ℕ) : Type 0 where
+  pub inode : inode_at new n ≡ fresh_inode kind major minor links
+  pub sets : SetsNode g old new n (Some (fresh_node kind major minor links))
+
+-- the lowest free inode is told, or that there is none
+abbrev pub FindsInode : Geometry → List (List ℕ) → Option ℕ → Type 0
+FindsInode g blocks (Some n) = IsLowestUnused g blocks n
+FindsInode g blocks None = AreAllUsed g blocks
+
+-- the lowest free inode is taken, or none is free and nothing is changed
+abbrev pub TakesInode : Geometry → List (List ℕ) → List (List ℕ) → ℕ → ℕ → ℕ → ℕ → Option ℕ → Type 0
+TakesInode g old new kind major minor links (Some n) = IsLowestUnused g old n × TakesNode g old new n kind major minor links
+TakesInode g old new kind major minor links None = AreAllUsed g old × (new ≡ old)

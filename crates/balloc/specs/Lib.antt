@@ -1,4 +1,3 @@
 pub mod Bitmap
 pub mod Format
 pub mod Inodes
-pub mod Refusals

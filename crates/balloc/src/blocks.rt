@@ -1,62 +1,31 @@
 //! The bitmap of blocks. A call looks for a free block from the first data block on.
 
-ghost use Rattle.std.specs.Prelude.{◌≡◌, ◌≢◌, ℕ, ◌+◌, ◌-◌, ◌*◌, ◌/◌, ◌%◌, ◌<◌, ◌≤◌, List, length, OnOk, IfOk, IfSome, IfNone, IsErrOf, nat_le};
-ghost use Rattle.std.specs.Bool.{OnTrue, OnFalse};
+ghost use Rattle.std.specs.Prelude.{◌≡◌, ◌≢◌, ℕ, ◌+◌, ◌-◌, ◌*◌, ◌/◌, ◌%◌, ◌<◌, ◌≤◌, List, length, nat_le};
 ghost use Rattle.std.specs.Int.{bit_at};
-ghost use Rattle.blockdev.specs.Blocks.{block_at};
-ghost use Rattle.unixmodel.specs.Failures.{HasCause, Rises};
+ghost use Rattle.cache.specs.Steps.{AsBefore, Reads, Steps};
 ghost use Rattle.layout.specs.Super.{bitmap_start_of, data_start_of};
-ghost use Rattle.layout.specs.Image.{IsFree, bit_in, bit_of, free_blocks};
+ghost use Rattle.layout.specs.Image.{bit_of, free_blocks};
 ghost use Rattle.layout.specs.Sound.{HasParts};
-ghost use Rattle.balloc.specs.Bitmap.{IsFirstFree, IsFullFrom, SetsBit, TakesLowest, TakesTwo};
-ghost use Rattle.balloc.specs.Refusals.{Refuses};
+ghost use Rattle.balloc.specs.Bitmap.{Finds, Gives, SetsBit, Takes};
 
-use crate::BallocFault;
 use crate::bitmap::first_clear;
 use blockdev::{BlockDev, DeviceFault};
 use cache::Cache;
 use layout::Geometry;
 
-/// Takes the lowest free block. `Blocks` comes exactly where none is free, and nothing is changed then.
+/// Takes the lowest free block. `None` comes exactly where none is free, and nothing is changed then.
 pub fn take_block<D: BlockDev>(
     disk: &mut Cache<D>,
     geometry: Geometry,
-) -> Result<usize, BallocFault>
+) -> Result<Option<usize>, DeviceFault>
     requires { HasParts geometry disk.old.blocks }
-    ensures taken { IfOk result (λ b. TakesLowest geometry disk.old.blocks disk.new.blocks b) }
-    ensures free { OnOk result (free_blocks geometry disk.new.blocks + 1 ≡ free_blocks geometry disk.old.blocks) }
-    ensures none { IsErrOf result BallocFault.Blocks → free_blocks geometry disk.old.blocks ≡ 0 }
-    ensures unchanged { IsErrOf result BallocFault.Blocks → disk.new.blocks ≡ disk.old.blocks }
-    ensures only { IsErrOf result BallocFault.Inodes → ⊥ }
-    ensures count { length disk.new.blocks ≡ length disk.old.blocks }
-    ensures later { disk.old.failures ≤ disk.new.failures }
-    ensures failed { IsErrOf result BallocFault.Device → Rises disk.old.failures disk.new.failures }
+    ensures { Steps D.reached disk.old disk.new result (Takes geometry disk.old.blocks disk.new.blocks) }
 {
-    let b = find_free(disk, geometry, geometry.data_start())?;
+    let Some(b) = find_free(disk, geometry, geometry.data_start())? else {
+        return Ok(None);
+    };
     mark(disk, geometry, b)?;
-    Ok(b)
-}
-
-/// Takes the two lowest free blocks. `Blocks` comes exactly where fewer are free, and nothing is changed then.
-pub fn take_two<D: BlockDev>(
-    disk: &mut Cache<D>,
-    geometry: Geometry,
-) -> Result<(usize, usize), BallocFault>
-    requires { HasParts geometry disk.old.blocks }
-    ensures taken { IfOk result (λ two. TakesTwo geometry disk.old.blocks disk.new.blocks two.0 two.1) }
-    ensures free { OnOk result (free_blocks geometry disk.new.blocks + 2 ≡ free_blocks geometry disk.old.blocks) }
-    ensures few { IsErrOf result BallocFault.Blocks → free_blocks geometry disk.old.blocks ≤ 1 }
-    ensures unchanged { IsErrOf result BallocFault.Blocks → disk.new.blocks ≡ disk.old.blocks }
-    ensures only { IsErrOf result BallocFault.Inodes → ⊥ }
-    ensures count { length disk.new.blocks ≡ length disk.old.blocks }
-    ensures later { disk.old.failures ≤ disk.new.failures }
-    ensures failed { IsErrOf result BallocFault.Device → Rises disk.old.failures disk.new.failures }
-{
-    let first = find_free(disk, geometry, geometry.data_start())?;
-    let second = find_free(disk, geometry, first + 1)?;
-    mark(disk, geometry, first)?;
-    mark(disk, geometry, second)?;
-    Ok((first, second))
+    Ok(Some(b))
 }
 
 /// Gives back a data block that is taken.
@@ -69,10 +38,7 @@ pub fn give_block<D: BlockDev>(
     requires low { data_start_of geometry.size geometry.inodes ≤ b }
     requires high { b < geometry.size }
     requires taken { bit_of disk.old.blocks (bitmap_start_of geometry.inodes) b ≡ 1 }
-    ensures given { OnOk result (SetsBit geometry disk.old.blocks disk.new.blocks b 0) }
-    ensures free { OnOk result (free_blocks geometry disk.new.blocks ≡ free_blocks geometry disk.old.blocks + 1) }
-    ensures count { length disk.new.blocks ≡ length disk.old.blocks }
-    ensures cause { HasCause disk.old.failures disk.new.failures result }
+    ensures { Steps D.reached disk.old disk.new result (λ _. Gives geometry disk.old.blocks disk.new.blocks b) }
 {
     let at = geometry.bitmap_start() + b / 8192;
     let place = b % 8192 / 8;
@@ -90,9 +56,7 @@ pub fn mark<D: BlockDev>(
 ) -> Result<(), DeviceFault>
     requires parts { HasParts geometry disk.old.blocks }
     requires high { b < geometry.size }
-    ensures sets { OnOk result (SetsBit geometry disk.old.blocks disk.new.blocks b 1) }
-    ensures count { length disk.new.blocks ≡ length disk.old.blocks }
-    ensures cause { HasCause disk.old.failures disk.new.failures result }
+    ensures { Steps D.reached disk.old disk.new result (λ _. SetsBit geometry disk.old.blocks disk.new.blocks b 1) }
 {
     let at = geometry.bitmap_start() + b / 8192;
     let place = b % 8192 / 8;
@@ -109,20 +73,15 @@ pub fn has_blocks<D: BlockDev>(
     wanted: usize,
 ) -> Result<bool, DeviceFault>
     requires { HasParts geometry disk.old.blocks }
-    ensures told { IfOk result (λ enough. enough ≡ nat_le wanted (free_blocks geometry disk.old.blocks)) }
-    ensures same { OnOk result (disk.new.blocks ≡ disk.old.blocks) }
-    ensures count { length disk.new.blocks ≡ length disk.old.blocks }
-    ensures cause { HasCause disk.old.failures disk.new.failures result }
+    ensures { Reads D.reached disk.old disk.new result (λ enough. enough ≡ nat_le wanted (free_blocks geometry disk.old.blocks)) }
 {
     let mut from = geometry.data_start();
     let mut found = 0;
     'search: while found < wanted {
-        match find_free(disk, geometry, from) {
-            Ok(b) => from = b + 1,
-            Err(BallocFault::Blocks) => return Ok(false),
-            Err(BallocFault::Device) => return Err(DeviceFault),
-            Err(BallocFault::Inodes) => unreachable!(),
-        }
+        let Some(b) = find_free(disk, geometry, from)? else {
+            return Ok(false);
+        };
+        from = b + 1;
         found += 1;
     }
     Ok(true)
@@ -133,12 +92,10 @@ fn find_free<D: BlockDev>(
     disk: &mut Cache<D>,
     geometry: Geometry,
     from: usize,
-) -> Result<usize, BallocFault>
+) -> Result<Option<usize>, DeviceFault>
     requires parts { HasParts geometry disk.old.blocks }
     requires from { data_start_of geometry.size geometry.inodes ≤ from }
-    ensures found { IfOk result (λ b. IsFirstFree geometry disk.old.blocks from b) }
-    ensures same { OnOk result (disk.new.blocks ≡ disk.old.blocks) }
-    ensures refuses { Refuses disk.old disk.new result BallocFault.Blocks BallocFault.Inodes (IsFullFrom geometry disk.old.blocks from) }
+    ensures { Reads D.reached disk.old disk.new result (Finds geometry disk.old.blocks from) }
 {
     let start = geometry.bitmap_start();
     let mut b = from;
@@ -147,11 +104,11 @@ fn find_free<D: BlockDev>(
         let first = b / 8192 * 8192;
         let end = geometry.size.min(first + 8192);
         if let Some(i) = first_clear(&block, b % 8192, end - first) {
-            return Ok(first + i);
+            return Ok(Some(first + i));
         }
         b = end;
     }
-    Err(BallocFault::Blocks)
+    Ok(None)
 }
 
 // A byte with a bit set.

@@ -1,17 +1,14 @@
 //! The records of inodes: an inode is free where its type is 0.
 
-ghost use Rattle.std.specs.Prelude.{◌≡◌, ◌≢◌, ℕ, ◌+◌, ◌-◌, ◌*◌, ◌/◌, ◌%◌, ◌<◌, ◌≤◌, List, [], length, slice_set, Some, None, OnOk, IfOk, IfSome, IfNone, IsErrOf};
-ghost use Rattle.blockdev.specs.Blocks.{block_at};
-ghost use Rattle.unixmodel.specs.Failures.{HasCause, Rises};
+ghost use Rattle.std.specs.Prelude.{◌≡◌, ◌≢◌, ℕ, ◌+◌, ◌-◌, ◌*◌, ◌/◌, ◌%◌, ◌<◌, ◌≤◌, IfNone, IfSome, List, None, length};
 ghost use Rattle.blockdev.specs.Splice.{part};
+ghost use Rattle.cache.specs.Steps.{AsBefore, Reads, Steps};
 ghost use Rattle.layout.specs.Inode.{Fits, inode_of};
-ghost use Rattle.layout.specs.Image.{IsInode, free_blocks, inode_at, nodes_of};
+ghost use Rattle.layout.specs.Image.{IsInode, inode_at};
 ghost use Rattle.layout.specs.Sound.{HasParts, IsSound};
 ghost use Rattle.layout.specs.Grow.{WritesInode};
-ghost use Rattle.balloc.specs.Inodes.{AreAllUsed, IsLowestUnused, IsUnused, fresh_inode, fresh_node};
-ghost use Rattle.balloc.specs.Refusals.{Refuses};
+ghost use Rattle.balloc.specs.Inodes.{FindsInode, IsRecord, IsUnused, SetsNode, TakesInode, TakesNode};
 
-use crate::BallocFault;
 use blockdev::{Block, BlockDev, DeviceFault};
 use cache::Cache;
 use layout::{DiskInode, Geometry};
@@ -24,11 +21,7 @@ pub fn read_inode<D: BlockDev>(
 ) -> Result<DiskInode, DeviceFault>
     requires parts { HasParts geometry disk.old.blocks }
     requires high { number < geometry.inodes }
-    ensures inode { IfOk result (λ inode. inode ≡ inode_at disk.old.blocks number) }
-    ensures fits { IfOk result (λ inode. Fits inode) }
-    ensures same { OnOk result (disk.new.blocks ≡ disk.old.blocks) }
-    ensures count { length disk.new.blocks ≡ length disk.old.blocks }
-    ensures cause { HasCause disk.old.failures disk.new.failures result }
+    ensures { Reads D.reached disk.old disk.new result (IsRecord disk.old.blocks number) }
 {
     let mut record = [0; 64];
     disk.read_part(2 + number / 16, 64 * (number % 16), &mut record)?;
@@ -45,14 +38,12 @@ pub fn write_inode<D: BlockDev>(
     requires parts { HasParts geometry disk.old.blocks }
     requires high { number < geometry.inodes }
     requires fits { Fits inode.now }
-    ensures writes { OnOk result (WritesInode geometry disk.old.blocks disk.new.blocks number inode.now) }
-    ensures count { length disk.new.blocks ≡ length disk.old.blocks }
-    ensures cause { HasCause disk.old.failures disk.new.failures result }
+    ensures { Steps D.reached disk.old disk.new result (λ _. WritesInode geometry disk.old.blocks disk.new.blocks number inode.now) }
 {
     disk.write(2 + number / 16, 64 * (number % 16), &inode.to_bytes())
 }
 
-/// Takes the lowest free inode, for a node without bytes of this type, major, minor and number of links. `Inodes`
+/// Takes the lowest free inode, for a node without bytes of this type, major, minor and number of links. `None`
 /// comes exactly where none is free, and nothing is changed then.
 pub fn take_inode<D: BlockDev>(
     disk: &mut Cache<D>,
@@ -61,25 +52,17 @@ pub fn take_inode<D: BlockDev>(
     major: u16,
     minor: u16,
     links: u16,
-) -> Result<usize, BallocFault>
+) -> Result<Option<usize>, DeviceFault>
     requires sound { IsSound geometry disk.old.blocks }
     requires some { 1 ≤ kind }
     requires kind { kind ≤ 3 }
-    ensures taken { IfOk result (λ n. IsLowestUnused geometry disk.old.blocks n) }
-    ensures inode { IfOk result (λ n. inode_at disk.new.blocks n ≡ fresh_inode kind major minor links) }
-    ensures sound { OnOk result (IsSound geometry disk.new.blocks) }
-    ensures nodes { IfOk result (λ n. nodes_of disk.new.blocks geometry.inodes ≡ slice_set (nodes_of disk.old.blocks geometry.inodes) n (Some (fresh_node kind major minor links))) }
-    ensures free { OnOk result (free_blocks geometry disk.new.blocks ≡ free_blocks geometry disk.old.blocks) }
-    ensures none { IsErrOf result BallocFault.Inodes → (n : ℕ) → 1 ≤ n → n < geometry.inodes → (inode_at disk.old.blocks n).kind ≢ 0 }
-    ensures unchanged { IsErrOf result BallocFault.Inodes → disk.new.blocks ≡ disk.old.blocks }
-    ensures only { IsErrOf result BallocFault.Blocks → ⊥ }
-    ensures count { length disk.new.blocks ≡ length disk.old.blocks }
-    ensures later { disk.old.failures ≤ disk.new.failures }
-    ensures failed { IsErrOf result BallocFault.Device → Rises disk.old.failures disk.new.failures }
+    ensures { Steps D.reached disk.old disk.new result (TakesInode geometry disk.old.blocks disk.new.blocks kind major minor links) }
 {
-    let number = find_unused(disk, geometry)?;
+    let Some(number) = find_unused(disk, geometry)? else {
+        return Ok(None);
+    };
     take_inode_at(disk, geometry, number, kind, major, minor, links)?;
-    Ok(number)
+    Ok(Some(number))
 }
 
 /// Takes an inode that is known to be free, for a node without bytes of this type, major, minor and number of links.
@@ -96,12 +79,7 @@ pub fn take_inode_at<D: BlockDev>(
     requires unused { IsUnused geometry disk.old.blocks number }
     requires some { 1 ≤ kind }
     requires kind { kind ≤ 3 }
-    ensures inode { OnOk result (inode_at disk.new.blocks number ≡ fresh_inode kind major minor links) }
-    ensures sound { OnOk result (IsSound geometry disk.new.blocks) }
-    ensures nodes { OnOk result (nodes_of disk.new.blocks geometry.inodes ≡ slice_set (nodes_of disk.old.blocks geometry.inodes) number (Some (fresh_node kind major minor links))) }
-    ensures free { OnOk result (free_blocks geometry disk.new.blocks ≡ free_blocks geometry disk.old.blocks) }
-    ensures count { length disk.new.blocks ≡ length disk.old.blocks }
-    ensures cause { HasCause disk.old.failures disk.new.failures result }
+    ensures { Steps D.reached disk.old disk.new result (λ _. TakesNode geometry disk.old.blocks disk.new.blocks number kind major minor links) }
 {
     let inode = DiskInode {
         kind,
@@ -123,11 +101,7 @@ pub fn give_inode<D: BlockDev>(
     requires sound { IsSound geometry disk.old.blocks }
     requires inode { IsInode disk.old.blocks geometry.inodes number }
     requires empty { (inode_at disk.old.blocks number).size ≡ 0 }
-    ensures sound { OnOk result (IsSound geometry disk.new.blocks) }
-    ensures nodes { OnOk result (nodes_of disk.new.blocks geometry.inodes ≡ slice_set (nodes_of disk.old.blocks geometry.inodes) number None) }
-    ensures free { OnOk result (free_blocks geometry disk.new.blocks ≡ free_blocks geometry disk.old.blocks) }
-    ensures count { length disk.new.blocks ≡ length disk.old.blocks }
-    ensures cause { HasCause disk.old.failures disk.new.failures result }
+    ensures { Steps D.reached disk.old disk.new result (λ _. SetsNode geometry disk.old.blocks disk.new.blocks number None) }
 {
     let inode = DiskInode {
         kind: 0,
@@ -141,11 +115,12 @@ pub fn give_inode<D: BlockDev>(
 }
 
 // The lowest number from 1 on whose type is 0.
-fn find_unused<D: BlockDev>(disk: &mut Cache<D>, geometry: Geometry) -> Result<usize, BallocFault>
+fn find_unused<D: BlockDev>(
+    disk: &mut Cache<D>,
+    geometry: Geometry,
+) -> Result<Option<usize>, DeviceFault>
     requires { HasParts geometry disk.old.blocks }
-    ensures found { IfOk result (λ n. IsLowestUnused geometry disk.old.blocks n) }
-    ensures same { OnOk result (disk.new.blocks ≡ disk.old.blocks) }
-    ensures refuses { Refuses disk.old disk.new result BallocFault.Inodes BallocFault.Blocks (AreAllUsed geometry disk.old.blocks) }
+    ensures { Reads D.reached disk.old disk.new result (FindsInode geometry disk.old.blocks) }
 {
     let mut n = 1;
     'scan: while n < geometry.inodes {
@@ -153,11 +128,11 @@ fn find_unused<D: BlockDev>(disk: &mut Cache<D>, geometry: Geometry) -> Result<u
         let first = n / 16 * 16;
         let end = geometry.inodes.min(first + 16);
         if let Some(i) = first_unused(&block, n % 16, end - first) {
-            return Ok(first + i);
+            return Ok(Some(first + i));
         }
         n = end;
     }
-    Err(BallocFault::Inodes)
+    Ok(None)
 }
 
 // The lowest record of a block in a range whose type is 0.

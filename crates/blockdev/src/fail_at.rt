@@ -61,7 +61,13 @@ impl<D: BlockDev> BlockDev for FailAt<D> {
 
     ghost failures = { λ d. count_of d.left (D.failures d.device) };
 
+    ghost reached = { λ old new. D.reached old.device new.device };
+
     ghost sizes = { λ d. D.sizes d.device };
+
+    ghost stays = { λ d. D.stays d.device };
+
+    ghost joins = { λ old mid new. D.joins old.device mid.device new.device };
 
     fn blocks(&self) -> usize {
         self.device.blocks()
@@ -71,6 +77,7 @@ impl<D: BlockDev> BlockDev for FailAt<D> {
         requires { n < length (D.content self.old.device) }
         ensures bytes { IfOk result (λ block. block ≡ block_at (D.content self.old.device) n) }
         ensures same { D.content self.new.device ≡ D.content self.old.device }
+        ensures reached { D.reached self.old.device self.new.device }
         ensures cause { HasCause (count_of self.old.left (D.failures self.old.device)) (count_of self.new.left (D.failures self.new.device)) result }
         ensures left { self.new.left ≡ self.old.left - 1 }
         ensures fails { self.old.left ≡ 1 → IsErr result }
@@ -85,6 +92,7 @@ impl<D: BlockDev> BlockDev for FailAt<D> {
         requires { n < length (D.content self.old.device) }
         ensures written { OnOk result (D.content self.new.device ≡ slice_set (D.content self.old.device) n block.now) }
         ensures count { length (D.content self.new.device) ≡ length (D.content self.old.device) }
+        ensures reached { D.reached self.old.device self.new.device }
         ensures cause { HasCause (count_of self.old.left (D.failures self.old.device)) (count_of self.new.left (D.failures self.new.device)) result }
         ensures left { self.new.left ≡ self.old.left - 1 }
         ensures fails { self.old.left ≡ 1 → IsErr result }
@@ -97,13 +105,7 @@ impl<D: BlockDev> BlockDev for FailAt<D> {
 }
 
 impl<D: Duplicate> Duplicate for FailAt<D> {
-    ghost use Rattle.blockdev.specs.Disk.{count_of};
-
-    fn duplicate(&self, alloc: Global) -> Result<FailAt<D>, AllocError>
-        ensures content { IfOk result (λ d. D.content d.device ≡ D.content self.now.device) }
-        ensures failures { IfOk result (λ d. count_of d.left (D.failures d.device) ≡ count_of self.now.left (D.failures self.now.device)) }
-        ensures left { IfOk result (λ d. d.left ≡ self.now.left) }
-    {
+    fn duplicate(&self, alloc: Global) -> Result<FailAt<D>, AllocError> {
         Ok(FailAt {
             device: self.device.duplicate(alloc)?,
             left: self.left,

@@ -7,7 +7,6 @@ use Rattle.std.proofs.lemmas.Bool.{cases_eq, cases_lt, or_parts}
 use Rattle.blockdev.specs.Blocks.{block_at}
 use Rattle.cache.specs.declared.held.Slot.{Slot}
 use Rattle.lru.specs.LruCache.{LruCache}
-use Rattle.cache.specs.Disk.{Disk}
 use Rattle.cache.specs.Next.{next_of}
 use Rattle.cache.specs.Overlay.{AreFlushed, AreKept, cleaned, overlay}
 use Rattle.cache.proofs.Entries.{lookup-set_other, lookup-set_same}
@@ -135,12 +134,6 @@ next-smaller es c b blocks stored from n f next =
     let low : n < length c = low-next es c b blocks stored from n f next in
     let late : from ≤ n = from-next es b from n next in
     omega (arith, f.count)
-
-pub stored-are : {x y : Disk} → x ≡ y → x.stored ≡ y.stored
-stored-are e = ap (λ (d : Disk). d.stored) e
-
-pub failures-are : {x y : Disk} → x ≡ y → y.failures ≤ x.failures
-failures-are {x} {y} e = let same : x.failures ≡ y.failures = ap (λ (d : Disk). d.failures) e in omega arith
 
 pub up : {a b c : ℕ} → a ≤ b → b ≤ c → a ≤ c
 up h k = omega arith

@@ -14,8 +14,8 @@ use Rattle.cache.proofs.Entries.{lookup-promoted}
 use Rattle.cache.proofs.Overlays.{AreKept-passed, AreKept-promoted, AreKept-set, at-overlay, held-none, held-some, length-overlay, overlay-other, overlay-promoted, overlay-set}
 use Rattle.cache.proofs.Putting.{AreKept-put, overlay-changed, overlay-read}
 
-pub blocks-are : {x y : Disk} → x ≡ y → x.blocks ≡ y.blocks
-blocks-are e = ap (λ (d : Disk). d.blocks) e
+pub blocks-are : {D : Type 0} {x y : Disk D} → x ≡ y → x.blocks ≡ y.blocks
+blocks-are {D} e = ap (λ (d : Disk D). d.blocks) e
 
 -- a cache shows the blocks, of which n is one
 pub record IsUsed (l : LruCache ℕ Slot) (c : List (List ℕ)) (b : Bool) (blocks : List (List ℕ)) (n : ℕ) : Type 0 where

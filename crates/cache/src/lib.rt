@@ -5,10 +5,10 @@
 //! from the one block that was read, and a write goes to the device at once.
 #![tactic(auto)]
 
-ghost use Rattle.std.specs.Prelude.{◌≡◌, ℕ, ◌+◌, ◌<◌, ◌≤◌, List, length, OnOk, OnErr, IfOk, IfErr, slice_set};
+ghost use Rattle.std.specs.Prelude.{◌≡◌, ℕ, ◌+◌, ◌<◌, ◌≤◌, List, length, IfOk, slice_set};
 ghost use Rattle.blockdev.specs.Blocks.{AreBlocks, block_at};
-ghost use Rattle.unixmodel.specs.Failures.{HasCause};
 ghost use Rattle.blockdev.specs.Splice.{part, splice};
+ghost use Rattle.cache.specs.Steps.{AsBefore, Reads, Steps};
 
 mod held;
 
@@ -34,11 +34,11 @@ pub struct Cache<D: BlockDev, A: Allocator + Clone = Global> {
 impl<D: BlockDev, A: Allocator + Clone> Model for Cache<D, A> {
     ghost use Rattle.cache.specs.Disk.{Disk};
 
-    ghost Value = { Disk };
+    ghost Value = { Disk D };
 
     ghost use Rattle.cache.specs.Overlay.{overlay, AreKept};
 
-    ghost view = { λ c. record { blocks = overlay c.held.entries (D.content c.device); stored = D.content c.device; failures = D.failures c.device } };
+    ghost view = { λ c. record { blocks = overlay c.held.entries (D.content c.device); device = c.device; failures = D.failures c.device } };
 
     ghost invariant = { λ c. AreKept c.held.entries (D.content c.device) c.in_doubt };
 }
@@ -46,9 +46,7 @@ impl<D: BlockDev, A: Allocator + Clone> Model for Cache<D, A> {
 impl<D: BlockDev, A: Allocator + Clone> Cache<D, A> {
     /// The blocks of the device. It is the only call that can ask for host memory and be refused.
     pub fn new(alloc: A, device: D) -> Result<Cache<D, A>, AllocError>
-        ensures blocks { IfOk result (λ cache. cache.blocks ≡ D.content device) }
-        ensures stored { IfOk result (λ cache. cache.stored ≡ D.content device) }
-        ensures failures { IfOk result (λ cache. cache.failures ≡ D.failures device) }
+        ensures made { IfOk result (λ cache. cache ≡ record { blocks = D.content device; device = device; failures = D.failures device }) }
         ensures sizes { AreBlocks (D.content device) }
     {
         let held = LruCache::new(alloc, NonZeroUsize::new(HELD).unwrap())?;
@@ -61,7 +59,7 @@ impl<D: BlockDev, A: Allocator + Clone> Cache<D, A> {
 
     /// Gives up the cache for the device, which has what was flushed.
     pub fn into_device(self) -> D
-        ensures stored { D.content result ≡ self.stored }
+        ensures device { result ≡ self.device }
         ensures failures { D.failures result ≡ self.failures }
     {
         let Cache {
@@ -75,7 +73,7 @@ impl<D: BlockDev, A: Allocator + Clone> Cache<D, A> {
 
     /// The device below, which has what was flushed.
     pub fn device(&self) -> &D
-        ensures stored { D.content result.now ≡ self.now.stored }
+        ensures device { result.now ≡ self.now.device }
         ensures failures { D.failures result.now ≡ self.now.failures }
     {
         &self.device
@@ -84,7 +82,7 @@ impl<D: BlockDev, A: Allocator + Clone> Cache<D, A> {
     /// How many blocks there are.
     pub fn blocks(&self) -> usize
         ensures count { result ≡ length self.now.blocks }
-        ensures stored { result ≡ length self.now.stored }
+        ensures stored { result ≡ length (D.content self.now.device) }
         ensures sizes { AreBlocks self.now.blocks }
     {
         self.device.blocks()
@@ -93,11 +91,7 @@ impl<D: BlockDev, A: Allocator + Clone> Cache<D, A> {
     /// The bytes of block `n`.
     pub fn read(&mut self, n: usize) -> Result<Block, DeviceFault>
         requires { n < length self.old.blocks }
-        ensures bytes { IfOk result (λ block. block ≡ block_at self.old.blocks n) }
-        ensures same { OnOk result (self.new.blocks ≡ self.old.blocks) }
-        ensures count { length self.new.blocks ≡ length self.old.blocks }
-        ensures stored { length self.new.stored ≡ length self.old.stored }
-        ensures cause { HasCause self.old.failures self.new.failures result }
+        ensures { Reads D.reached self.old self.new result (λ block. block ≡ block_at self.old.blocks n) }
     {
         if let Some(slot) = self.held.get(&n) {
             return Ok(slot.bytes);
@@ -117,11 +111,7 @@ impl<D: BlockDev, A: Allocator + Clone> Cache<D, A> {
     pub fn read_part(&mut self, n: usize, at: usize, out: &mut [u8]) -> Result<(), DeviceFault>
         requires block { n < length self.old.blocks }
         requires fits { at + length out.old ≤ 1024 }
-        ensures bytes { OnOk result (out.new ≡ part at (length out.old) (block_at self.old.blocks n)) }
-        ensures same { OnOk result (self.new.blocks ≡ self.old.blocks) }
-        ensures count { length self.new.blocks ≡ length self.old.blocks }
-        ensures stored { length self.new.stored ≡ length self.old.stored }
-        ensures cause { HasCause self.old.failures self.new.failures result }
+        ensures { Reads D.reached self.old self.new result (λ _. out.new ≡ part at (length out.old) (block_at self.old.blocks n)) }
     {
         let count = out.len();
         if let Some(held) = self.held.get(&n) {
@@ -137,10 +127,7 @@ impl<D: BlockDev, A: Allocator + Clone> Cache<D, A> {
     pub fn write(&mut self, n: usize, at: usize, bytes: &[u8]) -> Result<(), DeviceFault>
         requires block { n < length self.old.blocks }
         requires fits { at + length bytes.now ≤ 1024 }
-        ensures written { OnOk result (self.new.blocks ≡ slice_set self.old.blocks n (splice at bytes.now (block_at self.old.blocks n))) }
-        ensures count { length self.new.blocks ≡ length self.old.blocks }
-        ensures stored { length self.new.stored ≡ length self.old.stored }
-        ensures cause { HasCause self.old.failures self.new.failures result }
+        ensures { Steps D.reached self.old self.new result (λ _. self.new.blocks ≡ slice_set self.old.blocks n (splice at bytes.now (block_at self.old.blocks n))) }
     {
         if let Some(slot) = self.held.get_mut(&n) {
             slot.changed = true;
@@ -163,11 +150,7 @@ impl<D: BlockDev, A: Allocator + Clone> Cache<D, A> {
 
     /// Writes to the device what it lacks.
     pub fn flush(&mut self) -> Result<(), DeviceFault>
-        ensures stored { OnOk result (self.new.stored ≡ self.old.blocks) }
-        ensures same { OnOk result (self.new.blocks ≡ self.old.blocks) }
-        ensures count { length self.new.blocks ≡ length self.old.blocks }
-        ensures length { length self.new.stored ≡ length self.old.stored }
-        ensures cause { HasCause self.old.failures self.new.failures result }
+        ensures { Reads D.reached self.old self.new result (λ _. D.content self.new.device ≡ self.old.blocks) }
     {
         // Their count has 64 bits, so the number after a block's has, too.
         let _ = self.device.blocks();

@@ -34,8 +34,7 @@ use Rattle.tree.specs.declared.making.Leaf.TheVariants as leaf
 use Rattle.tree.specs.Tree as tree
 use Rattle.tree.specs.Tree.{FileTree, has_failed, is_device}
 use Rattle.tree.specs.Whole.{IsWhole}
-use Rattle.tree.proofs.Keeping.{created-changed, folder-changed}
-use Rattle.tree.proofs.Serving.{device-is}
+use Rattle.tree.proofs.Keeping.{created-changed, device-is, folder-changed}
 use Rattle.unixmodel.specs.Calls.{outcome_of, quiet, row, settle}
 use Rattle.unixmodel.specs.Counts.{blocks_of, frames_of, is_within, opens_of}
 use Rattle.unixmodel.specs.declared.call.Call.{Call}

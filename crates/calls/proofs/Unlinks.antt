@@ -35,7 +35,7 @@ use Rattle.tree.specs.Tree.{FileTree, has_failed}
 use Rattle.tree.specs.Unlinks.{unlinked_in}
 use Rattle.tree.specs.Whole.{IsWhole}
 use Rattle.tree.proofs.Keeping.{Reaps, unlinked-reaps}
-use Rattle.tree.proofs.Storing.{blocks_of-set, used_by}
+use Rattle.tree.proofs.Storing.{blocks_of-set, taken_by}
 use Rattle.unixmodel.specs.Calls.{outcome_of, quiet, row, settle}
 use Rattle.unixmodel.specs.Counts.{blocks_of, frames_of, is_within, opens_of}
 use Rattle.unixmodel.specs.declared.call.Call.TheVariants.{Unlink}
@@ -101,7 +101,7 @@ placeless-size k (Device links major minor) = refl
 placeless-size k (Directory links places) = ap (λ n. 16 * n) (length-set places k None)
 
 module _ (files : Files) (n : ℕ) (f : Node → Node) (sized : (x : Node) → size_of (f x) ≡ size_of x) where
-  used-same : (o : Option Node) → used_by (option_map f o) ≡ used_by o
+  used-same : (o : Option Node) → taken_by (option_map f o) ≡ taken_by o
   used-same None = refl
   used-same (Some x) = ap blocks_for (sized x)
 

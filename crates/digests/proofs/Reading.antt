@@ -1,6 +1,6 @@
 -- Files that go into a digest step by step.
-use Rattle.std.proofs.Common.{◌≡◌, ℕ, ◌+◌, ◌*◌, ◌-◌, ◌≤◌, Bool, false, List, ◌∷◌, [], ◌++◌, length, take, drop, min, Ok, Err, Option, None, Some, Result, IsErrAnd, ap, ap₂, arith, le_trans, refl, subst, sym, ◌∙◌}
-use Rattle.std.specs.Prelude.{IfOk, OnErr, OnOk}
+use Rattle.std.proofs.Common.{◌≡◌, ℕ, ◌+◌, ◌*◌, ◌-◌, ◌≤◌, false, List, ◌∷◌, [], ◌++◌, length, take, drop, min, Ok, Err, Option, None, Some, Result, IsErrAnd, ap, ap₂, arith, le_trans, refl, subst, sym, ◌∙◌}
+use Rattle.std.specs.Prelude.{IfOk}
 use Rattle.std.proofs.lemmas.List.{length-drop, length-take-le, take-append-le, take_all, take_min}
 use Rattle.std.proofs.lemmas.Result.{err_from_is_err_and}
 use Rattle.blockdev.specs.declared.DeviceFault.{DeviceFault}
@@ -74,8 +74,8 @@ read-front bytes old new at count long is told =
 abbrev pub HasRead : FileTree → FileTree → ℕ → ℕ → List ℕ → List ℕ → ℕ → Type 0
 HasRead old new number at out out' k =
     (new ≡ record old { failures = new.failures })
-    × (k ≡ min (length out) (length (bytes_or_none (slot old.files number)) - at))
-    × (out' ≡ part at k (bytes_or_none (slot old.files number)) ++ drop k out)
+    × ((k ≡ min (length out) (length (bytes_or_none (slot old.files number)) - at))
+    × (out' ≡ part at k (bytes_or_none (slot old.files number)) ++ drop k out))
 
 pub block-next : {old now new : FileTree} (number k digest : ℕ) {so_far next count : ℕ} {out out' : List ℕ}
     → SoFar old now (each (block_step (bytes_or_none (slot old.files number))) k digest) so_far
@@ -87,7 +87,7 @@ block-next {old = old} {now = now} number k digest {so_far = so_far} {count = co
     let files : now.files ≡ old.files = ap (λ (t : FileTree). t.files) before.same in
     let bytes = bytes_or_none (slot now.files number) in
     step-on (block_step (bytes_or_none (slot old.files number))) k digest before serves.told.0 serves.up serves.cause.later
-    (told ∙ ap (bytes_mixed so_far) (read-front bytes out out' (1024 * k) count long serves.told.1 serves.told.2
+    (told ∙ ap (bytes_mixed so_far) (read-front bytes out out' (1024 * k) count long serves.told.1.0 serves.told.1.1
     ∙ ap (λ (f : Files). take 1024 (drop (1024 * k) (bytes_or_none (slot f number)))) files))
 
 -- ---- a node

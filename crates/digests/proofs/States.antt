@@ -1,5 +1,5 @@
 -- The parts of a kernel's state, as they go into its digest.
-use Rattle.std.proofs.Common.{◌≡◌, ℕ, ◌+◌, ◌<◌, Bool, false, true, List, [], ◌∷◌, ◌++◌, length, take, Option, None, Some, ap, ap₂, arith, get_or, length-append, refl, subst, sym, ◌∙◌}
+use Rattle.std.proofs.Common.{◌≡◌, ℕ, ◌+◌, ◌<◌, false, true, List, [], ◌∷◌, ◌++◌, length, take, Option, None, Some, ap, ap₂, arith, get_or, length-append, refl, sym, ◌∙◌}
 use Rattle.std.specs.Prelude.{is_some, option_map, slice_get, unwrap_or}
 use Rattle.std.proofs.lemmas.List.{take_all}
 use Rattle.std.proofs.lemmas.List.Sums.{fold_more}
@@ -13,7 +13,7 @@ use Rattle.proc.specs.Whole.{with_memory}
 use Rattle.spaces.specs.Spaces.{SpaceView, no_pages}
 use Rattle.unixmodel.specs.Console.{Console}
 use Rattle.unixmodel.specs.Files.{slot}
-use Rattle.unixmodel.specs.Memory.{Memory, Page}
+use Rattle.unixmodel.specs.Memory.{Memory}
 use Rattle.unixmodel.specs.State.{process_at}
 
 -- ---- processes

@@ -16,7 +16,6 @@ use Rattle.unixmodel.specs.OpenFiles.{OpenFile, Target}
 use Rattle.unixmodel.specs.OpenFiles.End.{ReadEnd, WriteEnd}
 use Rattle.unixmodel.specs.OpenFiles.Target.{OnNode, OnPipe}
 use Rattle.unixmodel.specs.Process.{Process}
-use Rattle.unixmodel.specs.Shown.{bytes_or_none}
 use Rattle.unixmodel.specs.State.{State, open_limit, place_limit, process_at}
 
 -- ---- mixing

@@ -4,51 +4,57 @@ ghost use Rattle.std.specs.Prelude.{◌≤◌, OnOk};
 ghost use Rattle.layout.specs.Sound.{HasParts, IsSound};
 
 use crate::volume::{SMALL, disk_of};
-use balloc::{
-    BallocFault, first_clear, format, give_block, give_inode, take_block, take_inode, take_two,
-};
-use blockdev::{FailAt, MemDisk};
+use balloc::{first_clear, format, give_block, give_inode, take_block, take_inode};
+use blockdev::{DeviceFault, FailAt, MemDisk};
 use cache::Cache;
 use layout::Geometry;
 use std::process::Abort;
 
-// What is taken: the number of an inode, and blocks, of which the second is given back before the last two are taken.
-type Taken = (usize, (usize, usize, (usize, usize)));
+// What is taken: the number of an inode, and three blocks, of which the second is given back before the third is taken.
+type Taken = (Option<usize>, [Option<usize>; 3]);
 
 // An inode is taken and given back.
-fn use_inode(disk: &mut Cache<FailAt<MemDisk>>, geometry: Geometry) -> Result<usize, BallocFault>
+fn use_inode(
+    disk: &mut Cache<FailAt<MemDisk>>,
+    geometry: Geometry,
+) -> Result<Option<usize>, DeviceFault>
     requires sound { IsSound geometry disk.old.blocks }
     ensures sound { OnOk result (IsSound geometry disk.new.blocks) }
 {
-    let number = take_inode(disk, geometry, 2, 0, 0, 1)?;
+    let Some(number) = take_inode(disk, geometry, 2, 0, 0, 1)? else {
+        return Ok(None);
+    };
     give_inode(disk, geometry, number)?;
-    Ok(number)
+    Ok(Some(number))
 }
 
-// Blocks are taken, and the second is given back.
-fn use_blocks(
+// A block is taken and given back.
+fn use_block(
     disk: &mut Cache<FailAt<MemDisk>>,
     geometry: Geometry,
-) -> Result<(usize, usize, (usize, usize)), BallocFault>
+) -> Result<Option<usize>, DeviceFault>
     requires parts { HasParts geometry disk.old.blocks }
+    ensures parts { OnOk result (HasParts geometry disk.new.blocks) }
 {
-    let first = take_block(disk, geometry)?;
-    let second = take_block(disk, geometry)?;
-    give_block(disk, geometry, second)?;
-    let two = take_two(disk, geometry)?;
-    Ok((first, second, two))
+    let Some(block) = take_block(disk, geometry)? else {
+        return Ok(None);
+    };
+    give_block(disk, geometry, block)?;
+    Ok(Some(block))
 }
 
 // One call of each, on a new file system.
-fn use_all(disk: &mut Cache<FailAt<MemDisk>>, geometry: Geometry) -> Result<Taken, BallocFault>
+fn use_all(disk: &mut Cache<FailAt<MemDisk>>, geometry: Geometry) -> Result<Taken, DeviceFault>
     requires parts { HasParts geometry disk.old.blocks }
     requires size { 32 ≤ geometry.size }
 {
     format(disk, geometry)?;
     let number = use_inode(disk, geometry)?;
-    let blocks = use_blocks(disk, geometry)?;
+    let first = take_block(disk, geometry)?;
+    let second = use_block(disk, geometry)?;
+    let third = take_block(disk, geometry)?;
     disk.flush()?;
-    Ok((number, blocks))
+    Ok((number, [first, second, third]))
 }
 
 // What one call of each gives on a small disk of such bytes, and whether an access failed, after so many good ones.
@@ -56,14 +62,14 @@ fn use_small(
     rt: &(impl Abort + AllocGlobal),
     byte: u8,
     good: u64,
-) -> (Result<Taken, BallocFault>, bool) {
+) -> (Result<Taken, DeviceFault>, bool) {
     let mut disk = disk_of(rt.alloc(), SMALL, byte, good).expect(rt, "a disk");
     let told = use_all(&mut disk, SMALL);
     (told, disk.into_device().has_failed())
 }
 
 // What is taken where nothing fails.
-const TAKEN: Taken = (1, (5, 6, (6, 7)));
+const TAKEN: Taken = (Some(1), [Some(5), Some(6), Some(6)]);
 
 #[test]
 fn finds_the_lowest_clear_bit(rt: HostRuntime) {
@@ -102,15 +108,15 @@ fn tells_that_no_block_is_free(rt: HostRuntime) {
         inodes: 447,
     };
     let mut disk = formatted(&rt, geometry);
-    assert!(rt; take_block(&mut disk, geometry) == Ok(31));
-    assert!(rt; take_block(&mut disk, geometry) == Err(BallocFault::Blocks));
+    assert!(rt; take_block(&mut disk, geometry) == Ok(Some(31)));
+    assert!(rt; take_block(&mut disk, geometry) == Ok(None));
 }
 
 #[test]
 fn tells_each_failure(rt: HostRuntime) {
     for good in 0..14 {
         let want = if good < 10 {
-            (Err(BallocFault::Device), true)
+            (Err(DeviceFault), true)
         } else {
             (Ok(TAKEN), false)
         };

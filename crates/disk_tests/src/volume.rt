@@ -1,21 +1,20 @@
 //! A disk with files, on which a list of steps is walked. What each step gives is compared with what its row says.
 
-ghost use Rattle.std.specs.Prelude.{◌≡◌, ◌<◌, ◌≤◌, IfOk, IsErrOf, OnOk, false};
+ghost use Rattle.std.specs.Prelude.{◌≡◌, ◌<◌, ◌≤◌, IfOk, OnOk, false, is_some};
 ghost use Rattle.std.specs.Bool.{OnTrue};
-ghost use Rattle.inode.specs.declared.InodeFault.{InodeFault};
-ghost use Rattle.layout.specs.Image.{IsInode};
-ghost use Rattle.layout.specs.Sound.{HasParts, IsSound};
+ghost use Rattle.inode.specs.Store.{has_failed, is_device};
+ghost use Rattle.layout.specs.Sound.{HasParts};
 ghost use Rattle.layout.specs.Super.{data_start_of};
+ghost use Rattle.unixmodel.specs.Files.{slot};
 ghost use Rattle.unixmodel.specs.Formats.{format};
 
 use crate::devices::fail_after;
-use balloc::{BallocFault, format, read_inode, take_inode};
+use balloc::format;
 use blockdev::{BLOCK_SIZE, DeviceFault, FailAt, MemDisk};
 use cache::Cache;
-use inode::{InodeFault, read_at, set_links, stat, truncate, write_at};
+use inode::{InodeFault, Volume};
 use layout::{Geometry, MOST_BLOCKS};
 use std::alloc::Global;
-use std::marker::Model;
 
 /// The numbers of the smallest disk.
 pub const SMALL: Geometry = Geometry {
@@ -89,42 +88,51 @@ pub fn first_wrong(
     good: u64,
     steps: &[Step],
 ) -> Result<Option<usize>, InodeFault> {
-    let disk = disk_of(alloc, geometry, 0, good)?;
-    let mut volume = Volume::new(disk, geometry)?;
+    let mut disk = disk_of(alloc, geometry, 0, good)?;
+    format(&mut disk, geometry)?;
+    let mut volume = Volume::new(disk, geometry);
     for (row, step) in steps.iter().enumerate() {
-        let (next, fits) = volume.walk(alloc, *step)?;
-        if !fits {
+        if !walk(&mut volume, alloc, *step)? {
             return Ok(Some(row));
         }
-        volume = next;
     }
-    volume.flush()?;
+    let (_disk, flushed) = volume.into_device();
+    flushed?;
     Ok(None)
 }
 
-// Whether a number is that of an inode in use.
-fn look_up(
-    disk: &mut Cache<FailAt<MemDisk>>,
-    geometry: Geometry,
-    number: usize,
-) -> Result<(), InodeFault>
-    requires { IsSound geometry disk.old.blocks }
-    ensures inode { OnOk result (IsInode disk.new.blocks geometry.inodes number) }
-    ensures same { OnOk result (disk.new.blocks ≡ disk.old.blocks) }
+// A disk in memory with files, of which an access may fail.
+type Files = Volume<FailAt<MemDisk>>;
+
+// Takes a step, and tells whether it gives what its row says.
+fn walk(volume: &mut Files, alloc: Global, step: Step) -> Result<bool, InodeFault>
+    requires { volume.old.failed ≡ false }
+    ensures { OnOk result (volume.new.failed ≡ false) }
 {
-    if number == 0 || number >= geometry.inodes {
-        return Err(InodeFault::Device);
+    match step {
+        Step::Create(number) => Ok(volume.take(2, 0, 0, 1)? == number),
+        Step::Fill(number, at, count, byte, want) => {
+            fill(volume, alloc, number, at, count, byte, want)
+        }
+        Step::Write(number, at, bytes) => write(volume, number, at, &bytes, Ok(())),
+        Step::Read(number, at, count, bytes) => read(volume, number, at, count, bytes),
+        Step::Empty(number) => empty(volume, number),
+        Step::Link(number, links, before) => link(volume, number, links, before),
     }
-    let inode = read_inode(disk, geometry, number)?;
-    if inode.kind == 0 {
-        return Err(InodeFault::Device);
-    }
-    Ok(())
+}
+
+// Whether a number names a node.
+fn names(volume: &mut Files, number: usize) -> Result<bool, DeviceFault>
+    requires { volume.old.failed ≡ false }
+    ensures up { OnOk result (volume.new.failed ≡ false) }
+    ensures named { IfOk result (λ named. named ≡ is_some (slot volume.new.nodes number)) }
+{
+    Ok(volume.look(number)?.is_some())
 }
 
 // Whether an access failed.
 fn is_lost(told: &Result<(), InodeFault>) -> bool
-    ensures { result ≡ false → IsErrOf told.now InodeFault.Device → ⊥ }
+    ensures { result ≡ has_failed is_device told.now }
 {
     match told {
         Ok(()) => false,
@@ -132,135 +140,91 @@ fn is_lost(told: &Result<(), InodeFault>) -> bool
     }
 }
 
-// A disk with files. After a failed access it is of no more use, so each call takes it and gives it back. A number is
-// looked up before it is used, so that steps can go on after a refusal.
-#[derive(Drop)]
-struct Volume {
-    disk: Cache<FailAt<MemDisk>>,
-    geometry: Geometry,
+// So many bytes are written, which are all alike.
+fn fill(
+    volume: &mut Files,
+    alloc: Global,
+    number: usize,
+    at: usize,
+    count: usize,
+    byte: u8,
+    want: Result<(), InodeFault>,
+) -> Result<bool, InodeFault>
+    requires { volume.old.failed ≡ false }
+    ensures { OnOk result (volume.new.failed ≡ false) }
+{
+    match vec![in alloc; byte; count] {
+        Ok(bytes) => write(volume, number, at, &bytes, want),
+        Err(_) => Err(InodeFault::Device),
+    }
 }
 
-impl Model for Volume {
-    ghost use Rattle.layout.specs.declared.Geometry.{Geometry};
-
-    ghost Value = { Geometry };
-
-    ghost use Rattle.layout.specs.Sound.{IsSound};
-
-    ghost view = { λ v. v.geometry };
-
-    ghost invariant = { λ v. IsSound v.geometry v.disk.blocks };
+// The bytes are written, or this tells why they aren't.
+fn write(
+    volume: &mut Files,
+    number: usize,
+    at: usize,
+    bytes: &[u8],
+    want: Result<(), InodeFault>,
+) -> Result<bool, InodeFault>
+    requires { volume.old.failed ≡ false }
+    ensures { OnOk result (volume.new.failed ≡ false) }
+{
+    if !names(volume, number)? {
+        return Ok(false);
+    }
+    let told = volume.write_at(number, at, bytes);
+    if is_lost(&told) {
+        return Err(InodeFault::Device);
+    }
+    Ok(told == want)
 }
 
-impl Volume {
-    // One without files.
-    fn new(mut disk: Cache<FailAt<MemDisk>>, geometry: Geometry) -> Result<Volume, InodeFault>
-        requires parts { HasParts geometry disk.blocks }
-        requires size { 32 ≤ geometry.size }
-    {
-        format(&mut disk, geometry)?;
-        Ok(Volume { disk, geometry })
+// So many bytes are read into nine that were 1, which are these then.
+fn read(
+    volume: &mut Files,
+    number: usize,
+    at: usize,
+    count: usize,
+    bytes: [u8; 9],
+) -> Result<bool, InodeFault>
+    requires { volume.old.failed ≡ false }
+    ensures { OnOk result (volume.new.failed ≡ false) }
+{
+    if !names(volume, number)? {
+        return Ok(false);
     }
+    let mut out = [1; 9];
+    let read = volume.read_at(number, at, &mut out)?;
+    Ok(read == count && out == bytes)
+}
 
-    // Takes a step, and tells whether it gives what its row says.
-    fn walk(self, alloc: Global, step: Step) -> Result<(Volume, bool), InodeFault> {
-        match step {
-            Step::Create(number) => self.create(number),
-            Step::Fill(number, at, count, byte, want) => {
-                self.fill(alloc, number, at, count, byte, want)
-            }
-            Step::Write(number, at, bytes) => self.write(number, at, &bytes, Ok(())),
-            Step::Read(number, at, count, bytes) => self.read(number, at, count, bytes),
-            Step::Empty(number) => self.empty(number),
-            Step::Link(number, links, before) => self.link(number, links, before),
-        }
+// The file loses all its bytes.
+fn empty(volume: &mut Files, number: usize) -> Result<bool, InodeFault>
+    requires { volume.old.failed ≡ false }
+    ensures { OnOk result (volume.new.failed ≡ false) }
+{
+    if !names(volume, number)? {
+        return Ok(false);
     }
+    volume.truncate(number)?;
+    Ok(true)
+}
 
-    // Writes what the device lacks.
-    fn flush(self) -> Result<(), InodeFault> {
-        let Volume { mut disk, .. } = self;
-        disk.flush()?;
-        Ok(())
+// Sets the number of names of a file that had this type, number of names and size.
+fn link(
+    volume: &mut Files,
+    number: usize,
+    links: u16,
+    before: (u16, u16, u32),
+) -> Result<bool, InodeFault>
+    requires { volume.old.failed ≡ false }
+    ensures { OnOk result (volume.new.failed ≡ false) }
+{
+    if !names(volume, number)? {
+        return Ok(false);
     }
-
-    // A new file gets this number, or none is free.
-    fn create(self, want: Option<usize>) -> Result<(Volume, bool), InodeFault> {
-        let Volume { mut disk, geometry } = self;
-        match take_inode(&mut disk, geometry, 2, 0, 0, 1) {
-            Ok(number) => Ok((Volume { disk, geometry }, want == Some(number))),
-            Err(BallocFault::Inodes) => Ok((Volume { disk, geometry }, want.is_none())),
-            Err(_) => Err(InodeFault::Device),
-        }
-    }
-
-    // So many bytes are written, which are all alike.
-    fn fill(
-        self,
-        alloc: Global,
-        number: usize,
-        at: usize,
-        count: usize,
-        byte: u8,
-        want: Result<(), InodeFault>,
-    ) -> Result<(Volume, bool), InodeFault> {
-        match vec![in alloc; byte; count] {
-            Ok(bytes) => self.write(number, at, &bytes, want),
-            Err(_) => Err(InodeFault::Device),
-        }
-    }
-
-    // The bytes are written, or this tells why they aren't.
-    fn write(
-        self,
-        number: usize,
-        at: usize,
-        bytes: &[u8],
-        want: Result<(), InodeFault>,
-    ) -> Result<(Volume, bool), InodeFault> {
-        let Volume { mut disk, geometry } = self;
-        look_up(&mut disk, geometry, number)?;
-        let told = write_at(&mut disk, geometry, number, at, bytes);
-        if is_lost(&told) {
-            return Err(InodeFault::Device);
-        }
-        Ok((Volume { disk, geometry }, told == want))
-    }
-
-    // So many bytes are read into nine that were 1, which are these then.
-    fn read(
-        self,
-        number: usize,
-        at: usize,
-        count: usize,
-        bytes: [u8; 9],
-    ) -> Result<(Volume, bool), InodeFault> {
-        let Volume { mut disk, geometry } = self;
-        look_up(&mut disk, geometry, number)?;
-        let mut out = [1; 9];
-        let read = read_at(&mut disk, geometry, number, at, &mut out)?;
-        Ok((Volume { disk, geometry }, read == count && out == bytes))
-    }
-
-    // The file loses all its bytes.
-    fn empty(self, number: usize) -> Result<(Volume, bool), InodeFault> {
-        let Volume { mut disk, geometry } = self;
-        look_up(&mut disk, geometry, number)?;
-        truncate(&mut disk, geometry, number)?;
-        Ok((Volume { disk, geometry }, true))
-    }
-
-    // Sets the number of names of a file that had this type, number of names and size.
-    fn link(
-        self,
-        number: usize,
-        links: u16,
-        before: (u16, u16, u32),
-    ) -> Result<(Volume, bool), InodeFault> {
-        let Volume { mut disk, geometry } = self;
-        look_up(&mut disk, geometry, number)?;
-        let told = stat(&mut disk, geometry, number)?;
-        set_links(&mut disk, geometry, number, links)?;
-        let fits = (told.kind, told.links, told.size) == before;
-        Ok((Volume { disk, geometry }, fits))
-    }
+    let told = volume.stat(number)?;
+    volume.set_links(number, links)?;
+    Ok((told.kind, told.links, told.size) == before)
 }

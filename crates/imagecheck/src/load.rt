@@ -1,6 +1,7 @@
 //! Reading an image from its device.
 
 ghost use Rattle.std.specs.Prelude.{◌≡◌, ◌≤◌, ℕ, List, length, IfOk, IfErr, IsErrOf};
+ghost use Rattle.blockdev.specs.Reached.{LeadsOn};
 ghost use Rattle.unixmodel.specs.Failures.{Rises};
 ghost use Rattle.imagerules.specs.Content.{IsFront, image_of};
 ghost use Rattle.imagecheck.specs.Faults.{Begins, IsOfImage, IsOutside, Tells};
@@ -39,6 +40,7 @@ pub fn read_geometry<D: BlockDev>(format: Format, device: &mut D) -> Result<Geom
     ensures fault { IfErr result (λ fault. Tells (format_named format) (image_of (D.content device.old)) fault) }
     ensures memory { IsErrOf result ImageFault.NoMemory → ⊥ }
     ensures same { D.content device.new ≡ D.content device.old }
+    ensures leads { LeadsOn D.reached device.old device.new }
     ensures later { D.failures device.old ≤ D.failures device.new }
     ensures failed { IsErrOf result ImageFault.Device → Rises (D.failures device.old) (D.failures device.new) }
 {
@@ -61,6 +63,7 @@ pub fn read_blocks<A: Allocator, D: BlockDev>(
     ensures bytes { IfOk result (λ image. image.items ≡ image_of (D.content device.old)) }
     ensures only { IfErr result IsOutside }
     ensures same { D.content device.new ≡ D.content device.old }
+    ensures leads { LeadsOn D.reached device.old device.new }
     ensures later { D.failures device.old ≤ D.failures device.new }
     ensures failed { IsErrOf result ImageFault.Device → Rises (D.failures device.old) (D.failures device.new) }
 {

@@ -1,6 +1,7 @@
 //! The rules of an image, one after the other.
 
 ghost use Rattle.std.specs.Prelude.{◌≡◌, ◌≤◌, [], length, IfOk, IfErr, IsErrOf, OnOk};
+ghost use Rattle.blockdev.specs.Reached.{LeadsOn};
 ghost use Rattle.unixmodel.specs.Failures.{Rises};
 ghost use Rattle.unixmodel.specs.Files.{Files};
 ghost use Rattle.unixmodel.specs.Formats.{format, small};
@@ -116,6 +117,7 @@ fn check_in<A: Allocator, D: BlockDev>(
     ensures fault { IfErr result (λ fault. Tells (format_named format) (image_of (D.content device.old)) fault) }
     ensures refused { IfErr result (λ fault. IsOfImage fault → (files : Files) → DenotesIn (format_named format) (image_of (D.content device.old)) files → ⊥) }
     ensures same { D.content device.new ≡ D.content device.old }
+    ensures leads { LeadsOn D.reached device.old device.new }
     ensures later { D.failures device.old ≤ D.failures device.new }
     ensures failed { IsErrOf result ImageFault.Device → Rises (D.failures device.old) (D.failures device.new) }
 {
@@ -136,6 +138,7 @@ pub fn check<A: Allocator, D: BlockDev>(alloc: A, device: &mut D) -> Result<Summ
     ensures fault { IfErr result (λ fault. Tells format (image_of (D.content device.old)) fault) }
     ensures refused { IfErr result (λ fault. IsOfImage fault → (files : Files) → Denotes (image_of (D.content device.old)) files → ⊥) }
     ensures same { D.content device.new ≡ D.content device.old }
+    ensures leads { LeadsOn D.reached device.old device.new }
     ensures later { D.failures device.old ≤ D.failures device.new }
     ensures failed { IsErrOf result ImageFault.Device → Rises (D.failures device.old) (D.failures device.new) }
 {
@@ -151,6 +154,7 @@ pub fn check1<A: Allocator, D: BlockDev>(alloc: A, device: &mut D) -> Result<Sum
     ensures fault { IfErr result (λ fault. Tells small (image_of (D.content device.old)) fault) }
     ensures refused { IfErr result (λ fault. IsOfImage fault → (files : Files) → DenotesSmall (image_of (D.content device.old)) files → ⊥) }
     ensures same { D.content device.new ≡ D.content device.old }
+    ensures leads { LeadsOn D.reached device.old device.new }
     ensures later { D.failures device.old ≤ D.failures device.new }
     ensures failed { IsErrOf result ImageFault.Device → Rises (D.failures device.old) (D.failures device.new) }
 {

@@ -1,13 +1,13 @@
 -- The entries of a manifest, one after the other.
-use Rattle.std.proofs.Common.{◌≡◌, ℕ, ◌+◌, ◌<◌, ◌≤◌, List, [], Result, length, get_or, drop, ap, sym, refl, ◌∙◌, arith, subst}
+use Rattle.std.proofs.Common.{◌≡◌, ℕ, ◌+◌, ◌<◌, ◌≤◌, List, [], Result, length, get_or, drop, ap, sym, refl, ◌∙◌, arith, subst, false}
 use Rattle.std.proofs.lemmas.List.{drop_all, drop_more}
+use Rattle.tree.specs.Tree.{FileTree}
 use Rattle.unixmodel.specs.Files.{Files}
-use Rattle.unixmodel.specs.Manifest.{ManifestEntry, Wrong, and_then, bare_files, data_blocks_of, with_entries, with_manifest_entry}
-use Rattle.layout.specs.declared.Geometry.{Geometry}
-use Rattle.imagemake.specs.Begins.{AddsEntry, IsGoing, MakesEntries}
+use Rattle.unixmodel.specs.Manifest.{ManifestEntry, Wrong, and_then, bare_files, with_entries, with_manifest_entry}
+use Rattle.imagemake.specs.Begins.{AddsEntry, IsGoing, MakesEntries, made_by}
+use Rattle.imagemake.specs.Begun.{IsBegun, IsListed}
 use Rattle.imagemake.specs.Made.{MadeName}
 use Rattle.imagemake.specs.Making.{Refuses, entry_of, meaning}
-use Rattle.imagemake.specs.Stored.{Stores}
 use Rattle.imagemake.specs.declared.manifest.Entry.{Entry}
 use Rattle.imagemake.specs.declared.manifest.MakeFault.{MakeFault}
 use Rattle.imagemake.specs.declared.manifest.MakeFault.TheVariants.{NoMemory}
@@ -19,52 +19,46 @@ Refuses-step : (r : Result Files Wrong) (rest : Files → Result Files Wrong) (f
 Refuses-step r rest NoMemory h = tt
 Refuses-step r rest fault h = ap (λ x. and_then x rest) h
 
-module _ (g : Geometry) where
-  -- the root alone
-  pub IsGoing-root : (blocks : List (List ℕ)) (made : List MadeName) (entries : List ManifestEntry) → made ≡ [] → Stores g blocks (bare_files g.inodes) → IsGoing g blocks made entries entries
-  IsGoing-root blocks made entries none stores =
-      let inodes = stores.sound.parts.inodes_low in
-      let room = stores.sound.parts.room in
-      subst (λ m. IsGoing g blocks m entries entries) (sym none) (record {
-        files = bare_files g.inodes;
-        made_so_far = record {
-          stores = stores;
-          begun = IsBegun-bare g.inodes (omega arith) (data_blocks_of g.size g.inodes) (omega arith);
-          listed = IsListed-bare g.inodes (omega arith);
-        };
-        still = refl;
-      })
+-- the root alone
+pub going-root : {t : FileTree} (made : List MadeName) (entries : List ManifestEntry) → t.failed ≡ false → t.files ≡ bare_files (length t.files) → 16 ≤ length t.files → 1 ≤ t.block_limit → made ≡ [] → IsGoing t t made entries entries
+going-root {t} made entries up root some block none = subst (λ m. IsGoing t t m entries entries) (sym none) (record {
+  made_so_far = record {
+    up = up;
+    begun = subst (λ (fs : Files). IsBegun t.block_limit (length t.files) fs 2) (sym root) (IsBegun-bare (length t.files) (omega arith) t.block_limit block);
+    listed = subst (λ (fs : Files). IsListed fs []) (sym root) (IsListed-bare (length t.files) (omega arith));
+  };
+  rest = refl;
+  still = ap (λ (fs : Files). with_entries t.block_limit (length t.files) fs 2 entries) (sym root);
+})
 
-  module _ (old : List (List ℕ)) (made : List MadeName) (entries : List ManifestEntry) (es : List Entry) (i : ℕ) (e : Entry) (h : i < length es) (going : IsGoing g old made entries (meaning (drop i es))) where
-    rest_is : with_entries (data_blocks_of g.size g.inodes) g.inodes going.files (length made + 2) (meaning (drop i es))
-        ≡ and_then (with_manifest_entry (data_blocks_of g.size g.inodes) g.inodes going.files (length made + 2) (entry_of (get_or es i e)))
-        (λ more. with_entries (data_blocks_of g.size g.inodes) g.inodes more (length made + 2 + 1) (meaning (drop (i + 1) es)))
-    unfolding with_entries
-    rest_is = ap (λ xs. with_entries (data_blocks_of g.size g.inodes) g.inodes going.files (length made + 2) (meaning xs)) (drop_more es i e h)
+module _ {t now : FileTree} {made : List MadeName} {entries : List ManifestEntry} (es : List Entry) (i : ℕ) (e : Entry) (h : i < length es) (going : IsGoing t now made entries (meaning (drop i es))) where
+  abbrev one : Result Files Wrong
+  one = with_manifest_entry now.block_limit (length now.files) now.files (length made + 2) (entry_of (get_or es i e))
 
-    pub IsGoing-more : (new : List (List ℕ)) (now : List MadeName) → AddsEntry g new made now going.files (entry_of (get_or es i e)) → IsGoing g new now entries (meaning (drop (i + 1) es))
-    IsGoing-more new now adds =
-        let long : length made + 2 + 1 ≡ length now + 2 = omega (arith, adds.longer) in
-        record {
-          files = adds.more;
-          made_so_far = adds.made_more;
-          still = going.still ∙ rest_is
-              ∙ ap (λ r. and_then r (λ more. with_entries (data_blocks_of g.size g.inodes) g.inodes more (length made + 2 + 1) (meaning (drop (i + 1) es)))) adds.is
-              ∙ ap (λ n. with_entries (data_blocks_of g.size g.inodes) g.inodes adds.more n (meaning (drop (i + 1) es))) long;
-        }
+  abbrev others : Files → Result Files Wrong
+  others more = with_entries now.block_limit (length now.files) more (length made + 2 + 1) (meaning (drop (i + 1) es))
 
-    pub refused-going : (fault : MakeFault) → Refuses (with_manifest_entry (data_blocks_of g.size g.inodes) g.inodes going.files (length made + 2) (entry_of (get_or es i e))) fault
-        → Refuses (with_entries (data_blocks_of g.size g.inodes) g.inodes (bare_files g.inodes) 2 entries) fault
-    refused-going fault h =
-        subst (λ r. Refuses r fault) (sym (going.still ∙ rest_is))
-        (Refuses-step (with_manifest_entry (data_blocks_of g.size g.inodes) g.inodes going.files (length made + 2) (entry_of (get_or es i e)))
-        (λ more. with_entries (data_blocks_of g.size g.inodes) g.inodes more (length made + 2 + 1) (meaning (drop (i + 1) es))) fault h)
-
-  pub MakesEntries-going : (blocks : List (List ℕ)) (made : List MadeName) (entries : List ManifestEntry) (es : List Entry) (i : ℕ) → length es ≤ i → IsGoing g blocks made entries (meaning (drop i es)) → MakesEntries g blocks entries
+  rest_is : made_by t entries ≡ and_then one others
   unfolding with_entries
-  MakesEntries-going blocks made entries es i h going = record {
-    files = going.files;
-    is = going.still ∙ ap (λ xs. with_entries (data_blocks_of g.size g.inodes) g.inodes going.files (length made + 2) (meaning xs)) (drop_all i es h);
-    stores = going.made_so_far.stores;
-    rules = going.made_so_far.begun.rules;
-  }
+  rest_is = going.still ∙ ap (λ xs. with_entries now.block_limit (length now.files) now.files (length made + 2) (meaning xs)) (drop_more es i e h)
+
+  pub going-more : {new : FileTree} {names : List MadeName} → AddsEntry now new made names (entry_of (get_or es i e)) → IsGoing t new names entries (meaning (drop (i + 1) es))
+  going-more {new} {names} adds =
+      let next : length made + 2 + 1 ≡ length names + 2 = omega (arith, adds.longer) in
+      let limit : now.block_limit ≡ new.block_limit = sym (ap (λ (t : FileTree). t.block_limit) adds.rest) in
+      record {
+        made_so_far = adds.made_more;
+        rest = adds.rest ∙ ap (λ (t : FileTree). record t { files = new.files; failures = new.failures }) going.rest;
+        still = rest_is ∙ ap (λ r. and_then r others) adds.is ∙ (λ j. with_entries (limit j) (sym adds.long j) new.files (next j) (meaning (drop (i + 1) es)));
+      }
+
+  pub refused-going : (fault : MakeFault) → Refuses one fault → Refuses (made_by t entries) fault
+  refused-going fault h = subst (λ r. Refuses r fault) (sym rest_is) (Refuses-step one others fault h)
+
+pub makes-entries : {t now : FileTree} {made : List MadeName} {entries : List ManifestEntry} (es : List Entry) (i : ℕ) → length es ≤ i → IsGoing t now made entries (meaning (drop i es)) → MakesEntries t now entries
+unfolding with_entries
+makes-entries {now = now} {made = made} es i h going = record {
+  is = going.still ∙ ap (λ xs. with_entries now.block_limit (length now.files) now.files (length made + 2) (meaning xs)) (drop_all i es h);
+  rest = going.rest;
+  rules = going.made_so_far.begun.rules;
+}

@@ -1,57 +1,87 @@
--- From a disk that stores files to the bytes of an image that denotes them.
-use Rattle.std.proofs.Common.{◌≡◌, ℕ, ◌+◌, ◌*◌, ◌/◌, ◌%◌, ◌<◌, ◌≤◌, ◌&&◌, true, false, cond, List, ◌∷◌, None, Ok, Err, Result, length, nat_le, nat_lt, map, zero, suc, ap, sym, refl, ◌∙◌, arith, subst, replicate}
-use Rattle.std.specs.Prelude.{IfErr}
+-- From a blank disk to the bytes of an image that denotes files.
+use Rattle.std.proofs.Common.{◌≡◌, ℕ, ◌+◌, ◌*◌, ◌&&◌, true, false, cond, List, None, Ok, Err, Option, Result, get_or, length, nat_le, nat_lt, ap, sym, refl, ◌∙◌, arith, inl, inr, subst, replicate}
+use Rattle.std.specs.Prelude.{IfErr, IfOk, IsOk, OnOk}
 use Rattle.std.specs.Result.{IsErrAnd}
-use Rattle.std.proofs.lemmas.Bool.{and_parts}
+use Rattle.std.proofs.lemmas.Bool.{and_parts, cases_lt, false≢true}
 use Rattle.std.proofs.lemmas.Bool.Decides.{nat_tests}
-use Rattle.balloc.proofs.Exits.{told_err}
+use Rattle.std.proofs.lemmas.List.{get_or-replicate, get_or_past, length-replicate}
+use Rattle.balloc.specs.Format.{IsNew}
+use Rattle.cache.specs.Disk.{Disk}
+use Rattle.inode.specs.Store.{IsWhole, Store, store_over}
 use Rattle.layout.specs.declared.Geometry.{Geometry}
-use Rattle.layout.specs.Image.{free_blocks, nodes_of}
-use Rattle.layout.specs.Sound.{IsSound}
-use Rattle.layout.specs.Super.{data_start_of}
+use Rattle.layout.specs.Image.{RawNode}
+use Rattle.tree.specs.Stored.{FitsPlaces, IsFileSystem, IsStored, Stores}
+use Rattle.tree.specs.Tree.{FileTree, tree_over}
+use Rattle.tree.proofs.Following.{IsNow, now-limit}
+use Rattle.tree.proofs.Storing.{files-are, held-again}
 use Rattle.unixmodel.specs.Counts.{blocks_of}
-use Rattle.unixmodel.specs.Files.{free_slots}
+use Rattle.unixmodel.specs.Files.{Files, free_slots}
 use Rattle.unixmodel.specs.Formats.{format}
 use Rattle.unixmodel.specs.Image.{Denotes, data_start}
 use Rattle.unixmodel.specs.Manifest.{ManifestEntry, Wrong, bare_files, data_blocks_of, files_made, has_numbers, with_entries}
 use Rattle.unixmodel.specs.Manifest.Wrong.{Numbers}
-use Rattle.imagemake.specs.Begins.{MakesEntries}
+use Rattle.imagemake.specs.Added.{IsBlank, IsPossible}
+use Rattle.imagemake.specs.Begins.{MakesEntries, made_by}
 use Rattle.imagerules.specs.Content.{image_of}
-use Rattle.imagerules.proofs.ContentLemmas.{length-image_of}
 use Rattle.imagemake.specs.Making.{MakesImage, Refuses}
-use Rattle.imagemake.specs.Stored.{IsWhole, Stores, raw_slot}
 use Rattle.imagemake.specs.declared.manifest.MakeFault.{MakeFault}
 use Rattle.imagemake.specs.declared.manifest.MakeFault.TheVariants.{NoMemory}
-use Rattle.imagemake.proofs.Denoted.{Denotes-stored}
-use Rattle.imagemake.proofs.MadeBare.{no-files, slot-free}
+use Rattle.imagemake.proofs.Denoted.{Denotes-stored, length-stored}
+use Rattle.imagemake.proofs.MadeBare.{length-free, no-files, slot-free}
+use Rattle.imagemake.proofs.Owned.{told_err}
 
 -- ---- a disk without files
 
-map-none : (n : ℕ) → map raw_slot (replicate n None) ≡ replicate n None
-map-none zero = refl
-map-none (suc n) = ap (λ r. None ∷ r) (map-none n)
+pub blank-made : {D : Type 0} {g : Geometry} {disk : Disk D} {s : Store D} → IsNew g disk.blocks → s ≡ store_over g disk false → IsBlank g s
+blank-made {g = g} new is = subst (IsBlank g) (sym is) (record { numbers = refl; nodes = new.nodes; free = new.free; up = refl })
 
-pub Stores-none : (g : Geometry) (blocks : List (List ℕ)) → IsSound g blocks → nodes_of blocks g.inodes ≡ replicate g.inodes None → free_blocks g blocks + data_start_of g.size g.inodes ≡ g.size → Stores g blocks (free_slots g.inodes)
-unfolding free_slots
-Stores-none g blocks sound nodes free =
-    let z : blocks_of (free_slots g.inodes) ≡ 0 = no-files g.inodes in
-    record {
-      sound = sound;
-      nodes = nodes ∙ sym (map-none g.inodes);
-      free = omega arith;
-      whole = λ n. subst IsWhole (sym (slot-free g.inodes n)) tt;
-    }
+slot-none : (n m : ℕ) → get_or (replicate {A = Option RawNode} n None) m None ≡ None
+slot-none n m = elim (cases_lt m n) [ inl l ↦ get_or-replicate n m None None l | inr r ↦ get_or_past (replicate n None) m None (omega (arith, length-replicate {A = Option RawNode} n None)) ]
+
+module _ {D : Type 0} {g : Geometry} {s : Store D} (possible : IsPossible g) (blank : IsBlank g s) (whole : IsWhole s) where
+  blank-stores : Stores s (free_slots g.inodes)
+  blank-stores =
+      let free = blank.free in
+      let room = possible.room in
+      let all : s.free + blocks_of (free_slots g.inodes) ≡ data_blocks_of g.size g.inodes = omega (arith, no-files g.inodes) in
+      record {
+        whole = whole;
+        nodes = record {
+          count = ap length blank.nodes ∙ length-replicate {A = Option RawNode} g.inodes None ∙ sym (length-free g.inodes);
+          each = λ n l. rw (blank.nodes, slot-none g.inodes n, slot-free g.inodes n) tt;
+        };
+        free = all ∙ ap (λ (g : Geometry). data_blocks_of g.size g.inodes) (sym blank.numbers);
+        places = λ n. subst FitsPlaces (sym (slot-free g.inodes n)) tt;
+      }
+
+  pub blank-held : IsFileSystem s
+  blank-held = held-again blank-stores
+
+  pub blank-files : (tree_over s).files ≡ free_slots g.inodes
+  blank-files = files-are blank-stores
+
+  module _ {tree : FileTree} (is : tree ≡ tree_over s) where
+    pub tree-up : tree.failed ≡ false
+    tree-up = ap (λ (t : FileTree). t.failed) is ∙ blank.up
+
+    tree-files : tree.files ≡ free_slots g.inodes
+    tree-files = ap (λ (t : FileTree). t.files) is ∙ blank-files
+
+    pub tree-long : length tree.files ≡ g.inodes
+    tree-long = ap length tree-files ∙ length-free g.inodes
+
+    pub tree-none : tree.files ≡ free_slots (length tree.files)
+    tree-none = tree-files ∙ ap free_slots (sym tree-long)
+
+    pub tree-limit : tree.block_limit ≡ data_blocks_of g.size g.inodes
+    tree-limit = ap (λ (t : FileTree). t.block_limit) is ∙ ap (λ (g : Geometry). data_blocks_of g.size g.inodes) blank.numbers
+
+    pub tree-size : tree.size ≡ g.size
+    tree-size = ap (λ (t : FileTree). t.size) is ∙ ap (λ (g : Geometry). g.size) blank.numbers
 
 -- ---- numbers that an image can have
 
-pub record IsPossible (size inodes : ℕ) : Type 0 where
-  pub size_low : 32 ≤ size
-  pub size_high : size ≤ format.most
-  pub inodes_low : 16 ≤ inodes
-  pub inodes_high : inodes ≤ 8192
-  pub room : data_start_of size inodes < size
-
-pub possible : (size inodes : ℕ) → has_numbers size inodes ≡ true → IsPossible size inodes
+pub possible : (size inodes : ℕ) → has_numbers size inodes ≡ true → IsPossible (record { size = size; inodes = inodes })
 possible size inodes h =
     let a = and_parts (nat_le 32 size && nat_le size format.most && nat_le 16 inodes && nat_le inodes 8192) (nat_lt (data_start size inodes) size) h in
     let b = and_parts (nat_le 32 size && nat_le size format.most && nat_le 16 inodes) (nat_le inodes 8192) a.0 in
@@ -81,23 +111,42 @@ module _ (entries : List ManifestEntry) (size inodes : ℕ) where
   unfolding files_made
   refused-numbers h = ap (λ b. cond b (with_entries (data_blocks_of size inodes) inodes (bare_files inodes) 2 entries) (Err Numbers)) h
 
-  made-by : has_numbers size inodes ≡ true → files_made entries size inodes ≡ with_entries (data_blocks_of size inodes) inodes (bare_files inodes) 2 entries
+  made-with : has_numbers size inodes ≡ true → files_made entries size inodes ≡ with_entries (data_blocks_of size inodes) inodes (bare_files inodes) 2 entries
   unfolding files_made
-  made-by h = ap (λ b. cond b (with_entries (data_blocks_of size inodes) inodes (bare_files inodes) 2 entries) (Err Numbers)) h
+  made-with h = ap (λ b. cond b (with_entries (data_blocks_of size inodes) inodes (bare_files inodes) 2 entries) (Err Numbers)) h
 
-  pub refused-entries : has_numbers size inodes ≡ true → (fault : MakeFault) → Refuses (with_entries (data_blocks_of size inodes) inodes (bare_files inodes) 2 entries) fault → Refuses (files_made entries size inodes) fault
-  refused-entries h fault told = subst (λ r. Refuses r fault) (sym (made-by h)) told
+  -- by a tree that is blank
+  module _ (h : has_numbers size inodes ≡ true) (t : FileTree) (limit : t.block_limit ≡ data_blocks_of size inodes) (long : length t.files ≡ inodes) where
+    made-is : files_made entries size inodes ≡ made_by t entries
+    made-is = made-with h ∙ (λ i. with_entries (sym limit i) (sym long i) (bare_files (sym long i)) 2 entries)
 
-  pub MakesImage-entries : has_numbers size inodes ≡ true → (g : Geometry) (blocks : List (List ℕ)) (image : List ℕ) → g.size ≡ size → g.inodes ≡ inodes → MakesEntries g blocks entries → image ≡ image_of blocks → MakesImage entries size inodes image
-  MakesImage-entries h g blocks image e f makes bytes =
-      let made : files_made entries size inodes ≡ Ok makes.files =
-      made-by h ∙ ap (λ s. with_entries (data_blocks_of s inodes) inodes (bare_files inodes) 2 entries) (sym e)
-      ∙ ap (λ i. with_entries (data_blocks_of g.size i) i (bare_files i) 2 entries) (sym f) ∙ makes.is in
-      let parts = makes.stores.sound.parts in
-      record {
-        files = makes.files;
-        made = made;
-        denotes = subst (λ b. Denotes b makes.files) (sym bytes)
-            (Denotes-stored g blocks makes.files makes.stores makes.rules);
-        whole = ap length bytes ∙ length-image_of blocks parts.sizes ∙ ap (λ k. 1024 * k) (parts.count ∙ e);
-      }
+    pub refused-entries : (fault : MakeFault) → Refuses (made_by t entries) fault → Refuses (files_made entries size inodes) fault
+    refused-entries fault told = subst (λ r. Refuses r fault) (sym made-is) told
+
+    pub makes-image : {new : FileTree} → MakesEntries t new entries → t.size ≡ size → {blocks : List (List ℕ)} {image : List ℕ} → IsStored new.size blocks new.files → image ≡ image_of blocks → MakesImage entries size inodes image
+    makes-image {new} makes same {blocks} stored bytes = record {
+      files = new.files;
+      made = made-is ∙ makes.is;
+      denotes = subst (λ b. Denotes b new.files) (sym bytes) (Denotes-stored stored makes.rules);
+      whole = ap length bytes ∙ length-stored stored ∙ ap (λ k. 1024 * k) (ap (λ (t : FileTree). t.size) makes.rest ∙ same);
+    }
+
+-- ---- behind the root
+
+module _ {old mid : FileTree} {files : Files} (now : IsNow old mid files) (long : length mid.files ≡ length old.files) (entries : List ManifestEntry) where
+  made-same : made_by old entries ≡ made_by mid entries
+  made-same = λ i. with_entries (sym (now-limit now) i) (sym long i) (bare_files (sym long i)) 2 entries
+
+  pub makes-all : (new : FileTree) (r : Result (Unit {0}) MakeFault) → OnOk r (MakesEntries mid new entries) → OnOk r (MakesEntries old new entries)
+  makes-all new (Err fault) makes = tt
+  makes-all new (Ok u) makes = record { is = made-same ∙ makes.is; rest = makes.rest ∙ ap (λ (t : FileTree). record t { files = new.files; failures = new.failures }) now.is; rules = makes.rules }
+
+  pub refuses-all : (r : Result (Unit {0}) MakeFault) → IfErr r (λ fault. Refuses (made_by mid entries) fault) → IfErr r (λ fault. Refuses (made_by old entries) fault)
+  refuses-all (Ok u) refuses = tt
+  refuses-all (Err fault) refuses = subst (λ m. Refuses m fault) (sym made-same) refuses
+
+-- what a good end was told of
+pub when-ok : {T U E F : Type 0} {P : Type 0} {Q R : U → Type 0} (flushed : Result T E) (r : Result U F) → OnOk flushed P → OnOk r (IsOk flushed) → IfOk r Q → ((x : U) → P → Q x → R x) → IfOk r R
+when-ok flushed (Err e) left ok told so = tt
+when-ok (Err e) (Ok x) left ok told so = absurd (false≢true ok)
+when-ok (Ok y) (Ok x) left ok told so = so x left told

@@ -1,14 +1,16 @@
 -- The files of an image with a root alone keep the rules.
-use Rattle.std.proofs.Common.{◌≡◌, ◌≢◌, ℕ, zero, suc, ◌+◌, ◌-◌, ◌≤◌, false, List, [], ◌∷◌, ◌++◌, length, None, Option, Some, inl, inr, map, ap, sym, refl, ◌∙◌, arith, subst, IsSome, IsTrue, count_by, flat_map, is_some, option_map, sum_by, unwrap_or, ◌==◌}
+use Rattle.std.proofs.Common.{◌≡◌, ◌≢◌, ℕ, zero, suc, ◌+◌, ◌-◌, ◌<◌, ◌≤◌, false, true, List, [], ◌∷◌, ◌++◌, length, None, Option, Some, inl, inr, map, ap, sym, refl, ◌∙◌, arith, subst, IsSome, IsTrue, count_by, flat_map, is_some, option_map, sum_by, unwrap_or, ◌==◌}
 use Rattle.std.specs.List.{range_with_len}
 use Rattle.std.proofs.lemmas.Bool.{cases_lt, false≢true}
 use Rattle.std.proofs.lemmas.List.{get_or-replicate, get_or-set_other, get_or-set_same, get_or_past, length-replicate, length-set}
 use Rattle.std.proofs.lemmas.List.Elements.{All-nil}
 use Rattle.layout.proofs.Frame.{at_or}
 use Rattle.unixmodel.specs.Counts.{blocks_of}
-use Rattle.unixmodel.specs.Files.{Entry, Node, blocks_for, dot_dot, find, free_slots, is_directory, parts, size_of, slot, taken}
+use Rattle.unixmodel.specs.Files.{Entry, Node, blocks_for, dot, dot_dot, find, free_slots, is_directory, parts, size_of, slot, taken}
 use Rattle.unixmodel.specs.Image.{KeepsNode, KeepsRules, KeepsSize, all_entries, entries_of, is_name, names_of, parent_of, subdirectories}
-use Rattle.unixmodel.specs.Manifest.{bare_directory, bare_files}
+use Rattle.unixmodel.specs.Manifest.{Thing, bare_directory, bare_files, node_for}
+use Rattle.unixmodel.specs.Manifest.Thing.{Bytes, Folder, Special}
+use Rattle.imagemake.specs.Added.{PackedAt}
 use Rattle.imagemake.specs.Begun.{IsBegun}
 
 pub length-free : (n : ℕ) → length (free_slots {X = Node} n) ≡ n
@@ -34,6 +36,17 @@ no-files n = ap (sum_by (λ (node : Node). blocks_for (size_of node))) (taken-fr
 flat_map-none : {X Y : Type 0} (f : X → List Y) → ((x : X) → f x ≡ []) → (xs : List X) → flat_map f xs ≡ []
 flat_map-none f h [] = refl
 flat_map-none f h (x ∷ xs) = ap (λ r. r ++ flat_map f xs) (h x) ∙ flat_map-none f h xs
+
+both : (a b : Entry) (k : ℕ) → k < 2 → is_some (slot (Some a ∷ Some b ∷ []) k) ≡ true
+both a b zero h = refl
+both a b (suc zero) h = refl
+both a b (suc (suc k)) h = absurd (omega arith)
+
+-- each place of what a thing makes is in use
+pub packed-node : (n d : ℕ) (thing : Thing) → PackedAt (Some (node_for n d thing))
+packed-node n d (Bytes bytes) = tt
+packed-node n d (Special major minor) = tt
+packed-node n d Folder = both (record { name = dot; number = n }) (record { name = dot_dot; number = d })
 
 bare-blocks : (n : ℕ) → blocks_of (bare_files (suc (suc n))) ≡ 1
 unfolding bare_files blocks_of free_slots
@@ -121,4 +134,5 @@ module _ (inodes : ℕ) (some : 2 ≤ inodes) where
     free = λ m l. slot-bare m (λ e. absurd (omega arith));
     next = omega arith;
     room = omega (arith, room_bare);
+    packed = bare-each (λ m o. PackedAt o) (packed-node 1 1 Folder) (λ m s. tt);
   }

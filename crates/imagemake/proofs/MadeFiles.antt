@@ -1,15 +1,17 @@
 -- What an entry of a manifest makes keeps the rules of files.
-use Rattle.std.proofs.Common.{◌≡◌, ◌≢◌, ℕ, ◌+◌, ◌≤◌, Bool, List, None, Ok, Err, Option, Some, Result, inl, inr, true, false, cond, ap, sym, refl, ◌∙◌, arith, is_some, nat_le, option_map, unwrap_or, ◌&&◌}
+use Rattle.std.proofs.Common.{◌≡◌, ◌≢◌, ℕ, ◌+◌, ◌≤◌, Bool, List, None, Ok, Err, Option, Some, Result, inl, inr, true, false, cond, ap, sym, refl, ◌∙◌, arith, subst, is_some, nat_le, option_map, unwrap_or, ◌&&◌}
 use Rattle.std.proofs.lemmas.Bool.{and_parts, cases_eq, false≢true, leb-true}
 use Rattle.unixmodel.specs.Counts.{blocks_of}
 use Rattle.unixmodel.specs.Files.{Files, Node, longest, lookup, size_of, slot}
 use Rattle.unixmodel.specs.Image.{KeepsSize}
 use Rattle.unixmodel.specs.Manifest.{Thing, Wrong, added, if_room, is_short}
 use Rattle.unixmodel.specs.Manifest.Wrong.{Blocks}
-use Rattle.imagemake.specs.Added.{CanAdd}
+use Rattle.imagemake.specs.Added.{CanAdd, PackedAt}
 use Rattle.imagemake.specs.Begun.{IsBegun}
-use Rattle.imagemake.proofs.MadeEntry.{Adds, Adds-added, used-kept}
+use Rattle.imagemake.proofs.MadeEntry.{Adds, Adds-added, each-more, entry_for, used-kept}
+use Rattle.imagemake.proofs.MadeBare.{packed-node}
 use Rattle.imagemake.proofs.MadeRules.{KeepsRules-more}
+use Rattle.imagemake.proofs.Named.{packed-more}
 
 passes : (t : Bool) (files : Files) → ◌≡◌ {A = Result Files Wrong} (cond t (Ok files) (Err Blocks)) (Ok files) → t ≡ true
 passes true files h = refl
@@ -24,7 +26,7 @@ module _ {blocks inodes : ℕ} {files : Files} {n : ℕ} (b : IsBegun blocks ino
   more = added files d name n thing
 
   pub adds-more : Adds files more d can.links can.places name n thing
-  adds-more = Adds-added files d can.links can.places name n thing can.high can.unused can.directory
+  adds-more = Adds-added files d can.links can.places name n thing can.number.high can.number.unused can.directory
 
   pub IsBegun-more : lookup files d name ≡ None → if_room blocks d n more ≡ Ok more → IsBegun blocks inodes more (n + 1)
   IsBegun-more absent fits =
@@ -45,4 +47,5 @@ module _ {blocks inodes : ℕ} {files : Files} {n : ℕ} (b : IsBegun blocks ino
         free = λ m l. kept_free m (λ z. absurd (omega arith)) (b.free m (omega arith));
         next = omega arith;
         room = leb-true (blocks_of more) blocks s.1;
+        packed = each-more a (λ m o. PackedAt o) (subst PackedAt (sym a.here) (packed-node n d thing)) (subst PackedAt (sym a.above) (packed-more can.places (entry_for name n) can.packed)) (λ m s t. b.packed m);
       }

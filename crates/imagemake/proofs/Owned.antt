@@ -1,27 +1,24 @@
 -- A failed access is told only where the device owns up to it.
-use Rattle.std.proofs.Common.{◌≡◌, ℕ, ◌≤◌, List, Err, Ok, Result, ap, arith, refl, subst, sym, ◌∙◌, OnOk, is_err}
+use Rattle.std.proofs.Common.{◌≡◌, ℕ, ◌≤◌, Err, Ok, Result, ap, arith, refl, subst, sym, ◌∙◌, OnOk, is_err}
 use Rattle.unixmodel.specs.Failures.{HasCause, Rises}
-use Rattle.unixmodel.specs.Files.{Files, Node}
-use Rattle.layout.specs.declared.Geometry.{Geometry}
-use Rattle.balloc.proofs.Exits.{err_is}
-use Rattle.imagemake.specs.Added.{IsPut, Owns, OwnsUp}
+use Rattle.std.specs.Result.{IsErrAnd}
+use Rattle.std.proofs.lemmas.Result.{err_from_is_err_and}
+use Rattle.imagemake.specs.Added.{Owns}
 use Rattle.imagemake.specs.Begins.{BlamesDevice, make_fault}
 use Rattle.imagemake.specs.declared.manifest.MakeFault.{MakeFault}
 use Rattle.imagemake.specs.declared.store.StoreFault.{StoreFault}
 use Rattle.imagemake.specs.declared.store.StoreFault.TheVariants.{Blocks, Device}
 
--- what follows from three facts on a good answer
-pub OnOk-three : {T E P Q R S : Type 0} (r : Result T E) → (P → Q → R → S) → OnOk r P → OnOk r Q → OnOk r R → OnOk r S
-OnOk-three (Ok x) f p q r = f p q r
-OnOk-three (Err e) f p q r = tt
+-- the fault that is told
+pub told_err : {T E : Type 0} {fault : E} (r : Result T E) → IsErrAnd r (λ f. f ≡ fault) → r ≡ Err fault
+told_err r told = let err = err_from_is_err_and r told in err.1 ∙ ap Err err.2
+
+pub err_is : {T E : Type 0} (a b : E) → ◌≡◌ {A = Result T E} (Err a) (Err b) → a ≡ b
+err_is a b e = cc
 
 -- an error is no good answer
 pub none-done : {T E : Type 0} (P : Type 0) {r : Result T E} {fault : E} → r ≡ Err fault → OnOk r P
 none-done {T} {E} P e = subst (λ (x : Result T E). OnOk x P) (sym e) tt
-
--- a failed access says nothing of the files
-pub IsPut-failed : (g : Geometry) (blocks : List (List ℕ)) (files : Files) (n : ℕ) (node : Node) {r : Result (Unit {0}) StoreFault} → r ≡ Err Device → IsPut g blocks files n node r
-IsPut-failed g blocks files n node e = subst (IsPut g blocks files n node) (sym e) tt
 
 -- ---- the count of failures
 
@@ -48,6 +45,6 @@ module _ {F : Type 0} {fault : F} where
   pub Owns-other : {a c : ℕ} {other : F} {r : Result (Unit {0}) F} → a ≤ c → (other ≡ fault → ⊥) → r ≡ Err other → Owns fault a c r
   Owns-other {other = other} h differs is = record { later = h; failed = λ e. absurd (differs (err_is other fault (sym is ∙ e))) }
 
-pub Blames-stored : {a b c : ℕ} {r : Result (Unit {0}) MakeFault} (fault : StoreFault) → a ≤ b → OwnsUp b c (Err fault) → r ≡ Err (make_fault fault) → BlamesDevice a c r
+pub Blames-stored : {a b c : ℕ} {r : Result (Unit {0}) MakeFault} (fault : StoreFault) → a ≤ b → Owns Device b c (Err fault) → r ≡ Err (make_fault fault) → BlamesDevice a c r
 Blames-stored Blocks h owns is = Owns-other (let l = owns.later in omega arith) (λ e. cc) is
 Blames-stored Device h owns is = record { later = let l = owns.later in omega arith; failed = λ e. let rises = owns.failed refl in omega arith }

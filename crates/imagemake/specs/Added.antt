@@ -1,13 +1,17 @@
--- What the steps that put a node on a disk do to the files that it holds.
-use Rattle.std.specs.Prelude.{Err, IsErrOf, IsTrue, List, MatchResult, None, Ok, Option, Result, Some, length, ⊤, ℕ, ◌++◌, ◌<◌, ◌⊎◌, ◌≡◌, ◌≤◌}
+-- What the steps that put a node do to the files.
+use Rattle.std.specs.Prelude.{Err, IsErrOf, IsTrue, List, MatchResult, None, Ok, Option, Result, Some, is_some, length, replicate, true, ⊤, ℕ, ◌+◌, ◌<◌, ◌⊎◌, ◌≡◌, ◌≤◌, false}
+use Rattle.inode.specs.Store.{Store}
+use Rattle.layout.specs.declared.Geometry.{Geometry}
+use Rattle.layout.specs.Super.{data_start_of}
+use Rattle.tree.specs.Steps.{IsUnnamed}
+use Rattle.tree.specs.Tree.{FileTree}
 use Rattle.unixmodel.specs.Counts.{blocks_of}
 use Rattle.unixmodel.specs.Failures.{Rises}
-use Rattle.unixmodel.specs.Files.{Entry, Files, Node, is_directory, kind_of, links_of, longest, node_bytes, put, size_of, slot}
+use Rattle.unixmodel.specs.Files.{Entry, Files, Node, longest, put, size_of, slot}
 use Rattle.unixmodel.specs.Files.Node.{Directory}
+use Rattle.unixmodel.specs.Formats.{format}
 use Rattle.unixmodel.specs.Image.{is_name}
-use Rattle.unixmodel.specs.Manifest.{Thing, Wrong, added, data_blocks_of, if_room}
-use Rattle.layout.specs.declared.Geometry.{Geometry}
-use Rattle.imagemake.specs.Stored.{Stores, major_of, minor_of}
+use Rattle.unixmodel.specs.Manifest.{Thing, Wrong, added, if_room}
 use Rattle.imagemake.specs.declared.store.StoreFault.{StoreFault}
 use Rattle.imagemake.specs.declared.store.StoreFault.TheVariants.{Blocks, Device}
 
@@ -21,55 +25,70 @@ pub record Owns {E : Type 0} (fault : E) (before now : ℕ) (result : Result (Un
   pub later : before ≤ now
   pub failed : IsErrOf result fault → Rises before now
 
-abbrev pub OwnsUp : ℕ → ℕ → Result (Unit {0}) StoreFault → Type 0
-OwnsUp before now result = Owns Device before now result
+-- these are the files now, and all else is as before
+abbrev pub Becomes : FileTree → FileTree → Files → Type 0
+Becomes old new files = new ≡ record old { files = files; failures = new.failures }
+
+-- ---- a directory
+
+-- each place is in use
+abbrev pub IsPacked : List (Option Entry) → Type 0
+IsPacked places = (k : ℕ) → k < length places → is_some (slot places k) ≡ true
+
+abbrev pub PackedAt : Option Node → Type 0
+PackedAt (Some (Directory links places)) = IsPacked places
+PackedAt o = ⊤
+
+-- d is a directory that can have a name and a link more
+pub record HasDirectory (files : Files) (d : ℕ) : Type 0 where
+  pub links : ℕ
+  pub places : List (Option Entry)
+  pub here : slot files d ≡ Some (Directory links places)
+  pub few : links < 65535
+  pub packed : IsPacked places
 
 -- ---- a node
 
 -- with this node at n the files have no room: it is too long, or they take more blocks than there are
-abbrev pub LacksRoomFor : Geometry → Files → ℕ → Node → Type 0
-LacksRoomFor g files n node = (longest < size_of node) ⊎ (data_blocks_of g.size g.inodes < blocks_of (put files n node))
+abbrev pub LacksRoomFor : ℕ → Files → ℕ → Node → Type 0
+LacksRoomFor limit files n node = (longest < size_of node) ⊎ (limit < blocks_of (put files n node))
 
-abbrev pub IsPut : Geometry → List (List ℕ) → Files → ℕ → Node → Result (Unit {0}) StoreFault → Type 0
-IsPut g blocks files n node result =
-    MatchResult result (λ _. Stores g blocks (put files n node) × (size_of node ≤ longest)) (TellsFull (LacksRoomFor g files n node))
-
--- a node with these bytes more
-pub record Widens (bytes : List ℕ) (old new : Node) : Type 0 where
-  pub kind : kind_of new ≡ kind_of old
-  pub major : major_of new ≡ major_of old
-  pub minor : minor_of new ≡ minor_of old
-  pub links : links_of new ≡ links_of old
-  pub content : node_bytes new ≡ node_bytes old ++ bytes
-  pub size : size_of new ≡ length (node_bytes new)
-
--- ---- a directory
-
--- the disk holds files in which d is a directory that can have a link more
-pub record HasDirectory (g : Geometry) (blocks : List (List ℕ)) (d : ℕ) : Type 0 where
-  pub files : Files
-  pub node : Node
-  pub stores : Stores g blocks files
-  pub here : slot files d ≡ Some node
-  pub directory : IsTrue (is_directory node)
-  pub few : links_of node < 65535
+-- the node stands at n, or there is no room for it
+pub record Puts (old new : FileTree) (n : ℕ) (node : Node) (result : Result (Unit {0}) StoreFault) : Type 0 where
+  pub done : MatchResult result (λ _. Becomes old new (put old.files n node)) (TellsFull (LacksRoomFor old.block_limit old.files n node))
+  pub owns : Owns Device old.failures new.failures result
 
 -- ---- an entry
 
--- number n isn't in use, and is to have this name in directory d
+-- n isn't in use, and is to have this name in directory d, of which each place is
 pub record CanAdd (files : Files) (d : ℕ) (name : List ℕ) (n : ℕ) : Type 0 where
   pub links : ℕ
   pub places : List (Option Entry)
   pub directory : slot files d ≡ Some (Directory links places)
   pub few : links < 65535
+  pub packed : IsPacked places
   pub named : IsTrue (is_name name)
-  pub low : 1 ≤ n
-  pub high : n < length files
-  pub unused : slot files n ≡ None
+  pub number : IsUnnamed files n
 
--- the disk stores the files with the entry where they have room, and is refused exactly where they have none
-abbrev pub IsStored : Geometry → List (List ℕ) → Files → ℕ → List ℕ → ℕ → Thing → Result (Unit {0}) StoreFault → Type 0
-IsStored g blocks files d name n thing result =
-    MatchResult result
-    (λ _. Stores g blocks (added files d name n thing) × (if_room (data_blocks_of g.size g.inodes) d n (added files d name n thing) ≡ Ok (added files d name n thing)))
-    (TellsFull (if_room (data_blocks_of g.size g.inodes) d n (added files d name n thing) ≡ Err Wrong.Blocks))
+-- the files with the entry where they have room; it is refused exactly where they have none
+pub record Stores (old new : FileTree) (d : ℕ) (name : List ℕ) (n : ℕ) (thing : Thing) (result : Result (Unit {0}) StoreFault) : Type 0 where
+  pub stored : MatchResult result
+      (λ _. Becomes old new (added old.files d name n thing) × (if_room old.block_limit d n (added old.files d name n thing) ≡ Ok (added old.files d name n thing)))
+      (TellsFull (if_room old.block_limit d n (added old.files d name n thing) ≡ Err Wrong.Blocks))
+  pub owns : Owns Device old.failures new.failures result
+
+-- ---- a disk without files
+
+-- these numbers are those of an image
+pub record IsPossible (g : Geometry) : Type 0 where
+  pub size_low : 32 ≤ g.size
+  pub size_high : g.size ≤ format.most
+  pub inodes_low : 16 ≤ g.inodes
+  pub inodes_high : g.inodes ≤ 8192
+  pub room : data_start_of g.size g.inodes < g.size
+
+pub record IsBlank {D : Type 0} (g : Geometry) (s : Store D) : Type 0 where
+  pub numbers : s.geometry ≡ g
+  pub nodes : s.nodes ≡ replicate g.inodes None
+  pub free : s.free + data_start_of g.size g.inodes ≡ g.size
+  pub up : s.failed ≡ false

@@ -1,14 +1,13 @@
 -- The entries of a manifest as they are put on a disk.
-use Rattle.std.specs.Prelude.{List, None, Ok, Result, Some, length, true, ℕ, ◌+◌, ◌≡◌}
+use Rattle.std.specs.Prelude.{List, None, Ok, Result, Some, false, length, true, ℕ, ◌+◌, ◌≡◌}
 use Rattle.unixmodel.specs.Files.{Files, split_last}
 use Rattle.unixmodel.specs.Image.{KeepsRules}
-use Rattle.unixmodel.specs.Manifest.{ManifestEntry, Thing, bare_files, data_blocks_of, names_in, with_entries, with_manifest_entry}
-use Rattle.layout.specs.declared.Geometry.{Geometry}
-use Rattle.imagemake.specs.Added.{Owns}
+use Rattle.unixmodel.specs.Manifest.{ManifestEntry, Thing, Wrong, bare_files, names_in, with_entries, with_manifest_entry}
+use Rattle.tree.specs.Tree.{FileTree}
+use Rattle.imagemake.specs.Added.{Becomes, Owns}
 use Rattle.imagemake.specs.Begun.{IsBegun, IsListed}
 use Rattle.imagemake.specs.Made.{MadeName, found, is_folder, seek}
 use Rattle.imagemake.specs.Making.{Refuses}
-use Rattle.imagemake.specs.Stored.{Stores}
 use Rattle.imagemake.specs.declared.manifest.MakeFault.{MakeFault}
 use Rattle.imagemake.specs.declared.manifest.MakeFault.TheVariants as told
 use Rattle.imagemake.specs.declared.store.StoreFault.{StoreFault}
@@ -38,28 +37,32 @@ abbrev pub RefusesPath : List MadeName → List ℕ → MakeFault → Type 0
 RefusesPath made path fault =
     (blocks inodes : ℕ) (files : Files) (n : ℕ) (thing : Thing) → IsListed files made → Refuses (with_manifest_entry blocks inodes files n (record { path = path; thing = thing })) fault
 
--- the disk stores files of as many entries, which are those of the list
-pub record IsMade (g : Geometry) (blocks : List (List ℕ)) (made : List MadeName) (files : Files) : Type 0 where
-  pub stores : Stores g blocks files
-  pub begun : IsBegun (data_blocks_of g.size g.inodes) g.inodes files (length made + 2)
-  pub listed : IsListed files made
+-- the files are those of as many entries, which are those of the list
+pub record IsMade (t : FileTree) (made : List MadeName) : Type 0 where
+  pub up : t.failed ≡ false
+  pub begun : IsBegun t.block_limit (length t.files) t.files (length made + 2)
+  pub listed : IsListed t.files made
 
 -- an entry more
-pub record AddsEntry (g : Geometry) (blocks : List (List ℕ)) (made now : List MadeName) (files : Files) (entry : ManifestEntry) : Type 0 where
-  pub more : Files
-  pub is : with_manifest_entry (data_blocks_of g.size g.inodes) g.inodes files (length made + 2) entry ≡ Ok more
+pub record AddsEntry (old new : FileTree) (made now : List MadeName) (entry : ManifestEntry) : Type 0 where
+  pub is : with_manifest_entry old.block_limit (length old.files) old.files (length made + 2) entry ≡ Ok new.files
+  pub rest : Becomes old new new.files
+  pub long : length new.files ≡ length old.files
   pub longer : length now ≡ length made + 1
-  pub made_more : IsMade g blocks now more
+  pub made_more : IsMade new now
 
--- the disk stores what the entries make, and that keeps the rules
-pub record MakesEntries (g : Geometry) (blocks : List (List ℕ)) (entries : List ManifestEntry) : Type 0 where
-  pub files : Files
-  pub is : with_entries (data_blocks_of g.size g.inodes) g.inodes (bare_files g.inodes) 2 entries ≡ Ok files
-  pub stores : Stores g blocks files
-  pub rules : KeepsRules files
+-- what the entries make of files that have the root alone
+abbrev pub made_by : FileTree → List ManifestEntry → Result Files Wrong
+made_by t entries = with_entries t.block_limit (length t.files) (bare_files (length t.files)) 2 entries
 
--- the disk stores the files of the first entries, and what the rest makes of them is what all of them make
-pub record IsGoing (g : Geometry) (blocks : List (List ℕ)) (made : List MadeName) (entries rest : List ManifestEntry) : Type 0 where
-  pub files : Files
-  pub made_so_far : IsMade g blocks made files
-  pub still : with_entries (data_blocks_of g.size g.inodes) g.inodes (bare_files g.inodes) 2 entries ≡ with_entries (data_blocks_of g.size g.inodes) g.inodes files (length made + 2) rest
+-- the files are those that the entries make, and keep the rules
+pub record MakesEntries (old new : FileTree) (entries : List ManifestEntry) : Type 0 where
+  pub is : made_by old entries ≡ Ok new.files
+  pub rest : Becomes old new new.files
+  pub rules : KeepsRules new.files
+
+-- the files are those of the first entries, and what the rest makes of them is what all of them make
+pub record IsGoing (old now : FileTree) (made : List MadeName) (entries left : List ManifestEntry) : Type 0 where
+  pub made_so_far : IsMade now made
+  pub rest : Becomes old now now.files
+  pub still : made_by old entries ≡ with_entries now.block_limit (length now.files) now.files (length made + 2) left

@@ -3,6 +3,7 @@ use Rattle.std.specs.Prelude.{IsSome, List, None, length, true, ℕ, ◌<◌, �
 use Rattle.unixmodel.specs.Counts.{blocks_of}
 use Rattle.unixmodel.specs.Files.{Files, lookup, slot}
 use Rattle.unixmodel.specs.Image.{KeepsRules, is_directory_at, is_name}
+use Rattle.imagemake.specs.Added.{PackedAt}
 use Rattle.imagemake.specs.Made.{MadeName, found, is_folder}
 
 -- the numbers below n are in use, and the next entry takes number n
@@ -14,6 +15,7 @@ pub record IsBegun (blocks inodes : ℕ) (files : Files) (n : ℕ) : Type 0 wher
   pub free : (m : ℕ) → n ≤ m → slot files m ≡ None
   pub next : 2 ≤ n
   pub room : blocks_of files ≤ blocks
+  pub packed : (d : ℕ) → PackedAt (slot files d)
 
 -- the names that are made are those of the files
 pub record IsListed (files : Files) (made : List MadeName) : Type 0 where

@@ -3,4 +3,4 @@ pub mod Begins
 pub mod Begun
 pub mod Made
 pub mod Making
-pub mod Stored
+pub mod Nodes

@@ -1,20 +1,17 @@
-//! The entries of a manifest are put on a disk, one after the other.
+//! The entries of a manifest are put among files, one after the other.
 
-ghost use Rattle.std.specs.Prelude.{◌≡◌, ◌≤◌, ◌+◌, ◌<◌, [], length, IfOk, IfErr, OnOk};
-ghost use Rattle.unixmodel.specs.Files.{Files};
-ghost use Rattle.unixmodel.specs.Manifest.{bare_files, data_blocks_of, with_entries, with_manifest_entry};
-ghost use Rattle.imagemake.specs.Begins.{AddsEntry, BlamesDevice, IsMade, IsSpot, MakesEntries, RefusesPath};
+ghost use Rattle.std.specs.Prelude.{◌≡◌, ◌≤◌, ◌+◌, ◌<◌, [], false, length, IfOk, IfErr, OnOk};
+ghost use Rattle.unixmodel.specs.Manifest.{bare_files, with_manifest_entry};
+ghost use Rattle.imagemake.specs.Begins.{AddsEntry, BlamesDevice, IsMade, IsSpot, MakesEntries, RefusesPath, made_by};
 ghost use Rattle.imagemake.specs.Made.{HasRoom, LeadsTo};
 ghost use Rattle.imagemake.specs.Making.{Refuses, entry_of, meaning};
-ghost use Rattle.imagemake.specs.Stored.{Stores};
 
 use crate::made::{Made, Spot};
 use crate::manifest::{Entry, MakeFault};
 use crate::path::is_path;
 use crate::store::{StoreFault, store_entry};
 use blockdev::BlockDev;
-use cache::Cache;
-use layout::Geometry;
+use tree::Tree;
 
 impl From<StoreFault> for MakeFault {
     ghost use Rattle.std.specs.Prelude.{◌≡◌};
@@ -53,56 +50,49 @@ fn locate<'a>(made: &Made<'a>, path: &'a [u8]) -> Result<Spot<'a>, MakeFault>
     Ok(spot)
 }
 
-// Puts an entry on the disk.
+// Puts an entry among the files.
 fn add_entry<'a, D: BlockDev>(
-    disk: &mut Cache<D>,
-    geometry: Geometry,
+    tree: &mut Tree<D>,
     made: &mut Made<'a>,
     entry: &'a Entry,
 ) -> Result<(), MakeFault>
-    requires made { (files : Files) × IsMade geometry disk.old.blocks made.old.items files }
-    requires room { HasRoom geometry.inodes made.old }
-    ensures added { OnOk result ((files : Files) → IsMade geometry disk.old.blocks made.old.items files → AddsEntry geometry disk.new.blocks made.old.items made.new.items files (entry_of entry.now)) }
-    ensures room { OnOk result (HasRoom geometry.inodes made.new) }
-    ensures refused { IfErr result (λ fault. (files : Files) → IsMade geometry disk.old.blocks made.old.items files → Refuses (with_manifest_entry (data_blocks_of geometry.size geometry.inodes) geometry.inodes files (length made.old.items + 2) (entry_of entry.now)) fault) }
-    ensures count { length disk.new.blocks ≡ length disk.old.blocks }
-    ensures cause { BlamesDevice disk.old.failures disk.new.failures result }
+    requires made { IsMade tree.old made.old.items }
+    requires room { HasRoom (length tree.old.files) made.old }
+    ensures added { OnOk result (AddsEntry tree.old tree.new made.old.items made.new.items (entry_of entry.now)) }
+    ensures room { OnOk result (HasRoom (length tree.new.files) made.new) }
+    ensures refused { IfErr result (λ fault. Refuses (with_manifest_entry tree.old.block_limit (length tree.old.files) tree.old.files (length made.old.items + 2) (entry_of entry.now)) fault) }
+    ensures cause { BlamesDevice tree.old.failures tree.new.failures result }
 {
+    tree.is_whole();
     let path = entry.path.as_slice();
     let spot = locate(made, path)?;
     let number = made.len() + 2;
-    if number >= geometry.inodes {
+    if number >= tree.numbers() {
         return Err(MakeFault::Inodes);
     }
-    store_entry(
-        disk,
-        geometry,
-        spot.directory,
-        spot.below,
-        number,
-        &entry.thing,
-    )?;
+    store_entry(tree, spot.directory, spot.below, number, &entry.thing)?;
     made.push(spot, entry.thing.is_directory());
     Ok(())
 }
 
-// Puts all entries on a disk that has the root alone.
+// Puts all entries among files that have the root alone.
 pub fn add_entries<'a, D: BlockDev>(
-    disk: &mut Cache<D>,
-    geometry: Geometry,
+    tree: &mut Tree<D>,
     made: &mut Made<'a>,
     entries: &'a [Entry],
 ) -> Result<(), MakeFault>
-    requires root { Stores geometry disk.old.blocks (bare_files geometry.inodes) }
+    requires up { tree.old.failed ≡ false }
+    requires root { tree.old.files ≡ bare_files (length tree.old.files) }
+    requires some { 16 ≤ length tree.old.files }
+    requires block { 1 ≤ tree.old.block_limit }
     requires empty { made.old.items ≡ [] }
-    requires room { HasRoom geometry.inodes made.old }
-    ensures made { OnOk result (MakesEntries geometry disk.new.blocks (meaning entries.now)) }
-    ensures refused { IfErr result (λ fault. Refuses (with_entries (data_blocks_of geometry.size geometry.inodes) geometry.inodes (bare_files geometry.inodes) 2 (meaning entries.now)) fault) }
-    ensures count { length disk.new.blocks ≡ length disk.old.blocks }
-    ensures cause { BlamesDevice disk.old.failures disk.new.failures result }
+    requires room { HasRoom (length tree.old.files) made.old }
+    ensures made { OnOk result (MakesEntries tree.old tree.new (meaning entries.now)) }
+    ensures refused { IfErr result (λ fault. Refuses (made_by tree.old (meaning entries.now)) fault) }
+    ensures cause { BlamesDevice tree.old.failures tree.new.failures result }
 {
     for entry in entries {
-        add_entry(disk, geometry, made, entry)?;
+        add_entry(tree, made, entry)?;
     }
     Ok(())
 }

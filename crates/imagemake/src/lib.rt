@@ -1,12 +1,12 @@
 //! The making of an image from a manifest.
 #![tactic(auto)]
 
-ghost use Rattle.std.specs.Prelude.{◌≡◌, ◌<◌, ◌≤◌, ◌*◌, Err, [], length, IfOk, IfErr, OnOk};
-ghost use Rattle.blockdev.specs.Blocks.{AreBlocks};
-ghost use Rattle.layout.specs.Sound.{HasParts};
-ghost use Rattle.unixmodel.specs.Formats.{format};
-ghost use Rattle.unixmodel.specs.Manifest.{bare_files, data_blocks_of, files_made, has_numbers, with_entries};
-ghost use Rattle.imagemake.specs.Begins.{BlamesDevice, MakesEntries};
+ghost use Rattle.std.specs.Prelude.{◌≡◌, ◌<◌, ◌≤◌, ◌*◌, Err, IsOk, [], false, length, IfOk, IfErr, OnOk};
+ghost use Rattle.blockdev.specs.Blocks.{blocks_of};
+ghost use Rattle.unixmodel.specs.Files.{free_slots};
+ghost use Rattle.unixmodel.specs.Manifest.{files_made, has_numbers};
+ghost use Rattle.imagemake.specs.Added.{IsBlank, IsPossible};
+ghost use Rattle.imagemake.specs.Begins.{BlamesDevice, MakesEntries, made_by};
 ghost use Rattle.imagerules.specs.Content.{image_of};
 ghost use Rattle.imagemake.specs.Made.{HasRoom};
 ghost use Rattle.imagemake.specs.Making.{MakesImage, Refuses, meaning};
@@ -18,15 +18,16 @@ mod path;
 mod store;
 
 use balloc::format;
-use blockdev::{BLOCK_SIZE, BlockDev, MemDisk};
+use blockdev::{BLOCK_SIZE, BlockDev, DeviceFault, MemDisk};
 use cache::Cache;
 use entry::add_entries;
+use inode::Volume;
 use layout::{Geometry, MOST_BLOCKS};
 use made::Made;
 pub use manifest::{Entry, MakeFault, Manifest, Thing};
 use std::alloc::Global;
 use store::store_root;
-pub use store::{StoreFault, append};
+use tree::Tree;
 
 /// Makes an image of so many blocks and places for inodes.
 pub fn make(
@@ -45,10 +46,13 @@ pub fn make(
     if !is_possible(geometry) {
         return Err(MakeFault::Numbers);
     }
-    let mut disk = blank(alloc, geometry)?;
+    let volume = blank(alloc, geometry)?;
+    volume.is_whole();
+    let mut tree = Tree::new(alloc, volume)?;
     let mut made = Made::with_capacity(alloc, geometry.inodes)?;
-    put_files(&mut disk, geometry, &mut made, &manifest.entries)?;
-    bytes_of_disk(disk)
+    put_files(&mut tree, &mut made, &manifest.entries)?;
+    let (device, flushed) = tree.into_device();
+    bytes_left(device, flushed)
 }
 
 // Whether an image can have these numbers.
@@ -62,50 +66,54 @@ fn is_possible(geometry: Geometry) -> bool
         && geometry.data_start() < geometry.size
 }
 
-/// A disk of zeros, in memory. The fault is `NoMemory`.
-pub fn blank(alloc: Global, geometry: Geometry) -> Result<Cache<MemDisk>, MakeFault>
-    requires { geometry.size ≤ format.most }
-    ensures count { IfOk result (λ disk. length disk.blocks ≡ geometry.size) }
-    ensures sizes { IfOk result (λ disk. AreBlocks disk.blocks) }
+/// A disk without files, in memory. The fault is `NoMemory`.
+pub fn blank(alloc: Global, geometry: Geometry) -> Result<Volume<MemDisk>, MakeFault>
+    requires { IsPossible geometry }
+    ensures blank { IfOk result (IsBlank geometry) }
     ensures only { IfErr result (λ fault. fault ≡ MakeFault.NoMemory) }
 {
     let bytes = vec![in alloc; 0; BLOCK_SIZE * geometry.size]?;
     let Ok(device) = MemDisk::new(bytes) else {
         return Err(MakeFault::NoMemory);
     };
-    Ok(Cache::new(alloc, device)?)
+    let mut disk = Cache::new(alloc, device)?;
+    let Ok(()) = format(&mut disk, geometry) else {
+        return Err(MakeFault::NoMemory);
+    };
+    let volume = Volume::new(disk, geometry);
+    Ok(volume)
 }
 
-// Puts the root and the entries on a disk.
+// Puts the root and the entries among files of which there are none.
 fn put_files<'a, D: BlockDev>(
-    disk: &mut Cache<D>,
-    geometry: Geometry,
+    tree: &mut Tree<D>,
     made: &mut Made<'a>,
     entries: &'a [Entry],
 ) -> Result<(), MakeFault>
-    requires parts { HasParts geometry disk.old.blocks }
-    requires size { 32 ≤ geometry.size }
+    requires up { tree.old.failed ≡ false }
+    requires none { tree.old.files ≡ free_slots (length tree.old.files) }
+    requires some { 16 ≤ length tree.old.files }
+    requires block { 1 ≤ tree.old.block_limit }
     requires empty { made.old.items ≡ [] }
-    requires room { HasRoom geometry.inodes made.old }
-    ensures made { OnOk result (MakesEntries geometry disk.new.blocks (meaning entries.now)) }
-    ensures refused { IfErr result (λ fault. Refuses (with_entries (data_blocks_of geometry.size geometry.inodes) geometry.inodes (bare_files geometry.inodes) 2 (meaning entries.now)) fault) }
-    ensures count { length disk.new.blocks ≡ length disk.old.blocks }
-    ensures cause { BlamesDevice disk.old.failures disk.new.failures result }
+    requires room { HasRoom (length tree.old.files) made.old }
+    ensures made { OnOk result (MakesEntries tree.old tree.new (meaning entries.now)) }
+    ensures refused { IfErr result (λ fault. Refuses (made_by tree.old (meaning entries.now)) fault) }
+    ensures cause { BlamesDevice tree.old.failures tree.new.failures result }
 {
-    let Ok(()) = format(disk, geometry) else {
+    let Ok(()) = store_root(tree) else {
         return Err(MakeFault::NoMemory);
     };
-    store_root(disk, geometry)?;
-    add_entries(disk, geometry, made, entries)
+    add_entries(tree, made, entries)
 }
 
-/// The bytes of a disk. The fault is `NoMemory`.
-pub fn bytes_of_disk(mut disk: Cache<MemDisk>) -> Result<Vec<u8>, MakeFault>
-    ensures bytes { IfOk result (λ bytes. bytes.items ≡ image_of disk.blocks) }
+/// The bytes that are left of a disk. The fault is `NoMemory`, and comes where an access failed.
+pub fn bytes_left(device: MemDisk, flushed: Result<(), DeviceFault>) -> Result<Vec<u8>, MakeFault>
+    ensures bytes { IfOk result (λ bytes. bytes.items ≡ image_of (blocks_of device.bytes)) }
+    ensures flushed { OnOk result (IsOk flushed) }
     ensures only { IfErr result (λ fault. fault ≡ MakeFault.NoMemory) }
 {
-    let Ok(()) = disk.flush() else {
+    let Ok(()) = flushed else {
         return Err(MakeFault::NoMemory);
     };
-    Ok(disk.into_device().into_bytes())
+    Ok(device.into_bytes())
 }

@@ -5,11 +5,11 @@ use Rattle.layout.specs.declared.Geometry.{Geometry}
 use Rattle.layout.specs.Image.{IsInode, inode_at}
 use Rattle.layout.specs.Sound.{IsSound}
 use Rattle.inode.specs.declared.InodeStat.{InodeStat}
-use Rattle.inode.specs.Looking.{IsTold, told}
+use Rattle.inode.specs.Looking.{IsTold, node_in, told}
 use Rattle.inode.proofs.Growing.{own_length}
 use Rattle.inode.proofs.Reading.{HasInode-read}
 
-pub told-inode : {g : Geometry} {blocks : List (List ℕ)} {n : ℕ} {inode : DiskInode} {s : InodeStat} → IsSound g blocks → IsInode blocks g.inodes n → inode ≡ inode_at blocks n → s ≡ told inode → IsTold blocks n s
+pub told-inode : {g : Geometry} {blocks : List (List ℕ)} {n : ℕ} {inode : DiskInode} {s : InodeStat} → IsSound g blocks → IsInode blocks g.inodes n → inode ≡ inode_at blocks n → s ≡ told inode → IsTold (node_in blocks n) s
 told-inode {g} {blocks} {n} {inode} {s} sound used same tells = record {
   kind = ap (λ (t : InodeStat). t.kind) tells ∙ ap (λ (i : DiskInode). i.kind) same;
   major = ap (λ (t : InodeStat). t.major) tells ∙ ap (λ (i : DiskInode). i.major) same;

@@ -3,3 +3,4 @@ pub mod Reading
 pub mod Writing
 pub mod Freeing
 pub mod Looking
+pub mod Store

@@ -3,7 +3,7 @@ use Rattle.std.proofs.Common.{◌≡◌, ◌∙◌, ℕ, IsSome, List, Option, S
 use Rattle.mount.specs.Mounted.{IsMounted}
 use Rattle.names.proofs.Naming.{find-used}
 use Rattle.tree.specs.Tree.{FileTree}
-use Rattle.tree.proofs.Looking.{node-of}
+use Rattle.tree.proofs.Storing.{node-of}
 use Rattle.unixmodel.specs.Files.{Node, find, kind_of, slot}
 use Rattle.unixmodel.specs.Files.Node.{Device, Directory, File}
 use Rattle.listings.specs.Listed.{IsAtRest, IsFolder}

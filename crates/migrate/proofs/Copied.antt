@@ -1,26 +1,31 @@
 -- The nodes of an old image are copied one after the other.
 use Rattle.std.proofs.Common.{◌≡◌, ◌≢◌, ℕ, ◌+◌, ◌<◌, ◌≤◌, ◌==◌, List, None, Option, Some, length, ap, sym, ◌∙◌, arith, subst, cond}
 use Rattle.std.proofs.lemmas.List.{length-replicate}
-use Rattle.unixmodel.specs.Files.{Files, Node, free_slots, longest, put, size_of, slot}
+use Rattle.unixmodel.specs.Files.{Files, Node, free_slots, longest, put, slot}
 use Rattle.unixmodel.specs.Formats.{large, most_bytes, small}
-use Rattle.unixmodel.specs.Image.{DenotesSmall, FitsSize, IsNode, KeepsRules, KeepsRulesTo, Stands, format_of, kind_in}
+use Rattle.unixmodel.specs.Image.{DenotesSmall, FitsSize, KeepsNode, KeepsRules, KeepsRulesTo, Stands, format_of, kind_in}
 use Rattle.layout.specs.declared.Geometry.{Geometry}
 use Rattle.imagerules.specs.Fields.{HasGeometry}
 use Rattle.imagerules.specs.Places.{files_in, node_in}
 use Rattle.imagerules.specs.Rules.{BlockRules, BlockRules-of}
 use Rattle.imagerules.proofs.Denoting.{HasKinds-denotes, HasSizes-denotes}
 use Rattle.imagerules.proofs.Nodes.{file_in-free, file_in-used, slot-files_in}
-use Rattle.imagemake.specs.Stored.{Stores}
+use Rattle.inode.specs.Store.{Store}
+use Rattle.tree.specs.Stored.{FitsPlaces}
+use Rattle.imagerules.proofs.Bounds.{inodes-least}
+use Rattle.imagerules.proofs.Denoting.{node_fits}
+use Rattle.imagerules.proofs.Nodes.{PlacesFit}
+use Rattle.unixmodel.specs.Files.Node.{Device, Directory, File}
 use Rattle.imagemake.proofs.MadeBare.{slot-free}
-use Rattle.migrate.specs.Copies.{Lacks}
+use Rattle.migrate.specs.Copies.{CanStand, Copies, Lacks}
 use Rattle.migrate.specs.declared.fault.MigrateFault.{MigrateFault}
 use Rattle.migrate.specs.declared.fault.MigrateFault.TheVariants.{Blocks, Image, NoMemory}
 use Rattle.migrate.proofs.Parts.{IsPart, IsPart-all, IsPart-blocks, IsPart-free, IsPart-put}
 
 -- the disk stores the nodes below n
-pub record HasCopied (g : Geometry) (blocks : List (List ℕ)) (n : ℕ) (files : Files) : Type 0 where
+pub record HasCopied {D : Type 0} (g : Geometry) (s : Store D) (n : ℕ) (files : Files) : Type 0 where
   pub now : Files
-  pub stores : Stores g blocks now
+  pub copies : Copies g s now
   pub part : IsPart n now files
 
 -- what some of the files lack, all of them lack
@@ -29,13 +34,18 @@ Lacks-part g part (Image fault) h = absurd h
 Lacks-part g part Blocks h = let most = IsPart-blocks part in omega arith
 Lacks-part g part NoMemory h = tt
 
-pub copied-all : {g : Geometry} {blocks : List (List ℕ)} {n : ℕ} {files : Files} → HasCopied g blocks n files → n ≡ length files → Stores g blocks files
-copied-all {g} {blocks} {n} {files} copied e = subst (Stores g blocks) (IsPart-all (subst (λ k. IsPart k copied.now files) e copied.part)) copied.stores
+pub copied-all : {D : Type 0} {g : Geometry} {s : Store D} {n : ℕ} {files : Files} → HasCopied g s n files → n ≡ length files → Copies g s files
+copied-all {g = g} {s} {n} {files} copied e = subst (Copies g s) (IsPart-all (subst (λ k. IsPart k copied.now files) e copied.part)) copied.copies
 
 -- a file of the format of small files is none too long
 fits-more : (o : Option Node) → FitsSize (most_bytes small) o → FitsSize longest o
 fits-more None h = tt
 fits-more (Some node) h = omega arith
+
+places-fit : (node : Node) → PlacesFit node → FitsPlaces (Some node)
+places-fit (Directory links places) h = h
+places-fit (File links bytes) h = tt
+places-fit (Device links major minor) h = tt
 
 length-free : (n : ℕ) → length (free_slots {X = Node} n) ≡ n
 unfolding free_slots
@@ -62,10 +72,13 @@ module _ (old : List ℕ) (d : DenotesSmall old (files_in old)) where
     pub count-files : length (files_in old) ≡ g.inodes
     count-files = d.count ∙ sym has.inodes
 
-    pub copied-none : (blocks : List (List ℕ)) → Stores g blocks (free_slots g.inodes) → HasCopied g blocks 1 (files_in old)
-    copied-none blocks stores = record {
+    inodes-most : g.inodes ≤ 8192
+    inodes-most = let super = d.super in let most = super.inodes_most in omega (arith, has.inodes)
+
+    pub copied-none : {D : Type 0} {s : Store D} → Copies g s (free_slots g.inodes) → HasCopied g s 1 (files_in old)
+    copied-none copies = record {
       now = free_slots g.inodes;
-      stores = stores;
+      copies = copies;
       part = record {
         count = length-free g.inodes ∙ sym count-files;
         before = λ k l. let first : k ≡ 0 = omega arith in slot-free g.inodes k ∙ sym (ap (slot (files_in old)) first ∙ d.zero);
@@ -74,25 +87,26 @@ module _ (old : List ℕ) (d : DenotesSmall old (files_in old)) where
     }
 
     -- a number that isn't in use has no node
-    pub copied-free : {before : List (List ℕ)} (n : ℕ) → n < g.inodes → kind_in old n ≡ 0 → HasCopied g before n (files_in old) → HasCopied g before (n + 1) (files_in old)
-    copied-free n high free copied = record { now = copied.now; stores = copied.stores; part = IsPart-free copied.part (slot-files_in old n (omega (arith, has.inodes)) ∙ file_in-free old n free) }
+    pub copied-free : {D : Type 0} {s : Store D} (n : ℕ) → n < g.inodes → kind_in old n ≡ 0 → HasCopied g s n (files_in old) → HasCopied g s (n + 1) (files_in old)
+    copied-free n high free copied = record { now = copied.now; copies = copied.copies; part = IsPart-free copied.part (slot-files_in old n (omega (arith, has.inodes)) ∙ file_in-free old n free) }
 
     module _ (n : ℕ) (low : 1 ≤ n) (high : n < g.inodes) (used : kind_in old n ≢ 0) where
       pub node-here : slot (files_in old) n ≡ Some (node_in old n)
       node-here = slot-files_in old n (omega (arith, has.inodes)) ∙ file_in-used old n low used
 
-      pub node-is : IsNode old n (node_in old n)
-      node-is = subst (Stands old n) node-here (d.nodes n low (omega (arith, has.inodes)))
+      pub node-stands : CanStand old n (node_in old n)
+      node-stands = record {
+        is = subst (Stands old n) node-here (d.nodes n low (omega (arith, has.inodes)));
+        short = subst (FitsSize longest) node-here (rules-more.sizes n);
+        fits = places-fit (node_in old n) (node_fits (files_in old) n (node_in old n) (omega (arith, inodes-least has, count-files)) (omega (arith, inodes-most, count-files)) (omega (arith, count-files)) (subst (KeepsNode (files_in old) n) node-here (d.rules.nodes n)));
+      }
 
-      pub node-fits : size_of (node_in old n) ≤ longest
-      node-fits = subst (FitsSize longest) node-here (rules-more.sizes n)
-
-      pub copied-more : {before after : List (List ℕ)} (copied : HasCopied g before n (files_in old)) → Stores g after (put copied.now n (node_in old n)) → HasCopied g after (n + 1) (files_in old)
-      copied-more copied stores = record {
+      pub copied-more : {D : Type 0} {before after : Store D} (copied : HasCopied g before n (files_in old)) → Copies g after (put copied.now n (node_in old n)) → HasCopied g after (n + 1) (files_in old)
+      copied-more copied copies = record {
         now = put copied.now n (node_in old n);
-        stores = stores;
+        copies = copies;
         part = IsPart-put copied.part (omega (arith, count-files)) node-here;
       }
 
-      pub lacks-more : {before : List (List ℕ)} (copied : HasCopied g before n (files_in old)) (fault : MigrateFault) → Lacks g (put copied.now n (node_in old n)) fault → Lacks g (files_in old) fault
+      pub lacks-more : {D : Type 0} {before : Store D} (copied : HasCopied g before n (files_in old)) (fault : MigrateFault) → Lacks g (put copied.now n (node_in old n)) fault → Lacks g (files_in old) fault
       lacks-more copied fault lacks = Lacks-part g (IsPart-put copied.part (omega (arith, count-files)) node-here) fault lacks

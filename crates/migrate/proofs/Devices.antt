@@ -3,7 +3,7 @@ use Rattle.std.proofs.Common.{◌≡◌, ◌≢◌, ℕ, List, arith, refl}
 use Rattle.unixmodel.specs.Files.{Node}
 use Rattle.unixmodel.specs.Files.Node.{Device, Directory, File}
 use Rattle.unixmodel.specs.Image.{IsNode, kind_in, major_in, minor_in}
-use Rattle.imagemake.specs.Stored.{major_of, minor_of}
+use Rattle.imagemake.specs.Nodes.{major_of, minor_of}
 
 module _ (image : List ℕ) (n : ℕ) where
   pub major-device : (node : Node) → IsNode image n node → kind_in image n ≡ 3 → major_in image n ≡ major_of node

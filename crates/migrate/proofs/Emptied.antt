@@ -1,80 +1,117 @@
--- A node is copied: first without its bytes, and then they come behind.
-use Rattle.std.proofs.Common.{◌≡◌, ℕ, List, [], ◌++◌, None, Some, length, set, ap, sym, refl, ◌∙◌, arith}
+-- A node is copied: first without its bytes, and then they come.
+use Rattle.std.proofs.Common.{◌++◌, ◌≡◌, ◌<◌, ◌+◌, ℕ, List, [], None, Some, length, ap, refl, ◌∙◌, arith, subst}
+use Rattle.std.specs.Prelude.{Err, IsSome, Ok, false, is_some, unwrap_or}
+use Rattle.std.proofs.lemmas.List.{append-nil, drop_all, get_or-set_same, length-set, set-set}
+use Rattle.blockdev.specs.Splice.{splice}
+use Rattle.unixmodel.specs.Counts.{blocks_of}
 use Rattle.unixmodel.specs.Files.{Files, Node, blocks_for, kind_of, links_of, node_bytes, put, size_of, slot}
 use Rattle.unixmodel.specs.Files.Node.{Device, Directory, File}
-use Rattle.unixmodel.specs.Image.{IsNode, contents_in, length_in}
+use Rattle.unixmodel.specs.Manifest.{data_blocks_of}
 use Rattle.layout.specs.declared.Geometry.{Geometry}
-use Rattle.layout.specs.Image.{free_blocks, nodes_of}
-use Rattle.layout.specs.Sound.{IsSound}
-use Rattle.balloc.specs.Inodes.{IsUnused, fresh_node}
-use Rattle.imagemake.specs.Added.{Widens}
-use Rattle.imagemake.specs.Stored.{Stores, major_of, minor_of, raw_of}
-use Rattle.imagemake.proofs.Storing.{Stores-put, length-stored, used_by}
+use Rattle.layout.specs.Image.{RawNode, taken_for}
+use Rattle.balloc.specs.Inodes.{fresh_node}
+use Rattle.inode.specs.Store.{Changes, IsFull, LacksWriting, Serves, Store, Writes, is_device, no_node, raw_at, with_bytes}
+use Rattle.inode.specs.declared.InodeFault.{InodeFault}
+use Rattle.inode.specs.declared.InodeFault.TheVariants.{Blocks, Device, PastEnd, TooLong}
+use Rattle.tree.specs.Stored.{FitsPlaces, IsRaw, Stores}
+use Rattle.tree.proofs.Bridging.{taken-grows}
+use Rattle.tree.proofs.Storing.{Stores-set, blocks_of-set, length-held, taken_by, whole-node}
+use Rattle.imagemake.specs.Nodes.{major_of, minor_of}
+use Rattle.migrate.specs.Copies.{CanStand, Copies, Lacks, write_fault}
 
 -- the node without its bytes
-abbrev pub emptied : Node → Node
+abbrev emptied : Node → Node
 emptied (File links bytes) = File links []
 emptied (Device links major minor) = Device links major minor
 emptied (Directory links places) = Directory links []
 
-fresh-emptied : (node : Node) → fresh_node (kind_of node) (major_of node) (minor_of node) (links_of node) ≡ raw_of (emptied node)
-fresh-emptied (File links bytes) = refl
-fresh-emptied (Device links major minor) = refl
-fresh-emptied (Directory links places) = refl
+raw-emptied : (node : Node) → IsRaw (fresh_node (kind_of node) (major_of node) (minor_of node) (links_of node)) (emptied node)
+raw-emptied (File links bytes) = record { kind = refl; links = refl; bytes = refl; device = tt }
+raw-emptied (Device links major minor) = record { kind = refl; links = refl; bytes = refl; device = (refl, refl) }
+raw-emptied (Directory links places) = record { kind = refl; links = refl; bytes = refl; device = tt }
+
+emptied-fits : (node : Node) → FitsPlaces (Some (emptied node))
+emptied-fits (File links bytes) = tt
+emptied-fits (Device links major minor) = tt
+emptied-fits (Directory links places) = λ k d l. absurd (omega arith)
+
+raw-whole : (node : Node) → IsRaw (with_bytes (fresh_node (kind_of node) (major_of node) (minor_of node) (links_of node)) (node_bytes node)) node
+raw-whole (File links bytes) = record { kind = refl; links = refl; bytes = refl; device = tt }
+raw-whole (Device links major minor) = record { kind = refl; links = refl; bytes = refl; device = (refl, refl) }
+raw-whole (Directory links places) = record { kind = refl; links = refl; bytes = refl; device = tt }
 
 emptied-size : (node : Node) → size_of (emptied node) ≡ 0
 emptied-size (File links bytes) = refl
 emptied-size (Device links major minor) = refl
 emptied-size (Directory links places) = refl
 
-emptied-bytes : (node : Node) → node_bytes (emptied node) ≡ []
-emptied-bytes (File links bytes) = refl
-emptied-bytes (Device links major minor) = refl
-emptied-bytes (Directory links places) = refl
-
-emptied-kind : (node : Node) → kind_of node ≡ kind_of (emptied node)
-emptied-kind (File links bytes) = refl
-emptied-kind (Device links major minor) = refl
-emptied-kind (Directory links places) = refl
-
-emptied-major : (node : Node) → major_of node ≡ major_of (emptied node)
-emptied-major (File links bytes) = refl
-emptied-major (Device links major minor) = refl
-emptied-major (Directory links places) = refl
-
-emptied-minor : (node : Node) → minor_of node ≡ minor_of (emptied node)
-emptied-minor (File links bytes) = refl
-emptied-minor (Device links major minor) = refl
-emptied-minor (Directory links places) = refl
-
-emptied-links : (node : Node) → links_of node ≡ links_of (emptied node)
-emptied-links (File links bytes) = refl
-emptied-links (Device links major minor) = refl
-emptied-links (Directory links places) = refl
+-- bytes of a node that has none
+splice-none : (bytes : List ℕ) → splice 0 bytes [] ≡ bytes
+splice-none bytes = ap (λ r. bytes ++ r) (drop_all (0 + length bytes) [] (omega arith)) ∙ append-nil bytes
 
 -- the fields of a node without bytes
-fresh-same : {k k' a a' i i' l l' : ℕ} → k ≡ k' → a ≡ a' → i ≡ i' → l ≡ l' → fresh_node k a i l ≡ fresh_node k' a' i' l'
-fresh-same k a i l = λ at. fresh_node (k at) (a at) (i at) (l at)
+pub fresh-as : {D : Type 0} {old mid : Store D} {n : ℕ} (node : Node) {kind major minor links : ℕ} → kind ≡ kind_of node → major ≡ major_of node → minor ≡ minor_of node → links ≡ links_of node → Changes old mid n (Some (fresh_node kind major minor links))
+    → Changes old mid n (Some (fresh_node (kind_of node) (major_of node) (minor_of node) (links_of node)))
+fresh-as {D} {old} {mid} {n} node k a i l = subst (λ raw. Changes old mid n (Some raw)) (λ at. fresh_node (k at) (a at) (i at) (l at))
 
--- an inode is taken for it
-pub Stores-emptied : (g : Geometry) (old new : List (List ℕ)) (n : ℕ) (node : Node) {kind major minor links : ℕ} → kind ≡ kind_of node → major ≡ major_of node → minor ≡ minor_of node → links ≡ links_of node
-    → IsUnused g old n → IsSound g new → nodes_of new g.inodes ≡ set (nodes_of old g.inodes) n (Some (fresh_node kind major minor links)) → free_blocks g new ≡ free_blocks g old
-    → (files : Files) → Stores g old files → slot files n ≡ None → Stores g new (put files n (emptied node))
-Stores-emptied g old new n node k a i l fresh sound nodes free files stores none =
-    let no_blocks : blocks_for (size_of (emptied node)) ≡ 0 = ap blocks_for (emptied-size node) in
-    let unused : used_by (slot files n) ≡ 0 = ap used_by none in
-    Stores-put g old new files stores n (emptied node) (omega (arith, fresh.high, length-stored g old files stores)) sound
-    (nodes ∙ ap (λ raw. set (nodes_of old g.inodes) n (Some raw)) (fresh-same k a i l ∙ fresh-emptied node))
-    (ap length (emptied-bytes node) ∙ sym (emptied-size node))
-    (omega arith)
+module _ {D : Type 0} {g : Geometry} {s : Store D} {now : Files} (copies : Copies g s now) where
+  pub in-files : (n : ℕ) → n < g.inodes → n < length now
+  in-files n h = let long = length-held copies.stores in let same = ap (λ (g : Geometry). g.inodes) copies.numbers in omega arith
 
--- its bytes are appended
-pub Widens-emptied : (image : List ℕ) (n : ℕ) (node : Node) → IsNode image n node → length (contents_in image n) ≡ length_in image n → Widens (contents_in image n) (emptied node) node
-Widens-emptied image n node is long = record {
-  kind = emptied-kind node;
-  major = emptied-major node;
-  minor = emptied-minor node;
-  links = emptied-links node;
-  content = sym is.contents ∙ ap (λ front. front ++ contents_in image n) (sym (emptied-bytes node));
-  size = sym is.size ∙ sym long ∙ ap length is.contents;
-}
+  pub taken-some : {mid : Store D} (n : ℕ) → n < length now → {raw : RawNode} → Changes s mid n (Some raw) → IsSome (slot mid.nodes n)
+  taken-some n high {raw} changes = ap (λ ns. is_some (slot ns n)) changes.nodes ∙ ap is_some (get_or-set_same s.nodes n (Some raw) None (omega (arith, copies.stores.nodes.count)))
+
+module _ {D : Type 0} {g : Geometry} {old : Store D} {now : Files} (copies : Copies g old now) (n : ℕ) (high : n < length now) (none : slot now n ≡ None) (node : Node) where
+  abbrev raw : RawNode
+  raw = fresh_node (kind_of node) (major_of node) (minor_of node) (links_of node)
+
+  module _ {mid : Store D} (same : mid.geometry ≡ old.geometry) (taken : Changes old mid n (Some raw)) where
+    -- its number is taken
+    pub taken-stores : Stores mid (put now n (emptied node))
+    taken-stores = Stores-set copies.stores n (Some raw) (Some (emptied node)) high taken same (raw-emptied node) (emptied-fits node)
+
+    raw-is : raw_at mid.nodes n ≡ raw
+    raw-is = ap (λ ns. raw_at ns n) taken.nodes ∙ ap (λ o. unwrap_or o no_node) (get_or-set_same old.nodes n (Some raw) None (omega (arith, copies.stores.nodes.count)))
+
+    module _ {image : List ℕ} (stands : CanStand image n node) {bytes : List ℕ} (are : bytes ≡ node_bytes node) where
+      -- its bytes are written
+      pub written-copies : {reached : D → D → Type 0} {new : Store D} {u : Unit {0}} → Serves reached is_device mid new (Ok u) (λ _. Writes mid new n 0 bytes) (LacksWriting mid new n 0 bytes) → Copies g new (put now n node)
+      written-copies {new = new} written =
+          let still = written.follows.geometry in
+          let all : with_bytes (raw_at mid.nodes n) (splice 0 bytes (raw_at mid.nodes n).bytes) ≡ with_bytes raw (node_bytes node) =
+          ap (λ r. with_bytes r (splice 0 bytes r.bytes)) raw-is ∙ ap (with_bytes raw) (splice-none bytes ∙ are) in
+          record {
+            numbers = still ∙ same ∙ copies.numbers;
+            up = written.failed;
+            stores = subst (Stores new) (set-set now n (Some (emptied node)) (Some node))
+                (Stores-set taken-stores n (Some (with_bytes raw (node_bytes node))) (Some node) (omega (arith, length-set now n (Some (emptied node)))) (subst (λ r. Changes mid new n (Some r)) all written.done.changes) still (raw-whole node) stands.fits);
+          }
+
+      -- or need more blocks than there are
+      full-lacks : {new : Store D} (k : ℕ) → IsFull mid new n 0 bytes k → data_blocks_of g.size g.inodes < blocks_of (put now n node)
+      full-lacks k full =
+          let left = full.some_left in
+          let few : mid.free + taken_for 0 < taken_for (0 + k + 1) = subst (λ r. mid.free + taken_for (length r.bytes) < taken_for (0 + k + 1)) raw-is full.few in
+          let size = ap length are ∙ whole-node node stands.fits in
+          let grows = taken-grows (0 + k + 1) (size_of node) (omega arith) in
+          let b = blocks_of-set now n (Some node) high in
+          let e = blocks_of-set now n (Some (emptied node)) high in
+          let was : taken_by (slot now n) ≡ 0 = ap taken_by none in
+          let bare : taken_by (Some (emptied node)) ≡ 0 = ap blocks_for (emptied-size node) in
+          let zero : taken_for 0 ≡ 0 = refl in
+          let all = taken-stores.free in
+          subst (λ (g : Geometry). data_blocks_of g.size g.inodes < blocks_of (put now n node)) (same ∙ copies.numbers) (omega arith)
+
+      lacks : (new : Store D) (fault : InodeFault) → (is_device fault ≡ false → LacksWriting mid new n 0 bytes fault) → Lacks g (put now n node) (write_fault fault)
+      lacks new Device why = tt
+      lacks new PastEnd why = absurd (let past = (why refl).1 in omega arith)
+      lacks new TooLong why =
+          let long = (why refl).2 in
+          let size = ap length are ∙ whole-node node stands.fits in
+          let short = stands.short in
+          absurd (omega arith)
+      lacks new (Blocks k) why = full-lacks k (why refl)
+
+      -- why not all go
+      pub refused-lacks : {reached : D → D → Type 0} {new : Store D} {fault : InodeFault} → Serves {T = Unit {0}} reached is_device mid new (Err fault) (λ _. Writes mid new n 0 bytes) (LacksWriting mid new n 0 bytes) → Lacks g (put now n node) (write_fault fault)
+      refused-lacks {new = new} {fault} written = lacks new fault written.refused

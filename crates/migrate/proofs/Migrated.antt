@@ -1,44 +1,75 @@
 -- The image that an old one becomes.
-use Rattle.std.proofs.Common.{◌≡◌, ℕ, ◌≤◌, List, length, ap, sym, ◌∙◌, arith, subst}
-use Rattle.blockdev.specs.Blocks.{AreBlocks}
-use Rattle.unixmodel.specs.Files.{Files}
-use Rattle.unixmodel.specs.Formats.{Format, format}
-use Rattle.unixmodel.specs.Image.{Denotes, DenotesSmall, inodes_in, size_in}
-use Rattle.layout.specs.Sound.{HasParts}
+use Rattle.std.proofs.Common.{◌≡◌, ◌+◌, ℕ, List, None, length, get_or, ap, sym, ◌∙◌, arith, subst}
+use Rattle.std.proofs.lemmas.List.{get_or-replicate, length-replicate}
+use Rattle.inode.specs.Store.{IsLaidOut, IsWhole, Store}
+use Rattle.layout.proofs.Frame.{length-nodes_of}
 use Rattle.layout.specs.declared.Geometry.{Geometry}
+use Rattle.unixmodel.specs.Counts.{blocks_of}
+use Rattle.unixmodel.specs.Files.{Files, free_slots}
+use Rattle.unixmodel.specs.Formats.{Format}
+use Rattle.unixmodel.specs.Image.{Denotes, DenotesSmall, inodes_in, size_in}
+use Rattle.unixmodel.specs.Manifest.{data_blocks_of}
 use Rattle.imagerules.specs.Content.{image_of}
 use Rattle.imagerules.specs.Fields.{HasGeometry}
 use Rattle.imagerules.specs.Places.{files_in}
 use Rattle.imagerules.proofs.Denoting.{Denotes-files}
-use Rattle.imagemake.specs.Stored.{Stores}
+use Rattle.imagemake.specs.Added.{IsBlank, IsPossible}
 use Rattle.imagemake.proofs.Denoted.{Denotes-stored, legible}
-use Rattle.migrate.proofs.Copied.{rules-more, small-format}
+use Rattle.imagemake.proofs.MadeBare.{length-free, no-files, slot-free}
+use Rattle.migrate.proofs.Copied.{count-files, rules-more, small-format}
+use Rattle.migrate.specs.Copies.{Copies}
+use Rattle.std.proofs.lemmas.Bool.{false≢true}
+use Rattle.std.specs.Prelude.{Err, IsOk, Ok, OnOk, Result}
+use Rattle.blockdev.specs.declared.DeviceFault.{DeviceFault}
+use Rattle.tree.proofs.Serving.{stored-after}
+use Rattle.tree.proofs.Storing.{files-are, held-again}
+use Rattle.tree.specs.Stored.{FitsPlaces, IsStored, files_of}
+
+-- what the device has that is left
+pub left-stored : {D : Type 0} {g : Geometry} {s : Store D} {files : Files} (left : List (List ℕ)) → Copies g s files → (r : Result (Unit {0}) DeviceFault) → IsOk r → OnOk r (IsLaidOut s.geometry left s.nodes s.free) → IsStored g.size left files
+left-stored left copies (Err fault) ok laid = absurd (false≢true ok)
+left-stored {g = g} {s} {files} left copies (Ok u) ok laid =
+    subst (λ fs. IsStored g.size left fs) (files-are copies.stores) (subst (λ (h : Geometry). IsStored h.size left (files_of s.nodes)) copies.numbers (stored-after left (Ok u) (held-again copies.stores) laid))
 
 module _ (old : List ℕ) (d : DenotesSmall old (files_in old)) (g : Geometry) (has : HasGeometry old g) where
-  pub size-low : 32 ≤ g.size
-  size-low = let least = d.super.size_least in omega (arith, has.size)
-
-  pub size-high : g.size ≤ format.most
-  size-high = let most = d.super.size_most in omega (arith, has.size, ap (λ (f : Format). f.most) (small-format old d))
-
-  pub parts-blank : (blocks : List (List ℕ)) → length blocks ≡ g.size → AreBlocks blocks → HasParts g blocks
-  parts-blank blocks count sizes =
+  pub possible : IsPossible g
+  possible =
       let super = d.super in
       record {
-        count = count;
-        sizes = sizes;
-        size_high = size-high;
+        size_low = let least = super.size_least in omega (arith, has.size);
+        size_high = let most = super.size_most in omega (arith, has.size, ap (λ (f : Format). f.most) (small-format old d));
         inodes_low = let least = super.inodes_least in omega (arith, has.inodes);
         inodes_high = let most = super.inodes_most in omega (arith, has.inodes);
         room = let blocks_in = super.blocks in let some = super.some_blocks in omega (arith, has.size, has.inodes);
       }
 
-  module _ (blocks : List (List ℕ)) (stores : Stores g blocks (files_in old)) where
+  -- a disk without files
+  pub blank-copies : {D : Type 0} {s : Store D} → IsBlank g s → IsWhole s → Copies g s (free_slots g.inodes)
+  unfolding free_slots
+  blank-copies {D} {s} blank whole = record {
+    numbers = blank.numbers;
+    up = blank.up;
+    stores = record {
+      whole = whole;
+      nodes = record {
+        count = ap length blank.nodes ∙ length-replicate g.inodes None ∙ sym (length-free g.inodes);
+        each = λ n l. rw (ap (λ ns. get_or ns n None) blank.nodes ∙ get_or-replicate g.inodes n None None (omega (arith, length-free g.inodes)), slot-free g.inodes n) tt;
+      };
+      free =
+          let none = no-files g.inodes in
+          let free = blank.free in
+          let all : s.free + blocks_of (free_slots g.inodes) ≡ data_blocks_of g.size g.inodes = omega arith in
+          all ∙ ap (λ (g : Geometry). data_blocks_of g.size g.inodes) (sym blank.numbers);
+      places = λ n. subst FitsPlaces (sym (slot-free g.inodes n)) tt;
+    };
+  }
+
+  module _ (blocks : List (List ℕ)) (stored : IsStored g.size blocks (files_in old)) where
     pub denotes-migrated : (files : Files) → DenotesSmall old files → Denotes (image_of blocks) files
-    denotes-migrated files e = subst (Denotes (image_of blocks)) (sym (Denotes-files old files e)) (Denotes-stored g blocks (files_in old) stores (rules-more old d))
+    denotes-migrated files e = subst (Denotes (image_of blocks)) (sym (Denotes-files old files e)) (Denotes-stored stored (rules-more old d))
 
     pub size-migrated : size_in (image_of blocks) ≡ size_in old
-    size-migrated = sym (legible g blocks stores.sound).size ∙ has.size
+    size-migrated = sym (legible stored.geometry blocks stored.sound).size ∙ stored.size_is ∙ has.size
 
     pub inodes-migrated : inodes_in (image_of blocks) ≡ inodes_in old
-    inodes-migrated = sym (legible g blocks stores.sound).inodes ∙ has.inodes
+    inodes-migrated = sym (legible stored.geometry blocks stored.sound).inodes ∙ sym (length-nodes_of blocks stored.geometry.inodes) ∙ stored.nodes.count ∙ count-files old d g has ∙ has.inodes

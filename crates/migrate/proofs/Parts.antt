@@ -5,7 +5,7 @@ use Rattle.std.proofs.lemmas.List.{ext_get_or, get_or-set_other, get_or-set_same
 use Rattle.std.proofs.lemmas.List.Sums.{sum_by-cons}
 use Rattle.unixmodel.specs.Counts.{blocks_of}
 use Rattle.unixmodel.specs.Files.{Files, Node, put, slot}
-use Rattle.imagemake.proofs.Storing.{blocks_of-used, used_by}
+use Rattle.tree.proofs.Storing.{sum-taken, taken_by}
 
 -- now has the nodes below n of the files, and no others
 pub record IsPart (n : ℕ) (now files : Files) : Type 0 where
@@ -39,19 +39,20 @@ pub IsPart-all : {now files : Files} → IsPart (length files) now files → now
 IsPart-all {now} {files} part = ext_get_or None now files part.count (λ k l. part.before k (let c = part.count in omega arith))
 
 -- they take no more blocks
-used-below : (now files : Files) → length now ≡ length files → ((k : ℕ) → used_by (slot now k) ≤ used_by (slot files k)) → sum_by used_by now ≤ sum_by used_by files
+used-below : (now files : Files) → length now ≡ length files → ((k : ℕ) → taken_by (slot now k) ≤ taken_by (slot files k)) → sum_by taken_by now ≤ sum_by taken_by files
 used-below [] [] e below = omega arith
 used-below [] (o ∷ os) e below = absurd (omega arith)
 used-below (o ∷ os) [] e below = absurd (omega arith)
 used-below (o ∷ os) (p ∷ ps) e below =
     let rest = used-below os ps (omega arith) (λ k. below (suc k)) in
     let first = below 0 in
-    omega (arith, sum_by-cons used_by o os, sum_by-cons used_by p ps)
+    omega (arith, sum_by-cons taken_by o os, sum_by-cons taken_by p ps)
 
 pub IsPart-blocks : {n : ℕ} {now files : Files} → IsPart n now files → blocks_of now ≤ blocks_of files
+unfolding blocks_of
 IsPart-blocks {n} {now} {files} part =
     let below = used-below now files part.count (λ k. elim (cases_lt k n) [
-      | inl low ↦ omega (arith, ap used_by (part.before k low))
-      | inr past ↦ omega (arith, ap used_by (part.after k past))
+      | inl low ↦ omega (arith, ap taken_by (part.before k low))
+      | inr past ↦ omega (arith, ap taken_by (part.after k past))
     ]) in
-    omega (arith, blocks_of-used now, blocks_of-used files)
+    omega (arith, sum-taken now, sum-taken files)

@@ -1,31 +1,44 @@
 -- What is told of an image that isn't migrated.
-use Rattle.std.proofs.Common.{◌≡◌, ℕ, ◌≤◌, List, Err, Result, ap, sym, arith, subst, inl, inr, refl}
-use Rattle.unixmodel.specs.Files.{Files, Node, longest, put, size_of}
+use Rattle.std.proofs.Common.{◌≡◌, ◌∙◌, ℕ, List, Err, Ok, Result, ap, subst, refl}
+use Rattle.unixmodel.specs.Files.{Files}
 use Rattle.unixmodel.specs.Formats.{small}
 use Rattle.unixmodel.specs.Image.{DenotesSmall}
-use Rattle.layout.specs.declared.Geometry.{Geometry}
 use Rattle.imagecheck.specs.Faults.{IsOfImage, Tells}
 use Rattle.imagecheck.specs.declared.ImageFault.{ImageFault}
 use Rattle.imagecheck.specs.declared.ImageFault.TheVariants as checked
-use Rattle.imagemake.specs.Added.{IsPut}
-use Rattle.imagemake.specs.declared.store.StoreFault.{StoreFault}
-use Rattle.imagemake.specs.declared.store.StoreFault.TheVariants as stored
-use Rattle.migrate.specs.Copies.{IsCopied, image_fault, store_fault}
+use Rattle.std.specs.Result.{IsErrAnd}
+use Rattle.std.proofs.lemmas.Result.{err_from_is_err_and}
+use Rattle.inode.specs.Store.{Store}
+use Rattle.layout.specs.declared.Geometry.{Geometry}
+use Rattle.migrate.specs.Copies.{IsCopied, Lacks, image_fault}
 use Rattle.migrate.specs.declared.fault.MigrateFault.{MigrateFault}
 use Rattle.migrate.specs.declared.fault.MigrateFault.TheVariants.{Blocks, Image, NoMemory}
 
+-- ---- of a result
+
+pub told_err : {T E : Type 0} {fault : E} (r : Result T E) → IsErrAnd r (λ f. f ≡ fault) → r ≡ Err fault
+told_err r h = let p = err_from_is_err_and r h in p.1 ∙ ap Err p.2
+
+abbrev fault_or : {T E : Type 0} → Result T E → E → E
+fault_or (Ok x) other = other
+fault_or (Err fault) other = fault
+
+pub err_is : {T E : Type 0} (e f : E) → ◌≡◌ {A = Result T E} (Err e) (Err f) → e ≡ f
+err_is e f h = ap (λ r. fault_or r e) h
+
+pub not_err : {T E : Type 0} (x : T) (e : E) → ◌≡◌ {A = Result T E} (Ok x) (Err e) → ⊥
+not_err x e h = cc
+
 -- ---- of a copy
 
--- the lack of memory says nothing of the files
-pub IsCopied-memory : (g : Geometry) (blocks : List (List ℕ)) (files : Files) {r : Result (Unit {0}) MigrateFault} → r ≡ Err NoMemory → IsCopied g blocks files r
-IsCopied-memory g blocks files e = subst (IsCopied g blocks files) (sym e) tt
+module _ {D : Type 0} (g : Geometry) (s : Store D) (files : Files) (r : Result (Unit {0}) MigrateFault) where
+  -- a fault says what the files lack
+  pub copied-lacks : (fault : MigrateFault) → IsErrAnd r (λ f. f ≡ fault) → Lacks g files fault → IsCopied g s files r
+  copied-lacks fault told lacks = rw (told_err r told) lacks
 
--- a node's bytes aren't put
-pub IsCopied-refused : (g : Geometry) (blocks : List (List ℕ)) (files : Files) (n : ℕ) (node : Node) (fault : StoreFault) {r : Result (Unit {0}) MigrateFault}
-    → r ≡ Err (store_fault fault) → size_of node ≤ longest → IsPut g blocks files n node (Err fault) → IsCopied g blocks (put files n node) r
-IsCopied-refused g blocks files n node stored.Blocks e short lacks =
-    subst (IsCopied g blocks (put files n node)) (sym e) (elim lacks [ inl long ↦ absurd (omega arith) | inr full ↦ full ])
-IsCopied-refused g blocks files n node stored.Device e short lacks = IsCopied-memory g blocks (put files n node) e
+  -- the lack of memory says nothing of them
+  pub copied-memory : IsErrAnd r (λ f. f ≡ NoMemory) → IsCopied g s files r
+  copied-memory told = copied-lacks NoMemory told tt
 
 -- ---- of an old image
 

@@ -1,20 +1,18 @@
 //! The nodes of an old image are put on a new disk, by their numbers.
 
 ghost use Rattle.std.specs.Prelude.{◌≡◌, ◌≢◌, ◌<◌, ◌≤◌, None};
-ghost use Rattle.unixmodel.specs.Files.{Files, Node, free_slots, longest, put, size_of, slot};
+ghost use Rattle.unixmodel.specs.Files.{Files, Node, free_slots, put, slot};
 ghost use Rattle.unixmodel.specs.Image.{DenotesSmall, IsNode, kind_in};
 ghost use Rattle.imagerules.specs.Fields.{HasGeometry, HasPlace};
 ghost use Rattle.imagerules.specs.Places.{files_in};
 ghost use Rattle.imagerules.specs.Rules.{BlockRules};
-ghost use Rattle.imagemake.specs.Stored.{Stores, major_of, minor_of};
-ghost use Rattle.migrate.specs.Copies.{IsCopied};
+ghost use Rattle.imagemake.specs.Nodes.{major_of, minor_of};
+ghost use Rattle.migrate.specs.Copies.{CanStand, Copies, IsCopied};
 
 use crate::MigrateFault;
-use balloc::take_inode_at;
 use blockdev::BlockDev;
-use cache::Cache;
 use imagecheck::{inode_kind, inode_links, inode_major, inode_minor, read_contents};
-use imagemake::append;
+use inode::Volume;
 use layout::Geometry;
 use std::alloc::Global;
 
@@ -42,9 +40,9 @@ fn device_minor(old: &[u8], n: usize) -> u16
     }
 }
 
-// Copies a node: an inode is taken for it, and gets its bytes.
+// Copies a node: its number is taken, and gets its bytes.
 fn copy_node<D: BlockDev>(
-    disk: &mut Cache<D>,
+    volume: &mut Volume<D>,
     geometry: Geometry,
     old: &[u8],
     n: usize,
@@ -55,34 +53,34 @@ fn copy_node<D: BlockDev>(
     requires low { 1 ≤ n }
     requires high { n < geometry.inodes }
     requires used { kind_in old.now n ≢ 0 }
-    requires able { (now : Files) × Stores geometry disk.old.blocks now × (slot now n ≡ None) }
-    ensures { (now : Files) (node : Node) → Stores geometry disk.old.blocks now → slot now n ≡ None → IsNode old.now n node → size_of node ≤ longest → IsCopied geometry disk.new.blocks (put now n node) result }
+    requires able { (now : Files) × Copies geometry volume.old now × (slot now n ≡ None) }
+    ensures { (now : Files) (node : Node) → Copies geometry volume.old now → slot now n ≡ None → CanStand old.now n node → IsCopied geometry volume.new (put now n node) result }
 {
     let kind = inode_kind(old, n);
     let major = device_major(old, n);
     let minor = device_minor(old, n);
-    take_inode_at(disk, geometry, n, kind, major, minor, inode_links(old, n))?;
+    volume.take_at(n, kind, major, minor, inode_links(old, n))?;
     read_contents(old, geometry, n, bytes)?;
-    append(disk, geometry, n, bytes)?;
+    volume.write_at(n, 0, bytes)?;
     Ok(())
 }
 
 // Puts all nodes of an old image on a disk that has none.
 pub fn copy_nodes<D: BlockDev>(
     alloc: Global,
-    disk: &mut Cache<D>,
+    volume: &mut Volume<D>,
     geometry: Geometry,
     old: &[u8],
 ) -> Result<(), MigrateFault>
     requires geometry { HasGeometry old.now geometry }
     requires source { DenotesSmall old.now (files_in old.now) }
-    requires empty { Stores geometry disk.old.blocks (free_slots geometry.inodes) }
-    ensures { IsCopied geometry disk.new.blocks (files_in old.now) result }
+    requires empty { Copies geometry volume.old (free_slots geometry.inodes) }
+    ensures { IsCopied geometry volume.new (files_in old.now) result }
 {
     let mut bytes = Vec::new(alloc);
     for n in 1..geometry.inodes {
         if inode_kind(old, n) != 0 {
-            copy_node(disk, geometry, old, n, &mut bytes)?;
+            copy_node(volume, geometry, old, n, &mut bytes)?;
         }
     }
     Ok(())

@@ -2,7 +2,7 @@
 
 use blockdev::DeviceFault;
 use imagecheck::ImageFault;
-use imagemake::StoreFault;
+use inode::InodeFault;
 use std::alloc::AllocError;
 use thiserror::Error;
 
@@ -43,16 +43,17 @@ impl From<DeviceFault> for MigrateFault {
     }
 }
 
-impl From<StoreFault> for MigrateFault {
+// Bytes that don't go need more blocks than there are.
+impl From<InodeFault> for MigrateFault {
     ghost use Rattle.std.specs.Prelude.{◌≡◌};
-    ghost use Rattle.migrate.specs.Copies.{store_fault};
+    ghost use Rattle.migrate.specs.Copies.{write_fault};
 
-    ghost from_gives = { λ told fault. fault ≡ store_fault told };
+    ghost from_gives = { λ told fault. fault ≡ write_fault told };
 
-    fn from(fault: StoreFault) -> MigrateFault {
+    fn from(fault: InodeFault) -> MigrateFault {
         match fault {
-            StoreFault::Blocks => MigrateFault::Blocks,
-            StoreFault::Device => MigrateFault::NoMemory,
+            InodeFault::Device => MigrateFault::NoMemory,
+            _ => MigrateFault::Blocks,
         }
     }
 }

@@ -1,30 +1,22 @@
 //! An image of the format of small files becomes one of the format in use, with the same files.
 #![tactic(auto)]
 
-ghost use Rattle.std.specs.Prelude.{◌≡◌, ◌<◌, ◌≤◌, IfOk, IsErrOf, OnOk};
+ghost use Rattle.std.specs.Prelude.{◌≡◌, ◌<◌, IfOk, IsErrOf, OnOk};
 ghost use Rattle.unixmodel.specs.Counts.{blocks_of};
 ghost use Rattle.unixmodel.specs.Files.{Files};
 ghost use Rattle.unixmodel.specs.Formats.{small};
 ghost use Rattle.unixmodel.specs.Image.{Denotes, DenotesSmall, inodes_in, size_in};
 ghost use Rattle.unixmodel.specs.Manifest.{data_blocks_of};
-ghost use Rattle.imagerules.specs.Fields.{HasGeometry};
-ghost use Rattle.imagerules.specs.Places.{files_in};
 ghost use Rattle.imagecheck.specs.Faults.{IsOfImage, Tells};
 ghost use Rattle.imagecheck.specs.declared.ImageFault.{ImageFault};
-ghost use Rattle.layout.specs.Sound.{HasParts};
-ghost use Rattle.migrate.specs.Copies.{IsCopied};
 
 mod copy;
 mod fault;
 
-use balloc::format;
-use blockdev::BlockDev;
-use cache::Cache;
 use copy::copy_nodes;
 pub use fault::MigrateFault;
 use imagecheck::check1_bytes;
-use imagemake::{blank, bytes_of_disk};
-use layout::Geometry;
+use imagemake::{blank, bytes_left};
 use std::alloc::Global;
 
 /// Makes of an image of the format of small files one of the format in use that denotes the same files, by the same numbers.
@@ -41,29 +33,14 @@ pub fn migrate(alloc: Global, old: &[u8]) -> Result<Vec<u8>, MigrateFault>
     ensures blocks { IsErrOf result MigrateFault.Blocks → (files : Files) × DenotesSmall old.now files × (data_blocks_of (size_in old.now) (inodes_in old.now) < blocks_of files) }
 {
     let geometry = check1_bytes(alloc, old)?;
-    let Ok(mut disk) = blank(alloc, geometry) else {
+    let Ok(mut volume) = blank(alloc, geometry) else {
         return Err(MigrateFault::NoMemory);
     };
-    fill(alloc, &mut disk, geometry, old)?;
-    let Ok(new) = bytes_of_disk(disk) else {
+    volume.is_whole();
+    copy_nodes(alloc, &mut volume, geometry, old)?;
+    let (device, flushed) = volume.into_device();
+    let Ok(new) = bytes_left(device, flushed) else {
         return Err(MigrateFault::NoMemory);
     };
     Ok(new)
-}
-
-// Puts the files of an old image on a blank disk.
-fn fill<D: BlockDev>(
-    alloc: Global,
-    disk: &mut Cache<D>,
-    geometry: Geometry,
-    old: &[u8],
-) -> Result<(), MigrateFault>
-    requires parts { HasParts geometry disk.old.blocks }
-    requires size { 32 ≤ geometry.size }
-    requires geometry { HasGeometry old.now geometry }
-    requires source { DenotesSmall old.now (files_in old.now) }
-    ensures { IsCopied geometry disk.new.blocks (files_in old.now) result }
-{
-    format(disk, geometry)?;
-    copy_nodes(alloc, disk, geometry, old)
 }

@@ -3,4 +3,3 @@ pub mod Sounding
 pub mod Holding
 pub mod Console
 pub mod Mounting
-pub mod Saving

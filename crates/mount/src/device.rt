@@ -10,6 +10,7 @@ ghost use Rattle.unixmodel.specs.Image.{Denotes};
 use blockdev::{BlockDev, DeviceFault};
 use cache::Cache;
 use image::{ImageFault, check};
+use inode::Volume;
 use layout::{Geometry, SuperBlock};
 use std::alloc::Global;
 use tree::Tree;
@@ -38,7 +39,8 @@ pub fn mount<D: BlockDev>(alloc: Global, mut device: D) -> Result<Tree<D>, Image
     let _summary = check(alloc, &mut device)?;
     let geometry = read_geometry(&mut device)?;
     let disk = Cache::new(alloc, device)?;
-    Ok(Tree::new(alloc, disk, geometry)?)
+    let volume = Volume::new(disk, geometry);
+    Ok(Tree::new(alloc, volume)?)
 }
 
 /// Gives up files in use for their device, whose image denotes them then. Where an access fails it isn't told what the device

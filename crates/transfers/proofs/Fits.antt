@@ -8,7 +8,7 @@ use Rattle.std.proofs.lemmas.Option.{none-some}
 use Rattle.transfers.proofs.Memory.{overwrite-none, overwrite-twice, readable-count}
 use Rattle.tree.specs.Tree.{FileTree, Serves}
 use Rattle.tree.specs.Written.{IsFile, Written, count_of, files_after, fitting, with_bytes, write_to, written}
-use Rattle.tree.proofs.Erasing.{taken-grows}
+use Rattle.tree.proofs.Bridging.{taken-grows}
 use Rattle.tree.proofs.Storing.{blocks_of-set, slot-within}
 use Rattle.unixmodel.specs.declared.trap.Access.TheVariants.{Load}
 use Rattle.unixmodel.specs.Counts.{blocks_of}

@@ -1,22 +1,22 @@
 -- The first two entries of a new directory.
-use Rattle.std.proofs.Common.{◌≡◌, ◌≢◌, ℕ, ◌<◌, ◌≤◌, List, [], ◌∷◌, None, Some, ap, sym, refl, ◌∙◌, arith}
-use Rattle.std.proofs.lemmas.List.{get_or-set_same, set-set}
+use Rattle.std.proofs.Common.{◌≡◌, ◌≢◌, ℕ, ◌<◌, ◌≤◌, [], ◌∷◌, None, Some, ap, sym, refl, ◌∙◌, ◌+◌, arith, inl, inr}
+use Rattle.std.proofs.lemmas.List.{get_or-set_other, get_or-set_same, set-set}
 use Rattle.std.proofs.lemmas.List.Elements.{All-cons, All-nil}
-use Rattle.std.proofs.lemmas.Option.{same_Some}
-use Rattle.layout.specs.declared.Geometry.{Geometry}
+use Rattle.std.proofs.lemmas.Bool.{cases_eq}
+use Rattle.std.proofs.lemmas.Option.{none-some, same_Some}
 use Rattle.tree.specs.Entering.{HasRoom, entered, growth, room_in}
-use Rattle.tree.specs.Stored.{Stores, files_of}
 use Rattle.imagerules.specs.Places.{IsPlain}
 use Rattle.unixmodel.specs.Files.{Entry, Files, dot, dot_dot, put, slot}
 use Rattle.unixmodel.specs.Files.Node.{Directory}
 use Rattle.unixmodel.specs.NameCalls.{new_directory}
 use Rattle.tree.proofs.Leaves.{places-of}
-use Rattle.tree.proofs.Rooms.{entered-is}
-use Rattle.tree.proofs.Storing.{files-are, slot-within}
+use Rattle.tree.proofs.Rooms.{blocks_of-entered, entered-is}
+use Rattle.tree.proofs.Storing.{slot-within}
+use Rattle.unixmodel.specs.Counts.{blocks_of}
 
 -- ---- what they are
 
-abbrev own : ℕ → Entry
+abbrev pub own : ℕ → Entry
 own n = record { name = dot; number = n }
 
 abbrev above : ℕ → Entry
@@ -48,33 +48,42 @@ module _ (files : Files) (n : ℕ) (here : slot files n ≡ Some (Directory 1 []
   first-room = record { links = 1; places = []; here = here; room = room-first }
 
   -- the first takes a block
-  pub first-fits : (free : ℕ) → 1 ≤ free → (r : HasRoom files n 0) → growth r.places 0 ≤ free
-  first-fits free some r =
+  pub first-fits : {limit : ℕ} → blocks_of files + 1 ≤ limit → (r : HasRoom files n 0) → blocks_of files + growth r.places 0 ≤ limit
+  first-fits some r =
       let same : r.places ≡ [] = ap places-of (same_Some (Directory r.links r.places) (Directory 1 []) (sym r.here ∙ here)) in
       let is : growth r.places 0 ≡ 1 = ap (λ ps. growth ps 0) same in
       omega arith
 
-  first-is : entered files n 0 (own n) ≡ put files n (Directory 1 (Some (own n) ∷ []))
+  -- the files with the first
+  abbrev pub with-first : Files
+  with-first = entered files n 0 (own n)
+
+  first-is : with-first ≡ put files n (Directory 1 (Some (own n) ∷ []))
   first-is = entered-is files n 1 [] here 0 (own n)
 
-  -- with the first, as the disk tells it
-  module _ {g : Geometry} {mid : List (List ℕ)} (holds : Stores g mid (entered files n 0 (own n))) where
-    first-here : slot (files_of g mid) n ≡ Some (Directory 1 (Some (own n) ∷ []))
-    first-here =
-        ap (λ (fs : Files). slot fs n) (files-are g mid (entered files n 0 (own n)) holds ∙ first-is)
-        ∙ get_or-set_same files n (Some (Directory 1 (Some (own n) ∷ []))) None (slot-within files n (Directory 1 []) here)
+  first-here : slot with-first n ≡ Some (Directory 1 (Some (own n) ∷ []))
+  first-here = ap (λ (fs : Files). slot fs n) first-is ∙ get_or-set_same files n (Some (Directory 1 (Some (own n) ∷ []))) None (slot-within files n (Directory 1 []) here)
 
-    pub second-room : HasRoom (files_of g mid) n 1
-    second-room = record { links = 1; places = Some (own n) ∷ []; here = first-here; room = room-second (own n) }
+  pub second-room : HasRoom with-first n 1
+  second-room = record { links = 1; places = Some (own n) ∷ []; here = first-here; room = room-second (own n) }
 
-    pub second-fits : (free : ℕ) → (r : HasRoom (files_of g mid) n 1) → growth r.places 1 ≤ free
-    second-fits free r =
-        let same : r.places ≡ Some (own n) ∷ [] = ap places-of (same_Some (Directory r.links r.places) (Directory 1 (Some (own n) ∷ [])) (sym r.here ∙ first-here)) in
-        let is : growth r.places 1 ≡ 0 = ap (λ ps. growth ps 1) same in
-        omega arith
+  pub second-fits : {limit : ℕ} → blocks_of files + 1 ≤ limit → (r : HasRoom with-first n 1) → blocks_of with-first + growth r.places 1 ≤ limit
+  second-fits some r =
+      let same : r.places ≡ Some (own n) ∷ [] = ap places-of (same_Some (Directory r.links r.places) (Directory 1 (Some (own n) ∷ [])) (sym r.here ∙ first-here)) in
+      let is : growth r.places 1 ≡ 0 = ap (λ ps. growth ps 1) same in
+      let one : growth [] 0 ≡ 1 = refl in
+      let blocks = blocks_of-entered files n 1 [] here 0 (own n) in
+      omega arith
 
-    pub second-is : (parent : ℕ) → entered (files_of g mid) n 1 (above parent) ≡ put files n (new_directory parent n)
-    second-is parent =
-        entered-is (files_of g mid) n 1 (Some (own n) ∷ []) first-here 1 (above parent)
-        ∙ ap (λ (fs : Files). put fs n (new_directory parent n)) (files-are g mid (entered files n 0 (own n)) holds ∙ first-is)
-        ∙ set-set files n (Some (Directory 1 (Some (own n) ∷ []))) (Some (new_directory parent n))
+  pub second-is : (parent : ℕ) → entered with-first n 1 (above parent) ≡ put files n (new_directory parent n)
+  second-is parent =
+      entered-is with-first n 1 (Some (own n) ∷ []) first-here 1 (above parent)
+      ∙ ap (λ (fs : Files). put fs n (new_directory parent n)) first-is
+      ∙ set-set files n (Some (Directory 1 (Some (own n) ∷ []))) (Some (new_directory parent n))
+
+  -- all that were there are there still
+  pub first-stays : (m : ℕ) → slot files m ≢ None → slot with-first m ≢ None
+  first-stays m some none = elim (cases_eq m n) [
+    | inl same ↦ none-some (Directory 1 (Some (own n) ∷ [])) (sym none ∙ ap (slot with-first) same ∙ first-here)
+    | inr away ↦ some (sym (ap (λ (fs : Files). slot fs m) first-is ∙ get_or-set_other files n m (Some (Directory 1 (Some (own n) ∷ []))) None away) ∙ none)
+  ]

@@ -1,17 +1,14 @@
 -- A new directory: why it is refused, and what the disk holds.
-use Rattle.std.proofs.Common.{◌≡◌, ◌≢◌, ℕ, ◌+◌, ◌<◌, ◌≤◌, Bool, List, [], None, Option, Some, ap, sym, refl, ◌∙◌, arith, subst, cond, true, false, suc}
+use Rattle.std.proofs.Common.{◌≡◌, ◌≢◌, ℕ, ◌+◌, ◌<◌, ◌≤◌, Bool, List, [], None, Option, Some, ap, sym, refl, ◌∙◌, arith, cond, true, false, suc}
 use Rattle.std.specs.Prelude.{All, IsSome, is_none, option_and_then, option_map, ◌&&◌}
 use Rattle.std.proofs.lemmas.Bool.{and_from, and_left, and_right, cond-false, cond-true, le-ltb, lt-ltb}
 use Rattle.std.proofs.lemmas.List.{get_or-set_same, set-set}
 use Rattle.std.proofs.lemmas.Option.{none-some, same_Some}
-use Rattle.layout.specs.declared.Geometry.{Geometry}
-use Rattle.layout.specs.Image.{free_blocks, inode_at}
 use Rattle.tree.specs.declared.TreeFault.{TreeFault}
 use Rattle.tree.specs.declared.TreeFault.TheVariants.{Blocks, DeadDir, Exists, Full, NotDir, NotFound}
 use Rattle.tree.specs.declared.TreeFault.TheVariants as fault
 use Rattle.tree.specs.Answers.{Overflows}
 use Rattle.tree.specs.Entering.{HasGap, LacksBlocks, entered, folder_in, growth, placed, room_in}
-use Rattle.tree.specs.Stored.{Stores, IsFileSystem, files_of}
 use Rattle.tree.specs.Lacking.{LacksFolder, LacksGap}
 use Rattle.unixmodel.specs.Counts.{blocks_of}
 use Rattle.unixmodel.specs.Files.{Entry, Files, Node, Spot, change_node, free_number, links_of, live_places, lookup, most_links, put, slot, spot_of}
@@ -19,12 +16,14 @@ use Rattle.unixmodel.specs.Files.Node.{Directory}
 use Rattle.unixmodel.specs.NameCalls.{Made, has_room_for_link, is_free_name, made_below, made_directory, make_at, more_links, new_directory}
 use Rattle.tree.proofs.Gaps.{lacks-dead, lacks-other, over-lacks, overflow-none, spot-directory}
 use Rattle.names.proofs.Finding.{IsFree, free-number}
-use Rattle.tree.proofs.Leaves.{AsksEntry, entry-asked}
+use Rattle.tree.proofs.Leaves.{AsksEntry, comes-some, entry-asked}
 use Rattle.tree.proofs.Linking.{more-blocks}
 use Rattle.tree.proofs.Looking.{IsLiveAt}
 use Rattle.tree.proofs.Rooms.{blocks_of-entered, cond-none, entered-is, none-not}
 use Rattle.tree.proofs.Spots.{spot-none}
-use Rattle.tree.proofs.Storing.{blocks_of-set, files-are, held-again, held-links, held-made, held-step, length-held, slot-within, used_by}
+use Rattle.tree.proofs.Storing.{blocks_of-set, slot-within, taken_by}
+use Rattle.tree.proofs.Following.{IsNow}
+use Rattle.tree.specs.Tree.{FileTree}
 use Rattle.tree.proofs.Taking.{fresh-blocks, make-done, make-full, make-unnumbered, still-here}
 
 module _ (files : Files) (d : ℕ) (path : List ℕ) where
@@ -86,8 +85,8 @@ module _ (files : Files) (d : ℕ) (path : List ℕ) where
         pub second-blocks : blocks_of second ≡ blocks_of files + 1
         second-blocks =
             let b = blocks_of-set files n (Some (new_directory at.directory n)) number.within in
-            let none : used_by (slot files n) ≡ 0 = ap used_by number.free in
-            let one : used_by (Some (new_directory at.directory n)) ≡ 1 = refl in
+            let none : taken_by (slot files n) ≡ 0 = ap taken_by number.free in
+            let one : taken_by (Some (new_directory at.directory n)) ≡ 1 = refl in
             omega arith
 
         folder-blocks : blocks_of (change_node third at.directory more_links) ≡ blocks_of files + 1 + growth places k
@@ -136,72 +135,56 @@ module _ (files : Files) (d : ℕ) (path : List ℕ) where
     weaker-folder fault.Device known why = absurd (known refl)
     weaker-folder _ known why = absurd why
 
--- ---- the disk
+-- ---- the steps
 
-module _ {g : Geometry} {old : List (List ℕ)} {files : Files} (holds : Stores g old files) {d : ℕ} {path : List ℕ} {at : Spot} {k : ℕ} (gap : HasGap g old files d path 1 at k) where
+module _ (old : FileTree) {d : ℕ} {path : List ℕ} {at : Spot} {k : ℕ} (gap : HasGap old.block_limit old.files d path 1 at k) {n : ℕ} (is : free_number old.files ≡ Some n) where
+  abbrev files : Files
+  files = old.files
+
   abbrev parent : Node
   parent = Directory (suc gap.links) gap.places
 
-  -- what is told of the links of the directory above
-  pub parent-links : {mid : List (List ℕ)} → mid ≡ old → {links : ℕ} → links ≡ (inode_at mid at.directory).links → links ≡ suc gap.links
-  parent-links same told = held-links g old files holds at.directory parent gap.here (told ∙ ap (λ b. (inode_at b at.directory).links) same)
+  abbrev first : Files
+  first = put files n (Directory 1 [])
 
-  module _ {n : ℕ} (is : free_number files ≡ Some n) where
-    abbrev first : Files
-    first = put files n (Directory 1 [])
+  abbrev next : Files
+  next = put files n (new_directory at.directory n)
 
-    abbrev next : Files
-    next = put files n (new_directory at.directory n)
+  abbrev name : Entry
+  name = record { name = at.name; number = n }
 
-    abbrev name : Entry
-    name = record { name = at.name; number = n }
+  abbrev last : Files
+  last = entered next at.directory k name
 
-    abbrev last : Files
-    last = entered next at.directory k name
+  free-n : IsFree files n
+  free-n = free-number files n is
 
-    free-n : IsFree files n
-    free-n = free-number files n is
+  -- the new directory, before it has entries
+  pub first-bare : slot first n ≡ Some (Directory 1 [])
+  first-bare = get_or-set_same files n (Some (Directory 1 [])) None free-n.within
 
-    -- what putting its own entries asks
-    pub dots-asked : {mid : List (List ℕ)} → Stores g mid first
-        → record { held : IsFileSystem g mid; bare : slot (files_of g mid) n ≡ Some (Directory 1 []); number : n < 65536; above : at.directory < 65536; block : 1 ≤ free_blocks g mid }
-    dots-asked {mid} now =
-        let long = length-held g old files holds in
-        let most = holds.sound.parts.inodes_high in
-        let high = free-n.within in
-        let within = slot-within files at.directory parent gap.here in
-        let before = holds.free in
-        let after = now.free in
-        let blocks = fresh-blocks files n (Directory 1 []) free-n refl in
-        let fits = gap.fits in
-        record {
-          held = held-again g mid first now;
-          bare = ap (λ (fs : Files). slot fs n) (files-are g mid first now) ∙ get_or-set_same files n (Some (Directory 1 [])) None high;
-          number = omega arith;
-          above = omega arith;
-          block = omega arith;
-        }
+  pub first-above : slot first at.directory ≢ None
+  first-above none = none-some parent (sym none ∙ still-here free-n (Directory 1 []) at.directory gap.here)
 
-    pub first-next : {mid new : List (List ℕ)} → Stores g mid first → Stores g new (put (files_of g mid) n (new_directory at.directory n)) → Stores g new next
-    first-next {mid} {new} now h = subst (Stores g new) (set-set files n (Some (Directory 1 [])) (Some (new_directory at.directory n))) (held-step now (λ (fs : Files). put fs n (new_directory at.directory n)) h)
+  pub first-block : blocks_of first + 1 ≤ old.block_limit
+  first-block =
+      let blocks = fresh-blocks files n (Directory 1 []) free-n refl in
+      let fits = gap.fits in
+      omega arith
 
-    pub name-asked : {mid : List (List ℕ)} → Stores g mid next → All (λ b. b ≢ 0) path → AsksEntry g mid at k n
-    name-asked now =
-        entry-asked holds now gap (second-blocks files d path at gap.spot gap.links gap.places gap.here k gap.room n is) (second-here files d path at gap.spot gap.links gap.places gap.here k gap.room n is) n free-n.within
+  -- and with them
+  pub next-is : put first n (new_directory at.directory n) ≡ next
+  next-is = set-set files n (Some (Directory 1 [])) (Some (new_directory at.directory n))
 
-    pub next-last : {mid new : List (List ℕ)} → Stores g mid next → Stores g new (entered (files_of g mid) at.directory k name) → Stores g new last
-    next-last now = held-step now (λ (fs : Files). entered fs at.directory k name)
+  pub name-asked : {mid : FileTree} → IsNow old mid next → All (λ b. b ≢ 0) path → AsksEntry mid at k n
+  name-asked now =
+      entry-asked now gap (second-blocks files d path at gap.spot gap.links gap.places gap.here k gap.room n is) (second-here files d path at gap.spot gap.links gap.places gap.here k gap.room n is) n
+      (comes-some files n (new_directory at.directory n) free-n.within)
 
-    module _ {mid : List (List ℕ)} (now : Stores g mid last) (few : suc gap.links < most_links) where
-      pub above-asked : record { held : IsFileSystem g mid; node : (node : Node) × (slot (files_of g mid) at.directory ≡ Some node) × (links_of node < 65535) }
-      above-asked = record {
-        held = held-again g mid last now;
-        node = (
-          Directory (suc gap.links) (placed gap.places k name),
-          ap (λ (fs : Files). slot fs at.directory) (files-are g mid last now) ∙ third-here files d path at gap.spot gap.links gap.places gap.here k gap.room n is,
-          omega arith,
-        );
-      }
+  -- the directory above gets a link
+  module _ (few : suc gap.links < most_links) where
+    pub above-asked : (node : Node) × (slot last at.directory ≡ Some node) × (links_of node < 65535)
+    above-asked = (Directory (suc gap.links) (placed gap.places k name), third-here files d path at gap.spot gap.links gap.places gap.here k gap.room n is, omega arith)
 
-      pub folder-held : {new : List (List ℕ)} → Stores g new (change_node (files_of g mid) at.directory more_links) → IsFileSystem g new × (folder_in files d path ≡ Some (files_of g new))
-      folder-held h = held-made (held-step now (λ (fs : Files). change_node fs at.directory more_links) h) Some (folder-done files d path at gap.spot gap.links gap.places gap.here k gap.room n is few gap.free)
+    pub folder-is : folder_in files d path ≡ Some (change_node last at.directory more_links)
+    folder-is = folder-done files d path at gap.spot gap.links gap.places gap.here k gap.room n is few gap.free

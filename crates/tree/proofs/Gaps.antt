@@ -1,32 +1,21 @@
 -- A new name: where it is to stand, and what becomes of the files.
-use Rattle.std.proofs.Common.{◌≡◌, ℕ, ◌+◌, Bool, List, None, Option, Some, ap, sym, refl, ◌∙◌, arith, subst, cond, true, false, suc}
-use Rattle.std.specs.Prelude.{IsSome, Ok, Result, is_none, is_some, nat_le, option_and_then}
+use Rattle.std.proofs.Common.{◌≡◌, ℕ, ◌+◌, ◌≤◌, Bool, List, None, Option, Some, ap, sym, refl, ◌∙◌, arith, subst, cond, true, false, suc}
+use Rattle.std.specs.Prelude.{IsSome, is_none, is_some, nat_le, option_and_then}
 use Rattle.std.proofs.lemmas.Bool.{false≢true, leb-false, leb-true}
 use Rattle.std.proofs.lemmas.Option.{none-some, same_Some}
-use Rattle.std.proofs.lemmas.Result.{IfOk-at_ok}
-use Rattle.cache.specs.Disk.{Disk}
-use Rattle.layout.specs.declared.Geometry.{Geometry}
-use Rattle.layout.specs.Image.{bytes_of, free_blocks}
-use Rattle.tree.specs.declared.TreeFault.{TreeFault}
-use Rattle.tree.specs.Answers.{Answers, Overflows}
+use Rattle.tree.specs.Answers.{Overflows}
 use Rattle.tree.specs.Entering.{HasGap, HasRoom, IsFullAt, LacksBlocks, entered, growth, made_files, made_in, room_in}
-use Rattle.tree.specs.Stored.{IsFileSystem, files_of}
+use Rattle.tree.specs.Steps.{IsFolder}
 use Rattle.tree.specs.Paths.{IsDead, IsNoDirectory, above}
-use Rattle.imagerules.specs.Places.{places_in}
 use Rattle.unixmodel.specs.Counts.{blocks_of}
 use Rattle.unixmodel.specs.Files.{Entry, Files, Node, Spot, free_number, is_directory, live_places, live_spot, lookup, places_at, put, size_of, slot, spot_of}
 use Rattle.unixmodel.specs.Files.Node.{Directory}
-use Rattle.unixmodel.specs.Manifest.{data_blocks_of}
 use Rattle.unixmodel.specs.NameCalls.{make_at, made_at}
 use Rattle.tree.proofs.Looking.{IsLiveAt}
 use Rattle.tree.proofs.Parts.{spot-above}
 use Rattle.tree.proofs.Rooms.{blocks_of-entered, cond-none, none-not}
 use Rattle.names.proofs.Finding.{free-number}
 use Rattle.tree.proofs.Taking.{fresh-blocks, make-done, make-full, make-unnumbered, still-here}
-use Rattle.tree.proofs.Unlinking.{directory-places}
-
-pub done-of : {T : Type 0} {old new : Disk} {r : Result T TreeFault} {Done : T → Type 0} {Refused : Type 0} {Why : TreeFault → Type 0} → Answers old new r Done Refused Why → {x : T} → r ≡ Ok x → Done x
-done-of {Done = Done} answers e = IfOk-at_ok Done e answers.done
 
 -- ---- the directory of a spot
 
@@ -43,38 +32,31 @@ spot-directory files d path at h = go (above files d path) (sym (spot-above file
 
 -- ---- a gap
 
--- what the looks at the directory of a spot told, each at a disk that is as it was
-module _ {g : Geometry} {blocks : List (List ℕ)} (held : IsFileSystem g blocks) (d : ℕ) (path : List ℕ) {at : Spot} (spot : spot_of (files_of g blocks) d path ≡ Some at) where
-  pub live : IsLiveAt (files_of g blocks) at.directory
-  live = spot-directory (files_of g blocks) d path at spot
+-- what the looks at the directory of a spot told
+module _ (files : Files) (d : ℕ) (path : List ℕ) {at : Spot} (spot : spot_of files d path ≡ Some at) where
+  abbrev live : IsLiveAt files at.directory
+  live = spot-directory files d path at spot
 
-  pub gap-here : slot (files_of g blocks) at.directory ≡ Some (Directory (suc live.links) live.places)
-  gap-here = live.here
+  pub gap-used : IsSome (slot files at.directory)
+  gap-used = ap is_some live.here
 
-  module _ {mid : List (List ℕ)} (same : mid ≡ blocks) {o : Option ℕ} where
-    pub gap-place : o ≡ room_in (places_in (bytes_of mid at.directory)) → {x : Option ℕ} → o ≡ x → room_in live.places ≡ x
-    gap-place told is =
-        sym (told ∙ ap (λ b. room_in (places_in (bytes_of b at.directory))) same ∙ ap room_in (directory-places g blocks (files_of g blocks) held at.directory (suc live.links) live.places live.here)) ∙ is
+  abbrev pub gap-folder : IsFolder files at.directory
+  gap-folder = record { links = suc live.links; places = live.places; here = live.here }
 
-  pub gap-full : room_in live.places ≡ None → IsFullAt (files_of g blocks) d path
+  pub gap-full : room_in live.places ≡ None → IsFullAt files d path
   gap-full none = record { at = at; spot = spot; none = ap (λ o. option_and_then room_in (live_places o)) live.here ∙ none }
 
   module _ {k : ℕ} (room : room_in live.places ≡ Some k) where
-    pub gap-room : HasRoom (files_of g blocks) at.directory k
+    abbrev pub gap-room : HasRoom files at.directory k
     gap-room = record { links = suc live.links; places = live.places; here = live.here; room = room }
 
-    module _ {mid : List (List ℕ)} (same : mid ≡ blocks) (more : ℕ) {enough : Bool} (told : (r : HasRoom (files_of g mid) at.directory k) → enough ≡ nat_le (growth r.places k + more) (free_blocks g mid)) where
-      told-here : enough ≡ nat_le (growth live.places k + more) (free_blocks g blocks)
-      unfolding gap-room
-      told-here = subst (λ b. (r : HasRoom (files_of g b) at.directory k) → enough ≡ nat_le (growth r.places k + more) (free_blocks g b)) same told gap-room
-
-      pub gap-lacks : enough ≡ false → LacksBlocks (data_blocks_of g.size g.inodes) (files_of g blocks) d path more
+    module _ (limit more : ℕ) {enough : Bool} (told : enough ≡ nat_le (blocks_of files + (growth live.places k + more)) limit) where
+      pub gap-lacks : enough ≡ false → LacksBlocks limit files d path more
       gap-lacks fewer =
-          let few = leb-false (growth live.places k + more) (free_blocks g blocks) (sym told-here ∙ fewer) in
-          let balance = held.free in
+          let few = leb-false (blocks_of files + (growth live.places k + more)) limit (sym told ∙ fewer) in
           record { at = at; spot = spot; places = live.places; here = ap live_places live.here; place = k; room = room; few = omega arith }
 
-      pub gap-has : enough ≡ true → lookup (files_of g blocks) at.directory at.name ≡ None → HasGap g blocks (files_of g blocks) d path more at k
+      pub gap-has : enough ≡ true → lookup files at.directory at.name ≡ None → HasGap limit files d path more at k
       gap-has plenty free = record {
         spot = spot;
         free = free;
@@ -82,8 +64,11 @@ module _ {g : Geometry} {blocks : List (List ℕ)} (held : IsFileSystem g blocks
         places = live.places;
         here = live.here;
         room = room;
-        fits = leb-true (growth live.places k + more) (free_blocks g blocks) (sym told-here ∙ plenty);
+        fits = leb-true (blocks_of files + (growth live.places k + more)) limit (sym told ∙ plenty);
       }
+
+pub none-more : 0 ≤ 1
+none-more = omega arith
 
 -- ---- no spot
 

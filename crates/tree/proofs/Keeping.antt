@@ -19,10 +19,9 @@ use Rattle.tree.specs.declared.making.Leaf.{Leaf}
 use Rattle.tree.specs.declared.making.Leaf.TheVariants as leaf
 use Rattle.tree.specs.declared.TreeFault.{TreeFault}
 use Rattle.tree.specs.declared.TreeFault.TheVariants.{Device}
-use Rattle.tree.specs.Tree.{Acts, FileTree, IsRefusal, has_failed}
+use Rattle.tree.specs.Tree.{Acts, FileTree, IsRefusal, has_failed, is_device}
 use Rattle.tree.specs.Unlinks.{unlinked_in}
 use Rattle.tree.specs.Written.{IsFile, files_after, fitting, with_bytes, write_to, written}
-use Rattle.tree.proofs.Serving.{device-is}
 use Rattle.unixmodel.specs.Files.{Files, Node, Spot, clear, find, links_of, longest, lookup, slot, spot_of}
 use Rattle.unixmodel.specs.NameCalls.{Made, linked, made_at, made_directory, unlinked}
 use Rattle.unixmodel.specs.Reap.{kept}
@@ -133,6 +132,9 @@ written-changed {files} keeps limit n at new file =
     go true e = writes-over keeps n file.links file.bytes new at (fitting limit files n at file.links file.bytes new) file.here (leb-true (at + length new) longest (and_parts (nat_le at (length file.bytes)) (nat_le (at + length new) longest) e).1)
 
 -- ---- what a call on names answers
+
+pub device-is : (fault : TreeFault) → is_device fault ≡ false → fault ≢ Device
+device-is fault h = λ e. false≢true (sym h ∙ ap is_device e)
 
 -- where no access failed the rules are kept, if they are by what is done
 pub acts-keeps : {T : Type 0} {old new : FileTree} {r : Result T TreeFault} {Done : T → Type 0} {Refused : Type 0} {Why : TreeFault → Type 0} → Acts old new r Done Refused Why → has_failed r ≡ false → KeepsTree old.files

@@ -1,11 +1,20 @@
 -- A node goes, unless it has a link or somebody holds it.
-use Rattle.std.proofs.Common.{◌≡◌, ◌≢◌, ℕ, ◌≤◌, List, None, Option, Some, cond, get_or, ap, sym, refl, ◌∙◌, true}
+use Rattle.std.proofs.Common.{◌≡◌, ◌≢◌, ℕ, ◌≤◌, List, None, Option, Result, Some, cond, get_or, ap, sym, subst, refl, ◌∙◌, true}
 use Rattle.std.specs.Prelude.{nat_lt, ◌||◌}
 use Rattle.std.proofs.lemmas.Bool.{cond-false, cond-true, lt-ltb, or_from, or_left, or_right}
 use Rattle.names.proofs.Reaped.{is_held, kept-but}
+use Rattle.blockdev.specs.declared.DeviceFault.{DeviceFault}
 use Rattle.tree.specs.Holding.{let_go, stays}
+use Rattle.tree.specs.Steps.{Turns}
+use Rattle.tree.specs.Tree.{FileTree, Serves}
 use Rattle.unixmodel.specs.Files.{Files, Node, clear, links_of, slot}
 use Rattle.unixmodel.specs.Reap.{kept}
+
+-- who held the node lets go of it first
+pub let-go-serves : {old mid new : FileTree} {hs : List ℕ} (n : ℕ) {T : Type 0} {r : Result T DeviceFault} → mid ≡ record old { holds = hs } → Turns mid new r (let_go mid.holds mid.files n)
+    → Serves old new r (λ _. new ≡ record old { files = let_go hs old.files n; holds = hs; failures = new.failures })
+let-go-serves {old} {mid} {new} {hs} n {T} {r} is = subst (λ (t : FileTree). Turns t new r (let_go t.holds t.files n) → Serves old new r (λ _. new ≡ record old { files = let_go hs old.files n; holds = hs; failures = new.failures })) (sym is) (λ turns.
+    let s = turns.serves in record { told = s.told; up = s.up; down = s.down; cause = s.cause })
 
 module _ (holds : List ℕ) (files : Files) (n : ℕ) where
   pub let-go-held : 1 ≤ get_or holds n 0 → let_go holds files n ≡ files

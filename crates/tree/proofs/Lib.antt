@@ -6,8 +6,6 @@ pub mod Unlinking
 pub mod Looking
 pub mod Parts
 pub mod Rooms
-pub mod Answering
-pub mod Exits
 pub mod Scanned
 pub mod Spots
 pub mod Placing
@@ -19,10 +17,13 @@ pub mod Links
 pub mod Folders
 pub mod Dots
 pub mod Serving
-pub mod Releasing
+pub mod Bridging
+pub mod Following
+pub mod Turning
 pub mod Letting
 pub mod Swept
 pub mod Fitting
+pub mod Rewriting
 pub mod Unnaming
 pub mod Keeping
 pub mod Whole

@@ -1,23 +1,14 @@
 -- Another name: why it is refused, and what the disk holds.
-use Rattle.std.proofs.Common.{◌≡◌, ◌≢◌, ℕ, ◌+◌, ◌<◌, ◌≤◌, Bool, List, None, Option, Some, ap, sym, refl, ◌∙◌, arith, cond, le_trans, subst, true, false, suc, not, inr}
-use Rattle.std.specs.Prelude.{All, IsSome, Ok, Result, is_none, is_some, option_and_then, ◌&&◌}
+use Rattle.std.proofs.Common.{◌≡◌, ◌≢◌, ℕ, ◌+◌, ◌<◌, ◌≤◌, Bool, List, None, Option, Some, ap, sym, refl, ◌∙◌, arith, cond, true, false, suc, not, inr}
+use Rattle.std.specs.Prelude.{All, IsSome, is_none, is_some, option_and_then, ◌&&◌}
 use Rattle.std.proofs.lemmas.Bool.{eq-eqb, false≢true, le-ltb, lt-ltb, ne_eqb}
 use Rattle.std.proofs.lemmas.List.{get_or-set_other}
 use Rattle.std.proofs.lemmas.Option.{none-some, same_Some}
-use Rattle.layout.specs.declared.Geometry.{Geometry}
-use Rattle.layout.specs.Image.{inode_at}
-use Rattle.names.specs.Rules.{KeepsTree}
-use Rattle.names.proofs.Naming.{find-used}
 use Rattle.tree.specs.declared.TreeFault.{TreeFault}
 use Rattle.tree.specs.declared.TreeFault.TheVariants.{Blocks, DeadDir, Exists, Full, NotDir, NotFound}
 use Rattle.tree.specs.declared.TreeFault.TheVariants as fault
-use Rattle.blockdev.specs.declared.DeviceFault.{DeviceFault}
-use Rattle.cache.specs.Disk.{Disk}
 use Rattle.tree.specs.Answers.{Overflows}
-use Rattle.tree.specs.Steps.{Reads}
-use Rattle.unixmodel.specs.Manifest.{data_blocks_of}
 use Rattle.tree.specs.Entering.{HasGap, LacksBlocks, Reaches, entered, growth, linked_in, room_in}
-use Rattle.tree.specs.Stored.{Stores, IsFileSystem, files_of}
 use Rattle.tree.specs.Lacking.{LacksGap, LacksLinking}
 use Rattle.unixmodel.specs.Counts.{blocks_of}
 use Rattle.unixmodel.specs.Files.{Entry, Files, Node, Spot, change_node, enter, find, is_directory, kind_of, links_of, live_places, lookup, most_links, places_at, put, slot, spot_of, with_links}
@@ -26,12 +17,17 @@ use Rattle.unixmodel.specs.NameCalls.{has_room_for_link, is_free_name, linked, l
 use Rattle.tree.proofs.Gaps.{lacks-dead, lacks-other, over-lacks, overflow-none, spot-directory}
 use Rattle.tree.proofs.Leaves.{AsksEntry, entry-asked}
 use Rattle.tree.proofs.Linking.{more-blocks}
-use Rattle.tree.proofs.Exits.{held-same}
-use Rattle.tree.proofs.Reading.{read-later, read-same, read-told}
-use Rattle.tree.proofs.Looking.{IsLiveAt, node-of}
+use Rattle.tree.proofs.Looking.{IsLiveAt}
 use Rattle.tree.proofs.Rooms.{blocks_of-entered, cond-none, enter-full, enter-room, none-not}
 use Rattle.tree.proofs.Spots.{spot-none}
-use Rattle.tree.proofs.Storing.{change-is, held-made, held-raw, held-step, slot-within}
+use Rattle.names.proofs.Naming.{find-used}
+use Rattle.names.specs.Rules.{KeepsTree}
+use Rattle.tree.proofs.Storing.{change-is, node-of}
+use Rattle.tree.proofs.Following.{IsNow}
+use Rattle.tree.proofs.Unlinking.{stays-node}
+use Rattle.tree.specs.Telling.{Tells}
+use Rattle.tree.specs.Tree.{FileTree}
+use Rattle.inode.specs.declared.InodeStat.{InodeStat}
 
 module _ (files : Files) (d : ℕ) (old new : List ℕ) where
   pub linked-nothing : find files d old ≡ None → linked_in files d old new ≡ None
@@ -121,86 +117,59 @@ module _ (files : Files) (d : ℕ) (old new : List ℕ) where
         weaker-link fault.Device known why = absurd (known refl)
         weaker-link _ known why = absurd why
 
--- ---- what is told of the node that the old path reaches, at a disk that is as it was
+-- ---- what is told of the node that the old path reaches
 
-pub record IsSeen (g : Geometry) (old now : Disk) (d : ℕ) (path : List ℕ) (n kind links : ℕ) : Type 0 where
+pub record IsSeen (files : Files) (d : ℕ) (path : List ℕ) (n : ℕ) (s : InodeStat) : Type 0 where
   pub node : Node
-  pub found : find (files_of g old.blocks) d path ≡ Some n
-  pub here : slot (files_of g old.blocks) n ≡ Some node
-  pub kind-is : kind ≡ kind_of node
-  pub links-are : links ≡ links_of node
-  pub same : now.blocks ≡ old.blocks
-  pub later : old.failures ≤ now.failures
+  pub found : find files d path ≡ Some n
+  pub here : slot files n ≡ Some node
+  pub told : Tells s node
 
-pub found-node : (g : Geometry) {old mid : Disk} → KeepsTree (files_of g old.blocks) → (d : ℕ) (path : List ℕ) → IsSome (slot (files_of g old.blocks) d) → {r : Result (Option ℕ) DeviceFault} {o : Option ℕ} {n : ℕ}
-    → Reads old mid r (λ m. m ≡ find (files_of g old.blocks) d path) → r ≡ Ok o → o ≡ Some n → (node : Node) × (slot (files_of g old.blocks) n ≡ Some node)
-found-node g {old} keeps d path used {n = n} reads was some = node-of (slot (files_of g old.blocks) n) (find-used keeps d path n used (sym (read-told reads was) ∙ some))
+module _ {files : Files} (keeps : KeepsTree files) (d : ℕ) (path : List ℕ) (used : IsSome (slot files d)) {n : ℕ} (found : find files d path ≡ Some n) where
+  pub reached : (node : Node) × (slot files n ≡ Some node)
+  reached = node-of (slot files n) (find-used keeps d path n used found)
 
-pub seen : {g : Geometry} {old mid : Disk} (now : Disk) (held : IsFileSystem g old.blocks) → KeepsTree (files_of g old.blocks) → (d : ℕ) (path : List ℕ) → IsSome (slot (files_of g old.blocks) d) → {r : Result (Option ℕ) DeviceFault} {o : Option ℕ} {n : ℕ}
-    → Reads old mid r (λ m. m ≡ find (files_of g old.blocks) d path) → r ≡ Ok o → o ≡ Some n → now.blocks ≡ mid.blocks → mid.failures ≤ now.failures
-    → {kind links : ℕ} → kind ≡ (inode_at mid.blocks n).kind → links ≡ (inode_at mid.blocks n).links → IsSeen g old now d path n kind links
-seen {g} {old} now held keeps d path used {n = n} reads was some kept later k l =
-    let at = found-node g keeps d path used reads was some in
-    let same = read-same reads was in
-    let raw = held-raw g old.blocks (files_of g old.blocks) held n at.0 at.1 in
-    record {
-      node = at.0;
-      found = sym (read-told reads was) ∙ some;
-      here = at.1;
-      kind-is = k ∙ ap (λ b. (inode_at b n).kind) same ∙ raw.kind;
-      links-are = l ∙ ap (λ b. (inode_at b n).links) same ∙ raw.links;
-      same = kept ∙ same;
-      later = le_trans (read-later reads) later;
-    }
+  pub seen : {s : InodeStat} → ((node : Node) → slot files n ≡ Some node → Tells s node) → IsSeen files d path n s
+  seen told = record { node = reached.0; found = found; here = reached.1; told = told reached.0 reached.1 }
 
-module _ {g : Geometry} {old now : Disk} {d : ℕ} {path : List ℕ} {n kind links : ℕ} (held : IsFileSystem g old.blocks) (s : IsSeen g old now d path n kind links) (new : List ℕ) where
+module _ (old : FileTree) {d : ℕ} {path : List ℕ} {n : ℕ} {t : InodeStat} (s : IsSeen old.files d path n t) (new : List ℕ) where
   abbrev files : Files
-  files = files_of g old.blocks
+  files = old.files
 
   abbrev limit : ℕ
-  limit = data_blocks_of g.size g.inodes
+  limit = old.block_limit
 
-  pub seen-directory : kind ≡ 1 → Overflows limit (linked_in files d path new) × Reaches files d path (λ node. is_directory node ≡ true)
+  pub seen-directory : t.kind ≡ 1 → Overflows limit (linked_in files d path new) × Reaches files d path (λ node. is_directory node ≡ true)
   seen-directory e =
-      let is = eq-eqb (kind_of s.node) 1 (sym s.kind-is ∙ e) in
+      let is = eq-eqb (kind_of s.node) 1 (sym s.told.0 ∙ e) in
       (overflow-none limit (linked-directory files d path new n s.node s.found s.here is), record { number = n; node = s.node; found = s.found; here = s.here; is = is })
 
-  module _ (other : kind ≢ 1) where
+  module _ (other : t.kind ≢ 1) where
     file : is_directory s.node ≡ false
-    file = ne_eqb (kind_of s.node) 1 (λ e. other (s.kind-is ∙ e))
+    file = ne_eqb (kind_of s.node) 1 (λ e. other (s.told.0 ∙ e))
 
-    pub seen-many : 32767 ≤ links → Overflows limit (linked_in files d path new) × Reaches files d path (λ node. most_links ≤ links_of node)
+    pub seen-many : 32767 ≤ t.links → Overflows limit (linked_in files d path new) × Reaches files d path (λ node. most_links ≤ links_of node)
     seen-many many =
-        let is : most_links ≤ links_of s.node = let e = s.links-are in omega arith in
+        let is : most_links ≤ links_of s.node = let e = s.told.1 in omega arith in
         (overflow-none limit (linked-many files d path new n s.node s.found s.here file is), record { number = n; node = s.node; found = s.found; here = s.here; is = is })
 
-    module _ (few : links < 32767) where
+    module _ (few : t.links < 32767) where
       room : has_room_for_link s.node ≡ true
-      room = let e = s.links-are in lt-ltb (links_of s.node) most_links (omega arith)
+      room = let e = s.told.1 in lt-ltb (links_of s.node) most_links (omega arith)
 
-      pub seen-weaker : (told : TreeFault) → told ≢ fault.Device → LacksGap limit (files_of g now.blocks) d new 0 told → Overflows limit (linked_in files d path new) × LacksLinking limit files d path new told
-      seen-weaker told known why = weaker-link files d path new n s.node s.found s.here file limit room told known (subst (λ b. LacksGap limit (files_of g b) d new 0 told) s.same why)
+      pub seen-weaker : (told : TreeFault) → told ≢ fault.Device → LacksGap limit files d new 0 told → Overflows limit (linked_in files d path new) × LacksLinking limit files d path new told
+      seen-weaker told known why = weaker-link files d path new n s.node s.found s.here file limit room told known why
+
+      pub link-asked : (node : Node) × (slot files n ≡ Some node) × (links_of node < 65535)
+      link-asked = (s.node, s.here, (let e = s.told.1 in omega arith))
 
       -- the new name has a place
-      module _ {last : List (List ℕ)} {at : Spot} {k : ℕ} (told : HasGap g now.blocks (files_of g now.blocks) d new 0 at k × (last ≡ now.blocks)) where
-        gap : HasGap g old.blocks files d new 0 at k
-        gap = subst (λ b. HasGap g b (files_of g b) d new 0 at k) s.same told.0
+      module _ {at : Spot} {k : ℕ} (gap : HasGap limit files d new 0 at k) where
+        pub linked-asked : {mid : FileTree} → IsNow old mid (change_node files n more_links) → All (λ b. b ≢ 0) new → AsksEntry mid at k n
+        linked-asked now =
+            let blocks = more-blocks files n s.node s.here in
+            entry-asked now gap (omega arith) (still-there files d path new n s.node s.found s.here file at.directory (suc gap.links) gap.places gap.here) n
+            (stays-node files n more_links n (λ none. none-some s.node (sym none ∙ s.here)))
 
-        pub link-asked : record { held : IsFileSystem g last; node : (node : Node) × (slot (files_of g last) n ≡ Some node) × (links_of node < 65535) }
-        link-asked =
-            let same = told.1 ∙ s.same in
-            record { held = held-same same held; node = (s.node, ap (λ b. slot (files_of g b) n) same ∙ s.here, (let e = s.links-are in omega arith)) }
-
-        module _ {mid : List (List ℕ)} (turn : Stores g mid (change_node (files_of g last) n more_links)) where
-          linked-now : Stores g mid (change_node files n more_links)
-          linked-now = subst (λ b. Stores g mid (change_node (files_of g b) n more_links)) (told.1 ∙ s.same) turn
-
-          pub linked-asked : All (λ b. b ≢ 0) new → AsksEntry g mid at k n
-          linked-asked =
-              let blocks = more-blocks files n s.node s.here in
-              entry-asked held linked-now gap (omega arith) (still-there files d path new n s.node s.found s.here file at.directory (suc gap.links) gap.places gap.here) n (slot-within files n s.node s.here)
-
-          pub linked-held : {done : List (List ℕ)} → Stores g done (entered (files_of g mid) at.directory k (record { name = at.name; number = n })) → IsFileSystem g done × (linked_in files d path new ≡ Some (files_of g done))
-          linked-held h =
-              held-made (held-step linked-now (λ (fs : Files). entered fs at.directory k (record { name = at.name; number = n })) h) Some
-              (linked-done files d path new n s.node s.found s.here file room at gap.spot gap.links gap.places gap.here k gap.room gap.free)
+        pub linked-into : linked_in files d path new ≡ Some (entered (change_node files n more_links) at.directory k (record { name = at.name; number = n }))
+        linked-into = linked-done files d path new n s.node s.found s.here file room at gap.spot gap.links gap.places gap.here k gap.room gap.free

@@ -2,17 +2,15 @@
 use Rattle.std.proofs.Common.{◌≡◌, ◌≢◌, ℕ, Bool, List, None, Option, Some, ap, sym, refl, ◌∙◌, arith, true, false, suc}
 use Rattle.std.specs.Prelude.{IfNone, IsSome, nat_lt, option_and_then, option_map, position, ◌&&◌, ◌==◌}
 use Rattle.std.proofs.lemmas.Bool.{false≢true, lt-ltb}
-use Rattle.layout.specs.declared.Geometry.{Geometry}
-use Rattle.layout.specs.Image.{bytes_of, inode_at}
+use Rattle.inode.specs.declared.InodeStat.{InodeStat}
 use Rattle.tree.specs.declared.place.Found.{Found}
-use Rattle.tree.specs.Stored.{Stores}
 use Rattle.tree.specs.Names.{found_in}
-use Rattle.imagerules.specs.Places.{places_in}
+use Rattle.tree.specs.Steps.{IsFolder}
+use Rattle.tree.specs.Telling.{Tells}
 use Rattle.unixmodel.specs.Files.{Entry, Files, Node, entry_number, has_name, kind_of, links_of, live_places, lookup, slot}
 use Rattle.unixmodel.specs.Files.Node.{Directory}
-pub use Rattle.tree.proofs.Linking.{node-of}
-use Rattle.tree.proofs.Storing.{held-raw}
-use Rattle.tree.proofs.Unlinking.{directory-places, lookup-in}
+use Rattle.tree.proofs.Storing.{node-of}
+use Rattle.tree.proofs.Unlinking.{lookup-in}
 
 pub IfNone-of : {X P : Type 0} (o : Option X) → P → IfNone o P
 IfNone-of None h = h
@@ -47,24 +45,22 @@ lookup-dead : (files : Files) (d : ℕ) (name : List ℕ) → live_places (slot 
 unfolding lookup
 lookup-dead files d name e = ap (option_and_then (λ ps. entry_number (option_and_then (slot ps) (position (has_name name) ps)))) e
 
--- ---- as the disk tells it
+-- ---- as a look at it tells
 
-module _ {g : Geometry} {blocks : List (List ℕ)} {files : Files} (holds : Stores g blocks files) (d : ℕ) (used : IsSome (slot files d)) {kind links : ℕ} (kind-is : kind ≡ (inode_at blocks d).kind) (links-are : links ≡ (inode_at blocks d).links) where
-  live-is : (node : Node) → slot files d ≡ Some node → is_live node ≡ ((kind == 1) && nat_lt 0 links)
-  live-is node here =
-      let raw = held-raw g blocks files holds d node here in
-      sym (ap (λ k. (k == 1) && nat_lt 0 links) (kind-is ∙ raw.kind) ∙ ap (λ l. (kind_of node == 1) && nat_lt 0 l) (links-are ∙ raw.links))
+module _ (files : Files) (d : ℕ) (used : IsSome (slot files d)) {s : InodeStat} (told : (x : Node) → slot files d ≡ Some x → Tells s x) where
+  live-is : (node : Node) → slot files d ≡ Some node → is_live node ≡ ((s.kind == 1) && nat_lt 0 s.links)
+  live-is node here = sym (ap (λ k. (k == 1) && nat_lt 0 s.links) (told node here).0 ∙ ap (λ l. (kind_of node == 1) && nat_lt 0 l) (told node here).1)
 
-  pub live-told : ((kind == 1) && nat_lt 0 links) ≡ true → IsLiveAt files d
+  pub live-told : ((s.kind == 1) && nat_lt 0 s.links) ≡ true → IsLiveAt files d
   live-told h = let at = node-of (slot files d) used in live-yes files d at.0 at.1 (live-is at.0 at.1 ∙ h)
 
-  pub dead-told : ((kind == 1) && nat_lt 0 links) ≡ false → (name : List ℕ) → None ≡ lookup files d name
+  pub dead-told : ((s.kind == 1) && nat_lt 0 s.links) ≡ false → (name : List ℕ) → None ≡ lookup files d name
   dead-told h name = let at = node-of (slot files d) used in sym (lookup-dead files d name (ap live_places at.1 ∙ live-no at.0 (live-is at.0 at.1 ∙ h)))
 
-  pub lookup-told : ((kind == 1) && nat_lt 0 links) ≡ true → (name : List ℕ) {mid : List (List ℕ)} → mid ≡ blocks → (o : Option Found) → o ≡ found_in (places_in (bytes_of mid d)) name
-      → option_map (λ (f : Found). f.number) o ≡ lookup files d name
-  lookup-told h name same o told =
-      let live = live-told h in
-      sym (lookup-in files d live.links live.places live.here name
-      ∙ ap (λ ps. option_map (λ (f : Found). f.number) (found_in ps name)) (sym (ap (λ b. places_in (bytes_of b d)) same ∙ directory-places g blocks files holds d (suc live.links) live.places live.here))
-      ∙ ap (option_map (λ (f : Found). f.number)) (sym told))
+-- a directory with links is one
+abbrev pub live-folder : {files : Files} {d : ℕ} → IsLiveAt files d → IsFolder files d
+live-folder live = record { links = suc live.links; places = live.places; here = live.here }
+
+-- what is found in it
+pub lookup-told : {files : Files} {d : ℕ} (live : IsLiveAt files d) (name : List ℕ) (o : Option Found) → o ≡ found_in live.places name → option_map (λ (f : Found). f.number) o ≡ lookup files d name
+lookup-told {files} {d} live name o is = ap (option_map (λ (f : Found). f.number)) is ∙ sym (lookup-in files d live.links live.places live.here name)

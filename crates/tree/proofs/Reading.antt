@@ -1,31 +1,16 @@
 -- What is read of a directory's places.
-use Rattle.std.proofs.Common.{◌≡◌, ℕ, ◌+◌, ◌-◌, ◌<◌, ◌≤◌, Bool, List, [], ◌∷◌, None, Option, Some, length, get_or, ap, sym, refl, ◌∙◌, arith, le_trans, subst, cond, true, false, suc}
-use Rattle.std.specs.Prelude.{Err, IfOk, Ok, OnOk, Result, drop, nat_lt, option_and_then, position, ◌==◌}
-use Rattle.std.specs.Result.{IsErrAnd}
-use Rattle.balloc.proofs.Exits.{HasCause-after, HasCause-failed, told_err}
+use Rattle.std.proofs.Common.{◌≡◌, ℕ, ◌+◌, ◌-◌, ◌<◌, ◌≤◌, Bool, List, [], ◌∷◌, None, Option, Some, length, get_or, ap, refl, sym, ◌∙◌, arith, cond, true, false, suc}
+use Rattle.std.specs.Prelude.{drop, nat_lt, option_and_then, position, ◌==◌}
 use Rattle.std.specs.List.{list_all, position_or_len}
 use Rattle.std.proofs.lemmas.Bool.{cond-false, cond-true, false≢true, le-ltb, lt-ltb, ne_eqb}
 use Rattle.std.proofs.lemmas.List.{get_or-drop, length-drop}
 use Rattle.std.proofs.lemmas.Option.{none-some}
 use Rattle.std.proofs.lemmas.List.Sums.{position_or_len_is}
-use Rattle.blockdev.specs.declared.DeviceFault.{DeviceFault}
-use Rattle.cache.specs.Disk.{Disk}
-use Rattle.layout.specs.declared.Geometry.{Geometry}
-use Rattle.layout.proofs.Frame.{length-bytes_of}
-use Rattle.layout.specs.Image.{IsInode, bytes_of}
-use Rattle.layout.specs.Sound.{IsSound}
 use Rattle.tree.specs.declared.place.Found.{Found}
 use Rattle.tree.specs.Names.{found_at, found_in, is_bare}
 use Rattle.imagerules.specs.Places.{place_of_bytes, without_zeros}
-use Rattle.tree.specs.Steps.{Reads}
-use Rattle.unixmodel.specs.Failures.{Rises}
-use Rattle.tree.specs.Stored.{files_of}
-use Rattle.unixmodel.specs.Files.{Entry, has_name, longest, lookup, slot, taken}
+use Rattle.unixmodel.specs.Files.{Entry, has_name, slot, taken}
 use Rattle.unixmodel.specs.Numbers.{number_at}
-
--- a file is never longer than an int
-pub short-bytes : {g : Geometry} {blocks : List (List ℕ)} {n : ℕ} → IsSound g blocks → IsInode blocks g.inodes n → length (bytes_of blocks n) ≤ longest
-short-bytes {g} {blocks} {n} sound inode = let fits = sound.fits n inode in omega (arith, length-bytes_of blocks n)
 
 -- ---- the first that passes
 
@@ -88,43 +73,3 @@ named-place bytes name k n has is = go (list_all (λ b. b == 0) bytes) refl wher
   go : (t : Bool) → list_all (λ b. b == 0) bytes ≡ t → found_at k (place_of_bytes bytes) ≡ Some (record { place = k; number = n })
   go true e = absurd (false≢true (sym (has-free name (place_of_bytes bytes) (place-free bytes e)) ∙ has))
   go false e = ap (found_at k) (place-taken bytes e) ∙ ap (λ m. let f : Found = record { place = k; number = m } in Some f) (sym is)
-
--- ---- reads that follow one another
-
-pub Rises-before : {a b c : ℕ} → a ≤ b → Rises b c → Rises a c
-Rises-before {a} {b} {c} h f = omega arith
-
-module _ {T : Type 0} {Told : T → Type 0} {old new : Disk} {r : Result T DeviceFault} (read : Reads old new r Told) where
-  pub read-told : {x : T} → r ≡ Ok x → Told x
-  read-told e = subst (λ (q : Result T DeviceFault). IfOk q Told) e read.told
-
-  pub read-same : {x : T} → r ≡ Ok x → new.blocks ≡ old.blocks
-  read-same e = subst (λ (q : Result T DeviceFault). OnOk q (new.blocks ≡ old.blocks)) e read.same
-
-  pub read-later : old.failures ≤ new.failures
-  read-later = read.cause.later
-
--- a name that was looked up
-pub looked : (g : Geometry) (blocks : List (List ℕ)) (d : ℕ) (name : List ℕ) {mid new : Disk} {r : Result (Option ℕ) DeviceFault} {o x : Option ℕ} → Reads mid new r (λ n. n ≡ lookup (files_of g mid.blocks) d name) → r ≡ Ok o → mid.blocks ≡ blocks → o ≡ x
-    → lookup (files_of g blocks) d name ≡ x
-looked g blocks d name reads was same is = sym (read-told reads was ∙ ap (λ b. lookup (files_of g b) d name) same) ∙ is
-
--- a read fails, where those before it left the disk as it was
-pub Reads-fails : {T U : Type 0} {Told : T → Type 0} {Also : U → Type 0} {old mid new : Disk} {r : Result T DeviceFault} {s : Result U DeviceFault} {e f : DeviceFault}
-    → Reads mid new r Told → mid.blocks ≡ old.blocks → old.failures ≤ mid.failures → r ≡ Err e → IsErrAnd s (λ x. x ≡ f) → Reads old new s Also
-Reads-fails {s = s} read same later is told =
-    let err = told_err s told in
-    record { told = rw err tt; same = rw err tt; count = read.count ∙ ap length same; cause = HasCause-failed later read.cause is }
-
-pub Reads-good : {T : Type 0} {Told : T → Type 0} {old new : Disk} (x : T) → new.blocks ≡ old.blocks → old.failures ≤ new.failures → Told x → Reads old new (Ok x) Told
-Reads-good x same later told = record { told = told; same = same; count = ap length same; cause = record { later = later; failed = λ e. cc } }
-
--- a value comes of a read, where those before it left the disk as it was
-pub Reads-then : {T U : Type 0} {Told : T → Type 0} {Also : U → Type 0} {old mid new : Disk} {r : Result T DeviceFault} {x : T}
-    → Reads mid new r Told → r ≡ Ok x → mid.blocks ≡ old.blocks → old.failures ≤ mid.failures → (y : U) → Also y → Reads old new (Ok y) Also
-Reads-then read is same later y also = Reads-good y (read-same read is ∙ same) (le_trans later (read-later read)) also
-
--- what a read tells tells more, where those before it left the disk as it was
-pub Reads-more : {T : Type 0} {Told Also : T → Type 0} {old mid new : Disk} (r : Result T DeviceFault) → Reads mid new r Told → mid.blocks ≡ old.blocks → old.failures ≤ mid.failures → ((x : T) → Told x → Also x) → Reads old new r Also
-Reads-more (Err e) read same later more = record { told = tt; same = tt; count = read.count ∙ ap length same; cause = HasCause-after later read.cause }
-Reads-more (Ok x) read same later more = record { told = more x read.told; same = read.same ∙ same; count = read.count ∙ ap length same; cause = HasCause-after later read.cause }

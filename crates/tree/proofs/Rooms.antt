@@ -10,9 +10,9 @@ use Rattle.tree.specs.Entering.{entered, growth, placed, room_at, room_behind, r
 use Rattle.unixmodel.specs.Counts.{blocks_of}
 use Rattle.unixmodel.specs.Files.{Entry, Files, Spot, change_node, enter, free_slot, live_places, most_places, put, slot, with_entry, with_entry_at, with_places}
 use Rattle.unixmodel.specs.Files.Node.{Directory}
-use Rattle.tree.proofs.Erasing.{taken-grows}
+use Rattle.tree.proofs.Bridging.{taken-grows}
 use Rattle.tree.proofs.Reading.{position-at, position-none}
-use Rattle.tree.proofs.Storing.{blocks_of-set, change-is, slot-within, used_by}
+use Rattle.tree.proofs.Storing.{blocks_of-set, change-is, slot-within, taken_by}
 
 -- ---- the place
 
@@ -123,7 +123,7 @@ pub blocks_of-entered : (files : Files) (d links : ℕ) (places : List (Option E
 blocks_of-entered files d links places here k e =
     let next = Directory links (placed places k e) in
     let b = blocks_of-set files d (Some next) (slot-within files d (Directory links places) here) in
-    let used : used_by (slot files d) ≡ taken_for (16 * length places) = ap used_by here in
-    let now : used_by (Some next) ≡ taken_for (16 * length (placed places k e)) = refl in
+    let used : taken_by (slot files d) ≡ taken_for (16 * length places) = ap taken_by here in
+    let now : taken_by (Some next) ≡ taken_for (16 * length (placed places k e)) = refl in
     let is = ap blocks_of (entered-is files d links places here k e) in
     omega (arith, taken-placed places k e)

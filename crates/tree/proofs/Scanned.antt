@@ -1,15 +1,10 @@
 -- The places that a scan of a directory goes through.
-use Rattle.std.proofs.Common.{◌≡◌, ℕ, ◌+◌, ◌-◌, ◌*◌, ◌/◌, ◌%◌, ◌<◌, ◌≤◌, Bool, List, [], ◌∷◌, ◌++◌, None, Option, Some, length, min, take, drop, ap, sym, refl, ◌∙◌, arith, true, false, inl, inr}
-use Rattle.std.specs.Prelude.{Ok, Result, is_none, is_some, not}
+use Rattle.std.proofs.Common.{◌≡◌, ℕ, ◌+◌, ◌-◌, ◌*◌, ◌/◌, ◌%◌, ◌<◌, ◌≤◌, Bool, List, [], ◌∷◌, ◌++◌, None, Option, Some, length, min, take, drop, ap, sym, refl, ◌∙◌, arith, subst, true, false, inl, inr}
+use Rattle.std.specs.Prelude.{All, flat_map, is_none, is_some, not}
 use Rattle.std.specs.Borrow.{Bor}
 use Rattle.std.proofs.lemmas.Bool.{cases_lt, false≢true}
 use Rattle.std.proofs.lemmas.List.{append-nil, drop-drop, drop-take, drop_all, length-drop, length-take, length-take-le, take-take}
 use Rattle.blockdev.specs.Splice.{part}
-use Rattle.blockdev.specs.declared.DeviceFault.{DeviceFault}
-use Rattle.cache.specs.Disk.{Disk}
-use Rattle.layout.specs.declared.Geometry.{Geometry}
-use Rattle.layout.specs.Image.{IsInode, bytes_of}
-use Rattle.layout.specs.Sound.{IsSound}
 use Rattle.byteorder.specs.Endian.{little_number}
 use Rattle.tree.specs.declared.place.Found.{Found}
 use Rattle.tree.specs.declared.place.Sought.{Sought}
@@ -17,13 +12,16 @@ use Rattle.tree.specs.declared.place.Sought.TheVariants.{Free, Name, Taken}
 use Rattle.tree.specs.Names.{found_at, found_in, is_bare}
 use Rattle.tree.specs.Entering.{room_behind, room_in}
 use Rattle.tree.specs.Scanning.{IsFirst, Scans, is_sought, place_in}
-use Rattle.imagerules.specs.Places.{place_of_bytes, places_in}
-use Rattle.imagerules.proofs.Spelling.{length-places_in, slot-places_in}
-use Rattle.unixmodel.specs.Files.{Entry, has_name, slot}
+use Rattle.tree.specs.Steps.{IsFolder}
+use Rattle.tree.specs.Stored.{FitsPlaces}
+use Rattle.tree.specs.Tree.{FileTree}
+use Rattle.tree.specs.Whole.{IsWhole}
+use Rattle.imagerules.specs.Places.{PlaceFits, place_of_bytes}
+use Rattle.imagerules.proofs.Spelling.{length-spelling, places_in-back, slot-places_in}
+use Rattle.unixmodel.specs.Files.{Entry, Files, Node, has_name, place_bytes, slot}
+use Rattle.unixmodel.specs.Files.Node.{Directory}
 use Rattle.unixmodel.specs.Numbers.{number_at}
-use Rattle.tree.specs.Steps.{Reads}
-use Rattle.tree.proofs.Reading.{bare-no, bare-yes, found-at, found-none, named-place, read-same, read-told}
-use Rattle.tree.proofs.Exits.{inode-same, sound-same}
+use Rattle.tree.proofs.Reading.{bare-no, bare-yes, found-at, found-none, named-place}
 use Rattle.tree.proofs.Rooms.{room-end, room-free}
 
 -- ---- a read
@@ -39,18 +37,19 @@ pub record IsNext (size k m : ℕ) : Type 0 where
   pub fits : 16 * (k + m) ≤ size
   pub most : 16 * m ≤ 1024
 
-pub next-is : (size count k m : ℕ) → k < count → count ≡ size / 16 → m ≡ min (64 - k % 64) (count - k) → IsNext size k m
-next-is size count k m low is least = record { fits = omega arith; most = omega arith }
+module _ (places : List (Option Entry)) (fits : All PlaceFits places) (k m : ℕ) where
+  abbrev size : ℕ
+  size = length (flat_map place_bytes places)
 
-module _ (blocks : List (List ℕ)) (d k m : ℕ) (next : IsNext (length (bytes_of blocks d)) k m) (block : List ℕ) where
-  pub next-within : {held : List (List ℕ)} → held ≡ blocks → 16 * k + length (take (16 * m) block) ≤ length (bytes_of held d)
-  next-within same = let fits = next.fits in let size = ap (λ b. length (bytes_of b d)) same in omega (arith, length-take (16 * m) block)
+  pub next-is : {count : ℕ} → count ≡ length places → k < count → m ≡ min (64 - k % 64) (count - k) → IsNext size k m
+  next-is same low least = let long = length-spelling places fits in record { fits = omega arith; most = omega arith }
 
-  pub next-read : length block ≡ 1024 → {mid new : Disk} {out : List ℕ} {T : Type 0} {r : Result T DeviceFault} {x : T} → mid.blocks ≡ blocks
-      → Reads mid new r (λ _. out ≡ part (16 * k) (length (take (16 * m) block)) (bytes_of mid.blocks d)) → r ≡ Ok x → out ≡ part (16 * k) (16 * m) (bytes_of blocks d)
-  next-read long {mid} same read is =
-      read-told read is ∙ ap (λ n. part (16 * k) n (bytes_of mid.blocks d)) (length-take-le (16 * m) block (let most = next.most in omega arith))
-      ∙ ap (λ b. part (16 * k) (16 * m) (bytes_of b d)) same
+  module _ (next : IsNext size k m) (block : List ℕ) where
+    pub next-within : 16 * k + length (take (16 * m) block) ≤ 16 * length places
+    next-within = let low = next.fits in omega (arith, length-take (16 * m) block, length-spelling places fits)
+
+    pub next-read : length block ≡ 1024 → {out : List ℕ} → out ≡ part (16 * k) (length (take (16 * m) block)) (flat_map place_bytes places) → out ≡ part (16 * k) (16 * m) (flat_map place_bytes places)
+    next-read long read = read ∙ ap (λ n. part (16 * k) n (flat_map place_bytes places)) (length-take-le (16 * m) block (let most = next.most in omega arith))
 
 -- ---- m places from place k on
 
@@ -103,9 +102,6 @@ number-first (a ∷ b ∷ rest) some = refl
 
 -- ---- what is sought
 
-place-is : (bytes : List ℕ) (k : ℕ) → k < length bytes / 16 → slot (places_in bytes) k ≡ place_in bytes k
-place-is bytes k low = slot-places_in bytes k low
-
 some-not : (o : Option Entry) → is_none o ≡ false → is_some o ≡ true
 some-not None h = absurd (false≢true (sym h))
 some-not (Some e) h = refl
@@ -128,47 +124,51 @@ free-of : (o : Option Entry) → is_some o ≡ false → o ≡ None
 free-of None h = refl
 free-of (Some e) h = absurd (false≢true (sym h))
 
-module _ (bytes : List ℕ) where
-  long : length (places_in bytes) ≡ length bytes / 16
-  long = length-places_in bytes
+module _ (places : List (Option Entry)) (fits : All PlaceFits places) where
+  abbrev bytes : List ℕ
+  bytes = flat_map place_bytes places
+
+  long : length places ≡ length bytes / 16
+  long = omega (arith, length-spelling places fits)
+
+  place-is : (k : ℕ) → k < length bytes / 16 → slot places k ≡ place_in bytes k
+  place-is k low = ap (λ (ps : List (Option Entry)). slot ps k) (sym (places_in-back places fits)) ∙ slot-places_in bytes k low
 
   -- a name
-  pub name-told : (name : Bor (List ℕ)) (o : Option Found) → Scans (Name name) bytes 0 o → o ≡ found_in (places_in bytes) name.now
-  name-told name None none =
-      sym (found-none (places_in bytes) name.now (length bytes / 16) (omega (arith, long)) (λ k l. ap (has_name name.now) (place-is bytes k l) ∙ none k l (omega arith)))
+  pub name-told : (name : Bor (List ℕ)) (o : Option Found) → Scans (Name name) bytes 0 o → o ≡ found_in places name.now
+  name-told name None none = sym (found-none places name.now (length bytes / 16) (omega (arith, long)) (λ k l. ap (has_name name.now) (place-is k l) ∙ none k l (omega arith)))
   name-told name (Some found) is =
-      let here = place-is bytes found.place is.within in
-      let before = λ (k : ℕ) (l : k < found.place). let w = is.within in let low : k < length bytes / 16 = omega arith in ap (has_name name.now) (place-is bytes k low) ∙ is.before k l (omega arith) in
-      sym (found-at (places_in bytes) name.now found.place (let w = is.within in omega (arith, long)) before (ap (has_name name.now) here ∙ is.here)
+      let here = place-is found.place is.within in
+      let before = λ (k : ℕ) (l : k < found.place). let w = is.within in let low : k < length bytes / 16 = omega arith in ap (has_name name.now) (place-is k low) ∙ is.before k l (omega arith) in
+      sym (found-at places name.now found.place (let w = is.within in omega (arith, long)) before (ap (has_name name.now) here ∙ is.here)
       ∙ ap (found_at found.place) here ∙ named-place (part (16 * found.place) 16 bytes) name.now found.place found.number is.here is.number)
 
   -- a free place
-  pub free-told : (found : Found) → IsFirst Free bytes 0 found → Some found.place ≡ room_in (places_in bytes)
+  pub free-told : (found : Found) → IsFirst Free bytes 0 found → Some found.place ≡ room_in places
   free-told found is =
       let w = is.within in
-      sym (room-free (places_in bytes) found.place (omega (arith, long))
-      (λ j l. let low : j < length bytes / 16 = omega arith in ap is_some (place-is bytes j low) ∙ some-not (place_in bytes j) (is.before j l (omega arith)))
-      (place-is bytes found.place w ∙ none-not (place_in bytes found.place) is.here))
+      sym (room-free places found.place (omega (arith, long))
+      (λ j l. let low : j < length bytes / 16 = omega arith in ap is_some (place-is j low) ∙ some-not (place_in bytes j) (is.before j l (omega arith)))
+      (place-is found.place w ∙ none-not (place_in bytes found.place) is.here))
 
-  pub full-told : Scans Free bytes 0 None → (count : ℕ) → count ≡ length bytes / 16 → room_behind count ≡ room_in (places_in bytes)
+  pub full-told : Scans Free bytes 0 None → (count : ℕ) → count ≡ length places → room_behind count ≡ room_in places
   full-told none count is =
-      sym (room-end (places_in bytes) count count (omega (arith, long)) (omega arith) (λ j l. let low : j < length bytes / 16 = omega arith in ap is_some (place-is bytes j low) ∙ some-not (place_in bytes j) (none j low (omega arith))))
+      sym (room-end places count count (omega arith) (omega arith) (λ j l. let low : j < length bytes / 16 = omega (arith, long) in ap is_some (place-is j low) ∙ some-not (place_in bytes j) (none j low (omega arith))))
 
   -- a place in use, behind the first two
-  bare-is : (o : Option Found) → Scans Taken bytes 2 o → is_none o ≡ is_bare (places_in bytes)
-  bare-is None none =
-      sym (bare-yes (places_in bytes) (length bytes / 16) (omega (arith, long)) (λ k l low. place-is bytes k l ∙ free-of (place_in bytes k) (none k l low)))
+  bare-is : (o : Option Found) → Scans Taken bytes 2 o → is_none o ≡ is_bare places
+  bare-is None none = sym (bare-yes places (length bytes / 16) (omega (arith, long)) (λ k l low. place-is k l ∙ free-of (place_in bytes k) (none k l low)))
   bare-is (Some found) is =
       let entry = entry-of (place_in bytes found.place) is.here in
-      sym (bare-no (places_in bytes) found.place entry.0 is.behind (place-is bytes found.place is.within ∙ entry.1))
+      sym (bare-no places found.place entry.0 is.behind (place-is found.place is.within ∙ entry.1))
 
-  pub bare-told : (o : Option Found) → Scans Taken bytes 2 o → (none : Bool) → is_some o ≡ not none → none ≡ is_bare (places_in bytes)
+  pub bare-told : (o : Option Found) → Scans Taken bytes 2 o → (none : Bool) → is_some o ≡ not none → none ≡ is_bare places
   bare-told o scanned none is = none-is o none is ∙ bare-is o scanned
 
--- ---- a scan behind the count of places
+-- ---- the places of a directory
 
-pub scan-asked : {g : Geometry} {old mid : Disk} {d count : ℕ} {r : Result ℕ DeviceFault} → Reads old mid r (λ n. n ≡ length (bytes_of old.blocks d) / 16) → r ≡ Ok count → IsSound g old.blocks → IsInode old.blocks g.inodes d
-    → record { sound : IsSound g mid.blocks; inode : IsInode mid.blocks g.inodes d; count : count ≡ length (bytes_of mid.blocks d) / 16 }
-scan-asked {d = d} counted was sound inode =
-    let same = read-same counted was in
-    record { sound = sound-same same sound; inode = inode-same same inode; count = read-told counted was ∙ ap (λ b. length (bytes_of b d) / 16) (sym same) }
+pub folder-fits : {t : FileTree} {d : ℕ} → IsWhole t → (f : IsFolder t.files d) → All PlaceFits f.places
+folder-fits {d = d} whole f = subst FitsPlaces f.here (whole.places d)
+
+pub folder-node : {files : Files} {d : ℕ} → IsFolder files d → (x : Node) × (slot files d ≡ Some x)
+folder-node f = (Directory f.links f.places, f.here)

@@ -3,21 +3,17 @@ use Rattle.std.proofs.Common.{◌≡◌, ◌≢◌, ℕ, Bool, List, None, Optio
 use Rattle.std.specs.Prelude.{IsSome, option_and_then, option_map, position, suc}
 use Rattle.std.proofs.lemmas.List.{get_or-set_other}
 use Rattle.std.proofs.lemmas.Option.{none-some, same_Some}
-use Rattle.layout.specs.declared.Geometry.{Geometry}
-use Rattle.layout.specs.Image.{bytes_of, inode_at}
 use Rattle.tree.specs.declared.place.Found.{Found}
-use Rattle.tree.specs.Stored.{Stores, IsFileSystem, files_of}
 use Rattle.tree.specs.Names.{dropped, found_at, found_in, is_bare, removal}
 use Rattle.unixmodel.specs.NameCalls.{fewer_links, may_remove, removed_node, unlinked, without_name}
-use Rattle.imagerules.specs.Places.{places_in}
-use Rattle.tree.specs.Steps.{HasPlace}
+use Rattle.tree.specs.Steps.{HasPlace, IsFolder}
 use Rattle.tree.specs.Unlinks.{IsNaming}
 use Rattle.unixmodel.specs.Files.{Entry, Files, Node, Spot, change_node, entry_number, erase, has_name, is_directory, is_dot_name, live_places, lookup, place_of, slot, without_place}
 use Rattle.unixmodel.specs.Files.Node.{Directory}
-use Rattle.imagerules.proofs.Spelling.{places_in-back}
 use Rattle.names.proofs.Finding.{slot-set}
-use Rattle.tree.proofs.Linking.{node-of}
-use Rattle.tree.proofs.Storing.{held-fits, held-raw, slot-within}
+use Rattle.tree.proofs.Storing.{node-of, slot-within}
+use Rattle.inode.specs.declared.InodeStat.{InodeStat}
+use Rattle.tree.specs.Telling.{Tells}
 
 -- ---- a name among places
 
@@ -60,6 +56,9 @@ module _ (files : Files) (d links : ℕ) (places : List (Option Entry)) (here : 
 pub unlinked-dot : (files : Files) (at : Spot) → is_dot_name at.name ≡ true → unlinked files at ≡ None
 unfolding unlinked
 unlinked-dot files at e = rw e refl
+
+abbrev pub naming-folder : {files : Files} {d : ℕ} → IsNaming files d → IsFolder files d
+naming-folder naming = record { links = suc naming.links; places = naming.places; here = naming.here }
 
 module _ {files : Files} {d : ℕ} (naming : IsNaming files d) (name : List ℕ) where
   abbrev spot : Spot
@@ -124,27 +123,23 @@ stays-busy node h = go (may_remove node) h where
   go true q = absurd (none-some (is_directory node) (sym q))
   go false q = refl
 
--- ---- the disk
+-- what is told of a node by its type, and of its places
+module _ (node : Node) (s : InodeStat) (told : Tells s node) where
+  pub removal-other : s.kind ≢ 1 → removal node ≡ Some false
+  removal-other k = go node told where
+    go : (node : Node) → Tells s node → removal node ≡ Some false
+    go (Directory links places) told = absurd (k told.0)
+    go _ told = refl
 
-module _ (g : Geometry) (blocks : List (List ℕ)) (files : Files) (holds : Stores g blocks files) where
-  pub directory-places : (n links : ℕ) (places : List (Option Entry)) → slot files n ≡ Some (Directory links places) → places_in (bytes_of blocks n) ≡ places
-  directory-places n links places here =
-      let is = held-raw g blocks files holds n (Directory links places) here in
-      ap places_in is.bytes ∙ places_in-back places (held-fits g blocks files holds n (Directory links places) here)
+  pub removal-folder : {files : Files} {n : ℕ} → slot files n ≡ Some node → s.kind ≡ 1 → IsFolder files n
+  removal-folder {files} {n} here k = go node told here where
+    go : (node : Node) → Tells s node → slot files n ≡ Some node → IsFolder files n
+    go (Directory links places) told here = record { links = links; places = places; here = here }
+    go _ told here = absurd (let e = told.0 in omega arith)
 
-  -- what is told of a node by its type and its places
-  pub removal-other : (n : ℕ) (node : Node) → slot files n ≡ Some node → (inode_at blocks n).kind ≢ 1 → removal node ≡ Some false
-  removal-other n (Directory links places) here k = absurd (k (held-raw g blocks files holds n (Directory links places) here).kind)
-  removal-other n _ here k = refl
-
-  pub removal-directory : (n : ℕ) (node : Node) → slot files n ≡ Some node → (inode_at blocks n).kind ≡ 1 → (bare : Bool) → bare ≡ is_bare (places_in (bytes_of blocks n)) → removal node ≡ cond bare (Some true) None
-  removal-directory n (Directory links places) here k bare is =
-      ap (λ b. cond b (Some true) None) (sym (is ∙ ap is_bare (directory-places n links places here)))
-  removal-directory n node here k bare is = absurd (let e = (held-raw g blocks files holds n node here).kind in omega arith)
-
--- what a look for a name told
-pub named-in : {g : Geometry} {blocks : List (List ℕ)} (held : IsFileSystem g blocks) {d : ℕ} (naming : IsNaming (files_of g blocks) d) (name : List ℕ) {o x : Option Found} → o ≡ found_in (places_in (bytes_of blocks d)) name → o ≡ x → found_in naming.places name ≡ x
-named-in {g} {blocks} held {d} naming name told is = ap (λ places. found_in places name) (sym (directory-places g blocks (files_of g blocks) held d (suc naming.links) naming.places naming.here)) ∙ sym told ∙ is
+-- what is told of the places of a directory
+pub removal-directory : {files : Files} {n : ℕ} {node : Node} → slot files n ≡ Some node → {b : Bool} (f : IsFolder files n) → b ≡ is_bare f.places → cond b (Some true) None ≡ removal node
+removal-directory {files} {n} {node} here f told = ap (λ b. cond b (Some true) None) told ∙ ap removal (same_Some (Directory f.links f.places) node (sym f.here ∙ here))
 
 -- ---- the nodes that are there stay
 

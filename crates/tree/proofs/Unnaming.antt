@@ -1,30 +1,19 @@
 -- A name goes, by its path: why it is refused, and what the disk holds.
-use Rattle.std.proofs.Common.{◌≡◌, ◌≢◌, ℕ, ◌<◌, ◌≤◌, List, None, Option, Some, Result, length, ap, sym, refl, ◌∙◌, arith, subst, inl, inr}
-use Rattle.std.specs.Prelude.{Err, option_and_then, option_map}
-use Rattle.std.specs.Result.{IsErrAnd}
-use Rattle.cache.specs.Disk.{Disk}
-use Rattle.layout.specs.declared.Geometry.{Geometry}
+use Rattle.std.proofs.Common.{◌≡◌, ◌≢◌, ℕ, List, None, Option, Some, ap, refl, ◌∙◌, inl, inr}
+use Rattle.std.specs.Prelude.{option_and_then, option_map}
 use Rattle.names.proofs.Naming.{numbers-used}
 use Rattle.names.specs.Rules.{KeepsTree}
 use Rattle.tree.specs.declared.TreeFault.{TreeFault}
 use Rattle.tree.specs.declared.TreeFault.TheVariants.{DeadDir, DotName, NotDir, NotEmpty, NotFound}
 use Rattle.tree.specs.declared.TreeFault.TheVariants as fault
-use Rattle.tree.specs.Answers.{Answers}
-use Rattle.tree.specs.Stored.{Stores, IsFileSystem, files_of}
 use Rattle.tree.specs.Holding.{let_go}
 use Rattle.tree.specs.Lacking.{LacksUnlinking}
 use Rattle.tree.specs.Paths.{LacksSpot}
-use Rattle.tree.specs.Unlinks.{IsNaming, IsUnlinked, Unlinks, unlinked_in}
-use Rattle.tree.specs.Unlinks as unlinks
-use Rattle.unixmodel.specs.Files.{Files, Spot, lookup, slot, spot_of}
+use Rattle.tree.specs.Unlinks.{IsNaming, LacksName, unlinked_in}
+use Rattle.unixmodel.specs.Files.{Files, Spot, lookup, spot_of}
 use Rattle.unixmodel.specs.NameCalls.{unlinked}
-use Rattle.balloc.proofs.Exits.{told_err}
-use Rattle.tree.proofs.Answering.{err-is}
 use Rattle.tree.proofs.Gaps.{lacks-dead, lacks-other, spot-directory}
-use Rattle.tree.proofs.Linking.{some-node}
-use Rattle.tree.proofs.Reading.{Rises-before}
 use Rattle.tree.proofs.Spots.{spot-none}
-use Rattle.tree.proofs.Storing.{held-again, held-made, held-step, held-used, length-held, slot-within}
 
 -- the definitions make nothing, and this is why
 abbrev pub Refuses : List ℕ → Files → ℕ → List ℕ → TreeFault → Type 0
@@ -63,48 +52,10 @@ module _ (holds : List ℕ) (files : Files) (d : ℕ) (path : List ℕ) where
       let live = spot-directory files d path at spot in
       record { links = live.links; places = live.places; here = live.here; numbers = numbers-used keeps at.directory live.links live.places live.here }
 
--- what a refusal at the spot comes to
-pub spot-refused : (g : Geometry) (old new : Disk) (holds : List ℕ) (files : Files) → files_of g old.blocks ≡ files → (d : ℕ) (path : List ℕ) (at : Spot) → spot_of files d path ≡ Some at
-    → (told : TreeFault) → told ≢ fault.Device → Unlinks g old new at (Err told) → (new.blocks ≡ old.blocks) × Refuses holds files d path told
-spot-refused g old new holds files are d path at spot = go where
-  none : unlinked (files_of g old.blocks) at ≡ None → unlinked_in holds files d path ≡ None
-  none e = kept-name holds files d path at spot (ap (λ (fs : Files). unlinked fs at) (sym are) ∙ e)
-
-  go : (told : TreeFault) → told ≢ fault.Device → Unlinks g old new at (Err told) → (new.blocks ≡ old.blocks) × Refuses holds files d path told
-  go NotFound known h = (h.0.same, (none h.0.none, inr (record { at = at; spot = spot; is = ap (λ (fs : Files). lookup fs at.directory at.name) (sym are) ∙ h.1 })))
-  go NotEmpty known h = (h.0.same, (none h.0.none, record { at = at; spot = spot; is = subst (λ (fs : Files). unlinks.IsBusy fs at) are h.1 }))
-  go DotName known h = (h.0.same, (none h.0.none, record { at = at; spot = spot; is = h.1 }))
-  go fault.Device known h = absurd (known refl)
-  go _ known h = absurd h
-
--- no name goes, behind a look for the spot that left the disk as it was
-pub spot-answers : (g : Geometry) (old mid new : Disk) (holds : List ℕ) (d : ℕ) (path : List ℕ) (at : Spot) → spot_of (files_of g old.blocks) d path ≡ Some at → mid.blocks ≡ old.blocks → old.failures ≤ mid.failures
-    → length new.blocks ≡ length mid.blocks → mid.failures ≤ new.failures → (told : TreeFault) → Unlinks g mid new at (Err told) → {T : Type 0} {Done : T → Type 0} {result : Result T TreeFault} → IsErrAnd result (λ f. f ≡ told)
-    → Answers old new result Done (unlinked_in holds (files_of g old.blocks) d path ≡ None) (LacksUnlinking (files_of g old.blocks) d path)
-spot-answers g old mid new holds d path at spot same later count after told gives {T} {Done} {result} is =
-    subst (λ q. Answers old new q Done (unlinked_in holds (files_of g old.blocks) d path ≡ None) (LacksUnlinking (files_of g old.blocks) d path)) (sym (told_err result is)) (record {
-      done = tt;
-      refused = λ known.
-          let no = spot-refused g mid new holds (files_of g old.blocks) (ap (files_of g) same) d path at spot told known gives in
-          record { refused = no.1.0; why = no.1.1; same = no.0 ∙ same };
-      count = count ∙ ap length same;
-      later = omega arith;
-      failed = λ e. Rises-before later (subst (λ f. Unlinks g mid new at (Err f)) (err-is told fault.Device e) gives);
-    })
-
--- ---- the name is gone
-
-module _ {g : Geometry} {old new : List (List ℕ)} {at : Spot} {n : ℕ} (u : IsUnlinked g old new at n) where
-  -- what letting its node go asks
-  pub gone-asked : (holds : List ℕ) → length holds ≡ g.inodes → record { held : IsFileSystem g new; node : slot (files_of g new) n ≢ None; within : n < length holds }
-  gone-asked holds count =
-      let node = some-node (slot u.files n) u.stands in
-      let high = slot-within u.files n node.0 node.1 in
-      let long = length-held g new u.files u.holds in
-      record { held = held-again g new u.files u.holds; node = held-used u.holds n u.stands; within = omega arith }
-
-  pub gone-done : {before last : List (List ℕ)} (holds : List ℕ) (d : ℕ) (path : List ℕ) → old ≡ before → spot_of (files_of g before) d path ≡ Some at → Stores g last (let_go holds (files_of g new) n)
-      → IsFileSystem g last × (unlinked_in holds (files_of g before) d path ≡ Some (files_of g last))
-  gone-done {before} {last} holds d path same spot now =
-      held-made (held-step u.holds (λ fs. let_go holds fs n) now) Some
-      (gone-name holds (files_of g before) d path at spot n u.files (ap (λ b. lookup (files_of g b) at.directory at.name) (sym same) ∙ u.named) (ap (λ b. unlinked (files_of g b) at) (sym same) ∙ u.made))
+  -- why no name goes at the spot of a path
+  pub refused-at : (at : Spot) → spot_of files d path ≡ Some at → (told : TreeFault) → told ≢ fault.Device → unlinked files at ≡ None → LacksName files at told → Refuses holds files d path told
+  refused-at at spot NotFound known none why = (kept-name at spot none, inr (record { at = at; spot = spot; is = why }))
+  refused-at at spot NotEmpty known none why = (kept-name at spot none, record { at = at; spot = spot; is = why })
+  refused-at at spot DotName known none why = (kept-name at spot none, record { at = at; spot = spot; is = why })
+  refused-at at spot fault.Device known none why = absurd (known refl)
+  refused-at at spot _ known none why = absurd why

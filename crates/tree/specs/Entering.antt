@@ -1,7 +1,6 @@
 -- How an entry comes into a directory, and what it needs.
 use Rattle.std.specs.Prelude.{IsSome, List, None, Option, Some, [], if◌then◌else◌, length, nat_lt, option_and_then, option_map, suc, ℕ, ◌*◌, ◌++◌, ◌+◌, ◌-◌, ◌<◌, ◌==◌, ◌∷◌, ◌≡◌, ◌≤◌}
-use Rattle.layout.specs.declared.Geometry.{Geometry}
-use Rattle.layout.specs.Image.{free_blocks, taken_for}
+use Rattle.layout.specs.Image.{taken_for}
 use Rattle.unixmodel.specs.Counts.{blocks_of}
 use Rattle.unixmodel.specs.Files.{Entry, Files, Node, Spot, change_node, find, free_slot, lookup, most_places, places_at, put, slot, spot_of}
 use Rattle.unixmodel.specs.Files.Node.{Device, Directory, File}
@@ -50,14 +49,14 @@ pub record HasRoom (files : Files) (d k : ℕ) : Type 0 where
 
 -- this spot is that of a path, its name is free, and its entry is to stand in place k; there are `more` blocks beside those that
 -- it takes
-pub record HasGap (g : Geometry) (blocks : List (List ℕ)) (files : Files) (d : ℕ) (path : List ℕ) (more : ℕ) (at : Spot) (k : ℕ) : Type 0 where
+pub record HasGap (limit : ℕ) (files : Files) (d : ℕ) (path : List ℕ) (more : ℕ) (at : Spot) (k : ℕ) : Type 0 where
   pub spot : spot_of files d path ≡ Some at
   pub free : lookup files at.directory at.name ≡ None
   pub links : ℕ
   pub places : List (Option Entry)
   pub here : slot files at.directory ≡ Some (Directory (suc links) places)
   pub room : room_in places ≡ Some k
-  pub fits : growth places k + more ≤ free_blocks g blocks
+  pub fits : blocks_of files + (growth places k + more) ≤ limit
 
 -- the name is there
 pub record IsThere (files : Files) (d : ℕ) (path : List ℕ) : Type 0 where

@@ -1,8 +1,7 @@
 -- A file system in use, as callers see it.
 use Rattle.std.specs.Prelude.{Bool, Err, IfErr, IfOk, IsErrOf, List, Ok, OnErr, OnOk, Result, false, length, replicate, true, ℕ, ◌≡◌, ◌≢◌, ◌≤◌}
 use Rattle.blockdev.specs.declared.DeviceFault.{DeviceFault}
-use Rattle.cache.specs.Disk.{Disk}
-use Rattle.layout.specs.declared.Geometry.{Geometry}
+use Rattle.inode.specs.Store.{Store}
 use Rattle.tree.specs.declared.tree.Tree.TheInside.{Inside}
 use Rattle.tree.specs.declared.TreeFault.{TreeFault}
 use Rattle.tree.specs.declared.TreeFault.TheVariants.{Device}
@@ -13,7 +12,8 @@ use Rattle.unixmodel.specs.Manifest.{data_blocks_of}
 
 pub record FileTree : Type 0 where
   pub files : Files
-  -- how many data blocks the disk has
+  -- how many blocks the disk has, and how many of them are for data
+  pub size : ℕ
   pub block_limit : ℕ
   -- how many open files and working directories hold each number
   pub holds : List ℕ
@@ -21,22 +21,27 @@ pub record FileTree : Type 0 where
   pub failed : Bool
   pub failures : ℕ
 
--- the files that a disk holds, of which nobody holds any, before any access has failed
-abbrev pub tree_over : Geometry → Disk → FileTree
-tree_over g disk = record { files = files_of g disk.blocks; block_limit = data_blocks_of g.size g.inodes; holds = replicate g.inodes 0; failed = false; failures = disk.failures }
-
-abbrev pub tree_of : {D : Type 0} → Inside D → FileTree
-tree_of t = record {
-  files = files_of t.geometry t.disk.blocks;
-  block_limit = data_blocks_of t.geometry.size t.geometry.inodes;
-  holds = t.holds.items;
-  failed = t.failed;
-  failures = t.disk.failures;
+-- the files that a volume holds, and who holds them
+abbrev pub tree_with : {D : Type 0} → Store D → List ℕ → FileTree
+tree_with s holds = record {
+  files = files_of s.nodes;
+  size = s.geometry.size;
+  block_limit = data_blocks_of s.geometry.size s.geometry.inodes;
+  holds = holds;
+  failed = s.failed;
+  failures = s.failures;
 }
 
+-- nobody does
+abbrev pub tree_over : {D : Type 0} → Store D → FileTree
+tree_over s = tree_with s (replicate s.geometry.inodes 0)
+
+abbrev pub tree_of : {D : Type 0} → Inside D → FileTree
+tree_of t = tree_with t.volume t.holds.items
+
 pub record IsInside {D : Type 0} (t : Inside D) : Type 0 where
-  pub count : length t.holds.items ≡ t.geometry.inodes
-  pub held : t.failed ≡ false → IsFileSystem t.geometry t.disk.blocks
+  pub count : length t.holds.items ≡ t.volume.geometry.inodes
+  pub held : t.volume.failed ≡ false → IsFileSystem t.volume
 
 -- what a call on a file system answers: what is told holds, and no access has failed; an error is told only where the device
 -- counts one
@@ -45,6 +50,10 @@ pub record Serves {T : Type 0} (old new : FileTree) (result : Result T DeviceFau
   pub up : OnOk result (new.failed ≡ false)
   pub down : OnErr result (new.failed ≡ true)
   pub cause : HasCause old.failures new.failures result
+
+-- this is told, and nothing is changed
+abbrev pub Looks : {T : Type 0} → FileTree → FileTree → Result T DeviceFault → (T → Type 0) → Type 0
+Looks old new result Told = Serves old new result (λ x. (new ≡ record old { failures = new.failures }) × Told x)
 
 -- ---- calls on names
 
@@ -67,6 +76,7 @@ pub record Acts {T : Type 0} (old new : FileTree) (result : Result T TreeFault) 
   pub done : IfOk result Done
   pub refused : IfErr result (λ fault. fault ≢ Device → IsRefusal old new Refused (Why fault))
   pub failed : new.failed ≡ has_failed result
+  pub size : new.size ≡ old.size
   pub limit : new.block_limit ≡ old.block_limit
   pub holds : new.holds ≡ old.holds
   pub later : old.failures ≤ new.failures

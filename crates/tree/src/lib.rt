@@ -9,12 +9,11 @@ mod removing;
 mod step;
 mod sweeping;
 mod tree;
-mod writing;
 
 use blockdev::DeviceFault;
-pub use making::{Leaf, create, link};
-pub use path::{find, spot};
-pub use place::{Found, find_name};
+pub use entering::Gap;
+pub use making::Leaf;
+pub use place::Found;
 use thiserror::Error;
 pub use tree::Tree;
 

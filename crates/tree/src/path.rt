@@ -1,19 +1,15 @@
 //! Paths: their names, and what they reach.
 
-ghost use Rattle.std.specs.Prelude.{◌≡◌, ◌<◌, IfNone, IfSome, IsSome, None, Some, [], ◌∷◌, length, not, option_map, position, ◌==◌};
+ghost use Rattle.std.specs.Prelude.{◌≡◌, ◌<◌, IfNone, IfSome, IsSome, None, Some, [], ◌∷◌, false, length, not, option_map, position, ◌==◌};
 ghost use Rattle.names.specs.Rules.{KeepsTree};
-ghost use Rattle.tree.specs.Answers.{Answers};
-ghost use Rattle.tree.specs.Stored.{IsFileSystem, files_of};
 ghost use Rattle.tree.specs.Paths.{LacksSpot, above};
 ghost use Rattle.tree.specs.Steps.{Reads};
+ghost use Rattle.tree.specs.Tree.{Acts, Looks};
 ghost use Rattle.unixmodel.specs.Files.{find, parts, slot, spot_of, start_of};
 
-use crate::TreeFault;
-use crate::place::{DIRECTORY, lookup};
+use crate::place::DIRECTORY;
+use crate::{Tree, TreeFault};
 use blockdev::{BlockDev, DeviceFault};
-use cache::Cache;
-use inode::stat;
-use layout::Geometry;
 
 // The number of the root.
 const ROOT: usize = 1;
@@ -57,81 +53,90 @@ fn first_name<'a>(path: &'a [u8]) -> Option<(&'a [u8], &'a [u8])>
     Some((&rest[..end.min(NAME_SIZE)], &rest[end..]))
 }
 
-/// The number that a path reaches from a directory.
-pub fn find<D: BlockDev>(
-    disk: &mut Cache<D>,
-    geometry: Geometry,
-    directory: usize,
-    path: &[u8],
-) -> Result<Option<usize>, DeviceFault>
-    requires held { IsFileSystem geometry disk.old.blocks }
-    requires rules { KeepsTree (files_of geometry disk.old.blocks) }
-    requires directory { IsSome (slot (files_of geometry disk.old.blocks) directory) }
-    ensures { Reads disk.old disk.new result (λ number. number ≡ find (files_of geometry disk.old.blocks) directory path.now) }
-{
-    let mut number = start(directory, path);
-    let mut rest = path;
-    'name: while let Some((name, after)) = first_name(rest) {
-        let Some(next) = lookup(disk, geometry, number, name)? else {
+impl<D: BlockDev> Tree<D> {
+    /// The number that a path reaches from a directory.
+    pub fn resolve(&mut self, directory: usize, path: &[u8]) -> Result<Option<usize>, DeviceFault>
+        requires up { self.old.failed ≡ false }
+        requires rules { KeepsTree self.old.files }
+        requires directory { IsSome (slot self.old.files directory) }
+        ensures { Looks self.old self.new result (λ number. number ≡ find self.old.files directory path.now) }
+    {
+        self.find(directory, path)
+    }
+
+    // What `resolve` tells.
+    pub(crate) fn find(
+        &mut self,
+        directory: usize,
+        path: &[u8],
+    ) -> Result<Option<usize>, DeviceFault>
+        requires up { self.old.failed ≡ false }
+        requires rules { KeepsTree self.old.files }
+        requires directory { IsSome (slot self.old.files directory) }
+        ensures { Reads self.old self.new result (λ number. number ≡ find self.old.files directory path.now) }
+    {
+        let mut number = start(directory, path);
+        let mut rest = path;
+        'name: while let Some((name, after)) = first_name(rest) {
+            let Some(next) = self.lookup(number, name)? else {
+                return Ok(None);
+            };
+            number = next;
+            rest = after;
+        }
+        Ok(Some(number))
+    }
+
+    /// The directory in which the last name of a path stands or is to stand, and that name. `NotFound` comes where nothing stands
+    /// above it, `NotDir` where that is no directory, and `DeadDir` where it is one without links.
+    pub fn spot<'a>(
+        &mut self,
+        directory: usize,
+        path: &'a [u8],
+    ) -> Result<(usize, &'a [u8]), TreeFault>
+        requires up { self.old.failed ≡ false }
+        requires rules { KeepsTree self.old.files }
+        requires directory { IsSome (slot self.old.files directory) }
+        ensures { Acts self.old self.new result (λ two. (spot_of self.old.files directory path.now ≡ Some (record { directory = two.0; name = two.1.now })) × (self.new.files ≡ self.old.files)) (spot_of self.old.files directory path.now ≡ None) (LacksSpot self.old.files directory path.now) }
+    {
+        let Some((number, name)) = self.reach(directory, path)? else {
+            return Err(TreeFault::NotFound);
+        };
+        let node = self.node(number)?;
+        if node.kind != DIRECTORY {
+            return Err(TreeFault::NotDir);
+        }
+        if node.links == 0 {
+            return Err(TreeFault::DeadDir);
+        }
+        Ok((number, name))
+    }
+
+    // What all but the last name of a path reach, and the last.
+    fn reach<'a>(
+        &mut self,
+        directory: usize,
+        path: &'a [u8],
+    ) -> Result<Option<(usize, &'a [u8])>, DeviceFault>
+        requires up { self.old.failed ≡ false }
+        requires rules { KeepsTree self.old.files }
+        requires directory { IsSome (slot self.old.files directory) }
+        ensures { Reads self.old self.new result (λ o. option_map (λ two. (two.0, two.1.now)) o ≡ above self.old.files directory path.now) }
+    {
+        let Some((first, after)) = first_name(path) else {
             return Ok(None);
         };
-        number = next;
-        rest = after;
+        let mut number = start(directory, path);
+        let mut name = first;
+        let mut rest = after;
+        'name: while let Some((last, after)) = first_name(rest) {
+            let Some(next) = self.lookup(number, name)? else {
+                return Ok(None);
+            };
+            number = next;
+            name = last;
+            rest = after;
+        }
+        Ok(Some((number, name)))
     }
-    Ok(Some(number))
-}
-
-// What all but the last name of a path reach, and the last.
-fn reach<'a, D: BlockDev>(
-    disk: &mut Cache<D>,
-    geometry: Geometry,
-    directory: usize,
-    path: &'a [u8],
-) -> Result<Option<(usize, &'a [u8])>, DeviceFault>
-    requires held { IsFileSystem geometry disk.old.blocks }
-    requires rules { KeepsTree (files_of geometry disk.old.blocks) }
-    requires directory { IsSome (slot (files_of geometry disk.old.blocks) directory) }
-    ensures { Reads disk.old disk.new result (λ o. option_map (λ two. (two.0, two.1.now)) o ≡ above (files_of geometry disk.old.blocks) directory path.now) }
-{
-    let Some((first, after)) = first_name(path) else {
-        return Ok(None);
-    };
-    let mut number = start(directory, path);
-    let mut name = first;
-    let mut rest = after;
-    'name: while let Some((last, after)) = first_name(rest) {
-        let Some(next) = lookup(disk, geometry, number, name)? else {
-            return Ok(None);
-        };
-        number = next;
-        name = last;
-        rest = after;
-    }
-    Ok(Some((number, name)))
-}
-
-/// The directory in which the last name of a path stands or is to stand, and that name. `NotFound` comes where nothing stands
-/// above it, `NotDir` where that is no directory, and `DeadDir` where it is one without links.
-pub fn spot<'a, D: BlockDev>(
-    disk: &mut Cache<D>,
-    geometry: Geometry,
-    directory: usize,
-    path: &'a [u8],
-) -> Result<(usize, &'a [u8]), TreeFault>
-    requires held { IsFileSystem geometry disk.old.blocks }
-    requires rules { KeepsTree (files_of geometry disk.old.blocks) }
-    requires directory { IsSome (slot (files_of geometry disk.old.blocks) directory) }
-    ensures { Answers disk.old disk.new result (λ two. (spot_of (files_of geometry disk.old.blocks) directory path.now ≡ Some (record { directory = two.0; name = two.1.now })) × (disk.new.blocks ≡ disk.old.blocks)) (spot_of (files_of geometry disk.old.blocks) directory path.now ≡ None) (LacksSpot (files_of geometry disk.old.blocks) directory path.now) }
-{
-    let Some((number, name)) = reach(disk, geometry, directory, path)? else {
-        return Err(TreeFault::NotFound);
-    };
-    let node = stat(disk, geometry, number)?;
-    if node.kind != DIRECTORY {
-        return Err(TreeFault::NotDir);
-    }
-    if node.links == 0 {
-        return Err(TreeFault::DeadDir);
-    }
-    Ok((number, name))
 }

@@ -1,22 +1,19 @@
 //! The places of a directory.
 
-ghost use Rattle.std.specs.Prelude.{◌≡◌, IsSome, ℕ, ◌+◌, ◌-◌, ◌*◌, ◌/◌, ◌%◌, ◌<◌, ◌≤◌, ◌==◌, List, get_or, length, nat_lt, ◌&&◌};
+ghost use Rattle.std.specs.Prelude.{◌≡◌, IsSome, ℕ, ◌+◌, ◌-◌, ◌*◌, ◌/◌, ◌%◌, ◌<◌, ◌≤◌, ◌==◌, List, false, flat_map, get_or, length, nat_lt, ◌&&◌};
 ghost use Rattle.std.specs.List.{list_all};
 ghost use Rattle.blockdev.specs.Splice.{part};
-ghost use Rattle.layout.specs.Image.{IsInode, bytes_of};
-ghost use Rattle.layout.specs.Sound.{IsSound};
-ghost use Rattle.tree.specs.Stored.{IsFileSystem, files_of};
 ghost use Rattle.tree.specs.Entering.{room_behind, room_in};
 ghost use Rattle.tree.specs.Names.{found_in, is_bare};
 ghost use Rattle.tree.specs.Scanning.{Scans, is_sought};
-ghost use Rattle.imagerules.specs.Places.{place_of_bytes, places_in, without_zeros};
-ghost use Rattle.tree.specs.Steps.{Reads};
-ghost use Rattle.unixmodel.specs.Files.{has_name, lookup, slot};
+ghost use Rattle.imagerules.specs.Places.{place_of_bytes, without_zeros};
+ghost use Rattle.tree.specs.Steps.{IsFolder, Reads};
+ghost use Rattle.unixmodel.specs.Files.{has_name, lookup, place_bytes, slot};
 
+use crate::Tree;
 use blockdev::{BLOCK_SIZE, BlockDev, DeviceFault};
-use cache::Cache;
-use inode::{InodeStat, read_at, stat};
-use layout::{Entry, Geometry, LONGEST};
+use inode::InodeStat;
+use layout::{Entry, LONGEST};
 
 /// The type of a directory's inode.
 pub const DIRECTORY: u16 = 1;
@@ -131,127 +128,11 @@ fn first(places: &[u8], sought: &Sought) -> Option<Found>
     None
 }
 
-// How many places a directory has.
-fn count_places<D: BlockDev>(
-    disk: &mut Cache<D>,
-    geometry: Geometry,
-    directory: usize,
-) -> Result<usize, DeviceFault>
-    requires sound { IsSound geometry disk.old.blocks }
-    requires inode { IsInode disk.old.blocks geometry.inodes directory }
-    ensures { Reads disk.old disk.new result (λ count. count ≡ length (bytes_of disk.old.blocks directory) / 16) }
-{
-    let stat = stat(disk, geometry, directory)?;
-    Ok(stat.size as usize / PLACE_SIZE)
-}
-
-// Reads places of a directory from place `k` on, as many as `out` has room for.
-fn read_places<D: BlockDev>(
-    disk: &mut Cache<D>,
-    geometry: Geometry,
-    directory: usize,
-    k: usize,
-    out: &mut [u8],
-) -> Result<(), DeviceFault>
-    requires sound { IsSound geometry disk.old.blocks }
-    requires inode { IsInode disk.old.blocks geometry.inodes directory }
-    requires within { 16 * k + length out.old ≤ length (bytes_of disk.old.blocks directory) }
-    ensures { Reads disk.old disk.new result (λ _. out.new ≡ part (16 * k) (length out.old) (bytes_of disk.old.blocks directory)) }
-{
-    let _count = read_at(disk, geometry, directory, PLACE_SIZE * k, out)?;
-    Ok(())
-}
-
-// The first place from `from` on that is what is sought, of a directory with so many places. It is read by blocks.
-fn scan<D: BlockDev>(
-    disk: &mut Cache<D>,
-    geometry: Geometry,
-    directory: usize,
-    count: usize,
-    from: usize,
-    sought: &Sought,
-) -> Result<Option<Found>, DeviceFault>
-    requires sound { IsSound geometry disk.old.blocks }
-    requires inode { IsInode disk.old.blocks geometry.inodes directory }
-    requires count { count ≡ length (bytes_of disk.old.blocks directory) / 16 }
-    ensures { Reads disk.old disk.new result (Scans sought.now (bytes_of disk.old.blocks directory) from) }
-{
-    let mut block = [0; BLOCK_SIZE];
-    let mut k = from;
-    'block: while k < count {
-        let places = (PLACES - k % PLACES).min(count - k);
-        let bytes = &mut block[..PLACE_SIZE * places];
-        read_places(disk, geometry, directory, k, bytes)?;
-        if let Some(found) = first(bytes, sought) {
-            return Ok(Some(Found {
-                place: k + found.place,
-                number: found.number,
-            }));
-        }
-        k += places;
-    }
-    Ok(None)
-}
-
-/// Where a name stands in a directory.
-pub fn find_name<D: BlockDev>(
-    disk: &mut Cache<D>,
-    geometry: Geometry,
-    directory: usize,
-    name: &[u8],
-) -> Result<Option<Found>, DeviceFault>
-    requires sound { IsSound geometry disk.old.blocks }
-    requires inode { IsInode disk.old.blocks geometry.inodes directory }
-    ensures { Reads disk.old disk.new result (λ found. found ≡ found_in (places_in (bytes_of disk.old.blocks directory)) name.now) }
-{
-    let count = count_places(disk, geometry, directory)?;
-    scan(disk, geometry, directory, count, 0, &Sought::Name(name))
-}
-
 // Whether a node is a directory with links.
 fn is_live(node: &InodeStat) -> bool
     ensures { result ≡ (node.now.kind == 1) && nat_lt 0 node.now.links }
 {
     node.kind == DIRECTORY && node.links > 0
-}
-
-/// The number that a name has in a directory with links. In all else no name is found.
-pub fn lookup<D: BlockDev>(
-    disk: &mut Cache<D>,
-    geometry: Geometry,
-    directory: usize,
-    name: &[u8],
-) -> Result<Option<usize>, DeviceFault>
-    requires held { IsFileSystem geometry disk.old.blocks }
-    requires node { IsSome (slot (files_of geometry disk.old.blocks) directory) }
-    ensures { Reads disk.old disk.new result (λ number. number ≡ lookup (files_of geometry disk.old.blocks) directory name.now) }
-{
-    let node = stat(disk, geometry, directory)?;
-    if !is_live(&node) {
-        return Ok(None);
-    }
-    let Some(found) = find_name(disk, geometry, directory, name)? else {
-        return Ok(None);
-    };
-    Ok(Some(found.number))
-}
-
-/// The place in which a new entry of a directory is to stand: the first free one, or the end. `None` comes where the directory
-/// is full.
-pub fn room<D: BlockDev>(
-    disk: &mut Cache<D>,
-    geometry: Geometry,
-    directory: usize,
-) -> Result<Option<usize>, DeviceFault>
-    requires sound { IsSound geometry disk.old.blocks }
-    requires inode { IsInode disk.old.blocks geometry.inodes directory }
-    ensures { Reads disk.old disk.new result (λ place. place ≡ room_in (places_in (bytes_of disk.old.blocks directory))) }
-{
-    let count = count_places(disk, geometry, directory)?;
-    match scan(disk, geometry, directory, count, 0, &Sought::Free)? {
-        Some(found) => Ok(Some(found.place)),
-        None => Ok(end_place(count)),
-    }
 }
 
 // The place behind so many, unless that is past the longest directory.
@@ -265,17 +146,119 @@ fn end_place(count: usize) -> Option<usize>
     }
 }
 
-/// Whether a directory has no places in use but its first two.
-pub fn is_empty<D: BlockDev>(
-    disk: &mut Cache<D>,
-    geometry: Geometry,
-    directory: usize,
-) -> Result<bool, DeviceFault>
-    requires sound { IsSound geometry disk.old.blocks }
-    requires inode { IsInode disk.old.blocks geometry.inodes directory }
-    ensures { Reads disk.old disk.new result (λ bare. bare ≡ is_bare (places_in (bytes_of disk.old.blocks directory))) }
-{
-    let count = count_places(disk, geometry, directory)?;
-    let taken = scan(disk, geometry, directory, count, 2, &Sought::Taken)?;
-    Ok(taken.is_none())
+impl<D: BlockDev> Tree<D> {
+    // How many places a directory has.
+    fn count_places(&mut self, directory: usize) -> Result<usize, DeviceFault>
+        requires up { self.old.failed ≡ false }
+        requires directory { IsFolder self.old.files directory }
+        ensures { Reads self.old self.new result (λ count. (f : IsFolder self.old.files directory) → count ≡ length f.places) }
+    {
+        let node = self.node(directory)?;
+        Ok(node.size as usize / PLACE_SIZE)
+    }
+
+    // Reads places of a directory from place `k` on, as many as `out` has room for.
+    fn read_places(&mut self, directory: usize, k: usize, out: &mut [u8]) -> Result<(), DeviceFault>
+        requires up { self.old.failed ≡ false }
+        requires directory { IsFolder self.old.files directory }
+        requires within { (f : IsFolder self.old.files directory) → 16 * k + length out.old ≤ 16 * length f.places }
+        ensures { Reads self.old self.new result (λ _. (f : IsFolder self.old.files directory) → out.new ≡ part (16 * k) (length out.old) (flat_map place_bytes f.places)) }
+    {
+        self.is_whole();
+        let _count = self.bytes(directory, PLACE_SIZE * k, out)?;
+        Ok(())
+    }
+
+    // The first place from `from` on that is what is sought, of a directory with so many places. It is read by blocks.
+    fn scan(
+        &mut self,
+        directory: usize,
+        count: usize,
+        from: usize,
+        sought: &Sought,
+    ) -> Result<Option<Found>, DeviceFault>
+        requires up { self.old.failed ≡ false }
+        requires directory { IsFolder self.old.files directory }
+        requires count { (f : IsFolder self.old.files directory) → count ≡ length f.places }
+        ensures { Reads self.old self.new result (λ o. (f : IsFolder self.old.files directory) → Scans sought.now (flat_map place_bytes f.places) from o) }
+    {
+        self.is_whole();
+        let mut block = [0; BLOCK_SIZE];
+        let mut k = from;
+        'block: while k < count {
+            let places = (PLACES - k % PLACES).min(count - k);
+            let bytes = &mut block[..PLACE_SIZE * places];
+            self.read_places(directory, k, bytes)?;
+            if let Some(found) = first(bytes, sought) {
+                return Ok(Some(Found {
+                    place: k + found.place,
+                    number: found.number,
+                }));
+            }
+            k += places;
+        }
+        Ok(None)
+    }
+
+    // Where a name stands in a directory.
+    pub(crate) fn find_name(
+        &mut self,
+        directory: usize,
+        name: &[u8],
+    ) -> Result<Option<Found>, DeviceFault>
+        requires up { self.old.failed ≡ false }
+        requires directory { IsFolder self.old.files directory }
+        ensures { Reads self.old self.new result (λ found. (f : IsFolder self.old.files directory) → found ≡ found_in f.places name.now) }
+    {
+        self.is_whole();
+        let count = self.count_places(directory)?;
+        self.scan(directory, count, 0, &Sought::Name(name))
+    }
+
+    // The number that a name has in a directory with links. In all else no name is found.
+    pub(crate) fn lookup(
+        &mut self,
+        directory: usize,
+        name: &[u8],
+    ) -> Result<Option<usize>, DeviceFault>
+        requires up { self.old.failed ≡ false }
+        requires node { IsSome (slot self.old.files directory) }
+        ensures { Reads self.old self.new result (λ number. number ≡ lookup self.old.files directory name.now) }
+    {
+        let node = self.node(directory)?;
+        if !is_live(&node) {
+            return Ok(None);
+        }
+        let Some(found) = self.find_name(directory, name)? else {
+            return Ok(None);
+        };
+        Ok(Some(found.number))
+    }
+
+    // The place in which a new entry of a directory is to stand: the first free one, or the end. `None` comes where the directory
+    // is full.
+    pub(crate) fn room(&mut self, directory: usize) -> Result<Option<usize>, DeviceFault>
+        requires up { self.old.failed ≡ false }
+        requires directory { IsFolder self.old.files directory }
+        ensures { Reads self.old self.new result (λ place. (f : IsFolder self.old.files directory) → place ≡ room_in f.places) }
+    {
+        self.is_whole();
+        let count = self.count_places(directory)?;
+        match self.scan(directory, count, 0, &Sought::Free)? {
+            Some(found) => Ok(Some(found.place)),
+            None => Ok(end_place(count)),
+        }
+    }
+
+    // Whether a directory has no places in use but its first two.
+    pub(crate) fn is_empty(&mut self, directory: usize) -> Result<bool, DeviceFault>
+        requires up { self.old.failed ≡ false }
+        requires directory { IsFolder self.old.files directory }
+        ensures { Reads self.old self.new result (λ bare. (f : IsFolder self.old.files directory) → bare ≡ is_bare f.places) }
+    {
+        self.is_whole();
+        let count = self.count_places(directory)?;
+        let taken = self.scan(directory, count, 2, &Sought::Taken)?;
+        Ok(taken.is_none())
+    }
 }

@@ -1,139 +1,106 @@
-//! Steps that change one node of a disk.
+//! Steps that change one node.
 
-ghost use Rattle.std.specs.Prelude.{◌≡◌, ◌≢◌, ℕ, ◌+◌, ◌-◌, ◌*◌, ◌<◌, ◌≤◌, None, Some, length};
-ghost use Rattle.tree.specs.Stored.{IsFileSystem, files_of};
-ghost use Rattle.tree.specs.Holding.{let_go};
+ghost use Rattle.std.specs.Prelude.{◌≡◌, ◌≢◌, ℕ, ◌+◌, ◌-◌, ◌*◌, ◌<◌, ◌≤◌, None, Some, false};
+ghost use Rattle.tree.specs.Holding.{let_go, unheld, without_hold, holders};
 ghost use Rattle.tree.specs.Names.{dropped};
+ghost use Rattle.tree.specs.Steps.{HasPlace, Reads, Turns};
+ghost use Rattle.tree.specs.Tree.{Serves};
+ghost use Rattle.unixmodel.specs.Files.{Node, change_node, erase, links_of, slot};
 ghost use Rattle.unixmodel.specs.NameCalls.{emptied, fewer_links, more_links};
-ghost use Rattle.tree.specs.Steps.{HasPlace, Turns};
-ghost use Rattle.unixmodel.specs.Files.{Node, change_node, clear, erase, links_of, slot};
 
-use balloc::give_inode;
+use crate::Tree;
 use blockdev::{BlockDev, DeviceFault};
-use cache::Cache;
-use inode::{InodeFault, set_links, stat, truncate, write_at};
-use layout::Geometry;
 
 // The type of a file's inode.
 const FILE: u16 = 2;
 
-/// A place of a directory becomes free.
-pub fn free_place<D: BlockDev>(
-    disk: &mut Cache<D>,
-    geometry: Geometry,
-    directory: usize,
-    k: usize,
-) -> Result<(), DeviceFault>
-    requires held { IsFileSystem geometry disk.old.blocks }
-    requires place { HasPlace (files_of geometry disk.old.blocks) directory k }
-    ensures { Turns geometry disk.old disk.new result (erase (files_of geometry disk.old.blocks) directory k) }
-{
-    match write_at(disk, geometry, directory, 16 * k, &[0; 16]) {
-        Ok(()) => Ok(()),
-        Err(InodeFault::Device) => Err(DeviceFault),
-        Err(InodeFault::Blocks { .. }) => unreachable!(),
-        Err(InodeFault::TooLong) => unreachable!(),
-        Err(InodeFault::PastEnd) => unreachable!(),
+impl<D: BlockDev> Tree<D> {
+    /// One that held a node lets go: it goes with its blocks where it has no links and nobody else holds it.
+    pub fn drop_hold(&mut self, number: usize) -> Result<(), DeviceFault>
+        requires up { self.old.failed ≡ false }
+        requires node { slot self.old.files number ≢ None }
+        requires some { 1 ≤ holders self.old.holds number }
+        ensures { Serves self.old self.new result (λ done. self.new ≡ record self.old { files = let_go (without_hold self.old.holds number) self.old.files number; holds = without_hold self.old.holds number; failures = self.new.failures }) }
+    {
+        self.unhold(number);
+        self.let_go(number)
     }
-}
 
-/// A node has one link fewer.
-pub fn drop_link<D: BlockDev>(
-    disk: &mut Cache<D>,
-    geometry: Geometry,
-    number: usize,
-) -> Result<(), DeviceFault>
-    requires held { IsFileSystem geometry disk.old.blocks }
-    requires node { slot (files_of geometry disk.old.blocks) number ≢ None }
-    ensures { Turns geometry disk.old disk.new result (change_node (files_of geometry disk.old.blocks) number fewer_links) }
-{
-    let before = stat(disk, geometry, number)?;
-    set_links(disk, geometry, number, before.links.saturating_sub(1))
-}
-
-/// A node has one link more.
-pub fn add_link<D: BlockDev>(
-    disk: &mut Cache<D>,
-    geometry: Geometry,
-    number: usize,
-) -> Result<(), DeviceFault>
-    requires held { IsFileSystem geometry disk.old.blocks }
-    requires node { (node : Node) × (slot (files_of geometry disk.old.blocks) number ≡ Some node) × (links_of node < 65535) }
-    ensures { Turns geometry disk.old disk.new result (change_node (files_of geometry disk.old.blocks) number more_links) }
-{
-    let before = stat(disk, geometry, number)?;
-    set_links(disk, geometry, number, before.links + 1)
-}
-
-/// A node has one link fewer, and so has the directory of its name where the node is a directory.
-pub fn drop_links<D: BlockDev>(
-    disk: &mut Cache<D>,
-    geometry: Geometry,
-    number: usize,
-    directory: usize,
-    is_directory: bool,
-) -> Result<(), DeviceFault>
-    requires held { IsFileSystem geometry disk.old.blocks }
-    requires node { slot (files_of geometry disk.old.blocks) number ≢ None }
-    requires directory { slot (files_of geometry disk.old.blocks) directory ≢ None }
-    ensures { Turns geometry disk.old disk.new result (dropped (files_of geometry disk.old.blocks) number directory is_directory) }
-{
-    drop_link(disk, geometry, number)?;
-    if is_directory {
-        return drop_link(disk, geometry, directory);
+    /// Empties a file. Nothing becomes of a device or a directory.
+    pub fn truncate(&mut self, number: usize) -> Result<(), DeviceFault>
+        requires up { self.old.failed ≡ false }
+        requires node { slot self.old.files number ≢ None }
+        ensures { Serves self.old self.new result (λ done. self.new ≡ record self.old { files = change_node self.old.files number emptied; failures = self.new.failures }) }
+    {
+        let node = self.node(number)?;
+        if node.kind != FILE {
+            return Ok(());
+        }
+        self.empty(number)
     }
-    Ok(())
-}
 
-/// A node goes with its blocks where it has no links and nobody holds it.
-pub fn let_go<D: BlockDev>(
-    disk: &mut Cache<D>,
-    geometry: Geometry,
-    holds: &[u16],
-    number: usize,
-) -> Result<(), DeviceFault>
-    requires held { IsFileSystem geometry disk.old.blocks }
-    requires node { slot (files_of geometry disk.old.blocks) number ≢ None }
-    requires within { number < length holds.now }
-    ensures { Turns geometry disk.old disk.new result (let_go holds.now (files_of geometry disk.old.blocks) number) }
-{
-    if holds[number] > 0 {
-        return Ok(());
+    // A node goes with its blocks where it has no links and nobody holds it.
+    pub(crate) fn let_go(&mut self, number: usize) -> Result<(), DeviceFault>
+        requires up { self.old.failed ≡ false }
+        requires node { slot self.old.files number ≢ None }
+        ensures { Turns self.old self.new result (let_go self.old.holds self.old.files number) }
+    {
+        if self.holders(number) > 0 {
+            return Ok(());
+        }
+        let node = self.node(number)?;
+        if node.links > 0 {
+            return Ok(());
+        }
+        self.release(number)
     }
-    let node = stat(disk, geometry, number)?;
-    if node.links > 0 {
-        return Ok(());
-    }
-    release(disk, geometry, number)
-}
 
-/// A node goes with its blocks.
-pub fn release<D: BlockDev>(
-    disk: &mut Cache<D>,
-    geometry: Geometry,
-    number: usize,
-) -> Result<(), DeviceFault>
-    requires held { IsFileSystem geometry disk.old.blocks }
-    requires node { slot (files_of geometry disk.old.blocks) number ≢ None }
-    ensures { Turns geometry disk.old disk.new result (clear (files_of geometry disk.old.blocks) number) }
-{
-    truncate(disk, geometry, number)?;
-    give_inode(disk, geometry, number)
-}
-
-/// A file has no bytes any more. Nothing becomes of a device or a directory.
-pub fn empty_file<D: BlockDev>(
-    disk: &mut Cache<D>,
-    geometry: Geometry,
-    number: usize,
-) -> Result<(), DeviceFault>
-    requires held { IsFileSystem geometry disk.old.blocks }
-    requires node { slot (files_of geometry disk.old.blocks) number ≢ None }
-    ensures { Turns geometry disk.old disk.new result (change_node (files_of geometry disk.old.blocks) number emptied) }
-{
-    let node = stat(disk, geometry, number)?;
-    if node.kind != FILE {
-        return Ok(());
+    // A place of a directory becomes free.
+    pub(crate) fn free_place(&mut self, directory: usize, k: usize) -> Result<(), DeviceFault>
+        requires up { self.old.failed ≡ false }
+        requires place { HasPlace self.old.files directory k }
+        ensures { Turns self.old self.new result (erase self.old.files directory k) }
+    {
+        self.is_whole();
+        self.rewrite(directory, 16 * k, &[0; 16])
     }
-    truncate(disk, geometry, number)
+
+    // A node has one link fewer.
+    fn drop_link(&mut self, number: usize) -> Result<(), DeviceFault>
+        requires up { self.old.failed ≡ false }
+        requires node { slot self.old.files number ≢ None }
+        ensures { Turns self.old self.new result (change_node self.old.files number fewer_links) }
+    {
+        let before = self.node(number)?;
+        self.set_links(number, before.links.saturating_sub(1))
+    }
+
+    /// A node has one link more.
+    pub fn add_link(&mut self, number: usize) -> Result<(), DeviceFault>
+        requires up { self.old.failed ≡ false }
+        requires node { (node : Node) × (slot self.old.files number ≡ Some node) × (links_of node < 65535) }
+        ensures { Turns self.old self.new result (change_node self.old.files number more_links) }
+    {
+        let before = self.node(number)?;
+        self.set_links(number, before.links + 1)
+    }
+
+    // A node has one link fewer, and so has the directory of its name where the node is a directory.
+    pub(crate) fn drop_links(
+        &mut self,
+        number: usize,
+        directory: usize,
+        is_directory: bool,
+    ) -> Result<(), DeviceFault>
+        requires up { self.old.failed ≡ false }
+        requires node { slot self.old.files number ≢ None }
+        requires directory { slot self.old.files directory ≢ None }
+        ensures { Turns self.old self.new result (dropped self.old.files number directory is_directory) }
+    {
+        self.drop_link(number)?;
+        if is_directory {
+            return self.drop_link(directory);
+        }
+        Ok(())
+    }
 }

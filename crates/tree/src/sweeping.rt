@@ -1,41 +1,36 @@
 //! Nodes without links go, once nobody holds any node.
 
-ghost use Rattle.std.specs.Prelude.{[]};
-ghost use Rattle.tree.specs.Stored.{IsFileSystem, files_of};
+ghost use Rattle.std.specs.Prelude.{[], ◌≡◌, false, length, replicate};
 ghost use Rattle.tree.specs.Holding.{let_go, unheld};
-ghost use Rattle.tree.specs.Steps.{Turns};
+ghost use Rattle.tree.specs.Tree.{Serves};
 
-use crate::step::release;
+use crate::Tree;
 use blockdev::{BlockDev, DeviceFault};
-use cache::Cache;
-use inode::look;
-use layout::Geometry;
 
-/// What a number names goes with its blocks, if it has no links.
-pub fn release_unlinked<D: BlockDev>(
-    disk: &mut Cache<D>,
-    geometry: Geometry,
-    number: usize,
-) -> Result<(), DeviceFault>
-    requires { IsFileSystem geometry disk.old.blocks }
-    ensures { Turns geometry disk.old disk.new result (let_go [] (files_of geometry disk.old.blocks) number) }
-{
-    let Some(node) = look(disk, geometry, number)? else {
-        return Ok(());
-    };
-    if node.links > 0 {
-        return Ok(());
+impl<D: BlockDev> Tree<D> {
+    /// All that held nodes let go: each node goes with its blocks that has no links.
+    pub fn release_all(&mut self) -> Result<(), DeviceFault>
+        requires up { self.old.failed ≡ false }
+        ensures { Serves self.old self.new result (λ done. self.new ≡ record self.old { files = unheld self.old.files; holds = replicate (length self.old.holds) 0; failures = self.new.failures }) }
+    {
+        self.unhold_all();
+        for number in 0..self.numbers() {
+            self.release_unlinked(number)?;
+        }
+        Ok(())
     }
-    release(disk, geometry, number)
-}
 
-/// All nodes without links go with their blocks.
-pub fn release_all<D: BlockDev>(disk: &mut Cache<D>, geometry: Geometry) -> Result<(), DeviceFault>
-    requires { IsFileSystem geometry disk.old.blocks }
-    ensures { Turns geometry disk.old disk.new result (unheld (files_of geometry disk.old.blocks)) }
-{
-    for number in 0..geometry.inodes {
-        release_unlinked(disk, geometry, number)?;
+    // What a number names goes with its blocks, if it has no links.
+    fn release_unlinked(&mut self, number: usize) -> Result<(), DeviceFault>
+        requires up { self.old.failed ≡ false }
+        ensures { Serves self.old self.new result (λ done. self.new ≡ record self.old { files = let_go [] self.old.files number; failures = self.new.failures }) }
+    {
+        let Some(node) = self.look(number)? else {
+            return Ok(());
+        };
+        if node.links > 0 {
+            return Ok(());
+        }
+        self.release(number)
     }
-    Ok(())
 }

@@ -80,7 +80,13 @@ impl BlockDev for Starved<'_> {
 
     ghost failures = { λ _. 0 };
 
+    ghost reached = { λ old new. Unit {0} };
+
     ghost sizes = { λ d. AreBlocks-blocks_of d.disk.bytes };
+
+    ghost stays = { λ d. tt };
+
+    ghost joins = { λ old mid new first next. tt };
 
     fn blocks(&self) -> usize {
         self.disk.blocks()

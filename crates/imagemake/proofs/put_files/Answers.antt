@@ -1,33 +1,37 @@
-use Rattle.std.proofs.Common.{arith, ◌∙◌}
-use Rattle.std.proofs.lemmas.Result.{err_from_is_err_and}
-use Rattle.imagemake.proofs.Imaging.{Stores-none}
-use Rattle.balloc.proofs.Exits.{told_err}
-use Rattle.imagemake.proofs.Owned.{Owns-after, Owns-failed, Blames-stored, none-done}
+use Rattle.std.proofs.Common.{ap, arith, length, sym, ◌∙◌}
+use Rattle.unixmodel.specs.Manifest.{bare_files}
+use Rattle.imagemake.specs.Making.{meaning}
+use Rattle.tree.proofs.Following.{now-begin, now-files, now-limit, now-turned, now-up}
+use Rattle.imagemake.proofs.Imaging.{makes-all, refuses-all}
+use Rattle.imagemake.proofs.MadeBare.{length-bare}
+use Rattle.imagemake.proofs.Owned.{Owns-after, Owns-failed}
 use Rattle.imagemake.proofs.put_files.Goals as goal
 
 pub store_root-requires : goal.store_root-requires
-store_root-requires g c = record { empty = Stores-none c.args.geometry c.format.new.disk.blocks c.in-Ok.ensures.sound c.in-Ok.ensures.nodes c.in-Ok.ensures.free }
+store_root-requires g c = record { up = c.requires.up; none = c.requires.none; some = omega (arith, c.requires.some); block = c.requires.block }
 
 pub returns-in_default-clause-cause : goal.returns-in_default-clause-cause
-returns-in_default-clause-cause g c = Owns-failed (omega arith) c.format.ensures.cause c.in_default.is
+returns-in_default-clause-cause g c = Owns-failed (omega arith) c.store_root.ensures.serves.cause c.in_default.is
 
-pub returns-in_err-store_root : goal.returns-in_err-store_root
-returns-in_err-store_root g c = record {
-  made = none-done _ (told_err c.from_residual.result c.from_residual.ensures.1);
-  refused =
-      let p = err_from_is_err_and c.from_residual.result c.from_residual.ensures.1 in
-      rw (p.1, p.2, c.in_err-store_root.ensures.fault) tt;
-  count = c.store_root.ensures.count ∙ c.format.ensures.count;
-  cause = Blames-stored c.in_err-store_root.field-0.0 (omega arith) c.in_err-store_root.ensures.cause (told_err c.from_residual.result c.from_residual.ensures.1);
-}
+pub add_entries-requires : goal.add_entries-requires
+add_entries-requires g c =
+    let now = now-turned now-begin c.store_root.ensures c.in-Ok.is in
+    let long = ap length (now-files now) ∙ length-bare (length c.args.tree.now.files) (omega (arith, c.requires.some)) in
+    record {
+      up = now-up now c.requires.up;
+      root = now-files now ∙ ap bare_files (sym long);
+      some = omega (arith, c.requires.some, long);
+      block = omega (arith, c.requires.block, now-limit now);
+      empty = c.requires.empty;
+      room = omega (arith, c.requires.room, long);
+    }
 
 pub returns : goal.returns
-returns g c = record {
-  made = c.add_entries.ensures.made;
-  refused = c.add_entries.ensures.refused;
-  count = c.add_entries.ensures.count ∙ c.store_root.ensures.count ∙ c.format.ensures.count;
-  cause = Owns-after (omega arith) c.add_entries.ensures.cause;
-}
-
-pub returns-in_default-clause-count : goal.returns-in_default-clause-count
-returns-in_default-clause-count g c = c.format.ensures.count
+returns g c =
+    let now = now-turned now-begin c.store_root.ensures c.in-Ok.is in
+    let long = ap length (now-files now) ∙ length-bare (length c.args.tree.now.files) (omega (arith, c.requires.some)) in
+    record {
+      made = makes-all now long (meaning c.args.entries.now) c.add_entries.new.tree c.add_entries.result c.add_entries.ensures.made;
+      refused = refuses-all now long (meaning c.args.entries.now) c.add_entries.result c.add_entries.ensures.refused;
+      cause = Owns-after now.later c.add_entries.ensures.cause;
+    }

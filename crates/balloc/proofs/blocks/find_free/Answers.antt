@@ -1,19 +1,15 @@
-use Rattle.std.proofs.Common.{◌+◌, ◌-◌, ◌*◌, ◌/◌, ◌%◌, ◌<◌, length, ap, sym, ◌∙◌, arith}
+use Rattle.std.proofs.Common.{◌+◌, ◌-◌, ◌*◌, ◌/◌, ◌%◌, ◌<◌, ap, sym, ◌∙◌, arith, refl}
 use Rattle.blockdev.specs.Blocks.{block_at}
+use Rattle.cache.proofs.Ending.{goes-after, goes-stays, read-done, step-failed}
 use Rattle.balloc.proofs.Clearing.{clear_found}
-use Rattle.balloc.proofs.Exits.{Refuses-done, Refuses-failed, Refuses-none, for_blocks, told_err}
 use Rattle.balloc.proofs.Searching.{first_here, set_here}
 use Rattle.balloc.proofs.blocks.find_free.Goals as goal
 
+pub scan-init : goal.scan-init
+scan-init g c = record { disk = refl; goes = goes-stays; from = omega arith; set_so_far = λ k low high. absurd (omega (arith, low, high)) }
+
 pub returns-in_err-block : goal.returns-in_err-block
-returns-in_err-block g c =
-    let told = c.from_residual.ensures.1 in
-    let e = told_err c.from_residual.result told in
-    record {
-      found = rw e tt;
-      same = rw e tt;
-      refuses = Refuses-failed c.args.disk.now c.read.new.self for_blocks told (c.read.ensures.count ∙ ap length c.scan.invariant.disk) c.scan.invariant.failures c.read.ensures.cause c.in_err-block.was;
-    }
+returns-in_err-block g c = step-failed c.scan.invariant.goes c.read.ensures c.in_err-block.was c.from_residual.ensures.1
 
 pub overflow_add-result : goal.overflow_add-result
 overflow_add-result g c =
@@ -22,30 +18,22 @@ overflow_add-result g c =
     record { fits = omega (arith, c.min-end.ensures, c.requires.parts.size_high) }
 
 pub returns-in-Some : goal.returns-in-Some
-returns-in-Some g c = record {
-  found =
-      first_here c.args.geometry c.args.disk.now.blocks c.in_ok-block.block c.scan.b c.bitmap_start-start.ensures (c.in_ok-block.ensures.bytes ∙ ap (λ d. block_at d (c.bitmap_start-start.result + c.scan.b / 8192)) c.scan.invariant.disk)
-      c.args.from c.scan.invariant.set_so_far (c.min-end.result - c.scan.b / 8192 * 8192) (omega (arith, c.min-end.ensures, c.scan-test.true)) (omega (arith, c.min-end.ensures)) c.requires.from c.scan.invariant.from
-      (omega (arith, c.min-end.ensures, c.scan-test.true)) c.in-Some.i (sym c.in-Some.ensures);
-  same = c.in_ok-block.ensures.same ∙ c.scan.invariant.disk;
-  refuses =
-      Refuses-done c.args.disk.now c.read.new.self (c.read.ensures.count ∙ ap length c.scan.invariant.disk) (omega (arith, c.scan.invariant.failures, c.read.ensures.cause.later));
-}
+returns-in-Some g c =
+    read-done (goes-after c.scan.invariant.goes c.read.ensures.goes) (c.in_ok-block.ensures.done.same ∙ c.scan.invariant.disk)
+    (first_here c.args.geometry c.args.disk.now.blocks c.in_ok-block.block c.scan.b c.bitmap_start-start.ensures (c.in_ok-block.ensures.done.told ∙ ap (λ d. block_at d (c.bitmap_start-start.result + c.scan.b / 8192)) c.scan.invariant.disk)
+    c.args.from c.scan.invariant.set_so_far (c.min-end.result - c.scan.b / 8192 * 8192) (omega (arith, c.min-end.ensures, c.scan-test.true)) (omega (arith, c.min-end.ensures)) c.requires.from c.scan.invariant.from
+    (omega (arith, c.min-end.ensures, c.scan-test.true)) c.in-Some.i (sym c.in-Some.ensures))
 
 pub scan-preserved : goal.scan-preserved
 scan-preserved g c = record {
-  disk = c.in_ok-block.ensures.same ∙ c.scan.invariant.disk;
-  failures = omega (arith, c.scan.invariant.failures, c.read.ensures.cause.later);
+  disk = c.in_ok-block.ensures.done.same ∙ c.scan.invariant.disk;
+  goes = goes-after c.scan.invariant.goes c.read.ensures.goes;
   from = omega (arith, c.scan.invariant.from, c.scan-test.true, c.min-end.ensures);
   set_so_far = λ k low high.
-      set_here c.args.geometry c.args.disk.now.blocks c.in_ok-block.block c.scan.b c.bitmap_start-start.ensures (c.in_ok-block.ensures.bytes ∙ ap (λ d. block_at d (c.bitmap_start-start.result + c.scan.b / 8192)) c.scan.invariant.disk)
+      set_here c.args.geometry c.args.disk.now.blocks c.in_ok-block.block c.scan.b c.bitmap_start-start.ensures (c.in_ok-block.ensures.done.told ∙ ap (λ d. block_at d (c.bitmap_start-start.result + c.scan.b / 8192)) c.scan.invariant.disk)
       c.args.from c.scan.invariant.set_so_far (c.min-end.result - c.scan.b / 8192 * 8192) (omega (arith, c.min-end.ensures, c.scan-test.true)) (omega (arith, c.min-end.ensures)) (sym c.first_clear.ensures ∙ c.in_default.is) k low
       (omega (arith, high, c.min-end.ensures, c.scan-test.true));
 }
 
 pub returns : goal.returns
-returns g c = record {
-  found = tt;
-  same = tt;
-  refuses = Refuses-none c.args.disk.now c.scan.disk for_blocks (λ b low high. c.scan.invariant.set_so_far b low (omega (arith, high, c.scan-test.false))) c.scan.invariant.disk c.scan.invariant.failures;
-}
+returns g c = read-done c.scan.invariant.goes c.scan.invariant.disk (λ b low high. c.scan.invariant.set_so_far b low (omega (arith, high, c.scan-test.false)))

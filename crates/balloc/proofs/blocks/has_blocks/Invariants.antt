@@ -2,12 +2,13 @@ use Rattle.std.proofs.Common.{◌≡◌, ◌+◌, ◌-◌, ◌≤◌}
 use Rattle.layout.specs.Super.{data_start_of}
 use Rattle.layout.specs.Image.{free_blocks}
 use Rattle.balloc.proofs.Enough.{free_from}
+use Rattle.cache.specs.Steps.{Goes}
 use Rattle.balloc.proofs.blocks.has_blocks.Given as goal
 
 abbrev pub invariant-search : goal.invariant-search
 invariant-search g l = record {
   same : l.disk.blocks ≡ l.fn.disk.blocks;
-  failures : l.fn.disk.failures ≤ l.disk.failures;
+  goes : Goes g.D.BlockDev.reached l.fn.disk l.disk;
   low : data_start_of l.geometry.size l.geometry.inodes ≤ l.from;
   high : l.from ≤ l.geometry.size;
   some : l.found ≤ l.wanted;

@@ -1,24 +1,22 @@
-use Rattle.std.proofs.Common.{◌∙◌, arith, refl}
-use Rattle.balloc.proofs.Exits.{Refuses-done, Refuses-failed, Refuses-part, for_blocks, told_err}
+use Rattle.std.proofs.Common.{subst}
+use Rattle.balloc.specs.Bitmap.{Finds}
 use Rattle.balloc.proofs.Taking.{TakesLowest-free, found_takes, full_none}
+use Rattle.cache.proofs.Ending.{goes-after, goes-stays, step-done, step-failed}
 use Rattle.balloc.proofs.blocks.take_block.Goals as goal
 
 pub returns-in_err-b : goal.returns-in_err-b
-returns-in_err-b g c =
-    let told = c.from_residual.ensures.1 in
-    let e = told_err c.from_residual.result told in
-    let r = Refuses-part c.args.disk.now c.find_free.new.disk told c.in_err-b.ensures.refuses (full_none c.args.geometry c.args.disk.now.blocks c.data_start.ensures) refl (omega arith) in
-    record { taken = rw e tt; free = rw e tt; none = r.none; unchanged = r.unchanged; only = r.only; count = r.count; later = r.later; failed = r.failed }
+returns-in_err-b g c = step-failed goes-stays c.find_free.ensures c.in_err-b.was c.from_residual.ensures.1
+
+pub returns-in_default : goal.returns-in_default
+returns-in_default g c =
+    step-done c.find_free.ensures.goes
+    (full_none c.args.geometry c.args.disk.now.blocks c.data_start.ensures (subst (Finds c.args.geometry c.args.disk.now.blocks c.data_start.result) c.in_default.is c.in_ok-b.ensures.done.told), c.in_ok-b.ensures.done.same)
 
 pub returns-in_err-mark : goal.returns-in_err-mark
-returns-in_err-mark g c =
-    let told = c.from_residual-in_err-mark.ensures.1 in
-    let e = told_err c.from_residual-in_err-mark.result told in
-    let r = Refuses-failed c.args.disk.now c.mark.new.disk for_blocks told (c.mark.ensures.count ∙ c.find_free.ensures.refuses.count) c.find_free.ensures.refuses.later c.mark.ensures.cause c.in_err-mark.was in
-    record { taken = rw e tt; free = rw e tt; none = r.none; unchanged = r.unchanged; only = r.only; count = r.count; later = r.later; failed = r.failed }
+returns-in_err-mark g c = step-failed c.find_free.ensures.goes c.mark.ensures c.in_err-mark.was c.from_residual-in_err-mark.ensures.1
 
 pub returns : goal.returns
 returns g c =
-    let r = Refuses-done c.args.disk.now c.mark.new.disk (c.mark.ensures.count ∙ c.find_free.ensures.refuses.count) (omega (arith, c.find_free.ensures.refuses.later, c.mark.ensures.cause.later)) in
-    let takes = found_takes c.args.geometry c.args.disk.now.blocks c.data_start.ensures c.in_ok-b.ensures.found c.in_ok-b.ensures.same c.in_ok-mark.ensures.sets in
-    record { taken = takes; free = TakesLowest-free takes; none = r.none; unchanged = r.unchanged; only = r.only; count = r.count; later = r.later; failed = r.failed }
+    let found = subst (Finds c.args.geometry c.args.disk.now.blocks c.data_start.result) c.in-Some.is c.in_ok-b.ensures.done.told in
+    let takes = found_takes c.args.geometry c.args.disk.now.blocks c.data_start.ensures found c.in_ok-b.ensures.done.same c.in_ok-mark.ensures.done in
+    step-done (goes-after c.find_free.ensures.goes c.mark.ensures.goes) (takes, TakesLowest-free takes)

@@ -1,14 +1,14 @@
-use Rattle.std.proofs.Common.{◌≡◌, ◌-◌, ◌≤◌, length}
+use Rattle.std.proofs.Common.{◌-◌, ◌≤◌}
 use Rattle.layout.specs.Sound.{HasParts}
 use Rattle.balloc.specs.Format.{Cleared}
+use Rattle.cache.specs.Steps.{Goes}
 use Rattle.balloc.proofs.fresh.clear.Given as goal
 
 abbrev pub invariant-block : goal.invariant-block
 invariant-block g l = record {
   parts : HasParts l.fn.geometry l.disk.blocks;
   cleared : Cleared l.disk.blocks l.k;
-  count : length l.disk.blocks ≡ length l.fn.disk.blocks;
-  failures : l.fn.disk.failures ≤ l.disk.failures;
+  goes : Goes g.D.BlockDev.reached l.fn.disk l.disk;
   within : l.k ≤ l.end;
 }
 

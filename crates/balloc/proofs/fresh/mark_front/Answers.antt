@@ -1,8 +1,27 @@
-use Rattle.std.proofs.Common.{◌∙◌}
-use Rattle.balloc.proofs.Exits.{HasCause-failed, told_err}
+use Rattle.std.proofs.Common.{arith, refl, subst}
+use Rattle.balloc.specs.Format.{HasFront}
+use Rattle.balloc.proofs.Formatting.{front-more}
+use Rattle.cache.proofs.Ending.{goes-after, goes-stays, step-done, step-failed}
 use Rattle.balloc.proofs.fresh.mark_front.Goals as goal
 
+pub block-init : goal.block-init
+block-init g c = record {
+  front = record { parts = c.requires.parts; before = λ k h. refl; marked = λ b low high. absurd (omega (arith, low)); unmarked = λ b low high. c.requires.clear b high };
+  goes = goes-stays;
+  within = omega arith;
+}
+
 pub returns-in_err-mark : goal.returns-in_err-mark
-returns-in_err-mark g c =
-    let e = told_err c.from_residual.result c.from_residual.ensures.1 in
-    record { front = rw e tt; count = c.mark.ensures.count ∙ c.block.invariant.count; cause = HasCause-failed c.block.invariant.failures c.mark.ensures.cause c.in_err-mark.was }
+returns-in_err-mark g c = step-failed c.block.invariant.goes c.mark.ensures c.in_err-mark.was c.from_residual.ensures.1
+
+pub block-preserved : goal.block-preserved
+block-preserved g c = record {
+  front = front-more c.block.invariant.front c.in_ok-mark.ensures.done;
+  goes = goes-after c.block.invariant.goes c.mark.ensures.goes;
+  within = omega (arith, c.block-test.true);
+}
+
+pub returns : goal.returns
+returns g c =
+    let i = c.block.invariant in
+    step-done i.goes (subst (HasFront c.args.geometry c.args.disk.now.blocks c.block.disk.blocks) (omega (arith, c.block-test.false, i.within, c.data_start-end.ensures)) i.front)

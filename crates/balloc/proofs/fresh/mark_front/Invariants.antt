@@ -1,12 +1,12 @@
-use Rattle.std.proofs.Common.{◌≡◌, ◌-◌, ◌≤◌, length}
+use Rattle.std.proofs.Common.{◌-◌, ◌≤◌}
 use Rattle.balloc.specs.Format.{HasFront}
+use Rattle.cache.specs.Steps.{Goes}
 use Rattle.balloc.proofs.fresh.mark_front.Given as goal
 
 abbrev pub invariant-block : goal.invariant-block
 invariant-block g l = record {
   front : HasFront l.geometry l.fn.disk.blocks l.disk.blocks l.b;
-  count : length l.disk.blocks ≡ length l.fn.disk.blocks;
-  failures : l.fn.disk.failures ≤ l.disk.failures;
+  goes : Goes g.D.BlockDev.reached l.fn.disk l.disk;
   within : l.b ≤ l.end;
 }
 

@@ -1,47 +1,35 @@
-use Rattle.std.proofs.Common.{◌≡◌, ◌≢◌, ℕ, ◌+◌, ◌-◌, ◌*◌, ◌/◌, ◌%◌, ◌<◌, ◌≤◌, length, ap, ◌∙◌, arith}
+use Rattle.std.proofs.Common.{◌≡◌, ◌≢◌, ℕ, ◌+◌, ◌-◌, ◌*◌, ◌/◌, ◌%◌, ◌<◌, ◌≤◌, ap, ◌∙◌, arith, refl}
 use Rattle.blockdev.specs.Blocks.{block_at}
-use Rattle.balloc.proofs.Exits.{Refuses-done, Refuses-failed, Refuses-none, for_inodes, told_err}
+use Rattle.cache.proofs.Ending.{goes-after, goes-stays, read-done, step-failed}
 use Rattle.balloc.proofs.Scanning.{kind_in, lowest_here, used_up_to}
 use Rattle.balloc.proofs.inodes.find_unused.Goals as goal
 
+pub scan-init : goal.scan-init
+scan-init g c = record { disk = refl; goes = goes-stays; from = omega arith; used_so_far = λ m low high. absurd (omega (arith, low, high)) }
+
 pub returns-in_err-block : goal.returns-in_err-block
-returns-in_err-block g c =
-    let told = c.from_residual.ensures.1 in
-    let e = told_err c.from_residual.result told in
-    record {
-      found = rw e tt;
-      same = rw e tt;
-      refuses = Refuses-failed c.args.disk.now c.read.new.self for_inodes told (c.read.ensures.count ∙ ap length c.scan.invariant.disk) c.scan.invariant.failures c.read.ensures.cause c.in_err-block.was;
-    }
+returns-in_err-block g c = step-failed c.scan.invariant.goes c.read.ensures c.in_err-block.was c.from_residual.ensures.1
 
 pub returns-in-Some : goal.returns-in-Some
 returns-in-Some g c =
-    let is : c.in_ok-block.block ≡ block_at c.args.disk.now.blocks (2 + c.scan.n / 16) = c.in_ok-block.ensures.bytes ∙ ap (λ b. block_at b (2 + c.scan.n / 16)) c.scan.invariant.disk in
+    let is : c.in_ok-block.block ≡ block_at c.args.disk.now.blocks (2 + c.scan.n / 16) = c.in_ok-block.ensures.done.told ∙ ap (λ b. block_at b (2 + c.scan.n / 16)) c.scan.invariant.disk in
     let some : (c.scan.n % 16 ≤ c.in-Some.i) × (c.in-Some.i < c.min-end.result - c.scan.n / 16 * 16) × (kind_in c.in_ok-block.block c.in-Some.i ≡ 0) = c.in-Some.ensures.some in
     let end : c.in-Some.i < c.min-end.result - c.scan.n / 16 * 16 = some.1 in
-    let same = c.in_ok-block.ensures.same ∙ c.scan.invariant.disk in
-    record {
-      found = lowest_here c.args.disk.now.blocks c.in_ok-block.block c.scan.n is c.args.geometry c.in-Some.i
-          (omega (arith, end, c.min-end.ensures)) some.0 c.scan.invariant.from (omega (arith, end, c.min-end.ensures)) some.2 c.scan.invariant.used_so_far c.in-Some.ensures.lowest;
-      same = same;
-      refuses = Refuses-done c.args.disk.now c.read.new.self (ap length same) (omega (arith, c.scan.invariant.failures, c.read.ensures.cause.later));
-    }
+    read-done (goes-after c.scan.invariant.goes c.read.ensures.goes) (c.in_ok-block.ensures.done.same ∙ c.scan.invariant.disk)
+    (lowest_here c.args.disk.now.blocks c.in_ok-block.block c.scan.n is c.args.geometry c.in-Some.i
+    (omega (arith, end, c.min-end.ensures)) some.0 c.scan.invariant.from (omega (arith, end, c.min-end.ensures)) some.2 c.scan.invariant.used_so_far c.in-Some.ensures.lowest)
 
 pub scan-preserved : goal.scan-preserved
 scan-preserved g c =
-    let is : c.in_ok-block.block ≡ block_at c.args.disk.now.blocks (2 + c.scan.n / 16) = c.in_ok-block.ensures.bytes ∙ ap (λ b. block_at b (2 + c.scan.n / 16)) c.scan.invariant.disk in
+    let is : c.in_ok-block.block ≡ block_at c.args.disk.now.blocks (2 + c.scan.n / 16) = c.in_ok-block.ensures.done.told ∙ ap (λ b. block_at b (2 + c.scan.n / 16)) c.scan.invariant.disk in
     let none : (k : ℕ) → c.scan.n % 16 ≤ k → k < c.min-end.result - c.scan.n / 16 * 16 → kind_in c.in_ok-block.block k ≢ 0 = rw c.in_default.is at c.first_unused.ensures.none in
     record {
-      disk = c.in_ok-block.ensures.same ∙ c.scan.invariant.disk;
-      failures = omega (arith, c.scan.invariant.failures, c.read.ensures.cause.later);
+      disk = c.in_ok-block.ensures.done.same ∙ c.scan.invariant.disk;
+      goes = goes-after c.scan.invariant.goes c.read.ensures.goes;
       from = omega (arith, c.scan.invariant.from, c.scan-test.true, c.min-end.ensures);
       used_so_far = λ m low high. used_up_to c.args.disk.now.blocks c.in_ok-block.block c.scan.n is (c.min-end.result - c.scan.n / 16 * 16)
           (omega (arith, c.min-end.ensures)) c.scan.invariant.used_so_far none m low (omega (arith, high, c.min-end.ensures, c.scan-test.true));
     }
 
 pub returns : goal.returns
-returns g c = record {
-  found = tt;
-  same = tt;
-  refuses = Refuses-none c.args.disk.now c.scan.disk for_inodes (λ n low high. c.scan.invariant.used_so_far n low (omega (arith, high, c.scan-test.false))) c.scan.invariant.disk c.scan.invariant.failures;
-}
+returns g c = read-done c.scan.invariant.goes c.scan.invariant.disk (λ n low high. c.scan.invariant.used_so_far n low (omega (arith, high, c.scan-test.false)))

@@ -1,11 +1,12 @@
 use Rattle.std.proofs.Common.{◌≡◌, ◌≢◌, ℕ, ◌-◌, ◌<◌, ◌≤◌}
 use Rattle.layout.specs.Image.{inode_at}
+use Rattle.cache.specs.Steps.{Goes}
 use Rattle.balloc.proofs.inodes.find_unused.Given as goal
 
 abbrev pub invariant-scan : goal.invariant-scan
 invariant-scan g l = record {
   disk : l.disk.blocks ≡ l.fn.disk.blocks;
-  failures : l.fn.disk.failures ≤ l.disk.failures;
+  goes : Goes g.D.BlockDev.reached l.fn.disk l.disk;
   from : 1 ≤ l.n;
   used_so_far : (m : ℕ) → 1 ≤ m → m < l.n → (inode_at l.fn.disk.blocks m).kind ≢ 0;
 }

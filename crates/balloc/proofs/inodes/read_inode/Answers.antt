@@ -1,8 +1,11 @@
-use Rattle.std.proofs.Common.{arith}
-use Rattle.balloc.proofs.Exits.{HasCause-failed, told_err}
+use Rattle.std.proofs.Common.{ap, ◌∙◌}
+use Rattle.layout.specs.Inode.{inode_of}
+use Rattle.cache.proofs.Ending.{goes-stays, read-done, step-failed}
 use Rattle.balloc.proofs.inodes.read_inode.Goals as goal
 
 pub returns-in_err-read_part : goal.returns-in_err-read_part
-returns-in_err-read_part g c =
-    let e = told_err c.from_residual.result c.from_residual.ensures.1 in
-    record { inode = rw e tt; fits = rw e tt; same = rw e tt; count = c.read_part.ensures.count; cause = HasCause-failed (omega arith) c.read_part.ensures.cause c.in_err-read_part.was }
+returns-in_err-read_part g c = step-failed goes-stays c.read_part.ensures c.in_err-read_part.was c.from_residual.ensures.1
+
+pub returns : goal.returns
+returns g c =
+    read-done c.read_part.ensures.goes c.in_ok-read_part.ensures.done.same (record { is = c.from_front.ensures.inode ∙ ap inode_of c.in_ok-read_part.ensures.done.told; fits = c.from_front.ensures.fits })

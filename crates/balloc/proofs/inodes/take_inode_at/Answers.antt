@@ -1,6 +1,6 @@
 use Rattle.std.proofs.Common.{arith}
-use Rattle.std.proofs.lemmas.Result.{on_ok_weaker}
 use Rattle.balloc.proofs.Records.{fresh_fits, recorded_fresh}
+use Rattle.cache.proofs.Ending.{goes-stays, step-last}
 use Rattle.balloc.proofs.inodes.take_inode_at.Goals as goal
 
 pub write_inode-requires : goal.write_inode-requires
@@ -11,14 +11,4 @@ write_inode-requires g c = record {
 }
 
 pub returns : goal.returns
-returns g c =
-    let r = c.write_inode.result in
-    let writes = c.write_inode.ensures.writes in
-    record {
-      inode = on_ok_weaker r (λ w. w.here) writes;
-      sound = on_ok_weaker r (λ w. (recorded_fresh c.requires.sound c.requires.unused c.requires.some c.requires.kind w).sound) writes;
-      nodes = on_ok_weaker r (λ w. (recorded_fresh c.requires.sound c.requires.unused c.requires.some c.requires.kind w).nodes) writes;
-      free = on_ok_weaker r (λ w. (recorded_fresh c.requires.sound c.requires.unused c.requires.some c.requires.kind w).free) writes;
-      count = c.write_inode.ensures.count;
-      cause = c.write_inode.ensures.cause;
-    }
+returns g c = step-last goes-stays (λ _ writes. record { inode = writes.here; sets = recorded_fresh c.requires.sound c.requires.unused c.requires.some c.requires.kind writes }) c.write_inode.ensures

@@ -1,4 +1,7 @@
-use Rattle.std.proofs.Common.{ap, arith, ◌∙◌, length}
+use Rattle.std.proofs.Common.{ap, arith, ◌∙◌, length, refl}
+use Rattle.blockdev.proofs.Leading.{leads-stays}
+use Rattle.cache.proofs.Ending.{goes-after, read-done, step-failed}
+use Rattle.cache.proofs.Seeing.{goes-seen}
 use Rattle.blockdev.specs.Blocks.{block_at}
 use Rattle.cache.proofs.Using.{blocks-are, hit, hit-is, parted, used}
 use Rattle.cache.proofs.Cache.read_part.Goals as goal
@@ -6,31 +9,27 @@ use Rattle.cache.proofs.Cache.read_part.Goals as goal
 pub invariant_of-self : goal.invariant_of-self
 invariant_of-self g c = (used c.self.inside.held _ _ _ _ _ c.get.follows.holds-at-none c.self.invariant (blocks-are c.self.view_is) c.requires.block).held
 
-pub returns-in-Some-clause-bytes : goal.returns-in-Some-clause-bytes
-returns-in-Some-clause-bytes g c = parted c.args.at (length c.args.out.now) _ _ _ c.copy_from_slice.ensures.after (hit c.self.inside.held _ _ _ _ (blocks-are c.self.view_is) c.requires.block (hit-is c.self.inside.held.entries _ _ c.args.n c.get.ensures.value c.in-Some.is))
-
-pub returns-in-Some-clause-same : goal.returns-in-Some-clause-same
-returns-in-Some-clause-same g c = (used c.self.inside.held _ _ _ _ _ c.get.follows.holds-at-none c.self.invariant (blocks-are c.self.view_is) c.requires.block).shows
-
-pub returns-in-Some-clause-count : goal.returns-in-Some-clause-count
-returns-in-Some-clause-count g c = ap length (used c.self.inside.held _ _ _ _ _ c.get.follows.holds-at-none c.self.invariant (blocks-are c.self.view_is) c.requires.block).shows
-
 pub invariant_of-self-2 : goal.invariant_of-self-2
 invariant_of-self-2 g c = (used c.self.inside.held _ _ _ _ _ c.get.follows.holds-at-none c.self.invariant (blocks-are c.self.view_is) c.requires.block).held
 
 pub read-requires : goal.read-requires
 read-requires g c = let shows = ap length (used c.self.inside.held _ _ _ _ _ c.get.follows.holds-at-none c.self.invariant (blocks-are c.self.view_is) c.requires.block).shows in omega (arith, shows, c.requires.block)
 
-pub returns-in_err-block-clause-count : goal.returns-in_err-block-clause-count
-returns-in_err-block-clause-count g c = c.read.ensures.count ∙ ap length (used c.self.inside.held _ _ _ _ _ c.get.follows.holds-at-none c.self.invariant (blocks-are c.self.view_is) c.requires.block).shows
+-- ---- ends
 
-pub returns-clause-bytes : goal.returns-clause-bytes
-returns-clause-bytes g c =
+pub returns-in-Some : goal.returns-in-Some
+returns-in-Some g c =
+    read-done (goes-seen g.D.BlockDev.content g.D.BlockDev.failures _ _ _ c.self.view_is _ _ refl leads-stays (omega arith))
+    (used c.self.inside.held _ _ _ _ _ c.get.follows.holds-at-none c.self.invariant (blocks-are c.self.view_is) c.requires.block).shows
+    (parted c.args.at (length c.args.out.now) _ _ _ c.copy_from_slice.ensures.after (hit c.self.inside.held _ _ _ _ (blocks-are c.self.view_is) c.requires.block (hit-is c.self.inside.held.entries _ _ c.args.n c.get.ensures.value c.in-Some.is)))
+
+pub returns-in_err-block : goal.returns-in_err-block
+returns-in_err-block g c =
+    step-failed (goes-seen g.D.BlockDev.content g.D.BlockDev.failures _ _ _ c.self.view_is _ _ refl leads-stays (omega arith)) c.read.ensures c.in_err-block.was c.from_residual.ensures.1
+
+pub returns : goal.returns
+returns g c =
     let shows = (used c.self.inside.held _ _ _ _ _ c.get.follows.holds-at-none c.self.invariant (blocks-are c.self.view_is) c.requires.block).shows in
-    parted c.args.at (length c.args.out.now) _ _ _ c.copy_from_slice-2.ensures.after (c.in_ok-block.ensures.bytes ∙ ap (λ blocks. block_at blocks c.args.n) shows)
-
-pub returns-clause-same : goal.returns-clause-same
-returns-clause-same g c = c.in_ok-block.ensures.same ∙ (used c.self.inside.held _ _ _ _ _ c.get.follows.holds-at-none c.self.invariant (blocks-are c.self.view_is) c.requires.block).shows
-
-pub returns-clause-count : goal.returns-clause-count
-returns-clause-count g c = c.read.ensures.count ∙ ap length (used c.self.inside.held _ _ _ _ _ c.get.follows.holds-at-none c.self.invariant (blocks-are c.self.view_is) c.requires.block).shows
+    read-done (goes-after (goes-seen g.D.BlockDev.content g.D.BlockDev.failures _ _ _ c.self.view_is _ _ refl leads-stays (omega arith)) c.read.ensures.goes)
+    (c.in_ok-block.ensures.done.same ∙ shows)
+    (parted c.args.at (length c.args.out.now) _ _ _ c.copy_from_slice-2.ensures.after (c.in_ok-block.ensures.done.told ∙ ap (λ blocks. block_at blocks c.args.n) shows))

@@ -1,54 +1,45 @@
-use Rattle.std.proofs.Common.{◌∙◌, ap, arith, sym}
+use Rattle.std.proofs.Common.{Ok, Some, ap, subst, sym, ◌∙◌}
+use Rattle.unixmodel.specs.Files.{put}
+use Rattle.unixmodel.specs.Files.Node.{File}
+use Rattle.unixmodel.specs.Manifest.{bare_directory, node_for}
 use Rattle.unixmodel.specs.Manifest.Thing.{Bytes}
+use Rattle.tree.proofs.Following.{IsNow, now-begin, now-turned, now-up}
+use Rattle.imagemake.specs.Added.{Puts}
 use Rattle.imagemake.specs.Making.{thing_of}
-use Rattle.imagemake.specs.Stored.{bare}
-use Rattle.imagemake.proofs.AddedThings.{IsPut-special, IsPut-thing, put-ready, wide-bytes, wide-folder}
-use Rattle.balloc.proofs.Exits.{told_err}
-use Rattle.imagemake.proofs.Owned.{IsPut-failed, Owns-after, Owns-done, Owns-failed}
+use Rattle.imagemake.specs.Nodes.{bare}
+use Rattle.imagemake.proofs.Putting.{here-now, puts-done, puts-last, puts-lost, still-used, took-thing}
 use Rattle.imagemake.proofs.store.store_node.Goals as goal
 
-pub take-requires : goal.take-requires
-take-requires g c = record { sound = c.requires.able.1.sound; unused = c.requires.unused }
+pub take_node_at-requires : goal.take_node_at-requires
+take_node_at-requires g c = record { up = c.requires.up; number = c.requires.number; some = c.kind.ensures.some; kind = c.kind.ensures.most }
 
-pub returns-in_err-take : goal.returns-in_err-take
-returns-in_err-take g c = record {
-  put = λ files stores. IsPut-failed c.args.geometry c.take.new.disk.blocks files c.args.number _ (told_err c.from_residual.result c.from_residual.ensures.1);
-  count = c.take.ensures.count;
-  cause = Owns-failed (omega arith) c.take.ensures.cause c.in_err-take.was;
-}
+pub returns-in_err-take_node_at : goal.returns-in_err-take_node_at
+returns-in_err-take_node_at g c = puts-lost now-begin c.take_node_at.ensures.serves.cause c.in_err-take_node_at.was c.from_residual.ensures.1
+
+pub put_dots-requires : goal.put_dots-requires
+put_dots-requires g c =
+    let took = took-thing c.args.number (thing_of c.args.thing.now) c.kind.ensures.kind c.major.ensures c.minor.ensures (now-turned now-begin c.take_node_at.ensures c.in_ok-take_node_at.was) in
+    record { up = now-up took c.requires.up; bare = here-now (bare (thing_of c.args.thing.now)) c.requires.number took ∙ ap (λ t. Some (bare (thing_of t))) c.in-Directory.is; directory = still-used (bare (thing_of c.args.thing.now)) c.requires.number took c.args.directory c.requires.directory }
 
 pub returns-in-Directory : goal.returns-in-Directory
-returns-in-Directory g c = record {
-  put = λ files stores.
-      IsPut-thing c.args.geometry c.args.disk.now.blocks c.take.new.disk.blocks c.append.new.disk.blocks files c.args.number c.args.directory (thing_of c.args.thing.now) c.bare_places.result c.append.result
-      (wide-folder c.args.number c.args.directory (thing_of c.args.thing.now) c.bare_places.result (ap thing_of c.in-Directory.is) c.bare_places.ensures) c.requires.unused.high stores (c.in_ok-take.ensures.put files stores) c.append.ensures.put;
-  count = c.append.ensures.count ∙ c.take.ensures.count;
-  cause = Owns-after c.take.ensures.cause.later c.append.ensures.cause;
-}
+returns-in-Directory g c =
+    let took = took-thing c.args.number (thing_of c.args.thing.now) c.kind.ensures.kind c.major.ensures c.minor.ensures (now-turned now-begin c.take_node_at.ensures c.in_ok-take_node_at.was) in
+    subst (λ t. Puts c.args.tree.now c.put_dots.new.tree c.args.number (node_for c.args.number c.args.directory t) c.put_dots.result) (sym (ap thing_of c.in-Directory.is)) (puts-last c.args.number (bare (thing_of c.args.thing.now)) (bare_directory c.args.number c.args.directory) took c.put_dots.result c.put_dots.ensures)
+
+pub put_bytes-requires : goal.put_bytes-requires
+put_bytes-requires g c =
+    let took = took-thing c.args.number (thing_of c.args.thing.now) c.kind.ensures.kind c.major.ensures c.minor.ensures (now-turned now-begin c.take_node_at.ensures c.in_ok-take_node_at.was) in
+    record { up = now-up took c.requires.up; bare = here-now (bare (thing_of c.args.thing.now)) c.requires.number took ∙ ap (λ t. Some (bare (thing_of t))) c.in-File.is }
 
 pub returns-in-File : goal.returns-in-File
-returns-in-File g c = record {
-  put = λ files stores.
-      IsPut-thing c.args.geometry c.args.disk.now.blocks c.take.new.disk.blocks c.append-in-File.new.disk.blocks files c.args.number c.args.directory (thing_of c.args.thing.now) c.deref.result.now c.append-in-File.result
-      (wide-bytes c.args.number c.args.directory (thing_of c.args.thing.now) c.deref.result.now (ap thing_of c.in-File.is ∙ ap Bytes (sym c.deref.ensures.value))) c.requires.unused.high stores (c.in_ok-take.ensures.put files stores) c.append-in-File.ensures.put;
-  count = c.append-in-File.ensures.count ∙ c.take.ensures.count;
-  cause = Owns-after c.take.ensures.cause.later c.append-in-File.ensures.cause;
-}
+returns-in-File g c =
+    let took = took-thing c.args.number (thing_of c.args.thing.now) c.kind.ensures.kind c.major.ensures c.minor.ensures (now-turned now-begin c.take_node_at.ensures c.in_ok-take_node_at.was) in
+    let is = ap thing_of c.in-File.is ∙ ap Bytes (sym c.deref.ensures.value) in
+    subst (λ t. Puts c.args.tree.now c.put_bytes.new.tree c.args.number (node_for c.args.number c.args.directory t) c.put_bytes.result) (sym is) (puts-last c.args.number (bare (thing_of c.args.thing.now)) (File 1 c.deref.result.now) took c.put_bytes.result c.put_bytes.ensures)
 
 pub returns-in-Device : goal.returns-in-Device
-returns-in-Device g c = record {
-  put = λ files stores.
-      IsPut-special c.args.geometry c.take.new.disk.blocks files c.args.number c.args.directory _ _ (thing_of c.args.thing.now) (ap thing_of c.in-Device.is) (c.in_ok-take.ensures.put files stores);
-  count = c.take.ensures.count;
-  cause = Owns-done c.take.ensures.cause.later;
-}
-
-pub append-requires : goal.append-requires
-append-requires g c =
-    put-ready c.args.geometry c.args.disk.now.blocks c.take.new.disk.blocks c.args.number (bare (thing_of c.args.thing.now)) c.requires.unused.high
-    c.requires.able.0 c.requires.able.1 (c.in_ok-take.ensures.put c.requires.able.0 c.requires.able.1)
-
-pub append-requires-in-File : goal.append-requires-in-File
-append-requires-in-File g c =
-    put-ready c.args.geometry c.args.disk.now.blocks c.take.new.disk.blocks c.args.number (bare (thing_of c.args.thing.now)) c.requires.unused.high
-    c.requires.able.0 c.requires.able.1 (c.in_ok-take.ensures.put c.requires.able.0 c.requires.able.1)
+returns-in-Device g c =
+    let took = took-thing c.args.number (thing_of c.args.thing.now) c.kind.ensures.kind c.major.ensures c.minor.ensures (now-turned now-begin c.take_node_at.ensures c.in_ok-take_node_at.was) in
+    let is = ap thing_of c.in-Device.is in
+    subst (λ t. Puts c.args.tree.now c.take_node_at.new.self c.args.number (node_for c.args.number c.args.directory t) (Ok tt)) (sym is)
+    (puts-done (subst (λ t. IsNow c.args.tree.now c.take_node_at.new.self (put c.args.tree.now.files c.args.number (bare t))) is took))

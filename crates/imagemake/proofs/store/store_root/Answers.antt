@@ -1,17 +1,23 @@
-use Rattle.std.proofs.lemmas.Result.{MatchResult-weaker}
-use Rattle.unixmodel.specs.Files.{free_slots}
-use Rattle.imagemake.proofs.AddedFiles.{unused-root, root-stored}
+use Rattle.std.proofs.Common.{[], sym, ◌∙◌}
+use Rattle.std.proofs.lemmas.Option.{none-some}
+use Rattle.unixmodel.specs.Files.Node.{Directory}
+use Rattle.imagemake.proofs.Putting.{root-bare, root-block, root-free, root-made}
+use Rattle.tree.proofs.Following.{end-lost, now-begin, now-turned, now-up, turned-last}
 use Rattle.imagemake.proofs.store.store_root.Goals as goal
 
-pub store_node-requires-clause-unused : goal.store_node-requires-clause-unused
-store_node-requires-clause-unused g c = unused-root c.args.geometry c.args.disk.now.blocks c.requires.empty
+pub take_node_at-requires-clause-number : goal.take_node_at-requires-clause-number
+take_node_at-requires-clause-number g c = root-free c.args.tree.now c.requires.none c.requires.some
 
-pub returns-clause-root : goal.returns-clause-root
-returns-clause-root g c =
-    MatchResult-weaker c.store_node.result (root-stored c.args.geometry c.args.disk.now.blocks c.store_node.new.disk.blocks c.store_node.result c.requires.empty (c.store_node.ensures.put (free_slots c.args.geometry.inodes) c.requires.empty))
-    (λ _ h. h) (λ _ _. tt)
+pub returns-in_err-take_node_at : goal.returns-in_err-take_node_at
+returns-in_err-take_node_at g c = end-lost now-begin c.take_node_at.ensures c.in_err-take_node_at.was c.from_residual.ensures.1
 
-pub returns-clause-fault : goal.returns-clause-fault
-returns-clause-fault g c =
-    MatchResult-weaker c.store_node.result (root-stored c.args.geometry c.args.disk.now.blocks c.store_node.new.disk.blocks c.store_node.result c.requires.empty (c.store_node.ensures.put (free_slots c.args.geometry.inodes) c.requires.empty))
-    (λ _ _. tt) (λ _ h. h)
+pub put_dots-requires : goal.put_dots-requires
+put_dots-requires g c =
+    let now = now-turned now-begin c.take_node_at.ensures c.in_ok-take_node_at.was in
+    let bare = root-bare c.args.tree.now c.requires.none c.requires.some now in
+    record { up = now-up now c.requires.up; bare = bare; above = λ none. none-some (Directory 1 []) (sym none ∙ bare); block = root-block c.args.tree.now c.requires.none c.requires.some now c.requires.block }
+
+pub returns : goal.returns
+returns g c =
+    let now = now-turned now-begin c.take_node_at.ensures c.in_ok-take_node_at.was in
+    turned-last now c.put_dots.result c.put_dots.ensures (root-made c.args.tree.now c.requires.none c.requires.some now)

@@ -1,7 +1,4 @@
-use Rattle.std.proofs.Common.{◌∙◌, arith}
-use Rattle.std.proofs.lemmas.Result.{err_from_is_err_and, on_ok_weaker}
-use Rattle.balloc.proofs.Exits.{HasCause-after, HasCause-failed}
-use Rattle.inode.proofs.Causes.{HasCause-first}
+use Rattle.cache.proofs.Ending.{goes-after, goes-stays, step-failed, step-last}
 use Rattle.balloc.proofs.Records.{fresh_fits}
 use Rattle.inode.proofs.Emptying.{Wrote-empty}
 use Rattle.inode.proofs.Reading.{HasInode-read, IsInHand-read}
@@ -11,35 +8,24 @@ pub read_inode-requires : goal.read_inode-requires
 read_inode-requires g c = record { parts = c.requires.sound.parts; high = c.requires.inode.high }
 
 pub returns-in_err-inode : goal.returns-in_err-inode
-returns-in_err-inode g c = record {
-  wrote = rw (err_from_is_err_and c.from_residual.result c.from_residual.ensures.1).1 tt;
-  count = c.read_inode.ensures.count;
-  cause = HasCause-first c.read_inode.ensures.cause c.in_err-inode.was;
-}
+returns-in_err-inode g c = step-failed goes-stays c.read_inode.ensures c.in_err-inode.was c.from_residual.ensures.1
 
 pub give_blocks-requires : goal.give_blocks-requires
-give_blocks-requires g c = IsInHand-read c.in_ok-inode.ensures.same (HasInode-read c.requires.sound c.requires.inode c.in_ok-inode.ensures.inode)
+give_blocks-requires g c = IsInHand-read c.in_ok-inode.ensures.done.same (HasInode-read c.requires.sound c.requires.inode c.in_ok-inode.ensures.done.told.is)
 
 pub returns-in_err-give_blocks : goal.returns-in_err-give_blocks
-returns-in_err-give_blocks g c = record {
-  wrote = rw (err_from_is_err_and c.from_residual-in_err-give_blocks.result c.from_residual-in_err-give_blocks.ensures.1).1 tt;
-  count = c.give_blocks.ensures.count ∙ c.read_inode.ensures.count;
-  cause = HasCause-failed c.read_inode.ensures.cause.later c.give_blocks.ensures.cause c.in_err-give_blocks.was;
-}
+returns-in_err-give_blocks g c = step-failed c.read_inode.ensures.goes c.give_blocks.ensures c.in_err-give_blocks.was c.from_residual-in_err-give_blocks.ensures.1
 
 pub write_inode-requires : goal.write_inode-requires
-write_inode-requires g c = record {
-  parts = c.in_ok-give_blocks.ensures.freed.parts;
-  high = c.requires.inode.high;
-  fits = fresh_fits c.in_ok-inode.inode.kind c.in_ok-inode.inode.major c.in_ok-inode.inode.minor c.in_ok-inode.inode.links
-      c.in_ok-inode.ensures.fits.kind c.in_ok-inode.ensures.fits.major c.in_ok-inode.ensures.fits.minor c.in_ok-inode.ensures.fits.links;
-}
+write_inode-requires g c =
+    let fits = c.in_ok-inode.ensures.done.told.fits in
+    record {
+      parts = c.in_ok-give_blocks.ensures.done.parts;
+      high = c.requires.inode.high;
+      fits = fresh_fits c.in_ok-inode.inode.kind c.in_ok-inode.inode.major c.in_ok-inode.inode.minor c.in_ok-inode.inode.links fits.kind fits.major fits.minor fits.links;
+    }
 
 pub returns : goal.returns
 returns g c =
-    let held = HasInode-read c.requires.sound c.requires.inode c.in_ok-inode.ensures.inode in
-    record {
-      wrote = on_ok_weaker c.write_inode.result (Wrote-empty held c.in_ok-inode.ensures.same c.in_ok-give_blocks.ensures.freed) c.write_inode.ensures.writes;
-      count = c.write_inode.ensures.count ∙ c.give_blocks.ensures.count ∙ c.read_inode.ensures.count;
-      cause = HasCause-after (omega (arith, c.read_inode.ensures.cause.later, c.give_blocks.ensures.cause.later)) c.write_inode.ensures.cause;
-    }
+    let held = HasInode-read c.requires.sound c.requires.inode c.in_ok-inode.ensures.done.told.is in
+    step-last (goes-after c.read_inode.ensures.goes c.give_blocks.ensures.goes) (λ _ writes. Wrote-empty held c.in_ok-inode.ensures.done.same c.in_ok-give_blocks.ensures.done writes) c.write_inode.ensures

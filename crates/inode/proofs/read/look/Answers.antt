@@ -1,7 +1,25 @@
+use Rattle.std.proofs.Common.{ap, arith, refl, sym, ◌∙◌}
+use Rattle.cache.proofs.Ending.{goes-stays, read-done, step-failed}
+use Rattle.layout.specs.declared.DiskInode.{DiskInode}
 use Rattle.inode.proofs.Looking.{told-inode, used-inode}
 use Rattle.inode.proofs.read.look.Goals as goal
+use Rattle.inode.proofs.read.look.Goals.{then-number-eq0-via-else-number-eq0+then-number-geometry, then-number-eq0-via-then-number-eq0}
 
-pub returns-clause-told : goal.returns-clause-told
-returns-clause-told g c =
-    let used = used-inode c.if-number-eq0.false c.if-number-geometry.false c.in_ok-inode.ensures.inode c.if-inode-eq0.false in
-    (used, told-inode c.requires used c.in_ok-inode.ensures.inode c.told.ensures)
+pub returns-then-number-eq0 : goal.returns-then-number-eq0
+returns-then-number-eq0 g c = elim c.then-number-eq0.branch [
+  | then-number-eq0-via-then-number-eq0 w ↦ read-done goes-stays refl (λ used. let low = used.low in omega (arith, w.if-number-eq0.true))
+  | then-number-eq0-via-else-number-eq0+then-number-geometry w ↦ read-done goes-stays refl (λ used. let high = used.high in omega (arith, w.if-number-geometry.true))
+]
+
+pub returns-in_err-inode : goal.returns-in_err-inode
+returns-in_err-inode g c = step-failed goes-stays c.read_inode.ensures c.in_err-inode.was c.from_residual.ensures.1
+
+pub returns-then-inode-eq0 : goal.returns-then-inode-eq0
+returns-then-inode-eq0 g c =
+    read-done c.read_inode.ensures.goes c.in_ok-inode.ensures.done.same (λ used. used.kind (ap (λ (i : DiskInode). i.kind) (sym c.in_ok-inode.ensures.done.told.is) ∙ c.if-inode-eq0.true))
+
+pub returns : goal.returns
+returns g c =
+    let is = c.in_ok-inode.ensures.done.told.is in
+    let used = used-inode c.if-number-eq0.false c.if-number-geometry.false is c.if-inode-eq0.false in
+    read-done c.read_inode.ensures.goes c.in_ok-inode.ensures.done.same (used, told-inode c.requires used is c.told.ensures)

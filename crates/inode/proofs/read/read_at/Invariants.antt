@@ -1,11 +1,12 @@
 use Rattle.std.proofs.Common.{◌≡◌, ◌-◌, ◌≤◌}
 use Rattle.inode.specs.Reading.{HasRead}
+use Rattle.cache.specs.Steps.{Goes}
 use Rattle.inode.proofs.read.read_at.Given as goal
 
 abbrev pub invariant-chunk : goal.invariant-chunk
 invariant-chunk g l = record {
   disk : l.disk.blocks ≡ l.fn.disk.blocks;
-  failures : l.fn.disk.failures ≤ l.disk.failures;
+  goes : Goes g.D.BlockDev.reached l.fn.disk l.disk;
   within : l.done ≤ l.count;
   has_read : HasRead l.fn.disk.blocks l.number l.at l.done l.fn.out l.out;
 }

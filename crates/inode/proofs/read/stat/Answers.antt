@@ -1,5 +1,4 @@
-use Rattle.std.proofs.lemmas.Result.{err_from_is_err_and}
-use Rattle.inode.proofs.Causes.{HasCause-first, HasCause-good}
+use Rattle.cache.proofs.Ending.{goes-stays, read-done, step-failed}
 use Rattle.inode.proofs.Looking.{told-inode}
 use Rattle.inode.proofs.read.stat.Goals as goal
 
@@ -7,27 +6,7 @@ pub read_inode-requires : goal.read_inode-requires
 read_inode-requires g c = record { parts = c.requires.sound.parts; high = c.requires.inode.high }
 
 pub returns-in_err-inode : goal.returns-in_err-inode
-returns-in_err-inode g c =
-    let told = (err_from_is_err_and c.from_residual.result c.from_residual.ensures.1).1 in
-    record {
-      kind = rw told tt;
-      major = rw told tt;
-      links = rw told tt;
-      size = rw told tt;
-      same = rw told tt;
-      count = c.read_inode.ensures.count;
-      cause = HasCause-first c.read_inode.ensures.cause c.in_err-inode.was;
-    }
+returns-in_err-inode g c = step-failed goes-stays c.read_inode.ensures c.in_err-inode.was c.from_residual.ensures.1
 
 pub returns : goal.returns
-returns g c =
-    let is = told-inode c.requires.sound c.requires.inode c.in_ok-inode.ensures.inode c.told.ensures in
-    record {
-      kind = is.kind;
-      major = is.major;
-      links = is.links;
-      size = is.size;
-      same = c.in_ok-inode.ensures.same;
-      count = c.read_inode.ensures.count;
-      cause = HasCause-good c.read_inode.ensures.cause.later;
-    }
+returns g c = read-done c.read_inode.ensures.goes c.in_ok-inode.ensures.done.same (told-inode c.requires.sound c.requires.inode c.in_ok-inode.ensures.done.told.is c.told.ensures)

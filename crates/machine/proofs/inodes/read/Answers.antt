@@ -14,7 +14,7 @@ pub returns-in-Ok : goal.returns-in-Ok
 returns-in-Ok g c =
     let k = kernel_of c.kernel.inside in
     let t = ok-told _ c.read_any.result _ c.in-Ok.is c.read_any.ensures.told in
-    rw (← c.kernel.view_is) (has-read k k refl c.read_any.new.self t.0 c.read_any.ensures.cause.later, read-shown _ _ _ _ _ t.1 t.2)
+    rw (← c.kernel.view_is) (has-read k k refl c.read_any.new.self t.0 c.read_any.ensures.cause.later, read-shown _ _ _ _ _ t.1.0 t.1.1)
 
 pub returns-in-Err : goal.returns-in-Err
 returns-in-Err g c = lost-read c.kernel.view_is _ c.in-Err.is c.read_any.ensures

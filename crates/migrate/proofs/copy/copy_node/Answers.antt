@@ -1,20 +1,12 @@
-use Rattle.std.proofs.Common.{◌≡◌, None, ap, arith, sym, subst, ◌∙◌}
-use Rattle.unixmodel.specs.Files.{Files, Node, put, slot}
-use Rattle.unixmodel.specs.Image.{IsNode}
-use Rattle.layout.specs.declared.DiskInode.{DiskInode}
+use Rattle.std.proofs.Common.{arith, ◌∙◌}
+use Rattle.migrate.specs.Copies.{write_fault}
+use Rattle.unixmodel.specs.Files.{put}
 use Rattle.imagerules.specs.Rules.{HasBlocks-of}
 use Rattle.imagerules.proofs.Bounds.{HasPlace-at}
-use Rattle.imagerules.proofs.Denoting.{contents-long}
-use Rattle.balloc.proofs.Exits.{told_err}
-use Rattle.imagemake.specs.Added.{IsPut, Widens}
-use Rattle.imagemake.specs.Stored.{Stores}
-use Rattle.imagemake.proofs.AddedThings.{IsPut-again, slot-put}
-use Rattle.imagemake.proofs.Storing.{length-stored, unused-kind}
-use Rattle.migrate.proofs.Emptied.{Stores-emptied, Widens-emptied, emptied}
-use Rattle.migrate.proofs.Told.{IsCopied-memory, IsCopied-refused}
-use Rattle.migrate.proofs.copy.copy_node.Given as given
+use Rattle.tree.proofs.Storing.{held-none, length-held}
+use Rattle.migrate.proofs.Emptied.{fresh-as, in-files, refused-lacks, taken-some, written-copies}
+use Rattle.migrate.proofs.Told.{copied-lacks, copied-memory}
 use Rattle.migrate.proofs.copy.copy_node.Goals as goal
-use Rattle.migrate.proofs.copy.copy_node.Goals.{After-append}
 
 pub kind-kind-requires : goal.kind-kind-requires
 kind-kind-requires g c = HasPlace-at c.requires.geometry c.args.n c.requires.high
@@ -28,62 +20,41 @@ device_minor-minor-requires g c = HasPlace-at c.requires.geometry c.args.n c.req
 pub links-requires : goal.links-requires
 links-requires g c = HasPlace-at c.requires.geometry c.args.n c.requires.high
 
-pub take_inode_at-requires : goal.take_inode_at-requires
-take_inode_at-requires g c =
+pub take_at-requires : goal.take_at-requires
+take_at-requires g c =
     let able = c.requires.able in
     let blocks = HasBlocks-of c.args.old.now c.requires.blocks in
     let known = blocks.inodes.kinds.known c.args.n c.requires.low (omega (arith, c.requires.high, c.requires.geometry.inodes)) in
+    let high = in-files able.1 c.args.n c.requires.high in
     record {
-      sound = able.1.sound;
-      unused = record {
-        low = c.requires.low;
-        high = c.requires.high;
-        unused = unused-kind c.args.geometry c.args.disk.now.blocks able.0 able.1 c.args.n c.requires.low c.requires.high able.2;
-      };
+      up = able.1.up;
+      low = c.requires.low;
+      high = omega (arith, high, length-held able.1.stores);
+      free = held-none able.1.stores c.args.n high able.2;
       some = omega (arith, c.kind-kind.ensures, c.requires.used);
       kind = omega (arith, c.kind-kind.ensures, known);
     }
 
-pub append-requires : goal.append-requires
-append-requires g c = record {
-  sound = c.in_ok-take_inode_at.ensures.sound;
-  inode = record {
-    low = c.requires.low;
-    high = c.requires.high;
-    kind = λ z. c.requires.used (sym c.kind-kind.ensures ∙ sym (ap (λ (i : DiskInode). i.kind) c.in_ok-take_inode_at.ensures.inode) ∙ z);
-  };
-}
-
--- what the bytes come to
-put-all : (g : given.Over) (c : After-append g) (now : Files) (node : Node) → Stores c.args.geometry c.args.disk.now.blocks now → slot now c.args.n ≡ None → IsNode c.args.old.now c.args.n node
-    → IsPut c.args.geometry c.append.new.disk.blocks now c.args.n node c.append.result
-put-all g c now node stores none is =
-    let geometry = c.args.geometry in
-    let image = c.args.old.now in
-    let n = c.args.n in
-    let unused = unused-kind geometry c.args.disk.now.blocks now stores n c.requires.low c.requires.high none in
-    let taken = Stores-emptied geometry c.args.disk.now.blocks c.take_inode_at.new.disk.blocks n node (c.kind-kind.ensures ∙ is.kind) (c.device_major-major.ensures node is) (c.device_minor-minor.ensures node is)
-    (c.links.ensures ∙ is.links) (record { low = c.requires.low; high = c.requires.high; unused = unused }) c.in_ok-take_inode_at.ensures.sound c.in_ok-take_inode_at.ensures.nodes
-    c.in_ok-take_inode_at.ensures.free now stores none in
-    let long = contents-long image (HasBlocks-of image c.requires.blocks) n c.requires.low (omega (arith, c.requires.high, c.requires.geometry.inodes)) c.requires.used in
-    let bytes = c.deref.ensures.value ∙ c.in_ok-read_contents.ensures in
-    IsPut-again geometry c.append.new.disk.blocks now n (emptied node) node c.append.result
-    (c.append.ensures.put (put now n (emptied node)) (emptied node) node taken (slot-put now n (emptied node) (omega (arith, length-stored geometry c.args.disk.now.blocks now stores, c.requires.high)))
-    (subst (λ bs. Widens bs (emptied node) node) (sym bytes) (Widens-emptied image n node is long)))
-
-pub returns-in_err-take_inode_at : goal.returns-in_err-take_inode_at
-returns-in_err-take_inode_at g c = λ now node stores none is short.
-    IsCopied-memory c.args.geometry c.take_inode_at.new.disk.blocks (put now c.args.n node) (told_err c.from_residual.result c.from_residual.ensures.1)
+pub returns-in_err-take_at : goal.returns-in_err-take_at
+returns-in_err-take_at g c = λ now node copies none stands. copied-memory c.args.geometry c.take_at.new.self (put now c.args.n node) c.from_residual.result c.from_residual.ensures.1
 
 pub returns-in_err-read_contents : goal.returns-in_err-read_contents
-returns-in_err-read_contents g c = λ now node stores none is short.
-    IsCopied-memory c.args.geometry c.take_inode_at.new.disk.blocks (put now c.args.n node) (told_err c.from_residual-in_err-read_contents.result c.from_residual-in_err-read_contents.ensures.1)
+returns-in_err-read_contents g c = λ now node copies none stands. copied-memory c.args.geometry c.take_at.new.self (put now c.args.n node) c.from_residual-in_err-read_contents.result c.from_residual-in_err-read_contents.ensures.1
 
-pub returns-in_err-append : goal.returns-in_err-append
-returns-in_err-append g c = λ now node stores none is short.
-    IsCopied-refused c.args.geometry c.append.new.disk.blocks now c.args.n node c.in_err-append.field-0.0 (told_err c.from_residual-in_err-append.result c.from_residual-in_err-append.ensures.1) short
-    (subst (IsPut c.args.geometry c.append.new.disk.blocks now c.args.n node) c.in_err-append.was (put-all g (goal.at.returns-in_err-append g c).After-append now node stores none is))
+pub write_at-requires : goal.write_at-requires
+write_at-requires g c =
+    let able = c.requires.able in
+    record { up = c.in_ok-take_at.ensures.failed; node = taken-some able.1 c.args.n (in-files able.1 c.args.n c.requires.high) c.in_ok-take_at.ensures.done }
+
+pub returns-in_err-write_at : goal.returns-in_err-write_at
+returns-in_err-write_at g c = λ now node copies none stands.
+    let taken = fresh-as node (c.kind-kind.ensures ∙ stands.is.kind) (c.device_major-major.ensures node stands.is) (c.device_minor-minor.ensures node stands.is) (c.links.ensures ∙ stands.is.links) c.in_ok-take_at.ensures.done in
+    let bytes = c.deref.ensures.value ∙ c.in_ok-read_contents.ensures ∙ stands.is.contents in
+    copied-lacks c.args.geometry c.write_at.new.self (put now c.args.n node) c.from_residual-in_err-write_at.result (write_fault c.in_err-write_at.field-0.0) c.from_residual-in_err-write_at.ensures.1
+    (refused-lacks copies c.args.n (in-files copies c.args.n c.requires.high) none node c.in_ok-take_at.ensures.follows.geometry taken stands bytes c.in_err-write_at.ensures)
 
 pub returns : goal.returns
-returns g c = λ now node stores none is short.
-    (subst (IsPut c.args.geometry c.append.new.disk.blocks now c.args.n node) c.in_ok-append.was (put-all g (goal.at.returns g c).After-append now node stores none is)).0
+returns g c = λ now node copies none stands.
+    let taken = fresh-as node (c.kind-kind.ensures ∙ stands.is.kind) (c.device_major-major.ensures node stands.is) (c.device_minor-minor.ensures node stands.is) (c.links.ensures ∙ stands.is.links) c.in_ok-take_at.ensures.done in
+    let bytes = c.deref.ensures.value ∙ c.in_ok-read_contents.ensures ∙ stands.is.contents in
+    written-copies copies c.args.n (in-files copies c.args.n c.requires.high) none node c.in_ok-take_at.ensures.follows.geometry taken stands bytes c.in_ok-write_at.ensures

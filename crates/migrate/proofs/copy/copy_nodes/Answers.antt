@@ -1,16 +1,14 @@
 use Rattle.std.proofs.Common.{◌≢◌, ◌+◌, arith, subst, sym, ◌∙◌}
 use Rattle.unixmodel.specs.Image.{kind_in}
-use Rattle.cache.specs.Disk.{Disk}
 use Rattle.imagerules.specs.Places.{files_in, node_in}
 use Rattle.imagerules.proofs.Bounds.{HasPlace-at, inodes-least}
-use Rattle.balloc.proofs.Exits.{told_err}
-use Rattle.migrate.specs.Copies.{IsCopied}
-use Rattle.migrate.proofs.Copied.{HasCopied, blocks-sound, copied-all, copied-free, copied-more, copied-none, count-files, lacks-more, node-fits, node-is}
+use Rattle.migrate.proofs.Copied.{HasCopied, blocks-sound, copied-all, copied-free, copied-more, copied-none, count-files, lacks-more, node-stands}
+use Rattle.migrate.proofs.Told.{copied-lacks}
 use Rattle.migrate.proofs.copy.copy_nodes.Goals as goal
 use Rattle.migrate.proofs.copy.copy_nodes.Goals.{else-kind-ne0, then-kind-ne0+in_ok-copy_node}
 
 pub loop-n-init : goal.loop-n-init
-loop-n-init g c = copied-none c.args.old.now c.requires.source c.args.geometry c.requires.geometry c.args.disk.now.blocks c.requires.empty
+loop-n-init g c = copied-none c.args.old.now c.requires.source c.args.geometry c.requires.geometry c.requires.empty
 
 pub kind-requires : goal.kind-requires
 kind-requires g c = HasPlace-at c.requires.geometry c.loop-n.n c.loop-n-test.true
@@ -24,23 +22,19 @@ copy_node-requires g c =
       low = omega arith;
       high = c.loop-n-test.true;
       used = λ z. c.if-kind-ne0.true (c.kind.ensures ∙ z);
-      able = (copied.now, copied.stores, copied.part.after c.loop-n.n (omega arith));
+      able = (copied.now, copied.copies, copied.part.after c.loop-n.n (omega arith));
     }
 
 pub returns-in_err-copy_node : goal.returns-in_err-copy_node
 returns-in_err-copy_node g c =
     let old = c.args.old.now in
-    let source = c.requires.source in
-    let geometry = c.args.geometry in
-    let has = c.requires.geometry in
     let n = c.loop-n.n in
     let copied = c.loop-n.invariant in
     let high = c.loop-n-test.true in
     let used : kind_in old n ≢ 0 = λ z. c.if-kind-ne0.true (c.kind.ensures ∙ z) in
-    let fault = c.in_err-copy_node.field-0.0 in
-    subst (IsCopied geometry c.copy_node.new.disk.blocks (files_in old)) (sym (told_err c.from_residual.result c.from_residual.ensures.1))
-    (lacks-more old source geometry has n c.loop-n.auto.n high used copied fault
-    (c.in_err-copy_node.ensures copied.now (node_in old n) copied.stores (copied.part.after n (omega arith)) (node-is old source geometry has n c.loop-n.auto.n high used) (node-fits old source geometry has n c.loop-n.auto.n high used)))
+    copied-lacks c.args.geometry c.copy_node.new.volume (files_in old) c.from_residual.result c.in_err-copy_node.field-0.0 c.from_residual.ensures.1
+    (lacks-more old c.requires.source c.args.geometry c.requires.geometry n c.loop-n.auto.n high used copied _
+    (c.in_err-copy_node.ensures copied.now (node_in old n) copied.copies (copied.part.after n (omega arith)) (node-stands old c.requires.source c.args.geometry c.requires.geometry n c.loop-n.auto.n high used)))
 
 pub loop-n-preserved : goal.loop-n-preserved
 loop-n-preserved g c =
@@ -55,11 +49,9 @@ loop-n-preserved g c =
     elim c.if-kind-ne0.branch [
       | then-kind-ne0+in_ok-copy_node w ↦
           let used : kind_in old n ≢ 0 = λ z. w.if-kind-ne0.true (c.kind.ensures ∙ z) in
-          subst (λ (disk : Disk). HasCopied geometry disk.blocks (n + 1) (files_in old)) (sym w.disk-is)
-          (copied-more old source geometry has n low high used copied
-          (w.in_ok-copy_node.ensures copied.now (node_in old n) copied.stores (copied.part.after n (omega arith)) (node-is old source geometry has n low high used) (node-fits old source geometry has n low high used)))
-      | else-kind-ne0 w ↦
-          subst (λ (disk : Disk). HasCopied geometry disk.blocks (n + 1) (files_in old)) (sym w.disk-is) (copied-free old source geometry has n high (sym c.kind.ensures ∙ w.if-kind-ne0.false) copied)
+          subst (λ s. HasCopied geometry s (n + 1) (files_in old)) (sym w.volume-is)
+          (copied-more old source geometry has n low high used copied (w.in_ok-copy_node.ensures copied.now (node_in old n) copied.copies (copied.part.after n (omega arith)) (node-stands old source geometry has n low high used)))
+      | else-kind-ne0 w ↦ subst (λ s. HasCopied geometry s (n + 1) (files_in old)) (sym w.volume-is) (copied-free old source geometry has n high (sym c.kind.ensures ∙ w.if-kind-ne0.false) copied)
     ]
 
 pub returns : goal.returns

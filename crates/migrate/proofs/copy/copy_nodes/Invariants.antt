@@ -3,4 +3,4 @@ use Rattle.migrate.proofs.Copied.{HasCopied}
 use Rattle.migrate.proofs.copy.copy_nodes.Given as goal
 
 abbrev pub invariant-loop-n : goal.invariant-loop-n
-invariant-loop-n g l = HasCopied l.geometry l.disk.blocks l.n (files_in l.old)
+invariant-loop-n g l = HasCopied l.geometry l.volume l.n (files_in l.old)

@@ -2,9 +2,9 @@ use Rattle.std.proofs.Common.{length, ◌∙◌, ◌≤◌, arith, refl, subst, 
 use Rattle.std.proofs.lemmas.Result.{err_from_is_err_and}
 use Rattle.imagerules.specs.Content.{image_of}
 use Rattle.imagerules.specs.Places.{files_in}
-use Rattle.mount.proofs.Mounting.{IsFileSystem-mounted, IsMounted-over, two-blocks, unmounted-check, unmounted-device, unmounted-memory}
+use Rattle.mount.proofs.Mounting.{file-system-mounted, made-blocks, made-failures, mounted-over, sound-mounted, two-blocks, unmounted-check, unmounted-device, unmounted-memory}
 use Rattle.mount.proofs.device.mount.Goals as goal
-use Rattle.mount.specs.Mounted.{IsMounted, TellsNumbers}
+use Rattle.mount.specs.Mounted.{TellsNumbers}
 
 pub returns-in_err-_summary-clause-unmounted : goal.returns-in_err-_summary-clause-unmounted
 returns-in_err-_summary-clause-unmounted g c =
@@ -32,14 +32,21 @@ returns-in_err-disk-clause-unmounted g c =
     let p = err_from_is_err_and c.from_residual-in_err-disk.result c.from_residual-in_err-disk.ensures.1 in
     unmounted-memory g.D.BlockDev.failures (image_of (g.D.BlockDev.content device)) (g.D.BlockDev.failures device) c.from_residual-in_err-disk.result p.0 p.1 p.2
 
+pub new-volume-requires : goal.new-volume-requires
+new-volume-requires g c =
+    let device = c.args.device in
+    let blocks = g.D.BlockDev.content device in
+    let geometry = c.in_ok-geometry.geometry in
+    let numbers : TellsNumbers (image_of blocks) geometry = subst (λ b. TellsNumbers (image_of b) geometry) c.check.ensures.same c.in_ok-geometry.ensures.numbers in
+    sound-mounted blocks (g.met.D.BlockDev.sizes device) (files_in (image_of blocks)) c.in_ok-_summary.ensures.denotes geometry numbers c.in_ok-disk.disk (made-blocks c.in_ok-disk.ensures.made ∙ c.read_geometry.ensures.same ∙ c.check.ensures.same)
+
 pub new-requires-2 : goal.new-requires-2
 new-requires-2 g c =
     let device = c.args.device in
     let blocks = g.D.BlockDev.content device in
     let geometry = c.in_ok-geometry.geometry in
     let numbers : TellsNumbers (image_of blocks) geometry = subst (λ b. TellsNumbers (image_of b) geometry) c.check.ensures.same c.in_ok-geometry.ensures.numbers in
-    IsFileSystem-mounted blocks (g.met.D.BlockDev.sizes device) (files_in (image_of blocks)) c.in_ok-_summary.ensures.denotes geometry numbers c.in_ok-disk.disk
-    (c.in_ok-disk.ensures.blocks ∙ c.read_geometry.ensures.same ∙ c.check.ensures.same)
+    file-system-mounted blocks (g.met.D.BlockDev.sizes device) (files_in (image_of blocks)) c.in_ok-_summary.ensures.denotes geometry numbers c.in_ok-disk.disk (made-blocks c.in_ok-disk.ensures.made ∙ c.read_geometry.ensures.same ∙ c.check.ensures.same) c.new-volume.ensures
 
 pub returns-in_err-new-clause-unmounted : goal.returns-in_err-new-clause-unmounted
 returns-in_err-new-clause-unmounted g c =
@@ -53,7 +60,6 @@ returns-clause-mounted g c =
     let blocks = g.D.BlockDev.content device in
     let geometry = c.in_ok-geometry.geometry in
     let numbers : TellsNumbers (image_of blocks) geometry = subst (λ b. TellsNumbers (image_of b) geometry) c.check.ensures.same c.in_ok-geometry.ensures.numbers in
-    let later : g.D.BlockDev.failures device ≤ c.in_ok-disk.disk.failures = omega (arith, c.check.ensures.later, c.read_geometry.ensures.cause.later, c.in_ok-disk.ensures.failures) in
-    subst (IsMounted (image_of blocks) (g.D.BlockDev.failures device)) (sym c.in_ok-new.ensures)
-    (IsMounted-over blocks (g.met.D.BlockDev.sizes device) (files_in (image_of blocks)) c.in_ok-_summary.ensures.denotes geometry numbers (g.D.BlockDev.failures device) c.in_ok-disk.disk
-    (c.in_ok-disk.ensures.blocks ∙ c.read_geometry.ensures.same ∙ c.check.ensures.same) later)
+    let later : g.D.BlockDev.failures device ≤ c.in_ok-disk.disk.failures = omega (arith, c.check.ensures.later, c.read_geometry.ensures.cause.later, made-failures c.in_ok-disk.ensures.made) in
+    mounted-over blocks (g.met.D.BlockDev.sizes device) (files_in (image_of blocks)) c.in_ok-_summary.ensures.denotes geometry numbers c.in_ok-disk.disk (made-blocks c.in_ok-disk.ensures.made ∙ c.read_geometry.ensures.same ∙ c.check.ensures.same)
+    (g.D.BlockDev.failures device) later c.new-volume.ensures c.in_ok-new.ensures

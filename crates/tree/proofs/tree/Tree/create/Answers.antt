@@ -1,13 +1,60 @@
-use Rattle.tree.proofs.Serving.{acts, answers-held, names-asked, up-inside}
+use Rattle.std.proofs.Common.{Some, ap, refl, sym, ◌∙◌}
+use Rattle.tree.proofs.Following.{acts-done, acts-lost, acts-not, now-begin, now-files, now-up}
+use Rattle.tree.proofs.Gaps.{made-done, made-unnumbered, overflow-none, none-more}
+use Rattle.tree.proofs.Leaves.{fresh-now, leaf-empty, made-asked, some-kind, weaker-gap}
+use Rattle.tree.proofs.Turning.{acts-refused, done-of, now-changed, now-none, now-passed, now-took}
+use Rattle.tree.specs.Entering.{entered, made_files}
+use Rattle.tree.specs.Leaves.{leaf_node}
+use Rattle.unixmodel.specs.Files.{Files, Entry}
+use Rattle.unixmodel.specs.NameCalls.{Made}
 use Rattle.tree.proofs.tree.Tree.create.Goals as goal
 
-pub create-result-requires : goal.create-result-requires
-create-result-requires g c =
-    let asked = names-asked c.self.view_is c.args.directory c.self.invariant.held c.requires.up c.requires.rules c.requires.directory in
-    record { held = asked.held; rules = asked.rules; directory = asked.directory; path = c.requires.path }
+pub find_gap-requires : goal.find_gap-requires
+find_gap-requires g c = record { up = c.requires.up; rules = c.requires.rules; directory = c.requires.directory; more = none-more }
+
+pub returns-in_err-gap : goal.returns-in_err-gap
+returns-in_err-gap g c =
+    acts-refused c.requires.up now-begin c.find_gap.ensures c.in_err-gap.was
+    (λ known less why. weaker-gap c.args.self.now.block_limit c.args.self.now.files c.args.directory c.args.path.now (leaf_node c.args.leaf) (leaf-empty c.args.leaf) _ known why) c.from_residual.ensures.1
+
+pub take_node-requires : goal.take_node-requires
+take_node-requires g c =
+    let first = done-of c.find_gap.ensures c.in_ok-gap.was in
+    record { up = now-up (now-passed now-begin c.find_gap.ensures c.requires.up c.in_ok-gap.was first.1) c.requires.up; some = some-kind c.numbers-kind.ensures.some; kind = c.numbers-kind.ensures.most }
+
+pub returns-in_err-number : goal.returns-in_err-number
+returns-in_err-number g c =
+    let first = done-of c.find_gap.ensures c.in_ok-gap.was in
+    acts-lost c.requires.up (now-passed now-begin c.find_gap.ensures c.requires.up c.in_ok-gap.was first.1) c.take_node.ensures c.in_err-number.was c.from_residual-in_err-number.ensures.1
+
+pub returns-in_default : goal.returns-in_default
+returns-in_default g c =
+    let first = done-of c.find_gap.ensures c.in_ok-gap.was in
+    let none = now-none (now-passed now-begin c.find_gap.ensures c.requires.up c.in_ok-gap.was first.1) c.numbers-kind.result.0 c.numbers-kind.result.1 c.numbers-kind.result.2 c.take_node.ensures c.in_ok-number.was c.in_default.is in
+    let nothing = ap made_files (made-unnumbered c.args.self.now.block_limit c.args.self.now.files c.args.directory c.args.path.now (leaf_node c.args.leaf) (leaf-empty c.args.leaf) _ first.0.spot none.0) in
+    acts-not c.requires.up none.1 refl (overflow-none c.args.self.now.block_limit nothing) none.0
+
+-- behind the node that came
+pub put_entry-requires : goal.put_entry-requires
+put_entry-requires g c =
+    let first = done-of c.find_gap.ensures c.in_ok-gap.was in
+    let took = now-took (now-passed now-begin c.find_gap.ensures c.requires.up c.in_ok-gap.was first.1) c.numbers-kind.result.0 c.numbers-kind.result.1 c.numbers-kind.result.2 c.take_node.ensures c.in_ok-number.was c.in-Some.is in
+    let now = fresh-now c.args.self.now.files c.in-Some.number c.numbers-kind.ensures.node took.1 in
+    let asked = made-asked (leaf_node c.args.leaf) (leaf-empty c.args.leaf) first.0 took.0 now c.requires.path in
+    record { up = now-up now c.requires.up; plain = asked.plain; number = asked.node; room = asked.room; fits = asked.fits }
+
+pub returns-in_err-put_entry : goal.returns-in_err-put_entry
+returns-in_err-put_entry g c =
+    let first = done-of c.find_gap.ensures c.in_ok-gap.was in
+    let took = now-took (now-passed now-begin c.find_gap.ensures c.requires.up c.in_ok-gap.was first.1) c.numbers-kind.result.0 c.numbers-kind.result.1 c.numbers-kind.result.2 c.take_node.ensures c.in_ok-number.was c.in-Some.is in
+    acts-lost c.requires.up took.1 c.put_entry.ensures c.in_err-put_entry.was c.from_residual-in_err-put_entry.ensures.1
 
 pub returns : goal.returns
-returns g c = rw (← c.self.view_is) (acts c.self.inside.geometry c.self.inside.disk c.create-result.new.disk c.self.inside.holds.items c.create-result.ensures c.has_failed-self-inside.ensures)
-
-pub invariant_of-self : goal.invariant_of-self
-invariant_of-self g c = record { count = c.self.invariant.count; held = answers-held c.create-result.ensures c.has_failed-self-inside.ensures (c.self.invariant.held (up-inside c.self.view_is c.requires.up)) }
+returns g c =
+    let first = done-of c.find_gap.ensures c.in_ok-gap.was in
+    let gap = first.0 in
+    let took = now-took (now-passed now-begin c.find_gap.ensures c.requires.up c.in_ok-gap.was first.1) c.numbers-kind.result.0 c.numbers-kind.result.1 c.numbers-kind.result.2 c.take_node.ensures c.in_ok-number.was c.in-Some.is in
+    let e : Entry = record { name = c.in_ok-gap.gap.name.now; number = c.in-Some.number } in
+    let last = now-changed (fresh-now c.args.self.now.files c.in-Some.number c.numbers-kind.ensures.node took.1) (λ fs. entered fs c.in_ok-gap.gap.directory c.in_ok-gap.gap.place e) c.put_entry.ensures c.in_ok-put_entry.was in
+    acts-done c.requires.up last (made-done c.args.self.now.block_limit c.args.self.now.files c.args.directory c.args.path.now (leaf_node c.args.leaf) (leaf-empty c.args.leaf) _ gap.spot gap.links gap.places gap.here _ gap.room _ took.0 gap.free
+    ∙ ap (λ (fs : Files). let made : Made = record { files = fs; number = c.in-Some.number } in Some made) (sym (now-files last)))

@@ -1,13 +1,111 @@
-use Rattle.tree.proofs.Serving.{acts, answers-held, names-asked, up-inside}
+use Rattle.std.proofs.Common.{inl, sym, ◌∙◌, refl, ap, Some, ◌<◌, ◌≡◌}
+use Rattle.names.specs.Rules.{KeepsTree}
+use Rattle.tree.proofs.Following.{acts-done, acts-lost, acts-not, now-begin, now-files, now-node, now-read, now-up, told-now, used-now}
+use Rattle.tree.proofs.Gaps.{none-more, overflow-none}
+use Rattle.tree.proofs.Links.{link-asked, linked-asked, linked-into, linked-nothing, reached, seen, seen-directory, seen-many, seen-weaker}
+use Rattle.tree.proofs.Turning.{acts-refused, at-now, done-of, now-changed, now-passed, was-now}
+use Rattle.tree.specs.Entering.{HasGap, entered}
+use Rattle.tree.specs.Lacking.{LacksGap}
+use Rattle.unixmodel.specs.Files.{Entry, Spot, change_node, links_of, slot, Node}
+use Rattle.unixmodel.specs.NameCalls.{more_links}
 use Rattle.tree.proofs.tree.Tree.link.Goals as goal
 
-pub link-result-requires : goal.link-result-requires
-link-result-requires g c =
-    let asked = names-asked c.self.view_is c.args.directory c.self.invariant.held c.requires.up c.requires.rules c.requires.directory in
-    record { held = asked.held; rules = asked.rules; directory = asked.directory; path = c.requires.path }
+pub find-requires : goal.find-requires
+find-requires g c = record { up = c.requires.up; rules = c.requires.rules; directory = c.requires.directory }
+
+pub returns-in_err-number : goal.returns-in_err-number
+returns-in_err-number g c = acts-lost c.requires.up now-begin c.find.ensures c.in_err-number.was c.from_residual.ensures.1
+
+pub returns-in_default : goal.returns-in_default
+returns-in_default g c =
+    let none = sym c.in_ok-number.ensures.serves.told.1 ∙ c.in_default.is in
+    acts-not c.requires.up (now-read now-begin c.find.ensures c.in_ok-number.was) refl
+    (overflow-none c.args.self.now.block_limit (linked-nothing c.args.self.now.files c.args.directory c.args.old.now c.args.new.now none)) (inl none)
+
+-- behind the look for the old path
+pub node-requires : goal.node-requires
+node-requires g c =
+    let now = now-read now-begin c.find.ensures c.in_ok-number.was in
+    let found = sym c.in_ok-number.ensures.serves.told.1 ∙ c.in-Some.is in
+    record { up = now-up now c.requires.up; node = now-node now c.in-Some.number (reached c.requires.rules c.args.directory c.args.old.now c.requires.directory found) }
+
+pub returns-in_err-node : goal.returns-in_err-node
+returns-in_err-node g c = acts-lost c.requires.up (now-read now-begin c.find.ensures c.in_ok-number.was) c.node.ensures c.in_err-node.was c.from_residual-in_err-node.ensures.1
+
+-- behind the look at its node
+pub returns-then-node-eq-DIRECTORY : goal.returns-then-node-eq-DIRECTORY
+returns-then-node-eq-DIRECTORY g c =
+    let now = now-read now-begin c.find.ensures c.in_ok-number.was in
+    let s = seen c.requires.rules c.args.directory c.args.old.now c.requires.directory (sym c.in_ok-number.ensures.serves.told.1 ∙ c.in-Some.is) (told-now now c.in-Some.number c.in_ok-node.ensures.serves.told.1) in
+    let no = seen-directory c.args.self.now s c.args.new.now c.if-node-eq-DIRECTORY.true in
+    acts-not c.requires.up (now-read now c.node.ensures c.in_ok-node.was) refl no.0 no.1
+
+pub returns-then-node-ge-MOST_LINKS : goal.returns-then-node-ge-MOST_LINKS
+returns-then-node-ge-MOST_LINKS g c =
+    let now = now-read now-begin c.find.ensures c.in_ok-number.was in
+    let s = seen c.requires.rules c.args.directory c.args.old.now c.requires.directory (sym c.in_ok-number.ensures.serves.told.1 ∙ c.in-Some.is) (told-now now c.in-Some.number c.in_ok-node.ensures.serves.told.1) in
+    let no = seen-many c.args.self.now s c.args.new.now c.if-node-eq-DIRECTORY.false c.if-node-ge-MOST_LINKS.true in
+    acts-not c.requires.up (now-read now c.node.ensures c.in_ok-node.was) refl no.0 no.1
+
+pub find_gap-requires : goal.find_gap-requires
+find_gap-requires g c =
+    let now = now-read (now-read now-begin c.find.ensures c.in_ok-number.was) c.node.ensures c.in_ok-node.was in
+    record { up = now-up now c.requires.up; rules = at-now now (λ t. KeepsTree t.files) c.requires.rules; directory = used-now now c.args.directory c.requires.directory; more = none-more }
+
+pub returns-in_err-gap : goal.returns-in_err-gap
+returns-in_err-gap g c =
+    let before = now-read now-begin c.find.ensures c.in_ok-number.was in
+    let s = seen c.requires.rules c.args.directory c.args.old.now c.requires.directory (sym c.in_ok-number.ensures.serves.told.1 ∙ c.in-Some.is) (told-now before c.in-Some.number c.in_ok-node.ensures.serves.told.1) in
+    let now = now-read before c.node.ensures c.in_ok-node.was in
+    acts-refused c.requires.up now c.find_gap.ensures c.in_err-gap.was
+    (λ known less why. seen-weaker c.args.self.now s c.args.new.now c.if-node-eq-DIRECTORY.false c.if-node-ge-MOST_LINKS.false _ known (was-now now (λ t. LacksGap t.block_limit t.files c.args.directory c.args.new.now 0 c.in_err-gap.field-0.0) why)) c.from_residual-in_err-gap.ensures.1
+
+-- behind the look for a place
+pub add_link-requires : goal.add_link-requires
+add_link-requires g c =
+    let before = now-read now-begin c.find.ensures c.in_ok-number.was in
+    let s = seen c.requires.rules c.args.directory c.args.old.now c.requires.directory (sym c.in_ok-number.ensures.serves.told.1 ∙ c.in-Some.is) (told-now before c.in-Some.number c.in_ok-node.ensures.serves.told.1) in
+    let second = now-read before c.node.ensures c.in_ok-node.was in
+    let first = done-of c.find_gap.ensures c.in_ok-gap.was in
+    let now = now-passed second c.find_gap.ensures c.requires.up c.in_ok-gap.was (first.1 ∙ now-files second) in
+    record { up = now-up now c.requires.up; node = at-now now (λ t. (node : Node) × (slot t.files c.in-Some.number ≡ Some node) × (links_of node < 65535)) (link-asked c.args.self.now s c.args.new.now c.if-node-eq-DIRECTORY.false c.if-node-ge-MOST_LINKS.false) }
+
+pub returns-in_err-add_link : goal.returns-in_err-add_link
+returns-in_err-add_link g c =
+    let second = now-read (now-read now-begin c.find.ensures c.in_ok-number.was) c.node.ensures c.in_ok-node.was in
+    let first = done-of c.find_gap.ensures c.in_ok-gap.was in
+    acts-lost c.requires.up (now-passed second c.find_gap.ensures c.requires.up c.in_ok-gap.was (first.1 ∙ now-files second)) c.add_link.ensures c.in_err-add_link.was c.from_residual-in_err-add_link.ensures.1
+
+pub put_entry-requires : goal.put_entry-requires
+put_entry-requires g c =
+    let before = now-read now-begin c.find.ensures c.in_ok-number.was in
+    let s = seen c.requires.rules c.args.directory c.args.old.now c.requires.directory (sym c.in_ok-number.ensures.serves.told.1 ∙ c.in-Some.is) (told-now before c.in-Some.number c.in_ok-node.ensures.serves.told.1) in
+    let second = now-read before c.node.ensures c.in_ok-node.was in
+    let first = done-of c.find_gap.ensures c.in_ok-gap.was in
+    let third = now-passed second c.find_gap.ensures c.requires.up c.in_ok-gap.was (first.1 ∙ now-files second) in
+    let now = now-changed third (λ fs. change_node fs c.in-Some.number more_links) c.add_link.ensures c.in_ok-add_link.was in
+    let at : Spot = record { directory = c.in_ok-gap.gap.directory; name = c.in_ok-gap.gap.name.now } in
+    let gap = was-now second (λ t. HasGap t.block_limit t.files c.args.directory c.args.new.now 0 at c.in_ok-gap.gap.place) first.0 in
+    let asked = linked-asked c.args.self.now s c.args.new.now c.if-node-eq-DIRECTORY.false c.if-node-ge-MOST_LINKS.false gap now c.requires.path in
+    record { up = now-up now c.requires.up; plain = asked.plain; number = asked.node; room = asked.room; fits = asked.fits }
+
+pub returns-in_err-put_entry : goal.returns-in_err-put_entry
+returns-in_err-put_entry g c =
+    let second = now-read (now-read now-begin c.find.ensures c.in_ok-number.was) c.node.ensures c.in_ok-node.was in
+    let first = done-of c.find_gap.ensures c.in_ok-gap.was in
+    let third = now-passed second c.find_gap.ensures c.requires.up c.in_ok-gap.was (first.1 ∙ now-files second) in
+    acts-lost c.requires.up (now-changed third (λ fs. change_node fs c.in-Some.number more_links) c.add_link.ensures c.in_ok-add_link.was) c.put_entry.ensures c.in_err-put_entry.was c.from_residual-in_err-put_entry.ensures.1
 
 pub returns : goal.returns
-returns g c = rw (← c.self.view_is) (acts c.self.inside.geometry c.self.inside.disk c.link-result.new.disk c.self.inside.holds.items c.link-result.ensures c.has_failed-self-inside.ensures)
-
-pub invariant_of-self : goal.invariant_of-self
-invariant_of-self g c = record { count = c.self.invariant.count; held = answers-held c.link-result.ensures c.has_failed-self-inside.ensures (c.self.invariant.held (up-inside c.self.view_is c.requires.up)) }
+returns g c =
+    let before = now-read now-begin c.find.ensures c.in_ok-number.was in
+    let s = seen c.requires.rules c.args.directory c.args.old.now c.requires.directory (sym c.in_ok-number.ensures.serves.told.1 ∙ c.in-Some.is) (told-now before c.in-Some.number c.in_ok-node.ensures.serves.told.1) in
+    let second = now-read before c.node.ensures c.in_ok-node.was in
+    let first = done-of c.find_gap.ensures c.in_ok-gap.was in
+    let third = now-passed second c.find_gap.ensures c.requires.up c.in_ok-gap.was (first.1 ∙ now-files second) in
+    let now = now-changed third (λ fs. change_node fs c.in-Some.number more_links) c.add_link.ensures c.in_ok-add_link.was in
+    let at : Spot = record { directory = c.in_ok-gap.gap.directory; name = c.in_ok-gap.gap.name.now } in
+    let gap = was-now second (λ t. HasGap t.block_limit t.files c.args.directory c.args.new.now 0 at c.in_ok-gap.gap.place) first.0 in
+    let e : Entry = record { name = c.in_ok-gap.gap.name.now; number = c.in-Some.number } in
+    let last = now-changed now (λ fs. entered fs c.in_ok-gap.gap.directory c.in_ok-gap.gap.place e) c.put_entry.ensures c.in_ok-put_entry.was in
+    acts-done c.requires.up last (linked-into c.args.self.now s c.args.new.now c.if-node-eq-DIRECTORY.false c.if-node-ge-MOST_LINKS.false gap ∙ ap Some (sym (now-files last)))

@@ -1,23 +1,27 @@
-use Rattle.std.proofs.Common.{arith, ◌≡◌, length, replicate, ap, ◌∙◌}
-use Rattle.tree.proofs.Serving.{turns-held, up-inside}
-use Rattle.tree.proofs.Swept.{swept-serves}
+use Rattle.std.proofs.Common.{ap, arith, length}
+use Rattle.tree.specs.Tree.{FileTree}
+use Rattle.tree.proofs.Following.{now-up}
+use Rattle.tree.proofs.Serving.{up-inside}
+use Rattle.tree.proofs.Swept.{from-bare, swept-all, swept-more, swept-none}
+use Rattle.tree.proofs.Turning.{end-still, lost-served, now-served}
 use Rattle.tree.proofs.tree.Tree.release_all.Goals as goal
 
-pub release_all-result-requires : goal.release_all-result-requires
-release_all-result-requires g c = c.self.invariant.held (up-inside c.self.view_is c.requires.up)
+pub numbers-number-end-requires : goal.numbers-number-end-requires
+numbers-number-end-requires g c = up-inside c.unhold_all.ensures c.requires.up
+
+pub loop-number-init : goal.loop-number-init
+loop-number-init g c = swept-none c.unhold_all.ensures
+
+pub release_unlinked-requires : goal.release_unlinked-requires
+release_unlinked-requires g c = record { up = now-up c.loop-number.invariant.now c.requires.up }
+
+pub returns-in_err-release_unlinked : goal.returns-in_err-release_unlinked
+returns-in_err-release_unlinked g c = from-bare (lost-served c.loop-number.invariant.now c.release_unlinked.ensures c.in_err-release_unlinked.was c.from_residual.ensures.1)
+
+pub loop-number-preserved : goal.loop-number-preserved
+loop-number-preserved g c = swept-more c.loop-number.invariant (now-served c.loop-number.invariant.now c.release_unlinked.ensures c.in_ok-release_unlinked.was (λ told. told))
 
 pub returns : goal.returns
 returns g c =
-    let whole = c.self.inside.holds.ok in
-    let none : c.fill.new.self.items ≡ replicate (length c.self.inside.holds.items) 0 = c.fill.ensures.items (λ y e. e) ∙ ap (λ n. replicate n 0) (omega arith) in
-    rw (← c.self.view_is) (swept-serves c.self.inside.geometry c.self.inside.disk c.release_all-result.new.disk c.self.inside.holds.items c.fill.new.self.items c.self.inside.failed c.is_err-self-inside.result
-    c.release_all-result.result (up-inside c.self.view_is c.requires.up) none c.release_all-result.ensures c.is_err-self-inside.ensures.value)
-
-pub invariant_of-self : goal.invariant_of-self
-invariant_of-self g c =
-    let whole = c.self.inside.holds.ok in
-    let same = c.fill.new.self.ok in
-    record {
-      count = (let len = c.fill.ensures.len in omega arith) ∙ c.self.invariant.count;
-      held = turns-held c.release_all-result.ensures c.is_err-self-inside.ensures.value;
-    }
+    let count = ap (λ (t : FileTree). length t.files) c.unhold_all.ensures in
+    from-bare (end-still c.requires.up c.loop-number.invariant.now (swept-all c.loop-number.invariant (omega arith))).serves

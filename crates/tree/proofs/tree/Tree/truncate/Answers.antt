@@ -1,16 +1,33 @@
-use Rattle.tree.specs.Stored.{files_of}
-use Rattle.tree.proofs.Serving.{node-inside, turns-held, turns-serves, up-inside}
-use Rattle.unixmodel.specs.Files.{change_node}
+use Rattle.std.proofs.Common.{[], sym}
+use Rattle.tree.proofs.Emptying.{emptied-file, emptied-other}
+use Rattle.tree.proofs.Following.{end-lost, now-begin, now-read, now-up}
+use Rattle.tree.proofs.Storing.{change-is, some-node}
+use Rattle.tree.proofs.Turning.{end-changed, end-still, file-now, tells-more}
+use Rattle.unixmodel.specs.Files.{put, slot}
+use Rattle.unixmodel.specs.Files.Node.{File}
 use Rattle.unixmodel.specs.NameCalls.{emptied}
 use Rattle.tree.proofs.tree.Tree.truncate.Goals as goal
 
-pub empty_file-result-requires : goal.empty_file-result-requires
-empty_file-result-requires g c = record { held = c.self.invariant.held (up-inside c.self.view_is c.requires.up); node = node-inside c.self.view_is c.args.number c.requires.node }
+pub node-requires : goal.node-requires
+node-requires g c = record { up = c.requires.up; node = some-node (slot c.args.self.now.files c.args.number) c.requires.node }
+
+pub returns-in_err-node : goal.returns-in_err-node
+returns-in_err-node g c = (end-lost now-begin c.node.ensures c.in_err-node.was c.from_residual.ensures.1).serves
+
+pub returns-then-node-ne-FILE : goal.returns-then-node-ne-FILE
+returns-then-node-ne-FILE g c =
+    let at = some-node (slot c.args.self.now.files c.args.number) c.requires.node in
+    (end-still c.requires.up (now-read now-begin c.node.ensures c.in_ok-node.was) (emptied-other c.args.self.now.files c.args.number at.0 at.1 c.in_ok-node.node (c.in_ok-node.ensures.serves.told.1 at.0 at.1) c.if-node-ne-FILE.true)).serves
+
+pub empty-requires : goal.empty-requires
+empty-requires g c =
+    let now = now-read now-begin c.node.ensures c.in_ok-node.was in
+    let at = some-node (slot c.args.self.now.files c.args.number) c.requires.node in
+    record { up = now-up now c.requires.up; file = file-now now (emptied-file c.args.self.now.files c.args.number at.0 at.1 c.in_ok-node.node (c.in_ok-node.ensures.serves.told.1 at.0 at.1) c.if-node-ne-FILE.false) }
 
 pub returns : goal.returns
 returns g c =
-    rw (← c.self.view_is) (turns-serves c.self.inside.geometry c.self.inside.disk c.empty_file-result.new.disk c.self.inside.holds.items c.self.inside.holds.items c.self.inside.failed c.is_err-self-inside.result
-    (change_node (files_of c.self.inside.geometry c.self.inside.disk.blocks) c.args.number emptied) c.empty_file-result.result (up-inside c.self.view_is c.requires.up) c.empty_file-result.ensures c.is_err-self-inside.ensures.value)
-
-pub invariant_of-self : goal.invariant_of-self
-invariant_of-self g c = record { count = c.self.invariant.count; held = turns-held c.empty_file-result.ensures c.is_err-self-inside.ensures.value }
+    let now = now-read now-begin c.node.ensures c.in_ok-node.was in
+    let at = some-node (slot c.args.self.now.files c.args.number) c.requires.node in
+    let f = emptied-file c.args.self.now.files c.args.number at.0 at.1 c.in_ok-node.node (c.in_ok-node.ensures.serves.told.1 at.0 at.1) c.if-node-ne-FILE.false in
+    (end-changed now (λ fs. put fs c.args.number (File f.links [])) (tells-more (λ x was. was (file-now now f)) c.empty.ensures) (sym (change-is c.args.self.now.files c.args.number emptied (File f.links f.bytes) f.here))).serves

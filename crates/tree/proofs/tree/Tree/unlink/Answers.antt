@@ -1,14 +1,57 @@
-use Rattle.std.proofs.Common.{ap, ◌∙◌, length}
-use Rattle.tree.proofs.Serving.{acts, answers-held, names-asked, up-inside}
+use Rattle.std.proofs.Common.{Some, ap, sym, ◌∙◌, ◌≡◌, refl}
+use Rattle.std.specs.Prelude.{None}
+use Rattle.tree.specs.Holding.{let_go}
+use Rattle.tree.specs.Unlinks.{IsNaming, LacksName, Unlinks}
+use Rattle.tree.proofs.Following.{acts-done, acts-lost, now-begin, now-files, now-holds, now-up, now-turned}
+use Rattle.tree.proofs.Turning.{acts-refused, at-now, done-of, now-passed, was-now}
+use Rattle.tree.proofs.Unnaming.{gone-name, refused-at, spot-naming, without-spot}
+use Rattle.unixmodel.specs.Files.{Spot}
+use Rattle.unixmodel.specs.NameCalls.{unlinked}
 use Rattle.tree.proofs.tree.Tree.unlink.Goals as goal
 
-pub unlink-result-requires : goal.unlink-result-requires
-unlink-result-requires g c =
-    let asked = names-asked c.self.view_is c.args.directory c.self.invariant.held c.requires.up c.requires.rules c.requires.directory in
-    record { held = asked.held; rules = asked.rules; directory = asked.directory; count = ap length c.deref.ensures.value ∙ c.self.invariant.count }
+pub spot-requires : goal.spot-requires
+spot-requires g c = record { up = c.requires.up; rules = c.requires.rules; directory = c.requires.directory }
+
+pub returns-in_err-above : goal.returns-in_err-above
+returns-in_err-above g c =
+    acts-refused c.requires.up now-begin c.spot.ensures c.in_err-above.was
+    (λ known less why. without-spot c.args.self.now.holds c.args.self.now.files c.args.directory c.args.path.now _ known why) c.from_residual.ensures.1
+
+pub remove_name-requires : goal.remove_name-requires
+remove_name-requires g c =
+    let first = done-of c.spot.ensures c.in_ok-above.was in
+    let now = now-passed now-begin c.spot.ensures c.requires.up c.in_ok-above.was first.1 in
+    record { up = now-up now c.requires.up; naming = at-now now (λ t. IsNaming t.files c.in_ok-above.above) (spot-naming c.args.self.now.holds c.args.self.now.files c.args.directory c.args.path.now c.requires.rules _ first.0) }
+
+pub returns-in_err-number : goal.returns-in_err-number
+returns-in_err-number g c =
+    let first = done-of c.spot.ensures c.in_ok-above.was in
+    let now = now-passed now-begin c.spot.ensures c.requires.up c.in_ok-above.was first.1 in
+    let at : Spot = record { directory = c.in_ok-above.above; name = c.in_ok-above.name.now } in
+    acts-refused c.requires.up now c.remove_name.ensures c.in_err-number.was
+    (λ known none why. refused-at c.args.self.now.holds c.args.self.now.files c.args.directory c.args.path.now at first.0 c.in_err-number.field-0.0 known (was-now now (λ t. unlinked t.files at ≡ None) none) (was-now now (λ t. LacksName t.files at c.in_err-number.field-0.0) why)) c.from_residual-in_err-number.ensures.1
+
+-- behind the name that went
+pub let_go-requires : goal.let_go-requires
+let_go-requires g c =
+    let first = done-of c.spot.ensures c.in_ok-above.was in
+    let second = done-of c.remove_name.ensures c.in_ok-number.was in
+    let now = now-passed (now-passed now-begin c.spot.ensures c.requires.up c.in_ok-above.was first.1) c.remove_name.ensures c.requires.up c.in_ok-number.was refl in
+    record { up = now-up now c.requires.up; node = second.stands }
+
+pub returns-in_err-let_go : goal.returns-in_err-let_go
+returns-in_err-let_go g c =
+    let first = done-of c.spot.ensures c.in_ok-above.was in
+    let now = now-passed (now-passed now-begin c.spot.ensures c.requires.up c.in_ok-above.was first.1) c.remove_name.ensures c.requires.up c.in_ok-number.was refl in
+    acts-lost c.requires.up now c.let_go.ensures c.in_err-let_go.was c.from_residual-in_err-let_go.ensures.1
 
 pub returns : goal.returns
-returns g c = rw (← c.self.view_is) (acts c.self.inside.geometry c.self.inside.disk c.unlink-result.new.disk c.self.inside.holds.items (rw c.deref.ensures.value at c.unlink-result.ensures) c.has_failed-self-inside.ensures)
-
-pub invariant_of-self : goal.invariant_of-self
-invariant_of-self g c = record { count = c.self.invariant.count; held = answers-held c.unlink-result.ensures c.has_failed-self-inside.ensures (c.self.invariant.held (up-inside c.self.view_is c.requires.up)) }
+returns g c =
+    let at : Spot = record { directory = c.in_ok-above.above; name = c.in_ok-above.name.now } in
+    let first = done-of c.spot.ensures c.in_ok-above.was in
+    let begun = now-passed now-begin c.spot.ensures c.requires.up c.in_ok-above.was first.1 in
+    let second = was-now begun (λ t. Unlinks t.files c.remove_name.new.self.files at c.in_ok-number.number) (done-of c.remove_name.ensures c.in_ok-number.was) in
+    let now = now-passed begun c.remove_name.ensures c.requires.up c.in_ok-number.was refl in
+    let last = now-turned now c.let_go.ensures c.in_ok-let_go.was in
+    acts-done c.requires.up last (gone-name c.args.self.now.holds c.args.self.now.files c.args.directory c.args.path.now at first.0 c.in_ok-number.number c.remove_name.new.self.files second.named second.made
+    ∙ ap Some (ap (λ hs. let_go hs c.remove_name.new.self.files c.in_ok-number.number) (sym (now-holds now)) ∙ sym (now-files last)))

@@ -1,0 +1,76 @@
+-- A file without bytes gets some, where there is room for all of them.
+use Rattle.std.proofs.Common.{◌≡◌, ℕ, ◌+◌, ◌<◌, ◌≤◌, ◌∙◌, ◌++◌, Bool, List, [], None, Option, Some, ap, arith, false, inl, inr, length, refl, suc, sym, take, true, zero}
+use Rattle.std.specs.Prelude.{nat_le, ◌&&◌}
+use Rattle.std.proofs.lemmas.Bool.{and_from, and_right, cases_lt, cond-false, cond-true, le-leb, leb-false, lt-leb}
+use Rattle.std.proofs.lemmas.List.{append-nil, drop_all, take_all}
+use Rattle.std.proofs.lemmas.Option.{none-some, same_Some}
+use Rattle.tree.specs.Written.{Written, count_of, files_after, fitting, with_bytes, write_to, written}
+use Rattle.unixmodel.specs.Counts.{blocks_of}
+use Rattle.unixmodel.specs.FileCalls.{greatest, with_file}
+use Rattle.unixmodel.specs.Files.{Files, longest, put, slot}
+use Rattle.unixmodel.specs.Files.Node.{File}
+use Rattle.unixmodel.specs.Memory.{overwrite}
+
+greatest-most : (test : ℕ → Bool) (n : ℕ) → greatest test n ≤ n
+greatest-most test zero = omega arith
+greatest-most test (suc n) = go (test (suc n)) (greatest-most test n) where
+  go : (b : Bool) → greatest test n ≤ n → elim b [ true ↦ suc n | false ↦ greatest test n ] ≤ suc n
+  go true h = omega arith
+  go false h = omega arith
+
+greatest-less : (test : ℕ → Bool) (n : ℕ) → greatest test n < n → test n ≡ false
+greatest-less test zero h = absurd (omega arith)
+greatest-less test (suc n) h = go (test (suc n)) refl h where
+  go : (b : Bool) → test (suc n) ≡ b → elim b [ true ↦ suc n | false ↦ greatest test n ] < suc n → test (suc n) ≡ false
+  go true e l = absurd (omega arith)
+  go false e l = e
+
+-- bytes that are written into none are all that there are
+over-none : (bytes : List ℕ) (k : ℕ) → length bytes ≤ k → overwrite [] 0 (take k bytes) ≡ bytes
+over-none bytes k all = ap (λ r. take k bytes ++ r) (drop_all (0 + length (take k bytes)) [] (omega arith)) ∙ append-nil (take k bytes) ∙ take_all k bytes all
+
+module _ (limit : ℕ) (files : Files) (n : ℕ) (bytes : List ℕ) (here : slot files n ≡ Some (File 1 [])) where
+  abbrev fit : ℕ
+  fit = fitting limit files n 0 1 [] bytes
+
+  abbrev all : Written
+  all = with_bytes files n 0 1 [] bytes fit
+
+  abbrev w : Option Written
+  w = written limit files n 0 bytes
+
+  short : length bytes ≤ longest → w ≡ Some all
+  unfolding written
+  short h =
+      ap (write_to limit files n 0 bytes) here
+      ∙ cond-true (nat_le 0 (length {A = ℕ} []) && nat_le (0 + length bytes) longest) (Some all) None (and_from (nat_le 0 (length {A = ℕ} [])) (nat_le (0 + length bytes) longest) refl (le-leb (0 + length bytes) longest (omega arith)))
+
+  long : longest < length bytes → w ≡ None
+  unfolding written
+  long h =
+      ap (write_to limit files n 0 bytes) here
+      ∙ cond-false (nat_le 0 (length {A = ℕ} []) && nat_le (0 + length bytes) longest) (Some all) None (and_right (nat_le 0 (length {A = ℕ} [])) (nat_le (0 + length bytes) longest) (lt-leb (0 + length bytes) longest (omega arith)))
+
+  pub fill-long : None ≡ count_of w → longest < length bytes
+  fill-long told = elim (cases_lt longest (length bytes)) [ inl l ↦ l | inr m ↦ absurd (none-some fit (told ∙ ap count_of (short m))) ]
+
+  module _ {count : ℕ} (told : Some count ≡ count_of w) where
+    -- it is written at all
+    fits : length bytes ≤ longest
+    fits = elim (cases_lt longest (length bytes)) [ inl l ↦ absurd (none-some count (sym (ap count_of (long l)) ∙ sym told)) | inr m ↦ m ]
+
+    counted : count ≡ fit
+    counted = same_Some count fit (told ∙ ap count_of (short fits))
+
+    pub fill-less : count < length bytes → limit < blocks_of (put files n (File 1 bytes))
+    unfolding fitting
+    fill-less less =
+        let no = greatest-less (λ k. nat_le (blocks_of (with_file files n 1 (overwrite [] 0 (take k bytes)))) limit) (length bytes) (omega (arith, counted)) in
+        leb-false (blocks_of (put files n (File 1 bytes))) limit (ap (λ bs. nat_le (blocks_of (put files n (File 1 bs))) limit) (sym (over-none bytes (length bytes) (omega arith))) ∙ no)
+
+    pub fill-whole : length bytes ≤ count → files_after files w ≡ put files n (File 1 bytes)
+    unfolding fitting
+    fill-whole whole =
+        let most = greatest-most (λ k. nat_le (blocks_of (with_file files n 1 (overwrite [] 0 (take k bytes)))) limit) (length bytes) in
+        let many : length bytes ≤ fit = omega (arith, counted) in
+        ap (files_after files) (short fits) ∙ ap (λ bs. put files n (File 1 bs)) (over-none bytes fit many)

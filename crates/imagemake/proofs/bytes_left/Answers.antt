@@ -1,0 +1,10 @@
+use Rattle.std.proofs.Common.{◌≡◌, ◌%◌, ap, arith, length, sym, ◌∙◌}
+use Rattle.blockdev.specs.Blocks.{blocks_of}
+use Rattle.imagerules.specs.Content.{image_of}
+use Rattle.imagerules.proofs.ContentLemmas.{image_of-blocks}
+use Rattle.imagemake.proofs.bytes_left.Goals as goal
+
+pub returns-clause-bytes : goal.returns-clause-bytes
+returns-clause-bytes c =
+    let whole : length c.into_bytes.result.items % 1024 ≡ 0 = omega (arith, c.into_bytes.ensures.whole, c.into_bytes.result.ok.0) in
+    sym (image_of-blocks c.into_bytes.result.items whole) ∙ ap (λ b. image_of (blocks_of b)) c.into_bytes.ensures.bytes

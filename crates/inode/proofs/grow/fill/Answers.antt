@@ -1,0 +1,26 @@
+use Rattle.std.proofs.Common.{arith, subst}
+use Rattle.balloc.specs.Bitmap.{Takes}
+use Rattle.cache.proofs.Ending.{goes-after, goes-stays, step-done, step-failed}
+use Rattle.inode.proofs.grow.fill.Goals as goal
+
+pub returns-in_err-b : goal.returns-in_err-b
+returns-in_err-b g c = step-failed goes-stays c.take_block.ensures c.in_err-b.was c.from_residual.ensures.1
+
+pub unreachable-requires : goal.unreachable-requires
+unreachable-requires g c =
+    let none = subst (Takes c.args.geometry c.args.disk.now.blocks c.take_block.new.disk.blocks) c.in_default.is c.in_ok-b.ensures.done in
+    let zero = none.0 in
+    omega (arith, c.requires.some)
+
+pub write-requires : goal.write-requires
+write-requires g c =
+    let takes = (subst (Takes c.args.geometry c.args.disk.now.blocks c.take_block.new.disk.blocks) c.in-Some.is c.in_ok-b.ensures.done).0 in
+    record { block = omega (arith, takes.takes.parts.count, takes.lowest.free.high); fits = omega (arith, c.requires.room) }
+
+pub returns-in_err-write : goal.returns-in_err-write
+returns-in_err-write g c = step-failed c.take_block.ensures.goes c.write.ensures c.in_err-write.was c.from_residual-in_err-write.ensures.1
+
+pub returns : goal.returns
+returns g c =
+    let takes = (subst (Takes c.args.geometry c.args.disk.now.blocks c.take_block.new.disk.blocks) c.in-Some.is c.in_ok-b.ensures.done).0 in
+    step-done (goes-after c.take_block.ensures.goes c.write.ensures.goes) (record { mid = c.take_block.new.disk.blocks; takes = takes; written = c.in_ok-write.ensures.done })

@@ -1,0 +1,49 @@
+use Rattle.std.proofs.Common.{arith, refl, subst}
+use Rattle.cache.proofs.Ending.{goes-after, goes-stays, step-done, step-failed}
+use Rattle.inode.specs.Writing.{PutsPiece}
+use Rattle.inode.proofs.Wrote.{IsInode-same}
+use Rattle.inode.proofs.Pieces.{Wrote-begin, Wrote-piece, front-ends, piece_less, piece_room, piece_short, piece_some, piece_within, place_within}
+use Rattle.inode.proofs.write.write_front.Goals as goal
+
+pub piece-init : goal.piece-init
+piece-init g c = record {
+  wrote = Wrote-begin {at = c.args.at} c.args.bytes.now c.requires.within refl c.requires.sound c.requires.inode;
+  goes = goes-stays;
+  within = omega arith;
+}
+
+pub overflow_add-place : goal.overflow_add-place
+overflow_add-place g c = omega (arith, c.requires.short, c.piece-test.true)
+
+pub write_piece-requires : goal.write_piece-requires
+write_piece-requires g c = record {
+  sound = c.piece.invariant.wrote.sound;
+  inode = IsInode-same c.requires.inode c.piece.invariant.wrote.same;
+  within = place_within c.piece.done c.args.bytes.now c.requires.within c.piece.invariant.wrote c.piece.invariant.within;
+  some = piece_some c.args.at c.args.bytes.now c.piece-test.true c.min-len.ensures;
+  room = piece_room c.args.at c.args.bytes.now c.piece-test.true c.min-len.ensures;
+  short = piece_short c.args.at c.args.bytes.now c.piece-test.true c.min-len.ensures c.requires.short;
+}
+
+pub returns-in_err-write_piece : goal.returns-in_err-write_piece
+returns-in_err-write_piece g c = step-failed c.piece.invariant.goes c.write_piece.ensures c.in_err-write_piece.was c.from_residual.ensures.1
+
+pub returns-then-not-branch : goal.returns-then-not-branch
+returns-then-not-branch g c =
+    let lacks = subst (PutsPiece c.args.geometry c.piece.disk.blocks c.write_piece.new.disk.blocks c.args.number _ _) c.if-not-branch.true c.in_ok-write_piece.ensures.done in
+    step-done (goes-after c.piece.invariant.goes c.write_piece.ensures.goes)
+    (front-ends c.piece.done c.args.bytes.now c.requires.within c.piece.invariant.wrote c.piece.invariant.within lacks.1 (λ _. lacks.0))
+
+pub piece-preserved : goal.piece-preserved
+piece-preserved g c = record {
+  wrote = Wrote-piece c.piece.done c.args.bytes.now c.requires.within c.piece.invariant.wrote c.min-len.result (piece_within c.args.at c.args.bytes.now c.piece-test.true c.min-len.ensures)
+      (subst (PutsPiece c.args.geometry c.piece.disk.blocks c.write_piece.new.disk.blocks c.args.number _ _) c.if-not-branch.false c.in_ok-write_piece.ensures.done);
+  goes = goes-after c.piece.invariant.goes c.write_piece.ensures.goes;
+  within = piece_within c.args.at c.args.bytes.now c.piece-test.true c.min-len.ensures;
+}
+
+pub piece-smaller : goal.piece-smaller
+piece-smaller g c = piece_less c.args.at c.args.bytes.now c.piece-test.true c.min-len.ensures
+
+pub returns : goal.returns
+returns g c = step-done c.piece.invariant.goes (front-ends c.piece.done c.args.bytes.now c.requires.within c.piece.invariant.wrote c.piece.invariant.within refl (λ less. absurd (omega (arith, less, c.piece-test.false))))

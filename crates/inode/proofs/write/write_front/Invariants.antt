@@ -1,0 +1,16 @@
+use Rattle.std.proofs.Common.{◌-◌, ◌≤◌, length, take}
+use Rattle.blockdev.specs.Splice.{splice}
+use Rattle.cache.specs.Steps.{Goes}
+use Rattle.layout.specs.Image.{bytes_of}
+use Rattle.inode.specs.Writing.{Wrote}
+use Rattle.inode.proofs.write.write_front.Given as goal
+
+abbrev pub invariant-piece : goal.invariant-piece
+invariant-piece g l = record {
+  wrote : Wrote l.geometry l.fn.disk.blocks l.disk.blocks l.number (splice l.at (take l.done l.bytes) (bytes_of l.fn.disk.blocks l.number));
+  goes : Goes g.D.BlockDev.reached l.fn.disk l.disk;
+  within : l.done ≤ length l.bytes;
+}
+
+abbrev pub decreases-piece : goal.decreases-piece
+decreases-piece g l = length l.bytes - l.done

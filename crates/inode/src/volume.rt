@@ -1,0 +1,281 @@
+//! A disk with files, by the numbers of their inodes.
+
+ghost use Rattle.std.specs.Prelude.{◌≡◌, ◌≢◌, ◌+◌, ◌<◌, ◌≤◌, IfOk, IsSome, None, OnOk, Some, [], false, length, nat_le, slice_set, take};
+ghost use Rattle.blockdev.specs.Reached.{LeadsOn};
+ghost use Rattle.inode.specs.Looking.{IsTold, TellsAny};
+ghost use Rattle.inode.specs.Reading.{IsReadInto};
+ghost use Rattle.inode.specs.Store.{Changes, Flushed, IsWhole, LacksWriting, Looks, Serves, TakesLowest, Tries, Writes, WritesSome, is_device, raw_at, store_over, with_bytes};
+ghost use Rattle.inode.specs.Writing.{with_links};
+ghost use Rattle.balloc.specs.Inodes.{fresh_node};
+ghost use Rattle.layout.specs.Sound.{IsSound};
+ghost use Rattle.unixmodel.specs.Files.{longest, slot};
+
+use crate::empty::truncate;
+use crate::read::{look, read_at, stat};
+use crate::write::{set_links, write_front};
+use crate::{InodeFault, InodeStat};
+use balloc::{give_inode, has_blocks, take_inode, take_inode_at};
+use blockdev::{BlockDev, DeviceFault, Duplicate};
+use cache::Cache;
+use layout::{Geometry, LONGEST};
+use std::alloc::{AllocError, Global};
+use std::marker::Model;
+
+/// A disk with files. Once an access of the device has failed nothing is promised of them any more.
+#[derive(Drop)]
+pub struct Volume<D: BlockDev> {
+    disk: Cache<D>,
+    geometry: Geometry,
+    failed: bool,
+}
+
+impl<D: BlockDev> Model for Volume<D> {
+    ghost use Rattle.inode.specs.Store.{Store};
+
+    ghost Value = { Store D };
+
+    ghost use Rattle.inode.specs.Store.{IsInside, store_of};
+
+    ghost view = { store_of };
+
+    ghost invariant = { IsInside };
+}
+
+impl<D: BlockDev> Volume<D> {
+    /// The files of a sound disk of this geometry.
+    pub fn new(disk: Cache<D>, geometry: Geometry) -> Volume<D>
+        requires { IsSound geometry disk.blocks }
+        ensures { result ≡ store_over geometry disk false }
+    {
+        Volume {
+            disk,
+            geometry,
+            failed: false,
+        }
+    }
+
+    /// The numbers of the disk.
+    pub fn geometry(&self) -> Geometry
+        ensures { result ≡ self.now.geometry }
+    {
+        self.geometry
+    }
+
+    /// The device below, which counts its failures.
+    pub fn device(&self) -> &D
+        ensures device { result.now ≡ self.now.device }
+        ensures failures { D.failures result.now ≡ self.now.failures }
+    {
+        self.disk.device()
+    }
+
+    /// A law: what the nodes of every disk keep, while no access of the device has failed. It runs no code.
+    #[inline]
+    pub fn is_whole(&self)
+        requires { self.now.failed ≡ false }
+        ensures { IsWhole self.now }
+    {
+        let _failed = self.failed;
+    }
+
+    /// Gives up the files for their device, which gets what it lacks first. Where an access fails it isn't told what the device
+    /// has.
+    pub fn into_device(self) -> (D, Result<(), DeviceFault>)
+        requires up { self.failed ≡ false }
+        ensures { Flushed D.content D.failures D.reached self result.0 result.1 }
+    {
+        let Volume { mut disk, .. } = self;
+        let flushed = disk.flush();
+        (disk.into_device(), flushed)
+    }
+
+    /// Type, major number, number of links and size of what a number names; `None` where it names nothing.
+    pub fn look(&mut self, number: usize) -> Result<Option<InodeStat>, DeviceFault>
+        requires up { self.old.failed ≡ false }
+        ensures { Looks D.reached self.old self.new result (TellsAny (slot self.old.nodes number)) }
+    {
+        let result = look(&mut self.disk, self.geometry, number);
+        self.failed = result.is_err();
+        result
+    }
+
+    /// Type, major number, number of links and size of a node.
+    pub fn stat(&mut self, number: usize) -> Result<InodeStat, DeviceFault>
+        requires up { self.old.failed ≡ false }
+        requires node { IsSome (slot self.old.nodes number) }
+        ensures { Looks D.reached self.old self.new result (IsTold (raw_at self.old.nodes number)) }
+    {
+        let result = stat(&mut self.disk, self.geometry, number);
+        self.failed = result.is_err();
+        result
+    }
+
+    /// Reads bytes of a node from the place `at` on into `out`, as many as there are, and tells how many.
+    pub fn read_at(
+        &mut self,
+        number: usize,
+        at: usize,
+        out: &mut [u8],
+    ) -> Result<usize, DeviceFault>
+        requires up { self.old.failed ≡ false }
+        requires node { IsSome (slot self.old.nodes number) }
+        ensures { Looks D.reached self.old self.new result (IsReadInto (raw_at self.old.nodes number).bytes at out.old out.new) }
+    {
+        let result = read_at(&mut self.disk, self.geometry, number, at, out);
+        self.failed = result.is_err();
+        result
+    }
+
+    /// Whether at least so many data blocks are free.
+    pub fn has_blocks(&mut self, wanted: usize) -> Result<bool, DeviceFault>
+        requires up { self.old.failed ≡ false }
+        ensures { Looks D.reached self.old self.new result (λ enough. enough ≡ nat_le wanted self.old.free) }
+    {
+        let result = has_blocks(&mut self.disk, self.geometry, wanted);
+        self.failed = result.is_err();
+        result
+    }
+
+    /// Writes bytes of a node from the place `at` on. `PastEnd` comes exactly where `at` is past its end, and else `TooLong`
+    /// exactly where it would have more than `LONGEST` bytes. `Blocks` tells how many bytes are written: the next one needs more
+    /// blocks than are free.
+    pub fn write_at(&mut self, number: usize, at: usize, bytes: &[u8]) -> Result<(), InodeFault>
+        requires up { self.old.failed ≡ false }
+        requires node { IsSome (slot self.old.nodes number) }
+        ensures { Serves D.reached is_device self.old self.new result (λ _. Writes self.old self.new number at bytes.now) (LacksWriting self.old self.new number at bytes.now) }
+    {
+        self.is_whole();
+        let before = self.stat(number)?;
+        if at > before.size as usize {
+            return Err(InodeFault::PastEnd);
+        }
+        if bytes.len() > LONGEST - at {
+            return Err(InodeFault::TooLong);
+        }
+        let written = self.write_front(number, at, bytes)?;
+        if written < bytes.len() {
+            return Err(InodeFault::Blocks { written });
+        }
+        Ok(())
+    }
+
+    // Writes bytes of a node from a place on that isn't past its end, and tells how many: all of them, or the next one needs more
+    // blocks than are free.
+    fn write_front(&mut self, number: usize, at: usize, bytes: &[u8]) -> Result<usize, DeviceFault>
+        requires up { self.old.failed ≡ false }
+        requires node { IsSome (slot self.old.nodes number) }
+        requires within { at ≤ length (raw_at self.old.nodes number).bytes }
+        requires short { at + length bytes.now ≤ longest }
+        ensures { Tries D.reached self.old self.new result (WritesSome self.old self.new number at bytes.now) }
+    {
+        let result = write_front(&mut self.disk, self.geometry, number, at, bytes);
+        self.failed = result.is_err();
+        result
+    }
+
+    /// A node loses all its bytes, and gives back its blocks.
+    pub fn truncate(&mut self, number: usize) -> Result<(), DeviceFault>
+        requires up { self.old.failed ≡ false }
+        requires node { IsSome (slot self.old.nodes number) }
+        ensures { Tries D.reached self.old self.new result (λ _. Changes self.old self.new number (Some (with_bytes (raw_at self.old.nodes number) []))) }
+    {
+        let result = truncate(&mut self.disk, self.geometry, number);
+        self.failed = result.is_err();
+        result
+    }
+
+    /// Sets the number of names of a node.
+    pub fn set_links(&mut self, number: usize, links: u16) -> Result<(), DeviceFault>
+        requires up { self.old.failed ≡ false }
+        requires node { IsSome (slot self.old.nodes number) }
+        ensures { Tries D.reached self.old self.new result (λ _. Changes self.old self.new number (Some (with_links (raw_at self.old.nodes number) links))) }
+    {
+        let result = set_links(&mut self.disk, self.geometry, number, links);
+        self.failed = result.is_err();
+        result
+    }
+
+    /// Takes the lowest free number for a node without bytes of this type, major, minor and number of links. `None` comes exactly
+    /// where none is free, and nothing is changed then.
+    pub fn take(
+        &mut self,
+        kind: u16,
+        major: u16,
+        minor: u16,
+        links: u16,
+    ) -> Result<Option<usize>, DeviceFault>
+        requires up { self.old.failed ≡ false }
+        requires some { 1 ≤ kind }
+        requires kind { kind ≤ 3 }
+        ensures { Tries D.reached self.old self.new result (TakesLowest self.old self.new kind major minor links) }
+    {
+        let result = take_inode(&mut self.disk, self.geometry, kind, major, minor, links);
+        self.failed = result.is_err();
+        result
+    }
+
+    /// Takes a number that is known to be free, for a node without bytes of this type, major, minor and number of links.
+    pub fn take_at(
+        &mut self,
+        number: usize,
+        kind: u16,
+        major: u16,
+        minor: u16,
+        links: u16,
+    ) -> Result<(), DeviceFault>
+        requires up { self.old.failed ≡ false }
+        requires low { 1 ≤ number }
+        requires high { number < self.old.geometry.inodes }
+        requires free { slot self.old.nodes number ≡ None }
+        requires some { 1 ≤ kind }
+        requires kind { kind ≤ 3 }
+        ensures { Tries D.reached self.old self.new result (λ _. Changes self.old self.new number (Some (fresh_node kind major minor links))) }
+    {
+        let result = take_inode_at(
+            &mut self.disk,
+            self.geometry,
+            number,
+            kind,
+            major,
+            minor,
+            links,
+        );
+        self.failed = result.is_err();
+        result
+    }
+
+    /// A node goes with its blocks: its number is free then.
+    pub fn release(&mut self, number: usize) -> Result<(), DeviceFault>
+        requires up { self.old.failed ≡ false }
+        requires node { IsSome (slot self.old.nodes number) }
+        ensures { Tries D.reached self.old self.new result (λ _. Changes self.old self.new number None) }
+    {
+        self.truncate(number)?;
+        self.give(number)
+    }
+
+    // A number whose node has no bytes becomes free.
+    fn give(&mut self, number: usize) -> Result<(), DeviceFault>
+        requires up { self.old.failed ≡ false }
+        requires node { IsSome (slot self.old.nodes number) }
+        requires empty { length (raw_at self.old.nodes number).bytes ≡ 0 }
+        ensures { Tries D.reached self.old self.new result (λ _. Changes self.old self.new number None) }
+    {
+        let result = give_inode(&mut self.disk, self.geometry, number);
+        self.failed = result.is_err();
+        result
+    }
+}
+
+impl<D: Duplicate> Volume<D> {
+    /// The same files over a duplicate of the disk. It asks for host memory for all of it.
+    pub fn duplicate(&self, alloc: Global) -> Result<Volume<D>, AllocError>
+        ensures { IfOk result (λ volume. volume ≡ self.now) }
+    {
+        Ok(Volume {
+            disk: self.disk.duplicate(alloc)?,
+            geometry: self.geometry,
+            failed: self.failed,
+        })
+    }
+}

@@ -1,0 +1,52 @@
+-- A write of a volume, as a step on files answers for it.
+use Rattle.std.proofs.Common.{◌≡◌, ℕ, Err, List, Ok, Option, Result, ap, false, refl, sym, ◌∙◌}
+use Rattle.std.proofs.lemmas.Bool.{false≢true}
+use Rattle.blockdev.specs.declared.DeviceFault.{DeviceFault}
+use Rattle.inode.specs.Store.{LacksWriting, Serves, Store, Writes, is_device}
+use Rattle.inode.specs.declared.InodeFault.{InodeFault}
+use Rattle.inode.specs.declared.InodeFault.TheVariants.{Blocks, Device, PastEnd, TooLong}
+use Rattle.layout.specs.declared.Geometry.{Geometry}
+use Rattle.tree.proofs.Bridging.{never-full, rewritten-stores}
+use Rattle.tree.proofs.Serving.{kept-stores, limit_of, turned-files}
+use Rattle.tree.proofs.Storing.{held-again}
+use Rattle.tree.specs.Steps.{Rewrites, Tries}
+use Rattle.tree.specs.Stored.{IsFileSystem, files_of}
+use Rattle.tree.specs.Tree.{tree_with}
+use Rattle.unixmodel.specs.Files.{Entry, put}
+use Rattle.unixmodel.specs.Files.Node.{Directory}
+
+module _ {D : Type 0} {reached : D → D → Type 0} {v v' : Store D} {hs : List ℕ} where
+  -- an access failed
+  pub device-lost : {T U : Type 0} {Done : U → Type 0} {Why : InodeFault → Type 0} {Told : T → Type 0} {e : DeviceFault} → Serves {T = U} reached is_device v v' (Err Device) Done Why → Tries {T = T} (tree_with v hs) (tree_with v' hs) (Err e) Told
+  device-lost wrote = record {
+    serves = record { told = tt; up = tt; down = wrote.failed; cause = record { later = wrote.follows.later; failed = λ e. wrote.cause refl } };
+    size = ap (λ (g : Geometry). g.size) wrote.follows.geometry;
+    limit = ap limit_of wrote.follows.geometry;
+    holds = refl;
+  }
+
+  module _ {d at : ℕ} {bytes : List ℕ} (holds : IsFileSystem v) where
+    -- places stand in a directory
+    pub rewrite-done : {u : Unit {0}} → v.failed ≡ false → Serves reached is_device v v' (Ok u) (λ _. Writes v v' d at bytes) (LacksWriting v v' d at bytes)
+        → Tries (tree_with v hs) (tree_with v' hs) (Ok u) (λ _. (next : List (Option Entry)) → (r : Rewrites (tree_with v hs) d at bytes next) → tree_with v' hs ≡ record (tree_with v hs) { files = put (files_of v.nodes) d (Directory r.links next); failures = v'.failures })
+    rewrite-done up wrote =
+        let same = wrote.follows.geometry in
+        record {
+          serves = record {
+            told = λ next r. turned-files same hs (wrote.failed ∙ sym up) (rewritten-stores holds r same wrote.done);
+            up = wrote.failed;
+            down = tt;
+            cause = record { later = wrote.follows.later; failed = λ e. absurd (false≢true e) };
+          };
+          size = ap (λ (g : Geometry). g.size) same;
+          limit = ap limit_of same;
+          holds = refl;
+        }
+
+    -- the volume holds its files still
+    pub rewrite-held : {next : List (Option Entry)} → Rewrites (tree_with v hs) d at bytes next → (r : Result (Unit {0}) InodeFault) → Serves reached is_device v v' r (λ _. Writes v v' d at bytes) (LacksWriting v v' d at bytes) → v'.failed ≡ false → IsFileSystem v'
+    rewrite-held able (Ok u) wrote up = held-again (rewritten-stores holds able wrote.follows.geometry wrote.done)
+    rewrite-held able (Err (Blocks k)) wrote up = absurd (never-full holds able k (wrote.refused refl))
+    rewrite-held able (Err PastEnd) wrote up = kept-stores wrote.follows.geometry (wrote.refused refl).0 holds
+    rewrite-held able (Err TooLong) wrote up = kept-stores wrote.follows.geometry (wrote.refused refl).0 holds
+    rewrite-held able (Err Device) wrote up = absurd (false≢true (sym up ∙ wrote.failed))

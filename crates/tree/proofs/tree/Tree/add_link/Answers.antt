@@ -1,0 +1,30 @@
+use Rattle.std.proofs.Common.{ap, arith, ◌+◌, ◌∙◌, sym}
+use Rattle.unixmodel.specs.Files.{change_node, with_links}
+use Rattle.unixmodel.specs.NameCalls.{more_links}
+use Rattle.std.proofs.lemmas.Option.{none-some}
+use Rattle.tree.proofs.Following.{end-lost, now-begin, now-read, now-up, some-now}
+use Rattle.tree.proofs.Linking.{relinked}
+use Rattle.tree.proofs.Turning.{end-changed}
+use Rattle.tree.proofs.tree.Tree.add_link.Goals as goal
+
+pub node-requires : goal.node-requires
+node-requires g c = record { up = c.requires.up; node = (c.requires.node.0, c.requires.node.1) }
+
+pub returns-in_err-before : goal.returns-in_err-before
+returns-in_err-before g c = end-lost now-begin c.node.ensures c.in_err-before.was c.from_residual.ensures.1
+
+pub overflow_add-before : goal.overflow_add-before
+overflow_add-before g c =
+    let links = (c.in_ok-before.ensures.serves.told.1 c.requires.node.0 c.requires.node.1).1 in
+    let few = c.requires.node.2 in
+    omega arith
+
+pub set_links-requires : goal.set_links-requires
+set_links-requires g c = let now = now-read now-begin c.node.ensures c.in_ok-before.was in record { up = now-up now c.requires.up; node = some-now now c.args.number (λ none. none-some c.requires.node.0 (sym none ∙ c.requires.node.1)) }
+
+pub returns : goal.returns
+returns g c =
+    let at = c.requires.node in
+    let links = (c.in_ok-before.ensures.serves.told.1 at.0 at.1).1 in
+    end-changed (now-read now-begin c.node.ensures c.in_ok-before.was) (λ fs. change_node fs c.args.number (λ node. with_links node (c.in_ok-before.before.links + 1))) c.set_links.ensures
+    (relinked c.args.self.now.files c.args.number at.0 at.1 (c.in_ok-before.before.links + 1) more_links (ap (λ k. with_links at.0 (k + 1)) links))

@@ -1,0 +1,14 @@
+use Rattle.std.proofs.Common.{arith}
+use Rattle.unixmodel.specs.Files.Node.{Directory}
+use Rattle.tree.proofs.Following.{end-lost, end-read, now-begin, now-read}
+use Rattle.tree.proofs.Scanned.{folder-node}
+use Rattle.tree.proofs.tree.Tree.count_places.Goals as goal
+
+pub node-requires : goal.node-requires
+node-requires g c = record { up = c.requires.up; node = folder-node c.requires.directory }
+
+pub returns-in_err-node : goal.returns-in_err-node
+returns-in_err-node g c = end-lost now-begin c.node.ensures c.in_err-node.was c.from_residual.ensures.1
+
+pub returns : goal.returns
+returns g c = end-read c.requires.up (now-read now-begin c.node.ensures c.in_ok-node.was) (λ f. let told = c.in_ok-node.ensures.serves.told.1 (Directory f.links f.places) f.here in let size = told.2 in omega arith)

@@ -1,0 +1,44 @@
+use Rattle.std.proofs.Common.{ap, sym, ◌∙◌}
+use Rattle.names.proofs.Naming.{lookup-used}
+use Rattle.unixmodel.specs.Files.{follow, parts}
+use Rattle.tree.proofs.Following.{end-lost, end-read, looked, now-begin, now-read, now-up, used-now}
+use Rattle.tree.proofs.Parts.{find-start, follow-next, start-held}
+use Rattle.tree.proofs.tree.Tree.find.Goals as goal
+
+pub name-init : goal.name-init
+name-init g c = record {
+  now = now-begin;
+  used = start-held c.requires.rules c.args.directory c.args.path.now c.requires.directory c.start-number.result c.start-number.ensures;
+  rest = find-start c.args.self.now.files c.args.directory c.args.path.now c.start-number.result c.start-number.ensures;
+}
+
+pub lookup-requires : goal.lookup-requires
+lookup-requires g c = let i = c.name.invariant in record { up = now-up i.now c.requires.up; node = used-now i.now c.name.number i.used }
+
+pub returns-in_err-next : goal.returns-in_err-next
+returns-in_err-next g c = end-lost c.name.invariant.now c.lookup.ensures c.in_err-next.was c.from_residual.ensures.1
+
+pub name-preserved : goal.name-preserved
+name-preserved g c =
+    let i = c.name.invariant in
+    let found = looked i.now c.name.number c.in-Some.name.now c.lookup.ensures c.in_ok-next.was c.in-Some-2.is in
+    record {
+      now = now-read i.now c.lookup.ensures c.in_ok-next.was;
+      used = lookup-used c.requires.rules c.name.number c.in-Some.name.now c.in-Some-2.next found;
+      rest = sym (follow-next c.args.self.now.files c.name.number (parts c.name.rest.now) c.in-Some.name.now (parts c.in-Some.after.now) c.in-Some.ensures.some found) ∙ i.rest;
+    }
+
+pub returns-in_default-2 : goal.returns-in_default-2
+returns-in_default-2 g c =
+    let i = c.name.invariant in
+    let none = looked i.now c.name.number c.in-Some.name.now c.lookup.ensures c.in_ok-next.was c.in_default-2.is in
+    end-read c.requires.up (now-read i.now c.lookup.ensures c.in_ok-next.was)
+    (sym (follow-next c.args.self.now.files c.name.number (parts c.name.rest.now) c.in-Some.name.now (parts c.in-Some.after.now) c.in-Some.ensures.some none) ∙ i.rest)
+
+pub name-smaller : goal.name-smaller
+name-smaller g c = c.in-Some.ensures.shorter
+
+pub returns : goal.returns
+returns g c =
+    let i = c.name.invariant in
+    end-read c.requires.up i.now (sym (ap (follow c.args.self.now.files c.name.number) c.in_default.ensures.none) ∙ i.rest)

@@ -1,0 +1,19 @@
+use Rattle.tree.proofs.Following.{end-last, end-lost, folder-now, folder-was, now-begin, now-read, now-up}
+use Rattle.tree.proofs.Scanned.{folder-fits, name-told}
+use Rattle.tree.proofs.tree.Tree.find_name.Goals as goal
+
+pub count_places-requires : goal.count_places-requires
+count_places-requires g c = record { up = c.requires.up; directory = c.requires.directory }
+
+pub returns-in_err-count : goal.returns-in_err-count
+returns-in_err-count g c = end-lost now-begin c.count_places.ensures c.in_err-count.was c.from_residual.ensures.1
+
+pub scan-requires : goal.scan-requires
+scan-requires g c =
+    let now = now-read now-begin c.count_places.ensures c.in_ok-count.was in
+    record { up = now-up now c.requires.up; directory = folder-now now c.requires.directory; count = λ f. c.in_ok-count.ensures.serves.told.1 (folder-was now f) }
+
+pub returns : goal.returns
+returns g c =
+    let now = now-read now-begin c.count_places.ensures c.in_ok-count.was in
+    end-last now _ c.scan.ensures (λ found told f. name-told f.places (folder-fits c.is_whole.ensures f) _ found (told (folder-now now f)))

@@ -1,0 +1,38 @@
+use Rattle.std.proofs.Common.{[], sym, None, ◌+◌, ◌∙◌, ◌≢◌, ◌≤◌}
+use Rattle.tree.proofs.Dots.{dot-plain, dots-plain, first-fits, first-room, first-stays, own, second-fits, second-is, second-room}
+use Rattle.tree.proofs.Following.{end-lost, now-begin, now-up}
+use Rattle.tree.proofs.Turning.{at-now, end-changed, now-changed}
+use Rattle.std.proofs.lemmas.Option.{none-some}
+use Rattle.tree.specs.Entering.{HasRoom, entered, growth}
+use Rattle.unixmodel.specs.Counts.{blocks_of}
+use Rattle.unixmodel.specs.Files.{dot_dot, slot}
+use Rattle.unixmodel.specs.Files.Node.{Directory}
+use Rattle.tree.proofs.tree.Tree.put_dots.Goals as goal
+
+pub put_entry-requires : goal.put_entry-requires
+put_entry-requires g c = record {
+  up = c.requires.up;
+  plain = dot-plain;
+  number = λ none. none-some (Directory 1 []) (sym none ∙ c.requires.bare);
+  room = first-room c.args.self.now.files c.args.number c.requires.bare;
+  fits = first-fits c.args.self.now.files c.args.number c.requires.bare c.requires.block;
+}
+
+pub returns-in_err-put_entry : goal.returns-in_err-put_entry
+returns-in_err-put_entry g c = end-lost now-begin c.put_entry.ensures c.in_err-put_entry.was c.from_residual.ensures.1
+
+pub put_entry-requires-2 : goal.put_entry-requires-2
+put_entry-requires-2 g c =
+    let now = now-changed now-begin (λ fs. entered fs c.args.number 0 (own c.args.number)) c.put_entry.ensures c.in_ok-put_entry.was in
+    record {
+      up = now-up now c.requires.up;
+      plain = dots-plain;
+      number = at-now now (λ t. slot t.files c.args.above ≢ None) (first-stays c.args.self.now.files c.args.number c.requires.bare c.args.above c.requires.above);
+      room = at-now now (λ t. HasRoom t.files c.args.number 1) (second-room c.args.self.now.files c.args.number c.requires.bare);
+      fits = at-now now (λ t. (r : HasRoom t.files c.args.number 1) → blocks_of t.files + growth r.places 1 ≤ t.block_limit) (second-fits c.args.self.now.files c.args.number c.requires.bare c.requires.block);
+    }
+
+pub returns : goal.returns
+returns g c =
+    let now = now-changed now-begin (λ fs. entered fs c.args.number 0 (own c.args.number)) c.put_entry.ensures c.in_ok-put_entry.was in
+    end-changed now (λ fs. entered fs c.args.number 1 (record { name = dot_dot; number = c.args.above })) c.put_entry-2.ensures (second-is c.args.self.now.files c.args.number c.requires.bare c.args.above)

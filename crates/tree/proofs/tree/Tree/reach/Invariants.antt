@@ -1,0 +1,16 @@
+use Rattle.std.proofs.Common.{◌≡◌, ◌∷◌, length}
+use Rattle.std.specs.Prelude.{IsSome}
+use Rattle.tree.proofs.Following.{IsNow}
+use Rattle.tree.specs.Paths.{above, reach}
+use Rattle.unixmodel.specs.Files.{parts, slot}
+use Rattle.tree.proofs.tree.Tree.reach.Given as goal
+
+abbrev pub invariant-name : goal.invariant-name
+invariant-name g l = record {
+  now : IsNow l.fn.self l.self l.fn.self.files;
+  used : IsSome (slot l.fn.self.files l.number);
+  rest : reach l.fn.self.files l.number (l.name ∷ parts l.rest) ≡ above l.fn.self.files l.directory l.path;
+}
+
+abbrev pub decreases-name : goal.decreases-name
+decreases-name g l = length l.rest

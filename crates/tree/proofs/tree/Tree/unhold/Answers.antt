@@ -1,0 +1,30 @@
+use Rattle.std.proofs.Common.{◌≤◌, ap, arith, subst, sym, ◌∙◌, set, ◌-◌}
+use Rattle.std.proofs.lemmas.Grind.{get_or_default_zero}
+use Rattle.std.proofs.lemmas.List.{length-set}
+use Rattle.tree.specs.Holding.{holders}
+use Rattle.tree.specs.Tree.{FileTree, tree_with}
+use Rattle.tree.proofs.Bridging.{number-held}
+use Rattle.tree.proofs.tree.Tree.unhold.Goals as goal
+
+pub index_mut-requires : goal.index_mut-requires
+index_mut-requires g c =
+    let whole = c.self.inside.holds.ok in
+    let within = number-held c.self.view_is c.self.invariant.count c.self.invariant.held c.requires.up c.args.number c.requires.node in
+    omega arith
+
+pub overflow_sub-index_mut : goal.overflow_sub-index_mut
+overflow_sub-index_mut g c =
+    let some : 1 ≤ holders c.self.inside.holds.items c.args.number = subst (λ (t : FileTree). 1 ≤ holders t.holds c.args.number) (sym c.self.view_is) c.requires.some in
+    let within = number-held c.self.view_is c.self.invariant.count c.self.invariant.held c.requires.up c.args.number c.requires.node in
+    let value = c.index_mut.ensures.value ∙ get_or_default_zero c.self.inside.holds.items c.args.number c.index_mut.result.now within in
+    omega arith
+
+pub invariant_of-self : goal.invariant_of-self
+invariant_of-self g c = record { count = length-set c.self.inside.holds.items c.args.number (c.index_mut.result.now - 1) ∙ c.self.invariant.count; held = c.self.invariant.held }
+
+pub returns : goal.returns
+returns g c =
+    let items = c.self.inside.holds.items in
+    let within = number-held c.self.view_is c.self.invariant.count c.self.invariant.held c.requires.up c.args.number c.requires.node in
+    let value = c.index_mut.ensures.value ∙ get_or_default_zero items c.args.number c.index_mut.result.now within in
+    rw (← c.self.view_is) (ap (λ k. tree_with c.self.inside.volume (set items c.args.number (k - 1))) value)
