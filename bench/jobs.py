@@ -7,6 +7,7 @@ import dataclasses
 import pathlib
 import re
 import struct
+import subprocess
 import tempfile
 import typing
 
@@ -23,14 +24,24 @@ TO_THE_END = "step 1000000000\n"
 
 @dataclasses.dataclass(frozen=True)
 class Place:
-    """Where jobs are made: a folder, the program `xv6`, and the plain interpreter."""
+    """Where jobs are made: a folder, the program `xv6`, the plain interpreter and its twin."""
 
     folder: pathlib.Path
     xv6: pathlib.Path
-    plain: pathlib.Path
+    plain: "pathlib.Path | None" = None
+    twin: "pathlib.Path | None" = None
 
     def new_folder(self):
         return pathlib.Path(tempfile.mkdtemp(dir=self.folder))
+
+
+def compile_plain(place):
+    """The place with the plain interpreter and its twin, which are compiled in its folder."""
+    made = {"plain": HERE / "baseline" / "main.rs", "twin": HERE / "twin.rs"}
+    for name, source in made.items():
+        rustc = ["rustc", "-O", "-C", "codegen-units=1", "--edition", "2021", "-o", place.folder / name, source]
+        subprocess.run(rustc, check=True)
+    return dataclasses.replace(place, **{name: place.folder / name for name in made})
 
 
 class Program:
@@ -59,29 +70,44 @@ class Program:
         return self.elf(place)[4096:]
 
 
+class Compiled:
+    """A C program of `bench/c`: the bytes that are stored beside its text."""
+
+    def __init__(self, name):
+        self.bytes = HERE / "c" / f"{name}.bin"
+
+    def flat(self, place):
+        """The bytes."""
+        return self.bytes.read_bytes()
+
+
+# What runs a flat program.
+XV6, PLAIN, TWIN = "xv6", "plain", "twin"
+
+
 @dataclasses.dataclass(frozen=True)
 class Flat:
-    """A program of bytes and a script on `xv6 flat`, or on the plain interpreter."""
+    """A program of bytes and a script on `xv6 flat`, or on a plain interpreter. Where `steps` are given, it takes so many."""
 
-    program: Program
+    program: typing.Any
     script: str = TO_THE_END
     frames: int = 256
     stdout: bytes = b""
     end: str = ENDED
     flags: tuple = ()
-    plain: bool = False
+    on: str = XV6
+    steps: "int | None" = None
 
     def command(self, place):
         folder = place.new_folder()
         (folder / "program").write_bytes(self.program.flat(place))
         (folder / "script").write_text(self.script)
-        if self.plain:
-            words = [place.plain, *self.flags, str(self.frames), "program", "script"]
-            end = {ENDED: r"exit 0 after \d+ steps", RUNNING: r"running after \d+ steps"}[self.end]
-        else:
+        if self.on == XV6:
             words = [place.xv6, "flat", *self.flags, "--frames", str(self.frames), "program", "script"]
-            end = self.end
-        return Command(words, folder, self.stdout, end)
+            return Command(words, folder, self.stdout, self.end)
+        words = [{PLAIN: place.plain, TWIN: place.twin}[self.on], *self.flags, str(self.frames), "program", "script"]
+        end = {ENDED: "exit 0", RUNNING: "running"}[self.end]
+        return Command(words, folder, self.stdout, rf"{end} after {self.steps or '[0-9]+'} steps")
 
 
 def image_of(files, size=2000, inodes=200):

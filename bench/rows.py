@@ -6,7 +6,7 @@ import typing
 
 import images
 import texts
-from jobs import HERE, RUNNING, Assembled, Booted, Check, Flat, Mkfs, Program, image_of
+from jobs import HERE, PLAIN, RUNNING, TWIN, Assembled, Booted, Check, Compiled, Flat, Mkfs, Program, image_of
 
 USER = HERE.parent / "user"
 
@@ -35,13 +35,18 @@ class Row:
 
 def beside_plain(name, job, *more, count, unit):
     """A row of a flat program beside the plain interpreter, and more."""
-    plain = dataclasses.replace(job, plain=True)
+    plain = dataclasses.replace(job, on=PLAIN)
     return Row(name, job, count, unit, (Beside("plain Rust", plain), *more))
 
 
 def copying(job, what="plain Rust whose fork copies"):
     """The plain interpreter whose forks copy."""
-    return Beside(what, dataclasses.replace(job, plain=True, flags=("--copying",)))
+    return Beside(what, dataclasses.replace(job, on=PLAIN, flags=("--copying",)))
+
+
+def twin(job):
+    """The twin of the plain interpreter, which takes no flags."""
+    return Beside("the twin", dataclasses.replace(job, on=TWIN, flags=()))
 
 
 # ---- the hart
@@ -58,10 +63,22 @@ def hart_rows():
     ]:
         without = Flat(program)
         cached = Flat(program, flags=("--tlb",))
-        yield beside_plain(name, without, count=steps, unit="step")
-        yield beside_plain(f"{name} with --tlb", cached, Beside("without --tlb", without, 1.1), count=steps, unit="step")
+        yield beside_plain(name, without, twin(without), count=steps, unit="step")
+        others = [twin(cached), Beside("without --tlb", without, 1.1)]
+        yield beside_plain(f"{name} with --tlb", cached, *others, count=steps, unit="step")
         booted = Booted(image_of({"init": program}))
         yield Row(f"{name} from an image", booted, steps, "step", (Beside("the same by `flat`", without),))
+
+
+# How many steps the C programs take, with the turn in which the process gets the hart.
+C_STEPS = {"mandelbrot": 58_677_472, "queens": 39_917_135, "floats": 50_683_908}
+
+
+def c_rows():
+    for name, steps in C_STEPS.items():
+        job = Flat(Compiled(name), f"step {steps}\n", steps=steps)
+        kept = Beside("plain Rust with --tlb", dataclasses.replace(job, on=PLAIN, flags=("--tlb",)))
+        yield beside_plain(f"{name} in C", job, kept, twin(job), count=steps, unit="step")
 
 
 # ---- multiplication
@@ -303,6 +320,6 @@ def counted_jobs():
 
 def all_rows():
     """Every row, in the order in which they are run."""
-    machines = [hart_rows, multiply_rows, page_rows, process_rows, turn_rows, byte_rows]
+    machines = [hart_rows, c_rows, multiply_rows, page_rows, process_rows, turn_rows, byte_rows]
     for group in [*machines, rewriting_rows, large_rows, name_rows, making_rows, checking_rows, text_rows]:
         yield from group()

@@ -23,22 +23,25 @@ The rows `accesses` tell how often the disk is read and written, which no comman
 the crates, once with the cache and once with one that passes each access through. The counts are exact. The times are by the
 clock, of a program that is compiled with checks and without optimization: compare them with one another, on a quiet machine.
 
+The twin is another plain interpreter, the fastest that we know: it decodes a word once, and has nothing but the call exit.
+`instructions.py` counts the instructions of the processor for a unit of a row, where valgrind is there.
+
 `rustc` and `rt` have to be in the PATH. `rows.py` has the table, `jobs.py` says how the files of a row are made, `measure.py`
-measures, `accesses.py` counts, `programs` has the assembly texts and `baseline` the plain interpreter.
+measures, `accesses.py` counts, `programs` has the assembly texts, `c` the C programs with their bytes, which `make -C bench/c`
+compiles anew and compares, `baseline` the plain interpreter and `twin.rs` its twin.
 """
 
 import argparse
 import dataclasses
 import os
 import pathlib
-import subprocess
 import sys
 import tempfile
 
 sys.dont_write_bytecode = True
 
 import accesses
-from jobs import HERE, Place
+from jobs import Place, compile_plain
 from measure import Failed, compare
 from rows import all_rows, counted_jobs
 
@@ -95,10 +98,7 @@ def is_done(name, measure, place):
 def measure_all(rows, counted, program, turns):
     """Measures the rows, and counts the accesses of the disk of other jobs; whether all of them did what they have to do."""
     with tempfile.TemporaryDirectory() as folder:
-        place = Place(pathlib.Path(folder), program, pathlib.Path(folder) / "baseline")
-        source = HERE / "baseline" / "main.rs"
-        rustc = ["rustc", "-O", "-C", "codegen-units=1", "--edition", "2021", "-o", place.plain, source]
-        subprocess.run(rustc, check=True)
+        place = compile_plain(Place(pathlib.Path(folder), program))
         done = [is_done(row.name, lambda place: measure_row(row, place, turns), place) for row in rows]
         if counted:
             done.append(is_done("accesses", lambda place: measure_accesses(counted, place), place))
