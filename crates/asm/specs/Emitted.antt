@@ -1,9 +1,12 @@
 -- What a line puts out, and what is told of a text.
-use Rattle.std.specs.Prelude.{◌≡◌, ◌⊎◌, ◌++◌, Err, List, Ok, Result, [], ℕ}
+use Rattle.std.specs.Prelude.{◌≡◌, ◌⊎◌, ◌++◌, ◌∷◌, ◌*◌, ◌-◌, ◌^◌, Err, List, Ok, Result, [], if◌then◌else◌, ℕ, ℤ}
 use Rattle.unixmodel.specs.Memory.{zeros}
-use Rattle.unixmodel.specs.Numbers.{le}
+use Rattle.unixmodel.specs.Assembly as the
+use Rattle.unixmodel.specs.Numbers.{field, le, lies_in}
 use Rattle.unixmodel.specs.declared.assembly.AsmKind.{AsmKind}
 use Rattle.unixmodel.specs.declared.assembly.AsmKind.TheVariants as kind
+use Rattle.asmtext.specs.Operations.{above_of, below_of, bits_of, partial_instr}
+use Rattle.asmtext.specs.declared.operations.Partial.{Partial}
 use Rattle.asm.specs.declared.fault.AsmFault.{AsmFault}
 use Rattle.asm.specs.declared.emit.Output.{Output}
 use Rattle.asm.specs.declared.emit.Output.TheVariants as output
@@ -29,3 +32,12 @@ Tells told fault = (told ≡ Err (fault.line, fault.kind)) ⊎ ((fault.line ≡ 
 abbrev pub behind : List ℕ → Result (List ℕ) (ℕ × AsmKind) → Result (List ℕ) (ℕ × AsmKind)
 behind bytes (Ok more) = Ok (bytes ++ more)
 behind bytes (Err fault) = Err fault
+
+-- the bytes of an instruction with a number, where it is in its range
+abbrev pub numbered_bytes : ℕ → Partial → ℤ → Result (List ℕ) AsmKind
+numbered_bytes address partial n =
+    if lies_in (below_of partial) (above_of partial) n then the.code address (partial_instr partial (field (bits_of partial) n) ∷ []) else Err kind.Range
+
+-- a number as so many bytes, signed or unsigned
+abbrev pub data_bytes : ℕ → ℤ → Result (List ℕ) AsmKind
+data_bytes size n = if lies_in (2 ^ (8 * size - 1)) (2 ^ (8 * size) - 1) n then Ok (le size (field (8 * size) n)) else Err kind.Range

@@ -1,13 +1,11 @@
 //! The second pass: the bytes of each line where it stands, or what is wrong with it.
-ghost use Rattle.std.specs.Prelude.{◌≡◌, ◌^◌, ◌*◌, ◌-◌, ◌++◌, ◌∷◌, [], Some, if◌then◌else◌, IfErr, IfOk, OnOk, map};
+ghost use Rattle.std.specs.Prelude.{◌≡◌, ◌*◌, ◌-◌, ◌++◌, ◌∷◌, [], Some, if◌then◌else◌, IfErr, IfOk, OnOk, map};
 ghost use Rattle.unixmodel.specs.Assembly as the;
-ghost use Rattle.unixmodel.specs.Numbers.{field, le, lies_in};
 ghost use Rattle.asmtext.specs.Forms.{size_of};
 ghost use Rattle.asmtext.specs.Numbers.{number_of};
-ghost use Rattle.asmtext.specs.Operations.{above_of, below_of, bits_of, partial_instr};
 ghost use Rattle.asmtext.specs.Statements.{leap_bits, leap_instr, statement_of};
 ghost use Rattle.asm.specs.Distance.{distance_seen};
-ghost use Rattle.asm.specs.Emitted.{Tells, bytes_of, coded_seen};
+ghost use Rattle.asm.specs.Emitted.{Tells, bytes_of, coded_seen, data_bytes, numbered_bytes};
 ghost use Rattle.asm.specs.Labels.{Finds};
 ghost use Rattle.asm.specs.Placed.{placed_seen};
 
@@ -59,7 +57,7 @@ fn numbered_code<'a>(
     partial: Partial,
     number: &Number,
 ) -> Result<Output<'a>, AsmKind>
-    ensures { coded_seen result ≡ (if lies_in (below_of partial) (above_of partial) (number_of number.now) then the.code address (partial_instr partial (field (bits_of partial) (number_of number.now)) ∷ []) else Err AsmKind.Range) }
+    ensures { coded_seen result ≡ numbered_bytes address partial (number_of number.now) }
 {
     match partial.instr(number) {
         Some(instr) => code(address, instr),
@@ -117,7 +115,7 @@ fn load_code<'a>(address: u128, rd: Reg, number: &Distance) -> Result<Output<'a>
 // A number as bytes, signed or unsigned.
 #[tactic(auto, using(asmtext::proofs::NumberLemmas::field_fits))]
 fn data_code<'a>(width: Width, number: &Number) -> Result<Output<'a>, AsmKind>
-    ensures { coded_seen result ≡ (if lies_in (2 ^ (8 * size_of width - 1)) (2 ^ (8 * size_of width) - 1) (number_of number.now) then Ok (le (size_of width) (field (8 * size_of width) (number_of number.now))) else Err AsmKind.Range) }
+    ensures { coded_seen result ≡ data_bytes (size_of width) (number_of number.now) }
 {
     match width {
         Width::Byte => match number.field_in(0x80, 0xff, 8) {

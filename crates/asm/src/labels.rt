@@ -1,10 +1,8 @@
 //! The labels of a text, for their lines to be looked up.
-ghost use Rattle.std.specs.Prelude.{◌≡◌, IfOk, List, None, OnOk, Some, bytes_eq, if◌then◌else◌, map, option_map, ℕ};
-ghost use Rattle.std.specs.HashMap.{get_by};
-ghost use Rattle.std.specs.Option.{option_or};
+ghost use Rattle.std.specs.Prelude.{◌≡◌, IfOk, OnOk, Some, map, option_map};
 ghost use Rattle.unixmodel.specs.Assembly as the;
 ghost use Rattle.asmtext.specs.Statements.{label_seen};
-ghost use Rattle.asm.specs.Labels.{Finds};
+ghost use Rattle.asm.specs.Labels.{Finds, Notes};
 ghost use Rattle.asm.specs.Placed.{placed_seen};
 
 use crate::layout::Placed;
@@ -20,7 +18,7 @@ fn note<'a>(
     label: Option<&'a [u8]>,
     index: usize,
 ) -> Result<(), AllocError>
-    ensures { OnOk result ((name : List ℕ) → get_by (λ k. bytes_eq name k.now) labels.new ≡ option_or (get_by (λ k. bytes_eq name k.now) labels.old) (if the.is_labelled name (label_seen label.entry) then Some index else None)) }
+    ensures { OnOk result (Notes labels.old labels.new (label_seen label.entry) index) }
 {
     let Some(label) = label else {
         return Ok(());

@@ -1,7 +1,8 @@
 -- Numbers as the definitions see them.
-use Rattle.std.specs.Prelude.{Bool, None, Option, Some, if◌then◌else◌, nat_le, neg_ℤ, negsuc, pos, ℕ, ℤ}
+use Rattle.std.specs.Prelude.{Bool, List, None, Option, Some, if◌then◌else◌, nat_le, neg_ℤ, negsuc, pos, ℕ, ℤ}
 use Rattle.std.specs.Str.Parse.{digits_value}
 use Rattle.unixmodel.specs.Numbers.{field, lies_in}
+use Rattle.unixmodel.specs.Operands as the
 use Rattle.asmtext.specs.declared.number.Number.{Number}
 use Rattle.asmtext.specs.declared.number.Radix.{Radix}
 use Rattle.asmtext.specs.declared.number.Radix.TheVariants as radix
@@ -24,3 +25,7 @@ field_within below above bits n = if lies_in below above n then Some (field bits
 abbrev pub natural_within : (most : ℕ) (n : ℤ) → Option ℕ
 natural_within most (pos n) = if nat_le n most then Some n else None
 natural_within most (negsuc n) = None
+
+-- the number that digits spell
+abbrev pub numeral_of : Radix → List ℕ → Option ℕ
+numeral_of radix digits = the.numeral (base_of radix) digits

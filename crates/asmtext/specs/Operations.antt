@@ -1,7 +1,8 @@
 -- The instruction of each operation, and the numbers that it takes.
-use Rattle.std.specs.Prelude.{ℕ}
+use Rattle.std.specs.Prelude.{Option, ℕ, ℤ}
 use Rattle.unixmodel.specs.declared.instr.Instr.{Instr}
 use Rattle.unixmodel.specs.declared.instr.Instr.TheVariants as instr
+use Rattle.asmtext.specs.Numbers.{field_within}
 use Rattle.asmtext.specs.declared.operations.BareOp.{BareOp}
 use Rattle.asmtext.specs.declared.operations.BareOp.TheVariants as bare
 use Rattle.asmtext.specs.declared.operations.BaseOp.{BaseOp}
@@ -80,3 +81,10 @@ abbrev pub bits_of : Partial → ℕ
 bits_of (partial.Numbered op rd rs1) = number_bits op
 bits_of (partial.Based op register rs1) = 12
 bits_of (partial.Upper op rd) = 20
+
+-- a number as a field of the operation's instruction, where it fits
+abbrev pub number_within : NumberOp → ℤ → Option ℕ
+number_within op n = field_within (number_below op) (number_above op) (number_bits op) n
+
+abbrev pub partial_within : Partial → ℤ → Option ℕ
+partial_within p n = field_within (below_of p) (above_of p) (bits_of p) n

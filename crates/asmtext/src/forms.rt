@@ -2,8 +2,8 @@
 ghost use Rattle.std.specs.Prelude.{◌≡◌, IfOk, option_map};
 ghost use Rattle.unixmodel.specs.Statements as the;
 ghost use Rattle.unixmodel.specs.declared.instr.Instr.TheVariants as instr;
-ghost use Rattle.asmtext.specs.Forms.{form_of, size_of};
-ghost use Rattle.asmtext.specs.Operations.{bare_instr, based_instr, number_above, number_below, number_bits, numbered_instr, register_instr, upper_instr};
+ghost use Rattle.asmtext.specs.Forms.{form_of};
+ghost use Rattle.asmtext.specs.Operations.{bare_instr, based_instr, register_instr, upper_instr};
 ghost use Rattle.asmtext.specs.Statements.{statement_of};
 ghost use Rattle.asmtext.specs.Symbols.{parts_seen};
 
@@ -54,7 +54,7 @@ fn numbered(
     op: NumberOp,
     parts: &[&[Symbol]],
 ) -> Result<Option<Statement>, AllocError>
-    ensures { IfOk result (λ found. option_map statement_of found ≡ the.numbered (number_below op) (number_above op) (number_bits op) (numbered_instr op) (parts_seen parts.now)) }
+    ensures { IfOk result (λ found. option_map statement_of found ≡ form_of (Word.Number op) (parts_seen parts.now)) }
 {
     let [rd, rs1, n] = parts else {
         return Ok(None);
@@ -210,7 +210,7 @@ fn data_number(
     width: Width,
     parts: &[&[Symbol]],
 ) -> Result<Option<Statement>, AllocError>
-    ensures { IfOk result (λ found. option_map statement_of found ≡ the.counted (the.Statement.Data (size_of width)) (parts_seen parts.now)) }
+    ensures { IfOk result (λ found. option_map statement_of found ≡ form_of (Word.Data width) (parts_seen parts.now)) }
 {
     let [n] = parts else {
         return Ok(None);

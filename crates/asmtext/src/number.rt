@@ -5,7 +5,7 @@ ghost use Rattle.std.specs.List.{list_all};
 ghost use Rattle.std.specs.Str.Parse.{digits_value};
 ghost use Rattle.unixmodel.specs.Numbers.{field};
 ghost use Rattle.unixmodel.specs.Operands as the;
-ghost use Rattle.asmtext.specs.Numbers.{base_of, field_within, natural_within, number_of, signed_of};
+ghost use Rattle.asmtext.specs.Numbers.{base_of, field_within, natural_within, number_of, numeral_of, signed_of};
 
 use std::alloc::{AllocError, Global};
 
@@ -63,7 +63,7 @@ fn signed(
     radix: Radix,
     digits: &[u8],
 ) -> Result<Option<Number>, AllocError>
-    ensures { IfOk result (λ found. option_map number_of found ≡ option_map (signed_of negative) (the.numeral (base_of radix) digits.now)) }
+    ensures { IfOk result (λ found. option_map number_of found ≡ option_map (signed_of negative) (numeral_of radix digits.now)) }
 {
     if !is_numeral(radix.base(), digits) {
         return Ok(None);

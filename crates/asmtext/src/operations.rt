@@ -1,6 +1,6 @@
 //! Operations, by the form in which their instructions are written.
 ghost use Rattle.std.specs.Prelude.{◌≡◌, option_map};
-ghost use Rattle.asmtext.specs.Operations.{above_of, bare_instr, based_instr, below_of, bits_of, number_above, number_below, number_bits, numbered_instr, partial_instr, register_instr, upper_instr};
+ghost use Rattle.asmtext.specs.Operations.{bare_instr, based_instr, number_within, numbered_instr, partial_instr, partial_within, register_instr, upper_instr};
 ghost use Rattle.asmtext.specs.Numbers.{field_within, number_of};
 
 use crate::number::Number;
@@ -130,7 +130,7 @@ fn amount_w(number: &Number) -> Option<AmountW>
 
 impl NumberOp {
     fn instr(self, rd: Reg, rs1: Reg, number: &Number) -> Option<Instr>
-        ensures { result ≡ option_map (numbered_instr self rd rs1) (field_within (number_below self) (number_above self) (number_bits self) (number_of number.now)) }
+        ensures { result ≡ option_map (numbered_instr self rd rs1) (number_within self (number_of number.now)) }
     {
         match self {
             NumberOp::Imm(op) => {
@@ -204,7 +204,7 @@ impl UpperOp {
 impl Partial {
     /// The instruction with this number, where it fits.
     pub fn instr(self, number: &Number) -> Option<Instr>
-        ensures { result ≡ option_map (partial_instr self) (field_within (below_of self) (above_of self) (bits_of self) (number_of number.now)) }
+        ensures { result ≡ option_map (partial_instr self) (partial_within self (number_of number.now)) }
     {
         match self {
             Partial::Numbered(op, rd, rs1) => op.instr(rd, rs1, number),

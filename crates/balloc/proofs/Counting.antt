@@ -45,10 +45,6 @@ pub free_blocks-give : (g : Geometry) (old new : List (List ℕ)) (b : ℕ) → 
 free_blocks-give g old new b low high one sets =
     sym (add-zero (free_blocks g new)) ∙ ap (λ x. free_blocks g new + cond {A = ℕ} (x == 0) 1 0) (sym one) ∙ free_blocks-set g old new b 0 sets low high
 
-at_most_one : (b : Bool) → cond {A = ℕ} b 1 0 ≤ 1
-at_most_one true = omega arith
-at_most_one false = omega arith
-
 -- ---- how many of a list are 0
 
 abbrev pub zeros_in : List ℕ → ℕ

@@ -19,7 +19,7 @@ pub fn take_block<D: BlockDev>(
     geometry: Geometry,
 ) -> Result<Option<usize>, DeviceFault>
     requires { HasParts geometry disk.old.blocks }
-    ensures { Steps D.reached disk.old disk.new result (Takes geometry disk.old.blocks disk.new.blocks) }
+    ensures { Steps D.identity disk.old disk.new result (Takes geometry disk.old.blocks disk.new.blocks) }
 {
     let Some(b) = find_free(disk, geometry, geometry.data_start())? else {
         return Ok(None);
@@ -38,7 +38,7 @@ pub fn give_block<D: BlockDev>(
     requires low { data_start_of geometry.size geometry.inodes ≤ b }
     requires high { b < geometry.size }
     requires taken { bit_of disk.old.blocks (bitmap_start_of geometry.inodes) b ≡ 1 }
-    ensures { Steps D.reached disk.old disk.new result (λ _. Gives geometry disk.old.blocks disk.new.blocks b) }
+    ensures { Steps D.identity disk.old disk.new result (λ _. Gives geometry disk.old.blocks disk.new.blocks b) }
 {
     let at = geometry.bitmap_start() + b / 8192;
     let place = b % 8192 / 8;
@@ -56,7 +56,7 @@ pub fn mark<D: BlockDev>(
 ) -> Result<(), DeviceFault>
     requires parts { HasParts geometry disk.old.blocks }
     requires high { b < geometry.size }
-    ensures { Steps D.reached disk.old disk.new result (λ _. SetsBit geometry disk.old.blocks disk.new.blocks b 1) }
+    ensures { Steps D.identity disk.old disk.new result (λ _. SetsBit geometry disk.old.blocks disk.new.blocks b 1) }
 {
     let at = geometry.bitmap_start() + b / 8192;
     let place = b % 8192 / 8;
@@ -73,7 +73,7 @@ pub fn has_blocks<D: BlockDev>(
     wanted: usize,
 ) -> Result<bool, DeviceFault>
     requires { HasParts geometry disk.old.blocks }
-    ensures { Reads D.reached disk.old disk.new result (λ enough. enough ≡ nat_le wanted (free_blocks geometry disk.old.blocks)) }
+    ensures { Reads D.identity disk.old disk.new result (λ enough. enough ≡ nat_le wanted (free_blocks geometry disk.old.blocks)) }
 {
     let mut from = geometry.data_start();
     let mut found = 0;
@@ -95,7 +95,7 @@ fn find_free<D: BlockDev>(
 ) -> Result<Option<usize>, DeviceFault>
     requires parts { HasParts geometry disk.old.blocks }
     requires from { data_start_of geometry.size geometry.inodes ≤ from }
-    ensures { Reads D.reached disk.old disk.new result (Finds geometry disk.old.blocks from) }
+    ensures { Reads D.identity disk.old disk.new result (Finds geometry disk.old.blocks from) }
 {
     let start = geometry.bitmap_start();
     let mut b = from;

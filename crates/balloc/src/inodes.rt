@@ -21,7 +21,7 @@ pub fn read_inode<D: BlockDev>(
 ) -> Result<DiskInode, DeviceFault>
     requires parts { HasParts geometry disk.old.blocks }
     requires high { number < geometry.inodes }
-    ensures { Reads D.reached disk.old disk.new result (IsRecord disk.old.blocks number) }
+    ensures { Reads D.identity disk.old disk.new result (IsRecord disk.old.blocks number) }
 {
     let mut record = [0; 64];
     disk.read_part(2 + number / 16, 64 * (number % 16), &mut record)?;
@@ -38,7 +38,7 @@ pub fn write_inode<D: BlockDev>(
     requires parts { HasParts geometry disk.old.blocks }
     requires high { number < geometry.inodes }
     requires fits { Fits inode.now }
-    ensures { Steps D.reached disk.old disk.new result (λ _. WritesInode geometry disk.old.blocks disk.new.blocks number inode.now) }
+    ensures { Steps D.identity disk.old disk.new result (λ _. WritesInode geometry disk.old.blocks disk.new.blocks number inode.now) }
 {
     disk.write(2 + number / 16, 64 * (number % 16), &inode.to_bytes())
 }
@@ -56,7 +56,7 @@ pub fn take_inode<D: BlockDev>(
     requires sound { IsSound geometry disk.old.blocks }
     requires some { 1 ≤ kind }
     requires kind { kind ≤ 3 }
-    ensures { Steps D.reached disk.old disk.new result (TakesInode geometry disk.old.blocks disk.new.blocks kind major minor links) }
+    ensures { Steps D.identity disk.old disk.new result (TakesInode geometry disk.old.blocks disk.new.blocks kind major minor links) }
 {
     let Some(number) = find_unused(disk, geometry)? else {
         return Ok(None);
@@ -79,7 +79,7 @@ pub fn take_inode_at<D: BlockDev>(
     requires unused { IsUnused geometry disk.old.blocks number }
     requires some { 1 ≤ kind }
     requires kind { kind ≤ 3 }
-    ensures { Steps D.reached disk.old disk.new result (λ _. TakesNode geometry disk.old.blocks disk.new.blocks number kind major minor links) }
+    ensures { Steps D.identity disk.old disk.new result (λ _. TakesNode geometry disk.old.blocks disk.new.blocks number kind major minor links) }
 {
     let inode = DiskInode {
         kind,
@@ -101,7 +101,7 @@ pub fn give_inode<D: BlockDev>(
     requires sound { IsSound geometry disk.old.blocks }
     requires inode { IsInode disk.old.blocks geometry.inodes number }
     requires empty { (inode_at disk.old.blocks number).size ≡ 0 }
-    ensures { Steps D.reached disk.old disk.new result (λ _. SetsNode geometry disk.old.blocks disk.new.blocks number None) }
+    ensures { Steps D.identity disk.old disk.new result (λ _. SetsNode geometry disk.old.blocks disk.new.blocks number None) }
 {
     let inode = DiskInode {
         kind: 0,
@@ -120,7 +120,7 @@ fn find_unused<D: BlockDev>(
     geometry: Geometry,
 ) -> Result<Option<usize>, DeviceFault>
     requires { HasParts geometry disk.old.blocks }
-    ensures { Reads D.reached disk.old disk.new result (FindsInode geometry disk.old.blocks) }
+    ensures { Reads D.identity disk.old disk.new result (FindsInode geometry disk.old.blocks) }
 {
     let mut n = 1;
     'scan: while n < geometry.inodes {

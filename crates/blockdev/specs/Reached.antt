@@ -1,5 +1,13 @@
 -- How a device comes of another by accesses.
+use Rattle.std.specs.Prelude.{List, ℕ, ◌≡◌, ◌≤◌}
+use Rattle.unixmodel.specs.Failures.{Rises}
 
--- what leads to the old device leads on to the new one: so it is said of any number of accesses
-pub record LeadsOn {D : Type 0} (reached : D → D → Type 0) (old new : D) : Type 0 where
-  pub on : (first : D) → reached first old → reached first new
+-- accesses can lead from the old device to the new one: it is the same device, and no failure is forgotten
+pub record Reaches {D : Type 0} (identity : D → List ℕ) (failures : D → ℕ) (old new : D) : Type 0 where
+  pub same_device : identity new ≡ identity old
+  pub later : failures old ≤ failures new
+
+-- so they can, and one of them failed
+pub record Fails {D : Type 0} (identity : D → List ℕ) (failures : D → ℕ) (old new : D) : Type 0 where
+  pub reaches : Reaches identity failures old new
+  pub rises : Rises (failures old) (failures new)

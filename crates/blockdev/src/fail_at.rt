@@ -55,19 +55,15 @@ impl<D: BlockDev> FailAt<D> {
 
 impl<D: BlockDev> BlockDev for FailAt<D> {
     ghost use Rattle.blockdev.specs.Blocks.{block_at};
-    ghost use Rattle.blockdev.specs.Disk.{Failing, count_of};
+    ghost use Rattle.blockdev.specs.Disk.{Failing, counted};
 
     ghost content = { λ d. D.content d.device };
 
-    ghost failures = { λ d. count_of d.left (D.failures d.device) };
+    ghost failures = { λ d. counted D.failures d };
 
-    ghost reached = { λ old new. D.reached old.device new.device };
+    ghost identity = { λ d. D.identity d.device };
 
     ghost sizes = { λ d. D.sizes d.device };
-
-    ghost stays = { λ d. D.stays d.device };
-
-    ghost joins = { λ old mid new. D.joins old.device mid.device new.device };
 
     fn blocks(&self) -> usize {
         self.device.blocks()
@@ -77,8 +73,8 @@ impl<D: BlockDev> BlockDev for FailAt<D> {
         requires { n < length (D.content self.old.device) }
         ensures bytes { IfOk result (λ block. block ≡ block_at (D.content self.old.device) n) }
         ensures same { D.content self.new.device ≡ D.content self.old.device }
-        ensures reached { D.reached self.old.device self.new.device }
-        ensures cause { HasCause (count_of self.old.left (D.failures self.old.device)) (count_of self.new.left (D.failures self.new.device)) result }
+        ensures identity { D.identity self.new.device ≡ D.identity self.old.device }
+        ensures cause { HasCause (counted D.failures self.old) (counted D.failures self.new) result }
         ensures left { self.new.left ≡ self.old.left - 1 }
         ensures fails { self.old.left ≡ 1 → IsErr result }
         ensures untouched { self.old.left ≡ 1 → self.new.device ≡ self.old.device }
@@ -92,8 +88,8 @@ impl<D: BlockDev> BlockDev for FailAt<D> {
         requires { n < length (D.content self.old.device) }
         ensures written { OnOk result (D.content self.new.device ≡ slice_set (D.content self.old.device) n block.now) }
         ensures count { length (D.content self.new.device) ≡ length (D.content self.old.device) }
-        ensures reached { D.reached self.old.device self.new.device }
-        ensures cause { HasCause (count_of self.old.left (D.failures self.old.device)) (count_of self.new.left (D.failures self.new.device)) result }
+        ensures identity { D.identity self.new.device ≡ D.identity self.old.device }
+        ensures cause { HasCause (counted D.failures self.old) (counted D.failures self.new) result }
         ensures left { self.new.left ≡ self.old.left - 1 }
         ensures fails { self.old.left ≡ 1 → IsErr result }
         ensures untouched { self.old.left ≡ 1 → self.new.device ≡ self.old.device }

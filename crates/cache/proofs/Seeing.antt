@@ -1,9 +1,7 @@
 -- What is seen of a cache, before and after accesses of its device.
 use Rattle.std.proofs.Common.{◌≡◌, ◌≤◌, ℕ, ap, arith, length, subst, sym, ◌∙◌, Err, List, Ok, OnOk, Result}
 use Rattle.std.specs.Result.{IsErrAnd, is_err}
-use Rattle.blockdev.specs.Reached.{LeadsOn}
 use Rattle.blockdev.specs.declared.DeviceFault.{DeviceFault}
-use Rattle.blockdev.proofs.Leading.{leads-stays}
 use Rattle.cache.specs.Disk.{Disk}
 use Rattle.cache.specs.Overlay.{overlay}
 use Rattle.cache.specs.Steps.{Goes, Steps}
@@ -23,20 +21,20 @@ module _ {D : Type 0} (content : D → List (List ℕ)) (failures : D → ℕ) w
     pub failures-seen : old.failures ≤ failures a
     failures-seen = subst (λ (d : Disk D). d.failures ≤ failures a) is (omega arith)
 
-    pub leads-seen : (reached : D → D → Type 0) → LeadsOn reached old.device a
-    leads-seen reached = subst (λ (d : Disk D). LeadsOn reached d.device a) is leads-stays
+    pub device-seen : (identity : D → List ℕ) → identity a ≡ identity old.device
+    device-seen identity = ap (λ (d : Disk D). identity d.device) is
 
-    module _ {reached : D → D → Type 0} (fs : List (ℕ × Slot)) (b : D) (count : length (content b) ≡ length (content a)) (leads : LeadsOn reached a b) where
-      pub goes-seen : failures a ≤ failures b → Goes reached old (seen fs b)
-      goes-seen later = subst (λ (d : Disk D). Goes reached d (seen fs b)) is (record { count = length-overlay fs (content b) ∙ count ∙ sym (length-overlay es (content a)); leads = leads; later = later })
+    module _ {identity : D → List ℕ} (fs : List (ℕ × Slot)) (b : D) (count : length (content b) ≡ length (content a)) (same : identity b ≡ identity a) where
+      pub goes-seen : failures a ≤ failures b → Goes identity old (seen fs b)
+      goes-seen later = subst (λ (d : Disk D). Goes identity d (seen fs b)) is (record { count = length-overlay fs (content b) ∙ count ∙ sym (length-overlay es (content a)); same_device = same; later = later })
 
       -- an access failed
-      pub lost-seen : {T U : Type 0} {Done : T → Type 0} {before : ℕ} {r : Result U DeviceFault} {e f : DeviceFault} {s : Result T DeviceFault} → failures a ≤ before → HasCause before (failures b) r → r ≡ Err e → IsErrAnd s (λ x. x ≡ f) → Steps reached old (seen fs b) s Done
+      pub lost-seen : {T U : Type 0} {Done : T → Type 0} {before : ℕ} {r : Result U DeviceFault} {e f : DeviceFault} {s : Result T DeviceFault} → failures a ≤ before → HasCause before (failures b) r → r ≡ Err e → IsErrAnd s (λ x. x ≡ f) → Steps identity old (seen fs b) s Done
       lost-seen later cause was told =
           let rises : Rises old.failures (failures b) = rises-before failures-seen (rises-before later (cause.failed (ap is_err was))) in
           step-lost (goes-seen (let l = cause.later in omega arith)) rises told
 
       -- the last access tells all
-      pub last-seen : {Done : Type 0} {before : ℕ} (r : Result Unit DeviceFault) → failures a ≤ before → HasCause before (failures b) r → OnOk r Done → Steps reached old (seen fs b) r (λ _. Done)
+      pub last-seen : {Done : Type 0} {before : ℕ} (r : Result Unit DeviceFault) → failures a ≤ before → HasCause before (failures b) r → OnOk r Done → Steps identity old (seen fs b) r (λ _. Done)
       last-seen (Ok x) later cause done = record { done = done; goes = goes-seen (let l = cause.later in omega arith); failed = λ e. cc }
       last-seen (Err x) later cause done = record { done = tt; goes = goes-seen (let l = cause.later in omega arith); failed = λ e. rises-before failures-seen (rises-before later (cause.failed e)) }

@@ -1,20 +1,19 @@
 -- What a step on a disk comes to.
-use Rattle.std.specs.Prelude.{IfOk, IsErr, Result, length, ◌≡◌, ◌≤◌}
-use Rattle.blockdev.specs.Reached.{LeadsOn}
+use Rattle.std.specs.Prelude.{IfOk, IsErr, List, Result, length, ℕ, ◌≡◌, ◌≤◌}
 use Rattle.blockdev.specs.declared.DeviceFault.{DeviceFault}
 use Rattle.cache.specs.Disk.{Disk}
 use Rattle.unixmodel.specs.Failures.{Rises}
 
--- the disk has as many blocks as before, and accesses lead from its old device to the new one
-pub record Goes {D : Type 0} (reached : D → D → Type 0) (old new : Disk D) : Type 0 where
+-- the disk has as many blocks as before, and the same device
+pub record Goes {D : Type 0} (identity : D → List ℕ) (old new : Disk D) : Type 0 where
   pub count : length new.blocks ≡ length old.blocks
-  pub leads : LeadsOn reached old.device new.device
+  pub same_device : identity new.device ≡ identity old.device
   pub later : old.failures ≤ new.failures
 
 -- so does a disk on which a step is tried. It is done, or a fault is told, and that only where the device counts a failure
-pub record Steps {D T : Type 0} (reached : D → D → Type 0) (old new : Disk D) (result : Result T DeviceFault) (Done : T → Type 0) : Type 0 where
+pub record Steps {D T : Type 0} (identity : D → List ℕ) (old new : Disk D) (result : Result T DeviceFault) (Done : T → Type 0) : Type 0 where
   pub done : IfOk result Done
-  pub goes : Goes reached old new
+  pub goes : Goes identity old new
   pub failed : IsErr result → Rises old.failures new.failures
 
 -- the blocks are as they were, and this is told of them
@@ -23,5 +22,5 @@ pub record AsBefore {D : Type 0} (old new : Disk D) (Told : Type 0) : Type 0 whe
   pub same : new.blocks ≡ old.blocks
 
 -- a step that only reads
-abbrev pub Reads : {D T : Type 0} → (D → D → Type 0) → Disk D → Disk D → Result T DeviceFault → (T → Type 0) → Type 0
-Reads reached old new result Told = Steps reached old new result (λ x. AsBefore old new (Told x))
+abbrev pub Reads : {D T : Type 0} → (D → List ℕ) → Disk D → Disk D → Result T DeviceFault → (T → Type 0) → Type 0
+Reads identity old new result Told = Steps identity old new result (λ x. AsBefore old new (Told x))

@@ -91,7 +91,7 @@ impl<D: BlockDev, A: Allocator + Clone> Cache<D, A> {
     /// The bytes of block `n`.
     pub fn read(&mut self, n: usize) -> Result<Block, DeviceFault>
         requires { n < length self.old.blocks }
-        ensures { Reads D.reached self.old self.new result (λ block. block ≡ block_at self.old.blocks n) }
+        ensures { Reads D.identity self.old self.new result (λ block. block ≡ block_at self.old.blocks n) }
     {
         if let Some(slot) = self.held.get(&n) {
             return Ok(slot.bytes);
@@ -111,7 +111,7 @@ impl<D: BlockDev, A: Allocator + Clone> Cache<D, A> {
     pub fn read_part(&mut self, n: usize, at: usize, out: &mut [u8]) -> Result<(), DeviceFault>
         requires block { n < length self.old.blocks }
         requires fits { at + length out.old ≤ 1024 }
-        ensures { Reads D.reached self.old self.new result (λ _. out.new ≡ part at (length out.old) (block_at self.old.blocks n)) }
+        ensures { Reads D.identity self.old self.new result (λ _. out.new ≡ part at (length out.old) (block_at self.old.blocks n)) }
     {
         let count = out.len();
         if let Some(held) = self.held.get(&n) {
@@ -127,7 +127,7 @@ impl<D: BlockDev, A: Allocator + Clone> Cache<D, A> {
     pub fn write(&mut self, n: usize, at: usize, bytes: &[u8]) -> Result<(), DeviceFault>
         requires block { n < length self.old.blocks }
         requires fits { at + length bytes.now ≤ 1024 }
-        ensures { Steps D.reached self.old self.new result (λ _. self.new.blocks ≡ slice_set self.old.blocks n (splice at bytes.now (block_at self.old.blocks n))) }
+        ensures { Steps D.identity self.old self.new result (λ _. self.new.blocks ≡ slice_set self.old.blocks n (splice at bytes.now (block_at self.old.blocks n))) }
     {
         if let Some(slot) = self.held.get_mut(&n) {
             slot.changed = true;
@@ -150,7 +150,7 @@ impl<D: BlockDev, A: Allocator + Clone> Cache<D, A> {
 
     /// Writes to the device what it lacks.
     pub fn flush(&mut self) -> Result<(), DeviceFault>
-        ensures { Reads D.reached self.old self.new result (λ _. D.content self.new.device ≡ self.old.blocks) }
+        ensures { Reads D.identity self.old self.new result (λ _. D.content self.new.device ≡ self.old.blocks) }
     {
         // Their count has 64 bits, so the number after a block's has, too.
         let _ = self.device.blocks();

@@ -158,7 +158,7 @@ module _ (k : Kernel) (i : ℕ) (runs : Runs k i) where
       state = moved-state k i x.process x.held x.run x.sound q (view_by p) (exec_registers k.spaces.registers p) p.pc placed x.run.runs
 
       exec-done : Acts k to i (Some Exec) (Answers p.argc)
-      exec-done = prints k i x to Exec p.argc [] there (record { up = x.run.up; later = later }) (
+      exec-done = prints k i x to Exec p.argc [] there (record { up = x.run.up; same_device = refl; later = later }) (
           exec-row
           ∙ ap (λ o. given o (replaces (state_of k) i mine)) is
           ∙ ap (λ b. provided b (answers (put_process (state_of k) i (replaced mine p)) p.argc)) (fits-is p ∙ le-leb _ _ fits)

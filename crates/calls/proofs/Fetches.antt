@@ -191,7 +191,7 @@ module _ (k : Kernel) (i : ℕ) (w : Pending) (number offset : ℕ) (u : Uses k 
           ∙ ap (λ (s : State). Done s n []) state
 
       done : GoesOn k (record k { tree = t; spaces = with_bytes k.spaces i address piece; files = files }) i w (Answers n)
-      done = rw (to-is t files piece) (goes-serves k i x w (to t files piece) n read-here (record { up = serves.up; later = serves.cause.later }) row)
+      done = rw (to-is t files piece) (goes-serves k i x w (to t files piece) n read-here (record { up = serves.up; same_device = serves.same_device; later = serves.cause.later }) row)
 
   -- at is what the kernel's fields show
   module _ (at : Kernel) (same : at ≡ k) (whole : IsWhole at.tree) (m : ℕ) (wide : m ≡ count) (t : FileTree) (n : ℕ) (serves : Serves at.tree t (Ok n) (IsRead at.tree t number offset m)) where

@@ -131,7 +131,7 @@ refused-read k e i x call has is = subst (λ (y : Kernel). Acts k y i (Some call
   sound = counting-kernel k e.tree.failures x.sound;
   can = tt;
   printed = refl;
-  served = record { up = x.run.up; later = has.later };
+  served = record { up = x.run.up; same_device = refl; later = has.later };
 })
 
 -- ---- the running process works in directory n now
@@ -189,7 +189,7 @@ module _ (k : Kernel) (i : ℕ) (x : Here k i) (n : ℕ) (short : n < length k.t
 
     pub chdir-acts : row (state_of k) i (me k i x) Chdir ≡ Done (put_process (state_of k) i (self k q x.held)) 0 [] → Acts k to i (Some Chdir) (Answers 0)
     chdir-acts made =
-        settles k i x to Chdir 0 [] there (record { up = x.run.up; later = later })
+        settles k i x to Chdir 0 [] there (record { up = x.run.up; same_device = refl; later = later })
         (ap (λ (o : Outcome). settle (state_of k) i (limited o)) made ∙ settles-gone k i x q placed x.run.runs (not-killed k i x.process x.held x.run x.sound) there.sound.stands reaped)
 
 -- ---- chdir, step by step
@@ -325,4 +325,4 @@ module _ (k : Kernel) (i : ℕ) (runs : Runs k i) where
               fail-keeps to' to' i t refl made.sound made.active (rw same runs.zero) (rw same runs.aligned) (on-err r' fault e serves.down)
 
           pub chdir-gone : (fault : DeviceFault) → r' ≡ Err fault → IsLost k.tree t
-          chdir-gone fault e = let lost = serves-lost r' fault e serves in subst (λ (u : FileTree). IsLost (record k.tree { failures = u.failures }) t) held-is (record { down = lost.down; later = lost.later; rises = lost.rises })
+          chdir-gone fault e = let lost = serves-lost r' fault e serves in subst (λ (u : FileTree). IsLost (record k.tree { failures = u.failures }) t) held-is (record { down = lost.down; same_device = lost.same_device ∙ ap (λ (u : FileTree). u.identity) held-is; later = lost.later; rises = lost.rises })

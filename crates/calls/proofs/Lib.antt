@@ -33,3 +33,5 @@ pub mod Homes
 pub mod Opens
 pub mod Execs
 pub mod Woken
+pub mod Runs
+pub mod Pieces

@@ -140,7 +140,7 @@ module _ (k : Kernel) (i : ℕ) (x : Here k i) (t : FileTree) where
     name-made made is v e same changed whole =
         let up : t.failed ≡ false = acts.failed ∙ ap has_failed e in
         let y = over-here up (used-changed (used-here k i x) t changed acts.holds whole.zero whole.within) in
-        prints k i x over call 0 [] y (record { up = up; later = acts.later }) (is ∙ ap (with_made (state_of k)) same ∙ ap (λ (s : State). Done s 0 []) (sym (over-state acts.limit)))
+        prints k i x over call 0 [] y (record { up = up; same_device = acts.same_device; later = acts.later }) (is ∙ ap (with_made (state_of k)) same ∙ ap (λ (s : State). Done s 0 []) (sym (over-state acts.limit)))
 
     -- the files are as they were
     same-used : t.files ≡ k.tree.files → IsInUse t k.files k.table.places
@@ -159,7 +159,7 @@ module _ (k : Kernel) (i : ℕ) (x : Here k i) (t : FileTree) where
           sound = y.sound;
           can = tt;
           printed = refl;
-          served = record { up = up; later = acts.later };
+          served = record { up = up; same_device = acts.same_device; later = acts.later };
         }
 
     -- nothing was made: the call is refused, or an access failed and the process runs no more
@@ -178,7 +178,7 @@ module _ (k : Kernel) (i : ℕ) (x : Here k i) (t : FileTree) where
       fault-acts false is (Ok c) ok err = subst (λ c. Acts k over i (Some call) c) (sym ok.0) (refuses is)
       fault-acts false is (Err f) ok err = absurd (false≢true (sym is ∙ err))
       fault-acts true is (Ok c) ok err = absurd (false≢true (sym ok.1 ∙ is))
-      fault-acts true is (Err f) ok err = record { down = fails ∙ is; later = acts.later; rises = acts.cause (e ∙ ap Err (is-device fault is)) }
+      fault-acts true is (Err f) ok err = record { down = fails ∙ is; same_device = acts.same_device; later = acts.later; rises = acts.cause (e ∙ ap Err (is-device fault is)) }
 
     pub name-fails : Runs k i → (Bad → outcome_of (state_of k) i (me k i x) (Some call) ≡ Refused) → NameFails k k i t r call
     name-fails runs bad = record {

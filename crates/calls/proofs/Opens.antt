@@ -242,7 +242,7 @@ module _ (k : Kernel) (i : ℕ) (x : Here k i) (n : ℕ) (f : OpenFile) (place f
     free = ap (λ (o : Option Process). free_slot (descriptors_in o)) x.run.process ∙ free;
     state = λ p at. opens-state ∙ ap (λ (y : unix.Process). with_open (state_of k) i y fd place (file_of f)) (same_Some (me k i x) p (sym (process-run k i x.process x.held x.run) ∙ at)) ∙ ap (with_open (state_of k) i p fd place) means';
     runs = record { active = opens-here.run.active; sound = opens-here.sound; zero = runs.zero; aligned = runs.aligned };
-    served = record { up = x.run.up; later = omega arith };
+    served = record { up = x.run.up; same_device = refl; later = omega arith };
   }
 
 -- over the fields: at is what they show
@@ -385,10 +385,10 @@ module _ (k : Kernel) (i : ℕ) (runs : Runs k i) where
       absurd (false≢true (sym none ∙ rw (one, two) refl)))))))
 
   -- e is kernel k with that tree, in which it got the node; then it was opened
-  opens-acts : (tree : FileTree) → tree.block_limit ≡ k.tree.block_limit → k.tree.failures ≤ tree.failures → (e : Kernel) → e ≡ record k { tree = tree } → (f : ℕ) (got : Made) → tree.files ≡ truncated f got
+  opens-acts : (tree : FileTree) → tree.block_limit ≡ k.tree.block_limit → tree.identity ≡ k.tree.identity → k.tree.failures ≤ tree.failures → (e : Kernel) → e ≡ record k { tree = tree } → (f : ℕ) (got : Made) → tree.files ≡ truncated f got
       → row (state_of k) i mine Open ≡ opens_got (state_of k) i mine f got → (node : Node) → slot got.files got.number ≡ Some node → may_open f node ≡ true
       → (new : Kernel) (fd : ℕ) → Opens e new i (opened f got.number) fd → Acts k new i (Some Open) (Answers fd)
-  opens-acts tree limit later e is f got cut made node here may new fd opens =
+  opens-acts tree limit device later e is f got cut made node here may new fd opens =
       let one : Opens (record k { tree = tree }) new i (opened f got.number) fd = subst (λ (y : Kernel). Opens y new i (opened f got.number) fd) is opens in
       let free : free_slot now.process.descriptors ≡ Some fd = ap (λ (o : Option Process). free_slot (descriptors_in o)) (sym now.run.process) ∙ one.free in
       let last = with_open (state_of k) i mine fd one.place (opened f got.number) in
@@ -396,7 +396,7 @@ module _ (k : Kernel) (i : ℕ) (runs : Runs k i) where
       one.state mine (process-run k i now.process now.held now.run)
       ∙ ap (λ (fs : Files). record last { files = fs; block_limit = tree.block_limit }) cut
       ∙ ap (λ (b : ℕ). record last { files = truncated f got; block_limit = b }) limit in
-      prints k i now new Open fd [] (here-of new i one.runs.sound one.runs.active) (record { up = one.served.up; later = le_trans later one.served.later })
+      prints k i now new Open fd [] (here-of new i one.runs.sound one.runs.active) (record { up = one.served.up; same_device = one.served.same_device ∙ device; later = le_trans later one.served.later })
       (made
       ∙ ap (λ (o : Option Node). given o (λ m. provided (may_open f m) (opens_seat (state_of k) i mine f got))) here
       ∙ ap (λ (b : Bool). provided b (opens_seat (state_of k) i mine f got)) may
@@ -441,7 +441,7 @@ module _ (k : Kernel) (i : ℕ) (runs : Runs k i) where
         after-cut = cut.same ∙ ap (λ (y : Kernel). record y { tree = cut_tree y.tree f n k2.tree.failures }) reads.0.same
 
         pub open-found : (new : Kernel) (fd : ℕ) → Opens k2 new i (opened f n) fd → Acts k new i (Some Open) (Answers fd)
-        open-found new fd opens = opens-acts (cut_tree k.tree f n k2.tree.failures) refl (le_trans reads.0.later cut.later) k2 after-cut f got refl open-got may-open.node may-open.here may-open.may new fd opens
+        open-found new fd opens = opens-acts (cut_tree k.tree f n k2.tree.failures) refl refl (le_trans reads.0.later cut.later) k2 after-cut f got refl open-got may-open.node may-open.here may-open.may new fd opens
 
   -- ---- it reaches nothing
 
@@ -512,7 +512,7 @@ module _ (k : Kernel) (i : ℕ) (runs : Runs k i) where
             pub open-created : (new : Kernel) (fd : ℕ) → Opens (record at { tree = t }) new i (opened f v) fd → Acts k new i (Some Open) (Answers fd)
             open-created new fd opens =
                 let made-here = sym made-from ∙ made in
-                opens-acts t created.limit created.later (record at { tree = t }) (rw same refl) f new_node (sym (truncated-new f new_node new-there))
+                opens-acts t created.limit created.same_device created.later (record at { tree = t }) (rw same refl) f new_node (sym (truncated-new f new_node new-there))
                 (new-row ∙ ap (λ o. given o (opens_got (state_of k) i mine f)) made-here) (File 1 []) new-there refl new fd opens
 
 -- ---- once the path was looked up
@@ -526,7 +526,7 @@ asked {k} {k1} i path f o reads named flags q is =
 
 module _ (k k1 new : Kernel) (i : ℕ) (has : HasRead k k1) where
   looked : k.tree.failed ≡ false → IsServed k.tree k1.tree
-  looked up = record { up = ap (λ (y : Kernel). y.tree.failed) has.same ∙ up; later = has.later }
+  looked up = record { up = ap (λ (y : Kernel). y.tree.failed) has.same ∙ up; same_device = ap (λ (y : Kernel). y.tree.identity) has.same; later = has.later }
 
   pub after-look : k.tree.failed ≡ false → (call : Call) (r : Result Came DeviceFault) → ActsOnDisk k1 new i (Some call) r → ActsOnDisk k new i (Some call) r
   after-look up call (Err fault) lost = lost-after (looked up) lost

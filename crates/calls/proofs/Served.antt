@@ -16,21 +16,21 @@ use Rattle.unixmodel.specs.Files.{slot}
 
 -- they are as before
 pub same-served : {old new : FileTree} → new ≡ old → old.failed ≡ false → IsServed old new
-same-served same up = rw same (record { up = up; later = omega arith })
+same-served same up = rw same (record { up = up; same_device = refl; later = omega arith })
 
 -- a step that may fail
 pub serves-disk : {T : Type 0} {old new : FileTree} {r : Result T DeviceFault} {Told : T → Type 0} → Serves old new r Told → LeavesDisk old new r
 serves-disk {T} {old} {new} {r} {Told} serves = go r serves.up serves.down serves.cause where
   go : (r : Result T DeviceFault) → OnOk r (new.failed ≡ false) → OnErr r (new.failed ≡ true) → HasCause old.failures new.failures r → LeavesDisk old new r
-  go (Ok x) up down cause = record { up = up; later = cause.later }
-  go (Err fault) up down cause = record { down = down; later = cause.later; rises = cause.failed refl }
+  go (Ok x) up down cause = record { up = up; same_device = serves.same_device; later = cause.later }
+  go (Err fault) up down cause = record { down = down; same_device = serves.same_device; later = cause.later; rises = cause.failed refl }
 
 -- what is lost behind a part that served
 pub lost-after : {a b c : FileTree} → IsServed a b → IsLost b c → IsLost a c
-lost-after first lost = record { down = lost.down; later = le_trans first.later lost.later; rises = let rises = lost.rises in let later = first.later in omega (arith, rises, later) }
+lost-after first lost = record { down = lost.down; same_device = lost.same_device ∙ first.same_device; later = le_trans first.later lost.later; rises = let rises = lost.rises in let later = first.later in omega (arith, rises, later) }
 
 pub served-after : {a b c : FileTree} → IsServed a b → IsServed b c → IsServed a c
-served-after first second = record { up = second.up; later = le_trans first.later second.later }
+served-after first second = record { up = second.up; same_device = second.same_device ∙ first.same_device; later = le_trans first.later second.later }
 
 pub disk-after : (a b c : FileTree) (r : Result (Unit {0}) DeviceFault) → IsServed a b → LeavesDisk b c r → LeavesDisk a c r
 disk-after a b c (Ok x) first then = served-after first then

@@ -195,7 +195,7 @@ module _ (k : Kernel) (i : ℕ) (runs : Runs k i) where
             (rewritten-fits k.spaces i k.spaces.frames x.held address (stat_bytes n node) x.run.space x.sound.fits)
 
         fstat-done : Acts k to i (Some Fstat) (Answers 0)
-        fstat-done = prints k i x to Fstat 0 [] there (record { up = x.run.up; later = later }) (
+        fstat-done = prints k i x to Fstat 0 [] there (record { up = x.run.up; same_device = refl; later = later }) (
             row-is
             ∙ ap (λ (b : Bool). provided b (answers (put_process (state_of k) i (record (me k i x) { memory = made.memory })) 0)) (can-here true can)
             ∙ ap (λ (s : State). Done s 0 []) (sym (turned-state k i x tree x.process made k.files k.spaces.pipes (placed-with k i x.process x.held x.run x.sound made.memory) x.run.runs)))

@@ -196,7 +196,7 @@ module _ (k : Kernel) (i : ℕ) (w : Pending) (number offset : ℕ) (u : Uses k 
             sound = h.sound;
             can = tt;
             printed = refl;
-            served = record { up = up; later = later };
+            served = record { up = up; same_device = ap (λ (y : FileTree). y.identity) same; later = later };
           };
           within = rw (going-here k i x w ∙ refused) refl;
         }
@@ -221,7 +221,7 @@ module _ (k : Kernel) (i : ℕ) (w : Pending) (number offset : ℕ) (u : Uses k 
 
       store-answers : (answer : ℕ) → (if v.count == length new then v.count else minus_one) ≡ answer → GoesOn k (record k { tree = t; files = files }) i w (Answers answer)
       store-answers answer is =
-          goes-serves k i x w (record k { tree = t; files = files }) answer store-here (record { up = up; later = later })
+          goes-serves k i x w (record k { tree = t; files = files }) answer store-here (record { up = up; same_device = ap (λ (y : FileTree). y.identity) same; later = later })
           (row ∙ stored.row ∙ ap (λ (s : State). Done s (if v.count == length new then v.count else minus_one) []) (sym state) ∙ ap (λ m. Done (state_of (record k { tree = t; files = files })) m []) is)
 
   -- what is told of it

@@ -141,7 +141,7 @@ within-files s files same = ap (λ n. nat_le (frames_of s) s.frame_limit && nat_
 -- ---- the kernel with a name less
 
 module _ (k : Kernel) (i : ℕ) (x : Here k i) (t : FileTree) (d : ℕ) (path : List ℕ) (g : Reaps k.tree.holds k.tree.files d path t.files)
-    (limit : t.block_limit ≡ k.tree.block_limit) (holds : t.holds ≡ k.tree.holds) (up : t.failed ≡ false) (later : k.tree.failures ≤ t.failures) (whole : IsWhole t) where
+    (limit : t.block_limit ≡ k.tree.block_limit) (holds : t.holds ≡ k.tree.holds) (up : t.failed ≡ false) (device : t.identity ≡ k.tree.identity) (later : k.tree.failures ≤ t.failures) (whole : IsWhole t) where
   is : IsInUse k.tree k.files k.table.places
   is = used-here k i x
 
@@ -238,7 +238,7 @@ module _ (k : Kernel) (i : ℕ) (x : Here k i) (t : FileTree) (d : ℕ) (path : 
 
   unlinks : row (state_of k) i (me k i x) Unlink ≡ with_made (state_of k) (nameless k.tree.files d path) → Acts k to i (Some Unlink) (Answers 0)
   unlinks makes =
-      settles k i x to Unlink 0 [] here-then (record { up = up; later = later })
+      settles k i x to Unlink 0 [] here-then (record { up = up; same_device = device; later = later })
       (ap (λ (o : Outcome). settle (state_of k) i (limited o)) (makes ∙ ap (with_made (state_of k)) made-is) ∙ settles-so)
 
 -- ---- the process that calls
@@ -265,7 +265,7 @@ module _ (k : Kernel) (i : ℕ) (runs : Runs k i) where
       unlink-done = subst (λ (y : Kernel). TakesName y.tree t d path r → (v : Unit {0}) → r ≡ Ok v → IsWhole t → Acts k (record y { tree = t }) i (Some Unlink) (Answers 0)) (sym same) (λ acts v e whole.
           let made : unlinked_in k.tree.holds k.tree.files d path ≡ Some t.files = ok-told _ r v e acts.done in
           let g = unlinked-reaps (used-here k i (here k i runs)).rules k.tree.holds d path t.files made in
-          unlinks k i (here k i runs) t d path g acts.limit acts.holds (acts.failed ∙ ap has_failed e) acts.later whole unlink-makes)
+          unlinks k i (here k i runs) t d path g acts.limit acts.holds (acts.failed ∙ ap has_failed e) acts.same_device acts.later whole unlink-makes)
 
       pub unlink-fails : TakesName at.tree t d path r → NameFails k at i t r Unlink
       unlink-fails = subst (λ (y : Kernel). TakesName y.tree t d path r → NameFails k y i t r Unlink) (sym same) (λ acts. name-fails k i (here k i runs) t r acts Unlink runs unlink-none)

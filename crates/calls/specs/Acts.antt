@@ -17,6 +17,7 @@ use Rattle.unixmodel.specs.declared.call.Call.{Call}
 use Rattle.unixmodel.specs.declared.call.Call.TheVariants.{Dup, Exit, Fork, Getpid, Kill, Pipe, Sbrk, Sleep, Uptime, Wait}
 use Rattle.unixmodel.specs.declared.process.Mode.TheVariants.{Waiting}
 use Rattle.unixmodel.specs.declared.process.Pending.{Pending}
+use Rattle.unixmodel.specs.Failures.{Rises}
 use Rattle.unixmodel.specs.Numbers.{low}
 use Rattle.unixmodel.specs.Outcome.{Outcome, limited, minus_one}
 use Rattle.unixmodel.specs.Outcome.Outcome.{Refused}
@@ -158,3 +159,13 @@ Tries old new i o before after console (Err Console) = console × AppendsBeginni
 Tries old new i o before after console (Err Device) = IsLost old.tree new.tree × Appends before after []
 Tries old new i o before after console (Err (InitEnded status)) = ⊥
 Tries old new i o before after console (Err Halted) = ⊥
+
+-- the same where the bytes go to an output
+abbrev pub TriesTo : {W : Type 0} → (W → Option (List ℕ)) → (W → ℕ) → Kernel → Kernel → W → W → ℕ → Outcome → Result Came Halt → Type 0
+TriesTo contents failures old new from to i o result = Tries old new i o (contents from) (contents to) (Rises (failures from) (failures to)) result
+
+abbrev pub CallTries : {W : Type 0} → (W → Option (List ℕ)) → (W → ℕ) → Kernel → Kernel → W → W → ℕ → Option Call → Result Came Halt → Type 0
+CallTries contents failures old new from to i call result = TriesTo contents failures old new from to i (outcome_at (state_of old) i call) result
+
+abbrev pub PendingTries : {W : Type 0} → (W → Option (List ℕ)) → (W → ℕ) → Kernel → Kernel → W → W → ℕ → Pending → Result Came Halt → Type 0
+PendingTries contents failures old new from to i w result = TriesTo contents failures old new from to i (limited (going_at (state_of old) i w)) result

@@ -9,7 +9,8 @@ use Rattle.std.specs.Prelude.{Err, List, None, Ok, Option, Result, Some, [], fal
 use Rattle.tree.specs.Tree.{FileTree}
 use Rattle.unixmodel.specs.Failures.{Rises}
 use Rattle.unixmodel.specs.Calls.{After}
-use Rattle.unixmodel.specs.State.{State}
+use Rattle.unixmodel.specs.Next.{execute_at}
+use Rattle.unixmodel.specs.State.{State, process_at}
 
 -- the kernel's state is the one that is made, it halts so, and its bytes were printed
 pub record Makes (new : Kernel) (a : After) (before after : Option (List ℕ)) (halted : Option ℤ) : Type 0 where
@@ -44,6 +45,17 @@ EventGives new a before after rising (Err Console) = rising × AppendsBeginning 
 EventGives new a before after rising (Err Device) = Appends before after []
 EventGives new a before after rising (Err Halted) = ⊥
 
+-- the same where the bytes go to an output: the bytes that it took, and how often it failed, are read off it
+abbrev pub DispatchesTo : {W X : Type 0} → (W → Option (List ℕ)) → (W → ℕ) → Kernel → W → W → After → Result X Halt → Type 0
+DispatchesTo contents failures new from to a result = Dispatches new a (contents from) (contents to) (Rises (failures from) (failures to)) result
+
+abbrev pub EventGivesTo : {W : Type 0} → (W → Option (List ℕ)) → (W → ℕ) → Kernel → W → W → After → Result (Unit {0}) Halt → Type 0
+EventGivesTo contents failures new from to a result = EventGives new a (contents from) (contents to) (Rises (failures from) (failures to)) result
+
+-- what the instruction at the pc of the process of a place makes
+abbrev pub executed : Kernel → ℕ → After
+executed k at = execute_at (state_of k) at (process_at (state_of k) at)
+
 -- what the end of a process, which leaves that state, is answered with
 abbrev pub Ends : Kernel → State → Result (Unit {0}) Halt → Type 0
 Ends new s (Ok u) = (state_of new ≡ s) × (s.halted ≡ None)
@@ -54,14 +66,16 @@ Ends new s (Err Halted) = ⊥
 
 -- ---- the files of the disk
 
--- no access of the device has failed, and its count of failures is not lower
+-- no access of the device has failed: it is the same, and its count of failures is not lower
 pub record IsServed (old new : FileTree) : Type 0 where
   pub up : new.failed ≡ false
+  pub same_device : new.identity ≡ old.identity
   pub later : old.failures ≤ new.failures
 
--- an access of the device has failed, and its count of failures rose
+-- an access of the device has failed: it is the same, and its count of failures rose
 pub record IsLost (old new : FileTree) : Type 0 where
   pub down : new.failed ≡ true
+  pub same_device : new.identity ≡ old.identity
   pub later : old.failures ≤ new.failures
   pub rises : Rises old.failures new.failures
 

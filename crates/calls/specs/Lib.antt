@@ -1,6 +1,7 @@
 pub mod Processes
 pub mod Acts
 pub mod Gives
+pub mod Steps
 pub mod Resuming
 pub mod Transfers
 pub mod Renamed

@@ -1,11 +1,10 @@
 //! The calls: each row of the table of calls is a function.
 ghost use Rattle.std.specs.Prelude.{◌≡◌, ◌≢◌, ◌≤◌, Some, true};
-ghost use Rattle.calls.specs.Acts.{Acts, ActsOnDisk, IsBegun, Runs, Tries, called, is_apart, outcome_at};
-ghost use Rattle.calls.specs.Gives.{Dispatches, LeavesTree};
+ghost use Rattle.calls.specs.Acts.{Acts, ActsOnDisk, IsBegun, CallTries, Runs, called, is_apart};
+ghost use Rattle.calls.specs.Gives.{DispatchesTo, LeavesTree};
 ghost use Rattle.kernel.specs.Kernel.{state_of};
 ghost use Rattle.unixmodel.specs.Calls.{call_of};
 ghost use Rattle.unixmodel.specs.declared.call.Call.TheVariants as Call;
-ghost use Rattle.unixmodel.specs.Failures.{Rises};
 
 use crate::descriptor_calls::{close, dup, pipe};
 use crate::exec_call::exec;
@@ -121,7 +120,7 @@ fn act<D: BlockDev, T: Translate + Drop, W: Out>(
     console: &mut W,
 ) -> Result<Came, Halt>
     requires { Runs kernel.old at }
-    ensures tries { Tries kernel.old kernel.new at (outcome_at (state_of kernel.old) at call) (W.contents console.old) (W.contents console.new) (Rises (W.failures console.old) (W.failures console.new)) result }
+    ensures tries { CallTries W.contents W.failures kernel.old kernel.new console.old console.new at call result }
     ensures later { W.failures console.old ≤ W.failures console.new }
 {
     let Some(call) = call else {
@@ -141,7 +140,7 @@ pub fn call<D: BlockDev, T: Translate + Drop, W: Out>(
     console: &mut W,
 ) -> Result<(), Halt>
     requires running { kernel.old.spaces.active ≡ Some at }
-    ensures gives { Dispatches kernel.new (called (state_of kernel.old) at) (W.contents console.old) (W.contents console.new) (Rises (W.failures console.old) (W.failures console.new)) result }
+    ensures gives { DispatchesTo W.contents W.failures kernel.new console.old console.new (called (state_of kernel.old) at) result }
     ensures tree { LeavesTree kernel.old.tree kernel.new.tree result }
     ensures later { W.failures console.old ≤ W.failures console.new }
 {

@@ -2,19 +2,20 @@
 //!
 //! What seldom happens is kept out of line (`inline(never)`), so that the code of a step that only does an
 //! instruction stays small.
-ghost use Rattle.std.specs.Prelude.{false, ◌≡◌, ◌≤◌, Ok, Some, None, true, IfErr, IfOk, OnErr, OnOk};
+ghost use Rattle.std.specs.Prelude.{false, ◌≡◌, ◌≤◌, Err, Ok, Some, None, true, IfErr, IfOk, OnErr, OnOk};
 ghost use Rattle.calls.specs.Acts.{CanWait, GoesOn, Runs, called};
 ghost use Rattle.calls.specs.declared.halt.Halt.TheVariants.{Console, Device};
-ghost use Rattle.calls.specs.Gives.{Dispatches, EventGives, Ends, LeavesDisk, LeavesTree, halt_of};
+ghost use Rattle.calls.specs.Gives.{DispatchesTo, EventGivesTo, Ends, LeavesDisk, LeavesTree, executed, halt_of};
 ghost use Rattle.kernel.specs.Kernel.{state_of};
 ghost use Rattle.kernel.specs.Sound.{CanEnd, IsAlive};
 ghost use Rattle.calls.specs.Resuming.{CanResume, WaitsIn, became, resumed, taken};
+ghost use Rattle.spaces.specs.Spaces.{view_at};
 ghost use Rattle.unixmodel.specs.Calls.{end_at, quiet};
+ghost use Rattle.unixmodel.specs.Cycle.{cycle};
 ghost use Rattle.unixmodel.specs.declared.call.Call.TheVariants as Call;
 ghost use Rattle.unixmodel.specs.declared.event.Event.TheVariants.{Key, Step, Tick};
 ghost use Rattle.unixmodel.specs.Files.{slot};
-ghost use Rattle.unixmodel.specs.Failures.{Rises};
-ghost use Rattle.unixmodel.specs.Next.{execute_at, is_ecall, next, take_turn};
+ghost use Rattle.unixmodel.specs.Next.{is_ecall, next, take_turn};
 ghost use Rattle.unixmodel.specs.State.{process_at};
 ghost use Rattle.unixmodel.specs.Turn.{turn};
 
@@ -29,7 +30,7 @@ use kernel::Kernel;
 use sv39::Translate;
 use unixmodel::call::Call;
 use unixmodel::process::{Mode, Pending};
-use unixmodel::trap::Cause;
+use unixmodel::trap::{Cause, Trap};
 
 // Whether a trap is a call.
 fn is_call(cause: Cause) -> bool
@@ -66,7 +67,7 @@ pub fn key<D: BlockDev, T: Translate + Drop, W: Out>(
     byte: u8,
     console: &mut W,
 ) -> Result<(), Halt>
-    ensures gives { Dispatches kernel.new (next (state_of kernel.old) (Key byte)) (W.contents console.old) (W.contents console.new) (Rises (W.failures console.old) (W.failures console.new)) result }
+    ensures gives { DispatchesTo W.contents W.failures kernel.new console.old console.new (next (state_of kernel.old) (Key byte)) result }
     ensures lost { OnErr result (kernel.new ≡ kernel.old) }
     ensures fault { IfErr result (λ halt. halt ≡ Console) }
     ensures tree { kernel.new.tree ≡ kernel.old.tree }
@@ -85,7 +86,7 @@ pub fn dispatch<D: BlockDev, T: Translate + Drop, W: Out>(
     console: &mut W,
 ) -> Result<Outcome, Halt>
     requires running { kernel.old.spaces.active ≡ Some at }
-    ensures gives { Dispatches kernel.new (called (state_of kernel.old) at) (W.contents console.old) (W.contents console.new) (Rises (W.failures console.old) (W.failures console.new)) result }
+    ensures gives { DispatchesTo W.contents W.failures kernel.new console.old console.new (called (state_of kernel.old) at) result }
     ensures told { IfOk result (λ o. o ≡ became kernel.new at) }
     ensures tree { LeavesTree kernel.old.tree kernel.new.tree result }
     ensures later { W.failures console.old ≤ W.failures console.new }
@@ -139,7 +140,7 @@ pub fn step<D: BlockDev, T: Translate + Drop, W: Out>(
 ) -> Result<(), Halt>
     requires goes { kernel.old.halted ≡ None }
     requires up { kernel.old.tree.failed ≡ false }
-    ensures does { EventGives kernel.new (next (state_of kernel.old) Step) (W.contents console.old) (W.contents console.new) (Rises (W.failures console.old) (W.failures console.new)) result }
+    ensures does { EventGivesTo W.contents W.failures kernel.new console.old console.new (next (state_of kernel.old) Step) result }
     ensures tree { LeavesTree kernel.old.tree kernel.new.tree result }
     ensures later { W.failures console.old ≤ W.failures console.new }
 {
@@ -152,7 +153,7 @@ pub fn step<D: BlockDev, T: Translate + Drop, W: Out>(
 }
 
 // Whether the machine goes on.
-fn goes<D: BlockDev, T: Translate + Drop>(kernel: &Kernel<D, T>) -> Result<(), Halt>
+pub(crate) fn goes<D: BlockDev, T: Translate + Drop>(kernel: &Kernel<D, T>) -> Result<(), Halt>
     ensures { result ≡ halt_of kernel.now.halted }
 {
     match kernel.halted() {
@@ -183,20 +184,35 @@ fn instruct<D: BlockDev, T: Translate + Drop, W: Out>(
     console: &mut W,
 ) -> Result<(), Halt>
     requires { kernel.old.spaces.active ≡ Some at }
-    ensures gives { Dispatches kernel.new (execute_at (state_of kernel.old) at (process_at (state_of kernel.old) at)) (W.contents console.old) (W.contents console.new) (Rises (W.failures console.old) (W.failures console.new)) result }
+    ensures gives { DispatchesTo W.contents W.failures kernel.new console.old console.new (executed kernel.old at) result }
     ensures tree { LeavesTree kernel.old.tree kernel.new.tree result }
     ensures later { W.failures console.old ≤ W.failures console.new }
 {
     kernel.is_sound();
     match kernel.execute(at) {
         None => Ok(()),
-        Some(trap) => {
-            if is_call(trap.cause) {
-                return calls::call(kernel, at, console);
-            }
-            Ok(kernel.finish(at, KILLED)?)
-        }
+        Some(trap) => take_trap(kernel, at, trap, console),
     }
+}
+
+// The call or the end that the running process traps into.
+pub(crate) fn take_trap<D: BlockDev, T: Translate + Drop, W: Out>(
+    kernel: &mut Kernel<D, T>,
+    at: usize,
+    trap: Trap,
+    console: &mut W,
+) -> Result<(), Halt>
+    requires running { kernel.old.spaces.active ≡ Some at }
+    requires traps { cycle kernel.old.spaces.registers kernel.old.spaces.pc (view_at kernel.old.spaces at).memory ≡ Err trap }
+    ensures gives { DispatchesTo W.contents W.failures kernel.new console.old console.new (executed kernel.old at) result }
+    ensures tree { LeavesTree kernel.old.tree kernel.new.tree result }
+    ensures later { W.failures console.old ≤ W.failures console.new }
+{
+    kernel.is_sound();
+    if is_call(trap.cause) {
+        return calls::call(kernel, at, console);
+    }
+    Ok(kernel.finish(at, KILLED)?)
 }
 
 // A turn, where none runs.
@@ -215,7 +231,7 @@ fn take_turn<D: BlockDev, T: Translate + Drop>(kernel: &mut Kernel<D, T>) -> Res
 }
 
 // The process in a place, which was picked, ends if it is killed; else it runs, or goes on with its call.
-fn take<D: BlockDev, T: Translate + Drop>(
+pub(crate) fn take<D: BlockDev, T: Translate + Drop>(
     kernel: &mut Kernel<D, T>,
     at: usize,
 ) -> Result<(), DeviceFault>

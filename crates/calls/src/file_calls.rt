@@ -1,8 +1,7 @@
 //! The calls on what a descriptor is open on: fstat.
 ghost use Rattle.std.specs.Prelude.{◌≡◌, Some};
 ghost use Rattle.calls.specs.Acts.{ActsOnDisk, Runs};
-ghost use Rattle.calls.specs.Reads.{ReadsDisk, stat_told};
-ghost use Rattle.tree.specs.Telling.{Tells};
+ghost use Rattle.calls.specs.Reads.{ReadsDisk, TellsOf, stat_told};
 ghost use Rattle.unixmodel.specs.declared.call.Call.TheVariants as Call;
 ghost use Rattle.unixmodel.specs.Files.{Node, slot};
 
@@ -22,7 +21,7 @@ pub(crate) fn stat<D: BlockDev, T: Translate + Drop>(
 ) -> Result<InodeStat, DeviceFault>
     requires runs { Runs kernel.old at }
     requires node { (node : Node) × (slot kernel.old.tree.files number ≡ Some node) }
-    ensures { ReadsDisk kernel.old kernel.new (λ told. (node : Node) → slot kernel.old.tree.files number ≡ Some node → Tells told node) result }
+    ensures { ReadsDisk kernel.old kernel.new (TellsOf kernel.old number) result }
 {
     match kernel.tree.stat(number) {
         Ok(told) => Ok(told),

@@ -1,15 +1,14 @@
 //! The calls on names: mknod, mkdir, link, unlink.
-ghost use Rattle.std.specs.Prelude.{◌≡◌, ◌≢◌, ◌≤◌, ◌<◌, All, IfOk, IfSome, OnErr, Some, false, if◌then◌else◌, option_map, take, true};
+ghost use Rattle.std.specs.Prelude.{◌≡◌, ◌≢◌, ◌≤◌, ◌<◌, All, IfOk, IfSome, OnErr, Some, false, if◌then◌else◌, take, true};
 ghost use Rattle.calls.specs.Acts.{ActsOnDisk, Runs};
 ghost use Rattle.calls.specs.declared.outcome.Came.TheVariants.{Refuses};
-ghost use Rattle.kernel.specs.Kernel.{argument, idle, on_hart};
-ghost use Rattle.proc.specs.Places.{changed, with_mode};
-ghost use Rattle.spaces.specs.Spaces.{view_at};
+ghost use Rattle.kernel.specs.Kernel.{idle, left_in};
 ghost use Rattle.tree.specs.Tree.{is_device};
 ghost use Rattle.unixmodel.specs.declared.call.Call.TheVariants as Call;
 ghost use Rattle.unixmodel.specs.declared.process.Mode.TheVariants.{Ready};
 ghost use Rattle.unixmodel.specs.Files.{slot};
-ghost use Rattle.unixmodel.specs.Memory.{path_at};
+ghost use Rattle.calls.specs.Reads.{path_argument};
+ghost use Rattle.vm.specs.Reach.{string_in};
 
 use crate::outcome::Came;
 use blockdev::{BlockDev, DeviceFault};
@@ -39,7 +38,7 @@ pub(crate) fn copy_path<D: BlockDev, T: Translate + Drop>(
 ) -> Option<usize>
     requires active { kernel.now.spaces.active ≡ Some at }
     requires place { place < 8 }
-    ensures path { option_map (λ n. take n buffer.new) result ≡ path_at (view_at kernel.now.spaces at).memory (argument kernel.now place) }
+    ensures path { string_in buffer.new result ≡ path_argument kernel.now at place }
     ensures within { IfSome result (λ n. n ≤ 127) }
     ensures bytes { IfSome result (λ n. All (λ b. b ≢ 0) (take n buffer.new)) }
 {
@@ -55,7 +54,7 @@ pub(crate) fn refuse<T: Translate + Drop>(
 ) -> Result<Came, DeviceFault>
     ensures came { IfOk result (λ came. (came ≡ Refuses) × (is_device fault ≡ false)) }
     ensures failed { OnErr result (is_device fault ≡ true) }
-    ensures table { table.new ≡ (if is_device fault then changed table.old at (λ p. with_mode Ready (on_hart spaces.old p)) else table.old) }
+    ensures table { table.new ≡ (if is_device fault then left_in table.old spaces.old at Ready else table.old) }
     ensures spaces { spaces.new ≡ (if is_device fault then idle spaces.old else spaces.old) }
 {
     if fault == TreeFault::Device {

@@ -1,8 +1,8 @@
 //! The calls that look for what a path names: open, chdir.
-ghost use Rattle.std.specs.Prelude.{◌≡◌, ◌≢◌, All, IfSome, List, None, Some, true, ℕ};
+ghost use Rattle.std.specs.Prelude.{◌≡◌, ◌≢◌, All, List, None, Some, true, ℕ};
 ghost use Rattle.calls.specs.Acts.{ActsOnDisk, Runs};
 ghost use Rattle.calls.specs.Opened.{Asks, Cuts, IsOpenable, Opens, file_by, has_seat, may_open_by, target_by};
-ghost use Rattle.calls.specs.Reads.{ReadsDisk};
+ghost use Rattle.calls.specs.Reads.{FindsFrom, ReadsDisk};
 ghost use Rattle.calls.specs.Replaced.{Reaches};
 ghost use Rattle.kernel.specs.Holding.{IsFolder};
 ghost use Rattle.unixmodel.specs.declared.call.Call.TheVariants as Call;
@@ -45,7 +45,7 @@ pub(crate) fn find<D: BlockDev, T: Translate + Drop>(
     path: &[u8],
 ) -> Result<Option<usize>, DeviceFault>
     requires { Runs kernel.old at }
-    ensures { ReadsDisk kernel.old kernel.new (λ number. IfSome (slot kernel.old.table.places at) (λ p. number ≡ find kernel.old.tree.files p.directory path.now)) result }
+    ensures { ReadsDisk kernel.old kernel.new (FindsFrom kernel.old at path.now) result }
 {
     let directory = home(kernel, at);
     match kernel.tree.resolve(directory, path) {

@@ -1,10 +1,10 @@
 //! The calls read and write, and how they go on. Which of them it is goes by the end of a pipe that it would use.
-ghost use Rattle.std.specs.Prelude.{[], ◌<◌, ◌≡◌, ◌≤◌, IfErr, IfOk, OnErr, OnOk, Some, is_some, length, option_map, true, unwrap_or};
+ghost use Rattle.std.specs.Prelude.{◌<◌, ◌≡◌, ◌≤◌, IfErr, IfOk, OnErr, OnOk, Some, is_some, length, option_map, true};
 ghost use Rattle.std.specs.Prelude.{if◌then◌else◌, ◌==◌};
 ghost use Rattle.std.specs.Io.KnownBytes.{Appends};
-ghost use Rattle.calls.specs.Acts.{Acts, ActsOnDisk, CanWait, GoesOn, GoesOnDisk, Runs, Tries, going_at, outcome_at};
+ghost use Rattle.calls.specs.Acts.{Acts, ActsOnDisk, CanWait, GoesOn, GoesOnDisk, Runs, CallTries, PendingTries};
 ghost use Rattle.files.specs.declared.file.Target.TheVariants as target;
-ghost use Rattle.kernel.specs.Kernel.{descriptors_at, state_of};
+ghost use Rattle.kernel.specs.Kernel.{descriptors_at};
 ghost use Rattle.kernel.specs.Sound.{file_named};
 ghost use Rattle.calls.specs.Transfers.{Begins, OnConsole, OnThePipe, Uses, IsFront, call_on, can_transfer, target_for, target_named};
 ghost use Rattle.files.specs.declared.file.End.TheVariants as End;
@@ -15,9 +15,10 @@ ghost use Rattle.spaces.specs.Spaces.{view_at};
 ghost use Rattle.unixmodel.specs.declared.call.Call.TheVariants as Call;
 ghost use Rattle.unixmodel.specs.Failures.{Rises};
 ghost use Rattle.unixmodel.specs.Memory.{reach, read_bytes};
-ghost use Rattle.unixmodel.specs.Outcome.{limited, minus_one};
+ghost use Rattle.unixmodel.specs.Outcome.{minus_one};
 ghost use Rattle.unixmodel.specs.declared.trap.Access.TheVariants.{Load};
 ghost use Rattle.vm.specs.Reach.{piece_at};
+ghost use Rattle.transfers.specs.Moved.{bytes_given};
 
 use crate::halt::Halt;
 use crate::outcome::{Came, REFUSED, pending};
@@ -304,8 +305,8 @@ fn print<D: BlockDev, T: Translate + Drop, W: Out>(
 ) -> Result<(), OutFault>
     requires running { kernel.now.spaces.active ≡ Some at }
     requires readable { is_some (read_bytes (view_at kernel.now.spaces at).memory address count) ≡ true }
-    ensures ok { OnOk result (Appends (W.contents out.old) (W.contents out.new) (unwrap_or (read_bytes (view_at kernel.now.spaces at).memory address count) [])) }
-    ensures err { OnErr result (AppendsBeginning (W.contents out.old) (W.contents out.new) (unwrap_or (read_bytes (view_at kernel.now.spaces at).memory address count) [])) }
+    ensures ok { OnOk result (Appends (W.contents out.old) (W.contents out.new) (bytes_given kernel.now.spaces at address count)) }
+    ensures err { OnErr result (AppendsBeginning (W.contents out.old) (W.contents out.new) (bytes_given kernel.now.spaces at address count)) }
     ensures later { W.failures out.old ≤ W.failures out.new }
     ensures cause { OnErr result (Rises (W.failures out.old) (W.failures out.new)) }
 {
@@ -327,7 +328,7 @@ pub(crate) fn write<D: BlockDev, T: Translate + Drop, W: Out>(
     console: &mut W,
 ) -> Result<Came, Halt>
     requires { Runs kernel.old at }
-    ensures tries { Tries kernel.old kernel.new at (outcome_at (state_of kernel.old) at (Some Call.Write)) (W.contents console.old) (W.contents console.new) (Rises (W.failures console.old) (W.failures console.new)) result }
+    ensures tries { CallTries W.contents W.failures kernel.old kernel.new console.old console.new at (Some Call.Write) result }
     ensures later { W.failures console.old ≤ W.failures console.new }
 {
     match begin_transfer(kernel, at, End::Write) {
@@ -345,7 +346,7 @@ fn write_to<D: BlockDev, T: Translate + Drop, W: Out>(
     console: &mut W,
 ) -> Result<Came, Halt>
     requires { Uses kernel.old at End.Write target pending }
-    ensures tries { Tries kernel.old kernel.new at (limited (going_at (state_of kernel.old) at pending)) (W.contents console.old) (W.contents console.new) (Rises (W.failures console.old) (W.failures console.new)) result }
+    ensures tries { PendingTries W.contents W.failures kernel.old kernel.new console.old console.new at pending result }
     ensures later { W.failures console.old ≤ W.failures console.new }
 {
     match target {

@@ -1,7 +1,8 @@
 -- What the next instruction of a process traps with, where that is no call.
-use Rattle.std.specs.Prelude.{Err, None, Ok, Option, Some, [], if◌then◌else◌, ℕ}
+use Rattle.std.specs.Prelude.{Err, List, None, Ok, Option, Some, [], if◌then◌else◌, ℕ, ◌≡◌}
+use Rattle.unixmodel.specs.declared.instr.StoreOp.{StoreOp}
 use Rattle.unixmodel.specs.declared.trap.Trap.{Trap}
-use Rattle.unixmodel.specs.Meaning.{Effect}
+use Rattle.unixmodel.specs.Meaning.{Effect, store}
 use Rattle.unixmodel.specs.Memory.{Memory}
 use Rattle.unixmodel.specs.Next.{effect_of, is_ecall}
 use Rattle.unixmodel.specs.Process.{Process}
@@ -22,3 +23,7 @@ memory_of (Some p) = p.memory
 
 abbrev pub memory_shown : State → ℕ → Memory
 memory_shown s pid = memory_of (shown_process s pid)
+
+-- so a store to an address traps, whatever the registers and the pc are
+abbrev pub StoreTraps : Memory → StoreOp → ℕ → Option Trap → Type 0
+StoreTraps memory op address told = (regs : List ℕ) (pc value : ℕ) → told ≡ trap_of (store regs pc memory op address value)

@@ -3,9 +3,9 @@
 //! From the RISC-V unprivileged manual. The address that is told is the target of a jump, the accessed address of a load or store, and
 //! else the pc; an address that is no multiple of the size comes before a page fault.
 ghost use Rattle.std.specs.Prelude.{◌≡◌, ◌+◌, Some, option_and_then, slice_index, ℕ, List};
-ghost use Rattle.causes.specs.Causes.{memory_shown, trap_of, trap_shown};
+ghost use Rattle.causes.specs.Causes.{StoreTraps, memory_shown, trap_of, trap_shown};
 ghost use Rattle.unixmodel.specs.Cycle.{act_word};
-ghost use Rattle.unixmodel.specs.Meaning.{act, branch, jump, load, store};
+ghost use Rattle.unixmodel.specs.Meaning.{act, branch, jump, load};
 ghost use Rattle.unixmodel.specs.Numbers.{extend, plus};
 ghost use Rattle.unixmodel.specs.Shown.{shown_process};
 
@@ -69,7 +69,7 @@ fn store<D: BlockDev, T: Translate + Drop>(
     op: StoreOp,
     address: u64,
 ) -> Option<Trap>
-    ensures { (regs : List ℕ) (pc value : ℕ) → result ≡ trap_of (store regs pc (memory_shown machine.now.state pid) op address value) }
+    ensures { StoreTraps (memory_shown machine.now.state pid) op address result }
 {
     if address % store_size(op) != 0 {
         return trap(Cause::StoreMisaligned, address);

@@ -28,6 +28,7 @@ module _ (old new : View) (before mid after : Option (List ℕ)) (keeps : Keeps 
     halts = k.halts;
     sound = k.sound;
     printed = Appends-kept _ _ _ _ k.printed keeps;
+    same_device = k.same_device;
     later = k.later;
   }
 
@@ -50,6 +51,7 @@ module _ (old new : View) (before mid after : Option (List ℕ)) (keeps : Keeps 
       later = k.fails.later;
       failed = k.fails.failed;
       printed = Appends-kept _ _ _ _ k.fails.printed keeps;
+      same_device = k.fails.same_device;
     };
   }
 
@@ -96,14 +98,14 @@ plays-through old new from before to mid after e f keeps events rising ended wri
 
 -- ---- what is left
 
-module _ {D : Type 0} (content : D → List (List ℕ)) (count : D → ℕ) (first last : View) (events : List Event) (before after : Option (List ℕ)) (saves : Bool) where
-  played : (halted : Option ℤ) (disk : Option D) → IsDone first last (run first.state events) before after halted → Saves content last saves disk
-      → IsPlayed content first events before after saves halted disk
+module _ {D : Type 0} (content : D → List (List ℕ)) (identity : D → List ℕ) (count : D → ℕ) (first last : View) (events : List Event) (before after : Option (List ℕ)) (saves : Bool) where
+  played : (halted : Option ℤ) (disk : Option D) → IsDone first last (run first.state events) before after halted → Saves content identity last saves disk
+      → IsPlayed content identity first events before after saves halted disk
   played halted disk done saved = record { last = last; done = done; saved = saved }
 
   -- it is saved
   pub leaves-saved : (end : End) (disk : D) → saves ≡ true → status_of end ≡ 0 → PlaysOut first last events before after end
-      → SaveGives content count last (Ok disk) → Leaves content count first events before after saves end (Some disk)
+      → SaveGives content identity count last (Ok disk) → Leaves content identity count first events before after saves end (Some disk)
   leaves-saved Running disk is zero k s = played None (Some disk) k (rw is s)
   leaves-saved (Halted (halt.InitEnded status)) disk is zero k s = played (Some status) (Some disk) k (rw is s)
   leaves-saved (Halted halt.Device) disk is zero k s = absurd (cc)
@@ -120,7 +122,7 @@ module _ {D : Type 0} (content : D → List (List ℕ)) (count : D → ℕ) (fir
 
   -- it can't be saved
   pub leaves-unsaved : (end : End) (why : Halt) → saves ≡ true → status_of end ≡ 0 → PlaysOut first last events before after end
-      → SaveGives content count last (Err why) → Leaves content count first events before after saves (Halted why) None
+      → SaveGives content identity count last (Err why) → Leaves content identity count first events before after saves (Halted why) None
   leaves-unsaved end (halt.InitEnded status) is zero k s = absurd s
   leaves-unsaved end halt.Device is zero k s =
       let done = all-done end zero k in

@@ -41,17 +41,18 @@ all-done step n m digest {so_far = so_far} before all = record {
   told = record { same = before.same; value = each-all step n m digest so_far before.value all };
   up = before.up;
   down = tt;
+  same_device = ap (λ (t : FileTree). t.identity) before.same;
   cause = record { later = before.later; failed = λ e. absurd (cc) };
 }
 
 -- ---- a step that fails
 
 module _ {B : Type 0} (r : Result B DeviceFault) (Q : DeviceFault → Type 0) (exit : IsErrAnd r Q) where
-  pub lost-later : {A : Type 0} {old mid new : FileTree} {given : DeviceFault} {Told : A → Type 0} (P : B → Type 0) → old.failures ≤ mid.failures → Serves mid new (Err given) Told → Serves old new r P
-  lost-later {old = old} {mid = mid} {new = new} P first serves =
+  pub lost-later : {A : Type 0} {old mid new : FileTree} {given : DeviceFault} {Told : A → Type 0} (P : B → Type 0) → mid.identity ≡ old.identity → old.failures ≤ mid.failures → Serves mid new (Err given) Told → Serves old new r P
+  lost-later {old = old} {mid = mid} {new = new} P same first serves =
       let after = serves.cause.later in
       subst (λ (x : Result B DeviceFault). Serves old new x P) (sym (err_from_is_err_and r exit).1)
-      (record { told = tt; up = tt; down = serves.down; cause = record { later = le_trans first after; failed = λ e. let rises = serves.cause.failed e in omega (arith, rises, first) } })
+      (record { told = tt; up = tt; down = serves.down; same_device = serves.same_device ∙ same; cause = record { later = le_trans first after; failed = λ e. let rises = serves.cause.failed e in omega (arith, rises, first) } })
 
 -- ---- the bytes of a node
 
@@ -119,6 +120,7 @@ none-done {old = old} digest now number serves is mixed_is = record {
   told = record { same = serves.told.0; value = no-node digest now (slot old.files number) is serves.told.1 mixed_is };
   up = serves.up;
   down = tt;
+  same_device = serves.same_device;
   cause = record { later = serves.cause.later; failed = λ e. absurd (cc) };
 }
 
@@ -145,6 +147,7 @@ node-done {old = old} {mid = mid} {new = new} {s = s} {front = front} digest num
       told = told-on old mid new _ _ r look.told.0 value serves.told;
       up = serves.up;
       down = serves.down;
+      same_device = serves.same_device ∙ look.same_device;
       cause = cause-on old mid new r look.cause.later serves.cause;
     }
 

@@ -1,5 +1,6 @@
 -- The digest of a state: a number of 64 bits, into which the numbers that make up the state are mixed one after the other.
--- What no event changes is left out (how many frames and blocks there are), and of devices their minor numbers.
+-- What no event changes is left out (how many frames and blocks there are), and of devices their minor numbers, and of pages
+-- whether a fork had them.
 use Rattle.std.specs.Prelude.{Bool, List, None, Option, Some, [], bit_xor, drop, false, length, slice_get, suc, take, true, zero, ℕ, ℤ, ◌%◌, ◌*◌, ◌++◌, ◌+◌, ◌/◌, ◌^◌, ◌∷◌}
 use Rattle.std.specs.Int.{cast_unsigned, div_ceil, w32}
 use Rattle.std.specs.List.{fold}

@@ -1,10 +1,9 @@
 //! How the files of a disk go into a digest.
 ghost use Rattle.std.specs.Prelude.{◌≡◌, false};
-ghost use Rattle.digests.specs.Digest.{contents_mixed, files_mixed, mixed, node_mixed};
-ghost use Rattle.digests.specs.Reads.{HasMixed, major_told, node_numbers};
+ghost use Rattle.digests.specs.Digest.{files_mixed, mixed, node_mixed};
+ghost use Rattle.digests.specs.Reads.{HasMixed, HasMixedNode, major_told, node_numbers};
 ghost use Rattle.tree.specs.Tree.{Serves};
 ghost use Rattle.unixmodel.specs.Files.{slot};
-ghost use Rattle.unixmodel.specs.Shown.{bytes_or_none};
 
 use crate::mixing::{mix, mix_bytes, mix_numbers};
 use blockdev::{BLOCK_SIZE, BlockDev, DeviceFault};
@@ -49,7 +48,7 @@ fn mix_contents<D: BlockDev>(
     size: u32,
 ) -> Result<u64, DeviceFault>
     requires { tree.old.failed ≡ false }
-    ensures { Serves tree.old tree.new result (HasMixed tree.old tree.new (contents_mixed digest size (bytes_or_none (slot tree.old.files number)))) }
+    ensures { Serves tree.old tree.new result (HasMixedNode tree.old tree.new digest number size) }
 {
     let mut block = [0; BLOCK_SIZE];
     let mut digest = digest;

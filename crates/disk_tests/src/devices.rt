@@ -58,5 +58,8 @@ fn fails_once(rt: HostRuntime) {
     assert!(rt; flaky.write(0, &[1; 1024]).is_ok() && !flaky.has_failed());
     assert!(rt; flaky.read(0).is_err() && flaky.has_failed());
     assert!(rt; flaky.read(0).is_ok());
-    assert!(rt; flaky.into_inner().bytes().starts_with(&[1]));
+    // Each good access is one of the disk's, and the one that fails is none.
+    let disk = flaky.into_inner();
+    assert!(rt; disk.reads() == 1 && disk.writes() == 1);
+    assert!(rt; disk.bytes().starts_with(&[1]));
 }

@@ -7,7 +7,7 @@ use Rattle.ram.specs.Memory.{frame_of}
 use Rattle.frames.specs.declared.Frames.{Frames}
 use Rattle.frames.specs.Free.{among, counted, free_count, free_of, further_at, less_one, extra_of, IsFreeList, SameBut}
 use Rattle.frames.proofs.FreeLemmas.{apart-not, further-is, further-free, further-past, further-count, shared-is, not_free}
-use Rattle.frames.specs.Holders.{one_if, count_of, holders_of, IsShared, Trades}
+use Rattle.frames.specs.Holders.{one_if, count_of, holders_of, Gains, IsShared, Loses, Trades}
 
 pub one_if-le : (b : Bool) → one_if b ≤ 1
 one_if-le true = omega arith
@@ -284,7 +284,7 @@ Trades-take m s n f is after e same = record {
 }
 
 -- a frame that is given back, by its last holder or by another
-pub Trades-give : (m k : List (List ℕ)) (s n : Frames) (f : ℕ) → IsFreeList m s → ((g : ℕ) → holders_of k n g + count_of g (f ∷ []) ≡ holders_of m s g) → SameBut (f ∷ []) m k
+pub Trades-give : (m k : List (List ℕ)) (s n : Frames) (f : ℕ) → IsFreeList m s → Loses m k s n (f ∷ []) → SameBut (f ∷ []) m k
     → (0 < further_at s f → k ≡ m) → 0 < holders_of m s f → Trades m k s n (f ∷ []) []
 Trades-give m k s n f is moved same stays held = record {
   count = same.count;
@@ -300,7 +300,7 @@ Trades-give m k s n f is moved same stays held = record {
 }
 
 pub holders-more : (m : List (List ℕ)) (s t : Frames) (f x : ℕ) → IsFreeList m s → IsFreeList m t → free_of m t ≡ free_of m s → f < length m → 0 < counted s f → t.holders.items ≡ slice_set s.holders.items f x → x ≡ counted s f + 1
-    → (g : ℕ) → holders_of m t g ≡ holders_of m s g + count_of g (f ∷ [])
+    → Gains m m s t (f ∷ [])
 holders-more m s t f x is after e low some items more g =
     elim (further-count s t f x g (omega (arith, low, is.size)) items) [
       | inl here ↦ omega (arith, holders-free m s is g, holders-free m t after g, ap (count_of g) e, here.1, here.2, more, some, count_of-first g f [] here.0)
@@ -308,7 +308,7 @@ holders-more m s t f x is after e low some items more g =
     ]
 
 pub holders-fewer : (m : List (List ℕ)) (s t : Frames) (f x : ℕ) → IsFreeList m s → IsFreeList m t → free_of m t ≡ free_of m s → f < length m → t.holders.items ≡ slice_set s.holders.items f x → x + 1 ≡ counted s f → 0 < x
-    → (g : ℕ) → holders_of m t g + count_of g (f ∷ []) ≡ holders_of m s g
+    → Loses m m s t (f ∷ [])
 holders-fewer m s t f x is after e low items fewer some g =
     elim (further-count s t f x g (omega (arith, low, is.size)) items) [
       | inl here ↦ omega (arith, holders-free m s is g, holders-free m t after g, ap (count_of g) e, here.1, here.2, fewer, some, count_of-first g f [] here.0)
@@ -317,5 +317,5 @@ holders-fewer m s t f x is after e low items fewer some g =
 
 -- a frame comes into the list, from its last holder
 pub holders-list : (m k : List (List ℕ)) (s t : Frames) (f : ℕ) → IsFreeList m s → IsFreeList k t → length k ≡ length m → free_of k t ≡ f ∷ free_of m s → extra_of t ≡ extra_of s
-    → (g : ℕ) → holders_of k t g + count_of g (f ∷ []) ≡ holders_of m s g
+    → Loses m k s t (f ∷ [])
 holders-list m k s t f is after len e same g = omega (arith, holders-table m k s t is after len same g, ap (count_of g) e)

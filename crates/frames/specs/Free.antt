@@ -53,6 +53,14 @@ pub record SameBut (fs : List ℕ) (old new : List (List ℕ)) : Type 0 where
   pub count : length new ≡ length old
   pub others : (g : ℕ) → among g fs ≡ false → frame_of new g ≡ frame_of old g
 
+-- a frame is free now, the next that is taken
+abbrev pub Frees : List (List ℕ) → List (List ℕ) → Frames → Frames → ℕ → Type 0
+Frees m k s n f = (free_of k n ≡ f ∷ free_of m s) × (extra_of n ≡ extra_of s)
+
+-- no frame came free, and the memory is as it was
+abbrev pub FreesNone : List (List ℕ) → List (List ℕ) → Frames → Frames → Type 0
+FreesNone m k s n = (free_of k n ≡ free_of m s) × (k ≡ m)
+
 -- the same list of free frames and the same counts, whatever room the counts have
 pub record IsDuplicate (old new : Frames) : Type 0 where
   pub first : new.first ≡ old.first

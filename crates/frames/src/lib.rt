@@ -4,8 +4,8 @@
 ghost use Rattle.std.specs.Prelude.{◌≡◌, ℕ, ◌+◌, ◌<◌, ◌≤◌, List, [], ◌∷◌, length, false, replicate, None, IfSome, IfNone, IfOk, ◌↔◌};
 ghost use Rattle.std.specs.Bool.{OnTrue, OnFalse};
 ghost use Rattle.std.specs.List.{range_with_len};
-ghost use Rattle.frames.specs.Free.{among, free_of, free_count, extra_of, further_at, IsDuplicate, IsFreeList, SameBut};
-ghost use Rattle.frames.specs.Holders.{count_of, holders_of, IsShared};
+ghost use Rattle.frames.specs.Free.{among, free_of, free_count, extra_of, further_at, Frees, FreesNone, IsDuplicate, IsFreeList, SameBut};
+ghost use Rattle.frames.specs.Holders.{Gains, IsShared, Loses, Moves, holders_of};
 
 use ram::{FrameNo, NoMemory, Ram};
 use std::alloc::{AllocError, Global};
@@ -143,7 +143,7 @@ impl Frames {
     pub fn share(&mut self, ram: &Ram, frame: FrameNo) -> bool
         requires valid { IsFreeList ram.now self.old }
         requires held { 0 < holders_of ram.now self.old frame.0 }
-        ensures done { OnTrue result ((f : ℕ) → holders_of ram.now self.new f ≡ holders_of ram.now self.old f + count_of f (frame.0 ∷ [])) }
+        ensures done { OnTrue result (Gains ram.now ram.now self.old self.new (frame.0 ∷ [])) }
         ensures fewer { OnTrue result (free_count ram.now self.old ≡ free_count ram.now self.new + 1) }
         ensures refused { OnFalse result ((free_count ram.now self.old ≡ 0) × (self.new ≡ self.old)) }
         ensures list { free_of ram.now self.new ≡ free_of ram.now self.old }
@@ -162,7 +162,7 @@ impl Frames {
     fn unshare(&mut self, ram: &Ram, frame: FrameNo)
         requires valid { IsFreeList ram.now self.old }
         requires shared { 0 < further_at self.old frame.0 }
-        ensures holders { (f : ℕ) → holders_of ram.now self.new f + count_of f (frame.0 ∷ []) ≡ holders_of ram.now self.old f }
+        ensures holders { Loses ram.now ram.now self.old self.new (frame.0 ∷ []) }
         ensures more { free_count ram.now self.new ≡ free_count ram.now self.old + 1 }
         ensures list { free_of ram.now self.new ≡ free_of ram.now self.old }
         ensures valid { IsFreeList ram.now self.new }
@@ -195,10 +195,10 @@ impl Frames {
         requires valid { IsFreeList ram.old self.old }
         requires inside { frame.0 < length ram.old }
         requires held { among frame.0 (free_of ram.old self.old) ≡ false }
-        ensures holders { (f : ℕ) → holders_of ram.new self.new f + count_of f (frame.0 ∷ []) ≡ holders_of ram.old self.old f }
+        ensures holders { Loses ram.old ram.new self.old self.new (frame.0 ∷ []) }
         ensures more { free_count ram.new self.new ≡ free_count ram.old self.old + 1 }
-        ensures last { further_at self.old frame.0 ≡ 0 → (free_of ram.new self.new ≡ frame.0 ∷ free_of ram.old self.old) × (extra_of self.new ≡ extra_of self.old) }
-        ensures stays { 0 < further_at self.old frame.0 → (free_of ram.new self.new ≡ free_of ram.old self.old) × (ram.new ≡ ram.old) }
+        ensures last { further_at self.old frame.0 ≡ 0 → Frees ram.old ram.new self.old self.new frame.0 }
+        ensures stays { 0 < further_at self.old frame.0 → FreesNone ram.old ram.new self.old self.new }
         ensures valid { IsFreeList ram.new self.new }
         ensures others { SameBut (frame.0 ∷ []) ram.old ram.new }
     {
@@ -214,7 +214,7 @@ impl Frames {
     pub fn split(&mut self, ram: &Ram, frame: FrameNo) -> FrameNo
         requires valid { IsFreeList ram.now self.old }
         requires shared { 2 ≤ holders_of ram.now self.old frame.0 }
-        ensures holders { (f : ℕ) → holders_of ram.now self.new f + count_of f (frame.0 ∷ []) ≡ holders_of ram.now self.old f + count_of f (result.0 ∷ []) }
+        ensures holders { Moves ram.now ram.now self.old self.new (frame.0 ∷ []) (result.0 ∷ []) }
         ensures taken { free_of ram.now self.old ≡ result.0 ∷ free_of ram.now self.new }
         ensures same { free_count ram.now self.new ≡ free_count ram.now self.old }
         ensures valid { IsFreeList ram.now self.new }

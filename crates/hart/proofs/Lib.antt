@@ -6,3 +6,6 @@ pub mod ChangeLemmas
 pub mod CycleLemmas
 pub mod FollowsLemmas
 pub mod Retries
+pub mod Acts
+pub mod Running
+pub mod Straight

@@ -18,7 +18,7 @@ use Rattle.unixmodel.specs.Translation.{Held, IsAnswer, IsKept, place_in, walk_p
 use Rattle.unixmodel.specs.Words.{instruction_of}
 use Rattle.sv39.specs.Mapping.{Mapped, Shows, allowed, frame_for, memory_of, page_in}
 use Rattle.hart.proofs.Retries.{Alike, load-same, store-same}
-use Rattle.hart.specs.Answered.{Answers, AreAllowed, HasEffect, IsStep, Sight, act_by, cycle_by, fetched_by, given, load_by, put_at, seen, store_by, stored, word_by}
+use Rattle.hart.specs.Answered.{Answers, AreAllowed, HasEffect, IsStep, Sight, act_by, cycle_by, fetched_by, given, put_at, seen, stored, word_by, load_on, store_on}
 use Rattle.hart.proofs.ChangeLemmas.{stored-entry}
 use Rattle.hart.specs.Changes.{Stores, changed, put_in}
 use Rattle.hart.proofs.CycleLemmas.{cycle-stores}
@@ -57,7 +57,7 @@ answered-kept old new ram root va access answer kept (inr held) =
 -- ---- answers
 
 -- those of the walk
-abbrev walked : List (List ℕ) → ℕ → Answers
+abbrev pub walked : List (List ℕ) → ℕ → Answers
 walked ram root access address = (walk_page ram root (address / 4096) access).frame
 
 abbrev same : Access → Access → Bool
@@ -78,10 +78,10 @@ same-self Load = refl
 same-self Store = refl
 
 -- with another answer to one access
-abbrev with_answer : Access → ℕ → Option ℕ → Answers → Answers
+abbrev pub with_answer : Access → ℕ → Option ℕ → Answers → Answers
 with_answer access address o answers a b = if same access a && (address == b) then o else answers a b
 
-with_answer-itself : (access : Access) (address : ℕ) (o : Option ℕ) (answers : Answers) → with_answer access address o answers access address ≡ o
+pub with_answer-itself : (access : Access) (address : ℕ) (o : Option ℕ) (answers : Answers) → with_answer access address o answers access address ≡ o
 with_answer-itself access address o answers = rw (same-self access, eq-eqb address address refl) refl
 
 chosen : (held : Held) (ram : List (List ℕ)) (root va : ℕ) (access : Access) (t : Bool) (o p : Option ℕ)
@@ -90,7 +90,7 @@ chosen : (held : Held) (ram : List (List ℕ)) (root va : ℕ) (access : Access)
 chosen held ram root va access true o p f g = f refl
 chosen held ram root va access false o p f g = g
 
-with_answer-allowed : (held : Held) (ram : List (List ℕ)) (root : ℕ) (access : Access) (address : ℕ) (o : Option ℕ) (answers : Answers) → AreAllowed held ram root answers
+pub with_answer-allowed : (held : Held) (ram : List (List ℕ)) (root : ℕ) (access : Access) (address : ℕ) (o : Option ℕ) (answers : Answers) → AreAllowed held ram root answers
     → IsAnswer held ram root address access (option_map (place_in address) o) → AreAllowed held ram root (with_answer access address o answers)
 with_answer-allowed held ram root access address o answers allowed is a b =
     chosen held ram root b a (same access a && (address == b)) o (answers a b)
@@ -155,36 +155,36 @@ trap-still (Err t) answers result old new ram ram' h = rw h.0 (h.1, h.2)
 -- ---- loads and stores
 
 pub load-misaligned : (held : Held) (ram : List (List ℕ)) (old new : Hart) (result : Option Trap) (op : LoadOp) (rd address : ℕ) → (address % load_size op == 0) ≡ false
-    → Computes (trap LoadMisaligned address) result old new → IsStep held (load_by old.registers old.pc op rd address) result old new ram ram
+    → Computes (trap LoadMisaligned address) result old new → IsStep held (load_on old op rd address) result old new ram ram
 load-misaligned held ram old new result op rd address odd h =
-    step_unanswered held (load_by old.registers old.pc op rd address) result old new ram (λ answers. rw odd (does_computes (trap LoadMisaligned address) answers result old new ram h))
+    step_unanswered held (load_on old op rd address) result old new ram (λ answers. rw odd (does_computes (trap LoadMisaligned address) answers result old new ram h))
 
 pub load-answered : (held : Held) (ram : List (List ℕ)) (old new : Hart) (result : Option Trap) (op : LoadOp) (rd address : ℕ) (o : Option ℕ) → (address % load_size op == 0) ≡ true
     → IsAnswer held ram old.root.0 address Load (option_map (place_in address) o)
-    → Computes (load_from old.registers old.pc op rd address (option_map (given ram) o)) result old new → IsStep held (load_by old.registers old.pc op rd address) result old new ram ram
+    → Computes (load_from old.registers old.pc op rd address (option_map (given ram) o)) result old new → IsStep held (load_on old op rd address) result old new ram ram
 load-answered held ram old new result op rd address o aligned is h =
-    step_answered held (load_by old.registers old.pc op rd address) result old new ram ram Load address o is (λ answers same.
+    step_answered held (load_on old op rd address) result old new ram ram Load address o is (λ answers same.
     rw (aligned, same) (does_computes (load_from old.registers old.pc op rd address (option_map (given ram) o)) answers result old new ram h))
 
 pub store-misaligned : (held : Held) (ram : List (List ℕ)) (old new : Hart) (result : Option Trap) (op : StoreOp) (address value : ℕ) → (address % store_size op == 0) ≡ false
-    → Computes (trap StoreMisaligned address) result old new → IsStep held (store_by old.registers old.pc op address value) result old new ram ram
+    → Computes (trap StoreMisaligned address) result old new → IsStep held (store_on old op address value) result old new ram ram
 store-misaligned held ram old new result op address value odd h =
-    step_unanswered held (store_by old.registers old.pc op address value) result old new ram (λ answers. rw odd (does_computes (trap StoreMisaligned address) answers result old new ram h))
+    step_unanswered held (store_on old op address value) result old new ram (λ answers. rw odd (does_computes (trap StoreMisaligned address) answers result old new ram h))
 
 pub store-fault : (held : Held) (ram : List (List ℕ)) (old new : Hart) (result : Option Trap) (op : StoreOp) (address value : ℕ) → (address % store_size op == 0) ≡ true
     → IsAnswer held ram old.root.0 address Store None
-    → Computes (trap StorePageFault address) result old new → IsStep held (store_by old.registers old.pc op address value) result old new ram ram
+    → Computes (trap StorePageFault address) result old new → IsStep held (store_on old op address value) result old new ram ram
 store-fault held ram old new result op address value aligned is h =
-    step_answered held (store_by old.registers old.pc op address value) result old new ram ram Store address None is (λ answers same.
+    step_answered held (store_on old op address value) result old new ram ram Store address None is (λ answers same.
     rw (aligned, same) (does_computes (trap StorePageFault address) answers result old new ram h))
 
 pub store-done : (held : Held) (ram ram' : List (List ℕ)) (old new : Hart) (result : Option Trap) (op : StoreOp) (address value f : ℕ) → (address % store_size op == 0) ≡ true
     → IsAnswer held ram old.root.0 address Store (Some (place_in address f))
     → result ≡ None → new.registers ≡ old.registers → new.pc ≡ plus old.pc 4 → new.root ≡ old.root
     → ram' ≡ slice_set ram f (overwrite (slice_index_or ram f []) (address % 4096) (le (store_size op) value))
-    → IsStep held (store_by old.registers old.pc op address value) result old new ram ram'
+    → IsStep held (store_on old op address value) result old new ram ram'
 store-done held ram ram' old new result op address value f aligned is none registers pc root memory =
-    step_answered held (store_by old.registers old.pc op address value) result old new ram ram' Store address (Some f) is (λ answers same.
+    step_answered held (store_on old op address value) result old new ram ram' Store address (Some f) is (λ answers same.
     rw (aligned, same) (none, registers, pc, root, rw same memory))
 
 -- ---- the instruction at the pc
@@ -247,7 +247,7 @@ step-executed held mid ram ram' old new result f word i is kept read found step 
 
 -- ---- where all allowed answers are a mapping's
 
-place-frame : (va : ℕ) (o p : Option ℕ) → option_map (place_in va) o ≡ option_map (place_in va) p → o ≡ p
+pub place-frame : (va : ℕ) (o p : Option ℕ) → option_map (place_in va) o ≡ option_map (place_in va) p → o ≡ p
 place-frame va None None h = refl
 place-frame va None (Some g) h = absurd (cc)
 place-frame va (Some f) None h = absurd (cc)
@@ -256,7 +256,7 @@ place-frame va (Some f) (Some g) h =
     let same : f ≡ g = omega (arith, is) in
     ap Some same
 
-shown-answer : (held : Held) (ram : List (List ℕ)) (root : ℕ) (mapping : List Mapped) (answers : Answers) → Shows held ram root mapping → AreAllowed held ram root answers
+pub shown-answer : (held : Held) (ram : List (List ℕ)) (root : ℕ) (mapping : List Mapped) (answers : Answers) → Shows held ram root mapping → AreAllowed held ram root answers
     → (access : Access) (address : ℕ) → answers access address ≡ frame_for mapping (address / 4096) access
 shown-answer held ram root mapping answers shows allowed access address =
     place-frame address (answers access address) (frame_for mapping (address / 4096) access) (shows address access _ (allowed access address))
@@ -265,7 +265,7 @@ given-alike : (ram : List (List ℕ)) (o : Option Mapped) → Alike (option_map 
 given-alike ram None = refl
 given-alike ram (Some e) = refl
 
-seen-alike : (held : Held) (ram : List (List ℕ)) (root : ℕ) (mapping : List Mapped) (answers : Answers) → Shows held ram root mapping → AreAllowed held ram root answers
+pub seen-alike : (held : Held) (ram : List (List ℕ)) (root : ℕ) (mapping : List Mapped) (answers : Answers) → Shows held ram root mapping → AreAllowed held ram root answers
     → (access : Access) (address : ℕ) → Alike (seen ram answers access address) (page_for access (memory_of ram mapping) address)
 seen-alike held ram root mapping answers shows allowed_all access address =
     let o : Option Mapped = allowed access (slice_get mapping (address / 4096)) in
@@ -286,7 +286,7 @@ act_by-alike (instr.Store op rs1 rs2 imm) regs pc see mem h =
     (store-same regs pc address (le (store_size op) (slice_index regs rs2)) (see Store address) (page_for Store mem address) (h Store address))
 act_by-alike _ regs pc see mem h = refl
 
-word_by-alike : (found : Option Instr) (regs : List ℕ) (pc : ℕ) (see : Sight) (mem : Memory) → ((access : Access) (address : ℕ) → Alike (see access address) (page_for access mem address))
+pub word_by-alike : (found : Option Instr) (regs : List ℕ) (pc : ℕ) (see : Sight) (mem : Memory) → ((access : Access) (address : ℕ) → Alike (see access address) (page_for access mem address))
     → word_by found regs pc see ≡ act_word found regs pc mem
 word_by-alike None regs pc see mem h = refl
 word_by-alike (Some i) regs pc see mem h = act_by-alike i regs pc see mem h
@@ -307,7 +307,7 @@ unfolding cycle_by cycle
 cycle_by-alike regs pc see mem h = fetched_by-alike (see Fetch pc) (page_for Fetch mem pc) regs pc see mem (h Fetch pc) h
 
 -- the frame that a store was given is that of the mapping
-stored-changed : (ram : List (List ℕ)) (mapping : List Mapped) (answers : Answers) (change : Change) → ((access : Access) (address : ℕ) → answers access address ≡ frame_for mapping (address / 4096) access)
+pub stored-changed : (ram : List (List ℕ)) (mapping : List Mapped) (answers : Answers) (change : Change) → ((access : Access) (address : ℕ) → answers access address ≡ frame_for mapping (address / 4096) access)
     → Stores (memory_of ram mapping) change → stored ram answers change ≡ changed ram mapping change
 stored-changed ram mapping answers Nothing shown stores = refl
 stored-changed ram mapping answers (Bytes address bytes) shown stores =

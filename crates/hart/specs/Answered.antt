@@ -48,6 +48,13 @@ abbrev pub store_by : List ℕ → ℕ → StoreOp → ℕ → ℕ → Sight →
 store_by regs pc op address value see =
     if address % store_size op == 0 then store_to regs pc address (le (store_size op) value) (see Store address) else trap StoreMisaligned address
 
+-- the same on the registers and the pc of a hart
+abbrev pub load_on : Hart → LoadOp → ℕ → ℕ → Sight → Effect
+load_on hart op rd address = load_by hart.registers hart.pc op rd address
+
+abbrev pub store_on : Hart → StoreOp → ℕ → ℕ → Sight → Effect
+store_on hart op address value = store_by hart.registers hart.pc op address value
+
 -- all but loads and stores access no memory
 unfoldable pub act_by : Instr → List ℕ → ℕ → Sight → Effect
 act_by (instr.Load op rd rs1 imm) regs pc see = load_by regs pc op rd (plus (slice_index regs rs1) (extend 12 imm)) see
@@ -89,3 +96,8 @@ pub record IsStep (held : Held) (meaning : Sight → Effect) (result : Option Tr
   pub answers : Answers
   pub allowed : AreAllowed held ram old.root.0 answers
   pub does : HasEffect (meaning (seen ram answers)) answers result old new ram ram'
+
+-- the word at the pc, in a frame that the law of translators allows
+abbrev pub IsFetched : Held → List (List ℕ) → Hart → ℕ → Type 0
+IsFetched held ram hart word =
+    (f : ℕ) × IsAnswer held ram hart.root.0 hart.pc Fetch (Some (place_in hart.pc f)) × (word ≡ number (bytes_at 4 hart.pc (given ram f)))

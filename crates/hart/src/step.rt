@@ -3,14 +3,12 @@
 //! From the RISC-V unprivileged manual, its chapters on RV32I, RV64I and the extension M. An instruction that raises a trap changes
 //! nothing; the address that is told with it is the target of a jump, the accessed address of a load or store, and
 //! else the pc.
-ghost use Rattle.std.specs.Prelude.{◌≡◌, ◌%◌, ◌/◌, ◌<◌, ◌+◌, ◌*◌, ◌^◌, ◌==◌, ◌≤◌, Option, Some, None, ℕ, List, length, slice_index, IfSome, IfNone};
-ghost use Rattle.unixmodel.specs.Numbers.{number};
-ghost use Rattle.unixmodel.specs.Memory.{bytes_at};
+ghost use Rattle.std.specs.Prelude.{◌≡◌, ◌%◌, ◌/◌, ◌<◌, ◌+◌, ◌*◌, ◌^◌, ◌==◌, ◌≤◌, Option, Some, None, List, length, slice_index, IfSome, IfNone};
 ghost use Rattle.unixmodel.specs.Meaning.{branch, jump, set_register, write};
 ghost use Rattle.unixmodel.specs.Cycle.{cycle};
-ghost use Rattle.unixmodel.specs.Translation.{HoldsInside, IsAnswer, IsKept, place_in};
+ghost use Rattle.unixmodel.specs.Translation.{HoldsInside, IsAnswer, IsKept};
 ghost use Rattle.sv39.specs.Mapping.{Mapped, Shows, memory_of};
-ghost use Rattle.hart.specs.Answered.{IsStep, act_by, cycle_by, given, load_by, store_by};
+ghost use Rattle.hart.specs.Answered.{IsFetched, IsStep, act_by, cycle_by, load_on, store_on};
 ghost use Rattle.hart.specs.Follows.{Computes, Follows};
 
 use crate::access::{is_aligned, load_size, load_value, locate, place, store_size, store_value};
@@ -108,7 +106,7 @@ impl Hart {
         trans: &mut T,
     ) -> Option<Trap>
         requires { HoldsInside (T.held trans.old) ram.now }
-        ensures step { IsStep (T.held trans.old) (load_by self.old.registers self.old.pc op rd address) result self.old self.new ram.now ram.now }
+        ensures step { IsStep (T.held trans.old) (load_on self.old op rd address) result self.old self.new ram.now ram.now }
         ensures kept { IsKept (T.held trans.old) (T.held trans.new) ram.now self.old.root.0 }
     {
         if !is_aligned(address, load_size(op)) {
@@ -131,7 +129,7 @@ impl Hart {
         trans: &mut T,
     ) -> Option<Trap>
         requires { HoldsInside (T.held trans.old) ram.old }
-        ensures step { IsStep (T.held trans.old) (store_by self.old.registers self.old.pc op address value) result self.old self.new ram.old ram.new }
+        ensures step { IsStep (T.held trans.old) (store_on self.old op address value) result self.old self.new ram.old ram.new }
         ensures kept { IsKept (T.held trans.old) (T.held trans.new) ram.old self.old.root.0 }
         ensures count { length ram.new ≡ length ram.old }
     {
@@ -153,8 +151,7 @@ impl Hart {
     fn fetch<T: Translate>(&self, ram: &Ram, trans: &mut T) -> Option<u32>
         requires { HoldsInside (T.held trans.old) ram.now }
         ensures fault { IfNone result (IsAnswer (T.held trans.old) ram.now self.now.root.0 self.now.pc Access.Fetch None) }
-        ensures word { IfSome result (λ word. (f : ℕ) × IsAnswer (T.held trans.old) ram.now self.now.root.0 self.now.pc Access.Fetch (Some (place_in self.now.pc f))
-            × (word ≡ number (bytes_at 4 self.now.pc (given ram.now f)))) }
+        ensures word { IfSome result (IsFetched (T.held trans.old) ram.now self.now) }
         ensures kept { IsKept (T.held trans.old) (T.held trans.new) ram.now self.now.root.0 }
     {
         let f = locate(trans, ram, self.root, self.pc, Access::Fetch)?;

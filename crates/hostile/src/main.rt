@@ -6,6 +6,7 @@
 //! |---|---|
 //! | `programs FROM TO` | the programs of random words of these seeds |
 //! | `arguments` | programs that give odd arguments, or change themselves |
+//! | `code` | programs that write their own code, by many steps at once and by one at a time |
 //! | `files` | program files with odd headers, for exec and as `/init` |
 //! | `images` | images of which parts name themselves |
 //! | `pieces` | each piece from the beginning of an image on |
@@ -15,6 +16,7 @@
 #![tactic(auto)]
 
 mod arguments;
+mod code;
 mod images;
 mod program_files;
 mod random;
@@ -32,6 +34,7 @@ use std::io::{BufWriter, Write};
 enum Cases {
     Programs { from: u64, to: u64 },
     Arguments,
+    Code,
     Files,
     Images,
     Pieces,
@@ -43,6 +46,7 @@ impl Cases {
     fn read(line: &str) -> Option<Cases> {
         match line {
             "arguments" => return Some(Cases::Arguments),
+            "code" => return Some(Cases::Code),
             "files" => return Some(Cases::Files),
             "images" => return Some(Cases::Images),
             "pieces" => return Some(Cases::Pieces),
@@ -64,6 +68,7 @@ impl Cases {
         match self {
             Cases::Programs { from, to } => random::wrong(alloc, *from, *to),
             Cases::Arguments => arguments::wrong(alloc),
+            Cases::Code => code::wrong(alloc),
             Cases::Files => program_files::wrong(alloc),
             Cases::Images => images::wrong(alloc),
             Cases::Pieces => turned::wrong_piece(alloc),

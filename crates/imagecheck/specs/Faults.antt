@@ -1,10 +1,14 @@
 -- Which fault an image has: the first in the order of the rules whose rule it breaks.
 -- The order: length, magic, numbers, types, sizes, addresses, shared blocks, bitmap, entries, links, reach.
-use Rattle.std.specs.Prelude.{List, ℕ, ⊤}
+use Rattle.std.specs.Bool.{OnTrue}
+use Rattle.std.specs.Prelude.{Bool, List, ℕ, ⊤, ◌++◌}
 use Rattle.layout.specs.declared.Geometry.{Geometry}
 use Rattle.unixmodel.specs.Formats.{Format}
-use Rattle.unixmodel.specs.Image.{HasSuper}
+use Rattle.unixmodel.specs.Files.{Files}
+use Rattle.unixmodel.specs.Image.{DenotesIn, HasSuper}
+use Rattle.imagerules.specs.Content.{IsFront, image_of}
 use Rattle.imagerules.specs.Fields.{HasGeometry}
+use Rattle.imagerules.specs.Marks.{HasMarks}
 use Rattle.imagerules.specs.Rules.{HasBlocks, HasInodes}
 use Rattle.imagerules.specs.Pieces.{HasAddresses, HasBitmap, HasKinds, HasLength, HasMagic, HasSizes, NamesOnce}
 use Rattle.imagerules.specs.Places.{HasEntries, HasLinks, IsReached, files_in}
@@ -50,3 +54,19 @@ abbrev pub IsOutside : ImageFault → Type 0
 IsOutside Device = ⊤
 IsOutside NoMemory = ⊤
 IsOutside fault = ⊥
+
+-- a fault of the image: it denotes no files
+abbrev pub Denies : (Files → Type 0) → ImageFault → Type 0
+Denies denotes fault = IsOfImage fault → (files : Files) → denotes files → ⊥
+
+-- it holds of each image of so many blocks with this front
+abbrev pub OfFront : ℕ → List ℕ → (List ℕ → Type 0) → Type 0
+OfFront count front P = (blocks : List (List ℕ)) → IsFront blocks count front → P (image_of blocks)
+
+-- the image denotes the files that it has
+abbrev pub DenotesOwn : Format → List ℕ → Type 0
+DenotesOwn f image = DenotesIn f image (files_in image)
+
+-- beside the blocks before, these have marks now, if that is told
+abbrev pub MarksMore : List Bool → List Bool → List ℕ → Bool → Type 0
+MarksMore old new blocks told = (before : List ℕ) → HasMarks before old → OnTrue told (HasMarks (before ++ blocks) new)

@@ -1,10 +1,9 @@
 //! Reading an image from its device.
 
-ghost use Rattle.std.specs.Prelude.{◌≡◌, ◌≤◌, ℕ, List, length, IfOk, IfErr, IsErrOf};
-ghost use Rattle.blockdev.specs.Reached.{LeadsOn};
+ghost use Rattle.std.specs.Prelude.{◌≡◌, ◌≤◌, length, IfOk, IfErr, IsErrOf};
 ghost use Rattle.unixmodel.specs.Failures.{Rises};
-ghost use Rattle.imagerules.specs.Content.{IsFront, image_of};
-ghost use Rattle.imagecheck.specs.Faults.{Begins, IsOfImage, IsOutside, Tells};
+ghost use Rattle.imagerules.specs.Content.{image_of};
+ghost use Rattle.imagecheck.specs.Faults.{Begins, IsOfImage, IsOutside, OfFront, Tells};
 ghost use Rattle.layout.specs.Formats.{format_named};
 
 use crate::ImageFault;
@@ -15,8 +14,8 @@ use std::alloc::Allocator;
 // The geometry that the super block tells of a device of so many blocks, if its numbers and the length are right in the format.
 pub fn geometry_in(format: Format, block: &Block, count: usize) -> Result<Geometry, ImageFault>
     requires { 2 ≤ count }
-    ensures geometry { IfOk result (λ g. (blocks : List (List ℕ)) → IsFront blocks count block.now → Begins (format_named format) (image_of blocks) g) }
-    ensures fault { IfErr result (λ fault. (blocks : List (List ℕ)) → IsFront blocks count block.now → Tells (format_named format) (image_of blocks) fault) }
+    ensures geometry { IfOk result (λ g. OfFront count block.now (λ image. Begins (format_named format) image g)) }
+    ensures fault { IfErr result (λ fault. OfFront count block.now (λ image. Tells (format_named format) image fault)) }
     ensures own { IfErr result IsOfImage }
 {
     let numbers = SuperBlock::from_front(block);
@@ -40,7 +39,7 @@ pub fn read_geometry<D: BlockDev>(format: Format, device: &mut D) -> Result<Geom
     ensures fault { IfErr result (λ fault. Tells (format_named format) (image_of (D.content device.old)) fault) }
     ensures memory { IsErrOf result ImageFault.NoMemory → ⊥ }
     ensures same { D.content device.new ≡ D.content device.old }
-    ensures leads { LeadsOn D.reached device.old device.new }
+    ensures identity { D.identity device.new ≡ D.identity device.old }
     ensures later { D.failures device.old ≤ D.failures device.new }
     ensures failed { IsErrOf result ImageFault.Device → Rises (D.failures device.old) (D.failures device.new) }
 {
@@ -63,7 +62,7 @@ pub fn read_blocks<A: Allocator, D: BlockDev>(
     ensures bytes { IfOk result (λ image. image.items ≡ image_of (D.content device.old)) }
     ensures only { IfErr result IsOutside }
     ensures same { D.content device.new ≡ D.content device.old }
-    ensures leads { LeadsOn D.reached device.old device.new }
+    ensures identity { D.identity device.new ≡ D.identity device.old }
     ensures later { D.failures device.old ≤ D.failures device.new }
     ensures failed { IsErrOf result ImageFault.Device → Rises (D.failures device.old) (D.failures device.new) }
 {

@@ -7,6 +7,7 @@ ghost use Rattle.unixmodel.specs.Image.{bitmap_start, named_blocks, named_by, si
 ghost use Rattle.imagerules.specs.Fields.{HasGeometry, HasInode, SuperRules};
 ghost use Rattle.imagerules.specs.Marks.{HasMarks, IsOnce, blocks_of};
 ghost use Rattle.imagerules.specs.Pieces.{FitsAddresses, HasSizes, HasAddresses, NamesOnce, HasBitmap};
+ghost use Rattle.imagecheck.specs.Faults.{MarksMore};
 
 use crate::blocks::{block_count, format_of, number};
 use crate::fields::kind;
@@ -30,7 +31,7 @@ fn mark_all(image: &[u8], n: usize, marks: &mut [bool]) -> bool
     requires addresses { FitsAddresses image.now n }
     requires rules { SuperRules image.now }
     requires long { length marks.old ≡ size_in image.now }
-    ensures good { (before : List ℕ) → HasMarks before marks.old → OnTrue result (HasMarks (before ++ named_by image.now n) marks.new) }
+    ensures good { MarksMore marks.old marks.new (named_by image.now n) result }
     ensures bad { (before : List ℕ) → HasMarks before marks.old → OnFalse result (IsOnce (before ++ named_by image.now n) → ⊥) }
 {
     let format = format_of(image);
@@ -51,7 +52,7 @@ fn mark_inode(image: &[u8], geometry: Geometry, n: usize, marks: &mut [bool]) ->
     requires low { 1 ≤ n }
     requires high { n < geometry.inodes }
     requires long { length marks.old ≡ geometry.size }
-    ensures good { (before : List ℕ) → HasMarks before marks.old → OnTrue result (HasMarks (before ++ blocks_of image.now n) marks.new) }
+    ensures good { MarksMore marks.old marks.new (blocks_of image.now n) result }
     ensures bad { (before : List ℕ) → HasMarks before marks.old → OnFalse result (IsOnce (before ++ blocks_of image.now n) → ⊥) }
 {
     if kind(image, n) == 0 {

@@ -1,14 +1,12 @@
 //! The rules of an image, one after the other.
 
 ghost use Rattle.std.specs.Prelude.{◌≡◌, ◌≤◌, [], length, IfOk, IfErr, IsErrOf, OnOk};
-ghost use Rattle.blockdev.specs.Reached.{LeadsOn};
 ghost use Rattle.unixmodel.specs.Failures.{Rises};
-ghost use Rattle.unixmodel.specs.Files.{Files};
 ghost use Rattle.unixmodel.specs.Formats.{format, small};
 ghost use Rattle.unixmodel.specs.Image.{Denotes, DenotesIn, DenotesSmall, named_blocks, numbers_in_use};
 ghost use Rattle.layout.specs.Formats.{format_named};
 ghost use Rattle.imagerules.specs.Content.{image_of};
-ghost use Rattle.imagecheck.specs.Faults.{Finds, IsOfImage, Tells};
+ghost use Rattle.imagecheck.specs.Faults.{Denies, DenotesOwn, Finds, IsOfImage, Tells};
 ghost use Rattle.imagerules.specs.Rules.{BlockRules, HasInodes};
 ghost use Rattle.imagerules.specs.Fields.{HasGeometry};
 ghost use Rattle.imagerules.specs.Marks.{HasMarks};
@@ -111,13 +109,13 @@ fn check_in<A: Allocator, D: BlockDev>(
     device: &mut D,
     format: Format,
 ) -> Result<Summary, ImageFault>
-    ensures denotes { OnOk result (DenotesIn (format_named format) (image_of (D.content device.old)) (files_in (image_of (D.content device.old)))) }
+    ensures denotes { OnOk result (DenotesOwn (format_named format) (image_of (D.content device.old))) }
     ensures inodes { IfOk result (λ summary. summary.inodes ≡ length (numbers_in_use (image_of (D.content device.old)))) }
     ensures blocks { IfOk result (λ summary. summary.blocks ≡ length (named_blocks (image_of (D.content device.old)))) }
     ensures fault { IfErr result (λ fault. Tells (format_named format) (image_of (D.content device.old)) fault) }
-    ensures refused { IfErr result (λ fault. IsOfImage fault → (files : Files) → DenotesIn (format_named format) (image_of (D.content device.old)) files → ⊥) }
+    ensures refused { IfErr result (Denies (DenotesIn (format_named format) (image_of (D.content device.old)))) }
     ensures same { D.content device.new ≡ D.content device.old }
-    ensures leads { LeadsOn D.reached device.old device.new }
+    ensures identity { D.identity device.new ≡ D.identity device.old }
     ensures later { D.failures device.old ≤ D.failures device.new }
     ensures failed { IsErrOf result ImageFault.Device → Rises (D.failures device.old) (D.failures device.new) }
 {
@@ -136,9 +134,9 @@ pub fn check<A: Allocator, D: BlockDev>(alloc: A, device: &mut D) -> Result<Summ
     ensures inodes { IfOk result (λ summary. summary.inodes ≡ length (numbers_in_use (image_of (D.content device.old)))) }
     ensures blocks { IfOk result (λ summary. summary.blocks ≡ length (named_blocks (image_of (D.content device.old)))) }
     ensures fault { IfErr result (λ fault. Tells format (image_of (D.content device.old)) fault) }
-    ensures refused { IfErr result (λ fault. IsOfImage fault → (files : Files) → Denotes (image_of (D.content device.old)) files → ⊥) }
+    ensures refused { IfErr result (Denies (Denotes (image_of (D.content device.old)))) }
     ensures same { D.content device.new ≡ D.content device.old }
-    ensures leads { LeadsOn D.reached device.old device.new }
+    ensures identity { D.identity device.new ≡ D.identity device.old }
     ensures later { D.failures device.old ≤ D.failures device.new }
     ensures failed { IsErrOf result ImageFault.Device → Rises (D.failures device.old) (D.failures device.new) }
 {
@@ -152,9 +150,9 @@ pub fn check1<A: Allocator, D: BlockDev>(alloc: A, device: &mut D) -> Result<Sum
     ensures inodes { IfOk result (λ summary. summary.inodes ≡ length (numbers_in_use (image_of (D.content device.old)))) }
     ensures blocks { IfOk result (λ summary. summary.blocks ≡ length (named_blocks (image_of (D.content device.old)))) }
     ensures fault { IfErr result (λ fault. Tells small (image_of (D.content device.old)) fault) }
-    ensures refused { IfErr result (λ fault. IsOfImage fault → (files : Files) → DenotesSmall (image_of (D.content device.old)) files → ⊥) }
+    ensures refused { IfErr result (Denies (DenotesSmall (image_of (D.content device.old)))) }
     ensures same { D.content device.new ≡ D.content device.old }
-    ensures leads { LeadsOn D.reached device.old device.new }
+    ensures identity { D.identity device.new ≡ D.identity device.old }
     ensures later { D.failures device.old ≤ D.failures device.new }
     ensures failed { IsErrOf result ImageFault.Device → Rises (D.failures device.old) (D.failures device.new) }
 {

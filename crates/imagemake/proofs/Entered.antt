@@ -1,13 +1,13 @@
 -- An entry is put among the files.
 use Rattle.std.proofs.Common.{◌≡◌, ℕ, ◌+◌, ◌<◌, ◌≤◌, Bool, List, [], ◌∷◌, ◌++◌, Option, Some, Ok, Err, Result, length, ap, sym, refl, ◌∙◌, arith, subst}
 use Rattle.std.proofs.lemmas.List.{length_push}
-use Rattle.tree.specs.Tree.{FileTree}
+use Rattle.tree.specs.Tree.{FileTree, HasFiles}
 use Rattle.tree.specs.Whole.{IsWhole}
 use Rattle.unixmodel.specs.Files.{Entry, Files, is_directory, slot}
 use Rattle.unixmodel.specs.Files.Node.{Directory}
 use Rattle.unixmodel.specs.Image.{KeepsNode, KeepsRules}
 use Rattle.unixmodel.specs.Manifest.{ManifestEntry, Thing, added, if_room, node_for, with_manifest_entry}
-use Rattle.imagemake.specs.Added.{Becomes, CanAdd, PackedAt, Stores}
+use Rattle.imagemake.specs.Added.{CanAdd, PackedAt, Stores}
 use Rattle.imagemake.specs.Begins.{AddsEntry, IsMade, IsSpot, make_fault}
 use Rattle.imagemake.specs.Begun.{IsBegun, IsListed}
 use Rattle.imagemake.specs.Made.{MadeName, made_name}
@@ -77,7 +77,7 @@ module _ {t : FileTree} {made : List MadeName} (whole : IsWhole t) (is : IsMade 
             let n = length made + 2 in
             let more = added t.files d name n thing in
             let kept : Stores t new d name n thing (Ok tt) = subst (Stores t new d name n thing) done stored in
-            let becomes : Becomes t new more = kept.stored.0 in
+            let becomes : HasFiles t new more = kept.stored.0 in
             let files : new.files ≡ more = ap (λ (t : FileTree). t.files) becomes in
             let next : n + 1 ≡ length (made ++ one ∷ []) + 2 = omega (arith, length_push made one) in
             let begun = IsBegun-more is.begun d name thing can-add (is.listed.names d name (spot-good made path d name spot) ∙ spot.absent) kept.stored.1 in

@@ -10,8 +10,8 @@ use Rattle.cache.specs.Disk.{Disk}
 use Rattle.inode.specs.Store.{IsWhole, Store, store_over}
 use Rattle.layout.specs.declared.Geometry.{Geometry}
 use Rattle.layout.specs.Image.{RawNode}
-use Rattle.tree.specs.Stored.{FitsPlaces, IsFileSystem, IsStored, Stores}
-use Rattle.tree.specs.Tree.{FileTree, tree_over}
+use Rattle.tree.specs.Stored.{FitsPlaces, IsFileSystem, IsStored, Stores, files_of}
+use Rattle.tree.specs.Tree.{FileTree, tree_with}
 use Rattle.tree.proofs.Following.{IsNow, now-limit}
 use Rattle.tree.proofs.Storing.{files-are, held-again}
 use Rattle.unixmodel.specs.Counts.{blocks_of}
@@ -57,10 +57,10 @@ module _ {D : Type 0} {g : Geometry} {s : Store D} (possible : IsPossible g) (bl
   pub blank-held : IsFileSystem s
   blank-held = held-again blank-stores
 
-  pub blank-files : (tree_over s).files ≡ free_slots g.inodes
+  pub blank-files : files_of s.nodes ≡ free_slots g.inodes
   blank-files = files-are blank-stores
 
-  module _ {tree : FileTree} (is : tree ≡ tree_over s) where
+  module _ {tree : FileTree} {identity : List ℕ} (is : tree ≡ tree_with identity s (replicate s.geometry.inodes 0)) where
     pub tree-up : tree.failed ≡ false
     tree-up = ap (λ (t : FileTree). t.failed) is ∙ blank.up
 

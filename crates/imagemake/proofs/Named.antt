@@ -120,6 +120,7 @@ looks-done {old} {now} {T} {Was = Was} {r = r} looks was told = record {
   told = ((IfOk-at_ok (λ x. (now ≡ record old { failures = now.failures }) × Was x) was looks.told).0, told);
   up = subst (λ (q : Result T DeviceFault). OnOk q (now.failed ≡ false)) was looks.up;
   down = tt;
+  same_device = looks.same_device;
   cause = record { later = looks.cause.later; failed = λ e. absurd (false≢true e) };
 }
 

@@ -27,9 +27,6 @@ module _ {F : Type 0} {fault : F} where
   pub Owns-failed : {T E : Type 0} {a b c : ℕ} {access : Result T E} {e : E} {r : Result (Unit {0}) F} → a ≤ b → HasCause b c access → access ≡ Err e → Owns fault a c r
   Owns-failed h cause was = record { later = let l = cause.later in omega arith; failed = λ _. let rises = cause.failed (ap is_err was) in omega arith }
 
-  pub Owns-rises : {a b c : ℕ} {r : Result (Unit {0}) F} → a ≤ b → b ≤ c → Rises b c → Owns fault a c r
-  Owns-rises h l rises = record { later = omega arith; failed = λ _. omega arith }
-
   -- the last step tells
   pub Owns-after : {a b c : ℕ} {r : Result (Unit {0}) F} → a ≤ b → Owns fault b c r → Owns fault a c r
   Owns-after h owns = record { later = let l = owns.later in omega arith; failed = λ e. let rises = owns.failed e in omega arith }

@@ -42,10 +42,6 @@ module _ {old mid now : FileTree} {files : Files} (is : IsNow old mid files) {n 
   pub puts-lost : {U E : Type 0} {r : Result U E} {e : E} → HasCause mid.failures now.failures r → r ≡ Err e → IsErrAnd s (λ f. f ≡ Device) → Puts old now n node s
   puts-lost cause was told = rw (told_err s told) (record { done = tt; owns = record { later = let l = is.later in let m = cause.later in omega arith; failed = λ _. rises-before is.later (cause.failed (ap is_err was)) } })
 
-  -- a part is refused, and so is all
-  pub puts-refused : {m : ℕ} {part : Node} {fault : StoreFault} → Puts mid now m part (Err fault) → (LacksRoomFor mid.block_limit mid.files m part → LacksRoomFor old.block_limit old.files n node) → IsErrAnd s (λ f. f ≡ fault) → Puts old now n node s
-  puts-refused {fault = fault} puts so told = rw (told_err s told) (record { done = TellsFull-weaker so fault puts.done; owns = Owns-after is.later puts.owns })
-
 -- ---- a node is put twice
 
 module _ {old mid : FileTree} (n : ℕ) (a b : Node) (is : IsNow old mid (put old.files n a)) where

@@ -4,14 +4,14 @@ use Rattle.inode.specs.Store.{Store}
 use Rattle.layout.specs.declared.Geometry.{Geometry}
 use Rattle.layout.specs.Super.{data_start_of}
 use Rattle.tree.specs.Steps.{IsUnnamed}
-use Rattle.tree.specs.Tree.{FileTree}
+use Rattle.tree.specs.Tree.{FileTree, HasFiles}
 use Rattle.unixmodel.specs.Counts.{blocks_of}
 use Rattle.unixmodel.specs.Failures.{Rises}
 use Rattle.unixmodel.specs.Files.{Entry, Files, Node, longest, put, size_of, slot}
 use Rattle.unixmodel.specs.Files.Node.{Directory}
 use Rattle.unixmodel.specs.Formats.{format}
 use Rattle.unixmodel.specs.Image.{is_name}
-use Rattle.unixmodel.specs.Manifest.{Thing, Wrong, added, if_room}
+use Rattle.unixmodel.specs.Manifest.{Thing, Wrong, added, appended, if_room, linked}
 use Rattle.imagemake.specs.declared.store.StoreFault.{StoreFault}
 use Rattle.imagemake.specs.declared.store.StoreFault.TheVariants.{Blocks, Device}
 
@@ -24,10 +24,6 @@ TellsFull full Device = ⊤
 pub record Owns {E : Type 0} (fault : E) (before now : ℕ) (result : Result (Unit {0}) E) : Type 0 where
   pub later : before ≤ now
   pub failed : IsErrOf result fault → Rises before now
-
--- these are the files now, and all else is as before
-abbrev pub Becomes : FileTree → FileTree → Files → Type 0
-Becomes old new files = new ≡ record old { files = files; failures = new.failures }
 
 -- ---- a directory
 
@@ -55,8 +51,13 @@ LacksRoomFor limit files n node = (longest < size_of node) ⊎ (limit < blocks_o
 
 -- the node stands at n, or there is no room for it
 pub record Puts (old new : FileTree) (n : ℕ) (node : Node) (result : Result (Unit {0}) StoreFault) : Type 0 where
-  pub done : MatchResult result (λ _. Becomes old new (put old.files n node)) (TellsFull (LacksRoomFor old.block_limit old.files n node))
+  pub done : MatchResult result (λ _. HasFiles old new (put old.files n node)) (TellsFull (LacksRoomFor old.block_limit old.files n node))
   pub owns : Owns Device old.failures new.failures result
+
+-- a name, and the link that a directory's ".." is, come into directory d, or there is no room for them
+abbrev pub PutsName : FileTree → FileTree → ℕ → Entry → Thing → Result (Unit {0}) StoreFault → Type 0
+PutsName old new d e thing result =
+    (h : HasDirectory old.files d) → Puts old new d (linked thing (appended e (Directory h.links h.places))) result
 
 -- ---- an entry
 
@@ -73,7 +74,7 @@ pub record CanAdd (files : Files) (d : ℕ) (name : List ℕ) (n : ℕ) : Type 0
 -- the files with the entry where they have room; it is refused exactly where they have none
 pub record Stores (old new : FileTree) (d : ℕ) (name : List ℕ) (n : ℕ) (thing : Thing) (result : Result (Unit {0}) StoreFault) : Type 0 where
   pub stored : MatchResult result
-      (λ _. Becomes old new (added old.files d name n thing) × (if_room old.block_limit d n (added old.files d name n thing) ≡ Ok (added old.files d name n thing)))
+      (λ _. HasFiles old new (added old.files d name n thing) × (if_room old.block_limit d n (added old.files d name n thing) ≡ Ok (added old.files d name n thing)))
       (TellsFull (if_room old.block_limit d n (added old.files d name n thing) ≡ Err Wrong.Blocks))
   pub owns : Owns Device old.failures new.failures result
 

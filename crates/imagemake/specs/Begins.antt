@@ -3,8 +3,8 @@ use Rattle.std.specs.Prelude.{List, None, Ok, Result, Some, false, length, true,
 use Rattle.unixmodel.specs.Files.{Files, split_last}
 use Rattle.unixmodel.specs.Image.{KeepsRules}
 use Rattle.unixmodel.specs.Manifest.{ManifestEntry, Thing, Wrong, bare_files, names_in, with_entries, with_manifest_entry}
-use Rattle.tree.specs.Tree.{FileTree}
-use Rattle.imagemake.specs.Added.{Becomes, Owns}
+use Rattle.tree.specs.Tree.{FileTree, HasFiles}
+use Rattle.imagemake.specs.Added.{Owns}
 use Rattle.imagemake.specs.Begun.{IsBegun, IsListed}
 use Rattle.imagemake.specs.Made.{MadeName, found, is_folder, seek}
 use Rattle.imagemake.specs.Making.{Refuses}
@@ -43,10 +43,14 @@ pub record IsMade (t : FileTree) (made : List MadeName) : Type 0 where
   pub begun : IsBegun t.block_limit (length t.files) t.files (length made + 2)
   pub listed : IsListed t.files made
 
+-- the fault tells why an entry can't come to those that are made
+abbrev pub RefusesEntry : FileTree → List MadeName → ManifestEntry → MakeFault → Type 0
+RefusesEntry t made entry fault = Refuses (with_manifest_entry t.block_limit (length t.files) t.files (length made + 2) entry) fault
+
 -- an entry more
 pub record AddsEntry (old new : FileTree) (made now : List MadeName) (entry : ManifestEntry) : Type 0 where
   pub is : with_manifest_entry old.block_limit (length old.files) old.files (length made + 2) entry ≡ Ok new.files
-  pub rest : Becomes old new new.files
+  pub rest : HasFiles old new new.files
   pub long : length new.files ≡ length old.files
   pub longer : length now ≡ length made + 1
   pub made_more : IsMade new now
@@ -58,11 +62,11 @@ made_by t entries = with_entries t.block_limit (length t.files) (bare_files (len
 -- the files are those that the entries make, and keep the rules
 pub record MakesEntries (old new : FileTree) (entries : List ManifestEntry) : Type 0 where
   pub is : made_by old entries ≡ Ok new.files
-  pub rest : Becomes old new new.files
+  pub rest : HasFiles old new new.files
   pub rules : KeepsRules new.files
 
 -- the files are those of the first entries, and what the rest makes of them is what all of them make
 pub record IsGoing (old now : FileTree) (made : List MadeName) (entries left : List ManifestEntry) : Type 0 where
   pub made_so_far : IsMade now made
-  pub rest : Becomes old now now.files
+  pub rest : HasFiles old now now.files
   pub still : made_by old entries ≡ with_entries now.block_limit (length now.files) now.files (length made + 2) left

@@ -1,8 +1,8 @@
 //! The entries of a manifest are put among files, one after the other.
 
 ghost use Rattle.std.specs.Prelude.{◌≡◌, ◌≤◌, ◌+◌, ◌<◌, [], false, length, IfOk, IfErr, OnOk};
-ghost use Rattle.unixmodel.specs.Manifest.{bare_files, with_manifest_entry};
-ghost use Rattle.imagemake.specs.Begins.{AddsEntry, BlamesDevice, IsMade, IsSpot, MakesEntries, RefusesPath, made_by};
+ghost use Rattle.unixmodel.specs.Manifest.{bare_files};
+ghost use Rattle.imagemake.specs.Begins.{AddsEntry, BlamesDevice, IsMade, IsSpot, MakesEntries, RefusesEntry, RefusesPath, made_by};
 ghost use Rattle.imagemake.specs.Made.{HasRoom, LeadsTo};
 ghost use Rattle.imagemake.specs.Making.{Refuses, entry_of, meaning};
 
@@ -60,7 +60,7 @@ fn add_entry<'a, D: BlockDev>(
     requires room { HasRoom (length tree.old.files) made.old }
     ensures added { OnOk result (AddsEntry tree.old tree.new made.old.items made.new.items (entry_of entry.now)) }
     ensures room { OnOk result (HasRoom (length tree.new.files) made.new) }
-    ensures refused { IfErr result (λ fault. Refuses (with_manifest_entry tree.old.block_limit (length tree.old.files) tree.old.files (length made.old.items + 2) (entry_of entry.now)) fault) }
+    ensures refused { IfErr result (RefusesEntry tree.old made.old.items (entry_of entry.now)) }
     ensures cause { BlamesDevice tree.old.failures tree.new.failures result }
 {
     tree.is_whole();

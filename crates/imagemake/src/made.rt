@@ -2,7 +2,7 @@
 
 ghost use Rattle.std.specs.Prelude.{◌≡◌, ◌<◌, ◌≤◌, ◌+◌, ◌++◌, ◌∷◌, [], IfOk, IfSome, IfNone, None, Some, List, ℕ, length, drop};
 ghost use Rattle.unixmodel.specs.Files.{pieces};
-ghost use Rattle.imagemake.specs.Made.{LeadsTo, found, is_folder, made_name, reach};
+ghost use Rattle.imagemake.specs.Made.{LeadsTo, ReachesSpot, found, is_folder, made_name, reach};
 
 use crate::path::first_slash;
 use indexmap::IndexMap;
@@ -112,7 +112,7 @@ impl<'a> Made<'a> {
     pub fn locate(&self, path: &'a [u8]) -> Option<Spot<'a>>
         requires few { length self.now.items < 65536 }
         requires slash { path.now ≡ 0x2f ∷ drop 1 path.now }
-        ensures found { IfSome result (λ spot. reach self.now.items 1 (pieces (drop 1 path.now)) ≡ Some (Some spot.directory, spot.below.now)) }
+        ensures found { IfSome result (ReachesSpot self.now.items path.now) }
         ensures leads { IfSome result (λ spot. LeadsTo self.now.items spot.above.now spot.directory) }
         ensures none { IfNone result ((last : List ℕ) × (reach self.now.items 1 (pieces (drop 1 path.now)) ≡ Some (None, last))) }
     {

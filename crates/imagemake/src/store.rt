@@ -6,9 +6,9 @@ ghost use Rattle.tree.specs.Steps.{IsUnnamed, Turns};
 ghost use Rattle.tree.specs.Tree.{Looks};
 ghost use Rattle.unixmodel.specs.Files.{free_slots, kind_of, slot};
 ghost use Rattle.unixmodel.specs.Files.Node.{Directory, File};
-ghost use Rattle.unixmodel.specs.Manifest.{appended, bare_directory, bare_files, linked, node_for};
+ghost use Rattle.unixmodel.specs.Manifest.{bare_directory, bare_files, node_for};
 ghost use Rattle.unixmodel.specs.Image.{is_name};
-ghost use Rattle.imagemake.specs.Added.{CanAdd, HasDirectory, Puts, Stores};
+ghost use Rattle.imagemake.specs.Added.{CanAdd, HasDirectory, Puts, PutsName, Stores};
 ghost use Rattle.imagemake.specs.Making.{thing_of};
 ghost use Rattle.imagemake.specs.Nodes.{bare, major_of, minor_of};
 
@@ -152,7 +152,7 @@ fn store_name<D: BlockDev>(
     requires able { HasDirectory tree.old.files directory }
     requires name { IsTrue (is_name name.now) }
     requires number { slot tree.old.files number ≢ None }
-    ensures { (h : HasDirectory tree.old.files directory) → Puts tree.old tree.new directory (linked (thing_of thing.now) (appended (record { name = name.now; number = number }) (Directory h.links h.places))) result }
+    ensures { PutsName tree.old tree.new directory (record { name = name.now; number = number }) (thing_of thing.now) result }
 {
     let Some(place) = last_place(tree, directory)? else {
         return Err(StoreFault::Blocks);

@@ -1,11 +1,10 @@
 -- A disk with files, as callers see it: nodes by the numbers of their inodes.
 use Rattle.std.specs.Prelude.{Bool, Err, OnOk, IfErr, IfOk, List, None, Ok, Option, Result, Some, [], false, length, slice_set, take, true, unwrap_or, ⊤, ℕ, ◌+◌, ◌<◌, ◌≡◌, ◌≢◌, ◌≤◌}
-use Rattle.blockdev.specs.Reached.{LeadsOn}
 use Rattle.blockdev.specs.Splice.{splice}
 use Rattle.blockdev.specs.declared.DeviceFault.{DeviceFault}
 use Rattle.balloc.specs.Inodes.{fresh_node}
 use Rattle.cache.specs.Disk.{Disk}
-use Rattle.inode.specs.Writing.{LacksAt}
+use Rattle.inode.specs.Writing.{LacksAt, with_links}
 use Rattle.inode.specs.declared.InodeFault.{InodeFault}
 use Rattle.inode.specs.declared.InodeFault.TheVariants.{Blocks, Device, PastEnd, TooLong}
 use Rattle.inode.specs.declared.volume.Volume.TheInside.{Inside}
@@ -59,10 +58,10 @@ pub record IsWhole {D : Type 0} (s : Store D) : Type 0 where
 
 -- ---- what calls answer
 
--- the numbers are as they were, and accesses lead from the old device to the new one
-pub record Follows {D : Type 0} (reached : D → D → Type 0) (old new : Store D) : Type 0 where
+-- the numbers are as they were, and the device is the same
+pub record Follows {D : Type 0} (identity : D → List ℕ) (old new : Store D) : Type 0 where
   pub geometry : new.geometry ≡ old.geometry
-  pub leads : LeadsOn reached old.device new.device
+  pub same_device : identity new.device ≡ identity old.device
   pub later : old.failures ≤ new.failures
 
 abbrev pub has_failed : {T E : Type 0} → (E → Bool) → Result T E → Bool
@@ -71,16 +70,16 @@ has_failed is_lost (Err fault) = is_lost fault
 
 -- Where no access fails it is done, or refused, which says why. A failure of an access is told by a fault of its own, and only
 -- where the device counts it.
-pub record Serves {D T E : Type 0} (reached : D → D → Type 0) (is_lost : E → Bool) (old new : Store D) (result : Result T E) (Done : T → Type 0) (Why : E → Type 0) : Type 0 where
+pub record Serves {D T E : Type 0} (identity : D → List ℕ) (is_lost : E → Bool) (old new : Store D) (result : Result T E) (Done : T → Type 0) (Why : E → Type 0) : Type 0 where
   pub done : IfOk result Done
   pub refused : IfErr result (λ fault. is_lost fault ≡ false → Why fault)
-  pub follows : Follows reached old new
+  pub follows : Follows identity old new
   pub failed : new.failed ≡ has_failed is_lost result
   pub cause : has_failed is_lost result ≡ true → Rises old.failures new.failures
 
 -- nothing but the device can stand in its way
-abbrev pub Tries : {D T : Type 0} → (D → D → Type 0) → Store D → Store D → Result T DeviceFault → (T → Type 0) → Type 0
-Tries reached old new result Done = Serves reached (λ _. true) old new result Done (λ _. ⊤)
+abbrev pub Tries : {D T : Type 0} → (D → List ℕ) → Store D → Store D → Result T DeviceFault → (T → Type 0) → Type 0
+Tries identity old new result Done = Serves identity (λ _. true) old new result Done (λ _. ⊤)
 
 -- the nodes are as they were, and so is what is free
 pub record Keeps {D : Type 0} (old new : Store D) : Type 0 where
@@ -88,8 +87,8 @@ pub record Keeps {D : Type 0} (old new : Store D) : Type 0 where
   pub free : new.free ≡ old.free
 
 -- this is told, and nothing is changed
-abbrev pub Looks : {D T : Type 0} → (D → D → Type 0) → Store D → Store D → Result T DeviceFault → (T → Type 0) → Type 0
-Looks reached old new result Told = Tries reached old new result (λ x. Keeps old new × Told x)
+abbrev pub Looks : {D T : Type 0} → (D → List ℕ) → Store D → Store D → Result T DeviceFault → (T → Type 0) → Type 0
+Looks identity old new result Told = Tries identity old new result (λ x. Keeps old new × Told x)
 
 -- ---- one node changes
 
@@ -113,6 +112,14 @@ raw_at nodes n = unwrap_or (slot nodes n) no_node
 
 abbrev pub with_bytes : RawNode → List ℕ → RawNode
 with_bytes node bytes = record node { bytes = bytes }
+
+-- a node has no bytes
+abbrev pub IsEmptied : {D : Type 0} → Store D → Store D → ℕ → Type 0
+IsEmptied old new n = Changes old new n (Some (with_bytes (raw_at old.nodes n) []))
+
+-- a node has so many links
+abbrev pub HasLinks : {D : Type 0} → Store D → Store D → ℕ → ℕ → Type 0
+HasLinks old new n links = Changes old new n (Some (with_links (raw_at old.nodes n) links))
 
 -- ---- a node more
 
@@ -170,7 +177,7 @@ pub record IsLaidOut (g : Geometry) (blocks : List (List ℕ)) (shown : List (Op
   pub free : free_blocks g blocks ≡ left
 
 -- what the device is left with
-pub record Flushed {D : Type 0} (content : D → List (List ℕ)) (failures : D → ℕ) (reached : D → D → Type 0) (s : Store D) (left : D) (result : Result (Unit {0}) DeviceFault) : Type 0 where
+pub record Flushed {D : Type 0} (content : D → List (List ℕ)) (failures : D → ℕ) (identity : D → List ℕ) (s : Store D) (left : D) (result : Result (Unit {0}) DeviceFault) : Type 0 where
   pub stored : OnOk result (IsLaidOut s.geometry (content left) s.nodes s.free)
-  pub leads : LeadsOn reached s.device left
+  pub same_device : identity left ≡ identity s.device
   pub cause : HasCause s.failures (failures left) result

@@ -1,11 +1,9 @@
 //! A disk with files, by the numbers of their inodes.
 
-ghost use Rattle.std.specs.Prelude.{◌≡◌, ◌≢◌, ◌+◌, ◌<◌, ◌≤◌, IfOk, IsSome, None, OnOk, Some, [], false, length, nat_le, slice_set, take};
-ghost use Rattle.blockdev.specs.Reached.{LeadsOn};
+ghost use Rattle.std.specs.Prelude.{◌≡◌, ◌≢◌, ◌+◌, ◌<◌, ◌≤◌, IfOk, IsSome, None, OnOk, Some, false, length, nat_le, slice_set, take};
 ghost use Rattle.inode.specs.Looking.{IsTold, TellsAny};
 ghost use Rattle.inode.specs.Reading.{IsReadInto};
-ghost use Rattle.inode.specs.Store.{Changes, Flushed, IsWhole, LacksWriting, Looks, Serves, TakesLowest, Tries, Writes, WritesSome, is_device, raw_at, store_over, with_bytes};
-ghost use Rattle.inode.specs.Writing.{with_links};
+ghost use Rattle.inode.specs.Store.{Changes, Flushed, HasLinks, IsEmptied, IsWhole, LacksWriting, Looks, Serves, TakesLowest, Tries, Writes, WritesSome, is_device, raw_at, store_over};
 ghost use Rattle.balloc.specs.Inodes.{fresh_node};
 ghost use Rattle.layout.specs.Sound.{IsSound};
 ghost use Rattle.unixmodel.specs.Files.{longest, slot};
@@ -82,7 +80,7 @@ impl<D: BlockDev> Volume<D> {
     /// has.
     pub fn into_device(self) -> (D, Result<(), DeviceFault>)
         requires up { self.failed ≡ false }
-        ensures { Flushed D.content D.failures D.reached self result.0 result.1 }
+        ensures { Flushed D.content D.failures D.identity self result.0 result.1 }
     {
         let Volume { mut disk, .. } = self;
         let flushed = disk.flush();
@@ -92,7 +90,7 @@ impl<D: BlockDev> Volume<D> {
     /// Type, major number, number of links and size of what a number names; `None` where it names nothing.
     pub fn look(&mut self, number: usize) -> Result<Option<InodeStat>, DeviceFault>
         requires up { self.old.failed ≡ false }
-        ensures { Looks D.reached self.old self.new result (TellsAny (slot self.old.nodes number)) }
+        ensures { Looks D.identity self.old self.new result (TellsAny (slot self.old.nodes number)) }
     {
         let result = look(&mut self.disk, self.geometry, number);
         self.failed = result.is_err();
@@ -103,7 +101,7 @@ impl<D: BlockDev> Volume<D> {
     pub fn stat(&mut self, number: usize) -> Result<InodeStat, DeviceFault>
         requires up { self.old.failed ≡ false }
         requires node { IsSome (slot self.old.nodes number) }
-        ensures { Looks D.reached self.old self.new result (IsTold (raw_at self.old.nodes number)) }
+        ensures { Looks D.identity self.old self.new result (IsTold (raw_at self.old.nodes number)) }
     {
         let result = stat(&mut self.disk, self.geometry, number);
         self.failed = result.is_err();
@@ -119,7 +117,7 @@ impl<D: BlockDev> Volume<D> {
     ) -> Result<usize, DeviceFault>
         requires up { self.old.failed ≡ false }
         requires node { IsSome (slot self.old.nodes number) }
-        ensures { Looks D.reached self.old self.new result (IsReadInto (raw_at self.old.nodes number).bytes at out.old out.new) }
+        ensures { Looks D.identity self.old self.new result (IsReadInto (raw_at self.old.nodes number).bytes at out.old out.new) }
     {
         let result = read_at(&mut self.disk, self.geometry, number, at, out);
         self.failed = result.is_err();
@@ -129,7 +127,7 @@ impl<D: BlockDev> Volume<D> {
     /// Whether at least so many data blocks are free.
     pub fn has_blocks(&mut self, wanted: usize) -> Result<bool, DeviceFault>
         requires up { self.old.failed ≡ false }
-        ensures { Looks D.reached self.old self.new result (λ enough. enough ≡ nat_le wanted self.old.free) }
+        ensures { Looks D.identity self.old self.new result (λ enough. enough ≡ nat_le wanted self.old.free) }
     {
         let result = has_blocks(&mut self.disk, self.geometry, wanted);
         self.failed = result.is_err();
@@ -142,7 +140,7 @@ impl<D: BlockDev> Volume<D> {
     pub fn write_at(&mut self, number: usize, at: usize, bytes: &[u8]) -> Result<(), InodeFault>
         requires up { self.old.failed ≡ false }
         requires node { IsSome (slot self.old.nodes number) }
-        ensures { Serves D.reached is_device self.old self.new result (λ _. Writes self.old self.new number at bytes.now) (LacksWriting self.old self.new number at bytes.now) }
+        ensures { Serves D.identity is_device self.old self.new result (λ _. Writes self.old self.new number at bytes.now) (LacksWriting self.old self.new number at bytes.now) }
     {
         self.is_whole();
         let before = self.stat(number)?;
@@ -166,7 +164,7 @@ impl<D: BlockDev> Volume<D> {
         requires node { IsSome (slot self.old.nodes number) }
         requires within { at ≤ length (raw_at self.old.nodes number).bytes }
         requires short { at + length bytes.now ≤ longest }
-        ensures { Tries D.reached self.old self.new result (WritesSome self.old self.new number at bytes.now) }
+        ensures { Tries D.identity self.old self.new result (WritesSome self.old self.new number at bytes.now) }
     {
         let result = write_front(&mut self.disk, self.geometry, number, at, bytes);
         self.failed = result.is_err();
@@ -177,7 +175,7 @@ impl<D: BlockDev> Volume<D> {
     pub fn truncate(&mut self, number: usize) -> Result<(), DeviceFault>
         requires up { self.old.failed ≡ false }
         requires node { IsSome (slot self.old.nodes number) }
-        ensures { Tries D.reached self.old self.new result (λ _. Changes self.old self.new number (Some (with_bytes (raw_at self.old.nodes number) []))) }
+        ensures { Tries D.identity self.old self.new result (λ _. IsEmptied self.old self.new number) }
     {
         let result = truncate(&mut self.disk, self.geometry, number);
         self.failed = result.is_err();
@@ -188,7 +186,7 @@ impl<D: BlockDev> Volume<D> {
     pub fn set_links(&mut self, number: usize, links: u16) -> Result<(), DeviceFault>
         requires up { self.old.failed ≡ false }
         requires node { IsSome (slot self.old.nodes number) }
-        ensures { Tries D.reached self.old self.new result (λ _. Changes self.old self.new number (Some (with_links (raw_at self.old.nodes number) links))) }
+        ensures { Tries D.identity self.old self.new result (λ _. HasLinks self.old self.new number links) }
     {
         let result = set_links(&mut self.disk, self.geometry, number, links);
         self.failed = result.is_err();
@@ -207,7 +205,7 @@ impl<D: BlockDev> Volume<D> {
         requires up { self.old.failed ≡ false }
         requires some { 1 ≤ kind }
         requires kind { kind ≤ 3 }
-        ensures { Tries D.reached self.old self.new result (TakesLowest self.old self.new kind major minor links) }
+        ensures { Tries D.identity self.old self.new result (TakesLowest self.old self.new kind major minor links) }
     {
         let result = take_inode(&mut self.disk, self.geometry, kind, major, minor, links);
         self.failed = result.is_err();
@@ -229,7 +227,7 @@ impl<D: BlockDev> Volume<D> {
         requires free { slot self.old.nodes number ≡ None }
         requires some { 1 ≤ kind }
         requires kind { kind ≤ 3 }
-        ensures { Tries D.reached self.old self.new result (λ _. Changes self.old self.new number (Some (fresh_node kind major minor links))) }
+        ensures { Tries D.identity self.old self.new result (λ _. Changes self.old self.new number (Some (fresh_node kind major minor links))) }
     {
         let result = take_inode_at(
             &mut self.disk,
@@ -248,7 +246,7 @@ impl<D: BlockDev> Volume<D> {
     pub fn release(&mut self, number: usize) -> Result<(), DeviceFault>
         requires up { self.old.failed ≡ false }
         requires node { IsSome (slot self.old.nodes number) }
-        ensures { Tries D.reached self.old self.new result (λ _. Changes self.old self.new number None) }
+        ensures { Tries D.identity self.old self.new result (λ _. Changes self.old self.new number None) }
     {
         self.truncate(number)?;
         self.give(number)
@@ -259,7 +257,7 @@ impl<D: BlockDev> Volume<D> {
         requires up { self.old.failed ≡ false }
         requires node { IsSome (slot self.old.nodes number) }
         requires empty { length (raw_at self.old.nodes number).bytes ≡ 0 }
-        ensures { Tries D.reached self.old self.new result (λ _. Changes self.old self.new number None) }
+        ensures { Tries D.identity self.old self.new result (λ _. Changes self.old self.new number None) }
     {
         let result = give_inode(&mut self.disk, self.geometry, number);
         self.failed = result.is_err();

@@ -25,6 +25,7 @@ pub record IsLetting (old : FileTree) (nodes : List ℕ) (now : FileTree) (i : �
   pub up : now.failed ≡ false
   pub held : AreHeld now (drop i nodes)
   pub goes : (failures : ℕ) → counted (all_dropped now (drop i nodes)) failures ≡ counted (all_dropped old nodes) failures
+  pub same_device : now.identity ≡ old.identity
   pub later : old.failures ≤ now.failures
 
 drop-next : (ns : List ℕ) (i : ℕ) → i < length ns → drop i ns ≡ slice_index ns i ∷ drop (i + 1) ns
@@ -53,6 +54,7 @@ module _ {old now : FileTree} {nodes : List ℕ} {i : ℕ} (is : IsLetting old n
         ∙ ap (λ x. counted x failures) (all-counted (dropped now n) (drop (i + 1) nodes) t.failures)
         ∙ ap (λ ns. counted (all_dropped now ns) failures) (sym (drop-next nodes i h))
         ∙ is.goes failures;
+    same_device = ap (λ (x : FileTree). x.identity) told ∙ is.same_device;
     later = omega (arith, later, is.later);
   }
 
@@ -63,7 +65,7 @@ lets-more is h t (Ok done) serves x e = lets-next is h t serves.told serves.up s
 lets-more is h t (Err fault) serves x e = absurd (let bad : Err fault ≡ Ok x = e in cc)
 
 pub lets-begin : (t : FileTree) (nodes : List ℕ) → t.failed ≡ false → AreHeld t nodes → IsLetting t nodes t 0
-lets-begin t nodes up held = record { up = up; held = held; goes = λ failures. refl; later = omega arith }
+lets-begin t nodes up held = record { up = up; held = held; goes = λ failures. refl; same_device = refl; later = omega arith }
 
 -- all were
 pub lets-all : (old now : FileTree) (nodes : List ℕ) (i : ℕ) → i ≡ length nodes → IsLetting old nodes now i → now ≡ counted (all_dropped old nodes) now.failures
@@ -75,6 +77,7 @@ lets-fails {old} {now} {nodes} {i} {P} {Q} is t (Err _) (Err _) serves fault bad
   told = tt;
   up = tt;
   down = serves.down;
+  same_device = serves.same_device ∙ is.same_device;
   cause = record { later = le_trans is.later serves.cause.later; failed = λ e. let rises = serves.cause.failed refl in omega (arith, rises, is.later) };
 }
 lets-fails is t (Ok done) s serves fault bad worse = absurd (cc)

@@ -180,6 +180,7 @@ module _ (k now : Kernel) (i : ℕ) (q : Process) (status : ℤ) (same : k ≡ n
     told = finish-made t r serves.told meant e;
     up = serves.up;
     down = serves.down;
+    same_device = serves.same_device ∙ ap (λ (x : Kernel). x.tree.identity) same;
     cause = subst (λ (x : Kernel). HasCause x.tree.failures t.failures r) same serves.cause;
   }
 
@@ -189,4 +190,4 @@ told-waking a b awake (Ok done) told = ap (λ x. waking x awake) told
 told-waking a b awake (Err fault) told = tt
 
 pub serves-waking : {old t : FileTree} {r : Result (Unit {0}) DeviceFault} (a b : Kernel) (awake : List Bool) → Serves old t r (λ done. a ≡ b) → Serves old t r (λ done. waking a awake ≡ waking b awake)
-serves-waking {r = r} a b awake serves = record { told = told-waking a b awake r serves.told; up = serves.up; down = serves.down; cause = serves.cause }
+serves-waking {r = r} a b awake serves = record { told = told-waking a b awake r serves.told; up = serves.up; down = serves.down; same_device = serves.same_device; cause = serves.cause }

@@ -371,6 +371,10 @@ pub all-failed : (t : FileTree) (ns : List ℕ) → (all_dropped t ns).failed �
 all-failed t [] = refl
 all-failed t (n ∷ ns) = all-failed (dropped t n) ns
 
+pub all-device : (t : FileTree) (ns : List ℕ) → (all_dropped t ns).identity ≡ t.identity
+all-device t [] = refl
+all-device t (n ∷ ns) = all-device (dropped t n) ns
+
 pub all-failures : (t : FileTree) (ns : List ℕ) → (all_dropped t ns).failures ≡ t.failures
 all-failures t [] = refl
 all-failures t (n ∷ ns) = all-failures (dropped t n) ns

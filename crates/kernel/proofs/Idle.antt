@@ -1,5 +1,5 @@
 -- Whether a kernel has anything to do, in the words of its state.
-use Rattle.std.proofs.Common.{Bool, List, None, Option, Some, [], ap, arith, false, length, nat_lt, not, refl, sym, true, ◌&&◌, ◌+◌, ◌<◌, ◌||◌, ◌∙◌, ◌≡◌, ◌∷◌, ℕ}
+use Rattle.std.proofs.Common.{Bool, List, None, Option, Some, [], ap, arith, false, length, nat_lt, not, refl, sym, true, ◌&&◌, ◌<◌, ◌||◌, ◌∙◌, ◌≡◌, ◌∷◌, ℕ}
 use Rattle.std.specs.Prelude.{is_none, is_some}
 use Rattle.std.specs.List.{list_any, position_or_len}
 use Rattle.std.proofs.lemmas.Bool.{le-ltb, lt-ltb}
@@ -18,7 +18,7 @@ use Rattle.proc.proofs.Following.{found-any}
 use Rattle.proc.proofs.Joined.{running-with_table}
 use Rattle.unixmodel.specs.Files.{slot}
 use Rattle.unixmodel.specs.Memory.{Memory}
-use Rattle.unixmodel.specs.State.{State, holds, running}
+use Rattle.unixmodel.specs.State.{holds, running}
 use Rattle.unixmodel.specs.Turn.{turn}
 
 -- ---- who runs

@@ -7,6 +7,7 @@ pub mod Running
 pub mod Changes
 pub mod Leaving
 pub mod Steps
+pub mod Advancing
 pub mod Starts
 pub mod Dropping
 pub mod Finishes

@@ -3,8 +3,9 @@ use Rattle.std.specs.Prelude.{List, None, Option, Some, [], if◌then◌else◌,
 use Rattle.files.specs.Counts.{names}
 use Rattle.files.specs.declared.file.Target.{Target}
 use Rattle.files.specs.declared.file.Target.TheVariants as target
-use Rattle.files.specs.Places.{Counted, closed, count_at, has_pipe, shared}
+use Rattle.files.specs.Places.{Counted, closed, count_at, has_pipe, last_target, opens_of, shared}
 use Rattle.proc.specs.declared.process.Process.{Process}
+use Rattle.spaces.specs.Spaces.{Spaces}
 use Rattle.unixmodel.specs.Files.{clear}
 use Rattle.unixmodel.specs.OpenFiles.{OpenFile}
 use Rattle.unixmodel.specs.Reap.{kept}
@@ -60,3 +61,7 @@ after_close pipes opens (Some (target.File number offset)) = pipes
 after_close pipes opens (Some (target.Console number)) = pipes
 after_close pipes opens (Some (target.Device number)) = pipes
 after_close pipes opens (Some (target.Pipe q end)) = if has_pipe opens q then pipes else clear pipes q
+
+-- the spaces where one descriptor of open file n is closed
+abbrev pub without_end : Spaces → List (Option Counted) → ℕ → Spaces
+without_end s files n = record s { pipes = after_close s.pipes (opens_of (closed files n)) (last_target files n) }

@@ -54,6 +54,10 @@ abbrev pub node_of : Files → Option ℕ → Option Node
 node_of files None = None
 node_of files (Some n) = slot files n
 
+-- an open file fits the node that it is on
+abbrev pub FitsFiles : Files → OpenFile → Type 0
+FitsFiles files f = FitsNode f f.target (node_of files (node_on f.target))
+
 abbrev pub IsFolder : Option Node → Type 0
 IsFolder (Some (Directory links places)) = Unit {0}
 IsFolder _ = ⊥
@@ -66,7 +70,7 @@ pub record IsInUse (t : FileTree) (opens : List (Option Counted)) (places : List
   pub within : blocks_of t.files ≤ t.block_limit
   pub holds : (n : ℕ) → holders t.holds n ≡ files_on opens n + homes_at places n
   pub held : (n : ℕ) (node : Node) → slot t.files n ≡ Some node → links_of node ≡ 0 → 1 ≤ holders t.holds n
-  pub fits : (k : ℕ) (c : Counted) → slot opens k ≡ Some c → FitsNode c.file c.file.target (node_of t.files (node_on c.file.target))
+  pub fits : (k : ℕ) (c : Counted) → slot opens k ≡ Some c → FitsFiles t.files c.file
   pub homes : (i : ℕ) → IfSome (home_in (slot places i)) (λ d. IsFolder (slot t.files d))
 
 -- ---- changes
@@ -78,6 +82,10 @@ dropped t n = record t { files = let_go (without_hold t.holds n) t.files n; hold
 abbrev pub all_dropped : FileTree → List ℕ → FileTree
 all_dropped t [] = t
 all_dropped t (n ∷ ns) = all_dropped (dropped t n) ns
+
+-- the same, but for the count of the device's failures
+abbrev pub HasDropped : FileTree → FileTree → List ℕ → Type 0
+HasDropped old new ns = new ≡ record (all_dropped old ns) { failures = new.failures }
 
 -- each is a node that is held, as often as it is named
 abbrev pub AreHeld : FileTree → List ℕ → Type 0

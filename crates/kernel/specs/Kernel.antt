@@ -1,5 +1,5 @@
 -- A kernel of many processes, as plain values, and the state of the abstract Unix that it stands for.
-use Rattle.std.specs.Prelude.{Bool, List, None, Option, Some, [], if◌then◌else◌, map, not, slice_index, slice_set, ℕ, ℤ, ◌%◌, ◌+◌, ◌++◌, ◌==◌, ◌^◌, ◌∷◌}
+use Rattle.std.specs.Prelude.{Bool, List, None, Ok, Option, Some, [], if◌then◌else◌, map, not, slice_index, slice_set, ℕ, ℤ, ◌%◌, ◌+◌, ◌++◌, ◌==◌, ◌^◌, ◌∷◌, ◌≡◌}
 use Rattle.kernel.specs.Descriptors.{all_closed, descriptors_in, standing}
 use Rattle.kernel.specs.Holding.{all_dropped, gone_nodes}
 use Rattle.files.specs.Places.{Counted, opens_of}
@@ -7,7 +7,7 @@ use Rattle.proc.specs.declared.process.Process.{Process}
 use Rattle.proc.specs.Places.{Places, changed, changed_at, exited, with_mark, with_mode}
 use Rattle.proc.specs.Whole.{with_table}
 use Rattle.spaces.specs.Spaces as spaces
-use Rattle.spaces.specs.Spaces.{SpaceView, Spaces}
+use Rattle.spaces.specs.Spaces.{SpaceView, Spaces, cycle_at}
 use Rattle.unixmodel.specs.declared.process.Mode.{Mode}
 use Rattle.unixmodel.specs.declared.process.Mode.TheVariants.{Ready, Running, Waiting}
 use Rattle.unixmodel.specs.declared.process.Pending.{Pending}
@@ -126,6 +126,10 @@ answered k value = record k { spaces = record k.spaces { registers = slice_set k
 abbrev pub computed : Kernel → ℕ → Computed → Kernel
 computed k i d = record k { spaces = spaces.computed k.spaces i d }
 
+-- that instruction is done
+abbrev pub Executes : Kernel → Kernel → ℕ → Type 0
+Executes old new i = (d : Computed) × (cycle_at old.spaces i ≡ Ok d) × (new ≡ computed old i d)
+
 -- ---- the console
 
 -- the console is another
@@ -137,10 +141,14 @@ typed k c = record k { console = c }
 abbrev pub idle : Spaces → Spaces
 idle s = record s { active = None }
 
+-- the process of a place is in that mode, with what the hart held
+abbrev pub left_in : Places → Spaces → ℕ → Mode → Places
+left_in t s i mode = changed t i (λ p. with_mode mode (on_hart s p))
+
 -- process i, which ran, runs no more
 abbrev pub left_as : Kernel → ℕ → Mode → Kernel
 left_as k i mode = record k {
-  table = changed k.table i (λ p. with_mode mode (on_hart k.spaces p));
+  table = left_in k.table k.spaces i mode;
   spaces = idle k.spaces;
 }
 
@@ -202,6 +210,10 @@ ended k i status = record k {
   files = left_files k i;
   halted = halted_by (slot k.table.places i) status k.halted;
 }
+
+-- the same, and who may wait for it is awake
+abbrev pub HasEnded : Kernel → Kernel → ℕ → ℤ → Type 0
+HasEnded old new i status = new ≡ waking (counting (ended old i status) new.tree.failures) new.table.awake
 
 -- ---- kill
 

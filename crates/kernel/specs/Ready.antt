@@ -1,10 +1,10 @@
 -- Who is ready, as far as the kernel looks at the state.
-use Rattle.std.specs.Prelude.{Bool, List, None, Option, [], nat_le, true, ℕ, ◌%◌, ◌+◌, ◌-◌, ◌^◌, ◌≡◌}
+use Rattle.std.specs.Prelude.{Bool, List, None, Option, [], nat_le, option_map, true, ℕ, ◌%◌, ◌+◌, ◌-◌, ◌^◌, ◌≡◌}
 use Rattle.kernel.specs.declared.ready.Awaited.{Awaited}
 use Rattle.kernel.specs.Kernel.{base}
 use Rattle.files.specs.Places.{opens_of}
 use Rattle.proc.specs.declared.process.Process.{Process}
-use Rattle.proc.specs.Whole.{with_table}
+use Rattle.proc.specs.Whole.{with_memory, with_table}
 use Rattle.spaces.specs.Spaces.{Spaces, has_pipe}
 use Rattle.unixmodel.specs.Console.{Console}
 use Rattle.unixmodel.specs.declared.process.Pending.{Pending}
@@ -12,6 +12,7 @@ use Rattle.unixmodel.specs.OpenFiles.{OpenFile, Target}
 use Rattle.unixmodel.specs.OpenFiles.Target.{OnNode, OnPipe}
 use Rattle.unixmodel.specs.ProcessCalls.{sleep_time}
 use Rattle.unixmodel.specs.State.{State}
+use Rattle.unixmodel.specs.Turn.{pending_file}
 
 -- ---- sleep
 
@@ -36,3 +37,7 @@ seen s places = with_table s (record { places = places; last = 0; next_pid = 0; 
 abbrev pub Stands : Spaces → Target → Type 0
 Stands s (OnNode n offset) = Unit {0}
 Stands s (OnPipe q end) = has_pipe s q ≡ true
+
+-- what the open file of a pending read or write is open on
+abbrev pub pending_target : State → Process → Pending → Option Target
+pending_target s p w = option_map (λ (f : OpenFile). f.target) (pending_file s (with_memory [] p) w)

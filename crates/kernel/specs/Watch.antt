@@ -1,5 +1,5 @@
 -- Who a turn need not look at, and who is woken.
-use Rattle.std.specs.Prelude.{Bool, List, None, Option, Some, [], false, true, ℕ, ◌||◌, ◌∷◌, ◌≡◌}
+use Rattle.std.specs.Prelude.{Bool, List, None, Option, Some, [], false, true, ℕ, ℤ, ◌||◌, ◌∷◌, ◌≡◌}
 use Rattle.kernel.specs.Kernel.{Kernel}
 use Rattle.kernel.specs.Ready.{awaited_in, has_slept, seen}
 use Rattle.kernel.specs.declared.channels.Channel.{Channel}
@@ -7,14 +7,14 @@ use Rattle.kernel.specs.declared.channels.Channel.TheVariants.{Bytes, Children, 
 use Rattle.files.specs.Places.{opens_of}
 use Rattle.proc.specs.declared.process.Process.{Process}
 use Rattle.proc.specs.Mask.{is_in}
-use Rattle.proc.specs.Places.{Places}
+use Rattle.proc.specs.Places.{Places, exited}
 use Rattle.proc.specs.Whole.{with_memory}
 use Rattle.unixmodel.specs.declared.call.Call.{Call}
 use Rattle.unixmodel.specs.declared.call.Call.TheVariants.{Read, Sleep, Wait, Write}
 use Rattle.unixmodel.specs.declared.process.Mode.{Mode}
 use Rattle.unixmodel.specs.declared.process.Mode.TheVariants.{Ready, Running, Waiting, Zombie}
 use Rattle.unixmodel.specs.declared.process.Pending.{Pending}
-use Rattle.unixmodel.specs.Files.{slot}
+use Rattle.unixmodel.specs.Files.{put, slot}
 use Rattle.unixmodel.specs.State.{State, holds}
 use Rattle.unixmodel.specs.Turn.{can_go_on}
 
@@ -48,6 +48,10 @@ roused test (o ∷ os) (b ∷ bs) = (holds test o || b) ∷ roused test os bs
 -- who waits on a channel is awake
 abbrev pub woken_by : Channel → Places → Places
 woken_by c t = record t { awake = roused (waits_on c) t.places t.awake }
+
+-- a process, which goes back to its place, has ended, and who may wait for that is awake
+abbrev pub ended_in : Places → ℕ → Process → ℤ → Places
+ended_in t at process status = woken_by Bytes (woken_by Children (exited (record t { places = put t.places at process }) at status))
 
 -- ---- who is asleep
 

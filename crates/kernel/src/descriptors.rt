@@ -1,9 +1,9 @@
 //! The open files that the descriptors of a process name.
 ghost use Rattle.std.specs.Prelude.{◌≡◌, ◌<◌, ◌≤◌, ℕ, IfSome, count_by, false, is_none, length};
-ghost use Rattle.kernel.specs.Descriptors.{after_close, all_closed, all_shared, standing};
-ghost use Rattle.kernel.specs.Holding.{AreHeld, all_dropped, gone_nodes, last_node};
+ghost use Rattle.kernel.specs.Descriptors.{all_closed, all_shared, standing, without_end};
+ghost use Rattle.kernel.specs.Holding.{AreHeld, HasDropped, gone_nodes, last_node};
 ghost use Rattle.files.specs.Pipes.{IsPiped};
-ghost use Rattle.files.specs.Places.{closed, count_at, last_target, opens_of};
+ghost use Rattle.files.specs.Places.{closed, count_at, opens_of};
 ghost use Rattle.tree.specs.Tree.{Serves};
 ghost use Rattle.unixmodel.specs.Files.{free_slot, slot};
 
@@ -64,7 +64,7 @@ pub fn close<T: Translate + Drop>(
     requires { IsPiped spaces.old.pipes (opens_of files.old) }
     ensures node { result ≡ last_node files.old id }
     ensures files { files.new ≡ closed files.old id }
-    ensures pipes { spaces.new ≡ record spaces.old { pipes = after_close spaces.old.pipes (opens_of (closed files.old id)) (last_target files.old id) } }
+    ensures pipes { spaces.new ≡ without_end spaces.old files.old id }
 {
     match files.close(id)? {
         Target::Pipe { pipe, .. } => {
@@ -106,7 +106,7 @@ pub fn close_all<T: Translate + Drop>(
 pub fn let_go<D: BlockDev>(tree: &mut Tree<D>, nodes: &[u32]) -> Result<(), DeviceFault>
     requires up { tree.old.failed ≡ false }
     requires held { AreHeld tree.old nodes.now }
-    ensures { Serves tree.old tree.new result (λ done. tree.new ≡ record (all_dropped tree.old nodes.now) { failures = tree.new.failures }) }
+    ensures { Serves tree.old tree.new result (λ done. HasDropped tree.old tree.new nodes.now) }
 {
     for node in nodes {
         tree.drop_hold(*node as usize)?;

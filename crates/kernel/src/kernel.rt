@@ -3,26 +3,23 @@ ghost use Rattle.std.specs.Prelude.{false, ◌≡◌, ◌≢◌, ◌+◌, ◌++�
 ghost use Rattle.std.specs.Prelude.{if◌then◌else◌, ◌==◌, option_map, OnOk, OnErr, Ok, Err};
 ghost use Rattle.std.specs.Io.KnownBytes.{Appends};
 ghost use Rattle.std.specs.Option.{option_copied};
-ghost use Rattle.kernel.specs.Kernel.{answered, argument, begun, blocked, computed, counting, descriptors_at, ended, entered, idle, left_as, loaded, marked, on_hart, picked, started, state_of, ticked, typed, waking};
+ghost use Rattle.kernel.specs.Kernel.{answered, argument, begun, blocked, descriptors_at, entered, idle, left_as, loaded, marked, on_hart, picked, started, state_of, ticked, typed, waking, Executes, HasEnded, left_in};
 ghost use Rattle.kernel.specs.Sound.{CanRun, IsAwaiting, IsKernel, IsPending, can_answer};
 ghost use Rattle.kernel.specs.Sound.{CanEnd};
 ghost use Rattle.kernel.specs.Ready.{awaited, seen};
 ghost use Rattle.kernel.specs.Descriptors.{all_closed, standing};
 ghost use Rattle.kernel.specs.Holding.{gone_nodes};
-ghost use Rattle.kernel.specs.Watch.{Watches, woken_by};
-ghost use Rattle.kernel.specs.declared.channels.Channel.TheVariants as channel;
+ghost use Rattle.kernel.specs.Watch.{Watches, ended_in};
 ghost use Rattle.files.specs.Pipes.{IsPiped};
 ghost use Rattle.console.specs.Output.{AppendsBeginning};
 ghost use Rattle.files.specs.Meant.{end_of, target_of};
 ghost use Rattle.files.specs.Places.{has_end, opens_of};
-ghost use Rattle.proc.specs.Places.{changed, exited, has_pid, place_where, with_mode};
-ghost use Rattle.spaces.specs.Spaces.{view_at};
+ghost use Rattle.proc.specs.Places.{has_pid, place_where};
+ghost use Rattle.spaces.specs.Spaces.{view_at, cycle_at};
 ghost use Rattle.tree.specs.Tree.{Serves};
 ghost use Rattle.unixmodel.specs.Console.{key};
-ghost use Rattle.unixmodel.specs.Cycle.{cycle};
 ghost use Rattle.unixmodel.specs.Failures.{Rises};
-ghost use Rattle.unixmodel.specs.Files.{put, slot};
-ghost use Rattle.unixmodel.specs.Meaning.{Computed};
+ghost use Rattle.unixmodel.specs.Files.{slot};
 ghost use Rattle.unixmodel.specs.Memory.{can_write, reach, read_bytes};
 ghost use Rattle.unixmodel.specs.declared.trap.Access.TheVariants.{Load};
 ghost use Rattle.vm.specs.Reach.{piece_at};
@@ -31,6 +28,7 @@ ghost use Rattle.unixmodel.specs.declared.process.Mode.TheVariants.{Ready};
 
 mod duplicate;
 mod idle;
+mod instructions;
 mod show;
 
 use crate::channels::{Channel, wakeup};
@@ -90,7 +88,7 @@ fn halted_after(pid: u32, status: i32, halted: Option<i32>) -> Option<i32>
 
 // The process that ran, in a place, runs no more.
 fn leave<T: Translate + Drop>(table: &mut Table, spaces: &mut Spaces<T>, at: usize, mode: Mode)
-    ensures table { table.new ≡ changed table.old at (λ p. with_mode mode (on_hart spaces.old p)) }
+    ensures table { table.new ≡ left_in table.old spaces.old at mode }
     ensures spaces { spaces.new ≡ idle spaces.old }
 {
     table.leave(at, spaces.registers(), spaces.pc(), mode);
@@ -99,7 +97,7 @@ fn leave<T: Translate + Drop>(table: &mut Table, spaces: &mut Spaces<T>, at: usi
 
 /// The process that ran, in a place, runs no more, and is ready: for a call that a failed access of the device broke off.
 pub fn stop<T: Translate + Drop>(table: &mut Table, spaces: &mut Spaces<T>, at: usize)
-    ensures table { table.new ≡ changed table.old at (λ p. with_mode Ready (on_hart spaces.old p)) }
+    ensures table { table.new ≡ left_in table.old spaces.old at Ready }
     ensures spaces { spaces.new ≡ idle spaces.old }
 {
     leave(table, spaces, at, Mode::Ready);
@@ -118,7 +116,7 @@ fn end<T: Translate + Drop>(
     requires within { at < 64 }
     requires piped { IsPiped spaces.old.pipes (opens_of files.old) }
     ensures nodes { result.items ≡ gone_nodes files.old process.descriptors ++ process.directory ∷ [] }
-    ensures table { table.new ≡ woken_by channel.Bytes (woken_by channel.Children (exited (record table.old { places = put table.old.places at process }) at status)) }
+    ensures table { table.new ≡ ended_in table.old at process status }
     ensures files { files.new ≡ all_closed files.old process.descriptors }
     ensures spaces { spaces.new ≡ record (idle spaces.old) { pipes = standing spaces.old.pipes (opens_of files.new) } }
 {
@@ -152,7 +150,8 @@ impl<D: BlockDev, T: Translate + Drop> Kernel<D, T> {
 
     /// The device of the disk, which counts its failures.
     pub fn device(&self) -> &D
-        ensures { D.failures result.now ≡ self.now.tree.failures }
+        ensures failures { D.failures result.now ≡ self.now.tree.failures }
+        ensures identity { D.identity result.now ≡ self.now.tree.identity }
     {
         self.tree.device()
     }
@@ -244,8 +243,8 @@ impl<D: BlockDev, T: Translate + Drop> Kernel<D, T> {
     /// Does the instruction at the pc of the running process, or says why it isn't done.
     pub fn execute(&mut self, at: usize) -> Option<Trap>
         requires { self.old.spaces.active ≡ Some at }
-        ensures done { IfNone result ((d : Computed) × (cycle self.old.spaces.registers self.old.spaces.pc (view_at self.old.spaces at).memory ≡ Ok d) × (self.new ≡ computed self.old at d)) }
-        ensures trap { IfSome result (λ t. (cycle self.old.spaces.registers self.old.spaces.pc (view_at self.old.spaces at).memory ≡ Err t) × (self.new ≡ self.old)) }
+        ensures done { IfNone result (Executes self.old self.new at) }
+        ensures trap { IfSome result (λ t. (cycle_at self.old.spaces at ≡ Err t) × (self.new ≡ self.old)) }
     {
         let trap = self.spaces.execute();
         self.spaces.frames_suffice();
@@ -305,7 +304,7 @@ impl<D: BlockDev, T: Translate + Drop> Kernel<D, T> {
     #[inline(never)]
     pub fn finish(&mut self, at: usize, status: i32) -> Result<(), DeviceFault>
         requires { CanEnd self.old at }
-        ensures { Serves self.old.tree self.new.tree result (λ done. self.new ≡ waking (counting (ended self.old at status) self.new.tree.failures) self.new.table.awake) }
+        ensures { Serves self.old.tree self.new.tree result (λ done. HasEnded self.old self.new at status) }
     {
         self.is_sound();
         let Some(process) = self.whole(at) else {

@@ -1,12 +1,11 @@
 //! Who is ready.
 ghost use Rattle.std.specs.Prelude.{◌≡◌, ◌≤◌, ◌+◌, ◌-◌, ◌%◌, ◌^◌, [], IfSome, Some, None, option_map, true, nat_le};
-ghost use Rattle.kernel.specs.Ready.{Stands, awaited, has_slept, seen};
+ghost use Rattle.kernel.specs.Ready.{Stands, awaited, has_slept, pending_target, seen};
 ghost use Rattle.files.specs.Meant.{target_of};
 ghost use Rattle.files.specs.Pipes.{IsPiped};
 ghost use Rattle.files.specs.Places.{opens_of};
 ghost use Rattle.proc.specs.Whole.{with_memory};
-ghost use Rattle.unixmodel.specs.OpenFiles.{OpenFile};
-ghost use Rattle.unixmodel.specs.Turn.{can_go_on, can_read_from, can_write_to, is_ready, pending_file, ready};
+ghost use Rattle.unixmodel.specs.Turn.{can_go_on, can_read_from, can_write_to, is_ready, ready};
 
 use crate::descriptors::named;
 use crate::numbers::{low, natural};
@@ -39,7 +38,7 @@ impl<T: Translate + Drop> Awaited<'_, T> {
     // What the open file of a pending read or write is open on.
     fn pending_target(&self, process: &Process, pending: &Pending) -> Option<Target>
         requires { IsPiped self.now.spaces.now.pipes (opens_of self.now.files.now) }
-        ensures target { option_map target_of result ≡ option_map (λ (f : OpenFile). f.target) (pending_file (awaited self.now) (with_memory [] process.now) pending.now) }
+        ensures target { option_map target_of result ≡ pending_target (awaited self.now) process.now pending.now }
         ensures stands { IfSome result (λ t. Stands self.now.spaces.now (target_of t)) }
     {
         let Some(id) = named(&process.descriptors, low(pending.args[0])) else {

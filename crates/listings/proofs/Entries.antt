@@ -11,7 +11,7 @@ use Rattle.listings.specs.Listed.{IsAtRest, IsFolder}
 -- ---- files at rest
 
 -- the files of an image are
-pub rests : {image : List ℕ} {failures : ℕ} {tree : FileTree} → IsMounted image failures tree → IsAtRest tree
+pub rests : {image identity : List ℕ} {failures : ℕ} {tree : FileTree} → IsMounted image identity failures tree → IsAtRest tree
 rests {image} {failures} {tree} mounted = record {
   up = mounted.up;
   rules = mounted.rules;

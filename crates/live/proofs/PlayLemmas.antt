@@ -4,7 +4,7 @@ use Rattle.std.proofs.KnownBytes.{Appends-kept}
 use Rattle.std.proofs.Math.Seq.{take-append-add}
 use Rattle.std.proofs.lemmas.List.{take-append-le}
 use Rattle.std.specs.Io.KnownBytes.{Keeps}
-use Rattle.machine.proofs.Runs.{run-append, then_runs}
+use Rattle.calls.proofs.Runs.{run-append, then_runs}
 use Rattle.machine.proofs.RunLemmas.{Appends-trans, Rises-later, SoFar, up_now}
 use Rattle.calls.specs.declared.halt.Halt.{Halt}
 use Rattle.calls.specs.declared.halt.Halt.TheVariants.{Console, Device, Halted, InitEnded}
@@ -17,7 +17,7 @@ use Rattle.unixmodel.specs.State.{State}
 
 -- the bytes are written out
 pub done-kept : {first now : View} {all : After} {before mid after : Option (List ℕ)} {r : Option ℤ} → IsDone first now all before mid r → Keeps mid after → IsDone first now all before after r
-done-kept h keeps = record { state = h.state; halts = h.halts; sound = h.sound; printed = Appends-kept _ _ _ _ h.printed keeps; later = h.later }
+done-kept h keeps = record { state = h.state; halts = h.halts; sound = h.sound; printed = Appends-kept _ _ _ _ h.printed keeps; same_device = h.same_device; later = h.later }
 
 pub so-far-kept : {first now : View} {es : List Event} {before mid after : Option (List ℕ)} → SoFar first now es before mid → Keeps mid after → SoFar first now es before after
 so-far-kept h keeps = record { began = h.began; done = done-kept h.done keeps }
@@ -39,6 +39,7 @@ module _ (first now new : View) (xs ys : List Event) (before mid after : Option 
     halts = k.halts;
     sound = k.sound;
     printed = Appends-trans _ _ _ _ _ h.done.printed k.printed;
+    same_device = k.same_device ∙ h.done.same_device;
     later = let l = h.done.later in let m = k.later in omega arith;
   })
 
@@ -67,6 +68,7 @@ module _ (first now new : View) (xs ys : List Event) (before mid after : Option 
             later = let l = h.done.later in let m = k.1.fails.later in omega arith;
             failed = k.1.fails.failed;
             printed = Appends-trans _ _ _ _ _ h.done.printed k.1.fails.printed;
+            same_device = k.1.fails.same_device ∙ h.done.same_device;
           });
         },
       )
@@ -89,6 +91,7 @@ module _ (first now new : View) (xs ys : List Event) (before mid after : Option 
           more = rw (length-append xs ys) (let m = k.1.more in omega arith);
           goes = rw whole k.1.goes;
           files = rw whole k.1.files;
+          same_device = k.1.same_device ∙ h.done.same_device;
           later = let l = h.done.later in let m = k.1.later in omega arith;
         },
       )
@@ -137,6 +140,7 @@ stops_before old new ys zs before after rises Console k =
         more = rw (length-append ys zs) (let m = k.1.more in omega arith);
         goes = rw front k.1.goes;
         files = rw front k.1.files;
+        same_device = k.1.same_device;
         later = k.1.later;
       },
     )

@@ -1,6 +1,7 @@
 -- The events of a session: what a machine is given as its keyboard gives keys, nothing or its end.
 use Rattle.std.specs.Prelude.{Bool, Err, List, Ok, Option, Result, [], false, fold, if◌then◌else◌, map, option_map, replicate, true, ℕ, ◌+◌, ◌++◌, ◌∷◌, ◌≡◌, ◌≤◌, length, suc, zero, ◌⊎◌}
 use Rattle.calls.specs.declared.halt.Halt.{Halt}
+use Rattle.console.specs.declared.output.Writer.{Writer}
 use Rattle.kernel.specs.Idle.{is_anyone_asleep, is_idle}
 use Rattle.live.specs.declared.terminal.Given.{Given}
 use Rattle.live.specs.declared.terminal.Given.TheVariants.{End, Keys, Nothing}
@@ -84,6 +85,11 @@ pub record IsGiven (all : List Event) (old new : View) (before after : Option (L
   pub runs : RunGives old new events before after (Rises failed fails) result
   pub later : failed ≤ fails
 
+-- the same, read off an output that takes the bytes and a keeper that keeps the events
+abbrev pub GivesTo : {W S : Type 0} → (W → Option (List ℕ)) → (W → ℕ) → (S → Option (List Event)) → View → View → W → W → S → S → List Event → Result (Unit {0}) Halt → Type 0
+GivesTo contents failures kept old new from to before after events result =
+    IsGiven events old new (contents from) (contents to) (failures from) (failures to) (kept before) (kept after) result
+
 -- a keyboard gave this first
 abbrev pub GaveFirst : Option (List Given) → List Given → Option (List Given) → Type 0
 GaveFirst gives gave later = gives ≡ option_map (λ rest. gave ++ rest) later
@@ -100,3 +106,8 @@ pub record IsSession (quantum : ℕ) (gives later : Option (List Given)) (old ne
   pub first : GaveFirst gives gave later
   pub given : IsGiven (session quantum old.state gave) old new before after failed fails kept keeps result
   pub ends : Ends gave failed fails result
+
+-- the same, read off a writer and a terminal
+abbrev pub SessionGives : {W S : Type 0} → (W → Option (List ℕ)) → (S → Option (List Given)) → (S → Option (List Event)) → ℕ → View → View → Writer W → Writer W → S → S → Result (Unit {0}) Halt → Type 0
+SessionGives contents gives kept quantum old new from to before after result =
+    IsSession quantum (gives before) (gives after) old new (contents from.inner) (contents to.inner) from.failed to.failed (kept before) (kept after) result

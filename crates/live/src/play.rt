@@ -1,12 +1,11 @@
 //! Gives a machine the events of a script.
 ghost use Rattle.std.specs.Prelude.{◌≤◌, map, replicate};
 ghost use Rattle.std.specs.Io.KnownBytes.{Keeps};
-ghost use Rattle.machine.specs.Gives.{RunGives, StepGives};
+ghost use Rattle.machine.specs.Gives.{RunGivesTo, StepGivesTo};
 ghost use Rattle.machine.specs.View.{IsUp};
-ghost use Rattle.unixmodel.specs.Failures.{Rises};
 ghost use Rattle.unixmodel.specs.Next.{next};
 ghost use Rattle.unixmodel.specs.declared.event.Event.TheVariants.{Key};
-ghost use Rattle.live.specs.Plays.{events_of, script_events};
+ghost use Rattle.live.specs.Plays.{RunWrites, events_of, script_events};
 
 use crate::watch::Watch;
 use blockdev::BlockDev;
@@ -23,6 +22,9 @@ const LINE_END: u8 = 0x0a;
 /// How many events there are at most between two times at which the console's bytes are written out.
 const BATCH: u32 = 65536;
 
+/// So many steps at least go in one loop: to enter it costs as much as a few steps.
+const LOOP: u32 = 8;
+
 // One event, at which somebody looks on. It is inlined, so that the loop of a run has the machine's step in it: what calls it else
 // gives an event that is known.
 #[inline(always)]
@@ -32,7 +34,7 @@ fn step<D: BlockDev, T: Translate + Drop, V: Watch, W: Out>(
     watch: &mut V,
     out: &mut W,
 ) -> Result<(), Halt>
-    ensures gives { StepGives machine.old machine.new (next machine.old.state event) (W.contents out.old) (W.contents out.new) (Rises (W.failures out.old) (W.failures out.new)) result }
+    ensures gives { StepGivesTo W.contents W.failures machine.old machine.new out.old out.new (next machine.old.state event) result }
     ensures later { W.failures out.old ≤ W.failures out.new }
 {
     watch.before(machine, event);
@@ -41,8 +43,8 @@ fn step<D: BlockDev, T: Translate + Drop, V: Watch, W: Out>(
     ended
 }
 
-// The same event, so many times, with nothing between.
-fn batch<D: BlockDev, T: Translate + Drop, V: Watch, W: Out>(
+// The same event, so many times, with nothing between: each by itself.
+fn each<D: BlockDev, T: Translate + Drop, V: Watch, W: Out>(
     machine: &mut Machine<D, T>,
     event: Event,
     times: u32,
@@ -50,7 +52,7 @@ fn batch<D: BlockDev, T: Translate + Drop, V: Watch, W: Out>(
     out: &mut W,
 ) -> Result<(), Halt>
     requires { IsUp machine.old }
-    ensures gives { RunGives machine.old machine.new (replicate times event) (W.contents out.old) (W.contents out.new) (Rises (W.failures out.old) (W.failures out.new)) result }
+    ensures gives { RunGivesTo W.contents W.failures machine.old machine.new out.old out.new (replicate times event) result }
     ensures later { W.failures out.old ≤ W.failures out.new }
 {
     let mut left = times;
@@ -61,24 +63,62 @@ fn batch<D: BlockDev, T: Translate + Drop, V: Watch, W: Out>(
     Ok(())
 }
 
-// The same event, so many times. The console's bytes are written out before each batch; what the writer doesn't take then it keeps
-// back, and is asked again.
-fn repeat<D: BlockDev, T: Translate + Drop, V: Watch, W: Write>(
+// The same event, so many times, with nothing between: steps that nobody looks at go in one loop.
+fn batch<D: BlockDev, T: Translate + Drop, V: Watch, W: Out>(
     machine: &mut Machine<D, T>,
     event: Event,
     times: u32,
     watch: &mut V,
+    out: &mut W,
+) -> Result<(), Halt>
+    requires { IsUp machine.old }
+    ensures gives { RunGivesTo W.contents W.failures machine.old machine.new out.old out.new (replicate times event) result }
+    ensures later { W.failures out.old ≤ W.failures out.new }
+{
+    match event {
+        Event::Step if times >= LOOP && !watch.sees_steps() => machine.steps(times, out),
+        _ => each(machine, event, times, watch, out),
+    }
+}
+
+// Before more of an event that came so often: the console's bytes are written out, if there would be more events than a batch has since that
+// was done. What the writer doesn't take it keeps back, and is asked again.
+fn write_out<V: Watch, W: Write>(
+    event: Event,
+    made: u32,
+    more: u32,
+    since: &mut u32,
+    watch: &mut V,
+    out: &mut Writer<W>,
+)
+    ensures kept { Keeps (W.contents out.old.inner) (W.contents out.new.inner) }
+    ensures later { out.old.failed ≤ out.new.failed }
+{
+    *since = since.saturating_add(more);
+    if *since > BATCH {
+        *since = more;
+        let _ = out.flush();
+        watch.written_out(event, made);
+    }
+}
+
+// The same event, so many times.
+fn repeat<D: BlockDev, T: Translate + Drop, V: Watch, W: Write>(
+    machine: &mut Machine<D, T>,
+    event: Event,
+    times: u32,
+    since: &mut u32,
+    watch: &mut V,
     out: &mut Writer<W>,
 ) -> Result<(), Halt>
     requires { IsUp machine.old }
-    ensures gives { RunGives machine.old machine.new (replicate times event) (W.contents out.old.inner) (W.contents out.new.inner) (Rises out.old.failed out.new.failed) result }
+    ensures gives { RunWrites W.contents machine.old machine.new out.old out.new (replicate times event) result }
     ensures later { out.old.failed ≤ out.new.failed }
 {
     let mut made = 0;
     while made < times {
         let count = BATCH.min(times - made);
-        let _ = out.flush();
-        watch.written_out(event, made);
+        write_out(event, made, count, since, watch, out);
         batch(machine, event, count, watch, out)?;
         made += count;
     }
@@ -94,7 +134,7 @@ pub(crate) fn press<D: BlockDev, T: Translate + Drop, V: Watch, W: Out>(
     out: &mut W,
 ) -> Result<(), Halt>
     requires { IsUp machine.old }
-    ensures gives { RunGives machine.old machine.new (map Key keys.now) (W.contents out.old) (W.contents out.new) (Rises (W.failures out.old) (W.failures out.new)) result }
+    ensures gives { RunGivesTo W.contents W.failures machine.old machine.new out.old out.new (map Key keys.now) result }
     ensures later { W.failures out.old ≤ W.failures out.new }
 {
     for key in keys {
@@ -107,16 +147,17 @@ pub(crate) fn press<D: BlockDev, T: Translate + Drop, V: Watch, W: Out>(
 fn obey<D: BlockDev, T: Translate + Drop, V: Watch, W: Write>(
     machine: &mut Machine<D, T>,
     command: &Command<'_>,
+    since: &mut u32,
     watch: &mut V,
     out: &mut Writer<W>,
 ) -> Result<(), Halt>
     requires { IsUp machine.old }
-    ensures gives { RunGives machine.old machine.new (events_of command.now) (W.contents out.old.inner) (W.contents out.new.inner) (Rises out.old.failed out.new.failed) result }
+    ensures gives { RunWrites W.contents machine.old machine.new out.old out.new (events_of command.now) result }
     ensures later { out.old.failed ≤ out.new.failed }
 {
     match command {
-        Command::Step(times) => repeat(machine, Event::Step, *times, watch, out),
-        Command::Tick(times) => repeat(machine, Event::Tick, *times, watch, out),
+        Command::Step(times) => repeat(machine, Event::Step, *times, since, watch, out),
+        Command::Tick(times) => repeat(machine, Event::Tick, *times, since, watch, out),
         Command::Keys(keys) => press(machine, keys.as_slice(), watch, out),
         Command::Type(text) => {
             press(machine, text, watch, out)?;
@@ -134,11 +175,13 @@ pub fn play<D: BlockDev, T: Translate + Drop, V: Watch, W: Write>(
     out: &mut Writer<W>,
 ) -> Result<(), Halt>
     requires { IsUp machine.old }
-    ensures gives { RunGives machine.old machine.new (script_events script.now) (W.contents out.old.inner) (W.contents out.new.inner) (Rises out.old.failed out.new.failed) result }
+    ensures gives { RunWrites W.contents machine.old machine.new out.old out.new (script_events script.now) result }
     ensures later { out.old.failed ≤ out.new.failed }
 {
+    // How many events there were since the console's bytes were written out.
+    let mut since = 0;
     for command in script {
-        obey(machine, command, watch, out)?;
+        obey(machine, command, &mut since, watch, out)?;
     }
     Ok(())
 }

@@ -1,9 +1,8 @@
 //! A session: a machine is given what is typed, and time.
 ghost use Rattle.std.specs.Prelude.{◌≡◌, ◌≤◌, OnOk, false, map, replicate, true};
-ghost use Rattle.live.specs.Sessions.{IsGiven, IsSession, answered, is_end, is_ticked, keys_of, mood_of, moved, steps, ticks_of, work};
-ghost use Rattle.machine.specs.Gives.{RunGives};
+ghost use Rattle.live.specs.Sessions.{GivesTo, SessionGives, answered, is_end, is_ticked, keys_of, mood_of, moved, steps, ticks_of, work};
+ghost use Rattle.machine.specs.Gives.{RunGivesTo};
 ghost use Rattle.machine.specs.View.{IsUp};
-ghost use Rattle.unixmodel.specs.Failures.{Rises};
 ghost use Rattle.unixmodel.specs.declared.event.Event.TheVariants.{Step};
 ghost use Rattle.unixmodel.specs.declared.event.Event.TheVariants as event;
 
@@ -64,7 +63,7 @@ fn work<D: BlockDev, T: Translate + Drop, W: Out>(
     out: &mut W,
 ) -> (u32, Result<(), Halt>)
     requires { IsUp machine.old }
-    ensures gives { RunGives machine.old machine.new (replicate result.0 Step) (W.contents out.old) (W.contents out.new) (Rises (W.failures out.old) (W.failures out.new)) result.1 }
+    ensures gives { RunGivesTo W.contents W.failures machine.old machine.new out.old out.new (replicate result.0 Step) result.1 }
     ensures count { result.0 ≤ work most machine.old.state }
     ensures all { OnOk result.1 (result.0 ≡ work most machine.old.state) }
     ensures later { W.failures out.old ≤ W.failures out.new }
@@ -89,7 +88,8 @@ fn advance<D: BlockDev, T: Translate + Drop, S: Terminal, W: Out>(
     out: &mut W,
 ) -> Result<(), Halt>
     requires { IsUp machine.old }
-    ensures given { IsGiven (steps quantum machine.old.state) machine.old machine.new (W.contents out.old) (W.contents out.new) (W.failures out.old) (W.failures out.new) (S.kept terminal.old) (S.kept terminal.new) result }
+    ensures given { GivesTo W.contents W.failures S.kept machine.old machine.new out.old out.new terminal.old terminal.new
+        (steps quantum machine.old.state) result }
     ensures gives { S.gives terminal.new ≡ S.gives terminal.old }
 {
     let (count, ended) = work(machine, quantum, out);
@@ -105,7 +105,8 @@ fn type_keys<D: BlockDev, T: Translate + Drop, S: Terminal, W: Out>(
     out: &mut W,
 ) -> Result<(), Halt>
     requires { IsUp machine.old }
-    ensures given { IsGiven (map event.Key keys.now) machine.old machine.new (W.contents out.old) (W.contents out.new) (W.failures out.old) (W.failures out.new) (S.kept terminal.old) (S.kept terminal.new) result }
+    ensures given { GivesTo W.contents W.failures S.kept machine.old machine.new out.old out.new terminal.old terminal.new
+        (map event.Key keys.now) result }
     ensures gives { S.gives terminal.new ≡ S.gives terminal.old }
 {
     terminal.note(Move::Keys(keys));
@@ -120,7 +121,8 @@ fn tick_if<D: BlockDev, T: Translate + Drop, S: Terminal, W: Out>(
     out: &mut W,
 ) -> Result<(), Halt>
     requires { IsUp machine.old }
-    ensures given { IsGiven (ticks_of is_due) machine.old machine.new (W.contents out.old) (W.contents out.new) (W.failures out.old) (W.failures out.new) (S.kept terminal.old) (S.kept terminal.new) result }
+    ensures given { GivesTo W.contents W.failures S.kept machine.old machine.new out.old out.new terminal.old terminal.new
+        (ticks_of is_due) result }
     ensures gives { S.gives terminal.new ≡ S.gives terminal.old }
 {
     if is_due {
@@ -140,7 +142,8 @@ fn answer<D: BlockDev, T: Translate + Drop, S: Terminal, W: Out>(
     out: &mut W,
 ) -> Result<(), Halt>
     requires { IsUp machine.old }
-    ensures given { IsGiven (answered mood given.now) machine.old machine.new (W.contents out.old) (W.contents out.new) (W.failures out.old) (W.failures out.new) (S.kept terminal.old) (S.kept terminal.new) result }
+    ensures given { GivesTo W.contents W.failures S.kept machine.old machine.new out.old out.new terminal.old terminal.new
+        (answered mood given.now) result }
     ensures gives { S.gives terminal.new ≡ S.gives terminal.old }
 {
     type_keys(machine, keys(given), terminal, out)?;
@@ -171,7 +174,8 @@ fn go_on<D: BlockDev, T: Translate + Drop, S: Terminal, W: Out>(
 ) -> Result<(), Halt>
     requires up { IsUp machine.old }
     requires more { is_end given.now ≡ false }
-    ensures given { IsGiven (moved quantum machine.old.state given.now) machine.old machine.new (W.contents out.old) (W.contents out.new) (W.failures out.old) (W.failures out.new) (S.kept terminal.old) (S.kept terminal.new) result }
+    ensures given { GivesTo W.contents W.failures S.kept machine.old machine.new out.old out.new terminal.old terminal.new
+        (moved quantum machine.old.state given.now) result }
     ensures gives { S.gives terminal.new ≡ S.gives terminal.old }
 {
     show_if(machine, given, terminal);
@@ -189,7 +193,7 @@ pub fn session<D: BlockDev, T: Translate + Drop, S: Terminal, W: Write>(
     out: &mut Writer<W>,
 ) -> Result<(), Halt>
     requires { IsUp machine.old }
-    ensures { IsSession quantum (S.gives terminal.old) (S.gives terminal.new) machine.old machine.new (W.contents out.old.inner) (W.contents out.new.inner) out.old.failed out.new.failed (S.kept terminal.old) (S.kept terminal.new) result }
+    ensures { SessionGives W.contents S.gives S.kept quantum machine.old machine.new out.old out.new terminal.old terminal.new result }
 {
     advance(machine, quantum, terminal, out)?;
     for _moves in 0..u64::MAX {

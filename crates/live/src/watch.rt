@@ -18,6 +18,13 @@ pub trait Watch {
         ended: Result<(), Halt>,
     );
 
+    /// Whether it looks at each step. Where it doesn't, steps that follow one another are given at once, and `before` and `after` aren't
+    /// called for them.
+    #[inline]
+    fn sees_steps(&self) -> bool {
+        true
+    }
+
     /// The console's bytes were written out, before this event that comes again and again, and came so many times so far.
     #[inline]
     fn written_out(&mut self, _event: Event, _made: u32) {}
@@ -49,6 +56,11 @@ impl Watch for Nobody {
         _event: Event,
         _ended: Result<(), Halt>,
     ) {}
+
+    #[inline]
+    fn sees_steps(&self) -> bool {
+        false
+    }
 
     #[inline]
     fn end<D: BlockDev, T: Translate + Drop>(&mut self, _machine: &Machine<D, T>) {}

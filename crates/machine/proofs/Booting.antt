@@ -217,15 +217,17 @@ module _ (old mid : FileTree) (unheld : IsUnheld old) (same : mid ≡ record old
   pub kernel-sound : IsKernel (begun held table put opens)
   kernel-sound = subst IsKernel (sym kernel-is) (init-sound old mid unheld same whole frames placed.plan (let fits = placed.fits in omega (arith, fits, count)) placed.aligned)
 
-  pub begun-init : (kernel : Kernel) → kernel ≡ begun held table put opens → (m : View) → m ≡ sound_view (state_of kernel) kernel.tree.failures → old.failures ≤ mid.failures → IsBegun old frames m
+  pub begun-init : (kernel : Kernel) → kernel ≡ begun held table put opens → (m : View) → m ≡ sound_view (state_of kernel) kernel.tree.failures kernel.tree.identity → old.failures ≤ mid.failures → IsBegun old frames m
   begun-init kernel made m machine later =
       let is : kernel ≡ init_kernel mid frames placed.plan = made ∙ kernel-is in
       let state : m.state ≡ state_of (init_kernel mid frames placed.plan) = ap (λ (x : View). x.state) machine ∙ ap state_of is in
       let planned : init_plan mid.files ≡ Some placed.plan = ap (λ (t : FileTree). init_plan t.files) same ∙ placed.is in
       let starts : start mid.files mid.block_limit frames ≡ Some (state_of (init_kernel mid frames placed.plan)) = start-init mid frames placed.plan planned (let fits = placed.fits in omega (arith, fits, count)) in
       let failures : m.failures ≡ mid.failures = ap (λ (x : View). x.failures) machine ∙ ap (λ (k : Kernel). k.tree.failures) is in
+      let device : m.identity ≡ mid.identity = ap (λ (x : View). x.identity) machine ∙ ap (λ (k : Kernel). k.tree.identity) is in
       record {
         starts = sym (ap (λ (t : FileTree). start t.files t.block_limit frames) same) ∙ starts ∙ ap Some (sym state);
         up = record { sound = ap (λ (x : View). x.failed) machine; goes = ap (λ (x : State). x.halted) state };
+        same_device = device ∙ ap (λ (t : FileTree). t.identity) same;
         later = omega (arith, later, failures);
       }

@@ -18,7 +18,7 @@ use Rattle.programs.proofs.Stacks.{write-stack}
 use Rattle.programs.specs.Passed.{stacked}
 use Rattle.machine.specs.declared.fault.BootFault.{BootFault}
 use Rattle.machine.specs.declared.fault.BootFault.TheVariants.{FrameCount, NoInit, NoMemory}
-use Rattle.machine.specs.Flat.{LoadsFlat, alone, bare_plan, console_file, first, first_files, first_kernel, first_table, first_tree, flat_memory, flat_space}
+use Rattle.machine.specs.Flat.{LoadsFlat, alone, bare_plan, console_file, first, first_files, first_kernel, first_table, first_tree, flat_memory, flat_space, RefusesFlat}
 use Rattle.mount.specs.Mounted.{IsFlat}
 use Rattle.proc.specs.declared.process.Process.{Process}
 use Rattle.proc.specs.Mask.{all_in}
@@ -420,6 +420,6 @@ counted-flat {M} frames least most r only = (λ e. absurd (other e (subst (λ (x
   outside (inl low) = omega (arith, low, least)
   outside (inr high) = omega (arith, high, most)
 
-pub only-flat : {M : Type 0} (r : Result M BootFault) → OnErr r (IsErrOf r NoInit ⊎ IsErrOf r NoMemory) → OnErr r (IsErrOf r FrameCount ⊎ (IsErrOf r NoInit ⊎ IsErrOf r NoMemory))
+pub only-flat : {M : Type 0} (r : Result M BootFault) → OnErr r (IsErrOf r NoInit ⊎ IsErrOf r NoMemory) → RefusesFlat r
 only-flat (Ok m) only = tt
 only-flat (Err f) only = inr only

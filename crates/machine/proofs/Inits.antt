@@ -88,7 +88,7 @@ lacks-plan files frames none p is = absurd (none-some p (sym none ∙ is))
 
 -- there is no /init
 pub unresolved : {old mid : FileTree} {number : Option ℕ} (frames : ℕ) → Serves old mid (Ok number) (Resolves old mid) → number ≡ None → Serves old mid (Ok None) (λ told. Leaves old mid told × FindsInit old.files frames told)
-unresolved {old} {mid} {number} frames serves none = serves-told None (serves.told.0, lacks-plan old.files frames (plan-lost old.files (sym serves.told.1 ∙ none))) serves.up serves.cause.later
+unresolved {old} {mid} {number} frames serves none = serves-told None (serves.told.0, lacks-plan old.files frames (plan-lost old.files (sym serves.told.1 ∙ none))) serves.up serves.same_device serves.cause.later
 
 module _ {old mid : FileTree} {number : Option ℕ} (serves : Serves old mid (Ok number) (Resolves old mid)) (n : ℕ) (some : number ≡ Some n) where
   files-same : mid.files ≡ old.files
@@ -101,6 +101,9 @@ module _ {old mid : FileTree} {number : Option ℕ} (serves : Serves old mid (Ok
   resolved-node keeps = some-there (slot mid.files n) (subst (λ (files : Files). IsSome (slot files n)) (sym files-same) (find-used keeps 1 init_path n (ap is_some keeps.root.here) found))
 
   module _ {new : FileTree} {told : Option Program} (reads : Serves mid new (Ok told) (Programs mid new n)) where
+    device : new.identity ≡ old.identity
+    device = reads.same_device ∙ serves.same_device
+
     later : old.failures ≤ new.failures
     later = le_trans serves.cause.later reads.cause.later
 
@@ -111,7 +114,7 @@ module _ {old mid : FileTree} {number : Option ℕ} (serves : Serves old mid (Ok
     told-is = reads.told.0.value ∙ ap (λ (files : Files). option_and_then program_in (file_bytes (slot files n))) files-same
 
     pub no-init : (frames : ℕ) → told ≡ None → Serves old new (Ok None) (λ told. Leaves old new told × FindsInit old.files frames told)
-    no-init frames none = serves-told None (left, lacks-plan old.files frames (plan-none old.files n found (sym told-is ∙ none))) reads.up later
+    no-init frames none = serves-told None (left, lacks-plan old.files frames (plan-none old.files n found (sym told-is ∙ none))) reads.up device later
 
     module _ (program : Program) (is : told ≡ Some program) where
       has : HasProgram old.files n program
@@ -123,16 +126,16 @@ module _ {old mid : FileTree} {number : Option ℕ} (serves : Serves old mid (Ok
       -- so many pages come to that many frames
       module _ (needed frames : ℕ) (count : needed ≡ 3 + page_frames (program.pages + 2)) where
         pub large-init : frames ≤ needed → Serves old new (Ok None) (λ told. Leaves old new told × FindsInit old.files frames told)
-        large-init over = serves-told None (left, too-long old.files n program found has frames (omega (arith, over, count))) reads.up later
+        large-init over = serves-told None (left, too-long old.files n program found has frames (omega (arith, over, count))) reads.up device later
 
         pub few-pages : needed < frames → frames < 2 ^ 32 → 4096 * (program.pages + 2) < 2 ^ 64
         few-pages less small = omega (arith, count, less, small)
 
         pub argless-init : (told : Option Arguments) → PassesOne (init_path ++ 0 ∷ []) program.pages told → told ≡ None → Serves old new (Ok None) (λ told. Leaves old new told × FindsInit old.files frames told)
-        argless-init told passes none = serves-told None (left, lacks-plan old.files frames (argless old.files n program found has (subst (PassesOne (init_path ++ 0 ∷ []) program.pages) none passes))) reads.up later
+        argless-init told passes none = serves-told None (left, lacks-plan old.files frames (argless old.files n program found has (subst (PassesOne (init_path ++ 0 ∷ []) program.pages) none passes))) reads.up device later
 
         pub init-found : needed < frames → (a : Arguments) → PassesOne (init_path ++ 0 ∷ []) program.pages (Some a) → Serves old new (Ok (Some (record { number = n; program = program; arguments = a }))) (λ told. Leaves old new told × FindsInit old.files frames told)
-        init-found less a passes = serves-told (Some (record { number = n; program = program; arguments = a })) (left, init-is old.files n program found has frames a passes (omega (arith, less, count))) reads.up later
+        init-found less a passes = serves-told (Some (record { number = n; program = program; arguments = a })) (left, init-is old.files n program found has frames a passes (omega (arith, less, count))) reads.up device later
 
 -- ---- putting it in its place
 

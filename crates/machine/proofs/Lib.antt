@@ -6,4 +6,3 @@ mod Inits
 mod Mounts
 mod Looking
 pub mod RunLemmas
-pub mod Runs

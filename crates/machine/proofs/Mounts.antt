@@ -11,25 +11,29 @@ use Rattle.mount.specs.Mounted.{IsMounted, IsUnmounted}
 use Rattle.tree.specs.Tree.{FileTree}
 use Rattle.unixmodel.specs.Start.{start}
 
-module _ {image : List ℕ} {failures : ℕ} {tree : FileTree} (mounted : IsMounted image failures tree) (frames : ℕ) where
+module _ {image identity : List ℕ} {failures : ℕ} {tree : FileTree} (mounted : IsMounted image identity failures tree) (frames : ℕ) where
   accepted : IsAccepted image tree.files
   accepted = record { denotes = mounted.denotes; only = mounted.only }
 
-  pub booted-from : (r : Result View BootFault) → IfOk r (IsBegun tree frames) → IfOk r (IsBooted image failures frames)
+  pub booted-from : (r : Result View BootFault) → IfOk r (IsBegun tree frames) → IfOk r (IsBooted image identity failures frames)
   booted-from (Ok m) begun = record {
     files = tree.files;
     accepted = accepted;
     starts = ap (λ limit. start tree.files limit frames) (sym mounted.limit) ∙ begun.starts;
     up = begun.up;
+    same_device = begun.same_device ∙ mounted.same_device;
     later = le_trans mounted.later begun.later;
   }
   booted-from (Err f) begun = tt
 
-module _ {D : Type 0} (count : D → ℕ) {image : List ℕ} {failures : ℕ} {tree : FileTree} (mounted : IsMounted image failures tree) (frames : ℕ) where
-  unbooted : (f : BootFault) → IsNotBegun count tree frames f → IsUnbooted count image failures frames f
+module _ {D : Type 0} (identity : D → List ℕ) (count : D → ℕ) (disk : D) {image : List ℕ} {tree : FileTree} (mounted : IsMounted image (identity disk) (count disk) tree) (frames : ℕ) where
+  unbooted : (f : BootFault) → IsNotBegun identity count tree frames f → IsUnbooted identity count disk image frames f
   unbooted (Image f) why = absurd why
   unbooted FrameCount why = absurd why
-  unbooted Device why = (why.0, let rises = why.1 in let later = mounted.later in omega (arith, rises, later))
+  unbooted Device why =
+      let rises = why.rises in
+      let later = mounted.later in
+      (why.disk, record { reaches = record { same_device = why.same_device ∙ mounted.same_device; later = le_trans mounted.later why.later }; rises = omega (arith, rises, later) })
   unbooted NoMemory why = tt
   unbooted NoInit why = record {
     files = tree.files;
@@ -37,19 +41,19 @@ module _ {D : Type 0} (count : D → ℕ) {image : List ℕ} {failures : ℕ} {t
     none = ap (λ limit. start tree.files limit frames) (sym mounted.limit) ∙ why;
   }
 
-  pub refused-from : (r : Result View BootFault) → IfErr r (IsNotBegun count tree frames) → IfErr r (IsUnbooted count image failures frames)
+  pub refused-from : (r : Result View BootFault) → IfErr r (IsNotBegun identity count tree frames) → IfErr r (IsUnbooted identity count disk image frames)
   refused-from (Ok m) why = tt
   refused-from (Err f) why = unbooted f why
 
 -- where the count is in range the fault isn't that
-pub counted-from : {D : Type 0} (count : D → ℕ) (tree : FileTree) (frames : ℕ) → 64 ≤ frames → frames ≤ 32768 → (r : Result View BootFault) → IfErr r (IsNotBegun count tree frames) → IsErrOf r FrameCount ↔ ((frames < 64) ⊎ (32768 < frames))
-counted-from count tree frames least most r why = (λ e. absurd (subst (λ x. IfErr x (IsNotBegun count tree frames)) e why), λ out. absurd (outside out)) where
+pub counted-from : {D : Type 0} (identity : D → List ℕ) (count : D → ℕ) (tree : FileTree) (frames : ℕ) → 64 ≤ frames → frames ≤ 32768 → (r : Result View BootFault) → IfErr r (IsNotBegun identity count tree frames) → IsErrOf r FrameCount ↔ ((frames < 64) ⊎ (32768 < frames))
+counted-from identity count tree frames least most r why = (λ e. absurd (subst (λ x. IfErr x (IsNotBegun identity count tree frames)) e why), λ out. absurd (outside out)) where
   outside : ((frames < 64) ⊎ (32768 < frames)) → ⊥
   outside (inl low) = omega (arith, low, least)
   outside (inr high) = omega (arith, high, most)
 
 -- why there are no files
-pub unmounted-why : {D : Type 0} (count : D → ℕ) (image : List ℕ) (failures frames : ℕ) (f : ImageFault) → IsUnmounted count image failures f → IsUnbooted count image failures frames (boot_fault f)
-unmounted-why count image failures frames fault.Device u = u.failed refl
-unmounted-why count image failures frames fault.NoMemory u = tt
-unmounted-why count image failures frames f u = (tt, u.tells, u.none tt)
+pub unmounted-why : {D : Type 0} (identity : D → List ℕ) (count : D → ℕ) (disk : D) (image : List ℕ) (frames : ℕ) (f : ImageFault) → IsUnmounted identity count disk image f → IsUnbooted identity count disk image frames (boot_fault f)
+unmounted-why identity count disk image frames fault.Device u = u.failed refl
+unmounted-why identity count disk image frames fault.NoMemory u = tt
+unmounted-why identity count disk image frames f u = (tt, u.tells, u.none tt)

@@ -1,22 +1,18 @@
 -- How a run goes on by one step.
-use Rattle.std.proofs.Common.{◌≡◌, ℕ, ℤ, ◌+◌, ◌<◌, ◌≤◌, List, [], ◌∷◌, ◌++◌, take, drop, length, Option, Some, None, Err, refl, ap, sym, ◌∙◌, arith, append-nil}
+use Rattle.std.proofs.Common.{◌≡◌, ℕ, ℤ, ◌+◌, ◌<◌, List, [], ◌∷◌, ◌++◌, take, drop, length, Option, Some, None, Err, refl, ap, sym, ◌∙◌, arith, append-nil}
 use Rattle.std.proofs.lemmas.List.{take-append-drop}
 pub use Rattle.calls.proofs.Prints.{Appends-none, Appends-trans, begins_more}
-use Rattle.machine.proofs.Runs.{run-append, run-more, then_runs}
+pub use Rattle.calls.proofs.Runs.{Rises-later, then_begins}
+use Rattle.calls.proofs.Runs.{run-append, run-more, then_runs}
 use Rattle.calls.specs.declared.halt.Halt.{Halt}
 use Rattle.calls.specs.declared.halt.Halt.TheVariants.{Console, Device, Halted, InitEnded}
 use Rattle.machine.specs.Gives.{IsDone, RunGives, StepGives}
 use Rattle.machine.specs.View.{IsUp, View}
 use Rattle.unixmodel.specs.Calls.{After}
 use Rattle.unixmodel.specs.declared.event.Event.{Event}
-use Rattle.unixmodel.specs.Failures.{Rises}
 use Rattle.unixmodel.specs.Next.{next}
 use Rattle.unixmodel.specs.Run.{after_bytes, run}
 use Rattle.unixmodel.specs.State.{State}
-
--- a rise from a later count is a rise
-pub Rises-later : (a b c : ℕ) → a ≤ b → Rises b c → b ≤ c → Rises a c
-Rises-later a b c ab bc l = omega arith
 
 -- all events so far are done as the model says, and the machine takes more
 pub record SoFar (first now : View) (events : List Event) (before after : Option (List ℕ)) : Type 0 where
@@ -38,6 +34,7 @@ done_more first now new xs e before mid after r h k =
       halts = k.halts;
       sound = k.sound;
       printed = Appends-trans _ _ _ _ _ h.done.printed k.printed;
+      same_device = k.same_device ∙ h.done.same_device;
       later = let l = h.done.later in let m = k.later in omega arith;
     })
 
@@ -48,10 +45,6 @@ whole s i es up = ap (λ xs. run s xs) (sym (take-append-drop i es)) ∙ run-app
 -- what the first events halt with the whole run halts with
 pub run-halts : (s : State) (i : ℕ) (es : List Event) (status : ℤ) → s.halted ≡ None → (run s (take i es)).state.halted ≡ Some status → run s es ≡ run s (take i es)
 run-halts s i es status up is = whole s i es up ∙ rw is refl
-
-pub then_begins : (ys : List Event) (o : After) (r : Option ℤ) → (rest : List ℕ) × (o.bytes ++ rest ≡ (then_runs ys o r).bytes)
-then_begins ys o (Some status) = ([], append-nil o.bytes)
-then_begins ys o None = ((run o.state ys).bytes, refl)
 
 -- what the first events print is a beginning
 pub run-begins : (s : State) (i : ℕ) (es : List Event) → s.halted ≡ None → (rest : List ℕ) × ((run s (take i es)).bytes ++ rest ≡ (run s es).bytes)
@@ -79,6 +72,7 @@ stops first now new i es e before mid after step_rises rises Device more is h r 
       later = let l = h.done.later in let m = k.1.later in omega arith;
       failed = k.1.failed;
       printed = rw (append-nil (run first.state (take i es)).bytes) at (Appends-trans _ _ _ _ _ h.done.printed k.1.printed);
+      same_device = k.1.same_device ∙ h.done.same_device;
     };
   },
 )
@@ -96,6 +90,7 @@ stops first now new i es e before mid after step_rises rises Console more is h r
     more = more;
     goes = h.done.halts;
     files = k.1.files ∙ ap (λ (s : State). s.files) h.done.state;
+    same_device = k.1.same_device ∙ h.done.same_device;
     later = let l = h.done.later in rw k.1.same l;
   },
 )
@@ -111,6 +106,7 @@ so_far_at_first first at up = record {
     halts = up.goes;
     sound = up.sound;
     printed = Appends-none at;
+    same_device = refl;
     later = omega arith;
   };
 }

@@ -6,9 +6,10 @@ use Rattle.std.specs.List.{list_any}
 use Rattle.imagerules.specs.Content.{image_of}
 use Rattle.kernel.specs.Kernel.{Kernel, state_of}
 use Rattle.machine.proofs.Steps.{told}
-use Rattle.machine.specs.Saved.{IsSaved}
+use Rattle.machine.specs.Saved.{IsLost, IsSaved, LosesDevice}
 use Rattle.tree.specs.Holding.{unheld}
-use Rattle.unixmodel.specs.Files.{Files, Node, free_slots, links_of, taken}
+use Rattle.tree.specs.Tree.{FileTree}
+use Rattle.unixmodel.specs.Files.{Node, free_slots, links_of, taken}
 use Rattle.unixmodel.specs.Image.{Denotes}
 use Rattle.unixmodel.specs.OpenFiles.{OpenFile, is_node}
 use Rattle.unixmodel.specs.Reap.{is_used, kept, reap, without_nodes, without_opens, without_pipes}
@@ -34,8 +35,20 @@ module _ (s : State) where
   files-left = λ i. kept (λ n node. still n node i) 0 s.files
 
 -- the disk has the files of the kernel that nobody held any more
-pub saved : {D : Type 0} (content : D → List (List ℕ)) (k : Kernel) (files : Files) (failed : Bool) (disk : D) → files ≡ k.tree.files → failed ≡ false → Denotes (image_of (content disk)) (unheld files) → IsSaved content (told k failed) disk
-saved content k files failed disk same sound denotes = record {
+pub saved : {D : Type 0} (content : D → List (List ℕ)) (identity : D → List ℕ) (k : Kernel) (tree : FileTree) (failed : Bool) (disk : D) → tree ≡ k.tree → failed ≡ false → identity disk ≡ tree.identity → Denotes (image_of (content disk)) (unheld tree.files)
+    → IsSaved content identity (told k failed) disk
+saved content identity k tree failed disk same sound device denotes = record {
   sound = sound;
-  denotes = subst (Denotes (image_of (content disk))) (ap unheld same ∙ sym (files-left (state_of k))) denotes;
+  same_device = device ∙ ap (λ (t : FileTree). t.identity) same;
+  denotes = subst (Denotes (image_of (content disk))) (ap (λ (t : FileTree). unheld t.files) same ∙ sym (files-left (state_of k))) denotes;
+}
+
+-- an access failed on the way
+pub lost-saving : {D : Type 0} {identity : D → List ℕ} {count : D → ℕ} (k : Kernel) (tree : FileTree) (failed : Bool) → tree ≡ k.tree → failed ≡ false → LosesDevice identity count tree → IsLost identity count (told k failed)
+lost-saving k tree failed same sound lost = record {
+  sound = sound;
+  disk = lost.disk;
+  same_device = lost.same_device ∙ ap (λ (t : FileTree). t.identity) same;
+  later = rw (← same) lost.later;
+  rises = rw (← same) lost.rises;
 }

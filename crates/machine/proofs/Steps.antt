@@ -1,33 +1,36 @@
 -- What an event comes to, from what the kernel makes of it.
 use Rattle.std.specs.Prelude.{IfErr}
 use Rattle.calls.specs.Gives.{Dispatches, EventGives, LeavesTree, Makes}
+use Rattle.calls.specs.Steps.{LeavesFiles, StepsGive, stepped}
 use Rattle.calls.specs.declared.halt.Halt.{Halt}
 use Rattle.calls.specs.declared.halt.Halt.TheVariants.{Console, Device, Halted, InitEnded}
 use Rattle.kernel.specs.Kernel.{Kernel, state_of}
-use Rattle.machine.specs.Gives.{ConsoleFails, IsDone, StepGives, fails}
+use Rattle.machine.specs.Gives.{ConsoleFails, IsDone, RunGives, StepGives, fails}
 use Rattle.calls.proofs.Prints.{Appends-none}
 use Rattle.machine.specs.View.{IsUp, View}
 use Rattle.console.specs.Output.{AppendsBeginning}
 use Rattle.tree.specs.Tree.{FileTree}
 use Rattle.unixmodel.specs.Calls.{After, quiet}
-use Rattle.unixmodel.specs.declared.event.Event.TheVariants.{Key, Tick}
+use Rattle.unixmodel.specs.declared.event.Event.TheVariants.{Key, Step, Tick}
 use Rattle.unixmodel.specs.Next.{next, stopped}
 use Rattle.unixmodel.specs.State.{State, running}
-use Rattle.std.proofs.Common.{◌≡◌, ◌≤◌, ℕ, ℤ, Bool, true, false, List, Option, Some, None, Result, Ok, Err, arith, refl, ap}
+use Rattle.std.proofs.lemmas.List.{length-replicate, take-replicate}
+use Rattle.std.proofs.Common.{◌≡◌, ◌≤◌, ℕ, ℤ, Bool, true, false, List, replicate, take, Option, Some, None, Result, Ok, Err, arith, refl, ap}
 
 abbrev pub told : Kernel → Bool → View
-told k failed = record { state = state_of k; failures = k.tree.failures; failed = failed }
+told k failed = record { state = state_of k; failures = k.tree.failures; failed = failed; identity = k.tree.identity }
 
 up : (k : Kernel) → k.halted ≡ None → IsUp (told k false)
 up k goes = record { sound = refl; goes = goes }
 
 done-gives : (old new : Kernel) (a : After) (before after : Option (List ℕ)) (r : Option ℤ)
-    → Makes new a before after r → old.tree.failures ≤ new.tree.failures → IsDone (told old false) (told new false) a before after r
-done-gives old new a before after r made later = record {
+    → Makes new a before after r → new.tree.identity ≡ old.tree.identity → old.tree.failures ≤ new.tree.failures → IsDone (told old false) (told new false) a before after r
+done-gives old new a before after r made device later = record {
   state = made.state;
   halts = made.halts;
   sound = refl;
   printed = made.printed;
+  same_device = device;
   later = later;
 }
 
@@ -40,16 +43,17 @@ console-gives old new before after rising bytes rises printed same = record {
   printed = printed;
   files = ap (λ (t : FileTree). t.files) same;
   same = ap (λ (t : FileTree). t.failures) same;
+  same_device = ap (λ (t : FileTree). t.identity) same;
 }
 
 -- what the kernel does is what the machine gives
 pub does-gives : (old new : Kernel) (failed : Bool) (a : After) (before after : Option (List ℕ)) (rising : Type 0) (result : Result (Unit {0}) Halt)
     → old.halted ≡ None → failed ≡ fails result → EventGives new a before after rising result → LeavesTree old.tree new.tree result
     → StepGives (told old false) (told new failed) a before after rising result
-does-gives old new failed a before after rising (Ok u) goes flag made leaves = rw flag (up old goes, done-gives old new a before after None made leaves.later)
-does-gives old new failed a before after rising (Err (InitEnded status)) goes flag made leaves = rw flag (up old goes, done-gives old new a before after (Some status) made leaves.later)
+does-gives old new failed a before after rising (Ok u) goes flag made leaves = rw flag (up old goes, done-gives old new a before after None made leaves.same_device leaves.later)
+does-gives old new failed a before after rising (Err (InitEnded status)) goes flag made leaves = rw flag (up old goes, done-gives old new a before after (Some status) made leaves.same_device leaves.later)
 does-gives old new failed a before after rising (Err Console) goes flag made leaves = rw flag (up old goes, console-gives old new before after rising a.bytes made.0 made.1 leaves)
-does-gives old new failed a before after rising (Err Device) goes flag made leaves = rw flag (up old goes, record { rises = leaves.rises; later = leaves.later; failed = refl; printed = made })
+does-gives old new failed a before after rising (Err Device) goes flag made leaves = rw flag (up old goes, record { rises = leaves.rises; later = leaves.later; failed = refl; printed = made; same_device = leaves.same_device })
 does-gives old new failed a before after rising (Err Halted) goes flag made leaves = absurd made
 
 -- an event that halts nothing and leaves the disk as it is: it is done, or the console failed
@@ -57,7 +61,7 @@ pub goes-gives : (old new : Kernel) (failed : Bool) (a : After) (before after : 
     → old.halted ≡ None → a.state.halted ≡ None → failed ≡ fails result → Dispatches new a before after rising result → IfErr result (λ halt. halt ≡ Console) → new.tree ≡ old.tree
     → StepGives (told old false) (told new failed) a before after rising result
 goes-gives old new failed a before after rising (Ok u) goes on flag made only same =
-    rw flag (up old goes, done-gives old new a before after None (record { state = made.state; halts = on; printed = made.printed }) (rw same (omega arith)))
+    rw flag (up old goes, done-gives old new a before after None (record { state = made.state; halts = on; printed = made.printed }) (ap (λ (t : FileTree). t.identity) same) (rw same (omega arith)))
 goes-gives old new failed a before after rising (Err (InitEnded status)) goes on flag made only same = absurd made
 goes-gives old new failed a before after rising (Err Console) goes on flag made only same = rw flag (up old goes, console-gives old new before after rising a.bytes made.0 made.1 same)
 goes-gives old new failed a before after rising (Err Device) goes on flag made only same = absurd (let bad : Device ≡ Console = only in cc)
@@ -74,6 +78,7 @@ quiet-gives old new a at goes on made same = (
     halts = on;
     sound = refl;
     printed = rw made (Appends-none at);
+    same_device = ap (λ (t : FileTree). t.identity) same;
     later = rw same (omega arith);
   },
 )
@@ -89,3 +94,39 @@ tick-halts s = stopped-halts s (running s)
 pub key-halts : (s : State) (b : ℕ) → (next s (Key b)).state.halted ≡ s.halted
 unfolding next
 key-halts s b = refl
+
+-- ---- many steps
+
+pub steps-give : (old new : Kernel) (failed : Bool) (count : ℕ) (before after : Option (List ℕ)) (rising : Type 0) (result : Result (Unit {0}) Halt)
+    → old.halted ≡ None → failed ≡ fails result → StepsGive old new count before after rising result → LeavesFiles old.tree new.tree result
+    → RunGives (told old false) (told new failed) (replicate count Step) before after rising result
+steps-give old new failed count before after rising (Ok u) goes flag made leaves = rw flag (up old goes, done-gives old new (stepped old count) before after None made leaves.same_device leaves.later)
+steps-give old new failed count before after rising (Err (InitEnded status)) goes flag made leaves = rw flag (up old goes, done-gives old new (stepped old count) before after (Some status) made leaves.same_device leaves.later)
+steps-give old new failed count before after rising (Err Console) goes flag made leaves =
+    let front : take made.done (replicate count Step) ≡ replicate made.done Step = let more = made.more in take-replicate made.done count Step (omega (arith, more)) in
+    rw flag (
+      up old goes,
+      record {
+        rises = made.rises;
+        failed = refl;
+        printed = made.printed;
+        done = made.done;
+        more = rw (length-replicate count Step) made.more;
+        goes = rw front made.goes;
+        files = rw front made.files;
+        same_device = leaves.same_device;
+        later = leaves.later;
+      },
+    )
+steps-give old new failed count before after rising (Err Device) goes flag made leaves =
+    let front : take made.done (replicate count Step) ≡ replicate made.done Step = let more = made.more in take-replicate made.done count Step (omega (arith, more)) in
+    rw flag (
+      up old goes,
+      record {
+        done = made.done;
+        more = rw (length-replicate count Step) made.more;
+        goes = rw front made.goes;
+        fails = record { rises = leaves.rises; later = leaves.later; failed = refl; printed = rw front made.printed; same_device = leaves.same_device };
+      },
+    )
+steps-give old new failed count before after rising (Err Halted) goes flag made leaves = absurd made

@@ -1,5 +1,6 @@
 -- What a machine begins with that boots from a disk, or why it doesn't boot.
 use Rattle.std.specs.Prelude.{List, None, Option, Some, [], length, replicate, false, ℕ, ◌%◌, ◌*◌, ◌+◌, ◌<◌, ◌∷◌, ◌≡◌, ◌≤◌, ◌⊎◌}
+use Rattle.blockdev.specs.Reached.{Fails}
 use Rattle.imagecheck.specs.Faults.{IsOfImage, Tells}
 use Rattle.imagecheck.specs.declared.ImageFault.{ImageFault}
 use Rattle.imagecheck.specs.declared.ImageFault.TheVariants as fault
@@ -8,6 +9,7 @@ use Rattle.machine.specs.declared.image_boot.Init.{Init}
 use Rattle.machine.specs.declared.fault.BootFault.{BootFault}
 use Rattle.machine.specs.declared.fault.BootFault.TheVariants.{Device, FrameCount, Image, NoInit, NoMemory}
 use Rattle.machine.specs.Flat.{alone}
+use Rattle.machine.specs.Saved.{LosesDevice}
 use Rattle.machine.specs.View.{IsUp, View}
 use Rattle.mount.specs.Mounted.{AreLinked}
 use Rattle.names.specs.Rules.{KeepsTree}
@@ -22,7 +24,6 @@ use Rattle.tree.specs.Tree.{FileTree}
 use Rattle.tree.specs.Written.{IsFile}
 use Rattle.unixmodel.specs.declared.process.Mode.TheVariants.{Ready}
 use Rattle.unixmodel.specs.Counts.{page_frames}
-use Rattle.unixmodel.specs.Failures.{Rises}
 use Rattle.unixmodel.specs.Files.{Files, free_slots}
 use Rattle.unixmodel.specs.Formats.{format}
 use Rattle.unixmodel.specs.Image.{Denotes, inodes_in, size_in}
@@ -43,12 +44,13 @@ pub record IsAccepted (image : List ℕ) (files : Files) : Type 0 where
 abbrev pub start_from : List ℕ → Files → ℕ → Option State
 start_from image files frames = start files (data_blocks_of (size_in image) (inodes_in image)) frames
 
--- the machine that boots from an image: its state is that with which the abstract Unix starts
-pub record IsBooted (image : List ℕ) (failures frames : ℕ) (m : View) : Type 0 where
+-- the machine that boots from an image: its state is that with which the abstract Unix starts, and its device has this identity
+pub record IsBooted (image identity : List ℕ) (failures frames : ℕ) (m : View) : Type 0 where
   pub files : Files
   pub accepted : IsAccepted image files
   pub starts : start_from image files frames ≡ Some m.state
   pub up : IsUp m
+  pub same_device : m.identity ≡ identity
   pub later : failures ≤ m.failures
 
 -- the image denotes files, but the abstract Unix doesn't start with them
@@ -57,13 +59,14 @@ pub record IsWithoutInit (image : List ℕ) (frames : ℕ) : Type 0 where
   pub accepted : IsAccepted image files
   pub none : start_from image files frames ≡ None
 
--- why a machine doesn't boot from an image
-abbrev pub IsUnbooted : {D : Type 0} → (D → ℕ) → List ℕ → ℕ → ℕ → BootFault → Type 0
-IsUnbooted count image failures frames (Image fault) = IsOfImage fault × Tells format image fault × ((files : Files) → Denotes image files → ⊥)
-IsUnbooted count image failures frames FrameCount = (frames < 64) ⊎ (32768 < frames)
-IsUnbooted {D} count image failures frames Device = (left : D) × Rises failures (count left)
-IsUnbooted count image failures frames NoMemory = Unit {0}
-IsUnbooted count image failures frames NoInit = IsWithoutInit image frames
+-- why a machine doesn't boot from this disk, which has that image; identity, count: what tells a device from others, and its count
+-- of failures
+abbrev pub IsUnbooted : {D : Type 0} → (D → List ℕ) → (D → ℕ) → D → List ℕ → ℕ → BootFault → Type 0
+IsUnbooted identity count disk image frames (Image fault) = IsOfImage fault × Tells format image fault × ((files : Files) → Denotes image files → ⊥)
+IsUnbooted identity count disk image frames FrameCount = (frames < 64) ⊎ (32768 < frames)
+IsUnbooted {D} identity count disk image frames Device = (left : D) × Fails identity count disk left
+IsUnbooted identity count disk image frames NoMemory = Unit {0}
+IsUnbooted identity count disk image frames NoInit = IsWithoutInit image frames
 
 -- what it is where the disk has no files in use
 abbrev pub boot_fault : ImageFault → BootFault
@@ -83,13 +86,14 @@ pub record IsUnheld (t : FileTree) : Type 0 where
 pub record IsBegun (t : FileTree) (frames : ℕ) (m : View) : Type 0 where
   pub starts : start t.files t.block_limit frames ≡ Some m.state
   pub up : IsUp m
+  pub same_device : m.identity ≡ t.identity
   pub later : t.failures ≤ m.failures
 
-abbrev pub IsNotBegun : {D : Type 0} → (D → ℕ) → FileTree → ℕ → BootFault → Type 0
-IsNotBegun {D} count t frames Device = (left : D) × Rises t.failures (count left)
-IsNotBegun count t frames NoMemory = Unit {0}
-IsNotBegun count t frames NoInit = start t.files t.block_limit frames ≡ None
-IsNotBegun count t frames _ = ⊥
+abbrev pub IsNotBegun : {D : Type 0} → (D → List ℕ) → (D → ℕ) → FileTree → ℕ → BootFault → Type 0
+IsNotBegun identity count t frames Device = LosesDevice identity count t
+IsNotBegun identity count t frames NoMemory = Unit {0}
+IsNotBegun identity count t frames NoInit = start t.files t.block_limit frames ≡ None
+IsNotBegun identity count t frames _ = ⊥
 
 -- ---- the program of process 1
 

@@ -2,7 +2,7 @@
 use Rattle.tree.specs.Holding.{with_hold}
 use Rattle.files.specs.declared.file.Target.TheVariants.{Console}
 use Rattle.files.specs.declared.file.OpenFile.{OpenFile}
-use Rattle.std.specs.Prelude.{Bool, List, None, Option, Some, [], false, length, replicate, true, ℕ, ◌*◌, ◌+◌, ◌-◌, ◌<◌, ◌∷◌, ◌≡◌, ◌≤◌}
+use Rattle.std.specs.Prelude.{Bool, List, None, Option, Some, [], false, length, replicate, true, ℕ, ◌*◌, ◌+◌, ◌-◌, ◌<◌, ◌∷◌, ◌≡◌, ◌≤◌, IsErrOf, OnErr, Result, ◌⊎◌}
 use Rattle.kernel.specs.Kernel.{Kernel, begun}
 use Rattle.files.specs.Places.{Counted}
 use Rattle.proc.specs.declared.process.Process.{Process}
@@ -18,6 +18,8 @@ use Rattle.unixmodel.specs.Numbers.{ceil_div}
 use Rattle.unixmodel.specs.Plan.{Plan, with_stack}
 use Rattle.unixmodel.specs.ProcessCalls.{exec_registers}
 use Rattle.unixmodel.specs.Start.{flat_descriptors}
+use Rattle.machine.specs.declared.fault.BootFault.{BootFault}
+use Rattle.machine.specs.declared.fault.BootFault.TheVariants.{FrameCount, NoInit, NoMemory}
 
 -- the pages of the bytes, with all marks, and the guard and the stack above them
 abbrev pub flat_memory : List ℕ → Memory
@@ -81,3 +83,7 @@ first_tree tree = record tree { holds = with_hold (with_hold tree.holds 1) 2 }
 -- the kernel of a machine that begins with a space, over the files of a disk
 abbrev pub first_kernel : FileTree → ℕ → SpaceView → Kernel
 first_kernel tree frames space = begun (first_tree tree) (first_table space.size) (alone frames space) first_files
+
+-- a flat program is refused for the count of frames, for its size, or since memory is refused
+abbrev pub RefusesFlat : {M : Type 0} → Result M BootFault → Type 0
+RefusesFlat r = OnErr r (IsErrOf r FrameCount ⊎ (IsErrOf r NoInit ⊎ IsErrOf r NoMemory))

@@ -16,14 +16,16 @@ pub record IsDone (old new : View) (a : After) (before after : Option (List ℕ)
   pub halts : a.state.halted ≡ halted
   pub sound : new.failed ≡ false
   pub printed : Appends before after a.bytes
+  pub same_device : new.identity ≡ old.identity
   pub later : old.failures ≤ new.failures
 
--- the device's count of failures rose, and these bytes alone were printed
+-- the count of failures of the device, which is the same, rose, and these bytes alone were printed
 pub record DeviceFails (old new : View) (before after : Option (List ℕ)) (bytes : List ℕ) : Type 0 where
   pub rises : Rises old.failures new.failures
   pub later : old.failures ≤ new.failures
   pub failed : new.failed ≡ true
   pub printed : Appends before after bytes
+  pub same_device : new.identity ≡ old.identity
 
 -- the console's count of failures rose, and a beginning of these bytes was printed; the files are as they were, and the device
 -- didn't fail
@@ -33,6 +35,7 @@ pub record ConsoleFails (old new : View) (before after : Option (List ℕ)) (ris
   pub printed : AppendsBeginning before after bytes
   pub files : new.state.files ≡ old.state.files
   pub same : new.failures ≡ old.failures
+  pub same_device : new.identity ≡ old.identity
 
 -- it takes no events, and nothing changed
 pub record IsRefused (old new : View) (before after : Option (List ℕ)) : Type 0 where
@@ -65,6 +68,7 @@ pub record ConsoleFailsIn (old new : View) (events : List Event) (before after :
   pub more : done < length events
   pub goes : (run old.state (take done events)).state.halted ≡ None
   pub files : new.state.files ≡ (run old.state (take done events)).state.files
+  pub same_device : new.identity ≡ old.identity
   pub later : old.failures ≤ new.failures
 
 -- what a list of events is answered with
@@ -74,6 +78,14 @@ RunGives old new events before after rising (Err (InitEnded status)) = IsUp old 
 RunGives old new events before after rising (Err Device) = IsUp old × DeviceFailsIn old new events before after
 RunGives old new events before after rising (Err Console) = IsUp old × ConsoleFailsIn old new events before after rising
 RunGives old new events before after rising (Err Halted) = IsRefused old new before after
+
+-- the same where the bytes go to an output: the bytes that it took, and how often it failed, are read off it
+abbrev pub StepGivesTo : {W : Type 0} → (W → Option (List ℕ)) → (W → ℕ) → View → View → W → W → After → Result (Unit {0}) Halt → Type 0
+StepGivesTo contents failures old new from to a result = StepGives old new a (contents from) (contents to) (Rises (failures from) (failures to)) result
+
+abbrev pub RunGivesTo : {W : Type 0} → (W → Option (List ℕ)) → (W → ℕ) → View → View → W → W → List Event → Result (Unit {0}) Halt → Type 0
+RunGivesTo contents failures old new from to events result =
+    RunGives old new events (contents from) (contents to) (Rises (failures from) (failures to)) result
 
 -- the answer where the state halts so
 abbrev pub halt_of : Option ℤ → Result (Unit {0}) Halt

@@ -1,5 +1,5 @@
 -- What a process of the abstract Unix holds, and an open file of it, as a machine tells them.
-use Rattle.std.specs.Prelude.{Bool, None, Option, Some, ℕ, ◌==◌, ◌≡◌, false}
+use Rattle.std.specs.Prelude.{None, Option, Some, ℕ, ◌==◌, ◌≡◌, false}
 use Rattle.files.specs.declared.file.End.TheVariants as end
 use Rattle.files.specs.declared.file.OpenFile as table
 use Rattle.files.specs.declared.file.Target.{Target}

@@ -11,6 +11,7 @@ use Rattle.std.specs.Prelude.{Err, List, None, Ok, Option, Result, Some, drop, f
 use Rattle.unixmodel.specs.declared.process.Mode.TheVariants.{Ready}
 use Rattle.unixmodel.specs.Failures.{Rises}
 use Rattle.unixmodel.specs.Shown as shown
+use Rattle.unixmodel.specs.State.{State}
 
 -- a node of the abstract Unix, as a machine tells it
 abbrev pub stat_seen : shown.Stat → Stat
@@ -25,19 +26,25 @@ pub record IsRead (bytes old new : List ℕ) (told : ℕ) : Type 0 where
   pub count : told ≡ length bytes
   pub front : new ≡ bytes ++ drop told old
 
+-- so do the bytes of a node from a place on, as many as there are and as fit
+abbrev pub ReadsAt : State → ℕ → ℕ → List ℕ → List ℕ → ℕ → Type 0
+ReadsAt s number at old new told = IsRead (shown.shown_bytes s number at (length old)) old new told
+
 -- ---- what the machine is then
 
--- all is as it was: the processes, the console, the files
+-- all is as it was: the processes, the console, the files, the device
 pub record IsSame (old new : View) : Type 0 where
   pub sound : old.failed ≡ false
   pub state : new.state ≡ old.state
   pub still : new.failed ≡ false
+  pub same_device : new.identity ≡ old.identity
   pub later : old.failures ≤ new.failures
 
--- an access of the device failed, and its count of failures rose: the machine has failed
+-- an access of the device, which is the same, failed, and its count of failures rose: the machine has failed
 pub record IsLost (old new : View) : Type 0 where
   pub sound : old.failed ≡ false
   pub failed : new.failed ≡ true
+  pub same_device : new.identity ≡ old.identity
   pub later : old.failures ≤ new.failures
   pub rises : Rises old.failures new.failures
 

@@ -1,6 +1,6 @@
 //! How a machine begins.
 ghost use Rattle.std.specs.Prelude.{◌≡◌, ◌<◌, ◌≤◌, ◌⊎◌, ◌↔◌, Some, None, IfOk, IsErrOf, OnErr};
-ghost use Rattle.machine.specs.Flat.{LoadsFlat, first, first_files, first_table};
+ghost use Rattle.machine.specs.Flat.{LoadsFlat, RefusesFlat, first, first_files, first_table};
 ghost use Rattle.machine.specs.View.{IsUp};
 ghost use Rattle.mount.specs.Mounted.{IsFlat};
 ghost use Rattle.spaces.specs.Spaces.{no_spaces};
@@ -139,7 +139,7 @@ fn first_files() -> Files
 /// first is the first instruction. Its descriptors 0, 1 and 2 are the console.
 ///
 /// `FrameCount` where `frames` is below 64 or above 32768, `NoInit` where the frames don't suffice for the program, and
-/// `NoMemory` where the host has no memory for the frames.
+/// `NoMemory` where the host has no memory for the frames or for the words that it decodes.
 pub fn boot_flat(
     alloc: Global,
     bytes: &[u8],
@@ -149,7 +149,7 @@ pub fn boot_flat(
     ensures up { IfOk result IsUp }
     ensures count { IsErrOf result BootFault.FrameCount ↔ ((frames < 64) ⊎ (32768 < frames)) }
     ensures no_init { IsErrOf result BootFault.NoInit → start_flat bytes.now frames ≡ None }
-    ensures only { OnErr result (IsErrOf result BootFault.FrameCount ⊎ (IsErrOf result BootFault.NoInit ⊎ IsErrOf result BootFault.NoMemory)) }
+    ensures only { RefusesFlat result }
 {
     boot_flat_with(alloc, bytes, Plain::new(), frames)
 }
@@ -165,7 +165,7 @@ pub fn boot_flat_with<T: Translate + Drop>(
     ensures up { IfOk result IsUp }
     ensures count { IsErrOf result BootFault.FrameCount ↔ ((frames < 64) ⊎ (32768 < frames)) }
     ensures no_init { IsErrOf result BootFault.NoInit → start_flat bytes.now frames ≡ None }
-    ensures only { OnErr result (IsErrOf result BootFault.FrameCount ⊎ (IsErrOf result BootFault.NoInit ⊎ IsErrOf result BootFault.NoMemory)) }
+    ensures only { RefusesFlat result }
 {
     if frames < FEWEST || frames > MOST {
         return Err(BootFault::FrameCount);
@@ -188,6 +188,7 @@ pub fn boot_flat_on<D: BlockDev, T: Translate + Drop>(
     requires count { (64 ≤ frames) × (frames ≤ 32768) }
     ensures booted { IfOk result (λ m. start_flat bytes.now frames ≡ Some m.state) }
     ensures up { IfOk result IsUp }
+    ensures identity { IfOk result (λ m. m.identity ≡ tree.identity) }
     ensures no_init { IsErrOf result BootFault.NoInit → start_flat bytes.now frames ≡ None }
     ensures only { OnErr result (IsErrOf result BootFault.NoInit ⊎ IsErrOf result BootFault.NoMemory) }
 {

@@ -146,7 +146,7 @@ fn boot_on<D: BlockDev, T: Translate + Drop>(
     requires unheld { IsUnheld tree }
     requires few { frames ≤ 32768 }
     ensures begun { IfOk result (IsBegun tree frames) }
-    ensures refused { IfErr result (IsNotBegun D.failures tree frames) }
+    ensures refused { IfErr result (IsNotBegun D.identity D.failures tree frames) }
 {
     let Ok(mut spaces) = empty(alloc, translator, frames) else {
         return Err(BootFault::NoMemory);
@@ -193,8 +193,8 @@ pub fn boot<D: BlockDev, T: Translate + Drop>(
     translator: T,
     frames: u32,
 ) -> Result<Machine<D, T>, BootFault>
-    ensures booted { IfOk result (IsBooted (image_of (D.content disk)) (D.failures disk) frames) }
-    ensures refused { IfErr result (IsUnbooted D.failures (image_of (D.content disk)) (D.failures disk) frames) }
+    ensures booted { IfOk result (IsBooted (image_of (D.content disk)) (D.identity disk) (D.failures disk) frames) }
+    ensures refused { IfErr result (IsUnbooted D.identity D.failures disk (image_of (D.content disk)) frames) }
     ensures count { IsErrOf result BootFault.FrameCount ↔ ((frames < 64) ⊎ (32768 < frames)) }
 {
     if frames < FEWEST || frames > MOST {

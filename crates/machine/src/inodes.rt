@@ -1,9 +1,9 @@
 //! What a machine tells of the files of its disk.
-ghost use Rattle.std.specs.Prelude.{◌≡◌, false, length, option_map};
+ghost use Rattle.std.specs.Prelude.{◌≡◌, false, option_map};
 ghost use Rattle.calls.specs.Reads.{ReadsDisk};
 ghost use Rattle.kernel.specs.Kernel.{idle, state_of};
-ghost use Rattle.machine.specs.Looks.{IsRead, stat_from, stat_seen, stopped_in};
-ghost use Rattle.unixmodel.specs.Shown.{shown_bytes, shown_stat};
+ghost use Rattle.machine.specs.Looks.{ReadsAt, stat_from, stat_seen, stopped_in};
+ghost use Rattle.unixmodel.specs.Shown.{shown_stat};
 
 use blockdev::{BlockDev, DeviceFault};
 use calls::Kernel;
@@ -74,7 +74,7 @@ pub fn read<D: BlockDev, T: Translate + Drop>(
     out: &mut [u8],
 ) -> Result<usize, DeviceFault>
     requires { kernel.old.tree.failed ≡ false }
-    ensures { ReadsDisk kernel.old kernel.new (IsRead (shown_bytes (state_of kernel.old) number at (length out.old)) out.old out.new) result }
+    ensures { ReadsDisk kernel.old kernel.new (ReadsAt (state_of kernel.old) number at out.old out.new) result }
 {
     kernel.is_sound();
     match kernel.tree.read_any(number, at, out) {

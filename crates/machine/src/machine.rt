@@ -1,23 +1,21 @@
 //! The machine: events in, the console's bytes and the state of the process out.
-ghost use Rattle.std.specs.Prelude.{◌≡◌, ◌≤◌, ◌+◌, ℕ, None, Some, false, OnOk, OnErr, IfSome, IfOk, IsErrOf, is_some, length, option_map, slice_index};
-ghost use Rattle.std.specs.Io.KnownBytes.{Appends};
-ghost use Rattle.unixmodel.specs.Failures.{Rises};
+ghost use Rattle.std.specs.Prelude.{◌≡◌, ◌≤◌, ◌+◌, ℕ, None, Some, false, OnOk, OnErr, IfSome, IfOk, IsErrOf, is_some, option_map, slice_index};
 ghost use Rattle.unixmodel.specs.Next.{next};
 ghost use Rattle.kernel.specs.Kernel.{state_of};
 ghost use Rattle.machine.specs.Gives.{fails};
 ghost use Rattle.calls.specs.declared.halt.Halt.TheVariants.{Halted};
-ghost use Rattle.machine.specs.Looks.{IsRead, LookGives, stat_seen};
+ghost use Rattle.machine.specs.Looks.{LookGives, ReadsAt, stat_seen};
 ghost use Rattle.machine.specs.Seen.{seen_of};
 ghost use Rattle.machine.specs.View.{sound_view};
 ghost use Rattle.unixmodel.specs.Counts.{frames_of};
-ghost use Rattle.unixmodel.specs.Memory.{Page};
-ghost use Rattle.unixmodel.specs.Shown.{ShowsMemory, shown_bytes, shown_page, shown_process, shown_stat};
-ghost use Rattle.vm.specs.Leaf.{marks_from};
+ghost use Rattle.unixmodel.specs.Shown.{ShowsMemory, shown_page, shown_process, shown_stat};
+ghost use Rattle.vm.specs.Leaf.{page_from};
 
 mod copy;
 mod idle;
 mod looks;
 mod save;
+mod steps;
 
 use crate::inodes;
 use crate::inodes::Stat;
@@ -59,12 +57,12 @@ fn is_failure(done: &Result<(), Halt>) -> bool
 
 impl<D: BlockDev, T: Translate + Drop> Machine<D, T> {
     ghost use Rattle.machine.specs.View.{IsUp, View};
-    ghost use Rattle.machine.specs.Gives.{ConsoleFails, RunGives, StepGives, halt_of};
+    ghost use Rattle.machine.specs.Gives.{ConsoleFails, halt_of, RunGivesTo, StepGivesTo};
 
     /// The machine of a kernel whose device has not failed.
     pub(crate) fn new(kernel: Kernel<D, T>) -> Machine<D, T>
         requires { kernel.tree.failed ≡ false }
-        ensures { result ≡ sound_view (state_of kernel) kernel.tree.failures }
+        ensures { result ≡ sound_view (state_of kernel) kernel.tree.failures kernel.tree.identity }
     {
         Machine {
             kernel,
@@ -83,7 +81,7 @@ impl<D: BlockDev, T: Translate + Drop> Machine<D, T> {
     /// One event. An error says why the machine stops; after `Device` and `Console` it is of no more use, and every
     /// later call answers `Halted`.
     pub fn step<W: Out>(&mut self, event: Event, console: &mut W) -> Result<(), Halt>
-        ensures gives { StepGives self.old self.new (next self.old.state event) (W.contents console.old) (W.contents console.new) (Rises (W.failures console.old) (W.failures console.new)) result }
+        ensures gives { StepGivesTo W.contents W.failures self.old self.new console.old console.new (next self.old.state event) result }
         ensures later { W.failures console.old ≤ W.failures console.new }
     {
         if self.is_stopped() {
@@ -109,7 +107,7 @@ impl<D: BlockDev, T: Translate + Drop> Machine<D, T> {
 
     /// The events of a list up to the first at which the machine stops.
     pub fn run<W: Out>(&mut self, events: &[Event], console: &mut W) -> Result<(), Halt>
-        ensures gives { RunGives self.old self.new events.now (W.contents console.old) (W.contents console.new) (Rises (W.failures console.old) (W.failures console.new)) result }
+        ensures gives { RunGivesTo W.contents W.failures self.old self.new console.old console.new events.now result }
         ensures later { W.failures console.old ≤ W.failures console.new }
     {
         if self.is_stopped() {
@@ -138,7 +136,7 @@ impl<D: BlockDev, T: Translate + Drop> Machine<D, T> {
     /// tells how many: none past its end, none of a device, and none where there is no such node. `Device`: an access of the
     /// device failed, as at a step; nothing is said of `out` then.
     pub fn read_inode(&mut self, number: usize, at: usize, out: &mut [u8]) -> Result<usize, Halt>
-        ensures gives { LookGives self.old self.new (IsRead (shown_bytes self.old.state number at (length out.old)) out.old out.new) result }
+        ensures gives { LookGives self.old self.new (ReadsAt self.old.state number at out.old out.new) result }
         ensures kept { IsErrOf result Halted → out.new ≡ out.old }
     {
         if self.failed {
@@ -151,7 +149,8 @@ impl<D: BlockDev, T: Translate + Drop> Machine<D, T> {
 
     /// The device of the disk, which counts its failures: where it can't fail, no call answers `Device`.
     pub fn device(&self) -> &D
-        ensures { D.failures result.now ≡ self.now.failures }
+        ensures failures { D.failures result.now ≡ self.now.failures }
+        ensures identity { D.identity result.now ≡ self.now.identity }
     {
         self.kernel.device()
     }
@@ -166,7 +165,7 @@ impl<D: BlockDev, T: Translate + Drop> Machine<D, T> {
 
     /// The bytes and the marks of a page of a process; `None` past its last page, and where there is no such process.
     pub fn peek(&self, pid: u32, page: u64) -> Option<(&[u8; FRAME_SIZE], Perm)>
-        ensures { option_map (λ r. let p : Page = record { bytes = r.0.now; marks = marks_from r.1 } in p) result ≡ shown_page self.now.state pid page }
+        ensures { option_map page_from result ≡ shown_page self.now.state pid page }
     {
         self.kernel.page(pid, page)
     }

@@ -38,8 +38,8 @@ const ROWS: [Row; 12] = [
 
 const EVENTS: usize = 320;
 
-// What all of them print.
-const PRINTED: &[u8] = b"abc\nabc\n";
+/// What all of them print.
+pub(crate) const PRINTED: &[u8] = b"abc\nabc\n";
 
 // As the events go: while nothing is shared yet; a line is typed in part; it is there; a pipe holds bytes; a process sleeps; the
 // directory is made; process 1 has ended.
@@ -57,11 +57,13 @@ fn event(number: usize) -> Event {
     }
 }
 
-fn console(alloc: Global) -> Writer<Vec<u8>> {
+/// A console that keeps what is printed.
+pub(crate) fn console(alloc: Global) -> Writer<Vec<u8>> {
     Writer::new(Vec::new(alloc))
 }
 
-fn boot(alloc: Global) -> Option<Machine<MemDisk, Plain>> {
+/// The machine of the family.
+pub(crate) fn boot(alloc: Global) -> Option<Machine<MemDisk, Plain>> {
     let bytes = Program::Family(&ROWS).bytes(alloc).ok()?;
     boot_flat_with(alloc, bytes.as_slice(), Plain::new(), 64).ok()
 }
@@ -73,8 +75,8 @@ fn copy_of(alloc: Global, machine: &Machine<MemDisk, Plain>) -> Option<Machine<M
     machine.copy(alloc, stale(&mut other, root)).ok()
 }
 
-// Whether two machines tell the same of themselves.
-fn is_even<T: Translate + Drop, U: Translate + Drop>(
+/// Whether two machines tell the same of themselves.
+pub(crate) fn is_even<T: Translate + Drop, U: Translate + Drop>(
     one: &Machine<MemDisk, T>,
     other: &Machine<MemDisk, U>,
 ) -> bool {

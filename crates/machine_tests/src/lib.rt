@@ -34,4 +34,6 @@ mod processes;
 #[cfg(test)]
 mod saving;
 #[cfg(test)]
+mod steps;
+#[cfg(test)]
 mod typing;

@@ -372,12 +372,8 @@ impl<T: Translate + Drop> Play<T> {
     }
 
     fn steps(&mut self, count: usize) -> bool {
-        for _ in 0..count {
-            if self.event(Event::Step).is_err() {
-                return false;
-            }
-        }
-        true
+        let count = u32::try_from(count).unwrap_or(u32::MAX);
+        self.machine.steps(count, &mut self.out).is_ok()
     }
 
     fn keys(&mut self, keys: &[u8]) -> bool {

@@ -75,7 +75,7 @@ module _ {D : Type 0} {g : Geometry} {old : Store D} {now : Files} (copies : Cop
 
     module _ {image : List ℕ} (stands : CanStand image n node) {bytes : List ℕ} (are : bytes ≡ node_bytes node) where
       -- its bytes are written
-      pub written-copies : {reached : D → D → Type 0} {new : Store D} {u : Unit {0}} → Serves reached is_device mid new (Ok u) (λ _. Writes mid new n 0 bytes) (LacksWriting mid new n 0 bytes) → Copies g new (put now n node)
+      pub written-copies : {identity : D → List ℕ} {new : Store D} {u : Unit {0}} → Serves identity is_device mid new (Ok u) (λ _. Writes mid new n 0 bytes) (LacksWriting mid new n 0 bytes) → Copies g new (put now n node)
       written-copies {new = new} written =
           let still = written.follows.geometry in
           let all : with_bytes (raw_at mid.nodes n) (splice 0 bytes (raw_at mid.nodes n).bytes) ≡ with_bytes raw (node_bytes node) =
@@ -113,5 +113,5 @@ module _ {D : Type 0} {g : Geometry} {old : Store D} {now : Files} (copies : Cop
       lacks new (Blocks k) why = full-lacks k (why refl)
 
       -- why not all go
-      pub refused-lacks : {reached : D → D → Type 0} {new : Store D} {fault : InodeFault} → Serves {T = Unit {0}} reached is_device mid new (Err fault) (λ _. Writes mid new n 0 bytes) (LacksWriting mid new n 0 bytes) → Lacks g (put now n node) (write_fault fault)
+      pub refused-lacks : {identity : D → List ℕ} {new : Store D} {fault : InodeFault} → Serves {T = Unit {0}} identity is_device mid new (Err fault) (λ _. Writes mid new n 0 bytes) (LacksWriting mid new n 0 bytes) → Lacks g (put now n node) (write_fault fault)
       refused-lacks {new = new} {fault} written = lacks new fault written.refused

@@ -1,10 +1,12 @@
 -- What a copy of nodes to a disk comes to.
-use Rattle.std.specs.Prelude.{List, MatchResult, Result, Some, false, ⊤, ℕ, ◌<◌, ◌≡◌, ◌≤◌}
+use Rattle.std.specs.Prelude.{List, MatchResult, None, Result, Some, false, ⊤, ℕ, ◌<◌, ◌≡◌, ◌≤◌}
 use Rattle.unixmodel.specs.Counts.{blocks_of}
-use Rattle.unixmodel.specs.Files.{Files, Node, longest, size_of}
-use Rattle.unixmodel.specs.Image.{IsNode}
+use Rattle.unixmodel.specs.Files.{Files, Node, longest, put, size_of, slot}
+use Rattle.unixmodel.specs.Formats.{small}
+use Rattle.unixmodel.specs.Image.{DenotesSmall, IsNode, inodes_in, size_in}
 use Rattle.unixmodel.specs.Manifest.{data_blocks_of}
 use Rattle.layout.specs.declared.Geometry.{Geometry}
+use Rattle.imagecheck.specs.Faults.{IsOfImage, Tells}
 use Rattle.imagecheck.specs.declared.ImageFault.{ImageFault}
 use Rattle.imagecheck.specs.declared.ImageFault.TheVariants as checked
 use Rattle.inode.specs.Store.{Store}
@@ -45,3 +47,16 @@ pub record CanStand (old : List ℕ) (n : ℕ) (node : Node) : Type 0 where
   pub is : IsNode old n node
   pub short : size_of node ≤ longest
   pub fits : FitsPlaces (Some node)
+
+-- a node of an old image stands at number n, which was free, or there are too few blocks for it
+abbrev pub CopiesNode : {D : Type 0} → Geometry → List ℕ → Store D → Store D → ℕ → Result (Unit {0}) MigrateFault → Type 0
+CopiesNode g old before after n result =
+    (now : Files) (node : Node) → Copies g before now → slot now n ≡ None → CanStand old n node → IsCopied g after (put now n node) result
+
+-- the old image denotes no files: it has this fault
+abbrev pub IsBroken : List ℕ → ImageFault → Type 0
+IsBroken old fault = Tells small old fault × IsOfImage fault × ((files : Files) → DenotesSmall old files → ⊥)
+
+-- its files take more blocks than an image of as many blocks has in the new format
+abbrev pub Overfills : List ℕ → Type 0
+Overfills old = (files : Files) × DenotesSmall old files × (data_blocks_of (size_in old) (inodes_in old) < blocks_of files)

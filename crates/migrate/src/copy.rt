@@ -1,13 +1,13 @@
 //! The nodes of an old image are put on a new disk, by their numbers.
 
 ghost use Rattle.std.specs.Prelude.{◌≡◌, ◌≢◌, ◌<◌, ◌≤◌, None};
-ghost use Rattle.unixmodel.specs.Files.{Files, Node, free_slots, put, slot};
+ghost use Rattle.unixmodel.specs.Files.{Files, Node, free_slots, slot};
 ghost use Rattle.unixmodel.specs.Image.{DenotesSmall, IsNode, kind_in};
 ghost use Rattle.imagerules.specs.Fields.{HasGeometry, HasPlace};
 ghost use Rattle.imagerules.specs.Places.{files_in};
 ghost use Rattle.imagerules.specs.Rules.{BlockRules};
 ghost use Rattle.imagemake.specs.Nodes.{major_of, minor_of};
-ghost use Rattle.migrate.specs.Copies.{CanStand, Copies, IsCopied};
+ghost use Rattle.migrate.specs.Copies.{Copies, CopiesNode, IsCopied};
 
 use crate::MigrateFault;
 use blockdev::BlockDev;
@@ -54,7 +54,7 @@ fn copy_node<D: BlockDev>(
     requires high { n < geometry.inodes }
     requires used { kind_in old.now n ≢ 0 }
     requires able { (now : Files) × Copies geometry volume.old now × (slot now n ≡ None) }
-    ensures { (now : Files) (node : Node) → Copies geometry volume.old now → slot now n ≡ None → CanStand old.now n node → IsCopied geometry volume.new (put now n node) result }
+    ensures { CopiesNode geometry old.now volume.old volume.new n result }
 {
     let kind = inode_kind(old, n);
     let major = device_major(old, n);

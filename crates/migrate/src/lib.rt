@@ -2,13 +2,10 @@
 #![tactic(auto)]
 
 ghost use Rattle.std.specs.Prelude.{◌≡◌, ◌<◌, IfOk, IsErrOf, OnOk};
-ghost use Rattle.unixmodel.specs.Counts.{blocks_of};
 ghost use Rattle.unixmodel.specs.Files.{Files};
-ghost use Rattle.unixmodel.specs.Formats.{small};
 ghost use Rattle.unixmodel.specs.Image.{Denotes, DenotesSmall, inodes_in, size_in};
-ghost use Rattle.unixmodel.specs.Manifest.{data_blocks_of};
-ghost use Rattle.imagecheck.specs.Faults.{IsOfImage, Tells};
 ghost use Rattle.imagecheck.specs.declared.ImageFault.{ImageFault};
+ghost use Rattle.migrate.specs.Copies.{IsBroken, Overfills};
 
 mod copy;
 mod fault;
@@ -29,8 +26,8 @@ pub fn migrate(alloc: Global, old: &[u8]) -> Result<Vec<u8>, MigrateFault>
     ensures source { OnOk result ((files : Files) × DenotesSmall old.now files) }
     ensures size { IfOk result (λ new. size_in new.items ≡ size_in old.now) }
     ensures inodes { IfOk result (λ new. inodes_in new.items ≡ inodes_in old.now) }
-    ensures image { (fault : ImageFault) → IsErrOf result (MigrateFault.Image fault) → Tells small old.now fault × IsOfImage fault × ((files : Files) → DenotesSmall old.now files → ⊥) }
-    ensures blocks { IsErrOf result MigrateFault.Blocks → (files : Files) × DenotesSmall old.now files × (data_blocks_of (size_in old.now) (inodes_in old.now) < blocks_of files) }
+    ensures image { (fault : ImageFault) → IsErrOf result (MigrateFault.Image fault) → IsBroken old.now fault }
+    ensures blocks { IsErrOf result MigrateFault.Blocks → Overfills old.now }
 {
     let geometry = check1_bytes(alloc, old)?;
     let Ok(mut volume) = blank(alloc, geometry) else {

@@ -56,8 +56,8 @@ Denotes-disk bytes image e flat =
     subst (λ b. Denotes b flat_files) (sym (image_of-blocks bytes long ∙ e)) flat.denotes
 
 -- on a device that never fails it is refused only where there is no memory
-pub not-unmounted : {D : Type 0} (image : List ℕ) (files : Files) (f : ImageFault) → Denotes image files → IsUnmounted {D = D} (λ _. 0) image 0 f → (f ≡ fault.NoMemory → ⊥) → ⊥
-not-unmounted image files fault.Device d u other = let rises = (u.failed refl).1 in absurd (omega arith)
+pub not-unmounted : {D : Type 0} {identity : D → List ℕ} {disk : D} (image : List ℕ) (files : Files) (f : ImageFault) → Denotes image files → IsUnmounted identity (λ _. 0) disk image f → (f ≡ fault.NoMemory → ⊥) → ⊥
+not-unmounted image files fault.Device d u other = let rises = (u.failed refl).1.rises in absurd (omega arith)
 not-unmounted image files fault.NoMemory d u other = other refl
 not-unmounted image files f d u other = u.none tt files d
 
@@ -65,7 +65,7 @@ length-flat : length flat_files ≡ 16
 unfolding flat_files free_slots
 length-flat = refl
 
-pub IsFlat-mounted : (bytes image : List ℕ) (failures : ℕ) (tree : FileTree) → bytes ≡ image → IsFlatImage image → IsMounted (image_of (device.blocks_of bytes)) failures tree → IsFlat tree
+pub IsFlat-mounted : (bytes image : List ℕ) {identity : List ℕ} (failures : ℕ) (tree : FileTree) → bytes ≡ image → IsFlatImage image → IsMounted (image_of (device.blocks_of bytes)) identity failures tree → IsFlat tree
 IsFlat-mounted bytes image failures tree e flat mounted =
     let disk = image_of (device.blocks_of bytes) in
     let d = Denotes-disk bytes image e flat in

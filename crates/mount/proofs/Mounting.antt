@@ -1,6 +1,7 @@
 -- The files of a checked image, in use.
 use Rattle.std.proofs.Common.{List, length, replicate, ℕ, ◌+◌, ◌≡◌, ◌≤◌, ap, arith, false, refl, subst, sym, ◌∙◌, Err, Ok, OnOk, Result, IfErr, IsErrOf}
 use Rattle.blockdev.specs.Blocks.{AreBlocks}
+use Rattle.blockdev.specs.Reached.{Reaches}
 use Rattle.blockdev.specs.declared.DeviceFault.{DeviceFault}
 use Rattle.cache.specs.Disk.{Disk}
 use Rattle.layout.specs.declared.Geometry.{Geometry}
@@ -37,6 +38,9 @@ use Rattle.imagecheck.proofs.Sounding.{Rises-before}
 pub made-blocks : {D : Type 0} {disk : Disk D} {blocks : List (List ℕ)} {device : D} {failures : ℕ} → disk ≡ record { blocks = blocks; device = device; failures = failures } → disk.blocks ≡ blocks
 made-blocks {D} made = ap (λ (disk : Disk D). disk.blocks) made
 
+pub made-device : {D : Type 0} {disk : Disk D} {blocks : List (List ℕ)} {device : D} {failures : ℕ} → disk ≡ record { blocks = blocks; device = device; failures = failures } → disk.device ≡ device
+made-device {D} made = ap (λ (disk : Disk D). disk.device) made
+
 pub made-failures : {D : Type 0} {disk : Disk D} {blocks : List (List ℕ)} {device : D} {failures : ℕ} → disk ≡ record { blocks = blocks; device = device; failures = failures } → disk.failures ≡ failures
 made-failures {D} made = ap (λ (disk : Disk D). disk.failures) made
 
@@ -70,10 +74,10 @@ module _ (blocks : List (List ℕ)) (sizes : AreBlocks blocks) (files : Files) (
     pub file-system-mounted : {v : Store D} → v ≡ volume → IsFileSystem v
     file-system-mounted is = subst IsFileSystem (sym is) (held-again holds)
 
-    pub mounted-over : (failures : ℕ) {v : Store D} {tree : FileTree} → failures ≤ disk.failures → v ≡ volume → tree ≡ tree_over v → IsMounted (image_of blocks) failures tree
-    mounted-over failures later is over =
+    pub mounted-over : (identity : D → List ℕ) (known : List ℕ) (failures : ℕ) {v : Store D} {tree : FileTree} → identity disk.device ≡ known → failures ≤ disk.failures → v ≡ volume → tree ≡ tree_over identity v → IsMounted (image_of blocks) known failures tree
+    mounted-over identity known failures is-known later is over =
         let are : files_of volume.nodes ≡ files = files-are holds in
-        subst (IsMounted (image_of blocks) failures) (sym (over ∙ ap tree_over is)) (record {
+        subst (IsMounted (image_of blocks) known failures) (sym (over ∙ ap (tree_over identity) is)) (record {
           denotes = subst (Denotes (image_of blocks)) (sym are) d;
           only = λ others e. Denotes-files (image_of blocks) others e ∙ sym (Denotes-files (image_of blocks) files d) ∙ sym are;
           rules = subst KeepsTree (sym are) (KeepsTree-rules rules-denoted);
@@ -81,6 +85,7 @@ module _ (blocks : List (List ℕ)) (sizes : AreBlocks blocks) (files : Files) (
           holds = ap (λ n. replicate n 0) numbers.inodes;
           limit = ap (λ size. data_blocks_of size g.inodes) numbers.size ∙ ap (data_blocks_of (size_in (image_of blocks))) numbers.inodes;
           up = refl;
+          same_device = is-known;
           later = later;
         })
 
@@ -92,24 +97,24 @@ stored-denotes size blocks keeps linked (Ok u) stored = Denotes-stored stored (K
 is-told : {T : Type 0} (P : ImageFault → Type 0) (r : Result T ImageFault) (fault : ImageFault) → r ≡ Err fault → P fault → IfErr r P
 is-told P r fault e h = subst (λ x. IfErr x P) (sym e) h
 
-module _ {D T : Type 0} (count : D → ℕ) (image : List ℕ) (failures : ℕ) (r : Result T ImageFault) where
+module _ {D T : Type 0} (identity : D → List ℕ) (count : D → ℕ) (device : D) (image : List ℕ) (r : Result T ImageFault) where
   -- the check
   pub unmounted-check : {U : Type 0} (left : D) (fault found : ImageFault) → r ≡ Err fault → fault ≡ found → Tells format image found → (IsOfImage found → (files : Files) → Denotes image files → ⊥)
-      → (IsErrOf {T = U} (Err found) Device → Rises failures (count left)) → IfErr r (IsUnmounted count image failures)
-  unmounted-check {U = U} left fault found e same tells none failed =
-      is-told (IsUnmounted count image failures) r fault e (subst (IsUnmounted count image failures) (sym same) (record { tells = tells; none = none; failed = λ device. (left, failed (again device)) }))
+      → Reaches identity count device left → (IsErrOf {T = U} (Err found) Device → Rises (count device) (count left)) → IfErr r (IsUnmounted identity count device image)
+  unmounted-check {U = U} left fault found e same tells none reaches failed =
+      is-told (IsUnmounted identity count device image) r fault e (subst (IsUnmounted identity count device image) (sym same) (record { tells = tells; none = none; failed = λ is. (left, record { reaches = reaches; rises = failed (again is) }) }))
     where
       again : found ≡ Device → ◌≡◌ {A = Result U ImageFault} (Err found) (Err Device)
-      again device = cc
+      again is = cc
 
   -- an access of the device, which had failed no more often before the check
-  pub unmounted-device : (left : D) (before : ℕ) (fault : ImageFault) → r ≡ Err fault → fault ≡ Device → failures ≤ before → Rises before (count left) → IfErr r (IsUnmounted count image failures)
-  unmounted-device left before fault e same later rises =
-      is-told (IsUnmounted count image failures) r fault e (subst (IsUnmounted count image failures) (sym same) (record { tells = tt; none = λ of_image. absurd of_image; failed = λ device. (left, Rises-before failures before (count left) later rises) }))
+  pub unmounted-device : (left : D) (before : ℕ) (fault : ImageFault) → r ≡ Err fault → fault ≡ Device → Reaches identity count device left → count device ≤ before → Rises before (count left) → IfErr r (IsUnmounted identity count device image)
+  unmounted-device left before fault e same reaches later rises =
+      is-told (IsUnmounted identity count device image) r fault e (subst (IsUnmounted identity count device image) (sym same) (record { tells = tt; none = λ of_image. absurd of_image; failed = λ is. (left, record { reaches = reaches; rises = Rises-before (count device) before (count left) later rises }) }))
 
-  pub unmounted-memory : (fault : ImageFault) → r ≡ Err fault → fault ≡ NoMemory → IfErr r (IsUnmounted count image failures)
+  pub unmounted-memory : (fault : ImageFault) → r ≡ Err fault → fault ≡ NoMemory → IfErr r (IsUnmounted identity count device image)
   unmounted-memory fault e same =
-      is-told (IsUnmounted count image failures) r fault e (subst (IsUnmounted count image failures) (sym same) (record { tells = tt; none = λ of_image. absurd of_image; failed = λ device. absurd (other device) }))
+      is-told (IsUnmounted identity count device image) r fault e (subst (IsUnmounted identity count device image) (sym same) (record { tells = tt; none = λ of_image. absurd of_image; failed = λ is. absurd (other is) }))
     where
       other : NoMemory ≡ Device → ⊥
-      other device = cc
+      other is = cc

@@ -1,12 +1,12 @@
 -- The files of an image, in use.
 use Rattle.std.specs.Prelude.{List, Some, [], codes, false, length, replicate, ℕ, ◌*◌, ◌∷◌, ◌≡◌, ◌≤◌}
+use Rattle.blockdev.specs.Reached.{Fails}
 use Rattle.imagecheck.specs.Faults.{IsOfImage, Tells}
 use Rattle.imagecheck.specs.declared.ImageFault.{ImageFault}
 use Rattle.imagecheck.specs.declared.ImageFault.TheVariants.{Device}
 use Rattle.layout.specs.declared.Geometry.{Geometry}
 use Rattle.names.specs.Rules.{KeepsTree}
 use Rattle.tree.specs.Tree.{FileTree}
-use Rattle.unixmodel.specs.Failures.{Rises}
 use Rattle.unixmodel.specs.Files.{Files, Node, links_of, slot}
 use Rattle.unixmodel.specs.Formats.{format}
 use Rattle.unixmodel.specs.Image.{Denotes, inodes_in, size_in}
@@ -24,8 +24,8 @@ pub record TellsNumbers (image : List ℕ) (g : Geometry) : Type 0 where
   pub inodes : g.inodes ≡ inodes_in image
 
 -- the files that the image denotes, and there are no others: they keep the rules of names, each node of them has links, and
--- nobody holds any; an access of the device had failed this often before
-pub record IsMounted (image : List ℕ) (failures : ℕ) (tree : FileTree) : Type 0 where
+-- nobody holds any; an access of the device, which this tells from others, had failed this often before
+pub record IsMounted (image : List ℕ) (identity : List ℕ) (failures : ℕ) (tree : FileTree) : Type 0 where
   pub denotes : Denotes image tree.files
   pub only : (files : Files) → Denotes image files → files ≡ tree.files
   pub rules : KeepsTree tree.files
@@ -33,14 +33,15 @@ pub record IsMounted (image : List ℕ) (failures : ℕ) (tree : FileTree) : Typ
   pub holds : tree.holds ≡ replicate (inodes_in image) 0
   pub limit : tree.block_limit ≡ data_blocks_of (size_in image) (inodes_in image)
   pub up : tree.failed ≡ false
+  pub same_device : tree.identity ≡ identity
   pub later : failures ≤ tree.failures
 
--- why none are in use: the fault is one of the image, which then denotes no files; or an access of the device failed, and the
--- device that is left counts it; or the host has no memory
-pub record IsUnmounted {D : Type 0} (count : D → ℕ) (image : List ℕ) (failures : ℕ) (fault : ImageFault) : Type 0 where
+-- why none are in use: the fault is one of the image, which then denotes no files; or an access of this device failed, and it
+-- counts it; or the host has no memory
+pub record IsUnmounted {D : Type 0} (identity : D → List ℕ) (count : D → ℕ) (device : D) (image : List ℕ) (fault : ImageFault) : Type 0 where
   pub tells : Tells format image fault
   pub none : IsOfImage fault → (files : Files) → Denotes image files → ⊥
-  pub failed : fault ≡ Device → (left : D) × Rises failures (count left)
+  pub failed : fault ≡ Device → (left : D) × Fails identity count device left
 
 -- ---- without a disk
 

@@ -20,6 +20,7 @@ fn read_geometry<D: BlockDev>(device: &mut D) -> Result<Geometry, DeviceFault>
     requires { 2 ≤ length (D.content device.old) }
     ensures numbers { IfOk result (TellsNumbers (image_of (D.content device.old))) }
     ensures same { D.content device.new ≡ D.content device.old }
+    ensures identity { D.identity device.new ≡ D.identity device.old }
     ensures cause { HasCause (D.failures device.old) (D.failures device.new) result }
 {
     let block = device.read(1)?;
@@ -33,8 +34,8 @@ fn read_geometry<D: BlockDev>(device: &mut D) -> Result<Geometry, DeviceFault>
 /// The files of a device's image, which is checked first: there is a tree exactly where the check accepts the image and
 /// neither the device nor the host's memory fails, and a fault is the check's.
 pub fn mount<D: BlockDev>(alloc: Global, mut device: D) -> Result<Tree<D>, ImageFault>
-    ensures mounted { IfOk result (IsMounted (image_of (D.content device)) (D.failures device)) }
-    ensures unmounted { IfErr result (IsUnmounted D.failures (image_of (D.content device)) (D.failures device)) }
+    ensures mounted { IfOk result (IsMounted (image_of (D.content device)) (D.identity device) (D.failures device)) }
+    ensures unmounted { IfErr result (IsUnmounted D.identity D.failures device (image_of (D.content device))) }
 {
     let _summary = check(alloc, &mut device)?;
     let geometry = read_geometry(&mut device)?;
@@ -50,6 +51,7 @@ pub fn unmount<D: BlockDev>(tree: Tree<D>) -> (D, Result<(), DeviceFault>)
     requires rules { KeepsTree tree.files }
     requires linked { AreLinked tree.files }
     ensures denotes { OnOk result.1 (Denotes (image_of (D.content result.0)) tree.files) }
+    ensures identity { D.identity result.0 ≡ tree.identity }
     ensures cause { HasCause tree.failures (D.failures result.0) result.1 }
 {
     tree.into_device()

@@ -221,3 +221,24 @@ fn keeps_the_old_file_or_has_the_new_one(rt: HostRuntime) {
         }
     }
 }
+
+// A path, and the name of the file that is begun for it.
+static BEGUN: [(&str, &str); 4] = [
+    ("a/image", "a/.xv6-new-1"),
+    ("a/b/image", "a/b/.xv6-new-0"),
+    ("image", ".xv6-new-0"),
+    ("a/.xv6-new-1", "a/.xv6-new-2"),
+];
+
+// A file that can't be removed is left under its name.
+#[test]
+fn begins_a_file_beside_the_old_one(rt: HostRuntime) {
+    for (path, begun) in &BEGUN {
+        let fails = [Step::Write, Step::Remove];
+        let shelf = shelf_of(rt.alloc(), &fails, StepFault::Failed, 0);
+        let mut shelf = shelf.expect(&rt, "memory");
+        let told = replace(rt.alloc(), &mut shelf, path, b"newer");
+        assert_eq!(rt; told, Err(PutFault::Left));
+        assert!(rt; shelf.bytes(begun) == Some(b"".as_slice()), "{path}");
+    }
+}

@@ -2,13 +2,13 @@
 use Rattle.std.proofs.Common.{◌≡◌, ℕ, ◌%◌, List, length, Some, refl, sym, ap, ◌∙◌}
 use Rattle.ram.specs.Memory.{frame_of}
 use Rattle.sv39.specs.Walk.{entry_of}
-use Rattle.pagetable.specs.Tree.{child_of, Node, Root, Mid, Low, IsNode, table_at, child_at, leaf_at, low_node, lookup_of, IsTree, HasTable}
+use Rattle.pagetable.specs.Tree.{child_of, Node, Root, Mid, Low, IsNode, table_at, child_at, leaf_at, low_node, lookup_of, IsTree, HasTable, SameTables}
 use Rattle.pagetable.proofs.TreeLemmas.{entry_of-frame, child_at-same, leaf_at-same, low_is_node}
 
 held_at : (m : List (List ℕ)) (r : ℕ) (x : Node) (v : ℕ) → IsNode x → table_at m r x ≡ Some v → HasTable m r v
 held_at m r x v nx at = record { place = x; is_node = nx; at_place = at }
 
-pub table_at-same : (m k : List (List ℕ)) (r : ℕ) → ((v : ℕ) → HasTable m r v → frame_of k v ≡ frame_of m v) → (x : Node) → IsNode x → table_at k r x ≡ table_at m r x
+pub table_at-same : (m k : List (List ℕ)) (r : ℕ) → ((v : ℕ) → HasTable m r v → frame_of k v ≡ frame_of m v) → SameTables m k r
 unfolding table_at
 table_at-same m k r same Root nx = refl
 table_at-same m k r same (Mid a) nx = ap child_of (entry_of-frame m k r a (same r (held_at m r Root r tt refl)))

@@ -3,7 +3,7 @@ use Rattle.std.proofs.Common.{◌≡◌, ◌≢◌, ℕ, ◌^◌, ◌<◌, ◌�
 use Rattle.std.proofs.lemmas.Bool.{cases_eq}
 use Rattle.frames.specs.declared.Frames.{Frames}
 use Rattle.frames.specs.Free.{free_of}
-use Rattle.pagetable.specs.Tree.{Node, IsNode, IsUpper, next_node, table_at, low_node, mid_node, lookup_of, Links, IsPaged, Inserts, missing, missing_by}
+use Rattle.pagetable.specs.Tree.{Node, IsNode, IsUpper, next_node, table_at, low_node, mid_node, lookup_of, Links, IsPaged, Inserts, missing, missing_by, SameMap, SameTables, SameTablesBut}
 use Rattle.pagetable.proofs.TreeLemmas.{low_is_node, mid_is_node, cases_node, table_at-link_other, held_absent, no_low}
 use Rattle.pagetable.specs.Shape.{table_of, IsUsed, IsTidy, made, made_by, Adds}
 
@@ -44,7 +44,7 @@ mid_not_low : (p q : ℕ) → mid_node p ≢ low_node q
 mid_not_low p q e = cc
 
 pub Adds-zero : (m k : List (List ℕ)) (r page : ℕ) (s : Frames) (t u : ℕ) → table_at m r (mid_node page) ≡ Some t → table_at m r (low_node page) ≡ Some u
-    → ((x : Node) → IsNode x → table_at k r x ≡ table_at m r x) → free_of k s ≡ free_of m s → Adds m k r page s s
+    → SameTables m k r → free_of k s ≡ free_of m s → Adds m k r page s s
 Adds-zero m k r page s t u a b same free = record {
   mid = some-table_of k r (mid_node page) t (same (mid_node page) (mid_is_node page) ∙ a);
   low = some-table_of k r (low_node page) u (same (low_node page) (low_is_node page) ∙ b);
@@ -54,8 +54,8 @@ Adds-zero m k r page s t u a b same free = record {
 }
 
 pub Adds-one : (m k l : List (List ℕ)) (r page : ℕ) (s n : Frames) (t u : ℕ) → table_at m r (mid_node page) ≡ Some t → table_at m r (low_node page) ≡ None
-    → table_at k r (low_node page) ≡ Some u → ((x : Node) → IsNode x → x ≢ low_node page → table_at k r x ≡ table_at m r x) → free_of m s ≡ u ∷ free_of k n
-    → ((x : Node) → IsNode x → table_at l r x ≡ table_at k r x) → free_of l n ≡ free_of k n → Adds m l r page s n
+    → table_at k r (low_node page) ≡ Some u → SameTablesBut m k r (low_node page) → free_of m s ≡ u ∷ free_of k n
+    → SameTables k l r → free_of l n ≡ free_of k n → Adds m l r page s n
 Adds-one m k l r page s n t u a none b one taken same free =
     let low : table_at l r (low_node page) ≡ Some u = same (low_node page) (low_is_node page) ∙ b in
     record {
@@ -67,9 +67,9 @@ Adds-one m k l r page s n t u a none b one taken same free =
     }
 
 pub Adds-two : (m j k l : List (List ℕ)) (r page : ℕ) (s q n : Frames) (t u : ℕ) → table_at m r (mid_node page) ≡ None
-    → table_at j r (mid_node page) ≡ Some t → ((x : Node) → IsNode x → x ≢ mid_node page → table_at j r x ≡ table_at m r x) → free_of m s ≡ t ∷ free_of j q
-    → table_at k r (low_node page) ≡ Some u → ((x : Node) → IsNode x → x ≢ low_node page → table_at k r x ≡ table_at j r x) → free_of j q ≡ u ∷ free_of k n
-    → ((x : Node) → IsNode x → table_at l r x ≡ table_at k r x) → free_of l n ≡ free_of k n → Adds m l r page s n
+    → table_at j r (mid_node page) ≡ Some t → SameTablesBut m j r (mid_node page) → free_of m s ≡ t ∷ free_of j q
+    → table_at k r (low_node page) ≡ Some u → SameTablesBut j k r (low_node page) → free_of j q ≡ u ∷ free_of k n
+    → SameTables k l r → free_of l n ≡ free_of k n → Adds m l r page s n
 Adds-two m j k l r page s q n t u none a first one b second two same free =
     let mid : table_at l r (mid_node page) ≡ Some t = same (mid_node page) (mid_is_node page) ∙ second (mid_node page) (mid_is_node page) (mid_not_low page page) ∙ a in
     let low : table_at l r (low_node page) ≡ Some u = same (low_node page) (low_is_node page) ∙ b in
@@ -101,7 +101,7 @@ IsTidy-insert m k r page value s n is small ins adds = record {
 }
 
 -- a page that has another value keeps the tables in use
-pub IsTidy-set : (m k : List (List ℕ)) (r page : ℕ) (value : ℕ × ℕ) → IsTidy m r → Inserts (lookup_of m r) (lookup_of k r) page value → ((x : Node) → IsNode x → table_at k r x ≡ table_at m r x) → IsTidy k r
+pub IsTidy-set : (m k : List (List ℕ)) (r page : ℕ) (value : ℕ × ℕ) → IsTidy m r → Inserts (lookup_of m r) (lookup_of k r) page value → SameTables m k r → IsTidy k r
 IsTidy-set m k r page value is ins same = record {
   used = λ x t nx nr h.
       let u : IsUsed m r x = is.used x t nx nr (sym (same x nx) ∙ h) in
@@ -116,5 +116,5 @@ pub beside-link : (m k : List (List ℕ)) (r : ℕ) (s : Frames) (fs : List ℕ)
     → free_of m s ≡ u ∷ fs → table_at m r (next_node x c) ≡ None → (y : Node) → IsNode y → y ≢ next_node x c → table_at k r y ≡ table_at m r y
 beside-link m k r s fs x t c u is nx up sc at w e none y ny ne = table_at-link_other m k r x t c u is.tree nx up sc at w (held_absent m r s u fs is e) none y ny ne
 
-pub Inserts-after : (m k l : List (List ℕ)) (r page : ℕ) (value : ℕ × ℕ) → ((p : ℕ) → lookup_of k r p ≡ lookup_of m r p) → Inserts (lookup_of k r) (lookup_of l r) page value → Inserts (lookup_of m r) (lookup_of l r) page value
+pub Inserts-after : (m k l : List (List ℕ)) (r page : ℕ) (value : ℕ × ℕ) → SameMap m k r → Inserts (lookup_of k r) (lookup_of l r) page value → Inserts (lookup_of m r) (lookup_of l r) page value
 Inserts-after m k l r page value same ins = record { changed = ins.changed; others = λ p small ne. ins.others p small ne ∙ same p }

@@ -9,7 +9,7 @@ use Rattle.frames.specs.declared.Frames.{Frames}
 use Rattle.frames.specs.Free.{among, free_of, free_count, extra_of, further_at, IsFreeList}
 use Rattle.frames.proofs.FreeLemmas.{among_first, apart-not, among_first_not, free_of-same, further-free, shared-is, IsFreeList-same}
 use Rattle.sv39.specs.Walk.{base, entry_of}
-use Rattle.pagetable.specs.Tree.{table_entry, leaf_entry, child_of, leaf_of, Node, Root, Mid, Low, IsNode, child_at, table_at, leaf_at, low_node, mid_node, lookup_of, IsTableEntry, no_table, a_table, IsLeafEntry, no_leaf, IsEntry, IsTree, HasTable, Inserts, Writes, Links, next_node, IsUpper, IsPaged, Keeps, missing, missing_by}
+use Rattle.pagetable.specs.Tree.{table_entry, leaf_entry, child_of, leaf_of, Node, Root, Mid, Low, IsNode, child_at, table_at, leaf_at, low_node, mid_node, lookup_of, IsTableEntry, no_table, a_table, IsLeafEntry, no_leaf, IsEntry, IsTree, HasTable, Writes, Links, next_node, IsUpper, IsPaged, Keeps, missing, missing_by, Maps, SameMap, SameTables}
 use Rattle.std.proofs.Math.Nat.{div-div-eq-div-mul}
 use Rattle.std.proofs.lemmas.Nat.{div-mul-add, mod-mul-add}
 use Rattle.std.proofs.lemmas.Bool.{ne_eqb}
@@ -165,7 +165,7 @@ low_not_upper (Low c d) a b up e = up
 -- what other tables map stays; so does what the one after x maps, if all is as it was there
 pub lookup_of-kept : (m k : List (List ℕ)) (r : ℕ) (x : Node) (t c : ℕ) → IsTree m r → KeepsBut m k r t c → IsNode x → IsUpper x → table_at m r x ≡ Some t
     → ((y : Node) → IsNode y → y ≢ next_node x c → table_at k r y ≡ table_at m r y)
-    → ((i : ℕ) → i < 512 → leaf_at k (table_at k r (next_node x c)) i ≡ leaf_at m (table_at m r (next_node x c)) i) → (p : ℕ) → lookup_of k r p ≡ lookup_of m r p
+    → ((i : ℕ) → i < 512 → leaf_at k (table_at k r (next_node x c)) i ≡ leaf_at m (table_at m r (next_node x c)) i) → SameMap m k r
 unfolding lookup_of
 lookup_of-kept m k r x t c is kept nx up at others here p =
     let node : IsNode (low_node p) = (omega arith, omega arith) in
@@ -179,7 +179,7 @@ lookup_of-kept m k r x t c is kept nx up at others here p =
 -- ---- a write to a table of the lowest level
 
 pub table_at-write : (m k : List (List ℕ)) (r a b t c e : ℕ) → IsTree m r → IsNode (Low a b) → table_at m r (Low a b) ≡ Some t → Writes m k t c e
-    → (x : Node) → IsNode x → table_at k r x ≡ table_at m r x
+    → SameTables m k r
 unfolding table_at
 table_at-write m k r a b t c e is node at w Root isn = refl
 table_at-write m k r a b t c e is node at w (Mid a') isn = ap child_of (root-kept m k r (Low a b) t c is (KeepsBut-write m k r t c e w) node at (λ g. cc) a' isn)
@@ -189,7 +189,7 @@ table_at-write m k r a b t c e is node at w (Low a' b') isn =
 
 pub IsTree-write : (m k : List (List ℕ)) (r a b t c e : ℕ) → IsTree m r → IsNode (Low a b) → table_at m r (Low a b) ≡ Some t → Writes m k t c e → IsLeafEntry (length m) e → IsTree k r
 IsTree-write m k r a b t c e is node at w leaf =
-    let stays : (x : Node) → IsNode x → table_at k r x ≡ table_at m r x = table_at-write m k r a b t c e is node at w in
+    let stays : SameTables m k r = table_at-write m k r a b t c e is node at w in
     record {
       inside = λ x u n h. rw w.count (is.inside x u n (sym (stays x n) ∙ h));
       once = λ x y u nx ny hx hy. is.once x y u nx ny (sym (stays x nx) ∙ hx) (sym (stays y ny) ∙ hy);
@@ -313,7 +313,7 @@ IsTree-link m k r x t c u is nx up sc at w new none inside =
 
 -- a new table maps nothing
 pub lookup_of-link : (m k : List (List ℕ)) (r : ℕ) (x : Node) (t c u : ℕ) → IsTree m r → IsNode x → IsUpper x → c < 512 → table_at m r x ≡ Some t → Links m k t c u
-    → ¬ HasTable m r u → table_at m r (next_node x c) ≡ None → (p : ℕ) → lookup_of k r p ≡ lookup_of m r p
+    → ¬ HasTable m r u → table_at m r (next_node x c) ≡ None → SameMap m k r
 lookup_of-link m k r x t c u is nx up sc at w new none =
     lookup_of-kept m k r x t c is (KeepsBut-link m k r t c u w new) nx up at (table_at-link_other m k r x t c u is nx up sc at w new none)
     (λ i small. ap (λ o. leaf_at k o i) (table_at-link_same m k r x t c u is nx up sc at w new) ∙ leaf_at-fresh k u i (w.fresh i small) ∙ sym (ap (λ o. leaf_at m o i) none))
@@ -510,7 +510,7 @@ Keeps-write m k r s page t e is at w =
     }
 
 pub Inserts-write : (m k : List (List ℕ)) (r : ℕ) (page t f marks : ℕ) → IsTree m r → table_at m r (low_node page) ≡ Some t → Writes m k t (page % 512) (leaf_entry f marks)
-    → page < 2 ^ 27 → marks < 1024 → Inserts (lookup_of m r) (lookup_of k r) page (f, marks)
+    → page < 2 ^ 27 → marks < 1024 → Maps m k r page f marks
 Inserts-write m k r page t f marks is at w small good = record {
   changed = lookup_of-write_same m k r page t (leaf_entry f marks) is at w ∙ leaf_of-leaf f marks good;
   others = λ p sp ne. lookup_of-write_other m k r page t (leaf_entry f marks) p is at w small sp ne;

@@ -7,7 +7,7 @@ use Rattle.frames.proofs.FreeLemmas.{free_of-same, IsFreeList-same}
 use Rattle.pagetable.proofs.Beside.{IsTree-same, table_at-same, lookup_of-same}
 use Rattle.ram.specs.Memory.{frame_of}
 use Rattle.sv39.specs.Walk.{entry_of}
-use Rattle.pagetable.specs.Tree.{child_of, leaf_of, Node, IsNode, IsUpper, next_node, table_at, child_at, leaf_at, lookup_of, IsTree, HasTable, Writes, IsPaged, Keeps}
+use Rattle.pagetable.specs.Tree.{child_of, leaf_of, Node, IsNode, IsUpper, next_node, table_at, child_at, leaf_at, IsTree, HasTable, Writes, IsPaged, Keeps, SameMap}
 use Rattle.pagetable.proofs.TreeLemmas.{further-same, KeepsBut-write, table_at-kept, table_at-next, next-kept, lookup_of-kept, tables_apart, entry-write, entry_zero, child_of-zero, leaf_of-zero, cases_node, write-stays}
 
 -- the table u, which the entry c of the table t in x leads to, maps nothing, and the entry is cleared
@@ -61,7 +61,7 @@ IsTree-unlink m k r x t c u un =
     }
 
 -- what a table that maps nothing leaves maps what it did
-lookup_of-unlink : (m k : List (List ℕ)) (r : ℕ) (x : Node) (t c u : ℕ) → Unlinks m k r x t c u → (p : ℕ) → lookup_of k r p ≡ lookup_of m r p
+lookup_of-unlink : (m k : List (List ℕ)) (r : ℕ) (x : Node) (t c u : ℕ) → Unlinks m k r x t c u → SameMap m k r
 unfolding leaf_of
 lookup_of-unlink m k r x t c u un =
     lookup_of-kept m k r x t c un.tree (KeepsBut-write m k r t c 0 un.write) un.node un.upper un.at (table_at-unlink_other m k r x t c u un)
@@ -81,7 +81,7 @@ free-unlink m k r s x t c is nx at w =
 pub record IsUnlinked (m l : List (List ℕ)) (r : ℕ) (s n : Frames) (x : Node) (c : ℕ) : Type 0 where
   pub paged : IsPaged l r n
   pub keeps : Keeps m l r s n
-  pub same : (p : ℕ) → lookup_of l r p ≡ lookup_of m r p
+  pub same : SameMap m l r
   pub gone : table_at l r (next_node x c) ≡ None
   pub beside : (y : Node) → IsNode y → y ≢ next_node x c → table_at l r y ≡ table_at m r y
 

@@ -2,7 +2,7 @@
 use Rattle.std.proofs.Common.{◌≡◌, ◌≢◌, ℕ, ◌+◌, ◌*◌, ◌/◌, ◌%◌, ◌^◌, ◌<◌, ◌⊎◌, inl, inr, List, Option, Some, None, sym, ap, ◌∙◌, arith}
 use Rattle.std.proofs.lemmas.Bool.{cases_eq}
 use Rattle.sv39.specs.Walk.{entry_of}
-use Rattle.pagetable.specs.Tree.{leaf_of, Node, Mid, Low, IsNode, table_at, child_at, leaf_at, low_node, mid_node, lookup_of, IsTree, Writes}
+use Rattle.pagetable.specs.Tree.{leaf_of, Node, Mid, Low, IsNode, table_at, child_at, leaf_at, low_node, mid_node, lookup_of, IsTree, Writes, SameMap, SameTablesBut}
 use Rattle.pagetable.proofs.TreeLemmas.{lookup_of-write_other, lookup_of-write_same, leaf_of-zero, leaf_of-some, child_of-some, cases_node}
 use Rattle.pagetable.specs.Shape.{IsUsed, IsTidy, Removes}
 
@@ -67,11 +67,11 @@ used-mid m k r page t j small is rem stood at none low ne =
           record { page = u.page; value = u.value; inside = u.inside; over = inl (ap Mid first); mapped = rem.others u.page u.inside other ∙ u.mapped }
     ]
 
-pub Removes-after : (m k l : List (List ℕ)) (r page : ℕ) → ((p : ℕ) → lookup_of l r p ≡ lookup_of k r p) → Removes (lookup_of m r) (lookup_of k r) page → Removes (lookup_of m r) (lookup_of l r) page
+pub Removes-after : (m k l : List (List ℕ)) (r page : ℕ) → SameMap k l r → Removes (lookup_of m r) (lookup_of k r) page → Removes (lookup_of m r) (lookup_of l r) page
 Removes-after m k l r page same rem = record { changed = same page ∙ rem.changed; others = λ p small ne. same p ∙ rem.others p small ne }
 
 -- a table that stands where another one went stood before
-pub stood-gone : (m k : List (List ℕ)) (r : ℕ) (y : Node) → ((x : Node) → IsNode x → x ≢ y → table_at k r x ≡ table_at m r x) → table_at k r y ≡ None → (x : Node) (t : ℕ) → IsNode x → table_at k r x ≡ Some t → table_at m r x ≡ Some t
+pub stood-gone : (m k : List (List ℕ)) (r : ℕ) (y : Node) → SameTablesBut m k r y → table_at k r y ≡ None → (x : Node) (t : ℕ) → IsNode x → table_at k r x ≡ Some t → table_at m r x ≡ Some t
 stood-gone m k r y beside gone x t nx h = elim (cases_node x y) [
   | inl e ↦ absurd (some-none t (sym h ∙ ap (table_at k r) e ∙ gone))
   | inr ne ↦ sym (beside x nx ne) ∙ h

@@ -10,13 +10,11 @@ ghost use Rattle.std.specs.Prelude.{◌≡◌, ◌≢◌, ℕ, ◌+◌, ◌*◌,
 ghost use Rattle.std.specs.Option.{option_map};
 ghost use Rattle.frames.specs.Free.{among, free_of, free_count, extra_of, IsFreeList, SameBut};
 ghost use Rattle.frames.specs.Holders.{one_if};
-ghost use Rattle.sv39.specs.Walk.{base, entry_of};
-ghost use Rattle.unixmodel.specs.declared.trap.Access.{Access};
-ghost use Rattle.unixmodel.specs.Translation.{walk_page};
-ghost use Rattle.pagetable.specs.Agree.{given_frame};
+ghost use Rattle.sv39.specs.Walk.{base, entry_of, numbered};
+ghost use Rattle.pagetable.specs.Agree.{WalksByMap};
 ghost use Rattle.pagetable.specs.Marks.{leaf_marks};
 ghost use Rattle.pagetable.specs.Shape.{table_of, IsTidy, IsEmpty, Adds, Removes};
-ghost use Rattle.pagetable.specs.Tree.{Node, IsNode, Root, table_entry, leaf_entry, child_of, leaf_of, table_at, low_node, mid_node, lookup_of, IsTableEntry, IsLeafEntry, IsLeafMarks, IsTree, IsPaged, Keeps, HasTable, Inserts, Writes, Links, missing};
+ghost use Rattle.pagetable.specs.Tree.{Root, table_entry, leaf_entry, child_of, leaf_of, table_at, low_node, mid_node, lookup_of, IsTableEntry, IsLeafEntry, IsLeafMarks, IsTree, IsPaged, Keeps, HasTable, Writes, Links, missing, Maps, SameMap, SameTables, SameTablesBut, SetsMarks, TakesMissing};
 
 use frames::Frames;
 use ram::{FrameNo, Ram};
@@ -78,7 +76,7 @@ fn child(ram: &Ram, table: FrameNo, index: u64) -> Option<FrameNo>
     requires table { table.0 < length ram.now }
     requires index { index < 512 }
     requires sound { IsTableEntry (length ram.now) (entry_of ram.now table.0 index) }
-    ensures { option_map (λ f. f.0) result ≡ child_of (entry_of ram.now table.0 index) }
+    ensures { numbered result ≡ child_of (entry_of ram.now table.0 index) }
 {
     ram.frames_are_whole();
     let entry = ram.load_u64(table, ENTRY_SIZE * index as usize);
@@ -202,7 +200,7 @@ impl PageTable {
     // The table of the middle level on the way to a page.
     fn mid_table(&self, ram: &Ram, page: u64) -> Option<FrameNo>
         requires { IsTree ram.now self.now.root.0 }
-        ensures { option_map (λ f. f.0) result ≡ table_at ram.now self.now.root.0 (mid_node page) }
+        ensures { numbered result ≡ table_at ram.now self.now.root.0 (mid_node page) }
     {
         child(ram, self.root, page / MID_PAGES % ENTRIES)
     }
@@ -210,7 +208,7 @@ impl PageTable {
     // The table whose entries map a page.
     fn low_table(&self, ram: &Ram, page: u64) -> Option<FrameNo>
         requires { IsTree ram.now self.now.root.0 }
-        ensures { option_map (λ f. f.0) result ≡ table_at ram.now self.now.root.0 (low_node page) }
+        ensures { numbered result ≡ table_at ram.now self.now.root.0 (low_node page) }
     {
         match self.mid_table(ram, page) {
             Some(mid) => child(ram, mid, page / LOW_PAGES % ENTRIES),
@@ -238,7 +236,7 @@ impl PageTable {
     /// It runs no code; its contract is the theorem.
     pub fn walks_by_map(&self, ram: &Ram)
         requires { IsTree ram.now self.now.root.0 }
-        ensures { (page : ℕ) (access : Access) → (walk_page ram.now self.now.root.0 page access).frame ≡ given_frame ram.now self.now.root.0 page access }
+        ensures { WalksByMap ram.now self.now.root.0 }
     {
         ram.frames_are_whole();
     }
@@ -252,8 +250,8 @@ impl PageTable {
         ensures there { table_at ram.new self.now.root.0 (mid_node page) ≡ Some result.0 }
         ensures below { table_at ram.new self.now.root.0 (low_node page) ≡ None }
         ensures taken { free_of ram.old frames.old ≡ result.0 ∷ free_of ram.new frames.new }
-        ensures beside { (x : Node) → IsNode x → x ≢ mid_node page → table_at ram.new self.now.root.0 x ≡ table_at ram.old self.now.root.0 x }
-        ensures same { (p : ℕ) → lookup_of ram.new self.now.root.0 p ≡ lookup_of ram.old self.now.root.0 p }
+        ensures beside { SameTablesBut ram.old ram.new self.now.root.0 (mid_node page) }
+        ensures same { SameMap ram.old ram.new self.now.root.0 }
         ensures keeps { Keeps ram.old ram.new self.now.root.0 frames.old frames.new }
         ensures extra { extra_of frames.new ≡ extra_of frames.old }
     {
@@ -269,8 +267,8 @@ impl PageTable {
         ensures paged { IsPaged ram.new self.now.root.0 frames.new }
         ensures there { table_at ram.new self.now.root.0 (low_node page) ≡ Some result.0 }
         ensures taken { free_of ram.old frames.old ≡ result.0 ∷ free_of ram.new frames.new }
-        ensures beside { (x : Node) → IsNode x → x ≢ low_node page → table_at ram.new self.now.root.0 x ≡ table_at ram.old self.now.root.0 x }
-        ensures same { (p : ℕ) → lookup_of ram.new self.now.root.0 p ≡ lookup_of ram.old self.now.root.0 p }
+        ensures beside { SameTablesBut ram.old ram.new self.now.root.0 (low_node page) }
+        ensures same { SameMap ram.old ram.new self.now.root.0 }
         ensures keeps { Keeps ram.old ram.new self.now.root.0 frames.old frames.new }
         ensures extra { extra_of frames.new ≡ extra_of frames.old }
     {
@@ -293,8 +291,8 @@ impl PageTable {
         requires frame { frame.0 < length ram.old }
         requires marks { IsLeafMarks marks.0 }
         ensures paged { IsPaged ram.new self.now.root.0 frames.now }
-        ensures tables { (x : Node) → IsNode x → table_at ram.new self.now.root.0 x ≡ table_at ram.old self.now.root.0 x }
-        ensures inserts { Inserts (lookup_of ram.old self.now.root.0) (lookup_of ram.new self.now.root.0) page (frame.0, marks.0) }
+        ensures tables { SameTables ram.old ram.new self.now.root.0 }
+        ensures inserts { Maps ram.old ram.new self.now.root.0 page frame.0 marks.0 }
         ensures free { free_of ram.new frames.now ≡ free_of ram.old frames.now }
         ensures keeps { Keeps ram.old ram.new self.now.root.0 frames.now frames.now }
     {
@@ -317,8 +315,8 @@ impl PageTable {
         requires page { page < 2 ^ 27 }
         requires frame { frame.0 < length ram.old }
         requires marks { IsLeafMarks marks.0 }
-        ensures mapped { OnOk result (Inserts (lookup_of ram.old self.now.root.0) (lookup_of ram.new self.now.root.0) page (frame.0, marks.0)) }
-        ensures taken { OnOk result (free_count ram.old frames.old ≡ missing ram.old self.now.root.0 page + free_count ram.new frames.new) }
+        ensures mapped { OnOk result (Maps ram.old ram.new self.now.root.0 page frame.0 marks.0) }
+        ensures taken { OnOk result (TakesMissing ram.old ram.new self.now.root.0 frames.old frames.new page) }
         ensures adds { OnOk result (Adds ram.old ram.new self.now.root.0 page frames.old frames.new) }
         ensures tidy { IsTidy ram.old self.now.root.0 → IsTidy ram.new self.now.root.0 }
         ensures refused { IsErr result ↔ (free_count ram.old frames.old < missing ram.old self.now.root.0 page) }
@@ -362,9 +360,9 @@ impl PageTable {
         requires mapped { lookup_of ram.old self.now.root.0 page ≢ None }
         requires marks { IsLeafMarks marks.0 }
         ensures paged { IsPaged ram.new self.now.root.0 frames.now }
-        ensures inserts { (f : ℕ) (old : ℕ) → lookup_of ram.old self.now.root.0 page ≡ Some (f, old) → Inserts (lookup_of ram.old self.now.root.0) (lookup_of ram.new self.now.root.0) page (f, marks.0) }
+        ensures inserts { SetsMarks ram.old ram.new self.now.root.0 page marks.0 }
         ensures tidy { IsTidy ram.old self.now.root.0 → IsTidy ram.new self.now.root.0 }
-        ensures tables { (x : Node) → IsNode x → table_at ram.new self.now.root.0 x ≡ table_at ram.old self.now.root.0 x }
+        ensures tables { SameTables ram.old ram.new self.now.root.0 }
         ensures free { free_of ram.new frames.now ≡ free_of ram.old frames.now }
         ensures keeps { Keeps ram.old ram.new self.now.root.0 frames.now frames.now }
     {
@@ -385,9 +383,9 @@ impl PageTable {
         requires frame { frame.0 < length ram.old }
         requires marks { IsLeafMarks marks.0 }
         ensures paged { IsPaged ram.new self.now.root.0 frames.now }
-        ensures inserts { Inserts (lookup_of ram.old self.now.root.0) (lookup_of ram.new self.now.root.0) page (frame.0, marks.0) }
+        ensures inserts { Maps ram.old ram.new self.now.root.0 page frame.0 marks.0 }
         ensures tidy { IsTidy ram.old self.now.root.0 → IsTidy ram.new self.now.root.0 }
-        ensures tables { (x : Node) → IsNode x → table_at ram.new self.now.root.0 x ≡ table_at ram.old self.now.root.0 x }
+        ensures tables { SameTables ram.old ram.new self.now.root.0 }
         ensures free { free_of ram.new frames.now ≡ free_of ram.old frames.now }
         ensures keeps { Keeps ram.old ram.new self.now.root.0 frames.now frames.now }
     {
@@ -406,8 +404,8 @@ impl PageTable {
         ensures paged { IsPaged ram.new self.now.root.0 frames.new }
         ensures given { free_of ram.new frames.new ≡ low.0 ∷ free_of ram.old frames.old }
         ensures gone { table_at ram.new self.now.root.0 (low_node page) ≡ None }
-        ensures beside { (x : Node) → IsNode x → x ≢ low_node page → table_at ram.new self.now.root.0 x ≡ table_at ram.old self.now.root.0 x }
-        ensures same { (p : ℕ) → lookup_of ram.new self.now.root.0 p ≡ lookup_of ram.old self.now.root.0 p }
+        ensures beside { SameTablesBut ram.old ram.new self.now.root.0 (low_node page) }
+        ensures same { SameMap ram.old ram.new self.now.root.0 }
         ensures keeps { Keeps ram.old ram.new self.now.root.0 frames.old frames.new }
         ensures extra { extra_of frames.new ≡ extra_of frames.old }
     {
@@ -423,8 +421,8 @@ impl PageTable {
         ensures paged { IsPaged ram.new self.now.root.0 frames.new }
         ensures given { free_of ram.new frames.new ≡ mid.0 ∷ free_of ram.old frames.old }
         ensures gone { table_at ram.new self.now.root.0 (mid_node page) ≡ None }
-        ensures beside { (x : Node) → IsNode x → x ≢ mid_node page → table_at ram.new self.now.root.0 x ≡ table_at ram.old self.now.root.0 x }
-        ensures same { (p : ℕ) → lookup_of ram.new self.now.root.0 p ≡ lookup_of ram.old self.now.root.0 p }
+        ensures beside { SameTablesBut ram.old ram.new self.now.root.0 (mid_node page) }
+        ensures same { SameMap ram.old ram.new self.now.root.0 }
         ensures keeps { Keeps ram.old ram.new self.now.root.0 frames.old frames.new }
         ensures extra { extra_of frames.new ≡ extra_of frames.old }
     {
@@ -438,7 +436,7 @@ impl PageTable {
         requires low { table_at ram.old self.now.root.0 (low_node page) ≡ Some low.0 }
         requires page { page < 2 ^ 27 }
         ensures paged { IsPaged ram.new self.now.root.0 frames.now }
-        ensures tables { (x : Node) → IsNode x → table_at ram.new self.now.root.0 x ≡ table_at ram.old self.now.root.0 x }
+        ensures tables { SameTables ram.old ram.new self.now.root.0 }
         ensures removes { Removes (lookup_of ram.old self.now.root.0) (lookup_of ram.new self.now.root.0) page }
         ensures free { free_of ram.new frames.now ≡ free_of ram.old frames.now }
         ensures keeps { Keeps ram.old ram.new self.now.root.0 frames.now frames.now }

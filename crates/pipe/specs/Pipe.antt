@@ -1,5 +1,5 @@
 -- A pipe: where its bytes stand in a memory, and which of its ends are open.
-use Rattle.std.specs.Prelude.{Bool, List, [], false, ℕ, ◌∷◌, ◌≡◌}
+use Rattle.std.specs.Prelude.{Bool, List, [], false, length, take, ℕ, ◌++◌, ◌-◌, ◌∷◌, ◌≡◌}
 use Rattle.ram.specs.Memory.{frame_of}
 use Rattle.unixmodel.specs.OpenFiles.{pipe_room}
 use Rattle.pipe.specs.declared.End.{End}
@@ -16,6 +16,18 @@ pub record Pipe : Type 0 where
 -- the bytes that it holds, the oldest first
 abbrev pub bytes_of : List (List ℕ) → Pipe → List ℕ
 bytes_of m p = ring pipe_room (frame_of m p.frame) p.from p.held
+
+-- so many bytes of the ring in a frame, from a place on
+abbrev pub ring_in : List (List ℕ) → ℕ → ℕ → ℕ → List ℕ
+ring_in m frame from held = ring pipe_room (frame_of m frame) from held
+
+-- as many of these bytes as fit
+abbrev pub fitting : List (List ℕ) → Pipe → List ℕ → List ℕ
+fitting m p new = take (pipe_room - length (bytes_of m p)) new
+
+-- its bytes, and behind them what fits
+abbrev pub joined : List (List ℕ) → Pipe → List ℕ → List ℕ
+joined m p new = bytes_of m p ++ fitting m p new
 
 -- the frames that it holds
 abbrev pub holds : Pipe → List ℕ

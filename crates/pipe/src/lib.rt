@@ -5,6 +5,7 @@ ghost use Rattle.std.specs.Prelude.{◌≡◌, ◌+◌, ◌-◌, ◌<◌, ◌≤
 ghost use Rattle.ram.specs.Memory.{frame_of};
 ghost use Rattle.unixmodel.specs.OpenFiles.{pipe_room};
 ghost use Rattle.unixmodel.specs.Turn.{is_empty};
+ghost use Rattle.pipe.specs.Pipe.{ring_in};
 ghost use Rattle.ring.specs.Ring.{ring};
 
 use ram::{FRAME_SIZE, FrameNo, Ram};
@@ -60,7 +61,7 @@ fn append_in(ram: &mut Ram, frame: FrameNo, from: usize, held: usize, bytes: &[u
     requires frame { frame.0 < length ram.old }
     requires from { from < 512 }
     requires room { held + length bytes.now ≤ 512 }
-    ensures bytes { ring 512 (frame_of ram.new frame.0) from (held + length bytes.now) ≡ ring 512 (frame_of ram.old frame.0) from held ++ bytes.now }
+    ensures bytes { ring_in ram.new frame.0 from (held + length bytes.now) ≡ ring_in ram.old frame.0 from held ++ bytes.now }
     ensures memory { ram.new ≡ slice_set ram.old frame.0 (frame_of ram.new frame.0) }
 {
     append(ram.frame_mut(frame), from, held, bytes);
@@ -78,7 +79,7 @@ fn copy_out(places: &[u8; FRAME_SIZE], from: usize, buffer: &mut [u8])
 }
 
 impl Pipe {
-    ghost use Rattle.pipe.specs.Pipe.{bytes_of, closed, holds, is_open, Stays};
+    ghost use Rattle.pipe.specs.Pipe.{bytes_of, closed, fitting, holds, is_open, joined, Stays};
 
     /// An empty pipe in a frame, with both ends open.
     pub fn new(frame: FrameNo) -> Pipe
@@ -147,8 +148,8 @@ impl Pipe {
         requires { self.old.frame < length ram.old }
         ensures refused { IsNone result ↔ self.old.read_open ≡ false }
         ensures unchanged { IfNone result ((ram.new ≡ ram.old) × (self.new ≡ self.old)) }
-        ensures bytes { IfSome result (λ n. bytes_of ram.new self.new ≡ bytes_of ram.old self.old ++ take (pipe_room - length (bytes_of ram.old self.old)) bytes.now) }
-        ensures count { IfSome result (λ n. n ≡ length (take (pipe_room - length (bytes_of ram.old self.old)) bytes.now)) }
+        ensures bytes { IfSome result (λ n. bytes_of ram.new self.new ≡ joined ram.old self.old bytes.now) }
+        ensures count { IfSome result (λ n. n ≡ length (fitting ram.old self.old bytes.now)) }
         ensures stays { Stays self.old self.new }
         // no other frame of the memory is written
         ensures memory { ram.new ≡ slice_set ram.old self.old.frame (frame_of ram.new self.old.frame) }

@@ -2,7 +2,7 @@
 ghost use Rattle.std.specs.Prelude.{◌≤◌};
 ghost use Rattle.std.specs.Io.KnownBytes.{Keeps};
 ghost use Rattle.machine.specs.View.{IsUp};
-ghost use Rattle.player.specs.Played.{IsPlayed, halts};
+ghost use Rattle.player.specs.Played.{PlaysTo, halts};
 
 use crate::tail::Tail;
 use blockdev::BlockDev;
@@ -52,7 +52,7 @@ fn give<D: BlockDev, T: Translate + Drop, R: Record, V: Watch, W: Write>(
     out: &mut Tail<W>,
 ) -> Result<(), Halt>
     requires { IsUp machine.old }
-    ensures { IsPlayed machine.old machine.new (W.contents out.old.out.inner) (W.contents out.new.out.inner) out.old.out.failed out.new.out.failed (R.kept keeper.old) (R.kept keeper.new) result }
+    ensures { PlaysTo W.contents R.kept machine.old machine.new out.old.out out.new.out keeper.old keeper.new result }
 {
     keeper.note(event);
     watch.before(machine, event);
@@ -71,7 +71,7 @@ fn repeat<D: BlockDev, T: Translate + Drop, R: Record, V: Watch, W: Write>(
     out: &mut Tail<W>,
 ) -> Result<(), Halt>
     requires { IsUp machine.old }
-    ensures { IsPlayed machine.old machine.new (W.contents out.old.out.inner) (W.contents out.new.out.inner) out.old.out.failed out.new.out.failed (R.kept keeper.old) (R.kept keeper.new) result }
+    ensures { PlaysTo W.contents R.kept machine.old machine.new out.old.out out.new.out keeper.old keeper.new result }
 {
     for _made in 0..times {
         give(machine, event, keeper, watch, out)?;
@@ -88,7 +88,7 @@ fn press<D: BlockDev, T: Translate + Drop, R: Record, V: Watch, W: Write>(
     out: &mut Tail<W>,
 ) -> Result<(), Halt>
     requires { IsUp machine.old }
-    ensures { IsPlayed machine.old machine.new (W.contents out.old.out.inner) (W.contents out.new.out.inner) out.old.out.failed out.new.out.failed (R.kept keeper.old) (R.kept keeper.new) result }
+    ensures { PlaysTo W.contents R.kept machine.old machine.new out.old.out out.new.out keeper.old keeper.new result }
 {
     for key in keys {
         give(machine, Event::Key(*key), keeper, watch, out)?;
@@ -105,7 +105,7 @@ fn tick_if<D: BlockDev, T: Translate + Drop, R: Record, V: Watch, W: Write>(
     out: &mut Tail<W>,
 ) -> Result<(), Halt>
     requires { IsUp machine.old }
-    ensures { IsPlayed machine.old machine.new (W.contents out.old.out.inner) (W.contents out.new.out.inner) out.old.out.failed out.new.out.failed (R.kept keeper.old) (R.kept keeper.new) result }
+    ensures { PlaysTo W.contents R.kept machine.old machine.new out.old.out out.new.out keeper.old keeper.new result }
 {
     if is_due {
         give(machine, Event::Tick, keeper, watch, out)
@@ -123,7 +123,7 @@ fn pace<D: BlockDev, T: Translate + Drop, R: Record, V: Watch, W: Write>(
     out: &mut Tail<W>,
 ) -> Result<(), Halt>
     requires { IsUp machine.old }
-    ensures { IsPlayed machine.old machine.new (W.contents out.old.out.inner) (W.contents out.new.out.inner) out.old.out.failed out.new.out.failed (R.kept keeper.old) (R.kept keeper.new) result }
+    ensures { PlaysTo W.contents R.kept machine.old machine.new out.old.out out.new.out keeper.old keeper.new result }
 {
     give(machine, Event::Step, keeper, watch, out)?;
     tick_if(machine, clock.strikes(), keeper, watch, out)
@@ -164,7 +164,7 @@ fn walk<D: BlockDev, T: Translate + Drop, R: Record, V: Watch, W: Write>(
     out: &mut Tail<W>,
 ) -> Result<bool, Halt>
     requires { IsUp machine.old }
-    ensures { IsPlayed machine.old machine.new (W.contents out.old.out.inner) (W.contents out.new.out.inner) out.old.out.failed out.new.out.failed (R.kept keeper.old) (R.kept keeper.new) (halts result) }
+    ensures { PlaysTo W.contents R.kept machine.old machine.new out.old.out out.new.out keeper.old keeper.new (halts result) }
 {
     for made in 0..most {
         if is_reached(machine, goal, out) {
@@ -188,7 +188,7 @@ fn command<D: BlockDev, T: Translate + Drop, R: Record, V: Watch, W: Write>(
     out: &mut Tail<W>,
 ) -> Result<(), Halt>
     requires { IsUp machine.old }
-    ensures { IsPlayed machine.old machine.new (W.contents out.old.out.inner) (W.contents out.new.out.inner) out.old.out.failed out.new.out.failed (R.kept keeper.old) (R.kept keeper.new) result }
+    ensures { PlaysTo W.contents R.kept machine.old machine.new out.old.out out.new.out keeper.old keeper.new result }
 {
     match command {
         Command::Step(times) => {
@@ -214,7 +214,7 @@ fn act<D: BlockDev, T: Translate + Drop, R: Record, V: Watch, W: Write>(
     out: &mut Tail<W>,
 ) -> Result<Option<Unreached>, Halt>
     requires { IsUp machine.old }
-    ensures { IsPlayed machine.old machine.new (W.contents out.old.out.inner) (W.contents out.new.out.inner) out.old.out.failed out.new.out.failed (R.kept keeper.old) (R.kept keeper.new) (halts result) }
+    ensures { PlaysTo W.contents R.kept machine.old machine.new out.old.out out.new.out keeper.old keeper.new (halts result) }
 {
     match &act.deed {
         Deed::Give(said) => {
@@ -244,7 +244,7 @@ pub fn perform<D: BlockDev, T: Translate + Drop, R: Record, V: Watch, W: Write>(
     out: &mut Tail<W>,
 ) -> Result<Option<Unreached>, Halt>
     requires { IsUp machine.old }
-    ensures { IsPlayed machine.old machine.new (W.contents out.old.out.inner) (W.contents out.new.out.inner) out.old.out.failed out.new.out.failed (R.kept keeper.old) (R.kept keeper.new) (halts result) }
+    ensures { PlaysTo W.contents R.kept machine.old machine.new out.old.out out.new.out keeper.old keeper.new (halts result) }
 {
     let mut place = Place::new();
     let mut clock = Clock::Off;

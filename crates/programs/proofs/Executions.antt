@@ -7,10 +7,9 @@ use Rattle.programs.specs.declared.arguments.Arguments.{Arguments}
 use Rattle.programs.specs.declared.executing.Started.{Started}
 use Rattle.programs.specs.declared.headers.Program.{Program}
 use Rattle.programs.specs.Executed.{IsExecuted, frames_beside, plan_at}
-use Rattle.programs.specs.Headed.{file_at, program_in}
+use Rattle.programs.specs.Headed.{file_at, program_in, TellsProgram}
 use Rattle.programs.specs.Passed.{Passes, plan_with, stacked}
 use Rattle.programs.specs.Placed.{paged}
-use Rattle.programs.proofs.Headings.{TellsProgram}
 use Rattle.programs.proofs.Loads.{IsProgram, is-program}
 use Rattle.programs.proofs.Places.{length-write}
 use Rattle.programs.proofs.Serving.{file-kept-on}

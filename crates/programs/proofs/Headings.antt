@@ -15,10 +15,10 @@ use Rattle.elf.specs.Headers.{header_in, header_of, is_within, segment_if, segme
 use Rattle.elf.proofs.Plans.{header_in-part, headers_by, loaded_by, loads-header, loads-segment, segment_at-part}
 use Rattle.inode.specs.declared.InodeStat.{InodeStat}
 use Rattle.programs.specs.declared.headers.Program.{Program}
-use Rattle.programs.specs.Headed.{IsRead, end_behind, end_by, file_at, headed, program_in, segment_behind, unless_refused}
+use Rattle.programs.specs.Headed.{IsRead, end_behind, end_by, file_at, headed, program_in, segment_behind, unless_refused, Tells, TellsProgram, end_of}
 use Rattle.transfers.proofs.Fits.{serves-told}
 use Rattle.programs.proofs.Serving.{HasRead, HasSeen}
-use Rattle.tree.specs.Telling.{Tells}
+use Rattle.tree.specs.Telling as telling
 use Rattle.tree.specs.Tree.{FileTree, Serves}
 use Rattle.tree.specs.Written.{IsFile}
 use Rattle.unixmodel.specs.Files.{Files, Node, slot}
@@ -44,16 +44,16 @@ whole-read old new number at out out' k file within serves =
     ∙ ap (λ l. part at (length out) file.bytes ++ l) (drop_all (length out) out (omega arith))
     ∙ append-nil (part at (length out) file.bytes)
     ∙ ap (part at (length out)) (sym bytes) in
-    serves-told tt (record { same = serves.told.0; value = value }) serves.up serves.cause.later
+    serves-told tt (record { same = serves.told.0; value = value }) serves.up serves.same_device serves.cause.later
 
 -- ---- what is told
 
 -- what was read is told
 pub read-serves : {T : Type 0} {old new : FileTree} {told is : T} → new ≡ record old { failures = new.failures } → new.failed ≡ false → old.failures ≤ new.failures → told ≡ is → Serves old new (Ok told) (λ t. IsRead old new t is)
-read-serves {told = told} same up later value = serves-told told (record { same = same; value = value }) up later
+read-serves {told = told} same up later value = serves-told told (record { same = same; value = value }) up (ap (λ (t : FileTree). t.identity) same) later
 
 -- where what is loaded ends, by what a program header asks for
-pub end-told : {old new : FileTree} {told : Result (Option LoadSegment) ElfFault} (file : List ℕ) (at end : ℕ) (o : Option ℕ) → Serves old new (Ok told) (λ t. IsRead old new t (segment_behind file at end)) → o ≡ end_by end told → Serves old new (Ok o) (λ t. IsRead old new t (end_behind file at end))
+pub end-told : {old new : FileTree} {told : Result (Option LoadSegment) ElfFault} (file : List ℕ) (at end : ℕ) (o : Option ℕ) → Serves old new (Ok told) (Tells old new (segment_behind file at end)) → o ≡ end_by end told → Serves old new (Ok o) (Tells old new (end_behind file at end))
 end-told file at end o serves is = read-serves serves.told.same serves.up serves.cause.later (is ∙ ap (end_by end) serves.told.value)
 
 -- ---- the header
@@ -139,7 +139,7 @@ pub none-loaded : (tree : FileTree) (file : List ℕ) (count at : ℕ) → tree.
 none-loaded tree file count at up = record { same = refl; up = up; later = omega arith; loaded = nothing_loaded; ends = refl; rest = none-read file count at }
 
 module _ {old now next : FileTree} {count at i end place : ℕ} {told : Option ℕ} (number : ℕ) (has : HasLoaded old now (file_at old.files number) count at i end) (more : i < count) (is : place ≡ at + 56 * i)
-    (fits : is_within at (56 * count) (length (file_at old.files number)) ≡ true) (serves : Serves now next (Ok told) (λ t. IsRead now next t (end_behind (file_at now.files number) place end))) where
+    (fits : is_within at (56 * count) (length (file_at old.files number)) ≡ true) (serves : Serves now next (Ok told) (Tells now next (end_behind (file_at now.files number) place end))) where
   abbrev bytes : List ℕ
   bytes = file_at old.files number
 
@@ -279,12 +279,12 @@ module _ (file : List ℕ) (header : FileHeader) (head : headed file ≡ Some he
 
 -- ---- what names no file
 
-pub no-file : (s : InodeStat) (o : Option Node) (node : Node) → o ≡ Some node → Tells s node → s.kind ≢ 2 → file_bytes o ≡ None
+pub no-file : (s : InodeStat) (o : Option Node) (node : Node) → o ≡ Some node → telling.Tells s node → s.kind ≢ 2 → file_bytes o ≡ None
 no-file s o (File links held) here tells other = absurd (other tells.0)
 no-file s o (Device links major minor) here tells other = ap file_bytes here
 no-file s o (Directory links places) here tells other = ap file_bytes here
 
-pub is-file : (s : InodeStat) (files : Files) (n : ℕ) (node : Node) → slot files n ≡ Some node → Tells s node → s.kind ≡ 2 → IsFile files n × (s.size ≡ length (file_at files n)) × (file_bytes (slot files n) ≡ Some (file_at files n))
+pub is-file : (s : InodeStat) (files : Files) (n : ℕ) (node : Node) → slot files n ≡ Some node → telling.Tells s node → s.kind ≡ 2 → IsFile files n × (s.size ≡ length (file_at files n)) × (file_bytes (slot files n) ≡ Some (file_at files n))
 is-file s files n (File links held) here tells kind =
     (record { links = links; bytes = held; here = here }, tells.2 ∙ ap (λ o. length (bytes_or_none o)) (sym here), ap file_bytes here ∙ ap (λ o. Some (bytes_or_none o)) (sym here))
 is-file s files n (Device links major minor) here tells kind = absurd (omega (arith, tells.0, kind))
@@ -292,35 +292,29 @@ is-file s files n (Directory links places) here tells kind = absurd (omega (arit
 
 -- ---- the steps of `read_headers` and `read_program`
 
-abbrev pub TellsProgram : FileTree → FileTree → Option Program → Option Program → Type 0
-TellsProgram old new is told = IsRead old new told is × IfSome told (λ program. program.pages ≤ 2 ^ 52)
-
 module _ {old new : FileTree} (number : ℕ) where
   -- the header is refused
-  pub head-refused : {told : Option FileHeader} → Serves old new (Ok told) (λ t. IsRead old new t (headed (file_at old.files number))) → told ≡ None → Serves old new (Ok None) (TellsProgram old new (program_in (file_at old.files number)))
+  pub head-refused : {told : Option FileHeader} → Serves old new (Ok told) (Tells old new (headed (file_at old.files number))) → told ≡ None → Serves old new (Ok None) (TellsProgram old new (program_in (file_at old.files number)))
   head-refused serves none =
-      serves-told None (record { same = serves.told.same; value = sym (program-refused (file_at old.files number) (sym serves.told.value ∙ none)) }, tt) serves.up serves.cause.later
+      serves-told None (record { same = serves.told.same; value = sym (program-refused (file_at old.files number) (sym serves.told.value ∙ none)) }, tt) serves.up serves.same_device serves.cause.later
 
 -- its program headers are in the file
-pub header-fits : {old mid : FileTree} (number : ℕ) {head : Option FileHeader} {header : FileHeader} → Serves old mid (Ok head) (λ t. IsRead old mid t (headed (file_at old.files number))) → head ≡ Some header
+pub header-fits : {old mid : FileTree} (number : ℕ) {head : Option FileHeader} {header : FileHeader} → Serves old mid (Ok head) (Tells old mid (headed (file_at old.files number))) → head ≡ Some header
     → (len : ℕ) → len ≡ length (file_at old.files number) → is_within header.program_headers (56 * header.count) len ≡ true
 header-fits {old} number {head} {header} first some len long =
     ap (is_within header.program_headers (56 * header.count)) long ∙ (is-headed (file_at old.files number) header (sym first.told.value ∙ some)).within
 
-abbrev ends_of : List ℕ → FileHeader → Option ℕ
-ends_of file header = option_map (λ (l : Loaded). l.end) (load_segments file header.count header.program_headers nothing_loaded)
-
 module _ {old mid new : FileTree} (number : ℕ) {head : Option FileHeader} {header : FileHeader} {told : Option ℕ}
-    (first : Serves old mid (Ok head) (λ t. IsRead old mid t (headed (file_at old.files number)))) (some : head ≡ Some header)
-    (second : Serves mid new (Ok told) (λ t. IsRead mid new t (ends_of (file_at mid.files number) header))) where
+    (first : Serves old mid (Ok head) (Tells old mid (headed (file_at old.files number)))) (some : head ≡ Some header)
+    (second : Serves mid new (Ok told) (Tells mid new (end_of (file_at mid.files number) header))) where
   abbrev whole_file : List ℕ
   whole_file = file_at old.files number
 
   headed-is : headed whole_file ≡ Some header
   headed-is = sym first.told.value ∙ some
 
-  ends-is : told ≡ ends_of whole_file header
-  ends-is = second.told.value ∙ ap (λ (t : FileTree). ends_of (file_at t.files number) header) first.told.same
+  ends-is : told ≡ end_of whole_file header
+  ends-is = second.told.value ∙ ap (λ (t : FileTree). end_of (file_at t.files number) header) first.told.same
 
   same-both : new ≡ record old { failures = new.failures }
   same-both = second.told.same ∙ ap (λ (t : FileTree). record t { failures = new.failures }) first.told.same
@@ -330,19 +324,19 @@ module _ {old mid new : FileTree} (number : ℕ) {head : Option FileHeader} {hea
 
   -- a segment is refused
   pub ends-refused : told ≡ None → Serves old new (Ok None) (TellsProgram old new (program_in whole_file))
-  ends-refused none = serves-told None (record { same = same-both; value = sym (segments-refused whole_file header headed-is (sym ends-is ∙ none)) }, tt) second.up later-both
+  ends-refused none = serves-told None (record { same = same-both; value = sym (segments-refused whole_file header headed-is (sym ends-is ∙ none)) }, tt) second.up (second.same_device ∙ first.same_device) later-both
 
   pub program-told : (end pages : ℕ) → told ≡ Some end → end < 2 ^ 64 → pages ≡ ceil_div end 4096 → Serves old new (Ok (Some (record { header = header; pages = pages }))) (TellsProgram old new (program_in whole_file))
   program-told end pages at fits count =
-      serves-told _ (record { same = same-both; value = program-is whole_file header headed-is end pages (sym ends-is ∙ at) count }, omega (arith, count, fits)) second.up later-both
+      serves-told _ (record { same = same-both; value = program-is whole_file header headed-is end pages (sym ends-is ∙ at) count }, omega (arith, count, fits)) second.up (second.same_device ∙ first.same_device) later-both
 
 module _ {old mid : FileTree} (number : ℕ) {s : InodeStat} (node : (n : Node) × (slot old.files number ≡ Some n)) (first : Serves old mid (Ok s) (HasSeen old mid number)) where
-  tells-node : Tells s node.0
+  tells-node : telling.Tells s node.0
   tells-node = first.told.1 node.0 node.1
 
   pub other-refused : s.kind ≢ 2 → Serves old mid (Ok None) (TellsProgram old mid (option_and_then program_in (file_bytes (slot old.files number))))
   other-refused other =
-      serves-told None (record { same = first.told.0; value = sym (ap (option_and_then program_in) (no-file s (slot old.files number) node.0 node.1 tells-node other)) }, tt) first.up first.cause.later
+      serves-told None (record { same = first.told.0; value = sym (ap (option_and_then program_in) (no-file s (slot old.files number) node.0 node.1 tells-node other)) }, tt) first.up first.same_device first.cause.later
 
   module _ (kind : s.kind ≡ 2) where
     was : IsFile old.files number × (s.size ≡ length (file_at old.files number)) × (file_bytes (slot old.files number) ≡ Some (file_at old.files number))
@@ -360,11 +354,12 @@ module _ {old mid : FileTree} (number : ℕ) {s : InodeStat} (node : (n : Node) 
     pub program-served : {new : FileTree} (r : Result (Option Program) DeviceFault) → Serves mid new r (TellsProgram mid new (program_in (file_at mid.files number))) → Serves old new r (TellsProgram old new (option_and_then program_in (file_bytes (slot old.files number))))
     program-served {new} (Ok told) second =
         serves-told told (record { same = second.told.0.same ∙ ap (λ (t : FileTree). record t { failures = new.failures }) first.told.0; value = second.told.0.value ∙ is-same }, second.told.1)
-        second.up (le_trans first.cause.later second.cause.later)
+        second.up (second.same_device ∙ first.same_device) (le_trans first.cause.later second.cause.later)
     program-served {new} (Err fault) second = record {
       told = tt;
       up = tt;
       down = second.down;
+      same_device = second.same_device ∙ first.same_device;
       cause = record {
         later = le_trans first.cause.later second.cause.later;
         failed = λ e. let a = first.cause.later in let b = second.cause.failed e in omega (arith, a, b);

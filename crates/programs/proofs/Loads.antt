@@ -10,8 +10,8 @@ use Rattle.elf.specs.declared.LoadSegment.{LoadSegment}
 use Rattle.elf.specs.Headers.{header_in, header_of, is_within, segment_if, segment_shown, wrong}
 use Rattle.elf.proofs.Plans.{headers_by, loaded_by, loads-header, loads-segment, segment_at-part}
 use Rattle.programs.specs.declared.headers.Program.{Program}
-use Rattle.programs.specs.Headed.{IsRead, file_at, program_in, segment_behind, unless_refused}
-use Rattle.programs.specs.Placed.{Follows, HasRoom, IsPaged, Leaves, next_in, paged}
+use Rattle.programs.specs.Headed.{file_at, program_in, segment_behind, unless_refused, Tells}
+use Rattle.programs.specs.Placed.{Follows, HasRoom, IsPaged, Leaves, next_in, paged, LoadsSegment}
 use Rattle.programs.proofs.Headings.{HasLoaded, header-within, is-headed, loads-next, loads-one, none-read, whole-more, KeepsWhole, all-related}
 use Rattle.programs.proofs.Places.{has-held, held-twice, is-held, room-less, room-with, self-held}
 use Rattle.programs.proofs.Serving.{HasSeen}
@@ -24,7 +24,7 @@ use Rattle.inode.specs.declared.InodeStat.{InodeStat}
 use Rattle.programs.specs.Passed.{stacked}
 use Rattle.unixmodel.specs.Memory.{Memory}
 use Rattle.unixmodel.specs.Numbers.{ceil_div}
-use Rattle.unixmodel.specs.Plan.{Loaded, Segment, load_segment, load_segments, loaded_of, nothing_loaded, segment_at, segment_pages, with_segment}
+use Rattle.unixmodel.specs.Plan.{Loaded, load_segment, load_segments, loaded_of, nothing_loaded, segment_at, segment_pages, with_segment}
 
 -- ---- a segment that isn't refused
 
@@ -99,7 +99,7 @@ module _ (file : List ℕ) (place : ℕ) (h : SpaceView) (end : ℕ) (next : Loa
 -- ---- what `load_next` reads
 
 module _ {old mid : FileTree} (s : Spaces) (at number place end : ℕ) {told : Result (Option LoadSegment) ElfFault} (whole : length (view_at s at).memory ≡ ceil_div end 4096)
-    (serves : Serves old mid (Ok told) (λ t. IsRead old mid t (segment_behind (file_at old.files number) place end))) (next : Loaded) (some : next_in (file_at old.files number) place (view_at s at) end ≡ Some next) where
+    (serves : Serves old mid (Ok told) (Tells old mid (segment_behind (file_at old.files number) place end))) (next : Loaded) (some : next_in (file_at old.files number) place (view_at s at) end ≡ Some next) where
   pub never-refused : (fault : ElfFault) → told ≡ Err fault → ⊥
   never-refused fault is = not-refused (file_at old.files number) place (view_at s at) end next some fault (sym serves.told.value ∙ is)
 
@@ -126,7 +126,7 @@ module _ {old mid : FileTree} (s : Spaces) (at number place end : ℕ) {told : R
       subst (HasRoom s at) taken-next.count room,
     )
 
-    pub loaded-next : {new : Spaces} → ((seg : Segment) → g ≡ segment_shown seg → new ≡ with_view s at (paged ((view_at s at).memory ++ segment_pages (file_at mid.files number) (length (view_at s at).memory) seg)))
+    pub loaded-next : {new : Spaces} → LoadsSegment (file_at mid.files number) s new at g
         → (g.address + g.size ≡ next.end) × (new ≡ with_view s at (paged next.pages))
     loaded-next {new} put =
         let is = taken-next in

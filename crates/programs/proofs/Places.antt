@@ -14,7 +14,7 @@ use Rattle.blockdev.specs.declared.DeviceFault.{DeviceFault}
 use Rattle.programs.specs.Passed.{stacked}
 use Rattle.programs.proofs.Stacks.{write-stack}
 use Rattle.programs.specs.Headed.{file_at}
-use Rattle.programs.specs.Placed.{Follows, HasRoom, IsPaged, Leaves, paged}
+use Rattle.programs.specs.Placed.{Follows, HasRoom, IsPaged, Leaves, paged, with_more}
 use Rattle.spaces.specs.Spaces.{SpaceView, Spaces, frames_in, has_space, view_at, taken_frames, with_view, written}
 use Rattle.spaces.proofs.SpacesLemmas.{held-same, taken-placed, within}
 use Rattle.transfers.specs.Moved.{with_bytes}
@@ -269,8 +269,8 @@ pub stack-inside : (before after pages : ℕ) (page : List ℕ) → length page 
 stack-inside before after pages page whole count long i less = omega (arith, whole, count, long, less)
 
 pub stack-added : (s s1 s2 s3 : Spaces) (at : ℕ) (page : List ℕ) (address : ℕ) → has_space s at ≡ true → address ≡ (length (view_at s at).memory + 1) * 4096 → length page ≡ 4096
-    → s1 ≡ with_view s at (paged ((view_at s at).memory ++ replicate 1 (zero_page (stack_marks false))))
-    → s2 ≡ with_view s1 at (paged ((view_at s1 at).memory ++ replicate 1 (zero_page (stack_marks true))))
+    → s1 ≡ with_more s at (replicate 1 (zero_page (stack_marks false)))
+    → s2 ≡ with_more s1 at (replicate 1 (zero_page (stack_marks true)))
     → s3 ≡ with_view s2 at (written (view_at s2 at) address page)
     → s3 ≡ with_view s at (paged (stacked (view_at s at).memory page))
 stack-added s s1 s2 s3 at page address has is whole guard stack put =

@@ -1,5 +1,5 @@
 -- The exits of functions that read a file in steps.
-use Rattle.std.proofs.Common.{Err, IsErrAnd, List, Ok, Result, Some, ap, arith, drop, false, le_trans, length, subst, sym, ℕ, ◌++◌, ◌-◌, ◌∙◌, ◌≡◌, ◌≤◌}
+use Rattle.std.proofs.Common.{Err, IsErrAnd, List, Ok, Result, Some, ap, arith, drop, false, le_trans, length, refl, subst, sym, ℕ, ◌++◌, ◌-◌, ◌∙◌, ◌≡◌, ◌≤◌}
 use Rattle.std.specs.Prelude.{IfOk, OnErr, OnOk, min}
 use Rattle.std.proofs.lemmas.Result.{err_from_is_err_and}
 use Rattle.blockdev.specs.declared.DeviceFault.{DeviceFault}
@@ -40,19 +40,19 @@ module _ {B : Type 0} (r : Result B DeviceFault) (Q : DeviceFault → Type 0) (e
   err-left P p = subst (λ (x : Result B DeviceFault). OnErr x P) (sym is) p
 
   -- the first step failed, or a later one
-  pub lost-later : {A : Type 0} {old mid new : FileTree} {given : DeviceFault} {Told : A → Type 0} (P : B → Type 0) → old.failures ≤ mid.failures → Serves mid new (Err given) Told → Serves old new r P
-  lost-later {old = old} {mid = mid} {new = new} P first serves =
+  pub lost-later : {A : Type 0} {old mid new : FileTree} {given : DeviceFault} {Told : A → Type 0} (P : B → Type 0) → mid.identity ≡ old.identity → old.failures ≤ mid.failures → Serves mid new (Err given) Told → Serves old new r P
+  lost-later {old = old} {mid = mid} {new = new} P same first serves =
       let after = serves.cause.later in
       subst (λ (x : Result B DeviceFault). Serves old new x P) (sym is)
-      (record { told = tt; up = tt; down = serves.down; cause = record { later = le_trans first after; failed = λ e. let rises = serves.cause.failed e in omega (arith, rises, first) } })
+      (record { told = tt; up = tt; down = serves.down; same_device = serves.same_device ∙ same; cause = record { later = le_trans first after; failed = λ e. let rises = serves.cause.failed e in omega (arith, rises, first) } })
 
   pub lost-first : {A : Type 0} {old new : FileTree} {given : DeviceFault} {Told : A → Type 0} (P : B → Type 0) → Serves old new (Err given) Told → Serves old new r P
-  lost-first P serves = lost-later P (omega arith) serves
+  lost-first {old = old} P serves = lost-later {mid = old} P refl (omega arith) serves
 
 -- ---- a value that is told
 
 pub kept-on : {B : Type 0} {old new : FileTree} (y : B) → new ≡ record old { failures = new.failures } → new.failed ≡ false → old.failures ≤ new.failures → Serves old new (Ok y) (Leaves old new)
-kept-on y same up later = serves-told y same up later
+kept-on y same up later = serves-told y same up (ap (λ (t : FileTree). t.identity) same) later
 
 pub kept-first : {A B : Type 0} {old new : FileTree} {x : A} {Told : A → Type 0} (y : B) → new ≡ record old { failures = new.failures } → Serves old new (Ok x) Told → Serves old new (Ok y) (Leaves old new)
 kept-first y same serves = kept-on y same serves.up serves.cause.later

@@ -1,15 +1,12 @@
 //! What the headers of a program file say.
 
-ghost use Rattle.std.specs.Prelude.{◌≡◌, ◌*◌, ◌+◌, ◌<◌, ◌≤◌, ◌^◌, IfSome, length, option_and_then, option_map, false, true};
-ghost use Rattle.blockdev.specs.Splice.{part};
+ghost use Rattle.std.specs.Prelude.{◌≡◌, ◌*◌, ◌+◌, ◌<◌, ◌≤◌, ◌^◌, length, false, true};
 ghost use Rattle.elf.specs.Headers.{is_within};
-ghost use Rattle.programs.specs.Headed.{IsRead, end_behind, file_at, headed, program_in, segment_behind};
+ghost use Rattle.programs.specs.Headed.{IsRead, Tells, TellsProgram, end_behind, end_of, file_of, headed, part_of, program_at, program_in, segment_behind};
 ghost use Rattle.tree.specs.Tree.{Serves};
 ghost use Rattle.tree.specs.Written.{IsFile};
 ghost use Rattle.unixmodel.specs.Counts.{page_frames};
 ghost use Rattle.unixmodel.specs.Files.{Node, slot};
-ghost use Rattle.unixmodel.specs.Plan.{Loaded, load_segments, nothing_loaded};
-ghost use Rattle.unixmodel.specs.ProcessCalls.{file_bytes};
 
 use blockdev::{BlockDev, DeviceFault};
 use elf::{ElfFault, FileHeader, HEADER_SIZE, LoadSegment, PROGRAM_HEADER_SIZE, header, segment};
@@ -48,8 +45,8 @@ pub(crate) fn read_part<D: BlockDev>(
 ) -> Result<(), DeviceFault>
     requires up { tree.old.failed ≡ false }
     requires file { IsFile tree.old.files number }
-    requires within { at + length out.old ≤ length (file_at tree.old.files number) }
-    ensures { Serves tree.old tree.new result (λ done. IsRead tree.old tree.new out.new (part at (length out.old) (file_at tree.old.files number))) }
+    requires within { at + length out.old ≤ length (file_of tree.old number) }
+    ensures { Serves tree.old tree.new result (λ done. IsRead tree.old tree.new out.new (part_of tree.old number at (length out.old))) }
 {
     let _all = tree.read(number, at, out)?;
     Ok(())
@@ -63,8 +60,8 @@ fn read_header<D: BlockDev>(
 ) -> Result<Option<FileHeader>, DeviceFault>
     requires up { tree.old.failed ≡ false }
     requires file { IsFile tree.old.files number }
-    requires long { len ≡ length (file_at tree.old.files number) }
-    ensures { Serves tree.old tree.new result (λ told. IsRead tree.old tree.new told (headed (file_at tree.old.files number))) }
+    requires long { len ≡ length (file_of tree.old number) }
+    ensures { Serves tree.old tree.new result (Tells tree.old tree.new (headed (file_of tree.old number))) }
 {
     if len < HEADER_SIZE as u32 {
         return Ok(None);
@@ -84,9 +81,9 @@ pub(crate) fn read_segment<D: BlockDev>(
 ) -> Result<Result<Option<LoadSegment>, ElfFault>, DeviceFault>
     requires up { tree.old.failed ≡ false }
     requires file { IsFile tree.old.files number }
-    requires long { len ≡ length (file_at tree.old.files number) }
+    requires long { len ≡ length (file_of tree.old number) }
     requires within { at + 56 ≤ len }
-    ensures { Serves tree.old tree.new result (λ told. IsRead tree.old tree.new told (segment_behind (file_at tree.old.files number) at end)) }
+    ensures { Serves tree.old tree.new result (Tells tree.old tree.new (segment_behind (file_of tree.old number) at end)) }
 {
     let mut bytes = [0; PROGRAM_HEADER_SIZE];
     read_part(tree, number, at, &mut bytes)?;
@@ -103,9 +100,9 @@ fn read_end<D: BlockDev>(
 ) -> Result<Option<u64>, DeviceFault>
     requires up { tree.old.failed ≡ false }
     requires file { IsFile tree.old.files number }
-    requires long { len ≡ length (file_at tree.old.files number) }
+    requires long { len ≡ length (file_of tree.old number) }
     requires within { at + 56 ≤ len }
-    ensures { Serves tree.old tree.new result (λ told. IsRead tree.old tree.new told (end_behind (file_at tree.old.files number) at end)) }
+    ensures { Serves tree.old tree.new result (Tells tree.old tree.new (end_behind (file_of tree.old number) at end)) }
 {
     match read_segment(tree, number, at, end, len)? {
         Err(_) => Ok(None),
@@ -123,9 +120,9 @@ fn read_ends<D: BlockDev>(
 ) -> Result<Option<u64>, DeviceFault>
     requires up { tree.old.failed ≡ false }
     requires file { IsFile tree.old.files number }
-    requires long { len ≡ length (file_at tree.old.files number) }
+    requires long { len ≡ length (file_of tree.old number) }
     requires within { is_within header.program_headers (56 * header.count) len ≡ true }
-    ensures { Serves tree.old tree.new result (λ told. IsRead tree.old tree.new told (option_map (λ (l : Loaded). l.end) (load_segments (file_at tree.old.files number) header.count header.program_headers nothing_loaded))) }
+    ensures { Serves tree.old tree.new result (Tells tree.old tree.new (end_of (file_of tree.old number) header)) }
 {
     let mut end = 0;
     for i in 0..header.count {
@@ -146,8 +143,8 @@ fn read_headers<D: BlockDev>(
 ) -> Result<Option<Program>, DeviceFault>
     requires up { tree.old.failed ≡ false }
     requires file { IsFile tree.old.files number }
-    requires long { len ≡ length (file_at tree.old.files number) }
-    ensures { Serves tree.old tree.new result (λ told. IsRead tree.old tree.new told (program_in (file_at tree.old.files number)) × IfSome told (λ program. program.pages ≤ 2 ^ 52)) }
+    requires long { len ≡ length (file_of tree.old number) }
+    ensures { Serves tree.old tree.new result (TellsProgram tree.old tree.new (program_in (file_of tree.old number))) }
 {
     let Some(header) = read_header(tree, number, len)? else {
         return Ok(None);
@@ -167,7 +164,7 @@ pub fn read_program<D: BlockDev>(
 ) -> Result<Option<Program>, DeviceFault>
     requires up { tree.old.failed ≡ false }
     requires node { (node : Node) × (slot tree.old.files number ≡ Some node) }
-    ensures { Serves tree.old tree.new result (λ told. IsRead tree.old tree.new told (option_and_then program_in (file_bytes (slot tree.old.files number))) × IfSome told (λ program. program.pages ≤ 2 ^ 52)) }
+    ensures { Serves tree.old tree.new result (TellsProgram tree.old tree.new (program_at tree.old.files number)) }
 {
     let stat = tree.stat(number)?;
     if stat.kind != FILE {

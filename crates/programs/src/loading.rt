@@ -1,19 +1,17 @@
 //! How a program comes into the memory of a place.
 
-ghost use Rattle.std.specs.Prelude.{◌≡◌, ◌*◌, ◌++◌, ◌+◌, ◌<◌, ◌≤◌, ◌^◌, IfOk, OnErr, OnOk, Some, length, replicate, false, true};
-ghost use Rattle.blockdev.specs.Splice.{part};
+ghost use Rattle.std.specs.Prelude.{◌≡◌, ◌*◌, ◌+◌, ◌<◌, ◌≤◌, ◌^◌, IfOk, OnErr, OnOk, Some, length, replicate, false, true};
 ghost use Rattle.elf.specs.Headers.{is_within};
-ghost use Rattle.elf.specs.Headers.{segment_shown};
-ghost use Rattle.programs.specs.Headed.{file_at, program_in};
+ghost use Rattle.programs.specs.Headed.{file_of, loaded_by, part_of, program_in};
 ghost use Rattle.programs.specs.Passed.{stacked};
-ghost use Rattle.programs.specs.Placed.{Follows, HasRoom, IsPaged, Leaves, next_in, paged};
+ghost use Rattle.programs.specs.Placed.{Follows, HasRoom, IsPaged, Leaves, Loads, LoadsSegment, LoadsTo, LoadsWithStack, MayLoad, next_in, with_more, with_paged};
 ghost use Rattle.spaces.specs.Spaces.{SpaceView, has_space, view_at, no_pages, with_view};
 ghost use Rattle.transfers.specs.Moved.{with_bytes};
 ghost use Rattle.tree.specs.Tree.{Serves};
 ghost use Rattle.tree.specs.Written.{IsFile};
 ghost use Rattle.unixmodel.specs.Memory.{zero_page};
 ghost use Rattle.unixmodel.specs.Numbers.{ceil_div};
-ghost use Rattle.unixmodel.specs.Plan.{Loaded, Segment, load_segments, loaded_of, nothing_loaded, segment_pages};
+ghost use Rattle.unixmodel.specs.Plan.{loaded_of};
 ghost use Rattle.vm.specs.Leaf.{marks_from};
 
 use crate::arguments::Arguments;
@@ -55,7 +53,7 @@ fn add_pages<T: Translate + Drop>(spaces: &mut Spaces<T>, at: usize, count: u64,
     requires paged { IsPaged (view_at spaces.old at) }
     requires few { count < 2 ^ 32 }
     requires room { HasRoom spaces.old at (length (view_at spaces.old at).memory + count) }
-    ensures { spaces.new ≡ with_view spaces.old at (paged ((view_at spaces.old at).memory ++ replicate count (zero_page (marks_from perm)))) }
+    ensures { spaces.new ≡ with_more spaces.old at (replicate count (zero_page (marks_from perm))) }
 {
     if !spaces.grow(at, count * FRAME_SIZE as u64, perm) {
         unreachable!()
@@ -74,11 +72,11 @@ fn fill_piece<D: BlockDev, T: Translate + Drop>(
 ) -> Result<(), DeviceFault>
     requires up { tree.old.failed ≡ false }
     requires file { IsFile tree.old.files number }
-    requires within { offset + length buffer.old ≤ length (file_at tree.old.files number) }
+    requires within { offset + length buffer.old ≤ length (file_of tree.old number) }
     requires space { has_space spaces.old at ≡ true }
     requires inside { address + length buffer.old ≤ 4096 * length (view_at spaces.old at).memory }
     ensures serves { Serves tree.old tree.new result (Leaves tree.old tree.new) }
-    ensures filled { OnOk result (spaces.new ≡ with_bytes spaces.old at address (part offset (length buffer.old) (file_at tree.old.files number))) }
+    ensures filled { OnOk result (spaces.new ≡ with_bytes spaces.old at address (part_of tree.old number offset (length buffer.old))) }
     ensures failed { OnErr result (spaces.new ≡ spaces.old) }
 {
     read_part(tree, number, offset, buffer)?;
@@ -98,12 +96,12 @@ fn fill_node<D: BlockDev, T: Translate + Drop>(
 ) -> Result<(), DeviceFault>
     requires up { tree.old.failed ≡ false }
     requires file { IsFile tree.old.files number }
-    requires within { is_within offset count (length (file_at tree.old.files number)) ≡ true }
-    requires long { length (file_at tree.old.files number) < 2 ^ 32 }
+    requires within { is_within offset count (length (file_of tree.old number)) ≡ true }
+    requires long { length (file_of tree.old number) < 2 ^ 32 }
     requires space { has_space spaces.old at ≡ true }
     requires inside { address + count ≤ 4096 * length (view_at spaces.old at).memory }
     ensures serves { Serves tree.old tree.new result (Leaves tree.old tree.new) }
-    ensures filled { OnOk result (spaces.new ≡ with_bytes spaces.old at address (part offset count (file_at tree.old.files number))) }
+    ensures filled { OnOk result (spaces.new ≡ with_bytes spaces.old at address (part_of tree.old number offset count)) }
     ensures failed { OnErr result ((held : SpaceView) × (spaces.new ≡ with_view spaces.old at held)) }
 {
     spaces.pages_are_whole(at);
@@ -131,12 +129,12 @@ fn load_segment<D: BlockDev, T: Translate + Drop>(
     requires file { IsFile tree.old.files number }
     requires space { has_space spaces.old at ≡ true }
     requires paged { IsPaged (view_at spaces.old at) }
-    requires long { length (file_at tree.old.files number) < 2 ^ 32 }
-    requires follows { Follows (length (file_at tree.old.files number)) (length (view_at spaces.old at).memory) segment }
+    requires long { length (file_of tree.old number) < 2 ^ 32 }
+    requires follows { Follows (length (file_of tree.old number)) (length (view_at spaces.old at).memory) segment }
     requires few { ceil_div (segment.address + segment.size) 4096 < 2 ^ 32 }
     requires room { HasRoom spaces.old at (ceil_div (segment.address + segment.size) 4096) }
     ensures serves { Serves tree.old tree.new result (Leaves tree.old tree.new) }
-    ensures loaded { OnOk result ((g : Segment) → segment ≡ segment_shown g → spaces.new ≡ with_view spaces.old at (paged ((view_at spaces.old at).memory ++ segment_pages (file_at tree.old.files number) (length (view_at spaces.old at).memory) g))) }
+    ensures loaded { OnOk result (LoadsSegment (file_of tree.old number) spaces.old spaces.new at segment) }
     ensures failed { OnErr result ((held : SpaceView) × (spaces.new ≡ with_view spaces.old at held)) }
 {
     let LoadSegment {
@@ -169,14 +167,14 @@ fn load_next<D: BlockDev, T: Translate + Drop>(
 ) -> Result<u64, DeviceFault>
     requires up { tree.old.failed ≡ false }
     requires file { IsFile tree.old.files number }
-    requires long { len ≡ length (file_at tree.old.files number) }
+    requires long { len ≡ length (file_of tree.old number) }
     requires within { place + 56 ≤ len }
     requires space { has_space spaces.old at ≡ true }
     requires paged { IsPaged (view_at spaces.old at) }
     requires whole { length (view_at spaces.old at).memory ≡ ceil_div end 4096 }
-    requires next { (next : Loaded) × (next_in (file_at tree.old.files number) place (view_at spaces.old at) end ≡ Some next) × (length next.pages < 2 ^ 32) × HasRoom spaces.old at (length next.pages) }
+    requires next { MayLoad spaces.old at (next_in (file_of tree.old number) place (view_at spaces.old at) end) }
     ensures serves { Serves tree.old tree.new result (Leaves tree.old tree.new) }
-    ensures loaded { IfOk result (λ told. (next : Loaded) → next_in (file_at tree.old.files number) place (view_at spaces.old at) end ≡ Some next → (told ≡ next.end) × (spaces.new ≡ with_view spaces.old at (paged next.pages))) }
+    ensures loaded { IfOk result (LoadsTo spaces.old spaces.new at (next_in (file_of tree.old number) place (view_at spaces.old at) end)) }
     ensures failed { OnErr result ((held : SpaceView) × (spaces.new ≡ with_view spaces.old at held)) }
 {
     match read_segment(tree, number, place, end, len)? {
@@ -200,13 +198,13 @@ fn load_segments<D: BlockDev, T: Translate + Drop>(
 ) -> Result<(), DeviceFault>
     requires up { tree.old.failed ≡ false }
     requires file { IsFile tree.old.files number }
-    requires long { len ≡ length (file_at tree.old.files number) }
+    requires long { len ≡ length (file_of tree.old number) }
     requires within { is_within header.program_headers (56 * header.count) len ≡ true }
     requires space { has_space spaces.old at ≡ true }
     requires empty { view_at spaces.old at ≡ no_pages }
-    requires last { (last : Loaded) × (load_segments (file_at tree.old.files number) header.count header.program_headers nothing_loaded ≡ Some last) × (length last.pages < 2 ^ 32) × HasRoom spaces.old at (length last.pages) }
+    requires last { MayLoad spaces.old at (loaded_by (file_of tree.old number) header) }
     ensures serves { Serves tree.old tree.new result (Leaves tree.old tree.new) }
-    ensures loaded { OnOk result ((last : Loaded) → load_segments (file_at tree.old.files number) header.count header.program_headers nothing_loaded ≡ Some last → spaces.new ≡ with_view spaces.old at (paged last.pages)) }
+    ensures loaded { OnOk result (Loads spaces.old spaces.new at (loaded_by (file_of tree.old number) header)) }
     ensures failed { OnErr result ((held : SpaceView) × (spaces.new ≡ with_view spaces.old at held)) }
 {
     let mut end = 0;
@@ -222,7 +220,7 @@ pub fn add_stack<T: Translate + Drop>(spaces: &mut Spaces<T>, at: usize, page: &
     requires space { has_space spaces.old at ≡ true }
     requires paged { IsPaged (view_at spaces.old at) }
     requires room { HasRoom spaces.old at (length (view_at spaces.old at).memory + 2) }
-    ensures { spaces.new ≡ with_view spaces.old at (paged (stacked (view_at spaces.old at).memory page.now)) }
+    ensures { spaces.new ≡ with_paged spaces.old at (stacked (view_at spaces.old at).memory page.now) }
 {
     let pages = spaces.pages(at);
     add_pages(spaces, at, 1, GUARD);
@@ -242,12 +240,12 @@ pub fn load<D: BlockDev, T: Translate + Drop>(
 ) -> Result<(), DeviceFault>
     requires up { tree.old.failed ≡ false }
     requires file { IsFile tree.old.files number }
-    requires program { program_in (file_at tree.old.files number) ≡ Some program.now }
+    requires program { program_in (file_of tree.old number) ≡ Some program.now }
     requires few { program.now.pages < 2 ^ 32 }
     requires space { has_space spaces.old at ≡ true }
     requires room { HasRoom spaces.old at (program.now.pages + 2) }
     ensures serves { Serves tree.old tree.new result (Leaves tree.old tree.new) }
-    ensures loaded { OnOk result ((l : Loaded) → loaded_of (file_at tree.old.files number) ≡ Some l → spaces.new ≡ with_view spaces.old at (paged (stacked l.pages arguments.now.page))) }
+    ensures loaded { OnOk result (LoadsWithStack spaces.old spaces.new at (loaded_of (file_of tree.old number)) arguments.now.page) }
     ensures failed { OnErr result ((held : SpaceView) × (spaces.new ≡ with_view spaces.old at held)) }
 {
     clear(spaces, at);

@@ -18,5 +18,5 @@ run-tells old new events before after rising (Err (InitEnded status)) h none = h
 run-tells old new events before after rising (Err Device) h none = absurd (no-rise _ _ h.1.fails.rises none)
 run-tells old new events before after rising (Err Console) h none =
     let k = h.1 in
-    (h.0, record { rises = tt; failed = k.failed; printed = k.printed; done = k.done; more = k.more; goes = k.goes; files = k.files; later = k.later })
+    (h.0, record { rises = tt; failed = k.failed; printed = k.printed; done = k.done; more = k.more; goes = k.goes; files = k.files; same_device = k.same_device; later = k.later })
 run-tells old new events before after rising (Err Halted) h none = h

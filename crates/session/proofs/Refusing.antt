@@ -17,19 +17,19 @@ use Rattle.session.proofs.Answering.{no-rise}
 pub length-refused : (image : List ℕ) (frames : ℕ) → length image % 1024 ≢ 0 → Refuses image frames (Image Length)
 length-refused image frames odd = (tt, λ h. odd (let w = h.whole in omega arith), λ files d. odd (let w = d.super.whole in omega arith))
 
-fault-refused : (D : Type 0) (image : List ℕ) (frames : ℕ) (f : BootFault) → IsUnbooted {D = D} (λ d. 0) image 0 frames f → Refuses image frames f
-fault-refused D image frames Device why = absurd (no-rise 0 0 why.1 refl)
-fault-refused D image frames (Image fault) why = why
-fault-refused D image frames FrameCount why = why
-fault-refused D image frames NoMemory why = why
-fault-refused D image frames NoInit why = why
+fault-refused : {D : Type 0} (identity : D → List ℕ) (at : D) (image : List ℕ) (frames : ℕ) (f : BootFault) → IsUnbooted identity (λ d. 0) at image frames f → Refuses image frames f
+fault-refused identity at image frames Device why = absurd (no-rise 0 0 why.1.rises refl)
+fault-refused identity at image frames (Image fault) why = why
+fault-refused identity at image frames FrameCount why = why
+fault-refused identity at image frames NoMemory why = why
+fault-refused identity at image frames NoInit why = why
 
 -- what is told of a fault is told of the answer that passes it on
-pub refused-on : {T : Type 0} (D : Type 0) (image disk : List ℕ) (frames : ℕ) (r : Result T BootFault) (f : BootFault) → IsErrAnd r (λ e. e ≡ f) → disk ≡ image
-    → IsUnbooted {D = D} (λ d. 0) disk 0 frames f → IfErr r (Refuses image frames)
-refused-on D image disk frames (Ok x) f is same why = tt
-refused-on D image disk frames (Err e) f is same why =
-    subst (Refuses image frames) (sym is) (fault-refused D image frames f (subst (λ (bs : List ℕ). IsUnbooted {D = D} (λ d. 0) bs 0 frames f) same why))
+pub refused-on : {T D : Type 0} (identity : D → List ℕ) (at : D) (image disk : List ℕ) (frames : ℕ) (r : Result T BootFault) (f : BootFault) → IsErrAnd r (λ e. e ≡ f) → disk ≡ image
+    → IsUnbooted identity (λ d. 0) at disk frames f → IfErr r (Refuses image frames)
+refused-on identity at image disk frames (Ok x) f is same why = tt
+refused-on identity at image disk frames (Err e) f is same why =
+    subst (Refuses image frames) (sym is) (fault-refused identity at image frames f (subst (λ (bs : List ℕ). IsUnbooted identity (λ d. 0) at bs frames f) same why))
 
 -- where a machine booted the count of frames was in range
 pub counted : {T : Type 0} (x : T) (frames : ℕ) → 64 ≤ frames → frames ≤ 32768 → IsErrOf {T = T} (Ok x) FrameCount ↔ ((frames < 64) ⊎ (32768 < frames))

@@ -12,8 +12,8 @@ use Rattle.session.specs.declared.session.Session.{Session}
 use Rattle.unixmodel.specs.declared.event.Event.{Event}
 use Rattle.unixmodel.specs.Run.{run}
 
-same-view : (a b : View) → a.state ≡ b.state → a.failures ≡ b.failures → a.failed ≡ b.failed → a ≡ b
-same-view a b p q r = λ i. record { state = p i; failures = q i; failed = r i }
+same-view : (a b : View) → a.state ≡ b.state → a.failures ≡ b.failures → a.failed ≡ b.failed → a.identity ≡ b.identity → a ≡ b
+same-view a b p q r s = λ i. record { state = p i; failures = q i; failed = r i; identity = s i }
 
 not-ended : (halted : Option ℤ) (status : ℤ) → halted ≡ None → halted ≡ Some status → ⊥
 not-ended halted status none some = let e = sym none ∙ some in cc
@@ -25,7 +25,7 @@ no-event done more = omega arith
 pub stands : (old new : View) (xs ys : List ℕ) (rising : Type 0) (r : Result (Unit {0}) Halt) → RunGives old new [] (Some xs) (Some ys) rising r
     → old.failures ≡ 0 → new.failures ≡ 0 → (new ≡ old) × (ys ≡ xs) × (IsUp old → is_ok r ≡ true)
 unfolding run
-stands old new xs ys rising (Ok u) h first now = (same-view new old h.1.state (now ∙ sym first) (h.1.sound ∙ sym h.0.sound), h.1.printed ∙ append-nil xs, λ up. refl)
+stands old new xs ys rising (Ok u) h first now = (same-view new old h.1.state (now ∙ sym first) (h.1.sound ∙ sym h.0.sound) h.1.same_device, h.1.printed ∙ append-nil xs, λ up. refl)
 stands old new xs ys rising (Err (InitEnded status)) h first now = absurd (not-ended old.state.halted status h.0.goes h.1.halts)
 stands old new xs ys rising (Err Device) h first now = absurd (no-event h.1.done h.1.more)
 stands old new xs ys rising (Err Console) h first now = absurd (no-event h.1.done h.1.more)

@@ -1,6 +1,6 @@
 -- What a session answers to events and looks, and what it leaves. Its disk is in memory and never fails.
 use Rattle.std.proofs.Common.{Global, Vec}
-use Rattle.std.specs.Prelude.{Err, IsErrOf, List, Ok, OnOk, Option, Result, Some, false, replicate, true, ℕ, ◌<◌, ◌≡◌, ◌≤◌}
+use Rattle.std.specs.Prelude.{Err, IsErrOf, List, Ok, OnOk, Option, Result, Some, [], false, replicate, true, ℕ, ◌<◌, ◌≡◌, ◌≤◌}
 use Rattle.calls.specs.declared.halt.Halt.{Halt}
 use Rattle.calls.specs.declared.halt.Halt.TheVariants.{Console, Device, Halted, InitEnded}
 use Rattle.kernel.specs.Idle.{is_idle}
@@ -18,6 +18,7 @@ use Rattle.unixmodel.specs.declared.event.Event.TheVariants.{Step}
 use Rattle.unixmodel.specs.Image.{Denotes}
 use Rattle.unixmodel.specs.Run.{run}
 use Rattle.unixmodel.specs.Shown.{left}
+use Rattle.unixmodel.specs.Failures.{Rises}
 
 -- the console's bytes that nobody took yet
 abbrev pub console_of : Session → List ℕ
@@ -26,7 +27,7 @@ console_of s = s.console.inner.items
 -- why a machine doesn't boot from an image
 abbrev pub Refuses : List ℕ → ℕ → BootFault → Type 0
 Refuses image frames fault.Device = ⊥
-Refuses image frames f = IsUnbooted {D = Unit {0}} (λ u. 0) image 0 frames f
+Refuses image frames f = IsUnbooted {D = Unit {0}} (λ u. []) (λ u. 0) tt image frames f
 
 -- ---- events
 
@@ -62,6 +63,10 @@ pub record IsAsFar (old new : View) (most : ℕ) (ran : Ran) : Type 0 where
 pub record Advances (old new : View) (most : ℕ) (before after : Option (List ℕ)) (rising : Type 0) (ran : Ran) : Type 0 where
   pub gives : RunGives old new (replicate ran.steps Step) before after rising ran.answer
   pub far : IsAsFar old new most ran
+
+-- the same where the bytes go to an output
+abbrev pub AdvancesTo : {W : Type 0} → (W → Option (List ℕ)) → (W → ℕ) → View → View → W → W → ℕ → Ran → Type 0
+AdvancesTo contents failures old new from to most ran = Advances old new most (contents from) (contents to) (Rises (failures from) (failures to)) ran
 
 -- what the run of a session is answered with; no step is taken by a machine that had stopped
 pub record Runs (old new : Session) (most : ℕ) (ran : Ran) : Type 0 where

@@ -1,9 +1,13 @@
 -- A process, as a session tells it in numbers.
-use Rattle.std.specs.Prelude.{Bool, false, pos, true, ℕ, ℤ}
+use Rattle.std.specs.Prelude.{Bool, Option, false, option_map, pos, true, ℕ, ℤ}
 use Rattle.machine.specs.declared.seen.ProcessState.{ProcessState}
 use Rattle.machine.specs.declared.seen.ProcessState.TheVariants.{Ready, Running, Waiting, Zombie}
 use Rattle.machine.specs.declared.seen.Seen.{Seen}
+use Rattle.machine.specs.Seen.{seen_of}
 use Rattle.session.specs.declared.told.ProcessTold.{ProcessTold}
+use Rattle.unixmodel.specs.Shown.{shown_process}
+use Rattle.unixmodel.specs.Process.{Process}
+use Rattle.unixmodel.specs.State.{State}
 
 abbrev pub flag : Bool → ℕ
 flag false = 0
@@ -39,3 +43,7 @@ process_told p = record {
   status = status_told p.state;
   killed = flag p.killed;
 }
+
+-- the process with a pid, if there is one
+abbrev pub process_of : State → ℕ → Option ProcessTold
+process_of s pid = option_map (λ (p : Process). process_told (seen_of p)) (shown_process s pid)

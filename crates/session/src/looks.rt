@@ -1,10 +1,8 @@
 //! What a session tells of its machine.
-ghost use Rattle.std.specs.Prelude.{◌≡◌, length, min, option_map};
-ghost use Rattle.machine.specs.Seen.{seen_of};
+ghost use Rattle.std.specs.Prelude.{◌≡◌, length, min};
 ghost use Rattle.session.specs.Copied.{ShowsPage, copied};
-ghost use Rattle.session.specs.Told.{process_told};
-ghost use Rattle.unixmodel.specs.Process.{Process};
-ghost use Rattle.unixmodel.specs.Shown.{shown_page, shown_process};
+ghost use Rattle.session.specs.Told.{process_of};
+ghost use Rattle.unixmodel.specs.Shown.{shown_page};
 
 use crate::session::Session;
 use crate::told::{ProcessTold, told};
@@ -32,7 +30,7 @@ impl Session {
 
     /// What is told of the process with a pid; `None` where there is none.
     pub fn process(&self, pid: u32) -> Option<ProcessTold>
-        ensures { result ≡ option_map (λ (p : Process). process_told (seen_of p)) (shown_process self.now.machine.state pid) }
+        ensures { result ≡ process_of self.now.machine.state pid }
     {
         let seen = self.machine.inspect(pid)?;
         Some(told(&seen))

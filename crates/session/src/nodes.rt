@@ -1,9 +1,9 @@
 //! What a session tells of the files of its disk.
-ghost use Rattle.std.specs.Prelude.{◌≡◌, IsErrOf, length, option_map};
+ghost use Rattle.std.specs.Prelude.{◌≡◌, IsErrOf, option_map};
 ghost use Rattle.calls.specs.declared.halt.Halt.TheVariants.{Halted};
-ghost use Rattle.machine.specs.Looks.{IsRead, stat_seen};
+ghost use Rattle.machine.specs.Looks.{ReadsAt, stat_seen};
 ghost use Rattle.session.specs.Played.{Looks, console_of};
-ghost use Rattle.unixmodel.specs.Shown.{shown_bytes, shown_stat};
+ghost use Rattle.unixmodel.specs.Shown.{shown_stat};
 
 use crate::session::Session;
 use machine::{Halt, Stat};
@@ -21,7 +21,7 @@ impl Session {
     /// Reads bytes of the node of the disk with this number into `out`, from the place `at` on and as many as there are, and
     /// tells how many: none past its end, none of a device, and none where there is no such node.
     pub fn read(&mut self, number: usize, at: usize, out: &mut [u8]) -> Result<usize, Halt>
-        ensures gives { Looks self.old self.new (IsRead (shown_bytes self.old.machine.state number at (length out.old)) out.old out.new) result }
+        ensures gives { Looks self.old self.new (ReadsAt self.old.machine.state number at out.old out.new) result }
         ensures kept { IsErrOf result Halted → out.new ≡ out.old }
     {
         let count = self.machine.read_inode(number, at, out);

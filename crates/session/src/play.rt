@@ -1,10 +1,7 @@
 //! Steps of a machine over a disk in memory.
-ghost use Rattle.std.specs.Prelude.{◌≡◌, ◌≤◌, false, replicate, true};
-ghost use Rattle.machine.specs.Gives.{RunGives};
+ghost use Rattle.std.specs.Prelude.{◌≡◌, ◌≤◌, false, true};
 ghost use Rattle.machine.specs.View.{IsUp};
-ghost use Rattle.session.specs.Played.{Advances};
-ghost use Rattle.unixmodel.specs.declared.event.Event.TheVariants.{Step};
-ghost use Rattle.unixmodel.specs.Failures.{Rises};
+ghost use Rattle.session.specs.Played.{AdvancesTo};
 
 use blockdev::MemDisk;
 use console::{Out, Writer};
@@ -35,26 +32,10 @@ pub fn is_up(machine: &mut Machine<MemDisk, Tlb<64>>, out: &mut Writer<Vec<u8>>)
     done.is_ok()
 }
 
-/// So many steps of a machine that takes events, up to the first at which it stops.
-pub fn repeat<W: Out>(
-    machine: &mut Machine<MemDisk, Tlb<64>>,
-    times: u32,
-    out: &mut W,
-) -> Result<(), Halt>
-    requires { IsUp machine.old }
-    ensures gives { RunGives machine.old machine.new (replicate times Step) (W.contents out.old) (W.contents out.new) (Rises (W.failures out.old) (W.failures out.new)) result }
-    ensures later { W.failures out.old ≤ W.failures out.new }
-{
-    for _made in 0..times {
-        machine.step(Event::Step, out)?;
-    }
-    Ok(())
-}
-
 /// At most so many steps of a machine that takes events, while a process runs or is ready.
 pub fn advance<W: Out>(machine: &mut Machine<MemDisk, Tlb<64>>, most: u32, out: &mut W) -> Ran
     requires { IsUp machine.old }
-    ensures advances { Advances machine.old machine.new most (W.contents out.old) (W.contents out.new) (Rises (W.failures out.old) (W.failures out.new)) result }
+    ensures advances { AdvancesTo W.contents W.failures machine.old machine.new out.old out.new most result }
     ensures later { W.failures out.old ≤ W.failures out.new }
 {
     for made in 0..most {

@@ -1,5 +1,5 @@
 //! A machine with its console.
-ghost use Rattle.std.specs.Prelude.{◌≡◌, ◌<◌, ◌⊎◌, ◌↔◌, [], IfErr, IfOk, IsErrOf, drop, length, min, replicate};
+ghost use Rattle.std.specs.Prelude.{◌≡◌, ◌<◌, ◌⊎◌, ◌↔◌, ◌∷◌, [], IfErr, IfOk, IsErrOf, drop, length, min, replicate};
 ghost use Rattle.machine.specs.Booted.{IsBooted};
 ghost use Rattle.session.specs.Copied.{copied};
 ghost use Rattle.session.specs.Played.{Answers, Refuses, Runs, Saves, StepAnswers, console_of};
@@ -7,7 +7,7 @@ ghost use Rattle.unixmodel.specs.declared.event.Event.TheVariants.{Key, Step, Ti
 ghost use Rattle.unixmodel.specs.Next.{next};
 
 use crate::looks::copy_front;
-use crate::play::{Ran, advance, is_up, repeat};
+use crate::play::{Ran, advance, is_up};
 use blockdev::MemDisk;
 use console::Writer;
 use image::ImageFault;
@@ -37,7 +37,7 @@ impl Session {
     ///
     /// The faults are those of `machine::boot`; `NoMemory` also where the host has no memory for the copy.
     pub fn boot(alloc: Global, image: &[u8], frames: u32) -> Result<Session, BootFault>
-        ensures booted { IfOk result (λ s. IsBooted image.now 0 frames s.machine) }
+        ensures booted { IfOk result (λ s. IsBooted image.now (length image.now ∷ []) 0 frames s.machine) }
         ensures silent { IfOk result (λ s. console_of s ≡ []) }
         ensures refused { IfErr result (Refuses image.now frames) }
         ensures count { IsErrOf result BootFault.FrameCount ↔ ((frames < 64) ⊎ (32768 < frames)) }
@@ -88,10 +88,7 @@ impl Session {
     pub fn steps(&mut self, times: u32) -> Result<(), Halt>
         ensures { Answers self.old self.new (replicate times Step) result }
     {
-        if !is_up(&mut self.machine, &mut self.console) {
-            return Err(Halt::Halted);
-        }
-        let done = repeat(&mut self.machine, times, &mut self.console);
+        let done = self.machine.steps(times, &mut self.console);
         self.never_fails();
         done
     }

@@ -9,3 +9,5 @@ mod Stepped
 mod Results
 mod Strings
 pub mod SpacesLemmas
+pub mod Advancing
+mod Ran

@@ -53,7 +53,7 @@ stands-page m k x is once wrote =
     space-stored m k x wrote.page wrote.bytes is once (mapping-within entry_marks m x.root.0 n wrote.page wrote.entry wrote.mapped) wide (rw frame wrote.is)
 
 -- what an instruction writes leaves the space standing
-stands-only : (m k : List (List ℕ)) (x : Space) → IsMapped m x → IsOnce m x → WritesOnly m (entries_of m x) k → Stands m k x
+pub stands-only : (m k : List (List ℕ)) (x : Space) → IsMapped m x → IsOnce m x → WritesOnly m (entries_of m x) k → Stands m k x
 stands-only m k x is once (inl same) = rw same (Stands-none m x is once)
 stands-only m k x is once (inr wrote) = stands-page m k x is once wrote
 
@@ -71,7 +71,7 @@ mapped-apart read m x once p q e d at_p at_q same =
     let frame_q : frame_at m x.root.0 q ≡ d.frame = ap (λ (e : Mapped). e.frame) (mapping-is read m x.root.0 n q d at_q) in
     pages-same m x.root.0 x.trap.0 n p q once (mapping-within read m x.root.0 n p e at_p) (mapping-within read m x.root.0 n q d at_q) (frame_p ∙ same ∙ sym frame_q)
 
-sound : (read : ℕ → Perm) (m : List (List ℕ)) (x : Space) → IsMapped m x → IsOnce m x → IsSound m (read_below read m x.root.0 (pages_in x.size))
+pub sound : (read : ℕ → Perm) (m : List (List ℕ)) (x : Space) → IsMapped m x → IsOnce m x → IsSound m (read_below read m x.root.0 (pages_in x.size))
 sound read m x is once = record {
   inside = mapped-inside read m x is;
   alone = λ n e at permitted k f g at_n at_k same. mapped-apart read m x once k n g f at_k at_n same;
@@ -240,7 +240,7 @@ address_of (Err c) = c.address
 trap-parts : (c : Trap) (address : ℕ) → ◌≡◌ {A = Effect} (Err c) (trap StorePageFault address) → (c.cause ≡ StorePageFault) × (c.address ≡ address)
 trap-parts c address e = (ap cause_of e, ap address_of e)
 
-ok-no-fault : (d : Computed) (address : ℕ) → ◌≡◌ {A = Effect} (Ok d) (trap StorePageFault address) → ⊥
+pub ok-no-fault : (d : Computed) (address : ℕ) → ◌≡◌ {A = Effect} (Ok d) (trap StorePageFault address) → ⊥
 ok-no-fault d address e = cc
 
 -- an instruction that was done

@@ -3,7 +3,7 @@ use Rattle.std.proofs.Common.{All, IfSome, List, None, Option, Some, [], ap, if�
 use Rattle.std.proofs.lemmas.List.Elements.{All-cons, All-nil}
 use Rattle.unixmodel.specs.Memory.{Memory, before_nul, path_at, reach, short_path, string_at}
 use Rattle.unixmodel.specs.declared.trap.Access.TheVariants.{Load}
-use Rattle.vm.specs.Reach.{short_string}
+use Rattle.vm.specs.Reach.{short_string, string_in}
 
 -- no byte of it is 0
 abbrev pub IsPlain : List ℕ → Type 0
@@ -30,11 +30,11 @@ plain-string : (most : ℕ) (memory : Memory) (address : ℕ) → IfSome (short_
 unfolding string_at
 plain-string most memory address = plain-short most (string_at memory address) (plain-before (reach Load memory address))
 
-if-copied : (o : Option ℕ) (buffer : List ℕ) → IfSome (option_map (λ n. take n buffer) o) IsPlain → IfSome o (λ n. IsPlain (take n buffer))
+if-copied : (o : Option ℕ) (buffer : List ℕ) → IfSome (string_in buffer o) IsPlain → IfSome o (λ n. IsPlain (take n buffer))
 if-copied None buffer plain = tt
 if-copied (Some n) buffer plain = plain
 
-pub plain-copied : (o : Option ℕ) (buffer : List ℕ) (most : ℕ) (memory : Memory) (address : ℕ) → option_map (λ n. take n buffer) o ≡ short_string most (string_at memory address) → IfSome o (λ n. IsPlain (take n buffer))
+pub plain-copied : (o : Option ℕ) (buffer : List ℕ) (most : ℕ) (memory : Memory) (address : ℕ) → string_in buffer o ≡ short_string most (string_at memory address) → IfSome o (λ n. IsPlain (take n buffer))
 plain-copied o buffer most memory address copied = if-copied o buffer (subst (λ s. IfSome s IsPlain) (sym copied) (plain-string most memory address))
 
 short-is : (o : Option (List ℕ)) → short_string 127 o ≡ short_path o

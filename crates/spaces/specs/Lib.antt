@@ -1,3 +1,4 @@
 pub mod Ends
 pub mod Spaces
+pub mod Instructions
 pub mod View

@@ -1,10 +1,12 @@
 -- The address spaces of one memory and the hart, as plain values.
-use Rattle.std.specs.Prelude.{Bool, List, None, Option, Some, [], drop, is_some, length, replicate, slice_set, sum_by, take, unwrap_or, ℕ, ◌++◌, ◌+◌, ◌-◌}
+use Rattle.std.specs.Prelude.{Bool, Err, List, None, Ok, Option, Result, Some, [], drop, is_some, length, replicate, slice_set, sum_by, take, unwrap_or, ℕ, ◌++◌, ◌+◌, ◌-◌, ◌<◌, ◌≡◌, ◌≤◌}
 use Rattle.unixmodel.specs.Counts.{page_frames}
+use Rattle.unixmodel.specs.Cycle.{cycle}
 use Rattle.unixmodel.specs.Files.{slot, taken}
 use Rattle.unixmodel.specs.Meaning.{Computed}
 use Rattle.unixmodel.specs.Memory.{Perm, Memory, reach, shared_memory, write_bytes, zero_page}
 use Rattle.unixmodel.specs.declared.trap.Access.TheVariants.{Load}
+use Rattle.unixmodel.specs.declared.trap.Trap.{Trap}
 use Rattle.unixmodel.specs.Next.{memory_after}
 use Rattle.unixmodel.specs.OpenFiles.{pipe_room}
 use Rattle.unixmodel.specs.Numbers.{ceil_div}
@@ -67,6 +69,10 @@ grown h bytes marks = record {
   size = h.size + bytes;
 }
 
+-- the space of a place gets so many bytes more
+abbrev pub grown_at : Spaces → ℕ → ℕ → Perm → Spaces
+grown_at s at bytes marks = with_view s at (grown (view_at s at) bytes marks)
+
 -- so many bytes fewer
 abbrev pub shrunk : SpaceView → ℕ → SpaceView
 shrunk h bytes = record { memory = take (ceil_div (h.size - bytes) 4096) h.memory; size = h.size - bytes }
@@ -82,6 +88,10 @@ copied s from to = with_view (with_view s from (forked (view_at s from))) to (fo
 -- these bytes stand from an address on
 abbrev pub written : SpaceView → ℕ → List ℕ → SpaceView
 written h address bytes = record h { memory = write_bytes h.memory address bytes }
+
+-- what the instruction at the pc means to the hart and the program of a place
+abbrev pub cycle_at : Spaces → ℕ → Result Computed Trap
+cycle_at s at = cycle s.registers s.pc (view_at s at).memory
 
 -- the hart and the space of a place after an instruction
 abbrev pub computed : Spaces → ℕ → Computed → Spaces
@@ -100,6 +110,14 @@ frames_in (Some h) = 4 + page_frames (length h.memory)
 -- the frames that all places take, and a frame for each pipe
 abbrev pub taken_frames : Spaces → ℕ
 taken_frames s = sum_by frames_in s.places + length (taken s.pipes)
+
+-- the frames suffice for these spaces and pipes, which are there now
+abbrev pub Fits : Spaces → Spaces → Spaces → Type 0
+Fits old new wanted = (taken_frames wanted ≤ old.frames) × (new ≡ wanted)
+
+-- they don't suffice, and all is as it was
+abbrev pub Lacks : Spaces → Spaces → Spaces → Type 0
+Lacks old new wanted = (old.frames < taken_frames wanted) × (new ≡ old)
 
 -- ---- pipes
 
@@ -121,6 +139,10 @@ fitting held new = take (pipe_room - length held) new
 abbrev pub filled : List ℕ → List ℕ → List ℕ
 filled held new = held ++ fitting held new
 
+-- bytes come behind those of a pipe, as many as fit
+abbrev pub put_behind : Spaces → ℕ → List ℕ → Spaces
+put_behind s q bytes = with_pipe s q (Some (filled (bytes_in s q) bytes))
+
 -- the bytes from an address on that a program may read, so many at the most
 abbrev pub read_at : SpaceView → ℕ → ℕ → List ℕ
 read_at h address count = take count (reach Load h.memory address)
@@ -131,3 +153,13 @@ taken_to s q at address count = with_pipe
     (with_view s at (written (view_at s at) address (take count (bytes_in s q))))
     q
     (Some (drop count (bytes_in s q)))
+
+-- ---- a step
+
+-- the space of a place is advanced by the instruction at the pc
+abbrev pub Executes : Spaces → Spaces → ℕ → Type 0
+Executes old new at = (d : Computed) × (cycle_at old at ≡ Ok d) × (new ≡ computed old at d)
+
+-- that instruction traps, and changes nothing
+abbrev pub Traps : Spaces → Spaces → ℕ → Trap → Type 0
+Traps old new at trap = (cycle_at old at ≡ Err trap) × (new ≡ old)

@@ -1,18 +1,22 @@
 -- What the fields stand for.
-use Rattle.std.specs.Prelude.{List, None, Option, Some, [], length, map, ℕ, ◌∷◌, ◌≡◌}
+use Rattle.std.specs.Prelude.{List, None, Option, Some, [], length, map, option_and_then, ℕ, ◌/◌, ◌<◌, ◌^◌, ◌∷◌, ◌≡◌}
 use Rattle.std.specs.List.{flat_map}
 use Rattle.pipe.specs.Pipe.{Pipe, bytes_of}
 use Rattle.spaces.specs.declared.Spaces.TheInside.{Inside}
 use Rattle.spaces.specs.Ends.{IsOpen}
 use Rattle.spaces.specs.Spaces.{SpaceView, Spaces}
-use Rattle.sv39.specs.Mapping.{IsCoherent}
+use Rattle.sv39.specs.Mapping.{IsCoherent, memory_of}
 use Rattle.unixmodel.specs.Files.{slot}
 use Rattle.unixmodel.specs.Memory.{Memory}
 use Rattle.unixmodel.specs.Translation as translation
-use Rattle.unixmodel.specs.Translation.{HoldsInside}
+use Rattle.unixmodel.specs.Shown.{byte_at, page_byte}
+use Rattle.unixmodel.specs.Translation.{HoldsInside, walk}
+use Rattle.unixmodel.specs.declared.trap.Access.{Access}
+use Rattle.unixmodel.specs.declared.trap.Cause.TheVariants.{StorePageFault}
+use Rattle.unixmodel.specs.declared.trap.Trap.{Trap}
 use Rattle.vm.specs.declared.Space.{Space}
 use Rattle.vm.specs.Shares.{IsMachine}
-use Rattle.vm.specs.Space.{entries_of, pages_of}
+use Rattle.vm.specs.Space.{entries_of, pages_in, pages_of}
 
 abbrev pub view_with : Memory → ℕ → SpaceView
 view_with memory size = record { memory = memory; size = size }
@@ -64,3 +68,12 @@ pub record IsSpaces {T : Type 0} (held : T → translation.Held) (k : Inside T) 
   pub inside : HoldsInside (held k.translator) k.ram
   pub pipes : length k.pipes.items ≡ 100
   pub both : (q : ℕ) (p : Pipe) → slot k.pipes.items q ≡ Some p → IsOpen p
+
+-- walks from this root reach the bytes that the tables of a space show
+abbrev pub WalksReach : List (List ℕ) → ℕ → Space → Type 0
+WalksReach m root x =
+    (va : ℕ) (access : Access) → va < 2 ^ 64 → option_and_then (byte_at m) (walk m root va access) ≡ page_byte (memory_of m (entries_of m x)) va access
+
+-- a store trapped in this page of a space
+abbrev pub IsStoreIn : Trap → Space → ℕ → Type 0
+IsStoreIn trap x page = (trap.cause ≡ StorePageFault) × (page ≡ trap.address / 4096) × (page < pages_in x.size)

@@ -14,34 +14,36 @@
 //! spaces that aren't active doesn't count.
 #![tactic(auto)]
 
-ghost use Rattle.std.specs.Prelude.{◌≡◌, ◌≢◌, List, ◌+◌, ◌-◌, ◌++◌, ◌<◌, ◌≤◌, ◌/◌, ◌%◌, ◌^◌, ℕ, [], All, Some, None, true, false, drop, length, is_some, min, nat_le, nat_lt, not, option_and_then, option_map, replicate, slice_get, slice_index, slice_set, take, IfOk, IfSome, IfNone, Ok, Err};
+ghost use Rattle.std.specs.Prelude.{◌≡◌, ◌≢◌, List, ◌+◌, ◌-◌, ◌++◌, ◌<◌, ◌≤◌, ◌/◌, ◌%◌, ℕ, [], All, Some, None, true, false, drop, length, is_some, min, nat_le, nat_lt, not, option_map, replicate, slice_get, slice_index, slice_set, take, IfOk, IfSome, IfNone, Ok, Err};
 ghost use Rattle.std.specs.Bool.{OnTrue, OnFalse};
 ghost use Rattle.std.specs.Option.{option_copied};
-ghost use Rattle.spaces.specs.Spaces.{bytes_in, computed, copied, filled, fitting, grown, has_pipe, has_space, view_at, no_pages, no_spaces, read_at, shrunk, taken_frames, taken_to, with_view, with_pipe, with_place, written};
+ghost use Rattle.spaces.specs.Spaces.{Executes, Fits, Lacks, Traps, bytes_in, copied, filled, fitting, grown_at, has_pipe, has_space, view_at, no_pages, no_spaces, put_behind, read_at, shrunk, taken_frames, taken_to, with_view, with_pipe, with_place, written};
 ghost use Rattle.spaces.specs.Ends.{IsOpen};
+ghost use Rattle.spaces.specs.View.{IsStoreIn, WalksReach};
 ghost use Rattle.pipe.specs.Pipe.{Stays, bytes_of};
 ghost use Rattle.ram.specs.Memory.{frame_of};
 ghost use Rattle.unixmodel.specs.Cycle.{cycle};
 ghost use Rattle.unixmodel.specs.Files.{free_slot, slot};
-ghost use Rattle.unixmodel.specs.Meaning.{Computed};
 ghost use Rattle.unixmodel.specs.declared.trap.Access.{Access};
 ghost use Rattle.unixmodel.specs.declared.trap.Access.TheVariants.{Load, Store};
 ghost use Rattle.unixmodel.specs.declared.trap.Cause.TheVariants.{StorePageFault};
-ghost use Rattle.unixmodel.specs.Memory.{Page, page_for, can_write, path_at, reach, read_bytes, string_at};
+ghost use Rattle.unixmodel.specs.Memory.{page_for, can_write, path_at, reach, read_bytes, string_at};
 ghost use Rattle.unixmodel.specs.Numbers.{ceil_div};
 ghost use Rattle.unixmodel.specs.OpenFiles.{pipe_room};
-ghost use Rattle.unixmodel.specs.Shown.{ShowsMemory, byte_at, page_byte, told_page};
+ghost use Rattle.unixmodel.specs.Shown.{ShowsMemory, told_page};
 ghost use Rattle.unixmodel.specs.Turn.{is_empty};
-ghost use Rattle.unixmodel.specs.Translation.{HoldsInside, HoldsNothing, IsKept, Translation, walk};
+ghost use Rattle.unixmodel.specs.Translation.{HoldsInside, HoldsNothing, IsKept, Translation};
 ghost use Rattle.hart.specs.Follows.{Follows};
 ghost use Rattle.sv39.specs.Mapping.{Mapped, Shows, memory_of};
-ghost use Rattle.vm.specs.Leaf.{marks_from};
-ghost use Rattle.vm.specs.Reach.{IsSized, piece_at, short_string};
-ghost use Rattle.vm.specs.Space.{IsMapped, entries_of, pages_in, pages_of};
+ghost use Rattle.vm.specs.Leaf.{marks_from, page_from};
+ghost use Rattle.vm.specs.Reach.{IsSized, piece_at, short_string, string_in};
+ghost use Rattle.vm.specs.Space.{IsMapped, pages_in, pages_of};
+
+mod instructions;
 
 use arrayvec::ArrayVec;
 use frames::Frames;
-use hart::Hart;
+use hart::{Decoded, Hart};
 use pipe::Pipe;
 use ram::{FRAME_SIZE, FrameNo, NoMemory, Ram};
 use std::alloc::Global;
@@ -67,6 +69,7 @@ pub struct Spaces<T: Translate + Drop> {
     translator: T,
     places: ArrayVec<Option<Space>, 64>,
     hart: Hart,
+    decoded: Decoded,
     active: Option<usize>,
     pipes: ArrayVec<Option<Pipe>, 100>,
 }
@@ -96,7 +99,7 @@ fn fence_active<T: Translate>(translator: &mut T, active: Option<usize>, at: usi
 // The root of a space, from which walks reach its pages.
 fn root_of(space: &Space, ram: &Ram) -> FrameNo
     requires { IsMapped ram.now space.now }
-    ensures { (va : ℕ) (access : Access) → va < 2 ^ 64 → option_and_then (byte_at ram.now) (walk ram.now result.0 va access) ≡ page_byte (memory_of ram.now (entries_of ram.now space.now)) va access }
+    ensures { WalksReach ram.now result.0 space.now }
 {
     space.walks(ram);
     space.root()
@@ -118,7 +121,7 @@ fn step_again<T: Translate>(hart: &mut Hart, ram: &mut Ram, translator: &mut T) 
 #[inline(never)]
 fn closed_page(space: &Space, ram: &Ram, trap: Trap) -> Option<u64>
     requires { IsMapped ram.now space.now }
-    ensures some { IfSome result (λ page. (trap.cause ≡ StorePageFault) × (page ≡ trap.address / 4096) × (page < pages_in space.now.size)) }
+    ensures some { IfSome result (IsStoreIn trap space.now) }
     ensures none { IfNone result (trap.cause ≡ StorePageFault → page_for Store (pages_of ram.now space.now) trap.address ≡ None) }
 {
     let Cause::StorePageFault = trap.cause else {
@@ -182,7 +185,7 @@ fn lowest_free(pipes: &[Option<Pipe>]) -> Option<usize>
 fn put_in(pipe: &mut Pipe, ram: &mut Ram, bytes: &[u8]) -> usize
     requires frame { pipe.old.frame < length ram.old }
     requires open { IsOpen pipe.old }
-    ensures bytes { bytes_of ram.new pipe.new ≡ bytes_of ram.old pipe.old ++ take (pipe_room - length (bytes_of ram.old pipe.old)) bytes.now }
+    ensures bytes { bytes_of ram.new pipe.new ≡ filled (bytes_of ram.old pipe.old) bytes.now }
     ensures count { result ≡ length (take (pipe_room - length (bytes_of ram.old pipe.old)) bytes.now) }
     ensures stays { Stays pipe.old pipe.new }
     ensures memory { ram.new ≡ slice_set ram.old pipe.old.frame (frame_of ram.new pipe.old.frame) }
@@ -233,10 +236,18 @@ fn duplicate_pipes(pipes: &ArrayVec<Option<Pipe>, 100>) -> ArrayVec<Option<Pipe>
     copies
 }
 
+// No decoded words, with room for them.
+fn nothing_decoded(alloc: Global) -> Result<Decoded, NoMemory> {
+    match Decoded::new(alloc) {
+        Ok(decoded) => Ok(decoded),
+        Err(_) => Err(NoMemory),
+    }
+}
+
 impl<T: Translate + Drop> Spaces<T> {
     /// No spaces over a memory; the hart's registers are 0. The translator is fenced: it may hold anything.
     ///
-    /// It takes 2 bytes a frame of the host: `NoMemory` where it has none for them.
+    /// It takes 2 bytes a frame of the host, and 768 KiB for decoded words: `NoMemory` where it has none for them.
     pub fn new(alloc: Global, ram: Ram, translator: T) -> Result<Spaces<T>, NoMemory>
         ensures { IfOk result (λ s. s ≡ no_spaces (length ram)) }
     {
@@ -244,6 +255,7 @@ impl<T: Translate + Drop> Spaces<T> {
         let mut translator = translator;
         translator.fence();
         let frames = Frames::new(alloc, &mut ram)?;
+        let decoded = nothing_decoded(alloc)?;
         Ok(Spaces {
             ram,
             frames,
@@ -254,6 +266,7 @@ impl<T: Translate + Drop> Spaces<T> {
                 pc: 0,
                 root: FrameNo(0),
             },
+            decoded,
             active: None,
             pipes: ArrayVec::from_array_in((), [None; 100]),
         })
@@ -262,7 +275,8 @@ impl<T: Translate + Drop> Spaces<T> {
     /// The same spaces, pipes and registers over a duplicate of the memory, with a translator of its own. That one is fenced: it may
     /// hold anything.
     ///
-    /// It takes 4098 bytes a frame of the host: `NoMemory` where it has none for them.
+    /// It takes 4098 bytes a frame of the host, and 768 KiB for decoded words, of which it has none yet: `NoMemory` where it has none
+    /// for them.
     pub fn duplicate<U: Translate + Drop>(
         &self,
         alloc: Global,
@@ -272,6 +286,7 @@ impl<T: Translate + Drop> Spaces<T> {
     {
         let ram = self.ram.duplicate(alloc)?;
         let frames = self.frames.duplicate(alloc)?;
+        let decoded = nothing_decoded(alloc)?;
         let mut fenced = translator;
         fenced.fence();
         Ok(Spaces {
@@ -280,6 +295,7 @@ impl<T: Translate + Drop> Spaces<T> {
             translator: fenced,
             places: duplicate_places(&self.places),
             hart: self.hart.duplicate(),
+            decoded,
             active: self.active,
             pipes: duplicate_pipes(&self.pipes),
         })
@@ -378,7 +394,7 @@ impl<T: Translate + Drop> Spaces<T> {
     /// The bytes and the marks of a page of a place; `None` past the last one.
     pub fn page(&self, at: usize, n: u64) -> Option<(&[u8; FRAME_SIZE], Perm)>
         requires { has_space self.now at ≡ true }
-        ensures { option_map (λ r. let p : Page = record { bytes = r.0.now; marks = marks_from r.1 } in p) result ≡ option_map told_page (slice_get (view_at self.now at).memory n) }
+        ensures { option_map page_from result ≡ option_map told_page (slice_get (view_at self.now at).memory n) }
     {
         let space = space_at(&self.places, at);
         let (frame, marks) = space.find_page(&self.ram, n)?;
@@ -398,8 +414,8 @@ impl<T: Translate + Drop> Spaces<T> {
     pub fn create(&mut self, at: usize) -> bool
         requires inside { at < 64 }
         requires free { has_space self.old at ≡ false }
-        ensures done { OnTrue result ((taken_frames (with_view self.old at no_pages) ≤ self.old.frames) × (self.new ≡ with_view self.old at no_pages)) }
-        ensures refused { OnFalse result ((self.old.frames < taken_frames (with_view self.old at no_pages)) × (self.new ≡ self.old)) }
+        ensures done { OnTrue result (Fits self.old self.new (with_view self.old at no_pages)) }
+        ensures refused { OnFalse result (Lacks self.old self.new (with_view self.old at no_pages)) }
     {
         match Space::new(&mut self.ram, &mut self.frames) {
             Ok(space) => {
@@ -419,8 +435,8 @@ impl<T: Translate + Drop> Spaces<T> {
         requires from { has_space self.old from ≡ true }
         requires inside { to < 64 }
         requires free { has_space self.old to ≡ false }
-        ensures done { OnTrue result ((taken_frames (copied self.old from to) ≤ self.old.frames) × (self.new ≡ copied self.old from to)) }
-        ensures refused { OnFalse result ((self.old.frames < taken_frames (copied self.old from to)) × (self.new ≡ self.old)) }
+        ensures done { OnTrue result (Fits self.old self.new (copied self.old from to)) }
+        ensures refused { OnFalse result (Lacks self.old self.new (copied self.old from to)) }
     {
         let space = space_at(&self.places, from);
         match space.copy(&mut self.ram, &mut self.frames) {
@@ -452,8 +468,8 @@ impl<T: Translate + Drop> Spaces<T> {
     /// that there are none.
     pub fn grow(&mut self, at: usize, bytes: u64, perm: Perm) -> bool
         requires { has_space self.old at ≡ true }
-        ensures done { OnTrue result ((taken_frames (with_view self.old at (grown (view_at self.old at) bytes (marks_from perm))) ≤ self.old.frames) × (self.new ≡ with_view self.old at (grown (view_at self.old at) bytes (marks_from perm)))) }
-        ensures refused { OnFalse result ((self.old.frames < taken_frames (with_view self.old at (grown (view_at self.old at) bytes (marks_from perm)))) × (self.new ≡ self.old)) }
+        ensures done { OnTrue result (Fits self.old self.new (grown_at self.old at bytes (marks_from perm))) }
+        ensures refused { OnFalse result (Lacks self.old self.new (grown_at self.old at bytes (marks_from perm))) }
     {
         self.ram.frames_are_whole();
         match &mut self.places[at] {
@@ -518,7 +534,7 @@ impl<T: Translate + Drop> Spaces<T> {
     /// which is 0, without it. `None` where its program may not read them and the 0, or the buffer is too short.
     pub fn copy_string(&self, at: usize, address: u64, buffer: &mut [u8]) -> Option<usize>
         requires { has_space self.now at ≡ true }
-        ensures string { option_map (λ n. take n buffer.new) result ≡ short_string (length buffer.old) (string_at (view_at self.now at).memory address) }
+        ensures string { string_in buffer.new result ≡ short_string (length buffer.old) (string_at (view_at self.now at).memory address) }
         ensures within { IfSome result (λ n. n ≤ length buffer.old) }
         ensures bytes { IfSome result (λ n. All (λ b. b ≢ 0) (take n buffer.new)) }
     {
@@ -529,7 +545,7 @@ impl<T: Translate + Drop> Spaces<T> {
     /// Copies the path at an address of a place into a buffer, and tells its length: it is a string of 127 bytes at the most.
     pub fn copy_path(&self, at: usize, address: u64, buffer: &mut [u8; 127]) -> Option<usize>
         requires { has_space self.now at ≡ true }
-        ensures path { option_map (λ n. take n buffer.new) result ≡ path_at (view_at self.now at).memory address }
+        ensures path { string_in buffer.new result ≡ path_at (view_at self.now at).memory address }
         ensures within { IfSome result (λ n. n ≤ 127) }
         ensures bytes { IfSome result (λ n. All (λ b. b ≢ 0) (take n buffer.new)) }
     {
@@ -603,8 +619,8 @@ impl<T: Translate + Drop> Spaces<T> {
     #[inline(always)]
     pub fn execute(&mut self) -> Option<Trap>
         requires { is_some self.old.active ≡ true }
-        ensures done { IfNone result (IfSome self.old.active (λ at. (d : Computed) × (cycle self.old.registers self.old.pc (view_at self.old at).memory ≡ Ok d) × (self.new ≡ computed self.old at d))) }
-        ensures trap { IfSome result (λ t. IfSome self.old.active (λ at. (cycle self.old.registers self.old.pc (view_at self.old at).memory ≡ Err t) × (self.new ≡ self.old))) }
+        ensures done { IfNone result (IfSome self.old.active (Executes self.old self.new)) }
+        ensures trap { IfSome result (λ t. IfSome self.old.active (λ at. Traps self.old self.new at t)) }
     {
         self.ram.frames_are_whole();
         let Some(at) = self.active else {
@@ -637,8 +653,8 @@ impl<T: Translate + Drop> Spaces<T> {
     pub fn create_pipe(&mut self, q: usize) -> bool
         requires inside { q < 100 }
         requires free { has_pipe self.old q ≡ false }
-        ensures done { OnTrue result ((taken_frames (with_pipe self.old q (Some [])) ≤ self.old.frames) × (self.new ≡ with_pipe self.old q (Some []))) }
-        ensures refused { OnFalse result ((self.old.frames < taken_frames (with_pipe self.old q (Some []))) × (self.new ≡ self.old)) }
+        ensures done { OnTrue result (Fits self.old self.new (with_pipe self.old q (Some []))) }
+        ensures refused { OnFalse result (Lacks self.old self.new (with_pipe self.old q (Some []))) }
     {
         match self.frames.take(&self.ram) {
             Some(frame) => {
@@ -693,7 +709,7 @@ impl<T: Translate + Drop> Spaces<T> {
     // Puts what fits of these bytes behind those of a pipe, and tells how many.
     fn put_bytes(&mut self, q: usize, bytes: &[u8]) -> usize
         requires { has_pipe self.old q ≡ true }
-        ensures bytes { self.new ≡ with_pipe self.old q (Some (filled (bytes_in self.old q) bytes.now)) }
+        ensures bytes { self.new ≡ put_behind self.old q bytes.now }
         ensures count { result ≡ length (fitting (bytes_in self.old q) bytes.now) }
     {
         match &mut self.pipes[q] {
@@ -720,7 +736,7 @@ impl<T: Translate + Drop> Spaces<T> {
         requires pipe { has_pipe self.old q ≡ true }
         requires space { has_space self.old at ≡ true }
         requires readable { length buffer.old ≤ length (reach Load (view_at self.old at).memory address) }
-        ensures bytes { self.new ≡ with_pipe self.old q (Some (filled (bytes_in self.old q) (read_at (view_at self.old at) address (length buffer.old)))) }
+        ensures bytes { self.new ≡ put_behind self.old q (read_at (view_at self.old at) address (length buffer.old)) }
         ensures count { result ≡ length (fitting (bytes_in self.old q) (read_at (view_at self.old at) address (length buffer.old))) }
     {
         let _read = self.read(at, address, buffer);
@@ -745,7 +761,7 @@ impl<T: Translate + Drop> Spaces<T> {
         requires pipe { has_pipe self.old q ≡ true }
         requires space { has_space self.old at ≡ true }
         requires readable { count ≤ length (reach Load (view_at self.old at).memory address) }
-        ensures bytes { self.new ≡ with_pipe self.old q (Some (filled (bytes_in self.old q) (read_at (view_at self.old at) address count))) }
+        ensures bytes { self.new ≡ put_behind self.old q (read_at (view_at self.old at) address count) }
         ensures count { result ≡ length (fitting (bytes_in self.old q) (read_at (view_at self.old at) address count)) }
     {
         let mut buffer = [0; pipe::ROOM];

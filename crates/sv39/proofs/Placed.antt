@@ -5,7 +5,7 @@ use Rattle.unixmodel.specs.declared.trap.Access.{Access}
 use Rattle.unixmodel.specs.declared.trap.Access.TheVariants.{Fetch, Load, Store}
 use Rattle.unixmodel.specs.Translation.{Translation}
 use Rattle.sv39.specs.declared.places.Entry.{Entry}
-use Rattle.sv39.specs.Lookaside.{IsPlaced, Keeps, Kept, filled, for_access, set_for}
+use Rattle.sv39.specs.Lookaside.{IsPlaced, Keeps, Kept, filled, for_access, of_page, set_for}
 
 -- ---- one list
 
@@ -35,9 +35,6 @@ get-only (x ∷ xs) (suc i) (suc j) y z h = get-only xs i j y z h
 
 -- ---- the places of an access
 
-abbrev of : Kept → Access → List Entry
-of kept access = for_access kept.fetches kept.loads kept.stores access
-
 placed-only : (n : ℕ) (places : List Entry) (at : ℕ) (entry : Entry) (root page frame : ℕ) → IsPlaced n (slice_set places at entry) root page frame
     → IsPlaced n places root page frame ⊎ (entry ≡ filled root page frame)
 placed-only n places at entry root page frame is =
@@ -54,14 +51,14 @@ placed-stays n places at entry root page frame other is = record { entry = get-o
 
 -- ---- a place for an access is filled
 
-pub set-joins : (n : ℕ) (kept : Kept) (access : Access) (root page frame : ℕ) → page % n < length (of kept access) → page < 2 ^ 52
-    → IsPlaced n (of (set_for kept access (page % n) (filled root page frame)) access) root page frame
+pub set-joins : (n : ℕ) (kept : Kept) (access : Access) (root page frame : ℕ) → page % n < length (for_access kept access) → page < 2 ^ 52
+    → IsPlaced n (for_access (set_for kept access (page % n) (filled root page frame)) access) root page frame
 set-joins n kept Fetch root page frame = placed-joins n kept.fetches root page frame
 set-joins n kept Load root page frame = placed-joins n kept.loads root page frame
 set-joins n kept Store root page frame = placed-joins n kept.stores root page frame
 
-stays-for : (n : ℕ) (kept : Kept) (access a : Access) (at : ℕ) (entry : Entry) (root page frame : ℕ) → page % n ≢ at → IsPlaced n (of kept a) root page frame
-    → IsPlaced n (of (set_for kept access at entry) a) root page frame
+stays-for : (n : ℕ) (kept : Kept) (access a : Access) (at : ℕ) (entry : Entry) (root page frame : ℕ) → page % n ≢ at → IsPlaced n (for_access kept a) root page frame
+    → IsPlaced n (for_access (set_for kept access at entry) a) root page frame
 stays-for n kept Fetch Fetch at entry root page frame other is = placed-stays n kept.fetches at entry root page frame other is
 stays-for n kept Fetch Load at entry root page frame other is = is
 stays-for n kept Fetch Store at entry root page frame other is = is
@@ -72,12 +69,12 @@ stays-for n kept Store Fetch at entry root page frame other is = is
 stays-for n kept Store Load at entry root page frame other is = is
 stays-for n kept Store Store at entry root page frame other is = placed-stays n kept.stores at entry root page frame other is
 
-pub set-stays : (n : ℕ) (kept : Kept) (access : Access) (at : ℕ) (entry : Entry) (t : Translation) → t.page % n ≢ at → IsPlaced n (of kept t.access) t.root t.page t.frame
-    → IsPlaced n (of (set_for kept access at entry) t.access) t.root t.page t.frame
+pub set-stays : (n : ℕ) (kept : Kept) (access : Access) (at : ℕ) (entry : Entry) (t : Translation) → t.page % n ≢ at → IsPlaced n (for_access kept t.access) t.root t.page t.frame
+    → IsPlaced n (for_access (set_for kept access at entry) t.access) t.root t.page t.frame
 set-stays n kept access at entry t = stays-for n kept access t.access at entry t.root t.page t.frame
 
-only-for : (n : ℕ) (kept : Kept) (access a : Access) (at : ℕ) (entry : Entry) (root page frame : ℕ) → IsPlaced n (of (set_for kept access at entry) a) root page frame
-    → IsPlaced n (of kept a) root page frame ⊎ ((a ≡ access) × (entry ≡ filled root page frame))
+only-for : (n : ℕ) (kept : Kept) (access a : Access) (at : ℕ) (entry : Entry) (root page frame : ℕ) → IsPlaced n (for_access (set_for kept access at entry) a) root page frame
+    → IsPlaced n (for_access kept a) root page frame ⊎ ((a ≡ access) × (entry ≡ filled root page frame))
 only-for n kept Fetch Fetch at entry root page frame is = elim (placed-only n kept.fetches at entry root page frame is) [ inl was ↦ inl was | inr now ↦ inr (refl, now) ]
 only-for n kept Fetch Load at entry root page frame is = inl is
 only-for n kept Fetch Store at entry root page frame is = inl is
@@ -89,11 +86,11 @@ only-for n kept Store Load at entry root page frame is = inl is
 only-for n kept Store Store at entry root page frame is = elim (placed-only n kept.stores at entry root page frame is) [ inl was ↦ inl was | inr now ↦ inr (refl, now) ]
 
 same : (r p f root page frame : ℕ) (a access : Access) → a ≡ access → filled root page frame ≡ filled r p f
-    → (let t : Translation = record { root = r; page = p; access = a; frame = f } in t) ≡ record { root = root; page = page; access = access; frame = frame }
+    → of_page r p a f ≡ of_page root page access frame
 same r p f root page frame a access e is = rw (e, ap (λ (x : Entry). x.root.0) is, ap (λ (x : Entry). x.page) is, ap (λ (x : Entry). x.frame.0) is) refl
 
-pub set-only : (n : ℕ) (kept : Kept) (access : Access) (root page frame : ℕ) (t : Translation) → IsPlaced n (of (set_for kept access (page % n) (filled root page frame)) t.access) t.root t.page t.frame
-    → Keeps n kept.fetches kept.loads kept.stores t ⊎ (t ≡ record { root = root; page = page; access = access; frame = frame })
+pub set-only : (n : ℕ) (kept : Kept) (access : Access) (root page frame : ℕ) (t : Translation) → IsPlaced n (for_access (set_for kept access (page % n) (filled root page frame)) t.access) t.root t.page t.frame
+    → Keeps n kept t ⊎ (t ≡ of_page root page access frame)
 set-only n kept access root page frame t is =
     elim (only-for n kept access t.access (page % n) (filled root page frame) t.root t.page t.frame is) [
       | inl was ↦ inl was

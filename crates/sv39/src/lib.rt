@@ -7,10 +7,9 @@
 
 ghost use Rattle.std.specs.Prelude.{⊤, ◌≡◌, ◌≢◌, ◌==◌, ℕ, ◌+◌, ◌-◌, ◌*◌, ◌/◌, ◌%◌, ◌^◌, ◌<◌, ◌≤◌, List, [], ◌∷◌, length, codes, IsTrue, IfSome, IfOk, bit_and, None, Some};
 ghost use Rattle.std.specs.Result.{result_ok};
-ghost use Rattle.std.specs.Option.{option_map};
 ghost use Rattle.unixmodel.specs.Translation.{walk_page, walk, walk_count, place_in, Translation, IsAnswer, IsKept, HoldsNothing, HoldsInside};
 ghost use Rattle.sv39.specs.Entry.{has, allows, marks_of, number_of, is_sound, is_table, turn_of, IsSmall};
-ghost use Rattle.sv39.specs.Walk.{base, frame_at, entry_of, turn_at, follow, is_canonical, walk_low, walk_mid, walk_high, walk_of};
+ghost use Rattle.sv39.specs.Walk.{base, frame_at, entry_of, turn_at, follow, is_canonical, walk_low, walk_mid, walk_high, walk_of, LiesInside, numbered};
 ghost use Rattle.sv39.specs.Counts.{count_mid, count_high, count_levels};
 
 mod lookaside;
@@ -176,7 +175,7 @@ fn allows(marks: EntryBits, access: Access) -> bool
 #[inline(always)]
 fn frame_of_number(ram: &Ram, number: u64) -> Option<FrameNo>
     requires { number < 2 ^ 63 }
-    ensures value { option_map (λ f. f.0) result ≡ frame_at (length ram.now) number }
+    ensures value { numbered result ≡ frame_at (length ram.now) number }
     ensures inside { IfSome result (λ f. f.0 < length ram.now) }
 {
     // where the number is below `BASE`, the difference is larger than any count of frames
@@ -214,7 +213,7 @@ struct Found {
 #[tactic(auto, unfolding(crate::specs::Walk::walk_low))]
 fn walk_low(ram: &Ram, table: FrameNo, page: u64, access: Access) -> Option<FrameNo>
     requires { table.0 < length ram.now }
-    ensures value { option_map (λ f. f.0) result ≡ walk_low ram.now page access table.0 }
+    ensures value { numbered result ≡ walk_low ram.now page access table.0 }
     ensures inside { IfSome result (λ f. f.0 < length ram.now) }
 {
     match turn_at(ram, table, 1, page, access) {
@@ -228,7 +227,7 @@ fn walk_low(ram: &Ram, table: FrameNo, page: u64, access: Access) -> Option<Fram
 #[tactic(auto, unfolding(crate::specs::Walk::walk_mid, crate::specs::Counts::count_mid))]
 fn walk_mid(ram: &Ram, table: FrameNo, page: u64, access: Access) -> Found
     requires { table.0 < length ram.now }
-    ensures value { option_map (λ f. f.0) result.frame ≡ walk_mid ram.now page access table.0 }
+    ensures value { numbered result.frame ≡ walk_mid ram.now page access table.0 }
     ensures inside { IfSome result.frame (λ f. f.0 < length ram.now) }
     ensures count { result.count ≡ count_mid ram.now page access table.0 }
     ensures few { result.count ≤ 2 }
@@ -260,7 +259,7 @@ fn walk_mid(ram: &Ram, table: FrameNo, page: u64, access: Access) -> Found
 #[tactic(auto, unfolding(crate::specs::Walk::walk_high, crate::specs::Counts::count_high))]
 fn walk_high(ram: &Ram, table: FrameNo, page: u64, access: Access) -> Found
     requires { table.0 < length ram.now }
-    ensures value { option_map (λ f. f.0) result.frame ≡ walk_high ram.now page access table.0 }
+    ensures value { numbered result.frame ≡ walk_high ram.now page access table.0 }
     ensures inside { IfSome result.frame (λ f. f.0 < length ram.now) }
     ensures count { result.count ≡ count_high ram.now page access table.0 }
     ensures few { result.count ≤ 3 }
@@ -294,7 +293,7 @@ fn walk_high(ram: &Ram, table: FrameNo, page: u64, access: Access) -> Found
 #[inline(always)]
 #[tactic(auto, unfolding(crate::specs::Walk::walk_of, crate::specs::Counts::count_levels))]
 fn walk_levels(ram: &Ram, root: FrameNo, page: u64, access: Access) -> Found
-    ensures value { option_map (λ f. f.0) result.frame ≡ walk_of ram.now root.0 page access }
+    ensures value { numbered result.frame ≡ walk_of ram.now root.0 page access }
     ensures inside { IfSome result.frame (λ f. f.0 < length ram.now) }
     ensures count { result.count ≡ count_levels ram.now root.0 page access }
     ensures few { result.count ≤ 3 }
@@ -314,7 +313,7 @@ fn walk_levels(ram: &Ram, root: FrameNo, page: u64, access: Access) -> Found
 // of the entries that were read.
 #[inline(always)]
 fn walked(ram: &Ram, root: FrameNo, page: u64, access: Access) -> Found
-    ensures is { option_map (λ f. f.0) result.frame ≡ (walk_page ram.now root.0 page access).frame }
+    ensures is { numbered result.frame ≡ (walk_page ram.now root.0 page access).frame }
     ensures inside { IfSome result.frame (λ f. f.0 < length ram.now) }
     ensures count { result.count ≡ (walk_page ram.now root.0 page access).count }
     ensures few { result.count ≤ 3 }
@@ -327,7 +326,7 @@ fn walked(ram: &Ram, root: FrameNo, page: u64, access: Access) -> Found
 /// At most three entries are read. The page's number is one of 52 bits, whose highest 27 are equal.
 #[inline(always)]
 pub fn walk_page(ram: &Ram, root: FrameNo, page: u64, access: Access) -> Option<FrameNo>
-    ensures is { option_map (λ f. f.0) result ≡ (walk_page ram.now root.0 page access).frame }
+    ensures is { numbered result ≡ (walk_page ram.now root.0 page access).frame }
     ensures inside { IfSome result (λ f. f.0 < length ram.now) }
 {
     walked(ram, root, page, access).frame
@@ -345,7 +344,7 @@ fn address(frame: FrameNo, va: u64) -> Pa
 #[inline(always)]
 pub fn walk(ram: &Ram, root: FrameNo, va: u64, access: Access) -> Result<Pa, Fault>
     ensures is { result_ok result ≡ walk ram.now root.0 va access }
-    ensures inside { IfOk result (λ pa. (2 ^ 31 ≤ pa) × (pa / 4096 - 0x80000 < length ram.now)) }
+    ensures inside { IfOk result (LiesInside ram.now) }
 {
     match walk_page(ram, root, va / 4096, access) {
         Some(frame) => Ok(address(frame, va)),
@@ -357,7 +356,7 @@ pub fn walk(ram: &Ram, root: FrameNo, va: u64, access: Access) -> Result<Pa, Fau
 #[inline(always)]
 pub fn walk_counted(ram: &Ram, root: FrameNo, va: u64, access: Access) -> (Result<Pa, Fault>, u32)
     ensures is { result_ok result.0 ≡ walk ram.now root.0 va access }
-    ensures inside { IfOk result.0 (λ pa. (2 ^ 31 ≤ pa) × (pa / 4096 - 0x80000 < length ram.now)) }
+    ensures inside { IfOk result.0 (LiesInside ram.now) }
     ensures count { result.1 ≡ walk_count ram.now root.0 va access }
     ensures few { result.1 ≤ 3 }
 {
@@ -377,7 +376,7 @@ pub trait Translate {
     fn translate(&mut self, ram: &Ram, root: FrameNo, va: u64, access: Access) -> Result<Pa, Fault>
         requires { HoldsInside (held self.old) ram.now }
         ensures answer { IsAnswer (held self.old) ram.now root.0 va access (result_ok result) }
-        ensures inside { IfOk result (λ pa. (2 ^ 31 ≤ pa) × (pa / 4096 - 0x80000 < length ram.now)) }
+        ensures inside { IfOk result (LiesInside ram.now) }
         ensures kept { IsKept (held self.old) (held self.new) ram.now root.0 };
 
     /// Gives up every translation.
@@ -421,7 +420,7 @@ impl Translate for Plain {
     #[inline(always)]
     fn translate(&mut self, ram: &Ram, root: FrameNo, va: u64, access: Access) -> Result<Pa, Fault>
         ensures answer { result_ok result ≡ walk ram.now root.0 va access }
-        ensures inside { IfOk result (λ pa. (2 ^ 31 ≤ pa) × (pa / 4096 - 0x80000 < length ram.now)) }
+        ensures inside { IfOk result (LiesInside ram.now) }
         ensures reads { self.new ≡ (self.old + walk_count ram.now root.0 va access) % 2 ^ 64 }
     {
         let (answer, count) = walk_counted(ram, root, va, access);

@@ -1,9 +1,9 @@
 //! A translator that remembers what it found, so that most accesses need no walk.
-ghost use Rattle.std.specs.Prelude.{◌≡◌, ◌≢◌, ℕ, ◌+◌, ◌-◌, ◌*◌, ◌/◌, ◌%◌, ◌^◌, ◌<◌, ◌≤◌, ◌⊎◌, List, length, Some, IfSome, IfNone, IfOk};
+ghost use Rattle.std.specs.Prelude.{◌≡◌, ◌+◌, ◌-◌, ◌*◌, ◌/◌, ◌%◌, ◌^◌, ◌<◌, ◌⊎◌, List, length, Some, IfSome, IfNone, IfOk};
 ghost use Rattle.std.specs.Result.{result_ok};
-ghost use Rattle.std.specs.Option.{option_map};
 ghost use Rattle.unixmodel.specs.Translation.{walk_page, walk, walk_count, place_in, Translation, IsAnswer, IsKept, HoldsNothing, HoldsInside};
-ghost use Rattle.sv39.specs.Lookaside.{Keeps, IsFound, Cache, asked};
+ghost use Rattle.sv39.specs.Lookaside.{Keeps, KeepsOthers, Hits, Misses, Reaches, IsFound, Cache, asked, of_page};
+ghost use Rattle.sv39.specs.Walk.{LiesInside, numbered};
 
 use crate::places::Places;
 use crate::{Access, Fault, Pa, Translate, address, walked};
@@ -23,7 +23,7 @@ impl<const N: usize> Model for Tlb<N> {
 
     ghost Value = { Cache };
 
-    ghost view = { λ tlb. record { fetches = tlb.places.fetches; loads = tlb.places.loads; stores = tlb.places.stores; reads = tlb.reads } };
+    ghost view = { λ tlb. record { kept = tlb.places; reads = tlb.reads } };
 }
 
 impl<const N: usize> Tlb<N> {
@@ -31,7 +31,7 @@ impl<const N: usize> Tlb<N> {
     pub fn new() -> Tlb<N>
         requires { 0 < N }
         ensures reads { result.reads ≡ 0 }
-        ensures nothing { (t : Translation) → ¬ Keeps N result.fetches result.loads result.stores t }
+        ensures nothing { (t : Translation) → ¬ Keeps N result.kept t }
     {
         Tlb {
             places: Places::new(),
@@ -50,12 +50,12 @@ impl<const N: usize> Tlb<N> {
     #[inline(never)]
     fn look_up(&mut self, ram: &Ram, root: FrameNo, page: u64, access: Access) -> Option<FrameNo>
         requires { page < 2 ^ 52 }
-        ensures is { option_map (λ f. f.0) result ≡ (walk_page ram.now root.0 page access).frame }
+        ensures is { numbered result ≡ (walk_page ram.now root.0 page access).frame }
         ensures inside { IfSome result (λ f. f.0 < length ram.now) }
         ensures reads { self.new.reads ≡ (self.old.reads + (walk_page ram.now root.0 page access).count) % 2 ^ 64 }
-        ensures joins { IfSome result (λ f. Keeps N self.new.fetches self.new.loads self.new.stores (record { root = root.0; page = page; access = access; frame = f.0 })) }
-        ensures stays { (t : Translation) → t.page % N ≢ page % N → Keeps N self.old.fetches self.old.loads self.old.stores t → Keeps N self.new.fetches self.new.loads self.new.stores t }
-        ensures kept { IsKept (Keeps N self.old.fetches self.old.loads self.old.stores) (Keeps N self.new.fetches self.new.loads self.new.stores) ram.now root.0 }
+        ensures joins { IfSome result (λ f. Keeps N self.new.kept (of_page root.0 page access f.0)) }
+        ensures stays { KeepsOthers N page (Keeps N self.old.kept) (Keeps N self.new.kept) }
+        ensures kept { IsKept (Keeps N self.old.kept) (Keeps N self.new.kept) ram.now root.0 }
     {
         let walked = walked(ram, root, page, access);
         self.reads = self.reads.wrapping_add(u64::from(walked.count));
@@ -69,14 +69,14 @@ impl<const N: usize> Tlb<N> {
     // hart's way from the physical address back to it is left out.
     #[inline(always)]
     fn frame(&mut self, ram: &Ram, root: FrameNo, va: u64, access: Access) -> Option<FrameNo>
-        ensures found { IsFound (Keeps N self.old.fetches self.old.loads self.old.stores) ram.now root.0 va access (option_map (λ f. f.0) result) }
-        ensures inside { HoldsInside (Keeps N self.old.fetches self.old.loads self.old.stores) ram.now → IfSome result (λ f. f.0 < length ram.now) }
-        ensures kept { IsKept (Keeps N self.old.fetches self.old.loads self.old.stores) (Keeps N self.new.fetches self.new.loads self.new.stores) ram.now root.0 }
-        ensures hit { (frame : ℕ) → Keeps N self.old.fetches self.old.loads self.old.stores (asked root.0 va access frame) → (option_map (λ f. f.0) result ≡ Some frame) × (self.new ≡ self.old) }
-        ensures walks { ((frame : ℕ) → ¬ Keeps N self.old.fetches self.old.loads self.old.stores (asked root.0 va access frame)) →
-            (option_map (λ f. f.0) result ≡ (walk_page ram.now root.0 (va / 4096) access).frame) × (self.new.reads ≡ (self.old.reads + walk_count ram.now root.0 va access) % 2 ^ 64) }
-        ensures joins { IfSome result (λ f. Keeps N self.new.fetches self.new.loads self.new.stores (asked root.0 va access f.0)) }
-        ensures stays { (t : Translation) → t.page % N ≢ va / 4096 % N → Keeps N self.old.fetches self.old.loads self.old.stores t → Keeps N self.new.fetches self.new.loads self.new.stores t }
+        ensures found { IsFound (Keeps N self.old.kept) ram.now root.0 va access (numbered result) }
+        ensures inside { HoldsInside (Keeps N self.old.kept) ram.now → IfSome result (λ f. f.0 < length ram.now) }
+        ensures kept { IsKept (Keeps N self.old.kept) (Keeps N self.new.kept) ram.now root.0 }
+        ensures hit { Hits (Keeps N self.old.kept) root.0 va access (λ f. (numbered result ≡ Some f) × (self.new ≡ self.old)) }
+        ensures walks { Misses (Keeps N self.old.kept) root.0 va access →
+            (numbered result ≡ (walk_page ram.now root.0 (va / 4096) access).frame) × (self.new.reads ≡ (self.old.reads + walk_count ram.now root.0 va access) % 2 ^ 64) }
+        ensures joins { IfSome result (λ f. Keeps N self.new.kept (asked root.0 va access f.0)) }
+        ensures stays { KeepsOthers N (va / 4096) (Keeps N self.old.kept) (Keeps N self.new.kept) }
     {
         if let Some(frame) = self.places.kept(root, va, access) {
             return Some(frame);
@@ -86,19 +86,19 @@ impl<const N: usize> Tlb<N> {
 }
 
 impl<const N: usize> Translate for Tlb<N> {
-    ghost held = { λ tlb. Keeps N tlb.fetches tlb.loads tlb.stores };
+    ghost held = { λ tlb. Keeps N tlb.kept };
 
     #[inline(always)]
     fn translate(&mut self, ram: &Ram, root: FrameNo, va: u64, access: Access) -> Result<Pa, Fault>
-        ensures answer { IsAnswer (Keeps N self.old.fetches self.old.loads self.old.stores) ram.now root.0 va access (result_ok result) }
+        ensures answer { IsAnswer (Keeps N self.old.kept) ram.now root.0 va access (result_ok result) }
         // what is held may be of another memory: where it lies inside this one, so does the answer
-        ensures inside { HoldsInside (Keeps N self.old.fetches self.old.loads self.old.stores) ram.now → IfOk result (λ pa. (2 ^ 31 ≤ pa) × (pa / 4096 - 0x80000 < length ram.now)) }
-        ensures kept { IsKept (Keeps N self.old.fetches self.old.loads self.old.stores) (Keeps N self.new.fetches self.new.loads self.new.stores) ram.now root.0 }
-        ensures hit { (frame : ℕ) → Keeps N self.old.fetches self.old.loads self.old.stores (asked root.0 va access frame) → (result ≡ Ok (place_in va frame)) × (self.new ≡ self.old) }
-        ensures walks { ((frame : ℕ) → ¬ Keeps N self.old.fetches self.old.loads self.old.stores (asked root.0 va access frame)) →
+        ensures inside { HoldsInside (Keeps N self.old.kept) ram.now → IfOk result (LiesInside ram.now) }
+        ensures kept { IsKept (Keeps N self.old.kept) (Keeps N self.new.kept) ram.now root.0 }
+        ensures hit { Hits (Keeps N self.old.kept) root.0 va access (λ f. (result ≡ Ok (place_in va f)) × (self.new ≡ self.old)) }
+        ensures walks { Misses (Keeps N self.old.kept) root.0 va access →
             (result_ok result ≡ walk ram.now root.0 va access) × (self.new.reads ≡ (self.old.reads + walk_count ram.now root.0 va access) % 2 ^ 64) }
-        ensures joins { IfOk result (λ pa. (frame : ℕ) × Keeps N self.new.fetches self.new.loads self.new.stores (asked root.0 va access frame) × (pa ≡ place_in va frame)) }
-        ensures stays { (t : Translation) → t.page % N ≢ va / 4096 % N → Keeps N self.old.fetches self.old.loads self.old.stores t → Keeps N self.new.fetches self.new.loads self.new.stores t }
+        ensures joins { IfOk result (Reaches (Keeps N self.new.kept) root.0 va access) }
+        ensures stays { KeepsOthers N (va / 4096) (Keeps N self.old.kept) (Keeps N self.new.kept) }
     {
         match self.frame(ram, root, va, access) {
             Some(frame) => Ok(address(frame, va)),
@@ -107,7 +107,7 @@ impl<const N: usize> Translate for Tlb<N> {
     }
 
     fn fence(&mut self)
-        ensures nothing { HoldsNothing (Keeps N self.new.fetches self.new.loads self.new.stores) }
+        ensures nothing { HoldsNothing (Keeps N self.new.kept) }
         ensures reads { self.new.reads ≡ self.old.reads }
     {
         self.places.clear();

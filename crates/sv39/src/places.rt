@@ -1,7 +1,7 @@
 //! Places that keep translations, which translators share that remember some.
-ghost use Rattle.std.specs.Prelude.{◌≡◌, ◌≢◌, ℕ, ◌+◌, ◌-◌, ◌*◌, ◌/◌, ◌%◌, ◌^◌, ◌<◌, ◌≤◌, ◌⊎◌, length, IfSome, IfNone};
+ghost use Rattle.std.specs.Prelude.{◌≡◌, ℕ, ◌+◌, ◌-◌, ◌*◌, ◌/◌, ◌%◌, ◌^◌, ◌<◌, ◌≤◌, ◌⊎◌, length, IfSome, IfNone};
 ghost use Rattle.unixmodel.specs.Translation.{Translation};
-ghost use Rattle.sv39.specs.Lookaside.{Keeps, IsPlaced, IsWithin, asked, filled, for_access, set_for};
+ghost use Rattle.sv39.specs.Lookaside.{Keeps, KeepsOthers, Misses, IsPlaced, IsWithin, asked, filled, for_access, of_page, set_for};
 
 use crate::Access;
 use ram::FrameNo;
@@ -72,14 +72,14 @@ impl<const N: usize> Model for Places<N> {
 
     ghost view = { λ p. record { fetches = p.fetches; loads = p.loads; stores = p.stores } };
 
-    ghost invariant = { λ p. IsWithin N p.fetches p.loads p.stores p.end };
+    ghost invariant = { λ p. IsWithin N (record { fetches = p.fetches; loads = p.loads; stores = p.stores }) p.end };
 }
 
 impl<const N: usize> Places<N> {
     /// Places that keep nothing.
     pub fn new() -> Places<N>
         requires { 0 < N }
-        ensures { (t : Translation) → ¬ Keeps N result.fetches result.loads result.stores t }
+        ensures { (t : Translation) → ¬ Keeps N result t }
     {
         Places {
             fetches: empty(),
@@ -91,7 +91,7 @@ impl<const N: usize> Places<N> {
 
     #[inline(always)]
     fn of(&self, access: Access) -> &[Entry; N]
-        ensures places { result.now ≡ for_access self.now.fetches self.now.loads self.now.stores access }
+        ensures places { result.now ≡ for_access self.now access }
         ensures some { 0 < N }
     {
         match access {
@@ -104,8 +104,8 @@ impl<const N: usize> Places<N> {
     /// The frame that is kept for the page of an address, under a root and for an access.
     #[inline(always)]
     pub fn kept(&self, root: FrameNo, va: u64, access: Access) -> Option<FrameNo>
-        ensures found { IfSome result (λ f. Keeps N self.now.fetches self.now.loads self.now.stores (asked root.0 va access f.0)) }
-        ensures none { IfNone result ((f : ℕ) → ¬ Keeps N self.now.fetches self.now.loads self.now.stores (asked root.0 va access f)) }
+        ensures found { IfSome result (λ f. Keeps N self.now (asked root.0 va access f.0)) }
+        ensures none { IfNone result (Misses (Keeps N self.now) root.0 va access) }
     {
         find(self.of(access), root, va / 4096)
     }
@@ -114,7 +114,7 @@ impl<const N: usize> Places<N> {
     fn put(&mut self, root: FrameNo, page: u64, access: Access, frame: FrameNo)
         requires { page < 2 ^ 52 }
         ensures is { self.new ≡ set_for self.old access (page % N) (filled root.0 page frame.0) }
-        ensures within { page % N < length (for_access self.old.fetches self.old.loads self.old.stores access) }
+        ensures within { page % N < length (for_access self.old access) }
     {
         let end = self.end;
         let at = (page % N as u64) as usize;
@@ -130,17 +130,17 @@ impl<const N: usize> Places<N> {
     /// Keeps the frame of a page in the page's place.
     pub fn keep(&mut self, root: FrameNo, page: u64, access: Access, frame: FrameNo)
         requires { page < 2 ^ 52 }
-        ensures joins { Keeps N self.new.fetches self.new.loads self.new.stores (record { root = root.0; page = page; access = access; frame = frame.0 }) }
-        ensures stays { (t : Translation) → t.page % N ≢ page % N → Keeps N self.old.fetches self.old.loads self.old.stores t → Keeps N self.new.fetches self.new.loads self.new.stores t }
-        ensures only { (t : Translation) → Keeps N self.new.fetches self.new.loads self.new.stores t →
-            Keeps N self.old.fetches self.old.loads self.old.stores t ⊎ (t ≡ record { root = root.0; page = page; access = access; frame = frame.0 }) }
+        ensures joins { Keeps N self.new (of_page root.0 page access frame.0) }
+        ensures stays { KeepsOthers N page (Keeps N self.old) (Keeps N self.new) }
+        ensures only { (t : Translation) → Keeps N self.new t →
+            Keeps N self.old t ⊎ (t ≡ of_page root.0 page access frame.0) }
     {
         self.put(root, page, access, frame);
     }
 
     /// Empties all places.
     pub fn clear(&mut self)
-        ensures { (t : Translation) → ¬ Keeps N self.new.fetches self.new.loads self.new.stores t }
+        ensures { (t : Translation) → ¬ Keeps N self.new t }
     {
         let mut end = self.end;
         while end > 0 {

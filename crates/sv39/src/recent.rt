@@ -1,9 +1,9 @@
 //! A translator that remembers what another one answered.
-ghost use Rattle.std.specs.Prelude.{◌≡◌, ◌≢◌, ℕ, ◌+◌, ◌-◌, ◌*◌, ◌/◌, ◌%◌, ◌^◌, ◌<◌, ◌≤◌, ◌⊎◌, List, length, Some, IfSome, IfNone, IfOk};
+ghost use Rattle.std.specs.Prelude.{◌≡◌, ◌+◌, ◌-◌, ◌*◌, ◌/◌, ◌<◌, ◌⊎◌, List, length, Some, IfSome, IfNone, IfOk};
 ghost use Rattle.std.specs.Result.{result_ok};
-ghost use Rattle.std.specs.Option.{option_map};
 ghost use Rattle.unixmodel.specs.Translation.{place_in, Translation, IsAnswer, IsKept, HoldsNothing, HoldsInside};
-ghost use Rattle.sv39.specs.Lookaside.{IsFound, Recalls, Remembers, asked};
+ghost use Rattle.sv39.specs.Lookaside.{Hits, IsFound, KeepsOthers, Misses, Reaches, Knows, Remembers, asked};
+ghost use Rattle.sv39.specs.Walk.{LiesInside, numbered};
 
 use crate::places::Places;
 use crate::{Access, BASE, Fault, Pa, Translate, address};
@@ -19,7 +19,7 @@ fn frame_by<T: Translate>(
     access: Access,
 ) -> Option<FrameNo>
     requires { HoldsInside (T.held translator.old) ram.now }
-    ensures found { IsFound (T.held translator.old) ram.now root.0 va access (option_map (λ f. f.0) result) }
+    ensures found { IsFound (T.held translator.old) ram.now root.0 va access (numbered result) }
     ensures inside { IfSome result (λ f. f.0 < length ram.now) }
     ensures kept { IsKept (T.held translator.old) (T.held translator.new) ram.now root.0 }
 {
@@ -61,12 +61,12 @@ impl<T: Translate + Drop> Recent<T> {
     #[inline(never)]
     fn ask(&mut self, ram: &Ram, root: FrameNo, va: u64, access: Access) -> Option<FrameNo>
         requires { HoldsInside (T.held self.old.below) ram.now }
-        ensures found { IsFound (T.held self.old.below) ram.now root.0 va access (option_map (λ f. f.0) result) }
+        ensures found { IsFound (T.held self.old.below) ram.now root.0 va access (numbered result) }
         ensures inside { IfSome result (λ f. f.0 < length ram.now) }
-        ensures kept { IsKept (Recalls (T.held self.old.below) self.old.places) (Recalls (T.held self.new.below) self.new.places) ram.now root.0 }
+        ensures kept { IsKept (Knows T.held self.old.below self.old.places) (Knows T.held self.new.below self.new.places) ram.now root.0 }
         ensures below { IsKept (T.held self.old.below) (T.held self.new.below) ram.now root.0 }
         ensures joins { IfSome result (λ f. Remembers self.new.places (asked root.0 va access f.0)) }
-        ensures stays { (t : Translation) → t.page % 64 ≢ va / 4096 % 64 → Remembers self.old.places t → Remembers self.new.places t }
+        ensures stays { KeepsOthers 64 (va / 4096) (Remembers self.old.places) (Remembers self.new.places) }
     {
         let frame = frame_by(&mut self.below, ram, root, va, access)?;
         self.places.keep(root, va / 4096, access, frame);
@@ -77,15 +77,15 @@ impl<T: Translate + Drop> Recent<T> {
     // frame, so that the hart's way from the physical address back to it is left out.
     #[inline(always)]
     fn frame(&mut self, ram: &Ram, root: FrameNo, va: u64, access: Access) -> Option<FrameNo>
-        requires { HoldsInside (Recalls (T.held self.old.below) self.old.places) ram.now }
-        ensures found { IsFound (Recalls (T.held self.old.below) self.old.places) ram.now root.0 va access (option_map (λ f. f.0) result) }
+        requires { HoldsInside (Knows T.held self.old.below self.old.places) ram.now }
+        ensures found { IsFound (Knows T.held self.old.below self.old.places) ram.now root.0 va access (numbered result) }
         ensures inside { IfSome result (λ f. f.0 < length ram.now) }
-        ensures kept { IsKept (Recalls (T.held self.old.below) self.old.places) (Recalls (T.held self.new.below) self.new.places) ram.now root.0 }
-        ensures hit { (frame : ℕ) → Remembers self.old.places (asked root.0 va access frame) → (option_map (λ f. f.0) result ≡ Some frame) × (self.new ≡ self.old) }
-        ensures miss { ((frame : ℕ) → ¬ Remembers self.old.places (asked root.0 va access frame)) →
-            IsFound (T.held self.old.below) ram.now root.0 va access (option_map (λ f. f.0) result) × IsKept (T.held self.old.below) (T.held self.new.below) ram.now root.0 }
+        ensures kept { IsKept (Knows T.held self.old.below self.old.places) (Knows T.held self.new.below self.new.places) ram.now root.0 }
+        ensures hit { Hits (Remembers self.old.places) root.0 va access (λ f. (numbered result ≡ Some f) × (self.new ≡ self.old)) }
+        ensures miss { Misses (Remembers self.old.places) root.0 va access →
+            IsFound (T.held self.old.below) ram.now root.0 va access (numbered result) × IsKept (T.held self.old.below) (T.held self.new.below) ram.now root.0 }
         ensures joins { IfSome result (λ f. Remembers self.new.places (asked root.0 va access f.0)) }
-        ensures stays { (t : Translation) → t.page % 64 ≢ va / 4096 % 64 → Remembers self.old.places t → Remembers self.new.places t }
+        ensures stays { KeepsOthers 64 (va / 4096) (Remembers self.old.places) (Remembers self.new.places) }
     {
         if let Some(frame) = self.places.kept(root, va, access) {
             return Some(frame);
@@ -95,20 +95,19 @@ impl<T: Translate + Drop> Recent<T> {
 }
 
 impl<T: Translate + Drop> Translate for Recent<T> {
-    ghost held = { λ n. Recalls (T.held n.below) n.places };
+    ghost held = { λ n. Knows T.held n.below n.places };
 
     #[inline(always)]
     fn translate(&mut self, ram: &Ram, root: FrameNo, va: u64, access: Access) -> Result<Pa, Fault>
-        requires { HoldsInside (Recalls (T.held self.old.below) self.old.places) ram.now }
-        ensures answer { IsAnswer (Recalls (T.held self.old.below) self.old.places) ram.now root.0 va access (result_ok result) }
-        ensures inside { IfOk result (λ pa. (2 ^ 31 ≤ pa) × (pa / 4096 - 0x80000 < length ram.now)) }
-        ensures kept { IsKept (Recalls (T.held self.old.below) self.old.places) (Recalls (T.held self.new.below) self.new.places) ram.now root.0 }
-        ensures hit { (frame : ℕ) → Remembers self.old.places (asked root.0 va access frame) →
-            (result ≡ Ok (place_in va frame)) × (self.new ≡ self.old) }
-        ensures miss { ((frame : ℕ) → ¬ Remembers self.old.places (asked root.0 va access frame)) →
+        requires { HoldsInside (Knows T.held self.old.below self.old.places) ram.now }
+        ensures answer { IsAnswer (Knows T.held self.old.below self.old.places) ram.now root.0 va access (result_ok result) }
+        ensures inside { IfOk result (LiesInside ram.now) }
+        ensures kept { IsKept (Knows T.held self.old.below self.old.places) (Knows T.held self.new.below self.new.places) ram.now root.0 }
+        ensures hit { Hits (Remembers self.old.places) root.0 va access (λ f. (result ≡ Ok (place_in va f)) × (self.new ≡ self.old)) }
+        ensures miss { Misses (Remembers self.old.places) root.0 va access →
             IsAnswer (T.held self.old.below) ram.now root.0 va access (result_ok result) × IsKept (T.held self.old.below) (T.held self.new.below) ram.now root.0 }
-        ensures joins { IfOk result (λ pa. (frame : ℕ) × Remembers self.new.places (asked root.0 va access frame) × (pa ≡ place_in va frame)) }
-        ensures stays { (t : Translation) → t.page % 64 ≢ va / 4096 % 64 → Remembers self.old.places t → Remembers self.new.places t }
+        ensures joins { IfOk result (Reaches (Remembers self.new.places) root.0 va access) }
+        ensures stays { KeepsOthers 64 (va / 4096) (Remembers self.old.places) (Remembers self.new.places) }
     {
         match self.frame(ram, root, va, access) {
             Some(frame) => Ok(address(frame, va)),
@@ -117,7 +116,7 @@ impl<T: Translate + Drop> Translate for Recent<T> {
     }
 
     fn fence(&mut self)
-        ensures nothing { HoldsNothing (Recalls (T.held self.new.below) self.new.places) }
+        ensures nothing { HoldsNothing (Knows T.held self.new.below self.new.places) }
     {
         self.below.fence();
         self.places.clear();

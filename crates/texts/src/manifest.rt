@@ -1,6 +1,6 @@
 //! Manifests: what a disk image is made of, one entry a line.
 ghost use Rattle.std.specs.Prelude.{◌≡◌, ◌<◌, ◌==◌, IfSome, List, MatchOption, length, option_map, position, ℕ};
-ghost use Rattle.texts.specs.Manifests.{IsDevice, IsDirectory, IsFile, IsLine, IsMajor, split_field};
+ghost use Rattle.texts.specs.Manifests.{FindsDevice, IsDirectory, IsFile, IsLine, IsMajor, split_field};
 ghost use Rattle.texts.specs.declared.manifest.Line.{Line};
 
 use crate::lines::{FromLine, after};
@@ -71,7 +71,7 @@ fn file<'a>(rest: &'a [u8]) -> Option<(&'a [u8], &'a [u8])>
 
 // The path and the numbers of a line `dev PATH MAJOR MINOR`.
 fn device<'a>(rest: &'a [u8]) -> Option<(&'a [u8], u16, u16)>
-    ensures { MatchOption result ((path : List ℕ) (first second : ℕ) → ¬ (IsDevice rest.now path first second)) (λ three. IsDevice rest.now three.0.now three.1 three.2) }
+    ensures { FindsDevice rest.now result }
 {
     let (path, numbers) = split_field(rest)?;
     let (first, second) = split_field(numbers)?;

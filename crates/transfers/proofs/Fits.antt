@@ -205,6 +205,9 @@ module _ {old now : FileTree} {n at : ℕ} {new : List ℕ} {done : ℕ} (has : 
   pub same-failed : now.failed ≡ old.failed
   same-failed = ap (λ (t : FileTree). t.failed) has.same
 
+  pub same-device : now.identity ≡ old.identity
+  same-device = ap (λ (t : FileTree). t.identity) has.same
+
   -- a piece more
   module _ (q : List ℕ) (fits : done + length q ≤ length new) (part : take done new ++ q ≡ take (done + length q) new) where
     abbrev mid : IsFile (first done) n
@@ -359,5 +362,5 @@ module _ (mem : Memory) (address count : ℕ) (readable : is_some (read_bytes me
 
 -- ---- what is answered
 
-pub serves-told : {T : Type 0} {old now : FileTree} {Told : T → Type 0} (x : T) → Told x → now.failed ≡ false → old.failures ≤ now.failures → Serves old now (Ok x) Told
-serves-told x told up later = record { told = told; up = up; down = tt; cause = record { later = later; failed = λ e. absurd (false≢true e) } }
+pub serves-told : {T : Type 0} {old now : FileTree} {Told : T → Type 0} (x : T) → Told x → now.failed ≡ false → now.identity ≡ old.identity → old.failures ≤ now.failures → Serves old now (Ok x) Told
+serves-told x told up same later = record { told = told; up = up; down = tt; same_device = same; cause = record { later = later; failed = λ e. absurd (false≢true e) } }

@@ -1,7 +1,8 @@
 -- The bytes that go between a node and the memory of a place.
-use Rattle.std.specs.Prelude.{List, None, Option, Some, [], drop, length, take, unwrap_or, ℕ, ◌≡◌}
+use Rattle.std.specs.Prelude.{List, None, Option, Some, [], drop, length, take, unwrap_or, ℕ, ◌≡◌, ◌≤◌}
 use Rattle.spaces.specs.Spaces.{Spaces, view_at, with_view, written}
 use Rattle.tree.specs.Tree.{FileTree}
+use Rattle.tree.specs.Written.{Written, written as written_to}
 use Rattle.unixmodel.specs.Files.{Files, Node, node_bytes, slot}
 use Rattle.unixmodel.specs.Memory.{read_bytes}
 
@@ -25,3 +26,15 @@ with_bytes s at address bytes = with_view s at (written (view_at s at) address b
 -- so many bytes of a place, which its program may read
 abbrev pub bytes_given : Spaces → ℕ → ℕ → ℕ → List ℕ
 bytes_given s at address count = unwrap_or (read_bytes (view_at s at).memory address count) []
+
+-- these bytes of a node, so many at the most, stand in the memory of a place
+abbrev pub with_read : Spaces → ℕ → ℕ → Files → ℕ → ℕ → ℕ → Spaces
+with_read s at address files number offset count = with_bytes s at address (bytes_read files number offset count)
+
+-- or fewer of them do
+abbrev pub ReadsSome : Spaces → Spaces → ℕ → ℕ → Files → ℕ → ℕ → ℕ → Type 0
+ReadsSome old new at address files number offset count = (done : ℕ) × (done ≤ count) × (new ≡ with_read old at address files number offset done)
+
+-- what a write of so many bytes of a place to a node comes to
+abbrev pub written_from : Spaces → ℕ → ℕ → ℕ → FileTree → ℕ → ℕ → Option Written
+written_from s at address count tree number offset = written_to tree.block_limit tree.files number offset (bytes_given s at address count)

@@ -1,8 +1,8 @@
 //! From a node to the memory of a process.
 
-ghost use Rattle.std.specs.Prelude.{◌≡◌, ◌≤◌, ℕ, OnErr, OnOk, Some, false, length, true};
+ghost use Rattle.std.specs.Prelude.{◌≡◌, OnErr, OnOk, Some, false, length, true};
 ghost use Rattle.spaces.specs.Spaces.{has_space, view_at};
-ghost use Rattle.transfers.specs.Moved.{IsRead, bytes_read, with_bytes};
+ghost use Rattle.transfers.specs.Moved.{IsRead, ReadsSome, with_read};
 ghost use Rattle.tree.specs.Tree.{Serves};
 ghost use Rattle.unixmodel.specs.Files.{Node, slot};
 ghost use Rattle.unixmodel.specs.Memory.{can_write};
@@ -27,7 +27,7 @@ fn read_piece<D: BlockDev, T: Translate + Drop>(
     requires space { has_space spaces.old at ≡ true }
     requires writable { can_write (view_at spaces.old at).memory address (length buffer.old) ≡ true }
     ensures serves { Serves tree.old tree.new result (IsRead tree.old tree.new number offset (length buffer.old)) }
-    ensures written { OnOk result (spaces.new ≡ with_bytes spaces.old at address (bytes_read tree.old.files number offset (length buffer.old))) }
+    ensures written { OnOk result (spaces.new ≡ with_read spaces.old at address tree.old.files number offset (length buffer.old)) }
     ensures failed { OnErr result (spaces.new ≡ spaces.old) }
 {
     let count = tree.read(number, offset, buffer)?;
@@ -51,8 +51,8 @@ pub fn read_node<D: BlockDev, T: Translate + Drop>(
     requires space { has_space spaces.old at ≡ true }
     requires writable { can_write (view_at spaces.old at).memory address count ≡ true }
     ensures serves { Serves tree.old tree.new result (IsRead tree.old tree.new number offset count) }
-    ensures written { OnOk result (spaces.new ≡ with_bytes spaces.old at address (bytes_read tree.old.files number offset count)) }
-    ensures failed { OnErr result ((done : ℕ) × (done ≤ count) × (spaces.new ≡ with_bytes spaces.old at address (bytes_read tree.old.files number offset done))) }
+    ensures written { OnOk result (spaces.new ≡ with_read spaces.old at address tree.old.files number offset count) }
+    ensures failed { OnErr result (ReadsSome spaces.old spaces.new at address tree.old.files number offset count) }
 {
     spaces.pages_are_whole(at);
     let mut buffer = [0; BLOCK_SIZE];

@@ -2,9 +2,10 @@
 
 ghost use Rattle.std.specs.Prelude.{◌≡◌, false, is_some, take, true};
 ghost use Rattle.spaces.specs.Spaces.{has_space, view_at};
-ghost use Rattle.transfers.specs.Moved.{bytes_given};
+ghost use Rattle.transfers.specs.Moved.{written_from};
+ghost use Rattle.tree.specs.Calls.{Writes};
 ghost use Rattle.tree.specs.Tree.{Serves};
-ghost use Rattle.tree.specs.Written.{IsFile, count_of, files_after, written};
+ghost use Rattle.tree.specs.Written.{IsFile};
 ghost use Rattle.unixmodel.specs.declared.trap.Access.TheVariants.{Load};
 ghost use Rattle.unixmodel.specs.Memory.{read_bytes};
 ghost use Rattle.vm.specs.Reach.{piece_at};
@@ -44,7 +45,7 @@ pub fn write_node<D: BlockDev, T: Translate + Drop>(
     requires file { IsFile tree.old.files number }
     requires space { has_space spaces.now at ≡ true }
     requires readable { is_some (read_bytes (view_at spaces.now at).memory address count) ≡ true }
-    ensures { Serves tree.old tree.new result (λ went. let w = written tree.old.block_limit tree.old.files number offset (bytes_given spaces.now at address count) in (tree.new ≡ record tree.old { files = files_after tree.old.files w; failures = tree.new.failures }) × (went ≡ count_of w)) }
+    ensures { Serves tree.old tree.new result (Writes tree.old tree.new (written_from spaces.now at address count tree.old number offset)) }
 {
     spaces.pages_are_whole(at);
     let size = tree.stat(number)?.size;

@@ -167,7 +167,7 @@ tells-any {v = v} {files} holds n told = go (slot v.nodes n) (slot files n) agre
 
 -- ---- places are rewritten
 
-module _ {D : Type 0} {v : Store D} {hs : List ℕ} {d at : ℕ} {bytes : List ℕ} {next : List (Option Entry)} (holds : IsFileSystem v) (r : Rewrites (tree_with v hs) d at bytes next) where
+module _ {D : Type 0} {identity : List ℕ} {v : Store D} {hs : List ℕ} {d at : ℕ} {bytes : List ℕ} {next : List (Option Entry)} (holds : IsFileSystem v) (r : Rewrites (tree_with identity v hs) d at bytes next) where
   bytes-are : (raw_at v.nodes d).bytes ≡ flat_map place_bytes r.places
   bytes-are = (held-raw holds d (Directory r.links r.places) r.here).bytes
 
@@ -205,5 +205,5 @@ within-held {v = v} holds count n some =
     let long = length-held holds in
     omega arith
 
-pub number-held : {D : Type 0} {v : Store D} {hs : List ℕ} {seen : FileTree} → tree_with v hs ≡ seen → length hs ≡ v.geometry.inodes → (v.failed ≡ false → IsFileSystem v) → seen.failed ≡ false → (n : ℕ) → slot seen.files n ≢ None → n < length hs
+pub number-held : {D : Type 0} {identity : List ℕ} {v : Store D} {hs : List ℕ} {seen : FileTree} → tree_with identity v hs ≡ seen → length hs ≡ v.geometry.inodes → (v.failed ≡ false → IsFileSystem v) → seen.failed ≡ false → (n : ℕ) → slot seen.files n ≢ None → n < length hs
 number-held is count held up n some = within-held (held (ap (λ (t : FileTree). t.failed) is ∙ up)) count n (subst (λ (t : FileTree). slot t.files n ≢ None) (sym is) some)

@@ -87,8 +87,8 @@ module _ {D : Type 0} {v : Store D} (holds : IsFileSystem v) (n at : ℕ) (new :
   abbrev Told : Store D → Option ℕ → Type 0
   Told v' k = (k ≡ count_of w) × Stores v' (files_after files w)
 
-  abbrev Wrote : (D → D → Type 0) → Store D → Result (Unit {0}) InodeFault → Type 0
-  Wrote reached v' r = inode.Serves reached is_device v v' r (λ _. Writes v v' n at new) (LacksWriting v v' n at new)
+  abbrev Wrote : (D → List ℕ) → Store D → Result (Unit {0}) InodeFault → Type 0
+  Wrote identity v' r = inode.Serves identity is_device v v' r (λ _. Writes v v' n at new) (LacksWriting v v' n at new)
 
   module _ {v' : Store D} (same : v'.geometry ≡ v.geometry) where
     -- so many bytes are written, and there are no blocks for more
@@ -123,8 +123,8 @@ module _ {D : Type 0} {v : Store D} (holds : IsFileSystem v) (n at : ℕ) (new :
         let none = refused h in
         (ap count_of (sym none), subst (λ o. Stores v' (files_after files o)) (sym none) (subst (λ ns. Stores v' (files_of ns)) keeps.nodes (kept-stores same keeps holds)))
 
-    module _ {reached : D → D → Type 0} where
-      write-told : (r : Result (Unit {0}) InodeFault) → Wrote reached v' r → v'.failed ≡ false → Told v' (count_after r)
+    module _ {identity : D → List ℕ} where
+      write-told : (r : Result (Unit {0}) InodeFault) → Wrote identity v' r → v'.failed ≡ false → Told v' (count_after r)
       write-told (Ok u) wrote up =
           let done = wrote.done in
           write-some (length new) (omega arith) done.within done.short (subst (λ b. Changes v v' n (Some (with_bytes (raw_at v.nodes n) (splice at b (raw_at v.nodes n).bytes)))) (sym (take_all (length new) new (omega arith))) done.changes)
@@ -140,12 +140,12 @@ module _ {D : Type 0} {v : Store D} (holds : IsFileSystem v) (n at : ℕ) (new :
       write-told (Err TooLong) wrote up = let long = wrote.refused refl in write-none (and_right (nat_le at (length file.bytes)) (nat_le (at + length new) longest) (lt-leb (at + length new) longest long.2)) long.0
       write-told (Err Device) wrote up = absurd (false≢true (sym up ∙ wrote.failed))
 
-      pub write-held : (r : Result (Unit {0}) InodeFault) → Wrote reached v' r → v'.failed ≡ false → IsFileSystem v'
+      pub write-held : (r : Result (Unit {0}) InodeFault) → Wrote identity v' r → v'.failed ≡ false → IsFileSystem v'
       write-held r wrote up = held-again (write-told r wrote up).1
 
-      pub write-serves : (hs : List ℕ) → v.failed ≡ false → (r : Result (Unit {0}) InodeFault) → Wrote reached v' r → has_failed is_device r ≡ false
-          → Serves (tree_with v hs) (tree_with v' hs) (Ok (count_after r)) (λ count. (tree_with v' hs ≡ record (tree_with v hs) { files = files_after files w; failures = v'.failures }) × (count ≡ count_of w))
+      pub write-serves : (hs : List ℕ) → v.failed ≡ false → (r : Result (Unit {0}) InodeFault) → Wrote identity v' r → has_failed is_device r ≡ false
+          → Serves (tree_with (identity v.device) v hs) (tree_with (identity v'.device) v' hs) (Ok (count_after r)) (λ count. (tree_with (identity v'.device) v' hs ≡ record (tree_with (identity v.device) v hs) { files = files_after files w; failures = v'.failures }) × (count ≡ count_of w))
       write-serves hs up r wrote good =
           let now : v'.failed ≡ false = wrote.failed ∙ good in
           let told = write-told r wrote now in
-          record { told = (turned-files same hs (now ∙ sym up) told.1, told.0); up = now; down = tt; cause = record { later = wrote.follows.later; failed = λ e. absurd (false≢true e) } }
+          record { told = (turned-files wrote.follows hs (now ∙ sym up) told.1, told.0); up = now; down = tt; same_device = wrote.follows.same_device; cause = record { later = wrote.follows.later; failed = λ e. absurd (false≢true e) } }

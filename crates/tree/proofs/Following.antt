@@ -36,6 +36,9 @@ module _ {old mid : FileTree} {files : Files} (now : IsNow old mid files) where
   pub now-holds : mid.holds ≡ old.holds
   now-holds = ap (λ (t : FileTree). t.holds) now.is
 
+  pub now-device : mid.identity ≡ old.identity
+  now-device = ap (λ (t : FileTree). t.identity) now.is
+
   pub used-now : (n : ℕ) → IsSome (slot files n) → IsSome (slot mid.files n)
   used-now n = subst (λ (fs : Files). IsSome (slot fs n)) (sym now-files)
 
@@ -80,7 +83,7 @@ module _ {old mid : FileTree} {files : Files} (now : IsNow old mid files) where
         let err = (err_from_is_err_and s told).1 in
         let failed = subst (λ (q : Result U DeviceFault). OnErr q (new.failed ≡ true)) was tries.serves.down in
         record {
-          serves = record { told = rw err tt; up = rw err tt; down = rw err failed; cause = record { later = let l = now.later in let m = tries.serves.cause.later in omega arith; failed = λ _. rises-before now.later (tries.serves.cause.failed (ap is_err was)) } };
+          serves = record { told = rw err tt; up = rw err tt; down = rw err failed; same_device = tries.serves.same_device ∙ now-device; cause = record { later = let l = now.later in let m = tries.serves.cause.later in omega arith; failed = λ _. rises-before now.later (tries.serves.cause.failed (ap is_err was)) } };
           size = tries.size ∙ now-size;
           limit = tries.limit ∙ now-limit;
           holds = tries.holds ∙ now-holds;
@@ -91,7 +94,7 @@ module _ {old mid : FileTree} {files : Files} (now : IsNow old mid files) where
 last-is : {old mid new : FileTree} {files : Files} (now : IsNow old mid files) {T : Type 0} {Was Told : T → Type 0} (r : Result T DeviceFault) → Tries mid new r Was → ((x : T) → r ≡ Ok x → Told x) → Tries old new r Told
 last-is now (Err e) tries so = end-lost now tries refl refl
 last-is now (Ok x) tries so = record {
-  serves = record { told = so x refl; up = tries.serves.up; down = tt; cause = record { later = let l = now.later in let m = tries.serves.cause.later in omega arith; failed = λ e. absurd (false≢true e) } };
+  serves = record { told = so x refl; up = tries.serves.up; down = tt; same_device = tries.serves.same_device ∙ now-device now; cause = record { later = let l = now.later in let m = tries.serves.cause.later in omega arith; failed = λ e. absurd (false≢true e) } };
   size = tries.size ∙ ap (λ (t : FileTree). t.size) now.is;
   limit = tries.limit ∙ ap (λ (t : FileTree). t.block_limit) now.is;
   holds = tries.holds ∙ ap (λ (t : FileTree). t.holds) now.is;
@@ -109,7 +112,7 @@ turned-last {old} {new = new} now {T} r turns same = last-is now r turns (λ x i
 
 pub end-read : {old now : FileTree} {T : Type 0} {Told : T → Type 0} {x : T} → old.failed ≡ false → IsNow old now old.files → Told x → Reads old now (Ok x) Told
 end-read up now told = record {
-  serves = record { told = (now.is, told); up = now-up now up; down = tt; cause = record { later = now.later; failed = λ e. absurd (false≢true e) } };
+  serves = record { told = (now.is, told); up = now-up now up; down = tt; same_device = now-device now; cause = record { later = now.later; failed = λ e. absurd (false≢true e) } };
   size = ap (λ (t : FileTree). t.size) now.is;
   limit = ap (λ (t : FileTree). t.block_limit) now.is;
   holds = ap (λ (t : FileTree). t.holds) now.is;
@@ -117,7 +120,7 @@ end-read up now told = record {
 
 pub end-turned : {old now : FileTree} {T : Type 0} {files : Files} {x : T} → old.failed ≡ false → IsNow old now files → Turns old now (Ok x) files
 end-turned up now = record {
-  serves = record { told = now.is; up = now-up now up; down = tt; cause = record { later = now.later; failed = λ e. absurd (false≢true e) } };
+  serves = record { told = now.is; up = now-up now up; down = tt; same_device = now-device now; cause = record { later = now.later; failed = λ e. absurd (false≢true e) } };
   size = ap (λ (t : FileTree). t.size) now.is;
   limit = ap (λ (t : FileTree). t.block_limit) now.is;
   holds = ap (λ (t : FileTree). t.holds) now.is;
@@ -141,6 +144,7 @@ module _ {old now : FileTree} {T : Type 0} {Done : T → Type 0} {Refused : Type
     size = ap (λ (t : FileTree). t.size) is.is;
     limit = ap (λ (t : FileTree). t.block_limit) is.is;
     holds = ap (λ (t : FileTree). t.holds) is.is;
+    same_device = now-device is;
     later = is.later;
     cause = λ e. cc;
   }
@@ -153,6 +157,7 @@ module _ {old now : FileTree} {T : Type 0} {Done : T → Type 0} {Refused : Type
     size = ap (λ (t : FileTree). t.size) is.is;
     limit = ap (λ (t : FileTree). t.block_limit) is.is;
     holds = ap (λ (t : FileTree). t.holds) is.is;
+    same_device = now-device is;
     later = is.later;
     cause = λ e. absurd (false≢true (sym known ∙ ap is_device (err-is fault Device e)));
   }
@@ -172,6 +177,7 @@ module _ {old now : FileTree} {T : Type 0} {Done : T → Type 0} {Refused : Type
           size = tries.size ∙ ap (λ (t : FileTree). t.size) is.is;
           limit = tries.limit ∙ ap (λ (t : FileTree). t.block_limit) is.is;
           holds = tries.holds ∙ ap (λ (t : FileTree). t.holds) is.is;
+          same_device = tries.serves.same_device ∙ now-device is;
           later = let l = is.later in let m = tries.serves.cause.later in omega arith;
           cause = λ _. rises;
         })
@@ -192,6 +198,7 @@ module _ {old now : FileTree} {T : Type 0} {Done : T → Type 0} {Refused : Type
         size = part.size ∙ ap (λ (t : FileTree). t.size) is.is;
         limit = part.limit ∙ ap (λ (t : FileTree). t.block_limit) is.is;
         holds = part.holds ∙ ap (λ (t : FileTree). t.holds) is.is;
+        same_device = part.same_device ∙ now-device is;
         later = let l = is.later in let m = part.later in omega arith;
         cause = λ q. let rises = part.cause (ap Err (err-is fault Device q)) in rises-before is.later rises;
       })

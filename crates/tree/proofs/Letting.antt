@@ -14,7 +14,7 @@ use Rattle.unixmodel.specs.Reap.{kept}
 pub let-go-serves : {old mid new : FileTree} {hs : List ℕ} (n : ℕ) {T : Type 0} {r : Result T DeviceFault} → mid ≡ record old { holds = hs } → Turns mid new r (let_go mid.holds mid.files n)
     → Serves old new r (λ _. new ≡ record old { files = let_go hs old.files n; holds = hs; failures = new.failures })
 let-go-serves {old} {mid} {new} {hs} n {T} {r} is = subst (λ (t : FileTree). Turns t new r (let_go t.holds t.files n) → Serves old new r (λ _. new ≡ record old { files = let_go hs old.files n; holds = hs; failures = new.failures })) (sym is) (λ turns.
-    let s = turns.serves in record { told = s.told; up = s.up; down = s.down; cause = s.cause })
+    let s = turns.serves in record { told = s.told; up = s.up; down = s.down; same_device = s.same_device; cause = s.cause })
 
 module _ (holds : List ℕ) (files : Files) (n : ℕ) where
   pub let-go-held : 1 ≤ get_or holds n 0 → let_go holds files n ≡ files

@@ -15,11 +15,11 @@ use Rattle.tree.specs.Tree.{tree_with}
 use Rattle.unixmodel.specs.Files.{Entry, put}
 use Rattle.unixmodel.specs.Files.Node.{Directory}
 
-module _ {D : Type 0} {reached : D → D → Type 0} {v v' : Store D} {hs : List ℕ} where
+module _ {D : Type 0} {identity : D → List ℕ} {v v' : Store D} {hs : List ℕ} where
   -- an access failed
-  pub device-lost : {T U : Type 0} {Done : U → Type 0} {Why : InodeFault → Type 0} {Told : T → Type 0} {e : DeviceFault} → Serves {T = U} reached is_device v v' (Err Device) Done Why → Tries {T = T} (tree_with v hs) (tree_with v' hs) (Err e) Told
+  pub device-lost : {T U : Type 0} {Done : U → Type 0} {Why : InodeFault → Type 0} {Told : T → Type 0} {e : DeviceFault} → Serves {T = U} identity is_device v v' (Err Device) Done Why → Tries {T = T} (tree_with (identity v.device) v hs) (tree_with (identity v'.device) v' hs) (Err e) Told
   device-lost wrote = record {
-    serves = record { told = tt; up = tt; down = wrote.failed; cause = record { later = wrote.follows.later; failed = λ e. wrote.cause refl } };
+    serves = record { told = tt; up = tt; down = wrote.failed; same_device = wrote.follows.same_device; cause = record { later = wrote.follows.later; failed = λ e. wrote.cause refl } };
     size = ap (λ (g : Geometry). g.size) wrote.follows.geometry;
     limit = ap limit_of wrote.follows.geometry;
     holds = refl;
@@ -27,15 +27,16 @@ module _ {D : Type 0} {reached : D → D → Type 0} {v v' : Store D} {hs : List
 
   module _ {d at : ℕ} {bytes : List ℕ} (holds : IsFileSystem v) where
     -- places stand in a directory
-    pub rewrite-done : {u : Unit {0}} → v.failed ≡ false → Serves reached is_device v v' (Ok u) (λ _. Writes v v' d at bytes) (LacksWriting v v' d at bytes)
-        → Tries (tree_with v hs) (tree_with v' hs) (Ok u) (λ _. (next : List (Option Entry)) → (r : Rewrites (tree_with v hs) d at bytes next) → tree_with v' hs ≡ record (tree_with v hs) { files = put (files_of v.nodes) d (Directory r.links next); failures = v'.failures })
+    pub rewrite-done : {u : Unit {0}} → v.failed ≡ false → Serves identity is_device v v' (Ok u) (λ _. Writes v v' d at bytes) (LacksWriting v v' d at bytes)
+        → Tries (tree_with (identity v.device) v hs) (tree_with (identity v'.device) v' hs) (Ok u) (λ _. (next : List (Option Entry)) → (r : Rewrites (tree_with (identity v.device) v hs) d at bytes next) → tree_with (identity v'.device) v' hs ≡ record (tree_with (identity v.device) v hs) { files = put (files_of v.nodes) d (Directory r.links next); failures = v'.failures })
     rewrite-done up wrote =
         let same = wrote.follows.geometry in
         record {
           serves = record {
-            told = λ next r. turned-files same hs (wrote.failed ∙ sym up) (rewritten-stores holds r same wrote.done);
+            told = λ next r. turned-files wrote.follows hs (wrote.failed ∙ sym up) (rewritten-stores holds r same wrote.done);
             up = wrote.failed;
             down = tt;
+            same_device = wrote.follows.same_device;
             cause = record { later = wrote.follows.later; failed = λ e. absurd (false≢true e) };
           };
           size = ap (λ (g : Geometry). g.size) same;
@@ -44,7 +45,7 @@ module _ {D : Type 0} {reached : D → D → Type 0} {v v' : Store D} {hs : List
         }
 
     -- the volume holds its files still
-    pub rewrite-held : {next : List (Option Entry)} → Rewrites (tree_with v hs) d at bytes next → (r : Result (Unit {0}) InodeFault) → Serves reached is_device v v' r (λ _. Writes v v' d at bytes) (LacksWriting v v' d at bytes) → v'.failed ≡ false → IsFileSystem v'
+    pub rewrite-held : {next : List (Option Entry)} → Rewrites (tree_with (identity v.device) v hs) d at bytes next → (r : Result (Unit {0}) InodeFault) → Serves identity is_device v v' r (λ _. Writes v v' d at bytes) (LacksWriting v v' d at bytes) → v'.failed ≡ false → IsFileSystem v'
     rewrite-held able (Ok u) wrote up = held-again (rewritten-stores holds able wrote.follows.geometry wrote.done)
     rewrite-held able (Err (Blocks k)) wrote up = absurd (never-full holds able k (wrote.refused refl))
     rewrite-held able (Err PastEnd) wrote up = kept-stores wrote.follows.geometry (wrote.refused refl).0 holds

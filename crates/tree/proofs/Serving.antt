@@ -3,7 +3,7 @@ use Rattle.std.proofs.Common.{◌≡◌, ◌≢◌, ◌+◌, ◌≤◌, ◌∙�
 use Rattle.std.specs.Prelude.{OnOk, is_some, not}
 use Rattle.std.proofs.lemmas.Bool.{false≢true}
 use Rattle.blockdev.specs.declared.DeviceFault.{DeviceFault}
-use Rattle.inode.specs.Store.{IsLaidOut, Keeps, Looks, Store}
+use Rattle.inode.specs.Store.{Follows, IsLaidOut, Keeps, Looks, Store}
 use Rattle.inode.specs.declared.InodeStat.{InodeStat}
 use Rattle.inode.specs.Store.{Tries as Volumes}
 use Rattle.layout.specs.declared.Geometry.{Geometry}
@@ -19,24 +19,26 @@ use Rattle.unixmodel.specs.Manifest.{data_blocks_of}
 abbrev pub limit_of : Geometry → ℕ
 limit_of g = data_blocks_of g.size g.inodes
 
-same-tree : {a a' : Files} {g g' : Geometry} {b b' : Bool} (hs : List ℕ) (failures : ℕ) → a ≡ a' → g ≡ g' → b ≡ b'
-    → ◌≡◌ {A = FileTree} (record { files = a; size = g.size; block_limit = limit_of g; holds = hs; failed = b; failures = failures }) (record { files = a'; size = g'.size; block_limit = limit_of g'; holds = hs; failed = b'; failures = failures })
-same-tree hs failures p q r = λ i. let g : Geometry = q i in record { files = p i; size = g.size; block_limit = limit_of g; holds = hs; failed = r i; failures = failures }
+same-tree : {a a' : Files} {g g' : Geometry} {b b' : Bool} {d d' : List ℕ} (hs : List ℕ) (failures : ℕ) → a ≡ a' → g ≡ g' → b ≡ b' → d ≡ d'
+    → ◌≡◌ {A = FileTree} (record { files = a; size = g.size; block_limit = limit_of g; holds = hs; failed = b; failures = failures; identity = d })
+    (record { files = a'; size = g'.size; block_limit = limit_of g'; holds = hs; failed = b'; failures = failures; identity = d' })
+same-tree hs failures p q r s = λ i. let g : Geometry = q i in record { files = p i; size = g.size; block_limit = limit_of g; holds = hs; failed = r i; failures = failures; identity = s i }
 
--- the files are others
-pub turned-files : {D : Type 0} {v' : Store D} {g : Geometry} → v'.geometry ≡ g → (hs : List ℕ) {files : Files} {failed : Bool} → v'.failed ≡ failed → Stores v' files
-    → ◌≡◌ {A = FileTree} (tree_with v' hs) (record { files = files; size = g.size; block_limit = limit_of g; holds = hs; failed = failed; failures = v'.failures })
-turned-files {v' = v'} same hs failed holds = same-tree hs v'.failures (files-are holds) same failed
+module _ {D : Type 0} {identity : D → List ℕ} {v v' : Store D} (follows : Follows identity v v') where
+  -- the files are others
+  pub turned-files : (hs : List ℕ) {files : Files} {failed : Bool} → v'.failed ≡ failed → Stores v' files
+      → ◌≡◌ {A = FileTree} (tree_with (identity v'.device) v' hs) (record { files = files; size = v.geometry.size; block_limit = limit_of v.geometry; holds = hs; failed = failed; failures = v'.failures; identity = identity v.device })
+  turned-files hs failed holds = same-tree hs v'.failures (files-are holds) follows.geometry failed follows.same_device
+
+  -- they are as they were
+  pub kept-files : (hs : List ℕ) → v'.failed ≡ v.failed → Keeps v v' → tree_with (identity v'.device) v' hs ≡ record (tree_with (identity v.device) v hs) { failures = v'.failures }
+  kept-files hs failed keeps = same-tree hs v'.failures (ap files_of keeps.nodes) follows.geometry failed follows.same_device
 
 -- as many can be held
 pub count-after : {g g' : Geometry} → g' ≡ g → {k : ℕ} → k ≡ g.inodes → k ≡ g'.inodes
 count-after same count = count ∙ ap (λ (g : Geometry). g.inodes) (sym same)
 
 module _ {D : Type 0} {v v' : Store D} (same : v'.geometry ≡ v.geometry) where
-  -- they are as they were
-  pub kept-files : (hs : List ℕ) → v'.failed ≡ v.failed → Keeps v v' → tree_with v' hs ≡ record (tree_with v hs) { failures = v'.failures }
-  kept-files hs failed keeps = same-tree hs v'.failures (ap files_of keeps.nodes) same failed
-
   pub kept-stores : Keeps v v' → IsFileSystem v → IsFileSystem v'
   kept-stores keeps holds = subst (λ ns. Stores v' (files_of ns)) (sym keeps.nodes) (record {
     whole = record {
@@ -49,14 +51,15 @@ module _ {D : Type 0} {v v' : Store D} (same : v'.geometry ≡ v.geometry) where
     places = holds.places;
   })
 
-module _ {D : Type 0} {reached : D → D → Type 0} {v v' : Store D} {T : Type 0} {Was : T → Type 0} (hs : List ℕ) (up : v.failed ≡ false) where
+module _ {D : Type 0} {identity : D → List ℕ} {v v' : Store D} {T : Type 0} {Was : T → Type 0} (hs : List ℕ) (up : v.failed ≡ false) where
   -- a call on the volume is one on the files
-  pub tries : {Told : T → Type 0} (r : Result T DeviceFault) → Volumes reached v v' r Was → ((x : T) → Was x → v'.failed ≡ v.failed → v'.geometry ≡ v.geometry → Told x) → Tries (tree_with v hs) (tree_with v' hs) r Told
+  pub tries : {Told : T → Type 0} (r : Result T DeviceFault) → Volumes identity v v' r Was → ((x : T) → Was x → v'.failed ≡ v.failed → Follows identity v v' → Told x) → Tries (tree_with (identity v.device) v hs) (tree_with (identity v'.device) v' hs) r Told
   tries (Ok x) tried so = record {
     serves = record {
-      told = so x tried.done (tried.failed ∙ sym up) tried.follows.geometry;
+      told = so x tried.done (tried.failed ∙ sym up) tried.follows;
       up = tried.failed;
       down = tt;
+      same_device = tried.follows.same_device;
       cause = record { later = tried.follows.later; failed = λ e. absurd (false≢true e) };
     };
     size = ap (λ (g : Geometry). g.size) tried.follows.geometry;
@@ -64,23 +67,23 @@ module _ {D : Type 0} {reached : D → D → Type 0} {v v' : Store D} {T : Type 
     holds = refl;
   }
   tries (Err fault) tried so = record {
-    serves = record { told = tt; up = tt; down = tried.failed; cause = record { later = tried.follows.later; failed = λ e. tried.cause refl } };
+    serves = record { told = tt; up = tt; down = tried.failed; same_device = tried.follows.same_device; cause = record { later = tried.follows.later; failed = λ e. tried.cause refl } };
     size = ap (λ (g : Geometry). g.size) tried.follows.geometry;
     limit = ap limit_of tried.follows.geometry;
     holds = refl;
   }
 
   -- the volume holds its files still
-  pub held-after : (r : Result T DeviceFault) → Volumes reached v v' r Was → ((x : T) → Was x → v'.geometry ≡ v.geometry → IsFileSystem v') → v'.failed ≡ false → IsFileSystem v'
+  pub held-after : (r : Result T DeviceFault) → Volumes identity v v' r Was → ((x : T) → Was x → v'.geometry ≡ v.geometry → IsFileSystem v') → v'.failed ≡ false → IsFileSystem v'
   held-after (Ok x) tried so now = so x tried.done tried.follows.geometry
   held-after (Err fault) tried so now = absurd (false≢true (sym now ∙ tried.failed))
 
 -- a call that changes nothing
-module _ {D : Type 0} {reached : D → D → Type 0} {v v' : Store D} {T : Type 0} {Was : T → Type 0} (hs : List ℕ) (up : v.failed ≡ false) where
-  pub reads : {Told : T → Type 0} (r : Result T DeviceFault) → Looks reached v v' r Was → ((x : T) → Was x → Told x) → Reads (tree_with v hs) (tree_with v' hs) r Told
-  reads r looks so = tries hs up r looks (λ x was failed same. (kept-files same hs failed was.0, so x was.1))
+module _ {D : Type 0} {identity : D → List ℕ} {v v' : Store D} {T : Type 0} {Was : T → Type 0} (hs : List ℕ) (up : v.failed ≡ false) where
+  pub reads : {Told : T → Type 0} (r : Result T DeviceFault) → Looks identity v v' r Was → ((x : T) → Was x → Told x) → Reads (tree_with (identity v.device) v hs) (tree_with (identity v'.device) v' hs) r Told
+  reads r looks so = tries hs up r looks (λ x was failed follows. (kept-files follows hs failed was.0, so x was.1))
 
-  pub held-same : (r : Result T DeviceFault) → Looks reached v v' r Was → IsFileSystem v → v'.failed ≡ false → IsFileSystem v'
+  pub held-same : (r : Result T DeviceFault) → Looks identity v v' r Was → IsFileSystem v → v'.failed ≡ false → IsFileSystem v'
   held-same r looks holds = held-after hs up r looks (λ x was same. kept-stores same was.0 holds)
 
 -- a look that found something

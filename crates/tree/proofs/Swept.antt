@@ -87,7 +87,7 @@ pub swept-none : {old now : FileTree} → now ≡ bare old → IsSwept old now 0
 swept-none {old} is = subst (λ (t : FileTree). IsSwept old t 0) (sym is) (record { now = now-begin; long = refl; below = λ n l. absurd (omega (arith, l)); rest = λ n l. refl })
 
 pub from-bare : {old new : FileTree} {T : Type 0} {r : Result T DeviceFault} {Told : T → Type 0} → Serves (bare old) new r Told → Serves old new r Told
-from-bare serves = record { told = serves.told; up = serves.up; down = serves.down; cause = serves.cause }
+from-bare serves = record { told = serves.told; up = serves.up; down = serves.down; same_device = serves.same_device; cause = serves.cause }
 
 -- one number more
 pub swept-more : {old now new : FileTree} {i : ℕ} → IsSwept old now i → IsNow (bare old) new (let_go [] now.files i) → IsSwept old new (i + 1)

@@ -3,7 +3,7 @@ use Rattle.std.proofs.Common.{◌≡◌, ℕ, ◌-◌, ◌≤◌, List, None, Op
 use Rattle.std.specs.Prelude.{option_and_then, option_map}
 use Rattle.std.proofs.lemmas.List.{get_or-set_other}
 use Rattle.std.proofs.lemmas.Option.{none-some}
-use Rattle.inode.specs.Store.{Store, TakesLowest}
+use Rattle.inode.specs.Store.{Follows, Store, TakesLowest}
 use Rattle.names.proofs.Finding.{IsFree, free-number}
 use Rattle.tree.specs.Entering.{entered, room_in}
 use Rattle.tree.specs.Steps.{TakesNode}
@@ -59,11 +59,11 @@ fresh-blocks files n node number empty =
 -- ---- what the volume's call says
 
 module _ {D : Type 0} {v : Store D} (v' : Store D) {kind : ℕ} (major minor : ℕ) (holds : IsFileSystem v) (some : 1 ≤ kind) (most : kind ≤ 3) (same : v'.geometry ≡ v.geometry) where
-  pub taken-told : (hs : List ℕ) → v'.failed ≡ v.failed → (o : Option ℕ) → TakesLowest v v' kind major minor 1 o → TakesNode (tree_with v hs) (tree_with v' hs) kind major minor o
-  taken-told hs failed (Some n) takes =
+  pub taken-told : {identity : D → List ℕ} → Follows identity v v' → (hs : List ℕ) → v'.failed ≡ v.failed → (o : Option ℕ) → TakesLowest v v' kind major minor 1 o → TakesNode (tree_with (identity v.device) v hs) (tree_with (identity v'.device) v' hs) kind major minor o
+  taken-told follows hs failed (Some n) takes =
       let is = lowest-number holds n takes.0 in
-      (is, turned-files same hs failed (fresh-stores holds same kind major minor n some most (free-number (files_of v.nodes) n is).within takes.1))
-  taken-told hs failed None all = (no-number holds all.1, kept-files same hs failed all.0)
+      (is, turned-files follows hs failed (fresh-stores holds same kind major minor n some most (free-number (files_of v.nodes) n is).within takes.1))
+  taken-told follows hs failed None all = (no-number holds all.1, kept-files follows hs failed all.0)
 
   pub taken-held : (o : Option ℕ) → TakesLowest v v' kind major minor 1 o → IsFileSystem v'
   taken-held (Some n) takes = held-again (fresh-stores holds same kind major minor n some most (free-number (files_of v.nodes) n (lowest-number holds n takes.0)).within takes.1)

@@ -5,7 +5,7 @@ use Rattle.std.specs.Result.{IsErrAnd, is_err}
 use Rattle.std.proofs.lemmas.Result.{IfOk-at_ok, err_from_is_err_and}
 use Rattle.blockdev.specs.declared.DeviceFault.{DeviceFault}
 use Rattle.cache.proofs.Ending.{rises-before}
-use Rattle.tree.proofs.Following.{IsNow, acts-passed, end-turned, now-files, now-turned, turned-last}
+use Rattle.tree.proofs.Following.{IsNow, acts-passed, end-turned, now-device, now-files, now-turned, turned-last}
 use Rattle.tree.specs.Entering.{fresh}
 use Rattle.tree.specs.Steps.{Rewrites, TakesNode, Tries, Turns}
 use Rattle.tree.specs.Tree.{Acts, FileTree, Serves, has_failed}
@@ -63,7 +63,8 @@ module _ {old mid : FileTree} {files : Files} (now : IsNow old mid files) where
         let limit : new.block_limit ≡ old.block_limit = acts.limit ∙ ap (λ (t : FileTree). t.block_limit) now.is in
         let holds : new.holds ≡ old.holds = acts.holds ∙ ap (λ (t : FileTree). t.holds) now.is in
         let failed : new.failed ≡ old.failed = acts.failed ∙ ap has_failed is ∙ sym up in
-        record { is = λ i. record { files = same i; size = size i; block_limit = limit i; holds = holds i; failed = failed i; failures = new.failures }; later = let l = now.later in let m = acts.later in omega arith }
+        let device : new.identity ≡ old.identity = acts.same_device ∙ now-device now in
+        record { is = λ i. record { files = same i; size = size i; block_limit = limit i; holds = holds i; failed = failed i; failures = new.failures; identity = device i }; later = let l = now.later in let m = acts.later in omega arith }
 
 -- by what is known of the files
 pub now-wanted : {old now : FileTree} {files wanted : Files} → IsNow old now files → files ≡ wanted → IsNow old now wanted
@@ -98,7 +99,7 @@ told-done (Err e) so was = tt
 -- what is told tells more
 pub tells-more : {old new : FileTree} {T : Type 0} {Was Told : T → Type 0} {r : Result T DeviceFault} → ((x : T) → Was x → Told x) → Tries old new r Was → Tries old new r Told
 tells-more {r = r} so tries = record {
-  serves = record { told = told-done r so tries.serves.told; up = tries.serves.up; down = tries.serves.down; cause = tries.serves.cause };
+  serves = record { told = told-done r so tries.serves.told; up = tries.serves.up; down = tries.serves.down; same_device = tries.serves.same_device; cause = tries.serves.cause };
   size = tries.size;
   limit = tries.limit;
   holds = tries.holds;
@@ -121,4 +122,4 @@ module _ {old mid new : FileTree} {files : Files} (now : IsNow old mid files) {T
   lost-served {s = s} was told =
       let err = (err_from_is_err_and s told).1 in
       let failed = subst (λ (q : Result T DeviceFault). OnErr q (new.failed ≡ true)) was serves.down in
-      record { told = rw err tt; up = rw err tt; down = rw err failed; cause = record { later = let l = now.later in let m = serves.cause.later in omega arith; failed = λ _. rises-before now.later (serves.cause.failed (ap is_err was)) } }
+      record { told = rw err tt; up = rw err tt; down = rw err failed; same_device = serves.same_device ∙ now-device now; cause = record { later = let l = now.later in let m = serves.cause.later in omega arith; failed = λ _. rises-before now.later (serves.cause.failed (ap is_err was)) } }

@@ -22,7 +22,7 @@ module _ {D : Type 0} {v : Store D} (holds : IsFileSystem v) where
       let within = within-held holds count n there in
       (within, omega (arith, count))
 
-  pub whole-held : {hs : List ℕ} → length hs ≡ v.geometry.inodes → IsWhole (tree_with v hs)
+  pub whole-held : {identity hs : List ℕ} → length hs ≡ v.geometry.inodes → IsWhole (tree_with identity v hs)
   whole-held count = record {
     zero = none-zero;
     within = let free = holds.free in omega (arith, free);

@@ -12,4 +12,5 @@ pub mod Leaves
 pub mod Written
 pub mod Telling
 pub mod Tree
+pub mod Calls
 pub mod Whole

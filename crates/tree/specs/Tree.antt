@@ -20,40 +20,48 @@ pub record FileTree : Type 0 where
   -- an access of the device has failed: nothing is promised of the files any more
   pub failed : Bool
   pub failures : ℕ
+  -- what tells the device from others
+  pub identity : List ℕ
 
--- the files that a volume holds, and who holds them
-abbrev pub tree_with : {D : Type 0} → Store D → List ℕ → FileTree
-tree_with s holds = record {
+-- the files that a volume holds on this device, and who holds them
+abbrev pub tree_with : {D : Type 0} → List ℕ → Store D → List ℕ → FileTree
+tree_with identity s holds = record {
   files = files_of s.nodes;
   size = s.geometry.size;
   block_limit = data_blocks_of s.geometry.size s.geometry.inodes;
   holds = holds;
   failed = s.failed;
   failures = s.failures;
+  identity = identity;
 }
 
 -- nobody does
-abbrev pub tree_over : {D : Type 0} → Store D → FileTree
-tree_over s = tree_with s (replicate s.geometry.inodes 0)
+abbrev pub tree_over : {D : Type 0} → (D → List ℕ) → Store D → FileTree
+tree_over identity s = tree_with (identity s.device) s (replicate s.geometry.inodes 0)
 
-abbrev pub tree_of : {D : Type 0} → Inside D → FileTree
-tree_of t = tree_with t.volume t.holds.items
+abbrev pub tree_of : {D : Type 0} → (D → List ℕ) → Inside D → FileTree
+tree_of identity t = tree_with (identity t.volume.device) t.volume t.holds.items
 
 pub record IsInside {D : Type 0} (t : Inside D) : Type 0 where
   pub count : length t.holds.items ≡ t.volume.geometry.inodes
   pub held : t.volume.failed ≡ false → IsFileSystem t.volume
 
 -- what a call on a file system answers: what is told holds, and no access has failed; an error is told only where the device
--- counts one
+-- counts one. The device is the same
 pub record Serves {T : Type 0} (old new : FileTree) (result : Result T DeviceFault) (Told : T → Type 0) : Type 0 where
   pub told : IfOk result Told
   pub up : OnOk result (new.failed ≡ false)
   pub down : OnErr result (new.failed ≡ true)
+  pub same_device : new.identity ≡ old.identity
   pub cause : HasCause old.failures new.failures result
 
 -- this is told, and nothing is changed
 abbrev pub Looks : {T : Type 0} → FileTree → FileTree → Result T DeviceFault → (T → Type 0) → Type 0
 Looks old new result Told = Serves old new result (λ x. (new ≡ record old { failures = new.failures }) × Told x)
+
+-- these are the files now, and all else is as it was
+abbrev pub HasFiles : FileTree → FileTree → Files → Type 0
+HasFiles old new files = new ≡ record old { files = files; failures = new.failures }
 
 -- ---- calls on names
 
@@ -79,5 +87,6 @@ pub record Acts {T : Type 0} (old new : FileTree) (result : Result T TreeFault) 
   pub size : new.size ≡ old.size
   pub limit : new.block_limit ≡ old.block_limit
   pub holds : new.holds ≡ old.holds
+  pub same_device : new.identity ≡ old.identity
   pub later : old.failures ≤ new.failures
   pub cause : IsErrOf result Device → Rises old.failures new.failures

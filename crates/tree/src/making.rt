@@ -2,16 +2,14 @@
 
 ghost use Rattle.std.specs.Prelude.{◌≡◌, ◌≢◌, ◌+◌, ◌<◌, ◌≤◌, All, IsSome, None, Some, [], false, ℕ};
 ghost use Rattle.names.specs.Rules.{KeepsTree};
-ghost use Rattle.tree.specs.Answers.{Overflows};
-ghost use Rattle.tree.specs.Entering.{folder_in, fresh, linked_in, made_files, made_in};
-ghost use Rattle.tree.specs.Lacking.{LacksFolder, LacksLinking, LacksMaking};
+ghost use Rattle.tree.specs.Entering.{fresh};
 ghost use Rattle.tree.specs.Leaves.{leaf_node};
 ghost use Rattle.tree.specs.Steps.{Turns};
-ghost use Rattle.tree.specs.Tree.{Acts};
 ghost use Rattle.unixmodel.specs.Counts.{blocks_of};
 ghost use Rattle.unixmodel.specs.Files.{put, slot};
 ghost use Rattle.unixmodel.specs.Files.Node.{Directory};
 ghost use Rattle.unixmodel.specs.NameCalls.{new_directory};
+ghost use Rattle.tree.specs.Calls.{MakesDirectory, MakesLink, MakesNode};
 
 use crate::entering::Gap;
 use crate::place::DIRECTORY;
@@ -58,7 +56,7 @@ impl<D: BlockDev> Tree<D> {
         requires rules { KeepsTree self.old.files }
         requires directory { IsSome (slot self.old.files directory) }
         requires path { All (λ b. b ≢ 0) path.now }
-        ensures { Acts self.old self.new result (λ n. made_in self.old.files directory path.now (leaf_node leaf) ≡ Some (record { files = self.new.files; number = n })) (Overflows self.old.block_limit (made_files (made_in self.old.files directory path.now (leaf_node leaf)))) (LacksMaking self.old.block_limit self.old.files directory path.now 0) }
+        ensures { MakesNode self.old self.new directory path.now (leaf_node leaf) result }
     {
         let gap = self.find_gap(directory, path, 0)?;
         let (kind, major, minor) = leaf.numbers();
@@ -76,7 +74,7 @@ impl<D: BlockDev> Tree<D> {
         requires rules { KeepsTree self.old.files }
         requires directory { IsSome (slot self.old.files directory) }
         requires path { All (λ b. b ≢ 0) new.now }
-        ensures { Acts self.old self.new result (λ done. linked_in self.old.files directory old.now new.now ≡ Some self.new.files) (Overflows self.old.block_limit (linked_in self.old.files directory old.now new.now)) (LacksLinking self.old.block_limit self.old.files directory old.now new.now) }
+        ensures { MakesLink self.old self.new directory old.now new.now result }
     {
         let Some(number) = self.find(directory, old)? else {
             return Err(TreeFault::NotFound);
@@ -103,7 +101,7 @@ impl<D: BlockDev> Tree<D> {
         requires rules { KeepsTree self.old.files }
         requires directory { IsSome (slot self.old.files directory) }
         requires path { All (λ b. b ≢ 0) path.now }
-        ensures { Acts self.old self.new result (λ done. folder_in self.old.files directory path.now ≡ Some self.new.files) (Overflows self.old.block_limit (folder_in self.old.files directory path.now)) (LacksFolder self.old.block_limit self.old.files directory path.now) }
+        ensures { MakesDirectory self.old self.new directory path.now result }
     {
         let gap = self.find_gap(directory, path, 1)?;
         let above = self.node(gap.directory)?;

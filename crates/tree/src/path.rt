@@ -1,11 +1,11 @@
 //! Paths: their names, and what they reach.
 
-ghost use Rattle.std.specs.Prelude.{◌≡◌, ◌<◌, IfNone, IfSome, IsSome, None, Some, [], ◌∷◌, false, length, not, option_map, position, ◌==◌};
+ghost use Rattle.std.specs.Prelude.{◌≡◌, ◌<◌, IfNone, IfSome, IsSome, None, Some, [], ◌∷◌, false, length, not, position, ◌==◌};
 ghost use Rattle.names.specs.Rules.{KeepsTree};
-ghost use Rattle.tree.specs.Paths.{LacksSpot, above};
 ghost use Rattle.tree.specs.Steps.{Reads};
-ghost use Rattle.tree.specs.Tree.{Acts, Looks};
-ghost use Rattle.unixmodel.specs.Files.{find, parts, slot, spot_of, start_of};
+ghost use Rattle.tree.specs.Tree.{Looks};
+ghost use Rattle.unixmodel.specs.Files.{find, parts, slot, start_of};
+ghost use Rattle.tree.specs.Calls.{FindsSpot, IsAbove};
 
 use crate::place::DIRECTORY;
 use crate::{Tree, TreeFault};
@@ -97,7 +97,7 @@ impl<D: BlockDev> Tree<D> {
         requires up { self.old.failed ≡ false }
         requires rules { KeepsTree self.old.files }
         requires directory { IsSome (slot self.old.files directory) }
-        ensures { Acts self.old self.new result (λ two. (spot_of self.old.files directory path.now ≡ Some (record { directory = two.0; name = two.1.now })) × (self.new.files ≡ self.old.files)) (spot_of self.old.files directory path.now ≡ None) (LacksSpot self.old.files directory path.now) }
+        ensures { FindsSpot self.old self.new directory path.now result }
     {
         let Some((number, name)) = self.reach(directory, path)? else {
             return Err(TreeFault::NotFound);
@@ -121,7 +121,7 @@ impl<D: BlockDev> Tree<D> {
         requires up { self.old.failed ≡ false }
         requires rules { KeepsTree self.old.files }
         requires directory { IsSome (slot self.old.files directory) }
-        ensures { Reads self.old self.new result (λ o. option_map (λ two. (two.0, two.1.now)) o ≡ above self.old.files directory path.now) }
+        ensures { Reads self.old self.new result (IsAbove self.old.files directory path.now) }
     {
         let Some((first, after)) = first_name(path) else {
             return Ok(None);

@@ -1,14 +1,15 @@
 //! The places of a directory.
 
-ghost use Rattle.std.specs.Prelude.{◌≡◌, IsSome, ℕ, ◌+◌, ◌-◌, ◌*◌, ◌/◌, ◌%◌, ◌<◌, ◌≤◌, ◌==◌, List, false, flat_map, get_or, length, nat_lt, ◌&&◌};
+ghost use Rattle.std.specs.Prelude.{◌≡◌, IsSome, ℕ, ◌+◌, ◌-◌, ◌*◌, ◌/◌, ◌%◌, ◌<◌, ◌≤◌, ◌==◌, List, false, get_or, length, nat_lt, ◌&&◌};
 ghost use Rattle.std.specs.List.{list_all};
 ghost use Rattle.blockdev.specs.Splice.{part};
 ghost use Rattle.tree.specs.Entering.{room_behind, room_in};
-ghost use Rattle.tree.specs.Names.{found_in, is_bare};
+ghost use Rattle.tree.specs.Names.{is_bare};
 ghost use Rattle.tree.specs.Scanning.{Scans, is_sought};
 ghost use Rattle.imagerules.specs.Places.{place_of_bytes, without_zeros};
 ghost use Rattle.tree.specs.Steps.{IsFolder, Reads};
-ghost use Rattle.unixmodel.specs.Files.{has_name, lookup, place_bytes, slot};
+ghost use Rattle.unixmodel.specs.Files.{has_name, lookup, slot};
+ghost use Rattle.tree.specs.Calls.{ArePlaces, FindsName, ScansFolder};
 
 use crate::Tree;
 use blockdev::{BLOCK_SIZE, BlockDev, DeviceFault};
@@ -162,7 +163,7 @@ impl<D: BlockDev> Tree<D> {
         requires up { self.old.failed ≡ false }
         requires directory { IsFolder self.old.files directory }
         requires within { (f : IsFolder self.old.files directory) → 16 * k + length out.old ≤ 16 * length f.places }
-        ensures { Reads self.old self.new result (λ _. (f : IsFolder self.old.files directory) → out.new ≡ part (16 * k) (length out.old) (flat_map place_bytes f.places)) }
+        ensures { Reads self.old self.new result (λ _. ArePlaces self.old.files directory k out.old out.new) }
     {
         self.is_whole();
         let _count = self.bytes(directory, PLACE_SIZE * k, out)?;
@@ -180,7 +181,7 @@ impl<D: BlockDev> Tree<D> {
         requires up { self.old.failed ≡ false }
         requires directory { IsFolder self.old.files directory }
         requires count { (f : IsFolder self.old.files directory) → count ≡ length f.places }
-        ensures { Reads self.old self.new result (λ o. (f : IsFolder self.old.files directory) → Scans sought.now (flat_map place_bytes f.places) from o) }
+        ensures { Reads self.old self.new result (ScansFolder self.old.files directory sought.now from) }
     {
         self.is_whole();
         let mut block = [0; BLOCK_SIZE];
@@ -208,7 +209,7 @@ impl<D: BlockDev> Tree<D> {
     ) -> Result<Option<Found>, DeviceFault>
         requires up { self.old.failed ≡ false }
         requires directory { IsFolder self.old.files directory }
-        ensures { Reads self.old self.new result (λ found. (f : IsFolder self.old.files directory) → found ≡ found_in f.places name.now) }
+        ensures { Reads self.old self.new result (FindsName self.old.files directory name.now) }
     {
         self.is_whole();
         let count = self.count_places(directory)?;

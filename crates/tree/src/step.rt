@@ -1,12 +1,13 @@
 //! Steps that change one node.
 
 ghost use Rattle.std.specs.Prelude.{◌≡◌, ◌≢◌, ℕ, ◌+◌, ◌-◌, ◌*◌, ◌<◌, ◌≤◌, None, Some, false};
-ghost use Rattle.tree.specs.Holding.{let_go, unheld, without_hold, holders};
+ghost use Rattle.tree.specs.Holding.{let_go, unheld, holders};
 ghost use Rattle.tree.specs.Names.{dropped};
 ghost use Rattle.tree.specs.Steps.{HasPlace, Reads, Turns};
-ghost use Rattle.tree.specs.Tree.{Serves};
+ghost use Rattle.tree.specs.Tree.{HasFiles, Serves};
 ghost use Rattle.unixmodel.specs.Files.{Node, change_node, erase, links_of, slot};
 ghost use Rattle.unixmodel.specs.NameCalls.{emptied, fewer_links, more_links};
+ghost use Rattle.tree.specs.Calls.{LetsGo};
 
 use crate::Tree;
 use blockdev::{BlockDev, DeviceFault};
@@ -20,7 +21,7 @@ impl<D: BlockDev> Tree<D> {
         requires up { self.old.failed ≡ false }
         requires node { slot self.old.files number ≢ None }
         requires some { 1 ≤ holders self.old.holds number }
-        ensures { Serves self.old self.new result (λ done. self.new ≡ record self.old { files = let_go (without_hold self.old.holds number) self.old.files number; holds = without_hold self.old.holds number; failures = self.new.failures }) }
+        ensures { Serves self.old self.new result (λ done. LetsGo self.old self.new number) }
     {
         self.unhold(number);
         self.let_go(number)
@@ -30,7 +31,7 @@ impl<D: BlockDev> Tree<D> {
     pub fn truncate(&mut self, number: usize) -> Result<(), DeviceFault>
         requires up { self.old.failed ≡ false }
         requires node { slot self.old.files number ≢ None }
-        ensures { Serves self.old self.new result (λ done. self.new ≡ record self.old { files = change_node self.old.files number emptied; failures = self.new.failures }) }
+        ensures { Serves self.old self.new result (λ done. HasFiles self.old self.new (change_node self.old.files number emptied)) }
     {
         let node = self.node(number)?;
         if node.kind != FILE {

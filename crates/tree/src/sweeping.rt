@@ -1,8 +1,9 @@
 //! Nodes without links go, once nobody holds any node.
 
-ghost use Rattle.std.specs.Prelude.{[], ◌≡◌, false, length, replicate};
-ghost use Rattle.tree.specs.Holding.{let_go, unheld};
-ghost use Rattle.tree.specs.Tree.{Serves};
+ghost use Rattle.std.specs.Prelude.{[], ◌≡◌, false};
+ghost use Rattle.tree.specs.Holding.{let_go};
+ghost use Rattle.tree.specs.Tree.{HasFiles, Serves};
+ghost use Rattle.tree.specs.Calls.{IsSwept};
 
 use crate::Tree;
 use blockdev::{BlockDev, DeviceFault};
@@ -11,7 +12,7 @@ impl<D: BlockDev> Tree<D> {
     /// All that held nodes let go: each node goes with its blocks that has no links.
     pub fn release_all(&mut self) -> Result<(), DeviceFault>
         requires up { self.old.failed ≡ false }
-        ensures { Serves self.old self.new result (λ done. self.new ≡ record self.old { files = unheld self.old.files; holds = replicate (length self.old.holds) 0; failures = self.new.failures }) }
+        ensures { Serves self.old self.new result (λ done. IsSwept self.old self.new) }
     {
         self.unhold_all();
         for number in 0..self.numbers() {
@@ -23,7 +24,7 @@ impl<D: BlockDev> Tree<D> {
     // What a number names goes with its blocks, if it has no links.
     fn release_unlinked(&mut self, number: usize) -> Result<(), DeviceFault>
         requires up { self.old.failed ≡ false }
-        ensures { Serves self.old self.new result (λ done. self.new ≡ record self.old { files = let_go [] self.old.files number; failures = self.new.failures }) }
+        ensures { Serves self.old self.new result (λ done. HasFiles self.old self.new (let_go [] self.old.files number)) }
     {
         let Some(node) = self.look(number)? else {
             return Ok(());

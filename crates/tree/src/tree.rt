@@ -1,7 +1,6 @@
 //! A file system in use.
 
-ghost use Rattle.std.specs.Prelude.{◌≡◌, ◌≢◌, ℕ, ◌+◌, ◌-◌, ◌<◌, ◌≤◌, ◌++◌, List, Option, Some, None, IfOk, OnOk, [], drop, false, length, min, nat_le, replicate};
-ghost use Rattle.blockdev.specs.Splice.{part};
+ghost use Rattle.std.specs.Prelude.{◌≡◌, ◌≢◌, ℕ, ◌+◌, ◌-◌, ◌<◌, ◌≤◌, List, Option, Some, None, IfOk, OnOk, false, length, nat_le, replicate};
 ghost use Rattle.inode.specs.Store.{Store};
 ghost use Rattle.tree.specs.Stored.{IsFileSystem, IsStored};
 ghost use Rattle.tree.specs.Holding.{holders, with_hold, without_hold};
@@ -10,12 +9,12 @@ ghost use Rattle.tree.specs.Steps.{IsUnnamed, Reads, Rewrites, TakesNode, Tries,
 ghost use Rattle.tree.specs.Telling.{Tells, TellsAny};
 ghost use Rattle.tree.specs.Tree.{Looks, Serves, tree_over};
 ghost use Rattle.tree.specs.Whole.{IsWhole};
-ghost use Rattle.tree.specs.Written.{IsFile, count_of, files_after, written};
+ghost use Rattle.tree.specs.Written.{IsFile, written};
 ghost use Rattle.unixmodel.specs.Counts.{blocks_of};
 ghost use Rattle.unixmodel.specs.Failures.{HasCause};
-ghost use Rattle.unixmodel.specs.Files.{Entry, Node, change_node, clear, node_bytes, put, slot, with_links};
-ghost use Rattle.unixmodel.specs.Files.Node.{Directory, File};
+ghost use Rattle.unixmodel.specs.Files.{Entry, Node, change_node, clear, put, slot, with_links};
 ghost use Rattle.unixmodel.specs.Shown.{bytes_or_none};
+ghost use Rattle.tree.specs.Calls.{HasNoBytes, HasPlaces, IsPart, IsPartOf, WritesAt};
 
 use blockdev::{BlockDev, DeviceFault, Duplicate};
 use inode::{InodeFault, InodeStat, Volume};
@@ -37,7 +36,7 @@ impl<D: BlockDev> Model for Tree<D> {
 
     ghost use Rattle.tree.specs.Tree.{IsInside, tree_of};
 
-    ghost view = { tree_of };
+    ghost view = { tree_of D.identity };
 
     ghost invariant = { IsInside };
 }
@@ -46,7 +45,7 @@ impl<D: BlockDev> Tree<D> {
     /// The files that a volume holds, of which nobody holds any. It is the only call that asks for host memory.
     pub fn new(alloc: Global, volume: Volume<D>) -> Result<Tree<D>, AllocError>
         requires { IsFileSystem volume }
-        ensures { IfOk result (λ tree. tree ≡ tree_over volume) }
+        ensures { IfOk result (λ tree. tree ≡ tree_over D.identity volume) }
     {
         let inodes = volume.geometry().inodes;
         Ok(Tree {
@@ -57,7 +56,8 @@ impl<D: BlockDev> Tree<D> {
 
     /// The device below, which counts its failures.
     pub fn device(&self) -> &D
-        ensures { D.failures result.now ≡ self.now.failures }
+        ensures failures { D.failures result.now ≡ self.now.failures }
+        ensures identity { D.identity result.now ≡ self.now.identity }
     {
         self.volume.device()
     }
@@ -76,6 +76,7 @@ impl<D: BlockDev> Tree<D> {
     pub fn into_device(self) -> (D, Result<(), DeviceFault>)
         requires up { self.failed ≡ false }
         ensures stored { OnOk result.1 (IsStored self.size (D.content result.0) self.files) }
+        ensures identity { D.identity result.0 ≡ self.identity }
         ensures cause { HasCause self.failures (D.failures result.0) result.1 }
     {
         let Tree { volume, .. } = self;
@@ -86,7 +87,7 @@ impl<D: BlockDev> Tree<D> {
     pub fn read(&mut self, number: usize, at: usize, out: &mut [u8]) -> Result<usize, DeviceFault>
         requires up { self.old.failed ≡ false }
         requires node { (node : Node) × (slot self.old.files number ≡ Some node) }
-        ensures { Looks self.old self.new result (λ k. (node : Node) → slot self.old.files number ≡ Some node → (k ≡ min (length out.old) (length (node_bytes node) - at)) × (out.new ≡ part at k (node_bytes node) ++ drop k out.old)) }
+        ensures { Looks self.old self.new result (IsPartOf self.old.files number at out.old out.new) }
     {
         self.bytes(number, at, out)
     }
@@ -100,7 +101,7 @@ impl<D: BlockDev> Tree<D> {
         out: &mut [u8],
     ) -> Result<usize, DeviceFault>
         requires up { self.old.failed ≡ false }
-        ensures { Looks self.old self.new result (λ k. (k ≡ min (length out.old) (length (bytes_or_none (slot self.old.files number)) - at)) × (out.new ≡ part at k (bytes_or_none (slot self.old.files number)) ++ drop k out.old)) }
+        ensures { Looks self.old self.new result (IsPart (bytes_or_none (slot self.old.files number)) at out.old out.new) }
     {
         if self.look(number)?.is_none() {
             return Ok(0);
@@ -118,7 +119,7 @@ impl<D: BlockDev> Tree<D> {
     ) -> Result<Option<usize>, DeviceFault>
         requires up { self.old.failed ≡ false }
         requires file { IsFile self.old.files number }
-        ensures { Serves self.old self.new result (λ count. (self.new ≡ record self.old { files = files_after self.old.files (written self.old.block_limit self.old.files number at bytes.now); failures = self.new.failures }) × (count ≡ count_of (written self.old.block_limit self.old.files number at bytes.now))) }
+        ensures { Serves self.old self.new result (WritesAt self.old self.new number at bytes.now) }
     {
         match self.volume.write_at(number, at, bytes) {
             Ok(()) => Ok(Some(bytes.len())),
@@ -176,7 +177,7 @@ impl<D: BlockDev> Tree<D> {
     ) -> Result<usize, DeviceFault>
         requires up { self.old.failed ≡ false }
         requires node { (node : Node) × (slot self.old.files number ≡ Some node) }
-        ensures { Reads self.old self.new result (λ k. (node : Node) → slot self.old.files number ≡ Some node → (k ≡ min (length out.old) (length (node_bytes node) - at)) × (out.new ≡ part at k (node_bytes node) ++ drop k out.old)) }
+        ensures { Reads self.old self.new result (IsPartOf self.old.files number at out.old out.new) }
     {
         self.volume.read_at(number, at, out)
     }
@@ -198,7 +199,7 @@ impl<D: BlockDev> Tree<D> {
     ) -> Result<(), DeviceFault>
         requires up { self.old.failed ≡ false }
         requires able { (next : List (Option Entry)) × Rewrites self.old directory at bytes.now next }
-        ensures { Tries self.old self.new result (λ _. (next : List (Option Entry)) → (r : Rewrites self.old directory at bytes.now next) → self.new ≡ record self.old { files = put self.old.files directory (Directory r.links next); failures = self.new.failures }) }
+        ensures { Tries self.old self.new result (λ _. HasPlaces self.old self.new directory at bytes.now) }
     {
         match self.volume.write_at(directory, at, bytes) {
             Ok(()) => Ok(()),
@@ -263,7 +264,7 @@ impl<D: BlockDev> Tree<D> {
     pub(crate) fn empty(&mut self, number: usize) -> Result<(), DeviceFault>
         requires up { self.old.failed ≡ false }
         requires file { IsFile self.old.files number }
-        ensures { Tries self.old self.new result (λ _. (f : IsFile self.old.files number) → self.new ≡ record self.old { files = put self.old.files number (File f.links []); failures = self.new.failures }) }
+        ensures { Tries self.old self.new result (λ _. HasNoBytes self.old self.new number) }
     {
         self.volume.truncate(number)
     }

@@ -1,4 +1,5 @@
 //! A disk behind a cache that gets no memory for any block.
+ghost use Rattle.std.specs.Prelude.{[]};
 ghost use Rattle.blockdev.specs.Blocks.{blocks_of};
 ghost use Rattle.blockdev.specs.Sizes.{AreBlocks-blocks_of};
 
@@ -80,13 +81,9 @@ impl BlockDev for Starved<'_> {
 
     ghost failures = { λ _. 0 };
 
-    ghost reached = { λ old new. Unit {0} };
+    ghost identity = { λ _. [] };
 
     ghost sizes = { λ d. AreBlocks-blocks_of d.disk.bytes };
-
-    ghost stays = { λ d. tt };
-
-    ghost joins = { λ old mid new first next. tt };
 
     fn blocks(&self) -> usize {
         self.disk.blocks()

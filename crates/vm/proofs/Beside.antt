@@ -6,14 +6,13 @@ use Rattle.frames.specs.declared.Frames.{Frames}
 use Rattle.frames.specs.Free.{further_at, IsFreeList}
 use Rattle.frames.specs.Holders.{count_of, holders_of, Trades}
 use Rattle.frames.proofs.HolderLemmas.{count_of-append, count_of-first, one-holder, single, Trades-beside}
-use Rattle.pagetable.specs.Tree.{HasTable, lookup_of}
+use Rattle.pagetable.specs.Tree.{HasTable, SameMap}
 use Rattle.pagetable.proofs.Beside.{table_at-same, lookup_of-same}
 use Rattle.vm.specs.declared.Space.{Space}
-use Rattle.vm.specs.Dense.{held, tables_below, frames_below, frame_at, read_below, pages_below, IsDense, OwnsFrames}
+use Rattle.vm.specs.Dense.{held, tables_below, frames_below, frame_at, pages_below, IsDense, OwnsFrames, SameLeaves}
 use Rattle.vm.proofs.DenseLemmas.{count-held, page-held, table-held}
 use Rattle.vm.proofs.GrowLemmas.{IsDense-same, held-same, frame_at-same, marks_at-same}
 use Rattle.vm.proofs.StepLemmas.{read_below-same, pages_below-same}
-use Rattle.unixmodel.specs.Memory.{Perm}
 use Rattle.vm.specs.Leaf.{entry_marks, is_open, right_marks}
 use Rattle.vm.specs.Space.{IsSpace, holds, pages_in, IsUntouched}
 
@@ -30,10 +29,10 @@ alone-stays m k s n old new f is after t room alone =
 pub record StaysMapped (m k : List (List ℕ)) (r t n : ℕ) : Type 0 where
   pub tables : tables_below k r n ≡ tables_below m r n
   pub frames : frames_below k r n ≡ frames_below m r n
-  pub reads : (read : ℕ → Perm) → read_below read k r n ≡ read_below read m r n
+  pub reads : SameLeaves m k r n
   pub pages : pages_below k r n ≡ pages_below m r n
   pub trap : frame_of k t ≡ frame_of m t
-  pub looks : (p : ℕ) → lookup_of k r p ≡ lookup_of m r p
+  pub looks : SameMap m k r
 
 pub held-stays : (m k : List (List ℕ)) (r t n : ℕ) → IsDense m r t n → ((f : ℕ) → 0 < count_of f (held m r t n) → frame_of k f ≡ frame_of m f) → StaysMapped m k r t n
 held-stays m k r t n is same =

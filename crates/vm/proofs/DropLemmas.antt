@@ -10,14 +10,13 @@ use Rattle.frames.proofs.HolderLemmas.{count_of-first, among-none, held-inside, 
 use Rattle.pagetable.specs.Tree.{lookup_of, IsPaged, Keeps}
 use Rattle.pagetable.specs.Shape.{IsTidy, Adds, Removes}
 use Rattle.pagetable.proofs.LookupLemmas.{lookup-sound}
-use Rattle.vm.specs.Dense.{trap_page, frame_at, marks_at, read_below, pages_below, frames_below, tables_for, tables_below, held, IsDense, OwnsFrames}
+use Rattle.vm.specs.Dense.{trap_page, frame_at, marks_at, pages_below, frames_below, tables_for, tables_below, held, IsDense, OwnsFrames, SameLeavesUpTo}
 use Rattle.vm.proofs.Added.{IsAdded, IsCounted, added-count, added-same}
 use Rattle.vm.proofs.Beside.{Besides, Trades-held}
 use Rattle.vm.proofs.DenseLemmas.{count-held, page-held, table-held}
 use Rattle.vm.proofs.GrowLemmas.{frame_at-same, lookup-parts, marks_at-same}
 use Rattle.pagetable.proofs.TreeLemmas.{further-same}
 use Rattle.vm.proofs.StepLemmas.{held-not_free, beyond-held, read_below-same, pages_below-same}
-use Rattle.unixmodel.specs.Memory.{Perm}
 use Rattle.vm.specs.Leaf.{is_open}
 
 -- page n is unmapped, and then its frame f is given back
@@ -124,7 +123,7 @@ beside-drop m j k r t n f s a w is u g =
 pub record IsDropped (m k : List (List ℕ)) (r t n : ℕ) (s w : Frames) : Type 0 where
   pub space : OwnsFrames k r t n w
   pub pages : (b : ℕ) → b ≤ n → pages_below k r b ≡ pages_below m r b
-  pub mapping : (read : ℕ → Perm) (b : ℕ) → b ≤ n → read_below read k r b ≡ read_below read m r b
+  pub mapping : SameLeavesUpTo m k r n
   pub trap : frame_of k t ≡ frame_of m t
   pub trades : Trades m k s w (held m r t (n + 1)) (held k r t n)
 

@@ -19,7 +19,7 @@ use Rattle.vm.proofs.Beside.{Trades-as, Trades-frame, Trades-held}
 use Rattle.vm.specs.Fork.{IsMore, IsPart, IsSoFar}
 use Rattle.vm.proofs.StepLemmas.{IsNext}
 use Rattle.vm.proofs.StoreLemmas.{pages-same}
-use Rattle.vm.specs.Space.{IsSpace, Reframes, pages_of, registers_of, holds, pages_in}
+use Rattle.vm.specs.Space.{IsSpace, Reframes, pages_of, registers_of, holds, pages_in, GainsHolders, HasFramesOf, SameOtherPages}
 
 -- ---- trades of more than one holder
 
@@ -67,9 +67,9 @@ part-absent m x c n f s is low was =
 pub record IsClosed (m k : List (List ℕ)) (x : Space) (n f leaf : ℕ) (s : Frames) : Type 0 where
   pub stands : Reframes m k x s s
   pub page : page_at k x.root.0 n ≡ page_with (frame_of m f) leaf
-  pub pages : (p : ℕ) → p < pages_in x.size → p ≢ n → page_at k x.root.0 p ≡ page_at m x.root.0 p
+  pub pages : SameOtherPages m k x n
   pub held : (v : ℕ) → count_of v (holds k x) ≡ count_of v (holds m x)
-  pub frames : (p : ℕ) → p < pages_in x.size → frame_at k x.root.0 p ≡ frame_at m x.root.0 p
+  pub frames : HasFramesOf m k x x
   pub frame : frame_at k x.root.0 n ≡ f
   pub marks : marks_at k x.root.0 n ≡ leaf
   pub right : right_marks leaf ≡ shared_marks (right_marks (marks_at m x.root.0 n))
@@ -309,8 +309,8 @@ pub record IsForked (m l : List (List ℕ)) (x c : Space) (s w : Frames) : Type 
   pub pages : pages_below l c.root.0 (pages_in x.size) ≡ shared_memory (pages_of m x)
   pub kept : pages_of l x ≡ shared_memory (pages_of m x)
   pub registers : registers_of l x ≡ registers_of m x
-  pub shared : (p : ℕ) → p < pages_in x.size → frame_at l c.root.0 p ≡ frame_at m x.root.0 p
-  pub holders : (p : ℕ) → p < pages_in x.size → holders_of l w (frame_at m x.root.0 p) ≡ holders_of m s (frame_at m x.root.0 p) + 1
+  pub shared : HasFramesOf m l x c
+  pub holders : GainsHolders m l x s w
   pub trades : Trades m l s w (holds m x) (holds l x ++ held l c.root.0 c.trap.0 (pages_in x.size))
 
 pub forked : (m k l : List (List ℕ)) (x c : Space) (s q w : Frames) → IsSpace m x s → OwnsFrames k c.root.0 c.trap.0 0 q → Trades m k s q [] (held k c.root.0 c.trap.0 0) → IsSoFar k l x c (pages_in x.size) q w → IsForked m l x c s w

@@ -3,13 +3,13 @@ use Rattle.std.proofs.Common.{◌≡◌, ◌≢◌, ℕ, ◌+◌, ◌<◌, ◌�
 use Rattle.std.proofs.lemmas.Bool.{cases_eq}
 use Rattle.sv39.specs.Mapping.{Mapped}
 use Rattle.unixmodel.specs.Memory.{Perm}
-use Rattle.vm.specs.Dense.{IsOpenFrom, marks_at, read_at, read_below}
+use Rattle.vm.specs.Dense.{IsOpenFrom, marks_at, read_at, SameLeaves}
 use Rattle.vm.specs.Leaf.{entry_marks, is_open, right_marks, user_leaf}
 use Rattle.vm.proofs.LeafLemmas.{leaf-open, right-leaf}
 use Rattle.vm.proofs.PageLemmas.{get_or-mapping}
 
 -- pages whose leaves are read as before are as open as before
-pub open-read : (m k : List (List ℕ)) (r n first : ℕ) → ((read : ℕ → Perm) → read_below read k r n ≡ read_below read m r n) → IsOpenFrom m r n first → IsOpenFrom k r n first
+pub open-read : (m k : List (List ℕ)) (r n first : ℕ) → SameLeaves m k r n → IsOpenFrom m r n first → IsOpenFrom k r n first
 open-read m k r n first same is p high low =
     let d : Mapped = read_at right_marks m r p in
     let marks : (read : ℕ → Perm) → read (marks_at k r p) ≡ read (marks_at m r p) = λ (read : ℕ → Perm). ap (λ (e : Mapped). e.marks) (sym (get_or-mapping read k r n p d low) ∙ ap (λ (l : List Mapped). get_or l p d) (same read) ∙ get_or-mapping read m r n p d low) in
@@ -20,7 +20,7 @@ made-open : (leaf : ℕ) (g : Perm) → leaf ≡ user_leaf g true → is_open le
 made-open leaf g made = ap is_open made ∙ leaf-open g ∙ sym (ap (λ (l : ℕ). (right_marks l).writable) made ∙ ap (λ (a : Perm). a.writable) (right-leaf g true))
 
 -- one page more, which is open
-pub open-more : (m k : List (List ℕ)) (r n first : ℕ) (g : Perm) → ((read : ℕ → Perm) → read_below read k r n ≡ read_below read m r n) → marks_at k r n ≡ user_leaf g true → IsOpenFrom m r n first → IsOpenFrom k r (n + 1) first
+pub open-more : (m k : List (List ℕ)) (r n first : ℕ) (g : Perm) → SameLeaves m k r n → marks_at k r n ≡ user_leaf g true → IsOpenFrom m r n first → IsOpenFrom k r (n + 1) first
 open-more m k r n first g same made is p high low = elim (cases_eq p n) [
   | inl e ↦ made-open (marks_at k r p) g (ap (marks_at k r) e ∙ made)
   | inr ne ↦ open-read m k r n first same is p high (omega (arith, low, ne))

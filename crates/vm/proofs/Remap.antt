@@ -8,7 +8,7 @@ use Rattle.frames.specs.Free.{among, free_of, further_at, IsFreeList}
 use Rattle.frames.proofs.FreeLemmas.{among_first, among_first_not, free_of-same, further-free, IsFreeList-same}
 use Rattle.frames.specs.Holders.{one_if, count_of, holders_of, Trades}
 use Rattle.frames.proofs.HolderLemmas.{one_if-le, count_of-first, count_of-other, held-inside, not-free-held, holders-free, holders-table, free-holders, Trades-none, Trades-twice}
-use Rattle.pagetable.specs.Tree.{IsLeafMarks, Node, IsNode, mid_node, low_node, table_at, lookup_of, IsPaged, HasTable, Keeps, Inserts}
+use Rattle.pagetable.specs.Tree.{IsLeafMarks, Node, IsNode, mid_node, low_node, table_at, lookup_of, IsPaged, HasTable, Keeps, Maps, SameMap, SameTables}
 use Rattle.pagetable.proofs.TreeLemmas.{low_is_node, mid_is_node, free-first}
 use Rattle.pagetable.proofs.LookupLemmas.{lookup-sound}
 use Rattle.pagetable.proofs.Beside.{IsTree-same, table_at-same, lookup_of-same}
@@ -20,7 +20,7 @@ use Rattle.vm.proofs.GrowLemmas.{IsTidy-same, lookup-parts, frame_at-is, marks_a
 use Rattle.vm.specs.Leaf.{IsUserLeaf, right_marks, is_open, user_leaf}
 use Rattle.vm.proofs.LeafLemmas.{leaf-user, leaf-valid, right-leaf}
 use Rattle.vm.specs.declared.Space.{Space}
-use Rattle.vm.specs.Space.{pages_in, IsRearranged, IsSpace, Reframes, holds}
+use Rattle.vm.specs.Space.{pages_in, IsRearranged, IsSpace, Reframes, holds, HasRights}
 
 -- Page p, whose frame was f, has frame g and these marks now. Frame g is f, or was free and has f's bytes.
 pub record IsRemap (m z k : List (List ℕ)) (r p f g marks : ℕ) (s q : Frames) : Type 0 where
@@ -35,8 +35,8 @@ pub record IsRemap (m z k : List (List ℕ)) (r p f g marks : ℕ) (s q : Frames
   pub fewer : (v : ℕ) → further_at q v ≤ further_at s v
   pub leaf : IsUserLeaf marks
   pub sole : is_open marks ≡ true → further_at q g ≡ 0
-  pub inserts : Inserts (lookup_of z r) (lookup_of k r) p (g, marks)
-  pub tables : (x : Node) → IsNode x → table_at k r x ≡ table_at z r x
+  pub inserts : Maps z k r p g marks
+  pub tables : SameTables z k r
   pub tidy : IsTidy k r
   pub paged : IsPaged k r q
   pub keeps : Keeps z k r q q
@@ -51,7 +51,7 @@ table-stays m z k r t n p f g marks s q is e v h = e.rest v (held-some m r t n s
 pub remap-others : (m z k : List (List ℕ)) (r t n p f g marks : ℕ) (s q : Frames) → OwnsFrames m r t n s → IsRemap m z k r p f g marks s q → (j : ℕ) → j < 2 ^ 27 → j ≢ p → lookup_of k r j ≡ lookup_of m r j
 remap-others m z k r t n p f g marks s q is e j small ne = e.inserts.others j small ne ∙ lookup_of-same m z r (table-stays m z k r t n p f g marks s q is e) j
 
-remap-tables : (m z k : List (List ℕ)) (r t n p f g marks : ℕ) (s q : Frames) → OwnsFrames m r t n s → IsRemap m z k r p f g marks s q → (x : Node) → IsNode x → table_at k r x ≡ table_at m r x
+remap-tables : (m z k : List (List ℕ)) (r t n p f g marks : ℕ) (s q : Frames) → OwnsFrames m r t n s → IsRemap m z k r p f g marks s q → SameTables m k r
 remap-tables m z k r t n p f g marks s q is e x nx = e.tables x nx ∙ table_at-same m z r (table-stays m z k r t n p f g marks s q is e) x nx
 
 pub remap-dense : (m z k : List (List ℕ)) (r t n p f g marks : ℕ) (s q : Frames) → OwnsFrames m r t n s → p < n → IsRemap m z k r p f g marks s q → IsDense k r t n
@@ -228,7 +228,7 @@ reframed m z k x p f g marks s q is low e =
       trades = remap-trades m z k r t n p f g marks s q is low e;
     }
 
-pub rearranged : (m z k : List (List ℕ)) (x : Space) (p f g marks : ℕ) (s q : Frames) → IsSpace m x s → p < pages_in x.size → IsRemap m z k x.root.0 p f g marks s q → right_marks marks ≡ right_marks (marks_at m x.root.0 p) → IsRearranged m k x s q
+pub rearranged : (m z k : List (List ℕ)) (x : Space) (p f g marks : ℕ) (s q : Frames) → IsSpace m x s → p < pages_in x.size → IsRemap m z k x.root.0 p f g marks s q → HasRights m x p marks → IsRearranged m k x s q
 rearranged m z k x p f g marks s q is low e right = record {
   frames = reframed m z k x p f g marks s q is low e;
   pages = remap-pages m z k x.root.0 x.trap.0 (pages_in x.size) p f g marks s q is low e right;
@@ -245,7 +245,7 @@ reframes-twice m k l x s q w a b = record { space = b.space; registers = b.regis
 -- ---- other marks for the same frame
 
 pub remap-marks : (m k : List (List ℕ)) (r t n p f marks : ℕ) (s : Frames) → OwnsFrames m r t n s → p < n → frame_at m r p ≡ f → IsUserLeaf marks → (is_open marks ≡ true → further_at s f ≡ 0)
-    → Inserts (lookup_of m r) (lookup_of k r) p (f, marks) → ((x : Node) → IsNode x → table_at k r x ≡ table_at m r x) → IsTidy k r → IsPaged k r s → Keeps m k r s s → free_of k s ≡ free_of m s
+    → Maps m k r p f marks → SameTables m k r → IsTidy k r → IsPaged k r s → Keeps m k r s s → free_of k s ≡ free_of m s
     → IsRemap m m k r p f f marks s s
 remap-marks m k r t n p f marks s is low was leaf sole inserts tables tidy paged keeps free = record {
   was = was;
@@ -301,7 +301,7 @@ split-apart m z s q f g is e v some =
     ap (among v) (split-free m z s q f g is e).0 ∙ (among_first_not v g (free_of m q) (sym (ap (among v) e.taken) ∙ (held-inside m s v is some).1)).1
 
 -- the tables may be written then
-pub split-paged : (m z : List (List ℕ)) (r t n : ℕ) (s q : Frames) (f g : ℕ) → OwnsFrames m r t n s → IsSplit m z s q f g → IsPaged z r q × IsTidy z r × ((p : ℕ) → lookup_of z r p ≡ lookup_of m r p)
+pub split-paged : (m z : List (List ℕ)) (r t n : ℕ) (s q : Frames) (f g : ℕ) → OwnsFrames m r t n s → IsSplit m z s q f g → IsPaged z r q × IsTidy z r × SameMap m z r
 split-paged m z r t n s q f g is e =
     let some : (v : ℕ) → HasTable m r v → 0 < count_of v (tables_below m r n) = λ (v : ℕ) (h : HasTable m r v). table-held m r t n v is.dense h in
     let same : (v : ℕ) → HasTable m r v → frame_of z v ≡ frame_of m v = λ (v : ℕ) (h : HasTable m r v). split-rest m z s q f g is.free e v (held-some m r t n s is v (omega (arith, some v h, count-held m r t n v))) in
@@ -321,7 +321,7 @@ pub split-sole : (m z : List (List ℕ)) (s q : Frames) (f g : ℕ) → IsFreeLi
 split-sole m z s q f g is e = omega (arith, split-fewer m z s q f g is e g, further-free m s g is (ap (among g) e.taken ∙ among_first g (free_of m q)))
 
 pub remap-split : (m z k : List (List ℕ)) (r t n p f g marks : ℕ) (s q : Frames) → OwnsFrames m r t n s → p < n → IsSplit m z s q f g → frame_at m r p ≡ f → IsUserLeaf marks
-    → Inserts (lookup_of z r) (lookup_of k r) p (g, marks) → ((x : Node) → IsNode x → table_at k r x ≡ table_at z r x) → IsTidy k r → IsPaged k r q → Keeps z k r q q → free_of k q ≡ free_of z q
+    → Maps z k r p g marks → SameTables z k r → IsTidy k r → IsPaged k r q → Keeps z k r q q → free_of k q ≡ free_of z q
     → IsRemap m z k r p f g marks s q
 remap-split m z k r t n p f g marks s q is low e was leaf inserts tables tidy paged keeps free =
     let first = free-first m s g (free_of m q) is.free e.taken in

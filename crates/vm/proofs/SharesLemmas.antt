@@ -6,7 +6,7 @@ use Rattle.std.proofs.lemmas.List.{set-get_or}
 use Rattle.std.proofs.lemmas.List.Sums.{sum_by-cons}
 use Rattle.ram.specs.Memory.{frame_of}
 use Rattle.frames.specs.declared.Frames.{Frames}
-use Rattle.frames.specs.Free.{among, free_of, free_count, further_at, IsFreeList}
+use Rattle.frames.specs.Free.{among, free_of, further_at, IsFreeList}
 use Rattle.frames.proofs.FreeLemmas.{free_of-same, IsFreeList-same}
 use Rattle.frames.specs.Holders.{one_if, count_of, holders_of, IsShared, Trades}
 use Rattle.frames.proofs.HolderLemmas.{count_of-append, count_of-first, holders-free, held-inside, one-holder, single, IsShared-trade, shared-count}
@@ -15,7 +15,7 @@ use Rattle.vm.specs.Dense.{frames_for}
 use Rattle.vm.proofs.DenseLemmas.{length-held}
 use Rattle.vm.specs.Space.{IsSpace, holds, pages_in, IsUntouched}
 use Rattle.vm.proofs.Beside.{alone-stays, Trades-untouched, Trades-space}
-use Rattle.vm.specs.Shares.{held_at, all_held, IsPlace, IsMachine, frames_used, frames_of, OthersUntouched, AllUntouched}
+use Rattle.vm.specs.Shares.{held_at, all_held, IsPlace, IsMachine, frames_used, FreeAreTheRest, NewSpaceSettles, OnePlaceForks, OnePlaceSpares, OnePlaceSparesOthers, OnePlaceTrades, OthersSpare, OthersTrade}
 
 -- ---- counts in a list of places
 
@@ -65,7 +65,7 @@ room-of m s places others i j x is ne e f =
     omega (arith, is.shared.each f, count_of-append f (flat_map (held_at m) places) others, two-places (held_at m) f places i j refl ne, ap (λ o. count_of f (held_at m o)) e)
 
 -- what one place trades leaves the others as they were
-pub trade-others : (m k : List (List ℕ)) (s n : Frames) (places : List (Option Space)) (others new : List ℕ) (i : ℕ) → IsMachine m s places others → Trades m k s n (held_at m (get_or places i None)) new → OthersUntouched m k places i
+pub trade-others : OnePlaceSpares
 trade-others m k s n places others new i is t j x ne e = Trades-untouched m k s n (held_at m (get_or places i None)) new x (is.each j x e) (room-of m s places others i j x is ne e) t
 
 same-held : (m k : List (List ℕ)) (o : Option Space) → ((x : Space) → o ≡ Some x → IsUntouched m k x) → held_at k o ≡ held_at m o
@@ -81,8 +81,7 @@ place-space k None n x h e = absurd cc
 place-space k (Some z) n x h e = let same : z ≡ x = cc in rw (← same) h
 
 -- the machine stays one where one place trades: a space that grows or shrinks, is written, comes, goes or is replaced
-pub trade-machine : (m k : List (List ℕ)) (s n : Frames) (places : List (Option Space)) (others : List ℕ) (i : ℕ) (y : Option Space) → IsMachine m s places others → i < length places → IsPlace k y n
-    → Trades m k s n (held_at m (get_or places i None)) (held_at k y) → IsMachine k n (slice_set places i y) others
+pub trade-machine : OnePlaceTrades
 trade-machine m k s n places others i y is hi new t =
     let stay = trade-others m k s n places others (held_at k y) i is t in
     record {
@@ -107,8 +106,7 @@ trade-machine m k s n places others i y is hi new t =
     }
 
 -- the machine stays one where a space shares its frames with a new one, which gets a place that had none
-pub fork-machine : (m k : List (List ℕ)) (s n : Frames) (places : List (Option Space)) (others : List ℕ) (i j : ℕ) (x c : Space) → IsMachine m s places others → get_or places i None ≡ Some x → j < length places → get_or places j None ≡ None → IsSpace k x n → IsSpace k c n
-    → Trades m k s n (holds m x) (holds k x ++ holds k c) → IsMachine k n (slice_set places j (Some c)) others
+pub fork-machine : OnePlaceForks
 fork-machine m k s n places others i j x c is at hi none parent child t =
     let first : Trades m k s n (held_at m (get_or places i None)) (holds k x ++ holds k c) = rw at t in
     let stay = trade-others m k s n places others (holds k x ++ holds k c) i is first in
@@ -148,7 +146,7 @@ fork-machine m k s n places others i j x c is at hi none parent child t =
     }
 
 -- the other frames keep their bytes then
-pub trade-rest : (m k : List (List ℕ)) (s n : Frames) (places : List (Option Space)) (others new : List ℕ) (i f : ℕ) → IsMachine m s places others → Trades m k s n (held_at m (get_or places i None)) new → 0 < count_of f others → frame_of k f ≡ frame_of m f
+pub trade-rest : OnePlaceSparesOthers
 trade-rest m k s n places others new i f is t some =
     t.others f (omega (arith, some, is.shared.each f, count_of-append f (flat_map (held_at m) places) others, one-place (held_at m) f places i refl))
 
@@ -160,7 +158,7 @@ beside-rest m s places others old j x is low e f =
     omega (arith, low f, is.shared.each f, count_of-append f (flat_map (held_at m) places) others, one-place (held_at m) f places j refl, ap (λ o. count_of f (held_at m o)) e)
 
 -- all spaces are as they were where other frames come, go or are written
-pub rest-untouched : (m k : List (List ℕ)) (s n : Frames) (places : List (Option Space)) (others old new : List ℕ) → IsMachine m s places others → ((f : ℕ) → count_of f old ≤ count_of f others) → Trades m k s n old new → AllUntouched m k places
+pub rest-untouched : OthersSpare
 rest-untouched m k s n places others old new is low t j x e = Trades-untouched m k s n old new x (is.each j x e) (beside-rest m s places others old j x is low e) t
 
 -- what is of the others then, they alone hold
@@ -181,8 +179,7 @@ rest-alone m k s n places others after old new is free low t once moved f some =
           ]
     ])
 
-pub rest-machine : (m k : List (List ℕ)) (s n : Frames) (places : List (Option Space)) (others after old new : List ℕ) → IsMachine m s places others → IsFreeList k n → ((f : ℕ) → count_of f old ≤ count_of f others)
-    → Trades m k s n old new → ((f : ℕ) → count_of f new ≤ 1) → ((f : ℕ) → count_of f after + count_of f old ≡ count_of f others + count_of f new) → IsMachine k n places after
+pub rest-machine : OthersTrade
 rest-machine m k s n places others after old new is free low t once moved =
     let stay = rest-untouched m k s n places others old new is low t in
     record {
@@ -223,8 +220,7 @@ rest-held m s places others f is some = omega (arith, some, is.shared.each f, co
 -- ---- a space is made beside the others, and gets a place
 
 -- and then it gets a place that has none
-pub settle-machine : (m : List (List ℕ)) (s : Frames) (places : List (Option Space)) (others : List ℕ) (i : ℕ) (y : Space) → IsMachine m s places (others ++ holds m y) → i < length places → get_or places i None ≡ None → IsSpace m y s
-    → IsMachine m s (slice_set places i (Some y)) others
+pub settle-machine : NewSpaceSettles
 settle-machine m s places others i y is hi none new = record {
   free = is.free;
   each = λ j x e. elim (cases_eq j i) [
@@ -257,7 +253,7 @@ length-all m (Some x ∷ xs) =
     ∙ sym (sum_by-cons frames_used (Some x) xs)
 
 -- what is free is what the counts leave
-pub free-left : (m : List (List ℕ)) (s : Frames) (places : List (Option Space)) (others : List ℕ) → IsMachine m s places others → free_count m s + frames_of places others ≡ length m
+pub free-left : FreeAreTheRest
 free-left m s places others is =
     omega (arith, shared-count m s (all_held m places others) is.free is.shared, length-append (flat_map (held_at m) places) others, length-all m places)
 

@@ -7,7 +7,7 @@ use Rattle.frames.specs.Free.{among, free_of, extra_of, IsFreeList}
 use Rattle.frames.proofs.FreeLemmas.{free_of-same, IsFreeList-same}
 use Rattle.frames.specs.Holders.{count_of, holders_of}
 use Rattle.frames.proofs.HolderLemmas.{among-none, none-among, held-inside, one-holder, distinct-count}
-use Rattle.pagetable.specs.Tree.{lookup_of, IsPaged, HasTable, Keeps, Inserts}
+use Rattle.pagetable.specs.Tree.{lookup_of, IsPaged, HasTable, Keeps, Maps}
 use Rattle.pagetable.proofs.TreeLemmas.{free-first}
 use Rattle.pagetable.specs.Shape.{IsTidy, Adds}
 use Rattle.vm.specs.Dense.{frame_at, marks_at, page_at, page_with, read_at, read_by, read_below, pages_below, tables_below, held, OwnsFrames}
@@ -50,7 +50,7 @@ free-after m z s q f is k =
 -- the page has come
 pub record IsNext (z k : List (List ℕ)) (r n f marks : ℕ) (q w : Frames) : Type 0 where
   pub leaf : IsUserLeaf marks
-  pub inserts : Inserts (lookup_of z r) (lookup_of k r) n (f, marks)
+  pub inserts : Maps z k r n f marks
   pub adds : Adds z k r n q w
   pub tidy : IsTidy k r
   pub paged : IsPaged k r w

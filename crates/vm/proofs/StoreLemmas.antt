@@ -11,9 +11,9 @@ use Rattle.frames.proofs.HolderLemmas.{among-none, count_of-first, holders-free,
 use Rattle.pagetable.specs.Tree.{HasTable}
 use Rattle.pagetable.proofs.Beside.{table_at-same, lookup_of-same}
 use Rattle.pagetable.proofs.LookupLemmas.{lookup-sound}
-use Rattle.unixmodel.specs.Memory.{Page, Perm}
+use Rattle.unixmodel.specs.Memory.{Page}
 use Rattle.vm.specs.declared.Space.{Space}
-use Rattle.vm.specs.Dense.{frame_at, marks_at, page_at, page_with, pages_below, frames_below, read_below, tables_below, held, IsDense, OwnsFrames}
+use Rattle.vm.specs.Dense.{frame_at, marks_at, page_at, page_with, pages_below, frames_below, tables_below, held, IsDense, OwnsFrames, SameLeaves}
 use Rattle.vm.proofs.DenseLemmas.{count-held, page-held, pages-apart, table-held}
 use Rattle.vm.proofs.GrowLemmas.{IsDense-same, held-same, frame_at-same, marks_at-same}
 use Rattle.vm.proofs.PageLemmas.{length-pages, get_or-pages}
@@ -71,7 +71,7 @@ space-stays m k r t n s is w private =
     )
 
 -- the leaves of its pages are read as before
-pub reads-stay : (m k : List (List ℕ)) (r t n : ℕ) → IsDense m r t n → ((f : ℕ) → count_of f (held m r t n) ≤ 1) → Writes m k r t n → (read : ℕ → Perm) → read_below read k r n ≡ read_below read m r n
+pub reads-stay : (m k : List (List ℕ)) (r t n : ℕ) → IsDense m r t n → ((f : ℕ) → count_of f (held m r t n) ≤ 1) → Writes m k r t n → SameLeaves m k r n
 reads-stay m k r t n is once w read = read_below-same read m k r n (λ p h. lookup_of-same m k r (tables-stay m k r t n is once w) p)
 
 -- the space stands where only its pages and its trap frame are written, and those alone that it alone holds

@@ -9,8 +9,7 @@ use Rattle.frames.specs.Holders.{count_of, holders_of, Trades}
 use Rattle.frames.proofs.HolderLemmas.{count_of-append, count_of-other, free-holders, holders-table, Trades-lengths, Trades-twice}
 use Rattle.pagetable.specs.Tree.{missing}
 use Rattle.pagetable.proofs.TreeLemmas.{further-same}
-use Rattle.unixmodel.specs.Memory.{Perm}
-use Rattle.vm.specs.Dense.{page_with, read_below, pages_below, held, frames_for, OwnsFrames}
+use Rattle.vm.specs.Dense.{page_with, pages_below, held, frames_for, OwnsFrames, SameLeavesUpTo}
 use Rattle.vm.proofs.DenseLemmas.{length-held}
 use Rattle.vm.proofs.StepLemmas.{IsTaken, IsNext, free-after, read_below-same}
 use Rattle.vm.proofs.Added.{IsBefore, next-fits, next-held, next-pages, next-trades, next-trap}
@@ -57,7 +56,7 @@ taken-fits m z r t n f s q is k small room =
 pub record IsGrown (m k : List (List ℕ)) (r t n marks : ℕ) (bytes : List ℕ) (s w : Frames) : Type 0 where
   pub space : OwnsFrames k r t (n + 1) w
   pub pages : pages_below k r (n + 1) ≡ pages_below m r n ++ (page_with bytes marks ∷ [])
-  pub mapping : (read : ℕ → Perm) (b : ℕ) → b ≤ n → read_below read k r b ≡ read_below read m r b
+  pub mapping : SameLeavesUpTo m k r n
   pub trap : frame_of k t ≡ frame_of m t
   pub trades : Trades m k s w (held m r t n) (held k r t (n + 1))
   pub room : frames_for (n + 1) + free_count k w ≡ frames_for n + free_count m s

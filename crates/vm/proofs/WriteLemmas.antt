@@ -4,12 +4,12 @@ use Rattle.std.specs.Prelude.{slice_get}
 use Rattle.std.proofs.lemmas.Bool.{cases_lt}
 use Rattle.std.proofs.Math.Seq.{take-suc-set}
 use Rattle.std.proofs.lemmas.List.{drop_all, drop-set-lt, take_all, take-append-drop}
-use Rattle.unixmodel.specs.Memory.{Page, Perm, Memory, overwrite, write_from, write_bytes}
+use Rattle.unixmodel.specs.Memory.{Page, Memory, overwrite, write_from, write_bytes}
 use Rattle.frames.specs.declared.Frames.{Frames}
 use Rattle.frames.specs.Free.{further_at}
 use Rattle.ram.specs.Memory.{frame_of, put, put_bytes}
 use Rattle.vm.specs.declared.Space.{Space}
-use Rattle.vm.specs.Dense.{frame_at, marks_at, page_at, page_with, read_below}
+use Rattle.vm.specs.Dense.{frame_at, marks_at, page_at, page_with, SameLeaves}
 use Rattle.vm.specs.Reach.{written}
 use Rattle.vm.proofs.ReachLemmas.{item-at}
 use Rattle.vm.specs.Space.{pages_in, IsMapped, IsOnce, IsSpace, pages_of, Reframes}
@@ -76,7 +76,7 @@ put-reframes m k s q p at bs is low sole e =
     record { space = both.0; registers = rw e (get_or-set_other m f s.trap.0 w [] (trap-apart m r s.trap.0 n p is.once low)); trades = both.1 }
 
 -- the leaves are read as before
-pub put-reads : (m k : List (List ℕ)) (s : Space) (p at : ℕ) (bs : List ℕ) → IsMapped m s → IsOnce m s → p < pages_in s.size → k ≡ put m (frame_at m s.root.0 p) at bs → (read : ℕ → Perm) → read_below read k s.root.0 (pages_in s.size) ≡ read_below read m s.root.0 (pages_in s.size)
+pub put-reads : (m k : List (List ℕ)) (s : Space) (p at : ℕ) (bs : List ℕ) → IsMapped m s → IsOnce m s → p < pages_in s.size → k ≡ put m (frame_at m s.root.0 p) at bs → SameLeaves m k s.root.0 (pages_in s.size)
 unfolding put
 put-reads m k s p at bs is once low e = reads-stay m k s.root.0 s.trap.0 (pages_in s.size) is once (Writes-page m k s.root.0 s.trap.0 (pages_in s.size) p (put_bytes (frame_of m (frame_at m s.root.0 p)) at bs) low e)
 

@@ -1,5 +1,5 @@
 -- Address spaces, read off a memory.
-use Rattle.std.specs.Prelude.{◌≡◌, ◌≢◌, ◌==◌, ◌<◌, ◌≤◌, ℕ, zero, suc, ◌+◌, ◌/◌, ◌%◌, ◌^◌, if◌then◌else◌, nat_lt, true, List, [], ◌∷◌, ◌++◌, Some, None, unwrap_or}
+use Rattle.std.specs.Prelude.{◌≡◌, ◌≢◌, ◌==◌, ◌<◌, ◌≤◌, ℕ, zero, suc, ◌+◌, ◌/◌, ◌%◌, ◌^◌, if◌then◌else◌, nat_lt, true, List, [], ◌∷◌, ◌++◌, Some, None, replicate, unwrap_or}
 use Rattle.ram.specs.Memory.{frame_of}
 use Rattle.frames.specs.declared.Frames.{Frames}
 use Rattle.frames.specs.Free.{further_at, IsFreeList}
@@ -37,6 +37,10 @@ read_at read m r p = read_by read (frame_at m r p, marks_at m r p)
 abbrev pub page_with : List ℕ → ℕ → Page
 page_with bytes leaf = record { bytes = bytes; marks = right_marks leaf }
 
+-- a page of zeros with the marks of this leaf
+abbrev pub blank_page : ℕ → Page
+blank_page leaf = page_with (replicate 4096 0) leaf
+
 -- the bytes of a page, and what a program may do there by right
 abbrev pub page_at : List (List ℕ) → ℕ → ℕ → Page
 page_at m r p = page_with (frame_of m (frame_at m r p)) (marks_at m r p)
@@ -45,6 +49,14 @@ page_at m r p = page_with (frame_of m (frame_at m r p)) (marks_at m r p)
 unfoldable pub read_below : (ℕ → Perm) → List (List ℕ) → ℕ → ℕ → List Mapped
 read_below read m r zero = []
 read_below read m r (suc n) = read_below read m r n ++ (read_at read m r n ∷ [])
+
+-- the pages below n have the frames and the marks that they had, however marks are read
+abbrev pub SameLeaves : List (List ℕ) → List (List ℕ) → ℕ → ℕ → Type 0
+SameLeaves m k r n = (read : ℕ → Perm) → read_below read k r n ≡ read_below read m r n
+
+-- and so have those below each number up to n
+abbrev pub SameLeavesUpTo : List (List ℕ) → List (List ℕ) → ℕ → ℕ → Type 0
+SameLeavesUpTo m k r n = (read : ℕ → Perm) (b : ℕ) → b ≤ n → read_below read k r b ≡ read_below read m r b
 
 -- the mapping of the pages below n, by right
 abbrev pub mapping_below : List (List ℕ) → ℕ → ℕ → List Mapped

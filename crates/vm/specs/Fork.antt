@@ -1,31 +1,31 @@
 -- A space that is made of another one, whose frames it shares.
-use Rattle.std.specs.Prelude.{◌≡◌, ◌≢◌, ◌<◌, ◌≤◌, ◌+◌, ℕ, suc, List, ◌∷◌, [], ◌++◌}
+use Rattle.std.specs.Prelude.{◌≡◌, ◌<◌, ◌≤◌, ◌+◌, ℕ, suc, List, ◌∷◌, [], ◌++◌}
 use Rattle.ram.specs.Memory.{frame_of}
 use Rattle.frames.specs.declared.Frames.{Frames}
 use Rattle.frames.specs.Free.{free_count}
 use Rattle.frames.specs.Holders.{count_of, holders_of, Trades}
 use Rattle.vm.specs.declared.Space.{Space}
-use Rattle.vm.specs.Dense.{OwnsFrames, frame_at, frames_for, held, page_at, pages_below}
-use Rattle.vm.specs.Space.{IsSpace, holds, pages_in, registers_of}
+use Rattle.vm.specs.Dense.{OwnsFrames, frame_at, frames_for, page_at}
+use Rattle.vm.specs.Space.{HasFramesOf, IsSpace, SameOtherPages, first_pages, held_by, holds, pages_in, registers_of}
 use Rattle.unixmodel.specs.Memory.{shared_memory, shared_page}
 
 -- a space and one that is made, which shares its first n pages
 pub record IsPart (m : List (List ℕ)) (x c : Space) (n : ℕ) (s : Frames) : Type 0 where
   pub parent : IsSpace m x s
   pub child : OwnsFrames m c.root.0 c.trap.0 n s
-  pub room : (v : ℕ) → count_of v (holds m x) + count_of v (held m c.root.0 c.trap.0 n) ≤ holders_of m s v
+  pub room : (v : ℕ) → count_of v (holds m x) + count_of v (held_by m c n) ≤ holders_of m s v
   pub shared : (p : ℕ) → p < n → frame_at m c.root.0 p ≡ frame_at m x.root.0 p
 
 -- one page more
 pub record IsMore (m k : List (List ℕ)) (x c : Space) (n : ℕ) (s w : Frames) : Type 0 where
   pub part : IsPart k x c (suc n) w
   pub marked : page_at k x.root.0 n ≡ shared_page (page_at m x.root.0 n)
-  pub pages : (p : ℕ) → p < pages_in x.size → p ≢ n → page_at k x.root.0 p ≡ page_at m x.root.0 p
+  pub pages : SameOtherPages m k x n
   pub registers : registers_of k x ≡ registers_of m x
-  pub frames : (p : ℕ) → p < pages_in x.size → frame_at k x.root.0 p ≡ frame_at m x.root.0 p
-  pub child : pages_below k c.root.0 (suc n) ≡ pages_below m c.root.0 n ++ (shared_page (page_at m x.root.0 n) ∷ [])
+  pub frames : HasFramesOf m k x x
+  pub child : first_pages k c (suc n) ≡ first_pages m c n ++ (shared_page (page_at m x.root.0 n) ∷ [])
   pub trap : frame_of k c.trap.0 ≡ frame_of m c.trap.0
-  pub trades : Trades m k s w (holds m x ++ held m c.root.0 c.trap.0 n) (holds k x ++ held k c.root.0 c.trap.0 (suc n))
+  pub trades : Trades m k s w (holds m x ++ held_by m c n) (holds k x ++ held_by k c (suc n))
   pub free : frames_for (suc n) + free_count k w ≡ frames_for n + free_count m s
 
 -- the first n pages are shared
@@ -34,8 +34,8 @@ pub record IsSoFar (m k : List (List ℕ)) (x c : Space) (n : ℕ) (s w : Frames
   pub marked : (p : ℕ) → p < n → page_at k x.root.0 p ≡ shared_page (page_at m x.root.0 p)
   pub pages : (p : ℕ) → n ≤ p → p < pages_in x.size → page_at k x.root.0 p ≡ page_at m x.root.0 p
   pub registers : registers_of k x ≡ registers_of m x
-  pub frames : (p : ℕ) → p < pages_in x.size → frame_at k x.root.0 p ≡ frame_at m x.root.0 p
-  pub child : pages_below k c.root.0 n ≡ shared_memory (pages_below m x.root.0 n)
+  pub frames : HasFramesOf m k x x
+  pub child : first_pages k c n ≡ shared_memory (first_pages m x n)
   pub trap : frame_of k c.trap.0 ≡ frame_of m c.trap.0
-  pub trades : Trades m k s w (holds m x ++ held m c.root.0 c.trap.0 0) (holds k x ++ held k c.root.0 c.trap.0 n)
+  pub trades : Trades m k s w (holds m x ++ held_by m c 0) (holds k x ++ held_by k c n)
   pub free : frames_for n + free_count k w ≡ frames_for 0 + free_count m s

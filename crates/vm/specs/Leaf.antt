@@ -1,9 +1,10 @@
 -- The marks of programs' pages, as leaves of the tables hold them.
-use Rattle.std.specs.Prelude.{◌≡◌, ◌&&◌, ◌||◌, ◌*◌, ◌+◌, ℕ, Bool, false, not}
+use Rattle.std.specs.Prelude.{◌≡◌, ◌&&◌, ◌||◌, ◌*◌, ◌+◌, ℕ, Bool, List, false, not}
+use Rattle.std.specs.Borrow.{Bor}
 use Rattle.frames.specs.Holders.{one_if}
 use Rattle.sv39.specs.Entry.{has}
 use Rattle.sv39.specs.Mapping.{Mapped}
-use Rattle.unixmodel.specs.Memory.{Perm as Rights}
+use Rattle.unixmodel.specs.Memory.{Page, Perm as Rights}
 use Rattle.vm.specs.declared.Marks.{Marks}
 use Rattle.vm.specs.declared.Perm.{Perm}
 
@@ -32,6 +33,10 @@ IsUserLeaf leaf = leaf ≡ user_leaf (right_marks leaf) (is_open leaf)
 -- the marks that a caller gives
 abbrev pub marks_from : Perm → Rights
 marks_from p = record { writable = p.w; executable = p.x; user = p.u; shared = false }
+
+-- the page that a caller is told of, by its bytes and its marks
+abbrev pub page_from : Bor (List ℕ) × Perm → Page
+page_from told = record { bytes = told.0.now; marks = marks_from told.1 }
 
 -- those that the kernel keeps
 abbrev pub rights_from : Marks → Rights

@@ -1,5 +1,5 @@
 -- What a program's memory shows from an address on.
-use Rattle.std.specs.Prelude.{◌≡◌, ℕ, ◌%◌, List, [], drop, length, Option, Some, None, slice_get, if◌then◌else◌, nat_le}
+use Rattle.std.specs.Prelude.{◌≡◌, ℕ, ◌%◌, List, [], drop, length, Option, Some, None, option_map, slice_get, take, if◌then◌else◌, nat_le}
 use Rattle.std.specs.List.{prefix_len}
 use Rattle.unixmodel.specs.declared.trap.Access.{Access}
 use Rattle.unixmodel.specs.Memory.{Page, Memory, permits, page_for, overwrite}
@@ -23,6 +23,10 @@ piece_at access mem address = rest_of (address % 4096) (page_for access mem addr
 -- a page with these bytes in place
 abbrev pub written : Page → ℕ → List ℕ → Page
 written p at new = record p { bytes = overwrite p.bytes at new }
+
+-- the string in a buffer, where its length is told
+abbrev pub string_in : List ℕ → Option ℕ → Option (List ℕ)
+string_in buffer told = option_map (λ n. take n buffer) told
 
 -- a string, where it has so many bytes at most
 abbrev pub short_string : ℕ → Option (List ℕ) → Option (List ℕ)

@@ -1,13 +1,13 @@
 //! What the kernel reads and writes of a program's memory: any bytes that the program itself could.
 
-ghost use Rattle.std.specs.Prelude.{◌≡◌, ◌≢◌, ℕ, ◌+◌, ◌-◌, ◌*◌, ◌/◌, ◌%◌, ◌^◌, ◌<◌, ◌≤◌, List, [], ◌∷◌, ◌++◌, length, min, take, drop, nat_le, option_map, slice_get, None, Some, false, OnOk, OnErr, IfSome, IsTrue, IsErrOf, ◌↔◌, ◌⊎◌};
+ghost use Rattle.std.specs.Prelude.{◌≡◌, ◌≢◌, ℕ, ◌+◌, ◌-◌, ◌*◌, ◌/◌, ◌%◌, ◌^◌, ◌<◌, ◌≤◌, List, [], ◌∷◌, ◌++◌, length, min, drop, nat_le, option_map, slice_get, None, Some, false, OnOk, OnErr, IfSome, IsTrue, IsErrOf, ◌↔◌, ◌⊎◌};
 ghost use Rattle.ram.specs.Memory.{frame_of, put};
-ghost use Rattle.sv39.specs.Mapping.{Mapped, WalksTo};
+ghost use Rattle.sv39.specs.Mapping.{AreApart, AreInside, WalksTo};
 ghost use Rattle.unixmodel.specs.declared.trap.Access.TheVariants.{Load, Store};
-ghost use Rattle.unixmodel.specs.Memory.{permits, reach, can_write, read_bytes, string_at, write_bytes};
+ghost use Rattle.unixmodel.specs.Memory.{permits, reach, can_write, read_bytes, string_at};
 ghost use Rattle.vm.specs.Leaf.{rights_from, mapped_as, right_marks};
-ghost use Rattle.vm.specs.Reach.{run_of, piece_at, short_string};
-ghost use Rattle.vm.specs.Space.{pages_in, IsMapped, IsOnce, IsSpace, entries_of, mapping_of, pages_of, Reframes, StaysOpen};
+ghost use Rattle.vm.specs.Reach.{run_of, piece_at, short_string, string_in};
+ghost use Rattle.vm.specs.Space.{pages_in, IsMapped, IsOnce, IsSpace, entries_of, mapping_of, pages_of, Reframes, StaysOpen, stored};
 
 use crate::{Marks, Perm, RIGHT, SHARED, Space, VmFault, pages_in};
 use bitflags::Flags;
@@ -69,8 +69,8 @@ impl Space {
         requires { IsMapped ram.now self.now }
         ensures entries { WalksTo ram.now self.now.root.0 (entries_of ram.now self.now) }
         ensures root { self.now.root.0 < length ram.now }
-        ensures inside { (page : ℕ) (e : Mapped) → slice_get (entries_of ram.now self.now) page ≡ Some e → e.frame < length ram.now }
-        ensures apart { IsOnce ram.now self.now → (p q : ℕ) (e d : Mapped) → slice_get (mapping_of ram.now self.now) p ≡ Some e → slice_get (mapping_of ram.now self.now) q ≡ Some d → e.frame ≡ d.frame → p ≡ q }
+        ensures inside { AreInside ram.now (entries_of ram.now self.now) }
+        ensures apart { IsOnce ram.now self.now → AreApart (mapping_of ram.now self.now) }
     {
         ram.frames_are_whole();
     }
@@ -189,7 +189,7 @@ impl Space {
     /// 0, without it. `None` where a program may not read them and the 0, or the buffer is too short.
     pub fn copy_string(&self, ram: &Ram, address: u64, buffer: &mut [u8]) -> Option<usize>
         requires { IsMapped ram.now self.now }
-        ensures string { option_map (λ n. take n buffer.new) result ≡ short_string (length buffer.old) (string_at (pages_of ram.now self.now) address) }
+        ensures string { string_in buffer.new result ≡ short_string (length buffer.old) (string_at (pages_of ram.now self.now) address) }
         ensures within { IfSome result (λ n. n ≤ length buffer.old) }
     {
         ram.frames_are_whole();
@@ -212,7 +212,7 @@ impl Space {
         requires page { address / 4096 < pages_in self.now.size }
         requires some { 0 < length bytes.now }
         ensures count { result ≡ min (4096 - address % 4096) (length bytes.now) }
-        ensures rest { write_bytes (pages_of ram.new self.now) (address + result) (drop result bytes.now) ≡ write_bytes (pages_of ram.old self.now) address bytes.now }
+        ensures rest { stored ram.new self.now (address + result) (drop result bytes.now) ≡ stored ram.old self.now address bytes.now }
         ensures frames { Reframes ram.old ram.new self.now frames.old frames.new }
         ensures opens { StaysOpen ram.old ram.new self.now self.now }
     {
@@ -229,7 +229,7 @@ impl Space {
     pub fn fill(&self, ram: &mut Ram, frames: &mut Frames, address: u64, bytes: &[u8])
         requires space { IsSpace ram.old self.now frames.old }
         requires inside { (i : ℕ) → i < length bytes.now → (address + i) / 4096 < pages_in self.now.size }
-        ensures written { pages_of ram.new self.now ≡ write_bytes (pages_of ram.old self.now) address bytes.now }
+        ensures written { pages_of ram.new self.now ≡ stored ram.old self.now address bytes.now }
         ensures frames { Reframes ram.old ram.new self.now frames.old frames.new }
         ensures opens { StaysOpen ram.old ram.new self.now self.now }
     {
@@ -250,7 +250,7 @@ impl Space {
         bytes: &[u8],
     ) -> Result<(), VmFault>
         requires { IsSpace ram.old self.now frames.old }
-        ensures written { OnOk result (pages_of ram.new self.now ≡ write_bytes (pages_of ram.old self.now) address bytes.now) }
+        ensures written { OnOk result (pages_of ram.new self.now ≡ stored ram.old self.now address bytes.now) }
         ensures bad { IsErrOf result VmFault.BadAddress ↔ can_write (pages_of ram.old self.now) address (length bytes.now) ≡ false }
         ensures only { OnErr result (IsErrOf result VmFault.BadAddress) }
         ensures unchanged { OnErr result ((ram.new ≡ ram.old) × (frames.new ≡ frames.old)) }

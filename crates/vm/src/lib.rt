@@ -13,13 +13,12 @@
 ghost use Rattle.std.specs.Prelude.{◌≡◌, ◌≢◌, ℕ, ◌+◌, ◌-◌, ◌*◌, ◌/◌, ◌%◌, ◌^◌, ◌<◌, ◌≤◌, List, [], ◌∷◌, ◌++◌, length, take, replicate, None, Some, true, false, OnOk, OnErr, IsErrOf, IsTrue, ◌↔◌, ◌⊎◌};
 ghost use Rattle.ram.specs.Memory.{frame_of};
 ghost use Rattle.frames.specs.Free.{among, free_of, free_count, IsFreeList};
-ghost use Rattle.frames.specs.Holders.{Trades, holders_of, one_if};
+ghost use Rattle.frames.specs.Holders.{Trades, one_if};
 ghost use Rattle.pagetable.specs.Tree.{IsLeafMarks};
-ghost use Rattle.vm.specs.Dense.{IsDense, OwnsFrames, frame_at, frames_for, held, marks_at, page_with, pages_below, read_below};
-ghost use Rattle.unixmodel.specs.Memory.{Perm as Rights, shared_marks, shared_memory};
+ghost use Rattle.vm.specs.Dense.{IsDense, OwnsFrames, frames_for, marks_at, SameLeaves, SameLeavesUpTo, blank_page};
+ghost use Rattle.unixmodel.specs.Memory.{shared_marks, shared_memory};
 ghost use Rattle.vm.specs.Leaf.{marks_from, rights_from, user_leaf, IsUserLeaf};
-ghost use Rattle.vm.specs.Space.{pages_in, max_size, IsSpace, entries_of, mapping_of, pages_of, registers_of, holds, StaysOpen};
-ghost use Rattle.unixmodel.specs.Memory.{zero_page};
+ghost use Rattle.vm.specs.Space.{GainsHolders, HasFramesOf, IsSpace, LacksFrames, SharesWith, StaysOpen, entries_of, first_pages, held_by, holds, mapping_of, max_size, new_pages, pages_in, pages_of, registers_of};
 
 mod access;
 pub mod shares;
@@ -212,11 +211,11 @@ impl Space {
         requires marks { IsLeafMarks marks.0 }
         requires user { IsUserLeaf marks.0 }
         ensures held { OwnsFrames ram.new self.now.root.0 self.now.trap.0 (n + 1) frames.new }
-        ensures pages { pages_below ram.new self.now.root.0 (n + 1) ≡ pages_below ram.old self.now.root.0 n ++ (page_with (replicate 4096 0) marks.0 ∷ []) }
-        ensures mapping { (read : ℕ → Rights) (k : ℕ) → k ≤ n → read_below read ram.new self.now.root.0 k ≡ read_below read ram.old self.now.root.0 k }
+        ensures pages { first_pages ram.new self.now (n + 1) ≡ first_pages ram.old self.now n ++ (blank_page marks.0 ∷ []) }
+        ensures mapping { SameLeavesUpTo ram.old ram.new self.now.root.0 n }
         ensures marks { marks_at ram.new self.now.root.0 n ≡ marks.0 }
         ensures trap { frame_of ram.new self.now.trap.0 ≡ frame_of ram.old self.now.trap.0 }
-        ensures trades { Trades ram.old ram.new frames.old frames.new (held ram.old self.now.root.0 self.now.trap.0 n) (held ram.new self.now.root.0 self.now.trap.0 (n + 1)) }
+        ensures trades { Trades ram.old ram.new frames.old frames.new (held_by ram.old self.now n) (held_by ram.new self.now (n + 1)) }
         ensures room { frames_for (n + 1) + free_count ram.new frames.new ≡ frames_for n + free_count ram.old frames.old }
     {
         ram.frames_are_whole();
@@ -246,13 +245,13 @@ impl Space {
         ensures source { IsSpace ram.new self.now frames.new }
         ensures marked { OnOk result (pages_of ram.new self.now ≡ shared_memory (pages_of ram.old self.now)) }
         ensures kept { registers_of ram.new self.now ≡ registers_of ram.old self.now }
-        ensures frames { (p : ℕ) → p < pages_in self.now.size → frame_at ram.new self.now.root.0 p ≡ frame_at ram.old self.now.root.0 p }
-        ensures shared { IfOk result (λ c. (p : ℕ) → p < pages_in self.now.size → frame_at ram.new c.root.0 p ≡ frame_at ram.old self.now.root.0 p) }
-        ensures holders { OnOk result ((p : ℕ) → p < pages_in self.now.size → holders_of ram.new frames.new (frame_at ram.old self.now.root.0 p) ≡ holders_of ram.old frames.old (frame_at ram.old self.now.root.0 p) + 1) }
+        ensures frames { HasFramesOf ram.old ram.new self.now self.now }
+        ensures shared { IfOk result (HasFramesOf ram.old ram.new self.now) }
+        ensures holders { OnOk result (GainsHolders ram.old ram.new self.now frames.old frames.new) }
         ensures full { IsErrOf result VmFault.Frames ↔ free_count ram.old frames.old < frames_for (pages_in self.now.size) }
         ensures only { OnErr result (IsErrOf result VmFault.Frames) }
         ensures unchanged { OnErr result ((ram.new ≡ ram.old) × (frames.new ≡ frames.old)) }
-        ensures trades { IfOk result (λ c. Trades ram.old ram.new frames.old frames.new (holds ram.old self.now) (holds ram.new self.now ++ holds ram.new c)) }
+        ensures trades { IfOk result (λ c. SharesWith ram.old ram.new self.now c frames.old frames.new) }
     {
         ram.frames_are_whole();
         if u64::from(frames.free()) < frames_for(pages_in(self.size)) {
@@ -283,14 +282,14 @@ impl Space {
         requires { IsSpace ram.old self.old frames.old }
         ensures space { IsSpace ram.new self.new frames.new }
         ensures size { OnOk result (self.new.size ≡ self.old.size + bytes) }
-        ensures pages { OnOk result (pages_of ram.new self.new ≡ pages_of ram.old self.old ++ replicate (pages_in (self.old.size + bytes) - pages_in self.old.size) (zero_page (marks_from perm))) }
+        ensures pages { OnOk result (pages_of ram.new self.new ≡ pages_of ram.old self.old ++ new_pages self.old.size bytes perm) }
         ensures mapping { OnOk result (take (pages_in self.old.size) (mapping_of ram.new self.new) ≡ mapping_of ram.old self.old) }
         ensures entries { OnOk result (take (pages_in self.old.size) (entries_of ram.new self.new) ≡ entries_of ram.old self.old) }
         ensures opens { StaysOpen ram.old ram.new self.old self.new }
         ensures root { self.new.root ≡ self.old.root }
         ensures registers { registers_of ram.new self.new ≡ registers_of ram.old self.old }
         ensures large { IsErrOf result VmFault.TooLarge ↔ max_size < self.old.size + bytes }
-        ensures full { IsErrOf result VmFault.Frames ↔ (self.old.size + bytes ≤ max_size) × (frames_for (pages_in self.old.size) + free_count ram.old frames.old < frames_for (pages_in (self.old.size + bytes))) }
+        ensures full { IsErrOf result VmFault.Frames ↔ LacksFrames ram.old frames.old self.old.size bytes }
         ensures only { OnErr result (IsErrOf result VmFault.TooLarge ⊎ IsErrOf result VmFault.Frames) }
         ensures unchanged { OnErr result ((ram.new ≡ ram.old) × (frames.new ≡ frames.old) × (self.new ≡ self.old)) }
         ensures trades { Trades ram.old ram.new frames.old frames.new (holds ram.old self.old) (holds ram.new self.new) }
@@ -317,10 +316,10 @@ impl Space {
     fn drop_page(&self, ram: &mut Ram, frames: &mut Frames, n: u64)
         requires { OwnsFrames ram.old self.now.root.0 self.now.trap.0 (n + 1) frames.old }
         ensures held { OwnsFrames ram.new self.now.root.0 self.now.trap.0 n frames.new }
-        ensures pages { (k : ℕ) → k ≤ n → pages_below ram.new self.now.root.0 k ≡ pages_below ram.old self.now.root.0 k }
-        ensures mapping { (read : ℕ → Rights) (k : ℕ) → k ≤ n → read_below read ram.new self.now.root.0 k ≡ read_below read ram.old self.now.root.0 k }
+        ensures pages { (k : ℕ) → k ≤ n → first_pages ram.new self.now k ≡ first_pages ram.old self.now k }
+        ensures mapping { SameLeavesUpTo ram.old ram.new self.now.root.0 n }
         ensures trap { frame_of ram.new self.now.trap.0 ≡ frame_of ram.old self.now.trap.0 }
-        ensures trades { Trades ram.old ram.new frames.old frames.new (held ram.old self.now.root.0 self.now.trap.0 (n + 1)) (held ram.new self.now.root.0 self.now.trap.0 n) }
+        ensures trades { Trades ram.old ram.new frames.old frames.new (held_by ram.old self.now (n + 1)) (held_by ram.new self.now n) }
     {
         ram.frames_are_whole();
         let table = PageTable { root: self.root };
@@ -333,10 +332,10 @@ impl Space {
         requires held { OwnsFrames ram.old self.now.root.0 self.now.trap.0 from frames.old }
         requires order { to ≤ from }
         ensures held { OwnsFrames ram.new self.now.root.0 self.now.trap.0 to frames.new }
-        ensures pages { pages_below ram.new self.now.root.0 to ≡ pages_below ram.old self.now.root.0 to }
-        ensures mapping { (read : ℕ → Rights) → read_below read ram.new self.now.root.0 to ≡ read_below read ram.old self.now.root.0 to }
+        ensures pages { first_pages ram.new self.now to ≡ first_pages ram.old self.now to }
+        ensures mapping { SameLeaves ram.old ram.new self.now.root.0 to }
         ensures trap { frame_of ram.new self.now.trap.0 ≡ frame_of ram.old self.now.trap.0 }
-        ensures trades { Trades ram.old ram.new frames.old frames.new (held ram.old self.now.root.0 self.now.trap.0 from) (held ram.new self.now.root.0 self.now.trap.0 to) }
+        ensures trades { Trades ram.old ram.new frames.old frames.new (held_by ram.old self.now from) (held_by ram.new self.now to) }
     {
         for i in 0..from - to {
             self.drop_page(ram, frames, from - 1 - i);

@@ -4,15 +4,15 @@
 //! open page's frame has one holder. Only a page that a fork had is closed, and it stays marked as one. Before a page is written whose frame others hold too, it gets a frame of its own with
 //! the same bytes: what the others see stays, and there always is a free frame for it.
 
-ghost use Rattle.std.specs.Prelude.{◌≡◌, ◌≢◌, ◌≤◌, ◌<◌, ◌+◌, ℕ, true};
+ghost use Rattle.std.specs.Prelude.{◌≡◌, ◌≤◌, ◌<◌, ◌+◌, ℕ, true};
 ghost use Rattle.frames.specs.Free.{free_count, further_at};
 ghost use Rattle.frames.specs.Holders.{count_of, holders_of};
 ghost use Rattle.pagetable.specs.Tree.{IsLeafMarks};
 ghost use Rattle.ram.specs.Memory.{frame_of};
-ghost use Rattle.vm.specs.Dense.{frame_at, frames_for, marks_at, page_at, page_with};
+ghost use Rattle.vm.specs.Dense.{frames_for, marks_at, page_at, page_with};
 ghost use Rattle.vm.specs.Fork.{IsMore, IsPart, IsSoFar};
-ghost use Rattle.vm.specs.Leaf.{IsUserLeaf, is_open, right_marks, user_leaf};
-ghost use Rattle.vm.specs.Space.{IsRearranged, IsSpace, Reframes, StaysOpen, holds, pages_in};
+ghost use Rattle.vm.specs.Leaf.{IsUserLeaf, is_open, user_leaf};
+ghost use Rattle.vm.specs.Space.{GainsHolders, HasFramesOf, HasRights, IsRearranged, IsSpace, Reframes, SameOtherMarks, SameOtherPages, StaysOpen, holds, page_frame, page_rights, pages_in};
 
 use crate::Space;
 use crate::access::marks_of;
@@ -33,16 +33,16 @@ impl Space {
     ) -> FrameNo
         requires space { IsSpace ram.old self.now frames.old }
         requires page { page < pages_in self.now.size }
-        requires frame { frame_at ram.old self.now.root.0 page ≡ frame.0 }
+        requires frame { page_frame ram.old self.now page ≡ frame.0 }
         requires shared { 2 ≤ holders_of ram.old frames.old frame.0 }
         requires marks { IsLeafMarks leaf.0 }
         requires leaf { IsUserLeaf leaf.0 }
-        requires right { right_marks leaf.0 ≡ right_marks (marks_at ram.old self.now.root.0 page) }
+        requires right { HasRights ram.old self.now page leaf.0 }
         ensures same { IsRearranged ram.old ram.new self.now frames.old frames.new }
         ensures sole { further_at frames.new result.0 ≡ 0 }
-        ensures frame { frame_at ram.new self.now.root.0 page ≡ result.0 }
+        ensures frame { page_frame ram.new self.now page ≡ result.0 }
         ensures marks { marks_at ram.new self.now.root.0 page ≡ leaf.0 }
-        ensures others { (p : ℕ) → p < pages_in self.now.size → p ≢ page → marks_at ram.new self.now.root.0 p ≡ marks_at ram.old self.now.root.0 p }
+        ensures others { SameOtherMarks ram.old ram.new self.now page }
     {
         ram.frames_are_whole();
         let own = frames.split(ram, frame);
@@ -56,18 +56,18 @@ impl Space {
     fn set_page(&self, ram: &mut Ram, frames: &Frames, page: u64, frame: FrameNo, leaf: EntryBits)
         requires space { IsSpace ram.old self.now frames.now }
         requires page { page < pages_in self.now.size }
-        requires frame { frame_at ram.old self.now.root.0 page ≡ frame.0 }
+        requires frame { page_frame ram.old self.now page ≡ frame.0 }
         requires marks { IsLeafMarks leaf.0 }
         requires leaf { IsUserLeaf leaf.0 }
         requires sole { is_open leaf.0 ≡ true → further_at frames.now frame.0 ≡ 0 }
         ensures stands { Reframes ram.old ram.new self.now frames.now frames.now }
-        ensures same { right_marks leaf.0 ≡ right_marks (marks_at ram.old self.now.root.0 page) → IsRearranged ram.old ram.new self.now frames.now frames.now }
+        ensures same { HasRights ram.old self.now page leaf.0 → IsRearranged ram.old ram.new self.now frames.now frames.now }
         ensures page { page_at ram.new self.now.root.0 page ≡ page_with (frame_of ram.old frame.0) leaf.0 }
-        ensures pages { (p : ℕ) → p < pages_in self.now.size → p ≢ page → page_at ram.new self.now.root.0 p ≡ page_at ram.old self.now.root.0 p }
-        ensures frame { frame_at ram.new self.now.root.0 page ≡ frame.0 }
+        ensures pages { SameOtherPages ram.old ram.new self.now page }
+        ensures frame { page_frame ram.new self.now page ≡ frame.0 }
         ensures marks { marks_at ram.new self.now.root.0 page ≡ leaf.0 }
-        ensures others { (p : ℕ) → p < pages_in self.now.size → p ≢ page → marks_at ram.new self.now.root.0 p ≡ marks_at ram.old self.now.root.0 p }
-        ensures frames { (p : ℕ) → p < pages_in self.now.size → frame_at ram.new self.now.root.0 p ≡ frame_at ram.old self.now.root.0 p }
+        ensures others { SameOtherMarks ram.old ram.new self.now page }
+        ensures frames { HasFramesOf ram.old ram.new self.now self.now }
         ensures held { (f : ℕ) → count_of f (holds ram.new self.now) ≡ count_of f (holds ram.old self.now) }
     {
         let table = PageTable { root: self.root };
@@ -81,10 +81,10 @@ impl Space {
         requires page { page < pages_in self.now.size }
         ensures same { IsRearranged ram.old ram.new self.now frames.old frames.new }
         ensures sole { further_at frames.new result.0 ≡ 0 }
-        ensures frame { frame_at ram.new self.now.root.0 page ≡ result.0 }
-        ensures marks { marks_at ram.new self.now.root.0 page ≡ user_leaf (right_marks (marks_at ram.old self.now.root.0 page)) true }
+        ensures frame { page_frame ram.new self.now page ≡ result.0 }
+        ensures marks { marks_at ram.new self.now.root.0 page ≡ user_leaf (page_rights ram.old self.now page) true }
         ensures opens { StaysOpen ram.old ram.new self.now self.now }
-        ensures kept { further_at frames.old (frame_at ram.old self.now.root.0 page) ≡ 0 → result.0 ≡ frame_at ram.old self.now.root.0 page }
+        ensures kept { further_at frames.old (page_frame ram.old self.now page) ≡ 0 → result.0 ≡ page_frame ram.old self.now page }
     {
         ram.frames_are_whole();
         let table = PageTable { root: self.root };
@@ -129,8 +129,8 @@ impl Space {
         requires part { IsPart ram.old self.now child.now 0 frames.old }
         requires room { frames_for (pages_in self.now.size) ≤ frames_for 0 + free_count ram.old frames.old }
         ensures all { IsSoFar ram.old ram.new self.now child.now (pages_in self.now.size) frames.old frames.new }
-        ensures shared { (p : ℕ) → p < pages_in self.now.size → frame_at ram.new child.now.root.0 p ≡ frame_at ram.old self.now.root.0 p }
-        ensures holders { (p : ℕ) → p < pages_in self.now.size → holders_of ram.new frames.new (frame_at ram.old self.now.root.0 p) ≡ holders_of ram.old frames.old (frame_at ram.old self.now.root.0 p) + 1 }
+        ensures shared { HasFramesOf ram.old ram.new self.now child.now }
+        ensures holders { GainsHolders ram.old ram.new self.now frames.old frames.new }
     {
         ram.frames_are_whole();
         for page in 0..crate::pages_in(self.size) {

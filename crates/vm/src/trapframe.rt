@@ -4,9 +4,9 @@
 //! place 24 on, and register x1 to x31 each at 32 and 8 times its number. Its other bytes are 0 in a
 //! new space, and stay.
 
-ghost use Rattle.std.specs.Prelude.{◌≡◌, ℕ, ◌+◌, ◌*◌, ◌^◌, ◌<◌, ◌≤◌, List, length, slice_index, slice_index_or};
-ghost use Rattle.vm.specs.Space.{IsMapped, IsOnce, pages_of, registers_of, Stands};
-ghost use Rattle.vm.specs.TrapFrame.{saved_pc, saved_registers, IsSpare};
+ghost use Rattle.std.specs.Prelude.{◌≡◌, ◌+◌, ◌*◌, ◌^◌, ◌<◌, ◌≤◌, List, length, slice_index};
+ghost use Rattle.vm.specs.Space.{IsMapped, IsOnce, pages_of, Stands};
+ghost use Rattle.vm.specs.TrapFrame.{saved_pc, saved_registers, KeepsSpare};
 
 use crate::Space;
 use ram::Ram;
@@ -30,7 +30,7 @@ impl Space {
         requires zero { slice_index registers.now 0 ≡ 0 }
         ensures registers { saved_registers ram.new self.now ≡ registers.now }
         ensures pc { saved_pc ram.new self.now ≡ pc }
-        ensures spare { (at : ℕ) → IsSpare at → slice_index_or (registers_of ram.new self.now) at 0 ≡ slice_index_or (registers_of ram.old self.now) at 0 }
+        ensures spare { KeepsSpare ram.old ram.new self.now }
         ensures pages { pages_of ram.new self.now ≡ pages_of ram.old self.now }
         ensures stands { Stands ram.old ram.new self.now }
     {

@@ -1,19 +1,19 @@
 -- What the exports tell.
 use Rattle.std.proofs.Common.{Global, Vec}
-use Rattle.std.specs.Prelude.{Bool, IsErrOf, List, Option, Result, [], option_map, ℕ, ◌≡◌}
+use Rattle.std.specs.Prelude.{Bool, IsErrOf, List, Option, Result, [], length, option_map, ℕ, ◌∷◌, ◌≡◌}
 use Rattle.calls.specs.declared.halt.Halt.{Halt}
 use Rattle.calls.specs.declared.halt.Halt.TheVariants.{Halted}
 use Rattle.machine.specs.Booted.{IsBooted}
 use Rattle.machine.specs.declared.fault.BootFault.{BootFault}
 use Rattle.machine.specs.declared.inodes.Stat.{Stat}
-use Rattle.machine.specs.Looks.{IsRead, stat_seen}
+use Rattle.machine.specs.Looks.{ReadsAt, stat_seen}
 use Rattle.proc.specs.Next.{IsNextOf}
 use Rattle.session.specs.Copied.{ShowsPage}
 use Rattle.session.specs.Played.{Looks, Refuses, Runs, Saves, console_of}
 use Rattle.session.specs.declared.play.Ran.{Ran}
 use Rattle.session.specs.declared.session.Session.{Session}
 use Rattle.unixmodel.specs.Memory.{Page}
-use Rattle.unixmodel.specs.Shown as shown
+use Rattle.unixmodel.specs.Shown.{shown_stat}
 use Rattle.vm.specs.declared.Perm.{Perm}
 use Rattle.xv6_c.specs.Numbers.{answer_number, fault_number, marks_number, or_zero}
 use Rattle.xv6_c.specs.Puts.{count_put, image_put, length_put, stat_put}
@@ -25,7 +25,7 @@ Numbers {X} Told number = (answer : Result X Halt) × (number ≡ answer_number 
 
 -- a machine boots from an image, and has printed nothing
 abbrev pub Boots : List ℕ → ℕ → Type 0
-Boots image frames = (s : Session) × IsBooted image 0 frames s.machine × (console_of s ≡ [])
+Boots image frames = (s : Session) × IsBooted image (length image ∷ []) 0 frames s.machine × (console_of s ≡ [])
 
 -- the number is that of a fault for which an image doesn't boot
 abbrev pub RefusesBy : List ℕ → ℕ → ℕ → Type 0
@@ -44,13 +44,14 @@ abbrev pub PageTells : Option Page → List ℕ → List ℕ → ℕ → Type 0
 PageTells page old new number = (marks : Option Perm) × (number ≡ marks_number marks) × ShowsPage page old new marks
 
 -- a node is told at a place
-abbrev pub StatTells : Session → Session → Option shown.Stat → StatTold → StatTold → Result (Option Stat) Halt → Type 0
-StatTells old new stat before after answer = (after ≡ stat_put answer before) × Looks old new (λ told. told ≡ option_map stat_seen stat) answer
+abbrev pub StatTells : Session → Session → ℕ → StatTold → StatTold → Result (Option Stat) Halt → Type 0
+StatTells old new number before after answer =
+    (after ≡ stat_put answer before) × Looks old new (λ told. told ≡ option_map stat_seen (shown_stat old.machine.state number)) answer
 
 -- bytes of a node are copied, and how many stands at a place
-abbrev pub ReadTells : Session → Session → List ℕ → List ℕ → List ℕ → ℕ → ℕ → Result ℕ Halt → Type 0
-ReadTells old new bytes before after count counted answer =
-    (counted ≡ count_put answer count) × Looks old new (IsRead bytes before after) answer × (IsErrOf answer Halted → after ≡ before)
+abbrev pub ReadTells : Session → Session → ℕ → ℕ → List ℕ → List ℕ → ℕ → ℕ → Result ℕ Halt → Type 0
+ReadTells old new number at before after count counted answer =
+    (counted ≡ count_put answer count) × Looks old new (ReadsAt old.machine.state number at before after) answer × (IsErrOf answer Halted → after ≡ before)
 
 -- the image is copied, and its length stands at a place
 abbrev pub SaveTells : Session → List ℕ → List ℕ → ℕ → ℕ → Result (Vec ℕ Global) Halt → Type 0

@@ -2,17 +2,15 @@
 //! `xv6_raw_close` or `xv6_raw_save` ends; nothing checks that. Numbers are answers: 0, or why the machine stops.
 #![tactic(auto)]
 
-ghost use Rattle.std.specs.Prelude.{◌≡◌, ◌+◌, ◌≢◌, drop, is_some, length, min, option_map, replicate};
+ghost use Rattle.std.specs.Prelude.{◌≡◌, ◌+◌, ◌≢◌, drop, is_some, length, min, replicate};
 ghost use Rattle.kernel.specs.Idle.{is_idle};
-ghost use Rattle.machine.specs.Seen.{seen_of};
 ghost use Rattle.session.specs.Copied.{copied};
 ghost use Rattle.session.specs.Played.{Answers, StepAnswers, console_of};
-ghost use Rattle.session.specs.Told.{flag, process_told};
+ghost use Rattle.session.specs.Told.{flag, process_of};
 ghost use Rattle.unixmodel.specs.Counts.{frames_of};
 ghost use Rattle.unixmodel.specs.declared.event.Event.TheVariants.{Key, Step, Tick};
 ghost use Rattle.unixmodel.specs.Next.{next};
-ghost use Rattle.unixmodel.specs.Process.{Process};
-ghost use Rattle.unixmodel.specs.Shown.{shown_bytes, shown_page, shown_process, shown_stat};
+ghost use Rattle.unixmodel.specs.Shown.{shown_page, shown_process};
 ghost use Rattle.xv6_c.specs.Puts.{PutsProcess};
 ghost use Rattle.xv6_c.specs.Tells.{Boots, NextTells, Numbers, PageTells, ReadTells, RefusesBy, RunsTo, SaveTells, StatTells};
 
@@ -150,7 +148,7 @@ pub extern "C" fn xv6_raw_next_pid(machine: &mut Sealed, after: u32) -> u32
 /// Tells of a process at `out`: 0, or 1 where there is none.
 #[unsafe(no_mangle)]
 pub extern "C" fn xv6_raw_process(machine: &mut Sealed, pid: u32, out: &mut ProcessTold) -> u32
-    ensures told { PutsProcess (option_map (λ (p : Process). process_told (seen_of p)) (shown_process machine.old.session.machine.state pid)) out.old out.new result }
+    ensures told { PutsProcess (process_of machine.old.session.machine.state pid) out.old out.new result }
     ensures same { machine.new.session ≡ machine.old.session }
 {
     put_process(get_mut(machine).process(pid), out)
@@ -178,7 +176,7 @@ pub extern "C" fn xv6_raw_free_frames(machine: &mut Sealed) -> u32
 /// Tells of a node of the disk at `out`.
 #[unsafe(no_mangle)]
 pub extern "C" fn xv6_raw_stat(machine: &mut Sealed, number: usize, out: &mut StatTold) -> u32
-    ensures { Numbers (StatTells machine.old.session machine.new.session (shown_stat machine.old.session.machine.state number) out.old out.new) result }
+    ensures { Numbers (StatTells machine.old.session machine.new.session number out.old out.new) result }
 {
     put_stat(get_mut(machine).stat(number), out)
 }
@@ -192,7 +190,7 @@ pub extern "C" fn xv6_raw_read(
     out: &mut [u8],
     count: &mut usize,
 ) -> u32
-    ensures { Numbers (ReadTells machine.old.session machine.new.session (shown_bytes machine.old.session.machine.state number at (length out.old)) out.old out.new count.old count.new) result }
+    ensures { Numbers (ReadTells machine.old.session machine.new.session number at out.old out.new count.old count.new) result }
 {
     put_count(get_mut(machine).read(number, at, out), count)
 }

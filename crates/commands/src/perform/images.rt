@@ -1,13 +1,12 @@
 //! Makes, checks and lists disk images.
 ghost use Rattle.std.specs.Prelude.{◌≡◌, ◌<◌, ◌≤◌, IfOk, IsErrOf, length, vec_len};
-ghost use Rattle.unixmodel.specs.Counts.{blocks_of};
 ghost use Rattle.unixmodel.specs.Files.{Files};
 ghost use Rattle.unixmodel.specs.Formats.{small};
-ghost use Rattle.unixmodel.specs.Image.{Denotes, DenotesSmall, inodes_in, named_blocks, numbers_in_use, size_in};
-ghost use Rattle.unixmodel.specs.Manifest.{data_blocks_of};
+ghost use Rattle.unixmodel.specs.Image.{Denotes, DenotesSmall, named_blocks, numbers_in_use};
 ghost use Rattle.imagecheck.specs.Faults.{Tells};
 ghost use Rattle.imagecheck.specs.declared.ImageFault.{ImageFault};
 ghost use Rattle.commands.specs.Entries.{IsEntryOf};
+ghost use Rattle.migrate.specs.Copies.{Overfills};
 
 use crate::host::{Front, Host};
 use crate::perform::{read_front, write};
@@ -206,7 +205,7 @@ fn migrated(alloc: Global, old: &[u8]) -> Result<(Vec<u8>, Summary), MigrateFaul
     ensures inodes { IfOk result (λ made. made.1.inodes ≡ length (numbers_in_use made.0.items)) }
     ensures blocks { IfOk result (λ made. made.1.blocks ≡ length (named_blocks made.0.items)) }
     ensures refused { (fault : ImageFault) → IsErrOf result (MigrateFault.Image fault) → Tells small old.now fault }
-    ensures full { IsErrOf result MigrateFault.Blocks → (files : Files) × DenotesSmall old.now files × (data_blocks_of (size_in old.now) (inodes_in old.now) < blocks_of files) }
+    ensures full { IsErrOf result MigrateFault.Blocks → Overfills old.now }
 {
     let new = image::migrate(alloc, old)?;
     let Ok(mut disk) = MemDisk::new(new) else {

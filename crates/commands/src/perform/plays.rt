@@ -1,6 +1,6 @@
 //! Plays: scripts that wait for what the machine does.
 ghost use Rattle.std.specs.Prelude.{◌≡◌};
-ghost use Rattle.commands.specs.Seats.{PlayedOut};
+ghost use Rattle.commands.specs.Seats.{PlaysOutTo};
 ghost use Rattle.machine.specs.View.{IsUp};
 ghost use Rattle.player.specs.Played.{halts};
 
@@ -52,7 +52,7 @@ fn play_out<D: BlockDev, T: Translate + Drop, R: Record, V: Watch, W: Write>(
     stdout: W,
 ) -> (Finish, W)
     requires { IsUp machine.old }
-    ensures { PlayedOut (R.kept keeper.old) (R.kept keeper.new) machine.old machine.new (W.contents stdout) (W.contents result.1) result.0.end }
+    ensures { PlaysOutTo W.contents R.kept keeper.old keeper.new machine.old machine.new stdout result.1 result.0.end }
 {
     let mut out = Tail::new(stdout);
     let played = player::perform(machine, play, keeper, watch, &mut out);

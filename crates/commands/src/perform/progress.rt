@@ -203,6 +203,11 @@ impl<S: Screen> Watch for Gauge<'_, S> {
         _ended: Result<(), Halt>,
     ) {}
 
+    #[inline]
+    fn sees_steps(&self) -> bool {
+        false
+    }
+
     fn written_out(&mut self, event: Event, made: u32) {
         let more = if event == Event::Step { made } else { 0 };
         self.meter.show(more);

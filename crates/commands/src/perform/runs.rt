@@ -1,10 +1,11 @@
 //! Boots machines and gives them the events of a script.
-ghost use Rattle.std.specs.Prelude.{◌≡◌, ◌<◌, ◌⊎◌, ◌↔◌, IfErr, IfOk, IsErrOf, None, OnErr, is_some, option_map};
+ghost use Rattle.std.specs.Prelude.{◌≡◌, ◌<◌, ◌⊎◌, ◌↔◌, IfErr, IfOk, IsErrOf, None, option_map};
 ghost use Rattle.live.specs.Plays.{script_events};
 ghost use Rattle.commands.specs.Reports.{end_of};
-ghost use Rattle.commands.specs.Runs.{IsFlatRun, IsImageRun, IsRunWith, IsUnbootedWith, Leaves, LeavesOf, PlaysOut};
+ghost use Rattle.commands.specs.Runs.{FlatRuns, ImageRuns, LeavesOf, PlaysOut, RefusesWith, RunLeaves, RunsWith};
 ghost use Rattle.imagerules.specs.Content.{image_of};
 ghost use Rattle.machine.specs.Booted.{IsUnbooted};
+ghost use Rattle.machine.specs.Flat.{RefusesFlat};
 ghost use Rattle.machine.specs.View.{IsUp};
 ghost use Rattle.unixmodel.specs.Start.{start_flat};
 
@@ -72,7 +73,7 @@ pub fn leave<D: BlockDev, T: Translate + Drop>(
     saves: bool,
     end: End,
 ) -> (End, Option<D>)
-    ensures { LeavesOf D.content D.failures machine saves end result.0 result.1 }
+    ensures { LeavesOf D.content D.identity D.failures machine saves end result.0 result.1 }
 {
     if !saves || end.status() != 0 {
         return (end, None);
@@ -92,7 +93,7 @@ fn run_machine<D: BlockDev, T: Translate + Drop, V: Watch, W: Write>(
     stdout: W,
 ) -> Ran<D, W>
     requires { IsUp machine }
-    ensures { Leaves D.content D.failures machine (script_events script.now) (W.contents stdout) (W.contents result.stdout) saves result.end result.disk }
+    ensures { RunLeaves D.content D.identity D.failures W.contents machine (script_events script.now) stdout saves result }
 {
     let (end, stdout) = play_out(&mut machine, script, watch, stdout);
     let (end, disk) = leave(machine, saves, end);
@@ -109,10 +110,10 @@ fn run_flat<T: Translate + Drop, V: Watch, W: Write + Drop>(
     watch: &mut V,
     stdout: W,
 ) -> Result<(End, W), BootFault>
-    ensures ran { IfOk result (λ ran. IsFlatRun program.now frames (script_events script.now) (W.contents stdout) (W.contents ran.1) ran.0) }
+    ensures ran { IfOk result (FlatRuns W.contents program.now frames (script_events script.now) stdout) }
     ensures count { IsErrOf result BootFault.FrameCount ↔ ((frames < 64) ⊎ (32768 < frames)) }
     ensures no_init { IsErrOf result BootFault.NoInit → start_flat program.now frames ≡ None }
-    ensures only { OnErr result (IsErrOf result BootFault.FrameCount ⊎ (IsErrOf result BootFault.NoInit ⊎ IsErrOf result BootFault.NoMemory)) }
+    ensures only { RefusesFlat result }
 {
     let mut machine = boot_flat_with(alloc, program, translator, frames)?;
     Ok(play_out(&mut machine, script, watch, stdout))
@@ -128,8 +129,8 @@ fn run_disk<D: BlockDev, T: Translate + Drop, V: Watch, W: Write + Drop>(
     watch: &mut V,
     stdout: W,
 ) -> Result<Ran<D, W>, BootFault>
-    ensures ran { IfOk result (λ ran. IsImageRun D.content D.failures disk words.now.frames (script_events script.now) (W.contents stdout) (W.contents ran.stdout) (is_some words.now.save) ran.end ran.disk) }
-    ensures refused { IfErr result (IsUnbooted D.failures (image_of (D.content disk)) (D.failures disk) words.now.frames) }
+    ensures ran { IfOk result (ImageRuns D.content D.identity D.failures W.contents disk words.now (script_events script.now) stdout) }
+    ensures refused { IfErr result (IsUnbooted D.identity D.failures disk (image_of (D.content disk)) words.now.frames) }
 {
     let machine = boot(alloc, disk, translator, words.frames)?;
     Ok(run_machine(machine, script, words.save.is_some(), watch, stdout))
@@ -152,8 +153,8 @@ fn run_with<D: BlockDev, T: Translate + Drop, V: Watch, W: Write + Drop>(
     watch: &mut V,
     stdout: W,
 ) -> Result<Ran<D, W>, BootFault>
-    ensures ran { IfOk result (λ ran. IsRunWith D.content D.failures words.now.fail disk words.now.frames (script_events script.now) (W.contents stdout) (W.contents ran.stdout) (is_some words.now.save) ran.end ran.disk) }
-    ensures refused { IfErr result (IsUnbootedWith D.failures words.now.fail (image_of (D.content disk)) (D.failures disk) words.now.frames) }
+    ensures ran { IfOk result (RunsWith D.content D.identity D.failures W.contents disk words.now (script_events script.now) stdout) }
+    ensures refused { IfErr result (RefusesWith D.content D.identity D.failures disk words.now) }
 {
     let Some(n) = words.fail else {
         return run_disk(alloc, disk, translator, words, script, watch, stdout);

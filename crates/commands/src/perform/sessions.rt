@@ -2,7 +2,7 @@
 ghost use Rattle.std.specs.Prelude.{◌≡◌, ◌≢◌, IfOk};
 ghost use Rattle.calls.specs.declared.halt.Halt.TheVariants.{Console};
 ghost use Rattle.commands.specs.Reports.{end_of};
-ghost use Rattle.commands.specs.Seats.{IsSat, SitsOut};
+ghost use Rattle.commands.specs.Seats.{SatTo, SitsOutTo};
 ghost use Rattle.commands.specs.declared.report.End.TheVariants.{Halted};
 ghost use Rattle.machine.specs.View.{IsUp};
 
@@ -55,7 +55,7 @@ fn sit_out<D: BlockDev, T: Translate + Drop, S: Terminal, W: Write>(
     stdout: W,
 ) -> (End, W)
     requires { IsUp machine.old }
-    ensures { SitsOut quantum (S.gives terminal.old) (S.gives terminal.new) (S.kept terminal.old) (S.kept terminal.new) machine.old machine.new (W.contents stdout) (W.contents result.1) result.0 }
+    ensures { SitsOutTo W.contents S.gives S.kept quantum terminal.old terminal.new machine.old machine.new stdout result }
 {
     let mut out = Writer::new(stdout);
     let ended = session(machine, quantum, terminal, &mut out);
@@ -74,7 +74,7 @@ fn sit<D: BlockDev, T: Translate + Drop, S: Terminal, W: Write>(
     stdout: W,
 ) -> Ran<D, W>
     requires { IsUp machine }
-    ensures { IsSat D.content D.failures quantum (S.gives terminal.old) (S.gives terminal.new) (S.kept terminal.old) (S.kept terminal.new) machine (W.contents stdout) (W.contents result.stdout) saves result.end result.disk }
+    ensures { SatTo D.content D.identity D.failures W.contents S.gives S.kept quantum terminal.old terminal.new machine stdout saves result }
 {
     let (end, stdout) = sit_out(&mut machine, quantum, terminal, stdout);
     let (end, disk) = leave(machine, saves, end);

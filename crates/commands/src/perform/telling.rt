@@ -90,6 +90,10 @@ impl<A: Watch, B: Watch> Watch for Both<A, B> {
         self.second.after(machine, event, ended);
     }
 
+    fn sees_steps(&self) -> bool {
+        self.first.sees_steps() || self.second.sees_steps()
+    }
+
     fn written_out(&mut self, event: Event, made: u32) {
         self.first.written_out(event, made);
         self.second.written_out(event, made);

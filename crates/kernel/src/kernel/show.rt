@@ -1,15 +1,14 @@
 //! What a kernel shows of its processes, open files and pipes.
 ghost use Rattle.std.specs.Prelude.{◌≡◌, ◌+◌, ◌++◌, IfSome, false, is_some, option_map};
 ghost use Rattle.files.specs.Meant.{file_of};
-ghost use Rattle.kernel.specs.Holding.{FitsNode, node_of, node_on};
+ghost use Rattle.kernel.specs.Holding.{FitsFiles};
 ghost use Rattle.kernel.specs.Kernel.{state_of};
 ghost use Rattle.kernel.specs.Shows.{bare, descriptors_on};
 ghost use Rattle.proc.specs.Next.{IsNextOf};
 ghost use Rattle.unixmodel.specs.Counts.{frames_of};
 ghost use Rattle.unixmodel.specs.Files.{slot};
-ghost use Rattle.unixmodel.specs.Memory.{Page};
 ghost use Rattle.unixmodel.specs.Shown.{ShowsMemory, shown_page, shown_process};
-ghost use Rattle.vm.specs.Leaf.{marks_from};
+ghost use Rattle.vm.specs.Leaf.{page_from};
 
 use crate::kernel::Kernel;
 use blockdev::BlockDev;
@@ -38,7 +37,7 @@ impl<D: BlockDev, T: Translate + Drop> Kernel<D, T> {
     /// The bytes and the marks of a page of the process with a pid; `None` past its last page, and where there is no
     /// such process.
     pub fn page(&self, pid: u32, n: u64) -> Option<(&[u8; FRAME_SIZE], Perm)>
-        ensures { option_map (λ r. let p : Page = record { bytes = r.0.now; marks = marks_from r.1 } in p) result ≡ shown_page (state_of self.now) pid n }
+        ensures { option_map page_from result ≡ shown_page (state_of self.now) pid n }
     {
         let at = self.table.find(pid)?;
         self.spaces.page(at, n)
@@ -64,7 +63,7 @@ impl<D: BlockDev, T: Translate + Drop> Kernel<D, T> {
         ensures file { option_map (λ r. file_of r.0) result ≡ slot (state_of self.now).opens id }
         ensures count { IfSome result (λ r. r.1 ≡ descriptors_on (state_of self.now) id) }
         // until an access of the device has failed it fits the node that it is on
-        ensures fits { self.now.tree.failed ≡ false → IfSome result (λ r. FitsNode r.0 r.0.target (node_of self.now.tree.files (node_on r.0.target))) }
+        ensures fits { self.now.tree.failed ≡ false → IfSome result (λ r. FitsFiles self.now.tree.files r.0) }
     {
         let file = self.files.file(id)?;
         Some((file, self.files.references(id)))

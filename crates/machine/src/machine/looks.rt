@@ -54,8 +54,8 @@ impl<D: BlockDev, T: Translate + Drop> Machine<D, T> {
 
     /// A number that is made of the whole state and of nothing else: machines of equal states have equal digests, whatever their
     /// translators hold and wherever their pages and blocks lie. Other states have another digest but by chance, of one in 2^64 where
-    /// nobody looks for such states; minor numbers of devices, and how many frames and blocks there are, don't go in. `Device`: an
-    /// access of the device failed, as at a step.
+    /// nobody looks for such states; minor numbers of devices, whether a fork had a page, and how many frames and blocks there are,
+    /// don't go in. `Device`: an access of the device failed, as at a step.
     pub fn digest(&mut self) -> Result<u64, Halt>
         ensures { LookGives self.old self.new (λ digest. digest ≡ digest_of self.old.state) result }
     {

@@ -2,9 +2,9 @@
 
 ghost use Rattle.std.specs.Prelude.{◌≡◌, IfOk, OnErr, false};
 ghost use Rattle.imagerules.specs.Content.{image_of};
+ghost use Rattle.machine.specs.Saved.{LosesDevice};
 ghost use Rattle.names.specs.Rules.{KeepsTree};
 ghost use Rattle.tree.specs.Holding.{unheld};
-ghost use Rattle.unixmodel.specs.Failures.{Rises};
 ghost use Rattle.unixmodel.specs.Image.{Denotes};
 
 use super::Machine;
@@ -19,7 +19,8 @@ fn give_up<D: BlockDev>(tree: Tree<D>) -> Result<D, DeviceFault>
     requires up { tree.failed ≡ false }
     requires rules { KeepsTree tree.files }
     ensures denotes { IfOk result (λ disk. Denotes (image_of (D.content disk)) (unheld tree.files)) }
-    ensures cause { OnErr result ((disk : D) × Rises tree.failures (D.failures disk)) }
+    ensures identity { IfOk result (λ disk. D.identity disk ≡ tree.identity) }
+    ensures cause { OnErr result (LosesDevice D.identity D.failures tree) }
 {
     let mut tree = tree;
     let released = tree.release_all();
@@ -47,7 +48,7 @@ impl<D: BlockDev, T: Translate + Drop> Machine<D, T> {
     ///
     /// `Device` where an access of the device failed, and `Halted` after `Device` and `Console`.
     pub fn save(self) -> Result<D, Halt>
-        ensures { SaveGives D.content D.failures self result }
+        ensures { SaveGives D.content D.identity D.failures self result }
     {
         if self.failed {
             return Err(Halt::Halted);

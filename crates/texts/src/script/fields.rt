@@ -1,6 +1,6 @@
 //! What follows the first word of a line: numbers of events, and keys.
-ghost use Rattle.std.specs.Prelude.{◌≡◌, ◌<◌, List, ℕ, IfOk, IfSome, MatchOption};
-ghost use Rattle.texts.specs.Scripts.{IsCount, IsHexOf, hex_digit, hex_pair};
+ghost use Rattle.std.specs.Prelude.{◌≡◌, ◌<◌, ℕ, IfOk, IfSome, MatchOption};
+ghost use Rattle.texts.specs.Scripts.{FindsBytes, IsCount, hex_digit, hex_pair};
 
 use std::alloc::{AllocError, Global};
 
@@ -53,7 +53,7 @@ pub fn pair_value(high: u8, low: u8) -> Option<u8>
 /// The bytes that pairs of hexadecimal digits write, if the text is made of them. Letters are in
 /// lower case.
 pub fn bytes_of(alloc: Global, digits: &[u8]) -> Result<Option<Vec<u8>>, AllocError>
-    ensures { IfOk result (λ found. MatchOption found ((bytes : List ℕ) → ¬ (IsHexOf digits.now bytes)) (λ bytes. IsHexOf digits.now bytes.items)) }
+    ensures { IfOk result (FindsBytes digits.now) }
 {
     if digits.len() % 2 != 0 {
         return Ok(None);

@@ -7,7 +7,7 @@ use Rattle.balloc.proofs.blocks.find_free.Given as goal
 abbrev pub invariant-scan : goal.invariant-scan
 invariant-scan g l = record {
   disk : l.disk.blocks ≡ l.fn.disk.blocks;
-  goes : Goes g.D.BlockDev.reached l.fn.disk l.disk;
+  goes : Goes g.D.BlockDev.identity l.fn.disk l.disk;
   from : l.from ≤ l.b;
   set_so_far : (c : ℕ) → l.from ≤ c → c < l.b → bit_of l.fn.disk.blocks (bitmap_start_of l.geometry.inodes) c ≡ 1;
 }

@@ -8,7 +8,7 @@ use Rattle.balloc.proofs.blocks.has_blocks.Given as goal
 abbrev pub invariant-search : goal.invariant-search
 invariant-search g l = record {
   same : l.disk.blocks ≡ l.fn.disk.blocks;
-  goes : Goes g.D.BlockDev.reached l.fn.disk l.disk;
+  goes : Goes g.D.BlockDev.identity l.fn.disk l.disk;
   low : data_start_of l.geometry.size l.geometry.inodes ≤ l.from;
   high : l.from ≤ l.geometry.size;
   some : l.found ≤ l.wanted;

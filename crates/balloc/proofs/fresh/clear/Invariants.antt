@@ -8,7 +8,7 @@ abbrev pub invariant-block : goal.invariant-block
 invariant-block g l = record {
   parts : HasParts l.fn.geometry l.disk.blocks;
   cleared : Cleared l.disk.blocks l.k;
-  goes : Goes g.D.BlockDev.reached l.fn.disk l.disk;
+  goes : Goes g.D.BlockDev.identity l.fn.disk l.disk;
   within : l.k ≤ l.end;
 }
 

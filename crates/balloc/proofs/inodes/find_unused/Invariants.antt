@@ -6,7 +6,7 @@ use Rattle.balloc.proofs.inodes.find_unused.Given as goal
 abbrev pub invariant-scan : goal.invariant-scan
 invariant-scan g l = record {
   disk : l.disk.blocks ≡ l.fn.disk.blocks;
-  goes : Goes g.D.BlockDev.reached l.fn.disk l.disk;
+  goes : Goes g.D.BlockDev.identity l.fn.disk l.disk;
   from : 1 ≤ l.n;
   used_so_far : (m : ℕ) → 1 ≤ m → m < l.n → (inode_at l.fn.disk.blocks m).kind ≢ 0;
 }

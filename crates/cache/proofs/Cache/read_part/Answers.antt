@@ -1,5 +1,4 @@
 use Rattle.std.proofs.Common.{ap, arith, ◌∙◌, length, refl}
-use Rattle.blockdev.proofs.Leading.{leads-stays}
 use Rattle.cache.proofs.Ending.{goes-after, read-done, step-failed}
 use Rattle.cache.proofs.Seeing.{goes-seen}
 use Rattle.blockdev.specs.Blocks.{block_at}
@@ -19,17 +18,17 @@ read-requires g c = let shows = ap length (used c.self.inside.held _ _ _ _ _ c.g
 
 pub returns-in-Some : goal.returns-in-Some
 returns-in-Some g c =
-    read-done (goes-seen g.D.BlockDev.content g.D.BlockDev.failures _ _ _ c.self.view_is _ _ refl leads-stays (omega arith))
+    read-done (goes-seen g.D.BlockDev.content g.D.BlockDev.failures _ _ _ c.self.view_is _ _ refl refl (omega arith))
     (used c.self.inside.held _ _ _ _ _ c.get.follows.holds-at-none c.self.invariant (blocks-are c.self.view_is) c.requires.block).shows
     (parted c.args.at (length c.args.out.now) _ _ _ c.copy_from_slice.ensures.after (hit c.self.inside.held _ _ _ _ (blocks-are c.self.view_is) c.requires.block (hit-is c.self.inside.held.entries _ _ c.args.n c.get.ensures.value c.in-Some.is)))
 
 pub returns-in_err-block : goal.returns-in_err-block
 returns-in_err-block g c =
-    step-failed (goes-seen g.D.BlockDev.content g.D.BlockDev.failures _ _ _ c.self.view_is _ _ refl leads-stays (omega arith)) c.read.ensures c.in_err-block.was c.from_residual.ensures.1
+    step-failed (goes-seen g.D.BlockDev.content g.D.BlockDev.failures _ _ _ c.self.view_is _ _ refl refl (omega arith)) c.read.ensures c.in_err-block.was c.from_residual.ensures.1
 
 pub returns : goal.returns
 returns g c =
     let shows = (used c.self.inside.held _ _ _ _ _ c.get.follows.holds-at-none c.self.invariant (blocks-are c.self.view_is) c.requires.block).shows in
-    read-done (goes-after (goes-seen g.D.BlockDev.content g.D.BlockDev.failures _ _ _ c.self.view_is _ _ refl leads-stays (omega arith)) c.read.ensures.goes)
+    read-done (goes-after (goes-seen g.D.BlockDev.content g.D.BlockDev.failures _ _ _ c.self.view_is _ _ refl refl (omega arith)) c.read.ensures.goes)
     (c.in_ok-block.ensures.done.same ∙ shows)
     (parted c.args.at (length c.args.out.now) _ _ _ c.copy_from_slice-2.ensures.after (c.in_ok-block.ensures.done.told ∙ ap (λ blocks. block_at blocks c.args.n) shows))

@@ -1,5 +1,4 @@
 use Rattle.std.proofs.Common.{◌≡◌, ◌<◌, ◌++◌, length, ap, refl, ◌∙◌, arith, take_all}
-use Rattle.blockdev.proofs.Leading.{leads-after, leads-stays, leads-to}
 use Rattle.blockdev.specs.Blocks.{block_at}
 use Rattle.imagerules.specs.Content.{image_of}
 use Rattle.imagerules.proofs.ContentLemmas.{image_of-more}
@@ -10,7 +9,7 @@ use Rattle.imagecheck.proofs.load.read_blocks.Goals as goal
 pub returns-in_err-image : goal.returns-in_err-image
 returns-in_err-image g c =
     let out = no-image _ c.from_residual.result c.from_residual.ensures.1 tt in
-    record { bytes = out.told; only = out.only; same = refl; leads = leads-stays; later = omega arith; failed = λ e. absurd (out.no Device (λ e. cc) e) }
+    record { bytes = out.told; only = out.only; same = refl; identity = refl; later = omega arith; failed = λ e. absurd (out.no Device (λ e. cc) e) }
 
 pub returns-in_err-block : goal.returns-in_err-block
 returns-in_err-block g c =
@@ -20,7 +19,7 @@ returns-in_err-block g c =
       bytes = out.told;
       only = out.only;
       same = c.in_err-block.ensures.same ∙ inv.same;
-      leads = leads-after inv.leads (leads-to g.met.D.BlockDev.joins c.read.ensures.reached);
+      identity = c.read.ensures.identity ∙ inv.identity;
       later = omega (arith, inv.later, c.in_err-block.ensures.cause.later);
       failed = λ _. Rises-before (g.D.BlockDev.failures c.args.device.now) (g.D.BlockDev.failures c.loop-n.device) (g.D.BlockDev.failures c.read.new.self) inv.later (c.in_err-block.ensures.cause.failed refl);
     }
@@ -33,7 +32,7 @@ returns-in_err-extend_from_slice g c =
       bytes = out.told;
       only = out.only;
       same = c.in_ok-block.ensures.same ∙ inv.same;
-      leads = leads-after inv.leads (leads-to g.met.D.BlockDev.joins c.read.ensures.reached);
+      identity = c.read.ensures.identity ∙ inv.identity;
       later = omega (arith, inv.later, c.in_ok-block.ensures.cause.later);
       failed = λ e. absurd (out.no Device (λ e. cc) e);
     }
@@ -49,7 +48,7 @@ loop-n-preserved g c =
     record {
       bytes = rw (longer, inv.bytes, read, inv.same) (image_of-more blocks n within);
       same = c.in_ok-block.ensures.same ∙ inv.same;
-      leads = leads-after inv.leads (leads-to g.met.D.BlockDev.joins c.read.ensures.reached);
+      identity = c.read.ensures.identity ∙ inv.identity;
       later = omega (arith, inv.later, c.in_ok-block.ensures.cause.later);
     }
 

@@ -1,5 +1,4 @@
 use Rattle.std.proofs.Common.{◌≡◌, ◌≤◌, take}
-use Rattle.blockdev.specs.Reached.{LeadsOn}
 use Rattle.imagerules.specs.Content.{image_of}
 use Rattle.imagecheck.proofs.load.read_blocks.Given as goal
 
@@ -7,6 +6,6 @@ abbrev pub invariant-loop-n : goal.invariant-loop-n
 invariant-loop-n g l = record {
   bytes : l.image.items ≡ image_of (take l.n (g.D.BlockDev.content l.initial.device));
   same : g.D.BlockDev.content l.device ≡ g.D.BlockDev.content l.initial.device;
-  leads : LeadsOn g.D.BlockDev.reached l.initial.device l.device;
+  identity : g.D.BlockDev.identity l.device ≡ g.D.BlockDev.identity l.initial.device;
   later : g.D.BlockDev.failures l.initial.device ≤ g.D.BlockDev.failures l.device;
 }

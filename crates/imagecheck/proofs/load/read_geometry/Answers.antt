@@ -1,6 +1,5 @@
-use Rattle.std.proofs.Common.{arith}
+use Rattle.std.proofs.Common.{arith, refl}
 use Rattle.std.proofs.lemmas.Result.{IfErr-weaker, IfOk-weaker}
-use Rattle.blockdev.proofs.Leading.{leads-stays, leads-to}
 use Rattle.imagerules.specs.Content.{IsFront}
 use Rattle.imagecheck.proofs.Sounding.{IsOfImage-not}
 use Rattle.imagerules.proofs.Super.{HasLength-not_few}
@@ -10,11 +9,11 @@ pub returns-then-count-lt2-clause-fault : goal.returns-then-count-lt2-clause-fau
 returns-then-count-lt2-clause-fault g c =
     HasLength-not_few (g.D.BlockDev.content c.args.device.now) (g.met.D.BlockDev.sizes c.args.device.now) (omega (arith, c.blocks-count.ensures, c.if-count-lt2.true))
 
-pub returns-then-count-lt2-clause-leads : goal.returns-then-count-lt2-clause-leads
-returns-then-count-lt2-clause-leads g c = leads-stays
+pub returns-then-count-lt2-clause-identity : goal.returns-then-count-lt2-clause-identity
+returns-then-count-lt2-clause-identity g c = refl
 
-pub returns-in_err-block-clause-leads : goal.returns-in_err-block-clause-leads
-returns-in_err-block-clause-leads g c = leads-to g.met.D.BlockDev.joins c.read.ensures.reached
+pub returns-in_err-block-clause-identity : goal.returns-in_err-block-clause-identity
+returns-in_err-block-clause-identity g c = c.read.ensures.identity
 
 pub returns : goal.returns
 returns g c =
@@ -26,7 +25,7 @@ returns g c =
       fault = IfErr-weaker c.geometry_in.result _ _ (λ x h. h blocks front) c.geometry_in.ensures.fault;
       memory = own.memory;
       same = c.read.ensures.same;
-      leads = leads-to g.met.D.BlockDev.joins c.read.ensures.reached;
+      identity = c.read.ensures.identity;
       later = omega arith;
       failed = λ told. absurd (own.device told);
     }

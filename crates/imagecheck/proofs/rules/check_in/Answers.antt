@@ -1,6 +1,5 @@
 use Rattle.std.proofs.Common.{◌≡◌, Err, length, ap, sym, subst, ◌∙◌, arith, IfErr, IfOk}
 use Rattle.std.proofs.lemmas.Result.{IfErr-weaker}
-use Rattle.blockdev.proofs.Leading.{leads-after}
 use Rattle.layout.specs.Formats.{format_named}
 use Rattle.imagerules.specs.Content.{image_of}
 use Rattle.imagecheck.specs.Faults.{Finds, Tells}
@@ -38,7 +37,7 @@ returns-in_err-image g c =
       fault = told;
       refused = refused-from f image r told;
       same = ◌∙◌ {a = g.D.BlockDev.content c.read_blocks.new.device} c.read_blocks.ensures.same c.read_geometry.ensures.same;
-      leads = leads-after c.read_geometry.ensures.leads c.read_blocks.ensures.leads;
+      identity = c.read_blocks.ensures.identity ∙ c.read_geometry.ensures.identity;
       later = omega (arith, c.read_blocks.ensures.later, c.read_geometry.ensures.later);
       failed = λ e. Rises-before (g.D.BlockDev.failures device) (g.D.BlockDev.failures c.read_geometry.new.device) (g.D.BlockDev.failures c.read_blocks.new.device) c.read_geometry.ensures.later
           (c.in_err-image.ensures.failed (same-fault r _ _ is e));
@@ -66,7 +65,7 @@ returns g c =
       fault = told;
       refused = refused-from f image r told;
       same = ◌∙◌ {a = g.D.BlockDev.content c.read_blocks.new.device} c.read_blocks.ensures.same c.read_geometry.ensures.same;
-      leads = leads-after c.read_geometry.ensures.leads c.read_blocks.ensures.leads;
+      identity = c.read_blocks.ensures.identity ∙ c.read_geometry.ensures.identity;
       later = omega (arith, c.read_blocks.ensures.later, c.read_geometry.ensures.later);
       failed = λ device. absurd (Finds-not_device image r finds device);
     }

@@ -6,7 +6,7 @@ use Rattle.inode.proofs.read.read_at.Given as goal
 abbrev pub invariant-chunk : goal.invariant-chunk
 invariant-chunk g l = record {
   disk : l.disk.blocks ≡ l.fn.disk.blocks;
-  goes : Goes g.D.BlockDev.reached l.fn.disk l.disk;
+  goes : Goes g.D.BlockDev.identity l.fn.disk l.disk;
   within : l.done ≤ l.count;
   has_read : HasRead l.fn.disk.blocks l.number l.at l.done l.fn.out l.out;
 }

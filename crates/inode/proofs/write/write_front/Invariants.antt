@@ -8,7 +8,7 @@ use Rattle.inode.proofs.write.write_front.Given as goal
 abbrev pub invariant-piece : goal.invariant-piece
 invariant-piece g l = record {
   wrote : Wrote l.geometry l.fn.disk.blocks l.disk.blocks l.number (splice l.at (take l.done l.bytes) (bytes_of l.fn.disk.blocks l.number));
-  goes : Goes g.D.BlockDev.reached l.fn.disk l.disk;
+  goes : Goes g.D.BlockDev.identity l.fn.disk l.disk;
   within : l.done ≤ length l.bytes;
 }
 

@@ -25,5 +25,6 @@ returns g c = record {
   told = lets-all c.args.tree.now c.loop-node.tree c.args.nodes.now c.loop-node.node-index (omega arith) c.loop-node.invariant;
   up = c.loop-node.invariant.up;
   down = tt;
+  same_device = c.loop-node.invariant.same_device;
   cause = record { later = c.loop-node.invariant.later; failed = λ e. cc };
 }

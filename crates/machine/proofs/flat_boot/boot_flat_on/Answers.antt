@@ -3,7 +3,9 @@ use Rattle.kernel.proofs.Watching.{watched-all}
 use Rattle.machine.proofs.flat_boot.boot_flat_on.Goals as goal
 use Rattle.machine.proofs.FlatLemmas.{few-console, few-root, first-sound, frames-of, hold-console, hold-root, length-flat, none-of, start-fits, start-over}
 use Rattle.machine.specs.Flat.{first_kernel, flat_memory, flat_space}
+use Rattle.machine.specs.View.{View}
 use Rattle.spaces.specs.Spaces.{Spaces, view_at}
+use Rattle.tree.specs.Tree.{FileTree}
 use Rattle.std.proofs.Common.{◌≡◌, ◌*◌, Some, length, ap, arith, refl, sym, ◌∙◌}
 
 pub load-requires : goal.load-requires
@@ -42,3 +44,10 @@ hold-requires-2-clause-node g c = rw c.hold.ensures (hold-console c.args.tree c.
 
 pub hold-requires-2-clause-few : goal.hold-requires-2-clause-few
 hold-requires-2-clause-few g c = rw c.hold.ensures (few-console c.args.tree c.requires.flat)
+
+pub returns-clause-identity : goal.returns-clause-identity
+returns-clause-identity g c =
+    ap (λ (m : View). m.identity) c.new-machine.ensures
+    ∙ ap (λ (k : Kernel). k.tree.identity) c.new-kernel.ensures
+    ∙ ap (λ (t : FileTree). t.identity) c.hold-2.ensures
+    ∙ ap (λ (t : FileTree). t.identity) c.hold.ensures

@@ -3,7 +3,7 @@ use Rattle.kernel.proofs.Watching.{watched-all}
 use Rattle.kernel.specs.Kernel.{Kernel}
 use Rattle.machine.proofs.Booting.{begun-init, few-init, kernel-sound, not-begun, root-few, root-there}
 use Rattle.machine.proofs.FlatLemmas.{frames-of, none-of}
-use Rattle.std.proofs.Common.{ap, arith, refl, subst, sym, ◌∙◌}
+use Rattle.std.proofs.Common.{ap, arith, refl, subst, sym, ◌∙◌, ◌≤◌}
 use Rattle.tree.specs.Tree.{FileTree}
 use Rattle.unixmodel.specs.Failures.{Rises}
 
@@ -44,4 +44,11 @@ pub new-machine-requires : goal.new-machine-requires
 new-machine-requires g c = ap (λ (k : Kernel). k.tree.failed) c.new-kernel.ensures ∙ ap (λ (t : FileTree). t.failed) c.hold.ensures ∙ c.in-Ok-Some.ensures.serves.up
 
 pub returns-in-Err-clause-refused : goal.returns-in-Err-clause-refused
-returns-in-Err-clause-refused g c = (c.device-device.result.now, subst (Rises c.args.tree.failures) (sym c.device-device.ensures) (c.in-Err.ensures.serves.cause.failed refl))
+returns-in-Err-clause-refused g c =
+    let serves = c.in-Err.ensures.serves in
+    record {
+      disk = c.device-device.result.now;
+      same_device = c.device-device.ensures.identity ∙ serves.same_device;
+      later = subst (λ n. c.args.tree.failures ≤ n) (sym c.device-device.ensures.failures) serves.cause.later;
+      rises = subst (Rises c.args.tree.failures) (sym c.device-device.ensures.failures) (serves.cause.failed refl);
+    }

@@ -67,7 +67,7 @@ read_arguments-requires-clause-fits g c = omega (arith, c.frames.ensures, c.if-f
 
 pub returns-in_err-load : goal.returns-in_err-load
 returns-in_err-load g c = record {
-  serves = lost-later c.from_residual-in_err-load.result _ c.from_residual-in_err-load.ensures.1 _ c.in_ok-program.ensures.cause.later c.in_err-load.ensures.serves;
+  serves = lost-later c.from_residual-in_err-load.result _ c.from_residual-in_err-load.ensures.1 _ c.in_ok-program.ensures.same_device c.in_ok-program.ensures.cause.later c.in_err-load.ensures.serves;
   executed = err-told c.from_residual-in_err-load.result _ c.from_residual-in_err-load.ensures.1 _;
   failed = err-left c.from_residual-in_err-load.result _ c.from_residual-in_err-load.ensures.1 _ c.in_err-load.ensures.failed;
 }

@@ -26,4 +26,4 @@ read_ends-requires g c = record {
 }
 
 pub returns-in_err-end : goal.returns-in_err-end
-returns-in_err-end g c = lost-later c.from_residual-in_err-end.result _ c.from_residual-in_err-end.ensures.1 _ c.in_ok-header.ensures.cause.later c.in_err-end.ensures
+returns-in_err-end g c = lost-later c.from_residual-in_err-end.result _ c.from_residual-in_err-end.ensures.1 _ c.in_ok-header.ensures.same_device c.in_ok-header.ensures.cause.later c.in_err-end.ensures

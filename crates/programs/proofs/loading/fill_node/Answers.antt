@@ -1,7 +1,8 @@
-use Rattle.std.proofs.Common.{length, rules, take, ◌∙◌}
+use Rattle.std.proofs.Common.{ap, length, rules, take, ◌∙◌}
 use Rattle.programs.proofs.Places.{filled-inside, filled-more, has-held, none-filled}
 use Rattle.programs.proofs.Serving.{err-done, err-left, file-kept-on, kept-on, lost-later}
 use Rattle.transfers.proofs.Pieces.{size-fits, size-whole}
+use Rattle.tree.specs.Tree.{FileTree}
 use Rattle.programs.proofs.loading.fill_node.Goals as goal
 
 pub loop-done-init : goal.loop-done-init
@@ -26,7 +27,7 @@ loop-done-preserved g c =
 
 pub returns-in_err-fill_piece : goal.returns-in_err-fill_piece
 returns-in_err-fill_piece g c = record {
-  serves = lost-later c.from_residual.result _ c.from_residual.ensures.1 _ c.loop-done.invariant.later c.in_err-fill_piece.ensures.serves;
+  serves = lost-later c.from_residual.result _ c.from_residual.ensures.1 _ (ap (λ (t : FileTree). t.identity) c.loop-done.invariant.same) c.loop-done.invariant.later c.in_err-fill_piece.ensures.serves;
   filled = err-done c.from_residual.result _ c.from_residual.ensures.1 _;
   failed = err-left c.from_residual.result _ c.from_residual.ensures.1 _ (_, c.in_err-fill_piece.ensures.failed ∙ c.loop-done.invariant.bytes);
 }

@@ -20,7 +20,7 @@ load_segments-requires g c =
 
 pub returns-in_err-load_segments : goal.returns-in_err-load_segments
 returns-in_err-load_segments g c = record {
-  serves = lost-later c.from_residual-in_err-load_segments.result _ c.from_residual-in_err-load_segments.ensures.1 _ c.in_ok-len.ensures.cause.later c.in_err-load_segments.ensures.serves;
+  serves = lost-later c.from_residual-in_err-load_segments.result _ c.from_residual-in_err-load_segments.ensures.1 _ c.in_ok-len.ensures.same_device c.in_ok-len.ensures.cause.later c.in_err-load_segments.ensures.serves;
   loaded = err-done c.from_residual-in_err-load_segments.result _ c.from_residual-in_err-load_segments.ensures.1 _;
   failed = err-left c.from_residual-in_err-load_segments.result _ c.from_residual-in_err-load_segments.ensures.1 _
       (left-held c.args.spaces.now c.args.at no_pages c.clear.ensures c.in_err-load_segments.ensures.failed);

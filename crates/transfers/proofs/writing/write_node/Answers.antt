@@ -1,7 +1,7 @@
 use Rattle.std.proofs.Common.{arith, inl, inr, ◌∙◌}
 use Rattle.unixmodel.specs.Files.Node.{File}
 use Rattle.transfers.specs.Moved.{bytes_given}
-use Rattle.transfers.proofs.Fits.{Tells, count-low, file-now, given-length, given-low, never-refused, piece-part, piece-some, piece-within, same-failed, serves-told, went-low, write-all, write-begun, write-more, write-part, write-refused}
+use Rattle.transfers.proofs.Fits.{Tells, count-low, file-now, given-length, given-low, never-refused, piece-part, piece-some, piece-within, same-device, same-failed, serves-told, went-low, write-all, write-begun, write-more, write-part, write-refused}
 use Rattle.transfers.proofs.writing.write_node.Goals.{then-offset-size-via-then-offset-size, then-offset-size-via-else-offset-size+then-from-count}
 use Rattle.transfers.proofs.writing.write_node.Goals as goal
 
@@ -21,7 +21,7 @@ returns-then-offset-size g c =
       | then-offset-size-via-then-offset-size w ↦ let past = w.if-offset-size.true in inl (omega (arith, past, size))
       | then-offset-size-via-else-offset-size+then-from-count w ↦ let long = w.if-from-count.true in let from = w.from.ensures in inr (omega (arith, long, from, whole))
     ]))
-    c.in_ok-size.ensures.up c.stat.ensures.cause.later
+    c.in_ok-size.ensures.up c.stat.ensures.same_device c.stat.ensures.cause.later
 
 pub loop-done-init : goal.loop-done-init
 loop-done-init g c =
@@ -63,7 +63,7 @@ returns-then-went-piece g c =
     let was = c.loop-done.invariant.later in
     let later = c.write.ensures.cause.later in
     serves-told {Told = Tells c.args.tree.now c.write.new.self c.args.number c.args.offset given} _
-    (write-part {new = given} c.loop-done.invariant c.piece-piece.result.now within part c.in_ok-went.ensures.told c.in-Some.went c.in-Some.is c.if-went-piece.true) c.in_ok-went.ensures.up (omega (arith, was, later))
+    (write-part {new = given} c.loop-done.invariant c.piece-piece.result.now within part c.in_ok-went.ensures.told c.in-Some.went c.in-Some.is c.if-went-piece.true) c.in_ok-went.ensures.up (c.write.ensures.same_device ∙ same-device {new = given} c.loop-done.invariant) (omega (arith, was, later))
 
 pub loop-done-smaller : goal.loop-done-smaller
 loop-done-smaller g c =
@@ -84,4 +84,4 @@ returns g c =
     let whole = given-length _ c.args.address c.args.count c.requires.readable in
     let over = c.loop-done-test.false in
     serves-told {Told = Tells c.args.tree.now c.loop-done.tree c.args.number c.args.offset given} _
-    (write-all {new = given} c.loop-done.invariant (omega (arith, whole, over))) (same-failed {new = given} c.loop-done.invariant ∙ c.requires.up) c.loop-done.invariant.later
+    (write-all {new = given} c.loop-done.invariant (omega (arith, whole, over))) (same-failed {new = given} c.loop-done.invariant ∙ c.requires.up) (same-device {new = given} c.loop-done.invariant) c.loop-done.invariant.later

@@ -1,4 +1,4 @@
-use Rattle.std.proofs.Common.{ap, is_some, not, sym, ◌∙◌}
+use Rattle.std.proofs.Common.{sym, ◌∙◌}
 use Rattle.kernel.proofs.Idle.{busy-state, idle-turn, none-not-some}
 use Rattle.kernel.proofs.kernel.Kernel.is_idle.Goals as goal
 

@@ -4,7 +4,6 @@ use Rattle.kernel.specs.Ready.{seen}
 use Rattle.kernel.specs.View.{kernel_of}
 use Rattle.kernel.specs.Watch.{awaited_of}
 use Rattle.kernel.proofs.Readies.{ready-same, turn-idle}
-use Rattle.kernel.proofs.Wakes.{picked-places, watched-picked}
 use Rattle.kernel.proofs.Watching.{asleep-unready}
 use Rattle.proc.proofs.Turns.{turn-from_pick}
 use Rattle.proc.specs.Whole.{with_table}

@@ -1,5 +1,6 @@
 use Rattle.std.proofs.Common.{ap, subst, sym, ◌∙◌}
-use Rattle.machine.proofs.Saving.{saved}
+use Rattle.std.proofs.lemmas.Result.{err_from_is_err_and}
+use Rattle.machine.proofs.Saving.{lost-saving, saved}
 use Rattle.machine.proofs.machine.Machine.save.Goals as goal
 use Rattle.names.specs.Rules.{KeepsTree}
 use Rattle.tree.specs.Tree.{FileTree}
@@ -13,4 +14,9 @@ give_up-requires-clause-rules g c = subst (λ (t : FileTree). KeepsTree t.files)
 pub returns : goal.returns
 returns g c =
     rw (← c.self.view_is)
-    (saved g.D.BlockDev.content c.self.inside.kernel c.tree_of.result.files c.self.inside.failed c.in_ok-give_up.field-0 (ap (λ (t : FileTree). t.files) c.tree_of.ensures) c.if-self.false c.in_ok-give_up.ensures.denotes)
+    (saved g.D.BlockDev.content g.D.BlockDev.identity c.self.inside.kernel c.tree_of.result c.self.inside.failed c.in_ok-give_up.field-0 c.tree_of.ensures c.if-self.false c.in_ok-give_up.ensures.identity c.in_ok-give_up.ensures.denotes)
+
+pub returns-in_err-give_up : goal.returns-in_err-give_up
+returns-in_err-give_up g c =
+    let p = err_from_is_err_and c.from_residual.result c.from_residual.ensures.1 in
+    rw (← c.self.view_is, p.1, p.2) (lost-saving c.self.inside.kernel c.tree_of.result c.self.inside.failed c.tree_of.ensures c.if-self.false c.in_err-give_up.ensures.cause)

@@ -1,4 +1,4 @@
-use Rattle.std.proofs.Common.{ap, arith, subst, sym, true≢false, ℕ, List, ◌%◌, ◌∙◌, ◌≡◌}
+use Rattle.std.proofs.Common.{ap, arith, length, subst, sym, true≢false, ℕ, List, [], ◌%◌, ◌∙◌, ◌∷◌, ◌≡◌}
 use Rattle.std.specs.Prelude.{IsErr, is_err, vec_len}
 use Rattle.machine.specs.Booted.{IsBooted}
 use Rattle.session.proofs.Refusing.{counted, disk-image, length-refused, refused-on, whole-unless}
@@ -11,16 +11,16 @@ returns-in_default-new-clause-refused c =
 pub returns-in_err-machine-clause-refused : goal.returns-in_err-machine-clause-refused
 returns-in_err-machine-clause-refused c =
     let whole : vec_len c.in-Ok.bytes % 1024 ≡ 0 = whole-unless _ (IsErr c.new.result) (λ e. true≢false (sym e ∙ ap is_err c.in-Ok-new.is)) c.new.ensures.length.1 in
-    refused-on _ c.args.image.now _ c.args.frames c.from_residual.result c.in_err-machine.field-0.0 c.from_residual.ensures.1
+    refused-on _ _ c.args.image.now _ c.args.frames c.from_residual.result c.in_err-machine.field-0.0 c.from_residual.ensures.1
     (disk-image c.args.image.now c.in-Ok.bytes.items c.in-Ok-new.disk.bytes (vec_len c.in-Ok.bytes) c.in-Ok.ensures.items c.in-Ok-new.ensures.bytes c.in-Ok.ensures.len whole)
     c.in_err-machine.ensures.refused
 
 pub returns-clause-booted : goal.returns-clause-booted
 returns-clause-booted c =
     let whole : vec_len c.in-Ok.bytes % 1024 ≡ 0 = whole-unless _ (IsErr c.new.result) (λ e. true≢false (sym e ∙ ap is_err c.in-Ok-new.is)) c.new.ensures.length.1 in
-    subst (λ (bs : List ℕ). IsBooted bs 0 c.args.frames c.in_ok-machine.machine)
-    (disk-image c.args.image.now c.in-Ok.bytes.items c.in-Ok-new.disk.bytes (vec_len c.in-Ok.bytes) c.in-Ok.ensures.items c.in-Ok-new.ensures.bytes c.in-Ok.ensures.len whole)
-    c.in_ok-machine.ensures.booted
+    let same = disk-image c.args.image.now c.in-Ok.bytes.items c.in-Ok-new.disk.bytes (vec_len c.in-Ok.bytes) c.in-Ok.ensures.items c.in-Ok-new.ensures.bytes c.in-Ok.ensures.len whole in
+    subst (λ (bs : List ℕ). IsBooted c.args.image.now (length bs ∷ []) 0 c.args.frames c.in_ok-machine.machine) (c.in-Ok-new.ensures.bytes ∙ c.in-Ok.ensures.items)
+    (subst (λ (bs : List ℕ). IsBooted bs (length c.in-Ok-new.disk.bytes ∷ []) 0 c.args.frames c.in_ok-machine.machine) same c.in_ok-machine.ensures.booted)
 
 pub returns-clause-count : goal.returns-clause-count
 returns-clause-count c = counted _ c.args.frames (omega (arith, c.if-frames-lt-FEWEST.false)) (omega (arith, c.if-frames-gt-MOST.false))

@@ -11,7 +11,7 @@ truncate-requires g c =
     record { up = (up-inside c.self.view_is c.requires.up); node = held-some (c.self.invariant.held (up-inside c.self.view_is c.requires.up)) c.args.number (File f.links f.bytes) f.here }
 
 pub returns : goal.returns
-returns g c = rw (← c.self.view_is) (tries c.self.inside.holds.items (up-inside c.self.view_is c.requires.up) c.truncate.result c.truncate.ensures (λ x was failed same f. turned-files same c.self.inside.holds.items failed (file-stores (c.self.invariant.held (up-inside c.self.view_is c.requires.up)) same c.args.number f was)))
+returns g c = rw (← c.self.view_is) (tries c.self.inside.holds.items (up-inside c.self.view_is c.requires.up) c.truncate.result c.truncate.ensures (λ x was failed follows f. turned-files follows c.self.inside.holds.items failed (file-stores (c.self.invariant.held (up-inside c.self.view_is c.requires.up)) follows.geometry c.args.number f was)))
 
 pub invariant_of-self : goal.invariant_of-self
 invariant_of-self g c =

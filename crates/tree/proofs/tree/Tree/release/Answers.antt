@@ -13,7 +13,7 @@ release-requires g c =
 pub returns : goal.returns
 returns g c =
     let node = (some-node _ (at-inside c.self.view_is (λ t. slot t.files c.args.number ≢ None) c.requires.node)) in
-    rw (← c.self.view_is) (tries c.self.inside.holds.items (up-inside c.self.view_is c.requires.up) c.release.result c.release.ensures (λ x was failed same. turned-files same c.self.inside.holds.items failed (cleared-stores (c.self.invariant.held (up-inside c.self.view_is c.requires.up)) same c.args.number node.0 node.1 was)))
+    rw (← c.self.view_is) (tries c.self.inside.holds.items (up-inside c.self.view_is c.requires.up) c.release.result c.release.ensures (λ x was failed follows. turned-files follows c.self.inside.holds.items failed (cleared-stores (c.self.invariant.held (up-inside c.self.view_is c.requires.up)) follows.geometry c.args.number node.0 node.1 was)))
 
 pub invariant_of-self : goal.invariant_of-self
 invariant_of-self g c =

@@ -13,7 +13,7 @@ set_links-requires g c =
 pub returns : goal.returns
 returns g c =
     let node = (some-node _ (at-inside c.self.view_is (λ t. slot t.files c.args.number ≢ None) c.requires.node)) in
-    rw (← c.self.view_is) (tries c.self.inside.holds.items (up-inside c.self.view_is c.requires.up) c.set_links.result c.set_links.ensures (λ x was failed same. turned-files same c.self.inside.holds.items failed (linked-stores (c.self.invariant.held (up-inside c.self.view_is c.requires.up)) same c.args.number node.0 node.1 c.args.links was)))
+    rw (← c.self.view_is) (tries c.self.inside.holds.items (up-inside c.self.view_is c.requires.up) c.set_links.result c.set_links.ensures (λ x was failed follows. turned-files follows c.self.inside.holds.items failed (linked-stores (c.self.invariant.held (up-inside c.self.view_is c.requires.up)) follows.geometry c.args.number node.0 node.1 c.args.links was)))
 
 pub invariant_of-self : goal.invariant_of-self
 invariant_of-self g c =

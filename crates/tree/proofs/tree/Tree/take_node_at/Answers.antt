@@ -14,7 +14,7 @@ take_at-requires g c =
 pub returns : goal.returns
 returns g c =
     let n = at-inside c.self.view_is (λ t. IsUnnamed t.files c.args.number) c.requires.number in
-    rw (← c.self.view_is) (tries c.self.inside.holds.items (up-inside c.self.view_is c.requires.up) c.take_at.result c.take_at.ensures (λ x was failed same. turned-files same c.self.inside.holds.items failed (fresh-stores (c.self.invariant.held (up-inside c.self.view_is c.requires.up)) same c.args.kind c.args.major c.args.minor c.args.number c.requires.some c.requires.kind n.high was)))
+    rw (← c.self.view_is) (tries c.self.inside.holds.items (up-inside c.self.view_is c.requires.up) c.take_at.result c.take_at.ensures (λ x was failed follows. turned-files follows c.self.inside.holds.items failed (fresh-stores (c.self.invariant.held (up-inside c.self.view_is c.requires.up)) follows.geometry c.args.kind c.args.major c.args.minor c.args.number c.requires.some c.requires.kind n.high was)))
 
 pub invariant_of-self : goal.invariant_of-self
 invariant_of-self g c =

@@ -27,4 +27,4 @@ returns g c =
     let items = c.self.inside.holds.items in
     let within = number-held c.self.view_is c.self.invariant.count c.self.invariant.held c.requires.up c.args.number c.requires.node in
     let value = c.index_mut.ensures.value ∙ get_or_default_zero items c.args.number c.index_mut.result.now within in
-    rw (← c.self.view_is) (ap (λ k. tree_with c.self.inside.volume (set items c.args.number (k - 1))) value)
+    rw (← c.self.view_is) (ap (λ k. tree_with (g.D.BlockDev.identity c.self.inside.volume.device) c.self.inside.volume (set items c.args.number (k - 1))) value)

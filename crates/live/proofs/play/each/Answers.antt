@@ -3,7 +3,7 @@ use Rattle.std.proofs.lemmas.List.{length-replicate}
 use Rattle.std.proofs.lemmas.Result.{err_from_is_err_and}
 use Rattle.machine.proofs.RunLemmas.{Rises-later, goes_on, so_far_at_first, stops}
 use Rattle.live.proofs.EventLemmas.{repeat-next}
-use Rattle.live.proofs.play.batch.Goals as goal
+use Rattle.live.proofs.play.each.Goals as goal
 
 pub loop-left-init : goal.loop-left-init
 loop-left-init g c =

@@ -1,6 +1,6 @@
 use Rattle.std.proofs.Common.{◌≤◌, ◌-◌, replicate, take}
 use Rattle.machine.proofs.RunLemmas.{SoFar}
-use Rattle.live.proofs.play.batch.Given as goal
+use Rattle.live.proofs.play.each.Given as goal
 
 -- the events so far are done as the model says
 abbrev pub invariant-loop-left : goal.invariant-loop-left

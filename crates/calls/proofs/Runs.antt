@@ -1,7 +1,8 @@
 -- How runs of the abstract Unix go on.
-use Rattle.std.proofs.Common.{subst, ◌≡◌, ℕ, ℤ, List, [], ◌∷◌, ◌++◌, Option, Some, None, refl, ap, sym, ◌∙◌, append_assoc, append-nil}
+use Rattle.std.proofs.Common.{subst, ◌≡◌, ℕ, ℤ, List, [], ◌∷◌, ◌++◌, ◌≤◌, Option, Some, None, refl, ap, sym, ◌∙◌, append_assoc, append-nil, arith}
 use Rattle.unixmodel.specs.Calls.{After, quiet}
 use Rattle.unixmodel.specs.declared.event.Event.{Event}
+use Rattle.unixmodel.specs.Failures.{Rises}
 use Rattle.unixmodel.specs.Next.{next}
 use Rattle.unixmodel.specs.Run.{after_bytes, followed_by, run}
 use Rattle.unixmodel.specs.State.{State}
@@ -28,7 +29,7 @@ run-append [] ys s up = let here : run s ys ≡ then_runs ys (quiet s) None = re
 run-append (e ∷ xs) ys s up = first_step xs ys (next s e) (next s e).state.halted refl (λ h. run-append xs ys (next s e).state h)
 
 -- a run of one event
-run-one : (e : Event) (s : State) (r : Option ℤ) → (next s e).state.halted ≡ r → run s (e ∷ []) ≡ next s e
+pub run-one : (e : Event) (s : State) (r : Option ℤ) → (next s e).state.halted ≡ r → run s (e ∷ []) ≡ next s e
 unfolding run next
 run-one e s (Some status) is = rw is refl
 run-one e s None is = rw is (ap (λ bs. let q : After = record { state = (next s e).state; bytes = bs } in q) (append-nil (next s e).bytes))
@@ -37,3 +38,12 @@ run-one e s None is = rw is (ap (λ bs. let q : After = record { state = (next s
 pub run-more : (xs : List Event) (e : Event) (s : State) → s.halted ≡ None → (run s xs).state.halted ≡ None → run s (xs ++ e ∷ []) ≡ after_bytes (run s xs).bytes (next (run s xs).state e)
 unfolding run
 run-more xs e s up goes = run-append xs (e ∷ []) s up ∙ rw goes (ap (after_bytes (run s xs).bytes) (run-one e (run s xs).state _ refl))
+
+-- what the first events print is a beginning
+pub then_begins : (ys : List Event) (o : After) (r : Option ℤ) → (rest : List ℕ) × (o.bytes ++ rest ≡ (then_runs ys o r).bytes)
+then_begins ys o (Some status) = ([], append-nil o.bytes)
+then_begins ys o None = ((run o.state ys).bytes, refl)
+
+-- a rise from a later count is a rise
+pub Rises-later : (a b c : ℕ) → a ≤ b → Rises b c → b ≤ c → Rises a c
+Rises-later a b c ab bc l = omega arith

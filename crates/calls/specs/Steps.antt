@@ -1,0 +1,77 @@
+-- What many steps of the kernel come to.
+use Rattle.std.specs.Prelude.{Err, List, None, Ok, Option, Result, Some, replicate, ℕ, ◌<◌, ◌≡◌, ◌≤◌}
+use Rattle.std.specs.Io.KnownBytes.{Appends}
+use Rattle.console.specs.Output.{AppendsBeginning}
+use Rattle.calls.specs.declared.halt.Halt.{Halt}
+use Rattle.calls.specs.declared.halt.Halt.TheVariants.{Console, Device, Halted, InitEnded}
+use Rattle.calls.specs.Gives.{EventGives, IsLost, IsServed, LeavesTree, Makes}
+use Rattle.kernel.specs.Kernel.{Kernel, state_of}
+use Rattle.tree.specs.Tree.{FileTree}
+use Rattle.unixmodel.specs.Calls.{After}
+use Rattle.unixmodel.specs.declared.event.Event.TheVariants.{Step}
+use Rattle.unixmodel.specs.Failures.{Rises}
+use Rattle.unixmodel.specs.Next.{next}
+use Rattle.unixmodel.specs.Run.{run}
+
+-- what so many steps make
+abbrev pub stepped : Kernel → ℕ → After
+stepped k count = run (state_of k) (replicate count Step)
+
+-- so many steps are done as the abstract Unix says, and it goes on
+pub record Went (old now : Kernel) (count : ℕ) (before after : Option (List ℕ)) : Type 0 where
+  pub makes : Makes now (stepped old count) before after None
+  pub served : IsServed old.tree now.tree
+
+-- a step halts: those before it went
+pub record StopsAt (old new : Kernel) (count : ℕ) (before after : Option (List ℕ)) (rising : Type 0) (halt : Halt) : Type 0 where
+  pub mid : Kernel
+  pub done : ℕ
+  pub more : done < count
+  pub went : Went old mid done before before
+  pub last : EventGives new (next (state_of mid) Step) before after rising (Err halt)
+  pub leaves : LeavesTree {X = Unit {0}} mid.tree new.tree (Err halt)
+
+-- what the first of so many steps are answered with, which are done in one go
+abbrev pub PieceGives : Kernel → Kernel → ℕ → Option (List ℕ) → Option (List ℕ) → Type 0 → Result ℕ Halt → Type 0
+PieceGives old new count before after rising (Ok n) = (0 < n) × (n ≤ count) × Went old new n before after
+PieceGives old new count before after rising (Err halt) = StopsAt old new count before after rising halt
+
+-- the steps before the one at which the device failed are done as the abstract Unix says
+pub record DeviceStops (old : Kernel) (count : ℕ) (before after : Option (List ℕ)) : Type 0 where
+  pub done : ℕ
+  pub more : done < count
+  pub goes : (stepped old done).state.halted ≡ None
+  pub printed : Appends before after (stepped old done).bytes
+
+-- the console's count of failures rose at the step after so many, a beginning of what all print was printed, and the files are
+-- those that the steps before it leave
+pub record ConsoleStops (old new : Kernel) (count : ℕ) (before after : Option (List ℕ)) (rising : Type 0) : Type 0 where
+  pub rises : rising
+  pub printed : AppendsBeginning before after (stepped old count).bytes
+  pub done : ℕ
+  pub more : done < count
+  pub goes : (stepped old done).state.halted ≡ None
+  pub files : new.tree.files ≡ (stepped old done).state.files
+
+-- what so many steps are answered with; rising: the console's count of failures rose
+abbrev pub StepsGive : Kernel → Kernel → ℕ → Option (List ℕ) → Option (List ℕ) → Type 0 → Result (Unit {0}) Halt → Type 0
+StepsGive old new count before after rising (Ok u) = Makes new (stepped old count) before after None
+StepsGive old new count before after rising (Err (InitEnded status)) = Makes new (stepped old count) before after (Some status)
+StepsGive old new count before after rising (Err Device) = DeviceStops old count before after
+StepsGive old new count before after rising (Err Console) = ConsoleStops old new count before after rising
+StepsGive old new count before after rising (Err Halted) = ⊥
+
+-- the same where the bytes go to an output
+abbrev pub PieceGivesTo : {W : Type 0} → (W → Option (List ℕ)) → (W → ℕ) → Kernel → Kernel → W → W → ℕ → Result ℕ Halt → Type 0
+PieceGivesTo contents failures old new from to count result = PieceGives old new count (contents from) (contents to) (Rises (failures from) (failures to)) result
+
+abbrev pub StepsGiveTo : {W : Type 0} → (W → Option (List ℕ)) → (W → ℕ) → Kernel → Kernel → W → W → ℕ → Result (Unit {0}) Halt → Type 0
+StepsGiveTo contents failures old new from to count result = StepsGive old new count (contents from) (contents to) (Rises (failures from) (failures to)) result
+
+-- what steps that are answered so leave of the files of the disk
+abbrev pub LeavesFiles : {X : Type 0} → FileTree → FileTree → Result X Halt → Type 0
+LeavesFiles old new (Ok x) = IsServed old new
+LeavesFiles old new (Err (InitEnded status)) = IsServed old new
+LeavesFiles old new (Err Device) = IsLost old new
+LeavesFiles old new (Err Console) = IsServed old new
+LeavesFiles old new (Err Halted) = ⊥

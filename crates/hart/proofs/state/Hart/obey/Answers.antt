@@ -1,0 +1,12 @@
+use Rattle.std.proofs.Common.{◌≡◌, ◌∙◌, arith}
+use Rattle.hart.specs.Runs.{pc_at, word_in}
+use Rattle.hart.proofs.Straight.{acts-worded, word-at}
+use Rattle.hart.proofs.state.Hart.obey.Goals as goal
+
+pub returns : goal.returns
+returns g c =
+    let base = c.args.base in
+    let k = c.args.k in
+    let word : c.load_u32.result ≡ word_in c.args.ram.now c.args.f.0 (pc_at base k) = c.load_u32.ensures ∙ word-at c.args.ram.now c.args.f.0 base k c.requires.page (omega (arith, c.ranges.base.fits)) c.requires.place in
+    acts-worded (g.T.Translate.held c.args.trans.now) (g.T.Translate.held c.act.new.trans) c.op.result.now c.read.new.self.word c.args.f.0 c.act.result (pc_at base k) c.args.self.now c.act.new.self c.args.ram.now c.act.new.ram
+    c.op.ensures (c.read.ensures ∙ word) c.act.ensures

@@ -1,0 +1,44 @@
+-- What operations leave, and where a hart goes on behind them.
+use Rattle.std.specs.Prelude.{ℕ, ◌≡◌, List, Option, Some, None, MatchResult, length}
+use Rattle.unixmodel.specs.declared.trap.Trap.{Trap}
+use Rattle.unixmodel.specs.Meaning.{Effect}
+use Rattle.unixmodel.specs.Meaning.Change.{Nothing}
+use Rattle.unixmodel.specs.Numbers.{plus}
+use Rattle.unixmodel.specs.Translation.{Held, IsKept}
+use Rattle.hart.specs.Answered.{Answers, AreAllowed, Sight, seen, stored}
+use Rattle.hart.specs.declared.act.Next.{Next}
+use Rattle.hart.specs.declared.act.Next.TheVariants.{At, Behind, Stop}
+use Rattle.hart.specs.declared.state.Hart.{Hart}
+
+-- the trap that was raised
+abbrev pub trap_of : Next → Option Trap
+trap_of Behind = None
+trap_of (At target) = None
+trap_of (Stop t) = Some t
+
+-- where a hart goes on; a trap leaves it where it was
+abbrev pub pc_after : Next → ℕ → ℕ
+pc_after Behind pc = plus pc 4
+pc_after (At target) pc = target
+pc_after (Stop t) pc = pc
+
+-- the registers and the pc are the effect's, and it writes no memory
+abbrev pub Turns : Effect → Next → ℕ → Hart → Hart → Type 0
+Turns effect next pc old new = MatchResult effect
+    (λ d. (trap_of next ≡ None) × (new.registers ≡ d.regs) × (pc_after next pc ≡ d.pc) × (new.root ≡ old.root) × (d.change ≡ Nothing))
+    (λ t. (trap_of next ≡ Some t) × (new.registers ≡ old.registers) × (new.root ≡ old.root))
+
+-- the registers, the pc and the frames are the effect's
+abbrev pub Leaves : Effect → Answers → Next → ℕ → Hart → Hart → List (List ℕ) → List (List ℕ) → Type 0
+Leaves effect answers next pc old new ram ram' = MatchResult effect
+    (λ d. (trap_of next ≡ None) × (new.registers ≡ d.regs) × (pc_after next pc ≡ d.pc) × (new.root ≡ old.root) × (ram' ≡ stored ram answers d.change))
+    (λ t. (trap_of next ≡ Some t) × (new.registers ≡ old.registers) × (new.root ≡ old.root) × (ram' ≡ ram))
+
+-- What is meant is done at a pc, with each access answered as the law of translators allows. The hart's own pc is looked at by
+-- nothing. What is held behind it was held, or is what the walk gives.
+pub record Acts (held held' : Held) (meaning : Sight → Effect) (next : Next) (pc : ℕ) (old new : Hart) (ram ram' : List (List ℕ)) : Type 0 where
+  pub answers : Answers
+  pub allowed : AreAllowed held ram old.root.0 answers
+  pub does : Leaves (meaning (seen ram answers)) answers next pc old new ram ram'
+  pub kept : IsKept held held' ram old.root.0
+  pub count : length ram' ≡ length ram

@@ -1,0 +1,165 @@
+//! Many instructions, one after the other.
+//!
+//! The loop over the operations of a page has the registers, the memory, the translator and the decoded words behind references of their own, and the place in
+//! the page as a local: a hart's pc is written where a page is left.
+ghost use Rattle.std.specs.Prelude.{◌≡◌, ◌%◌, ◌/◌, ◌<◌, ◌≤◌, ◌+◌, ◌-◌, ◌*◌, ℕ, Err, IfNone, IfSome, List, None, Some, length};
+ghost use Rattle.unixmodel.specs.Translation.{HoldsInside};
+ghost use Rattle.unixmodel.specs.Words.{instruction_of};
+ghost use Rattle.sv39.specs.Mapping.{Mapped, frame_for};
+ghost use Rattle.hart.specs.Acts.{Acts, trap_of};
+ghost use Rattle.hart.specs.Answered.{word_by};
+ghost use Rattle.hart.specs.Runs.{GoesOn, MovesOn, StaysWhole, goes_to, pc_at, point_at, point_of, word_in};
+
+use crate::access::locate;
+use crate::act::Next;
+use crate::decoded::{Decoded, Line};
+use crate::state::Hart;
+use ram::{FrameNo, Ram};
+use sv39::Translate;
+use unixmodel::trap::{Access, Cause, Trap};
+
+// How many words there are from a place in a page on, at most so many.
+#[inline(always)]
+fn room(k: usize, left: u32) -> usize
+    requires { k < 1024 }
+    ensures page { k + result ≤ 1024 }
+    ensures count { result ≤ left }
+    ensures some { 0 < left → 0 < result }
+{
+    let left = left as usize;
+    if left < 1024 - k { left } else { 1024 - k }
+}
+
+impl Hart {
+    // Does the operation of the word at place `k` of the page at address `base`, which has frame `f`.
+    #[inline(always)]
+    fn obey<T: Translate>(
+        &mut self,
+        line: &mut Line,
+        f: FrameNo,
+        base: u64,
+        k: usize,
+        ram: &mut Ram,
+        trans: &mut T,
+    ) -> Next
+        requires inside { HoldsInside (T.held trans.old) ram.old }
+        requires frame { f.0 < length ram.old }
+        requires place { k < 1024 }
+        requires page { base % 4096 ≡ 0 }
+        ensures { Acts (T.held trans.old) (T.held trans.new) (word_by (instruction_of (word_in ram.old f.0 (pc_at base k))) self.old.registers (pc_at base k)) result (pc_at base k) self.old self.new ram.old ram.new }
+    {
+        line.read(ram.load_u32(f, 4 * k));
+        self.act(line.op(), base.wrapping_add(4 * k as u64), ram, trans)
+    }
+
+    // Does operations of that page, from a place up to an end or to the first that goes elsewhere: how many were done, and where it goes.
+    #[inline(always)]
+    fn straight<T: Translate>(
+        &mut self,
+        lines: &mut [Line],
+        f: FrameNo,
+        base: u64,
+        from: usize,
+        end: usize,
+        ram: &mut Ram,
+        trans: &mut T,
+    ) -> (u32, Next)
+        requires inside { HoldsInside (T.held trans.old) ram.old }
+        requires frame { f.0 < length ram.old }
+        requires lines { length lines.old ≡ 1024 }
+        requires places { (from ≤ end) × (end ≤ 1024) }
+        requires page { base % 4096 ≡ 0 }
+        ensures goes { (mapping : List Mapped) → frame_for mapping (base / 4096) Access.Fetch ≡ Some f.0 → GoesOn (T.held trans.old) (T.held trans.new) self.old.root.0 mapping
+            (point_at self.old (pc_at base from) ram.old) (point_at self.new (goes_to (pc_at base (from + result.0)) result.1) ram.new) result.0 (trap_of result.1) }
+        ensures whole { StaysWhole (T.held trans.new) self.old self.new ram.old ram.new }
+        ensures within { from + result.0 ≤ end }
+        ensures moves { MovesOn (end - from) result.0 result.1 }
+    {
+        for k in from..end {
+            ram.frames_are_whole();
+            match self.obey(&mut lines[k], f, base, k, ram, trans) {
+                Next::Behind => {}
+                Next::At(to) => return ((k - from + 1) as u32, Next::At(to)),
+                Next::Stop(trap) => return ((k - from) as u32, Next::Stop(trap)),
+            }
+        }
+        ((end - from) as u32, Next::Behind)
+    }
+
+    // Does at most so many operations of the page of the pc, which has frame `f`, until a jump leaves the page: how many are left, and a trap.
+    #[inline(never)]
+    fn run_page<T: Translate>(
+        &mut self,
+        lines: &mut [Line],
+        f: FrameNo,
+        ram: &mut Ram,
+        trans: &mut T,
+        count: u32,
+    ) -> (u32, Option<Trap>)
+        requires inside { HoldsInside (T.held trans.old) ram.old }
+        requires frame { f.0 < length ram.old }
+        requires lines { length lines.old ≡ 1024 }
+        requires some { 0 < count }
+        ensures goes { (mapping : List Mapped) → frame_for mapping (self.old.pc / 4096) Access.Fetch ≡ Some f.0 →
+            GoesOn (T.held trans.old) (T.held trans.new) self.old.root.0 mapping (point_of self.old ram.old) (point_of self.new ram.new) (count - result.0) result.1 }
+        ensures whole { StaysWhole (T.held trans.new) self.old self.new ram.old ram.new }
+        ensures within { result.0 ≤ count }
+        ensures fewer { IfNone result.1 (result.0 < count) }
+        ensures trap { IfSome result.1 (λ t. 0 < result.0) }
+    {
+        let base = self.pc / 4096 * 4096;
+        let mut pc = self.pc;
+        let mut left = count;
+        while left > 0 && pc / 4096 * 4096 == base {
+            let k = (pc % 4096 / 4) as usize;
+            let (done, next) = self.straight(lines, f, base, k, k + room(k, left), ram, trans);
+            left -= done;
+            match next {
+                Next::At(to) => pc = to.address(),
+                Next::Behind => {
+                    self.pc = base.wrapping_add(4 * (k + done as usize) as u64);
+                    return (left, None);
+                }
+                Next::Stop(trap) => {
+                    self.pc = base.wrapping_add(4 * (k + done as usize) as u64);
+                    return (left, Some(trap));
+                }
+            }
+        }
+        self.pc = pc;
+        (left, None)
+    }
+
+    /// Does at most so many instructions, up to the first that isn't done: how many were done, and the trap of that one.
+    pub fn run<T: Translate>(
+        &mut self,
+        ram: &mut Ram,
+        trans: &mut T,
+        decoded: &mut Decoded,
+        count: u32,
+    ) -> (u32, Option<Trap>)
+        requires { HoldsInside (T.held trans.old) ram.old }
+        ensures goes { (mapping : List Mapped) → GoesOn (T.held trans.old) (T.held trans.new) self.old.root.0 mapping (point_of self.old ram.old) (point_of self.new ram.new) result.0 result.1 }
+        ensures whole { StaysWhole (T.held trans.new) self.old self.new ram.old ram.new }
+        ensures within { result.0 ≤ count }
+        ensures all { IfNone result.1 (result.0 ≡ count) }
+        ensures trap { IfSome result.1 (λ t. result.0 < count) }
+    {
+        let mut left = count;
+        while left > 0 {
+            let Some(f) = locate(trans, ram, self.root, self.pc, Access::Fetch) else {
+                let trap = Trap {
+                    cause: Cause::InstructionPageFault,
+                    address: self.pc,
+                };
+                return (count - left, Some(trap));
+            };
+            let (rest, stopped) = self.run_page(decoded.page(f.0), f, ram, trans, left);
+            left = rest;
+            if let Some(trap) = stopped {
+                return (count - left, Some(trap));
+            }
+        }
+        (count, None)
+    }
+}

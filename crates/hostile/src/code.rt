@@ -1,0 +1,265 @@
+//! Programs that write their own code. Whoever writes over a word, what memory holds is what runs: in many steps at once as in one
+//! event at a time, over each translator.
+use asm::assemble;
+use blockdev::MemDisk;
+use console::Writer;
+use machine::{Halt, Machine, boot_flat_with};
+use std::alloc::Global;
+use std::cell::Cell;
+use std::io::sink;
+use sv39::{Plain, Recent, Tlb, Translate};
+use translators::{Counting, MOST_PAGES, Noting};
+use unixmodel::event::Event;
+
+const FRAMES: u32 = 64;
+
+// Where a file of the assembler has its program.
+const PROGRAM_AT: usize = 4096;
+
+// A program, how many steps it takes before the one at which process 1 ends, and its status then.
+struct Row {
+    text: &'static str,
+    steps: u32,
+    status: i32,
+}
+
+// How a machine is given its steps.
+#[derive(Clone, Copy)]
+enum Way {
+    // one event after the other
+    Events,
+    // so many at once
+    Pieces(u32),
+}
+
+const WAYS: [Way; 4] = [
+    Way::Events,
+    Way::Pieces(1),
+    Way::Pieces(7),
+    Way::Pieces(u32::MAX),
+];
+
+// A word over the next instruction: first the one that is there, and once it ran another one.
+const NEXT: &str = "
+        la s0, next
+        la s3, word
+        lw s1, 0(s0)
+        addi s2, zero, 2
+again:  sw s1, 0(s0)
+next:   addi a0, a0, 1
+        lw s1, 0(s3)
+        addi s2, s2, -1
+        bne s2, zero, again
+        li a7, 2
+        ecall
+word:   addi a0, a0, 2
+";
+
+// Half a word over the upper half of an instruction that ran: its immediate becomes 5.
+const HALF: &str = "
+        addi t0, zero, 0x50
+        la s1, place
+place:  addi a0, zero, 1
+        bne s0, zero, quit
+        addi s0, a0, 0
+        sh t0, 2(s1)
+        j place
+quit:   li a7, 2
+        ecall
+";
+
+// A word over an instruction of a loop that went round fifty times, and goes round fifty times more.
+const LOOP: &str = "
+        addi s0, zero, 100
+        addi s1, zero, 50
+        la s3, place
+        la s2, word
+        lw s2, 0(s2)
+place:  addi a0, a0, 1
+        addi s0, s0, -1
+        bne s0, s1, over
+        sw s2, 0(s3)
+over:   bne s0, zero, place
+        li a7, 2
+        ecall
+word:   addi a0, a0, 2
+";
+
+// A word over an instruction of another page that ran, to which the program jumps again.
+const OTHER_PAGE: &str = "
+        la s0, place
+        la s1, word
+        lw s1, 0(s1)
+        jalr ra, 0(s0)
+        slli s2, a0, 4
+        sw s1, 0(s0)
+        jalr ra, 0(s0)
+        add a0, a0, s2
+        li a7, 2
+        ecall
+word:   addi a0, zero, 7
+        .zero 4096
+place:  addi a0, zero, 1
+        ret
+";
+
+// A pipe is read into an instruction that ran: the word that the program wrote into it.
+const READ: &str = "
+        jal ra, place
+        slli s2, a0, 4
+        lui s0, 2
+        mv a0, s0           # pipe
+        li a7, 4
+        ecall
+        lw a0, 4(s0)        # write the word
+        la a1, word
+        li a2, 4
+        li a7, 16
+        ecall
+        lw a0, 0(s0)        # read it over the instruction
+        la a1, place
+        li a2, 4
+        li a7, 5
+        ecall
+        jal ra, place
+        add a0, a0, s2
+        li a7, 2
+        ecall
+place:  addi a0, zero, 1
+        ret
+word:   addi a0, zero, 4
+";
+
+// A child writes over an instruction that ran, in a page that it shares with its parent, and ends with what the new one gives; its
+// parent waits for it, and then runs the instruction as it was.
+const FORK: &str = "
+        jal ra, place
+        li a7, 1
+        ecall
+        beq a0, zero, child
+        lui s0, 2
+        mv a0, s0           # wait
+        li a7, 3
+        ecall
+        jal ra, place
+        lw s0, 0(s0)
+        slli s0, s0, 4
+        add a0, a0, s0
+        j quit
+child:  la s0, place
+        lw s1, 8(s0)
+        sw s1, 0(s0)
+        jal ra, place
+quit:   li a7, 2
+        ecall
+place:  addi a0, zero, 1
+        ret
+word:   addi a0, zero, 6
+";
+
+const ROWS: [Row; 6] = [
+    Row {
+        text: NEXT,
+        steps: 19,
+        status: 3,
+    },
+    Row {
+        text: HALF,
+        steps: 13,
+        status: 5,
+    },
+    Row {
+        text: LOOP,
+        steps: 411,
+        status: 150,
+    },
+    Row {
+        text: OTHER_PAGE,
+        steps: 17,
+        status: 0x17,
+    },
+    Row {
+        text: READ,
+        steps: 32,
+        status: 0x14,
+    },
+    Row {
+        text: FORK,
+        steps: 35,
+        status: 0x61,
+    },
+];
+
+// Gives a machine so many steps.
+fn go<T: Translate + Drop>(
+    machine: &mut Machine<MemDisk, T>,
+    steps: u32,
+    way: Way,
+) -> Result<(), Halt> {
+    let mut out = Writer::new(sink());
+    let size = match way {
+        Way::Events => return singly(machine, steps),
+        Way::Pieces(size) => size.max(1),
+    };
+    for _ in 0..steps / size {
+        machine.steps(size, &mut out)?;
+    }
+    machine.steps(steps % size, &mut out)
+}
+
+// Gives a machine so many steps, each as an event.
+fn singly<T: Translate + Drop>(machine: &mut Machine<MemDisk, T>, steps: u32) -> Result<(), Halt> {
+    let mut out = Writer::new(sink());
+    for _ in 0..steps {
+        machine.step(Event::Step, &mut out)?;
+    }
+    Ok(())
+}
+
+// The digest of a machine after so many steps of a program, and why it stops at the next one.
+fn shown<T: Translate + Drop>(
+    alloc: Global,
+    program: &[u8],
+    translator: T,
+    steps: u32,
+    way: Way,
+) -> Option<(u64, Halt)> {
+    let mut machine = boot_flat_with(alloc, program, translator, FRAMES).ok()?;
+    go(&mut machine, steps, way).ok()?;
+    let digest = machine.digest().ok()?;
+    let end = go(&mut machine, 1, way).err()?;
+    Some((digest, end))
+}
+
+// Whether a program shows this in a way over each translator.
+fn shows_over_each(alloc: Global, program: &[u8], steps: u32, way: Way, told: (u64, Halt)) -> bool {
+    let told = Some(told);
+    let (fetches, fences) = (Cell::new(0), Cell::new(0));
+    let counting = Counting::new(&fetches, &fences);
+    let recent = Recent::new(Tlb::<64>::new());
+    shown(alloc, program, Plain::new(), steps, way) == told
+        && shown(alloc, program, Tlb::<64>::new(), steps, way) == told
+        && shown(alloc, program, Recent::new(Plain::new()), steps, way) == told
+        && shown(alloc, program, recent, steps, way) == told
+        && shown(alloc, program, Noting::new(alloc, 0), steps, way) == told
+        && shown(alloc, program, Noting::new(alloc, MOST_PAGES), steps, way) == told
+        && shown(alloc, program, counting, steps, way) == told
+}
+
+// Whether a program ends as its row says, in each way over each translator, and has one digest before.
+fn is_right(alloc: Global, row: &Row) -> Option<bool> {
+    let file = assemble(alloc, row.text).ok()?;
+    let program = file.as_slice().get(PROGRAM_AT..)?;
+    let (digest, end) = shown(alloc, program, Plain::new(), row.steps, Way::Events)?;
+    let told = (digest, Halt::InitEnded(row.status));
+    let same = WAYS.iter().all(|way| shows_over_each(alloc, program, row.steps, *way, told));
+    Some(same && end == told.1)
+}
+
+/// The first program that ends in another way than its row says.
+pub fn wrong(alloc: Global) -> Option<u64> {
+    let place = ROWS
+        .iter()
+        .position(|row| is_right(alloc, row) != Some(true))?;
+    Some(place as u64)
+}

@@ -1,0 +1,25 @@
+//! Many steps of a machine.
+ghost use Rattle.std.specs.Prelude.{◌≤◌, replicate};
+ghost use Rattle.machine.specs.Gives.{RunGivesTo};
+ghost use Rattle.unixmodel.specs.declared.event.Event.TheVariants.{Step};
+
+use super::{Machine, is_failure};
+use blockdev::BlockDev;
+use calls::Halt;
+use console::Out;
+use sv39::Translate;
+
+impl<D: BlockDev, T: Translate + Drop> Machine<D, T> {
+    /// So many steps, up to the first at which the machine stops: what `run` does with so many `Event::Step`, in less time.
+    pub fn steps<W: Out>(&mut self, count: u32, console: &mut W) -> Result<(), Halt>
+        ensures gives { RunGivesTo W.contents W.failures self.old self.new console.old console.new (replicate count Step) result }
+        ensures later { W.failures console.old ≤ W.failures console.new }
+    {
+        if self.is_stopped() {
+            return Err(Halt::Halted);
+        }
+        let done = calls::steps(&mut self.kernel, count, console);
+        self.failed = is_failure(&done);
+        done
+    }
+}

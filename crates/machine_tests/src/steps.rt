@@ -1,0 +1,142 @@
+//! Many steps at once do what as many events do.
+ghost use Rattle.std.specs.Prelude.{◌<◌};
+
+use crate::copying::{PRINTED, boot, console, is_even};
+use crate::hello::BYTES;
+use crate::play::{Program, READ, ROOM, holds_at, narrow_console};
+use blockdev::MemDisk;
+use console::Writer;
+use machine::{Halt, Machine, boot_flat_with};
+use std::alloc::Global;
+use sv39::{Plain, Recent};
+use unixmodel::event::Event;
+
+// The events of the family: how many steps there are before each other event. At the last of them process 1 ends.
+const ACTS: [(u32, Event); 8] = [
+    (60, Event::Key(b'a')),
+    (0, Event::Key(b'b')),
+    (1, Event::Key(b'c')),
+    (0, Event::Key(b'\n')),
+    (95, Event::Tick),
+    (1, Event::Tick),
+    (0, Event::Tick),
+    (156, Event::Step),
+];
+
+// The machine of the family, and what it prints.
+#[derive(Drop)]
+struct Lane {
+    machine: Machine<MemDisk, Plain>,
+    out: Writer<Vec<u8>>,
+}
+
+impl Lane {
+    fn boot(alloc: Global) -> Option<Lane> {
+        let machine = boot(alloc)?;
+        Some(Lane {
+            machine,
+            out: console(alloc),
+        })
+    }
+
+    fn event(&mut self, event: Event) -> Result<(), Halt> {
+        self.machine.step(event, &mut self.out)
+    }
+
+    // So many steps, each by itself.
+    fn singly(&mut self, steps: u32) -> Result<(), Halt> {
+        for _step in 0..steps {
+            self.event(Event::Step)?;
+        }
+        Ok(())
+    }
+
+    // So many steps, in pieces of so many.
+    fn in_pieces(&mut self, steps: u32, size: u32) -> Result<(), Halt>
+        requires { 0 < size }
+    {
+        for _piece in 0..steps / size {
+            self.machine.steps(size, &mut self.out)?;
+        }
+        self.machine.steps(steps % size, &mut self.out)
+    }
+
+    fn has_printed_all(self) -> bool {
+        let Lane { machine: _, out } = self;
+        out.into_inner().as_slice() == PRINTED
+    }
+}
+
+// Whether two machines go alike, of which the second does its steps in pieces of so many.
+fn go_alike(one: &mut Lane, other: &mut Lane, size: u32) -> bool
+    requires { 0 < size }
+{
+    for (steps, event) in ACTS.iter() {
+        let (single, many) = (one.singly(*steps), other.in_pieces(*steps, size));
+        let (first, second) = (one.event(*event), other.event(*event));
+        let alike = single == many && first == second && is_even(&one.machine, &other.machine);
+        if !alike || one.machine.digest() != other.machine.digest() {
+            return false;
+        }
+    }
+    true
+}
+
+fn holds_for(alloc: Global, size: u32) -> Option<bool>
+    requires { 0 < size }
+{
+    let (mut one, mut other) = (Lane::boot(alloc)?, Lane::boot(alloc)?);
+    let alike = go_alike(&mut one, &mut other, size);
+    Some(alike && one.has_printed_all() && other.has_printed_all())
+}
+
+#[test]
+fn many_steps_are_as_many_events(rt: HostRuntime) {
+    holds_at(&rt, 1, holds_for(rt.alloc(), 1) == Some(true));
+    holds_at(&rt, 2, holds_for(rt.alloc(), 2) == Some(true));
+    holds_at(&rt, 7, holds_for(rt.alloc(), 7) == Some(true));
+    holds_at(&rt, 1000, holds_for(rt.alloc(), 1000) == Some(true));
+}
+
+// What so many steps of a program that says `hi` are answered, at a console that takes so many bytes, and what as many more are.
+fn answers(alloc: Global, room: usize, steps: u32) -> Option<(Result<(), Halt>, Result<(), Halt>)> {
+    let mut machine = boot_flat_with(alloc, &BYTES, Plain::new(), 64).ok()?;
+    let mut out = narrow_console(alloc, room);
+    let first = machine.steps(steps, &mut out);
+    Some((first, machine.steps(steps, &mut out)))
+}
+
+#[test]
+fn the_first_halt_is_told(rt: HostRuntime) {
+    const HALTED: Result<(), Halt> = Err(Halt::Halted);
+    const CASES: [(usize, u32, Result<(), Halt>, Result<(), Halt>); 4] = [
+        (ROOM, 0, Ok(()), Ok(())),
+        (ROOM, 8, Ok(()), Err(Halt::InitEnded(0))),
+        (ROOM, 1000, Err(Halt::InitEnded(0)), HALTED),
+        (1, 1000, Err(Halt::Console), HALTED),
+    ];
+    for (row, (room, steps, first, second)) in CASES.iter().enumerate() {
+        let holds = answers(rt.alloc(), *room, *steps) == Some((*first, *second));
+        holds_at(&rt, row, holds);
+    }
+}
+
+// Whether steps of a machine that waits for a key change nothing, and the key comes in time.
+fn waits(alloc: Global) -> Option<bool> {
+    const CALLS: [[u64; 4]; 1] = [[0, 0x2000, 10, READ]];
+    let bytes = Program::Calls(&CALLS).bytes(alloc).ok()?;
+    let mut machine = boot_flat_with(alloc, bytes.as_slice(), Recent::new(Plain::new()), 64).ok()?;
+    let mut out = console(alloc);
+    machine.steps(u32::MAX, &mut out).ok()?;
+    let before = machine.digest();
+    machine.steps(u32::MAX, &mut out).ok()?;
+    let still = machine.is_idle() && machine.digest() == before;
+    machine.step(Event::Key(b'\n'), &mut out).ok()?;
+    machine.steps(1, &mut out).ok()?;
+    Some(still && machine.inspect(1)?.registers[10] == 1)
+}
+
+#[test]
+fn steps_with_nobody_ready_are_done_at_once(rt: HostRuntime) {
+    holds_at(&rt, 0, waits(rt.alloc()) == Some(true));
+}

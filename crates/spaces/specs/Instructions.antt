@@ -1,0 +1,16 @@
+-- Many instructions, one after the other.
+use Rattle.std.specs.Prelude.{Ok, zero, suc, ℕ, ◌≡◌}
+use Rattle.spaces.specs.Spaces.{Spaces, computed, view_at}
+use Rattle.unixmodel.specs.Cycle.{cycle}
+use Rattle.unixmodel.specs.Meaning.{Computed}
+
+-- the instruction at the pc, in the memory of a place, is done
+pub record Does (old : Spaces) (at : ℕ) (new : Spaces) : Type 0 where
+  pub done : Computed
+  pub means : cycle old.registers old.pc (view_at old at).memory ≡ Ok done
+  pub leaves : new ≡ computed old at done
+
+-- so many are, one after the other
+unfoldable pub Advances : ℕ → Spaces → ℕ → Spaces → Type 0
+Advances zero old at new = new ≡ old
+Advances (suc n) old at new = (mid : Spaces) × Advances n old at mid × Does mid at new
