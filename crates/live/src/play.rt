@@ -19,7 +19,7 @@ use unixmodel::event::Event;
 /// The key that ends a typed line.
 const LINE_END: u8 = 0x0a;
 
-/// How many events there are at most between two times at which the console's bytes are written out.
+/// How many steps and ticks there are at most between two times at which the console's bytes are written out.
 const BATCH: u32 = 65536;
 
 /// So many steps at least go in one loop: to enter it costs as much as a few steps.
