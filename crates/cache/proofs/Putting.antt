@@ -13,7 +13,7 @@ use Rattle.blockdev.specs.Blocks.{block_at}
 use Rattle.cache.specs.declared.held.Slot.{Slot}
 use Rattle.cache.specs.Overlay.{AreKept, IsKept, IsLastSafe, kept_or, overlay}
 use Rattle.cache.proofs.Entries.{lookup-cut, lookup-here, lookup-later, put-is}
-use Rattle.cache.proofs.Overlays.{held-some, held-none, overlay-put, overlay-same}
+use Rattle.cache.proofs.Overlays.{held-some, held-none, overlay-same}
 
 -- which block leaves
 pub last-lookup : (es : List (ℕ × Slot)) (k : ℕ) (s : Slot) → IsDistinct nat_eq (keys_of es) → last_entry es ≡ Some (k, s) → lookup (nat_eq k) es ≡ Some s
@@ -80,11 +80,6 @@ module _ (c : LruCache ℕ Slot) (n : ℕ) (v : Slot) (absent : lookup (nat_eq n
 
   pub AreKept-put : (d : List (List ℕ)) (b : Bool) → IsLastSafe c d → AreKept c.entries d b → IsKept d b n v → AreKept (put_entries nat_eq c n v) d b
   AreKept-put d b safe held new = subst (λ es. AreKept es d b) (sym (put-is c n v absent)) (held-after d b safe.fits held new)
-
-  -- a changed block comes in
-  pub overlay-changed : (d : List (List ℕ)) → IsLastSafe c d → n < length d → overlay (put_entries nat_eq c n v) d ≡ set (overlay c.entries d) n v.bytes
-  overlay-changed d safe low = ap (λ es. overlay es d) (put-is c n v absent)
-      ∙ overlay-put c.entries after d d n v.bytes refl low (λ k _ not. others d safe k not) (held-some after d n v (lookup-here (n, v) (take (c.cap - 1) c.entries) n refl))
 
   -- a block as it was read comes in
   pub overlay-read : (d : List (List ℕ)) → IsLastSafe c d → v.bytes ≡ block_at d n → overlay (put_entries nat_eq c n v) d ≡ overlay c.entries d

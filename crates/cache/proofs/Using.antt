@@ -1,5 +1,5 @@
 -- A cache between the look-up of a block and the end of the call.
-use Rattle.std.proofs.Common.{◌≡◌, ℕ, ◌+◌, ◌-◌, drop, take, ◌<◌, ◌≤◌, Bool, true, Bor, MutBor, List, length, set, Result, Ok, Err, OnOk, OnErr, Option, Some, None, nat_eq, sym, ap, subst, ◌∙◌, arith}
+use Rattle.std.proofs.Common.{◌≡◌, ℕ, ◌+◌, ◌-◌, drop, take, ◌<◌, ◌≤◌, Bool, false, true, Bor, MutBor, List, length, set, Result, Ok, Err, OnOk, OnErr, Option, Some, None, nat_eq, sym, ap, subst, ◌∙◌, arith}
 use Rattle.std.specs.Option.{option_copied, option_copied_mut}
 use Rattle.std.specs.Map.{lookup, set_value}
 use borrow.Rule.Slice.PartMut.{put_mid}
@@ -12,7 +12,7 @@ use Rattle.cache.specs.declared.held.Slot.{Slot}
 use Rattle.cache.specs.Overlay.{AreKept, IsLastSafe, overlay}
 use Rattle.cache.proofs.Entries.{lookup-promoted}
 use Rattle.cache.proofs.Overlays.{AreKept-passed, AreKept-promoted, AreKept-set, at-overlay, held-none, held-some, length-overlay, overlay-other, overlay-promoted, overlay-set}
-use Rattle.cache.proofs.Putting.{AreKept-put, overlay-changed, overlay-read}
+use Rattle.cache.proofs.Putting.{AreKept-put, overlay-read}
 
 pub blocks-are : {D : Type 0} {x y : Disk D} → x ≡ y → x.blocks ≡ y.blocks
 blocks-are {D} e = ap (λ (d : Disk D). d.blocks) e
@@ -83,57 +83,33 @@ parted at k out block same copied is =
     copied ∙ ap (λ j. take j (drop at block)) long ∙ ap (part at k) is
 
 -- bytes are written into a held block
-module _ (old : LruCache ℕ Slot) (c : List (List ℕ)) (b : Bool) (blocks : List (List ℕ)) (n : ℕ) (s : Slot) (at k : ℕ) (bytes new : List ℕ) where
-  abbrev overwritten : Slot
-  overwritten = record { bytes = put_mid at k s.bytes new; changed = true }
-
+module _ (old : LruCache ℕ Slot) (c : List (List ℕ)) (b : Bool) (blocks : List (List ℕ)) (n : ℕ) (s t : Slot) (at : ℕ) (bytes : List ℕ) where
   inside-of : overlay old.entries c ≡ blocks → n < length blocks → n < length c
   inside-of shows low = subst (λ k. n < k) (sym (ap length shows) ∙ length-overlay old.entries c) low
 
-  pub hit-held : AreKept old.entries c b → overlay old.entries c ≡ blocks → n < length blocks → lookup (nat_eq n) old.entries ≡ Some s → new ≡ bytes → k ≡ length bytes → at + length bytes ≤ 1024 → AreKept (set_value (nat_eq n) (promoted (nat_eq n) old.entries) overwritten) c b
+  pub hit-held : AreKept old.entries c b → overlay old.entries c ≡ blocks → n < length blocks → lookup (nat_eq n) old.entries ≡ Some s → t ≡ record { bytes = splice at bytes s.bytes; changed = true } → at + length bytes ≤ 1024 → AreKept (set_value (nat_eq n) (promoted (nat_eq n) old.entries) t) c b
   unfolding AreKept
-  hit-held held shows low is after count fits =
+  hit-held held shows low is now fits =
       let long : length s.bytes ≡ 1024 = (held n s is).size in
-      let room : at + length bytes ≤ length s.bytes = omega arith in
-      AreKept-set (promoted (nat_eq n) old.entries) c b n s overwritten (lookup-promoted old.entries n n ∙ is) (AreKept-promoted old.entries c b n held) (record {
+      AreKept-set (promoted (nat_eq n) old.entries) c b n s t (lookup-promoted old.entries n n ∙ is) (AreKept-promoted old.entries c b n held) (record {
         inside = inside-of shows low;
-        size = ap length (put_mid-splice at k s.bytes new bytes after count) ∙ length-splice at bytes s.bytes room ∙ long;
-        clean = λ _ clean. absurd cc;
+        size = ap (λ (x : Slot). length x.bytes) now ∙ length-splice at bytes s.bytes (omega (arith, long, fits)) ∙ long;
+        clean = λ _ clean. let wrong : true ≡ false = sym (ap (λ (x : Slot). x.changed) now) ∙ clean in absurd cc;
       })
 
-  pub hit-shows : overlay old.entries c ≡ blocks → n < length blocks → lookup (nat_eq n) old.entries ≡ Some s → new ≡ bytes → k ≡ length bytes → overlay (set_value (nat_eq n) (promoted (nat_eq n) old.entries) overwritten) c ≡ set blocks n (splice at bytes (block_at blocks n))
-  hit-shows shows low is after count =
-      overlay-set (promoted (nat_eq n) old.entries) c n s overwritten (lookup-promoted old.entries n n ∙ is) (inside-of shows low)
-      ∙ ap (λ l. set l n overwritten.bytes) (overlay-promoted old.entries c n ∙ shows)
-      ∙ ap (set blocks n) (put_mid-splice at k s.bytes new bytes after count ∙ ap (splice at bytes) (hit old c blocks n s shows low is))
+  pub hit-shows : overlay old.entries c ≡ blocks → n < length blocks → lookup (nat_eq n) old.entries ≡ Some s → t ≡ record { bytes = splice at bytes s.bytes; changed = true } → overlay (set_value (nat_eq n) (promoted (nat_eq n) old.entries) t) c ≡ set blocks n (splice at bytes (block_at blocks n))
+  hit-shows shows low is now =
+      overlay-set (promoted (nat_eq n) old.entries) c n s t (lookup-promoted old.entries n n ∙ is) (inside-of shows low)
+      ∙ ap (λ l. set l n t.bytes) (overlay-promoted old.entries c n ∙ shows)
+      ∙ ap (set blocks n) (ap (λ (x : Slot). x.bytes) now ∙ ap (splice at bytes) (hit old c blocks n s shows low is))
 
 -- a block for which there was no memory is written to the device
-pub refused-held : {E : Type 0} (l m : LruCache ℕ Slot) (c d : List (List ℕ)) (b e : Bool) (blocks : List (List ℕ)) (n : ℕ) (x : List ℕ) (r : Result Unit E) → IsUsed l c b blocks n → lookup (nat_eq n) l.entries ≡ None → m ≡ l → length d ≡ length c → OnOk r (d ≡ set c n x) → OnOk r (e ≡ b) → OnErr r (e ≡ true) → AreKept m.entries d e
-refused-held l m c d b e blocks n x r u none is count written kept doubt = subst (λ (x : LruCache ℕ Slot). AreKept x.entries d e) (sym is) (AreKept-passed l.entries c d b e n x r none u.held count written kept doubt)
+pub refused-held : {E : Type 0} (l : LruCache ℕ Slot) (c d : List (List ℕ)) (b e : Bool) (blocks : List (List ℕ)) (n : ℕ) (x : List ℕ) (r : Result Unit E) → IsUsed l c b blocks n → lookup (nat_eq n) l.entries ≡ None → length d ≡ length c → OnOk r (d ≡ set c n x) → OnOk r (e ≡ b) → OnErr r (e ≡ true) → AreKept l.entries d e
+refused-held l c d b e blocks n x r u none count written kept doubt = AreKept-passed l.entries c d b e n x r none u.held count written kept doubt
 
--- bytes are written into a block that wasn't held
+-- bytes are written into it, where it isn't held
 module _ (l : LruCache ℕ Slot) (c : List (List ℕ)) (b : Bool) (blocks : List (List ℕ)) (n at k : ℕ) (block bytes new : List ℕ) (u : IsUsed l c b blocks n) (none : lookup (nat_eq n) l.entries ≡ None) where
-  abbrev changed : Slot
-  changed = record { bytes = put_mid at k block new; changed = true }
-
-  bytes-are : block ≡ block_at blocks n → new ≡ bytes → k ≡ length bytes → put_mid at k block new ≡ splice at bytes (block_at blocks n)
-  bytes-are read after count = put_mid-splice at k block new bytes after count ∙ ap (splice at bytes) read
-
-  size-is : length block ≡ 1024 → new ≡ bytes → k ≡ length bytes → at + length bytes ≤ 1024 → length (put_mid at k block new) ≡ 1024
-  size-is long after count fits =
-      let room : at + length bytes ≤ length block = omega arith in
-      ap length (put_mid-splice at k block new bytes after count) ∙ length-splice at bytes block room ∙ long
-
-  pub miss-held : (m : LruCache ℕ Slot) → IsLastSafe l c → length block ≡ 1024 → new ≡ bytes → k ≡ length bytes → at + length bytes ≤ 1024 → m ≡ lru_cache (put_entries nat_eq l n changed) l.cap → AreKept m.entries c b
-  miss-held m safe long after count fits is = subst (λ (x : LruCache ℕ Slot). AreKept x.entries c b) (sym is)
-      (AreKept-put l n changed none c b safe u.held (record { inside = u.low; size = size-is long after count fits; clean = λ _ clean. absurd cc }))
-
-  pub miss-shows : (m : LruCache ℕ Slot) → IsLastSafe l c → block ≡ block_at blocks n → new ≡ bytes → k ≡ length bytes → m ≡ lru_cache (put_entries nat_eq l n changed) l.cap → overlay m.entries c ≡ set blocks n (splice at bytes (block_at blocks n))
-  miss-shows m safe read after count is = ap (λ (x : LruCache ℕ Slot). overlay x.entries c) is ∙ overlay-changed l n changed none c safe u.low
-      ∙ ap (λ x. set x n changed.bytes) u.shows ∙ ap (set blocks n) (bytes-are read after count)
-
-  -- there was no memory for it
-  pub refused-shows : {E : Type 0} (m : LruCache ℕ Slot) (d : List (List ℕ)) (r : Result Unit E) → m ≡ l → block ≡ block_at blocks n → new ≡ bytes → k ≡ length bytes → OnOk r (d ≡ set c n changed.bytes) → OnOk r (overlay m.entries d ≡ set blocks n (splice at bytes (block_at blocks n)))
-  refused-shows m d (Ok x) is read after count written = ap (λ (x : LruCache ℕ Slot). overlay x.entries d) is ∙ (ap (overlay l.entries) written ∙ overlay-other l.entries c n changed.bytes none u.low)
-      ∙ ap (λ x. set x n changed.bytes) u.shows ∙ ap (set blocks n) (bytes-are read after count)
-  refused-shows m d (Err x) is read after count written = written
+  pub refused-shows : {E : Type 0} (d : List (List ℕ)) (r : Result Unit E) → block ≡ block_at blocks n → new ≡ bytes → k ≡ length bytes → OnOk r (d ≡ set c n (put_mid at k block new)) → OnOk r (overlay l.entries d ≡ set blocks n (splice at bytes (block_at blocks n)))
+  refused-shows d (Ok x) read after count written = ap (overlay l.entries) written ∙ overlay-other l.entries c n (put_mid at k block new) none u.low
+      ∙ ap (λ x. set x n (put_mid at k block new)) u.shows ∙ ap (set blocks n) (put_mid-splice at k block new bytes after count ∙ ap (splice at bytes) read)
+  refused-shows d (Err x) read after count written = written

@@ -13,7 +13,7 @@ ghost use Rattle.cache.specs.Steps.{AsBefore, Reads, Steps};
 mod held;
 
 use blockdev::{Block, BlockDev, DeviceFault, Duplicate};
-use held::{Slot, Slots, duplicates, make_room, next_to_write, write_now, write_out};
+use held::{Slot, Slots, change, duplicates, make_room, next_to_write, write_now, write_out};
 use lru::LruCache;
 use std::alloc::{AllocError, Allocator, Global};
 use std::marker::Model;
@@ -118,8 +118,18 @@ impl<D: BlockDev, A: Allocator + Clone> Cache<D, A> {
             out.copy_from_slice(&held.bytes[at..at + count]);
             return Ok(());
         }
+        self.read_unheld(n, at, out)
+    }
+
+    // The same for a block that isn't held, by way of a copy. It is out of line: a held block needs no room for the copy.
+    #[inline(never)]
+    fn read_unheld(&mut self, n: usize, at: usize, out: &mut [u8]) -> Result<(), DeviceFault>
+        requires block { n < length self.old.blocks }
+        requires fits { at + length out.old ≤ 1024 }
+        ensures { Reads D.identity self.old self.new result (λ _. out.new ≡ part at (length out.old) (block_at self.old.blocks n)) }
+    {
         let block = self.read(n)?;
-        out.copy_from_slice(&block[at..at + count]);
+        out.copy_from_slice(&block[at..at + out.len()]);
         Ok(())
     }
 
@@ -130,22 +140,27 @@ impl<D: BlockDev, A: Allocator + Clone> Cache<D, A> {
         ensures { Steps D.identity self.old self.new result (λ _. self.new.blocks ≡ slice_set self.old.blocks n (splice at bytes.now (block_at self.old.blocks n))) }
     {
         if let Some(slot) = self.held.get_mut(&n) {
-            slot.changed = true;
-            slot.bytes[at..at + bytes.len()].copy_from_slice(bytes);
+            change(slot, at, bytes);
             return Ok(());
         }
-        let mut block = self.device.read(n)?;
-        block[at..at + bytes.len()].copy_from_slice(bytes);
-        make_room(&mut self.device, &self.held, &mut self.in_doubt)?;
-        let slot = Slot {
-            bytes: block,
-            changed: true,
-        };
-        match self.held.put(n, slot) {
-            Ok(_) => Ok(()),
-            // Without memory for it the block isn't held.
-            Err(_) => write_now(&mut self.device, n, &block, &mut self.in_doubt),
+        self.write_unheld(n, at, bytes)
+    }
+
+    // The same for a block that isn't held: it is read first. Out of line, as `read_unheld` is.
+    #[inline(never)]
+    fn write_unheld(&mut self, n: usize, at: usize, bytes: &[u8]) -> Result<(), DeviceFault>
+        requires block { n < length self.old.blocks }
+        requires fits { at + length bytes.now ≤ 1024 }
+        ensures { Steps D.identity self.old self.new result (λ _. self.new.blocks ≡ slice_set self.old.blocks n (splice at bytes.now (block_at self.old.blocks n))) }
+    {
+        let mut block = self.read(n)?;
+        if let Some(slot) = self.held.get_mut(&n) {
+            change(slot, at, bytes);
+            return Ok(());
         }
+        // Without memory for it the block isn't held.
+        block[at..at + bytes.len()].copy_from_slice(bytes);
+        write_now(&mut self.device, n, &block, &mut self.in_doubt)
     }
 
     /// Writes to the device what it lacks.
