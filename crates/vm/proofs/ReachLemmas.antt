@@ -1,7 +1,7 @@
 -- Lemmas on what a program's memory shows from an address on.
 use Rattle.std.proofs.Common.{◌≡◌, ℕ, zero, suc, ◌+◌, ◌-◌, ◌*◌, ◌/◌, ◌%◌, ◌<◌, ◌≤◌, inl, inr, Bool, true, false, List, [], ◌∷◌, ◌++◌, length, take, drop, get_or, min, Option, Some, None, refl, sym, ap, ◌∙◌, arith, length-append, length-drop, length-take, leb}
 use Rattle.std.proofs.Math.Seq.{drop-cons, take-add}
-use Rattle.std.proofs.lemmas.Bool.{cases_Bool, cases_lt, le-leb, lt-leb}
+use Rattle.std.proofs.lemmas.Bool.{cases_Bool, cases_lt, le-leb, leb-true, lt-leb}
 use Rattle.std.proofs.lemmas.List.{drop-drop, drop_all, drop_at, drop-append-le, get_or-drop, take-append-le}
 use Rattle.std.proofs.lemmas.Option.{get_or_from_slice_get, slice_get_cases, slice_get_within}
 use Rattle.std.proofs.lemmas.List.Concat.{flat_map-cons}
@@ -9,7 +9,8 @@ use Rattle.std.proofs.lemmas.List.Sums.{take_while-cons, prefix_len-le-length, p
 use Rattle.std.specs.List.{flat_map, prefix_len, take_while}
 use Rattle.std.specs.Prelude.{if◌then◌else◌, slice_get}
 use Rattle.unixmodel.specs.declared.trap.Access.{Access}
-use Rattle.unixmodel.specs.Memory.{Page, Memory, permits, permitted, reach}
+use Rattle.unixmodel.specs.declared.trap.Access.TheVariants.{Store}
+use Rattle.unixmodel.specs.Memory.{Page, Memory, can_write, permits, permitted, reach}
 use Rattle.vm.specs.Reach.{IsSized, run_of, rest_of, piece_at}
 
 -- an item of a list, and where there is none
@@ -91,6 +92,20 @@ pub run-end : (a : Access) (mem : Memory) (first i : ℕ) → i ≤ run_of a mem
 unfolding run_of
 run-end a mem first i h at = omega (arith, h, prefix_len-le-length (λ (p : Page). permits a p.marks) (drop first mem), length-drop first mem, item-past mem (first + i) at)
 
+-- whether a page begins one
+pub page-allows : (a : Access) (mem : Memory) (page : ℕ) (p : Page) (b : Bool) → slice_get mem page ≡ Some p → permits a p.marks ≡ b → b ≡ leb 1 (run_of a mem page)
+page-allows a mem page p true at ok =
+    let low = run-more a mem page 0 p (omega arith) (ap (slice_get mem) (omega arith) ∙ at) ok in
+    sym (le-leb 1 (run_of a mem page) (omega (arith, low)))
+page-allows a mem page p false at ok =
+    let none = run-stop a mem page 0 p (omega arith) (ap (slice_get mem) (omega arith) ∙ at) ok in
+    sym (lt-leb 1 (run_of a mem page) (omega (arith, none)))
+
+pub no-page-allows : (a : Access) (mem : Memory) (page : ℕ) → slice_get mem page ≡ None → false ≡ leb 1 (run_of a mem page)
+no-page-allows a mem page at =
+    let none = run-end a mem page 0 (omega arith) (ap (slice_get mem) (omega arith) ∙ at) in
+    sym (lt-leb 1 (run_of a mem page) (omega (arith, none)))
+
 -- how many bytes can be reached
 pub length-reach : (a : Access) (mem : Memory) (at : ℕ) → IsSized mem → length (reach a mem at) ≡ 4096 * run_of a mem (at / 4096) - at % 4096
 unfolding reach run_of
@@ -129,6 +144,12 @@ pub test-reach : (a : Access) (mem : Memory) (at len most run : ℕ) → IsSized
 test-reach a mem at len most run h some enough is =
     let reached = length-reach a mem at h in
     same_test (at % 4096 + len) (4096 * run) len (length (reach a mem at)) (λ le. omega (arith, le, reached, is, some)) (λ le. omega (arith, le, reached, is, some, enough))
+
+-- and whether those of one page can
+pub test-page : (a : Access) (mem : Memory) (at len : ℕ) → IsSized mem → 0 < len → at % 4096 + len ≤ 4096 → leb 1 (run_of a mem (at / 4096)) ≡ leb len (length (reach a mem at))
+test-page a mem at len h some within =
+    let reached = length-reach a mem at h in
+    same_test 1 (run_of a mem (at / 4096)) len (length (reach a mem at)) (λ le. omega (arith, le, reached, within)) (λ le. omega (arith, le, reached, some))
 
 -- what is reached from a later address
 pub reach-drop : (a : Access) (mem : Memory) (at d : ℕ) → IsSized mem → d ≤ length (reach a mem at) → reach a mem (at + d) ≡ drop d (reach a mem at)
@@ -203,3 +224,9 @@ pub reach-page : (a : Access) (mem : Memory) (at d : ℕ) → IsSized mem → d 
 reach-page a mem at d h low =
     let left : 0 < length (reach a mem (at + d)) = omega (arith, low, ap length (reach-drop a mem at d h (omega arith)), length-drop d (reach a mem at)) in
     (reach-inside a mem (at + d) h left, piece-some a mem (at + d) h left)
+
+-- bytes that a program may write lie in pages that there are
+pub page-there : (mem : Memory) (at count i : ℕ) → IsSized mem → can_write mem at count ≡ true → i < count → (at + i) / 4096 < length mem
+page-there mem at count i h can low =
+    let whole : count ≤ length (reach Store mem at) = leb-true count (length (reach Store mem at)) can in
+    (reach-page Store mem at i h (omega (arith, whole, low))).0

@@ -1,5 +1,5 @@
 -- Bytes that are written a page at a time.
-use Rattle.std.proofs.Common.{◌≡◌, ℕ, suc, ◌+◌, ◌-◌, ◌/◌, ◌%◌, ◌<◌, inl, inr, List, [], ◌∷◌, ◌++◌, length, take, drop, min, Some, refl, sym, ap, ◌∙◌, arith, slice_set, get_or-set_other, append_assoc}
+use Rattle.std.proofs.Common.{◌≡◌, ℕ, suc, ◌+◌, ◌-◌, ◌/◌, ◌%◌, ◌<◌, inl, inr, true, ◌≤◌, List, [], ◌∷◌, ◌++◌, length, take, drop, min, Some, refl, sym, ap, ◌∙◌, arith, slice_set, get_or-set_other, append_assoc}
 use Rattle.std.specs.Prelude.{slice_get}
 use Rattle.std.proofs.lemmas.Bool.{cases_lt}
 use Rattle.std.proofs.Math.Seq.{take-suc-set}
@@ -9,11 +9,13 @@ use Rattle.frames.specs.declared.Frames.{Frames}
 use Rattle.frames.specs.Free.{further_at}
 use Rattle.ram.specs.Memory.{frame_of, put, put_bytes}
 use Rattle.vm.specs.declared.Space.{Space}
-use Rattle.vm.specs.Dense.{frame_at, marks_at, page_at, page_with, SameLeaves}
+use Rattle.vm.specs.Dense.{frame_at, marks_at, page_at, page_with, read_at, SameLeaves}
+use Rattle.vm.specs.Leaf.{is_open, right_marks}
 use Rattle.vm.specs.Reach.{written}
 use Rattle.vm.proofs.ReachLemmas.{item-at}
-use Rattle.vm.specs.Space.{pages_in, IsMapped, IsOnce, IsSpace, pages_of, Reframes}
-use Rattle.vm.proofs.StoreLemmas.{Writes-page, pages-stored, private-set, reads-stay, space-stays, trap-apart}
+use Rattle.vm.specs.Space.{pages_in, IsMapped, IsOnce, IsSpace, Stands, mapping_of, pages_of, Reframes}
+use Rattle.vm.proofs.StoreLemmas.{Writes-page, pages-stored, private-set, reads-stay, space-stays, space-stored, trap-apart}
+use Rattle.vm.proofs.WalkLaw.{get-mapping, mapped-page}
 
 write_from-none : (ps : List Page) (at : ℕ) → write_from ps at [] ≡ ps
 write_from-none [] at = refl
@@ -89,3 +91,28 @@ put-written m k s p at bs is once low e =
     let same : put_bytes bytes at bs ≡ overwrite bytes at bs = sym (append_assoc (take at bytes) bs (drop (at + length bs) bytes)) in
     pages-stored m k s p (put_bytes bytes at bs) is once low e
     ∙ ap (λ b. slice_set (pages_of m s) p (page_with b (marks_at m s.root.0 p))) same
+
+-- ---- bytes that lie in one page
+
+module _ (m k : List (List ℕ)) (s : Space) (address : ℕ) (bs : List ℕ) (is : IsMapped m s) (once : IsOnce m s) (low : address / 4096 < pages_in s.size) (e : k ≡ put m (frame_at m s.root.0 (address / 4096)) (address % 4096) bs) where
+  abbrev page : ℕ
+  page = address / 4096
+
+  abbrev after : List ℕ → Memory
+  after new = slice_set (pages_of m s) page (written (page_at m s.root.0 page) (address % 4096) new)
+
+  -- all of them are written
+  pub put-stored : 0 < length bs → length bs ≤ 4096 - address % 4096 → pages_of k s ≡ write_bytes (pages_of m s) address bs
+  put-stored some fits =
+      let n = length bs in
+      let here = mapped-page m (mapping_of m s) page (read_at right_marks m s.root.0 page) (sym (get-mapping right_marks m s.root.0 (pages_in s.size) page low)) in
+      put-written m k s page (address % 4096) bs is once low e
+      ∙ sym (write-none (after bs) (address + n))
+      ∙ ap (write_bytes (after bs) (address + n)) (sym (drop_all n bs (omega arith)))
+      ∙ ap (λ new. write_bytes (after new) (address + n) (drop n bs)) (sym (take_all n bs (omega arith)))
+      ∙ write-page (pages_of m s) address n (page_at m s.root.0 page) bs some here (omega (arith, fits))
+
+  -- and the space stands where the page is open
+  pub put-stands : is_open (marks_at m s.root.0 page) ≡ true → Stands m k s
+  unfolding put
+  put-stands wide = space-stored m k s page (put_bytes (frame_of m (frame_at m s.root.0 page)) (address % 4096) bs) is once low wide e

@@ -1,13 +1,15 @@
 //! What the kernel reads and writes of a program's memory: any bytes that the program itself could.
 
-ghost use Rattle.std.specs.Prelude.{◌≡◌, ◌≢◌, ℕ, ◌+◌, ◌-◌, ◌*◌, ◌/◌, ◌%◌, ◌^◌, ◌<◌, ◌≤◌, List, [], ◌∷◌, ◌++◌, length, min, drop, nat_le, option_map, slice_get, None, Some, false, OnOk, OnErr, IfSome, IsTrue, IsErrOf, ◌↔◌, ◌⊎◌};
+ghost use Rattle.std.specs.Bool.{OnFalse, OnTrue};
+ghost use Rattle.std.specs.Prelude.{◌≡◌, ◌≢◌, ℕ, ◌+◌, ◌-◌, ◌*◌, ◌/◌, ◌%◌, ◌^◌, ◌<◌, ◌≤◌, List, [], ◌∷◌, ◌++◌, length, min, drop, nat_le, option_map, slice_get, None, Some, false, true, OnOk, OnErr, IfSome, IsTrue, IsErrOf, ◌↔◌, ◌⊎◌};
 ghost use Rattle.ram.specs.Memory.{frame_of, put};
 ghost use Rattle.sv39.specs.Mapping.{AreApart, AreInside, WalksTo};
 ghost use Rattle.unixmodel.specs.declared.trap.Access.TheVariants.{Load, Store};
 ghost use Rattle.unixmodel.specs.Memory.{permits, reach, can_write, read_bytes, string_at};
-ghost use Rattle.vm.specs.Leaf.{rights_from, mapped_as, right_marks};
+ghost use Rattle.vm.specs.Dense.{marks_at};
+ghost use Rattle.vm.specs.Leaf.{rights_from, is_open, mapped_as, right_marks};
 ghost use Rattle.vm.specs.Reach.{run_of, piece_at, short_string, string_in};
-ghost use Rattle.vm.specs.Space.{pages_in, IsMapped, IsOnce, IsSpace, entries_of, mapping_of, pages_of, Reframes, StaysOpen, stored};
+ghost use Rattle.vm.specs.Space.{pages_in, IsMapped, IsOnce, IsSpace, Stands, entries_of, mapping_of, page_frame, pages_of, Reframes, StaysOpen, stored};
 
 use crate::{Marks, Perm, RIGHT, SHARED, Space, VmFault, pages_in};
 use bitflags::Flags;
@@ -104,6 +106,17 @@ impl Space {
         }
     }
 
+    // Whether there is a page that permits an access.
+    fn allows(&self, ram: &Ram, page: u64, access: Access) -> bool
+        requires { IsMapped ram.now self.now }
+        ensures { result ≡ nat_le 1 (run_of access (pages_of ram.now self.now) page) }
+    {
+        match self.find_page(ram, page) {
+            Some((_, marks)) => marks.permits(access),
+            None => false,
+        }
+    }
+
     // How many pages from `first` on permit an access, up to the first that doesn't; `most` at the most.
     fn run(&self, ram: &Ram, first: u64, most: u64, access: Access) -> u64
         requires mapped { IsMapped ram.now self.now }
@@ -133,6 +146,9 @@ impl Space {
             return false;
         }
         let end = address % 4096 + len;
+        if end <= 4096 {
+            return self.allows(ram, address / 4096, access);
+        }
         let run = self.run(ram, address / 4096, end.div_ceil(4096), access);
         end <= 4096 * run
     }
@@ -204,6 +220,48 @@ impl Space {
             Some(0) => Some(buffer.len()),
             _ => None,
         }
+    }
+
+    // The frame of a page where a store goes through.
+    fn open_frame(&self, ram: &Ram, page: u64) -> Option<FrameNo>
+        requires { IsMapped ram.now self.now }
+        ensures page { IfSome result (λ _. page < pages_in self.now.size) }
+        ensures frame { IfSome result (λ frame. page_frame ram.now self.now page ≡ frame.0) }
+        ensures open { IfSome result (λ _. is_open (marks_at ram.now self.now.root.0 page) ≡ true) }
+    {
+        if page >= pages_in(self.size) {
+            return None;
+        }
+        let table = PageTable { root: self.root };
+        let Some((frame, leaf)) = table.find(ram, page) else {
+            return None;
+        };
+        if leaf.contains(EntryBits::WRITE) {
+            Some(frame)
+        } else {
+            None
+        }
+    }
+
+    /// Puts bytes into a page where a store goes through: no page gets another frame. `false`: there are none, they don't all
+    /// lie in one page, or it isn't such a page; nothing is written then.
+    pub fn store(&self, ram: &mut Ram, address: u64, bytes: &[u8]) -> bool
+        requires mapped { IsMapped ram.old self.now }
+        requires once { IsOnce ram.old self.now }
+        ensures written { OnTrue result (pages_of ram.new self.now ≡ stored ram.old self.now address bytes.now) }
+        ensures stands { OnTrue result (Stands ram.old ram.new self.now) }
+        ensures refused { OnFalse result (ram.new ≡ ram.old) }
+    {
+        let at = (address % 4096) as usize;
+        let len = bytes.len();
+        if len == 0 || len > 4096 - at {
+            return false;
+        }
+        let Some(frame) = self.open_frame(ram, address / 4096) else {
+            return false;
+        };
+        write_part(ram, frame, at, bytes);
+        true
     }
 
     // Writes the bytes that lie in the page of an address, and tells how many.
