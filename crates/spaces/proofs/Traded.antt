@@ -10,9 +10,10 @@ use Rattle.spaces.specs.View.{IsActive, IsSpaces, Runs, view_with, pipe_frames, 
 use Rattle.spaces.proofs.Pipes.{pipes-beside}
 use Rattle.spaces.proofs.Places.{frames-shown, frames_for-pages, free-is, free-taken, length-pages_of, places-count, slot-is, taken-fits}
 use Rattle.std.specs.List.{refill}
-use Rattle.std.proofs.Common.{◌≡◌, ◌≢◌, ℕ, ◌+◌, ◌-◌, ◌<◌, ◌≤◌, ◌⊎◌, inl, inr, List, [], ◌∷◌, ◌++◌, false, length, map, replicate, slice_set, subst, take, Option, Some, None, Result, Ok, Err, refl, sym, ap, ◌∙◌, arith, length-append, length-set, get_or-set_other, get_or-set_same}
+use Rattle.std.proofs.Common.{◌≡◌, ◌≢◌, ℕ, ◌+◌, ◌-◌, ◌<◌, ◌≤◌, ◌⊎◌, inl, inr, List, [], ◌∷◌, ◌++◌, Bool, false, true, length, map, replicate, slice_set, subst, take, Option, Some, None, Result, Ok, Err, refl, sym, ap, ◌∙◌, arith, length-append, length-set, get_or-set_other, get_or-set_same}
 use Rattle.std.proofs.lemmas.Bool.{cases_eq}
 use Rattle.std.proofs.lemmas.List.{length-replicate, set-get_or, take_all}
+use Rattle.std.specs.Bool.{OnFalse, OnTrue}
 use Rattle.std.specs.Prelude.{OnErr, OnOk}
 use Rattle.sv39.specs.Mapping.{IsCoherent, Mapped}
 use Rattle.sv39.proofs.Coherence.{coherent-nothing}
@@ -29,7 +30,7 @@ use Rattle.vm.specs.Leaf.{entry_marks}
 use Rattle.vm.specs.Shares as shares
 use Rattle.vm.specs.Shares.{IsMachine, IsPlace, OthersUntouched}
 use Rattle.vm.proofs.SharesLemmas.{fork-machine, trade-machine, trade-others}
-use Rattle.vm.specs.Space.{IsSpace, IsUntouched, Reframes, holds, entries_of, pages_in, pages_of}
+use Rattle.vm.specs.Space.{IsSpace, IsUntouched, Reframes, Stands, holds, entries_of, pages_in, pages_of}
 
 -- a place that stays
 pub same-place : (xs : List (Option Space)) (at : ℕ) (x : Space) → slot xs at ≡ Some x → xs ≡ slice_set xs at (Some x)
@@ -209,6 +210,29 @@ pub reframed-showing : {T : Type 0} (held : T → translation.Held) (i : Inside 
     → ((u : Translation) → held t u → held i.translator u) → (i.active ≡ Some at → HoldsNothing (held t)) → pages_of k x ≡ memory → Placed held i (record i { ram = k; frames = n; translator = t }) at (Some (view_with memory x.size))
 reframed-showing held i at x k n t memory is e r fewer fenced pages =
     placed-as held i (record i { ram = k; frames = n; translator = t }) at (shown k (Some x)) (Some (view_with memory x.size)) (reframed held i at x k n t is e r fewer fenced) (shown-as k x memory x.size pages refl)
+
+-- a page of a space is written where it stands, so what is held stays: it shows this memory then
+stood-showing : {T : Type 0} (held : T → translation.Held) (i : Inside T) (at : ℕ) (x : Space) (k : List (List ℕ)) (memory : Memory) → IsSpaces held i → slot i.places.items at ≡ Some x → Stands i.ram k x → pages_of k x ≡ memory
+    → Placed held i (record i { ram = k }) at (Some (view_with memory x.size))
+stood-showing held i at x k memory is e s pages =
+    let space = is.machine.each at x e in
+    placed-as held i (record i { ram = k }) at (shown k (Some x)) (Some (view_with memory x.size))
+    (changed held i at x x k i.frames i.translator i.places.items is e (same-place i.places.items at x e) (s.space i.frames space) (s.trades i.frames space) refl (λ u h. h) (λ a was. rw s.entries was))
+    (shown-as k x memory x.size pages refl)
+
+-- or it isn't written, and nothing changed
+pub stored-sound : {T : Type 0} (held : T → translation.Held) (i : Inside T) (at : ℕ) (x : Space) (k : List (List ℕ)) (b : Bool) → IsSpaces held i → slot i.places.items at ≡ Some x → OnTrue b (Stands i.ram k x) → OnFalse b (k ≡ i.ram) → IsSpaces held (record i { ram = k })
+stored-sound held i at x k true is e stands same = (stood-showing held i at x k (pages_of k x) is e stands refl).sound
+stored-sound held i at x k false is e stands same = rw same is
+
+pub stored-showing : {T : Type 0} (held : T → translation.Held) (i : Inside T) (at : ℕ) (x : Space) (k : List (List ℕ)) (memory : Memory) (b : Bool) → IsSpaces held i → slot i.places.items at ≡ Some x → OnTrue b (Stands i.ram k x) → OnTrue b (pages_of k x ≡ memory)
+    → OnTrue b (spaces_of (record i { ram = k }) ≡ record (spaces_of i) { places = slice_set (spaces_of i).places at (Some (view_with memory x.size)) })
+stored-showing held i at x k memory true is e stands pages = (stood-showing held i at x k memory is e stands pages).view
+stored-showing held i at x k memory false is e stands pages = tt
+
+pub stored-same : {T : Type 0} (i : Inside T) (k : List (List ℕ)) (b : Bool) → OnFalse b (k ≡ i.ram) → OnFalse b (spaces_of (record i { ram = k }) ≡ spaces_of i)
+stored-same i k true same = tt
+stored-same i k false same = rw same refl
 
 -- nothing changed
 pub view-same : {T : Type 0} (i : Inside T) (at : ℕ) (x : Space) (k : List (List ℕ)) (n : Frames) (z : Space) (q : List (Option Space)) → (k ≡ i.ram) × (n ≡ i.frames) × (z ≡ x) → slot i.places.items at ≡ Some x

@@ -10,8 +10,8 @@
 //!
 //! A translator may hold translations, so it is fenced where one that it may hold for the active place goes: where
 //! another space becomes the active one, and where the active one shrinks, is copied, so that its pages are closed, or is
-//! written, so that a page may get another frame. A space that grows keeps the frames that it had, and what is held for
-//! spaces that aren't active doesn't count.
+//! written where a page may get another frame. A space that grows keeps the frames that it had, one that is written at an
+//! open page does, and what is held for spaces that aren't active doesn't count.
 #![tactic(auto)]
 
 ghost use Rattle.std.specs.Prelude.{◌≡◌, ◌≢◌, List, ◌+◌, ◌-◌, ◌++◌, ◌<◌, ◌≤◌, ◌/◌, ◌%◌, ℕ, [], All, Some, None, true, false, drop, length, is_some, min, nat_le, nat_lt, not, option_map, replicate, slice_get, slice_index, slice_set, take, IfOk, IfSome, IfNone, Ok, Err};
@@ -499,6 +499,29 @@ impl<T: Translate + Drop> Spaces<T> {
         requires inside { (i : ℕ) → i < length bytes.now → (address + i) / 4096 < length (view_at self.old at).memory }
         ensures { self.new ≡ with_view self.old at (written (view_at self.old at) address bytes.now) }
     {
+        if self.store(at, address, bytes) {
+            return;
+        }
+        self.fill_pages(at, address, bytes);
+    }
+
+    // The same where a store goes through and the bytes lie in one page: nothing that a translator holds goes. `false`: it isn't
+    // so, and nothing changed.
+    fn store(&mut self, at: usize, address: u64, bytes: &[u8]) -> bool
+        requires { has_space self.old at ≡ true }
+        ensures done { OnTrue result (self.new ≡ with_view self.old at (written (view_at self.old at) address bytes.now)) }
+        ensures refused { OnFalse result (self.new ≡ self.old) }
+    {
+        let space = space_at(&self.places, at);
+        space.store(&mut self.ram, address, bytes)
+    }
+
+    // The same for any bytes: pages may get other frames.
+    fn fill_pages(&mut self, at: usize, address: u64, bytes: &[u8])
+        requires space { has_space self.old at ≡ true }
+        requires inside { (i : ℕ) → i < length bytes.now → (address + i) / 4096 < length (view_at self.old at).memory }
+        ensures { self.new ≡ with_view self.old at (written (view_at self.old at) address bytes.now) }
+    {
         let space = space_at(&self.places, at);
         space.fill(&mut self.ram, &mut self.frames, address, bytes);
         fence_active(&mut self.translator, self.active, at);
@@ -511,12 +534,12 @@ impl<T: Translate + Drop> Spaces<T> {
         ensures done { OnTrue result (self.new ≡ with_view self.old at (written (view_at self.old at) address bytes.now)) }
         ensures refused { OnFalse result (self.new ≡ self.old) }
     {
-        let space = space_at(&self.places, at);
-        let done = space
-            .copy_out(&mut self.ram, &mut self.frames, address, bytes)
-            .is_ok();
-        fence_active(&mut self.translator, self.active, at);
-        done
+        self.pages_are_whole(at);
+        if !self.can_write(at, address, bytes.len() as u64) {
+            return false;
+        }
+        self.fill(at, address, bytes);
+        true
     }
 
     /// Copies bytes from an address of a place. `false`: its program may not read them all; then none is copied.
