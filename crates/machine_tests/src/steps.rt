@@ -4,6 +4,7 @@ ghost use Rattle.std.specs.Prelude.{◌<◌};
 use crate::copying::{PRINTED, boot, console, is_even};
 use crate::hello::BYTES;
 use crate::play::{Program, READ, ROOM, holds_at, narrow_console};
+use asm::assemble;
 use blockdev::MemDisk;
 use console::Writer;
 use machine::{Halt, Machine, boot_flat_with};
@@ -39,6 +40,15 @@ impl Lane {
         })
     }
 
+    // That of another program.
+    fn of(alloc: Global, program: &[u8]) -> Option<Lane> {
+        let machine = boot_flat_with(alloc, program, Plain::new(), 64).ok()?;
+        Some(Lane {
+            machine,
+            out: console(alloc),
+        })
+    }
+
     fn event(&mut self, event: Event) -> Result<(), Halt> {
         self.machine.step(event, &mut self.out)
     }
@@ -61,9 +71,13 @@ impl Lane {
         self.machine.steps(steps % size, &mut self.out)
     }
 
-    fn has_printed_all(self) -> bool {
+    fn printed(self) -> Vec<u8> {
         let Lane { machine: _, out } = self;
-        out.into_inner().as_slice() == PRINTED
+        out.into_inner()
+    }
+
+    fn has_printed_all(self) -> bool {
+        self.printed().as_slice() == PRINTED
     }
 }
 
@@ -96,6 +110,96 @@ fn many_steps_are_as_many_events(rt: HostRuntime) {
     holds_at(&rt, 2, holds_for(rt.alloc(), 2) == Some(true));
     holds_at(&rt, 7, holds_for(rt.alloc(), 7) == Some(true));
     holds_at(&rt, 1000, holds_for(rt.alloc(), 1000) == Some(true));
+}
+
+// Where a file of the assembler has its program.
+const PROGRAM_AT: usize = 4096;
+
+// Prints its first two bytes.
+const PRINTS: &str = "
+        addi a0, zero, 1
+        addi a1, zero, 0
+        addi a2, zero, 2
+        addi a7, zero, 16
+        ecall
+        addi a0, zero, 0
+        addi a7, zero, 2
+        ecall
+";
+
+// The last word of its page, behind which nothing can be fetched.
+const RUNS_OFF: &str = "
+        j last
+        .zero 4088
+last:   addi a0, a0, 1
+";
+
+// A branch at the last word of a page: three times far into the next one, and then just across.
+const CROSSES: &str = "
+        addi s0, zero, 3
+        j place
+        .zero 4080
+place:  addi a0, a0, 1
+        bne s0, zero, over
+        addi a7, zero, 2
+        ecall
+over:   addi s0, s0, -1
+        j place
+";
+
+// A word that is no instruction.
+const STUMBLES: &str = "
+        addi a0, a0, 1
+        .zero 4
+";
+
+// A program, how many steps it takes before the one at which process 1 ends, its status then, and counts of steps: none, and those that end
+// just before and just behind a trap or the end of a page, or go on behind the last step.
+type Course = (&'static str, u32, i32, &'static [u32]);
+
+const COURSES: [Course; 4] = [
+    (PRINTS, 8, 0, &[0, 5, 6, 8, 9, 20]),
+    (RUNS_OFF, 3, -1, &[2, 3, 4, 9]),
+    (CROSSES, 18, 4, &[4, 5, 16, 17, 18, 19, 40]),
+    (STUMBLES, 2, -1, &[1, 2, 3, 9]),
+];
+
+// What two machines answer so many steps, of which the second does them at once. `None`: they differ behind them.
+fn both_answer(one: &mut Lane, other: &mut Lane, steps: u32) -> Option<Result<(), Halt>> {
+    let single = one.singly(steps);
+    let many = other.machine.steps(steps, &mut other.out);
+    let alike = single == many && is_even(&one.machine, &other.machine);
+    (alike && one.machine.digest() == other.machine.digest()).then_some(single)
+}
+
+// Whether so many steps of a program are answered so, and those at once are as many events, and so again behind a tick.
+fn are_events(alloc: Global, program: &[u8], steps: u32, answer: Result<(), Halt>) -> Option<bool> {
+    let (mut one, mut other) = (Lane::of(alloc, program)?, Lane::of(alloc, program)?);
+    let first = both_answer(&mut one, &mut other, steps)?;
+    let ticked = one.event(Event::Tick) == other.event(Event::Tick);
+    let _second = both_answer(&mut one, &mut other, steps)?;
+    let printed = one.printed().as_slice() == other.printed().as_slice();
+    Some(first == answer && ticked && printed)
+}
+
+fn goes_its_course(alloc: Global, course: Course) -> Option<bool> {
+    let (text, before, status, counts) = course;
+    let file = assemble(alloc, text).ok()?;
+    let program = file.as_slice().get(PROGRAM_AT..)?;
+    let end: Result<(), Halt> = Err(Halt::InitEnded(status));
+    Some(
+        counts.iter().all(|count| {
+            let answer = if *count <= before { Ok(()) } else { end };
+            are_events(alloc, program, *count, answer) == Some(true)
+        }),
+    )
+}
+
+#[test]
+fn steps_end_at_any_place(rt: HostRuntime) {
+    for (row, course) in COURSES.iter().enumerate() {
+        holds_at(&rt, row, goes_its_course(rt.alloc(), *course) == Some(true));
+    }
 }
 
 // What so many steps of a program that says `hi` are answered, at a console that takes so many bytes, and what as many more are.
