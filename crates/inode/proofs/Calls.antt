@@ -1,7 +1,7 @@
 -- What steps of a disk say of a volume's nodes.
-use Rattle.std.proofs.Common.{◌≡◌, ◌≢◌, ◌+◌, ◌<◌, ◌≤◌, ◌∙◌, ℕ, Bool, List, None, Option, Some, [], ap, arith, inl, inr, length, refl, set, subst, sym}
+use Rattle.std.proofs.Common.{◌≡◌, ◌+◌, ◌<◌, ◌≤◌, ◌∙◌, ℕ, Bool, List, None, Option, Some, [], ap, arith, inl, inr, length, refl, set, subst, sym}
 use Rattle.std.specs.Prelude.{IsSome, false, take, unwrap_or}
-use Rattle.std.proofs.lemmas.Bool.{cases_eq, cases_lt, false≢true}
+use Rattle.std.proofs.lemmas.Bool.{cases_eq, cases_lt}
 use Rattle.std.proofs.lemmas.List.{get_or-set_same, get_or_past, set-set, take_all}
 use Rattle.blockdev.specs.Splice.{splice}
 use Rattle.balloc.specs.Inodes.{IsUnused, SetsNode, TakesInode, TakesNode, fresh_node}
@@ -9,8 +9,10 @@ use Rattle.cache.specs.Disk.{Disk}
 use Rattle.inode.proofs.Shown.{inode-some, raw-inode, slot-free, slot-inode, used-inode, whole-sound}
 use Rattle.inode.specs.Looking.{IsTold, Tells, TellsAny, node_in}
 use Rattle.inode.specs.Reading.{IsReadInto}
-use Rattle.inode.specs.Store.{Changes, IsWhole, Keeps, Store, IsFull, TakesLowest, Writes, WritesSome, no_node, raw_at, store_over, used_by, with_bytes}
-use Rattle.inode.specs.Writing.{LacksAt, Wrote, WritesFront, with_links}
+use Rattle.inode.specs.Store.{Changes, Store, IsFull, TakesLowest, Writes, WritesFrom, WritesSome, no_node, raw_at, store_over, used_by, with_bytes}
+use Rattle.inode.specs.Writing.{LacksAt, Wrote, WritesAt, WritesFront, with_links}
+use Rattle.inode.specs.declared.write.Outcome.{Outcome}
+use Rattle.inode.specs.declared.write.Outcome.TheVariants.{PastEnd, TooLong, Written}
 use Rattle.inode.specs.declared.InodeStat.{InodeStat}
 use Rattle.layout.proofs.Frame.{length-bytes_of, length-nodes_of}
 use Rattle.layout.specs.declared.Geometry.{Geometry}
@@ -44,6 +46,9 @@ module _ (blocks : List (List ℕ)) (inodes n : ℕ) where
 
   pub read-raw : IsInode blocks inodes n → {at : ℕ} {old new : List ℕ} (k : ℕ) → IsReadInto (bytes_of blocks n) at old new k → IsReadInto (raw_at (nodes_of blocks inodes) n).bytes at old new k
   read-raw used {at} {old} {new} k = subst (λ (raw : RawNode). IsReadInto raw.bytes at old new k) (sym (raw-inode blocks inodes n used))
+
+  raw-bytes : IsInode blocks inodes n → (P : List ℕ → Type 0) → P (bytes_of blocks n) → P (raw_at (nodes_of blocks inodes) n).bytes
+  raw-bytes used P = subst (λ (raw : RawNode). P raw.bytes) (sym (raw-inode blocks inodes n used))
 
   -- a number that names nothing isn't in use
   pub unused-free : {g : Geometry} → g.inodes ≡ inodes → 1 ≤ n → n < inodes → slot (nodes_of blocks inodes) n ≡ None → IsUnused g blocks n
@@ -145,16 +150,6 @@ some-within nodes n some = elim (cases_lt n (length nodes)) [ inl high ↦ high 
 abbrev raw_of : Option RawNode → RawNode
 raw_of o = unwrap_or o no_node
 
--- a node is never longer than the longest file
-pub whole-short : {D : Type 0} {s : Store D} → IsWhole s → (n : ℕ) → IsSome (slot s.nodes n) → length (raw_at s.nodes n).bytes ≤ longest
-whole-short {s = s} whole n some = go (slot s.nodes n) refl some where
-  go : (o : Option RawNode) → slot s.nodes n ≡ o → IsSome o → length (raw_at s.nodes n).bytes ≤ longest
-  go None here some = absurd (false≢true some)
-  go (Some raw) here some =
-      let e : length (raw_at s.nodes n).bytes ≡ length raw.bytes = ap (λ o. length (raw_of o).bytes) here in
-      let short = (whole.each n raw here).short in
-      omega arith
-
 module _ {D : Type 0} {s mid : Store D} {n : ℕ} where
   slot-changed : {node : Option RawNode} → Changes s mid n node → IsSome (slot s.nodes n) → slot mid.nodes n ≡ node
   slot-changed {node} changes some = ap (λ ns. slot ns n) changes.nodes ∙ get_or-set_same s.nodes n node None (some-within s.nodes n some)
@@ -175,38 +170,28 @@ module _ {D : Type 0} {s mid : Store D} {n : ℕ} where
         omega arith;
   }
 
--- ---- bytes are written, behind a look
+-- ---- bytes are written
 
-abbrev written_at : List (Option RawNode) → ℕ → ℕ → List ℕ → RawNode
-written_at nodes n at bytes = with_bytes (raw_at nodes n) (splice at bytes (raw_at nodes n).bytes)
-
-changes-kept : {D : Type 0} {old mid new : Store D} {n : ℕ} (at : ℕ) (bytes : List ℕ) → Keeps old mid → Changes mid new n (Some (written_at mid.nodes n at bytes)) → Changes old new n (Some (written_at old.nodes n at bytes))
-changes-kept {old = old} {mid} {new} {n} at bytes keeps changes = record {
-  whole = changes.whole;
-  nodes = subst (λ ns. new.nodes ≡ set ns n (Some (written_at ns n at bytes))) keeps.nodes changes.nodes;
-  free = subst (λ ns. new.free + used_by (Some (written_at ns n at bytes)) ≡ mid.free + used_by (slot ns n)) keeps.nodes changes.free ∙ ap (λ free. free + used_by (slot old.nodes n)) keeps.free;
-}
-
-module _ {D : Type 0} {old mid new : Store D} {n at : ℕ} {bytes : List ℕ} (keeps : Keeps old mid) (k : ℕ) (some : WritesSome mid new n at bytes k) (within : at ≤ length (raw_at old.nodes n).bytes) (short : at + length bytes ≤ longest) where
+module _ {D : Type 0} {old new : Store D} {n at : ℕ} {bytes : List ℕ} (k : ℕ) (some : WritesSome old new n at bytes k) (within : at ≤ length (raw_at old.nodes n).bytes) (short : at + length bytes ≤ longest) where
   pub writes-all : length bytes ≤ k → Writes old new n at bytes
   writes-all all = record {
     within = within;
     short = short;
-    changes = subst (λ xs. Changes old new n (Some (written_at old.nodes n at xs))) (take_all k bytes all) (changes-kept at (take k bytes) keeps some.changes);
+    changes = subst (λ xs. Changes old new n (Some (with_bytes (raw_at old.nodes n) (splice at xs (raw_at old.nodes n).bytes)))) (take_all k bytes all) some.changes;
   }
 
   pub writes-part : k < length bytes → IsFull old new n at bytes k
-  writes-part less = record {
-    some_left = less;
-    within = within;
-    short = short;
-    changes = changes-kept at (take k bytes) keeps some.changes;
-    few = subst (λ free. LacksAt free (raw_at old.nodes n).bytes (at + k)) keeps.free (subst (λ ns. LacksAt mid.free (raw_at ns n).bytes (at + k)) keeps.nodes (some.few less));
-  }
+  writes-part less = record { some_left = less; within = within; short = short; changes = some.changes; few = some.few less }
 
--- what the write asks
-pub within-kept : {D : Type 0} {old mid : Store D} (n : ℕ) {at : ℕ} → Keeps old mid → at ≤ length (raw_at old.nodes n).bytes → at ≤ length (raw_at mid.nodes n).bytes
-within-kept n {at} keeps = subst (λ ns. at ≤ length (raw_at ns n).bytes) (sym keeps.nodes)
+-- the disk is sound still
+pub writes-sound : {g : Geometry} {old new : List (List ℕ)} (n at : ℕ) (bytes : List ℕ) → IsSound g old → (o : Outcome) → WritesAt g old new n at bytes o → IsSound g new
+writes-sound {g} n at bytes sound PastEnd past = subst (IsSound g) (sym past.0) sound
+writes-sound {g} n at bytes sound TooLong long = subst (IsSound g) (sym long.0) sound
+writes-sound n at bytes sound (Written k) wrote = wrote.2.wrote.sound
 
-pub node-kept : {D : Type 0} {old mid : Store D} (n : ℕ) → Keeps old mid → IsSome (slot old.nodes n) → IsSome (slot mid.nodes n)
-node-kept n keeps = subst (λ ns. IsSome (slot ns n)) (sym keeps.nodes)
+pub writes-from : {D : Type 0} (g : Geometry) (d d' : Disk D) (f b : Bool) (n at : ℕ) (bytes : List ℕ) → IsInode d.blocks g.inodes n → (o : Outcome) → WritesAt g d.blocks d'.blocks n at bytes o → WritesFrom (store_over g d f) (store_over g d' b) n at bytes o
+writes-from g d d' f b n at bytes inode PastEnd past =
+    (record { nodes = ap (λ bs. nodes_of bs g.inodes) past.0; free = ap (free_blocks g) past.0 }, raw-bytes d.blocks g.inodes n inode (λ bytes. length bytes < at) past.1)
+writes-from g d d' f b n at bytes inode TooLong long =
+    (record { nodes = ap (λ bs. nodes_of bs g.inodes) long.0; free = ap (free_blocks g) long.0 }, raw-bytes d.blocks g.inodes n inode (λ bytes. at ≤ length bytes) long.1, long.2)
+writes-from g d d' f b n at bytes inode (Written k) wrote = (raw-bytes d.blocks g.inodes n inode (λ bytes. at ≤ length bytes) wrote.0, wrote.1, writes-some inode k wrote.2)

@@ -13,7 +13,8 @@ use Rattle.layout.specs.Inode.{inode_of}
 use Rattle.layout.specs.Grow.{Grows, WritesInode}
 use Rattle.layout.proofs.GrowLemmas.{Grows-bytes, Grows-keeps, Grows-node, Grows-sound}
 use Rattle.balloc.proofs.Counting.{free_blocks-same}
-use Rattle.inode.specs.Writing.{IsSameNode, Prepares, Wrote}
+use Rattle.inode.specs.OnDisk.{HasInode-of, IsInHand, IsInHand-of}
+use Rattle.inode.specs.Writing.{IsSameNode, Prepares, Puts, Wrote}
 
 -- the same node has the same fields
 pub same_node : {k k' a a' i i' l l' : ℕ} {b b' : List ℕ} → k ≡ k' → a ≡ a' → i ≡ i' → l ≡ l' → b ≡ b'
@@ -88,3 +89,7 @@ WritesInode-same g old mid n inode high grows e = record {
 -- the inode stays one
 pub IsInode-same : {old new : List (List ℕ)} {inodes n : ℕ} → IsInode old inodes n → IsSameNode (inode_at old n) (inode_at new n) → IsInode new inodes n
 IsInode-same used same = record { low = used.low; high = used.high; kind = λ z. used.kind (sym same.kind ∙ z) }
+
+-- the record that is written is that of the inode
+pub Puts-held : {g : Geometry} {old new : List (List ℕ)} {n : ℕ} (was : DiskInode) {inode : DiskInode} {bytes : List ℕ} → IsInHand g old n was → Puts g old new n inode bytes → IsInHand g new n inode
+Puts-held was held puts = IsInHand-of (record { sound = puts.wrote.sound; used = IsInode-same (HasInode-of held).used puts.wrote.same; same = puts.record_is })

@@ -7,6 +7,8 @@ use Rattle.cache.specs.Disk.{Disk}
 use Rattle.inode.specs.Writing.{LacksAt, with_links}
 use Rattle.inode.specs.declared.InodeFault.{InodeFault}
 use Rattle.inode.specs.declared.InodeFault.TheVariants.{Blocks, Device, PastEnd, TooLong}
+use Rattle.inode.specs.declared.write.Outcome.{Outcome}
+use Rattle.inode.specs.declared.write.Outcome.TheVariants as outcome
 use Rattle.inode.specs.declared.volume.Volume.TheInside.{Inside}
 use Rattle.layout.specs.declared.Geometry.{Geometry}
 use Rattle.layout.specs.Image.{RawNode, free_blocks, nodes_of, taken_for}
@@ -160,6 +162,12 @@ pub record WritesSome {D : Type 0} (old new : Store D) (n at : ℕ) (bytes : Lis
   pub most : k ≤ length bytes
   pub changes : Changes old new n (Some (with_bytes (raw_at old.nodes n) (splice at (take k bytes) (raw_at old.nodes n).bytes)))
   pub few : k < length bytes → LacksAt old.free (raw_at old.nodes n).bytes (at + k)
+
+-- what comes of these bytes, which are to stand in node n from a place on
+abbrev pub WritesFrom : {D : Type 0} → Store D → Store D → ℕ → ℕ → List ℕ → Outcome → Type 0
+WritesFrom old new n at bytes outcome.PastEnd = Keeps old new × (length (raw_at old.nodes n).bytes < at)
+WritesFrom old new n at bytes outcome.TooLong = Keeps old new × (at ≤ length (raw_at old.nodes n).bytes) × (longest < at + length bytes)
+WritesFrom old new n at bytes (outcome.Written k) = (at ≤ length (raw_at old.nodes n).bytes) × (at + length bytes ≤ longest) × WritesSome old new n at bytes k
 
 -- why not all of them are
 abbrev pub LacksWriting : {D : Type 0} → Store D → Store D → ℕ → ℕ → List ℕ → InodeFault → Type 0

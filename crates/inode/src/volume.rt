@@ -3,19 +3,19 @@
 ghost use Rattle.std.specs.Prelude.{◌≡◌, ◌≢◌, ◌+◌, ◌<◌, ◌≤◌, IfOk, IsSome, None, OnOk, Some, false, length, nat_le, slice_set, take};
 ghost use Rattle.inode.specs.Looking.{IsTold, TellsAny};
 ghost use Rattle.inode.specs.Reading.{IsReadInto};
-ghost use Rattle.inode.specs.Store.{Changes, Flushed, HasLinks, IsEmptied, IsWhole, LacksWriting, Looks, Serves, TakesLowest, Tries, Writes, WritesSome, is_device, raw_at, store_over};
+ghost use Rattle.inode.specs.Store.{Changes, Flushed, HasLinks, IsEmptied, IsWhole, LacksWriting, Looks, Serves, TakesLowest, Tries, Writes, WritesFrom, is_device, raw_at, store_over};
 ghost use Rattle.balloc.specs.Inodes.{fresh_node};
 ghost use Rattle.layout.specs.Sound.{IsSound};
-ghost use Rattle.unixmodel.specs.Files.{longest, slot};
+ghost use Rattle.unixmodel.specs.Files.{slot};
 
 use crate::empty::truncate;
 use crate::read::{look, read_at, stat};
-use crate::write::{set_links, write_front};
+use crate::write::{Outcome, set_links, write_at};
 use crate::{InodeFault, InodeStat};
 use balloc::{give_inode, has_blocks, take_inode, take_inode_at};
 use blockdev::{BlockDev, DeviceFault, Duplicate};
 use cache::Cache;
-use layout::{Geometry, LONGEST};
+use layout::Geometry;
 use std::alloc::{AllocError, Global};
 use std::marker::Model;
 
@@ -142,31 +142,29 @@ impl<D: BlockDev> Volume<D> {
         requires node { IsSome (slot self.old.nodes number) }
         ensures { Serves D.identity is_device self.old self.new result (λ _. Writes self.old self.new number at bytes.now) (LacksWriting self.old self.new number at bytes.now) }
     {
-        self.is_whole();
-        let before = self.stat(number)?;
-        if at > before.size as usize {
-            return Err(InodeFault::PastEnd);
-        }
-        if bytes.len() > LONGEST - at {
-            return Err(InodeFault::TooLong);
-        }
-        let written = self.write_front(number, at, bytes)?;
+        let written = match self.try_writing(number, at, bytes)? {
+            Outcome::PastEnd => return Err(InodeFault::PastEnd),
+            Outcome::TooLong => return Err(InodeFault::TooLong),
+            Outcome::Written(written) => written,
+        };
         if written < bytes.len() {
             return Err(InodeFault::Blocks { written });
         }
         Ok(())
     }
 
-    // Writes bytes of a node from a place on that isn't past its end, and tells how many: all of them, or the next one needs more
-    // blocks than are free.
-    fn write_front(&mut self, number: usize, at: usize, bytes: &[u8]) -> Result<usize, DeviceFault>
+    // Writes bytes of a node from a place on, as many as there are blocks for, and tells what comes of it.
+    fn try_writing(
+        &mut self,
+        number: usize,
+        at: usize,
+        bytes: &[u8],
+    ) -> Result<Outcome, DeviceFault>
         requires up { self.old.failed ≡ false }
         requires node { IsSome (slot self.old.nodes number) }
-        requires within { at ≤ length (raw_at self.old.nodes number).bytes }
-        requires short { at + length bytes.now ≤ longest }
-        ensures { Tries D.identity self.old self.new result (WritesSome self.old self.new number at bytes.now) }
+        ensures { Tries D.identity self.old self.new result (WritesFrom self.old self.new number at bytes.now) }
     {
-        let result = write_front(&mut self.disk, self.geometry, number, at, bytes);
+        let result = write_at(&mut self.disk, self.geometry, number, at, bytes);
         self.failed = result.is_err();
         result
     }

@@ -6,11 +6,8 @@ use Rattle.inode.proofs.grow.fill.Goals as goal
 pub returns-in_err-b : goal.returns-in_err-b
 returns-in_err-b g c = step-failed goes-stays c.take_block.ensures c.in_err-b.was c.from_residual.ensures.1
 
-pub unreachable-requires : goal.unreachable-requires
-unreachable-requires g c =
-    let none = subst (Takes c.args.geometry c.args.disk.now.blocks c.take_block.new.disk.blocks) c.in_default.is c.in_ok-b.ensures.done in
-    let zero = none.0 in
-    omega (arith, c.requires.some)
+pub returns-in_default : goal.returns-in_default
+returns-in_default g c = step-done c.take_block.ensures.goes (subst (Takes c.args.geometry c.args.disk.now.blocks c.take_block.new.disk.blocks) c.in_default.is c.in_ok-b.ensures.done)
 
 pub write-requires : goal.write-requires
 write-requires g c =

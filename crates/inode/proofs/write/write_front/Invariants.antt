@@ -2,12 +2,16 @@ use Rattle.std.proofs.Common.{◌-◌, ◌≤◌, length, take}
 use Rattle.blockdev.specs.Splice.{splice}
 use Rattle.cache.specs.Steps.{Goes}
 use Rattle.layout.specs.Image.{bytes_of}
+use Rattle.layout.specs.Inode.{Fits}
+use Rattle.inode.specs.OnDisk.{IsInHand}
 use Rattle.inode.specs.Writing.{Wrote}
 use Rattle.inode.proofs.write.write_front.Given as goal
 
 abbrev pub invariant-piece : goal.invariant-piece
 invariant-piece g l = record {
   wrote : Wrote l.geometry l.fn.disk.blocks l.disk.blocks l.number (splice l.at (take l.done l.bytes) (bytes_of l.fn.disk.blocks l.number));
+  held : IsInHand l.geometry l.disk.blocks l.number l.inode;
+  fits : Fits l.inode;
   goes : Goes g.D.BlockDev.identity l.fn.disk l.disk;
   within : l.done ≤ length l.bytes;
 }
