@@ -4,3 +4,4 @@ pub mod Looking
 pub mod Following
 pub mod Turns
 pub mod Joined
+pub mod Waiting

@@ -1,5 +1,6 @@
 pub mod Pick
 pub mod Mask
+pub mod Waits
 pub mod Places
 pub mod Sound
 pub mod Whole

@@ -34,3 +34,17 @@ Finds places last from result = MatchOption result (NoneIsIn places last from (p
 -- a pick that began after the last picked has left no place awake that it passed over
 abbrev pub Passes : List Bool → ℕ → Option ℕ → Type 0
 Passes awake last result = MatchOption result (NoneIsIn awake last 1 (place_limit + 1)) (λ i. (k : ℕ) × (1 ≤ k) × (k ≤ place_limit) × (i ≡ place_in_round last k) × NoneIsIn awake last 1 k)
+
+-- no place from one on is in
+abbrev pub NoneFrom : List Bool → ℕ → Type 0
+NoneFrom places from = (j : ℕ) → from ≤ j → j < place_limit → is_in places j ≡ false
+
+-- place i is the first from that place on that is in
+pub record IsFirstFrom (places : List Bool) (from i : ℕ) : Type 0 where
+  pub in_places : (from ≤ i) × (i < place_limit)
+  pub there : is_in places i ≡ true
+  pub before : (j : ℕ) → from ≤ j → j < i → is_in places j ≡ false
+
+-- the first place from one on that is in
+abbrev pub FindsFrom : List Bool → ℕ → Option ℕ → Type 0
+FindsFrom places from result = MatchOption result (NoneFrom places from) (IsFirstFrom places from)

@@ -4,7 +4,9 @@
 mod mask;
 mod process;
 mod table;
+mod waits;
 
 pub use mask::Mask;
 pub use process::{Place, Process};
 pub use table::{PLACES, ProcFault, Reaped, Seat, Table, zombie_child};
+pub use waits::WaitKind;

@@ -1,6 +1,6 @@
 //! A set of the 64 places.
 ghost use Rattle.std.specs.Prelude.{◌≡◌, ◌+◌, ◌<◌, ◌≤◌, length, slice_set, true, false};
-ghost use Rattle.proc.specs.Mask.{Finds, all_in, is_in};
+ghost use Rattle.proc.specs.Mask.{Finds, FindsFrom, all_in, is_in};
 
 use std::marker::Model;
 
@@ -69,5 +69,17 @@ impl Mask {
         let ahead = self.bits.rotate_right(((last + turn) % 64) as u32);
         let next = turn + ahead.trailing_zeros() as usize;
         if next <= 64 { Some(next) } else { None }
+    }
+
+    /// The first place from one on that is in.
+    pub fn first_from(&self, from: usize) -> Option<usize>
+        requires { from ≤ 64 }
+        ensures finds { FindsFrom self.now from result }
+        ensures all { length self.now ≡ 64 }
+    {
+        match self.next(63, from + 1) {
+            Some(turn) => Some(turn - 1),
+            None => None,
+        }
     }
 }

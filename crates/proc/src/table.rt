@@ -12,6 +12,7 @@ ghost use Rattle.unixmodel.specs.declared.process.Mode.TheVariants.{Ready, Runni
 
 use crate::mask::Mask;
 use crate::process::{Place, Process};
+use crate::waits::{WaitKind, WaitPlaces};
 use arrayvec::ArrayVec;
 use std::marker::Model;
 use thiserror::Error;
@@ -52,13 +53,15 @@ pub struct Reaped {
     pub status: i32,
 }
 
-/// The places, the one that was picked last, the pid that the next process gets, and the places that a turn looks at.
+/// The places, the one that was picked last, the pid that the next process gets, the places that a turn looks at, and those where
+/// processes may wait.
 #[derive(Drop)]
 pub struct Table {
     places: ArrayVec<Place, 64>,
     last: usize,
     next_pid: u32,
     awake: Mask,
+    waiting: WaitPlaces,
 }
 
 impl Model for Table {
@@ -156,6 +159,7 @@ impl Table {
     ghost use Rattle.proc.specs.Lending.{LendsProcess};
     ghost use Rattle.proc.specs.Pick.{Answers, Picks};
     ghost use Rattle.proc.specs.Mask.{Passes};
+    ghost use Rattle.proc.specs.Waits.{FindsWaiting};
 
     /// Free places. The first process gets this pid, and a turn looks at each place once at least.
     #[tactic(auto, unfolding(unixmodel::specs::Files::free_slots))]
@@ -169,6 +173,7 @@ impl Table {
             last: PLACES - 1,
             next_pid: pid,
             awake: Mask::all(),
+            waiting: WaitPlaces::all(),
         }
     }
 
@@ -185,6 +190,7 @@ impl Table {
             last: self.last,
             next_pid: self.next_pid,
             awake: self.awake.duplicate(),
+            waiting: self.waiting.duplicate(),
         }
     }
 
@@ -214,6 +220,7 @@ impl Table {
         ensures* writes_back { sem 𝓛 (LendsProcess self.entry at result) }
         ensures process { option_copied_mut result ≡ slot self.old.places at }
     {
+        self.waiting.set(at);
         self.places.get_mut(at)?.as_mut()
     }
 
@@ -222,6 +229,7 @@ impl Table {
         requires { at < 64 }
         ensures { self.new ≡ record self.old { places = put self.old.places at process } }
     {
+        self.waiting.set(at);
         self.places[at] = Some(process);
     }
 
@@ -338,6 +346,16 @@ impl Table {
         ensures { self.new ≡ woken self.old at }
     {
         self.awake.set(at);
+    }
+
+    /// The first place from one on whose process waits so. It looks only at places where one may.
+    pub fn next_waiting(&mut self, kind: WaitKind, from: usize) -> Option<usize>
+        requires { from ≤ 64 }
+        ensures finds { FindsWaiting self.old.places kind from result }
+        ensures same { self.new ≡ self.old }
+        ensures all { length self.old.places ≡ 64 }
+    {
+        self.waiting.first(self.places.as_slice(), kind, from)
     }
 
     /// Picks the first ready place in the order from the one after the last picked, ending at that one. It looks at those that are
@@ -463,6 +481,7 @@ impl Table {
         ensures err { OnErr result (self.new ≡ self.old) }
     {
         let seat = self.next_seat()?;
+        self.waiting.set(seat.place);
         self.places[seat.place] = Some(Process {
             pid: seat.pid,
             ..process

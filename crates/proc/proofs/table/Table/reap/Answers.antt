@@ -1,0 +1,9 @@
+use Rattle.std.proofs.Common.{ap, slice_set, ◌∙◌}
+use Rattle.proc.proofs.Waiting.{refilled-set, sound-freed}
+use Rattle.proc.proofs.table.Table.reap.Goals as goal
+
+pub invariant_of-self-2 : goal.invariant_of-self-2
+invariant_of-self-2 c =
+    let items = c.self.inside.places.items in
+    let at = c.in_ok-at.at in
+    sound-freed c.self.invariant at _ (refilled-set items c.deref_mut.result.now at c.take.new.self c.deref_mut.ensures.value ∙ ap (slice_set items at) c.take.ensures.after)
