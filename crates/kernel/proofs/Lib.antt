@@ -18,3 +18,4 @@ pub mod Idle
 pub mod Masks
 pub mod Watching
 pub mod Wakes
+mod Rousing

@@ -6,6 +6,8 @@ use Rattle.kernel.specs.declared.channels.Channel.{Channel}
 use Rattle.kernel.specs.declared.channels.Channel.TheVariants.{Bytes, Children, Ticks}
 use Rattle.files.specs.Places.{opens_of}
 use Rattle.proc.specs.declared.process.Process.{Process}
+use Rattle.proc.specs.declared.waits.WaitKind.{WaitKind}
+use Rattle.proc.specs.declared.waits.WaitKind.TheVariants.{Child, Time, Transfer}
 use Rattle.proc.specs.Mask.{is_in}
 use Rattle.proc.specs.Places.{Places, exited}
 use Rattle.proc.specs.Whole.{with_memory}
@@ -38,6 +40,12 @@ waits_as c (Zombie status) = false
 
 abbrev pub waits_on : Channel → Process → Bool
 waits_on c p = waits_as c p.mode
+
+-- what those who wait on a channel wait for
+abbrev pub kind_of : Channel → WaitKind
+kind_of (Ticks now) = Time
+kind_of Bytes = Transfer
+kind_of Children = Child
 
 -- the places of those who pass are awake, and those that were
 unfoldable pub roused : (Process → Bool) → List (Option Process) → List Bool → List Bool

@@ -1,9 +1,9 @@
 //! Who is woken where something changes that processes wait for.
 ghost use Rattle.std.specs.Prelude.{◌≡◌};
-ghost use Rattle.kernel.specs.Watch.{waits_on, woken_by};
+ghost use Rattle.kernel.specs.Watch.{kind_of, waits_on, woken_by};
 
 use crate::ready::has_slept;
-use proc::{Process, Table};
+use proc::{Process, Table, WaitKind};
 use unixmodel::call::Call;
 use unixmodel::process::Mode;
 
@@ -35,12 +35,24 @@ fn waits_on(process: &Process, channel: Channel) -> bool
     }
 }
 
+// What those who wait on a channel wait for.
+fn kind_of(channel: Channel) -> WaitKind
+    ensures { result ≡ kind_of channel }
+{
+    match channel {
+        Channel::Ticks(_) => WaitKind::Time,
+        Channel::Bytes => WaitKind::Transfer,
+        Channel::Children => WaitKind::Child,
+    }
+}
+
 /// A turn looks again at each place whose process waits on a channel.
 pub fn wakeup(table: &mut Table, channel: Channel)
     ensures { table.new ≡ woken_by channel table.old }
 {
-    let count = table.places().len();
-    for at in 0..count {
+    let kind = kind_of(channel);
+    let mut from = 0;
+    'places: while let Some(at) = table.next_waiting(kind, from) {
         let waits = match table.process(at) {
             Some(process) => waits_on(process, channel),
             None => false,
@@ -48,5 +60,6 @@ pub fn wakeup(table: &mut Table, channel: Channel)
         if waits {
             table.wake(at);
         }
+        from = at + 1;
     }
 }

@@ -1,35 +1,40 @@
-use Rattle.std.proofs.Common.{Bool, List, ap, arith, length, sym, ◌<◌, ◌∙◌, ◌≡◌}
+use Rattle.std.proofs.Common.{ap, arith, sym, ◌+◌, ◌<◌, ◌∙◌, ◌≡◌}
 use Rattle.std.specs.Option.{option_copied}
 use Rattle.kernel.specs.Watch.{waits_on}
-use Rattle.kernel.proofs.Masks.{roused-more, roused-none, roused-same}
+use Rattle.kernel.proofs.Rousing.{Roused, roused-begins, roused-low, roused-passed, roused-rest, roused-to, roused-woken}
 use Rattle.proc.specs.Places.{Places, woken}
 use Rattle.unixmodel.specs.Files.{slot}
 use Rattle.unixmodel.specs.State.{holds}
-use Rattle.kernel.proofs.channels.wakeup.Goals.{else-waits, in-None, in-Some, then-waits}
+use Rattle.kernel.proofs.channels.wakeup.Goals.{else-waits, in-None, in-Some-process, then-waits}
 use Rattle.kernel.proofs.channels.wakeup.Goals as goal
 
-pub loop-at-init : goal.loop-at-init
-loop-at-init c = ap (λ (xs : List Bool). let t : Places = record c.args.table.now { awake = xs } in t) (sym (roused-none (waits_on c.args.channel) c.args.table.now.awake))
+pub places-init : goal.places-init
+places-init c = (omega arith, roused-begins c.args.channel c.args.table.now)
 
-pub loop-at-preserved : goal.loop-at-preserved
-loop-at-preserved c =
+pub next_waiting-requires : goal.next_waiting-requires
+next_waiting-requires c = c.places.invariant.0
+
+pub places-preserved : goal.places-preserved
+places-preserved c =
+    let channel = c.args.channel in
     let t = c.args.table.now in
-    let l = c.loop-at in
-    let test = waits_on c.args.channel in
-    let low : l.at < length t.places = omega (arith, ap length c.places-count.ensures.places, c.loop-at-test.true) in
-    let here = c.process.ensures.process ∙ ap (λ (x : Places). slot x.places l.at) l.invariant in
-    let told : c.match-process.waits ≡ holds test (slot t.places l.at) = elim c.match-process.branch [
-      | in-Some w ↦ w.waits-is ∙ w.waits_on-waits.ensures ∙ ap (holds test) (sym (ap option_copied w.in-Some.is) ∙ here)
-      | in-None w ↦ w.waits-is ∙ ap (holds test) (sym (ap option_copied w.in-None.is) ∙ here)
+    let at = c.in-Some.at in
+    let l = c.places in
+    let told = c.in-Some.ensures in
+    let now : Roused channel t at c.next_waiting.new.self = told.same ∙ roused-to channel t c.kind_of-kind.result l.from at l.table c.kind_of-kind.ensures l.invariant.1 told.all told.finds in
+    let here = c.process.ensures.process ∙ ap (λ (x : Places). slot x.places at) now in
+    let is : c.match-process.waits ≡ holds (waits_on channel) (slot t.places at) = elim c.match-process.branch [
+      | in-Some-process w ↦ w.waits-is ∙ w.waits_on-waits.ensures ∙ ap (holds (waits_on channel)) (sym (ap option_copied w.in-Some-process.is) ∙ here)
+      | in-None w ↦ w.waits-is ∙ ap (holds (waits_on channel)) (sym (ap option_copied w.in-None.is) ∙ here)
     ] in
-    elim c.if-waits.branch [
-      | then-waits w ↦
-          w.table-is
-          ∙ w.wake.ensures
-          ∙ ap (λ (x : Places). woken x l.at) l.invariant
-          ∙ ap (λ (xs : List Bool). let x : Places = record t { awake = xs } in x) (roused-more test t.places t.awake l.at low (sym told ∙ w.if-waits.true))
-      | else-waits w ↦
-          w.table-is
-          ∙ l.invariant
-          ∙ ap (λ (xs : List Bool). let x : Places = record t { awake = xs } in x) (roused-same test t.places t.awake l.at low (sym told ∙ w.if-waits.false))
-    ]
+    let inside = told.finds.in_places in
+    let low = roused-low channel t l.from at l.table l.invariant.1 told.all inside.1 in (
+      omega arith,
+      elim c.if-waits.branch [
+        | then-waits w ↦ w.table-is ∙ w.wake.ensures ∙ ap (λ (x : Places). woken x at) now ∙ roused-woken channel t at low (sym is ∙ w.if-waits.true)
+        | else-waits w ↦ w.table-is ∙ now ∙ roused-passed channel t at low (sym is ∙ w.if-waits.false)
+      ],
+    )
+
+pub returns : goal.returns
+returns c = c.in_default.ensures.same ∙ roused-rest c.args.channel c.args.table.now c.kind_of-kind.result c.places.from c.places.table c.kind_of-kind.ensures c.places.invariant.0 c.places.invariant.1 c.in_default.ensures.all c.in_default.ensures.finds

@@ -1,0 +1,98 @@
+-- Who waits on a channel is woken, one after the other.
+use Rattle.std.proofs.Common.{Bool, List, None, Option, Some, ap, arith, false, inl, inr, length, refl, suc, subst, sym, take, true, zero, ℕ, ◌+◌, ◌-◌, ◌<◌, ◌∙◌, ◌≡◌, ◌≤◌}
+use Rattle.std.proofs.lemmas.List.{take_all}
+use Rattle.kernel.specs.Watch.{kind_of, roused, waits_as, waits_in, waits_on, woken_by}
+use Rattle.kernel.specs.declared.channels.Channel.{Channel}
+use Rattle.kernel.specs.declared.channels.Channel.TheVariants.{Bytes, Children, Ticks}
+use Rattle.kernel.proofs.Masks.{roused-more, roused-none, roused-same}
+use Rattle.proc.specs.declared.process.Process.{Process}
+use Rattle.proc.specs.declared.waits.WaitKind.{WaitKind}
+use Rattle.proc.specs.Places.{Places, woken}
+use Rattle.proc.specs.Waits.{IsFirstWaiting, NoneWaits, call_waits, mode_waits, waits_so}
+use Rattle.unixmodel.specs.declared.call.Call.{Call}
+use Rattle.unixmodel.specs.declared.call.Call.TheVariants.{Read, Sleep, Wait, Write}
+use Rattle.unixmodel.specs.declared.process.Mode.{Mode}
+use Rattle.unixmodel.specs.declared.process.Mode.TheVariants.{Ready, Running, Waiting, Zombie}
+use Rattle.unixmodel.specs.declared.process.Pending.{Pending}
+use Rattle.unixmodel.specs.Files.{slot}
+use Rattle.unixmodel.specs.State.{holds}
+
+-- ---- who doesn't wait for what a channel tells doesn't wait on the channel
+
+call-silent : (channel : Channel) (w : Pending) (number : Call) → call_waits (kind_of channel) number ≡ false → waits_in channel w number ≡ false
+call-silent (Ticks now) w Sleep no' = absurd (cc)
+call-silent (Ticks now) w _ no' = refl
+call-silent Bytes w Read no' = absurd (cc)
+call-silent Bytes w Write no' = absurd (cc)
+call-silent Bytes w _ no' = refl
+call-silent Children w Wait no' = absurd (cc)
+call-silent Children w _ no' = refl
+
+mode-silent : (channel : Channel) (mode : Mode) → mode_waits (kind_of channel) mode ≡ false → waits_as channel mode ≡ false
+mode-silent channel Running no' = refl
+mode-silent channel Ready no' = refl
+mode-silent channel (Waiting w) no' = call-silent channel w w.number no'
+mode-silent channel (Zombie status) no' = refl
+
+silent : (channel : Channel) (o : Option Process) → holds (waits_so (kind_of channel)) o ≡ false → holds (waits_on channel) o ≡ false
+silent channel None no' = refl
+silent channel (Some p) no' = mode-silent channel p.mode no'
+
+-- ---- places that are passed over
+
+-- d places from one on, of which none passes
+roused-over : (test : Process → Bool) (os : List (Option Process)) (bs : List Bool) (d from : ℕ) → from + d ≤ length os → ((j : ℕ) → from ≤ j → j < from + d → holds test (slot os j) ≡ false) → roused test (take from os) bs ≡ roused test (take (from + d) os) bs
+roused-over test os bs zero from low none = let same : from ≡ from + 0 = omega arith in ap (λ k. roused test (take k os) bs) same
+roused-over test os bs (suc d) from low none =
+    let same : from + 1 + d ≡ from + suc d = omega arith in
+    roused-same test os bs from (omega arith) (none from (omega arith) (omega arith))
+    ∙ roused-over test os bs d (from + 1) (omega arith) (λ j more less. none j (omega arith) (omega arith))
+    ∙ ap (λ k. roused test (take k os) bs) same
+
+roused-up : (test : Process → Bool) (os : List (Option Process)) (bs : List Bool) (from to : ℕ) → from ≤ to → to ≤ length os → ((j : ℕ) → from ≤ j → j < to → holds test (slot os j) ≡ false) → roused test (take from os) bs ≡ roused test (take to os) bs
+roused-up test os bs from to up low none =
+    let same : from + (to - from) ≡ to = omega arith in
+    roused-over test os bs (to - from) from (omega arith) (λ j more less. none j more (omega arith)) ∙ ap (λ k. roused test (take k os) bs) same
+
+-- ---- a table in which who waits on a channel is woken
+
+module _ (channel : Channel) (t : Places) where
+  abbrev with_awake : List Bool → Places
+  with_awake awake = record t { awake = awake }
+
+  -- those in the places so far are
+  abbrev pub Roused : ℕ → Places → Type 0
+  Roused from now = now ≡ record t { awake = roused (waits_on channel) (take from t.places) t.awake }
+
+  pub roused-begins : Roused 0 t
+  roused-begins = ap with_awake (sym (roused-none (waits_on channel) t.awake))
+
+  places-of : (from : ℕ) (now : Places) → Roused from now → now.places ≡ t.places
+  places-of from now is = ap (λ (x : Places). x.places) is
+
+  pub roused-low : (from at : ℕ) (now : Places) → Roused from now → length now.places ≡ 64 → at < 64 → at < length t.places
+  roused-low from at now is all low = let same : length now.places ≡ length t.places = ap length (places-of from now is) in omega arith
+
+  pub roused-to : (kind : WaitKind) (from at : ℕ) (now : Places) → kind ≡ kind_of channel → Roused from now → length now.places ≡ 64 → IsFirstWaiting now.places kind from at → Roused at now
+  roused-to kind from at now kinds is all first =
+      let inside = first.in_places in
+      let low = roused-low from at now is all inside.1 in
+      let none : (j : ℕ) → from ≤ j → j < at → holds (waits_on channel) (slot t.places j) ≡ false =
+      λ j more less. silent channel (slot t.places j) (ap (λ k. holds (waits_so k) (slot t.places j)) (sym kinds) ∙ ap (λ (os : List (Option Process)). holds (waits_so kind) (slot os j)) (sym (places-of from now is)) ∙ first.before j more less) in
+      is ∙ ap with_awake (roused-up (waits_on channel) t.places t.awake from at inside.0 (omega arith) none)
+
+  pub roused-rest : (kind : WaitKind) (from : ℕ) (now : Places) → kind ≡ kind_of channel → from ≤ 64 → Roused from now → length now.places ≡ 64 → NoneWaits now.places kind from → now ≡ woken_by channel t
+  roused-rest kind from now kinds low is all rest =
+      let same : length now.places ≡ length t.places = ap length (places-of from now is) in
+      let none : (j : ℕ) → from ≤ j → j < 64 → holds (waits_on channel) (slot t.places j) ≡ false =
+      λ j more less. silent channel (slot t.places j) (ap (λ k. holds (waits_so k) (slot t.places j)) (sym kinds) ∙ ap (λ (os : List (Option Process)). holds (waits_so kind) (slot os j)) (sym (places-of from now is)) ∙ rest j more less) in
+      is
+      ∙ ap with_awake (roused-up (waits_on channel) t.places t.awake from 64 low (omega arith) none)
+      ∙ ap (λ (os : List (Option Process)). with_awake (roused (waits_on channel) os t.awake)) (take_all 64 t.places (omega arith))
+
+  -- one more place was looked at
+  pub roused-woken : (at : ℕ) → at < length t.places → holds (waits_on channel) (slot t.places at) ≡ true → woken (record t { awake = roused (waits_on channel) (take at t.places) t.awake }) at ≡ record t { awake = roused (waits_on channel) (take (at + 1) t.places) t.awake }
+  roused-woken at low passes = ap with_awake (roused-more (waits_on channel) t.places t.awake at low passes)
+
+  pub roused-passed : (at : ℕ) → at < length t.places → holds (waits_on channel) (slot t.places at) ≡ false → record t { awake = roused (waits_on channel) (take at t.places) t.awake } ≡ record t { awake = roused (waits_on channel) (take (at + 1) t.places) t.awake }
+  roused-passed at low fails = ap with_awake (roused-same (waits_on channel) t.places t.awake at low fails)
