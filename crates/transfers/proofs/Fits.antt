@@ -17,7 +17,7 @@ use Rattle.unixmodel.specs.Files.{Files, Node, longest, put, slot}
 use Rattle.unixmodel.specs.Files.Node.{File}
 use Rattle.unixmodel.specs.Memory.{Memory, overwrite, reach, read_bytes}
 use Rattle.vm.specs.Reach.{IsSized, piece_at}
-use Rattle.vm.proofs.ReachLemmas.{reach-next, reach-page}
+use Rattle.vm.proofs.ReachLemmas.{length-piece, reach-front, reach-next, reach-page}
 
 -- ---- the greatest number that passes
 
@@ -332,6 +332,13 @@ module _ (mem : Memory) (address count : ℕ) (readable : is_some (read_bytes me
     | inr none ↦ omega (arith, none)
     | inl some ↦ let all = given-is.0 in omega (arith, (reach-page Load mem address (count - 1) sized (omega (arith, all, some))).0, few)
   ]
+
+  -- all of them lie in one page
+  pub given-whole : (q : List ℕ) → IsSized mem → q ≡ take count (piece_at Load mem address) → length q ≡ count → q ≡ given
+  given-whole q sized is whole =
+      let page = piece_at Load mem address in
+      let long : count ≤ length page = omega (arith, ap length is, length-take count page, whole) in
+      is ∙ sym (given-is.1 ∙ reach-front Load mem address count sized (omega (arith, long, length-piece Load mem address sized)))
 
   module _ (done : ℕ) (less : done < count) (sized : IsSized mem) where
     near : done < length (reach Load mem address)

@@ -1,12 +1,13 @@
 -- Bytes of a node that are read in pieces.
-use Rattle.std.proofs.Common.{◌≡◌, ℕ, ◌+◌, ◌-◌, ◌<◌, ◌≤◌, ◌^◌, true, List, [], ◌++◌, length, take, drop, min, None, Option, Some, is_some, unwrap_or, slice_set, refl, ap, subst, sym, ◌∙◌, arith}
+use Rattle.std.proofs.Common.{◌≡◌, ℕ, ◌+◌, ◌-◌, ◌<◌, ◌≤◌, ◌^◌, true, List, [], ◌++◌, length, take, drop, min, None, Ok, Err, Option, Result, Some, is_some, replicate, unwrap_or, slice_set, refl, ap, subst, sym, ◌∙◌, arith}
+use Rattle.std.specs.Prelude.{OnErr}
 use Rattle.std.proofs.Math.Seq.{take-add}
 use Rattle.std.proofs.lemmas.Bool.{leb-true}
-use Rattle.std.proofs.lemmas.List.{drop-drop, length-append, length-drop, length-take, length-take-le, set-get_or, set-set, take_min}
+use Rattle.std.proofs.lemmas.List.{drop-drop, length-append, length-drop, length-replicate, length-take, length-take-le, set-get_or, set-set, take_min}
 use Rattle.blockdev.specs.Splice.{part}
 use Rattle.spaces.specs.Spaces.{SpaceView, Spaces, has_space, view_at, no_pages, with_view, written}
 use Rattle.spaces.proofs.SpacesLemmas.{held-same, within}
-use Rattle.transfers.specs.Moved.{IsRead, bytes_of, bytes_read, with_bytes}
+use Rattle.transfers.specs.Moved.{IsRead, ReadsSome, bytes_of, bytes_read, with_bytes}
 use Rattle.transfers.proofs.Memory.{written-twice, writes-rest}
 use Rattle.tree.specs.Tree.{FileTree}
 use Rattle.unixmodel.specs.declared.trap.Access.TheVariants.{Store}
@@ -42,7 +43,7 @@ space-within s at has = within s.places at (view_at s at) (sym (held-there s at 
 
 module _ (s : Spaces) (at address : ℕ) (has : has_space s at ≡ true) where
   -- nothing is written
-  pub none-written : s ≡ with_bytes s at address []
+  none-written : s ≡ with_bytes s at address []
   none-written =
       let same : written (view_at s at) address [] ≡ view_at s at = ap (λ (m : Memory). record { memory = m; size = (view_at s at).size }) (write-none (view_at s at).memory address) in
       let put : slice_set s.places at (Some (written (view_at s at) address [])) ≡ s.places =
@@ -139,6 +140,19 @@ read-none {t} {s} {at} {number} {offset} {address} {count} has = record {
   some = omega arith;
   bytes = none-written s at address has;
 }
+
+-- ---- a short read
+
+-- the front of its buffer
+pub front-long : (count : ℕ) → count ≤ 64 → length (take count (replicate {A = ℕ} 64 0)) ≡ count
+front-long count low = length-take-le count (replicate 64 0) (omega (arith, low, length-replicate {A = ℕ} 64 0))
+
+-- where it fails nothing has come
+pub none-read : {T E : Type 0} (r : Result T E) (before after : Spaces) (at address : ℕ) (files : Files) (number offset count : ℕ) → has_space before at ≡ true → after ≡ before → OnErr r (ReadsSome before after at address files number offset count)
+none-read (Ok x) before after at address files number offset count has same = tt
+none-read (Err e) before after at address files number offset count has same = (0, omega arith, same ∙ none-written before at address has)
+
+-- ---- the next piece
 
 -- the next bytes have places and addresses
 pub next-low : (mem : Memory) (address done count : ℕ) → IsSized mem → length mem ≤ 32768 → can_write mem address count ≡ true → done < count → address + done < 2 ^ 27

@@ -12,6 +12,9 @@ use spaces::Spaces;
 use sv39::Translate;
 use tree::Tree;
 
+// A read of so many bytes at the most takes a buffer of that size: one of a block costs more than the read.
+const SHORT: usize = 64;
+
 // Reads as many bytes as fit in a buffer, and puts them into the memory of a place.
 fn read_piece<D: BlockDev, T: Translate + Drop>(
     tree: &mut Tree<D>,
@@ -30,14 +33,43 @@ fn read_piece<D: BlockDev, T: Translate + Drop>(
     ensures written { OnOk result (spaces.new ≡ with_read spaces.old at address tree.old.files number offset (length buffer.old)) }
     ensures failed { OnErr result (spaces.new ≡ spaces.old) }
 {
+    spaces.pages_are_whole(at);
     let count = tree.read(number, offset, buffer)?;
-    let _written = spaces.write(at, address, &buffer[..count]);
+    spaces.fill(at, address, &buffer[..count]);
     Ok(count)
 }
 
 /// Reads bytes of a node from the place `offset` on into the memory of a place from `address` on, at most `count` of them,
 /// and tells how many. Where the device fails the first of them may have come.
 pub fn read_node<D: BlockDev, T: Translate + Drop>(
+    tree: &mut Tree<D>,
+    spaces: &mut Spaces<T>,
+    at: usize,
+    number: usize,
+    offset: u32,
+    address: u64,
+    count: u64,
+) -> Result<u64, DeviceFault>
+    requires up { tree.old.failed ≡ false }
+    requires node { (node : Node) × (slot tree.old.files number ≡ Some node) }
+    requires space { has_space spaces.old at ≡ true }
+    requires writable { can_write (view_at spaces.old at).memory address count ≡ true }
+    ensures serves { Serves tree.old tree.new result (IsRead tree.old tree.new number offset count) }
+    ensures written { OnOk result (spaces.new ≡ with_read spaces.old at address tree.old.files number offset count) }
+    ensures failed { OnErr result (ReadsSome spaces.old spaces.new at address tree.old.files number offset count) }
+{
+    if count > SHORT as u64 {
+        return read_blocks(tree, spaces, at, number, offset, address, count);
+    }
+    let mut buffer = [0; SHORT];
+    let piece = &mut buffer[..count as usize];
+    let got = read_piece(tree, spaces, at, number, offset as usize, address, piece)?;
+    Ok(got as u64)
+}
+
+// The same by way of a buffer of one block. It is out of line: a short read needs no room for the block.
+#[inline(never)]
+fn read_blocks<D: BlockDev, T: Translate + Drop>(
     tree: &mut Tree<D>,
     spaces: &mut Spaces<T>,
     at: usize,

@@ -1,35 +1,21 @@
-use Rattle.std.proofs.Common.{arith}
-use Rattle.transfers.proofs.Pieces.{next-low, read-all, read-more, read-none, read-short, read-writes, size-fits, size-whole}
+use Rattle.std.proofs.Common.{◌≡◌, Ok, subst, sym, true}
+use Rattle.transfers.specs.Moved.{IsRead, with_read}
+use Rattle.transfers.proofs.Pieces.{front-long, none-read}
+use Rattle.tree.specs.Tree.{Serves}
+use Rattle.spaces.specs.Spaces.{view_at}
+use Rattle.unixmodel.specs.Memory.{can_write}
 use Rattle.transfers.proofs.reading.read_node.Goals as goal
 
-pub loop-done-init : goal.loop-done-init
-loop-done-init g c = read-none c.requires.space
-
-pub overflow_add-from : goal.overflow_add-from
-overflow_add-from g c =
-    let low = next-low _ c.args.address c.loop-done.done c.args.count c.pages_are_whole.ensures.sized c.pages_are_whole.ensures.few c.requires.writable c.loop-done-test.true in
-    omega (arith, low, c.ranges.offset.fits)
-
-pub overflow_add-address : goal.overflow_add-address
-overflow_add-address g c =
-    let low = next-low _ c.args.address c.loop-done.done c.args.count c.pages_are_whole.ensures.sized c.pages_are_whole.ensures.few c.requires.writable c.loop-done-test.true in
-    omega (arith, low)
-
 pub read_piece-requires-clause-writable : goal.read_piece-requires-clause-writable
-read_piece-requires-clause-writable g c =
-    read-writes c.loop-done.invariant c.requires.space c.pages_are_whole.ensures.sized c.requires.writable _ (size-fits c.loop-done.buffer c.min-size.result c.loop-done.done c.args.count c.loop-done-test.true c.min-size.ensures)
+read_piece-requires-clause-writable g c = subst (λ n. can_write (view_at c.args.spaces.now c.args.at).memory c.args.address n ≡ true) (sym (front-long c.args.count c.if-count.false)) c.requires.writable
 
-pub returns-then-got-size-clause-written : goal.returns-then-got-size-clause-written
-returns-then-got-size-clause-written g c =
-    let fits = size-fits c.loop-done.buffer c.min-size.result c.loop-done.done c.args.count c.loop-done-test.true c.min-size.ensures in
-    let piece = c.in_ok-got.ensures in
-    let short = c.if-got-size.true in
-    let long = size-whole c.loop-done.buffer c.min-size.result _ c.min-size.array_long c.min-size.ensures in
-    (read-all (read-more c.loop-done.invariant fits piece.serves.told c.requires.space c.pages_are_whole.ensures.sized piece.serves.cause.later piece.written)
-    (read-short c.loop-done.invariant fits piece.serves.told (omega (arith, short, long)))).1
+pub returns-in_err-got-clause-failed : goal.returns-in_err-got-clause-failed
+returns-in_err-got-clause-failed g c = none-read c.from_residual.result c.args.spaces.now c.read_piece.new.spaces c.args.at c.args.address c.args.tree.now.files c.args.number c.args.offset c.args.count c.requires.space c.in_err-got.ensures.failed
 
-pub loop-done-preserved : goal.loop-done-preserved
-loop-done-preserved g c =
-    let fits = size-fits c.loop-done.buffer c.min-size.result c.loop-done.done c.args.count c.loop-done-test.true c.min-size.ensures in
-    let piece = c.in_ok-got.ensures in
-    read-more c.loop-done.invariant fits piece.serves.told c.requires.space c.pages_are_whole.ensures.sized piece.serves.cause.later piece.written
+pub returns-clause-serves : goal.returns-clause-serves
+returns-clause-serves g c =
+    subst (λ n. Serves c.args.tree.now c.read_piece.new.tree (Ok c.in_ok-got.got) (IsRead c.args.tree.now c.read_piece.new.tree c.args.number c.args.offset n)) (front-long c.args.count c.if-count.false) c.in_ok-got.ensures.serves
+
+pub returns-clause-written : goal.returns-clause-written
+returns-clause-written g c =
+    subst (λ n. c.read_piece.new.spaces ≡ with_read c.args.spaces.now c.args.at c.args.address c.args.tree.now.files c.args.number c.args.offset n) (front-long c.args.count c.if-count.false) c.in_ok-got.ensures.written

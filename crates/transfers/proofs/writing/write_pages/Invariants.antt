@@ -1,7 +1,7 @@
 use Rattle.std.proofs.Common.{◌-◌}
 use Rattle.transfers.specs.Moved.{bytes_given}
 use Rattle.transfers.proofs.Fits.{HasWritten}
-use Rattle.transfers.proofs.writing.write_node.Given as goal
+use Rattle.transfers.proofs.writing.write_pages.Given as goal
 
 -- the bytes so far are written
 abbrev pub invariant-loop-done : goal.invariant-loop-done

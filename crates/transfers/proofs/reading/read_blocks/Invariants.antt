@@ -1,6 +1,6 @@
 use Rattle.std.proofs.Common.{◌-◌}
 use Rattle.transfers.proofs.Pieces.{HasRead}
-use Rattle.transfers.proofs.reading.read_node.Given as goal
+use Rattle.transfers.proofs.reading.read_blocks.Given as goal
 
 -- the bytes so far are read
 abbrev pub invariant-loop-done : goal.invariant-loop-done
