@@ -1,5 +1,4 @@
 pub mod Settles
-mod Apart
 pub mod Rows
 pub mod Served
 pub mod Acts

@@ -1,6 +1,6 @@
 -- What a call of the running process makes of the state, once it has begun, and what the kernel's function for it promises.
 use Rattle.std.specs.Io.KnownBytes.{Appends}
-use Rattle.std.specs.Prelude.{Bool, Err, List, None, Ok, Option, Result, Some, [], false, negsuc, true, slice_index, ℕ, ◌%◌, ◌∷◌, ◌≡◌}
+use Rattle.std.specs.Prelude.{Err, List, None, Ok, Option, Result, Some, [], negsuc, slice_index, ℕ, ◌%◌, ◌∷◌, ◌≡◌}
 use Rattle.std.specs.Int.{cast_signed, cast_unsigned, w32}
 use Rattle.blockdev.specs.declared.DeviceFault.{DeviceFault}
 use Rattle.calls.specs.declared.halt.Halt.{Halt}
@@ -14,7 +14,6 @@ use Rattle.console.specs.Output.{AppendsBeginning}
 use Rattle.spaces.specs.Spaces.{view_at}
 use Rattle.unixmodel.specs.Calls.{After, call, call_of, end_at, goes_on, outcome_of, quiet, settle}
 use Rattle.unixmodel.specs.declared.call.Call.{Call}
-use Rattle.unixmodel.specs.declared.call.Call.TheVariants.{Dup, Exit, Fork, Getpid, Kill, Pipe, Sbrk, Sleep, Uptime, Wait}
 use Rattle.unixmodel.specs.declared.process.Mode.TheVariants.{Waiting}
 use Rattle.unixmodel.specs.declared.process.Pending.{Pending}
 use Rattle.unixmodel.specs.Failures.{Rises}
@@ -119,20 +118,6 @@ pub record Comes (old new : Kernel) (i : ℕ) (o : Outcome) (bytes : List ℕ) (
 -- a call that puts out nothing
 abbrev pub Acts : Kernel → Kernel → ℕ → Option Call → Came → Type 0
 Acts old new i call came = Comes old new i (outcome_at (state_of old) i call) [] came
-
--- a call that touches neither the disk nor the console
-abbrev pub is_apart : Call → Bool
-is_apart Fork = true
-is_apart Exit = true
-is_apart Wait = true
-is_apart Kill = true
-is_apart Pipe = true
-is_apart Getpid = true
-is_apart Sleep = true
-is_apart Uptime = true
-is_apart Sbrk = true
-is_apart Dup = true
-is_apart _ = false
 
 -- a pending call that goes on: it puts out nothing, and makes no state over its limits
 pub record GoesOn (old new : Kernel) (i : ℕ) (w : Pending) (came : Came) : Type 0 where

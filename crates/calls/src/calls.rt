@@ -1,10 +1,9 @@
 //! The calls: each row of the table of calls is a function.
-ghost use Rattle.std.specs.Prelude.{◌≡◌, ◌≢◌, ◌≤◌, Some, true};
-ghost use Rattle.calls.specs.Acts.{Acts, ActsOnDisk, IsBegun, CallTries, Runs, called, is_apart};
+ghost use Rattle.std.specs.Prelude.{◌≡◌, ◌≤◌, Some};
+ghost use Rattle.calls.specs.Acts.{CallTries, IsBegun, Runs, called};
 ghost use Rattle.calls.specs.Gives.{DispatchesTo, LeavesTree};
 ghost use Rattle.kernel.specs.Kernel.{state_of};
 ghost use Rattle.unixmodel.specs.Calls.{call_of};
-ghost use Rattle.unixmodel.specs.declared.call.Call.TheVariants as Call;
 
 use crate::descriptor_calls::{close, dup, pipe};
 use crate::exec_call::exec;
@@ -15,7 +14,7 @@ use crate::open_calls::{chdir, open};
 use crate::outcome::{Came, settle};
 use crate::process_calls::{exit, fork, getpid, kill, sbrk, sleep, uptime, wait};
 use crate::transfer_calls::{read, write};
-use blockdev::{BlockDev, DeviceFault};
+use blockdev::BlockDev;
 use console::Out;
 use kernel::Kernel;
 use kernel::numbers::low;
@@ -61,58 +60,8 @@ pub(crate) fn begin<D: BlockDev, T: Translate + Drop>(kernel: &mut Kernel<D, T>,
     kernel.enter();
 }
 
-// A call that touches neither the disk nor the console.
-fn act_apart<D: BlockDev, T: Translate + Drop>(
-    kernel: &mut Kernel<D, T>,
-    at: usize,
-    call: Call,
-) -> Came
-    requires runs { Runs kernel.old at }
-    requires apart { is_apart call ≡ true }
-    ensures { Acts kernel.old kernel.new at (Some call) result }
-{
-    match call {
-        Call::Fork => fork(kernel, at),
-        Call::Exit => exit(kernel, at),
-        Call::Wait => wait(kernel, at),
-        Call::Kill => kill(kernel, at),
-        Call::Pipe => pipe(kernel, at),
-        Call::Getpid => getpid(kernel, at),
-        Call::Sleep => sleep(kernel, at),
-        Call::Uptime => uptime(kernel, at),
-        Call::Sbrk => sbrk(kernel, at),
-        Call::Dup => dup(kernel, at),
-        _ => unreachable!(),
-    }
-}
-
-// A call that doesn't touch the console.
-fn act_silently<D: BlockDev, T: Translate + Drop>(
-    kernel: &mut Kernel<D, T>,
-    at: usize,
-    call: Call,
-) -> Result<Came, DeviceFault>
-    requires runs { Runs kernel.old at }
-    requires silent { call ≢ Call.Write }
-    ensures { ActsOnDisk kernel.old kernel.new at (Some call) result }
-{
-    match call {
-        Call::Read => read(kernel, at),
-        Call::Close => close(kernel, at),
-        Call::Fstat => fstat(kernel, at),
-        Call::Exec => exec(kernel, at),
-        Call::Chdir => chdir(kernel, at),
-        Call::Open => open(kernel, at),
-        Call::Mknod => mknod(kernel, at),
-        Call::Unlink => unlink(kernel, at),
-        Call::Link => link(kernel, at),
-        Call::Mkdir => mkdir(kernel, at),
-        _ => Ok(act_apart(kernel, at, call)),
-    }
-}
-
-// A call that has begun, but for what it comes to; a number of no call is refused. `Device`, `Console`: the device failed, the
-// console did.
+// The table of calls: a call that has begun, but for what it comes to; a number of no call is refused. `Device`, `Console`: the
+// device failed, the console did.
 fn act<D: BlockDev, T: Translate + Drop, W: Out>(
     kernel: &mut Kernel<D, T>,
     at: usize,
@@ -126,10 +75,30 @@ fn act<D: BlockDev, T: Translate + Drop, W: Out>(
     let Some(call) = call else {
         return Ok(Came::Refuses);
     };
-    match call {
-        Call::Write => write(kernel, at, console),
-        _ => Ok(act_silently(kernel, at, call)?),
-    }
+    let came = match call {
+        Call::Fork => Ok(fork(kernel, at)),
+        Call::Exit => Ok(exit(kernel, at)),
+        Call::Wait => Ok(wait(kernel, at)),
+        Call::Pipe => Ok(pipe(kernel, at)),
+        Call::Read => read(kernel, at),
+        Call::Kill => Ok(kill(kernel, at)),
+        Call::Exec => exec(kernel, at),
+        Call::Fstat => fstat(kernel, at),
+        Call::Chdir => chdir(kernel, at),
+        Call::Dup => Ok(dup(kernel, at)),
+        Call::Getpid => Ok(getpid(kernel, at)),
+        Call::Sbrk => Ok(sbrk(kernel, at)),
+        Call::Sleep => Ok(sleep(kernel, at)),
+        Call::Uptime => Ok(uptime(kernel, at)),
+        Call::Open => open(kernel, at),
+        Call::Write => return write(kernel, at, console),
+        Call::Mknod => mknod(kernel, at),
+        Call::Unlink => unlink(kernel, at),
+        Call::Link => link(kernel, at),
+        Call::Mkdir => mkdir(kernel, at),
+        Call::Close => close(kernel, at),
+    };
+    Ok(came?)
 }
 
 /// The call that the running process makes.
