@@ -11,7 +11,7 @@ use sv39::{Plain, Recent, Tlb, Translate};
 use translators::{Counting, MOST_PAGES, Noting};
 use unixmodel::event::Event;
 
-const FRAMES: u32 = 64;
+const FRAMES: u32 = 128;
 
 // Where a file of the assembler has its program.
 const PROGRAM_AT: usize = 4096;
@@ -157,7 +157,38 @@ place:  addi a0, zero, 1
 word:   addi a0, zero, 6
 ";
 
-const ROWS: [Row; 6] = [
+// An instruction is written into each of 65 pages, which adds the page's number, and they run in turn, twice. Decoded words have places for
+// 64 frames, so two of the pages share theirs.
+const PAGES: &str = "
+        la s0, place
+        lw s1, 0(s0)
+        lw s2, 4(s0)
+        lui s3, 1
+        lui s4, 0x100
+        addi s5, zero, 65
+fill:   sw s1, 0(s0)
+        sw s2, 4(s0)
+        add s0, s0, s3
+        add s1, s1, s4
+        addi s5, s5, -1
+        bne s5, zero, fill
+        addi s6, zero, 2
+round:  la s0, place
+        addi s5, zero, 65
+call:   jalr ra, 0(s0)
+        add s0, s0, s3
+        addi s5, s5, -1
+        bne s5, zero, call
+        addi s6, s6, -1
+        bne s6, zero, round
+        li a7, 2
+        ecall
+place:  addi a0, a0, 0
+        ret
+        .zero 262144
+";
+
+const ROWS: [Row; 7] = [
     Row {
         text: NEXT,
         steps: 19,
@@ -187,6 +218,11 @@ const ROWS: [Row; 6] = [
         text: FORK,
         steps: 35,
         status: 0x61,
+    },
+    Row {
+        text: PAGES,
+        steps: 1191,
+        status: 4160,
     },
 ];
 
