@@ -1,9 +1,11 @@
 -- What the names of a folder hold, and what the steps of putting a file in the place of another make of that.
-use Rattle.std.specs.Prelude.{Bool, List, [], None, Option, Some, true, ℕ, ◌++◌, ◌≡◌, ◌≢◌}
+use Rattle.std.specs.Prelude.{Bool, List, [], None, Option, Some, true, ℕ, ◌++◌, ◌≡◌, ◌≢◌, ◌⊎◌}
 use Rattle.outputs.specs.declared.put.Attempt.{Attempt}
 use Rattle.outputs.specs.declared.put.Attempt.TheVariants.{Put, Taken}
 use Rattle.outputs.specs.declared.fault.PutFault.{PutFault}
 use Rattle.outputs.specs.declared.fault.PutFault.TheVariants as fault
+use Rattle.outputs.specs.declared.fault.StepFault.{StepFault}
+use Rattle.outputs.specs.declared.fault.StepFault.TheVariants as step
 
 -- the bytes under each name, if there is a file; the name of the file that was begun last, and whether all that was
 -- written to it stands on the disk
@@ -31,6 +33,11 @@ pub record Begins (name : List ℕ) (old new : Held) : Type 0 where
   pub begun : new.begun ≡ name
   pub sets : Sets name (Some []) old new
 
+-- no file is begun, and all is as it was; a name that is told as taken has a file
+abbrev pub RefusesName : List ℕ → StepFault → Held → Held → Type 0
+RefusesName name step.Taken old new = IsSame old new × (old.bytes name ≢ None)
+RefusesName name _ old new = IsSame old new
+
 -- these bytes come to the end of the file that was begun
 pub record Writes (bytes : List ℕ) (old new : Held) : Type 0 where
   pub end : (front : List ℕ) → old.bytes old.begun ≡ Some front → new.bytes old.begun ≡ Some (front ++ bytes)
@@ -57,10 +64,10 @@ pub record Ends (begun name bytes : List ℕ) (old new : Held) : Type 0 where
   pub there : old.begun ≡ begun → old.bytes begun ≡ Some [] → new.bytes name ≡ Some bytes
   pub others : (n : List ℕ) → n ≢ old.begun → n ≢ begun → n ≢ name → new.bytes n ≡ old.bytes n
 
--- the file has these bytes, or the name of the new one is taken and all is as it was
-abbrev pub Tries : List ℕ → List ℕ → Attempt → Held → Held → Type 0
-Tries name bytes Put old new = Sets name (Some bytes) old new
-Tries name bytes Taken old new = IsSame old new
+-- the file has these bytes; or the name of the new one is its own or taken, and all is as it was
+abbrev pub Tries : List ℕ → List ℕ → List ℕ → Attempt → Held → Held → Type 0
+Tries begun name bytes Put old new = Sets name (Some bytes) old new
+Tries begun name bytes Taken old new = IsSame old new × ((begun ≡ name) ⊎ (old.bytes begun ≢ None))
 
 -- all is as it was; but a file that was begun under another name may be left, where it could not be removed
 abbrev pub Keeps : List ℕ → PutFault → Held → Held → Type 0

@@ -1,6 +1,6 @@
 //! The folder in which a file is put in the place of another.
-ghost use Rattle.std.specs.Prelude.{◌≢◌, None, OnErr, OnOk, Option, Some};
-ghost use Rattle.outputs.specs.Steps.{Begins, Held, IsSame, IsSynced, Known, Moves, Sets, Spoils, Syncs, Writes};
+ghost use Rattle.std.specs.Prelude.{◌≢◌, IfErr, None, OnErr, OnOk, Option, Some};
+ghost use Rattle.outputs.specs.Steps.{Begins, Held, IsSame, IsSynced, Known, Moves, RefusesName, Sets, Spoils, Syncs, Writes};
 
 use crate::fault::StepFault;
 
@@ -13,7 +13,7 @@ pub trait Folder {
     /// Begins a file of this name, which nothing may have yet: `Taken` where something has it.
     fn create_new(&mut self, name: &str) -> Result<(), StepFault>
         ensures ok { OnOk result (Known (Begins name.now) (held self.old) (held self.new)) }
-        ensures err { OnErr result (Known IsSame (held self.old) (held self.new)) };
+        ensures err { IfErr result (λ fault. Known (RefusesName name.now fault) (held self.old) (held self.new)) };
 
     /// Writes these bytes, all of them, at the end of the file that was begun last.
     fn write(&mut self, bytes: &[u8]) -> Result<(), StepFault>
