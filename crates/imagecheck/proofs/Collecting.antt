@@ -124,8 +124,10 @@ times-names : (image : List ℕ) (n : ℕ) → times_named (namings_in image) n 
 unfolding names_of
 times-names image n = sum_by-map (λ (m : Naming). cond (m.number == n) 1 0) naming (all_entries (files_in image))
 
-pub TellsNames-from : (image counts : List ℕ) (namings : List Naming) → namings ≡ namings_in image → CountsNames namings counts → TellsNames image counts
-TellsNames-from image counts namings e h n l = h n l ∙ ap (λ ms. times_named ms n) e ∙ times-names image n
+-- a table that was read again
+pub names-table : {image : List ℕ} {g : Geometry} {namings : List Naming} → IsListed image g namings → (counts read : List ℕ) → read ≡ counts → length counts ≡ g.inodes → CountsNames namings counts
+    → (length read ≡ g.inodes) × TellsNames image read
+names-table {image = image} listed counts read e long h = (ap length e ∙ long, subst (TellsNames image) (sym e) (λ n l. h n l ∙ ap (λ ms. times_named ms n) listed.all ∙ times-names image n))
 
 -- ---- the directory that names a number
 

@@ -1,8 +1,7 @@
 -- Names that stand once, told apart by their numbers.
-use Rattle.std.proofs.Common.{◌≡◌, ◌≢◌, ℕ, ◌+◌, ◌-◌, ◌*◌, ◌/◌, ◌<◌, ◌≤◌, Bool, List, [], ◌∷◌, ◌++◌, None, Some, length, get_or, take, drop, ap, sym, refl, ◌∙◌, arith, cond, subst, true, false, zero, suc, All, AllPairs, nat_eq, nat_lt, ◌==◌, IsPermutation, IsSorted, option_to_list, nat_cmp, bytes_eq}
-use Rattle.std.specs.Bool.{OnFalse, OnTrue}
+use Rattle.std.proofs.Common.{◌≡◌, ◌≢◌, ℕ, ◌+◌, ◌-◌, ◌*◌, ◌/◌, ◌<◌, ◌≤◌, Bool, List, [], ◌∷◌, ◌++◌, None, Some, length, get_or, take, drop, ap, sym, refl, ◌∙◌, arith, cond, subst, true, false, zero, suc, All, AllPairs, nat_eq, nat_lt, ◌==◌, IsPermutation, IsSorted, option_to_list, nat_cmp, IsTrue, ◌↔◌}
 use Rattle.std.specs.List.{IsAllAdjacentAnswer, list_all}
-use Rattle.std.proofs.lemmas.Bool.{false≢true, ltb-false, ltb-true}
+use Rattle.std.proofs.lemmas.Bool.{ltb-false, ltb-true}
 use Rattle.std.proofs.lemmas.Bool.Decides.{Decides-eqb, Decides-like, same_from_decides}
 use Rattle.std.proofs.lemmas.List.{get_or-drop, get_or-map, length-drop, length-map, length-take-le, map-append, take_all}
 use Rattle.std.proofs.lemmas.List.Elements.{All-nil}
@@ -10,7 +9,6 @@ use Rattle.std.proofs.lemmas.List.Kept.{AllPairs-from_increasing}
 use Rattle.std.proofs.lemmas.List.Sorted.{IsNonDecreasingBy-from_sort, IsPermutation-sym}
 use Rattle.std.proofs.lemmas.Map.Keys.{IsDistinct-IsPermutation}
 use Rattle.std.proofs.lemmas.Map.Made.{AllPairs-from_IsDistinct, IsDistinct-from_AllPairs}
-use Rattle.std.proofs.lemmas.Slice.Eq.{bytes_eq-Decides}
 use Rattle.byteorder.specs.Endian.{little_number}
 use Rattle.unixmodel.specs.Files.{Entry, name_bytes}
 use Rattle.unixmodel.specs.Memory.{zeros}
@@ -18,14 +16,9 @@ use Rattle.unixmodel.specs.Numbers.{number, number_at}
 use Rattle.imagecheck.specs.Entries.{AreOther, IfTaken, entries_in, entries_to, name_number, name_numbers}
 use Rattle.imagerules.specs.Places.{place_of_bytes, without_zeros}
 use Rattle.imagecheck.proofs.Entering.{all_more, entries_all, entries_more, entries_none, place-taken}
+use Rattle.imagecheck.proofs.Judging.{never, told}
 use Rattle.imagerules.proofs.Numbers.{number_at-drop}
 use Rattle.imagerules.proofs.Spelling.{chunk-fits, without_zeros-spelled}
-
-pub names_differ : (xs ys : List ℕ) → bytes_eq xs ys ≡ false → xs ≢ ys
-names_differ xs ys h e = false≢true (sym h ∙ (bytes_eq-Decides xs ys).1 e)
-
-pub names_same : (xs ys : List ℕ) → bytes_eq xs ys ≡ true → xs ≡ ys
-names_same xs ys h = (bytes_eq-Decides xs ys).0 h
 
 -- ---- names and their numbers
 
@@ -130,18 +123,12 @@ distinct-moved xs ys moved h =
 
 -- what a look at the neighbours of sorted numbers tells
 pub distinct-sorted : (xs ys : List ℕ) (r : Bool) → IsPermutation xs ys → IsSorted nat_cmp ys → IsAllAdjacentAnswer (λ x y b. b ≡ nat_lt x y) ys r
-    → OnTrue r (AllPairs (λ a b. a ≢ b) xs) × OnFalse r (AllPairs (λ a b. a ≢ b) xs → ⊥)
-distinct-sorted xs ys true moved sorted h = (
-  distinct-moved ys xs (IsPermutation-sym xs ys moved) (λ i j d l m e.
-      let less = AllPairs-from_increasing ys (λ k n. ltb-true (get_or ys k 0) (get_or ys (k + 1) 0) (sym (h k 0 n))) i j d l m in
-      absurd (omega arith)),
-  tt,
-)
-distinct-sorted xs ys false moved sorted h = (
-  tt,
-  λ pairs.
-      let k = h.0 in
-      let most : get_or ys (k + 1) 0 ≤ get_or ys k 0 = ltb-false (get_or ys k 0) (get_or ys (k + 1) 0) (sym (h.2 0)) in
-      let least : get_or ys k 0 ≤ get_or ys (k + 1) 0 = IsNonDecreasingBy-from_sort (λ x. x) ys sorted k (k + 1) 0 (omega arith) h.1 in
-      distinct-moved xs ys moved pairs k (k + 1) 0 (omega arith) h.1 (omega arith),
-)
+    → IsTrue r ↔ AllPairs (λ a b. a ≢ b) xs
+distinct-sorted xs ys true moved sorted h = told (distinct-moved ys xs (IsPermutation-sym xs ys moved) (λ i j d l m e.
+    let less = AllPairs-from_increasing ys (λ k n. ltb-true (get_or ys k 0) (get_or ys (k + 1) 0) (sym (h k 0 n))) i j d l m in
+    absurd (omega arith)))
+distinct-sorted xs ys false moved sorted h = never (λ pairs.
+    let k = h.0 in
+    let most : get_or ys (k + 1) 0 ≤ get_or ys k 0 = ltb-false (get_or ys k 0) (get_or ys (k + 1) 0) (sym (h.2 0)) in
+    let least : get_or ys k 0 ≤ get_or ys (k + 1) 0 = IsNonDecreasingBy-from_sort (λ x. x) ys sorted k (k + 1) 0 (omega arith) h.1 in
+    distinct-moved xs ys moved pairs k (k + 1) 0 (omega arith) h.1 (omega arith))

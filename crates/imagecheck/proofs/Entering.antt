@@ -1,7 +1,7 @@
 -- The places of a directory, one after the other.
-use Rattle.std.proofs.Common.{◌≡◌, ◌≢◌, ℕ, ◌+◌, ◌*◌, ◌/◌, ◌<◌, ◌≤◌, List, [], ◌∷◌, ◌++◌, None, Option, Some, length, get_or, take, drop, ap, sym, refl, ◌∙◌, arith, subst, true, false, All, IsSome, is_some, ◌==◌, option_to_list}
+use Rattle.std.proofs.Common.{◌≡◌, ◌≢◌, ℕ, ◌+◌, ◌*◌, ◌/◌, ◌<◌, ◌≤◌, List, [], ◌∷◌, ◌++◌, None, Option, Some, length, get_or, take, drop, ap, sym, refl, ◌∙◌, arith, subst, true, false, inl, inr, not, All, IsSome, is_some, ◌==◌, option_to_list}
 use Rattle.std.specs.List.{list_all}
-use Rattle.std.proofs.lemmas.Bool.{cond-false, cond-true, false≢true}
+use Rattle.std.proofs.lemmas.Bool.{cases_eq, cond-false, cond-true, false≢true, ne_eqb}
 use Rattle.std.proofs.lemmas.List.{drop-append-le, drop_all, length-take, length-take-le, take-append-drop, take_all, take_more}
 use Rattle.std.proofs.lemmas.List.Elements.{All-append, All-cons, All-head, All-nil, filter_map-append}
 use Rattle.unixmodel.specs.Files.{Entry, Node, slot, taken}
@@ -10,13 +10,19 @@ use Rattle.unixmodel.specs.Numbers.{number_at}
 use Rattle.imagecheck.specs.Entries.{IfTaken, entries_in, entries_to}
 use Rattle.imagerules.specs.Places.{files_in, place_of_bytes, places_in, without_zeros}
 use Rattle.imagerules.proofs.Lists.{All-left, All-right}
-use Rattle.imagerules.proofs.Nodes.{file_in-used, slot-files_in}
+use Rattle.imagerules.proofs.Nodes.{file_in-used, slot-files_in, slot-free}
 use Rattle.imagerules.proofs.Spelling.{length-places_in, slot-places_in}
 
 -- ---- numbers in use
 
-pub used_some : (image : List ℕ) (n : ℕ) → 1 ≤ n → n < inodes_in image → kind_in image n ≢ 0 → IsSome (slot (files_in image) n)
+used_some : (image : List ℕ) (n : ℕ) → 1 ≤ n → n < inodes_in image → kind_in image n ≢ 0 → IsSome (slot (files_in image) n)
 used_some image n low high used = ap is_some (slot-files_in image n high ∙ file_in-used image n low used)
+
+pub used-is : (image : List ℕ) (n : ℕ) → 1 ≤ n → n < inodes_in image → not (kind_in image n == 0) ≡ is_some (slot (files_in image) n)
+used-is image n low high = elim (cases_eq (kind_in image n) 0) [
+  | inl z ↦ ap (λ k. not (k == 0)) z ∙ ap is_some (sym (slot-free image n high z))
+  | inr used ↦ ap not (ne_eqb (kind_in image n) 0 used) ∙ sym (used_some image n low high used)
+]
 
 pub none_used : {o : Option Node} → o ≡ None → IsSome o → ⊥
 none_used e used = false≢true (sym (ap is_some e) ∙ used)

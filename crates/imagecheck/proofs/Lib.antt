@@ -4,6 +4,7 @@ pub mod Counting
 pub mod Distinct
 pub mod Entering
 pub mod Fronting
+mod Judging
 pub mod Naming
 pub mod Numbering
 pub mod Parents

@@ -1,5 +1,5 @@
 -- What a result of a pass tells, from what the pass before it tells.
-use Rattle.std.proofs.Common.{Err, List, Ok, Result, length, ℕ, ◌≡◌, ◌≢◌, ◌≤◌, ap, arith, subst, sym, ◌∙◌, IfErr, IfOk, IsErrAnd, IsErrOf, OnOk}
+use Rattle.std.proofs.Common.{Err, List, Ok, Result, length, ℕ, ◌≡◌, ◌≢◌, ◌≤◌, ap, arith, subst, sym, ◌∙◌, IfErr, IfOk, IsErrAnd, IsErrOf, MatchResult, OnOk}
 use Rattle.std.proofs.lemmas.Result.{err_from_is_err_and}
 use Rattle.unixmodel.specs.Failures.{Rises}
 use Rattle.unixmodel.specs.Files.{Files}
@@ -30,10 +30,6 @@ Tells-not f image files fault.Links i t d = t.1.2 (HasLinks-denotes image files 
 Tells-not f image files fault.Unreached i t d = t.1.3 (IsReached-denotes image files d)
 Tells-not f image files fault.Device i t d = i
 Tells-not f image files fault.NoMemory i t d = i
-
-pub OnOk-from : {T E P Q : Type 0} (r : Result T E) → OnOk r P → (P → Q) → OnOk r Q
-OnOk-from (Ok x) h f = f h
-OnOk-from (Err e) h f = tt
 
 pub OnOk-given : {T E P : Type 0} (r : Result T E) → P → OnOk r P
 OnOk-given (Ok x) p = p
@@ -69,9 +65,9 @@ outside-told f image fault h = absurd h
 pub Finds-not_device : {T : Type 0} (image : List ℕ) (r : Result T ImageFault) → IfErr r (Finds image) → IsErrOf r Device → ⊥
 Finds-not_device image r h told = subst (λ x. IfErr x (Finds image)) told h
 
--- what holds of a fault that is handed on holds of the result
-pub fault-told : {T : Type 0} {given : ImageFault} (P : ImageFault → Type 0) (r : Result T ImageFault) → IsErrAnd r (λ f. f ≡ given) → P given → IfErr r P
-fault-told P r told holds = subst (λ x. IfErr x P) (sym (told-err r told)) holds
+-- a fault that is handed on is told of the result
+pub judged-err : {T : Type 0} {given : ImageFault} (Q : T → Type 0) (P : ImageFault → Type 0) (r : Result T ImageFault) → IsErrAnd r (λ f. f ≡ given) → P given → MatchResult r Q P
+judged-err Q P r told holds = subst (λ x. MatchResult x Q P) (sym (told-err r told)) holds
 
 -- what a result tells that blames no image
 pub record IsOther {T : Type 0} (r : Result T ImageFault) (P : T → Type 0) (other : ImageFault) : Type 0 where

@@ -1,14 +1,13 @@
 -- Which fault an image has: the first in the order of the rules whose rule it breaks.
 -- The order: length, magic, numbers, types, sizes, addresses, shared blocks, bitmap, entries, links, reach.
-use Rattle.std.specs.Bool.{OnTrue}
-use Rattle.std.specs.Prelude.{Bool, List, ℕ, ⊤, ◌++◌}
+use Rattle.std.specs.Prelude.{Bool, List, MatchBool, MatchResult, Result, ℕ, ⊤, ◌++◌}
 use Rattle.layout.specs.declared.Geometry.{Geometry}
 use Rattle.unixmodel.specs.Formats.{Format}
 use Rattle.unixmodel.specs.Files.{Files}
 use Rattle.unixmodel.specs.Image.{DenotesIn, HasSuper}
 use Rattle.imagerules.specs.Content.{IsFront, image_of}
 use Rattle.imagerules.specs.Fields.{HasGeometry}
-use Rattle.imagerules.specs.Marks.{HasMarks}
+use Rattle.imagerules.specs.Marks.{HasMarks, IsOnce}
 use Rattle.imagerules.specs.Rules.{HasBlocks, HasInodes}
 use Rattle.imagerules.specs.Pieces.{HasAddresses, HasBitmap, HasKinds, HasLength, HasMagic, HasSizes, NamesOnce}
 use Rattle.imagerules.specs.Places.{HasEntries, HasLinks, IsReached, files_in}
@@ -43,6 +42,10 @@ Tells f image Device = ⊤
 Tells f image NoMemory = ⊤
 Tells f image fault = HasMagic f image × Finds image fault
 
+-- it gives the geometry that the super block tells, or the fault
+abbrev pub TellsGeometry : Format → List ℕ → Result Geometry ImageFault → Type 0
+TellsGeometry f image r = MatchResult r (Begins f image) (Tells f image)
+
 -- the fault is one of the image, and not of the device or of memory
 abbrev pub IsOfImage : ImageFault → Type 0
 IsOfImage Device = ⊥
@@ -67,6 +70,6 @@ OfFront count front P = (blocks : List (List ℕ)) → IsFront blocks count fron
 abbrev pub DenotesOwn : Format → List ℕ → Type 0
 DenotesOwn f image = DenotesIn f image (files_in image)
 
--- beside the blocks before, these have marks now, if that is told
+-- it is told whether these blocks have no marks before and none stands twice; they have marks then, beside those before
 abbrev pub MarksMore : List Bool → List Bool → List ℕ → Bool → Type 0
-MarksMore old new blocks told = (before : List ℕ) → HasMarks before old → OnTrue told (HasMarks (before ++ blocks) new)
+MarksMore old new blocks told = (before : List ℕ) → HasMarks before old → MatchBool told (HasMarks (before ++ blocks) new) (¬ IsOnce (before ++ blocks))

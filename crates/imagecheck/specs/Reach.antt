@@ -26,6 +26,10 @@ pub record HasWalked (files : Files) (next : ℕ) (marks : List ℕ) : Type 0 wh
   pub before : (n : ℕ) → slice_index marks n < next
   pub climbs : (n : ℕ) → slice_index marks n ≢ 0 → Climbs files n
 
+-- the walk from a directory has met one that climbs: so do all whom it marked
+abbrev pub HasClimbed : Files → ℕ → List ℕ → Type 0
+HasClimbed files start marks = Climbs files start × HasWalked files (start + 1) marks
+
 -- the first data block of an inode
 abbrev pub first_block : List ℕ → ℕ → ℕ
 first_block image n = number_at 4 (inode_at n + 12) image

@@ -1,7 +1,6 @@
 //! The blocks that inodes name.
 
-ghost use Rattle.std.specs.Prelude.{◌≡◌, ◌≢◌, ◌+◌, ◌*◌, ◌<◌, ◌≤◌, ◌==◌, if◌then◌else◌, length};
-ghost use Rattle.std.specs.Bool.{OnTrue, OnFalse};
+ghost use Rattle.std.specs.Prelude.{◌↔◌, IsTrue, ◌≡◌, ◌≢◌, ◌+◌, ◌*◌, ◌<◌, ◌≤◌, ◌==◌, if◌then◌else◌, length};
 ghost use Rattle.layout.specs.Formats.{format_named};
 ghost use Rattle.unixmodel.specs.Image.{count_in, format_of, inode_at, kind_in, number_in};
 ghost use Rattle.unixmodel.specs.Numbers.{number_at};
@@ -94,8 +93,7 @@ fn fits(geometry: Geometry, asked: bool, number: usize) -> bool
 fn fits_addresses(image: &[u8], geometry: Geometry, n: usize) -> bool
     requires geometry { HasGeometry image.now geometry }
     requires inode { HasInode image.now n }
-    ensures good { OnTrue result (FitsAddresses image.now n) }
-    ensures bad { OnFalse result (FitsAddresses image.now n → ⊥) }
+    ensures { IsTrue result ↔ FitsAddresses image.now n }
 {
     let format = format_of(image);
     let count = block_count(image, n);
@@ -115,8 +113,7 @@ fn has_own_addresses(image: &[u8], geometry: Geometry, n: usize) -> bool
     requires sizes { HasSizes image.now }
     requires low { 1 ≤ n }
     requires high { n < geometry.inodes }
-    ensures good { OnTrue result (kind_in image.now n ≢ 0 → FitsAddresses image.now n) }
-    ensures bad { OnFalse result ((kind_in image.now n ≢ 0 → FitsAddresses image.now n) → ⊥) }
+    ensures { IsTrue result ↔ (kind_in image.now n ≢ 0 → FitsAddresses image.now n) }
 {
     kind(image, n) == 0 || fits_addresses(image, geometry, n)
 }
@@ -125,8 +122,7 @@ fn has_own_addresses(image: &[u8], geometry: Geometry, n: usize) -> bool
 pub fn has_addresses(image: &[u8], geometry: Geometry) -> bool
     requires geometry { HasGeometry image.now geometry }
     requires sizes { HasSizes image.now }
-    ensures good { OnTrue result (HasAddresses image.now) }
-    ensures bad { OnFalse result (HasAddresses image.now → ⊥) }
+    ensures { IsTrue result ↔ HasAddresses image.now }
 {
     for n in 1..geometry.inodes {
         if !has_own_addresses(image, geometry, n) {

@@ -1,7 +1,6 @@
 //! The entries of the directories of an image: their names and numbers.
 
-ghost use Rattle.std.specs.Prelude.{◌≡◌, ◌<◌, ◌≤◌, ◌++◌, [], length, IfErr, OnOk};
-ghost use Rattle.std.specs.Bool.{OnTrue, OnFalse};
+ghost use Rattle.std.specs.Prelude.{◌↔◌, IsTrue, ◌≡◌, ◌<◌, ◌≤◌, ◌++◌, [], length, IfErr, MatchResult, OnOk};
 ghost use Rattle.unixmodel.specs.Image.{contents_in, kind_in};
 ghost use Rattle.imagecheck.specs.Entries.{HasNames, NamesDirectories, entries_in, name_numbers};
 ghost use Rattle.imagecheck.specs.Faults.{Finds, IsOfImage};
@@ -23,8 +22,7 @@ fn has_names(image: &[u8], geometry: Geometry, bytes: &[u8], names: &mut [u128])
     requires geometry { HasGeometry image.now geometry }
     requires least { 32 ≤ length bytes.now }
     requires names { names.old ≡ name_numbers (entries_in bytes.now) }
-    ensures good { OnTrue result (HasNames image.now bytes.now) }
-    ensures bad { OnFalse result (HasNames image.now bytes.now → ⊥) }
+    ensures { IsTrue result ↔ HasNames image.now bytes.now }
 {
     if !are_good(image, geometry, bytes) {
         return false;
@@ -47,8 +45,7 @@ fn test_names(
     requires directory { kind_in image.now n ≡ 1 }
     requires bytes { bytes.now ≡ contents_in image.now n }
     requires names { names.old ≡ name_numbers (entries_in bytes.now) }
-    ensures named { OnOk result (HasNames image.now (contents_in image.now n)) }
-    ensures fault { IfErr result (Finds image.now) }
+    ensures judged { MatchResult result (λ _. HasNames image.now (contents_in image.now n)) (Finds image.now) }
     ensures own { IfErr result IsOfImage }
 {
     if !has_names(image, geometry, bytes, names) {
@@ -91,9 +88,8 @@ fn test_directory<A: Allocator, B: Allocator>(
     requires low { 1 ≤ n }
     requires high { n < geometry.inodes }
     requires directory { kind_in image.now n ≡ 1 }
-    ensures named { OnOk result (HasNames image.now (contents_in image.now n)) }
+    ensures judged { MatchResult result (λ _. HasNames image.now (contents_in image.now n)) (Finds image.now) }
     ensures namings { OnOk result (namings.new.items ≡ namings.old.items ++ namings_of n (entries_in (contents_in image.now n))) }
-    ensures fault { IfErr result (Finds image.now) }
 {
     read_directory(image, geometry, n, bytes, names)?;
     test_names(image, geometry, n, bytes, names)?;
@@ -111,9 +107,8 @@ pub fn test_directories<A: Allocator>(
     requires geometry { HasGeometry image.now geometry }
     requires blocks { BlockRules image.now }
     requires fresh { namings.old.items ≡ [] }
-    ensures named { OnOk result (NamesDirectories image.now) }
+    ensures judged { MatchResult result (λ _. NamesDirectories image.now) (Finds image.now) }
     ensures namings { OnOk result (namings.new.items ≡ namings_in image.now) }
-    ensures fault { IfErr result (Finds image.now) }
 {
     let mut bytes = Vec::new(&alloc);
     let mut names = Vec::new(&alloc);

@@ -1,7 +1,6 @@
 //! The places of a directory, from its bytes.
 
-ghost use Rattle.std.specs.Prelude.{◌≡◌, ◌+◌, ◌*◌, ◌/◌, ◌≤◌, ◌==◌, ◌&&◌, All, IsSome, length, take, drop};
-ghost use Rattle.std.specs.Bool.{OnTrue, OnFalse};
+ghost use Rattle.std.specs.Prelude.{◌↔◌, IsTrue, ◌≡◌, ◌+◌, ◌*◌, ◌/◌, ◌≤◌, ◌==◌, ◌&&◌, All, is_some, length, take, drop};
 ghost use Rattle.std.specs.List.{list_all};
 ghost use Rattle.unixmodel.specs.Files.{slot};
 ghost use Rattle.imagecheck.specs.Entries.{GoodPlace, IsGood, entries_in};
@@ -42,8 +41,7 @@ pub fn before_zeros(bytes: &[u8]) -> &[u8]
 // Whether the number is that of an inode in use.
 fn is_used(image: &[u8], geometry: Geometry, n: usize) -> bool
     requires { HasGeometry image.now geometry }
-    ensures good { OnTrue result (IsSome (slot (files_in image.now) n)) }
-    ensures bad { OnFalse result (IsSome (slot (files_in image.now) n) → ⊥) }
+    ensures { result ≡ is_some (slot (files_in image.now) n) }
 {
     if n == 0 {
         return false;
@@ -58,8 +56,7 @@ fn is_used(image: &[u8], geometry: Geometry, n: usize) -> bool
 fn is_good(image: &[u8], geometry: Geometry, place: &[u8]) -> bool
     requires geometry { HasGeometry image.now geometry }
     requires long { length place.now ≡ 16 }
-    ensures good { OnTrue result (GoodPlace image.now (place_of_bytes place.now)) }
-    ensures bad { OnFalse result (GoodPlace image.now (place_of_bytes place.now) → ⊥) }
+    ensures { IsTrue result ↔ GoodPlace image.now (place_of_bytes place.now) }
 {
     if is_zero(place) {
         return true;
@@ -74,8 +71,7 @@ fn is_good(image: &[u8], geometry: Geometry, place: &[u8]) -> bool
 pub fn are_good(image: &[u8], geometry: Geometry, bytes: &[u8]) -> bool
     requires geometry { HasGeometry image.now geometry }
     requires least { 32 ≤ length bytes.now }
-    ensures good { OnTrue result (All (IsGood image.now) (entries_in bytes.now)) }
-    ensures bad { OnFalse result (All (IsGood image.now) (entries_in bytes.now) → ⊥) }
+    ensures { IsTrue result ↔ All (IsGood image.now) (entries_in bytes.now) }
 {
     for k in 2..bytes.len() / 16 {
         if !is_good(image, geometry, place(bytes, k)) {

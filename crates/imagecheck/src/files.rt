@@ -1,6 +1,6 @@
 //! The files of an image whose inodes and blocks are sound: their entries, their links and that each is reached.
 
-ghost use Rattle.std.specs.Prelude.{◌≡◌, length, IfErr, OnOk};
+ghost use Rattle.std.specs.Prelude.{◌≡◌, length, IfErr, MatchResult};
 ghost use Rattle.imagecheck.specs.Entries.{NamesDirectories};
 ghost use Rattle.imagecheck.specs.Faults.{Finds, IsOfImage};
 ghost use Rattle.imagerules.specs.Rules.{BlockRules, HasFiles};
@@ -33,8 +33,7 @@ fn test_entries(
     requires counts { TellsNames image.now counts.now }
     requires parents_long { length parents.now ≡ geometry.inodes }
     requires parents { HasParents image.now parents.now }
-    ensures sound { OnOk result (HasEntries (files_in image.now)) }
-    ensures fault { IfErr result (Finds image.now) }
+    ensures judged { MatchResult result (λ _. HasEntries (files_in image.now)) (Finds image.now) }
     ensures own { IfErr result IsOfImage }
 {
     if !are_named(image, geometry, counts) {
@@ -60,8 +59,7 @@ fn test_links(
     requires counts { TellsNames image.now counts.now }
     requires subdirectories_long { length subdirectories.now ≡ geometry.inodes }
     requires subdirectories { TellsSubdirectories image.now subdirectories.now }
-    ensures sound { OnOk result (HasLinks (files_in image.now)) }
-    ensures fault { IfErr result (Finds image.now) }
+    ensures judged { MatchResult result (λ _. HasLinks (files_in image.now)) (Finds image.now) }
     ensures own { IfErr result IsOfImage }
 {
     if !has_links(image, geometry, counts, subdirectories) {
@@ -81,8 +79,7 @@ fn test_fronts<A: Allocator>(
     requires listed { IsListed image.now geometry namings.now }
     requires long { length counts.now ≡ geometry.inodes }
     requires counts { TellsNames image.now counts.now }
-    ensures sound { OnOk result (HasEntries (files_in image.now)) }
-    ensures fault { IfErr result (Finds image.now) }
+    ensures { MatchResult result (λ _. HasEntries (files_in image.now)) (Finds image.now) }
 {
     let mut parents = vec![in alloc; 0; geometry.inodes]?;
     find_parents(namings, &mut parents);
@@ -101,8 +98,7 @@ fn test_subdirectories<A: Allocator>(
     requires entries { HasEntries (files_in image.now) }
     requires long { length counts.now ≡ geometry.inodes }
     requires counts { TellsNames image.now counts.now }
-    ensures sound { OnOk result (HasLinks (files_in image.now)) }
-    ensures fault { IfErr result (Finds image.now) }
+    ensures { MatchResult result (λ _. HasLinks (files_in image.now)) (Finds image.now) }
 {
     let mut subdirectories = vec![in alloc; 0; geometry.inodes]?;
     count_subdirectories(image, geometry, namings, &mut subdirectories);
@@ -117,9 +113,7 @@ fn test_namings<A: Allocator>(
     namings: &[Naming],
 ) -> Result<(), ImageFault>
     requires { IsListed image.now geometry namings.now }
-    ensures entries { OnOk result (HasEntries (files_in image.now)) }
-    ensures links { OnOk result (HasLinks (files_in image.now)) }
-    ensures fault { IfErr result (Finds image.now) }
+    ensures { MatchResult result (λ _. HasEntries (files_in image.now) × HasLinks (files_in image.now)) (Finds image.now) }
 {
     let mut counts = vec![in &alloc; 0; geometry.inodes]?;
     count_names(namings, &mut counts);
@@ -135,8 +129,7 @@ pub fn test_files<A: Allocator>(
 ) -> Result<(), ImageFault>
     requires geometry { HasGeometry image.now geometry }
     requires blocks { BlockRules image.now }
-    ensures sound { OnOk result (HasFiles image.now) }
-    ensures fault { IfErr result (Finds image.now) }
+    ensures { MatchResult result (λ _. HasFiles image.now) (Finds image.now) }
 {
     let mut namings = Vec::new(&alloc);
     test_directories(&alloc, image, geometry, &mut namings)?;

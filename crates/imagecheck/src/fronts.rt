@@ -1,7 +1,6 @@
 //! The first two places of directories, "." and "..", and how many places name a directory.
 
-ghost use Rattle.std.specs.Prelude.{◌≡◌, ◌≤◌, ◌==◌, if◌then◌else◌, Some, length};
-ghost use Rattle.std.specs.Bool.{OnTrue, OnFalse};
+ghost use Rattle.std.specs.Prelude.{◌↔◌, IsTrue, ◌≡◌, ◌≤◌, ◌==◌, if◌then◌else◌, Some, length};
 ghost use Rattle.unixmodel.specs.Image.{contents_in};
 ghost use Rattle.imagecheck.specs.Entries.{AreNamed, FitsFront, HasFronts};
 ghost use Rattle.imagerules.specs.Rules.{BlockRules};
@@ -19,8 +18,7 @@ use layout::Geometry;
 // Whether a place has this name and number.
 fn holds(place: &[u8], name: &[u8], number: usize) -> bool
     requires { length place.now ≡ 16 }
-    ensures good { OnTrue result (place_of_bytes place.now ≡ Some (record { name = name.now; number = number })) }
-    ensures bad { OnFalse result (place_of_bytes place.now ≡ Some (record { name = name.now; number = number }) → ⊥) }
+    ensures { IsTrue result ↔ (place_of_bytes place.now ≡ Some (record { name = name.now; number = number })) }
 {
     if is_zero(place) {
         return false;
@@ -34,8 +32,7 @@ fn holds(place: &[u8], name: &[u8], number: usize) -> bool
 // Whether the first two places of directory n are ".", which is itself, and "..", which is its parent.
 fn fits_front(bytes: &[u8], n: usize, parent: usize) -> bool
     requires { 32 ≤ length bytes.now }
-    ensures good { OnTrue result (FitsFront n parent bytes.now) }
-    ensures bad { OnFalse result (FitsFront n parent bytes.now → ⊥) }
+    ensures { IsTrue result ↔ FitsFront n parent bytes.now }
 {
     if !holds(place(bytes, 0), b".".as_slice(), n) {
         return false;
@@ -48,8 +45,7 @@ fn has_front(image: &[u8], geometry: Geometry, n: usize, parent: usize) -> bool
     requires geometry { HasGeometry image.now geometry }
     requires blocks { BlockRules image.now }
     requires directory { IsDirectoryIn image.now n }
-    ensures good { OnTrue result (FitsFront n parent (contents_in image.now n)) }
-    ensures bad { OnFalse result (FitsFront n parent (contents_in image.now n) → ⊥) }
+    ensures { IsTrue result ↔ FitsFront n parent (contents_in image.now n) }
 {
     let at = front_place(image, geometry, n);
     fits_front(&image[at..at + 32], n, parent)
@@ -61,8 +57,7 @@ pub fn has_fronts(image: &[u8], geometry: Geometry, parents: &[u16]) -> bool
     requires blocks { BlockRules image.now }
     requires long { length parents.now ≡ geometry.inodes }
     requires parents { HasParents image.now parents.now }
-    ensures good { OnTrue result (HasFronts image.now) }
-    ensures bad { OnFalse result (HasFronts image.now → ⊥) }
+    ensures { IsTrue result ↔ HasFronts image.now }
 {
     for n in 1..geometry.inodes {
         if kind(image, n) == 1 && !has_front(image, geometry, n, parents[n] as usize) {
@@ -74,8 +69,7 @@ pub fn has_fronts(image: &[u8], geometry: Geometry, parents: &[u16]) -> bool
 
 // Whether a directory has as many names as it may: the root none, another one. An inode of another type may have any.
 fn fits_names(kind: u16, n: usize, names: usize) -> bool
-    ensures good { OnTrue result (kind ≡ 1 → names ≡ (if n == 1 then 0 else 1)) }
-    ensures bad { OnFalse result ((kind ≡ 1 → names ≡ (if n == 1 then 0 else 1)) → ⊥) }
+    ensures { IsTrue result ↔ (kind ≡ 1 → names ≡ (if n == 1 then 0 else 1)) }
 {
     if kind != 1 {
         return true;
@@ -91,8 +85,7 @@ pub fn are_named(image: &[u8], geometry: Geometry, counts: &[usize]) -> bool
     requires geometry { HasGeometry image.now geometry }
     requires long { length counts.now ≡ geometry.inodes }
     requires counts { TellsNames image.now counts.now }
-    ensures good { OnTrue result (AreNamed image.now) }
-    ensures bad { OnFalse result (AreNamed image.now → ⊥) }
+    ensures { IsTrue result ↔ AreNamed image.now }
 {
     for n in 1..geometry.inodes {
         if !fits_names(kind(image, n), n, counts[n]) {

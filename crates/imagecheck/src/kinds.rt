@@ -1,7 +1,6 @@
 //! The types and the sizes of inodes.
 
-ghost use Rattle.std.specs.Prelude.{◌%◌, ◌<◌, ◌≤◌};
-ghost use Rattle.std.specs.Bool.{OnTrue, OnFalse};
+ghost use Rattle.std.specs.Prelude.{◌↔◌, IsTrue, ◌%◌, ◌<◌, ◌≤◌};
 ghost use Rattle.imagerules.specs.Fields.{HasGeometry};
 ghost use Rattle.imagerules.specs.Pieces.{HasKinds, HasSizes, FitsKind};
 
@@ -13,8 +12,7 @@ use layout::Geometry;
 // Whether each type is known, and the root is a directory.
 pub fn has_kinds(image: &[u8], geometry: Geometry) -> bool
     requires { HasGeometry image.now geometry }
-    ensures good { OnTrue result (HasKinds image.now) }
-    ensures bad { OnFalse result (HasKinds image.now → ⊥) }
+    ensures { IsTrue result ↔ HasKinds image.now }
 {
     for n in 1..geometry.inodes {
         if kind(image, n) > 3 {
@@ -27,8 +25,7 @@ pub fn has_kinds(image: &[u8], geometry: Geometry) -> bool
 // Whether an inode of this type may have this size in bytes, if a file has so many at most.
 fn fits_kind(longest: usize, kind: u16, size: usize) -> bool
     requires { kind ≤ 3 }
-    ensures good { OnTrue result (FitsKind longest kind size) }
-    ensures bad { OnFalse result (FitsKind longest kind size → ⊥) }
+    ensures { IsTrue result ↔ FitsKind longest kind size }
 {
     match kind {
         0 => true,
@@ -42,8 +39,7 @@ fn fits_kind(longest: usize, kind: u16, size: usize) -> bool
 pub fn has_sizes(image: &[u8], geometry: Geometry) -> bool
     requires geometry { HasGeometry image.now geometry }
     requires kinds { HasKinds image.now }
-    ensures good { OnTrue result (HasSizes image.now) }
-    ensures bad { OnFalse result (HasSizes image.now → ⊥) }
+    ensures { IsTrue result ↔ HasSizes image.now }
 {
     let longest = 1024 * single(format_of(image));
     for n in 1..geometry.inodes {

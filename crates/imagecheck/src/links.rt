@@ -1,7 +1,6 @@
 //! The counts of links.
 
-ghost use Rattle.std.specs.Prelude.{◌≡◌, ◌<◌, length};
-ghost use Rattle.std.specs.Bool.{OnTrue, OnFalse};
+ghost use Rattle.std.specs.Prelude.{◌↔◌, IsTrue, ◌≡◌, ◌<◌, length};
 ghost use Rattle.imagerules.specs.Rules.{BlockRules};
 ghost use Rattle.imagerules.specs.Fields.{HasGeometry};
 ghost use Rattle.imagecheck.specs.Namings.{FitsLinks, TellsNames, TellsSubdirectories};
@@ -13,8 +12,7 @@ use layout::Geometry;
 // Whether an inode of this type may have this count of links: a directory one more than its subdirectories, a file or a
 // device as many as there are places that name it.
 fn fits_links(kind: u16, links: usize, names: usize, subdirectories: usize) -> bool
-    ensures good { OnTrue result (FitsLinks kind links names subdirectories) }
-    ensures bad { OnFalse result (FitsLinks kind links names subdirectories → ⊥) }
+    ensures { IsTrue result ↔ FitsLinks kind links names subdirectories }
 {
     match kind {
         0 => true,
@@ -36,8 +34,7 @@ pub fn has_links(
     requires names { TellsNames image.now names.now }
     requires subdirectories_long { length subdirectories.now ≡ geometry.inodes }
     requires subdirectories { TellsSubdirectories image.now subdirectories.now }
-    ensures good { OnTrue result (HasLinks (files_in image.now)) }
-    ensures bad { OnFalse result (HasLinks (files_in image.now) → ⊥) }
+    ensures { IsTrue result ↔ HasLinks (files_in image.now) }
 {
     for n in 1..geometry.inodes {
         let told = links(image, n) as usize;

@@ -3,7 +3,7 @@
 ghost use Rattle.std.specs.Prelude.{◌≡◌, ◌≤◌, length, IfOk, IfErr, IsErrOf};
 ghost use Rattle.unixmodel.specs.Failures.{Rises};
 ghost use Rattle.imagerules.specs.Content.{image_of};
-ghost use Rattle.imagecheck.specs.Faults.{Begins, IsOfImage, IsOutside, OfFront, Tells};
+ghost use Rattle.imagecheck.specs.Faults.{IsOfImage, IsOutside, OfFront, TellsGeometry};
 ghost use Rattle.layout.specs.Formats.{format_named};
 
 use crate::ImageFault;
@@ -14,8 +14,7 @@ use std::alloc::Allocator;
 // The geometry that the super block tells of a device of so many blocks, if its numbers and the length are right in the format.
 pub fn geometry_in(format: Format, block: &Block, count: usize) -> Result<Geometry, ImageFault>
     requires { 2 ≤ count }
-    ensures geometry { IfOk result (λ g. OfFront count block.now (λ image. Begins (format_named format) image g)) }
-    ensures fault { IfErr result (λ fault. OfFront count block.now (λ image. Tells (format_named format) image fault)) }
+    ensures judged { OfFront count block.now (λ image. TellsGeometry (format_named format) image result) }
     ensures own { IfErr result IsOfImage }
 {
     let numbers = SuperBlock::from_front(block);
@@ -35,8 +34,7 @@ pub fn geometry_in(format: Format, block: &Block, count: usize) -> Result<Geomet
 
 // Reads the super block, and tests the length and its numbers in the format.
 pub fn read_geometry<D: BlockDev>(format: Format, device: &mut D) -> Result<Geometry, ImageFault>
-    ensures geometry { IfOk result (λ g. Begins (format_named format) (image_of (D.content device.old)) g) }
-    ensures fault { IfErr result (λ fault. Tells (format_named format) (image_of (D.content device.old)) fault) }
+    ensures judged { TellsGeometry (format_named format) (image_of (D.content device.old)) result }
     ensures memory { IsErrOf result ImageFault.NoMemory → ⊥ }
     ensures same { D.content device.new ≡ D.content device.old }
     ensures identity { D.identity device.new ≡ D.identity device.old }

@@ -1,7 +1,6 @@
 //! Marks of the blocks that inodes name: none is named twice, and the bitmap agrees with them.
 
-ghost use Rattle.std.specs.Prelude.{◌≡◌, ℕ, ◌+◌, ◌*◌, ◌/◌, ◌%◌, ◌<◌, ◌≤◌, ◌++◌, [], List, not, length, slice_index, slice_index_or, slice_set, false, true};
-ghost use Rattle.std.specs.Bool.{OnTrue, OnFalse};
+ghost use Rattle.std.specs.Prelude.{◌↔◌, IsTrue, ◌≡◌, ℕ, ◌+◌, ◌*◌, ◌/◌, ◌%◌, ◌<◌, ◌≤◌, ◌++◌, [], List, not, length, slice_index, slice_index_or, slice_set, MatchBool, false, true};
 ghost use Rattle.unixmodel.specs.Numbers.{has_bit};
 ghost use Rattle.unixmodel.specs.Image.{bitmap_start, named_blocks, named_by, size_in};
 ghost use Rattle.imagerules.specs.Fields.{HasGeometry, HasInode, SuperRules};
@@ -31,8 +30,7 @@ fn mark_all(image: &[u8], n: usize, marks: &mut [bool]) -> bool
     requires addresses { FitsAddresses image.now n }
     requires rules { SuperRules image.now }
     requires long { length marks.old ≡ size_in image.now }
-    ensures good { MarksMore marks.old marks.new (named_by image.now n) result }
-    ensures bad { (before : List ℕ) → HasMarks before marks.old → OnFalse result (IsOnce (before ++ named_by image.now n) → ⊥) }
+    ensures { MarksMore marks.old marks.new (named_by image.now n) result }
 {
     let format = format_of(image);
     let count = block_count(image, n);
@@ -52,8 +50,7 @@ fn mark_inode(image: &[u8], geometry: Geometry, n: usize, marks: &mut [bool]) ->
     requires low { 1 ≤ n }
     requires high { n < geometry.inodes }
     requires long { length marks.old ≡ geometry.size }
-    ensures good { MarksMore marks.old marks.new (blocks_of image.now n) result }
-    ensures bad { (before : List ℕ) → HasMarks before marks.old → OnFalse result (IsOnce (before ++ blocks_of image.now n) → ⊥) }
+    ensures { MarksMore marks.old marks.new (blocks_of image.now n) result }
 {
     if kind(image, n) == 0 {
         return true;
@@ -68,8 +65,7 @@ pub fn names_once(image: &[u8], geometry: Geometry, marks: &mut [bool]) -> bool
     requires addresses { HasAddresses image.now }
     requires long { length marks.old ≡ geometry.size }
     requires fresh { HasMarks [] marks.old }
-    ensures good { OnTrue result (HasMarks (named_blocks image.now) marks.new) }
-    ensures bad { OnFalse result (NamesOnce image.now → ⊥) }
+    ensures { MatchBool result (HasMarks (named_blocks image.now) marks.new) (¬ NamesOnce image.now) }
 {
     for n in 1..geometry.inodes {
         if !mark_inode(image, geometry, n, marks) {
@@ -94,8 +90,7 @@ pub fn has_bitmap(image: &[u8], geometry: Geometry, marks: &[bool]) -> bool
     requires geometry { HasGeometry image.now geometry }
     requires long { length marks.now ≡ geometry.size }
     requires marks { HasMarks (named_blocks image.now) marks.now }
-    ensures good { OnTrue result (HasBitmap image.now) }
-    ensures bad { OnFalse result (HasBitmap image.now → ⊥) }
+    ensures { IsTrue result ↔ HasBitmap image.now }
 {
     let start = geometry.bitmap_start();
     let first = geometry.data_start();

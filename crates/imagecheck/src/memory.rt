@@ -6,7 +6,7 @@ ghost use Rattle.unixmodel.specs.Formats.{small};
 ghost use Rattle.unixmodel.specs.Image.{DenotesSmall};
 ghost use Rattle.imagerules.specs.Fields.{HasGeometry};
 ghost use Rattle.imagerules.specs.Places.{files_in};
-ghost use Rattle.imagecheck.specs.Faults.{Begins, IsOfImage, Tells};
+ghost use Rattle.imagecheck.specs.Faults.{IsOfImage, Tells, TellsGeometry};
 
 use crate::ImageFault;
 use crate::load::geometry_in;
@@ -17,8 +17,7 @@ use std::alloc::Allocator;
 
 // The geometry that the super block tells, if its numbers and the length are right in the format of small files.
 fn geometry_of(image: &[u8]) -> Result<Geometry, ImageFault>
-    ensures geometry { IfOk result (λ g. Begins small image.now g) }
-    ensures fault { IfErr result (λ fault. Tells small image.now fault) }
+    ensures judged { TellsGeometry small image.now result }
     ensures own { IfErr result IsOfImage }
 {
     let count = image.len() / BLOCK_SIZE;

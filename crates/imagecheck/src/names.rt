@@ -1,7 +1,6 @@
 //! The names of a directory as numbers, by which they are told apart.
 
-ghost use Rattle.std.specs.Prelude.{◌≡◌, ◌≢◌, ◌+◌, ◌≤◌, ◌++◌, AllPairs, length, OnOk};
-ghost use Rattle.std.specs.Bool.{OnTrue, OnFalse};
+ghost use Rattle.std.specs.Prelude.{◌↔◌, IsTrue, ◌≡◌, ◌≢◌, ◌+◌, ◌≤◌, ◌++◌, AllPairs, length, OnOk};
 ghost use Rattle.std.specs.Option.{option_to_list};
 ghost use Rattle.imagecheck.specs.Entries.{entries_in, name_numbers};
 ghost use Rattle.imagerules.specs.Places.{place_of_bytes};
@@ -36,8 +35,7 @@ pub fn read_names<A: Allocator>(bytes: &[u8], names: &mut Vec<u128, A>) -> Resul
 
 // Whether no two names have one number. The numbers are sorted.
 pub fn are_distinct(names: &mut [u128]) -> bool
-    ensures good { OnTrue result (AllPairs (λ a b. a ≢ b) names.old) }
-    ensures bad { OnFalse result (AllPairs (λ a b. a ≢ b) names.old → ⊥) }
+    ensures { IsTrue result ↔ AllPairs (λ a b. a ≢ b) names.old }
 {
     names.sort_unstable();
     names.is_sorted_by(|a, b| a < b)

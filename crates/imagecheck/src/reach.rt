@@ -1,13 +1,12 @@
 //! Whether all inodes in use are reached from the root.
 
-ghost use Rattle.std.specs.Prelude.{◌≡◌, ◌+◌, ◌<◌, length, IfErr, OnOk};
-ghost use Rattle.std.specs.Bool.{OnTrue, OnFalse};
+ghost use Rattle.std.specs.Prelude.{◌≡◌, ◌+◌, ◌<◌, length, IfErr, MatchBool, MatchResult};
 ghost use Rattle.unixmodel.specs.Image.{parent_of};
 ghost use Rattle.imagecheck.specs.Faults.{Finds, IsOfImage};
 ghost use Rattle.imagerules.specs.Rules.{BlockRules};
 ghost use Rattle.imagerules.specs.Fields.{HasGeometry};
 ghost use Rattle.imagerules.specs.Places.{HasEntries, HasLinks, IsReached, files_in};
-ghost use Rattle.imagecheck.specs.Reach.{Climbs, HasWalked, IsDirectoryIn};
+ghost use Rattle.imagecheck.specs.Reach.{HasClimbed, HasWalked, IsDirectoryIn};
 
 use crate::ImageFault;
 use crate::contents::front_place;
@@ -39,9 +38,7 @@ fn climb(image: &[u8], geometry: Geometry, start: usize, marks: &mut [u16]) -> b
     requires above { 1 < start }
     requires long { length marks.old ≡ geometry.inodes }
     requires walked { HasWalked (files_in image.now) start marks.old }
-    ensures climbs { OnTrue result (Climbs (files_in image.now) start) }
-    ensures walked { OnTrue result (HasWalked (files_in image.now) (start + 1) marks.new) }
-    ensures round { OnFalse result (IsReached (files_in image.now) → ⊥) }
+    ensures { MatchBool result (HasClimbed (files_in image.now) start marks.new) (¬ IsReached (files_in image.now)) }
 {
     let mut n = start;
     while marks[n] == 0 {
@@ -59,8 +56,7 @@ fn test_climbs(image: &[u8], geometry: Geometry, marks: &mut [u16]) -> Result<()
     requires links { HasLinks (files_in image.now) }
     requires long { length marks.old ≡ geometry.inodes }
     requires walked { HasWalked (files_in image.now) 2 marks.old }
-    ensures sound { OnOk result (IsReached (files_in image.now)) }
-    ensures fault { IfErr result (Finds image.now) }
+    ensures judged { MatchResult result (λ _. IsReached (files_in image.now)) (Finds image.now) }
     ensures own { IfErr result IsOfImage }
 {
     for n in 2..geometry.inodes {
@@ -81,8 +77,7 @@ pub fn test_reach<A: Allocator>(
     requires blocks { BlockRules image.now }
     requires entries { HasEntries (files_in image.now) }
     requires links { HasLinks (files_in image.now) }
-    ensures sound { OnOk result (IsReached (files_in image.now)) }
-    ensures fault { IfErr result (Finds image.now) }
+    ensures { MatchResult result (λ _. IsReached (files_in image.now)) (Finds image.now) }
 {
     let mut marks = vec![in alloc; 0; geometry.inodes]?;
     marks[1] = 1;

@@ -1,6 +1,6 @@
 //! The rules of an image, one after the other.
 
-ghost use Rattle.std.specs.Prelude.{◌≡◌, ◌≤◌, [], length, IfOk, IfErr, IsErrOf, OnOk};
+ghost use Rattle.std.specs.Prelude.{◌≡◌, ◌≤◌, [], length, IfOk, IfErr, IsErrOf, MatchResult, OnOk};
 ghost use Rattle.unixmodel.specs.Failures.{Rises};
 ghost use Rattle.unixmodel.specs.Formats.{format, small};
 ghost use Rattle.unixmodel.specs.Image.{Denotes, DenotesIn, DenotesSmall, named_blocks, numbers_in_use};
@@ -37,9 +37,7 @@ pub struct Summary {
 // Tests the inodes: the rules from the types to the addresses.
 fn test_inodes(image: &[u8], geometry: Geometry) -> Result<(), ImageFault>
     requires { HasGeometry image.now geometry }
-    ensures inodes { OnOk result (HasInodes image.now) }
-    ensures addresses { OnOk result (HasAddresses image.now) }
-    ensures fault { IfErr result (Finds image.now) }
+    ensures judged { MatchResult result (λ _. HasInodes image.now × HasAddresses image.now) (Finds image.now) }
     ensures own { IfErr result IsOfImage }
 {
     if !has_kinds(image, geometry) {
@@ -61,8 +59,7 @@ fn test_marks(image: &[u8], geometry: Geometry, marks: &mut [bool]) -> Result<()
     requires addresses { HasAddresses image.now }
     requires long { length marks.old ≡ geometry.size }
     requires fresh { HasMarks [] marks.old }
-    ensures sound { OnOk result (BlockRules image.now) }
-    ensures fault { IfErr result (Finds image.now) }
+    ensures judged { MatchResult result (λ _. BlockRules image.now) (Finds image.now) }
     ensures own { IfErr result IsOfImage }
 {
     if !names_once(image, geometry, marks) {
@@ -77,8 +74,7 @@ fn test_marks(image: &[u8], geometry: Geometry, marks: &mut [bool]) -> Result<()
 // Tests the inodes and the blocks that they name: the rules from the types to the bitmap.
 fn test_blocks<A: Allocator>(alloc: A, image: &[u8], geometry: Geometry) -> Result<(), ImageFault>
     requires { HasGeometry image.now geometry }
-    ensures sound { OnOk result (BlockRules image.now) }
-    ensures fault { IfErr result (Finds image.now) }
+    ensures { MatchResult result (λ _. BlockRules image.now) (Finds image.now) }
 {
     test_inodes(image, geometry)?;
     let mut marks = vec![in alloc; false; geometry.size]?;
@@ -92,8 +88,7 @@ pub fn summary_of<A: Allocator>(
     geometry: Geometry,
 ) -> Result<Summary, ImageFault>
     requires { HasGeometry image.now geometry }
-    ensures summary { IfOk result (IsSummary image.now) }
-    ensures fault { IfErr result (Finds image.now) }
+    ensures { MatchResult result (IsSummary image.now) (Finds image.now) }
 {
     test_blocks(&alloc, image, geometry)?;
     test_files(&alloc, image, geometry)?;

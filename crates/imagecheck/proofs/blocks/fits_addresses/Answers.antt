@@ -2,6 +2,7 @@ use Rattle.std.proofs.Common.{below_more, sym, ◌∙◌}
 use Rattle.std.proofs.lemmas.Bool.{false≢true}
 use Rattle.imagecheck.specs.Slots.{FitsSlot}
 use Rattle.imagerules.proofs.Bounds.{inodes-most, size-most, super-is}
+use Rattle.imagecheck.proofs.Judging.{never, told}
 use Rattle.imagecheck.proofs.Numbering.{FitsSlot-from, FitsSlot-test, IsCounted, IsFound-told, number_told, small_told, taken_told, there_told, within_told}
 use Rattle.imagecheck.proofs.Slotting.{FitsAddresses-from, FitsSlot-at, IsFound-next}
 use Rattle.imagecheck.proofs.blocks.fits_addresses.Goals as goal
@@ -20,12 +21,12 @@ number-block-requires-clause-found c =
 pub fits-requires : goal.fits-requires
 fits-requires c = record { inodes = inodes-most c.requires.geometry; size = size-most c.requires.geometry }
 
-pub returns-then-not-fits-clause-bad : goal.returns-then-not-fits-clause-bad
-returns-then-not-fits-clause-bad c = λ h.
-    let i = counted ((goal.at.returns-then-not-fits-clause-bad c).At-loop-k) in
-    false≢true (sym c.if-not-fits.true ∙ c.fits.ensures
+pub returns-then-not-fits : goal.returns-then-not-fits
+returns-then-not-fits c =
+    let i = counted ((goal.at.returns-then-not-fits c).At-loop-k) in
+    never (λ h. false≢true (sym c.if-not-fits.true ∙ c.fits.ensures
     ∙ FitsSlot-test c.requires.geometry c.args.n c.loop-k.k _ c.number-block.result (taken_told i c.index_blocks.ensures.told) (number_told i c.loop-k.k c.slot_at.ensures c.number-block.ensures)
-    (FitsSlot-at c.args.image.now c.args.n (small_told i) h c.loop-k.k (there_told i c.there-k-end.ensures c.loop-k-test.true)))
+    (FitsSlot-at c.args.image.now c.args.n (small_told i) h c.loop-k.k (there_told i c.there-k-end.ensures c.loop-k-test.true))))
 
 pub loop-k-preserved : goal.loop-k-preserved
 loop-k-preserved c =
@@ -34,7 +35,7 @@ loop-k-preserved c =
     (FitsSlot-from c.requires.geometry c.args.n c.loop-k.k _ c.number-block.result (taken_told i c.index_blocks.ensures.told) (number_told i c.loop-k.k c.slot_at.ensures c.number-block.ensures)
     (sym c.fits.ensures ∙ c.if-not-fits.false))
 
-pub returns-clause-good : goal.returns-clause-good
-returns-clause-good c =
-    let i = counted ((goal.at.returns-clause-good c).At-loop-k) in
-    FitsAddresses-from c.args.image.now c.args.n (small_told i) (λ k l. c.loop-k.invariant k (within_told i c.there-k-end.ensures c.loop-k-test.false l))
+pub returns : goal.returns
+returns c =
+    let i = counted ((goal.at.returns c).At-loop-k) in
+    told (FitsAddresses-from c.args.image.now c.args.n (small_told i) (λ k l. c.loop-k.invariant k (within_told i c.there-k-end.ensures c.loop-k-test.false l)))

@@ -1,19 +1,18 @@
 use Rattle.std.proofs.Common.{◌≢◌, arith}
-use Rattle.std.proofs.lemmas.Bool.{OnFalse_at, OnTrue_at}
 use Rattle.unixmodel.specs.Image.{kind_in}
 use Rattle.imagerules.specs.Pieces.{FitsAddresses}
 use Rattle.imagerules.proofs.Bounds.{up_to_more}
 use Rattle.imagerules.proofs.Uses.{FitsAddresses-at, HasAddresses-from}
+use Rattle.imagecheck.proofs.Judging.{refused, told}
 use Rattle.imagecheck.proofs.blocks.has_addresses.Goals as goal
 
-pub returns-then-not-has_own_addresses-clause-bad : goal.returns-then-not-has_own_addresses-clause-bad
-returns-then-not-has_own_addresses-clause-bad c = λ h.
-    OnFalse_at c.if-not-has_own_addresses.true c.has_own_addresses.ensures.bad
-    (FitsAddresses-at c.args.image.now h c.loop-n.n (omega arith) (omega (arith, c.requires.geometry.inodes)))
+pub returns-then-not-has_own_addresses : goal.returns-then-not-has_own_addresses
+returns-then-not-has_own_addresses c = refused c.if-not-has_own_addresses.true c.has_own_addresses.ensures
+    (λ h. FitsAddresses-at c.args.image.now h c.loop-n.n (omega arith) (omega (arith, c.requires.geometry.inodes)))
 
 pub loop-n-preserved : goal.loop-n-preserved
 loop-n-preserved c = up_to_more (λ m. kind_in c.args.image.now m ≢ 0 → FitsAddresses c.args.image.now m) c.loop-n.n c.loop-n.invariant
-    (OnTrue_at c.if-not-has_own_addresses.false c.has_own_addresses.ensures.good)
+    (c.has_own_addresses.ensures.0 c.if-not-has_own_addresses.false)
 
-pub returns-clause-good : goal.returns-clause-good
-returns-clause-good c = HasAddresses-from c.args.image.now (λ n low high. c.loop-n.invariant n low (omega (arith, c.requires.geometry.inodes, c.loop-n-test.false)))
+pub returns : goal.returns
+returns c = told (HasAddresses-from c.args.image.now (λ n low high. c.loop-n.invariant n low (omega (arith, c.requires.geometry.inodes, c.loop-n-test.false))))

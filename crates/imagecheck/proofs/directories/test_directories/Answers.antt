@@ -27,7 +27,7 @@ loop-n-preserved g c =
     let named = λ (here : kind_in image n ≡ 1 → HasNames image (contents_in image n)). up_to_more (λ m. kind_in image m ≡ 1 → HasNames image (contents_in image m)) n inv.named here in
     elim c.if-kind-eq1.branch [
       | then-kind-eq1+in_ok-test_directory w ↦ record {
-        named = named (λ e. w.in_ok-test_directory.ensures.named);
+        named = named (λ e. w.in_ok-test_directory.ensures.judged);
         collected = ◌∙◌ {A = List Naming} (ap (λ v. v.items) w.namings-is)
             (namings_to-directory image n c.loop-n.namings.items w.test_directory.new.namings.items (omega arith) high (sym c.kind.ensures ∙ w.if-kind-eq1.true) inv.collected w.in_ok-test_directory.ensures.namings);
       }
@@ -38,8 +38,8 @@ loop-n-preserved g c =
       }
     ]
 
-pub returns-clause-named : goal.returns-clause-named
-returns-clause-named g c = λ n low high directory. c.loop-n.invariant.named n low (omega (arith, c.requires.geometry.inodes, c.loop-n-test.false)) directory
+pub returns-clause-judged : goal.returns-clause-judged
+returns-clause-judged g c = λ n low high directory. c.loop-n.invariant.named n low (omega (arith, c.requires.geometry.inodes, c.loop-n-test.false)) directory
 
 pub returns-clause-namings : goal.returns-clause-namings
 returns-clause-namings g c =

@@ -1,5 +1,5 @@
 use Rattle.std.proofs.Common.{◌<◌, arith, subst, sym}
-use Rattle.std.proofs.lemmas.Bool.{OnFalse_at, OnTrue_at}
+use Rattle.std.proofs.lemmas.Bool.{iff_false}
 use Rattle.unixmodel.specs.Image.{inodes_in}
 use Rattle.imagecheck.specs.Entries.{HasNames}
 use Rattle.imagerules.specs.Rules.{HasBlocks-of}
@@ -9,15 +9,14 @@ use Rattle.imagecheck.proofs.directories.test_names.Goals as goal
 pub has_names-requires-clause-least : goal.has_names-requires-clause-least
 has_names-requires-clause-least c = least-in c.requires.geometry c.requires.blocks c.args.n c.requires.low c.requires.high c.requires.directory c.args.bytes.now c.requires.bytes
 
-pub returns-then-not-has_names-clause-fault : goal.returns-then-not-has_names-clause-fault
-returns-then-not-has_names-clause-fault c =
+pub returns-then-not-has_names-clause-judged : goal.returns-then-not-has_names-clause-judged
+returns-then-not-has_names-clause-judged c =
     let image = c.args.image.now in
     let n = c.args.n in
     let high : n < inodes_in image = omega (arith, c.requires.geometry.inodes, c.requires.high) in (
       HasBlocks-of image c.requires.blocks,
-      λ h.
-          OnFalse_at c.if-not-has_names.true c.has_names.ensures.bad (subst (HasNames image) (sym c.requires.bytes) (names-at image n c.requires.low high c.requires.directory h)),
+      λ h. iff_false c.has_names.ensures c.if-not-has_names.true (subst (HasNames image) (sym c.requires.bytes) (names-at image n c.requires.low high c.requires.directory h)),
     )
 
-pub returns-clause-named : goal.returns-clause-named
-returns-clause-named c = subst (HasNames c.args.image.now) c.requires.bytes (OnTrue_at c.if-not-has_names.false c.has_names.ensures.good)
+pub returns-clause-judged : goal.returns-clause-judged
+returns-clause-judged c = subst (HasNames c.args.image.now) c.requires.bytes (c.has_names.ensures.0 c.if-not-has_names.false)

@@ -1,19 +1,18 @@
 use Rattle.std.proofs.Common.{sym, ap, subst, arith, All}
-use Rattle.std.proofs.lemmas.Bool.{OnFalse_at, OnTrue_at}
 use Rattle.imagecheck.specs.Entries.{GoodPlace, IsGood}
 use Rattle.imagerules.specs.Places.{place_of_bytes}
 use Rattle.imagecheck.proofs.Entering.{all_here, all_more, entries_all}
+use Rattle.imagecheck.proofs.Judging.{refused, told}
 use Rattle.imagecheck.proofs.entries.are_good.Goals as goal
 
-pub returns-then-not-is_good-clause-bad : goal.returns-then-not-is_good-clause-bad
-returns-then-not-is_good-clause-bad c = λ h.
-    OnFalse_at c.if-not-is_good.true c.is_good.ensures.bad
-    (subst (GoodPlace c.args.image.now) (ap place_of_bytes (sym c.place.ensures.place)) (all_here (IsGood c.args.image.now) c.args.bytes.now c.loop-k.k (omega arith) (omega arith) h))
+pub returns-then-not-is_good : goal.returns-then-not-is_good
+returns-then-not-is_good c = refused c.if-not-is_good.true c.is_good.ensures (λ h.
+    subst (GoodPlace c.args.image.now) (ap place_of_bytes (sym c.place.ensures.place)) (all_here (IsGood c.args.image.now) c.args.bytes.now c.loop-k.k (omega arith) (omega arith) h))
 
 pub loop-k-preserved : goal.loop-k-preserved
 loop-k-preserved c =
     all_more (IsGood c.args.image.now) c.args.bytes.now c.loop-k.k (omega arith) (omega arith) c.loop-k.invariant
-    (subst (GoodPlace c.args.image.now) (ap place_of_bytes c.place.ensures.place) (OnTrue_at c.if-not-is_good.false c.is_good.ensures.good))
+    (subst (GoodPlace c.args.image.now) (ap place_of_bytes c.place.ensures.place) (c.is_good.ensures.0 c.if-not-is_good.false))
 
-pub returns-clause-good : goal.returns-clause-good
-returns-clause-good c = subst (All (IsGood c.args.image.now)) (entries_all c.args.bytes.now c.loop-k.k (omega arith)) c.loop-k.invariant
+pub returns : goal.returns
+returns c = told (subst (All (IsGood c.args.image.now)) (entries_all c.args.bytes.now c.loop-k.k (omega arith)) c.loop-k.invariant)

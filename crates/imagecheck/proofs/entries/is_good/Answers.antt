@@ -1,25 +1,33 @@
-use Rattle.std.proofs.Common.{◌≡◌, false, length, drop, sym, ap, subst, ◌∙◌, arith, IsSome, ◌==◌}
-use Rattle.std.specs.List.{list_all}
-use Rattle.std.proofs.lemmas.Bool.{OnFalse_from, OnTrue_at, OnTrue_from, false≢true}
+use Rattle.std.proofs.Common.{◌≡◌, length, drop, sym, ap, subst, ◌∙◌, arith, IsSome, is_some}
+use Rattle.std.proofs.lemmas.Bool.{false≢true}
 use Rattle.std.proofs.lemmas.Slice.{between_to_end}
 use Rattle.unixmodel.specs.Files.{slot}
 use Rattle.unixmodel.specs.Image.{is_name}
 use Rattle.imagecheck.specs.Entries.{GoodPlace}
-use Rattle.imagerules.specs.Places.{files_in, place_of_bytes, without_zeros}
-use Rattle.imagecheck.proofs.Entering.{place-taken}
+use Rattle.imagerules.specs.Places.{files_in, without_zeros}
+use Rattle.imagecheck.proofs.Entering.{place-free, place-taken}
+use Rattle.imagecheck.proofs.Judging.{never, told}
 use Rattle.imagecheck.proofs.entries.is_good.Goals as goal
+
+pub returns-then-is_zero : goal.returns-then-is_zero
+returns-then-is_zero c = told (subst (GoodPlace c.args.image.now) (sym (place-free c.args.place.now (sym c.is_zero.ensures ∙ c.if-is_zero.true))) tt)
+
+pub returns-then-not-is_used : goal.returns-then-not-is_used
+returns-then-not-is_used c =
+    let image = c.args.image.now in
+    let taken = place-taken c.args.place.now (sym c.is_zero.ensures ∙ c.if-is_zero.false) in
+    never (λ h. false≢true (sym c.if-not-is_used.true ∙ c.is_used.ensures ∙ ap (λ n. is_some (slot (files_in image) n)) c.number16.ensures ∙ (subst (GoodPlace image) taken h).number))
 
 pub returns : goal.returns
 returns c =
+    let image = c.args.image.now in
     let place = c.args.place.now in
-    let taken : list_all (λ b. b == 0) place ≡ false = sym c.is_zero.ensures ∙ c.if-is_zero.false in
-    let same : is_name c.before_zeros.result.now ≡ is_name (without_zeros (drop 2 place)) = ap is_name (c.before_zeros.ensures ∙ ap without_zeros (between_to_end place 2 (length place) (omega arith))) in
-    record {
-      good = OnTrue_from c.is_good_name.result (GoodPlace c.args.image.now (place_of_bytes place)) (λ t. subst (GoodPlace c.args.image.now) (sym (place-taken place taken)) (record {
-        name = sym same ∙ sym c.is_good_name.ensures ∙ t;
-        number = subst (λ n. IsSome (slot (files_in c.args.image.now) n)) c.number16.ensures (OnTrue_at c.if-not-is_used.false c.is_used.ensures.good);
-      }));
-      bad = OnFalse_from c.is_good_name.result (GoodPlace c.args.image.now (place_of_bytes place) → ⊥) (λ f h.
-          let good = subst (GoodPlace c.args.image.now) (place-taken place taken) h in
-          false≢true (sym f ∙ c.is_good_name.ensures ∙ same ∙ good.name));
-    }
+    let taken = place-taken place (sym c.is_zero.ensures ∙ c.if-is_zero.false) in
+    let same : c.is_good_name.result ≡ is_name (without_zeros (drop 2 place)) =
+    c.is_good_name.ensures ∙ ap is_name (c.before_zeros.ensures ∙ ap without_zeros (between_to_end place 2 (length place) (omega arith))) in (
+      λ t. subst (GoodPlace image) (sym taken) (record {
+        name = sym same ∙ t;
+        number = subst (λ n. IsSome (slot (files_in image) n)) c.number16.ensures (sym c.is_used.ensures ∙ c.if-not-is_used.false);
+      }),
+      λ h. same ∙ (subst (GoodPlace image) taken h).name,
+    )

@@ -1,17 +1,12 @@
 use Rattle.std.proofs.Common.{◌≡◌, length, sym, subst, ◌∙◌, arith, take_at}
-use Rattle.imagecheck.specs.Faults.{Finds}
 use Rattle.imagecheck.specs.Namings.{HasParents}
 use Rattle.imagerules.proofs.Bounds.{inodes-least}
 use Rattle.imagecheck.proofs.Collecting.{HasParents-from, namings-fitting, numbers-within, zeros}
-use Rattle.std.proofs.lemmas.Result.{IfOk-from_err}
-use Rattle.imagecheck.proofs.Sounding.{fault-told}
+use Rattle.imagecheck.proofs.Sounding.{judged-err}
 use Rattle.imagecheck.proofs.files.test_fronts.Goals as goal
 
-pub returns-in_err-parents-clause-sound : goal.returns-in_err-parents-clause-sound
-returns-in_err-parents-clause-sound g c = IfOk-from_err c.from_residual.result _ c.from_residual.ensures.0
-
-pub returns-in_err-parents-clause-fault : goal.returns-in_err-parents-clause-fault
-returns-in_err-parents-clause-fault g c = fault-told (Finds c.args.image.now) c.from_residual.result c.from_residual.ensures.1 tt
+pub returns-in_err-parents : goal.returns-in_err-parents
+returns-in_err-parents g c = judged-err _ _ c.from_residual.result c.from_residual.ensures.1 tt
 
 pub find_parents-requires : goal.find_parents-requires
 find_parents-requires g c =

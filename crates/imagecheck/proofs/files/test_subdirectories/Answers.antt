@@ -1,16 +1,11 @@
 use Rattle.std.proofs.Common.{◌≡◌, sym, subst, ◌∙◌, arith, take_at}
-use Rattle.imagecheck.specs.Faults.{Finds}
 use Rattle.imagecheck.specs.Namings.{TellsSubdirectories}
 use Rattle.imagecheck.proofs.Collecting.{TellsSubdirectories-from, namings-fitting, zeros}
-use Rattle.std.proofs.lemmas.Result.{IfOk-from_err}
-use Rattle.imagecheck.proofs.Sounding.{fault-told}
+use Rattle.imagecheck.proofs.Sounding.{judged-err}
 use Rattle.imagecheck.proofs.files.test_subdirectories.Goals as goal
 
-pub returns-in_err-subdirectories-clause-sound : goal.returns-in_err-subdirectories-clause-sound
-returns-in_err-subdirectories-clause-sound g c = IfOk-from_err c.from_residual.result _ c.from_residual.ensures.0
-
-pub returns-in_err-subdirectories-clause-fault : goal.returns-in_err-subdirectories-clause-fault
-returns-in_err-subdirectories-clause-fault g c = fault-told (Finds c.args.image.now) c.from_residual.result c.from_residual.ensures.1 tt
+pub returns-in_err-subdirectories : goal.returns-in_err-subdirectories
+returns-in_err-subdirectories g c = judged-err _ _ c.from_residual.result c.from_residual.ensures.1 tt
 
 pub count_subdirectories-requires : goal.count_subdirectories-requires
 count_subdirectories-requires g c = record {

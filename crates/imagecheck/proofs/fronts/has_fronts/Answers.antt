@@ -1,14 +1,21 @@
-use Rattle.std.proofs.Common.{◌≡◌, ◌∙◌, arith, subst, slice_index}
-use Rattle.std.proofs.lemmas.Bool.{OnTrue_at}
+use Rattle.std.proofs.Common.{◌≡◌, ◌∙◌, arith, subst, sym}
 use Rattle.unixmodel.specs.Image.{contents_in, kind_in, parent_of}
 use Rattle.imagecheck.specs.Entries.{FitsFront}
 use Rattle.imagerules.specs.Places.{files_in}
 use Rattle.imagerules.proofs.Bounds.{HasPlace-at, up_to_more}
+use Rattle.imagecheck.proofs.Judging.{refused, told}
 use Rattle.imagecheck.proofs.fronts.has_fronts.Goals as goal
 use Rattle.imagecheck.proofs.fronts.has_fronts.Goals.{else-kind-eq1-via-else-kind-eq1, else-kind-eq1-via-then-kind-eq1+else-not-has_front}
 
 pub kind-requires : goal.kind-requires
 kind-requires c = HasPlace-at c.requires.geometry c.loop-n.n c.loop-n-test.true
+
+pub returns-then-not-has_front : goal.returns-then-not-has_front
+returns-then-not-has_front c =
+    let n = c.loop-n.n in
+    refused c.if-not-has_front.true c.has_front.ensures (λ h.
+    subst (λ p. FitsFront n p (contents_in c.args.image.now n)) (sym (c.requires.parents n (omega (arith, c.requires.long, c.loop-n-test.true))))
+    (h n (omega arith) (omega (arith, c.requires.geometry.inodes, c.loop-n-test.true)) (sym c.kind.ensures ∙ c.if-kind-eq1.true)))
 
 pub loop-n-preserved : goal.loop-n-preserved
 loop-n-preserved c =
@@ -17,10 +24,10 @@ loop-n-preserved c =
     let here : kind_in image n ≡ 1 → FitsFront n (parent_of (files_in image) n) (contents_in image n) = elim c.else-kind-eq1.branch [
       | else-kind-eq1-via-then-kind-eq1+else-not-has_front w ↦ λ _.
           subst (λ p. FitsFront n p (contents_in image n)) (c.requires.parents n (omega (arith, c.requires.long, c.loop-n-test.true)))
-          (OnTrue_at {P = FitsFront n (slice_index c.args.parents.now n) (contents_in image n)} w.if-not-has_front.false w.has_front.ensures.good)
+          (w.has_front.ensures.0 w.if-not-has_front.false)
       | else-kind-eq1-via-else-kind-eq1 w ↦ λ e. absurd (w.if-kind-eq1.false (c.kind.ensures ∙ e))
     ] in
     up_to_more (λ m. kind_in image m ≡ 1 → FitsFront m (parent_of (files_in image) m) (contents_in image m)) n c.loop-n.invariant here
 
-pub returns-clause-good : goal.returns-clause-good
-returns-clause-good c = λ n low high directory. c.loop-n.invariant n low (omega (arith, c.requires.geometry.inodes, c.loop-n-test.false)) directory
+pub returns : goal.returns
+returns c = told (λ n low high. c.loop-n.invariant n low (omega (arith, c.requires.geometry.inodes, c.loop-n-test.false)))

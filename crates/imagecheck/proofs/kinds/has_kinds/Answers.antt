@@ -1,9 +1,8 @@
 use Rattle.std.proofs.Common.{◌≤◌, sym, ◌∙◌, arith}
-use Rattle.std.proofs.lemmas.Bool.{OnTrue_from, OnFalse_from, false≢true}
-use Rattle.std.proofs.lemmas.Bool.Decides.{Decides-eqb}
+use Rattle.std.proofs.lemmas.Bool.Decides.{Decides-eqb, Decides-like}
 use Rattle.unixmodel.specs.Image.{kind_in}
-use Rattle.imagerules.specs.Pieces.{HasKinds}
 use Rattle.imagerules.proofs.Bounds.{up_to_more, HasPlace-at, inodes-least}
+use Rattle.imagecheck.proofs.Judging.{never}
 use Rattle.imagecheck.proofs.kinds.has_kinds.Goals as goal
 
 pub kind-requires : goal.kind-requires
@@ -12,19 +11,14 @@ kind-requires c = HasPlace-at c.requires c.loop-n.n c.loop-n-test.true
 pub kind-requires-2 : goal.kind-requires-2
 kind-requires-2 c = HasPlace-at c.requires 1 (omega (arith, inodes-least c.requires))
 
-pub returns-then-kind-gt3-clause-bad : goal.returns-then-kind-gt3-clause-bad
-returns-then-kind-gt3-clause-bad c = λ h.
-    let known = h.known c.loop-n.n (omega arith) (omega (arith, c.requires.inodes)) in
-    omega (arith, c.kind.ensures)
+pub returns-then-kind-gt3 : goal.returns-then-kind-gt3
+returns-then-kind-gt3 c = never (λ h. let known = h.known c.loop-n.n (omega arith) (omega (arith, c.requires.inodes)) in omega (arith, c.kind.ensures))
 
 pub loop-n-preserved : goal.loop-n-preserved
 loop-n-preserved c = up_to_more (λ m. kind_in c.args.image.now m ≤ 3) c.loop-n.n c.loop-n.invariant (omega (arith, c.kind.ensures))
 
-pub returns-clause-good : goal.returns-clause-good
-returns-clause-good c = OnTrue_from _ (HasKinds c.args.image.now) (λ t. record {
+pub returns : goal.returns
+returns c = Decides-like _ (λ e. record {
   known = λ n low high. c.loop-n.invariant n low (omega (arith, c.requires.inodes, c.loop-n-test.false));
-  root = sym c.kind-2.ensures ∙ (Decides-eqb c.kind-2.result 1).0 t;
-})
-
-pub returns-clause-bad : goal.returns-clause-bad
-returns-clause-bad c = OnFalse_from _ (HasKinds c.args.image.now → ⊥) (λ f h. false≢true (sym f ∙ (Decides-eqb c.kind-2.result 1).1 (c.kind-2.ensures ∙ h.root)))
+  root = sym c.kind-2.ensures ∙ e;
+}) (λ h. c.kind-2.ensures ∙ h.root) (Decides-eqb c.kind-2.result 1)

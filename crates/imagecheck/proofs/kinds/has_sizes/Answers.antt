@@ -1,9 +1,9 @@
 use Rattle.std.proofs.Common.{arith}
-use Rattle.std.proofs.lemmas.Bool.{OnFalse_at, OnTrue_at}
 use Rattle.unixmodel.specs.Formats.{most_bytes}
 use Rattle.unixmodel.specs.Image.{format_of, kind_in, length_in}
 use Rattle.imagerules.specs.Pieces.{FitsKind}
 use Rattle.imagerules.proofs.Bounds.{up_to_more, HasPlace-at}
+use Rattle.imagecheck.proofs.Judging.{refused, told}
 use Rattle.imagecheck.proofs.Numbering.{fits_telling, fits_told, image-long, longest_told}
 use Rattle.imagecheck.proofs.kinds.has_sizes.Goals as goal
 
@@ -16,16 +16,15 @@ kind-requires c = HasPlace-at c.requires.geometry c.loop-n.n c.loop-n-test.true
 pub size-requires : goal.size-requires
 size-requires c = HasPlace-at c.requires.geometry c.loop-n.n c.loop-n-test.true
 
-pub returns-then-not-fits_kind-clause-bad : goal.returns-then-not-fits_kind-clause-bad
-returns-then-not-fits_kind-clause-bad c = λ h.
-    OnFalse_at c.if-not-fits_kind.true c.fits_kind.ensures.bad
-    (fits_told (longest_told c.args.image.now c.format_of.result c.format_of.ensures c.single-longest.ensures.told) c.kind.ensures c.size.ensures
+pub returns-then-not-fits_kind : goal.returns-then-not-fits_kind
+returns-then-not-fits_kind c = refused c.if-not-fits_kind.true c.fits_kind.ensures (λ h.
+    fits_told (longest_told c.args.image.now c.format_of.result c.format_of.ensures c.single-longest.ensures.told) c.kind.ensures c.size.ensures
     (h c.loop-n.n (omega arith) (omega (arith, c.requires.geometry.inodes))))
 
 pub loop-n-preserved : goal.loop-n-preserved
 loop-n-preserved c =
     up_to_more (λ m. FitsKind (most_bytes (format_of c.args.image.now)) (kind_in c.args.image.now m) (length_in c.args.image.now m)) c.loop-n.n c.loop-n.invariant
-    (fits_telling (longest_told c.args.image.now c.format_of.result c.format_of.ensures c.single-longest.ensures.told) c.kind.ensures c.size.ensures (OnTrue_at c.if-not-fits_kind.false c.fits_kind.ensures.good))
+    (fits_telling (longest_told c.args.image.now c.format_of.result c.format_of.ensures c.single-longest.ensures.told) c.kind.ensures c.size.ensures (c.fits_kind.ensures.0 c.if-not-fits_kind.false))
 
-pub returns-clause-good : goal.returns-clause-good
-returns-clause-good c = λ n low high. c.loop-n.invariant n low (omega (arith, c.requires.geometry.inodes, c.loop-n-test.false))
+pub returns : goal.returns
+returns c = told (λ n low high. c.loop-n.invariant n low (omega (arith, c.requires.geometry.inodes, c.loop-n-test.false)))

@@ -1,6 +1,6 @@
 use Rattle.std.proofs.Common.{◌<◌, length, arith}
-use Rattle.std.proofs.lemmas.Bool.{OnFalse_at, OnTrue_at}
 use Rattle.imagerules.proofs.Bounds.{HasPlace-at, up_to_more}
+use Rattle.imagecheck.proofs.Judging.{refused, told}
 use Rattle.imagecheck.proofs.Standing.{FitsLinks-at, HasLinks-from, LinksFit}
 use Rattle.imagerules.specs.Rules.{HasBlocks-of}
 use Rattle.imagecheck.proofs.links.has_links.Goals as goal
@@ -11,14 +11,14 @@ links-told-requires c = HasPlace-at c.requires.geometry c.loop-n.n c.loop-n-test
 pub kind-requires : goal.kind-requires
 kind-requires c = HasPlace-at c.requires.geometry c.loop-n.n c.loop-n-test.true
 
-pub returns-then-not-fits_links-clause-bad : goal.returns-then-not-fits_links-clause-bad
-returns-then-not-fits_links-clause-bad c = λ h.
+pub returns-then-not-fits_links : goal.returns-then-not-fits_links
+returns-then-not-fits_links c =
     let image = c.args.image.now in
     let n = c.loop-n.n in
     let in_names : n < length c.args.names.now = omega (arith, c.requires.names_long, c.loop-n-test.true) in
     let in_subdirectories : n < length c.args.subdirectories.now = omega (arith, c.requires.subdirectories_long, c.loop-n-test.true) in
-    OnFalse_at c.if-not-fits_links.true c.fits_links.ensures.bad
-    (rw (c.kind.ensures, c.links-told.ensures, c.requires.names n in_names, c.requires.subdirectories n in_subdirectories)
+    refused c.if-not-fits_links.true c.fits_links.ensures
+    (λ h. rw (c.kind.ensures, c.links-told.ensures, c.requires.names n in_names, c.requires.subdirectories n in_subdirectories)
     (FitsLinks-at image (HasBlocks-of c.args.image.now c.requires.blocks) h n (omega arith) (omega (arith, c.requires.geometry.inodes, c.loop-n-test.true))))
 
 pub loop-n-preserved : goal.loop-n-preserved
@@ -28,8 +28,8 @@ loop-n-preserved c =
     let in_names : n < length c.args.names.now = omega (arith, c.requires.names_long, c.loop-n-test.true) in
     let in_subdirectories : n < length c.args.subdirectories.now = omega (arith, c.requires.subdirectories_long, c.loop-n-test.true) in
     up_to_more (LinksFit image) n c.loop-n.invariant
-    (rw (c.kind.ensures, c.links-told.ensures, c.requires.names n in_names, c.requires.subdirectories n in_subdirectories) at (OnTrue_at c.if-not-fits_links.false c.fits_links.ensures.good))
+    (rw (c.kind.ensures, c.links-told.ensures, c.requires.names n in_names, c.requires.subdirectories n in_subdirectories) at (c.fits_links.ensures.0 c.if-not-fits_links.false))
 
-pub returns-clause-good : goal.returns-clause-good
-returns-clause-good c =
-    HasLinks-from c.args.image.now (HasBlocks-of c.args.image.now c.requires.blocks) (λ n low high. c.loop-n.invariant n low (omega (arith, c.requires.geometry.inodes, c.loop-n-test.false)))
+pub returns : goal.returns
+returns c =
+    told (HasLinks-from c.args.image.now (HasBlocks-of c.args.image.now c.requires.blocks) (λ n low high. c.loop-n.invariant n low (omega (arith, c.requires.geometry.inodes, c.loop-n-test.false))))

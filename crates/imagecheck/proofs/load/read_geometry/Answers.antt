@@ -1,12 +1,11 @@
 use Rattle.std.proofs.Common.{arith, refl}
-use Rattle.std.proofs.lemmas.Result.{IfErr-weaker, IfOk-weaker}
 use Rattle.imagerules.specs.Content.{IsFront}
 use Rattle.imagecheck.proofs.Sounding.{IsOfImage-not}
 use Rattle.imagerules.proofs.Super.{HasLength-not_few}
 use Rattle.imagecheck.proofs.load.read_geometry.Goals as goal
 
-pub returns-then-count-lt2-clause-fault : goal.returns-then-count-lt2-clause-fault
-returns-then-count-lt2-clause-fault g c =
+pub returns-then-count-lt2-clause-judged : goal.returns-then-count-lt2-clause-judged
+returns-then-count-lt2-clause-judged g c =
     HasLength-not_few (g.D.BlockDev.content c.args.device.now) (g.met.D.BlockDev.sizes c.args.device.now) (omega (arith, c.blocks-count.ensures, c.if-count-lt2.true))
 
 pub returns-then-count-lt2-clause-identity : goal.returns-then-count-lt2-clause-identity
@@ -21,8 +20,7 @@ returns g c =
     let front : IsFront blocks c.blocks-count.result c.in_ok-block.block = record { sizes = g.met.D.BlockDev.sizes c.args.device.now; many = c.blocks-count.ensures; front = c.in_ok-block.ensures.bytes } in
     let own = IsOfImage-not c.geometry_in.result c.geometry_in.ensures.own in
     record {
-      geometry = IfOk-weaker c.geometry_in.result _ _ (λ x h. h blocks front) c.geometry_in.ensures.geometry;
-      fault = IfErr-weaker c.geometry_in.result _ _ (λ x h. h blocks front) c.geometry_in.ensures.fault;
+      judged = c.geometry_in.ensures.judged blocks front;
       memory = own.memory;
       same = c.read.ensures.same;
       identity = c.read.ensures.identity;

@@ -2,6 +2,7 @@ use Rattle.std.proofs.Common.{◌≡◌, below_more, sym, ◌∙◌, arith, nat_
 use Rattle.unixmodel.specs.Image.{bit_of, data_start, inodes_in, is_named, size_in}
 use Rattle.imagerules.proofs.Marking.{bit_is, marked_no, marked_yes, other_tests, same_tests}
 use Rattle.imagerules.proofs.Bounds.{bit-inside, bitmap-low, inodes-most, size-most}
+use Rattle.imagecheck.proofs.Judging.{never, told}
 use Rattle.imagecheck.proofs.marks.has_bitmap.Goals as goal
 use Rattle.imagecheck.proofs.marks.has_bitmap.Goals.{else-block-first, then-block-first}
 
@@ -17,8 +18,8 @@ bit-requires c = record { block = omega (arith, size-most c.requires.geometry, c
 pub loop-block-init : goal.loop-block-init
 loop-block-init c = λ b l. absurd (omega arith)
 
-pub returns-then-bit-marks-clause-bad : goal.returns-then-bit-marks-clause-bad
-returns-then-bit-marks-clause-bad c = λ h.
+pub returns-then-bit-marks : goal.returns-then-bit-marks
+returns-then-bit-marks c = never (λ h.
     let image = c.args.image.now in
     let b = c.loop-block.block in
     let r = c.requires in
@@ -28,7 +29,7 @@ returns-then-bit-marks-clause-bad c = λ h.
       | else-block-first w ↦ w.value-is ∙ sym (marked_no r.geometry c.args.marks.now r.marks r.long b c.data_start-first.result c.loop-block-test.true c.data_start-first.ensures w.if-block-first.false)
     ] in
     let bit : c.bit.result ≡ bit_of image b = c.bit.ensures ∙ bit_is r.geometry c.args.marks.now r.marks r.long b c.bitmap_start-start.result c.loop-block-test.true c.bitmap_start-start.ensures in
-    other_tests c.bit.result c.if-block-first.value c.if-bit-marks.true (bit ∙ h b (omega (arith, r.geometry.size, c.loop-block-test.true)) ∙ sym value)
+    other_tests c.bit.result c.if-block-first.value c.if-bit-marks.true (bit ∙ h b (omega (arith, r.geometry.size, c.loop-block-test.true)) ∙ sym value))
 
 pub loop-block-preserved : goal.loop-block-preserved
 loop-block-preserved c =
@@ -44,5 +45,5 @@ loop-block-preserved c =
     below_more (λ m. bit_of image m ≡ (nat_lt m (data_start (size_in image) (inodes_in image)) || is_named image m)) b c.loop-block.invariant
     (sym bit ∙ same_tests c.bit.result c.if-block-first.value c.if-bit-marks.false ∙ value)
 
-pub returns-clause-good : goal.returns-clause-good
-returns-clause-good c = λ b l. c.loop-block.invariant b (omega (arith, c.requires.geometry.size, c.loop-block-test.false))
+pub returns : goal.returns
+returns c = told (λ b l. c.loop-block.invariant b (omega (arith, c.requires.geometry.size, c.loop-block-test.false)))

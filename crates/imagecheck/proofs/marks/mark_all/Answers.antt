@@ -33,11 +33,11 @@ number-requires-clause-found c =
 pub mark-requires : goal.mark-requires
 mark-requires c = omega (arith, (named c).inside, c.requires.long, c.loop-k.auto.marks)
 
-pub returns-then-not-mark-clause-bad : goal.returns-then-not-mark-clause-bad
-returns-then-not-mark-clause-bad c = λ before h once.
+pub returns-then-not-mark : goal.returns-then-not-mark
+returns-then-not-mark c = λ before h once.
     let xs = named_by c.args.image.now c.args.n in
     let k = c.loop-k.k in
-    let is = named ((goal.at.returns-then-not-mark-clause-bad c).After-number) in
+    let is = named ((goal.at.returns-then-not-mark c).After-number) in
     mark_shared (before ++ take k xs) c.number.result c.loop-k.marks c.mark.new.marks c.mark.result (omega (arith, is.inside, c.requires.long, c.loop-k.auto.marks)) c.mark.ensures.free (c.loop-k.invariant before h) c.if-not-mark.true
     (drop (k + 1) xs) (subst (λ b. IsOnce ((before ++ take k xs) ++ (b ∷ drop (k + 1) xs))) (sym is.is) (subst IsOnce (list_split before xs k is.within) once))
 
@@ -49,9 +49,9 @@ loop-k-preserved c = λ before h.
     subst (λ ys. HasMarks ys c.mark.new.marks) (ap (λ b. (before ++ take k xs) ++ (b ∷ [])) is.is ∙ list_more before xs k is.within)
     (mark_more (before ++ take k xs) c.number.result c.loop-k.marks c.mark.new.marks c.mark.result (omega (arith, is.inside, c.requires.long, c.loop-k.auto.marks)) c.mark.ensures.free (c.loop-k.invariant before h) c.mark.ensures.marks c.if-not-mark.false)
 
-pub returns-clause-good : goal.returns-clause-good
-returns-clause-good c = λ before h.
-    let i = counted ((goal.at.returns-clause-good c).At-loop-k) in
+pub returns : goal.returns
+returns c = λ before h.
+    let i = counted ((goal.at.returns c).At-loop-k) in
     subst (λ ys. HasMarks (before ++ ys) c.loop-k.marks)
     (take_all c.loop-k.k (named_by c.args.image.now c.args.n) (omega (arith, named-long c.args.image.now c.args.n (small_told i), taken_told i c.index_blocks.ensures.told, c.loop-k-test.false)))
     (c.loop-k.invariant before h)

@@ -1,16 +1,16 @@
 use Rattle.std.proofs.Common.{◌++◌, subst, sym, ◌∙◌, arith, append-nil}
-use Rattle.std.specs.Bool.{OnFalse, OnTrue}
-use Rattle.imagerules.specs.Marks.{HasMarks, IsOnce}
+use Rattle.imagerules.specs.Marks.{HasMarks}
 use Rattle.imagerules.proofs.Bounds.{HasInode-at, HasPlace-at}
 use Rattle.imagerules.proofs.Marking.{blocks_of-free, blocks_of-used}
 use Rattle.imagerules.proofs.Uses.{FitsAddresses-at}
+use Rattle.imagecheck.specs.Faults.{MarksMore}
 use Rattle.imagecheck.proofs.marks.mark_inode.Goals as goal
 
 pub kind-requires : goal.kind-requires
 kind-requires c = HasPlace-at c.requires.geometry c.args.n c.requires.high
 
-pub returns-then-kind-eq0-clause-good : goal.returns-then-kind-eq0-clause-good
-returns-then-kind-eq0-clause-good c = λ before h.
+pub returns-then-kind-eq0 : goal.returns-then-kind-eq0
+returns-then-kind-eq0 c = λ before h.
     subst (λ xs. HasMarks (before ++ xs) c.args.marks.now) (sym (blocks_of-free c.args.image.now c.args.n (sym c.kind.ensures ∙ c.if-kind-eq0.true)))
     (subst (λ xs. HasMarks xs c.args.marks.now) (sym (append-nil before)) h)
 
@@ -22,12 +22,7 @@ mark_all-requires c = record {
   long = c.requires.long ∙ c.requires.geometry.size;
 }
 
-pub returns-clause-good : goal.returns-clause-good
-returns-clause-good c = λ before h.
-    subst (λ xs. OnTrue c.mark_all.result (HasMarks (before ++ xs) c.mark_all.new.marks))
-    (sym (blocks_of-used c.args.image.now c.args.n (λ z. c.if-kind-eq0.false (c.kind.ensures ∙ z)))) (c.mark_all.ensures.good before h)
-
-pub returns-clause-bad : goal.returns-clause-bad
-returns-clause-bad c = λ before h.
-    subst (λ xs. OnFalse c.mark_all.result (IsOnce (before ++ xs) → ⊥))
-    (sym (blocks_of-used c.args.image.now c.args.n (λ z. c.if-kind-eq0.false (c.kind.ensures ∙ z)))) (c.mark_all.ensures.bad before h)
+pub returns : goal.returns
+returns c =
+    subst (λ xs. MarksMore c.args.marks.now c.mark_all.new.marks xs c.mark_all.result)
+    (sym (blocks_of-used c.args.image.now c.args.n (λ z. c.if-kind-eq0.false (c.kind.ensures ∙ z)))) c.mark_all.ensures

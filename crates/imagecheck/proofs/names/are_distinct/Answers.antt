@@ -3,12 +3,7 @@ use Rattle.std.proofs.lemmas.List.Sorted.{answers_always}
 use Rattle.imagecheck.proofs.Distinct.{distinct-sorted}
 use Rattle.imagecheck.proofs.names.are_distinct.Goals as goal
 
-pub returns-clause-good : goal.returns-clause-good
-returns-clause-good c =
-    (distinct-sorted c.args.names.now c.sort_unstable.new.self c.is_sorted_by.result c.sort_unstable.ensures.permutation c.sort_unstable.ensures.sorted
-    (c.is_sorted_by.ensures.cases nat_lt (answers_always _ _ _ (λ a r q k. search rules)))).0
-
-pub returns-clause-bad : goal.returns-clause-bad
-returns-clause-bad c =
-    (distinct-sorted c.args.names.now c.sort_unstable.new.self c.is_sorted_by.result c.sort_unstable.ensures.permutation c.sort_unstable.ensures.sorted
-    (c.is_sorted_by.ensures.cases nat_lt (answers_always _ _ _ (λ a r q k. search rules)))).1
+pub returns : goal.returns
+returns c =
+    distinct-sorted c.args.names.now c.sort_unstable.new.self c.is_sorted_by.result c.sort_unstable.ensures.permutation c.sort_unstable.ensures.sorted
+    (c.is_sorted_by.ensures.cases nat_lt (answers_always _ _ _ (λ a r q k. search rules)))

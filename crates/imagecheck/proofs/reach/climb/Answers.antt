@@ -1,8 +1,7 @@
-use Rattle.std.proofs.Common.{◌+◌, get_or, nat_eq, slice_set, sym, subst, arith}
-use Rattle.std.proofs.lemmas.Bool.{OnFalse_from, OnTrue_from, eqb-false, eqb-true, not-false, not-true}
-use Rattle.imagerules.specs.Places.{IsReached, files_in}
-use Rattle.imagecheck.specs.Reach.{Climbs, HasWalked}
+use Rattle.std.proofs.Common.{get_or, slice_set, sym, subst, arith}
+use Rattle.imagerules.specs.Places.{files_in}
 use Rattle.imagerules.proofs.Bounds.{inodes-most}
+use Rattle.imagecheck.proofs.Judging.{by_same}
 use Rattle.imagecheck.proofs.Parents.{is_directory-at}
 use Rattle.imagecheck.proofs.Reaching.{Climbs-reached}
 use Rattle.imagecheck.proofs.Walking.{HasWalked-more, IsWalk, IsWalk-more, IsWalk-start, round_not, unmarked_less}
@@ -34,16 +33,13 @@ loop-marks-preserved c =
     }
 
 pub returns : goal.returns
-returns c = record {
-  climbs = OnTrue_from _ (Climbs (files_in c.args.image.now) c.args.start) (λ t.
-      c.loop-marks.invariant.walk.first (c.loop-marks.invariant.walk.before c.loop-marks.n c.loop-marks-test.false
-      (eqb-false (get_or c.loop-marks.marks c.loop-marks.n 0) c.args.start (not-true (nat_eq (get_or c.loop-marks.marks c.loop-marks.n 0) c.args.start) t))));
-  walked = OnTrue_from _ (HasWalked (files_in c.args.image.now) (c.args.start + 1) c.loop-marks.marks) (λ t.
-      HasWalked-more (files_in c.args.image.now) c.args.start c.loop-marks.n c.loop-marks.marks c.loop-marks.invariant.walk c.requires.above c.loop-marks-test.false
-      (eqb-false (get_or c.loop-marks.marks c.loop-marks.n 0) c.args.start (not-true (nat_eq (get_or c.loop-marks.marks c.loop-marks.n 0) c.args.start) t)));
-  round = OnFalse_from _ (IsReached (files_in c.args.image.now) → ⊥) (λ f reached.
-      let image = c.args.image.now in
-      round_not (files_in image) c.args.start c.loop-marks.n c.loop-marks.marks c.loop-marks.invariant.walk c.requires.above
-      (eqb-true (get_or c.loop-marks.marks c.loop-marks.n 0) c.args.start (not-false (nat_eq (get_or c.loop-marks.marks c.loop-marks.n 0) c.args.start) f))
-      (Climbs-reached (files_in image) c.requires.entries reached c.loop-marks.n (is_directory-at image c.loop-marks.n c.loop-marks.invariant.directory)));
-}
+returns c =
+    let image = c.args.image.now in
+    let files = files_in image in
+    let n = c.loop-marks.n in
+    let marks = c.loop-marks.marks in
+    let walk = c.loop-marks.invariant.walk in
+    by_same (get_or marks n 0) c.args.start
+    (λ other. (walk.first (walk.before n c.loop-marks-test.false other), HasWalked-more files c.args.start n marks walk c.requires.above c.loop-marks-test.false other))
+    (λ same reached.
+    round_not files c.args.start n marks walk c.requires.above same (Climbs-reached files c.requires.entries reached n (is_directory-at image n c.loop-marks.invariant.directory)))

@@ -1,8 +1,8 @@
 use Rattle.std.proofs.Common.{◌≡◌, ◌+◌, length, ap, subst, sym, ◌∙◌, arith}
-use Rattle.std.proofs.lemmas.Bool.{OnTrue_at, OnFalse_at}
+use Rattle.std.proofs.lemmas.Bool.{MatchBool-at_false, MatchBool-at_true}
 use Rattle.unixmodel.specs.Image.{kind_in}
 use Rattle.imagerules.specs.Places.{files_in}
-use Rattle.imagecheck.specs.Reach.{Climbs, HasWalked, IsDirectoryIn}
+use Rattle.imagecheck.specs.Reach.{Climbs, HasClimbed, HasWalked, IsDirectoryIn}
 use Rattle.imagerules.proofs.Bounds.{HasPlace-at, up_to_more}
 use Rattle.imagecheck.proofs.Parents.{IsDirectoryIn-from}
 use Rattle.imagecheck.proofs.Reaching.{IsReached-from}
@@ -11,8 +11,8 @@ use Rattle.imagerules.specs.Rules.{HasBlocks-of}
 use Rattle.imagecheck.proofs.reach.test_climbs.Goals as goal
 use Rattle.imagecheck.proofs.reach.test_climbs.Goals.{else-kind-eq1-via-else-kind-eq1, else-kind-eq1-via-then-kind-eq1+else-not-climb}
 
-pub returns-then-not-climb-clause-fault : goal.returns-then-not-climb-clause-fault
-returns-then-not-climb-clause-fault c = (HasBlocks-of c.args.image.now c.requires.blocks, c.requires.entries, c.requires.links, OnFalse_at c.if-not-climb.true c.climb.ensures.round)
+pub returns-then-not-climb-clause-judged : goal.returns-then-not-climb-clause-judged
+returns-then-not-climb-clause-judged c = (HasBlocks-of c.args.image.now c.requires.blocks, c.requires.entries, c.requires.links, MatchBool-at_false _ _ c.if-not-climb.true c.climb.ensures)
 
 pub loop-n-init : goal.loop-n-init
 loop-n-init c = record {
@@ -30,11 +30,12 @@ loop-n-preserved c =
     let n = c.loop-n.n in
     let climbed = λ (here : kind_in image n ≡ 1 → Climbs (files_in image) n). up_to_more (λ m. kind_in image m ≡ 1 → Climbs (files_in image) m) n c.loop-n.invariant.climb here in
     elim c.else-kind-eq1.branch [
-      | else-kind-eq1-via-then-kind-eq1+else-not-climb w ↦ record {
-        long = ap length w.marks-is ∙ w.climb.auto.marks ∙ c.loop-n.invariant.long;
-        walked = subst (HasWalked (files_in image) (n + 1)) (sym w.marks-is) (OnTrue_at {P = HasWalked (files_in image) (n + 1) w.climb.new.marks} w.if-not-climb.false w.climb.ensures.walked);
-        climb = climbed (λ _. OnTrue_at {P = Climbs (files_in image) n} w.if-not-climb.false w.climb.ensures.climbs);
-      }
+      | else-kind-eq1-via-then-kind-eq1+else-not-climb w ↦
+          let met = MatchBool-at_true (HasClimbed (files_in image) n w.climb.new.marks) _ w.if-not-climb.false w.climb.ensures in record {
+            long = ap length w.marks-is ∙ w.climb.auto.marks ∙ c.loop-n.invariant.long;
+            walked = subst (HasWalked (files_in image) (n + 1)) (sym w.marks-is) met.1;
+            climb = climbed (λ _. met.0);
+          }
       | else-kind-eq1-via-else-kind-eq1 w ↦ record {
         long = ap length w.marks-is ∙ c.loop-n.invariant.long;
         walked = subst (HasWalked (files_in image) (n + 1)) (sym w.marks-is) (HasWalked-later (files_in image) n c.loop-n.marks c.loop-n.invariant.walked);
@@ -42,8 +43,8 @@ loop-n-preserved c =
       }
     ]
 
-pub returns-clause-sound : goal.returns-clause-sound
-returns-clause-sound c =
+pub returns-clause-judged : goal.returns-clause-judged
+returns-clause-judged c =
     let image = c.args.image.now in
     IsReached-from (files_in image) c.requires.entries c.requires.links (λ n directory.
     let d : IsDirectoryIn image n = IsDirectoryIn-from image n directory in

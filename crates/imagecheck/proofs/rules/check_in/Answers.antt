@@ -1,12 +1,12 @@
-use Rattle.std.proofs.Common.{◌≡◌, Err, length, ap, sym, subst, ◌∙◌, arith, IfErr, IfOk}
-use Rattle.std.proofs.lemmas.Result.{IfErr-weaker}
+use Rattle.std.proofs.Common.{◌≡◌, Err, length, ap, sym, subst, ◌∙◌, arith, IfErr, MatchResult}
+use Rattle.std.proofs.lemmas.Result.{MatchResult-weaker}
 use Rattle.layout.specs.Formats.{format_named}
 use Rattle.imagerules.specs.Content.{image_of}
 use Rattle.imagecheck.specs.Faults.{Finds, Tells}
 use Rattle.imagerules.specs.Fields.{HasGeometry}
 use Rattle.imagecheck.specs.Summaries.{IsSummary}
 use Rattle.imagerules.proofs.Bounds.{size-most}
-use Rattle.imagecheck.proofs.Sounding.{Finds-not_device, Finds-told, Rises-before, Summary-told, fault-told, outside-told, refused-from, same-fault, told-err}
+use Rattle.imagecheck.proofs.Sounding.{Finds-not_device, Finds-told, Rises-before, Summary-told, judged-err, outside-told, refused-from, same-fault, told-err}
 use Rattle.imagerules.proofs.Super.{count-is}
 use Rattle.imagecheck.proofs.rules.check_in.Goals as goal
 
@@ -14,12 +14,12 @@ pub returns-in_err-geometry-clause-refused : goal.returns-in_err-geometry-clause
 returns-in_err-geometry-clause-refused g c =
     let image = image_of (g.D.BlockDev.content c.args.device.now) in
     let f = format_named c.args.format in
-    refused-from f image c.from_residual.result (fault-told (Tells f image) c.from_residual.result c.from_residual.ensures.1 c.in_err-geometry.ensures.fault)
+    refused-from f image c.from_residual.result (judged-err _ _ c.from_residual.result c.from_residual.ensures.1 c.in_err-geometry.ensures.judged)
 
 pub read_blocks-requires : goal.read_blocks-requires
 read_blocks-requires g c = record {
-  count = count-is (g.D.BlockDev.content c.args.device.now) (g.met.D.BlockDev.sizes c.args.device.now) c.in_ok-geometry.ensures.geometry.geometry ∙ ap length (sym c.read_geometry.ensures.same);
-  most = size-most c.in_ok-geometry.ensures.geometry.geometry;
+  count = count-is (g.D.BlockDev.content c.args.device.now) (g.met.D.BlockDev.sizes c.args.device.now) c.in_ok-geometry.ensures.judged.geometry ∙ ap length (sym c.read_geometry.ensures.same);
+  most = size-most c.in_ok-geometry.ensures.judged.geometry;
 }
 
 pub returns-in_err-image : goal.returns-in_err-image
@@ -28,7 +28,7 @@ returns-in_err-image g c =
     let image = image_of (g.D.BlockDev.content device) in
     let f = format_named c.args.format in
     let r = c.from_residual-in_err-image.result in
-    let told : IfErr r (Tells f image) = fault-told (Tells f image) r c.from_residual-in_err-image.ensures.1 (outside-told f image c.in_err-image.field-0.0 c.in_err-image.ensures.only) in
+    let told : IfErr r (Tells f image) = judged-err _ _ r c.from_residual-in_err-image.ensures.1 (outside-told f image c.in_err-image.field-0.0 c.in_err-image.ensures.only) in
     let is : r ≡ Err c.in_err-image.field-0.0 = told-err r c.from_residual-in_err-image.ensures.1 in
     record {
       denotes = rw is tt;
@@ -45,19 +45,20 @@ returns-in_err-image g c =
 
 pub summary_of-requires : goal.summary_of-requires
 summary_of-requires g c =
-    subst (λ image. HasGeometry image c.in_ok-geometry.geometry) (sym (c.deref.ensures.value ∙ c.in_ok-image.ensures.bytes ∙ ap image_of c.read_geometry.ensures.same)) c.in_ok-geometry.ensures.geometry.geometry
+    subst (λ image. HasGeometry image c.in_ok-geometry.geometry) (sym (c.deref.ensures.value ∙ c.in_ok-image.ensures.bytes ∙ ap image_of c.read_geometry.ensures.same)) c.in_ok-geometry.ensures.judged.geometry
 
 pub returns : goal.returns
 returns g c =
     let blocks = g.D.BlockDev.content c.args.device.now in
     let image = image_of blocks in
     let f = format_named c.args.format in
-    let magic = c.in_ok-geometry.ensures.geometry.magic in
+    let magic = c.in_ok-geometry.ensures.judged.magic in
     let r = c.summary_of.result in
     let e : c.deref.result.now ≡ image = c.deref.ensures.value ∙ c.in_ok-image.ensures.bytes ∙ ap image_of c.read_geometry.ensures.same in
-    let finds : IfErr r (Finds image) = subst (λ x. IfErr r (Finds x)) e c.summary_of.ensures.fault in
-    let told : IfErr r (λ fault. Tells f image fault) = IfErr-weaker r (Finds image) (λ fault. Tells f image fault) (Finds-told f image magic) finds in
-    let summary = Summary-told f image magic r (subst (λ x. IfOk r (IsSummary x)) e c.summary_of.ensures.summary) in
+    let both = subst (λ x. MatchResult r (IsSummary x) (Finds x)) e c.summary_of.ensures in
+    let finds : IfErr r (Finds image) = MatchResult-weaker r both (λ _ _. tt) (λ _ h. h) in
+    let told : IfErr r (Tells f image) = MatchResult-weaker r both (λ _ _. tt) (Finds-told f image magic) in
+    let summary = Summary-told f image magic r (MatchResult-weaker r both (λ _ h. h) (λ _ _. tt)) in
     record {
       denotes = summary.denotes;
       inodes = summary.inodes;

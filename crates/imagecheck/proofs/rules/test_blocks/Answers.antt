@@ -1,13 +1,20 @@
 use Rattle.std.proofs.Common.{sym, subst, ◌∙◌, []}
 use Rattle.imagerules.specs.Marks.{HasMarks}
 use Rattle.imagerules.proofs.Marking.{HasMarks-none}
-use Rattle.imagecheck.specs.Faults.{Finds}
-use Rattle.std.proofs.lemmas.Result.{IfOk-from_err}
-use Rattle.imagecheck.proofs.Sounding.{fault-told}
+use Rattle.imagecheck.proofs.Sounding.{judged-err}
 use Rattle.imagecheck.proofs.rules.test_blocks.Goals as goal
 
-pub returns-in_err-marks-clause-fault : goal.returns-in_err-marks-clause-fault
-returns-in_err-marks-clause-fault g c = fault-told (Finds c.args.image.now) c.from_residual-in_err-marks.result c.from_residual-in_err-marks.ensures.1 tt
+pub returns-in_err-test_inodes : goal.returns-in_err-test_inodes
+returns-in_err-test_inodes g c = judged-err _ _ c.from_residual.result c.from_residual.ensures.1 c.in_err-test_inodes.ensures.judged
+
+pub returns-in_err-marks : goal.returns-in_err-marks
+returns-in_err-marks g c = judged-err _ _ c.from_residual-in_err-marks.result c.from_residual-in_err-marks.ensures.1 tt
+
+pub test_marks-requires-clause-inodes : goal.test_marks-requires-clause-inodes
+test_marks-requires-clause-inodes g c = c.in_ok-test_inodes.ensures.judged.0
+
+pub test_marks-requires-clause-addresses : goal.test_marks-requires-clause-addresses
+test_marks-requires-clause-addresses g c = c.in_ok-test_inodes.ensures.judged.1
 
 pub test_marks-requires-clause-long : goal.test_marks-requires-clause-long
 test_marks-requires-clause-long g c = c.deref_mut.ensures.len ∙ c.in_ok-marks.ensures.len
@@ -15,18 +22,3 @@ test_marks-requires-clause-long g c = c.deref_mut.ensures.len ∙ c.in_ok-marks.
 pub test_marks-requires-clause-fresh : goal.test_marks-requires-clause-fresh
 test_marks-requires-clause-fresh g c =
     subst (HasMarks []) (sym (c.deref_mut.ensures.value ∙ c.in_ok-marks.ensures.items_if_clones_equal (λ y e. cc))) (HasMarks-none c.args.geometry.size)
-
-pub returns-in_err-marks-clause-sound : goal.returns-in_err-marks-clause-sound
-returns-in_err-marks-clause-sound g c = IfOk-from_err c.from_residual-in_err-marks.result _ c.from_residual-in_err-marks.ensures.0
-
-pub returns-in_err-test_inodes-clause-sound : goal.returns-in_err-test_inodes-clause-sound
-returns-in_err-test_inodes-clause-sound g c = IfOk-from_err c.from_residual.result _ c.from_residual.ensures.0
-
-pub returns-in_err-test_inodes-clause-fault : goal.returns-in_err-test_inodes-clause-fault
-returns-in_err-test_inodes-clause-fault g c = fault-told (Finds c.args.image.now) c.from_residual.result c.from_residual.ensures.1 c.in_err-test_inodes.ensures.fault
-
-pub test_marks-requires-clause-inodes : goal.test_marks-requires-clause-inodes
-test_marks-requires-clause-inodes g c = c.in_ok-test_inodes.ensures.inodes
-
-pub test_marks-requires-clause-addresses : goal.test_marks-requires-clause-addresses
-test_marks-requires-clause-addresses g c = c.in_ok-test_inodes.ensures.addresses

@@ -1,30 +1,27 @@
-use Rattle.std.proofs.lemmas.Bool.{OnFalse_at, OnTrue_at}
+use Rattle.std.proofs.lemmas.Bool.{iff_false}
 use Rattle.imagerules.proofs.Bounds.{super-is}
 use Rattle.imagecheck.proofs.rules.test_inodes.Goals as goal
 
-pub returns-then-not-has_kinds-clause-fault : goal.returns-then-not-has_kinds-clause-fault
-returns-then-not-has_kinds-clause-fault c = (super-is c.requires, OnFalse_at c.if-not-has_kinds.true c.has_kinds.ensures.bad)
+pub returns-then-not-has_kinds-clause-judged : goal.returns-then-not-has_kinds-clause-judged
+returns-then-not-has_kinds-clause-judged c = (super-is c.requires, iff_false c.has_kinds.ensures c.if-not-has_kinds.true)
 
-pub returns-then-not-has_sizes-clause-fault : goal.returns-then-not-has_sizes-clause-fault
-returns-then-not-has_sizes-clause-fault c =
-    (super-is c.requires, OnTrue_at c.if-not-has_kinds.false c.has_kinds.ensures.good, OnFalse_at c.if-not-has_sizes.true c.has_sizes.ensures.bad)
+pub has_sizes-requires-clause-kinds : goal.has_sizes-requires-clause-kinds
+has_sizes-requires-clause-kinds c = c.has_kinds.ensures.0 c.if-not-has_kinds.false
 
-pub returns-then-not-has_addresses-clause-fault : goal.returns-then-not-has_addresses-clause-fault
-returns-then-not-has_addresses-clause-fault c = (
-  record {
-    super = super-is c.requires;
-    kinds = OnTrue_at c.if-not-has_kinds.false c.has_kinds.ensures.good;
-    sizes = OnTrue_at c.if-not-has_sizes.false c.has_sizes.ensures.good;
-  },
-  OnFalse_at c.if-not-has_addresses.true c.has_addresses.ensures.bad,
+pub returns-then-not-has_sizes-clause-judged : goal.returns-then-not-has_sizes-clause-judged
+returns-then-not-has_sizes-clause-judged c = (super-is c.requires, c.has_kinds.ensures.0 c.if-not-has_kinds.false, iff_false c.has_sizes.ensures c.if-not-has_sizes.true)
+
+pub has_addresses-requires-clause-sizes : goal.has_addresses-requires-clause-sizes
+has_addresses-requires-clause-sizes c = c.has_sizes.ensures.0 c.if-not-has_sizes.false
+
+pub returns-then-not-has_addresses-clause-judged : goal.returns-then-not-has_addresses-clause-judged
+returns-then-not-has_addresses-clause-judged c = (
+  record { super = super-is c.requires; kinds = c.has_kinds.ensures.0 c.if-not-has_kinds.false; sizes = c.has_sizes.ensures.0 c.if-not-has_sizes.false },
+  iff_false c.has_addresses.ensures c.if-not-has_addresses.true,
 )
 
-pub returns-clause-inodes : goal.returns-clause-inodes
-returns-clause-inodes c = record {
-  super = super-is c.requires;
-  kinds = OnTrue_at c.if-not-has_kinds.false c.has_kinds.ensures.good;
-  sizes = OnTrue_at c.if-not-has_sizes.false c.has_sizes.ensures.good;
-}
-
-pub returns-clause-addresses : goal.returns-clause-addresses
-returns-clause-addresses c = OnTrue_at c.if-not-has_addresses.false c.has_addresses.ensures.good
+pub returns-clause-judged : goal.returns-clause-judged
+returns-clause-judged c = (
+  record { super = super-is c.requires; kinds = c.has_kinds.ensures.0 c.if-not-has_kinds.false; sizes = c.has_sizes.ensures.0 c.if-not-has_sizes.false },
+  c.has_addresses.ensures.0 c.if-not-has_addresses.false,
+)

@@ -1,5 +1,5 @@
 use Rattle.std.proofs.Common.{◌∙◌}
-use Rattle.std.proofs.lemmas.Bool.{OnFalse_at, OnTrue_at}
+use Rattle.std.proofs.lemmas.Bool.{MatchBool-at_false, MatchBool-at_true, iff_false}
 use Rattle.imagerules.specs.Rules.{BlockRules-of}
 use Rattle.imagecheck.proofs.rules.test_marks.Goals as goal
 
@@ -14,29 +14,26 @@ names_once-requires c = record {
 
 pub returns-then-not-names_once : goal.returns-then-not-names_once
 returns-then-not-names_once c = record {
-  sound = tt;
-  fault = (c.requires.inodes, c.requires.addresses, OnFalse_at c.if-not-names_once.true c.names_once.ensures.bad);
+  judged = (c.requires.inodes, c.requires.addresses, MatchBool-at_false _ _ c.if-not-names_once.true c.names_once.ensures);
   own = tt;
 }
 
 pub has_bitmap-requires : goal.has_bitmap-requires
-has_bitmap-requires c = record { geometry = c.requires.geometry; long = c.names_once.auto.marks ∙ c.requires.long; marks = OnTrue_at c.if-not-names_once.false c.names_once.ensures.good }
+has_bitmap-requires c = record { geometry = c.requires.geometry; long = c.names_once.auto.marks ∙ c.requires.long; marks = MatchBool-at_true _ _ c.if-not-names_once.false c.names_once.ensures }
 
 pub returns-then-not-has_bitmap : goal.returns-then-not-has_bitmap
 returns-then-not-has_bitmap c = record {
-  sound = tt;
-  fault = (c.requires.inodes, c.requires.addresses, (OnTrue_at c.if-not-names_once.false c.names_once.ensures.good).once, OnFalse_at c.if-not-has_bitmap.true c.has_bitmap.ensures.bad);
+  judged = (c.requires.inodes, c.requires.addresses, (MatchBool-at_true _ _ c.if-not-names_once.false c.names_once.ensures).once, iff_false c.has_bitmap.ensures c.if-not-has_bitmap.true);
   own = tt;
 }
 
 pub returns : goal.returns
 returns c = record {
-  sound = BlockRules-of (record {
+  judged = BlockRules-of (record {
     inodes = c.requires.inodes;
     addresses = c.requires.addresses;
-    once = (OnTrue_at c.if-not-names_once.false c.names_once.ensures.good).once;
-    bitmap = OnTrue_at c.if-not-has_bitmap.false c.has_bitmap.ensures.good;
+    once = (MatchBool-at_true _ _ c.if-not-names_once.false c.names_once.ensures).once;
+    bitmap = c.has_bitmap.ensures.0 c.if-not-has_bitmap.false;
   });
-  fault = tt;
   own = tt;
 }
