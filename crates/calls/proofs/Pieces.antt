@@ -1,21 +1,23 @@
 -- Many steps, piece by piece.
-use Rattle.std.proofs.Common.{◌≡◌, ◌<◌, ◌≤◌, ◌+◌, ◌-◌, ◌++◌, ℕ, ℤ, zero, suc, false, List, [], ◌∷◌, replicate, Option, Some, None, Ok, Err, refl, ap, subst, sym, ◌∙◌, arith, append-nil}
+use Rattle.std.proofs.Common.{inl, inr, true, ◌&&◌, is_none, ◌≡◌, ◌<◌, ◌≤◌, ◌+◌, ◌-◌, ◌++◌, ℕ, ℤ, zero, suc, false, List, [], ◌∷◌, replicate, Option, Some, None, Ok, Err, refl, ap, subst, sym, ◌∙◌, arith, append-nil}
+use Rattle.std.proofs.lemmas.Bool.{cases_lt}
 use Rattle.std.proofs.lemmas.List.{replicate-append-replicate}
-use Rattle.std.specs.Prelude.{IfNone, IfSome, OnOk, Result}
-use Rattle.blockdev.specs.declared.DeviceFault.{DeviceFault}
+use Rattle.std.specs.Prelude.{IfNone, IfSome, Result}
 use Rattle.calls.specs.declared.halt.Halt.{Halt}
 use Rattle.calls.specs.declared.halt.Halt.TheVariants.{Console, Device, Halted, InitEnded}
-use Rattle.calls.specs.Gives.{Dispatches, EventGives, IsLost, IsMade, IsServed, LeavesDisk, LeavesTree, Makes, halt_of}
-use Rattle.calls.proofs.Takes.{does-err, does-made, made-quiet, turn-takes}
-use Rattle.calls.specs.Steps.{LeavesFiles, PieceGives, StepsGive, StopsAt, Went, stepped}
+use Rattle.calls.specs.Gives.{EventGives, IsServed, LeavesTree, Makes}
+use Rattle.calls.proofs.Takes.{turn-takes}
+use Rattle.calls.specs.Steps.{IsBusy, IsBusyFor, LeavesFiles, PieceGives, PieceGoes, StepsGive, StopsAt, Went, stepped}
 use Rattle.calls.proofs.Prints.{Appends-none, Appends-trans, begins_more}
 use Rattle.calls.proofs.Runs.{run-append, run-one, then_begins, then_runs}
-use Rattle.calls.proofs.Served.{disk-lost, disk-served, lost-after, on-ok, same-served, served-after}
+use Rattle.calls.proofs.Served.{lost-after, same-served, served-after}
 use Rattle.calls.specs.Resuming.{taken}
 use Rattle.kernel.proofs.Wakes.{state-but}
 use Rattle.calls.proofs.Rows.{computed-state}
 use Rattle.calls.proofs.Turned.{next-executes, next-turns}
 use Rattle.kernel.proofs.Advancing.{advances-on}
+use Rattle.kernel.proofs.Idle.{busy-state, idle-turn}
+use Rattle.kernel.specs.Idle.{is_idle}
 use Rattle.kernel.specs.Kernel.{Kernel, computed, picked, state_of, waking}
 use Rattle.kernel.specs.Sound.{IsKernel}
 use Rattle.kernel.proofs.Runs.{run-of}
@@ -29,9 +31,9 @@ use Rattle.unixmodel.specs.Cycle.{cycle}
 use Rattle.unixmodel.specs.declared.event.Event.TheVariants.{Step}
 use Rattle.unixmodel.specs.declared.trap.Trap.{Trap}
 use Rattle.unixmodel.specs.Meaning.{Computed}
-use Rattle.unixmodel.specs.Next.{execute_at, next, take_turn}
+use Rattle.unixmodel.specs.Next.{execute_at, next, step, take_turn}
 use Rattle.unixmodel.specs.Run.{after_bytes, followed_by, run}
-use Rattle.unixmodel.specs.State.{State, process_at}
+use Rattle.unixmodel.specs.State.{State, process_at, running}
 use Rattle.unixmodel.specs.Turn.{turn}
 
 -- ---- runs of steps
@@ -77,9 +79,13 @@ went-quiet old new n at up served is goes = record {
   served = served;
 }
 
-pub went-none : (k : Kernel) (at : Option (List ℕ)) → k.halted ≡ None → k.tree.failed ≡ false → Went k k 0 at at
+-- none goes by itself
+pub went-still : (k new : Kernel) (at : Option (List ℕ)) → k.halted ≡ None → k.tree.failed ≡ false → state_of new ≡ state_of k → new.tree ≡ k.tree → Went k new 0 at at
 unfolding run
-went-none k at up sound = went-quiet k k 0 at up (same-served refl sound) refl up
+went-still k new at up sound same tree = went-quiet k new 0 at up (same-served tree sound) (ap quiet (sym same)) (ap (λ (s : State). s.halted) same ∙ up)
+
+pub went-none : (k : Kernel) (at : Option (List ℕ)) → k.halted ≡ None → k.tree.failed ≡ false → Went k k 0 at at
+went-none k at up sound = went-still k k at up sound refl refl
 
 -- it goes on
 pub went-up : {old now : Kernel} {n : ℕ} {before after : Option (List ℕ)} → Went old now n before after → now.halted ≡ None
@@ -146,13 +152,51 @@ pub went-advances : (n : ℕ) (k new : Kernel) (i : ℕ) (at : Option (List ℕ)
 went-advances n k new i at is active up sound all same =
     went-quiet k new n at up (same-served (ap (λ (x : Kernel). x.tree) same) sound) (run-advances n k i new.spaces is active up all ∙ ap (λ (x : Kernel). quiet (state_of x)) (sym same)) (ap (λ (x : Kernel). x.halted) same ∙ up)
 
+-- a process runs before each of them, and behind the last
+busy-at : (n : ℕ) (k : Kernel) (i : ℕ) (new : Spaces) → IsKernel k → k.spaces.active ≡ Some i → k.halted ≡ None → Advances n k.spaces i new → IsBusy (stepped k n).state
+busy-at n k i new is active up all =
+    let on = advances-on n k i new is active all in
+    let made : (stepped k n).state ≡ state_of (record k { spaces = new }) = ap (λ (a : After). a.state) (run-advances n k i new is active up all) in
+    record { goes = ap (λ (s : State). s.halted) made ∙ up; busy = ap is_idle made ∙ sym (busy-state (record k { spaces = new }) on.sound i on.active) }
+
+pub busy-advances : (n : ℕ) (k : Kernel) (i : ℕ) (new : Spaces) → IsKernel k → k.spaces.active ≡ Some i → k.halted ≡ None → Advances n k.spaces i new → (done : ℕ) → done ≤ n → IsBusy (stepped k done).state
+busy-advances zero k i new is active up all done within =
+    let first : done ≡ 0 = omega (arith, within) in
+    rw first (busy-at 0 k i new is active up all)
+busy-advances (suc n) k i new is active up all done within = elim (cases_lt done (suc n)) [
+  | inl less ↦ let last = advances-last n k.spaces new i all in busy-advances n k i last.0 is active up last.1 done (omega (arith, less))
+  | inr least ↦ let end : done ≡ suc n = omega (arith, within, least) in rw end (busy-at (suc n) k i new is active up all)
+]
+
 -- ---- turns
 
--- where nobody is ready all steps are done
-pub went-idle : (k new : Kernel) (n : ℕ) (at : Option (List ℕ)) → IsKernel k → k.spaces.active ≡ None → k.halted ≡ None → k.tree.failed ≡ false → turn (state_of k) ≡ None → state_of new ≡ state_of k → new.tree ≡ k.tree → Went k new n at at
-went-idle k new n at is none up sound nobody same tree =
-    let still : next (state_of k) Step ≡ quiet (state_of k) = next-turns k is none ∙ ap (take_turn (state_of k)) nobody in
-    went-quiet k new n at up (same-served tree sound) (run-idle n (state_of k) up still ∙ ap quiet (sym same)) (ap (λ (s : State). s.halted) same ∙ up)
+-- a process is ready before the one step
+pub busy-turn : (k : Kernel) (i : ℕ) → IsKernel k → k.spaces.active ≡ None → k.halted ≡ None → turn (state_of k) ≡ Some i → IsBusyFor (state_of k) 1
+unfolding run
+busy-turn k i is none up found done within =
+    let first : done ≡ 0 = omega (arith, within) in
+    rw first (record { goes = up; busy = sym (idle-turn k is none) ∙ ap is_none found })
+
+-- a turn takes the process that is picked
+pub turn-is : (k mid : Kernel) (i : ℕ) → IsKernel k → k.spaces.active ≡ None → turn (state_of k) ≡ Some i → mid ≡ waking (picked k i) mid.table.awake → next (state_of k) Step ≡ taken (state_of mid) i
+turn-is k mid i is none found same = next-turns k is none ∙ turn-takes k i is none found ∙ ap (λ (s : State). taken s i) (sym (state-but (picked k i) same))
+
+-- nobody is ready
+pub idle-now : (k new : Kernel) → IsKernel k → k.spaces.active ≡ None → turn (state_of k) ≡ None → state_of new ≡ state_of k → is_idle (state_of new) ≡ true
+idle-now k new is none nobody same = ap is_idle same ∙ sym (idle-turn k is none) ∙ ap is_none nobody
+
+stands : (s : State) (r t : Option ℕ) → turn s ≡ t → (is_none r && is_none t) ≡ true → step s r ≡ quiet s
+stands s None None is idle = ap (take_turn s) is
+stands s None (Some i) is idle = absurd (cc)
+stands s (Some i) t is idle = absurd (cc)
+
+next-idle : (s : State) → is_idle s ≡ true → next s Step ≡ quiet s
+unfolding next
+next-idle s idle = stands s (running s) (turn s) refl idle
+
+-- where nobody runs and none is ready all steps are done
+pub went-idle : (k : Kernel) (n : ℕ) (at : Option (List ℕ)) → k.halted ≡ None → k.tree.failed ≡ false → is_idle (state_of k) ≡ true → Went k k n at at
+went-idle k n at up sound idle = went-quiet k k n at up (same-served refl sound) (run-idle n (state_of k) up (next-idle (state_of k) idle)) up
 
 -- ---- steps that halt
 
@@ -188,9 +232,9 @@ stops-give old mid new n count before at after step_rises rises Console up went 
 stops-give old mid new n count before at after step_rises rises Halted up went more r gives leaves = absurd gives
 
 -- behind steps that went
-pub stops-rest : (old now new : Kernel) (n count : ℕ) (before mid after : Option (List ℕ)) (step_rises rises : Type 0) (halt : Halt) → old.halted ≡ None → n ≤ count → Went old now n before mid → (step_rises → rises)
-    → StopsAt now new (count - n) mid after step_rises halt → StepsGive old new count before after rises (Err halt) × LeavesFiles {X = Unit {0}} old.tree new.tree (Err halt)
-stops-rest old now new n count before mid after step_rises rises halt up within went r stop =
+pub stops-rest : (old now new : Kernel) (n m count : ℕ) (before mid after : Option (List ℕ)) (step_rises rises : Type 0) (halt : Halt) → old.halted ≡ None → n + m ≤ count → Went old now n before mid → (step_rises → rises)
+    → StopsAt now new m mid after step_rises halt → StepsGive old new count before after rises (Err halt) × LeavesFiles {X = Unit {0}} old.tree new.tree (Err halt)
+stops-rest old now new n m count before mid after step_rises rises halt up within went r stop =
     let more = stop.more in
     stops-give old stop.mid new (n + stop.done) count before mid after step_rises rises halt up (went-trans old now stop.mid n stop.done before mid mid up went stop.went) (omega (arith, more, within)) r stop.last stop.leaves
 
@@ -201,13 +245,6 @@ went-all old now n count before after rises u within end went =
     subst (λ k. Makes now (stepped old k) before after None) same went.makes
 
 -- ---- how a piece ends
-
-pub ends-gives : (new : Kernel) (a b : After) (before after : Option (List ℕ)) (rising : Type 0) (r : Result (Unit {0}) Halt) → r ≡ halt_of new.halted → a ≡ b → IsMade new b before after → EventGives new a before after rising r
-ends-gives new a b before after rising r is same made = rw (is, same) (does-made new b before after rising new.halted refl made)
-
-pub halts-leave : {a b : FileTree} (o : Option ℤ) (halt : Halt) → Err halt ≡ halt_of o → IsServed a b → LeavesTree {X = Unit {0}} a b (Err halt)
-halts-leave None halt is served = absurd (cc)
-halts-leave {a} {b} (Some status) halt is served = let same : halt ≡ InitEnded status = cc in subst (λ (h : Halt). LeavesTree {X = Unit {0}} a b (Err h)) (sym same) served
 
 -- after instructions that don't trap the process still runs, and the next step is its next instruction
 pub record Begun (k mid : Kernel) (i n : ℕ) (at : Option (List ℕ)) : Type 0 where
@@ -231,46 +268,32 @@ trap-told mid i n count r t is h = subst (λ (x : Option Trap). IfSome x (λ t. 
 pub none-told : {P : Type 0} (r : Option Trap) → r ≡ None → IfNone r P → P
 none-told {P} r is h = subst (λ (x : Option Trap). IfNone x P) is h
 
--- the place that was picked is taken
-module _ (k mid new : Kernel) (i : ℕ) (r : Result (Unit {0}) DeviceFault) where
-  pub turned : (u : Unit {0}) → IsKernel k → k.spaces.active ≡ None → turn (state_of k) ≡ Some i → mid ≡ waking (picked k i) mid.table.awake → r ≡ Ok u
-      → OnOk r (taken (state_of mid) i ≡ quiet (state_of new)) → LeavesDisk mid.tree new.tree r → (at : Option (List ℕ)) → IsMade new (take_turn (state_of k) (turn (state_of k))) at at × IsServed k.tree new.tree
-  turned u is none found same ok gives leaves at =
-      let first = turn-takes k i is none found ∙ ap (λ (s : State). taken s i) (sym (state-but (picked k i) same)) in
-      let tree : mid.tree ≡ k.tree = ap (λ (x : Kernel). x.tree) same in
-      (made-quiet new (take_turn (state_of k) (turn (state_of k))) at (first ∙ on-ok r u ok gives), subst (λ (t : FileTree). IsServed t new.tree) tree (disk-served r u ok leaves))
+-- a step behind those that went, which makes b, is the last of the piece
+pub last-goes : (k mid new : Kernel) (n : ℕ) (before after : Option (List ℕ)) (rising : Type 0) (b : After) (r : Result (Unit {0}) Halt) → k.halted ≡ None → Went k mid n before before → next (state_of mid) Step ≡ b
+    → EventGives new b before after rising r → LeavesTree {X = Unit {0}} mid.tree new.tree r → PieceGoes k new (n + 1) before after rising r
+last-goes k mid new n before after rising b (Ok u) up went is gives leaves =
+    (went-more k mid new n before before after up went (rw is gives) leaves, λ none. absurd (omega (arith, none)))
+last-goes k mid new n before after rising b (Err halt) up went is gives leaves = record {
+  mid = mid;
+  done = n;
+  more = omega arith;
+  went = went;
+  last = subst (λ (x : After). EventGives new x before after rising (Err halt)) (sym is) gives;
+  leaves = leaves;
+}
 
-  pub turn-lost : (fault : DeviceFault) → mid ≡ waking (picked k i) mid.table.awake → r ≡ Err fault → LeavesDisk mid.tree new.tree r → IsLost k.tree new.tree
-  turn-lost fault same err leaves =
-      let tree : mid.tree ≡ k.tree = ap (λ (x : Kernel). x.tree) same in
-      subst (λ (t : FileTree). IsLost t new.tree) tree (disk-lost r fault err leaves)
-
--- the last step of a piece makes b
-module _ (k mid new : Kernel) (n count : ℕ) (before after : Option (List ℕ)) (rising : Type 0) (b : After) (up : k.halted ≡ None) (went : Went k mid n before before) (more : n < count) (is : next (state_of mid) Step ≡ b) where
-  pub breaks-off : (halt : Halt) → Dispatches {X = Unit {0}} new b before after rising (Err halt) → LeavesTree {X = Unit {0}} mid.tree new.tree (Err halt) → StopsAt k new count before after rising halt
-  breaks-off halt gives leaves = record { mid = mid; done = n; more = more; went = went; last = does-err new (next (state_of mid) Step) b before after rising halt is gives; leaves = leaves }
-
-  pub halts-at : (halt : Halt) → Err halt ≡ halt_of new.halted → IsMade new b before after → IsServed mid.tree new.tree → StopsAt k new count before after rising halt
-  halts-at halt told made served = record {
-    mid = mid;
-    done = n;
-    more = more;
-    went = went;
-    last = ends-gives new (next (state_of mid) Step) b before after rising (Err halt) told is made;
-    leaves = halts-leave new.halted halt told served;
-  }
-
-  pub goes-by : (u : Unit {0}) → Ok u ≡ halt_of new.halted → IsMade new b before after → IsServed mid.tree new.tree → PieceGives k new count before after rising (Ok (n + 1))
-  goes-by u told made served = (
-    omega arith,
-    omega (arith, more),
-    went-more k mid new n before before after up went (ends-gives new (next (state_of mid) Step) b before after rising (Ok u) told is made) served,
-  )
+-- what a piece came to
+pub came : {old new : Kernel} {most count : ℕ} {before after : Option (List ℕ)} {rising : Type 0} {r : Result (Unit {0}) Halt} → PieceGives old new most before after rising count r → (x : Result (Unit {0}) Halt) → r ≡ x
+    → PieceGoes old new count before after rising x
+came {old} {new} {most} {count} {before} {after} {rising} {r} piece x is = subst (λ (y : Result (Unit {0}) Halt). PieceGoes old new count before after rising y) is piece.goes
 
 -- a piece at which no failure of the console rises
-pub silent : (old new : Kernel) (count : ℕ) (before after : Option (List ℕ)) (rising : Type 0) (r : Result ℕ Halt) → PieceGives old new count before after ⊥ r → PieceGives old new count before after rising r
-silent old new count before after rising (Ok n) h = h
-silent old new count before after rising (Err (InitEnded status)) h = record { mid = h.mid; done = h.done; more = h.more; went = h.went; last = h.last; leaves = h.leaves }
-silent old new count before after rising (Err Device) h = record { mid = h.mid; done = h.done; more = h.more; went = h.went; last = h.last; leaves = h.leaves }
-silent old new count before after rising (Err Console) h = absurd h.last.0
-silent old new count before after rising (Err Halted) h = absurd h.last
+silent-goes : (old new : Kernel) (count : ℕ) (before after : Option (List ℕ)) (rising : Type 0) (r : Result (Unit {0}) Halt) → PieceGoes old new count before after ⊥ r → PieceGoes old new count before after rising r
+silent-goes old new count before after rising (Ok u) h = h
+silent-goes old new count before after rising (Err (InitEnded status)) h = record { mid = h.mid; done = h.done; more = h.more; went = h.went; last = h.last; leaves = h.leaves }
+silent-goes old new count before after rising (Err Device) h = record { mid = h.mid; done = h.done; more = h.more; went = h.went; last = h.last; leaves = h.leaves }
+silent-goes old new count before after rising (Err Console) h = absurd h.last.0
+silent-goes old new count before after rising (Err Halted) h = absurd h.last
+
+pub silent : (old new : Kernel) (most : ℕ) (before after : Option (List ℕ)) (rising : Type 0) (count : ℕ) (r : Result (Unit {0}) Halt) → PieceGives old new most before after ⊥ count r → PieceGives old new most before after rising count r
+silent old new most before after rising count r h = record { within = h.within; busy = h.busy; goes = silent-goes old new count before after rising r h.goes }

@@ -1,10 +1,11 @@
 -- What many steps of the kernel come to.
-use Rattle.std.specs.Prelude.{Err, List, None, Ok, Option, Result, Some, replicate, ℕ, ◌<◌, ◌≡◌, ◌≤◌}
+use Rattle.std.specs.Prelude.{Err, List, None, Ok, Option, Result, Some, false, replicate, true, ℕ, ◌<◌, ◌≡◌, ◌≤◌}
 use Rattle.std.specs.Io.KnownBytes.{Appends}
 use Rattle.console.specs.Output.{AppendsBeginning}
 use Rattle.calls.specs.declared.halt.Halt.{Halt}
 use Rattle.calls.specs.declared.halt.Halt.TheVariants.{Console, Device, Halted, InitEnded}
 use Rattle.calls.specs.Gives.{EventGives, IsLost, IsServed, LeavesTree, Makes}
+use Rattle.kernel.specs.Idle.{is_idle}
 use Rattle.kernel.specs.Kernel.{Kernel, state_of}
 use Rattle.tree.specs.Tree.{FileTree}
 use Rattle.unixmodel.specs.Calls.{After}
@@ -12,6 +13,7 @@ use Rattle.unixmodel.specs.declared.event.Event.TheVariants.{Step}
 use Rattle.unixmodel.specs.Failures.{Rises}
 use Rattle.unixmodel.specs.Next.{next}
 use Rattle.unixmodel.specs.Run.{run}
+use Rattle.unixmodel.specs.State.{State}
 
 -- what so many steps make
 abbrev pub stepped : Kernel → ℕ → After
@@ -31,10 +33,25 @@ pub record StopsAt (old new : Kernel) (count : ℕ) (before after : Option (List
   pub last : EventGives new (next (state_of mid) Step) before after rising (Err halt)
   pub leaves : LeavesTree {X = Unit {0}} mid.tree new.tree (Err halt)
 
+-- the machine goes on, and a process runs or is ready
+pub record IsBusy (s : State) : Type 0 where
+  pub goes : s.halted ≡ None
+  pub busy : is_idle s ≡ false
+
+-- so it is before each of so many steps
+abbrev pub IsBusyFor : State → ℕ → Type 0
+IsBusyFor s count = (done : ℕ) → done < count → IsBusy (run s (replicate done Step)).state
+
+-- so many steps went, none only where nobody runs and none is ready; or the last of them halts
+abbrev pub PieceGoes : Kernel → Kernel → ℕ → Option (List ℕ) → Option (List ℕ) → Type 0 → Result (Unit {0}) Halt → Type 0
+PieceGoes old new count before after rising (Ok u) = Went old new count before after × (count ≡ 0 → is_idle (state_of new) ≡ true)
+PieceGoes old new count before after rising (Err halt) = StopsAt old new count before after rising halt
+
 -- what the first of so many steps are answered with, which are done in one go
-abbrev pub PieceGives : Kernel → Kernel → ℕ → Option (List ℕ) → Option (List ℕ) → Type 0 → Result ℕ Halt → Type 0
-PieceGives old new count before after rising (Ok n) = (0 < n) × (n ≤ count) × Went old new n before after
-PieceGives old new count before after rising (Err halt) = StopsAt old new count before after rising halt
+pub record PieceGives (old new : Kernel) (most : ℕ) (before after : Option (List ℕ)) (rising : Type 0) (count : ℕ) (result : Result (Unit {0}) Halt) : Type 0 where
+  pub within : count ≤ most
+  pub busy : IsBusyFor (state_of old) count
+  pub goes : PieceGoes old new count before after rising result
 
 -- the steps before the one at which the device failed are done as the abstract Unix says
 pub record DeviceStops (old : Kernel) (count : ℕ) (before after : Option (List ℕ)) : Type 0 where
@@ -62,8 +79,8 @@ StepsGive old new count before after rising (Err Console) = ConsoleStops old new
 StepsGive old new count before after rising (Err Halted) = ⊥
 
 -- the same where the bytes go to an output
-abbrev pub PieceGivesTo : {W : Type 0} → (W → Option (List ℕ)) → (W → ℕ) → Kernel → Kernel → W → W → ℕ → Result ℕ Halt → Type 0
-PieceGivesTo contents failures old new from to count result = PieceGives old new count (contents from) (contents to) (Rises (failures from) (failures to)) result
+abbrev pub PieceGivesTo : {W : Type 0} → (W → Option (List ℕ)) → (W → ℕ) → Kernel → Kernel → W → W → ℕ → ℕ → Result (Unit {0}) Halt → Type 0
+PieceGivesTo contents failures old new from to most count result = PieceGives old new most (contents from) (contents to) (Rises (failures from) (failures to)) count result
 
 abbrev pub StepsGiveTo : {W : Type 0} → (W → Option (List ℕ)) → (W → ℕ) → Kernel → Kernel → W → W → ℕ → Result (Unit {0}) Halt → Type 0
 StepsGiveTo contents failures old new from to count result = StepsGive old new count (contents from) (contents to) (Rises (failures from) (failures to)) result

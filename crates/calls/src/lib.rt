@@ -17,5 +17,5 @@ mod transfer_calls;
 pub use events::{dispatch, end, key, resume, step, tick};
 pub use halt::Halt;
 pub use kernel::Kernel;
-pub use many_steps::steps;
+pub use many_steps::{advance, steps};
 pub use outcome::Outcome;

@@ -1,9 +1,15 @@
 //! Many steps of a kernel.
 //!
-//! They are done in pieces: instructions of the running process up to a call or a fault, a turn, or all of them where nobody is
-//! ready.
-ghost use Rattle.std.specs.Prelude.{ℕ, List, Option, ◌≡◌, ◌<◌, ◌≤◌, None, Some, false};
+//! They are done in pieces: instructions of the running process up to a call or a fault, or a turn.
+ghost use Rattle.std.specs.Prelude.{ℕ, List, Option, ◌≡◌, ◌<◌, ◌≤◌, Err, None, Some, false};
+ghost use Rattle.calls.specs.Gives.{EventGives, EventGivesTo, LeavesTree, executed};
+ghost use Rattle.calls.specs.Resuming.{taken};
 ghost use Rattle.calls.specs.Steps.{LeavesFiles, PieceGives, PieceGivesTo, StepsGiveTo};
+ghost use Rattle.kernel.specs.Kernel.{state_of};
+ghost use Rattle.kernel.specs.Sound.{IsAlive};
+ghost use Rattle.spaces.specs.Spaces.{view_at};
+ghost use Rattle.unixmodel.specs.Cycle.{cycle};
+ghost use Rattle.unixmodel.specs.Files.{slot};
 
 use crate::events::{goes, take, take_trap};
 use crate::halt::Halt;
@@ -11,6 +17,7 @@ use blockdev::BlockDev;
 use console::Out;
 use kernel::Kernel;
 use sv39::Translate;
+use unixmodel::trap::Trap;
 
 /// So many steps, up to the first at which the machine halts.
 pub fn steps<D: BlockDev, T: Translate + Drop, W: Out>(
@@ -26,26 +33,33 @@ pub fn steps<D: BlockDev, T: Translate + Drop, W: Out>(
 {
     let mut done = 0;
     while done < count {
-        done += piece(kernel, count - done, console)?;
+        let (more, ended) = advance(kernel, count - done, console);
+        ended?;
+        if more == 0 {
+            // No step changes anything.
+            return Ok(());
+        }
+        done += more;
     }
     Ok(())
 }
 
-// The first of so many steps, as many as are done in one go, and how many they are.
-fn piece<D: BlockDev, T: Translate + Drop, W: Out>(
+/// The first of so many steps, as many as are done in one go: how many they are, with the one at which the machine halts. They are
+/// none where no process runs and none is ready.
+pub fn advance<D: BlockDev, T: Translate + Drop, W: Out>(
     kernel: &mut Kernel<D, T>,
-    count: u32,
+    most: u32,
     console: &mut W,
-) -> Result<u32, Halt>
+) -> (u32, Result<(), Halt>)
     requires goes { kernel.old.halted ≡ None }
     requires up { kernel.old.tree.failed ≡ false }
-    requires some { 0 < count }
-    ensures does { PieceGivesTo W.contents W.failures kernel.old kernel.new console.old console.new count result }
+    requires some { 0 < most }
+    ensures does { PieceGivesTo W.contents W.failures kernel.old kernel.new console.old console.new most result.0 result.1 }
     ensures later { W.failures console.old ≤ W.failures console.new }
 {
     match kernel.active() {
-        Some(at) => instruct_many(kernel, at, count, console),
-        None => turn_once(kernel, count),
+        Some(at) => instruct_many(kernel, at, most, console),
+        None => turn_once(kernel),
     }
 }
 
@@ -53,43 +67,66 @@ fn piece<D: BlockDev, T: Translate + Drop, W: Out>(
 fn instruct_many<D: BlockDev, T: Translate + Drop, W: Out>(
     kernel: &mut Kernel<D, T>,
     at: usize,
-    count: u32,
+    most: u32,
     console: &mut W,
-) -> Result<u32, Halt>
+) -> (u32, Result<(), Halt>)
     requires running { kernel.old.spaces.active ≡ Some at }
     requires goes { kernel.old.halted ≡ None }
     requires up { kernel.old.tree.failed ≡ false }
-    requires some { 0 < count }
-    ensures does { PieceGivesTo W.contents W.failures kernel.old kernel.new console.old console.new count result }
+    requires some { 0 < most }
+    ensures does { PieceGivesTo W.contents W.failures kernel.old kernel.new console.old console.new most result.0 result.1 }
     ensures later { W.failures console.old ≤ W.failures console.new }
 {
     kernel.is_sound();
-    let (done, trap) = kernel.execute_many(at, count);
-    let Some(trap) = trap else {
-        return Ok(done);
-    };
-    take_trap(kernel, at, trap, console)?;
-    goes(kernel)?;
-    Ok(done + 1)
+    match kernel.execute_many(at, most) {
+        (done, None) => (done, Ok(())),
+        (done, Some(trap)) => (done + 1, trap_once(kernel, at, trap, console)),
+    }
 }
 
-// A turn; where nobody is ready, all steps.
-#[inline(never)]
-fn turn_once<D: BlockDev, T: Translate + Drop>(
+// The step at which the running process traps.
+fn trap_once<D: BlockDev, T: Translate + Drop, W: Out>(
     kernel: &mut Kernel<D, T>,
-    count: u32,
-) -> Result<u32, Halt>
+    at: usize,
+    trap: Trap,
+    console: &mut W,
+) -> Result<(), Halt>
+    requires running { kernel.old.spaces.active ≡ Some at }
+    requires traps { cycle kernel.old.spaces.registers kernel.old.spaces.pc (view_at kernel.old.spaces at).memory ≡ Err trap }
+    ensures does { EventGivesTo W.contents W.failures kernel.new console.old console.new (executed kernel.old at) result }
+    ensures tree { LeavesTree kernel.old.tree kernel.new.tree result }
+    ensures later { W.failures console.old ≤ W.failures console.new }
+{
+    take_trap(kernel, at, trap, console)?;
+    goes(kernel)
+}
+
+// A turn; none where nobody is ready.
+#[inline(never)]
+fn turn_once<D: BlockDev, T: Translate + Drop>(kernel: &mut Kernel<D, T>) -> (u32, Result<(), Halt>)
     requires idle { kernel.old.spaces.active ≡ None }
     requires goes { kernel.old.halted ≡ None }
     requires up { kernel.old.tree.failed ≡ false }
-    requires some { 0 < count }
-    ensures does { (at : Option (List ℕ)) → PieceGives kernel.old kernel.new count at at ⊥ result }
+    ensures does { (at : Option (List ℕ)) → (most : ℕ) → 0 < most → PieceGives kernel.old kernel.new most at at ⊥ result.0 result.1 }
 {
     kernel.is_sound();
-    let Some(at) = kernel.turn() else {
-        return Ok(count);
-    };
+    match kernel.turn() {
+        None => (0, Ok(())),
+        Some(at) => (1, take_once(kernel, at)),
+    }
+}
+
+// The step at which the process in a place, which was picked, is taken.
+fn take_once<D: BlockDev, T: Translate + Drop>(
+    kernel: &mut Kernel<D, T>,
+    at: usize,
+) -> Result<(), Halt>
+    requires idle { kernel.old.spaces.active ≡ None }
+    requires up { kernel.old.tree.failed ≡ false }
+    requires alive { IsAlive (slot kernel.old.table.places at) }
+    ensures gives { (bytes : Option (List ℕ)) → EventGives kernel.new (taken (state_of kernel.old) at) bytes bytes ⊥ result }
+    ensures tree { LeavesTree kernel.old.tree kernel.new.tree result }
+{
     take(kernel, at)?;
-    goes(kernel)?;
-    Ok(1)
+    goes(kernel)
 }

@@ -3,24 +3,28 @@ use Rattle.std.proofs.Common.{◌≡◌, ◌∙◌, ℕ, ◌+◌, ◌-◌, ◌<�
 use Rattle.std.specs.Prelude.{OnErr, OnOk, length, option_map, suc, zero}
 use Rattle.std.specs.Io.KnownBytes.{Keeps}
 use Rattle.std.specs.Result.{is_err}
-use Rattle.std.proofs.lemmas.List.{replicate_more, take-replicate}
+use Rattle.std.proofs.lemmas.List.{replicate-append-replicate, replicate_more, take-replicate}
 use Rattle.std.proofs.lemmas.List.Sums.{fold-append}
 use Rattle.calls.specs.declared.halt.Halt.{Halt}
 use Rattle.kernel.specs.Idle.{is_idle}
-use Rattle.live.proofs.PlayLemmas.{done-kept, runs_on, stops_in}
+use Rattle.machine.proofs.RunsOn.{done-kept, runs_on, stops_in}
 use Rattle.live.specs.declared.terminal.Given.{Given}
 use Rattle.live.specs.declared.terminal.Mood.{Mood}
 use Rattle.live.specs.declared.terminal.Mood.TheVariants as mood
 use Rattle.live.specs.declared.terminal.Given.TheVariants as given
 use Rattle.live.specs.Sessions.{Follows, GaveFirst, IsGiven, IsSession, answered, goes_on_with, is_end, mood_of, moved, session, steps, steps_after, work}
 use Rattle.machine.proofs.RunLemmas.{Rises-later, SoFar, done_more, goes_on, so_far_at_first, stops, up_now}
+use Rattle.calls.proofs.Runs.{run-more}
+use Rattle.calls.specs.Steps.{IsBusyFor}
 use Rattle.machine.specs.Gives.{IsDone, RunGives, StepGives}
+use Rattle.machine.specs.Pieces.{IsPiece}
 use Rattle.machine.specs.View.{IsUp, View}
 use Rattle.unixmodel.specs.declared.event.Event.{Event}
 use Rattle.unixmodel.specs.declared.event.Event.TheVariants.{Step}
 use Rattle.unixmodel.specs.Failures.{Rises}
 use Rattle.unixmodel.specs.Next.{next}
-use Rattle.unixmodel.specs.Run.{run}
+use Rattle.unixmodel.specs.Calls.{After}
+use Rattle.unixmodel.specs.Run.{after_bytes, run}
 use Rattle.unixmodel.specs.State.{State}
 
 -- ---- one event
@@ -120,6 +124,25 @@ unfolding work
 work-none zero s idle = refl
 work-none (suc n) s idle = rw idle refl
 
+-- of them as many as are done while a process runs or is ready
+worked : (n count : ℕ) (s : State) → IsBusyFor s count → count ≤ n → work n s ≡ count + work (n - count) (run s (replicate count Step)).state
+unfolding run
+worked n zero s busy within =
+    let none : n - 0 ≡ n = omega arith in
+    let same : work (n - 0) (run s (replicate 0 Step)).state ≡ work n s = ap (λ k. work k s) none in
+    omega (arith, same)
+worked n (suc count) s busy within =
+    let t = (run s (replicate count Step)).state in
+    let first = busy 0 (omega arith) in
+    let last = busy count (omega arith) in
+    let w = worked n count s (λ done less. busy done (omega (arith, less))) (omega (arith, within)) in
+    let one : n - count ≡ suc (n - suc count) = omega (arith, within) in
+    let more = ap (λ k. work k t) one ∙ work-more (n - suc count) t (next t Step).state last.busy refl in
+    let next_one : suc count ≡ count + 1 = omega arith in
+    let on : run s (replicate (suc count) Step) ≡ after_bytes (run s (replicate count Step)).bytes (next t Step) = ap (λ k. run s (replicate k Step)) next_one ∙ ap (run s) (sym (replicate_more count Step)) ∙ run-more (replicate count Step) Step s first.goes last.goes in
+    let e = ap (λ (a : After). work (n - suc count) a.state) on in
+    omega (arith, w, more, e)
+
 -- after so many steps so many are left
 pub record IsWorking (most : ℕ) (first now : View) (done : ℕ) (before after : Option (List ℕ)) (failed fails : ℕ) : Type 0 where
   pub so_far : SoFar first now (replicate done Step) before after
@@ -149,48 +172,70 @@ module _ {most : ℕ} {first now : View} {done : ℕ} {before mid : Option (List
       let w : done ≡ work most first.state = (let l = h.left in omega (arith, none, l)) in
       record { gives = (h.so_far.began, h.so_far.done); within = omega (arith, w); all = w; later = h.later }
 
-  pub ends-idle : is_idle now.state ≡ true → IsWorked most first now before mid f0 f1 done (Ok tt)
-  ends-idle idle = ends-at (work-none (most - done) now.state idle)
-
-  pub ends-full : (n : ℕ) → n ≡ most → most ≤ done → IsWorked most first now before mid f0 f1 n (Ok tt)
+  -- no more are to be done
+  pub ends-full : most ≤ done → IsWorked most first now before mid f0 f1 done (Ok tt)
   unfolding work
-  ends-full n same low =
-      let high = h.within in
+  ends-full low =
       let e : most - done ≡ 0 = omega (arith, low) in
-      let d : done ≡ n = omega (arith, same, low, high) in
-      subst (λ (k : ℕ). IsWorked most first now before mid f0 f1 k (Ok tt)) d (ends-at (rw e refl))
+      ends-at (rw e refl)
 
-  module _ (more : done < most) (busy : is_idle now.state ≡ false) where
-    left-more : (t : State) → (next now.state Step).state ≡ t → work most first.state ≡ (done + 1) + work (most - (done + 1)) t
-    left-more t is =
-        let e : most - done ≡ suc (most - (done + 1)) = omega arith in
-        let w = ap (λ n. work n now.state) e ∙ work-more (most - (done + 1)) now.state t busy is in
-        let l = h.left in omega (arith, l, w)
+  module _ {new : View} {more : ℕ} {r : Result (Unit {0}) Halt} (piece : IsPiece now new (most - done) more r) where
+    -- those that were done in one go, and those that are left
+    left-behind : work most first.state ≡ (done + more) + work (most - (done + more)) (run now.state (replicate more Step)).state
+    left-behind =
+        let p = piece.within in
+        let l = h.left in
+        let w = worked (most - done) more now.state piece.busy p in
+        let e : (most - done) - more ≡ most - (done + more) = omega arith in
+        let v = ap (λ n. work n (run now.state (replicate more Step)).state) e in
+        omega (arith, l, w, v)
 
-    module _ {new : View} {after : Option (List ℕ)} {f2 : ℕ} (le : f1 ≤ f2) where
-      pub works-on : IsDone now new (next now.state Step) mid after None → IsWorking most first new (done + 1) before after f0 f2
-      works-on k = record {
-        so_far = subst (λ (es : List Event). SoFar first new es before after) (replicate_more done Step) (record {
-          began = h.so_far.began;
-          done = done_more first now new (replicate done Step) Step before mid after None h.so_far k;
-        });
-        within = omega (arith, more);
-        left = left-more new.state (sym k.state);
+    module _ (after : Option (List ℕ)) (f2 : ℕ) (le : f1 ≤ f2) (gives : RunGives now new (replicate more Step) mid after (Rises f1 f2) r) where
+      runs-behind : RunGives first new (replicate (done + more) Step) before after (Rises f0 f2) r
+      runs-behind = subst (λ (es : List Event). RunGives first new es before after (Rises f0 f2) r) (replicate-append-replicate done more Step)
+          (runs_on first now new (replicate done Step) (replicate more Step) before mid after (Rises f1 f2) (Rises f0 f2) r h.so_far (λ rises. Rises-later f0 f1 f2 h.later rises le) gives)
+
+      told : (u : Unit {0}) → r ≡ Ok u → RunGives now new (replicate more Step) mid after (Rises f1 f2) (Ok u)
+      told u ok = subst (λ (x : Result (Unit {0}) Halt). RunGives now new (replicate more Step) mid after (Rises f1 f2) x) ok gives
+
+      pub works-on : (u : Unit {0}) → r ≡ Ok u → IsWorking most first new (done + more) before after f0 f2
+      works-on u ok =
+          let all = subst (λ (x : Result (Unit {0}) Halt). RunGives first new (replicate (done + more) Step) before after (Rises f0 f2) x) ok runs-behind in
+          record {
+            so_far = record { began = all.0; done = all.1 };
+            within = let p = piece.within in let w = h.within in omega (arith, p, w);
+            left = left-behind ∙ ap (λ s. (done + more) + work (most - (done + more)) s) (sym (told u ok).1.state);
+            later = let l = h.later in omega (arith, l, le);
+          }
+
+      whole : (x : Result (Unit {0}) Halt) → r ≡ x → OnOk x (more ≡ 0) → OnOk x (done + more ≡ work most first.state)
+      whole (Err why) err none = tt
+      whole (Ok u) ok none =
+          let idle = subst (λ (x : Result (Unit {0}) Halt). OnOk x (more ≡ 0 → is_idle new.state ≡ true)) ok piece.idle none in
+          let rest : work (most - (done + more)) (run now.state (replicate more Step)).state ≡ 0 = ap (work (most - (done + more))) (sym (told u ok).1.state) ∙ work-none _ new.state idle in
+          let w = left-behind in
+          omega (arith, w, rest)
+
+      pub ends-by : OnOk r (more ≡ 0) → IsWorked most first new before after f0 f2 (done + more) r
+      ends-by none = record {
+        gives = runs-behind;
+        within = let w = left-behind in omega (arith, w);
+        all = whole r refl none;
         later = let l = h.later in omega (arith, l, le);
       }
 
-      pub ends-halted : (why : Halt) (n : ℕ) → n ≡ done + 1 → StepGives now new (next now.state Step) mid after (Rises f1 f2) (Err why) → IsWorked most first new before after f0 f2 n (Err why)
-      ends-halted why n same k =
-          let l = h.later in
-          let w = left-more (next now.state Step).state refl in
-          record {
-            gives = subst (λ (k : ℕ). RunGives first new (replicate k Step) before after (Rises f0 f2) (Err why)) (sym same) (subst (λ (es : List Event). RunGives first new es before after (Rises f0 f2) (Err why)) (replicate_more done Step)
-                (stops_in first now new (replicate done Step) (Step ∷ []) before mid after (Rises f1 f2) (Rises f0 f2) why h.so_far (λ r. Rises-later f0 f1 f2 l r le)
-                (one-gives now new Step mid after (Rises f1 f2) (Err why) (up_now first now (replicate done Step) before mid h.so_far) k)));
-            within = omega (arith, same, w);
-            all = tt;
-            later = omega (arith, l, le);
-          }
+-- what a result that is tested is
+pub ok-of : (r : Result (Unit {0}) Halt) → is_err r ≡ false → r ≡ Ok tt
+ok-of (Ok u) good = refl
+ok-of (Err why) good = absurd (cc)
+
+pub on-err : (P : Type 0) (r : Result (Unit {0}) Halt) → is_err r ≡ true → OnOk r P
+on-err P (Ok u) bad = absurd (cc)
+on-err P (Err why) bad = tt
+
+pub on-all : (P : Type 0) (r : Result (Unit {0}) Halt) → P → OnOk r P
+on-all P (Ok u) p = p
+on-all P (Err why) p = tt
 
 -- so many steps are a beginning of those that there are
 some-steps : (count n : ℕ) → count ≤ n → replicate count Step ++ drop count (replicate n Step) ≡ replicate n Step

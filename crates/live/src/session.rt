@@ -68,16 +68,15 @@ fn work<D: BlockDev, T: Translate + Drop, W: Out>(
     ensures all { OnOk result.1 (result.0 ≡ work most machine.old.state) }
     ensures later { W.failures out.old ≤ W.failures out.new }
 {
-    for done in 0..most {
-        if machine.is_idle() {
-            return (done, Ok(()));
-        }
-        match machine.step(Event::Step, out) {
-            Ok(()) => (),
-            Err(halt) => return (done + 1, Err(halt)),
+    let mut done = 0;
+    while done < most {
+        let (more, ended) = machine.advance(most - done, out);
+        done += more;
+        if more == 0 || ended.is_err() {
+            return (done, ended);
         }
     }
-    (most, Ok(()))
+    (done, Ok(()))
 }
 
 // A quantum of steps, which is recorded.

@@ -6,3 +6,4 @@ mod Inits
 mod Mounts
 mod Looking
 pub mod RunLemmas
+pub mod RunsOn

@@ -1,12 +1,14 @@
 -- What an event comes to, from what the kernel makes of it.
 use Rattle.std.specs.Prelude.{IfErr}
 use Rattle.calls.specs.Gives.{Dispatches, EventGives, LeavesTree, Makes}
-use Rattle.calls.specs.Steps.{LeavesFiles, StepsGive, stepped}
+use Rattle.calls.specs.Steps.{PieceGives, LeavesFiles, StepsGive, stepped}
 use Rattle.calls.specs.declared.halt.Halt.{Halt}
 use Rattle.calls.specs.declared.halt.Halt.TheVariants.{Console, Device, Halted, InitEnded}
 use Rattle.kernel.specs.Kernel.{Kernel, state_of}
 use Rattle.machine.specs.Gives.{ConsoleFails, IsDone, RunGives, StepGives, fails}
+use Rattle.calls.proofs.Pieces.{stops-rest, went-all, went-none}
 use Rattle.calls.proofs.Prints.{Appends-none}
+use Rattle.machine.specs.Pieces.{IsPiece}
 use Rattle.machine.specs.View.{IsUp, View}
 use Rattle.console.specs.Output.{AppendsBeginning}
 use Rattle.tree.specs.Tree.{FileTree}
@@ -15,7 +17,7 @@ use Rattle.unixmodel.specs.declared.event.Event.TheVariants.{Key, Step, Tick}
 use Rattle.unixmodel.specs.Next.{next, stopped}
 use Rattle.unixmodel.specs.State.{State, running}
 use Rattle.std.proofs.lemmas.List.{length-replicate, take-replicate}
-use Rattle.std.proofs.Common.{◌≡◌, ◌≤◌, ℕ, ℤ, Bool, true, false, List, replicate, take, Option, Some, None, Result, Ok, Err, arith, refl, ap}
+use Rattle.std.proofs.Common.{◌≡◌, ◌≤◌, ℕ, ℤ, Bool, true, false, List, replicate, take, Option, Some, None, Result, Ok, Err, arith, le_refl, refl, ap}
 
 abbrev pub told : Kernel → Bool → View
 told k failed = record { state = state_of k; failures = k.tree.failures; failed = failed; identity = k.tree.identity }
@@ -130,3 +132,17 @@ steps-give old new failed count before after rising (Err Device) goes flag made 
       },
     )
 steps-give old new failed count before after rising (Err Halted) goes flag made leaves = absurd made
+
+-- what was done in one go
+pub advance-gives : (old new : Kernel) (failed : Bool) (most count : ℕ) (before after : Option (List ℕ)) (rising : Type 0) (result : Result (Unit {0}) Halt)
+    → old.halted ≡ None → old.tree.failed ≡ false → failed ≡ fails result → PieceGives old new most before after rising count result
+    → RunGives (told old false) (told new failed) (replicate count Step) before after rising result × IsPiece (told old false) (told new failed) most count result
+advance-gives old new failed most count before after rising (Ok u) goes sound flag piece = (
+  steps-give old new failed count before after rising (Ok u) goes flag (went-all old new count count before after rising u (le_refl count) (le_refl count) piece.goes.0) piece.goes.0.served,
+  record { within = piece.within; busy = piece.busy; idle = piece.goes.1 },
+)
+advance-gives old new failed most count before after rising (Err halt) goes sound flag piece =
+    let all = stops-rest old old new 0 count count before before after rising rising halt goes (omega arith) (went-none old before goes sound) (λ r. r) piece.goes in (
+      steps-give old new failed count before after rising (Err halt) goes flag all.0 all.1,
+      record { within = piece.within; busy = piece.busy; idle = tt },
+    )

@@ -7,3 +7,4 @@ pub mod Flat
 pub mod Saved
 pub mod Booted
 pub mod Holdings
+pub mod Pieces

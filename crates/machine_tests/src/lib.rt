@@ -35,5 +35,6 @@ mod processes;
 mod saving;
 #[cfg(test)]
 mod steps;
+mod strides;
 #[cfg(test)]
 mod typing;

@@ -1,77 +1,83 @@
 -- The events of a run of steps.
-use Rattle.std.proofs.Common.{Err, List, Ok, None, Option, Result, ap, arith, false, inl, inr, length, replicate, sym, take, true, ◌++◌, ◌+◌, ◌<◌, ◌∙◌, ◌∷◌, ◌≡◌, ◌≤◌, [], ℕ}
+use Rattle.std.proofs.Common.{Err, List, Ok, None, Option, Result, ap, arith, false, inl, inr, refl, replicate, subst, sym, true, ◌+◌, ◌-◌, ◌<◌, ◌∙◌, ◌≡◌, ◌≤◌, ℕ}
 use Rattle.std.specs.Prelude.{OnOk}
+use Rattle.std.specs.Result.{is_err}
 use Rattle.std.proofs.lemmas.Bool.{cases_lt}
-use Rattle.std.proofs.lemmas.List.{get_or-replicate, length-replicate, take-replicate, take_more}
+use Rattle.std.proofs.lemmas.List.{replicate-append-replicate}
 use Rattle.calls.specs.declared.halt.Halt.{Halt}
 use Rattle.kernel.specs.Idle.{is_idle}
-use Rattle.machine.proofs.RunLemmas.{SoFar, goes_on, stops}
-use Rattle.machine.specs.Gives.{IsDone, StepGives}
+use Rattle.calls.specs.Steps.{IsBusy, IsBusyFor}
+use Rattle.machine.proofs.RunLemmas.{SoFar}
+use Rattle.machine.proofs.RunsOn.{both, runs_on}
+use Rattle.machine.specs.Gives.{RunGives}
+use Rattle.machine.specs.Pieces.{IsPiece}
 use Rattle.machine.specs.View.{View}
-use Rattle.session.specs.Played.{Advances, IsAsFar, IsBusyFor}
+use Rattle.session.specs.Played.{Advances, IsAsFar}
 use Rattle.session.specs.declared.play.Ran.{Ran}
 use Rattle.unixmodel.specs.declared.event.Event.{Event}
 use Rattle.unixmodel.specs.declared.event.Event.TheVariants.{Step}
-use Rattle.unixmodel.specs.Next.{next}
+use Rattle.unixmodel.specs.Calls.{After}
 use Rattle.unixmodel.specs.Run.{run}
 
 abbrev pub ran_of : ℕ → Result (Unit {0}) Halt → Ran
 ran_of steps answer = record { steps = steps; answer = answer }
 
--- one event more of those that repeat
-pub repeat-next : (n i : ℕ) (e : Event) → i < n → take (i + 1) (replicate n e) ≡ take i (replicate n e) ++ e ∷ []
-repeat-next n i e within =
-    take_more (replicate n e) i e (rw (length-replicate n e) within) ∙ ap (λ x. take i (replicate n e) ++ x ∷ []) (get_or-replicate n i e e within)
-
--- n steps, as the first of n + 1
+-- the first steps, and what they make
 abbrev pub SoManySteps : View → View → ℕ → Option (List ℕ) → Option (List ℕ) → Type 0
 SoManySteps first now n before after = SoFar first now (replicate n Step) before after
 
-as-first : (first now : View) (n : ℕ) (before after : Option (List ℕ)) → SoManySteps first now n before after → SoFar first now (take n (replicate (n + 1) Step)) before after
-as-first first now n before after h = rw (take-replicate n (n + 1) Step (omega arith)) h
+-- what a result that is tested is
+pub ok-of : (r : Result (Unit {0}) Halt) → is_err r ≡ false → r ≡ Ok tt
+ok-of (Ok u) good = refl
+ok-of (Err why) good = absurd (cc)
 
-more-steps : (n : ℕ) → n < length (replicate (n + 1) Step)
-more-steps n = rw (length-replicate (n + 1) Step) (omega arith)
+pub on-err : (P : Type 0) (r : Result (Unit {0}) Halt) → is_err r ≡ true → OnOk r P
+on-err P (Ok u) bad = absurd (cc)
+on-err P (Err why) bad = tt
+
+pub on-all : (P : Type 0) (r : Result (Unit {0}) Halt) → P → OnOk r P
+on-all P (Ok u) p = p
+on-all P (Err why) p = tt
 
 -- ---- nobody is idle before the steps
 
-pub busy-at-first : (first : View) → IsBusyFor first 0
+pub busy-at-first : (first : View) → IsBusyFor first.state 0
 busy-at-first first k within = absurd (omega arith)
 
-busy-now : (first now : View) (n : ℕ) (before after : Option (List ℕ)) → SoManySteps first now n before after → is_idle now.state ≡ false
-    → is_idle (run first.state (replicate n Step)).state ≡ false
-busy-now first now n before after h busy = ap is_idle (sym h.done.state) ∙ busy
+module _ (first now new : View) (most n more : ℕ) (before mid after : Option (List ℕ)) (h : SoManySteps first now n before mid) where
+  busy-behind : (k : ℕ) → (run first.state (replicate (n + k) Step)).state ≡ (run now.state (replicate k Step)).state
+  busy-behind k = ap (λ es. (run first.state es).state) (sym (replicate-append-replicate n k Step)) ∙ ap (λ (a : After). a.state) (both first now (replicate n Step) (replicate k Step) before mid h)
 
-pub busy-more : (first now : View) (n : ℕ) (before after : Option (List ℕ)) → SoManySteps first now n before after → is_idle now.state ≡ false
-    → IsBusyFor first n → IsBusyFor first (n + 1)
-busy-more first now n before after h busy so_far k within = elim (cases_lt k n) [
-  | inl less ↦ so_far k less
-  | inr least ↦ let last : k ≡ n = omega arith in rw last (busy-now first now n before after h busy)
-]
+  pub busy-on : IsBusyFor first.state n → IsBusyFor now.state more → IsBusyFor first.state (n + more)
+  busy-on so_far busy k within = elim (cases_lt k n) [
+    | inl less ↦ so_far k less
+    | inr least ↦
+        let behind : k ≡ n + (k - n) = omega (arith, least) in
+        subst IsBusy (sym (ap (λ j. (run first.state (replicate j Step)).state) behind ∙ busy-behind (k - n))) (busy (k - n) (omega (arith, within, least)))
+  ]
 
--- ---- how a run ends
+  runs-behind : (step_rises rises : Type 0) (r : Result (Unit {0}) Halt) → (step_rises → rises) → RunGives now new (replicate more Step) mid after step_rises r → RunGives first new (replicate (n + more) Step) before after rises r
+  runs-behind step_rises rises r rise k = subst (λ es. RunGives first new es before after rises r) (replicate-append-replicate n more Step)
+      (runs_on first now new (replicate n Step) (replicate more Step) before mid after step_rises rises r h rise k)
 
-pub steps-more : (first now new : View) (n : ℕ) (before mid after : Option (List ℕ)) → SoManySteps first now n before mid
-    → IsDone now new (next now.state Step) mid after None → SoManySteps first new (n + 1) before after
-steps-more first now new n before mid after h k =
-    rw (take-replicate (n + 1) (n + 1) Step (omega arith)) at
-    (goes_on first now new n (replicate (n + 1) Step) Step before mid after (more-steps n) (repeat-next (n + 1) n Step (omega arith)) (as-first first now n before mid h) k)
+  -- more are done
+  pub steps-on : (step_rises rises : Type 0) (u : Unit {0}) (r : Result (Unit {0}) Halt) → r ≡ Ok u → (step_rises → rises) → RunGives now new (replicate more Step) mid after step_rises r → SoManySteps first new (n + more) before after
+  steps-on step_rises rises u r ok rise k =
+      let all = subst (λ (x : Result (Unit {0}) Halt). RunGives first new (replicate (n + more) Step) before after rises x) ok (runs-behind step_rises rises r rise k) in
+      record { began = all.0; done = all.1 }
 
-as-far : (old new : View) (most n : ℕ) (r : Result (Unit {0}) Halt) → n ≤ most → IsBusyFor old n → OnOk r (n < most → is_idle new.state ≡ true) → IsAsFar old new most (ran_of n r)
-as-far old new most n r within busy idle = record { within = within; busy = busy; idle = idle }
+  -- they are the last
+  pub ends-by : (step_rises rises : Type 0) (r : Result (Unit {0}) Halt) → IsBusyFor first.state n → n ≤ most → (step_rises → rises) → RunGives now new (replicate more Step) mid after step_rises r → IsPiece now new (most - n) more r
+      → OnOk r (more ≡ 0) → Advances first new most before after rises (ran_of (n + more) r)
+  ends-by step_rises rises r busy within rise k piece none = record {
+    gives = runs-behind step_rises rises r rise k;
+    far = record { within = let p = piece.within in omega (arith, p, within); busy = busy-on busy piece.busy; idle = idle r piece.idle none };
+  } where
+    idle : (x : Result (Unit {0}) Halt) → OnOk x (more ≡ 0 → is_idle new.state ≡ true) → OnOk x (more ≡ 0) → OnOk x (n + more < most → is_idle new.state ≡ true)
+    idle (Ok u) still none = λ less. still none
+    idle (Err halt) still none = tt
 
--- all steps so far were done, and there are no more, or nobody goes on
-pub ends : (first now : View) (most n : ℕ) (before after : Option (List ℕ)) (rising : Type 0) → SoManySteps first now n before after → IsBusyFor first n → n ≤ most
-    → (n < most → is_idle now.state ≡ true) → Advances first now most before after rising (ran_of n (Ok tt))
-ends first now most n before after rising h busy within idle = record { gives = (h.began, h.done); far = as-far first now most n (Ok tt) within busy idle }
-
--- the machine stops at a step
-pub halts-at : (first now new : View) (most n : ℕ) (before mid after : Option (List ℕ)) (step_rises rises : Type 0) (halt : Halt)
-    → SoManySteps first now n before mid → IsBusyFor first n → n < most → is_idle now.state ≡ false → (step_rises → rises)
-    → StepGives now new (next now.state Step) mid after step_rises (Err halt) → Advances first new most before after rises (ran_of (n + 1) (Err halt))
-halts-at first now new most n before mid after step_rises rises halt h busy within goes rise k = record {
-  gives =
-      stops first now new n (replicate (n + 1) Step) Step before mid after step_rises rises halt (more-steps n) (repeat-next (n + 1) n Step (omega arith))
-      (as-first first now n before mid h) rise k;
-  far = as-far first new most (n + 1) (Err halt) (omega arith) (busy-more first now n before mid h goes busy) tt;
-}
+-- all were done
+pub ends : (first now : View) (most n : ℕ) (before after : Option (List ℕ)) (rising : Type 0) → SoManySteps first now n before after → IsBusyFor first.state n → n ≤ most → most ≤ n
+    → Advances first now most before after rising (ran_of n (Ok tt))
+ends first now most n before after rising h busy within all = record { gives = (h.began, h.done); far = record { within = within; busy = busy; idle = λ less. absurd (omega (arith, less, all)) } }

@@ -3,6 +3,7 @@ use Rattle.std.proofs.Common.{Global, Vec}
 use Rattle.std.specs.Prelude.{Err, IsErrOf, List, Ok, OnOk, Option, Result, Some, [], false, replicate, true, ℕ, ◌<◌, ◌≡◌, ◌≤◌}
 use Rattle.calls.specs.declared.halt.Halt.{Halt}
 use Rattle.calls.specs.declared.halt.Halt.TheVariants.{Console, Device, Halted, InitEnded}
+use Rattle.calls.specs.Steps.{IsBusyFor}
 use Rattle.kernel.specs.Idle.{is_idle}
 use Rattle.machine.specs.Booted.{IsUnbooted}
 use Rattle.machine.specs.declared.fault.BootFault.{BootFault}
@@ -49,14 +50,10 @@ Answers old new events result = Tells old.machine new.machine events (console_of
 
 -- ---- a run until nobody is ready
 
--- a process runs or is ready before each of so many steps
-abbrev pub IsBusyFor : View → ℕ → Type 0
-IsBusyFor old steps = (k : ℕ) → k < steps → is_idle (run old.state (replicate k Step)).state ≡ false
-
 -- so many steps were taken, none where nobody ran or was ready, and fewer than the most only where nobody does then
 pub record IsAsFar (old new : View) (most : ℕ) (ran : Ran) : Type 0 where
   pub within : ran.steps ≤ most
-  pub busy : IsBusyFor old ran.steps
+  pub busy : IsBusyFor old.state ran.steps
   pub idle : OnOk ran.answer (ran.steps < most → is_idle new.state ≡ true)
 
 -- what the run of a machine that takes events is answered with

@@ -38,22 +38,16 @@ pub fn advance<W: Out>(machine: &mut Machine<MemDisk, Tlb<64>>, most: u32, out: 
     ensures advances { AdvancesTo W.contents W.failures machine.old machine.new out.old out.new most result }
     ensures later { W.failures out.old ≤ W.failures out.new }
 {
-    for made in 0..most {
-        if machine.is_idle() {
-            return Ran {
-                steps: made,
-                answer: Ok(()),
-            };
-        }
-        if let Err(halt) = machine.step(Event::Step, out) {
-            return Ran {
-                steps: made + 1,
-                answer: Err(halt),
-            };
+    let mut steps = 0;
+    while steps < most {
+        let (more, answer) = machine.advance(most - steps, out);
+        steps += more;
+        if more == 0 || answer.is_err() {
+            return Ran { steps, answer };
         }
     }
     Ran {
-        steps: most,
+        steps,
         answer: Ok(()),
     }
 }

@@ -1,6 +1,7 @@
 //! Many steps of a machine.
-ghost use Rattle.std.specs.Prelude.{◌≤◌, replicate};
+ghost use Rattle.std.specs.Prelude.{◌<◌, ◌≤◌, replicate};
 ghost use Rattle.machine.specs.Gives.{RunGivesTo};
+ghost use Rattle.machine.specs.Pieces.{IsPiece};
 ghost use Rattle.unixmodel.specs.declared.event.Event.TheVariants.{Step};
 
 use super::{Machine, is_failure};
@@ -21,5 +22,22 @@ impl<D: BlockDev, T: Translate + Drop> Machine<D, T> {
         let done = calls::steps(&mut self.kernel, count, console);
         self.failed = is_failure(&done);
         done
+    }
+
+    /// The first of so many steps, as many as are done in one go: instructions up to a call or a fault, or a turn. Tells how many they
+    /// were, with the one at which the machine stops. They are none where no process runs and none is ready, and where the machine
+    /// had stopped.
+    pub fn advance<W: Out>(&mut self, most: u32, console: &mut W) -> (u32, Result<(), Halt>)
+        requires { 0 < most }
+        ensures gives { RunGivesTo W.contents W.failures self.old self.new console.old console.new (replicate result.0 Step) result.1 }
+        ensures piece { IsPiece self.old self.new most result.0 result.1 }
+        ensures later { W.failures console.old ≤ W.failures console.new }
+    {
+        if self.is_stopped() {
+            return (0, Err(Halt::Halted));
+        }
+        let (count, done) = calls::advance(&mut self.kernel, most, console);
+        self.failed = is_failure(&done);
+        (count, done)
     }
 }

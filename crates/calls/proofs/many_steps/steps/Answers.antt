@@ -1,33 +1,52 @@
-use Rattle.std.proofs.Common.{arith}
+use Rattle.std.proofs.Common.{arith, ◌+◌, ◌-◌}
 use Rattle.std.proofs.lemmas.Result.{err_from_is_err_and}
 use Rattle.calls.proofs.Runs.{Rises-later}
-use Rattle.calls.proofs.Pieces.{stops-rest, went-all, went-none, went-trans, went-up}
+use Rattle.calls.proofs.Pieces.{came, stops-rest, went-all, went-idle, went-none, went-trans, went-up}
 use Rattle.calls.proofs.many_steps.steps.Goals as goal
 
 pub loop-done-init : goal.loop-done-init
 loop-done-init g c = record { within = omega arith; went = went-none c.args.kernel.now _ c.requires.goes c.requires.up; later = omega arith }
 
-pub piece-requires : goal.piece-requires
-piece-requires g c = let t = c.loop-done-test.true in record { goes = went-up c.loop-done.invariant.went; up = c.loop-done.invariant.went.served.up; some = omega (arith, t) }
+pub advance-more-requires : goal.advance-more-requires
+advance-more-requires g c = let t = c.loop-done-test.true in record { goes = went-up c.loop-done.invariant.went; up = c.loop-done.invariant.went.served.up; some = omega (arith, t) }
 
-pub returns-in_err-done : goal.returns-in_err-done
-returns-in_err-done g c =
+pub returns-in_err-ended : goal.returns-in_err-ended
+returns-in_err-ended g c =
     let p = err_from_is_err_and c.from_residual.result c.from_residual.ensures.1 in
     let before = c.loop-done.invariant in
-    let later = c.piece.ensures.later in
-    let all = stops-rest _ _ _ c.loop-done.done c.args.count _ _ _ _ _ _ c.requires.goes before.within before.went (λ r. Rises-later _ _ _ before.later r later) c.in_err-done.ensures.does in
+    let few = c.advance-more.ensures.does.within in
+    let within = before.within in
+    let later = c.advance-more.ensures.later in
+    let all = stops-rest _ _ _ c.loop-done.done c.advance-more.result.0 c.args.count _ _ _ _ _ _ c.requires.goes (omega (arith, within, few)) before.went (λ r. Rises-later _ _ _ before.later r later) (came c.advance-more.ensures.does _ c.in_err-ended.was) in
     rw (p.1, p.2) (record { does = all.0; tree = all.1; later = let l = before.later in omega (arith, l, later) })
+
+pub returns-then-more-eq0 : goal.returns-then-more-eq0
+returns-then-more-eq0 g c =
+    let old = c.args.kernel.now in
+    let new = c.advance-more.new.kernel in
+    let before = c.loop-done.invariant in
+    let done = c.loop-done.done + c.advance-more.result.0 in
+    let rest = c.args.count - done in
+    let few = c.advance-more.ensures.does.within in
+    let within = before.within in
+    let goes = came c.advance-more.ensures.does _ c.in_ok-ended.was in
+    let went = went-trans _ _ _ c.loop-done.done c.advance-more.result.0 _ _ _ c.requires.goes before.went goes.0 in
+    let all = went-trans old new new done rest _ _ _ c.requires.goes went (went-idle new rest _ (went-up went) went.served.up (goes.1 c.if-more-eq0.true)) in
+    record {
+      does = went-all old new (done + rest) c.args.count _ _ (Unit {0}) tt (omega (arith, within, few)) (omega arith) all;
+      tree = went.served;
+      later = let l = before.later in let m = c.advance-more.ensures.later in omega (arith, l, m);
+    }
 
 pub loop-done-preserved : goal.loop-done-preserved
 loop-done-preserved g c =
     let before = c.loop-done.invariant in
     let within = before.within in
-    let d = c.in_ok-done.ensures.does in
-    let few = d.1 in
+    let few = c.advance-more.ensures.does.within in
     record {
       within = omega (arith, within, few);
-      went = went-trans _ _ _ c.loop-done.done c.in_ok-done.field-0 _ _ _ c.requires.goes before.went d.2;
-      later = let l = before.later in let m = c.piece.ensures.later in omega (arith, l, m);
+      went = went-trans _ _ _ c.loop-done.done c.advance-more.result.0 _ _ _ c.requires.goes before.went (came c.advance-more.ensures.does _ c.in_ok-ended.was).0;
+      later = let l = before.later in let m = c.advance-more.ensures.later in omega (arith, l, m);
     }
 
 pub returns : goal.returns

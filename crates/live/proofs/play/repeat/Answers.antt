@@ -2,7 +2,7 @@ use Rattle.std.proofs.Common.{arith}
 use Rattle.std.proofs.lemmas.Result.{err_from_is_err_and}
 use Rattle.machine.proofs.RunLemmas.{Rises-later, so_far_at_first, up_now}
 use Rattle.live.proofs.EventLemmas.{batch-next, batch-whole}
-use Rattle.live.proofs.PlayLemmas.{ends_with, goes_on_by, so-far-kept, stops_in}
+use Rattle.machine.proofs.RunsOn.{ends_with, goes_on_by, so-far-kept, stops_in}
 use Rattle.live.proofs.play.repeat.Goals as goal
 
 pub loop-made-init : goal.loop-made-init

@@ -1,24 +1,26 @@
-use Rattle.std.proofs.Common.{refl, sym, ◌∙◌}
-use Rattle.live.proofs.SessionLemmas.{ends-full, ends-halted, ends-idle, working-begins, works-on}
+use Rattle.std.proofs.Common.{sym, ◌∙◌, ◌≡◌}
+use Rattle.std.specs.Prelude.{OnOk}
+use Rattle.live.proofs.SessionLemmas.{ends-by, ends-full, ok-of, on-all, on-err, working-begins, works-on}
+use Rattle.live.proofs.session.work.Goals.{then-more-eq0-via-else-more-eq0+then-is_err, then-more-eq0-via-then-more-eq0}
 use Rattle.live.proofs.session.work.Goals as goal
 
 pub loop-done-init : goal.loop-done-init
 loop-done-init g c = working-begins _ _ _ _ c.requires
 
 pub loop-done-preserved : goal.loop-done-preserved
-loop-done-preserved g c = works-on c.loop-done.invariant c.loop-done-test.true (sym c.is_idle.ensures ∙ c.if-is_idle.false) c.step.ensures.later c.in-Ok.ensures.gives.1
+loop-done-preserved g c = works-on c.loop-done.invariant c.advance-more.ensures.piece _ _ c.advance-more.ensures.later c.advance-more.ensures.gives tt (ok-of c.advance-more.result.1 (sym c.is_err.ensures.value ∙ c.if-is_err.false))
 
-pub returns-then-is_idle : goal.returns-then-is_idle
-returns-then-is_idle g c =
-    let w = ends-idle c.loop-done.invariant (sym c.is_idle.ensures ∙ c.if-is_idle.true) in
-    record { gives = w.gives; count = w.within; all = w.all; later = w.later }
-
-pub returns-in-Err : goal.returns-in-Err
-returns-in-Err g c =
-    let w = ends-halted c.loop-done.invariant c.loop-done-test.true (sym c.is_idle.ensures ∙ c.if-is_idle.false) c.step.ensures.later c.in-Err.halt _ refl c.in-Err.ensures.gives in
+pub returns-then-more-eq0 : goal.returns-then-more-eq0
+returns-then-more-eq0 g c =
+    let r = c.advance-more.result.1 in
+    let none : OnOk r (c.advance-more.result.0 ≡ 0) = elim c.then-more-eq0.branch [
+      | then-more-eq0-via-then-more-eq0 w ↦ on-all _ r w.if-more-eq0.true
+      | then-more-eq0-via-else-more-eq0+then-is_err w ↦ on-err _ r (sym w.is_err.ensures.value ∙ w.if-is_err.true)
+    ] in
+    let w = ends-by c.loop-done.invariant c.advance-more.ensures.piece _ _ c.advance-more.ensures.later c.advance-more.ensures.gives none in
     record { gives = w.gives; count = w.within; all = w.all; later = w.later }
 
 pub returns : goal.returns
 returns g c =
-    let w = ends-full c.loop-done.invariant _ refl c.loop-done-test.false in
+    let w = ends-full c.loop-done.invariant c.loop-done-test.false in
     record { gives = w.gives; count = w.within; all = w.all; later = w.later }

@@ -1,37 +1,43 @@
 use Rattle.std.proofs.Common.{arith, sym, ◌∙◌, ◌≡◌}
+use Rattle.std.specs.Prelude.{OnOk}
 use Rattle.machine.proofs.RunLemmas.{Rises-later, so_far_at_first}
-use Rattle.session.proofs.Repeating.{busy-at-first, busy-more, ends, halts-at, steps-more}
+use Rattle.session.proofs.Repeating.{busy-at-first, busy-on, ends, ends-by, ok-of, on-all, on-err, steps-on}
+use Rattle.session.proofs.play.advance.Goals.{then-more-eq0-via-else-more-eq0+then-is_err, then-more-eq0-via-then-more-eq0}
 use Rattle.session.proofs.play.advance.Goals as goal
 
-pub loop-made-init : goal.loop-made-init
-loop-made-init g c = record {
+pub loop-steps-init : goal.loop-steps-init
+loop-steps-init g c = record {
   so_far = so_far_at_first _ _ c.requires;
   busy = busy-at-first c.args.machine.now;
+  within = omega arith;
   later = omega arith;
 }
 
-pub returns-then-is_idle-clause-advances : goal.returns-then-is_idle-clause-advances
-returns-then-is_idle-clause-advances g c =
-    let before = c.loop-made.invariant in
-    ends _ _ c.args.most c.loop-made.made _ _ _ before.so_far before.busy c.loop-made.auto.made-end (λ less. sym c.is_idle.ensures ∙ c.if-is_idle.true)
-
-pub returns-in-Err-clause-advances : goal.returns-in-Err-clause-advances
-returns-in-Err-clause-advances g c =
-    let before = c.loop-made.invariant in
-    halts-at _ _ _ c.args.most c.loop-made.made _ _ _ _ _ c.in-Err.halt before.so_far before.busy c.loop-made-test.true (sym c.is_idle.ensures ∙ c.if-is_idle.false)
-    (λ r. Rises-later _ _ _ before.later r c.step.ensures.later) c.in-Err.ensures.gives
-
-pub loop-made-preserved : goal.loop-made-preserved
-loop-made-preserved g c =
-    let before = c.loop-made.invariant in
+pub loop-steps-preserved : goal.loop-steps-preserved
+loop-steps-preserved g c =
+    let before = c.loop-steps.invariant in
+    let e = c.advance-more.ensures in
+    let few = e.piece.within in
+    let within = before.within in
     record {
-      so_far = steps-more _ _ _ c.loop-made.made _ _ _ before.so_far c.in_default.ensures.gives.1;
-      busy = busy-more _ _ c.loop-made.made _ _ before.so_far (sym c.is_idle.ensures ∙ c.if-is_idle.false) before.busy;
-      later = let l = before.later in let m = c.step.ensures.later in omega arith;
+      so_far = steps-on _ _ _ c.args.most c.loop-steps.steps c.advance-more.result.0 _ _ _ before.so_far _ _ tt c.advance-more.result.1 (ok-of c.advance-more.result.1 (sym c.is_err.ensures.value ∙ c.if-is_err.false)) (λ r. Rises-later _ _ _ before.later r e.later) e.gives;
+      busy = busy-on _ _ c.advance-more.new.self c.args.most c.loop-steps.steps c.advance-more.result.0 _ _ (g.W.Out.contents c.advance-more.new.console) before.so_far before.busy e.piece.busy;
+      within = omega (arith, few, within);
+      later = let l = before.later in let m = e.later in omega (arith, l, m);
     }
+
+pub returns-then-more-eq0-clause-advances : goal.returns-then-more-eq0-clause-advances
+returns-then-more-eq0-clause-advances g c =
+    let r = c.advance-more.result.1 in
+    let before = c.loop-steps.invariant in
+    let e = c.advance-more.ensures in
+    let none : OnOk r (c.advance-more.result.0 ≡ 0) = elim c.then-more-eq0.branch [
+      | then-more-eq0-via-then-more-eq0 w ↦ on-all _ r w.if-more-eq0.true
+      | then-more-eq0-via-else-more-eq0+then-is_err w ↦ on-err _ r (sym w.is_err.ensures.value ∙ w.if-is_err.true)
+    ] in
+    ends-by _ _ _ c.args.most c.loop-steps.steps c.advance-more.result.0 _ _ _ before.so_far _ _ r before.busy before.within (λ r. Rises-later _ _ _ before.later r e.later) e.gives e.piece none
 
 pub returns-clause-advances : goal.returns-clause-advances
 returns-clause-advances g c =
-    let before = c.loop-made.invariant in
-    let all : c.loop-made.made ≡ c.args.most = omega (arith, c.loop-made-test.false, c.loop-made.auto.made-end) in
-    ends _ _ c.args.most c.args.most _ _ _ (rw all at before.so_far) (rw all at before.busy) (omega arith) (λ less. absurd (omega arith))
+    let before = c.loop-steps.invariant in
+    ends _ _ c.args.most c.loop-steps.steps _ _ _ before.so_far before.busy before.within c.loop-steps-test.false

@@ -23,7 +23,7 @@ pub so-far-kept : {first now : View} {es : List Event} {before mid after : Optio
 so-far-kept h keeps = record { began = h.began; done = done-kept h.done keeps }
 
 -- the model's run over both lists
-both : (first now : View) (xs ys : List Event) (before mid : Option (List ℕ))
+pub both : (first now : View) (xs ys : List Event) (before mid : Option (List ℕ))
     → SoFar first now xs before mid
     → run first.state (xs ++ ys) ≡ after_bytes (run first.state xs).bytes (run now.state ys)
 unfolding run

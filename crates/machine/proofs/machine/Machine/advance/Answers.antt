@@ -1,0 +1,20 @@
+use Rattle.machine.proofs.machine.Machine.advance.Goals as goal
+use Rattle.machine.proofs.Steps.{advance-gives}
+
+pub advance-count-requires-clause-goes : goal.advance-count-requires-clause-goes
+advance-count-requires-clause-goes g c = (rw (← c.self.view_is) at (c.is_stopped.ensures.up c.if-is_stopped.false)).goes
+
+pub advance-count-requires-clause-up : goal.advance-count-requires-clause-up
+advance-count-requires-clause-up g c = c.self.invariant (rw (← c.self.view_is) at (c.is_stopped.ensures.up c.if-is_stopped.false)).sound
+
+pub returns-clause-gives : goal.returns-clause-gives
+returns-clause-gives g c =
+    let k = c.self.inside.kernel in
+    let up = rw (← c.self.view_is) at (c.is_stopped.ensures.up c.if-is_stopped.false) in
+    rw (← c.self.view_is, up.sound) (advance-gives k c.advance-count.new.kernel _ c.args.most c.advance-count.result.0 _ _ _ c.advance-count.result.1 up.goes (c.self.invariant up.sound) c.is_failure-self-inside.ensures c.advance-count.ensures.does).0
+
+pub returns-clause-piece : goal.returns-clause-piece
+returns-clause-piece g c =
+    let k = c.self.inside.kernel in
+    let up = rw (← c.self.view_is) at (c.is_stopped.ensures.up c.if-is_stopped.false) in
+    rw (← c.self.view_is, up.sound) (advance-gives k c.advance-count.new.kernel _ c.args.most c.advance-count.result.0 _ _ _ c.advance-count.result.1 up.goes (c.self.invariant up.sound) c.is_failure-self-inside.ensures c.advance-count.ensures.does).1
