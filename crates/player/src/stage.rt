@@ -1,5 +1,5 @@
 //! Gives a machine the events of a play.
-ghost use Rattle.std.specs.Prelude.{◌≤◌};
+ghost use Rattle.std.specs.Prelude.{IfOk, ◌<◌, ◌≤◌};
 ghost use Rattle.std.specs.Io.KnownBytes.{Keeps};
 ghost use Rattle.machine.specs.View.{IsUp};
 ghost use Rattle.player.specs.Played.{PlaysTo, halts};
@@ -21,10 +21,14 @@ const LINE_END: u8 = b'\n';
 /// How many steps there are at most between two times at which the console's bytes are written out.
 const BATCH: u32 = 65536;
 
+/// So many steps at least go in one loop: to enter it costs as much as a few steps.
+const LOOP: u32 = 8;
+
 /// A record of what a machine is given.
 pub trait Record {
-    ghost use Rattle.std.specs.Prelude.{[], List, Option, option_map, ◌++◌, ◌∷◌, ◌≡◌};
+    ghost use Rattle.std.specs.Prelude.{[], List, Option, option_map, replicate, ◌++◌, ◌∷◌, ◌≡◌};
     ghost use Rattle.unixmodel.specs.declared.event.Event.{Event};
+    ghost use Rattle.unixmodel.specs.declared.event.Event.TheVariants.{Step};
 
     /// The events that are recorded, where they are known.
     ghost kept: { Self → Option (List Event) };
@@ -32,6 +36,10 @@ pub trait Record {
     /// Records this event behind the others.
     fn note(&mut self, event: Event)
         ensures { kept self.new ≡ option_map (λ events. events ++ event ∷ []) (kept self.old) };
+
+    /// Records so many steps behind the others.
+    fn note_steps(&mut self, count: u32)
+        ensures { kept self.new ≡ option_map (λ events. events ++ replicate count Step) (kept self.old) };
 }
 
 /// What was waited for did not come.
@@ -129,6 +137,55 @@ fn pace<D: BlockDev, T: Translate + Drop, R: Record, V: Watch, W: Write>(
     tick_if(machine, clock.strikes(), keeper, watch, out)
 }
 
+// The first of so many steps behind none of which the clock strikes, and at none of which anybody looks on: as many as are done in
+// one go, and all where no process runs and none is ready; and how many they were.
+fn stride<D: BlockDev, T: Translate + Drop, R: Record, W: Write>(
+    machine: &mut Machine<D, T>,
+    most: u32,
+    keeper: &mut R,
+    out: &mut Tail<W>,
+) -> Result<u32, Halt>
+    requires up { IsUp machine.old }
+    requires some { 0 < most }
+    ensures plays { PlaysTo W.contents R.kept machine.old machine.new out.old.out out.new.out keeper.old keeper.new (halts result) }
+    ensures within { IfOk result (λ made. (0 < made) × (made ≤ most)) }
+{
+    let (made, ended) = machine.advance(most, out);
+    keeper.note_steps(made);
+    ended?;
+    if made > 0 {
+        return Ok(made);
+    }
+    keeper.note_steps(most);
+    machine.steps(most, out)?;
+    Ok(most)
+}
+
+// The first of so many steps, with a tick where the clock strikes behind it; and how many they were. Where nobody looks on at each
+// step they are as many as are done in one go.
+fn go_on<D: BlockDev, T: Translate + Drop, R: Record, V: Watch, W: Write>(
+    machine: &mut Machine<D, T>,
+    most: u32,
+    clock: &mut Clock,
+    keeper: &mut R,
+    watch: &mut V,
+    out: &mut Tail<W>,
+) -> Result<u32, Halt>
+    requires up { IsUp machine.old }
+    requires some { 0 < most }
+    ensures plays { PlaysTo W.contents R.kept machine.old machine.new out.old.out out.new.out keeper.old keeper.new (halts result) }
+    ensures within { IfOk result (λ made. (0 < made) × (made ≤ most)) }
+{
+    let quiet = clock.quiet_steps().min(most);
+    if quiet < LOOP || watch.sees_steps() {
+        pace(machine, clock, keeper, watch, out)?;
+        return Ok(1);
+    }
+    let made = stride(machine, quiet, keeper, out)?;
+    clock.pass(made);
+    Ok(made)
+}
+
 // Whether that has come for which a play waits. A halt ends the play before.
 fn is_reached<D: BlockDev, T: Translate + Drop, W: Write>(
     machine: &Machine<D, T>,
@@ -166,13 +223,15 @@ fn walk<D: BlockDev, T: Translate + Drop, R: Record, V: Watch, W: Write>(
     requires { IsUp machine.old }
     ensures { PlaysTo W.contents R.kept machine.old machine.new out.old.out out.new.out keeper.old keeper.new (halts result) }
 {
-    for made in 0..most {
+    let mut made = 0;
+    while made < most {
         if is_reached(machine, goal, out) {
             watch.repeated(Event::Step, made);
             return Ok(true);
         }
         write_out_at(made, watch, out);
-        pace(machine, clock, keeper, watch, out)?;
+        let batch = (BATCH - made % BATCH).min(most - made);
+        made += go_on(machine, batch, clock, keeper, watch, out)?;
     }
     watch.repeated(Event::Step, most);
     Ok(is_reached(machine, goal, out))

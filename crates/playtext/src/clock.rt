@@ -38,6 +38,22 @@ impl Clock {
         }
     }
 
+    /// So many steps more it surely doesn't strike.
+    pub fn quiet_steps(&self) -> u32 {
+        match self {
+            Clock::Off => u32::MAX,
+            Clock::Every { left, .. } => left.saturating_sub(1),
+            Clock::Random { .. } => 0,
+        }
+    }
+
+    /// Counts so many steps, behind none of which it strikes.
+    pub fn pass(&mut self, count: u32) {
+        if let Clock::Every { left, .. } = self {
+            *left = left.saturating_sub(count);
+        }
+    }
+
     /// Counts a step, and tells whether the clock strikes behind it.
     pub fn strikes(&mut self) -> bool {
         match *self {

@@ -56,6 +56,17 @@ impl Line {
         }
     }
 
+    // Takes so many steps, where they all fit into the line; and whether they did.
+    fn takes_steps(&mut self, more: u32) -> bool {
+        match self {
+            Line::Steps(count) if more <= MOST_EVENTS.saturating_sub(*count) => {
+                *count += more;
+                true
+            }
+            _ => false,
+        }
+    }
+
     // Writes the line.
     fn write(&self, lines: &mut String) -> Result<(), AllocError> {
         match self {
@@ -102,6 +113,14 @@ impl<'a, 'b, H: Host> Scribe<'a, 'b, H> {
         self.line = line;
     }
 
+    // Ends the line, and begins another; the lines that wait are written where they are many.
+    fn go_on(&mut self, line: Line) {
+        self.begin(line);
+        if self.lines.len() > MOST_WAITING {
+            self.write_out();
+        }
+    }
+
     // Writes the lines that wait.
     fn write_out(&mut self) {
         let Some(name) = self.script else {
@@ -141,9 +160,14 @@ impl<H: Host> Record for Scribe<'_, '_, H> {
         if self.script.is_none() || self.failure.is_some() || self.line.takes(event) {
             return;
         }
-        self.begin(Line::new(event));
-        if self.lines.len() > MOST_WAITING {
-            self.write_out();
+        self.go_on(Line::new(event));
+    }
+
+    fn note_steps(&mut self, count: u32) {
+        let is_kept = self.script.is_some() && self.failure.is_none() && count > 0;
+        if !is_kept || self.line.takes_steps(count) {
+            return;
         }
+        self.go_on(Line::Steps(count));
     }
 }
