@@ -224,19 +224,6 @@ module _ {most : ℕ} {first now : View} {done : ℕ} {before mid : Option (List
         later = let l = h.later in omega (arith, l, le);
       }
 
--- what a result that is tested is
-pub ok-of : (r : Result (Unit {0}) Halt) → is_err r ≡ false → r ≡ Ok tt
-ok-of (Ok u) good = refl
-ok-of (Err why) good = absurd (cc)
-
-pub on-err : (P : Type 0) (r : Result (Unit {0}) Halt) → is_err r ≡ true → OnOk r P
-on-err P (Ok u) bad = absurd (cc)
-on-err P (Err why) bad = tt
-
-pub on-all : (P : Type 0) (r : Result (Unit {0}) Halt) → P → OnOk r P
-on-all P (Ok u) p = p
-on-all P (Err why) p = tt
-
 -- so many steps are a beginning of those that there are
 some-steps : (count n : ℕ) → count ≤ n → replicate count Step ++ drop count (replicate n Step) ≡ replicate n Step
 some-steps count n within = ap (λ xs. xs ++ drop count (replicate n Step)) (sym (take-replicate count n Step within)) ∙ take-append-drop count (replicate n Step)

@@ -1,9 +1,11 @@
 -- How a run over some events goes on over others.
-use Rattle.std.proofs.Common.{◌≡◌, ◌∙◌, ℕ, ℤ, ◌+◌, List, ◌++◌, take, length, Option, Some, None, Result, Ok, Err, ap, sym, arith, append_assoc, append-nil, length-append, refl, []}
+use Rattle.std.proofs.Common.{true, false, ◌≡◌, ◌∙◌, ℕ, ℤ, ◌+◌, List, ◌++◌, take, length, Option, Some, None, Result, Ok, Err, ap, sym, arith, append_assoc, append-nil, length-append, refl, []}
 use Rattle.std.proofs.KnownBytes.{Appends-kept}
 use Rattle.std.proofs.Math.Seq.{take-append-add}
 use Rattle.std.proofs.lemmas.List.{take-append-le}
 use Rattle.std.specs.Io.KnownBytes.{Keeps}
+use Rattle.std.specs.Prelude.{OnOk}
+use Rattle.std.specs.Result.{is_err}
 use Rattle.calls.proofs.Runs.{run-append, then_runs}
 use Rattle.machine.proofs.RunLemmas.{Appends-trans, Rises-later, SoFar, up_now}
 use Rattle.calls.specs.declared.halt.Halt.{Halt}
@@ -162,3 +164,16 @@ runs_on first now new xs ys before mid after step_rises rises (Ok u) h r k =
     (d.began, d.done)
 runs_on first now new xs ys before mid after step_rises rises (Err halt) h r k =
     stops_in first now new xs ys before mid after step_rises rises halt h r k
+
+-- what a result that is tested is
+pub ok-of : (r : Result (Unit {0}) Halt) → is_err r ≡ false → r ≡ Ok tt
+ok-of (Ok u) good = refl
+ok-of (Err why) good = absurd (cc)
+
+pub on-err : (P : Type 0) (r : Result (Unit {0}) Halt) → is_err r ≡ true → OnOk r P
+on-err P (Ok u) bad = absurd (cc)
+on-err P (Err why) bad = tt
+
+pub on-all : (P : Type 0) (r : Result (Unit {0}) Halt) → P → OnOk r P
+on-all P (Ok u) p = p
+on-all P (Err why) p = tt

@@ -1,7 +1,6 @@
 -- The events of a run of steps.
-use Rattle.std.proofs.Common.{Err, List, Ok, None, Option, Result, ap, arith, false, inl, inr, refl, replicate, subst, sym, true, ◌+◌, ◌-◌, ◌<◌, ◌∙◌, ◌≡◌, ◌≤◌, ℕ}
+use Rattle.std.proofs.Common.{Err, List, Ok, None, Option, Result, ap, arith, inl, inr, replicate, subst, sym, true, ◌+◌, ◌-◌, ◌<◌, ◌∙◌, ◌≡◌, ◌≤◌, ℕ}
 use Rattle.std.specs.Prelude.{OnOk}
-use Rattle.std.specs.Result.{is_err}
 use Rattle.std.proofs.lemmas.Bool.{cases_lt}
 use Rattle.std.proofs.lemmas.List.{replicate-append-replicate}
 use Rattle.calls.specs.declared.halt.Halt.{Halt}
@@ -25,19 +24,6 @@ ran_of steps answer = record { steps = steps; answer = answer }
 -- the first steps, and what they make
 abbrev pub SoManySteps : View → View → ℕ → Option (List ℕ) → Option (List ℕ) → Type 0
 SoManySteps first now n before after = SoFar first now (replicate n Step) before after
-
--- what a result that is tested is
-pub ok-of : (r : Result (Unit {0}) Halt) → is_err r ≡ false → r ≡ Ok tt
-ok-of (Ok u) good = refl
-ok-of (Err why) good = absurd (cc)
-
-pub on-err : (P : Type 0) (r : Result (Unit {0}) Halt) → is_err r ≡ true → OnOk r P
-on-err P (Ok u) bad = absurd (cc)
-on-err P (Err why) bad = tt
-
-pub on-all : (P : Type 0) (r : Result (Unit {0}) Halt) → P → OnOk r P
-on-all P (Ok u) p = p
-on-all P (Err why) p = tt
 
 -- ---- nobody is idle before the steps
 
