@@ -27,7 +27,7 @@ use Rattle.names.proofs.Quiet.{changed-same}
 use Rattle.names.specs.Changes.{Changed}
 use Rattle.proc.specs.Places.{Places, changed, with_mode}
 use Rattle.spaces.specs.Spaces.{Spaces, view_at, written}
-use Rattle.transfers.specs.Moved.{IsRead, bytes_of, bytes_read, with_bytes}
+use Rattle.file_transfers.specs.Moved.{IsRead, bytes_of, bytes_read, with_bytes}
 use Rattle.tree.proofs.Storing.{whole-node}
 use Rattle.tree.specs.Stored.{FitsPlaces}
 use Rattle.tree.specs.Tree.{FileTree, Serves}

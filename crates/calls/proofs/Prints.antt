@@ -5,7 +5,7 @@ use Rattle.std.proofs.lemmas.List.{length-drop, take-append-drop, take-take}
 use Rattle.console.specs.Output.{AppendsBeginning}
 use Rattle.kernel.specs.Kernel.{Kernel}
 use Rattle.calls.specs.Transfers.{IsFront}
-use Rattle.transfers.proofs.Memory.{readable-count}
+use Rattle.file_transfers.proofs.Memory.{readable-count}
 use Rattle.spaces.specs.Spaces.{view_at}
 use Rattle.unixmodel.specs.declared.trap.Access.TheVariants.{Load}
 use Rattle.unixmodel.specs.Memory.{Memory, reach, read_bytes}

@@ -37,7 +37,7 @@ use Rattle.unixmodel.specs.Process as unix
 use Rattle.unixmodel.specs.OpenFiles.{OpenFile}
 use Rattle.unixmodel.specs.State.{State, put_process}
 use Rattle.vm.specs.Reach.{IsSized}
-use Rattle.transfers.proofs.Memory.{reach-written, rest-writes}
+use Rattle.file_transfers.proofs.Memory.{reach-written, rest-writes}
 use Rattle.vm.proofs.ReachLemmas.{reach-page}
 
 -- ---- what a read takes

@@ -11,7 +11,7 @@ use Rattle.calls.proofs.Acts.{Here, goes-done, goes-waits, going}
 use Rattle.kernel.proofs.Opens.{waits-writing}
 use Rattle.calls.proofs.Transfers.{file, file-named, going-is, held-here, here, transfer-stands}
 use Rattle.calls.proofs.Writes.{length-read}
-use Rattle.transfers.proofs.Memory.{readable-count}
+use Rattle.file_transfers.proofs.Memory.{readable-count}
 use Rattle.files.specs.declared.file.End.TheVariants as end
 use Rattle.files.specs.declared.file.Target.TheVariants as target
 use Rattle.files.specs.Places.{has_end, opens_of}

@@ -28,8 +28,8 @@ use Rattle.names.specs.Changes.{Changed}
 use Rattle.proc.specs.Places.{Places, changed, with_mode}
 use Rattle.spaces.proofs.SpacesLemmas.{some-pipe}
 use Rattle.spaces.specs.Spaces.{SpaceView, Spaces, view_at}
-use Rattle.transfers.proofs.Fits.{greatest-low}
-use Rattle.transfers.specs.Moved.{bytes_given}
+use Rattle.file_transfers.proofs.Fits.{greatest-low}
+use Rattle.file_transfers.specs.Moved.{bytes_given}
 use Rattle.tree.proofs.Keeping.{written-changed}
 use Rattle.tree.specs.Tree.{FileTree, Serves}
 use Rattle.tree.specs.Whole.{IsWhole}

@@ -18,17 +18,17 @@ ghost use Rattle.unixmodel.specs.Memory.{reach, read_bytes};
 ghost use Rattle.unixmodel.specs.Outcome.{minus_one};
 ghost use Rattle.unixmodel.specs.declared.trap.Access.TheVariants.{Load};
 ghost use Rattle.vm.specs.Reach.{piece_at};
-ghost use Rattle.transfers.specs.Moved.{bytes_given};
+ghost use Rattle.file_transfers.specs.Moved.{bytes_given};
 
 use crate::halt::Halt;
 use crate::outcome::{Came, REFUSED, pending};
 use blockdev::{BlockDev, DeviceFault};
 use console::{Out, OutFault, ROOM};
+use file_transfers::{read_node, write_node};
 use files::{End, Target};
 use kernel::numbers::{low, natural};
 use kernel::{Channel, Kernel, stop, wakeup};
 use sv39::Translate;
-use transfers::{read_node, write_node};
 use unixmodel::call::Call;
 use unixmodel::process::Pending;
 

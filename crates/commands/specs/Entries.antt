@@ -1,7 +1,7 @@
 -- The entry of a manifest that a line asks for.
 use Rattle.std.specs.Prelude.{◌≡◌}
-use Rattle.texts.specs.declared.manifest.Line.{Line}
-use Rattle.texts.specs.declared.manifest.Line.TheVariants as line
+use Rattle.scripts.specs.declared.manifest.Line.{Line}
+use Rattle.scripts.specs.declared.manifest.Line.TheVariants as line
 use Rattle.imagemake.specs.declared.manifest.Entry.{Entry}
 use Rattle.imagemake.specs.declared.manifest.Thing.{Thing}
 use Rattle.imagemake.specs.declared.manifest.Thing.TheVariants as thing

@@ -20,10 +20,10 @@ use crate::perform::telling::{Both, Teller, looks_on, status_of, tell_kept};
 use crate::report::{End, Failure, print, tell};
 use commandline::{Flat, Job, Mkfs, Run, Telling};
 use image::Summary;
+use scripts::{Command, TextFault, parse};
 use std::alloc::Global;
 use std::fmt;
 use std::io::Write;
-use texts::{Command, TextFault, parse};
 
 // Why a file is not read or written: where memory was refused, that is told in place of the file.
 fn refused<'a, H: Host>(host: &H, failure: Failure<'a>) -> Failure<'a> {

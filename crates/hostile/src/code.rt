@@ -8,7 +8,7 @@ use std::alloc::Global;
 use std::cell::Cell;
 use std::io::sink;
 use sv39::{Plain, Recent, Tlb, Translate};
-use translators::{Counting, MOST_PAGES, Noting};
+use test_translators::{Counting, MOST_PAGES, Noting};
 use unixmodel::event::Event;
 
 const FRAMES: u32 = 128;

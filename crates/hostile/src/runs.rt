@@ -5,7 +5,7 @@ use machine::{Halt, Machine, boot_flat_with};
 use std::alloc::Global;
 use std::cell::Cell;
 use sv39::{Plain, Recent, Tlb, Translate};
-use translators::{Counting, MOST_PAGES, Noting};
+use test_translators::{Counting, MOST_PAGES, Noting};
 use unixmodel::event::Event;
 
 const FRAMES: u32 = 256;

@@ -8,7 +8,7 @@ use spaces::Spaces;
 use std::cell::Cell;
 use std::process::Abort;
 use sv39::{Plain, Translate};
-use translators::Counting;
+use test_translators::Counting;
 use unixmodel::trap::{Access, Cause, Trap};
 use vm::Perm;
 

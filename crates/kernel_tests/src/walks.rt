@@ -7,7 +7,7 @@ use sv39::{
     Access, BASE, EntryBits, Plain, Pte, Recent, Tlb, Translate, Turn, walk, walk_counted,
     walk_page,
 };
-use translators::Noting;
+use test_translators::Noting;
 
 // Addresses, accesses, and the places that these have in memory.
 const ADDRESSES: [(u64, Access, Option<u64>); 10] = [

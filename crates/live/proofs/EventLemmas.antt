@@ -4,7 +4,7 @@ use Rattle.std.proofs.lemmas.List.{get_or-map, get_or-replicate, length-map, len
 use Rattle.unixmodel.specs.declared.event.Event.{Event}
 use Rattle.unixmodel.specs.declared.event.Event.TheVariants.{Key}
 use Rattle.live.specs.Plays.{events_of, script_events}
-use Rattle.texts.specs.declared.script.lines.Command.{Command}
+use Rattle.scripts.specs.declared.script.lines.Command.{Command}
 
 pub script_events-append : (xs ys : List Command) → script_events (xs ++ ys) ≡ script_events xs ++ script_events ys
 script_events-append [] ys = refl

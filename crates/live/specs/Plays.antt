@@ -7,8 +7,8 @@ use Rattle.machine.specs.View.{View}
 use Rattle.unixmodel.specs.Failures.{Rises}
 use Rattle.unixmodel.specs.declared.event.Event.{Event}
 use Rattle.unixmodel.specs.declared.event.Event.TheVariants.{Key, Step, Tick}
-use Rattle.texts.specs.declared.script.lines.Command.{Command}
-use Rattle.texts.specs.declared.script.lines.Command.TheVariants as command
+use Rattle.scripts.specs.declared.script.lines.Command.{Command}
+use Rattle.scripts.specs.declared.script.lines.Command.TheVariants as command
 
 -- a typed line ends with the key 0x0a
 abbrev pub events_of : Command → List Event

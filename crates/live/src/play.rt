@@ -11,9 +11,9 @@ use crate::watch::Watch;
 use blockdev::BlockDev;
 use console::{Out, Writer};
 use machine::{Halt, Machine};
+use scripts::Command;
 use std::io::Write;
 use sv39::Translate;
-use texts::Command;
 use unixmodel::event::Event;
 
 /// The key that ends a typed line.

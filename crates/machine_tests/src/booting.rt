@@ -10,7 +10,7 @@ use ram::{FRAME_SIZE, FrameNo, Ram};
 use std::alloc::Global;
 use std::num::NonZeroU64;
 use sv39::{Plain, Tlb, Translate};
-use translators::{MOST_PAGES, Noting};
+use test_translators::{MOST_PAGES, Noting};
 use unixmodel::event::Event;
 
 const INIT: &[u8; 5] = b"/init";

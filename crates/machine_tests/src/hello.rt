@@ -12,7 +12,7 @@ use ram::{FrameNo, Ram};
 use std::alloc::Global;
 use std::cell::Cell;
 use sv39::{Plain, Recent, Tlb, Translate};
-use translators::Counting;
+use test_translators::Counting;
 use unixmodel::event::Event;
 use unixmodel::trap::Access;
 

@@ -11,7 +11,7 @@ use std::io;
 use std::io::Write;
 use std::process::Abort;
 use sv39::{Plain, Recent, Tlb, Translate, walk};
-use translators::{Counting, MOST_PAGES, Noting};
+use test_translators::{Counting, MOST_PAGES, Noting};
 use unixmodel::event::Event;
 use unixmodel::trap::Access;
 

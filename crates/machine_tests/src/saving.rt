@@ -8,7 +8,7 @@ use machine::Halt;
 use std::alloc::{AllocError, Global};
 use std::process::Abort;
 use sv39::{Plain, Tlb, Translate};
-use translators::{MOST_PAGES, Noting};
+use test_translators::{MOST_PAGES, Noting};
 
 // What a path names.
 #[derive(Clone, Copy)]

@@ -1,3 +1,7 @@
+pub mod Counted
+pub mod Parents
+pub mod ToRules
+pub mod FromRules
 pub mod Ranges
 pub mod Sounding
 pub mod Holding

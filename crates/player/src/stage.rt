@@ -10,9 +10,9 @@ use console::Out;
 use live::Watch;
 use machine::{Halt, Machine};
 use playtext::{Act, Clock, Deed, Goal, Place, Play};
+use scripts::Command;
 use std::io::Write;
 use sv39::Translate;
-use texts::Command;
 use unixmodel::event::Event;
 
 /// The key that ends a typed line.

@@ -2,7 +2,7 @@
 
 use crate::clock::Clock;
 use arrayvec::ArrayVec;
-use texts::Command;
+use scripts::Command;
 
 /// How many repeats may stand in one another.
 pub const MOST_DEPTH: usize = 8;

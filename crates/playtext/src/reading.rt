@@ -5,8 +5,8 @@ use crate::fault::{Fault, PlayFault, Why};
 use crate::grammar::{Act, Deed, Goal, MOST_DEPTH, Play};
 use crate::words::{Words, shown};
 use arrayvec::ArrayVec;
+use scripts::{Command, bytes_of};
 use std::alloc::{AllocError, Global};
-use texts::{Command, bytes_of};
 
 // The keys that a word writes.
 fn keys<'a>(

@@ -3,7 +3,7 @@
 use crate::fault::{Fault, Why};
 use crate::grammar::MOST_SHOWN;
 use arrayvec::ArrayVec;
-use texts::{count, pair_value};
+use scripts::{count, pair_value};
 
 /// The words of a line that are not read yet. Blanks stand between words, and a word that begins with `#` begins a comment.
 #[derive(Clone, Copy)]

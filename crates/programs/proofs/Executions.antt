@@ -13,7 +13,7 @@ use Rattle.programs.specs.Placed.{paged}
 use Rattle.programs.proofs.Loads.{IsProgram, is-program}
 use Rattle.programs.proofs.Places.{length-write}
 use Rattle.programs.proofs.Serving.{file-kept-on}
-use Rattle.transfers.proofs.Pieces.{space-within}
+use Rattle.file_transfers.proofs.Pieces.{space-within}
 use Rattle.spaces.specs.Spaces.{SpaceView, Spaces, has_space, view_at, taken_frames, with_view}
 use Rattle.spaces.proofs.SpacesLemmas.{held-same}
 use Rattle.tree.specs.Tree.{FileTree, Serves}

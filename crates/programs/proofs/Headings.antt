@@ -16,7 +16,7 @@ use Rattle.elf.proofs.Plans.{header_in-part, headers_by, loaded_by, loads-header
 use Rattle.inode.specs.declared.InodeStat.{InodeStat}
 use Rattle.programs.specs.declared.headers.Program.{Program}
 use Rattle.programs.specs.Headed.{IsRead, end_behind, end_by, file_at, headed, program_in, segment_behind, unless_refused, Tells, TellsProgram, end_of}
-use Rattle.transfers.proofs.Fits.{serves-told}
+use Rattle.file_transfers.proofs.Fits.{serves-told}
 use Rattle.programs.proofs.Serving.{HasRead, HasSeen}
 use Rattle.tree.specs.Telling as telling
 use Rattle.tree.specs.Tree.{FileTree, Serves}

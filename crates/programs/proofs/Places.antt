@@ -1,6 +1,6 @@
 -- The pages of a place, as a program comes into them.
 use Rattle.std.proofs.Common.{ap, append-nil, append_assoc, arith, drop, get_or-set_same, None, Ok, Option, Some, List, slice_set, length, length-append, refl, replicate, subst, sym, take, ℕ, zero, suc, ◌%◌, ◌*◌, ◌++◌, ◌+◌, ◌-◌, ◌/◌, ◌<◌, ◌∙◌, ◌≡◌, ◌≤◌, ◌∷◌, [], Bool, true, false}
-use Rattle.transfers.proofs.Memory.{marks-written}
+use Rattle.file_transfers.proofs.Memory.{marks-written}
 use Rattle.std.specs.Prelude.{Err, OnErr, OnOk, Result, if◌then◌else◌, is_some}
 use Rattle.std.proofs.lemmas.Bool.{lt-ltb}
 use Rattle.std.proofs.lemmas.Bool.Decides.{nat_tests}
@@ -17,8 +17,8 @@ use Rattle.programs.specs.Headed.{file_at}
 use Rattle.programs.specs.Placed.{Follows, HasRoom, IsPaged, Leaves, paged, with_more}
 use Rattle.spaces.specs.Spaces.{SpaceView, Spaces, frames_in, has_space, view_at, taken_frames, with_view, written}
 use Rattle.spaces.proofs.SpacesLemmas.{held-same, taken-placed, within}
-use Rattle.transfers.specs.Moved.{with_bytes}
-use Rattle.transfers.proofs.Pieces.{held-there, none-written, space-within, with-more}
+use Rattle.file_transfers.specs.Moved.{with_bytes}
+use Rattle.file_transfers.proofs.Pieces.{held-there, none-written, space-within, with-more}
 use Rattle.tree.specs.Tree.{FileTree, Serves}
 use Rattle.unixmodel.specs.Counts.{page_frames}
 use Rattle.unixmodel.specs.Files.{slot}

@@ -6,7 +6,7 @@ use Rattle.blockdev.specs.declared.DeviceFault.{DeviceFault}
 use Rattle.blockdev.specs.Splice.{part}
 use Rattle.inode.specs.declared.InodeStat.{InodeStat}
 use Rattle.programs.specs.Placed.{Leaves}
-pub use Rattle.transfers.proofs.Fits.{serves-told}
+pub use Rattle.file_transfers.proofs.Fits.{serves-told}
 use Rattle.tree.specs.Telling.{Tells}
 use Rattle.tree.specs.Tree.{FileTree, Serves}
 use Rattle.tree.specs.Written.{IsFile}

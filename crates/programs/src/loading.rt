@@ -6,7 +6,7 @@ ghost use Rattle.programs.specs.Headed.{file_of, loaded_by, part_of, program_in}
 ghost use Rattle.programs.specs.Passed.{stacked};
 ghost use Rattle.programs.specs.Placed.{Follows, HasRoom, IsPaged, Leaves, Loads, LoadsSegment, LoadsTo, LoadsWithStack, MayLoad, next_in, with_more, with_paged};
 ghost use Rattle.spaces.specs.Spaces.{SpaceView, has_space, view_at, no_pages, with_view};
-ghost use Rattle.transfers.specs.Moved.{with_bytes};
+ghost use Rattle.file_transfers.specs.Moved.{with_bytes};
 ghost use Rattle.tree.specs.Tree.{Serves};
 ghost use Rattle.tree.specs.Written.{IsFile};
 ghost use Rattle.unixmodel.specs.Memory.{zero_page};

@@ -32,7 +32,7 @@ use std::io;
 use std::io::{BufWriter, Write};
 use std::rt::Files;
 use sv39::{Plain, Tlb, Translate};
-use translators::{Counting, Noting};
+use test_translators::{Counting, Noting};
 
 /// The programs: each is assembled from the text of this name with `.s` behind it.
 const PROGRAMS: [&str; 11] = [

@@ -7,9 +7,9 @@ use console::Writer;
 use live::Nobody;
 use live::play::play;
 use machine::{Halt, Machine, boot};
+use scripts::{Command, TextFault, parse};
 use std::alloc::{AllocError, Global};
 use sv39::Translate;
-use texts::{Command, TextFault, parse};
 use unixmodel::event::Event;
 
 /// A session that is to be played.

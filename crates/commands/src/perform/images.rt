@@ -16,9 +16,9 @@ use commandline::{Check, Ls, Migrate, Mkfs};
 use image::{Entry, ImageFault, MakeFault, Manifest, MigrateFault, Summary, Thing};
 use layout::{Format, LONGEST, MOST_BLOCKS};
 use listings::{ListingFault, write_directory, write_tree};
+use scripts::{Line, TextFault, parse};
 use std::alloc::{AllocError, Global};
 use std::io::Write;
-use texts::{Line, TextFault, parse};
 
 /// How much of an image is read: a byte more than the longest has.
 const MOST_IMAGE: usize = BLOCK_SIZE * MOST_BLOCKS as usize + 1;

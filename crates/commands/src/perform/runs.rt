@@ -19,10 +19,10 @@ use console::Writer;
 use live::Watch;
 use live::play::play;
 use machine::{BootFault, Halt, Machine, boot, boot_flat_with};
+use scripts::Command;
 use std::alloc::Global;
 use std::io::Write;
 use sv39::{Plain, Recent, Tlb, Translate};
-use texts::Command;
 
 /// How much of a flat program is read: a byte more than the largest memory has, so that what is cut off can't boot either.
 const MOST_PROGRAM: usize = 32768 * 4096 + 1;

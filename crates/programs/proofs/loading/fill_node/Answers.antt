@@ -1,7 +1,7 @@
 use Rattle.std.proofs.Common.{ap, length, rules, take, ◌∙◌}
 use Rattle.programs.proofs.Places.{filled-inside, filled-more, has-held, none-filled}
 use Rattle.programs.proofs.Serving.{err-done, err-left, file-kept-on, kept-on, lost-later}
-use Rattle.transfers.proofs.Pieces.{size-fits, size-whole}
+use Rattle.file_transfers.proofs.Pieces.{size-fits, size-whole}
 use Rattle.tree.specs.Tree.{FileTree}
 use Rattle.programs.proofs.loading.fill_node.Goals as goal
 

@@ -1,0 +1,103 @@
+//! From a node to the memory of a process.
+
+ghost use Rattle.std.specs.Prelude.{◌≡◌, OnErr, OnOk, Some, false, length, true};
+ghost use Rattle.spaces.specs.Spaces.{has_space, view_at};
+ghost use Rattle.file_transfers.specs.Moved.{IsRead, ReadsSome, with_read};
+ghost use Rattle.tree.specs.Tree.{Serves};
+ghost use Rattle.unixmodel.specs.Files.{Node, slot};
+ghost use Rattle.unixmodel.specs.Memory.{can_write};
+
+use blockdev::{BLOCK_SIZE, BlockDev, DeviceFault};
+use spaces::Spaces;
+use sv39::Translate;
+use tree::Tree;
+
+// A read of so many bytes at the most takes a buffer of that size: one of a block costs more than the read.
+const SHORT: usize = 64;
+
+// Reads as many bytes as fit in a buffer, and puts them into the memory of a place.
+fn read_piece<D: BlockDev, T: Translate + Drop>(
+    tree: &mut Tree<D>,
+    spaces: &mut Spaces<T>,
+    at: usize,
+    number: usize,
+    offset: usize,
+    address: u64,
+    buffer: &mut [u8],
+) -> Result<usize, DeviceFault>
+    requires up { tree.old.failed ≡ false }
+    requires node { (node : Node) × (slot tree.old.files number ≡ Some node) }
+    requires space { has_space spaces.old at ≡ true }
+    requires writable { can_write (view_at spaces.old at).memory address (length buffer.old) ≡ true }
+    ensures serves { Serves tree.old tree.new result (IsRead tree.old tree.new number offset (length buffer.old)) }
+    ensures written { OnOk result (spaces.new ≡ with_read spaces.old at address tree.old.files number offset (length buffer.old)) }
+    ensures failed { OnErr result (spaces.new ≡ spaces.old) }
+{
+    spaces.pages_are_whole(at);
+    let count = tree.read(number, offset, buffer)?;
+    spaces.fill(at, address, &buffer[..count]);
+    Ok(count)
+}
+
+/// Reads bytes of a node from the place `offset` on into the memory of a place from `address` on, at most `count` of them,
+/// and tells how many. Where the device fails the first of them may have come.
+pub fn read_node<D: BlockDev, T: Translate + Drop>(
+    tree: &mut Tree<D>,
+    spaces: &mut Spaces<T>,
+    at: usize,
+    number: usize,
+    offset: u32,
+    address: u64,
+    count: u64,
+) -> Result<u64, DeviceFault>
+    requires up { tree.old.failed ≡ false }
+    requires node { (node : Node) × (slot tree.old.files number ≡ Some node) }
+    requires space { has_space spaces.old at ≡ true }
+    requires writable { can_write (view_at spaces.old at).memory address count ≡ true }
+    ensures serves { Serves tree.old tree.new result (IsRead tree.old tree.new number offset count) }
+    ensures written { OnOk result (spaces.new ≡ with_read spaces.old at address tree.old.files number offset count) }
+    ensures failed { OnErr result (ReadsSome spaces.old spaces.new at address tree.old.files number offset count) }
+{
+    if count > SHORT as u64 {
+        return read_blocks(tree, spaces, at, number, offset, address, count);
+    }
+    let mut buffer = [0; SHORT];
+    let piece = &mut buffer[..count as usize];
+    let got = read_piece(tree, spaces, at, number, offset as usize, address, piece)?;
+    Ok(got as u64)
+}
+
+// The same by way of a buffer of one block. It is out of line: a short read needs no room for the block.
+#[inline(never)]
+fn read_blocks<D: BlockDev, T: Translate + Drop>(
+    tree: &mut Tree<D>,
+    spaces: &mut Spaces<T>,
+    at: usize,
+    number: usize,
+    offset: u32,
+    address: u64,
+    count: u64,
+) -> Result<u64, DeviceFault>
+    requires up { tree.old.failed ≡ false }
+    requires node { (node : Node) × (slot tree.old.files number ≡ Some node) }
+    requires space { has_space spaces.old at ≡ true }
+    requires writable { can_write (view_at spaces.old at).memory address count ≡ true }
+    ensures serves { Serves tree.old tree.new result (IsRead tree.old tree.new number offset count) }
+    ensures written { OnOk result (spaces.new ≡ with_read spaces.old at address tree.old.files number offset count) }
+    ensures failed { OnErr result (ReadsSome spaces.old spaces.new at address tree.old.files number offset count) }
+{
+    spaces.pages_are_whole(at);
+    let mut buffer = [0; BLOCK_SIZE];
+    let mut done = 0;
+    while done < count {
+        let size = (count - done).min(BLOCK_SIZE as u64) as usize;
+        let from = offset as usize + done as usize;
+        let piece = &mut buffer[..size];
+        let got = read_piece(tree, spaces, at, number, from, address + done, piece)?;
+        done += got as u64;
+        if got < size {
+            return Ok(done);
+        }
+    }
+    Ok(done)
+}

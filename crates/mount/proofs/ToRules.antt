@@ -1,0 +1,108 @@
+-- Files of a running machine whose nodes all have links keep the rules of files at rest.
+use Rattle.std.proofs.Common.{◌≡◌, ◌≢◌, ℕ, zero, suc, ◌+◌, ◌<◌, ◌≤◌, true, false, cond, List, None, Option, Some, inl, inr, get_or, ap, sym, refl, ◌∙◌, arith, subst}
+use Rattle.std.specs.Prelude.{count_by, option_map, unwrap_or, ◌==◌}
+use Rattle.std.proofs.lemmas.Bool.{cases_eq, cond-false, false≢true, ne_eqb}
+use Rattle.unixmodel.specs.Files.{Entry, Files, Node, dot_dot, is_directory, slot}
+use Rattle.unixmodel.specs.Files.Node.{Directory}
+use Rattle.unixmodel.specs.Image.{KeepsNode, KeepsRules, entries_of, is_directory_at, names_of, parent_of, subdirectories}
+use Rattle.imagerules.specs.Places.{EntriesAt, FitsEntries, HasEntries, HasLinks, LinksAt}
+use Rattle.imagecheck.specs.Reach.{Climbs}
+use Rattle.imagecheck.proofs.Reaching.{Climbs-child, IsReached-from, parent_root}
+use Rattle.names.specs.Rules.{IsLive, KeepsLive, KeepsTree, entries, folders, names_by, names_for}
+use Rattle.names.proofs.Naming.{named-used}
+use Rattle.names.proofs.Quiet.{HasLinked}
+use Rattle.names.proofs.Steps.{entry-names}
+use Rattle.mount.proofs.Counted.{good-from, once-from}
+use Rattle.mount.proofs.Parents.{parent-only}
+
+directory-from : (files : Files) (d : ℕ) (o : Option Node) → slot files d ≡ o → (n : ℕ) → 1 ≤ names_by o n → is_directory_at files d ≡ true
+unfolding names_by
+directory-from files d (Some (Directory links places)) at n h = ap (λ o. unwrap_or (option_map is_directory o) false) at
+directory-from files d _ at n h = absurd (omega arith)
+
+-- what names is a directory
+pub naming-directory : (files : Files) (d n : ℕ) → 1 ≤ names_by (slot files d) n → is_directory_at files d ≡ true
+naming-directory files d n h = directory-from files d (slot files d) refl n h
+
+module _ {files : Files} (keeps : KeepsTree files) (linked : HasLinked files) where
+  folders-are : (d links : ℕ) (places : List (Option Entry)) → slot files d ≡ Some (Directory links places) → folders files (entries places) ≡ subdirectories files d
+  unfolding folders subdirectories
+  folders-are d links places here = ap (λ o. count_by (λ (e : Entry). is_directory_at files e.number) (entries_of o)) (sym here)
+
+  module _ (d links : ℕ) (places : List (Option Entry)) (here : slot files d ≡ Some (Directory (suc links) places)) where
+    live : IsLive files d links places
+    live = subst (KeepsLive files d) here (keeps.nodes d)
+
+    named : names_of files d ≡ cond (d == 1) 0 1
+    named = keeps.named d ∙ ap (names_for d) here
+
+    parent-is : live.up ≡ parent_of files d
+    parent-is = elim (cases_eq d 1) [
+      | inl e ↦ live.above.root e ∙ sym (ap (parent_of files) e ∙ parent_root files)
+      | inr s ↦ sym (parent-only files d live.up s (named ∙ cond-false (d == 1) 0 1 (ne_eqb d 1 s)) (live.above.names s))
+    ]
+
+    fits : FitsEntries files d places
+    fits = record {
+      own = live.own;
+      parent = live.parent ∙ ap (λ (p : ℕ). Some (record { name = dot_dot; number = p })) parent-is;
+      names = good-from (entries places) live.good;
+      once = once-from (entries places) live.once;
+      numbers = λ k e l. named-used keeps (get_or (entries places) k e).number (entry-names files d (suc links) places here k e l);
+      named = named;
+    }
+
+    counted : suc links ≡ 1 + subdirectories files d
+    counted = omega (arith, live.counted, folders-are d (suc links) places here)
+
+  entries-fit : (n : ℕ) (o : Option Node) → slot files n ≡ o → EntriesAt files n o
+  entries-fit n (Some (Directory zero places)) here = absurd (let some = linked n (Directory zero places) here in omega arith)
+  entries-fit n (Some (Directory (suc links) places)) here = fits n links places here
+  entries-fit n _ here = tt
+
+  links-fit : (n : ℕ) (o : Option Node) → slot files n ≡ o → LinksAt files n o
+  links-fit n None here = tt
+  links-fit n (Some (Directory zero places)) here = absurd (let some = linked n (Directory zero places) here in omega arith)
+  links-fit n (Some (Directory (suc links) places)) here = counted n links places here
+  links-fit n (Some node) here = (sym (keeps.named n ∙ ap (names_for n) here), linked n node here, subst (KeepsLive files n) here (keeps.nodes n))
+
+  pub HasEntries-live : HasEntries files
+  HasEntries-live n = entries-fit n (slot files n) refl
+
+  pub HasLinks-live : HasLinks files
+  HasLinks-live n = links-fit n (slot files n) refl
+
+  -- ---- a directory climbs to the root: by ranks
+
+  climbs-above : (n : ℕ) (o : Option Node) → slot files n ≡ o → is_directory_at files n ≡ true → n ≢ 1 → ((up : ℕ) → is_directory_at files up ≡ true → keeps.depth up < keeps.depth n → Climbs files up) → Climbs files n
+  climbs-above n (Some (Directory zero places)) here h s next = absurd (let some = linked n (Directory zero places) here in omega arith)
+  climbs-above n (Some (Directory (suc links) places)) here h s next =
+      let up = (live n links places here).up in
+      let names = (live n links places here).above.names s in
+      Climbs-child files n (subst (Climbs files) (parent-is n links places here) (next up (naming-directory files up n names) (keeps.ranked up n names h)))
+  climbs-above n _ here h s next = absurd (false≢true (sym (ap (λ o. unwrap_or (option_map is_directory o) false) here) ∙ h))
+
+  climbs-below : (k n : ℕ) → keeps.depth n < k → is_directory_at files n ≡ true → Climbs files n
+  climbs-below zero n l h = absurd (omega arith)
+  climbs-below (suc k) n l h = elim (cases_eq n 1) [
+    | inl e ↦ record { steps = 0; root = e }
+    | inr s ↦ climbs-above n (slot files n) refl h s (λ up directory less. climbs-below k up (omega arith) directory)
+  ]
+
+  pub Climbs-live : (n : ℕ) → is_directory_at files n ≡ true → Climbs files n
+  Climbs-live n h = climbs-below (suc (keeps.depth n)) n (omega arith) h
+
+  -- ---- the rules
+
+  node-rules : (n : ℕ) (o : Option Node) → EntriesAt files n o → LinksAt files n o → KeepsNode files n o
+  node-rules n None e l = tt
+  node-rules n (Some (Directory links places)) e l = record { own = e.own; parent = e.parent; names = e.names; once = e.once; numbers = e.numbers; named = e.named; counted = l }
+  node-rules n _ e l = record { counted = l.0; least = l.1; most = l.2 }
+
+  pub KeepsRules-live : KeepsRules files
+  KeepsRules-live = record {
+    root = ap (λ o. unwrap_or (option_map is_directory o) false) keeps.root.here;
+    sizes = keeps.sizes;
+    nodes = λ n. node-rules n (slot files n) (HasEntries-live n) (HasLinks-live n);
+    reached = IsReached-from files HasEntries-live HasLinks-live Climbs-live;
+  }

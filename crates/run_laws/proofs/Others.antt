@@ -1,0 +1,97 @@
+-- What a step of the process in one place leaves in the others.
+use Rattle.std.proofs.Common.{◌≡◌, ◌≢◌, ◌∙◌, ℕ, true, Option, Some, None, set, refl, sym, ap, subst}
+use Rattle.std.proofs.lemmas.List.{get_or-set_other}
+use Rattle.unixmodel.specs.Files.{slot}
+use Rattle.unixmodel.specs.Process.{Process, is_zombie}
+use Rattle.unixmodel.specs.State.{State, process_at}
+use Rattle.run_laws.specs.Resting.{Rests}
+
+-- the process of a place stays, as far as others can't change it; and a free place stays free
+abbrev pub IsSame : Option Process → Option Process → Type 0
+IsSame None None = Unit {0}
+IsSame None (Some q) = ⊥
+IsSame (Some p) None = ⊥
+IsSame (Some p) (Some q) = Rests p q
+
+-- or a free place gets a process, or a zombie goes
+abbrev pub IsPassed : Option Process → Option Process → Type 0
+IsPassed None o = Unit {0}
+IsPassed (Some p) None = is_zombie p ≡ true
+IsPassed (Some p) (Some q) = Rests p q
+
+pub rests-then : (p q r : Process) → Rests p q → Rests q r → Rests p r
+rests-then p q r first second = second ∙ ap (λ (x : Process). record x { parent = r.parent; killed = r.killed }) first
+
+zombie-rests : (p q : Process) → Rests p q → is_zombie q ≡ true → is_zombie p ≡ true
+zombie-rests p q rests is = sym (ap is_zombie rests) ∙ is
+
+pub same-refl : (o : Option Process) → IsSame o o
+same-refl None = tt
+same-refl (Some p) = refl
+
+pub passed-refl : (o : Option Process) → IsPassed o o
+passed-refl None = tt
+passed-refl (Some p) = refl
+
+pub same-is : (o u : Option Process) → u ≡ o → IsSame o u
+same-is o u is = subst (IsSame o) (sym is) (same-refl o)
+
+pub passed-is : (o u : Option Process) → u ≡ o → IsPassed o u
+passed-is o u is = subst (IsPassed o) (sym is) (passed-refl o)
+
+pub same-passed : (a b c : Option Process) → IsSame a b → IsPassed b c → IsPassed a c
+same-passed None b c first second = tt
+same-passed (Some p) None c first second = absurd first
+same-passed (Some p) (Some q) None first second = zombie-rests p q first second
+same-passed (Some p) (Some q) (Some r) first second = rests-then p q r first second
+
+pub passed-same : (a b c : Option Process) → IsPassed a b → IsSame b c → IsPassed a c
+passed-same None b c first second = tt
+passed-same (Some p) None None first second = first
+passed-same (Some p) None (Some r) first second = absurd second
+passed-same (Some p) (Some q) None first second = absurd second
+passed-same (Some p) (Some q) (Some r) first second = rests-then p q r first second
+
+-- ---- states
+
+-- a step of the process in place r leaves the other places as they are
+pub record Spares (r : ℕ) (s t : State) : Type 0 where
+  pub last : t.last ≡ s.last
+  pub others : (i : ℕ) → i ≢ r → IsSame (process_at s i) (process_at t i)
+
+-- or fills a free one, or takes a zombie away
+pub record Passes (r : ℕ) (s t : State) : Type 0 where
+  pub last : t.last ≡ s.last
+  pub others : (i : ℕ) → i ≢ r → IsPassed (process_at s i) (process_at t i)
+
+pub spares-passes : (r : ℕ) (s t : State) → Spares r s t → Passes r s t
+spares-passes r s t spares = record {
+  last = spares.last;
+  others = λ i apart. same-passed (process_at s i) (process_at t i) (process_at t i) (spares.others i apart) (passed-refl (process_at t i));
+}
+
+pub spares-then : (r : ℕ) (s t u : State) → Spares r s t → Passes r t u → Passes r s u
+spares-then r s t u first second = record {
+  last = second.last ∙ first.last;
+  others = λ i apart. same-passed (process_at s i) (process_at t i) (process_at u i) (first.others i apart) (second.others i apart);
+}
+
+pub passes-then : (r : ℕ) (s t u : State) → Passes r s t → Spares r t u → Passes r s u
+passes-then r s t u first second = record {
+  last = second.last ∙ first.last;
+  others = λ i apart. passed-same (process_at s i) (process_at t i) (process_at u i) (first.others i apart) (second.others i apart);
+}
+
+-- only its own place is written
+pub spares-own : (r : ℕ) (s t : State) (o : Option Process) → t.places ≡ set s.places r o → t.last ≡ s.last → Spares r s t
+spares-own r s t o places last = record {
+  last = last;
+  others = λ i apart. same-is (process_at s i) (process_at t i) (ap (λ xs. slot xs i) places ∙ get_or-set_other s.places r i o None apart);
+}
+
+-- or none
+pub spares-all : (r : ℕ) (s t : State) → t.places ≡ s.places → t.last ≡ s.last → Spares r s t
+spares-all r s t places last = record {
+  last = last;
+  others = λ i apart. same-is (process_at s i) (process_at t i) (ap (λ xs. slot xs i) places);
+}

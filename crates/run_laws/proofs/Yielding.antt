@@ -1,0 +1,43 @@
+-- What the outcome of a call leaves in the places of other processes, however the row comes to it.
+use Rattle.std.proofs.Common.{◌≡◌, ℕ, Bool, true, false, Option, Some, None, set, refl}
+use Rattle.std.specs.Prelude.{if◌then◌else◌}
+use Rattle.unixmodel.specs.Counts.{is_within}
+use Rattle.unixmodel.specs.Outcome.{Outcome, given, limited, provided}
+use Rattle.unixmodel.specs.Outcome.Outcome.{Done, Ends, Refused, Waits}
+use Rattle.unixmodel.specs.Process.{Process}
+use Rattle.unixmodel.specs.State.{State}
+use Rattle.run_laws.proofs.Others.{Passes, spares-all, spares-own, spares-passes}
+
+-- the state that an outcome makes
+abbrev pub Yields : ℕ → State → Outcome → Type 0
+Yields r s Refused = Unit {0}
+Yields r s (Done t answer bytes) = Passes r s t
+Yields r s (Waits t w) = Passes r s t
+Yields r s (Ends t status) = Passes r s t
+
+pub yields-given : {X : Type 0} (r : ℕ) (s : State) (o : Option X) (rest : X → Outcome) → ((x : X) → o ≡ Some x → Yields r s (rest x)) → Yields r s (given o rest)
+yields-given r s None rest yields = tt
+yields-given r s (Some x) rest yields = yields x refl
+
+pub yields-provided : (r : ℕ) (s : State) (test : Bool) (rest : Outcome) → Yields r s rest → Yields r s (provided test rest)
+yields-provided r s true rest yields = yields
+yields-provided r s false rest yields = tt
+
+pub yields-either : (r : ℕ) (s : State) (test : Bool) (one other : Outcome) → Yields r s one → Yields r s other → Yields r s (if test then one else other)
+yields-either r s true one other first second = first
+yields-either r s false one other first second = second
+
+pub yields-limited : (r : ℕ) (s : State) (o : Outcome) → Yields r s o → Yields r s (limited o)
+yields-limited r s Refused yields = tt
+yields-limited r s (Done t answer bytes) yields = yields-provided r s (is_within t) (Done t answer bytes) yields
+yields-limited r s (Waits t w) yields = yields
+yields-limited r s (Ends t status) yields = yields
+
+pub passes-all : (r : ℕ) (s t : State) → t.places ≡ s.places → t.last ≡ s.last → Passes r s t
+passes-all r s t places last = spares-passes r s t (spares-all r s t places last)
+
+pub passes-own : (r : ℕ) (s t : State) (o : Option Process) → t.places ≡ set s.places r o → t.last ≡ s.last → Passes r s t
+passes-own r s t o places last = spares-passes r s t (spares-own r s t o places last)
+
+pub passes-refl : (r : ℕ) (s : State) → Passes r s s
+passes-refl r s = passes-all r s s refl refl

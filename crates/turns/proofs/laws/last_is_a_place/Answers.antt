@@ -1,5 +1,0 @@
-use Rattle.turns.proofs.Lasting.{run-last, start-last, start_flat-last}
-use Rattle.turns.proofs.laws.last_is_a_place.Goals as goal
-
-pub returns : goal.returns
-returns c = record { starts = start-last; starts_flat = start_flat-last; stays = run-last }
