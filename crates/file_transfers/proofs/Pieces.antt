@@ -43,7 +43,7 @@ space-within s at has = within s.places at (view_at s at) (sym (held-there s at 
 
 module _ (s : Spaces) (at address : ℕ) (has : has_space s at ≡ true) where
   -- nothing is written
-  none-written : s ≡ with_bytes s at address []
+  pub none-written : s ≡ with_bytes s at address []
   none-written =
       let same : written (view_at s at) address [] ≡ view_at s at = ap (λ (m : Memory). record { memory = m; size = (view_at s at).size }) (write-none (view_at s at).memory address) in
       let put : slice_set s.places at (Some (written (view_at s at) address [])) ≡ s.places =
