@@ -1,14 +1,15 @@
 -- How a play goes on.
-use Rattle.std.proofs.Common.{◌≡◌, ◌≤◌, ◌++◌, ◌∷◌, ℕ, List, [], Option, Result, Ok}
+use Rattle.std.proofs.Common.{◌≡◌, ◌≤◌, ◌++◌, ◌∷◌, ℕ, List, [], Option, Result, Ok, replicate, subst}
 use Rattle.std.specs.Prelude.{option_map}
 use Rattle.std.specs.Io.KnownBytes.{Keeps}
 use Rattle.calls.specs.declared.halt.Halt.{Halt}
 use Rattle.live.proofs.SessionLemmas.{given-all, given-flushed, given-none, given-then, given-up, one-gives}
 use Rattle.live.specs.Sessions.{IsGiven}
-use Rattle.machine.specs.Gives.{StepGives}
+use Rattle.machine.specs.Gives.{RunGives, StepGives}
 use Rattle.machine.specs.View.{IsUp, View}
 use Rattle.player.specs.Played.{IsPlayed}
 use Rattle.unixmodel.specs.declared.event.Event.{Event}
+use Rattle.unixmodel.specs.declared.event.Event.TheVariants.{Step}
 use Rattle.unixmodel.specs.Failures.{Rises}
 use Rattle.unixmodel.specs.Next.{next}
 
@@ -23,6 +24,14 @@ module _ {old new : View} {before after : Option (List ℕ)} {f0 f1 : ℕ} {k0 k
   -- one event
   pub played-one : (e : Event) → IsUp old → StepGives old new (next old.state e) before after (Rises f0 f1) r → f0 ≤ f1 → k1 ≡ option_map (λ es. es ++ e ∷ []) k0 → IsPlayed old new before after f0 f1 k0 k1 r
   played-one e up gives later kept = record { events = e ∷ []; records = kept; runs = one-gives old new e before after (Rises f0 f1) r up gives; later = later }
+
+  -- so many steps
+  pub played-steps : (count : ℕ) → RunGives old new (replicate count Step) before after (Rises f0 f1) r → f0 ≤ f1 → k1 ≡ option_map (λ es. es ++ replicate count Step) k0 → IsPlayed old new before after f0 f1 k0 k1 r
+  played-steps count gives later kept = record { events = replicate count Step; records = kept; runs = gives; later = later }
+
+  -- it is answered with this
+  pub played-as : (x : Result (Unit {0}) Halt) → r ≡ x → IsPlayed old new before after f0 f1 k0 k1 r → IsPlayed old new before after f0 f1 k0 k1 x
+  played-as x is h = subst (λ (y : Result (Unit {0}) Halt). IsPlayed old new before after f0 f1 k0 k1 y) is h
 
 -- none
 pub played-none : (old : View) (at : Option (List ℕ)) (f : ℕ) (k : Option (List Event)) → IsUp old → IsPlayed old old at at f f k k (Ok tt)

@@ -5,13 +5,10 @@ use Rattle.player.proofs.stage.walk.Goals as goal
 pub loop-made-init : goal.loop-made-init
 loop-made-init g c = played-none _ _ _ _ c.requires
 
-pub pace-requires : goal.pace-requires
-pace-requires g c = played-up c.loop-made.invariant
-
-pub returns-in_err-pace : goal.returns-in_err-pace
-returns-in_err-pace g c =
+pub returns-in_err-made : goal.returns-in_err-made
+returns-in_err-made g c =
     let p = err_from_is_err_and c.from_residual.result c.from_residual.ensures.1 in
-    rw (p.1, p.2) (played-then (played-flushed c.loop-made.invariant c.write_out_at.ensures.kept c.write_out_at.ensures.later) c.in_err-pace.ensures)
+    rw (p.1, p.2) (played-then (played-flushed c.loop-made.invariant c.write_out_at.ensures.kept c.write_out_at.ensures.later) c.in_err-made.ensures.plays)
 
 pub loop-made-preserved : goal.loop-made-preserved
-loop-made-preserved g c = played-then (played-flushed c.loop-made.invariant c.write_out_at.ensures.kept c.write_out_at.ensures.later) c.in_ok-pace.ensures
+loop-made-preserved g c = played-then (played-flushed c.loop-made.invariant c.write_out_at.ensures.kept c.write_out_at.ensures.later) c.in_ok-made.ensures.plays
