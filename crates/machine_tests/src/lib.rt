@@ -35,6 +35,7 @@ mod processes;
 mod saving;
 #[cfg(test)]
 mod steps;
+#[cfg(test)]
 mod strides;
 #[cfg(test)]
 mod typing;
