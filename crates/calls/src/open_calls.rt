@@ -19,20 +19,15 @@ use inode::InodeStat;
 use kernel::numbers::low;
 use kernel::{Channel, Kernel, descriptors, stop, wakeup};
 use sv39::Translate;
-use tree::Leaf;
+use tree::{DEVICE, DIRECTORY, FILE, Leaf};
 use unixmodel::call::Call;
-
-// The types of nodes, as an inode tells them.
-const DIRECTORY: u16 = 1;
-
-const DEVICE: u16 = 3;
 
 // The major of the console.
 const CONSOLE: u16 = 1;
 
 // What a new file tells.
 const NEW_FILE: InodeStat = InodeStat {
-    kind: 2,
+    kind: FILE,
     major: 0,
     links: 1,
     size: 0,

@@ -8,13 +8,10 @@ ghost use Rattle.unixmodel.specs.Files.{slot};
 use crate::mixing::{mix, mix_bytes, mix_numbers};
 use blockdev::{BLOCK_SIZE, BlockDev, DeviceFault};
 use inode::InodeStat;
-use tree::Tree;
+use tree::{DEVICE, Tree};
 
 /// How many numbers of nodes a disk has at most.
 const NUMBERS: usize = 8192;
-
-/// The type of a device.
-const DEVICE: u16 = 3;
 
 // The major number of a device, and 0 of any other node.
 fn major(stat: InodeStat) -> u64

@@ -14,7 +14,7 @@ use crate::entries::are_good;
 use crate::fields::kind;
 use crate::names::{are_distinct, read_names};
 use crate::namings::{Naming, add_entries};
-use layout::Geometry;
+use layout::{DIRECTORY, Geometry};
 use std::alloc::{AllocError, Allocator};
 
 // Whether the names in a directory's bytes are good, one by one and all together. Their numbers are sorted.
@@ -113,7 +113,7 @@ pub fn test_directories<A: Allocator>(
     let mut bytes = Vec::new(&alloc);
     let mut names = Vec::new(&alloc);
     for n in 1..geometry.inodes {
-        if kind(image, n) == 1 {
+        if kind(image, n) == DIRECTORY {
             test_directory(image, geometry, n, &mut bytes, &mut names, namings)?;
         }
     }

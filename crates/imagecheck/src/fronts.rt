@@ -13,7 +13,7 @@ use crate::contents::front_place;
 use crate::entries::{before_zeros, is_zero, place};
 use crate::fields::{kind, number16};
 use imagerules::are_same;
-use layout::Geometry;
+use layout::{DIRECTORY, Geometry};
 
 // Whether a place has this name and number.
 fn holds(place: &[u8], name: &[u8], number: usize) -> bool
@@ -60,7 +60,7 @@ pub fn has_fronts(image: &[u8], geometry: Geometry, parents: &[u16]) -> bool
     ensures { IsTrue result ↔ HasFronts image.now }
 {
     for n in 1..geometry.inodes {
-        if kind(image, n) == 1 && !has_front(image, geometry, n, parents[n] as usize) {
+        if kind(image, n) == DIRECTORY && !has_front(image, geometry, n, parents[n] as usize) {
             return false;
         }
     }
@@ -71,7 +71,7 @@ pub fn has_fronts(image: &[u8], geometry: Geometry, parents: &[u16]) -> bool
 fn fits_names(kind: u16, n: usize, names: usize) -> bool
     ensures { IsTrue result ↔ (kind ≡ 1 → names ≡ (if n == 1 then 0 else 1)) }
 {
-    if kind != 1 {
+    if kind != DIRECTORY {
         return true;
     }
     if n == 1 {

@@ -7,7 +7,7 @@ ghost use Rattle.imagerules.specs.Pieces.{HasKinds, HasSizes, FitsKind};
 use crate::blocks::format_of;
 use crate::fields::{kind, size};
 use crate::slots::single;
-use layout::Geometry;
+use layout::{DEVICE, DIRECTORY, FILE, Geometry};
 
 // Whether each type is known, and the root is a directory.
 pub fn has_kinds(image: &[u8], geometry: Geometry) -> bool
@@ -15,11 +15,11 @@ pub fn has_kinds(image: &[u8], geometry: Geometry) -> bool
     ensures { IsTrue result ↔ HasKinds image.now }
 {
     for n in 1..geometry.inodes {
-        if kind(image, n) > 3 {
+        if kind(image, n) > DEVICE {
             return false;
         }
     }
-    kind(image, 1) == 1
+    kind(image, 1) == DIRECTORY
 }
 
 // Whether an inode of this type may have this size in bytes, if a file has so many at most.
@@ -29,8 +29,8 @@ fn fits_kind(longest: usize, kind: u16, size: usize) -> bool
 {
     match kind {
         0 => true,
-        1 => size >= 32 && size <= longest && size % 16 == 0,
-        2 => size <= longest,
+        DIRECTORY => size >= 32 && size <= longest && size % 16 == 0,
+        FILE => size <= longest,
         _ => size == 0,
     }
 }

@@ -7,7 +7,7 @@ ghost use Rattle.imagecheck.specs.Namings.{FitsLinks, TellsNames, TellsSubdirect
 ghost use Rattle.imagerules.specs.Places.{HasLinks, files_in};
 
 use crate::fields::{kind, links};
-use layout::Geometry;
+use layout::{DIRECTORY, Geometry};
 
 // Whether an inode of this type may have this count of links: a directory one more than its subdirectories, a file or a
 // device as many as there are places that name it.
@@ -16,7 +16,7 @@ fn fits_links(kind: u16, links: usize, names: usize, subdirectories: usize) -> b
 {
     match kind {
         0 => true,
-        1 => links >= 1 && links - 1 == subdirectories,
+        DIRECTORY => links >= 1 && links - 1 == subdirectories,
         _ => links >= 1 && links <= 32767 && links == names,
     }
 }

@@ -9,7 +9,7 @@ ghost use Rattle.unixmodel.specs.Image.{is_directory_at};
 
 use crate::fields::kind;
 use crate::namings::Naming;
-use layout::Geometry;
+use layout::{DIRECTORY, Geometry};
 
 // Counts how many entries name each number.
 pub fn count_names(namings: &[Naming], counts: &mut [usize])
@@ -59,7 +59,7 @@ fn is_directory(image: &[u8], geometry: Geometry, n: usize) -> bool
     requires high { n < geometry.inodes }
     ensures { result ≡ is_directory_at (files_in image.now) n }
 {
-    kind(image, n) == 1
+    kind(image, n) == DIRECTORY
 }
 
 // Counts how many entries of each directory name directories.

@@ -10,13 +10,10 @@ use mount::mount;
 use std::alloc::{AllocError, Global};
 use std::io;
 use std::io::Write;
-use tree::{Tree, TreeFault};
+use tree::{DIRECTORY, Tree, TreeFault};
 
 /// The number of the root.
 pub const ROOT: usize = 1;
-
-/// The type of a directory.
-pub const DIRECTORY: u16 = 1;
 
 /// How many bytes an entry has in its directory.
 const ENTRY_SIZE: usize = 16;

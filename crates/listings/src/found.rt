@@ -4,12 +4,9 @@ ghost use Rattle.listings.specs.Listed.{IsAtRest};
 ghost use Rattle.tree.specs.Written.{IsFile};
 ghost use Rattle.unixmodel.specs.Files.{find};
 
-use crate::directory::{DIRECTORY, ROOT};
+use crate::directory::ROOT;
 use blockdev::BlockDev;
-use tree::{Tree, TreeFault};
-
-/// The type of a file.
-const FILE: u16 = 2;
+use tree::{DIRECTORY, FILE, Tree, TreeFault};
 
 // Why something of another type is no file.
 fn refusal(kind: u16, device: TreeFault) -> TreeFault {

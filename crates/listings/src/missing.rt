@@ -2,11 +2,11 @@
 ghost use Rattle.std.specs.Prelude.{◌≡◌, OnOk, false};
 ghost use Rattle.listings.specs.Listed.{IsAtRest};
 
-use crate::directory::{DIRECTORY, ListingFault, ROOT, count_places, entry_at};
+use crate::directory::{ListingFault, ROOT, count_places, entry_at};
 use blockdev::{BlockDev, DeviceFault};
 use mount::mount;
 use std::alloc::Global;
-use tree::Tree;
+use tree::{DIRECTORY, Tree};
 
 /// The first name of a path that is missing, or the last one where none is.
 #[derive(Drop)]

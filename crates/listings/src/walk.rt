@@ -1,16 +1,14 @@
 //! The entries of a directory, and of those below it.
 ghost use Rattle.std.specs.Prelude.{◌≡◌, OnOk, false};
 
-use crate::directory::{
-    DIRECTORY, ListingFault, count_places, directory_at, entry_at, write_entries,
-};
+use crate::directory::{ListingFault, count_places, directory_at, entry_at, write_entries};
 use blockdev::{BlockDev, DeviceFault};
 use layout::Entry;
 use mount::mount;
 use std::alloc::{AllocError, Global};
 use std::io;
 use std::io::Write;
-use tree::Tree;
+use tree::{DIRECTORY, Tree};
 
 // A directory that is listed, and how far those in it are.
 #[derive(Clone, Copy)]

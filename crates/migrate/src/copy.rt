@@ -13,7 +13,7 @@ use crate::MigrateFault;
 use blockdev::BlockDev;
 use imagecheck::{inode_kind, inode_links, inode_major, inode_minor, read_contents};
 use inode::Volume;
-use layout::Geometry;
+use layout::{DEVICE, Geometry};
 use std::alloc::Global;
 
 // The major number of a device, and 0 for all else.
@@ -21,7 +21,7 @@ fn device_major(old: &[u8], n: usize) -> u16
     requires { HasPlace old.now n }
     ensures { (node : Node) → IsNode old.now n node → result ≡ major_of node }
 {
-    if inode_kind(old, n) == 3 {
+    if inode_kind(old, n) == DEVICE {
         inode_major(old, n)
     } else {
         0
@@ -33,7 +33,7 @@ fn device_minor(old: &[u8], n: usize) -> u16
     requires { HasPlace old.now n }
     ensures { (node : Node) → IsNode old.now n node → result ≡ minor_of node }
 {
-    if inode_kind(old, n) == 3 {
+    if inode_kind(old, n) == DEVICE {
         inode_minor(old, n)
     } else {
         0

@@ -10,10 +10,7 @@ ghost use Rattle.unixmodel.specs.Files.{Node, slot};
 
 use blockdev::{BlockDev, DeviceFault};
 use elf::{ElfFault, FileHeader, HEADER_SIZE, LoadSegment, PROGRAM_HEADER_SIZE, header, segment};
-use tree::Tree;
-
-// The type of a file, as is told of it.
-const FILE: u16 = 2;
+use tree::{FILE, Tree};
 
 /// A program, by what the headers of its file say.
 #[derive(Clone, Copy)]

@@ -12,9 +12,9 @@ ghost use Rattle.unixmodel.specs.NameCalls.{new_directory};
 ghost use Rattle.tree.specs.Calls.{MakesDirectory, MakesLink, MakesNode};
 
 use crate::entering::Gap;
-use crate::place::DIRECTORY;
 use crate::{Tree, TreeFault};
 use blockdev::{BlockDev, DeviceFault};
+use layout::DIRECTORY;
 
 // The most links of a node.
 const MOST_LINKS: u16 = 32767;

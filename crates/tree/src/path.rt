@@ -7,9 +7,9 @@ ghost use Rattle.tree.specs.Tree.{Looks};
 ghost use Rattle.unixmodel.specs.Files.{find, parts, slot, start_of};
 ghost use Rattle.tree.specs.Calls.{FindsSpot, IsAbove};
 
-use crate::place::DIRECTORY;
 use crate::{Tree, TreeFault};
 use blockdev::{BlockDev, DeviceFault};
+use layout::DIRECTORY;
 
 // The number of the root.
 const ROOT: usize = 1;

@@ -14,10 +14,7 @@ ghost use Rattle.tree.specs.Calls.{ArePlaces, FindsName, ScansFolder};
 use crate::Tree;
 use blockdev::{BLOCK_SIZE, BlockDev, DeviceFault};
 use inode::InodeStat;
-use layout::{Entry, LONGEST};
-
-/// The type of a directory's inode.
-pub const DIRECTORY: u16 = 1;
+use layout::{DIRECTORY, Entry, LONGEST};
 
 // How many bytes a place has.
 const PLACE_SIZE: usize = 16;

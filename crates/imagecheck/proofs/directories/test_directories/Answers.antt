@@ -5,7 +5,7 @@ use Rattle.imagerules.proofs.Bounds.{HasPlace-at, inodes-least, up_to_more}
 use Rattle.imagecheck.specs.declared.namings.Naming.{Naming}
 use Rattle.imagecheck.proofs.Collecting.{namings_to, namings_to-all, namings_to-directory, namings_to-first, namings_to-other}
 use Rattle.imagecheck.proofs.directories.test_directories.Goals as goal
-use Rattle.imagecheck.proofs.directories.test_directories.Goals.{else-kind-eq1, then-kind-eq1+in_ok-test_directory}
+use Rattle.imagecheck.proofs.directories.test_directories.Goals.{else-kind-eq-DIRECTORY, then-kind-eq-DIRECTORY+in_ok-test_directory}
 
 pub kind-requires : goal.kind-requires
 kind-requires g c = HasPlace-at c.requires.geometry c.loop-n.n c.loop-n-test.true
@@ -25,16 +25,16 @@ loop-n-preserved g c =
     let inv = c.loop-n.invariant in
     let high : n < inodes_in image = omega (arith, c.requires.geometry.inodes, c.loop-n-test.true) in
     let named = λ (here : kind_in image n ≡ 1 → HasNames image (contents_in image n)). up_to_more (λ m. kind_in image m ≡ 1 → HasNames image (contents_in image m)) n inv.named here in
-    elim c.if-kind-eq1.branch [
-      | then-kind-eq1+in_ok-test_directory w ↦ record {
+    elim c.if-kind-eq-DIRECTORY.branch [
+      | then-kind-eq-DIRECTORY+in_ok-test_directory w ↦ record {
         named = named (λ e. w.in_ok-test_directory.ensures.judged);
         collected = ◌∙◌ {A = List Naming} (ap (λ v. v.items) w.namings-is)
-            (namings_to-directory image n c.loop-n.namings.items w.test_directory.new.namings.items (omega arith) high (sym c.kind.ensures ∙ w.if-kind-eq1.true) inv.collected w.in_ok-test_directory.ensures.namings);
+            (namings_to-directory image n c.loop-n.namings.items w.test_directory.new.namings.items (omega arith) high (sym c.kind.ensures ∙ w.if-kind-eq-DIRECTORY.true) inv.collected w.in_ok-test_directory.ensures.namings);
       }
-      | else-kind-eq1 w ↦ record {
-        named = named (λ e. absurd (w.if-kind-eq1.false (c.kind.ensures ∙ e)));
+      | else-kind-eq-DIRECTORY w ↦ record {
+        named = named (λ e. absurd (w.if-kind-eq-DIRECTORY.false (c.kind.ensures ∙ e)));
         collected = ◌∙◌ {A = List Naming} (ap (λ v. v.items) w.namings-is)
-            (namings_to-other image c.requires.blocks n c.loop-n.namings.items (λ e. w.if-kind-eq1.false (c.kind.ensures ∙ e)) inv.collected);
+            (namings_to-other image c.requires.blocks n c.loop-n.namings.items (λ e. w.if-kind-eq-DIRECTORY.false (c.kind.ensures ∙ e)) inv.collected);
       }
     ]
 

@@ -5,7 +5,7 @@ use Rattle.imagerules.specs.Places.{files_in}
 use Rattle.imagerules.proofs.Bounds.{HasPlace-at, up_to_more}
 use Rattle.imagecheck.proofs.Judging.{refused, told}
 use Rattle.imagecheck.proofs.fronts.has_fronts.Goals as goal
-use Rattle.imagecheck.proofs.fronts.has_fronts.Goals.{else-kind-eq1-via-else-kind-eq1, else-kind-eq1-via-then-kind-eq1+else-not-has_front}
+use Rattle.imagecheck.proofs.fronts.has_fronts.Goals.{else-kind-eq-DIRECTORY-via-else-kind-eq-DIRECTORY, else-kind-eq-DIRECTORY-via-then-kind-eq-DIRECTORY+else-not-has_front}
 
 pub kind-requires : goal.kind-requires
 kind-requires c = HasPlace-at c.requires.geometry c.loop-n.n c.loop-n-test.true
@@ -15,17 +15,17 @@ returns-then-not-has_front c =
     let n = c.loop-n.n in
     refused c.if-not-has_front.true c.has_front.ensures (λ h.
     subst (λ p. FitsFront n p (contents_in c.args.image.now n)) (sym (c.requires.parents n (omega (arith, c.requires.long, c.loop-n-test.true))))
-    (h n (omega arith) (omega (arith, c.requires.geometry.inodes, c.loop-n-test.true)) (sym c.kind.ensures ∙ c.if-kind-eq1.true)))
+    (h n (omega arith) (omega (arith, c.requires.geometry.inodes, c.loop-n-test.true)) (sym c.kind.ensures ∙ c.if-kind-eq-DIRECTORY.true)))
 
 pub loop-n-preserved : goal.loop-n-preserved
 loop-n-preserved c =
     let image = c.args.image.now in
     let n = c.loop-n.n in
-    let here : kind_in image n ≡ 1 → FitsFront n (parent_of (files_in image) n) (contents_in image n) = elim c.else-kind-eq1.branch [
-      | else-kind-eq1-via-then-kind-eq1+else-not-has_front w ↦ λ _.
+    let here : kind_in image n ≡ 1 → FitsFront n (parent_of (files_in image) n) (contents_in image n) = elim c.else-kind-eq-DIRECTORY.branch [
+      | else-kind-eq-DIRECTORY-via-then-kind-eq-DIRECTORY+else-not-has_front w ↦ λ _.
           subst (λ p. FitsFront n p (contents_in image n)) (c.requires.parents n (omega (arith, c.requires.long, c.loop-n-test.true)))
           (w.has_front.ensures.0 w.if-not-has_front.false)
-      | else-kind-eq1-via-else-kind-eq1 w ↦ λ e. absurd (w.if-kind-eq1.false (c.kind.ensures ∙ e))
+      | else-kind-eq-DIRECTORY-via-else-kind-eq-DIRECTORY w ↦ λ e. absurd (w.if-kind-eq-DIRECTORY.false (c.kind.ensures ∙ e))
     ] in
     up_to_more (λ m. kind_in image m ≡ 1 → FitsFront m (parent_of (files_in image) m) (contents_in image m)) n c.loop-n.invariant here
 

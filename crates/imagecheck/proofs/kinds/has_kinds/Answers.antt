@@ -11,8 +11,8 @@ kind-requires c = HasPlace-at c.requires c.loop-n.n c.loop-n-test.true
 pub kind-requires-2 : goal.kind-requires-2
 kind-requires-2 c = HasPlace-at c.requires 1 (omega (arith, inodes-least c.requires))
 
-pub returns-then-kind-gt3 : goal.returns-then-kind-gt3
-returns-then-kind-gt3 c = never (λ h. let known = h.known c.loop-n.n (omega arith) (omega (arith, c.requires.inodes)) in omega (arith, c.kind.ensures))
+pub returns-then-kind-gt-DEVICE : goal.returns-then-kind-gt-DEVICE
+returns-then-kind-gt-DEVICE c = never (λ h. let known = h.known c.loop-n.n (omega arith) (omega (arith, c.requires.inodes)) in omega (arith, c.kind.ensures))
 
 pub loop-n-preserved : goal.loop-n-preserved
 loop-n-preserved c = up_to_more (λ m. kind_in c.args.image.now m ≤ 3) c.loop-n.n c.loop-n.invariant (omega (arith, c.kind.ensures))

@@ -9,7 +9,7 @@ use Rattle.imagecheck.proofs.Reaching.{IsReached-from}
 use Rattle.imagecheck.proofs.Walking.{HasWalked-later}
 use Rattle.imagerules.specs.Rules.{HasBlocks-of}
 use Rattle.imagecheck.proofs.reach.test_climbs.Goals as goal
-use Rattle.imagecheck.proofs.reach.test_climbs.Goals.{else-kind-eq1-via-else-kind-eq1, else-kind-eq1-via-then-kind-eq1+else-not-climb}
+use Rattle.imagecheck.proofs.reach.test_climbs.Goals.{else-kind-eq-DIRECTORY-via-else-kind-eq-DIRECTORY, else-kind-eq-DIRECTORY-via-then-kind-eq-DIRECTORY+else-not-climb}
 
 pub returns-then-not-climb-clause-judged : goal.returns-then-not-climb-clause-judged
 returns-then-not-climb-clause-judged c = (HasBlocks-of c.args.image.now c.requires.blocks, c.requires.entries, c.requires.links, MatchBool-at_false _ _ c.if-not-climb.true c.climb.ensures)
@@ -29,17 +29,17 @@ loop-n-preserved c =
     let image = c.args.image.now in
     let n = c.loop-n.n in
     let climbed = λ (here : kind_in image n ≡ 1 → Climbs (files_in image) n). up_to_more (λ m. kind_in image m ≡ 1 → Climbs (files_in image) m) n c.loop-n.invariant.climb here in
-    elim c.else-kind-eq1.branch [
-      | else-kind-eq1-via-then-kind-eq1+else-not-climb w ↦
+    elim c.else-kind-eq-DIRECTORY.branch [
+      | else-kind-eq-DIRECTORY-via-then-kind-eq-DIRECTORY+else-not-climb w ↦
           let met = MatchBool-at_true (HasClimbed (files_in image) n w.climb.new.marks) _ w.if-not-climb.false w.climb.ensures in record {
             long = ap length w.marks-is ∙ w.climb.auto.marks ∙ c.loop-n.invariant.long;
             walked = subst (HasWalked (files_in image) (n + 1)) (sym w.marks-is) met.1;
             climb = climbed (λ _. met.0);
           }
-      | else-kind-eq1-via-else-kind-eq1 w ↦ record {
+      | else-kind-eq-DIRECTORY-via-else-kind-eq-DIRECTORY w ↦ record {
         long = ap length w.marks-is ∙ c.loop-n.invariant.long;
         walked = subst (HasWalked (files_in image) (n + 1)) (sym w.marks-is) (HasWalked-later (files_in image) n c.loop-n.marks c.loop-n.invariant.walked);
-        climb = climbed (λ e. absurd (w.if-kind-eq1.false (c.kind.ensures ∙ e)));
+        climb = climbed (λ e. absurd (w.if-kind-eq-DIRECTORY.false (c.kind.ensures ∙ e)));
       }
     ]
 
