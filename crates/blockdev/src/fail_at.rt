@@ -1,6 +1,6 @@
 //! A device of which one access fails, to see how its callers take a failure.
 
-ghost use Rattle.std.specs.Prelude.{◌≡◌, ◌≢◌, ℕ, ◌-◌, ◌<◌, ◌↔◌, IfOk, IsErr, IsTrue, OnOk, length, slice_set};
+ghost use Rattle.std.specs.Prelude.{◌≡◌, ◌≢◌, ℕ, ◌-◌, ◌<◌, ◌↔◌, IfOk, IfSome, IsErr, IsTrue, None, OnOk, length, slice_set};
 ghost use Rattle.std.specs.Int.NonZero.{non_zero_u64_get};
 ghost use Rattle.unixmodel.specs.Failures.{HasCause};
 
@@ -97,6 +97,13 @@ impl<D: BlockDev> BlockDev for FailAt<D> {
     {
         spend(&mut self.left)?;
         self.device.write(n, block)
+    }
+
+    /// None, whatever the device below has: only an access can fail.
+    fn as_bytes(&self) -> Option<&[u8]>
+        ensures { result ≡ None }
+    {
+        None
     }
 }
 

@@ -40,6 +40,7 @@ fn gives_its_bytes(rt: HostRuntime) {
     let bytes = disk.bytes();
     assert!(rt; bytes.len() == 3072);
     assert!(rt; bytes[1023..1025] == [0, 7] && bytes[2047..2049] == [7, 0]);
+    assert!(rt; disk.as_bytes() == Some(bytes));
     assert!(rt; disk.into_bytes().len() == 3072);
 }
 
@@ -54,7 +55,7 @@ fn refuses_parts_of_blocks(rt: HostRuntime) {
 #[test]
 fn fails_once(rt: HostRuntime) {
     let mut flaky = fail_after(zeros(&rt, 1024), 1);
-    assert!(rt; flaky.blocks() == 1);
+    assert!(rt; flaky.blocks() == 1 && flaky.as_bytes().is_none());
     assert!(rt; flaky.write(0, &[1; 1024]).is_ok() && !flaky.has_failed());
     assert!(rt; flaky.read(0).is_err() && flaky.has_failed());
     assert!(rt; flaky.read(0).is_ok());

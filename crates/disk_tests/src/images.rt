@@ -175,14 +175,19 @@ fn told_small(rt: &(impl Abort + AllocGlobal), lists: &[&[Change]]) -> Result<Su
     check1(rt.alloc(), &mut disk_of(rt, 0x40, lists))
 }
 
-// What is told of it where memory is refused past so many bytes.
+// What is told of it where memory is refused past so many bytes: where it stands, or in a copy.
 fn told_within(
     rt: &(impl Abort + AllocGlobal),
     lists: &[&[Change]],
+    is_copied: bool,
     size: usize,
 ) -> Result<Summary, ImageFault> {
     let heap = LocalHeap::new(rt.alloc(), size).expect(rt, "memory");
-    check(&heap, &mut disk_of(rt, 0x41, lists))
+    let mut disk = disk_of(rt, 0x41, lists);
+    if is_copied {
+        return check(&heap, &mut fail_after(disk, u64::MAX));
+    }
+    check(&heap, &mut disk)
 }
 
 // Each of these changes, behind the first ones, makes this fault in both formats.
@@ -436,12 +441,13 @@ fn tells_a_failed_access(rt: HostRuntime) {
 
 // However much memory there is, what is told of the image is that it doesn't suffice, or the same as with enough of it. Each
 // request is refused at some of the sizes.
-fn expect_refusals(rt: &(impl Abort + AllocGlobal), lists: &[&[Change]]) {
+fn expect_refusals(rt: &(impl Abort + AllocGlobal), lists: &[&[Change]], is_copied: bool) {
     let told = told_of(rt, lists);
+    let least = if is_copied { TOO_LITTLE } else { 0 };
     let mut refused = false;
     let mut last = told;
     for units in 0..ENOUGH {
-        last = told_within(rt, lists, TOO_LITTLE + 16 * units);
+        last = told_within(rt, lists, is_copied, least + 16 * units);
         refused = refused || last != told;
         assert!(rt;
             last == told || last == Err(ImageFault::NoMemory),
@@ -454,7 +460,7 @@ fn expect_refusals(rt: &(impl Abort + AllocGlobal), lists: &[&[Change]]) {
     );
 }
 
-// A check keeps the whole image. This is too little for it.
+// A check of a device that lends no bytes keeps the whole image. This is too little for it.
 const TOO_LITTLE: usize = 32 * 1024 - 256;
 
 // As many units of 16 bytes more as a check of the small image takes, and more.
@@ -470,6 +476,7 @@ fn tells_that_memory_is_refused(rt: HostRuntime) {
         &[&FILE, &[(ROOT + 70, 2)]],
     ];
     for changes in lists {
-        expect_refusals(&rt, changes);
+        expect_refusals(&rt, changes, false);
+        expect_refusals(&rt, changes, true);
     }
 }

@@ -5,9 +5,8 @@ use Rattle.unixmodel.specs.Failures.{Rises}
 use Rattle.unixmodel.specs.Files.{Files}
 use Rattle.unixmodel.specs.Formats.{Format}
 use Rattle.unixmodel.specs.Image.{DenotesIn, named_blocks, numbers_in_use}
-use Rattle.imagecheck.specs.Faults.{Finds, IsOfImage, IsOutside, Tells}
+use Rattle.imagecheck.specs.Faults.{Denies, DenotesOwn, Finds, IsOfImage, IsOutside, Tells}
 use Rattle.imagerules.specs.Pieces.{HasMagic}
-use Rattle.imagerules.specs.Places.{files_in}
 use Rattle.imagecheck.specs.Summaries.{IsSummary}
 use Rattle.imagecheck.specs.declared.ImageFault.{ImageFault}
 use Rattle.imagecheck.specs.declared.rules.Summary.{Summary}
@@ -78,15 +77,20 @@ pub record IsOther {T : Type 0} (r : Result T ImageFault) (P : T → Type 0) (ot
 pub no-image : {T : Type 0} {fault : ImageFault} (P : T → Type 0) (r : Result T ImageFault) → IsErrAnd r (λ f. f ≡ fault) → IsOutside fault → IsOther r P fault
 no-image P r told tells = rw (told-err r told) (record { told = tt; only = tells; no = λ other differs is. absurd (differs (same-error is)) })
 
--- the parts of a summary
-pub record IsTold (f : Format) (image : List ℕ) (r : Result Summary ImageFault) : Type 0 where
-  pub denotes : OnOk r (DenotesIn f image (files_in image))
+-- what the check of an image in memory tells
+pub record IsJudged (f : Format) (image : List ℕ) (r : Result Summary ImageFault) : Type 0 where
+  pub denotes : OnOk r (DenotesOwn f image)
   pub inodes : IfOk r (λ summary. summary.inodes ≡ length (numbers_in_use image))
   pub blocks : IfOk r (λ summary. summary.blocks ≡ length (named_blocks image))
+  pub fault : IfErr r (Tells f image)
+  pub refused : IfErr r (Denies (DenotesIn f image))
+  pub device : IsErrOf r Device → ⊥
 
-pub Summary-told : (f : Format) (image : List ℕ) → HasMagic f image → (r : Result Summary ImageFault) → IfOk r (IsSummary image) → IsTold f image r
-Summary-told f image m (Ok summary) h = record { denotes = h.denotes f m; inodes = h.inodes; blocks = h.blocks }
-Summary-told f image m (Err fault) h = record { denotes = tt; inodes = tt; blocks = tt }
+pub judged-from : (f : Format) (image : List ℕ) → HasMagic f image → (r : Result Summary ImageFault) → MatchResult r (IsSummary image) (Finds image) → IsJudged f image r
+judged-from f image m (Ok summary) h = record { denotes = h.denotes f m; inodes = h.inodes; blocks = h.blocks; fault = tt; refused = tt; device = λ told. cc }
+judged-from f image m (Err fault) h =
+    let told = Finds-told f image m fault h in
+    record { denotes = tt; inodes = tt; blocks = tt; fault = told; refused = λ i files d. Tells-not f image files fault i told d; device = Finds-not_device image (Err fault) h }
 
 -- a fault of the image is neither the device's nor memory's
 pub record IsOwn {T : Type 0} (r : Result T ImageFault) : Type 0 where

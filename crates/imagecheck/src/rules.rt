@@ -20,6 +20,7 @@ use crate::files::test_files;
 use crate::kinds::{has_kinds, has_sizes};
 use crate::load::{read_blocks, read_geometry};
 use crate::marks::{has_bitmap, names_once};
+use crate::memory::check_bytes;
 use crate::summary::{blocks_in_use, inodes_in_use};
 use blockdev::BlockDev;
 use layout::{CURRENT, Format, Geometry};
@@ -98,7 +99,7 @@ pub fn summary_of<A: Allocator>(
     })
 }
 
-// Reads an image and tests that it denotes files in a format.
+// Tests that an image denotes files in a format, where it stands if the device has it in memory, else in a copy.
 fn check_in<A: Allocator, D: BlockDev>(
     alloc: A,
     device: &mut D,
@@ -114,13 +115,17 @@ fn check_in<A: Allocator, D: BlockDev>(
     ensures later { D.failures device.old ≤ D.failures device.new }
     ensures failed { IsErrOf result ImageFault.Device → Rises (D.failures device.old) (D.failures device.new) }
 {
+    if let Some(image) = device.as_bytes() {
+        return check_bytes(alloc, format, image);
+    }
     let geometry = read_geometry(format, device)?;
     let image = read_blocks(&alloc, device, geometry.size)?;
     summary_of(&alloc, &image, geometry)
 }
 
-/// Reads an image and tests that it denotes files: its length, its super block, its inodes, the blocks that they name,
-/// the places of its directories, the counts of links, and that a path reaches each inode in use.
+/// Tests that an image denotes files: its length, its super block, its inodes, the blocks that they name,
+/// the places of its directories, the counts of links, and that a path reaches each inode in use. What a device lends in
+/// memory (`as_bytes`) is looked at where it stands, with no access; else all blocks are read into a copy.
 ///
 /// The fault is that of the first rule that the image breaks, in the order that `ImageFault` tells. An image that has one
 /// denotes no files.
@@ -138,7 +143,7 @@ pub fn check<A: Allocator, D: BlockDev>(alloc: A, device: &mut D) -> Result<Summ
     check_in(alloc, device, CURRENT)
 }
 
-/// Reads an image in the small format and tests that it denotes files, by the rules of `check` and in their order. An
+/// Tests that an image in the small format denotes files, by the rules of `check` and in their order. An
 /// image of another format has the fault `Magic`.
 pub fn check1<A: Allocator, D: BlockDev>(alloc: A, device: &mut D) -> Result<Summary, ImageFault>
     ensures denotes { OnOk result (DenotesSmall (image_of (D.content device.old)) (files_in (image_of (D.content device.old)))) }

@@ -1,5 +1,5 @@
 use Rattle.std.proofs.Common.{subst, arith}
-use Rattle.unixmodel.specs.Formats.{small}
+use Rattle.layout.specs.Formats.{format_named}
 use Rattle.blockdev.specs.Blocks.{blocks_of}
 use Rattle.imagerules.proofs.ContentLemmas.{image_of-blocks}
 use Rattle.imagecheck.specs.Faults.{TellsGeometry}
@@ -9,5 +9,5 @@ use Rattle.imagecheck.proofs.memory.geometry_of.Goals as goal
 pub returns-clause-judged : goal.returns-clause-judged
 returns-clause-judged c =
     let image = c.args.image.now in
-    subst (λ x. TellsGeometry small x c.geometry_in.result) (image_of-blocks image (omega (arith, c.if-image-ne0.false)))
+    subst (λ x. TellsGeometry (format_named c.args.format) x c.geometry_in.result) (image_of-blocks image (omega (arith, c.if-image-ne0.false)))
     (c.geometry_in.ensures.judged (blocks_of image) (IsFront-memory image _ (omega (arith, c.if-count-lt2.false)) c.copy_from_slice.ensures.after))

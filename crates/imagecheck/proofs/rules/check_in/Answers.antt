@@ -1,14 +1,32 @@
-use Rattle.std.proofs.Common.{◌≡◌, Err, length, ap, sym, subst, ◌∙◌, arith, IfErr, MatchResult}
-use Rattle.std.proofs.lemmas.Result.{MatchResult-weaker}
+use Rattle.std.proofs.Common.{◌≡◌, Err, length, ap, refl, sym, subst, ◌∙◌, arith, IfErr, MatchResult}
 use Rattle.layout.specs.Formats.{format_named}
 use Rattle.imagerules.specs.Content.{image_of}
 use Rattle.imagecheck.specs.Faults.{Finds, Tells}
 use Rattle.imagerules.specs.Fields.{HasGeometry}
 use Rattle.imagecheck.specs.Summaries.{IsSummary}
 use Rattle.imagerules.proofs.Bounds.{size-most}
-use Rattle.imagecheck.proofs.Sounding.{Finds-not_device, Finds-told, Rises-before, Summary-told, judged-err, outside-told, refused-from, same-fault, told-err}
+use Rattle.imagerules.proofs.ContentLemmas.{image_of-blocks}
+use Rattle.imagecheck.proofs.Sounding.{IsJudged, Rises-before, judged-err, judged-from, outside-told, refused-from, same-fault, told-err}
 use Rattle.imagerules.proofs.Super.{count-is}
 use Rattle.imagecheck.proofs.rules.check_in.Goals as goal
+
+pub returns-in-Some : goal.returns-in-Some
+returns-in-Some g c =
+    let is : c.in-Some.image.now ≡ image_of (g.D.BlockDev.content c.args.device.now) = sym (image_of-blocks c.in-Some.image.now c.in-Some.ensures.whole) ∙ ap image_of c.in-Some.ensures.blocks in
+    let told = c.check_bytes.ensures in
+    let judged = subst (λ x. IsJudged (format_named c.args.format) x c.check_bytes.result) is
+    (record { denotes = told.denotes; inodes = told.inodes; blocks = told.blocks; fault = told.fault; refused = told.refused; device = told.device }) in
+    record {
+      denotes = judged.denotes;
+      inodes = judged.inodes;
+      blocks = judged.blocks;
+      fault = judged.fault;
+      refused = judged.refused;
+      same = refl;
+      identity = refl;
+      later = omega arith;
+      failed = λ device. absurd (judged.device device);
+    }
 
 pub returns-in_err-geometry-clause-refused : goal.returns-in_err-geometry-clause-refused
 returns-in_err-geometry-clause-refused g c =
@@ -49,24 +67,18 @@ summary_of-requires g c =
 
 pub returns : goal.returns
 returns g c =
-    let blocks = g.D.BlockDev.content c.args.device.now in
-    let image = image_of blocks in
-    let f = format_named c.args.format in
-    let magic = c.in_ok-geometry.ensures.judged.magic in
+    let image = image_of (g.D.BlockDev.content c.args.device.now) in
     let r = c.summary_of.result in
     let e : c.deref.result.now ≡ image = c.deref.ensures.value ∙ c.in_ok-image.ensures.bytes ∙ ap image_of c.read_geometry.ensures.same in
-    let both = subst (λ x. MatchResult r (IsSummary x) (Finds x)) e c.summary_of.ensures in
-    let finds : IfErr r (Finds image) = MatchResult-weaker r both (λ _ _. tt) (λ _ h. h) in
-    let told : IfErr r (Tells f image) = MatchResult-weaker r both (λ _ _. tt) (Finds-told f image magic) in
-    let summary = Summary-told f image magic r (MatchResult-weaker r both (λ _ h. h) (λ _ _. tt)) in
+    let judged = judged-from (format_named c.args.format) image c.in_ok-geometry.ensures.judged.magic r (subst (λ x. MatchResult r (IsSummary x) (Finds x)) e c.summary_of.ensures) in
     record {
-      denotes = summary.denotes;
-      inodes = summary.inodes;
-      blocks = summary.blocks;
-      fault = told;
-      refused = refused-from f image r told;
+      denotes = judged.denotes;
+      inodes = judged.inodes;
+      blocks = judged.blocks;
+      fault = judged.fault;
+      refused = judged.refused;
       same = ◌∙◌ {a = g.D.BlockDev.content c.read_blocks.new.device} c.read_blocks.ensures.same c.read_geometry.ensures.same;
       identity = c.read_blocks.ensures.identity ∙ c.read_geometry.ensures.identity;
       later = omega (arith, c.read_blocks.ensures.later, c.read_geometry.ensures.later);
-      failed = λ device. absurd (Finds-not_device image r finds device);
+      failed = λ device. absurd (judged.device device);
     }
