@@ -1,5 +1,5 @@
 -- Many instructions of the process of a place.
-use Rattle.std.proofs.Common.{◌≡◌, ◌+◌, ◌-◌, ◌%◌, ◌/◌, ℕ, zero, suc, true, List, [], ◌∷◌, length, take, drop, Option, Some, None, Ok, Err, refl, sym, ap, subst, ◌∙◌, arith, take-append-drop, length-append}
+use Rattle.std.proofs.Common.{◌≡◌, ◌≤◌, ◌+◌, ◌-◌, ◌%◌, ◌/◌, ℕ, zero, suc, true, List, [], ◌∷◌, length, take, drop, Option, Some, None, Ok, Err, refl, sym, ap, subst, ◌∙◌, arith, take-append-drop, length-append}
 use Rattle.std.specs.Prelude.{IfNone, IfSome, is_some, unwrap_or}
 use Rattle.spaces.proofs.SpacesLemmas.{taken-placed, within}
 use Rattle.spaces.specs.Instructions.{Advances, Does}
@@ -107,3 +107,13 @@ stops-at n None old mid new t some active first traps = absurd (cc)
 stops-at n (Some at) old mid new t some active first traps =
     let here = subst (λ (o : Option ℕ). IfSome o (λ at. Traps mid new at t)) active traps in
     rw here.1 (first, here.0)
+
+-- ---- what a run told of its end
+
+pub all-done : (o : Option Trap) (done left count : ℕ) → o ≡ None → IfNone o (done ≡ left) → left ≤ count → count - (left - done) ≡ count
+all-done None done left count none all few = omega (arith, all, few)
+all-done (Some t) done left count none all few = absurd (cc)
+
+pub told-of : (o : Option Trap) (t : Trap) (P : Trap → Type 0) → o ≡ Some t → IfSome o P → P t
+told-of None t P is told = absurd (cc)
+told-of (Some u) t P is told = let same : u ≡ t = cc in subst P same told

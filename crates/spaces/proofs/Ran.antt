@@ -1,6 +1,6 @@
 -- Instructions of the process of a place, as the hart ran them.
-use Rattle.std.proofs.Common.{◌≡◌, ℕ, zero, suc, ◌+◌, ◌≤◌, true, List, length, map, Option, Some, None, Ok, refl, sym, ap, ◌∙◌, inl, inr, arith, subst, slice_set}
-use Rattle.std.specs.Prelude.{is_some}
+use Rattle.std.proofs.Common.{◌≡◌, ℕ, zero, suc, ◌+◌, ◌≤◌, true, List, length, map, Option, Some, None, Ok, Err, refl, sym, ap, ◌∙◌, inl, inr, arith, subst, slice_set}
+use Rattle.std.specs.Prelude.{IfSome, is_some}
 use Rattle.hart.proofs.ChangeLemmas.{memory_of-cycle}
 use Rattle.hart.proofs.Retries.{cycle-retries}
 use Rattle.hart.specs.Changes.{WritesOnly, changed}
@@ -12,7 +12,7 @@ use Rattle.spaces.proofs.Closed.{changed-right}
 use Rattle.spaces.proofs.Pipes.{pipes-beside}
 use Rattle.spaces.proofs.Places.{held-is}
 use Rattle.spaces.proofs.SpacesLemmas.{within}
-use Rattle.spaces.proofs.Stepped.{let_through, narrows, ok-no-fault, sound, stands-only}
+use Rattle.spaces.proofs.Stepped.{let_through, narrows, ok-no-fault, sound, stands-only, trap-parts}
 use Rattle.spaces.proofs.Traded.{same-place, shown-as, shown-placed}
 use Rattle.spaces.specs.declared.Spaces.TheInside.{Inside}
 use Rattle.spaces.specs.Instructions.{Advances, Does}
@@ -20,6 +20,7 @@ use Rattle.spaces.specs.Spaces.{Spaces, computed, view_at}
 use Rattle.spaces.specs.View.{IsActive, IsSpaces, Runs, pipe_frames, pipe_shown, shown, spaces_of, view_with}
 use Rattle.sv39.specs.Mapping.{IsCoherent, Mapped, WalksTo, memory_of}
 use Rattle.unixmodel.specs.Cycle.{cycle}
+use Rattle.unixmodel.specs.declared.trap.Cause.TheVariants.{StorePageFault}
 use Rattle.unixmodel.specs.declared.trap.Trap.{Trap}
 use Rattle.unixmodel.specs.Files.{slot}
 use Rattle.unixmodel.specs.Next.{memory_after}
@@ -29,7 +30,7 @@ use Rattle.vm.specs.declared.Space.{Space}
 use Rattle.vm.specs.Leaf.{entry_marks, right_marks}
 use Rattle.vm.specs.Shares.{IsMachine, OthersUntouched}
 use Rattle.vm.proofs.SharesLemmas.{trade-machine, trade-others}
-use Rattle.vm.specs.Space.{Stands, entries_of, holds, mapping_of, pages_in, pages_of}
+use Rattle.vm.specs.Space.{IsMapped, Stands, entries_of, holds, mapping_of, pages_in, pages_of}
 use Rattle.vm.proofs.WalkLaw.{walks-entries}
 
 -- ---- the memory behind some instructions
@@ -175,3 +176,37 @@ ran-go held i t h k done stopped (Some at) is r e run some = ran-at held i t h k
 pub ran-sound : {T : Type 0} (held : T → translation.Held) (i : Inside T) (t : T) (h : Hart) (k : List (List ℕ)) (done : ℕ) (stopped : Option Trap) → IsSpaces held i → RanOn held i t h k done stopped → is_some i.active ≡ true
     → IsSpaces held (record i { ram = k; translator = t; hart = h }) × AdvancesTo done i.active (spaces_of i) (spaces_of (record i { ram = k; translator = t; hart = h }))
 ran-sound held i t h k done stopped is r some = ran-go held i t h k done stopped i.active is r refl is.active some
+
+-- ---- the trap behind it
+
+-- what an instruction traps into by the tables it traps into by right, but for a store
+trap-by-right : (m : List (List ℕ)) (x : Space) (regs : List ℕ) (pc : ℕ) (c : Trap) → IsMapped m x → cycle regs pc (let_through m x) ≡ Err c → (c.cause ≡ StorePageFault → ⊥) → cycle regs pc (pages_of m x) ≡ Err c
+trap-by-right m x regs pc c is low other = elim (cycle-retries regs pc (let_through m x) (pages_of m x) (narrows m x is)) [
+  | inl same ↦ sym same ∙ low
+  | inr (address, fault, none, again) ↦ absurd (other (trap-parts c address (sym low ∙ fault)).0)
+]
+
+ran-trap-at : {T : Type 0} (held : T → translation.Held) (i : Inside T) (t : T) (h : Hart) (k : List (List ℕ)) (done : ℕ) (c : Trap) (at : ℕ) → IsSpaces held i → RanOn held i t h k done (Some c) → (run : Runs (held i.translator) i.ram i.hart.root.0 i.places.items at)
+    → (c.cause ≡ StorePageFault → ⊥) → cycle h.registers h.pc (view_at (spaces_of (record i { ram = k; translator = t; hart = h })) at).memory ≡ Err c
+ran-trap-at held i t h k done c at is r run other =
+    let x = run.space in
+    let first = point_of i.hart i.ram in
+    let here : IsHere i x i.ram = record { machine = is.machine; entries = refl; count = refl } in
+    let none : 0 + done ≡ done = omega arith in
+    let P : ℕ → Type 0 = λ n. Goes (held t) i.hart.root.0 (entries_of i.ram x) n first (point_of h k) in
+    let came = r.goes (entries_of i.ram x) 0 first (begun held i at is r.small run) in
+    let now = (ran i at x run.stands first here done (point_of h k) (subst P none came.0).runs).1 in
+    let low : cycle h.registers h.pc (let_through k x) ≡ Err c = rw now.entries came.1 in
+    let seen : view_at (spaces_of (record i { ram = k; translator = t; hart = h })) at ≡ view_with (pages_of k x) x.size = held-is (record i { ram = k; translator = t; hart = h }) at x run.stands in
+    rw seen (trap-by-right k x h.registers h.pc c (now.machine.each at x run.stands).dense low other)
+
+ran-trap-go : {T : Type 0} (held : T → translation.Held) (i : Inside T) (t : T) (h : Hart) (k : List (List ℕ)) (done : ℕ) (c : Trap) (a : Option ℕ) → IsSpaces held i → RanOn held i t h k done (Some c) → IsActive (held i.translator) i.ram i.hart.root.0 i.places.items a
+    → (c.cause ≡ StorePageFault → ⊥) → IfSome a (λ at. cycle h.registers h.pc (view_at (spaces_of (record i { ram = k; translator = t; hart = h })) at).memory ≡ Err c)
+ran-trap-go held i t h k done c None is r run other = tt
+ran-trap-go held i t h k done c (Some at) is r run other = ran-trap-at held i t h k done c at is r run other
+
+-- the next instruction traps into what it told, but where that is a store
+pub ran-trap : {T : Type 0} (held : T → translation.Held) (i : Inside T) (t : T) (h : Hart) (k : List (List ℕ)) (done : ℕ) (stopped : Option Trap) → IsSpaces held i → RanOn held i t h k done stopped
+    → IfSome stopped (λ c. (c.cause ≡ StorePageFault → ⊥) → IfSome i.active (λ at. cycle h.registers h.pc (view_at (spaces_of (record i { ram = k; translator = t; hart = h })) at).memory ≡ Err c))
+ran-trap held i t h k done None is r = tt
+ran-trap held i t h k done (Some c) is r = λ other. ran-trap-go held i t h k done c i.active is r is.active other

@@ -237,7 +237,7 @@ abbrev address_of : Effect → ℕ
 address_of (Ok d) = 0
 address_of (Err c) = c.address
 
-trap-parts : (c : Trap) (address : ℕ) → ◌≡◌ {A = Effect} (Err c) (trap StorePageFault address) → (c.cause ≡ StorePageFault) × (c.address ≡ address)
+pub trap-parts : (c : Trap) (address : ℕ) → ◌≡◌ {A = Effect} (Err c) (trap StorePageFault address) → (c.cause ≡ StorePageFault) × (c.address ≡ address)
 trap-parts c address e = (ap cause_of e, ap address_of e)
 
 pub ok-no-fault : (d : Computed) (address : ℕ) → ◌≡◌ {A = Effect} (Ok d) (trap StorePageFault address) → ⊥

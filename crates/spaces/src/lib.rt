@@ -494,6 +494,7 @@ impl<T: Translate + Drop> Spaces<T> {
     }
 
     /// Puts bytes into the pages of a place from an address on, whatever their marks, as a loader does.
+    #[inline]
     pub fn fill(&mut self, at: usize, address: u64, bytes: &[u8])
         requires space { has_space self.old at ≡ true }
         requires inside { (i : ℕ) → i < length bytes.now → (address + i) / 4096 < length (view_at self.old at).memory }
@@ -516,7 +517,8 @@ impl<T: Translate + Drop> Spaces<T> {
         space.store(&mut self.ram, address, bytes)
     }
 
-    // The same for any bytes: pages may get other frames.
+    // The same for any bytes: pages may get other frames. It is out of line, as what is seldom done.
+    #[inline(never)]
     fn fill_pages(&mut self, at: usize, address: u64, bytes: &[u8])
         requires space { has_space self.old at ≡ true }
         requires inside { (i : ℕ) → i < length bytes.now → (address + i) / 4096 < length (view_at self.old at).memory }

@@ -1,16 +1,20 @@
-use Rattle.std.proofs.Common.{◌≡◌, ◌-◌, ◌+◌, ◌∙◌, arith, refl, subst}
-use Rattle.spaces.proofs.Advancing.{AdvancesTo, advances-on, begins, goes-on, stops-at}
+use Rattle.std.proofs.Common.{◌≡◌, ◌<◌, ◌-◌, ◌+◌, ◌∙◌, Err, arith, refl, subst}
+use Rattle.std.specs.Prelude.{IfSome}
+use Rattle.spaces.proofs.Advancing.{AdvancesTo, advances-on, all-done, begins, goes-on, stops-at, told-of}
 use Rattle.spaces.proofs.Spaces.execute_many.Given as given
 use Rattle.spaces.proofs.Spaces.execute_many.Goals as goal
-use Rattle.spaces.proofs.Spaces.execute_many.Goals.{After-run-left}
+use Rattle.spaces.proofs.Spaces.execute_many.Goals.{After-run-done}
+use Rattle.spaces.specs.Spaces.{view_at}
+use Rattle.unixmodel.specs.Cycle.{cycle}
+use Rattle.unixmodel.specs.declared.trap.Cause.TheVariants.{StorePageFault}
 
 -- behind a run
-ran : (g : given.Over) (c : After-run-left g) → AdvancesTo (c.args.count - (c.loop-left.left - c.run-left.result)) c.args.self.now.active c.args.self.now c.run-left.new.self
+ran : (g : given.Over) (c : After-run-done g) → AdvancesTo (c.args.count - (c.loop-left.left - c.run-done.result.0)) c.args.self.now.active c.args.self.now c.run-done.new.self
 ran g c =
     let before = c.loop-left.invariant in
-    let sum : c.args.count - c.loop-left.left + c.run-left.result ≡ c.args.count - (c.loop-left.left - c.run-left.result) = omega (arith, before.bounded, c.run-left.ensures.within) in
-    advances-on (c.args.count - c.loop-left.left) c.run-left.result (c.args.count - (c.loop-left.left - c.run-left.result)) c.args.self.now.active c.args.self.now c.loop-left.self c.run-left.new.self
-    sum before.active before.advances c.run-left.ensures.done
+    let sum : c.args.count - c.loop-left.left + c.run-done.result.0 ≡ c.args.count - (c.loop-left.left - c.run-done.result.0) = omega (arith, before.bounded, c.run-done.ensures.within) in
+    advances-on (c.args.count - c.loop-left.left) c.run-done.result.0 (c.args.count - (c.loop-left.left - c.run-done.result.0)) c.args.self.now.active c.args.self.now c.loop-left.self c.run-done.new.self
+    sum before.active before.advances c.run-done.ensures.done
 
 pub loop-left-init : goal.loop-left-init
 loop-left-init g c = record {
@@ -21,32 +25,49 @@ loop-left-init g c = record {
 
 pub loop-left-preserved : goal.loop-left-preserved
 loop-left-preserved g c =
-    let left = c.loop-left.left - c.run-left.result in
-    let active = c.run-left.ensures.active ∙ c.loop-left.invariant.active in
-    let now = goes-on (c.args.count - left) c.args.self.now c.run-left.new.self c.execute.new.self c.args.self.now.active c.execute.result c.requires active (ran g (goal.at.loop-left-preserved g c).After-run-left) c.in_default.is c.execute.ensures.done in
-    let one : c.args.count - left + 1 ≡ c.args.count - (left - 1) = omega (arith, c.if-left-eq0.false, c.loop-left.invariant.bounded) in
+    let left = c.loop-left.left - c.run-done.result.0 in
+    let active = c.run-done.ensures.active ∙ c.loop-left.invariant.active in
+    let some = told-of c.run-done.result.1 c.in-Some.trap (λ _. c.run-done.result.0 < c.loop-left.left) c.in-Some.is c.run-done.ensures.some in
+    let now = goes-on (c.args.count - left) c.args.self.now c.run-done.new.self c.execute_one.new.self c.args.self.now.active c.execute_one.result c.requires active (ran g (goal.at.loop-left-preserved g c).After-run-done) c.in_default-execute_one.is c.execute_one.ensures.done in
+    let one : c.args.count - left + 1 ≡ c.args.count - (left - 1) = omega (arith, some, c.loop-left.invariant.bounded) in
     record {
       bounded = omega (arith, c.loop-left.invariant.bounded);
       active = now.0;
-      advances = subst (λ n. AdvancesTo n c.args.self.now.active c.args.self.now c.execute.new.self) one now.1;
+      advances = subst (λ n. AdvancesTo n c.args.self.now.active c.args.self.now c.execute_one.new.self) one now.1;
     }
 
-pub returns-then-left-eq0-clause-done : goal.returns-then-left-eq0-clause-done
-returns-then-left-eq0-clause-done g c =
-    let all : c.args.count - (c.loop-left.left - c.run-left.result) ≡ c.args.count = omega (arith, c.if-left-eq0.true) in
-    subst (λ n. AdvancesTo n c.args.self.now.active c.args.self.now c.run-left.new.self) all (ran g (goal.at.returns-then-left-eq0-clause-done g c).After-run-left)
+-- all are done
+pub returns-in_default-clause-done : goal.returns-in_default-clause-done
+returns-in_default-clause-done g c =
+    let all = all-done c.run-done.result.1 c.run-done.result.0 c.loop-left.left c.args.count c.in_default.is c.run-done.ensures.all c.loop-left.invariant.bounded in
+    subst (λ n. AdvancesTo n c.args.self.now.active c.args.self.now c.run-done.new.self) all (ran g (goal.at.returns-in_default-clause-done g c).After-run-done)
 
-pub returns-in-Some-clause-done : goal.returns-in-Some-clause-done
-returns-in-Some-clause-done g c =
-    (stops-at (c.args.count - (c.loop-left.left - c.run-left.result)) c.args.self.now.active c.args.self.now c.run-left.new.self c.execute.new.self c.in-Some.trap c.requires (c.run-left.ensures.active ∙ c.loop-left.invariant.active)
-    (ran g (goal.at.returns-in-Some-clause-done g c).After-run-left) c.in-Some.ensures.trap).0
+-- the next one traps
+pub returns-then-not-is_store_fault-clause-done : goal.returns-then-not-is_store_fault-clause-done
+returns-then-not-is_store_fault-clause-done g c = ran g (goal.at.returns-then-not-is_store_fault-clause-done g c).After-run-done
 
-pub returns-in-Some-clause-trap : goal.returns-in-Some-clause-trap
-returns-in-Some-clause-trap g c = (
-  omega (arith, c.if-left-eq0.false, c.loop-left.invariant.bounded),
-  (stops-at (c.args.count - (c.loop-left.left - c.run-left.result)) c.args.self.now.active c.args.self.now c.run-left.new.self c.execute.new.self c.in-Some.trap c.requires (c.run-left.ensures.active ∙ c.loop-left.invariant.active)
-      (ran g (goal.at.returns-in-Some-clause-trap g c).After-run-left) c.in-Some.ensures.trap).1,
-)
+pub returns-then-not-is_store_fault-clause-trap : goal.returns-then-not-is_store_fault-clause-trap
+returns-then-not-is_store_fault-clause-trap g c =
+    let some = told-of c.run-done.result.1 c.in-Some.trap (λ _. c.run-done.result.0 < c.loop-left.left) c.in-Some.is c.run-done.ensures.some in
+    let traps = told-of c.run-done.result.1 c.in-Some.trap
+    (λ t. (t.cause ≡ StorePageFault → ⊥) → IfSome c.loop-left.self.active (λ at. cycle c.run-done.new.self.registers c.run-done.new.self.pc (view_at c.run-done.new.self at).memory ≡ Err t))
+    c.in-Some.is c.run-done.ensures.trap c.if-not-is_store_fault.ensures in (
+      omega (arith, some, c.loop-left.invariant.bounded),
+      subst (λ o. IfSome o (λ at. cycle c.run-done.new.self.registers c.run-done.new.self.pc (view_at c.run-done.new.self at).memory ≡ Err c.in-Some.trap)) c.loop-left.invariant.active traps,
+    )
+
+pub returns-in-Some-execute_one-clause-done : goal.returns-in-Some-execute_one-clause-done
+returns-in-Some-execute_one-clause-done g c =
+    (stops-at (c.args.count - (c.loop-left.left - c.run-done.result.0)) c.args.self.now.active c.args.self.now c.run-done.new.self c.execute_one.new.self c.in-Some-execute_one.trap c.requires (c.run-done.ensures.active ∙ c.loop-left.invariant.active)
+    (ran g (goal.at.returns-in-Some-execute_one-clause-done g c).After-run-done) c.in-Some-execute_one.ensures.trap).0
+
+pub returns-in-Some-execute_one-clause-trap : goal.returns-in-Some-execute_one-clause-trap
+returns-in-Some-execute_one-clause-trap g c =
+    let some = told-of c.run-done.result.1 c.in-Some.trap (λ _. c.run-done.result.0 < c.loop-left.left) c.in-Some.is c.run-done.ensures.some in (
+      omega (arith, some, c.loop-left.invariant.bounded),
+      (stops-at (c.args.count - (c.loop-left.left - c.run-done.result.0)) c.args.self.now.active c.args.self.now c.run-done.new.self c.execute_one.new.self c.in-Some-execute_one.trap c.requires (c.run-done.ensures.active ∙ c.loop-left.invariant.active)
+          (ran g (goal.at.returns-in-Some-execute_one-clause-trap g c).After-run-done) c.in-Some-execute_one.ensures.trap).1,
+    )
 
 pub returns-clause-done : goal.returns-clause-done
 returns-clause-done g c =
