@@ -1,7 +1,7 @@
 -- What an event comes to, from what the kernel makes of it.
 use Rattle.std.specs.Prelude.{IfErr}
 use Rattle.calls.specs.Gives.{Dispatches, EventGives, LeavesTree, Makes}
-use Rattle.calls.specs.Steps.{PieceGives, LeavesFiles, StepsGive, stepped}
+use Rattle.calls.specs.Steps.{LeavesFiles, PieceGives, PieceGoes, StepsGive, stepped}
 use Rattle.calls.specs.declared.halt.Halt.{Halt}
 use Rattle.calls.specs.declared.halt.Halt.TheVariants.{Console, Device, Halted, InitEnded}
 use Rattle.kernel.specs.Kernel.{Kernel, state_of}
@@ -133,16 +133,24 @@ steps-give old new failed count before after rising (Err Device) goes flag made 
     )
 steps-give old new failed count before after rising (Err Halted) goes flag made leaves = absurd made
 
+-- no step is answered that the machine had stopped
+goes-unhalted : (old new : Kernel) (count : ℕ) (before after : Option (List ℕ)) (rising : Type 0) (result : Result (Unit {0}) Halt) → PieceGoes old new count before after rising result → result ≡ Err Halted → ⊥
+goes-unhalted old new count before after rising (Ok u) goes is = cc
+goes-unhalted old new count before after rising (Err (InitEnded status)) goes is = cc
+goes-unhalted old new count before after rising (Err Console) goes is = cc
+goes-unhalted old new count before after rising (Err Device) goes is = cc
+goes-unhalted old new count before after rising (Err Halted) goes is = goes.last
+
 -- what was done in one go
 pub advance-gives : (old new : Kernel) (failed : Bool) (most count : ℕ) (before after : Option (List ℕ)) (rising : Type 0) (result : Result (Unit {0}) Halt)
     → old.halted ≡ None → old.tree.failed ≡ false → failed ≡ fails result → PieceGives old new most before after rising count result
     → RunGives (told old false) (told new failed) (replicate count Step) before after rising result × IsPiece (told old false) (told new failed) most count result
 advance-gives old new failed most count before after rising (Ok u) goes sound flag piece = (
   steps-give old new failed count before after rising (Ok u) goes flag (went-all old new count count before after rising u (le_refl count) (le_refl count) piece.goes.0) piece.goes.0.served,
-  record { within = piece.within; busy = piece.busy; idle = piece.goes.1 },
+  record { within = piece.within; busy = piece.busy; idle = piece.goes.1; none = λ is. absurd (goes-unhalted old new count before after rising (Ok u) piece.goes is) },
 )
 advance-gives old new failed most count before after rising (Err halt) goes sound flag piece =
     let all = stops-rest old old new 0 count count before before after rising rising halt goes (omega arith) (went-none old before goes sound) (λ r. r) piece.goes in (
       steps-give old new failed count before after rising (Err halt) goes flag all.0 all.1,
-      record { within = piece.within; busy = piece.busy; idle = tt },
+      record { within = piece.within; busy = piece.busy; idle = tt; none = λ is. absurd (goes-unhalted old new count before after rising (Err halt) piece.goes is) },
     )
