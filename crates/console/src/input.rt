@@ -240,7 +240,11 @@ impl Console {
     /// behind a line feed, or before ^D; with none yet it takes the ^D, which is none of its bytes. If the bytes run out
     /// first the read isn't over.
     pub fn take(&mut self, n: usize, has_some: bool, buffer: &mut [u8; ROOM]) -> Taken
-        ensures took { take_line has_some n self.old.committed ≡ record { bytes = take result.count buffer.new; rest = self.new.committed; over = result.over } }
+        ensures took { take_line has_some n self.old.committed ≡ record {
+          bytes = take result.count buffer.new;
+          rest = self.new.committed;
+          over = result.over;
+        } }
         ensures edited { self.new.edited ≡ self.old.edited }
         ensures within { result.count ≤ 128 }
     {

@@ -121,14 +121,16 @@ impl Hart {
 
     #[inline(always)]
     fn shift(&mut self, op: ShiftOp, rd: Target, rs1: Reg, amount: Amount) -> Next
-        ensures { (pc : ℕ) → Turns (set_register self.old.registers pc rd (shifted op (slice_index self.old.registers rs1) amount)) result pc self.old self.new }
+        ensures { (pc : ℕ) → Turns (set_register self.old.registers pc rd
+            (shifted op (slice_index self.old.registers rs1) amount)) result pc self.old self.new }
     {
         self.put(rd, alu::shift(op, self.read(rs1), u32::from(amount.bits())))
     }
 
     #[inline(always)]
     fn shift_word(&mut self, op: ShiftOp, rd: Target, rs1: Reg, amount: AmountW) -> Next
-        ensures { (pc : ℕ) → Turns (set_register self.old.registers pc rd (shifted_word op (low (slice_index self.old.registers rs1)) amount)) result pc self.old self.new }
+        ensures { (pc : ℕ) → Turns (set_register self.old.registers pc rd
+            (shifted_word op (low (slice_index self.old.registers rs1)) amount)) result pc self.old self.new }
     {
         let low = alu::low(self.read(rs1));
         self.put(rd, alu::shift_word(op, low, u32::from(amount.bits())))
@@ -193,7 +195,8 @@ impl Hart {
         trans: &mut T,
     ) -> Next
         requires { HoldsInside (T.held trans.old) ram.now }
-        ensures { (pc : ℕ) → Acts (T.held trans.old) (T.held trans.new) (load_by self.old.registers pc op rd address) result pc self.old self.new ram.now ram.now }
+        ensures { (pc : ℕ) → Acts (T.held trans.old) (T.held trans.new)
+            (load_by self.old.registers pc op rd address) result pc self.old self.new ram.now ram.now }
     {
         if !is_aligned(address, load_size(op)) {
             return stop(Cause::LoadMisaligned, address);
@@ -208,7 +211,8 @@ impl Hart {
     #[inline(always)]
     fn probe<T: Translate>(&self, op: LoadOp, address: u64, ram: &Ram, trans: &mut T) -> Next
         requires { HoldsInside (T.held trans.old) ram.now }
-        ensures { (pc : ℕ) → Acts (T.held trans.old) (T.held trans.new) (load_by self.now.registers pc op 0 address) result pc self.now self.now ram.now ram.now }
+        ensures { (pc : ℕ) → Acts (T.held trans.old) (T.held trans.new)
+            (load_by self.now.registers pc op 0 address) result pc self.now self.now ram.now ram.now }
     {
         if !is_aligned(address, load_size(op)) {
             return stop(Cause::LoadMisaligned, address);
@@ -230,7 +234,8 @@ impl Hart {
         trans: &mut T,
     ) -> Next
         requires { HoldsInside (T.held trans.old) ram.old }
-        ensures { (pc : ℕ) → Acts (T.held trans.old) (T.held trans.new) (store_by self.now.registers pc op address value) result pc self.now self.now ram.old ram.new }
+        ensures { (pc : ℕ) → Acts (T.held trans.old) (T.held trans.new)
+            (store_by self.now.registers pc op address value) result pc self.now self.now ram.old ram.new }
     {
         if !is_aligned(address, store_size(op)) {
             return stop(Cause::StoreMisaligned, address);
@@ -249,7 +254,8 @@ impl Hart {
     #[tactic(auto, using(crate::proofs::Acts::op_acts), unfolding(crate::specs::Operations::op_by))]
     pub fn act<T: Translate>(&mut self, op: &Op, pc: u64, ram: &mut Ram, trans: &mut T) -> Next
         requires { HoldsInside (T.held trans.old) ram.old }
-        ensures { Acts (T.held trans.old) (T.held trans.new) (op_by op.now self.old.registers pc) result pc self.old self.new ram.old ram.new }
+        ensures { Acts (T.held trans.old) (T.held trans.new) (op_by op.now self.old.registers pc)
+            result pc self.old self.new ram.old ram.new }
     {
         match *op {
             Op::Lui { rd, imm } => self.put(rd, bits::extend_u32(imm)),

@@ -46,7 +46,9 @@ impl Hart {
         requires frame { f.0 < length ram.old }
         requires place { k < 1024 }
         requires page { base % 4096 ≡ 0 }
-        ensures { Acts (T.held trans.old) (T.held trans.new) (word_by (instruction_of (word_in ram.old f.0 (pc_at base k))) self.old.registers (pc_at base k)) result (pc_at base k) self.old self.new ram.old ram.new }
+        ensures { Acts (T.held trans.old) (T.held trans.new)
+            (word_by (instruction_of (word_in ram.old f.0 (pc_at base k))) self.old.registers (pc_at base k))
+            result (pc_at base k) self.old self.new ram.old ram.new }
     {
         line.read(ram.load_u32(f, 4 * k));
         self.act(line.op(), base.wrapping_add(4 * k as u64), ram, trans)
@@ -69,7 +71,8 @@ impl Hart {
         requires lines { length lines.old ≡ 1024 }
         requires places { (from ≤ end) × (end ≤ 1024) }
         requires page { base % 4096 ≡ 0 }
-        ensures goes { (mapping : List Mapped) → frame_for mapping (base / 4096) Access.Fetch ≡ Some f.0 → GoesOn (T.held trans.old) (T.held trans.new) self.old.root.0 mapping
+        ensures goes { (mapping : List Mapped) → frame_for mapping (base / 4096) Access.Fetch ≡ Some f.0 →
+            GoesOn (T.held trans.old) (T.held trans.new) self.old.root.0 mapping
             (point_at self.old (pc_at base from) ram.old) (point_at self.new (goes_to (pc_at base (from + result.0)) result.1) ram.new) result.0 (trap_of result.1) }
         ensures whole { StaysWhole (T.held trans.new) self.old self.new ram.old ram.new }
         ensures within { from + result.0 ≤ end }
@@ -139,7 +142,8 @@ impl Hart {
         count: u32,
     ) -> (u32, Option<Trap>)
         requires { HoldsInside (T.held trans.old) ram.old }
-        ensures goes { (mapping : List Mapped) → GoesOn (T.held trans.old) (T.held trans.new) self.old.root.0 mapping (point_of self.old ram.old) (point_of self.new ram.new) result.0 result.1 }
+        ensures goes { (mapping : List Mapped) → GoesOn (T.held trans.old) (T.held trans.new)
+            self.old.root.0 mapping (point_of self.old ram.old) (point_of self.new ram.new) result.0 result.1 }
         ensures whole { StaysWhole (T.held trans.new) self.old self.new ram.old ram.new }
         ensures within { result.0 ≤ count }
         ensures all { IfNone result.1 (result.0 ≡ count) }

@@ -38,7 +38,8 @@ fn write_upper<W: fmt::Write>(
     rd: Reg,
     imm: Imm20,
 ) -> fmt::Result
-    ensures { DisplaysOnOk W.write_str_gives f.old result (Some (the.two_parts name.now (the.register_text rd) (the.hexadecimal imm))) f.new }
+    ensures { DisplaysOnOk W.write_str_gives f.old result
+        (Some (the.two_parts name.now (the.register_text rd) (the.hexadecimal imm))) f.new }
 {
     let (rd, imm) = (names::register_name(rd), imm.bits());
     write!(f, "{name} {rd}, 0x{imm:x}")
@@ -51,7 +52,8 @@ fn write_jump<W: fmt::Write>(
     rd: Reg,
     offset: JumpOffset,
 ) -> fmt::Result
-    ensures { DisplaysOnOk W.write_str_gives f.old result (Some (the.two_parts name.now (the.register_text rd) (the.number_text 21 offset))) f.new }
+    ensures { DisplaysOnOk W.write_str_gives f.old result
+        (Some (the.two_parts name.now (the.register_text rd) (the.number_text 21 offset))) f.new }
 {
     let (rd, offset) = (names::register_name(rd), signed(21, offset.bits()));
     write!(f, "{name} {rd}, {offset}")

@@ -98,7 +98,8 @@ fn copy_between(
     requires apart { from ≢ to }
     requires i { i + len ≤ 4096 }
     requires j { j + len ≤ 4096 }
-    ensures value { frames.new ≡ slice_set frames.old to (put_bytes (frame_of frames.old to) j (slice_range (frame_of frames.old from) i (i + len))) }
+    ensures value { frames.new ≡ slice_set frames.old to (put_bytes (frame_of frames.old to) j
+        (slice_range (frame_of frames.old from) i (i + len))) }
     ensures from { length (frame_of frames.old from) ≡ 4096 }
     ensures to { length (frame_of frames.old to) ≡ 4096 }
 {

@@ -368,7 +368,7 @@ pub fn walk_counted(ram: &Ram, root: FrameNo, va: u64, access: Access) -> (Resul
 }
 
 /// Translates addresses, and may hold translations until it is fenced, as the manual allows.
-pub trait Translate {
+pub trait Translate: Drop {
     ghost held: { Self → Translation → Type 0 };
 
     /// The physical address of a virtual address, by the tables from a root or by a translation that

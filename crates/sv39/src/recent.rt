@@ -33,12 +33,12 @@ fn frame_by<T: Translate>(
 /// Asks the translator below, and remembers its answers until it is fenced: for each kind of access one in each of 64 places. A page's
 /// place is its number modulo 64, and what is remembered answers only for its root, page and access.
 #[derive(Drop)]
-pub struct Recent<T: Translate + Drop> {
+pub struct Recent<T: Translate> {
     below: T,
     places: Places<64>,
 }
 
-impl<T: Translate + Drop> Recent<T> {
+impl<T: Translate> Recent<T> {
     /// A translator over this one that remembers nothing.
     pub fn new(below: T) -> Recent<T>
         ensures below { result.below ≡ below }
@@ -94,7 +94,7 @@ impl<T: Translate + Drop> Recent<T> {
     }
 }
 
-impl<T: Translate + Drop> Translate for Recent<T> {
+impl<T: Translate> Translate for Recent<T> {
     ghost held = { λ n. Knows T.held n.below n.places };
 
     #[inline(always)]
