@@ -1,19 +1,9 @@
 -- A page comes to a space: its frame is one that the space is counted to hold already, a new one or a shared one.
-use Rattle.std.proofs.Common.{◌≡◌, ◌≢◌, ℕ, suc, ◌+◌, ◌<◌, ◌≤◌, inl, inr, false, true, List, [], ◌∷◌, ◌++◌, refl, sym, ap, ◌∙◌, arith, add-one, nat_eq}
-use Rattle.std.proofs.lemmas.Bool.{cases_eq}
-use Rattle.ram.specs.Memory.{frame_of}
-use Rattle.frames.specs.declared.Frames.{Frames}
-use Rattle.frames.specs.Free.{free_of, free_count, further_at, IsFreeList}
-use Rattle.frames.proofs.FreeLemmas.{further-free}
-use Rattle.frames.specs.Holders.{one_if, count_of, holders_of, Trades}
-use Rattle.frames.proofs.HolderLemmas.{count_of-append, count_of-first, count_of-other, held-inside, holders-free, holders-table, free-holders, distinct-count, count-cases}
-use Rattle.pagetable.specs.Tree.{lookup_of, missing}
-use Rattle.pagetable.specs.Shape.{Adds}
-use Rattle.pagetable.proofs.TreeLemmas.{further-same}
-use Rattle.vm.specs.Dense.{trap_page, frame_at, marks_at, page_at, page_with, pages_below, frames_below, tables_for, tables_below, held, frames_for, IsDense, OwnsFrames}
+use Rattle.vm.proofs.Common.{◌≡◌, ◌≢◌, ℕ, suc, ◌+◌, ◌<◌, ◌≤◌, inl, inr, false, true, List, [], ◌∷◌, ◌++◌, refl, sym, ap, ◌∙◌, arith, add-one, nat_eq, cases_eq, frame_of, Frames, free_of, free_count, further_at, IsFreeList}
+use Rattle.vm.proofs.Common.{further-free, one_if, count_of, holders_of, Trades, count_of-append, count_of-first, count_of-other, held-inside, holders-free, holders-table, free-holders, distinct-count, count-cases}
+use Rattle.vm.proofs.Common.{lookup_of, missing, Adds, further-same, trap_page, frame_at, marks_at, page_at, page_with, pages_below, frames_below, tables_for, tables_below, held, frames_for, IsDense, OwnsFrames, is_open}
 use Rattle.vm.proofs.DenseLemmas.{count-held, page-held, pages_below-more, table-held}
 use Rattle.vm.proofs.GrowLemmas.{lookup-parts, frame_at-is, marks_at-is, frame_at-same, marks_at-same, held-same, made-tables, missing-next}
-use Rattle.vm.specs.Leaf.{is_open}
 use Rattle.vm.proofs.StepLemmas.{IsNext, beyond-held, pages_below-same}
 
 -- the space before, beside whoever else holds the page's frame

@@ -1,20 +1,10 @@
 -- A space outlives what is done beside it, also where it shares frames.
-use Rattle.std.proofs.Common.{◌≡◌, ℕ, ◌+◌, ◌<◌, ◌≤◌, inl, inr, List, [], ◌∷◌, ◌++◌, refl, sym, ap, ◌∙◌, arith}
-use Rattle.std.proofs.lemmas.Bool.{cases_eq}
-use Rattle.ram.specs.Memory.{frame_of}
-use Rattle.frames.specs.declared.Frames.{Frames}
-use Rattle.frames.specs.Free.{further_at, IsFreeList}
-use Rattle.frames.specs.Holders.{count_of, holders_of, Trades}
-use Rattle.frames.proofs.HolderLemmas.{count_of-append, count_of-first, one-holder, single, Trades-beside}
-use Rattle.pagetable.specs.Tree.{HasTable, SameMap}
-use Rattle.pagetable.proofs.Beside.{table_at-same, lookup_of-same}
-use Rattle.vm.specs.declared.Space.{Space}
-use Rattle.vm.specs.Dense.{held, tables_below, frames_below, frame_at, pages_below, IsDense, OwnsFrames, SameLeaves}
+use Rattle.vm.proofs.Common.{◌≡◌, ℕ, ◌+◌, ◌<◌, ◌≤◌, inl, inr, List, [], ◌∷◌, ◌++◌, refl, sym, ap, ◌∙◌, arith, cases_eq, frame_of, Frames, further_at, IsFreeList, count_of, holders_of}
+use Rattle.vm.proofs.Common.{Trades, count_of-append, count_of-first, one-holder, single, Trades-beside, HasTable, SameMap, table_at-same, lookup_of-same, Space, held, tables_below}
+use Rattle.vm.proofs.Common.{frames_below, frame_at, pages_below, IsDense, OwnsFrames, SameLeaves, entry_marks, is_open, right_marks, IsSpace, holds, pages_in, IsUntouched}
 use Rattle.vm.proofs.DenseLemmas.{count-held, page-held, table-held}
 use Rattle.vm.proofs.GrowLemmas.{IsDense-same, held-same, frame_at-same, marks_at-same}
 use Rattle.vm.proofs.StepLemmas.{read_below-same, pages_below-same}
-use Rattle.vm.specs.Leaf.{entry_marks, is_open, right_marks}
-use Rattle.vm.specs.Space.{IsSpace, holds, pages_in, IsUntouched}
 
 -- a frame that one holder alone holds stays so, whatever others trade
 pub alone-stays : (m k : List (List ℕ)) (s n : Frames) (old new : List ℕ) (f : ℕ) → IsFreeList m s → IsFreeList k n → Trades m k s n old new → count_of f old + 1 ≤ holders_of m s f → further_at s f ≡ 0 → further_at n f ≡ 0

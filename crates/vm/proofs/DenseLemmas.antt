@@ -1,17 +1,7 @@
 -- Lemmas on dense spaces.
-use Rattle.std.proofs.Common.{◌≡◌, ◌≢◌, ℕ, zero, suc, ◌+◌, ◌-◌, ◌*◌, ◌/◌, ◌%◌, ◌^◌, ◌<◌, ◌≤◌, ◌⊎◌, inl, inr, Bool, false, true, List, [], ◌∷◌, ◌++◌, length, Some, refl, sym, ap, ◌∙◌, arith, length-append, eqb, eq-eqb, ltb}
-use Rattle.std.specs.Prelude.{if◌then◌else◌}
-use Rattle.std.proofs.lemmas.Bool.{cases_eq, cases_lt, ne_eqb, lt-ltb, le-ltb}
-use Rattle.frames.specs.Holders.{one_if, count_of}
-use Rattle.frames.proofs.HolderLemmas.{count_of-append, count_of-first}
-use Rattle.pagetable.specs.Tree.{Node, Root, Mid, Low, mid_node, low_node, table_at, lookup_of, HasTable}
-use Rattle.pagetable.proofs.TreeLemmas.{root_at}
-use Rattle.pagetable.specs.Shape.{table_of, IsUsed}
-use Rattle.pagetable.proofs.ShapeLemmas.{table_of-some}
-use Rattle.std.proofs.lemmas.List.{map-append}
-use Rattle.sv39.specs.Mapping.{memory_of, page_in}
-use Rattle.vm.specs.Leaf.{right_marks}
-use Rattle.vm.specs.Dense.{trap_page, frame_at, page_at, read_at, read_below, mapping_below, pages_below, frames_below, tables_for, tables_below, held, frames_for, IsDense}
+use Rattle.vm.proofs.Common.{◌≡◌, ◌≢◌, ℕ, zero, suc, ◌+◌, ◌-◌, ◌*◌, ◌/◌, ◌%◌, ◌^◌, ◌<◌, ◌≤◌, ◌⊎◌, inl, inr, Bool, false, true, List, [], ◌∷◌, ◌++◌, length, Some, refl, sym, ap, ◌∙◌, arith, length-append, eqb, eq-eqb, ltb, if◌then◌else◌}
+use Rattle.vm.proofs.Common.{cases_eq, cases_lt, ne_eqb, lt-ltb, le-ltb, one_if, count_of, count_of-append, count_of-first, Node, Root, Mid, Low, mid_node, low_node, table_at, lookup_of, HasTable, root_at, table_of, IsUsed}
+use Rattle.vm.proofs.Common.{table_of-some, map-append, memory_of, page_in, right_marks, trap_page, frame_at, page_at, read_at, read_below, mapping_below, pages_below, frames_below, tables_for, tables_below, held, frames_for, IsDense}
 
 -- ---- how many
 

@@ -1,23 +1,13 @@
 -- The last page goes.
-use Rattle.std.proofs.Common.{◌≡◌, ℕ, suc, ◌+◌, ◌<◌, ◌≤◌, inl, inr, false, List, [], ◌∷◌, length, Option, Some, unwrap_or, refl, sym, ap, ◌∙◌, arith, add-one}
+use Rattle.vm.proofs.Common.{◌≡◌, ℕ, suc, ◌+◌, ◌<◌, ◌≤◌, inl, inr, false, List, [], ◌∷◌, length, Option, Some, unwrap_or, refl, sym, ap, ◌∙◌, arith, add-one, cases_eq, frame_of, Frames, among, free_of}
+use Rattle.vm.proofs.Common.{extra_of, further_at, IsFreeList, SameBut, count_of, holders_of, Trades, count_of-first, among-none, held-inside, holders-table, Trades-give, lookup_of, IsPaged, Keeps, IsTidy}
+use Rattle.vm.proofs.Common.{Adds, Removes, lookup-sound, trap_page, frame_at, marks_at, pages_below, frames_below, tables_for, tables_below, held, IsDense, OwnsFrames, SameLeavesUpTo, further-same, is_open}
 use Rattle.std.specs.Option.{option_map}
-use Rattle.std.proofs.lemmas.Bool.{cases_eq}
-use Rattle.ram.specs.Memory.{frame_of}
-use Rattle.frames.specs.declared.Frames.{Frames}
-use Rattle.frames.specs.Free.{among, free_of, extra_of, further_at, IsFreeList, SameBut}
-use Rattle.frames.specs.Holders.{count_of, holders_of, Trades}
-use Rattle.frames.proofs.HolderLemmas.{count_of-first, among-none, held-inside, holders-table, Trades-give}
-use Rattle.pagetable.specs.Tree.{lookup_of, IsPaged, Keeps}
-use Rattle.pagetable.specs.Shape.{IsTidy, Adds, Removes}
-use Rattle.pagetable.proofs.LookupLemmas.{lookup-sound}
-use Rattle.vm.specs.Dense.{trap_page, frame_at, marks_at, pages_below, frames_below, tables_for, tables_below, held, IsDense, OwnsFrames, SameLeavesUpTo}
 use Rattle.vm.proofs.Added.{IsAdded, IsCounted, added-count, added-same}
 use Rattle.vm.proofs.Beside.{Besides, Trades-held}
 use Rattle.vm.proofs.DenseLemmas.{count-held, page-held, table-held}
 use Rattle.vm.proofs.GrowLemmas.{frame_at-same, lookup-parts, marks_at-same}
-use Rattle.pagetable.proofs.TreeLemmas.{further-same}
 use Rattle.vm.proofs.StepLemmas.{held-not_free, beyond-held, read_below-same, pages_below-same}
-use Rattle.vm.specs.Leaf.{is_open}
 
 -- page n is unmapped, and then its frame f is given back
 pub record IsUnmapped (m j : List (List ℕ)) (r n f : ℕ) (s a : Frames) : Type 0 where

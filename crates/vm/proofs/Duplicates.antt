@@ -1,11 +1,6 @@
 -- A machine stays one over a duplicate of its free frames.
-use Rattle.std.proofs.Common.{ℕ, List, Option}
+use Rattle.vm.proofs.Common.{ℕ, List, Option, Frames, IsDuplicate, Space, IsMachine, all_held, IsSpace}
 use Rattle.frames.proofs.Duplicates.{same-further, same-holders, same-list, same-shared}
-use Rattle.frames.specs.declared.Frames.{Frames}
-use Rattle.frames.specs.Free.{IsDuplicate}
-use Rattle.vm.specs.declared.Space.{Space}
-use Rattle.vm.specs.Shares.{IsMachine, all_held}
-use Rattle.vm.specs.Space.{IsSpace}
 
 same-space : (m : List (List ℕ)) (x : Space) (s n : Frames) → IsDuplicate s n → IsSpace m x s → IsSpace m x n
 same-space m x s n is space = record {

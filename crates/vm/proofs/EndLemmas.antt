@@ -1,19 +1,7 @@
 -- A space of no pages goes.
-use Rattle.std.proofs.Common.{◌≡◌, ◌≢◌, ℕ, ◌+◌, ◌<◌, inl, inr, false, List, [], ◌∷◌, ◌++◌, length, Option, Some, None, unwrap_or, refl, sym, ap, ◌∙◌, arith, eqb}
-use Rattle.std.proofs.lemmas.Bool.{cases_eq}
-use Rattle.ram.specs.Memory.{frame_of}
-use Rattle.frames.specs.declared.Frames.{Frames}
-use Rattle.frames.specs.Free.{among, free_of, extra_of}
-use Rattle.frames.specs.Holders.{one_if, count_of, Trades}
-use Rattle.frames.proofs.HolderLemmas.{count_of-first, count_of-other, among-none, none-among, holders-table}
-use Rattle.pagetable.specs.Tree.{Node, Root, IsNode, mid_node, low_node, table_at, lookup_of, IsPaged, HasTable}
-use Rattle.pagetable.proofs.TreeLemmas.{further-same, mid_is_node, root_at}
-use Rattle.pagetable.proofs.Beside.{IsTree-same, table_at-same}
-use Rattle.pagetable.specs.Shape.{table_of, IsEmpty}
-use Rattle.pagetable.proofs.EmptyLemmas.{IsEmpty-tables}
-use Rattle.pagetable.proofs.ShapeLemmas.{made-two}
-use Rattle.pagetable.proofs.LookupLemmas.{lookup-sound}
-use Rattle.vm.specs.Dense.{trap_page, trap_marks, frames_below, tables_below, held, OwnsFrames}
+use Rattle.vm.proofs.Common.{◌≡◌, ◌≢◌, ℕ, ◌+◌, ◌<◌, inl, inr, false, List, [], ◌∷◌, ◌++◌, length, Option, Some, None, unwrap_or, refl, sym, ap, ◌∙◌, arith, eqb, cases_eq, frame_of, Frames, among, free_of, extra_of}
+use Rattle.vm.proofs.Common.{one_if, count_of, Trades, count_of-first, count_of-other, among-none, none-among, holders-table, Node, Root, IsNode, mid_node, low_node, table_at, lookup_of, IsPaged, HasTable, further-same}
+use Rattle.vm.proofs.Common.{mid_is_node, root_at, IsTree-same, table_at-same, table_of, IsEmpty, IsEmpty-tables, made-two, lookup-sound, trap_page, trap_marks, frames_below, tables_below, held, OwnsFrames}
 use Rattle.vm.proofs.DenseLemmas.{cases_root, count-held, table-held}
 use Rattle.vm.proofs.StepLemmas.{beyond-held, held-not_free}
 use Rattle.vm.proofs.DropLemmas.{IsUnmapped, IsGiven}

@@ -1,25 +1,15 @@
 -- A page of a space is shared with a space that is made.
-use Rattle.std.proofs.Common.{◌≡◌, ◌≢◌, ℕ, zero, suc, ◌+◌, ◌-◌, ◌<◌, ◌≤◌, inl, inr, false, List, [], ◌∷◌, ◌++◌, refl, sym, ap, ◌∙◌, arith, add-one, length-append, get_or}
-use Rattle.std.proofs.lemmas.Bool.{cases_eq}
-use Rattle.std.proofs.lemmas.List.{map-append}
-use Rattle.ram.specs.Memory.{frame_of}
-use Rattle.frames.specs.declared.Frames.{Frames}
-use Rattle.frames.specs.Free.{free_of, free_count, IsFreeList}
-use Rattle.frames.specs.Holders.{count_of, holders_of, Trades}
-use Rattle.frames.proofs.HolderLemmas.{count_of-append, count_of-other, held-inside, not-free-held, Trades-none, Trades-twice, Trades-lengths}
-use Rattle.unixmodel.specs.Memory.{Page, Perm, shared_marks, shared_memory, shared_page}
+use Rattle.vm.proofs.Common.{◌≡◌, ◌≢◌, ℕ, zero, suc, ◌+◌, ◌-◌, ◌<◌, ◌≤◌, inl, inr, false, List, [], ◌∷◌, ◌++◌, refl, sym, ap, ◌∙◌, arith, add-one, length-append, get_or, cases_eq, map-append, frame_of}
+use Rattle.vm.proofs.Common.{Frames, free_of, free_count, IsFreeList, count_of, holders_of, Trades, count_of-append, count_of-other, held-inside, not-free-held, Trades-none, Trades-twice}
+use Rattle.vm.proofs.Common.{Trades-lengths, Page, Perm, shared_marks, shared_memory, shared_page, Space, frame_at, marks_at, page_at, page_with, pages_below, frames_below, tables_below, held}
+use Rattle.vm.proofs.Common.{frames_for, OwnsFrames, is_open, right_marks, IsMore, IsPart, IsSoFar, IsSpace, Reframes, pages_of, registers_of, holds, pages_in, GainsHolders, HasFramesOf, SameOtherPages}
 use Rattle.vm.proofs.GrowLemmas.{frame_at-is, frame_at-same, missing-next}
 use Rattle.vm.proofs.PageLemmas.{get_or-pages}
-use Rattle.vm.specs.declared.Space.{Space}
-use Rattle.vm.specs.Dense.{frame_at, marks_at, page_at, page_with, pages_below, frames_below, tables_below, held, frames_for, OwnsFrames}
 use Rattle.vm.proofs.DenseLemmas.{count-held, frames_for-more, page-held, pages_below-more, pages_below-zero, length-held}
 use Rattle.vm.proofs.Added.{IsBefore, next-held, next-pages, next-trades, next-trap, share-stands}
-use Rattle.vm.specs.Leaf.{is_open, right_marks}
 use Rattle.vm.proofs.Beside.{Trades-as, Trades-frame, Trades-held}
-use Rattle.vm.specs.Fork.{IsMore, IsPart, IsSoFar}
 use Rattle.vm.proofs.StepLemmas.{IsNext}
 use Rattle.vm.proofs.StoreLemmas.{pages-same}
-use Rattle.vm.specs.Space.{IsSpace, Reframes, pages_of, registers_of, holds, pages_in, GainsHolders, HasFramesOf, SameOtherPages}
 
 -- ---- trades of more than one holder
 

@@ -1,13 +1,7 @@
 -- One more page.
-use Rattle.std.proofs.Common.{◌≡◌, ◌≢◌, ℕ, zero, suc, ◌+◌, ◌-◌, ◌/◌, ◌%◌, ◌<◌, ◌⊎◌, inl, inr, List, [], ◌∷◌, length, Option, Some, None, unwrap_or, refl, sym, ap, ◌∙◌, arith, eq-eqb}
-use Rattle.std.proofs.lemmas.Bool.{cases_eq, ne_eqb}
-use Rattle.ram.specs.Memory.{frame_of}
-use Rattle.pagetable.specs.Tree.{Node, Mid, Low, IsNode, leaf_at, mid_node, low_node, table_at, lookup_of, HasTable, missing}
-use Rattle.pagetable.proofs.TreeLemmas.{low_is_node, mid_is_node, no_low}
-use Rattle.pagetable.proofs.Beside.{IsTree-same, table_at-same, lookup_of-same}
-use Rattle.pagetable.specs.Shape.{table_of, IsTidy, made}
-use Rattle.pagetable.proofs.ShapeLemmas.{table_of-some, length-made}
-use Rattle.vm.specs.Dense.{trap_page, trap_marks, frame_at, marks_at, frames_below, tables_for, tables_below, frames_for, IsDense}
+use Rattle.vm.proofs.Common.{◌≡◌, ◌≢◌, ℕ, zero, suc, ◌+◌, ◌-◌, ◌/◌, ◌%◌, ◌<◌, ◌⊎◌, inl, inr, List, [], ◌∷◌, length, Option, Some, None, unwrap_or, refl, sym, ap, ◌∙◌, arith, eq-eqb, cases_eq, ne_eqb}
+use Rattle.vm.proofs.Common.{frame_of, Node, Mid, Low, IsNode, leaf_at, mid_node, low_node, table_at, lookup_of, HasTable, missing, low_is_node, mid_is_node, no_low, IsTree-same, table_at-same}
+use Rattle.vm.proofs.Common.{lookup_of-same, table_of, IsTidy, made, table_of-some, length-made, trap_page, trap_marks, frame_at, marks_at, frames_below, tables_for, tables_below, frames_for, IsDense}
 use Rattle.vm.proofs.DenseLemmas.{mapped-cases, low-0, mid-0, length-tables_for, frames_for-more}
 
 -- ---- what stays where the frames of the tables stay

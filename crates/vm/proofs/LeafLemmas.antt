@@ -1,16 +1,7 @@
 -- Lemmas on the marks of leaves.
-use Rattle.std.proofs.Common.{◌≡◌, ◌+◌, ℕ, Bool, true, false, List, replicate, refl, sym, ap, subst, ◌∙◌, arith, rules, ◌&&◌, ◌||◌, ◌*◌}
-use Rattle.frames.specs.Holders.{one_if}
-use Rattle.std.specs.Prelude.{not}
-use Rattle.std.proofs.lemmas.Bool.{and_parts}
-use Rattle.unixmodel.specs.declared.trap.Access.{Access}
-use Rattle.unixmodel.specs.declared.trap.Access.TheVariants.{Fetch, Load, Store}
-use Rattle.unixmodel.specs.Memory.{Perm, Page, permits, shared_marks, zeros, zero_page}
-use Rattle.unixmodel.specs.Translation.{leaf_allows}
+use Rattle.vm.proofs.Common.{◌≡◌, ◌+◌, ℕ, Bool, true, false, List, replicate, refl, sym, ap, subst, ◌∙◌, arith, rules, ◌&&◌, ◌||◌, ◌*◌, one_if, not, and_parts, Access, Fetch, Load, Store}
+use Rattle.vm.proofs.Common.{Perm, Page, permits, shared_marks, zeros, zero_page, leaf_allows, IsLeafMarks, trap_marks, page_with, IsUserLeaf, entry_marks, is_open, right_marks, user_leaf}
 use Rattle.pagetable.specs.Marks.{leaf_marks}
-use Rattle.pagetable.specs.Tree.{IsLeafMarks}
-use Rattle.vm.specs.Dense.{trap_marks, page_with}
-use Rattle.vm.specs.Leaf.{IsUserLeaf, entry_marks, is_open, right_marks, user_leaf}
 
 abbrev marks_by : Bool → Bool → Bool → Bool → Perm
 marks_by w x u s = record { writable = w; executable = x; user = u; shared = s }

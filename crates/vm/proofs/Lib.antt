@@ -1,3 +1,4 @@
+mod Common
 pub mod Added
 pub mod Beside
 pub mod DenseLemmas

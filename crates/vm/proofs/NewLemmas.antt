@@ -1,18 +1,8 @@
 -- A space of no pages.
-use Rattle.std.proofs.Common.{◌≡◌, ◌≢◌, ℕ, ◌+◌, ◌<◌, false, true, List, [], ◌∷◌, ◌++◌, length, Some, sym, ap, ◌∙◌, arith, slice_set, length-set, get_or-set_other, replicate, inl, inr}
-use Rattle.ram.specs.Memory.{frame_of}
-use Rattle.frames.specs.declared.Frames.{Frames}
-use Rattle.frames.specs.Free.{among, free_of, free_count, extra_of, IsFreeList}
-use Rattle.frames.proofs.FreeLemmas.{among_first, among_first_not, further-free}
-use Rattle.frames.specs.Holders.{count_of, Trades}
-use Rattle.frames.proofs.HolderLemmas.{count_of-first, among-none, none-among, count-cases, free-holders, holders-table, held-inside, distinct-count}
-use Rattle.pagetable.specs.Tree.{Root, mid_node, low_node, table_at, IsPaged, HasTable, missing}
-use Rattle.pagetable.proofs.TreeLemmas.{free-first, free_count-taken, further-same, mid_is_node, root_at, missing_two}
-use Rattle.pagetable.proofs.Beside.{IsTree-same, table_at-same, lookup_of-same}
-use Rattle.pagetable.specs.Shape.{table_of, IsEmpty}
-use Rattle.pagetable.proofs.ShapeLemmas.{made-two}
-use Rattle.pagetable.proofs.EmptyLemmas.{only-root}
-use Rattle.vm.specs.Dense.{trap_page, trap_marks, frames_below, tables_below, held, OwnsFrames}
+use Rattle.vm.proofs.Common.{◌≡◌, ◌≢◌, ℕ, ◌+◌, ◌<◌, false, true, List, [], ◌∷◌, ◌++◌, length, Some, sym, ap, ◌∙◌, arith, slice_set, length-set, get_or-set_other, replicate, inl, inr, frame_of, Frames, among}
+use Rattle.vm.proofs.Common.{free_of, free_count, extra_of, IsFreeList, among_first, among_first_not, further-free, count_of, Trades, count_of-first, among-none, none-among, count-cases, free-holders}
+use Rattle.vm.proofs.Common.{holders-table, held-inside, distinct-count, Root, mid_node, low_node, table_at, IsPaged, HasTable, missing, free-first, free_count-taken, further-same, mid_is_node, root_at}
+use Rattle.vm.proofs.Common.{missing_two, IsTree-same, table_at-same, lookup_of-same, table_of, IsEmpty, made-two, only-root, trap_page, trap_marks, frames_below, tables_below, held, OwnsFrames}
 use Rattle.vm.proofs.DenseLemmas.{count-held}
 use Rattle.vm.proofs.StepLemmas.{IsTaken, IsNext, free-after}
 

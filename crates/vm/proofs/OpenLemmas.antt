@@ -1,10 +1,5 @@
 -- Pages that are open stay so.
-use Rattle.std.proofs.Common.{◌≡◌, ◌≢◌, ℕ, ◌+◌, ◌<◌, ◌≤◌, inl, inr, true, List, sym, ap, ◌∙◌, arith, get_or}
-use Rattle.std.proofs.lemmas.Bool.{cases_eq}
-use Rattle.sv39.specs.Mapping.{Mapped}
-use Rattle.unixmodel.specs.Memory.{Perm}
-use Rattle.vm.specs.Dense.{IsOpenFrom, marks_at, read_at, SameLeaves}
-use Rattle.vm.specs.Leaf.{entry_marks, is_open, right_marks, user_leaf}
+use Rattle.vm.proofs.Common.{◌≡◌, ◌≢◌, ℕ, ◌+◌, ◌<◌, ◌≤◌, inl, inr, true, List, sym, ap, ◌∙◌, arith, get_or, cases_eq, Mapped, Perm, IsOpenFrom, marks_at, read_at, SameLeaves, entry_marks, is_open, right_marks, user_leaf}
 use Rattle.vm.proofs.LeafLemmas.{leaf-open, right-leaf}
 use Rattle.vm.proofs.PageLemmas.{get_or-mapping}
 

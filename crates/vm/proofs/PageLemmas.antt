@@ -1,12 +1,7 @@
 -- The pages as a list.
-use Rattle.std.proofs.Common.{◌≡◌, ℕ, zero, suc, ◌<◌, ◌≤◌, List, [], ◌∷◌, ◌++◌, length, refl, sym, ap, ◌∙◌, arith, add-one, map, take, get_or}
+use Rattle.vm.proofs.Common.{◌≡◌, ℕ, zero, suc, ◌<◌, ◌≤◌, List, [], ◌∷◌, ◌++◌, length, refl, sym, ap, ◌∙◌, arith, add-one, map, take, get_or, range_with_len, length-map-range_with_len}
+use Rattle.vm.proofs.Common.{get_or-map-range_with_len, take-map-range_with_len, map-range_with_len_more, Mapped, memory_of, page_in, Perm, Page, read_at, read_below, page_at, pages_below, right_marks}
 use Rattle.std.proofs.lemmas.Simd.{map-map}
-use Rattle.std.specs.List.{range_with_len}
-use Rattle.std.proofs.lemmas.List.FromFn.{length-map-range_with_len, get_or-map-range_with_len, take-map-range_with_len, map-range_with_len_more}
-use Rattle.sv39.specs.Mapping.{Mapped, memory_of, page_in}
-use Rattle.unixmodel.specs.Memory.{Perm, Page}
-use Rattle.vm.specs.Dense.{read_at, read_below, page_at, pages_below}
-use Rattle.vm.specs.Leaf.{right_marks}
 
 pub mapping-map : (read : ℕ → Perm) (m : List (List ℕ)) (r n : ℕ) → read_below read m r n ≡ map (read_at read m r) (range_with_len 0 n)
 unfolding read_below

@@ -1,7 +1,5 @@
 -- A part of a frame is written.
-use Rattle.std.proofs.Common.{◌≡◌, ℕ, ◌+◌, ◌≤◌, List, ◌++◌, length, take, drop, replicate, refl, ap, ◌∙◌, arith, slice_set, length-append, length-take, length-drop}
-use Rattle.std.proofs.lemmas.List.{take_at, drop-drop}
-use Rattle.ram.specs.Memory.{frame_of, put, put_bytes, sized}
+use Rattle.vm.proofs.Common.{◌≡◌, ℕ, ◌+◌, ◌≤◌, List, ◌++◌, length, take, drop, replicate, refl, ap, ◌∙◌, arith, slice_set, length-append, length-take, length-drop, take_at, drop-drop, frame_of, put, put_bytes, sized}
 
 sized-whole : (xs : List ℕ) → length xs ≡ 4096 → sized xs ≡ xs
 unfolding sized

@@ -1,17 +1,9 @@
 -- Lemmas on what a program's memory shows from an address on.
-use Rattle.std.proofs.Common.{◌≡◌, ℕ, zero, suc, ◌+◌, ◌-◌, ◌*◌, ◌/◌, ◌%◌, ◌<◌, ◌≤◌, inl, inr, Bool, true, false, List, [], ◌∷◌, ◌++◌, length, take, drop, get_or, min, Option, Some, None, refl, sym, ap, ◌∙◌, arith, length-append, length-drop, length-take, leb}
-use Rattle.std.proofs.Math.Seq.{drop-cons, take-add}
-use Rattle.std.proofs.lemmas.Bool.{cases_Bool, cases_lt, le-leb, leb-true, lt-leb}
-use Rattle.std.proofs.lemmas.List.{drop-drop, drop_all, drop_at, drop-append-le, get_or-drop, take-append-le}
-use Rattle.std.proofs.lemmas.Option.{get_or_from_slice_get, slice_get_cases, slice_get_within}
+use Rattle.vm.proofs.Common.{◌≡◌, ℕ, zero, suc, ◌+◌, ◌-◌, ◌*◌, ◌/◌, ◌%◌, ◌<◌, ◌≤◌, inl, inr, Bool, true, false, List, [], ◌∷◌, ◌++◌, length, take, drop, get_or, min, Option, Some, None, refl, sym, ap}
+use Rattle.vm.proofs.Common.{◌∙◌, arith, length-append, length-drop, length-take, leb, drop-cons, take-add, cases_Bool, cases_lt, le-leb, leb-true, lt-leb, drop-drop, drop_all, drop_at, drop-append-le}
+use Rattle.vm.proofs.Common.{get_or-drop, take-append-le, get_or_from_slice_get, slice_get_cases, slice_get_within, take_while-cons, prefix_len-le-length, prefix_len_passes, prefix_len_stops, flat_map}
+use Rattle.vm.proofs.Common.{prefix_len, take_while, if◌then◌else◌, slice_get, Access, Store, Page, Memory, can_write, permits, permitted, reach, IsSized, run_of, rest_of, piece_at}
 use Rattle.std.proofs.lemmas.List.Concat.{flat_map-cons}
-use Rattle.std.proofs.lemmas.List.Sums.{take_while-cons, prefix_len-le-length, prefix_len_passes, prefix_len_stops}
-use Rattle.std.specs.List.{flat_map, prefix_len, take_while}
-use Rattle.std.specs.Prelude.{if◌then◌else◌, slice_get}
-use Rattle.unixmodel.specs.declared.trap.Access.{Access}
-use Rattle.unixmodel.specs.declared.trap.Access.TheVariants.{Store}
-use Rattle.unixmodel.specs.Memory.{Page, Memory, can_write, permits, permitted, reach}
-use Rattle.vm.specs.Reach.{IsSized, run_of, rest_of, piece_at}
 
 -- an item of a list, and where there is none
 pub item-at : {A : Type 0} (xs : List A) (i : ℕ) (x : A) → slice_get xs i ≡ Some x → (drop i xs ≡ x ∷ drop (suc i) xs) × (i < length xs) × (get_or xs i x ≡ x)

@@ -1,26 +1,13 @@
 -- A page gets another frame with the same bytes, or other marks.
-use Rattle.std.proofs.Common.{◌≡◌, ◌≢◌, ℕ, zero, suc, ◌+◌, ◌^◌, ◌<◌, ◌≤◌, ◌⊎◌, inl, inr, Bool, false, true, List, [], ◌∷◌, length, slice_set, length-set, get_or-set_other, get_or-set_same, Some, None, unwrap_or, nat_eq, ltb, subst, refl, sym, ap, ◌∙◌, arith}
-use Rattle.std.proofs.lemmas.Bool.{cases_eq}
-use Rattle.unixmodel.specs.Memory.{Page, Perm}
-use Rattle.ram.specs.Memory.{frame_of}
-use Rattle.frames.specs.declared.Frames.{Frames}
-use Rattle.frames.specs.Free.{among, free_of, further_at, IsFreeList}
-use Rattle.frames.proofs.FreeLemmas.{among_first, among_first_not, free_of-same, further-free, IsFreeList-same}
-use Rattle.frames.specs.Holders.{one_if, count_of, holders_of, Trades}
-use Rattle.frames.proofs.HolderLemmas.{one_if-le, count_of-first, count_of-other, held-inside, not-free-held, holders-free, holders-table, free-holders, Trades-none, Trades-twice}
-use Rattle.pagetable.specs.Tree.{IsLeafMarks, Node, IsNode, mid_node, low_node, table_at, lookup_of, IsPaged, HasTable, Keeps, Maps, SameMap, SameTables}
-use Rattle.pagetable.proofs.TreeLemmas.{low_is_node, mid_is_node, free-first}
-use Rattle.pagetable.proofs.LookupLemmas.{lookup-sound}
-use Rattle.pagetable.proofs.Beside.{IsTree-same, table_at-same, lookup_of-same}
-use Rattle.pagetable.specs.Shape.{IsTidy}
-use Rattle.vm.specs.Dense.{trap_page, frame_at, marks_at, page_at, page_with, pages_below, frames_below, tables_below, held, IsDense, OwnsFrames}
+use Rattle.vm.proofs.Common.{◌≡◌, ◌≢◌, ℕ, zero, suc, ◌+◌, ◌^◌, ◌<◌, ◌≤◌, ◌⊎◌, inl, inr, Bool, false, true, List, [], ◌∷◌, length, slice_set, length-set, get_or-set_other, get_or-set_same, Some, None, unwrap_or, nat_eq, ltb, subst, refl}
+use Rattle.vm.proofs.Common.{sym, ap, ◌∙◌, arith, cases_eq, Page, Perm, frame_of, Frames, among, free_of, further_at, IsFreeList, among_first, among_first_not, free_of-same, further-free, IsFreeList-same, one_if, count_of, holders_of}
+use Rattle.vm.proofs.Common.{Trades, one_if-le, count_of-first, count_of-other, held-inside, not-free-held, holders-free, holders-table, free-holders, Trades-none, Trades-twice, IsLeafMarks, Node, IsNode, mid_node, low_node, table_at}
+use Rattle.vm.proofs.Common.{lookup_of, IsPaged, HasTable, Keeps, Maps, SameMap, SameTables, low_is_node, mid_is_node, free-first, lookup-sound, IsTree-same, table_at-same, lookup_of-same, IsTidy, trap_page, frame_at, marks_at, page_at}
+use Rattle.vm.proofs.Common.{page_with, pages_below, frames_below, tables_below, held, IsDense, OwnsFrames, IsUserLeaf, right_marks, is_open, user_leaf, Space, pages_in, IsRearranged, IsSpace, Reframes, holds, HasRights}
 use Rattle.vm.proofs.DenseLemmas.{count-held, page-held, table-held}
 use Rattle.vm.proofs.StepLemmas.{beyond-held, page-kept, pages-each}
 use Rattle.vm.proofs.GrowLemmas.{IsTidy-same, lookup-parts, frame_at-is, marks_at-is, frame_at-same, marks_at-same, frames_below-same, tables_below-same}
-use Rattle.vm.specs.Leaf.{IsUserLeaf, right_marks, is_open, user_leaf}
 use Rattle.vm.proofs.LeafLemmas.{leaf-user, leaf-valid, right-leaf}
-use Rattle.vm.specs.declared.Space.{Space}
-use Rattle.vm.specs.Space.{pages_in, IsRearranged, IsSpace, Reframes, holds, HasRights}
 
 -- Page p, whose frame was f, has frame g and these marks now. Frame g is f, or was free and has f's bytes.
 pub record IsRemap (m z k : List (List ℕ)) (r p f g marks : ℕ) (s q : Frames) : Type 0 where

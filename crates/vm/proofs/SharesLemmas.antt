@@ -1,21 +1,10 @@
 -- Lemmas on all frames of a machine.
-use Rattle.std.proofs.Common.{◌≡◌, ◌≢◌, ℕ, zero, suc, ◌+◌, ◌<◌, ◌≤◌, List, [], ◌∷◌, ◌++◌, length, true, get_or, slice_set, Option, Some, None, refl, sym, ap, ◌∙◌, arith, length-append, length-set, get_or-set_other, get_or-set_same, inl, inr, replicate, ltb}
-use Rattle.std.proofs.lemmas.Bool.{cases_eq}
-use Rattle.std.specs.List.{sum_by, flat_map}
-use Rattle.std.proofs.lemmas.List.{set-get_or}
-use Rattle.std.proofs.lemmas.List.Sums.{sum_by-cons}
-use Rattle.ram.specs.Memory.{frame_of}
-use Rattle.frames.specs.declared.Frames.{Frames}
-use Rattle.frames.specs.Free.{among, free_of, further_at, IsFreeList}
-use Rattle.frames.proofs.FreeLemmas.{free_of-same, IsFreeList-same}
-use Rattle.frames.specs.Holders.{one_if, count_of, holders_of, IsShared, Trades}
-use Rattle.frames.proofs.HolderLemmas.{count_of-append, count_of-first, holders-free, held-inside, one-holder, single, IsShared-trade, shared-count}
-use Rattle.vm.specs.declared.Space.{Space}
-use Rattle.vm.specs.Dense.{frames_for}
+use Rattle.vm.proofs.Common.{◌≡◌, ◌≢◌, ℕ, zero, suc, ◌+◌, ◌<◌, ◌≤◌, List, [], ◌∷◌, ◌++◌, length, true, get_or, slice_set, Option, Some, None, refl, sym, ap, ◌∙◌, arith, length-append, length-set, get_or-set_other}
+use Rattle.vm.proofs.Common.{get_or-set_same, inl, inr, replicate, ltb, cases_eq, sum_by, flat_map, set-get_or, sum_by-cons, frame_of, Frames, among, free_of, further_at, IsFreeList, free_of-same, IsFreeList-same, one_if}
+use Rattle.vm.proofs.Common.{count_of, holders_of, IsShared, Trades, count_of-append, count_of-first, holders-free, held-inside, one-holder, single, IsShared-trade, shared-count, Space, frames_for, IsSpace, holds, pages_in}
+use Rattle.vm.proofs.Common.{IsUntouched, held_at, all_held, IsPlace, IsMachine, frames_used, FreeAreTheRest, NewSpaceSettles, OnePlaceForks, OnePlaceSpares, OnePlaceSparesOthers, OnePlaceTrades, OthersSpare, OthersTrade}
 use Rattle.vm.proofs.DenseLemmas.{length-held}
-use Rattle.vm.specs.Space.{IsSpace, holds, pages_in, IsUntouched}
 use Rattle.vm.proofs.Beside.{alone-stays, Trades-untouched, Trades-space}
-use Rattle.vm.specs.Shares.{held_at, all_held, IsPlace, IsMachine, frames_used, FreeAreTheRest, NewSpaceSettles, OnePlaceForks, OnePlaceSpares, OnePlaceSparesOthers, OnePlaceTrades, OthersSpare, OthersTrade}
 
 -- ---- counts in a list of places
 

@@ -1,11 +1,6 @@
 -- The pages of a space have 4096 bytes.
-use Rattle.std.proofs.Common.{◌≡◌, ℕ, ◌<◌, List, length, sym, ap, ◌∙◌, arith}
-use Rattle.std.proofs.lemmas.Option.{slice_get_within, get_or_from_slice_get}
-use Rattle.ram.specs.Memory.{IsMemory}
-use Rattle.unixmodel.specs.Memory.{Page}
-use Rattle.vm.specs.Dense.{frame_at, page_at, pages_below, IsDense}
+use Rattle.vm.proofs.Common.{◌≡◌, ℕ, ◌<◌, List, length, sym, ap, ◌∙◌, arith, slice_get_within, get_or_from_slice_get, IsMemory, Page, frame_at, page_at, pages_below, IsDense, IsSized}
 use Rattle.vm.proofs.PageLemmas.{length-pages, get_or-pages}
-use Rattle.vm.specs.Reach.{IsSized}
 use Rattle.vm.proofs.StoreLemmas.{page-inside}
 
 pub pages-sized : (m : List (List ℕ)) (r t n : ℕ) → IsMemory m → IsDense m r t n → IsSized (pages_below m r n)

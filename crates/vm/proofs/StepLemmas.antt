@@ -1,18 +1,7 @@
 -- A frame that is taken becomes the next page.
-use Rattle.std.proofs.Common.{◌≡◌, ◌≢◌, ℕ, zero, suc, ◌+◌, ◌<◌, ◌≤◌, inl, inr, true, List, [], ◌∷◌, ◌++◌, length, Option, unwrap_or, refl, sym, ap, ◌∙◌, arith, slice_set, length-set, get_or-set_other}
-use Rattle.std.proofs.lemmas.Bool.{cases_eq}
-use Rattle.ram.specs.Memory.{frame_of}
-use Rattle.frames.specs.declared.Frames.{Frames}
-use Rattle.frames.specs.Free.{among, free_of, extra_of, IsFreeList}
-use Rattle.frames.proofs.FreeLemmas.{free_of-same, IsFreeList-same}
-use Rattle.frames.specs.Holders.{count_of, holders_of}
-use Rattle.frames.proofs.HolderLemmas.{among-none, none-among, held-inside, one-holder, distinct-count}
-use Rattle.pagetable.specs.Tree.{lookup_of, IsPaged, HasTable, Keeps, Maps}
-use Rattle.pagetable.proofs.TreeLemmas.{free-first}
-use Rattle.pagetable.specs.Shape.{IsTidy, Adds}
-use Rattle.vm.specs.Dense.{frame_at, marks_at, page_at, page_with, read_at, read_by, read_below, pages_below, tables_below, held, OwnsFrames}
-use Rattle.unixmodel.specs.Memory.{Perm}
-use Rattle.vm.specs.Leaf.{IsUserLeaf}
+use Rattle.vm.proofs.Common.{◌≡◌, ◌≢◌, ℕ, zero, suc, ◌+◌, ◌<◌, ◌≤◌, inl, inr, true, List, [], ◌∷◌, ◌++◌, length, Option, unwrap_or, refl, sym, ap, ◌∙◌, arith, slice_set, length-set, get_or-set_other, cases_eq, frame_of}
+use Rattle.vm.proofs.Common.{Frames, among, free_of, extra_of, IsFreeList, free_of-same, IsFreeList-same, count_of, holders_of, among-none, none-among, held-inside, one-holder, distinct-count, lookup_of, IsPaged}
+use Rattle.vm.proofs.Common.{HasTable, Keeps, Maps, free-first, IsTidy, Adds, frame_at, marks_at, page_at, page_with, read_at, read_by, read_below, pages_below, tables_below, held, OwnsFrames, Perm, IsUserLeaf}
 use Rattle.vm.proofs.DenseLemmas.{pages_below-zero, pages_below-more, count-held, table-held}
 use Rattle.vm.proofs.GrowLemmas.{frame_at-same, marks_at-same}
 

@@ -1,25 +1,12 @@
 -- Pages and the trap frame are written: the space stands.
-use Rattle.std.proofs.Common.{◌≡◌, ◌≢◌, ℕ, ◌<◌, ◌≤◌, inl, inr, true, List, [], ◌∷◌, ◌++◌, length, refl, sym, ap, ◌∙◌, arith, ltb, slice_set, length-set, get_or, get_or-set_other, get_or-set_same}
-use Rattle.std.proofs.lemmas.Bool.{cases_lt, cases_eq}
-use Rattle.std.proofs.lemmas.List.{ext_get_or}
-use Rattle.ram.specs.Memory.{frame_of}
-use Rattle.frames.specs.declared.Frames.{Frames}
-use Rattle.frames.specs.Free.{among, free_of, further_at, IsFreeList}
-use Rattle.frames.proofs.FreeLemmas.{free_of-same, IsFreeList-same}
-use Rattle.frames.specs.Holders.{one_if, count_of, holders_of, Trades}
-use Rattle.frames.proofs.HolderLemmas.{among-none, count_of-first, holders-free, one-holder, Trades-none, Trades-twice}
-use Rattle.pagetable.specs.Tree.{HasTable}
-use Rattle.pagetable.proofs.Beside.{table_at-same, lookup_of-same}
-use Rattle.pagetable.proofs.LookupLemmas.{lookup-sound}
-use Rattle.unixmodel.specs.Memory.{Page}
-use Rattle.vm.specs.declared.Space.{Space}
-use Rattle.vm.specs.Dense.{frame_at, marks_at, page_at, page_with, pages_below, frames_below, tables_below, held, IsDense, OwnsFrames, SameLeaves}
+use Rattle.vm.proofs.Common.{◌≡◌, ◌≢◌, ℕ, ◌<◌, ◌≤◌, inl, inr, true, List, [], ◌∷◌, ◌++◌, length, refl, sym, ap, ◌∙◌, arith, ltb, slice_set, length-set, get_or, get_or-set_other, get_or-set_same, cases_lt}
+use Rattle.vm.proofs.Common.{cases_eq, ext_get_or, frame_of, Frames, among, free_of, further_at, IsFreeList, free_of-same, IsFreeList-same, one_if, count_of, holders_of, Trades, among-none, count_of-first}
+use Rattle.vm.proofs.Common.{holders-free, one-holder, Trades-none, Trades-twice, HasTable, table_at-same, lookup_of-same, lookup-sound, Page, Space, frame_at, marks_at, page_at, page_with, pages_below}
+use Rattle.vm.proofs.Common.{frames_below, tables_below, held, IsDense, OwnsFrames, SameLeaves, entry_marks, is_open, right_marks, pages_in, IsMapped, IsOnce, IsSpace, pages_of, holds, Stands}
 use Rattle.vm.proofs.DenseLemmas.{count-held, page-held, pages-apart, table-held}
 use Rattle.vm.proofs.GrowLemmas.{IsDense-same, held-same, frame_at-same, marks_at-same}
 use Rattle.vm.proofs.PageLemmas.{length-pages, get_or-pages}
 use Rattle.vm.proofs.StepLemmas.{held-not_free, read_below-same, pages_below-same}
-use Rattle.vm.specs.Leaf.{entry_marks, is_open, right_marks}
-use Rattle.vm.specs.Space.{pages_in, IsMapped, IsOnce, IsSpace, pages_of, holds, Stands}
 
 -- only frames of pages and the trap frame have other bytes now
 pub record Writes (m k : List (List ℕ)) (r t n : ℕ) : Type 0 where

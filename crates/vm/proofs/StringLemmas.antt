@@ -1,12 +1,7 @@
 -- A string is read byte by byte.
-use Rattle.std.proofs.Common.{◌≡◌, ◌≢◌, ℕ, zero, suc, ◌+◌, ◌^◌, ◌<◌, ◌≤◌, List, [], ◌∷◌, ◌++◌, length, take, drop, Option, Some, None, refl, sym, ap, ◌∙◌, arith, length-append, length-take, append_assoc, append-nil, slice_set, leb, true}
-use Rattle.std.specs.Prelude.{if◌then◌else◌, slice_get, option_map}
-use Rattle.std.proofs.Math.Seq.{take-suc, take-suc-set}
-use Rattle.std.proofs.lemmas.Bool.{lt-leb, le-leb}
-use Rattle.std.proofs.lemmas.List.{drop_all}
-use Rattle.unixmodel.specs.declared.trap.Access.{Access}
-use Rattle.unixmodel.specs.Memory.{Memory, reach, before_nul}
-use Rattle.vm.specs.Reach.{IsSized, piece_at, short_string}
+use Rattle.vm.proofs.Common.{◌≡◌, ◌≢◌, ℕ, zero, suc, ◌+◌, ◌^◌, ◌<◌, ◌≤◌, List, [], ◌∷◌, ◌++◌, length, take, drop, Option, Some, None, refl, sym, ap, ◌∙◌, arith, length-append, length-take, append_assoc}
+use Rattle.vm.proofs.Common.{append-nil, slice_set, leb, true, if◌then◌else◌, slice_get, take-suc, take-suc-set, lt-leb, le-leb, drop_all, Access, Memory, reach, before_nul, IsSized, piece_at, short_string}
+use Rattle.std.specs.Prelude.{option_map}
 use Rattle.vm.proofs.ReachLemmas.{first-drop, item-at, item-past, reach-front, reach-drop, reach-page}
 
 first-take : (xs : List ℕ) → slice_get (take 1 xs) 0 ≡ slice_get xs 0

@@ -1,15 +1,6 @@
 -- A frame that is taken becomes the next page.
-use Rattle.std.proofs.Common.{◌≡◌, ℕ, suc, ◌+◌, ◌<◌, ◌≤◌, inl, inr, true, List, [], ◌∷◌, ◌++◌, ap, ◌∙◌, arith, add-one}
-use Rattle.std.proofs.lemmas.Bool.{cases_eq}
-use Rattle.ram.specs.Memory.{frame_of}
-use Rattle.frames.specs.declared.Frames.{Frames}
-use Rattle.frames.specs.Free.{among, free_of, free_count, IsFreeList}
-use Rattle.frames.proofs.FreeLemmas.{among_first, further-free}
-use Rattle.frames.specs.Holders.{count_of, holders_of, Trades}
-use Rattle.frames.proofs.HolderLemmas.{count_of-append, count_of-other, free-holders, holders-table, Trades-lengths, Trades-twice}
-use Rattle.pagetable.specs.Tree.{missing}
-use Rattle.pagetable.proofs.TreeLemmas.{further-same}
-use Rattle.vm.specs.Dense.{page_with, pages_below, held, frames_for, OwnsFrames, SameLeavesUpTo}
+use Rattle.vm.proofs.Common.{◌≡◌, ℕ, suc, ◌+◌, ◌<◌, ◌≤◌, inl, inr, true, List, [], ◌∷◌, ◌++◌, ap, ◌∙◌, arith, add-one, cases_eq, frame_of, Frames, among, free_of, free_count, IsFreeList, among_first, further-free, count_of}
+use Rattle.vm.proofs.Common.{holders_of, Trades, count_of-append, count_of-other, free-holders, holders-table, Trades-lengths, Trades-twice, missing, further-same, page_with, pages_below, held, frames_for, OwnsFrames, SameLeavesUpTo}
 use Rattle.vm.proofs.DenseLemmas.{length-held}
 use Rattle.vm.proofs.StepLemmas.{IsTaken, IsNext, free-after, read_below-same}
 use Rattle.vm.proofs.Added.{IsBefore, next-fits, next-held, next-pages, next-trades, next-trap}

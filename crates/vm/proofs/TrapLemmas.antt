@@ -1,15 +1,8 @@
 -- Lemmas on trap frames.
-use Rattle.std.proofs.Common.{◌≡◌, ℕ, zero, suc, ◌+◌, ◌*◌, ◌^◌, ◌<◌, ◌≤◌, ◌⊎◌, inl, inr, List, [], length, get_or, refl, sym, ap, ◌∙◌, arith, slice_set, length-set, get_or-set_same, get_or-set_other}
-use Rattle.std.proofs.lemmas.List.{ext_get_or}
-use Rattle.std.proofs.lemmas.List.FromFn.{length-map-range_with_len, get_or-map-range_with_len}
-use Rattle.std.proofs.lemmas.Bool.{cases_eq}
-use Rattle.ram.specs.Memory.{frame_of, put, put_bytes, word_of, word_bytes, IsMemory}
-use Rattle.frames.proofs.HolderLemmas.{count_of-first}
-use Rattle.pagetable.proofs.LookupLemmas.{lookup-sound}
-use Rattle.vm.specs.Dense.{trap_page, trap_marks}
+use Rattle.vm.proofs.Common.{◌≡◌, ℕ, zero, suc, ◌+◌, ◌*◌, ◌^◌, ◌<◌, ◌≤◌, ◌⊎◌, inl, inr, List, [], length, get_or, refl, sym, ap, ◌∙◌, arith, slice_set, length-set}
+use Rattle.vm.proofs.Common.{get_or-set_same, get_or-set_other, ext_get_or, length-map-range_with_len, get_or-map-range_with_len, cases_eq, frame_of, put, put_bytes, word_of}
+use Rattle.vm.proofs.Common.{word_bytes, IsMemory, count_of-first, lookup-sound, trap_page, trap_marks, Space, pages_in, IsMapped, IsOnce, pages_of, registers_of, Stands}
 use Rattle.ram.proofs.MemoryLemmas.{get_or-put_bytes_below, get_or-put_bytes_above, frame_of-put_same, length-word_bytes, word_of-put_same, word_of-put_beside}
-use Rattle.vm.specs.declared.Space.{Space}
-use Rattle.vm.specs.Space.{pages_in, IsMapped, IsOnce, pages_of, registers_of, Stands}
 use Rattle.vm.proofs.StoreLemmas.{private-set, stands, Writes-trap, pages-kept, Stands-twice}
 use Rattle.vm.specs.TrapFrame.{saved_pc, saved_register, saved_registers, IsSpare}
 

@@ -1,18 +1,10 @@
 -- The walk goes by the mapping of a space.
-use Rattle.std.proofs.Common.{◌≡◌, ◌≢◌, ◌==◌, ℕ, zero, suc, ◌-◌, ◌/◌, ◌%◌, ◌^◌, ◌<◌, ◌≤◌, ◌⊎◌, inl, inr, Bool, true, false, ◌||◌, List, [], ◌∷◌, length, take, Some, None, refl, sym, ap, ◌∙◌, arith}
-use Rattle.std.specs.Prelude.{if◌then◌else◌, option_map, slice_get}
-use Rattle.std.proofs.lemmas.Bool.{cases_eq, cases_lt, eqb-true}
-use Rattle.std.proofs.lemmas.Option.{slice_get-get_or, slice_get_past, slice_get_within, slice_get-map}
-use Rattle.unixmodel.specs.declared.trap.Access.{Access}
-use Rattle.unixmodel.specs.declared.trap.Access.TheVariants.{Fetch, Load, Store}
-use Rattle.unixmodel.specs.Memory.{Perm, permits}
-use Rattle.unixmodel.specs.Translation.{leaf_allows, is_canonical, Held}
-use Rattle.sv39.specs.Mapping.{Mapped, memory_of, page_in, allowed, frame_for, WalksTo, IsCoherent}
+use Rattle.vm.proofs.Common.{◌≡◌, ◌≢◌, ◌==◌, ℕ, zero, suc, ◌-◌, ◌/◌, ◌%◌, ◌^◌, ◌<◌, ◌≤◌, ◌⊎◌, inl, inr, Bool, true, false, ◌||◌, List, [], ◌∷◌, length, take, Some, None, refl, sym, ap, ◌∙◌, arith, if◌then◌else◌}
+use Rattle.vm.proofs.Common.{slice_get, cases_eq, cases_lt, eqb-true, slice_get-get_or, slice_get_past, slice_get_within, slice_get-map, Access, Fetch, Load, Store, Perm, permits, leaf_allows, is_canonical, Held}
+use Rattle.vm.proofs.Common.{Mapped, memory_of, page_in, allowed, frame_for, WalksTo, IsCoherent, lookup_of, trap_page, trap_marks, frame_at, marks_at, read_at, read_below, entries_below, IsDense, entry_marks}
+use Rattle.std.specs.Prelude.{option_map}
 use Rattle.pagetable.specs.Agree.{translation, given_frame}
 use Rattle.pagetable.proofs.AgreeLemmas.{walk_page-tree}
-use Rattle.pagetable.specs.Tree.{lookup_of}
-use Rattle.vm.specs.Dense.{trap_page, trap_marks, frame_at, marks_at, read_at, read_below, entries_below, IsDense}
-use Rattle.vm.specs.Leaf.{entry_marks}
 use Rattle.vm.proofs.LeafLemmas.{leaf-allows}
 use Rattle.vm.proofs.PageLemmas.{length-mapping, get_or-mapping}
 

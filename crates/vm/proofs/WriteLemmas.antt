@@ -1,19 +1,8 @@
 -- Bytes that are written a page at a time.
-use Rattle.std.proofs.Common.{◌≡◌, ℕ, suc, ◌+◌, ◌-◌, ◌/◌, ◌%◌, ◌<◌, inl, inr, true, ◌≤◌, List, [], ◌∷◌, ◌++◌, length, take, drop, min, Some, refl, sym, ap, ◌∙◌, arith, slice_set, get_or-set_other, append_assoc}
-use Rattle.std.specs.Prelude.{slice_get}
-use Rattle.std.proofs.lemmas.Bool.{cases_lt}
-use Rattle.std.proofs.Math.Seq.{take-suc-set}
-use Rattle.std.proofs.lemmas.List.{drop_all, drop-set-lt, take_all, take-append-drop}
-use Rattle.unixmodel.specs.Memory.{Page, Memory, overwrite, write_from, write_bytes}
-use Rattle.frames.specs.declared.Frames.{Frames}
-use Rattle.frames.specs.Free.{further_at}
-use Rattle.ram.specs.Memory.{frame_of, put, put_bytes}
-use Rattle.vm.specs.declared.Space.{Space}
-use Rattle.vm.specs.Dense.{frame_at, marks_at, page_at, page_with, read_at, SameLeaves}
-use Rattle.vm.specs.Leaf.{is_open, right_marks}
-use Rattle.vm.specs.Reach.{written}
+use Rattle.vm.proofs.Common.{◌≡◌, ℕ, suc, ◌+◌, ◌-◌, ◌/◌, ◌%◌, ◌<◌, inl, inr, true, ◌≤◌, List, [], ◌∷◌, ◌++◌, length, take, drop, min, Some, refl, sym, ap, ◌∙◌, arith, slice_set, get_or-set_other, append_assoc}
+use Rattle.vm.proofs.Common.{slice_get, cases_lt, take-suc-set, drop_all, drop-set-lt, take_all, take-append-drop, Page, Memory, overwrite, write_from, write_bytes, Frames, further_at, frame_of, put, put_bytes}
+use Rattle.vm.proofs.Common.{Space, frame_at, marks_at, page_at, page_with, read_at, SameLeaves, is_open, right_marks, written, pages_in, IsMapped, IsOnce, IsSpace, Stands, mapping_of, pages_of, Reframes}
 use Rattle.vm.proofs.ReachLemmas.{item-at}
-use Rattle.vm.specs.Space.{pages_in, IsMapped, IsOnce, IsSpace, Stands, mapping_of, pages_of, Reframes}
 use Rattle.vm.proofs.StoreLemmas.{Writes-page, pages-stored, private-set, reads-stay, space-stays, space-stored, trap-apart}
 use Rattle.vm.proofs.WalkLaw.{get-mapping, mapped-page}
 

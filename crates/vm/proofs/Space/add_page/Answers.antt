@@ -1,6 +1,4 @@
-use Rattle.std.proofs.Common.{arith, ap, ◌∙◌, replicate, get_or-set_same}
-use Rattle.ram.specs.Memory.{frame_of}
-use Rattle.pagetable.proofs.TreeLemmas.{free-first}
+use Rattle.vm.proofs.Common.{arith, ap, ◌∙◌, replicate, get_or-set_same, frame_of, free-first}
 use Rattle.vm.proofs.GrowLemmas.{marks_at-is}
 use Rattle.vm.proofs.StepLemmas.{OwnsFrames-paged, IsTaken, IsTaken-set}
 use Rattle.vm.proofs.Added.{IsBefore}

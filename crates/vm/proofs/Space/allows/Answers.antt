@@ -1,7 +1,5 @@
-use Rattle.std.proofs.Common.{sym}
-use Rattle.vm.specs.Leaf.{mapped_as}
+use Rattle.vm.proofs.Common.{sym, mapped_as, mapping_of, pages_of}
 use Rattle.vm.proofs.ReachLemmas.{no-page-allows, page-allows}
-use Rattle.vm.specs.Space.{mapping_of, pages_of}
 use Rattle.vm.proofs.WalkLaw.{mapped-page, unmapped-page}
 use Rattle.vm.proofs.Space.allows.Goals as goal
 

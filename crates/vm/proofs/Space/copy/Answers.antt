@@ -1,5 +1,4 @@
-use Rattle.std.proofs.Common.{ap, arith, refl, rules, sym, ◌∙◌}
-use Rattle.vm.specs.Dense.{frames_for}
+use Rattle.vm.proofs.Common.{ap, arith, refl, rules, sym, ◌∙◌, frames_for}
 use Rattle.vm.proofs.Forked.{forked, part-room, part-start}
 use Rattle.vm.proofs.Space.copy.Goals as goal
 

@@ -1,15 +1,8 @@
-use Rattle.std.proofs.Common.{◌≡◌, ◌+◌, ◌-◌, ◌≤◌, ◌++◌, length, take, Some, None, sym, ap, ◌∙◌, arith}
-use Rattle.std.specs.Prelude.{if◌then◌else◌}
-use Rattle.std.proofs.lemmas.Bool.{leb-true}
-use Rattle.std.proofs.lemmas.List.{take_all}
+use Rattle.vm.proofs.Common.{◌≡◌, ◌+◌, ◌-◌, ◌≤◌, ◌++◌, length, take, Some, None, sym, ap, ◌∙◌, arith, if◌then◌else◌, leb-true, take_all, Load, reach, pages_in, pages_of, IsSized}
 use Rattle.std.proofs.lemmas.Slice.{take-put_mid}
-use Rattle.unixmodel.specs.declared.trap.Access.TheVariants.{Load}
-use Rattle.unixmodel.specs.Memory.{reach}
 use Rattle.vm.proofs.PageLemmas.{length-pages}
 use Rattle.vm.proofs.ReachLemmas.{reach-page, reach-next}
 use Rattle.vm.proofs.SizedLemmas.{pages-sized}
-use Rattle.vm.specs.Space.{pages_in, pages_of}
-use Rattle.vm.specs.Reach.{IsSized}
 use Rattle.vm.proofs.Space.copy_in.Goals as goal
 use Rattle.vm.proofs.Space.copy_in.Goals.{In-loop-done}
 

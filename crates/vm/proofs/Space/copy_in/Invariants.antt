@@ -1,7 +1,4 @@
-use Rattle.std.proofs.Common.{◌≡◌, ◌≤◌, ◌-◌, length, take}
-use Rattle.unixmodel.specs.declared.trap.Access.TheVariants.{Load}
-use Rattle.unixmodel.specs.Memory.{reach}
-use Rattle.vm.specs.Space.{pages_of}
+use Rattle.vm.proofs.Common.{◌≡◌, ◌≤◌, ◌-◌, length, take, Load, reach, pages_of}
 use Rattle.vm.proofs.Space.copy_in.Given as goal
 
 abbrev pub invariant-loop-done : goal.invariant-loop-done

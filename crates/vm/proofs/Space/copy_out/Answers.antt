@@ -1,8 +1,7 @@
-use Rattle.std.proofs.Common.{length, sym, arith}
+use Rattle.vm.proofs.Common.{length, sym, arith, pages_in, pages_of}
 use Rattle.vm.proofs.PageLemmas.{length-pages}
 use Rattle.vm.proofs.ReachLemmas.{page-there}
 use Rattle.vm.proofs.SizedLemmas.{pages-sized}
-use Rattle.vm.specs.Space.{pages_in, pages_of}
 use Rattle.vm.proofs.Space.copy_out.Goals as goal
 
 pub fill-requires-clause-inside : goal.fill-requires-clause-inside

@@ -1,6 +1,4 @@
-use Rattle.unixmodel.specs.declared.trap.Access.TheVariants.{Load}
-use Rattle.unixmodel.specs.Memory.{reach}
-use Rattle.vm.specs.Space.{pages_of}
+use Rattle.vm.proofs.Common.{Load, reach, pages_of}
 use Rattle.vm.proofs.StringLemmas.{Strings}
 use Rattle.vm.proofs.Space.copy_string.Given as goal
 

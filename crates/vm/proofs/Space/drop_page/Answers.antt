@@ -1,5 +1,4 @@
-use Rattle.std.proofs.Common.{ℕ, suc, ◌≢◌, Option, Some, None, ◌≡◌, arith, add-one}
-use Rattle.vm.specs.Dense.{OwnsFrames}
+use Rattle.vm.proofs.Common.{ℕ, suc, ◌≢◌, Option, Some, None, ◌≡◌, arith, add-one, OwnsFrames}
 use Rattle.vm.proofs.DropLemmas.{IsUnmapped, dropped, give-held, give-inside, unmapped-was}
 use Rattle.vm.proofs.StepLemmas.{OwnsFrames-paged}
 use Rattle.vm.proofs.Space.drop_page.Goals as goal

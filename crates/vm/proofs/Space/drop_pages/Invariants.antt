@@ -1,8 +1,4 @@
-use Rattle.std.proofs.Common.{◌≡◌, ◌-◌}
-use Rattle.ram.specs.Memory.{frame_of}
-use Rattle.frames.specs.Holders.{Trades}
-use Rattle.vm.specs.Dense.{OwnsFrames, SameLeaves}
-use Rattle.vm.specs.Space.{first_pages, held_by}
+use Rattle.vm.proofs.Common.{◌≡◌, ◌-◌, frame_of, Trades, OwnsFrames, SameLeaves, first_pages, held_by}
 use Rattle.vm.proofs.Space.drop_pages.Given as goal
 
 abbrev pub invariant-loop-i : goal.invariant-loop-i

@@ -1,7 +1,4 @@
-use Rattle.std.proofs.Common.{◌≡◌, ◌+◌, ◌-◌, ◌%◌, [], length, take, drop, min, sym, ap, ◌∙◌, arith, length-drop}
-use Rattle.std.proofs.lemmas.List.{drop_all, drop-drop, take_all}
-use Rattle.unixmodel.specs.Memory.{write_bytes}
-use Rattle.vm.specs.Space.{pages_of}
+use Rattle.vm.proofs.Common.{◌≡◌, ◌+◌, ◌-◌, ◌%◌, [], length, take, drop, min, sym, ap, ◌∙◌, arith, length-drop, drop_all, drop-drop, take_all, write_bytes, pages_of}
 use Rattle.vm.proofs.Remap.{reframes-none, reframes-twice}
 use Rattle.vm.proofs.WriteLemmas.{write-none}
 use Rattle.vm.proofs.Space.fill.Goals as goal

@@ -1,6 +1,4 @@
-use Rattle.std.proofs.Common.{◌≡◌, ◌≤◌, ◌+◌, ◌-◌, length, drop}
-use Rattle.unixmodel.specs.Memory.{write_bytes}
-use Rattle.vm.specs.Space.{pages_of, Reframes, StaysOpen}
+use Rattle.vm.proofs.Common.{◌≡◌, ◌≤◌, ◌+◌, ◌-◌, length, drop, write_bytes, pages_of, Reframes, StaysOpen}
 use Rattle.vm.proofs.Space.fill.Given as goal
 
 abbrev pub invariant-loop-done : goal.invariant-loop-done

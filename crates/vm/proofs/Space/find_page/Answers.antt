@@ -1,9 +1,5 @@
-use Rattle.std.proofs.Common.{Some, sym, ap, ◌∙◌, arith}
-use Rattle.pagetable.proofs.LookupLemmas.{lookup-sound}
-use Rattle.vm.specs.Leaf.{right_marks}
-use Rattle.vm.specs.Dense.{frame_at, marks_at}
+use Rattle.vm.proofs.Common.{Some, sym, ap, ◌∙◌, arith, lookup-sound, right_marks, frame_at, marks_at, pages_in}
 use Rattle.vm.proofs.GrowLemmas.{frame_at-is, marks_at-is}
-use Rattle.vm.specs.Space.{pages_in}
 use Rattle.vm.proofs.WalkLaw.{get-mapping, mapping-past, mapped-parts}
 use Rattle.vm.proofs.Space.find_page.Goals as goal
 

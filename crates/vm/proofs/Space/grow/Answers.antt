@@ -1,14 +1,9 @@
-use Rattle.std.proofs.Common.{◌≡◌, ℕ, take, ◌+◌, ◌-◌, [], ◌∷◌, ◌++◌, replicate, refl, sym, ap, ◌∙◌, true, arith, append-nil, append_assoc}
-use Rattle.std.proofs.lemmas.List.{replicate_more}
-use Rattle.frames.proofs.HolderLemmas.{Trades-none, Trades-twice, held-count}
-use Rattle.vm.specs.Dense.{frames_for, held, page_with, pages_below, read_below}
+use Rattle.vm.proofs.Common.{◌≡◌, ℕ, take, ◌+◌, ◌-◌, [], ◌∷◌, ◌++◌, replicate, refl, sym, ap, ◌∙◌, true, arith, append-nil, append_assoc, replicate_more, Trades-none, Trades-twice}
+use Rattle.vm.proofs.Common.{held-count, frames_for, held, page_with, pages_below, read_below, Perm, zero_page, entry_marks, marks_from, right_marks, user_leaf, pages_in}
 use Rattle.vm.proofs.DenseLemmas.{length-held}
-use Rattle.unixmodel.specs.Memory.{Perm, zero_page}
-use Rattle.vm.specs.Leaf.{entry_marks, marks_from, right_marks, user_leaf}
 use Rattle.vm.proofs.LeafLemmas.{leaf-user, leaf-valid, page-zero}
 use Rattle.vm.proofs.OpenLemmas.{open-fewer, open-more}
 use Rattle.vm.proofs.PageLemmas.{take-mapping}
-use Rattle.vm.specs.Space.{pages_in}
 use Rattle.vm.proofs.Space.grow.Goals as goal
 use Rattle.vm.proofs.Space.grow.Goals.{After-loop-page}
 

@@ -1,11 +1,4 @@
-use Rattle.std.proofs.Common.{◌≡◌, ℕ, ◌≤◌, ◌+◌, ◌-◌, ◌++◌, replicate}
-use Rattle.ram.specs.Memory.{frame_of}
-use Rattle.frames.specs.Free.{free_count}
-use Rattle.frames.specs.Holders.{Trades}
-use Rattle.vm.specs.Dense.{IsOpenFrom, OwnsFrames, SameLeaves, frames_for}
-use Rattle.unixmodel.specs.Memory.{zero_page}
-use Rattle.vm.specs.Leaf.{marks_from}
-use Rattle.vm.specs.Space.{first_pages, held_by}
+use Rattle.vm.proofs.Common.{◌≡◌, ℕ, ◌≤◌, ◌+◌, ◌-◌, ◌++◌, replicate, frame_of, free_count, Trades, IsOpenFrom, OwnsFrames, SameLeaves, frames_for, zero_page, marks_from, first_pages, held_by}
 use Rattle.vm.proofs.Space.grow.Given as goal
 
 abbrev pub invariant-loop-page : goal.invariant-loop-page

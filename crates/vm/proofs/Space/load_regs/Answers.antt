@@ -1,5 +1,4 @@
-use Rattle.std.proofs.Common.{sym, ap, ◌∙◌, arith}
-use Rattle.ram.specs.Memory.{word_of}
+use Rattle.vm.proofs.Common.{sym, ap, ◌∙◌, arith, word_of}
 use Rattle.vm.proofs.TrapLemmas.{trap-inside, saved-is, loads-start, loads-next}
 use Rattle.vm.proofs.Space.load_regs.Goals as goal
 

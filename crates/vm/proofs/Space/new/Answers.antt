@@ -1,7 +1,4 @@
-use Rattle.std.proofs.Common.{arith, ap, ◌∙◌, replicate, get_or-set_same}
-use Rattle.ram.specs.Memory.{frame_of}
-use Rattle.pagetable.proofs.TreeLemmas.{free-first}
-use Rattle.pagetable.proofs.EmptyLemmas.{IsTidy-empty}
+use Rattle.vm.proofs.Common.{arith, ap, ◌∙◌, replicate, get_or-set_same, frame_of, free-first, IsTidy-empty}
 use Rattle.vm.proofs.StepLemmas.{IsTaken-set}
 use Rattle.vm.proofs.LeafLemmas.{leaf-trap}
 use Rattle.vm.proofs.NewLemmas.{IsMade, IsStart, start-count, start-empty, start-made, start-missing, start-paged}

@@ -1,5 +1,4 @@
-use Rattle.std.proofs.Common.{arith, ap, sym, ◌∙◌}
-use Rattle.vm.specs.Leaf.{is_open}
+use Rattle.vm.proofs.Common.{arith, ap, sym, ◌∙◌, is_open}
 use Rattle.vm.proofs.GrowLemmas.{frame_at-is, marks_at-is}
 use Rattle.vm.proofs.Space.open_frame.Goals as goal
 

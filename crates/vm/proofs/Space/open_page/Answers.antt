@@ -1,9 +1,4 @@
-use Rattle.std.proofs.Common.{arith, ap, sym, true, ◌∙◌}
-use Rattle.frames.specs.Free.{further_at}
-use Rattle.unixmodel.specs.Memory.{Perm}
-use Rattle.vm.specs.Dense.{marks_at}
-use Rattle.vm.specs.Leaf.{right_marks, user_leaf}
-use Rattle.vm.specs.Space.{pages_in}
+use Rattle.vm.proofs.Common.{arith, ap, sym, true, ◌∙◌, further_at, Perm, marks_at, right_marks, user_leaf, pages_in}
 use Rattle.vm.proofs.Remap.{IsMadeLeaf, made-leaf, page-inside-is, page-shared, page-single}
 use Rattle.vm.proofs.OpenLemmas.{open-one}
 use Rattle.vm.proofs.Space.open_page.Goals as goal

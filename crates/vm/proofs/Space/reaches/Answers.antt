@@ -1,8 +1,7 @@
-use Rattle.std.proofs.Common.{arith, ◌∙◌}
+use Rattle.vm.proofs.Common.{arith, ◌∙◌, pages_in, pages_of}
 use Rattle.vm.proofs.ReachLemmas.{test-long, test-page, test-reach}
 use Rattle.vm.proofs.SizedLemmas.{pages-sized}
 use Rattle.vm.proofs.PageLemmas.{length-pages}
-use Rattle.vm.specs.Space.{pages_in, pages_of}
 use Rattle.vm.proofs.Space.reaches.Goals as goal
 
 pub returns-then-len-gt-MAX_SIZE : goal.returns-then-len-gt-MAX_SIZE

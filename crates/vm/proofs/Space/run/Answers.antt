@@ -1,7 +1,5 @@
-use Rattle.std.proofs.Common.{◌+◌, sym, arith}
-use Rattle.vm.specs.Leaf.{mapped_as}
+use Rattle.vm.proofs.Common.{◌+◌, sym, arith, mapped_as, mapping_of, pages_of}
 use Rattle.vm.proofs.ReachLemmas.{run-more, run-stop, run-end}
-use Rattle.vm.specs.Space.{mapping_of, pages_of}
 use Rattle.vm.proofs.WalkLaw.{mapped-page, unmapped-page}
 use Rattle.vm.proofs.Space.run.Goals as goal
 

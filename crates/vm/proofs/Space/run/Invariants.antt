@@ -1,6 +1,4 @@
-use Rattle.std.proofs.Common.{◌≤◌}
-use Rattle.vm.specs.Reach.{run_of}
-use Rattle.vm.specs.Space.{pages_of}
+use Rattle.vm.proofs.Common.{◌≤◌, run_of, pages_of}
 use Rattle.vm.proofs.Space.run.Given as goal
 
 abbrev pub invariant-loop-i : goal.invariant-loop-i

@@ -1,5 +1,4 @@
-use Rattle.std.proofs.Common.{◌≡◌, get_or, refl, ap, ◌∙◌, arith}
-use Rattle.ram.specs.Memory.{put, word_bytes}
+use Rattle.vm.proofs.Common.{◌≡◌, get_or, refl, ap, ◌∙◌, arith, put, word_bytes}
 use Rattle.vm.proofs.TrapLemmas.{trap-inside, saved-is, saves-start, saves-next}
 use Rattle.vm.proofs.Space.save_regs.Goals as goal
 

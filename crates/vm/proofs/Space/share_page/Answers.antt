@@ -1,9 +1,4 @@
-use Rattle.std.proofs.Common.{◌≡◌, false, true, ap, arith, ◌∙◌}
-use Rattle.unixmodel.specs.Memory.{Perm, shared_marks}
-use Rattle.vm.specs.Dense.{marks_at}
-use Rattle.vm.specs.Leaf.{is_open, right_marks, user_leaf}
-use Rattle.vm.specs.Fork.{IsPart}
-use Rattle.vm.specs.Space.{IsSpace}
+use Rattle.vm.proofs.Common.{◌≡◌, false, true, ap, arith, ◌∙◌, Perm, shared_marks, marks_at, is_open, right_marks, user_leaf, IsPart, IsSpace}
 use Rattle.vm.proofs.Added.{IsBefore, next-fits}
 use Rattle.vm.proofs.Forked.{IsClosed, closed-free, more-some, part-before, part-closed, part-holder, part-more}
 use Rattle.vm.proofs.LeafLemmas.{leaf-closed}

@@ -1,7 +1,5 @@
-use Rattle.std.proofs.Common.{◌≡◌, arith, subst}
-use Rattle.vm.specs.Fork.{IsSoFar}
+use Rattle.vm.proofs.Common.{◌≡◌, arith, subst, IsSoFar, pages_in}
 use Rattle.vm.proofs.Forked.{shared-frames, so-far-more, so-far-start, room-for}
-use Rattle.vm.specs.Space.{pages_in}
 use Rattle.vm.proofs.Space.share_pages.Goals as goal
 
 pub loop-page-init : goal.loop-page-init

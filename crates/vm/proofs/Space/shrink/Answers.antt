@@ -1,7 +1,4 @@
-use Rattle.std.proofs.Common.{◌-◌, ◌≤◌, ap, ◌∙◌, sym, arith}
-use Rattle.vm.specs.Dense.{entries_below, mapping_below, pages_below}
-use Rattle.vm.specs.Leaf.{entry_marks, right_marks}
-use Rattle.vm.specs.Space.{pages_in}
+use Rattle.vm.proofs.Common.{◌-◌, ◌≤◌, ap, ◌∙◌, sym, arith, entries_below, mapping_below, pages_below, entry_marks, right_marks, pages_in}
 use Rattle.vm.proofs.OpenLemmas.{open-fewer, open-read}
 use Rattle.vm.proofs.PageLemmas.{take-pages, take-mapping}
 use Rattle.vm.proofs.Space.shrink.Goals as goal

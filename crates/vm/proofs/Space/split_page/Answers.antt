@@ -1,5 +1,4 @@
-use Rattle.std.proofs.Common.{arith, ◌∙◌}
-use Rattle.vm.specs.Space.{pages_in}
+use Rattle.vm.proofs.Common.{arith, ◌∙◌, pages_in}
 use Rattle.vm.proofs.GrowLemmas.{frame_at-is, marks_at-is, marks_at-same}
 use Rattle.vm.proofs.Remap.{IsSplit, page-inside-is, rearranged, remap-split, split-count, split-inside, split-mapped, split-paged, split-sole}
 use Rattle.vm.proofs.Space.split_page.Goals as goal

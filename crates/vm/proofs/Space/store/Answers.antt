@@ -1,6 +1,4 @@
-use Rattle.std.proofs.Common.{◌≡◌, ◌<◌, ◌/◌, ◌%◌, ap, arith, length, subst, sym, ◌∙◌}
-use Rattle.ram.specs.Memory.{put}
-use Rattle.vm.specs.Space.{page_frame, pages_in}
+use Rattle.vm.proofs.Common.{◌≡◌, ◌<◌, ◌/◌, ◌%◌, ap, arith, length, subst, sym, ◌∙◌, put, page_frame, pages_in}
 use Rattle.vm.proofs.StoreLemmas.{page-inside}
 use Rattle.vm.proofs.WriteLemmas.{put-stands, put-stored}
 use Rattle.vm.proofs.Space.store.Goals as goal

@@ -1,10 +1,6 @@
-use Rattle.std.proofs.Common.{sym, ap, ◌∙◌}
-use Rattle.sv39.specs.Mapping.{Mapped}
-use Rattle.pagetable.proofs.TreeLemmas.{tree-root}
-use Rattle.vm.specs.Space.{pages_in}
+use Rattle.vm.proofs.Common.{sym, ap, ◌∙◌, Mapped, tree-root, pages_in, entry_marks, right_marks}
 use Rattle.vm.proofs.StoreLemmas.{page-inside, pages-same}
 use Rattle.vm.proofs.WalkLaw.{walks-entries, mapping-within, mapping-is}
-use Rattle.vm.specs.Leaf.{entry_marks, right_marks}
 use Rattle.vm.proofs.Space.walks.Goals as goal
 
 pub returns-clause-entries : goal.returns-clause-entries

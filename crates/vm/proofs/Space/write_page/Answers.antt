@@ -1,10 +1,4 @@
-use Rattle.std.proofs.Common.{◌+◌, ◌/◌, ◌%◌, ℕ, take, drop, sym, ap, ◌∙◌}
-use Rattle.frames.specs.Free.{further_at}
-use Rattle.ram.specs.Memory.{put}
-use Rattle.unixmodel.specs.Memory.{Memory, write_bytes}
-use Rattle.vm.specs.Dense.{page_at, read_at}
-use Rattle.vm.specs.Leaf.{right_marks}
-use Rattle.vm.specs.Space.{pages_in, mapping_of, pages_of}
+use Rattle.vm.proofs.Common.{◌+◌, ◌/◌, ◌%◌, ℕ, take, drop, sym, ap, ◌∙◌, further_at, put, Memory, write_bytes, page_at, read_at, right_marks, pages_in, mapping_of, pages_of}
 use Rattle.vm.proofs.OpenLemmas.{open-read}
 use Rattle.vm.proofs.Remap.{page-inside-is, reframes-twice}
 use Rattle.vm.proofs.WalkLaw.{get-mapping, mapped-page}
