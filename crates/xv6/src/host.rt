@@ -2,11 +2,21 @@
 ghost use Rattle.std.specs.Prelude.{◌≤◌, IfOk, length, vec_len};
 
 use commands::{Front, Host, HostFault, Screen, Why};
+use std::alloc::AllocError;
 use std::fmt;
 use std::fs::{self, OpenFile, OpenOptions};
 use std::io::{self, ErrorKind, Read, Write};
 use std::rt::Files;
 use std::time::{Clock, Duration};
+
+/// How many bytes of a short file are read at once, at least.
+const LEAST_PIECE: usize = 8 * 1024;
+
+/// How many bytes of a long file are read at once, at most.
+const MOST_PIECE: usize = 64 * 1024;
+
+/// How many bytes are copied at once into memory that was never touched: there short copies are faster than a long one.
+const COPIED: usize = 2 * 1024;
 
 /// How many seconds a busy machine's keyboard isn't read.
 const REST: u64 = 1;
@@ -96,6 +106,27 @@ impl<'a, R: Files + Clock + Input + Eprint + AllocGlobal> RealFiles<'a, R> {
     }
 }
 
+// Puts a piece behind other bytes.
+fn append_piece(bytes: &mut Vec<u8>, piece: &[u8]) -> Result<(), AllocError> {
+    for part in piece.chunks(COPIED) {
+        bytes.extend_from_slice(part)?;
+    }
+    Ok(())
+}
+
+// Puts what a reader has left behind other bytes, piece by piece, and reads again where a signal interrupts it.
+fn read_rest<R: Read>(reader: &mut R, piece: &mut [u8], bytes: &mut Vec<u8>) -> io::Result<()> {
+    for _ in 0..u64::MAX {
+        match reader.read(piece) {
+            Ok(0) => return Ok(()),
+            Ok(count) => append_piece(bytes, &piece[..count])?,
+            Err(error) if error.kind() == ErrorKind::Interrupted => {}
+            Err(error) => return Err(error),
+        }
+    }
+    Err(io::Error::from(ErrorKind::TimedOut))
+}
+
 // The first bytes of a file, and how long it is: so long as it was read to its end, and else as the system says, which knows
 // the length of regular files alone.
 fn front<R: Files + AllocGlobal>(rt: &R, name: &str, most: usize) -> io::Result<Front>
@@ -105,7 +136,8 @@ fn front<R: Files + AllocGlobal>(rt: &R, name: &str, most: usize) -> io::Result<
     let metadata = file.metadata()?;
     let likely = metadata.len().min(most as u64) as usize;
     let mut bytes = Vec::with_capacity(rt.alloc(), likely)?;
-    file.take(most as u64).read_to_end(&mut bytes)?;
+    let mut piece = vec![in rt.alloc(); 0; likely.clamp(LEAST_PIECE, MOST_PIECE)]?;
+    read_rest(&mut file.take(most as u64), &mut piece, &mut bytes)?;
     bytes.truncate(most);
     let length = if bytes.len() < most {
         Some(bytes.len() as u64)
