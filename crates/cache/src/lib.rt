@@ -1,8 +1,9 @@
 //! The blocks of a device as one list, for the layers above.
 //!
-//! At most 30 blocks are held, those that were used last. A write changes the held block alone; the device has it
-//! once the block had to leave, or after `flush`. Where there is no memory for a block it isn't held: a read answers
-//! from the one block that was read, and a write goes to the device at once.
+//! At most 30 blocks are held, those that were used last; a read of a part of one of the first three leaves the three in
+//! their order. A write changes the held block alone; the device has it once the block had to leave, or after `flush`. Where
+//! there is no memory for a block it isn't held: a read answers from the one block that was read, and a write goes to the
+//! device at once.
 #![tactic(auto)]
 
 ghost use Rattle.std.specs.Prelude.{◌≡◌, ℕ, ◌+◌, ◌<◌, ◌≤◌, List, length, IfOk, slice_set};
@@ -13,7 +14,9 @@ ghost use Rattle.cache.specs.Steps.{AsBefore, Reads, Steps};
 mod held;
 
 use blockdev::{Block, BlockDev, DeviceFault, Duplicate};
-use held::{Slot, Slots, change, duplicates, make_room, next_to_write, write_now, write_out};
+use held::{
+    Slot, Slots, change, duplicates, make_room, next_to_write, recent, write_now, write_out,
+};
 use lru::LruCache;
 use std::alloc::{AllocError, Allocator, Global};
 use std::marker::Model;
@@ -108,7 +111,22 @@ impl<D: BlockDev, A: Allocator + Clone> Cache<D, A> {
     }
 
     /// Reads bytes of block `n` from the place `at` on, as many as `out` has. Of a held block nothing else is copied.
+    #[inline]
     pub fn read_part(&mut self, n: usize, at: usize, out: &mut [u8]) -> Result<(), DeviceFault>
+        requires block { n < length self.old.blocks }
+        requires fits { at + length out.old ≤ 1024 }
+        ensures { Reads D.identity self.old self.new result (λ _. out.new ≡ part at (length out.old) (block_at self.old.blocks n)) }
+    {
+        if let Some(slot) = recent(&self.held, n) {
+            out.copy_from_slice(&slot.bytes[at..at + out.len()]);
+            return Ok(());
+        }
+        self.read_older(n, at, out)
+    }
+
+    // The same for a block after which others were used. It is out of line, so that the way to those used last is short.
+    #[inline(never)]
+    fn read_older(&mut self, n: usize, at: usize, out: &mut [u8]) -> Result<(), DeviceFault>
         requires block { n < length self.old.blocks }
         requires fits { at + length out.old ≤ 1024 }
         ensures { Reads D.identity self.old self.new result (λ _. out.new ≡ part at (length out.old) (block_at self.old.blocks n)) }
