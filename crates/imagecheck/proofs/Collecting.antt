@@ -1,25 +1,16 @@
 -- The entries of all directories, one directory after the other, and what tables of them tell of the files.
-use Rattle.std.proofs.Common.{◌≡◌, ◌≢◌, ℕ, ◌+◌, ◌*◌, ◌/◌, ◌<◌, ◌≤◌, Bool, List, [], ◌∷◌, ◌++◌, Some, length, get_or, map, replicate, take, drop, ap, sym, refl, ◌∙◌, add-zero, arith, subst, cond, inl, inr, true, false, zero, suc, All, count_by, filter, flat_map, option_map, slice_get, unwrap_or, ◌&&◌, ◌==◌, option_to_list}
-use Rattle.std.specs.List.{find, range_with_len, sum_by}
-use Rattle.std.proofs.lemmas.Bool.{cases_eq, eq-eqb, ne_eqb}
-use Rattle.std.proofs.lemmas.List.{append-nil, append_assoc, map-append}
-use Rattle.std.proofs.lemmas.List.Concat.{flat_map-append}
-use Rattle.std.proofs.lemmas.List.Elements.{All-map, All-nil, All-replicate}
+use Rattle.imagecheck.proofs.Common.{◌≡◌, ◌≢◌, ℕ, ◌+◌, ◌*◌, ◌/◌, ◌<◌, ◌≤◌, Bool, List, [], ◌∷◌, ◌++◌, Some, length, get_or, map, replicate, take, drop, ap, sym, refl, ◌∙◌, add-zero, arith, subst, cond, inl, inr, true, false, zero, suc}
+use Rattle.imagecheck.proofs.Common.{All, count_by, filter, flat_map, option_map, slice_get, unwrap_or, ◌&&◌, ◌==◌, option_to_list, range_with_len, sum_by, cases_eq, append_assoc, map-append, flat_map-append, All-map, All-nil}
+use Rattle.imagecheck.proofs.Common.{All-replicate, sum_by-append, sum_by-cons, Geometry, slot, all_entries, contents_in, entries_of, inodes_in, is_directory_at, kind_in, names_number, names_of, parent_of, subdirectories}
+use Rattle.imagecheck.proofs.Common.{NamesDirectories, entries_in, entries_to, BlockRules, HasBlocks, HasBlocks-of, CountsNames, CountsSubdirectories, HasParents, HasParentsAmong, IsListed, IsNaming, TellsNames, TellsSubdirectories}
+use Rattle.imagecheck.proofs.Common.{directory_or_zero, first_directory, naming, namings_in, namings_of, parent_among, times_holding, times_named, files_in, place_of_bytes, Naming, All-flat_map, range-split, length-files_in, slot-zero}
+use Rattle.std.specs.List.{find}
+use Rattle.std.proofs.lemmas.Bool.{eq-eqb, ne_eqb}
+use Rattle.std.proofs.lemmas.List.{append-nil}
 use Rattle.std.proofs.lemmas.Simd.{map-map}
-use Rattle.std.proofs.lemmas.List.Sums.{sum_by-append, sum_by-cons}
-use Rattle.layout.specs.declared.Geometry.{Geometry}
-use Rattle.unixmodel.specs.Files.{Entry, slot}
-use Rattle.unixmodel.specs.Image.{all_entries, contents_in, entries_of, inodes_in, is_directory_at, kind_in, names_number, names_of, parent_of, subdirectories}
-use Rattle.imagecheck.specs.Entries.{NamesDirectories, entries_in, entries_to}
-use Rattle.imagerules.specs.Rules.{BlockRules, HasBlocks, HasBlocks-of}
-use Rattle.imagecheck.specs.Namings.{CountsNames, CountsSubdirectories, HasParents, HasParentsAmong, IsListed, IsNaming, TellsNames, TellsSubdirectories, directory_or_zero, first_directory, naming, namings_in, namings_of, parent_among, times_holding, times_named}
-use Rattle.imagerules.specs.Places.{files_in, place_of_bytes}
-use Rattle.imagecheck.specs.declared.namings.Naming.{Naming}
+use Rattle.unixmodel.specs.Files.{Entry}
 use Rattle.imagecheck.proofs.Entering.{entries_more}
-use Rattle.imagerules.proofs.Lists.{All-flat_map}
-use Rattle.imagerules.proofs.Marking.{range-split}
 use Rattle.imagecheck.proofs.Naming.{slot-directory}
-use Rattle.imagerules.proofs.Nodes.{length-files_in, slot-zero}
 use Rattle.imagecheck.proofs.Standing.{some_high, stands_each}
 
 -- ---- lists

@@ -1,7 +1,6 @@
 -- The bytes of blocks, copied one block after the other.
-use Rattle.std.proofs.Common.{◌≡◌, ℕ, ◌+◌, ◌<◌, List, [], ◌∷◌, ◌++◌, get_or, length, take, sym, ap, ◌∙◌, flat_map}
-use Rattle.std.proofs.lemmas.List.{append-nil, append_assoc, take_more}
-use Rattle.std.proofs.lemmas.List.Concat.{flat_map-append}
+use Rattle.imagecheck.proofs.Common.{◌≡◌, ℕ, ◌+◌, ◌<◌, List, [], ◌∷◌, ◌++◌, get_or, length, take, sym, ap, ◌∙◌, flat_map, append_assoc, take_more, flat_map-append}
+use Rattle.std.proofs.lemmas.List.{append-nil}
 use Rattle.unixmodel.specs.Image.{block_at}
 
 pub copied_more : (image before bytes numbers : List ℕ) (i : ℕ) → i < length numbers → bytes ≡ before ++ flat_map (block_at image) (take i numbers)

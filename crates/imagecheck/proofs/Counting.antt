@@ -1,15 +1,11 @@
 -- Tables of what items tell, one item more at a time.
-use Rattle.std.proofs.Common.{◌≡◌, ◌≢◌, ℕ, ◌+◌, ◌<◌, ◌≤◌, Bool, List, [], ◌∷◌, None, Option, Some, length, get_or, set, take, ap, sym, refl, ◌∙◌, arith, subst, cond, true, false, All, count_by, ◌==◌, find}
+use Rattle.imagecheck.proofs.Common.{◌≡◌, ◌≢◌, ℕ, ◌+◌, ◌<◌, ◌≤◌, Bool, List, [], ◌∷◌, None, Option, Some, length, get_or, set, take, ap, sym, refl, ◌∙◌, arith, subst, cond, true, false, All, count_by, ◌==◌, none-some, same_Some}
+use Rattle.imagecheck.proofs.Common.{get_or-set_other, get_or-set_same, take_more, All-head, All-tail, count_by_more_no, count_by_more_yes, HasFirsts, HasParentsAmong, directory_or_zero, first_directory, parent_among, at_or, Naming}
+use Rattle.std.proofs.Common.{find}
 use Rattle.std.specs.Option.{option_or}
 use Rattle.std.proofs.lemmas.Bool.{eq-eqb, ne_eqb}
-use Rattle.std.proofs.lemmas.Option.{none-some, same_Some}
-use Rattle.std.proofs.lemmas.List.{get_or-set_other, get_or-set_same, length-set, take_more}
-use Rattle.std.proofs.lemmas.List.Elements.{All-head, All-tail}
+use Rattle.std.proofs.lemmas.List.{length-set}
 use Rattle.std.proofs.lemmas.List.Folds.{find-append}
-use Rattle.std.proofs.lemmas.List.Sums.{count_by_more_no, count_by_more_yes}
-use Rattle.imagecheck.specs.Namings.{HasFirsts, HasParentsAmong, directory_or_zero, first_directory, parent_among}
-use Rattle.layout.proofs.Frame.{at_or}
-use Rattle.imagecheck.specs.declared.namings.Naming.{Naming}
 
 -- ---- counts: p k x tells whether item x counts for place k
 

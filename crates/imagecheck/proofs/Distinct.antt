@@ -1,24 +1,16 @@
 -- Names that stand once, told apart by their numbers.
-use Rattle.std.proofs.Common.{◌≡◌, ◌≢◌, ℕ, ◌+◌, ◌-◌, ◌*◌, ◌/◌, ◌<◌, ◌≤◌, Bool, List, [], ◌∷◌, ◌++◌, None, Some, length, get_or, take, drop, ap, sym, refl, ◌∙◌, arith, cond, subst, true, false, zero, suc, All, AllPairs, nat_eq, nat_lt, ◌==◌, IsPermutation, IsSorted, option_to_list, nat_cmp, IsTrue, ◌↔◌}
-use Rattle.std.specs.List.{IsAllAdjacentAnswer, list_all}
-use Rattle.std.proofs.lemmas.Bool.{ltb-false, ltb-true}
-use Rattle.std.proofs.lemmas.Bool.Decides.{Decides-eqb, Decides-like, same_from_decides}
-use Rattle.std.proofs.lemmas.List.{get_or-drop, get_or-map, length-drop, length-map, length-take-le, map-append, take_all}
-use Rattle.std.proofs.lemmas.List.Elements.{All-nil}
+use Rattle.imagecheck.proofs.Common.{◌≡◌, ◌≢◌, ℕ, ◌+◌, ◌-◌, ◌*◌, ◌/◌, ◌<◌, ◌≤◌, Bool, List, [], ◌∷◌, ◌++◌, None, Some, length, get_or, take, drop, ap, sym, refl, ◌∙◌, arith, cond, subst, true, false, zero, suc, All}
+use Rattle.imagecheck.proofs.Common.{AllPairs, nat_eq, nat_lt, ◌==◌, IsPermutation, IsSorted, option_to_list, nat_cmp, IsTrue, ◌↔◌, IsAllAdjacentAnswer, list_all, ltb-false, ltb-true, Decides-eqb, Decides-like}
+use Rattle.imagecheck.proofs.Common.{same_from_decides, get_or-drop, get_or-map, length-drop, length-map, length-take-le, map-append, All-nil, IsNonDecreasingBy-from_sort, IsPermutation-sym, little_number, name_bytes}
+use Rattle.imagecheck.proofs.Common.{number, number_at, AreOther, IfTaken, entries_in, entries_to, name_number, name_numbers, place_of_bytes, without_zeros, number_at-drop, chunk-fits, without_zeros-spelled}
+use Rattle.std.proofs.lemmas.List.{take_all}
 use Rattle.std.proofs.lemmas.List.Kept.{AllPairs-from_increasing}
-use Rattle.std.proofs.lemmas.List.Sorted.{IsNonDecreasingBy-from_sort, IsPermutation-sym}
 use Rattle.std.proofs.lemmas.Map.Keys.{IsDistinct-IsPermutation}
 use Rattle.std.proofs.lemmas.Map.Made.{AllPairs-from_IsDistinct, IsDistinct-from_AllPairs}
-use Rattle.byteorder.specs.Endian.{little_number}
-use Rattle.unixmodel.specs.Files.{Entry, name_bytes}
+use Rattle.unixmodel.specs.Files.{Entry}
 use Rattle.unixmodel.specs.Memory.{zeros}
-use Rattle.unixmodel.specs.Numbers.{number, number_at}
-use Rattle.imagecheck.specs.Entries.{AreOther, IfTaken, entries_in, entries_to, name_number, name_numbers}
-use Rattle.imagerules.specs.Places.{place_of_bytes, without_zeros}
 use Rattle.imagecheck.proofs.Entering.{all_more, entries_all, entries_more, entries_none, place-taken}
 use Rattle.imagecheck.proofs.Judging.{never, told}
-use Rattle.imagerules.proofs.Numbers.{number_at-drop}
-use Rattle.imagerules.proofs.Spelling.{chunk-fits, without_zeros-spelled}
 
 -- ---- names and their numbers
 

@@ -1,17 +1,11 @@
 -- The places of a directory, one after the other.
-use Rattle.std.proofs.Common.{◌≡◌, ◌≢◌, ℕ, ◌+◌, ◌*◌, ◌/◌, ◌<◌, ◌≤◌, List, [], ◌∷◌, ◌++◌, None, Option, Some, length, get_or, take, drop, ap, sym, refl, ◌∙◌, arith, subst, true, false, inl, inr, not, All, IsSome, is_some, ◌==◌, option_to_list}
-use Rattle.std.specs.List.{list_all}
-use Rattle.std.proofs.lemmas.Bool.{cases_eq, cond-false, cond-true, false≢true, ne_eqb}
-use Rattle.std.proofs.lemmas.List.{drop-append-le, drop_all, length-take, length-take-le, take-append-drop, take_all, take_more}
-use Rattle.std.proofs.lemmas.List.Elements.{All-append, All-cons, All-head, All-nil, filter_map-append}
-use Rattle.unixmodel.specs.Files.{Entry, Node, slot, taken}
-use Rattle.unixmodel.specs.Image.{inodes_in, kind_in}
-use Rattle.unixmodel.specs.Numbers.{number_at}
-use Rattle.imagecheck.specs.Entries.{IfTaken, entries_in, entries_to}
-use Rattle.imagerules.specs.Places.{files_in, place_of_bytes, places_in, without_zeros}
-use Rattle.imagerules.proofs.Lists.{All-left, All-right}
-use Rattle.imagerules.proofs.Nodes.{file_in-used, slot-files_in, slot-free}
-use Rattle.imagerules.proofs.Spelling.{length-places_in, slot-places_in}
+use Rattle.imagecheck.proofs.Common.{◌≡◌, ◌≢◌, ℕ, ◌+◌, ◌*◌, ◌/◌, ◌<◌, ◌≤◌, List, [], ◌∷◌, ◌++◌, None, Option, Some, length, get_or, take, drop, ap, sym, refl, ◌∙◌, arith, subst, true, false, inl, inr}
+use Rattle.imagecheck.proofs.Common.{not, All, IsSome, is_some, ◌==◌, option_to_list, list_all, cases_eq, cond-false, cond-true, false≢true, drop-append-le, drop_all, length-take, length-take-le}
+use Rattle.imagecheck.proofs.Common.{take-append-drop, take_more, All-append, All-cons, All-head, All-nil, filter_map-append, Node, slot, taken, inodes_in, kind_in, number_at, IfTaken, entries_in}
+use Rattle.imagecheck.proofs.Common.{entries_to, files_in, place_of_bytes, places_in, without_zeros, All-left, All-right, file_in-used, slot-files_in, slot-free, length-places_in, slot-places_in}
+use Rattle.std.proofs.lemmas.Bool.{ne_eqb}
+use Rattle.std.proofs.lemmas.List.{take_all}
+use Rattle.unixmodel.specs.Files.{Entry}
 
 -- ---- numbers in use
 

@@ -1,3 +1,4 @@
+mod Common
 pub mod Collecting
 pub mod Copying
 pub mod Counting

@@ -1,15 +1,6 @@
 -- The names of a directory, and the rules of its entries.
-use Rattle.std.proofs.Common.{◌≡◌, ◌≢◌, ℕ, ◌<◌, ◌≤◌, List, Some, length, ap, sym, ◌∙◌, arith, subst}
-use Rattle.layout.specs.declared.Geometry.{Geometry}
-use Rattle.unixmodel.specs.Files.{slot}
-use Rattle.unixmodel.specs.Files.Node.{Directory}
-use Rattle.unixmodel.specs.Image.{contents_in, inodes_in, kind_in, links_in}
-use Rattle.imagecheck.specs.Entries.{HasNames}
-use Rattle.imagerules.specs.Rules.{BlockRules, HasBlocks, HasBlocks-of}
-use Rattle.imagerules.specs.Fields.{HasGeometry}
-use Rattle.imagerules.specs.Places.{EntriesAt, FitsEntries, HasEntries, files_in, places_in}
-use Rattle.imagerules.proofs.Denoting.{contents-long}
-use Rattle.imagerules.proofs.Nodes.{file_in-used, node_in-directory, slot-files_in}
+use Rattle.imagecheck.proofs.Common.{◌≡◌, ◌≢◌, ℕ, ◌<◌, ◌≤◌, List, Some, length, ap, sym, ◌∙◌, arith, subst, Geometry, slot, Directory, contents_in, inodes_in, kind_in, links_in, HasNames, BlockRules}
+use Rattle.imagecheck.proofs.Common.{HasBlocks, HasBlocks-of, HasGeometry, EntriesAt, FitsEntries, HasEntries, files_in, places_in, contents-long, file_in-used, node_in-directory, slot-files_in}
 
 module _ (image : List ℕ) (n : ℕ) (low : 1 ≤ n) (high : n < inodes_in image) (directory : kind_in image n ≡ 1) where
   used : kind_in image n ≢ 0

@@ -1,21 +1,12 @@
 -- The number in a slot, from its place, and what a walk over the slots is told.
-use Rattle.std.proofs.Common.{cond, get_or, eq-eqb, eqb-true, inl, inr, nat_lt, ◌==◌, ◌≡◌, ℕ, ◌+◌, ◌-◌, ◌*◌, ◌<◌, ◌≤◌, List, Bool, refl, ap, arith, false, length, subst, sym, true, ◌∙◌}
-use Rattle.std.proofs.lemmas.Bool.{cases_lt, false≢true}
+use Rattle.imagecheck.proofs.Common.{cond, get_or, inl, inr, nat_lt, ◌==◌, ◌≡◌, ℕ, ◌+◌, ◌-◌, ◌*◌, ◌<◌, ◌≤◌, List, Bool, refl, ap, arith, false, length, subst, sym, true, ◌∙◌, cases_lt, false≢true, format_named, Geometry}
+use Rattle.imagecheck.proofs.Common.{index_blocks, most_bytes, HasSuper, count_in, format_of, inode_at, is_data_block, named_by, number_in, size_in, number_at, address_of, holder_of, in_record, level_of, place_of, single}
+use Rattle.imagecheck.proofs.Common.{slot_at, taken_blocks, there, direct-high, direct-low, length-is, super-is, number_in-block, number_in-record, HasGeometry, is_data_in, FitsAddresses, FitsKind, FitsSlot, IsFound}
+use Rattle.std.proofs.Common.{eq-eqb, eqb-true}
 use Rattle.layout.proofs.Places as places
-use Rattle.layout.specs.Formats.{format_named}
 use Rattle.layout.specs.declared.Format.{Format}
-use Rattle.layout.specs.declared.Geometry.{Geometry}
-use Rattle.unixmodel.specs.Formats.{index_blocks, most_bytes}
-use Rattle.unixmodel.specs.Image.{HasSuper, count_in, format_of, inode_at, is_data_block, named_by, number_in, size_in}
-use Rattle.unixmodel.specs.Numbers.{number_at}
-use Rattle.unixmodel.specs.Slots.{address_of, holder_of, in_record, level_of, place_of, single, slot_at, taken_blocks, there}
-use Rattle.imagerules.proofs.Bounds.{direct-high, direct-low, length-is, super-is}
-use Rattle.imagerules.proofs.Read.{number_in-block, number_in-record}
-use Rattle.imagerules.specs.Fields.{HasGeometry, is_data_in}
-use Rattle.imagerules.specs.Pieces.{FitsAddresses, FitsKind}
 use Rattle.imagecheck.proofs.Slotting.{named-at, named-long, named-low}
 use Rattle.imagerules.proofs.Named.{cond_no, cond_yes, is_data_in-is}
-use Rattle.imagecheck.specs.Slots.{FitsSlot, IsFound}
 
 module _ (image : List ℕ) (n k : ℕ) (format : Format) (e : format_named format ≡ format_of image) where
   pub record_told : {b : Bool} → b ≡ in_record (format_named format) k → b ≡ in_record (format_of image) k

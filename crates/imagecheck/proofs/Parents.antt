@@ -1,27 +1,15 @@
 -- The number that a directory's ".." tells.
-use Rattle.std.proofs.Common.{◌≡◌, ◌≢◌, ℕ, ◌+◌, ◌-◌, ◌*◌, ◌<◌, ◌≤◌, Bool, List, [], ◌∷◌, None, Some, length, get_or, take, drop, ap, sym, ◌∙◌, arith, subst, cond, inl, inr, true, false, flat_map, is_some, option_map, slice_range, unwrap_or, ◌==◌, ◌↔◌, IsSome, IsTrue}
-use Rattle.std.specs.List.{list_all}
-use Rattle.std.proofs.lemmas.Bool.{cases_eq, eqb-true}
-use Rattle.std.proofs.lemmas.List.{ext_get_or, get_or-drop, get_or-take, get_or_append_left, length-drop, length-take-le}
-use Rattle.std.proofs.lemmas.Option.{none-some}
-use Rattle.unixmodel.specs.Files.{Entry, dot_dot, is_directory, slot}
-use Rattle.unixmodel.specs.Image.{block_at, contents_in, count_in, data_blocks, format_of, inode_at, is_data_block, is_directory_at, kind_in, length_in, parent_of}
-use Rattle.unixmodel.specs.Numbers.{number_at}
-use Rattle.imagerules.specs.Rules.{HasBlocks}
-use Rattle.imagerules.specs.Places.{HasEntries, HasLinks, files_in, place_of_bytes, places_in, without_zeros}
-use Rattle.imagecheck.specs.Entries.{FitsFront}
-use Rattle.imagecheck.specs.Reach.{IsDirectoryIn, first_block}
+use Rattle.imagecheck.proofs.Common.{◌≡◌, ◌≢◌, ℕ, ◌+◌, ◌-◌, ◌*◌, ◌<◌, ◌≤◌, Bool, List, [], ◌∷◌, None, Some, length, get_or, take, drop, ap, sym, ◌∙◌, arith, subst, cond, inl, inr, true, false, flat_map, is_some, option_map, slice_range}
+use Rattle.imagecheck.proofs.Common.{unwrap_or, ◌==◌, ◌↔◌, IsSome, IsTrue, list_all, cases_eq, ext_get_or, get_or-drop, get_or-take, get_or_append_left, length-drop, length-take-le, none-some, dot_dot, is_directory, slot, contents_in}
+use Rattle.imagecheck.proofs.Common.{count_in, data_blocks, format_of, inode_at, is_data_block, is_directory_at, kind_in, length_in, parent_of, number_at, HasBlocks, HasEntries, HasLinks, files_in, place_of_bytes, places_in}
+use Rattle.imagecheck.proofs.Common.{without_zeros, FitsFront, IsDirectoryIn, first_block, length-block, same_number, number_in-record, length-data_blocks, most_data, slot-places_in, All-data_blocks, FitsAddresses-at, is_data_block-below}
+use Rattle.std.proofs.lemmas.Bool.{eqb-true}
+use Rattle.unixmodel.specs.Files.{Entry}
+use Rattle.unixmodel.specs.Image.{block_at}
 use Rattle.imagecheck.proofs.Naming.{directory-least, entries-at, slot-directory}
-use Rattle.imagerules.proofs.Nodes.{length-block}
-use Rattle.imagerules.proofs.Numbers.{same_number}
-use Rattle.imagerules.proofs.Read.{number_in-record}
-use Rattle.imagerules.proofs.Summing.{length-data_blocks}
-use Rattle.unixmodel.specs.Formats.{most_data}
 use Rattle.imagecheck.proofs.Slotting.{data-at, first-address, first-here}
 use Rattle.imagecheck.proofs.Reaching.{parent_leads, parent_root, used_from}
 use Rattle.imagecheck.proofs.Standing.{is_directory-is, some_high, some_low}
-use Rattle.imagerules.proofs.Spelling.{slot-places_in}
-use Rattle.imagerules.proofs.Uses.{All-data_blocks, FitsAddresses-at, is_data_block-below}
 
 -- ---- directories of the image and of its files
 

@@ -1,12 +1,7 @@
 -- What the names of a directory find.
-use Rattle.std.proofs.Common.{◌≡◌, ◌≢◌, ℕ, List, [], ◌∷◌, None, Option, Some, get_or, drop, ap, sym, refl, ◌∙◌, arith, true, false, suc, All, AllPairs, bytes_eq}
-use Rattle.std.proofs.lemmas.Bool.{cond-false, cond-true, cond_both, false≢true, false_from_ne_true, or_parts}
-use Rattle.std.proofs.lemmas.Option.{none-some}
-use Rattle.std.proofs.lemmas.List.Elements.{All-cons, All-head, All-nil, All-tail}
-use Rattle.std.proofs.lemmas.Slice.Eq.{bytes_eq-Decides}
-use Rattle.unixmodel.specs.Files.{Entry, dot, dot_dot, has_name, is_dot_name, slot, taken}
-use Rattle.imagecheck.specs.Entries.{AreOther, IfTaken}
-use Rattle.imagerules.proofs.Paths.{first_named}
+use Rattle.imagecheck.proofs.Common.{◌≡◌, ◌≢◌, ℕ, List, [], ◌∷◌, None, Option, Some, get_or, drop, ap, sym, refl, ◌∙◌, arith, true, false, suc, All, AllPairs, bytes_eq, cond-false, cond-true, cond_both, false≢true}
+use Rattle.imagecheck.proofs.Common.{false_from_ne_true, or_parts, none-some, All-cons, All-head, All-nil, All-tail, bytes_eq-Decides, dot, dot_dot, has_name, is_dot_name, slot, taken, AreOther, IfTaken, first_named}
+use Rattle.unixmodel.specs.Files.{Entry}
 
 -- what holds of each taken place
 pub holds_taken : (P : Entry → Type 0) (os : List (Option Entry)) → All P (taken os) → All (IfTaken P) os

@@ -1,20 +1,11 @@
 -- What is reached from the root, by the parents of directories.
-use Rattle.std.proofs.Common.{◌≡◌, ◌≢◌, ℕ, ◌+◌, ◌<◌, ◌≤◌, List, [], ◌∷◌, ◌++◌, None, Option, Some, length, get_or, drop, map, ap, sym, refl, ◌∙◌, arith, subst, inl, inr, true, false, zero, suc, All, IfSome, IsSome, filter, option_and_then, option_map, position, slice_get, unwrap_or, ◌==◌}
-use Rattle.std.specs.List.{range_with_len}
-use Rattle.std.proofs.lemmas.Bool.{cases_eq, cond-false, eq-eqb, eqb-true, false≢true, ne_eqb}
-use Rattle.std.proofs.lemmas.List.Elements.{All-cons, All-filter, All-head, All-map, All-nil, filter_passes}
-use Rattle.std.proofs.lemmas.List.FromFn.{get_or-range_with_len, length-range_with_len}
-use Rattle.std.proofs.lemmas.List.Sums.{length-filter}
-use Rattle.std.proofs.lemmas.Option.{none-some}
-use Rattle.unixmodel.specs.Files.{Entry, Files, Node, dot, dot_dot, entry_number, find, follow, has_name, is_directory, live_places, lookup, parts, slot, taken}
-use Rattle.unixmodel.specs.Files.Node.{Directory}
-use Rattle.unixmodel.specs.Image.{all_entries, entries_of, is_directory_at, names_number, names_of, parent_of, subdirectories, is_name}
-use Rattle.imagecheck.specs.Entries.{IfTaken}
-use Rattle.imagerules.specs.Places.{EntriesAt, FitsEntries, HasEntries, HasLinks, IsReached, LinksAt}
-use Rattle.imagecheck.specs.Reach.{Climbs, ancestor}
-use Rattle.imagerules.proofs.Denoting.{below-slot}
-use Rattle.imagerules.proofs.Lists.{All-flat_map, All-from_flat_map, All-from_map, All-from_passing}
-use Rattle.imagerules.proofs.Paths.{IsGiven-name, find-empty, find-root, find-slash, first_named, first_named-is}
+use Rattle.imagecheck.proofs.Common.{◌≡◌, ◌≢◌, ℕ, ◌+◌, ◌<◌, ◌≤◌, List, [], ◌∷◌, ◌++◌, None, Option, Some, length, get_or, drop, map, ap, sym, refl, ◌∙◌, arith, subst, inl, inr, true, false, zero, suc, All, IfSome, IsSome}
+use Rattle.imagecheck.proofs.Common.{filter, option_and_then, option_map, position, slice_get, unwrap_or, ◌==◌, range_with_len, cases_eq, cond-false, false≢true, All-cons, All-filter, All-head, All-map, All-nil, filter_passes}
+use Rattle.imagecheck.proofs.Common.{get_or-range_with_len, length-range_with_len, length-filter, none-some, Files, Node, dot, dot_dot, entry_number, follow, has_name, is_directory, live_places, lookup, parts, slot, taken}
+use Rattle.imagecheck.proofs.Common.{Directory, all_entries, entries_of, is_directory_at, names_number, names_of, parent_of, subdirectories, is_name, IfTaken, EntriesAt, FitsEntries, HasEntries, HasLinks, IsReached, LinksAt}
+use Rattle.imagecheck.proofs.Common.{Climbs, ancestor, below-slot, All-flat_map, All-from_flat_map, All-from_map, All-from_passing, IsGiven-name, find-empty, find-root, find-slash, first_named, first_named-is}
+use Rattle.std.proofs.lemmas.Bool.{eq-eqb, eqb-true, ne_eqb}
+use Rattle.unixmodel.specs.Files.{Entry, find}
 use Rattle.imagecheck.proofs.Paths.{behind_dots, each_named, holds_named, holds_taken}
 
 -- ---- an entry leads from its directory to its number

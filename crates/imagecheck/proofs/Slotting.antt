@@ -1,15 +1,8 @@
 -- The slots of an inode that are there, one after the other: an index block is read behind the number that names it.
-use Rattle.std.proofs.Common.{◌≡◌, ℕ, ◌<◌, ◌≤◌, IsTrue, List, ap, arith, false, get_or, inl, inr, length, subst, sym, true, ◌∙◌}
-use Rattle.std.proofs.lemmas.Bool.{cases_lt}
-use Rattle.std.proofs.lemmas.Bool.Decides.{nat_tests}
-use Rattle.std.proofs.lemmas.List.FromFn.{get_or-map-range_with_len, length-map-range_with_len}
+use Rattle.imagecheck.proofs.Common.{◌≡◌, ℕ, ◌<◌, ◌≤◌, IsTrue, List, ap, arith, false, get_or, inl, inr, length, subst, sym, true, ◌∙◌, cases_lt, nat_tests, get_or-map-range_with_len}
+use Rattle.imagecheck.proofs.Common.{length-map-range_with_len, HasSuper, count_in, data_blocks, format_of, is_data_block, named_by, number_in, size_in, Asks, address_of, asked_slot}
+use Rattle.imagecheck.proofs.Common.{holder_of, in_record, single, slot_at, slots, taken_blocks, there, FitsAddresses, direct-high, direct-low, is_data_block-below, FitsSlot, IsFound, Lies}
 use Rattle.layout.proofs.Places as places
-use Rattle.unixmodel.specs.Image.{HasSuper, count_in, data_blocks, format_of, is_data_block, named_by, number_in, size_in}
-use Rattle.unixmodel.specs.Slots.{Asks, address_of, asked_slot, holder_of, in_record, single, slot_at, slots, taken_blocks, there}
-use Rattle.imagerules.specs.Pieces.{FitsAddresses}
-use Rattle.imagerules.proofs.Bounds.{direct-high, direct-low}
-use Rattle.imagerules.proofs.Uses.{is_data_block-below}
-use Rattle.imagecheck.specs.Slots.{FitsSlot, IsFound, Lies}
 
 module _ (image : List ℕ) (n : ℕ) (small : count_in image n ≤ single (format_of image)) where
   abbrev rank : ℕ → ℕ

@@ -1,18 +1,14 @@
 -- What a result of a pass tells, from what the pass before it tells.
-use Rattle.std.proofs.Common.{Err, List, Ok, Result, length, ℕ, ◌≡◌, ◌≢◌, ◌≤◌, ap, arith, subst, sym, ◌∙◌, IfErr, IfOk, IsErrAnd, IsErrOf, MatchResult, OnOk}
+use Rattle.imagecheck.proofs.Common.{Err, List, Ok, Result, length, ℕ, ◌≡◌, ◌≢◌, ◌≤◌, ap, arith, subst, sym, ◌∙◌, IfErr, IfOk, IsErrAnd, IsErrOf, MatchResult, OnOk, Files, DenotesIn}
+use Rattle.imagecheck.proofs.Common.{named_blocks, numbers_in_use, Denies, DenotesOwn, Finds, IsOfImage, IsOutside, Tells, HasMagic, IsSummary, Address, Bitmap, Length, Links, Magic}
+use Rattle.imagecheck.proofs.Common.{NoMemory, NodeType, Numbers, SharedBlock, Size, Unreached, HasEntries-denotes, HasKinds-denotes, HasLinks-denotes, HasSizes-denotes, IsReached-denotes}
 use Rattle.std.proofs.lemmas.Result.{err_from_is_err_and}
 use Rattle.unixmodel.specs.Failures.{Rises}
-use Rattle.unixmodel.specs.Files.{Files}
 use Rattle.unixmodel.specs.Formats.{Format}
-use Rattle.unixmodel.specs.Image.{DenotesIn, named_blocks, numbers_in_use}
-use Rattle.imagecheck.specs.Faults.{Denies, DenotesOwn, Finds, IsOfImage, IsOutside, Tells}
-use Rattle.imagerules.specs.Pieces.{HasMagic}
-use Rattle.imagecheck.specs.Summaries.{IsSummary}
 use Rattle.imagecheck.specs.declared.ImageFault.{ImageFault}
 use Rattle.imagecheck.specs.declared.rules.Summary.{Summary}
-use Rattle.imagecheck.specs.declared.ImageFault.TheVariants.{Address, Bitmap, Device, Entry, Length, Links, Magic, NoMemory, NodeType, Numbers, SharedBlock, Size, Unreached}
+use Rattle.imagecheck.specs.declared.ImageFault.TheVariants.{Device, Entry}
 use Rattle.imagecheck.specs.declared.ImageFault.TheVariants as fault
-use Rattle.imagerules.proofs.Denoting.{HasEntries-denotes, HasKinds-denotes, HasLinks-denotes, HasSizes-denotes, IsReached-denotes}
 
 -- a fault that holds rules out that the image denotes files
 pub Tells-not : (f : Format) (image : List ℕ) (files : Files) (fault : ImageFault) → IsOfImage fault → Tells f image fault → DenotesIn f image files → ⊥

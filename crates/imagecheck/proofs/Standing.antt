@@ -1,16 +1,11 @@
 -- What holds of each number of the files of an image, type by type, and so the rules of entries and of links.
-use Rattle.std.proofs.Common.{◌≡◌, ◌≢◌, ℕ, ◌<◌, ◌≤◌, Bool, List, None, Option, Some, ap, sym, refl, ◌∙◌, arith, subst, cond, inl, inr, true, false, IsSome, nat_eq, option_map, unwrap_or, ◌==◌}
-use Rattle.std.proofs.lemmas.Bool.{cases_eq, cases_lt, eq-eqb, ne_eqb}
-use Rattle.unixmodel.specs.Files.{Node, is_directory, slot, most_links}
-use Rattle.unixmodel.specs.Files.Node.{Device, Directory, File}
-use Rattle.unixmodel.specs.Image.{contents_in, inodes_in, is_directory_at, kind_in, links_in, major_in, minor_in, names_of, subdirectories}
-use Rattle.imagecheck.specs.Entries.{AreNamed, HasFronts, NamesDirectories}
-use Rattle.imagerules.specs.Rules.{HasBlocks}
-use Rattle.imagecheck.specs.Namings.{FitsLinks}
-use Rattle.imagerules.specs.Places.{EntriesAt, HasEntries, HasLinks, LinksAt, files_in, kind_node, node_in, places_in}
+use Rattle.imagecheck.proofs.Common.{◌≡◌, ◌≢◌, ℕ, ◌<◌, ◌≤◌, Bool, List, None, Option, Some, ap, sym, refl, ◌∙◌, arith, subst, cond, inl, inr, true, false, IsSome, nat_eq, option_map, unwrap_or, ◌==◌, cases_eq, cases_lt, Node, is_directory}
+use Rattle.imagecheck.proofs.Common.{slot, most_links, Directory, File, contents_in, inodes_in, is_directory_at, kind_in, links_in, major_in, minor_in, names_of, subdirectories, AreNamed, HasFronts, NamesDirectories, HasBlocks, FitsLinks}
+use Rattle.imagecheck.proofs.Common.{EntriesAt, HasEntries, HasLinks, LinksAt, files_in, kind_node, node_in, places_in, by_kind, file_in-used, node_in-device, node_in-file, slot-files_in, slot-free, slot-past, slot-zero}
+use Rattle.std.proofs.lemmas.Bool.{eq-eqb, ne_eqb}
+use Rattle.unixmodel.specs.Files.Node.{Device}
 use Rattle.imagecheck.proofs.Entering.{none_used}
 use Rattle.imagecheck.proofs.Naming.{slot-directory}
-use Rattle.imagerules.proofs.Nodes.{by_kind, file_in-used, node_in-device, node_in-file, slot-files_in, slot-free, slot-past, slot-zero}
 
 module _ (image : List ℕ) (n : ℕ) (high : n < inodes_in image) (low : 1 ≤ n) where
   pub slot-file : kind_in image n ≡ 2 → slot (files_in image) n ≡ Some (File (links_in image n) (contents_in image n))

@@ -1,19 +1,12 @@
 -- What the super block of a device of so many blocks tells, if it has this length.
-use Rattle.std.proofs.Common.{◌≡◌, ◌≢◌, ℕ, ◌≤◌, List, cond, ◌==◌, ap, length, sym, ◌∙◌, arith}
+use Rattle.imagecheck.proofs.Common.{◌≡◌, ◌≢◌, ℕ, ◌≤◌, List, cond, ◌==◌, ap, length, sym, ◌∙◌, arith, format_named, large, small, format_of, IsFront, image_of, SuperRules-of}
+use Rattle.imagecheck.proofs.Common.{HasMagic, Begins, Tells, Length, Magic, Numbers, HasLength-from, HasLength-not, HasNumbers-in, HasSuper-in, inodes-is, magic-is, size-is}
 use Rattle.blockdev.specs.Blocks.{block_at}
-use Rattle.layout.specs.Formats.{format_named}
 use Rattle.layout.specs.Super.{HasNumbersIn, super_of}
 use Rattle.layout.specs.declared.Format as layout
 use Rattle.layout.specs.declared.Format.TheVariants as kinds
-use Rattle.unixmodel.specs.Formats.{Format, large, small}
-use Rattle.unixmodel.specs.Image.{format_of}
+use Rattle.unixmodel.specs.Formats.{Format}
 use Rattle.layout.specs.declared.SuperBlock.{SuperBlock}
-use Rattle.imagerules.specs.Content.{IsFront, image_of}
-use Rattle.imagerules.specs.Fields.{SuperRules-of}
-use Rattle.imagerules.specs.Pieces.{HasMagic}
-use Rattle.imagecheck.specs.Faults.{Begins, Tells}
-use Rattle.imagecheck.specs.declared.ImageFault.TheVariants.{Length, Magic, Numbers}
-use Rattle.imagerules.proofs.Super.{HasLength-from, HasLength-not, HasNumbers-in, HasSuper-in, inodes-is, magic-is, size-is}
 
 -- its magic number tells the format of an image
 pub format_of-magic : (format : layout.Format) (image : List ℕ) → HasMagic (format_named format) image → format_of image ≡ format_named format

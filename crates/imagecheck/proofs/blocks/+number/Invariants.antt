@@ -1,6 +1,4 @@
-use Rattle.std.proofs.Common.{◌-◌}
-use Rattle.unixmodel.specs.Image.{format_of}
-use Rattle.unixmodel.specs.Slots.{level_of}
+use Rattle.imagecheck.proofs.Common.{◌-◌, format_of, level_of}
 use Rattle.imagecheck.proofs.blocks.+number.Given as goal
 
 abbrev pub decreases-number : goal.decreases-number

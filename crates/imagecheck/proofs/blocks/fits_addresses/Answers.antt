@@ -1,7 +1,4 @@
-use Rattle.std.proofs.Common.{below_more, sym, ◌∙◌}
-use Rattle.std.proofs.lemmas.Bool.{false≢true}
-use Rattle.imagecheck.specs.Slots.{FitsSlot}
-use Rattle.imagerules.proofs.Bounds.{inodes-most, size-most, super-is}
+use Rattle.imagecheck.proofs.Common.{below_more, sym, ◌∙◌, false≢true, FitsSlot, inodes-most, size-most, super-is}
 use Rattle.imagecheck.proofs.Judging.{never, told}
 use Rattle.imagecheck.proofs.Numbering.{FitsSlot-from, FitsSlot-test, IsCounted, IsFound-told, number_told, small_told, taken_told, there_told, within_told}
 use Rattle.imagecheck.proofs.Slotting.{FitsAddresses-from, FitsSlot-at, IsFound-next}

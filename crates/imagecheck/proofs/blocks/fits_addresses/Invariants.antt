@@ -1,5 +1,4 @@
-use Rattle.std.proofs.Common.{ℕ, ◌<◌}
-use Rattle.imagecheck.specs.Slots.{FitsSlot}
+use Rattle.imagecheck.proofs.Common.{ℕ, ◌<◌, FitsSlot}
 use Rattle.imagecheck.proofs.blocks.fits_addresses.Given as goal
 
 abbrev pub invariant-loop-k : goal.invariant-loop-k

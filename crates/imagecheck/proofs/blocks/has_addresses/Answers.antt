@@ -1,8 +1,4 @@
-use Rattle.std.proofs.Common.{◌≢◌, arith}
-use Rattle.unixmodel.specs.Image.{kind_in}
-use Rattle.imagerules.specs.Pieces.{FitsAddresses}
-use Rattle.imagerules.proofs.Bounds.{up_to_more}
-use Rattle.imagerules.proofs.Uses.{FitsAddresses-at, HasAddresses-from}
+use Rattle.imagecheck.proofs.Common.{◌≢◌, arith, kind_in, FitsAddresses, up_to_more, FitsAddresses-at, HasAddresses-from}
 use Rattle.imagecheck.proofs.Judging.{refused, told}
 use Rattle.imagecheck.proofs.blocks.has_addresses.Goals as goal
 

@@ -1,6 +1,4 @@
-use Rattle.std.proofs.Common.{ℕ, ◌<◌, ◌≤◌, ◌≢◌}
-use Rattle.unixmodel.specs.Image.{kind_in}
-use Rattle.imagerules.specs.Pieces.{FitsAddresses}
+use Rattle.imagecheck.proofs.Common.{ℕ, ◌<◌, ◌≤◌, ◌≢◌, kind_in, FitsAddresses}
 use Rattle.imagecheck.proofs.blocks.has_addresses.Given as goal
 
 abbrev pub invariant-loop-n : goal.invariant-loop-n

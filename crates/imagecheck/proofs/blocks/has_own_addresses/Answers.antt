@@ -1,7 +1,5 @@
-use Rattle.std.proofs.Common.{◌∙◌, sym}
+use Rattle.imagecheck.proofs.Common.{◌∙◌, sym, Decides-like, HasInode-at, HasPlace-at}
 use Rattle.std.proofs.lemmas.Bool.{eq-eqb}
-use Rattle.std.proofs.lemmas.Bool.Decides.{Decides-like}
-use Rattle.imagerules.proofs.Bounds.{HasInode-at, HasPlace-at}
 use Rattle.imagecheck.proofs.blocks.has_own_addresses.Goals as goal
 
 pub kind-requires : goal.kind-requires

@@ -1,8 +1,6 @@
-use Rattle.std.proofs.Common.{◌+◌, ◌*◌, ◌≤◌, length, ◌++◌, sym, ap, subst, ◌∙◌, arith, flat_map, append-nil, take_all}
-use Rattle.unixmodel.specs.Image.{block_at, count_in, data_blocks, format_of}
-use Rattle.unixmodel.specs.Slots.{single}
-use Rattle.imagerules.specs.Fields.{HasSuper-of}
-use Rattle.imagerules.proofs.Summing.{length-data_blocks}
+use Rattle.imagecheck.proofs.Common.{◌+◌, ◌*◌, ◌≤◌, length, ◌++◌, sym, ap, subst, ◌∙◌, arith, flat_map, count_in, data_blocks, format_of, single, HasSuper-of, length-data_blocks}
+use Rattle.std.proofs.Common.{append-nil, take_all}
+use Rattle.unixmodel.specs.Image.{block_at}
 use Rattle.imagecheck.proofs.Copying.{copied_more}
 use Rattle.imagecheck.proofs.Slotting.{asks-data, data-at, found-asked, lies-asked}
 use Rattle.imagecheck.proofs.contents.copy_blocks.Given as given

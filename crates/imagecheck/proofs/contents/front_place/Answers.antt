@@ -1,8 +1,4 @@
-use Rattle.std.proofs.Common.{◌≡◌, ◌+◌, ◌*◌, ap, ◌∙◌, arith}
-use Rattle.unixmodel.specs.Numbers.{number_at}
-use Rattle.imagecheck.specs.Reach.{first_block}
-use Rattle.imagerules.specs.Rules.{HasBlocks-of}
-use Rattle.imagerules.proofs.Bounds.{HasPlace-at, inodes-most}
+use Rattle.imagecheck.proofs.Common.{◌≡◌, ◌+◌, ◌*◌, ap, ◌∙◌, arith, number_at, first_block, HasBlocks-of, HasPlace-at, inodes-most}
 use Rattle.imagecheck.proofs.Parents.{first_inside}
 use Rattle.imagecheck.proofs.contents.front_place.Goals as goal
 

@@ -1,8 +1,5 @@
-use Rattle.std.proofs.Common.{◌++◌, take, ap, ◌∙◌, arith, flat_map}
-use Rattle.unixmodel.specs.Image.{block_at, contents_in, data_blocks, length_in}
-use Rattle.imagerules.proofs.Bounds.{HasInode-at, HasPlace-at}
-use Rattle.imagerules.proofs.Uses.{FitsAddresses-at}
-use Rattle.imagerules.specs.Rules.{HasBlocks-of}
+use Rattle.imagecheck.proofs.Common.{◌++◌, take, ap, ◌∙◌, arith, flat_map, contents_in, data_blocks, length_in, HasInode-at, HasPlace-at, FitsAddresses-at, HasBlocks-of}
+use Rattle.unixmodel.specs.Image.{block_at}
 use Rattle.imagecheck.proofs.contents.read_contents.Goals as goal
 
 pub copy_blocks-requires : goal.copy_blocks-requires

@@ -1,6 +1,4 @@
-use Rattle.std.proofs.Common.{◌≢◌, ◌<◌, ℕ, arith, get_or, subst, sym, AllPairs}
-use Rattle.std.proofs.lemmas.Bool.Decides.{Decides-like}
-use Rattle.imagecheck.specs.Entries.{entries_in}
+use Rattle.imagecheck.proofs.Common.{◌≢◌, ◌<◌, ℕ, arith, get_or, subst, sym, AllPairs, Decides-like, entries_in}
 use Rattle.imagecheck.proofs.Distinct.{all-trimmed, names-from_numbers, numbers-from_names}
 use Rattle.imagecheck.proofs.Judging.{refused}
 use Rattle.imagecheck.proofs.directories.has_names.Goals as goal

@@ -1,8 +1,7 @@
-use Rattle.std.proofs.Common.{◌≡◌, subst, ◌∙◌, OnOk}
+use Rattle.imagecheck.proofs.Common.{◌≡◌, subst, ◌∙◌, OnOk, entries_in, name_numbers}
 use Rattle.imagecheck.proofs.Naming.{least-in}
 use Rattle.imagecheck.proofs.Sounding.{OnOk-given}
 use Rattle.imagecheck.proofs.directories.read_directory.Goals as goal
-use Rattle.imagecheck.specs.Entries.{entries_in, name_numbers}
 
 pub read_names-requires : goal.read_names-requires
 read_names-requires g c =

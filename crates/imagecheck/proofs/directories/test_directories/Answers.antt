@@ -1,8 +1,4 @@
-use Rattle.std.proofs.Common.{◌≡◌, ◌<◌, List, sym, ap, ◌∙◌, arith}
-use Rattle.unixmodel.specs.Image.{contents_in, inodes_in, kind_in}
-use Rattle.imagecheck.specs.Entries.{HasNames}
-use Rattle.imagerules.proofs.Bounds.{HasPlace-at, inodes-least, up_to_more}
-use Rattle.imagecheck.specs.declared.namings.Naming.{Naming}
+use Rattle.imagecheck.proofs.Common.{◌≡◌, ◌<◌, List, sym, ap, ◌∙◌, arith, contents_in, inodes_in, kind_in, HasNames, HasPlace-at, inodes-least, up_to_more, Naming}
 use Rattle.imagecheck.proofs.Collecting.{namings_to, namings_to-all, namings_to-directory, namings_to-first, namings_to-other}
 use Rattle.imagecheck.proofs.directories.test_directories.Goals as goal
 use Rattle.imagecheck.proofs.directories.test_directories.Goals.{else-kind-eq-DIRECTORY, then-kind-eq-DIRECTORY+in_ok-test_directory}

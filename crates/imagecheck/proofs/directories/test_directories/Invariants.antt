@@ -1,6 +1,4 @@
-use Rattle.std.proofs.Common.{ℕ, ◌≡◌, ◌<◌, ◌≤◌}
-use Rattle.unixmodel.specs.Image.{contents_in, kind_in}
-use Rattle.imagecheck.specs.Entries.{HasNames}
+use Rattle.imagecheck.proofs.Common.{ℕ, ◌≡◌, ◌<◌, ◌≤◌, contents_in, kind_in, HasNames}
 use Rattle.imagecheck.proofs.Collecting.{namings_to}
 use Rattle.imagecheck.proofs.directories.test_directories.Given as goal
 

@@ -1,8 +1,6 @@
-use Rattle.std.proofs.Common.{ap, arith, sym, ◌∙◌}
-use Rattle.imagerules.proofs.Bounds.{inodes-most}
+use Rattle.imagecheck.proofs.Common.{ap, arith, sym, ◌∙◌, inodes-most, entries_in, name_numbers}
 use Rattle.imagecheck.proofs.Naming.{least-in}
 use Rattle.imagecheck.proofs.directories.test_directory.Goals as goal
-use Rattle.imagecheck.specs.Entries.{entries_in, name_numbers}
 
 pub test_names-requires-clause-bytes : goal.test_names-requires-clause-bytes
 test_names-requires-clause-bytes g c = c.deref.ensures.value ∙ c.in_ok-read_directory.ensures.bytes

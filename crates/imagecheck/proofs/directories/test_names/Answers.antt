@@ -1,8 +1,4 @@
-use Rattle.std.proofs.Common.{◌<◌, arith, subst, sym}
-use Rattle.std.proofs.lemmas.Bool.{iff_false}
-use Rattle.unixmodel.specs.Image.{inodes_in}
-use Rattle.imagecheck.specs.Entries.{HasNames}
-use Rattle.imagerules.specs.Rules.{HasBlocks-of}
+use Rattle.imagecheck.proofs.Common.{◌<◌, arith, subst, sym, iff_false, inodes_in, HasNames, HasBlocks-of}
 use Rattle.imagecheck.proofs.Naming.{least-in, names-at}
 use Rattle.imagecheck.proofs.directories.test_names.Goals as goal
 

@@ -1,6 +1,4 @@
-use Rattle.std.proofs.Common.{sym, ap, subst, arith, All}
-use Rattle.imagecheck.specs.Entries.{GoodPlace, IsGood}
-use Rattle.imagerules.specs.Places.{place_of_bytes}
+use Rattle.imagecheck.proofs.Common.{sym, ap, subst, arith, All, GoodPlace, IsGood, place_of_bytes}
 use Rattle.imagecheck.proofs.Entering.{all_here, all_more, entries_all}
 use Rattle.imagecheck.proofs.Judging.{refused, told}
 use Rattle.imagecheck.proofs.entries.are_good.Goals as goal

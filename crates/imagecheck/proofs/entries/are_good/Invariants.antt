@@ -1,5 +1,4 @@
-use Rattle.std.specs.Prelude.{All}
-use Rattle.imagecheck.specs.Entries.{IsGood, entries_to}
+use Rattle.imagecheck.proofs.Common.{All, IsGood, entries_to}
 use Rattle.imagecheck.proofs.entries.are_good.Given as goal
 
 abbrev pub invariant-loop-k : goal.invariant-loop-k

@@ -1,5 +1,4 @@
-use Rattle.std.proofs.Common.{◌≡◌, ◌≤◌, length, take}
-use Rattle.imagerules.specs.Places.{without_zeros}
+use Rattle.imagecheck.proofs.Common.{◌≡◌, ◌≤◌, length, take, without_zeros}
 use Rattle.imagecheck.proofs.entries.before_zeros.Given as goal
 
 abbrev pub invariant-loop-end : goal.invariant-loop-end

@@ -1,10 +1,4 @@
-use Rattle.std.proofs.Common.{◌≡◌, length, drop, sym, ap, subst, ◌∙◌, arith, IsSome, is_some}
-use Rattle.std.proofs.lemmas.Bool.{false≢true}
-use Rattle.std.proofs.lemmas.Slice.{between_to_end}
-use Rattle.unixmodel.specs.Files.{slot}
-use Rattle.unixmodel.specs.Image.{is_name}
-use Rattle.imagecheck.specs.Entries.{GoodPlace}
-use Rattle.imagerules.specs.Places.{files_in, without_zeros}
+use Rattle.imagecheck.proofs.Common.{◌≡◌, length, drop, sym, ap, subst, ◌∙◌, arith, IsSome, is_some, false≢true, between_to_end, slot, is_name, GoodPlace, files_in, without_zeros}
 use Rattle.imagecheck.proofs.Entering.{place-free, place-taken}
 use Rattle.imagecheck.proofs.Judging.{never, told}
 use Rattle.imagecheck.proofs.entries.is_good.Goals as goal

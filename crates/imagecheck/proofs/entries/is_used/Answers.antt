@@ -1,6 +1,4 @@
-use Rattle.std.proofs.Common.{sym, ap, ◌∙◌, arith, is_some, not, ◌==◌}
-use Rattle.imagerules.proofs.Bounds.{inodes-least, HasPlace-at}
-use Rattle.imagerules.proofs.Nodes.{slot-past, slot-zero}
+use Rattle.imagecheck.proofs.Common.{sym, ap, ◌∙◌, arith, is_some, not, ◌==◌, inodes-least, HasPlace-at, slot-past, slot-zero}
 use Rattle.imagecheck.proofs.Entering.{used-is}
 use Rattle.imagecheck.proofs.entries.is_used.Goals as goal
 

@@ -1,7 +1,4 @@
-use Rattle.std.proofs.Common.{length, ap, ◌∙◌, arith}
-use Rattle.std.proofs.lemmas.Slice.{between_to_end}
-use Rattle.byteorder.specs.Endian.{little_number}
-use Rattle.imagerules.proofs.Numbers.{number_at-drop}
+use Rattle.imagecheck.proofs.Common.{length, ap, ◌∙◌, arith, between_to_end, little_number, number_at-drop}
 use Rattle.imagecheck.proofs.fields.number16.Goals as goal
 
 pub returns : goal.returns

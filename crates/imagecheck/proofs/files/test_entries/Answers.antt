@@ -1,5 +1,4 @@
-use Rattle.std.proofs.lemmas.Bool.{iff_false}
-use Rattle.imagerules.specs.Rules.{HasBlocks-of}
+use Rattle.imagecheck.proofs.Common.{iff_false, HasBlocks-of}
 use Rattle.imagecheck.proofs.Naming.{entries-at}
 use Rattle.imagecheck.proofs.Standing.{HasEntries-from}
 use Rattle.imagecheck.proofs.files.test_entries.Goals as goal

@@ -1,6 +1,4 @@
-use Rattle.std.proofs.Common.{◌≡◌, length, sym, subst, ◌∙◌, arith, take_at}
-use Rattle.imagecheck.specs.Namings.{HasParents}
-use Rattle.imagerules.proofs.Bounds.{inodes-least}
+use Rattle.imagecheck.proofs.Common.{◌≡◌, length, sym, subst, ◌∙◌, arith, take_at, HasParents, inodes-least}
 use Rattle.imagecheck.proofs.Collecting.{HasParents-from, namings-fitting, numbers-within, zeros}
 use Rattle.imagecheck.proofs.Sounding.{judged-err}
 use Rattle.imagecheck.proofs.files.test_fronts.Goals as goal

@@ -1,5 +1,4 @@
-use Rattle.std.proofs.lemmas.Bool.{iff_false}
-use Rattle.imagerules.specs.Rules.{HasBlocks-of}
+use Rattle.imagecheck.proofs.Common.{iff_false, HasBlocks-of}
 use Rattle.imagecheck.proofs.files.test_links.Goals as goal
 
 pub returns-then-not-has_links-clause-judged : goal.returns-then-not-has_links-clause-judged

@@ -1,5 +1,4 @@
-use Rattle.std.proofs.Common.{◌≡◌, sym, subst, ◌∙◌, arith, take_at}
-use Rattle.imagecheck.specs.Namings.{TellsSubdirectories}
+use Rattle.imagecheck.proofs.Common.{◌≡◌, sym, subst, ◌∙◌, arith, take_at, TellsSubdirectories}
 use Rattle.imagecheck.proofs.Collecting.{TellsSubdirectories-from, namings-fitting, zeros}
 use Rattle.imagecheck.proofs.Sounding.{judged-err}
 use Rattle.imagecheck.proofs.files.test_subdirectories.Goals as goal

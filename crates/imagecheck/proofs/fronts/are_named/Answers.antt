@@ -1,7 +1,4 @@
-use Rattle.std.proofs.Common.{◌≡◌, ◌<◌, cond, length, sym, ◌∙◌, arith, ◌==◌}
-use Rattle.unixmodel.specs.Image.{kind_in, names_of}
-use Rattle.imagerules.specs.Places.{files_in}
-use Rattle.imagerules.proofs.Bounds.{HasPlace-at, up_to_more}
+use Rattle.imagecheck.proofs.Common.{◌≡◌, ◌<◌, cond, length, sym, ◌∙◌, arith, ◌==◌, kind_in, names_of, files_in, HasPlace-at, up_to_more}
 use Rattle.imagecheck.proofs.Judging.{refused, told}
 use Rattle.imagecheck.proofs.fronts.are_named.Goals as goal
 

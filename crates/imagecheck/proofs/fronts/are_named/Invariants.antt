@@ -1,6 +1,4 @@
-use Rattle.std.proofs.Common.{ℕ, ◌≡◌, ◌<◌, ◌≤◌, cond, ◌==◌}
-use Rattle.unixmodel.specs.Image.{kind_in, names_of}
-use Rattle.imagerules.specs.Places.{files_in}
+use Rattle.imagecheck.proofs.Common.{ℕ, ◌≡◌, ◌<◌, ◌≤◌, cond, ◌==◌, kind_in, names_of, files_in}
 use Rattle.imagecheck.proofs.fronts.are_named.Given as goal
 
 abbrev pub invariant-loop-n : goal.invariant-loop-n

@@ -1,8 +1,5 @@
-use Rattle.std.proofs.Common.{◌≡◌, ℕ, List, Some, sym, ap, ◌∙◌, arith, Option}
-use Rattle.std.proofs.lemmas.Bool.Decides.{Decides-like}
-use Rattle.unixmodel.specs.Files.{Entry, dot, dot_dot, slot}
-use Rattle.imagerules.specs.Places.{place_of_bytes, places_in}
-use Rattle.imagerules.proofs.Spelling.{slot-places_in}
+use Rattle.imagecheck.proofs.Common.{◌≡◌, ℕ, List, Some, sym, ap, ◌∙◌, arith, Option, Decides-like, dot, dot_dot, slot, place_of_bytes, places_in, slot-places_in}
+use Rattle.unixmodel.specs.Files.{Entry}
 use Rattle.imagecheck.proofs.Judging.{refused}
 use Rattle.imagecheck.proofs.fronts.fits_front.Goals as goal
 

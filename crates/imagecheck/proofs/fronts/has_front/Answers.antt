@@ -1,6 +1,4 @@
-use Rattle.std.proofs.Common.{◌+◌, refl, slice_range}
-use Rattle.std.proofs.lemmas.Bool.Decides.{Decides-like}
-use Rattle.imagerules.specs.Rules.{HasBlocks-of}
+use Rattle.imagecheck.proofs.Common.{◌+◌, refl, slice_range, Decides-like, HasBlocks-of}
 use Rattle.imagecheck.proofs.Parents.{front-same}
 use Rattle.imagecheck.proofs.fronts.has_front.Goals as goal
 

@@ -1,8 +1,4 @@
-use Rattle.std.proofs.Common.{◌≡◌, ◌∙◌, arith, subst, sym}
-use Rattle.unixmodel.specs.Image.{contents_in, kind_in, parent_of}
-use Rattle.imagecheck.specs.Entries.{FitsFront}
-use Rattle.imagerules.specs.Places.{files_in}
-use Rattle.imagerules.proofs.Bounds.{HasPlace-at, up_to_more}
+use Rattle.imagecheck.proofs.Common.{◌≡◌, ◌∙◌, arith, subst, sym, contents_in, kind_in, parent_of, FitsFront, files_in, HasPlace-at, up_to_more}
 use Rattle.imagecheck.proofs.Judging.{refused, told}
 use Rattle.imagecheck.proofs.fronts.has_fronts.Goals as goal
 use Rattle.imagecheck.proofs.fronts.has_fronts.Goals.{else-kind-eq-DIRECTORY-via-else-kind-eq-DIRECTORY, else-kind-eq-DIRECTORY-via-then-kind-eq-DIRECTORY+else-not-has_front}

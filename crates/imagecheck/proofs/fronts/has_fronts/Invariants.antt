@@ -1,7 +1,4 @@
-use Rattle.std.proofs.Common.{ℕ, ◌≡◌, ◌<◌, ◌≤◌}
-use Rattle.unixmodel.specs.Image.{contents_in, kind_in, parent_of}
-use Rattle.imagecheck.specs.Entries.{FitsFront}
-use Rattle.imagerules.specs.Places.{files_in}
+use Rattle.imagecheck.proofs.Common.{ℕ, ◌≡◌, ◌<◌, ◌≤◌, contents_in, kind_in, parent_of, FitsFront, files_in}
 use Rattle.imagecheck.proofs.fronts.has_fronts.Given as goal
 
 abbrev pub invariant-loop-n : goal.invariant-loop-n

@@ -1,12 +1,5 @@
-use Rattle.std.proofs.Common.{◌≡◌, ℕ, List, Some, length, drop, sym, ap, ◌∙◌, arith, bytes_eq, is_some, Option}
-use Rattle.std.proofs.lemmas.Bool.{false≢true}
-use Rattle.std.proofs.lemmas.Bool.Decides.{Decides-at, Decides-like}
-use Rattle.std.proofs.lemmas.Option.{same_Some}
-use Rattle.std.proofs.lemmas.Slice.{between_to_end}
-use Rattle.std.proofs.lemmas.Slice.Eq.{bytes_eq-Decides}
+use Rattle.imagecheck.proofs.Common.{◌≡◌, ℕ, List, Some, length, drop, sym, ap, ◌∙◌, arith, bytes_eq, is_some, Option, false≢true, Decides-at, Decides-like, same_Some, between_to_end, bytes_eq-Decides, number_at, without_zeros}
 use Rattle.unixmodel.specs.Files.{Entry}
-use Rattle.unixmodel.specs.Numbers.{number_at}
-use Rattle.imagerules.specs.Places.{without_zeros}
 use Rattle.imagecheck.proofs.Entering.{place-free, place-taken}
 use Rattle.imagecheck.proofs.Judging.{never}
 use Rattle.imagecheck.proofs.fronts.holds.Goals as goal

@@ -1,7 +1,4 @@
-use Rattle.std.proofs.Common.{◌≤◌, sym, ◌∙◌, arith}
-use Rattle.std.proofs.lemmas.Bool.Decides.{Decides-eqb, Decides-like}
-use Rattle.unixmodel.specs.Image.{kind_in}
-use Rattle.imagerules.proofs.Bounds.{up_to_more, HasPlace-at, inodes-least}
+use Rattle.imagecheck.proofs.Common.{◌≤◌, sym, ◌∙◌, arith, Decides-eqb, Decides-like, kind_in, up_to_more, HasPlace-at, inodes-least}
 use Rattle.imagecheck.proofs.Judging.{never}
 use Rattle.imagecheck.proofs.kinds.has_kinds.Goals as goal
 

@@ -1,5 +1,4 @@
-use Rattle.std.proofs.Common.{ℕ, ◌<◌, ◌≤◌}
-use Rattle.unixmodel.specs.Image.{kind_in}
+use Rattle.imagecheck.proofs.Common.{ℕ, ◌<◌, ◌≤◌, kind_in}
 use Rattle.imagecheck.proofs.kinds.has_kinds.Given as goal
 
 abbrev pub invariant-loop-n : goal.invariant-loop-n

@@ -1,8 +1,4 @@
-use Rattle.std.proofs.Common.{arith}
-use Rattle.unixmodel.specs.Formats.{most_bytes}
-use Rattle.unixmodel.specs.Image.{format_of, kind_in, length_in}
-use Rattle.imagerules.specs.Pieces.{FitsKind}
-use Rattle.imagerules.proofs.Bounds.{up_to_more, HasPlace-at}
+use Rattle.imagecheck.proofs.Common.{arith, most_bytes, format_of, kind_in, length_in, FitsKind, up_to_more, HasPlace-at}
 use Rattle.imagecheck.proofs.Judging.{refused, told}
 use Rattle.imagecheck.proofs.Numbering.{fits_telling, fits_told, image-long, longest_told}
 use Rattle.imagecheck.proofs.kinds.has_sizes.Goals as goal

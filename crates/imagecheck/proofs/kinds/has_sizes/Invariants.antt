@@ -1,7 +1,4 @@
-use Rattle.std.proofs.Common.{ℕ, ◌<◌, ◌≤◌}
-use Rattle.unixmodel.specs.Image.{format_of, kind_in, length_in}
-use Rattle.unixmodel.specs.Formats.{most_bytes}
-use Rattle.imagerules.specs.Pieces.{FitsKind}
+use Rattle.imagecheck.proofs.Common.{ℕ, ◌<◌, ◌≤◌, format_of, kind_in, length_in, most_bytes, FitsKind}
 use Rattle.imagecheck.proofs.kinds.has_sizes.Given as goal
 
 abbrev pub invariant-loop-n : goal.invariant-loop-n

@@ -1,8 +1,6 @@
-use Rattle.std.proofs.Common.{◌<◌, length, arith}
-use Rattle.imagerules.proofs.Bounds.{HasPlace-at, up_to_more}
+use Rattle.imagecheck.proofs.Common.{◌<◌, length, arith, HasPlace-at, up_to_more, HasBlocks-of}
 use Rattle.imagecheck.proofs.Judging.{refused, told}
 use Rattle.imagecheck.proofs.Standing.{FitsLinks-at, HasLinks-from, LinksFit}
-use Rattle.imagerules.specs.Rules.{HasBlocks-of}
 use Rattle.imagecheck.proofs.links.has_links.Goals as goal
 
 pub links-told-requires : goal.links-told-requires

@@ -1,5 +1,4 @@
-use Rattle.std.proofs.Common.{refl}
-use Rattle.layout.specs.Formats.{format_named}
+use Rattle.imagecheck.proofs.Common.{refl, format_named}
 use Rattle.imagecheck.proofs.Telling.{Begins-from, Length-told, Magic-told, Numbers-told}
 use Rattle.imagecheck.proofs.load.geometry_in.Goals as goal
 

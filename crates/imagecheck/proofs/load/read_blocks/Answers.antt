@@ -1,7 +1,6 @@
-use Rattle.std.proofs.Common.{◌≡◌, ◌<◌, ◌++◌, length, ap, refl, ◌∙◌, arith, take_all}
+use Rattle.imagecheck.proofs.Common.{◌≡◌, ◌<◌, ◌++◌, length, ap, refl, ◌∙◌, arith, image_of, image_of-more}
+use Rattle.std.proofs.Common.{take_all}
 use Rattle.blockdev.specs.Blocks.{block_at}
-use Rattle.imagerules.specs.Content.{image_of}
-use Rattle.imagerules.proofs.ContentLemmas.{image_of-more}
 use Rattle.imagecheck.proofs.Sounding.{Rises-before, no-image}
 use Rattle.imagecheck.specs.declared.ImageFault.TheVariants.{Device}
 use Rattle.imagecheck.proofs.load.read_blocks.Goals as goal

@@ -1,5 +1,4 @@
-use Rattle.std.proofs.Common.{◌≡◌, ◌≤◌, take}
-use Rattle.imagerules.specs.Content.{image_of}
+use Rattle.imagecheck.proofs.Common.{◌≡◌, ◌≤◌, take, image_of}
 use Rattle.imagecheck.proofs.load.read_blocks.Given as goal
 
 abbrev pub invariant-loop-n : goal.invariant-loop-n

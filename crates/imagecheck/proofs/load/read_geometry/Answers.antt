@@ -1,7 +1,5 @@
-use Rattle.std.proofs.Common.{arith, refl}
-use Rattle.imagerules.specs.Content.{IsFront}
+use Rattle.imagecheck.proofs.Common.{arith, refl, IsFront, HasLength-not_few}
 use Rattle.imagecheck.proofs.Sounding.{IsOfImage-not}
-use Rattle.imagerules.proofs.Super.{HasLength-not_few}
 use Rattle.imagecheck.proofs.load.read_geometry.Goals as goal
 
 pub returns-then-count-lt2-clause-judged : goal.returns-then-count-lt2-clause-judged

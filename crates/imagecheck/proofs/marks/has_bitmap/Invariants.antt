@@ -1,5 +1,4 @@
-use Rattle.std.proofs.Common.{◌≡◌, ℕ, ◌<◌, nat_lt, ◌||◌}
-use Rattle.unixmodel.specs.Image.{bit_of, data_start, inodes_in, is_named, size_in}
+use Rattle.imagecheck.proofs.Common.{◌≡◌, ℕ, ◌<◌, nat_lt, ◌||◌, bit_of, data_start, inodes_in, is_named, size_in}
 use Rattle.imagecheck.proofs.marks.has_bitmap.Given as goal
 
 abbrev pub invariant-loop-block : goal.invariant-loop-block

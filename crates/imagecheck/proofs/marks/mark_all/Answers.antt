@@ -1,8 +1,5 @@
-use Rattle.std.proofs.Common.{[], ◌+◌, ◌∷◌, ◌++◌, take, drop, subst, sym, ap, ◌∙◌, arith, take_all}
-use Rattle.unixmodel.specs.Image.{named_by}
-use Rattle.imagerules.specs.Fields.{HasSuper-of}
-use Rattle.imagerules.specs.Marks.{HasMarks, IsOnce}
-use Rattle.imagerules.proofs.Marking.{list_more, list_split, mark_more, mark_shared}
+use Rattle.imagecheck.proofs.Common.{[], ◌+◌, ◌∷◌, ◌++◌, take, drop, subst, sym, ap, ◌∙◌, arith, named_by, HasSuper-of, HasMarks, IsOnce, list_more, list_split, mark_more, mark_shared}
+use Rattle.std.proofs.Common.{take_all}
 use Rattle.imagecheck.proofs.Numbering.{IsCounted, IsFound-told, IsNamed, below_taken, below_there, named_told, small_named, small_told, taken_told}
 use Rattle.imagecheck.proofs.Slotting.{found-at, named-long}
 use Rattle.imagecheck.proofs.marks.mark_all.Goals as goal

@@ -1,6 +1,4 @@
-use Rattle.std.proofs.Common.{List, ℕ, ◌++◌, take}
-use Rattle.unixmodel.specs.Image.{named_by}
-use Rattle.imagerules.specs.Marks.{HasMarks}
+use Rattle.imagecheck.proofs.Common.{List, ℕ, ◌++◌, take, named_by, HasMarks}
 use Rattle.imagecheck.proofs.marks.mark_all.Given as goal
 
 abbrev pub invariant-loop-k : goal.invariant-loop-k

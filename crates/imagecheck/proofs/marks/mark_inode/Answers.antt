@@ -1,9 +1,5 @@
-use Rattle.std.proofs.Common.{◌++◌, subst, sym, ◌∙◌, arith, append-nil}
-use Rattle.imagerules.specs.Marks.{HasMarks}
-use Rattle.imagerules.proofs.Bounds.{HasInode-at, HasPlace-at}
-use Rattle.imagerules.proofs.Marking.{blocks_of-free, blocks_of-used}
-use Rattle.imagerules.proofs.Uses.{FitsAddresses-at}
-use Rattle.imagecheck.specs.Faults.{MarksMore}
+use Rattle.imagecheck.proofs.Common.{◌++◌, subst, sym, ◌∙◌, arith, HasMarks, HasInode-at, HasPlace-at, blocks_of-free, blocks_of-used, FitsAddresses-at, MarksMore}
+use Rattle.std.proofs.Common.{append-nil}
 use Rattle.imagecheck.proofs.marks.mark_inode.Goals as goal
 
 pub kind-requires : goal.kind-requires

@@ -1,9 +1,4 @@
-use Rattle.std.proofs.Common.{◌≡◌, ◌+◌, subst, sym, ap, ◌∙◌, arith}
-use Rattle.std.proofs.lemmas.Bool.{MatchBool-at_false, MatchBool-at_true}
-use Rattle.unixmodel.specs.Image.{inodes_in}
-use Rattle.imagerules.specs.Marks.{HasMarks, IsOnce}
-use Rattle.imagerules.proofs.Marking.{named_before, named_before-all, named_before-front, named_before-more}
-use Rattle.imagerules.proofs.Bounds.{inodes-least}
+use Rattle.imagecheck.proofs.Common.{◌≡◌, ◌+◌, subst, sym, ap, ◌∙◌, arith, MatchBool-at_false, MatchBool-at_true, inodes_in, HasMarks, IsOnce, named_before, named_before-all, named_before-front, named_before-more, inodes-least}
 use Rattle.imagecheck.proofs.marks.names_once.Goals as goal
 
 pub returns-then-not-mark_inode : goal.returns-then-not-mark_inode

@@ -1,5 +1,4 @@
-use Rattle.imagerules.specs.Marks.{HasMarks}
-use Rattle.imagerules.proofs.Marking.{named_before}
+use Rattle.imagecheck.proofs.Common.{HasMarks, named_before}
 use Rattle.imagecheck.proofs.marks.names_once.Given as goal
 
 abbrev pub invariant-loop-n : goal.invariant-loop-n

@@ -1,8 +1,5 @@
-use Rattle.std.proofs.Common.{subst, arith}
-use Rattle.layout.specs.Formats.{format_named}
+use Rattle.imagecheck.proofs.Common.{subst, arith, format_named, image_of-blocks, TellsGeometry}
 use Rattle.blockdev.specs.Blocks.{blocks_of}
-use Rattle.imagerules.proofs.ContentLemmas.{image_of-blocks}
-use Rattle.imagecheck.specs.Faults.{TellsGeometry}
 use Rattle.imagecheck.proofs.Fronting.{IsFront-memory}
 use Rattle.imagecheck.proofs.memory.geometry_of.Goals as goal
 

@@ -1,6 +1,4 @@
-use Rattle.std.proofs.Common.{ap, length, sym, ◌∙◌, arith}
-use Rattle.std.proofs.lemmas.Slice.{between_to_end}
-use Rattle.byteorder.specs.Endian.{little_number}
+use Rattle.imagecheck.proofs.Common.{ap, length, sym, ◌∙◌, arith, between_to_end, little_number}
 use Rattle.imagecheck.proofs.Distinct.{number-pushed}
 use Rattle.imagecheck.proofs.names.add_name.Goals as goal
 

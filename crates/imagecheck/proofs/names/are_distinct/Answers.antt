@@ -1,5 +1,4 @@
-use Rattle.std.proofs.Common.{rules, nat_lt}
-use Rattle.std.proofs.lemmas.List.Sorted.{answers_always}
+use Rattle.imagecheck.proofs.Common.{rules, nat_lt, answers_always}
 use Rattle.imagecheck.proofs.Distinct.{distinct-sorted}
 use Rattle.imagecheck.proofs.names.are_distinct.Goals as goal
 

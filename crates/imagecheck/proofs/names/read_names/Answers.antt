@@ -1,5 +1,4 @@
-use Rattle.std.proofs.Common.{ap, sym, ◌∙◌, arith}
-use Rattle.imagecheck.specs.Entries.{name_numbers}
+use Rattle.imagecheck.proofs.Common.{ap, sym, ◌∙◌, arith, name_numbers}
 use Rattle.imagecheck.proofs.Distinct.{numbers-place}
 use Rattle.imagecheck.proofs.Entering.{entries_all, entries_none}
 use Rattle.imagecheck.proofs.names.read_names.Goals as goal

@@ -1,5 +1,4 @@
-use Rattle.std.proofs.Common.{◌≡◌}
-use Rattle.imagecheck.specs.Entries.{entries_to, name_numbers}
+use Rattle.imagecheck.proofs.Common.{◌≡◌, entries_to, name_numbers}
 use Rattle.imagecheck.proofs.names.read_names.Given as goal
 
 abbrev pub invariant-loop-k : goal.invariant-loop-k

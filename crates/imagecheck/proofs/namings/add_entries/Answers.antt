@@ -1,5 +1,4 @@
-use Rattle.std.proofs.Common.{◌++◌, ap, ◌∙◌, arith}
-use Rattle.imagecheck.specs.Namings.{namings_of}
+use Rattle.imagecheck.proofs.Common.{◌++◌, ap, ◌∙◌, arith, namings_of}
 use Rattle.imagecheck.proofs.Collecting.{namings-place}
 use Rattle.imagecheck.proofs.Entering.{entries_all}
 use Rattle.imagecheck.proofs.namings.add_entries.Goals as goal

@@ -1,6 +1,4 @@
-use Rattle.std.proofs.Common.{◌≡◌, ◌++◌}
-use Rattle.imagecheck.specs.Entries.{entries_to}
-use Rattle.imagecheck.specs.Namings.{namings_of}
+use Rattle.imagecheck.proofs.Common.{◌≡◌, ◌++◌, entries_to, namings_of}
 use Rattle.imagecheck.proofs.namings.add_entries.Given as goal
 
 abbrev pub invariant-loop-k : goal.invariant-loop-k

@@ -1,6 +1,4 @@
-use Rattle.std.proofs.Common.{get_or, slice_set, sym, subst, arith}
-use Rattle.imagerules.specs.Places.{files_in}
-use Rattle.imagerules.proofs.Bounds.{inodes-most}
+use Rattle.imagecheck.proofs.Common.{get_or, slice_set, sym, subst, arith, files_in, inodes-most}
 use Rattle.imagecheck.proofs.Judging.{by_same}
 use Rattle.imagecheck.proofs.Parents.{is_directory-at}
 use Rattle.imagecheck.proofs.Reaching.{Climbs-reached}

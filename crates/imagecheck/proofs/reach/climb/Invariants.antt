@@ -1,5 +1,4 @@
-use Rattle.imagerules.specs.Places.{files_in}
-use Rattle.imagecheck.specs.Reach.{IsDirectoryIn}
+use Rattle.imagecheck.proofs.Common.{files_in, IsDirectoryIn}
 use Rattle.imagecheck.proofs.Walking.{IsWalk, unmarked}
 use Rattle.imagecheck.proofs.reach.climb.Given as goal
 

@@ -1,9 +1,4 @@
-use Rattle.std.proofs.Common.{◌≡◌, ◌+◌, ap, sym, subst, ◌∙◌}
-use Rattle.unixmodel.specs.Image.{parent_of}
-use Rattle.unixmodel.specs.Numbers.{number_at}
-use Rattle.imagerules.specs.Places.{files_in}
-use Rattle.imagerules.specs.Rules.{HasBlocks-of}
-use Rattle.imagecheck.specs.Reach.{IsDirectoryIn}
+use Rattle.imagecheck.proofs.Common.{◌≡◌, ◌+◌, ap, sym, subst, ◌∙◌, parent_of, number_at, files_in, HasBlocks-of, IsDirectoryIn}
 use Rattle.imagecheck.proofs.Parents.{parent-read, parent_directory}
 use Rattle.imagecheck.proofs.reach.parent.Goals as goal
 

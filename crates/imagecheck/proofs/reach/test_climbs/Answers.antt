@@ -1,13 +1,7 @@
-use Rattle.std.proofs.Common.{◌≡◌, ◌+◌, length, ap, subst, sym, ◌∙◌, arith}
-use Rattle.std.proofs.lemmas.Bool.{MatchBool-at_false, MatchBool-at_true}
-use Rattle.unixmodel.specs.Image.{kind_in}
-use Rattle.imagerules.specs.Places.{files_in}
-use Rattle.imagecheck.specs.Reach.{Climbs, HasClimbed, HasWalked, IsDirectoryIn}
-use Rattle.imagerules.proofs.Bounds.{HasPlace-at, up_to_more}
+use Rattle.imagecheck.proofs.Common.{◌≡◌, ◌+◌, length, ap, subst, sym, ◌∙◌, arith, MatchBool-at_false, MatchBool-at_true, kind_in, files_in, Climbs, HasClimbed, HasWalked, IsDirectoryIn, HasPlace-at, up_to_more, HasBlocks-of}
 use Rattle.imagecheck.proofs.Parents.{IsDirectoryIn-from}
 use Rattle.imagecheck.proofs.Reaching.{IsReached-from}
 use Rattle.imagecheck.proofs.Walking.{HasWalked-later}
-use Rattle.imagerules.specs.Rules.{HasBlocks-of}
 use Rattle.imagecheck.proofs.reach.test_climbs.Goals as goal
 use Rattle.imagecheck.proofs.reach.test_climbs.Goals.{else-kind-eq-DIRECTORY-via-else-kind-eq-DIRECTORY, else-kind-eq-DIRECTORY-via-then-kind-eq-DIRECTORY+else-not-climb}
 

@@ -1,7 +1,4 @@
-use Rattle.std.proofs.Common.{◌≡◌, ◌≤◌, ◌<◌, ℕ, length}
-use Rattle.unixmodel.specs.Image.{kind_in}
-use Rattle.imagerules.specs.Places.{files_in}
-use Rattle.imagecheck.specs.Reach.{Climbs, HasWalked}
+use Rattle.imagecheck.proofs.Common.{◌≡◌, ◌≤◌, ◌<◌, ℕ, length, kind_in, files_in, Climbs, HasWalked}
 use Rattle.imagecheck.proofs.reach.test_climbs.Given as goal
 
 abbrev pub invariant-loop-n : goal.invariant-loop-n

@@ -1,7 +1,4 @@
-use Rattle.std.proofs.Common.{◌≡◌, replicate, set, sym, subst, arith}
-use Rattle.imagerules.specs.Places.{files_in}
-use Rattle.imagecheck.specs.Reach.{HasWalked}
-use Rattle.imagerules.proofs.Bounds.{inodes-least}
+use Rattle.imagecheck.proofs.Common.{◌≡◌, replicate, set, sym, subst, arith, files_in, HasWalked, inodes-least}
 use Rattle.imagecheck.proofs.Walking.{HasWalked-first}
 use Rattle.imagecheck.proofs.reach.test_reach.Goals as goal
 

@@ -1,13 +1,5 @@
-use Rattle.std.proofs.Common.{◌≡◌, Err, length, ap, refl, sym, subst, ◌∙◌, arith, IfErr, MatchResult}
-use Rattle.layout.specs.Formats.{format_named}
-use Rattle.imagerules.specs.Content.{image_of}
-use Rattle.imagecheck.specs.Faults.{Finds, Tells}
-use Rattle.imagerules.specs.Fields.{HasGeometry}
-use Rattle.imagecheck.specs.Summaries.{IsSummary}
-use Rattle.imagerules.proofs.Bounds.{size-most}
-use Rattle.imagerules.proofs.ContentLemmas.{image_of-blocks}
+use Rattle.imagecheck.proofs.Common.{◌≡◌, Err, length, ap, refl, sym, subst, ◌∙◌, arith, IfErr, MatchResult, format_named, image_of, Finds, Tells, HasGeometry, IsSummary, size-most, image_of-blocks, count-is}
 use Rattle.imagecheck.proofs.Sounding.{IsJudged, Rises-before, judged-err, judged-from, outside-told, refused-from, same-fault, told-err}
-use Rattle.imagerules.proofs.Super.{count-is}
 use Rattle.imagecheck.proofs.rules.check_in.Goals as goal
 
 pub returns-in-Some : goal.returns-in-Some

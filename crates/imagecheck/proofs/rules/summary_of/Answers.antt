@@ -1,6 +1,4 @@
-use Rattle.std.proofs.Common.{◌<◌, ℕ, arith, get_or}
-use Rattle.imagerules.specs.Rules.{HasBlocks-of}
-use Rattle.imagerules.proofs.Denoting.{Denotes-from}
+use Rattle.imagecheck.proofs.Common.{◌<◌, ℕ, arith, get_or, HasBlocks-of, Denotes-from}
 use Rattle.imagecheck.proofs.rules.summary_of.Goals as goal
 
 pub blocks_in_use-requires-clause-sizes : goal.blocks_in_use-requires-clause-sizes

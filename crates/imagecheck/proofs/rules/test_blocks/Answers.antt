@@ -1,6 +1,4 @@
-use Rattle.std.proofs.Common.{sym, subst, ◌∙◌, []}
-use Rattle.imagerules.specs.Marks.{HasMarks}
-use Rattle.imagerules.proofs.Marking.{HasMarks-none}
+use Rattle.imagecheck.proofs.Common.{sym, subst, ◌∙◌, [], HasMarks, HasMarks-none}
 use Rattle.imagecheck.proofs.Sounding.{judged-err}
 use Rattle.imagecheck.proofs.rules.test_blocks.Goals as goal
 

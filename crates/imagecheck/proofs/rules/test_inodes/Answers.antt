@@ -1,5 +1,4 @@
-use Rattle.std.proofs.lemmas.Bool.{iff_false}
-use Rattle.imagerules.proofs.Bounds.{super-is}
+use Rattle.imagecheck.proofs.Common.{iff_false, super-is}
 use Rattle.imagecheck.proofs.rules.test_inodes.Goals as goal
 
 pub returns-then-not-has_kinds-clause-judged : goal.returns-then-not-has_kinds-clause-judged

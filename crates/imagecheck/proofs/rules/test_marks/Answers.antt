@@ -1,6 +1,4 @@
-use Rattle.std.proofs.Common.{◌∙◌}
-use Rattle.std.proofs.lemmas.Bool.{MatchBool-at_false, MatchBool-at_true, iff_false}
-use Rattle.imagerules.specs.Rules.{BlockRules-of}
+use Rattle.imagecheck.proofs.Common.{◌∙◌, MatchBool-at_false, MatchBool-at_true, iff_false, BlockRules-of}
 use Rattle.imagecheck.proofs.rules.test_marks.Goals as goal
 
 pub names_once-requires : goal.names_once-requires

@@ -1,6 +1,4 @@
-use Rattle.std.proofs.Common.{arith}
-use Rattle.std.proofs.lemmas.Bool.Decides.{nat_tests}
-use Rattle.unixmodel.specs.Slots.{index_end}
+use Rattle.imagecheck.proofs.Common.{arith, nat_tests, index_end}
 use Rattle.imagecheck.proofs.slots.slot_at.Goals as goal
 
 pub overflow_add-result-2 : goal.overflow_add-result-2

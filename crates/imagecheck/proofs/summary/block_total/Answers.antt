@@ -1,5 +1,4 @@
-use Rattle.std.proofs.Common.{sym, ◌∙◌}
-use Rattle.imagerules.proofs.Bounds.{HasInode-at, HasPlace-at}
+use Rattle.imagecheck.proofs.Common.{sym, ◌∙◌, HasInode-at, HasPlace-at}
 use Rattle.imagerules.proofs.Summing.{length-blocks_of}
 use Rattle.imagecheck.proofs.Numbering.{IsCounted, taken_told}
 use Rattle.imagecheck.proofs.summary.block_total.Goals as goal

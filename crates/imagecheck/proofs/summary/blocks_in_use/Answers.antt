@@ -1,8 +1,5 @@
-use Rattle.std.proofs.Common.{◌≡◌, ◌+◌, length, ap, ◌∙◌, arith, length-append}
-use Rattle.unixmodel.specs.Image.{inodes_in}
+use Rattle.imagecheck.proofs.Common.{◌≡◌, ◌+◌, length, ap, ◌∙◌, arith, length-append, inodes_in, named_before, named_before-all, named_before-more, inodes-least, inodes-most}
 use Rattle.imagerules.specs.Marks.{blocks_of}
-use Rattle.imagerules.proofs.Marking.{named_before, named_before-all, named_before-more}
-use Rattle.imagerules.proofs.Bounds.{inodes-least, inodes-most}
 use Rattle.imagecheck.proofs.summary.blocks_in_use.Goals as goal
 
 pub overflow_add-total : goal.overflow_add-total

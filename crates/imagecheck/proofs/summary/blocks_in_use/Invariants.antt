@@ -1,5 +1,4 @@
-use Rattle.std.proofs.Common.{◌≡◌, ◌≤◌, ◌*◌, length}
-use Rattle.imagerules.proofs.Marking.{named_before}
+use Rattle.imagecheck.proofs.Common.{◌≡◌, ◌≤◌, ◌*◌, length, named_before}
 use Rattle.imagecheck.proofs.summary.blocks_in_use.Given as goal
 
 abbrev pub invariant-loop-n : goal.invariant-loop-n

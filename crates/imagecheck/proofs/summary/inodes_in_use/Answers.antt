@@ -1,8 +1,4 @@
-use Rattle.std.proofs.Common.{◌≡◌, ◌+◌, ◌-◌, length, ap, sym, ◌∙◌, arith, filter}
-use Rattle.std.specs.List.{range_with_len}
-use Rattle.unixmodel.specs.Image.{inodes_in, is_in_use}
-use Rattle.imagerules.proofs.Summing.{unused_more, used_more}
-use Rattle.imagerules.proofs.Bounds.{inodes-least, HasPlace-at}
+use Rattle.imagecheck.proofs.Common.{◌≡◌, ◌+◌, ◌-◌, length, ap, sym, ◌∙◌, arith, filter, range_with_len, inodes_in, is_in_use, unused_more, used_more, inodes-least, HasPlace-at}
 use Rattle.imagecheck.proofs.summary.inodes_in_use.Goals as goal
 use Rattle.imagecheck.proofs.summary.inodes_in_use.Goals.{else-kind-ne0, then-kind-ne0}
 

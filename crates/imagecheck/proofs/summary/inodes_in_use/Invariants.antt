@@ -1,6 +1,4 @@
-use Rattle.std.proofs.Common.{◌≡◌, ◌≤◌, ◌-◌, length, filter}
-use Rattle.std.specs.List.{range_with_len}
-use Rattle.unixmodel.specs.Image.{is_in_use}
+use Rattle.imagecheck.proofs.Common.{◌≡◌, ◌≤◌, ◌-◌, length, filter, range_with_len, is_in_use}
 use Rattle.imagecheck.proofs.summary.inodes_in_use.Given as goal
 
 abbrev pub invariant-loop-n : goal.invariant-loop-n

@@ -1,5 +1,4 @@
-use Rattle.std.proofs.Common.{◌≡◌, length, take}
-use Rattle.imagecheck.specs.Namings.{CountsNames}
+use Rattle.imagecheck.proofs.Common.{◌≡◌, length, take, CountsNames}
 use Rattle.imagecheck.proofs.tables.count_names.Given as goal
 
 abbrev pub invariant-loop-naming : goal.invariant-loop-naming

@@ -1,12 +1,7 @@
-use Rattle.std.proofs.Common.{ℕ, ◌<◌, ◌+◌, Bool, length, get_or, take, sym, ap, subst, ◌∙◌, arith, refl, ◌&&◌, ◌==◌, eq-eqb, ne_eqb, length-set, take_all}
-use Rattle.std.proofs.lemmas.Bool.{and_from, and_left, and_right}
-use Rattle.unixmodel.specs.Image.{is_directory_at}
-use Rattle.imagecheck.specs.Namings.{CountsSubdirectories, IsNaming}
-use Rattle.imagerules.specs.Places.{files_in}
-use Rattle.imagecheck.specs.declared.namings.Naming.{Naming}
+use Rattle.imagecheck.proofs.Common.{ℕ, ◌<◌, ◌+◌, Bool, length, get_or, take, sym, ap, subst, ◌∙◌, arith, refl, ◌&&◌, ◌==◌, and_from, and_left, and_right, is_directory_at, CountsSubdirectories, IsNaming, files_in, Naming, inodes-least}
+use Rattle.std.proofs.Common.{eq-eqb, ne_eqb, length-set, take_all}
 use Rattle.imagecheck.proofs.Counting.{tally_kept, tally_more}
 use Rattle.imagecheck.proofs.Standing.{some_high, some_low}
-use Rattle.imagerules.proofs.Bounds.{inodes-least}
 use Rattle.imagecheck.proofs.tables.count_subdirectories.Goals as goal
 use Rattle.imagecheck.proofs.tables.count_subdirectories.Goals.{else-is_directory, then-is_directory}
 

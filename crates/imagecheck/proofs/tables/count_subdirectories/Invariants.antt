@@ -1,5 +1,4 @@
-use Rattle.std.proofs.Common.{◌≡◌, length, take}
-use Rattle.imagecheck.specs.Namings.{CountsSubdirectories}
+use Rattle.imagecheck.proofs.Common.{◌≡◌, length, take, CountsSubdirectories}
 use Rattle.imagecheck.proofs.tables.count_subdirectories.Given as goal
 
 abbrev pub invariant-loop-naming : goal.invariant-loop-naming

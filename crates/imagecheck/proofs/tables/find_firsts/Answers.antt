@@ -1,7 +1,5 @@
-use Rattle.std.proofs.Common.{◌<◌, ◌≤◌, ◌+◌, length, get_or, take, sym, ap, subst, ◌∙◌, arith, length-set}
-use Rattle.std.proofs.lemmas.List.Elements.{All-take}
-use Rattle.imagecheck.specs.Namings.{HasFirsts}
-use Rattle.imagecheck.specs.declared.namings.Naming.{Naming}
+use Rattle.imagecheck.proofs.Common.{◌<◌, ◌≤◌, ◌+◌, length, get_or, take, sym, ap, subst, ◌∙◌, arith, All-take, HasFirsts, Naming}
+use Rattle.std.proofs.Common.{length-set}
 use Rattle.imagecheck.proofs.Counting.{firsts_kept, firsts_more}
 use Rattle.imagecheck.proofs.tables.find_firsts.Goals as goal
 use Rattle.imagecheck.proofs.tables.find_firsts.Goals.{else-parents-number-eq0, then-parents-number-eq0}

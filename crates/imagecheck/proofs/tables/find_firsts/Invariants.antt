@@ -1,5 +1,4 @@
-use Rattle.std.proofs.Common.{◌≡◌, length, take}
-use Rattle.imagecheck.specs.Namings.{HasFirsts}
+use Rattle.imagecheck.proofs.Common.{◌≡◌, length, take, HasFirsts}
 use Rattle.imagecheck.proofs.tables.find_firsts.Given as goal
 
 abbrev pub invariant-loop-naming : goal.invariant-loop-naming
