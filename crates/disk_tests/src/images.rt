@@ -439,6 +439,20 @@ fn tells_a_failed_access(rt: HostRuntime) {
     assert!(rt; check(rt.alloc(), &mut flaky) == Err(ImageFault::Device) && flaky.has_failed());
 }
 
+#[test]
+fn asks_for_what_is_not_lent(rt: HostRuntime) {
+    let mut disk = disk_of(&rt, 0x41, &[]);
+    assert!(rt; check(rt.alloc(), &mut disk).is_ok() && disk.reads() == 0);
+    // the super block, and then each of 32 blocks
+    for (good, is_told) in [(32, false), (33, true)] {
+        let mut flaky = fail_after(disk_of(&rt, 0x41, &[]), good);
+        assert!(rt;
+            check(rt.alloc(), &mut flaky).is_ok() == is_told,
+            "after {good}"
+        );
+    }
+}
+
 // However much memory there is, what is told of the image is that it doesn't suffice, or the same as with enough of it. Each
 // request is refused at some of the sizes.
 fn expect_refusals(rt: &(impl Abort + AllocGlobal), lists: &[&[Change]], is_copied: bool) {
