@@ -1,20 +1,14 @@
 -- What the steps of an entry make of the files, and whether they have room.
-use Rattle.std.proofs.Common.{◌≡◌, ◌≢◌, ℕ, ◌<◌, ◌≤◌, Bool, Err, List, [], ◌∷◌, ◌++◌, None, Ok, Result, Some, set, cond, true, false, ap, sym, refl, ◌∙◌, arith, inl, inr, nat_le, option_map, unwrap_or, ◌&&◌, ◌⊎◌}
-use Rattle.std.specs.Result.{IsErrAnd}
-use Rattle.std.proofs.lemmas.Bool.{le-leb, lt-leb, true≢false}
-use Rattle.std.proofs.lemmas.List.{get_or-set_other, get_or-set_same, length-set, length_push, set_comm}
-use Rattle.std.proofs.lemmas.Option.{none-some}
-use Rattle.tree.specs.Tree.{FileTree}
+use Rattle.imagemake.proofs.Common.{◌≡◌, ◌≢◌, ℕ, ◌<◌, ◌≤◌, Bool, Err, List, [], ◌∷◌, ◌++◌, None, Ok, Result, Some, set, cond, true, false, ap, sym, refl, ◌∙◌, arith, inl, inr, nat_le, option_map, unwrap_or}
+use Rattle.imagemake.proofs.Common.{◌&&◌, ◌⊎◌, IsErrAnd, le-leb, lt-leb, true≢false, get_or-set_other, get_or-set_same, length-set, length_push, set_comm, none-some, FileTree, IsNow, now-files, blocks_of-set}
+use Rattle.imagemake.proofs.Common.{taken_by, Files, Node, blocks_for, longest, put, size_of, slot, Wrong, added, appended, if_room, is_short, linked, node_for, CanAdd, HasDirectory, Puts, StoreFault}
 use Rattle.tree.specs.Whole.{IsWhole}
 use Rattle.tree.proofs.Bridging.{taken-grows}
-use Rattle.tree.proofs.Following.{IsNow, now-files}
-use Rattle.tree.proofs.Storing.{blocks_of-set, taken_by}
 use Rattle.unixmodel.specs.Counts.{blocks_of}
-use Rattle.unixmodel.specs.Files.{Entry, Files, Node, blocks_for, longest, put, size_of, slot}
+use Rattle.unixmodel.specs.Files.{Entry}
 use Rattle.unixmodel.specs.Files.Node.{Directory}
-use Rattle.unixmodel.specs.Manifest.{Thing, Wrong, added, appended, if_room, is_short, linked, node_for}
-use Rattle.imagemake.specs.Added.{CanAdd, HasDirectory, Puts, Stores}
-use Rattle.imagemake.specs.declared.store.StoreFault.{StoreFault}
+use Rattle.unixmodel.specs.Manifest.{Thing}
+use Rattle.imagemake.specs.Added.{Stores}
 use Rattle.imagemake.proofs.MadeEntry.{Adds, Adds-added, linked-directory}
 use Rattle.imagemake.proofs.Named.{linked-size}
 use Rattle.imagemake.proofs.Owned.{Owns-after, told_err}

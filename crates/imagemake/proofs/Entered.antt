@@ -1,25 +1,17 @@
 -- An entry is put among the files.
-use Rattle.std.proofs.Common.{◌≡◌, ℕ, ◌+◌, ◌<◌, ◌≤◌, Bool, List, [], ◌∷◌, ◌++◌, Option, Some, Ok, Err, Result, length, ap, sym, refl, ◌∙◌, arith, subst}
-use Rattle.std.proofs.lemmas.List.{length_push}
-use Rattle.tree.specs.Tree.{FileTree, HasFiles}
+use Rattle.imagemake.proofs.Common.{◌≡◌, ℕ, ◌+◌, ◌<◌, ◌≤◌, Bool, List, [], ◌∷◌, ◌++◌, Option, Some, Ok, Err, Result, length, ap, sym, refl, ◌∙◌, arith, subst, length_push, FileTree, HasFiles, Files, is_directory, slot, KeepsNode}
+use Rattle.imagemake.proofs.Common.{KeepsRules, ManifestEntry, added, if_room, node_for, with_manifest_entry, CanAdd, PackedAt, AddsEntry, IsMade, IsSpot, make_fault, IsBegun, IsListed, MadeName, made_name, Refuses, StoreFault, below-slot}
 use Rattle.tree.specs.Whole.{IsWhole}
-use Rattle.unixmodel.specs.Files.{Entry, Files, is_directory, slot}
+use Rattle.unixmodel.specs.Files.{Entry}
 use Rattle.unixmodel.specs.Files.Node.{Directory}
-use Rattle.unixmodel.specs.Image.{KeepsNode, KeepsRules}
-use Rattle.unixmodel.specs.Manifest.{ManifestEntry, Thing, added, if_room, node_for, with_manifest_entry}
-use Rattle.imagemake.specs.Added.{CanAdd, PackedAt, Stores}
-use Rattle.imagemake.specs.Begins.{AddsEntry, IsMade, IsSpot, make_fault}
-use Rattle.imagemake.specs.Begun.{IsBegun, IsListed}
-use Rattle.imagemake.specs.Made.{MadeName, made_name}
-use Rattle.imagemake.specs.Making.{Refuses}
-use Rattle.imagemake.specs.declared.store.StoreFault.{StoreFault}
+use Rattle.unixmodel.specs.Manifest.{Thing}
+use Rattle.imagemake.specs.Added.{Stores}
 use Rattle.imagemake.specs.declared.store.StoreFault.TheVariants.{Blocks, Device}
 use Rattle.imagemake.proofs.FewLinks.{few-directories}
 use Rattle.imagemake.proofs.MadeEntry.{directory-at}
 use Rattle.imagemake.proofs.MadeFiles.{IsBegun-more, adds-more}
 use Rattle.imagemake.proofs.MadeSearch.{IsListed-more}
 use Rattle.imagemake.proofs.Spotting.{spot-good, spot-room}
-use Rattle.imagerules.proofs.Denoting.{below-slot}
 
 -- ---- how many there are
 

@@ -1,11 +1,10 @@
 -- A directory has at most as many directories in it as there are nodes: each of them has one name.
-use Rattle.std.proofs.Common.{◌≡◌, ℕ, ◌+◌, ◌≤◌, ◌==◌, ◌&&◌, ◌⊎◌, Bool, List, [], ◌∷◌, None, Some, ap, arith, cond, count_by, eq-eqb, false, get_or, inl, inr, length, not, option_map, refl, subst, suc, true, unwrap_or, zero, ◌∙◌}
-use Rattle.std.proofs.lemmas.Bool.{and_from, and_left, and_parts, and_right, cases_eq, false≢true, ne_eqb}
-use Rattle.std.proofs.lemmas.List.{get_or_past}
-use Rattle.std.proofs.lemmas.List.Sums.{sum_by-cons}
-use Rattle.unixmodel.specs.Files.{Entry, Files, is_directory, slot}
+use Rattle.imagemake.proofs.Common.{◌≡◌, ℕ, ◌+◌, ◌≤◌, ◌==◌, ◌&&◌, ◌⊎◌, Bool, List, [], ◌∷◌, None, Some, ap, arith, cond, count_by, false, get_or, inl, inr, length, not, option_map, refl, subst, suc, true, unwrap_or, zero}
+use Rattle.imagemake.proofs.Common.{◌∙◌, and_from, and_left, and_parts, and_right, cases_eq, false≢true, get_or_past, sum_by-cons, Files, is_directory, slot, KeepsNode, KeepsRules, entries_of, is_directory_at, subdirectories}
+use Rattle.std.proofs.Common.{eq-eqb}
+use Rattle.std.proofs.lemmas.Bool.{ne_eqb}
+use Rattle.unixmodel.specs.Files.{Entry}
 use Rattle.unixmodel.specs.Files.Node.{Directory}
-use Rattle.unixmodel.specs.Image.{KeepsNode, KeepsRules, entries_of, is_directory_at, subdirectories}
 use Rattle.names.specs.Rules.{names_by}
 use Rattle.names.proofs.Counts.{names_by-le}
 use Rattle.imagemake.proofs.MadeEntry.{directory-at}

@@ -1,14 +1,9 @@
 -- A file without bytes gets some, where there is room for all of them.
-use Rattle.std.proofs.Common.{◌≡◌, ℕ, ◌+◌, ◌<◌, ◌≤◌, ◌∙◌, ◌++◌, Bool, List, [], None, Option, Some, ap, arith, false, inl, inr, length, refl, suc, sym, take, true, zero}
-use Rattle.std.specs.Prelude.{nat_le, ◌&&◌}
-use Rattle.std.proofs.lemmas.Bool.{and_from, and_right, cases_lt, cond-false, cond-true, le-leb, leb-false, lt-leb}
-use Rattle.std.proofs.lemmas.List.{append-nil, drop_all, take_all}
-use Rattle.std.proofs.lemmas.Option.{none-some, same_Some}
+use Rattle.imagemake.proofs.Common.{◌≡◌, ℕ, ◌+◌, ◌<◌, ◌≤◌, ◌∙◌, ◌++◌, Bool, List, [], None, Option, Some, ap, arith, false, inl, inr, length, refl, suc, sym, take, true, zero, nat_le, ◌&&◌, and_from}
+use Rattle.imagemake.proofs.Common.{and_right, cases_lt, cond-false, cond-true, le-leb, leb-false, lt-leb, append-nil, drop_all, take_all, none-some, same_Some, Files, longest, put, slot, File}
 use Rattle.tree.specs.Written.{Written, count_of, files_after, fitting, with_bytes, write_to, written}
 use Rattle.unixmodel.specs.Counts.{blocks_of}
 use Rattle.unixmodel.specs.FileCalls.{greatest, with_file}
-use Rattle.unixmodel.specs.Files.{Files, longest, put, slot}
-use Rattle.unixmodel.specs.Files.Node.{File}
 use Rattle.unixmodel.specs.Memory.{overwrite}
 
 greatest-most : (test : ℕ → Bool) (n : ℕ) → greatest test n ≤ n

@@ -1,16 +1,7 @@
 -- The entries of a manifest, one after the other.
-use Rattle.std.proofs.Common.{◌≡◌, ℕ, ◌+◌, ◌<◌, ◌≤◌, List, [], Result, length, get_or, drop, ap, sym, refl, ◌∙◌, arith, subst, false}
-use Rattle.std.proofs.lemmas.List.{drop_all, drop_more}
-use Rattle.tree.specs.Tree.{FileTree}
-use Rattle.unixmodel.specs.Files.{Files}
-use Rattle.unixmodel.specs.Manifest.{ManifestEntry, Wrong, and_then, bare_files, with_entries, with_manifest_entry}
-use Rattle.imagemake.specs.Begins.{AddsEntry, IsGoing, MakesEntries, made_by}
-use Rattle.imagemake.specs.Begun.{IsBegun, IsListed}
-use Rattle.imagemake.specs.Made.{MadeName}
-use Rattle.imagemake.specs.Making.{Refuses, entry_of, meaning}
+use Rattle.imagemake.proofs.Common.{◌≡◌, ℕ, ◌+◌, ◌<◌, ◌≤◌, List, [], Result, length, get_or, drop, ap, sym, refl, ◌∙◌, arith, subst, false, drop_all, drop_more, FileTree, Files, ManifestEntry, Wrong, and_then}
+use Rattle.imagemake.proofs.Common.{bare_files, with_entries, with_manifest_entry, AddsEntry, IsGoing, MakesEntries, made_by, IsBegun, IsListed, MadeName, Refuses, entry_of, meaning, MakeFault, NoMemory}
 use Rattle.imagemake.specs.declared.manifest.Entry.{Entry}
-use Rattle.imagemake.specs.declared.manifest.MakeFault.{MakeFault}
-use Rattle.imagemake.specs.declared.manifest.MakeFault.TheVariants.{NoMemory}
 use Rattle.imagemake.proofs.MadeBare.{IsBegun-bare}
 use Rattle.imagemake.proofs.MadeSearch.{IsListed-bare}
 

@@ -1,31 +1,14 @@
 -- From a blank disk to the bytes of an image that denotes files.
-use Rattle.std.proofs.Common.{◌≡◌, ℕ, ◌+◌, ◌*◌, ◌&&◌, true, false, cond, List, None, Ok, Err, Option, Result, get_or, length, nat_le, nat_lt, ap, sym, refl, ◌∙◌, arith, inl, inr, subst, replicate}
-use Rattle.std.specs.Prelude.{IfErr, IfOk, IsOk, OnOk}
-use Rattle.std.specs.Result.{IsErrAnd}
-use Rattle.std.proofs.lemmas.Bool.{and_parts, cases_lt, false≢true}
-use Rattle.std.proofs.lemmas.Bool.Decides.{nat_tests}
-use Rattle.std.proofs.lemmas.List.{get_or-replicate, get_or_past, length-replicate}
+use Rattle.imagemake.proofs.Common.{◌≡◌, ℕ, ◌+◌, ◌*◌, ◌&&◌, true, false, cond, List, None, Ok, Err, Option, Result, get_or, length, nat_le, nat_lt, ap, sym, refl, ◌∙◌, arith, inl, inr, subst}
+use Rattle.imagemake.proofs.Common.{replicate, OnOk, IsErrAnd, and_parts, cases_lt, false≢true, nat_tests, get_or-replicate, get_or_past, length-replicate, Geometry, RawNode, FitsPlaces, IsFileSystem}
+use Rattle.imagemake.proofs.Common.{IsStored, files_of, FileTree, tree_with, IsNow, now-limit, files-are, held-again, Files, free_slots, format, Denotes, data_start, ManifestEntry, Wrong, bare_files}
+use Rattle.imagemake.proofs.Common.{data_blocks_of, files_made, has_numbers, with_entries, Numbers, IsBlank, IsPossible, MakesEntries, made_by, image_of, MakesImage, Refuses, MakeFault, NoMemory}
+use Rattle.std.specs.Prelude.{IfErr, IfOk, IsOk}
 use Rattle.balloc.specs.Format.{IsNew}
 use Rattle.cache.specs.Disk.{Disk}
 use Rattle.inode.specs.Store.{IsWhole, Store, store_over}
-use Rattle.layout.specs.declared.Geometry.{Geometry}
-use Rattle.layout.specs.Image.{RawNode}
-use Rattle.tree.specs.Stored.{FitsPlaces, IsFileSystem, IsStored, Stores, files_of}
-use Rattle.tree.specs.Tree.{FileTree, tree_with}
-use Rattle.tree.proofs.Following.{IsNow, now-limit}
-use Rattle.tree.proofs.Storing.{files-are, held-again}
+use Rattle.tree.specs.Stored.{Stores}
 use Rattle.unixmodel.specs.Counts.{blocks_of}
-use Rattle.unixmodel.specs.Files.{Files, free_slots}
-use Rattle.unixmodel.specs.Formats.{format}
-use Rattle.unixmodel.specs.Image.{Denotes, data_start}
-use Rattle.unixmodel.specs.Manifest.{ManifestEntry, Wrong, bare_files, data_blocks_of, files_made, has_numbers, with_entries}
-use Rattle.unixmodel.specs.Manifest.Wrong.{Numbers}
-use Rattle.imagemake.specs.Added.{IsBlank, IsPossible}
-use Rattle.imagemake.specs.Begins.{MakesEntries, made_by}
-use Rattle.imagerules.specs.Content.{image_of}
-use Rattle.imagemake.specs.Making.{MakesImage, Refuses}
-use Rattle.imagemake.specs.declared.manifest.MakeFault.{MakeFault}
-use Rattle.imagemake.specs.declared.manifest.MakeFault.TheVariants.{NoMemory}
 use Rattle.imagemake.proofs.Denoted.{Denotes-stored, length-stored}
 use Rattle.imagemake.proofs.MadeBare.{length-free, no-files, slot-free}
 use Rattle.imagemake.proofs.Owned.{told_err}

@@ -1,15 +1,8 @@
 -- Paths that lead to directories that are made.
-use Rattle.std.proofs.Common.{◌≡◌, ℕ, ◌+◌, ◌<◌, ◌≤◌, Bool, List, [], ◌∷◌, ◌++◌, None, Option, Some, length, get_or, take, drop, ap, sym, refl, ◌∙◌, ap₂, arith, cond, false, true, zero, suc, is_some, option_map, position, ◌==◌, ◌&&◌}
-use Rattle.std.specs.List.{list_all}
-use Rattle.std.specs.Option.{option_or}
-use Rattle.std.proofs.lemmas.Bool.{and_parts, cond-false, eqb-true, false≢true}
-use Rattle.std.proofs.lemmas.List.{append_assoc, drop_more, length-append, length-take-le, take-append-drop, take_at}
-use Rattle.std.proofs.lemmas.List.Quantifiers.{position-Some}
-use Rattle.std.proofs.lemmas.Option.{none-some}
-use Rattle.unixmodel.specs.Files.{onto_first, pieces}
-use Rattle.unixmodel.specs.Image.{is_name}
-use Rattle.unixmodel.specs.Manifest.{names_in}
-use Rattle.imagemake.specs.Made.{Extends, LeadsTo, MadeName, found, reach, stands_at}
+use Rattle.imagemake.proofs.Common.{◌≡◌, ℕ, ◌+◌, ◌<◌, ◌≤◌, Bool, List, [], ◌∷◌, ◌++◌, None, Option, Some, length, get_or, take, drop, ap, sym, refl, ◌∙◌, ap₂, arith, cond, false, true, zero}
+use Rattle.imagemake.proofs.Common.{suc, is_some, option_map, position, ◌==◌, ◌&&◌, list_all, option_or, and_parts, cond-false, eqb-true, false≢true, drop_more, length-append, length-take-le}
+use Rattle.imagemake.proofs.Common.{take-append-drop, take_at, position-Some, none-some, onto_first, pieces, is_name, names_in, Extends, LeadsTo, MadeName, found, reach, stands_at}
+use Rattle.std.proofs.lemmas.List.{append_assoc}
 use Rattle.imagemake.proofs.MadeSearch.{position-push}
 use Rattle.imagemake.proofs.Pathing.{reach_found}
 

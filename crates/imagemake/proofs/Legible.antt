@@ -1,20 +1,10 @@
 -- The blocks that the image of a disk names and those of its bitmap, where its inodes in use can be read.
-use Rattle.std.proofs.Common.{◌≡◌, ◌≢◌, ℕ, ◌+◌, ◌-◌, ◌*◌, ◌/◌, ◌%◌, ◌^◌, ◌<◌, ◌≤◌, List, length, get_or, ap, sym, ◌∙◌, arith, subst, true, All, nat_eq, nat_lt, ◌==◌, ◌||◌, ◌⊎◌, Decides, refl}
-use Rattle.std.specs.List.{list_any}
-use Rattle.std.proofs.lemmas.Bool.Decides.{Decides-eqb, Decides-ltb, Decides-or}
-use Rattle.std.proofs.lemmas.List.Folds.{Any-from_list_any}
+use Rattle.imagemake.proofs.Common.{◌≡◌, ◌≢◌, ℕ, ◌+◌, ◌-◌, ◌*◌, ◌/◌, ◌%◌, ◌^◌, ◌<◌, ◌≤◌, List, length, get_or, ap, sym, ◌∙◌, arith, subst, true, All, nat_eq, nat_lt, ◌==◌, ◌||◌, ◌⊎◌, Decides, refl, list_any}
+use Rattle.imagemake.proofs.Common.{Decides-eqb, Decides-ltb, Decides-or, Any-from_list_any, IsInode, IsUsed, bit_in, slot_of, HasParts, IsNamed, bitmap_start_of, data_start_of, Geometry, bit_of, bitmap_start}
+use Rattle.imagemake.proofs.Common.{data_start, inodes_in, is_named, kind_in, named_blocks, named_by, size_in, image_of, blocks_of-used, named_before-all, byte-located, kind-located, All-numbers}
 use Rattle.blockdev.specs.Blocks as device
 use Rattle.layout.specs.Image as disk
-use Rattle.layout.specs.Image.{IsInode, IsUsed, bit_in, slot_of}
-use Rattle.layout.specs.Sound.{HasParts, IsNamed}
-use Rattle.layout.specs.Super.{bitmap_start_of, data_start_of}
-use Rattle.layout.specs.declared.Geometry.{Geometry}
-use Rattle.unixmodel.specs.Image.{bit_of, bitmap_start, data_start, inodes_in, is_named, kind_in, named_blocks, named_by, size_in}
-use Rattle.imagerules.specs.Content.{image_of}
 use Rattle.imagerules.specs.Marks.{blocks_of}
-use Rattle.imagerules.proofs.Marking.{blocks_of-used, named_before-all}
-use Rattle.imagerules.proofs.Read.{byte-located, kind-located}
-use Rattle.imagerules.proofs.Uses.{All-numbers}
 use Rattle.imagemake.proofs.Apart.{any-range}
 use Rattle.imagemake.proofs.Slotted.{All-listed, IsReadable, any-listed}
 

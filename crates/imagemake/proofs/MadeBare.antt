@@ -1,17 +1,11 @@
 -- The files of an image with a root alone keep the rules.
-use Rattle.std.proofs.Common.{◌≡◌, ◌≢◌, ℕ, zero, suc, ◌+◌, ◌-◌, ◌<◌, ◌≤◌, false, true, List, [], ◌∷◌, ◌++◌, length, None, Option, Some, inl, inr, map, ap, sym, refl, ◌∙◌, arith, subst, IsSome, IsTrue, count_by, flat_map, is_some, option_map, sum_by, unwrap_or, ◌==◌}
-use Rattle.std.specs.List.{range_with_len}
-use Rattle.std.proofs.lemmas.Bool.{cases_lt, false≢true}
-use Rattle.std.proofs.lemmas.List.{get_or-replicate, get_or-set_other, get_or-set_same, get_or_past, length-replicate, length-set}
-use Rattle.std.proofs.lemmas.List.Elements.{All-nil}
-use Rattle.layout.proofs.Frame.{at_or}
+use Rattle.imagemake.proofs.Common.{◌≡◌, ◌≢◌, ℕ, zero, suc, ◌+◌, ◌-◌, ◌<◌, ◌≤◌, false, true, List, [], ◌∷◌, ◌++◌, length, None, Option, Some, inl, inr, map, ap, sym, refl, ◌∙◌, arith, subst, IsSome, IsTrue}
+use Rattle.imagemake.proofs.Common.{count_by, flat_map, is_some, option_map, sum_by, unwrap_or, ◌==◌, range_with_len, cases_lt, false≢true, get_or-replicate, get_or-set_other, get_or-set_same, get_or_past}
+use Rattle.imagemake.proofs.Common.{length-replicate, length-set, All-nil, at_or, Node, blocks_for, dot, dot_dot, find, free_slots, is_directory, parts, size_of, slot, taken, KeepsNode, KeepsRules}
+use Rattle.imagemake.proofs.Common.{KeepsSize, all_entries, entries_of, is_name, names_of, parent_of, subdirectories, bare_directory, bare_files, node_for, Bytes, Folder, Special, PackedAt, IsBegun}
 use Rattle.unixmodel.specs.Counts.{blocks_of}
-use Rattle.unixmodel.specs.Files.{Entry, Node, blocks_for, dot, dot_dot, find, free_slots, is_directory, parts, size_of, slot, taken}
-use Rattle.unixmodel.specs.Image.{KeepsNode, KeepsRules, KeepsSize, all_entries, entries_of, is_name, names_of, parent_of, subdirectories}
-use Rattle.unixmodel.specs.Manifest.{Thing, bare_directory, bare_files, node_for}
-use Rattle.unixmodel.specs.Manifest.Thing.{Bytes, Folder, Special}
-use Rattle.imagemake.specs.Added.{PackedAt}
-use Rattle.imagemake.specs.Begun.{IsBegun}
+use Rattle.unixmodel.specs.Files.{Entry}
+use Rattle.unixmodel.specs.Manifest.{Thing}
 
 pub length-free : (n : ℕ) → length (free_slots {X = Node} n) ≡ n
 unfolding free_slots

@@ -1,18 +1,11 @@
 -- Files with an entry more: what stands at each number, and what the entries of the directories are.
-use Rattle.std.proofs.Common.{◌≡◌, ◌≢◌, ℕ, ◌+◌, ◌<◌, ◌≤◌, true, false, List, [], ◌∷◌, ◌++◌, length, None, Option, Some, drop, map, ap, sym, refl, ◌∙◌, arith, subst, IsSome, flat_map, is_some, option_map, unwrap_or}
-use Rattle.std.specs.List.{range_with_len}
-use Rattle.std.proofs.lemmas.Bool.{false≢true}
-use Rattle.std.proofs.lemmas.List.{drop-append-le, get_or-set_other, get_or-set_same, length-set, map-append}
-use Rattle.std.proofs.lemmas.List.Elements.{filter_map-append}
-use Rattle.std.proofs.lemmas.Option.{none-some}
-use Rattle.layout.proofs.Frame.{at_or}
-use Rattle.unixmodel.specs.Files.{Entry, Files, Node, change_node, is_directory, slot, taken}
+use Rattle.imagemake.proofs.Common.{◌≡◌, ◌≢◌, ℕ, ◌+◌, ◌<◌, ◌≤◌, true, false, List, [], ◌∷◌, ◌++◌, length, None, Option, Some, drop, map, ap, sym, refl, ◌∙◌, arith, subst, IsSome, flat_map}
+use Rattle.imagemake.proofs.Common.{is_some, option_map, unwrap_or, range_with_len, false≢true, drop-append-le, get_or-set_other, get_or-set_same, length-set, map-append, filter_map-append}
+use Rattle.imagemake.proofs.Common.{none-some, at_or, Files, Node, change_node, is_directory, slot, taken, all_entries, entries_of, added, appended, linked, node_for, Folder, below-slot}
+use Rattle.unixmodel.specs.Files.{Entry}
 use Rattle.unixmodel.specs.Files.Node.{Directory}
-use Rattle.unixmodel.specs.Image.{all_entries, entries_of}
-use Rattle.unixmodel.specs.Manifest.{Thing, added, appended, linked, node_for}
-use Rattle.unixmodel.specs.Manifest.Thing.{Folder}
+use Rattle.unixmodel.specs.Manifest.{Thing}
 use Rattle.imagemake.proofs.MadeLists.{HasOneMore, HasOneMore-flat_map}
-use Rattle.imagerules.proofs.Denoting.{below-slot}
 
 abbrev pub entry_for : List ℕ → ℕ → Entry
 entry_for name n = record { name = name; number = n }

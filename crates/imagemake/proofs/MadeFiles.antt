@@ -1,13 +1,9 @@
 -- What an entry of a manifest makes keeps the rules of files.
-use Rattle.std.proofs.Common.{◌≡◌, ◌≢◌, ℕ, ◌+◌, ◌≤◌, Bool, List, None, Ok, Err, Option, Some, Result, inl, inr, true, false, cond, ap, sym, refl, ◌∙◌, arith, subst, is_some, nat_le, option_map, unwrap_or, ◌&&◌}
-use Rattle.std.proofs.lemmas.Bool.{and_parts, cases_eq, false≢true, leb-true}
+use Rattle.imagemake.proofs.Common.{◌≡◌, ◌≢◌, ℕ, ◌+◌, ◌≤◌, Bool, List, None, Ok, Err, Option, Some, Result, inl, inr, true, false, cond, ap, sym, refl, ◌∙◌, arith, subst, is_some, nat_le, option_map, unwrap_or}
+use Rattle.imagemake.proofs.Common.{◌&&◌, and_parts, cases_eq, false≢true, leb-true, Files, Node, longest, lookup, size_of, slot, KeepsSize, Wrong, added, if_room, is_short, CanAdd, PackedAt, IsBegun}
 use Rattle.unixmodel.specs.Counts.{blocks_of}
-use Rattle.unixmodel.specs.Files.{Files, Node, longest, lookup, size_of, slot}
-use Rattle.unixmodel.specs.Image.{KeepsSize}
-use Rattle.unixmodel.specs.Manifest.{Thing, Wrong, added, if_room, is_short}
+use Rattle.unixmodel.specs.Manifest.{Thing}
 use Rattle.unixmodel.specs.Manifest.Wrong.{Blocks}
-use Rattle.imagemake.specs.Added.{CanAdd, PackedAt}
-use Rattle.imagemake.specs.Begun.{IsBegun}
 use Rattle.imagemake.proofs.MadeEntry.{Adds, Adds-added, each-more, entry_for, used-kept}
 use Rattle.imagemake.proofs.MadeBare.{packed-node}
 use Rattle.imagemake.proofs.MadeRules.{KeepsRules-more}

@@ -1,10 +1,7 @@
 -- Lists of which one has an item more, and what that adds to a count and to the items that pass a test.
-use Rattle.std.proofs.Common.{◌≡◌, ◌≢◌, ℕ, zero, suc, ◌+◌, ◌-◌, ◌<◌, ◌≤◌, Bool, true, false, cond, List, [], ◌∷◌, ◌++◌, length, ap, ap₂, sym, refl, ◌∙◌, arith, All, count_by, filter, flat_map, append_assoc}
-use Rattle.std.specs.List.{range_with_len}
-use Rattle.std.proofs.lemmas.List.Concat.{flat_map-append}
-use Rattle.std.proofs.lemmas.List.Elements.{All-head, All-tail, filter-append}
-use Rattle.std.proofs.lemmas.List.Sums.{length-filter, sum_by-append, sum_by-cons, sum_by_push}
-use Rattle.imagerules.proofs.Marking.{range-split}
+use Rattle.imagemake.proofs.Common.{◌≡◌, ◌≢◌, ℕ, zero, suc, ◌+◌, ◌-◌, ◌<◌, ◌≤◌, Bool, true, false, cond, List, [], ◌∷◌, ◌++◌, length, ap, ap₂, sym, refl, ◌∙◌, arith, All, count_by, filter}
+use Rattle.imagemake.proofs.Common.{flat_map, range_with_len, flat_map-append, All-head, All-tail, filter-append, length-filter, sum_by-append, sum_by-cons, sum_by_push, range-split}
+use Rattle.std.proofs.Common.{append_assoc}
 
 -- ys is xs with x between two of its parts
 pub record HasOneMore {X : Type 0} (xs ys : List X) (x : X) : Type 0 where

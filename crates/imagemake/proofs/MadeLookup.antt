@@ -1,10 +1,7 @@
 -- The first entry of a name in the places of a directory.
-use Rattle.std.proofs.Common.{◌≡◌, ◌≢◌, ℕ, zero, suc, ◌≤◌, Bool, true, false, cond, List, [], ◌∷◌, ◌++◌, None, Option, Some, ap, sym, refl, ◌∙◌, arith, All, bytes_eq, option_and_then, position}
-use Rattle.std.proofs.lemmas.Bool.{false≢true}
-use Rattle.std.proofs.lemmas.List.Elements.{All-cons, All-nil}
-use Rattle.std.proofs.lemmas.Slice.Eq.{bytes_eq-Decides}
-use Rattle.std.proofs.lemmas.Option.{none-some, same_Some}
-use Rattle.unixmodel.specs.Files.{Entry, Files, Node, entry_number, has_name, live_places, lookup, places_at, slot, taken}
+use Rattle.imagemake.proofs.Common.{◌≡◌, ◌≢◌, ℕ, zero, suc, ◌≤◌, Bool, true, false, cond, List, [], ◌∷◌, ◌++◌, None, Option, Some, ap, sym, refl, ◌∙◌, arith, All, bytes_eq, option_and_then}
+use Rattle.imagemake.proofs.Common.{position, false≢true, All-cons, All-nil, bytes_eq-Decides, none-some, same_Some, Files, Node, entry_number, has_name, live_places, lookup, places_at, slot, taken}
+use Rattle.unixmodel.specs.Files.{Entry}
 use Rattle.unixmodel.specs.Files.Node.{Directory}
 use Rattle.imagerules.proofs.Paths.{first_named as first, first_named-is as first-position}
 

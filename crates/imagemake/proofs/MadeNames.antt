@@ -1,17 +1,13 @@
 -- Files with an entry more: how many places name a number, which directory a number stands in, and how many directories a directory has.
-use Rattle.std.proofs.Common.{◌≡◌, ◌≢◌, ℕ, ◌+◌, ◌≤◌, false, cond, List, length, Option, Some, map, get_or, ap, sym, refl, ◌∙◌, add-zero, arith, subst, All, IsSome, count_by, filter, option_map, slice_get, unwrap_or, ◌==◌}
-use Rattle.std.specs.List.{range_with_len}
-use Rattle.std.proofs.lemmas.Bool.{cond-false, eq-eqb, ne_eqb}
-use Rattle.std.proofs.lemmas.List.Elements.{All-map, All-nil}
-use Rattle.unixmodel.specs.Files.{Entry, Files, Node, is_directory, slot}
+use Rattle.imagemake.proofs.Common.{◌≡◌, ◌≢◌, ℕ, ◌+◌, ◌≤◌, false, cond, List, length, Option, Some, map, get_or, ap, sym, refl, ◌∙◌, add-zero, arith, subst, All, IsSome, count_by}
+use Rattle.imagemake.proofs.Common.{filter, option_map, slice_get, unwrap_or, ◌==◌, range_with_len, cond-false, All-map, All-nil, Files, Node, is_directory, slot, IsDirectory, KeepsNode}
+use Rattle.imagemake.proofs.Common.{KeepsRules, all_entries, entries_of, is_directory_at, names_number, names_of, parent_of, subdirectories, node_for, Folder, All-flat_map, two_places}
+use Rattle.std.proofs.lemmas.Bool.{eq-eqb, ne_eqb}
+use Rattle.unixmodel.specs.Files.{Entry}
 use Rattle.unixmodel.specs.Files.Node.{Directory}
-use Rattle.unixmodel.specs.Image.{IsDirectory, KeepsNode, KeepsRules, all_entries, entries_of, is_directory_at, names_number, names_of, parent_of, subdirectories}
-use Rattle.unixmodel.specs.Manifest.{Thing, node_for}
-use Rattle.unixmodel.specs.Manifest.Thing.{Folder}
-use Rattle.imagerules.proofs.Lists.{All-flat_map}
+use Rattle.unixmodel.specs.Manifest.{Thing}
 use Rattle.imagemake.proofs.MadeEntry.{Adds, each-more, entries-above, entries-here, entries-other, entry_for, links_with, one_entry_more, used-not_new}
 use Rattle.imagemake.proofs.MadeLists.{count_by-none, count_by-one_more, count_by-push, count_by-same, filter-first, filter-none, filter-other}
-use Rattle.imagerules.proofs.Denoting.{two_places}
 
 -- ---- every entry's number is in use
 

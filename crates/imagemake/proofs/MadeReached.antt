@@ -1,16 +1,12 @@
 -- Files with an entry more: names lead where they led before, and the new one to its number.
-use Rattle.std.proofs.Common.{◌≡◌, ℕ, ◌≤◌, List, [], ◌∷◌, ◌++◌, None, Option, Some, ap, sym, refl, ◌∙◌, arith, IsSome, bytes_eq, is_some, option_and_then, true}
-use Rattle.std.proofs.lemmas.Bool.{cond-true}
-use Rattle.std.proofs.lemmas.Option.{none-some, option_and_then_some}
-use Rattle.std.proofs.lemmas.Slice.Eq.{bytes_eq-Decides}
-use Rattle.unixmodel.specs.Files.{Entry, Files, entry_number, find, follow, lookup, parts, slot}
-use Rattle.unixmodel.specs.Image.{KeepsRules, is_name}
+use Rattle.imagemake.proofs.Common.{◌≡◌, ℕ, ◌≤◌, List, [], ◌∷◌, ◌++◌, None, Option, Some, ap, sym, refl, ◌∙◌, arith, IsSome, bytes_eq, is_some, option_and_then, true, cond-true, none-some}
+use Rattle.imagemake.proofs.Common.{option_and_then_some, bytes_eq-Decides, Files, entry_number, find, follow, lookup, parts, slot, KeepsRules, is_name, Folder, find-root, find-slash}
+use Rattle.unixmodel.specs.Files.{Entry}
 use Rattle.unixmodel.specs.Manifest.{Thing}
-use Rattle.unixmodel.specs.Manifest.Thing.{Folder}
 use Rattle.imagemake.proofs.MadeEntry.{Adds, each-more, entry_for, links_with}
 use Rattle.imagemake.proofs.MadeLookup.{first-kept, first-past, found, lookup-directory, lookup-found, number-none, number-some}
 use Rattle.imagemake.proofs.MadeNames.{directory-above}
-use Rattle.imagerules.proofs.Paths.{find-root, find-slash, first_named as first}
+use Rattle.imagerules.proofs.Paths.{first_named as first}
 
 links_least : (thing : Thing) (links : ℕ) → 1 ≤ links → 1 ≤ links_with thing links
 links_least Folder links h = omega arith

@@ -1,14 +1,11 @@
 -- Files with an entry more keep the rules.
-use Rattle.std.proofs.Common.{◌≡◌, ◌≢◌, ℕ, zero, suc, ◌+◌, ◌≤◌, true, List, [], ◌∷◌, ◌++◌, length, None, Option, Some, drop, ap, sym, refl, ◌∙◌, arith, subst, All, AllPairs, IsSome, IsTrue, is_some, ◌==◌}
-use Rattle.std.proofs.lemmas.Bool.{cond-false, ne_eqb}
-use Rattle.std.proofs.lemmas.List.{get_or_append_left}
-use Rattle.std.proofs.lemmas.List.Elements.{All-nil, All-push, All-tail, All-weaker}
-use Rattle.std.proofs.lemmas.List.Quantifiers.{all_pairs_push}
-use Rattle.unixmodel.specs.Files.{Entry, Files, Node, dot_dot, lookup, slot, taken}
+use Rattle.imagemake.proofs.Common.{◌≡◌, ◌≢◌, ℕ, zero, suc, ◌+◌, ◌≤◌, true, List, [], ◌∷◌, ◌++◌, length, None, Option, Some, drop, ap, sym, refl, ◌∙◌, arith, subst, All, AllPairs}
+use Rattle.imagemake.proofs.Common.{IsSome, IsTrue, is_some, ◌==◌, cond-false, get_or_append_left, All-nil, All-push, All-tail, All-weaker, all_pairs_push, Files, Node, dot_dot}
+use Rattle.imagemake.proofs.Common.{lookup, slot, taken, KeepsNode, KeepsRules, KeepsSize, is_name, names_of, parent_of, subdirectories, node_for, Bytes, Folder, Special}
+use Rattle.std.proofs.lemmas.Bool.{ne_eqb}
+use Rattle.unixmodel.specs.Files.{Entry}
 use Rattle.unixmodel.specs.Files.Node.{Directory}
-use Rattle.unixmodel.specs.Image.{KeepsNode, KeepsRules, KeepsSize, is_name, names_of, parent_of, subdirectories}
-use Rattle.unixmodel.specs.Manifest.{Thing, node_for}
-use Rattle.unixmodel.specs.Manifest.Thing.{Bytes, Folder, Special}
+use Rattle.unixmodel.specs.Manifest.{Thing}
 use Rattle.imagemake.proofs.MadeEntry.{Adds, each-more, entry_for, links_with, places-above, used-kept}
 use Rattle.imagemake.proofs.MadeLookup.{first-none}
 use Rattle.imagemake.proofs.MadeNames.{directory-above, directory-same, links-above, names-new, names-other, parent-new, parent-other, subdirectories-new, subdirectories-other, two-places}

@@ -1,25 +1,20 @@
 -- A name in a directory of what is made is found in the list of the names that are made so far.
-use Rattle.std.proofs.Common.{◌≡◌, ◌≢◌, ℕ, ◌+◌, ◌-◌, ◌≤◌, Bool, true, false, cond, List, [], ◌∷◌, ◌++◌, length, None, Option, Some, inl, inr, ap, ap₂, sym, refl, ◌∙◌, arith, bytes_eq, nat_lt, option_and_then, option_map, position, slice_get, unwrap_or, ◌&&◌, ◌==◌, zero, suc, not, eqb, eq-eqb, ne_eqb}
-use Rattle.std.specs.List.{list_all, position_or_len}
-use Rattle.std.specs.Option.{option_or}
-use Rattle.std.proofs.lemmas.Bool.{and_parts, cases_eq, cases_lt, eq-eqb, false≢true, false_from_ne_true, ne_eqb, or_parts, le-ltb, lt-ltb, cond-false, cond-true}
-use Rattle.std.proofs.lemmas.List.{length_push}
-use Rattle.std.proofs.lemmas.Slice.Eq.{bytes_eq-Decides}
-use Rattle.unixmodel.specs.Files.{Entry, Files, dot, dot_dot, entry_number, follow, is_directory, lookup}
-use Rattle.unixmodel.specs.Image.{KeepsRules, is_directory_at, is_name}
-use Rattle.unixmodel.specs.Manifest.{Thing, bare_directory, bare_files, node_for}
-use Rattle.unixmodel.specs.Manifest.Thing.{Folder}
-use Rattle.imagemake.specs.Begun.{IsListed}
-use Rattle.imagemake.specs.Made.{MadeName, found as made_found, is_folder, seek, stands_at}
+use Rattle.imagemake.proofs.Common.{◌≡◌, ◌≢◌, ℕ, ◌+◌, ◌-◌, ◌≤◌, Bool, true, false, cond, List, [], ◌∷◌, ◌++◌, length, None, Option, Some, inl, inr, ap, ap₂, sym, refl, ◌∙◌, arith, bytes_eq, nat_lt}
+use Rattle.imagemake.proofs.Common.{option_and_then, option_map, position, slice_get, unwrap_or, ◌&&◌, ◌==◌, zero, suc, not, eqb, list_all, position_or_len, option_or, and_parts, cases_eq, cases_lt, false≢true}
+use Rattle.imagemake.proofs.Common.{false_from_ne_true, or_parts, le-ltb, lt-ltb, cond-false, cond-true, length_push, bytes_eq-Decides, Files, dot, dot_dot, entry_number, follow, is_directory, lookup, KeepsRules}
+use Rattle.imagemake.proofs.Common.{is_directory_at, is_name, bare_directory, bare_files, node_for, Folder, IsListed, MadeName, is_folder, seek, stands_at, IsGiven-name, position_or_len_push, prefix_len-le-length}
+use Rattle.std.proofs.Common.{eq-eqb, ne_eqb}
+use Rattle.std.proofs.lemmas.Bool.{eq-eqb, ne_eqb}
+use Rattle.unixmodel.specs.Files.{Entry}
+use Rattle.unixmodel.specs.Manifest.{Thing}
+use Rattle.imagemake.specs.Made.{found as made_found}
 use Rattle.imagemake.proofs.Pathing.{is_folder-high, is_folder-low}
 use Rattle.imagemake.proofs.MadeBare.{bare-each}
 use Rattle.imagemake.proofs.MadeEntry.{Adds, each-more, entry_for}
 use Rattle.imagemake.proofs.MadeLookup.{first-past, found, lookup-found, number-none}
 use Rattle.imagemake.proofs.MadeNames.{directory-same}
-use Rattle.imagerules.proofs.Paths.{IsGiven-name, first_named as first}
+use Rattle.imagerules.proofs.Paths.{first_named as first}
 use Rattle.imagemake.proofs.MadeReached.{lookup-above, lookup-before, lookup-kept}
-use Rattle.std.proofs.lemmas.List.Folds.{position_or_len_push}
-use Rattle.std.proofs.lemmas.List.Sums.{prefix_len-le-length}
 
 push_step : (n k m : ℕ) (b : Bool) → n ≤ k → m ≡ cond (eqb n k) (k + cond b 0 1) n → cond (nat_lt m (k + 1)) (Some m) None ≡ option_or (cond (nat_lt n k) (Some n) None) (cond b (Some k) None)
 push_step n k m b h e = elim (cases_lt n k) [

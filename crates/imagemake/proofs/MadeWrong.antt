@@ -1,10 +1,6 @@
 -- What an entry of a manifest comes to, test by test.
-use Rattle.std.proofs.Common.{◌≡◌, ℕ, ◌<◌, ◌≤◌, true, false, cond, not, List, None, Some, Err, ap, ◌∙◌, is_some, nat_le}
-use Rattle.std.proofs.lemmas.Bool.{le-leb, lt-leb}
-use Rattle.unixmodel.specs.Files.{Files, follow, lookup, split_last}
-use Rattle.unixmodel.specs.Image.{is_directory_at}
-use Rattle.unixmodel.specs.Manifest.{ManifestEntry, added, if_room, names_in, with_manifest_entry, with_name, with_names, with_split}
-use Rattle.unixmodel.specs.Manifest.Wrong.{Inodes, Name, Parent, Twice}
+use Rattle.imagemake.proofs.Common.{◌≡◌, ℕ, ◌<◌, ◌≤◌, true, false, cond, not, List, None, Some, Err, ap, ◌∙◌, is_some, nat_le, le-leb, lt-leb, Files, follow, lookup, split_last}
+use Rattle.imagemake.proofs.Common.{is_directory_at, ManifestEntry, added, if_room, names_in, with_manifest_entry, with_name, with_names, with_split, Inodes, Name, Parent, Twice}
 
 module _ (blocks inodes : ℕ) (files : Files) (n : ℕ) (e : ManifestEntry) where
   pub entry-name : names_in e.path ≡ None → with_manifest_entry blocks inodes files n e ≡ Err Name

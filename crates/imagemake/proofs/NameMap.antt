@@ -1,15 +1,12 @@
 -- Names that are made, as the entries of a map.
-use Rattle.std.proofs.Common.{◌≡◌, ℕ, ◌+◌, ◌-◌, ◌≤◌, Bool, false, cond, not, List, [], ◌∷◌, ◌++◌, map, None, Option, Some, ap, ap₂, sym, refl, ◌∙◌, bytes_eq, nat_eq, nat_lt, option_map, position, slice_get, unwrap_or, ◌&&◌, Bor}
+use Rattle.imagemake.proofs.Common.{◌≡◌, ℕ, ◌+◌, ◌-◌, ◌≤◌, Bool, false, cond, not, List, [], ◌∷◌, ◌++◌, map, None, Option, Some, ap, ap₂, sym, refl, ◌∙◌, bytes_eq, nat_eq, nat_lt, option_map, position}
+use Rattle.imagemake.proofs.Common.{slice_get, unwrap_or, ◌&&◌, Bor, position_or_len, length-map, map-append, none-some, slice_get-map, MadeName, found, is_folder, made_name, name_of, stands_at}
 use Rattle.std.specs.Cmp.{nat_eq_equiv}
 use Rattle.std.specs.Cmp.Lexicographic.{nat_list_eq_equiv}
-use Rattle.std.specs.List.{position_or_len}
 use Rattle.std.specs.Map.{keys_of}
-use Rattle.std.proofs.lemmas.List.{length-map, map-append}
-use Rattle.std.proofs.lemmas.Option.{none-some, slice_get-map}
 use Rattle.indexmap.specs.IndexMap.{insert_entry}
 use Rattle.indexmap.proofs.MapLemmas.{Missing-position, insert_entry-absent}
 use Rattle.imagemake.proofs.Pathing.{is_folder-high}
-use Rattle.imagemake.specs.Made.{MadeName, found, is_folder, made_name, name_of, stands_at}
 
 -- the test of a map's keys
 abbrev pub is_key : ℕ × Bor (List ℕ) → ℕ × Bor (List ℕ) → Bool

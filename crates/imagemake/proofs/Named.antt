@@ -1,24 +1,15 @@
 -- A name at the end of a directory of which each place is in use.
-use Rattle.std.proofs.Common.{◌≡◌, ℕ, ◌+◌, ◌-◌, ◌<◌, ◌≤◌, ◌∙◌, ◌++◌, ◌∷◌, List, [], None, Option, Some, Result, Ok, ap, arith, inl, inr, length, refl, subst, sym}
-use Rattle.std.specs.Prelude.{OnOk, false, is_some, nat_lt}
-use Rattle.std.proofs.lemmas.Result.{IfOk-at_ok}
+use Rattle.imagemake.proofs.Common.{◌≡◌, ℕ, ◌+◌, ◌-◌, ◌<◌, ◌≤◌, ◌∙◌, ◌++◌, ◌∷◌, List, [], None, Option, Some, Result, Ok, ap, arith, inl, inr, length, refl, subst, sym, OnOk, false, is_some, nat_lt, IfOk-at_ok, cond-false, cond-true}
+use Rattle.imagemake.proofs.Common.{le-ltb, lt-ltb, cases_lt, false≢true, get_or-append_right, get_or_append_left, length_push, set-set, none-some, same_Some, entered, growth, placed, room_behind, room_in, FileTree, Looks, IsNow, now-files}
+use Rattle.imagemake.proofs.Common.{blocks_of-set, slot-within, Files, Node, blocks_for, change_node, links_of, most_places, put, size_of, slot, with_links, File, appended, linked, Folder, more_links, HasDirectory, IsPacked, LacksRoomFor}
 use Rattle.blockdev.specs.declared.DeviceFault.{DeviceFault}
-use Rattle.std.proofs.lemmas.Bool.{cond-false, cond-true, le-ltb, lt-ltb, cases_lt, false≢true}
-use Rattle.std.proofs.lemmas.List.{get_or-append_right, get_or_append_left, length_push, set-set}
-use Rattle.std.proofs.lemmas.Option.{none-some, same_Some}
 use Rattle.names.proofs.Finding.{change-is}
-use Rattle.tree.specs.Entering.{HasRoom, entered, growth, placed, room_behind, room_in}
-use Rattle.tree.specs.Tree.{FileTree, Looks}
-use Rattle.tree.proofs.Following.{IsNow, now-files}
+use Rattle.tree.specs.Entering.{HasRoom}
 use Rattle.tree.proofs.Rooms.{blocks_of-entered, entered-is, room-end}
-use Rattle.tree.proofs.Storing.{blocks_of-set, slot-within}
 use Rattle.unixmodel.specs.Counts.{blocks_of}
-use Rattle.unixmodel.specs.Files.{Entry, Files, Node, blocks_for, change_node, links_of, most_places, put, size_of, slot, with_links}
-use Rattle.unixmodel.specs.Files.Node.{Directory, File}
-use Rattle.unixmodel.specs.Manifest.{Thing, appended, linked}
-use Rattle.unixmodel.specs.Manifest.Thing.{Folder}
-use Rattle.unixmodel.specs.NameCalls.{more_links}
-use Rattle.imagemake.specs.Added.{HasDirectory, IsPacked, LacksRoomFor}
+use Rattle.unixmodel.specs.Files.{Entry}
+use Rattle.unixmodel.specs.Files.Node.{Directory}
+use Rattle.unixmodel.specs.Manifest.{Thing}
 use Rattle.imagemake.proofs.Putting.{slot-put}
 
 -- ---- the end is the next place

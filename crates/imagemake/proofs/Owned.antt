@@ -1,12 +1,6 @@
 -- A failed access is told only where the device owns up to it.
-use Rattle.std.proofs.Common.{◌≡◌, ℕ, ◌≤◌, Err, Ok, Result, ap, arith, refl, subst, sym, ◌∙◌, OnOk, is_err}
-use Rattle.unixmodel.specs.Failures.{HasCause, Rises}
-use Rattle.std.specs.Result.{IsErrAnd}
-use Rattle.std.proofs.lemmas.Result.{err_from_is_err_and}
-use Rattle.imagemake.specs.Added.{Owns}
-use Rattle.imagemake.specs.Begins.{BlamesDevice, make_fault}
-use Rattle.imagemake.specs.declared.manifest.MakeFault.{MakeFault}
-use Rattle.imagemake.specs.declared.store.StoreFault.{StoreFault}
+use Rattle.imagemake.proofs.Common.{◌≡◌, ℕ, ◌≤◌, Err, Ok, Result, ap, arith, refl, subst, sym, ◌∙◌, OnOk, HasCause, Rises, IsErrAnd, err_from_is_err_and, Owns, BlamesDevice, make_fault, MakeFault, StoreFault}
+use Rattle.std.proofs.Common.{is_err}
 use Rattle.imagemake.specs.declared.store.StoreFault.TheVariants.{Blocks, Device}
 
 -- the fault that is told

@@ -1,15 +1,8 @@
 -- The pieces of a path, one after the other, and what they reach in the list of what is made.
-use Rattle.std.proofs.Common.{◌≡◌, ℕ, ◌+◌, ◌-◌, ◌<◌, ◌≤◌, Bool, List, [], ◌∷◌, None, Option, Some, length, get_or, take, drop, ap, sym, refl, ◌∙◌, arith, cond, true, false, zero, suc, inl, inr, add-one, nat_lt, option_and_then, option_map, position, slice_get, unwrap_or, ◌&&◌, ◌==◌}
+use Rattle.imagemake.proofs.Common.{◌≡◌, ℕ, ◌+◌, ◌-◌, ◌<◌, ◌≤◌, Bool, List, [], ◌∷◌, None, Option, Some, length, get_or, take, drop, ap, sym, refl, ◌∙◌, arith, cond, true, false, zero, suc, inl, inr, add-one}
+use Rattle.imagemake.proofs.Common.{nat_lt, option_and_then, option_map, position, slice_get, unwrap_or, ◌&&◌, ◌==◌, list_all, position_or_len, cases_lt, cond-false, cond-true, le-ltb, lt-ltb, drop-drop}
+use Rattle.imagemake.proofs.Common.{length-drop, take_rest, position-Some, fails_before_first, none-some, onto_first, pieces, split_last, with_last, is_name, MadeName, found, is_folder, reach, seek}
 use Rattle.std.proofs.Math.Bool.{and-true}
-use Rattle.std.specs.List.{list_all, position_or_len}
-use Rattle.std.proofs.lemmas.Bool.{cases_lt, cond-false, cond-true, le-ltb, lt-ltb}
-use Rattle.std.proofs.lemmas.List.{drop-drop, length-drop, take_rest}
-use Rattle.std.proofs.lemmas.List.Quantifiers.{position-Some}
-use Rattle.std.proofs.lemmas.List.Sums.{fails_before_first}
-use Rattle.std.proofs.lemmas.Option.{none-some}
-use Rattle.unixmodel.specs.Files.{onto_first, pieces, split_last, with_last}
-use Rattle.unixmodel.specs.Image.{is_name}
-use Rattle.imagemake.specs.Made.{MadeName, found, is_folder, reach, seek}
 
 -- where no item passes
 pub position-None : {X : Type 0} (p : X → Bool) (xs : List X) (d : X) → position p xs ≡ None → (k : ℕ) → k < length xs → p (get_or xs k d) ≡ false

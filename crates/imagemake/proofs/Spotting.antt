@@ -1,16 +1,8 @@
 -- The spot of a path's last name, looked up in the list of what is made.
-use Rattle.std.proofs.Common.{◌≡◌, ℕ, ◌<◌, ◌≤◌, Bool, true, false, cond, List, [], ◌∷◌, None, Option, Some, Err, drop, ap, sym, refl, ◌∙◌, is_some, ◌&&◌, ◌==◌, ◌++◌}
-use Rattle.std.specs.List.{list_all}
-use Rattle.std.proofs.lemmas.Bool.{and_parts, false≢true}
-use Rattle.std.proofs.lemmas.List.Folds.{list_all-append}
-use Rattle.std.proofs.lemmas.Option.{none-some, some_pair_parts, cond_some, same_Some}
-use Rattle.unixmodel.specs.Files.{Files, follow, lookup, pieces, split_last, with_last}
-use Rattle.unixmodel.specs.Image.{is_directory_at, is_name}
-use Rattle.unixmodel.specs.Manifest.{Thing, added, if_room, names_in, with_manifest_entry}
-use Rattle.unixmodel.specs.Manifest.Wrong.{Inodes, Parent, Twice}
-use Rattle.imagemake.specs.Begins.{IsSpot}
-use Rattle.imagemake.specs.Begun.{IsListed}
-use Rattle.imagemake.specs.Made.{MadeName, found, is_folder, reach, seek}
+use Rattle.imagemake.proofs.Common.{◌≡◌, ℕ, ◌<◌, ◌≤◌, Bool, true, false, cond, List, [], ◌∷◌, None, Option, Some, Err, drop, ap, sym, refl, ◌∙◌, is_some, ◌&&◌, ◌==◌, ◌++◌, list_all}
+use Rattle.imagemake.proofs.Common.{and_parts, false≢true, list_all-append, none-some, some_pair_parts, cond_some, same_Some, Files, follow, lookup, pieces, split_last, with_last}
+use Rattle.imagemake.proofs.Common.{is_directory_at, is_name, added, if_room, names_in, with_manifest_entry, Inodes, Parent, Twice, IsSpot, IsListed, MadeName, found, is_folder, reach, seek}
+use Rattle.unixmodel.specs.Manifest.{Thing}
 use Rattle.imagemake.proofs.MadeSearch.{follow-made}
 use Rattle.imagemake.proofs.MadeWrong.{entry-inodes, entry-nowhere, entry-parent, entry-room, entry-twice}
 use Rattle.imagemake.proofs.Pathing.{reach_some, split-pieces}

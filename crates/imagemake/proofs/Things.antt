@@ -1,10 +1,5 @@
 -- Which things make directories, and so links.
-use Rattle.std.proofs.Common.{◌≡◌, ℕ, false, refl, sym, true}
-use Rattle.std.proofs.lemmas.Bool.{false≢true}
-use Rattle.unixmodel.specs.Files.{Node, is_directory}
-use Rattle.unixmodel.specs.Manifest.{linked, node_for}
-use Rattle.unixmodel.specs.Manifest.Thing.{Folder}
-use Rattle.imagemake.specs.Making.{makes_directory, thing_of}
+use Rattle.imagemake.proofs.Common.{◌≡◌, ℕ, false, refl, sym, true, false≢true, Node, is_directory, linked, node_for, Folder, makes_directory, thing_of}
 use Rattle.imagemake.specs.declared.manifest.Thing.{Thing}
 use Rattle.imagemake.specs.declared.manifest.Thing.TheVariants.{Directory}
 

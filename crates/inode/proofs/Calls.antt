@@ -1,24 +1,12 @@
 -- What steps of a disk say of a volume's nodes.
-use Rattle.std.proofs.Common.{◌≡◌, ◌+◌, ◌<◌, ◌≤◌, ◌∙◌, ℕ, Bool, List, None, Option, Some, [], ap, arith, inl, inr, length, refl, set, subst, sym}
-use Rattle.std.specs.Prelude.{IsSome, false, take, unwrap_or}
-use Rattle.std.proofs.lemmas.Bool.{cases_eq, cases_lt}
-use Rattle.std.proofs.lemmas.List.{get_or-set_same, get_or_past, set-set, take_all}
-use Rattle.blockdev.specs.Splice.{splice}
+use Rattle.inode.proofs.Common.{◌≡◌, ◌+◌, ◌<◌, ◌≤◌, ◌∙◌, ℕ, Bool, List, None, Option, Some, [], ap, arith, inl, inr, length, refl, set, subst, sym, IsSome, false, take, unwrap_or, cases_eq, cases_lt, get_or-set_same, get_or_past}
+use Rattle.inode.proofs.Common.{set-set, take_all, splice, Disk, IsTold, Tells, TellsAny, node_in, IsReadInto, Changes, Store, IsFull, Writes, WritesFrom, WritesSome, no_node, raw_at, store_over, used_by, with_bytes, LacksAt}
+use Rattle.inode.proofs.Common.{Wrote, WritesAt, WritesFront, with_links, InodeStat, length-bytes_of, length-nodes_of, Geometry, IsInode, RawNode, bytes_of, free_blocks, inode_at, nodes_of, taken_for, IsSound, longest, slot}
 use Rattle.balloc.specs.Inodes.{IsUnused, SetsNode, TakesInode, TakesNode, fresh_node}
-use Rattle.cache.specs.Disk.{Disk}
 use Rattle.inode.proofs.Shown.{inode-some, raw-inode, slot-free, slot-inode, used-inode, whole-sound}
-use Rattle.inode.specs.Looking.{IsTold, Tells, TellsAny, node_in}
-use Rattle.inode.specs.Reading.{IsReadInto}
-use Rattle.inode.specs.Store.{Changes, Store, IsFull, TakesLowest, Writes, WritesFrom, WritesSome, no_node, raw_at, store_over, used_by, with_bytes}
-use Rattle.inode.specs.Writing.{LacksAt, Wrote, WritesAt, WritesFront, with_links}
+use Rattle.inode.specs.Store.{TakesLowest}
 use Rattle.inode.specs.declared.write.Outcome.{Outcome}
 use Rattle.inode.specs.declared.write.Outcome.TheVariants.{PastEnd, TooLong, Written}
-use Rattle.inode.specs.declared.InodeStat.{InodeStat}
-use Rattle.layout.proofs.Frame.{length-bytes_of, length-nodes_of}
-use Rattle.layout.specs.declared.Geometry.{Geometry}
-use Rattle.layout.specs.Image.{IsInode, RawNode, bytes_of, free_blocks, inode_at, nodes_of, taken_for}
-use Rattle.layout.specs.Sound.{IsSound}
-use Rattle.unixmodel.specs.Files.{longest, slot}
 
 -- ---- what is asked of a volume is so of its disk
 

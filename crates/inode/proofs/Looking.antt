@@ -1,11 +1,5 @@
 -- What the record of an inode tells.
-use Rattle.std.proofs.Common.{◌≡◌, ◌≢◌, ◌∙◌, ◌<◌, ℕ, List, ap, arith, sym}
-use Rattle.layout.specs.declared.DiskInode.{DiskInode}
-use Rattle.layout.specs.declared.Geometry.{Geometry}
-use Rattle.layout.specs.Image.{IsInode, inode_at}
-use Rattle.layout.specs.Sound.{IsSound}
-use Rattle.inode.specs.declared.InodeStat.{InodeStat}
-use Rattle.inode.specs.Looking.{IsTold, node_in, told}
+use Rattle.inode.proofs.Common.{◌≡◌, ◌≢◌, ◌∙◌, ◌<◌, ℕ, List, ap, arith, sym, DiskInode, Geometry, IsInode, inode_at, IsSound, InodeStat, IsTold, node_in, told}
 use Rattle.inode.proofs.Growing.{own_length}
 use Rattle.inode.proofs.Reading.{HasInode-read}
 

@@ -1,17 +1,9 @@
 -- What calls on a volume answer, by the steps of its disk.
-use Rattle.std.proofs.Common.{◌≡◌, ◌∙◌, ℕ, Bool, Err, List, Ok, Result, ap, arith, refl, subst, sym}
-use Rattle.std.specs.Prelude.{IfOk, OnOk, false, true}
+use Rattle.inode.proofs.Common.{◌≡◌, ◌∙◌, ℕ, Bool, Err, List, Ok, Result, ap, arith, refl, subst, sym, IfOk, OnOk, false, true, false≢true, rises-before, Disk, AsBefore}
+use Rattle.inode.proofs.Common.{Reads, Steps, Flushed, Follows, IsLaidOut, Looks, Serves, Store, Tries, has_failed, store_over, Geometry, free_blocks, nodes_of, IsSound}
 use Rattle.std.specs.Result.{IsErrAnd, is_err}
-use Rattle.std.proofs.lemmas.Bool.{false≢true}
 use Rattle.std.proofs.lemmas.Result.{err_from_is_err_and}
 use Rattle.blockdev.specs.declared.DeviceFault.{DeviceFault}
-use Rattle.cache.proofs.Ending.{rises-before}
-use Rattle.cache.specs.Disk.{Disk}
-use Rattle.cache.specs.Steps.{AsBefore, Reads, Steps}
-use Rattle.inode.specs.Store.{Flushed, Follows, IsLaidOut, Looks, Serves, Store, Tries, has_failed, store_over}
-use Rattle.layout.specs.declared.Geometry.{Geometry}
-use Rattle.layout.specs.Image.{free_blocks, nodes_of}
-use Rattle.layout.specs.Sound.{IsSound}
 
 -- ---- a step of the disk, of a volume that is up
 

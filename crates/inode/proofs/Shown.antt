@@ -1,16 +1,6 @@
 -- What a sound disk shows of its nodes.
-use Rattle.std.proofs.Common.{◌≡◌, ◌∙◌, ℕ, Bool, List, None, Option, Some, ap, arith, inl, inr, length, refl, subst}
-use Rattle.std.specs.Prelude.{IsSome, unwrap_or}
-use Rattle.std.proofs.lemmas.Bool.{cases_eq, cases_lt}
-use Rattle.std.proofs.lemmas.List.{get_or_past}
-use Rattle.cache.specs.Disk.{Disk}
-use Rattle.inode.specs.Looking.{node_in}
-use Rattle.inode.specs.Store.{IsNode, IsWhole, no_node, raw_at, store_over, used_by}
-use Rattle.layout.specs.declared.Geometry.{Geometry}
-use Rattle.layout.specs.Image.{IsInode, RawNode, bytes_of, inode_at, nodes_of, taken_for}
-use Rattle.layout.specs.Sound.{IsSound}
-use Rattle.layout.proofs.Frame.{get_or-nodes_of, length-bytes_of, length-nodes_of, node_at-none, node_at-some}
-use Rattle.unixmodel.specs.Files.{slot}
+use Rattle.inode.proofs.Common.{◌≡◌, ◌∙◌, ℕ, Bool, List, None, Option, Some, ap, arith, inl, inr, length, refl, subst, IsSome, unwrap_or, cases_eq, cases_lt, get_or_past, Disk, node_in, IsNode, IsWhole, no_node, raw_at}
+use Rattle.inode.proofs.Common.{store_over, used_by, Geometry, IsInode, RawNode, bytes_of, inode_at, nodes_of, taken_for, IsSound, get_or-nodes_of, length-bytes_of, length-nodes_of, node_at-none, node_at-some, slot}
 
 module _ (blocks : List (List ℕ)) (inodes n : ℕ) where
   -- an inode in use is a node

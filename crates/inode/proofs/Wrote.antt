@@ -1,20 +1,7 @@
 -- Writes that follow one another, and the record that ends a step.
-use Rattle.std.specs.Prelude.{◌≡◌, ℕ, ◌+◌, ◌*◌, ◌/◌, ◌%◌, ◌<◌, List, length, get_or, None, Some}
-use Rattle.std.proofs.Common.{set, ap, sym, ◌∙◌, arith, refl, subst}
-use Rattle.std.proofs.lemmas.List.{set-get_or, set-set}
-use Rattle.blockdev.specs.Splice.{part}
-use Rattle.layout.specs.Super.{bitmap_start_of}
-use Rattle.layout.specs.declared.DiskInode.{DiskInode}
-use Rattle.layout.specs.declared.Geometry.{Geometry}
-use Rattle.layout.specs.Image.{IsInode, RawNode, bit_in, bytes_of, free_blocks, inode_at, node_with, nodes_of, taken_for}
-use Rattle.layout.specs.Sound.{IsSound}
-use Rattle.layout.proofs.Frame.{IsSound-replace, get_or-nodes_of, length-bytes_of, node_at-some, nodes_of-changed}
-use Rattle.layout.specs.Inode.{inode_of}
-use Rattle.layout.specs.Grow.{Grows, WritesInode}
-use Rattle.layout.proofs.GrowLemmas.{Grows-bytes, Grows-keeps, Grows-node, Grows-sound}
-use Rattle.balloc.proofs.Counting.{free_blocks-same}
-use Rattle.inode.specs.OnDisk.{HasInode-of, IsInHand, IsInHand-of}
-use Rattle.inode.specs.Writing.{IsSameNode, Prepares, Puts, Wrote}
+use Rattle.inode.proofs.Common.{◌≡◌, ℕ, ◌+◌, ◌*◌, ◌/◌, ◌%◌, ◌<◌, List, length, get_or, None, Some, set, ap, sym, ◌∙◌, arith, refl, subst, set-get_or, set-set, part, bitmap_start_of, DiskInode, Geometry, IsInode}
+use Rattle.inode.proofs.Common.{RawNode, bit_in, bytes_of, free_blocks, inode_at, node_with, nodes_of, taken_for, IsSound, IsSound-replace, get_or-nodes_of, length-bytes_of, node_at-some, nodes_of-changed}
+use Rattle.inode.proofs.Common.{inode_of, Grows, WritesInode, Grows-bytes, Grows-keeps, Grows-node, Grows-sound, free_blocks-same, HasInode-of, IsInHand, IsInHand-of, IsSameNode, Prepares, Puts, Wrote}
 
 -- the same node has the same fields
 pub same_node : {k k' a a' i i' l l' : ℕ} {b b' : List ℕ} → k ≡ k' → a ≡ a' → i ≡ i' → l ≡ l' → b ≡ b'

@@ -1,31 +1,19 @@
 -- What the calls of a volume make of the files that it holds.
-use Rattle.std.proofs.Common.{◌≡◌, ◌≢◌, ◌+◌, ◌*◌, ◌/◌, ◌-◌, ◌<◌, ◌≤◌, ◌∙◌, ◌++◌, ℕ, Bool, List, None, Option, Some, ap, arith, inl, inr, length, refl, subst, suc, sym, zero}
-use Rattle.std.specs.Prelude.{All, drop, false, flat_map, is_none, min, nat_le, option_map, take}
-use Rattle.std.proofs.lemmas.Bool.{cases_lt, le-leb, lt-leb}
+use Rattle.tree.proofs.Common.{◌≡◌, ◌≢◌, ◌+◌, ◌*◌, ◌/◌, ◌-◌, ◌<◌, ◌≤◌, ◌∙◌, ◌++◌, ℕ, Bool, List, None, Option, Some, ap, arith, inl, inr, length, refl, subst, suc, sym, zero, All, drop, false, flat_map, is_none}
+use Rattle.tree.proofs.Common.{min, nat_le, option_map, take, cases_lt, le-leb, lt-leb, get_or-drop, get_or_past, length-append, length-drop, length-take-le, part, splice, Changes, IsFull, IsLowestFree, Store}
+use Rattle.tree.proofs.Common.{Writes, raw_at, InodeStat, RawNode, index_for, taken_for, length-spelling, PlaceFits, fresh, Rewrites, Agrees, FitsPlaces, IsFileSystem, IsRaw, Stores, files_of, Tells, TellsAny}
+use Rattle.tree.proofs.Common.{TellsMajor, FileTree, tree_with, IsFile, blocks_of, Files, Node, change_node, clear, free_number, node_bytes, place_bytes, put, size_of, slot, with_links, Directory, File}
 use Rattle.std.proofs.lemmas.Bool.Decides.{nat_tests}
-use Rattle.std.proofs.lemmas.List.{get_or-drop, get_or_past, length-append, length-drop, length-take-le}
 use Rattle.balloc.specs.Inodes.{fresh_node}
-use Rattle.blockdev.specs.Splice.{part, splice}
 use Rattle.inode.specs.Reading.{IsReadInto}
 use Rattle.inode.specs.Looking.{IsTold}
 use Rattle.inode.specs.Looking as looking
-use Rattle.inode.specs.Store.{Changes, IsFull, IsLowestFree, Store, Writes, raw_at, with_bytes}
+use Rattle.inode.specs.Store.{with_bytes}
 use Rattle.inode.specs.Writing as writing
-use Rattle.inode.specs.declared.InodeStat.{InodeStat}
-use Rattle.layout.specs.Image.{RawNode, index_for, taken_for}
-use Rattle.imagerules.proofs.Spelling.{length-spelling}
-use Rattle.imagerules.specs.Places.{PlaceFits}
-use Rattle.tree.specs.Entering.{fresh}
-use Rattle.tree.specs.Steps.{Rewrites}
-use Rattle.tree.specs.Stored.{Agrees, FitsPlaces, IsFileSystem, IsRaw, Stores, files_of}
-use Rattle.tree.specs.Telling.{Tells, TellsAny, TellsMajor}
-use Rattle.tree.specs.Tree.{FileTree, tree_with}
-use Rattle.tree.specs.Written.{IsFile}
 use Rattle.tree.proofs.Reading.{position-at, position-none}
 use Rattle.tree.proofs.Storing.{Stores-set, blocks_of-set, change-is, held-fits, held-raw, held-size, length-held, raw-some, slot-within, some-node, taken_by, whole-node}
-use Rattle.unixmodel.specs.Counts.{blocks_of}
-use Rattle.unixmodel.specs.Files.{Entry, Files, Node, change_node, clear, free_number, node_bytes, place_bytes, put, size_of, slot, with_links}
-use Rattle.unixmodel.specs.Files.Node.{Device, Directory, File}
+use Rattle.unixmodel.specs.Files.{Entry}
+use Rattle.unixmodel.specs.Files.Node.{Device}
 
 pub taken-grows : (a b : ℕ) → a ≤ b → taken_for a ≤ taken_for b
 taken-grows a b h = go ((a + 1023) / 1024) ((b + 1023) / 1024) (omega arith) where

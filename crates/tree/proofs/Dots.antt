@@ -1,18 +1,10 @@
 -- The first two entries of a new directory.
-use Rattle.std.proofs.Common.{◌≡◌, ◌≢◌, ℕ, ◌<◌, ◌≤◌, [], ◌∷◌, None, Some, ap, sym, refl, ◌∙◌, ◌+◌, arith, inl, inr}
-use Rattle.std.proofs.lemmas.List.{get_or-set_other, get_or-set_same, set-set}
-use Rattle.std.proofs.lemmas.List.Elements.{All-cons, All-nil}
-use Rattle.std.proofs.lemmas.Bool.{cases_eq}
-use Rattle.std.proofs.lemmas.Option.{none-some, same_Some}
-use Rattle.tree.specs.Entering.{HasRoom, entered, growth, room_in}
-use Rattle.imagerules.specs.Places.{IsPlain}
-use Rattle.unixmodel.specs.Files.{Entry, Files, dot, dot_dot, put, slot}
-use Rattle.unixmodel.specs.Files.Node.{Directory}
-use Rattle.unixmodel.specs.NameCalls.{new_directory}
+use Rattle.tree.proofs.Common.{◌≡◌, ◌≢◌, ℕ, ◌<◌, ◌≤◌, [], ◌∷◌, None, Some, ap, sym, refl, ◌∙◌, ◌+◌, arith, inl, inr, get_or-set_other, get_or-set_same, set-set, All-cons, All-nil}
+use Rattle.tree.proofs.Common.{cases_eq, none-some, same_Some, HasRoom, entered, growth, room_in, IsPlain, Files, dot, dot_dot, put, slot, Directory, new_directory, blocks_of}
+use Rattle.unixmodel.specs.Files.{Entry}
 use Rattle.tree.proofs.Leaves.{places-of}
 use Rattle.tree.proofs.Rooms.{blocks_of-entered, entered-is}
 use Rattle.tree.proofs.Storing.{slot-within}
-use Rattle.unixmodel.specs.Counts.{blocks_of}
 
 -- ---- what they are
 

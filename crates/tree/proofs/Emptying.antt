@@ -1,12 +1,5 @@
 -- A file loses its bytes.
-use Rattle.std.proofs.Common.{◌≡◌, ◌≢◌, ℕ, Some, refl, sym, arith}
-use Rattle.inode.specs.declared.InodeStat.{InodeStat}
-use Rattle.names.proofs.Quiet.{emptied-is}
-use Rattle.tree.specs.Telling.{Tells}
-use Rattle.tree.specs.Written.{IsFile}
-use Rattle.unixmodel.specs.Files.{Files, Node, change_node, slot}
-use Rattle.unixmodel.specs.Files.Node.{File}
-use Rattle.unixmodel.specs.NameCalls.{emptied}
+use Rattle.tree.proofs.Common.{◌≡◌, ◌≢◌, ℕ, Some, refl, sym, arith, InodeStat, emptied-is, Tells, IsFile, Files, Node, change_node, slot, File, emptied}
 
 module _ (files : Files) (n : ℕ) (node : Node) (here : slot files n ≡ Some node) (s : InodeStat) (told : Tells s node) where
   pub emptied-other : s.kind ≢ 2 → files ≡ change_node files n emptied

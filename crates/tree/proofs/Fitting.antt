@@ -1,25 +1,14 @@
 -- Bytes are written into a file, as many as there are blocks for.
-use Rattle.std.proofs.Common.{◌≡◌, ℕ, ◌+◌, ◌<◌, ◌≤◌, Bool, Err, List, None, Ok, Option, Result, Some, length, take, drop, ap, sym, refl, ◌∙◌, ◌++◌, arith, subst, zero, suc, true, false, inl, inr}
-use Rattle.std.specs.Prelude.{nat_le, ◌&&◌}
-use Rattle.std.proofs.lemmas.Bool.{and_from, and_left, and_right, cases_eq, cond-false, cond-true, false≢true, le-leb, lt-leb}
-use Rattle.std.proofs.lemmas.List.{append_assoc, length-append, length-take-le, take_all}
-use Rattle.blockdev.specs.Splice.{splice}
-use Rattle.inode.specs.Store.{Changes, Keeps, LacksWriting, Store, Writes, has_failed, is_device, raw_at, with_bytes}
+use Rattle.tree.proofs.Common.{◌≡◌, ℕ, ◌+◌, ◌<◌, ◌≤◌, Bool, Err, List, None, Ok, Option, Result, Some, length, take, drop, ap, sym, refl, ◌∙◌, ◌++◌, arith, subst, zero, suc, true, false, inl, inr, nat_le, ◌&&◌, and_from, and_left}
+use Rattle.tree.proofs.Common.{and_right, cases_eq, cond-false, cond-true, false≢true, le-leb, lt-leb, append_assoc, length-append, length-take-le, take_all, splice, Changes, Keeps, LacksWriting, Store, Writes, raw_at, InodeFault}
+use Rattle.tree.proofs.Common.{PastEnd, TooLong, Geometry, IsFileSystem, Stores, files_of, tree_with, IsFile, Written, count_of, files_after, fitting, write_to, written, blocks_of, Files, longest, slot, File, data_blocks_of, overwrite}
+use Rattle.inode.specs.Store.{has_failed, is_device, with_bytes}
 use Rattle.inode.specs.Store as inode
-use Rattle.inode.specs.declared.InodeFault.{InodeFault}
-use Rattle.inode.specs.declared.InodeFault.TheVariants.{Blocks, Device, PastEnd, TooLong}
+use Rattle.inode.specs.declared.InodeFault.TheVariants.{Blocks, Device}
 use Rattle.inode.specs.Writing.{LacksAt}
-use Rattle.layout.specs.declared.Geometry.{Geometry}
-use Rattle.tree.specs.Stored.{IsFileSystem, Stores, files_of}
-use Rattle.tree.specs.Tree.{Serves, tree_with}
-use Rattle.tree.specs.Written.{IsFile, Written, count_of, files_after, fitting, write_to, written}
+use Rattle.tree.specs.Tree.{Serves}
 use Rattle.tree.specs.Written as tree
-use Rattle.unixmodel.specs.Counts.{blocks_of}
 use Rattle.unixmodel.specs.FileCalls.{greatest, with_file}
-use Rattle.unixmodel.specs.Files.{Files, longest, slot}
-use Rattle.unixmodel.specs.Files.Node.{File}
-use Rattle.unixmodel.specs.Manifest.{data_blocks_of}
-use Rattle.unixmodel.specs.Memory.{overwrite}
 use Rattle.tree.proofs.Bridging.{file-stores, taken-grows}
 use Rattle.tree.proofs.Serving.{kept-stores, turned-files}
 use Rattle.tree.proofs.Storing.{blocks_of-set, held-again, held-raw, slot-within, taken_by}

@@ -1,21 +1,12 @@
 -- A new directory: why it is refused, and what the disk holds.
-use Rattle.std.proofs.Common.{◌≡◌, ◌≢◌, ℕ, ◌+◌, ◌<◌, ◌≤◌, Bool, List, [], None, Option, Some, ap, sym, refl, ◌∙◌, arith, cond, true, false, suc}
-use Rattle.std.specs.Prelude.{All, IsSome, is_none, option_and_then, option_map, ◌&&◌}
-use Rattle.std.proofs.lemmas.Bool.{and_from, and_left, and_right, cond-false, cond-true, le-ltb, lt-ltb}
-use Rattle.std.proofs.lemmas.List.{get_or-set_same, set-set}
-use Rattle.std.proofs.lemmas.Option.{none-some, same_Some}
-use Rattle.tree.specs.declared.TreeFault.{TreeFault}
-use Rattle.tree.specs.declared.TreeFault.TheVariants.{Blocks, DeadDir, Exists, Full, NotDir, NotFound}
+use Rattle.tree.proofs.Common.{◌≡◌, ◌≢◌, ℕ, ◌+◌, ◌<◌, ◌≤◌, Bool, List, [], None, Option, Some, ap, sym, refl, ◌∙◌, arith, cond, true, false, suc, All, IsSome, is_none, option_and_then, option_map, ◌&&◌}
+use Rattle.tree.proofs.Common.{and_from, and_left, and_right, cond-false, cond-true, le-ltb, lt-ltb, get_or-set_same, set-set, none-some, same_Some, TreeFault, DeadDir, Exists, Full, NotDir, NotFound, Overflows}
+use Rattle.tree.proofs.Common.{HasGap, LacksBlocks, entered, folder_in, growth, placed, room_in, LacksFolder, LacksGap, blocks_of, Files, Node, Spot, change_node, free_number, links_of, live_places, lookup}
+use Rattle.tree.proofs.Common.{most_links, put, slot, spot_of, Directory, Made, has_room_for_link, is_free_name, made_below, made_directory, make_at, more_links, new_directory, IsFree, free-number, FileTree}
+use Rattle.tree.specs.declared.TreeFault.TheVariants.{Blocks}
 use Rattle.tree.specs.declared.TreeFault.TheVariants as fault
-use Rattle.tree.specs.Answers.{Overflows}
-use Rattle.tree.specs.Entering.{HasGap, LacksBlocks, entered, folder_in, growth, placed, room_in}
-use Rattle.tree.specs.Lacking.{LacksFolder, LacksGap}
-use Rattle.unixmodel.specs.Counts.{blocks_of}
-use Rattle.unixmodel.specs.Files.{Entry, Files, Node, Spot, change_node, free_number, links_of, live_places, lookup, most_links, put, slot, spot_of}
-use Rattle.unixmodel.specs.Files.Node.{Directory}
-use Rattle.unixmodel.specs.NameCalls.{Made, has_room_for_link, is_free_name, made_below, made_directory, make_at, more_links, new_directory}
+use Rattle.unixmodel.specs.Files.{Entry}
 use Rattle.tree.proofs.Gaps.{lacks-dead, lacks-other, over-lacks, overflow-none, spot-directory}
-use Rattle.names.proofs.Finding.{IsFree, free-number}
 use Rattle.tree.proofs.Leaves.{AsksEntry, comes-some, entry-asked}
 use Rattle.tree.proofs.Linking.{more-blocks}
 use Rattle.tree.proofs.Looking.{IsLiveAt}
@@ -23,7 +14,6 @@ use Rattle.tree.proofs.Rooms.{blocks_of-entered, cond-none, entered-is, none-not
 use Rattle.tree.proofs.Spots.{spot-none}
 use Rattle.tree.proofs.Storing.{blocks_of-set, slot-within, taken_by}
 use Rattle.tree.proofs.Following.{IsNow}
-use Rattle.tree.specs.Tree.{FileTree}
 use Rattle.tree.proofs.Taking.{fresh-blocks, make-done, make-full, make-unnumbered, still-here}
 
 module _ (files : Files) (d : ℕ) (path : List ℕ) where

@@ -1,16 +1,8 @@
 -- Steps of a call on files, one after the other, and how the call ends.
-use Rattle.std.proofs.Common.{◌≡◌, ◌≢◌, ◌≤◌, ◌∙◌, ℕ, Err, List, Ok, Result, ap, arith, false, refl, subst, sym, true}
-use Rattle.std.specs.Prelude.{IfOk, IsSome, None, OnErr, Option, Some}
-use Rattle.std.specs.Result.{IsErrAnd, is_err}
-use Rattle.std.proofs.lemmas.Bool.{false≢true}
-use Rattle.std.proofs.lemmas.Result.{err_from_is_err_and}
-use Rattle.blockdev.specs.declared.DeviceFault.{DeviceFault}
-use Rattle.cache.proofs.Ending.{rises-before}
-use Rattle.tree.specs.Steps.{IsFolder, Reads, Tries, Turns}
-use Rattle.tree.specs.Tree.{Acts, FileTree, is_device}
-use Rattle.tree.specs.declared.TreeFault.{TreeFault}
+use Rattle.tree.proofs.Common.{◌≡◌, ◌≢◌, ◌≤◌, ◌∙◌, ℕ, Err, List, Ok, Result, ap, arith, false, refl, subst, sym, true, IfOk, IsSome, None, OnErr, Option, Some, IsErrAnd, is_err}
+use Rattle.tree.proofs.Common.{false≢true, err_from_is_err_and, DeviceFault, rises-before, IsFolder, Reads, Tries, Turns, Acts, FileTree, TreeFault, Files, Node, lookup, slot}
+use Rattle.tree.specs.Tree.{is_device}
 use Rattle.tree.specs.declared.TreeFault.TheVariants.{Device}
-use Rattle.unixmodel.specs.Files.{Files, Node, lookup, slot}
 
 -- behind steps that were good: these are the files, and all else is as it was
 pub record IsNow (old now : FileTree) (files : Files) : Type 0 where

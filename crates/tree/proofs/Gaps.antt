@@ -1,20 +1,11 @@
 -- A new name: where it is to stand, and what becomes of the files.
-use Rattle.std.proofs.Common.{◌≡◌, ℕ, ◌+◌, ◌≤◌, Bool, List, None, Option, Some, ap, sym, refl, ◌∙◌, arith, subst, cond, true, false, suc}
-use Rattle.std.specs.Prelude.{IsSome, is_none, is_some, nat_le, option_and_then}
-use Rattle.std.proofs.lemmas.Bool.{false≢true, leb-false, leb-true}
-use Rattle.std.proofs.lemmas.Option.{none-some, same_Some}
-use Rattle.tree.specs.Answers.{Overflows}
-use Rattle.tree.specs.Entering.{HasGap, HasRoom, IsFullAt, LacksBlocks, entered, growth, made_files, made_in, room_in}
-use Rattle.tree.specs.Steps.{IsFolder}
-use Rattle.tree.specs.Paths.{IsDead, IsNoDirectory, above}
-use Rattle.unixmodel.specs.Counts.{blocks_of}
-use Rattle.unixmodel.specs.Files.{Entry, Files, Node, Spot, free_number, is_directory, live_places, live_spot, lookup, places_at, put, size_of, slot, spot_of}
-use Rattle.unixmodel.specs.Files.Node.{Directory}
-use Rattle.unixmodel.specs.NameCalls.{make_at, made_at}
+use Rattle.tree.proofs.Common.{◌≡◌, ℕ, ◌+◌, ◌≤◌, Bool, List, None, Option, Some, ap, sym, refl, ◌∙◌, arith, subst, cond, true, false, suc, IsSome, is_none, is_some, nat_le, option_and_then, false≢true}
+use Rattle.tree.proofs.Common.{leb-false, leb-true, none-some, same_Some, Overflows, HasGap, HasRoom, IsFullAt, LacksBlocks, entered, growth, made_files, made_in, room_in, IsFolder, IsDead, IsNoDirectory}
+use Rattle.tree.proofs.Common.{above, blocks_of, Files, Node, Spot, free_number, is_directory, live_places, live_spot, lookup, places_at, put, size_of, slot, spot_of, Directory, make_at, made_at, free-number}
+use Rattle.unixmodel.specs.Files.{Entry}
 use Rattle.tree.proofs.Looking.{IsLiveAt}
 use Rattle.tree.proofs.Parts.{spot-above}
 use Rattle.tree.proofs.Rooms.{blocks_of-entered, cond-none, none-not}
-use Rattle.names.proofs.Finding.{free-number}
 use Rattle.tree.proofs.Taking.{fresh-blocks, make-done, make-full, make-unnumbered, still-here}
 
 -- ---- the directory of a spot

@@ -1,30 +1,16 @@
 -- What calls on a file system make of its files keeps the rules of names, and which nodes they leave without links.
-use Rattle.std.proofs.Common.{◌≡◌, ◌≢◌, ℕ, ◌+◌, Bool, List, None, Option, Some, cond, get_or, length, ap, sym, refl, ◌∙◌, arith, subst, true, false}
-use Rattle.std.specs.Prelude.{All, Err, IfErr, IfOk, IsSome, Ok, Result, nat_le, nat_lt, option_and_then, option_map, ◌&&◌, ◌||◌}
-use Rattle.std.proofs.lemmas.Bool.{and_parts, false≢true, leb-false, leb-true, or_parts}
-use Rattle.std.proofs.lemmas.Option.{none-some, option_and_then_some, same_Some}
+use Rattle.tree.proofs.Common.{◌≡◌, ◌≢◌, ℕ, ◌+◌, Bool, List, None, Option, Some, cond, get_or, length, ap, sym, refl, ◌∙◌, arith, subst, true, false, All, Err, IfErr, IfOk, IsSome, Ok, Result, nat_le, nat_lt}
+use Rattle.tree.proofs.Common.{option_and_then, option_map, ◌&&◌, ◌||◌, and_parts, false≢true, leb-false, leb-true, or_parts, none-some, option_and_then_some, same_Some, KeepsTree, lookup-used, changed-same}
+use Rattle.tree.proofs.Common.{releases, writes-over, IsSettled, is_held, loses-reaped, spot-parts, folder_in, linked_in, made_in, let_go, stays, leaf_node, Leaf, TreeFault, Acts, FileTree, IsRefusal, unlinked_in}
+use Rattle.tree.proofs.Common.{IsFile, files_after, fitting, write_to, written, Files, Node, Spot, clear, find, links_of, longest, lookup, slot, spot_of, Made, linked, made_at, made_directory, unlinked, kept}
 use Rattle.names.specs.Changes.{Changed, Loses, shape}
-use Rattle.names.specs.Rules.{KeepsTree}
 use Rattle.names.proofs.Kept.{keeps-linked, keeps-made, keeps-made-directory}
 use Rattle.names.proofs.Making.{IsNewFile}
-use Rattle.names.proofs.Naming.{lookup-used}
-use Rattle.names.proofs.Quiet.{changed-same, releases, writes-over}
-use Rattle.names.proofs.Reaped.{IsSettled, is_held, loses-reaped}
-use Rattle.names.proofs.Spots.{spot-parts}
 use Rattle.names.proofs.Unlinking.{keeps-unlinked}
-use Rattle.tree.specs.Entering.{folder_in, linked_in, made_in}
-use Rattle.tree.specs.Holding.{let_go, stays}
-use Rattle.tree.specs.Leaves.{leaf_node}
-use Rattle.tree.specs.declared.making.Leaf.{Leaf}
 use Rattle.tree.specs.declared.making.Leaf.TheVariants as leaf
-use Rattle.tree.specs.declared.TreeFault.{TreeFault}
 use Rattle.tree.specs.declared.TreeFault.TheVariants.{Device}
-use Rattle.tree.specs.Tree.{Acts, FileTree, IsRefusal, has_failed, is_device}
-use Rattle.tree.specs.Unlinks.{unlinked_in}
-use Rattle.tree.specs.Written.{IsFile, files_after, fitting, with_bytes, write_to, written}
-use Rattle.unixmodel.specs.Files.{Files, Node, Spot, clear, find, links_of, longest, lookup, slot, spot_of}
-use Rattle.unixmodel.specs.NameCalls.{Made, linked, made_at, made_directory, unlinked}
-use Rattle.unixmodel.specs.Reap.{kept}
+use Rattle.tree.specs.Tree.{has_failed, is_device}
+use Rattle.tree.specs.Written.{with_bytes}
 
 leaf-new : (l : Leaf) → IsNewFile (leaf_node l)
 leaf-new leaf.File = record { kind = refl; links = refl; size = omega arith }

@@ -1,31 +1,15 @@
 -- A new file or device: why it is refused, and what the disk holds.
-use Rattle.std.proofs.Common.{subst, ◌≡◌, ◌≢◌, ℕ, ◌+◌, ◌<◌, ◌≤◌, List, [], ◌∷◌, Option, Some, length, ap, sym, refl, ◌∙◌, arith, true, suc, not, None}
-use Rattle.std.specs.Prelude.{All, nat_le, ◌&&◌, ◌==◌}
-use Rattle.std.specs.List.{list_all}
-use Rattle.std.proofs.lemmas.Bool.{and_parts, eq-eqb, false≢true, leb-true}
-use Rattle.std.proofs.lemmas.List.Elements.{All-cons, All-nil}
-use Rattle.std.proofs.lemmas.List.{get_or-set_same}
-use Rattle.std.proofs.lemmas.Option.{none-some, same_Some}
-use Rattle.names.proofs.Spots.{is_part, is_plain, spot-parts}
-use Rattle.tree.specs.declared.making.Leaf.{Leaf}
+use Rattle.tree.proofs.Common.{subst, ◌≡◌, ◌≢◌, ℕ, ◌+◌, ◌<◌, ◌≤◌, List, [], ◌∷◌, Option, Some, length, ap, sym, refl, ◌∙◌, arith, true, suc, not, None, All, nat_le, ◌&&◌, ◌==◌, list_all, and_parts, eq-eqb}
+use Rattle.tree.proofs.Common.{false≢true, leb-true, All-cons, All-nil, get_or-set_same, none-some, same_Some, is_part, is_plain, spot-parts, Leaf, TreeFault, DeadDir, Exists, Full, NotDir, NotFound, Overflows}
+use Rattle.tree.proofs.Common.{HasGap, HasRoom, growth, made_files, made_in, IsPlain, LacksGap, LacksMaking, leaf_node, blocks_of, Files, Node, Spot, free_number, put, size_of, slot, Directory, FileTree, free-number}
 use Rattle.tree.specs.declared.making.Leaf.TheVariants as leaf
-use Rattle.tree.specs.declared.TreeFault.{TreeFault}
-use Rattle.tree.specs.declared.TreeFault.TheVariants.{Blocks, DeadDir, Exists, Full, NotDir, NotFound}
+use Rattle.tree.specs.declared.TreeFault.TheVariants.{Blocks}
 use Rattle.tree.specs.declared.TreeFault.TheVariants as fault
-use Rattle.tree.specs.Answers.{Overflows}
-use Rattle.tree.specs.Entering.{HasGap, HasRoom, growth, made_files, made_in}
-use Rattle.imagerules.specs.Places.{IsPlain}
-use Rattle.tree.specs.Lacking.{LacksGap, LacksMaking}
-use Rattle.tree.specs.Leaves.{leaf_node}
-use Rattle.unixmodel.specs.Counts.{blocks_of}
-use Rattle.unixmodel.specs.Files.{Entry, Files, Node, Spot, free_number, put, size_of, slot}
-use Rattle.unixmodel.specs.Files.Node.{Directory}
+use Rattle.unixmodel.specs.Files.{Entry}
 use Rattle.tree.proofs.Gaps.{lacks-dead, lacks-other, made-full, made-nowhere, made-there, over-blocks, overflow-none}
 use Rattle.tree.proofs.Following.{IsNow}
 use Rattle.tree.proofs.Spots.{spot-none}
 use Rattle.tree.proofs.Turning.{at-now}
-use Rattle.tree.specs.Tree.{FileTree}
-use Rattle.names.proofs.Finding.{free-number}
 use Rattle.tree.proofs.Taking.{fresh-blocks, still-here}
 
 pub leaf-empty : (l : Leaf) → size_of (leaf_node l) ≡ 0

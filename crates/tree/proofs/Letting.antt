@@ -1,14 +1,7 @@
 -- A node goes, unless it has a link or somebody holds it.
-use Rattle.std.proofs.Common.{◌≡◌, ◌≢◌, ℕ, ◌≤◌, List, None, Option, Result, Some, cond, get_or, ap, sym, subst, refl, ◌∙◌, true}
-use Rattle.std.specs.Prelude.{nat_lt, ◌||◌}
-use Rattle.std.proofs.lemmas.Bool.{cond-false, cond-true, lt-ltb, or_from, or_left, or_right}
-use Rattle.names.proofs.Reaped.{is_held, kept-but}
-use Rattle.blockdev.specs.declared.DeviceFault.{DeviceFault}
-use Rattle.tree.specs.Holding.{let_go, stays}
-use Rattle.tree.specs.Steps.{Turns}
-use Rattle.tree.specs.Tree.{FileTree, Serves}
-use Rattle.unixmodel.specs.Files.{Files, Node, clear, links_of, slot}
-use Rattle.unixmodel.specs.Reap.{kept}
+use Rattle.tree.proofs.Common.{◌≡◌, ◌≢◌, ℕ, ◌≤◌, List, None, Option, Result, Some, cond, get_or, ap, sym, subst, refl, ◌∙◌, true, nat_lt, ◌||◌, cond-false, cond-true}
+use Rattle.tree.proofs.Common.{lt-ltb, or_from, or_left, or_right, is_held, kept-but, DeviceFault, let_go, stays, Turns, FileTree, Files, Node, clear, links_of, slot, kept}
+use Rattle.tree.specs.Tree.{Serves}
 
 -- who held the node lets go of it first
 pub let-go-serves : {old mid new : FileTree} {hs : List ℕ} (n : ℕ) {T : Type 0} {r : Result T DeviceFault} → mid ≡ record old { holds = hs } → Turns mid new r (let_go mid.holds mid.files n)

@@ -1,3 +1,4 @@
+mod Common
 pub mod Storing
 pub mod Reading
 pub mod Erasing

@@ -1,9 +1,5 @@
 -- The number of links of a node is another.
-use Rattle.std.proofs.Common.{◌+◌, ◌≡◌, ℕ, Some, ap, sym, refl, ◌∙◌, arith}
-use Rattle.unixmodel.specs.Counts.{blocks_of}
-use Rattle.unixmodel.specs.NameCalls.{more_links}
-use Rattle.unixmodel.specs.Files.{Files, Node, links_of, blocks_for, change_node, put, size_of, slot, with_links}
-use Rattle.unixmodel.specs.Files.Node.{File}
+use Rattle.tree.proofs.Common.{◌+◌, ◌≡◌, ℕ, Some, ap, sym, refl, ◌∙◌, arith, blocks_of, more_links, Files, Node, links_of, blocks_for, change_node, put, size_of, slot, with_links, File}
 use Rattle.tree.proofs.Storing.{blocks_of-set, change-is, slot-within, taken_by}
 
 links-size : (node : Node) (k : ℕ) → size_of (with_links node k) ≡ size_of node

@@ -1,33 +1,20 @@
 -- Another name: why it is refused, and what the disk holds.
-use Rattle.std.proofs.Common.{◌≡◌, ◌≢◌, ℕ, ◌+◌, ◌<◌, ◌≤◌, Bool, List, None, Option, Some, ap, sym, refl, ◌∙◌, arith, cond, true, false, suc, not, inr}
-use Rattle.std.specs.Prelude.{All, IsSome, is_none, is_some, option_and_then, ◌&&◌}
-use Rattle.std.proofs.lemmas.Bool.{eq-eqb, false≢true, le-ltb, lt-ltb, ne_eqb}
-use Rattle.std.proofs.lemmas.List.{get_or-set_other}
-use Rattle.std.proofs.lemmas.Option.{none-some, same_Some}
-use Rattle.tree.specs.declared.TreeFault.{TreeFault}
-use Rattle.tree.specs.declared.TreeFault.TheVariants.{Blocks, DeadDir, Exists, Full, NotDir, NotFound}
+use Rattle.tree.proofs.Common.{◌≡◌, ◌≢◌, ℕ, ◌+◌, ◌<◌, ◌≤◌, Bool, List, None, Option, Some, ap, sym, refl, ◌∙◌, arith, cond, true, false, suc, not, inr, All, IsSome, is_none, is_some, option_and_then, ◌&&◌}
+use Rattle.tree.proofs.Common.{eq-eqb, false≢true, le-ltb, lt-ltb, ne_eqb, get_or-set_other, none-some, same_Some, TreeFault, DeadDir, Exists, Full, NotDir, NotFound, Overflows, HasGap, LacksBlocks, Reaches}
+use Rattle.tree.proofs.Common.{entered, growth, linked_in, room_in, LacksGap, LacksLinking, blocks_of, Files, Node, Spot, change_node, enter, find, is_directory, kind_of, links_of, live_places, lookup}
+use Rattle.tree.proofs.Common.{most_links, places_at, put, slot, spot_of, with_links, Directory, has_room_for_link, is_free_name, linked, linked_node, more_links, find-used, KeepsTree, Tells, FileTree, InodeStat}
+use Rattle.tree.specs.declared.TreeFault.TheVariants.{Blocks}
 use Rattle.tree.specs.declared.TreeFault.TheVariants as fault
-use Rattle.tree.specs.Answers.{Overflows}
-use Rattle.tree.specs.Entering.{HasGap, LacksBlocks, Reaches, entered, growth, linked_in, room_in}
-use Rattle.tree.specs.Lacking.{LacksGap, LacksLinking}
-use Rattle.unixmodel.specs.Counts.{blocks_of}
-use Rattle.unixmodel.specs.Files.{Entry, Files, Node, Spot, change_node, enter, find, is_directory, kind_of, links_of, live_places, lookup, most_links, places_at, put, slot, spot_of, with_links}
-use Rattle.unixmodel.specs.Files.Node.{Directory}
-use Rattle.unixmodel.specs.NameCalls.{has_room_for_link, is_free_name, linked, linked_node, more_links}
+use Rattle.unixmodel.specs.Files.{Entry}
 use Rattle.tree.proofs.Gaps.{lacks-dead, lacks-other, over-lacks, overflow-none, spot-directory}
 use Rattle.tree.proofs.Leaves.{AsksEntry, entry-asked}
 use Rattle.tree.proofs.Linking.{more-blocks}
 use Rattle.tree.proofs.Looking.{IsLiveAt}
 use Rattle.tree.proofs.Rooms.{blocks_of-entered, cond-none, enter-full, enter-room, none-not}
 use Rattle.tree.proofs.Spots.{spot-none}
-use Rattle.names.proofs.Naming.{find-used}
-use Rattle.names.specs.Rules.{KeepsTree}
 use Rattle.tree.proofs.Storing.{change-is, node-of}
 use Rattle.tree.proofs.Following.{IsNow}
 use Rattle.tree.proofs.Unlinking.{stays-node}
-use Rattle.tree.specs.Telling.{Tells}
-use Rattle.tree.specs.Tree.{FileTree}
-use Rattle.inode.specs.declared.InodeStat.{InodeStat}
 
 module _ (files : Files) (d : ℕ) (old new : List ℕ) where
   pub linked-nothing : find files d old ≡ None → linked_in files d old new ≡ None

@@ -1,14 +1,7 @@
 -- A name is looked up in a node.
-use Rattle.std.proofs.Common.{◌≡◌, ◌≢◌, ℕ, Bool, List, None, Option, Some, ap, sym, refl, ◌∙◌, arith, true, false, suc}
-use Rattle.std.specs.Prelude.{IfNone, IsSome, nat_lt, option_and_then, option_map, position, ◌&&◌, ◌==◌}
-use Rattle.std.proofs.lemmas.Bool.{false≢true, lt-ltb}
-use Rattle.inode.specs.declared.InodeStat.{InodeStat}
-use Rattle.tree.specs.declared.place.Found.{Found}
-use Rattle.tree.specs.Names.{found_in}
-use Rattle.tree.specs.Steps.{IsFolder}
-use Rattle.tree.specs.Telling.{Tells}
-use Rattle.unixmodel.specs.Files.{Entry, Files, Node, entry_number, has_name, kind_of, links_of, live_places, lookup, slot}
-use Rattle.unixmodel.specs.Files.Node.{Directory}
+use Rattle.tree.proofs.Common.{◌≡◌, ◌≢◌, ℕ, Bool, List, None, Option, Some, ap, sym, refl, ◌∙◌, arith, true, false, suc, IfNone, IsSome, nat_lt, option_and_then, option_map, position, ◌&&◌, ◌==◌}
+use Rattle.tree.proofs.Common.{false≢true, lt-ltb, InodeStat, Found, found_in, IsFolder, Tells, Files, Node, entry_number, has_name, kind_of, links_of, live_places, lookup, slot, Directory}
+use Rattle.unixmodel.specs.Files.{Entry}
 use Rattle.tree.proofs.Storing.{node-of}
 use Rattle.tree.proofs.Unlinking.{lookup-in}
 

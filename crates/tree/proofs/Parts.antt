@@ -1,15 +1,8 @@
 -- The names of a path, one after the other, and what they reach.
-use Rattle.std.proofs.Common.{◌≡◌, ℕ, ◌+◌, ◌-◌, ◌<◌, ◌≤◌, Bool, List, [], ◌∷◌, None, Option, Some, length, get_or, take, drop, map, ap, sym, refl, ◌∙◌, arith, subst, true, false, not, zero, suc, inl, inr}
-use Rattle.std.specs.Prelude.{IsSome, filter, min, nat_lt, option_and_then, option_map, position, unwrap_or, ◌==◌}
-use Rattle.std.proofs.lemmas.Bool.{cases_lt, cond-false, cond-true, false≢true, lt-ltb, not-true}
-use Rattle.std.proofs.lemmas.List.{drop_all, get_or-drop, length-drop, length-take, length-take-le, take-take, take_all, take_rest}
-use Rattle.std.proofs.lemmas.List.Quantifiers.{position-Some}
-use Rattle.std.proofs.lemmas.Option.{none-some, same_Some}
-use Rattle.unixmodel.specs.Files.{Files, find, follow, live_spot, lookup, onto_first, parts, pieces, slot, split_last, spot_of, start_of, with_last}
-use Rattle.names.specs.Rules.{KeepsTree}
-use Rattle.names.proofs.Finding.{position-None}
-use Rattle.names.proofs.Naming.{follow-used, start-used}
-use Rattle.tree.specs.Paths.{above, reach}
+use Rattle.tree.proofs.Common.{◌≡◌, ℕ, ◌+◌, ◌-◌, ◌<◌, ◌≤◌, Bool, List, [], ◌∷◌, None, Option, Some, length, get_or, take, drop, map, ap, sym, refl, ◌∙◌, arith, subst, true, false, not, zero}
+use Rattle.tree.proofs.Common.{suc, inl, inr, IsSome, filter, min, nat_lt, option_and_then, option_map, position, unwrap_or, ◌==◌, cases_lt, cond-false, cond-true, false≢true, lt-ltb, not-true}
+use Rattle.tree.proofs.Common.{drop_all, get_or-drop, length-drop, length-take, length-take-le, take-take, take_all, take_rest, position-Some, none-some, same_Some, Files, find, follow}
+use Rattle.tree.proofs.Common.{live_spot, lookup, onto_first, parts, pieces, slot, split_last, spot_of, start_of, with_last, KeepsTree, position-None, follow-used, start-used, above, reach}
 
 abbrev is_slash : ℕ → Bool
 is_slash b = b == 0x2f

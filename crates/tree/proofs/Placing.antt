@@ -1,23 +1,12 @@
 -- An entry comes into a directory.
-use Rattle.std.proofs.Common.{◌≡◌, ◌≢◌, None, ℕ, ◌+◌, ◌-◌, ◌*◌, ◌/◌, ◌<◌, ◌≤◌, List, [], ◌∷◌, ◌++◌, Option, Some, length, drop, ap, sym, ◌∙◌, arith, subst, cond, inl, inr}
-use Rattle.std.specs.Prelude.{All, flat_map, nat_lt}
-use Rattle.std.proofs.lemmas.Bool.{cases_lt, cond-false, cond-true, le-ltb, lt-ltb}
-use Rattle.std.proofs.lemmas.List.{drop_all, take_all}
+use Rattle.tree.proofs.Common.{◌≡◌, ◌≢◌, None, ℕ, ◌+◌, ◌-◌, ◌*◌, ◌/◌, ◌<◌, ◌≤◌, List, [], ◌∷◌, ◌++◌, Option, Some, length, drop, ap, sym, ◌∙◌, arith, subst, cond, inl, inr, All, flat_map}
+use Rattle.tree.proofs.Common.{nat_lt, cases_lt, cond-false, cond-true, le-ltb, lt-ltb, drop_all, take_all, All-append, All-cons, All-nil, All-set, splice, length-place_bytes, length-spelling}
+use Rattle.tree.proofs.Common.{IsPlain, PlaceFits, taken_for, HasRoom, entered, growth, placed, room_in, FileTree, IsWhole, blocks_of, longest, place_bytes, put, slot, Directory}
 use Rattle.std.proofs.lemmas.List.Concat.{flat_map-append}
-use Rattle.std.proofs.lemmas.List.Elements.{All-append, All-cons, All-nil, All-set}
-use Rattle.blockdev.specs.Splice.{splice}
-use Rattle.imagerules.proofs.Spelling.{length-place_bytes, length-spelling}
-use Rattle.imagerules.specs.Places.{IsPlain, PlaceFits}
-use Rattle.layout.specs.Image.{taken_for}
 use Rattle.tree.proofs.Erasing.{spelling-set, whole-fits}
 use Rattle.tree.proofs.Rooms.{blocks_of-entered, entered-is, room-cases}
 use Rattle.tree.proofs.Turning.{Becomes}
-use Rattle.tree.specs.Entering.{HasRoom, entered, growth, placed, room_in}
-use Rattle.tree.specs.Tree.{FileTree}
-use Rattle.tree.specs.Whole.{IsWhole}
-use Rattle.unixmodel.specs.Counts.{blocks_of}
-use Rattle.unixmodel.specs.Files.{Entry, longest, place_bytes, put, slot}
-use Rattle.unixmodel.specs.Files.Node.{Directory}
+use Rattle.unixmodel.specs.Files.{Entry}
 
 -- ---- the blocks that an entry takes
 

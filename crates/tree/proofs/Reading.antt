@@ -1,16 +1,8 @@
 -- What is read of a directory's places.
-use Rattle.std.proofs.Common.{◌≡◌, ℕ, ◌+◌, ◌-◌, ◌<◌, ◌≤◌, Bool, List, [], ◌∷◌, None, Option, Some, length, get_or, ap, refl, sym, ◌∙◌, arith, cond, true, false, suc}
-use Rattle.std.specs.Prelude.{drop, nat_lt, option_and_then, position, ◌==◌}
-use Rattle.std.specs.List.{list_all, position_or_len}
-use Rattle.std.proofs.lemmas.Bool.{cond-false, cond-true, false≢true, le-ltb, lt-ltb, ne_eqb}
-use Rattle.std.proofs.lemmas.List.{get_or-drop, length-drop}
-use Rattle.std.proofs.lemmas.Option.{none-some}
-use Rattle.std.proofs.lemmas.List.Sums.{position_or_len_is}
-use Rattle.tree.specs.declared.place.Found.{Found}
-use Rattle.tree.specs.Names.{found_at, found_in, is_bare}
-use Rattle.imagerules.specs.Places.{place_of_bytes, without_zeros}
-use Rattle.unixmodel.specs.Files.{Entry, has_name, slot, taken}
-use Rattle.unixmodel.specs.Numbers.{number_at}
+use Rattle.tree.proofs.Common.{◌≡◌, ℕ, ◌+◌, ◌-◌, ◌<◌, ◌≤◌, Bool, List, [], ◌∷◌, None, Option, Some, length, get_or, ap, refl, sym, ◌∙◌, arith, cond, true, false, suc, drop}
+use Rattle.tree.proofs.Common.{nat_lt, option_and_then, position, ◌==◌, list_all, position_or_len, cond-false, cond-true, false≢true, le-ltb, lt-ltb, ne_eqb, get_or-drop}
+use Rattle.tree.proofs.Common.{length-drop, none-some, position_or_len_is, Found, found_at, found_in, is_bare, place_of_bytes, without_zeros, has_name, slot, taken, number_at}
+use Rattle.unixmodel.specs.Files.{Entry}
 
 -- ---- the first that passes
 

@@ -1,19 +1,12 @@
 -- A write of a volume, as a step on files answers for it.
-use Rattle.std.proofs.Common.{◌≡◌, ℕ, Err, List, Ok, Option, Result, ap, false, refl, sym, ◌∙◌}
-use Rattle.std.proofs.lemmas.Bool.{false≢true}
-use Rattle.blockdev.specs.declared.DeviceFault.{DeviceFault}
-use Rattle.inode.specs.Store.{LacksWriting, Serves, Store, Writes, is_device}
-use Rattle.inode.specs.declared.InodeFault.{InodeFault}
-use Rattle.inode.specs.declared.InodeFault.TheVariants.{Blocks, Device, PastEnd, TooLong}
-use Rattle.layout.specs.declared.Geometry.{Geometry}
+use Rattle.tree.proofs.Common.{◌≡◌, ℕ, Err, List, Ok, Option, Result, ap, false, refl, sym, ◌∙◌, false≢true, DeviceFault, LacksWriting, Store}
+use Rattle.tree.proofs.Common.{Writes, InodeFault, PastEnd, TooLong, Geometry, Rewrites, Tries, IsFileSystem, files_of, tree_with, put, Directory}
+use Rattle.inode.specs.Store.{Serves, is_device}
+use Rattle.inode.specs.declared.InodeFault.TheVariants.{Blocks, Device}
 use Rattle.tree.proofs.Bridging.{never-full, rewritten-stores}
 use Rattle.tree.proofs.Serving.{kept-stores, limit_of, turned-files}
 use Rattle.tree.proofs.Storing.{held-again}
-use Rattle.tree.specs.Steps.{Rewrites, Tries}
-use Rattle.tree.specs.Stored.{IsFileSystem, files_of}
-use Rattle.tree.specs.Tree.{tree_with}
-use Rattle.unixmodel.specs.Files.{Entry, put}
-use Rattle.unixmodel.specs.Files.Node.{Directory}
+use Rattle.unixmodel.specs.Files.{Entry}
 
 module _ {D : Type 0} {identity : D → List ℕ} {v v' : Store D} {hs : List ℕ} where
   -- an access failed

@@ -1,15 +1,8 @@
 -- The place of a new entry, and the blocks that it takes.
-use Rattle.std.proofs.Common.{◌≡◌, ℕ, ◌+◌, ◌-◌, ◌*◌, ◌<◌, ◌≤◌, ◌⊎◌, Bool, List, [], ◌∷◌, ◌++◌, None, Option, Some, length, ap, sym, refl, ◌∙◌, arith, cond, true, false, suc, inl, inr}
-use Rattle.std.specs.Prelude.{is_none, is_some, nat_lt, option_and_then, option_map}
-use Rattle.std.proofs.lemmas.Bool.{cases_lt, cond-false, cond-true, false≢true, le-ltb, lt-ltb, ltb-true}
-use Rattle.std.proofs.lemmas.List.{length-append, length-set}
-use Rattle.std.proofs.lemmas.List.Quantifiers.{position-Some}
-use Rattle.std.proofs.lemmas.Option.{none-some, same_Some}
-use Rattle.layout.specs.Image.{taken_for}
-use Rattle.tree.specs.Entering.{entered, growth, placed, room_at, room_behind, room_in, with_place}
-use Rattle.unixmodel.specs.Counts.{blocks_of}
-use Rattle.unixmodel.specs.Files.{Entry, Files, Spot, change_node, enter, free_slot, live_places, most_places, put, slot, with_entry, with_entry_at, with_places}
-use Rattle.unixmodel.specs.Files.Node.{Directory}
+use Rattle.tree.proofs.Common.{◌≡◌, ℕ, ◌+◌, ◌-◌, ◌*◌, ◌<◌, ◌≤◌, ◌⊎◌, Bool, List, [], ◌∷◌, ◌++◌, None, Option, Some, length, ap, sym, refl, ◌∙◌, arith, cond, true, false, suc, inl, inr, is_none, is_some, nat_lt}
+use Rattle.tree.proofs.Common.{option_and_then, option_map, cases_lt, cond-false, cond-true, false≢true, le-ltb, lt-ltb, ltb-true, length-append, length-set, position-Some, none-some, same_Some, taken_for, entered, growth}
+use Rattle.tree.proofs.Common.{placed, room_at, room_behind, room_in, with_place, blocks_of, Files, Spot, change_node, enter, free_slot, live_places, most_places, put, slot, with_entry, with_entry_at, with_places, Directory}
+use Rattle.unixmodel.specs.Files.{Entry}
 use Rattle.tree.proofs.Bridging.{taken-grows}
 use Rattle.tree.proofs.Reading.{position-at, position-none}
 use Rattle.tree.proofs.Storing.{blocks_of-set, change-is, slot-within, taken_by}

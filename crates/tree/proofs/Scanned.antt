@@ -1,26 +1,12 @@
 -- The places that a scan of a directory goes through.
-use Rattle.std.proofs.Common.{◌≡◌, ℕ, ◌+◌, ◌-◌, ◌*◌, ◌/◌, ◌%◌, ◌<◌, ◌≤◌, Bool, List, [], ◌∷◌, ◌++◌, None, Option, Some, length, min, take, drop, ap, sym, refl, ◌∙◌, arith, subst, true, false, inl, inr}
-use Rattle.std.specs.Prelude.{All, flat_map, is_none, is_some, not}
+use Rattle.tree.proofs.Common.{◌≡◌, ℕ, ◌+◌, ◌-◌, ◌*◌, ◌/◌, ◌%◌, ◌<◌, ◌≤◌, Bool, List, [], ◌∷◌, ◌++◌, None, Option, Some, length, min, take, drop, ap, sym, refl, ◌∙◌, arith, subst, true, false}
+use Rattle.tree.proofs.Common.{inl, inr, All, flat_map, is_none, is_some, not, cases_lt, false≢true, append-nil, drop-drop, drop-take, drop_all, length-drop, length-take, length-take-le}
+use Rattle.tree.proofs.Common.{take-take, part, Found, Free, Name, Taken, found_at, found_in, is_bare, room_behind, room_in, IsFirst, Scans, is_sought, place_in, IsFolder, FitsPlaces}
+use Rattle.tree.proofs.Common.{FileTree, IsWhole, PlaceFits, place_of_bytes, length-spelling, places_in-back, slot-places_in, Files, Node, has_name, place_bytes, slot, Directory, number_at}
 use Rattle.std.specs.Borrow.{Bor}
-use Rattle.std.proofs.lemmas.Bool.{cases_lt, false≢true}
-use Rattle.std.proofs.lemmas.List.{append-nil, drop-drop, drop-take, drop_all, length-drop, length-take, length-take-le, take-take}
-use Rattle.blockdev.specs.Splice.{part}
 use Rattle.byteorder.specs.Endian.{little_number}
-use Rattle.tree.specs.declared.place.Found.{Found}
 use Rattle.tree.specs.declared.place.Sought.{Sought}
-use Rattle.tree.specs.declared.place.Sought.TheVariants.{Free, Name, Taken}
-use Rattle.tree.specs.Names.{found_at, found_in, is_bare}
-use Rattle.tree.specs.Entering.{room_behind, room_in}
-use Rattle.tree.specs.Scanning.{IsFirst, Scans, is_sought, place_in}
-use Rattle.tree.specs.Steps.{IsFolder}
-use Rattle.tree.specs.Stored.{FitsPlaces}
-use Rattle.tree.specs.Tree.{FileTree}
-use Rattle.tree.specs.Whole.{IsWhole}
-use Rattle.imagerules.specs.Places.{PlaceFits, place_of_bytes}
-use Rattle.imagerules.proofs.Spelling.{length-spelling, places_in-back, slot-places_in}
-use Rattle.unixmodel.specs.Files.{Entry, Files, Node, has_name, place_bytes, slot}
-use Rattle.unixmodel.specs.Files.Node.{Directory}
-use Rattle.unixmodel.specs.Numbers.{number_at}
+use Rattle.unixmodel.specs.Files.{Entry}
 use Rattle.tree.proofs.Reading.{bare-no, bare-yes, found-at, found-none, named-place}
 use Rattle.tree.proofs.Rooms.{room-end, room-free}
 

@@ -1,20 +1,8 @@
 -- What calls on files answer, by those on the volume below.
-use Rattle.std.proofs.Common.{◌≡◌, ◌≢◌, ◌+◌, ◌≤◌, ◌∙◌, ℕ, Bool, List, None, Option, Some, Result, Err, Ok, ap, false, length, refl, subst, sym, true}
-use Rattle.std.specs.Prelude.{OnOk, is_some, not}
-use Rattle.std.proofs.lemmas.Bool.{false≢true}
-use Rattle.blockdev.specs.declared.DeviceFault.{DeviceFault}
-use Rattle.inode.specs.Store.{Follows, IsLaidOut, Keeps, Looks, Store}
-use Rattle.inode.specs.declared.InodeStat.{InodeStat}
+use Rattle.tree.proofs.Common.{◌≡◌, ◌≢◌, ◌+◌, ◌≤◌, ◌∙◌, ℕ, Bool, List, None, Option, Some, Result, Err, Ok, ap, false, length, refl, subst, sym, true, OnOk, is_some, not, false≢true, DeviceFault, Follows, IsLaidOut}
+use Rattle.tree.proofs.Common.{Keeps, Looks, Store, InodeStat, Geometry, IsFileSystem, IsStored, Stores, StoresFiles, files_of, Reads, Tries, TellsAny, FileTree, tree_with, blocks_of, Files, Node, slot, data_blocks_of}
 use Rattle.inode.specs.Store.{Tries as Volumes}
-use Rattle.layout.specs.declared.Geometry.{Geometry}
-use Rattle.tree.specs.Stored.{IsFileSystem, IsStored, Stores, StoresFiles, files_of}
-use Rattle.tree.specs.Steps.{Reads, Tries}
-use Rattle.tree.specs.Telling.{TellsAny}
-use Rattle.tree.specs.Tree.{FileTree, tree_with}
 use Rattle.tree.proofs.Storing.{files-are}
-use Rattle.unixmodel.specs.Counts.{blocks_of}
-use Rattle.unixmodel.specs.Files.{Files, Node, slot}
-use Rattle.unixmodel.specs.Manifest.{data_blocks_of}
 
 abbrev pub limit_of : Geometry → ℕ
 limit_of g = data_blocks_of g.size g.inodes

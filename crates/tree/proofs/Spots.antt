@@ -1,16 +1,7 @@
 -- Where the last name of a path is to stand, as the disk tells it.
-use Rattle.std.proofs.Common.{◌≡◌, ◌≢◌, ℕ, List, None, Some, ap, refl, ◌∙◌, arith, cond, zero, suc}
-use Rattle.std.specs.Prelude.{IsSome, is_some, option_and_then}
-use Rattle.names.specs.Rules.{KeepsTree}
-use Rattle.inode.specs.declared.InodeStat.{InodeStat}
-use Rattle.tree.specs.Telling.{Tells}
-use Rattle.tree.specs.Lacking.{LacksGap}
-use Rattle.tree.specs.Paths.{IsDead, IsNoDirectory, LacksSpot, above}
-use Rattle.tree.specs.declared.TreeFault.{TreeFault}
-use Rattle.tree.specs.declared.TreeFault.TheVariants.{DeadDir, NotDir, NotFound}
+use Rattle.tree.proofs.Common.{◌≡◌, ◌≢◌, ℕ, List, None, Some, ap, refl, ◌∙◌, arith, cond, zero, suc, IsSome, is_some, option_and_then, KeepsTree, InodeStat, Tells, LacksGap}
+use Rattle.tree.proofs.Common.{IsDead, IsNoDirectory, LacksSpot, above, TreeFault, DeadDir, NotDir, NotFound, Files, Node, Spot, live_places, live_spot, slot, spot_of, Directory}
 use Rattle.tree.specs.declared.TreeFault.TheVariants as fault
-use Rattle.unixmodel.specs.Files.{Files, Node, Spot, live_places, live_spot, slot, spot_of}
-use Rattle.unixmodel.specs.Files.Node.{Directory}
 use Rattle.tree.proofs.Storing.{node-of}
 use Rattle.tree.proofs.Parts.{above-used, spot-above}
 

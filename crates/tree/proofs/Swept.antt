@@ -1,18 +1,10 @@
 -- All nodes without links go, one number after the other.
-use Rattle.std.proofs.Common.{◌≡◌, ◌≢◌, ℕ, ◌+◌, ◌<◌, ◌≤◌, Bool, List, [], None, Option, Some, Result, cond, false, true, length, replicate, ap, sym, subst, refl, ◌∙◌, arith, inl, inr}
-use Rattle.std.specs.Prelude.{nat_lt}
-use Rattle.std.proofs.lemmas.Bool.{cases_eq, lt-ltb}
-use Rattle.std.proofs.lemmas.List.{ext_get_or, get_or-set_other, get_or-set_same, length-set}
-use Rattle.names.proofs.Quiet.{kept-gone, kept-here, kept-none, length-kept}
+use Rattle.tree.proofs.Common.{◌≡◌, ◌≢◌, ℕ, ◌+◌, ◌<◌, ◌≤◌, Bool, List, [], None, Option, Some, Result, cond, false, true, length, replicate, ap, sym, subst, refl, ◌∙◌, arith, inl, inr, nat_lt, cases_eq, lt-ltb, ext_get_or}
+use Rattle.tree.proofs.Common.{get_or-set_other, get_or-set_same, length-set, kept-gone, kept-here, kept-none, length-kept, let_go, stays, unheld, InodeStat, TellsAny, DeviceFault, FileTree, Files, Node, clear, links_of, slot}
 use Rattle.tree.proofs.Letting.{let-go-clear, let-go-linked}
 use Rattle.tree.proofs.Following.{IsNow, now-begin, now-files}
 use Rattle.tree.proofs.Storing.{slot-within}
-use Rattle.tree.specs.Holding.{let_go, stays, unheld}
-use Rattle.inode.specs.declared.InodeStat.{InodeStat}
-use Rattle.tree.specs.Telling.{TellsAny}
-use Rattle.blockdev.specs.declared.DeviceFault.{DeviceFault}
-use Rattle.tree.specs.Tree.{FileTree, Serves}
-use Rattle.unixmodel.specs.Files.{Files, Node, clear, links_of, slot}
+use Rattle.tree.specs.Tree.{Serves}
 
 -- ---- one number
 

@@ -1,20 +1,9 @@
 -- The lowest free number is taken for a node without bytes.
-use Rattle.std.proofs.Common.{◌≡◌, ℕ, ◌-◌, ◌≤◌, List, None, Option, Some, ap, sym, refl, ◌∙◌, arith, suc}
-use Rattle.std.specs.Prelude.{option_and_then, option_map}
-use Rattle.std.proofs.lemmas.List.{get_or-set_other}
-use Rattle.std.proofs.lemmas.Option.{none-some}
-use Rattle.inode.specs.Store.{Follows, Store, TakesLowest}
-use Rattle.names.proofs.Finding.{IsFree, free-number}
-use Rattle.tree.specs.Entering.{entered, room_in}
-use Rattle.tree.specs.Steps.{TakesNode}
-use Rattle.tree.specs.Stored.{IsFileSystem, files_of}
-use Rattle.tree.specs.Tree.{tree_with}
+use Rattle.tree.proofs.Common.{◌≡◌, ℕ, ◌-◌, ◌≤◌, List, None, Option, Some, ap, sym, refl, ◌∙◌, arith, suc, option_and_then, option_map, get_or-set_other, none-some, Follows, Store, TakesLowest, IsFree, free-number}
+use Rattle.tree.proofs.Common.{entered, room_in, TakesNode, IsFileSystem, files_of, tree_with, blocks_of, Files, Node, Spot, blocks_for, enter, free_number, put, size_of, slot, Directory, Made, make_at}
 use Rattle.tree.proofs.Bridging.{fresh-stores, lowest-number, no-number}
 use Rattle.tree.proofs.Serving.{kept-files, kept-stores, turned-files}
-use Rattle.unixmodel.specs.Counts.{blocks_of}
-use Rattle.unixmodel.specs.Files.{Entry, Files, Node, Spot, blocks_for, enter, free_number, put, size_of, slot}
-use Rattle.unixmodel.specs.Files.Node.{Directory}
-use Rattle.unixmodel.specs.NameCalls.{Made, make_at}
+use Rattle.unixmodel.specs.Files.{Entry}
 use Rattle.tree.proofs.Rooms.{enter-full, enter-room}
 use Rattle.tree.proofs.Storing.{blocks_of-set, held-again, taken_by}
 

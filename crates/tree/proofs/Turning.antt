@@ -1,19 +1,10 @@
 -- Steps of a call that turn files into others, and steps that answer for all files alike.
-use Rattle.std.proofs.Common.{◌≡◌, ◌≤◌, ◌∙◌, ℕ, Err, List, Ok, Option, Result, None, Some, ap, arith, false, subst, sym, true}
-use Rattle.std.specs.Prelude.{IfOk, OnErr}
-use Rattle.std.specs.Result.{IsErrAnd, is_err}
-use Rattle.std.proofs.lemmas.Result.{IfOk-at_ok, err_from_is_err_and}
-use Rattle.blockdev.specs.declared.DeviceFault.{DeviceFault}
-use Rattle.cache.proofs.Ending.{rises-before}
+use Rattle.tree.proofs.Common.{◌≡◌, ◌≤◌, ◌∙◌, ℕ, Err, List, Ok, Option, Result, None, Some, ap, arith, false, subst, sym, true, IfOk, OnErr, IsErrAnd, is_err, IfOk-at_ok, err_from_is_err_and}
+use Rattle.tree.proofs.Common.{DeviceFault, rises-before, fresh, Rewrites, TakesNode, Tries, Turns, Acts, FileTree, TreeFault, IsFile, Files, free_number, put, slot, Directory}
 use Rattle.tree.proofs.Following.{IsNow, acts-passed, end-turned, now-device, now-files, now-turned, turned-last}
-use Rattle.tree.specs.Entering.{fresh}
-use Rattle.tree.specs.Steps.{Rewrites, TakesNode, Tries, Turns}
-use Rattle.tree.specs.Tree.{Acts, FileTree, Serves, has_failed}
-use Rattle.tree.specs.declared.TreeFault.{TreeFault}
+use Rattle.tree.specs.Tree.{Serves, has_failed}
 use Rattle.tree.specs.declared.TreeFault.TheVariants.{Device}
-use Rattle.tree.specs.Written.{IsFile}
-use Rattle.unixmodel.specs.Files.{Entry, Files, free_number, put, slot}
-use Rattle.unixmodel.specs.Files.Node.{Directory}
+use Rattle.unixmodel.specs.Files.{Entry}
 
 -- what a call on names did
 pub done-of : {T : Type 0} {old new : FileTree} {r : Result T TreeFault} {Done : T → Type 0} {Refused : Type 0} {Why : TreeFault → Type 0} → Acts old new r Done Refused Why → {x : T} → r ≡ Ok x → Done x

@@ -1,19 +1,9 @@
 -- A name goes: what the definitions make of the files, and what the steps on the disk do.
-use Rattle.std.proofs.Common.{◌≡◌, ◌≢◌, ℕ, Bool, List, None, Option, Some, ap, sym, refl, ◌∙◌, arith, subst, cond, true, false, set}
-use Rattle.std.specs.Prelude.{IsSome, option_and_then, option_map, position, suc}
-use Rattle.std.proofs.lemmas.List.{get_or-set_other}
-use Rattle.std.proofs.lemmas.Option.{none-some, same_Some}
-use Rattle.tree.specs.declared.place.Found.{Found}
-use Rattle.tree.specs.Names.{dropped, found_at, found_in, is_bare, removal}
-use Rattle.unixmodel.specs.NameCalls.{fewer_links, may_remove, removed_node, unlinked, without_name}
-use Rattle.tree.specs.Steps.{HasPlace, IsFolder}
-use Rattle.tree.specs.Unlinks.{IsNaming}
-use Rattle.unixmodel.specs.Files.{Entry, Files, Node, Spot, change_node, entry_number, erase, has_name, is_directory, is_dot_name, live_places, lookup, place_of, slot, without_place}
-use Rattle.unixmodel.specs.Files.Node.{Directory}
-use Rattle.names.proofs.Finding.{slot-set}
+use Rattle.tree.proofs.Common.{◌≡◌, ◌≢◌, ℕ, Bool, List, None, Option, Some, ap, sym, refl, ◌∙◌, arith, subst, cond, true, false, set, IsSome, option_and_then, option_map, position, suc, get_or-set_other}
+use Rattle.tree.proofs.Common.{none-some, same_Some, Found, dropped, found_at, found_in, is_bare, removal, fewer_links, may_remove, removed_node, unlinked, without_name, HasPlace, IsFolder, IsNaming, Files}
+use Rattle.tree.proofs.Common.{Node, Spot, change_node, entry_number, erase, has_name, is_directory, is_dot_name, live_places, lookup, place_of, slot, without_place, Directory, slot-set, InodeStat, Tells}
+use Rattle.unixmodel.specs.Files.{Entry}
 use Rattle.tree.proofs.Storing.{node-of, slot-within}
-use Rattle.inode.specs.declared.InodeStat.{InodeStat}
-use Rattle.tree.specs.Telling.{Tells}
 
 -- ---- a name among places
 

@@ -1,17 +1,7 @@
 -- A name goes, by its path: why it is refused, and what the disk holds.
-use Rattle.std.proofs.Common.{◌≡◌, ◌≢◌, ℕ, List, None, Option, Some, ap, refl, ◌∙◌, inl, inr}
-use Rattle.std.specs.Prelude.{option_and_then, option_map}
-use Rattle.names.proofs.Naming.{numbers-used}
-use Rattle.names.specs.Rules.{KeepsTree}
-use Rattle.tree.specs.declared.TreeFault.{TreeFault}
-use Rattle.tree.specs.declared.TreeFault.TheVariants.{DeadDir, DotName, NotDir, NotEmpty, NotFound}
+use Rattle.tree.proofs.Common.{◌≡◌, ◌≢◌, ℕ, List, None, Option, Some, ap, refl, ◌∙◌, inl, inr, option_and_then, option_map, numbers-used, KeepsTree, TreeFault, DeadDir}
+use Rattle.tree.proofs.Common.{DotName, NotDir, NotEmpty, NotFound, let_go, LacksUnlinking, LacksSpot, IsNaming, LacksName, unlinked_in, Files, Spot, lookup, spot_of, unlinked}
 use Rattle.tree.specs.declared.TreeFault.TheVariants as fault
-use Rattle.tree.specs.Holding.{let_go}
-use Rattle.tree.specs.Lacking.{LacksUnlinking}
-use Rattle.tree.specs.Paths.{LacksSpot}
-use Rattle.tree.specs.Unlinks.{IsNaming, LacksName, unlinked_in}
-use Rattle.unixmodel.specs.Files.{Files, Spot, lookup, spot_of}
-use Rattle.unixmodel.specs.NameCalls.{unlinked}
 use Rattle.tree.proofs.Gaps.{lacks-dead, lacks-other, spot-directory}
 use Rattle.tree.proofs.Spots.{spot-none}
 

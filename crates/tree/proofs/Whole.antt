@@ -1,12 +1,7 @@
 -- The files of a volume keep what those of every disk keep.
-use Rattle.std.proofs.Common.{◌≡◌, ◌≢◌, ◌<◌, ℕ, List, None, Option, Some, arith, length, refl}
-use Rattle.inode.specs.Store.{Store}
-use Rattle.tree.specs.Stored.{IsFileSystem, files_of}
-use Rattle.tree.specs.Tree.{tree_with}
-use Rattle.tree.specs.Whole.{IsWhole}
+use Rattle.tree.proofs.Common.{◌≡◌, ◌≢◌, ◌<◌, ℕ, List, None, Option, Some, arith, length, refl, Store, IsFileSystem, files_of, tree_with, IsWhole, Node, slot}
 use Rattle.tree.proofs.Bridging.{within-held}
 use Rattle.tree.proofs.Storing.{held-node, held-size, length-held}
-use Rattle.unixmodel.specs.Files.{Node, slot}
 
 module _ {D : Type 0} {v : Store D} (holds : IsFileSystem v) where
   none-zero : slot (files_of v.nodes) 0 ≡ None

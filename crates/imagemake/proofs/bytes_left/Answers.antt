@@ -1,7 +1,5 @@
-use Rattle.std.proofs.Common.{◌≡◌, ◌%◌, ap, arith, length, sym, ◌∙◌}
+use Rattle.imagemake.proofs.Common.{◌≡◌, ◌%◌, ap, arith, length, sym, ◌∙◌, image_of, image_of-blocks}
 use Rattle.blockdev.specs.Blocks.{blocks_of}
-use Rattle.imagerules.specs.Content.{image_of}
-use Rattle.imagerules.proofs.ContentLemmas.{image_of-blocks}
 use Rattle.imagemake.proofs.bytes_left.Goals as goal
 
 pub returns-clause-bytes : goal.returns-clause-bytes

@@ -1,9 +1,4 @@
-use Rattle.std.proofs.Common.{ap, arith, refl, sym, subst, ◌∙◌}
-use Rattle.std.proofs.lemmas.Result.{IfOk-from_err, err_from_is_err_and}
-use Rattle.unixmodel.specs.Manifest.{files_made}
-use Rattle.tree.specs.Tree.{FileTree}
-use Rattle.imagemake.specs.Begins.{MakesEntries, made_by}
-use Rattle.imagemake.specs.Making.{Refuses, meaning}
+use Rattle.imagemake.proofs.Common.{ap, arith, refl, sym, subst, ◌∙◌, IfOk-from_err, err_from_is_err_and, files_made, FileTree, MakesEntries, made_by, Refuses, meaning}
 use Rattle.imagemake.proofs.Imaging.{blank-held, makes-image, none-refused, only-memory, possible, refused-entries, refused-numbers, tree-limit, tree-long, tree-none, tree-size, tree-up, when-ok}
 use Rattle.imagemake.proofs.make.Goals as goal
 

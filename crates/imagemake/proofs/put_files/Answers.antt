@@ -1,7 +1,4 @@
-use Rattle.std.proofs.Common.{ap, arith, length, sym, ◌∙◌}
-use Rattle.unixmodel.specs.Manifest.{bare_files}
-use Rattle.imagemake.specs.Making.{meaning}
-use Rattle.tree.proofs.Following.{now-begin, now-files, now-limit, now-turned, now-up}
+use Rattle.imagemake.proofs.Common.{ap, arith, length, sym, ◌∙◌, bare_files, meaning, now-begin, now-files, now-limit, now-turned, now-up}
 use Rattle.imagemake.proofs.Imaging.{makes-all, refuses-all}
 use Rattle.imagemake.proofs.MadeBare.{length-bare}
 use Rattle.imagemake.proofs.Owned.{Owns-after, Owns-failed}

@@ -1,8 +1,4 @@
-use Rattle.std.proofs.Common.{◌+◌, arith, length, subst}
-use Rattle.std.proofs.lemmas.Result.{err_from_is_err_and}
-use Rattle.unixmodel.specs.Manifest.{with_manifest_entry}
-use Rattle.imagemake.specs.Begins.{AddsEntry}
-use Rattle.imagemake.specs.Making.{Refuses, entry_of, meaning}
+use Rattle.imagemake.proofs.Common.{◌+◌, arith, length, subst, err_from_is_err_and, with_manifest_entry, AddsEntry, Refuses, entry_of, meaning}
 use Rattle.imagemake.proofs.Going.{going-more, going-root, makes-entries, refused-going}
 use Rattle.imagemake.proofs.Owned.{Owns-done, Owns-told, told_err}
 use Rattle.imagemake.proofs.entry.add_entries.Goals as goal

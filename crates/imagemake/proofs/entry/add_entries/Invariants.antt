@@ -1,7 +1,5 @@
-use Rattle.std.proofs.Common.{◌≤◌, drop, length}
-use Rattle.imagemake.specs.Begins.{IsGoing}
+use Rattle.imagemake.proofs.Common.{◌≤◌, drop, length, IsGoing, meaning}
 use Rattle.imagemake.specs.Made.{HasRoom}
-use Rattle.imagemake.specs.Making.{meaning}
 use Rattle.imagemake.proofs.entry.add_entries.Given as goal
 
 abbrev pub invariant-loop-entry : goal.invariant-loop-entry

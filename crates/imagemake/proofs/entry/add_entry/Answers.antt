@@ -1,8 +1,4 @@
-use Rattle.std.proofs.Common.{◌≡◌, ◌+◌, ap, arith, length, refl, sym, subst, ◌∙◌}
-use Rattle.std.proofs.lemmas.List.{length_push}
-use Rattle.std.proofs.lemmas.Result.{err_from_is_err_and}
-use Rattle.unixmodel.specs.Manifest.{with_manifest_entry}
-use Rattle.imagemake.specs.Making.{Refuses, thing_of}
+use Rattle.imagemake.proofs.Common.{◌≡◌, ◌+◌, ap, arith, length, refl, sym, subst, ◌∙◌, length_push, err_from_is_err_and, with_manifest_entry, Refuses, thing_of}
 use Rattle.imagemake.proofs.Entered.{AddsEntry-stored, CanAdd-next, made-few, refused-stored}
 use Rattle.imagemake.proofs.Owned.{Owns-done, Owns-other, Blames-stored, none-done, told_err}
 use Rattle.imagemake.proofs.Things.{folder-thing}

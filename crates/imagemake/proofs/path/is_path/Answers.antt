@@ -1,6 +1,4 @@
-use Rattle.std.proofs.Common.{None, ap, drop, sym, false, true, ◌∙◌}
-use Rattle.std.proofs.lemmas.List.{take_rest}
-use Rattle.unixmodel.specs.Image.{is_name}
+use Rattle.imagemake.proofs.Common.{None, ap, drop, sym, false, true, ◌∙◌, take_rest, is_name}
 use Rattle.imagemake.proofs.Pathing.{all_next, first-in, good_last, within_next}
 use Rattle.imagemake.proofs.path.is_path.Goals as goal
 

@@ -1,8 +1,4 @@
-use Rattle.std.proofs.Common.{◌≡◌, ◌-◌, ◌≤◌, drop, length, is_some}
-use Rattle.std.specs.List.{list_all}
-use Rattle.unixmodel.specs.Files.{pieces}
-use Rattle.unixmodel.specs.Image.{is_name}
-use Rattle.unixmodel.specs.Manifest.{names_in}
+use Rattle.imagemake.proofs.Common.{◌≡◌, ◌-◌, ◌≤◌, drop, length, is_some, list_all, pieces, is_name, names_in}
 use Rattle.imagemake.proofs.path.is_path.Given as goal
 
 abbrev pub invariant-name : goal.invariant-name

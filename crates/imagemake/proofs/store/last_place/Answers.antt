@@ -1,7 +1,5 @@
-use Rattle.std.proofs.Common.{arith}
+use Rattle.imagemake.proofs.Common.{arith, now-begin, lost-served}
 use Rattle.unixmodel.specs.Files.Node.{Directory}
-use Rattle.tree.proofs.Following.{now-begin}
-use Rattle.tree.proofs.Turning.{lost-served}
 use Rattle.imagemake.proofs.Named.{looks-done, room-end-at, room-full-at}
 use Rattle.imagemake.proofs.store.last_place.Goals as goal
 

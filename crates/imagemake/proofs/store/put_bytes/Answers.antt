@@ -1,5 +1,4 @@
-use Rattle.std.proofs.Common.{[], inl, inr, subst, sym, ◌∙◌}
-use Rattle.tree.proofs.Following.{IsNow, now-begin}
+use Rattle.imagemake.proofs.Common.{[], inl, inr, subst, sym, ◌∙◌, IsNow, now-begin}
 use Rattle.imagemake.proofs.Filled.{fill-less, fill-long, fill-whole}
 use Rattle.imagemake.proofs.Putting.{puts-done, puts-full, puts-lost}
 use Rattle.imagemake.proofs.store.put_bytes.Goals as goal

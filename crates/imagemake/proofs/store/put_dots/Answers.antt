@@ -1,10 +1,5 @@
-use Rattle.std.proofs.Common.{◌+◌, ap, arith, sym, ◌∙◌}
-use Rattle.std.proofs.lemmas.Bool.{leb-false, leb-true}
+use Rattle.imagemake.proofs.Common.{◌+◌, ap, arith, sym, ◌∙◌, leb-false, leb-true, Files, put, slot, new_directory, now-begin, now-files, now-limit, now-read, now-up, some-now, now-changed}
 use Rattle.unixmodel.specs.Counts.{blocks_of}
-use Rattle.unixmodel.specs.Files.{Files, put, slot}
-use Rattle.unixmodel.specs.NameCalls.{new_directory}
-use Rattle.tree.proofs.Following.{now-begin, now-files, now-limit, now-read, now-up, some-now}
-use Rattle.tree.proofs.Turning.{now-changed}
 use Rattle.imagemake.proofs.Putting.{lacks-dots, puts-done, puts-full, puts-lost}
 use Rattle.imagemake.proofs.store.put_dots.Goals as goal
 

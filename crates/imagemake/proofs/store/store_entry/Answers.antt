@@ -1,9 +1,5 @@
-use Rattle.std.proofs.Common.{ap, sym, ◌∙◌}
-use Rattle.std.proofs.lemmas.Option.{none-some}
+use Rattle.imagemake.proofs.Common.{ap, sym, ◌∙◌, none-some, FileTree, now-up, thing_of}
 use Rattle.unixmodel.specs.Files.Node.{Directory}
-use Rattle.tree.specs.Tree.{FileTree}
-use Rattle.tree.proofs.Following.{now-up}
-use Rattle.imagemake.specs.Making.{thing_of}
 use Rattle.imagemake.proofs.AddedFiles.{directory-after, name-refused, node-refused, now-one, number-after, stores-named}
 use Rattle.imagemake.proofs.store.store_entry.Goals as goal
 

@@ -1,17 +1,8 @@
-use Rattle.std.proofs.Common.{◌≡◌, ap, arith, subst, sym, ◌∙◌}
-use Rattle.std.proofs.lemmas.Bool.{leb-false, leb-true}
-use Rattle.std.specs.Prelude.{Ok}
-use Rattle.imagerules.proofs.Denoting.{IsPlain-name}
-use Rattle.tree.specs.Entering.{entered}
+use Rattle.imagemake.proofs.Common.{◌≡◌, ap, arith, subst, sym, ◌∙◌, leb-false, leb-true, Ok, IsPlain-name, entered, Files, change_node, put, slot, appended, linked}
+use Rattle.imagemake.proofs.Common.{more_links, IsNow, now-begin, now-files, now-limit, now-read, now-up, some-now, now-changed, HasDirectory, Puts, thing_of}
 use Rattle.unixmodel.specs.Counts.{blocks_of}
-use Rattle.unixmodel.specs.Files.{Entry, Files, change_node, put, slot}
+use Rattle.unixmodel.specs.Files.{Entry}
 use Rattle.unixmodel.specs.Files.Node.{Directory}
-use Rattle.unixmodel.specs.Manifest.{appended, linked}
-use Rattle.unixmodel.specs.NameCalls.{more_links}
-use Rattle.tree.proofs.Following.{IsNow, now-begin, now-files, now-limit, now-read, now-up, some-now}
-use Rattle.tree.proofs.Turning.{now-changed}
-use Rattle.imagemake.specs.Added.{HasDirectory, Puts}
-use Rattle.imagemake.specs.Making.{thing_of}
 use Rattle.imagemake.proofs.Named.{lacks-growth, lacks-place, named-is, named-linked, now-looked, room-at, room-now, room-was, within}
 use Rattle.imagemake.proofs.Putting.{puts-done, puts-full, puts-lost, slot-put}
 use Rattle.imagemake.proofs.Things.{thing-folder, thing-unlinked}

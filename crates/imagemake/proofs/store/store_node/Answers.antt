@@ -1,12 +1,4 @@
-use Rattle.std.proofs.Common.{Ok, Some, ap, subst, sym, ◌∙◌}
-use Rattle.unixmodel.specs.Files.{put}
-use Rattle.unixmodel.specs.Files.Node.{File}
-use Rattle.unixmodel.specs.Manifest.{bare_directory, node_for}
-use Rattle.unixmodel.specs.Manifest.Thing.{Bytes}
-use Rattle.tree.proofs.Following.{IsNow, now-begin, now-turned, now-up}
-use Rattle.imagemake.specs.Added.{Puts}
-use Rattle.imagemake.specs.Making.{thing_of}
-use Rattle.imagemake.specs.Nodes.{bare}
+use Rattle.imagemake.proofs.Common.{Ok, Some, ap, subst, sym, ◌∙◌, put, File, bare_directory, node_for, Bytes, IsNow, now-begin, now-turned, now-up, Puts, thing_of, bare}
 use Rattle.imagemake.proofs.Putting.{here-now, puts-done, puts-last, puts-lost, still-used, took-thing}
 use Rattle.imagemake.proofs.store.store_node.Goals as goal
 

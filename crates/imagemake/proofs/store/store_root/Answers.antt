@@ -1,8 +1,6 @@
-use Rattle.std.proofs.Common.{[], sym, ◌∙◌}
-use Rattle.std.proofs.lemmas.Option.{none-some}
+use Rattle.imagemake.proofs.Common.{[], sym, ◌∙◌, none-some, end-lost, now-begin, now-turned, now-up, turned-last}
 use Rattle.unixmodel.specs.Files.Node.{Directory}
 use Rattle.imagemake.proofs.Putting.{root-bare, root-block, root-free, root-made}
-use Rattle.tree.proofs.Following.{end-lost, now-begin, now-turned, now-up, turned-last}
 use Rattle.imagemake.proofs.store.store_root.Goals as goal
 
 pub take_node_at-requires-clause-number : goal.take_node_at-requires-clause-number

@@ -1,6 +1,4 @@
-use Rattle.std.proofs.Common.{arith, subst}
-use Rattle.balloc.specs.Bitmap.{Takes}
-use Rattle.cache.proofs.Ending.{goes-after, goes-stays, step-done, step-failed}
+use Rattle.inode.proofs.Common.{arith, subst, Takes, goes-after, goes-stays, step-done, step-failed}
 use Rattle.inode.proofs.grow.fill.Goals as goal
 
 pub returns-in_err-b : goal.returns-in_err-b

@@ -1,6 +1,4 @@
-use Rattle.std.proofs.Common.{arith, subst}
-use Rattle.cache.proofs.Ending.{goes-stays, step-done, step-failed}
-use Rattle.inode.specs.Writing.{MayFill}
+use Rattle.inode.proofs.Common.{arith, subst, goes-stays, step-done, step-failed, MayFill}
 use Rattle.inode.proofs.grow.fill_free.Goals as goal
 
 pub fill-requires : goal.fill-requires

@@ -1,6 +1,4 @@
-use Rattle.std.proofs.Common.{◌≡◌, ℕ, ◌+◌, ◌-◌, ◌*◌, ◌≤◌, List, ◌++◌, length, get_or, drop, ap, ◌∙◌, arith}
-use Rattle.std.proofs.lemmas.List.{get_or-append_right, get_or-drop}
-use Rattle.layout.specs.Numbers.{number_at}
+use Rattle.inode.proofs.Common.{◌≡◌, ℕ, ◌+◌, ◌-◌, ◌*◌, ◌≤◌, List, ◌++◌, length, get_or, drop, ap, ◌∙◌, arith, get_or-append_right, get_or-drop, number_at}
 use Rattle.inode.proofs.grow.first_number.Goals as goal
 
 number_zero : (bytes : List ℕ) (k : ℕ) → 1 ≤ k → ((i : ℕ) → 4 ≤ i → get_or bytes i 0 ≡ 0) → number_at bytes k ≡ 0

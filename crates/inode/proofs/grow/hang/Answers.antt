@@ -1,8 +1,4 @@
-use Rattle.std.proofs.Common.{◌∙◌, ap, arith, refl, set, subst, sym}
-use Rattle.std.proofs.lemmas.Bool.{false≢true}
-use Rattle.cache.proofs.Ending.{goes-after, goes-stays, step-done, step-failed}
-use Rattle.layout.specs.Image.{Asks, slot_in}
-use Rattle.layout.specs.declared.DiskInode.{DiskInode}
+use Rattle.inode.proofs.Common.{◌∙◌, ap, arith, refl, set, subst, sym, false≢true, goes-after, goes-stays, step-done, step-failed, Asks, slot_in, DiskInode}
 use Rattle.inode.proofs.Filling.{hung-written}
 use Rattle.inode.proofs.grow.hang.Goals as goal
 

@@ -1,6 +1,4 @@
-use Rattle.std.proofs.Common.{arith, refl}
-use Rattle.cache.proofs.Ending.{goes-stays, read-done, step-last}
-use Rattle.layout.specs.Image.{free_blocks}
+use Rattle.inode.proofs.Common.{arith, refl, goes-stays, read-done, step-last, free_blocks}
 use Rattle.inode.proofs.Filling.{may-have}
 use Rattle.inode.proofs.grow.may_have.Goals as goal
 

@@ -1,9 +1,4 @@
-use Rattle.std.proofs.Common.{◌∙◌, ap, subst, sym}
-use Rattle.blockdev.specs.Blocks.{block_at}
-use Rattle.cache.proofs.Ending.{goes-stays, step-failed, step-last}
-use Rattle.layout.specs.Numbers.{number_at}
-use Rattle.layout.specs.Image.{Asks, holder_of, in_record, slot_in}
-use Rattle.layout.proofs.Slots.{asks_holder, holder-holder}
+use Rattle.inode.proofs.Common.{◌∙◌, ap, subst, sym, block_at, goes-stays, step-failed, step-last, number_at, Asks, holder_of, in_record, slot_in, asks_holder, holder-holder}
 use Rattle.inode.proofs.Reading.{found_in, holder_lies}
 use Rattle.inode.proofs.read.listed_number.Goals as goal
 

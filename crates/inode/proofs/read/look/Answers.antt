@@ -1,6 +1,4 @@
-use Rattle.std.proofs.Common.{ap, arith, refl, sym, ◌∙◌}
-use Rattle.cache.proofs.Ending.{goes-stays, read-done, step-failed}
-use Rattle.layout.specs.declared.DiskInode.{DiskInode}
+use Rattle.inode.proofs.Common.{ap, arith, refl, sym, ◌∙◌, goes-stays, read-done, step-failed, DiskInode}
 use Rattle.inode.proofs.Looking.{told-inode, used-inode}
 use Rattle.inode.proofs.read.look.Goals as goal
 use Rattle.inode.proofs.read.look.Goals.{then-number-eq0-via-else-number-eq0+then-number-geometry, then-number-eq0-via-then-number-eq0}

@@ -1,6 +1,4 @@
-use Rattle.std.proofs.Common.{◌≡◌, ◌-◌, ◌≤◌}
-use Rattle.inode.specs.Reading.{HasRead}
-use Rattle.cache.specs.Steps.{Goes}
+use Rattle.inode.proofs.Common.{◌≡◌, ◌-◌, ◌≤◌, HasRead, Goes}
 use Rattle.inode.proofs.read.read_at.Given as goal
 
 abbrev pub invariant-chunk : goal.invariant-chunk

@@ -1,8 +1,4 @@
-use Rattle.std.proofs.Common.{arith, subst}
-use Rattle.layout.proofs.Puts.{HasParts-kept}
-use Rattle.cache.proofs.Ending.{goes-after, goes-stays, step-done, step-failed}
-use Rattle.inode.specs.OnDisk.{HasInode-of}
-use Rattle.inode.specs.Writing.{PutsBehind}
+use Rattle.inode.proofs.Common.{arith, subst, HasParts-kept, goes-after, goes-stays, step-done, step-failed, HasInode-of, PutsBehind}
 use Rattle.inode.proofs.Filling.{BeginsBlock-end, Puts-grown, at_end, within_size}
 use Rattle.inode.proofs.write.put_piece.Goals as goal
 

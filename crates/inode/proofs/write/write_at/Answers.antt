@@ -1,5 +1,4 @@
-use Rattle.std.proofs.Common.{arith, sym}
-use Rattle.cache.proofs.Ending.{goes-after, goes-stays, step-done, step-failed}
+use Rattle.inode.proofs.Common.{arith, sym, goes-after, goes-stays, step-done, step-failed}
 use Rattle.inode.proofs.Growing.{own_fits, own_length}
 use Rattle.inode.proofs.Reading.{HasInode-read, IsInHand-read}
 use Rattle.inode.proofs.write.write_at.Goals as goal

@@ -1,7 +1,4 @@
-use Rattle.std.proofs.Common.{arith, refl, subst}
-use Rattle.cache.proofs.Ending.{goes-after, goes-stays, step-done, step-failed}
-use Rattle.inode.specs.OnDisk.{HasInode-of}
-use Rattle.inode.specs.Writing.{PutsPiece}
+use Rattle.inode.proofs.Common.{arith, refl, subst, goes-after, goes-stays, step-done, step-failed, HasInode-of, PutsPiece}
 use Rattle.inode.proofs.Pieces.{Wrote-begin, Wrote-piece, front-ends, piece_less, piece_room, piece_short, piece_some, piece_within, place_within}
 use Rattle.inode.proofs.Wrote.{Puts-held}
 use Rattle.inode.proofs.write.write_front.Goals as goal

@@ -1,10 +1,4 @@
-use Rattle.std.proofs.Common.{◌-◌, ◌≤◌, length, take}
-use Rattle.blockdev.specs.Splice.{splice}
-use Rattle.cache.specs.Steps.{Goes}
-use Rattle.layout.specs.Image.{bytes_of}
-use Rattle.layout.specs.Inode.{Fits}
-use Rattle.inode.specs.OnDisk.{IsInHand}
-use Rattle.inode.specs.Writing.{Wrote}
+use Rattle.inode.proofs.Common.{◌-◌, ◌≤◌, length, take, splice, Goes, bytes_of, Fits, IsInHand, Wrote}
 use Rattle.inode.proofs.write.write_front.Given as goal
 
 abbrev pub invariant-piece : goal.invariant-piece

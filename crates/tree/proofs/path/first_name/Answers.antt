@@ -1,5 +1,4 @@
-use Rattle.std.proofs.Common.{drop, length, sym, take, ◌-◌, ◌∙◌}
-use Rattle.std.proofs.lemmas.List.{take_rest}
+use Rattle.tree.proofs.Common.{drop, length, sym, take, ◌-◌, ◌∙◌, take_rest}
 use Rattle.tree.proofs.Looking.{IfNone-of}
 use Rattle.tree.proofs.Parts.{cut-parts, cut-shorter, no-name}
 use Rattle.tree.proofs.path.first_name.Goals as goal

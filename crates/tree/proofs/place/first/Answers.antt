@@ -1,8 +1,5 @@
-use Rattle.std.proofs.Common.{below_more, below_none, ◌≡◌, ◌≤◌, false, ap, sym, ◌∙◌, arith}
+use Rattle.tree.proofs.Common.{below_more, below_none, ◌≡◌, ◌≤◌, false, ap, sym, ◌∙◌, arith, is_sought, place_in, place_of_bytes, number_at}
 use Rattle.layout.specs.declared.Entry.{Entry}
-use Rattle.tree.specs.Scanning.{is_sought, place_in}
-use Rattle.imagerules.specs.Places.{place_of_bytes}
-use Rattle.unixmodel.specs.Numbers.{number_at}
 use Rattle.tree.proofs.Scanned.{number-first}
 use Rattle.tree.proofs.place.first.Goals as goal
 

@@ -1,5 +1,4 @@
-use Rattle.std.proofs.Common.{◌≡◌, ◌<◌, ◌≤◌, ℕ, false}
-use Rattle.tree.specs.Scanning.{is_sought, place_in}
+use Rattle.tree.proofs.Common.{◌≡◌, ◌<◌, ◌≤◌, ℕ, false, is_sought, place_in}
 use Rattle.tree.proofs.place.first.Given as goal
 
 abbrev pub invariant-loop-k : goal.invariant-loop-k

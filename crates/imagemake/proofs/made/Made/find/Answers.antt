@@ -1,5 +1,4 @@
-use Rattle.std.proofs.Common.{None, Some, ap, ◌∙◌}
-use Rattle.imagemake.specs.Made.{Names, found}
+use Rattle.imagemake.proofs.Common.{None, Some, ap, ◌∙◌, Names, found}
 use Rattle.imagemake.proofs.NameMap.{found-index}
 use Rattle.imagemake.proofs.made.Made.find.Goals as goal
 

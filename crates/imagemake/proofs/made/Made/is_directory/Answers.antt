@@ -1,5 +1,4 @@
-use Rattle.std.proofs.Common.{None, Some, ap, sym, arith, ◌∙◌}
-use Rattle.imagemake.specs.Made.{Names, is_folder}
+use Rattle.imagemake.proofs.Common.{None, Some, ap, sym, arith, ◌∙◌, Names, is_folder}
 use Rattle.imagemake.proofs.NameMap.{folder-entry}
 use Rattle.imagemake.proofs.Pathing.{is_folder-low}
 use Rattle.imagemake.proofs.made.Made.is_directory.Goals as goal

@@ -1,6 +1,4 @@
-use Rattle.std.proofs.Common.{ap, drop, sym, take, ◌+◌, ◌∙◌}
-use Rattle.std.proofs.lemmas.List.{take_rest}
-use Rattle.imagemake.specs.Made.{reach}
+use Rattle.imagemake.proofs.Common.{ap, drop, sym, take, ◌+◌, ◌∙◌, take_rest, reach}
 use Rattle.imagemake.proofs.Leading.{above-next, joined-next, leads-next, reach-below}
 use Rattle.imagemake.proofs.Pathing.{pieces_first, reach_last, reach_none}
 use Rattle.imagemake.proofs.made.Made.locate.Goals as goal

@@ -1,5 +1,4 @@
-use Rattle.std.proofs.Common.{◌≡◌, ◌++◌, ◌∷◌, length}
-use Rattle.imagemake.specs.Made.{LeadsTo}
+use Rattle.imagemake.proofs.Common.{◌≡◌, ◌++◌, ◌∷◌, length, LeadsTo}
 use Rattle.imagemake.proofs.made.Made.locate.Given as goal
 
 abbrev pub invariant-name : goal.invariant-name

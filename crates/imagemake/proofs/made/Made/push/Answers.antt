@@ -1,5 +1,4 @@
-use Rattle.std.proofs.Common.{[], ◌∷◌, ◌++◌, ap, map, subst, sym, ◌∙◌}
-use Rattle.imagemake.specs.Made.{LeadsTo, Names, found, made_name, name_of}
+use Rattle.imagemake.proofs.Common.{[], ◌∷◌, ◌++◌, ap, map, subst, sym, ◌∙◌, LeadsTo, Names, found, made_name, name_of}
 use Rattle.imagemake.proofs.Leading.{leads-push}
 use Rattle.imagemake.proofs.NameMap.{names-insert}
 use Rattle.imagemake.proofs.made.Made.push.Goals as goal

@@ -1,6 +1,4 @@
-use Rattle.std.proofs.Common.{Some, [], ap, ◌++◌, ◌∙◌, ◌∷◌}
-use Rattle.std.proofs.lemmas.Bool.Decides.{Decides-eqb}
-use Rattle.std.proofs.lemmas.Slice.Eq.{strip_prefix_is}
+use Rattle.imagemake.proofs.Common.{Some, [], ap, ◌++◌, ◌∙◌, ◌∷◌, Decides-eqb, strip_prefix_is}
 use Rattle.imagemake.proofs.made.Made.start.Goals as goal
 
 pub returns-in-Some-strip_prefix-clause-joined : goal.returns-in-Some-strip_prefix-clause-joined

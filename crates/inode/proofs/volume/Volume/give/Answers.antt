@@ -1,7 +1,6 @@
-use Rattle.std.proofs.Common.{◌≡◌, length}
+use Rattle.inode.proofs.Common.{◌≡◌, length, raw_at}
 use Rattle.inode.proofs.Calls.{asked, at-inside, changes-given, empty-raw}
 use Rattle.inode.proofs.Serving.{sound-after, tries}
-use Rattle.inode.specs.Store.{raw_at}
 use Rattle.inode.proofs.volume.Volume.give.Goals as goal
 
 pub give_inode-result-requires : goal.give_inode-result-requires

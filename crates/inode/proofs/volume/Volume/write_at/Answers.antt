@@ -1,7 +1,6 @@
-use Rattle.std.proofs.Common.{arith, refl, subst}
+use Rattle.inode.proofs.Common.{arith, refl, subst, WritesFrom}
 use Rattle.inode.proofs.Serving.{follows-stays, serves-done, serves-lost, serves-not, still-up}
 use Rattle.inode.proofs.Calls.{writes-all, writes-part}
-use Rattle.inode.specs.Store.{WritesFrom}
 use Rattle.inode.proofs.volume.Volume.write_at.Goals as goal
 
 pub returns-in_err-try_writing : goal.returns-in_err-try_writing

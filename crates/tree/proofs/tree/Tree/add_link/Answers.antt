@@ -1,7 +1,4 @@
-use Rattle.std.proofs.Common.{ap, arith, ◌+◌, ◌∙◌, sym}
-use Rattle.unixmodel.specs.Files.{change_node, with_links}
-use Rattle.unixmodel.specs.NameCalls.{more_links}
-use Rattle.std.proofs.lemmas.Option.{none-some}
+use Rattle.tree.proofs.Common.{ap, arith, ◌+◌, ◌∙◌, sym, change_node, with_links, more_links, none-some}
 use Rattle.tree.proofs.Following.{end-lost, now-begin, now-read, now-up, some-now}
 use Rattle.tree.proofs.Linking.{relinked}
 use Rattle.tree.proofs.Turning.{end-changed}

@@ -1,8 +1,7 @@
-use Rattle.std.proofs.Common.{◌≡◌, Some}
+use Rattle.tree.proofs.Common.{◌≡◌, Some, Node, slot}
 use Rattle.tree.proofs.Bridging.{read-node}
 use Rattle.tree.proofs.Serving.{at-inside, count-after, held-same, reads, up-inside}
 use Rattle.tree.proofs.Storing.{held-some}
-use Rattle.unixmodel.specs.Files.{Node, slot}
 use Rattle.tree.proofs.tree.Tree.bytes.Goals as goal
 
 pub read_at-requires : goal.read_at-requires

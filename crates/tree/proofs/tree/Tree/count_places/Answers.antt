@@ -1,5 +1,4 @@
-use Rattle.std.proofs.Common.{arith}
-use Rattle.unixmodel.specs.Files.Node.{Directory}
+use Rattle.tree.proofs.Common.{arith, Directory}
 use Rattle.tree.proofs.Following.{end-lost, end-read, now-begin, now-read}
 use Rattle.tree.proofs.Scanned.{folder-node}
 use Rattle.tree.proofs.tree.Tree.count_places.Goals as goal

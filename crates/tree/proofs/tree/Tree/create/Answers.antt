@@ -1,12 +1,9 @@
-use Rattle.std.proofs.Common.{Some, ap, refl, sym, ◌∙◌}
+use Rattle.tree.proofs.Common.{Some, ap, refl, sym, ◌∙◌, entered, made_files, leaf_node, Files, Made}
 use Rattle.tree.proofs.Following.{acts-done, acts-lost, acts-not, now-begin, now-files, now-up}
 use Rattle.tree.proofs.Gaps.{made-done, made-unnumbered, overflow-none, none-more}
 use Rattle.tree.proofs.Leaves.{fresh-now, leaf-empty, made-asked, some-kind, weaker-gap}
 use Rattle.tree.proofs.Turning.{acts-refused, done-of, now-changed, now-none, now-passed, now-took}
-use Rattle.tree.specs.Entering.{entered, made_files}
-use Rattle.tree.specs.Leaves.{leaf_node}
-use Rattle.unixmodel.specs.Files.{Files, Entry}
-use Rattle.unixmodel.specs.NameCalls.{Made}
+use Rattle.unixmodel.specs.Files.{Entry}
 use Rattle.tree.proofs.tree.Tree.create.Goals as goal
 
 pub find_gap-requires : goal.find_gap-requires

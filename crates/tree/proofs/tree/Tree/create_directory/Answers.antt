@@ -1,13 +1,9 @@
-use Rattle.std.proofs.Common.{[], Some, ap, arith, le_refl, refl, suc, sym, ◌∙◌, ◌≡◌, ◌≤◌, None, ◌+◌, ◌<◌, ◌≢◌}
+use Rattle.tree.proofs.Common.{[], Some, ap, arith, le_refl, refl, suc, sym, ◌∙◌, ◌≡◌, ◌≤◌, None, ◌+◌, ◌<◌, ◌≢◌, entered, blocks_of, change_node, links_of, most_links, put, slot, Node, Directory, more_links, new_directory}
 use Rattle.tree.proofs.Folders.{above-asked, first-above, first-bare, first-block, folder-is, folder-many, folder-unnumbered, name-asked, next-is, weaker-folder}
 use Rattle.tree.proofs.Following.{acts-done, acts-lost, acts-not, now-begin, now-files, now-node, now-read, now-up, told-now}
 use Rattle.tree.proofs.Gaps.{overflow-none}
 use Rattle.tree.proofs.Turning.{acts-refused, at-now, done-of, now-changed, now-none, now-passed, now-took, now-wanted}
-use Rattle.tree.specs.Entering.{entered}
-use Rattle.unixmodel.specs.Counts.{blocks_of}
-use Rattle.unixmodel.specs.Files.{Entry, change_node, links_of, most_links, put, slot, Node}
-use Rattle.unixmodel.specs.Files.Node.{Directory}
-use Rattle.unixmodel.specs.NameCalls.{more_links, new_directory}
+use Rattle.unixmodel.specs.Files.{Entry}
 use Rattle.tree.proofs.tree.Tree.create_directory.Goals as goal
 
 pub find_gap-requires : goal.find_gap-requires

@@ -1,7 +1,6 @@
-use Rattle.std.proofs.Common.{◌≢◌, None}
+use Rattle.tree.proofs.Common.{◌≢◌, None, slot}
 use Rattle.tree.proofs.Letting.{let-go-serves}
 use Rattle.tree.proofs.Serving.{at-inside, up-inside}
-use Rattle.unixmodel.specs.Files.{slot}
 use Rattle.tree.proofs.tree.Tree.drop_hold.Goals as goal
 
 pub unhold-requires : goal.unhold-requires

@@ -1,6 +1,4 @@
-use Rattle.std.proofs.Common.{ap, ◌-◌, ◌∙◌}
-use Rattle.unixmodel.specs.Files.{change_node, slot, with_links}
-use Rattle.unixmodel.specs.NameCalls.{fewer_links}
+use Rattle.tree.proofs.Common.{ap, ◌-◌, ◌∙◌, change_node, slot, with_links, fewer_links}
 use Rattle.tree.proofs.Following.{end-lost, now-begin, now-read, now-up, some-now}
 use Rattle.tree.proofs.Linking.{relinked}
 use Rattle.tree.proofs.Storing.{some-node}

@@ -1,7 +1,4 @@
-use Rattle.std.proofs.Common.{ap, sym}
-use Rattle.tree.specs.Names.{dropped}
-use Rattle.unixmodel.specs.Files.{change_node}
-use Rattle.unixmodel.specs.NameCalls.{fewer_links}
+use Rattle.tree.proofs.Common.{ap, sym, dropped, change_node, fewer_links}
 use Rattle.tree.proofs.Following.{end-lost, now-begin, now-up, some-now}
 use Rattle.tree.proofs.Turning.{end-changed, end-still, now-changed}
 use Rattle.tree.proofs.Unlinking.{stays-node}

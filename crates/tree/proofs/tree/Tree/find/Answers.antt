@@ -1,6 +1,4 @@
-use Rattle.std.proofs.Common.{ap, sym, ◌∙◌}
-use Rattle.names.proofs.Naming.{lookup-used}
-use Rattle.unixmodel.specs.Files.{follow, parts}
+use Rattle.tree.proofs.Common.{ap, sym, ◌∙◌, lookup-used, follow, parts}
 use Rattle.tree.proofs.Following.{end-lost, end-read, looked, now-begin, now-read, now-up, used-now}
 use Rattle.tree.proofs.Parts.{find-start, follow-next, start-held}
 use Rattle.tree.proofs.tree.Tree.find.Goals as goal

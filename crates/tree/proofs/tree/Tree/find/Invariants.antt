@@ -1,7 +1,5 @@
-use Rattle.std.proofs.Common.{◌≡◌, length}
-use Rattle.std.specs.Prelude.{IsSome}
+use Rattle.tree.proofs.Common.{◌≡◌, length, IsSome, find, follow, parts, slot}
 use Rattle.tree.proofs.Following.{IsNow}
-use Rattle.unixmodel.specs.Files.{find, follow, parts, slot}
 use Rattle.tree.proofs.tree.Tree.find.Given as goal
 
 abbrev pub invariant-name : goal.invariant-name

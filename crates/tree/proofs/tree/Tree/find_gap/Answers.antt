@@ -1,11 +1,8 @@
-use Rattle.std.proofs.Common.{ap, refl, sym, ◌∙◌, ◌+◌, ◌≡◌}
-use Rattle.std.specs.Prelude.{is_some, nat_le}
+use Rattle.tree.proofs.Common.{ap, refl, sym, ◌∙◌, ◌+◌, ◌≡◌, is_some, nat_le, HasRoom, growth, blocks_of}
 use Rattle.tree.proofs.Following.{acts-done, acts-lost, acts-not, folder-now, looked, now-begin, now-files, now-read, now-up, used-now}
 use Rattle.tree.proofs.Gaps.{gap-folder, gap-full, gap-has, gap-lacks, gap-room, gap-used}
 use Rattle.tree.proofs.Spots.{spot-lacks}
 use Rattle.tree.proofs.Turning.{acts-refused, at-now, done-of, now-passed, was-now}
-use Rattle.tree.specs.Entering.{HasRoom, growth}
-use Rattle.unixmodel.specs.Counts.{blocks_of}
 use Rattle.tree.proofs.tree.Tree.find_gap.Goals as goal
 
 pub spot-requires : goal.spot-requires

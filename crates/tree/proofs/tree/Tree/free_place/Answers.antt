@@ -1,7 +1,6 @@
-use Rattle.std.proofs.Common.{arith}
+use Rattle.tree.proofs.Common.{arith, zeros}
 use Rattle.tree.proofs.Erasing.{erased-becomes, place-high}
 use Rattle.tree.proofs.Turning.{turns-become}
-use Rattle.unixmodel.specs.Memory.{zeros}
 use Rattle.tree.proofs.tree.Tree.free_place.Goals as goal
 
 pub is_whole-requires : goal.is_whole-requires

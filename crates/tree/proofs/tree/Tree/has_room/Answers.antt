@@ -1,9 +1,6 @@
-use Rattle.std.proofs.Common.{ap, arith, ◌+◌, ◌∙◌}
-use Rattle.std.specs.Prelude.{nat_le}
+use Rattle.tree.proofs.Common.{ap, arith, ◌+◌, ◌∙◌, nat_le, blocks_of, Directory}
 use Rattle.tree.proofs.Following.{end-last, end-lost, now-begin, now-read, now-up}
 use Rattle.tree.proofs.Placing.{growth-size}
-use Rattle.unixmodel.specs.Counts.{blocks_of}
-use Rattle.unixmodel.specs.Files.Node.{Directory}
 use Rattle.tree.proofs.tree.Tree.has_room.Goals as goal
 
 pub is_whole-requires : goal.is_whole-requires

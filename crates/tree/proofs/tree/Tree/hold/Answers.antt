@@ -1,8 +1,4 @@
-use Rattle.std.proofs.Common.{◌<◌, ap, arith, subst, sym, ◌∙◌, set, ◌+◌}
-use Rattle.std.proofs.lemmas.Grind.{get_or_default_zero}
-use Rattle.std.proofs.lemmas.List.{length-set}
-use Rattle.tree.specs.Holding.{holders}
-use Rattle.tree.specs.Tree.{FileTree, tree_with}
+use Rattle.tree.proofs.Common.{◌<◌, ap, arith, subst, sym, ◌∙◌, set, ◌+◌, get_or_default_zero, length-set, holders, FileTree, tree_with}
 use Rattle.tree.proofs.Bridging.{number-held}
 use Rattle.tree.proofs.tree.Tree.hold.Goals as goal
 

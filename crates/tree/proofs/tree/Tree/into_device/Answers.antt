@@ -1,6 +1,4 @@
-use Rattle.std.proofs.Common.{OnOk, subst}
-use Rattle.tree.specs.Stored.{IsStored}
-use Rattle.tree.specs.Tree.{FileTree}
+use Rattle.tree.proofs.Common.{OnOk, subst, IsStored, FileTree}
 use Rattle.tree.proofs.Serving.{stored-after, up-inside}
 use Rattle.tree.proofs.tree.Tree.into_device.Goals as goal
 

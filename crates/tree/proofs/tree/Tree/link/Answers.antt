@@ -1,13 +1,9 @@
-use Rattle.std.proofs.Common.{inl, sym, ◌∙◌, refl, ap, Some, ◌<◌, ◌≡◌}
-use Rattle.names.specs.Rules.{KeepsTree}
+use Rattle.tree.proofs.Common.{inl, sym, ◌∙◌, refl, ap, Some, ◌<◌, ◌≡◌, KeepsTree, HasGap, entered, LacksGap, Spot, change_node, links_of, slot, Node, more_links}
 use Rattle.tree.proofs.Following.{acts-done, acts-lost, acts-not, now-begin, now-files, now-node, now-read, now-up, told-now, used-now}
 use Rattle.tree.proofs.Gaps.{none-more, overflow-none}
 use Rattle.tree.proofs.Links.{link-asked, linked-asked, linked-into, linked-nothing, reached, seen, seen-directory, seen-many, seen-weaker}
 use Rattle.tree.proofs.Turning.{acts-refused, at-now, done-of, now-changed, now-passed, was-now}
-use Rattle.tree.specs.Entering.{HasGap, entered}
-use Rattle.tree.specs.Lacking.{LacksGap}
-use Rattle.unixmodel.specs.Files.{Entry, Spot, change_node, links_of, slot, Node}
-use Rattle.unixmodel.specs.NameCalls.{more_links}
+use Rattle.unixmodel.specs.Files.{Entry}
 use Rattle.tree.proofs.tree.Tree.link.Goals as goal
 
 pub find-requires : goal.find-requires

@@ -1,7 +1,4 @@
-use Rattle.std.proofs.Common.{ap, sym, ◌∙◌}
-use Rattle.std.specs.Prelude.{option_map}
-use Rattle.tree.specs.declared.place.Found.{Found}
-use Rattle.unixmodel.specs.Files.{slot}
+use Rattle.tree.proofs.Common.{ap, sym, ◌∙◌, option_map, Found, slot}
 use Rattle.tree.proofs.Following.{end-lost, end-read, folder-now, now-begin, now-read, now-up}
 use Rattle.tree.proofs.Looking.{dead-told, live-folder, live-told, lookup-told}
 use Rattle.tree.proofs.Storing.{node-of}

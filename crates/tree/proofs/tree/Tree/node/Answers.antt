@@ -1,8 +1,7 @@
-use Rattle.std.proofs.Common.{◌≡◌, Some}
+use Rattle.tree.proofs.Common.{◌≡◌, Some, Node, slot}
 use Rattle.tree.proofs.Bridging.{tells}
 use Rattle.tree.proofs.Serving.{at-inside, count-after, held-same, reads, up-inside}
 use Rattle.tree.proofs.Storing.{held-some}
-use Rattle.unixmodel.specs.Files.{Node, slot}
 use Rattle.tree.proofs.tree.Tree.node.Goals as goal
 
 pub stat-requires : goal.stat-requires

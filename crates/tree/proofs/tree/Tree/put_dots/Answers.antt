@@ -1,12 +1,7 @@
-use Rattle.std.proofs.Common.{[], sym, None, ◌+◌, ◌∙◌, ◌≢◌, ◌≤◌}
+use Rattle.tree.proofs.Common.{[], sym, None, ◌+◌, ◌∙◌, ◌≢◌, ◌≤◌, none-some, HasRoom, entered, growth, blocks_of, dot_dot, slot, Directory}
 use Rattle.tree.proofs.Dots.{dot-plain, dots-plain, first-fits, first-room, first-stays, own, second-fits, second-is, second-room}
 use Rattle.tree.proofs.Following.{end-lost, now-begin, now-up}
 use Rattle.tree.proofs.Turning.{at-now, end-changed, now-changed}
-use Rattle.std.proofs.lemmas.Option.{none-some}
-use Rattle.tree.specs.Entering.{HasRoom, entered, growth}
-use Rattle.unixmodel.specs.Counts.{blocks_of}
-use Rattle.unixmodel.specs.Files.{dot_dot, slot}
-use Rattle.unixmodel.specs.Files.Node.{Directory}
 use Rattle.tree.proofs.tree.Tree.put_dots.Goals as goal
 
 pub put_entry-requires : goal.put_entry-requires

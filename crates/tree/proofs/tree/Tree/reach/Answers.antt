@@ -1,9 +1,6 @@
-use Rattle.std.proofs.Common.{ap, sym, ◌∙◌, ◌∷◌}
-use Rattle.names.proofs.Naming.{lookup-used}
-use Rattle.unixmodel.specs.Files.{parts}
+use Rattle.tree.proofs.Common.{ap, sym, ◌∙◌, ◌∷◌, lookup-used, parts, reach}
 use Rattle.tree.proofs.Following.{end-lost, end-read, looked, now-begin, now-read, now-up, used-now}
 use Rattle.tree.proofs.Parts.{above-nothing, above-start, reach-next, start-held}
-use Rattle.tree.specs.Paths.{reach}
 use Rattle.tree.proofs.tree.Tree.reach.Goals as goal
 
 pub returns-in_default : goal.returns-in_default

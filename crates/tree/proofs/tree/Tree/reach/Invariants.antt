@@ -1,8 +1,5 @@
-use Rattle.std.proofs.Common.{◌≡◌, ◌∷◌, length}
-use Rattle.std.specs.Prelude.{IsSome}
+use Rattle.tree.proofs.Common.{◌≡◌, ◌∷◌, length, IsSome, above, reach, parts, slot}
 use Rattle.tree.proofs.Following.{IsNow}
-use Rattle.tree.specs.Paths.{above, reach}
-use Rattle.unixmodel.specs.Files.{parts, slot}
 use Rattle.tree.proofs.tree.Tree.reach.Given as goal
 
 abbrev pub invariant-name : goal.invariant-name

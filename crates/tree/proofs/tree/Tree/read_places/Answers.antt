@@ -1,8 +1,4 @@
-use Rattle.std.proofs.Common.{◌*◌, arith}
-use Rattle.std.specs.Prelude.{flat_map}
-use Rattle.imagerules.proofs.Spelling.{length-spelling}
-use Rattle.unixmodel.specs.Files.{place_bytes}
-use Rattle.unixmodel.specs.Files.Node.{Directory}
+use Rattle.tree.proofs.Common.{◌*◌, arith, flat_map, length-spelling, place_bytes, Directory}
 use Rattle.tree.proofs.Following.{end-lost, end-read, now-begin, now-read}
 use Rattle.tree.proofs.Scanned.{folder-fits, folder-node, read-whole}
 use Rattle.tree.proofs.tree.Tree.read_places.Goals as goal

@@ -1,8 +1,7 @@
-use Rattle.std.proofs.Common.{◌≢◌, None}
+use Rattle.tree.proofs.Common.{◌≢◌, None, slot}
 use Rattle.tree.proofs.Bridging.{cleared-stores}
 use Rattle.tree.proofs.Serving.{at-inside, count-after, held-after, tries, turned-files, up-inside}
 use Rattle.tree.proofs.Storing.{held-again, held-some, some-node}
-use Rattle.unixmodel.specs.Files.{slot}
 use Rattle.tree.proofs.tree.Tree.release.Goals as goal
 
 pub release-requires : goal.release-requires

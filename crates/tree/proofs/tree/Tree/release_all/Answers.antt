@@ -1,5 +1,4 @@
-use Rattle.std.proofs.Common.{ap, arith, length}
-use Rattle.tree.specs.Tree.{FileTree}
+use Rattle.tree.proofs.Common.{ap, arith, length, FileTree}
 use Rattle.tree.proofs.Following.{now-up}
 use Rattle.tree.proofs.Serving.{up-inside}
 use Rattle.tree.proofs.Swept.{from-bare, swept-all, swept-more, swept-none}

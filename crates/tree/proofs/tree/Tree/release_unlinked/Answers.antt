@@ -1,10 +1,8 @@
-use Rattle.std.proofs.Common.{[], arith, refl, sym, ◌∙◌}
-use Rattle.std.proofs.lemmas.Option.{none-some}
+use Rattle.tree.proofs.Common.{[], arith, refl, sym, ◌∙◌, none-some, clear}
 use Rattle.tree.proofs.Following.{now-begin, now-up, some-now}
 use Rattle.tree.proofs.Letting.{let-go-clear, let-go-linked}
 use Rattle.tree.proofs.Swept.{let-go-free, told-free, told-node}
 use Rattle.tree.proofs.Turning.{end-changed, end-still, lost-served, now-served}
-use Rattle.unixmodel.specs.Files.{clear}
 use Rattle.tree.proofs.tree.Tree.release_unlinked.Goals as goal
 
 pub look-requires : goal.look-requires

@@ -1,11 +1,7 @@
-use Rattle.std.proofs.Common.{◌≡◌, Some, ap, refl, sym, ◌∙◌}
-use Rattle.std.proofs.lemmas.Option.{none-some}
+use Rattle.tree.proofs.Common.{◌≡◌, Some, ap, refl, sym, ◌∙◌, none-some, dropped, removal, HasPlace, erase}
 use Rattle.tree.proofs.Following.{acts-done, acts-lost, acts-not, now-begin, now-files, now-node, now-read, now-up, some-now, told-now}
 use Rattle.tree.proofs.Turning.{at-now, now-changed}
 use Rattle.tree.proofs.Unlinking.{found-node, found-parts, found-place, lookup-found, lookup-missing, naming-folder, stays-busy, stays-dropped, stays-erased, unlinked-done, unlinked-dot, unlinked-full, unlinked-missing}
-use Rattle.tree.specs.Names.{dropped, removal}
-use Rattle.tree.specs.Steps.{HasPlace}
-use Rattle.unixmodel.specs.Files.{erase}
 use Rattle.tree.proofs.tree.Tree.remove_name.Goals as goal
 
 pub returns-then-is_dot_name : goal.returns-then-is_dot_name

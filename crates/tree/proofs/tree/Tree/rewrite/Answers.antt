@@ -1,11 +1,9 @@
-use Rattle.std.proofs.Common.{List, Option, arith, refl}
+use Rattle.tree.proofs.Common.{List, Option, arith, refl, Rewrites, Directory}
 use Rattle.tree.proofs.Bridging.{never-full, rewritten-within}
 use Rattle.tree.proofs.Rewriting.{device-lost, rewrite-done, rewrite-held}
 use Rattle.tree.proofs.Serving.{at-inside, count-after, up-inside}
 use Rattle.tree.proofs.Storing.{held-some}
-use Rattle.tree.specs.Steps.{Rewrites}
 use Rattle.unixmodel.specs.Files.{Entry}
-use Rattle.unixmodel.specs.Files.Node.{Directory}
 use Rattle.tree.proofs.tree.Tree.rewrite.Goals as goal
 use Rattle.tree.proofs.tree.Tree.rewrite.Goals.{in-Ok, in-Err-Device}
 

@@ -1,8 +1,4 @@
-use Rattle.std.proofs.Common.{subst, ◌∙◌}
-use Rattle.std.specs.Prelude.{flat_map}
-use Rattle.tree.specs.Scanning.{Scans}
-use Rattle.tree.specs.declared.place.Sought.TheVariants.{Free}
-use Rattle.unixmodel.specs.Files.{place_bytes}
+use Rattle.tree.proofs.Common.{subst, ◌∙◌, flat_map, Scans, Free, place_bytes}
 use Rattle.tree.proofs.Following.{end-lost, end-read, folder-now, folder-was, now-begin, now-read, now-up}
 use Rattle.tree.proofs.Scanned.{folder-fits, free-told, full-told}
 use Rattle.tree.proofs.tree.Tree.room.Goals as goal

@@ -1,8 +1,4 @@
-use Rattle.std.proofs.Common.{None, subst, arith, le_refl}
-use Rattle.std.specs.Prelude.{flat_map}
-use Rattle.imagerules.proofs.Spelling.{length-spelling}
-use Rattle.tree.specs.Scanning.{IsFirst, Scans}
-use Rattle.unixmodel.specs.Files.{place_bytes}
+use Rattle.tree.proofs.Common.{None, subst, arith, le_refl, flat_map, length-spelling, IsFirst, Scans, place_bytes}
 use Rattle.tree.proofs.Following.{end-lost, end-read, folder-now, folder-was, now-begin, now-read, now-up}
 use Rattle.tree.proofs.Scanned.{all-passed, first-there, folder-fits, next-is, next-read, next-within}
 use Rattle.tree.proofs.tree.Tree.scan.Goals as goal

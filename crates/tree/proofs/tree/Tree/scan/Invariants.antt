@@ -1,9 +1,5 @@
-use Rattle.std.proofs.Common.{◌≡◌, ◌-◌, ◌<◌, ◌≤◌, ℕ, false}
-use Rattle.std.specs.Prelude.{flat_map}
+use Rattle.tree.proofs.Common.{◌≡◌, ◌-◌, ◌<◌, ◌≤◌, ℕ, false, flat_map, is_sought, place_in, IsFolder, place_bytes}
 use Rattle.tree.proofs.Following.{IsNow}
-use Rattle.tree.specs.Scanning.{is_sought, place_in}
-use Rattle.tree.specs.Steps.{IsFolder}
-use Rattle.unixmodel.specs.Files.{place_bytes}
 use Rattle.tree.proofs.tree.Tree.scan.Given as goal
 
 abbrev pub invariant-block : goal.invariant-block

@@ -1,5 +1,4 @@
-use Rattle.std.proofs.Common.{ap, refl, sym, ◌∙◌}
-use Rattle.std.specs.Prelude.{option_map}
+use Rattle.tree.proofs.Common.{ap, refl, sym, ◌∙◌, option_map}
 use Rattle.tree.proofs.Following.{acts-done, acts-lost, acts-not, now-begin, now-files, now-node, now-read, now-up, told-now}
 use Rattle.tree.proofs.Spots.{above-node, spot-bare, spot-live, spot-none, spot-other}
 use Rattle.tree.proofs.tree.Tree.spot.Goals as goal

@@ -1,5 +1,4 @@
-use Rattle.std.proofs.Common.{arith}
-use Rattle.tree.specs.Steps.{IsUnnamed}
+use Rattle.tree.proofs.Common.{arith, IsUnnamed}
 use Rattle.tree.proofs.Bridging.{fresh-stores}
 use Rattle.tree.proofs.Serving.{at-inside, count-after, held-after, tries, turned-files, up-inside}
 use Rattle.tree.proofs.Storing.{held-again, held-none, length-held}

@@ -1,11 +1,8 @@
-use Rattle.std.proofs.Common.{[], sym}
+use Rattle.tree.proofs.Common.{[], sym, put, slot, File, emptied}
 use Rattle.tree.proofs.Emptying.{emptied-file, emptied-other}
 use Rattle.tree.proofs.Following.{end-lost, now-begin, now-read, now-up}
 use Rattle.tree.proofs.Storing.{change-is, some-node}
 use Rattle.tree.proofs.Turning.{end-changed, end-still, file-now, tells-more}
-use Rattle.unixmodel.specs.Files.{put, slot}
-use Rattle.unixmodel.specs.Files.Node.{File}
-use Rattle.unixmodel.specs.NameCalls.{emptied}
 use Rattle.tree.proofs.tree.Tree.truncate.Goals as goal
 
 pub node-requires : goal.node-requires

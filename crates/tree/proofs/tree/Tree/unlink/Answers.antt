@@ -1,12 +1,7 @@
-use Rattle.std.proofs.Common.{Some, ap, sym, ◌∙◌, ◌≡◌, refl}
-use Rattle.std.specs.Prelude.{None}
-use Rattle.tree.specs.Holding.{let_go}
-use Rattle.tree.specs.Unlinks.{IsNaming, LacksName, Unlinks}
+use Rattle.tree.proofs.Common.{Some, ap, sym, ◌∙◌, ◌≡◌, refl, None, let_go, IsNaming, LacksName, Unlinks, Spot, unlinked}
 use Rattle.tree.proofs.Following.{acts-done, acts-lost, now-begin, now-files, now-holds, now-up, now-turned}
 use Rattle.tree.proofs.Turning.{acts-refused, at-now, done-of, now-passed, was-now}
 use Rattle.tree.proofs.Unnaming.{gone-name, refused-at, spot-naming, without-spot}
-use Rattle.unixmodel.specs.Files.{Spot}
-use Rattle.unixmodel.specs.NameCalls.{unlinked}
 use Rattle.tree.proofs.tree.Tree.unlink.Goals as goal
 
 pub spot-requires : goal.spot-requires

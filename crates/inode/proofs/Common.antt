@@ -1,0 +1,45 @@
+-- The names that the lemmas of this crate import from elsewhere, passed on from one place. Declares nothing.
+pub use Rattle.std.proofs.Common.{◌%◌, ◌*◌, ◌+◌, ◌++◌, ◌-◌, ◌/◌, ◌<◌, ◌==◌, [], ◌^◌, ap, arith, Bool, cond, drop, Err, false, get_or, inl, inr, le_of_lt, length}
+pub use Rattle.std.proofs.Common.{List, max, min, None, Ok, Option, refl, replicate, Result, set, Some, subst, sym, take, true, ℕ, ◌∙◌, ◌≡◌, ◌≢◌, ◌≤◌, ◌⊎◌}
+pub use Rattle.std.proofs.lemmas.Bool.{cases_eq, cases_lt, false≢true}
+pub use Rattle.std.proofs.lemmas.Bool.Decides.{nat_tests}
+pub use Rattle.std.proofs.lemmas.List.{ext_get_or, get_or-append_right, get_or-drop, get_or-set_other, get_or-set_same, get_or-take, get_or_append_left, get_or_past}
+pub use Rattle.std.proofs.lemmas.List.{length-append, length-drop, length-set, length-take-le, nil_from_length, set-get_or, set-set, take-append-drop, take_all}
+pub use Rattle.std.specs.Prelude.{IfOk, IsSome, nat_le, OnOk, slice_set, unwrap_or}
+pub use Rattle.balloc.proofs.Counting.{free_blocks-give, free_blocks-same, free_blocks-take}
+pub use Rattle.balloc.specs.Bitmap.{SetsBit, Takes}
+pub use Rattle.blockdev.proofs.SpliceLemmas.{get_or-part, get_or-splice_after, get_or-splice_before, get_or-splice_inside, length-part, length-splice, part-splice_apart, part-splice_same, put_mid-splice}
+pub use Rattle.blockdev.specs.Blocks.{AreBlocks, block_at}
+pub use Rattle.blockdev.specs.Splice.{part, splice}
+pub use Rattle.byteorder.specs.Endian.{little_bytes, little_number}
+pub use Rattle.cache.proofs.Ending.{goes-after, goes-stays, goes-twice, read-done, rises-before, step-done, step-failed, step-last}
+pub use Rattle.cache.specs.Disk.{Disk}
+pub use Rattle.cache.specs.Steps.{AsBefore, Goes, Reads, Steps}
+pub use Rattle.layout.proofs.Frame.{get_or-bytes_of, get_or-nodes_of, IsSound-replace, IsSoundAt, KeepsOthers, length-bytes_of, length-nodes_of, node_at-none, node_at-some, nodes_of-changed}
+pub use Rattle.layout.proofs.GrowLemmas.{Grows-bytes, Grows-keeps, Grows-node, Grows-sound}
+pub use Rattle.layout.proofs.NumberLemmas.{number_at-take}
+pub use Rattle.layout.proofs.Plain.{asks_none, Grows-same, HoldsBytes-same, spare_none, zero_at}
+pub use Rattle.layout.proofs.Puts.{HasParts-kept, PutsBlock, PutsBlock-write}
+pub use Rattle.layout.proofs.Slots.{address-once, address-within, asked_apart, asked_asks, asks_asked, asks_at, asks_below, asks_holder, count-begins, count-last, first-data}
+pub use Rattle.layout.proofs.Slots.{holder-first, holder-holder, holder-index, holder-once, holder-within, holder-zero, in_record-cases, index_for-more, index_for-most, IsSpare-size}
+pub use Rattle.layout.proofs.Slots.{level-data, level-holder, level-last, level-most, level-once, place-within, slot_in-block, slot_in-record, slot_in-same, taken-none}
+pub use Rattle.layout.specs.Grow.{Grows, HoldsBytes, IsFresh, WritesInode}
+pub use Rattle.layout.specs.Image.{address_of, asked_slot, Asks, bit_of, blocks_for, first_of, free_blocks, holder_of, in_record, index_for}
+pub use Rattle.layout.specs.Image.{inode_at, IsFree, IsInode, IsSpare, IsUsed, level_of, node_with, place_of, RawNode, single, slots, taken_for}
+unfoldable pub use Rattle.layout.specs.Image.{bit_in, byte_of, bytes_of, nodes_of, slot_in, slot_of}
+pub use Rattle.layout.specs.Inode.{Fits, inode_of}
+pub use Rattle.layout.specs.Numbers.{number_at}
+pub use Rattle.layout.specs.Sound.{HasParts, IsSound}
+pub use Rattle.layout.specs.Super.{bitmap_start_of, data_start_of}
+pub use Rattle.layout.specs.declared.DiskInode.{DiskInode}
+pub use Rattle.layout.specs.declared.Geometry.{Geometry}
+pub use Rattle.unixmodel.specs.Files.{longest, slot}
+pub use Rattle.unixmodel.specs.Formats.{format}
+pub use Rattle.inode.specs.Freeing.{Freed, IsOwn}
+pub use Rattle.inode.specs.Looking.{IsTold, node_in, Tells, TellsAny, told}
+pub use Rattle.inode.specs.OnDisk.{HasInode, HasInode-of, IsInHand-of}
+unfoldable pub use Rattle.inode.specs.OnDisk.{IsInHand}
+pub use Rattle.inode.specs.Reading.{HasRead, IsReadInto}
+pub use Rattle.inode.specs.Store.{Changes, Flushed, Follows, has_failed, IsFull, IsLaidOut, IsNode, IsWhole, Looks, no_node, raw_at, Serves, Store, store_over, Tries, used_by, with_bytes, Writes, WritesFrom, WritesSome}
+pub use Rattle.inode.specs.Writing.{BeginsBlock, Fills, HasIndex, IsHung, IsSameNode, LacksAt, LacksBlocks, LiesInBlock, MayFill, MayHave, Prepares, Puts, PutsBehind, PutsPiece, with_links, WritesAt, WritesFront, Wrote}
+pub use Rattle.inode.specs.declared.InodeStat.{InodeStat}
