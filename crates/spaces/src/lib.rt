@@ -58,6 +58,9 @@ pub const PLACES: usize = 64;
 /// How many places for pipes there are.
 pub const PIPES: usize = 100;
 
+// A read or a write of a pipe by so many bytes at the most takes a buffer of that size: one of a pipe costs more than the call.
+const SHORT: usize = 64;
+
 // A free place.
 const FREE: Option<Space> = None;
 
@@ -777,7 +780,8 @@ impl<T: Translate + Drop> Spaces<T> {
         ensures count { result ≡ min (length buffer.old) (length (bytes_in self.old q)) }
     {
         let taken = self.take_bytes(q, buffer);
-        let _written = self.write(at, address, &buffer[..taken]);
+        self.pages_are_whole(at);
+        self.fill(at, address, &buffer[..taken]);
         taken
     }
 
@@ -789,6 +793,10 @@ impl<T: Translate + Drop> Spaces<T> {
         ensures bytes { self.new ≡ put_behind self.old q (read_at (view_at self.old at) address count) }
         ensures count { result ≡ length (fitting (bytes_in self.old q) (read_at (view_at self.old at) address count)) }
     {
+        if count <= SHORT {
+            let mut buffer = [0; SHORT];
+            return self.write_through(q, at, address, &mut buffer[..count]);
+        }
         let mut buffer = [0; pipe::ROOM];
         let size = count.min(pipe::ROOM);
         self.write_through(q, at, address, &mut buffer[..size])
@@ -802,6 +810,10 @@ impl<T: Translate + Drop> Spaces<T> {
         ensures bytes { self.new ≡ taken_to self.old q at address count }
         ensures count { result ≡ min count (length (bytes_in self.old q)) }
     {
+        if count <= SHORT {
+            let mut buffer = [0; SHORT];
+            return self.read_through(q, at, address, &mut buffer[..count]);
+        }
         let _few = self.has_room(q);
         let mut buffer = [0; pipe::ROOM];
         let size = count.min(pipe::ROOM);
